@@ -1,0 +1,44 @@
+-- Row-major arrays of bytes, seen as cells of one size.
+use Rattle.std.specs.Prelude.{◌≡◌, ℕ, ◌+◌, ◌*◌, ◌<◌, true, List, slice_index, slice_range, if◌then◌else◌, map}
+use Rattle.std.specs.List.{range_with_len}
+use Rattle.zarrs_subset.specs.Boxes.{InShape, place, is_within, moved, offset_from}
+
+-- `new` is `old`, an array of shape `target`, but for the cells of the box of `start` and `extents`, which are those
+-- of the array `from` of shape `source` at the box of `origin` and `extents`: byte by byte
+abbrev pub BoxCopied : ℕ → List ℕ → List ℕ → List ℕ → List ℕ → List ℕ → List ℕ → List ℕ → List ℕ → Type 0
+BoxCopied size source origin target start extents from old new =
+    (p : List ℕ) (k : ℕ) → InShape target p → k < size
+    → slice_index new (place target p * size + k)
+    ≡ (if is_within start extents p
+    then slice_index from (place source (moved start origin p) * size + k)
+    else slice_index old (place target p * size + k))
+
+-- cell k of an array
+abbrev pub cell_at : ℕ → List ℕ → ℕ → List ℕ
+cell_at size bytes k = slice_range bytes (k * size) (k * size + size)
+
+-- the first `count` cells of an array
+abbrev pub cells : ℕ → ℕ → List ℕ → List (List ℕ)
+cells size count bytes = map (cell_at size bytes) (range_with_len 0 count)
+
+-- the same as `BoxCopied`, cell by cell
+abbrev pub CellsCopied : ℕ → List ℕ → List ℕ → List ℕ → List ℕ → List ℕ → List ℕ → List ℕ → List ℕ → Type 0
+CellsCopied size source origin target start extents from old new =
+    (p : List ℕ) → InShape target p
+    → cell_at size new (place target p)
+    ≡ (if is_within start extents p
+    then cell_at size from (place source (moved start origin p))
+    else cell_at size old (place target p))
+
+-- the cell at the position p of an array over the box of `start` and `extents`
+abbrev pub cell_of : ℕ → List ℕ → List ℕ → List ℕ → List ℕ → List ℕ
+cell_of size start extents bytes p = cell_at size bytes (place extents (offset_from start p))
+
+-- `new`, an array over a box, is `old`, but for the positions that a part's box has, which have the part's cells
+abbrev pub PartPlaced : ℕ → List ℕ → List ℕ → List ℕ → List ℕ → List ℕ → List ℕ → List ℕ → Type 0
+PartPlaced size start extents part_start part_extents part old new =
+    (p : List ℕ) → is_within start extents p ≡ true
+    → cell_of size start extents new p
+    ≡ (if is_within part_start part_extents p
+    then cell_of size part_start part_extents part p
+    else cell_of size start extents old p)
