@@ -1,0 +1,6 @@
+pub mod Separator
+pub mod Members
+pub mod Extension
+pub mod Lists
+pub mod Refusal
+pub mod View
