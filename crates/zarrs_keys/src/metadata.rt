@@ -1,0 +1,174 @@
+//! The metadata of chunk key encodings, both ways.
+ghost use Rattle.std.specs.Prelude.{◌≡◌, Some, None, option_map, IfOk, IfErr};
+ghost use Rattle.serde_json.specs.Data.{no_members};
+ghost use Rattle.serde_json.specs.View.{view};
+ghost use Rattle.zarrs_metadata.specs.Extension.{settings};
+ghost use Rattle.zarrs_metadata.specs.View.{extension_view};
+ghost use Rattle.zarrs_metadata.specs.Refusal.{HasCreateCause};
+ghost use Rattle.zarrs_keys.specs.Metadata.{separator_named, separator_or, separator_of, suffix_named, suffix_of, default_of, v2_of, default_suffix_of, encoding_of, configured, separator_member, extension_of_encoding};
+
+use crate::encodings::ChunkKeyEncoding;
+use crate::errors::KeySuffixError;
+use crate::suffixes::KeySuffix;
+use serde_json::Value;
+use std::alloc::{AllocError, Global};
+use zarrs_metadata::{ChunkKeySeparator, MetadataV3, PluginCreateError};
+
+/// The separator of this text.
+fn separator_named(text: &str) -> Option<ChunkKeySeparator>
+    ensures { result ≡ separator_named text.now }
+{
+    match text {
+        "/" => Some(ChunkKeySeparator::Slash),
+        "." => Some(ChunkKeySeparator::Dot),
+        _ => None,
+    }
+}
+
+/// The separator of a member, or the one that an absent member stands for.
+fn separator_or(absent: ChunkKeySeparator, member: Option<&Value>) -> Option<ChunkKeySeparator>
+    ensures { result ≡ separator_or absent (option_map (λ value. view value.now) member.entry) }
+{
+    match member {
+        None => Some(absent),
+        Some(value) => separator_named(value.as_str()?),
+    }
+}
+
+/// The separator of a configuration, or the one that stands for it where it gives none.
+fn separator_of(absent: ChunkKeySeparator, metadata: &MetadataV3) -> Option<ChunkKeySeparator>
+    ensures { result ≡ separator_of absent (settings (extension_view metadata.now)) }
+{
+    separator_or(absent, metadata.member("separator"))
+}
+
+/// The suffix with this text, or none where it is no suffix.
+fn suffix_named(alloc: Global, text: &str) -> Result<Option<KeySuffix>, AllocError>
+    ensures { IfOk result (λ suffix. suffix ≡ suffix_named text.now) }
+{
+    match KeySuffix::new(alloc, text) {
+        Ok(suffix) => Ok(Some(suffix)),
+        Err(KeySuffixError::Invalid) => Ok(None),
+        Err(KeySuffixError::OutOfMemory) => Err(AllocError),
+    }
+}
+
+/// The suffix of a configuration.
+fn suffix_of(alloc: Global, metadata: &MetadataV3) -> Result<Option<KeySuffix>, AllocError>
+    ensures { IfOk result (λ suffix. suffix ≡ suffix_of (settings (extension_view metadata.now))) }
+{
+    match metadata.member("suffix").and_then(Value::as_str) {
+        Some(text) => suffix_named(alloc, text),
+        None => Ok(None),
+    }
+}
+
+fn default_of(metadata: &MetadataV3) -> Option<ChunkKeyEncoding>
+    ensures { result ≡ default_of (settings (extension_view metadata.now)) }
+{
+    if !metadata.has_only(&["separator"]) {
+        return None;
+    }
+    let separator = separator_of(ChunkKeySeparator::Slash, metadata)?;
+    Some(ChunkKeyEncoding::Default(separator))
+}
+
+fn v2_of(metadata: &MetadataV3) -> Option<ChunkKeyEncoding>
+    ensures { result ≡ v2_of (settings (extension_view metadata.now)) }
+{
+    if !metadata.has_only(&["separator"]) {
+        return None;
+    }
+    let separator = separator_of(ChunkKeySeparator::Dot, metadata)?;
+    Some(ChunkKeyEncoding::V2(separator))
+}
+
+fn default_suffix_of(
+    alloc: Global,
+    metadata: &MetadataV3,
+) -> Result<Option<ChunkKeyEncoding>, AllocError>
+    ensures { IfOk result (λ encoding. encoding
+        ≡ default_suffix_of (settings (extension_view metadata.now))) }
+{
+    if !metadata.has_only(&["separator", "suffix"]) {
+        return Ok(None);
+    }
+    let Some(separator) = separator_of(ChunkKeySeparator::Slash, metadata) else {
+        return Ok(None);
+    };
+    match suffix_of(alloc, metadata)? {
+        Some(suffix) => Ok(Some(ChunkKeyEncoding::DefaultSuffix(separator, suffix))),
+        None => Ok(None),
+    }
+}
+
+/// The encoding that metadata says, if it says one.
+fn encoding_of(alloc: Global, metadata: &MetadataV3) -> Result<Option<ChunkKeyEncoding>, AllocError>
+    ensures { IfOk result (λ encoding. encoding ≡ encoding_of (extension_view metadata.now)) }
+{
+    match metadata.name() {
+        "default" => Ok(default_of(metadata)),
+        "v2" => Ok(v2_of(metadata)),
+        "default_suffix" | "zarrs.default_suffix" => default_suffix_of(alloc, metadata),
+        _ => Ok(None),
+    }
+}
+
+/// The metadata of this name, with the separator as its configuration.
+fn with_separator(
+    alloc: Global,
+    name: &str,
+    separator: ChunkKeySeparator,
+) -> Result<MetadataV3, AllocError>
+    ensures { IfOk result (λ m. extension_view m
+        ≡ configured name.now (separator_member separator no_members)) }
+{
+    let name = String::from_str(alloc, name)?;
+    let separator = Value::try_from_str(alloc, separator.as_str())?;
+    MetadataV3::new(name).with_member(alloc, "separator", separator)
+}
+
+impl ChunkKeyEncoding {
+    /// The encoding that metadata says: `default`, `v2` or `default_suffix` (also under the name
+    /// `zarrs.default_suffix`), with a `separator` of `/` or `.` and, for the last, a `suffix`.
+    /// Without a `separator` the one of `default` and `default_suffix` is `/`, that of `v2` is `.`
+    /// (Zarr V3 core specification, chunk key encoding).
+    ///
+    /// # Errors
+    /// `Other` where the metadata says none of them: for another name, a member of another shape,
+    /// and a configuration with any other member.
+    pub fn from_metadata(
+        alloc: Global,
+        metadata: &MetadataV3,
+    ) -> Result<ChunkKeyEncoding, PluginCreateError>
+        ensures read { IfOk result (λ encoding. encoding_of (extension_view metadata.now) ≡ Some encoding) }
+        ensures refused { IfErr result (HasCreateCause (encoding_of (extension_view metadata.now))) }
+    {
+        let Some(encoding) = encoding_of(alloc, metadata)? else {
+            let name = metadata.name();
+            let text = format!(in alloc; "no chunk key encoding `{name}` has this configuration")?;
+            return Err(PluginCreateError::Other(text));
+        };
+        Ok(encoding)
+    }
+
+    /// The metadata of the encoding. The separator is always written.
+    pub fn metadata(&self, alloc: Global) -> Result<MetadataV3, AllocError>
+        ensures written { IfOk result (λ m. extension_view m ≡ extension_of_encoding self.now) }
+        ensures reads_back { IfOk result (λ m. encoding_of (extension_view m) ≡ Some self.now) }
+    {
+        match self {
+            ChunkKeyEncoding::Default(separator) => with_separator(alloc, "default", *separator),
+            ChunkKeyEncoding::V2(separator) => with_separator(alloc, "v2", *separator),
+            ChunkKeyEncoding::DefaultSuffix(separator, suffix) => {
+                let suffix = Value::try_from_str(alloc, suffix.as_str())?;
+                with_separator(alloc, "default_suffix", *separator)?.with_member(
+                    alloc, "suffix", suffix,
+                )
+            }
+        }
+    }
+}
+
+#[cfg(test)]
+mod tests;
