@@ -1,0 +1,27 @@
+-- The law of every chain of the code, from those of its codecs.
+use Rattle.std.proofs.Common.{◌≡◌, refl, sym, ap, ◌∙◌}
+use Rattle.zarrs_codec_leaf.specs.BytesLaws.{bytes-lawful}
+use Rattle.zarrs_codec_leaf.specs.Leaf.{LeafMeaning, IsLawfulLeaf}
+use Rattle.zarrs_codec.specs.declared.chain.ArrayToBytesCodec.{ArrayToBytesCodec}
+use Rattle.zarrs_codec.specs.declared.chain.ArrayToBytesCodec.TheVariants as codec
+use Rattle.zarrs_codec.specs.declared.chain.CodecChain.{CodecChain}
+use Rattle.zarrs_codec.specs.Chain.{ChainMeaning, IsLawfulChain}
+use Rattle.zarrs_codec.specs.Chains.{array_to_bytes_of, leaf_meaning, whole_chunk, chain_meaning}
+
+leaf-lawful : (c : ArrayToBytesCodec) → IsLawfulLeaf (leaf_meaning c)
+leaf-lawful (codec.Bytes bytes) = bytes-lawful
+
+whole_chunk-lawful : (leaf : LeafMeaning) → IsLawfulLeaf leaf → IsLawfulChain (whole_chunk leaf)
+whole_chunk-lawful leaf law = record {
+  round_trip = λ empty k f s cs b values len made. ap (λ n. leaf.decoded k n b) (sym len) ∙ law.round_trip k cs b values made;
+  decoded_len = λ k f s b cs made. law.decoded_len k _ b cs made;
+  decoded_values = λ k f s b cs made. law.decoded_values k _ b cs made;
+  compacted_same = λ k f s b less made. cc;
+  compacted_differs = λ s b less made. cc;
+  encoded_compact = λ empty k f s cs b len made. refl;
+  unfit = λ empty k f s cs not. law.untaken k cs not;
+  unfit_decoded = λ k f s b not. law.untaken_decoded k _ b not
+  }
+
+pub chain-lawful : (chain : CodecChain) → IsLawfulChain (chain_meaning chain)
+chain-lawful chain = whole_chunk-lawful (leaf_meaning (array_to_bytes_of chain)) (leaf-lawful (array_to_bytes_of chain))

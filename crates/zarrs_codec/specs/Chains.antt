@@ -1,0 +1,30 @@
+-- What the chains of the code mean.
+use Rattle.std.specs.Prelude.{Some, None}
+use Rattle.zarrs_codec_leaf.specs.Bytes.{bytes_meaning}
+use Rattle.zarrs_codec_leaf.specs.Leaf.{LeafMeaning}
+use Rattle.zarrs_subset.specs.Boxes.{position_count}
+use Rattle.zarrs_codec.specs.declared.chain.ArrayToBytesCodec.{ArrayToBytesCodec}
+use Rattle.zarrs_codec.specs.declared.chain.ArrayToBytesCodec.TheVariants as codec
+use Rattle.zarrs_codec.specs.declared.chain.CodecChain.{CodecChain}
+use Rattle.zarrs_codec.specs.Chain.{ChainMeaning}
+
+-- the codec that makes bytes of cells
+abbrev pub array_to_bytes_of : CodecChain → ArrayToBytesCodec
+array_to_bytes_of chain = chain.array_to_bytes
+
+-- a codec of plain cells
+abbrev pub leaf_meaning : ArrayToBytesCodec → LeafMeaning
+leaf_meaning (codec.Bytes bytes) = bytes_meaning
+
+-- a codec of plain cells as a chain: the cells are those of the whole chunk, and its bytes are compact
+abbrev pub whole_chunk : LeafMeaning → ChainMeaning
+whole_chunk leaf = record {
+  fits = λ k s. leaf.takes k;
+  encoded = λ empty k f s cs. leaf.encoded k cs;
+  decoded = λ k f s b. leaf.decoded k (position_count s) b;
+  compacted = λ s b. Some None
+  }
+
+-- what a chain means
+abbrev pub chain_meaning : CodecChain → ChainMeaning
+chain_meaning chain = whole_chunk (leaf_meaning (array_to_bytes_of chain))

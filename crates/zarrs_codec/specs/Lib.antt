@@ -1,0 +1,5 @@
+pub mod Causes
+pub mod Chain
+pub mod ChainLaws
+pub mod Chains
+pub mod Options

@@ -1,0 +1,109 @@
+//! The chains that there are.
+ghost use Rattle.std.specs.Prelude.{◌≡◌, ◌<◌, ◌^◌};
+ghost use Rattle.zarrs_subset.specs.Boxes.{position_count};
+ghost use Rattle.zarrs_data_type.specs.Kind.{kind};
+ghost use Rattle.zarrs_codec.specs.Chains.{array_to_bytes_of, leaf_meaning, chain_meaning};
+ghost use Rattle.zarrs_codec.specs.ChainLaws.{chain-lawful};
+
+use crate::options::CodecOptions;
+use crate::traits::ChainTraits;
+use std::alloc::Global;
+use zarrs_codec_leaf::{BytesCodec, CodecError};
+use zarrs_data_type::{ArrayBytes, DataType, FillValue};
+
+/// A codec that makes bytes of cells (Zarr V3 core specification, "Codecs").
+#[derive(Debug, Drop)]
+pub enum ArrayToBytesCodec {
+    Bytes(BytesCodec),
+}
+
+/// A chain of codecs.
+#[derive(Debug, Drop)]
+pub struct CodecChain {
+    array_to_bytes: ArrayToBytesCodec,
+}
+
+impl ArrayToBytesCodec {
+    /// Whether the codec takes cells of this type.
+    fn takes(&self, data_type: &DataType) -> bool
+        ensures { result ≡ (leaf_meaning self.now).takes (kind data_type.now) }
+    {
+        match self {
+            ArrayToBytesCodec::Bytes(_) => data_type.element_size().is_some(),
+        }
+    }
+}
+
+impl CodecChain {
+    /// The chain of this codec alone.
+    pub fn new(array_to_bytes: ArrayToBytesCodec) -> CodecChain
+        ensures { array_to_bytes_of result ≡ array_to_bytes }
+    {
+        CodecChain { array_to_bytes }
+    }
+
+    /// The codec that makes bytes of cells.
+    pub fn array_to_bytes_codec(&self) -> &ArrayToBytesCodec
+        ensures { result.now ≡ array_to_bytes_of self.now }
+    {
+        &self.array_to_bytes
+    }
+}
+
+/// The number of cells of a chunk of this shape.
+fn cell_count(shape: &[u64]) -> u64
+    requires { position_count shape.now < 2 ^ 64 }
+    ensures { result ≡ position_count shape.now }
+{
+    match shape {
+        [] => 1,
+        [0, ..] => 0,
+        [extent, rest @ ..] => *extent * cell_count(rest),
+    }
+}
+
+impl ChainTraits for CodecChain {
+    ghost meaning = { chain_meaning };
+
+    fn fits(&self, data_type: &DataType, shape: &[u64]) -> bool {
+        self.array_to_bytes.takes(data_type)
+    }
+
+    fn encode(
+        &self,
+        alloc: Global,
+        data: &ArrayBytes<'_>,
+        data_type: &DataType,
+        fill_value: &FillValue,
+        shape: &[u64],
+        options: &CodecOptions,
+    ) -> Result<Vec<u8>, CodecError> {
+        match &self.array_to_bytes {
+            ArrayToBytesCodec::Bytes(bytes) => bytes.encode(alloc, data, data_type),
+        }
+    }
+
+    fn decode(
+        &self,
+        alloc: Global,
+        text: &[u8],
+        data_type: &DataType,
+        fill_value: &FillValue,
+        shape: &[u64],
+    ) -> Result<ArrayBytes<'static>, CodecError> {
+        match &self.array_to_bytes {
+            ArrayToBytesCodec::Bytes(bytes) => bytes.decode(alloc, text, data_type, cell_count(shape)),
+        }
+    }
+
+    fn compact(
+        &self,
+        alloc: Global,
+        text: &[u8],
+        shape: &[u64],
+    ) -> Result<Option<Vec<u8>>, CodecError> {
+        Ok(None)
+    }
+
+    ghost lawful = { chain-lawful };
+}

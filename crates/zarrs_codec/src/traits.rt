@@ -1,0 +1,75 @@
+//! What a codec chain does.
+ghost use Rattle.std.specs.Prelude.{◌≡◌, ◌*◌, ◌<◌, ◌^◌, Some, IfOk, IfErr, IsSome, option_map};
+ghost use Rattle.zarrs_subset.specs.Boxes.{position_count};
+ghost use Rattle.zarrs_data_type.specs.Kind.{kind, cell_size};
+ghost use Rattle.zarrs_data_type.specs.Cell.{fill_cell, fill_of};
+ghost use Rattle.zarrs_data_type.specs.ArrayData.{data_of};
+ghost use Rattle.zarrs_data_type.specs.Cells.{cells, HasCells};
+ghost use Rattle.zarrs_codec.specs.Chain.{ChainMeaning, IsLawfulChain, chunk_text};
+ghost use Rattle.zarrs_codec.specs.Causes.{HasEncodeCause, HasDecodeCause, HasCompactCause};
+ghost use Rattle.zarrs_codec.specs.Options.{stores_empty_chunks};
+
+use crate::options::CodecOptions;
+use std::alloc::Global;
+use zarrs_codec_leaf::CodecError;
+use zarrs_data_type::{ArrayBytes, DataType, FillValue};
+
+/// A chain of codecs, which turns the cells of a chunk into bytes and back (Zarr V3 core specification, "Codecs").
+/// A shape has the chunk's extents, and the fill value is one of the data type.
+pub trait ChainTraits {
+    /// Which bytes stand for which cells.
+    ghost meaning: { Self → ChainMeaning };
+
+    /// Whether the chain takes this type in chunks of this shape.
+    fn fits(&self, data_type: &DataType, shape: &[u64]) -> bool
+        ensures { result ≡ (meaning self.now).fits (kind data_type.now) shape.now };
+
+    /// The bytes of a chunk's cells.
+    fn encode(
+        &self,
+        alloc: Global,
+        data: &ArrayBytes<'_>,
+        data_type: &DataType,
+        fill_value: &FillValue,
+        shape: &[u64],
+        options: &CodecOptions,
+    ) -> Result<Vec<u8>, CodecError>
+        requires filled { IsSome (fill_cell (kind data_type.now) fill_value.now) }
+        requires cells { HasCells (kind data_type.now) (data_of data.now) (position_count shape.now) }
+        ensures text { IfOk result (λ text.
+            chunk_text (meaning self.now) (stores_empty_chunks options.now) (kind data_type.now)
+            (fill_of (kind data_type.now) fill_value.now) shape.now (data_of data.now) ≡ Some text.items) }
+        ensures refused { IfErr result (HasEncodeCause (meaning self.now) (stores_empty_chunks options.now)
+            (kind data_type.now) (fill_of (kind data_type.now) fill_value.now) shape.now (data_of data.now)) };
+
+    /// The cells of a chunk's bytes.
+    fn decode(
+        &self,
+        alloc: Global,
+        text: &[u8],
+        data_type: &DataType,
+        fill_value: &FillValue,
+        shape: &[u64],
+    ) -> Result<ArrayBytes<'static>, CodecError>
+        requires filled { IsSome (fill_cell (kind data_type.now) fill_value.now) }
+        requires size { position_count shape.now * cell_size (kind data_type.now) < 2 ^ 64 }
+        ensures cells { IfOk result (λ made. cells (kind data_type.now) (data_of made)
+            ≡ (meaning self.now).decoded (kind data_type.now) (fill_of (kind data_type.now) fill_value.now) shape.now text.now) }
+        ensures some { IfOk result (λ made. IsSome (cells (kind data_type.now) (data_of made))) }
+        ensures refused { IfErr result (HasDecodeCause (meaning self.now) (kind data_type.now)
+            (fill_of (kind data_type.now) fill_value.now) shape.now text.now) };
+
+    /// The bytes of the same cells without what no cell needs, where those are other bytes.
+    fn compact(
+        &self,
+        alloc: Global,
+        text: &[u8],
+        shape: &[u64],
+    ) -> Result<Option<Vec<u8>>, CodecError>
+        ensures less { IfOk result (λ less. (meaning self.now).compacted shape.now text.now
+            ≡ Some (option_map (λ bytes. bytes.items) less)) }
+        ensures refused { IfErr result (HasCompactCause (meaning self.now) shape.now text.now) };
+
+    /// Decoding gives back what was encoded, and what was encoded is compact.
+    ghost lawful: { (chain : Self) → IsLawfulChain (meaning chain) };
+}

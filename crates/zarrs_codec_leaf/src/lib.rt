@@ -1,0 +1,8 @@
+//! Codecs of plain cells: cells to bytes and back, whatever the shape of their chunk.
+#![tactic(auto)]
+
+mod bytes;
+mod error;
+
+pub use bytes::BytesCodec;
+pub use error::CodecError;

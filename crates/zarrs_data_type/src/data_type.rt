@@ -1,0 +1,95 @@
+//! The types of the cells of an array.
+ghost use Rattle.std.specs.Prelude.{◌≡◌, IfOk, is_some, option_map};
+ghost use Rattle.zarrs_data_type.specs.Kind.{kind, element_size, fixed_size, inner_of};
+
+use std::alloc::{AllocError, Global};
+use std::num::NonZeroUsize;
+
+/// A data type (Zarr V3 core specification, "Data types").
+#[derive(Debug, Drop)]
+pub enum DataType {
+    /// One byte, 0 or 1.
+    Bool,
+    Int8,
+    Int16,
+    Int32,
+    Int64,
+    UInt8,
+    UInt16,
+    UInt32,
+    UInt64,
+    /// So many bytes, which are kept as they are.
+    Raw(NonZeroUsize),
+    /// A text in UTF-8.
+    String,
+    /// Any number of bytes.
+    Bytes,
+    /// None, or some cell of an inner type.
+    Optional(Box<DataType>),
+}
+
+impl DataType {
+    /// The same type.
+    pub fn try_clone(&self, alloc: Global) -> Result<DataType, AllocError>
+        ensures { IfOk result (λ copy. kind copy ≡ kind self.now) }
+    {
+        match self {
+            DataType::Bool => Ok(DataType::Bool),
+            DataType::Int8 => Ok(DataType::Int8),
+            DataType::Int16 => Ok(DataType::Int16),
+            DataType::Int32 => Ok(DataType::Int32),
+            DataType::Int64 => Ok(DataType::Int64),
+            DataType::UInt8 => Ok(DataType::UInt8),
+            DataType::UInt16 => Ok(DataType::UInt16),
+            DataType::UInt32 => Ok(DataType::UInt32),
+            DataType::UInt64 => Ok(DataType::UInt64),
+            DataType::Raw(size) => Ok(DataType::Raw(*size)),
+            DataType::String => Ok(DataType::String),
+            DataType::Bytes => Ok(DataType::Bytes),
+            DataType::Optional(inner) => {
+                Ok(DataType::Optional(Box::new(alloc, inner.try_clone(alloc)?)?))
+            }
+        }
+    }
+
+    /// The size in bytes of a cell of a type that is fixed and not optional.
+    pub fn element_size(&self) -> Option<usize>
+        ensures { result ≡ element_size (kind self.now) }
+    {
+        match self {
+            DataType::Bool | DataType::Int8 | DataType::UInt8 => Some(1),
+            DataType::Int16 | DataType::UInt16 => Some(2),
+            DataType::Int32 | DataType::UInt32 => Some(4),
+            DataType::Int64 | DataType::UInt64 => Some(8),
+            DataType::Raw(size) => Some(size.get()),
+            DataType::String | DataType::Bytes | DataType::Optional(_) => None,
+        }
+    }
+
+    /// The size in bytes of a cell of a fixed type; of an optional type that of its inner type.
+    pub fn fixed_size(&self) -> Option<usize>
+        ensures { result ≡ fixed_size (kind self.now) }
+    {
+        match self {
+            DataType::Optional(inner) => inner.fixed_size(),
+            _ => self.element_size(),
+        }
+    }
+
+    /// Whether the cells of the type, or of its inner type, are of one size.
+    pub fn is_fixed(&self) -> bool
+        ensures { result ≡ is_some (fixed_size (kind self.now)) }
+    {
+        self.fixed_size().is_some()
+    }
+
+    /// The inner type of an optional type.
+    pub fn optional_inner(&self) -> Option<&DataType>
+        ensures { option_map (λ inner. kind inner.now) result ≡ inner_of (kind self.now) }
+    {
+        match self {
+            DataType::Optional(inner) => Some(inner),
+            _ => None,
+        }
+    }
+}

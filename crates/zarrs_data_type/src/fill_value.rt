@@ -1,0 +1,35 @@
+//! The value of a cell that was never written.
+ghost use Rattle.std.specs.Prelude.{◌≡◌};
+
+use std::marker::Model;
+
+/// The bytes of a cell; for an optional type the one byte 0 for none, or the inner bytes and then 1 for some.
+/// Numbers are little endian. Contracts see the list of the bytes.
+#[derive(Debug, Drop)]
+pub struct FillValue {
+    bytes: Vec<u8>,
+}
+
+impl Model for FillValue {
+    ghost use Rattle.std.specs.Prelude.{ℕ, List};
+
+    ghost Value = { List ℕ };
+
+    ghost view = { λ f. f.bytes.items };
+}
+
+impl FillValue {
+    /// The fill value of these bytes. Whether they are a value of a type is the user's affair.
+    pub fn new(bytes: Vec<u8>) -> FillValue
+        ensures { result ≡ bytes.items }
+    {
+        FillValue { bytes }
+    }
+
+    /// The bytes.
+    pub fn as_bytes(&self) -> &[u8]
+        ensures { result.now ≡ self.now }
+    {
+        self.bytes.as_slice()
+    }
+}
