@@ -1,18 +1,18 @@
 -- Chunks by the words of the layer above: has_box, box_at, index_at, is_covered.
-use Rattle.std.proofs.Common.{◌≡◌, ℕ, zero, suc, ◌+◌, ◌-◌, ◌<◌, ◌≤◌, ◌^◌, ◌==◌, ◌&&◌, nat_lt, Bool, true, false, List, [], ◌∷◌, length, get_or, slice_index, Option, Some, None, slice_get, Contains, eq-eqb, refl, sym, ◌∙◌, ap, subst, inl, inr, arith}
-use Rattle.std.proofs.lemmas.Bool.{and_parts, and_from, ltb-true, lt-ltb, cases_lt}
+use Rattle.std.proofs.Common.{◌≡◌, ℕ, zero, suc, ◌+◌, ◌-◌, ◌<◌, ◌≤◌, ◌^◌, ◌==◌, nat_lt, true, false, List, length, get_or, slice_index, Some, slice_get, Contains, eq-eqb, refl, sym, ◌∙◌, subst, inl, inr, arith}
+use Rattle.std.proofs.lemmas.Bool.{cases_Bool, and_parts, and_from, ltb-true, lt-ltb, cases_lt}
 use Rattle.std.proofs.lemmas.Map.Views.{exact_unsigned_eq}
 use Rattle.std.proofs.lemmas.List.{get_or_past}
 use Rattle.std.proofs.lemmas.Option.{slice_get_within, get_or_from_slice_get}
 use Rattle.std.proofs.lemmas.List.FromFn.{length-map-range_with_len}
 use Rattle.zarrs_subset.specs.Boxes.{positions_from, place, offset_from}
-use Rattle.zarrs_subset.specs.Regions.{Box, IsLong, Holds, InBox, IsBox}
+use Rattle.zarrs_subset.specs.Regions.{Box, IsLong, Holds, IsBox}
 use Rattle.zarrs_subset.proofs.Bytes.{holds_along, along_holds}
 use Rattle.zarrs_subset.proofs.Positions.{positions_in, positions_all}
-use Rattle.zarrs_chunk_grid.specs.Axes.{Axis, IsAxis, Covers, IsInterval}
-use Rattle.zarrs_chunk_grid.specs.Grids.{Grid, IsGrid, IsChunkBox, InChunk, IsCovered, Meets, IsMet, each_dimension, index_at, box_at, HasBox, covered_along, is_covered}
-use Rattle.zarrs_chunk_grid.proofs.AxisLemmas.{covered_below, count_fits}
-use Rattle.zarrs_chunk_grid.proofs.MetChunks.{at_dimension, index_at_covers, index_is, box_is}
+use Rattle.zarrs_chunk_grid.specs.Grids.{Grid, IsGrid, InChunk, Meets, IsMet, each_dimension, index_at, box_at, HasBox, has_box, numbered_along, covered_along, is_covered, start_along, extent_along}
+use Rattle.zarrs_chunk_grid.proofs.AxisLemmas.{covered_below, count_fits, edge_fits}
+use Rattle.zarrs_chunk_grid.proofs.Walks.{ChunkSoFar, AlongChunk}
+use Rattle.zarrs_chunk_grid.proofs.MetChunks.{at_dimension, index_at_covers, index_is, same_box}
 
 along_parts : (g : Grid) (position : List ℕ) (n : ℕ) → covered_along g position n ≡ true → (k : ℕ) → k < n → slice_index position k < (g.axis k).edge (g.axis k).count
 unfolding covered_along
@@ -33,6 +33,71 @@ along_from g position (suc n) h =
     and_from (nat_lt (slice_index position n) ((g.axis n).edge (g.axis n).count)) (covered_along g position n)
     (lt-ltb _ _ (h n (omega arith))) (along_from g position n (λ k below. h k (omega arith)))
 
+numbered_parts : (g : Grid) (indices : List ℕ) (n : ℕ) → numbered_along g indices n ≡ true → (k : ℕ) → k < n → slice_index indices k < (g.axis k).count
+unfolding numbered_along
+numbered_parts g indices zero h k below = absurd (omega arith)
+numbered_parts g indices (suc n) h k below =
+    let parts = and_parts (nat_lt (slice_index indices n) (g.axis n).count) (numbered_along g indices n) h in
+    elim (cases_lt k n) [
+      | inl before ↦ numbered_parts g indices n parts.1 k before
+      | inr last ↦
+          let is : n ≡ k = omega arith in
+          subst (λ k. slice_index indices k < (g.axis k).count) is (ltb-true _ _ parts.0)
+    ]
+
+numbered_from : (g : Grid) (indices : List ℕ) (n : ℕ) → ((k : ℕ) → k < n → slice_index indices k < (g.axis k).count) → numbered_along g indices n ≡ true
+unfolding numbered_along
+numbered_from g indices zero h = refl
+numbered_from g indices (suc n) h =
+    and_from (nat_lt (slice_index indices n) (g.axis n).count) (numbered_along g indices n)
+    (lt-ltb _ _ (h n (omega arith))) (numbered_from g indices n (λ k below. h k (omega arith)))
+
+-- the two forms of "the chunk is there"
+pub has_box_is : (g : Grid) (indices : List ℕ) → HasBox g indices → has_box g indices ≡ true
+unfolding has_box
+has_box_is g indices has =
+    and_from (length indices == g.dimensions) (numbered_along g indices g.dimensions) (eq-eqb _ _ has.long) (numbered_from g indices g.dimensions has.numbered)
+
+pub box_is_there : (g : Grid) (indices : List ℕ) → has_box g indices ≡ true → HasBox g indices
+unfolding has_box
+box_is_there g indices h =
+    let parts = and_parts (length indices == g.dimensions) (numbered_along g indices g.dimensions) h in
+    record { long = exact_unsigned_eq _ _ parts.0; numbered = numbered_parts g indices g.dimensions parts.1 }
+
+-- no chunk is there where some dimension has none of that number
+pub no_box : (g : Grid) (indices : List ℕ) (k : ℕ) → k < g.dimensions → (g.axis k).count ≤ slice_index indices k → has_box g indices ≡ false
+no_box g indices k within past =
+    elim (cases_Bool (has_box g indices)) [
+      | inl there ↦ absurd (let below = (box_is_there g indices there).numbered k within in omega arith)
+      | inr none ↦ none
+    ]
+
+-- what a walk over all dimensions has made is the chunk's box
+pub chunk_whole : (g : Grid) (indices start shape : List ℕ) (n : ℕ) → n ≡ g.dimensions → ChunkSoFar g indices start shape n → record { start = start; shape = shape } ≡ box_at g indices
+unfolding box_at
+chunk_whole g indices start shape n whole so_far =
+    same_box (record { start = start; shape = shape }) (box_at g indices)
+    (subst (λ n. start ≡ each_dimension n (start_along g indices)) whole so_far.start_is)
+    (subst (λ n. shape ≡ each_dimension n (extent_along g indices)) whole so_far.shape_is)
+
+pub chunk_there : (g : Grid) (indices start shape : List ℕ) (n : ℕ) → n ≡ g.dimensions → length indices ≡ n → ChunkSoFar g indices start shape n → has_box g indices ≡ true
+chunk_there g indices start shape n whole long so_far =
+    has_box_is g indices (record { long = long ∙ whole; numbered = λ k below. so_far.numbered k (omega arith) })
+
+-- the same of one list alone
+module _ (g : Grid) (indices xs : List ℕ) (n : ℕ) (whole : n ≡ g.dimensions) where
+  pub along_there : (f : ℕ → ℕ) → length indices ≡ n → AlongChunk g indices f xs n → has_box g indices ≡ true
+  along_there f long along =
+      has_box_is g indices (record { long = long ∙ whole; numbered = λ k below. along.numbered k (omega arith) })
+
+  pub start_whole : AlongChunk g indices (start_along g indices) xs n → xs ≡ (box_at g indices).start
+  unfolding box_at
+  start_whole along = subst (λ n. xs ≡ each_dimension n (start_along g indices)) whole along.values
+
+  pub shape_whole : AlongChunk g indices (extent_along g indices) xs n → xs ≡ (box_at g indices).shape
+  unfolding box_at
+  shape_whole along = subst (λ n. xs ≡ each_dimension n (extent_along g indices)) whole along.values
+
 pub index_long : (g : Grid) (position : List ℕ) → length (index_at g position) ≡ g.dimensions
 unfolding index_at
 index_long g position = length-map-range_with_len _ 0 g.dimensions
@@ -45,11 +110,23 @@ pub box_dimensions : (g : Grid) (indices : List ℕ) → length (box_at g indice
 unfolding box_at
 box_dimensions g indices = length-map-range_with_len _ 0 g.dimensions
 
--- the box of a chunk that was found
-pub chunk_found : (g : Grid) (indices : List ℕ) (b : Box) → IsChunkBox g indices b → HasBox g indices
-chunk_found g indices b c = record { long = c.indices_long; numbered = λ k below. (c.intervals k below).numbered }
-
 module _ (g : Grid) (l : IsGrid g) where
+  -- the box of a chunk that is there is a box
+  pub chunk_box : (indices : List ℕ) → has_box g indices ≡ true → IsBox (box_at g indices)
+  unfolding box_at
+  chunk_box indices there =
+      let has = box_is_there g indices there in
+      let long = length-map-range_with_len (start_along g indices) 0 g.dimensions in
+      record {
+        same_length = sym (box_long g indices);
+        ends_fit = λ k below.
+            let inside : k < g.dimensions = omega (arith, long) in
+            let numbered = has.numbered k inside in
+            let rises = (l k inside).ascends _ numbered in
+            let fits = edge_fits _ (l k inside) (slice_index indices k + 1) (omega arith) in
+            rw (at_dimension g.dimensions (start_along g indices) k inside, at_dimension g.dimensions (extent_along g indices) k inside) (omega arith);
+      }
+
   -- each index list whose chunk is there has numbers that fit u64
   pub box_words : (indices : List ℕ) → HasBox g indices → (k : ℕ) → slice_index indices k < 2 ^ 64
   box_words indices has k =

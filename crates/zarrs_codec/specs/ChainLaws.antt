@@ -20,8 +20,8 @@ whole_chunk-lawful leaf law = record {
   compacted_differs = λ s b less made. cc;
   encoded_compact = λ empty k f s cs b len made. refl;
   unfit = λ empty k f s cs not. law.untaken k cs not;
-  unfit_decoded = λ k f s b not. law.untaken_decoded k _ b not
-  }
+  unfit_decoded = λ k f s b not. law.untaken_decoded k _ b not;
+}
 
 pub chain-lawful : (chain : CodecChain) → IsLawfulChain (chain_meaning chain)
 chain-lawful chain = whole_chunk-lawful (leaf_meaning (array_to_bytes_of chain)) (leaf-lawful (array_to_bytes_of chain))

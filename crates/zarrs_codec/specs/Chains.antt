@@ -22,8 +22,8 @@ whole_chunk leaf = record {
   fits = λ k s. leaf.takes k;
   encoded = λ empty k f s cs. leaf.encoded k cs;
   decoded = λ k f s b. leaf.decoded k (position_count s) b;
-  compacted = λ s b. Some None
-  }
+  compacted = λ s b. Some None;
+}
 
 -- what a chain means
 abbrev pub chain_meaning : CodecChain → ChainMeaning

@@ -92,7 +92,12 @@ impl ChainTraits for CodecChain {
         shape: &[u64],
     ) -> Result<ArrayBytes<'static>, CodecError> {
         match &self.array_to_bytes {
-            ArrayToBytesCodec::Bytes(bytes) => bytes.decode(alloc, text, data_type, cell_count(shape)),
+            ArrayToBytesCodec::Bytes(bytes) => bytes.decode(
+                alloc,
+                text,
+                data_type,
+                cell_count(shape),
+            ),
         }
     }
 

@@ -63,14 +63,17 @@ decoded-none t n b fails = by_size (element_size k) refl
   where
     k : Kind
     k = kind t
+
     by_cells : (o : Option (List Cell)) → bytes_meaning.decoded k n b ≡ o → bytes_meaning.decoded k n b ≡ cells k (fixed b) → bytes_meaning.decoded k n b ≡ None
     by_cells None e same = e
     by_cells (Some cs) e same =
         absurd (fails (subst (λ o. IsSomeAnd o (λ x. length x ≡ n)) (sym e ∙ same) (bytes-lawful.decoded_len k n b cs e)))
+
     by_length : (size : ℕ) → element_size k ≡ Some size → (x : Bool) → eqb (length b) (n * size) ≡ x → bytes_meaning.decoded k n b ≡ None
     by_length size is true e = by_cells (bytes_meaning.decoded k n b) refl (of_length t size n b is (eqb-true (length b) (n * size) e))
     by_length size is false e =
         at_size t size n b is ∙ ap (λ x. cond x (values_only k (map bytes (pieces size n b))) None) e
+
     by_size : (o : Option ℕ) → element_size k ≡ o → bytes_meaning.decoded k n b ≡ None
     by_size None is = unsized_decoded k n b is
     by_size (Some size) is = by_length size is (eqb (length b) (n * size)) refl

@@ -17,5 +17,5 @@ abbrev pub bytes_meaning : LeafMeaning
 bytes_meaning = record {
   takes = λ k. is_some (element_size k);
   encoded = λ k cs. if is_some (element_size k) then Some (flat_map cell_bytes cs) else None;
-  decoded = λ k n b. option_and_then (λ size. if length b == n * size then values_only k (map bytes (pieces size n b)) else None) (element_size k)
-  }
+  decoded = λ k n b. option_and_then (λ size. if length b == n * size then values_only k (map bytes (pieces size n b)) else None) (element_size k);
+}

@@ -89,5 +89,5 @@ bytes-lawful = record {
   decoded_values = λ k n b cs is. (decoded_parts k n b cs is).1;
   untaken = λ k cs not. ap (λ x. cond x (Some (flat_map cell_bytes cs)) None) not;
   untaken_decoded = λ k n b not.
-      ap (option_and_then (λ size. cond (eqb (length b) (n * size)) (values_only k (map bytes (pieces size n b))) None)) (not_some (element_size k) not)
-  }
+      ap (option_and_then (λ size. cond (eqb (length b) (n * size)) (values_only k (map bytes (pieces size n b))) None)) (not_some (element_size k) not);
+}

@@ -6,3 +6,6 @@ mod error;
 
 pub use bytes::BytesCodec;
 pub use error::CodecError;
+
+#[cfg(test)]
+mod tests;

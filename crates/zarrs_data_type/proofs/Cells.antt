@@ -1,9 +1,9 @@
 -- What `cells` says, cell by cell.
-use Rattle.std.proofs.Common.{◌≡◌, ℕ, ◌+◌, ◌-◌, ◌*◌, ◌/◌, ◌<◌, Bool, true, false, cond, eqb, List, length, map, get_or, Option, None, Some, ◌&&◌, refl, sym, ap, ◌∙◌, subst, arith}
-use Rattle.std.specs.Prelude.{IsSomeAnd}
-use Rattle.std.specs.List.{range_with_len, list_all}
+use Rattle.std.proofs.Common.{◌≡◌, ℕ, ◌*◌, ◌/◌, ◌<◌, Bool, true, false, cond, eqb, List, length, map, get_or, Option, None, Some, ◌&&◌, refl, sym, ap, ◌∙◌, subst, arith}
+use Rattle.std.specs.Prelude.{IsSomeAnd, IsSome, is_some}
+use Rattle.std.specs.List.{range_with_len}
 use Rattle.std.proofs.Math.Nat.{mul-div_cancel}
-use Rattle.std.proofs.lemmas.Bool.{eqb-true, and_parts, false≢true}
+use Rattle.std.proofs.lemmas.Bool.{eqb-true, and_parts}
 use Rattle.std.proofs.lemmas.List.{ext_get_or}
 use Rattle.std.proofs.lemmas.List.FromFn.{length-map-range_with_len, get_or-map-range_with_len}
 use Rattle.std.proofs.lemmas.List.Sums.{AllPass-from_list_all, list_all-from_AllPass}
@@ -44,9 +44,9 @@ pub cells-from : (k : Kind) (d : ArrayData) (n : ℕ) → IsSized k → fits k d
 cells-from k d n sized is values =
     let e = count_of-fits k d n sized is in
     let all : are_values k (map (λ i. cell_at k d i) (range_with_len 0 n)) ≡ true =
-        list_all-from_AllPass (λ c. is_value k c) (map (λ i. cell_at k d i) (range_with_len 0 n)) (λ i x lt.
-            let here : i < n = omega (arith, length-map-range_with_len (λ j. cell_at k d j) 0 n) in
-            rw (get_or-map-range_with_len (λ j. cell_at k d j) 0 n i i x here (omega arith)) (values i here)) in
+    list_all-from_AllPass (λ c. is_value k c) (map (λ i. cell_at k d i) (range_with_len 0 n)) (λ i x lt.
+    let here : i < n = omega (arith, length-map-range_with_len (λ j. cell_at k d j) 0 n) in
+    rw (get_or-map-range_with_len (λ j. cell_at k d j) 0 n i i x here (omega arith)) (values i here)) in
     rw e (rw is (rw all refl))
 
 -- and the other way round
@@ -57,13 +57,14 @@ cells-parts k d cs is =
     let both = cond_some (fits k d n && are_values k made) made cs is in
     let parts = and_parts (fits k d n) (are_values k made) both.0 in
     let len : n ≡ length cs = sym (length-map-range_with_len (λ i. cell_at k d i) 0 n) ∙ ap length both.1 in
-    let pass = AllPass-from_list_all (λ c. is_value k c) made parts.1 in
-    ( subst (λ m. fits k d m ≡ true) len parts.0
-    , (λ i lt.
-        let here : i < n = omega arith in
-        let e = get_or-map-range_with_len (λ j. cell_at k d j) 0 n i i none here (omega arith) in
-        subst (λ c. is_value k c ≡ true) e (pass i none (omega (arith, length-map-range_with_len (λ j. cell_at k d j) 0 n))))
-    , sym both.1 ∙ ap (λ m. map (λ i. cell_at k d i) (range_with_len 0 m)) len)
+    let pass = AllPass-from_list_all (λ c. is_value k c) made parts.1 in (
+      subst (λ m. fits k d m ≡ true) len parts.0,
+      (λ i lt.
+          let here : i < n = omega arith in
+          let e = get_or-map-range_with_len (λ j. cell_at k d j) 0 n i i none here (omega arith) in
+          subst (λ c. is_value k c ≡ true) e (pass i none (omega (arith, length-map-range_with_len (λ j. cell_at k d j) 0 n)))),
+      sym both.1 ∙ ap (λ m. map (λ i. cell_at k d i) (range_with_len 0 m)) len,
+    )
 
 -- the cells of data are values
 pub cells-values : (k : Kind) (d : ArrayData) (cs : List Cell) → cells k d ≡ Some cs → are_values k cs ≡ true
@@ -79,8 +80,8 @@ cells-as k d cs sized is same values =
     let n = length cs in
     cells-from k d n sized is (λ i lt. subst (λ c. is_value k c ≡ true) (sym (same i lt)) (values i lt))
     ∙ ap Some (ext_get_or none (map (λ i. cell_at k d i) (range_with_len 0 n)) cs (length-map-range_with_len (λ i. cell_at k d i) 0 n) (λ i lt.
-        let here : i < n = omega (arith, length-map-range_with_len (λ j. cell_at k d j) 0 n) in
-        get_or-map-range_with_len (λ j. cell_at k d j) 0 n i i none here (omega arith) ∙ same i here))
+    let here : i < n = omega (arith, length-map-range_with_len (λ j. cell_at k d j) 0 n) in
+    get_or-map-range_with_len (λ j. cell_at k d j) 0 n i i none here (omega arith) ∙ same i here))
 
 -- the same, with the number of cells alone
 pub HasCells-from : (k : Kind) (d : ArrayData) (n : ℕ) → IsSized k → fits k d n ≡ true → AllValues k d n → HasCells k d n
@@ -106,3 +107,6 @@ HasCells-cells k d n has = go (cells k d) refl has
 -- cells that are some, and as many
 pub HasCells-some : (k : Kind) (d : ArrayData) (cs : List Cell) → cells k d ≡ Some cs → HasCells k d (length cs)
 HasCells-some k d cs is = subst (λ o. IsSomeAnd o (λ x. length x ≡ length cs)) (sym is) refl
+
+pub HasCells-IsSome : (k : Kind) (d : ArrayData) (n : ℕ) → HasCells k d n → IsSome (cells k d)
+HasCells-IsSome k d n has = let made = HasCells-cells k d n has in ap is_some made.1

@@ -1,14 +1,16 @@
 -- Fill values of types that are fixed and not optional.
-use Rattle.std.proofs.Common.{◌≡◌, ℕ, zero, suc, ◌∷◌, ◌+◌, ◌*◌, ◌/◌, ◌<◌, Bool, true, false, cond, List, length, map, replicate, Option, None, Some, refl, sym, ap, ◌∙◌, subst, arith}
+use Rattle.std.proofs.Common.{◌≡◌, ℕ, zero, suc, ◌∷◌, ◌*◌, ◌/◌, ◌<◌, Bool, true, false, cond, List, length, map, replicate, Option, None, Some, refl, sym, ap, ◌∙◌, subst, arith, Result, Ok, Err, MatchResult, is_ok}
 use Rattle.std.specs.Prelude.{IsSome, IfSome, unwrap_or, is_some}
-use Rattle.std.specs.Str.{bytes_eq}
+use Rattle.std.specs.Str.{bytes_eq, is_utf8, IsUtf8}
 use Rattle.std.specs.List.{list_all, repeat}
+use Rattle.std.proofs.lemmas.Str.{IsUtf8-from_is_utf8, is_utf8-from_IsUtf8}
+use Rattle.std.proofs.lemmas.Bool.{false_from_ne_true}
 use Rattle.std.proofs.lemmas.List.Folds.{list_all-map}
 use Rattle.zarrs_data_type.specs.declared.data_type.DataType.{DataType}
 use Rattle.zarrs_data_type.specs.Kind.{Kind, kind, element_size}
 use Rattle.zarrs_data_type.specs.Kind as type
 use Rattle.zarrs_data_type.specs.Cell.{Cell, bytes, none, is_element, is_value, are_values, cell_eq, fill_cell, fill_of}
-use Rattle.zarrs_data_type.specs.ArrayData.{ArrayData, fixed}
+use Rattle.zarrs_data_type.specs.ArrayData.{fixed}
 use Rattle.zarrs_data_type.specs.Cells.{cells, HasCells}
 use Rattle.zarrs_data_type.specs.Pieces.{pieces}
 use Rattle.zarrs_data_type.proofs.Sizes.{element_len, element_size-positive}
@@ -57,7 +59,7 @@ pub all-pieces : (k : Kind) (size n : ℕ) (b f : List ℕ) → element_size k �
 all-pieces k size n b f is positive some has =
     let fill = fill_parts k size f is some in
     subst (λ o. IfSome o (λ cs. list_all (λ p. bytes_eq p f) (pieces size n b) ≡ list_all (λ c. cell_eq c (fill_of k f)) cs)) (sym (cells-of k size is b n positive has))
-    ( sym (list_all-map (λ c. cell_eq c (bytes f)) bytes (pieces size n b))
+    (sym (list_all-map (λ c. cell_eq c (bytes f)) bytes (pieces size n b))
     ∙ ap (λ g. list_all (λ c. cell_eq c g) (map bytes (pieces size n b))) (sym fill.1))
 
 -- the fill value of a type whose data has cells is not empty
@@ -80,7 +82,7 @@ fill_test t b f g result some filled same tested =
     let n = length b / size in
     let len : length g ≡ size = ap length same ∙ fill.2 in
     let by_fill : result ≡ list_all (λ p. bytes_eq p f) (pieces size n b) =
-        tested ∙ ap (λ s. list_all (λ p. bytes_eq p g) (pieces s (length b / s) b)) len ∙ ap (λ h. list_all (λ p. bytes_eq p h) (pieces size n b)) same in
+    tested ∙ ap (λ s. list_all (λ p. bytes_eq p g) (pieces s (length b / s) b)) len ∙ ap (λ h. list_all (λ p. bytes_eq p h) (pieces size n b)) same in
     subst (λ r. IfSome (cells k (fixed b)) (λ cs. r ≡ list_all (λ c. cell_eq c (fill_of k f)) cs)) (sym by_fill)
     (all-pieces k size n b f sized.1 positive filled (whole_cells k size b sized.1 positive some))
 
@@ -91,3 +93,8 @@ cells-made t None n f g made size there filled same is = cc
 cells-made t (Some size) n f g made sized there filled same is =
     ap (λ b. cells (kind t) (fixed b)) (is ∙ ap (repeat n) same)
     ∙ cells-repeat (kind t) size n f (sym sized) (element_size-positive t size (sym sized)) filled
+
+-- what `from_utf8` ensures, as a test
+pub is_ok-utf8 : {A B : Type 0} (P : A → Type 0) (Q : B → Type 0) (r : Result A B) (b : List ℕ) → MatchResult r (λ s. P s × IsUtf8 b) (λ e. ¬ (IsUtf8 b) × Q e) → is_ok r ≡ is_utf8 b
+is_ok-utf8 P Q (Ok s) b h = sym (is_utf8-from_IsUtf8 b h.1)
+is_ok-utf8 P Q (Err e) b h = sym (false_from_ne_true (is_utf8 b) (λ is. h.0 (IsUtf8-from_is_utf8 b is)))

@@ -1,8 +1,8 @@
 -- The cells of bytes of one size.
-use Rattle.std.proofs.Common.{◌≡◌, ℕ, ◌+◌, ◌*◌, ◌/◌, ◌<◌, ◌≤◌, Bool, true, false, cond, eqb, ltb, List, [], ◌∷◌, length, map, get_or, Option, None, Some, ◌&&◌, IsTrue, ◌↔◌, refl, sym, ap, ◌∙◌, subst, arith, mul-one}
-use Rattle.std.specs.Prelude.{slice_range, slice_index, IsSomeAnd, IsSome, is_some}
+use Rattle.std.proofs.Common.{◌≡◌, ℕ, ◌+◌, ◌*◌, ◌/◌, ◌<◌, Bool, true, false, cond, eqb, List, [], ◌∷◌, length, map, get_or, Option, None, Some, ◌&&◌, IsTrue, ◌↔◌, refl, sym, ap, ◌∙◌, subst, arith}
+use Rattle.std.specs.Prelude.{slice_range, IsSomeAnd, IsSome, is_some}
 use Rattle.std.specs.List.{range_with_len, list_all}
-use Rattle.std.proofs.lemmas.Bool.{eqb-true, eq-eqb, and_parts, false≢true}
+use Rattle.std.proofs.lemmas.Bool.{eqb-true, eq-eqb, false≢true}
 use Rattle.std.proofs.Math.Nat.{mul-div_cancel}
 use Rattle.std.proofs.lemmas.Simd.{map-map}
 use Rattle.std.proofs.lemmas.List.{length-map}
@@ -11,7 +11,7 @@ use Rattle.std.proofs.lemmas.List.Sums.{list_all-from_AllPass}
 use Rattle.zarrs_data_type.specs.Kind.{Kind, element_size}
 use Rattle.zarrs_data_type.specs.Kind as type
 use Rattle.zarrs_data_type.specs.Cell.{Cell, bytes, none, is_element, is_value, are_values, values_only, may_hold}
-use Rattle.zarrs_data_type.specs.ArrayData.{ArrayData, fixed}
+use Rattle.zarrs_data_type.specs.ArrayData.{fixed}
 use Rattle.zarrs_data_type.specs.Cells.{fits, count_of, cell_at, cells, HasCells}
 use Rattle.zarrs_data_type.specs.Pieces.{pieces}
 use Rattle.zarrs_data_type.proofs.Cells.{IsSized, count_of-fits, HasCells-parts, HasCells-some}
@@ -34,7 +34,7 @@ bool_elements : (size n : ℕ) (b : List ℕ) → 1 ≡ size → length b ≡ n 
 bool_elements size n b is len =
     let count : length b ≡ n = len ∙ ap (λ s. n * s) (sym is) ∙ (let e : n * 1 ≡ n = omega arith in e) in
     sym
-    ( ap (λ s. are_elements type.bool (pieces s n b)) (sym is)
+    (ap (λ s. are_elements type.bool (pieces s n b)) (sym is)
     ∙ ap (λ m. are_elements type.bool (pieces 1 m b)) (sym count)
     ∙ ap (are_elements type.bool) (pieces-one b)
     ∙ list_all-map (λ p. is_element type.bool p) (λ x. x ∷ []) b)
@@ -82,7 +82,7 @@ module _ (k : Kind) (size : ℕ) (is : element_size k ≡ Some size) where
       let fit : fits k (fixed b) n ≡ true = fitting (element_size k) b n is len in
       let counted = count_of-fits k (fixed b) n sized fit in
       let at : (λ i. cell_at k (fixed b) i) ≡ (λ i. bytes (slice_range b (i * size) (i * size + size))) =
-          ap (λ o i. elim o [ None ↦ none | Some s ↦ bytes (slice_range b (i * s) (i * s + s)) ]) is in
+      ap (λ o i. elim o [ None ↦ none | Some s ↦ bytes (slice_range b (i * s) (i * s + s)) ]) is in
       let cs : ℕ → List Cell = λ m. map (λ i. cell_at k (fixed b) i) (range_with_len 0 m) in
       ap (λ m. cond (fits k (fixed b) m && are_values k (cs m)) (Some (cs m)) None) counted
       ∙ ap (λ x. cond (x && are_values k (cs n)) (Some (cs n)) None) fit
@@ -105,9 +105,10 @@ module _ (k : Kind) (size : ℕ) (is : element_size k ≡ Some size) where
 
   -- the test of the length and of the bytes is that of the cells
   pub HasCells-fixed : (b : List ℕ) (n : ℕ) → 0 < size → length b ≡ n * size → IsTrue (may_hold k b) ↔ HasCells k (fixed b) n
-  HasCells-fixed b n positive len =
-      ( (λ held. subst (λ o. IsSomeAnd o (λ x. length x ≡ n)) (sym (cells-held b n positive len held)) (length-piece_cells b n))
-      , (λ has. go (may_hold k b) refl has))
+  HasCells-fixed b n positive len = (
+    (λ held. subst (λ o. IsSomeAnd o (λ x. length x ≡ n)) (sym (cells-held b n positive len held)) (length-piece_cells b n)),
+    (λ has. go (may_hold k b) refl has),
+  )
     where
       go : (x : Bool) → may_hold k b ≡ x → HasCells k (fixed b) n → may_hold k b ≡ true
       go true e has = e

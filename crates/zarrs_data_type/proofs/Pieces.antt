@@ -1,12 +1,13 @@
 -- Bytes cut into pieces of one size, and put together again.
-use Rattle.std.proofs.Common.{◌≡◌, ℕ, zero, suc, ◌+◌, ◌-◌, ◌*◌, ◌/◌, ◌<◌, ◌≤◌, Bool, true, false, List, [], ◌∷◌, ◌++◌, length, map, take, drop, get_or, replicate, ◌&&◌, refl, sym, ap, ◌∙◌, subst, arith, add-one, append_assoc, append-nil}
+use Rattle.std.proofs.Common.{◌≡◌, ℕ, zero, suc, ◌+◌, ◌-◌, ◌*◌, ◌/◌, ◌<◌, ◌≤◌, Bool, true, false, eqb, List, [], ◌∷◌, ◌++◌, length, map, take, drop, get_or, replicate, ◌&&◌, refl, sym, ap, ◌∙◌, arith, append_assoc, append-nil}
 use Rattle.std.specs.Prelude.{slice_range}
 use Rattle.std.specs.List.{range_with_len, flat_map, list_all, repeat}
+use Rattle.std.specs.Str.{bytes_eq}
 use Rattle.std.proofs.lemmas.Grind.{flat_map-append}
-use Rattle.std.proofs.lemmas.List.{length-append, take-append-drop, length-take, length-drop, length-map, length-take-le, take_at, take_all}
-use Rattle.std.proofs.lemmas.List.Folds.{list_all-append, list_all_at}
+use Rattle.std.proofs.lemmas.List.{length-append, length-drop, length-take-le, take_at, take_all}
+use Rattle.std.proofs.lemmas.List.Folds.{list_all-append, list_all_at, list_all-map}
 use Rattle.std.proofs.lemmas.List.FromFn.{length-map-range_with_len, get_or-map-range_with_len, map-range_with_len_more, fill_by_all}
-use Rattle.std.proofs.Math.Nat.{suc-mul, mul-le-mul_right, div-mul-le_self}
+use Rattle.std.proofs.Math.Nat.{suc-mul, mul-le-mul_right, div-mul-le_self, mul-div_cancel}
 use Rattle.std.proofs.Math.Seq.{take-add, drop-append-add}
 use Rattle.zarrs_data_type.specs.Pieces.{pieces}
 
@@ -101,16 +102,16 @@ pieces-cons size n x b len =
     let zero_at : 0 * size ≡ 0 = omega arith in
     let whole : 0 + size - 0 ≡ size = omega arith in
     let first : cut 0 ≡ x =
-        ap (λ m. slice_range (x ++ b) m (m + size)) zero_at ∙ ap (λ m. take m (x ++ b)) whole ∙ take_at x b size len in
+    ap (λ m. slice_range (x ++ b) m (m + size)) zero_at ∙ ap (λ m. take m (x ++ b)) whole ∙ take_at x b size len in
     let others : map cut (range_with_len 1 n) ≡ pieces size n b =
-        fill_by_all (λ k. slice_range b (k * size) (k * size + size)) (map cut (range_with_len 1 n)) n []
-        (length-map-range_with_len cut 1 n)
-        (λ k lt.
-            let at : (1 + k) * size ≡ length x + k * size = omega (arith, suc-mul k size) in
-            get_or-map-range_with_len cut 1 n k (1 + k) [] lt refl
-            ∙ ap (λ m. slice_range (x ++ b) m (m + size)) at
-            ∙ ap (λ m. slice_range (x ++ b) (length x + k * size) m) (let e : length x + k * size + size ≡ length x + (k * size + size) = omega arith in e)
-            ∙ slice_range-past x b (k * size) (k * size + size)) in
+    fill_by_all (λ k. slice_range b (k * size) (k * size + size)) (map cut (range_with_len 1 n)) n []
+    (length-map-range_with_len cut 1 n)
+    (λ k lt.
+    let at : (1 + k) * size ≡ length x + k * size = omega (arith, suc-mul k size) in
+    get_or-map-range_with_len cut 1 n k (1 + k) [] lt refl
+    ∙ ap (λ m. slice_range (x ++ b) m (m + size)) at
+    ∙ ap (λ m. slice_range (x ++ b) (length x + k * size) m) (let e : length x + k * size + size ≡ length x + (k * size + size) = omega arith in e)
+    ∙ slice_range-past x b (k * size) (k * size + size)) in
     ap (λ y. y ∷ map cut (range_with_len 1 n)) first ∙ ap (λ l. x ∷ l) others
 
 -- the pieces of pieces put together
@@ -151,3 +152,26 @@ pub repeat_single : (p : List ℕ) (n : ℕ) → 1 ≤ length p → length p < 2
 repeat_single [] n some one = absurd (omega arith)
 repeat_single (x ∷ []) n some one = sym (repeat_one x n)
 repeat_single (x ∷ y ∷ p) n some one = absurd (omega arith)
+
+and_true : (x : Bool) → (x && true) ≡ x
+and_true true = refl
+and_true false = refl
+
+all_singles : (byte : ℕ) (b : List ℕ) → list_all (λ x. eqb x byte) b ≡ list_all (λ x. bytes_eq (x ∷ []) (byte ∷ [])) b
+all_singles byte [] = refl
+all_singles byte (x ∷ b) =
+    ap (λ l. eqb x byte && l) (all_singles byte b)
+    ∙ ap (λ t. t && list_all (λ y. bytes_eq (y ∷ []) (byte ∷ [])) b) (sym (and_true (eqb x byte)))
+
+-- a test of each byte, as one of the pieces of one byte
+pub all_bytes : (p b : List ℕ) → 1 ≤ length p → length p < 2
+    → list_all (λ x. eqb x (get_or p 0 0)) b ≡ list_all (λ q. bytes_eq q p) (pieces (length p) (length b / length p) b)
+all_bytes [] b some one = absurd (omega arith)
+all_bytes (byte ∷ []) b some one =
+    let one_each : length b ≡ length b * 1 = omega arith in
+    let some_size : 0 < 1 = omega arith in
+    let count : length b / 1 ≡ length b = ap (λ n. n / 1) one_each ∙ mul-div_cancel (length b) some_size in
+    all_singles byte b
+    ∙ sym (list_all-map (λ q. bytes_eq q (byte ∷ [])) (λ x. x ∷ []) b)
+    ∙ sym (ap (list_all (λ q. bytes_eq q (byte ∷ []))) (ap (λ n. pieces 1 n b) count ∙ pieces-one b))
+all_bytes (x ∷ y ∷ p) b some one = absurd (omega arith)

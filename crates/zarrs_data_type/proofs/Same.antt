@@ -1,5 +1,5 @@
 -- Cells that are the same.
-use Rattle.std.proofs.Common.{◌≡◌, List, ℕ, true, false, refl, sym, ap, ◌∙◌}
+use Rattle.std.proofs.Common.{◌≡◌, true, refl, sym, ap, ◌∙◌}
 use Rattle.std.proofs.lemmas.Slice.Eq.{bytes_eq-Decides}
 use Rattle.zarrs_data_type.specs.Cell.{Cell, bytes, none, some, cell_eq}
 

@@ -1,7 +1,6 @@
 -- The sizes of cells.
-use Rattle.std.proofs.Common.{◌≡◌, ℕ, ◌<◌, ◌≤◌, eqb, List, length, Option, None, Some, true, refl, sym, ap, ◌∙◌, subst, arith}
-use Rattle.std.specs.Prelude.{is_some}
-use Rattle.std.proofs.lemmas.Bool.{eqb-true, eq-eqb, and_parts}
+use Rattle.std.proofs.Common.{◌≡◌, ℕ, ◌<◌, eqb, List, length, None, Some, true, refl, ◌∙◌, arith}
+use Rattle.std.proofs.lemmas.Bool.{eqb-true, and_parts}
 use Rattle.zarrs_data_type.specs.declared.data_type.DataType.{DataType}
 use Rattle.zarrs_data_type.specs.declared.data_type.DataType as ty
 use Rattle.zarrs_data_type.specs.Kind.{Kind, kind, element_size, cell_size, inner_of}

@@ -4,3 +4,4 @@ pub mod Cells
 pub mod Causes
 pub mod Kind
 pub mod Pieces
+pub mod Same

@@ -1,8 +1,6 @@
 //! The bytes that stand for a list of cells.
-mod fill;
-mod fixed;
-
 ghost use Rattle.std.specs.Prelude.{◌≡◌, ◌↔◌, ◌*◌, ◌<◌, ◌^◌, Some, IfOk, IfErr, IfSome, IsSome, IsTrue, replicate};
+ghost use Rattle.std.specs.Cow.{cow_slice_items};
 ghost use Rattle.std.specs.List.{list_all};
 ghost use Rattle.zarrs_data_type.specs.ArrayData.{data_of, fixed};
 ghost use Rattle.zarrs_data_type.specs.Causes.{HasFillCause};
@@ -15,6 +13,9 @@ use crate::errors::DataTypeFillValueError;
 use crate::fill_value::FillValue;
 use std::alloc::{AllocError, Global};
 use std::borrow::CowSlice;
+
+mod fill;
+mod fixed;
 
 /// The cells of an array or of a part of it, in row-major order.
 #[derive(Drop)]
@@ -63,10 +64,7 @@ impl<'a> ArrayBytes<'a> {
         ensures { IfOk result (λ owned. data_of owned ≡ data_of self.entry) }
     {
         match self {
-            ArrayBytes::Fixed(CowSlice::Owned(bytes)) => Ok(ArrayBytes::new_flen(bytes)),
-            ArrayBytes::Fixed(CowSlice::Borrowed(bytes)) => {
-                Ok(ArrayBytes::new_flen(Vec::from_slice(alloc, bytes)?))
-            }
+            ArrayBytes::Fixed(bytes) => Ok(ArrayBytes::new_flen(owned(alloc, bytes)?)),
         }
     }
 
@@ -89,5 +87,15 @@ impl<'a> ArrayBytes<'a> {
         match self {
             ArrayBytes::Fixed(bytes) => fill::is_fill(bytes.as_slice(), data_type, fill_value),
         }
+    }
+}
+
+/// The bytes, copied where they are borrowed.
+fn owned(alloc: Global, bytes: CowSlice<'_, u8>) -> Result<Vec<u8>, AllocError>
+    ensures { IfOk result (λ owned. owned.items ≡ cow_slice_items bytes.entry) }
+{
+    match bytes {
+        CowSlice::Owned(bytes) => Ok(bytes),
+        CowSlice::Borrowed(bytes) => Vec::from_slice(alloc, bytes),
     }
 }

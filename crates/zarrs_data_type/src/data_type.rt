@@ -1,6 +1,8 @@
 //! The types of the cells of an array.
 ghost use Rattle.std.specs.Prelude.{◌≡◌, IfOk, is_some, option_map};
+ghost use Rattle.zarrs_data_type.specs.Cell.{is_element, fill_cell};
 ghost use Rattle.zarrs_data_type.specs.Kind.{kind, element_size, fixed_size, inner_of};
+ghost use Rattle.zarrs_data_type.specs.Same.{kind_eq, type_eq, type_eq-laws, type_eq-equivalence};
 
 use std::alloc::{AllocError, Global};
 use std::num::NonZeroUsize;
@@ -92,4 +94,65 @@ impl DataType {
             _ => None,
         }
     }
+
+    /// Whether these bytes are a cell of this type, which is not optional.
+    fn is_element(&self, bytes: &[u8]) -> bool
+        ensures { result ≡ is_element (kind self.now) bytes.now }
+    {
+        match self {
+            DataType::Bool => bytes.len() == 1 && bytes[0] < 2,
+            DataType::String => str::from_utf8(bytes).is_ok(),
+            DataType::Bytes => true,
+            _ => self.element_size() == Some(bytes.len()),
+        }
+    }
+
+    /// Whether these are the bytes of a fill value of this type.
+    pub(crate) fn is_fill(&self, bytes: &[u8]) -> bool
+        ensures { result ≡ is_some (fill_cell (kind self.now) bytes.now) }
+    {
+        match self {
+            DataType::Optional(inner) => match bytes {
+                [0] => true,
+                [front @ .., 1] => inner.is_fill(front),
+                _ => false,
+            },
+            _ => self.is_element(bytes),
+        }
+    }
+
+    fn is_same(&self, other: &DataType) -> bool
+        ensures { result ≡ kind_eq (kind self.now) (kind other.now) }
+    {
+        match (self, other) {
+            (DataType::Bool, DataType::Bool)
+            | (DataType::Int8, DataType::Int8)
+            | (DataType::Int16, DataType::Int16)
+            | (DataType::Int32, DataType::Int32)
+            | (DataType::Int64, DataType::Int64)
+            | (DataType::UInt8, DataType::UInt8)
+            | (DataType::UInt16, DataType::UInt16)
+            | (DataType::UInt32, DataType::UInt32)
+            | (DataType::UInt64, DataType::UInt64)
+            | (DataType::String, DataType::String)
+            | (DataType::Bytes, DataType::Bytes) => true,
+            (DataType::Raw(size), DataType::Raw(other)) => size.get() == other.get(),
+            (DataType::Optional(inner), DataType::Optional(other)) => inner.is_same(other),
+            _ => false,
+        }
+    }
+}
+
+impl PartialEq for DataType {
+    ghost eq = { type_eq };
+
+    ghost laws = { type_eq-laws };
+
+    fn eq(&self, other: &DataType) -> bool {
+        self.is_same(other)
+    }
+}
+
+impl Eq for DataType {
+    ghost laws = { type_eq-equivalence };
 }

@@ -1,6 +1,9 @@
 //! The value of a cell that was never written.
-ghost use Rattle.std.specs.Prelude.{◌≡◌};
+ghost use Rattle.std.specs.Prelude.{◌≡◌, is_some};
+ghost use Rattle.zarrs_data_type.specs.Cell.{fill_cell};
+ghost use Rattle.zarrs_data_type.specs.Kind.{kind};
 
+use crate::data_type::DataType;
 use std::marker::Model;
 
 /// The bytes of a cell; for an optional type the one byte 0 for none, or the inner bytes and then 1 for some.
@@ -19,7 +22,7 @@ impl Model for FillValue {
 }
 
 impl FillValue {
-    /// The fill value of these bytes. Whether they are a value of a type is the user's affair.
+    /// The fill value of these bytes. Whether they are a value of a type is what `is_value_of` tells.
     pub fn new(bytes: Vec<u8>) -> FillValue
         ensures { result ≡ bytes.items }
     {
@@ -31,5 +34,12 @@ impl FillValue {
         ensures { result.now ≡ self.now }
     {
         self.bytes.as_slice()
+    }
+
+    /// Whether this is a fill value of the type.
+    pub fn is_value_of(&self, data_type: &DataType) -> bool
+        ensures { result ≡ is_some (fill_cell (kind data_type.now) self.now) }
+    {
+        data_type.is_fill(&self.bytes)
     }
 }

@@ -13,3 +13,6 @@ pub use errors::{
     ExpectedFixedLengthBytesError, ExpectedOptionalBytesError, ExpectedVariableLengthBytesError,
 };
 pub use fill_value::FillValue;
+
+#[cfg(test)]
+mod tests;

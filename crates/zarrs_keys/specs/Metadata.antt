@@ -4,8 +4,8 @@ use Rattle.std.specs.Str.{bytes_eq}
 use Rattle.serde_json.specs.Data.{Data, string, Members, no_members, member}
 use Rattle.serde_json.specs.Find.{get_member, as_str}
 use Rattle.zarrs_metadata.specs.Extension.{ExtensionData, settings, ◌>>=◌}
-use Rattle.zarrs_metadata.specs.Members.{has_only, is_named}
-use Rattle.zarrs_metadata.specs.Separator.{separator_byte}
+use Rattle.zarrs_metadata.specs.Members.{has_only}
+use Rattle.zarrs_metadata.specs.Separator.{separator_of, separator_data}
 use Rattle.zarrs_metadata.specs.declared.separators.ChunkKeySeparator.{ChunkKeySeparator}
 use Rattle.zarrs_metadata.specs.declared.separators.ChunkKeySeparator.TheVariants.{Slash, Dot}
 use Rattle.zarrs_keys.specs.Suffix.{is_suffix}
@@ -14,41 +14,37 @@ use Rattle.zarrs_keys.specs.declared.encodings.ChunkKeyEncoding.TheVariants.{Def
 
 -- ---- what metadata says
 
--- the separator of this text
-abbrev pub separator_named : List ℕ → Option ChunkKeySeparator
-separator_named text = if bytes_eq text (codes "/") then Some Slash else if bytes_eq text (codes ".") then Some Dot else None
-
 -- the separator of a member, or the one that an absent member stands for
 abbrev pub separator_or : ChunkKeySeparator → Option Data → Option ChunkKeySeparator
 separator_or absent None = Some absent
-separator_or absent (Some value) = option_and_then separator_named (as_str value)
+separator_or absent (Some value) = separator_of value
 
 -- the member `separator` of a configuration, or the one that stands for it
-abbrev pub separator_of : ChunkKeySeparator → Members → Option ChunkKeySeparator
-separator_of absent configuration = separator_or absent (get_member (codes "separator") configuration)
+abbrev pub separator_in : ChunkKeySeparator → Members → Option ChunkKeySeparator
+separator_in absent configuration = separator_or absent (get_member (codes "separator") configuration)
 
 -- the text, where it is a suffix
 abbrev pub suffix_named : List ℕ → Option (List ℕ)
 suffix_named text = if is_suffix text then Some text else None
 
 -- the member `suffix` of a configuration
-abbrev pub suffix_of : Members → Option (List ℕ)
-suffix_of configuration = option_and_then suffix_named (option_and_then as_str (get_member (codes "suffix") configuration))
+abbrev pub suffix_in : Members → Option (List ℕ)
+suffix_in configuration = option_and_then suffix_named (option_and_then as_str (get_member (codes "suffix") configuration))
 
 -- `/` where no separator is given
 abbrev pub default_of : Members → Option ChunkKeyEncoding
-default_of configuration = if has_only (codes "separator" ∷ []) configuration then option_map Default (separator_of Slash configuration) else None
+default_of configuration = if has_only (codes "separator" ∷ []) configuration then option_map Default (separator_in Slash configuration) else None
 
 -- `.` where no separator is given
 abbrev pub v2_of : Members → Option ChunkKeyEncoding
-v2_of configuration = if has_only (codes "separator" ∷ []) configuration then option_map V2 (separator_of Dot configuration) else None
+v2_of configuration = if has_only (codes "separator" ∷ []) configuration then option_map V2 (separator_in Dot configuration) else None
 
 -- `/` where no separator is given; the suffix is always given
 abbrev pub default_suffix_of : Members → Option ChunkKeyEncoding
 default_suffix_of configuration =
     if has_only (codes "separator" ∷ codes "suffix" ∷ []) configuration then (do
-      separator ← separator_of Slash configuration
-      suffix ← suffix_of configuration
+      separator ← separator_in Slash configuration
+      suffix ← suffix_in configuration
       Some (DefaultSuffix separator suffix)) else None
 
 -- the encoding of this name, with this configuration
@@ -71,7 +67,7 @@ configured name configuration = record { name = name; configuration = Some confi
 
 -- the member `separator`, before others
 abbrev pub separator_member : ChunkKeySeparator → Members → Members
-separator_member separator others = member (codes "separator") (string (separator_byte separator ∷ [])) others
+separator_member separator others = member (codes "separator") (separator_data separator) others
 
 -- the metadata of an encoding; the separator is always written
 abbrev pub extension_of_encoding : ChunkKeyEncoding → ExtensionData

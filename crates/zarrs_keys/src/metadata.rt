@@ -1,11 +1,10 @@
 //! The metadata of chunk key encodings, both ways.
-ghost use Rattle.std.specs.Prelude.{◌≡◌, Some, None, option_map, IfOk, IfErr};
+ghost use Rattle.std.specs.Prelude.{◌≡◌, Some, IfOk, IfErr};
 ghost use Rattle.serde_json.specs.Data.{no_members};
-ghost use Rattle.serde_json.specs.View.{view};
 ghost use Rattle.zarrs_metadata.specs.Extension.{settings};
 ghost use Rattle.zarrs_metadata.specs.View.{extension_view};
 ghost use Rattle.zarrs_metadata.specs.Refusal.{HasCreateCause};
-ghost use Rattle.zarrs_keys.specs.Metadata.{separator_named, separator_or, separator_of, suffix_named, suffix_of, default_of, v2_of, default_suffix_of, encoding_of, configured, separator_member, extension_of_encoding};
+ghost use Rattle.zarrs_keys.specs.Metadata.{separator_in, suffix_named, suffix_in, default_of, v2_of, default_suffix_of, encoding_of, configured, separator_member, extension_of_encoding};
 
 use crate::encodings::ChunkKeyEncoding;
 use crate::errors::KeySuffixError;
@@ -14,32 +13,14 @@ use serde_json::Value;
 use std::alloc::{AllocError, Global};
 use zarrs_metadata::{ChunkKeySeparator, MetadataV3, PluginCreateError};
 
-/// The separator of this text.
-fn separator_named(text: &str) -> Option<ChunkKeySeparator>
-    ensures { result ≡ separator_named text.now }
-{
-    match text {
-        "/" => Some(ChunkKeySeparator::Slash),
-        "." => Some(ChunkKeySeparator::Dot),
-        _ => None,
-    }
-}
-
-/// The separator of a member, or the one that an absent member stands for.
-fn separator_or(absent: ChunkKeySeparator, member: Option<&Value>) -> Option<ChunkKeySeparator>
-    ensures { result ≡ separator_or absent (option_map (λ value. view value.now) member.entry) }
-{
-    match member {
-        None => Some(absent),
-        Some(value) => separator_named(value.as_str()?),
-    }
-}
-
 /// The separator of a configuration, or the one that stands for it where it gives none.
-fn separator_of(absent: ChunkKeySeparator, metadata: &MetadataV3) -> Option<ChunkKeySeparator>
-    ensures { result ≡ separator_of absent (settings (extension_view metadata.now)) }
+fn separator_in(absent: ChunkKeySeparator, metadata: &MetadataV3) -> Option<ChunkKeySeparator>
+    ensures { result ≡ separator_in absent (settings (extension_view metadata.now)) }
 {
-    separator_or(absent, metadata.member("separator"))
+    match metadata.member("separator") {
+        None => Some(absent),
+        Some(value) => ChunkKeySeparator::from_value(value),
+    }
 }
 
 /// The suffix with this text, or none where it is no suffix.
@@ -54,8 +35,8 @@ fn suffix_named(alloc: Global, text: &str) -> Result<Option<KeySuffix>, AllocErr
 }
 
 /// The suffix of a configuration.
-fn suffix_of(alloc: Global, metadata: &MetadataV3) -> Result<Option<KeySuffix>, AllocError>
-    ensures { IfOk result (λ suffix. suffix ≡ suffix_of (settings (extension_view metadata.now))) }
+fn suffix_in(alloc: Global, metadata: &MetadataV3) -> Result<Option<KeySuffix>, AllocError>
+    ensures { IfOk result (λ suffix. suffix ≡ suffix_in (settings (extension_view metadata.now))) }
 {
     match metadata.member("suffix").and_then(Value::as_str) {
         Some(text) => suffix_named(alloc, text),
@@ -69,7 +50,7 @@ fn default_of(metadata: &MetadataV3) -> Option<ChunkKeyEncoding>
     if !metadata.has_only(&["separator"]) {
         return None;
     }
-    let separator = separator_of(ChunkKeySeparator::Slash, metadata)?;
+    let separator = separator_in(ChunkKeySeparator::Slash, metadata)?;
     Some(ChunkKeyEncoding::Default(separator))
 }
 
@@ -79,7 +60,7 @@ fn v2_of(metadata: &MetadataV3) -> Option<ChunkKeyEncoding>
     if !metadata.has_only(&["separator"]) {
         return None;
     }
-    let separator = separator_of(ChunkKeySeparator::Dot, metadata)?;
+    let separator = separator_in(ChunkKeySeparator::Dot, metadata)?;
     Some(ChunkKeyEncoding::V2(separator))
 }
 
@@ -93,10 +74,10 @@ fn default_suffix_of(
     if !metadata.has_only(&["separator", "suffix"]) {
         return Ok(None);
     }
-    let Some(separator) = separator_of(ChunkKeySeparator::Slash, metadata) else {
+    let Some(separator) = separator_in(ChunkKeySeparator::Slash, metadata) else {
         return Ok(None);
     };
-    match suffix_of(alloc, metadata)? {
+    match suffix_in(alloc, metadata)? {
         Some(suffix) => Ok(Some(ChunkKeyEncoding::DefaultSuffix(separator, suffix))),
         None => Ok(None),
     }
@@ -124,7 +105,7 @@ fn with_separator(
         ≡ configured name.now (separator_member separator no_members)) }
 {
     let name = String::from_str(alloc, name)?;
-    let separator = Value::try_from_str(alloc, separator.as_str())?;
+    let separator = separator.to_value(alloc)?;
     MetadataV3::new(name).with_member(alloc, "separator", separator)
 }
 

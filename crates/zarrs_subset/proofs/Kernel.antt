@@ -21,7 +21,7 @@ pub record FirstFits (start shape : List ℕ) (e : ℕ) (es : List ℕ) : Type 0
   pub first : get_or start 0 0 + e ≤ get_or shape 0 0
   pub inner : BoxFits (slice_range start 1 (length start)) es (slice_range shape 1 (length shape))
 
-tail_is : (x : ℕ) (xs : List ℕ) → slice_range (x ∷ xs) 1 (length (x ∷ xs)) ≡ xs
+pub tail_is : (x : ℕ) (xs : List ℕ) → slice_range (x ∷ xs) 1 (length (x ∷ xs)) ≡ xs
 tail_is x xs = take_all (length (x ∷ xs) - 1) xs (omega arith)
 
 pub FirstFits-from : (start : List ℕ) (e : ℕ) (es shape : List ℕ) → BoxFits start (e ∷ es) shape → FirstFits start shape e es
@@ -131,7 +131,7 @@ in_range-last : (s row i : ℕ) → i ≡ s + row → (in_range s (row + 1) i �
 in_range-last s row i h = (grind (arith, nat_tests), grind (arith, nat_tests), omega arith)
 
 -- a place outside block j of `mid` reads the same after a write to that block
-other_block : (i j b idx w : ℕ) (mid sub : List ℕ) → i ≢ j → idx < b → w ≡ j * b → w + b ≤ length mid → length sub ≡ b → get_or (put_mid w b mid sub) (i * b + idx) 0 ≡ get_or mid (i * b + idx) 0
+pub other_block : (i j b idx w : ℕ) (mid sub : List ℕ) → i ≢ j → idx < b → w ≡ j * b → w + b ≤ length mid → length sub ≡ b → get_or (put_mid w b mid sub) (i * b + idx) 0 ≡ get_or mid (i * b + idx) 0
 other_block i j b idx w mid sub ne within at room len =
     elim (cases_order i j) [
       | inl e ↦ absurd (ne e)
@@ -219,7 +219,7 @@ BoxCopied-step size row e (n ∷ S) (f ∷ F) (m ∷ T) (t ∷ U) es from old mi
 
 -- ---- the copy of one row: a box of one dimension
 
-row_hit : (size f t x i k r w len : ℕ) (from old part : List ℕ) → k < size → in_range t x i ≡ true
+pub row_hit : (size f t x i k r w len : ℕ) (from old part : List ℕ) → k < size → in_range t x i ≡ true
     → r ≡ f * size → w ≡ t * size → len ≡ x * size → w + len ≤ length old → part ≡ slice_range from r (r + len) → length part ≡ len
     → get_or (put_mid w len old part) (i * size + k) 0 ≡ get_or from ((f + (i - t)) * size + k) 0
 row_hit size f t x i k r w len from old part below hit rIs wIs lenIs room partIs partLen =
@@ -237,7 +237,7 @@ row_hit size f t x i k r w len from old part below hit rIs wIs lenIs room partIs
     ∙ get_or-part r (r + len) (j * size + k) from (omega arith)
     ∙ ap (λ v. get_or from v 0) cell
 
-row_miss : (size t x i k w len : ℕ) (old part : List ℕ) → k < size → in_range t x i ≡ false
+pub row_miss : (size t x i k w len : ℕ) (old part : List ℕ) → k < size → in_range t x i ≡ false
     → w ≡ t * size → len ≡ x * size → w + len ≤ length old → length part ≡ len
     → get_or (put_mid w len old part) (i * size + k) 0 ≡ get_or old (i * size + k) 0
 row_miss size t x i k w len old part below miss wIs lenIs room partLen =

@@ -13,6 +13,18 @@ length-zip_with f [] (y ∷ ys) h = absurd (omega arith)
 length-zip_with f (x ∷ xs) [] h = absurd (omega arith)
 length-zip_with f (x ∷ xs) (y ∷ ys) h = omega (arith, length-zip_with f xs ys (omega arith))
 
+-- a list is the numbers that f gives, one by one
+pub zip_with-from : (f : ℕ → ℕ → ℕ) (xs ys zs : List ℕ) → length xs ≡ length ys → length zs ≡ length xs
+    → ((k : ℕ) → k < length xs → slice_index zs k ≡ f (slice_index xs k) (slice_index ys k)) → zs ≡ zip_with f xs ys
+zip_with-from f [] [] [] h l at = refl
+zip_with-from f [] [] (z ∷ zs) h l at = absurd (omega arith)
+zip_with-from f [] (y ∷ ys) zs h l at = absurd (omega arith)
+zip_with-from f (x ∷ xs) [] zs h l at = absurd (omega arith)
+zip_with-from f (x ∷ xs) (y ∷ ys) [] h l at = absurd (omega arith)
+zip_with-from f (x ∷ xs) (y ∷ ys) (z ∷ zs) h l at =
+    let first : z ≡ f x y = at zero (omega arith) in
+    rw (first, zip_with-from f xs ys zs (omega arith) (omega arith) (λ k below. at (suc k) (omega arith))) refl
+
 -- ---- ends that fit
 
 pub EndsFit-below : (start extents : List ℕ) → length start ≡ length extents
@@ -199,6 +211,42 @@ EndsFit-shifted (s ∷ S) [] (o ∷ O) h zero = omega (arith, h zero)
 EndsFit-shifted (s ∷ S) [] (o ∷ O) h (suc k) = EndsFit-shifted S [] O (λ j. h (suc j)) k
 EndsFit-shifted (s ∷ S) (x ∷ X) (o ∷ O) h zero = let first : s + x < 2 ^ 64 = h zero in omega arith
 EndsFit-shifted (s ∷ S) (x ∷ X) (o ∷ O) h (suc k) = EndsFit-shifted S X O (λ j. h (suc j)) k
+
+-- a box from a start up to an end above it
+pub EndsFit-between : (S E : List ℕ) → length S ≡ length E
+    → ((k : ℕ) → k < length S → slice_index S k ≤ slice_index E k) → ((k : ℕ) → k < length S → slice_index E k < 2 ^ 64)
+    → EndsFit S (zip_with (λ e s. e - s) E S)
+EndsFit-between [] [] h low fits k = omega arith
+EndsFit-between [] (e ∷ E) h low fits k = absurd (omega arith)
+EndsFit-between (s ∷ S) [] h low fits k = absurd (omega arith)
+EndsFit-between (s ∷ S) (e ∷ E) h low fits zero =
+    let first : s ≤ e = low zero (omega arith) in
+    let end : e < 2 ^ 64 = fits zero (omega arith) in
+    let inside : s + (e - s) < 2 ^ 64 = omega arith in
+    inside
+EndsFit-between (s ∷ S) (e ∷ E) h low fits (suc k) =
+    EndsFit-between S E (omega arith) (λ j below. low (suc j) (omega arith)) (λ j below. fits (suc j) (omega arith)) k
+
+-- ---- a box whose start and end are cut
+
+pub length-bound : (S X E : List ℕ) → length S ≡ length X → length S ≡ length E
+    → length (zip_with (λ s b. min s b) S E) ≡ length (zip_with (λ e s. e - s) (zip_with (λ e b. min e b) (ends S X) E) (zip_with (λ s b. min s b) S E))
+length-bound [] X E h i = refl
+length-bound (s ∷ S) [] E h i = absurd (omega arith)
+length-bound (s ∷ S) (x ∷ X) [] h i = absurd (omega arith)
+length-bound (s ∷ S) (x ∷ X) (e ∷ E) h i = omega (arith, length-bound S X E (omega arith) (omega arith))
+
+pub EndsFit-bound : (S X E : List ℕ) → length S ≡ length X → length S ≡ length E → EndsFit S X
+    → EndsFit (zip_with (λ s b. min s b) S E) (zip_with (λ e s. e - s) (zip_with (λ e b. min e b) (ends S X) E) (zip_with (λ s b. min s b) S E))
+EndsFit-bound [] X E h i f k = omega arith
+EndsFit-bound (s ∷ S) [] E h i f k = absurd (omega arith)
+EndsFit-bound (s ∷ S) (x ∷ X) [] h i f k = absurd (omega arith)
+EndsFit-bound (s ∷ S) (x ∷ X) (e ∷ E) h i f zero =
+    let first : s + x < 2 ^ 64 = f zero in
+    let inside : min s e + (min (s + x) e - min s e) < 2 ^ 64 = omega arith in
+    inside
+EndsFit-bound (s ∷ S) (x ∷ X) (e ∷ E) h i f (suc k) =
+    EndsFit-bound S X E (omega arith) (omega arith) (EndsFit-inner s x S X f) k
 
 -- a position of a box fits u64
 pub offset_by-cut : (start extents q : List ℕ) → length start ≡ length extents → EndsFit start extents → InShape extents q

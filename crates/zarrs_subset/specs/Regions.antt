@@ -1,8 +1,11 @@
--- Boxes as one value, and cells of one byte over them.
-use Rattle.std.specs.Prelude.{◌≡◌, ℕ, ◌+◌, ◌<◌, ◌≤◌, ◌^◌, Bool, true, List, length, slice_index, slice_get, Option, if◌then◌else◌}
+-- Boxes as one value, and the cells of arrays over them.
+use Rattle.std.specs.Prelude.{◌≡◌, nat_eq, ◌&&◌, ℕ, ◌+◌, ◌-◌, ◌<◌, ◌≤◌, ◌^◌, Bool, true, List, length, map, min, slice_index, slice_get, Option, if◌then◌else◌}
+use Rattle.std.specs.Cmp.Lexicographic.{pointwise}
+use Rattle.std.specs.declared.ops.Range.{Range}
 use Rattle.zarrs_subset.specs.declared.subset.ArraySubset.{ArraySubset}
-use Rattle.zarrs_subset.specs.Boxes.{place, is_within, offset_from, positions_from}
+use Rattle.zarrs_subset.specs.Boxes.{place, is_within, offset_from, positions_from, zip_with, ends, overlap_start, overlap_extents}
 
+-- the first index of each dimension, and its extent
 pub record Box : Type 0 where
   pub start : List ℕ
   pub shape : List ℕ
@@ -10,6 +13,14 @@ pub record Box : Type 0 where
 -- a subset of the code as a box
 abbrev pub box_of : ArraySubset → Box
 box_of subset = record { start = subset.start.items; shape = subset.shape.items }
+
+-- the same start and the same shape
+abbrev pub box_eq : Box → Box → Bool
+box_eq a b = pointwise nat_eq a.start b.start && pointwise nat_eq a.shape b.shape
+
+-- the box of these ranges; a reversed one has extent 0
+abbrev pub box_of_ranges : List (Range ℕ) → Box
+box_of_ranges ranges = record { start = map (λ r. r.start) ranges; shape = map (λ r. r.end - r.start) ranges }
 
 -- one extent for each start
 abbrev pub IsLong : Box → Type 0
@@ -27,7 +38,7 @@ Holds box position = in_box box position ≡ true
 abbrev pub positions : Box → List (List ℕ)
 positions box = positions_from box.start box.shape
 
--- the same, one dimension at a time
+-- a position of the box, one dimension at a time
 pub record InBox (box : Box) (position : List ℕ) : Type 0 where
   pub same_length : length position ≡ length box.start
   pub from : (k : ℕ) → k < length box.start → slice_index box.start k ≤ slice_index position k
@@ -37,6 +48,19 @@ pub record InBox (box : Box) (position : List ℕ) : Type 0 where
 pub record IsBox (box : Box) : Type 0 where
   pub same_length : length box.shape ≡ length box.start
   pub ends_fit : (k : ℕ) → k < length box.start → slice_index box.start k + slice_index box.shape k < 2 ^ 64
+
+-- what two boxes share: from the later start to the earlier end, or an extent 0
+abbrev pub overlap_of : Box → Box → Box
+overlap_of box other = record {
+  start = overlap_start box.start other.start;
+  shape = overlap_extents box.start box.shape other.start other.shape;
+}
+
+-- the box with its start and its end cut to `end`
+abbrev pub bound_to : Box → List ℕ → Box
+bound_to box end =
+    let start = zip_with (λ s b. min s b) box.start end in
+    record { start = start; shape = zip_with (λ e s. e - s) (zip_with (λ e b. min e b) (ends box.start box.shape) end) start }
 
 -- the row-major number of a position of the box
 abbrev pub place_in : Box → List ℕ → ℕ

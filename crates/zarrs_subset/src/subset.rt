@@ -1,151 +1,167 @@
-// A box of positions.
+//! A box of positions.
 
-ghost use Rattle.std.specs.Prelude.{◌≡◌, ◌≢◌, ℕ, ◌+◌, ◌*◌, ◌<◌, ◌≤◌, ◌-◌, ◌^◌, ◌↔◌, length, slice_index, max, min, IfOk, IfErr, OnOk, OnErr, IsTrue, SomeIndex, EachIndex, MatchOption, replicate, slice_get, IsErrOf, ◌⊎◌};
-ghost use Rattle.zarrs_subset.specs.Boxes.{EndsFit, ends, zip_with, overlap_start, overlap_extents, position_count, InShape, place, unravel, positions_from};
+ghost use Rattle.std.specs.Prelude.{◌≡◌, ℕ, ◌+◌, ◌*◌, ◌<◌, ◌≤◌, ◌-◌, ◌^◌, ◌↔◌, ◌&&◌, List, length, map, slice_index, max, min, Bool, IfOk, IfErr, OnOk, OnErr, IsTrue, SomeIndex, EachIndex, MatchOption, replicate, slice_get};
+ghost use Rattle.zarrs_subset.specs.Boxes.{EndsFit, ends, zip_with, position_count};
+ghost use Rattle.zarrs_subset.specs.Refusals.{IsMismatch, RefusesStartShape, RefusesStartEnd, RefusesLength, RefusesOffset};
 
+use crate::error::{ArraySubsetError, IncompatibleDimensionalityError, SizeOverflow};
+use crate::lists::{distances, earlier, ends_of, extents, has_zero, later, sums};
+use crate::ravel::{element_count, unravel_index};
+use crate::{ArrayIndices, ArrayShape};
 use std::alloc::{AllocError, Global};
+use std::fmt;
+use std::ops::Range;
 
-#[derive(Debug, PartialEq, Eq, Clone, Copy, Drop)]
-pub enum ArraySubsetError {
-    IncompatibleDimensionality,
-    // a start below the offset, or an end past u64
-    OutOfRange,
-    OutOfMemory,
-}
-
-impl From<AllocError> for ArraySubsetError {
-    ghost use Rattle.zarrs_subset.specs.declared.subset.ArraySubsetError.{ArraySubsetError};
-
-    ghost from_gives = { λ e r. r ≡ ArraySubsetError.OutOfMemory };
-
-    fn from(_: AllocError) -> Self {
-        ArraySubsetError::OutOfMemory
-    }
-}
-
-// A size past u64.
-#[derive(Debug, PartialEq, Eq, Clone, Copy, Drop)]
-pub struct SizeOverflow;
-
-#[derive(Drop)]
+/// A box: its start, and its extent in each dimension. The end, their sum, fits `u64`.
+#[derive(Debug, Drop)]
 pub struct ArraySubset {
-    start: Vec<u64>,
-    shape: Vec<u64>,
+    start: ArrayIndices,
+    shape: ArrayShape,
     ghost same_length: { length start.items ≡ length shape.items },
     ghost ends_fit: { EndsFit start.items shape.items },
 }
 
 impl ArraySubset {
-    // How many positions the box has, if that fits u64.
-    pub fn num_elements(&self) -> Result<u64, SizeOverflow>
-        ensures ok { IfOk result (λ n. n ≡ position_count self.now.shape.items) }
-        ensures err { OnErr result (2 ^ 64 ≤ position_count self.now.shape.items) }
-    {
-        match element_count(&self.shape) {
-            Some(count) => Ok(count),
-            None => Err(SizeOverflow),
-        }
-    }
+    ghost use Rattle.zarrs_subset.specs.Regions.{Box, box_of, box_of_ranges, in_box, positions, overlap_of, bound_to, IsBox};
 
-    pub fn new_with_start_shape(start: Vec<u64>, shape: Vec<u64>) -> Result<Self, ArraySubsetError>
-        ensures ok { IfOk result (λ b. (b.start.items ≡ start.items) × (b.shape.items ≡ shape.items)) }
-        ensures dimensions { OnOk result (length start.items ≡ length shape.items) }
-        ensures ends { OnOk result (EndsFit start.items shape.items) }
-        ensures mismatch { length start.items ≢ length shape.items
-            → IsErrOf result ArraySubsetError.IncompatibleDimensionality }
-        ensures err { length start.items ≡ length shape.items
-            → OnErr result (EndsFit start.items shape.items → ⊥) }
-    {
-        if start.len() != shape.len() {
-            return Err(ArraySubsetError::IncompatibleDimensionality);
-        }
-        for k in 0..start.len() {
-            if shape[k] > u64::MAX - start[k] {
-                return Err(ArraySubsetError::OutOfRange);
-            }
-        }
-        Ok(ArraySubset { start, shape })
-    }
-
-    // The box of this start and this shape.
-    pub fn new(start: Vec<u64>, shape: Vec<u64>) -> Self
-        requires same_length { length start.items ≡ length shape.items }
-        requires ends_fit { EndsFit start.items shape.items }
-        ensures start { result.start.items ≡ start.items }
-        ensures shape { result.shape.items ≡ shape.items }
-    {
-        ArraySubset { start, shape }
-    }
-
-    // The empty box at the origin.
+    /// The empty box at the origin.
     pub fn new_empty(alloc: Global, dimensionality: usize) -> Result<Self, AllocError>
-        ensures start { IfOk result (λ b. b.start.items ≡ replicate dimensionality 0) }
-        ensures shape { IfOk result (λ b. b.shape.items ≡ replicate dimensionality 0) }
+        ensures start { IfOk result (λ b. (box_of b).start ≡ replicate dimensionality 0) }
+        ensures shape { IfOk result (λ b. (box_of b).shape ≡ replicate dimensionality 0) }
     {
         let start = vec![in alloc; 0; dimensionality]?;
         let shape = vec![in alloc; 0; dimensionality]?;
         Ok(ArraySubset { start, shape })
     }
 
-    pub fn dimensionality(&self) -> usize
-        ensures { result ≡ length self.now.start.items }
-    {
-        self.start.len()
-    }
-
-    // The box at the origin.
-    pub fn new_with_shape(alloc: Global, shape: Vec<u64>) -> Result<Self, AllocError>
-        ensures { IfOk result (λ b. (b.start.items ≡ replicate (length shape.items) 0) × (b.shape.items ≡ shape.items)) }
+    /// The box of this shape at the origin.
+    pub fn new_with_shape(alloc: Global, shape: ArrayShape) -> Result<Self, AllocError>
+        ensures start { IfOk result (λ b. (box_of b).start ≡ replicate (length shape.items) 0) }
+        ensures shape { IfOk result (λ b. (box_of b).shape ≡ shape.items) }
     {
         let start = vec![in alloc; 0u64; shape.len()]?;
         Ok(ArraySubset { start, shape })
     }
 
-    // The box as it is seen from `origin`, refused where a start is below it.
-    pub fn relative_to(
-        &self,
-        alloc: Global,
-        origin: &[u64],
-    ) -> Result<ArraySubset, ArraySubsetError>
-        ensures start { IfOk result (λ b. b.start.items ≡ zip_with (λ s t. s - t) self.now.start.items origin.now) }
-        ensures shape { IfOk result (λ b. b.shape.items ≡ self.now.shape.items) }
-        ensures dimensions { OnOk result (length self.now.start.items ≡ length origin.now) }
-        ensures mismatch { length self.now.start.items ≢ length origin.now
-            → IsErrOf result ArraySubsetError.IncompatibleDimensionality }
-        ensures err { length self.now.start.items ≡ length origin.now → IfErr result
-            (λ e. (e ≡ ArraySubsetError.OutOfMemory)
-                ⊎ SomeIndex origin.now (λ k. slice_index self.now.start.items k < slice_index origin.now k)) }
-        ensures above { OnOk result (EachIndex origin.now (λ k. slice_index origin.now k ≤ slice_index self.now.start.items k)) }
+    /// The box of this start and this shape, whose end is known to fit `u64`.
+    pub fn new(start: ArrayIndices, shape: ArrayShape) -> Self
+        requires same_length { length start.items ≡ length shape.items }
+        requires ends_fit { EndsFit start.items shape.items }
+        ensures start { (box_of result).start ≡ start.items }
+        ensures shape { (box_of result).shape ≡ shape.items }
     {
-        if self.start.len() != origin.len() {
-            return Err(ArraySubsetError::IncompatibleDimensionality);
+        ArraySubset { start, shape }
+    }
+
+    /// The box of this start and this shape.
+    ///
+    /// Refused where they differ in length, or where the end passes `u64`.
+    pub fn new_with_start_shape(
+        start: ArrayIndices,
+        shape: ArrayShape,
+    ) -> Result<Self, ArraySubsetError>
+        ensures start { IfOk result (λ b. (box_of b).start ≡ start.items) }
+        ensures shape { IfOk result (λ b. (box_of b).shape ≡ shape.items) }
+        ensures is_box { OnOk result (IsBox (record { start = start.items; shape = shape.items })) }
+        ensures refused { IfErr result (RefusesStartShape start.items shape.items) }
+    {
+        if start.len() != shape.len() {
+            return Err(IncompatibleDimensionalityError::new(start.len(), shape.len()))?;
         }
-        for k in 0..origin.len() {
-            if self.start[k] < origin[k] {
-                return Err(ArraySubsetError::OutOfRange);
+        for k in 0..start.len() {
+            if shape[k] > u64::MAX - start[k] {
+                return Err(ArraySubsetError::EndOverflow);
             }
         }
-        let start = distances(alloc, &self.start, origin)?;
-        let shape = Vec::from_slice(alloc, &self.shape)?;
         Ok(ArraySubset { start, shape })
     }
 
+    /// The box from this start up to this end, which it leaves out.
+    ///
+    /// Refused where they differ in length, or where the end lies below the start.
+    pub fn new_with_start_end_exc(
+        start: ArrayIndices,
+        end: ArrayIndices,
+    ) -> Result<Self, ArraySubsetError>
+        ensures start { IfOk result (λ b. (box_of b).start ≡ start.items) }
+        ensures shape { IfOk result (λ b. (box_of b).shape ≡ zip_with (λ e s. e - s) end.items start.items) }
+        ensures dimensions { OnOk result (length start.items ≡ length end.items) }
+        ensures ordered { OnOk result (EachIndex start.items (λ k. slice_index start.items k ≤ slice_index end.items k)) }
+        ensures refused { IfErr result (RefusesStartEnd start.items end.items) }
+    {
+        if start.len() != end.len() {
+            return Err(IncompatibleDimensionalityError::new(start.len(), end.len()))?;
+        }
+        for k in 0..start.len() {
+            if end[k] < start[k] {
+                return Err(ArraySubsetError::EndBelowStart);
+            }
+        }
+        let shape = extents(end, &start);
+        Ok(ArraySubset { start, shape })
+    }
+
+    /// The box of these ranges, one for each dimension. A reversed range has extent 0 and ends at its start.
+    pub fn new_with_ranges(alloc: Global, ranges: &[Range<u64>]) -> Result<Self, AllocError>
+        ensures start { IfOk result (λ b. (box_of b).start ≡ (box_of_ranges ranges.now).start) }
+        ensures shape { IfOk result (λ b. (box_of b).shape ≡ (box_of_ranges ranges.now).shape) }
+    {
+        let start = ranges.iter().map(|range| range.start).collect(alloc)?;
+        let shape = ranges
+            .iter()
+            .map(|range| range.end.saturating_sub(range.start))
+            .collect(alloc)?;
+        Ok(ArraySubset { start, shape })
+    }
+
+    /// The number of dimensions.
+    pub fn dimensionality(&self) -> usize
+        ensures count { result ≡ length (box_of self.now).start }
+        ensures is_box { IsBox (box_of self.now) }
+    {
+        self.start.len()
+    }
+
+    /// The first index of each dimension.
     pub fn start(&self) -> &[u64]
-        ensures { result.now ≡ self.now.start.items }
+        ensures { result.now ≡ (box_of self.now).start }
     {
         &self.start
     }
 
+    /// The extent of each dimension.
     pub fn shape(&self) -> &[u64]
-        ensures { result.now ≡ self.now.shape.items }
+        ensures { result.now ≡ (box_of self.now).shape }
     {
         &self.shape
     }
 
-    // The position of that number in row-major order, if there is one.
-    pub fn position(&self, alloc: Global, number: u64) -> Result<Option<Vec<u64>>, AllocError>
-        ensures { IfOk result (λ r. MatchOption r (position_count self.now.shape.items ≤ number)
-            (λ p. slice_get (positions_from self.now.start.items self.now.shape.items) number ≡ Some p.items)) }
+    /// The index after the last one of each dimension.
+    pub fn end_exc(&self, alloc: Global) -> Result<ArrayIndices, AllocError>
+        ensures { IfOk result (λ end. end.items ≡ ends (box_of self.now).start (box_of self.now).shape) }
+    {
+        ends_of(alloc, &self.start, &self.shape)
+    }
+
+    /// The number of positions: the product of the extents.
+    pub fn num_elements(&self) -> Result<u64, SizeOverflow>
+        ensures ok { IfOk result (λ n. n ≡ position_count (box_of self.now).shape) }
+        ensures err { OnErr result (2 ^ 64 ≤ position_count (box_of self.now).shape) }
+    {
+        element_count(&self.shape).ok_or(SizeOverflow)
+    }
+
+    /// Whether the box has no position: some extent is 0.
+    pub fn is_empty(&self) -> bool
+        ensures { IsTrue result ↔ SomeIndex (box_of self.now).shape (λ k. slice_index (box_of self.now).shape k ≡ 0) }
+    {
+        has_zero(&self.shape)
+    }
+
+    /// The position of that number in row-major order, if there is one.
+    pub fn position(&self, alloc: Global, number: u64) -> Result<Option<ArrayIndices>, AllocError>
+        ensures { IfOk result (λ r. MatchOption r (position_count (box_of self.now).shape ≤ number)
+            (λ p. slice_get (positions (box_of self.now)) number ≡ Some p.items)) }
     {
         let Some(offset) = unravel_index(alloc, number, &self.shape)? else {
             return Ok(None);
@@ -153,177 +169,143 @@ impl ArraySubset {
         Ok(Some(sums(alloc, &self.start, &offset)?))
     }
 
-    // The position of that number in row-major order.
-    pub fn nth_position(&self, alloc: Global, number: u64) -> Result<Vec<u64>, AllocError>
-        requires { number < position_count self.now.shape.items }
-        ensures { IfOk result (λ p. slice_get (positions_from self.now.start.items self.now.shape.items) number ≡ Some p.items) }
+    /// The position of that number in row-major order.
+    pub fn nth_position(&self, alloc: Global, number: u64) -> Result<ArrayIndices, AllocError>
+        requires { number < position_count (box_of self.now).shape }
+        ensures { IfOk result (λ p. slice_get (positions (box_of self.now)) number ≡ Some p.items) }
     {
         match self.position(alloc, number)? {
             Some(position) => Ok(position),
-            None => Ok(Vec::new(alloc)),
+            None => unreachable!(),
         }
     }
 
-    // Some extent is 0, so the box has no position.
-    pub fn is_empty(&self) -> bool
-        ensures { IsTrue result ↔ SomeIndex self.now.shape.items (λ k. slice_index self.now.shape.items k ≡ 0) }
-    {
-        has_zero(&self.shape)
-    }
-
-    // The positions that both boxes have.
+    /// The box of the positions that both boxes have. Where they do not meet in a dimension, its extent is 0.
+    ///
+    /// Refused where the numbers of dimensions differ.
     pub fn overlap(
         &self,
         alloc: Global,
         other: &ArraySubset,
     ) -> Result<ArraySubset, ArraySubsetError>
-        ensures start { IfOk result (λ b. b.start.items ≡ overlap_start self.now.start.items other.now.start.items) }
-        ensures shape { IfOk result (λ b. b.shape.items ≡ overlap_extents self.now.start.items
-            self.now.shape.items other.now.start.items other.now.shape.items) }
-        ensures dimensions { OnOk result (length self.now.start.items ≡ length other.now.start.items) }
-        ensures err { length self.now.start.items ≡ length other.now.start.items
-            → IfErr result (λ e. e ≡ ArraySubsetError.OutOfMemory) }
+        ensures common { IfOk result (λ b. (position : List ℕ) → in_box (box_of b) position
+            ≡ (in_box (box_of self.now) position && in_box (box_of other.now) position)) }
+        ensures start { IfOk result (λ b. (box_of b).start
+            ≡ (overlap_of (box_of self.now) (box_of other.now)).start) }
+        ensures shape { IfOk result (λ b. (box_of b).shape
+            ≡ (overlap_of (box_of self.now) (box_of other.now)).shape) }
+        ensures dimensions { OnOk result (length (box_of self.now).start ≡ length (box_of other.now).start) }
+        ensures refused { IfErr result (RefusesLength (length (box_of other.now).start) (length (box_of self.now).start)) }
     {
-        if self.start.len() != other.start.len() {
-            return Err(ArraySubsetError::IncompatibleDimensionality);
-        }
-        let own_ends = ends_of(alloc, &self.start, &self.shape)?;
-        let other_ends = ends_of(alloc, &other.start, &other.shape)?;
-        let start = later_starts(alloc, &self.start, &other.start)?;
-        let end = earlier_ends(alloc, &own_ends, &other_ends)?;
+        self.check_length(other.start.len())?;
+        let own_end = ends_of(alloc, &self.start, &self.shape)?;
+        let other_end = ends_of(alloc, &other.start, &other.shape)?;
+        let start = later(alloc, &self.start, &other.start)?;
+        let end = earlier(alloc, &own_end, &other_end)?;
         let shape = distances(alloc, &end, &start)?;
+        Ok(ArraySubset { start, shape })
+    }
+
+    /// The box as it is seen from `offset`.
+    ///
+    /// Refused where the numbers of dimensions differ, or where the start lies below the offset.
+    pub fn relative_to(
+        &self,
+        alloc: Global,
+        offset: &[u64],
+    ) -> Result<ArraySubset, ArraySubsetError>
+        ensures start { IfOk result (λ b. (box_of b).start ≡ zip_with (λ s t. s - t) (box_of self.now).start offset.now) }
+        ensures shape { IfOk result (λ b. (box_of b).shape ≡ (box_of self.now).shape) }
+        ensures dimensions { OnOk result (length offset.now ≡ length (box_of self.now).start) }
+        ensures above { OnOk result (EachIndex offset.now (λ k. slice_index offset.now k ≤ slice_index (box_of self.now).start k)) }
+        ensures refused { IfErr result (RefusesOffset (box_of self.now).start offset.now) }
+    {
+        self.check_length(offset.len())?;
+        for k in 0..offset.len() {
+            if self.start[k] < offset[k] {
+                return Err(ArraySubsetError::StartBelowOffset);
+            }
+        }
+        let start = distances(alloc, &self.start, offset)?;
+        let shape = Vec::from_slice(alloc, &self.shape)?;
+        Ok(ArraySubset { start, shape })
+    }
+
+    /// The box with its start and its end cut to `end`.
+    ///
+    /// Refused where the numbers of dimensions differ.
+    pub fn bound(&self, alloc: Global, end: &[u64]) -> Result<ArraySubset, ArraySubsetError>
+        ensures start { IfOk result (λ b. (box_of b).start ≡ (bound_to (box_of self.now) end.now).start) }
+        ensures shape { IfOk result (λ b. (box_of b).shape ≡ (bound_to (box_of self.now) end.now).shape) }
+        ensures dimensions { OnOk result (length end.now ≡ length (box_of self.now).start) }
+        ensures refused { IfErr result (RefusesLength (length end.now) (length (box_of self.now).start)) }
+    {
+        self.check_length(end.len())?;
+        let own_end = ends_of(alloc, &self.start, &self.shape)?;
+        let start = earlier(alloc, &self.start, end)?;
+        let cut_end = earlier(alloc, &own_end, end)?;
+        let shape = distances(alloc, &cut_end, &start)?;
+        Ok(ArraySubset { start, shape })
+    }
+
+    // A list of this length has an entry for each dimension.
+    fn check_length(&self, got: usize) -> Result<(), IncompatibleDimensionalityError>
+        ensures ok { OnOk result (got ≡ length (box_of self.now).start) }
+        ensures err { IfErr result (IsMismatch got (length (box_of self.now).start)) }
+    {
+        if got == self.start.len() {
+            Ok(())
+        } else {
+            Err(IncompatibleDimensionalityError::new(got, self.start.len()))
+        }
+    }
+}
+
+impl Clone for ArraySubset {
+    ghost use Rattle.zarrs_subset.specs.Regions.{box_of};
+
+    ghost is_clone = { λ original copy. box_of copy ≡ box_of original };
+
+    fn clone(&self) -> Result<Self, AllocError> {
+        let start = Vec::from_slice(*self.start.allocator(), &self.start)?;
+        let shape = Vec::from_slice(*self.shape.allocator(), &self.shape)?;
         Ok(ArraySubset { start, shape })
     }
 }
 
-fn has_zero(extents: &[u64]) -> bool
-    ensures { IsTrue result ↔ SomeIndex extents.now (λ k. slice_index extents.now k ≡ 0) }
-{
-    extents.iter().any(|extent| *extent == 0)
-}
+impl PartialEq for ArraySubset {
+    ghost use Rattle.std.proofs.Common.{rules};
+    ghost use Rattle.std.specs.Cmp.Rules.{comparing};
+    ghost use Rattle.zarrs_subset.specs.Regions.{box_of, box_eq};
 
-fn later_starts(alloc: Global, a: &[u64], b: &[u64]) -> Result<Vec<u64>, AllocError>
-    ensures { IfOk result (λ v. v.items ≡ zip_with (λ s t. max s t) a.now b.now) }
-{
-    a.iter().zip(b).map(|(x, y)| (*x).max(*y)).collect(alloc)
-}
+    ghost eq = { λ a b. box_eq (box_of a) (box_of b) };
 
-fn earlier_ends(alloc: Global, a: &[u64], b: &[u64]) -> Result<Vec<u64>, AllocError>
-    ensures { IfOk result (λ v. v.items ≡ zip_with (λ s t. min s t) a.now b.now) }
-{
-    a.iter().zip(b).map(|(x, y)| (*x).min(*y)).collect(alloc)
-}
+    ghost laws = { Prim.search (comparing, rules) };
 
-// How far each number of `a` is above that of `b`, or 0.
-pub fn distances(alloc: Global, a: &[u64], b: &[u64]) -> Result<Vec<u64>, AllocError>
-    ensures { IfOk result (λ v. v.items ≡ zip_with (λ s t. s - t) a.now b.now) }
-{
-    a.iter()
-        .zip(b)
-        .map(|(x, y)| x.saturating_sub(*y))
-        .collect(alloc)
-}
-
-// The sums, each cut to u64.
-fn sums(alloc: Global, a: &[u64], b: &[u64]) -> Result<Vec<u64>, AllocError>
-    ensures { IfOk result (λ v. v.items ≡ zip_with (λ s t. min (s + t) (2 ^ 64 - 1)) a.now b.now) }
-{
-    a.iter()
-        .zip(b)
-        .map(|(x, y)| x.saturating_add(*y))
-        .collect(alloc)
-}
-
-fn ends_of(alloc: Global, start: &[u64], shape: &[u64]) -> Result<Vec<u64>, AllocError>
-    requires { EndsFit start.now shape.now }
-    ensures { IfOk result (λ v. v.items ≡ ends start.now shape.now) }
-{
-    sums(alloc, start, shape)
-}
-
-// How many positions a box of these extents has, if that fits u64.
-pub fn element_count(shape: &[u64]) -> Option<u64>
-    ensures { MatchOption result (2 ^ 64 ≤ position_count shape.now) (λ n. n ≡ position_count shape.now) }
-{
-    if has_zero(shape) {
-        return Some(0);
+    fn eq(&self, other: &Self) -> bool
+        ensures { IsTrue result ↔ (box_of self.now ≡ box_of other.now) }
+    {
+        self.start == other.start && self.shape == other.shape
     }
-    let mut count: u64 = 1;
-    for extent in shape {
-        let Some(product) = count.checked_mul(*extent) else {
-            return None;
-        };
-        count = product;
-    }
-    Some(count)
 }
 
-// The row-major number of a position of an array of this shape, if it is one and the number fits u64.
-pub fn ravel_indices(indices: &[u64], shape: &[u64]) -> Option<u64>
-    ensures { MatchOption result (InShape shape.now indices.now → 2 ^ 64 ≤ place shape.now indices.now)
-        (λ n. InShape shape.now indices.now × (n ≡ place shape.now indices.now)) }
-{
-    if indices.len() != shape.len() {
-        return None;
-    }
-    for k in 0..shape.len() {
-        if indices[k] >= shape[k] {
-            return None;
+impl Eq for ArraySubset {
+    ghost use Rattle.std.proofs.Common.{rules};
+    ghost use Rattle.std.specs.Cmp.Rules.{comparing};
+
+    ghost laws = { Prim.search (comparing, rules) };
+}
+
+/// Prints the range of each dimension, as `[0..2, 1..3]`.
+impl fmt::Display for ArraySubset {
+    fn fmt<W: fmt::Write>(&self, f: &mut fmt::Formatter<W>) -> fmt::Result {
+        write!(f, "[")?;
+        for k in 0..self.start.len() {
+            if k > 0 {
+                write!(f, ", ")?;
+            }
+            write!(f, "{}..{}", self.start[k], self.start[k] + self.shape[k])?;
         }
-    }
-    let mut number: u64 = 0;
-    for k in 0..shape.len() {
-        let Some(row) = number.checked_mul(shape[k]) else {
-            return None;
-        };
-        let Some(sum) = row.checked_add(indices[k]) else {
-            return None;
-        };
-        number = sum;
-    }
-    Some(number)
-}
-
-// The position of that number of an array of this shape, if there is one.
-pub fn unravel_index(
-    alloc: Global,
-    index: u64,
-    shape: &[u64],
-) -> Result<Option<Vec<u64>>, AllocError>
-    ensures { IfOk result (λ r. MatchOption r (position_count shape.now ≤ index)
-        (λ p. (index < position_count shape.now) × (p.items ≡ unravel shape.now index))) }
-{
-    if has_zero(shape) {
-        return Ok(None);
-    }
-    let mut indices = vec![in alloc; 0u64; shape.len()]?;
-    let mut rest = index;
-    let mut axis = shape.len();
-    while axis > 0 {
-        axis -= 1;
-        indices[axis] = rest % shape[axis];
-        rest /= shape[axis];
-    }
-    if rest == 0 {
-        Ok(Some(indices))
-    } else {
-        Ok(None)
-    }
-}
-
-#[cfg(test)]
-mod tests {
-    use super::*;
-    use std::test::Fail;
-
-    #[test]
-    fn row_20(rt: HostRuntime) -> Result<(), Fail> {
-        let place = unravel_index(rt.alloc(), 7, &[2, 4])?.ok_or("a position")?;
-        assert_eq!(rt; place.as_slice(), [1, 3].as_slice());
-        assert!(rt; unravel_index(rt.alloc(), 8, &[2, 4])?.is_none());
-        assert!(rt; unravel_index(rt.alloc(), 0, &[])?.is_some());
-        assert!(rt; unravel_index(rt.alloc(), 1, &[])?.is_none());
-        assert!(rt; unravel_index(rt.alloc(), 0, &[0])?.is_none());
-        Ok(())
+        write!(f, "]")
     }
 }

@@ -1,5 +1,5 @@
 //! Cells of one size that are all the same.
-ghost use Rattle.std.specs.Prelude.{◌≡◌, ◌+◌, ◌*◌, ◌/◌, ◌<◌, ◌≤◌, ◌^◌, IfOk, IfSome, IsSome, length, replicate, slice_range};
+ghost use Rattle.std.specs.Prelude.{◌≡◌, ◌==◌, ◌+◌, ◌*◌, ◌/◌, ◌<◌, ◌≤◌, ◌^◌, IfOk, IfSome, IsSome, length, replicate, slice_range};
 ghost use Rattle.std.specs.List.{list_all, repeat};
 ghost use Rattle.std.specs.Str.{bytes_eq};
 ghost use Rattle.zarrs_data_type.specs.ArrayData.{fixed};
@@ -49,8 +49,15 @@ fn piece_at(bytes: &[u8], size: usize, index: usize) -> &[u8]
     &bytes[start..start + size]
 }
 
-/// Whether the bytes are this piece again and again.
-fn is_repeated(bytes: &[u8], piece: &[u8]) -> bool
+/// Whether each byte is this one.
+fn are_all(bytes: &[u8], byte: u8) -> bool
+    ensures { result ≡ list_all (λ other. other == byte) bytes.now }
+{
+    bytes.iter().all(|other| *other == byte)
+}
+
+/// Whether each whole piece of this length is this one.
+fn are_pieces(bytes: &[u8], piece: &[u8]) -> bool
     requires { 0 < length piece.now }
     ensures { result ≡ list_all (λ p. bytes_eq p piece.now)
         (pieces (length piece.now) (length bytes.now / length piece.now) bytes.now) }
@@ -61,6 +68,18 @@ fn is_repeated(bytes: &[u8], piece: &[u8]) -> bool
         }
     }
     true
+}
+
+/// Whether the bytes are this piece again and again.
+fn is_repeated(bytes: &[u8], piece: &[u8]) -> bool
+    requires { 0 < length piece.now }
+    ensures { result ≡ list_all (λ p. bytes_eq p piece.now)
+        (pieces (length piece.now) (length bytes.now / length piece.now) bytes.now) }
+{
+    match piece {
+        [byte] => are_all(bytes, *byte),
+        _ => are_pieces(bytes, piece),
+    }
 }
 
 /// Whether each cell of these bytes is that of the fill value.

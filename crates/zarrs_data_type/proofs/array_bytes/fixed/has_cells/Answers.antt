@@ -18,6 +18,7 @@ returns-then-is_size_of c =
 pub returns-else-is_size_of : goal.returns-else-is_size_of
 returns-else-is_size_of c =
     let k = kind c.args.data_type.now in
-    let is : element_size k ≡ Some c.in-Some.size = sym c.element_size.ensures ∙ c.in-Some.is in
-    ( (λ test. absurd (false≢true (sym c.if-is_size_of.false ∙ test)))
-    , (λ has. c.is_size_of.ensures.1 (length-fixed k c.in-Some.size is c.args.bytes.now c.args.count has)))
+    let is : element_size k ≡ Some c.in-Some.size = sym c.element_size.ensures ∙ c.in-Some.is in (
+      (λ test. absurd (false≢true (sym c.if-is_size_of.false ∙ test))),
+      (λ has. c.is_size_of.ensures.1 (length-fixed k c.in-Some.size is c.args.bytes.now c.args.count has)),
+    )

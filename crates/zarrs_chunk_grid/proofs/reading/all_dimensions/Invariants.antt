@@ -1,0 +1,12 @@
+use Rattle.std.proofs.Common.{◌≡◌, ◌++◌, drop, map, option_map}
+use Rattle.serde_json.specs.View.{items_view}
+use Rattle.zarrs_metadata.specs.Lists.{all_of}
+use Rattle.zarrs_chunk_grid.specs.Shapes.{sizes_of}
+use Rattle.zarrs_chunk_grid.specs.GridData.{sizes_said}
+use Rattle.zarrs_chunk_grid.specs.GridView.{sizes_view}
+use Rattle.zarrs_chunk_grid.proofs.reading.all_dimensions.Given as goal
+
+-- what is left says the rest
+abbrev pub invariant-loop-item : goal.invariant-loop-item
+invariant-loop-item l =
+    all_of sizes_said (items_view l.item-items) ≡ option_map (λ more. map sizes_view l.dimensions.items ++ more) (all_of sizes_said (items_view (drop l.item-index l.item-items)))

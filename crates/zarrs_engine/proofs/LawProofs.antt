@@ -1,0 +1,208 @@
+-- The laws of canonical stores and of chunks that decode.
+use Rattle.std.proofs.Common.{◌≡◌, ℕ, suc, ◌<◌, Bool, true, false, ◌&&◌, List, [], ◌∷◌, length, get_or, Option, Some, None, slice_get, Contains, refl, sym, ◌∙◌, ap, subst, inl, inr, arith}
+use Rattle.std.specs.List.{list_all}
+use Rattle.std.specs.FinMap as map
+use Rattle.std.proofs.lemmas.Bool.{cases_Bool}
+use Rattle.std.proofs.lemmas.List.{same_lists}
+use Rattle.std.proofs.lemmas.Option.{slice_get-get_or, slice_get_within}
+use Rattle.zarrs_subset.specs.Boxes.{position_count, place, unravel, offset_by}
+use Rattle.zarrs_subset.specs.Regions.{Box, IsLong, Holds, place_in}
+use Rattle.zarrs_subset.proofs.Positions.{unravel_in, place-unravel, in_box-offset_by, offset_from-by}
+use Rattle.zarrs_chunk_grid.specs.Grids.{box_at, has_box}
+use Rattle.zarrs_chunk_grid.proofs.Chunks.{box_is_there, box_long, box_index}
+use Rattle.zarrs_keys.specs.Keys.{IsIndexList}
+use Rattle.zarrs_storage.specs.Store.{StoreState}
+use Rattle.zarrs_data_type.specs.Cell.{Cell, cell_eq, are_values}
+use Rattle.zarrs_data_type.specs.ArrayData.{ArrayData, data_of}
+use Rattle.zarrs_data_type.proofs.Cells.{cells-values}
+use Rattle.zarrs_data_type.proofs.Same.{eq-cell_eq}
+use Rattle.zarrs_engine.specs.declared.call.Call.{Call}
+use Rattle.zarrs_engine.specs.declared.call.Call.TheVariants.{StoreChunk, EraseChunk, RetrieveChunkIfExists, RetrieveChunk}
+use Rattle.zarrs_engine.specs.declared.call.Reply.{Reply}
+use Rattle.zarrs_engine.specs.declared.call.Reply.TheVariants.{Done, Cells, MaybeCells, Refused}
+use Rattle.zarrs_engine.specs.Layout.{Layout, IsLawful}
+use Rattle.zarrs_engine.specs.Content.{texts, content, decoded_cells, cell_at_place, chunk_cell, Reads}
+use Rattle.zarrs_engine.specs.Refusals.{is_left_out}
+use Rattle.zarrs_engine.specs.Changes.{IsTextOf, ChangesKeysOf, StoresChunk, ErasesChunk, Leaves}
+use Rattle.zarrs_engine.specs.Run.{Run}
+use Rattle.zarrs_engine.specs.Canon.{IsCanonicalText, IsCanonical, HasNoChunk}
+use Rattle.zarrs_engine.specs.Laws.{HaveEqualContent, HaveEqualTexts, ContentIsTexts, EachDecodes, CanonicalStoresDecode, StepsKeepDecoding, EmptyStoresAreCanonical, IsHistory, HistoriesAgree}
+use Rattle.zarrs_engine.proofs.Contents.{member, index_list, content_in_box, absent_fill, content_same}
+use Rattle.zarrs_engine.proofs.Canons.{same_or_not, other_key, run_keeps}
+
+-- lists of cells with equal cells are one
+same_cells : (a b : List Cell) → length a ≡ length b → ((k : ℕ) → k < length a → slice_get a k ≡ slice_get b k) → a ≡ b
+same_cells a b long same = same_lists a b long (λ k d below.
+    let cells : Some (get_or a k d) ≡ Some (get_or b k d) = sym (slice_get-get_or a k d below) ∙ same k below ∙ slice_get-get_or b k d (omega arith) in
+    cc)
+
+-- cells that are each the fill value are all fill
+all_fill : (fill : Cell) (cells : List Cell) → ((k : ℕ) → k < length cells → slice_get cells k ≡ Some fill) → list_all (λ cell. cell_eq cell fill) cells ≡ true
+all_fill fill [] h = refl
+all_fill fill (cell ∷ cells) h =
+    let first : Some cell ≡ Some fill = h 0 (omega arith) in
+    let is : cell ≡ fill = cc in
+    ap (λ b. b && list_all (λ cell. cell_eq cell fill) cells) (eq-cell_eq cell fill is) ∙ all_fill fill cells (λ k below. h (suc k) (omega arith))
+
+-- each row-major number of a box is that of a position that it holds
+at_place : (box : Box) → IsLong box → (k : ℕ) → k < position_count box.shape → (position : List ℕ) × Holds box position × (place_in box position ≡ k)
+at_place box long k below =
+    let offset = unravel box.shape k in
+    let inside = unravel_in box.shape k below in (
+      offset_by box.start offset,
+      in_box-offset_by box.start box.shape offset long inside,
+      ap (place box.shape) (offset_from-by box.start box.shape offset long inside) ∙ place-unravel box.shape k below,
+    )
+
+-- what is read over a box is one list
+reads_one : (f g : List ℕ → Option Cell) (box : Box) (a b : List Cell) → IsLong box
+    → ((position : List ℕ) → Holds box position → f position ≡ g position) → Reads f box a → Reads g box b → a ≡ b
+reads_one f g box a b long same p q =
+    same_cells a b (p.count ∙ sym q.count) (λ k below.
+    let here = at_place box long k (subst (λ n. k < n) p.count below) in
+    subst (λ k. slice_get a k ≡ slice_get b k) here.2 (sym (p.each here.0 here.1) ∙ same here.0 here.1 ∙ q.each here.0 here.1))
+
+module _ (layout : Layout) where
+  -- what is read where the function is the fill value is all fill
+  reads_fill : (f : List ℕ → Option Cell) (box : Box) (cells : List Cell) → IsLong box
+      → ((position : List ℕ) → Holds box position → f position ≡ Some layout.fill) → Reads f box cells → list_all (λ cell. cell_eq cell layout.fill) cells ≡ true
+  reads_fill f box cells long all p =
+      all_fill layout.fill cells (λ k below.
+      let here = at_place box long k (subst (λ n. k < n) p.count below) in
+      subst (λ k. slice_get cells k ≡ Some layout.fill) here.2 (sym (p.each here.0 here.1) ∙ all here.0 here.1))
+
+  -- a canonical text is determined by the function
+  one_text : (f g : List ℕ → Option Cell) (box : Box) (t u : Option (List ℕ)) → IsLong box
+      → ((position : List ℕ) → f position ≡ g position) → IsCanonicalText layout f box t → IsCanonicalText layout g box u → t ≡ u
+  one_text f g box None None long same p q = refl
+  one_text f g box None (Some u) long same p q =
+      let all = reads_fill g box q.0 long (λ position holds. sym (same position) ∙ p position holds) q.1 in
+      let clash : true ≡ false = sym all ∙ q.2 in
+      absurd (cc)
+  one_text f g box (Some t) None long same p q =
+      let all = reads_fill f box p.0 long (λ position holds. same position ∙ q position holds) p.1 in
+      let clash : true ≡ false = sym all ∙ p.2 in
+      absurd (cc)
+  one_text f g box (Some t) (Some u) long same p q =
+      sym p.3 ∙ ap (layout.chain.encoded false layout.kind layout.fill box.shape) (reads_one f g box p.0 q.0 long (λ position holds. same position) p.1 q.1) ∙ q.3
+
+  equal_texts : (a b : StoreState) → IsCanonical layout (texts a) → IsCanonical layout (texts b) → HaveEqualContent layout a b → HaveEqualTexts layout a b
+  equal_texts a b p q same index long =
+      elim (cases_Bool (has_box layout.grid index)) [
+        | inl has ↦ one_text _ _ (box_at layout.grid index) _ _ (box_long layout.grid index) same (p.boxed index has) (q.boxed index has)
+        | inr none ↦ p.unboxed index long none ∙ sym (q.unboxed index long none)
+      ]
+
+module _ (layout : Layout) (lawful : IsLawful layout) where
+  -- one key changed, and what stands there decodes
+  one_decodes : (index : List ℕ) (old new : StoreState) → IsIndexList layout.grid.dimensions index → ChangesKeysOf layout (index ∷ []) old new
+      → ((text : List ℕ) → texts new (layout.key index) ≡ Some text → (cells : List Cell) × (decoded_cells layout (box_at layout.grid index) text ≡ Some cells))
+      → EachDecodes layout old → EachDecodes layout new
+  one_decodes index old new long keys here each i text has at = elim (same_or_not i index) [
+    | inl is ↦
+        subst (λ (i : List ℕ). (cells : List Cell) × (decoded_cells layout (box_at layout.grid i) text ≡ Some cells)) (sym is)
+        (here text (ap (λ i. texts new (layout.key i)) (sym is) ∙ at))
+    | inr apart ↦ each i text has (sym (other_key layout lawful index old new long keys i (index_list layout lawful i has) apart) ∙ at)
+  ]
+
+  text_decodes : (keep : Bool) (box : Box) (cells : List Cell) (text : List ℕ) (stored : Option (List ℕ))
+      → are_values layout.kind cells ≡ true → length cells ≡ position_count box.shape → IsTextOf layout keep box cells stored → stored ≡ Some text
+      → decoded_cells layout box text ≡ Some cells
+  text_decodes keep box cells text None values count is e = absurd (cc)
+  text_decodes keep box cells text (Some s) values count is e =
+      let same : s ≡ text = cc in
+      ap (decoded_cells layout box) (sym same) ∙ lawful.chain.round_trip keep layout.kind layout.fill box.shape cells s values count is.1
+
+  -- the chunk that was stored is the data's, so its cells are values
+  store_decodes : (keep : Bool) (index : List ℕ) (held : ArrayData) (old new : StoreState) → StoresChunk layout keep index held old new → EachDecodes layout old → EachDecodes layout new
+  store_decodes keep index held old new s =
+      let box = box_at layout.grid index in
+      let stored = s.stores.held index (member index) in
+      let reads : Reads (content layout (texts new)) box s.chunk = record {
+        count = s.count;
+        each = λ position holds. s.stores.inside position holds
+            (subst (Contains (index ∷ [])) (sym (box_index layout.grid lawful.grid index position (box_is_there layout.grid index s.has_box) holds)) (member index));
+      } in
+      let same : s.chunk ≡ stored.0 = reads_one _ _ box s.chunk stored.0 (box_long layout.grid index) (λ position holds. refl) reads stored.1 in
+      let values = subst (λ (cs : List Cell). are_values layout.kind cs ≡ true) same (cells-values layout.kind held s.chunk s.is_chunk) in
+      one_decodes index old new (index_list layout lawful index s.has_box) s.stores.keys
+      (λ text at. (stored.0, text_decodes keep box stored.0 text _ values stored.1.count stored.2 at))
+
+  erase_decodes : (index : List ℕ) (old new : StoreState) → ErasesChunk layout index old new → EachDecodes layout old → EachDecodes layout new
+  erase_decodes index old new e = one_decodes index old new (e.erases.long index (member index)) e.erases.keys (λ text at.
+      let clash : None ≡ Some text = sym (e.erases.absent index (member index)) ∙ at in
+      absurd (cc))
+
+  leaves_decodes : (reason : Type 0) (old new : StoreState) → Leaves reason old new → EachDecodes layout old → EachDecodes layout new
+  leaves_decodes reason old new l each index text has at = each index text has (ap (λ values. map.get values (layout.key index)) (sym l.values) ∙ at)
+
+  same_decodes : (old new : StoreState) → new ≡ old → EachDecodes layout old → EachDecodes layout new
+  same_decodes old new is = subst (EachDecodes layout) (sym is)
+
+  found_cells : (found : Option (List Cell)) (n : ℕ) (cell : Cell) → cell_at_place found n ≡ Some cell → (cells : List Cell) × (found ≡ Some cells)
+  found_cells None n cell is = absurd (cc)
+  found_cells (Some cells) n cell is = (cells, refl)
+
+  -- a chunk without a cell is left out
+  first_cell : (cells : List Cell) → is_left_out layout false cells ≡ false → (cell : Cell) × (slice_get cells 0 ≡ Some cell)
+  first_cell [] is = absurd (cc)
+  first_cell (cell ∷ cells) is = (cell, refl)
+
+  -- canonical bytes have a cell, so they decode
+  text_of_content : (stored : List ℕ → Option (List ℕ)) (index text : List ℕ) → has_box layout.grid index ≡ true → stored (layout.key index) ≡ Some text
+      → IsCanonicalText layout (content layout stored) (box_at layout.grid index) (Some text) → (cells : List Cell) × (decoded_cells layout (box_at layout.grid index) text ≡ Some cells)
+  text_of_content stored index text has at is =
+      let box = box_at layout.grid index in
+      let first = first_cell is.0 is.2 in
+      let some : 0 < length is.0 = slice_get_within is.0 0 first.0 first.1 in
+      let here = at_place box (box_long layout.grid index) 0 (subst (λ n. 0 < n) is.1.count some) in
+      found_cells (decoded_cells layout box text) (place_in box here.0) first.0
+      (sym (content_in_box layout stored lawful index has here.0 here.1 ∙ ap (λ t. chunk_cell layout t box here.0) at)
+      ∙ is.1.each here.0 here.1 ∙ ap (slice_get is.0) here.2 ∙ first.1)
+
+-- each chunk of a canonical store decodes
+pub canonical_decodes : CanonicalStoresDecode
+canonical_decodes layout lawful state canon index text has at =
+    text_of_content layout lawful (texts state) index text has at
+    (subst (IsCanonicalText layout (content layout (texts state)) (box_at layout.grid index)) at (canon.boxed index has))
+
+-- a step leaves chunks that decode
+pub step_decodes : StepsKeepDecoding
+step_decodes layout lawful keep (StoreChunk index held) Done old new s = store_decodes layout lawful keep index.items (data_of held) old new s
+step_decodes layout lawful keep (StoreChunk index held) (Refused e) old new s = leaves_decodes layout lawful _ old new s
+step_decodes layout lawful keep (EraseChunk index) Done old new s = erase_decodes layout lawful index.items old new s
+step_decodes layout lawful keep (EraseChunk index) (Refused e) old new s = leaves_decodes layout lawful _ old new s
+step_decodes layout lawful keep (RetrieveChunkIfExists index) (MaybeCells found) old new s = same_decodes layout lawful old new s.0
+step_decodes layout lawful keep (RetrieveChunkIfExists index) (Refused e) old new s = same_decodes layout lawful old new s.0
+step_decodes layout lawful keep (RetrieveChunk index) (Cells held) old new s = same_decodes layout lawful old new s.0
+step_decodes layout lawful keep (RetrieveChunk index) (Refused e) old new s = same_decodes layout lawful old new s.0
+step_decodes layout lawful keep call reply old new s = λ each. absurd s
+
+-- and so does a run
+pub run_decodes : (layout : Layout) → IsLawful layout → (keep : Bool) (calls : List Call) (replies : List Reply) (old new : StoreState)
+    → Run layout keep calls replies old new → EachDecodes layout old → EachDecodes layout new
+run_decodes layout lawful keep [] [] old new r each = same_decodes layout lawful old new r each
+run_decodes layout lawful keep (call ∷ calls) (reply ∷ replies) old new r each = run_decodes layout lawful keep calls replies r.0 new r.2 (step_decodes layout lawful keep call reply old r.0 r.1 each)
+run_decodes layout lawful keep [] (reply ∷ replies) old new r each = absurd r
+run_decodes layout lawful keep (call ∷ calls) [] old new r each = absurd r
+
+pub content_is_texts : ContentIsTexts
+content_is_texts layout lawful a b p q = (equal_texts layout a b p q, content_same layout lawful (texts a) (texts b))
+
+pub empty_is_canonical : EmptyStoresAreCanonical
+empty_is_canonical layout lawful state none = record {
+  boxed = λ index has.
+      let absent = none index (index_list layout lawful index has) in
+      subst (IsCanonicalText layout (content layout (texts state)) (box_at layout.grid index)) (sym absent) (absent_fill layout (texts state) lawful index has absent);
+  unboxed = λ index long boxless. none index long;
+}
+
+-- no call at all is a history
+pub no_call_is_history : (layout : Layout) (state : StoreState) → HasNoChunk layout state → IsHistory layout state
+no_call_is_history layout state none = ([], [], state, none, refl)
+
+pub histories_agree : HistoriesAgree
+histories_agree layout lawful a b p q =
+    content_is_texts layout lawful a b
+    (run_keeps layout lawful p.0 p.1 p.2 a p.4 (empty_is_canonical layout lawful p.2 p.3))
+    (run_keeps layout lawful q.0 q.1 q.2 b q.4 (empty_is_canonical layout lawful q.2 q.3))

@@ -1,0 +1,184 @@
+-- Calls of one chunk, from what their parts ensure.
+use Rattle.std.proofs.Common.{◌≡◌, ◌≢◌, ◌⊎◌, ℕ, ◌<◌, ◌≤◌, Bool, true, false, not, cond, List, [], ◌∷◌, length, Option, Some, None, is_some, option_map, replicate, ◌==◌, eq-eqb, IfOk, OnOk, Result, Ok, Err, refl, sym, ◌∙◌, ap, subst, inl, inr, arith}
+use Rattle.std.specs.Prelude.{IsSome}
+use Rattle.std.specs.List.{list_all}
+use Rattle.std.proofs.lemmas.Bool.{cases_Bool, false≢true}
+use Rattle.std.proofs.lemmas.Map.Views.{exact_unsigned_eq}
+use Rattle.zarrs_subset.specs.Boxes.{position_count}
+use Rattle.zarrs_subset.specs.Regions.{Box}
+use Rattle.zarrs_chunk_grid.specs.Grids.{box_at, has_box}
+use Rattle.zarrs_chunk_grid.proofs.Chunks.{box_is_there}
+use Rattle.zarrs_storage.specs.Store.{StoreState, KeepsReach, MayReadWhole}
+use Rattle.zarrs_storage.specs.declared.errors.StorageError.{StorageError}
+use Rattle.zarrs_codec_leaf.specs.declared.error.CodecError.{CodecError}
+use Rattle.zarrs_codec_leaf.specs.declared.error.CodecError.TheVariants as coded
+use Rattle.zarrs_codec.specs.Chain.{ChainMeaning, IsLawfulChain, chunk_text}
+use Rattle.zarrs_codec.specs.Causes.{HasEncodeCause, HasDecodeCause}
+use Rattle.zarrs_data_type.specs.Kind.{Kind}
+use Rattle.zarrs_data_type.specs.Cell.{Cell, cell_eq}
+use Rattle.zarrs_data_type.specs.ArrayData.{ArrayData}
+use Rattle.zarrs_data_type.specs.Cells.{cells, HasCells}
+use Rattle.zarrs_data_type.proofs.Cells.{HasCells-cells, HasCells-some}
+use Rattle.zarrs_engine.specs.declared.error.ArrayError.{ArrayError}
+use Rattle.zarrs_engine.specs.Layout.{Layout, IsLawful}
+use Rattle.zarrs_engine.specs.Content.{texts, content, decoded_cells, Reads}
+use Rattle.zarrs_engine.specs.Errors.{error_of_storage, error_of_codec}
+use Rattle.zarrs_engine.specs.Refusals as refusal
+use Rattle.zarrs_engine.specs.Refusals.{Refusal, refusal_of, refusal_of_storage, or_else, length_refusal, box_refusal, is_left_out, encoded_cells, encode_refusal, data_refusal, store_refusal, read_refusal, StoreFails, IsRefusal}
+use Rattle.zarrs_engine.specs.Changes.{Leaves, IsTextOf, RetrievesChunk, RetrievesIfExists}
+use Rattle.zarrs_engine.specs.Step.{StoreRefused, EraseRefused, ReadRefused}
+use Rattle.zarrs_engine.specs.Puts.{RefusesIndices, TextRefused, HasText}
+use Rattle.zarrs_engine.proofs.Contents.{reads_decoded, reads_absent}
+use Rattle.zarrs_engine.proofs.RefusalLemmas.{refusal_moved, refused_first, refused_second, refused_by_store, second_refusal, storage_said, codec_said, leaves_for, leaves_all, box_accepted, no_chunk}
+
+-- what holds of each answer, by a fact that goes with any
+pub both_ok : {T E : Type 0} (r : Result T E) (P R : T → Type 0) (Q : Type 0) → ((x : T) → Q → P x → R x) → OnOk r Q → IfOk r P → IfOk r R
+both_ok (Ok x) P R Q f q p = f x q p
+both_ok (Err e) P R Q f q p = tt
+
+-- an index list of another length has no box
+pub wrong_length : (layout : Layout) (index : List ℕ) → length index ≢ layout.grid.dimensions → has_box layout.grid index ≡ false
+wrong_length layout index wrong =
+    elim (cases_Bool (has_box layout.grid index)) [
+      | inl there ↦ absurd (wrong (box_is_there layout.grid index there).long)
+      | inr none ↦ none
+    ]
+
+-- the indices of a chunk that is not there are refused
+pub refuses_chunk : (layout : Layout) (index : List ℕ) (e : ArrayError) → has_box layout.grid index ≡ false → RefusesIndices index e → IsRefusal (box_refusal layout index) ⊥ (refusal_of e)
+refuses_chunk layout index e none r = subst (λ o. IsRefusal o ⊥ (refusal_of e)) (sym (no_chunk layout index none)) r
+
+other_length : (n d : ℕ) → n ≢ d → (n == d) ≡ false
+other_length n d apart = elim (cases_Bool (n == d)) [ inl is ↦ absurd (apart (exact_unsigned_eq n d is)) | inr is_not ↦ is_not ]
+
+-- and indices of another length
+pub refuses_length : (layout : Layout) (index : List ℕ) (p : Type 0) (e : ArrayError) → length index ≢ layout.grid.dimensions → RefusesIndices index e → IsRefusal (length_refusal layout index) p (refusal_of e)
+refuses_length layout index p e wrong r =
+    let other : (length index == layout.grid.dimensions) ≡ false = other_length (length index) layout.grid.dimensions wrong in
+    let said : length_refusal layout index ≡ Some (refusal.indices index) = ap (λ b. cond b None (Some (refusal.indices index))) other in
+    subst (λ o. IsRefusal o p (refusal_of e)) (sym said) (refusal_moved (Some (refusal.indices index)) (Some (refusal.indices index)) ⊥ p (refusal_of e) (λ x h. h) (λ h. absurd h) r)
+
+pub right_length : (layout : Layout) (index : List ℕ) → length index ≡ layout.grid.dimensions → length_refusal layout index ≡ None
+right_length layout index long = ap (λ b. cond b None (Some (refusal.indices index))) (eq-eqb _ _ long)
+
+-- a store that was refused by the arguments, or for want of memory
+pub store_refused : (layout : Layout) (keep : Bool) (index : List ℕ) (held : ArrayData) (state : StoreState) (r : Refusal) → IsRefusal (store_refusal layout keep index held) ⊥ r → StoreRefused layout keep index held state state r
+store_refused layout keep index held state r why = leaves_all _ state (refusal_moved _ _ ⊥ _ r (λ x h. h) (λ h. absurd h) why)
+
+-- a store whose writing call was refused
+pub store_failed : (layout : Layout) (keep : Bool) (index : List ℕ) (held : ArrayData) (old new : StoreState) (s : StorageError) → store_refusal layout keep index held ≡ None → Leaves (IsRefusal None (StoreFails old new) (refusal_of_storage s)) old new → StoreRefused layout keep index held old new (refusal_of (error_of_storage s))
+store_failed layout keep index held old new s none l =
+    leaves_for _ _ old new
+    (λ why. subst (IsRefusal (store_refusal layout keep index held) ((store_refusal layout keep index held ≡ None) × StoreFails old new)) (sym (storage_said s))
+    (refused_by_store (store_refusal layout keep index held) (StoreFails old new) _ (refusal_of_storage s) (λ fails. (none, fails)) why)) l
+
+pub erase_failed : (layout : Layout) (index : List ℕ) (old new : StoreState) (r : Refusal) → length_refusal layout index ≡ None → Leaves (IsRefusal None (StoreFails old new) r) old new → EraseRefused layout index old new r
+erase_failed layout index old new r none l =
+    leaves_for _ _ old new (refused_by_store (length_refusal layout index) (StoreFails old new) _ r (λ fails. (none, fails))) l
+
+-- data that is not the cells of a chunk of this shape
+pub data_unfit : (layout : Layout) (keep : Bool) (shape : List ℕ) (held : ArrayData) → (HasCells layout.kind held (position_count shape) → ⊥) → data_refusal layout keep shape (cells layout.kind held) ≡ Some refusal.codec
+data_unfit layout keep shape held unfit =
+    elim (cells layout.kind held) as (λ o. cells layout.kind held ≡ o → data_refusal layout keep shape o ≡ Some refusal.codec) [
+      | None ↦ λ at. refl
+      | Some cs ↦ λ at. elim (cases_Bool (length cs == position_count shape)) [
+        | inl is ↦ absurd (unfit (let long = exact_unsigned_eq (length cs) (position_count shape) is in subst (HasCells layout.kind held) long (HasCells-some layout.kind held cs at)))
+        | inr is_not ↦ ap (λ b. cond (not b) (Some refusal.codec) (cond (is_left_out layout keep cs) None (encode_refusal layout keep shape cs))) is_not
+      ]
+    ] refl
+
+-- what the data of a chunk is refused for
+data_counted : (layout : Layout) (keep : Bool) (shape : List ℕ) (held : ArrayData) (cs : List Cell) → cells layout.kind held ≡ Some cs → length cs ≡ position_count shape → data_refusal layout keep shape (cells layout.kind held) ≡ cond (is_left_out layout keep cs) None (encode_refusal layout keep shape cs)
+data_counted layout keep shape held cs at long =
+    ap (data_refusal layout keep shape) at
+    ∙ ap (λ b. cond (not b) (Some refusal.codec) (cond (is_left_out layout keep cs) None (encode_refusal layout keep shape cs))) (eq-eqb _ _ long)
+
+pub left_out_accepted : (layout : Layout) (keep : Bool) (shape : List ℕ) (held : ArrayData) (cs : List Cell) → cells layout.kind held ≡ Some cs → length cs ≡ position_count shape → is_left_out layout keep cs ≡ true → data_refusal layout keep shape (cells layout.kind held) ≡ None
+left_out_accepted layout keep shape held cs at long left =
+    data_counted layout keep shape held cs at long ∙ ap (λ b. cond b None (encode_refusal layout keep shape cs)) left
+
+pub kept_refusal : (layout : Layout) (keep : Bool) (shape : List ℕ) (held : ArrayData) (cs : List Cell) → cells layout.kind held ≡ Some cs → length cs ≡ position_count shape → is_left_out layout keep cs ≡ false → data_refusal layout keep shape (cells layout.kind held) ≡ encode_refusal layout keep shape cs
+kept_refusal layout keep shape held cs at long kept =
+    data_counted layout keep shape held cs at long ∙ ap (λ b. cond b None (encode_refusal layout keep shape cs)) kept
+
+-- the text of a chunk's data is that of its cells
+pub chunk_text_is : (chain : ChainMeaning) (keep : Bool) (kind : Kind) (fill : Cell) (shape : List ℕ) (held : ArrayData) (cs : List Cell) → cells kind held ≡ Some cs → length cs ≡ position_count shape → chunk_text chain keep kind fill shape held ≡ chain.encoded keep kind fill shape cs
+chunk_text_is chain keep kind fill shape held cs at long =
+    ap (λ o. elim o [ None ↦ None | Some found ↦ cond (length found == position_count shape) (chain.encoded keep kind fill shape found) None ]) at
+    ∙ ap (λ b. cond b (chain.encoded keep kind fill shape cs) None) (eq-eqb _ _ long)
+
+pub encode_accepted : (layout : Layout) (keep : Bool) (shape : List ℕ) (cs : List Cell) (text : List ℕ) → encoded_cells layout keep shape cs ≡ Some text → encode_refusal layout keep shape cs ≡ None
+encode_accepted layout keep shape cs text at =
+    ap (λ o. cond (is_some o) None (cond (layout.chain.fits layout.kind shape) (Some refusal.size_overflow) (Some refusal.codec))) at
+
+encode_none : (layout : Layout) (keep : Bool) (shape : List ℕ) (cs : List Cell) → encoded_cells layout keep shape cs ≡ None → encode_refusal layout keep shape cs ≡ cond (layout.chain.fits layout.kind shape) (Some refusal.size_overflow) (Some refusal.codec)
+encode_none layout keep shape cs at =
+    ap (λ o. cond (is_some o) None (cond (layout.chain.fits layout.kind shape) (Some refusal.size_overflow) (Some refusal.codec))) at
+
+-- what the chain refuses
+pub encode_refused : (layout : Layout) → IsLawfulChain layout.chain → (keep : Bool) (shape : List ℕ) (held : ArrayData) (cs : List Cell) (e : CodecError) → cells layout.kind held ≡ Some cs → length cs ≡ position_count shape
+    → HasEncodeCause layout.chain keep layout.kind layout.fill shape held e → IsRefusal (encode_refusal layout keep shape cs) ⊥ (refusal_of (error_of_codec e))
+encode_refused layout lawful keep shape held cs coded.DoesNotFit at long unfit =
+    encode_none layout keep shape cs (lawful.unfit keep layout.kind layout.fill shape cs unfit)
+    ∙ ap (λ b. cond b (Some refusal.size_overflow) (Some refusal.codec)) unfit
+encode_refused layout lawful keep shape held cs coded.SizeOverflow at long h =
+    encode_none layout keep shape cs (sym (chunk_text_is layout.chain keep layout.kind layout.fill shape held cs at long) ∙ h.1)
+    ∙ ap (λ b. cond b (Some refusal.size_overflow) (Some refusal.codec)) h.0
+encode_refused layout lawful keep shape held cs coded.OutOfMemory at long h = tt
+
+-- what bytes that stand are refused for
+pub text_accepted : (layout : Layout) (needed : Bool) (index text : List ℕ) (cs : List Cell) → box_refusal layout index ≡ None → decoded_cells layout (box_at layout.grid index) text ≡ Some cs → read_refusal layout needed index (Some text) ≡ None
+text_accepted layout needed index text cs none at =
+    second_refusal (box_refusal layout index) _ none ∙ ap (λ o. cond (is_some o) None (Some refusal.codec)) at
+
+pub decode_refused : (layout : Layout) (needed : Bool) (index text : List ℕ) (e : CodecError) → box_refusal layout index ≡ None
+    → HasDecodeCause layout.chain layout.kind layout.fill (box_at layout.grid index).shape text e → IsRefusal (read_refusal layout needed index (Some text)) ⊥ (refusal_of (error_of_codec e))
+decode_refused layout needed index text coded.DoesNotFit none undecoded =
+    second_refusal (box_refusal layout index) _ none ∙ ap (λ o. cond (is_some o) None (Some refusal.codec)) undecoded
+decode_refused layout needed index text coded.SizeOverflow none h = absurd h
+decode_refused layout needed index text coded.OutOfMemory none h = tt
+
+-- a read that was refused before the bytes came
+pub read_refused_first : (layout : Layout) (needed : Bool) (index : List ℕ) (state : StoreState) (r : Refusal) → TextRefused layout index state r → ReadRefused layout needed index state r
+read_refused_first layout needed index state r h = refused_first (length_refusal layout index) _ _ _ r (λ x. x) h
+
+-- and after
+pub read_refused_then : (layout : Layout) (needed : Bool) (index : List ℕ) (found : Option (List ℕ)) (state : StoreState) (r : Refusal) → length index ≡ layout.grid.dimensions → found ≡ texts state (layout.key index)
+    → IsRefusal (read_refusal layout needed index found) ⊥ r → ReadRefused layout needed index state r
+read_refused_then layout needed index found state r long at h =
+    refused_second (length_refusal layout index) _ ⊥ _ r (right_length layout index long) (λ x. absurd x)
+    (subst (λ (o : Option (List ℕ)). IsRefusal (read_refusal layout needed index o) ⊥ r) at h)
+
+first_none : (a b : Option Refusal) → or_else a b ≡ None → a ≡ None
+first_none None b h = refl
+first_none (Some x) b h = absurd (cc)
+
+decoded_some : (found : Option (List Cell)) → cond (is_some found) None (Some refusal.codec) ≡ None → (cs : List Cell) × (found ≡ Some cs)
+decoded_some None h = absurd (cc)
+decoded_some (Some cs) h = (cs, refl)
+
+module _ (layout : Layout) (lawful : IsLawful layout) (index : List ℕ) (held : ArrayData) (state : StoreState) where
+  -- a chunk that stands was read
+  pub retrieved : (text : List ℕ) → Some text ≡ texts state (layout.key index) → read_refusal layout true index (Some text) ≡ None → cells layout.kind held ≡ decoded_cells layout (box_at layout.grid index) text → RetrievesChunk layout index held state
+  retrieved text at none is =
+      let box = box_at layout.grid index in
+      let boxed = first_none (box_refusal layout index) _ none in
+      let has = (box_accepted layout index boxed).0 in
+      let decodes = decoded_some (decoded_cells layout box text) (sym (second_refusal (box_refusal layout index) _ boxed) ∙ none) in
+      record {
+        has_box = has;
+        chunk = decodes.0;
+        is_chunk = is ∙ decodes.1;
+        reads = reads_decoded layout (texts state) lawful index has text decodes.0 (sym at) decodes.1;
+      }
+
+  -- an absent chunk was read
+  pub retrieved_fill : None ≡ texts state (layout.key index) → read_refusal layout true index None ≡ None → cells layout.kind held ≡ Some (replicate (position_count (box_at layout.grid index).shape) layout.fill) → RetrievesChunk layout index held state
+  retrieved_fill at none is =
+      let has = (box_accepted layout index (first_none (box_refusal layout index) _ none)).0 in
+      record {
+        has_box = has;
+        chunk = replicate (position_count (box_at layout.grid index).shape) layout.fill;
+        is_chunk = is;
+        reads = reads_absent layout (texts state) lawful index has (sym at);
+      }

@@ -1,0 +1,11 @@
+pub mod Errors
+pub mod Layout
+pub mod Content
+pub mod Reach
+pub mod Refusals
+pub mod Changes
+pub mod Step
+pub mod Run
+pub mod Canon
+pub mod Laws
+pub mod Puts

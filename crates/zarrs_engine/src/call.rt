@@ -1,0 +1,31 @@
+//! Calls of an engine, and their replies.
+use crate::error::ArrayError;
+use zarrs_data_type::ArrayBytes;
+
+type ArrayIndices = Vec<u64>;
+
+/// A call of an engine.
+#[derive(Drop)]
+pub enum Call {
+    /// Store the cells of the chunk with these indices.
+    StoreChunk(ArrayIndices, ArrayBytes<'static>),
+    /// Erase the chunk with these indices.
+    EraseChunk(ArrayIndices),
+    /// Read the chunk with these indices, where it stands.
+    RetrieveChunkIfExists(ArrayIndices),
+    /// Read the chunk with these indices, which is all fill where it is absent.
+    RetrieveChunk(ArrayIndices),
+}
+
+/// The reply to a call.
+#[derive(Drop)]
+pub enum Reply {
+    /// A store or an erasure was accepted.
+    Done,
+    /// The cells that were read.
+    Cells(ArrayBytes<'static>),
+    /// The cells that were read, or none where the chunk is absent.
+    MaybeCells(Option<ArrayBytes<'static>>),
+    /// The call was refused.
+    Refused(ArrayError),
+}

@@ -1,0 +1,164 @@
+//! What the calls of an array refuse.
+ghost use Rattle.std.specs.Prelude.{◌≡◌};
+ghost use Rattle.zarrs_engine.specs.declared.error.ArrayError.TheVariants as array;
+ghost use Rattle.zarrs_engine.specs.Errors.{error_of_storage, error_of_codec, error_of_element, unfit};
+
+use std::alloc::{AllocError, AllocFailed, Global};
+use thiserror::Error;
+use zarrs_codec::CodecError;
+use zarrs_data_type::{
+    ArrayBytesFixedDisjointViewCreateError, ElementError, ExpectedFixedLengthBytesError,
+    ExpectedOptionalBytesError, ExpectedVariableLengthBytesError,
+};
+use zarrs_storage::StorageError;
+use zarrs_subset::subset::ArraySubset;
+
+type ArrayIndices = Vec<u64>;
+type ArrayShape = Vec<u64>;
+
+/// Why a call of an array was refused.
+#[derive(Debug, Drop, Error)]
+#[non_exhaustive]
+pub enum ArrayError {
+    /// A region of another number of dimensions, or with a position that no chunk covers.
+    #[error("array subset is not compatible with array shape {1:?}")]
+    InvalidArraySubset(ArraySubset, ArrayShape),
+    /// A part of a chunk that has another number of dimensions, or passes the chunk.
+    #[error("chunk subset is not compatible with chunk {1:?} with shape {2:?}")]
+    InvalidChunkSubset(ArraySubset, ArrayIndices, ArrayShape),
+    /// Chunk indices of another length than the array has dimensions, or without a chunk.
+    #[error("invalid chunk grid indices: {0:?}")]
+    InvalidChunkGridIndicesError(Vec<u64>),
+    /// Data or bytes that the chain of codecs does not take.
+    #[error(transparent)]
+    CodecError(CodecError),
+    /// Values of another type than the array's data type.
+    #[error(transparent)]
+    ElementError(ElementError),
+    /// A target of another shape than the region.
+    #[error("data has shape {0:?}, expected {1:?}")]
+    InvalidDataShape(Vec<u64>, Vec<u64>),
+    /// The store refused.
+    #[error(transparent)]
+    StorageError(StorageError),
+    /// A number of cells, bytes or chunks that no `usize` or `u64` counts.
+    #[error("size exceeds the number types")]
+    SizeOverflow,
+    /// Memory was short.
+    #[error("out of memory")]
+    OutOfMemory,
+    /// A decode target that does not lie in its bytes. No call answers it.
+    #[error(transparent)]
+    ArrayBytesFixedDisjointViewCreateError(ArrayBytesFixedDisjointViewCreateError),
+    /// A decoded chunk of another size. No call answers it.
+    #[error("got chunk decoded size {0:?}, expected {1:?}")]
+    UnexpectedChunkDecodedSize(usize, usize),
+    /// Bytes of another size. No call answers it.
+    #[error("got bytes with size {0:?}, expected {1:?}")]
+    InvalidBytesInputSize(usize, u64),
+    /// A decoded chunk of another shape. No call answers it.
+    #[error("got chunk decoded shape {0:?}, expected {1:?}")]
+    UnexpectedChunkDecodedShape(ArrayShape, ArrayShape),
+    /// A method that the array does not have. No call answers it.
+    #[error("unsupported array method: {0}")]
+    UnsupportedMethod(String),
+    /// Any other refusal, as a text. No call answers it.
+    #[error("{0}")]
+    Other(String),
+}
+
+impl From<AllocError> for ArrayError {
+    ghost from_gives = { λ _ e. e ≡ array.OutOfMemory };
+
+    fn from(_error: AllocError) -> ArrayError {
+        ArrayError::OutOfMemory
+    }
+}
+
+impl<T: Drop> From<AllocFailed<T>> for ArrayError {
+    ghost from_gives = { λ _ e. e ≡ array.OutOfMemory };
+
+    fn from(_error: AllocFailed<T>) -> ArrayError {
+        ArrayError::OutOfMemory
+    }
+}
+
+impl From<StorageError> for ArrayError {
+    ghost from_gives = { λ s e. e ≡ error_of_storage s };
+
+    fn from(error: StorageError) -> ArrayError {
+        match error {
+            StorageError::OutOfMemory => ArrayError::OutOfMemory,
+            other => ArrayError::StorageError(other),
+        }
+    }
+}
+
+impl From<CodecError> for ArrayError {
+    ghost from_gives = { λ c e. e ≡ error_of_codec c };
+
+    fn from(error: CodecError) -> ArrayError {
+        match error {
+            CodecError::DoesNotFit => ArrayError::CodecError(CodecError::DoesNotFit),
+            CodecError::SizeOverflow => ArrayError::SizeOverflow,
+            CodecError::OutOfMemory => ArrayError::OutOfMemory,
+        }
+    }
+}
+
+impl From<ElementError> for ArrayError {
+    ghost from_gives = { λ element e. e ≡ error_of_element element };
+
+    fn from(error: ElementError) -> ArrayError {
+        match error {
+            ElementError::OutOfMemory => ArrayError::OutOfMemory,
+            other => ArrayError::ElementError(other),
+        }
+    }
+}
+
+impl From<ArrayBytesFixedDisjointViewCreateError> for ArrayError {
+    ghost from_gives = { λ view e. e ≡ array.ArrayBytesFixedDisjointViewCreateError view };
+
+    fn from(error: ArrayBytesFixedDisjointViewCreateError) -> ArrayError {
+        ArrayError::ArrayBytesFixedDisjointViewCreateError(error)
+    }
+}
+
+impl From<ExpectedFixedLengthBytesError> for ArrayError {
+    ghost from_gives = { λ _ e. e ≡ unfit };
+
+    fn from(_error: ExpectedFixedLengthBytesError) -> ArrayError {
+        ArrayError::CodecError(CodecError::DoesNotFit)
+    }
+}
+
+impl From<ExpectedVariableLengthBytesError> for ArrayError {
+    ghost from_gives = { λ _ e. e ≡ unfit };
+
+    fn from(_error: ExpectedVariableLengthBytesError) -> ArrayError {
+        ArrayError::CodecError(CodecError::DoesNotFit)
+    }
+}
+
+impl From<ExpectedOptionalBytesError> for ArrayError {
+    ghost from_gives = { λ _ e. e ≡ unfit };
+
+    fn from(_error: ExpectedOptionalBytesError) -> ArrayError {
+        ArrayError::CodecError(CodecError::DoesNotFit)
+    }
+}
+
+impl ArrayError {
+    ghost use Rattle.zarrs_engine.specs.Puts.{RefusesIndices};
+
+    /// The refusal of these chunk indices.
+    pub(crate) fn invalid_indices(alloc: Global, indices: &[u64]) -> ArrayError
+        ensures { RefusesIndices indices.now result }
+    {
+        match indices.to_vec(alloc) {
+            Ok(indices) => ArrayError::InvalidChunkGridIndicesError(indices),
+            Err(_) => ArrayError::OutOfMemory,
+        }
+    }
+}

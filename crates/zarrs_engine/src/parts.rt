@@ -1,0 +1,160 @@
+//! The parts of an engine but its store.
+ghost use Rattle.std.specs.Prelude.{IsSome};
+ghost use Rattle.zarrs_data_type.specs.Kind.{kind};
+ghost use Rattle.zarrs_data_type.specs.Cell.{fill_cell};
+
+use crate::error::ArrayError;
+use std::alloc::Global;
+use zarrs_chunk_grid::{ChunkGridTraits, GridError};
+use zarrs_codec::{ChainTraits, CodecError, CodecOptions};
+use zarrs_data_type::{ArrayBytes, DataType, DataTypeFillValueError, FillValue};
+use zarrs_keys::{ChunkKeyEncodingTraits, NodePath, chunk_key};
+use zarrs_storage::{StorageError, StoreKey};
+use zarrs_subset::subset::ArraySubset;
+
+/// Where an array lies, how it is cut into chunks, and what the bytes of its chunks mean.
+#[derive(Drop)]
+pub(crate) struct Parts<G, K, C> {
+    pub(crate) path: NodePath,
+    pub(crate) grid: G,
+    pub(crate) keys: K,
+    pub(crate) chain: C,
+    pub(crate) data_type: DataType,
+    pub(crate) fill_value: FillValue,
+    ghost filled: { IsSome (fill_cell (kind data_type) fill_value) },
+}
+
+/// The box of a chunk, and how many cells it has.
+#[derive(Drop)]
+pub(crate) struct Chunk {
+    pub(crate) region: ArraySubset,
+    pub(crate) count: u64,
+}
+
+impl<G: ChunkGridTraits, K: ChunkKeyEncodingTraits, C: ChainTraits> Parts<G, K, C> {
+    ghost use Rattle.std.specs.Prelude.{◌≡◌, ◌<◌, ◌*◌, ◌^◌, true, false, Some, None, IfOk, IfErr, OnOk, IfSome, IfNone, OnSome, IsOkUnless, option_map, replicate};
+    ghost use Rattle.zarrs_subset.specs.Boxes.{position_count};
+    ghost use Rattle.zarrs_subset.specs.Regions.{box_of};
+    ghost use Rattle.zarrs_chunk_grid.specs.Grids.{box_at};
+    ghost use Rattle.zarrs_data_type.specs.Kind.{cell_size};
+    ghost use Rattle.zarrs_data_type.specs.ArrayData.{data_of};
+    ghost use Rattle.zarrs_data_type.specs.Cells.{cells};
+    ghost use Rattle.zarrs_codec.specs.Options.{stores_empty_chunks};
+    ghost use Rattle.zarrs_engine.specs.Layout.{layout_of_parts};
+    ghost use Rattle.zarrs_engine.specs.Content.{decoded_cells};
+    ghost use Rattle.zarrs_engine.specs.Refusals.{IsRefusal, refusal_of, is_too_large, box_refusal, data_refusal, read_refusal};
+    ghost use Rattle.zarrs_engine.specs.Puts.{HasText};
+
+    /// The key of the chunk with these indices.
+    pub(crate) fn chunk_key(&self, alloc: Global, indices: &[u64]) -> Result<StoreKey, StorageError>
+        ensures key { IfOk result (λ key. key ≡ (layout_of_parts G.grid K.key C.meaning self.now).key indices.now) }
+        ensures accepted { IsOkUnless result StorageError.OutOfMemory }
+    {
+        chunk_key(alloc, &self.path, &self.keys, indices)
+    }
+
+    /// How many cells a chunk of this box has, where no more bytes than a `usize` counts hold them.
+    fn cell_count(&self, region: &ArraySubset) -> Option<u64>
+        ensures some { IfSome result (λ count. count ≡ position_count (box_of region.now).shape) }
+        ensures small { OnSome result (is_too_large (layout_of_parts G.grid K.key C.meaning self.now) (box_of region.now).shape ≡ false) }
+        ensures large { IfNone result (is_too_large (layout_of_parts G.grid K.key C.meaning self.now) (box_of region.now).shape ≡ true) }
+    {
+        let Ok(count) = region.num_elements() else {
+            return None;
+        };
+        let size = self.data_type.fixed_size().unwrap_or(1);
+        match count.checked_mul(size as u64) {
+            Some(_) => Some(count),
+            None => None,
+        }
+    }
+
+    /// The chunk with these indices.
+    pub(crate) fn chunk(&self, alloc: Global, indices: &[u64]) -> Result<Chunk, ArrayError>
+        ensures region { IfOk result (λ chunk. box_of chunk.region ≡ box_at (G.grid self.now.grid) indices.now) }
+        ensures count { IfOk result (λ chunk. chunk.count ≡ position_count (box_of chunk.region).shape) }
+        ensures accepted { OnOk result (box_refusal (layout_of_parts G.grid K.key C.meaning self.now) indices.now ≡ None) }
+        ensures refused { IfErr result (λ e. IsRefusal (box_refusal (layout_of_parts G.grid K.key C.meaning self.now) indices.now) ⊥ (refusal_of e)) }
+    {
+        let region = match self.grid.subset(alloc, indices) {
+            Ok(Some(region)) => region,
+            Ok(None) => return Err(ArrayError::invalid_indices(alloc, indices)),
+            Err(GridError::IncompatibleDimensionality) => {
+                return Err(ArrayError::invalid_indices(alloc, indices));
+            }
+            Err(GridError::UnequalExtent) => unreachable!(),
+            Err(GridError::OutOfMemory) => return Err(ArrayError::OutOfMemory),
+        };
+        match self.cell_count(&region) {
+            Some(count) => Ok(Chunk { region, count }),
+            None => Err(ArrayError::SizeOverflow),
+        }
+    }
+
+    /// What is to stand at the key of the chunk with this data: its bytes, or nothing where empty chunks are not kept
+    /// and each cell is the fill value's.
+    pub(crate) fn text_of(
+        &self,
+        alloc: Global,
+        chunk: &Chunk,
+        data: &ArrayBytes<'_>,
+        options: &CodecOptions,
+    ) -> Result<Option<Vec<u8>>, ArrayError>
+        requires { chunk.now.count ≡ position_count (box_of chunk.now.region).shape }
+        ensures text { IfOk result (λ text. HasText (layout_of_parts G.grid K.key C.meaning self.now) (stores_empty_chunks options.now) (box_of chunk.now.region) (data_of «data».now) (option_map (λ v. v.items) text)) }
+        ensures accepted { OnOk result (data_refusal (layout_of_parts G.grid K.key C.meaning self.now) (stores_empty_chunks options.now) (box_of chunk.now.region).shape (cells (kind self.now.data_type) (data_of «data».now)) ≡ None) }
+        ensures refused { IfErr result (λ e. IsRefusal (data_refusal (layout_of_parts G.grid K.key C.meaning self.now) (stores_empty_chunks options.now) (box_of chunk.now.region).shape (cells (kind self.now.data_type) (data_of «data».now))) ⊥ (refusal_of e)) }
+    {
+        if !data.validate(&self.data_type, chunk.count) {
+            return Err(ArrayError::CodecError(CodecError::DoesNotFit));
+        }
+        if !options.store_empty_chunks() && data.is_fill_value(&self.data_type, &self.fill_value) {
+            return Ok(None);
+        }
+        let shape = chunk.region.shape();
+        let text = self
+            .chain
+            .encode(alloc, data, &self.data_type, &self.fill_value, shape, options)?;
+        Ok(Some(text))
+    }
+
+    /// The cells of the bytes of the chunk with these indices.
+    pub(crate) fn decode(
+        &self,
+        alloc: Global,
+        indices: &[u64],
+        text: &[u8],
+    ) -> Result<ArrayBytes<'static>, ArrayError>
+        ensures cells { IfOk result (λ made. cells (kind self.now.data_type) (data_of made) ≡ decoded_cells (layout_of_parts G.grid K.key C.meaning self.now) (box_at (G.grid self.now.grid) indices.now) text.now) }
+        ensures accepted { OnOk result (read_refusal (layout_of_parts G.grid K.key C.meaning self.now) true indices.now (Some text.now) ≡ None) }
+        ensures refused { IfErr result (λ e. IsRefusal (read_refusal (layout_of_parts G.grid K.key C.meaning self.now) true indices.now (Some text.now)) ⊥ (refusal_of e)) }
+    {
+        let chunk = self.chunk(alloc, indices)?;
+        let shape = chunk.region.shape();
+        let data = self
+            .chain
+            .decode(alloc, text, &self.data_type, &self.fill_value, shape)?;
+        Ok(data)
+    }
+
+    /// The cells of the chunk with these indices where it is absent.
+    pub(crate) fn fill(
+        &self,
+        alloc: Global,
+        indices: &[u64],
+    ) -> Result<ArrayBytes<'static>, ArrayError>
+        ensures cells { IfOk result (λ made. cells (kind self.now.data_type) (data_of made)
+            ≡ Some (replicate (position_count (box_at (G.grid self.now.grid) indices.now).shape) (layout_of_parts G.grid K.key C.meaning self.now).fill)) }
+        ensures accepted { OnOk result (read_refusal (layout_of_parts G.grid K.key C.meaning self.now) true indices.now None ≡ None) }
+        ensures refused { IfErr result (λ e. IsRefusal (read_refusal (layout_of_parts G.grid K.key C.meaning self.now) true indices.now None) ⊥ (refusal_of e)) }
+    {
+        let chunk = self.chunk(alloc, indices)?;
+        match ArrayBytes::new_fill_value(alloc, &self.data_type, chunk.count, &self.fill_value) {
+            Ok(data) => Ok(data),
+            Err(DataTypeFillValueError::UnsupportedType) => {
+                Err(ArrayError::CodecError(CodecError::DoesNotFit))
+            }
+            Err(DataTypeFillValueError::OutOfMemory) => Err(ArrayError::OutOfMemory),
+        }
+    }
+}

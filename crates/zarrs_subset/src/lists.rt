@@ -1,0 +1,73 @@
+//! Lists of numbers of two arrays' coordinates, dimension by dimension.
+
+ghost use Rattle.std.specs.Prelude.{◌≡◌, ℕ, ◌+◌, ◌-◌, ◌^◌, ◌<◌, ◌≤◌, ◌↔◌, length, max, min, slice_index, IfOk, IsTrue, SomeIndex};
+ghost use Rattle.zarrs_subset.specs.Boxes.{zip_with, ends, EndsFit};
+
+use crate::{ArrayIndices, ArrayShape};
+use std::alloc::{AllocError, Global};
+
+/// Whether some extent is 0.
+pub(crate) fn has_zero(extents: &[u64]) -> bool
+    ensures { IsTrue result ↔ SomeIndex extents.now (λ k. slice_index extents.now k ≡ 0) }
+{
+    extents.iter().any(|extent| *extent == 0)
+}
+
+/// The greater number of each dimension.
+pub(crate) fn later(alloc: Global, a: &[u64], b: &[u64]) -> Result<ArrayIndices, AllocError>
+    ensures { IfOk result (λ v. v.items ≡ zip_with (λ s t. max s t) a.now b.now) }
+{
+    a.iter().zip(b).map(|(x, y)| (*x).max(*y)).collect(alloc)
+}
+
+/// The lesser number of each dimension.
+pub(crate) fn earlier(alloc: Global, a: &[u64], b: &[u64]) -> Result<ArrayIndices, AllocError>
+    ensures { IfOk result (λ v. v.items ≡ zip_with (λ s t. min s t) a.now b.now) }
+{
+    a.iter().zip(b).map(|(x, y)| (*x).min(*y)).collect(alloc)
+}
+
+/// How far each number of `a` is above that of `b`, or 0.
+pub(crate) fn distances(alloc: Global, a: &[u64], b: &[u64]) -> Result<ArrayIndices, AllocError>
+    ensures { IfOk result (λ v. v.items ≡ zip_with (λ s t. s - t) a.now b.now) }
+{
+    a.iter()
+        .zip(b)
+        .map(|(x, y)| x.saturating_sub(*y))
+        .collect(alloc)
+}
+
+/// The sums, each cut to `u64`.
+pub(crate) fn sums(alloc: Global, a: &[u64], b: &[u64]) -> Result<ArrayIndices, AllocError>
+    ensures { IfOk result (λ v. v.items ≡ zip_with (λ s t. min (s + t) (2 ^ 64 - 1)) a.now b.now) }
+{
+    a.iter()
+        .zip(b)
+        .map(|(x, y)| x.saturating_add(*y))
+        .collect(alloc)
+}
+
+/// The end of each dimension of a box.
+pub(crate) fn ends_of(
+    alloc: Global,
+    start: &[u64],
+    shape: &[u64],
+) -> Result<ArrayIndices, AllocError>
+    requires { EndsFit start.now shape.now }
+    ensures { IfOk result (λ v. v.items ≡ ends start.now shape.now) }
+{
+    sums(alloc, start, shape)
+}
+
+/// The extents from `start` up to `end`, which lies nowhere below it.
+pub(crate) fn extents(end: ArrayIndices, start: &[u64]) -> ArrayShape
+    requires same_length { length end.items ≡ length start.now }
+    requires ordered { (k : ℕ) → k < length start.now → slice_index start.now k ≤ slice_index end.items k }
+    ensures { result.items ≡ zip_with (λ e s. e - s) end.items start.now }
+{
+    let mut shape = end;
+    for k in 0..start.len() {
+        shape[k] -= start[k];
+    }
+    shape
+}

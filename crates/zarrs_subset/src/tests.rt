@@ -1,0 +1,196 @@
+//! Each public call once, on plain values.
+
+use crate::{ArraySubset, ArraySubsetError, IncompatibleDimensionalityError, SizeOverflow};
+use crate::{copy_box, element_count, place_part, ravel_indices, unravel_index};
+use std::test::Fail;
+
+fn subset(rt: &HostRuntime, start: &[u64], shape: &[u64]) -> Result<ArraySubset, Fail> {
+    let start = Vec::from_slice(rt.alloc(), start)?;
+    let shape = Vec::from_slice(rt.alloc(), shape)?;
+    Ok(ArraySubset::new_with_start_shape(start, shape)?)
+}
+
+#[test]
+fn ranges_that_only_touch_overlap_in_nothing(rt: HostRuntime) -> Result<(), Fail> {
+    let low = subset(&rt, &[0], &[4])?;
+    let high = subset(&rt, &[4], &[4])?;
+    let common = low.overlap(rt.alloc(), &high)?;
+    assert_eq!(rt; common.shape(), [0].as_slice());
+    assert!(rt; common.is_empty());
+    Ok(())
+}
+
+#[test]
+fn overlap_is_what_both_boxes_have(rt: HostRuntime) -> Result<(), Fail> {
+    let left = subset(&rt, &[1, 2], &[3, 4])?;
+    let right = subset(&rt, &[0, 4], &[2, 9])?;
+    let common = left.overlap(rt.alloc(), &right)?;
+    assert_eq!(rt; common.start(), [1, 4].as_slice());
+    assert_eq!(rt; common.shape(), [1, 2].as_slice());
+    Ok(())
+}
+
+#[test]
+fn overlap_of_other_dimensions_is_refused(rt: HostRuntime) -> Result<(), Fail> {
+    let plane = subset(&rt, &[0, 0], &[1, 1])?;
+    let line = subset(&rt, &[0], &[1])?;
+    let mismatch = IncompatibleDimensionalityError::new(1, 2);
+    assert_eq!(rt; mismatch.got(), 1);
+    assert_eq!(rt; mismatch.expected(), 2);
+    match plane.overlap(rt.alloc(), &line) {
+        Ok(_) => assert!(rt; false),
+        Err(error) => assert_eq!(rt; error, ArraySubsetError::IncompatibleDimensionality(mismatch)),
+    }
+    Ok(())
+}
+
+#[test]
+fn row_major_number_of_the_last_position(rt: HostRuntime) -> Result<(), Fail> {
+    assert_eq!(rt; ravel_indices(&[1, 3], &[2, 4]), Some(7));
+    assert_eq!(rt; ravel_indices(&[], &[]), Some(0));
+    Ok(())
+}
+
+#[test]
+fn a_position_outside_the_shape_has_no_number(rt: HostRuntime) -> Result<(), Fail> {
+    assert_eq!(rt; ravel_indices(&[2, 0], &[2, 4]), None);
+    assert_eq!(rt; ravel_indices(&[1], &[2, 4]), None);
+    assert_eq!(rt; ravel_indices(&[4294967296, 0], &[4294967297, 4294967296]), None);
+    Ok(())
+}
+
+#[test]
+fn positions_of_row_major_numbers(rt: HostRuntime) -> Result<(), Fail> {
+    let last = unravel_index(rt.alloc(), 7, &[2, 4])?.ok_or("a position")?;
+    assert_eq!(rt; last.as_slice(), [1, 3].as_slice());
+    assert!(rt; unravel_index(rt.alloc(), 8, &[2, 4])?.is_none());
+    let only = unravel_index(rt.alloc(), 0, &[])?.ok_or("a position")?;
+    assert!(rt; only.is_empty());
+    assert!(rt; unravel_index(rt.alloc(), 1, &[])?.is_none());
+    assert!(rt; unravel_index(rt.alloc(), 0, &[0])?.is_none());
+    Ok(())
+}
+
+#[test]
+fn counts_of_positions(rt: HostRuntime) -> Result<(), Fail> {
+    assert_eq!(rt; element_count(&[]), Some(1));
+    assert_eq!(rt; element_count(&[3, 0, 18446744073709551615]), Some(0));
+    assert_eq!(rt; element_count(&[4294967296, 4294967296]), None);
+    let whole = subset(&rt, &[0, 0], &[4294967296, 4294967296])?;
+    assert_eq!(rt; whole.num_elements(), Err(SizeOverflow));
+    assert_eq!(rt; subset(&rt, &[5], &[3])?.num_elements(), Ok(3));
+    Ok(())
+}
+
+#[test]
+fn boxes_at_the_end_of_the_numbers(rt: HostRuntime) -> Result<(), Fail> {
+    let last = subset(&rt, &[18446744073709551614], &[1])?;
+    assert_eq!(rt; last.end_exc(rt.alloc())?.as_slice(), [18446744073709551615].as_slice());
+    let start = Vec::from_slice(rt.alloc(), &[18446744073709551615])?;
+    let shape = Vec::from_slice(rt.alloc(), &[1])?;
+    match ArraySubset::new_with_start_shape(start, shape) {
+        Ok(_) => assert!(rt; false),
+        Err(error) => assert_eq!(rt; error, ArraySubsetError::EndOverflow),
+    }
+    Ok(())
+}
+
+#[test]
+fn boxes_from_start_and_end(rt: HostRuntime) -> Result<(), Fail> {
+    let start = Vec::from_slice(rt.alloc(), &[1, 2])?;
+    let end = Vec::from_slice(rt.alloc(), &[4, 2])?;
+    let made = ArraySubset::new_with_start_end_exc(start, end)?;
+    assert_eq!(rt; made.shape(), [3, 0].as_slice());
+    let start = Vec::from_slice(rt.alloc(), &[3])?;
+    let end = Vec::from_slice(rt.alloc(), &[2])?;
+    match ArraySubset::new_with_start_end_exc(start, end) {
+        Ok(_) => assert!(rt; false),
+        Err(error) => assert_eq!(rt; error, ArraySubsetError::EndBelowStart),
+    }
+    Ok(())
+}
+
+#[test]
+fn boxes_of_ranges(rt: HostRuntime) -> Result<(), Fail> {
+    let made = ArraySubset::new_with_ranges(rt.alloc(), &[0..2, 1..3, 7..4])?;
+    assert_eq!(rt; made.start(), [0, 1, 7].as_slice());
+    assert_eq!(rt; made.shape(), [2, 2, 0].as_slice());
+    assert_eq!(rt; format!(in rt.alloc(); "{made}")?.as_str(), "[0..2, 1..3, 7..7]");
+    Ok(())
+}
+
+#[test]
+fn boxes_at_the_origin(rt: HostRuntime) -> Result<(), Fail> {
+    let shape = Vec::from_slice(rt.alloc(), &[2, 3])?;
+    let made = ArraySubset::new_with_shape(rt.alloc(), shape)?;
+    assert_eq!(rt; made.start(), [0, 0].as_slice());
+    assert_eq!(rt; made.dimensionality(), 2);
+    let empty = ArraySubset::new_empty(rt.alloc(), 2)?;
+    assert_eq!(rt; empty.shape(), [0, 0].as_slice());
+    let start = Vec::from_slice(rt.alloc(), &[0, 0])?;
+    let shape = Vec::from_slice(rt.alloc(), &[2, 3])?;
+    assert!(rt; ArraySubset::new(start, shape) == made);
+    assert!(rt; made.clone()? == made);
+    assert!(rt; empty != made);
+    Ok(())
+}
+
+#[test]
+fn boxes_seen_from_an_offset(rt: HostRuntime) -> Result<(), Fail> {
+    let made = subset(&rt, &[3, 5], &[2, 2])?;
+    let seen = made.relative_to(rt.alloc(), &[1, 5])?;
+    assert_eq!(rt; format!(in rt.alloc(); "{seen}")?.as_str(), "[2..4, 0..2]");
+    match made.relative_to(rt.alloc(), &[4, 0]) {
+        Ok(_) => assert!(rt; false),
+        Err(error) => assert_eq!(rt; error, ArraySubsetError::StartBelowOffset),
+    }
+    Ok(())
+}
+
+#[test]
+fn boxes_cut_to_an_end(rt: HostRuntime) -> Result<(), Fail> {
+    let made = subset(&rt, &[3, 5], &[4, 2])?;
+    let cut = made.bound(rt.alloc(), &[5, 4])?;
+    assert_eq!(rt; format!(in rt.alloc(); "{cut}")?.as_str(), "[3..5, 4..4]");
+    assert!(rt; made.bound(rt.alloc(), &[5]).is_err());
+    Ok(())
+}
+
+#[test]
+fn positions_of_a_box_by_number(rt: HostRuntime) -> Result<(), Fail> {
+    let made = subset(&rt, &[3, 5], &[2, 2])?;
+    assert_eq!(rt; made.nth_position(rt.alloc(), 2)?.as_slice(), [4, 5].as_slice());
+    let third = made.position(rt.alloc(), 3)?.ok_or("a position")?;
+    assert_eq!(rt; third.as_slice(), [4, 6].as_slice());
+    assert!(rt; made.position(rt.alloc(), 4)?.is_none());
+    Ok(())
+}
+
+#[test]
+fn texts_of_refusals(rt: HostRuntime) -> Result<(), Fail> {
+    let mismatch = IncompatibleDimensionalityError::new(1, 2);
+    let text = format!(in rt.alloc(); "{mismatch}")?;
+    assert_eq!(rt; text.as_str(), "incompatible dimensionality 1, expected 2");
+    let text = format!(in rt.alloc(); "{}", ArraySubsetError::from(mismatch))?;
+    assert_eq!(rt; text.as_str(), "incompatible dimensionality 1, expected 2");
+    let text = format!(in rt.alloc(); "{}", SizeOverflow)?;
+    assert_eq!(rt; text.as_str(), "size exceeds the number types");
+    Ok(())
+}
+
+#[test]
+fn a_box_goes_into_a_larger_array(rt: HostRuntime) -> Result<(), Fail> {
+    let mut target = [9u8; 9];
+    copy_box(
+        &[5, 6],
+        &[1, 2],
+        &[0, 0],
+        &mut target,
+        &[3, 3],
+        &[1, 1],
+        &[1, 2],
+        1,
+    );
+    assert_eq!(rt; target.as_slice(), [9, 9, 9, 9, 5, 6, 9, 9, 9].as_slice());
+    Ok(())
+}
