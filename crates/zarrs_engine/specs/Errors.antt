@@ -6,6 +6,8 @@ use Rattle.zarrs_codec_leaf.specs.declared.error.CodecError.{CodecError}
 use Rattle.zarrs_codec_leaf.specs.declared.error.CodecError.TheVariants as codec
 use Rattle.zarrs_data_type.specs.declared.errors.ElementError.{ElementError}
 use Rattle.zarrs_data_type.specs.declared.errors.ElementError.TheVariants as element
+use Rattle.zarrs_subset.specs.declared.error.ArraySubsetError.{ArraySubsetError}
+use Rattle.zarrs_subset.specs.declared.error.ArraySubsetError.TheVariants as subset
 use Rattle.zarrs_engine.specs.declared.error.ArrayError.{ArrayError}
 use Rattle.zarrs_engine.specs.declared.error.ArrayError.TheVariants as array
 
@@ -28,3 +30,8 @@ error_of_codec codec.OutOfMemory = array.OutOfMemory
 abbrev pub error_of_element : ElementError → ArrayError
 error_of_element element.OutOfMemory = array.OutOfMemory
 error_of_element error = array.ElementError error
+
+-- a refusal of a box, but want of memory
+abbrev pub error_of_subset : ArraySubsetError → ArrayError
+error_of_subset subset.OutOfMemory = array.OutOfMemory
+error_of_subset error = array.ArraySubsetError error

@@ -54,6 +54,7 @@ refusal_of (error.InvalidDataShape got expected) = data_shape got.items expected
 refusal_of (error.StorageError e) = storage
 refusal_of error.SizeOverflow = size_overflow
 refusal_of error.OutOfMemory = out_of_memory
+refusal_of (error.IncompatibleDimensionalityError e) = dimensionality
 refusal_of _ = unused
 
 -- the number by which a refusal is named: E1 to E10

@@ -1,8 +1,7 @@
 //! Calls of an engine, and their replies.
 use crate::error::ArrayError;
 use zarrs_data_type::ArrayBytes;
-
-type ArrayIndices = Vec<u64>;
+use zarrs_subset::ArrayIndices;
 
 /// A call of an engine.
 #[derive(Drop)]

@@ -74,10 +74,15 @@ impl<S: ReadableStorageTraits, G: ChunkGridTraits, K: ChunkKeyEncodingTraits, C:
     // The bytes that stand at the key of the chunk with these indices.
     fn stored_text(&self, alloc: Global, indices: &[u64]) -> Result<Option<Bytes>, ArrayError>
         requires { MayAskChunk (layout_of G.grid K.key C.meaning self.now) indices.now (store_of S.state self.now) }
-        ensures value { IfOk result (λ text. text ≡ texts (store_of S.state self.now) ((layout_of G.grid K.key C.meaning self.now).key indices.now)) }
-        ensures long { OnOk result (length indices.now ≡ (layout_of G.grid K.key C.meaning self.now).grid.dimensions) }
-        ensures refused { IfErr result (λ e. TextRefused (layout_of G.grid K.key C.meaning self.now) indices.now (store_of S.state self.now) (refusal_of e)) }
-        ensures refusing { (store_of S.state self.now).refuses ((layout_of G.grid K.key C.meaning self.now).key indices.now) ≡ true → IsErr result }
+        ensures value { IfOk result (λ text. text
+            ≡ texts (store_of S.state self.now) ((layout_of G.grid K.key C.meaning self.now).key indices.now)) }
+        ensures long { OnOk result (length indices.now
+            ≡ (layout_of G.grid K.key C.meaning self.now).grid.dimensions) }
+        ensures refused { IfErr result
+            (λ e. TextRefused (layout_of G.grid K.key C.meaning self.now) indices.now (store_of S.state self.now)
+            (refusal_of e)) }
+        ensures refusing { (store_of S.state self.now).refuses
+            ((layout_of G.grid K.key C.meaning self.now).key indices.now) ≡ true → IsErr result }
     {
         if indices.len() != self.parts.grid.dimensionality() {
             return Err(ArrayError::invalid_indices(alloc, indices));
@@ -99,9 +104,14 @@ impl<S: ReadableStorageTraits, G: ChunkGridTraits, K: ChunkKeyEncodingTraits, C:
         indices: &[u64],
     ) -> Result<Option<ArrayBytes<'static>>, ArrayError>
         requires { MayAskChunk (layout_of G.grid K.key C.meaning self.now) indices.now (store_of S.state self.now) }
-        ensures cells { IfOk result (λ found. RetrievesIfExists (layout_of G.grid K.key C.meaning self.now) indices.now (option_map data_of found) (store_of S.state self.now)) }
-        ensures refused { IfErr result (λ e. ReadRefused (layout_of G.grid K.key C.meaning self.now) false indices.now (store_of S.state self.now) (refusal_of e)) }
-        ensures refusing { (store_of S.state self.now).refuses ((layout_of G.grid K.key C.meaning self.now).key indices.now) ≡ true → IsErr result }
+        ensures cells { IfOk result
+            (λ found. RetrievesIfExists (layout_of G.grid K.key C.meaning self.now) indices.now
+            (option_map data_of found) (store_of S.state self.now)) }
+        ensures refused { IfErr result
+            (λ e. ReadRefused (layout_of G.grid K.key C.meaning self.now) false indices.now
+            (store_of S.state self.now) (refusal_of e)) }
+        ensures refusing { (store_of S.state self.now).refuses
+            ((layout_of G.grid K.key C.meaning self.now).key indices.now) ≡ true → IsErr result }
     {
         match self.stored_text(alloc, indices)? {
             Some(text) => {
@@ -124,9 +134,14 @@ impl<S: ReadableStorageTraits, G: ChunkGridTraits, K: ChunkKeyEncodingTraits, C:
         indices: &[u64],
     ) -> Result<ArrayBytes<'static>, ArrayError>
         requires { MayAskChunk (layout_of G.grid K.key C.meaning self.now) indices.now (store_of S.state self.now) }
-        ensures cells { IfOk result (λ made. RetrievesChunk (layout_of G.grid K.key C.meaning self.now) indices.now (data_of made) (store_of S.state self.now)) }
-        ensures refused { IfErr result (λ e. ReadRefused (layout_of G.grid K.key C.meaning self.now) true indices.now (store_of S.state self.now) (refusal_of e)) }
-        ensures refusing { (store_of S.state self.now).refuses ((layout_of G.grid K.key C.meaning self.now).key indices.now) ≡ true → IsErr result }
+        ensures cells { IfOk result
+            (λ made. RetrievesChunk (layout_of G.grid K.key C.meaning self.now) indices.now (data_of made)
+            (store_of S.state self.now)) }
+        ensures refused { IfErr result
+            (λ e. ReadRefused (layout_of G.grid K.key C.meaning self.now) true indices.now (store_of S.state self.now)
+            (refusal_of e)) }
+        ensures refusing { (store_of S.state self.now).refuses
+            ((layout_of G.grid K.key C.meaning self.now).key indices.now) ≡ true → IsErr result }
     {
         match self.stored_text(alloc, indices)? {
             Some(text) => self.parts.decode(alloc, indices, &text),
@@ -150,8 +165,11 @@ impl<S: WritableStorageTraits, G: ChunkGridTraits, K: ChunkKeyEncodingTraits, C:
 
     // Sets the value at one key, or erases the key.
     fn put(&mut self, alloc: Global, key: &StoreKey, text: Option<Vec<u8>>) -> Result<(), StorageError>
-        ensures done { OnOk result (IsPut key.now (option_map (λ v. v.items) text) (store_of S.state self.old) (store_of S.state self.new)) }
-        ensures refused { IfErr result (λ e. Leaves (IsRefusal None (StoreFails (store_of S.state self.old) (store_of S.state self.new)) (refusal_of_storage e)) (store_of S.state self.old) (store_of S.state self.new)) }
+        ensures done { OnOk result
+            (IsPut key.now (option_map (λ v. v.items) text) (store_of S.state self.old) (store_of S.state self.new)) }
+        ensures refused { IfErr result
+            (λ e. Leaves (IsRefusal None (StoreFails (store_of S.state self.old) (store_of S.state self.new))
+            (refusal_of_storage e)) (store_of S.state self.old) (store_of S.state self.new)) }
         ensures parts { KeepsParts self.old self.new }
     {
         match text {
@@ -177,8 +195,13 @@ impl<S: WritableStorageTraits, G: ChunkGridTraits, K: ChunkKeyEncodingTraits, C:
         data: &ArrayBytes<'_>,
         options: &CodecOptions,
     ) -> Result<(), ArrayError>
-        ensures done { OnOk result (StoresChunk (layout_of G.grid K.key C.meaning self.old) (stores_empty_chunks options.now) indices.now (data_of «data».now) (store_of S.state self.old) (store_of S.state self.new)) }
-        ensures refused { IfErr result (λ e. StoreRefused (layout_of G.grid K.key C.meaning self.old) (stores_empty_chunks options.now) indices.now (data_of «data».now) (store_of S.state self.old) (store_of S.state self.new) (refusal_of e)) }
+        ensures done { OnOk result
+            (StoresChunk (layout_of G.grid K.key C.meaning self.old) (stores_empty_chunks options.now) indices.now
+            (data_of «data».now) (store_of S.state self.old) (store_of S.state self.new)) }
+        ensures refused { IfErr result
+            (λ e. StoreRefused (layout_of G.grid K.key C.meaning self.old)
+            (stores_empty_chunks options.now) indices.now (data_of «data».now) (store_of S.state self.old)
+            (store_of S.state self.new) (refusal_of e)) }
         ensures parts { KeepsParts self.old self.new }
     {
         let chunk = self.parts.chunk(alloc, indices)?;
@@ -194,8 +217,12 @@ impl<S: WritableStorageTraits, G: ChunkGridTraits, K: ChunkKeyEncodingTraits, C:
     /// Where the store refuses, and `OutOfMemory`. Nothing is changed then.
     pub fn erase_chunk(&mut self, alloc: Global, indices: &[u64]) -> Result<(), StorageError>
         requires { length indices.now ≡ (layout_of G.grid K.key C.meaning self.old).grid.dimensions }
-        ensures done { OnOk result (ErasesChunk (layout_of G.grid K.key C.meaning self.old) indices.now (store_of S.state self.old) (store_of S.state self.new)) }
-        ensures refused { IfErr result (λ e. EraseRefused (layout_of G.grid K.key C.meaning self.old) indices.now (store_of S.state self.old) (store_of S.state self.new) (refusal_of_storage e)) }
+        ensures done { OnOk result
+            (ErasesChunk (layout_of G.grid K.key C.meaning self.old) indices.now (store_of S.state self.old)
+            (store_of S.state self.new)) }
+        ensures refused { IfErr result
+            (λ e. EraseRefused (layout_of G.grid K.key C.meaning self.old) indices.now (store_of S.state self.old)
+            (store_of S.state self.new) (refusal_of_storage e)) }
         ensures parts { KeepsParts self.old self.new }
     {
         let key = self.parts.chunk_key(alloc, indices)?;
@@ -205,7 +232,9 @@ impl<S: WritableStorageTraits, G: ChunkGridTraits, K: ChunkKeyEncodingTraits, C:
     /// Makes one call, and answers the reply.
     pub(crate) fn answer(&mut self, alloc: Global, call: &Call, options: &CodecOptions) -> Reply
         requires { MayAskChunks (layout_of G.grid K.key C.meaning self.old) (store_of S.state self.old) }
-        ensures step { Step (layout_of G.grid K.key C.meaning self.old) (stores_empty_chunks options.now) call.now result (store_of S.state self.old) (store_of S.state self.new) }
+        ensures step { Step (layout_of G.grid K.key C.meaning self.old)
+            (stores_empty_chunks options.now) call.now result (store_of S.state self.old)
+            (store_of S.state self.new) }
         ensures parts { KeepsParts self.old self.new }
     {
         match call {

@@ -1,7 +1,7 @@
 //! What the calls of an array refuse.
 ghost use Rattle.std.specs.Prelude.{◌≡◌};
 ghost use Rattle.zarrs_engine.specs.declared.error.ArrayError.TheVariants as array;
-ghost use Rattle.zarrs_engine.specs.Errors.{error_of_storage, error_of_codec, error_of_element, unfit};
+ghost use Rattle.zarrs_engine.specs.Errors.{error_of_storage, error_of_codec, error_of_element, error_of_subset, unfit};
 
 use std::alloc::{AllocError, AllocFailed, Global};
 use thiserror::Error;
@@ -11,20 +11,19 @@ use zarrs_data_type::{
     ExpectedOptionalBytesError, ExpectedVariableLengthBytesError,
 };
 use zarrs_storage::StorageError;
-use zarrs_subset::subset::ArraySubset;
-
-type ArrayIndices = Vec<u64>;
-type ArrayShape = Vec<u64>;
+use zarrs_subset::{
+    ArrayIndices, ArrayShape, ArraySubset, ArraySubsetError, IncompatibleDimensionalityError,
+};
 
 /// Why a call of an array was refused.
 #[derive(Debug, Drop, Error)]
 #[non_exhaustive]
 pub enum ArrayError {
     /// A region of another number of dimensions, or with a position that no chunk covers.
-    #[error("array subset is not compatible with array shape {1:?}")]
+    #[error("array subset {0} is not compatible with array shape {1:?}")]
     InvalidArraySubset(ArraySubset, ArrayShape),
     /// A part of a chunk that has another number of dimensions, or passes the chunk.
-    #[error("chunk subset is not compatible with chunk {1:?} with shape {2:?}")]
+    #[error("chunk subset {0} is not compatible with chunk {1:?} with shape {2:?}")]
     InvalidChunkSubset(ArraySubset, ArrayIndices, ArrayShape),
     /// Chunk indices of another length than the array has dimensions, or without a chunk.
     #[error("invalid chunk grid indices: {0:?}")]
@@ -47,9 +46,15 @@ pub enum ArrayError {
     /// Memory was short.
     #[error("out of memory")]
     OutOfMemory,
+    /// Lists that should have one entry for each dimension differ in length.
+    #[error(transparent)]
+    IncompatibleDimensionalityError(IncompatibleDimensionalityError),
     /// A decode target that does not lie in its bytes. No call answers it.
     #[error(transparent)]
     ArrayBytesFixedDisjointViewCreateError(ArrayBytesFixedDisjointViewCreateError),
+    /// No such box. No call answers it.
+    #[error(transparent)]
+    ArraySubsetError(ArraySubsetError),
     /// A decoded chunk of another size. No call answers it.
     #[error("got chunk decoded size {0:?}, expected {1:?}")]
     UnexpectedChunkDecodedSize(usize, usize),
@@ -114,6 +119,25 @@ impl From<ElementError> for ArrayError {
             ElementError::OutOfMemory => ArrayError::OutOfMemory,
             other => ArrayError::ElementError(other),
         }
+    }
+}
+
+impl From<ArraySubsetError> for ArrayError {
+    ghost from_gives = { λ subset e. e ≡ error_of_subset subset };
+
+    fn from(error: ArraySubsetError) -> ArrayError {
+        match error {
+            ArraySubsetError::OutOfMemory => ArrayError::OutOfMemory,
+            other => ArrayError::ArraySubsetError(other),
+        }
+    }
+}
+
+impl From<IncompatibleDimensionalityError> for ArrayError {
+    ghost from_gives = { λ mismatch e. e ≡ array.IncompatibleDimensionalityError mismatch };
+
+    fn from(error: IncompatibleDimensionalityError) -> ArrayError {
+        ArrayError::IncompatibleDimensionalityError(error)
     }
 }
 

@@ -17,3 +17,6 @@ pub use laws::{
     steps_keep_canon, steps_keep_decoding,
 };
 pub use list::replay;
+
+#[cfg(test)]
+mod tests;

@@ -33,12 +33,15 @@ pub fn replay<
     options: &CodecOptions,
 ) -> Result<Vec<Reply>, AllocError>
     requires { MayAskChunks (layout_of G.grid K.key C.meaning engine.old) (store_of S.state engine.old) }
-    ensures run { IfOk result (λ replies. Run (layout_of G.grid K.key C.meaning engine.old) (stores_empty_chunks options.now) calls.now replies.items (store_of S.state engine.old) (store_of S.state engine.new)) }
+    ensures run { IfOk result (λ replies.
+        Run (layout_of G.grid K.key C.meaning engine.old) (stores_empty_chunks options.now) calls.now replies.items
+        (store_of S.state engine.old) (store_of S.state engine.new)) }
     ensures untouched { OnErr result (engine.new ≡ engine.old) }
     ensures parts { KeepsParts engine.old engine.new }
     ensures reach { KeepsReach (store_of S.state engine.old) (store_of S.state engine.new) }
     // Where empty chunks are not kept, the bytes of a canonical store stay a function of its content.
-    ensures canonical { stores_empty_chunks options.now ≡ false → IsCanonical (layout_of G.grid K.key C.meaning engine.old) (texts (store_of S.state engine.old))
+    ensures canonical { stores_empty_chunks options.now ≡ false
+        → IsCanonical (layout_of G.grid K.key C.meaning engine.old) (texts (store_of S.state engine.old))
         → IsCanonical (layout_of G.grid K.key C.meaning engine.old) (texts (store_of S.state engine.new)) }
     ensures decodes { EachDecodes (layout_of G.grid K.key C.meaning engine.old) (store_of S.state engine.old)
         → EachDecodes (layout_of G.grid K.key C.meaning engine.old) (store_of S.state engine.new) }

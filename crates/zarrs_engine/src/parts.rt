@@ -10,7 +10,7 @@ use zarrs_codec::{ChainTraits, CodecError, CodecOptions};
 use zarrs_data_type::{ArrayBytes, DataType, DataTypeFillValueError, FillValue};
 use zarrs_keys::{ChunkKeyEncodingTraits, NodePath, chunk_key};
 use zarrs_storage::{StorageError, StoreKey};
-use zarrs_subset::subset::ArraySubset;
+use zarrs_subset::ArraySubset;
 
 /// Where an array lies, how it is cut into chunks, and what the bytes of its chunks mean.
 #[derive(Drop)]
@@ -56,8 +56,10 @@ impl<G: ChunkGridTraits, K: ChunkKeyEncodingTraits, C: ChainTraits> Parts<G, K, 
     /// How many cells a chunk of this box has, where no more bytes than a `usize` counts hold them.
     fn cell_count(&self, region: &ArraySubset) -> Option<u64>
         ensures some { IfSome result (λ count. count ≡ position_count (box_of region.now).shape) }
-        ensures small { OnSome result (is_too_large (layout_of_parts G.grid K.key C.meaning self.now) (box_of region.now).shape ≡ false) }
-        ensures large { IfNone result (is_too_large (layout_of_parts G.grid K.key C.meaning self.now) (box_of region.now).shape ≡ true) }
+        ensures small { OnSome result
+            (is_too_large (layout_of_parts G.grid K.key C.meaning self.now) (box_of region.now).shape ≡ false) }
+        ensures large { IfNone result
+            (is_too_large (layout_of_parts G.grid K.key C.meaning self.now) (box_of region.now).shape ≡ true) }
     {
         let Ok(count) = region.num_elements() else {
             return None;
@@ -73,13 +75,16 @@ impl<G: ChunkGridTraits, K: ChunkKeyEncodingTraits, C: ChainTraits> Parts<G, K, 
     pub(crate) fn chunk(&self, alloc: Global, indices: &[u64]) -> Result<Chunk, ArrayError>
         ensures region { IfOk result (λ chunk. box_of chunk.region ≡ box_at (G.grid self.now.grid) indices.now) }
         ensures count { IfOk result (λ chunk. chunk.count ≡ position_count (box_of chunk.region).shape) }
-        ensures accepted { OnOk result (box_refusal (layout_of_parts G.grid K.key C.meaning self.now) indices.now ≡ None) }
-        ensures refused { IfErr result (λ e. IsRefusal (box_refusal (layout_of_parts G.grid K.key C.meaning self.now) indices.now) ⊥ (refusal_of e)) }
+        ensures accepted { OnOk result (box_refusal (layout_of_parts G.grid K.key C.meaning self.now) indices.now
+            ≡ None) }
+        ensures refused { IfErr result
+            (λ e. IsRefusal (box_refusal (layout_of_parts G.grid K.key C.meaning self.now) indices.now) ⊥
+            (refusal_of e)) }
     {
         let region = match self.grid.subset(alloc, indices) {
             Ok(Some(region)) => region,
             Ok(None) => return Err(ArrayError::invalid_indices(alloc, indices)),
-            Err(GridError::IncompatibleDimensionality) => {
+            Err(GridError::IncompatibleDimensionality(_)) => {
                 return Err(ArrayError::invalid_indices(alloc, indices));
             }
             Err(GridError::UnequalExtent) => unreachable!(),
@@ -101,9 +106,16 @@ impl<G: ChunkGridTraits, K: ChunkKeyEncodingTraits, C: ChainTraits> Parts<G, K, 
         options: &CodecOptions,
     ) -> Result<Option<Vec<u8>>, ArrayError>
         requires { chunk.now.count ≡ position_count (box_of chunk.now.region).shape }
-        ensures text { IfOk result (λ text. HasText (layout_of_parts G.grid K.key C.meaning self.now) (stores_empty_chunks options.now) (box_of chunk.now.region) (data_of «data».now) (option_map (λ v. v.items) text)) }
-        ensures accepted { OnOk result (data_refusal (layout_of_parts G.grid K.key C.meaning self.now) (stores_empty_chunks options.now) (box_of chunk.now.region).shape (cells (kind self.now.data_type) (data_of «data».now)) ≡ None) }
-        ensures refused { IfErr result (λ e. IsRefusal (data_refusal (layout_of_parts G.grid K.key C.meaning self.now) (stores_empty_chunks options.now) (box_of chunk.now.region).shape (cells (kind self.now.data_type) (data_of «data».now))) ⊥ (refusal_of e)) }
+        ensures text { IfOk result
+            (λ text. HasText (layout_of_parts G.grid K.key C.meaning self.now) (stores_empty_chunks options.now)
+            (box_of chunk.now.region) (data_of «data».now) (option_map (λ v. v.items) text)) }
+        ensures accepted { OnOk result
+            (data_refusal (layout_of_parts G.grid K.key C.meaning self.now) (stores_empty_chunks options.now)
+            (box_of chunk.now.region).shape (cells (kind self.now.data_type) (data_of «data».now)) ≡ None) }
+        ensures refused { IfErr result
+            (λ e. IsRefusal (data_refusal (layout_of_parts G.grid K.key C.meaning self.now)
+            (stores_empty_chunks options.now) (box_of chunk.now.region).shape
+            (cells (kind self.now.data_type) (data_of «data».now))) ⊥ (refusal_of e)) }
     {
         if !data.validate(&self.data_type, chunk.count) {
             return Err(ArrayError::CodecError(CodecError::DoesNotFit));
@@ -125,9 +137,14 @@ impl<G: ChunkGridTraits, K: ChunkKeyEncodingTraits, C: ChainTraits> Parts<G, K, 
         indices: &[u64],
         text: &[u8],
     ) -> Result<ArrayBytes<'static>, ArrayError>
-        ensures cells { IfOk result (λ made. cells (kind self.now.data_type) (data_of made) ≡ decoded_cells (layout_of_parts G.grid K.key C.meaning self.now) (box_at (G.grid self.now.grid) indices.now) text.now) }
-        ensures accepted { OnOk result (read_refusal (layout_of_parts G.grid K.key C.meaning self.now) true indices.now (Some text.now) ≡ None) }
-        ensures refused { IfErr result (λ e. IsRefusal (read_refusal (layout_of_parts G.grid K.key C.meaning self.now) true indices.now (Some text.now)) ⊥ (refusal_of e)) }
+        ensures cells { IfOk result (λ made. cells (kind self.now.data_type) (data_of made)
+            ≡ decoded_cells (layout_of_parts G.grid K.key C.meaning self.now)
+            (box_at (G.grid self.now.grid) indices.now) text.now) }
+        ensures accepted { OnOk result
+            (read_refusal (layout_of_parts G.grid K.key C.meaning self.now) true indices.now (Some text.now) ≡ None) }
+        ensures refused { IfErr result
+            (λ e. IsRefusal (read_refusal (layout_of_parts G.grid K.key C.meaning self.now) true indices.now
+            (Some text.now)) ⊥ (refusal_of e)) }
     {
         let chunk = self.chunk(alloc, indices)?;
         let shape = chunk.region.shape();
@@ -144,9 +161,13 @@ impl<G: ChunkGridTraits, K: ChunkKeyEncodingTraits, C: ChainTraits> Parts<G, K, 
         indices: &[u64],
     ) -> Result<ArrayBytes<'static>, ArrayError>
         ensures cells { IfOk result (λ made. cells (kind self.now.data_type) (data_of made)
-            ≡ Some (replicate (position_count (box_at (G.grid self.now.grid) indices.now).shape) (layout_of_parts G.grid K.key C.meaning self.now).fill)) }
-        ensures accepted { OnOk result (read_refusal (layout_of_parts G.grid K.key C.meaning self.now) true indices.now None ≡ None) }
-        ensures refused { IfErr result (λ e. IsRefusal (read_refusal (layout_of_parts G.grid K.key C.meaning self.now) true indices.now None) ⊥ (refusal_of e)) }
+            ≡ Some (replicate (position_count (box_at (G.grid self.now.grid) indices.now).shape)
+            (layout_of_parts G.grid K.key C.meaning self.now).fill)) }
+        ensures accepted { OnOk result
+            (read_refusal (layout_of_parts G.grid K.key C.meaning self.now) true indices.now None ≡ None) }
+        ensures refused { IfErr result
+            (λ e. IsRefusal (read_refusal (layout_of_parts G.grid K.key C.meaning self.now) true indices.now None) ⊥
+            (refusal_of e)) }
     {
         let chunk = self.chunk(alloc, indices)?;
         match ArrayBytes::new_fill_value(alloc, &self.data_type, chunk.count, &self.fill_value) {

@@ -3,13 +3,13 @@ use Rattle.std.proofs.Common.{◌≡◌, ℕ, zero, suc, ◌+◌, ◌*◌, ◌<�
 use Rattle.std.proofs.lemmas.Option.{slice_get-get_or}
 use Rattle.std.proofs.lemmas.Bool.{and_parts, and_from, ltb-true, leb-true, lt-ltb, le-leb, false≢true, cases_Bool}
 use Rattle.zarrs_subset.specs.Boxes.{position_count, place, in_range, is_within, offset_from}
-use Rattle.zarrs_subset.specs.Cells.{cell_at, PartPlaced}
-use Rattle.zarrs_subset.specs.Regions.{Box, IsLong, Holds, InBox, place_in, cell_in, TakesPart}
+use Rattle.zarrs_subset.specs.Cells.{cell_at}
+use Rattle.zarrs_subset.specs.Regions.{Box, IsLong, Holds, InBox, place_in}
 use Rattle.zarrs_subset.proofs.Kernel.{get_or-part, place_below}
 use Rattle.zarrs_subset.proofs.Positions.{offset_from-in}
 
 -- equal cells of one byte are equal bytes
-byte_of : (a b : List ℕ) (j k : ℕ) → j < length a → k < length b → cell_at 1 a j ≡ cell_at 1 b k → slice_get a j ≡ slice_get b k
+pub byte_of : (a b : List ℕ) (j k : ℕ) → j < length a → k < length b → cell_at 1 a j ≡ cell_at 1 b k → slice_get a j ≡ slice_get b k
 byte_of a b j k h i e =
     let first = get_or-part (j * 1) (j * 1 + 1) 0 a (omega arith) in
     let second = get_or-part (k * 1) (k * 1 + 1) 0 b (omega arith) in
@@ -22,19 +22,6 @@ byte_of a b j k h i e =
 -- a place is below the number of positions
 pub place_in_below : (box : Box) (position : List ℕ) → IsLong box → Holds box position → place_in box position < position_count box.shape
 place_in_below box position long holds = place_below box.shape (offset_from box.start position) (offset_from-in box.start box.shape position long holds)
-
-pub takes_part : (box other : Box) (part old new : List ℕ) → IsLong box → IsLong other
-    → length part ≡ position_count other.shape → length old ≡ position_count box.shape → length new ≡ length old
-    → PartPlaced 1 box.start box.shape other.start other.shape part old new → TakesPart box other part old new
-takes_part box other part old new long other_long part_len old_len same placed = λ position holds.
-    let at = placed position holds in
-    let below = place_in_below box position long holds in
-    elim (cases_Bool (is_within other.start other.shape position)) [
-      | inl hit ↦
-          let within = place_in_below other position other_long hit in
-          rw hit (byte_of new part (place_in box position) (place_in other position) (omega arith) (omega arith) (rw hit at at))
-      | inr miss ↦ rw miss (byte_of new old (place_in box position) (place_in box position) (omega arith) (omega arith) (rw miss at at))
-    ]
 
 in_box_along : (start shape position : List ℕ) → length start ≡ length shape → is_within start shape position ≡ true
     → (length position ≡ length start)

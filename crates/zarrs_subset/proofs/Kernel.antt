@@ -284,7 +284,7 @@ length_part w b xs h = search (rules, places)
 
 -- ---- from bytes to cells
 
-cell_ends : (size k c len : ℕ) → k < c → len ≡ c * size → k * size + size ≤ len
+pub cell_ends : (size k c len : ℕ) → k < c → len ≡ c * size → k * size + size ≤ len
 cell_ends size k c len below is = omega (arith, block_order k c size below)
 
 pub cell_at-same : (size a b : ℕ) (xs ys : List ℕ) → a * size + size ≤ length xs → b * size + size ≤ length ys

@@ -3,9 +3,7 @@ use Rattle.std.proofs.Common.{◌≡◌, ℕ, zero, suc, ◌+◌, ◌-◌, ◌^�
 use Rattle.std.proofs.lemmas.Bool.{cases_lt, cases_Bool, and_parts, leb-true, false≢true}
 use Rattle.std.proofs.lemmas.Bool.Decides.{nat_tests}
 use Rattle.std.proofs.lemmas.List.{get_or_past}
-use Rattle.zarrs_subset.specs.Boxes.{InShape, BoxFits, in_range, is_within, moved, offset_from, zip_with, ends, EndsFit, overlap_start, overlap_extents, offset_by}
-use Rattle.zarrs_subset.specs.Cells.{CellsCopied, PartPlaced}
-use Rattle.zarrs_subset.proofs.Positions.{offset_from-in}
+use Rattle.zarrs_subset.specs.Boxes.{InShape, in_range, is_within, zip_with, ends, EndsFit, overlap_start, overlap_extents, offset_by}
 
 pub length-zip_with : (f : ℕ → ℕ → ℕ) (xs ys : List ℕ) → length xs ≡ length ys → length (zip_with f xs ys) ≡ length xs
 length-zip_with f [] [] h = refl
@@ -99,7 +97,7 @@ in_box-overlap (s ∷ S) (x ∷ X) (t ∷ T) (y ∷ Y) (n ∷ p) h i j =
     rw (in_range-overlap s x t y n, in_box-overlap S X T Y p (omega arith) (omega arith) (omega arith))
     (and_swap (in_range s x n) (in_range t y n) (is_within S X p) (is_within T Y p))
 
--- ---- empty overlaps
+-- ---- empty boxes
 
 -- no position lies in a box with an extent 0
 pub in_box-empty : (start extents p : List ℕ) (k : ℕ) → length start ≡ length extents → k < length extents → slice_index extents k ≡ 0 → is_within start extents p ≡ false
@@ -119,89 +117,6 @@ in_box-empty (s ∷ start) (e ∷ extents) (i ∷ p) (suc k) l below zero_there 
 -- each extent is above 0
 abbrev pub AllSome : List ℕ → Type 0
 AllSome xs = (k : ℕ) → k < length xs → slice_index xs k ≡ 0 → ⊥
-
--- ---- where the overlap lies in each box
-
--- the corner of the overlap, as the first box sees it
-pub BoxFits-overlap_first : (S X T Y : List ℕ) → length S ≡ length X → length T ≡ length Y → length S ≡ length T → AllSome (overlap_extents S X T Y)
-    → BoxFits (zip_with (λ c s. c - s) (overlap_start S T) S) (overlap_extents S X T Y) X
-BoxFits-overlap_first [] [] T Y h i j some = tt
-BoxFits-overlap_first [] (x ∷ X) T Y h i j some = absurd (omega arith)
-BoxFits-overlap_first (s ∷ S) [] T Y h i j some = absurd (omega arith)
-BoxFits-overlap_first (s ∷ S) (x ∷ X) [] Y h i j some = absurd (omega arith)
-BoxFits-overlap_first (s ∷ S) (x ∷ X) (t ∷ T) [] h i j some = absurd (omega arith)
-BoxFits-overlap_first (s ∷ S) (x ∷ X) (t ∷ T) (y ∷ Y) h i j some =
-    let here : min (s + x) (t + y) - max s t ≡ 0 → ⊥ = some zero (omega arith) in
-    (omega arith, BoxFits-overlap_first S X T Y (omega arith) (omega arith) (omega arith) (λ k below. some (suc k) (omega arith)))
-
--- and as the second one does
-pub BoxFits-overlap_second : (S X T Y : List ℕ) → length S ≡ length X → length T ≡ length Y → length S ≡ length T → AllSome (overlap_extents S X T Y)
-    → BoxFits (zip_with (λ c s. c - s) (overlap_start S T) T) (overlap_extents S X T Y) Y
-BoxFits-overlap_second [] X [] [] h i j some = tt
-BoxFits-overlap_second [] X [] (y ∷ Y) h i j some = absurd (omega arith)
-BoxFits-overlap_second [] X (t ∷ T) Y h i j some = absurd (omega arith)
-BoxFits-overlap_second (s ∷ S) [] T Y h i j some = absurd (omega arith)
-BoxFits-overlap_second (s ∷ S) (x ∷ X) [] Y h i j some = absurd (omega arith)
-BoxFits-overlap_second (s ∷ S) (x ∷ X) (t ∷ T) [] h i j some = absurd (omega arith)
-BoxFits-overlap_second (s ∷ S) (x ∷ X) (t ∷ T) (y ∷ Y) h i j some =
-    let here : min (s + x) (t + y) - max s t ≡ 0 → ⊥ = some zero (omega arith) in
-    (omega arith, BoxFits-overlap_second S X T Y (omega arith) (omega arith) (omega arith) (λ k below. some (suc k) (omega arith)))
-
-in_range-shifted : (s t e i : ℕ) → s ≤ i → in_range (max s t - s) e (i - s) ≡ in_range (max s t) e i
-in_range-shifted s t e i h = grind (arith, nat_tests)
-
-low_end : (s x i : ℕ) → in_range s x i ≡ true → s ≤ i
-low_end s x i h = leb-true s i (and_parts (nat_le s i) (nat_lt i (s + x)) h).0
-
-pub in_box-shifted : (S X T E p : List ℕ) → length S ≡ length X → length S ≡ length T → length S ≡ length E → is_within S X p ≡ true
-    → is_within (zip_with (λ c s. c - s) (overlap_start S T) S) E (offset_from S p) ≡ is_within (overlap_start S T) E p
-in_box-shifted [] X T E [] h j l inside = refl
-in_box-shifted [] X T E (i ∷ p) h j l inside = absurd (false≢true inside)
-in_box-shifted (s ∷ S) [] T E p h j l inside = absurd (omega arith)
-in_box-shifted (s ∷ S) (x ∷ X) [] E p h j l inside = absurd (omega arith)
-in_box-shifted (s ∷ S) (x ∷ X) (t ∷ T) [] p h j l inside = absurd (omega arith)
-in_box-shifted (s ∷ S) (x ∷ X) (t ∷ T) (e ∷ E) [] h j l inside = absurd (false≢true inside)
-in_box-shifted (s ∷ S) (x ∷ X) (t ∷ T) (e ∷ E) (i ∷ p) h j l inside =
-    let parts = and_parts (in_range s x i) (is_within S X p) inside in
-    rw (in_range-shifted s t e i (low_end s x i parts.0), in_box-shifted S X T E p (omega arith) (omega arith) (omega arith) parts.1) refl
-
-pub moved_to_part : (S X T Y p : List ℕ) → length S ≡ length T → is_within S X p ≡ true → is_within T Y p ≡ true
-    → moved (zip_with (λ c s. c - s) (overlap_start S T) S) (zip_with (λ c s. c - s) (overlap_start S T) T) (offset_from S p) ≡ offset_from T p
-moved_to_part [] X [] Y p j inS inT = refl
-moved_to_part [] X (t ∷ T) Y p j inS inT = absurd (omega arith)
-moved_to_part (s ∷ S) X [] Y p j inS inT = absurd (omega arith)
-moved_to_part (s ∷ S) [] (t ∷ T) Y p j inS inT = absurd (false≢true inS)
-moved_to_part (s ∷ S) (x ∷ X) (t ∷ T) [] p j inS inT = absurd (false≢true inT)
-moved_to_part (s ∷ S) (x ∷ X) (t ∷ T) (y ∷ Y) [] j inS inT = absurd (false≢true inS)
-moved_to_part (s ∷ S) (x ∷ X) (t ∷ T) (y ∷ Y) (i ∷ p) j inS inT =
-    let first = and_parts (in_range s x i) (is_within S X p) inS in
-    let second = and_parts (in_range t y i) (is_within T Y p) inT in
-    let low = low_end s x i first.0 in
-    let low' = low_end t y i second.0 in
-    let here : (max s t - t) + ((i - s) - (max s t - s)) ≡ i - t = omega arith in
-    rw (here, moved_to_part S X T Y p (omega arith) first.1 second.1) refl
-
--- ---- a part in its place
-
-pub PartPlaced-from : (size : ℕ) (S X T Y part old new : List ℕ) → length S ≡ length X → length T ≡ length Y → length S ≡ length T
-    → CellsCopied size Y (zip_with (λ c s. c - s) (overlap_start S T) T) X (zip_with (λ c s. c - s) (overlap_start S T) S) (overlap_extents S X T Y) part old new
-    → PartPlaced size S X T Y part old new
-PartPlaced-from size S X T Y part old new h i j copied = λ p inside.
-    let at = copied (offset_from S p) (offset_from-in S X p h inside) in
-    let test = in_box-shifted S X T (overlap_extents S X T Y) p h j (sym (length-overlap_extents S X T Y h i j)) inside
-    ∙ in_box-overlap S X T Y p h i j ∙ ap (λ b. b && is_within T Y p) inside in
-    elim (cases_Bool (is_within T Y p)) [
-      | inl hit ↦ rw hit (rw (test, hit, moved_to_part S X T Y p j inside hit) at at)
-      | inr miss ↦ rw miss (rw (test, miss) at at)
-    ]
-
-pub PartPlaced-none : (size : ℕ) (S X T Y part old : List ℕ) → length S ≡ length X → length T ≡ length Y → length S ≡ length T
-    → SomeIndex (overlap_extents S X T Y) (λ k. slice_index (overlap_extents S X T Y) k ≡ 0)
-    → PartPlaced size S X T Y part old old
-PartPlaced-none size S X T Y part old h i j empty = λ p inside.
-    let none = in_box-empty (overlap_start S T) (overlap_extents S X T Y) p empty.0 (length-zip_with (λ s t. max s t) S T j ∙ sym (length-overlap_extents S X T Y h i j)) empty.1 empty.2 in
-    let miss : is_within T Y p ≡ false = ap (λ b. b && is_within T Y p) (sym inside) ∙ sym (in_box-overlap S X T Y p h i j) ∙ none in
-    rw miss refl
 
 -- a box that is seen from another corner ends within u64
 pub EndsFit-shifted : (S X O : List ℕ) → EndsFit S X → EndsFit (zip_with (λ s t. s - t) S O) X

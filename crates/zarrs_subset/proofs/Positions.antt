@@ -20,7 +20,7 @@ unravel_in (n ∷ shape) k h =
     let some = count_some n shape k h in
     (div_below k (position_count shape) n some h, unravel_in shape (k % position_count shape) (mod_below k (position_count shape) some))
 
--- L8: the row-major number of the answer is the index
+-- the row-major number of the position of that number
 pub place-unravel : (shape : List ℕ) (k : ℕ) → k < position_count shape → place shape (unravel shape k) ≡ k
 place-unravel [] k h = omega arith
 place-unravel (n ∷ shape) k h =

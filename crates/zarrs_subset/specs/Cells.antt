@@ -17,6 +17,16 @@ BoxCopied size source origin target start extents from old new =
 abbrev pub cell_at : ℕ → List ℕ → ℕ → List ℕ
 cell_at size bytes k = slice_range bytes (k * size) (k * size + size)
 
+-- `new` is `old`, over the box of `start` and `shape`, but for the positions of another box, which have the bytes of `part`:
+-- byte by byte
+abbrev pub BytesPlaced : ℕ → List ℕ → List ℕ → List ℕ → List ℕ → List ℕ → List ℕ → List ℕ → Type 0
+BytesPlaced size start shape other_start other_shape part old new =
+    (p : List ℕ) (k : ℕ) → is_within start shape p ≡ true → k < size
+    → slice_index new (place shape (offset_from start p) * size + k)
+    ≡ (if is_within other_start other_shape p
+    then slice_index part (place other_shape (offset_from other_start p) * size + k)
+    else slice_index old (place shape (offset_from start p) * size + k))
+
 -- the first `count` cells of an array
 abbrev pub cells : ℕ → ℕ → List ℕ → List (List ℕ)
 cells size count bytes = map (cell_at size bytes) (range_with_len 0 count)
@@ -33,12 +43,3 @@ CellsCopied size source origin target start extents from old new =
 -- the cell at the position p of an array over the box of `start` and `extents`
 abbrev pub cell_of : ℕ → List ℕ → List ℕ → List ℕ → List ℕ → List ℕ
 cell_of size start extents bytes p = cell_at size bytes (place extents (offset_from start p))
-
--- `new`, an array over a box, is `old`, but for the positions that a part's box has, which have the part's cells
-abbrev pub PartPlaced : ℕ → List ℕ → List ℕ → List ℕ → List ℕ → List ℕ → List ℕ → List ℕ → Type 0
-PartPlaced size start extents part_start part_extents part old new =
-    (p : List ℕ) → is_within start extents p ≡ true
-    → cell_of size start extents new p
-    ≡ (if is_within part_start part_extents p
-    then cell_of size part_start part_extents part p
-    else cell_of size start extents old p)

@@ -50,7 +50,7 @@ impl ArraySubset {
         ensures start { (box_of result).start ≡ start.items }
         ensures shape { (box_of result).shape ≡ shape.items }
     {
-        ArraySubset { start, shape }
+        Self { start, shape }
     }
 
     /// The box of this start and this shape.
@@ -119,21 +119,21 @@ impl ArraySubset {
         ensures count { result ≡ length (box_of self.now).start }
         ensures is_box { IsBox (box_of self.now) }
     {
-        self.start.len()
+        self.shape.len()
     }
 
     /// The first index of each dimension.
     pub fn start(&self) -> &[u64]
         ensures { result.now ≡ (box_of self.now).start }
     {
-        &self.start
+        self.start.as_slice()
     }
 
     /// The extent of each dimension.
     pub fn shape(&self) -> &[u64]
         ensures { result.now ≡ (box_of self.now).shape }
     {
-        &self.shape
+        self.shape.as_slice()
     }
 
     /// The index after the last one of each dimension.
@@ -198,8 +198,8 @@ impl ArraySubset {
         ensures refused { IfErr result (RefusesLength (length (box_of other.now).start) (length (box_of self.now).start)) }
     {
         self.check_length(other.start.len())?;
-        let own_end = ends_of(alloc, &self.start, &self.shape)?;
-        let other_end = ends_of(alloc, &other.start, &other.shape)?;
+        let own_end = self.end_exc(alloc)?;
+        let other_end = other.end_exc(alloc)?;
         let start = later(alloc, &self.start, &other.start)?;
         let end = earlier(alloc, &own_end, &other_end)?;
         let shape = distances(alloc, &end, &start)?;
@@ -241,7 +241,7 @@ impl ArraySubset {
         ensures refused { IfErr result (RefusesLength (length end.now) (length (box_of self.now).start)) }
     {
         self.check_length(end.len())?;
-        let own_end = ends_of(alloc, &self.start, &self.shape)?;
+        let own_end = self.end_exc(alloc)?;
         let start = earlier(alloc, &self.start, end)?;
         let cut_end = earlier(alloc, &own_end, end)?;
         let shape = distances(alloc, &cut_end, &start)?;

@@ -1,7 +1,13 @@
 //! Each public call once, on plain values.
 
+ghost use Rattle.std.specs.Prelude.{◌≡◌, map, IfOk};
+ghost use Rattle.zarrs_subset.specs.Regions.{box_of, positions};
+
 use crate::{ArraySubset, ArraySubsetError, IncompatibleDimensionalityError, SizeOverflow};
+use crate::{ArrayIndices, ArrayIndicesTinyVec, ArraySubsetTraits};
 use crate::{copy_box, element_count, place_part, ravel_indices, unravel_index};
+use std::alloc::{AllocError, Global};
+use std::ops::Range;
 use std::test::Fail;
 
 fn subset(rt: &HostRuntime, start: &[u64], shape: &[u64]) -> Result<ArraySubset, Fail> {
@@ -192,5 +198,126 @@ fn a_box_goes_into_a_larger_array(rt: HostRuntime) -> Result<(), Fail> {
         1,
     );
     assert_eq!(rt; target.as_slice(), [9, 9, 9, 9, 5, 6, 9, 9, 9].as_slice());
+    Ok(())
+}
+
+#[test]
+fn a_part_goes_to_its_places(rt: HostRuntime) -> Result<(), Fail> {
+    let mut target = [9u8; 9];
+    let whole = subset(&rt, &[0, 0], &[3, 3])?;
+    let part = subset(&rt, &[1, 1], &[1, 2])?;
+    place_part(&whole, &mut target, &part, &[5, 6], 1);
+    assert_eq!(rt; target.as_slice(), [9, 9, 9, 9, 5, 6, 9, 9, 9].as_slice());
+    Ok(())
+}
+
+#[test]
+fn a_part_sticks_out_of_the_box(rt: HostRuntime) -> Result<(), Fail> {
+    let mut target = [0u8; 8];
+    let region = subset(&rt, &[3, 4], &[2, 2])?;
+    let chunk = subset(&rt, &[4, 2], &[2, 3])?;
+    place_part(&region, &mut target, &chunk, &[1, 1, 2, 2, 3, 3, 4, 4, 5, 5, 6, 6], 2);
+    assert_eq!(rt; target.as_slice(), [0, 0, 0, 0, 3, 3, 0, 0].as_slice());
+    let apart = subset(&rt, &[5, 2], &[1, 1])?;
+    place_part(&region, &mut target, &apart, &[7, 7], 2);
+    assert_eq!(rt; target.as_slice(), [0, 0, 0, 0, 3, 3, 0, 0].as_slice());
+    Ok(())
+}
+
+#[test]
+fn a_part_with_no_dimension_is_one_cell(rt: HostRuntime) -> Result<(), Fail> {
+    let point = subset(&rt, &[], &[])?;
+    let mut target = [0u8; 2];
+    place_part(&point, &mut target, &point, &[1, 2], 2);
+    assert_eq!(rt; target.as_slice(), [1, 2].as_slice());
+    Ok(())
+}
+
+#[test]
+fn positions_come_in_row_major_order(rt: HostRuntime) -> Result<(), Fail> {
+    let made = subset(&rt, &[1, 5], &[2, 2])?;
+    let mut walk = made.indices(rt.alloc());
+    for expected in [[1, 5], [1, 6], [2, 5], [2, 6]] {
+        let position = walk.next().ok_or("a position")??;
+        assert_eq!(rt; position.as_slice(), expected.as_slice());
+    }
+    assert!(rt; walk.next().is_none());
+    assert!(rt; walk.next().is_none());
+    Ok(())
+}
+
+#[test]
+fn positions_of_empty_and_pointlike_boxes(rt: HostRuntime) -> Result<(), Fail> {
+    let empty = subset(&rt, &[1, 5], &[2, 0])?;
+    assert!(rt; empty.indices(rt.alloc()).next().is_none());
+    let point = subset(&rt, &[], &[])?;
+    let mut walk = point.indices(rt.alloc());
+    let position = walk.next().ok_or("a position")??;
+    assert!(rt; position.is_empty());
+    assert!(rt; walk.next().is_none());
+    Ok(())
+}
+
+#[test]
+fn positions_of_boxes_past_the_numbers(rt: HostRuntime) -> Result<(), Fail> {
+    let huge = subset(&rt, &[0, 7], &[4294967296, 4294967297])?;
+    let mut walk = huge.indices(rt.alloc());
+    let first = walk.next().ok_or("a position")??;
+    assert_eq!(rt; first.as_slice(), [0, 7].as_slice());
+    let second = walk.next().ok_or("a position")??;
+    assert_eq!(rt; second.as_slice(), [0, 8].as_slice());
+    Ok(())
+}
+
+fn corners<B: ArraySubsetTraits>(
+    rt: &HostRuntime,
+    region: &B,
+) -> Result<(usize, ArrayIndices, ArrayIndices, ArrayIndices), Fail> {
+    let start = region.start(rt.alloc())?;
+    let shape = region.shape(rt.alloc())?;
+    let end = region.end_exc(rt.alloc())?;
+    Ok((region.dimensionality(), start, shape, end))
+}
+
+fn check_corners<B: ArraySubsetTraits>(rt: &HostRuntime, region: &B) -> Result<(), Fail> {
+    let (dimensionality, start, shape, end) = corners(rt, region)?;
+    assert_eq!(*rt; dimensionality, 2);
+    assert_eq!(*rt; start.as_slice(), [1, 7].as_slice());
+    assert_eq!(*rt; shape.as_slice(), [3, 0].as_slice());
+    assert_eq!(*rt; end.as_slice(), [4, 7].as_slice());
+    assert_eq!(*rt; region.num_elements(), Ok(0));
+    Ok(())
+}
+
+#[test]
+fn subsets_and_ranges_stand_for_boxes(rt: HostRuntime) -> Result<(), Fail> {
+    check_corners(&rt, &subset(&rt, &[1, 7], &[3, 0])?)?;
+    check_corners(&rt, &[1..4, 7..2])?;
+    let ranges: &[Range<u64>] = &[1..4, 7..2];
+    check_corners(&rt, &ranges)?;
+    let ranges = vec![in rt.alloc(); 1..4, 7..2]?;
+    check_corners(&rt, &ranges)
+}
+
+// All positions of the box, in a list.
+fn all_positions(
+    alloc: Global,
+    subset: &ArraySubset,
+) -> Result<Vec<ArrayIndicesTinyVec>, AllocError>
+    ensures { IfOk result (λ found. map (λ position. position.items) found.items ≡ positions (box_of subset.now)) }
+{
+    let mut found = Vec::new(alloc);
+    for position in subset.indices(alloc) {
+        found.push(position?)?;
+    }
+    Ok(found)
+}
+
+#[test]
+fn a_loop_over_the_positions_meets_all(rt: HostRuntime) -> Result<(), Fail> {
+    let made = subset(&rt, &[1, 5, 0], &[2, 3, 4])?;
+    let found = all_positions(rt.alloc(), &made)?;
+    assert_eq!(rt; found.len(), 24);
+    assert_eq!(rt; found[23].as_slice(), [2, 7, 3].as_slice());
     Ok(())
 }

@@ -6,4 +6,4 @@ pub returns-in-Err-IncompatibleDimensionality-clause-refused : goal.returns-in-E
 returns-in-Err-IncompatibleDimensionality-clause-refused g c =
     let layout = layout_of_parts g.G.ChunkGridTraits.grid g.K.ChunkKeyEncodingTraits.key g.C.ChainTraits.meaning c.args.self.now in
     let wrong = rw c.in-Err-IncompatibleDimensionality.field-0-is at c.in-Err-IncompatibleDimensionality.ensures.refused in
-    refuses_chunk layout c.args.indices.now _ (wrong_length layout c.args.indices.now wrong) c.invalid_indices-in-Err-IncompatibleDimensionality.ensures
+    refuses_chunk layout c.args.indices.now _ (wrong_length layout c.args.indices.now wrong.0) c.invalid_indices-in-Err-IncompatibleDimensionality.ensures

@@ -1,0 +1,151 @@
+-- Lemmas of a walk through the positions of a box.
+use Rattle.std.proofs.Common.{◌≡◌, ℕ, zero, suc, ◌+◌, ◌-◌, ◌*◌, ◌<◌, ◌≤◌, true, false, nat_lt, nat_le, List, [], ◌∷◌, ◌++◌, length, drop, take, slice_index, Bool, is_none, if◌then◌else◌, Option, MatchOption, Some, None, add-one, refl, sym, ap, ◌∙◌, arith, SomeIndex}
+use Rattle.std.proofs.Math.Nat.{add-mul}
+use Rattle.std.proofs.lemmas.List.{drop_all, drop_more}
+use Rattle.std.proofs.lemmas.Bool.{and_parts, and_from, ltb-true, leb-true, lt-ltb, le-leb, false≢true}
+use Rattle.std.proofs.lemmas.Option.{get_or_from_slice_get}
+use Rattle.smallvec.specs.SmallVec.{SmallVec}
+use Rattle.zarrs_subset.specs.Boxes.{position_count, place, in_range, is_within, positions_from, offset_from}
+use Rattle.zarrs_subset.specs.Regions.{Box, IsLong, Holds, positions, place_in}
+use Rattle.zarrs_subset.specs.Steps.{positions_since, next_of, IsLastIn, IsFreeIn}
+use Rattle.zarrs_subset.proofs.Bytes.{place_in_below}
+use Rattle.zarrs_subset.proofs.Counts.{count_zero, count_some}
+use Rattle.zarrs_subset.proofs.Overlaps.{AllSome}
+use Rattle.zarrs_subset.proofs.Positions.{length-positions, positions_all}
+
+-- ---- the first position
+
+-- the start lies in a box that holds a position
+start_within : (S X p : List ℕ) → length S ≡ length X → is_within S X p ≡ true → is_within S X S ≡ true
+start_within [] X p l h = refl
+start_within (s ∷ S) [] p l h = absurd (omega arith)
+start_within (s ∷ S) (x ∷ X) [] l h = absurd (false≢true h)
+start_within (s ∷ S) (x ∷ X) (i ∷ p) l h =
+    let parts = and_parts (in_range s x i) (is_within S X p) h in
+    let tests = and_parts (nat_le s i) (nat_lt i (s + x)) parts.0 in
+    let low : s ≤ i = leb-true s i tests.0 in
+    let high : i < s + x = ltb-true i (s + x) tests.1 in
+    and_from (in_range s x s) (is_within S X S)
+    (and_from (nat_le s s) (nat_lt s (s + x)) (le-leb s s (omega arith)) (lt-ltb s (s + x) (omega arith)))
+    (start_within S X p (omega arith) parts.1)
+
+-- and in one with no extent 0
+pub start_within_some : (S X : List ℕ) → length S ≡ length X → AllSome X → is_within S X S ≡ true
+start_within_some [] X l some = refl
+start_within_some (s ∷ S) [] l some = absurd (omega arith)
+start_within_some (s ∷ S) (x ∷ X) l some =
+    let here : x ≡ 0 → ⊥ = some zero (omega arith) in
+    and_from (in_range s x s) (is_within S X S)
+    (and_from (nat_le s s) (nat_lt s (s + x)) (le-leb s s (omega arith)) (lt-ltb s (s + x) (omega arith)))
+    (start_within_some S X (omega arith) (λ k below. some (suc k) (omega arith)))
+
+pub place-start : (S X : List ℕ) → length S ≡ length X → place X (offset_from S S) ≡ 0
+place-start [] [] l = refl
+place-start [] (x ∷ X) l = absurd (omega arith)
+place-start (s ∷ S) [] l = absurd (omega arith)
+place-start (s ∷ S) (x ∷ X) l =
+    let none : s - s ≡ 0 = omega arith in
+    rw none (omega (arith, place-start S X (omega arith)))
+
+-- a box with an extent 0 has no position, and another one has some
+pub positions-empty : (box : Box) → IsLong box → SomeIndex box.shape (λ k. slice_index box.shape k ≡ 0) → positions box ≡ []
+positions-empty box long found =
+    none (positions box) (length-positions box.start box.shape long ∙ count_zero box.shape found.0 found.1 found.2)
+  where
+    none : (xs : List (List ℕ)) → length xs ≡ 0 → xs ≡ []
+    none [] h = refl
+    none (x ∷ xs) h = absurd (omega arith)
+
+pub length-positions-some : (box : Box) → IsLong box → AllSome box.shape → 0 < length (positions box)
+length-positions-some box long some = omega (arith, length-positions box.start box.shape long, count_some box.shape some)
+
+-- ---- the next position
+
+-- a position with the last index everywhere is the last one
+place-last : (S X p : List ℕ) → length S ≡ length X → is_within S X p ≡ true
+    → ((k : ℕ) → k < length S → slice_index p k + 1 ≡ slice_index S k + slice_index X k)
+    → place X (offset_from S p) + 1 ≡ position_count X
+place-last [] [] p l h last = refl
+place-last [] (x ∷ X) p l h last = absurd (omega arith)
+place-last (s ∷ S) [] p l h last = absurd (omega arith)
+place-last (s ∷ S) (x ∷ X) [] l h last = absurd (false≢true h)
+place-last (s ∷ S) (x ∷ X) (i ∷ p) l h last =
+    let parts = and_parts (in_range s x i) (is_within S X p) h in
+    let low : s ≤ i = leb-true s i (and_parts (nat_le s i) (nat_lt i (s + x)) parts.0).0 in
+    let here : i + 1 ≡ s + x = last zero (omega arith) in
+    let extent : (i - s) + 1 ≡ x = omega arith in
+    let rest = place-last S X p (omega arith) parts.1 (λ k below. last (suc k) (omega arith)) in
+    omega (arith, rest, add-mul (i - s) 1 (position_count X), ap (λ v. v * position_count X) extent)
+
+pub place_in-last : (box : Box) (p : List ℕ) → IsLong box → Holds box p → IsLastIn box p → place_in box p + 1 ≡ position_count box.shape
+place_in-last box p long holds last = place-last box.start box.shape p long holds last
+
+-- the same, in the form that computes
+abbrev next_at : List ℕ → List ℕ → ℕ → List ℕ
+next_at S p a = take a p ++ (slice_index p a + 1) ∷ drop (suc a) S
+
+next_of-at : (S p : List ℕ) (a : ℕ) → next_of S p a ≡ next_at S p a
+next_of-at S p a = ap (λ k. take a p ++ (slice_index p a + 1) ∷ drop k S) (add-one a)
+
+next_within : (S X p : List ℕ) (a : ℕ) → length S ≡ length X → is_within S X p ≡ true → a < length S
+    → slice_index p a + 1 < slice_index S a + slice_index X a → is_within S X (next_at S p a) ≡ true
+next_within [] X p a l h below free = absurd (omega arith)
+next_within (s ∷ S) [] p a l h below free = absurd (omega arith)
+next_within (s ∷ S) (x ∷ X) [] a l h below free = absurd (false≢true h)
+next_within (s ∷ S) (x ∷ X) (i ∷ p) zero l h below free =
+    let parts = and_parts (in_range s x i) (is_within S X p) h in
+    let low : s ≤ i = leb-true s i (and_parts (nat_le s i) (nat_lt i (s + x)) parts.0).0 in
+    let high : i + 1 < s + x = free in
+    and_from (in_range s x (i + 1)) (is_within S X S)
+    (and_from (nat_le s (i + 1)) (nat_lt (i + 1) (s + x)) (le-leb s (i + 1) (omega arith)) (lt-ltb (i + 1) (s + x) high))
+    (start_within S X p (omega arith) parts.1)
+next_within (s ∷ S) (x ∷ X) (i ∷ p) (suc a) l h below free =
+    let parts = and_parts (in_range s x i) (is_within S X p) h in
+    and_from (in_range s x i) (is_within S X (next_at S p a)) parts.0
+    (next_within S X p a (omega arith) parts.1 (omega arith) free)
+
+place-next : (S X p : List ℕ) (a : ℕ) → length S ≡ length X → is_within S X p ≡ true → a < length S
+    → ((k : ℕ) → a < k → k < length S → slice_index p k + 1 ≡ slice_index S k + slice_index X k)
+    → place X (offset_from S (next_at S p a)) ≡ place X (offset_from S p) + 1
+place-next [] X p a l h below later = absurd (omega arith)
+place-next (s ∷ S) [] p a l h below later = absurd (omega arith)
+place-next (s ∷ S) (x ∷ X) [] a l h below later = absurd (false≢true h)
+place-next (s ∷ S) (x ∷ X) (i ∷ p) zero l h below later =
+    let parts = and_parts (in_range s x i) (is_within S X p) h in
+    let low : s ≤ i = leb-true s i (and_parts (nat_le s i) (nat_lt i (s + x)) parts.0).0 in
+    let step : (i + 1) - s ≡ (i - s) + 1 = omega arith in
+    let rest = place-last S X p (omega arith) parts.1 (λ k within. later (suc k) (omega arith) (omega arith)) in
+    let first = place-start S X (omega arith) in
+    omega (arith, rest, first, add-mul (i - s) 1 (position_count X), ap (λ v. v * position_count X) step)
+place-next (s ∷ S) (x ∷ X) (i ∷ p) (suc a) l h below later =
+    let parts = and_parts (in_range s x i) (is_within S X p) h in
+    let rest = place-next S X p a (omega arith) parts.1 (omega arith) (λ k past within. later (suc k) (omega arith) (omega arith)) in
+    omega (arith, rest)
+
+pub holds-next : (box : Box) (p : List ℕ) (a : ℕ) → IsLong box → Holds box p → IsFreeIn box p a → Holds box (next_of box.start p a)
+holds-next box p a long holds free = rw (next_of-at box.start p a) (next_within box.start box.shape p a long holds free.inside free.free)
+
+pub place_in-next : (box : Box) (p : List ℕ) (a : ℕ) → IsLong box → Holds box p → IsFreeIn box p a
+    → place_in box (next_of box.start p a) ≡ place_in box p + 1
+place_in-next box p a long holds free = rw (next_of-at box.start p a) (place-next box.start box.shape p a long holds free.inside free.later)
+
+-- ---- the positions from one on
+
+-- they begin with it
+pub drop-place : (box : Box) (p : List ℕ) → IsLong box → Holds box p
+    → drop (place_in box p) (positions box) ≡ p ∷ drop (place_in box p + 1) (positions box)
+drop-place box p long holds =
+    let below : place_in box p < length (positions box) = omega (arith, place_in_below box p long holds, length-positions box.start box.shape long) in
+    drop_more (positions box) (place_in box p) [] below
+    ∙ ap (λ q. q ∷ drop (place_in box p + 1) (positions box)) (get_or_from_slice_get (positions box) (place_in box p) p [] (positions_all box.start box.shape p long holds))
+
+-- after the last one there is none
+pub drop-last : (box : Box) (k : ℕ) → IsLong box → k ≡ position_count box.shape → drop k (positions box) ≡ []
+drop-last box k long is = drop_all k (positions box) (omega (arith, length-positions box.start box.shape long))
+
+-- a position, and what is left after it
+pub step_of : (box : Box) (p : List ℕ) (next : Option (SmallVec ℕ)) (done : Bool) → IsLong box → Holds box p → done ≡ is_none next
+    → MatchOption next (place_in box p + 1 ≡ position_count box.shape) (λ q. Holds box q.items × (place_in box q.items ≡ place_in box p + 1))
+    → drop (place_in box p) (positions box) ≡ p ∷ (if done then [] else positions_since box next)
+step_of box p None done long holds is last = rw is (drop-place box p long holds ∙ ap (λ v. p ∷ v) (drop-last box (place_in box p + 1) long last))
+step_of box p (Some q) done long holds is next = rw is (drop-place box p long holds ∙ ap (λ k. p ∷ drop k (positions box)) (sym next.1))

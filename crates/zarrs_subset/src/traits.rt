@@ -1,0 +1,199 @@
+//! What stands for a box.
+
+ghost use Rattle.std.specs.Prelude.{◌≡◌, ◌-◌, ◌≤◌, ◌^◌, length, IfOk, OnErr, MatchOption};
+ghost use Rattle.zarrs_subset.specs.Boxes.{ends, position_count};
+ghost use Rattle.zarrs_subset.specs.Regions.{Box, IsBox, IsLong, box_of, box_of_ranges};
+ghost use Rattle.zarrs_subset.specs.RangeLaws.{IsLong-ranges};
+
+use crate::error::SizeOverflow;
+use crate::lists::ends_of;
+use crate::ravel::element_count;
+use crate::subset::ArraySubset;
+use crate::{ArrayIndices, ArrayShape};
+use std::alloc::{AllocError, Global};
+use std::ops::Range;
+
+/// A value that stands for a box: a subset, or a range for each dimension.
+///
+/// A reversed range has extent 0 and ends at its start.
+pub trait ArraySubsetTraits {
+    // The box.
+    ghost region: { Self → Box };
+
+    /// The number of dimensions.
+    fn dimensionality(&self) -> usize
+        ensures { result ≡ length (region self.now).start };
+
+    /// The first index of each dimension.
+    fn start(&self, alloc: Global) -> Result<ArrayIndices, AllocError>
+        ensures { IfOk result (λ start. start.items ≡ (region self.now).start) };
+
+    /// The extent of each dimension.
+    fn shape(&self, alloc: Global) -> Result<ArrayShape, AllocError>
+        ensures { IfOk result (λ shape. shape.items ≡ (region self.now).shape) };
+
+    /// The index after the last one of each dimension.
+    fn end_exc(&self, alloc: Global) -> Result<ArrayIndices, AllocError>
+        ensures { IfOk result (λ end. end.items ≡ ends (region self.now).start (region self.now).shape) };
+
+    /// The number of positions: the product of the extents.
+    fn num_elements(&self) -> Result<u64, SizeOverflow>
+        ensures ok { IfOk result (λ count. count ≡ position_count (region self.now).shape) }
+        ensures err { OnErr result (2 ^ 64 ≤ position_count (region self.now).shape) }
+        ensures is_box { IsBox (region self.now) };
+
+    // One extent for each start.
+    ghost is_long: { (value : Self) → IsLong (region value) };
+}
+
+impl ArraySubsetTraits for ArraySubset {
+    ghost region = { box_of };
+
+    ghost is_long = { λ subset. subset.same_length };
+
+    fn dimensionality(&self) -> usize {
+        self.start().len()
+    }
+
+    fn start(&self, alloc: Global) -> Result<ArrayIndices, AllocError> {
+        Vec::from_slice(alloc, self.start())
+    }
+
+    fn shape(&self, alloc: Global) -> Result<ArrayShape, AllocError> {
+        Vec::from_slice(alloc, self.shape())
+    }
+
+    fn end_exc(&self, alloc: Global) -> Result<ArrayIndices, AllocError> {
+        ends_of(alloc, self.start(), self.shape())
+    }
+
+    fn num_elements(&self) -> Result<u64, SizeOverflow> {
+        element_count(self.shape()).ok_or(SizeOverflow)
+    }
+}
+
+impl ArraySubsetTraits for Vec<Range<u64>> {
+    ghost region = { λ ranges. box_of_ranges ranges.items };
+
+    ghost is_long = { λ ranges. IsLong-ranges ranges.items };
+
+    fn dimensionality(&self) -> usize {
+        self.len()
+    }
+
+    fn start(&self, alloc: Global) -> Result<ArrayIndices, AllocError> {
+        range_starts(alloc, self)
+    }
+
+    fn shape(&self, alloc: Global) -> Result<ArrayShape, AllocError> {
+        range_extents(alloc, self)
+    }
+
+    fn end_exc(&self, alloc: Global) -> Result<ArrayIndices, AllocError> {
+        range_ends(alloc, self)
+    }
+
+    fn num_elements(&self) -> Result<u64, SizeOverflow> {
+        range_product(self).ok_or(SizeOverflow)
+    }
+}
+
+impl ArraySubsetTraits for &[Range<u64>] {
+    ghost region = { λ ranges. box_of_ranges ranges.now };
+
+    ghost is_long = { λ ranges. IsLong-ranges ranges.now };
+
+    fn dimensionality(&self) -> usize {
+        self.len()
+    }
+
+    fn start(&self, alloc: Global) -> Result<ArrayIndices, AllocError> {
+        range_starts(alloc, *self)
+    }
+
+    fn shape(&self, alloc: Global) -> Result<ArrayShape, AllocError> {
+        range_extents(alloc, *self)
+    }
+
+    fn end_exc(&self, alloc: Global) -> Result<ArrayIndices, AllocError> {
+        range_ends(alloc, *self)
+    }
+
+    fn num_elements(&self) -> Result<u64, SizeOverflow> {
+        range_product(*self).ok_or(SizeOverflow)
+    }
+}
+
+impl<const N: usize> ArraySubsetTraits for [Range<u64>; N] {
+    ghost region = { λ ranges. box_of_ranges ranges };
+
+    ghost is_long = { λ ranges. IsLong-ranges ranges };
+
+    fn dimensionality(&self) -> usize {
+        self.len()
+    }
+
+    fn start(&self, alloc: Global) -> Result<ArrayIndices, AllocError> {
+        range_starts(alloc, self)
+    }
+
+    fn shape(&self, alloc: Global) -> Result<ArrayShape, AllocError> {
+        range_extents(alloc, self)
+    }
+
+    fn end_exc(&self, alloc: Global) -> Result<ArrayIndices, AllocError> {
+        range_ends(alloc, self)
+    }
+
+    fn num_elements(&self) -> Result<u64, SizeOverflow> {
+        range_product(self).ok_or(SizeOverflow)
+    }
+}
+
+// The start of each range.
+fn range_starts(alloc: Global, ranges: &[Range<u64>]) -> Result<ArrayIndices, AllocError>
+    ensures { IfOk result (λ starts. starts.items ≡ (box_of_ranges ranges.now).start) }
+{
+    ranges.iter().map(|range| range.start).collect(alloc)
+}
+
+// The extent of each range.
+fn range_extents(alloc: Global, ranges: &[Range<u64>]) -> Result<ArrayShape, AllocError>
+    ensures { IfOk result (λ extents. extents.items ≡ (box_of_ranges ranges.now).shape) }
+{
+    ranges
+        .iter()
+        .map(|range| range.end.saturating_sub(range.start))
+        .collect(alloc)
+}
+
+// The end of each range, or its start where it is reversed.
+fn range_ends(alloc: Global, ranges: &[Range<u64>]) -> Result<ArrayIndices, AllocError>
+    ensures { IfOk result (λ found. found.items
+        ≡ ends (box_of_ranges ranges.now).start (box_of_ranges ranges.now).shape) }
+{
+    ranges
+        .iter()
+        .map(|range| range.end.max(range.start))
+        .collect(alloc)
+}
+
+// The product of the extents, if that fits `u64`.
+fn range_product(ranges: &[Range<u64>]) -> Option<u64>
+    ensures count { MatchOption result (2 ^ 64 ≤ position_count (box_of_ranges ranges.now).shape)
+        (λ count. count ≡ position_count (box_of_ranges ranges.now).shape) }
+    ensures is_box { IsBox (box_of_ranges ranges.now) }
+{
+    let Some((range, others)) = ranges.split_first() else {
+        return Some(1);
+    };
+    let others = range_product(others);
+    let extent = range.end.saturating_sub(range.start);
+    if extent == 0 {
+        return Some(0);
+    }
+    let Some(count) = others else {
+        return None;
+    };
+    count.checked_mul(extent)
+}
