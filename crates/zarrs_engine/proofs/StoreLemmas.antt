@@ -30,9 +30,9 @@ left_out_fill false all e = e
 
 apart_test : (a b : List ℕ) → a ≢ b → bytes_eq a b ≡ false
 apart_test a b apart = elim (cases_Bool (bytes_eq a b)) [
-    | inl is ↦ absurd (apart ((bytes_eq-Decides a b).0 is))
-    | inr not_is ↦ not_is
-  ]
+  | inl is ↦ absurd (apart ((bytes_eq-Decides a b).0 is))
+  | inr not_is ↦ not_is
+]
 
 -- an accepted call is one that makes one writing call
 accepts_makes : (old new : StoreState) (written : Values) → Accepts old new written → Makes 1 0 old new

@@ -46,7 +46,14 @@ impl<S, G: ChunkGridTraits, K: ChunkKeyEncodingTraits, C: ChainTraits> Engine<S,
         ensures fill { (layout_of G.grid K.key C.meaning result).fill ≡ fill_of (kind data_type) fill_value }
         ensures storage { the_store result ≡ storage }
     {
-        let parts = Parts { path, grid, keys, chain, data_type, fill_value };
+        let parts = Parts {
+            path,
+            grid,
+            keys,
+            chain,
+            data_type,
+            fill_value,
+        };
         Engine { storage, parts }
     }
 
@@ -58,9 +65,12 @@ impl<S, G: ChunkGridTraits, K: ChunkKeyEncodingTraits, C: ChainTraits> Engine<S,
     }
 }
 
-impl<S: ReadableStorageTraits, G: ChunkGridTraits, K: ChunkKeyEncodingTraits, C: ChainTraits>
-    Engine<S, G, K, C>
-{
+impl<
+    S: ReadableStorageTraits,
+    G: ChunkGridTraits,
+    K: ChunkKeyEncodingTraits,
+    C: ChainTraits,
+> Engine<S, G, K, C> {
     ghost use Rattle.std.specs.Prelude.{◌≡◌, true, false, IfOk, IfErr, OnOk, IsErr, length, option_map};
     ghost use Rattle.zarrs_data_type.specs.ArrayData.{data_of};
     ghost use Rattle.zarrs_engine.specs.Layout.{layout_of, store_of};
@@ -150,9 +160,12 @@ impl<S: ReadableStorageTraits, G: ChunkGridTraits, K: ChunkKeyEncodingTraits, C:
     }
 }
 
-impl<S: WritableStorageTraits, G: ChunkGridTraits, K: ChunkKeyEncodingTraits, C: ChainTraits>
-    Engine<S, G, K, C>
-{
+impl<
+    S: WritableStorageTraits,
+    G: ChunkGridTraits,
+    K: ChunkKeyEncodingTraits,
+    C: ChainTraits,
+> Engine<S, G, K, C> {
     ghost use Rattle.std.specs.Prelude.{◌≡◌, IfErr, OnOk, None, length, option_map};
     ghost use Rattle.zarrs_data_type.specs.ArrayData.{data_of};
     ghost use Rattle.zarrs_codec.specs.Options.{stores_empty_chunks};
@@ -164,7 +177,12 @@ impl<S: WritableStorageTraits, G: ChunkGridTraits, K: ChunkKeyEncodingTraits, C:
     ghost use Rattle.zarrs_engine.specs.Puts.{IsPut};
 
     // Sets the value at one key, or erases the key.
-    fn put(&mut self, alloc: Global, key: &StoreKey, text: Option<Vec<u8>>) -> Result<(), StorageError>
+    fn put(
+        &mut self,
+        alloc: Global,
+        key: &StoreKey,
+        text: Option<Vec<u8>>,
+    ) -> Result<(), StorageError>
         ensures done { OnOk result
             (IsPut key.now (option_map (λ v. v.items) text) (store_of S.state self.old) (store_of S.state self.new)) }
         ensures refused { IfErr result
@@ -238,7 +256,9 @@ impl<S: WritableStorageTraits, G: ChunkGridTraits, K: ChunkKeyEncodingTraits, C:
         ensures parts { KeepsParts self.old self.new }
     {
         match call {
-            Call::StoreChunk(indices, data) => match self.store_chunk(alloc, indices, data, options) {
+            Call::StoreChunk(indices, data) => match self.store_chunk(
+                alloc, indices, data, options,
+            ) {
                 Ok(()) => Reply::Done,
                 Err(error) => Reply::Refused(error),
             },

@@ -124,9 +124,14 @@ impl<G: ChunkGridTraits, K: ChunkKeyEncodingTraits, C: ChainTraits> Parts<G, K, 
             return Ok(None);
         }
         let shape = chunk.region.shape();
-        let text = self
-            .chain
-            .encode(alloc, data, &self.data_type, &self.fill_value, shape, options)?;
+        let text = self.chain.encode(
+            alloc,
+            data,
+            &self.data_type,
+            &self.fill_value,
+            shape,
+            options,
+        )?;
         Ok(Some(text))
     }
 

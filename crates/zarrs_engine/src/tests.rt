@@ -28,7 +28,15 @@ fn bytes_engine(
     let keys = ChunkKeyEncoding::Default(ChunkKeySeparator::Slash);
     let chain = CodecChain::new(ArrayToBytesCodec::Bytes(BytesCodec::little()));
     let fill_value = FillValue::new(vec![in alloc; fill]?);
-    Ok(Engine::new(storage, path, grid, keys, chain, DataType::UInt8, fill_value))
+    Ok(Engine::new(
+        storage,
+        path,
+        grid,
+        keys,
+        chain,
+        DataType::UInt8,
+        fill_value,
+    ))
 }
 
 fn data(alloc: Global, bytes: &[u8]) -> Result<ArrayBytes<'static>, Fail> {
@@ -85,8 +93,18 @@ fn foreign_bytes_are_refused_and_replaced(rt: HostRuntime) -> Result<(), Fail> {
     let key = StoreKey::new(alloc, "c/0")?;
     storage.set(alloc, &key, Bytes::from_static(&[1, 2, 3]))?;
     let mut engine = bytes_engine(alloc, storage, &[4], &[4], 0)?;
-    assert!(rt; matches!(engine.retrieve_chunk(alloc, &[0]), Err(ArrayError::CodecError(_))));
-    assert!(rt; matches!(engine.retrieve_chunk_if_exists(alloc, &[0]), Err(ArrayError::CodecError(_))));
+    assert!(rt;
+        matches!(
+            engine.retrieve_chunk(alloc, &[0]),
+            Err(ArrayError::CodecError(_))
+        )
+    );
+    assert!(rt;
+        matches!(
+            engine.retrieve_chunk_if_exists(alloc, &[0]),
+            Err(ArrayError::CodecError(_))
+        )
+    );
     engine.store_chunk(alloc, &[0], &data(alloc, &[5, 6, 7, 8])?, &options)?;
     assert!(rt; holds(&engine.retrieve_chunk(alloc, &[0])?, &[5, 6, 7, 8]));
     Ok(())
@@ -147,7 +165,12 @@ fn a_list_of_calls_goes_on_after_a_refusal(rt: HostRuntime) -> Result<(), Fail> 
     assert_eq!(rt; replies.len(), 6);
     assert!(rt; matches!(&replies[0], Reply::Done));
     assert!(rt; matches!(&replies[1], Reply::Refused(ArrayError::CodecError(_))));
-    assert!(rt; matches!(&replies[2], Reply::Refused(ArrayError::InvalidChunkGridIndicesError(_))));
+    assert!(rt;
+        matches!(
+            &replies[2],
+            Reply::Refused(ArrayError::InvalidChunkGridIndicesError(_))
+        )
+    );
     let Reply::Cells(cells) = &replies[3] else {
         return Err("no cells")?;
     };
@@ -161,13 +184,22 @@ fn a_list_of_calls_goes_on_after_a_refusal(rt: HostRuntime) -> Result<(), Fail> 
 fn errors_say_what_was_refused(rt: HostRuntime) -> Result<(), Fail> {
     let alloc = rt.alloc();
     let indices = ArrayError::InvalidChunkGridIndicesError(vec![in alloc; 1u64, 2u64]?);
-    assert_eq!(rt; indices.to_string(alloc)?.as_str(), "invalid chunk grid indices: [1, 2]");
+    assert_eq!(rt;
+        indices.to_string(alloc)?.as_str(),
+        "invalid chunk grid indices: [1, 2]"
+    );
     let size = ArrayError::SizeOverflow;
-    assert_eq!(rt; size.to_string(alloc)?.as_str(), "size exceeds the number types");
+    assert_eq!(rt;
+        size.to_string(alloc)?.as_str(),
+        "size exceeds the number types"
+    );
     let memory = ArrayError::OutOfMemory;
     assert_eq!(rt; memory.to_string(alloc)?.as_str(), "out of memory");
     let shape = ArrayError::InvalidDataShape(vec![in alloc; 1u64]?, vec![in alloc; 2u64]?);
-    assert_eq!(rt; shape.to_string(alloc)?.as_str(), "data has shape [1], expected [2]");
+    assert_eq!(rt;
+        shape.to_string(alloc)?.as_str(),
+        "data has shape [1], expected [2]"
+    );
     let store = ArrayError::from(StorageError::ReadOnly);
     assert_eq!(rt; store.to_string(alloc)?.as_str(), "the store is read only");
     Ok(())

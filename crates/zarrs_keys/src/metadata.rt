@@ -44,6 +44,7 @@ fn suffix_in(alloc: Global, metadata: &MetadataV3) -> Result<Option<KeySuffix>, 
     }
 }
 
+/// The `default` encoding with this configuration, if it is one of it.
 fn default_of(metadata: &MetadataV3) -> Option<ChunkKeyEncoding>
     ensures { result ≡ default_of (settings (extension_view metadata.now)) }
 {
@@ -54,6 +55,7 @@ fn default_of(metadata: &MetadataV3) -> Option<ChunkKeyEncoding>
     Some(ChunkKeyEncoding::Default(separator))
 }
 
+/// The `v2` encoding with this configuration, if it is one of it.
 fn v2_of(metadata: &MetadataV3) -> Option<ChunkKeyEncoding>
     ensures { result ≡ v2_of (settings (extension_view metadata.now)) }
 {
@@ -64,6 +66,7 @@ fn v2_of(metadata: &MetadataV3) -> Option<ChunkKeyEncoding>
     Some(ChunkKeyEncoding::V2(separator))
 }
 
+/// The `default_suffix` encoding with this configuration, if it is one of it.
 fn default_suffix_of(
     alloc: Global,
     metadata: &MetadataV3,

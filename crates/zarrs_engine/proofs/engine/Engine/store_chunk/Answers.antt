@@ -23,7 +23,7 @@ returns-in_err-text-clause-refused g c =
     let refused = refusal_of c.in_err-text.field-0.0 in
     let data_of_chunk = subst (λ (box : Box). IsRefusal (data_refusal layout keep box.shape (cells layout.kind held)) ⊥ refused) c.in_ok-chunk.ensures.region c.in_err-text.ensures.refused in
     let why = store_refused layout keep index held state refused
-        (refused_second (box_refusal layout index) (data_refusal layout keep (box_at layout.grid index).shape (cells layout.kind held)) ⊥ ⊥ refused c.in_ok-chunk.ensures.accepted (λ x. x) data_of_chunk) in
+    (refused_second (box_refusal layout index) (data_refusal layout keep (box_at layout.grid index).shape (cells layout.kind held)) ⊥ ⊥ refused c.in_ok-chunk.ensures.accepted (λ x. x) data_of_chunk) in
     search (rules, why)
 
 pub returns-clause-done : goal.returns-clause-done
