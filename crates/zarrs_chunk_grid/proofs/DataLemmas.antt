@@ -1,14 +1,13 @@
 -- Chunk grids in metadata: what is written reads as what was written.
-use Rattle.std.proofs.Common.{◌≡◌, ◌≢◌, ℕ, zero, suc, ◌+◌, ◌<◌, ◌≤◌, ◌^◌, ◌==◌, ◌&&◌, Bool, true, false, List, [], ◌∷◌, ◌++◌, length, map, drop, slice_index_or, nat_lt, Option, Some, None, option_map, option_and_then, if◌then◌else◌, sum, refl, sym, ap, subst, ◌∙◌, add-one, drop-cons, append_assoc, append-nil, eq-eqb, arith}
+use Rattle.std.proofs.Common.{◌≡◌, ◌≢◌, ℕ, ◌<◌, ◌^◌, ◌==◌, true, false, List, [], ◌∷◌, length, map, Option, Some, None, option_map, option_and_then, sum, refl, sym, ap, subst, ◌∙◌, eq-eqb, arith}
 use Rattle.std.specs.Int.NonZero.{non_zero_u64_get}
 use Rattle.std.specs.declared.num.NonZeroU64.{NonZeroU64}
 use Rattle.std.proofs.lemmas.Bool.{ne_eqb, lt-ltb, and_from}
-use Rattle.std.proofs.lemmas.List.{length-map, drop_all}
+use Rattle.std.proofs.lemmas.List.{length-map}
 use Rattle.std.proofs.lemmas.List.Sums.{sum-map}
 use Rattle.std.proofs.lemmas.Simd.{map-map}
 use Rattle.serde_json.specs.Data.{Data}
-use Rattle.serde_json.specs.View.{view, items_of, items_view}
-use Rattle.serde_json.specs.declared.value.Value.{Value}
+use Rattle.serde_json.specs.View.{items_of}
 use Rattle.zarrs_metadata.specs.Lists.{all_of, list_of, list_data, number_data}
 use Rattle.zarrs_metadata.specs.Refusal.{HasCreateCause}
 use Rattle.zarrs_metadata.specs.declared.errors.PluginCreateError.{PluginCreateError}
@@ -16,8 +15,7 @@ use Rattle.zarrs_metadata.specs.declared.errors.PluginCreateError.TheVariants as
 use Rattle.zarrs_metadata.proofs.ListLemmas.{all_of-items_of}
 use Rattle.zarrs_chunk_grid.specs.Axes.{sum_of_sizes}
 use Rattle.zarrs_chunk_grid.specs.Shapes.{sizes_of}
-use Rattle.zarrs_chunk_grid.specs.Sizes.{sizes_in, fills, all_fill, IsSizesRefusal}
-use Rattle.zarrs_chunk_grid.specs.Refusals.{IsRefusal}
+use Rattle.zarrs_chunk_grid.specs.Sizes.{fills, all_fill, IsSizesRefusal}
 use Rattle.zarrs_chunk_grid.specs.GridData.{SizesData, one, listed, GridData, regular, bounded, rectangular, size_said, sizes_said, listed_within, or_else, sizes_data, adds_up, all_add_up, fits_shape, over_shape, grid_said, extension_of_grid}
 use Rattle.zarrs_chunk_grid.specs.GridView.{sizes_view, grid_data, array_extents_of, KeepsMemory}
 use Rattle.zarrs_chunk_grid.specs.declared.chunk_sizes.ChunkSizes.{ChunkSizes}

@@ -1,14 +1,14 @@
 -- A grid is the one that its metadata means.
-use Rattle.std.proofs.Common.{◌≡◌, ℕ, zero, suc, List, [], ◌∷◌, length, map, sum, take, slice_index, slice_index_or, refl, sym, ap, ◌∙◌}
+use Rattle.std.proofs.Common.{◌≡◌, ℕ, List, [], ◌∷◌, length, map, sum, take, slice_index_or, refl, sym, ap, ◌∙◌}
 use Rattle.std.specs.Int.{div_ceil}
 use Rattle.std.specs.Int.NonZero.{non_zero_u64_get}
 use Rattle.std.specs.declared.num.NonZeroU64.{NonZeroU64}
 use Rattle.std.proofs.lemmas.List.{length-map, take-map}
-use Rattle.zarrs_chunk_grid.specs.Axes.{Axis, sizes_axis, sum_of_sizes}
+use Rattle.zarrs_chunk_grid.specs.Axes.{Axis, sum_of_sizes}
 use Rattle.zarrs_chunk_grid.specs.Grids.{Grid, regular_grid, bounded_grid}
 use Rattle.zarrs_chunk_grid.specs.Shapes.{sizes_of, chunk_counts}
 use Rattle.zarrs_chunk_grid.specs.Sizes.{axis_of, no_axis, rectangular_grid, count_of, counts_of}
-use Rattle.zarrs_chunk_grid.specs.GridData.{one, listed, regular, bounded, rectangular}
+use Rattle.zarrs_chunk_grid.specs.GridData.{regular, bounded, rectangular}
 use Rattle.zarrs_chunk_grid.specs.GridMeaning.{axis_meant, grid_meant, count_meant, counts_meant}
 use Rattle.zarrs_chunk_grid.specs.GridView.{sizes_view, grid_data, array_extents_of, grid_extents_of, axes_of}
 use Rattle.zarrs_chunk_grid.specs.declared.grid.ChunkGrid.{ChunkGrid}

@@ -1,5 +1,5 @@
 -- Chunks of listed sizes, and grids of them.
-use Rattle.std.proofs.Common.{◌≡◌, ℕ, zero, suc, ◌+◌, ◌-◌, ◌<◌, ◌≤◌, ◌^◌, List, [], ◌∷◌, length, take, slice_index, slice_index_or, true, false, ◌&&◌, inl, inr, refl, sym, ap, subst, nat_le, Bool, Some, slice_get, ◌∙◌, arith}
+use Rattle.std.proofs.Common.{◌≡◌, ℕ, zero, suc, ◌+◌, ◌-◌, ◌<◌, ◌≤◌, ◌^◌, List, [], ◌∷◌, length, take, slice_index, slice_index_or, true, false, inl, inr, refl, sym, ap, subst, nat_le, Bool, Some, slice_get, ◌∙◌, arith}
 use Rattle.std.specs.declared.num.NonZeroU64.{NonZeroU64}
 use Rattle.std.specs.Int.NonZero.{non_zero_u64_get}
 use Rattle.std.specs.List.Sorted.{IsNonDecreasingBy}
@@ -9,7 +9,7 @@ use Rattle.std.proofs.lemmas.List.{take_all}
 use Rattle.std.proofs.lemmas.List.Sums.{sum_by-take-le}
 use Rattle.std.proofs.lemmas.List.Sorted.{IsNonDecreasingBy-from_default}
 use Rattle.std.proofs.lemmas.List.FromFn.{length-map-range_with_len, get_or-map-range_with_len}
-use Rattle.zarrs_chunk_grid.specs.Axes.{IsAxis, Covers, IsInterval, sizes_axis, sum_of_sizes, ends_of_sizes}
+use Rattle.zarrs_chunk_grid.specs.Axes.{Covers, IsInterval, sizes_axis, sum_of_sizes, ends_of_sizes}
 use Rattle.zarrs_chunk_grid.specs.GridLaws.{sizes_axis_lawful, sum_more}
 use Rattle.zarrs_chunk_grid.specs.Sizes.{count_of, counts_of, fills, all_fill}
 use Rattle.zarrs_chunk_grid.specs.declared.chunk_sizes.ChunkSizes.{ChunkSizes}

@@ -1,5 +1,5 @@
 -- The named grids keep the laws of a grid.
-use Rattle.std.specs.Prelude.{◌≡◌, ℕ, zero, suc, ◌+◌, ◌-◌, ◌*◌, ◌/◌, ◌<◌, ◌≤◌, ◌^◌, min, take, List, [], ◌∷◌, length, slice_index, slice_index_or, refl}
+use Rattle.std.specs.Prelude.{◌≡◌, ℕ, zero, suc, ◌+◌, ◌-◌, ◌*◌, ◌/◌, ◌<◌, ◌^◌, take, List, [], ◌∷◌, length, slice_index, slice_index_or, refl}
 use Rattle.std.specs.Int.{div_ceil}
 use Rattle.std.specs.Int.NonZero.{non_zero_u64_get}
 use Rattle.std.specs.declared.num.NonZeroU64.{NonZeroU64}
@@ -8,7 +8,7 @@ use Rattle.std.proofs.lemmas.List.{get_or-map, take_all}
 use Rattle.std.proofs.lemmas.List.Sums.{sum_by_more}
 use Rattle.std.proofs.lemmas.Grind.{div_ceil_times}
 use Rattle.std.proofs.Math.Nat.{div-mul-le_self, mul-le-mul_right}
-use Rattle.zarrs_chunk_grid.specs.Axes.{Axis, IsAxis, regular_axis, bounded_axis, sizes_axis, sum_of_sizes}
+use Rattle.zarrs_chunk_grid.specs.Axes.{IsAxis, regular_axis, bounded_axis, sizes_axis, sum_of_sizes}
 use Rattle.zarrs_chunk_grid.specs.Grids.{IsGrid, regular_grid, bounded_grid}
 use Rattle.zarrs_chunk_grid.specs.Shapes.{sizes_of}
 

@@ -1,5 +1,5 @@
 -- The axes of a rectangular grid keep the laws of an axis.
-use Rattle.std.specs.Prelude.{ℕ, zero, suc, ◌<◌, List, [], ◌∷◌, refl}
+use Rattle.std.specs.Prelude.{ℕ, zero, suc, List, [], ◌∷◌, refl}
 use Rattle.std.proofs.Common.{arith}
 use Rattle.zarrs_chunk_grid.specs.Axes.{IsAxis}
 use Rattle.zarrs_chunk_grid.specs.Grids.{IsGrid}

@@ -12,13 +12,21 @@ use std::num::NonZeroUsize;
 pub enum DataType {
     /// One byte, 0 or 1.
     Bool,
+    /// A signed number of 8 bits, little endian in memory.
     Int8,
+    /// A signed number of 16 bits, little endian in memory.
     Int16,
+    /// A signed number of 32 bits, little endian in memory.
     Int32,
+    /// A signed number of 64 bits, little endian in memory.
     Int64,
+    /// An unsigned number of 8 bits, little endian in memory.
     UInt8,
+    /// An unsigned number of 16 bits, little endian in memory.
     UInt16,
+    /// An unsigned number of 32 bits, little endian in memory.
     UInt32,
+    /// An unsigned number of 64 bits, little endian in memory.
     UInt64,
     /// So many bytes, which are kept as they are.
     Raw(NonZeroUsize),

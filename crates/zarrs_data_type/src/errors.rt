@@ -12,6 +12,7 @@ pub enum ElementError {
     /// The element type is not the data type's.
     #[error("the element type does not match the data type")]
     IncompatibleElementType,
+    /// A growth was refused.
     #[error("out of memory")]
     OutOfMemory,
 }
@@ -38,6 +39,7 @@ pub enum DataTypeFillValueError {
     /// Data of this type is not supported: the type is variable or optional.
     #[error("data of this type is not supported")]
     UnsupportedType,
+    /// A growth was refused.
     #[error("out of memory")]
     OutOfMemory,
 }

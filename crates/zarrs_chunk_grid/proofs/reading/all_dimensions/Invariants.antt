@@ -1,7 +1,6 @@
 use Rattle.std.proofs.Common.{◌≡◌, ◌++◌, drop, map, option_map}
 use Rattle.serde_json.specs.View.{items_view}
 use Rattle.zarrs_metadata.specs.Lists.{all_of}
-use Rattle.zarrs_chunk_grid.specs.Shapes.{sizes_of}
 use Rattle.zarrs_chunk_grid.specs.GridData.{sizes_said}
 use Rattle.zarrs_chunk_grid.specs.GridView.{sizes_view}
 use Rattle.zarrs_chunk_grid.proofs.reading.all_dimensions.Given as goal

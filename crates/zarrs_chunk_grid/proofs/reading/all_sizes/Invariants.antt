@@ -1,9 +1,8 @@
-use Rattle.std.proofs.Common.{◌≡◌, ◌++◌, drop, map, option_map}
+use Rattle.std.proofs.Common.{◌≡◌, ◌++◌, drop, option_map}
 use Rattle.serde_json.specs.View.{items_view}
 use Rattle.zarrs_metadata.specs.Lists.{all_of}
 use Rattle.zarrs_chunk_grid.specs.Shapes.{sizes_of}
 use Rattle.zarrs_chunk_grid.specs.GridData.{size_said}
-use Rattle.zarrs_chunk_grid.specs.GridView.{sizes_view}
 use Rattle.zarrs_chunk_grid.proofs.reading.all_sizes.Given as goal
 
 -- what is left says the rest

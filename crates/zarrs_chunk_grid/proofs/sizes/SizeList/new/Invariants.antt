@@ -1,4 +1,4 @@
-use Rattle.std.proofs.Common.{◌≡◌, ◌+◌, ◌<◌, ◌^◌, ℕ, take, map}
+use Rattle.std.proofs.Common.{◌≡◌, ◌+◌, ◌<◌, ◌^◌, take, map}
 use Rattle.std.specs.List.{range_with_len}
 use Rattle.zarrs_chunk_grid.specs.Axes.{sum_of_sizes}
 use Rattle.zarrs_chunk_grid.proofs.sizes.SizeList.new.Given as goal

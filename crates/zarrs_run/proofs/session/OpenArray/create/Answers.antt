@@ -1,0 +1,31 @@
+use Rattle.std.proofs.Common.{◌≡◌, ℕ, List, ap, ◌∙◌}
+use Rattle.zarrs_metadata.specs.declared.separators.ChunkKeySeparator.TheVariants.{Slash}
+use Rattle.zarrs_keys.specs.Encodings.{default_key}
+use Rattle.zarrs_keys.specs.Paths.{path_key}
+use Rattle.zarrs_chunk_grid.specs.Shapes.{sizes_of}
+use Rattle.zarrs_data_type.specs.Kind.{Kind}
+use Rattle.zarrs_data_type.specs.Cell.{fill_of}
+use Rattle.zarrs_codec.specs.declared.chain.ArrayToBytesCodec.{ArrayToBytesCodec}
+use Rattle.zarrs_codec.specs.Chains.{leaf_meaning, whole_chunk}
+use Rattle.zarrs_engine.specs.Layout.{the_store}
+use Rattle.zarrs_run.specs.Types.{kind_of}
+use Rattle.zarrs_run.specs.Sessions.{meaning_of}
+use Rattle.zarrs_run.proofs.NewArrays.{makes_grid, made_array}
+use Rattle.zarrs_run.proofs.session.OpenArray.create.Goals as goal
+
+pub returns : goal.returns
+returns c =
+    let asked = c.args.creation in
+    let sizes = c.in_ok-chunk_shape.chunk_shape.items in
+    let is : sizes_of sizes ≡ asked.chunk_shape.items = c.in_ok-chunk_shape.ensures ∙ c.deref.ensures.value in
+    let engine = c.new-engine.result in
+    let made = c.new-engine.ensures in (
+      makes_grid asked.shape.items asked.chunk_shape.items sizes is c.in-Ok.ensures.long,
+      made_array asked.chunk_shape.items asked.fill.items asked.cell_type sizes (meaning_of engine) (the_store engine) is
+      (made.grid ∙ c.in-Ok.ensures.grid)
+      (made.key ∙ ap (λ (path : List ℕ). λ (indices : List ℕ). path_key path (default_key Slash indices)) c.in-Ok-new.ensures.ok)
+      (made.chain ∙ ap (λ (codec : ArrayToBytesCodec). whole_chunk (leaf_meaning codec)) c.new-4.ensures)
+      (made.kind ∙ c.data_type_of.ensures)
+      (made.fill ∙ ap (λ (k : Kind). fill_of k c.new-5.result) c.data_type_of.ensures ∙ ap (fill_of (kind_of asked.cell_type)) c.new-5.ensures)
+      (made.storage ∙ c.new-3.ensures),
+    )

@@ -1,0 +1,7 @@
+pub mod Types
+pub mod Script
+pub mod Parsed
+pub mod Transcript
+pub mod Answers
+pub mod Sessions
+pub mod Sizes
