@@ -1,11 +1,11 @@
 -- The law of every chain of the code, from those of its codecs.
-use Rattle.std.proofs.Common.{◌≡◌, refl, sym, ap, ◌∙◌}
+use Rattle.std.proofs.Common.{refl, sym, ap, ◌∙◌}
 use Rattle.zarrs_codec_leaf.specs.BytesLaws.{bytes-lawful}
 use Rattle.zarrs_codec_leaf.specs.Leaf.{LeafMeaning, IsLawfulLeaf}
 use Rattle.zarrs_codec.specs.declared.chain.ArrayToBytesCodec.{ArrayToBytesCodec}
 use Rattle.zarrs_codec.specs.declared.chain.ArrayToBytesCodec.TheVariants as codec
 use Rattle.zarrs_codec.specs.declared.chain.CodecChain.{CodecChain}
-use Rattle.zarrs_codec.specs.Chain.{ChainMeaning, IsLawfulChain}
+use Rattle.zarrs_codec.specs.Chain.{IsLawfulChain}
 use Rattle.zarrs_codec.specs.Chains.{array_to_bytes_of, leaf_meaning, whole_chunk, chain_meaning}
 
 leaf-lawful : (c : ArrayToBytesCodec) → IsLawfulLeaf (leaf_meaning c)

@@ -14,6 +14,7 @@ use zarrs_data_type::{ArrayBytes, DataType, FillValue};
 /// A codec that makes bytes of cells (Zarr V3 core specification, "Codecs").
 #[derive(Debug, Drop)]
 pub enum ArrayToBytesCodec {
+    /// Elements one after another.
     Bytes(BytesCodec),
 }
 
@@ -72,14 +73,14 @@ impl ChainTraits for CodecChain {
     fn encode(
         &self,
         alloc: Global,
-        data: &ArrayBytes<'_>,
+        bytes: &ArrayBytes<'_>,
         data_type: &DataType,
         fill_value: &FillValue,
         shape: &[u64],
         options: &CodecOptions,
     ) -> Result<Vec<u8>, CodecError> {
         match &self.array_to_bytes {
-            ArrayToBytesCodec::Bytes(bytes) => bytes.encode(alloc, data, data_type),
+            ArrayToBytesCodec::Bytes(codec) => codec.encode(alloc, bytes, data_type),
         }
     }
 
@@ -92,7 +93,7 @@ impl ChainTraits for CodecChain {
         shape: &[u64],
     ) -> Result<ArrayBytes<'static>, CodecError> {
         match &self.array_to_bytes {
-            ArrayToBytesCodec::Bytes(bytes) => bytes.decode(
+            ArrayToBytesCodec::Bytes(codec) => codec.decode(
                 alloc,
                 text,
                 data_type,

@@ -22,22 +22,22 @@ fn bytes_of<'d>(data: &'d ArrayBytes<'_>) -> &'d [u8] {
 fn read_back<C: ChainTraits>(
     alloc: Global,
     chain: &C,
-    data: &ArrayBytes<'_>,
+    bytes: &ArrayBytes<'_>,
     data_type: &DataType,
     fill_value: &FillValue,
     shape: &[u64],
 ) -> Result<ArrayBytes<'static>, CodecError>
     requires filled { IsSome (fill_cell (kind data_type.now) fill_value.now) }
-    requires cells { HasCells (kind data_type.now) (data_of data.now) (position_count shape.now) }
+    requires cells { HasCells (kind data_type.now) (data_of bytes.now) (position_count shape.now) }
     requires size { position_count shape.now * cell_size (kind data_type.now) < 2 ^ 64 }
-    ensures { IfOk result (λ made. cells (kind data_type.now) (data_of made) ≡ cells (kind data_type.now) (data_of data.now)) }
+    ensures { IfOk result (λ made. cells (kind data_type.now) (data_of made) ≡ cells (kind data_type.now) (data_of bytes.now)) }
 {
     let options = CodecOptions::default();
-    let text = chain.encode(alloc, data, data_type, fill_value, shape, &options)?;
+    let text = chain.encode(alloc, bytes, data_type, fill_value, shape, &options)?;
     chain.decode(alloc, &text, data_type, fill_value, shape)
 }
 
-/// The bytes of data by any chain, and their compaction.
+/// Whether any chain finds no other bytes for these.
 fn is_compact<C: ChainTraits>(
     alloc: Global,
     chain: &C,

@@ -28,19 +28,19 @@ pub trait ChainTraits {
     fn encode(
         &self,
         alloc: Global,
-        data: &ArrayBytes<'_>,
+        bytes: &ArrayBytes<'_>,
         data_type: &DataType,
         fill_value: &FillValue,
         shape: &[u64],
         options: &CodecOptions,
     ) -> Result<Vec<u8>, CodecError>
         requires filled { IsSome (fill_cell (kind data_type.now) fill_value.now) }
-        requires cells { HasCells (kind data_type.now) (data_of data.now) (position_count shape.now) }
+        requires cells { HasCells (kind data_type.now) (data_of bytes.now) (position_count shape.now) }
         ensures text { IfOk result (λ text.
             chunk_text (meaning self.now) (stores_empty_chunks options.now) (kind data_type.now)
-            (fill_of (kind data_type.now) fill_value.now) shape.now (data_of data.now) ≡ Some text.items) }
+            (fill_of (kind data_type.now) fill_value.now) shape.now (data_of bytes.now) ≡ Some text.items) }
         ensures refused { IfErr result (HasEncodeCause (meaning self.now) (stores_empty_chunks options.now)
-            (kind data_type.now) (fill_of (kind data_type.now) fill_value.now) shape.now (data_of data.now)) };
+            (kind data_type.now) (fill_of (kind data_type.now) fill_value.now) shape.now (data_of bytes.now)) };
 
     /// The cells of a chunk's bytes.
     fn decode(
@@ -67,7 +67,7 @@ pub trait ChainTraits {
         shape: &[u64],
     ) -> Result<Option<Vec<u8>>, CodecError>
         ensures less { IfOk result (λ less. (meaning self.now).compacted shape.now text.now
-            ≡ Some (option_map (λ bytes. bytes.items) less)) }
+            ≡ Some (option_map (λ text. text.items) less)) }
         ensures refused { IfErr result (HasCompactCause (meaning self.now) shape.now text.now) };
 
     /// Decoding gives back what was encoded, and what was encoded is compact.

@@ -16,5 +16,5 @@ returns g c =
     let s = c.args.shape.now in
     IfOk-weaker c.decode.result _ _
     (λ made is. is ∙ ap (m.decoded k f s) c.deref.ensures.value
-    ∙ decoded-chunk_text m (g.met.C.ChainTraits.lawful c.args.chain.now) (stores_empty_chunks c.default-options.result) k f s (data_of c.args.data.now) c.in_ok-text.text.items c.requires.cells c.in_ok-text.ensures.text)
+    ∙ decoded-chunk_text m (g.met.C.ChainTraits.lawful c.args.chain.now) (stores_empty_chunks c.default-options.result) k f s (data_of c.args.bytes.now) c.in_ok-text.text.items c.requires.cells c.in_ok-text.ensures.text)
     c.decode.ensures.cells
