@@ -1,5 +1,5 @@
 -- What new arrays are.
-use Rattle.std.proofs.Common.{◌≡◌, ◌≢◌, ◌==◌, ℕ, ◌<◌, ◌+◌, true, false, List, [], ◌∷◌, ◌++◌, length, take, map, get_or, slice_index, codes, Result, Ok, Err, refl, sym, ap, ◌∙◌, arith}
+use Rattle.std.proofs.Common.{◌≡◌, ◌≢◌, ◌==◌, ℕ, ◌<◌, ◌+◌, true, false, List, [], ◌∷◌, ◌++◌, length, take, get_or, slice_index, codes, Err, refl, sym, ap, ◌∙◌, arith}
 use Rattle.std.specs.List.{list_any}
 use Rattle.std.specs.FinMap as finite
 use Rattle.std.specs.Int.NonZero.{non_zero_u64_get}
@@ -12,7 +12,7 @@ use Rattle.zarrs_metadata.specs.declared.separators.ChunkKeySeparator.TheVariant
 use Rattle.zarrs_keys.specs.Encodings.{default_key}
 use Rattle.zarrs_keys.specs.Paths.{path_key}
 use Rattle.zarrs_chunk_grid.specs.Axes.{regular_axis}
-use Rattle.zarrs_chunk_grid.specs.Grids.{Grid, regular_grid}
+use Rattle.zarrs_chunk_grid.specs.Grids.{regular_grid}
 use Rattle.zarrs_chunk_grid.specs.Refusals.{IsRefusal}
 use Rattle.zarrs_chunk_grid.specs.Shapes.{sizes_of}
 use Rattle.zarrs_chunk_grid.specs.declared.error.GridError.{GridError}

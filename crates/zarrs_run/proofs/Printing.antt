@@ -1,7 +1,7 @@
 -- Printing item by item.
-use Rattle.std.proofs.Common.{◌≡◌, ℕ, suc, ◌+◌, ◌-◌, ◌<◌, List, [], ◌∷◌, ◌++◌, length, take, drop, map, get_or, decimal, codes, refl, sym, ap, ◌∙◌, append_assoc, arith}
+use Rattle.std.proofs.Common.{◌≡◌, ℕ, suc, ◌+◌, ◌-◌, ◌<◌, List, [], ◌∷◌, ◌++◌, length, drop, map, get_or, decimal, codes, refl, sym, ap, ◌∙◌, append_assoc, arith}
 use Rattle.std.specs.List.{flat_map}
-use Rattle.std.proofs.lemmas.List.{at_drop_more, append-nil, take_more, flat_map_more}
+use Rattle.std.proofs.lemmas.List.{at_drop_more, append-nil}
 use Rattle.zarrs_storage.specs.Store.{Values}
 use Rattle.zarrs_run.specs.Transcript.{line, list_text, skipped, lines_of_keys, key_text}
 

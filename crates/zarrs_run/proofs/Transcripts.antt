@@ -1,5 +1,5 @@
 -- How transcripts go on.
-use Rattle.std.proofs.Common.{◌≡◌, ℕ, ◌+◌, ◌<◌, ◌||◌, Bool, true, false, List, [], ◌∷◌, ◌++◌, length, vec_len, Vec, take, map, get_or, codes, Option, Some, None, refl, sym, ap, subst, ◌∙◌, append_assoc, arith}
+use Rattle.std.proofs.Common.{◌≡◌, ℕ, ◌||◌, Bool, true, false, List, [], ◌∷◌, ◌++◌, length, vec_len, Vec, map, codes, Option, Some, None, refl, sym, ap, subst, ◌∙◌, append_assoc, arith}
 use Rattle.std.specs.List.{flat_map, list_any}
 use Rattle.std.proofs.lemmas.List.{append-nil}
 use Rattle.std.proofs.lemmas.Grind.{flat_map-append}
@@ -20,7 +20,7 @@ use Rattle.zarrs_run.specs.declared.command.Block.TheVariants as block_of
 use Rattle.zarrs_run.specs.declared.session.OpenArray.{OpenArray}
 use Rattle.zarrs_run.specs.Script.{Order, Keys}
 use Rattle.zarrs_run.specs.Parsed.{order_of_creation, order_of_request, orders_in_block, orders_in}
-use Rattle.zarrs_run.specs.Transcript.{Opened, Session, Outcome, Opens, Asks, Does, Transcript, line, skipped, keys_text, reply_text, is_refusal}
+use Rattle.zarrs_run.specs.Transcript.{Session, Outcome, Opens, Does, Transcript, line, skipped, keys_text, reply_text, is_refusal}
 use Rattle.zarrs_run.specs.Sessions.{Follows, session_of, opened, call_of}
 
 -- the session of these parts

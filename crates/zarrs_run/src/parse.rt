@@ -6,9 +6,7 @@ ghost use Rattle.zarrs_run.specs.Types.{kind_of};
 ghost use Rattle.zarrs_run.specs.Script.{number_of, numbers_of, cell_of, cells_of, items_of, type_of, verb_of, array_order, chunk_order, indices_of, keys_order, verb_order, order_of, type_after, is_skipped, orders_of};
 ghost use Rattle.zarrs_run.specs.Parsed.{Gives, Grows, order_of_request, order_of_command, orders_in, Parses};
 
-use crate::command::{
-    Block, CellType, Command, Creation, ParseError, Request, ScriptError, Verb,
-};
+use crate::command::{Block, CellType, Command, Creation, ParseError, Request, ScriptError, Verb};
 use std::alloc::{AllocError, Global};
 
 /// The parts of a text between its separators.

@@ -101,11 +101,7 @@ fn run_block(
 }
 
 /// Runs the blocks and writes the text of each, and tells whether it holds a refusal.
-fn run_blocks<W: Write>(
-    alloc: Global,
-    writer: &mut W,
-    blocks: Vec<Block>,
-) -> Result<bool, Stopped>
+fn run_blocks<W: Write>(alloc: Global, writer: &mut W, blocks: Vec<Block>) -> Result<bool, Stopped>
     ensures { IfOk result (λ refused. Writes (W.contents writer.old) (W.contents writer.new) (λ text. (after : Session) × Follows None (orders_in blocks.items) text refused after)) }
 {
     let mut array = None;

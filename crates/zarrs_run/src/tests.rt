@@ -45,11 +45,7 @@ fn scripts_print_what_they_ask(rt: HostRuntime) {
             "ok\nrefused E4\nrefused E3\n",
             1,
         ),
-        (
-            "array 4 2 uint8 0\nchunk 0,0 1,2\n",
-            "ok\nrefused E3\n",
-            1,
-        ),
+        ("array 4 2 uint8 0\nchunk 0,0 1,2\n", "ok\nrefused E3\n", 1),
         // keys in ascending order of their bytes
         (
             "array 12 1 uint8 0\nchunk 10 1\nchunk 9 171\nchunk 1 2\nkeys\n",
@@ -86,12 +82,21 @@ fn scripts_print_what_they_ask(rt: HostRuntime) {
 #[test]
 fn the_first_line_that_is_no_command_is_named(rt: HostRuntime) {
     let cases: [(&[u8], &str); 22] = [
-        (b"array 4 2 uint8 0\nchunk 0 1,256\n", "line 2: not a command\n"),
+        (
+            b"array 4 2 uint8 0\nchunk 0 1,256\n",
+            "line 2: not a command\n",
+        ),
         (b"array 4 2 uint8 0\nchunk 2\n", "line 2: not a command\n"),
         (b"keys\narray 4 2 uint8 0\n", "line 1: not a command\n"),
         (b"# first\n\nread 0\n", "line 3: not a command\n"),
-        (b"array 4 2 uint8 0\n\n#\nread 18446744073709551616\n", "line 4: not a command\n"),
-        (b"array 4 2 uint8 0\nread 99999999999999999999999\n", "line 2: not a command\n"),
+        (
+            b"array 4 2 uint8 0\n\n#\nread 18446744073709551616\n",
+            "line 4: not a command\n",
+        ),
+        (
+            b"array 4 2 uint8 0\nread 99999999999999999999999\n",
+            "line 2: not a command\n",
+        ),
         (b"array 4 2 uint8 256\n", "line 1: not a command\n"),
         (b"array 4 2 uint16 0\n", "line 1: not a command\n"),
         (b"array 4 2 uint8\n", "line 1: not a command\n"),
@@ -104,10 +109,16 @@ fn the_first_line_that_is_no_command_is_named(rt: HostRuntime) {
         (b"array +4 2 uint8 0\n", "line 1: not a command\n"),
         (b"array 4 2 uint8 0\r\nkeys\n", "line 1: not a command\n"),
         (b"array 4 2 uint8 0\nkeys 0\n", "line 2: not a command\n"),
-        (b"array 4 2 uint8 0\nkeys\n \nchunk\n", "line 3: not a command\n"),
+        (
+            b"array 4 2 uint8 0\nkeys\n \nchunk\n",
+            "line 3: not a command\n",
+        ),
         (b"array 4 2 uint8 0\nread 1,,1\n", "line 2: not a command\n"),
         (b"array 4 2 uint8 0\nmeta", "line 2: not a command\n"),
-        (b"array 4 2 uint8 0\nread \xff\xfe\n", "line 2: not a command\n"),
+        (
+            b"array 4 2 uint8 0\nread \xff\xfe\n",
+            "line 2: not a command\n",
+        ),
     ];
     for (script, prints) in cases {
         let (text, ended) = outcome(rt.alloc(), script);
@@ -118,7 +129,8 @@ fn the_first_line_that_is_no_command_is_named(rt: HostRuntime) {
 
 #[test]
 fn lines_are_plain_bytes(rt: HostRuntime) {
-    let script = b"# \xff\xfe is no text\n\narray 004 0002 uint8 00\n#\n\nchunk 01 005,00255\nread 1";
+    let script =
+        b"# \xff\xfe is no text\n\narray 004 0002 uint8 00\n#\n\nchunk 01 005,00255\nread 1";
     let (text, ended) = outcome(rt.alloc(), script);
     assert_eq!(rt; text.as_slice(), b"ok\nok\n5,255\n".as_slice());
     assert_eq!(rt; ended, 0);
@@ -188,7 +200,11 @@ fn output_that_fails_ends_with_status_3(rt: HostRuntime) {
         let mut reader = b"array 4 2 uint8 0\nread 5,5\nread 0\n".as_slice();
         assert_eq!(rt; run_script(rt.alloc(), &mut reader, &mut writer), 3);
         assert!(rt; writer.text.len() <= room);
-        assert!(rt; b"ok\nrefused E3\n0,0\n".as_slice().starts_with(writer.text.as_slice()));
+        assert!(rt;
+            b"ok\nrefused E3\n0,0\n"
+                .as_slice()
+                .starts_with(writer.text.as_slice())
+        );
     }
 }
 
@@ -233,7 +249,10 @@ fn a_hundred_thousand_lines(rt: HostRuntime) -> Result<(), Fail> {
     let script = long_script(rt.alloc(), 50_000)?;
     let (text, ended) = outcome(rt.alloc(), &script);
     assert_eq!(rt; ended, 0);
-    assert_eq!(rt; text.as_slice().split(|byte| *byte == b'\n').count(), 100_002);
+    assert_eq!(rt;
+        text.as_slice().split(|byte| *byte == b'\n').count(),
+        100_002
+    );
     assert!(rt; text.as_slice().ends_with(b"\nok\n1,2,3,79\n"));
     Ok(())
 }

@@ -5,7 +5,6 @@ use Rattle.zarrs_keys.specs.Encodings as keys
 use Rattle.zarrs_chunk_grid.specs.Grids.{regular_grid}
 use Rattle.zarrs_chunk_grid.specs.GridView.{regular_sizes}
 use Rattle.zarrs_codec.specs.Chains.{chain_meaning}
-use Rattle.zarrs_codec.specs.Options.{stores_empty_chunks}
 use Rattle.zarrs_engine.specs.Layout.{layout_of_parts, the_store}
 use Rattle.zarrs_run.specs.Transcript.{reply_text}
 use Rattle.zarrs_run.specs.Sessions.{meaning_of}

@@ -22,10 +22,10 @@ returns c =
     let made = c.new-engine.ensures in (
       makes_grid asked.shape.items asked.chunk_shape.items sizes is c.in-Ok.ensures.long,
       made_array asked.chunk_shape.items asked.fill.items asked.cell_type sizes (meaning_of engine) (the_store engine) is
-      (made.grid ∙ c.in-Ok.ensures.grid)
-      (made.key ∙ ap (λ (path : List ℕ). λ (indices : List ℕ). path_key path (default_key Slash indices)) c.in-Ok-new.ensures.ok)
-      (made.chain ∙ ap (λ (codec : ArrayToBytesCodec). whole_chunk (leaf_meaning codec)) c.new-4.ensures)
-      (made.kind ∙ c.data_type_of.ensures)
-      (made.fill ∙ ap (λ (k : Kind). fill_of k c.new-5.result) c.data_type_of.ensures ∙ ap (fill_of (kind_of asked.cell_type)) c.new-5.ensures)
-      (made.storage ∙ c.new-3.ensures),
+          (made.grid ∙ c.in-Ok.ensures.grid)
+          (made.key ∙ ap (λ (path : List ℕ). λ (indices : List ℕ). path_key path (default_key Slash indices)) c.in-Ok-new.ensures.ok)
+          (made.chain ∙ ap (λ (codec : ArrayToBytesCodec). whole_chunk (leaf_meaning codec)) c.new-4.ensures)
+          (made.kind ∙ c.data_type_of.ensures)
+          (made.fill ∙ ap (λ (k : Kind). fill_of k c.new-5.result) c.data_type_of.ensures ∙ ap (fill_of (kind_of asked.cell_type)) c.new-5.ensures)
+          (made.storage ∙ c.new-3.ensures),
     )
