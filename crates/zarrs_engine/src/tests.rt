@@ -48,25 +48,48 @@ fn holds(data: &ArrayBytes<'_>, bytes: &[u8]) -> bool {
     held.as_slice() == bytes
 }
 
+/// Whether the chunk with these indices reads as these bytes.
+fn reads(
+    alloc: Global,
+    engine: &MemoryEngine,
+    indices: &[u64],
+    bytes: &[u8],
+) -> Result<bool, ArrayError> {
+    let cells = engine.retrieve_chunk(alloc, indices)?;
+    Ok(holds(&cells, bytes))
+}
+
+fn stands(alloc: Global, engine: &MemoryEngine, indices: &[u64]) -> Result<bool, ArrayError> {
+    let found = engine.retrieve_chunk_if_exists(alloc, indices)?;
+    Ok(found.is_some())
+}
+
+fn store(
+    alloc: Global,
+    engine: &mut MemoryEngine,
+    indices: &[u64],
+    bytes: &[u8],
+    options: &CodecOptions,
+) -> Result<(), Fail> {
+    let cells = data(alloc, bytes)?;
+    engine.store_chunk(alloc, indices, &cells, options)?;
+    Ok(())
+}
+
 fn keys_of(alloc: Global, engine: &MemoryEngine) -> Result<usize, Fail> {
     Ok(engine.storage().keys(alloc)?.len())
 }
 
 #[test]
-fn a_chunk_is_stored_read_and_erased(rt: HostRuntime) -> Result<(), Fail> {
+fn a_chunk_is_stored_and_read(rt: HostRuntime) -> Result<(), Fail> {
     let alloc = rt.alloc();
-    let options = CodecOptions::default();
     let mut engine = bytes_engine(alloc, MemoryStore::new(alloc), &[4, 4], &[2, 2], 9)?;
-    assert!(rt; engine.retrieve_chunk_if_exists(alloc, &[0, 1])?.is_none());
-    assert!(rt; holds(&engine.retrieve_chunk(alloc, &[0, 1])?, &[9, 9, 9, 9]));
-    engine.store_chunk(alloc, &[0, 1], &data(alloc, &[1, 2, 3, 4])?, &options)?;
-    let found = engine.retrieve_chunk_if_exists(alloc, &[0, 1])?;
-    assert!(rt; holds(&found.ok_or("absent")?, &[1, 2, 3, 4]));
-    assert!(rt; holds(&engine.retrieve_chunk(alloc, &[0, 1])?, &[1, 2, 3, 4]));
-    assert_eq!(rt; engine.storage().calls(), 1);
-    engine.erase_chunk(alloc, &[0, 1])?;
-    assert!(rt; engine.retrieve_chunk_if_exists(alloc, &[0, 1])?.is_none());
-    assert_eq!(rt; engine.storage().calls(), 2);
+    assert!(rt; !stands(alloc, &engine, &[0, 1])?);
+    assert!(rt; reads(alloc, &engine, &[0, 1], &[9, 9, 9, 9])?);
+    let options = CodecOptions::default();
+    store(alloc, &mut engine, &[0, 1], &[1, 2, 3, 4], &options)?;
+    assert!(rt; stands(alloc, &engine, &[0, 1])?);
+    assert!(rt; reads(alloc, &engine, &[0, 1], &[1, 2, 3, 4])?);
     Ok(())
 }
 
@@ -75,108 +98,67 @@ fn empty_chunks_are_kept_by_choice(rt: HostRuntime) -> Result<(), Fail> {
     let alloc = rt.alloc();
     let options = CodecOptions::default();
     let mut engine = bytes_engine(alloc, MemoryStore::new(alloc), &[4], &[2], 9)?;
-    engine.store_chunk(alloc, &[0], &data(alloc, &[9, 9])?, &options)?;
+    store(alloc, &mut engine, &[0], &[9, 9], &options)?;
     assert_eq!(rt; keys_of(alloc, &engine)?, 0);
     let keeping = options.with_store_empty_chunks(true);
-    engine.store_chunk(alloc, &[0], &data(alloc, &[9, 9])?, &keeping)?;
+    store(alloc, &mut engine, &[0], &[9, 9], &keeping)?;
     assert_eq!(rt; keys_of(alloc, &engine)?, 1);
-    engine.store_chunk(alloc, &[0], &data(alloc, &[9, 9])?, &options)?;
-    assert_eq!(rt; keys_of(alloc, &engine)?, 0);
     Ok(())
+}
+
+/// An engine over a store where three bytes stand at the key of a chunk of four.
+fn foreign_engine(alloc: Global) -> Result<MemoryEngine, Fail> {
+    let mut storage = MemoryStore::new(alloc);
+    let key = StoreKey::new(alloc, "c/0")?;
+    storage.set(alloc, &key, Bytes::from_static(&[1, 2, 3]))?;
+    bytes_engine(alloc, storage, &[4], &[4], 0)
 }
 
 #[test]
 fn foreign_bytes_are_refused_and_replaced(rt: HostRuntime) -> Result<(), Fail> {
     let alloc = rt.alloc();
-    let options = CodecOptions::default();
-    let mut storage = MemoryStore::new(alloc);
-    let key = StoreKey::new(alloc, "c/0")?;
-    storage.set(alloc, &key, Bytes::from_static(&[1, 2, 3]))?;
-    let mut engine = bytes_engine(alloc, storage, &[4], &[4], 0)?;
-    assert!(rt;
-        matches!(
-            engine.retrieve_chunk(alloc, &[0]),
-            Err(ArrayError::CodecError(_))
-        )
-    );
-    assert!(rt;
-        matches!(
-            engine.retrieve_chunk_if_exists(alloc, &[0]),
-            Err(ArrayError::CodecError(_))
-        )
-    );
-    engine.store_chunk(alloc, &[0], &data(alloc, &[5, 6, 7, 8])?, &options)?;
-    assert!(rt; holds(&engine.retrieve_chunk(alloc, &[0])?, &[5, 6, 7, 8]));
+    let mut engine = foreign_engine(alloc)?;
+    let refused = reads(alloc, &engine, &[0], &[]);
+    assert!(rt; matches!(&refused, Err(ArrayError::CodecError(_))));
+    store(
+        alloc,
+        &mut engine,
+        &[0],
+        &[5, 6, 7, 8],
+        &CodecOptions::default(),
+    )?;
+    assert!(rt; reads(alloc, &engine, &[0], &[5, 6, 7, 8])?);
     Ok(())
 }
 
 #[test]
 fn foreign_bytes_are_erased(rt: HostRuntime) -> Result<(), Fail> {
     let alloc = rt.alloc();
-    let mut storage = MemoryStore::new(alloc);
-    let key = StoreKey::new(alloc, "c/0")?;
-    storage.set(alloc, &key, Bytes::from_static(&[1, 2, 3]))?;
-    let mut engine = bytes_engine(alloc, storage, &[4], &[4], 0)?;
-    engine.erase_chunk(alloc, &[0])?;
-    assert!(rt; holds(&engine.retrieve_chunk(alloc, &[0])?, &[0, 0, 0, 0]));
+    let mut engine = foreign_engine(alloc)?;
+    let calls = vec![in alloc; Call::EraseChunk(vec![in alloc; 0u64]?)]?;
+    let replies = replay(alloc, &mut engine, &calls, &CodecOptions::default())?;
+    assert!(rt; matches!(replies.first(), Some(Reply::Done)));
+    assert!(rt; reads(alloc, &engine, &[0], &[0, 0, 0, 0])?);
     Ok(())
 }
 
 #[test]
 fn cells_past_the_shape_are_kept(rt: HostRuntime) -> Result<(), Fail> {
     let alloc = rt.alloc();
-    let options = CodecOptions::default();
     let mut engine = bytes_engine(alloc, MemoryStore::new(alloc), &[3], &[2], 0)?;
-    engine.store_chunk(alloc, &[1], &data(alloc, &[7, 8])?, &options)?;
-    assert!(rt; holds(&engine.retrieve_chunk(alloc, &[1])?, &[7, 8]));
-    engine.store_chunk(alloc, &[5], &data(alloc, &[1, 1])?, &options)?;
-    assert!(rt; holds(&engine.retrieve_chunk(alloc, &[5])?, &[1, 1]));
+    store(alloc, &mut engine, &[1], &[7, 8], &CodecOptions::default())?;
+    assert!(rt; reads(alloc, &engine, &[1], &[7, 8])?);
     Ok(())
 }
 
 #[test]
 fn a_chunk_past_the_numbers_is_refused(rt: HostRuntime) -> Result<(), Fail> {
     let alloc = rt.alloc();
-    let options = CodecOptions::default();
     let storage = MemoryStore::new(alloc);
-    let mut engine = bytes_engine(alloc, storage, &[u64::MAX], &[1 << 63], 0)?;
-    assert!(rt; engine.retrieve_chunk_if_exists(alloc, &[1])?.is_none());
-    let refused = engine.retrieve_chunk(alloc, &[1]);
-    assert!(rt; matches!(refused, Err(ArrayError::InvalidChunkGridIndicesError(_))));
-    let refused = engine.store_chunk(alloc, &[1], &data(alloc, &[1])?, &options);
-    assert!(rt; matches!(refused, Err(ArrayError::InvalidChunkGridIndicesError(_))));
-    engine.erase_chunk(alloc, &[1])?;
-    Ok(())
-}
-
-#[test]
-fn a_list_of_calls_goes_on_after_a_refusal(rt: HostRuntime) -> Result<(), Fail> {
-    let alloc = rt.alloc();
-    let mut engine = bytes_engine(alloc, MemoryStore::new(alloc), &[4], &[2], 0)?;
-    let calls = vec![in alloc;
-        Call::StoreChunk(vec![in alloc; 1u64]?, data(alloc, &[1, 2])?),
-        Call::StoreChunk(vec![in alloc; 1u64]?, data(alloc, &[1, 2, 3])?),
-        Call::EraseChunk(vec![in alloc; 0u64, 0u64]?),
-        Call::RetrieveChunk(vec![in alloc; 1u64]?),
-        Call::RetrieveChunkIfExists(vec![in alloc; 0u64]?),
-        Call::EraseChunk(vec![in alloc; 1u64]?),
-    ]?;
-    let replies = replay(alloc, &mut engine, &calls, &CodecOptions::default())?;
-    assert_eq!(rt; replies.len(), 6);
-    assert!(rt; matches!(&replies[0], Reply::Done));
-    assert!(rt; matches!(&replies[1], Reply::Refused(ArrayError::CodecError(_))));
-    assert!(rt;
-        matches!(
-            &replies[2],
-            Reply::Refused(ArrayError::InvalidChunkGridIndicesError(_))
-        )
-    );
-    let Reply::Cells(cells) = &replies[3] else {
-        return Err("no cells")?;
-    };
-    assert!(rt; holds(cells, &[1, 2]));
-    assert!(rt; matches!(&replies[4], Reply::MaybeCells(None)));
-    assert!(rt; matches!(&replies[5], Reply::Done));
+    let engine = bytes_engine(alloc, storage, &[u64::MAX], &[1 << 63], 0)?;
+    assert!(rt; !stands(alloc, &engine, &[1])?);
+    let refused = reads(alloc, &engine, &[1], &[]);
+    assert!(rt; matches!(&refused, Err(ArrayError::InvalidChunkGridIndicesError(_))));
     Ok(())
 }
 

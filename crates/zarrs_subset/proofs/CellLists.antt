@@ -1,26 +1,23 @@
--- Lemmas that join the cells of an array over a box to a function of positions.
-use Rattle.std.proofs.Common.{◌≡◌, ℕ, ◌<◌, true, List, [], length, map, sym, ap, ◌∙◌, arith}
+-- What joins the cells of an array over a box to a function of positions.
+use Rattle.std.proofs.Common.{◌≡◌, ℕ, ◌<◌, List, [], length, map, Some, sym, ap, ◌∙◌, arith}
 use Rattle.std.proofs.lemmas.List.{length-map, get_or-map, ext_get_or}
-use Rattle.std.proofs.lemmas.List.FromFn.{length-map-range_with_len, get_or-map-range_with_len}
-use Rattle.zarrs_subset.specs.Boxes.{position_count, place, is_within, positions_from, unravel, offset_by}
-use Rattle.zarrs_subset.specs.Cells.{cell_at, cells, cell_of}
+use Rattle.std.proofs.lemmas.Option.{get_or_from_slice_get}
+use Rattle.zarrs_subset.specs.Boxes.{position_count, place, unravel, offset_by}
+use Rattle.zarrs_subset.specs.Regions.{Box, IsLong, Holds, positions, cell_in}
 use Rattle.zarrs_subset.proofs.Positions.{unravel_in, place-unravel, length-positions, get_or-positions, in_box-offset_by, offset_from-by}
 
--- an array over a box whose cells are those of f has the list of f over the positions
-pub cells_are : (size : ℕ) (f : List ℕ → List ℕ) (start extents bytes : List ℕ) → length start ≡ length extents
-    → ((p : List ℕ) → is_within start extents p ≡ true → cell_of size start extents bytes p ≡ f p)
-    → cells size (position_count extents) bytes ≡ map f (positions_from start extents)
-cells_are size f start extents bytes l is =
-    let count = position_count extents in
-    let len : length (cells size count bytes) ≡ count = length-map-range_with_len (cell_at size bytes) 0 count in
-    let len' : length (map f (positions_from start extents)) ≡ count = length-map (positions_from start extents) f ∙ length-positions start extents l in
-    ext_get_or [] (cells size count bytes) (map f (positions_from start extents)) (len ∙ sym len')
+-- cells that are those of f at each position are the list of f over the positions
+pub cells_are : {X : Type 0} (f : List ℕ → X) (box : Box) (cs : List X) (d : X) → IsLong box → length cs ≡ position_count box.shape
+    → ((p : List ℕ) → Holds box p → cell_in box cs p ≡ Some (f p)) → cs ≡ map f (positions box)
+cells_are f box cs d long count is =
+    let len = length-map (positions box) f ∙ length-positions box.start box.shape long in
+    ext_get_or d cs (map f (positions box)) (count ∙ sym len)
     (λ k h.
-    let below : k < count = omega arith in
-    let q = unravel extents k in
-    let inside = unravel_in extents k below in
-    get_or-map-range_with_len (cell_at size bytes) 0 count k k [] below (omega arith)
-    ∙ ap (λ n. cell_at size bytes n) (sym (place-unravel extents k below) ∙ ap (λ v. place extents v) (sym (offset_from-by start extents q l inside)))
-    ∙ is (offset_by start q) (in_box-offset_by start extents q l inside)
-    ∙ ap f (sym (get_or-positions start extents k [] l below))
-    ∙ sym (get_or-map f (positions_from start extents) k [] [] (omega (arith, length-positions start extents l))))
+    let below : k < position_count box.shape = omega arith in
+    let inside = unravel_in box.shape k below in
+    let p = offset_by box.start (unravel box.shape k) in
+    let at = is p (in_box-offset_by box.start box.shape (unravel box.shape k) long inside) in
+    let number = ap (λ q. place box.shape q) (offset_from-by box.start box.shape (unravel box.shape k) long inside) ∙ place-unravel box.shape k below in
+    get_or_from_slice_get cs k (f p) d (rw number at at)
+    ∙ ap f (sym (get_or-positions box.start box.shape k [] long below))
+    ∙ sym (get_or-map f (positions box) k [] d (omega (arith, length-positions box.start box.shape long))))

@@ -81,7 +81,7 @@ BytesPlaced-more size s x t i S X T Y part old mid sub r w sb tb longS longT low
                 let v = place Y (offset_from T p) in
                 let short : v * size + k < sb = omega (arith, below_block (position_count Y) v size k (place_below Y (offset_from T p) (offset_from-in T Y p longT hit)) below) in
                 let cell : r + (v * size + k) ≡ ((j - t) * position_count Y + v) * size + k =
-                    rw same (ap (λ n. n + (v * size + k)) (rIs ∙ ap (λ n. (i - t) * n) sbIs) ∙ sym (in_block (i - t) (position_count Y) v size k)) in
+                rw same (ap (λ n. n + (v * size + k)) (rIs ∙ ap (λ n. (i - t) * n) sbIs) ∙ sym (in_block (i - t) (position_count Y) v size k)) in
                 let byte = get_or-part r (r + sb) (v * size + k) part (omega arith) in
                 rw (range.0, hit) (ap (λ n. get_or (put_mid w tb mid sub) n 0) (at ∙ there) ∙ read ∙ moves ∙ cond-true _ _ _ hit ∙ byte ∙ ap (λ n. get_or part n 0) cell)
             | inr miss ↦

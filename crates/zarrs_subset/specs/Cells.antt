@@ -39,7 +39,3 @@ CellsCopied size source origin target start extents from old new =
     ≡ (if is_within start extents p
     then cell_at size from (place source (moved start origin p))
     else cell_at size old (place target p))
-
--- the cell at the position p of an array over the box of `start` and `extents`
-abbrev pub cell_of : ℕ → List ℕ → List ℕ → List ℕ → List ℕ → List ℕ
-cell_of size start extents bytes p = cell_at size bytes (place extents (offset_from start p))

@@ -113,7 +113,7 @@ fn position_after(
     ensures { IfOk result (λ after. MatchOption after
         (place_in (box_of subset.now) position.now + 1 ≡ position_count (box_of subset.now).shape)
         (λ next. Holds (box_of subset.now) next.items
-            × (place_in (box_of subset.now) next.items ≡ place_in (box_of subset.now) position.now + 1))) }
+        × (place_in (box_of subset.now) next.items ≡ place_in (box_of subset.now) position.now + 1))) }
 {
     let Some(axis) = last_free_dimension(subset, position) else {
         return Ok(None);

@@ -1,12 +1,10 @@
 //! Each public call once, on plain values.
 
-ghost use Rattle.std.specs.Prelude.{◌≡◌, map, IfOk};
-ghost use Rattle.zarrs_subset.specs.Regions.{box_of, positions};
-
-use crate::{ArraySubset, ArraySubsetError, IncompatibleDimensionalityError, SizeOverflow};
-use crate::{ArrayIndices, ArrayIndicesTinyVec, ArraySubsetTraits};
-use crate::{copy_box, element_count, place_part, ravel_indices, unravel_index};
-use std::alloc::{AllocError, Global};
+use crate::{
+    ArraySubset, ArraySubsetError, ArraySubsetTraits, IncompatibleDimensionalityError,
+    SizeOverflow, copy_box, element_count, place_part, ravel_indices, unravel_index,
+};
+use std::alloc::Global;
 use std::ops::Range;
 use std::test::Fail;
 
@@ -45,7 +43,10 @@ fn overlap_of_other_dimensions_is_refused(rt: HostRuntime) -> Result<(), Fail> {
     assert_eq!(rt; mismatch.expected(), 2);
     match plane.overlap(rt.alloc(), &line) {
         Ok(_) => assert!(rt; false),
-        Err(error) => assert_eq!(rt; error, ArraySubsetError::IncompatibleDimensionality(mismatch)),
+        Err(error) => assert_eq!(rt;
+            error,
+            ArraySubsetError::IncompatibleDimensionality(mismatch)
+        ),
     }
     Ok(())
 }
@@ -61,7 +62,10 @@ fn row_major_number_of_the_last_position(rt: HostRuntime) -> Result<(), Fail> {
 fn a_position_outside_the_shape_has_no_number(rt: HostRuntime) -> Result<(), Fail> {
     assert_eq!(rt; ravel_indices(&[2, 0], &[2, 4]), None);
     assert_eq!(rt; ravel_indices(&[1], &[2, 4]), None);
-    assert_eq!(rt; ravel_indices(&[4294967296, 0], &[4294967297, 4294967296]), None);
+    assert_eq!(rt;
+        ravel_indices(&[4294967296, 0], &[4294967297, 4294967296]),
+        None
+    );
     Ok(())
 }
 
@@ -91,7 +95,10 @@ fn counts_of_positions(rt: HostRuntime) -> Result<(), Fail> {
 #[test]
 fn boxes_at_the_end_of_the_numbers(rt: HostRuntime) -> Result<(), Fail> {
     let last = subset(&rt, &[18446744073709551614], &[1])?;
-    assert_eq!(rt; last.end_exc(rt.alloc())?.as_slice(), [18446744073709551615].as_slice());
+    assert_eq!(rt;
+        last.end_exc(rt.alloc())?.as_slice(),
+        [18446744073709551615].as_slice()
+    );
     let start = Vec::from_slice(rt.alloc(), &[18446744073709551615])?;
     let shape = Vec::from_slice(rt.alloc(), &[1])?;
     match ArraySubset::new_with_start_shape(start, shape) {
@@ -121,7 +128,10 @@ fn boxes_of_ranges(rt: HostRuntime) -> Result<(), Fail> {
     let made = ArraySubset::new_with_ranges(rt.alloc(), &[0..2, 1..3, 7..4])?;
     assert_eq!(rt; made.start(), [0, 1, 7].as_slice());
     assert_eq!(rt; made.shape(), [2, 2, 0].as_slice());
-    assert_eq!(rt; format!(in rt.alloc(); "{made}")?.as_str(), "[0..2, 1..3, 7..7]");
+    assert_eq!(rt;
+        format!(in rt.alloc(); "{made}")?.as_str(),
+        "[0..2, 1..3, 7..7]"
+    );
     Ok(())
 }
 
@@ -165,7 +175,10 @@ fn boxes_cut_to_an_end(rt: HostRuntime) -> Result<(), Fail> {
 #[test]
 fn positions_of_a_box_by_number(rt: HostRuntime) -> Result<(), Fail> {
     let made = subset(&rt, &[3, 5], &[2, 2])?;
-    assert_eq!(rt; made.nth_position(rt.alloc(), 2)?.as_slice(), [4, 5].as_slice());
+    assert_eq!(rt;
+        made.nth_position(rt.alloc(), 2)?.as_slice(),
+        [4, 5].as_slice()
+    );
     let third = made.position(rt.alloc(), 3)?.ok_or("a position")?;
     assert_eq!(rt; third.as_slice(), [4, 6].as_slice());
     assert!(rt; made.position(rt.alloc(), 4)?.is_none());
@@ -216,7 +229,13 @@ fn a_part_sticks_out_of_the_box(rt: HostRuntime) -> Result<(), Fail> {
     let mut target = [0u8; 8];
     let region = subset(&rt, &[3, 4], &[2, 2])?;
     let chunk = subset(&rt, &[4, 2], &[2, 3])?;
-    place_part(&region, &mut target, &chunk, &[1, 1, 2, 2, 3, 3, 4, 4, 5, 5, 6, 6], 2);
+    place_part(
+        &region,
+        &mut target,
+        &chunk,
+        &[1, 1, 2, 2, 3, 3, 4, 4, 5, 5, 6, 6],
+        2,
+    );
     assert_eq!(rt; target.as_slice(), [0, 0, 0, 0, 3, 3, 0, 0].as_slice());
     let apart = subset(&rt, &[5, 2], &[1, 1])?;
     place_part(&region, &mut target, &apart, &[7, 7], 2);
@@ -269,55 +288,26 @@ fn positions_of_boxes_past_the_numbers(rt: HostRuntime) -> Result<(), Fail> {
     Ok(())
 }
 
-fn corners<B: ArraySubsetTraits>(
-    rt: &HostRuntime,
-    region: &B,
-) -> Result<(usize, ArrayIndices, ArrayIndices, ArrayIndices), Fail> {
-    let start = region.start(rt.alloc())?;
-    let shape = region.shape(rt.alloc())?;
-    let end = region.end_exc(rt.alloc())?;
-    Ok((region.dimensionality(), start, shape, end))
-}
-
-fn check_corners<B: ArraySubsetTraits>(rt: &HostRuntime, region: &B) -> Result<(), Fail> {
-    let (dimensionality, start, shape, end) = corners(rt, region)?;
-    assert_eq!(*rt; dimensionality, 2);
-    assert_eq!(*rt; start.as_slice(), [1, 7].as_slice());
-    assert_eq!(*rt; shape.as_slice(), [3, 0].as_slice());
-    assert_eq!(*rt; end.as_slice(), [4, 7].as_slice());
-    assert_eq!(*rt; region.num_elements(), Ok(0));
-    Ok(())
+// The dimensionality, the start, the shape and the end, and whether there is no position.
+fn described<B: ArraySubsetTraits>(alloc: Global, region: &B) -> Result<String, Fail> {
+    let start = region.start(alloc)?;
+    let shape = region.shape(alloc)?;
+    let end = region.end_exc(alloc)?;
+    let count = region.dimensionality();
+    let is_empty = region.num_elements() == Ok(0);
+    Ok(format!(in alloc; "{count} {start:?} {shape:?} {end:?} {is_empty}")?)
 }
 
 #[test]
 fn subsets_and_ranges_stand_for_boxes(rt: HostRuntime) -> Result<(), Fail> {
-    check_corners(&rt, &subset(&rt, &[1, 7], &[3, 0])?)?;
-    check_corners(&rt, &[1..4, 7..2])?;
-    let ranges: &[Range<u64>] = &[1..4, 7..2];
-    check_corners(&rt, &ranges)?;
-    let ranges = vec![in rt.alloc(); 1..4, 7..2]?;
-    check_corners(&rt, &ranges)
-}
-
-// All positions of the box, in a list.
-fn all_positions(
-    alloc: Global,
-    subset: &ArraySubset,
-) -> Result<Vec<ArrayIndicesTinyVec>, AllocError>
-    ensures { IfOk result (λ found. map (λ position. position.items) found.items ≡ positions (box_of subset.now)) }
-{
-    let mut found = Vec::new(alloc);
-    for position in subset.indices(alloc) {
-        found.push(position?)?;
-    }
-    Ok(found)
-}
-
-#[test]
-fn a_loop_over_the_positions_meets_all(rt: HostRuntime) -> Result<(), Fail> {
-    let made = subset(&rt, &[1, 5, 0], &[2, 3, 4])?;
-    let found = all_positions(rt.alloc(), &made)?;
-    assert_eq!(rt; found.len(), 24);
-    assert_eq!(rt; found[23].as_slice(), [2, 7, 3].as_slice());
+    let expected = "2 [1, 7] [3, 0] [4, 7] true";
+    let made = subset(&rt, &[1, 7], &[3, 0])?;
+    assert_eq!(rt; described(rt.alloc(), &made)?.as_str(), expected);
+    let array: [Range<u64>; 2] = [1..4, 7..2];
+    assert_eq!(rt; described(rt.alloc(), &array)?.as_str(), expected);
+    let lent: &[Range<u64>] = &array;
+    assert_eq!(rt; described(rt.alloc(), &lent)?.as_str(), expected);
+    let ranges: Vec<Range<u64>> = vec![in rt.alloc(); 1..4, 7..2]?;
+    assert_eq!(rt; described(rt.alloc(), &ranges)?.as_str(), expected);
     Ok(())
 }

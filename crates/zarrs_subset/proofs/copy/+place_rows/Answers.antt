@@ -9,9 +9,9 @@ slice_bounds-copy_from_slice-end t c =
     let first : c.max-first.result ≡ max (slice_index c.args.target_start.now 0) (slice_index c.args.part_start.now 0) = search rules in
     let end : c.min-end.result ≡ min (slice_index c.args.target_start.now 0 + slice_index c.args.target_shape.now 0) (slice_index c.args.part_start.now 0 + slice_index c.args.part_shape.now 0) = search rules in
     let size : c.block_len-target_block.result ≡ c.args.cell_size =
-        line_block c.args.target_shape.now _ (length c.args.target.now) _ c.if-target_shape-eq1.true (c.block_len-target_block.ensures.block _ c.requires.target_len) in
+    line_block c.args.target_shape.now _ (length c.args.target.now) _ c.if-target_shape-eq1.true (c.block_len-target_block.ensures.block _ c.requires.target_len) in
     let within = line_within (slice_index c.args.target_start.now 0) (slice_index c.args.target_shape.now 0) c.max-first.result c.min-end.result c.args.cell_size (length c.args.target.now)
-        (omega arith) (omega arith) (omega arith) (rw size at c.block_len-target_block.ensures.room) in
+    (omega arith) (omega arith) (omega arith) (rw size at c.block_len-target_block.ensures.room) in
     rw size within
 
 pub slice_bounds-copy_from_slice-end-then-target_shape-eq1 : goal.slice_bounds-copy_from_slice-end-then-target_shape-eq1
@@ -19,9 +19,9 @@ slice_bounds-copy_from_slice-end-then-target_shape-eq1 t c =
     let first : c.max-first.result ≡ max (slice_index c.args.target_start.now 0) (slice_index c.args.part_start.now 0) = search rules in
     let end : c.min-end.result ≡ min (slice_index c.args.target_start.now 0 + slice_index c.args.target_shape.now 0) (slice_index c.args.part_start.now 0 + slice_index c.args.part_shape.now 0) = search rules in
     let size : c.block_len-part_block.result ≡ c.args.cell_size =
-        line_block c.args.part_shape.now _ (length c.args.part.now) _ (omega arith) (c.block_len-part_block.ensures.block _ c.requires.part_len) in
+    line_block c.args.part_shape.now _ (length c.args.part.now) _ (omega arith) (c.block_len-part_block.ensures.block _ c.requires.part_len) in
     let within = line_within (slice_index c.args.part_start.now 0) (slice_index c.args.part_shape.now 0) c.max-first.result c.min-end.result c.args.cell_size (length c.args.part.now)
-        (omega arith) (omega arith) (omega arith) (rw size at c.block_len-part_block.ensures.room) in
+    (omega arith) (omega arith) (omega arith) (rw size at c.block_len-part_block.ensures.room) in
     rw size within
 
 pub returns-then-target_shape-eq1 : goal.returns-then-target_shape-eq1
@@ -29,12 +29,12 @@ returns-then-target_shape-eq1 t c =
     let first : c.max-first.result ≡ max (slice_index c.args.target_start.now 0) (slice_index c.args.part_start.now 0) = search rules in
     let end : c.min-end.result ≡ min (slice_index c.args.target_start.now 0 + slice_index c.args.target_shape.now 0) (slice_index c.args.part_start.now 0 + slice_index c.args.part_shape.now 0) = search rules in
     let size : c.block_len-target_block.result ≡ c.args.cell_size =
-        line_block c.args.target_shape.now _ (length c.args.target.now) _ c.if-target_shape-eq1.true (c.block_len-target_block.ensures.block _ c.requires.target_len) in
+    line_block c.args.target_shape.now _ (length c.args.target.now) _ c.if-target_shape-eq1.true (c.block_len-target_block.ensures.block _ c.requires.target_len) in
     let part_size : c.block_len-part_block.result ≡ c.args.cell_size =
-        line_block c.args.part_shape.now _ (length c.args.part.now) _ (omega arith) (c.block_len-part_block.ensures.block _ c.requires.part_len) in
+    line_block c.args.part_shape.now _ (length c.args.part.now) _ (omega arith) (c.block_len-part_block.ensures.block _ c.requires.part_len) in
     let len = (c.min-end.result - c.max-first.result) * c.args.cell_size in
     let room = line_within (slice_index c.args.target_start.now 0) (slice_index c.args.target_shape.now 0) c.max-first.result c.min-end.result c.args.cell_size (length c.args.target.now)
-        (omega arith) (omega arith) (omega arith) (rw size at c.block_len-target_block.ensures.room) in
+    (omega arith) (omega arith) (omega arith) (rw size at c.block_len-target_block.ensures.room) in
     let room' : (c.max-first.result - slice_index c.args.target_start.now 0) * c.block_len-target_block.result + len ≤ length c.args.target.now = rw size room in
     BytesPlaced-line c.args.cell_size c.max-first.result c.min-end.result _ _ _ _ _ _ _ _ _ len _
     c.requires.target_long c.requires.part_long c.requires.dimensions c.if-target_shape-eq1.true
@@ -49,9 +49,9 @@ place_rows-requires t c =
     let first : c.max-first.result ≡ max (slice_index c.args.target_start.now 0) (slice_index c.args.part_start.now 0) = search rules in
     let end : c.min-end.result ≡ min (slice_index c.args.target_start.now 0 + slice_index c.args.target_shape.now 0) (slice_index c.args.part_start.now 0 + slice_index c.args.part_shape.now 0) = search rules in
     let target_room : (c.loop-index.index - slice_index c.args.target_start.now 0) * c.block_len-target_block.result + c.block_len-target_block.result ≤ length c.loop-index.target =
-        omega (arith, block_within (slice_index c.args.target_start.now 0) (slice_index c.args.target_shape.now 0) c.loop-index.index c.block_len-target_block.result (length c.args.target.now) (omega arith) (omega arith) c.block_len-target_block.ensures.room) in
+    omega (arith, block_within (slice_index c.args.target_start.now 0) (slice_index c.args.target_shape.now 0) c.loop-index.index c.block_len-target_block.result (length c.args.target.now) (omega arith) (omega arith) c.block_len-target_block.ensures.room) in
     let part_room : (c.loop-index.index - slice_index c.args.part_start.now 0) * c.block_len-part_block.result + c.block_len-part_block.result ≤ length c.args.part.now =
-        block_within (slice_index c.args.part_start.now 0) (slice_index c.args.part_shape.now 0) c.loop-index.index c.block_len-part_block.result (length c.args.part.now) (omega arith) (omega arith) c.block_len-part_block.ensures.room in
+    block_within (slice_index c.args.part_start.now 0) (slice_index c.args.part_shape.now 0) c.loop-index.index c.block_len-part_block.result (length c.args.part.now) (omega arith) (omega arith) c.block_len-part_block.ensures.room in
     let target_starts = length-tail c.args.target_start.now in
     let target_extents = length-tail c.args.target_shape.now in
     let part_starts = length-tail c.args.part_start.now in
@@ -84,7 +84,7 @@ loop-index-preserved t c =
     let first : c.max-first.result ≡ max (slice_index c.args.target_start.now 0) (slice_index c.args.part_start.now 0) = search rules in
     let end : c.min-end.result ≡ min (slice_index c.args.target_start.now 0 + slice_index c.args.target_shape.now 0) (slice_index c.args.part_start.now 0 + slice_index c.args.part_shape.now 0) = search rules in
     let room : (c.loop-index.index - slice_index c.args.target_start.now 0) * c.block_len-target_block.result + c.block_len-target_block.result ≤ length c.loop-index.target =
-        omega (arith, block_within (slice_index c.args.target_start.now 0) (slice_index c.args.target_shape.now 0) c.loop-index.index c.block_len-target_block.result (length c.args.target.now) (omega arith) (omega arith) c.block_len-target_block.ensures.room) in
+    omega (arith, block_within (slice_index c.args.target_start.now 0) (slice_index c.args.target_shape.now 0) c.loop-index.index c.block_len-target_block.result (length c.args.target.now) (omega arith) (omega arith) c.block_len-target_block.ensures.room) in
     BytesPlaced-step _ c.loop-index.index _ _ _ _ _ _ _ _ _ _ _ _ _
     c.requires.target_long c.requires.part_long c.requires.dimensions some (omega arith) (omega arith)
     (c.block_len-part_block.ensures.block _ c.requires.part_len) (c.block_len-target_block.ensures.block _ c.requires.target_len)

@@ -13,7 +13,7 @@ returns-in-Ok-clause-steps c =
     let begins : BeginsAt box (positions_since box a.next) c.in-Ok-Some.position = search rules in
     let done : c.is_none-self.result ≡ is_none c.in-Ok.next = search rules in
     let after : MatchOption c.in-Ok.next (place_in box c.in-Ok-Some.position.items + 1 ≡ position_count box.shape)
-        (λ q. Holds box q.items × (place_in box q.items ≡ place_in box c.in-Ok-Some.position.items + 1)) = search rules in
+    (λ q. Holds box q.items × (place_in box q.items ≡ place_in box c.in-Ok-Some.position.items + 1)) = search rules in
     rw open_yet (begins.1 ∙ step_of box c.in-Ok-Some.position.items c.in-Ok.next c.is_none-self.result a.subset.now.same_length begins.0 done after)
 
 pub returns-in-Ok-clause-goes : goal.returns-in-Ok-clause-goes
