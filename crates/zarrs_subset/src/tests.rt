@@ -2,7 +2,7 @@
 
 use crate::{
     ArraySubset, ArraySubsetError, ArraySubsetTraits, IncompatibleDimensionalityError,
-    SizeOverflow, copy_box, element_count, place_part, ravel_indices, unravel_index,
+    SizeOverflow, copy_box, element_count, ravel_indices, unravel_index,
 };
 use std::alloc::Global;
 use std::ops::Range;
@@ -175,10 +175,6 @@ fn boxes_cut_to_an_end(rt: HostRuntime) -> Result<(), Fail> {
 #[test]
 fn positions_of_a_box_by_number(rt: HostRuntime) -> Result<(), Fail> {
     let made = subset(&rt, &[3, 5], &[2, 2])?;
-    assert_eq!(rt;
-        made.nth_position(rt.alloc(), 2)?.as_slice(),
-        [4, 5].as_slice()
-    );
     let third = made.position(rt.alloc(), 3)?.ok_or("a position")?;
     assert_eq!(rt; third.as_slice(), [4, 6].as_slice());
     assert!(rt; made.position(rt.alloc(), 4)?.is_none());
@@ -211,44 +207,6 @@ fn a_box_goes_into_a_larger_array(rt: HostRuntime) -> Result<(), Fail> {
         1,
     );
     assert_eq!(rt; target.as_slice(), [9, 9, 9, 9, 5, 6, 9, 9, 9].as_slice());
-    Ok(())
-}
-
-#[test]
-fn a_part_goes_to_its_places(rt: HostRuntime) -> Result<(), Fail> {
-    let mut target = [9u8; 9];
-    let whole = subset(&rt, &[0, 0], &[3, 3])?;
-    let part = subset(&rt, &[1, 1], &[1, 2])?;
-    place_part(&whole, &mut target, &part, &[5, 6], 1);
-    assert_eq!(rt; target.as_slice(), [9, 9, 9, 9, 5, 6, 9, 9, 9].as_slice());
-    Ok(())
-}
-
-#[test]
-fn a_part_sticks_out_of_the_box(rt: HostRuntime) -> Result<(), Fail> {
-    let mut target = [0u8; 8];
-    let region = subset(&rt, &[3, 4], &[2, 2])?;
-    let chunk = subset(&rt, &[4, 2], &[2, 3])?;
-    place_part(
-        &region,
-        &mut target,
-        &chunk,
-        &[1, 1, 2, 2, 3, 3, 4, 4, 5, 5, 6, 6],
-        2,
-    );
-    assert_eq!(rt; target.as_slice(), [0, 0, 0, 0, 3, 3, 0, 0].as_slice());
-    let apart = subset(&rt, &[5, 2], &[1, 1])?;
-    place_part(&region, &mut target, &apart, &[7, 7], 2);
-    assert_eq!(rt; target.as_slice(), [0, 0, 0, 0, 3, 3, 0, 0].as_slice());
-    Ok(())
-}
-
-#[test]
-fn a_part_with_no_dimension_is_one_cell(rt: HostRuntime) -> Result<(), Fail> {
-    let point = subset(&rt, &[], &[])?;
-    let mut target = [0u8; 2];
-    place_part(&point, &mut target, &point, &[1, 2], 2);
-    assert_eq!(rt; target.as_slice(), [1, 2].as_slice());
     Ok(())
 }
 
