@@ -124,7 +124,7 @@ fn rectangular_chunks_of_listed_sizes(rt: HostRuntime) -> Result<(), Fail> {
     assert_eq!(rt; plain.as_slice(), [3, 4].as_slice());
     assert!(rt; grid.subset(alloc, &[2, 0])?.is_none());
     let met = grid
-        .chunks_in_array_subset(alloc, &region(alloc, &[1, 4], &[4, 5])?)?
+        .chunks_in_array_subset(alloc, &[1..5, 4..9])?
         .ok_or("covered")?;
     assert_eq!(rt; met.start(), [0, 1].as_slice());
     assert_eq!(rt; met.shape(), [2, 2].as_slice());

@@ -9,7 +9,9 @@ use Rattle.zarrs_subset.specs.Regions.{Box}
 use Rattle.zarrs_chunk_grid.specs.Grids.{box_at, has_box}
 use Rattle.zarrs_chunk_grid.proofs.Chunks.{box_is_there}
 use Rattle.zarrs_storage.specs.Store.{StoreState, KeepsReach, MayReadWhole}
+use Rattle.zarrs_storage.specs.Causes.{HasReadCause}
 use Rattle.zarrs_storage.specs.declared.errors.StorageError.{StorageError}
+use Rattle.zarrs_storage.specs.declared.errors.StorageError.TheVariants as stored
 use Rattle.zarrs_codec_leaf.specs.declared.error.CodecError.{CodecError}
 use Rattle.zarrs_codec_leaf.specs.declared.error.CodecError.TheVariants as coded
 use Rattle.zarrs_codec.specs.Chain.{ChainMeaning, IsLawfulChain, chunk_text}
@@ -24,12 +26,12 @@ use Rattle.zarrs_engine.specs.Layout.{Layout, IsLawful}
 use Rattle.zarrs_engine.specs.Content.{texts, content, decoded_cells, Reads}
 use Rattle.zarrs_engine.specs.Errors.{error_of_storage, error_of_codec}
 use Rattle.zarrs_engine.specs.Refusals as refusal
-use Rattle.zarrs_engine.specs.Refusals.{Refusal, refusal_of, refusal_of_storage, or_else, length_refusal, box_refusal, is_left_out, encoded_cells, encode_refusal, data_refusal, store_refusal, read_refusal, StoreFails, IsRefusal}
+use Rattle.zarrs_engine.specs.Refusals.{Refusal, refusal_of, refusal_of_storage, or_else, length_refusal, box_refusal, is_left_out, encoded_cells, encode_refusal, data_refusal, key_refusal, store_refusal, read_refusal, StoreFails, IsRefusal}
 use Rattle.zarrs_engine.specs.Changes.{Leaves, IsTextOf, RetrievesChunk, RetrievesIfExists}
 use Rattle.zarrs_engine.specs.Step.{StoreRefused, EraseRefused, ReadRefused}
 use Rattle.zarrs_engine.specs.Puts.{RefusesIndices, TextRefused, HasText}
 use Rattle.zarrs_engine.proofs.Contents.{reads_decoded, reads_absent}
-use Rattle.zarrs_engine.proofs.RefusalLemmas.{refusal_moved, refused_first, refused_second, refused_by_store, second_refusal, storage_said, codec_said, leaves_for, leaves_all, box_accepted, no_chunk}
+use Rattle.zarrs_engine.proofs.RefusalLemmas.{refusal_moved, first_refusal, refused_first, refused_second, refused_by_store, second_refusal, storage_said, codec_said, leaves_for, leaves_all, box_accepted, no_chunk}
 
 -- what holds of each answer, by a fact that goes with any
 pub both_ok : {T E : Type 0} (r : Result T E) (P R : T → Type 0) (Q : Type 0) → ((x : T) → Q → P x → R x) → OnOk r Q → IfOk r P → IfOk r R
@@ -138,15 +140,54 @@ decode_refused layout needed index text coded.DoesNotFit none undecoded =
 decode_refused layout needed index text coded.SizeOverflow none h = absurd h
 decode_refused layout needed index text coded.OutOfMemory none h = tt
 
+-- the first of two refusals is the first of three
+or_else_more : (a b c : Option Refusal) (x : Refusal) → or_else a b ≡ Some x → or_else a (or_else b c) ≡ Some x
+or_else_more None b c x h = first_refusal b c x h
+or_else_more (Some y) b c x h = h
+
+-- a key that the store does not refuse
+pub key_accepted : (layout : Layout) (index : List ℕ) (state : StoreState) → (state.refuses (layout.key index) ≡ true → ⊥) → key_refusal layout index state ≡ None
+key_accepted layout index state open_key =
+    elim (cases_Bool (state.refuses (layout.key index))) [
+      | inl is ↦ absurd (open_key is)
+      | inr is_not ↦ ap (λ b. cond b (Some refusal.storage) None) is_not
+    ]
+
+-- the bytes of a chunk are refused for the length of the index list
+pub text_refused_length : (layout : Layout) (index : List ℕ) (state : StoreState) (e : ArrayError) → length index ≢ layout.grid.dimensions → RefusesIndices index e → TextRefused layout index state (refusal_of e)
+text_refused_length layout index state e wrong r =
+    refused_first (length_refusal layout index) (key_refusal layout index state) ⊥ _ (refusal_of e) (λ x. absurd x) (refuses_length layout index ⊥ e wrong r)
+
+-- what the store says is the refusal of the key, or want of memory
+text_refused_said : (first : Option Refusal) (e : StorageError) → first ≡ Some refusal.storage → IsRefusal first (first ≡ Some refusal.storage) (refusal_of (error_of_storage e))
+text_refused_said first (stored.InvalidMetadata key text) h = h
+text_refused_said first stored.ReadOnly h = h
+text_refused_said first stored.InvalidByteRange h = h
+text_refused_said first stored.Exhausted h = h
+text_refused_said first (stored.Other text) h = h
+text_refused_said first stored.OutOfMemory h = tt
+
+-- or by the store
+pub text_refused_store : (layout : Layout) (index key : List ℕ) (state : StoreState) (e : StorageError) → length index ≡ layout.grid.dimensions → key ≡ layout.key index → HasReadCause state key e → TextRefused layout index state (refusal_of (error_of_storage e))
+text_refused_store layout index key state e long is (inl memory) = rw memory tt
+text_refused_store layout index key state e long is (inr refuses) =
+    text_refused_said _ e
+    (second_refusal (length_refusal layout index) _ (right_length layout index long)
+    ∙ ap (λ b. cond b (Some refusal.storage) None) (ap state.refuses (sym is) ∙ refuses))
+
 -- a read that was refused before the bytes came
 pub read_refused_first : (layout : Layout) (needed : Bool) (index : List ℕ) (state : StoreState) (r : Refusal) → TextRefused layout index state r → ReadRefused layout needed index state r
-read_refused_first layout needed index state r h = refused_first (length_refusal layout index) _ _ _ r (λ x. x) h
+read_refused_first layout needed index state r h =
+    let more = or_else_more (length_refusal layout index) (key_refusal layout index state) (read_refusal layout needed index (texts state (layout.key index))) in
+    refusal_moved _ _ _ _ r more (more refusal.storage) h
 
 -- and after
-pub read_refused_then : (layout : Layout) (needed : Bool) (index : List ℕ) (found : Option (List ℕ)) (state : StoreState) (r : Refusal) → length index ≡ layout.grid.dimensions → found ≡ texts state (layout.key index)
+pub read_refused_then : (layout : Layout) (needed : Bool) (index : List ℕ) (found : Option (List ℕ)) (state : StoreState) (r : Refusal) → length index ≡ layout.grid.dimensions → key_refusal layout index state ≡ None → found ≡ texts state (layout.key index)
     → IsRefusal (read_refusal layout needed index found) ⊥ r → ReadRefused layout needed index state r
-read_refused_then layout needed index found state r long at h =
-    refused_second (length_refusal layout index) _ ⊥ _ r (right_length layout index long) (λ x. absurd x)
+read_refused_then layout needed index found state r long open_key at h =
+    refusal_moved _ _ ⊥ _ r
+    (λ x is. second_refusal (length_refusal layout index) _ (right_length layout index long) ∙ second_refusal (key_refusal layout index state) _ open_key ∙ is)
+    (λ x. absurd x)
     (subst (λ (o : Option (List ℕ)). IsRefusal (read_refusal layout needed index o) ⊥ r) at h)
 
 first_none : (a b : Option Refusal) → or_else a b ≡ None → a ≡ None

@@ -9,7 +9,7 @@ use Rattle.zarrs_data_type.specs.Cells.{cells}
 use Rattle.zarrs_engine.specs.declared.error.ArrayError.{ArrayError}
 use Rattle.zarrs_engine.specs.Layout.{Layout}
 use Rattle.zarrs_engine.specs.Content.{texts}
-use Rattle.zarrs_engine.specs.Refusals.{Refusal, indices, refusal_of, IsRefusal, length_refusal}
+use Rattle.zarrs_engine.specs.Refusals.{Refusal, indices, refusal_of, IsRefusal, or_else, length_refusal, key_refusal, storage}
 use Rattle.zarrs_engine.specs.Changes.{IsTextOf, Makes}
 
 -- the refusal names these indices, or memory was short
@@ -19,7 +19,8 @@ RefusesIndices index e = IsRefusal (Some (indices index)) ⊥ (refusal_of e)
 -- the bytes of a chunk cannot be had: an index list of another length, or a key that the store refuses to read
 abbrev pub TextRefused : Layout → List ℕ → StoreState → Refusal → Type 0
 TextRefused layout index state =
-    IsRefusal (length_refusal layout index) ((length index ≡ layout.grid.dimensions) × (state.refuses (layout.key index) ≡ true))
+    let first = or_else (length_refusal layout index) (key_refusal layout index state) in
+    IsRefusal first (first ≡ Some storage)
 
 -- the data is the cells of a chunk of this box, and this is what is to stand at its key
 pub record HasText (layout : Layout) (keep : Bool) (box : Box) (held : ArrayData) (text : Option (List ℕ)) : Type 0 where

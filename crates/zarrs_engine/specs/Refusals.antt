@@ -141,6 +141,10 @@ read_refusal layout needed index None = if needed then or_else (box_refusal layo
 read_refusal layout needed index (Some text) =
     or_else (box_refusal layout index) (if is_some (decoded_cells layout (box_at layout.grid index) text) then None else Some codec)
 
+-- the store refuses to read the key of the chunk
+abbrev pub key_refusal : Layout → List ℕ → StoreState → Option Refusal
+key_refusal layout index state = if state.refuses (layout.key index) then Some storage else None
+
 -- a writing call of the store failed, or no more of them are counted
 abbrev pub StoreFails : StoreState → StoreState → Type 0
 StoreFails old new = (old.failures < new.failures) ⊎ (new.calls ≡ last_call)

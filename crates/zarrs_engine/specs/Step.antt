@@ -9,7 +9,7 @@ use Rattle.zarrs_engine.specs.declared.call.Reply.{Reply}
 use Rattle.zarrs_engine.specs.declared.call.Reply.TheVariants.{Done, Cells, MaybeCells, Refused}
 use Rattle.zarrs_engine.specs.Layout.{Layout}
 use Rattle.zarrs_engine.specs.Content.{texts}
-use Rattle.zarrs_engine.specs.Refusals.{Refusal, refusal_of, IsRefusal, StoreFails, or_else, length_refusal, store_refusal, read_refusal}
+use Rattle.zarrs_engine.specs.Refusals.{Refusal, refusal_of, IsRefusal, StoreFails, or_else, length_refusal, key_refusal, store_refusal, read_refusal, storage}
 use Rattle.zarrs_engine.specs.Changes.{StoresChunk, ErasesChunk, Leaves, RetrievesChunk, RetrievesIfExists}
 
 -- a refused store of one chunk: by its arguments, and only where they decide nothing by the store
@@ -26,8 +26,8 @@ EraseRefused layout index old new refusal =
 -- what the bytes that stand there decide
 abbrev pub ReadRefused : Layout → Bool → List ℕ → StoreState → Refusal → Type 0
 ReadRefused layout needed index state =
-    IsRefusal (or_else (length_refusal layout index) (read_refusal layout needed index (texts state (layout.key index))))
-    ((length index ≡ layout.grid.dimensions) × (state.refuses (layout.key index) ≡ true))
+    let first = or_else (length_refusal layout index) (or_else (key_refusal layout index state) (read_refusal layout needed index (texts state (layout.key index)))) in
+    IsRefusal first (first ≡ Some storage)
 
 -- The engine may answer this reply to the call and go on from old to new, where empty chunks are kept or not.
 abbrev pub Step : Layout → Bool → Call → Reply → StoreState → StoreState → Type 0

@@ -71,12 +71,12 @@ impl<
     K: ChunkKeyEncodingTraits,
     C: ChainTraits,
 > Engine<S, G, K, C> {
-    ghost use Rattle.std.specs.Prelude.{◌≡◌, true, false, IfOk, IfErr, OnOk, IsErr, length, option_map};
+    ghost use Rattle.std.specs.Prelude.{◌≡◌, true, false, IfOk, IfErr, OnOk, IsErr, None, length, option_map};
     ghost use Rattle.zarrs_data_type.specs.ArrayData.{data_of};
     ghost use Rattle.zarrs_engine.specs.Layout.{layout_of, store_of};
     ghost use Rattle.zarrs_engine.specs.Content.{texts};
     ghost use Rattle.zarrs_engine.specs.Reach.{MayAskChunk};
-    ghost use Rattle.zarrs_engine.specs.Refusals.{refusal_of};
+    ghost use Rattle.zarrs_engine.specs.Refusals.{refusal_of, key_refusal};
     ghost use Rattle.zarrs_engine.specs.Changes.{RetrievesChunk, RetrievesIfExists};
     ghost use Rattle.zarrs_engine.specs.Step.{ReadRefused};
     ghost use Rattle.zarrs_engine.specs.Puts.{TextRefused};
@@ -88,6 +88,8 @@ impl<
             ≡ texts (store_of S.state self.now) ((layout_of G.grid K.key C.meaning self.now).key indices.now)) }
         ensures long { OnOk result (length indices.now
             ≡ (layout_of G.grid K.key C.meaning self.now).grid.dimensions) }
+        ensures asked { OnOk result
+            (key_refusal (layout_of G.grid K.key C.meaning self.now) indices.now (store_of S.state self.now) ≡ None) }
         ensures refused { IfErr result
             (λ e. TextRefused (layout_of G.grid K.key C.meaning self.now) indices.now (store_of S.state self.now)
             (refusal_of e)) }

@@ -7,6 +7,7 @@ ghost use Rattle.zarrs_subset.specs.Refusals.{IsMismatch, RefusesStartShape, Ref
 use crate::error::{ArraySubsetError, IncompatibleDimensionalityError, SizeOverflow};
 use crate::lists::{distances, earlier, ends_of, extents, has_zero, later, sums};
 use crate::ravel::{element_count, unravel_index};
+use crate::traits::ArraySubsetTraits;
 use crate::{ArrayIndices, ArrayShape};
 use std::alloc::{AllocError, Global};
 use std::fmt;
@@ -136,6 +137,20 @@ impl ArraySubset {
         self.shape.as_slice()
     }
 
+    /// The first index of each dimension, as a list of its own.
+    pub fn into_start(self) -> ArrayIndices
+        ensures { result.items ≡ (box_of self).start }
+    {
+        self.start
+    }
+
+    /// The extent of each dimension, as a list of its own.
+    pub fn into_shape(self) -> ArrayShape
+        ensures { result.items ≡ (box_of self).shape }
+    {
+        self.shape
+    }
+
     /// The index after the last one of each dimension.
     pub fn end_exc(&self, alloc: Global) -> Result<ArrayIndices, AllocError>
         ensures { IfOk result (λ end. end.items ≡ ends (box_of self.now).start (box_of self.now).shape) }
@@ -183,21 +198,22 @@ impl ArraySubset {
     /// The box of the positions that both boxes have. Where they do not meet in a dimension, its extent is 0.
     ///
     /// Refused where the numbers of dimensions differ.
-    pub fn overlap(
+    pub fn overlap<B: ArraySubsetTraits>(
         &self,
         alloc: Global,
-        other: &ArraySubset,
+        other: &B,
     ) -> Result<ArraySubset, ArraySubsetError>
         ensures common { IfOk result (λ b. (position : List ℕ) → in_box (box_of b) position
-            ≡ (in_box (box_of self.now) position && in_box (box_of other.now) position)) }
+            ≡ (in_box (box_of self.now) position && in_box (B.region other.now) position)) }
         ensures start { IfOk result (λ b. (box_of b).start
-            ≡ (overlap_of (box_of self.now) (box_of other.now)).start) }
+            ≡ (overlap_of (box_of self.now) (B.region other.now)).start) }
         ensures shape { IfOk result (λ b. (box_of b).shape
-            ≡ (overlap_of (box_of self.now) (box_of other.now)).shape) }
-        ensures dimensions { OnOk result (length (box_of self.now).start ≡ length (box_of other.now).start) }
-        ensures refused { IfErr result (RefusesLength (length (box_of other.now).start) (length (box_of self.now).start)) }
+            ≡ (overlap_of (box_of self.now) (B.region other.now)).shape) }
+        ensures dimensions { OnOk result (length (box_of self.now).start ≡ length (B.region other.now).start) }
+        ensures refused { IfErr result (RefusesLength (length (B.region other.now).start) (length (box_of self.now).start)) }
     {
-        self.check_length(other.start.len())?;
+        self.check_length(other.dimensionality())?;
+        let other = other.to_array_subset(alloc)?;
         let own_end = self.end_exc(alloc)?;
         let other_end = other.end_exc(alloc)?;
         let start = later(alloc, &self.start, &other.start)?;

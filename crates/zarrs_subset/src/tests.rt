@@ -1,14 +1,20 @@
 //! Each public call once, on plain values.
 
+ghost use Rattle.std.specs.Prelude.{◌≡◌, IfOk};
+ghost use Rattle.zarrs_subset.specs.Regions.{box_of};
+
 use crate::{
     ArraySubset, ArraySubsetError, ArraySubsetTraits, IncompatibleDimensionalityError,
-    SizeOverflow, copy_box, element_count, ravel_indices, unravel_index,
+    SizeOverflow, copy_box, element_count, place_part, ravel_indices, unravel_index,
 };
 use std::alloc::Global;
 use std::ops::Range;
 use std::test::Fail;
 
-fn subset(rt: &HostRuntime, start: &[u64], shape: &[u64]) -> Result<ArraySubset, Fail> {
+fn subset(rt: &HostRuntime, start: &[u64], shape: &[u64]) -> Result<ArraySubset, Fail>
+    ensures start { IfOk result (λ made. (box_of made).start ≡ start.now) }
+    ensures shape { IfOk result (λ made. (box_of made).shape ≡ shape.now) }
+{
     let start = Vec::from_slice(rt.alloc(), start)?;
     let shape = Vec::from_slice(rt.alloc(), shape)?;
     Ok(ArraySubset::new_with_start_shape(start, shape)?)
@@ -29,6 +35,16 @@ fn overlap_is_what_both_boxes_have(rt: HostRuntime) -> Result<(), Fail> {
     let left = subset(&rt, &[1, 2], &[3, 4])?;
     let right = subset(&rt, &[0, 4], &[2, 9])?;
     let common = left.overlap(rt.alloc(), &right)?;
+    assert_eq!(rt; common.start(), [1, 4].as_slice());
+    assert_eq!(rt; common.shape(), [1, 2].as_slice());
+    Ok(())
+}
+
+#[test]
+fn overlap_with_ranges(rt: HostRuntime) -> Result<(), Fail> {
+    let left = subset(&rt, &[1, 2], &[3, 4])?;
+    let ranges: [Range<u64>; 2] = [0..2, 4..13];
+    let common = left.overlap(rt.alloc(), &ranges)?;
     assert_eq!(rt; common.start(), [1, 4].as_slice());
     assert_eq!(rt; common.shape(), [1, 2].as_slice());
     Ok(())
@@ -141,6 +157,8 @@ fn boxes_at_the_origin(rt: HostRuntime) -> Result<(), Fail> {
     let made = ArraySubset::new_with_shape(rt.alloc(), shape)?;
     assert_eq!(rt; made.start(), [0, 0].as_slice());
     assert_eq!(rt; made.dimensionality(), 2);
+    assert_eq!(rt; made.clone()?.into_start().as_slice(), [0, 0].as_slice());
+    assert_eq!(rt; made.clone()?.into_shape().as_slice(), [2, 3].as_slice());
     let empty = ArraySubset::new_empty(rt.alloc(), 2)?;
     assert_eq!(rt; empty.shape(), [0, 0].as_slice());
     let start = Vec::from_slice(rt.alloc(), &[0, 0])?;
@@ -178,6 +196,8 @@ fn positions_of_a_box_by_number(rt: HostRuntime) -> Result<(), Fail> {
     let third = made.position(rt.alloc(), 3)?.ok_or("a position")?;
     assert_eq!(rt; third.as_slice(), [4, 6].as_slice());
     assert!(rt; made.position(rt.alloc(), 4)?.is_none());
+    let second = made.nth_position(rt.alloc(), 1)?;
+    assert_eq!(rt; second.as_slice(), [3, 6].as_slice());
     Ok(())
 }
 
@@ -207,6 +227,16 @@ fn a_box_goes_into_a_larger_array(rt: HostRuntime) -> Result<(), Fail> {
         1,
     );
     assert_eq!(rt; target.as_slice(), [9, 9, 9, 9, 5, 6, 9, 9, 9].as_slice());
+    Ok(())
+}
+
+#[test]
+fn a_part_goes_to_its_place(rt: HostRuntime) -> Result<(), Fail> {
+    let whole = subset(&rt, &[1, 1], &[3, 3])?;
+    let part = subset(&rt, &[0, 2], &[3, 3])?;
+    let mut target = [9u8; 9];
+    place_part(&whole, &mut target, &part, &[1, 2, 3, 4, 5, 6, 7, 8, 10], 1);
+    assert_eq!(rt; target.as_slice(), [9, 4, 5, 9, 7, 8, 9, 9, 9].as_slice());
     Ok(())
 }
 
@@ -246,19 +276,20 @@ fn positions_of_boxes_past_the_numbers(rt: HostRuntime) -> Result<(), Fail> {
     Ok(())
 }
 
-// The dimensionality, the start, the shape and the end, and whether there is no position.
+// The dimensionality, the start, the shape and the end, whether there is no position, and the box.
 fn described<B: ArraySubsetTraits>(alloc: Global, region: &B) -> Result<String, Fail> {
     let start = region.start(alloc)?;
     let shape = region.shape(alloc)?;
     let end = region.end_exc(alloc)?;
     let count = region.dimensionality();
     let is_empty = region.num_elements() == Ok(0);
-    Ok(format!(in alloc; "{count} {start:?} {shape:?} {end:?} {is_empty}")?)
+    let own = region.to_array_subset(alloc)?;
+    Ok(format!(in alloc; "{count} {start:?} {shape:?} {end:?} {is_empty} {own}")?)
 }
 
 #[test]
 fn subsets_and_ranges_stand_for_boxes(rt: HostRuntime) -> Result<(), Fail> {
-    let expected = "2 [1, 7] [3, 0] [4, 7] true";
+    let expected = "2 [1, 7] [3, 0] [4, 7] true [1..4, 7..7]";
     let made = subset(&rt, &[1, 7], &[3, 0])?;
     assert_eq!(rt; described(rt.alloc(), &made)?.as_str(), expected);
     let array: [Range<u64>; 2] = [1..4, 7..2];

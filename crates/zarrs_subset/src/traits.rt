@@ -42,6 +42,11 @@ pub trait ArraySubsetTraits {
         ensures err { OnErr result (2 ^ 64 ≤ position_count (region self.now).shape) }
         ensures is_box { IsBox (region self.now) };
 
+    /// The box as a subset of its own.
+    fn to_array_subset(&self, alloc: Global) -> Result<ArraySubset, AllocError>
+        ensures start { IfOk result (λ subset. (box_of subset).start ≡ (region self.now).start) }
+        ensures shape { IfOk result (λ subset. (box_of subset).shape ≡ (region self.now).shape) };
+
     // One extent for each start.
     ghost is_long: { (value : Self) → IsLong (region value) };
 }
@@ -70,6 +75,10 @@ impl ArraySubsetTraits for ArraySubset {
     fn num_elements(&self) -> Result<u64, SizeOverflow> {
         element_count(self.shape()).ok_or(SizeOverflow)
     }
+
+    fn to_array_subset(&self, _: Global) -> Result<ArraySubset, AllocError> {
+        self.clone()
+    }
 }
 
 impl ArraySubsetTraits for Vec<Range<u64>> {
@@ -95,6 +104,10 @@ impl ArraySubsetTraits for Vec<Range<u64>> {
 
     fn num_elements(&self) -> Result<u64, SizeOverflow> {
         range_product(self).ok_or(SizeOverflow)
+    }
+
+    fn to_array_subset(&self, alloc: Global) -> Result<ArraySubset, AllocError> {
+        ArraySubset::new_with_ranges(alloc, self)
     }
 }
 
@@ -122,6 +135,10 @@ impl ArraySubsetTraits for &[Range<u64>] {
     fn num_elements(&self) -> Result<u64, SizeOverflow> {
         range_product(*self).ok_or(SizeOverflow)
     }
+
+    fn to_array_subset(&self, alloc: Global) -> Result<ArraySubset, AllocError> {
+        ArraySubset::new_with_ranges(alloc, *self)
+    }
 }
 
 impl<const N: usize> ArraySubsetTraits for [Range<u64>; N] {
@@ -147,6 +164,10 @@ impl<const N: usize> ArraySubsetTraits for [Range<u64>; N] {
 
     fn num_elements(&self) -> Result<u64, SizeOverflow> {
         range_product(self).ok_or(SizeOverflow)
+    }
+
+    fn to_array_subset(&self, alloc: Global) -> Result<ArraySubset, AllocError> {
+        ArraySubset::new_with_ranges(alloc, self)
     }
 }
 

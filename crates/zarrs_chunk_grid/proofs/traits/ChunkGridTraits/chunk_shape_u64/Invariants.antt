@@ -1,8 +1,0 @@
-use Rattle.zarrs_chunk_grid.specs.Grids.{extent_along}
-use Rattle.zarrs_chunk_grid.proofs.Walks.{AlongChunk}
-use Rattle.zarrs_chunk_grid.proofs.traits.ChunkGridTraits.chunk_shape_u64.Given as goal
-
-abbrev pub invariant-loop-dimension : goal.invariant-loop-dimension
-invariant-loop-dimension g l =
-    let grid = g.Self.ChunkGridTraits.grid l.self in
-    AlongChunk grid l.indices (extent_along grid l.indices) l.extents.items l.dimension
