@@ -1,29 +1,32 @@
 //! Each call at concrete types with ample memory, and what no clause says: the texts of errors.
+ghost use Rattle.std.specs.Prelude.{◌≡◌, IfOk};
+ghost use Rattle.zarrs_engine.specs.Layout.{layout_of};
+
 use crate::{ArrayError, Call, Engine, Reply, replay};
 use std::alloc::Global;
 use std::num::NonZeroU64;
 use std::test::Fail;
-use zarrs_chunk_grid::RegularChunkGrid;
-use zarrs_codec::{ArrayToBytesCodec, BytesCodec, CodecChain, CodecError, CodecOptions};
+use zarrs_chunk_grid::{ChunkGridTraits, RegularChunkGrid};
+use zarrs_codec::{
+    ArrayToBytesCodec, BytesCodec, ChainTraits, CodecChain, CodecError, CodecOptions,
+};
 use zarrs_data_type::{ArrayBytes, DataType, ElementError, FillValue};
-use zarrs_keys::{ChunkKeyEncoding, ChunkKeySeparator, NodePath};
+use zarrs_keys::{ChunkKeyEncoding, ChunkKeyEncodingTraits, ChunkKeySeparator, NodePath};
 use zarrs_storage::{Bytes, MemoryStore, StorageError, StoreKey, WritableStorageTraits};
 
 type MemoryEngine = Engine<MemoryStore, RegularChunkGrid, ChunkKeyEncoding, CodecChain>;
 
-/// An array of bytes at `/`, over the store.
-fn bytes_engine(
+/// An array of bytes at `/` that is cut by the grid, over the store.
+fn engine_over(
     alloc: Global,
     storage: MemoryStore,
-    shape: &[u64],
-    chunk: &[u64],
+    grid: RegularChunkGrid,
     fill: u8,
-) -> Result<MemoryEngine, Fail> {
-    let mut chunk_shape = Vec::new(alloc);
-    for extent in chunk {
-        chunk_shape.push(NonZeroU64::new(*extent).ok_or("an extent is 0")?)?;
-    }
-    let grid = RegularChunkGrid::new(alloc, shape.to_vec(alloc)?, chunk_shape)?;
+) -> Result<MemoryEngine, Fail>
+    ensures { IfOk result (λ made. (layout_of ⟦<RegularChunkGrid as ChunkGridTraits>⟧.grid
+        ⟦<ChunkKeyEncoding as ChunkKeyEncodingTraits>⟧.key ⟦<CodecChain as ChainTraits>⟧.meaning made).grid
+        ≡ ⟦<RegularChunkGrid as ChunkGridTraits>⟧.grid grid) }
+{
     let path = NodePath::new(alloc, "/")?;
     let keys = ChunkKeyEncoding::Default(ChunkKeySeparator::Slash);
     let chain = CodecChain::new(ArrayToBytesCodec::Bytes(BytesCodec::little()));
@@ -37,6 +40,22 @@ fn bytes_engine(
         DataType::UInt8,
         fill_value,
     ))
+}
+
+/// An array of bytes at `/` of this shape, in chunks of that shape, over the store.
+fn bytes_engine(
+    alloc: Global,
+    storage: MemoryStore,
+    shape: &[u64],
+    chunk: &[u64],
+    fill: u8,
+) -> Result<MemoryEngine, Fail> {
+    let mut chunk_shape = Vec::new(alloc);
+    for extent in chunk {
+        chunk_shape.push(NonZeroU64::new(*extent).ok_or("an extent is 0")?)?;
+    }
+    let grid = RegularChunkGrid::new(alloc, shape.to_vec(alloc)?, chunk_shape)?;
+    engine_over(alloc, storage, grid, fill)
 }
 
 fn data(alloc: Global, bytes: &[u8]) -> Result<ArrayBytes<'static>, Fail> {
@@ -106,12 +125,17 @@ fn empty_chunks_are_kept_by_choice(rt: HostRuntime) -> Result<(), Fail> {
     Ok(())
 }
 
-/// An engine over a store where three bytes stand at the key of a chunk of four.
-fn foreign_engine(alloc: Global) -> Result<MemoryEngine, Fail> {
+/// A store where three bytes stand at the key `c/0`.
+fn foreign_store(alloc: Global) -> Result<MemoryStore, Fail> {
     let mut storage = MemoryStore::new(alloc);
     let key = StoreKey::new(alloc, "c/0")?;
     storage.set(alloc, &key, Bytes::from_static(&[1, 2, 3]))?;
-    bytes_engine(alloc, storage, &[4], &[4], 0)
+    Ok(storage)
+}
+
+/// An engine over a store where three bytes stand at the key of a chunk of four.
+fn foreign_engine(alloc: Global) -> Result<MemoryEngine, Fail> {
+    bytes_engine(alloc, foreign_store(alloc)?, &[4], &[4], 0)
 }
 
 #[test]
@@ -134,11 +158,33 @@ fn foreign_bytes_are_refused_and_replaced(rt: HostRuntime) -> Result<(), Fail> {
 #[test]
 fn foreign_bytes_are_erased(rt: HostRuntime) -> Result<(), Fail> {
     let alloc = rt.alloc();
-    let mut engine = foreign_engine(alloc)?;
-    let calls = vec![in alloc; Call::EraseChunk(vec![in alloc; 0u64]?)]?;
-    let replies = replay(alloc, &mut engine, &calls, &CodecOptions::default())?;
-    assert!(rt; matches!(replies.first(), Some(Reply::Done)));
+    let four = NonZeroU64::new(4).ok_or("an extent is 0")?;
+    let grid = RegularChunkGrid::new(alloc, vec![in alloc; 4u64]?, vec![in alloc; four]?)?;
+    let mut engine = engine_over(alloc, foreign_store(alloc)?, grid, 0)?;
+    engine.erase_chunk(alloc, &[0])?;
     assert!(rt; reads(alloc, &engine, &[0], &[0, 0, 0, 0])?);
+    assert_eq!(rt; keys_of(alloc, &engine)?, 0);
+    Ok(())
+}
+
+#[test]
+fn a_list_goes_on_after_a_refusal(rt: HostRuntime) -> Result<(), Fail> {
+    let alloc = rt.alloc();
+    let mut engine = foreign_engine(alloc)?;
+    let calls = vec![in alloc;
+        Call::RetrieveChunk(vec![in alloc; 0u64]?),
+        Call::EraseChunk(vec![in alloc; 0u64, 0u64]?),
+        Call::EraseChunk(vec![in alloc; 0u64]?),
+        Call::RetrieveChunkIfExists(vec![in alloc; 0u64]?),
+    ]?;
+    let replies = replay(alloc, &mut engine, &calls, &CodecOptions::default())?;
+    let [unread, unnamed, erased, absent] = replies.as_slice() else {
+        return Err("four replies".into());
+    };
+    assert!(rt; matches!(unread, Reply::Refused(ArrayError::CodecError(_))));
+    assert!(rt; matches!(unnamed, Reply::Refused(ArrayError::InvalidChunkGridIndicesError(_))));
+    assert!(rt; matches!(erased, Reply::Done));
+    assert!(rt; matches!(absent, Reply::MaybeCells(None)));
     Ok(())
 }
 
