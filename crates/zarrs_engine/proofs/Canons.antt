@@ -1,5 +1,5 @@
 -- Steps and runs keep a canonical store canonical.
-use Rattle.std.proofs.Common.{◌≡◌, ◌≢◌, ◌⊎◌, bytes_eq, ℕ, Bool, true, false, List, [], ◌∷◌, Option, Some, None, Contains, refl, sym, ◌∙◌, ap, subst, inl, inr, arith}
+use Rattle.std.proofs.Common.{◌≡◌, ◌≢◌, ◌⊎◌, bytes_eq, ℕ, true, false, List, [], ◌∷◌, Option, Some, None, Contains, sym, ◌∙◌, ap, subst, inl, inr, arith}
 use Rattle.std.specs.FinMap as map
 use Rattle.std.proofs.lemmas.Slice.Eq.{bytes_eq-Decides}
 use Rattle.std.proofs.lemmas.Bool.{cases_Bool}

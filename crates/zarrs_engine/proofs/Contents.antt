@@ -1,15 +1,13 @@
 -- The content over one chunk.
-use Rattle.std.proofs.Common.{◌≡◌, ◌≢◌, ℕ, suc, zero, ◌+◌, ◌<◌, ◌≤◌, Bool, true, false, not, ◌&&◌, cond, List, [], ◌∷◌, length, Option, Some, None, slice_get, Contains, replicate, refl, sym, ◌∙◌, ap, subst, inl, inr, arith}
+use Rattle.std.proofs.Common.{◌≡◌, ℕ, suc, zero, ◌<◌, Bool, true, false, ◌&&◌, cond, List, [], ◌∷◌, length, Option, Some, None, slice_get, Contains, replicate, refl, sym, ◌∙◌, ap, subst, arith}
 use Rattle.std.specs.List.{list_all}
-use Rattle.std.proofs.lemmas.List.{length-replicate, get_or-replicate}
-use Rattle.std.proofs.lemmas.Option.{slice_get-get_or}
+use Rattle.std.proofs.lemmas.List.{length-replicate}
 use Rattle.zarrs_subset.specs.Boxes.{position_count}
-use Rattle.zarrs_subset.specs.Regions.{Box, Holds, place_in, cell_in}
+use Rattle.zarrs_subset.specs.Regions.{Holds, place_in}
 use Rattle.zarrs_subset.proofs.Bytes.{place_in_below}
 use Rattle.zarrs_chunk_grid.specs.Grids.{Grid, IsGrid, box_at, index_at, is_covered, has_box}
 use Rattle.zarrs_chunk_grid.proofs.Chunks.{box_is_there, has_box_is, box_long, box_words, box_index, box_covered, covered_holds, covered_chunk, chunk_has_box}
 use Rattle.zarrs_keys.specs.Keys.{IsIndexList, IsLawfulKey}
-use Rattle.zarrs_keys.specs.Paths.{path_key}
 use Rattle.zarrs_keys.proofs.PathLemmas.{lawful_at}
 use Rattle.zarrs_codec.specs.Chain.{ChainMeaning, IsLawfulChain}
 use Rattle.zarrs_data_type.specs.Cell.{Cell, cell_eq}

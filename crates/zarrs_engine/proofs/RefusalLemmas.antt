@@ -1,11 +1,9 @@
 -- Refusals of the parts of a call are refusals of the call.
-use Rattle.std.proofs.Common.{◌≡◌, ℕ, suc, zero, ◌+◌, ◌*◌, ◌^◌, ◌<◌, ◌≤◌, Bool, true, false, not, ◌&&◌, cond, List, length, Option, Some, None, is_some, ◌==◌, nat_le, refl, sym, ◌∙◌, ap, subst, inl, inr, arith}
+use Rattle.std.proofs.Common.{◌≡◌, ℕ, ◌*◌, ◌^◌, ◌<◌, ◌≤◌, true, false, not, cond, List, Option, Some, None, refl, ◌∙◌, ap, arith}
 use Rattle.std.specs.Prelude.{unwrap_or}
-use Rattle.std.specs.List.{list_all}
-use Rattle.std.proofs.lemmas.Bool.{cases_Bool, false≢true, le-leb, lt-leb, leb-false}
+use Rattle.std.proofs.lemmas.Bool.{le-leb, lt-leb, leb-false}
 use Rattle.std.proofs.Math.Nat.{mul-le-mul_left}
 use Rattle.zarrs_subset.specs.Boxes.{position_count}
-use Rattle.zarrs_subset.specs.Regions.{Box}
 use Rattle.zarrs_chunk_grid.specs.Grids.{box_at, has_box}
 use Rattle.zarrs_storage.specs.Store.{StoreState, KeepsReach}
 use Rattle.zarrs_storage.specs.declared.errors.StorageError.{StorageError}
@@ -14,11 +12,9 @@ use Rattle.zarrs_codec_leaf.specs.declared.error.CodecError.{CodecError}
 use Rattle.zarrs_codec_leaf.specs.declared.error.CodecError.TheVariants as coded
 use Rattle.zarrs_data_type.specs.Kind.{Kind, kind, cell_size, fixed_size}
 use Rattle.zarrs_data_type.specs.Kind as type
-use Rattle.zarrs_data_type.specs.Cell.{Cell}
-use Rattle.zarrs_data_type.specs.ArrayData.{ArrayData}
 use Rattle.zarrs_engine.specs.Layout.{Layout}
 use Rattle.zarrs_engine.specs.Errors.{error_of_storage, error_of_codec}
-use Rattle.zarrs_engine.specs.Changes.{Makes, Leaves}
+use Rattle.zarrs_engine.specs.Changes.{Leaves}
 use Rattle.zarrs_engine.specs.Refusals as refusal
 use Rattle.zarrs_engine.specs.Refusals.{Refusal, refusal_of, refusal_of_storage, refusal_of_codec, or_else, box_refusal, is_too_large, data_refusal, encode_refusal, encoded_cells, is_left_out, StoreFails, IsRefusal}
 

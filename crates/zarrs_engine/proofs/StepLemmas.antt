@@ -1,14 +1,11 @@
 -- Calls of one chunk, from what their parts ensure.
-use Rattle.std.proofs.Common.{◌≡◌, ◌≢◌, ◌⊎◌, ℕ, ◌<◌, ◌≤◌, Bool, true, false, not, cond, List, [], ◌∷◌, length, Option, Some, None, is_some, option_map, replicate, ◌==◌, eq-eqb, IfOk, OnOk, Result, Ok, Err, refl, sym, ◌∙◌, ap, subst, inl, inr, arith}
-use Rattle.std.specs.Prelude.{IsSome}
-use Rattle.std.specs.List.{list_all}
-use Rattle.std.proofs.lemmas.Bool.{cases_Bool, false≢true}
+use Rattle.std.proofs.Common.{◌≡◌, ◌≢◌, ℕ, Bool, true, false, not, cond, List, length, Option, Some, None, is_some, replicate, ◌==◌, eq-eqb, IfOk, OnOk, Result, Ok, Err, refl, sym, ◌∙◌, ap, subst, inl, inr}
+use Rattle.std.proofs.lemmas.Bool.{cases_Bool}
 use Rattle.std.proofs.lemmas.Map.Views.{exact_unsigned_eq}
 use Rattle.zarrs_subset.specs.Boxes.{position_count}
-use Rattle.zarrs_subset.specs.Regions.{Box}
 use Rattle.zarrs_chunk_grid.specs.Grids.{box_at, has_box}
 use Rattle.zarrs_chunk_grid.proofs.Chunks.{box_is_there}
-use Rattle.zarrs_storage.specs.Store.{StoreState, KeepsReach, MayReadWhole}
+use Rattle.zarrs_storage.specs.Store.{StoreState}
 use Rattle.zarrs_storage.specs.Causes.{HasReadCause}
 use Rattle.zarrs_storage.specs.declared.errors.StorageError.{StorageError}
 use Rattle.zarrs_storage.specs.declared.errors.StorageError.TheVariants as stored
@@ -17,21 +14,21 @@ use Rattle.zarrs_codec_leaf.specs.declared.error.CodecError.TheVariants as coded
 use Rattle.zarrs_codec.specs.Chain.{ChainMeaning, IsLawfulChain, chunk_text}
 use Rattle.zarrs_codec.specs.Causes.{HasEncodeCause, HasDecodeCause}
 use Rattle.zarrs_data_type.specs.Kind.{Kind}
-use Rattle.zarrs_data_type.specs.Cell.{Cell, cell_eq}
+use Rattle.zarrs_data_type.specs.Cell.{Cell}
 use Rattle.zarrs_data_type.specs.ArrayData.{ArrayData}
 use Rattle.zarrs_data_type.specs.Cells.{cells, HasCells}
-use Rattle.zarrs_data_type.proofs.Cells.{HasCells-cells, HasCells-some}
+use Rattle.zarrs_data_type.proofs.Cells.{HasCells-some}
 use Rattle.zarrs_engine.specs.declared.error.ArrayError.{ArrayError}
 use Rattle.zarrs_engine.specs.Layout.{Layout, IsLawful}
-use Rattle.zarrs_engine.specs.Content.{texts, content, decoded_cells, Reads}
+use Rattle.zarrs_engine.specs.Content.{texts, decoded_cells}
 use Rattle.zarrs_engine.specs.Errors.{error_of_storage, error_of_codec}
 use Rattle.zarrs_engine.specs.Refusals as refusal
 use Rattle.zarrs_engine.specs.Refusals.{Refusal, refusal_of, refusal_of_storage, or_else, length_refusal, box_refusal, is_left_out, encoded_cells, encode_refusal, data_refusal, key_refusal, store_refusal, read_refusal, StoreFails, IsRefusal}
-use Rattle.zarrs_engine.specs.Changes.{Leaves, IsTextOf, RetrievesChunk, RetrievesIfExists}
+use Rattle.zarrs_engine.specs.Changes.{Leaves, RetrievesChunk}
 use Rattle.zarrs_engine.specs.Step.{StoreRefused, EraseRefused, ReadRefused}
-use Rattle.zarrs_engine.specs.Puts.{RefusesIndices, TextRefused, HasText}
+use Rattle.zarrs_engine.specs.Puts.{RefusesIndices, TextRefused}
 use Rattle.zarrs_engine.proofs.Contents.{reads_decoded, reads_absent}
-use Rattle.zarrs_engine.proofs.RefusalLemmas.{refusal_moved, first_refusal, refused_first, refused_second, refused_by_store, second_refusal, storage_said, codec_said, leaves_for, leaves_all, box_accepted, no_chunk}
+use Rattle.zarrs_engine.proofs.RefusalLemmas.{refusal_moved, first_refusal, refused_first, refused_by_store, second_refusal, storage_said, leaves_for, leaves_all, box_accepted, no_chunk}
 
 -- what holds of each answer, by a fact that goes with any
 pub both_ok : {T E : Type 0} (r : Result T E) (P R : T → Type 0) (Q : Type 0) → ((x : T) → Q → P x → R x) → OnOk r Q → IfOk r P → IfOk r R

@@ -1,26 +1,24 @@
 -- Stores and erasures of one chunk.
-use Rattle.std.proofs.Common.{◌≡◌, ◌≢◌, ◌⊎◌, ℕ, suc, zero, ◌+◌, ◌<◌, ◌≤◌, Bool, true, false, not, ◌&&◌, cond, List, [], ◌∷◌, length, Option, Some, None, slice_get, Contains, refl, sym, ◌∙◌, ap, subst, inl, inr, arith}
+use Rattle.std.proofs.Common.{◌≡◌, ◌≢◌, ℕ, Bool, true, false, not, ◌&&◌, cond, List, [], ◌∷◌, length, Option, Some, None, Contains, refl, sym, ◌∙◌, ap, subst, inl, inr, arith}
 use Rattle.std.specs.Str.{bytes_eq}
-use Rattle.std.specs.List.{list_all}
 use Rattle.std.specs.FinMap as map
-use Rattle.std.proofs.lemmas.Bool.{cases_Bool, false≢true}
+use Rattle.std.proofs.lemmas.Bool.{cases_Bool}
 use Rattle.std.proofs.lemmas.Slice.Eq.{bytes_eq-Decides}
 use Rattle.zarrs_subset.specs.Boxes.{position_count}
-use Rattle.zarrs_subset.specs.Regions.{Box, Holds, in_box, place_in, cell_in}
+use Rattle.zarrs_subset.specs.Regions.{Holds, place_in, cell_in}
 use Rattle.zarrs_subset.proofs.Bytes.{place_in_below}
 use Rattle.zarrs_chunk_grid.specs.Grids.{box_at, index_at, is_covered, has_box}
 use Rattle.zarrs_chunk_grid.proofs.Chunks.{box_long}
 use Rattle.zarrs_keys.specs.Keys.{IsIndexList}
 use Rattle.zarrs_storage.specs.Store.{StoreState, Values, Accepts}
 use Rattle.zarrs_storage.proofs.ValuesLemmas.{get_inserted, get_removed}
-use Rattle.zarrs_data_type.specs.Cell.{Cell, are_values, cell_eq}
+use Rattle.zarrs_data_type.specs.Cell.{Cell, are_values}
 use Rattle.zarrs_data_type.specs.ArrayData.{ArrayData}
 use Rattle.zarrs_data_type.specs.Cells.{cells}
 use Rattle.zarrs_data_type.proofs.Cells.{cells-values}
 use Rattle.zarrs_engine.specs.Layout.{Layout, IsLawful}
 use Rattle.zarrs_engine.specs.Content.{texts, cell_at_place, chunk_cell, indexed_cell, content, Reads}
-use Rattle.zarrs_engine.specs.Refusals.{is_left_out}
-use Rattle.zarrs_engine.specs.Changes.{Makes, IsTextOf, ChangesKeysOf, Stores, Erases, StoresChunk, ErasesChunk}
+use Rattle.zarrs_engine.specs.Changes.{Makes, IsTextOf, ChangesKeysOf, StoresChunk, ErasesChunk}
 use Rattle.zarrs_engine.specs.Puts.{IsPut, HasText}
 use Rattle.zarrs_engine.proofs.Contents.{fill_at, content_covered, content_uncovered, content_in_box, only_member, member, index_list, covered_has_box, one_key, in_chunk}
 

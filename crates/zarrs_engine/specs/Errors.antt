@@ -1,5 +1,4 @@
 -- What the refusals of lower layers become.
-use Rattle.std.specs.Prelude.{ℕ}
 use Rattle.zarrs_storage.specs.declared.errors.StorageError.{StorageError}
 use Rattle.zarrs_storage.specs.declared.errors.StorageError.TheVariants as storage
 use Rattle.zarrs_codec_leaf.specs.declared.error.CodecError.{CodecError}

@@ -1,8 +1,7 @@
 -- What a call does to the store, and what it answers.
-use Rattle.std.specs.Prelude.{◌≡◌, ℕ, Bool, true, false, List, length, Option, Some, None, option_map}
+use Rattle.std.specs.Prelude.{◌≡◌, ℕ, Bool, true, false, List, Some, None, option_map}
 use Rattle.zarrs_storage.specs.Store.{StoreState}
 use Rattle.zarrs_data_type.specs.ArrayData.{ArrayData, data_of}
-use Rattle.zarrs_engine.specs.declared.error.ArrayError.{ArrayError}
 use Rattle.zarrs_engine.specs.declared.call.Call.{Call}
 use Rattle.zarrs_engine.specs.declared.call.Call.TheVariants.{StoreChunk, EraseChunk, RetrieveChunkIfExists, RetrieveChunk}
 use Rattle.zarrs_engine.specs.declared.call.Reply.{Reply}

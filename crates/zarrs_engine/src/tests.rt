@@ -2,7 +2,10 @@
 ghost use Rattle.std.specs.Prelude.{◌≡◌, IfOk};
 ghost use Rattle.zarrs_engine.specs.Layout.{layout_of};
 
-use crate::{ArrayError, Call, Engine, Reply, replay};
+use crate::{
+    ArrayError, Call, Engine, Reply, canonical_stores_decode, content_is_texts,
+    empty_stores_are_canonical, histories_agree, replay, steps_keep_canon, steps_keep_decoding,
+};
 use std::alloc::Global;
 use std::num::NonZeroU64;
 use std::test::Fail;
@@ -182,7 +185,12 @@ fn a_list_goes_on_after_a_refusal(rt: HostRuntime) -> Result<(), Fail> {
         return Err("four replies".into());
     };
     assert!(rt; matches!(unread, Reply::Refused(ArrayError::CodecError(_))));
-    assert!(rt; matches!(unnamed, Reply::Refused(ArrayError::InvalidChunkGridIndicesError(_))));
+    assert!(rt;
+        matches!(
+            unnamed,
+            Reply::Refused(ArrayError::InvalidChunkGridIndicesError(_))
+        )
+    );
     assert!(rt; matches!(erased, Reply::Done));
     assert!(rt; matches!(absent, Reply::MaybeCells(None)));
     Ok(())
@@ -206,6 +214,16 @@ fn a_chunk_past_the_numbers_is_refused(rt: HostRuntime) -> Result<(), Fail> {
     let refused = reads(alloc, &engine, &[1], &[]);
     assert!(rt; matches!(&refused, Err(ArrayError::InvalidChunkGridIndicesError(_))));
     Ok(())
+}
+
+#[test]
+fn laws_can_be_called(rt: HostRuntime) {
+    content_is_texts();
+    steps_keep_canon();
+    steps_keep_decoding();
+    canonical_stores_decode();
+    empty_stores_are_canonical();
+    histories_agree();
 }
 
 #[test]

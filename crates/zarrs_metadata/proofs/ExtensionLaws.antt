@@ -1,10 +1,10 @@
 -- What is written reads as what was written.
-use Rattle.std.proofs.Common.{◌≡◌, ℕ, List, [], ◌∷◌, Bool, true, false, Option, Some, None, codes, refl, sym, ap, ◌∙◌}
-use Rattle.serde_json.specs.Data.{Data, Members, no_members, member}
-use Rattle.zarrs_metadata.specs.Extension.{ExtensionData, normal, data_of, data_with, extension_of, extension_from, extension_of_members, extension_names}
+use Rattle.std.proofs.Common.{◌≡◌, ℕ, List, [], ◌∷◌, Bool, true, false, Option, Some, None, codes, refl, ap, ◌∙◌}
+use Rattle.serde_json.specs.Data.{Members, no_members, member}
+use Rattle.zarrs_metadata.specs.Extension.{ExtensionData, normal, data_of, extension_of, extension_from, extension_of_members, extension_names}
 use Rattle.serde_json.specs.Find.{get_member}
 use Rattle.std.specs.Prelude.{is_none}
-use Rattle.zarrs_metadata.specs.Members.{has_only, besides, nonempty}
+use Rattle.zarrs_metadata.specs.Members.{besides, nonempty}
 use Rattle.zarrs_metadata.proofs.MemberLemmas.{besides-besides, get_member-besides, nothing_besides}
 
 pub round_trip : (e : ExtensionData) → extension_of (data_of e) ≡ Some (normal e)

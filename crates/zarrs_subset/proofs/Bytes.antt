@@ -1,8 +1,8 @@
 -- Cells of one byte.
-use Rattle.std.proofs.Common.{◌≡◌, ℕ, zero, suc, ◌+◌, ◌*◌, ◌<◌, ◌≤◌, true, false, Bool, cond, List, [], ◌∷◌, length, get_or, slice_index, slice_get, Some, nat_le, nat_lt, refl, sym, ap, ◌∙◌, inl, inr, SomeIndex, arith}
+use Rattle.std.proofs.Common.{◌≡◌, ℕ, zero, suc, ◌+◌, ◌*◌, ◌<◌, ◌≤◌, true, List, [], ◌∷◌, length, get_or, slice_index, slice_get, Some, nat_le, nat_lt, refl, sym, ap, ◌∙◌, arith}
 use Rattle.std.proofs.lemmas.Option.{slice_get-get_or}
-use Rattle.std.proofs.lemmas.Bool.{and_parts, and_from, ltb-true, leb-true, lt-ltb, le-leb, false≢true, cases_Bool}
-use Rattle.zarrs_subset.specs.Boxes.{position_count, place, in_range, is_within, offset_from}
+use Rattle.std.proofs.lemmas.Bool.{and_parts, and_from, ltb-true, leb-true, lt-ltb, le-leb, false≢true}
+use Rattle.zarrs_subset.specs.Boxes.{position_count, in_range, is_within, offset_from}
 use Rattle.zarrs_subset.specs.Cells.{cell_at}
 use Rattle.zarrs_subset.specs.Regions.{Box, IsLong, Holds, InBox, place_in}
 use Rattle.zarrs_subset.proofs.Kernel.{get_or-part, place_below}

@@ -1,6 +1,6 @@
 -- Lemmas of the ends and the overlap of boxes.
-use Rattle.std.proofs.Common.{◌≡◌, ℕ, zero, suc, ◌+◌, ◌-◌, ◌^◌, ◌<◌, ◌≤◌, Bool, true, false, ◌&&◌, nat_lt, nat_le, min, max, List, [], ◌∷◌, length, get_or, slice_index, refl, sym, ap, ◌∙◌, arith, inl, inr, SomeIndex}
-use Rattle.std.proofs.lemmas.Bool.{cases_lt, cases_Bool, and_parts, leb-true, false≢true}
+use Rattle.std.proofs.Common.{◌≡◌, ℕ, zero, suc, ◌+◌, ◌-◌, ◌^◌, ◌<◌, ◌≤◌, Bool, true, false, ◌&&◌, min, max, List, [], ◌∷◌, length, get_or, slice_index, refl, arith, inl, inr}
+use Rattle.std.proofs.lemmas.Bool.{cases_lt}
 use Rattle.std.proofs.lemmas.Bool.Decides.{nat_tests}
 use Rattle.std.proofs.lemmas.List.{get_or_past}
 use Rattle.zarrs_subset.specs.Boxes.{InShape, in_range, is_within, zip_with, ends, EndsFit, overlap_start, overlap_extents, offset_by}

@@ -1,18 +1,15 @@
 -- Lemmas of a part's cells that go to their places in the cells of a box.
-use Rattle.std.proofs.Common.{◌≡◌, ◌≢◌, ℕ, zero, suc, ◌+◌, ◌-◌, ◌*◌, ◌<◌, ◌≤◌, true, false, Bool, ◌&&◌, nat_lt, nat_le, min, max, List, [], ◌∷◌, length, get_or, map, slice_range, slice_get, Some, refl, sym, ap, ◌∙◌, arith, inl, inr}
-use Rattle.std.specs.List.{range_with_len}
+use Rattle.std.proofs.Common.{◌≡◌, ◌≢◌, ℕ, suc, ◌+◌, ◌-◌, ◌*◌, ◌<◌, ◌≤◌, true, false, nat_lt, nat_le, min, max, List, [], ◌∷◌, length, get_or, map, slice_range, slice_get, Some, refl, sym, ap, ◌∙◌, arith, inl, inr}
 use Rattle.std.specs.Option.{option_map}
-use Rattle.std.proofs.Math.Nat.{mul-le-mul_right, mul_assoc, mul-div_cancel_left, mul-div-le, add-mul}
-use Rattle.std.proofs.lemmas.Nat.{mul-add-lt}
+use Rattle.std.proofs.Math.Nat.{mul-le-mul_right, add-mul}
 use Rattle.std.proofs.lemmas.Bool.{cases_eq, cases_Bool, and_parts, ltb-true, leb-true, cond-true, cond-false}
 use Rattle.std.proofs.lemmas.Bool.Decides.{nat_tests}
 use Rattle.std.proofs.lemmas.Option.{slice_get-get_or, slice_get-map}
-use Rattle.std.proofs.lemmas.List.{take_all, length-map}
 use Rattle.std.proofs.lemmas.List.FromFn.{length-map-range_with_len, get_or-map-range_with_len}
 use borrow.Rule.Slice.PartMut.{put_mid}
 use Rattle.zarrs_subset.specs.Boxes.{position_count, place, in_range, is_within, offset_from, EndsFit}
 use Rattle.zarrs_subset.specs.Cells.{cell_at, cells, BytesPlaced}
-use Rattle.zarrs_subset.specs.Regions.{Box, IsLong, Holds, place_in, cell_in, cells_over, TakesPart}
+use Rattle.zarrs_subset.specs.Regions.{Box, IsLong, place_in, cells_over, TakesPart}
 use Rattle.zarrs_subset.proofs.Kernel.{place_below, get_or-put_mid_inside, get_or-part, in_block, below_block, block_order, other_block, row_hit, row_miss, cell_ends, cell_at-same, tail_is}
 use Rattle.zarrs_subset.proofs.Positions.{offset_from-in}
 use Rattle.zarrs_subset.proofs.Bytes.{place_in_below, byte_of}

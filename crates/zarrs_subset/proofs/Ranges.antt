@@ -1,7 +1,7 @@
 -- Lemmas of the box of a list of ranges.
-use Rattle.std.proofs.Common.{◌≡◌, ℕ, zero, suc, ◌+◌, ◌-◌, ◌*◌, ◌<◌, ◌≤◌, ◌^◌, max, List, [], ◌∷◌, length, map, slice_index, refl, ap, ◌∙◌, arith}
+use Rattle.std.proofs.Common.{◌≡◌, ℕ, zero, suc, ◌+◌, ◌-◌, ◌<◌, ◌^◌, max, List, [], ◌∷◌, length, map, slice_index, refl, ap, arith}
 use Rattle.std.specs.declared.ops.Range.{Range}
-use Rattle.zarrs_subset.specs.Boxes.{position_count, ends}
+use Rattle.zarrs_subset.specs.Boxes.{ends}
 use Rattle.zarrs_subset.specs.Regions.{IsBox, box_of_ranges}
 
 -- the end of each range, or its start where it is reversed

@@ -1,11 +1,11 @@
 -- Lemmas of a walk through the positions of a box.
-use Rattle.std.proofs.Common.{◌≡◌, ℕ, zero, suc, ◌+◌, ◌-◌, ◌*◌, ◌<◌, ◌≤◌, true, false, nat_lt, nat_le, List, [], ◌∷◌, ◌++◌, length, drop, take, slice_index, Bool, is_none, if◌then◌else◌, Option, MatchOption, Some, None, add-one, refl, sym, ap, ◌∙◌, arith, SomeIndex}
+use Rattle.std.proofs.Common.{◌≡◌, ℕ, zero, suc, ◌+◌, ◌-◌, ◌*◌, ◌<◌, ◌≤◌, true, nat_lt, nat_le, List, [], ◌∷◌, ◌++◌, length, drop, take, slice_index, Bool, is_none, if◌then◌else◌, Option, MatchOption, Some, None, add-one, refl, sym, ap, ◌∙◌, arith, SomeIndex}
 use Rattle.std.proofs.Math.Nat.{add-mul}
 use Rattle.std.proofs.lemmas.List.{drop_all, drop_more}
 use Rattle.std.proofs.lemmas.Bool.{and_parts, and_from, ltb-true, leb-true, lt-ltb, le-leb, false≢true}
 use Rattle.std.proofs.lemmas.Option.{get_or_from_slice_get}
 use Rattle.smallvec.specs.SmallVec.{SmallVec}
-use Rattle.zarrs_subset.specs.Boxes.{position_count, place, in_range, is_within, positions_from, offset_from}
+use Rattle.zarrs_subset.specs.Boxes.{position_count, place, in_range, is_within, offset_from}
 use Rattle.zarrs_subset.specs.Regions.{Box, IsLong, Holds, positions, place_in}
 use Rattle.zarrs_subset.specs.Steps.{positions_since, next_of, IsLastIn, IsFreeIn}
 use Rattle.zarrs_subset.proofs.Bytes.{place_in_below}

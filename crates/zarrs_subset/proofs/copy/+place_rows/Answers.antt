@@ -1,5 +1,4 @@
-use Rattle.std.proofs.Common.{arith, rules, ◌≡◌, ◌<◌, ◌≤◌, ◌+◌, ◌-◌, ◌*◌, max, min, length, slice_index, slice_range, refl, sym, ◌∙◌}
-use Rattle.zarrs_subset.specs.Boxes.{position_count}
+use Rattle.std.proofs.Common.{arith, rules, ◌≡◌, ◌<◌, ◌≤◌, ◌+◌, ◌-◌, ◌*◌, max, min, length, slice_index, refl, ◌∙◌}
 use Rattle.zarrs_subset.proofs.Kernel.{length_part}
 use Rattle.zarrs_subset.proofs.Parts.{length-tail, EndsFit-tail, BytesPlaced-step, BytesPlaced-line, line_within, block_within, line_block}
 use Rattle.zarrs_subset.proofs.copy.+place_rows.Goals as goal

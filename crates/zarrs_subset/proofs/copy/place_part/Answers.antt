@@ -1,4 +1,4 @@
-use Rattle.std.proofs.Common.{rules, ◌≡◌, length}
+use Rattle.std.proofs.Common.{rules, ◌≡◌}
 use Rattle.zarrs_subset.specs.Regions.{box_of}
 use Rattle.zarrs_subset.proofs.Parts.{TakesPart-from}
 use Rattle.zarrs_subset.proofs.copy.place_part.Goals as goal

@@ -1,4 +1,4 @@
-use Rattle.std.proofs.Common.{rules, ◌≡◌, ◌<◌, length, drop, sym, ap, refl}
+use Rattle.std.proofs.Common.{rules, ◌≡◌, ◌<◌, length, drop, sym, ap}
 use Rattle.std.proofs.lemmas.Bool.{iff_false}
 use Rattle.zarrs_subset.specs.Regions.{box_of, positions}
 use Rattle.zarrs_subset.proofs.Overlaps.{AllSome}

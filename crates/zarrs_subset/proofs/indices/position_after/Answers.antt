@@ -1,4 +1,4 @@
-use Rattle.std.proofs.Common.{arith, rules, ◌≡◌, ◌+◌, length, sym, ◌∙◌}
+use Rattle.std.proofs.Common.{arith, rules, ◌≡◌}
 use Rattle.zarrs_subset.specs.Regions.{box_of}
 use Rattle.zarrs_subset.specs.Steps.{next_of, IsLastIn}
 use Rattle.zarrs_subset.proofs.Bytes.{holds_along}

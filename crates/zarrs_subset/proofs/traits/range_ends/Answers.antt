@@ -1,4 +1,4 @@
-use Rattle.std.proofs.Common.{rules, sym}
+use Rattle.std.proofs.Common.{rules}
 use Rattle.zarrs_subset.proofs.Ranges.{ends-ranges}
 use Rattle.zarrs_subset.proofs.traits.range_ends.Goals as goal
 

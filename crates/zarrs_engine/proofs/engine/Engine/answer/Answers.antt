@@ -1,4 +1,4 @@
-use Rattle.std.proofs.Common.{◌≡◌, length, List, ℕ, ap, sym, ◌∙◌, subst, arith}
+use Rattle.std.proofs.Common.{List, ℕ, ap, sym, ◌∙◌, subst, arith}
 use Rattle.zarrs_engine.specs.Layout.{layout_of}
 use Rattle.zarrs_engine.specs.Refusals.{Refusal, refusal_of, refusal_of_storage}
 use Rattle.zarrs_engine.specs.Step.{EraseRefused}

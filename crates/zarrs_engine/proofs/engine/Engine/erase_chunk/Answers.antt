@@ -1,4 +1,4 @@
-use Rattle.std.proofs.Common.{arith, ◌∙◌}
+use Rattle.std.proofs.Common.{arith}
 use Rattle.std.proofs.lemmas.Result.{on_ok_weaker}
 use Rattle.zarrs_engine.specs.Layout.{layout_of}
 use Rattle.zarrs_engine.proofs.Contents.{lawful_parts}

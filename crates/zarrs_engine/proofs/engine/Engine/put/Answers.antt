@@ -1,8 +1,7 @@
-use Rattle.std.proofs.Common.{subst, sym, ap, ◌∙◌, List, ℕ, Option, Some, None, option_map, Result, IfOk}
+use Rattle.std.proofs.Common.{subst, List, ℕ}
 use Rattle.std.proofs.lemmas.Result.{on_ok_weaker}
 use Rattle.std.specs.FinMap as map
-use Rattle.zarrs_storage.specs.Store.{StoreState, Accepts}
-use Rattle.zarrs_engine.specs.Puts.{IsPut}
+use Rattle.zarrs_storage.specs.Store.{Accepts}
 use Rattle.zarrs_engine.proofs.StoreLemmas.{put_set, put_erase}
 use Rattle.zarrs_engine.proofs.engine.Engine.put.Goals as goal
 

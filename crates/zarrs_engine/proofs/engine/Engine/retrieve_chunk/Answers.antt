@@ -1,4 +1,4 @@
-use Rattle.std.proofs.Common.{◌≡◌, ap, sym, ◌∙◌, Some, None, replicate}
+use Rattle.std.proofs.Common.{◌≡◌, ap, sym, ◌∙◌, Some, replicate}
 use Rattle.zarrs_subset.specs.Boxes.{position_count}
 use Rattle.zarrs_chunk_grid.specs.Grids.{box_at}
 use Rattle.zarrs_data_type.specs.declared.array_bytes.ArrayBytes.{ArrayBytes}
@@ -7,7 +7,6 @@ use Rattle.zarrs_data_type.specs.Cells.{cells}
 use Rattle.zarrs_engine.specs.Layout.{layout_of}
 use Rattle.zarrs_engine.specs.Content.{decoded_cells}
 use Rattle.zarrs_engine.specs.Changes.{RetrievesChunk}
-use Rattle.zarrs_engine.specs.Refusals.{read_refusal}
 use Rattle.zarrs_engine.proofs.Contents.{lawful_parts}
 use Rattle.zarrs_engine.proofs.StepLemmas.{both_ok, retrieved, retrieved_fill}
 use Rattle.zarrs_engine.proofs.engine.Engine.retrieve_chunk.Goals as goal

@@ -1,6 +1,5 @@
-use Rattle.std.proofs.Common.{ap, ◌∙◌, ◌≡◌, ◌*◌, ◌<◌, ◌^◌, sym, arith}
+use Rattle.std.proofs.Common.{ap, ◌∙◌, ◌≡◌, arith}
 use Rattle.std.specs.Prelude.{unwrap_or}
-use Rattle.std.proofs.lemmas.Result.{IfErr-at_err}
 use Rattle.zarrs_data_type.specs.Kind.{kind, cell_size}
 use Rattle.zarrs_data_type.proofs.Sizes.{cell_size-positive}
 use Rattle.zarrs_engine.specs.Layout.{layout_of_parts}

@@ -1,4 +1,4 @@
-use Rattle.std.proofs.Common.{arith, rules, ◌≡◌, ◌<◌, ◌+◌, false, length, drop, is_none, MatchOption, refl, sym, ap, ◌∙◌}
+use Rattle.std.proofs.Common.{arith, rules, ◌≡◌, ◌+◌, false, length, is_none, MatchOption, refl, ap, ◌∙◌}
 use Rattle.zarrs_subset.specs.Boxes.{position_count}
 use Rattle.zarrs_subset.specs.Regions.{box_of, place_in, Holds}
 use Rattle.zarrs_subset.specs.Steps.{positions_since, BeginsAt}

@@ -1,4 +1,4 @@
-use Rattle.std.proofs.Common.{arith, rules, ◌≡◌, length, ◌∙◌, sym}
+use Rattle.std.proofs.Common.{arith, rules, ◌≡◌, length}
 use Rattle.zarrs_subset.specs.Regions.{box_of, bound_to}
 use Rattle.zarrs_subset.proofs.Overlaps.{EndsFit-bound, length-bound}
 use Rattle.zarrs_subset.proofs.subset.ArraySubset.bound.Goals as goal

@@ -1,4 +1,4 @@
-use Rattle.std.proofs.Common.{arith, rules, ◌≡◌, ◌-◌, length, ◌∙◌, sym}
+use Rattle.std.proofs.Common.{arith, rules, ◌≡◌, ◌-◌, length}
 use Rattle.zarrs_subset.specs.Boxes.{zip_with}
 use Rattle.zarrs_subset.proofs.Overlaps.{EndsFit-between, length-zip_with}
 use Rattle.zarrs_subset.proofs.subset.ArraySubset.new_with_start_end_exc.Goals as goal
