@@ -14,7 +14,7 @@ fn outcome(alloc: Global, script: &[u8]) -> (Vec<u8>, u8) {
 
 #[test]
 fn scripts_print_what_they_ask(rt: HostRuntime) {
-    let cases: [(&str, &str, u8); 12] = [
+    let cases: [(&str, &str, u8); 16] = [
         (
             "array 4 2 uint8 0\nchunk 1 5,6\nread 1\nread 0\nkeys\nerase 1\nkeys\n",
             "ok\nok\n5,6\n0,0\nc/1 0506\nok\nnone\n",
@@ -68,6 +68,30 @@ fn scripts_print_what_they_ask(rt: HostRuntime) {
         (
             "array 4 2 uint8 0\nread 0,0\nread 0\nkeys\nread 1\n",
             "ok\nrefused E3\n0,0\nnone\n0,0\n",
+            1,
+        ),
+        // one chunk of an array without dimensions, stored, filled and erased
+        (
+            "array - - uint8 3\nchunk - 3\nkeys\nchunk - 4\nread -\nerase -\nread -\nread 0\n",
+            "ok\nok\nnone\nok\n4\nok\n3\nrefused E3\n",
+            1,
+        ),
+        // a chunk lies past the shape
+        (
+            "array 0 2 uint8 7\nread 0\nchunk 0 1,2\nread 0\n",
+            "ok\n7,7\nok\n1,2\n",
+            0,
+        ),
+        // a size past the number types comes before the number of cells
+        (
+            "array 4294967296,4294967296 4294967296,4294967296 uint8 0\nread 0,0\nchunk 0,0 1\n",
+            "ok\nrefused E8\nrefused E8\n",
+            1,
+        ),
+        // more memory than there is
+        (
+            "array 18446744073709551615 18446744073709551615 uint8 0\nread 0\nerase 0\n",
+            "ok\nrefused E9\nok\n",
             1,
         ),
         ("", "", 0),

@@ -1,5 +1,6 @@
 -- Boxes as one value, and the cells of arrays over them.
-use Rattle.std.specs.Prelude.{◌≡◌, nat_eq, ◌&&◌, ℕ, ◌+◌, ◌-◌, ◌<◌, ◌≤◌, ◌^◌, Bool, true, List, length, map, min, slice_index, slice_get, Option, if◌then◌else◌}
+use Rattle.std.specs.Prelude.{◌≡◌, nat_eq, ◌==◌, ◌&&◌, ℕ, ◌+◌, ◌-◌, ◌<◌, ◌≤◌, ◌^◌, Bool, true, List, [], ◌++◌, codes, decimal, length, map, min, slice_index, slice_get, Option, if◌then◌else◌}
+use Rattle.std.specs.List.{flat_map, range_with_len}
 use Rattle.std.specs.Cmp.Lexicographic.{pointwise}
 use Rattle.std.specs.declared.ops.Range.{Range}
 use Rattle.zarrs_subset.specs.declared.subset.ArraySubset.{ArraySubset}
@@ -62,6 +63,16 @@ abbrev pub bound_to : Box → List ℕ → Box
 bound_to box end =
     let start = zip_with (λ s b. min s b) box.start end in
     record { start = start; shape = zip_with (λ e s. e - s) (zip_with (λ e b. min e b) (ends box.start box.shape) end) start }
+
+-- how the range of one dimension is printed, after a comma and a blank but for the first
+abbrev pub range_text : Box → ℕ → List ℕ
+range_text box k =
+    let start = slice_index box.start k in
+    (if k == 0 then [] else codes ", ") ++ decimal start ++ codes ".." ++ decimal (start + slice_index box.shape k)
+
+-- how a box is printed: the range of each dimension
+abbrev pub box_text : Box → List ℕ
+box_text box = codes "[" ++ flat_map (range_text box) (range_with_len 0 (length box.start)) ++ codes "]"
 
 -- the row-major number of a position of the box
 abbrev pub place_in : Box → List ℕ → ℕ

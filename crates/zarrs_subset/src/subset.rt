@@ -314,13 +314,18 @@ impl Eq for ArraySubset {
 
 /// Prints the range of each dimension, as `[0..2, 1..3]`.
 impl fmt::Display for ArraySubset {
+    ghost use Rattle.std.specs.Prelude.{Some};
+    ghost use Rattle.zarrs_subset.specs.Regions.{box_of, box_text};
+
+    ghost output = { λ subset. Some (box_text (box_of subset)) };
+
     fn fmt<W: fmt::Write>(&self, f: &mut fmt::Formatter<W>) -> fmt::Result {
         write!(f, "[")?;
         for k in 0..self.start.len() {
-            if k > 0 {
-                write!(f, ", ")?;
-            }
-            write!(f, "{}..{}", self.start[k], self.start[k] + self.shape[k])?;
+            let separator = if k == 0 { "" } else { ", " };
+            let start = self.start[k];
+            let end = start + self.shape[k];
+            write!(f, "{separator}{start}..{end}")?;
         }
         write!(f, "]")
     }
