@@ -116,3 +116,9 @@ pub said_back : (g : ChunkGrid) → grid_said (extension_of_grid (grid_data g)) 
 said_back (Regular g) = shape_meant regular g.array_shape.items (λ sizes. refl) _ g.chunk_shape.items (sizes_back g.chunk_shape.items) g.chunk_dimensions
 said_back (RegularBounded g) = shape_meant bounded g.array_shape.items (λ sizes. refl) _ g.chunk_shape.items (sizes_back g.chunk_shape.items) g.chunk_dimensions
 said_back (Rectangular g) = dimensions_meant g.array_shape.items _ g.sizes.items (dimensions_back g.sizes.items) g.sizes_dimensions g.filled
+
+-- the same over any shape
+pub said_over : (g : ChunkGrid) (shape : List ℕ) → grid_said (extension_of_grid (grid_data g)) shape ≡ over_shape shape (grid_data g)
+said_over (Regular g) shape = ap (λ (o : Option (List ℕ)). option_and_then (over_shape shape) (option_map regular o)) (sizes_back g.chunk_shape.items)
+said_over (RegularBounded g) shape = ap (λ (o : Option (List ℕ)). option_and_then (over_shape shape) (option_map bounded o)) (sizes_back g.chunk_shape.items)
+said_over (Rectangular g) shape = ap (λ (o : Option (List SizesData)). option_and_then (over_shape shape) (option_map rectangular o)) (dimensions_back g.sizes.items)

@@ -1,8 +1,8 @@
 //! What follows from the laws of a chunk grid. These functions do nothing: their contracts are the theorems.
-ghost use Rattle.std.specs.Prelude.{◌≡◌, ◌↔◌, ℕ, List, Some};
-ghost use Rattle.zarrs_subset.specs.Regions.{Box, InBox};
-ghost use Rattle.zarrs_chunk_grid.specs.Grids.{InChunk, IsChunkRange, index_at, range_box};
-ghost use Rattle.zarrs_chunk_grid.specs.GridData.{grid_said};
+ghost use Rattle.std.specs.Prelude.{◌≡◌, ◌↔◌, ℕ, List, Some, true};
+ghost use Rattle.zarrs_subset.specs.Regions.{Box, InBox, Holds};
+ghost use Rattle.zarrs_chunk_grid.specs.Grids.{InChunk, IsCovered, IsChunkRange, box_at, has_box, index_at, is_covered, range_box};
+ghost use Rattle.zarrs_chunk_grid.specs.GridData.{grid_said, over_shape};
 ghost use Rattle.zarrs_chunk_grid.specs.GridView.{grid_data};
 ghost use Rattle.zarrs_chunk_grid.specs.GridMeaning.{grid_meant, counts_meant};
 
@@ -41,4 +41,21 @@ pub fn metadata_means_its_grid(_grid: &ChunkGrid)
         ≡ grid_meant (grid_data _grid.now) (⟦<ChunkGrid as ChunkGridTraits>⟧.array_extents _grid.now) }
     ensures counts { ⟦<ChunkGrid as ChunkGridTraits>⟧.grid_extents _grid.now
         ≡ counts_meant (grid_data _grid.now) (⟦<ChunkGrid as ChunkGridTraits>⟧.array_extents _grid.now) }
+{}
+
+/// The box of a chunk has the positions that the chunk holds.
+pub fn box_of_a_chunk<G: ChunkGridTraits>(_grid: &G)
+    ensures { (indices position : List ℕ) → has_box (G.grid _grid.now) indices ≡ true
+        → (Holds (box_at (G.grid _grid.now) indices) position) ↔ InChunk (G.grid _grid.now) indices position }
+{}
+
+/// A position is covered exactly where some chunk holds it.
+pub fn covered_positions<G: ChunkGridTraits>(_grid: &G)
+    ensures { (position : List ℕ) → (is_covered (G.grid _grid.now) position ≡ true) ↔ IsCovered (G.grid _grid.now) position }
+{}
+
+/// The metadata of a grid says that grid over an array of any shape that it fits.
+pub fn metadata_says_its_sizes(_grid: &ChunkGrid)
+    ensures { (shape : List ℕ) → grid_said (⟦<ChunkGrid as ChunkGridTraits>⟧.extension _grid.now) shape
+        ≡ over_shape shape (grid_data _grid.now) }
 {}

@@ -3,8 +3,8 @@ use crate::chunk_sizes::ChunkSizes;
 use crate::error::GridError;
 use crate::grid::ChunkGrid;
 use crate::laws::{
-    chunk_of_a_position, chunk_range_fills_a_box, chunks_share_no_position,
-    metadata_means_its_grid, metadata_says_its_grid,
+    box_of_a_chunk, chunk_of_a_position, chunk_range_fills_a_box, chunks_share_no_position,
+    covered_positions, metadata_means_its_grid, metadata_says_its_grid, metadata_says_its_sizes,
 };
 use crate::rectangular::RectangularChunkGrid;
 use crate::regular::RegularChunkGrid;
@@ -73,6 +73,8 @@ fn regular_chunks_that_a_region_meets(rt: HostRuntime) -> Result<(), Fail> {
     chunks_share_no_position(&grid);
     chunk_of_a_position(&grid);
     chunk_range_fills_a_box(&grid);
+    box_of_a_chunk(&grid);
+    covered_positions(&grid);
     let one = grid
         .chunks_in_array_subset(alloc, &region(alloc, &[0], &[4])?)?
         .ok_or("covered")?;
@@ -286,6 +288,7 @@ fn grids_read_from_metadata_and_written_again(rt: HostRuntime) -> Result<(), Fai
     let grid = read_grid(alloc, text, &[8, 8])?;
     metadata_says_its_grid(&grid);
     metadata_means_its_grid(&grid);
+    metadata_says_its_sizes(&grid);
     assert!(rt; matches!(&grid, ChunkGrid::Regular(_)));
     assert_eq!(rt; grid.grid_shape(), [2, 3].as_slice());
     assert_eq!(rt; written(alloc, &grid)?.as_str(), text);

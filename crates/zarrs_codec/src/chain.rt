@@ -1,6 +1,5 @@
 //! The chains that there are.
-ghost use Rattle.std.specs.Prelude.{◌≡◌, ◌<◌, ◌^◌};
-ghost use Rattle.zarrs_subset.specs.Boxes.{position_count};
+ghost use Rattle.std.specs.Prelude.{◌≡◌};
 ghost use Rattle.zarrs_data_type.specs.Kind.{kind};
 ghost use Rattle.zarrs_codec.specs.Chains.{array_to_bytes_of, leaf_meaning, chain_meaning};
 ghost use Rattle.zarrs_codec.specs.ChainLaws.{chain-lawful};
@@ -10,6 +9,7 @@ use crate::traits::ChainTraits;
 use std::alloc::Global;
 use zarrs_codec_leaf::{BytesCodec, CodecError};
 use zarrs_data_type::{ArrayBytes, DataType, FillValue};
+use zarrs_subset::element_count;
 
 /// A codec that makes bytes of cells (Zarr V3 core specification, "Codecs").
 #[derive(Debug, Drop)]
@@ -51,18 +51,6 @@ impl CodecChain {
     }
 }
 
-/// The number of cells of a chunk of this shape.
-fn cell_count(shape: &[u64]) -> u64
-    requires { position_count shape.now < 2 ^ 64 }
-    ensures { result ≡ position_count shape.now }
-{
-    match shape {
-        [] => 1,
-        [0, ..] => 0,
-        [extent, rest @ ..] => *extent * cell_count(rest),
-    }
-}
-
 impl ChainTraits for CodecChain {
     ghost meaning = { chain_meaning };
 
@@ -93,12 +81,10 @@ impl ChainTraits for CodecChain {
         shape: &[u64],
     ) -> Result<ArrayBytes<'static>, CodecError> {
         match &self.array_to_bytes {
-            ArrayToBytesCodec::Bytes(codec) => codec.decode(
-                alloc,
-                text,
-                data_type,
-                cell_count(shape),
-            ),
+            ArrayToBytesCodec::Bytes(codec) => {
+                let count = element_count(shape).unwrap();
+                codec.decode(alloc, text, data_type, count)
+            }
         }
     }
 

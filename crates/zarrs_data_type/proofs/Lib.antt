@@ -4,3 +4,4 @@ pub mod Fixed
 pub mod Pieces
 pub mod Same
 pub mod Sizes
+mod Periods

@@ -4,7 +4,7 @@ use Rattle.std.specs.Prelude.{slice_range}
 use Rattle.std.specs.List.{range_with_len, flat_map, list_all, repeat}
 use Rattle.std.specs.Str.{bytes_eq}
 use Rattle.std.proofs.lemmas.Grind.{flat_map-append}
-use Rattle.std.proofs.lemmas.List.{length-append, length-drop, length-take-le, take_at, take_all}
+use Rattle.std.proofs.lemmas.List.{length-append, length-drop, length-take-le, take_at, take_all, take_more}
 use Rattle.std.proofs.lemmas.List.Folds.{list_all-append, list_all_at, list_all-map}
 use Rattle.std.proofs.lemmas.List.FromFn.{length-map-range_with_len, get_or-map-range_with_len, map-range_with_len_more, fill_by_all}
 use Rattle.std.proofs.Math.Nat.{suc-mul, mul-le-mul_right, div-mul-le_self, mul-div_cancel}
@@ -23,38 +23,12 @@ piece_within b size n k len lt =
     let within = mul-le-mul_right {m = k + 1} {n = n} size (omega arith) in
     omega arith
 
-pub whole_piece_within : (b : List ℕ) (size k : ℕ) → k < length b / size → k * size + size ≤ length b
-whole_piece_within b size k lt =
-    let within = mul-le-mul_right {m = k + 1} {n = length b / size} size (omega arith) in
-    omega (arith, div-mul-le_self (length b) size)
-
 pub length-pieces : (size n : ℕ) (b : List ℕ) → length (pieces size n b) ≡ n
 length-pieces size n b = length-map-range_with_len (λ k. slice_range b (k * size) (k * size + size)) 0 n
 
 -- one more piece
 pub pieces_more : (size n : ℕ) (b : List ℕ) → pieces size (n + 1) b ≡ pieces size n b ++ slice_range b (n * size) (n * size + size) ∷ []
 pieces_more size n b = map-range_with_len_more (λ k. slice_range b (k * size) (k * size + size)) 0 n n (omega arith)
-
--- a test of each piece, with one more piece
-pub all-pieces_more : (test : List ℕ → Bool) (size n : ℕ) (b : List ℕ)
-    → list_all test (pieces size (n + 1) b) ≡ (list_all test (pieces size n b) && (test (slice_range b (n * size) (n * size + size)) && true))
-all-pieces_more test size n b =
-    ap (list_all test) (pieces_more size n b) ∙ list_all-append test (pieces size n b) (slice_range b (n * size) (n * size + size) ∷ [])
-
--- the tests of the pieces so far, and that of one more
-pub all_pieces_so_far : (test : List ℕ → Bool) (size i : ℕ) (b : List ℕ) → list_all test (pieces size i b) ≡ true
-    → test (slice_range b (i * size) (i * size + size)) ≡ true → list_all test (pieces size (i + 1) b) ≡ true
-all_pieces_so_far test size i b before here =
-    all-pieces_more test size i b
-    ∙ ap (λ x. x && (test (slice_range b (i * size) (i * size + size)) && true)) before
-    ∙ ap (λ x. x && true) here
-
--- one piece that fails the test
-pub piece_fails : (test : List ℕ → Bool) (size n i : ℕ) (b : List ℕ) → i < n
-    → test (slice_range b (i * size) (i * size + size)) ≡ false → list_all test (pieces size n b) ≡ false
-piece_fails test size n i b lt fails =
-    list_all_at test (pieces size n b) i [] (omega (arith, length-pieces size n b))
-    (ap test (get_or-map-range_with_len (λ k. slice_range b (k * size) (k * size + size)) 0 n i i [] lt (omega arith)) ∙ fails)
 
 joined_more : (f : List ℕ → List ℕ) (size n : ℕ) (b : List ℕ) → flat_map f (pieces size (n + 1) b) ≡ flat_map f (pieces size n b) ++ f (slice_range b (n * size) (n * size + size))
 joined_more f size n b =
@@ -63,7 +37,7 @@ joined_more f size n b =
     ∙ ap (λ l. flat_map f (pieces size n b) ++ l) (append-nil (f (slice_range b (n * size) (n * size + size))))
 
 -- the pieces put together are the front of the bytes
-pieces-joined : (size n : ℕ) (b : List ℕ) → flat_map (λ x. x) (pieces size n b) ≡ take (n * size) b
+pub pieces-joined : (size n : ℕ) (b : List ℕ) → flat_map (λ x. x) (pieces size n b) ≡ take (n * size) b
 pieces-joined size zero b = let e : zero * size ≡ 0 = omega arith in sym (ap (λ k. take k b) e)
 pieces-joined size (suc n) b =
     let one : suc n ≡ n + 1 = omega arith in
@@ -143,6 +117,22 @@ repeat_behind p (suc n) = append_assoc p (repeat n p) p ∙ ap (λ l. p ++ l) (r
 pub repeat_more : (p : List ℕ) (n : ℕ) → repeat (n + 1) p ≡ repeat n p ++ p
 repeat_more p n = let e : n + 1 ≡ suc n = omega arith in ap (λ m. repeat m p) e ∙ sym (repeat_behind p n)
 
+-- the repetitions of two counts, one after the other
+repeat_add : (p : List ℕ) (m n : ℕ) → repeat (m + n) p ≡ repeat m p ++ repeat n p
+repeat_add p zero n = let e : zero + n ≡ n = omega arith in ap (λ k. repeat k p) e
+repeat_add p (suc m) n =
+    let e : suc m + n ≡ suc (m + n) = omega arith in
+    ap (λ k. repeat k p) e ∙ ap (λ l. p ++ l) (repeat_add p m n) ∙ sym (append_assoc p (repeat m p) (repeat n p))
+
+-- as many repetitions again
+pub repeat_twice : (p half both : List ℕ) (len m n : ℕ) → half ≡ repeat m p → both ≡ half ++ slice_range half 0 len → length half ≤ len → n ≡ m + m → both ≡ repeat n p
+repeat_twice p half both len m n is twice whole sum =
+    twice
+    ∙ ap (λ l. half ++ l) (take_all (len - 0) half (omega arith))
+    ∙ ap (λ l. l ++ l) is
+    ∙ sym (repeat_add p m m)
+    ∙ ap (λ k. repeat k p) (sym sum)
+
 -- one byte, repeated
 pub repeat_one : (x n : ℕ) → repeat n (x ∷ []) ≡ replicate n x
 repeat_one x zero = refl
@@ -157,21 +147,9 @@ and_true : (x : Bool) → (x && true) ≡ x
 and_true true = refl
 and_true false = refl
 
-all_singles : (byte : ℕ) (b : List ℕ) → list_all (λ x. eqb x byte) b ≡ list_all (λ x. bytes_eq (x ∷ []) (byte ∷ [])) b
-all_singles byte [] = refl
-all_singles byte (x ∷ b) =
-    ap (λ l. eqb x byte && l) (all_singles byte b)
-    ∙ ap (λ t. t && list_all (λ y. bytes_eq (y ∷ []) (byte ∷ [])) b) (sym (and_true (eqb x byte)))
-
--- a test of each byte, as one of the pieces of one byte
-pub all_bytes : (p b : List ℕ) → 1 ≤ length p → length p < 2
-    → list_all (λ x. eqb x (get_or p 0 0)) b ≡ list_all (λ q. bytes_eq q p) (pieces (length p) (length b / length p) b)
-all_bytes [] b some one = absurd (omega arith)
-all_bytes (byte ∷ []) b some one =
-    let one_each : length b ≡ length b * 1 = omega arith in
-    let some_size : 0 < 1 = omega arith in
-    let count : length b / 1 ≡ length b = ap (λ n. n / 1) one_each ∙ mul-div_cancel (length b) some_size in
-    all_singles byte b
-    ∙ sym (list_all-map (λ q. bytes_eq q (byte ∷ [])) (λ x. x ∷ []) b)
-    ∙ sym (ap (list_all (λ q. bytes_eq q (byte ∷ []))) (ap (λ n. pieces 1 n b) count ∙ pieces-one b))
-all_bytes (x ∷ y ∷ p) b some one = absurd (omega arith)
+-- a test of the front, with one more byte
+pub all-take_more : (test : ℕ → Bool) (xs : List ℕ) (i : ℕ) → i < length xs → list_all test (take (i + 1) xs) ≡ (list_all test (take i xs) && test (get_or xs i 0))
+all-take_more test xs i lt =
+    ap (list_all test) (take_more xs i 0 lt)
+    ∙ list_all-append test (take i xs) (get_or xs i 0 ∷ [])
+    ∙ ap (λ x. list_all test (take i xs) && x) (and_true (test (get_or xs i 0)))

@@ -10,18 +10,17 @@ use Rattle.zarrs_chunk_grid.proofs.Chunks.{box_is_there, box_long, box_index, bo
 use Rattle.zarrs_keys.specs.Keys.{IsIndexList}
 use Rattle.zarrs_storage.specs.Store.{StoreState}
 use Rattle.zarrs_data_type.specs.Cell.{Cell}
-use Rattle.zarrs_data_type.specs.ArrayData.{ArrayData, data_of}
+use Rattle.zarrs_data_type.specs.ArrayData.{ArrayData}
 use Rattle.zarrs_engine.specs.declared.call.Call.{Call}
-use Rattle.zarrs_engine.specs.declared.call.Call.TheVariants.{StoreChunk, EraseChunk, RetrieveChunkIfExists, RetrieveChunk}
 use Rattle.zarrs_engine.specs.declared.call.Reply.{Reply}
-use Rattle.zarrs_engine.specs.declared.call.Reply.TheVariants.{Done, Cells, MaybeCells, Refused}
 use Rattle.zarrs_engine.specs.Layout.{Layout, IsLawful}
 use Rattle.zarrs_engine.specs.Content.{texts, content, Reads}
-use Rattle.zarrs_engine.specs.Changes.{IsTextOf, ChangesKeysOf, StoresChunk, ErasesChunk, Leaves}
+use Rattle.zarrs_engine.specs.Changes.{IsTextOf, ChangesKeysOf, StoresChunk, ErasesChunk}
 use Rattle.zarrs_engine.specs.Step.{Step}
 use Rattle.zarrs_engine.specs.Run.{Run}
 use Rattle.zarrs_engine.specs.Canon.{IsCanonicalText, IsCanonical}
 use Rattle.zarrs_engine.proofs.Contents.{member, only_member, fill_at, index_list, one_key}
+use Rattle.zarrs_engine.proofs.RunLemmas.{IsKept, step_kept, run_kept}
 
 -- an index list is another one or not
 pub same_or_not : (a b : List ℕ) → (a ≡ b) ⊎ (a ≢ b)
@@ -100,27 +99,17 @@ module _ (layout : Layout) (lawful : IsLawful layout) where
       (subst (Contains (index ∷ [])) (sym (box_index layout.grid lawful.grid index position there holds)) (member index))))
       (λ none. absent)
 
-  leaves_keeps : (reason : Type 0) (old new : StoreState) → Leaves reason old new → IsCanonical layout (texts old) → IsCanonical layout (texts new)
-  leaves_keeps reason old new l = subst (IsCanonical layout) (ap (λ values. map.get values) (sym l.values))
-
-  same_keeps : (old new : StoreState) → new ≡ old → IsCanonical layout (texts old) → IsCanonical layout (texts new)
-  same_keeps old new is = subst (λ (s : StoreState). IsCanonical layout (texts s)) (sym is)
+  canon_kept : IsKept layout false (λ old new. IsCanonical layout (texts old) → IsCanonical layout (texts new))
+  canon_kept = record {
+    stored = store_keeps;
+    erased = erase_keeps;
+    left = λ failed old new values makes. subst (IsCanonical layout) (ap (λ values. map.get values) (sym values));
+  }
 
   -- a step keeps a canonical store canonical, where empty chunks are not kept
   pub step_keeps : (call : Call) (reply : Reply) (old new : StoreState) → Step layout false call reply old new → IsCanonical layout (texts old) → IsCanonical layout (texts new)
-  step_keeps (StoreChunk index held) Done old new s = store_keeps index.items (data_of held) old new s
-  step_keeps (StoreChunk index held) (Refused e) old new s = leaves_keeps _ old new s
-  step_keeps (EraseChunk index) Done old new s = erase_keeps index.items old new s
-  step_keeps (EraseChunk index) (Refused e) old new s = leaves_keeps _ old new s
-  step_keeps (RetrieveChunkIfExists index) (MaybeCells found) old new s = same_keeps old new s.0
-  step_keeps (RetrieveChunkIfExists index) (Refused e) old new s = same_keeps old new s.0
-  step_keeps (RetrieveChunk index) (Cells held) old new s = same_keeps old new s.0
-  step_keeps (RetrieveChunk index) (Refused e) old new s = same_keeps old new s.0
-  step_keeps call reply old new s = λ canon. absurd s
+  step_keeps = step_kept layout false (λ old new. IsCanonical layout (texts old) → IsCanonical layout (texts new)) canon_kept
 
   -- and so does a run
   pub run_keeps : (calls : List Call) (replies : List Reply) (old new : StoreState) → Run layout false calls replies old new → IsCanonical layout (texts old) → IsCanonical layout (texts new)
-  run_keeps [] [] old new r canon = same_keeps old new r canon
-  run_keeps (call ∷ calls) (reply ∷ replies) old new r canon = run_keeps calls replies r.0 new r.2 (step_keeps call reply old r.0 r.1 canon)
-  run_keeps [] (reply ∷ replies) old new r canon = absurd r
-  run_keeps (call ∷ calls) [] old new r canon = absurd r
+  run_keeps = run_kept layout false (λ state. IsCanonical layout (texts state)) canon_kept

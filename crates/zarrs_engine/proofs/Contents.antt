@@ -10,19 +10,16 @@ use Rattle.zarrs_chunk_grid.proofs.Chunks.{box_is_there, has_box_is, box_long, b
 use Rattle.zarrs_keys.specs.Keys.{IsIndexList, IsLawfulKey}
 use Rattle.zarrs_keys.proofs.PathLemmas.{lawful_at}
 use Rattle.zarrs_codec.specs.Chain.{ChainMeaning, IsLawfulChain}
+use Rattle.zarrs_data_type.specs.Kind.{Kind}
 use Rattle.zarrs_data_type.specs.Cell.{Cell, cell_eq}
 use Rattle.zarrs_data_type.proofs.Same.{cell_eq-true, eq-cell_eq}
-use Rattle.zarrs_engine.specs.declared.parts.Parts.{Parts}
-use Rattle.zarrs_engine.specs.Layout.{Layout, IsLawful, layout_of_parts}
+use Rattle.zarrs_engine.specs.Layout.{Layout, IsLawful, layout_at}
 use Rattle.zarrs_engine.specs.Content.{cell_at_place, chunk_cell, indexed_cell, decoded_cells, content, Reads}
 
 -- the laws of the parts are those of their layout
-pub lawful_parts : {G K C : Type 0} (grid : G → Grid) (key : K → List ℕ → List ℕ) (chain : C → ChainMeaning) → ((g : G) → IsGrid (grid g)) → ((k : K) → IsLawfulKey (key k)) → ((c : C) → IsLawfulChain (chain c)) → (parts : Parts G K C) → IsLawful (layout_of_parts grid key chain parts)
-lawful_parts grid key chain g k c parts = record {
-  grid = g parts.grid;
-  key = (lawful_at parts.path (key parts.keys) (k parts.keys)).injective;
-  chain = c parts.chain;
-}
+pub lawful_at_parts : (grid : Grid) (path : List ℕ) (key : List ℕ → List ℕ) (chain : ChainMeaning) (kind : Kind) (fill : List ℕ)
+    → IsGrid grid → IsLawfulKey key → IsLawfulChain chain → IsLawful (layout_at grid path key chain kind fill)
+lawful_at_parts grid path key chain kind fill g k c = record { grid = g; key = (lawful_at path key k).injective; chain = c }
 
 head_passes : (a b : Bool) → a && b ≡ true → a ≡ true
 head_passes true b e = refl

@@ -13,21 +13,20 @@ use Rattle.zarrs_chunk_grid.proofs.Chunks.{box_is_there, box_long, box_index}
 use Rattle.zarrs_keys.specs.Keys.{IsIndexList}
 use Rattle.zarrs_storage.specs.Store.{StoreState}
 use Rattle.zarrs_data_type.specs.Cell.{Cell, cell_eq, are_values}
-use Rattle.zarrs_data_type.specs.ArrayData.{ArrayData, data_of}
+use Rattle.zarrs_data_type.specs.ArrayData.{ArrayData}
 use Rattle.zarrs_data_type.proofs.Cells.{cells-values}
 use Rattle.zarrs_data_type.proofs.Same.{eq-cell_eq}
 use Rattle.zarrs_engine.specs.declared.call.Call.{Call}
-use Rattle.zarrs_engine.specs.declared.call.Call.TheVariants.{StoreChunk, EraseChunk, RetrieveChunkIfExists, RetrieveChunk}
 use Rattle.zarrs_engine.specs.declared.call.Reply.{Reply}
-use Rattle.zarrs_engine.specs.declared.call.Reply.TheVariants.{Done, Cells, MaybeCells, Refused}
 use Rattle.zarrs_engine.specs.Layout.{Layout, IsLawful}
 use Rattle.zarrs_engine.specs.Content.{texts, content, decoded_cells, cell_at_place, chunk_cell, Reads}
 use Rattle.zarrs_engine.specs.Refusals.{is_left_out}
-use Rattle.zarrs_engine.specs.Changes.{IsTextOf, ChangesKeysOf, StoresChunk, ErasesChunk, Leaves}
+use Rattle.zarrs_engine.specs.Changes.{IsTextOf, ChangesKeysOf, StoresChunk, ErasesChunk}
 use Rattle.zarrs_engine.specs.Run.{Run}
 use Rattle.zarrs_engine.specs.Canon.{IsCanonicalText, IsCanonical, HasNoChunk}
 use Rattle.zarrs_engine.specs.Laws.{HaveEqualContent, HaveEqualTexts, ContentIsTexts, EachDecodes, CanonicalStoresDecode, StepsKeepDecoding, EmptyStoresAreCanonical, IsHistory, HistoriesAgree}
 use Rattle.zarrs_engine.proofs.Contents.{member, index_list, content_in_box, absent_fill, content_same}
+use Rattle.zarrs_engine.proofs.RunLemmas.{IsKept, step_kept, run_kept}
 use Rattle.zarrs_engine.proofs.Canons.{same_or_not, other_key, run_keeps}
 
 -- lists of cells with equal cells are one
@@ -133,11 +132,12 @@ module _ (layout : Layout) (lawful : IsLawful layout) where
       let clash : None ≡ Some text = sym (e.erases.absent index (member index)) ∙ at in
       absurd (cc))
 
-  leaves_decodes : (reason : Type 0) (old new : StoreState) → Leaves reason old new → EachDecodes layout old → EachDecodes layout new
-  leaves_decodes reason old new l each index text has at = each index text has (ap (λ values. map.get values (layout.key index)) (sym l.values) ∙ at)
-
-  same_decodes : (old new : StoreState) → new ≡ old → EachDecodes layout old → EachDecodes layout new
-  same_decodes old new is = subst (EachDecodes layout) (sym is)
+  pub decoding_kept : (keep : Bool) → IsKept layout keep (λ old new. EachDecodes layout old → EachDecodes layout new)
+  decoding_kept keep = record {
+    stored = store_decodes keep;
+    erased = erase_decodes;
+    left = λ failed old new values makes each index text has at. each index text has (ap (λ values. map.get values (layout.key index)) (sym values) ∙ at);
+  }
 
   found_cells : (found : Option (List Cell)) (n : ℕ) (cell : Cell) → cell_at_place found n ≡ Some cell → (cells : List Cell) × (found ≡ Some cells)
   found_cells None n cell is = absurd (cc)
@@ -168,23 +168,12 @@ canonical_decodes layout lawful state canon index text has at =
 
 -- a step leaves chunks that decode
 pub step_decodes : StepsKeepDecoding
-step_decodes layout lawful keep (StoreChunk index held) Done old new s = store_decodes layout lawful keep index.items (data_of held) old new s
-step_decodes layout lawful keep (StoreChunk index held) (Refused e) old new s = leaves_decodes layout lawful _ old new s
-step_decodes layout lawful keep (EraseChunk index) Done old new s = erase_decodes layout lawful index.items old new s
-step_decodes layout lawful keep (EraseChunk index) (Refused e) old new s = leaves_decodes layout lawful _ old new s
-step_decodes layout lawful keep (RetrieveChunkIfExists index) (MaybeCells found) old new s = same_decodes layout lawful old new s.0
-step_decodes layout lawful keep (RetrieveChunkIfExists index) (Refused e) old new s = same_decodes layout lawful old new s.0
-step_decodes layout lawful keep (RetrieveChunk index) (Cells held) old new s = same_decodes layout lawful old new s.0
-step_decodes layout lawful keep (RetrieveChunk index) (Refused e) old new s = same_decodes layout lawful old new s.0
-step_decodes layout lawful keep call reply old new s = λ each. absurd s
+step_decodes layout lawful keep = step_kept layout keep (λ old new. EachDecodes layout old → EachDecodes layout new) (decoding_kept layout lawful keep)
 
 -- and so does a run
 pub run_decodes : (layout : Layout) → IsLawful layout → (keep : Bool) (calls : List Call) (replies : List Reply) (old new : StoreState)
     → Run layout keep calls replies old new → EachDecodes layout old → EachDecodes layout new
-run_decodes layout lawful keep [] [] old new r each = same_decodes layout lawful old new r each
-run_decodes layout lawful keep (call ∷ calls) (reply ∷ replies) old new r each = run_decodes layout lawful keep calls replies r.0 new r.2 (step_decodes layout lawful keep call reply old r.0 r.1 each)
-run_decodes layout lawful keep [] (reply ∷ replies) old new r each = absurd r
-run_decodes layout lawful keep (call ∷ calls) [] old new r each = absurd r
+run_decodes layout lawful keep = run_kept layout keep (EachDecodes layout) (decoding_kept layout lawful keep)
 
 pub content_is_texts : ContentIsTexts
 content_is_texts layout lawful a b p q = (equal_texts layout a b p q, content_same layout lawful (texts a) (texts b))

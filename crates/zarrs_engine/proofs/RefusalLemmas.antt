@@ -14,7 +14,7 @@ use Rattle.zarrs_data_type.specs.Kind.{Kind, kind, cell_size, fixed_size}
 use Rattle.zarrs_data_type.specs.Kind as type
 use Rattle.zarrs_engine.specs.Layout.{Layout}
 use Rattle.zarrs_engine.specs.Errors.{error_of_storage, error_of_codec}
-use Rattle.zarrs_engine.specs.Changes.{Leaves}
+use Rattle.zarrs_engine.specs.Changes.{Makes, Leaves}
 use Rattle.zarrs_engine.specs.Refusals as refusal
 use Rattle.zarrs_engine.specs.Refusals.{Refusal, refusal_of, refusal_of_storage, refusal_of_codec, or_else, box_refusal, is_too_large, data_refusal, encode_refusal, encoded_cells, is_left_out, StoreFails, IsRefusal}
 
@@ -74,15 +74,19 @@ pub leaves_for : (p q : Type 0) (old new : StoreState) → (p → q) → Leaves 
 leaves_for p q old new f l = record { values = l.values; failed = l.failed; one = l.one; makes = l.makes; cause = f l.cause }
 
 pub same_reach : (state : StoreState) → KeepsReach state state
-same_reach state = record { may_ask = λ key. refl; may_read = λ key place. refl }
+same_reach state = record { may_ask = λ key. refl; may_read = λ key place. refl; sets_parts = refl; lenders = refl }
 
--- a refused call that made no writing call
+-- no writing call
+pub makes_none : (state : StoreState) → Makes 0 0 state state
+makes_none state = record { calls = omega arith; failures = omega arith; reach = same_reach state }
+
+-- a refused call that made none
 pub leaves_all : (p : Type 0) (state : StoreState) → p → Leaves p state state
 leaves_all p state why = record {
   values = refl;
   failed = 0;
   one = omega arith;
-  makes = record { calls = omega arith; failures = omega arith; reach = same_reach state };
+  makes = makes_none state;
   cause = why;
 }
 

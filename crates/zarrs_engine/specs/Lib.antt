@@ -1,5 +1,7 @@
 pub mod Errors
 pub mod Layout
+pub mod Engine
+pub mod Props
 pub mod Content
 pub mod Reach
 pub mod Refusals

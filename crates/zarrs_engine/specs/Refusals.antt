@@ -48,7 +48,9 @@ abbrev pub refusal_of : ArrayError → Refusal
 refusal_of (error.InvalidArraySubset region shape) = array_subset (box_of region) shape.items
 refusal_of (error.InvalidChunkSubset part index shape) = chunk_subset (box_of part) index.items shape.items
 refusal_of (error.InvalidChunkGridIndicesError index) = indices index.items
-refusal_of (error.CodecError e) = codec
+refusal_of (error.CodecError coded.DoesNotFit) = codec
+refusal_of (error.CodecError coded.SizeOverflow) = unused
+refusal_of (error.CodecError coded.OutOfMemory) = unused
 refusal_of (error.ElementError e) = element
 refusal_of (error.InvalidDataShape got expected) = data_shape got.items expected.items
 refusal_of (error.StorageError e) = storage

@@ -15,7 +15,7 @@ use zarrs_storage::{Bytes, ReadableStorageTraits, StorageError, StoreKey, Writab
 /// what the bytes at its key decode to (Zarr V3 core specification, "Fill value", "Chunk encoding"). Each call says in
 /// its contract what it does to that function and to the store.
 #[derive(Drop)]
-pub struct Engine<S, G, K, C> {
+pub struct Engine<S, G: ChunkGridTraits, K: ChunkKeyEncodingTraits, C: ChainTraits> {
     storage: S,
     parts: Parts<G, K, C>,
 }
@@ -25,7 +25,7 @@ impl<S, G: ChunkGridTraits, K: ChunkKeyEncodingTraits, C: ChainTraits> Engine<S,
     ghost use Rattle.zarrs_keys.specs.Paths.{path_key};
     ghost use Rattle.zarrs_data_type.specs.Kind.{kind};
     ghost use Rattle.zarrs_data_type.specs.Cell.{fill_cell, fill_of};
-    ghost use Rattle.zarrs_engine.specs.Layout.{layout_of, the_store};
+    ghost use Rattle.zarrs_engine.specs.Engine.{layout_of, the_store};
 
     /// An engine over the store, for the array at the path that is cut by the grid, whose chunks lie at the keys of the
     /// encoding and are turned into bytes by the chain. The bytes of the fill value are a value of the data type.
@@ -39,11 +39,11 @@ impl<S, G: ChunkGridTraits, K: ChunkKeyEncodingTraits, C: ChainTraits> Engine<S,
         fill_value: FillValue,
     ) -> Self
         requires { IsSome (fill_cell (kind data_type) fill_value) }
-        ensures grid { (layout_of G.grid K.key C.meaning result).grid ≡ G.grid grid }
-        ensures key { (layout_of G.grid K.key C.meaning result).key ≡ (λ index. path_key path (K.key keys index)) }
-        ensures chain { (layout_of G.grid K.key C.meaning result).chain ≡ C.meaning chain }
-        ensures kind { (layout_of G.grid K.key C.meaning result).kind ≡ kind data_type }
-        ensures fill { (layout_of G.grid K.key C.meaning result).fill ≡ fill_of (kind data_type) fill_value }
+        ensures grid { (layout_of result).grid ≡ G.grid grid }
+        ensures key { (layout_of result).key ≡ (λ index. path_key path (K.key keys index)) }
+        ensures chain { (layout_of result).chain ≡ C.meaning chain }
+        ensures kind { (layout_of result).kind ≡ kind data_type }
+        ensures fill { (layout_of result).fill ≡ fill_of (kind data_type) fill_value }
         ensures storage { the_store result ≡ storage }
     {
         let parts = Parts {
@@ -73,7 +73,7 @@ impl<
 > Engine<S, G, K, C> {
     ghost use Rattle.std.specs.Prelude.{◌≡◌, true, false, IfOk, IfErr, OnOk, IsErr, None, length, option_map};
     ghost use Rattle.zarrs_data_type.specs.ArrayData.{data_of};
-    ghost use Rattle.zarrs_engine.specs.Layout.{layout_of, store_of};
+    ghost use Rattle.zarrs_engine.specs.Engine.{layout_of, store_of};
     ghost use Rattle.zarrs_engine.specs.Content.{texts};
     ghost use Rattle.zarrs_engine.specs.Reach.{MayAskChunk};
     ghost use Rattle.zarrs_engine.specs.Refusals.{refusal_of, key_refusal};
@@ -83,18 +83,18 @@ impl<
 
     // The bytes that stand at the key of the chunk with these indices.
     fn stored_text(&self, alloc: Global, indices: &[u64]) -> Result<Option<Bytes>, ArrayError>
-        requires { MayAskChunk (layout_of G.grid K.key C.meaning self.now) indices.now (store_of S.state self.now) }
+        requires { MayAskChunk (layout_of self.now) indices.now (store_of S.state self.now) }
         ensures value { IfOk result (λ text. text
-            ≡ texts (store_of S.state self.now) ((layout_of G.grid K.key C.meaning self.now).key indices.now)) }
+            ≡ texts (store_of S.state self.now) ((layout_of self.now).key indices.now)) }
         ensures long { OnOk result (length indices.now
-            ≡ (layout_of G.grid K.key C.meaning self.now).grid.dimensions) }
+            ≡ (layout_of self.now).grid.dimensions) }
         ensures asked { OnOk result
-            (key_refusal (layout_of G.grid K.key C.meaning self.now) indices.now (store_of S.state self.now) ≡ None) }
+            (key_refusal (layout_of self.now) indices.now (store_of S.state self.now) ≡ None) }
         ensures refused { IfErr result
-            (λ e. TextRefused (layout_of G.grid K.key C.meaning self.now) indices.now (store_of S.state self.now)
+            (λ e. TextRefused (layout_of self.now) indices.now (store_of S.state self.now)
             (refusal_of e)) }
         ensures refusing { (store_of S.state self.now).refuses
-            ((layout_of G.grid K.key C.meaning self.now).key indices.now) ≡ true → IsErr result }
+            ((layout_of self.now).key indices.now) ≡ true → IsErr result }
     {
         if indices.len() != self.parts.grid.dimensionality() {
             return Err(ArrayError::invalid_indices(alloc, indices));
@@ -115,15 +115,15 @@ impl<
         alloc: Global,
         indices: &[u64],
     ) -> Result<Option<ArrayBytes<'static>>, ArrayError>
-        requires { MayAskChunk (layout_of G.grid K.key C.meaning self.now) indices.now (store_of S.state self.now) }
+        requires { MayAskChunk (layout_of self.now) indices.now (store_of S.state self.now) }
         ensures cells { IfOk result
-            (λ found. RetrievesIfExists (layout_of G.grid K.key C.meaning self.now) indices.now
+            (λ found. RetrievesIfExists (layout_of self.now) indices.now
             (option_map data_of found) (store_of S.state self.now)) }
         ensures refused { IfErr result
-            (λ e. ReadRefused (layout_of G.grid K.key C.meaning self.now) false indices.now
+            (λ e. ReadRefused (layout_of self.now) false indices.now
             (store_of S.state self.now) (refusal_of e)) }
         ensures refusing { (store_of S.state self.now).refuses
-            ((layout_of G.grid K.key C.meaning self.now).key indices.now) ≡ true → IsErr result }
+            ((layout_of self.now).key indices.now) ≡ true → IsErr result }
     {
         match self.stored_text(alloc, indices)? {
             Some(text) => {
@@ -145,15 +145,15 @@ impl<
         alloc: Global,
         indices: &[u64],
     ) -> Result<ArrayBytes<'static>, ArrayError>
-        requires { MayAskChunk (layout_of G.grid K.key C.meaning self.now) indices.now (store_of S.state self.now) }
+        requires { MayAskChunk (layout_of self.now) indices.now (store_of S.state self.now) }
         ensures cells { IfOk result
-            (λ made. RetrievesChunk (layout_of G.grid K.key C.meaning self.now) indices.now (data_of made)
+            (λ made. RetrievesChunk (layout_of self.now) indices.now (data_of made)
             (store_of S.state self.now)) }
         ensures refused { IfErr result
-            (λ e. ReadRefused (layout_of G.grid K.key C.meaning self.now) true indices.now (store_of S.state self.now)
+            (λ e. ReadRefused (layout_of self.now) true indices.now (store_of S.state self.now)
             (refusal_of e)) }
         ensures refusing { (store_of S.state self.now).refuses
-            ((layout_of G.grid K.key C.meaning self.now).key indices.now) ≡ true → IsErr result }
+            ((layout_of self.now).key indices.now) ≡ true → IsErr result }
     {
         match self.stored_text(alloc, indices)? {
             Some(text) => self.parts.decode(alloc, indices, &text),
@@ -171,7 +171,7 @@ impl<
     ghost use Rattle.std.specs.Prelude.{◌≡◌, IfErr, OnOk, None, length, option_map};
     ghost use Rattle.zarrs_data_type.specs.ArrayData.{data_of};
     ghost use Rattle.zarrs_codec.specs.Options.{stores_empty_chunks};
-    ghost use Rattle.zarrs_engine.specs.Layout.{layout_of, store_of, KeepsParts};
+    ghost use Rattle.zarrs_engine.specs.Engine.{layout_of, store_of, KeepsParts};
     ghost use Rattle.zarrs_engine.specs.Reach.{MayAskChunks};
     ghost use Rattle.zarrs_engine.specs.Refusals.{refusal_of, refusal_of_storage, IsRefusal, StoreFails};
     ghost use Rattle.zarrs_engine.specs.Changes.{StoresChunk, ErasesChunk, Leaves};
@@ -216,10 +216,10 @@ impl<
         options: &CodecOptions,
     ) -> Result<(), ArrayError>
         ensures done { OnOk result
-            (StoresChunk (layout_of G.grid K.key C.meaning self.old) (stores_empty_chunks options.now) indices.now
+            (StoresChunk (layout_of self.old) (stores_empty_chunks options.now) indices.now
             (data_of «data».now) (store_of S.state self.old) (store_of S.state self.new)) }
         ensures refused { IfErr result
-            (λ e. StoreRefused (layout_of G.grid K.key C.meaning self.old)
+            (λ e. StoreRefused (layout_of self.old)
             (stores_empty_chunks options.now) indices.now (data_of «data».now) (store_of S.state self.old)
             (store_of S.state self.new) (refusal_of e)) }
         ensures parts { KeepsParts self.old self.new }
@@ -236,12 +236,12 @@ impl<
     /// # Errors
     /// Where the store refuses, and `OutOfMemory`. Nothing is changed then.
     pub fn erase_chunk(&mut self, alloc: Global, indices: &[u64]) -> Result<(), StorageError>
-        requires { length indices.now ≡ (layout_of G.grid K.key C.meaning self.old).grid.dimensions }
+        requires { length indices.now ≡ (layout_of self.old).grid.dimensions }
         ensures done { OnOk result
-            (ErasesChunk (layout_of G.grid K.key C.meaning self.old) indices.now (store_of S.state self.old)
+            (ErasesChunk (layout_of self.old) indices.now (store_of S.state self.old)
             (store_of S.state self.new)) }
         ensures refused { IfErr result
-            (λ e. EraseRefused (layout_of G.grid K.key C.meaning self.old) indices.now (store_of S.state self.old)
+            (λ e. EraseRefused (layout_of self.old) indices.now (store_of S.state self.old)
             (store_of S.state self.new) (refusal_of_storage e)) }
         ensures parts { KeepsParts self.old self.new }
     {
@@ -251,8 +251,8 @@ impl<
 
     /// Makes one call, and answers the reply.
     pub(crate) fn answer(&mut self, alloc: Global, call: &Call, options: &CodecOptions) -> Reply
-        requires { MayAskChunks (layout_of G.grid K.key C.meaning self.old) (store_of S.state self.old) }
-        ensures step { Step (layout_of G.grid K.key C.meaning self.old)
+        requires { MayAskChunks (layout_of self.old) (store_of S.state self.old) }
+        ensures step { Step (layout_of self.old)
             (stores_empty_chunks options.now) call.now result (store_of S.state self.old)
             (store_of S.state self.new) }
         ensures parts { KeepsParts self.old self.new }

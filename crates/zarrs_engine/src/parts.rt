@@ -2,6 +2,8 @@
 ghost use Rattle.std.specs.Prelude.{IsSome};
 ghost use Rattle.zarrs_data_type.specs.Kind.{kind};
 ghost use Rattle.zarrs_data_type.specs.Cell.{fill_cell};
+ghost use Rattle.zarrs_engine.specs.Layout.{IsLawful, layout_at};
+ghost use Rattle.zarrs_engine.specs.Props.{IsLawful-prop};
 
 use crate::error::ArrayError;
 use std::alloc::Global;
@@ -14,13 +16,14 @@ use zarrs_subset::ArraySubset;
 
 /// Where an array lies, how it is cut into chunks, and what the bytes of its chunks mean.
 #[derive(Drop)]
-pub(crate) struct Parts<G, K, C> {
+pub(crate) struct Parts<G: ChunkGridTraits, K: ChunkKeyEncodingTraits, C: ChainTraits> {
     pub(crate) path: NodePath,
     pub(crate) grid: G,
     pub(crate) keys: K,
     pub(crate) chain: C,
     pub(crate) data_type: DataType,
     pub(crate) fill_value: FillValue,
+    ghost lawful: { IsLawful (layout_at (G.grid grid) path (K.key keys) (C.meaning chain) (kind data_type) fill_value) } by { IsLawful-prop (layout_at (G.grid grid) path (K.key keys) (C.meaning chain) (kind data_type) fill_value) },
     ghost filled: { IsSome (fill_cell (kind data_type) fill_value) },
 }
 
@@ -40,14 +43,14 @@ impl<G: ChunkGridTraits, K: ChunkKeyEncodingTraits, C: ChainTraits> Parts<G, K, 
     ghost use Rattle.zarrs_data_type.specs.ArrayData.{data_of};
     ghost use Rattle.zarrs_data_type.specs.Cells.{cells};
     ghost use Rattle.zarrs_codec.specs.Options.{stores_empty_chunks};
-    ghost use Rattle.zarrs_engine.specs.Layout.{layout_of_parts};
+    ghost use Rattle.zarrs_engine.specs.Engine.{layout_of_parts};
     ghost use Rattle.zarrs_engine.specs.Content.{decoded_cells};
     ghost use Rattle.zarrs_engine.specs.Refusals.{IsRefusal, refusal_of, is_too_large, box_refusal, data_refusal, read_refusal};
     ghost use Rattle.zarrs_engine.specs.Puts.{HasText};
 
     /// The key of the chunk with these indices.
     pub(crate) fn chunk_key(&self, alloc: Global, indices: &[u64]) -> Result<StoreKey, StorageError>
-        ensures key { IfOk result (λ key. key ≡ (layout_of_parts G.grid K.key C.meaning self.now).key indices.now) }
+        ensures key { IfOk result (λ key. key ≡ (layout_of_parts self.now).key indices.now) }
         ensures accepted { IsOkUnless result StorageError.OutOfMemory }
     {
         chunk_key(alloc, &self.path, &self.keys, indices)
@@ -57,9 +60,9 @@ impl<G: ChunkGridTraits, K: ChunkKeyEncodingTraits, C: ChainTraits> Parts<G, K, 
     fn cell_count(&self, region: &ArraySubset) -> Option<u64>
         ensures some { IfSome result (λ count. count ≡ position_count (box_of region.now).shape) }
         ensures small { OnSome result
-            (is_too_large (layout_of_parts G.grid K.key C.meaning self.now) (box_of region.now).shape ≡ false) }
+            (is_too_large (layout_of_parts self.now) (box_of region.now).shape ≡ false) }
         ensures large { IfNone result
-            (is_too_large (layout_of_parts G.grid K.key C.meaning self.now) (box_of region.now).shape ≡ true) }
+            (is_too_large (layout_of_parts self.now) (box_of region.now).shape ≡ true) }
     {
         let Ok(count) = region.num_elements() else {
             return None;
@@ -75,10 +78,10 @@ impl<G: ChunkGridTraits, K: ChunkKeyEncodingTraits, C: ChainTraits> Parts<G, K, 
     pub(crate) fn chunk(&self, alloc: Global, indices: &[u64]) -> Result<Chunk, ArrayError>
         ensures region { IfOk result (λ chunk. box_of chunk.region ≡ box_at (G.grid self.now.grid) indices.now) }
         ensures count { IfOk result (λ chunk. chunk.count ≡ position_count (box_of chunk.region).shape) }
-        ensures accepted { OnOk result (box_refusal (layout_of_parts G.grid K.key C.meaning self.now) indices.now
+        ensures accepted { OnOk result (box_refusal (layout_of_parts self.now) indices.now
             ≡ None) }
         ensures refused { IfErr result
-            (λ e. IsRefusal (box_refusal (layout_of_parts G.grid K.key C.meaning self.now) indices.now) ⊥
+            (λ e. IsRefusal (box_refusal (layout_of_parts self.now) indices.now) ⊥
             (refusal_of e)) }
     {
         let region = match self.grid.subset(alloc, indices) {
@@ -107,13 +110,13 @@ impl<G: ChunkGridTraits, K: ChunkKeyEncodingTraits, C: ChainTraits> Parts<G, K, 
     ) -> Result<Option<Vec<u8>>, ArrayError>
         requires { chunk.now.count ≡ position_count (box_of chunk.now.region).shape }
         ensures text { IfOk result
-            (λ text. HasText (layout_of_parts G.grid K.key C.meaning self.now) (stores_empty_chunks options.now)
+            (λ text. HasText (layout_of_parts self.now) (stores_empty_chunks options.now)
             (box_of chunk.now.region) (data_of «data».now) (option_map (λ v. v.items) text)) }
         ensures accepted { OnOk result
-            (data_refusal (layout_of_parts G.grid K.key C.meaning self.now) (stores_empty_chunks options.now)
+            (data_refusal (layout_of_parts self.now) (stores_empty_chunks options.now)
             (box_of chunk.now.region).shape (cells (kind self.now.data_type) (data_of «data».now)) ≡ None) }
         ensures refused { IfErr result
-            (λ e. IsRefusal (data_refusal (layout_of_parts G.grid K.key C.meaning self.now)
+            (λ e. IsRefusal (data_refusal (layout_of_parts self.now)
             (stores_empty_chunks options.now) (box_of chunk.now.region).shape
             (cells (kind self.now.data_type) (data_of «data».now))) ⊥ (refusal_of e)) }
     {
@@ -143,12 +146,12 @@ impl<G: ChunkGridTraits, K: ChunkKeyEncodingTraits, C: ChainTraits> Parts<G, K, 
         text: &[u8],
     ) -> Result<ArrayBytes<'static>, ArrayError>
         ensures cells { IfOk result (λ made. cells (kind self.now.data_type) (data_of made)
-            ≡ decoded_cells (layout_of_parts G.grid K.key C.meaning self.now)
+            ≡ decoded_cells (layout_of_parts self.now)
             (box_at (G.grid self.now.grid) indices.now) text.now) }
         ensures accepted { OnOk result
-            (read_refusal (layout_of_parts G.grid K.key C.meaning self.now) true indices.now (Some text.now) ≡ None) }
+            (read_refusal (layout_of_parts self.now) true indices.now (Some text.now) ≡ None) }
         ensures refused { IfErr result
-            (λ e. IsRefusal (read_refusal (layout_of_parts G.grid K.key C.meaning self.now) true indices.now
+            (λ e. IsRefusal (read_refusal (layout_of_parts self.now) true indices.now
             (Some text.now)) ⊥ (refusal_of e)) }
     {
         let chunk = self.chunk(alloc, indices)?;
@@ -167,11 +170,11 @@ impl<G: ChunkGridTraits, K: ChunkKeyEncodingTraits, C: ChainTraits> Parts<G, K, 
     ) -> Result<ArrayBytes<'static>, ArrayError>
         ensures cells { IfOk result (λ made. cells (kind self.now.data_type) (data_of made)
             ≡ Some (replicate (position_count (box_at (G.grid self.now.grid) indices.now).shape)
-            (layout_of_parts G.grid K.key C.meaning self.now).fill)) }
+            (layout_of_parts self.now).fill)) }
         ensures accepted { OnOk result
-            (read_refusal (layout_of_parts G.grid K.key C.meaning self.now) true indices.now None ≡ None) }
+            (read_refusal (layout_of_parts self.now) true indices.now None ≡ None) }
         ensures refused { IfErr result
-            (λ e. IsRefusal (read_refusal (layout_of_parts G.grid K.key C.meaning self.now) true indices.now None) ⊥
+            (λ e. IsRefusal (read_refusal (layout_of_parts self.now) true indices.now None) ⊥
             (refusal_of e)) }
     {
         let chunk = self.chunk(alloc, indices)?;

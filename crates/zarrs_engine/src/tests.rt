@@ -1,6 +1,6 @@
 //! Each call at concrete types with ample memory, and what no clause says: the texts of errors.
 ghost use Rattle.std.specs.Prelude.{◌≡◌, IfOk};
-ghost use Rattle.zarrs_engine.specs.Layout.{layout_of};
+ghost use Rattle.zarrs_engine.specs.Engine.{layout_of};
 
 use crate::{
     ArrayError, Call, Engine, Reply, canonical_stores_decode, content_is_texts,
@@ -10,11 +10,9 @@ use std::alloc::Global;
 use std::num::NonZeroU64;
 use std::test::Fail;
 use zarrs_chunk_grid::{ChunkGridTraits, RegularChunkGrid};
-use zarrs_codec::{
-    ArrayToBytesCodec, BytesCodec, ChainTraits, CodecChain, CodecError, CodecOptions,
-};
+use zarrs_codec::{ArrayToBytesCodec, BytesCodec, CodecChain, CodecError, CodecOptions};
 use zarrs_data_type::{ArrayBytes, DataType, ElementError, FillValue};
-use zarrs_keys::{ChunkKeyEncoding, ChunkKeyEncodingTraits, ChunkKeySeparator, NodePath};
+use zarrs_keys::{ChunkKeyEncoding, ChunkKeySeparator, NodePath};
 use zarrs_storage::{Bytes, MemoryStore, StorageError, StoreKey, WritableStorageTraits};
 
 type MemoryEngine = Engine<MemoryStore, RegularChunkGrid, ChunkKeyEncoding, CodecChain>;
@@ -26,9 +24,7 @@ fn engine_over(
     grid: RegularChunkGrid,
     fill: u8,
 ) -> Result<MemoryEngine, Fail>
-    ensures { IfOk result (λ made. (layout_of ⟦<RegularChunkGrid as ChunkGridTraits>⟧.grid
-        ⟦<ChunkKeyEncoding as ChunkKeyEncodingTraits>⟧.key ⟦<CodecChain as ChainTraits>⟧.meaning made).grid
-        ≡ ⟦<RegularChunkGrid as ChunkGridTraits>⟧.grid grid) }
+    ensures { IfOk result (λ made. (layout_of made).grid ≡ ⟦<RegularChunkGrid as ChunkGridTraits>⟧.grid grid) }
 {
     let path = NodePath::new(alloc, "/")?;
     let keys = ChunkKeyEncoding::Default(ChunkKeySeparator::Slash);
@@ -261,4 +257,37 @@ fn refusals_of_lower_layers_keep_their_meaning(rt: HostRuntime) {
     assert!(rt; matches!(unfit, ArrayError::CodecError(CodecError::DoesNotFit)));
     let element: ArrayError = ElementError::IncompatibleElementType.into();
     assert!(rt; matches!(element, ArrayError::ElementError(_)));
+}
+
+#[test]
+fn a_store_with_no_call_left_refuses_writes(rt: HostRuntime) -> Result<(), Fail> {
+    let alloc = rt.alloc();
+    let last = MemoryStore::with_calls(alloc, u64::MAX - 1);
+    let mut engine = bytes_engine(alloc, last, &[4], &[2], 9)?;
+    let options = CodecOptions::default();
+    store(alloc, &mut engine, &[0], &[1, 2], &options)?;
+    let cells = data(alloc, &[3, 4])?;
+    let refused = engine.store_chunk(alloc, &[1], &cells, &options);
+    assert!(rt;
+        matches!(
+            &refused,
+            Err(ArrayError::StorageError(StorageError::Exhausted))
+        )
+    );
+    let calls = vec![in alloc; Call::EraseChunk(vec![in alloc; 0u64]?)]?;
+    let replies = replay(alloc, &mut engine, &calls, &options)?;
+    let [reply] = replies.as_slice() else {
+        return Err("one reply".into());
+    };
+    assert!(rt;
+        matches!(
+            reply,
+            Reply::Refused(ArrayError::StorageError(StorageError::Exhausted))
+        )
+    );
+    assert!(rt; reads(alloc, &engine, &[0], &[1, 2])?);
+    assert_eq!(rt; keys_of(alloc, &engine)?, 1);
+    assert_eq!(rt; engine.storage().calls(), u64::MAX);
+    assert_eq!(rt; engine.storage().failures(), 0);
+    Ok(())
 }

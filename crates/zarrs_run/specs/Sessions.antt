@@ -1,19 +1,11 @@
 -- The sessions that values of the code stand for.
 use Rattle.std.specs.Prelude.{◌≡◌, ℕ, Bool, List, ◌++◌, Option, Some, None, Result, Ok, Err}
 use Rattle.std.specs.declared.borrow.CowSlice.TheVariants.{Owned}
-use Rattle.zarrs_storage.specs.Memory.{MemoryState, open_state}
-use Rattle.zarrs_keys.specs.declared.encodings.ChunkKeyEncoding.{ChunkKeyEncoding}
-use Rattle.zarrs_keys.specs.Encodings as keys
-use Rattle.zarrs_chunk_grid.specs.declared.regular.RegularChunkGrid.{RegularChunkGrid}
-use Rattle.zarrs_chunk_grid.specs.Grids.{regular_grid}
-use Rattle.zarrs_chunk_grid.specs.GridView.{regular_sizes}
+use Rattle.zarrs_storage.specs.Memory.{open_state}
 use Rattle.zarrs_data_type.specs.declared.array_bytes.ArrayBytes.TheVariants.{Fixed}
-use Rattle.zarrs_codec.specs.declared.chain.CodecChain.{CodecChain}
-use Rattle.zarrs_codec.specs.Chains.{chain_meaning}
 use Rattle.zarrs_engine.specs.declared.call.Call.{Call}
 use Rattle.zarrs_engine.specs.declared.call.Call.TheVariants.{StoreChunk, EraseChunk, RetrieveChunk}
-use Rattle.zarrs_engine.specs.declared.engine.Engine.{Engine}
-use Rattle.zarrs_engine.specs.Layout.{Layout, layout_of, the_store}
+use Rattle.zarrs_engine.specs.Engine.{layout_of, the_store}
 use Rattle.zarrs_run.specs.declared.command.Creation.{Creation}
 use Rattle.zarrs_run.specs.declared.command.Request.{Request}
 use Rattle.zarrs_run.specs.declared.command.Request.TheVariants as request
@@ -29,13 +21,9 @@ call_of (request.Chunk indices cells) = StoreChunk indices (Fixed (Owned cells))
 call_of (request.Read indices) = RetrieveChunk indices
 call_of (request.Erase indices) = EraseChunk indices
 
--- what the engine of a script's array means
-abbrev pub meaning_of : Engine MemoryState RegularChunkGrid ChunkKeyEncoding CodecChain → Layout
-meaning_of engine = layout_of (λ grid. regular_grid (regular_sizes grid)) keys.key_text chain_meaning engine
-
 -- what an array that stands open is
 abbrev pub opened : OpenArray → Opened
-opened array = record { cell_type = array.cell_type; layout = meaning_of array.engine; store = open_state (the_store array.engine) }
+opened array = record { cell_type = array.cell_type; layout = layout_of array.engine; store = open_state (the_store array.engine) }
 
 -- the session that an array, or none, stands for
 abbrev pub session_of : Option OpenArray → Session

@@ -9,6 +9,7 @@ use crate::command::CellType;
 use bytes::Bytes;
 use itoa::Buffer;
 use std::alloc::{AllocError, Global};
+use zarrs_codec::CodecError;
 use zarrs_data_type::ArrayBytes;
 use zarrs_engine::{ArrayError, Reply};
 use zarrs_storage::{MemoryStore, ReadableStorageTraits, StoreKey};
@@ -83,7 +84,7 @@ fn refusal_number(error: &ArrayError) -> u8
         ArrayError::InvalidArraySubset(..) => 1,
         ArrayError::InvalidChunkSubset(..) => 2,
         ArrayError::InvalidChunkGridIndicesError(_) => 3,
-        ArrayError::CodecError(_) => 4,
+        ArrayError::CodecError(CodecError::DoesNotFit) => 4,
         ArrayError::ElementError(_) => 5,
         ArrayError::InvalidDataShape(..) => 6,
         ArrayError::StorageError(_) => 7,

@@ -1,8 +1,8 @@
 -- Lemmas of the copy of a box.
-use Rattle.std.proofs.Common.{◌≡◌, ◌≢◌, ℕ, ◌+◌, ◌-◌, ◌*◌, ◌/◌, ◌<◌, ◌≤◌, true, false, nat_lt, nat_le, List, [], ◌∷◌, length, get_or, drop, slice_range, refl, sym, ap, ◌∙◌, arith, rules, inl, inr}
+use Rattle.std.proofs.Common.{◌≡◌, ◌≢◌, ℕ, ◌+◌, ◌-◌, ◌*◌, ◌/◌, ◌<◌, ◌≤◌, true, false, nat_lt, nat_le, List, [], ◌∷◌, length, get_or, slice_range, refl, sym, ap, ◌∙◌, arith, rules, inl, inr}
 use Rattle.std.proofs.Math.Nat.{mul-le-mul_right, mul_assoc, mul_comm, mul-div_cancel_left, mul-div-le, add-mul}
 use Rattle.std.proofs.lemmas.Nat.{mul-add-lt}
-use Rattle.std.proofs.lemmas.List.{places, take_all, length-take, length-drop, ext_get_or}
+use Rattle.std.proofs.lemmas.List.{places, take_all, ext_get_or}
 use Rattle.std.proofs.lemmas.Slice.{first_rest}
 use Rattle.std.proofs.lemmas.Bool.{cases_order, cases_eq, cases_Bool, and_parts, and_cases, ltb-true, leb-true, ltb-false, leb-false, cond-true, cond-false}
 use Rattle.std.proofs.lemmas.Bool.Decides.{nat_tests}
@@ -57,14 +57,20 @@ pub block_is : (shape : List ℕ) (size len : ℕ) → 0 < get_or shape 0 0 → 
 block_is [] size len some h = absurd (omega arith)
 block_is (n ∷ shape) size len some h = rw (tail_is n shape, h, mul_assoc n (position_count shape) size) (mul-div_cancel_left (position_count shape * size) some)
 
-pub row_block_is : (start extents shape : List ℕ) (size len : ℕ) → length extents ≡ 1 → BoxFits start extents shape → 0 < get_or shape 0 0 → len ≡ position_count shape * size → len / get_or shape 0 0 ≡ size
-row_block_is start extents shape size len one h some l =
-    let fits = FirstFits-at start extents shape (omega arith) h in
-    one_cell _ _ _ size _ (omega (arith, length-drop 1 extents, length-take (length extents - 1) (drop 1 extents))) fits.inner (block_is shape size len some l)
-
 -- the rows of a box that fits end within the array
 pub rows_within : (s e n len : ℕ) → s + e ≤ n → s * (len / n) + e * (len / n) ≤ len
 rows_within s e n len h = omega (arith, mul-le-mul_right (len / n) h, mul-div-le len n)
+
+-- a row of a box that fits ends within the array
+pub row_room : (start extents shape : List ℕ) (size len : ℕ) → length extents ≡ 1 → BoxFits start extents shape → len ≡ position_count shape * size → get_or start 0 0 * size + get_or extents 0 0 * size ≤ len
+row_room start [] shape size len one h l = absurd (omega arith)
+row_room [] (e ∷ []) shape size len one h l = absurd h
+row_room (s ∷ start) (e ∷ []) [] size len one h l = absurd h
+row_room (s ∷ start) (e ∷ []) (n ∷ shape) size len one h l =
+    let none = BoxFits-nil start [] shape refl h.1 in
+    let whole : len ≡ n * 1 * size = rw none.1 at l in
+    omega (arith, mul-le-mul_right size h.0, whole)
+row_room start (e ∷ x ∷ extents) shape size len one h l = absurd (omega arith)
 
 -- ---- places
 

@@ -3,6 +3,7 @@
 ghost use Rattle.std.specs.Prelude.{◌≡◌, IfOk};
 ghost use Rattle.zarrs_subset.specs.Regions.{box_of};
 
+use crate::laws::{boxes_hold_along_each_dimension, positions_are_row_major};
 use crate::{
     ArraySubset, ArraySubsetError, ArraySubsetTraits, IncompatibleDimensionalityError,
     SizeOverflow, copy_box, element_count, place_part, ravel_indices, unravel_index,
@@ -240,6 +241,80 @@ fn a_part_goes_to_its_place(rt: HostRuntime) -> Result<(), Fail> {
     Ok(())
 }
 
+// The last two dimensions, and then the last one, are whole in both arrays.
+#[test]
+fn whole_dimensions_go_together(rt: HostRuntime) -> Result<(), Fail> {
+    let source = [1, 2, 3, 4, 5, 6, 7, 8, 9, 10, 11, 12];
+    let mut target = [0u8; 12];
+    copy_box(
+        &source,
+        &[3, 2, 2],
+        &[1, 0, 0],
+        &mut target,
+        &[3, 2, 2],
+        &[0, 0, 0],
+        &[2, 2, 2],
+        1,
+    );
+    let expected = [5, 6, 7, 8, 9, 10, 11, 12, 0, 0, 0, 0];
+    assert_eq!(rt; target.as_slice(), expected.as_slice());
+    let mut target = [0u8; 12];
+    copy_box(
+        &source,
+        &[2, 3, 1],
+        &[0, 1, 0],
+        &mut target,
+        &[3, 2, 1],
+        &[1, 0, 0],
+        &[2, 2, 1],
+        2,
+    );
+    let expected = [0, 0, 0, 0, 3, 4, 5, 6, 9, 10, 11, 12];
+    assert_eq!(rt; target.as_slice(), expected.as_slice());
+    Ok(())
+}
+
+// The second dimension has no index, or a cell no bytes.
+#[test]
+fn nothing_to_copy_ends_at_once(rt: HostRuntime) -> Result<(), Fail> {
+    let huge = 1u64 << 40;
+    let mut none: [u8; 0] = [];
+    let empty = [huge, 0];
+    copy_box(&[], &empty, &[0, 0], &mut none, &empty, &[0, 0], &empty, 1);
+    let full = [huge, 4];
+    copy_box(&[], &full, &[0, 0], &mut none, &full, &[0, 0], &full, 0);
+    let empty_box = subset(&rt, &[0, 0], &empty)?;
+    place_part(&empty_box, &mut none, &empty_box, &[], 1);
+    let full_box = subset(&rt, &[0, 0], &full)?;
+    place_part(&full_box, &mut none, &full_box, &[], 0);
+    Ok(())
+}
+
+#[test]
+fn counts_of_a_million_dimensions(rt: HostRuntime) -> Result<(), Fail> {
+    let alloc = rt.alloc();
+    let many = 1_000_000;
+    let mut ranges: Vec<Range<u64>> = Vec::new(alloc);
+    for _ in 0..many {
+        ranges.push(3..4)?;
+    }
+    assert_eq!(rt; ranges.num_elements(), Ok(1));
+    ranges.push(0..u64::MAX)?;
+    ranges.push(0..2)?;
+    assert_eq!(rt; ranges.num_elements(), Err(SizeOverflow));
+    ranges.push(1..0)?;
+    assert_eq!(rt; ranges.num_elements(), Ok(0));
+    let shape = vec![in alloc; 1u64; many]?;
+    assert_eq!(rt; element_count(&shape), Some(1));
+    Ok(())
+}
+
+#[test]
+fn laws_of_boxes_can_be_called() {
+    positions_are_row_major();
+    boxes_hold_along_each_dimension();
+}
+
 #[test]
 fn positions_come_in_row_major_order(rt: HostRuntime) -> Result<(), Fail> {
     let made = subset(&rt, &[1, 5], &[2, 2])?;
@@ -298,5 +373,18 @@ fn subsets_and_ranges_stand_for_boxes(rt: HostRuntime) -> Result<(), Fail> {
     assert_eq!(rt; described(rt.alloc(), &lent)?.as_str(), expected);
     let ranges: Vec<Range<u64>> = vec![in rt.alloc(); 1..4, 7..2]?;
     assert_eq!(rt; described(rt.alloc(), &ranges)?.as_str(), expected);
+    Ok(())
+}
+
+#[test]
+fn positions_of_more_dimensions_than_lie_inline(rt: HostRuntime) -> Result<(), Fail> {
+    let alloc = rt.alloc();
+    let region = subset(&rt, &[1, 2, 3, 4, 5], &[1, 1, 1, 2, 1])?;
+    let mut walk = region.indices(alloc);
+    for expected in [[1, 2, 3, 4, 5], [1, 2, 3, 5, 5]] {
+        let position = walk.next().ok_or("a position")??;
+        assert_eq!(rt; position.as_slice(), expected.as_slice());
+    }
+    assert!(rt; walk.next().is_none());
     Ok(())
 }

@@ -205,16 +205,15 @@ fn range_product(ranges: &[Range<u64>]) -> Option<u64>
         (λ count. count ≡ position_count (box_of_ranges ranges.now).shape) }
     ensures is_box { IsBox (box_of_ranges ranges.now) }
 {
-    let Some((range, others)) = ranges.split_first() else {
-        return Some(1);
-    };
-    let others = range_product(others);
-    let extent = range.end.saturating_sub(range.start);
-    if extent == 0 {
-        return Some(0);
+    let mut is_empty = false;
+    let mut count = Some(1u64);
+    for range in ranges {
+        let extent = range.end.saturating_sub(range.start);
+        is_empty |= extent == 0;
+        count = match count {
+            Some(product) => product.checked_mul(extent),
+            None => None,
+        };
     }
-    let Some(count) = others else {
-        return None;
-    };
-    count.checked_mul(extent)
+    if is_empty { Some(0) } else { count }
 }

@@ -1,5 +1,5 @@
 //! Cells of one size that are all the same.
-ghost use Rattle.std.specs.Prelude.{◌≡◌, ◌==◌, ◌+◌, ◌*◌, ◌/◌, ◌<◌, ◌≤◌, ◌^◌, IfOk, IfSome, IsSome, length, replicate, slice_range};
+ghost use Rattle.std.specs.Prelude.{◌≡◌, ◌==◌, ◌+◌, ◌*◌, ◌/◌, ◌<◌, ◌≤◌, ◌^◌, [], IfOk, IfSome, IsSome, length, replicate, slice_range};
 ghost use Rattle.std.specs.List.{list_all, repeat};
 ghost use Rattle.std.specs.Str.{bytes_eq};
 ghost use Rattle.zarrs_data_type.specs.ArrayData.{fixed};
@@ -33,53 +33,40 @@ fn repeated_piece(alloc: Global, piece: &[u8], count: usize) -> Result<Vec<u8>, 
     requires { count * length piece.now < 2 ^ 64 }
     ensures { IfOk result (λ bytes. bytes.items ≡ repeat count piece.now) }
 {
-    let mut bytes = Vec::with_capacity(alloc, count * piece.len())?;
-    for done in 0..count {
-        bytes.extend_from_slice(piece)?;
+    let bytes = Vec::with_capacity(alloc, count * piece.len())?;
+    put_repeated(bytes, piece, count)
+}
+
+/// Puts the piece, so many times, into the empty vector. Each half is a copy of the one before. (The vector is moved, not
+/// lent: so `extend_from_within` copies many bytes at a time.)
+fn put_repeated(bytes: Vec<u8>, piece: &[u8], count: usize) -> Result<Vec<u8>, AllocError>
+    requires { bytes.items ≡ [] }
+    ensures { IfOk result (λ made. made.items ≡ repeat count piece.now) }
+{
+    if count == 0 {
+        return Ok(bytes);
     }
-    Ok(bytes)
-}
-
-/// The piece of this number.
-fn piece_at(bytes: &[u8], size: usize, index: usize) -> &[u8]
-    requires { index * size + size ≤ length bytes.now }
-    ensures { result.now ≡ slice_range bytes.now (index * size) (index * size + size) }
-{
-    let start = index * size;
-    &bytes[start..start + size]
-}
-
-/// Whether each byte is this one.
-fn are_all(bytes: &[u8], byte: u8) -> bool
-    ensures { result ≡ list_all (λ other. other == byte) bytes.now }
-{
-    bytes.iter().all(|other| *other == byte)
-}
-
-/// Whether each whole piece of this length is this one.
-fn are_pieces(bytes: &[u8], piece: &[u8]) -> bool
-    requires { 0 < length piece.now }
-    ensures { result ≡ list_all (λ p. bytes_eq p piece.now)
-        (pieces (length piece.now) (length bytes.now / length piece.now) bytes.now) }
-{
-    for index in 0..bytes.len() / piece.len() {
-        if piece_at(bytes, piece.len(), index) != piece {
-            return false;
-        }
+    let mut made = put_repeated(bytes, piece, count / 2)?;
+    made.extend_from_within(..)?;
+    if count % 2 == 1 {
+        made.extend_from_slice(piece)?;
     }
-    true
+    Ok(made)
 }
 
-/// Whether the bytes are this piece again and again.
+/// Whether the bytes are this piece again and again, up to the last whole piece: the first piece is this one, and each
+/// byte behind it is the byte one piece before.
 fn is_repeated(bytes: &[u8], piece: &[u8]) -> bool
     requires { 0 < length piece.now }
     ensures { result ≡ list_all (λ p. bytes_eq p piece.now)
         (pieces (length piece.now) (length bytes.now / length piece.now) bytes.now) }
 {
-    match piece {
-        [byte] => are_all(bytes, *byte),
-        _ => are_pieces(bytes, piece),
+    let width = piece.len();
+    let whole = bytes.len() / width * width;
+    if whole == 0 {
+        return true;
     }
+    &bytes[..width] == piece && &bytes[width..whole] == &bytes[..whole - width]
 }
 
 /// Whether each cell of these bytes is that of the fill value.

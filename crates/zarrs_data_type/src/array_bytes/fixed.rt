@@ -15,11 +15,15 @@ fn is_size_of(len: usize, count: u64, size: usize) -> bool
     count.checked_mul(size as u64) == Some(len as u64)
 }
 
-/// Whether each byte is 0 or 1.
+/// Whether each byte is 0 or 1. It stops at no byte, so that many are tested at a time.
 fn are_flags(bytes: &[u8]) -> bool
     ensures { result ≡ list_all (λ byte. nat_lt byte 2) bytes.now }
 {
-    bytes.iter().all(|byte| *byte < 2)
+    let mut fine = true;
+    for byte in bytes {
+        fine &= *byte < 2;
+    }
+    fine
 }
 
 /// Whether each of these bytes may stand in a cell of the type.

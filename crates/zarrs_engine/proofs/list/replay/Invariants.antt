@@ -1,13 +1,13 @@
 use Rattle.std.proofs.Common.{◌≡◌, ◌≤◌, take, length, vec_len, vec_capacity}
 use Rattle.zarrs_storage.specs.Store.{KeepsReach}
 use Rattle.zarrs_codec.specs.Options.{stores_empty_chunks}
-use Rattle.zarrs_engine.specs.Layout.{layout_of, store_of}
+use Rattle.zarrs_engine.specs.Engine.{layout_of, store_of}
 use Rattle.zarrs_engine.specs.Run.{Run}
 use Rattle.zarrs_engine.proofs.list.replay.Given as goal
 
 abbrev pub invariant-loop-call : goal.invariant-loop-call
 invariant-loop-call g l = record {
-  run : Run (layout_of g.G.ChunkGridTraits.grid g.K.ChunkKeyEncodingTraits.key g.C.ChainTraits.meaning l.fn.engine) (stores_empty_chunks l.options) (take l.call-index l.calls) l.replies.items (store_of g.S.ReadableStorageTraits.state l.fn.engine) (store_of g.S.ReadableStorageTraits.state l.engine);
+  run : Run (layout_of l.fn.engine) (stores_empty_chunks l.options) (take l.call-index l.calls) l.replies.items (store_of g.S.ReadableStorageTraits.state l.fn.engine) (store_of g.S.ReadableStorageTraits.state l.engine);
   parts : l.engine.parts ≡ l.fn.engine.parts;
   reach : KeepsReach (store_of g.S.ReadableStorageTraits.state l.fn.engine) (store_of g.S.ReadableStorageTraits.state l.engine);
   count : vec_len l.replies ≡ l.call-index;

@@ -1,5 +1,5 @@
 -- the first number, and a part for each other one
-use Rattle.std.proofs.Common.{◌≡◌, ℕ, ◌-◌, ◌≤◌, List, [], ◌∷◌, ◌++◌, length, take, drop, get_or, ap, sym, ◌∙◌, arith, append_assoc}
+use Rattle.std.proofs.Common.{◌≡◌, ℕ, string_bytes, ◌-◌, ◌≤◌, List, [], ◌∷◌, ◌++◌, length, take, drop, get_or, ap, sym, ◌∙◌, arith, append_assoc}
 use Rattle.std.specs.List.{flat_map}
 use Rattle.std.specs.Fmt.{decimal}
 use Rattle.std.proofs.lemmas.List.{take_rest}
@@ -18,4 +18,4 @@ v2_by_parts s (i ∷ is) old first whole some e h =
     ∙ ap (λ text. old ++ text) (sym (joined_is s i is))
 
 pub returns : goal.returns
-returns c = on_ok_by c.push_parts.result (v2_by_parts c.args.separator c.args.indices.now _ _ _ c.in-len1-up.len_at_least c.in_ok-write.ensures.bytes) c.push_parts.ensures
+returns c = on_ok_by c.push_parts.result (v2_by_parts c.args.separator c.args.indices.now _ _ _ c.in-len1-up.len_at_least (c.in_ok-push_str.ensures.bytes ∙ ap (λ digits. string_bytes c.args.key.now ++ digits) c.format.ensures.text)) c.push_parts.ensures

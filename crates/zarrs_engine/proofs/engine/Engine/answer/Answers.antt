@@ -1,5 +1,5 @@
 use Rattle.std.proofs.Common.{List, ℕ, ap, sym, ◌∙◌, subst, arith}
-use Rattle.zarrs_engine.specs.Layout.{layout_of}
+use Rattle.zarrs_engine.specs.Engine.{layout_of}
 use Rattle.zarrs_engine.specs.Refusals.{Refusal, refusal_of, refusal_of_storage}
 use Rattle.zarrs_engine.specs.Step.{EraseRefused}
 use Rattle.zarrs_engine.specs.Puts.{RefusesIndices}
@@ -10,7 +10,7 @@ use Rattle.zarrs_engine.proofs.engine.Engine.answer.Goals as goal
 
 pub returns-then-len-dimensionality-clause-step : goal.returns-then-len-dimensionality-clause-step
 returns-then-len-dimensionality-clause-step g c =
-    let layout = layout_of g.G.ChunkGridTraits.grid g.K.ChunkKeyEncodingTraits.key g.C.ChainTraits.meaning c.args.self.now in
+    let layout = layout_of c.args.self.now in
     let state = g.S.ReadableStorageTraits.state c.args.self.now.storage in
     let index = c.in-EraseChunk.indices in
     let e = c.invalid_indices.result in
@@ -20,17 +20,17 @@ returns-then-len-dimensionality-clause-step g c =
 
 pub retrieve_chunk_if_exists-requires : goal.retrieve_chunk_if_exists-requires
 retrieve_chunk_if_exists-requires g c =
-    let layout = layout_of g.G.ChunkGridTraits.grid g.K.ChunkKeyEncodingTraits.key g.C.ChainTraits.meaning c.args.self.now in
+    let layout = layout_of c.args.self.now in
     chunk_among layout c.deref-in-RetrieveChunkIfExists.result.now (g.S.ReadableStorageTraits.state c.args.self.now.storage) c.requires
 
 pub retrieve_chunk-requires : goal.retrieve_chunk-requires
 retrieve_chunk-requires g c =
-    let layout = layout_of g.G.ChunkGridTraits.grid g.K.ChunkKeyEncodingTraits.key g.C.ChainTraits.meaning c.args.self.now in
+    let layout = layout_of c.args.self.now in
     chunk_among layout c.deref-in-RetrieveChunk.result.now (g.S.ReadableStorageTraits.state c.args.self.now.storage) c.requires
 
 pub returns-in-Err-erase_chunk-clause-step : goal.returns-in-Err-erase_chunk-clause-step
 returns-in-Err-erase_chunk-clause-step g c =
-    let layout = layout_of g.G.ChunkGridTraits.grid g.K.ChunkKeyEncodingTraits.key g.C.ChainTraits.meaning c.args.self.now in
+    let layout = layout_of c.args.self.now in
     let old = g.S.ReadableStorageTraits.state c.args.self.now.storage in
     let new = g.S.ReadableStorageTraits.state c.erase_chunk.new.self.storage in
     let index = c.in-EraseChunk.indices.items in

@@ -4,17 +4,16 @@ use Rattle.zarrs_chunk_grid.specs.Grids.{box_at}
 use Rattle.zarrs_data_type.specs.declared.array_bytes.ArrayBytes.{ArrayBytes}
 use Rattle.zarrs_data_type.specs.ArrayData.{data_of}
 use Rattle.zarrs_data_type.specs.Cells.{cells}
-use Rattle.zarrs_engine.specs.Layout.{layout_of}
+use Rattle.zarrs_engine.specs.Engine.{layout_of}
 use Rattle.zarrs_engine.specs.Content.{decoded_cells}
 use Rattle.zarrs_engine.specs.Changes.{RetrievesChunk}
-use Rattle.zarrs_engine.proofs.Contents.{lawful_parts}
 use Rattle.zarrs_engine.proofs.StepLemmas.{both_ok, retrieved, retrieved_fill}
 use Rattle.zarrs_engine.proofs.engine.Engine.retrieve_chunk.Goals as goal
 
 pub returns-in-Some-clause-cells : goal.returns-in-Some-clause-cells
 returns-in-Some-clause-cells g c =
-    let layout = layout_of g.G.ChunkGridTraits.grid g.K.ChunkKeyEncodingTraits.key g.C.ChainTraits.meaning c.args.self.now in
-    let lawful = lawful_parts g.G.ChunkGridTraits.grid g.K.ChunkKeyEncodingTraits.key g.C.ChainTraits.meaning g.met.G.ChunkGridTraits.lawful g.met.K.ChunkKeyEncodingTraits.lawful g.met.C.ChainTraits.lawful c.args.self.now.parts in
+    let layout = layout_of c.args.self.now in
+    let lawful = c.args.self.now.parts.lawful in
     let state = g.S.ReadableStorageTraits.state c.args.self.now.storage in
     let index = c.args.indices.now in
     let text = c.deref.result.now in
@@ -24,8 +23,8 @@ returns-in-Some-clause-cells g c =
 
 pub returns-in-None-clause-cells : goal.returns-in-None-clause-cells
 returns-in-None-clause-cells g c =
-    let layout = layout_of g.G.ChunkGridTraits.grid g.K.ChunkKeyEncodingTraits.key g.C.ChainTraits.meaning c.args.self.now in
-    let lawful = lawful_parts g.G.ChunkGridTraits.grid g.K.ChunkKeyEncodingTraits.key g.C.ChainTraits.meaning g.met.G.ChunkGridTraits.lawful g.met.K.ChunkKeyEncodingTraits.lawful g.met.C.ChainTraits.lawful c.args.self.now.parts in
+    let layout = layout_of c.args.self.now in
+    let lawful = c.args.self.now.parts.lawful in
     let state = g.S.ReadableStorageTraits.state c.args.self.now.storage in
     let index = c.args.indices.now in
     let at = sym c.in-None.is ∙ c.in_ok-text.ensures.value in

@@ -4,18 +4,28 @@ use Rattle.zarrs_chunk_grid.specs.Grids.{box_at}
 use Rattle.zarrs_data_type.specs.ArrayData.{data_of}
 use Rattle.zarrs_data_type.specs.Cells.{cells}
 use Rattle.zarrs_codec.specs.Options.{stores_empty_chunks}
-use Rattle.zarrs_engine.specs.Layout.{layout_of}
+use Rattle.zarrs_engine.specs.Engine.{layout_of}
 use Rattle.zarrs_engine.specs.Puts.{HasText}
 use Rattle.zarrs_engine.specs.Refusals.{IsRefusal, refusal_of, box_refusal, data_refusal}
-use Rattle.zarrs_engine.proofs.Contents.{lawful_parts}
-use Rattle.zarrs_engine.proofs.RefusalLemmas.{refused_second, box_accepted}
+use Rattle.zarrs_engine.proofs.RefusalLemmas.{refused_first, refused_second, box_accepted}
 use Rattle.zarrs_engine.proofs.StoreLemmas.{stored_chunk}
 use Rattle.zarrs_engine.proofs.StepLemmas.{store_refused}
 use Rattle.zarrs_engine.proofs.engine.Engine.store_chunk.Goals as goal
 
+pub returns-in_err-chunk-clause-refused : goal.returns-in_err-chunk-clause-refused
+returns-in_err-chunk-clause-refused g c =
+    let layout = layout_of c.args.self.now in
+    let keep = stores_empty_chunks c.args.options.now in
+    let index = c.args.indices.now in
+    let held = data_of c.args.«data».now in
+    let refused = refusal_of c.in_err-chunk.field-0.0 in
+    let why = store_refused layout keep index held (g.S.ReadableStorageTraits.state c.args.self.now.storage) refused
+    (refused_first (box_refusal layout index) (data_refusal layout keep (box_at layout.grid index).shape (cells layout.kind held)) ⊥ ⊥ refused (λ x. x) c.in_err-chunk.ensures.refused) in
+    search (rules, why)
+
 pub returns-in_err-text-clause-refused : goal.returns-in_err-text-clause-refused
 returns-in_err-text-clause-refused g c =
-    let layout = layout_of g.G.ChunkGridTraits.grid g.K.ChunkKeyEncodingTraits.key g.C.ChainTraits.meaning c.args.self.now in
+    let layout = layout_of c.args.self.now in
     let state = g.S.ReadableStorageTraits.state c.args.self.now.storage in
     let keep = stores_empty_chunks c.args.options.now in
     let index = c.args.indices.now in
@@ -28,8 +38,8 @@ returns-in_err-text-clause-refused g c =
 
 pub returns-clause-done : goal.returns-clause-done
 returns-clause-done g c =
-    let layout = layout_of g.G.ChunkGridTraits.grid g.K.ChunkKeyEncodingTraits.key g.C.ChainTraits.meaning c.args.self.now in
-    let lawful = lawful_parts g.G.ChunkGridTraits.grid g.K.ChunkKeyEncodingTraits.key g.C.ChainTraits.meaning g.met.G.ChunkGridTraits.lawful g.met.K.ChunkKeyEncodingTraits.lawful g.met.C.ChainTraits.lawful c.args.self.now.parts in
+    let layout = layout_of c.args.self.now in
+    let lawful = c.args.self.now.parts.lawful in
     let old = g.S.ReadableStorageTraits.state c.args.self.now.storage in
     let new = g.S.ReadableStorageTraits.state c.put.new.self.storage in
     let keep = stores_empty_chunks c.args.options.now in

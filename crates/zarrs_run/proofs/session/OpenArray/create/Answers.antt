@@ -7,9 +7,8 @@ use Rattle.zarrs_data_type.specs.Kind.{Kind}
 use Rattle.zarrs_data_type.specs.Cell.{fill_of}
 use Rattle.zarrs_codec.specs.declared.chain.ArrayToBytesCodec.{ArrayToBytesCodec}
 use Rattle.zarrs_codec.specs.Chains.{leaf_meaning, whole_chunk}
-use Rattle.zarrs_engine.specs.Layout.{the_store}
+use Rattle.zarrs_engine.specs.Engine.{layout_of, the_store}
 use Rattle.zarrs_run.specs.Types.{kind_of}
-use Rattle.zarrs_run.specs.Sessions.{meaning_of}
 use Rattle.zarrs_run.proofs.NewArrays.{makes_grid, made_array}
 use Rattle.zarrs_run.proofs.session.OpenArray.create.Goals as goal
 
@@ -21,7 +20,7 @@ returns c =
     let engine = c.new-engine.result in
     let made = c.new-engine.ensures in (
       makes_grid asked.shape.items asked.chunk_shape.items sizes is c.in-Ok.ensures.long,
-      made_array asked.chunk_shape.items asked.fill.items asked.cell_type sizes (meaning_of engine) (the_store engine) is
+      made_array asked.chunk_shape.items asked.fill.items asked.cell_type sizes (layout_of engine) (the_store engine) is
           (made.grid ∙ c.in-Ok.ensures.grid)
           (made.key ∙ ap (λ (path : List ℕ). λ (indices : List ℕ). path_key path (default_key Slash indices)) c.in-Ok-new.ensures.ok)
           (made.chain ∙ ap (λ (codec : ArrayToBytesCodec). whole_chunk (leaf_meaning codec)) c.new-4.ensures)

@@ -1,0 +1,33 @@
+-- What clauses show of an engine.
+use Rattle.std.specs.Prelude.{◌≡◌}
+use Rattle.zarrs_storage.specs.Store.{StoreState}
+use Rattle.zarrs_storage.specs.declared.traits.ReadableStorageTraits.{Ghosts as StoreMeaning}
+use Rattle.zarrs_chunk_grid.specs.declared.traits.ChunkGridTraits.{Ghosts as GridMeaning}
+use Rattle.zarrs_keys.specs.declared.traits.ChunkKeyEncodingTraits.{Ghosts as KeyMeaning}
+use Rattle.zarrs_codec.specs.declared.traits.ChainTraits.{Ghosts as ChainMeanings}
+use Rattle.zarrs_data_type.specs.Kind.{kind}
+use Rattle.zarrs_engine.specs.Layout.{Layout, layout_at}
+use Rattle.zarrs_engine.specs.declared.parts.Parts.{Parts}
+use Rattle.zarrs_engine.specs.declared.engine.Engine.{Engine}
+
+module _ {G K C : Type 0} {g : GridMeaning G} {k : KeyMeaning K} {c : ChainMeanings C} where
+  -- what the parts of an engine mean
+  abbrev pub layout_of_parts : Parts G K C g k c → Layout
+  layout_of_parts parts = layout_at (g.grid parts.grid) parts.path (k.key parts.keys) (c.meaning parts.chain) (kind parts.data_type) parts.fill_value
+
+  module _ {S : Type 0} where
+    -- what an engine means
+    abbrev pub layout_of : Engine S G K C g k c → Layout
+    layout_of engine = layout_of_parts engine.parts
+
+    -- an engine's store
+    abbrev pub the_store : Engine S G K C g k c → S
+    the_store engine = engine.storage
+
+    -- what an engine's store is now
+    abbrev pub store_of : (S → StoreState) → Engine S G K C g k c → StoreState
+    store_of state engine = state engine.storage
+
+    -- nothing but the store changed
+    abbrev pub KeepsParts : Engine S G K C g k c → Engine S G K C g k c → Type 0
+    KeepsParts old new = new.parts ≡ old.parts
