@@ -9,13 +9,13 @@ use Rattle.std.proofs.lemmas.Simd.{map-map}
 use Rattle.serde_json.specs.Data.{Data}
 use Rattle.serde_json.specs.View.{items_of}
 use Rattle.zarrs_metadata.specs.Lists.{all_of, list_of, list_data, number_data}
-use Rattle.zarrs_metadata.specs.Refusal.{HasCreateCause}
-use Rattle.zarrs_metadata.specs.declared.errors.PluginCreateError.{PluginCreateError}
-use Rattle.zarrs_metadata.specs.declared.errors.PluginCreateError.TheVariants as plugin
+use Rattle.zarrs_metadata.specs.Refusals.{RefusesMeaning}
+use Rattle.zarrs_metadata.specs.declared.error.PluginCreateError.{PluginCreateError}
+use Rattle.zarrs_metadata.specs.declared.error.PluginCreateError.TheVariants as plugin
 use Rattle.zarrs_metadata.proofs.ListLemmas.{all_of-items_of}
 use Rattle.zarrs_chunk_grid.specs.Axes.{sum_of_sizes}
 use Rattle.zarrs_chunk_grid.specs.Shapes.{sizes_of}
-use Rattle.zarrs_chunk_grid.specs.Sizes.{fills, all_fill, IsSizesRefusal}
+use Rattle.zarrs_chunk_grid.specs.Sizes.{fills, all_fill, RefusesSizes}
 use Rattle.zarrs_chunk_grid.specs.GridData.{SizesData, one, listed, GridData, regular, bounded, rectangular, size_said, sizes_said, listed_within, or_else, sizes_data, adds_up, all_add_up, fits_shape, over_shape, grid_said, extension_of_grid}
 use Rattle.zarrs_chunk_grid.specs.GridView.{sizes_view, grid_data, array_extents_of, KeepsMemory}
 use Rattle.zarrs_chunk_grid.specs.declared.chunk_sizes.ChunkSizes.{ChunkSizes}
@@ -94,19 +94,19 @@ module _ (shape : List ℕ) (said : Option (List SizesData)) where
   dimensions_sum sizes long not =
       rw (eq-eqb (length (map sizes_view sizes)) (length shape) (length-map sizes sizes_view ∙ long)) (all_add_up_is sizes shape ∙ not)
 
-  pub dimensions_not : (sizes : List ChunkSizes) (e : GridError) → said ≡ Some (map sizes_view sizes) → IsSizesRefusal sizes shape e → (e ≡ error.OutOfMemory → ⊥) →
+  pub dimensions_not : (sizes : List ChunkSizes) (e : GridError) → said ≡ Some (map sizes_view sizes) → RefusesSizes sizes shape e → (e ≡ error.OutOfMemory → ⊥) →
       option_and_then (over_shape shape) (option_map rectangular said) ≡ None
   dimensions_not sizes e is refused memory =
       ap (λ (o : Option (List SizesData)). option_and_then (over_shape shape) (option_map rectangular o)) is
       ∙ over_not shape (rectangular (map sizes_view sizes)) (cases e refused memory)
     where
-      cases : (e : GridError) → IsSizesRefusal sizes shape e → (e ≡ error.OutOfMemory → ⊥) → fits_shape (rectangular (map sizes_view sizes)) shape ≡ false
+      cases : (e : GridError) → RefusesSizes sizes shape e → (e ≡ error.OutOfMemory → ⊥) → fits_shape (rectangular (map sizes_view sizes)) shape ≡ false
       cases (error.IncompatibleDimensionality mismatch) r m = dimensions_long sizes r.0
       cases error.UnequalExtent r m = dimensions_sum sizes r.0 r.1
       cases error.OutOfMemory r m = absurd (m refl)
 
 -- what a refusal of a grid becomes has its cause
-pub cause_from : (meant : Option GridData) (e : GridError) (refusal : PluginCreateError) → KeepsMemory e refusal → ((e ≡ error.OutOfMemory → ⊥) → meant ≡ None) → HasCreateCause meant refusal
+pub cause_from : (meant : Option GridData) (e : GridError) (refusal : PluginCreateError) → KeepsMemory e refusal → ((e ≡ error.OutOfMemory → ⊥) → meant ≡ None) → RefusesMeaning meant refusal
 cause_from meant e (plugin.Other said) keeps none =
     none (λ is. let kept : plugin.Other said ≡ plugin.OutOfMemory = subst (λ e. KeepsMemory e (plugin.Other said)) is keeps in cc)
 cause_from meant e plugin.OutOfMemory keeps none = tt

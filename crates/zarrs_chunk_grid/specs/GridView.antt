@@ -8,8 +8,8 @@ use Rattle.zarrs_chunk_grid.specs.Sizes.{sizes_in, rectangular_grid}
 use Rattle.zarrs_chunk_grid.specs.GridData.{SizesData, one, listed, GridData, regular, bounded, rectangular}
 use Rattle.zarrs_chunk_grid.specs.declared.chunk_sizes.ChunkSizes.{ChunkSizes}
 use Rattle.zarrs_chunk_grid.specs.declared.chunk_sizes.ChunkSizes.TheVariants.{Size, Sizes}
-use Rattle.zarrs_metadata.specs.declared.errors.PluginCreateError.{PluginCreateError}
-use Rattle.zarrs_metadata.specs.declared.errors.PluginCreateError.TheVariants as plugin
+use Rattle.zarrs_metadata.specs.declared.error.PluginCreateError.{PluginCreateError}
+use Rattle.zarrs_metadata.specs.declared.error.PluginCreateError.TheVariants as plugin
 use Rattle.zarrs_chunk_grid.specs.declared.error.GridError.{GridError}
 use Rattle.zarrs_chunk_grid.specs.declared.error.GridError.TheVariants as error
 use Rattle.zarrs_chunk_grid.specs.declared.regular.RegularChunkGrid.{RegularChunkGrid}

@@ -52,13 +52,13 @@ abbrev pub rectangular_grid : List ChunkSizes → Grid
 rectangular_grid sizes = record { dimensions = length sizes; axis = axis_at sizes }
 
 -- a list of sizes is refused: they end past a `u64`, or there is no memory
-abbrev pub IsListRefusal : List NonZeroU64 → GridError → Type 0
-IsListRefusal sizes (IncompatibleDimensionality error) = ⊥
-IsListRefusal sizes UnequalExtent = 2 ^ 64 ≤ sum_of_sizes sizes
-IsListRefusal sizes OutOfMemory = Unit {0}
+abbrev pub RefusesSizeList : List NonZeroU64 → GridError → Type 0
+RefusesSizeList sizes (IncompatibleDimensionality error) = ⊥
+RefusesSizeList sizes UnequalExtent = 2 ^ 64 ≤ sum_of_sizes sizes
+RefusesSizeList sizes OutOfMemory = Unit {0}
 
 -- a rectangular grid is refused: another number of dimensions, some list that does not add up, or no memory
-abbrev pub IsSizesRefusal : List ChunkSizes → List ℕ → GridError → Type 0
-IsSizesRefusal sizes extents (IncompatibleDimensionality error) = IsMismatch (length sizes) (length extents) error
-IsSizesRefusal sizes extents UnequalExtent = (length sizes ≡ length extents) × (all_fill sizes extents ≡ false)
-IsSizesRefusal sizes extents OutOfMemory = length sizes ≡ length extents
+abbrev pub RefusesSizes : List ChunkSizes → List ℕ → GridError → Type 0
+RefusesSizes sizes extents (IncompatibleDimensionality error) = IsMismatch (length sizes) (length extents) error
+RefusesSizes sizes extents UnequalExtent = (length sizes ≡ length extents) × (all_fill sizes extents ≡ false)
+RefusesSizes sizes extents OutOfMemory = length sizes ≡ length extents

@@ -5,7 +5,7 @@ ghost use Rattle.serde_json.specs.View.{view, items_view};
 ghost use Rattle.zarrs_metadata.specs.Extension.{settings};
 ghost use Rattle.zarrs_metadata.specs.View.{extension_view};
 ghost use Rattle.zarrs_metadata.specs.Lists.{all_of, list_of};
-ghost use Rattle.zarrs_metadata.specs.Refusal.{HasCreateCause};
+ghost use Rattle.zarrs_metadata.specs.Refusals.{RefusesMeaning};
 ghost use Rattle.zarrs_chunk_grid.specs.Shapes.{sizes_of};
 ghost use Rattle.zarrs_chunk_grid.specs.GridData.{regular, bounded, rectangular, size_said, sizes_said, only_chunk_shape, over_shape, grid_said};
 ghost use Rattle.zarrs_chunk_grid.specs.GridView.{sizes_view, grid_data, KeepsMemory};
@@ -41,7 +41,7 @@ impl ChunkGrid {
     ) -> Result<ChunkGrid, PluginCreateError>
         ensures read { IfOk result (λ g. grid_said (extension_view metadata.now) array_shape.now ≡ Some (grid_data g)) }
         ensures shape { IfOk result (λ g. ⟦<ChunkGrid as ChunkGridTraits>⟧.array_extents g ≡ array_shape.now) }
-        ensures refused { IfErr result (HasCreateCause (grid_said (extension_view metadata.now) array_shape.now)) }
+        ensures refused { IfErr result (RefusesMeaning (grid_said (extension_view metadata.now) array_shape.now)) }
     {
         let Some(chunk_shape) = chunk_shape_member(metadata) else {
             return Err(PluginCreateError::other(
@@ -81,7 +81,7 @@ fn regular_from(
     ensures read { IfOk result (λ g. option_and_then (over_shape array_shape.items)
         (option_map regular (list_of size_said (view chunk_shape.now))) ≡ Some (grid_data g)) }
     ensures shape { IfOk result (λ g. ⟦<ChunkGrid as ChunkGridTraits>⟧.array_extents g ≡ array_shape.items) }
-    ensures refused { IfErr result (HasCreateCause (option_and_then (over_shape array_shape.items)
+    ensures refused { IfErr result (RefusesMeaning (option_and_then (over_shape array_shape.items)
         (option_map regular (list_of size_said (view chunk_shape.now))))) }
 {
     let Some(sizes) = sizes_from(alloc, chunk_shape)? else {
@@ -101,7 +101,7 @@ fn bounded_from(
     ensures read { IfOk result (λ g. option_and_then (over_shape array_shape.items)
         (option_map bounded (list_of size_said (view chunk_shape.now))) ≡ Some (grid_data g)) }
     ensures shape { IfOk result (λ g. ⟦<ChunkGrid as ChunkGridTraits>⟧.array_extents g ≡ array_shape.items) }
-    ensures refused { IfErr result (HasCreateCause (option_and_then (over_shape array_shape.items)
+    ensures refused { IfErr result (RefusesMeaning (option_and_then (over_shape array_shape.items)
         (option_map bounded (list_of size_said (view chunk_shape.now))))) }
 {
     let Some(sizes) = sizes_from(alloc, chunk_shape)? else {
@@ -121,7 +121,7 @@ fn rectangular_from(
     ensures read { IfOk result (λ g. option_and_then (over_shape array_shape.items)
         (option_map rectangular (list_of sizes_said (view chunk_shape.now))) ≡ Some (grid_data g)) }
     ensures shape { IfOk result (λ g. ⟦<ChunkGrid as ChunkGridTraits>⟧.array_extents g ≡ array_shape.items) }
-    ensures refused { IfErr result (HasCreateCause (option_and_then (over_shape array_shape.items)
+    ensures refused { IfErr result (RefusesMeaning (option_and_then (over_shape array_shape.items)
         (option_map rectangular (list_of sizes_said (view chunk_shape.now))))) }
 {
     let Some(dimensions) = dimensions_from(alloc, chunk_shape)? else {

@@ -23,7 +23,7 @@ pub struct RectangularChunkGrid {
 }
 
 impl RectangularChunkGrid {
-    ghost use Rattle.zarrs_chunk_grid.specs.Sizes.{rectangular_grid, IsSizesRefusal};
+    ghost use Rattle.zarrs_chunk_grid.specs.Sizes.{rectangular_grid, RefusesSizes};
     ghost use Rattle.zarrs_chunk_grid.specs.GridView.{rectangular_sizes};
 
     /// The grid of these sizes, one entry for each dimension, over an array of that shape.
@@ -41,7 +41,7 @@ impl RectangularChunkGrid {
             (λ g. ⟦<RectangularChunkGrid as ChunkGridTraits>⟧.grid_extents g ≡ counts_of sizes.items array_shape.items) }
         ensures long { OnOk result (length sizes.items ≡ length array_shape.items) }
         ensures filled { OnOk result (all_fill sizes.items array_shape.items ≡ true) }
-        ensures refused { IfErr result (IsSizesRefusal sizes.items array_shape.items) }
+        ensures refused { IfErr result (RefusesSizes sizes.items array_shape.items) }
     {
         check_length(sizes.len(), array_shape.len())?;
         let mut grid_shape = Vec::with_capacity(alloc, sizes.len())?;

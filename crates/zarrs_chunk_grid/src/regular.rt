@@ -2,7 +2,7 @@
 ghost use Rattle.std.specs.Prelude.{◌≡◌, ℕ, length, IfOk, IfErr, OnOk};
 ghost use Rattle.zarrs_chunk_grid.specs.Grids.{regular_grid};
 ghost use Rattle.zarrs_chunk_grid.specs.Shapes.{chunk_counts};
-ghost use Rattle.zarrs_chunk_grid.specs.Refusals.{IsRefusal};
+ghost use Rattle.zarrs_chunk_grid.specs.Refusals.{RefusesDimensionality};
 
 use crate::counts::count_chunks;
 use crate::error::{GridError, check_length};
@@ -41,7 +41,7 @@ impl RegularChunkGrid {
         ensures counts { IfOk result
             (λ g. ⟦<RegularChunkGrid as ChunkGridTraits>⟧.grid_extents g ≡ chunk_counts array_shape.items chunk_shape.items) }
         ensures long { OnOk result (length chunk_shape.items ≡ length array_shape.items) }
-        ensures refused { IfErr result (IsRefusal (length chunk_shape.items) (length array_shape.items)) }
+        ensures refused { IfErr result (RefusesDimensionality (length chunk_shape.items) (length array_shape.items)) }
     {
         check_length(chunk_shape.len(), array_shape.len())?;
         let grid_shape = count_chunks(alloc, &array_shape, &chunk_shape)?;

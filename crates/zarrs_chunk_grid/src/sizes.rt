@@ -19,13 +19,13 @@ pub struct SizeList {
 }
 
 impl SizeList {
-    ghost use Rattle.zarrs_chunk_grid.specs.Sizes.{sizes_in, IsListRefusal};
+    ghost use Rattle.zarrs_chunk_grid.specs.Sizes.{sizes_in, RefusesSizeList};
 
     /// The list of these sizes. `UnequalExtent` where their sum passes a `u64`, so that no array has that extent.
     pub fn new(alloc: Global, sizes: Vec<NonZeroU64>) -> Result<SizeList, GridError>
         ensures same { IfOk result (λ list. sizes_in list ≡ sizes.items) }
         ensures fits { OnOk result (sum_of_sizes sizes.items < 2 ^ 64) }
-        ensures refused { IfErr result (IsListRefusal sizes.items) }
+        ensures refused { IfErr result (RefusesSizeList sizes.items) }
     {
         let mut ends = Vec::with_capacity(alloc, sizes.len())?;
         let mut end = 0u64;

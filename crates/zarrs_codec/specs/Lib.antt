@@ -1,4 +1,4 @@
-pub mod Causes
+pub mod Refusals
 pub mod Chain
 pub mod ChainLaws
 pub mod Chains

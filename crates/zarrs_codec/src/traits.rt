@@ -5,8 +5,8 @@ ghost use Rattle.zarrs_data_type.specs.Kind.{kind, cell_size};
 ghost use Rattle.zarrs_data_type.specs.Cell.{fill_cell, fill_of};
 ghost use Rattle.zarrs_data_type.specs.ArrayData.{data_of};
 ghost use Rattle.zarrs_data_type.specs.Cells.{cells, HasCells};
-ghost use Rattle.zarrs_codec.specs.Chain.{ChainMeaning, IsLawfulChain, chunk_text};
-ghost use Rattle.zarrs_codec.specs.Causes.{HasEncodeCause, HasDecodeCause, HasCompactCause};
+ghost use Rattle.zarrs_codec.specs.Chain.{ChainMeaning, IsLawfulChain, chunk_encoding};
+ghost use Rattle.zarrs_codec.specs.Refusals.{RefusesChunkEncoding, RefusesChunkDecoding, RefusesCompaction};
 ghost use Rattle.zarrs_codec.specs.Options.{stores_empty_chunks};
 
 use crate::options::CodecOptions;
@@ -37,9 +37,9 @@ pub trait ChainTraits {
         requires filled { IsSome (fill_cell (kind data_type.now) fill_value.now) }
         requires cells { HasCells (kind data_type.now) (data_of bytes.now) (position_count shape.now) }
         ensures text { IfOk result (λ text.
-            chunk_text (meaning self.now) (stores_empty_chunks options.now) (kind data_type.now)
+            chunk_encoding (meaning self.now) (stores_empty_chunks options.now) (kind data_type.now)
             (fill_of (kind data_type.now) fill_value.now) shape.now (data_of bytes.now) ≡ Some text.items) }
-        ensures refused { IfErr result (HasEncodeCause (meaning self.now) (stores_empty_chunks options.now)
+        ensures refused { IfErr result (RefusesChunkEncoding (meaning self.now) (stores_empty_chunks options.now)
             (kind data_type.now) (fill_of (kind data_type.now) fill_value.now) shape.now (data_of bytes.now)) };
 
     /// The cells of a chunk's bytes.
@@ -56,7 +56,7 @@ pub trait ChainTraits {
         ensures cells { IfOk result (λ made. cells (kind data_type.now) (data_of made)
             ≡ (meaning self.now).decoded (kind data_type.now) (fill_of (kind data_type.now) fill_value.now) shape.now text.now) }
         ensures some { IfOk result (λ made. IsSome (cells (kind data_type.now) (data_of made))) }
-        ensures refused { IfErr result (HasDecodeCause (meaning self.now) (kind data_type.now)
+        ensures refused { IfErr result (RefusesChunkDecoding (meaning self.now) (kind data_type.now)
             (fill_of (kind data_type.now) fill_value.now) shape.now text.now) };
 
     /// The bytes of the same cells without what no cell needs, where those are other bytes.
@@ -68,7 +68,7 @@ pub trait ChainTraits {
     ) -> Result<Option<Vec<u8>>, CodecError>
         ensures less { IfOk result (λ less. (meaning self.now).compacted shape.now text.now
             ≡ Some (option_map (λ text. text.items) less)) }
-        ensures refused { IfErr result (HasCompactCause (meaning self.now) shape.now text.now) };
+        ensures refused { IfErr result (RefusesCompaction (meaning self.now) shape.now text.now) };
 
     /// Decoding gives back what was encoded, and what was encoded is compact.
     ghost lawful: { (chain : Self) → IsLawfulChain (meaning chain) };

@@ -1,4 +1,4 @@
 pub mod Bytes
 pub mod BytesLaws
-pub mod Causes
+pub mod Refusals
 pub mod Leaf

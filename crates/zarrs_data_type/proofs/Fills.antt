@@ -12,7 +12,7 @@ use Rattle.zarrs_data_type.specs.Kind as type
 use Rattle.zarrs_data_type.specs.Cell.{Cell, bytes, none, is_element, is_value, are_values, cell_eq, fill_cell, fill_of}
 use Rattle.zarrs_data_type.specs.ArrayData.{fixed}
 use Rattle.zarrs_data_type.specs.Cells.{cells, HasCells}
-use Rattle.zarrs_data_type.specs.Pieces.{pieces}
+use Rattle.zarrs_subset.specs.Pieces.{pieces}
 use Rattle.zarrs_data_type.proofs.Sizes.{element_len, element_size-positive}
 use Rattle.zarrs_data_type.proofs.Pieces.{pieces-repeat, length-repeat}
 use Rattle.zarrs_data_type.proofs.Fixed.{cells-fixed, cells-of, sized_cells, whole_cells}

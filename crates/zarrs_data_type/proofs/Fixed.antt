@@ -13,7 +13,7 @@ use Rattle.zarrs_data_type.specs.Kind as type
 use Rattle.zarrs_data_type.specs.Cell.{Cell, bytes, none, is_element, is_value, are_values, values_only, may_hold}
 use Rattle.zarrs_data_type.specs.ArrayData.{fixed}
 use Rattle.zarrs_data_type.specs.Cells.{fits, count_of, cell_at, cells, HasCells}
-use Rattle.zarrs_data_type.specs.Pieces.{pieces}
+use Rattle.zarrs_subset.specs.Pieces.{pieces}
 use Rattle.zarrs_data_type.proofs.Cells.{IsSized, count_of-fits, HasCells-parts, HasCells-some}
 use Rattle.zarrs_data_type.proofs.Pieces.{length-pieces, length-piece, pieces-one}
 

@@ -8,7 +8,7 @@ use Rattle.std.proofs.lemmas.List.{take_at, take-take, drop-take, take-append-dr
 use Rattle.std.proofs.lemmas.Slice.Eq.{bytes_eq-Decides}
 use Rattle.std.proofs.Math.Nat.{suc-mul}
 use Rattle.std.proofs.Math.Seq.{take-add, drop-append_seam}
-use Rattle.zarrs_data_type.specs.Pieces.{pieces}
+use Rattle.zarrs_subset.specs.Pieces.{pieces}
 use Rattle.zarrs_data_type.proofs.Pieces.{length-pieces, length-repeat, pieces-cons, pieces-joined, repeat_more}
 
 -- what repeats what stands one piece before is the first piece again and again

@@ -9,7 +9,7 @@ use Rattle.std.proofs.lemmas.List.Folds.{list_all-append, list_all_at, list_all-
 use Rattle.std.proofs.lemmas.List.FromFn.{length-map-range_with_len, get_or-map-range_with_len, map-range_with_len_more, fill_by_all}
 use Rattle.std.proofs.Math.Nat.{suc-mul, mul-le-mul_right, div-mul-le_self, mul-div_cancel}
 use Rattle.std.proofs.Math.Seq.{take-add, drop-append-add}
-use Rattle.zarrs_data_type.specs.Pieces.{pieces}
+use Rattle.zarrs_subset.specs.Pieces.{pieces}
 
 -- a slice of what stands behind
 slice_range-past : (xs ys : List ℕ) (a b : ℕ) → slice_range (xs ++ ys) (length xs + a) (length xs + b) ≡ slice_range ys a b

@@ -1,7 +1,6 @@
 pub mod ArrayData
 pub mod Cell
 pub mod Cells
-pub mod Causes
+pub mod Refusals
 pub mod Kind
-pub mod Pieces
 pub mod Same

@@ -3,13 +3,13 @@ ghost use Rattle.std.specs.Prelude.{◌≡◌, ◌↔◌, ◌*◌, ◌<◌, ◌^
 ghost use Rattle.std.specs.Cow.{cow_slice_items};
 ghost use Rattle.std.specs.List.{list_all};
 ghost use Rattle.zarrs_data_type.specs.ArrayData.{data_of, fixed};
-ghost use Rattle.zarrs_data_type.specs.Causes.{HasFillCause};
+ghost use Rattle.zarrs_data_type.specs.Refusals.{RefusesFill};
 ghost use Rattle.zarrs_data_type.specs.Cell.{cell_eq, fill_cell, fill_of};
 ghost use Rattle.zarrs_data_type.specs.Cells.{cells, HasCells};
 ghost use Rattle.zarrs_data_type.specs.Kind.{kind, cell_size};
 
 use crate::data_type::DataType;
-use crate::errors::DataTypeFillValueError;
+use crate::error::DataTypeFillValueError;
 use crate::fill_value::FillValue;
 use std::alloc::{AllocError, Global};
 use std::borrow::CowSlice;
@@ -50,7 +50,7 @@ impl<'a> ArrayBytes<'a> {
         requires size { count * cell_size (kind data_type.now) < 2 ^ 64 }
         ensures cells { IfOk result (λ made. cells (kind data_type.now) (data_of made)
             ≡ Some (replicate count (fill_of (kind data_type.now) fill_value.now))) }
-        ensures refused { IfErr result (HasFillCause (kind data_type.now)) }
+        ensures refused { IfErr result (RefusesFill (kind data_type.now)) }
     {
         if data_type.element_size().is_none() {
             return Err(DataTypeFillValueError::UnsupportedType);

@@ -3,12 +3,12 @@
 
 mod array_bytes;
 mod data_type;
-mod errors;
+mod error;
 mod fill_value;
 
 pub use array_bytes::ArrayBytes;
 pub use data_type::DataType;
-pub use errors::{
+pub use error::{
     ArrayBytesFixedDisjointViewCreateError, DataTypeFillValueError, ElementError,
     ExpectedFixedLengthBytesError, ExpectedOptionalBytesError, ExpectedVariableLengthBytesError,
 };

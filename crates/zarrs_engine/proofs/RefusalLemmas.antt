@@ -6,8 +6,8 @@ use Rattle.std.proofs.Math.Nat.{mul-le-mul_left}
 use Rattle.zarrs_subset.specs.Boxes.{position_count}
 use Rattle.zarrs_chunk_grid.specs.Grids.{box_at, has_box}
 use Rattle.zarrs_storage.specs.Store.{StoreState, KeepsReach}
-use Rattle.zarrs_storage.specs.declared.errors.StorageError.{StorageError}
-use Rattle.zarrs_storage.specs.declared.errors.StorageError.TheVariants as stored
+use Rattle.zarrs_storage.specs.declared.error.StorageError.{StorageError}
+use Rattle.zarrs_storage.specs.declared.error.StorageError.TheVariants as stored
 use Rattle.zarrs_codec_leaf.specs.declared.error.CodecError.{CodecError}
 use Rattle.zarrs_codec_leaf.specs.declared.error.CodecError.TheVariants as coded
 use Rattle.zarrs_data_type.specs.Kind.{Kind, kind, cell_size, fixed_size}

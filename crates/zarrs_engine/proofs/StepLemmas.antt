@@ -6,13 +6,13 @@ use Rattle.zarrs_subset.specs.Boxes.{position_count}
 use Rattle.zarrs_chunk_grid.specs.Grids.{box_at, has_box}
 use Rattle.zarrs_chunk_grid.proofs.Chunks.{box_is_there}
 use Rattle.zarrs_storage.specs.Store.{StoreState}
-use Rattle.zarrs_storage.specs.Causes.{HasReadCause}
-use Rattle.zarrs_storage.specs.declared.errors.StorageError.{StorageError}
-use Rattle.zarrs_storage.specs.declared.errors.StorageError.TheVariants as stored
+use Rattle.zarrs_storage.specs.Refusals.{RefusesRead}
+use Rattle.zarrs_storage.specs.declared.error.StorageError.{StorageError}
+use Rattle.zarrs_storage.specs.declared.error.StorageError.TheVariants as stored
 use Rattle.zarrs_codec_leaf.specs.declared.error.CodecError.{CodecError}
 use Rattle.zarrs_codec_leaf.specs.declared.error.CodecError.TheVariants as coded
-use Rattle.zarrs_codec.specs.Chain.{ChainMeaning, IsLawfulChain, chunk_text}
-use Rattle.zarrs_codec.specs.Causes.{HasEncodeCause, HasDecodeCause}
+use Rattle.zarrs_codec.specs.Chain.{ChainMeaning, IsLawfulChain, chunk_encoding}
+use Rattle.zarrs_codec.specs.Refusals.{RefusesChunkEncoding, RefusesChunkDecoding}
 use Rattle.zarrs_data_type.specs.Kind.{Kind}
 use Rattle.zarrs_data_type.specs.Cell.{Cell}
 use Rattle.zarrs_data_type.specs.ArrayData.{ArrayData}
@@ -101,7 +101,7 @@ kept_refusal layout keep shape held cs at long kept =
     data_counted layout keep shape held cs at long ∙ ap (λ b. cond b None (encode_refusal layout keep shape cs)) kept
 
 -- the text of a chunk's data is that of its cells
-pub chunk_text_is : (chain : ChainMeaning) (keep : Bool) (kind : Kind) (fill : Cell) (shape : List ℕ) (held : ArrayData) (cs : List Cell) → cells kind held ≡ Some cs → length cs ≡ position_count shape → chunk_text chain keep kind fill shape held ≡ chain.encoded keep kind fill shape cs
+pub chunk_text_is : (chain : ChainMeaning) (keep : Bool) (kind : Kind) (fill : Cell) (shape : List ℕ) (held : ArrayData) (cs : List Cell) → cells kind held ≡ Some cs → length cs ≡ position_count shape → chunk_encoding chain keep kind fill shape held ≡ chain.encoded keep kind fill shape cs
 chunk_text_is chain keep kind fill shape held cs at long =
     ap (λ o. elim o [ None ↦ None | Some found ↦ cond (length found == position_count shape) (chain.encoded keep kind fill shape found) None ]) at
     ∙ ap (λ b. cond b (chain.encoded keep kind fill shape cs) None) (eq-eqb _ _ long)
@@ -116,7 +116,7 @@ encode_none layout keep shape cs at =
 
 -- what the chain refuses
 pub encode_refused : (layout : Layout) → IsLawfulChain layout.chain → (keep : Bool) (shape : List ℕ) (held : ArrayData) (cs : List Cell) (e : CodecError) → cells layout.kind held ≡ Some cs → length cs ≡ position_count shape
-    → HasEncodeCause layout.chain keep layout.kind layout.fill shape held e → IsRefusal (encode_refusal layout keep shape cs) ⊥ (refusal_of (error_of_codec e))
+    → RefusesChunkEncoding layout.chain keep layout.kind layout.fill shape held e → IsRefusal (encode_refusal layout keep shape cs) ⊥ (refusal_of (error_of_codec e))
 encode_refused layout lawful keep shape held cs coded.DoesNotFit at long unfit =
     encode_none layout keep shape cs (lawful.unfit keep layout.kind layout.fill shape cs unfit)
     ∙ ap (λ b. cond b (Some refusal.size_overflow) (Some refusal.codec)) unfit
@@ -131,7 +131,7 @@ text_accepted layout needed index text cs none at =
     second_refusal (box_refusal layout index) _ none ∙ ap (λ o. cond (is_some o) None (Some refusal.codec)) at
 
 pub decode_refused : (layout : Layout) (needed : Bool) (index text : List ℕ) (e : CodecError) → box_refusal layout index ≡ None
-    → HasDecodeCause layout.chain layout.kind layout.fill (box_at layout.grid index).shape text e → IsRefusal (read_refusal layout needed index (Some text)) ⊥ (refusal_of (error_of_codec e))
+    → RefusesChunkDecoding layout.chain layout.kind layout.fill (box_at layout.grid index).shape text e → IsRefusal (read_refusal layout needed index (Some text)) ⊥ (refusal_of (error_of_codec e))
 decode_refused layout needed index text coded.DoesNotFit none undecoded =
     second_refusal (box_refusal layout index) _ none ∙ ap (λ o. cond (is_some o) None (Some refusal.codec)) undecoded
 decode_refused layout needed index text coded.SizeOverflow none h = absurd h
@@ -165,7 +165,7 @@ text_refused_said first (stored.Other text) h = h
 text_refused_said first stored.OutOfMemory h = tt
 
 -- or by the store
-pub text_refused_store : (layout : Layout) (index key : List ℕ) (state : StoreState) (e : StorageError) → length index ≡ layout.grid.dimensions → key ≡ layout.key index → HasReadCause state key e → TextRefused layout index state (refusal_of (error_of_storage e))
+pub text_refused_store : (layout : Layout) (index key : List ℕ) (state : StoreState) (e : StorageError) → length index ≡ layout.grid.dimensions → key ≡ layout.key index → RefusesRead state key e → TextRefused layout index state (refusal_of (error_of_storage e))
 text_refused_store layout index key state e long is (inl memory) = rw memory tt
 text_refused_store layout index key state e long is (inr refuses) =
     text_refused_said _ e

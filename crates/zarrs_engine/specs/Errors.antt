@@ -1,10 +1,10 @@
 -- What the refusals of lower layers become.
-use Rattle.zarrs_storage.specs.declared.errors.StorageError.{StorageError}
-use Rattle.zarrs_storage.specs.declared.errors.StorageError.TheVariants as storage
+use Rattle.zarrs_storage.specs.declared.error.StorageError.{StorageError}
+use Rattle.zarrs_storage.specs.declared.error.StorageError.TheVariants as storage
 use Rattle.zarrs_codec_leaf.specs.declared.error.CodecError.{CodecError}
 use Rattle.zarrs_codec_leaf.specs.declared.error.CodecError.TheVariants as codec
-use Rattle.zarrs_data_type.specs.declared.errors.ElementError.{ElementError}
-use Rattle.zarrs_data_type.specs.declared.errors.ElementError.TheVariants as element
+use Rattle.zarrs_data_type.specs.declared.error.ElementError.{ElementError}
+use Rattle.zarrs_data_type.specs.declared.error.ElementError.TheVariants as element
 use Rattle.zarrs_subset.specs.declared.error.ArraySubsetError.{ArraySubsetError}
 use Rattle.zarrs_subset.specs.declared.error.ArraySubsetError.TheVariants as subset
 use Rattle.zarrs_engine.specs.declared.error.ArrayError.{ArrayError}

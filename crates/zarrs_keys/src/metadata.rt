@@ -3,11 +3,11 @@ ghost use Rattle.std.specs.Prelude.{◌≡◌, Some, IfOk, IfErr};
 ghost use Rattle.serde_json.specs.Data.{no_members};
 ghost use Rattle.zarrs_metadata.specs.Extension.{settings};
 ghost use Rattle.zarrs_metadata.specs.View.{extension_view};
-ghost use Rattle.zarrs_metadata.specs.Refusal.{HasCreateCause};
+ghost use Rattle.zarrs_metadata.specs.Refusals.{RefusesMeaning};
 ghost use Rattle.zarrs_keys.specs.Metadata.{separator_in, suffix_named, suffix_in, default_of, v2_of, default_suffix_of, encoding_of, configured, separator_member, extension_of_encoding};
 
 use crate::encodings::ChunkKeyEncoding;
-use crate::errors::KeySuffixError;
+use crate::error::KeySuffixError;
 use crate::suffixes::KeySuffix;
 use serde_json::Value;
 use std::alloc::{AllocError, Global};
@@ -126,7 +126,7 @@ impl ChunkKeyEncoding {
         metadata: &MetadataV3,
     ) -> Result<ChunkKeyEncoding, PluginCreateError>
         ensures read { IfOk result (λ encoding. encoding_of (extension_view metadata.now) ≡ Some encoding) }
-        ensures refused { IfErr result (HasCreateCause (encoding_of (extension_view metadata.now))) }
+        ensures refused { IfErr result (RefusesMeaning (encoding_of (extension_view metadata.now))) }
     {
         let Some(encoding) = encoding_of(alloc, metadata)? else {
             let name = metadata.name();

@@ -2,5 +2,5 @@ pub mod Separator
 pub mod Members
 pub mod Extension
 pub mod Lists
-pub mod Refusal
+pub mod Refusals
 pub mod View

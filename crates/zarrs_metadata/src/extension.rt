@@ -6,7 +6,7 @@ ghost use Rattle.serde_json.specs.Find.{as_str, get_member};
 ghost use Rattle.zarrs_metadata.specs.Members.{has_only, nonempty};
 ghost use Rattle.zarrs_metadata.specs.Extension.{named, settings, extension_of, extension_from, data_of, normal, configuration_from, must_understand_from};
 
-use crate::errors::MetadataError;
+use crate::error::MetadataError;
 use crate::members::{copied, have_only, is_empty, kept, member_of, object_of, take_member};
 use serde_json::{Map, Value};
 use std::alloc::{AllocError, Global};

@@ -13,7 +13,7 @@ use Rattle.zarrs_keys.specs.Encodings.{default_key}
 use Rattle.zarrs_keys.specs.Paths.{path_key}
 use Rattle.zarrs_chunk_grid.specs.Axes.{regular_axis}
 use Rattle.zarrs_chunk_grid.specs.Grids.{regular_grid}
-use Rattle.zarrs_chunk_grid.specs.Refusals.{IsRefusal}
+use Rattle.zarrs_chunk_grid.specs.Refusals.{RefusesDimensionality}
 use Rattle.zarrs_chunk_grid.specs.Shapes.{sizes_of}
 use Rattle.zarrs_chunk_grid.specs.declared.error.GridError.{GridError}
 use Rattle.zarrs_chunk_grid.specs.declared.error.GridError.TheVariants as grid_error
@@ -82,7 +82,7 @@ no_sizes creation NoGrid zero = λ makes. absurd (cc (zero, makes.nonzero))
 no_sizes creation OutOfMemory h = tt
 
 -- nor where the lengths differ
-pub no_grid : (shape chunk_shape : List ℕ) (sizes : List NonZeroU64) (error : GridError) → sizes_of sizes ≡ chunk_shape → IsRefusal (length sizes) (length shape) error → error ≢ grid_error.OutOfMemory → MakesGrid shape chunk_shape → ⊥
+pub no_grid : (shape chunk_shape : List ℕ) (sizes : List NonZeroU64) (error : GridError) → sizes_of sizes ≡ chunk_shape → RefusesDimensionality (length sizes) (length shape) error → error ≢ grid_error.OutOfMemory → MakesGrid shape chunk_shape → ⊥
 no_grid shape chunk_shape sizes (grid_error.IncompatibleDimensionality mismatch) is refused memory makes =
     let counted : length (sizes_of sizes) ≡ length sizes = length-map sizes non_zero_u64_get in
     refused.0 (sym counted ∙ ap length is ∙ makes.same)

@@ -3,13 +3,13 @@ use Rattle.std.proofs.Common.{◌≡◌, ℕ, zero, suc, ◌+◌, ◌*◌, ◌<�
 use Rattle.std.proofs.lemmas.Option.{slice_get-get_or}
 use Rattle.std.proofs.lemmas.Bool.{and_parts, and_from, ltb-true, leb-true, lt-ltb, le-leb, false≢true}
 use Rattle.zarrs_subset.specs.Boxes.{position_count, in_range, is_within, offset_from}
-use Rattle.zarrs_subset.specs.Cells.{cell_at}
+use Rattle.zarrs_subset.specs.Pieces.{piece_at}
 use Rattle.zarrs_subset.specs.Regions.{Box, IsLong, Holds, InBox, place_in}
 use Rattle.zarrs_subset.proofs.Kernel.{get_or-part, place_below}
 use Rattle.zarrs_subset.proofs.Positions.{offset_from-in}
 
 -- equal cells of one byte are equal bytes
-pub byte_of : (a b : List ℕ) (j k : ℕ) → j < length a → k < length b → cell_at 1 a j ≡ cell_at 1 b k → slice_get a j ≡ slice_get b k
+pub byte_of : (a b : List ℕ) (j k : ℕ) → j < length a → k < length b → piece_at 1 a j ≡ piece_at 1 b k → slice_get a j ≡ slice_get b k
 byte_of a b j k h i e =
     let first = get_or-part (j * 1) (j * 1 + 1) 0 a (omega arith) in
     let second = get_or-part (k * 1) (k * 1 + 1) 0 b (omega arith) in

@@ -8,7 +8,8 @@ use Rattle.std.proofs.lemmas.Bool.{cases_order, cases_eq, cases_Bool, and_parts,
 use Rattle.std.proofs.lemmas.Bool.Decides.{nat_tests}
 use borrow.Rule.Slice.PartMut.{put_mid}
 use Rattle.zarrs_subset.specs.Boxes.{position_count, InShape, place, BoxFits, in_range, is_within, moved}
-use Rattle.zarrs_subset.specs.Cells.{BoxCopied, cell_at, CellsCopied}
+use Rattle.zarrs_subset.specs.Pieces.{piece_at}
+use Rattle.zarrs_subset.specs.Cells.{BoxCopied, CellsCopied}
 
 -- ---- the first dimension of a box that fits
 
@@ -293,12 +294,12 @@ length_part w b xs h = search (rules, places)
 pub cell_ends : (size k c len : ℕ) → k < c → len ≡ c * size → k * size + size ≤ len
 cell_ends size k c len below is = omega (arith, block_order k c size below)
 
-pub cell_at-same : (size a b : ℕ) (xs ys : List ℕ) → a * size + size ≤ length xs → b * size + size ≤ length ys
-    → ((k : ℕ) → k < size → get_or xs (a * size + k) 0 ≡ get_or ys (b * size + k) 0) → cell_at size xs a ≡ cell_at size ys b
-cell_at-same size a b xs ys roomA roomB same =
+pub piece_at-same : (size a b : ℕ) (xs ys : List ℕ) → a * size + size ≤ length xs → b * size + size ≤ length ys
+    → ((k : ℕ) → k < size → get_or xs (a * size + k) 0 ≡ get_or ys (b * size + k) 0) → piece_at size xs a ≡ piece_at size ys b
+piece_at-same size a b xs ys roomA roomB same =
     let lenA = length_part (a * size) size xs roomA in
     let lenB = length_part (b * size) size ys roomB in
-    ext_get_or 0 (cell_at size xs a) (cell_at size ys b) (lenA ∙ sym lenB)
+    ext_get_or 0 (piece_at size xs a) (piece_at size ys b) (lenA ∙ sym lenB)
     (λ k h. let below : k < size = omega arith in
     get_or-part (a * size) (a * size + size) k xs (omega arith) ∙ same k below ∙ sym (get_or-part (b * size) (b * size + size) k ys (omega arith)))
 
@@ -313,6 +314,6 @@ CellsCopied-from size S F T U es from old new fitsS fitsT lenFrom lenOld lenNew 
     elim (cases_Bool (is_within U es p)) [
       | inl hit ↦
           let roomFrom = cell_ends size source (position_count S) (length from) (place_below S (moved U F p) (moved_in U F es S p T inside fitsT fitsS hit)) lenFrom in
-          rw hit (cell_at-same size at source new from roomNew roomFrom (λ k below. rw hit at (copied p k inside below)))
-      | inr miss ↦ rw miss (cell_at-same size at at new old roomNew room (λ k below. rw miss at (copied p k inside below)))
+          rw hit (piece_at-same size at source new from roomNew roomFrom (λ k below. rw hit at (copied p k inside below)))
+      | inr miss ↦ rw miss (piece_at-same size at at new old roomNew room (λ k below. rw miss at (copied p k inside below)))
     ]

@@ -8,9 +8,10 @@ use Rattle.std.proofs.lemmas.Option.{slice_get-get_or, slice_get-map}
 use Rattle.std.proofs.lemmas.List.FromFn.{length-map-range_with_len, get_or-map-range_with_len}
 use borrow.Rule.Slice.PartMut.{put_mid}
 use Rattle.zarrs_subset.specs.Boxes.{position_count, place, in_range, is_within, offset_from, EndsFit}
-use Rattle.zarrs_subset.specs.Cells.{cell_at, cells, BytesPlaced}
+use Rattle.zarrs_subset.specs.Pieces.{piece_at, pieces}
+use Rattle.zarrs_subset.specs.Cells.{BytesPlaced}
 use Rattle.zarrs_subset.specs.Regions.{Box, IsLong, place_in, cells_over, TakesPart}
-use Rattle.zarrs_subset.proofs.Kernel.{place_below, get_or-put_mid_inside, get_or-part, in_block, below_block, block_order, other_block, row_hit, row_miss, cell_ends, cell_at-same, tail_is}
+use Rattle.zarrs_subset.proofs.Kernel.{place_below, get_or-put_mid_inside, get_or-part, in_block, below_block, block_order, other_block, row_hit, row_miss, cell_ends, piece_at-same, tail_is}
 use Rattle.zarrs_subset.proofs.Positions.{offset_from-in}
 use Rattle.zarrs_subset.proofs.Bytes.{place_in_below, byte_of}
 
@@ -195,10 +196,10 @@ line_block (n ∷ []) size len block one is = is ∙ omega arith
 
 -- ---- from bytes to cells
 
-pub slice_get-cells : (size count k : ℕ) (bytes : List ℕ) → k < count → slice_get (cells size count bytes) k ≡ Some (cell_at size bytes k)
-slice_get-cells size count k bytes below =
-    slice_get-get_or (cells size count bytes) k [] (omega (arith, length-map-range_with_len (cell_at size bytes) 0 count))
-    ∙ ap (λ c. Some c) (get_or-map-range_with_len (cell_at size bytes) 0 count k k [] below (omega arith))
+pub slice_get-pieces : (size count k : ℕ) (bytes : List ℕ) → k < count → slice_get (pieces size count bytes) k ≡ Some (piece_at size bytes k)
+slice_get-pieces size count k bytes below =
+    slice_get-get_or (pieces size count bytes) k [] (omega (arith, length-map-range_with_len (piece_at size bytes) 0 count))
+    ∙ ap (λ c. Some c) (get_or-map-range_with_len (piece_at size bytes) 0 count k k [] below (omega arith))
 
 pub TakesPart-from : (size : ℕ) (box other : Box) (part old new : List ℕ) → IsLong box → IsLong other
     → length part ≡ position_count other.shape * size → length old ≡ position_count box.shape * size → length new ≡ length old
@@ -214,13 +215,13 @@ TakesPart-from size box other part old new long other_long part_len old_len same
           let from = place_in other position in
           let from_below : from < position_count other.shape = place_below other.shape (offset_from other.start position) (offset_from-in other.start other.shape position other_long hit) in
           let room_part = cell_ends size from (position_count other.shape) (length part) from_below part_len in
-          rw hit (slice_get-cells size (position_count box.shape) at new below
-          ∙ ap (λ c. Some c) (cell_at-same size at from new part room_new room_part (λ k below. rw hit at (placed position k holds below)))
-          ∙ sym (slice_get-cells size (position_count other.shape) from part from_below))
+          rw hit (slice_get-pieces size (position_count box.shape) at new below
+          ∙ ap (λ c. Some c) (piece_at-same size at from new part room_new room_part (λ k below. rw hit at (placed position k holds below)))
+          ∙ sym (slice_get-pieces size (position_count other.shape) from part from_below))
       | inr miss ↦
-          rw miss (slice_get-cells size (position_count box.shape) at new below
-          ∙ ap (λ c. Some c) (cell_at-same size at at new old room_new room (λ k below. rw miss at (placed position k holds below)))
-          ∙ sym (slice_get-cells size (position_count box.shape) at old below))
+          rw miss (slice_get-pieces size (position_count box.shape) at new below
+          ∙ ap (λ c. Some c) (piece_at-same size at at new old room_new room (λ k below. rw miss at (placed position k holds below)))
+          ∙ sym (slice_get-pieces size (position_count box.shape) at old below))
     ]
 
 -- what f reads of each cell takes part in the same way
@@ -242,14 +243,14 @@ pub TakesPart-bytes : (box other : Box) (part old new : List ℕ) → IsLong box
 TakesPart-bytes box other part old new long other_long part_len old_len same takes = λ position holds.
     let at = takes position holds in
     let below = place_in_below box position long holds in
-    let here = slice_get-cells 1 (position_count box.shape) (place_in box position) new below in
+    let here = slice_get-pieces 1 (position_count box.shape) (place_in box position) new below in
     elim (cases_Bool (is_within other.start other.shape position)) [
       | inl hit ↦
           let within = place_in_below other position other_long hit in
-          let there = slice_get-cells 1 (position_count other.shape) (place_in other position) part within in
+          let there = slice_get-pieces 1 (position_count other.shape) (place_in other position) part within in
           rw hit (byte_of new part (place_in box position) (place_in other position) (omega arith) (omega arith) (same_some _ _ (sym here ∙ (rw hit at at) ∙ there)))
       | inr miss ↦
-          let there = slice_get-cells 1 (position_count box.shape) (place_in box position) old below in
+          let there = slice_get-pieces 1 (position_count box.shape) (place_in box position) old below in
           rw miss (byte_of new old (place_in box position) (place_in box position) (omega arith) (omega arith) (same_some _ _ (sym here ∙ (rw miss at at) ∙ there)))
     ]
   where

@@ -1,6 +1,6 @@
 -- Row-major arrays of bytes, seen as cells of one size.
-use Rattle.std.specs.Prelude.{◌≡◌, ℕ, ◌+◌, ◌*◌, ◌<◌, true, List, slice_index, slice_range, if◌then◌else◌, map}
-use Rattle.std.specs.List.{range_with_len}
+use Rattle.std.specs.Prelude.{◌≡◌, ℕ, ◌+◌, ◌*◌, ◌<◌, true, List, slice_index, if◌then◌else◌}
+use Rattle.zarrs_subset.specs.Pieces.{piece_at}
 use Rattle.zarrs_subset.specs.Boxes.{InShape, place, is_within, moved, offset_from}
 
 -- `new` is `old`, an array of shape `target`, but for the cells of the box of `start` and `extents`, which are those
@@ -13,10 +13,6 @@ BoxCopied size source origin target start extents from old new =
     then slice_index from (place source (moved start origin p) * size + k)
     else slice_index old (place target p * size + k))
 
--- cell k of an array
-abbrev pub cell_at : ℕ → List ℕ → ℕ → List ℕ
-cell_at size bytes k = slice_range bytes (k * size) (k * size + size)
-
 -- `new` is `old`, over the box of `start` and `shape`, but for the positions of another box, which have the bytes of `part`:
 -- byte by byte
 abbrev pub BytesPlaced : ℕ → List ℕ → List ℕ → List ℕ → List ℕ → List ℕ → List ℕ → List ℕ → Type 0
@@ -27,15 +23,11 @@ BytesPlaced size start shape other_start other_shape part old new =
     then slice_index part (place other_shape (offset_from other_start p) * size + k)
     else slice_index old (place shape (offset_from start p) * size + k))
 
--- the first `count` cells of an array
-abbrev pub cells : ℕ → ℕ → List ℕ → List (List ℕ)
-cells size count bytes = map (cell_at size bytes) (range_with_len 0 count)
-
 -- the same as `BoxCopied`, cell by cell
 abbrev pub CellsCopied : ℕ → List ℕ → List ℕ → List ℕ → List ℕ → List ℕ → List ℕ → List ℕ → List ℕ → Type 0
 CellsCopied size source origin target start extents from old new =
     (p : List ℕ) → InShape target p
-    → cell_at size new (place target p)
+    → piece_at size new (place target p)
     ≡ (if is_within start extents p
-    then cell_at size from (place source (moved start origin p))
-    else cell_at size old (place target p))
+    then piece_at size from (place source (moved start origin p))
+    else piece_at size old (place target p))

@@ -5,7 +5,7 @@ use Rattle.std.specs.Cmp.Lexicographic.{pointwise}
 use Rattle.std.specs.declared.ops.Range.{Range}
 use Rattle.zarrs_subset.specs.declared.subset.ArraySubset.{ArraySubset}
 use Rattle.zarrs_subset.specs.Boxes.{position_count, place, is_within, offset_from, positions_from, zip_with, ends, overlap_start, overlap_extents}
-use Rattle.zarrs_subset.specs.Cells.{cells}
+use Rattle.zarrs_subset.specs.Pieces.{pieces}
 
 -- the first index of each dimension, and its extent
 pub record Box : Type 0 where
@@ -84,7 +84,7 @@ cell_in box cells position = slice_get cells (place_in box position)
 
 -- the cells of `size` bytes each of an array over the box
 abbrev pub cells_over : ℕ → Box → List ℕ → List (List ℕ)
-cells_over size box bytes = cells size (position_count box.shape) bytes
+cells_over size box bytes = pieces size (position_count box.shape) bytes
 
 -- `new` are the cells `old` of the box, but for the positions that another box has: these have that box's cells
 abbrev pub TakesPart : {X : Type 0} → Box → Box → List X → List X → List X → Type 0

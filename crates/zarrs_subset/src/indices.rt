@@ -80,7 +80,7 @@ fn upcoming(
     requires { ForSome kept (λ position. Holds (box_of subset.now) position.items) }
     ensures ok { IfOk result (λ given. MatchOption given (positions_since (box_of subset.now) kept ≡ [])
         (BeginsAt (box_of subset.now) (positions_since (box_of subset.now) kept))) }
-    ensures err { OnErr result (0 < length (positions_since (box_of subset.now) kept)) }
+    ensures refused { OnErr result (0 < length (positions_since (box_of subset.now) kept)) }
 {
     match kept {
         Some(position) => Ok(Some(position)),
@@ -95,7 +95,7 @@ fn first_position(
 ) -> Result<Option<ArrayIndicesTinyVec>, AllocError>
     ensures ok { IfOk result (λ first. MatchOption first (positions (box_of subset.now) ≡ [])
         (BeginsAt (box_of subset.now) (positions (box_of subset.now)))) }
-    ensures err { OnErr result (0 < length (positions (box_of subset.now))) }
+    ensures refused { OnErr result (0 < length (positions (box_of subset.now))) }
 {
     if subset.is_empty() {
         return Ok(None);

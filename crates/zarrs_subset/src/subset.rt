@@ -161,7 +161,7 @@ impl ArraySubset {
     /// The number of positions: the product of the extents.
     pub fn num_elements(&self) -> Result<u64, SizeOverflow>
         ensures ok { IfOk result (λ n. n ≡ position_count (box_of self.now).shape) }
-        ensures err { OnErr result (2 ^ 64 ≤ position_count (box_of self.now).shape) }
+        ensures refused { OnErr result (2 ^ 64 ≤ position_count (box_of self.now).shape) }
     {
         element_count(&self.shape).ok_or(SizeOverflow)
     }
@@ -267,7 +267,7 @@ impl ArraySubset {
     // A list of this length has an entry for each dimension.
     fn check_length(&self, got: usize) -> Result<(), IncompatibleDimensionalityError>
         ensures ok { OnOk result (got ≡ length (box_of self.now).start) }
-        ensures err { IfErr result (IsMismatch got (length (box_of self.now).start)) }
+        ensures refused { IfErr result (IsMismatch got (length (box_of self.now).start)) }
     {
         if got == self.start.len() {
             Ok(())

@@ -39,7 +39,7 @@ pub trait ArraySubsetTraits {
     /// The number of positions: the product of the extents.
     fn num_elements(&self) -> Result<u64, SizeOverflow>
         ensures ok { IfOk result (λ count. count ≡ position_count (region self.now).shape) }
-        ensures err { OnErr result (2 ^ 64 ≤ position_count (region self.now).shape) }
+        ensures refused { OnErr result (2 ^ 64 ≤ position_count (region self.now).shape) }
         ensures is_box { IsBox (region self.now) };
 
     /// The box as a subset of its own.

@@ -6,7 +6,7 @@ ghost use Rattle.zarrs_data_type.specs.ArrayData.{fixed};
 ghost use Rattle.zarrs_data_type.specs.Cell.{cell_eq, fill_cell, fill_of};
 ghost use Rattle.zarrs_data_type.specs.Cells.{cells};
 ghost use Rattle.zarrs_data_type.specs.Kind.{kind};
-ghost use Rattle.zarrs_data_type.specs.Pieces.{pieces};
+ghost use Rattle.zarrs_subset.specs.Pieces.{pieces};
 
 use crate::data_type::DataType;
 use crate::fill_value::FillValue;

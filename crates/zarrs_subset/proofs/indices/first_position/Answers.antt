@@ -9,8 +9,8 @@ pub returns-then-is_empty-clause-ok : goal.returns-then-is_empty-clause-ok
 returns-then-is_empty-clause-ok c =
     positions-empty (box_of c.args.subset.now) c.args.subset.now.same_length (search rules)
 
-pub returns-in_err-from_slice-clause-err : goal.returns-in_err-from_slice-clause-err
-returns-in_err-from_slice-clause-err c =
+pub returns-in_err-from_slice-clause-refused : goal.returns-in_err-from_slice-clause-refused
+returns-in_err-from_slice-clause-refused c =
     let a = c.args.subset.now in
     let some : AllSome a.shape.items = λ k below none. iff_false c.is_empty.ensures c.if-is_empty.false (k, below, none) in
     let left : 0 < length (positions (box_of a)) = length-positions-some (box_of a) a.same_length some in

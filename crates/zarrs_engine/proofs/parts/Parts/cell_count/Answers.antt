@@ -9,7 +9,7 @@ use Rattle.zarrs_engine.proofs.parts.Parts.cell_count.Goals as goal
 pub returns-in_default-clause-large : goal.returns-in_default-clause-large
 returns-in_default-clause-large g c =
     let layout = layout_of_parts c.args.self.now in
-    large_count layout c.args.region.now.shape.items (cell_size-positive c.args.self.now.data_type) c.in_default.ensures.err
+    large_count layout c.args.region.now.shape.items (cell_size-positive c.args.self.now.data_type) c.in_default.ensures.refused
 
 pub returns-in-Some-clause-small : goal.returns-in-Some-clause-small
 returns-in-Some-clause-small g c =

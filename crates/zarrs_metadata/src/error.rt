@@ -1,6 +1,6 @@
 //! Why metadata is refused.
 ghost use Rattle.std.specs.Prelude.{◌≡◌};
-ghost use Rattle.zarrs_metadata.specs.declared.errors.PluginCreateError.TheVariants.{OutOfMemory};
+ghost use Rattle.zarrs_metadata.specs.declared.error.PluginCreateError.TheVariants.{OutOfMemory};
 
 use std::alloc::{AllocError, AllocFailed, Global};
 use thiserror::Error;
@@ -44,7 +44,7 @@ impl<T: Drop> From<AllocFailed<T>> for PluginCreateError {
 }
 
 impl PluginCreateError {
-    ghost use Rattle.zarrs_metadata.specs.Refusal.{SaysOther};
+    ghost use Rattle.zarrs_metadata.specs.Refusals.{SaysOther};
 
     /// The refusal with this text, or want of memory for it.
     pub fn other(alloc: Global, text: &str) -> PluginCreateError

@@ -1,7 +1,7 @@
 //! What is refused where cells and values are turned into one another.
 ghost use Rattle.std.specs.Prelude.{◌≡◌};
-ghost use Rattle.zarrs_data_type.specs.declared.errors.ElementError.TheVariants as element;
-ghost use Rattle.zarrs_data_type.specs.declared.errors.DataTypeFillValueError.TheVariants as fill;
+ghost use Rattle.zarrs_data_type.specs.declared.error.ElementError.TheVariants as element;
+ghost use Rattle.zarrs_data_type.specs.declared.error.DataTypeFillValueError.TheVariants as fill;
 
 use std::alloc::{AllocError, AllocFailed};
 use thiserror::Error;

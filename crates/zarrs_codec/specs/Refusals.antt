@@ -1,0 +1,26 @@
+-- When a call of a chain refuses. Memory may be short at any time.
+use Rattle.std.specs.Prelude.{◌≡◌, ℕ, Bool, true, false, List, None}
+use Rattle.zarrs_codec_leaf.specs.declared.error.CodecError.{CodecError}
+use Rattle.zarrs_codec_leaf.specs.declared.error.CodecError.TheVariants as error
+use Rattle.zarrs_data_type.specs.Kind.{Kind}
+use Rattle.zarrs_data_type.specs.Cell.{Cell}
+use Rattle.zarrs_data_type.specs.ArrayData.{ArrayData}
+use Rattle.zarrs_codec.specs.Chain.{ChainMeaning, chunk_encoding}
+
+-- the type and the shape do not fit, or else a size is too large
+abbrev pub RefusesChunkEncoding : ChainMeaning → Bool → Kind → Cell → List ℕ → ArrayData → CodecError → Type 0
+RefusesChunkEncoding chain empty k f s d error.DoesNotFit = chain.fits k s ≡ false
+RefusesChunkEncoding chain empty k f s d error.SizeOverflow = (chain.fits k s ≡ true) × (chunk_encoding chain empty k f s d ≡ None)
+RefusesChunkEncoding chain empty k f s d error.OutOfMemory = Unit {0}
+
+-- the bytes are those of no cells
+abbrev pub RefusesChunkDecoding : ChainMeaning → Kind → Cell → List ℕ → List ℕ → CodecError → Type 0
+RefusesChunkDecoding chain k f s b error.DoesNotFit = chain.decoded k f s b ≡ None
+RefusesChunkDecoding chain k f s b error.SizeOverflow = ⊥
+RefusesChunkDecoding chain k f s b error.OutOfMemory = Unit {0}
+
+-- the bytes cannot be compacted
+abbrev pub RefusesCompaction : ChainMeaning → List ℕ → List ℕ → CodecError → Type 0
+RefusesCompaction chain s b error.DoesNotFit = chain.compactable s b ≡ false
+RefusesCompaction chain s b error.SizeOverflow = (chain.compactable s b ≡ true) × (chain.compacted s b ≡ None)
+RefusesCompaction chain s b error.OutOfMemory = Unit {0}
