@@ -1,0 +1,31 @@
+-- Runs, one step after another, and what may be asked on the way.
+use Rattle.std.proofs.Common.{◌≡◌, ◌+◌, ◌==◌, cond, ℕ, Bool, true, false, List, [], ◌∷◌, ◌++◌, Some, None, length, refl, sym, ◌∙◌, ap, subst, inl, inr, arith}
+use Rattle.zarrs_storage.specs.Store.{StoreState, KeepsReach}
+use Rattle.zarrs_steps.specs.Layout.{Layout}
+use Rattle.zarrs_steps.specs.declared.call.Call.{Call}
+use Rattle.zarrs_steps.specs.declared.call.Reply.{Reply}
+use Rattle.zarrs_steps.specs.State.{ArrayState}
+use Rattle.zarrs_steps.specs.Reach.{Reach, MayAskCalls}
+use Rattle.zarrs_steps.specs.Step.{Step, Run}
+use Rattle.zarrs_steps.proofs.Steps.{step_reach}
+
+-- one more step
+pub run_push : (layout : Layout) (keep : Bool) (calls : List Call) (replies : List Reply) (call : Call) (reply : Reply) (old mid new : ArrayState) → Run layout keep calls replies old mid → Step layout keep call reply mid new → Run layout keep (calls ++ call ∷ []) (replies ++ reply ∷ []) old new
+run_push layout keep [] [] call reply old mid new r s = (new, subst (λ state. Step layout keep call reply state new) r s, refl)
+run_push layout keep (c ∷ cs) (p ∷ ps) call reply old mid new r s = (r.0, r.1, run_push layout keep cs ps call reply r.0 mid new r.2 s)
+run_push layout keep [] (p ∷ ps) call reply old mid new r s = absurd r
+run_push layout keep (c ∷ cs) [] call reply old mid new r s = absurd r
+
+-- what the calls may ask still may be asked
+ask_after : (layout : Layout) (calls : List Call) (old new : ArrayState) → new.shape ≡ old.shape → KeepsReach old.store new.store → MayAskCalls layout calls old → MayAskCalls layout calls new
+ask_after layout [] old new shape reach may = tt
+ask_after layout (call ∷ calls) old new shape reach may = (
+  λ index r long.
+      let m = may.0 index (subst (λ s. Reach layout s call index) shape r) long in
+      record { key = reach.may_ask (layout.key index) ∙ m.key; places = λ place. reach.may_read (layout.key index) place ∙ m.places place },
+  ask_after layout calls old new shape reach may.1,
+)
+
+-- so the loop of a replay asks of the calls that are left what its caller gave for all
+pub ask_then : (layout : Layout) (keep : Bool) (call : Call) (calls : List Call) (reply : Reply) (old new : ArrayState) → Step layout keep call reply old new → MayAskCalls layout (call ∷ calls) old → MayAskCalls layout calls new
+ask_then layout keep call calls reply old new s may = ask_after layout calls old new s.0 (step_reach layout keep call reply old new s) may.1
