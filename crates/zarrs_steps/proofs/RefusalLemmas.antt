@@ -1,5 +1,5 @@
 -- Refusals of the parts of a call are refusals of the call.
-use Rattle.std.proofs.Common.{◌≡◌, ℕ, ◌*◌, ◌^◌, ◌<◌, ◌≤◌, true, false, not, cond, List, Option, Some, None, refl, ◌∙◌, ap, arith}
+use Rattle.std.proofs.Common.{◌⊎◌, inl, inr, ◌≡◌, ℕ, ◌*◌, ◌^◌, ◌<◌, ◌≤◌, true, false, not, cond, List, Option, Some, None, refl, ◌∙◌, ap, arith}
 use Rattle.std.specs.Prelude.{unwrap_or}
 use Rattle.std.proofs.lemmas.Bool.{le-leb, lt-leb, leb-false}
 use Rattle.std.proofs.Math.Nat.{mul-le-mul_left}
@@ -31,6 +31,33 @@ refusal_moved a b refusal.size_overflow f h = f _ h
 refusal_moved a b refusal.out_of_memory f h = tt
 refusal_moved a b (refusal.dimensionality got expected) f h = f _ h
 refusal_moved a b refusal.unused f h = f _ h
+
+-- a refusal is the one that is decided, or memory was short
+pub memory_or_said : (first : Option Refusal) (r : Refusal) → RefusesBy first r → (r ≡ refusal.out_of_memory) ⊎ (first ≡ Some r)
+memory_or_said first (refusal.array_subset region shape) h = inr h
+memory_or_said first (refusal.chunk_subset part index shape) h = inr h
+memory_or_said first (refusal.indices index) h = inr h
+memory_or_said first refusal.codec h = inr h
+memory_or_said first refusal.element h = inr h
+memory_or_said first (refusal.data_shape got expected) h = inr h
+memory_or_said first refusal.storage h = inr h
+memory_or_said first refusal.size_overflow h = inr h
+memory_or_said first refusal.out_of_memory h = inl refl
+memory_or_said first (refusal.dimensionality got expected) h = inr h
+memory_or_said first refusal.unused h = inr h
+
+pub refuses_said : (first : Option Refusal) (r : Refusal) → first ≡ Some r → RefusesBy first r
+refuses_said first (refusal.array_subset region shape) h = h
+refuses_said first (refusal.chunk_subset part index shape) h = h
+refuses_said first (refusal.indices index) h = h
+refuses_said first refusal.codec h = h
+refuses_said first refusal.element h = h
+refuses_said first (refusal.data_shape got expected) h = h
+refuses_said first refusal.storage h = h
+refuses_said first refusal.size_overflow h = h
+refuses_said first refusal.out_of_memory h = tt
+refuses_said first (refusal.dimensionality got expected) h = h
+refuses_said first refusal.unused h = h
 
 -- the first of two refusals is that of both
 pub first_refusal : (a b : Option Refusal) (x : Refusal) → a ≡ Some x → or_else a b ≡ Some x

@@ -29,3 +29,6 @@ ask_after layout (call ∷ calls) old new shape reach may = (
 -- so the loop of a replay asks of the calls that are left what its caller gave for all
 pub ask_then : (layout : Layout) (keep : Bool) (call : Call) (calls : List Call) (reply : Reply) (old new : ArrayState) → Step layout keep call reply old new → MayAskCalls layout (call ∷ calls) old → MayAskCalls layout calls new
 ask_then layout keep call calls reply old new s may = ask_after layout calls old new s.0 (step_reach layout keep call reply old new s) may.1
+
+pub reach_then : (old mid new : StoreState) → KeepsReach old mid → KeepsReach mid new → KeepsReach old new
+reach_then old mid new a b = record { may_ask = λ key. b.may_ask key ∙ a.may_ask key; may_read = λ key place. b.may_read key place ∙ a.may_read key place; sets_parts = b.sets_parts ∙ a.sets_parts; lenders = b.lenders ∙ a.lenders }

@@ -20,7 +20,7 @@ use Rattle.zarrs_steps.specs.Acts.{Act, store, erase, read, read_chunk, act_of}
 use Rattle.zarrs_steps.specs.ArgumentRefusals.{argument_refusal}
 use Rattle.zarrs_steps.specs.Fronts.{Front, Takes}
 use Rattle.zarrs_steps.specs.Step.{ActStep, Run}
-use Rattle.zarrs_steps.specs.Laws.{StepsKeepCanon, StepsKeepDecoding, StepsKeepReach, HistoriesAgree, EqualCountsAgree}
+use Rattle.zarrs_steps.specs.Laws.{EachDecodes, StepsKeepCanon, StepsKeepDecoding, StepsKeepReach, HistoriesAgree, EqualCountsAgree}
 use Rattle.zarrs_steps.proofs.Shapes.{front_keeps, stores_keep_canon, stores_keep_decoding, erases_keep_canon, erases_keep_decoding}
 
 -- each chunk that stands in this look-up decodes
@@ -68,6 +68,13 @@ run_keeps layout lawful [] [] old new r canon = subst (λ (s : ArrayState). IsCa
 run_keeps layout lawful (call ∷ calls) (reply ∷ replies) old new r canon = run_keeps layout lawful calls replies r.0 new r.2 (step_keeps layout lawful call reply old r.0 r.1 canon)
 run_keeps layout lawful [] (reply ∷ replies) old new r canon = absurd r
 run_keeps layout lawful (call ∷ calls) [] old new r canon = absurd r
+
+pub run_decodes : (layout : Layout) → IsLawful layout → (keep : Bool) (calls : List Call) (replies : List Reply) (old new : ArrayState)
+    → Run layout keep calls replies old new → EachDecodes layout old.store → EachDecodes layout new.store
+run_decodes layout lawful keep [] [] old new r each = subst (λ (s : ArrayState). EachDecodes layout s.store) (sym r) each
+run_decodes layout lawful keep (call ∷ calls) (reply ∷ replies) old new r each = run_decodes layout lawful keep calls replies r.0 new r.2 (step_decodes layout lawful keep call reply old r.0 r.1 each)
+run_decodes layout lawful keep [] (reply ∷ replies) old new r each = absurd r
+run_decodes layout lawful keep (call ∷ calls) [] old new r each = absurd r
 
 pub histories_agree : HistoriesAgree
 histories_agree layout lawful a b p q =

@@ -1,13 +1,10 @@
 -- The keys that a call may ask.
-use Rattle.std.specs.Prelude.{◌≡◌, ℕ, true, List, [], ◌∷◌, Contains}
-use Rattle.zarrs_subset.specs.Regions.{box_of, positions}
-use Rattle.zarrs_chunk_grid.specs.Grids.{box_at}
+use Rattle.std.specs.Prelude.{◌≡◌, ℕ, true, List, [], ◌∷◌}
 use Rattle.zarrs_keys.specs.Keys.{IsIndexList}
+use Rattle.zarrs_storage.specs.Store.{StoreState, MayReadWhole}
 use Rattle.zarrs_steps.specs.Layout.{Layout}
 use Rattle.zarrs_steps.specs.declared.call.Call.{Call}
 use Rattle.zarrs_steps.specs.declared.call.Call.TheVariants as call
-use Rattle.zarrs_steps.specs.ChunkBoxes.{part_box, chunks_met}
-use Rattle.zarrs_steps.specs.StateRefusals.{IsPart}
 use Rattle.zarrs_steps.specs.State.{ArrayState}
 
 -- The chunk of which the call may ask the key: of a read, those that it names or meets; of a store of a part or of a
@@ -17,6 +14,7 @@ Reach layout shape (call.StoreChunk index held) i = ⊥
 Reach layout shape (call.EraseChunk index) i = ⊥
 Reach layout shape (call.RetrieveChunkIfExists index) i = i ≡ index.items
 Reach layout shape (call.RetrieveChunk index) i = i ≡ index.items
+
 -- the key of the chunk and each place of its bytes may be asked
 pub record MayAsk (layout : Layout) (index : List ℕ) (state : ArrayState) : Type 0 where
   pub key : state.store.may_ask (layout.key index) ≡ true
@@ -30,3 +28,8 @@ MayAskCall layout call state = (index : List ℕ) → Reach layout state.shape c
 abbrev pub MayAskCalls : Layout → List Call → ArrayState → Type 0
 MayAskCalls layout [] state = Unit {0}
 MayAskCalls layout (call ∷ calls) state = MayAskCall layout call state × MayAskCalls layout calls state
+
+-- the key of the chunk and each place of its value may be asked; an index list of another length names no key
+pub record MayAskChunk (layout : Layout) (index : List ℕ) (state : StoreState) : Type 0 where
+  pub key : IsIndexList layout.grid.dimensions index → state.may_ask (layout.key index) ≡ true
+  pub places : IsIndexList layout.grid.dimensions index → MayReadWhole state (layout.key index)

@@ -2,16 +2,17 @@
 use Rattle.std.specs.Prelude.{◌≡◌, ℕ, Bool, true, false, List, [], ◌∷◌, Option, None, option_map}
 use Rattle.zarrs_storage.specs.Store.{StoreState}
 use Rattle.zarrs_subset.specs.Regions.{Box}
+use Rattle.zarrs_chunk_grid.specs.Grids.{box_at}
 use Rattle.zarrs_data_type.specs.ArrayData.{ArrayData, data_of}
 use Rattle.zarrs_steps.specs.Layout.{Layout}
-use Rattle.zarrs_steps.specs.Refusals.{Refusal, refusal_of, RefusesBy}
+use Rattle.zarrs_steps.specs.Refusals.{Refusal, refusal_of, RefusesBy, length_refusal}
 use Rattle.zarrs_steps.specs.Changes.{Erases, RetrievesChunk, RetrievesIfExists}
 use Rattle.zarrs_steps.specs.declared.call.Call.{Call}
 use Rattle.zarrs_steps.specs.declared.call.Reply.{Reply}
 use Rattle.zarrs_steps.specs.declared.call.Reply.TheVariants.{Done, Cells, MaybeCells, Refused}
 use Rattle.zarrs_steps.specs.State.{ArrayState}
 use Rattle.zarrs_steps.specs.Acts.{Act, store, erase, read, read_chunk, act_of}
-use Rattle.zarrs_steps.specs.ArgumentRefusals.{argument_refusal}
+use Rattle.zarrs_steps.specs.ArgumentRefusals.{argument_refusal, store_chunk_refusal}
 use Rattle.zarrs_steps.specs.Fronts.{Takes, StoresAll, ErasesAll, RefusesWrite}
 use Rattle.zarrs_steps.specs.Reads.{ReadsRegion}
 use Rattle.zarrs_steps.specs.StateRefusals.{RefusesPart, RefusesErasure, RefusesRegionRead, RefusesChunkRead}
@@ -26,6 +27,24 @@ RefusesStore layout keep first region held chunks r old new =
 abbrev pub RefusesErase : Layout → Option Refusal → List (List ℕ) → Refusal → StoreState → StoreState → Type 0
 RefusesErase layout first chunks r old new =
     RefusesWrite (λ indices. Erases layout indices old new) chunks (RefusesBy first r) (λ index failed. (first ≡ None) × RefusesErasure failed new r) old new
+
+-- an accepted store of one chunk, by one writing call
+abbrev pub StoresChunk : Layout → Bool → List ℕ → ArrayData → StoreState → StoreState → Type 0
+StoresChunk layout keep index held old new =
+    (store_chunk_refusal layout index held ≡ None) × StoresAll layout keep (box_at layout.grid index) held (index ∷ []) old new
+
+-- a refused one, which changes no value
+abbrev pub RefusesStoreChunk : Layout → Bool → List ℕ → ArrayData → Refusal → StoreState → StoreState → Type 0
+RefusesStoreChunk layout keep index held r old new =
+    RefusesStore layout keep (store_chunk_refusal layout index held) (box_at layout.grid index) held (index ∷ []) r old new
+
+-- an accepted erasure of one chunk, by one writing call
+abbrev pub ErasesChunk : Layout → List ℕ → StoreState → StoreState → Type 0
+ErasesChunk layout index old new = (length_refusal layout index ≡ None) × ErasesAll layout (index ∷ []) old new
+
+-- a refused one, which changes no value
+abbrev pub RefusesEraseChunk : Layout → List ℕ → Refusal → StoreState → StoreState → Type 0
+RefusesEraseChunk layout index r old new = RefusesErase layout (length_refusal layout index) (index ∷ []) r old new
 
 -- What an act does to the store, and what it answers, where this is the first refusal that its arguments decide.
 abbrev pub ActStep : Layout → Bool → Option Refusal → Act → Reply → StoreState → StoreState → Type 0

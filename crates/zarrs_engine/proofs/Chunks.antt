@@ -18,17 +18,17 @@ use Rattle.zarrs_data_type.specs.Cell.{Cell}
 use Rattle.zarrs_data_type.specs.ArrayData.{ArrayData}
 use Rattle.zarrs_data_type.specs.Cells.{cells, HasCells}
 use Rattle.zarrs_data_type.proofs.Cells.{HasCells-some}
-use Rattle.zarrs_engine.specs.declared.error.ArrayError.{ArrayError}
-use Rattle.zarrs_engine.specs.Layout.{Layout, IsLawful}
-use Rattle.zarrs_engine.specs.Content.{texts, decoded_cells}
-use Rattle.zarrs_engine.specs.Errors.{error_of_storage, error_of_codec}
-use Rattle.zarrs_engine.specs.Refusals as refusal
-use Rattle.zarrs_engine.specs.Refusals.{Refusal, refusal_of, refusal_of_storage, or_else, length_refusal, box_refusal, is_left_out, encoded_cells, encode_refusal, data_refusal, key_refusal, store_refusal, read_refusal, StoreFails, IsRefusal}
-use Rattle.zarrs_engine.specs.Changes.{Leaves, RetrievesChunk}
-use Rattle.zarrs_engine.specs.Step.{StoreRefused, EraseRefused, ReadRefused}
-use Rattle.zarrs_engine.specs.Puts.{RefusesIndices, TextRefused}
-use Rattle.zarrs_engine.proofs.Contents.{reads_decoded, reads_absent}
-use Rattle.zarrs_engine.proofs.RefusalLemmas.{refusal_moved, first_refusal, refused_first, refused_by_store, second_refusal, storage_said, leaves_for, leaves_all, box_accepted, no_chunk}
+use Rattle.zarrs_steps.specs.declared.error.ArrayError.{ArrayError}
+use Rattle.zarrs_steps.specs.Layout.{Layout, IsLawful}
+use Rattle.zarrs_steps.specs.Content.{value_at, decoded_cells}
+use Rattle.zarrs_steps.specs.Errors.{error_of_storage, error_of_codec}
+use Rattle.zarrs_steps.specs.Refusals as refusal
+use Rattle.zarrs_steps.specs.Refusals.{Refusal, refusal_of, refusal_of_storage, or_else, length_refusal, box_refusal, is_left_out, encoded_cells, encode_refusal, data_refusal, key_refusal, read_refusal, RefusesBy}
+use Rattle.zarrs_steps.specs.Changes.{RetrievesChunk, RetrievesIfExists}
+use Rattle.zarrs_steps.specs.StateRefusals.{RefusesChunkRead}
+use Rattle.zarrs_engine.specs.Parts.{RefusesIndices, RefusesValue}
+use Rattle.zarrs_steps.proofs.Contents.{reads_decoded, reads_absent}
+use Rattle.zarrs_steps.proofs.RefusalLemmas.{refusal_moved, first_refusal, refused_first, second_refusal, storage_said, box_accepted, no_chunk}
 
 -- what holds of each answer, by a fact that goes with any
 pub both_ok : {T E : Type 0} (r : Result T E) (P R : T → Type 0) (Q : Type 0) → ((x : T) → Q → P x → R x) → OnOk r Q → IfOk r P → IfOk r R
@@ -44,36 +44,21 @@ wrong_length layout index wrong =
     ]
 
 -- the indices of a chunk that is not there are refused
-pub refuses_chunk : (layout : Layout) (index : List ℕ) (e : ArrayError) → has_box layout.grid index ≡ false → RefusesIndices index e → IsRefusal (box_refusal layout index) ⊥ (refusal_of e)
-refuses_chunk layout index e none r = subst (λ o. IsRefusal o ⊥ (refusal_of e)) (sym (no_chunk layout index none)) r
+pub refuses_chunk : (layout : Layout) (index : List ℕ) (e : ArrayError) → has_box layout.grid index ≡ false → RefusesIndices index e → RefusesBy (box_refusal layout index) (refusal_of e)
+refuses_chunk layout index e none r = subst (λ o. RefusesBy o (refusal_of e)) (sym (no_chunk layout index none)) r
 
 other_length : (n d : ℕ) → n ≢ d → (n == d) ≡ false
 other_length n d apart = elim (cases_Bool (n == d)) [ inl is ↦ absurd (apart (exact_unsigned_eq n d is)) | inr is_not ↦ is_not ]
 
 -- and indices of another length
-pub refuses_length : (layout : Layout) (index : List ℕ) (p : Type 0) (e : ArrayError) → length index ≢ layout.grid.dimensions → RefusesIndices index e → IsRefusal (length_refusal layout index) p (refusal_of e)
-refuses_length layout index p e wrong r =
-    let other : (length index == layout.grid.dimensions) ≡ false = other_length (length index) layout.grid.dimensions wrong in
-    let said : length_refusal layout index ≡ Some (refusal.indices index) = ap (λ b. cond b None (Some (refusal.indices index))) other in
-    subst (λ o. IsRefusal o p (refusal_of e)) (sym said) (refusal_moved (Some (refusal.indices index)) (Some (refusal.indices index)) ⊥ p (refusal_of e) (λ x h. h) (λ h. absurd h) r)
+pub wrong_length_said : (layout : Layout) (index : List ℕ) → length index ≢ layout.grid.dimensions → length_refusal layout index ≡ Some (refusal.indices index)
+wrong_length_said layout index wrong = ap (λ b. cond b None (Some (refusal.indices index))) (other_length (length index) layout.grid.dimensions wrong)
+
+pub refuses_length : (layout : Layout) (index : List ℕ) (e : ArrayError) → length index ≢ layout.grid.dimensions → RefusesIndices index e → RefusesBy (length_refusal layout index) (refusal_of e)
+refuses_length layout index e wrong r = subst (λ o. RefusesBy o (refusal_of e)) (sym (wrong_length_said layout index wrong)) r
 
 pub right_length : (layout : Layout) (index : List ℕ) → length index ≡ layout.grid.dimensions → length_refusal layout index ≡ None
 right_length layout index long = ap (λ b. cond b None (Some (refusal.indices index))) (eq-eqb _ _ long)
-
--- a store that was refused by the arguments, or for want of memory
-pub store_refused : (layout : Layout) (keep : Bool) (index : List ℕ) (held : ArrayData) (state : StoreState) (r : Refusal) → IsRefusal (store_refusal layout keep index held) ⊥ r → StoreRefused layout keep index held state state r
-store_refused layout keep index held state r why = leaves_all _ state (refusal_moved _ _ ⊥ _ r (λ x h. h) (λ h. absurd h) why)
-
--- a store whose writing call was refused
-pub store_failed : (layout : Layout) (keep : Bool) (index : List ℕ) (held : ArrayData) (old new : StoreState) (s : StorageError) → store_refusal layout keep index held ≡ None → Leaves (IsRefusal None (StoreFails old new) (refusal_of_storage s)) old new → StoreRefused layout keep index held old new (refusal_of (error_of_storage s))
-store_failed layout keep index held old new s none l =
-    leaves_for _ _ old new
-    (λ why. subst (IsRefusal (store_refusal layout keep index held) ((store_refusal layout keep index held ≡ None) × StoreFails old new)) (sym (storage_said s))
-    (refused_by_store (store_refusal layout keep index held) (StoreFails old new) _ (refusal_of_storage s) (λ fails. (none, fails)) why)) l
-
-pub erase_failed : (layout : Layout) (index : List ℕ) (old new : StoreState) (r : Refusal) → length_refusal layout index ≡ None → Leaves (IsRefusal None (StoreFails old new) r) old new → EraseRefused layout index old new r
-erase_failed layout index old new r none l =
-    leaves_for _ _ old new (refused_by_store (length_refusal layout index) (StoreFails old new) _ r (λ fails. (none, fails))) l
 
 -- data that is not the cells of a chunk of this shape
 pub data_unfit : (layout : Layout) (keep : Bool) (shape : List ℕ) (held : ArrayData) → (HasCells layout.kind held (position_count shape) → ⊥) → data_refusal layout keep shape (cells layout.kind held) ≡ Some refusal.codec
@@ -100,14 +85,14 @@ pub kept_refusal : (layout : Layout) (keep : Bool) (shape : List ℕ) (held : Ar
 kept_refusal layout keep shape held cs at long kept =
     data_counted layout keep shape held cs at long ∙ ap (λ b. cond b None (encode_refusal layout keep shape cs)) kept
 
--- the text of a chunk's data is that of its cells
-pub chunk_text_is : (chain : ChainMeaning) (keep : Bool) (kind : Kind) (fill : Cell) (shape : List ℕ) (held : ArrayData) (cs : List Cell) → cells kind held ≡ Some cs → length cs ≡ position_count shape → chunk_encoding chain keep kind fill shape held ≡ chain.encoded keep kind fill shape cs
-chunk_text_is chain keep kind fill shape held cs at long =
+-- the encoding of a chunk's data is that of its cells
+pub chunk_encoding_is : (chain : ChainMeaning) (keep : Bool) (kind : Kind) (fill : Cell) (shape : List ℕ) (held : ArrayData) (cs : List Cell) → cells kind held ≡ Some cs → length cs ≡ position_count shape → chunk_encoding chain keep kind fill shape held ≡ chain.encoded keep kind fill shape cs
+chunk_encoding_is chain keep kind fill shape held cs at long =
     ap (λ o. elim o [ None ↦ None | Some found ↦ cond (length found == position_count shape) (chain.encoded keep kind fill shape found) None ]) at
     ∙ ap (λ b. cond b (chain.encoded keep kind fill shape cs) None) (eq-eqb _ _ long)
 
-pub encode_accepted : (layout : Layout) (keep : Bool) (shape : List ℕ) (cs : List Cell) (text : List ℕ) → encoded_cells layout keep shape cs ≡ Some text → encode_refusal layout keep shape cs ≡ None
-encode_accepted layout keep shape cs text at =
+pub encode_accepted : (layout : Layout) (keep : Bool) (shape : List ℕ) (cs : List Cell) (encoded : List ℕ) → encoded_cells layout keep shape cs ≡ Some encoded → encode_refusal layout keep shape cs ≡ None
+encode_accepted layout keep shape cs encoded at =
     ap (λ o. cond (is_some o) None (cond (layout.chain.fits layout.kind shape) (Some refusal.size_overflow) (Some refusal.codec))) at
 
 encode_none : (layout : Layout) (keep : Bool) (shape : List ℕ) (cs : List Cell) → encoded_cells layout keep shape cs ≡ None → encode_refusal layout keep shape cs ≡ cond (layout.chain.fits layout.kind shape) (Some refusal.size_overflow) (Some refusal.codec)
@@ -116,26 +101,26 @@ encode_none layout keep shape cs at =
 
 -- what the chain refuses
 pub encode_refused : (layout : Layout) → IsLawfulChain layout.chain → (keep : Bool) (shape : List ℕ) (held : ArrayData) (cs : List Cell) (e : CodecError) → cells layout.kind held ≡ Some cs → length cs ≡ position_count shape
-    → RefusesChunkEncoding layout.chain keep layout.kind layout.fill shape held e → IsRefusal (encode_refusal layout keep shape cs) ⊥ (refusal_of (error_of_codec e))
+    → RefusesChunkEncoding layout.chain keep layout.kind layout.fill shape held e → RefusesBy (encode_refusal layout keep shape cs) (refusal_of (error_of_codec e))
 encode_refused layout lawful keep shape held cs coded.DoesNotFit at long unfit =
     encode_none layout keep shape cs (lawful.unfit keep layout.kind layout.fill shape cs unfit)
     ∙ ap (λ b. cond b (Some refusal.size_overflow) (Some refusal.codec)) unfit
 encode_refused layout lawful keep shape held cs coded.SizeOverflow at long h =
-    encode_none layout keep shape cs (sym (chunk_text_is layout.chain keep layout.kind layout.fill shape held cs at long) ∙ h.1)
+    encode_none layout keep shape cs (sym (chunk_encoding_is layout.chain keep layout.kind layout.fill shape held cs at long) ∙ h.1)
     ∙ ap (λ b. cond b (Some refusal.size_overflow) (Some refusal.codec)) h.0
 encode_refused layout lawful keep shape held cs coded.OutOfMemory at long h = tt
 
--- what bytes that stand are refused for
-pub text_accepted : (layout : Layout) (needed : Bool) (index text : List ℕ) (cs : List Cell) → box_refusal layout index ≡ None → decoded_cells layout (box_at layout.grid index) text ≡ Some cs → read_refusal layout needed index (Some text) ≡ None
-text_accepted layout needed index text cs none at =
+-- what bytes that are present are refused for
+pub value_accepted : (layout : Layout) (needed : Bool) (index encoded : List ℕ) (cs : List Cell) → box_refusal layout index ≡ None → decoded_cells layout (box_at layout.grid index) encoded ≡ Some cs → read_refusal layout needed index (Some encoded) ≡ None
+value_accepted layout needed index encoded cs none at =
     second_refusal (box_refusal layout index) _ none ∙ ap (λ o. cond (is_some o) None (Some refusal.codec)) at
 
-pub decode_refused : (layout : Layout) (needed : Bool) (index text : List ℕ) (e : CodecError) → box_refusal layout index ≡ None
-    → RefusesChunkDecoding layout.chain layout.kind layout.fill (box_at layout.grid index).shape text e → IsRefusal (read_refusal layout needed index (Some text)) ⊥ (refusal_of (error_of_codec e))
-decode_refused layout needed index text coded.DoesNotFit none undecoded =
+pub decode_refused : (layout : Layout) (needed : Bool) (index encoded : List ℕ) (e : CodecError) → box_refusal layout index ≡ None
+    → RefusesChunkDecoding layout.chain layout.kind layout.fill (box_at layout.grid index).shape encoded e → RefusesBy (read_refusal layout needed index (Some encoded)) (refusal_of (error_of_codec e))
+decode_refused layout needed index encoded coded.DoesNotFit none undecoded =
     second_refusal (box_refusal layout index) _ none ∙ ap (λ o. cond (is_some o) None (Some refusal.codec)) undecoded
-decode_refused layout needed index text coded.SizeOverflow none h = absurd h
-decode_refused layout needed index text coded.OutOfMemory none h = tt
+decode_refused layout needed index encoded coded.SizeOverflow none h = absurd h
+decode_refused layout needed index encoded coded.OutOfMemory none h = tt
 
 -- the first of two refusals is the first of three
 or_else_more : (a b c : Option Refusal) (x : Refusal) → or_else a b ≡ Some x → or_else a (or_else b c) ≡ Some x
@@ -151,41 +136,40 @@ key_accepted layout index state open_key =
     ]
 
 -- the bytes of a chunk are refused for the length of the index list
-pub text_refused_length : (layout : Layout) (index : List ℕ) (state : StoreState) (e : ArrayError) → length index ≢ layout.grid.dimensions → RefusesIndices index e → TextRefused layout index state (refusal_of e)
-text_refused_length layout index state e wrong r =
-    refused_first (length_refusal layout index) (key_refusal layout index state) ⊥ _ (refusal_of e) (λ x. absurd x) (refuses_length layout index ⊥ e wrong r)
+pub value_refused_length : (layout : Layout) (index : List ℕ) (state : StoreState) (e : ArrayError) → length index ≢ layout.grid.dimensions → RefusesIndices index e → RefusesValue layout index state (refusal_of e)
+value_refused_length layout index state e wrong r =
+    refused_first (length_refusal layout index) (key_refusal layout index state) (refusal_of e) (refuses_length layout index e wrong r)
 
--- what the store says is the refusal of the key, or want of memory
-text_refused_said : (first : Option Refusal) (e : StorageError) → first ≡ Some refusal.storage → IsRefusal first (first ≡ Some refusal.storage) (refusal_of (error_of_storage e))
-text_refused_said first (stored.InvalidMetadata key text) h = h
-text_refused_said first stored.ReadOnly h = h
-text_refused_said first stored.InvalidByteRange h = h
-text_refused_said first stored.Exhausted h = h
-text_refused_said first (stored.Other text) h = h
-text_refused_said first stored.OutOfMemory h = tt
+-- what the store says is the refusal of the key, or memory was short
+value_refused_said : (first : Option Refusal) (e : StorageError) → first ≡ Some refusal.storage → RefusesBy first (refusal_of (error_of_storage e))
+value_refused_said first (stored.InvalidMetadata key encoded) h = h
+value_refused_said first stored.ReadOnly h = h
+value_refused_said first stored.InvalidByteRange h = h
+value_refused_said first stored.Exhausted h = h
+value_refused_said first (stored.Other encoded) h = h
+value_refused_said first stored.OutOfMemory h = tt
 
 -- or by the store
-pub text_refused_store : (layout : Layout) (index key : List ℕ) (state : StoreState) (e : StorageError) → length index ≡ layout.grid.dimensions → key ≡ layout.key index → RefusesRead state key e → TextRefused layout index state (refusal_of (error_of_storage e))
-text_refused_store layout index key state e long is (inl memory) = rw memory tt
-text_refused_store layout index key state e long is (inr refuses) =
-    text_refused_said _ e
+pub value_refused_store : (layout : Layout) (index key : List ℕ) (state : StoreState) (e : StorageError) → length index ≡ layout.grid.dimensions → key ≡ layout.key index → RefusesRead state key e → RefusesValue layout index state (refusal_of (error_of_storage e))
+value_refused_store layout index key state e long is (inl memory) = rw memory tt
+value_refused_store layout index key state e long is (inr refuses) =
+    value_refused_said _ e
     (second_refusal (length_refusal layout index) _ (right_length layout index long)
     ∙ ap (λ b. cond b (Some refusal.storage) None) (ap state.refuses (sym is) ∙ refuses))
 
 -- a read that was refused before the bytes came
-pub read_refused_first : (layout : Layout) (needed : Bool) (index : List ℕ) (state : StoreState) (r : Refusal) → TextRefused layout index state r → ReadRefused layout needed index state r
+pub read_refused_first : (layout : Layout) (needed : Bool) (index : List ℕ) (state : StoreState) (r : Refusal) → RefusesValue layout index state r → RefusesChunkRead layout (length_refusal layout index) needed index state r
 read_refused_first layout needed index state r h =
-    let more = or_else_more (length_refusal layout index) (key_refusal layout index state) (read_refusal layout needed index (texts state (layout.key index))) in
-    refusal_moved _ _ _ _ r more (more refusal.storage) h
+    let more = or_else_more (length_refusal layout index) (key_refusal layout index state) (read_refusal layout needed index (value_at state (layout.key index))) in
+    refusal_moved (or_else (length_refusal layout index) (key_refusal layout index state)) _ r more h
 
 -- and after
-pub read_refused_then : (layout : Layout) (needed : Bool) (index : List ℕ) (found : Option (List ℕ)) (state : StoreState) (r : Refusal) → length index ≡ layout.grid.dimensions → key_refusal layout index state ≡ None → found ≡ texts state (layout.key index)
-    → IsRefusal (read_refusal layout needed index found) ⊥ r → ReadRefused layout needed index state r
+pub read_refused_then : (layout : Layout) (needed : Bool) (index : List ℕ) (found : Option (List ℕ)) (state : StoreState) (r : Refusal) → length index ≡ layout.grid.dimensions → key_refusal layout index state ≡ None → found ≡ value_at state (layout.key index)
+    → RefusesBy (read_refusal layout needed index found) r → RefusesChunkRead layout (length_refusal layout index) needed index state r
 read_refused_then layout needed index found state r long open_key at h =
-    refusal_moved _ _ ⊥ _ r
+    refusal_moved (read_refusal layout needed index (value_at state (layout.key index))) _ r
     (λ x is. second_refusal (length_refusal layout index) _ (right_length layout index long) ∙ second_refusal (key_refusal layout index state) _ open_key ∙ is)
-    (λ x. absurd x)
-    (subst (λ (o : Option (List ℕ)). IsRefusal (read_refusal layout needed index o) ⊥ r) at h)
+    (subst (λ (o : Option (List ℕ)). RefusesBy (read_refusal layout needed index o) r) at h)
 
 first_none : (a b : Option Refusal) → or_else a b ≡ None → a ≡ None
 first_none None b h = refl
@@ -196,27 +180,35 @@ decoded_some None h = absurd (cc)
 decoded_some (Some cs) h = (cs, refl)
 
 module _ (layout : Layout) (lawful : IsLawful layout) (index : List ℕ) (held : ArrayData) (state : StoreState) where
-  -- a chunk that stands was read
-  pub retrieved : (text : List ℕ) → Some text ≡ texts state (layout.key index) → read_refusal layout true index (Some text) ≡ None → cells layout.kind held ≡ decoded_cells layout (box_at layout.grid index) text → RetrievesChunk layout index held state
-  retrieved text at none is =
+  -- a chunk that is present was read
+  pub retrieved : (encoded : List ℕ) → Some encoded ≡ value_at state (layout.key index) → read_refusal layout true index (Some encoded) ≡ None → cells layout.kind held ≡ decoded_cells layout (box_at layout.grid index) encoded → RetrievesChunk layout index held state
+  retrieved encoded at none is =
       let box = box_at layout.grid index in
       let boxed = first_none (box_refusal layout index) _ none in
       let has = (box_accepted layout index boxed).0 in
-      let decodes = decoded_some (decoded_cells layout box text) (sym (second_refusal (box_refusal layout index) _ boxed) ∙ none) in
+      let decodes = decoded_some (decoded_cells layout box encoded) (sym (second_refusal (box_refusal layout index) _ boxed) ∙ none) in
       record {
         has_box = has;
         chunk = decodes.0;
         is_chunk = is ∙ decodes.1;
-        reads = reads_decoded layout (texts state) lawful index has text decodes.0 (sym at) decodes.1;
+        reads = reads_decoded layout (value_at state) lawful index has encoded decodes.0 (sym at) decodes.1;
       }
 
   -- an absent chunk was read
-  pub retrieved_fill : None ≡ texts state (layout.key index) → read_refusal layout true index None ≡ None → cells layout.kind held ≡ Some (replicate (position_count (box_at layout.grid index).shape) layout.fill) → RetrievesChunk layout index held state
+  pub retrieved_fill : None ≡ value_at state (layout.key index) → read_refusal layout true index None ≡ None → cells layout.kind held ≡ Some (replicate (position_count (box_at layout.grid index).shape) layout.fill) → RetrievesChunk layout index held state
   retrieved_fill at none is =
       let has = (box_accepted layout index (first_none (box_refusal layout index) _ none)).0 in
       record {
         has_box = has;
         chunk = replicate (position_count (box_at layout.grid index).shape) layout.fill;
         is_chunk = is;
-        reads = reads_absent layout (texts state) lawful index has (sym at);
+        reads = reads_absent layout (value_at state) lawful index has (sym at);
       }
+
+-- what a read of one chunk found, it found at an index list of the right length
+pub retrieved_length : (layout : Layout) (index : List ℕ) (held : ArrayData) (state : StoreState) → RetrievesChunk layout index held state → length_refusal layout index ≡ None
+retrieved_length layout index held state r = right_length layout index (box_is_there layout.grid index r.has_box).long
+
+pub found_length : (layout : Layout) (index : List ℕ) (found : Option ArrayData) (state : StoreState) → RetrievesIfExists layout index found state → length_refusal layout index ≡ None
+found_length layout index None state r = right_length layout index r.0
+found_length layout index (Some held) state r = retrieved_length layout index held state r.0
