@@ -5,7 +5,7 @@ use Rattle.zarrs_steps.specs.Layout.{Layout}
 use Rattle.zarrs_steps.specs.declared.call.Call.{Call}
 use Rattle.zarrs_steps.specs.declared.call.Reply.{Reply}
 use Rattle.zarrs_steps.specs.State.{ArrayState}
-use Rattle.zarrs_steps.specs.Reach.{Reach, MayAskCalls}
+use Rattle.zarrs_steps.specs.Reach.{Reach, MayAskCall}
 use Rattle.zarrs_steps.specs.Step.{Step, Run}
 use Rattle.zarrs_steps.proofs.Steps.{step_reach}
 
@@ -16,19 +16,11 @@ run_push layout keep (c ∷ cs) (p ∷ ps) call reply old mid new r s = (r.0, r.
 run_push layout keep [] (p ∷ ps) call reply old mid new r s = absurd r
 run_push layout keep (c ∷ cs) [] call reply old mid new r s = absurd r
 
--- what the calls may ask still may be asked
-ask_after : (layout : Layout) (calls : List Call) (old new : ArrayState) → new.shape ≡ old.shape → KeepsReach old.store new.store → MayAskCalls layout calls old → MayAskCalls layout calls new
-ask_after layout [] old new shape reach may = tt
-ask_after layout (call ∷ calls) old new shape reach may = (
-  λ index r long.
-      let m = may.0 index (subst (λ s. Reach layout s call index) shape r) long in
-      record { key = reach.may_ask (layout.key index) ∙ m.key; places = λ place. reach.may_read (layout.key index) place ∙ m.places place },
-  ask_after layout calls old new shape reach may.1,
-)
-
--- so the loop of a replay asks of the calls that are left what its caller gave for all
-pub ask_then : (layout : Layout) (keep : Bool) (call : Call) (calls : List Call) (reply : Reply) (old new : ArrayState) → Step layout keep call reply old new → MayAskCalls layout (call ∷ calls) old → MayAskCalls layout calls new
-ask_then layout keep call calls reply old new s may = ask_after layout calls old new s.0 (step_reach layout keep call reply old new s) may.1
+-- what a call may ask still may be asked
+pub ask_later : (layout : Layout) (call : Call) (old new : ArrayState) → new.shape ≡ old.shape → KeepsReach old.store new.store → MayAskCall layout call old → MayAskCall layout call new
+ask_later layout call old new shape reach may = λ index r long.
+    let m = may index (subst (λ s. Reach layout s call index) shape r) long in
+    record { key = reach.may_ask (layout.key index) ∙ m.key; places = λ place. reach.may_read (layout.key index) place ∙ m.places place }
 
 pub reach_then : (old mid new : StoreState) → KeepsReach old mid → KeepsReach mid new → KeepsReach old new
 reach_then old mid new a b = record { may_ask = λ key. b.may_ask key ∙ a.may_ask key; may_read = λ key place. b.may_read key place ∙ a.may_read key place; sets_parts = b.sets_parts ∙ a.sets_parts; lenders = b.lenders ∙ a.lenders }

@@ -1,5 +1,5 @@
 -- The keys that a call may ask.
-use Rattle.std.specs.Prelude.{◌≡◌, ℕ, true, List, [], ◌∷◌}
+use Rattle.std.specs.Prelude.{◌≡◌, ℕ, true, List, Contains}
 use Rattle.zarrs_keys.specs.Keys.{IsIndexList}
 use Rattle.zarrs_storage.specs.Store.{StoreState, MayReadWhole}
 use Rattle.zarrs_steps.specs.Layout.{Layout}
@@ -26,8 +26,7 @@ MayAskCall layout call state = (index : List ℕ) → Reach layout state.shape c
 
 -- and so for each of these calls
 abbrev pub MayAskCalls : Layout → List Call → ArrayState → Type 0
-MayAskCalls layout [] state = Unit {0}
-MayAskCalls layout (call ∷ calls) state = MayAskCall layout call state × MayAskCalls layout calls state
+MayAskCalls layout calls state = (call : Call) → Contains calls call → MayAskCall layout call state
 
 -- the key of the chunk and each place of its value may be asked; an index list of another length names no key
 pub record MayAskChunk (layout : Layout) (index : List ℕ) (state : StoreState) : Type 0 where

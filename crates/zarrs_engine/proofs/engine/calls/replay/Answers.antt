@@ -1,29 +1,22 @@
-use Rattle.std.proofs.Common.{◌≡◌, ◌+◌, Bool, [], ◌∷◌, ◌++◌, take, drop, sym, ◌∙◌, ap, subst, arith, get_or, ℕ, List, length, suc, ◌<◌}
+use Rattle.std.proofs.Common.{◌≡◌, ◌+◌, Bool, [], ◌∷◌, ◌++◌, take, sym, ◌∙◌, ap, subst, arith}
 use Rattle.std.proofs.lemmas.List.{take_more}
-use Rattle.std.proofs.Math.Seq.{drop-cons}
 use Rattle.zarrs_codec.specs.Options.{stores_empty_chunks}
 use Rattle.zarrs_steps.specs.Layout.{Layout}
-use Rattle.zarrs_steps.specs.Reach.{MayAskCalls, MayAskCall}
+use Rattle.zarrs_steps.specs.Reach.{MayAskCall}
 use Rattle.zarrs_steps.specs.Step.{Step, Run}
 use Rattle.zarrs_steps.proofs.Steps.{run_keeps, run_decodes, step_reach}
-use Rattle.zarrs_steps.proofs.Runs.{run_push, ask_then, reach_then}
+use Rattle.zarrs_steps.proofs.Runs.{run_push, ask_later, reach_then}
 use Rattle.zarrs_engine.specs.Engine.{layout_of, state_of}
 use Rattle.zarrs_engine.proofs.engine.calls.replay.Goals as goal
-
-cut_at : {A : Type 0} (xs : List A) (n : ℕ) (x : A) → n < length xs → x ≡ get_or xs n x → drop n xs ≡ x ∷ drop (n + 1) xs
-cut_at xs n x below is =
-    let next : suc n ≡ n + 1 = omega arith in
-    drop-cons xs n x below ∙ ap (λ y. y ∷ drop (suc n) xs) (sym is) ∙ ap (λ k. x ∷ drop k xs) next
 
 pub answer-reply-requires : goal.answer-reply-requires
 answer-reply-requires g c =
     let i = c.loop-call.invariant in
-    let calls = c.args.calls.now in
-    let n = c.loop-call.call-index in
+    let old = state_of g.S.ReadableStorageTraits.state c.args.engine.now in
     let mid = state_of g.S.ReadableStorageTraits.state c.loop-call.engine in
-    let cut : drop n calls ≡ c.call-item.result ∷ drop (n + 1) calls = cut_at calls n c.call-item.result c.loop-call-test.true c.call-item.is in
-    let asked = subst (λ cs. MayAskCalls (layout_of c.args.engine.now) cs mid) cut i.may_ask in
-    subst (λ (layout : Layout). MayAskCall layout c.call-item.result mid) (sym i.layout) asked.0
+    let call = c.call-item.result in
+    let asked = ask_later (layout_of c.args.engine.now) call old mid i.shape i.reach (c.requires call (c.loop-call.call-index, c.loop-call-test.true, sym c.call-item.is)) in
+    subst (λ (layout : Layout). MayAskCall layout call mid) (sym i.layout) asked
 
 pub loop-call-preserved : goal.loop-call-preserved
 loop-call-preserved g c =
@@ -39,14 +32,12 @@ loop-call-preserved g c =
     let new = state_of g.S.ReadableStorageTraits.state c.answer-reply.new.self in
     let call = c.call-item.result in
     let more : take (n + 1) calls ≡ take n calls ++ call ∷ [] = take_more calls n call c.loop-call-test.true ∙ ap (λ x. take n calls ++ x ∷ []) (sym c.call-item.is) in
-    let cut : drop n calls ≡ call ∷ drop (n + 1) calls = cut_at calls n call c.loop-call-test.true c.call-item.is in
-    let asked = subst (λ cs. MayAskCalls layout cs mid) cut i.may_ask in
     let step = subst (λ (layout : Layout). Step layout keep call c.answer-reply.result mid new) i.layout s.step in
     record {
       run = rw (more, p.items) (run_push layout keep _ _ call c.answer-reply.result old mid new i.run step);
       layout = s.layout ∙ i.layout;
       reach = reach_then old.store mid.store new.store i.reach (step_reach layout keep _ _ mid new step);
-      may_ask = ask_then layout keep call (drop (n + 1) calls) c.answer-reply.result mid new step asked;
+      shape = step.0 ∙ i.shape;
       count = omega arith;
       room = omega arith;
     }
