@@ -28,7 +28,7 @@ use Rattle.zarrs_steps.specs.Changes.{RetrievesChunk, RetrievesIfExists}
 use Rattle.zarrs_steps.specs.StateRefusals.{RefusesChunkRead}
 use Rattle.zarrs_engine.specs.Parts.{RefusesIndices, RefusesValue}
 use Rattle.zarrs_steps.proofs.Contents.{reads_decoded, reads_absent}
-use Rattle.zarrs_steps.proofs.RefusalLemmas.{refusal_moved, first_refusal, refused_first, second_refusal, storage_said, box_accepted, no_chunk}
+use Rattle.zarrs_steps.proofs.RefusalLemmas.{refusal_moved, first_refusal, refused_first, second_refusal, box_accepted, no_chunk}
 
 -- what holds of each answer, by a fact that goes with any
 pub both_ok : {T E : Type 0} (r : Result T E) (P R : T → Type 0) (Q : Type 0) → ((x : T) → Q → P x → R x) → OnOk r Q → IfOk r P → IfOk r R

@@ -1,5 +1,5 @@
 -- One writing call of the store.
-use Rattle.std.proofs.Common.{Result, Ok, Err, IfErr, OnErr, ◌≡◌, ◌≢◌, bytes_eq, ℕ, ◌<◌, ◌==◌, true, false, cond, List, Option, Some, None, refl, sym, ◌∙◌, ap, subst, arith, inl, inr, ◌⊎◌, eqb}
+use Rattle.std.proofs.Common.{Result, Ok, Err, IfErr, OnErr, ◌≡◌, ◌≢◌, bytes_eq, ℕ, ◌==◌, true, false, cond, List, Some, None, refl, sym, ◌∙◌, ap, arith, inl, inr, ◌⊎◌}
 use Rattle.std.specs.FinMap as map
 use Rattle.std.proofs.lemmas.Slice.Eq.{bytes_eq-Decides}
 use Rattle.std.proofs.lemmas.Bool.{cases_Bool, eqb-true, eq-eqb}

@@ -1,12 +1,12 @@
 -- Writes of one chunk, from what their parts leave.
-use Rattle.std.proofs.Common.{◌≡◌, ◌≢◌, ◌⊎◌, ◌+◌, ◌<◌, ◌≤◌, ◌==◌, not, ℕ, Bool, true, false, cond, List, [], ◌∷◌, length, take, is_some, Option, Some, None, Contains, refl, sym, ◌∙◌, ap, subst, inl, inr, arith}
+use Rattle.std.proofs.Common.{◌≡◌, ◌≢◌, ◌⊎◌, ◌==◌, not, ℕ, Bool, true, false, cond, List, [], ◌∷◌, length, is_some, Option, Some, None, Contains, refl, sym, ◌∙◌, ap, subst, inl, inr, arith}
 use Rattle.std.proofs.lemmas.Bool.{cases_Bool, eq-eqb, eqb-true}
 use Rattle.zarrs_subset.specs.Boxes.{position_count}
 use Rattle.zarrs_subset.specs.Regions.{Box, Holds, cell_in}
-use Rattle.zarrs_chunk_grid.specs.Grids.{box_at, index_at, has_box, is_covered}
+use Rattle.zarrs_chunk_grid.specs.Grids.{box_at, index_at, is_covered}
 use Rattle.zarrs_chunk_grid.proofs.Chunks.{box_is_there, box_index, box_covered}
 use Rattle.zarrs_keys.specs.Keys.{IsIndexList}
-use Rattle.zarrs_storage.specs.Store.{StoreState, last_call}
+use Rattle.zarrs_storage.specs.Store.{StoreState}
 use Rattle.zarrs_data_type.specs.Cell.{Cell}
 use Rattle.zarrs_data_type.specs.ArrayData.{ArrayData}
 use Rattle.zarrs_data_type.specs.Cells.{cells}
@@ -17,12 +17,12 @@ use Rattle.zarrs_steps.specs.Refusals as refusal
 use Rattle.zarrs_steps.specs.Refusals.{Refusal, RefusesBy, or_else, length_refusal, box_refusal, is_too_large, is_left_out, encoded_cells, encode_refusal, data_refusal}
 use Rattle.zarrs_steps.specs.ArgumentRefusals.{store_chunk_refusal, cells_refusal, count_refusal}
 use Rattle.zarrs_steps.specs.Changes.{Makes, IsPut, Erases, ChangesKeysOf}
-use Rattle.zarrs_steps.specs.StateRefusals.{AreUpdated, RefusesPart, RefusesErasure, IsRefusedAs, CallFails}
+use Rattle.zarrs_steps.specs.StateRefusals.{AreUpdated, RefusesPart, RefusesErasure, IsRefusedAs}
 use Rattle.zarrs_steps.specs.Fronts.{Front, RefusesWrite, Takes}
 use Rattle.zarrs_steps.specs.Step.{StoresChunk, RefusesStoreChunk, ErasesChunk, RefusesEraseChunk}
 use Rattle.zarrs_steps.proofs.Contents.{content_covered, content_uncovered, covered_has_box, index_list, one_key, only_member, member}
-use Rattle.zarrs_steps.proofs.RefusalLemmas.{memory_or_said, refuses_said, refusal_moved, second_refusal, box_accepted, makes_none}
-use Rattle.zarrs_steps.proofs.Loops.{stored_part, store_front, stores_all, erases_all, stores_none}
+use Rattle.zarrs_steps.proofs.RefusalLemmas.{memory_or_said, refusal_moved, second_refusal, box_accepted, makes_none}
+use Rattle.zarrs_steps.proofs.Loops.{stored_part, stores_all, erases_all}
 use Rattle.zarrs_engine.specs.Parts.{HasValue, RefusesPut}
 use Rattle.zarrs_engine.proofs.Chunks.{right_length}
 
@@ -204,11 +204,10 @@ stored_chunk layout lawful keep index held key value old new boxed key_is h put 
       changes = λ some. record { given = h.chunk; are_cells = h.is_chunk; count = h.count; stores = stores };
       makes = put.makes;
     } in
-    let takes : Takes layout keep box held (index ∷ []) old new = record { given = h.chunk; are_cells = h.is_chunk; count = h.count; stores = stores } in
-    (
+    let takes : Takes layout keep box held (index ∷ []) old new = record { given = h.chunk; are_cells = h.is_chunk; count = h.count; stores = stores } in (
       first_none layout keep index held boxed h.chunk h.is_chunk h.count,
       stores_all layout keep box held (index ∷ []) old new takes
-      (λ position holds. subst (Contains (index ∷ [])) (sym (box_index layout.grid lawful.grid index position there holds)) (member index)) front,
+          (λ position holds. subst (Contains (index ∷ [])) (sym (box_index layout.grid lawful.grid index position there holds)) (member index)) front,
     )
 
 -- ---- an erasure of one chunk

@@ -1,7 +1,6 @@
 -- What clauses show of an engine.
 use Rattle.std.specs.Prelude.{◌≡◌, ℕ, List}
 use Rattle.zarrs_storage.specs.Store.{StoreState}
-use Rattle.zarrs_storage.specs.declared.traits.ReadableStorageTraits.{Ghosts as StoreMeaning}
 use Rattle.zarrs_chunk_grid.specs.declared.traits.ChunkGridTraits.{Ghosts as GridMeaning}
 use Rattle.zarrs_keys.specs.declared.traits.ChunkKeyEncodingTraits.{Ghosts as KeyMeaning}
 use Rattle.zarrs_codec.specs.declared.traits.ChainTraits.{Ghosts as ChainMeanings}

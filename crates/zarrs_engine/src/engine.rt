@@ -3,9 +3,8 @@ mod calls;
 mod reads;
 mod writes;
 
-pub use calls::replay;
-
 use crate::parts::Parts;
+pub use calls::replay;
 use zarrs_chunk_grid::ChunkGridTraits;
 use zarrs_codec::ChainTraits;
 use zarrs_data_type::{DataType, FillValue};

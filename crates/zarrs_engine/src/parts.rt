@@ -50,7 +50,11 @@ impl<G: ChunkGridTraits, K: ChunkKeyEncodingTraits, C: ChainTraits> Parts<G, K, 
     ghost use Rattle.zarrs_engine.specs.Parts.{HasValue};
 
     /// The key of the chunk with these indices.
-    pub(crate) fn chunk_key(&self, alloc: Global, chunk_indices: &[u64]) -> Result<StoreKey, StorageError>
+    pub(crate) fn chunk_key(
+        &self,
+        alloc: Global,
+        chunk_indices: &[u64],
+    ) -> Result<StoreKey, StorageError>
         ensures key { IfOk result (λ key. key ≡ (layout_of_parts self.now).key chunk_indices.now) }
         ensures accepted { IsOkUnless result StorageError.OutOfMemory }
     {
@@ -124,7 +128,9 @@ impl<G: ChunkGridTraits, K: ChunkKeyEncodingTraits, C: ChainTraits> Parts<G, K, 
         if !chunk_data.validate(&self.data_type, chunk.count) {
             return Err(ArrayError::CodecError(CodecError::DoesNotFit));
         }
-        if !options.store_empty_chunks() && chunk_data.is_fill_value(&self.data_type, &self.fill_value) {
+        if !options.store_empty_chunks()
+            && chunk_data.is_fill_value(&self.data_type, &self.fill_value)
+        {
             return Ok(None);
         }
         let shape = chunk.region.shape();

@@ -1,7 +1,6 @@
 -- The laws of canonical stores and of chunks that decode.
-use Rattle.std.proofs.Common.{◌≡◌, ℕ, suc, ◌<◌, Bool, true, false, ◌&&◌, List, [], ◌∷◌, length, get_or, Option, Some, None, slice_get, Contains, refl, sym, ◌∙◌, ap, subst, inl, inr, arith}
+use Rattle.std.proofs.Common.{◌≡◌, ℕ, suc, ◌<◌, true, false, ◌&&◌, List, [], ◌∷◌, length, get_or, Option, Some, None, slice_get, refl, sym, ◌∙◌, ap, subst, inl, inr, arith}
 use Rattle.std.specs.List.{list_all}
-use Rattle.std.specs.FinMap as map
 use Rattle.std.proofs.lemmas.Bool.{cases_Bool}
 use Rattle.std.proofs.lemmas.List.{same_lists}
 use Rattle.std.proofs.lemmas.Option.{slice_get-get_or, slice_get_within}
@@ -9,20 +8,16 @@ use Rattle.zarrs_subset.specs.Boxes.{position_count, place, unravel, offset_by}
 use Rattle.zarrs_subset.specs.Regions.{Box, IsLong, Holds, place_in}
 use Rattle.zarrs_subset.proofs.Positions.{unravel_in, place-unravel, in_box-offset_by, offset_from-by}
 use Rattle.zarrs_chunk_grid.specs.Grids.{box_at, has_box}
-use Rattle.zarrs_chunk_grid.proofs.Chunks.{box_is_there, box_long, box_index}
-use Rattle.zarrs_keys.specs.Keys.{IsIndexList}
+use Rattle.zarrs_chunk_grid.proofs.Chunks.{box_long}
 use Rattle.zarrs_storage.specs.Store.{StoreState}
-use Rattle.zarrs_data_type.specs.Cell.{Cell, cell_eq, are_values}
-use Rattle.zarrs_data_type.specs.ArrayData.{ArrayData}
-use Rattle.zarrs_data_type.proofs.Cells.{cells-values}
+use Rattle.zarrs_data_type.specs.Cell.{Cell, cell_eq}
 use Rattle.zarrs_data_type.proofs.Same.{eq-cell_eq}
 use Rattle.zarrs_steps.specs.Layout.{Layout, IsLawful}
 use Rattle.zarrs_steps.specs.Content.{value_at, content, decoded_cells, cell_at_place, chunk_cell, Reads}
 use Rattle.zarrs_steps.specs.Refusals.{is_left_out}
-use Rattle.zarrs_steps.specs.Changes.{IsValueOf}
-use Rattle.zarrs_steps.specs.Canon.{IsCanonicalValue, IsCanonical, HasNoChunk}
-use Rattle.zarrs_steps.specs.Laws.{HaveEqualContent, HaveEqualBytes, ContentIsBytes, EachDecodes, CanonicalStoresDecode, EmptyStoresAreCanonical}
-use Rattle.zarrs_steps.proofs.Contents.{member, index_list, content_in_box, absent_fill, content_same}
+use Rattle.zarrs_steps.specs.Canon.{IsCanonicalValue, IsCanonical}
+use Rattle.zarrs_steps.specs.Laws.{HaveEqualContent, HaveEqualBytes, ContentIsBytes, CanonicalStoresDecode, EmptyStoresAreCanonical}
+use Rattle.zarrs_steps.proofs.Contents.{index_list, content_in_box, absent_fill, content_same}
 
 -- lists of cells with equal cells are one
 pub same_cells : (a b : List Cell) → length a ≡ length b → ((k : ℕ) → k < length a → slice_get a k ≡ slice_get b k) → a ≡ b

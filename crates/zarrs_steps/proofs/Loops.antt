@@ -65,20 +65,20 @@ module _ (layout : Layout) (lawful : IsLawful layout) where
       λ i among apart. elim (Contains-push_cases indices index i among) [ inl early ↦ early | inr is ↦ absurd (apart (sym is)) ] in
       record {
         updates = record {
-        inside = λ position holds among. elim (same_or_not (index_at layout.grid position) index) [
-          | inl is ↦ one.updates.inside position holds (last _ is)
-          | inr apart ↦ one.updates.outside position (λ _ only. apart (only_member index _ only)) ∙ s.updates.inside position holds (before _ among apart)
-        ];
-        outside = λ position out.
-            one.updates.outside position (λ holds only. out holds (later _ only))
-            ∙ s.updates.outside position (λ holds early. out holds (Contains-append_left indices (index ∷ []) _ early));
-        keys = λ key apart.
-            one.updates.keys key (λ j only. apart j (later j only))
-            ∙ s.updates.keys key (λ j early. apart j (Contains-append_left indices (index ∷ []) j early));
-        boxed = λ i among. elim (same_or_not i index) [
-          | inl is ↦ one.updates.boxed i (last i is)
-          | inr apart ↦ s.updates.boxed i (before i among apart)
-        ];
+          inside = λ position holds among. elim (same_or_not (index_at layout.grid position) index) [
+            | inl is ↦ one.updates.inside position holds (last _ is)
+            | inr apart ↦ one.updates.outside position (λ _ only. apart (only_member index _ only)) ∙ s.updates.inside position holds (before _ among apart)
+          ];
+          outside = λ position out.
+              one.updates.outside position (λ holds only. out holds (later _ only))
+              ∙ s.updates.outside position (λ holds early. out holds (Contains-append_left indices (index ∷ []) _ early));
+          keys = λ key apart.
+              one.updates.keys key (λ j only. apart j (later j only))
+              ∙ s.updates.keys key (λ j early. apart j (Contains-append_left indices (index ∷ []) j early));
+          boxed = λ i among. elim (same_or_not i index) [
+            | inl is ↦ one.updates.boxed i (last i is)
+            | inr apart ↦ s.updates.boxed i (before i among apart)
+          ];
         };
         held = λ i among. elim (same_or_not i index) [
           | inl is ↦ one.held i (last i is)

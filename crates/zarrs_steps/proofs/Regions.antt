@@ -1,13 +1,10 @@
 -- Reads after stores, stores after reads, disjoint writes, and parts of a region.
-use Rattle.std.proofs.Common.{◌≡◌, ◌<◌, ℕ, Bool, true, false, cond, List, [], ◌∷◌, length, get_or, slice_get, Option, Some, None, refl, sym, ◌∙◌, ap, subst, inl, inr, arith}
+use Rattle.std.proofs.Common.{◌≡◌, ℕ, Bool, true, false, cond, List, [], ◌∷◌, length, Option, Some, None, refl, sym, ◌∙◌, ap, subst, inl, inr, arith}
 use Rattle.std.specs.Prelude.{option_and_then}
 use Rattle.std.proofs.lemmas.Bool.{cases_Bool}
-use Rattle.std.proofs.lemmas.List.{same_lists}
-use Rattle.std.proofs.lemmas.Option.{slice_get-get_or}
-use Rattle.zarrs_subset.specs.Boxes.{position_count, place, unravel, offset_by}
+use Rattle.zarrs_subset.specs.Boxes.{position_count}
 use Rattle.zarrs_subset.specs.Regions.{Box, IsLong, Holds, in_box, place_in, cell_in}
 use Rattle.zarrs_subset.proofs.Bytes.{place_in_below}
-use Rattle.zarrs_subset.proofs.Positions.{unravel_in, place-unravel, in_box-offset_by, offset_from-by}
 use Rattle.zarrs_chunk_grid.specs.Grids.{box_at, index_at, is_covered}
 use Rattle.zarrs_chunk_grid.proofs.Chunks.{box_is_there, box_long, box_covered}
 use Rattle.zarrs_storage.specs.Store.{StoreState}
@@ -19,7 +16,7 @@ use Rattle.zarrs_steps.specs.Content.{value_at, content, Reads, chunk_cell, cell
 use Rattle.zarrs_steps.specs.Refusals.{Refusal}
 use Rattle.zarrs_steps.specs.Changes.{RetrievesChunk}
 use Rattle.zarrs_steps.specs.Laws.{EachDecodes}
-use Rattle.zarrs_steps.proofs.LawProofs.{reads_one, at_place, same_cells}
+use Rattle.zarrs_steps.proofs.LawProofs.{reads_one}
 use Rattle.zarrs_steps.proofs.Contents.{content_covered, covered_has_box, in_chunk}
 use Rattle.zarrs_steps.specs.declared.call.Call.{Call}
 use Rattle.zarrs_steps.specs.declared.call.Reply.{Reply}

@@ -1,5 +1,5 @@
 -- Runs, one step after another, and what may be asked on the way.
-use Rattle.std.proofs.Common.{◌≡◌, ◌+◌, ◌==◌, cond, ℕ, Bool, true, false, List, [], ◌∷◌, ◌++◌, Some, None, length, refl, sym, ◌∙◌, ap, subst, inl, inr, arith}
+use Rattle.std.proofs.Common.{◌≡◌, Bool, List, [], ◌∷◌, ◌++◌, refl, ◌∙◌, subst}
 use Rattle.zarrs_storage.specs.Store.{StoreState, KeepsReach}
 use Rattle.zarrs_steps.specs.Layout.{Layout}
 use Rattle.zarrs_steps.specs.declared.call.Call.{Call}
@@ -7,7 +7,6 @@ use Rattle.zarrs_steps.specs.declared.call.Reply.{Reply}
 use Rattle.zarrs_steps.specs.State.{ArrayState}
 use Rattle.zarrs_steps.specs.Reach.{Reach, MayAskCall}
 use Rattle.zarrs_steps.specs.Step.{Step, Run}
-use Rattle.zarrs_steps.proofs.Steps.{step_reach}
 
 -- one more step
 pub run_push : (layout : Layout) (keep : Bool) (calls : List Call) (replies : List Reply) (call : Call) (reply : Reply) (old mid new : ArrayState) → Run layout keep calls replies old mid → Step layout keep call reply mid new → Run layout keep (calls ++ call ∷ []) (replies ++ reply ∷ []) old new

@@ -2,7 +2,7 @@
 use Rattle.std.specs.Cmp.Lexicographic.{pointwise}
 use Rattle.std.specs.Prelude.{nat_eq, ℕ, ◌^◌, ◌==◌, ◌&&◌, not, nat_le, Bool, if◌then◌else◌, List, length, Option, Some, None}
 use Rattle.zarrs_subset.specs.Boxes.{position_count}
-use Rattle.zarrs_subset.specs.Regions.{Box, box_of, box_eq}
+use Rattle.zarrs_subset.specs.Regions.{Box, box_eq}
 use Rattle.zarrs_chunk_grid.specs.Grids.{box_at, index_at, has_box, range_box}
 use Rattle.zarrs_data_type.specs.Kind.{is_variable}
 use Rattle.zarrs_data_type.specs.Cell.{Cell}
@@ -99,6 +99,7 @@ argument_refusal layout shape (call.StoreChunk index held) = store_chunk_refusal
 argument_refusal layout shape (call.EraseChunk index) = length_refusal layout index.items
 argument_refusal layout shape (call.RetrieveChunkIfExists index) = length_refusal layout index.items
 argument_refusal layout shape (call.RetrieveChunk index) = length_refusal layout index.items
+
 -- A read into a target, whose box has this shape, and of which the cell size and the depth are the type's or not: the
 -- dimensions, the type, the target, the shape of its box, the cover.
 abbrev pub into_refusal : Layout → List ℕ → Box → Bool → List ℕ → Option Refusal

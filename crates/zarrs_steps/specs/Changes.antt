@@ -1,6 +1,5 @@
 -- What calls do to the store and to the content.
-use Rattle.std.specs.Prelude.{◌≡◌, ◌≢◌, ℕ, ◌+◌, ◌≤◌, Bool, true, false, List, [], ◌∷◌, length, Option, Some, None, Contains}
-use Rattle.zarrs_subset.specs.Boxes.{position_count}
+use Rattle.std.specs.Prelude.{◌≡◌, ◌≢◌, ℕ, ◌+◌, Bool, true, false, List, length, Option, Some, None, Contains}
 use Rattle.zarrs_subset.specs.Regions.{Box, Holds, cell_in}
 use Rattle.zarrs_chunk_grid.specs.Grids.{box_at, index_at, is_covered, has_box}
 use Rattle.zarrs_keys.specs.Keys.{IsIndexList}

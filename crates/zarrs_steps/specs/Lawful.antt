@@ -3,7 +3,6 @@ use Rattle.std.specs.Prelude.{◌≡◌, ℕ, zero, suc, List, Option, Some, Non
 use Rattle.std.specs.Coded.{Coded, code_by, coded×, coded_ℕ, coded_list, coded_option}
 use Rattle.std.proofs.Common.{ap}
 use Rattle.std.proofs.Props.{props}
-use Rattle.zarrs_chunk_grid.specs.Axes.{Axis, IsAxis}
 use Rattle.zarrs_chunk_grid.specs.Grids.{Grid, IsGrid}
 use Rattle.zarrs_codec.specs.Chain.{ChainMeaning, IsLawfulChain}
 use Rattle.zarrs_data_type.specs.Cell.{Cell, bytes, none, some}

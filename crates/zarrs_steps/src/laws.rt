@@ -1,9 +1,19 @@
 //! Laws of steps, of runs and of canonical stores: what follows from the contracts of the calls, whatever the store, the
 //! grid, the keys and the chain. Each is the contract of a function that does nothing.
 ghost use Rattle.zarrs_steps.specs.Laws.{
-    ContentIsBytes, CanonicalStoresDecode, EmptyStoresAreCanonical, StepsKeepCanon, StepsKeepDecoding,
-    StepsKeepReach, HistoriesAgree, EqualCountsAgree, ReadAfterStore, StoreAfterRead, DisjointWritesAgree,
-    ReadsOfDecodingChunks, PartsMakeTheRegion,
+  ContentIsBytes,
+  CanonicalStoresDecode,
+  EmptyStoresAreCanonical,
+  StepsKeepCanon,
+  StepsKeepDecoding,
+  StepsKeepReach,
+  HistoriesAgree,
+  EqualCountsAgree,
+  ReadAfterStore,
+  StoreAfterRead,
+  DisjointWritesAgree,
+  ReadsOfDecodingChunks,
+  PartsMakeTheRegion,
 };
 
 /// Canonical stores of one layout have equal content exactly if the same bytes are present at each chunk key, or none in

@@ -84,11 +84,7 @@ impl<
     ///
     /// # Errors
     /// If the store refuses, and `OutOfMemory`. Nothing is changed then.
-    pub fn erase_chunk(
-        &mut self,
-        alloc: Global,
-        chunk_indices: &[u64],
-    ) -> Result<(), StorageError>
+    pub fn erase_chunk(&mut self, alloc: Global, chunk_indices: &[u64]) -> Result<(), StorageError>
         requires { length chunk_indices.now ≡ (layout_of self.old).grid.dimensions }
         ensures done { OnOk result
             (ErasesChunk (layout_of self.old) chunk_indices.now (store_of S.state self.old)

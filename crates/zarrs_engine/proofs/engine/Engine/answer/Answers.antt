@@ -1,4 +1,4 @@
-use Rattle.std.proofs.Common.{List, ℕ, refl, ap, sym, ◌∙◌, subst, arith, option_map}
+use Rattle.std.proofs.Common.{List, ℕ, refl, subst, arith, option_map}
 use Rattle.zarrs_data_type.specs.ArrayData.{data_of}
 use Rattle.zarrs_steps.specs.Refusals.{refusal_of}
 use Rattle.zarrs_steps.specs.Changes.{RetrievesChunk, RetrievesIfExists}
@@ -14,9 +14,12 @@ returns-then-len-dimensionality-clause-step g c =
     let state = g.S.ReadableStorageTraits.state c.args.self.now.storage in
     let index = c.in-EraseChunk.chunk_indices in
     let e = c.invalid_indices.result in
-    rw c.in-EraseChunk.is (refl, erase_refused layout index.items state (refusal_of e) (refuses_length layout index.items e
-    (λ long. c.if-len-dimensionality.true (omega (arith, long, index.ok.0, c.len.ensures, c.dimensionality.ensures)))
-    (subst (λ (i : List ℕ). RefusesIndices i e) c.deref-then-len-dimensionality.ensures.value c.invalid_indices.ensures)))
+    rw c.in-EraseChunk.is (
+      refl,
+      erase_refused layout index.items state (refusal_of e) (refuses_length layout index.items e
+          (λ long. c.if-len-dimensionality.true (omega (arith, long, index.ok.0, c.len.ensures, c.dimensionality.ensures)))
+          (subst (λ (i : List ℕ). RefusesIndices i e) c.deref-then-len-dimensionality.ensures.value c.invalid_indices.ensures)),
+    )
 
 pub returns-in-Ok-retrieve_chunk_if_exists-clause-step : goal.returns-in-Ok-retrieve_chunk_if_exists-clause-step
 returns-in-Ok-retrieve_chunk_if_exists-clause-step g c =

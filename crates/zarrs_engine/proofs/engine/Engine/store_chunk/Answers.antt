@@ -7,7 +7,7 @@ use Rattle.zarrs_steps.specs.Refusals.{RefusesBy, refusal_of, data_refusal}
 use Rattle.zarrs_engine.specs.Engine.{layout_of}
 use Rattle.zarrs_engine.specs.Parts.{HasValue}
 use Rattle.zarrs_engine.proofs.Writes.{box_refused, data_refused, stored_chunk}
-use Rattle.std.proofs.Common.{◌≡◌, None, Option, List, sym, ◌∙◌, ap}
+use Rattle.std.proofs.Common.{◌≡◌, None, Option, List, sym}
 use Rattle.zarrs_chunk_grid.specs.Grids.{box_at}
 use Rattle.zarrs_data_type.specs.Cell.{Cell}
 use Rattle.zarrs_steps.specs.Refusals.{Refusal, refusal_of_storage}
