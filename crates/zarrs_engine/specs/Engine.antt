@@ -7,7 +7,7 @@ use Rattle.zarrs_codec.specs.declared.traits.ChainTraits.{Ghosts as ChainMeaning
 use Rattle.zarrs_data_type.specs.Kind.{kind}
 use Rattle.zarrs_data_type.specs.declared.data_type.DataType.{DataType}
 use Rattle.zarrs_steps.specs.Layout.{Layout, layout_at}
-use Rattle.zarrs_steps.specs.State.{ArrayState}
+use Rattle.zarrs_steps.specs.Layout.{ArrayState}
 use Rattle.zarrs_engine.specs.declared.parts.Parts.{Parts}
 use Rattle.zarrs_engine.specs.declared.engine.Engine.{Engine}
 

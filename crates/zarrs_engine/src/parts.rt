@@ -1,5 +1,7 @@
 //! The parts of an engine but its store.
-ghost use Rattle.std.specs.Prelude.{IsSome};
+ghost use Rattle.std.specs.Prelude.{IsSome, ◌≡◌};
+ghost use Rattle.zarrs_subset.specs.Boxes.{position_count};
+ghost use Rattle.zarrs_subset.specs.Regions.{box_of};
 ghost use Rattle.zarrs_data_type.specs.Kind.{kind};
 ghost use Rattle.zarrs_data_type.specs.Cell.{fill_cell};
 ghost use Rattle.zarrs_steps.specs.Layout.{IsLawful, layout_at};
@@ -33,12 +35,11 @@ pub(crate) struct Parts<G: ChunkGridTraits, K: ChunkKeyEncodingTraits, C: ChainT
 pub(crate) struct Chunk {
     pub(crate) region: ArraySubset,
     pub(crate) count: u64,
+    ghost counted: { count ≡ position_count (box_of region).shape },
 }
 
 impl<G: ChunkGridTraits, K: ChunkKeyEncodingTraits, C: ChainTraits> Parts<G, K, C> {
     ghost use Rattle.std.specs.Prelude.{◌≡◌, ◌<◌, ◌*◌, ◌^◌, true, false, Some, None, IfOk, IfErr, OnOk, IfSome, IfNone, OnSome, IsOkUnless, option_map, replicate};
-    ghost use Rattle.zarrs_subset.specs.Boxes.{position_count};
-    ghost use Rattle.zarrs_subset.specs.Regions.{box_of};
     ghost use Rattle.zarrs_chunk_grid.specs.Grids.{box_at};
     ghost use Rattle.zarrs_data_type.specs.Kind.{cell_size};
     ghost use Rattle.zarrs_data_type.specs.ArrayData.{data_of};
@@ -82,7 +83,6 @@ impl<G: ChunkGridTraits, K: ChunkKeyEncodingTraits, C: ChainTraits> Parts<G, K, 
     /// The chunk with these indices.
     pub(crate) fn chunk(&self, alloc: Global, chunk_indices: &[u64]) -> Result<Chunk, ArrayError>
         ensures region { IfOk result (λ chunk. box_of chunk.region ≡ box_at (G.grid self.now.grid) chunk_indices.now) }
-        ensures count { IfOk result (λ chunk. chunk.count ≡ position_count (box_of chunk.region).shape) }
         ensures accepted { OnOk result (box_refusal (layout_of_parts self.now) chunk_indices.now
             ≡ None) }
         ensures refused { IfErr result
@@ -113,7 +113,6 @@ impl<G: ChunkGridTraits, K: ChunkKeyEncodingTraits, C: ChainTraits> Parts<G, K, 
         chunk_data: &ArrayBytes<'_>,
         options: &CodecOptions,
     ) -> Result<Option<Vec<u8>>, ArrayError>
-        requires { chunk.now.count ≡ position_count (box_of chunk.now.region).shape }
         ensures value { IfOk result
             (λ value. HasValue (layout_of_parts self.now) (stores_empty_chunks options.now)
             (box_of chunk.now.region) (data_of chunk_data.now) (option_map (λ v. v.items) value)) }

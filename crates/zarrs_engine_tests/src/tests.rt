@@ -310,11 +310,21 @@ fn a_store_with_no_call_left_refuses_writes(rt: HostRuntime) -> Result<(), Fail>
     let options = CodecOptions::default();
     store(alloc, &mut engine, &[0], &[1, 2], &options)?;
     must_be_exhausted(&rt, &store(alloc, &mut engine, &[1], &[3, 4], &options));
+    must_not_erase(&rt, alloc, &mut engine)?;
     let calls = vec![in alloc; Call::EraseChunk(vec![in alloc; 0u64]?)]?;
     let replies = replay(alloc, &mut engine, &calls, &options)?;
     must_refuse_erasure(&rt, &replies);
     must_read(&rt, alloc, &engine, &[0], &[1, 2])?;
     must_have(&rt, alloc, &engine, 1, u64::MAX)
+}
+
+fn must_not_erase(rt: &impl Abort, alloc: Global, engine: &mut MemoryEngine) -> Result<(), Fail> {
+    if engine.dimensionality() != 1 {
+        return Err("one dimension".into());
+    }
+    let refused = engine.erase_chunk(alloc, &[0]);
+    assert!(rt; matches!(refused, Err(StorageError::Exhausted)));
+    Ok(())
 }
 
 fn must_refuse_erasure(rt: &impl Abort, replies: &[Reply]) {

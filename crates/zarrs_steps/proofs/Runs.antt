@@ -4,7 +4,7 @@ use Rattle.zarrs_storage.specs.Store.{StoreState, KeepsReach}
 use Rattle.zarrs_steps.specs.Layout.{Layout}
 use Rattle.zarrs_steps.specs.declared.call.Call.{Call}
 use Rattle.zarrs_steps.specs.declared.call.Reply.{Reply}
-use Rattle.zarrs_steps.specs.State.{ArrayState}
+use Rattle.zarrs_steps.specs.Layout.{ArrayState}
 use Rattle.zarrs_steps.specs.Reach.{Reach, MayAskCall}
 use Rattle.zarrs_steps.specs.Step.{Step, Run}
 

@@ -83,7 +83,7 @@ module _ (layout : Layout) (lawful : IsLawful layout) where
     others_keep i i_long out =
         keys (layout.key i) (λ j among same. out (subst (Contains indices) (sym (one_key layout lawful i j i_long (long j among) same)) among))
 
-    -- some chunks changed, and what stands at their keys is canonical
+    -- some chunks changed, and what is present at their keys is canonical
     some_changed : ((position : List ℕ) → (Contains indices (index_at layout.grid position) → ⊥) → content layout (value_at new) position ≡ content layout (value_at old) position)
         → ((i : List ℕ) → Contains indices i → has_box layout.grid i ≡ true → IsCanonicalValue layout (content layout (value_at new)) (box_at layout.grid i) (value_at new (layout.key i)))
         → ((i : List ℕ) → Contains indices i → has_box layout.grid i ≡ false → value_at new (layout.key i) ≡ None)
@@ -103,7 +103,7 @@ module _ (layout : Layout) (lawful : IsLawful layout) where
       ];
     }
 
-    -- and what stands there decodes
+    -- and what is present there decodes
     some_decode : ((i encoded : List ℕ) → Contains indices i → has_box layout.grid i ≡ true → value_at new (layout.key i) ≡ Some encoded → (cells : List Cell) × (decoded_cells layout (box_at layout.grid i) encoded ≡ Some cells))
         → EachDecodes layout old → EachDecodes layout new
     some_decode here each i encoded has at = elim (among_or_not indices i) [

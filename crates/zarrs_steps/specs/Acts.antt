@@ -15,7 +15,7 @@ pub data Act : Type 0 where
   erase : List (List ℕ) → Act
   -- read the region, from these chunks
   read : Box → List (List ℕ) → Act
-  -- read a whole chunk: where it is absent, its cells are fill (true) or there are none (false)
+  -- read a whole chunk: if it is absent, its cells are fill (true) or there are none (false)
   read_chunk : Bool → List ℕ → Act
   -- compaction joins as `compact index`, a change of the array's shape as `resize shape`
 

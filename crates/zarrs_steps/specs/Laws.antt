@@ -14,7 +14,7 @@ use Rattle.zarrs_steps.specs.Canon.{IsCanonical, HasNoChunk}
 use Rattle.zarrs_steps.specs.declared.call.Call.{Call}
 use Rattle.zarrs_steps.specs.declared.call.Reply.{Reply}
 use Rattle.zarrs_steps.specs.declared.call.Reply.TheVariants.{Done, Cells, MaybeCells}
-use Rattle.zarrs_steps.specs.State.{ArrayState}
+use Rattle.zarrs_steps.specs.Layout.{ArrayState}
 use Rattle.zarrs_steps.specs.Acts.{Act, store, erase, read, read_chunk, act_of}
 use Rattle.zarrs_steps.specs.Fronts.{is_in_chunks}
 use Rattle.zarrs_steps.specs.Step.{Step, Run}
@@ -109,7 +109,7 @@ data_in (Cells held) = Some (data_of held)
 data_in (MaybeCells (Some held)) = Some (data_of held)
 data_in _ = None
 
--- the call, in this step, reads this region and answers this data
+-- the call, in this step, reads this region and returns this data
 pub record ReadsAt (layout : Layout) (keep : Bool) (call : Call) (region : Box) (held : ArrayData) (old new : ArrayState) : Type 0 where
   pub reply : Reply
   pub step : Step layout keep call reply old new
@@ -158,7 +158,7 @@ DisjointWritesAgree =
     → Step layout keep b Done s0 t1 → Step layout keep a Done t1 t2
     → HaveEqualContent layout s2.store t2.store
 
--- where each chunk decodes, a read answers the content over its region
+-- where each chunk decodes, a read returns the content over its region
 abbrev pub ReadsOfDecodingChunks : Type 0
 ReadsOfDecodingChunks =
     (layout : Layout) → IsLawful layout → (keep : Bool) (call : Call) (region : Box) (got : ArrayData) (old new : ArrayState)

@@ -3,6 +3,7 @@ use Rattle.std.specs.Prelude.{◌≡◌, ℕ, true, List, [], ◌∷◌, Contain
 use Rattle.zarrs_chunk_grid.specs.Grids.{Grid, IsGrid}
 use Rattle.zarrs_keys.specs.Keys.{IsIndexList, v3_name, v2_array_name, v2_attributes_name}
 use Rattle.zarrs_keys.specs.Paths.{path_key}
+use Rattle.zarrs_storage.specs.Store.{StoreState}
 use Rattle.zarrs_data_type.specs.Kind.{Kind}
 use Rattle.zarrs_data_type.specs.Cell.{Cell, fill_of, is_value}
 use Rattle.zarrs_codec.specs.Chain.{ChainMeaning, IsLawfulChain}
@@ -48,3 +49,8 @@ layout_at grid path key chain kind fill = record {
   kind = kind;
   fill = fill_of kind fill;
 }
+
+-- what a run goes through: the array's store at one moment, and the array's shape
+pub record ArrayState : Type 0 where
+  pub store : StoreState
+  pub shape : List ℕ

@@ -5,7 +5,6 @@ pub mod Content
 pub mod Refusals
 pub mod Changes
 pub mod Canon
-pub mod State
 pub mod ChunkBoxes
 pub mod Acts
 pub mod ArgumentRefusals

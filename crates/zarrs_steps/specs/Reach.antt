@@ -5,7 +5,7 @@ use Rattle.zarrs_storage.specs.Store.{StoreState, MayReadWhole}
 use Rattle.zarrs_steps.specs.Layout.{Layout}
 use Rattle.zarrs_steps.specs.declared.call.Call.{Call}
 use Rattle.zarrs_steps.specs.declared.call.Call.TheVariants as call
-use Rattle.zarrs_steps.specs.State.{ArrayState}
+use Rattle.zarrs_steps.specs.Layout.{ArrayState}
 
 -- The chunk of which the call may ask the key: of a read, those that it names or meets; of a store of a part or of a
 -- region, those of which it covers a part alone. (The shape is that of the array as the call begins.)

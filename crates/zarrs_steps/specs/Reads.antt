@@ -1,4 +1,4 @@
--- What a read answers.
+-- What a read returns.
 use Rattle.std.specs.Prelude.{◌≡◌, ℕ, true, List, length, Option, Some, None, Contains}
 use Rattle.zarrs_subset.specs.Boxes.{position_count}
 use Rattle.zarrs_subset.specs.Regions.{Box, IsLong, Holds, cell_in}
@@ -11,14 +11,14 @@ use Rattle.zarrs_steps.specs.Layout.{Layout}
 use Rattle.zarrs_steps.specs.Content.{value_at, content, decoded_cells}
 use Rattle.zarrs_steps.specs.ChunkBoxes.{CoversBox}
 
--- the chunk stands and its bytes do not decode
+-- the chunk is present and its bytes do not decode
 pub record IsBroken (layout : Layout) (index : List ℕ) (state : StoreState) : Type 0 where
   pub encoded : List ℕ
   pub stands : value_at state (layout.key index) ≡ Some encoded
   pub undecoded : decoded_cells layout (box_at layout.grid index) encoded ≡ None
 
 -- The cells are as many as the box has positions, and those of the function wherever it has one. (It has none where a
--- chunk does not decode: what is answered there is open.)
+-- chunk does not decode: what is returned there is open.)
 pub record ReadsKnown (f : List ℕ → Option Cell) (box : Box) (given : List Cell) : Type 0 where
   pub count : length given ≡ position_count box.shape
   pub each : (position : List ℕ) (cell : Cell) → Holds box position → f position ≡ Some cell → cell_in box given position ≡ Some cell

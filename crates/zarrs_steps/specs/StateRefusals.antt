@@ -60,7 +60,7 @@ IsLargeChunk layout region held index state = (chunk : List Cell) × AreUpdated 
 abbrev pub CallFails : ℕ → StoreState → Type 0
 CallFails failed new = (failed ≡ 1) ⊎ (new.calls ≡ last_call)
 
--- Why a chunk does not take its part, in the store state that stands then: its key refuses to be read, or the
+-- Why a chunk does not take its part, in the store state at that moment: its key refuses to be read, or the
 -- writing call failed (E7); it does not decode, or the chain takes no such chunk (E4); a size (E8); memory (E9).
 abbrev pub RefusesPart : Layout → Bool → Box → ArrayData → List ℕ → ℕ → StoreState → Refusal → Type 0
 RefusesPart layout keep region held index failed new refusal.storage =

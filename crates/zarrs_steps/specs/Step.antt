@@ -1,4 +1,4 @@
--- What a call does to the array, and what it answers.
+-- What a call does to the array, and what it returns.
 use Rattle.std.specs.Prelude.{◌≡◌, ℕ, Bool, true, false, List, [], ◌∷◌, Option, None, option_map}
 use Rattle.zarrs_storage.specs.Store.{StoreState}
 use Rattle.zarrs_subset.specs.Regions.{Box}
@@ -10,7 +10,7 @@ use Rattle.zarrs_steps.specs.Changes.{Erases, RetrievesChunk, RetrievesIfExists}
 use Rattle.zarrs_steps.specs.declared.call.Call.{Call}
 use Rattle.zarrs_steps.specs.declared.call.Reply.{Reply}
 use Rattle.zarrs_steps.specs.declared.call.Reply.TheVariants.{Done, Cells, MaybeCells, Refused}
-use Rattle.zarrs_steps.specs.State.{ArrayState}
+use Rattle.zarrs_steps.specs.Layout.{ArrayState}
 use Rattle.zarrs_steps.specs.Acts.{Act, store, erase, read, read_chunk, act_of}
 use Rattle.zarrs_steps.specs.ArgumentRefusals.{argument_refusal, store_chunk_refusal}
 use Rattle.zarrs_steps.specs.Fronts.{Takes, StoresAll, ErasesAll, RefusesWrite}
@@ -46,7 +46,7 @@ ErasesChunk layout index old new = (length_refusal layout index ≡ None) × Era
 abbrev pub RefusesEraseChunk : Layout → List ℕ → Refusal → StoreState → StoreState → Type 0
 RefusesEraseChunk layout index r old new = RefusesErase layout (length_refusal layout index) (index ∷ []) r old new
 
--- What an act does to the store, and what it answers, where this is the first refusal that its arguments decide.
+-- What an act does to the store, and what it returns, where this is the first refusal that its arguments decide.
 abbrev pub ActStep : Layout → Bool → Option Refusal → Act → Reply → StoreState → StoreState → Type 0
 ActStep layout keep first (store region held chunks) Done old new = (first ≡ None) × StoresAll layout keep region held chunks old new
 ActStep layout keep first (store region held chunks) (Refused e) old new = RefusesStore layout keep first region held chunks (refusal_of e) old new
