@@ -94,5 +94,5 @@ abbrev pub normal : ExtensionData → ExtensionData
 normal e = record e { configuration = option_and_then nonempty e.configuration }
 
 -- the JSON value of an extension point
-abbrev pub data_of : ExtensionData → Data
-data_of e = data_with e.name (option_and_then nonempty e.configuration) e.must_understand
+abbrev pub extension_data : ExtensionData → Data
+extension_data e = data_with e.name (option_and_then nonempty e.configuration) e.must_understand

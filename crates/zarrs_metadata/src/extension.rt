@@ -4,7 +4,7 @@ ghost use Rattle.serde_json.specs.Data.{object, put};
 ghost use Rattle.serde_json.specs.View.{view, members_view};
 ghost use Rattle.serde_json.specs.Find.{as_str, get_member};
 ghost use Rattle.zarrs_metadata.specs.Members.{has_only, nonempty};
-ghost use Rattle.zarrs_metadata.specs.Extension.{named, settings, extension_of, extension_from, data_of, normal, configuration_from, must_understand_from};
+ghost use Rattle.zarrs_metadata.specs.Extension.{named, settings, extension_of, extension_from, extension_data, normal, configuration_from, must_understand_from};
 
 use crate::error::MetadataError;
 use crate::members::{have_only, kept, object_of, take_member};
@@ -177,7 +177,7 @@ impl MetadataV3 {
     /// Returns the JSON value of this extension point: its name as a text if it has no configuration
     /// and must be understood, else an object. An empty configuration counts as none.
     pub fn to_value(&self, alloc: Global) -> Result<Value, AllocError>
-        ensures written { IfOk result (λ v. view v ≡ data_of (extension_view self.now)) }
+        ensures written { IfOk result (λ v. view v ≡ extension_data (extension_view self.now)) }
         ensures reads_back { IfOk result (λ v. extension_of (view v)
             ≡ Some (normal (extension_view self.now))) }
     {

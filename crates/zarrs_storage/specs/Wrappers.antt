@@ -3,6 +3,7 @@ use Rattle.std.specs.Prelude.{ℕ, ◌+◌, ◌==◌, ◌&&◌, ◌||◌, Bool, 
 use Rattle.std.specs.Borrow.{MutBor}
 use Rattle.zarrs_storage.specs.Store.{StoreState, Values, Accepts, Refuses, is_listed, last_call}
 use Rattle.zarrs_storage.specs.declared.faults.Fault.{Fault}
+use Rattle.zarrs_storage.specs.declared.fences.Fence.{Fence}
 use Rattle.zarrs_storage.specs.declared.lending.Lent.{Lent}
 use Rattle.zarrs_storage.specs.declared.stops.Stop.{Stop}
 use Rattle.zarrs_storage.specs.declared.whole.WholeRefused.{WholeRefused}
@@ -29,6 +30,10 @@ with_refused s keys = record s { refuses = λ key. is_listed keys key || s.refus
 abbrev pub fenced : StoreState → List (List ℕ) → StoreState
 fenced s keys = record s { may_ask = λ key. is_listed keys key && s.may_ask key }
 
+-- the keys that may be asked
+abbrev pub fence_keys : {S : Type 0} → Fence S → List (List ℕ)
+fence_keys fence = fence.keys.items
+
 -- ---- writing calls
 
 -- a writing call that was passed on, and accepted or refused there
@@ -36,9 +41,9 @@ abbrev pub PassedOn : {T E : Type 0} → Result T E → StoreState → StoreStat
 PassedOn result old new written = MatchResult result (λ _. Accepts old new written) (λ _. Refuses old new)
 
 -- whether a number is given, and is this one
-abbrev pub is_number : Option ℕ → ℕ → Bool
-is_number None number = false
-is_number (Some given) number = given == number
+abbrev pub is_write_number : Option ℕ → ℕ → Bool
+is_write_number None number = false
+is_write_number (Some given) number = given == number
 
 -- ---- `Fault`
 
@@ -57,11 +62,11 @@ fault_write fault = fault.refused_write
 
 -- whether the next writing call is the one to be refused
 abbrev pub fault_is_next : {S : Type 0} → Fault S → Bool
-fault_is_next fault = nat_lt fault.counts.calls last_call && is_number fault.refused_write (fault.counts.calls + 1)
+fault_is_next fault = nat_lt fault.counts.calls last_call && is_write_number fault.refused_write (fault.counts.calls + 1)
 
 -- whether the next writing call is passed on
 abbrev pub fault_passes_on : {S : Type 0} → Fault S → Bool
-fault_passes_on fault = nat_lt fault.counts.calls last_call && not (is_number fault.refused_write (fault.counts.calls + 1))
+fault_passes_on fault = nat_lt fault.counts.calls last_call && not (is_write_number fault.refused_write (fault.counts.calls + 1))
 
 -- ---- `Stop`
 

@@ -1,7 +1,7 @@
 //! A store that refuses to read whole values.
 ghost use Rattle.std.specs.Prelude.{◌≡◌, true, codes, IfOk, IfErr, IsErr, IsErrAnd};
 ghost use Rattle.std.specs.FinMap as map;
-ghost use Rattle.zarrs_storage.specs.Store.{MayReadWhole, MayReadRange, PassesValue, is_listed, range_at, size_at};
+ghost use Rattle.zarrs_storage.specs.Store.{MayReadWhole, MayReadRange, PassesValue, is_listed, value_range, size_at};
 ghost use Rattle.zarrs_storage.specs.Refusals.{RefusesRead, RefusesRange, SaysOther};
 ghost use Rattle.zarrs_storage.specs.Wrappers.{with_refused, whole_state, below_whole, whole_keys};
 
@@ -65,10 +65,11 @@ impl<S: ReadableStorageTraits> ReadableStorageTraits for WholeRefused<S> {
         requires may_ask { (whole_state S.state self.now).may_ask key.now ≡ true }
         requires may_read { MayReadRange (whole_state S.state self.now) key.now offset count }
         ensures value { IfOk result (λ part. part
-            ≡ range_at (whole_state S.state self.now).values key.now offset count) }
+            ≡ value_range (whole_state S.state self.now).values key.now offset count) }
         ensures passing { PassesValue (whole_state S.state self.now).values key.now offset count
             → IsErr result }
-        ensures refused { IfErr result (RefusesRange (S.state (below_whole self.now)) key.now offset count) }
+        ensures refused { IfErr result
+            (RefusesRange (S.state (below_whole self.now)) key.now offset count) }
     {
         self.store.get_partial(alloc, key, offset, count)
     }

@@ -1,7 +1,7 @@
 //! Each public call with ample memory, and what no clause says: the texts of errors.
 ghost use Rattle.std.specs.Prelude.{◌≡◌, ℕ, true, OnOk};
 ghost use Rattle.std.specs.FinMap as map;
-ghost use Rattle.zarrs_storage.specs.Store.{MayReadWhole};
+ghost use Rattle.zarrs_storage.specs.Store.{MayReadWhole, is_listed};
 
 use bytes::Bytes;
 use std::alloc::Global;
@@ -557,21 +557,30 @@ fn must_pass_parts(
     Ok(())
 }
 
-fn must_pass_the_fence(
+fn must_read_through_a_fence(
+    rt: &impl Abort,
+    alloc: Global,
+    store: &mut MemoryStore,
+    keys: Vec<StoreKey>,
+    key: &StoreKey,
+) -> Result<(), Fail>
+    requires { is_listed keys.items key.now ≡ true }
+{
+    let fence = Fence::new(store, keys);
+    must_pass_reads(rt, alloc, &fence, key)
+}
+
+fn must_write_through_a_fence(
     rt: &impl Abort,
     alloc: Global,
     store: &mut MemoryStore,
     key: &StoreKey,
-    other: &StoreKey,
 ) -> Result<(), Fail> {
-    let mut fence = Fence::new(store, vec![in alloc; key.clone()?]?);
-    fence.set_partial(alloc, other, 0, &[1])?;
+    let mut fence = Fence::new(store, Vec::new(alloc));
+    fence.set_partial(alloc, key, 0, &[1])?;
     fence.set(alloc, key, Bytes::from_static(&[1, 2]))?;
-    assert!(rt; fence.get(alloc, key)? == Some(Bytes::from_static(&[1, 2])));
-    assert!(rt; fence.size_key(alloc, key)? == Some(2));
-    assert!(rt; fence.get_partial(alloc, key, 1, 1)? == Some(Bytes::from_static(&[2])));
     assert!(rt; fence.supports_set_partial());
-    Ok(fence.erase(alloc, other)?)
+    Ok(fence.erase(alloc, key)?)
 }
 
 #[test]
@@ -579,8 +588,11 @@ fn a_fenced_store(rt: HostRuntime) -> Result<(), Fail> {
     let alloc = rt.alloc();
     let mut store = MemoryStore::new(alloc);
     let (key, other) = (StoreKey::new(alloc, "a")?, StoreKey::new(alloc, "b")?);
-    must_pass_the_fence(&rt, alloc, &mut store, &key, &other)?;
+    set(&mut store, alloc, &key, &[1])?;
+    let keys = vec![in alloc; key.clone()?]?;
+    must_read_through_a_fence(&rt, alloc, &mut store, keys, &key)?;
+    must_write_through_a_fence(&rt, alloc, &mut store, &other)?;
     must_be_absent(&rt, alloc, &store, &other)?;
-    must_have_counted(&rt, &store, 3);
+    must_have_counted(&rt, &store, 4);
     Ok(())
 }
