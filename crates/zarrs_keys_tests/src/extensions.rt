@@ -118,12 +118,7 @@ fn another_shape_is_refused(rt: HostRuntime) -> Result<(), Fail> {
     Ok(())
 }
 
-fn must_list(
-    rt: &impl Abort,
-    alloc: Global,
-    value: &Value,
-    list: &[u64],
-) -> Result<(), Fail> {
+fn must_list(rt: &impl Abort, alloc: Global, value: &Value, list: &[u64]) -> Result<(), Fail> {
     let read = numbers(alloc, value)?;
     assert!(rt; read.is_some_and(|numbers| numbers.as_slice() == list));
     Ok(())

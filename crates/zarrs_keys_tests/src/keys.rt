@@ -135,7 +135,12 @@ fn keys_at_a_path(rt: HostRuntime) -> Result<(), Fail> {
 fn keys_at_the_root(rt: HostRuntime) -> Result<(), Fail> {
     let alloc = rt.alloc();
     let root = NodePath::new(alloc, "/")?;
-    must_have_keys(&rt, alloc, &root, ("c/0", "zarr.json", ".zarray", ".zattrs"))?;
+    must_have_keys(
+        &rt,
+        alloc,
+        &root,
+        ("c/0", "zarr.json", ".zarray", ".zattrs"),
+    )?;
     let dots = ChunkKeyEncoding::V2(ChunkKeySeparator::Dot);
     must_have_chunk_key(&rt, alloc, &root, &dots, &[], "0")
 }
@@ -230,7 +235,10 @@ fn copies_are_equal(rt: HostRuntime) -> Result<(), Fail> {
     let alloc = rt.alloc();
     let (path, other) = (NodePath::new(alloc, "/a")?, NodePath::new(alloc, "/b")?);
     must_differ(&rt, &path, &other)?;
-    let (tiff, tif) = (KeySuffix::new(alloc, ".tiff")?, KeySuffix::new(alloc, ".tif")?);
+    let (tiff, tif) = (
+        KeySuffix::new(alloc, ".tiff")?,
+        KeySuffix::new(alloc, ".tif")?,
+    );
     must_differ(&rt, &tiff, &tif)
 }
 
@@ -239,7 +247,11 @@ fn encodings_are_compared(rt: HostRuntime) -> Result<(), Fail> {
     let alloc = rt.alloc();
     let tiles = suffixed(alloc, ".tiff")?;
     must_differ(&rt, &tiles, &suffixed(alloc, ".tif")?)?;
-    must_differ(&rt, &tiles, &ChunkKeyEncoding::Default(ChunkKeySeparator::Slash))
+    must_differ(
+        &rt,
+        &tiles,
+        &ChunkKeyEncoding::Default(ChunkKeySeparator::Slash),
+    )
 }
 
 #[test]
