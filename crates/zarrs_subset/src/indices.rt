@@ -26,6 +26,7 @@ impl<'a> PositionWalk<'a> {
     ghost use Rattle.zarrs_subset.specs.Walks.{walk_box, walk_number};
 
     /// The position where the walk stands.
+    #[inline]
     pub fn current(&self) -> &[u64]
         ensures { slice_get (positions (walk_box self.now)) (walk_number self.now) ≡ Some result.now }
     {
@@ -33,6 +34,7 @@ impl<'a> PositionWalk<'a> {
     }
 
     /// Goes to the next position. From the last one it goes back to the first, and returns `false`.
+    #[inline]
     pub fn advance(&mut self) -> bool
         ensures same_box { walk_box self.new ≡ walk_box self.old }
         ensures next { OnTrue result (walk_number self.new ≡ walk_number self.old + 1) }
@@ -96,6 +98,7 @@ impl<'a> Indices<'a> {
     ghost use Rattle.zarrs_subset.specs.Walks.{positions_left};
 
     // Goes to the first position, or to the one after the last that came. Whether there was one.
+    #[inline]
     fn step(&mut self) -> Result<bool, AllocError>
         requires { self.old.is_done ≡ false }
         ensures stays { self.new.is_done ≡ false }
@@ -127,6 +130,7 @@ impl<'a> Iterator for Indices<'a> {
 
     ghost remaining = { item_count positions_left };
 
+    #[inline]
     fn next(&mut self) -> Option<Result<ArrayIndicesTinyVec, AllocError>> {
         if self.is_done {
             return None;

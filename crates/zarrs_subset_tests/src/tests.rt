@@ -436,6 +436,22 @@ fn must_walk(
     Ok(())
 }
 
+// After the last position the walk stands at the first again.
+fn must_lend(
+    rt: &impl Abort,
+    alloc: Global,
+    region: &ArraySubset,
+    expected: &[&[u64]],
+) -> Result<(), Fail> {
+    let mut walk = region.walk(alloc)?.ok_or("a position")?;
+    for (number, position) in expected.iter().enumerate() {
+        assert_eq!(rt; walk.current(), *position);
+        assert_eq!(rt; walk.advance(), number + 1 < expected.len());
+    }
+    assert_eq!(rt; Some(walk.current()), expected.first().copied());
+    Ok(())
+}
+
 #[test]
 fn positions_come_in_row_major_order(rt: HostRuntime) -> Result<(), Fail> {
     let alloc = rt.alloc();
@@ -497,4 +513,15 @@ fn subsets_and_ranges_stand_for_boxes(rt: HostRuntime) -> Result<(), Fail> {
     must_be_described(&rt, alloc, &lent)?;
     let ranges: Vec<Range<u64>> = vec![in alloc; 1..4, 7..2]?;
     must_be_described(&rt, alloc, &ranges)
+}
+
+#[test]
+fn a_walk_lends_its_positions(rt: HostRuntime) -> Result<(), Fail> {
+    let alloc = rt.alloc();
+    let plane = subset(alloc, &[1, 5], &[2, 2])?;
+    must_lend(&rt, alloc, &plane, &[&[1, 5], &[1, 6], &[2, 5], &[2, 6]])?;
+    let long = subset(alloc, &[1, 2, 3, 4, 5], &[1, 1, 1, 2, 1])?;
+    must_lend(&rt, alloc, &long, &[&[1, 2, 3, 4, 5], &[1, 2, 3, 5, 5]])?;
+    assert!(rt; subset(alloc, &[1, 5], &[2, 0])?.walk(alloc)?.is_none());
+    Ok(())
 }
