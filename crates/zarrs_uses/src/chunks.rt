@@ -1,6 +1,9 @@
 //! Stores, reads and erases a chunk.
-ghost use Rattle.std.specs.Prelude.{◌≡◌, length};
-ghost use Rattle.zarrs_engine.specs.Engine.{layout_of};
+ghost use Rattle.std.specs.Prelude.{◌≡◌, false, length, IfOk, OnOk};
+ghost use Rattle.zarrs_storage.specs.Memory.{open_state};
+ghost use Rattle.zarrs_data_type.specs.ArrayData.{data_of, fixed};
+ghost use Rattle.zarrs_engine.specs.Engine.{layout_of, store_of, KeepsParts};
+ghost use Rattle.zarrs_engine.specs.Changes.{StoresChunk, ErasesChunk, RetrievesChunk};
 
 use crate::make::MemoryEngine;
 use std::alloc::Global;
@@ -15,7 +18,13 @@ pub fn store_and_read(
     engine: &mut MemoryEngine,
     chunk_indices: &[u64],
     cells: &[u8],
-) -> Result<ArrayBytes<'static>, ArrayError> {
+) -> Result<ArrayBytes<'static>, ArrayError>
+    ensures stored { OnOk result (StoresChunk (layout_of engine.old) false chunk_indices.now
+        (fixed cells.now) (store_of open_state engine.old) (store_of open_state engine.new)) }
+    ensures read { IfOk result (λ read. RetrievesChunk (layout_of engine.old) chunk_indices.now
+        (data_of read) (store_of open_state engine.new)) }
+    ensures parts { KeepsParts engine.old engine.new }
+{
     let chunk_data = ArrayBytes::from_flen(cells);
     let options = CodecOptions::default();
     engine.store_chunk(alloc, chunk_indices, &chunk_data, &options)?;
@@ -29,6 +38,9 @@ pub fn erase(
     chunk_indices: &[u64],
 ) -> Result<(), StorageError>
     requires { length chunk_indices.now ≡ (layout_of engine.old).grid.dimensions }
+    ensures erased { OnOk result (ErasesChunk (layout_of engine.old) chunk_indices.now
+        (store_of open_state engine.old) (store_of open_state engine.new)) }
+    ensures parts { KeepsParts engine.old engine.new }
 {
     engine.erase_chunk(alloc, chunk_indices)
 }
