@@ -1,7 +1,7 @@
 //! Copies of boxes between arrays of bytes.
 ghost use Rattle.std.specs.Prelude.{◌≡◌, ◌↔◌, ◌*◌, IsTrue, slice_index};
 
-use crate::measure::{Work, row};
+use crate::measure::{CopyBytes, Work, row};
 use anyhow::{Result, anyhow};
 use std::alloc::Global;
 use std::time::Clock;
@@ -146,6 +146,7 @@ fn pair<const N: usize>(
         rt,
         alloc,
         copied,
+        BYTES,
         &mut CopyBox(rows_of(alloc, len)?),
         &mut plain,
     )?;
@@ -157,7 +158,7 @@ fn pair<const N: usize>(
         target_box,
         part_box,
     };
-    row(rt, alloc, placed, &mut product, &mut plain)
+    row(rt, alloc, placed, BYTES, &mut product, &mut plain)
 }
 
 /// `copy_box` of a whole array.
@@ -186,26 +187,6 @@ impl Work for CopyWhole {
             &shape,
             1,
         );
-        Ok(self.target.first().copied().unwrap_or(0))
-    }
-}
-
-/// One copy of bytes.
-#[derive(Drop)]
-struct CopyBytes {
-    source: Vec<u8>,
-    target: Vec<u8>,
-}
-
-impl Work for CopyBytes {
-    fn run(&mut self, _alloc: Global, turn: u8) -> Result<u8> {
-        if let Some(byte) = self.source.first_mut() {
-            *byte = turn;
-        }
-        if self.source.len() != self.target.len() {
-            return Err(anyhow!("arrays of other lengths"));
-        }
-        self.target.copy_from_slice(&self.source);
         Ok(self.target.first().copied().unwrap_or(0))
     }
 }
@@ -241,14 +222,12 @@ pub fn print_rows<R: Clock + Print + Alloc<A = Global>>(rt: &R) -> Result<()> {
         source: vec![in alloc; 1; BYTES]?,
         target: vec![in alloc; 0; BYTES]?,
     };
-    let mut bytes = CopyBytes {
-        source: vec![in alloc; 1; BYTES]?,
-        target: vec![in alloc; 0; BYTES]?,
-    };
+    let mut bytes = CopyBytes::new(alloc, BYTES)?;
     row(
         rt,
         alloc,
-        "copy_box of a whole array of 1 MiB, against a memory copy",
+        "copy_box of a whole array of 1 MiB",
+        BYTES,
         &mut whole,
         &mut bytes,
     )

@@ -161,7 +161,14 @@ pub fn print_rows<R: Clock + Print + Alloc<A = Global>>(rt: &R) -> Result<()> {
         (4, "fill of 131,072 cells of 4 bytes"),
         (8, "fill of 131,072 cells of 8 bytes"),
     ] {
-        row(rt, alloc, name, &mut Fill(width), &mut PlainFill(width))?;
+        row(
+            rt,
+            alloc,
+            name,
+            width * BYTES / 8,
+            &mut Fill(width),
+            &mut PlainFill(width),
+        )?;
     }
     tests(rt, alloc)
 }
@@ -178,6 +185,7 @@ fn tests(rt: &(impl Clock + Print), alloc: Global) -> Result<()> {
         rt,
         alloc,
         "all-fill test of 1 MiB",
+        BYTES,
         &mut all_fill,
         &mut plain_all_fill,
     )?;
@@ -187,6 +195,7 @@ fn tests(rt: &(impl Clock + Print), alloc: Global) -> Result<()> {
         rt,
         alloc,
         "test of 1 MiB of bools",
+        BYTES,
         &mut bools,
         &mut plain_bools,
     )

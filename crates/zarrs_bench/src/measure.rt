@@ -25,42 +25,102 @@ fn nanoseconds<W: Work>(
     Ok((u64::try_from(taken).unwrap_or(u64::MAX), byte))
 }
 
+/// One copy of bytes.
+#[derive(Drop)]
+pub struct CopyBytes {
+    source: Vec<u8>,
+    target: Vec<u8>,
+}
+
+impl CopyBytes {
+    /// A copy of so many bytes.
+    pub fn new(alloc: Global, len: usize) -> Result<CopyBytes> {
+        let source = vec![in alloc; 1; len]?;
+        let target = vec![in alloc; 0; len]?;
+        Ok(CopyBytes { source, target })
+    }
+}
+
+impl Work for CopyBytes {
+    fn run(&mut self, _alloc: Global, turn: u8) -> Result<u8> {
+        if let Some(byte) = self.source.first_mut() {
+            *byte = turn;
+        }
+        if self.source.len() == self.target.len() {
+            self.target.copy_from_slice(&self.source);
+        }
+        Ok(self.target.first().copied().unwrap_or(0))
+    }
+}
+
+/// The best time of each kind of work, in nanoseconds.
+#[derive(Clone, Copy)]
+struct Times {
+    product: u64,
+    plain: u64,
+    copy: u64,
+}
+
 /// Prints the head of the table.
 pub fn heading(rt: &impl Print) -> Result<()> {
-    println!(rt; "| Work | Here, us | Plain Rust, us | Ratio |")?;
-    println!(rt; "|---|---|---|---|")?;
+    println!(rt; "| Work | us | us, plain Rust | Ratio | Ratio to a memory copy |")?;
+    println!(rt; "|---|---|---|---|---|")?;
     Ok(())
 }
 
-/// Measures the work of the product and that of plain Rust, in turns, and prints the row of their best times.
+/// Measures the work of the product, that of plain Rust and a copy of so many bytes, in turns, and prints the row of
+/// their best times. No byte is copied if the work is none over bytes.
 pub fn row<P: Work, Q: Work>(
     rt: &(impl Clock + Print),
     alloc: Global,
     name: &str,
+    len: usize,
     product: &mut P,
     plain: &mut Q,
 ) -> Result<()> {
-    let mut best = (u64::MAX, u64::MAX);
-    let mut bytes = 0;
+    let mut copy = CopyBytes::new(alloc, len)?;
+    let mut best = Times {
+        product: u64::MAX,
+        plain: u64::MAX,
+        copy: u64::MAX,
+    };
+    let mut differing = 0;
     for turn in 0..TURNS {
-        let (one, first) = nanoseconds(rt, alloc, product, turn)?;
-        let (other, second) = nanoseconds(rt, alloc, plain, turn)?;
-        best = (best.0.min(one), best.1.min(other));
-        bytes ^= first ^ second;
+        let (product_time, made) = nanoseconds(rt, alloc, product, turn)?;
+        let (plain_time, wanted) = nanoseconds(rt, alloc, plain, turn)?;
+        let (copy_time, _) = nanoseconds(rt, alloc, &mut copy, turn)?;
+        best = Times {
+            product: best.product.min(product_time),
+            plain: best.plain.min(plain_time),
+            copy: best.copy.min(copy_time),
+        };
+        differing |= made ^ wanted;
     }
-    print_row(rt, name, best.0, best.1, bytes)
-}
-
-/// Prints a row. The two kinds of work return the same bytes, so that `differing` is 0.
-fn print_row(rt: &impl Print, name: &str, product: u64, plain: u64, differing: u8) -> Result<()> {
     let note = if differing == 0 {
         ""
     } else {
         " (results differ)"
     };
-    let percent = product.saturating_mul(100) / plain.max(1);
-    let (product, plain) = (product / 1000, plain / 1000);
+    print!(rt; "| {name}{note} |")?;
+    print_times(rt, alloc, &best, len > 0)
+}
+
+/// The quotient with two decimals.
+fn ratio(alloc: Global, time: u64, other: u64) -> Result<String> {
+    let percent = time.saturating_mul(100) / other.max(1);
     let (whole, part) = (percent / 100, percent % 100);
-    println!(rt; "| {name}{note} | {product} | {plain} | {whole}.{part:02} |")?;
+    Ok(format!(in alloc; "{whole}.{part:02}")?)
+}
+
+/// Prints the rest of a row.
+fn print_times(rt: &impl Print, alloc: Global, best: &Times, is_of_bytes: bool) -> Result<()> {
+    let plain = ratio(alloc, best.product, best.plain)?;
+    let copy = if is_of_bytes {
+        ratio(alloc, best.product, best.copy)?
+    } else {
+        String::from_str(alloc, "-")?
+    };
+    let (product_us, plain_us) = (best.product / 1000, best.plain / 1000);
+    println!(rt; " {product_us} | {plain_us} | {plain} | {copy} |")?;
     Ok(())
 }

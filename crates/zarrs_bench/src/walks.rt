@@ -197,6 +197,7 @@ pub fn print_rows<R: Clock + Print + Alloc<A = Global>>(rt: &R) -> Result<()> {
         rt,
         alloc,
         "indices over 1,000,000 positions",
+        0,
         &mut Positions,
         &mut PlainPositions,
     )?;
@@ -206,6 +207,7 @@ pub fn print_rows<R: Clock + Print + Alloc<A = Global>>(rt: &R) -> Result<()> {
         rt,
         alloc,
         "100,000 grid queries of 3 dimensions",
+        0,
         &mut queries,
         &mut plain_queries,
     )?;
@@ -214,6 +216,7 @@ pub fn print_rows<R: Clock + Print + Alloc<A = Global>>(rt: &R) -> Result<()> {
         rt,
         alloc,
         "100,000 chunk boxes of 3 dimensions",
+        0,
         &mut boxes,
         &mut PlainBoxes(tens),
     )?;
@@ -222,6 +225,7 @@ pub fn print_rows<R: Clock + Print + Alloc<A = Global>>(rt: &R) -> Result<()> {
         rt,
         alloc,
         "100,000 keys of 3 dimensions",
+        0,
         &mut keys,
         &mut PlainKeys,
     )
