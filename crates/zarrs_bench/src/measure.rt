@@ -25,29 +25,35 @@ fn nanoseconds<W: Work>(
     Ok((u64::try_from(taken).unwrap_or(u64::MAX), byte))
 }
 
-/// One copy of bytes.
+/// Copies of bytes, of at most 1 MiB each.
 #[derive(Drop)]
 pub struct CopyBytes {
     source: Vec<u8>,
     target: Vec<u8>,
+    times: usize,
 }
 
 impl CopyBytes {
-    /// A copy of so many bytes.
+    /// Copies of so many bytes in all.
     pub fn new(alloc: Global, len: usize) -> Result<CopyBytes> {
-        let source = vec![in alloc; 1; len]?;
-        let target = vec![in alloc; 0; len]?;
-        Ok(CopyBytes { source, target })
+        let block = len.clamp(1, 1 << 20);
+        Ok(CopyBytes {
+            source: vec![in alloc; 1; block]?,
+            target: vec![in alloc; 0; block]?,
+            times: len / block,
+        })
     }
 }
 
 impl Work for CopyBytes {
     fn run(&mut self, _alloc: Global, turn: u8) -> Result<u8> {
-        if let Some(byte) = self.source.first_mut() {
-            *byte = turn;
-        }
-        if self.source.len() == self.target.len() {
-            self.target.copy_from_slice(&self.source);
+        for time in 0..self.times {
+            if let Some(byte) = self.source.get_mut(time) {
+                *byte = turn;
+            }
+            if self.source.len() == self.target.len() {
+                self.target.copy_from_slice(&self.source);
+            }
         }
         Ok(self.target.first().copied().unwrap_or(0))
     }
