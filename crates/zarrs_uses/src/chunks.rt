@@ -1,16 +1,16 @@
 //! Stores, reads and erases a chunk.
-ghost use Rattle.std.specs.Prelude.{◌≡◌, false, length, IfOk, OnOk};
+ghost use Rattle.std.specs.Prelude.{◌≡◌, false, IfOk, OnOk};
 ghost use Rattle.zarrs_storage.specs.Memory.{open_state};
 ghost use Rattle.zarrs_data_type.specs.ArrayData.{data_of, fixed};
+ghost use Rattle.zarrs_steps.specs.Changes.{RetrievesChunk};
+ghost use Rattle.zarrs_steps.specs.Step.{StoresChunk, ErasesChunk};
 ghost use Rattle.zarrs_engine.specs.Engine.{layout_of, store_of, KeepsParts};
-ghost use Rattle.zarrs_engine.specs.Changes.{StoresChunk, ErasesChunk, RetrievesChunk};
 
 use crate::make::MemoryEngine;
 use std::alloc::Global;
 use zarrs_codec::CodecOptions;
 use zarrs_data_type::ArrayBytes;
 use zarrs_engine::ArrayError;
-use zarrs_storage::StorageError;
 
 /// Stores these bytes as the cells of a chunk, in row-major order, and reads them back.
 pub fn store_and_read(
@@ -36,13 +36,17 @@ pub fn erase(
     alloc: Global,
     engine: &mut MemoryEngine,
     chunk_indices: &[u64],
-) -> Result<(), StorageError>
-    requires { length chunk_indices.now ≡ (layout_of engine.old).grid.dimensions }
+) -> Result<(), ArrayError>
     ensures erased { OnOk result (ErasesChunk (layout_of engine.old) chunk_indices.now
         (store_of open_state engine.old) (store_of open_state engine.new)) }
     ensures parts { KeepsParts engine.old engine.new }
 {
-    engine.erase_chunk(alloc, chunk_indices)
+    if chunk_indices.len() != engine.dimensionality() {
+        let indices = chunk_indices.to_vec(alloc)?;
+        return Err(ArrayError::InvalidChunkGridIndicesError(indices));
+    }
+    engine.erase_chunk(alloc, chunk_indices)?;
+    Ok(())
 }
 
 /// Whether some bytes are present at the key of the chunk.

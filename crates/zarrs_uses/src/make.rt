@@ -1,7 +1,4 @@
 //! Makes an array.
-ghost use Rattle.std.specs.Prelude.{◌≡◌, length, IfOk};
-ghost use Rattle.zarrs_engine.specs.Engine.{layout_of};
-
 use anyhow::Result;
 use std::alloc::Global;
 use std::num::NonZeroU64;
@@ -20,9 +17,7 @@ pub fn bytes_array(
     alloc: Global,
     shape: Vec<u64>,
     chunk_shape: Vec<NonZeroU64>,
-) -> Result<MemoryEngine>
-    ensures { IfOk result (λ engine. (layout_of engine).grid.dimensions ≡ length chunk_shape.items) }
-{
+) -> Result<MemoryEngine> {
     let grid = RegularChunkGrid::new(alloc, shape, chunk_shape)?;
     let path = NodePath::new(alloc, "/climate/rain")?;
     let keys = ChunkKeyEncoding::Default(ChunkKeySeparator::Slash);

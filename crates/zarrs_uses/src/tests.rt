@@ -1,7 +1,4 @@
 //! Each use, run.
-ghost use Rattle.std.specs.Prelude.{◌≡◌, length, IfOk};
-ghost use Rattle.zarrs_engine.specs.Engine.{layout_of};
-
 use crate::chunks::{erase, is_present, store_and_read};
 use crate::histories::{count_refused, have_equal_bytes};
 use crate::make::{MemoryEngine, bytes_array};
@@ -11,22 +8,18 @@ use std::alloc::Global;
 use std::num::NonZeroU64;
 use std::process::Abort;
 use std::test::Fail;
-use zarrs_chunk_grid::{ChunkShape, RegularChunkGrid};
+use zarrs_chunk_grid::ChunkShape;
 use zarrs_data_type::ArrayBytes;
 use zarrs_engine::Call;
 
 /// The shape of chunks of 2 by 2 cells.
-fn two_by_two(alloc: Global) -> Result<ChunkShape, Fail>
-    ensures { IfOk result (λ shape. length shape.items ≡ 2) }
-{
+fn two_by_two(alloc: Global) -> Result<ChunkShape, Fail> {
     let two = NonZeroU64::new(2).ok_or("an extent is 0")?;
     Ok(vec![in alloc; two, two]?)
 }
 
 /// An array of 4 by 4 cells in chunks of 2 by 2.
-fn small_array(alloc: Global) -> Result<MemoryEngine, Fail>
-    ensures { IfOk result (λ engine. (layout_of engine).grid.dimensions ≡ 2) }
-{
+fn small_array(alloc: Global) -> Result<MemoryEngine, Fail> {
     Ok(bytes_array(alloc, vec![in alloc; 4, 4]?, two_by_two(alloc)?)?)
 }
 
@@ -64,8 +57,7 @@ fn must_sum(
     sum: Option<u64>,
     end: u64,
 ) -> Result<(), Fail> {
-    let grid = RegularChunkGrid::new(alloc, vec![in alloc; 4, 4]?, two_by_two(alloc)?)?;
-    assert_eq!(rt; sum_of_chunks(alloc, engine, &grid, &[0..2, 1..end])?, sum);
+    assert_eq!(rt; sum_of_chunks(alloc, engine, &[0..2, 1..end])?, sum);
     Ok(())
 }
 

@@ -9,12 +9,12 @@ use zarrs_data_type::ArrayBytes;
 /// The sum of the cells of the chunks that the region meets, or `None` if a position of it is in no chunk.
 ///
 /// The region is a range for each dimension. A chunk counts as a whole, also if the region ends inside it.
-pub fn sum_of_chunks<G: ChunkGridTraits>(
+pub fn sum_of_chunks(
     alloc: Global,
     engine: &MemoryEngine,
-    grid: &G,
     region: &[Range<u64>],
 ) -> Result<Option<u64>> {
+    let grid = engine.chunk_grid();
     let Some(chunks) = grid.chunks_in_array_subset(alloc, &region)? else {
         return Ok(None);
     };
