@@ -28,7 +28,8 @@ pub fn store_and_read(
     let chunk_data = ArrayBytes::from_flen(cells);
     let options = CodecOptions::default();
     engine.store_chunk(alloc, chunk_indices, &chunk_data, &options)?;
-    engine.retrieve_chunk(alloc, chunk_indices)
+    let read = engine.retrieve_chunk(alloc, chunk_indices)?;
+    Ok(read)
 }
 
 /// Erases a chunk. What is read there afterwards is the fill value.
