@@ -2,7 +2,7 @@
 ghost use Rattle.std.specs.Prelude.{◌≡◌, false, IfOk, OnOk};
 ghost use Rattle.zarrs_storage.specs.Memory.{open_state};
 ghost use Rattle.zarrs_data_type.specs.ArrayData.{data_of, fixed};
-ghost use Rattle.zarrs_steps.specs.Changes.{RetrievesChunk};
+ghost use Rattle.zarrs_data_type.specs.Cells.{cells};
 ghost use Rattle.zarrs_steps.specs.Step.{StoresChunk, ErasesChunk};
 ghost use Rattle.zarrs_engine.specs.Engine.{layout_of, store_of, KeepsParts};
 
@@ -12,20 +12,20 @@ use zarrs_codec::CodecOptions;
 use zarrs_data_type::ArrayBytes;
 use zarrs_engine::ArrayError;
 
-/// Stores these bytes as the cells of a chunk, in row-major order, and reads them back.
+/// Stores these bytes as the cells of a chunk, in row-major order, and reads the same cells back.
 pub fn store_and_read(
     alloc: Global,
     engine: &mut MemoryEngine,
     chunk_indices: &[u64],
-    cells: &[u8],
+    chunk_bytes: &[u8],
 ) -> Result<ArrayBytes<'static>, ArrayError>
     ensures stored { OnOk result (StoresChunk (layout_of engine.old) false chunk_indices.now
-        (fixed cells.now) (store_of open_state engine.old) (store_of open_state engine.new)) }
-    ensures read { IfOk result (λ read. RetrievesChunk (layout_of engine.old) chunk_indices.now
-        (data_of read) (store_of open_state engine.new)) }
+        (fixed chunk_bytes.now) (store_of open_state engine.old) (store_of open_state engine.new)) }
+    ensures same { IfOk result (λ read. cells (layout_of engine.old).kind (data_of read)
+        ≡ cells (layout_of engine.old).kind (fixed chunk_bytes.now)) }
     ensures parts { KeepsParts engine.old engine.new }
 {
-    let chunk_data = ArrayBytes::from_flen(cells);
+    let chunk_data = ArrayBytes::from_flen(chunk_bytes);
     let options = CodecOptions::default();
     engine.store_chunk(alloc, chunk_indices, &chunk_data, &options)?;
     let read = engine.retrieve_chunk(alloc, chunk_indices)?;
