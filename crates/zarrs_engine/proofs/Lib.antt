@@ -1,3 +1,4 @@
 mod Chunks
 mod Puts
 mod Writes
+mod Ranges

@@ -10,6 +10,7 @@ use zarrs_data_type::{ArrayBytes, DataType, ElementError, FillValue};
 use zarrs_engine::{ArrayError, Call, Engine, Reply, layouts_are_lawful, replay};
 use zarrs_keys::{ChunkKeyEncoding, ChunkKeySeparator, NodePath};
 use zarrs_storage::{Bytes, MemoryStore, StorageError, StoreKey, WritableStorageTraits};
+use zarrs_subset::ArraySubset;
 
 type MemoryEngine = Engine<MemoryStore, RegularChunkGrid, ChunkKeyEncoding, CodecChain>;
 
@@ -198,6 +199,48 @@ fn data_that_is_no_chunk_is_refused(rt: HostRuntime) -> Result<(), Fail> {
     must_not_fit(&rt, &store(alloc, &mut engine, &[0], &[1, 2, 3], &options));
     must_not_fit(&rt, &store(alloc, &mut engine, &[0], &[], &options));
     must_have(&rt, alloc, &engine, 0, 0)
+}
+
+#[test]
+fn a_range_of_chunks_is_erased(rt: HostRuntime) -> Result<(), Fail> {
+    let alloc = rt.alloc();
+    let mut engine = bytes_engine(alloc, MemoryStore::new(alloc), &[6, 2], &[2, 2], 0)?;
+    let options = CodecOptions::default();
+    for chunk in 0..3 {
+        store(alloc, &mut engine, &[chunk, 0], &[1, 2, 3, 4], &options)?;
+    }
+    must_have(&rt, alloc, &engine, 3, 3)?;
+    let calls = vec![in alloc;
+        Call::EraseChunks(range_of(alloc, &[1, 0], &[2, 1])?),
+        Call::EraseChunks(range_of(alloc, &[0, 0], &[3, 0])?),
+        Call::EraseChunks(range_of(alloc, &[0], &[1])?),
+    ]?;
+    let replies = replay(alloc, &mut engine, &calls, &options)?;
+    must_erase_two(&rt, &replies);
+    must_read(&rt, alloc, &engine, &[0, 0], &[1, 2, 3, 4])?;
+    must_be_present(&rt, alloc, &engine, &[2, 0], false)?;
+    must_have(&rt, alloc, &engine, 1, 5)
+}
+
+fn range_of(alloc: Global, start: &[u64], shape: &[u64]) -> Result<ArraySubset, Fail> {
+    let range = ArraySubset::new_with_start_shape(start.to_vec(alloc)?, shape.to_vec(alloc)?)?;
+    Ok(range)
+}
+
+/// A range, an empty one, and one of another number of dimensions.
+fn must_erase_two(rt: &impl Abort, replies: &[Reply]) {
+    let [erased, nothing, unnamed] = replies else {
+        assert!(rt; false, "three replies");
+        return;
+    };
+    assert!(rt; matches!(erased, Reply::Done));
+    assert!(rt; matches!(nothing, Reply::Done));
+    assert!(rt;
+        matches!(
+            unnamed,
+            Reply::Refused(ArrayError::InvalidChunkGridIndicesError(_))
+        )
+    );
 }
 
 fn must_answer_four(rt: &impl Abort, replies: &[Reply]) {

@@ -1,7 +1,7 @@
 -- What a call does to the array, and what it returns.
 use Rattle.std.specs.Prelude.{◌≡◌, ℕ, Bool, true, false, List, [], ◌∷◌, Option, None, option_map}
 use Rattle.zarrs_storage.specs.Store.{StoreState}
-use Rattle.zarrs_subset.specs.Regions.{Box}
+use Rattle.zarrs_subset.specs.Regions.{Box, positions}
 use Rattle.zarrs_chunk_grid.specs.Grids.{box_at}
 use Rattle.zarrs_data_type.specs.ArrayData.{ArrayData, data_of}
 use Rattle.zarrs_steps.specs.Layout.{Layout}
@@ -45,6 +45,14 @@ ErasesChunk layout index old new = (length_refusal layout index ≡ None) × Era
 -- a refused one, which changes no value
 abbrev pub RefusesEraseChunk : Layout → List ℕ → Refusal → StoreState → StoreState → Type 0
 RefusesEraseChunk layout index r old new = RefusesErase layout (length_refusal layout index) (index ∷ []) r old new
+
+-- an accepted erasure of the chunks of a range, each by one writing call
+abbrev pub ErasesChunks : Layout → Box → StoreState → StoreState → Type 0
+ErasesChunks layout range old new = (length_refusal layout range.start ≡ None) × ErasesAll layout (positions range) old new
+
+-- a refused one, of which a front is done
+abbrev pub RefusesEraseChunks : Layout → Box → Refusal → StoreState → StoreState → Type 0
+RefusesEraseChunks layout range r old new = RefusesErase layout (length_refusal layout range.start) (positions range) r old new
 
 -- What an act does to the store, and what it returns, where this is the first refusal that its arguments decide.
 abbrev pub ActStep : Layout → Bool → Option Refusal → Act → Reply → StoreState → StoreState → Type 0

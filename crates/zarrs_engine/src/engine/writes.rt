@@ -1,4 +1,4 @@
-//! Writes of one chunk.
+//! Writes of chunks.
 use super::Engine;
 use std::alloc::Global;
 use zarrs_chunk_grid::ChunkGridTraits;
@@ -7,6 +7,7 @@ use zarrs_data_type::ArrayBytes;
 use zarrs_keys::ChunkKeyEncodingTraits;
 use zarrs_steps::ArrayError;
 use zarrs_storage::{Bytes, StorageError, StoreKey, WritableStorageTraits};
+use zarrs_subset::ArraySubset;
 
 impl<
     S: WritableStorageTraits,
@@ -15,11 +16,12 @@ impl<
     C: ChainTraits,
 > Engine<S, G, K, C> {
     ghost use Rattle.std.specs.Prelude.{◌≡◌, IfErr, OnOk, length, option_map};
+    ghost use Rattle.zarrs_subset.specs.Regions.{box_of};
     ghost use Rattle.zarrs_data_type.specs.ArrayData.{data_of};
     ghost use Rattle.zarrs_codec.specs.Options.{stores_empty_chunks};
     ghost use Rattle.zarrs_steps.specs.Refusals.{refusal_of, refusal_of_storage};
     ghost use Rattle.zarrs_steps.specs.Changes.{IsPut};
-    ghost use Rattle.zarrs_steps.specs.Step.{StoresChunk, RefusesStoreChunk, ErasesChunk, RefusesEraseChunk};
+    ghost use Rattle.zarrs_steps.specs.Step.{StoresChunk, RefusesStoreChunk, ErasesChunk, RefusesEraseChunk, ErasesChunks, RefusesEraseChunks};
     ghost use Rattle.zarrs_engine.specs.Engine.{layout_of, store_of, KeepsParts};
     ghost use Rattle.zarrs_engine.specs.Parts.{RefusesPut};
 
@@ -96,5 +98,35 @@ impl<
     {
         let key = self.parts.chunk_key(alloc, chunk_indices)?;
         self.put(alloc, &key, None)
+    }
+
+    /// Erases the chunks with the indices in the range, in row-major order, whether they are present or not, each by one
+    /// writing call of the store. An empty range asks nothing of the store.
+    ///
+    /// # Errors
+    /// If the store refuses, and `OutOfMemory`. The chunks before that one are gone then, and no later one.
+    pub fn erase_chunks(
+        &mut self,
+        alloc: Global,
+        chunks: &ArraySubset,
+    ) -> Result<(), StorageError>
+        requires { length (box_of chunks.now).start ≡ (layout_of self.old).grid.dimensions }
+        ensures done { OnOk result
+            (ErasesChunks (layout_of self.old) (box_of chunks.now) (store_of S.state self.old)
+            (store_of S.state self.new)) }
+        ensures refused { IfErr result
+            (λ e. RefusesEraseChunks (layout_of self.old) (box_of chunks.now)
+            (refusal_of_storage e) (store_of S.state self.old) (store_of S.state self.new)) }
+        ensures parts { KeepsParts self.old self.new }
+    {
+        let Some(mut walk) = chunks.walk(alloc)? else {
+            return Ok(());
+        };
+        loop {
+            self.erase_chunk(alloc, walk.current())?;
+            if !walk.advance() {
+                return Ok(());
+            }
+        }
     }
 }
