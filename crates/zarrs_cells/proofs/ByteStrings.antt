@@ -7,11 +7,10 @@ use Rattle.std.proofs.lemmas.Bool.{false≢true}
 use Rattle.std.proofs.lemmas.Grind.{flat_map-append}
 use Rattle.std.proofs.lemmas.List.{ext_get_or, length_push, get_or_push, get_or_append_left, length-append, take_all, take-append-le, drop-append-le, length-drop, length-take-le}
 use Rattle.std.proofs.lemmas.List.FromFn.{length-map-range_with_len, get_or-map-range_with_len, map-range_with_len_more}
-use Rattle.std.proofs.lemmas.List.Sorted.{IsNonDecreasingBy-push}
 use Rattle.std.proofs.lemmas.List.Sums.{sum_by_more}
 use Rattle.std.proofs.Math.Seq.{take-add, drop-append_seam}
 use borrow.Author.Count.{below_more}
-use Rattle.zarrs_cells.specs.Offsets.{AreOffsets, AreCuts, last_offset, byte_strings, joined, offsets_of}
+use Rattle.zarrs_cells.specs.Offsets.{AreOffsets, AreCuts, byte_strings, joined, offsets_of}
 
 -- a slice of the front
 slice_range-front : (xs ys : List ℕ) (a b : ℕ) → a ≤ b → b ≤ length xs → slice_range (xs ++ ys) a b ≡ slice_range xs a b
@@ -60,21 +59,21 @@ strings_push offsets bytes string cuts =
     ext_get_or [] (byte_strings o b) (byte_strings offsets bytes ++ string ∷ [])
     (omega (arith, length_strings o b, length_strings offsets bytes, length_push (byte_strings offsets bytes) string))
     (λ i lt.
-        let within : i < n + 1 = omega (arith, length_strings o b) in
-        strings_at o b i (omega arith) ∙ below_more (λ k. slice_range b (slice_index o k) (slice_index o (k + 1)) ≡ get_or (byte_strings offsets bytes ++ string ∷ []) k []) n
-        (λ k below.
-            let here = get_or_append_left offsets (length b ∷ []) 0 k (omega arith) in
-            let next = get_or_append_left offsets (length b ∷ []) 0 (k + 1) (omega arith) in
-            let rise = offset_rises offsets bytes cuts k (omega arith) in
-            let cut = offset_within offsets bytes cuts (k + 1) (omega arith) in
-            rw (here, next) (slice_range-front bytes string (slice_index offsets k) (slice_index offsets (k + 1)) rise cut)
-            ∙ sym (strings_at offsets bytes k (omega arith))
-            ∙ sym (get_or_append_left (byte_strings offsets bytes) (string ∷ []) [] k (omega (arith, length_strings offsets bytes))))
-        (let here = get_or_append_left offsets (length b ∷ []) 0 n (omega arith) in
-         let next = get_or_push offsets (length b) 0 (n + 1) (omega arith) in
-         slice_range-seam bytes string (slice_index o n) (slice_index o (n + 1)) (here ∙ last) (next ∙ sum)
-         ∙ sym (get_or_push (byte_strings offsets bytes) string [] n (length_strings offsets bytes)))
-        i within)
+    let within : i < n + 1 = omega (arith, length_strings o b) in
+    strings_at o b i (omega arith) ∙ below_more (λ k. slice_range b (slice_index o k) (slice_index o (k + 1)) ≡ get_or (byte_strings offsets bytes ++ string ∷ []) k []) n
+    (λ k below.
+    let here = get_or_append_left offsets (length b ∷ []) 0 k (omega arith) in
+    let next = get_or_append_left offsets (length b ∷ []) 0 (k + 1) (omega arith) in
+    let rise = offset_rises offsets bytes cuts k (omega arith) in
+    let cut = offset_within offsets bytes cuts (k + 1) (omega arith) in
+    rw (here, next) (slice_range-front bytes string (slice_index offsets k) (slice_index offsets (k + 1)) rise cut)
+    ∙ sym (strings_at offsets bytes k (omega arith))
+    ∙ sym (get_or_append_left (byte_strings offsets bytes) (string ∷ []) [] k (omega (arith, length_strings offsets bytes))))
+    (let here = get_or_append_left offsets (length b ∷ []) 0 n (omega arith) in
+    let next = get_or_push offsets (length b) 0 (n + 1) (omega arith) in
+    slice_range-seam bytes string (slice_index o n) (slice_index o (n + 1)) (here ∙ last) (next ∙ sum)
+    ∙ sym (get_or_push (byte_strings offsets bytes) string [] n (length_strings offsets bytes)))
+    i within)
 
 -- the same, if the new offset is that length
 pub strings_push_at : (offsets bytes string : List ℕ) (end : ℕ) → AreCuts offsets bytes → end ≡ length (bytes ++ string) → byte_strings (offsets ++ end ∷ []) (bytes ++ string) ≡ byte_strings offsets bytes ++ string ∷ []
@@ -133,9 +132,9 @@ offsets_of-strings offsets bytes cuts =
     let count = length_strings offsets bytes in
     ext_get_or 0 (offsets_of strings) offsets (omega (arith, len, count, cuts.are_offsets.not_empty))
     (λ i lt.
-        let here : i < length strings + 1 = omega (arith, len) in
-        get_or-map-range_with_len at 0 (length strings + 1) i i 0 here (omega arith)
-        ∙ sum_front offsets bytes cuts i (omega (arith, count)))
+    let here : i < length strings + 1 = omega (arith, len) in
+    get_or-map-range_with_len at 0 (length strings + 1) i i 0 here (omega arith)
+    ∙ sum_front offsets bytes cuts i (omega (arith, count)))
 
 -- the first number is 0, and a test tells whether they do not fall
 pub offsets_test : (numbers : List ℕ) (test : Bool) → 0 < length numbers → slice_index numbers 0 ≡ 0

@@ -1,8 +1,8 @@
 -- Data whose cells are all that of a fill value, level by level.
-use Rattle.std.proofs.Common.{◌≡◌, ◌==◌, ℕ, ◌+◌, ◌-◌, ◌*◌, ◌/◌, ◌<◌, Bool, true, false, cond, eqb, ◌&&◌, List, [], ◌∷◌, length, map, take, get_or, Option, None, Some, IsTrue, ◌↔◌, refl, sym, ap, ◌∙◌, subst, arith}
-use Rattle.std.specs.Prelude.{All, IsSome, IfSome, slice_index, slice_index_or, slice_range, is_some, unwrap_or, option_map, nat_lt}
+use Rattle.std.proofs.Common.{◌≡◌, ◌==◌, ℕ, ◌+◌, ◌*◌, ◌/◌, ◌<◌, Bool, true, false, cond, eqb, ◌&&◌, List, [], ◌∷◌, length, get_or, Option, None, Some, IsTrue, ◌↔◌, refl, sym, ap, ◌∙◌, subst, arith}
+use Rattle.std.specs.Prelude.{All, IsSome, IfSome, slice_index, slice_range, unwrap_or, option_map}
 use Rattle.std.specs.Bool.{Decides}
-use Rattle.std.specs.List.{range_with_len, list_all}
+use Rattle.std.specs.List.{list_all}
 use Rattle.std.specs.Str.{bytes_eq}
 use Rattle.std.proofs.lemmas.Bool.{eqb-true, eq-eqb, and_parts, false≢true}
 use Rattle.std.proofs.lemmas.List.{get_or_default}
@@ -13,11 +13,11 @@ use Rattle.std.proofs.Math.Nat.{mul-div_cancel}
 use Rattle.zarrs_types.specs.declared.data_type.DataType.{DataType}
 use Rattle.zarrs_types.specs.Kind.{Kind, kind, element_size, is_variable, inner_of}
 use Rattle.zarrs_types.specs.Kind as type
-use Rattle.zarrs_types.specs.Cell.{Cell, bytes, none, some, is_element, is_value, cell_eq, fill_cell, fill_of, inner_fill}
+use Rattle.zarrs_types.specs.Cell.{Cell, bytes, none, some, is_element, cell_eq, fill_cell, fill_of, inner_fill}
 use Rattle.zarrs_types.proofs.Same.{cell_eq-true, eq-cell_eq}
 use Rattle.zarrs_types.proofs.Sizes.{element_size-positive}
 use Rattle.zarrs_cells.specs.ArrayData.{ArrayData, fixed, variable, optional}
-use Rattle.zarrs_cells.specs.Cells.{fits, cell_at, cells, HasCells, AreAllCells, AreAllStrings}
+use Rattle.zarrs_cells.specs.Cells.{fits, cell_at, cells, AreAllCells, AreAllStrings}
 use Rattle.zarrs_subset.specs.Pieces.{pieces}
 use Rattle.zarrs_cells.proofs.Cells.{cells-parts}
 use Rattle.zarrs_cells.proofs.Fills.{fill_parts}

@@ -1,14 +1,15 @@
 -- Whether data has so many cells of a type, level by level.
-use Rattle.std.proofs.Common.{◌≡◌, ◌==◌, ℕ, ◌*◌, ◌<◌, Bool, true, false, cond, eqb, List, [], length, map, get_or, Option, None, Some, IsTrue, ◌↔◌, refl, sym, ap, ◌∙◌, subst, arith}
-use Rattle.std.specs.Prelude.{slice_index, is_some, slice_index_or}
-use Rattle.std.proofs.lemmas.Bool.{eqb-true, false≢true}
+use Rattle.std.proofs.Common.{◌≡◌, ◌==◌, ℕ, ◌<◌, Bool, true, false, cond, List, [], map, get_or, None, Some, IsTrue, ◌↔◌, refl, sym, ap, ◌∙◌, subst, arith}
+use Rattle.std.specs.Prelude.{All, nat_lt, slice_index, is_some, slice_index_or}
+use Rattle.std.specs.List.{list_all}
+use Rattle.std.proofs.lemmas.Bool.{false≢true, lt-ltb}
 use Rattle.std.proofs.lemmas.List.{length-map, get_or-map}
 use Rattle.std.proofs.lemmas.List.FromFn.{get_or-map-range_with_len}
-use Rattle.std.proofs.lemmas.List.Sums.{AllPass-from_list_all}
+use Rattle.std.proofs.lemmas.List.Sums.{AllPass-from_list_all, list_all-from_AllPass}
 use Rattle.zarrs_types.specs.declared.data_type.DataType.{DataType}
 use Rattle.zarrs_types.specs.Kind.{Kind, kind, element_size, is_variable, inner_of}
 use Rattle.zarrs_types.specs.Kind as type
-use Rattle.zarrs_types.specs.Cell.{Cell, bytes, none, some, is_element, is_value, may_hold, takes_any_bytes}
+use Rattle.zarrs_types.specs.Cell.{bytes, none, some, is_element, is_value, may_hold, takes_any_bytes}
 use Rattle.zarrs_types.proofs.Sizes.{element_size-positive}
 use Rattle.zarrs_cells.specs.ArrayData.{ArrayData, fixed, variable, optional}
 use Rattle.zarrs_cells.specs.Cells.{fits, cell_at, HasCells}
@@ -82,3 +83,8 @@ tested_true p = (λ _. p, λ _. refl)
 
 pub tested_false : {P : Type 0} → (P → ⊥) → IsTrue false ↔ P
 tested_false fails = (λ is. absurd (false≢true is), λ p. absurd (fails p))
+
+-- a list with a byte above 1 is no mask
+pub no_flags : (mask : List ℕ) → list_all (λ byte. nat_lt byte 2) mask ≡ false → All (λ byte. byte < 2) mask → ⊥
+no_flags mask differs flags =
+    false≢true (sym differs ∙ list_all-from_AllPass (λ byte. nat_lt byte 2) mask (λ i d lt. lt-ltb (get_or mask i d) 2 (flags i d lt)))

@@ -1,6 +1,7 @@
 //! Masks of optional data.
-ghost use Rattle.std.specs.Prelude.{◌≡◌, ◌<◌, All, IfOk};
+ghost use Rattle.std.specs.Prelude.{◌≡◌, ◌<◌, All, IfOk, nat_lt};
 ghost use Rattle.std.specs.Cow.{cow_slice_items};
+ghost use Rattle.std.specs.List.{list_all};
 
 use std::alloc::{AllocError, Global};
 use std::borrow::CowSlice;
@@ -48,4 +49,15 @@ impl<'a> Mask<'a> {
             bytes: CowSlice::Owned(self.bytes.into_owned(alloc)?),
         })
     }
+}
+
+/// Whether each byte is 0 or 1. It stops at no byte, so that many are tested at a time.
+pub(crate) fn are_flags(bytes: &[u8]) -> bool
+    ensures { result ≡ list_all (λ byte. nat_lt byte 2) bytes.now }
+{
+    let mut fine = true;
+    for byte in bytes {
+        fine &= *byte < 2;
+    }
+    fine
 }

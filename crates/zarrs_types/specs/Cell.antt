@@ -65,9 +65,9 @@ inner_fill f =
 -- the cell of these bytes of a fill value: for an optional type the inner bytes and then 1 are some, and the one byte 0 is none
 abbrev pub fill_cell : Kind → List ℕ → Option Cell
 fill_cell (type.optional inner) f = elim (inner_fill f) [
-    | None ↦ if bytes_eq f (0 ∷ []) then Some none else None
-    | Some front ↦ option_map some (fill_cell inner front)
-  ]
+  | None ↦ if bytes_eq f (0 ∷ []) then Some none else None
+  | Some front ↦ option_map some (fill_cell inner front)
+]
 fill_cell k f = if is_element k f then Some (bytes f) else None
 
 -- the cell of the bytes of a fill value of the type

@@ -6,6 +6,7 @@ ghost use Rattle.zarrs_types.specs.Cell.{may_hold};
 ghost use Rattle.zarrs_cells.specs.Cells.{HasCells};
 ghost use Rattle.zarrs_types.specs.Kind.{kind};
 
+use crate::mask::are_flags;
 use zarrs_types::DataType;
 
 /// Whether so many cells of this size take so many bytes.
@@ -13,17 +14,6 @@ pub(super) fn is_size_of(len: usize, count: u64, size: usize) -> bool
     ensures { IsTrue result ↔ (len ≡ count * size) }
 {
     count.checked_mul(size as u64) == Some(len as u64)
-}
-
-/// Whether each byte is 0 or 1. It stops at no byte, so that many are tested at a time.
-fn are_flags(bytes: &[u8]) -> bool
-    ensures { result ≡ list_all (λ byte. nat_lt byte 2) bytes.now }
-{
-    let mut fine = true;
-    for byte in bytes {
-        fine &= *byte < 2;
-    }
-    fine
 }
 
 /// Whether each of these bytes may stand in a cell of the type.

@@ -2,7 +2,7 @@ use Rattle.std.proofs.Common.{sym}
 use Rattle.zarrs_cells.specs.ArrayData.{data_of}
 use Rattle.zarrs_types.specs.Kind.{kind}
 use Rattle.zarrs_types.specs.Cell.{fill_of}
-use Rattle.zarrs_cells.proofs.Filled.{is_fill-cells, fits-cells}
+use Rattle.zarrs_cells.proofs.Filled.{is_fill-cells}
 use Rattle.zarrs_cells.proofs.array_bytes.ArrayBytes.is_fill_value.Goals as goal
 
 pub returns : goal.returns

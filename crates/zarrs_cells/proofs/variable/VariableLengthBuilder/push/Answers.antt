@@ -1,4 +1,4 @@
-use Rattle.std.proofs.Common.{◌≡◌, ◌++◌, ◌∙◌, length, arith, ap}
+use Rattle.std.proofs.Common.{◌≡◌, ◌++◌, length, arith, ap}
 use Rattle.zarrs_cells.proofs.ByteStrings.{strings_push_at}
 use Rattle.zarrs_cells.proofs.variable.VariableLengthBuilder.push.Goals as goal
 

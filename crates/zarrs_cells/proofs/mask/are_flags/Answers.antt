@@ -2,7 +2,7 @@ use Rattle.std.proofs.Common.{nat_lt, ◌&&◌, slice_index_or, ap, sym, ◌∙�
 use Rattle.std.specs.List.{list_all}
 use Rattle.std.proofs.lemmas.List.{take_all}
 use Rattle.zarrs_cells.proofs.Pieces.{all-take_more}
-use Rattle.zarrs_cells.proofs.array_bytes.fixed.are_flags.Goals as goal
+use Rattle.zarrs_cells.proofs.mask.are_flags.Goals as goal
 
 pub loop-byte-preserved : goal.loop-byte-preserved
 loop-byte-preserved c =
