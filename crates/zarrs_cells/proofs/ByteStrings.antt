@@ -1,5 +1,5 @@
 -- Byte strings that offsets cut from bytes.
-use Rattle.std.proofs.Common.{◌≡◌, ℕ, zero, suc, ◌+◌, ◌-◌, ◌<◌, ◌≤◌, Bool, true, false, List, [], ◌∷◌, ◌++◌, length, map, take, drop, get_or, refl, sym, ap, ◌∙◌, arith, IsTrue, ◌↔◌, append-nil}
+use Rattle.std.proofs.Common.{◌≡◌, ℕ, zero, suc, ◌+◌, ◌-◌, ◌*◌, ◌<◌, ◌≤◌, Bool, true, false, List, [], ◌∷◌, ◌++◌, length, map, take, drop, get_or, refl, sym, ap, ◌∙◌, arith, IsTrue, ◌↔◌, append-nil}
 use Rattle.std.specs.Prelude.{slice_index, slice_index_or, slice_range, MatchBool, sum_by}
 use Rattle.std.specs.List.{range_with_len, flat_map}
 use Rattle.std.specs.List.Sorted.{IsNonDecreasing}
@@ -9,6 +9,7 @@ use Rattle.std.proofs.lemmas.List.{ext_get_or, length_push, get_or_push, get_or_
 use Rattle.std.proofs.lemmas.List.FromFn.{length-map-range_with_len, get_or-map-range_with_len, map-range_with_len_more}
 use Rattle.std.proofs.lemmas.List.Sums.{sum_by_more}
 use Rattle.std.proofs.Math.Seq.{take-add, drop-append_seam}
+use Rattle.std.proofs.Math.Nat.{mul-le-mul_right}
 use borrow.Author.Count.{below_more}
 use Rattle.zarrs_cells.specs.Offsets.{AreOffsets, AreCuts, byte_strings, joined, offsets_of}
 
@@ -26,6 +27,21 @@ slice_range-seam xs ys a b from to =
     ∙ ap (λ k. take (length ys) (drop k (xs ++ ys))) from
     ∙ ap (take (length ys)) (drop-append_seam xs ys)
     ∙ take_all (length ys) ys (omega arith)
+
+-- one more cell of one size
+pub fixed_push : (out piece : List ℕ) (size i : ℕ) (f : ℕ → List ℕ) → length out ≡ i * size → length piece ≡ size → ((k : ℕ) → k < i → slice_range out (k * size) (k * size + size) ≡ f k) → piece ≡ f i → (k : ℕ) → k < i + 1 → slice_range (out ++ piece) (k * size) (k * size + size) ≡ f k
+fixed_push out piece size i f len one below here =
+    below_more (λ k. slice_range (out ++ piece) (k * size) (k * size + size) ≡ f k) i
+    (λ k lt.
+        let within = mul-le-mul_right {m = k + 1} {n = i} size (omega arith) in
+        slice_range-front out piece (k * size) (k * size + size) (omega arith) (omega arith) ∙ below k lt)
+    (slice_range-seam out piece (i * size) (i * size + size) (sym len) (omega arith) ∙ here)
+
+-- a cell of one size has that size
+pub length-fixed_cell : (bytes : List ℕ) (size n p : ℕ) → length bytes ≡ n * size → p < n → length (slice_range bytes (p * size) (p * size + size)) ≡ size
+length-fixed_cell bytes size n p len lt =
+    let within = mul-le-mul_right {m = p + 1} {n = n} size (omega arith) in
+    length-take-le (p * size + size - p * size) (drop (p * size) bytes) (omega (arith, length-drop (p * size) bytes)) ∙ omega arith
 
 pub length_strings : (offsets bytes : List ℕ) → length (byte_strings offsets bytes) ≡ length offsets - 1
 length_strings offsets bytes =

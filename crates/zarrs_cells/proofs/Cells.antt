@@ -3,7 +3,7 @@ use Rattle.std.proofs.Common.{◌≡◌, ℕ, ◌*◌, ◌/◌, ◌<◌, Bool, t
 use Rattle.std.specs.Prelude.{IsSomeAnd, IsSome, is_some}
 use Rattle.std.specs.List.{range_with_len}
 use Rattle.std.proofs.Math.Nat.{mul-div_cancel}
-use Rattle.std.proofs.lemmas.Bool.{eqb-true, and_parts}
+use Rattle.std.proofs.lemmas.Bool.{eqb-true, eq-eqb, and_parts}
 use Rattle.std.proofs.lemmas.List.{ext_get_or}
 use Rattle.std.proofs.lemmas.List.FromFn.{length-map-range_with_len, get_or-map-range_with_len}
 use Rattle.std.proofs.lemmas.List.Sums.{AllPass-from_list_all, list_all-from_AllPass}
@@ -110,3 +110,11 @@ HasCells-some k d cs is = subst (λ o. IsSomeAnd o (λ x. length x ≡ length cs
 
 pub HasCells-IsSome : (k : Kind) (d : ArrayData) (n : ℕ) → HasCells k d n → IsSome (cells k d)
 HasCells-IsSome k d n has = let made = HasCells-cells k d n has in ap is_some made.1
+
+fitting_size : (o : Option ℕ) (size n : ℕ) (b : List ℕ) → o ≡ Some size → length b ≡ n * size → elim o [ None ↦ false | Some s ↦ eqb (length b) (n * s) ] ≡ true
+fitting_size None size n b is len = cc
+fitting_size (Some s) size n b is len = let e : s ≡ size = cc in eq-eqb (length b) (n * s) (len ∙ ap (λ m. n * m) (sym e))
+
+-- bytes of the right length fit
+pub fitting-fixed : (k : Kind) (size : ℕ) (b : List ℕ) (n : ℕ) → element_size k ≡ Some size → length b ≡ n * size → fits k (fixed b) n ≡ true
+fitting-fixed k size b n is len = fitting_size (element_size k) size n b is len

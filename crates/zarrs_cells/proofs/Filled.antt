@@ -16,6 +16,7 @@ use Rattle.zarrs_types.specs.Kind as type
 use Rattle.zarrs_types.specs.Cell.{Cell, bytes, none, some, is_element, cell_eq, fill_cell, fill_of, inner_fill}
 use Rattle.zarrs_types.proofs.Same.{cell_eq-true, eq-cell_eq}
 use Rattle.zarrs_types.proofs.Sizes.{element_size-positive}
+use Rattle.zarrs_types.proofs.Values.{fill-none, fill-some, fill-variable}
 use Rattle.zarrs_cells.specs.ArrayData.{ArrayData, fixed, variable, optional}
 use Rattle.zarrs_cells.specs.Cells.{fits, cell_at, cells, AreAllCells, AreAllStrings}
 use Rattle.zarrs_subset.specs.Pieces.{pieces}
@@ -60,54 +61,6 @@ pub cell_at-some : (k u : Kind) (mask : List ℕ) (inner : ArrayData) (i : ℕ) 
 cell_at-some k u mask inner i is_inner is =
     ap (λ flag. cond (flag == 0) none (elim (inner_of k) [ None ↦ none | Some v ↦ some (cell_at v inner i) ])) is
     ∙ ap (λ o. elim o [ None ↦ none | Some v ↦ some (cell_at v inner i) ]) is_inner
-
--- ---- fill values
-
-variable_inner : (k : Kind) → is_variable k ≡ true → inner_of k ≡ None
-variable_inner type.string is = refl
-variable_inner type.bytes is = refl
-variable_inner k is = cc
-
-plain_fill : (k : Kind) (f : List ℕ) → inner_of k ≡ None → fill_cell k f ≡ cond (is_element k f) (Some (bytes f)) None
-plain_fill (type.optional u) f is = cc
-plain_fill k f is = refl
-
-cond_fill : (b : Bool) (o : Option Cell) (f : List ℕ) → o ≡ cond b (Some (bytes f)) None → IsSome o → (b ≡ true) × (unwrap_or o none ≡ bytes f)
-cond_fill true o f is there = (refl, ap (λ p. unwrap_or p none) is)
-cond_fill false o f is there = let nothing : IsSome {T = Cell} None = subst IsSome is there in cc
-
--- a fill value of string or bytes is a cell of its bytes
-pub fill-variable : (k : Kind) (f : List ℕ) → is_variable k ≡ true → IsSome (fill_cell k f) → (is_element k f ≡ true) × (fill_of k f ≡ bytes f)
-fill-variable k f is there = cond_fill (is_element k f) (fill_cell k f) f (plain_fill k f (variable_inner k is)) there
-
-optional_kind : (k u : Kind) → inner_of k ≡ Some u → k ≡ type.optional u
-optional_kind (type.optional v) u is = let e : v ≡ u = cc in ap type.optional e
-optional_kind k u is = cc
-
--- a fill value that does not end in 1 is none
-pub fill-none : (k u : Kind) (f : List ℕ) → inner_of k ≡ Some u → inner_fill f ≡ None → fill_of k f ≡ none
-fill-none k u f is_inner front =
-    ap (λ j. fill_of j f) (optional_kind k u is_inner)
-    ∙ ap (λ o. unwrap_or (elim o [ None ↦ cond (bytes_eq f (0 ∷ [])) (Some none) None | Some p ↦ option_map some (fill_cell u p) ]) none) front
-    ∙ go (bytes_eq f (0 ∷ []))
-  where
-    go : (b : Bool) → unwrap_or (cond b (Some none) None) none ≡ none
-    go true = refl
-    go false = refl
-
-mapped : (o : Option Cell) → IsSome (option_map some o) → IsSome o × (unwrap_or (option_map some o) none ≡ some (unwrap_or o none))
-mapped None there = let nothing : IsSome {T = Cell} None = there in cc
-mapped (Some c) there = (refl, refl)
-
--- one that ends in 1 is some of the cell of the bytes before it
-pub fill-some : (k u : Kind) (f front : List ℕ) → inner_of k ≡ Some u → inner_fill f ≡ Some front → IsSome (fill_cell k f)
-    → IsSome (fill_cell u front) × (fill_of k f ≡ some (fill_of u front))
-fill-some k u f front is_inner is there =
-    let made : fill_cell k f ≡ option_map some (fill_cell u front) =
-    ap (λ j. fill_cell j f) (optional_kind k u is_inner)
-    ∙ ap (λ o. elim o [ None ↦ cond (bytes_eq f (0 ∷ [])) (Some none) None | Some p ↦ option_map some (fill_cell u p) ]) is in
-    let both = mapped (fill_cell u front) (subst IsSome made there) in
-    (both.0, ap (λ o. unwrap_or o none) made ∙ both.1)
 
 -- ---- tests of all bytes
 

@@ -3,6 +3,7 @@ pub mod Cells
 pub mod Filled
 pub mod Fills
 pub mod Fixed
+pub mod Made
 pub mod Pieces
 pub mod Validity
 mod Periods

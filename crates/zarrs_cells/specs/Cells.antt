@@ -1,5 +1,5 @@
 -- The cells that array bytes stand for.
-use Rattle.std.specs.Prelude.{◌≡◌, ℕ, ◌+◌, ◌*◌, ◌/◌, Bool, false, Option, None, Some, List, [], map, length, ◌==◌, ◌&&◌, slice_index, slice_index_or, slice_range, if◌then◌else◌, IsSomeAnd, ◌<◌, IsTrue}
+use Rattle.std.specs.Prelude.{◌≡◌, ℕ, ◌+◌, ◌*◌, ◌/◌, Bool, true, false, Option, None, Some, List, [], map, length, ◌==◌, ◌&&◌, slice_index, slice_index_or, slice_range, if◌then◌else◌, IsSomeAnd, ◌<◌, IsTrue, All}
 use Rattle.std.specs.List.{range_with_len}
 use Rattle.zarrs_types.specs.Kind.{Kind, element_size, is_variable, inner_of}
 use Rattle.zarrs_types.specs.Cell.{Cell, bytes, none, some, are_values}
@@ -46,3 +46,17 @@ AreAllStrings strings string = (i : ℕ) → i < length strings → slice_index_
 -- there is a cell of number i, of data that fits
 abbrev pub HasCellAt : Kind → ArrayData → ℕ → Type 0
 HasCellAt k d i = (n : ℕ) × (i < n) × IsTrue (fits k d n)
+
+-- data of n cells, each of which is this one
+pub record IsFilled (k : Kind) (d : ArrayData) (n : ℕ) (c : Cell) : Type 0 where
+  pub has_kind : fits k d n ≡ true
+  pub each_cell : AreAllCells k d n c
+
+-- the cells at these places can be taken
+abbrev pub CanSelect : Kind → ArrayData → List ℕ → Type 0
+CanSelect k d places = (n : ℕ) × IsTrue (fits k d n) × All (λ p. p < n) places
+
+-- the new data has the old one's cells at these places, in their order
+pub record IsSelection (k : Kind) (new old : ArrayData) (places : List ℕ) : Type 0 where
+  pub has_kind : fits k new (length places) ≡ true
+  pub each_cell : (i : ℕ) → i < length places → cell_at k new i ≡ cell_at k old (slice_index places i)

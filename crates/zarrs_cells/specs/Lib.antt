@@ -4,4 +4,3 @@ pub use Rattle.zarrs_types.specs.Same
 pub mod ArrayData
 pub mod Cells
 pub mod Offsets
-pub mod Refusals

@@ -15,6 +15,7 @@ use std::borrow::CowSlice;
 
 mod fill;
 mod fixed;
+mod select;
 mod validate;
 
 /// The cells of an array or of a part of it, in row-major order.

@@ -9,8 +9,7 @@ mod variable;
 
 pub use array_bytes::{ArrayBytes, ArrayBytesOptional};
 pub use error::{
-    DataTypeFillValueError, ExpectedFixedLengthBytesError, ExpectedOptionalBytesError,
-    ExpectedVariableLengthBytesError,
+    ExpectedFixedLengthBytesError, ExpectedOptionalBytesError, ExpectedVariableLengthBytesError,
 };
 pub use offsets::ArrayBytesOffsets;
 pub use variable::{ArrayBytesVariableLength, VariableLengthBuilder};

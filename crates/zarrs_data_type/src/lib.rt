@@ -6,7 +6,6 @@ mod error;
 pub use error::{ArrayBytesFixedDisjointViewCreateError, ElementError};
 pub use zarrs_cells::{
     ArrayBytes, ArrayBytesOffsets, ArrayBytesOptional, ArrayBytesVariableLength,
-    DataTypeFillValueError, ExpectedFixedLengthBytesError, ExpectedOptionalBytesError,
-    ExpectedVariableLengthBytesError, VariableLengthBuilder,
+    ExpectedFixedLengthBytesError, ExpectedOptionalBytesError, ExpectedVariableLengthBytesError, VariableLengthBuilder,
 };
 pub use zarrs_types::{DataType, FillValue, data_type, inner_fill};

@@ -1,11 +1,12 @@
 -- The sizes of cells.
 use Rattle.std.proofs.Common.{◌≡◌, ℕ, ◌<◌, eqb, List, length, None, Some, true, refl, ◌∙◌, arith}
+use Rattle.std.specs.Prelude.{unwrap_or}
 use Rattle.std.proofs.lemmas.Bool.{eqb-true, and_parts}
 use Rattle.zarrs_types.specs.declared.data_type.DataType.{DataType}
 use Rattle.zarrs_types.specs.declared.data_type.DataType as ty
-use Rattle.zarrs_types.specs.Kind.{Kind, kind, element_size, cell_size, inner_of}
+use Rattle.zarrs_types.specs.Kind.{Kind, kind, element_size, fixed_size, cell_size, inner_of}
 use Rattle.zarrs_types.specs.Kind as type
-use Rattle.zarrs_types.specs.Cell.{is_element}
+use Rattle.zarrs_types.specs.Cell.{Cell, bytes, none, some, is_element, held_size}
 
 some_is : {A : Type 0} {x y : A} → Some x ≡ Some y → x ≡ y
 some_is e = cc
@@ -88,3 +89,25 @@ element_len type.uint64 size b is v = eqb-true (length b) 8 v ∙ some_is is
 element_len (type.raw n) size b is v = eqb-true (length b) n v ∙ some_is is
 element_len type.string size b is v = cc
 element_len type.bytes size b is v = cc
+
+-- a cell takes as many bytes in an optional type as in its inner type
+pub held_size-inner : (u : Kind) (c : Cell) → held_size (type.optional u) c ≡ held_size u c
+held_size-inner u (bytes b) = refl
+held_size-inner u none = refl
+held_size-inner u (some c) = held_size-inner u c
+
+-- it is the size of a cell of a fixed type, and 1 of another
+pub cell_size-fixed : (k : Kind) → unwrap_or (fixed_size k) 1 ≡ cell_size k
+cell_size-fixed (type.optional inner) = cell_size-fixed inner
+cell_size-fixed type.string = refl
+cell_size-fixed type.bytes = refl
+cell_size-fixed (type.raw size) = refl
+cell_size-fixed type.bool = refl
+cell_size-fixed type.int8 = refl
+cell_size-fixed type.int16 = refl
+cell_size-fixed type.int32 = refl
+cell_size-fixed type.int64 = refl
+cell_size-fixed type.uint8 = refl
+cell_size-fixed type.uint16 = refl
+cell_size-fixed type.uint32 = refl
+cell_size-fixed type.uint64 = refl

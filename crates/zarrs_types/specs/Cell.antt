@@ -1,8 +1,8 @@
 -- Cells, and which of them are values of a type.
-use Rattle.std.specs.Prelude.{ℕ, ◌-◌, Bool, true, false, Option, None, Some, List, [], ◌∷◌, ◌++◌, length, take, ◌==◌, ◌&&◌, nat_lt, slice_index, is_some, option_map, unwrap_or, if◌then◌else◌}
+use Rattle.std.specs.Prelude.{ℕ, ◌-◌, Bool, true, false, Option, None, Some, List, [], ◌∷◌, ◌++◌, length, take, ◌==◌, ◌&&◌, nat_lt, max, slice_index, is_some, option_map, unwrap_or, if◌then◌else◌}
 use Rattle.std.specs.List.{list_all}
 use Rattle.std.specs.Str.{is_utf8, bytes_eq}
-use Rattle.zarrs_types.specs.Kind.{Kind, element_size, inner_of}
+use Rattle.zarrs_types.specs.Kind.{Kind, element_size, cell_size, inner_of}
 use Rattle.zarrs_types.specs.Kind as type
 
 -- bytes, or for an optional type none, or some of an inner cell
@@ -79,3 +79,9 @@ abbrev pub fill_bytes : Cell → List ℕ
 fill_bytes (bytes b) = b
 fill_bytes none = 0 ∷ []
 fill_bytes (some c) = fill_bytes c ++ 1 ∷ []
+
+-- the number of bytes that a cell takes in memory: its own, and not fewer than the least of the type
+abbrev pub held_size : Kind → Cell → ℕ
+held_size k (bytes b) = max (cell_size k) (length b)
+held_size k none = cell_size k
+held_size k (some c) = held_size k c

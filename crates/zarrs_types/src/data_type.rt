@@ -1,7 +1,7 @@
 //! The types of the cells of an array.
-ghost use Rattle.std.specs.Prelude.{◌≡◌, IfOk, is_some, option_map};
-ghost use Rattle.zarrs_types.specs.Cell.{is_element, fill_cell, takes_any_bytes};
-ghost use Rattle.zarrs_types.specs.Kind.{kind, element_size, fixed_size, inner_of, is_variable};
+ghost use Rattle.std.specs.Prelude.{◌≡◌, IfOk, IsSome, is_some, option_map};
+ghost use Rattle.zarrs_types.specs.Cell.{is_element, fill_cell, fill_of, held_size, takes_any_bytes};
+ghost use Rattle.zarrs_types.specs.Kind.{kind, cell_size, element_size, fixed_size, inner_of, is_variable};
 ghost use Rattle.zarrs_types.specs.Same.{kind_eq, type_eq, type_eq-laws, type_eq-equivalence};
 
 use crate::fill_value::inner_fill;
@@ -84,6 +84,27 @@ impl DataType {
         match self {
             DataType::Optional(inner) => inner.fixed_size(),
             _ => self.element_size(),
+        }
+    }
+
+    /// The least number of bytes that a cell takes in memory: 1 if its size is not fixed.
+    pub fn cell_size(&self) -> usize
+        ensures { result ≡ cell_size (kind self.now) }
+    {
+        self.fixed_size().unwrap_or(1)
+    }
+
+    /// The number of bytes that the cell of this fill value takes in memory.
+    pub fn held_size(&self, fill: &[u8]) -> usize
+        requires { IsSome (fill_cell (kind self.now) fill.now) }
+        ensures { result ≡ held_size (kind self.now) (fill_of (kind self.now) fill.now) }
+    {
+        match self {
+            DataType::Optional(inner) => match inner_fill(fill) {
+                Some(front) => inner.held_size(front),
+                None => inner.cell_size(),
+            },
+            _ => self.cell_size().max(fill.len()),
         }
     }
 

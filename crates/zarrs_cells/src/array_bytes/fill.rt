@@ -1,18 +1,17 @@
 //! Cells that are all the same.
-ghost use Rattle.std.specs.Prelude.{◌≡◌, ◌↔◌, ◌==◌, ℕ, ◌*◌, ◌/◌, ◌<◌, ◌^◌, [], true, Some, IfOk, IfErr, IfSome, IsSome, IsTrue, length, replicate};
+ghost use Rattle.std.specs.Prelude.{◌≡◌, ◌↔◌, ◌==◌, ℕ, ◌*◌, ◌/◌, ◌<◌, ◌^◌, [], true, Some, IfOk, IfSome, IsSome, IsTrue, length, replicate};
 ghost use Rattle.std.specs.List.{list_all, repeat};
 ghost use Rattle.std.specs.Str.{bytes_eq};
-ghost use Rattle.zarrs_cells.specs.ArrayData.{data_of};
-ghost use Rattle.zarrs_types.specs.Cell.{cell_eq, fill_cell, fill_of};
-ghost use Rattle.zarrs_cells.specs.Cells.{cells, fits, AreAllCells, AreAllStrings};
-ghost use Rattle.zarrs_cells.specs.Refusals.{RefusesFill};
+ghost use Rattle.zarrs_cells.specs.ArrayData.{data_of, optional};
+ghost use Rattle.zarrs_types.specs.Cell.{cell_eq, fill_cell, fill_of, held_size};
+ghost use Rattle.zarrs_cells.specs.Cells.{cells, fits, AreAllCells, AreAllStrings, IsFilled};
 ghost use Rattle.zarrs_types.specs.Kind.{kind, cell_size};
 ghost use Rattle.zarrs_subset.specs.Pieces.{pieces};
 
 use super::ArrayBytes;
-use crate::error::DataTypeFillValueError;
-use crate::variable::ArrayBytesVariableLength;
+use crate::variable::{ArrayBytesVariableLength, VariableLengthBuilder};
 use std::alloc::{AllocError, Global};
+use std::borrow::CowSlice;
 use zarrs_types::{DataType, FillValue, inner_fill};
 
 /// The piece, so many times.
@@ -55,6 +54,22 @@ fn put_repeated(bytes: Vec<u8>, piece: &[u8], count: usize) -> Result<Vec<u8>, A
         made.extend_from_slice(piece)?;
     }
     Ok(made)
+}
+
+/// The byte string, so many times.
+fn repeated_string(
+    alloc: Global,
+    string: &[u8],
+    count: usize,
+) -> Result<ArrayBytesVariableLength<'static>, AllocError>
+    requires { count * length string.now < 2 ^ 64 }
+    ensures { IfOk result (λ strings. strings ≡ replicate count string.now) }
+{
+    let mut builder = VariableLengthBuilder::with_capacity(alloc, count, count * string.len())?;
+    for _done in 0..count {
+        builder.push(string)?;
+    }
+    Ok(builder.finish())
 }
 
 /// Whether the bytes are this piece again and again, up to the last whole piece: the first piece is this one, and each
@@ -102,18 +117,81 @@ impl<'a> ArrayBytes<'a> {
         data_type: &DataType,
         count: u64,
         fill_value: &FillValue,
-    ) -> Result<ArrayBytes<'static>, DataTypeFillValueError>
+    ) -> Result<ArrayBytes<'static>, AllocError>
         requires filled { IsSome (fill_cell (kind data_type.now) fill_value.now) }
-        requires size { count * cell_size (kind data_type.now) < 2 ^ 64 }
-        ensures cells { IfOk result (λ made. cells (kind data_type.now) (data_of made)
+        requires size { count * held_size (kind data_type.now) (fill_of (kind data_type.now) fill_value.now) < 2 ^ 64 }
+        ensures { IfOk result (λ made. cells (kind data_type.now) (data_of made)
             ≡ Some (replicate count (fill_of (kind data_type.now) fill_value.now))) }
-        ensures refused { IfErr result (RefusesFill (kind data_type.now)) }
     {
-        if data_type.element_size().is_none() {
-            return Err(DataTypeFillValueError::UnsupportedType);
+        ArrayBytes::filled(alloc, data_type, count as usize, fill_value.as_bytes())
+    }
+
+    /// The same, level by level.
+    fn filled(
+        alloc: Global,
+        data_type: &DataType,
+        count: usize,
+        fill: &[u8],
+    ) -> Result<ArrayBytes<'static>, AllocError>
+        requires filled { IsSome (fill_cell (kind data_type.now) fill.now) }
+        requires size { count * held_size (kind data_type.now) (fill_of (kind data_type.now) fill.now) < 2 ^ 64 }
+        ensures { IfOk result (λ made. IsFilled (kind data_type.now) (data_of made) count
+            (fill_of (kind data_type.now) fill.now)) }
+    {
+        match data_type {
+            DataType::Optional(inner) => match inner_fill(fill) {
+                Some(front) => {
+                    let made = ArrayBytes::filled(alloc, inner, count, front)?;
+                    made.under_flags(alloc, 1, count)
+                }
+                None => {
+                    let made = ArrayBytes::missing(alloc, inner, count)?;
+                    made.under_flags(alloc, 0, count)
+                }
+            },
+            DataType::String | DataType::Bytes => {
+                Ok(ArrayBytes::Variable(repeated_string(alloc, fill, count)?))
+            }
+            _ => Ok(ArrayBytes::new_flen(repeated(alloc, fill, count)?)),
         }
-        let bytes = repeated(alloc, fill_value.as_bytes(), count as usize)?;
-        Ok(ArrayBytes::new_flen(bytes))
+    }
+
+    /// Data of so many cells, whatever they are.
+    pub(super) fn missing(
+        alloc: Global,
+        data_type: &DataType,
+        count: usize,
+    ) -> Result<ArrayBytes<'static>, AllocError>
+        requires { count * cell_size (kind data_type.now) < 2 ^ 64 }
+        ensures { IfOk result (λ made. IsTrue (fits (kind data_type.now) (data_of made) count)) }
+    {
+        match data_type {
+            DataType::Optional(inner) => {
+                let made = ArrayBytes::missing(alloc, inner, count)?;
+                made.under_flags(alloc, 0, count)
+            }
+            DataType::String | DataType::Bytes => {
+                Ok(ArrayBytes::Variable(repeated_string(alloc, &[], count)?))
+            }
+            _ => {
+                let size = data_type.element_size().unwrap();
+                Ok(ArrayBytes::new_flen(repeated_byte(alloc, 0, count * size)?))
+            }
+        }
+    }
+
+    /// This data under a mask of so many flags, all the same.
+    fn under_flags(
+        self,
+        alloc: Global,
+        flag: u8,
+        count: usize,
+    ) -> Result<ArrayBytes<'a>, AllocError>
+        requires { flag < 2 }
+        ensures { IfOk result (λ made. data_of made ≡ optional (replicate count flag) (data_of self.entry)) }
+    {
+        let flags = repeated_byte(alloc, flag, count)?;
+        self.with_optional_mask(alloc, CowSlice::Owned(flags))
     }
 
     /// Whether each cell is that of the fill value. What lies under a none is not looked at.

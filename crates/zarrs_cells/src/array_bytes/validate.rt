@@ -9,7 +9,7 @@ use super::{ArrayBytes, fixed};
 use zarrs_types::DataType;
 
 /// The cell of this number, of cells of one size.
-fn fixed_cell(bytes: &[u8], size: usize, index: usize) -> &[u8]
+pub(super) fn fixed_cell(bytes: &[u8], size: usize, index: usize) -> &[u8]
     requires { (n : ℕ) × (index < n) × (length bytes.now ≡ n * size) }
     ensures { result.now ≡ slice_range bytes.now (index * size) (index * size + size) }
 {
