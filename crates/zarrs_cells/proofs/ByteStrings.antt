@@ -33,8 +33,8 @@ pub fixed_push : (out piece : List ℕ) (size i : ℕ) (f : ℕ → List ℕ) �
 fixed_push out piece size i f len one below here =
     below_more (λ k. slice_range (out ++ piece) (k * size) (k * size + size) ≡ f k) i
     (λ k lt.
-        let within = mul-le-mul_right {m = k + 1} {n = i} size (omega arith) in
-        slice_range-front out piece (k * size) (k * size + size) (omega arith) (omega arith) ∙ below k lt)
+    let within = mul-le-mul_right {m = k + 1} {n = i} size (omega arith) in
+    slice_range-front out piece (k * size) (k * size + size) (omega arith) (omega arith) ∙ below k lt)
     (slice_range-seam out piece (i * size) (i * size + size) (sym len) (omega arith) ∙ here)
 
 -- a cell of one size has that size

@@ -1,6 +1,6 @@
 -- Data whose cells are all that of a fill value, level by level.
-use Rattle.std.proofs.Common.{◌≡◌, ◌==◌, ℕ, ◌+◌, ◌*◌, ◌/◌, ◌<◌, Bool, true, false, cond, eqb, ◌&&◌, List, [], ◌∷◌, length, get_or, Option, None, Some, IsTrue, ◌↔◌, refl, sym, ap, ◌∙◌, subst, arith}
-use Rattle.std.specs.Prelude.{All, IsSome, IfSome, slice_index, slice_range, unwrap_or, option_map}
+use Rattle.std.proofs.Common.{◌≡◌, ◌==◌, ℕ, ◌+◌, ◌*◌, ◌/◌, ◌<◌, Bool, true, false, cond, eqb, ◌&&◌, List, [], length, get_or, Option, None, Some, IsTrue, ◌↔◌, refl, sym, ap, ◌∙◌, subst, arith}
+use Rattle.std.specs.Prelude.{All, IsSome, IfSome, slice_index, slice_range}
 use Rattle.std.specs.Bool.{Decides}
 use Rattle.std.specs.List.{list_all}
 use Rattle.std.specs.Str.{bytes_eq}
@@ -12,8 +12,7 @@ use Rattle.std.proofs.lemmas.Slice.Eq.{bytes_eq-Decides}
 use Rattle.std.proofs.Math.Nat.{mul-div_cancel}
 use Rattle.zarrs_types.specs.declared.data_type.DataType.{DataType}
 use Rattle.zarrs_types.specs.Kind.{Kind, kind, element_size, is_variable, inner_of}
-use Rattle.zarrs_types.specs.Kind as type
-use Rattle.zarrs_types.specs.Cell.{Cell, bytes, none, some, is_element, cell_eq, fill_cell, fill_of, inner_fill}
+use Rattle.zarrs_types.specs.Cell.{Cell, bytes, none, some, cell_eq, fill_cell, fill_of, inner_fill}
 use Rattle.zarrs_types.proofs.Same.{cell_eq-true, eq-cell_eq}
 use Rattle.zarrs_types.proofs.Sizes.{element_size-positive}
 use Rattle.zarrs_types.proofs.Values.{fill-none, fill-some, fill-variable}

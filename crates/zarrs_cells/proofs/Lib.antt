@@ -5,5 +5,6 @@ pub mod Fills
 pub mod Fixed
 pub mod Made
 pub mod Pieces
+pub mod Presence
 pub mod Validity
 mod Periods

@@ -1,16 +1,16 @@
 -- Data that was made, cell by cell.
-use Rattle.std.proofs.Common.{◌≡◌, ℕ, ◌+◌, ◌*◌, ◌<◌, Bool, true, List, length, map, get_or, replicate, Option, None, Some, refl, sym, ap, ◌∙◌, subst, arith}
+use Rattle.std.proofs.Common.{◌≡◌, ℕ, ◌+◌, ◌*◌, ◌<◌, true, List, length, get_or, replicate, Option, None, Some, refl, sym, ap, ◌∙◌, subst, arith}
 use Rattle.std.specs.Prelude.{IsSome, is_some, slice_range}
-use Rattle.std.specs.List.{list_all, repeat, range_with_len}
+use Rattle.std.specs.List.{repeat}
 use Rattle.std.proofs.lemmas.List.{length-replicate, get_or-replicate}
 use Rattle.std.proofs.lemmas.List.FromFn.{get_or-map-range_with_len}
 use Rattle.zarrs_types.specs.declared.data_type.DataType.{DataType}
-use Rattle.zarrs_types.specs.Kind.{Kind, kind, element_size}
-use Rattle.zarrs_types.specs.Cell.{Cell, bytes, none, is_value, fill_cell, fill_of}
+use Rattle.zarrs_types.specs.Kind.{kind, element_size}
+use Rattle.zarrs_types.specs.Cell.{bytes, none, is_value, fill_cell, fill_of}
 use Rattle.zarrs_types.proofs.Sizes.{element_size-positive}
 use Rattle.zarrs_types.proofs.Values.{fill-value}
 use Rattle.zarrs_cells.specs.ArrayData.{ArrayData, fixed}
-use Rattle.zarrs_cells.specs.Cells.{fits, cell_at, cells, IsFilled}
+use Rattle.zarrs_cells.specs.Cells.{fits, cells, IsFilled}
 use Rattle.zarrs_cells.proofs.Cells.{cells-as, fitting-fixed}
 use Rattle.zarrs_cells.proofs.Filled.{cell_at-fixed}
 use Rattle.zarrs_cells.proofs.Fills.{fill_parts}

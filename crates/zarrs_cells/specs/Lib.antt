@@ -4,3 +4,4 @@ pub use Rattle.zarrs_types.specs.Same
 pub mod ArrayData
 pub mod Cells
 pub mod Offsets
+pub mod Present

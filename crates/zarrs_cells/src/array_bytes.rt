@@ -15,6 +15,7 @@ use std::borrow::CowSlice;
 
 mod fill;
 mod fixed;
+mod present;
 mod select;
 mod validate;
 

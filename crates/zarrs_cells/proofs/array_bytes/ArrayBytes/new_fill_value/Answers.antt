@@ -1,7 +1,6 @@
 use Rattle.std.proofs.Common.{sym}
 use Rattle.std.proofs.lemmas.Result.{IfOk-weaker}
 use Rattle.zarrs_cells.specs.ArrayData.{data_of}
-use Rattle.zarrs_types.specs.Kind.{kind}
 use Rattle.zarrs_cells.proofs.Made.{cells-filled}
 use Rattle.zarrs_cells.proofs.array_bytes.ArrayBytes.new_fill_value.Goals as goal
 
