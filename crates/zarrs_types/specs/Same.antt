@@ -5,6 +5,8 @@ use Rattle.std.specs.Cmp.{IsEquivalence, IsPartialEquivalence, partial_equiv_fro
 use Rattle.std.specs.Ordering.{on}
 use Rattle.std.proofs.Common.{sym, ap, ◌∙◌}
 use Rattle.std.proofs.lemmas.Bool.{eqb-true, eq-eqb}
+use Rattle.std.specs.Str.{bytes_eq}
+use Rattle.std.proofs.lemmas.Slice.Eq.{bytes_eq-Decides}
 use Rattle.zarrs_types.specs.declared.data_type.DataType.{DataType}
 use Rattle.zarrs_types.specs.Kind.{Kind, bool, int8, int16, int32, int64, uint8, uint16, uint32, uint64, raw, string, bytes, optional, kind}
 
@@ -68,3 +70,10 @@ type_eq-equivalence = on_equiv kind (decided kind_eq kind_eq-Decides)
 
 pub type_eq-laws : IsPartialEquivalence type_eq
 type_eq-laws = partial_equiv_from_equiv type_eq-equivalence
+
+-- two lists of bytes are the same
+pub bytes_eq-equivalence : IsEquivalence bytes_eq
+bytes_eq-equivalence = decided bytes_eq bytes_eq-Decides
+
+pub bytes_eq-laws : IsPartialEquivalence bytes_eq
+bytes_eq-laws = partial_equiv_from_equiv bytes_eq-equivalence

@@ -2,6 +2,7 @@
 ghost use Rattle.std.specs.Prelude.{◌≡◌, IfOk, IsSome, is_some, option_map};
 ghost use Rattle.zarrs_types.specs.Cell.{is_element, fill_cell, fill_of, held_size, takes_any_bytes};
 ghost use Rattle.zarrs_types.specs.Kind.{kind, cell_size, element_size, fixed_size, inner_of, is_variable};
+ghost use Rattle.zarrs_types.specs.Kind as type;
 ghost use Rattle.zarrs_types.specs.Same.{kind_eq, type_eq, type_eq-laws, type_eq-equivalence};
 
 use crate::fill_value::inner_fill;
@@ -202,4 +203,81 @@ impl PartialEq for DataType {
 
 impl Eq for DataType {
     ghost laws = { type_eq-equivalence };
+}
+
+/// The data type `bool`.
+pub fn bool() -> DataType
+    ensures { kind result ≡ type.bool }
+{
+    DataType::Bool
+}
+
+/// The data type `int8`.
+pub fn int8() -> DataType
+    ensures { kind result ≡ type.int8 }
+{
+    DataType::Int8
+}
+
+/// The data type `int16`.
+pub fn int16() -> DataType
+    ensures { kind result ≡ type.int16 }
+{
+    DataType::Int16
+}
+
+/// The data type `int32`.
+pub fn int32() -> DataType
+    ensures { kind result ≡ type.int32 }
+{
+    DataType::Int32
+}
+
+/// The data type `int64`.
+pub fn int64() -> DataType
+    ensures { kind result ≡ type.int64 }
+{
+    DataType::Int64
+}
+
+/// The data type `uint8`.
+pub fn uint8() -> DataType
+    ensures { kind result ≡ type.uint8 }
+{
+    DataType::UInt8
+}
+
+/// The data type `uint16`.
+pub fn uint16() -> DataType
+    ensures { kind result ≡ type.uint16 }
+{
+    DataType::UInt16
+}
+
+/// The data type `uint32`.
+pub fn uint32() -> DataType
+    ensures { kind result ≡ type.uint32 }
+{
+    DataType::UInt32
+}
+
+/// The data type `uint64`.
+pub fn uint64() -> DataType
+    ensures { kind result ≡ type.uint64 }
+{
+    DataType::UInt64
+}
+
+/// The data type `string`.
+pub fn string() -> DataType
+    ensures { kind result ≡ type.string }
+{
+    DataType::String
+}
+
+/// The data type `bytes`.
+pub fn bytes() -> DataType
+    ensures { kind result ≡ type.bytes }
+{
+    DataType::Bytes
 }

@@ -1,9 +1,12 @@
 //! The value of a cell that was never written.
-ghost use Rattle.std.specs.Prelude.{◌≡◌, is_some, option_map};
+ghost use Rattle.std.specs.Prelude.{◌≡◌, IfOk, is_some, option_map};
+ghost use Rattle.std.specs.Str.{bytes_eq};
 ghost use Rattle.zarrs_types.specs.Cell.{fill_cell, inner_fill};
 ghost use Rattle.zarrs_types.specs.Kind.{kind};
+ghost use Rattle.zarrs_types.specs.Same.{bytes_eq-laws, bytes_eq-equivalence};
 
 use crate::data_type::DataType;
+use std::alloc::{AllocError, Global};
 use std::marker::Model;
 
 /// The bytes of a cell; for an optional type the one byte 0 for none, or the inner bytes and then 1 for some.
@@ -36,12 +39,33 @@ impl FillValue {
         self.bytes.as_slice()
     }
 
+    /// The same fill value.
+    pub fn try_clone(&self, alloc: Global) -> Result<FillValue, AllocError>
+        ensures { IfOk result (λ copy. copy ≡ self.now) }
+    {
+        Ok(FillValue::new(Vec::from_slice(alloc, &self.bytes)?))
+    }
+
     /// Whether this is a fill value of the type.
     pub fn is_value_of(&self, data_type: &DataType) -> bool
         ensures { result ≡ is_some (fill_cell (kind data_type.now) self.now) }
     {
         data_type.is_fill(&self.bytes)
     }
+}
+
+impl PartialEq for FillValue {
+    ghost eq = { bytes_eq };
+
+    ghost laws = { bytes_eq-laws };
+
+    fn eq(&self, other: &FillValue) -> bool {
+        self.as_bytes() == other.as_bytes()
+    }
+}
+
+impl Eq for FillValue {
+    ghost laws = { bytes_eq-equivalence };
 }
 
 /// The bytes before a last byte 1: in a fill value of an optional type, those of the inner cell.
