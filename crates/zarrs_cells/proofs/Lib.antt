@@ -1,0 +1,10 @@
+pub mod ByteStrings
+pub mod Cells
+pub mod Filled
+pub mod Fills
+pub mod Fixed
+pub mod Made
+pub mod Pieces
+pub mod Presence
+pub mod Validity
+mod Periods

@@ -1,0 +1,309 @@
+//! Types and cells in memory, with ample memory.
+ghost use Rattle.std.specs.Prelude.{◌≡◌, ◌<◌, ◌%◌, ◌*◌, ◌^◌, IsSome, length};
+ghost use Rattle.zarrs_data_type.specs.ArrayData.{data_of, optional_data};
+ghost use Rattle.zarrs_data_type.specs.Cell.{fill_cell, fill_of, held_size};
+ghost use Rattle.zarrs_data_type.specs.Cells.{cells};
+ghost use Rattle.zarrs_data_type.specs.Kind.{kind};
+
+use std::alloc::{AllocError, Global};
+use std::borrow::CowSlice;
+use std::num::NonZeroUsize;
+use std::process::Abort;
+use std::test::Fail;
+use zarrs_data_type::{
+    ArrayBytes, ArrayBytesFixedDisjointViewCreateError, ArrayBytesOffsets, ArrayBytesOptional,
+    ArrayBytesVariableLength, DataType, ElementError, ExpectedFixedLengthBytesError,
+    ExpectedOptionalBytesError, ExpectedVariableLengthBytesError, FillValue, VariableLengthBuilder,
+    inner_fill,
+};
+
+fn must_be(rt: &impl Abort, fact: bool, what: &str) {
+    assert!(rt; fact, "{what}");
+}
+
+fn must_have_size(rt: &impl Abort, data_type: &DataType, element: Option<usize>, cell: Option<usize>) {
+    assert_eq!(rt; data_type.element_size(), element);
+    assert_eq!(rt; data_type.fixed_size(), cell);
+    assert_eq!(rt; data_type.is_fixed(), cell.is_some());
+    assert_eq!(rt; data_type.cell_size(), cell.unwrap_or(1));
+}
+
+fn optional(alloc: Global, inner: DataType) -> Result<DataType, AllocError> {
+    Ok(DataType::Optional(Box::new(alloc, inner)?))
+}
+
+fn raw(size: usize) -> Result<DataType, Fail> {
+    Ok(DataType::Raw(NonZeroUsize::new(size).ok_or("zero")?))
+}
+
+#[test]
+fn types_have_sizes(rt: HostRuntime) -> Result<(), Fail> {
+    let alloc = rt.alloc();
+    must_have_size(&rt, &DataType::Bool, Some(1), Some(1));
+    must_have_size(&rt, &DataType::Int16, Some(2), Some(2));
+    must_have_size(&rt, &DataType::UInt64, Some(8), Some(8));
+    must_have_size(&rt, &raw(3)?, Some(3), Some(3));
+    must_have_size(&rt, &optional(alloc, DataType::UInt32)?, None, Some(4));
+    must_have_size(&rt, &optional(alloc, DataType::String)?, None, None);
+    must_have_size(&rt, &DataType::Bytes, None, None);
+    Ok(())
+}
+
+fn must_copy(rt: &impl Abort, alloc: Global, data_type: &DataType) -> Result<(), Fail> {
+    assert!(rt; data_type.try_clone(alloc)? == *data_type);
+    Ok(())
+}
+
+fn must_differ(rt: &impl Abort, one: &DataType, other: &DataType) {
+    assert!(rt; *one != *other);
+}
+
+#[test]
+fn types_are_compared_with_their_parts(rt: HostRuntime) -> Result<(), Fail> {
+    let alloc = rt.alloc();
+    let numbers = optional(alloc, DataType::UInt32)?;
+    must_copy(&rt, alloc, &numbers)?;
+    must_copy(&rt, alloc, &raw(3)?)?;
+    must_differ(&rt, &numbers, &optional(alloc, DataType::Int32)?);
+    must_differ(&rt, &DataType::UInt8, &DataType::Bool);
+    must_differ(&rt, &raw(3)?, &raw(4)?);
+    must_be(&rt, numbers.optional_inner() == Some(&DataType::UInt32), "inner type");
+    must_be(&rt, DataType::UInt8.optional_inner().is_none(), "no inner type");
+    must_be(&rt, DataType::String.is_variable(), "string");
+    must_be(&rt, !numbers.is_variable(), "optional");
+    must_be(&rt, numbers.takes_any_bytes(), "numbers");
+    must_be(&rt, !DataType::Bool.takes_any_bytes(), "bool");
+    Ok(())
+}
+
+fn must_fill(rt: &impl Abort, data_type: &DataType, fill: &[u8], is: bool) {
+    assert_eq!(rt; data_type.is_fill(fill), is, "{fill:?}");
+}
+
+#[test]
+fn a_fill_value_is_one_cell(rt: HostRuntime) -> Result<(), Fail> {
+    let alloc = rt.alloc();
+    must_fill(&rt, &DataType::UInt16, &[2, 1], true);
+    must_fill(&rt, &DataType::UInt8, &[2, 1], false);
+    must_fill(&rt, &DataType::String, &[2, 1], true);
+    must_fill(&rt, &DataType::String, &[0xFF], false);
+    must_fill(&rt, &DataType::Bytes, &[0xFF], true);
+    must_fill(&rt, &DataType::Bool, &[2], false);
+    let inner = optional(alloc, DataType::UInt8)?;
+    must_fill(&rt, &inner, &[0], true);
+    must_fill(&rt, &inner, &[2, 1], true);
+    must_fill(&rt, &inner, &[2], false);
+    let nested = optional(alloc, inner)?;
+    must_fill(&rt, &nested, &[0], true);
+    must_fill(&rt, &nested, &[0, 1], true);
+    must_fill(&rt, &nested, &[7, 1, 1], true);
+    must_fill(&rt, &nested, &[2, 1], false);
+    must_be(&rt, inner_fill(&[7, 1]) == Some([7].as_slice()), "front");
+    must_be(&rt, inner_fill(&[0]).is_none(), "none");
+    let value = FillValue::new(vec![in alloc; 7u8, 1, 1]?);
+    must_be(&rt, value.is_value_of(&nested), "value");
+    must_be(&rt, value.as_bytes() == [7, 1, 1].as_slice(), "bytes");
+    Ok(())
+}
+
+fn must_validate(rt: &impl Abort, data: &ArrayBytes<'_>, data_type: &DataType, count: u64, is: bool) {
+    assert_eq!(rt; data.validate(data_type, count), is);
+}
+
+#[test]
+fn cells_take_their_exact_length(rt: HostRuntime) {
+    let data = ArrayBytes::from_flen(&[1, 2, 3, 4]);
+    must_validate(&rt, &data, &DataType::UInt8, 4, true);
+    must_validate(&rt, &data, &DataType::UInt8, 3, false);
+    must_validate(&rt, &data, &DataType::UInt8, 5, false);
+    must_validate(&rt, &data, &DataType::Int16, 2, true);
+    must_validate(&rt, &data, &DataType::Int64, 1, false);
+    must_validate(&rt, &data, &DataType::Int64, 0x2000_0000_0000_0001, false);
+    must_validate(&rt, &data, &DataType::String, 1, false);
+    must_validate(&rt, &ArrayBytes::from_flen(&[]), &DataType::UInt64, 0, true);
+}
+
+#[test]
+fn a_bool_is_zero_or_one(rt: HostRuntime) {
+    must_validate(&rt, &ArrayBytes::from_flen(&[0, 1, 1]), &DataType::Bool, 3, true);
+    must_validate(&rt, &ArrayBytes::from_flen(&[0, 2, 1]), &DataType::Bool, 3, false);
+    must_validate(&rt, &ArrayBytes::from_flen(&[0, 2, 1]), &DataType::UInt8, 3, true);
+}
+
+fn must_cut(rt: &impl Abort, offsets: &'static [usize], is: bool) {
+    assert_eq!(rt; ArrayBytesOffsets::new(CowSlice::Borrowed(offsets)).is_ok(), is, "{offsets:?}");
+}
+
+#[test]
+fn offsets_start_at_zero_and_do_not_fall(rt: HostRuntime) {
+    must_cut(&rt, &[0, 1, 1, 4], true);
+    must_cut(&rt, &[0], true);
+    must_cut(&rt, &[], false);
+    must_cut(&rt, &[1, 2], false);
+    must_cut(&rt, &[0, 2, 1], false);
+}
+
+fn strings(bytes: &'static [u8], offsets: &'static [usize]) -> Result<ArrayBytes<'static>, Fail> {
+    let offsets = ArrayBytesOffsets::new(CowSlice::Borrowed(offsets))?;
+    Ok(ArrayBytes::new_vlen(CowSlice::Borrowed(bytes), offsets)?)
+}
+
+fn must_hold(rt: &impl Abort, strings: &ArrayBytesVariableLength<'_>, expected: &[&[u8]]) {
+    assert_eq!(rt; strings.len(), expected.len());
+    let count = strings.len();
+    for index in 0..count {
+        if index < expected.len() && index < strings.len() {
+            assert!(rt; strings.get(index) == expected[index]);
+        }
+    }
+}
+
+#[test]
+fn byte_strings_lie_between_offsets(rt: HostRuntime) -> Result<(), Fail> {
+    let alloc = rt.alloc();
+    let data = strings(b"abbccc", &[0, 1, 3, 3, 6])?;
+    must_validate(&rt, &data, &DataType::String, 4, true);
+    must_validate(&rt, &data, &DataType::String, 3, false);
+    must_validate(&rt, &data, &DataType::UInt8, 6, false);
+    let held = data.into_variable()?.into_owned(alloc)?;
+    must_hold(&rt, &held, &[b"a", b"bb", b"", b"ccc"]);
+    must_be(&rt, held.bytes() == b"abbccc".as_slice(), "bytes");
+    must_be(&rt, held.offsets().as_slice() == [0, 1, 3, 3, 6].as_slice(), "offsets");
+    must_be(&rt, !held.is_empty(), "not empty");
+    let late = ArrayBytesOffsets::new(CowSlice::Borrowed(&[0, 9]))?;
+    let refused = ArrayBytesVariableLength::new(CowSlice::Borrowed(b"a"), late);
+    must_be(&rt, refused.is_err_and(|e| e == ExpectedVariableLengthBytesError), "end");
+    Ok(())
+}
+
+#[test]
+fn text_is_utf8(rt: HostRuntime) -> Result<(), Fail> {
+    let data = strings(&[0xC3, 0xA4, 0xC3], &[0, 2, 3])?;
+    must_validate(&rt, &data, &DataType::Bytes, 2, true);
+    must_validate(&rt, &data, &DataType::String, 2, false);
+    Ok(())
+}
+
+#[test]
+fn byte_strings_are_put_behind_others(rt: HostRuntime) -> Result<(), Fail> {
+    let alloc = rt.alloc();
+    let mut builder = VariableLengthBuilder::new(alloc)?;
+    builder.push(b"a")?;
+    builder.push(b"")?;
+    builder.push(b"bcd")?;
+    must_hold(&rt, &builder.finish(), &[b"a", b"", b"bcd"]);
+    Ok(())
+}
+
+fn masked(
+    alloc: Global,
+    data: ArrayBytes<'static>,
+    mask: &'static [u8],
+) -> Result<ArrayBytes<'static>, Fail> {
+    let held = ArrayBytesOptional::new(Box::new(alloc, data)?, CowSlice::Borrowed(mask))?;
+    Ok(ArrayBytes::Optional(held))
+}
+
+#[test]
+fn a_mask_has_zeros_and_ones(rt: HostRuntime) -> Result<(), Fail> {
+    let alloc = rt.alloc();
+    let data = Box::new(alloc, ArrayBytes::from_flen(&[7]))?;
+    let refused = ArrayBytesOptional::new(data, CowSlice::Borrowed(&[2]));
+    must_be(&rt, refused.is_err_and(|e| e == ExpectedOptionalBytesError), "mask byte 2");
+    let held = masked(alloc, ArrayBytes::from_flen(&[7, 8]), &[1, 0])?.into_optional()?;
+    must_be(&rt, held.mask() == [1, 0].as_slice(), "mask");
+    must_validate(&rt, held.data(), &DataType::UInt8, 2, true);
+    Ok(())
+}
+
+#[test]
+fn bytes_under_a_none_belong_to_no_cell(rt: HostRuntime) -> Result<(), Fail> {
+    let alloc = rt.alloc();
+    let bools = optional(alloc, DataType::Bool)?;
+    let data = masked(alloc, ArrayBytes::from_flen(&[9, 1]), &[0, 1])?;
+    must_validate(&rt, &data, &bools, 2, true);
+    must_validate(&rt, &data, &bools, 1, false);
+    let bad = masked(alloc, ArrayBytes::from_flen(&[9, 1]), &[1, 1])?;
+    must_validate(&rt, &bad, &bools, 2, false);
+    let short = masked(alloc, ArrayBytes::from_flen(&[9, 1]), &[1])?;
+    must_validate(&rt, &short, &bools, 2, false);
+    must_validate(&rt, &short, &bools, 1, false);
+    Ok(())
+}
+
+fn must_repeat(
+    rt: &impl Abort,
+    alloc: Global,
+    data_type: &DataType,
+    fill: &FillValue,
+    other: &FillValue,
+) -> Result<(), Fail>
+    requires filled { IsSome (fill_cell (kind data_type.now) fill.now) }
+    requires other { IsSome (fill_cell (kind data_type.now) other.now) }
+    requires size { 3 * held_size (kind data_type.now) (fill_of (kind data_type.now) fill.now) < 2 ^ 64 }
+{
+    let made = ArrayBytes::new_fill_value(alloc, data_type, 3, fill)?;
+    assert!(rt; made.validate(data_type, 3));
+    if made.validate(data_type, 3) {
+        assert!(rt; made.is_fill_value(data_type, fill));
+        assert!(rt; !made.is_fill_value(data_type, other));
+    }
+    let owned = made.into_owned(alloc)?;
+    assert!(rt; owned.validate(data_type, 3));
+    Ok(())
+}
+
+fn must_repeat_tested(
+    rt: &impl Abort,
+    alloc: Global,
+    data_type: &DataType,
+    fill: Vec<u8>,
+    other: Vec<u8>,
+) -> Result<(), Fail> {
+    let fill = FillValue::new(fill);
+    let other = FillValue::new(other);
+    if fill.is_value_of(data_type) && other.is_value_of(data_type) {
+        if data_type.held_size(fill.as_bytes()) < 100 {
+            return must_repeat(rt, alloc, data_type, &fill, &other);
+        }
+    }
+    Err("no value of the type")?
+}
+
+#[test]
+fn fill_values_are_repeated(rt: HostRuntime) -> Result<(), Fail> {
+    let alloc = rt.alloc();
+    must_repeat_tested(&rt, alloc, &DataType::Int16, vec![in alloc; 0xFEu8, 0xFF]?, vec![in alloc; 0u8, 0]?)?;
+    must_repeat_tested(&rt, alloc, &DataType::Bool, vec![in alloc; 1u8]?, vec![in alloc; 0u8]?)?;
+    must_repeat_tested(&rt, alloc, &raw(3)?, vec![in alloc; 1u8, 2, 3]?, vec![in alloc; 1u8, 2, 4]?)?;
+    must_repeat_tested(&rt, alloc, &DataType::String, vec![in alloc; 0x61u8, 0x62]?, Vec::new(alloc))?;
+    must_repeat_tested(&rt, alloc, &DataType::Bytes, Vec::new(alloc), vec![in alloc; 0u8]?)?;
+    let inner = optional(alloc, DataType::UInt8)?;
+    must_repeat_tested(&rt, alloc, &inner, vec![in alloc; 0u8]?, vec![in alloc; 0u8, 1]?)?;
+    let nested = optional(alloc, inner)?;
+    must_repeat_tested(&rt, alloc, &nested, vec![in alloc; 7u8, 1, 1]?, vec![in alloc; 0u8, 1]?)?;
+    must_repeat_tested(&rt, alloc, &nested, vec![in alloc; 0u8, 1]?, vec![in alloc; 0u8]?)?;
+    Ok(())
+}
+
+fn must_say(rt: &impl Abort, text: &str, expected: &str) {
+    assert_eq!(rt; text, expected);
+}
+
+#[test]
+fn errors_say_what_is_wrong(rt: HostRuntime) -> Result<(), Fail> {
+    let alloc = rt.alloc();
+    let text = format!(in alloc; "{}", ElementError::from(AllocError))?;
+    must_say(&rt, &text, "out of memory");
+    let text = format!(in alloc; "{}", ElementError::IncompatibleElementType)?;
+    must_say(&rt, &text, "the element type does not match the data type");
+    let text = format!(in alloc; "{ExpectedFixedLengthBytesError}")?;
+    must_say(&rt, &text, "expected fixed length array bytes");
+    let text = format!(in alloc; "{ExpectedVariableLengthBytesError}")?;
+    must_say(&rt, &text, "expected variable length array bytes");
+    let text = format!(in alloc; "{ExpectedOptionalBytesError}")?;
+    must_say(&rt, &text, "expected optional array bytes");
+    let text = format!(in alloc; "{ArrayBytesFixedDisjointViewCreateError}")?;
+    must_say(&rt, &text, "the view does not lie in its array bytes");
+    Ok(())
+}

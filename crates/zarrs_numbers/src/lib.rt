@@ -1,0 +1,12 @@
+//! Whole numbers as little-endian bytes.
+#![tactic(auto)]
+
+mod convert;
+mod little_endian;
+mod whole_number;
+
+pub use convert::{
+    convert_from_bytes_slice, convert_to_bytes_vec, transmute_from_bytes_vec, transmute_to_bytes,
+    transmute_to_bytes_vec,
+};
+pub use whole_number::WholeNumber;

@@ -1,0 +1,156 @@
+//! Whole numbers of 8 to 64 bits.
+ghost use Rattle.std.specs.Prelude.{◌≡◌, ℕ, ◌%◌, List, [], ◌∷◌, IfOk, length, refl};
+ghost use Rattle.std.specs.Int.{w8, w16, w32, w64, cast_unsigned, to_le_bytes};
+ghost use Rattle.std.specs.List.{flat_map};
+
+use crate::little_endian::{from_bytes, to_bytes};
+use std::alloc::{AllocError, Global};
+
+/// A whole number of 8 to 64 bits. Its bytes are little endian.
+pub trait WholeNumber: Copy + Drop {
+    // The number of its bytes.
+    ghost size: { ℕ };
+
+    // Its bytes, the lowest first.
+    ghost le_bytes: { Self → List ℕ };
+
+    // Each number has so many bytes.
+    ghost sized: { (number : Self) → length (le_bytes number) ≡ size };
+
+    /// The bytes of the numbers, one after another.
+    fn to_bytes(alloc: Global, numbers: &[Self]) -> Result<Vec<u8>, AllocError>
+        ensures { IfOk result (λ made. made.items ≡ flat_map le_bytes numbers.now) };
+
+    /// The numbers of these bytes.
+    fn from_bytes(alloc: Global, bytes: &[u8]) -> Result<Vec<Self>, AllocError>
+        requires { length bytes.now % size ≡ 0 }
+        ensures { IfOk result (λ made. flat_map Self.le_bytes made.items ≡ bytes.now) };
+}
+
+impl WholeNumber for u8 {
+    ghost size = { 1 };
+
+    ghost le_bytes = { λ x. x ∷ [] };
+
+    ghost sized = { λ number. refl };
+
+    fn to_bytes(alloc: Global, numbers: &[u8]) -> Result<Vec<u8>, AllocError> {
+        to_bytes::<u8, 1>(alloc, numbers)
+    }
+
+    fn from_bytes(alloc: Global, bytes: &[u8]) -> Result<Vec<u8>, AllocError> {
+        from_bytes::<u8, 1>(alloc, bytes)
+    }
+}
+
+impl WholeNumber for u16 {
+    ghost size = { 2 };
+
+    ghost le_bytes = { λ x. to_le_bytes w16 x };
+
+    ghost sized = { λ number. refl };
+
+    fn to_bytes(alloc: Global, numbers: &[u16]) -> Result<Vec<u8>, AllocError> {
+        to_bytes::<u16, 2>(alloc, numbers)
+    }
+
+    fn from_bytes(alloc: Global, bytes: &[u8]) -> Result<Vec<u16>, AllocError> {
+        from_bytes::<u16, 2>(alloc, bytes)
+    }
+}
+
+impl WholeNumber for u32 {
+    ghost size = { 4 };
+
+    ghost le_bytes = { λ x. to_le_bytes w32 x };
+
+    ghost sized = { λ number. refl };
+
+    fn to_bytes(alloc: Global, numbers: &[u32]) -> Result<Vec<u8>, AllocError> {
+        to_bytes::<u32, 4>(alloc, numbers)
+    }
+
+    fn from_bytes(alloc: Global, bytes: &[u8]) -> Result<Vec<u32>, AllocError> {
+        from_bytes::<u32, 4>(alloc, bytes)
+    }
+}
+
+impl WholeNumber for u64 {
+    ghost size = { 8 };
+
+    ghost le_bytes = { λ x. to_le_bytes w64 x };
+
+    ghost sized = { λ number. refl };
+
+    fn to_bytes(alloc: Global, numbers: &[u64]) -> Result<Vec<u8>, AllocError> {
+        to_bytes::<u64, 8>(alloc, numbers)
+    }
+
+    fn from_bytes(alloc: Global, bytes: &[u8]) -> Result<Vec<u64>, AllocError> {
+        from_bytes::<u64, 8>(alloc, bytes)
+    }
+}
+
+impl WholeNumber for i8 {
+    ghost size = { 1 };
+
+    ghost le_bytes = { λ x. cast_unsigned w8 x ∷ [] };
+
+    ghost sized = { λ number. refl };
+
+    fn to_bytes(alloc: Global, numbers: &[i8]) -> Result<Vec<u8>, AllocError> {
+        to_bytes::<i8, 1>(alloc, numbers)
+    }
+
+    fn from_bytes(alloc: Global, bytes: &[u8]) -> Result<Vec<i8>, AllocError> {
+        from_bytes::<i8, 1>(alloc, bytes)
+    }
+}
+
+impl WholeNumber for i16 {
+    ghost size = { 2 };
+
+    ghost le_bytes = { λ x. to_le_bytes w16 (cast_unsigned w16 x) };
+
+    ghost sized = { λ number. refl };
+
+    fn to_bytes(alloc: Global, numbers: &[i16]) -> Result<Vec<u8>, AllocError> {
+        to_bytes::<i16, 2>(alloc, numbers)
+    }
+
+    fn from_bytes(alloc: Global, bytes: &[u8]) -> Result<Vec<i16>, AllocError> {
+        from_bytes::<i16, 2>(alloc, bytes)
+    }
+}
+
+impl WholeNumber for i32 {
+    ghost size = { 4 };
+
+    ghost le_bytes = { λ x. to_le_bytes w32 (cast_unsigned w32 x) };
+
+    ghost sized = { λ number. refl };
+
+    fn to_bytes(alloc: Global, numbers: &[i32]) -> Result<Vec<u8>, AllocError> {
+        to_bytes::<i32, 4>(alloc, numbers)
+    }
+
+    fn from_bytes(alloc: Global, bytes: &[u8]) -> Result<Vec<i32>, AllocError> {
+        from_bytes::<i32, 4>(alloc, bytes)
+    }
+}
+
+impl WholeNumber for i64 {
+    ghost size = { 8 };
+
+    ghost le_bytes = { λ x. to_le_bytes w64 (cast_unsigned w64 x) };
+
+    ghost sized = { λ number. refl };
+
+    fn to_bytes(alloc: Global, numbers: &[i64]) -> Result<Vec<u8>, AllocError> {
+        to_bytes::<i64, 8>(alloc, numbers)
+    }
+
+    fn from_bytes(alloc: Global, bytes: &[u8]) -> Result<Vec<i64>, AllocError> {
+        from_bytes::<i64, 8>(alloc, bytes)
+    }
+}
