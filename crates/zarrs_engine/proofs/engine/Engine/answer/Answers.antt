@@ -1,4 +1,4 @@
-use Rattle.std.proofs.Common.{◌≡◌, ◌∙◌, length, List, ℕ, refl, subst, arith, option_map}
+use Rattle.std.proofs.Common.{◌≡◌, ◌∙◌, sym, length, List, ℕ, refl, subst, arith, option_map}
 use Rattle.zarrs_subset.specs.Regions.{box_of}
 use Rattle.zarrs_data_type.specs.ArrayData.{data_of}
 use Rattle.zarrs_steps.specs.Refusals.{refusal_of}
