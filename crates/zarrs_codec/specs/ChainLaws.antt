@@ -19,7 +19,6 @@ whole_chunk-lawful leaf law = record {
   compacted_same = λ k f s b less made. cc;
   compacted_differs = λ s b less made. cc;
   encoded_compact = λ empty k f s cs b len made. refl;
-  uncompactable = λ s b not. cc;
   unfit = λ empty k f s cs not. law.untaken k cs not;
   unfit_decoded = λ k f s b not. law.untaken_decoded k _ b not;
 }

@@ -1,5 +1,5 @@
 -- What the chains of the code mean.
-use Rattle.std.specs.Prelude.{Some, None, true}
+use Rattle.std.specs.Prelude.{Some, None}
 use Rattle.zarrs_codec_leaf.specs.Bytes.{bytes_meaning}
 use Rattle.zarrs_codec_leaf.specs.Leaf.{LeafMeaning}
 use Rattle.zarrs_subset.specs.Boxes.{position_count}
@@ -22,7 +22,6 @@ whole_chunk leaf = record {
   fits = λ k s. leaf.takes k;
   encoded = λ empty k f s cs. leaf.encoded k cs;
   decoded = λ k f s b. leaf.decoded k (position_count s) b;
-  compactable = λ s b. true;
   compacted = λ s b. Some None;
 }
 

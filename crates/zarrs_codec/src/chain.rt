@@ -75,7 +75,7 @@ impl ChainTraits for CodecChain {
     fn decode(
         &self,
         alloc: Global,
-        text: &[u8],
+        encoded: &[u8],
         data_type: &DataType,
         fill_value: &FillValue,
         shape: &[u64],
@@ -83,7 +83,7 @@ impl ChainTraits for CodecChain {
         match &self.array_to_bytes {
             ArrayToBytesCodec::Bytes(codec) => {
                 let count = element_count(shape).unwrap();
-                codec.decode(alloc, text, data_type, count)
+                codec.decode(alloc, encoded, data_type, count)
             }
         }
     }
@@ -91,7 +91,7 @@ impl ChainTraits for CodecChain {
     fn compact(
         &self,
         alloc: Global,
-        text: &[u8],
+        encoded: &[u8],
         shape: &[u64],
     ) -> Result<Option<Vec<u8>>, CodecError> {
         Ok(None)

@@ -9,6 +9,3 @@ pub use chain::{ArrayToBytesCodec, CodecChain};
 pub use options::CodecOptions;
 pub use traits::ChainTraits;
 pub use zarrs_codec_leaf::{BytesCodec, CodecError};
-
-#[cfg(test)]
-mod tests;

@@ -6,6 +6,3 @@ mod error;
 
 pub use bytes::BytesCodec;
 pub use error::CodecError;
-
-#[cfg(test)]
-mod tests;
