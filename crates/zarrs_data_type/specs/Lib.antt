@@ -1,6 +1,6 @@
-pub mod ArrayData
-pub mod Cell
-pub mod Cells
-pub mod Refusals
-pub mod Kind
-pub mod Same
+pub use Rattle.zarrs_cells.specs.ArrayData
+pub use Rattle.zarrs_cells.specs.Cells
+pub use Rattle.zarrs_cells.specs.Offsets
+pub use Rattle.zarrs_types.specs.Cell
+pub use Rattle.zarrs_types.specs.Kind
+pub use Rattle.zarrs_types.specs.Same

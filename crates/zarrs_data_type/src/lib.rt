@@ -1,18 +1,12 @@
-//! Data types, and the bytes that stand for lists of their cells.
+//! Data types, their values, and the cells of arrays in memory.
 #![tactic(auto)]
 
-mod array_bytes;
-mod data_type;
 mod error;
-mod fill_value;
 
-pub use array_bytes::ArrayBytes;
-pub use data_type::DataType;
-pub use error::{
-    ArrayBytesFixedDisjointViewCreateError, DataTypeFillValueError, ElementError,
-    ExpectedFixedLengthBytesError, ExpectedOptionalBytesError, ExpectedVariableLengthBytesError,
+pub use error::{ArrayBytesFixedDisjointViewCreateError, ElementError};
+pub use zarrs_cells::{
+    ArrayBytes, ArrayBytesOffsets, ArrayBytesOptional, ArrayBytesVariableLength,
+    DataTypeFillValueError, ExpectedFixedLengthBytesError, ExpectedOptionalBytesError,
+    ExpectedVariableLengthBytesError, VariableLengthBuilder,
 };
-pub use fill_value::FillValue;
-
-#[cfg(test)]
-mod tests;
+pub use zarrs_types::{DataType, FillValue, data_type, inner_fill};
