@@ -63,7 +63,7 @@ module _ (order s : List ℕ) (is : is_order order ≡ true) (long : length orde
       ∙ ap (λ r. get_or cs (place s r) none) (there_and_back order is s long p within))
       ∙ read_all s cs none len
 
-rearranged_values : (v : Cell → Bool) (target source way : List ℕ) (cs : List Cell) → ((q : List ℕ) → InShape target q → InShape source (permuted way q)) → length cs ≡ position_count source → list_all v cs ≡ true → list_all v (rearranged target source way cs) ≡ true
+pub rearranged_values : (v : Cell → Bool) (target source way : List ℕ) (cs : List Cell) → ((q : List ℕ) → InShape target q → InShape source (permuted way q)) → length cs ≡ position_count source → list_all v cs ≡ true → list_all v (rearranged target source way cs) ≡ true
 rearranged_values v target source way cs within len all =
     all-made_of v (λ q. get_or cs (place source (permuted way q)) none) target
     (λ q is. AllPass-from_list_all v cs all (place source (permuted way q)) none (let below = place_below source (permuted way q) (within q is) in omega arith))

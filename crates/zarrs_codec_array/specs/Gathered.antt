@@ -1,12 +1,13 @@
 -- Cells taken in another order.
-use Rattle.std.specs.Prelude.{◌≡◌, ℕ, ◌+◌, ◌*◌, ◌<◌, ◌≤◌, true, Option, None, Some, List, slice_index, IfSome, if◌then◌else◌}
+use Rattle.std.specs.Prelude.{◌≡◌, ℕ, ◌+◌, ◌*◌, ◌<◌, ◌≤◌, true, Option, None, Some, List, [], ◌∷◌, length, slice_index, IfSome, if◌then◌else◌}
+use Rattle.std.specs.List.{flat_map, range_with_len}
 use Rattle.zarrs_data_type.specs.ArrayData.{ArrayData, data_of}
 use Rattle.zarrs_data_type.specs.Cells.{fits, cell_at, cells}
 use Rattle.zarrs_data_type.specs.Kind.{Kind}
-use Rattle.zarrs_data_type.specs.declared.array_bytes.ArrayBytes.{ArrayBytes}
+use Rattle.zarrs_cells.specs.declared.array_bytes.ArrayBytes.{ArrayBytes}
 use Rattle.zarrs_subset.specs.Boxes.{position_count, InShape, place}
 use Rattle.zarrs_codec_array.specs.Arrays.{ArrayMeaning}
-use Rattle.zarrs_codec_array.specs.Orders.{dot}
+use Rattle.zarrs_codec_array.specs.Orders.{dot, permuted, strides}
 
 -- `to` is an array of this shape, of cells of `size` bytes: at each position q the `size` bytes of `from` at `start` and q steps further
 pub record IsGathered (size : ℕ) (shape steps : List ℕ) (start : ℕ) (from to : List ℕ) : Type 0 where
@@ -16,6 +17,20 @@ pub record IsGathered (size : ℕ) (shape steps : List ℕ) (start : ℕ) (from 
 -- the `size` bytes at `start` and q steps further, for each position q of an array of this shape, are among `len` bytes
 pub record AreWithin (size : ℕ) (shape steps : List ℕ) (start len : ℕ) : Type 0 where
   pub each : (q : List ℕ) → InShape shape q → start + dot steps q + size ≤ len
+
+-- the number of steps to each position of an array of this shape, in row-major order
+abbrev pub walked : List ℕ → List ℕ → ℕ → List ℕ
+walked [] steps start = start ∷ []
+walked (n ∷ shape) [] start = []
+walked (n ∷ shape) (a ∷ steps) start = flat_map (λ i. walked shape steps (start + i * a)) (range_with_len 0 n)
+
+-- dimension i of an array of the shape `target` is dimension `way[i]` of one of the shape `source`, which has as many cells
+pub record IsWay (target source way : List ℕ) : Type 0 where
+  pub some : 0 < position_count source
+  pub same_count : position_count target ≡ position_count source
+  pub same_length : length target ≡ length way
+  pub below : (k : ℕ) → k < length way → slice_index way k < length source
+  pub within : AreWithin 1 target (permuted way (strides source)) 0 (position_count source)
 
 -- `made` is data of an array of this shape: at each position q the cell of `taken` of the number that is q steps
 pub record IsTaken (k : Kind) (shape steps : List ℕ) (taken made : ArrayData) : Type 0 where

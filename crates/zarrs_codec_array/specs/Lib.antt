@@ -1,3 +1,4 @@
+pub mod ArrayCodecs
 pub mod ArrayLaws
 pub mod Arrays
 pub mod Gathered

@@ -1,7 +1,10 @@
 //! Cells taken in another order.
-ghost use Rattle.std.specs.Prelude.{◌≡◌, ◌+◌, ◌*◌, ◌<◌, [], ◌∷◌, length};
+ghost use Rattle.std.specs.Prelude.{◌≡◌, ◌+◌, ◌*◌, ◌<◌, ◌^◌, [], ◌∷◌, ◌++◌, length, map, slice_index_or, OnOk};
 ghost use Rattle.zarrs_subset.specs.Boxes.{position_count};
-ghost use Rattle.zarrs_codec_array.specs.Gathered.{IsGathered, AreWithin};
+ghost use Rattle.zarrs_codec_array.specs.Gathered.{IsGathered, AreWithin, walked};
+
+use std::alloc::AllocError;
+use zarrs_data_type::{ArrayBytesVariableLength, VariableLengthBuilder};
 
 // Does what `gather` says in one dimension, with cells of `N` bytes.
 fn gather_cells<const N: usize>(
@@ -119,4 +122,30 @@ pub(crate) fn gather(
             start + i * steps[0] as usize,
         );
     }
+}
+
+// Puts the strings of an array of the shape `extents` behind the others: at each position the string that is as many
+// steps after `start`.
+pub(crate) fn push_strings(
+    to: &mut VariableLengthBuilder,
+    from: &ArrayBytesVariableLength<'_>,
+    extents: &[u64],
+    steps: &[u64],
+    start: usize,
+) -> Result<(), AllocError>
+    requires same_length { length extents.now ≡ length steps.now }
+    requires some { 0 < position_count extents.now }
+    requires fits { length from.now < 2 ^ 64 }
+    requires within { AreWithin 1 extents.now steps.now start (length from.now) }
+    ensures { OnOk result (to.new ≡ to.old
+        ++ map (λ i. slice_index_or from.now i []) (walked extents.now steps.now start)) }
+{
+    if extents.is_empty() {
+        return to.push(from.get(start));
+    }
+    for i in 0..extents[0] as usize {
+        let first = start + i * steps[0] as usize;
+        push_strings(to, from, &extents[1..], &steps[1..], first)?;
+    }
+    Ok(())
 }

@@ -1,10 +1,22 @@
 //! Lists of numbers, one for each dimension.
-ghost use Rattle.std.specs.Prelude.{◌≡◌, ℕ, ◌*◌, ◌<◌, ◌^◌, length, slice_index, slice_index_or, true, false, ◌||◌, ◌==◌, IfOk};
+ghost use Rattle.std.specs.Prelude.{◌≡◌, ℕ, ◌*◌, ◌<◌, ◌^◌, length, slice_index, slice_index_or, true, false, ◌||◌, ◌==◌, ◌↔◌, IsTrue, IfOk};
 ghost use Rattle.std.specs.List.{list_all};
 ghost use Rattle.zarrs_subset.specs.Boxes.{position_count};
 ghost use Rattle.zarrs_codec_array.specs.Orders.{is_order, permuted, inverse, strides, scaled};
 
 use std::alloc::{AllocError, Global};
+
+/// Whether an array of this shape has a cell.
+pub(crate) fn has_cell(shape: &[u64]) -> bool
+    ensures { IsTrue result ↔ (0 < position_count shape.now) }
+{
+    for extent in shape {
+        if *extent == 0 {
+            return false;
+        }
+    }
+    true
+}
 
 /// Whether the list has each number below its length, so each once.
 pub(crate) fn is_order(alloc: Global, order: &[u64]) -> Result<bool, AllocError>

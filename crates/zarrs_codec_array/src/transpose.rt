@@ -1,17 +1,18 @@
 //! The codec `transpose` (Zarr V3 core specification, "Transpose codec").
-ghost use Rattle.std.specs.Prelude.{◌≡◌, ℕ, ◌<◌, true, None, Some, length, slice_index, IfOk, option_map, if◌then◌else◌};
+ghost use Rattle.std.specs.Prelude.{◌≡◌, ◌*◌, true, None, Some, [], length, map, slice_index_or, IfOk, option_map, if◌then◌else◌};
 ghost use Rattle.zarrs_subset.specs.Boxes.{position_count};
 ghost use Rattle.zarrs_data_type.specs.ArrayData.{data_of};
-ghost use Rattle.zarrs_data_type.specs.Cells.{HasCells};
+ghost use Rattle.zarrs_data_type.specs.Cells.{HasCells, fits};
 ghost use Rattle.zarrs_data_type.specs.Kind.{kind};
 ghost use Rattle.zarrs_codec_array.specs.Arrays.{transposed};
-ghost use Rattle.zarrs_codec_array.specs.Gathered.{IsTaken, AreWithin, IsEncodedArray, IsDecodedArray, encoded_shape};
-ghost use Rattle.zarrs_codec_array.specs.Orders.{is_order, permuted, strides};
+ghost use Rattle.zarrs_codec_array.specs.Gathered.{IsGathered, IsTaken, IsWay, walked, IsEncodedArray, IsDecodedArray, encoded_shape};
+ghost use Rattle.zarrs_codec_array.specs.Orders.{is_order, permuted, strides, scaled};
 
-use crate::gather::gather;
+use crate::gather::{gather, push_strings};
 use crate::lists;
 use std::alloc::{AllocError, Global};
-use zarrs_data_type::{ArrayBytes, DataType};
+use std::borrow::CowSlice;
+use zarrs_data_type::{ArrayBytes, ArrayBytesVariableLength, DataType, VariableLengthBuilder};
 
 /// The codec `transpose`: dimension i of the encoded array is dimension `order[i]` of the decoded one.
 #[derive(Debug, Drop)]
@@ -70,12 +71,18 @@ impl TransposeCodec {
         ensures { IfOk result (IsEncodedArray (transposed (order_of self.now)) (kind data_type.now)
             shape.now (data_of bytes.now)) }
     {
-        if shape.contains(&0) {
+        if !lists::has_cell(shape) {
             return Ok(None);
         }
         let target = lists::permuted(alloc, &self.order, shape)?;
-        let made = rearranged(alloc, bytes, data_type, &target, shape, &self.order)?;
-        Ok(Some(made))
+        Ok(Some(rearranged(
+            alloc,
+            bytes,
+            data_type,
+            &target,
+            shape,
+            &self.order,
+        )?))
     }
 
     /// The decoded array, whose shape this is, or `None` if there is no cell.
@@ -91,13 +98,14 @@ impl TransposeCodec {
         ensures { IfOk result (IsDecodedArray (transposed (order_of self.now)) (kind data_type.now)
             shape.now (data_of bytes.now)) }
     {
-        if shape.contains(&0) {
+        if !lists::has_cell(shape) {
             return Ok(None);
         }
         let source = lists::permuted(alloc, &self.order, shape)?;
         let inverse = lists::inverse(alloc, &self.order)?;
-        let made = rearranged(alloc, bytes, data_type, shape, &source, &inverse)?;
-        Ok(Some(made))
+        Ok(Some(rearranged(
+            alloc, bytes, data_type, shape, &source, &inverse,
+        )?))
     }
 }
 
@@ -111,24 +119,71 @@ fn rearranged(
     source: &[u64],
     way: &[u64],
 ) -> Result<ArrayBytes<'static>, AllocError>
-    requires cells { HasCells (kind data_type.now) (data_of bytes.now) (position_count source.now) }
-    requires some { 0 < position_count source.now }
-    requires same_count { position_count target.now ≡ position_count source.now }
-    requires same_length { length target.now ≡ length way.now }
-    requires within { (k : ℕ) → k < length way.now → slice_index way.now k < length source.now }
-    requires reach { AreWithin 1 target.now (permuted way.now (strides source.now)) 0 (position_count source.now) }
+    requires fits { fits (kind data_type.now) (data_of bytes.now) (position_count source.now) ≡ true }
+    requires ways { IsWay target.now source.now way.now }
     ensures { IfOk result (λ made. IsTaken (kind data_type.now) target.now
         (permuted way.now (strides source.now)) (data_of bytes.now) (data_of made)) }
 {
     match bytes {
         ArrayBytes::Fixed(bytes) => {
-            let bytes = bytes.as_slice();
             let size = data_type.element_size().unwrap();
-            let strides = lists::strides(alloc, source, size)?;
-            let steps = lists::permuted(alloc, way, &strides)?;
-            let mut made = vec![in alloc; 0u8; bytes.len()]?;
-            gather(&mut made, bytes, size, target, &steps, 0);
+            let made = rearranged_bytes(alloc, bytes.as_slice(), size, target, source, way)?;
             Ok(ArrayBytes::new_flen(made))
         }
+        ArrayBytes::Variable(strings) => {
+            let made = rearranged_strings(alloc, strings, target, source, way)?;
+            Ok(ArrayBytes::Variable(made))
+        }
+        ArrayBytes::Optional(optional) => {
+            let Some(inner) = data_type.optional_inner() else {
+                unreachable!()
+            };
+            let mask = rearranged_bytes(alloc, optional.mask(), 1, target, source, way)?;
+            let made = rearranged(alloc, optional.data(), inner, target, source, way)?;
+            made.with_optional_mask(alloc, CowSlice::Owned(mask))
+        }
     }
+}
+
+// The same for cells of `size` bytes.
+fn rearranged_bytes(
+    alloc: Global,
+    bytes: &[u8],
+    size: usize,
+    target: &[u64],
+    source: &[u64],
+    way: &[u64],
+) -> Result<Vec<u8>, AllocError>
+    requires len { length bytes.now ≡ position_count source.now * size }
+    requires ways { IsWay target.now source.now way.now }
+    ensures len { IfOk result (λ made. length made.items ≡ position_count target.now * size) }
+    ensures cells { IfOk result (λ made. IsGathered size target.now
+        (scaled size (permuted way.now (strides source.now))) 0 bytes.now made.items) }
+{
+    let strides = lists::strides(alloc, source, size)?;
+    let steps = lists::permuted(alloc, way, &strides)?;
+    let mut made = vec![in alloc; 0u8; bytes.len()]?;
+    gather(&mut made, bytes, size, target, &steps, 0);
+    Ok(made)
+}
+
+// The same for byte strings.
+fn rearranged_strings(
+    alloc: Global,
+    strings: &ArrayBytesVariableLength<'_>,
+    target: &[u64],
+    source: &[u64],
+    way: &[u64],
+) -> Result<ArrayBytesVariableLength<'static>, AllocError>
+    requires len { length strings.now ≡ position_count source.now }
+    requires ways { IsWay target.now source.now way.now }
+    ensures { IfOk result (λ made. made ≡ map (λ i. slice_index_or strings.now i [])
+        (walked target.now (permuted way.now (strides source.now)) 0)) }
+{
+    let count = strings.len();
+    let strides = lists::strides(alloc, source, 1)?;
+    let steps = lists::permuted(alloc, way, &strides)?;
+    let mut made = VariableLengthBuilder::with_capacity(alloc, count, strings.bytes().len())?;
+    push_strings(&mut made, strings, target, &steps, 0)?;
+    Ok(made.finish())
 }

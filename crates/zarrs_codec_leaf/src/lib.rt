@@ -6,3 +6,4 @@ mod error;
 
 pub use bytes::BytesCodec;
 pub use error::CodecError;
+pub use zarrs_codec_array::{ArrayToArrayCodec, SqueezeCodec, TransposeCodec};
