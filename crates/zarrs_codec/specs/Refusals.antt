@@ -2,9 +2,9 @@
 use Rattle.std.specs.Prelude.{◌≡◌, ℕ, Bool, true, false, List, None}
 use Rattle.zarrs_codec_leaf.specs.declared.error.CodecError.{CodecError}
 use Rattle.zarrs_codec_leaf.specs.declared.error.CodecError.TheVariants as error
-use Rattle.zarrs_data_type.specs.Kind.{Kind}
-use Rattle.zarrs_data_type.specs.Cell.{Cell}
-use Rattle.zarrs_data_type.specs.ArrayData.{ArrayData}
+use Rattle.zarrs_types.specs.Kind.{Kind}
+use Rattle.zarrs_types.specs.Cell.{Cell}
+use Rattle.zarrs_cells.specs.ArrayData.{ArrayData}
 use Rattle.zarrs_codec.specs.Chain.{ChainMeaning, chunk_encoding}
 
 -- the type and the shape do not fit, or else a size is too large

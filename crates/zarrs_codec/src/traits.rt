@@ -10,7 +10,7 @@ ghost use Rattle.zarrs_codec.specs.Refusals.{RefusesChunkEncoding, RefusesChunkD
 ghost use Rattle.zarrs_codec.specs.Options.{stores_empty_chunks};
 
 use crate::options::CodecOptions;
-use std::alloc::Global;
+use std::alloc::{AllocError, Global};
 use zarrs_codec_leaf::CodecError;
 use zarrs_data_type::{ArrayBytes, DataType, FillValue};
 
@@ -21,8 +21,13 @@ pub trait ChainTraits {
     ghost meaning: { Self → ChainMeaning };
 
     /// Whether the chain takes this type in chunks of this shape.
-    fn fits(&self, data_type: &DataType, shape: &[u64]) -> bool
-        ensures { result ≡ (meaning self.now).fits (kind data_type.now) shape.now };
+    fn fits(
+        &self,
+        alloc: Global,
+        data_type: &DataType,
+        shape: &[u64],
+    ) -> Result<bool, AllocError>
+        ensures { IfOk result (λ fits. fits ≡ (meaning self.now).fits (kind data_type.now) shape.now) };
 
     /// The bytes of a chunk's cells.
     fn encode(

@@ -1,7 +1,7 @@
 -- What codecs that make an array of an array mean.
 use Rattle.std.specs.Prelude.{◌≡◌, ℕ, ◌*◌, ◌/◌, ◌<◌, ◌^◌, Bool, true, Option, None, Some, List, [], ◌∷◌, length, map, slice_index, slice_index_or, nat_lt, ◌==◌, ◌&&◌, if◌then◌else◌, count_by}
 use Rattle.std.specs.List.{list_all, filter}
-use Rattle.zarrs_data_type.specs.Cell.{Cell, none}
+use Rattle.zarrs_types.specs.Cell.{Cell, none}
 use Rattle.zarrs_subset.specs.Boxes.{position_count, place}
 use Rattle.zarrs_subset.specs.Rearranged.{made_of}
 use Rattle.zarrs_codec_array.specs.Orders.{permuted, inverse}
