@@ -174,7 +174,8 @@ impl<'a> ArrayBytesOptional<'a> {
 
     /// The mask: a byte for each cell, 0 for none and 1 for some.
     pub fn mask(&self) -> &[u8]
-        ensures { result.now ≡ mask_of self.now }
+        ensures mask { result.now ≡ mask_of self.now }
+        ensures flags { All (λ flag. flag < 2) result.now }
     {
         self.mask.as_slice()
     }

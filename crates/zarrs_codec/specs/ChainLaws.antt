@@ -1,14 +1,16 @@
 -- The law of every chain of the code, from those of its codecs.
 use Rattle.std.proofs.Common.{refl, sym, ap, ◌∙◌}
+use Rattle.zarrs_codec_array.specs.ArrayCodecs.{arrays_meaning, arrays-lawful}
 use Rattle.zarrs_codec_leaf.specs.BytesLaws.{bytes-lawful}
 use Rattle.zarrs_codec_leaf.specs.Leaf.{LeafMeaning, IsLawfulLeaf}
 use Rattle.zarrs_codec.specs.declared.chain.ArrayToBytesCodec.{ArrayToBytesCodec}
 use Rattle.zarrs_codec.specs.declared.chain.ArrayToBytesCodec.TheVariants as codec
 use Rattle.zarrs_codec.specs.declared.chain.CodecChain.{CodecChain}
 use Rattle.zarrs_codec.specs.Chain.{IsLawfulChain}
-use Rattle.zarrs_codec.specs.Chains.{array_to_bytes_of, leaf_meaning, whole_chunk, chain_meaning}
+use Rattle.zarrs_codec.specs.Chains.{array_to_array_of, array_to_bytes_of, leaf_meaning, whole_chunk, chain_meaning}
+use Rattle.zarrs_codec.specs.Through.{through-lawful}
 
-leaf-lawful : (c : ArrayToBytesCodec) → IsLawfulLeaf (leaf_meaning c)
+pub leaf-lawful : (c : ArrayToBytesCodec) → IsLawfulLeaf (leaf_meaning c)
 leaf-lawful (codec.Bytes bytes) = bytes-lawful
 
 whole_chunk-lawful : (leaf : LeafMeaning) → IsLawfulLeaf leaf → IsLawfulChain (whole_chunk leaf)
@@ -19,10 +21,13 @@ whole_chunk-lawful leaf law = record {
   compacted_same = λ k f s b less made. cc;
   compacted_differs = λ s b less made. cc;
   encoded_compact = λ empty k f s cs b len made. refl;
-  uncompactable = λ s b not. cc;
   unfit = λ empty k f s cs not. law.untaken k cs not;
   unfit_decoded = λ k f s b not. law.untaken_decoded k _ b not;
 }
 
 pub chain-lawful : (chain : CodecChain) → IsLawfulChain (chain_meaning chain)
-chain-lawful chain = whole_chunk-lawful (leaf_meaning (array_to_bytes_of chain)) (leaf-lawful (array_to_bytes_of chain))
+chain-lawful chain =
+    let arrays = array_to_array_of chain in
+    let last = array_to_bytes_of chain in
+    through-lawful (arrays_meaning arrays) (whole_chunk (leaf_meaning last)) (arrays-lawful arrays)
+    (whole_chunk-lawful (leaf_meaning last) (leaf-lawful last))

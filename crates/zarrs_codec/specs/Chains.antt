@@ -1,16 +1,26 @@
 -- What the chains of the code mean.
-use Rattle.std.specs.Prelude.{Some, None, true}
+use Rattle.std.specs.Prelude.{Some, None, List}
+use Rattle.zarrs_codec_array.specs.ArrayCodecs.{arrays_meaning}
+use Rattle.zarrs_codec_array.specs.declared.array.ArrayToArrayCodec.{ArrayToArrayCodec}
 use Rattle.zarrs_codec_leaf.specs.Bytes.{bytes_meaning}
 use Rattle.zarrs_codec_leaf.specs.Leaf.{LeafMeaning}
 use Rattle.zarrs_subset.specs.Boxes.{position_count}
 use Rattle.zarrs_codec.specs.declared.chain.ArrayToBytesCodec.{ArrayToBytesCodec}
 use Rattle.zarrs_codec.specs.declared.chain.ArrayToBytesCodec.TheVariants as codec
+use Rattle.zarrs_codec.specs.declared.chain.BytesToBytesCodecs.{BytesToBytesCodecs}
 use Rattle.zarrs_codec.specs.declared.chain.CodecChain.{CodecChain}
 use Rattle.zarrs_codec.specs.Chain.{ChainMeaning}
+use Rattle.zarrs_codec.specs.Through.{through}
 
--- the codec that makes bytes of cells
+-- the parts of a chain
+abbrev pub array_to_array_of : CodecChain → List ArrayToArrayCodec
+array_to_array_of chain = chain.array_to_array.items
+
 abbrev pub array_to_bytes_of : CodecChain → ArrayToBytesCodec
 array_to_bytes_of chain = chain.array_to_bytes
+
+abbrev pub bytes_to_bytes_of : CodecChain → BytesToBytesCodecs
+bytes_to_bytes_of chain = chain.bytes_to_bytes
 
 -- a codec of plain cells
 abbrev pub leaf_meaning : ArrayToBytesCodec → LeafMeaning
@@ -22,10 +32,9 @@ whole_chunk leaf = record {
   fits = λ k s. leaf.takes k;
   encoded = λ empty k f s cs. leaf.encoded k cs;
   decoded = λ k f s b. leaf.decoded k (position_count s) b;
-  compactable = λ s b. true;
   compacted = λ s b. Some None;
 }
 
 -- what a chain means
 abbrev pub chain_meaning : CodecChain → ChainMeaning
-chain_meaning chain = whole_chunk (leaf_meaning (array_to_bytes_of chain))
+chain_meaning chain = through (arrays_meaning (array_to_array_of chain)) (whole_chunk (leaf_meaning (array_to_bytes_of chain)))

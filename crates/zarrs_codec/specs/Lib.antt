@@ -1,5 +1,6 @@
-pub mod Refusals
 pub mod Chain
 pub mod ChainLaws
 pub mod Chains
 pub mod Options
+pub mod Refusals
+pub mod Through

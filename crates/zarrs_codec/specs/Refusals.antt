@@ -2,9 +2,9 @@
 use Rattle.std.specs.Prelude.{◌≡◌, ℕ, Bool, true, false, List, None}
 use Rattle.zarrs_codec_leaf.specs.declared.error.CodecError.{CodecError}
 use Rattle.zarrs_codec_leaf.specs.declared.error.CodecError.TheVariants as error
-use Rattle.zarrs_data_type.specs.Kind.{Kind}
-use Rattle.zarrs_data_type.specs.Cell.{Cell}
-use Rattle.zarrs_data_type.specs.ArrayData.{ArrayData}
+use Rattle.zarrs_types.specs.Kind.{Kind}
+use Rattle.zarrs_types.specs.Cell.{Cell}
+use Rattle.zarrs_cells.specs.ArrayData.{ArrayData}
 use Rattle.zarrs_codec.specs.Chain.{ChainMeaning, chunk_encoding}
 
 -- the type and the shape do not fit, or else a size is too large
@@ -19,8 +19,8 @@ RefusesChunkDecoding chain k f s b error.DoesNotFit = chain.decoded k f s b ≡ 
 RefusesChunkDecoding chain k f s b error.SizeOverflow = ⊥
 RefusesChunkDecoding chain k f s b error.OutOfMemory = Unit {0}
 
--- the bytes cannot be compacted
+-- the bytes do not decode. A compaction is no longer than bytes that are in memory, so that no size is too large
 abbrev pub RefusesCompaction : ChainMeaning → List ℕ → List ℕ → CodecError → Type 0
-RefusesCompaction chain s b error.DoesNotFit = chain.compactable s b ≡ false
-RefusesCompaction chain s b error.SizeOverflow = (chain.compactable s b ≡ true) × (chain.compacted s b ≡ None)
+RefusesCompaction chain s b error.DoesNotFit = chain.compacted s b ≡ None
+RefusesCompaction chain s b error.SizeOverflow = ⊥
 RefusesCompaction chain s b error.OutOfMemory = Unit {0}

@@ -1,12 +1,21 @@
-//! The chains that there are.
-ghost use Rattle.std.specs.Prelude.{◌≡◌};
-ghost use Rattle.zarrs_data_type.specs.Kind.{kind};
-ghost use Rattle.zarrs_codec.specs.Chains.{array_to_bytes_of, leaf_meaning, chain_meaning};
+//! Chains of codecs.
+ghost use Rattle.std.specs.Prelude.{◌≡◌, ◌*◌, ◌<◌, ◌^◌, true, Some, IfOk, IfErr, IsSome};
+ghost use Rattle.zarrs_subset.specs.Boxes.{position_count};
+ghost use Rattle.zarrs_data_type.specs.Kind.{kind, cell_size};
+ghost use Rattle.zarrs_data_type.specs.ArrayData.{data_of};
+ghost use Rattle.zarrs_data_type.specs.Cells.{cells, HasCells};
+ghost use Rattle.zarrs_codec_array.specs.ArrayCodecs.{arrays_meaning};
+ghost use Rattle.zarrs_codec_array.specs.Gathered.{data_or};
+ghost use Rattle.zarrs_codec_leaf.specs.Leaf.{encoding_of};
+ghost use Rattle.zarrs_codec_leaf.specs.Refusals.{RefusesEncoding, RefusesDecoding};
+ghost use Rattle.zarrs_codec.specs.Chains.{array_to_array_of, array_to_bytes_of, bytes_to_bytes_of, leaf_meaning, whole_chunk, chain_meaning};
 ghost use Rattle.zarrs_codec.specs.ChainLaws.{chain-lawful};
+ghost use Rattle.zarrs_codec.specs.Through.{through};
 
 use crate::options::CodecOptions;
 use crate::traits::ChainTraits;
-use std::alloc::Global;
+use std::alloc::{AllocError, Global};
+use zarrs_codec_array::{ArrayToArrayCodec, decode_array, encode_array, encoded_shape};
 use zarrs_codec_leaf::{BytesCodec, CodecError};
 use zarrs_data_type::{ArrayBytes, DataType, FillValue};
 use zarrs_subset::element_count;
@@ -18,10 +27,16 @@ pub enum ArrayToBytesCodec {
     Bytes(BytesCodec),
 }
 
-/// A chain of codecs.
+/// The codecs that make bytes of bytes: there is none.
+#[derive(Clone, Copy, Debug, Drop, PartialEq, Eq)]
+pub struct BytesToBytesCodecs;
+
+/// A chain of codecs: those that make an array of an array, the first one first, then the one that makes bytes.
 #[derive(Debug, Drop)]
 pub struct CodecChain {
+    array_to_array: Vec<ArrayToArrayCodec>,
     array_to_bytes: ArrayToBytesCodec,
+    bytes_to_bytes: BytesToBytesCodecs,
 }
 
 impl ArrayToBytesCodec {
@@ -30,17 +45,74 @@ impl ArrayToBytesCodec {
         ensures { result ≡ (leaf_meaning self.now).takes (kind data_type.now) }
     {
         match self {
-            ArrayToBytesCodec::Bytes(_) => data_type.element_size().is_some(),
+            ArrayToBytesCodec::Bytes(codec) => codec.takes(data_type),
+        }
+    }
+
+    /// The bytes of the cells of `made`, or of `bytes` if nothing was made.
+    fn encode(
+        &self,
+        alloc: Global,
+        made: &Option<ArrayBytes<'static>>,
+        bytes: &ArrayBytes<'_>,
+        data_type: &DataType,
+    ) -> Result<Vec<u8>, CodecError>
+        requires { IsSome (cells (kind data_type.now) (data_or made.now (data_of bytes.now))) }
+        ensures encoded { IfOk result (λ encoded. encoding_of (leaf_meaning self.now) (kind data_type.now)
+            (data_or made.now (data_of bytes.now)) ≡ Some encoded.items) }
+        ensures refused { IfErr result (RefusesEncoding (leaf_meaning self.now) (kind data_type.now)
+            (data_or made.now (data_of bytes.now))) }
+    {
+        match (self, made) {
+            (ArrayToBytesCodec::Bytes(codec), Some(made)) => codec.encode(alloc, made, data_type),
+            (ArrayToBytesCodec::Bytes(codec), None) => codec.encode(alloc, bytes, data_type),
+        }
+    }
+
+    /// The `count` cells of the bytes.
+    fn decode(
+        &self,
+        alloc: Global,
+        encoded: &[u8],
+        data_type: &DataType,
+        count: u64,
+    ) -> Result<ArrayBytes<'static>, CodecError>
+        ensures cells { IfOk result (λ made. cells (kind data_type.now) (data_of made)
+            ≡ (leaf_meaning self.now).decoded (kind data_type.now) count encoded.now) }
+        ensures some { IfOk result (λ made. IsSome (cells (kind data_type.now) (data_of made))) }
+        ensures refused { IfErr result (RefusesDecoding (leaf_meaning self.now) (kind data_type.now) count encoded.now) }
+    {
+        match self {
+            ArrayToBytesCodec::Bytes(codec) => codec.decode(alloc, encoded, data_type, count),
         }
     }
 }
 
 impl CodecChain {
-    /// The chain of this codec alone.
-    pub fn new(array_to_bytes: ArrayToBytesCodec) -> CodecChain
-        ensures { array_to_bytes_of result ≡ array_to_bytes }
+    /// The chain of these codecs.
+    pub fn new(
+        array_to_array: Vec<ArrayToArrayCodec>,
+        array_to_bytes: ArrayToBytesCodec,
+        bytes_to_bytes: BytesToBytesCodecs,
+    ) -> CodecChain
+        ensures meaning { chain_meaning result
+            ≡ through (arrays_meaning array_to_array.items) (whole_chunk (leaf_meaning array_to_bytes)) }
+        ensures array_to_array { array_to_array_of result ≡ array_to_array.items }
+        ensures array_to_bytes { array_to_bytes_of result ≡ array_to_bytes }
+        ensures bytes_to_bytes { bytes_to_bytes_of result ≡ bytes_to_bytes }
     {
-        CodecChain { array_to_bytes }
+        CodecChain {
+            array_to_array,
+            array_to_bytes,
+            bytes_to_bytes,
+        }
+    }
+
+    /// The codecs that make an array of an array, the first one first.
+    pub fn array_to_array_codecs(&self) -> &[ArrayToArrayCodec]
+        ensures { result.now ≡ array_to_array_of self.now }
+    {
+        &self.array_to_array
     }
 
     /// The codec that makes bytes of cells.
@@ -49,13 +121,35 @@ impl CodecChain {
     {
         &self.array_to_bytes
     }
+
+    /// The codecs that make bytes of bytes.
+    pub fn bytes_to_bytes_codecs(&self) -> &BytesToBytesCodecs
+        ensures { result.now ≡ bytes_to_bytes_of self.now }
+    {
+        &self.bytes_to_bytes
+    }
+
+    /// Whether the codecs that make an array of an array take this shape.
+    fn takes_shape(&self, alloc: Global, shape: &[u64]) -> Result<bool, AllocError>
+        ensures { IfOk result (λ takes. takes ≡ (arrays_meaning (array_to_array_of self.now)).fits shape.now) }
+    {
+        Ok(encoded_shape(alloc, &self.array_to_array, shape)?.is_some())
+    }
 }
 
 impl ChainTraits for CodecChain {
     ghost meaning = { chain_meaning };
 
-    fn fits(&self, data_type: &DataType, shape: &[u64]) -> bool {
-        self.array_to_bytes.takes(data_type)
+    fn fits(
+        &self,
+        alloc: Global,
+        data_type: &DataType,
+        shape: &[u64],
+    ) -> Result<bool, AllocError> {
+        if !self.takes_shape(alloc, shape)? {
+            return Ok(false);
+        }
+        Ok(self.array_to_bytes.takes(data_type))
     }
 
     fn encode(
@@ -67,33 +161,40 @@ impl ChainTraits for CodecChain {
         shape: &[u64],
         options: &CodecOptions,
     ) -> Result<Vec<u8>, CodecError> {
-        match &self.array_to_bytes {
-            ArrayToBytesCodec::Bytes(codec) => codec.encode(alloc, bytes, data_type),
+        if !self.takes_shape(alloc, shape)? {
+            return Err(CodecError::DoesNotFit);
         }
+        let made = encode_array(alloc, &self.array_to_array, bytes, data_type, shape)?;
+        self.array_to_bytes.encode(alloc, &made, bytes, data_type)
     }
 
     fn decode(
         &self,
         alloc: Global,
-        text: &[u8],
+        encoded: &[u8],
         data_type: &DataType,
         fill_value: &FillValue,
         shape: &[u64],
     ) -> Result<ArrayBytes<'static>, CodecError> {
-        match &self.array_to_bytes {
-            ArrayToBytesCodec::Bytes(codec) => {
-                let count = element_count(shape).unwrap();
-                codec.decode(alloc, text, data_type, count)
-            }
+        if !self.takes_shape(alloc, shape)? {
+            return Err(CodecError::DoesNotFit);
         }
+        let count = element_count(shape).unwrap();
+        let array = self
+            .array_to_bytes
+            .decode(alloc, encoded, data_type, count)?;
+        Ok(decode_array(alloc, &self.array_to_array, array, data_type, shape)?)
     }
 
     fn compact(
         &self,
         alloc: Global,
-        text: &[u8],
+        encoded: &[u8],
         shape: &[u64],
     ) -> Result<Option<Vec<u8>>, CodecError> {
+        if !self.takes_shape(alloc, shape)? {
+            return Err(CodecError::DoesNotFit);
+        }
         Ok(None)
     }
 

@@ -5,10 +5,8 @@ mod chain;
 mod options;
 mod traits;
 
-pub use chain::{ArrayToBytesCodec, CodecChain};
-pub use options::CodecOptions;
+pub use chain::{ArrayToBytesCodec, BytesToBytesCodecs, CodecChain};
+pub use options::{CodecMetadataOptions, CodecOptions};
 pub use traits::ChainTraits;
+pub use zarrs_codec_array::{ArrayToArrayCodec, SqueezeCodec, TransposeCodec};
 pub use zarrs_codec_leaf::{BytesCodec, CodecError};
-
-#[cfg(test)]
-mod tests;

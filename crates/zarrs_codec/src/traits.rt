@@ -10,7 +10,7 @@ ghost use Rattle.zarrs_codec.specs.Refusals.{RefusesChunkEncoding, RefusesChunkD
 ghost use Rattle.zarrs_codec.specs.Options.{stores_empty_chunks};
 
 use crate::options::CodecOptions;
-use std::alloc::Global;
+use std::alloc::{AllocError, Global};
 use zarrs_codec_leaf::CodecError;
 use zarrs_data_type::{ArrayBytes, DataType, FillValue};
 
@@ -21,8 +21,13 @@ pub trait ChainTraits {
     ghost meaning: { Self → ChainMeaning };
 
     /// Whether the chain takes this type in chunks of this shape.
-    fn fits(&self, data_type: &DataType, shape: &[u64]) -> bool
-        ensures { result ≡ (meaning self.now).fits (kind data_type.now) shape.now };
+    fn fits(
+        &self,
+        alloc: Global,
+        data_type: &DataType,
+        shape: &[u64],
+    ) -> Result<bool, AllocError>
+        ensures { IfOk result (λ fits. fits ≡ (meaning self.now).fits (kind data_type.now) shape.now) };
 
     /// The bytes of a chunk's cells.
     fn encode(
@@ -36,9 +41,9 @@ pub trait ChainTraits {
     ) -> Result<Vec<u8>, CodecError>
         requires filled { IsSome (fill_cell (kind data_type.now) fill_value.now) }
         requires cells { HasCells (kind data_type.now) (data_of bytes.now) (position_count shape.now) }
-        ensures text { IfOk result (λ text.
+        ensures encoded { IfOk result (λ encoded.
             chunk_encoding (meaning self.now) (stores_empty_chunks options.now) (kind data_type.now)
-            (fill_of (kind data_type.now) fill_value.now) shape.now (data_of bytes.now) ≡ Some text.items) }
+            (fill_of (kind data_type.now) fill_value.now) shape.now (data_of bytes.now) ≡ Some encoded.items) }
         ensures refused { IfErr result (RefusesChunkEncoding (meaning self.now) (stores_empty_chunks options.now)
             (kind data_type.now) (fill_of (kind data_type.now) fill_value.now) shape.now (data_of bytes.now)) };
 
@@ -46,7 +51,7 @@ pub trait ChainTraits {
     fn decode(
         &self,
         alloc: Global,
-        text: &[u8],
+        encoded: &[u8],
         data_type: &DataType,
         fill_value: &FillValue,
         shape: &[u64],
@@ -54,21 +59,21 @@ pub trait ChainTraits {
         requires filled { IsSome (fill_cell (kind data_type.now) fill_value.now) }
         requires size { position_count shape.now * cell_size (kind data_type.now) < 2 ^ 64 }
         ensures cells { IfOk result (λ made. cells (kind data_type.now) (data_of made)
-            ≡ (meaning self.now).decoded (kind data_type.now) (fill_of (kind data_type.now) fill_value.now) shape.now text.now) }
+            ≡ (meaning self.now).decoded (kind data_type.now) (fill_of (kind data_type.now) fill_value.now) shape.now encoded.now) }
         ensures some { IfOk result (λ made. IsSome (cells (kind data_type.now) (data_of made))) }
         ensures refused { IfErr result (RefusesChunkDecoding (meaning self.now) (kind data_type.now)
-            (fill_of (kind data_type.now) fill_value.now) shape.now text.now) };
+            (fill_of (kind data_type.now) fill_value.now) shape.now encoded.now) };
 
     /// The bytes of the same cells without what no cell needs, where those are other bytes.
     fn compact(
         &self,
         alloc: Global,
-        text: &[u8],
+        encoded: &[u8],
         shape: &[u64],
     ) -> Result<Option<Vec<u8>>, CodecError>
-        ensures less { IfOk result (λ less. (meaning self.now).compacted shape.now text.now
-            ≡ Some (option_map (λ text. text.items) less)) }
-        ensures refused { IfErr result (RefusesCompaction (meaning self.now) shape.now text.now) };
+        ensures less { IfOk result (λ less. (meaning self.now).compacted shape.now encoded.now
+            ≡ Some (option_map (λ encoded. encoded.items) less)) }
+        ensures refused { IfErr result (RefusesCompaction (meaning self.now) shape.now encoded.now) };
 
     /// Decoding gives back what was encoded, and what was encoded is compact.
     ghost lawful: { (chain : Self) → IsLawfulChain (meaning chain) };

@@ -6,6 +6,4 @@ mod error;
 
 pub use bytes::BytesCodec;
 pub use error::CodecError;
-
-#[cfg(test)]
-mod tests;
+pub use zarrs_codec_array::{ArrayToArrayCodec, SqueezeCodec, TransposeCodec};

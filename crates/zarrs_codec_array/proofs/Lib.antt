@@ -1,0 +1,9 @@
+pub mod Chained
+pub mod Depth
+pub mod Gathering
+pub mod Marks
+pub mod Squeezed
+pub mod Taken
+pub mod Transposing
+pub mod Walks
+pub mod Ways

@@ -1,0 +1,6 @@
+use Rattle.std.proofs.Common.{[], ◌∷◌}
+use Rattle.zarrs_codec_array.specs.Gathered.{IsGathered}
+use Rattle.zarrs_codec_array.proofs.gather.gather_pieces.Given as goal
+
+abbrev pub invariant-loop-i : goal.invariant-loop-i
+invariant-loop-i l = IsGathered l.size (l.i ∷ []) (l.step ∷ []) l.start l.from l.to

@@ -1,0 +1,210 @@
+//! The codecs that make an array of an array, one after another.
+ghost use Rattle.std.specs.Prelude.{◌≡◌, ◌<◌, true, IfOk, IfSome, option_map, Some, length, take};
+ghost use Rattle.zarrs_subset.specs.Boxes.{position_count};
+ghost use Rattle.zarrs_data_type.specs.ArrayData.{ArrayData, data_of};
+ghost use Rattle.zarrs_data_type.specs.Cells.{cells, HasCells};
+ghost use Rattle.zarrs_data_type.specs.Kind.{kind};
+ghost use Rattle.zarrs_codec_array.specs.ArrayCodecs.{array_meaning, arrays_meaning};
+ghost use Rattle.zarrs_codec_array.specs.Gathered.{IsEncodedArray, IsDecodedArray, data_or, encoded_shape};
+
+use crate::squeeze::SqueezeCodec;
+use crate::transpose::TransposeCodec;
+use std::alloc::{AllocError, Global};
+use zarrs_data_type::{ArrayBytes, DataType};
+
+/// A codec that makes an array of an array (Zarr V3 core specification, "Codecs").
+#[derive(Debug, Drop)]
+pub enum ArrayToArrayCodec {
+    /// The dimensions in another order.
+    Transpose(TransposeCodec),
+    /// No dimension of extent 1.
+    Squeeze(SqueezeCodec),
+}
+
+impl ArrayToArrayCodec {
+    /// The shape of the encoded array, or `None` if the codec does not take arrays of this shape.
+    pub fn encoded_shape(
+        &self,
+        alloc: Global,
+        shape: &[u64],
+    ) -> Result<Option<Vec<u64>>, AllocError>
+        ensures { IfOk result (λ made. option_map (λ made. made.items) made
+            ≡ encoded_shape (array_meaning self.now) shape.now) }
+    {
+        match self {
+            ArrayToArrayCodec::Transpose(codec) => codec.encoded_shape(alloc, shape),
+            ArrayToArrayCodec::Squeeze(codec) => codec.encoded_shape(alloc, shape),
+        }
+    }
+
+    /// The encoded array, or `None` if the cells keep their order.
+    pub fn encode(
+        &self,
+        alloc: Global,
+        bytes: &ArrayBytes<'_>,
+        data_type: &DataType,
+        shape: &[u64],
+    ) -> Result<Option<ArrayBytes<'static>>, AllocError>
+        requires fits { (array_meaning self.now).fits shape.now ≡ true }
+        requires cells { HasCells (kind data_type.now) (data_of bytes.now) (position_count shape.now) }
+        ensures { IfOk result (IsEncodedArray (array_meaning self.now) (kind data_type.now)
+            shape.now (data_of bytes.now)) }
+    {
+        match self {
+            ArrayToArrayCodec::Transpose(codec) => codec.encode(alloc, bytes, data_type, shape),
+            ArrayToArrayCodec::Squeeze(_) => Ok(None),
+        }
+    }
+
+    /// The decoded array, whose shape this is, or `None` if the cells keep their order.
+    pub fn decode(
+        &self,
+        alloc: Global,
+        bytes: &ArrayBytes<'_>,
+        data_type: &DataType,
+        shape: &[u64],
+    ) -> Result<Option<ArrayBytes<'static>>, AllocError>
+        requires fits { (array_meaning self.now).fits shape.now ≡ true }
+        requires cells { HasCells (kind data_type.now) (data_of bytes.now) (position_count shape.now) }
+        ensures { IfOk result (IsDecodedArray (array_meaning self.now) (kind data_type.now)
+            shape.now (data_of bytes.now)) }
+    {
+        match self {
+            ArrayToArrayCodec::Transpose(codec) => codec.decode(alloc, bytes, data_type, shape),
+            ArrayToArrayCodec::Squeeze(_) => Ok(None),
+        }
+    }
+}
+
+/// The shape of the array that the codecs make, or `None` if one of them does not take the shape that comes to it.
+pub fn encoded_shape(
+    alloc: Global,
+    codecs: &[ArrayToArrayCodec],
+    shape: &[u64],
+) -> Result<Option<Vec<u64>>, AllocError>
+    ensures { IfOk result (λ made. option_map (λ made. made.items) made
+        ≡ encoded_shape (arrays_meaning codecs.now) shape.now) }
+{
+    let mut current = Vec::from_slice(alloc, shape)?;
+    for codec in codecs {
+        let Some(next) = codec.encoded_shape(alloc, &current)? else {
+            return Ok(None);
+        };
+        current = next;
+    }
+    Ok(Some(current))
+}
+
+/// The shape of the array that comes to the codec of number `k`.
+fn shape_before(
+    alloc: Global,
+    codecs: &[ArrayToArrayCodec],
+    k: usize,
+    shape: &[u64],
+) -> Result<Vec<u64>, AllocError>
+    requires below { k < length codecs.now }
+    requires fits { (arrays_meaning codecs.now).fits shape.now ≡ true }
+    ensures { IfOk result (λ before. before.items ≡ (arrays_meaning (take k codecs.now)).shape shape.now) }
+{
+    match encoded_shape(alloc, &codecs[..k], shape)? {
+        Some(before) => Ok(before),
+        None => unreachable!(),
+    }
+}
+
+/// What the codec makes of the current array, which is `bytes` if none was made yet.
+fn encode_next(
+    alloc: Global,
+    codec: &ArrayToArrayCodec,
+    current: &Option<ArrayBytes<'static>>,
+    bytes: &ArrayBytes<'_>,
+    data_type: &DataType,
+    shape: &[u64],
+) -> Result<Option<ArrayBytes<'static>>, AllocError>
+    requires fits { (array_meaning codec.now).fits shape.now ≡ true }
+    requires cells { HasCells (kind data_type.now) (data_or current.now (data_of bytes.now)) (position_count shape.now) }
+    ensures { IfOk result (IsEncodedArray (array_meaning codec.now) (kind data_type.now)
+        shape.now (data_or current.now (data_of bytes.now))) }
+{
+    match current {
+        Some(made) => codec.encode(alloc, made, data_type, shape),
+        None => codec.encode(alloc, bytes, data_type, shape),
+    }
+}
+
+/// The later array, if there is one.
+fn later(
+    current: Option<ArrayBytes<'static>>,
+    next: Option<ArrayBytes<'static>>,
+) -> Option<ArrayBytes<'static>>
+    ensures { (d : ArrayData) → data_or result d ≡ data_or next.entry (data_or current.entry d) }
+{
+    match next {
+        Some(made) => Some(made),
+        None => current,
+    }
+}
+
+/// The array that the codec made the current one of.
+fn decode_next(
+    alloc: Global,
+    codec: &ArrayToArrayCodec,
+    current: ArrayBytes<'static>,
+    data_type: &DataType,
+    shape: &[u64],
+) -> Result<ArrayBytes<'static>, AllocError>
+    requires fits { (array_meaning codec.now).fits shape.now ≡ true }
+    requires cells { HasCells (kind data_type.now) (data_of current) (position_count shape.now) }
+    ensures { IfOk result (λ made. IfSome (cells (kind data_type.now) (data_of current.entry))
+        (λ cs. cells (kind data_type.now) (data_of made) ≡ Some ((array_meaning codec.now).back shape.now cs))) }
+{
+    match codec.decode(alloc, &current, data_type, shape)? {
+        Some(made) => Ok(made),
+        None => Ok(current),
+    }
+}
+
+/// The array that the codecs make, the first one first, or `None` if the cells keep their order.
+pub fn encode_array(
+    alloc: Global,
+    codecs: &[ArrayToArrayCodec],
+    bytes: &ArrayBytes<'_>,
+    data_type: &DataType,
+    shape: &[u64],
+) -> Result<Option<ArrayBytes<'static>>, AllocError>
+    requires fits { (arrays_meaning codecs.now).fits shape.now ≡ true }
+    requires cells { HasCells (kind data_type.now) (data_of bytes.now) (position_count shape.now) }
+    ensures { IfOk result (IsEncodedArray (arrays_meaning codecs.now) (kind data_type.now)
+        shape.now (data_of bytes.now)) }
+{
+    let mut current = None;
+    for k in 0..codecs.len() {
+        let before = shape_before(alloc, codecs, k, shape)?;
+        let next = encode_next(alloc, &codecs[k], &current, bytes, data_type, &before)?;
+        current = later(current, next);
+    }
+    Ok(current)
+}
+
+/// The array that the codecs made this one of, whose shape was this one.
+pub fn decode_array(
+    alloc: Global,
+    codecs: &[ArrayToArrayCodec],
+    bytes: ArrayBytes<'static>,
+    data_type: &DataType,
+    shape: &[u64],
+) -> Result<ArrayBytes<'static>, AllocError>
+    requires fits { (arrays_meaning codecs.now).fits shape.now ≡ true }
+    requires cells { HasCells (kind data_type.now) (data_of bytes) (position_count shape.now) }
+    ensures { IfOk result (λ made. IfSome (cells (kind data_type.now) (data_of bytes.entry))
+        (λ cs. cells (kind data_type.now) (data_of made) ≡ Some ((arrays_meaning codecs.now).back shape.now cs))) }
+{
+    let mut current = bytes;
+    let mut k = codecs.len();
+    while k > 0 {
+        k -= 1;
+        let before = shape_before(alloc, codecs, k, shape)?;
+        current = decode_next(alloc, &codecs[k], current, data_type, &before)?;
+    }
+    Ok(current)
+}

@@ -1,0 +1,151 @@
+//! Cells taken in another order.
+ghost use Rattle.std.specs.Prelude.{◌≡◌, ◌+◌, ◌*◌, ◌<◌, ◌^◌, [], ◌∷◌, ◌++◌, length, map, slice_index_or, OnOk};
+ghost use Rattle.zarrs_subset.specs.Boxes.{position_count};
+ghost use Rattle.zarrs_codec_array.specs.Gathered.{IsGathered, AreWithin, walked};
+
+use std::alloc::AllocError;
+use zarrs_data_type::{ArrayBytesVariableLength, VariableLengthBuilder};
+
+// Does what `gather` says in one dimension, with cells of `N` bytes.
+fn gather_cells<const N: usize>(
+    to: &mut [u8],
+    from: &[u8],
+    extent: usize,
+    step: usize,
+    start: usize,
+)
+    requires len { length to.old ≡ extent * N }
+    requires within { AreWithin N (extent ∷ []) (step ∷ []) start (length from.now) }
+    ensures { IsGathered N (extent ∷ []) (step ∷ []) start from.now to.new }
+{
+    for i in 0..extent {
+        let write = i * N;
+        let read = start + i * step;
+        to[write..write + N].copy_from_slice(&from[read..read + N]);
+    }
+}
+
+// The same with cells of `size` bytes.
+fn gather_pieces(
+    to: &mut [u8],
+    from: &[u8],
+    size: usize,
+    extent: usize,
+    step: usize,
+    start: usize,
+)
+    requires len { length to.old ≡ extent * size }
+    requires within { AreWithin size (extent ∷ []) (step ∷ []) start (length from.now) }
+    ensures { IsGathered size (extent ∷ []) (step ∷ []) start from.now to.new }
+{
+    for i in 0..extent {
+        let write = i * size;
+        let read = start + i * step;
+        to[write..write + size].copy_from_slice(&from[read..read + size]);
+    }
+}
+
+// The same with cells that lie one after another in `from` too.
+fn copy_cells(to: &mut [u8], from: &[u8], size: usize, extent: usize, start: usize)
+    requires len { length to.old ≡ extent * size }
+    requires within { AreWithin size (extent ∷ []) (size ∷ []) start (length from.now) }
+    ensures { IsGathered size (extent ∷ []) (size ∷ []) start from.now to.new }
+{
+    let len = to.len();
+    if len > 0 {
+        to.copy_from_slice(&from[start..start + len]);
+    }
+}
+
+// Does what `gather` says in one dimension, of `extent` cells.
+fn gather_line(
+    to: &mut [u8],
+    from: &[u8],
+    size: usize,
+    extent: usize,
+    step: usize,
+    start: usize,
+)
+    requires len { length to.old ≡ extent * size }
+    requires within { AreWithin size (extent ∷ []) (step ∷ []) start (length from.now) }
+    ensures { IsGathered size (extent ∷ []) (step ∷ []) start from.now to.new }
+{
+    if step == size {
+        copy_cells(to, from, size, extent, start);
+        return;
+    }
+    match size {
+        1 => gather_cells::<1>(to, from, extent, step, start),
+        2 => gather_cells::<2>(to, from, extent, step, start),
+        4 => gather_cells::<4>(to, from, extent, step, start),
+        8 => gather_cells::<8>(to, from, extent, step, start),
+        _ => gather_pieces(to, from, size, extent, step, start),
+    }
+}
+
+// Fills `to`, an array of the shape `extents` of cells of `size` bytes: at each position the cell of `from` that is as
+// many steps after `start`.
+pub(crate) fn gather(
+    to: &mut [u8],
+    from: &[u8],
+    size: usize,
+    extents: &[u64],
+    steps: &[u64],
+    start: usize,
+)
+    requires same_length { length extents.now ≡ length steps.now }
+    requires len { length to.old ≡ position_count extents.now * size }
+    requires within { AreWithin size extents.now steps.now start (length from.now) }
+    ensures { IsGathered size extents.now steps.now start from.now to.new }
+{
+    if to.is_empty() {
+        return;
+    }
+    if extents.is_empty() {
+        to.copy_from_slice(&from[start..start + size]);
+        return;
+    }
+    let extent = extents[0] as usize;
+    if extents.len() == 1 {
+        gather_line(to, from, size, extent, steps[0] as usize, start);
+        return;
+    }
+    let block = to.len() / extent;
+    for i in 0..extent {
+        let write = i * block;
+        gather(
+            &mut to[write..write + block],
+            from,
+            size,
+            &extents[1..],
+            &steps[1..],
+            start + i * steps[0] as usize,
+        );
+    }
+}
+
+// Puts the strings of an array of the shape `extents` behind the others: at each position the string that is as many
+// steps after `start`.
+pub(crate) fn push_strings(
+    to: &mut VariableLengthBuilder,
+    from: &ArrayBytesVariableLength<'_>,
+    extents: &[u64],
+    steps: &[u64],
+    start: usize,
+) -> Result<(), AllocError>
+    requires same_length { length extents.now ≡ length steps.now }
+    requires some { 0 < position_count extents.now }
+    requires fits { length from.now < 2 ^ 64 }
+    requires within { AreWithin 1 extents.now steps.now start (length from.now) }
+    ensures { OnOk result (to.new ≡ to.old
+        ++ map (λ i. slice_index_or from.now i []) (walked extents.now steps.now start)) }
+{
+    if extents.is_empty() {
+        return to.push(from.get(start));
+    }
+    for i in 0..extents[0] as usize {
+        let first = start + i * steps[0] as usize;
+        push_strings(to, from, &extents[1..], &steps[1..], first)?;
+    }
+    Ok(())
+}
