@@ -17,45 +17,10 @@ use Rattle.zarrs_codec.specs.Chain.{ChainMeaning, IsLawfulChain}
 use Rattle.zarrs_data_type.specs.Kind.{Kind}
 use Rattle.zarrs_data_type.specs.Kind as type
 use Rattle.zarrs_data_type.specs.Cell.{Cell, bytes, none, some, cell_eq, fill_cell, is_element, is_value}
+use Rattle.zarrs_types.proofs.Values.{fill-value}
 use Rattle.zarrs_data_type.proofs.Same.{cell_eq-true, eq-cell_eq}
 use Rattle.zarrs_steps.specs.Layout.{Layout, IsLawful, layout_at, metadata_keys_at}
 use Rattle.zarrs_steps.specs.Content.{cell_at_place, chunk_cell, indexed_cell, decoded_cells, content, Reads}
-
-some_value : (b : Bool) (k : Kind) (f : List ℕ) (c : Cell) → (b ≡ true → is_value k (bytes f) ≡ true) → cond b (Some (bytes f)) None ≡ Some c → is_value k c ≡ true
-some_value true k f c is at = let same : bytes f ≡ c = cc in subst (λ (c : Cell). is_value k c ≡ true) same (is refl)
-some_value false k f c is at = absurd (cc)
-
-inner_value : (inner : Kind) (found : Option Cell) (c : Cell) → ((d : Cell) → found ≡ Some d → is_value inner d ≡ true) → option_map some found ≡ Some c → is_value (type.optional inner) c ≡ true
-inner_value inner None c is at = absurd (cc)
-inner_value inner (Some d) c is at = let same : some d ≡ c = cc in subst (λ (c : Cell). is_value (type.optional inner) c ≡ true) same (is d refl)
-
-optional_value : (inner : Kind) (a b : Bool) (found : Option Cell) (c : Cell) → ((d : Cell) → found ≡ Some d → is_value inner d ≡ true)
-    → cond a (Some none) (cond b (option_map some found) None) ≡ Some c → is_value (type.optional inner) c ≡ true
-optional_value inner true b found c is at = let same : none ≡ c = cc in subst (λ (c : Cell). is_value (type.optional inner) c ≡ true) same refl
-optional_value inner false true found c is at = inner_value inner found c is at
-optional_value inner false false found c is at = absurd (cc)
-
--- the cell of a fill value is a value of the type
-pub fill_is_value : (k : Kind) (f : List ℕ) (c : Cell) → fill_cell k f ≡ Some c → is_value k c ≡ true
-fill_is_value (type.optional inner) f c at =
-    let front = take (length f - 1) f in
-    optional_value inner (bytes_eq f (0 ∷ [])) (nat_lt 0 (length f) && (slice_index f (length f - 1) == 1)) (fill_cell inner front) c (λ d is. fill_is_value inner front d is) at
-fill_is_value type.bool f c at = some_value (is_element type.bool f) type.bool f c (λ is. is) at
-fill_is_value type.int8 f c at = some_value (is_element type.int8 f) type.int8 f c (λ is. is) at
-fill_is_value type.int16 f c at = some_value (is_element type.int16 f) type.int16 f c (λ is. is) at
-fill_is_value type.int32 f c at = some_value (is_element type.int32 f) type.int32 f c (λ is. is) at
-fill_is_value type.int64 f c at = some_value (is_element type.int64 f) type.int64 f c (λ is. is) at
-fill_is_value type.uint8 f c at = some_value (is_element type.uint8 f) type.uint8 f c (λ is. is) at
-fill_is_value type.uint16 f c at = some_value (is_element type.uint16 f) type.uint16 f c (λ is. is) at
-fill_is_value type.uint32 f c at = some_value (is_element type.uint32 f) type.uint32 f c (λ is. is) at
-fill_is_value type.uint64 f c at = some_value (is_element type.uint64 f) type.uint64 f c (λ is. is) at
-fill_is_value (type.raw size) f c at = some_value (is_element (type.raw size) f) (type.raw size) f c (λ is. is) at
-fill_is_value type.string f c at = some_value (is_element type.string f) type.string f c (λ is. is) at
-fill_is_value type.bytes f c at = some_value (is_element type.bytes f) type.bytes f c (λ is. is) at
-
-filled_value : (k : Kind) (f : List ℕ) (found : Option Cell) → fill_cell k f ≡ found → IsSome found → is_value k (unwrap_or found none) ≡ true
-filled_value k f None at there = absurd (cc)
-filled_value k f (Some c) at there = fill_is_value k f c at
 
 -- each metadata key is that of a metadata name
 named_key : (path key : List ℕ) → Contains (metadata_keys_at path) key → (name : List ℕ) × IsMetadataName name × (key ≡ path_key path name)
@@ -74,7 +39,7 @@ lawful_at_parts grid path key chain kind fill g k c there = record {
       let named = named_key path (path_key path (key index)) among in
       (lawful_at path key k).no_metadata grid.dimensions index named.0 long named.1 named.2;
   chain = c;
-  filled = filled_value kind fill (fill_cell kind fill) refl there;
+  filled = fill-value kind fill there;
 }
 
 head_passes : (a b : Bool) → a && b ≡ true → a ≡ true
