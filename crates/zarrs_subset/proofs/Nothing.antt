@@ -3,7 +3,7 @@ use Rattle.std.proofs.Common.{◌≡◌, ℕ, zero, suc, ◌+◌, ◌<◌, ◌�
 use Rattle.std.proofs.lemmas.Bool.{and_parts}
 use Rattle.std.proofs.lemmas.Bool.Decides.{nat_tests}
 use Rattle.zarrs_subset.specs.Boxes.{BoxFits, in_range, is_within}
-use Rattle.zarrs_subset.specs.Cells.{BoxCopied, BytesPlaced}
+use Rattle.zarrs_subset.specs.Cells.{BoxCopied}
 use Rattle.zarrs_subset.proofs.Overlaps.{in_box-empty}
 
 pub length_fits : (start extents shape : List ℕ) → BoxFits start extents shape → length start ≡ length extents
@@ -41,8 +41,3 @@ apart (s ∷ S) (x ∷ X) (t ∷ T) (y ∷ Y) (i ∷ p) (suc k) longS longT long
     and_second : (a b : Bool) → b ≡ false → (a && b) ≡ false
     and_second true b h = h
     and_second false b h = refl
-
--- a part that shares no position with the box
-pub BytesPlaced-apart : (size : ℕ) (S X T Y part old : List ℕ) → ((p : List ℕ) → is_within S X p ≡ true → is_within T Y p ≡ false)
-    → BytesPlaced size S X T Y part old old
-BytesPlaced-apart size S X T Y part old out p k inside below = rw (out p inside) refl

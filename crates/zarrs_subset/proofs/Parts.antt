@@ -1,198 +1,137 @@
 -- Lemmas of a part's cells that go to their places in the cells of a box.
-use Rattle.std.proofs.Common.{◌≡◌, ◌≢◌, ℕ, suc, ◌+◌, ◌-◌, ◌*◌, ◌<◌, ◌≤◌, true, false, nat_lt, nat_le, min, max, List, [], ◌∷◌, length, get_or, map, slice_range, slice_get, Some, refl, sym, ap, ◌∙◌, arith, inl, inr}
+use Rattle.std.proofs.Common.{◌≡◌, ℕ, zero, suc, ◌+◌, ◌-◌, ◌*◌, ◌<◌, ◌≤◌, true, false, ◌&&◌, nat_lt, nat_le, min, max, List, [], ◌∷◌, length, map, slice_index, slice_get, if◌then◌else◌, Some, refl, sym, ap, ◌∙◌, arith, inl, inr}
 use Rattle.std.specs.Option.{option_map}
-use Rattle.std.proofs.Math.Nat.{mul-le-mul_right, add-mul}
-use Rattle.std.proofs.lemmas.Bool.{cases_eq, cases_Bool, and_parts, ltb-true, leb-true, cond-true, cond-false}
+use Rattle.std.proofs.lemmas.Bool.{cases_Bool, and_parts, ltb-true, leb-true, false≢true}
 use Rattle.std.proofs.lemmas.Bool.Decides.{nat_tests}
 use Rattle.std.proofs.lemmas.Option.{slice_get-get_or, slice_get-map}
 use Rattle.std.proofs.lemmas.List.FromFn.{length-map-range_with_len, get_or-map-range_with_len}
-use borrow.Rule.Slice.PartMut.{put_mid}
-use Rattle.zarrs_subset.specs.Boxes.{position_count, place, in_range, is_within, offset_from, EndsFit}
+use Rattle.zarrs_subset.specs.Boxes.{position_count, place, BoxFits, in_range, is_within, moved, offset_from, zip_with, overlap_extents, MeetAlong}
+use Rattle.zarrs_subset.specs.Cells.{BoxCopied}
 use Rattle.zarrs_subset.specs.Pieces.{piece_at, pieces}
-use Rattle.zarrs_subset.specs.Cells.{BytesPlaced}
 use Rattle.zarrs_subset.specs.Regions.{Box, IsLong, place_in, cells_over, TakesPart}
-use Rattle.zarrs_subset.proofs.Kernel.{place_below, get_or-put_mid_inside, get_or-part, in_block, below_block, block_order, other_block, row_hit, row_miss, cell_ends, piece_at-same, tail_is}
+use Rattle.zarrs_subset.proofs.Kernel.{place_below, cell_ends, piece_at-same}
+use Rattle.zarrs_subset.proofs.Overlaps.{AllSome, length-overlap_extents}
 use Rattle.zarrs_subset.proofs.Positions.{offset_from-in}
 use Rattle.zarrs_subset.proofs.Bytes.{place_in_below, byte_of}
 
--- ---- positions within one dimension
+-- ---- what two boxes share, as a box of the array over each
 
--- at another extent of the part's first dimension, which meets the box in the same indices
-pub BytesPlaced-extent : (size s x t y z : ℕ) (S X T Y part old new : List ℕ)
-    → ((j : ℕ) → in_range s x j ≡ true → in_range t z j ≡ in_range t y j)
-    → BytesPlaced size (s ∷ S) (x ∷ X) (t ∷ T) (y ∷ Y) part old new
-    → BytesPlaced size (s ∷ S) (x ∷ X) (t ∷ T) (z ∷ Y) part old new
-BytesPlaced-extent size s x t y z S X T Y part old new same placed [] k inside below = placed [] k inside below
-BytesPlaced-extent size s x t y z S X T Y part old new same placed (j ∷ p) k inside below =
-    let parts = and_parts (in_range s x j) (is_within S X p) inside in
-    rw (same j parts.0) (placed (j ∷ p) k inside below)
+-- where it begins in the array over the first box, and in that over the second
+abbrev pub shared_start : List ℕ → List ℕ → List ℕ
+shared_start start other = zip_with (λ s t. max s t - s) start other
 
--- a part with no index in the first dimension changes nothing
-pub BytesPlaced-none : (size s x t y : ℕ) (S X T Y part old : List ℕ)
-    → ((j : ℕ) → in_range s x j ≡ true → in_range t y j ≡ false)
-    → BytesPlaced size (s ∷ S) (x ∷ X) (t ∷ T) (y ∷ Y) part old old
-BytesPlaced-none size s x t y S X T Y part old out [] k inside below = cc
-BytesPlaced-none size s x t y S X T Y part old out (j ∷ p) k inside below =
-    let parts = and_parts (in_range s x j) (is_within S X p) inside in
-    rw (out j parts.0) refl
+abbrev pub shared_other_start : List ℕ → List ℕ → List ℕ
+shared_other_start start other = zip_with (λ s t. max s t - t) start other
 
--- with no dimension, the part is the one cell
-pub BytesPlaced-one : (size : ℕ) (part old : List ℕ) → BytesPlaced size [] [] [] [] part old part
-BytesPlaced-one size part old [] k inside below = refl
-BytesPlaced-one size part old (j ∷ p) k inside below = cc
+pub zip_with-at : (f : ℕ → ℕ → ℕ) (xs ys : List ℕ) (k : ℕ) → k < length xs → k < length ys → slice_index (zip_with f xs ys) k ≡ f (slice_index xs k) (slice_index ys k)
+zip_with-at f [] ys k h l = absurd (omega arith)
+zip_with-at f (x ∷ xs) [] k h l = absurd (omega arith)
+zip_with-at f (x ∷ xs) (y ∷ ys) zero h l = refl
+zip_with-at f (x ∷ xs) (y ∷ ys) (suc k) h l = zip_with-at f xs ys k (omega arith) (omega arith)
 
--- ---- one more index of the first dimension
+pub overlap_extents-at : (S X T Y : List ℕ) (k : ℕ) → length S ≡ length X → length T ≡ length Y → length S ≡ length T → k < length S
+    → slice_index (overlap_extents S X T Y) k ≡ min (slice_index S k + slice_index X k) (slice_index T k + slice_index Y k) - max (slice_index S k) (slice_index T k)
+overlap_extents-at [] X T Y k h i j below = absurd (omega arith)
+overlap_extents-at (s ∷ S) [] T Y k h i j below = absurd (omega arith)
+overlap_extents-at (s ∷ S) (x ∷ X) [] Y k h i j below = absurd (omega arith)
+overlap_extents-at (s ∷ S) (x ∷ X) (t ∷ T) [] k h i j below = absurd (omega arith)
+overlap_extents-at (s ∷ S) (x ∷ X) (t ∷ T) (y ∷ Y) zero h i j below = refl
+overlap_extents-at (s ∷ S) (x ∷ X) (t ∷ T) (y ∷ Y) (suc k) h i j below = overlap_extents-at S X T Y k (omega arith) (omega arith) (omega arith) (omega arith)
 
-in_range-next : (t i j : ℕ) → t ≤ i → j ≢ i → in_range t (i + 1 - t) j ≡ in_range t (i - t) j
-in_range-next t i j low ne = grind (arith, nat_tests)
+MeetAlong-rest : (s x t y : ℕ) (S X T Y : List ℕ) → MeetAlong (s ∷ S) (x ∷ X) (t ∷ T) (y ∷ Y) → MeetAlong S X T Y
+MeetAlong-rest s x t y S X T Y meet k below = meet (suc k) (omega arith)
 
-in_range-here : (t i j : ℕ) → t ≤ i → j ≡ i → (in_range t (i + 1 - t) j ≡ true) × (in_range t (i - t) j ≡ false)
-in_range-here t i j low is = (grind (arith, nat_tests), grind (arith, nat_tests))
+-- it fits both arrays
+pub shared_fits : (S X T Y : List ℕ) → length S ≡ length X → length T ≡ length Y → length S ≡ length T → MeetAlong S X T Y
+    → BoxFits (shared_start S T) (overlap_extents S X T Y) X × BoxFits (shared_other_start S T) (overlap_extents S X T Y) Y
+shared_fits [] [] [] [] h i j meet = (tt, tt)
+shared_fits [] [] [] (y ∷ Y) h i j meet = absurd (omega arith)
+shared_fits [] [] (t ∷ T) Y h i j meet = absurd (omega arith)
+shared_fits [] (x ∷ X) T Y h i j meet = absurd (omega arith)
+shared_fits (s ∷ S) [] T Y h i j meet = absurd (omega arith)
+shared_fits (s ∷ S) (x ∷ X) [] Y h i j meet = absurd (omega arith)
+shared_fits (s ∷ S) (x ∷ X) (t ∷ T) [] h i j meet = absurd (omega arith)
+shared_fits (s ∷ S) (x ∷ X) (t ∷ T) (y ∷ Y) h i j meet =
+    let here : max s t < min (s + x) (t + y) = meet zero (omega arith) in
+    let rest = shared_fits S X T Y (omega arith) (omega arith) (omega arith) (MeetAlong-rest s x t y S X T Y meet) in
+    let first : (max s t - s) + (min (s + x) (t + y) - max s t) ≤ x = omega arith in
+    let second : (max s t - t) + (min (s + x) (t + y) - max s t) ≤ y = omega arith in
+    ((first, rest.0), (second, rest.1))
 
-low_end : (s x i : ℕ) → in_range s x i ≡ true → s ≤ i
-low_end s x i h = leb-true s i (and_parts (nat_le s i) (nat_lt i (s + x)) h).0
+-- it has positions
+pub shared_some : (S X T Y : List ℕ) → length S ≡ length X → length T ≡ length Y → length S ≡ length T → MeetAlong S X T Y → AllSome (overlap_extents S X T Y)
+shared_some S X T Y h i j meet k below z =
+    let inside : k < length S = omega (arith, length-overlap_extents S X T Y h i j) in
+    omega (arith, meet k inside, overlap_extents-at S X T Y k h i j inside, z)
 
-pub BytesPlaced-more : (size s x t i : ℕ) (S X T Y part old mid sub : List ℕ) (r w sb tb : ℕ)
-    → length S ≡ length X → length T ≡ length Y → s ≤ i → t ≤ i
-    → sb ≡ position_count Y * size → tb ≡ position_count X * size
-    → r ≡ (i - t) * sb → w ≡ (i - s) * tb → w + tb ≤ length mid → length sub ≡ tb
-    → BytesPlaced size (s ∷ S) (x ∷ X) (t ∷ T) ((i - t) ∷ Y) part old mid
-    → BytesPlaced size S X T Y (slice_range part r (r + sb)) (slice_range mid w (w + tb)) sub
-    → BytesPlaced size (s ∷ S) (x ∷ X) (t ∷ T) ((i + 1 - t) ∷ Y) part old (put_mid w tb mid sub)
-BytesPlaced-more size s x t i S X T Y part old mid sub r w sb tb longS longT lowS lowT sbIs tbIs rIs wIs room len more call [] k inside below = cc
-BytesPlaced-more size s x t i S X T Y part old mid sub r w sb tb longS longT lowS lowT sbIs tbIs rIs wIs room len more call (j ∷ p) k inside below =
-    let parts = and_parts (in_range s x j) (is_within S X p) inside in
-    let low : s ≤ j = low_end s x j parts.0 in
-    let q = place X (offset_from S p) in
-    let idx = q * size + k in
-    let within : idx < tb = omega (arith, below_block (position_count X) q size k (place_below X (offset_from S p) (offset_from-in S X p longS parts.1)) below) in
-    let at : ((j - s) * position_count X + q) * size + k ≡ (j - s) * tb + idx = rw tbIs (in_block (j - s) (position_count X) q size k) in
-    let kept = more (j ∷ p) k inside below in
-    elim (cases_eq j i) [
-      | inl same ↦
-          let range = in_range-here t i j lowT same in
-          let there : (j - s) * tb + idx ≡ w + idx = rw same (omega arith) in
-          let read = get_or-put_mid_inside w tb idx mid sub room len within in
-          let moves = call p k parts.1 below in
-          elim (cases_Bool (is_within T Y p)) [
-            | inl hit ↦
-                let v = place Y (offset_from T p) in
-                let short : v * size + k < sb = omega (arith, below_block (position_count Y) v size k (place_below Y (offset_from T p) (offset_from-in T Y p longT hit)) below) in
-                let cell : r + (v * size + k) ≡ ((j - t) * position_count Y + v) * size + k =
-                rw same (ap (λ n. n + (v * size + k)) (rIs ∙ ap (λ n. (i - t) * n) sbIs) ∙ sym (in_block (i - t) (position_count Y) v size k)) in
-                let byte = get_or-part r (r + sb) (v * size + k) part (omega arith) in
-                rw (range.0, hit) (ap (λ n. get_or (put_mid w tb mid sub) n 0) (at ∙ there) ∙ read ∙ moves ∙ cond-true _ _ _ hit ∙ byte ∙ ap (λ n. get_or part n 0) cell)
-            | inr miss ↦
-                let byte = get_or-part w (w + tb) idx mid (omega arith) in
-                rw (range.0, miss) (ap (λ n. get_or (put_mid w tb mid sub) n 0) (at ∙ there) ∙ read ∙ moves ∙ cond-false _ _ _ miss ∙ byte ∙ ap (λ n. get_or mid n 0) (sym (at ∙ there)) ∙ (rw range.1 at kept))
-          ]
-      | inr other ↦
-          let range = in_range-next t i j lowT other in
-          let apart : (j - s) ≢ (i - s) = λ e. other (omega arith) in
-          let read = other_block (j - s) (i - s) tb idx w mid sub apart within wIs room len in
-          rw range (ap (λ n. get_or (put_mid w tb mid sub) n 0) at ∙ read ∙ ap (λ n. get_or mid n 0) (sym at) ∙ kept)
-    ]
-
--- ---- the row of the last dimension
-
-in_range-row : (s x t y first end j : ℕ) → first ≡ max s t → end ≡ min (s + x) (t + y) → first < end → in_range s x j ≡ true
-    → in_range (first - s) (end - first) (j - s) ≡ in_range t y j
-in_range-row s x t y first end j firstIs endIs some inside =
-    let tests = and_parts (nat_le s j) (nat_lt j (s + x)) inside in
-    let low : s ≤ j = leb-true s j tests.0 in
-    let high : j < s + x = ltb-true j (s + x) tests.1 in
+in_range-shared : (s x t y i : ℕ) → in_range s x i ≡ true → in_range (max s t - s) (min (s + x) (t + y) - max s t) (i - s) ≡ in_range t y i
+in_range-shared s x t y i inside =
+    let tests = and_parts (nat_le s i) (nat_lt i (s + x)) inside in
+    let low : s ≤ i = leb-true s i tests.0 in
+    let high : i < s + x = ltb-true i (s + x) tests.1 in
     grind (arith, nat_tests)
 
-pub BytesPlaced-row : (size s x t y first end : ℕ) (part old copied : List ℕ) (r w len wk : ℕ)
-    → first ≡ max s t → end ≡ min (s + x) (t + y) → first < end
-    → r ≡ (first - t) * size → w ≡ (first - s) * size → len ≡ (end - first) * size → wk ≡ len → w + len ≤ length old
-    → copied ≡ slice_range part r (r + len) → length copied ≡ len
-    → BytesPlaced size (s ∷ []) (x ∷ []) (t ∷ []) (y ∷ []) part old (put_mid w wk old copied)
-BytesPlaced-row size s x t y first end part old copied r w len wk firstIs endIs some rIs wIs lenIs kIs room copiedIs copiedLen [] k inside below = cc
-BytesPlaced-row size s x t y first end part old copied r w len wk firstIs endIs some rIs wIs lenIs kIs room copiedIs copiedLen (j ∷ i ∷ p) k inside below =
-    let parts = and_parts (in_range s x j) false inside in
-    cc parts.1
-BytesPlaced-row size s x t y first end part old copied r w len wk firstIs endIs some rIs wIs lenIs kIs room copiedIs copiedLen (j ∷ []) k inside below =
-    let parts = and_parts (in_range s x j) true inside in
-    let low : s ≤ j = low_end s x j parts.0 in
-    let one : (q : ℕ) → q * 1 + 0 ≡ q = λ q. omega arith in
-    let range = in_range-row s x t y first end j firstIs endIs some parts.0 in
-    rw (kIs, one (j - s), one (j - t)) (elim (cases_Bool (in_range t y j)) [
-      | inl hit ↦
-          let t_low : t ≤ j = low_end t y j hit in
-          let from : (first - t) + ((j - s) - (first - s)) ≡ j - t = omega arith in
-          rw hit (row_hit size (first - t) (first - s) (end - first) (j - s) k r w len part old copied below (range ∙ hit) rIs wIs lenIs room copiedIs copiedLen
-          ∙ ap (λ n. get_or part (n * size + k) 0) from)
-      | inr miss ↦ rw miss (row_miss size (first - s) (end - first) (j - s) k w len old copied below (range ∙ miss) wIs lenIs room copiedLen)
-    ])
+-- its positions are those of the second box
+pub shared_within : (S X T Y p : List ℕ) → length S ≡ length X → length T ≡ length Y → length S ≡ length T → is_within S X p ≡ true
+    → is_within (shared_start S T) (overlap_extents S X T Y) (offset_from S p) ≡ is_within T Y p
+shared_within [] [] [] [] [] h i j inside = refl
+shared_within [] [] [] [] (n ∷ p) h i j inside = absurd (false≢true inside)
+shared_within [] [] [] (y ∷ Y) p h i j inside = absurd (omega arith)
+shared_within [] [] (t ∷ T) Y p h i j inside = absurd (omega arith)
+shared_within [] (x ∷ X) T Y p h i j inside = absurd (omega arith)
+shared_within (s ∷ S) [] T Y p h i j inside = absurd (omega arith)
+shared_within (s ∷ S) (x ∷ X) [] Y p h i j inside = absurd (omega arith)
+shared_within (s ∷ S) (x ∷ X) (t ∷ T) [] p h i j inside = absurd (omega arith)
+shared_within (s ∷ S) (x ∷ X) (t ∷ T) (y ∷ Y) [] h i j inside = absurd (false≢true inside)
+shared_within (s ∷ S) (x ∷ X) (t ∷ T) (y ∷ Y) (n ∷ p) h i j inside =
+    let parts = and_parts (in_range s x n) (is_within S X p) inside in
+    rw (in_range-shared s x t y n parts.0, shared_within S X T Y p (omega arith) (omega arith) (omega arith) parts.1) refl
 
--- ---- the same, for lists that are not written out
+shared_moved : (S X T Y p : List ℕ) → length S ≡ length X → length T ≡ length Y → length S ≡ length T → is_within S X p ≡ true → is_within T Y p ≡ true
+    → moved (shared_start S T) (shared_other_start S T) (offset_from S p) ≡ offset_from T p
+shared_moved [] [] [] [] p h i j inside hit = refl
+shared_moved [] [] [] (y ∷ Y) p h i j inside hit = absurd (omega arith)
+shared_moved [] [] (t ∷ T) Y p h i j inside hit = absurd (omega arith)
+shared_moved [] (x ∷ X) T Y p h i j inside hit = absurd (omega arith)
+shared_moved (s ∷ S) [] T Y p h i j inside hit = absurd (omega arith)
+shared_moved (s ∷ S) (x ∷ X) [] Y p h i j inside hit = absurd (omega arith)
+shared_moved (s ∷ S) (x ∷ X) (t ∷ T) [] p h i j inside hit = absurd (omega arith)
+shared_moved (s ∷ S) (x ∷ X) (t ∷ T) (y ∷ Y) [] h i j inside hit = refl
+shared_moved (s ∷ S) (x ∷ X) (t ∷ T) (y ∷ Y) (n ∷ p) h i j inside hit =
+    let parts = and_parts (in_range s x n) (is_within S X p) inside in
+    let parts' = and_parts (in_range t y n) (is_within T Y p) hit in
+    let low : s ≤ n = leb-true s n (and_parts (nat_le s n) (nat_lt n (s + x)) parts.0).0 in
+    let low' : t ≤ n = leb-true t n (and_parts (nat_le t n) (nat_lt n (t + y)) parts'.0).0 in
+    let first : (max s t - t) + ((n - s) - (max s t - s)) ≡ n - t = omega arith in
+    rw (first, shared_moved S X T Y p (omega arith) (omega arith) (omega arith) parts.1 parts'.1) refl
 
-pub length-tail : (xs : List ℕ) → length (slice_range xs 1 (length xs)) ≡ length xs - 1
-length-tail [] = refl
-length-tail (x ∷ xs) = ap length (tail_is x xs) ∙ omega arith
+-- ---- bytes over boxes
 
-pub EndsFit-tail : (S X : List ℕ) → 0 < length S → 0 < length X → EndsFit S X
-    → EndsFit (slice_range S 1 (length S)) (slice_range X 1 (length X))
-EndsFit-tail [] X some some' fits k = absurd (omega arith)
-EndsFit-tail (s ∷ S) [] some some' fits k = absurd (omega arith)
-EndsFit-tail (s ∷ S) (x ∷ X) some some' fits k = rw (tail_is s S, tail_is x X) (fits (suc k))
+-- `new` is `old`, over the box of `start` and `shape`, but for the positions of another box, which have the bytes of `part`:
+-- byte by byte
+abbrev pub BytesPlaced : ℕ → List ℕ → List ℕ → List ℕ → List ℕ → List ℕ → List ℕ → List ℕ → Type 0
+BytesPlaced size start shape other_start other_shape part old new =
+    (p : List ℕ) (k : ℕ) → is_within start shape p ≡ true → k < size
+    → slice_index new (place shape (offset_from start p) * size + k)
+    ≡ (if is_within other_start other_shape p
+    then slice_index part (place other_shape (offset_from other_start p) * size + k)
+    else slice_index old (place shape (offset_from start p) * size + k))
 
-pub BytesPlaced-step : (size i : ℕ) (S X T Y part old mid sub : List ℕ) (r w sb tb wk : ℕ)
-    → length S ≡ length X → length T ≡ length Y → length S ≡ length T → 0 < length X
-    → get_or S 0 0 ≤ i → get_or T 0 0 ≤ i
-    → sb ≡ position_count (slice_range Y 1 (length Y)) * size → tb ≡ position_count (slice_range X 1 (length X)) * size
-    → r ≡ (i - get_or T 0 0) * sb → w ≡ (i - get_or S 0 0) * tb → wk ≡ tb → w + tb ≤ length mid → length sub ≡ tb
-    → BytesPlaced size S X T ((i - get_or T 0 0) ∷ slice_range Y 1 (length Y)) part old mid
-    → BytesPlaced size (slice_range S 1 (length S)) (slice_range X 1 (length X)) (slice_range T 1 (length T)) (slice_range Y 1 (length Y))
-    (slice_range part r (r + sb)) (slice_range mid w (w + tb)) sub
-    → BytesPlaced size S X T ((i + 1 - get_or T 0 0) ∷ slice_range Y 1 (length Y)) part old (put_mid w wk mid sub)
-BytesPlaced-step size i [] X T Y part old mid sub r w sb tb wk longS longT same some lowS lowT sbIs tbIs rIs wIs kIs room len more call = absurd (omega arith)
-BytesPlaced-step size i (s ∷ S) [] T Y part old mid sub r w sb tb wk longS longT same some lowS lowT sbIs tbIs rIs wIs kIs room len more call = absurd (omega arith)
-BytesPlaced-step size i (s ∷ S) (x ∷ X) [] Y part old mid sub r w sb tb wk longS longT same some lowS lowT sbIs tbIs rIs wIs kIs room len more call = absurd (omega arith)
-BytesPlaced-step size i (s ∷ S) (x ∷ X) (t ∷ T) [] part old mid sub r w sb tb wk longS longT same some lowS lowT sbIs tbIs rIs wIs kIs room len more call = absurd (omega arith)
-BytesPlaced-step size i (s ∷ S) (x ∷ X) (t ∷ T) (y ∷ Y) part old mid sub r w sb tb wk longS longT same some lowS lowT sbIs tbIs rIs wIs kIs room len more call =
-    rw (kIs, tail_is y Y) (BytesPlaced-more size s x t i S X T Y part old mid sub r w sb tb (omega arith) (omega arith) lowS lowT
-    (rw (tail_is y Y) at sbIs) (rw (tail_is x X) at tbIs) rIs wIs room len
-    (rw (tail_is y Y) at more)
-    (rw (tail_is s S, tail_is x X, tail_is t T, tail_is y Y) at call))
+-- the copy of what the boxes share
+pub shared_copied : (size : ℕ) (S X T Y part old new : List ℕ) → length S ≡ length X → length T ≡ length Y → length S ≡ length T
+    → BoxCopied size Y (shared_other_start S T) X (shared_start S T) (overlap_extents S X T Y) part old new → BytesPlaced size S X T Y part old new
+shared_copied size S X T Y part old new h i j copied p k inside below =
+    let at = copied (offset_from S p) k (offset_from-in S X p h inside) below in
+    let same = shared_within S X T Y p h i j inside in
+    elim (cases_Bool (is_within T Y p)) [
+      | inl hit ↦ rw hit ((rw (same ∙ hit) at at) ∙ ap (λ q. slice_index part (place Y q * size + k)) (shared_moved S X T Y p h i j inside hit))
+      | inr miss ↦ rw miss (rw (same ∙ miss) at at)
+    ]
 
-pub BytesPlaced-line : (size first end : ℕ) (S X T Y part old copied : List ℕ) (r w len wk : ℕ)
-    → length S ≡ length X → length T ≡ length Y → length S ≡ length T → length X ≡ 1
-    → first ≡ max (get_or S 0 0) (get_or T 0 0) → end ≡ min (get_or S 0 0 + get_or X 0 0) (get_or T 0 0 + get_or Y 0 0) → first < end
-    → r ≡ (first - get_or T 0 0) * size → w ≡ (first - get_or S 0 0) * size → len ≡ (end - first) * size → wk ≡ len → w + len ≤ length old
-    → copied ≡ slice_range part r (r + len) → length copied ≡ len
-    → BytesPlaced size S X T Y part old (put_mid w wk old copied)
-BytesPlaced-line size first end S [] T Y part old copied r w len wk longS longT same one firstIs endIs some rIs wIs lenIs kIs room copiedIs copiedLen = absurd (omega arith)
-BytesPlaced-line size first end S (x ∷ z ∷ X) T Y part old copied r w len wk longS longT same one firstIs endIs some rIs wIs lenIs kIs room copiedIs copiedLen = absurd (omega arith)
-BytesPlaced-line size first end [] (x ∷ []) T Y part old copied r w len wk longS longT same one firstIs endIs some rIs wIs lenIs kIs room copiedIs copiedLen = absurd (omega arith)
-BytesPlaced-line size first end (s ∷ z ∷ S) (x ∷ []) T Y part old copied r w len wk longS longT same one firstIs endIs some rIs wIs lenIs kIs room copiedIs copiedLen = absurd (omega arith)
-BytesPlaced-line size first end (s ∷ []) (x ∷ []) [] Y part old copied r w len wk longS longT same one firstIs endIs some rIs wIs lenIs kIs room copiedIs copiedLen = absurd (omega arith)
-BytesPlaced-line size first end (s ∷ []) (x ∷ []) (t ∷ z ∷ T) Y part old copied r w len wk longS longT same one firstIs endIs some rIs wIs lenIs kIs room copiedIs copiedLen = absurd (omega arith)
-BytesPlaced-line size first end (s ∷ []) (x ∷ []) (t ∷ []) [] part old copied r w len wk longS longT same one firstIs endIs some rIs wIs lenIs kIs room copiedIs copiedLen = absurd (omega arith)
-BytesPlaced-line size first end (s ∷ []) (x ∷ []) (t ∷ []) (y ∷ z ∷ Y) part old copied r w len wk longS longT same one firstIs endIs some rIs wIs lenIs kIs room copiedIs copiedLen = absurd (omega arith)
-BytesPlaced-line size first end (s ∷ []) (x ∷ []) (t ∷ []) (y ∷ []) part old copied r w len wk longS longT same one firstIs endIs some rIs wIs lenIs kIs room copiedIs copiedLen =
-    BytesPlaced-row size s x t y first end part old copied r w len wk firstIs endIs some rIs wIs lenIs kIs room copiedIs copiedLen
-
--- the bytes of the shared indices of a row end within it
-pub line_within : (s x first end size len : ℕ) → s ≤ first → first < end → end ≤ s + x → x * size ≤ len
-    → (first - s) * size + (end - first) * size ≤ len
-line_within s x first end size len low some high room =
-    let steps : (first - s) + (end - first) ≤ x = omega arith in
-    omega (arith, mul-le-mul_right size steps, add-mul (first - s) (end - first) size)
-
--- the block of an index of the box ends within the array
-pub block_within : (s x i b len : ℕ) → s ≤ i → i < s + x → x * b ≤ len → (i - s) * b + b ≤ len
-block_within s x i b len low high room =
-    let step : i - s < x = omega arith in
-    omega (arith, block_order (i - s) x b step)
-
--- an array of one dimension has its cells as blocks
-pub line_block : (shape : List ℕ) (size len block : ℕ) → length shape ≡ 1
-    → block ≡ position_count (slice_range shape 1 (length shape)) * size → block ≡ size
-line_block [] size len block one is = absurd (omega arith)
-line_block (n ∷ m ∷ shape) size len block one is = absurd (omega arith)
-line_block (n ∷ []) size len block one is = is ∙ omega arith
+-- a part that shares no position with the box
+pub BytesPlaced-apart : (size : ℕ) (S X T Y part old : List ℕ) → ((p : List ℕ) → is_within S X p ≡ true → is_within T Y p ≡ false)
+    → BytesPlaced size S X T Y part old old
+BytesPlaced-apart size S X T Y part old out p k inside below = rw (out p inside) refl
 
 -- ---- from bytes to cells
 

@@ -1,14 +1,16 @@
 -- Lemmas of a walk through the positions of a box.
-use Rattle.std.proofs.Common.{◌≡◌, ℕ, zero, suc, ◌+◌, ◌-◌, ◌*◌, ◌<◌, ◌≤◌, true, nat_lt, nat_le, List, [], ◌∷◌, ◌++◌, length, drop, take, slice_index, Bool, is_none, if◌then◌else◌, Option, MatchOption, Some, None, add-one, refl, sym, ap, ◌∙◌, arith, SomeIndex}
+use Rattle.std.proofs.Common.{◌≡◌, ℕ, zero, suc, ◌+◌, ◌-◌, ◌*◌, ◌<◌, ◌≤◌, true, false, nat_lt, nat_le, List, [], ◌∷◌, ◌++◌, length, drop, take, slice_index, Bool, is_none, if◌then◌else◌, Option, MatchOption, Some, None, add-one, refl, sym, ap, ◌∙◌, arith, SomeIndex, Result, Ok, Err, OnErr, append-nil, slice_set, inl, inr}
 use Rattle.std.proofs.Math.Nat.{add-mul}
-use Rattle.std.proofs.lemmas.List.{drop_all, drop_more}
-use Rattle.std.proofs.lemmas.Bool.{and_parts, and_from, ltb-true, leb-true, lt-ltb, le-leb, false≢true}
+use Rattle.std.specs.Bool.{OnTrue, OnFalse}
+use Rattle.std.specs.List.{refill}
+use Rattle.std.proofs.lemmas.List.{drop_all, drop_more, take_all}
+use Rattle.std.proofs.lemmas.Bool.{cases_eq, and_parts, and_from, ltb-true, leb-true, lt-ltb, le-leb, false≢true}
 use Rattle.std.proofs.lemmas.Option.{get_or_from_slice_get}
 use Rattle.smallvec.specs.SmallVec.{SmallVec}
 use Rattle.zarrs_subset.specs.Boxes.{position_count, place, in_range, is_within, offset_from}
 use Rattle.zarrs_subset.specs.Regions.{Box, IsLong, Holds, positions, place_in}
-use Rattle.zarrs_subset.specs.Steps.{positions_since, next_of, IsLastIn, IsFreeIn}
-use Rattle.zarrs_subset.proofs.Bytes.{place_in_below}
+use Rattle.zarrs_subset.specs.Steps.{next_of, IsEndedAt, IsLastIn, IsFreeIn}
+use Rattle.zarrs_subset.proofs.Bytes.{place_in_below, holds_along}
 use Rattle.zarrs_subset.proofs.Counts.{count_zero, count_some}
 use Rattle.zarrs_subset.proofs.Overlaps.{AllSome}
 use Rattle.zarrs_subset.proofs.Positions.{length-positions, positions_all}
@@ -143,9 +145,101 @@ drop-place box p long holds =
 pub drop-last : (box : Box) (k : ℕ) → IsLong box → k ≡ position_count box.shape → drop k (positions box) ≡ []
 drop-last box k long is = drop_all k (positions box) (omega (arith, length-positions box.start box.shape long))
 
--- a position, and what is left after it
-pub step_of : (box : Box) (p : List ℕ) (next : Option (SmallVec ℕ)) (done : Bool) → IsLong box → Holds box p → done ≡ is_none next
-    → MatchOption next (place_in box p + 1 ≡ position_count box.shape) (λ q. Holds box q.items × (place_in box q.items ≡ place_in box p + 1))
-    → drop (place_in box p) (positions box) ≡ p ∷ (if done then [] else positions_since box next)
-step_of box p None done long holds is last = rw is (drop-place box p long holds ∙ ap (λ v. p ∷ v) (drop-last box (place_in box p + 1) long last))
-step_of box p (Some q) done long holds is next = rw is (drop-place box p long holds ∙ ap (λ k. p ∷ drop k (positions box)) (sym next.1))
+-- ---- from the last dimension to the first
+
+-- a position whose dimensions from number k on are back at the start
+abbrev pub reset_from : List ℕ → List ℕ → ℕ → List ℕ
+reset_from start position k = take k position ++ drop k start
+
+pub reset_none : (start position : List ℕ) → length position ≡ length start → reset_from start position (length start) ≡ position
+reset_none start position long =
+    let all : take (length start) position ≡ position = take_all (length start) position (omega arith) in
+    rw (all, drop_all (length start) start (omega arith)) (append-nil position)
+
+pub reset-at : (start position : List ℕ) (k n : ℕ) → n ≡ suc k → k < length position → slice_index (reset_from start position n) k ≡ slice_index position k
+reset-at start [] k n is below = absurd (omega arith)
+reset-at start (i ∷ position) zero n is below = rw is refl
+reset-at [] (i ∷ position) (suc k) n is below = rw is (reset-at [] position k (suc k) refl (omega arith))
+reset-at (s ∷ start) (i ∷ position) (suc k) n is below = rw is (reset-at start position k (suc k) refl (omega arith))
+
+pub set-reset : (start position : List ℕ) (k n v : ℕ) → n ≡ suc k → k < length position
+    → slice_set (reset_from start position n) k v ≡ take k position ++ v ∷ drop (k + 1) start
+set-reset start [] k n v is below = absurd (omega arith)
+set-reset start (i ∷ position) zero n v is below = rw is refl
+set-reset [] (i ∷ position) (suc k) n v is below =
+    rw (is, drop_nil (suc k + 1)) (ap (λ l. i ∷ l) (set-reset [] position k (suc k) v refl (omega arith) ∙ ap (λ l. take k position ++ v ∷ l) (drop_nil (k + 1))))
+  where
+    drop_nil : (n : ℕ) → drop {A = ℕ} n [] ≡ []
+    drop_nil n = drop_all n [] (omega arith)
+set-reset (s ∷ start) (i ∷ position) (suc k) n v is below =
+    let more : suc k + 1 ≡ suc (k + 1) = omega arith in
+    rw (is, more) (ap (λ l. i ∷ l) (set-reset start position k (suc k) v refl (omega arith)))
+
+pub reset_more : (start position : List ℕ) (k : ℕ) → k < length start
+    → take k position ++ slice_index start k ∷ drop (k + 1) start ≡ reset_from start position k
+reset_more start position k below = ap (λ l. take k position ++ l) (sym (drop_more start k 0 below))
+
+-- back at the start in each dimension
+pub reset_all : (start position : List ℕ) → reset_from start position 0 ≡ start
+reset_all start position = refl
+
+pub IsFreeIn-last : (box : Box) (p : List ℕ) (n k : ℕ) → n ≡ k + 1 → k < length box.start → length p ≡ length box.start
+    → slice_index p k + 1 < slice_index box.start k + slice_index box.shape k
+    → ((j : ℕ) → n ≤ j → j < length box.start → IsEndedAt box p j) → IsFreeIn box p k
+IsFreeIn-last box p n k is below long free later = record {
+  inside = below;
+  indexed = omega arith;
+  free = free;
+  later = λ j past within. later j (omega arith) within;
+}
+
+-- one dimension more has its last index
+pub ended_more : (box : Box) (p : List ℕ) (n k : ℕ) → n ≡ k + 1 → k < length box.start → IsLong box → Holds box p
+    → slice_index box.start k + slice_index box.shape k ≤ slice_index p k + 1
+    → ((j : ℕ) → n ≤ j → j < length box.start → IsEndedAt box p j) → (j : ℕ) → k ≤ j → j < length box.start → IsEndedAt box p j
+ended_more box p n k is below long holds last later j low within =
+    elim (cases_eq j k) [
+      | inl same ↦ rw same (let inside = (holds_along box p long holds).below k below in omega arith)
+      | inr other ↦ later j (omega arith) within
+    ]
+
+pub holds_start : (box : Box) (p : List ℕ) → IsLong box → Holds box p → Holds box box.start
+holds_start box p long holds = start_within box.start box.shape p long holds
+
+-- ---- steps of a walk
+
+pub drop-next : (box : Box) (p q : List ℕ) (found : Bool) → IsLong box → Holds box q → OnTrue found (place_in box q ≡ place_in box p + 1)
+    → OnTrue found (drop (place_in box p + 1) (positions box) ≡ q ∷ drop (place_in box q + 1) (positions box))
+drop-next box p q true long holds next = ap (λ k. drop k (positions box)) (sym next) ∙ drop-place box q long holds
+drop-next box p q false long holds next = tt
+
+pub drop-end : (box : Box) (p : List ℕ) (found : Bool) → IsLong box → OnFalse found (place_in box p + 1 ≡ position_count box.shape)
+    → OnFalse found (drop (place_in box p + 1) (positions box) ≡ [])
+drop-end box p true long last = tt
+drop-end box p false long last = drop-last box (place_in box p + 1) long last
+
+pub last-length : (box : Box) (p : List ℕ) (found : Bool) → IsLong box → OnFalse found (place_in box p + 1 ≡ position_count box.shape)
+    → OnFalse found (place_in box p + 1 ≡ length (positions box))
+last-length box p true long last = tt
+last-length box p false long last = last ∙ sym (length-positions box.start box.shape long)
+
+pub first-place : (box : Box) (p : List ℕ) (found : Bool) → IsLong box → OnFalse found (p ≡ box.start) → OnFalse found (place_in box p ≡ 0)
+first-place box p true long is = tt
+first-place box p false long is = ap (place_in box) is ∙ place-start box.start box.shape long
+
+pub positions-first : (box : Box) (p : List ℕ) → IsLong box → AllSome box.shape → p ≡ box.start
+    → positions box ≡ p ∷ drop (place_in box p + 1) (positions box)
+positions-first box p long some is =
+    let holds : Holds box p = rw is (start_within_some box.start box.shape long some) in
+    let first : place_in box p ≡ 0 = ap (place_in box) is ∙ place-start box.start box.shape long in
+    ap (λ k. drop k (positions box)) (sym first) ∙ drop-place box p long holds
+
+-- a list that is filled again, all of it
+pub refill-same : (old new : List ℕ) → length new ≡ length old → refill (length old) old new ≡ new
+refill-same old new same =
+    let none : drop (length new) old ≡ [] = drop_all (length new) old (omega arith) in
+    rw none (ap (λ l. take (length old) l) (append-nil new) ∙ take_all (length old) new (omega arith))
+
+pub on_err : {T E : Type 0} (r : Result T E) (P : Type 0) → P → OnErr r P
+on_err (Ok x) P p = tt
+on_err (Err e) P p = p

@@ -1,6 +1,6 @@
 -- Positions, boxes and their row-major order. A position is a list of numbers, one for each dimension;
 -- a box is its start and its extents, both of that length.
-use Rattle.std.specs.Prelude.{ℕ, ◌+◌, ◌-◌, ◌*◌, ◌/◌, ◌%◌, ◌<◌, ◌≤◌, Bool, true, false, ◌&&◌, List, [], ◌∷◌, map, nat_le, nat_lt, max, min, slice_index, ◌^◌}
+use Rattle.std.specs.Prelude.{ℕ, ◌+◌, ◌-◌, ◌*◌, ◌/◌, ◌%◌, ◌<◌, ◌≤◌, Bool, true, false, ◌&&◌, List, [], ◌∷◌, map, nat_le, nat_lt, max, min, slice_index, ◌^◌, length}
 use Rattle.std.specs.List.{flat_map, range_with_len, zip}
 
 -- how many positions an array or a box has: the product of its extents
@@ -91,3 +91,9 @@ overlap_start start other = zip_with (λ s t. max s t) start other
 abbrev pub overlap_extents : List ℕ → List ℕ → List ℕ → List ℕ → List ℕ
 overlap_extents start extents other other_extents =
     zip_with (λ e s. e - s) (zip_with (λ d e. min d e) (ends start extents) (ends other other_extents)) (overlap_start start other)
+
+-- in each dimension the two boxes share an index
+abbrev pub MeetAlong : List ℕ → List ℕ → List ℕ → List ℕ → Type 0
+MeetAlong start extents other other_extents =
+    (k : ℕ) → k < length start
+    → max (slice_index start k) (slice_index other k) < min (slice_index start k + slice_index extents k) (slice_index other k + slice_index other_extents k)

@@ -1,7 +1,7 @@
 -- Row-major arrays of bytes, seen as cells of one size.
 use Rattle.std.specs.Prelude.{◌≡◌, ℕ, ◌+◌, ◌*◌, ◌<◌, true, List, slice_index, if◌then◌else◌}
 use Rattle.zarrs_subset.specs.Pieces.{piece_at}
-use Rattle.zarrs_subset.specs.Boxes.{InShape, place, is_within, moved, offset_from}
+use Rattle.zarrs_subset.specs.Boxes.{InShape, place, is_within, moved}
 
 -- `new` is `old`, an array of shape `target`, but for the cells of the box of `start` and `extents`, which are those
 -- of the array `from` of shape `source` at the box of `origin` and `extents`: byte by byte
@@ -12,16 +12,6 @@ BoxCopied size source origin target start extents from old new =
     ≡ (if is_within start extents p
     then slice_index from (place source (moved start origin p) * size + k)
     else slice_index old (place target p * size + k))
-
--- `new` is `old`, over the box of `start` and `shape`, but for the positions of another box, which have the bytes of `part`:
--- byte by byte
-abbrev pub BytesPlaced : ℕ → List ℕ → List ℕ → List ℕ → List ℕ → List ℕ → List ℕ → List ℕ → Type 0
-BytesPlaced size start shape other_start other_shape part old new =
-    (p : List ℕ) (k : ℕ) → is_within start shape p ≡ true → k < size
-    → slice_index new (place shape (offset_from start p) * size + k)
-    ≡ (if is_within other_start other_shape p
-    then slice_index part (place other_shape (offset_from other_start p) * size + k)
-    else slice_index old (place shape (offset_from start p) * size + k))
 
 -- the same as `BoxCopied`, cell by cell
 abbrev pub CellsCopied : ℕ → List ℕ → List ℕ → List ℕ → List ℕ → List ℕ → List ℕ → List ℕ → List ℕ → Type 0

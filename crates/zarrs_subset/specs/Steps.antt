@@ -1,16 +1,9 @@
 -- From a position of a box to the next one.
-use Rattle.std.specs.Prelude.{◌≡◌, ℕ, ◌+◌, ◌<◌, List, ◌∷◌, ◌++◌, length, take, drop, slice_index, Option, Some, None}
-use Rattle.smallvec.specs.SmallVec.{SmallVec}
-use Rattle.zarrs_subset.specs.Regions.{Box, positions, place_in, Holds}
+use Rattle.std.specs.Prelude.{◌≡◌, ℕ, ◌+◌, ◌<◌, List, ◌∷◌, ◌++◌, length, take, drop, slice_index}
+use Rattle.zarrs_subset.specs.Regions.{Box}
 
--- the positions of the box from this one on, or all of them
-abbrev pub positions_since : Box → Option (SmallVec ℕ) → List (List ℕ)
-positions_since box None = positions box
-positions_since box (Some next) = drop (place_in box next.items) (positions box)
-
--- these positions of the box are those from this one on
-abbrev pub BeginsAt : Box → List (List ℕ) → SmallVec ℕ → Type 0
-BeginsAt box left next = Holds box next.items × (left ≡ drop (place_in box next.items) (positions box))
+abbrev pub box_from : List ℕ → List ℕ → Box
+box_from start shape = record { start = start; shape = shape }
 
 -- the position with one more in dimension `axis`, and the start in those after it
 abbrev pub next_of : List ℕ → List ℕ → ℕ → List ℕ

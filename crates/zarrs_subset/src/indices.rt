@@ -1,32 +1,68 @@
-//! The positions of a box, one after the other.
+//! The positions of a box, one after another.
 
-ghost use Rattle.std.specs.Prelude.{◌≡◌, ◌+◌, ◌<◌, ◌^◌, [], length, slice_index, true, IfOk, OnErr, MatchOption};
-ghost use Rattle.std.specs.Option.{ForSome};
+ghost use Rattle.std.specs.Prelude.{◌≡◌, ◌+◌, [], length, true, IfOk, MatchOption};
+ghost use Rattle.std.specs.Bool.{OnTrue, OnFalse};
 ghost use Rattle.std.specs.Iterator.{item_count};
-ghost use Rattle.zarrs_subset.specs.Boxes.{position_count};
-ghost use Rattle.zarrs_subset.specs.Regions.{box_of, in_box, positions, place_in, Holds};
-ghost use Rattle.zarrs_subset.specs.Steps.{positions_since, BeginsAt, next_of, IsLastIn, IsFreeIn};
+ghost use Rattle.zarrs_subset.specs.Boxes.{position_count, EndsFit};
+ghost use Rattle.zarrs_subset.specs.Regions.{Holds, IsLong, box_of, in_box, place_in, positions};
+ghost use Rattle.zarrs_subset.specs.Steps.{box_from};
 
 use crate::ArrayIndicesTinyVec;
 use crate::subset::ArraySubset;
 use smallvec::SmallVec;
 use std::alloc::{AllocError, Global};
 
+/// A walk through the positions of a box in row-major order. It lends the position where it stands, and allocates none on its
+/// way.
+#[derive(Drop)]
+pub struct PositionWalk<'a> {
+    subset: &'a ArraySubset,
+    current: ArrayIndicesTinyVec,
+    ghost inside: { in_box (box_of subset.now) current.items ≡ true },
+}
+
+impl<'a> PositionWalk<'a> {
+    ghost use Rattle.std.specs.Prelude.{Some, slice_get};
+    ghost use Rattle.zarrs_subset.specs.Walks.{walk_box, walk_number};
+
+    /// The position where the walk stands.
+    #[inline]
+    pub fn current(&self) -> &[u64]
+        ensures { slice_get (positions (walk_box self.now)) (walk_number self.now) ≡ Some result.now }
+    {
+        self.current.as_slice()
+    }
+
+    /// Goes to the next position. From the last one it goes back to the first, and returns `false`.
+    #[inline]
+    pub fn advance(&mut self) -> bool
+        ensures same_box { walk_box self.new ≡ walk_box self.old }
+        ensures next { OnTrue result (walk_number self.new ≡ walk_number self.old + 1) }
+        ensures last { OnFalse result (walk_number self.old + 1 ≡ length (positions (walk_box self.old))) }
+        ensures first { OnFalse result (walk_number self.new ≡ 0) }
+    {
+        let start = self.subset.start();
+        let shape = self.subset.shape();
+        advance(self.current.as_mut_slice(), start, shape)
+    }
+}
+
 /// The positions of a box in row-major order, as [`ArraySubset::indices`] gives them.
 ///
-/// An item is refused where there was no memory for it, and is then the last one.
+/// An item is refused if there is no memory for it, and is then the last one.
 #[derive(Drop)]
 pub struct Indices<'a> {
     subset: &'a ArraySubset,
     alloc: Global,
-    // The position that comes next; before the first call it is not made yet.
-    next: Option<ArrayIndicesTinyVec>,
+    // The position that came last, if one came.
+    current: ArrayIndicesTinyVec,
+    is_started: bool,
     is_done: bool,
-    ghost inside: { ForSome next (λ position. in_box (box_of subset.now) position.items ≡ true) },
+    ghost inside: { is_started ≡ true → in_box (box_of subset.now) current.items ≡ true },
 }
 
 impl ArraySubset {
-    ghost use Rattle.zarrs_subset.specs.Walks.{positions_left};
+    ghost use Rattle.zarrs_subset.specs.Walks.{positions_left, walk_box, walk_number};
 
     /// The positions of the box in row-major order.
     pub fn indices(&self, alloc: Global) -> Indices<'_>
@@ -35,9 +71,53 @@ impl ArraySubset {
         Indices {
             subset: self,
             alloc,
-            next: None,
+            current: SmallVec::new(alloc),
+            is_started: false,
             is_done: false,
         }
+    }
+
+    /// A walk that stands at the first position of the box, if the box has positions.
+    pub fn walk(&self, alloc: Global) -> Result<Option<PositionWalk<'_>>, AllocError>
+        ensures none { IfOk result (λ o. MatchOption o (positions (box_of self.now) ≡ []) (λ walk. walk_box walk ≡ box_of self.now)) }
+        ensures first { IfOk result (λ o. MatchOption o (positions (box_of self.now) ≡ []) (λ walk. walk_number walk ≡ 0)) }
+    {
+        if self.is_empty() {
+            return Ok(None);
+        }
+        let current = SmallVec::from_slice(alloc, self.start())?;
+        Ok(Some(PositionWalk {
+            subset: self,
+            current,
+        }))
+    }
+}
+
+impl<'a> Indices<'a> {
+    ghost use Rattle.std.specs.Prelude.{◌∷◌, ◌<◌, OnErr, false};
+    ghost use Rattle.zarrs_subset.specs.Walks.{positions_left};
+
+    // Goes to the first position, or to the one after the last that came. Whether there was one.
+    #[inline]
+    fn step(&mut self) -> Result<bool, AllocError>
+        requires { self.old.is_done ≡ false }
+        ensures stays { self.new.is_done ≡ false }
+        ensures some { IfOk result (λ found. OnTrue found
+            (positions_left self.old ≡ self.new.current.items ∷ positions_left self.new)) }
+        ensures none { IfOk result (λ found. OnFalse found (positions_left self.old ≡ [])) }
+        ensures refused { OnErr result (0 < length (positions_left self.old)) }
+    {
+        if self.is_started {
+            let start = self.subset.start();
+            let shape = self.subset.shape();
+            return Ok(advance(self.current.as_mut_slice(), start, shape));
+        }
+        if self.subset.is_empty() {
+            return Ok(false);
+        }
+        self.current = SmallVec::from_slice(self.alloc, self.subset.start())?;
+        self.is_started = true;
+        Ok(true)
     }
 }
 
@@ -50,109 +130,50 @@ impl<'a> Iterator for Indices<'a> {
 
     ghost remaining = { item_count positions_left };
 
+    #[inline]
     fn next(&mut self) -> Option<Result<ArrayIndicesTinyVec, AllocError>> {
         if self.is_done {
             return None;
         }
-        self.is_done = true;
-        let position = match upcoming(self.alloc, self.subset, self.next.take()) {
-            Ok(Some(position)) => position,
-            Ok(None) => return None,
-            Err(error) => return Some(Err(error)),
-        };
-        match position_after(self.alloc, self.subset, position.as_slice()) {
-            Ok(next) => {
-                self.is_done = next.is_none();
-                self.next = next;
-                Some(Ok(position))
+        match self.step() {
+            Ok(true) => {
+                let position = SmallVec::from_slice(self.alloc, self.current.as_slice());
+                self.is_done = position.is_err();
+                Some(position)
             }
-            Err(error) => Some(Err(error)),
+            Ok(false) => {
+                self.is_done = true;
+                None
+            }
+            Err(error) => {
+                self.is_done = true;
+                Some(Err(error))
+            }
         }
     }
 }
 
-// The position that comes next: the one that was kept, or the first of the box, if it has one.
-fn upcoming(
-    alloc: Global,
-    subset: &ArraySubset,
-    kept: Option<ArrayIndicesTinyVec>,
-) -> Result<Option<ArrayIndicesTinyVec>, AllocError>
-    requires { ForSome kept (λ position. Holds (box_of subset.now) position.items) }
-    ensures ok { IfOk result (λ given. MatchOption given (positions_since (box_of subset.now) kept ≡ [])
-        (BeginsAt (box_of subset.now) (positions_since (box_of subset.now) kept))) }
-    ensures refused { OnErr result (0 < length (positions_since (box_of subset.now) kept)) }
+// Goes to the next position of the box of `start` and `shape`. From the last one it goes back to the first, and returns
+// `false`.
+#[inline]
+fn advance(position: &mut [u64], start: &[u64], shape: &[u64]) -> bool
+    requires long { IsLong (box_from start.now shape.now) }
+    requires ends { EndsFit start.now shape.now }
+    requires holds { Holds (box_from start.now shape.now) position.old }
+    ensures holds { Holds (box_from start.now shape.now) position.new }
+    ensures next { OnTrue result (place_in (box_from start.now shape.now) position.new
+        ≡ place_in (box_from start.now shape.now) position.old + 1) }
+    ensures last { OnFalse result (place_in (box_from start.now shape.now) position.old + 1 ≡ position_count shape.now) }
+    ensures first { OnFalse result (position.new ≡ start.now) }
 {
-    match kept {
-        Some(position) => Ok(Some(position)),
-        None => first_position(alloc, subset),
-    }
-}
-
-// The first position of the box, if it has one.
-fn first_position(
-    alloc: Global,
-    subset: &ArraySubset,
-) -> Result<Option<ArrayIndicesTinyVec>, AllocError>
-    ensures ok { IfOk result (λ first. MatchOption first (positions (box_of subset.now) ≡ [])
-        (BeginsAt (box_of subset.now) (positions (box_of subset.now)))) }
-    ensures refused { OnErr result (0 < length (positions (box_of subset.now))) }
-{
-    if subset.is_empty() {
-        return Ok(None);
-    }
-    Ok(Some(SmallVec::from_slice(alloc, subset.start())?))
-}
-
-// The position of the box that comes after this one, if there is one.
-fn position_after(
-    alloc: Global,
-    subset: &ArraySubset,
-    position: &[u64],
-) -> Result<Option<ArrayIndicesTinyVec>, AllocError>
-    requires { Holds (box_of subset.now) position.now }
-    ensures { IfOk result (λ after. MatchOption after
-        (place_in (box_of subset.now) position.now + 1 ≡ position_count (box_of subset.now).shape)
-        (λ next. Holds (box_of subset.now) next.items
-        × (place_in (box_of subset.now) next.items ≡ place_in (box_of subset.now) position.now + 1))) }
-{
-    let Some(axis) = last_free_dimension(subset, position) else {
-        return Ok(None);
-    };
-    Ok(Some(stepped(alloc, position, axis, subset.start())?))
-}
-
-// The position with one more in dimension `axis`, and the start in those after it.
-fn stepped(
-    alloc: Global,
-    position: &[u64],
-    axis: usize,
-    start: &[u64],
-) -> Result<ArrayIndicesTinyVec, AllocError>
-    requires same_length { length position.now ≡ length start.now }
-    requires inside { axis < length position.now }
-    requires fits { slice_index position.now axis + 1 < 2 ^ 64 }
-    ensures { IfOk result (λ next. next.items ≡ next_of start.now position.now axis) }
-{
-    let mut next = SmallVec::with_capacity(alloc, position.len())?;
-    next.extend_from_slice(&position[..axis])?;
-    next.push(position[axis] + 1)?;
-    next.extend_from_slice(&start[axis + 1..])?;
-    Ok(next)
-}
-
-// The last dimension in which the box has an index after that of the position.
-fn last_free_dimension(subset: &ArraySubset, position: &[u64]) -> Option<usize>
-    requires { Holds (box_of subset.now) position.now }
-    ensures { MatchOption result (IsLastIn (box_of subset.now) position.now) (IsFreeIn (box_of subset.now) position.now) }
-{
-    let start = subset.start();
-    let shape = subset.shape();
-    let mut axis = shape.len();
+    let mut axis = start.len();
     while axis > 0 {
         axis -= 1;
         if position[axis] + 1 < start[axis] + shape[axis] {
-            return Some(axis);
+            position[axis] += 1;
+            return true;
         }
+        position[axis] = start[axis];
     }
-    None
+    false
 }

@@ -1,0 +1,5 @@
+//! The tests of `zarrs_subset`, over its public calls alone.
+#![tactic(auto)]
+
+#[cfg(test)]
+mod tests;

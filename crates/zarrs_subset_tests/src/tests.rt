@@ -1,0 +1,527 @@
+ghost use Rattle.std.specs.Prelude.{◌≡◌, ◌*◌, length, IfOk};
+ghost use Rattle.zarrs_subset.specs.Regions.{box_of};
+
+use std::alloc::Global;
+use std::ops::Range;
+use std::process::Abort;
+use std::test::Fail;
+use zarrs_subset::laws::{boxes_hold_along_each_dimension, positions_are_row_major};
+use zarrs_subset::{
+    ArraySubset, ArraySubsetError, ArraySubsetTraits, IncompatibleDimensionalityError,
+    SizeOverflow, copy_box, element_count, place_part, ravel_indices, unravel_index,
+};
+
+fn numbers(alloc: Global, numbers: &[u64]) -> Result<Vec<u64>, Fail> {
+    Ok(Vec::from_slice(alloc, numbers)?)
+}
+
+fn subset(alloc: Global, start: &[u64], shape: &[u64]) -> Result<ArraySubset, Fail>
+    ensures start { IfOk result (λ made. (box_of made).start ≡ start.now) }
+    ensures shape { IfOk result (λ made. (box_of made).shape ≡ shape.now) }
+{
+    let start = Vec::from_slice(alloc, start)?;
+    let shape = Vec::from_slice(alloc, shape)?;
+    Ok(ArraySubset::new_with_start_shape(start, shape)?)
+}
+
+fn must_be(rt: &impl Abort, found: &ArraySubset, start: &[u64], shape: &[u64]) {
+    assert_eq!(rt; found.dimensionality(), start.len());
+    assert_eq!(rt; found.start(), start);
+    assert_eq!(rt; found.shape(), shape);
+}
+
+fn must_print(rt: &impl Abort, alloc: Global, found: &ArraySubset, text: &str) -> Result<(), Fail> {
+    assert_eq!(rt; format!(in alloc; "{found}")?.as_str(), text);
+    Ok(())
+}
+
+fn must_refuse(
+    rt: &impl Abort,
+    made: &Result<ArraySubset, ArraySubsetError>,
+    refusal: &ArraySubsetError,
+) {
+    assert!(rt; matches!(made, Err(error) if *error == *refusal));
+}
+
+fn must_have_in_common<B: ArraySubsetTraits>(
+    rt: &impl Abort,
+    alloc: Global,
+    own: &ArraySubset,
+    other: &B,
+    start: &[u64],
+    shape: &[u64],
+) -> Result<(), Fail> {
+    must_be(rt, &own.overlap(alloc, other)?, start, shape);
+    Ok(())
+}
+
+#[test]
+fn ranges_that_only_touch_overlap_in_nothing(rt: HostRuntime) -> Result<(), Fail> {
+    let alloc = rt.alloc();
+    let low = subset(alloc, &[0], &[4])?;
+    let high = subset(alloc, &[4], &[4])?;
+    must_have_in_common(&rt, alloc, &low, &high, &[4], &[0])?;
+    assert!(rt; low.overlap(alloc, &high)?.is_empty());
+    Ok(())
+}
+
+#[test]
+fn overlap_is_what_both_boxes_have(rt: HostRuntime) -> Result<(), Fail> {
+    let alloc = rt.alloc();
+    let left = subset(alloc, &[1, 2], &[3, 4])?;
+    let right = subset(alloc, &[0, 4], &[2, 9])?;
+    must_have_in_common(&rt, alloc, &left, &right, &[1, 4], &[1, 2])?;
+    let ranges: [Range<u64>; 2] = [0..2, 4..13];
+    must_have_in_common(&rt, alloc, &left, &ranges, &[1, 4], &[1, 2])?;
+    Ok(())
+}
+
+fn must_hold_both(rt: &impl Abort, mismatch: &IncompatibleDimensionalityError) {
+    assert_eq!(rt; mismatch.got(), 1);
+    assert_eq!(rt; mismatch.expected(), 2);
+}
+
+#[test]
+fn overlap_of_other_dimensions_is_refused(rt: HostRuntime) -> Result<(), Fail> {
+    let alloc = rt.alloc();
+    let plane = subset(alloc, &[0, 0], &[1, 1])?;
+    let line = subset(alloc, &[0], &[1])?;
+    let mismatch = IncompatibleDimensionalityError::new(1, 2);
+    must_hold_both(&rt, &mismatch);
+    let refusal = ArraySubsetError::IncompatibleDimensionality(mismatch);
+    must_refuse(&rt, &plane.overlap(alloc, &line), &refusal);
+    must_refuse(&rt, &plane.bound(alloc, &[5]), &refusal);
+    must_refuse(&rt, &plane.relative_to(alloc, &[5]), &refusal);
+    Ok(())
+}
+
+#[test]
+fn row_major_numbers_of_positions(rt: HostRuntime) {
+    let huge = 4294967296;
+    let cases: [(&[u64], &[u64], Option<u64>); 5] = [
+        (&[1, 3], &[2, 4], Some(7)),
+        (&[], &[], Some(0)),
+        (&[2, 0], &[2, 4], None),
+        (&[1], &[2, 4], None),
+        (&[huge, 0], &[huge + 1, huge], None),
+    ];
+    for (indices, shape, number) in &cases {
+        assert_eq!(rt; ravel_indices(*indices, *shape), *number);
+    }
+}
+
+fn must_unravel(
+    rt: &impl Abort,
+    alloc: Global,
+    number: u64,
+    shape: &[u64],
+    position: &[u64],
+) -> Result<(), Fail> {
+    let found = unravel_index(alloc, number, shape)?.ok_or("a position")?;
+    assert_eq!(rt; found.as_slice(), position);
+    Ok(())
+}
+
+fn must_not_unravel(
+    rt: &impl Abort,
+    alloc: Global,
+    number: u64,
+    shape: &[u64],
+) -> Result<(), Fail> {
+    assert!(rt; unravel_index(alloc, number, shape)?.is_none());
+    Ok(())
+}
+
+#[test]
+fn positions_of_row_major_numbers(rt: HostRuntime) -> Result<(), Fail> {
+    let alloc = rt.alloc();
+    must_unravel(&rt, alloc, 7, &[2, 4], &[1, 3])?;
+    must_not_unravel(&rt, alloc, 8, &[2, 4])?;
+    must_unravel(&rt, alloc, 0, &[], &[])?;
+    must_not_unravel(&rt, alloc, 1, &[])?;
+    must_not_unravel(&rt, alloc, 0, &[0])?;
+    Ok(())
+}
+
+#[test]
+fn counts_of_positions(rt: HostRuntime) -> Result<(), Fail> {
+    assert_eq!(rt; element_count(&[]), Some(1));
+    assert_eq!(rt; element_count(&[3, 0, 18446744073709551615]), Some(0));
+    assert_eq!(rt; element_count(&[4294967296, 4294967296]), None);
+    let whole = subset(rt.alloc(), &[0, 0], &[4294967296, 4294967296])?;
+    assert_eq!(rt; whole.num_elements(), Err(SizeOverflow));
+    assert_eq!(rt; subset(rt.alloc(), &[5], &[3])?.num_elements(), Ok(3));
+    Ok(())
+}
+
+fn must_end_at(
+    rt: &impl Abort,
+    alloc: Global,
+    made: &ArraySubset,
+    end: &[u64],
+) -> Result<(), Fail> {
+    assert_eq!(rt; made.end_exc(alloc)?.as_slice(), end);
+    Ok(())
+}
+
+#[test]
+fn boxes_at_the_end_of_the_numbers(rt: HostRuntime) -> Result<(), Fail> {
+    let alloc = rt.alloc();
+    let last = subset(alloc, &[18446744073709551614], &[1])?;
+    must_end_at(&rt, alloc, &last, &[18446744073709551615])?;
+    let start = numbers(alloc, &[18446744073709551615])?;
+    let made = ArraySubset::new_with_start_shape(start, numbers(alloc, &[1])?);
+    must_refuse(&rt, &made, &ArraySubsetError::EndOverflow);
+    let made = ArraySubset::new_with_start_shape(Vec::new(alloc), numbers(alloc, &[1])?);
+    let mismatch = IncompatibleDimensionalityError::new(0, 1);
+    must_refuse(
+        &rt,
+        &made,
+        &ArraySubsetError::IncompatibleDimensionality(mismatch),
+    );
+    Ok(())
+}
+
+#[test]
+fn boxes_from_start_and_end(rt: HostRuntime) -> Result<(), Fail> {
+    let alloc = rt.alloc();
+    let (start, end) = (numbers(alloc, &[1, 2])?, numbers(alloc, &[4, 2])?);
+    must_be(
+        &rt,
+        &ArraySubset::new_with_start_end_exc(start, end)?,
+        &[1, 2],
+        &[3, 0],
+    );
+    let (start, end) = (numbers(alloc, &[3])?, numbers(alloc, &[2])?);
+    let made = ArraySubset::new_with_start_end_exc(start, end);
+    must_refuse(&rt, &made, &ArraySubsetError::EndBelowStart);
+    Ok(())
+}
+
+#[test]
+fn boxes_of_ranges(rt: HostRuntime) -> Result<(), Fail> {
+    let alloc = rt.alloc();
+    let made = ArraySubset::new_with_ranges(alloc, &[0..2, 1..3, 7..4])?;
+    must_be(&rt, &made, &[0, 1, 7], &[2, 2, 0]);
+    must_print(&rt, alloc, &made, "[0..2, 1..3, 7..7]")?;
+    Ok(())
+}
+
+fn must_come_apart(rt: &impl Abort, made: &ArraySubset) -> Result<(), Fail> {
+    assert_eq!(rt; made.clone()?.into_start().as_slice(), made.start());
+    assert_eq!(rt; made.clone()?.into_shape().as_slice(), made.shape());
+    Ok(())
+}
+
+#[test]
+fn boxes_at_the_origin(rt: HostRuntime) -> Result<(), Fail> {
+    let alloc = rt.alloc();
+    let made = ArraySubset::new_with_shape(alloc, numbers(alloc, &[2, 3])?)?;
+    must_be(&rt, &made, &[0, 0], &[2, 3]);
+    must_come_apart(&rt, &made)?;
+    let empty = ArraySubset::new_empty(alloc, 2)?;
+    must_be(&rt, &empty, &[0, 0], &[0, 0]);
+    assert!(rt; made.clone()? == made);
+    assert!(rt; empty != made);
+    Ok(())
+}
+
+fn must_make_the_same(rt: &impl Abort, alloc: Global, made: &ArraySubset) -> Result<(), Fail> {
+    let start = vec![in alloc; 0u64; 2]?;
+    let shape = vec![in alloc; 3u64; 2]?;
+    assert!(rt; ArraySubset::new(start, shape) == *made);
+    Ok(())
+}
+
+#[test]
+fn boxes_of_lists_that_are_known_to_fit(rt: HostRuntime) -> Result<(), Fail> {
+    must_make_the_same(&rt, rt.alloc(), &subset(rt.alloc(), &[0, 0], &[3, 3])?)
+}
+
+#[test]
+fn boxes_seen_from_an_offset(rt: HostRuntime) -> Result<(), Fail> {
+    let alloc = rt.alloc();
+    let made = subset(alloc, &[3, 5], &[2, 2])?;
+    must_print(
+        &rt,
+        alloc,
+        &made.relative_to(alloc, &[1, 5])?,
+        "[2..4, 0..2]",
+    )?;
+    let below = made.relative_to(alloc, &[4, 0]);
+    must_refuse(&rt, &below, &ArraySubsetError::StartBelowOffset);
+    Ok(())
+}
+
+#[test]
+fn boxes_cut_to_an_end(rt: HostRuntime) -> Result<(), Fail> {
+    let alloc = rt.alloc();
+    let made = subset(alloc, &[3, 5], &[4, 2])?;
+    must_print(&rt, alloc, &made.bound(alloc, &[5, 4])?, "[3..5, 4..4]")?;
+    Ok(())
+}
+
+fn must_have_third_and_no_fifth(
+    rt: &impl Abort,
+    alloc: Global,
+    made: &ArraySubset,
+) -> Result<(), Fail> {
+    let third = made.position(alloc, 3)?.ok_or("a position")?;
+    assert_eq!(rt; third.as_slice(), [4, 6].as_slice());
+    assert!(rt; made.position(alloc, 4)?.is_none());
+    Ok(())
+}
+
+#[test]
+fn positions_of_a_box_by_number(rt: HostRuntime) -> Result<(), Fail> {
+    let alloc = rt.alloc();
+    let made = subset(alloc, &[3, 5], &[2, 2])?;
+    must_have_third_and_no_fifth(&rt, alloc, &made)?;
+    let second = made.nth_position(alloc, 1)?;
+    assert_eq!(rt; second.as_slice(), [3, 6].as_slice());
+    Ok(())
+}
+
+fn must_say<E: std::fmt::Display>(
+    rt: &impl Abort,
+    alloc: Global,
+    error: &E,
+    text: &str,
+) -> Result<(), Fail> {
+    assert_eq!(rt; format!(in alloc; "{error}")?.as_str(), text);
+    Ok(())
+}
+
+#[test]
+fn texts_of_refusals(rt: HostRuntime) -> Result<(), Fail> {
+    let alloc = rt.alloc();
+    let mismatch = IncompatibleDimensionalityError::new(1, 2);
+    let text = "incompatible dimensionality 1, expected 2";
+    must_say(&rt, alloc, &mismatch, text)?;
+    must_say(&rt, alloc, &ArraySubsetError::from(mismatch), text)?;
+    must_say(&rt, alloc, &SizeOverflow, "size exceeds the number types")?;
+    Ok(())
+}
+
+#[test]
+fn a_box_goes_into_a_larger_array(rt: HostRuntime) {
+    let mut target = [9u8; 9];
+    copy_box(
+        &[5, 6],
+        &[1, 2],
+        &[0, 0],
+        &mut target,
+        &[3, 3],
+        &[1, 1],
+        &[1, 2],
+        1,
+    );
+    assert_eq!(rt; target.as_slice(), [9, 9, 9, 9, 5, 6, 9, 9, 9].as_slice());
+}
+
+#[test]
+fn a_part_goes_to_its_place(rt: HostRuntime) -> Result<(), Fail> {
+    let whole = subset(rt.alloc(), &[1, 1], &[3, 3])?;
+    let part = subset(rt.alloc(), &[0, 2], &[3, 3])?;
+    let mut target = [9u8; 9];
+    place_part(&whole, &mut target, &part, &[1, 2, 3, 4, 5, 6, 7, 8, 10], 1);
+    assert_eq!(rt; target.as_slice(), [9, 4, 5, 9, 7, 8, 9, 9, 9].as_slice());
+    Ok(())
+}
+
+const TWELVE: [u8; 12] = [1, 2, 3, 4, 5, 6, 7, 8, 9, 10, 11, 12];
+
+// The last two dimensions are whole in both arrays.
+#[test]
+fn whole_planes_go_together(rt: HostRuntime) {
+    let mut target = [0u8; 12];
+    copy_box(
+        &TWELVE,
+        &[3, 2, 2],
+        &[1, 0, 0],
+        &mut target,
+        &[3, 2, 2],
+        &[0, 0, 0],
+        &[2, 2, 2],
+        1,
+    );
+    assert_eq!(rt;
+        target.as_slice(),
+        [5, 6, 7, 8, 9, 10, 11, 12, 0, 0, 0, 0].as_slice()
+    );
+}
+
+// The last dimension alone is whole in both arrays.
+#[test]
+fn whole_rows_go_together(rt: HostRuntime) {
+    let mut target = [0u8; 12];
+    copy_box(
+        &TWELVE,
+        &[2, 3, 1],
+        &[0, 1, 0],
+        &mut target,
+        &[3, 2, 1],
+        &[1, 0, 0],
+        &[2, 2, 1],
+        2,
+    );
+    assert_eq!(rt;
+        target.as_slice(),
+        [0, 0, 0, 0, 3, 4, 5, 6, 9, 10, 11, 12].as_slice()
+    );
+}
+
+// The second dimension has no index, or a cell no bytes.
+#[test]
+fn copies_of_nothing_end_at_once(rt: HostRuntime) -> Result<(), Fail> {
+    let huge = 1u64 << 40;
+    let mut none: [u8; 0] = [];
+    let empty = [huge, 0];
+    copy_box(&[], &empty, &[0, 0], &mut none, &empty, &[0, 0], &empty, 1);
+    let full = [huge, 4];
+    copy_box(&[], &full, &[0, 0], &mut none, &full, &[0, 0], &full, 0);
+    let empty_box = subset(rt.alloc(), &[0, 0], &empty)?;
+    place_part(&empty_box, &mut none, &empty_box, &[], 1);
+    let full_box = subset(rt.alloc(), &[0, 0], &full)?;
+    place_part(&full_box, &mut none, &full_box, &[], 0);
+    Ok(())
+}
+
+fn must_count<B: ArraySubsetTraits>(rt: &impl Abort, region: &B, count: Result<u64, SizeOverflow>) {
+    assert_eq!(rt; region.num_elements(), count);
+}
+
+fn million_ranges(alloc: Global) -> Result<Vec<Range<u64>>, Fail> {
+    let mut ranges: Vec<Range<u64>> = Vec::new(alloc);
+    for _ in 0..1_000_000 {
+        ranges.push(3..4)?;
+    }
+    Ok(ranges)
+}
+
+#[test]
+fn counts_of_a_million_dimensions(rt: HostRuntime) -> Result<(), Fail> {
+    let alloc = rt.alloc();
+    let mut ranges = million_ranges(alloc)?;
+    must_count(&rt, &ranges, Ok(1));
+    ranges.push(0..u64::MAX)?;
+    ranges.push(0..2)?;
+    must_count(&rt, &ranges, Err(SizeOverflow));
+    ranges.push(1..0)?;
+    must_count(&rt, &ranges, Ok(0));
+    let shape = vec![in alloc; 1u64; 1_000_000]?;
+    assert_eq!(rt; element_count(&shape), Some(1));
+    Ok(())
+}
+
+#[test]
+fn laws_of_boxes_can_be_called() {
+    positions_are_row_major();
+    boxes_hold_along_each_dimension();
+}
+
+fn must_walk(
+    rt: &impl Abort,
+    alloc: Global,
+    region: &ArraySubset,
+    expected: &[&[u64]],
+) -> Result<(), Fail> {
+    let mut walk = region.indices(alloc);
+    for position in expected {
+        let found = walk.next().ok_or("a position")??;
+        assert_eq!(rt; found.as_slice(), *position);
+    }
+    assert!(rt; walk.next().is_none());
+    assert!(rt; walk.next().is_none());
+    Ok(())
+}
+
+// After the last position the walk stands at the first again.
+fn must_lend(
+    rt: &impl Abort,
+    alloc: Global,
+    region: &ArraySubset,
+    expected: &[&[u64]],
+) -> Result<(), Fail> {
+    let mut walk = region.walk(alloc)?.ok_or("a position")?;
+    for (number, position) in expected.iter().enumerate() {
+        assert_eq!(rt; walk.current(), *position);
+        assert_eq!(rt; walk.advance(), number + 1 < expected.len());
+    }
+    assert_eq!(rt; Some(walk.current()), expected.first().copied());
+    Ok(())
+}
+
+#[test]
+fn positions_come_in_row_major_order(rt: HostRuntime) -> Result<(), Fail> {
+    let alloc = rt.alloc();
+    let plane = subset(alloc, &[1, 5], &[2, 2])?;
+    must_walk(&rt, alloc, &plane, &[&[1, 5], &[1, 6], &[2, 5], &[2, 6]])?;
+    let empty = subset(alloc, &[1, 5], &[2, 0])?;
+    must_walk(&rt, alloc, &empty, &[])?;
+    let point = subset(alloc, &[], &[])?;
+    must_walk(&rt, alloc, &point, &[&[]])?;
+    Ok(())
+}
+
+#[test]
+fn positions_of_more_dimensions_than_lie_inline(rt: HostRuntime) -> Result<(), Fail> {
+    let alloc = rt.alloc();
+    let region = subset(alloc, &[1, 2, 3, 4, 5], &[1, 1, 1, 2, 1])?;
+    must_walk(&rt, alloc, &region, &[&[1, 2, 3, 4, 5], &[1, 2, 3, 5, 5]])
+}
+
+#[test]
+fn positions_of_boxes_past_the_numbers(rt: HostRuntime) -> Result<(), Fail> {
+    let huge = subset(rt.alloc(), &[0, 7], &[4294967296, 4294967297])?;
+    let mut walk = huge.indices(rt.alloc());
+    for position in [[0, 7], [0, 8]] {
+        let found = walk.next().ok_or("a position")??;
+        assert_eq!(rt; found.as_slice(), position.as_slice());
+    }
+    Ok(())
+}
+
+// The dimensionality, the start, the shape and the end, whether there is no position, and the box.
+fn described<B: ArraySubsetTraits>(alloc: Global, region: &B) -> Result<String, Fail> {
+    let start = region.start(alloc)?;
+    let shape = region.shape(alloc)?;
+    let end = region.end_exc(alloc)?;
+    let count = region.dimensionality();
+    let is_empty = region.num_elements() == Ok(0);
+    let own = region.to_array_subset(alloc)?;
+    Ok(format!(in alloc; "{count} {start:?} {shape:?} {end:?} {is_empty} {own}")?)
+}
+
+fn must_be_described<B: ArraySubsetTraits>(
+    rt: &impl Abort,
+    alloc: Global,
+    region: &B,
+) -> Result<(), Fail> {
+    let expected = "2 [1, 7] [3, 0] [4, 7] true [1..4, 7..7]";
+    assert_eq!(rt; described(alloc, region)?.as_str(), expected);
+    Ok(())
+}
+
+#[test]
+fn subsets_and_ranges_stand_for_boxes(rt: HostRuntime) -> Result<(), Fail> {
+    let alloc = rt.alloc();
+    must_be_described(&rt, alloc, &subset(alloc, &[1, 7], &[3, 0])?)?;
+    let array: [Range<u64>; 2] = [1..4, 7..2];
+    must_be_described(&rt, alloc, &array)?;
+    let lent: &[Range<u64>] = &array;
+    must_be_described(&rt, alloc, &lent)?;
+    let ranges: Vec<Range<u64>> = vec![in alloc; 1..4, 7..2]?;
+    must_be_described(&rt, alloc, &ranges)
+}
+
+#[test]
+fn a_walk_lends_its_positions(rt: HostRuntime) -> Result<(), Fail> {
+    let alloc = rt.alloc();
+    let plane = subset(alloc, &[1, 5], &[2, 2])?;
+    must_lend(&rt, alloc, &plane, &[&[1, 5], &[1, 6], &[2, 5], &[2, 6]])?;
+    let long = subset(alloc, &[1, 2, 3, 4, 5], &[1, 1, 1, 2, 1])?;
+    must_lend(&rt, alloc, &long, &[&[1, 2, 3, 4, 5], &[1, 2, 3, 5, 5]])?;
+    assert!(rt; subset(alloc, &[1, 5], &[2, 0])?.walk(alloc)?.is_none());
+    Ok(())
+}
