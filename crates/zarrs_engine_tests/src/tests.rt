@@ -5,7 +5,7 @@ use std::num::NonZeroU64;
 use std::process::Abort;
 use std::test::Fail;
 use zarrs_chunk_grid::RegularChunkGrid;
-use zarrs_codec::{ArrayToBytesCodec, BytesCodec, CodecChain, CodecError, CodecOptions};
+use zarrs_codec::{ArrayToBytesCodec, BytesCodec, BytesToBytesCodecs, CodecChain, CodecError, CodecOptions};
 use zarrs_data_type::{ArrayBytes, DataType, ElementError, FillValue};
 use zarrs_engine::{ArrayError, Call, Engine, Reply, layouts_are_lawful, replay};
 use zarrs_keys::{ChunkKeyEncoding, ChunkKeySeparator, NodePath};
@@ -29,7 +29,11 @@ fn bytes_engine(
     let grid = RegularChunkGrid::new(alloc, shape.to_vec(alloc)?, chunk_shape)?;
     let path = NodePath::new(alloc, "/")?;
     let keys = ChunkKeyEncoding::Default(ChunkKeySeparator::Slash);
-    let chain = CodecChain::new(ArrayToBytesCodec::Bytes(BytesCodec::little()));
+    let chain = CodecChain::new(
+        Vec::new(alloc),
+        ArrayToBytesCodec::Bytes(BytesCodec::little()),
+        BytesToBytesCodecs,
+    );
     let fill_value = FillValue::new(vec![in alloc; fill]?);
     Ok(Engine::new(
         storage,

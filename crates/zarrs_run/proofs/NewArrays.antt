@@ -19,7 +19,9 @@ use Rattle.zarrs_chunk_grid.specs.declared.error.GridError.{GridError}
 use Rattle.zarrs_chunk_grid.specs.declared.error.GridError.TheVariants as grid_error
 use Rattle.zarrs_data_type.specs.Cell.{fill_of}
 use Rattle.zarrs_codec_leaf.specs.Bytes.{bytes_meaning}
+use Rattle.zarrs_codec_array.specs.Arrays.{same_array}
 use Rattle.zarrs_codec.specs.Chains.{whole_chunk}
+use Rattle.zarrs_codec.specs.Through.{through}
 use Rattle.zarrs_engine.specs.Layout.{Layout}
 use Rattle.zarrs_run.specs.declared.command.CellType.{CellType}
 use Rattle.zarrs_run.specs.declared.command.Creation.{Creation}
@@ -69,7 +71,7 @@ layout_is a b grid key chain kind fill = λ i. record { grid = grid i; key = key
 
 pub made_array : (chunk_shape fill : List ℕ) (cell_type : CellType) (sizes : List NonZeroU64) (layout : Layout) (store : MemoryState)
     → sizes_of sizes ≡ chunk_shape → layout.grid ≡ regular_grid sizes → layout.key ≡ (λ indices. path_key (codes "/") (default_key Slash indices))
-    → layout.chain ≡ whole_chunk bytes_meaning → layout.kind ≡ kind_of cell_type → layout.fill ≡ fill_of (kind_of cell_type) fill
+    → layout.chain ≡ through same_array (whole_chunk bytes_meaning) → layout.kind ≡ kind_of cell_type → layout.fill ≡ fill_of (kind_of cell_type) fill
     → store ≡ record { values = finite.empty; calls = 0; failures = 0 }
     → ◌≡◌ {A = Opened} (record { cell_type = cell_type; layout = layout; store = open_state store }) (new_array chunk_shape cell_type fill)
 made_array chunk_shape fill cell_type sizes layout store is grid key chain kind filled empty =

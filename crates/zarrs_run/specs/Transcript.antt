@@ -13,7 +13,9 @@ use Rattle.zarrs_chunk_grid.specs.Grids.{Grid}
 use Rattle.zarrs_data_type.specs.ArrayData.{ArrayData, fixed, data_of}
 use Rattle.zarrs_data_type.specs.Cell.{fill_of}
 use Rattle.zarrs_codec_leaf.specs.Bytes.{bytes_meaning}
+use Rattle.zarrs_codec_array.specs.Arrays.{same_array}
 use Rattle.zarrs_codec.specs.Chains.{whole_chunk}
+use Rattle.zarrs_codec.specs.Through.{through}
 use Rattle.zarrs_engine.specs.declared.call.Call.{Call}
 use Rattle.zarrs_engine.specs.declared.call.Call.TheVariants.{StoreChunk, EraseChunk, RetrieveChunk}
 use Rattle.zarrs_engine.specs.declared.call.Reply.{Reply}
@@ -109,7 +111,7 @@ abbrev pub layout_for : List ℕ → CellType → List ℕ → Layout
 layout_for chunk_shape cell_type fill = record {
   grid = grid_of chunk_shape;
   key = λ indices. path_key (codes "/") (default_key Slash indices);
-  chain = whole_chunk bytes_meaning;
+  chain = through same_array (whole_chunk bytes_meaning);
   kind = kind_of cell_type;
   fill = fill_of (kind_of cell_type) fill;
 }

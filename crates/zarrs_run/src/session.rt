@@ -13,7 +13,7 @@ use std::borrow::CowSlice;
 use std::num::NonZeroU64;
 use thiserror::Error;
 use zarrs_chunk_grid::{ChunkShape, GridError, RegularChunkGrid};
-use zarrs_codec::{ArrayToBytesCodec, BytesCodec, CodecChain};
+use zarrs_codec::{ArrayToBytesCodec, BytesCodec, BytesToBytesCodecs, CodecChain};
 use zarrs_data_type::{ArrayBytes, DataType, FillValue};
 use zarrs_engine::{Call, Engine};
 use zarrs_keys::{ChunkKeyEncoding, ChunkKeySeparator, NodePath};
@@ -112,7 +112,11 @@ impl OpenArray {
             root,
             grid,
             ChunkKeyEncoding::Default(ChunkKeySeparator::Slash),
-            CodecChain::new(ArrayToBytesCodec::Bytes(BytesCodec::little())),
+            CodecChain::new(
+                Vec::new(alloc),
+                ArrayToBytesCodec::Bytes(BytesCodec::little()),
+                BytesToBytesCodecs,
+            ),
             data_type_of(cell_type),
             FillValue::new(fill),
         );

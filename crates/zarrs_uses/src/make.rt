@@ -3,7 +3,7 @@ use anyhow::Result;
 use std::alloc::Global;
 use std::num::NonZeroU64;
 use zarrs_chunk_grid::RegularChunkGrid;
-use zarrs_codec::{ArrayToBytesCodec, BytesCodec, CodecChain};
+use zarrs_codec::{ArrayToBytesCodec, BytesCodec, BytesToBytesCodecs, CodecChain};
 use zarrs_data_type::{DataType, FillValue};
 use zarrs_engine::Engine;
 use zarrs_keys::{ChunkKeyEncoding, ChunkKeySeparator, NodePath};
@@ -21,7 +21,11 @@ pub fn bytes_array(
     let grid = RegularChunkGrid::new(alloc, shape, chunk_shape)?;
     let path = NodePath::new(alloc, "/climate/rain")?;
     let keys = ChunkKeyEncoding::Default(ChunkKeySeparator::Slash);
-    let chain = CodecChain::new(ArrayToBytesCodec::Bytes(BytesCodec::little()));
+    let chain = CodecChain::new(
+        Vec::new(alloc),
+        ArrayToBytesCodec::Bytes(BytesCodec::little()),
+        BytesToBytesCodecs,
+    );
     let fill_value = FillValue::new(vec![in alloc; 0]?);
     Ok(Engine::new(
         MemoryStore::new(alloc),

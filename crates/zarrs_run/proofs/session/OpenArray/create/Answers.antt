@@ -5,8 +5,11 @@ use Rattle.zarrs_keys.specs.Paths.{path_key}
 use Rattle.zarrs_chunk_grid.specs.Shapes.{sizes_of}
 use Rattle.zarrs_data_type.specs.Kind.{Kind}
 use Rattle.zarrs_data_type.specs.Cell.{fill_of}
-use Rattle.zarrs_codec.specs.declared.chain.ArrayToBytesCodec.{ArrayToBytesCodec}
-use Rattle.zarrs_codec.specs.Chains.{leaf_meaning, whole_chunk}
+use Rattle.zarrs_codec_array.specs.ArrayCodecs.{arrays_meaning}
+use Rattle.zarrs_codec_array.specs.declared.array.ArrayToArrayCodec.{ArrayToArrayCodec}
+use Rattle.zarrs_codec_leaf.specs.Bytes.{bytes_meaning}
+use Rattle.zarrs_codec.specs.Chains.{whole_chunk}
+use Rattle.zarrs_codec.specs.Through.{through}
 use Rattle.zarrs_engine.specs.Engine.{layout_of, the_store}
 use Rattle.zarrs_run.specs.Types.{kind_of}
 use Rattle.zarrs_run.proofs.NewArrays.{makes_grid, made_array}
@@ -23,8 +26,8 @@ returns c =
       made_array asked.chunk_shape.items asked.fill.items asked.cell_type sizes (layout_of engine) (the_store engine) is
           (made.grid ∙ c.in-Ok.ensures.grid)
           (made.key ∙ ap (λ (path : List ℕ). λ (indices : List ℕ). path_key path (default_key Slash indices)) c.in-Ok-new.ensures.ok)
-          (made.chain ∙ ap (λ (codec : ArrayToBytesCodec). whole_chunk (leaf_meaning codec)) c.new-4.ensures)
+          (made.chain ∙ c.new-5.ensures.meaning ∙ ap (λ (codecs : List ArrayToArrayCodec). through (arrays_meaning codecs) (whole_chunk bytes_meaning)) c.new-4.ensures.items)
           (made.kind ∙ c.data_type_of.ensures)
-          (made.fill ∙ ap (λ (k : Kind). fill_of k c.new-5.result) c.data_type_of.ensures ∙ ap (fill_of (kind_of asked.cell_type)) c.new-5.ensures)
+          (made.fill ∙ ap (λ (k : Kind). fill_of k c.new-6.result) c.data_type_of.ensures ∙ ap (fill_of (kind_of asked.cell_type)) c.new-6.ensures)
           (made.storage ∙ c.new-3.ensures),
     )
