@@ -11,7 +11,7 @@ ghost use Rattle.zarrs_steps.specs.Lawful.{IsLawful-prop};
 use std::alloc::Global;
 use zarrs_chunk_grid::{ChunkGridTraits, GridError};
 use zarrs_codec::{ChainTraits, CodecError, CodecOptions};
-use zarrs_data_type::{ArrayBytes, DataType, DataTypeFillValueError, FillValue};
+use zarrs_data_type::{ArrayBytes, DataType, FillValue};
 use zarrs_keys::{ChunkKeyEncodingTraits, NodePath, chunk_key};
 use zarrs_steps::ArrayError;
 use zarrs_storage::{StorageError, StoreKey};
@@ -184,13 +184,17 @@ impl<G: ChunkGridTraits, K: ChunkKeyEncodingTraits, C: ChainTraits> Parts<G, K, 
             (refusal_of e)) }
     {
         let chunk = self.chunk(alloc, chunk_indices)?;
-        match ArrayBytes::new_fill_value(alloc, &self.data_type, chunk.count, &self.fill_value) {
-            Ok(data) => Ok(data),
-            Err(DataTypeFillValueError::UnsupportedType) => {
-                Err(ArrayError::CodecError(CodecError::DoesNotFit))
-            }
-            Err(DataTypeFillValueError::OutOfMemory) => Err(ArrayError::OutOfMemory),
+        let cell_size = self.data_type.held_size(self.fill_value.as_bytes());
+        if chunk.count.checked_mul(cell_size as u64).is_none() {
+            return Err(ArrayError::SizeOverflow);
         }
+        let data = ArrayBytes::new_fill_value(
+            alloc,
+            &self.data_type,
+            chunk.count,
+            &self.fill_value,
+        )?;
+        Ok(data)
     }
 }
 

@@ -9,8 +9,8 @@ use Rattle.zarrs_storage.specs.declared.error.StorageError.{StorageError}
 use Rattle.zarrs_storage.specs.declared.error.StorageError.TheVariants as stored
 use Rattle.zarrs_codec_leaf.specs.declared.error.CodecError.{CodecError}
 use Rattle.zarrs_codec_leaf.specs.declared.error.CodecError.TheVariants as coded
-use Rattle.zarrs_data_type.specs.Kind.{cell_size, element_size}
-use Rattle.zarrs_data_type.specs.Cell.{Cell, cell_eq}
+use Rattle.zarrs_data_type.specs.Kind.{cell_size}
+use Rattle.zarrs_data_type.specs.Cell.{Cell, cell_eq, held_size}
 use Rattle.zarrs_data_type.specs.Cells.{cells}
 use Rattle.zarrs_steps.specs.declared.error.ArrayError.{ArrayError}
 use Rattle.zarrs_steps.specs.declared.error.ArrayError.TheVariants as error
@@ -141,14 +141,18 @@ data_refusal layout keep shape (Some cells) =
     else if is_left_out layout keep cells then None
     else encode_refusal layout keep shape cells
 
--- data of a variable or optional type is not made yet
-abbrev pub fill_refusal : Layout → Option Refusal
-fill_refusal layout = if is_some (element_size layout.kind) then None else Some codec
+-- the refusal, if this is so
+abbrev pub refuse_if : Bool → Refusal → Option Refusal
+refuse_if said refusal = if said then Some refusal else None
+
+-- the cells of an absent chunk of this shape take more bytes than a usize counts
+abbrev pub fill_refusal : Layout → List ℕ → Option Refusal
+fill_refusal layout shape = refuse_if (nat_le (2 ^ 64) (position_count shape * held_size layout.kind layout.fill)) size_overflow
 
 -- The refusal that the bytes at the key of a chunk decide where the chunk is read: the index list, the size, the
 -- bytes, in this order. An absent chunk is asked for its box where its cells are needed.
 abbrev pub read_refusal : Layout → Bool → List ℕ → Option (List ℕ) → Option Refusal
-read_refusal layout needed index None = if needed then or_else (box_refusal layout index) (fill_refusal layout) else None
+read_refusal layout needed index None = if needed then or_else (box_refusal layout index) (fill_refusal layout (box_at layout.grid index).shape) else None
 read_refusal layout needed index (Some encoded) =
     or_else (box_refusal layout index) (if is_some (decoded_cells layout (box_at layout.grid index) encoded) then None else Some codec)
 
@@ -160,7 +164,3 @@ key_refusal layout index state = if state.refuses (layout.key index) then Some s
 abbrev pub RefusesBy : Option Refusal → Refusal → Type 0
 RefusesBy first out_of_memory = Unit {0}
 RefusesBy first refusal = first ≡ Some refusal
-
--- the refusal, if this is so
-abbrev pub refuse_if : Bool → Refusal → Option Refusal
-refuse_if said refusal = if said then Some refusal else None
