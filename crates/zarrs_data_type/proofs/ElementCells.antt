@@ -1,9 +1,7 @@
 -- Numbers and the cells that they stand for.
-use Rattle.std.proofs.Common.{◌≡◌, ℕ, ◌*◌, ◌/◌, ◌%◌, ◌<◌, Bool, true, false, cond, eqb, ◌&&◌, List, length, map, get_or, Option, None, Some, refl, sym, ap, ◌∙◌, subst, arith}
-use Rattle.std.specs.Prelude.{is_some}
-use Rattle.std.specs.List.{flat_map, range_with_len}
+use Rattle.std.proofs.Common.{◌≡◌, ℕ, ◌*◌, true, false, List, length, map, get_or, Option, None, Some, refl, sym, ap, ◌∙◌}
+use Rattle.std.specs.List.{flat_map}
 use Rattle.std.proofs.lemmas.Simd.{map-map}
-use Rattle.std.proofs.lemmas.Bool.{and_parts, eqb-true}
 use Rattle.zarrs_types.specs.declared.data_type.DataType.{DataType}
 use Rattle.zarrs_types.specs.Kind.{Kind, kind, element_size, is_variable, inner_of}
 use Rattle.zarrs_types.specs.Kind as type
@@ -50,6 +48,7 @@ no_cells k size d is differs = go (cells k d) refl
         differs b n same (at.2 ∙ ap (λ s. n * s) one)
     wrong (variable strings) n same fit = let bad = sym (variable_size k size is) ∙ (fits-variable k strings n fit).0 in cc
     wrong (optional mask inner) n same fit = let bad = sym (no_inner k size is) ∙ (fits-optional k mask inner n fit).1 in cc
+
     go : (o : Option (List Cell)) → cells k d ≡ o → o ≡ None
     go None e = refl
     go (Some cs) e = absurd (wrong d (length cs) refl (cells-parts k d cs e).0)

@@ -8,7 +8,8 @@ pub use element::{Element, ElementOwned};
 pub use error::{ArrayBytesFixedDisjointViewCreateError, ElementError};
 pub use zarrs_cells::{
     ArrayBytes, ArrayBytesOffsets, ArrayBytesOptional, ArrayBytesVariableLength,
-    ExpectedFixedLengthBytesError, ExpectedOptionalBytesError, ExpectedVariableLengthBytesError, VariableLengthBuilder,
+    ExpectedFixedLengthBytesError, ExpectedOptionalBytesError, ExpectedVariableLengthBytesError,
+    VariableLengthBuilder,
 };
 pub use zarrs_numbers::{
     WholeNumber, convert_from_bytes_slice, convert_to_bytes_vec, transmute_from_bytes_vec,
