@@ -19,7 +19,7 @@ use Rattle.zarrs_cells.proofs.Filled.{fits-fixed, fits-variable, fits-optional, 
 use Rattle.zarrs_cells.proofs.Fixed.{held-values}
 use Rattle.zarrs_cells.proofs.Pieces.{length-pieces}
 
-any_held : (k : Kind) (b : List ℕ) → takes_any_bytes k ≡ true → may_hold k b ≡ true
+pub any_held : (k : Kind) (b : List ℕ) → takes_any_bytes k ≡ true → may_hold k b ≡ true
 any_held type.bool b any = cc
 any_held k b any = refl
 

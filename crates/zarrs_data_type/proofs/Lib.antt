@@ -6,3 +6,4 @@ pub use Rattle.zarrs_cells.proofs.Pieces
 pub use Rattle.zarrs_cells.proofs.Validity
 pub use Rattle.zarrs_types.proofs.Same
 pub use Rattle.zarrs_types.proofs.Sizes
+pub mod ElementCells

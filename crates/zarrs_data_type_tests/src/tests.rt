@@ -1,9 +1,10 @@
 //! Types and cells in memory, with ample memory.
-ghost use Rattle.std.specs.Prelude.{◌≡◌, ◌<◌, ◌%◌, ◌*◌, ◌^◌, IsSome, length};
-ghost use Rattle.zarrs_data_type.specs.ArrayData.{data_of, optional_data};
+ghost use Rattle.std.specs.Prelude.{◌≡◌, ◌<◌, ◌%◌, ◌*◌, ◌^◌, All, IsSome, count_by, length};
+ghost use Rattle.zarrs_data_type.specs.ArrayData.{data_of};
 ghost use Rattle.zarrs_data_type.specs.Cell.{fill_cell, fill_of, held_size};
-ghost use Rattle.zarrs_data_type.specs.Cells.{cells};
-ghost use Rattle.zarrs_data_type.specs.Kind.{kind};
+ghost use Rattle.zarrs_data_type.specs.Cells.{HasCells};
+ghost use Rattle.zarrs_data_type.specs.Kind.{kind, cell_size};
+ghost use Rattle.zarrs_data_type.specs.Present.{flag_set};
 
 use std::alloc::{AllocError, Global};
 use std::borrow::CowSlice;
@@ -12,9 +13,10 @@ use std::process::Abort;
 use std::test::Fail;
 use zarrs_data_type::{
     ArrayBytes, ArrayBytesFixedDisjointViewCreateError, ArrayBytesOffsets, ArrayBytesOptional,
-    ArrayBytesVariableLength, DataType, ElementError, ExpectedFixedLengthBytesError,
+    ArrayBytesVariableLength, DataType, Element, ElementError, ElementOwned, ExpectedFixedLengthBytesError,
     ExpectedOptionalBytesError, ExpectedVariableLengthBytesError, FillValue, VariableLengthBuilder,
-    inner_fill,
+    convert_from_bytes_slice, convert_to_bytes_vec, data_type, inner_fill, transmute_from_bytes_vec,
+    transmute_to_bytes, transmute_to_bytes_vec,
 };
 
 fn must_be(rt: &impl Abort, fact: bool, what: &str) {
@@ -305,5 +307,134 @@ fn errors_say_what_is_wrong(rt: HostRuntime) -> Result<(), Fail> {
     must_say(&rt, &text, "expected optional array bytes");
     let text = format!(in alloc; "{ArrayBytesFixedDisjointViewCreateError}")?;
     must_say(&rt, &text, "the view does not lie in its array bytes");
+    Ok(())
+}
+
+fn must_have_bytes(rt: &impl Abort, data: &ArrayBytes<'_>, expected: &[u8]) {
+    match data {
+        ArrayBytes::Fixed(bytes) => assert!(rt; bytes.as_slice() == expected),
+        _ => assert!(rt; false, "cells of one size"),
+    }
+}
+
+fn must_be_refused<T: Element>(
+    rt: &impl Abort,
+    alloc: Global,
+    data_type: &DataType,
+    elements: &[T],
+) -> Result<(), Fail> {
+    let made = T::to_array_bytes(alloc, data_type, elements);
+    assert!(rt; made.is_err_and(|e| e == ElementError::IncompatibleElementType));
+    Ok(())
+}
+
+fn must_not_be_read<T: ElementOwned>(
+    rt: &impl Abort,
+    alloc: Global,
+    data_type: &DataType,
+    data: &ArrayBytes<'_>,
+) {
+    let read = T::from_array_bytes(alloc, data_type, data);
+    assert!(rt; read.is_err_and(|e| e == ElementError::IncompatibleElementType));
+}
+
+fn must_be_listed<T: ElementOwned + PartialEq>(
+    rt: &impl Abort,
+    alloc: Global,
+    data_type: &DataType,
+    elements: &[T],
+    bytes: &[u8],
+) -> Result<(), Fail> {
+    let made = T::to_array_bytes(alloc, data_type, elements)?;
+    must_have_bytes(rt, &made, bytes);
+    assert!(rt; made.validate(data_type, elements.len() as u64));
+    let read = T::from_array_bytes(alloc, data_type, &made)?;
+    assert!(rt; read.as_slice() == elements);
+    Ok(())
+}
+
+#[test]
+fn numbers_are_cells(rt: HostRuntime) -> Result<(), Fail> {
+    let alloc = rt.alloc();
+    must_be_listed(&rt, alloc, &data_type::uint8(), &[0u8, 255], &[0, 255])?;
+    must_be_listed(&rt, alloc, &data_type::int8(), &[-1i8, 127], &[255, 127])?;
+    must_be_listed(&rt, alloc, &data_type::uint16(), &[258u16], &[2, 1])?;
+    must_be_listed(&rt, alloc, &data_type::int16(), &[-2i16, 258], &[0xFE, 0xFF, 2, 1])?;
+    must_be_listed(&rt, alloc, &data_type::uint32(), &[1u32], &[1, 0, 0, 0])?;
+    must_be_listed(&rt, alloc, &data_type::int32(), &[-1i32], &[255, 255, 255, 255])?;
+    must_be_listed(&rt, alloc, &data_type::uint64(), &[u64::MAX], &[255; 8])?;
+    must_be_listed(&rt, alloc, &data_type::int64(), &[i64::MIN], &[0, 0, 0, 0, 0, 0, 0, 128])?;
+    Ok(())
+}
+
+#[test]
+fn numbers_of_another_type_are_refused(rt: HostRuntime) -> Result<(), Fail> {
+    let alloc = rt.alloc();
+    must_be_refused(&rt, alloc, &data_type::int16(), &[1u16])?;
+    must_be_refused(&rt, alloc, &data_type::bool(), &[1u8])?;
+    must_be_refused(&rt, alloc, &data_type::string(), &[1u8])?;
+    must_be_refused(&rt, alloc, &data_type::bytes(), &[1i64])?;
+    let data = ArrayBytes::from_flen(&[1, 2, 3]);
+    must_not_be_read::<u16>(&rt, alloc, &data_type::uint16(), &data);
+    must_not_be_read::<i8>(&rt, alloc, &data_type::uint8(), &data);
+    must_not_be_read::<u8>(&rt, alloc, &data_type::uint8(), &strings(b"a", &[0, 1])?);
+    Ok(())
+}
+
+fn must_convert(rt: &impl Abort, alloc: Global, bytes: &[u8], numbers: &[i16]) -> Result<(), Fail>
+    requires { length bytes.now % 2 ≡ 0 }
+{
+    assert!(rt; convert_from_bytes_slice::<i16>(alloc, bytes)?.as_slice() == numbers);
+    let owned = Vec::from_slice(alloc, bytes)?;
+    assert!(rt; transmute_from_bytes_vec::<i16>(alloc, owned)?.as_slice() == numbers);
+    assert!(rt; convert_to_bytes_vec(alloc, numbers)?.as_slice() == bytes);
+    assert!(rt; transmute_to_bytes(alloc, numbers)?.as_slice() == bytes);
+    let owned = Vec::from_slice(alloc, numbers)?;
+    assert!(rt; transmute_to_bytes_vec(alloc, owned)?.as_slice() == bytes);
+    Ok(())
+}
+
+#[test]
+fn numbers_are_little_endian_bytes(rt: HostRuntime) -> Result<(), Fail> {
+    must_convert(&rt, rt.alloc(), &[0xFE, 0xFF, 2, 1], &[-2, 258])
+}
+
+#[test]
+fn fill_values_are_compared_and_copied(rt: HostRuntime) -> Result<(), Fail> {
+    let alloc = rt.alloc();
+    let value = FillValue::new(vec![in alloc; 7u8, 1]?);
+    must_be(&rt, value == value.try_clone(alloc)?, "copy");
+    must_be(&rt, value != FillValue::new(vec![in alloc; 7u8]?), "shorter");
+    Ok(())
+}
+
+fn must_spread(
+    rt: &impl Abort,
+    alloc: Global,
+    inner: &DataType,
+    mask: &[u8],
+    present: &ArrayBytes<'_>,
+) -> Result<(), Fail>
+    requires flags { All (λ flag. flag < 2) mask.now }
+    requires present { HasCells (kind inner.now) (data_of present.now) (count_by flag_set mask.now) }
+    requires size { length mask.now * cell_size (kind inner.now) < 2 ^ 64 }
+{
+    let made = ArrayBytes::from_present(alloc, inner, Vec::from_slice(alloc, mask)?, present)?;
+    let whole = optional(alloc, inner.try_clone(alloc)?)?;
+    assert!(rt; made.validate(&whole, mask.len() as u64));
+    Ok(())
+}
+
+#[test]
+fn present_cells_go_under_a_mask(rt: HostRuntime) -> Result<(), Fail> {
+    let alloc = rt.alloc();
+    let present = ArrayBytes::from_flen(&[7, 8]);
+    if present.validate(&DataType::UInt8, 2) {
+        must_spread(&rt, alloc, &DataType::UInt8, &[0, 1, 0, 1], &present)?;
+    }
+    let none = ArrayBytes::from_flen(&[]);
+    if none.validate(&DataType::UInt8, 0) {
+        must_spread(&rt, alloc, &DataType::UInt8, &[0, 0], &none)?;
+    }
     Ok(())
 }

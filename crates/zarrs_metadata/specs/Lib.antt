@@ -1,3 +1,4 @@
+pub mod FillValue
 pub mod Separator
 pub mod Members
 pub mod Extension

@@ -1,13 +1,17 @@
 //! The metadata of arrays, read from and written to JSON values.
 #![tactic(auto)]
 
+mod data_type;
 mod error;
 mod extension;
+mod fill_value;
 mod lists;
 mod members;
 mod separators;
 
+pub use data_type::DataTypeMetadataV2;
 pub use error::{MetadataError, PluginCreateError};
 pub use extension::MetadataV3;
+pub use fill_value::FillValueMetadata;
 pub use lists::{numbers, numbers_value};
 pub use separators::ChunkKeySeparator;

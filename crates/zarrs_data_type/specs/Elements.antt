@@ -1,0 +1,15 @@
+-- Why values of Rust and cells are refused.
+use Rattle.std.specs.Prelude.{◌≡◌, Bool, true, false, List, Option, None}
+use Rattle.zarrs_types.specs.Cell.{Cell}
+use Rattle.zarrs_data_type.specs.declared.error.ElementError.{ElementError}
+use Rattle.zarrs_data_type.specs.declared.error.ElementError.TheVariants.{IncompatibleElementType, OutOfMemory}
+
+-- the values are not those of the data type
+abbrev pub RefusesElement : Bool → ElementError → Type 0
+RefusesElement served IncompatibleElementType = served ≡ false
+RefusesElement served OutOfMemory = Unit {0}
+
+-- the values are not those of the data type, or the data has no cells of it
+abbrev pub RefusesCells : Bool → Option (List Cell) → ElementError → Type 0
+RefusesCells served cs IncompatibleElementType = served ≡ true → cs ≡ None
+RefusesCells served cs OutOfMemory = Unit {0}

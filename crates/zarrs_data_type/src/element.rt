@@ -1,0 +1,333 @@
+//! Values of Rust that stand for cells.
+ghost use Rattle.std.specs.Prelude.{◌≡◌, [], ◌∷◌, Bool, true, map, Some, IfOk, IfErr, OnOk};
+ghost use Rattle.std.specs.Int.{w8, w16, w32, w64, cast_unsigned, to_le_bytes};
+ghost use Rattle.zarrs_cells.specs.ArrayData.{data_of};
+ghost use Rattle.zarrs_cells.specs.Cells.{cells};
+ghost use Rattle.zarrs_types.specs.Cell.{Cell, bytes};
+ghost use Rattle.zarrs_types.specs.Kind.{Kind, kind};
+ghost use Rattle.zarrs_types.specs.Kind as type;
+ghost use Rattle.zarrs_types.specs.Same.{kind_eq};
+ghost use Rattle.zarrs_data_type.specs.Elements.{RefusesElement, RefusesCells};
+
+use crate::error::ElementError;
+use std::alloc::Global;
+use zarrs_cells::ArrayBytes;
+use zarrs_types::DataType;
+
+mod numbers;
+
+use numbers::{number_data, number_list};
+
+/// A value of Rust that stands for a cell.
+pub trait Element: Drop {
+    // The cell.
+    ghost cell: { Self → Cell };
+
+    // Whether these values are those of a data type.
+    ghost serves: { Kind → Bool };
+
+    /// Whether these values are those of the data type.
+    fn serves(data_type: &DataType) -> bool
+        ensures { result ≡ serves (kind data_type.now) };
+
+    /// Data whose cells are these values.
+    ///
+    /// # Errors
+    /// `IncompatibleElementType`: the values are not those of the data type.
+    fn to_array_bytes(
+        alloc: Global,
+        data_type: &DataType,
+        elements: &[Self],
+    ) -> Result<ArrayBytes<'static>, ElementError>
+        ensures cells { IfOk result (λ made. cells (kind data_type.now) (data_of made) ≡ Some (map cell elements.now)) }
+        ensures served { OnOk result (serves (kind data_type.now) ≡ true) }
+        ensures refused { IfErr result (RefusesElement (serves (kind data_type.now))) };
+}
+
+/// A value of Rust that is read from a cell.
+pub trait ElementOwned: Element {
+    /// The values of the cells of the data.
+    ///
+    /// # Errors
+    /// `IncompatibleElementType`: the values are not those of the data type, or the data is no list of its cells.
+    fn from_array_bytes(
+        alloc: Global,
+        data_type: &DataType,
+        data: &ArrayBytes<'_>,
+    ) -> Result<Vec<Self>, ElementError>
+        ensures cells { IfOk result (λ elements. cells (kind data_type.now) (data_of «data».now) ≡ Some (map Self.cell elements.items)) }
+        ensures served { OnOk result (Self.serves (kind data_type.now) ≡ true) }
+        ensures refused { IfErr result (RefusesCells (Self.serves (kind data_type.now)) (cells (kind data_type.now) (data_of «data».now))) };
+}
+
+impl Element for u8 {
+    ghost cell = { λ x. bytes (x ∷ []) };
+
+    ghost serves = { λ k. kind_eq k type.uint8 };
+
+    fn serves(data_type: &DataType) -> bool {
+        *data_type == DataType::UInt8
+    }
+
+    fn to_array_bytes(
+        alloc: Global,
+        data_type: &DataType,
+        elements: &[u8],
+    ) -> Result<ArrayBytes<'static>, ElementError> {
+        if !<u8 as Element>::serves(data_type) {
+            return Err(ElementError::IncompatibleElementType);
+        }
+        Ok(number_data(alloc, data_type, elements)?)
+    }
+}
+
+impl ElementOwned for u8 {
+    fn from_array_bytes(
+        alloc: Global,
+        data_type: &DataType,
+        data: &ArrayBytes<'_>,
+    ) -> Result<Vec<u8>, ElementError> {
+        if !<u8 as Element>::serves(data_type) {
+            return Err(ElementError::IncompatibleElementType);
+        }
+        number_list(alloc, data_type, data)
+    }
+}
+
+impl Element for u16 {
+    ghost cell = { λ x. bytes (to_le_bytes w16 x) };
+
+    ghost serves = { λ k. kind_eq k type.uint16 };
+
+    fn serves(data_type: &DataType) -> bool {
+        *data_type == DataType::UInt16
+    }
+
+    fn to_array_bytes(
+        alloc: Global,
+        data_type: &DataType,
+        elements: &[u16],
+    ) -> Result<ArrayBytes<'static>, ElementError> {
+        if !<u16 as Element>::serves(data_type) {
+            return Err(ElementError::IncompatibleElementType);
+        }
+        Ok(number_data(alloc, data_type, elements)?)
+    }
+}
+
+impl ElementOwned for u16 {
+    fn from_array_bytes(
+        alloc: Global,
+        data_type: &DataType,
+        data: &ArrayBytes<'_>,
+    ) -> Result<Vec<u16>, ElementError> {
+        if !<u16 as Element>::serves(data_type) {
+            return Err(ElementError::IncompatibleElementType);
+        }
+        number_list(alloc, data_type, data)
+    }
+}
+
+impl Element for u32 {
+    ghost cell = { λ x. bytes (to_le_bytes w32 x) };
+
+    ghost serves = { λ k. kind_eq k type.uint32 };
+
+    fn serves(data_type: &DataType) -> bool {
+        *data_type == DataType::UInt32
+    }
+
+    fn to_array_bytes(
+        alloc: Global,
+        data_type: &DataType,
+        elements: &[u32],
+    ) -> Result<ArrayBytes<'static>, ElementError> {
+        if !<u32 as Element>::serves(data_type) {
+            return Err(ElementError::IncompatibleElementType);
+        }
+        Ok(number_data(alloc, data_type, elements)?)
+    }
+}
+
+impl ElementOwned for u32 {
+    fn from_array_bytes(
+        alloc: Global,
+        data_type: &DataType,
+        data: &ArrayBytes<'_>,
+    ) -> Result<Vec<u32>, ElementError> {
+        if !<u32 as Element>::serves(data_type) {
+            return Err(ElementError::IncompatibleElementType);
+        }
+        number_list(alloc, data_type, data)
+    }
+}
+
+impl Element for u64 {
+    ghost cell = { λ x. bytes (to_le_bytes w64 x) };
+
+    ghost serves = { λ k. kind_eq k type.uint64 };
+
+    fn serves(data_type: &DataType) -> bool {
+        *data_type == DataType::UInt64
+    }
+
+    fn to_array_bytes(
+        alloc: Global,
+        data_type: &DataType,
+        elements: &[u64],
+    ) -> Result<ArrayBytes<'static>, ElementError> {
+        if !<u64 as Element>::serves(data_type) {
+            return Err(ElementError::IncompatibleElementType);
+        }
+        Ok(number_data(alloc, data_type, elements)?)
+    }
+}
+
+impl ElementOwned for u64 {
+    fn from_array_bytes(
+        alloc: Global,
+        data_type: &DataType,
+        data: &ArrayBytes<'_>,
+    ) -> Result<Vec<u64>, ElementError> {
+        if !<u64 as Element>::serves(data_type) {
+            return Err(ElementError::IncompatibleElementType);
+        }
+        number_list(alloc, data_type, data)
+    }
+}
+
+impl Element for i8 {
+    ghost cell = { λ x. bytes (cast_unsigned w8 x ∷ []) };
+
+    ghost serves = { λ k. kind_eq k type.int8 };
+
+    fn serves(data_type: &DataType) -> bool {
+        *data_type == DataType::Int8
+    }
+
+    fn to_array_bytes(
+        alloc: Global,
+        data_type: &DataType,
+        elements: &[i8],
+    ) -> Result<ArrayBytes<'static>, ElementError> {
+        if !<i8 as Element>::serves(data_type) {
+            return Err(ElementError::IncompatibleElementType);
+        }
+        Ok(number_data(alloc, data_type, elements)?)
+    }
+}
+
+impl ElementOwned for i8 {
+    fn from_array_bytes(
+        alloc: Global,
+        data_type: &DataType,
+        data: &ArrayBytes<'_>,
+    ) -> Result<Vec<i8>, ElementError> {
+        if !<i8 as Element>::serves(data_type) {
+            return Err(ElementError::IncompatibleElementType);
+        }
+        number_list(alloc, data_type, data)
+    }
+}
+
+impl Element for i16 {
+    ghost cell = { λ x. bytes (to_le_bytes w16 (cast_unsigned w16 x)) };
+
+    ghost serves = { λ k. kind_eq k type.int16 };
+
+    fn serves(data_type: &DataType) -> bool {
+        *data_type == DataType::Int16
+    }
+
+    fn to_array_bytes(
+        alloc: Global,
+        data_type: &DataType,
+        elements: &[i16],
+    ) -> Result<ArrayBytes<'static>, ElementError> {
+        if !<i16 as Element>::serves(data_type) {
+            return Err(ElementError::IncompatibleElementType);
+        }
+        Ok(number_data(alloc, data_type, elements)?)
+    }
+}
+
+impl ElementOwned for i16 {
+    fn from_array_bytes(
+        alloc: Global,
+        data_type: &DataType,
+        data: &ArrayBytes<'_>,
+    ) -> Result<Vec<i16>, ElementError> {
+        if !<i16 as Element>::serves(data_type) {
+            return Err(ElementError::IncompatibleElementType);
+        }
+        number_list(alloc, data_type, data)
+    }
+}
+
+impl Element for i32 {
+    ghost cell = { λ x. bytes (to_le_bytes w32 (cast_unsigned w32 x)) };
+
+    ghost serves = { λ k. kind_eq k type.int32 };
+
+    fn serves(data_type: &DataType) -> bool {
+        *data_type == DataType::Int32
+    }
+
+    fn to_array_bytes(
+        alloc: Global,
+        data_type: &DataType,
+        elements: &[i32],
+    ) -> Result<ArrayBytes<'static>, ElementError> {
+        if !<i32 as Element>::serves(data_type) {
+            return Err(ElementError::IncompatibleElementType);
+        }
+        Ok(number_data(alloc, data_type, elements)?)
+    }
+}
+
+impl ElementOwned for i32 {
+    fn from_array_bytes(
+        alloc: Global,
+        data_type: &DataType,
+        data: &ArrayBytes<'_>,
+    ) -> Result<Vec<i32>, ElementError> {
+        if !<i32 as Element>::serves(data_type) {
+            return Err(ElementError::IncompatibleElementType);
+        }
+        number_list(alloc, data_type, data)
+    }
+}
+
+impl Element for i64 {
+    ghost cell = { λ x. bytes (to_le_bytes w64 (cast_unsigned w64 x)) };
+
+    ghost serves = { λ k. kind_eq k type.int64 };
+
+    fn serves(data_type: &DataType) -> bool {
+        *data_type == DataType::Int64
+    }
+
+    fn to_array_bytes(
+        alloc: Global,
+        data_type: &DataType,
+        elements: &[i64],
+    ) -> Result<ArrayBytes<'static>, ElementError> {
+        if !<i64 as Element>::serves(data_type) {
+            return Err(ElementError::IncompatibleElementType);
+        }
+        Ok(number_data(alloc, data_type, elements)?)
+    }
+}
+
+impl ElementOwned for i64 {
+    fn from_array_bytes(
+        alloc: Global,
+        data_type: &DataType,
+        data: &ArrayBytes<'_>,
+    ) -> Result<Vec<i64>, ElementError> {
+        if !<i64 as Element>::serves(data_type) {
+            return Err(ElementError::IncompatibleElementType);
+        }
+        number_list(alloc, data_type, data)
+    }
+}
