@@ -67,9 +67,14 @@ reach_from size [] (n ∷ T) [] q b l m inside below = absurd (omega arith)
 reach_from size (n ∷ S) [] (e ∷ es) q b l m inside below = absurd (omega arith)
 reach_from size (n ∷ S) (m ∷ T) (e ∷ es) [] b l k inside below = absurd inside
 reach_from size (n ∷ S) (m ∷ T) (e ∷ es) (j ∷ q) b l k inside below = (
-  j, place T q * size + b, place S q * size + b, inside.0,
-  in_block j (position_count T) (place T q) size b, in_block j (position_count S) (place S q) size b,
-  reach_from size S T es q b (omega arith) (omega arith) inside.1 below)
+  j,
+  place T q * size + b,
+  place S q * size + b,
+  inside.0,
+  in_block j (position_count T) (place T q) size b,
+  in_block j (position_count S) (place S q) size b,
+  reach_from size S T es q b (omega arith) (omega arith) inside.1 below,
+)
 
 record IsReached (size : ℕ) (T es : List ℕ) (t : ℕ) : Type 0 where
   offset : List ℕ
@@ -157,8 +162,14 @@ block_within shape k size block len below some is whole =
     ap (λ v. slice_index shape k * v) is ∙ sym (mul_assoc (slice_index shape k) (position_count (drop (k + 1) shape)) size)
     ∙ ap (λ v. v * size) (sym (count_drop shape k below)) in
     let front : 1 ≤ position_count (take k shape) = count_some (take k shape) (AllSome-take shape k some) in
-    omega (arith, here, whole, ap (λ v. v * size) (count_split shape k), mul_assoc (position_count (take k shape)) (position_count (drop k shape)) size,
-    mul-le-mul_right (position_count (drop k shape) * size) front)
+    omega (
+      arith,
+      here,
+      whole,
+      ap (λ v. v * size) (count_split shape k),
+      mul_assoc (position_count (take k shape)) (position_count (drop k shape)) size,
+      mul-le-mul_right (position_count (drop k shape) * size) front,
+    )
   where
     AllSome-take : (shape : List ℕ) (k : ℕ) → AllSome shape → AllSome (take k shape)
     AllSome-take shape zero some j below z = absurd (omega arith)
@@ -191,9 +202,13 @@ fits_at S F T U es k source target below = record {
 pub IsPlan-none : (size : ℕ) (S F T U es : List ℕ) (runs : Runs) → BoxFits F es S → BoxFits U es T → IsPlan size [] [] [] [] [] runs
     → IsPlan size (drop (length es) S) (drop (length es) F) (drop (length es) T) (drop (length es) U) (drop (length es) es) runs
 IsPlan-none size S F T U es runs source target plan =
-    rw (drop_all (length es) S (omega (arith, length_shape F es S source)), drop_all (length es) F (omega (arith, length_fits F es S source)),
-    drop_all (length es) T (omega (arith, length_shape U es T target)), drop_all (length es) U (omega (arith, length_fits U es T target)),
-    drop_all (length es) es (omega arith)) plan
+    rw (
+      drop_all (length es) S (omega (arith, length_shape F es S source)),
+      drop_all (length es) F (omega (arith, length_fits F es S source)),
+      drop_all (length es) T (omega (arith, length_shape U es T target)),
+      drop_all (length es) U (omega (arith, length_fits U es T target)),
+      drop_all (length es) es (omega arith),
+    ) plan
 
 -- one dimension more
 pub IsPlan-more : (size j k : ℕ) (S F T U es : List ℕ) (old new : Runs) → j ≡ k + 1 → FitsAt S F T U es k

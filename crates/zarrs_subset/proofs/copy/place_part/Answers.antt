@@ -34,8 +34,11 @@ add-requires-clause-source_room c =
     let some = shared_some _ _ _ _ long part_long dimensions meet in
     let next : c.loop-k.k ≡ c.loop-k.k - 1 + 1 = omega arith in
     let block = rw next at c.loop-k.invariant.plan.source_block in
-    omega (arith, block_within c.shape-part_shape.result.now (c.loop-k.k - 1) _ _ (length c.args.part.now) (omega arith)
-    (AllSome-fits _ _ _ some fits.1) block (search rules))
+    omega (
+      arith,
+      block_within c.shape-part_shape.result.now (c.loop-k.k - 1) _ _ (length c.args.part.now) (omega arith)
+          (AllSome-fits _ _ _ some fits.1) block (search rules),
+    )
 
 pub add-requires-clause-target_room : goal.add-requires-clause-target_room
 add-requires-clause-target_room c =
@@ -47,8 +50,11 @@ add-requires-clause-target_room c =
     let some = shared_some _ _ _ _ long part_long dimensions meet in
     let next : c.loop-k.k ≡ c.loop-k.k - 1 + 1 = omega arith in
     let block = rw next at c.loop-k.invariant.plan.target_block in
-    omega (arith, block_within c.shape-shape.result.now (c.loop-k.k - 1) _ _ (length c.args.target.now) (omega arith)
-    (AllSome-fits _ _ _ some fits.0) block (search rules))
+    omega (
+      arith,
+      block_within c.shape-shape.result.now (c.loop-k.k - 1) _ _ (length c.args.target.now) (omega arith)
+          (AllSome-fits _ _ _ some fits.0) block (search rules),
+    )
 
 pub loop-k-preserved : goal.loop-k-preserved
 loop-k-preserved c =
@@ -74,7 +80,7 @@ loop-k-preserved c =
     record {
       within = omega arith;
       plan = IsPlan-more _ _ k _ _ _ _ _ _ _ (omega arith) (fits_at _ _ _ _ _ k fits.1 fits.0 inside)
-      (rw (from, to, extent) at c.add.ensures) c.loop-k.invariant.plan;
+          (rw (from, to, extent) at c.add.ensures) c.loop-k.invariant.plan;
     }
 
 pub returns : goal.returns

@@ -33,9 +33,9 @@ invariant_of-self c =
       some = some_more _ _ _ _ _ _ _ _ _ old.some c.requires.some step;
       apart = extended_apart _ _ _ _ _ _ _ _ _ (omega (arith, old.target_room)) old.apart step;
       source_room = rw (extended_source_span _ _ _ _ _ _ _ _ _ c.requires.some step)
-      (room_more _ _ _ _ _ _ old.source_room c.requires.source_fits c.requires.some);
+          (room_more _ _ _ _ _ _ old.source_room c.requires.source_fits c.requires.some);
       target_room = rw (extended_target_span _ _ _ _ _ _ _ _ _ c.requires.some step)
-      (room_more _ _ _ _ _ _ old.target_room c.requires.target_fits c.requires.some);
+          (room_more _ _ _ _ _ _ old.target_room c.requires.target_fits c.requires.some);
       few = few_more _ _ _ _ _ _ _ _ _ _ _ (omega (arith, c.requires.target_fits)) old.few step;
     }
 
@@ -62,5 +62,5 @@ returns c = λ size S F T U es plan.
       source_offset = offset_more _ _ _ _ _ _ plan.source_offset plan.source_block;
       target_offset = offset_more _ _ _ _ _ _ plan.target_offset plan.target_block;
       reaches = λ t s. iff_trans _ _ _ (extended_reaches _ _ _ _ _ _ _ _ _ t s old.some step)
-      (reaches_more _ _ _ _ _ _ _ _ _ t s plan.source_block plan.target_block plan.reaches);
+          (reaches_more _ _ _ _ _ _ _ _ _ t s plan.source_block plan.target_block plan.reaches);
     }
