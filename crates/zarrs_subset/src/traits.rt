@@ -1,6 +1,6 @@
 //! What stands for a box.
 
-ghost use Rattle.std.specs.Prelude.{◌≡◌, ◌-◌, ◌+◌, ◌<◌, ◌≤◌, ◌^◌, ◌↔◌, length, slice_index, IfOk, IsTrue, OnErr, MatchOption};
+ghost use Rattle.std.specs.Prelude.{◌≡◌, ◌-◌, ◌+◌, ◌<◌, ◌≤◌, ◌^◌, ◌↔◌, length, slice_index, IfOk, IsTrue, OnErr, MatchOption, SomeIndex};
 ghost use Rattle.zarrs_subset.specs.Boxes.{ends, position_count};
 ghost use Rattle.zarrs_subset.specs.Regions.{Box, IsBox, IsLong, IsLong-ranges, LiesInShape, box_of, box_of_ranges};
 
@@ -54,6 +54,20 @@ pub trait ArraySubsetTraits {
 
     // One extent for each start.
     ghost is_long: { (value : Self) → IsLong (region value) };
+
+    /// Whether the box has no position: some extent is 0.
+    final fn is_empty(&self) -> bool
+        ensures { IsTrue result ↔ SomeIndex (region self.now).shape
+            (λ k. slice_index (region self.now).shape k ≡ 0) }
+    {
+        for dimension in 0..self.dimensionality() {
+            let range = self.range(dimension);
+            if range.start == range.end {
+                return true;
+            }
+        }
+        false
+    }
 
     /// Whether the box lies in an array of this shape.
     final fn inbounds_shape(&self, array_shape: &[u64]) -> bool
