@@ -1,7 +1,7 @@
 //! Chunk grids written to metadata.
 ghost use Rattle.std.specs.Prelude.{◌≡◌, ◌∷◌, [], map, IfOk};
 ghost use Rattle.serde_json.specs.View.{view};
-ghost use Rattle.zarrs_metadata.specs.View.{extension_view};
+ghost use Rattle.zarrs_metadata.specs.Extension.{extension_view};
 ghost use Rattle.zarrs_metadata.specs.Lists.{list_data, number_data};
 ghost use Rattle.zarrs_chunk_grid.specs.Shapes.{sizes_of};
 ghost use Rattle.zarrs_chunk_grid.specs.GridData.{sizes_data, extension_with};

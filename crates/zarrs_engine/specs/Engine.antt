@@ -1,12 +1,13 @@
 -- What clauses show of an engine.
-use Rattle.std.specs.Prelude.{◌≡◌}
+use Rattle.std.specs.Prelude.{◌≡◌, ℕ, List}
 use Rattle.zarrs_storage.specs.Store.{StoreState}
-use Rattle.zarrs_storage.specs.declared.traits.ReadableStorageTraits.{Ghosts as StoreMeaning}
 use Rattle.zarrs_chunk_grid.specs.declared.traits.ChunkGridTraits.{Ghosts as GridMeaning}
 use Rattle.zarrs_keys.specs.declared.traits.ChunkKeyEncodingTraits.{Ghosts as KeyMeaning}
 use Rattle.zarrs_codec.specs.declared.traits.ChainTraits.{Ghosts as ChainMeanings}
 use Rattle.zarrs_data_type.specs.Kind.{kind}
-use Rattle.zarrs_engine.specs.Layout.{Layout, layout_at}
+use Rattle.zarrs_data_type.specs.declared.data_type.DataType.{DataType}
+use Rattle.zarrs_steps.specs.Layout.{Layout, layout_at}
+use Rattle.zarrs_steps.specs.Layout.{ArrayState}
 use Rattle.zarrs_engine.specs.declared.parts.Parts.{Parts}
 use Rattle.zarrs_engine.specs.declared.engine.Engine.{Engine}
 
@@ -27,6 +28,31 @@ module _ {G K C : Type 0} {g : GridMeaning G} {k : KeyMeaning K} {c : ChainMeani
     -- what an engine's store is now
     abbrev pub store_of : (S → StoreState) → Engine S G K C g k c → StoreState
     store_of state engine = state engine.storage
+
+    -- the same, and the array's shape
+    abbrev pub state_of : (S → StoreState) → Engine S G K C g k c → ArrayState
+    state_of state engine = record { store = state engine.storage; shape = g.array_extents engine.parts.grid }
+
+    -- where an engine's array lies
+    abbrev pub path_of : Engine S G K C g k c → List ℕ
+    path_of engine = engine.parts.path
+
+    -- the grid, the key encoding, the chain of codecs and the data type that an engine was made of
+    abbrev pub grid_of : Engine S G K C g k c → G
+    grid_of engine = engine.parts.grid
+
+    abbrev pub keys_of : Engine S G K C g k c → K
+    keys_of engine = engine.parts.keys
+
+    abbrev pub chain_of : Engine S G K C g k c → C
+    chain_of engine = engine.parts.chain
+
+    abbrev pub data_type_of : Engine S G K C g k c → DataType
+    data_type_of engine = engine.parts.data_type
+
+    -- the bytes of the fill value
+    abbrev pub fill_value_of : Engine S G K C g k c → List ℕ
+    fill_value_of engine = engine.parts.fill_value
 
     -- nothing but the store changed
     abbrev pub KeepsParts : Engine S G K C g k c → Engine S G K C g k c → Type 0

@@ -1,13 +1,2 @@
-pub mod Errors
-pub mod Layout
 pub mod Engine
-pub mod Props
-pub mod Content
-pub mod Reach
-pub mod Refusals
-pub mod Changes
-pub mod Step
-pub mod Run
-pub mod Canon
-pub mod Laws
-pub mod Puts
+pub mod Parts

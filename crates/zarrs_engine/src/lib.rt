@@ -2,21 +2,11 @@
 //! chunk keys and the chain of codecs.
 #![tactic(auto)]
 
-mod call;
 mod engine;
-mod error;
-mod laws;
-mod list;
 mod parts;
 
-pub use call::{Call, Reply};
-pub use engine::Engine;
-pub use error::ArrayError;
-pub use laws::{
-    canonical_stores_decode, content_is_texts, empty_stores_are_canonical, histories_agree,
-    steps_keep_canon, steps_keep_decoding,
-};
-pub use list::replay;
+pub use engine::{Engine, layouts_are_lawful, replay};
+pub use zarrs_steps::{ArrayError, Call, Reply};
 
-#[cfg(test)]
-mod tests;
+/// Laws of steps, of runs and of canonical stores.
+pub use zarrs_steps as laws;

@@ -1,16 +1,19 @@
 //! The parts of an engine but its store.
-ghost use Rattle.std.specs.Prelude.{IsSome};
+ghost use Rattle.std.specs.Prelude.{IsSome, ◌≡◌};
+ghost use Rattle.zarrs_subset.specs.Boxes.{position_count};
+ghost use Rattle.zarrs_subset.specs.Regions.{box_of};
 ghost use Rattle.zarrs_data_type.specs.Kind.{kind};
 ghost use Rattle.zarrs_data_type.specs.Cell.{fill_cell};
-ghost use Rattle.zarrs_engine.specs.Layout.{IsLawful, layout_at};
-ghost use Rattle.zarrs_engine.specs.Props.{IsLawful-prop};
+ghost use Rattle.zarrs_steps.specs.Layout.{IsLawful, layout_at};
+ghost use Rattle.zarrs_engine.specs.Parts.{RefusesIndices};
+ghost use Rattle.zarrs_steps.specs.Lawful.{IsLawful-prop};
 
-use crate::error::ArrayError;
 use std::alloc::Global;
 use zarrs_chunk_grid::{ChunkGridTraits, GridError};
 use zarrs_codec::{ChainTraits, CodecError, CodecOptions};
 use zarrs_data_type::{ArrayBytes, DataType, DataTypeFillValueError, FillValue};
 use zarrs_keys::{ChunkKeyEncodingTraits, NodePath, chunk_key};
+use zarrs_steps::ArrayError;
 use zarrs_storage::{StorageError, StoreKey};
 use zarrs_subset::ArraySubset;
 
@@ -32,31 +35,34 @@ pub(crate) struct Parts<G: ChunkGridTraits, K: ChunkKeyEncodingTraits, C: ChainT
 pub(crate) struct Chunk {
     pub(crate) region: ArraySubset,
     pub(crate) count: u64,
+    ghost counted: { count ≡ position_count (box_of region).shape },
 }
 
 impl<G: ChunkGridTraits, K: ChunkKeyEncodingTraits, C: ChainTraits> Parts<G, K, C> {
     ghost use Rattle.std.specs.Prelude.{◌≡◌, ◌<◌, ◌*◌, ◌^◌, true, false, Some, None, IfOk, IfErr, OnOk, IfSome, IfNone, OnSome, IsOkUnless, option_map, replicate};
-    ghost use Rattle.zarrs_subset.specs.Boxes.{position_count};
-    ghost use Rattle.zarrs_subset.specs.Regions.{box_of};
     ghost use Rattle.zarrs_chunk_grid.specs.Grids.{box_at};
     ghost use Rattle.zarrs_data_type.specs.Kind.{cell_size};
     ghost use Rattle.zarrs_data_type.specs.ArrayData.{data_of};
     ghost use Rattle.zarrs_data_type.specs.Cells.{cells};
     ghost use Rattle.zarrs_codec.specs.Options.{stores_empty_chunks};
     ghost use Rattle.zarrs_engine.specs.Engine.{layout_of_parts};
-    ghost use Rattle.zarrs_engine.specs.Content.{decoded_cells};
-    ghost use Rattle.zarrs_engine.specs.Refusals.{IsRefusal, refusal_of, is_too_large, box_refusal, data_refusal, read_refusal};
-    ghost use Rattle.zarrs_engine.specs.Puts.{HasText};
+    ghost use Rattle.zarrs_steps.specs.Content.{decoded_cells};
+    ghost use Rattle.zarrs_steps.specs.Refusals.{RefusesBy, refusal_of, is_too_large, box_refusal, data_refusal, read_refusal};
+    ghost use Rattle.zarrs_engine.specs.Parts.{HasValue};
 
     /// The key of the chunk with these indices.
-    pub(crate) fn chunk_key(&self, alloc: Global, indices: &[u64]) -> Result<StoreKey, StorageError>
-        ensures key { IfOk result (λ key. key ≡ (layout_of_parts self.now).key indices.now) }
+    pub(crate) fn chunk_key(
+        &self,
+        alloc: Global,
+        chunk_indices: &[u64],
+    ) -> Result<StoreKey, StorageError>
+        ensures key { IfOk result (λ key. key ≡ (layout_of_parts self.now).key chunk_indices.now) }
         ensures accepted { IsOkUnless result StorageError.OutOfMemory }
     {
-        chunk_key(alloc, &self.path, &self.keys, indices)
+        chunk_key(alloc, &self.path, &self.keys, chunk_indices)
     }
 
-    /// How many cells a chunk of this box has, where no more bytes than a `usize` counts hold them.
+    /// How many cells a chunk of this box has, if no more bytes than a `usize` counts hold them.
     fn cell_count(&self, region: &ArraySubset) -> Option<u64>
         ensures some { IfSome result (λ count. count ≡ position_count (box_of region.now).shape) }
         ensures small { OnSome result
@@ -75,20 +81,19 @@ impl<G: ChunkGridTraits, K: ChunkKeyEncodingTraits, C: ChainTraits> Parts<G, K, 
     }
 
     /// The chunk with these indices.
-    pub(crate) fn chunk(&self, alloc: Global, indices: &[u64]) -> Result<Chunk, ArrayError>
-        ensures region { IfOk result (λ chunk. box_of chunk.region ≡ box_at (G.grid self.now.grid) indices.now) }
-        ensures count { IfOk result (λ chunk. chunk.count ≡ position_count (box_of chunk.region).shape) }
-        ensures accepted { OnOk result (box_refusal (layout_of_parts self.now) indices.now
+    pub(crate) fn chunk(&self, alloc: Global, chunk_indices: &[u64]) -> Result<Chunk, ArrayError>
+        ensures region { IfOk result (λ chunk. box_of chunk.region ≡ box_at (G.grid self.now.grid) chunk_indices.now) }
+        ensures accepted { OnOk result (box_refusal (layout_of_parts self.now) chunk_indices.now
             ≡ None) }
         ensures refused { IfErr result
-            (λ e. IsRefusal (box_refusal (layout_of_parts self.now) indices.now) ⊥
+            (λ e. RefusesBy (box_refusal (layout_of_parts self.now) chunk_indices.now)
             (refusal_of e)) }
     {
-        let region = match self.grid.subset(alloc, indices) {
+        let region = match self.grid.subset(alloc, chunk_indices) {
             Ok(Some(region)) => region,
-            Ok(None) => return Err(ArrayError::invalid_indices(alloc, indices)),
+            Ok(None) => return Err(invalid_indices(alloc, chunk_indices)),
             Err(GridError::IncompatibleDimensionality(_)) => {
-                return Err(ArrayError::invalid_indices(alloc, indices));
+                return Err(invalid_indices(alloc, chunk_indices));
             }
             Err(GridError::UnequalExtent) => unreachable!(),
             Err(GridError::OutOfMemory) => return Err(ArrayError::OutOfMemory),
@@ -99,85 +104,86 @@ impl<G: ChunkGridTraits, K: ChunkKeyEncodingTraits, C: ChainTraits> Parts<G, K, 
         }
     }
 
-    /// What is to stand at the key of the chunk with this data: its bytes, or nothing where empty chunks are not kept
+    /// What is to be present at the key of the chunk with this data: its bytes, or nothing if empty chunks are not kept
     /// and each cell is the fill value's.
-    pub(crate) fn text_of(
+    pub(crate) fn value_of(
         &self,
         alloc: Global,
         chunk: &Chunk,
-        data: &ArrayBytes<'_>,
+        chunk_data: &ArrayBytes<'_>,
         options: &CodecOptions,
     ) -> Result<Option<Vec<u8>>, ArrayError>
-        requires { chunk.now.count ≡ position_count (box_of chunk.now.region).shape }
-        ensures text { IfOk result
-            (λ text. HasText (layout_of_parts self.now) (stores_empty_chunks options.now)
-            (box_of chunk.now.region) (data_of «data».now) (option_map (λ v. v.items) text)) }
+        ensures value { IfOk result
+            (λ value. HasValue (layout_of_parts self.now) (stores_empty_chunks options.now)
+            (box_of chunk.now.region) (data_of chunk_data.now) (option_map (λ v. v.items) value)) }
         ensures accepted { OnOk result
             (data_refusal (layout_of_parts self.now) (stores_empty_chunks options.now)
-            (box_of chunk.now.region).shape (cells (kind self.now.data_type) (data_of «data».now)) ≡ None) }
+            (box_of chunk.now.region).shape (cells (kind self.now.data_type) (data_of chunk_data.now)) ≡ None) }
         ensures refused { IfErr result
-            (λ e. IsRefusal (data_refusal (layout_of_parts self.now)
+            (λ e. RefusesBy (data_refusal (layout_of_parts self.now)
             (stores_empty_chunks options.now) (box_of chunk.now.region).shape
-            (cells (kind self.now.data_type) (data_of «data».now))) ⊥ (refusal_of e)) }
+            (cells (kind self.now.data_type) (data_of chunk_data.now))) (refusal_of e)) }
     {
-        if !data.validate(&self.data_type, chunk.count) {
+        if !chunk_data.validate(&self.data_type, chunk.count) {
             return Err(ArrayError::CodecError(CodecError::DoesNotFit));
         }
-        if !options.store_empty_chunks() && data.is_fill_value(&self.data_type, &self.fill_value) {
+        if !options.store_empty_chunks()
+            && chunk_data.is_fill_value(&self.data_type, &self.fill_value)
+        {
             return Ok(None);
         }
         let shape = chunk.region.shape();
-        let text = self.chain.encode(
+        let encoded = self.chain.encode(
             alloc,
-            data,
+            chunk_data,
             &self.data_type,
             &self.fill_value,
             shape,
             options,
         )?;
-        Ok(Some(text))
+        Ok(Some(encoded))
     }
 
     /// The cells of the bytes of the chunk with these indices.
     pub(crate) fn decode(
         &self,
         alloc: Global,
-        indices: &[u64],
-        text: &[u8],
+        chunk_indices: &[u64],
+        encoded: &[u8],
     ) -> Result<ArrayBytes<'static>, ArrayError>
         ensures cells { IfOk result (λ made. cells (kind self.now.data_type) (data_of made)
             ≡ decoded_cells (layout_of_parts self.now)
-            (box_at (G.grid self.now.grid) indices.now) text.now) }
+            (box_at (G.grid self.now.grid) chunk_indices.now) encoded.now) }
         ensures accepted { OnOk result
-            (read_refusal (layout_of_parts self.now) true indices.now (Some text.now) ≡ None) }
+            (read_refusal (layout_of_parts self.now) true chunk_indices.now (Some encoded.now) ≡ None) }
         ensures refused { IfErr result
-            (λ e. IsRefusal (read_refusal (layout_of_parts self.now) true indices.now
-            (Some text.now)) ⊥ (refusal_of e)) }
+            (λ e. RefusesBy (read_refusal (layout_of_parts self.now) true chunk_indices.now
+            (Some encoded.now)) (refusal_of e)) }
     {
-        let chunk = self.chunk(alloc, indices)?;
+        let chunk = self.chunk(alloc, chunk_indices)?;
         let shape = chunk.region.shape();
         let data = self
             .chain
-            .decode(alloc, text, &self.data_type, &self.fill_value, shape)?;
+            .decode(alloc, encoded, &self.data_type, &self.fill_value, shape)?;
         Ok(data)
     }
 
-    /// The cells of the chunk with these indices where it is absent.
+    /// The cells of the chunk with these indices if it is absent.
     pub(crate) fn fill(
         &self,
         alloc: Global,
-        indices: &[u64],
+        chunk_indices: &[u64],
     ) -> Result<ArrayBytes<'static>, ArrayError>
         ensures cells { IfOk result (λ made. cells (kind self.now.data_type) (data_of made)
-            ≡ Some (replicate (position_count (box_at (G.grid self.now.grid) indices.now).shape)
+            ≡ Some (replicate (position_count (box_at (G.grid self.now.grid) chunk_indices.now).shape)
             (layout_of_parts self.now).fill)) }
         ensures accepted { OnOk result
-            (read_refusal (layout_of_parts self.now) true indices.now None ≡ None) }
+            (read_refusal (layout_of_parts self.now) true chunk_indices.now None ≡ None) }
         ensures refused { IfErr result
-            (λ e. IsRefusal (read_refusal (layout_of_parts self.now) true indices.now None) ⊥
+            (λ e. RefusesBy (read_refusal (layout_of_parts self.now) true chunk_indices.now None)
             (refusal_of e)) }
     {
-        let chunk = self.chunk(alloc, indices)?;
+        let chunk = self.chunk(alloc, chunk_indices)?;
         match ArrayBytes::new_fill_value(alloc, &self.data_type, chunk.count, &self.fill_value) {
             Ok(data) => Ok(data),
             Err(DataTypeFillValueError::UnsupportedType) => {
@@ -185,5 +191,15 @@ impl<G: ChunkGridTraits, K: ChunkKeyEncodingTraits, C: ChainTraits> Parts<G, K, 
             }
             Err(DataTypeFillValueError::OutOfMemory) => Err(ArrayError::OutOfMemory),
         }
+    }
+}
+
+/// The refusal of these chunk indices.
+pub(crate) fn invalid_indices(alloc: Global, chunk_indices: &[u64]) -> ArrayError
+    ensures { RefusesIndices chunk_indices.now result }
+{
+    match chunk_indices.to_vec(alloc) {
+        Ok(indices) => ArrayError::InvalidChunkGridIndicesError(indices),
+        Err(_) => ArrayError::OutOfMemory,
     }
 }

@@ -1,4 +1,4 @@
--- A `Map` beside the members that it stands for, and members by name.
+-- A `Map` and the members that it is seen as, and members by name.
 use Rattle.std.proofs.Common.{◌≡◌, ℕ, ◌↔◌, List, [], ◌∷◌, length, Some, Ordering, Less, Equal, Greater, string_bytes, string_cmp, nat_cmp, is_eq, Bool, true, false, IsTrue, refl, sym, ap, ◌∙◌, subst, arith}
 use Rattle.std.proofs.lemmas.Map.Text.{is_eq-slice_cmp}
 use Rattle.std.proofs.lemmas.Slice.Eq.{bytes_eq-Decides}
@@ -33,7 +33,7 @@ members_view-clone [] (f ∷ fs) h = absurd h
 members_view-clone (e ∷ es) [] h = absurd h
 members_view-clone (e ∷ es) (f ∷ fs) h = rw (h.0.0, h.0.1, members_view-clone es fs h.1)
 
--- no key is `name`, where it is below them all
+-- no key is `name`, if it is below them all
 besides_below : (name : List ℕ) (es : List Entry) → AllByRecursion (λ k. slice_cmp nat_cmp name (string_bytes k) ≡ Less) (keys_of es) → besides (name ∷ []) (members_view es) ≡ members_view es
 besides_below name [] h = refl
 besides_below name (e ∷ es) h = rw (h.0, besides_below name es h.1)

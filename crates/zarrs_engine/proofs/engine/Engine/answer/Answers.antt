@@ -1,39 +1,52 @@
-use Rattle.std.proofs.Common.{List, ℕ, ap, sym, ◌∙◌, subst, arith}
+use Rattle.std.proofs.Common.{◌≡◌, ◌∙◌, sym, length, List, ℕ, refl, subst, arith, option_map}
+use Rattle.zarrs_subset.specs.Regions.{box_of}
+use Rattle.zarrs_data_type.specs.ArrayData.{data_of}
+use Rattle.zarrs_steps.specs.Refusals.{refusal_of}
+use Rattle.zarrs_steps.specs.Changes.{RetrievesChunk, RetrievesIfExists}
 use Rattle.zarrs_engine.specs.Engine.{layout_of}
-use Rattle.zarrs_engine.specs.Refusals.{Refusal, refusal_of, refusal_of_storage}
-use Rattle.zarrs_engine.specs.Step.{EraseRefused}
-use Rattle.zarrs_engine.specs.Puts.{RefusesIndices}
-use Rattle.zarrs_engine.proofs.RefusalLemmas.{leaves_all, storage_said}
-use Rattle.zarrs_engine.proofs.StepLemmas.{refuses_length}
-use Rattle.zarrs_engine.proofs.RunLemmas.{chunk_among}
+use Rattle.zarrs_engine.specs.Parts.{RefusesIndices}
+use Rattle.zarrs_engine.proofs.Chunks.{refuses_length, retrieved_length, found_length}
+use Rattle.zarrs_engine.proofs.Writes.{erase_refused}
+use Rattle.zarrs_engine.proofs.Ranges.{range_refused}
 use Rattle.zarrs_engine.proofs.engine.Engine.answer.Goals as goal
 
 pub returns-then-len-dimensionality-clause-step : goal.returns-then-len-dimensionality-clause-step
 returns-then-len-dimensionality-clause-step g c =
     let layout = layout_of c.args.self.now in
     let state = g.S.ReadableStorageTraits.state c.args.self.now.storage in
-    let index = c.in-EraseChunk.indices in
+    let index = c.in-EraseChunk.chunk_indices in
     let e = c.invalid_indices.result in
-    rw c.in-EraseChunk.is (leaves_all _ state (refuses_length layout index.items _ e
-    (λ long. c.if-len-dimensionality.true (omega (arith, long, index.ok.0, c.len.ensures, c.dimensionality.ensures)))
-    (subst (λ (i : List ℕ). RefusesIndices i e) c.deref-then-len-dimensionality.ensures.value c.invalid_indices.ensures)))
+    rw c.in-EraseChunk.is (
+      refl,
+      erase_refused layout index.items state (refusal_of e) (refuses_length layout index.items e
+          (λ long. c.if-len-dimensionality.true (omega (arith, long, index.ok.0, c.len.ensures, c.dimensionality.ensures)))
+          (subst (λ (i : List ℕ). RefusesIndices i e) c.deref-then-len-dimensionality.ensures.value c.invalid_indices.ensures)),
+    )
 
-pub retrieve_chunk_if_exists-requires : goal.retrieve_chunk_if_exists-requires
-retrieve_chunk_if_exists-requires g c =
+pub returns-in-Ok-retrieve_chunk_if_exists-clause-step : goal.returns-in-Ok-retrieve_chunk_if_exists-clause-step
+returns-in-Ok-retrieve_chunk_if_exists-clause-step g c =
     let layout = layout_of c.args.self.now in
-    chunk_among layout c.deref-in-RetrieveChunkIfExists.result.now (g.S.ReadableStorageTraits.state c.args.self.now.storage) c.requires
+    let state = g.S.ReadableStorageTraits.state c.args.self.now.storage in
+    let index = c.in-RetrieveChunkIfExists.chunk_indices.items in
+    let found = option_map data_of c.in-Ok-retrieve_chunk_if_exists.found in
+    let cells = subst (λ (i : List ℕ). RetrievesIfExists layout i found state) c.deref-in-RetrieveChunkIfExists.ensures.value c.in-Ok-retrieve_chunk_if_exists.ensures.cells in
+    rw c.in-RetrieveChunkIfExists.is (refl, (refl, found_length layout index found state cells, cells))
 
-pub retrieve_chunk-requires : goal.retrieve_chunk-requires
-retrieve_chunk-requires g c =
+pub returns-in-Ok-retrieve_chunk-clause-step : goal.returns-in-Ok-retrieve_chunk-clause-step
+returns-in-Ok-retrieve_chunk-clause-step g c =
     let layout = layout_of c.args.self.now in
-    chunk_among layout c.deref-in-RetrieveChunk.result.now (g.S.ReadableStorageTraits.state c.args.self.now.storage) c.requires
+    let state = g.S.ReadableStorageTraits.state c.args.self.now.storage in
+    let index = c.in-RetrieveChunk.chunk_indices.items in
+    let made = data_of c.in-Ok-retrieve_chunk.data in
+    let cells = subst (λ (i : List ℕ). RetrievesChunk layout i made state) c.deref-in-RetrieveChunk.ensures.value c.in-Ok-retrieve_chunk.ensures.cells in
+    rw c.in-RetrieveChunk.is (refl, (refl, retrieved_length layout index made state cells, cells))
 
-pub returns-in-Err-erase_chunk-clause-step : goal.returns-in-Err-erase_chunk-clause-step
-returns-in-Err-erase_chunk-clause-step g c =
+pub returns-then-dimensionality-clause-step : goal.returns-then-dimensionality-clause-step
+returns-then-dimensionality-clause-step g c =
     let layout = layout_of c.args.self.now in
-    let old = g.S.ReadableStorageTraits.state c.args.self.now.storage in
-    let new = g.S.ReadableStorageTraits.state c.erase_chunk.new.self.storage in
-    let index = c.in-EraseChunk.indices.items in
-    let error = c.in-Err-erase_chunk.error in
-    let refused = subst (λ (i : List ℕ). EraseRefused layout i old new (refusal_of_storage error)) c.deref-in-EraseChunk.ensures.value c.in-Err-erase_chunk.ensures.refused in
-    rw c.in-EraseChunk.is (subst (λ (r : Refusal). EraseRefused layout index old new r) (sym (ap refusal_of c.into.ensures ∙ storage_said error)) refused)
+    let state = g.S.ReadableStorageTraits.state c.args.self.now.storage in
+    let range = box_of c.in-EraseChunks.chunks in
+    let e = c.invalid_indices-then-dimensionality.result in
+    let wrong : length range.start ≡ layout.grid.dimensions → ⊥ = λ long. c.if-dimensionality.true (c.dimensionality-in-EraseChunks.ensures.count ∙ long ∙ sym c.dimensionality-in-EraseChunks-2.ensures) in
+    let said = refuses_length layout range.start e wrong (subst (λ (i : List ℕ). RefusesIndices i e) c.start.ensures c.invalid_indices-then-dimensionality.ensures) in
+    rw c.in-EraseChunks.is (refl, range_refused layout range state (refusal_of e) said)

@@ -2,14 +2,20 @@ use Rattle.std.proofs.Common.{subst, List, ℕ}
 use Rattle.std.proofs.lemmas.Result.{on_ok_weaker}
 use Rattle.std.specs.FinMap as map
 use Rattle.zarrs_storage.specs.Store.{Accepts}
-use Rattle.zarrs_engine.proofs.StoreLemmas.{put_set, put_erase}
+use Rattle.zarrs_engine.proofs.Puts.{put_set, put_erase}
+use Rattle.std.proofs.Common.{rules}
+use Rattle.zarrs_storage.specs.declared.error.StorageError.{StorageError}
+use Rattle.zarrs_storage.specs.Store.{Refuses}
+use Rattle.zarrs_steps.specs.Refusals.{refusal_of_storage}
+use Rattle.zarrs_engine.specs.Parts.{RefusesPut}
+use Rattle.zarrs_engine.proofs.Puts.{put_short, put_refused, any_error}
 use Rattle.zarrs_engine.proofs.engine.Engine.put.Goals as goal
 
 pub returns-in_ok-value-in-Some-clause-done : goal.returns-in_ok-value-in-Some-clause-done
 returns-in_ok-value-in-Some-clause-done g c =
     let old = g.S.ReadableStorageTraits.state c.args.self.now.storage in
     let new = g.S.ReadableStorageTraits.state c.set.new.self in
-    rw c.in-Some.is (on_ok_weaker c.set.result (λ a. put_set c.args.key.now c.in-Some.text.items old new
+    rw c.in-Some.is (on_ok_weaker c.set.result (λ a. put_set c.args.key.now c.in-Some.value.items old new
     (subst (λ (v : List ℕ). Accepts old new (map.insert old.values c.args.key.now v)) c.in_ok-value-in-Some.ensures.ok a)) c.set.ensures.ok)
 
 pub returns-in-None-clause-done : goal.returns-in-None-clause-done
@@ -17,3 +23,20 @@ returns-in-None-clause-done g c =
     let old = g.S.ReadableStorageTraits.state c.args.self.now.storage in
     let new = g.S.ReadableStorageTraits.state c.erase.new.self in
     rw c.in-None.is (on_ok_weaker c.erase.result (put_erase c.args.key.now old new) c.erase.ensures.ok)
+
+pub returns-in_err-value-in-Some-clause-refused : goal.returns-in_err-value-in-Some-clause-refused
+returns-in_err-value-in-Some-clause-refused g c =
+    let why = put_short (g.S.ReadableStorageTraits.state c.args.self.now.storage) in
+    search (rules, why)
+
+pub returns-in_ok-value-in-Some-clause-refused : goal.returns-in_ok-value-in-Some-clause-refused
+returns-in_ok-value-in-Some-clause-refused g c =
+    let old = g.S.ReadableStorageTraits.state c.args.self.now.storage in
+    let new = g.S.ReadableStorageTraits.state c.set.new.self in
+    any_error c.set.result (Refuses old new) (λ (e : StorageError). RefusesPut (refusal_of_storage e) old new) (λ e r. put_refused e old new r) c.set.ensures.refused
+
+pub returns-in-None-clause-refused : goal.returns-in-None-clause-refused
+returns-in-None-clause-refused g c =
+    let old = g.S.ReadableStorageTraits.state c.args.self.now.storage in
+    let new = g.S.ReadableStorageTraits.state c.erase.new.self in
+    any_error c.erase.result (Refuses old new) (λ (e : StorageError). RefusesPut (refusal_of_storage e) old new) (λ e r. put_refused e old new r) c.erase.ensures.refused

@@ -1,13 +1,18 @@
-use Rattle.std.proofs.Common.{◌≡◌, ap, sym, ◌∙◌, Some, replicate}
+use Rattle.std.proofs.Common.{◌≡◌, ap, sym, ◌∙◌, true, None, Some, replicate}
 use Rattle.zarrs_subset.specs.Boxes.{position_count}
 use Rattle.zarrs_chunk_grid.specs.Grids.{box_at}
 use Rattle.zarrs_data_type.specs.declared.array_bytes.ArrayBytes.{ArrayBytes}
 use Rattle.zarrs_data_type.specs.ArrayData.{data_of}
 use Rattle.zarrs_data_type.specs.Cells.{cells}
 use Rattle.zarrs_engine.specs.Engine.{layout_of}
-use Rattle.zarrs_engine.specs.Content.{decoded_cells}
-use Rattle.zarrs_engine.specs.Changes.{RetrievesChunk}
-use Rattle.zarrs_engine.proofs.StepLemmas.{both_ok, retrieved, retrieved_fill}
+use Rattle.zarrs_steps.specs.Content.{decoded_cells}
+use Rattle.zarrs_steps.specs.Changes.{RetrievesChunk}
+use Rattle.zarrs_engine.proofs.Chunks.{both_ok, retrieved, retrieved_fill}
+use Rattle.zarrs_steps.specs.declared.error.ArrayError.{ArrayError}
+use Rattle.zarrs_steps.specs.Refusals.{RefusesBy, refusal_of, read_refusal, length_refusal}
+use Rattle.zarrs_steps.specs.StateRefusals.{RefusesChunkRead}
+use Rattle.zarrs_engine.proofs.Chunks.{read_refused_then}
+use Rattle.zarrs_engine.proofs.Puts.{each_error}
 use Rattle.zarrs_engine.proofs.engine.Engine.retrieve_chunk.Goals as goal
 
 pub returns-in-Some-clause-cells : goal.returns-in-Some-clause-cells
@@ -15,18 +20,37 @@ returns-in-Some-clause-cells g c =
     let layout = layout_of c.args.self.now in
     let lawful = c.args.self.now.parts.lawful in
     let state = g.S.ReadableStorageTraits.state c.args.self.now.storage in
-    let index = c.args.indices.now in
-    let text = c.deref.result.now in
-    let at = ap Some c.deref.ensures ∙ sym c.in-Some.is ∙ c.in_ok-text.ensures.value in
-    both_ok c.decode.result (λ (made : ArrayBytes). cells layout.kind (data_of made) ≡ decoded_cells layout (box_at layout.grid index) text) (λ (made : ArrayBytes). RetrievesChunk layout index (data_of made) state) _
-    (λ made none is. retrieved layout lawful index (data_of made) state text at none is) c.decode.ensures.accepted c.decode.ensures.cells
+    let index = c.args.chunk_indices.now in
+    let encoded = c.deref.result.now in
+    let at = ap Some c.deref.ensures ∙ sym c.in-Some.is ∙ c.in_ok-encoded.ensures.value in
+    both_ok c.decode.result (λ (made : ArrayBytes). cells layout.kind (data_of made) ≡ decoded_cells layout (box_at layout.grid index) encoded) (λ (made : ArrayBytes). RetrievesChunk layout index (data_of made) state) _
+    (λ made none is. retrieved layout lawful index (data_of made) state encoded at none is) c.decode.ensures.accepted c.decode.ensures.cells
 
 pub returns-in-None-clause-cells : goal.returns-in-None-clause-cells
 returns-in-None-clause-cells g c =
     let layout = layout_of c.args.self.now in
     let lawful = c.args.self.now.parts.lawful in
     let state = g.S.ReadableStorageTraits.state c.args.self.now.storage in
-    let index = c.args.indices.now in
-    let at = sym c.in-None.is ∙ c.in_ok-text.ensures.value in
+    let index = c.args.chunk_indices.now in
+    let at = sym c.in-None.is ∙ c.in_ok-encoded.ensures.value in
     both_ok c.fill.result (λ (made : ArrayBytes). cells layout.kind (data_of made) ≡ Some (replicate (position_count (box_at layout.grid index).shape) layout.fill)) (λ (made : ArrayBytes). RetrievesChunk layout index (data_of made) state) _
     (λ made none is. retrieved_fill layout lawful index (data_of made) state at none is) c.fill.ensures.accepted c.fill.ensures.cells
+
+pub returns-in-Some-clause-refused : goal.returns-in-Some-clause-refused
+returns-in-Some-clause-refused g c =
+    let layout = layout_of c.args.self.now in
+    let state = g.S.ReadableStorageTraits.state c.args.self.now.storage in
+    let index = c.args.chunk_indices.now in
+    let encoded = c.deref.result.now in
+    let at = ap Some c.deref.ensures ∙ sym c.in-Some.is ∙ c.in_ok-encoded.ensures.value in
+    each_error c.decode.result (λ (e : ArrayError). RefusesBy (read_refusal layout true index (Some encoded)) (refusal_of e)) (λ (e : ArrayError). RefusesChunkRead layout (length_refusal layout index) true index state (refusal_of e))
+    (λ e h. read_refused_then layout true index (Some encoded) state (refusal_of e) c.in_ok-encoded.ensures.long c.in_ok-encoded.ensures.asked at h) c.decode.ensures.refused
+
+pub returns-in-None-clause-refused : goal.returns-in-None-clause-refused
+returns-in-None-clause-refused g c =
+    let layout = layout_of c.args.self.now in
+    let state = g.S.ReadableStorageTraits.state c.args.self.now.storage in
+    let index = c.args.chunk_indices.now in
+    let at = sym c.in-None.is ∙ c.in_ok-encoded.ensures.value in
+    each_error c.fill.result (λ (e : ArrayError). RefusesBy (read_refusal layout true index None) (refusal_of e)) (λ (e : ArrayError). RefusesChunkRead layout (length_refusal layout index) true index state (refusal_of e))
+    (λ e h. read_refused_then layout true index None state (refusal_of e) c.in_ok-encoded.ensures.long c.in_ok-encoded.ensures.asked at h) c.fill.ensures.refused

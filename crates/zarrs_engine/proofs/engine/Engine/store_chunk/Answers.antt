@@ -1,39 +1,37 @@
 use Rattle.std.proofs.Common.{rules, subst, option_map}
 use Rattle.zarrs_subset.specs.Regions.{Box}
-use Rattle.zarrs_chunk_grid.specs.Grids.{box_at}
 use Rattle.zarrs_data_type.specs.ArrayData.{data_of}
 use Rattle.zarrs_data_type.specs.Cells.{cells}
 use Rattle.zarrs_codec.specs.Options.{stores_empty_chunks}
+use Rattle.zarrs_steps.specs.Refusals.{RefusesBy, refusal_of, data_refusal}
 use Rattle.zarrs_engine.specs.Engine.{layout_of}
-use Rattle.zarrs_engine.specs.Puts.{HasText}
-use Rattle.zarrs_engine.specs.Refusals.{IsRefusal, refusal_of, box_refusal, data_refusal}
-use Rattle.zarrs_engine.proofs.RefusalLemmas.{refused_first, refused_second, box_accepted}
-use Rattle.zarrs_engine.proofs.StoreLemmas.{stored_chunk}
-use Rattle.zarrs_engine.proofs.StepLemmas.{store_refused}
+use Rattle.zarrs_engine.specs.Parts.{HasValue}
+use Rattle.zarrs_engine.proofs.Writes.{box_refused, data_refused, stored_chunk}
+use Rattle.std.proofs.Common.{◌≡◌, None, Option, List, sym}
+use Rattle.zarrs_chunk_grid.specs.Grids.{box_at}
+use Rattle.zarrs_data_type.specs.Cell.{Cell}
+use Rattle.zarrs_steps.specs.Refusals.{Refusal, refusal_of_storage}
+use Rattle.zarrs_steps.specs.Step.{RefusesStoreChunk}
+use Rattle.zarrs_steps.proofs.RefusalLemmas.{storage_said}
+use Rattle.zarrs_engine.proofs.Writes.{short_of_memory, store_failed}
 use Rattle.zarrs_engine.proofs.engine.Engine.store_chunk.Goals as goal
 
 pub returns-in_err-chunk-clause-refused : goal.returns-in_err-chunk-clause-refused
 returns-in_err-chunk-clause-refused g c =
     let layout = layout_of c.args.self.now in
-    let keep = stores_empty_chunks c.args.options.now in
-    let index = c.args.indices.now in
-    let held = data_of c.args.«data».now in
-    let refused = refusal_of c.in_err-chunk.field-0.0 in
-    let why = store_refused layout keep index held (g.S.ReadableStorageTraits.state c.args.self.now.storage) refused
-    (refused_first (box_refusal layout index) (data_refusal layout keep (box_at layout.grid index).shape (cells layout.kind held)) ⊥ ⊥ refused (λ x. x) c.in_err-chunk.ensures.refused) in
+    let why = box_refused layout (stores_empty_chunks c.args.options.now) c.args.chunk_indices.now (data_of c.args.chunk_data.now)
+    (g.S.ReadableStorageTraits.state c.args.self.now.storage) (refusal_of c.in_err-chunk.field-0.0) c.in_err-chunk.ensures.refused in
     search (rules, why)
 
-pub returns-in_err-text-clause-refused : goal.returns-in_err-text-clause-refused
-returns-in_err-text-clause-refused g c =
+pub returns-in_err-value-clause-refused : goal.returns-in_err-value-clause-refused
+returns-in_err-value-clause-refused g c =
     let layout = layout_of c.args.self.now in
-    let state = g.S.ReadableStorageTraits.state c.args.self.now.storage in
     let keep = stores_empty_chunks c.args.options.now in
-    let index = c.args.indices.now in
-    let held = data_of c.args.«data».now in
-    let refused = refusal_of c.in_err-text.field-0.0 in
-    let data_of_chunk = subst (λ (box : Box). IsRefusal (data_refusal layout keep box.shape (cells layout.kind held)) ⊥ refused) c.in_ok-chunk.ensures.region c.in_err-text.ensures.refused in
-    let why = store_refused layout keep index held state refused
-    (refused_second (box_refusal layout index) (data_refusal layout keep (box_at layout.grid index).shape (cells layout.kind held)) ⊥ ⊥ refused c.in_ok-chunk.ensures.accepted (λ x. x) data_of_chunk) in
+    let index = c.args.chunk_indices.now in
+    let held = data_of c.args.chunk_data.now in
+    let refused = refusal_of c.in_err-value.field-0.0 in
+    let why = data_refused layout keep index held c.in_ok-chunk.ensures.accepted (g.S.ReadableStorageTraits.state c.args.self.now.storage) refused
+    (subst (λ (box : Box). RefusesBy (data_refusal layout keep box.shape (cells layout.kind held)) refused) c.in_ok-chunk.ensures.region c.in_err-value.ensures.refused) in
     search (rules, why)
 
 pub returns-clause-done : goal.returns-clause-done
@@ -43,9 +41,30 @@ returns-clause-done g c =
     let old = g.S.ReadableStorageTraits.state c.args.self.now.storage in
     let new = g.S.ReadableStorageTraits.state c.put.new.self.storage in
     let keep = stores_empty_chunks c.args.options.now in
-    let index = c.args.indices.now in
-    let held = data_of c.args.«data».now in
-    let text = option_map (λ v. v.items) c.in_ok-text.text in
-    let has = (box_accepted layout index c.in_ok-chunk.ensures.accepted).0 in
-    stored_chunk layout lawful index keep has c.in_ok-key.key held text old new c.in_ok-key.ensures.key c.in_ok-put.ensures.done
-    (subst (λ (box : Box). HasText layout keep box held text) c.in_ok-chunk.ensures.region c.in_ok-text.ensures.text)
+    let index = c.args.chunk_indices.now in
+    let held = data_of c.args.chunk_data.now in
+    let value = option_map (λ v. v.items) c.in_ok-value.value in
+    stored_chunk layout lawful keep index held c.in_ok-key.key value old new c.in_ok-chunk.ensures.accepted c.in_ok-key.ensures.key
+    (subst (λ (box : Box). HasValue layout keep box held value) c.in_ok-chunk.ensures.region c.in_ok-value.ensures.value) c.in_ok-put.ensures.done
+
+pub returns-in_err-key-clause-refused : goal.returns-in_err-key-clause-refused
+returns-in_err-key-clause-refused g c =
+    let why = short_of_memory (layout_of c.args.self.now) (stores_empty_chunks c.args.options.now) c.args.chunk_indices.now (data_of c.args.chunk_data.now) (g.S.ReadableStorageTraits.state c.args.self.now.storage) in
+    search (rules, why)
+
+pub returns-in_err-put-clause-refused : goal.returns-in_err-put-clause-refused
+returns-in_err-put-clause-refused g c =
+    let layout = layout_of c.args.self.now in
+    let old = g.S.ReadableStorageTraits.state c.args.self.now.storage in
+    let new = g.S.ReadableStorageTraits.state c.put.new.self.storage in
+    let keep = stores_empty_chunks c.args.options.now in
+    let index = c.args.chunk_indices.now in
+    let held = data_of c.args.chunk_data.now in
+    let value = option_map (λ v. v.items) c.in_ok-value.value in
+    let h = subst (λ (box : Box). HasValue layout keep box held value) c.in_ok-chunk.ensures.region c.in_ok-value.ensures.value in
+    let none = subst (λ (box : Box). data_refusal layout keep box.shape (cells layout.kind held) ≡ None) c.in_ok-chunk.ensures.region c.in_ok-value.ensures.accepted in
+    let none_of_chunk = subst (λ (o : Option (List Cell)). data_refusal layout keep (box_at layout.grid index).shape o ≡ None) h.is_chunk none in
+    let e = c.in_err-put.field-0.0 in
+    let why = store_failed layout keep index held c.in_ok-chunk.ensures.accepted h.chunk h.is_chunk h.count old new (refusal_of_storage e) none_of_chunk c.in_err-put.ensures.refused in
+    let said = subst (λ (r : Refusal). RefusesStoreChunk layout keep index held r old new) (sym (storage_said e)) why in
+    search (rules, said)

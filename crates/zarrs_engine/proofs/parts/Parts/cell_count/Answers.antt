@@ -3,7 +3,7 @@ use Rattle.std.specs.Prelude.{unwrap_or}
 use Rattle.zarrs_data_type.specs.Kind.{kind, cell_size}
 use Rattle.zarrs_data_type.proofs.Sizes.{cell_size-positive}
 use Rattle.zarrs_engine.specs.Engine.{layout_of_parts}
-use Rattle.zarrs_engine.proofs.RefusalLemmas.{large_count, large_size, small_size, cell_size_is}
+use Rattle.zarrs_steps.proofs.RefusalLemmas.{large_count, large_size, small_size, cell_size_is}
 use Rattle.zarrs_engine.proofs.parts.Parts.cell_count.Goals as goal
 
 pub returns-in_default-clause-large : goal.returns-in_default-clause-large

@@ -1,0 +1,29 @@
+//! The program `zarrs_bench`: with the argument `run` it measures the crates against plain loops over slices, and prints
+//! a table of ratios. Without it, it prints how to run it.
+#![tactic(auto)]
+
+mod chunks;
+mod copies;
+mod fills;
+mod measure;
+mod walks;
+
+use anyhow::Result;
+use std::env;
+
+fn main(rt: HostRuntime) -> Result<()> {
+    match env::args(&rt)?.nth(1) {
+        Some(word) if word.as_str() == "run" => run(&rt)?,
+        _ => println!(rt; "`rt run -- run` measures, and prints a table of ratios")?,
+    }
+    Ok(())
+}
+
+/// Measures everything.
+fn run(rt: &HostRuntime) -> Result<()> {
+    measure::heading(rt)?;
+    fills::print_rows(rt)?;
+    copies::print_rows(rt)?;
+    walks::print_rows(rt)?;
+    chunks::print_rows(rt)
+}

@@ -1,0 +1,60 @@
+use Rattle.std.proofs.Common.{◌≡◌, ◌+◌, Bool, [], ◌∷◌, ◌++◌, take, sym, ◌∙◌, ap, subst, arith}
+use Rattle.std.proofs.lemmas.List.{take_more}
+use Rattle.zarrs_codec.specs.Options.{stores_empty_chunks}
+use Rattle.zarrs_steps.specs.Layout.{Layout}
+use Rattle.zarrs_steps.specs.Reach.{MayAskCall}
+use Rattle.zarrs_steps.specs.Step.{Step, Run}
+use Rattle.zarrs_steps.proofs.Steps.{run_keeps, run_decodes, step_reach}
+use Rattle.zarrs_steps.proofs.Runs.{run_push, ask_later, reach_then}
+use Rattle.zarrs_engine.specs.Engine.{layout_of, state_of}
+use Rattle.zarrs_engine.proofs.engine.calls.replay.Goals as goal
+
+pub answer-reply-requires : goal.answer-reply-requires
+answer-reply-requires g c =
+    let i = c.loop-call.invariant in
+    let old = state_of g.S.ReadableStorageTraits.state c.args.engine.now in
+    let mid = state_of g.S.ReadableStorageTraits.state c.loop-call.engine in
+    let call = c.call-item.result in
+    let asked = ask_later (layout_of c.args.engine.now) call old mid i.shape i.reach (c.requires call (c.loop-call.call-index, c.loop-call-test.true, sym c.call-item.is)) in
+    subst (λ (layout : Layout). MayAskCall layout call mid) (sym i.layout) asked
+
+pub loop-call-preserved : goal.loop-call-preserved
+loop-call-preserved g c =
+    let i = c.loop-call.invariant in
+    let s = c.answer-reply.ensures in
+    let p = c.push_reserved.ensures in
+    let keep = stores_empty_chunks c.args.options.now in
+    let calls = c.args.calls.now in
+    let n = c.loop-call.call-index in
+    let layout = layout_of c.args.engine.now in
+    let old = state_of g.S.ReadableStorageTraits.state c.args.engine.now in
+    let mid = state_of g.S.ReadableStorageTraits.state c.loop-call.engine in
+    let new = state_of g.S.ReadableStorageTraits.state c.answer-reply.new.self in
+    let call = c.call-item.result in
+    let more : take (n + 1) calls ≡ take n calls ++ call ∷ [] = take_more calls n call c.loop-call-test.true ∙ ap (λ x. take n calls ++ x ∷ []) (sym c.call-item.is) in
+    let step = subst (λ (layout : Layout). Step layout keep call c.answer-reply.result mid new) i.layout s.step in
+    record {
+      run = rw (more, p.items) (run_push layout keep _ _ call c.answer-reply.result old mid new i.run step);
+      layout = s.layout ∙ i.layout;
+      reach = reach_then old.store mid.store new.store i.reach (step_reach layout keep _ _ mid new step);
+      shape = step.0 ∙ i.shape;
+      count = omega arith;
+      room = omega arith;
+    }
+
+pub returns-clause-canonical : goal.returns-clause-canonical
+returns-clause-canonical g c =
+    let i = c.loop-call.invariant in
+    let layout = layout_of c.args.engine.now in
+    let old = state_of g.S.ReadableStorageTraits.state c.args.engine.now in
+    let new = state_of g.S.ReadableStorageTraits.state c.loop-call.engine in
+    let calls = take c.loop-call.call-index c.args.calls.now in
+    λ off canon. run_keeps layout c.args.engine.now.parts.lawful calls c.loop-call.replies.items old new
+    (subst (λ (keep : Bool). Run layout keep calls c.loop-call.replies.items old new) off i.run) canon
+
+pub returns-clause-decodes : goal.returns-clause-decodes
+returns-clause-decodes g c =
+    let i = c.loop-call.invariant in
+    let old = state_of g.S.ReadableStorageTraits.state c.args.engine.now in
+    let new = state_of g.S.ReadableStorageTraits.state c.loop-call.engine in
+    run_decodes (layout_of c.args.engine.now) c.args.engine.now.parts.lawful (stores_empty_chunks c.args.options.now) (take c.loop-call.call-index c.args.calls.now) c.loop-call.replies.items old new i.run

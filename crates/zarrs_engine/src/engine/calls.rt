@@ -1,0 +1,113 @@
+//! Lists of calls.
+ghost use Rattle.std.specs.Prelude.{◌≡◌, false, IfOk, OnErr};
+ghost use Rattle.zarrs_codec.specs.Options.{stores_empty_chunks};
+ghost use Rattle.zarrs_storage.specs.Store.{KeepsReach};
+ghost use Rattle.zarrs_steps.specs.Content.{value_at};
+ghost use Rattle.zarrs_steps.specs.Reach.{MayAskCalls};
+ghost use Rattle.zarrs_steps.specs.Step.{Run};
+ghost use Rattle.zarrs_steps.specs.Canon.{IsCanonical};
+ghost use Rattle.zarrs_steps.specs.Laws.{EachDecodes};
+ghost use Rattle.zarrs_engine.specs.Engine.{layout_of, store_of, state_of};
+
+use super::Engine;
+use std::alloc::{AllocError, Global};
+use zarrs_chunk_grid::ChunkGridTraits;
+use zarrs_codec::{ChainTraits, CodecOptions};
+use zarrs_keys::ChunkKeyEncodingTraits;
+use zarrs_steps::{Call, Reply};
+use zarrs_storage::WritableStorageTraits;
+
+/// Makes the calls in turn, whether earlier ones were refused or not, and returns the reply to each.
+///
+/// # Errors
+/// If the list of replies finds no memory. Nothing was called then.
+pub fn replay<
+    S: WritableStorageTraits,
+    G: ChunkGridTraits,
+    K: ChunkKeyEncodingTraits,
+    C: ChainTraits,
+>(
+    alloc: Global,
+    engine: &mut Engine<S, G, K, C>,
+    calls: &[Call],
+    options: &CodecOptions,
+) -> Result<Vec<Reply>, AllocError>
+    requires { MayAskCalls (layout_of engine.old) calls.now (state_of S.state engine.old) }
+    ensures run { IfOk result (λ replies.
+        Run (layout_of engine.old) (stores_empty_chunks options.now) calls.now replies.items
+        (state_of S.state engine.old) (state_of S.state engine.new)) }
+    ensures untouched { OnErr result (engine.new ≡ engine.old) }
+    ensures layout { layout_of engine.new ≡ layout_of engine.old }
+    ensures reach { KeepsReach (store_of S.state engine.old) (store_of S.state engine.new) }
+    // If empty chunks are not kept, the bytes of a canonical store stay a function of its content.
+    ensures canonical { stores_empty_chunks options.now ≡ false
+        → IsCanonical (layout_of engine.old) (value_at (store_of S.state engine.old))
+        → IsCanonical (layout_of engine.old) (value_at (store_of S.state engine.new)) }
+    ensures decodes { EachDecodes (layout_of engine.old) (store_of S.state engine.old)
+        → EachDecodes (layout_of engine.old) (store_of S.state engine.new) }
+{
+    let mut replies = Vec::with_capacity(alloc, calls.len())?;
+    for call in calls {
+        let reply = engine.answer(alloc, call, options);
+        replies.push_reserved(reply);
+    }
+    Ok(replies)
+}
+
+impl<
+    S: WritableStorageTraits,
+    G: ChunkGridTraits,
+    K: ChunkKeyEncodingTraits,
+    C: ChainTraits,
+> Engine<S, G, K, C> {
+    ghost use Rattle.std.specs.Prelude.{◌≡◌};
+    ghost use Rattle.zarrs_codec.specs.Options.{stores_empty_chunks};
+    ghost use Rattle.zarrs_steps.specs.Reach.{MayAskCall};
+    ghost use Rattle.zarrs_steps.specs.Step.{Step};
+    ghost use Rattle.zarrs_engine.specs.Engine.{layout_of, state_of};
+
+    /// Makes one call, and returns the reply.
+    fn answer(&mut self, alloc: Global, call: &Call, options: &CodecOptions) -> Reply
+        requires { MayAskCall (layout_of self.old) call.now (state_of S.state self.old) }
+        ensures step { Step (layout_of self.old) (stores_empty_chunks options.now) call.now result
+            (state_of S.state self.old) (state_of S.state self.new) }
+        ensures layout { layout_of self.new ≡ layout_of self.old }
+    {
+        match call {
+            Call::StoreChunk(chunk_indices, chunk_data) => {
+                match self.store_chunk(alloc, chunk_indices, chunk_data, options) {
+                    Ok(()) => Reply::Done,
+                    Err(error) => Reply::Refused(error),
+                }
+            }
+            Call::EraseChunk(chunk_indices) => {
+                if chunk_indices.len() != self.parts.grid.dimensionality() {
+                    return Reply::Refused(crate::parts::invalid_indices(alloc, chunk_indices));
+                }
+                match self.erase_chunk(alloc, chunk_indices) {
+                    Ok(()) => Reply::Done,
+                    Err(error) => Reply::Refused(error.into()),
+                }
+            }
+            Call::EraseChunks(chunks) => {
+                if chunks.dimensionality() != self.parts.grid.dimensionality() {
+                    return Reply::Refused(crate::parts::invalid_indices(alloc, chunks.start()));
+                }
+                match self.erase_chunks(alloc, chunks) {
+                    Ok(()) => Reply::Done,
+                    Err(error) => Reply::Refused(error.into()),
+                }
+            }
+            Call::RetrieveChunkIfExists(chunk_indices) => {
+                match self.retrieve_chunk_if_exists(alloc, chunk_indices) {
+                    Ok(found) => Reply::MaybeCells(found),
+                    Err(error) => Reply::Refused(error),
+                }
+            }
+            Call::RetrieveChunk(chunk_indices) => match self.retrieve_chunk(alloc, chunk_indices) {
+                Ok(data) => Reply::Cells(data),
+                Err(error) => Reply::Refused(error),
+            },
+        }
+    }
+}

@@ -1,0 +1,111 @@
+//! Reads of one chunk.
+use super::Engine;
+use std::alloc::Global;
+use zarrs_chunk_grid::ChunkGridTraits;
+use zarrs_codec::ChainTraits;
+use zarrs_data_type::ArrayBytes;
+use zarrs_keys::ChunkKeyEncodingTraits;
+use zarrs_steps::ArrayError;
+use zarrs_storage::{Bytes, ReadableStorageTraits};
+
+impl<
+    S: ReadableStorageTraits,
+    G: ChunkGridTraits,
+    K: ChunkKeyEncodingTraits,
+    C: ChainTraits,
+> Engine<S, G, K, C> {
+    ghost use Rattle.std.specs.Prelude.{◌≡◌, true, false, IfOk, IfErr, OnOk, IsErr, None, length, option_map};
+    ghost use Rattle.zarrs_data_type.specs.ArrayData.{data_of};
+    ghost use Rattle.zarrs_steps.specs.Content.{value_at};
+    ghost use Rattle.zarrs_steps.specs.Reach.{MayAskChunk};
+    ghost use Rattle.zarrs_steps.specs.Refusals.{refusal_of, key_refusal, length_refusal};
+    ghost use Rattle.zarrs_steps.specs.Changes.{RetrievesChunk, RetrievesIfExists};
+    ghost use Rattle.zarrs_steps.specs.StateRefusals.{RefusesChunkRead};
+    ghost use Rattle.zarrs_engine.specs.Engine.{layout_of, store_of};
+    ghost use Rattle.zarrs_engine.specs.Parts.{RefusesValue};
+
+    // The bytes that are present at the key of the chunk with these indices.
+    fn stored_bytes(
+        &self,
+        alloc: Global,
+        chunk_indices: &[u64],
+    ) -> Result<Option<Bytes>, ArrayError>
+        requires { MayAskChunk (layout_of self.now) chunk_indices.now (store_of S.state self.now) }
+        ensures value { IfOk result (λ value. value
+            ≡ value_at (store_of S.state self.now) ((layout_of self.now).key chunk_indices.now)) }
+        ensures long { OnOk result (length chunk_indices.now ≡ (layout_of self.now).grid.dimensions) }
+        ensures asked { OnOk result
+            (key_refusal (layout_of self.now) chunk_indices.now (store_of S.state self.now) ≡ None) }
+        ensures refused { IfErr result
+            (λ e. RefusesValue (layout_of self.now) chunk_indices.now (store_of S.state self.now)
+            (refusal_of e)) }
+        ensures refusing { (store_of S.state self.now).refuses
+            ((layout_of self.now).key chunk_indices.now) ≡ true → IsErr result }
+    {
+        if chunk_indices.len() != self.parts.grid.dimensionality() {
+            return Err(crate::parts::invalid_indices(alloc, chunk_indices));
+        }
+        let key = self.parts.chunk_key(alloc, chunk_indices)?;
+        let value = self.storage.get(alloc, &key)?;
+        Ok(value)
+    }
+
+    /// The cells of the chunk with these indices, or `None` if it is absent.
+    ///
+    /// # Errors
+    /// In this order: E3 for another number of indices than dimensions; E7 if the store refuses the key. Then, if the
+    /// chunk is present, E3 for indices without a chunk, E8 for a chunk of more bytes than a `usize` counts, and E4 if
+    /// its bytes do not decode. E9 may come at any time.
+    pub fn retrieve_chunk_if_exists(
+        &self,
+        alloc: Global,
+        chunk_indices: &[u64],
+    ) -> Result<Option<ArrayBytes<'static>>, ArrayError>
+        requires { MayAskChunk (layout_of self.now) chunk_indices.now (store_of S.state self.now) }
+        ensures cells { IfOk result
+            (λ found. RetrievesIfExists (layout_of self.now) chunk_indices.now
+            (option_map data_of found) (store_of S.state self.now)) }
+        ensures refused { IfErr result
+            (λ e. RefusesChunkRead (layout_of self.now)
+            (length_refusal (layout_of self.now) chunk_indices.now) false chunk_indices.now
+            (store_of S.state self.now) (refusal_of e)) }
+        ensures refusing { (store_of S.state self.now).refuses
+            ((layout_of self.now).key chunk_indices.now) ≡ true → IsErr result }
+    {
+        match self.stored_bytes(alloc, chunk_indices)? {
+            Some(encoded) => {
+                let data = self.parts.decode(alloc, chunk_indices, &encoded)?;
+                Ok(Some(data))
+            }
+            None => Ok(None),
+        }
+    }
+
+    /// The cells of the chunk with these indices. An absent chunk is all fill value.
+    ///
+    /// # Errors
+    /// In this order: E3 for another number of indices than dimensions; E7 if the store refuses the key; E3 for
+    /// indices without a chunk; E8 for a chunk of more bytes than a `usize` counts; E4 if its bytes do not decode.
+    /// E9 may come at any time.
+    pub fn retrieve_chunk(
+        &self,
+        alloc: Global,
+        chunk_indices: &[u64],
+    ) -> Result<ArrayBytes<'static>, ArrayError>
+        requires { MayAskChunk (layout_of self.now) chunk_indices.now (store_of S.state self.now) }
+        ensures cells { IfOk result
+            (λ made. RetrievesChunk (layout_of self.now) chunk_indices.now (data_of made)
+            (store_of S.state self.now)) }
+        ensures refused { IfErr result
+            (λ e. RefusesChunkRead (layout_of self.now)
+            (length_refusal (layout_of self.now) chunk_indices.now) true chunk_indices.now
+            (store_of S.state self.now) (refusal_of e)) }
+        ensures refusing { (store_of S.state self.now).refuses
+            ((layout_of self.now).key chunk_indices.now) ≡ true → IsErr result }
+    {
+        match self.stored_bytes(alloc, chunk_indices)? {
+            Some(encoded) => self.parts.decode(alloc, chunk_indices, &encoded),
+            None => self.parts.fill(alloc, chunk_indices),
+        }
+    }
+}

@@ -1,0 +1,132 @@
+//! Writes of chunks.
+use super::Engine;
+use std::alloc::Global;
+use zarrs_chunk_grid::ChunkGridTraits;
+use zarrs_codec::{ChainTraits, CodecOptions};
+use zarrs_data_type::ArrayBytes;
+use zarrs_keys::ChunkKeyEncodingTraits;
+use zarrs_steps::ArrayError;
+use zarrs_storage::{Bytes, StorageError, StoreKey, WritableStorageTraits};
+use zarrs_subset::ArraySubset;
+
+impl<
+    S: WritableStorageTraits,
+    G: ChunkGridTraits,
+    K: ChunkKeyEncodingTraits,
+    C: ChainTraits,
+> Engine<S, G, K, C> {
+    ghost use Rattle.std.specs.Prelude.{◌≡◌, IfErr, OnOk, length, option_map};
+    ghost use Rattle.zarrs_subset.specs.Regions.{box_of};
+    ghost use Rattle.zarrs_data_type.specs.ArrayData.{data_of};
+    ghost use Rattle.zarrs_codec.specs.Options.{stores_empty_chunks};
+    ghost use Rattle.zarrs_steps.specs.Refusals.{refusal_of, refusal_of_storage};
+    ghost use Rattle.zarrs_steps.specs.Changes.{IsPut};
+    ghost use Rattle.zarrs_steps.specs.Step.{StoresChunk, RefusesStoreChunk, ErasesChunk, RefusesEraseChunk, ErasesChunks, RefusesEraseChunks};
+    ghost use Rattle.zarrs_engine.specs.Engine.{layout_of, store_of, KeepsParts};
+    ghost use Rattle.zarrs_engine.specs.Parts.{RefusesPut};
+
+    /// Sets the value at one key, or erases the key, by one writing call of the store.
+    ///
+    /// # Errors
+    /// If the store refuses, and `OutOfMemory`. No value is changed then.
+    pub fn put(
+        &mut self,
+        alloc: Global,
+        key: &StoreKey,
+        value: Option<Vec<u8>>,
+    ) -> Result<(), StorageError>
+        ensures done { OnOk result
+            (IsPut key.now (option_map (λ v. v.items) value) (store_of S.state self.old)
+            (store_of S.state self.new)) }
+        ensures refused { IfErr result
+            (λ e. RefusesPut (refusal_of_storage e) (store_of S.state self.old)
+            (store_of S.state self.new)) }
+        ensures parts { KeepsParts self.old self.new }
+    {
+        match value {
+            Some(value) => {
+                let value = Bytes::from_vec(value)?;
+                self.storage.set(alloc, key, value)
+            }
+            None => self.storage.erase(alloc, key),
+        }
+    }
+
+    /// Stores the cells of the chunk with these indices, by one writing call of the store. If the options do not keep
+    /// empty chunks and each cell is the fill value's, the key is erased.
+    ///
+    /// # Errors
+    /// In this order: E3 for indices without a chunk; E8 for a chunk of more bytes than a `usize` counts; E4 for data
+    /// that is not one cell for each position, each a value of the data type, or that the chain does not take; E8 if
+    /// the bytes pass a size; E7 if the store refuses. E9 may come at any time. Nothing is changed then.
+    pub fn store_chunk(
+        &mut self,
+        alloc: Global,
+        chunk_indices: &[u64],
+        chunk_data: &ArrayBytes<'_>,
+        options: &CodecOptions,
+    ) -> Result<(), ArrayError>
+        ensures done { OnOk result
+            (StoresChunk (layout_of self.old) (stores_empty_chunks options.now) chunk_indices.now
+            (data_of chunk_data.now) (store_of S.state self.old) (store_of S.state self.new)) }
+        ensures refused { IfErr result
+            (λ e. RefusesStoreChunk (layout_of self.old) (stores_empty_chunks options.now)
+            chunk_indices.now (data_of chunk_data.now) (refusal_of e) (store_of S.state self.old)
+            (store_of S.state self.new)) }
+        ensures parts { KeepsParts self.old self.new }
+    {
+        let chunk = self.parts.chunk(alloc, chunk_indices)?;
+        let key = self.parts.chunk_key(alloc, chunk_indices)?;
+        let value = self.parts.value_of(alloc, &chunk, chunk_data, options)?;
+        self.put(alloc, &key, value)?;
+        Ok(())
+    }
+
+    /// Erases the chunk with these indices, whether it is present or not, by one writing call of the store.
+    ///
+    /// # Errors
+    /// If the store refuses, and `OutOfMemory`. Nothing is changed then.
+    pub fn erase_chunk(&mut self, alloc: Global, chunk_indices: &[u64]) -> Result<(), StorageError>
+        requires { length chunk_indices.now ≡ (layout_of self.old).grid.dimensions }
+        ensures done { OnOk result
+            (ErasesChunk (layout_of self.old) chunk_indices.now (store_of S.state self.old)
+            (store_of S.state self.new)) }
+        ensures refused { IfErr result
+            (λ e. RefusesEraseChunk (layout_of self.old) chunk_indices.now (refusal_of_storage e)
+            (store_of S.state self.old) (store_of S.state self.new)) }
+        ensures parts { KeepsParts self.old self.new }
+    {
+        let key = self.parts.chunk_key(alloc, chunk_indices)?;
+        self.put(alloc, &key, None)
+    }
+
+    /// Erases the chunks with the indices in the range, in row-major order, whether they are present or not, each by one
+    /// writing call of the store. An empty range asks nothing of the store.
+    ///
+    /// # Errors
+    /// If the store refuses, and `OutOfMemory`. The chunks before that one are gone then, and no later one.
+    pub fn erase_chunks(
+        &mut self,
+        alloc: Global,
+        chunks: &ArraySubset,
+    ) -> Result<(), StorageError>
+        requires { length (box_of chunks.now).start ≡ (layout_of self.old).grid.dimensions }
+        ensures done { OnOk result
+            (ErasesChunks (layout_of self.old) (box_of chunks.now) (store_of S.state self.old)
+            (store_of S.state self.new)) }
+        ensures refused { IfErr result
+            (λ e. RefusesEraseChunks (layout_of self.old) (box_of chunks.now)
+            (refusal_of_storage e) (store_of S.state self.old) (store_of S.state self.new)) }
+        ensures parts { KeepsParts self.old self.new }
+    {
+        let Some(mut walk) = chunks.walk(alloc)? else {
+            return Ok(());
+        };
+        loop {
+            self.erase_chunk(alloc, walk.current())?;
+            if !walk.advance() {
+                return Ok(());
+            }
+        }
+    }
+}

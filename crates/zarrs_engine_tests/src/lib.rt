@@ -1,0 +1,5 @@
+//! Tests of the engine and of the laws of calls.
+#![tactic(auto)]
+
+#[cfg(test)]
+mod tests;

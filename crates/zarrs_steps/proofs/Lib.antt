@@ -1,0 +1,10 @@
+pub mod Contents
+pub mod LawProofs
+pub mod RefusalLemmas
+pub mod Covers
+pub mod Loops
+pub mod Ranges
+pub mod Regions
+pub mod Runs
+pub mod Shapes
+pub mod Steps

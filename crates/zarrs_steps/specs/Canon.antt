@@ -1,0 +1,25 @@
+-- Canonical stores: the bytes are a function of the content.
+use Rattle.std.specs.Prelude.{◌≡◌, ℕ, true, false, List, Option, Some, None}
+use Rattle.zarrs_subset.specs.Regions.{Box, Holds}
+use Rattle.zarrs_chunk_grid.specs.Grids.{box_at, has_box}
+use Rattle.zarrs_keys.specs.Keys.{IsIndexList}
+use Rattle.zarrs_storage.specs.Store.{StoreState}
+use Rattle.zarrs_data_type.specs.Cell.{Cell}
+use Rattle.zarrs_steps.specs.Layout.{Layout}
+use Rattle.zarrs_steps.specs.Content.{value_at, content, Reads}
+use Rattle.zarrs_steps.specs.Refusals.{is_left_out, encoded_cells}
+
+-- what is present at the key of a chunk of this box for the function: nothing if that is all fill, else the bytes of its cells
+abbrev pub IsCanonicalValue : Layout → (List ℕ → Option Cell) → Box → Option (List ℕ) → Type 0
+IsCanonicalValue layout f box None = (position : List ℕ) → Holds box position → f position ≡ Some layout.fill
+IsCanonicalValue layout f box (Some encoded) =
+    (cells : List Cell) × Reads f box cells × (is_left_out layout false cells ≡ false) × (encoded_cells layout false box.shape cells ≡ Some encoded)
+
+-- each chunk key holds what the content over its box is encoded to, and nothing if that is all fill
+pub record IsCanonical (layout : Layout) (stored : List ℕ → Option (List ℕ)) : Type 0 where
+  pub boxed : (index : List ℕ) → has_box layout.grid index ≡ true → IsCanonicalValue layout (content layout stored) (box_at layout.grid index) (stored (layout.key index))
+  pub unboxed : (index : List ℕ) → IsIndexList layout.grid.dimensions index → has_box layout.grid index ≡ false → stored (layout.key index) ≡ None
+
+-- no chunk key is present
+abbrev pub HasNoChunk : Layout → StoreState → Type 0
+HasNoChunk layout state = (index : List ℕ) → IsIndexList layout.grid.dimensions index → value_at state (layout.key index) ≡ None

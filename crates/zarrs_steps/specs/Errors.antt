@@ -1,0 +1,36 @@
+-- What the refusals of lower layers become.
+use Rattle.zarrs_storage.specs.declared.error.StorageError.{StorageError}
+use Rattle.zarrs_storage.specs.declared.error.StorageError.TheVariants as storage
+use Rattle.zarrs_codec_leaf.specs.declared.error.CodecError.{CodecError}
+use Rattle.zarrs_codec_leaf.specs.declared.error.CodecError.TheVariants as codec
+use Rattle.zarrs_data_type.specs.declared.error.ElementError.{ElementError}
+use Rattle.zarrs_data_type.specs.declared.error.ElementError.TheVariants as element
+use Rattle.zarrs_subset.specs.declared.error.ArraySubsetError.{ArraySubsetError}
+use Rattle.zarrs_subset.specs.declared.error.ArraySubsetError.TheVariants as subset
+use Rattle.zarrs_steps.specs.declared.error.ArrayError.{ArrayError}
+use Rattle.zarrs_steps.specs.declared.error.ArrayError.TheVariants as array
+
+-- data or bytes that do not fit
+abbrev pub unfit : ArrayError
+unfit = array.CodecError codec.DoesNotFit
+
+-- a store's refusal, but being out of memory
+abbrev pub error_of_storage : StorageError → ArrayError
+error_of_storage storage.OutOfMemory = array.OutOfMemory
+error_of_storage error = array.StorageError error
+
+-- a codec's refusal, but a size and being out of memory
+abbrev pub error_of_codec : CodecError → ArrayError
+error_of_codec codec.DoesNotFit = unfit
+error_of_codec codec.SizeOverflow = array.SizeOverflow
+error_of_codec codec.OutOfMemory = array.OutOfMemory
+
+-- a refusal of values, but being out of memory
+abbrev pub error_of_element : ElementError → ArrayError
+error_of_element element.OutOfMemory = array.OutOfMemory
+error_of_element error = array.ElementError error
+
+-- a refusal of a box, but being out of memory
+abbrev pub error_of_subset : ArraySubsetError → ArrayError
+error_of_subset subset.OutOfMemory = array.OutOfMemory
+error_of_subset error = array.ArraySubsetError error

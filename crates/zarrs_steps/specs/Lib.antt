@@ -1,0 +1,16 @@
+pub mod Errors
+pub mod Layout
+pub mod Lawful
+pub mod Content
+pub mod Refusals
+pub mod Changes
+pub mod Canon
+pub mod ChunkBoxes
+pub mod Acts
+pub mod ArgumentRefusals
+pub mod Reads
+pub mod StateRefusals
+pub mod Fronts
+pub mod Reach
+pub mod Step
+pub mod Laws

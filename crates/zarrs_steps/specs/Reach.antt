@@ -1,0 +1,35 @@
+-- The keys that a call may ask.
+use Rattle.std.specs.Prelude.{◌≡◌, ℕ, true, List, Contains}
+use Rattle.zarrs_keys.specs.Keys.{IsIndexList}
+use Rattle.zarrs_storage.specs.Store.{StoreState, MayReadWhole}
+use Rattle.zarrs_steps.specs.Layout.{Layout}
+use Rattle.zarrs_steps.specs.declared.call.Call.{Call}
+use Rattle.zarrs_steps.specs.declared.call.Call.TheVariants as call
+use Rattle.zarrs_steps.specs.Layout.{ArrayState}
+
+-- The chunk of which the call may ask the key: of a read, those that it names or meets; of a store of a part or of a
+-- region, those of which it covers a part alone. (The shape is that of the array as the call begins.)
+abbrev pub Reach : Layout → List ℕ → Call → List ℕ → Type 0
+Reach layout shape (call.StoreChunk index held) i = ⊥
+Reach layout shape (call.EraseChunk index) i = ⊥
+Reach layout shape (call.EraseChunks range) i = ⊥
+Reach layout shape (call.RetrieveChunkIfExists index) i = i ≡ index.items
+Reach layout shape (call.RetrieveChunk index) i = i ≡ index.items
+
+-- the key of the chunk and each place of its bytes may be asked
+pub record MayAsk (layout : Layout) (index : List ℕ) (state : ArrayState) : Type 0 where
+  pub key : state.store.may_ask (layout.key index) ≡ true
+  pub places : (place : ℕ) → state.store.may_read (layout.key index) place ≡ true
+
+-- what the call may ask may be asked; an index list of another length names no key
+abbrev pub MayAskCall : Layout → Call → ArrayState → Type 0
+MayAskCall layout call state = (index : List ℕ) → Reach layout state.shape call index → IsIndexList layout.grid.dimensions index → MayAsk layout index state
+
+-- and so for each of these calls
+abbrev pub MayAskCalls : Layout → List Call → ArrayState → Type 0
+MayAskCalls layout calls state = (call : Call) → Contains calls call → MayAskCall layout call state
+
+-- the key of the chunk and each place of its value may be asked; an index list of another length names no key
+pub record MayAskChunk (layout : Layout) (index : List ℕ) (state : StoreState) : Type 0 where
+  pub key : IsIndexList layout.grid.dimensions index → state.may_ask (layout.key index) ≡ true
+  pub places : IsIndexList layout.grid.dimensions index → MayReadWhole state (layout.key index)

@@ -1,0 +1,92 @@
+-- What a call does to the array, and what it returns.
+use Rattle.std.specs.Prelude.{◌≡◌, ℕ, Bool, true, false, List, [], ◌∷◌, Option, None, option_map}
+use Rattle.zarrs_storage.specs.Store.{StoreState}
+use Rattle.zarrs_subset.specs.Regions.{Box, positions}
+use Rattle.zarrs_chunk_grid.specs.Grids.{box_at}
+use Rattle.zarrs_data_type.specs.ArrayData.{ArrayData, data_of}
+use Rattle.zarrs_steps.specs.Layout.{Layout}
+use Rattle.zarrs_steps.specs.Refusals.{Refusal, refusal_of, RefusesBy, length_refusal}
+use Rattle.zarrs_steps.specs.Changes.{Erases, RetrievesChunk, RetrievesIfExists}
+use Rattle.zarrs_steps.specs.declared.call.Call.{Call}
+use Rattle.zarrs_steps.specs.declared.call.Reply.{Reply}
+use Rattle.zarrs_steps.specs.declared.call.Reply.TheVariants.{Done, Cells, MaybeCells, Refused}
+use Rattle.zarrs_steps.specs.Layout.{ArrayState}
+use Rattle.zarrs_steps.specs.Acts.{Act, store, erase, read, read_chunk, act_of}
+use Rattle.zarrs_steps.specs.ArgumentRefusals.{argument_refusal, store_chunk_refusal}
+use Rattle.zarrs_steps.specs.Fronts.{Takes, StoresAll, ErasesAll, RefusesWrite}
+use Rattle.zarrs_steps.specs.Reads.{ReadsRegion}
+use Rattle.zarrs_steps.specs.StateRefusals.{RefusesPart, RefusesErasure, RefusesRegionRead, RefusesChunkRead}
+
+-- a refused store: a front of its chunks took their part
+abbrev pub RefusesStore : Layout → Bool → Option Refusal → Box → ArrayData → List (List ℕ) → Refusal → StoreState → StoreState → Type 0
+RefusesStore layout keep first region held chunks r old new =
+    RefusesWrite (λ indices. Takes layout keep region held indices old new) chunks (RefusesBy first r)
+    (λ index failed. (first ≡ None) × RefusesPart layout keep region held index failed new r) old new
+
+-- a refused erasure: a front of its chunks is gone
+abbrev pub RefusesErase : Layout → Option Refusal → List (List ℕ) → Refusal → StoreState → StoreState → Type 0
+RefusesErase layout first chunks r old new =
+    RefusesWrite (λ indices. Erases layout indices old new) chunks (RefusesBy first r) (λ index failed. (first ≡ None) × RefusesErasure failed new r) old new
+
+-- an accepted store of one chunk, by one writing call
+abbrev pub StoresChunk : Layout → Bool → List ℕ → ArrayData → StoreState → StoreState → Type 0
+StoresChunk layout keep index held old new =
+    (store_chunk_refusal layout index held ≡ None) × StoresAll layout keep (box_at layout.grid index) held (index ∷ []) old new
+
+-- a refused one, which changes no value
+abbrev pub RefusesStoreChunk : Layout → Bool → List ℕ → ArrayData → Refusal → StoreState → StoreState → Type 0
+RefusesStoreChunk layout keep index held r old new =
+    RefusesStore layout keep (store_chunk_refusal layout index held) (box_at layout.grid index) held (index ∷ []) r old new
+
+-- an accepted erasure of one chunk, by one writing call
+abbrev pub ErasesChunk : Layout → List ℕ → StoreState → StoreState → Type 0
+ErasesChunk layout index old new = (length_refusal layout index ≡ None) × ErasesAll layout (index ∷ []) old new
+
+-- a refused one, which changes no value
+abbrev pub RefusesEraseChunk : Layout → List ℕ → Refusal → StoreState → StoreState → Type 0
+RefusesEraseChunk layout index r old new = RefusesErase layout (length_refusal layout index) (index ∷ []) r old new
+
+-- an accepted erasure of the chunks of a range, each by one writing call
+abbrev pub ErasesChunks : Layout → Box → StoreState → StoreState → Type 0
+ErasesChunks layout range old new = (length_refusal layout range.start ≡ None) × ErasesAll layout (positions range) old new
+
+-- a refused one, of which a front is done
+abbrev pub RefusesEraseChunks : Layout → Box → Refusal → StoreState → StoreState → Type 0
+RefusesEraseChunks layout range r old new = RefusesErase layout (length_refusal layout range.start) (positions range) r old new
+
+-- What an act does to the store, and what it returns, where this is the first refusal that its arguments decide.
+abbrev pub ActStep : Layout → Bool → Option Refusal → Act → Reply → StoreState → StoreState → Type 0
+ActStep layout keep first (store region held chunks) Done old new = (first ≡ None) × StoresAll layout keep region held chunks old new
+ActStep layout keep first (store region held chunks) (Refused e) old new = RefusesStore layout keep first region held chunks (refusal_of e) old new
+ActStep layout keep first (erase chunks) Done old new = (first ≡ None) × ErasesAll layout chunks old new
+ActStep layout keep first (erase chunks) (Refused e) old new = RefusesErase layout first chunks (refusal_of e) old new
+ActStep layout keep first (read region chunks) (Cells held) old new = (new ≡ old) × (first ≡ None) × ReadsRegion layout region chunks (data_of held) old
+ActStep layout keep first (read region chunks) (Refused e) old new = (new ≡ old) × RefusesRegionRead layout first region chunks old (refusal_of e)
+ActStep layout keep first (read_chunk true index) (Cells held) old new = (new ≡ old) × (first ≡ None) × RetrievesChunk layout index (data_of held) old
+ActStep layout keep first (read_chunk false index) (MaybeCells found) old new = (new ≡ old) × (first ≡ None) × RetrievesIfExists layout index (option_map data_of found) old
+ActStep layout keep first (read_chunk needed index) (Refused e) old new = (new ≡ old) × RefusesChunkRead layout first needed index old (refusal_of e)
+-- To come, as further rows, with no change above:
+--   (compact index) (Compacted b): first ≡ None; the content is as before; with false new ≡ old; with true the one key,
+--     which stood, holds the compaction of what it held, and Makes 1 0
+--   (compact index) (Refused e): Leaves, at most one writing call failed; the cause as for a chunk that is read whole
+--   (resize shape) Done, (Refused e): a front of the cut chunks, by Front and RefusesWrite with a third change beside
+--     Takes and Erases: fill past the shape, and each key of the front absent or the bytes of its cells
+-- no other reply is given
+ActStep layout keep first act reply old new = ⊥
+
+-- the array's shape after an act with this reply: no act here changes it (a resize that was done leaves its own)
+abbrev pub shape_after : Act → Reply → List ℕ → List ℕ
+shape_after act reply shape = shape
+
+-- The engine may answer this reply to the call and go on from old to new, where empty chunks are kept or not.
+abbrev pub Step : Layout → Bool → Call → Reply → ArrayState → ArrayState → Type 0
+Step layout keep call reply old new =
+    (new.shape ≡ shape_after (act_of layout call) reply old.shape)
+    × ActStep layout keep (argument_refusal layout old.shape call) (act_of layout call) reply old.store new.store
+
+-- these replies to these calls, one step after another, each from the state that the one before it left
+abbrev pub Run : Layout → Bool → List Call → List Reply → ArrayState → ArrayState → Type 0
+Run layout keep [] [] old new = new ≡ old
+Run layout keep (call ∷ calls) (reply ∷ replies) old new = (mid : ArrayState) × Step layout keep call reply old mid × Run layout keep calls replies mid new
+Run layout keep [] (reply ∷ replies) old new = ⊥
+Run layout keep (call ∷ calls) [] old new = ⊥

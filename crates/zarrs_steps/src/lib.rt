@@ -1,0 +1,16 @@
+//! The calls of an array, what each does to the array and its store, and the laws of lists of calls. An array is a
+//! function from positions to cells; a call is a step from one state of the store to the next.
+#![tactic(auto)]
+
+mod call;
+mod error;
+mod laws;
+
+pub use call::{Call, Reply};
+pub use error::ArrayError;
+pub use laws::{
+    canonical_stores_decode, content_is_bytes, disjoint_writes_agree, empty_stores_are_canonical,
+    equal_counts_agree, histories_agree, parts_make_the_region, read_after_store,
+    reads_of_decoding_chunks, steps_keep_canon, steps_keep_decoding, steps_keep_reach,
+    store_after_read,
+};

@@ -1,0 +1,10 @@
+//! Short uses of the crates, as a caller writes them. `README.md` and `docs/CALLING.md` quote them.
+#![tactic(auto)]
+
+pub mod chunks;
+pub mod histories;
+pub mod make;
+pub mod refusals;
+#[cfg(test)]
+mod tests;
+pub mod walk;
