@@ -1,10 +1,9 @@
 -- The runs that copy a box copy its cells.
-use Rattle.std.proofs.Common.{◌≡◌, ◌≢◌, ℕ, zero, suc, ◌+◌, ◌-◌, ◌*◌, ◌/◌, ◌%◌, ◌<◌, ◌≤◌, ◌↔◌, min, max, true, false, List, [], ◌∷◌, length, take, drop, slice_index, get_or, refl, sym, ap, ◌∙◌, arith, inl, inr}
+use Rattle.std.proofs.Common.{◌≡◌, ℕ, zero, suc, ◌+◌, ◌-◌, ◌*◌, ◌/◌, ◌<◌, ◌≤◌, List, [], ◌∷◌, length, take, drop, slice_index, get_or, refl, sym, ap, ◌∙◌, arith, inl, inr}
 use Rattle.std.proofs.Math.Nat.{mul-le-mul_right, mul_assoc, add-mul}
-use Rattle.std.proofs.lemmas.Nat.{div-mul-add, mod-mul-add}
+use Rattle.std.proofs.lemmas.Nat.{div-mul-add}
 use Rattle.std.proofs.lemmas.List.{drop_more, drop_all}
 use Rattle.std.proofs.lemmas.Bool.{cases_Bool, false≢true}
-use Rattle.zarrs_subset.specs.declared.runs.Stride.{Stride}
 use Rattle.zarrs_subset.specs.declared.runs.Runs.{Runs}
 use Rattle.zarrs_subset.specs.Boxes.{position_count, InShape, place, unravel, BoxFits, is_within, moved, offset_from, offset_by}
 use Rattle.zarrs_subset.specs.Cells.{BoxCopied}
@@ -12,10 +11,9 @@ use Rattle.zarrs_subset.specs.Strides.{Reaches, RunsCopied}
 use Rattle.zarrs_subset.specs.Plans.{dimension_strides, strides_of, IsPlan}
 use Rattle.zarrs_subset.proofs.Kernel.{in_block}
 use Rattle.zarrs_subset.proofs.Overlaps.{AllSome}
-use Rattle.zarrs_subset.proofs.Counts.{length-InShape, count_drop, count_some, AllSome-drop}
+use Rattle.zarrs_subset.proofs.Counts.{length-InShape, count_drop, count_some, count_split}
 use Rattle.zarrs_subset.proofs.Positions.{unravel-place, in_box-offset_by, offset_from-in, offset_by-from}
-use Rattle.zarrs_subset.proofs.Joined.{length_shape, count_split}
-use Rattle.zarrs_subset.proofs.Nothing.{length_fits}
+use Rattle.zarrs_subset.proofs.Nothing.{length_shape, length_fits}
 
 -- ---- positions seen from a corner
 
@@ -52,9 +50,6 @@ place_same shape p q i j same = sym (unravel-place shape p i) ∙ ap (λ k. unra
 same_cell : (a b size k l : ℕ) → k < size → l < size → a * size + k ≡ b * size + l → a ≡ b
 same_cell a b size k l h i same = sym (div-mul-add a size k h) ∙ ap (λ n. n / size) same ∙ div-mul-add b size l i
 
-same_byte : (a b size k l : ℕ) → k < size → l < size → a * size + k ≡ b * size + l → k ≡ l
-same_byte a b size k l h i same = sym (mod-mul-add a size k h) ∙ ap (λ n. n % size) same ∙ mod-mul-add b size l i
-
 -- ---- the bytes that a stride for each dimension reaches
 
 reach_from : (size : ℕ) (S T es q : List ℕ) (b : ℕ) → length S ≡ length es → length T ≡ length es → InShape es q → b < size
@@ -67,9 +62,14 @@ reach_from size [] (n ∷ T) [] q b l m inside below = absurd (omega arith)
 reach_from size (n ∷ S) [] (e ∷ es) q b l m inside below = absurd (omega arith)
 reach_from size (n ∷ S) (m ∷ T) (e ∷ es) [] b l k inside below = absurd inside
 reach_from size (n ∷ S) (m ∷ T) (e ∷ es) (j ∷ q) b l k inside below = (
-  j, place T q * size + b, place S q * size + b, inside.0,
-  in_block j (position_count T) (place T q) size b, in_block j (position_count S) (place S q) size b,
-  reach_from size S T es q b (omega arith) (omega arith) inside.1 below)
+  j,
+  place T q * size + b,
+  place S q * size + b,
+  inside.0,
+  in_block j (position_count T) (place T q) size b,
+  in_block j (position_count S) (place S q) size b,
+  reach_from size S T es q b (omega arith) (omega arith) inside.1 below,
+)
 
 record IsReached (size : ℕ) (T es : List ℕ) (t : ℕ) : Type 0 where
   offset : List ℕ
@@ -157,8 +157,14 @@ block_within shape k size block len below some is whole =
     ap (λ v. slice_index shape k * v) is ∙ sym (mul_assoc (slice_index shape k) (position_count (drop (k + 1) shape)) size)
     ∙ ap (λ v. v * size) (sym (count_drop shape k below)) in
     let front : 1 ≤ position_count (take k shape) = count_some (take k shape) (AllSome-take shape k some) in
-    omega (arith, here, whole, ap (λ v. v * size) (count_split shape k), mul_assoc (position_count (take k shape)) (position_count (drop k shape)) size,
-    mul-le-mul_right (position_count (drop k shape) * size) front)
+    omega (
+      arith,
+      here,
+      whole,
+      ap (λ v. v * size) (count_split shape k),
+      mul_assoc (position_count (take k shape)) (position_count (drop k shape)) size,
+      mul-le-mul_right (position_count (drop k shape) * size) front,
+    )
   where
     AllSome-take : (shape : List ℕ) (k : ℕ) → AllSome shape → AllSome (take k shape)
     AllSome-take shape zero some j below z = absurd (omega arith)
@@ -191,9 +197,13 @@ fits_at S F T U es k source target below = record {
 pub IsPlan-none : (size : ℕ) (S F T U es : List ℕ) (runs : Runs) → BoxFits F es S → BoxFits U es T → IsPlan size [] [] [] [] [] runs
     → IsPlan size (drop (length es) S) (drop (length es) F) (drop (length es) T) (drop (length es) U) (drop (length es) es) runs
 IsPlan-none size S F T U es runs source target plan =
-    rw (drop_all (length es) S (omega (arith, length_shape F es S source)), drop_all (length es) F (omega (arith, length_fits F es S source)),
-    drop_all (length es) T (omega (arith, length_shape U es T target)), drop_all (length es) U (omega (arith, length_fits U es T target)),
-    drop_all (length es) es (omega arith)) plan
+    rw (
+      drop_all (length es) S (omega (arith, length_shape F es S source)),
+      drop_all (length es) F (omega (arith, length_fits F es S source)),
+      drop_all (length es) T (omega (arith, length_shape U es T target)),
+      drop_all (length es) U (omega (arith, length_fits U es T target)),
+      drop_all (length es) es (omega arith),
+    ) plan
 
 -- one dimension more
 pub IsPlan-more : (size j k : ℕ) (S F T U es : List ℕ) (old new : Runs) → j ≡ k + 1 → FitsAt S F T U es k

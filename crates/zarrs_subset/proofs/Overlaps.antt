@@ -174,3 +174,27 @@ offset_by-cut (s ∷ start) (e ∷ extents) (j ∷ q) l h i =
     let inside : j < e = i.0 in
     let first : min (s + j) (2 ^ 64 - 1) ≡ s + j = omega arith in
     rw (first, offset_by-cut start extents q (omega arith) (EndsFit-inner s e start extents h) i.1) refl
+
+-- ---- a box with an offset added to its start
+
+-- sums that fit are not cut
+pub sums-cut : (S O : List ℕ) → length S ≡ length O → ((k : ℕ) → k < length O → slice_index S k + slice_index O k < 2 ^ 64)
+    → zip_with (λ s t. min (s + t) (2 ^ 64 - 1)) S O ≡ zip_with (λ s t. s + t) S O
+sums-cut [] O l h = refl
+sums-cut (s ∷ S) [] l h = refl
+sums-cut (s ∷ S) (o ∷ O) l h =
+    let fits : s + o < 2 ^ 64 = h zero (omega arith) in
+    let first : min (s + o) (2 ^ 64 - 1) ≡ s + o = omega arith in
+    rw (first, sums-cut S O (omega arith) (λ k below. h (suc k) (omega arith))) refl
+
+pub EndsFit-shift : (S X O : List ℕ) → length S ≡ length X → length S ≡ length O
+    → ((k : ℕ) → k < length O → slice_index S k + slice_index X k + slice_index O k < 2 ^ 64) → EndsFit (zip_with (λ s t. s + t) S O) X
+EndsFit-shift [] [] O l m h k = omega arith
+EndsFit-shift [] (x ∷ X) O l m h k = absurd (omega arith)
+EndsFit-shift (s ∷ S) X [] l m h k = absurd (omega arith)
+EndsFit-shift (s ∷ S) [] (o ∷ O) l m h k = absurd (omega arith)
+EndsFit-shift (s ∷ S) (x ∷ X) (o ∷ O) l m h zero =
+    let first : s + x + o < 2 ^ 64 = h zero (omega arith) in
+    let inside : s + o + x < 2 ^ 64 = omega arith in
+    inside
+EndsFit-shift (s ∷ S) (x ∷ X) (o ∷ O) l m h (suc k) = EndsFit-shift S X O (omega arith) (omega arith) (λ j below. h (suc j) (omega arith)) k

@@ -1,12 +1,11 @@
 -- Lemmas of the runs that copy a box, one dimension more.
-use Rattle.std.proofs.Common.{◌≡◌, ℕ, zero, suc, ◌+◌, ◌-◌, ◌*◌, ◌/◌, ◌%◌, ◌^◌, ◌<◌, ◌≤◌, ◌↔◌, List, [], ◌∷◌, length, drop, slice_set, refl, sym, ap, ◌∙◌, arith}
+use Rattle.std.proofs.Common.{◌≡◌, ℕ, ◌+◌, ◌-◌, ◌*◌, ◌/◌, ◌%◌, ◌^◌, ◌<◌, ◌≤◌, ◌↔◌, List, [], ◌∷◌, length, drop, slice_set, refl, sym, ap, ◌∙◌, arith}
 use Rattle.std.proofs.Math.Nat.{mul-le-mul_right, mul-le-mul_left, add-mul, mul_comm, mul_assoc}
 use Rattle.std.proofs.lemmas.List.{drop-set}
 use Rattle.std.proofs.lemmas.Nat.{div_below, mod_below, div-add-mod', mul-add-lt, pow-add}
 use Rattle.zarrs_subset.specs.declared.runs.Stride.{Stride}
-use Rattle.zarrs_subset.specs.Boxes.{position_count, place}
+use Rattle.zarrs_subset.specs.Boxes.{place}
 use Rattle.zarrs_subset.specs.Strides.{Reaches, source_span, target_span, AreApart}
-use Rattle.zarrs_subset.specs.Plans.{dimension_strides}
 
 -- how the strides and the runs take one dimension more: the runs get longer, or there is one stride more, or nothing changes
 pub data Extends (e ss ts : ℕ) (strides : List Stride) (len used : ℕ) (strides' : List Stride) (len' used' : ℕ) : Type 0 where
@@ -19,29 +18,34 @@ pub data Extends (e ss ts : ℕ) (strides : List Stride) (len used : ℕ) (strid
 
 joined_reaches : (e len t s : ℕ) → 0 < len
     → Reaches [] (len * e) t s ↔ Reaches (record { count = e; source_step = len; target_step = len } ∷ []) len t s
-joined_reaches e len t s some = (λ reached.
-  let same : t ≡ s = reached.0 in
-  let below : t < len * e = reached.1 in
-  let inside : t < e * len = omega (arith, mul_comm len e) in
-  let whole : t / len * len + t % len ≡ t = div-add-mod' t len in
-  (t / len, t % len, t % len, div_below t len e some inside, sym whole, sym same ∙ sym whole, (refl, mod_below t len some)),
+joined_reaches e len t s some = (
   λ reached.
-  let numbered : reached.0 < e = reached.3 in
-  let tIs : t ≡ reached.0 * len + reached.1 = reached.4 in
-  let sIs : s ≡ reached.0 * len + reached.2 = reached.5 in
-  let same : reached.1 ≡ reached.2 = reached.6.0 in
-  let below : reached.1 < len = reached.6.1 in
-  let inside = mul-add-lt reached.0 len reached.1 e numbered below in
-  (omega arith, omega (arith, inside, mul_comm len e)))
+      let same : t ≡ s = reached.0 in
+      let below : t < len * e = reached.1 in
+      let inside : t < e * len = omega (arith, mul_comm len e) in
+      let whole : t / len * len + t % len ≡ t = div-add-mod' t len in
+      (t / len, t % len, t % len, div_below t len e some inside, sym whole, sym same ∙ sym whole, (refl, mod_below t len some)),
+  λ reached.
+      let numbered : reached.0 < e = reached.3 in
+      let tIs : t ≡ reached.0 * len + reached.1 = reached.4 in
+      let sIs : s ≡ reached.0 * len + reached.2 = reached.5 in
+      let same : reached.1 ≡ reached.2 = reached.6.0 in
+      let below : reached.1 < len = reached.6.1 in
+      let inside = mul-add-lt reached.0 len reached.1 e numbered below in
+      (omega arith, omega (arith, inside, mul_comm len e)),
+)
 
 single_reaches : (ss ts : ℕ) (strides : List Stride) (len t s : ℕ)
     → Reaches strides len t s ↔ Reaches (record { count = 1; source_step = ss; target_step = ts } ∷ strides) len t s
-single_reaches ss ts strides len t s = (λ reached. (0, t, s, omega arith, omega arith, omega arith, reached), λ reached.
-  let numbered : reached.0 < 1 = reached.3 in
-  let first : reached.0 ≡ 0 = omega arith in
-  let tIs : t ≡ reached.1 = reached.4 ∙ (rw first (omega arith)) in
-  let sIs : s ≡ reached.2 = reached.5 ∙ (rw first (omega arith)) in
-  rw (tIs, sIs) reached.6)
+single_reaches ss ts strides len t s = (
+  λ reached. (0, t, s, omega arith, omega arith, omega arith, reached),
+  λ reached.
+      let numbered : reached.0 < 1 = reached.3 in
+      let first : reached.0 ≡ 0 = omega arith in
+      let tIs : t ≡ reached.1 = reached.4 ∙ (rw first (omega arith)) in
+      let sIs : s ≡ reached.2 = reached.5 ∙ (rw first (omega arith)) in
+      rw (tIs, sIs) reached.6,
+)
 
 pub extended_reaches : (e ss ts : ℕ) (strides : List Stride) (len used : ℕ) (strides' : List Stride) (len' used' : ℕ) (t s : ℕ) → 0 < len
     → Extends e ss ts strides len used strides' len' used'
@@ -59,7 +63,8 @@ pub reaches_more : (e ss ts ss' ts' : ℕ) (strides strides' : List Stride) (len
     ↔ Reaches (record { count = e; source_step = ss'; target_step = ts' } ∷ strides') len' t s
 reaches_more e ss ts ss' ts' strides strides' len len' t s sIs tIs same = rw (sIs, tIs) (
   λ r. (r.0, r.1, r.2, r.3, r.4, r.5, (same r.1 r.2).0 r.6),
-  λ r. (r.0, r.1, r.2, r.3, r.4, r.5, (same r.1 r.2).1 r.6))
+  λ r. (r.0, r.1, r.2, r.3, r.4, r.5, (same r.1 r.2).1 r.6),
+)
 
 -- ---- what stays true
 

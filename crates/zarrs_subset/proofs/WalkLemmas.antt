@@ -1,19 +1,38 @@
 -- Lemmas of a walk through the positions of a box.
-use Rattle.std.proofs.Common.{◌≡◌, ℕ, zero, suc, ◌+◌, ◌-◌, ◌*◌, ◌<◌, ◌≤◌, true, false, nat_lt, nat_le, List, [], ◌∷◌, ◌++◌, length, drop, take, slice_index, Bool, is_none, if◌then◌else◌, Option, MatchOption, Some, None, add-one, refl, sym, ap, ◌∙◌, arith, SomeIndex, Result, Ok, Err, OnErr, append-nil, slice_set, inl, inr}
+use Rattle.std.proofs.Common.{◌≡◌, ℕ, zero, suc, ◌+◌, ◌-◌, ◌*◌, ◌<◌, ◌≤◌, true, false, nat_lt, nat_le, List, [], ◌∷◌, ◌++◌, length, drop, take, slice_index, Bool, add-one, refl, sym, ap, ◌∙◌, arith, SomeIndex, Result, Ok, Err, OnErr, append-nil, slice_set, inl, inr}
 use Rattle.std.proofs.Math.Nat.{add-mul}
 use Rattle.std.specs.Bool.{OnTrue, OnFalse}
 use Rattle.std.specs.List.{refill}
 use Rattle.std.proofs.lemmas.List.{drop_all, drop_more, take_all}
 use Rattle.std.proofs.lemmas.Bool.{cases_eq, and_parts, and_from, ltb-true, leb-true, lt-ltb, le-leb, false≢true}
 use Rattle.std.proofs.lemmas.Option.{get_or_from_slice_get}
-use Rattle.smallvec.specs.SmallVec.{SmallVec}
 use Rattle.zarrs_subset.specs.Boxes.{position_count, place, in_range, is_within, offset_from}
 use Rattle.zarrs_subset.specs.Regions.{Box, IsLong, Holds, positions, place_in}
-use Rattle.zarrs_subset.specs.Steps.{next_of, IsEndedAt, IsLastIn, IsFreeIn}
 use Rattle.zarrs_subset.proofs.Bytes.{place_in_below, holds_along}
 use Rattle.zarrs_subset.proofs.Counts.{count_zero, count_some}
 use Rattle.zarrs_subset.proofs.Overlaps.{AllSome}
 use Rattle.zarrs_subset.proofs.Positions.{length-positions, positions_all}
+
+-- ---- from a position to the next one
+
+-- the position with one more in dimension `axis`, and the start in those after it
+abbrev pub next_of : List ℕ → List ℕ → ℕ → List ℕ
+next_of start position axis = take axis position ++ (slice_index position axis + 1) ∷ drop (axis + 1) start
+
+-- the position has the last index of the box in this dimension
+abbrev pub IsEndedAt : Box → List ℕ → ℕ → Type 0
+IsEndedAt box position k = slice_index position k + 1 ≡ slice_index box.start k + slice_index box.shape k
+
+-- the position is the last one of the box
+abbrev pub IsLastIn : Box → List ℕ → Type 0
+IsLastIn box position = (k : ℕ) → k < length box.start → IsEndedAt box position k
+
+-- this dimension is the last one in which the position has not the last index of the box
+pub record IsFreeIn (box : Box) (position : List ℕ) (axis : ℕ) : Type 0 where
+  pub inside : axis < length box.start
+  pub indexed : axis < length position
+  pub free : slice_index position axis + 1 < slice_index box.start axis + slice_index box.shape axis
+  pub later : (k : ℕ) → axis < k → k < length box.start → IsEndedAt box position k
 
 -- ---- the first position
 
@@ -178,10 +197,6 @@ set-reset (s ∷ start) (i ∷ position) (suc k) n v is below =
 pub reset_more : (start position : List ℕ) (k : ℕ) → k < length start
     → take k position ++ slice_index start k ∷ drop (k + 1) start ≡ reset_from start position k
 reset_more start position k below = ap (λ l. take k position ++ l) (sym (drop_more start k 0 below))
-
--- back at the start in each dimension
-pub reset_all : (start position : List ℕ) → reset_from start position 0 ≡ start
-reset_all start position = refl
 
 pub IsFreeIn-last : (box : Box) (p : List ℕ) (n k : ℕ) → n ≡ k + 1 → k < length box.start → length p ≡ length box.start
     → slice_index p k + 1 < slice_index box.start k + slice_index box.shape k

@@ -43,3 +43,15 @@ RefusesOffset start offset StartBelowOffset =
     (length offset ≡ length start) × SomeIndex offset (λ k. slice_index start k < slice_index offset k)
 RefusesOffset start offset OutOfMemory =
     (length offset ≡ length start) × EachIndex offset (λ k. slice_index offset k ≤ slice_index start k)
+
+-- a box of this start and shape cannot be shifted by this offset
+abbrev pub RefusesShift : List ℕ → List ℕ → List ℕ → ArraySubsetError → Type 0
+RefusesShift start shape offset (IncompatibleDimensionality error) = IsMismatch (length offset) (length start) error
+RefusesShift start shape offset EndOverflow =
+    (length offset ≡ length start)
+    × SomeIndex offset (λ k. 2 ^ 64 ≤ slice_index start k + slice_index shape k + slice_index offset k)
+RefusesShift start shape offset EndBelowStart = ⊥
+RefusesShift start shape offset StartBelowOffset = ⊥
+RefusesShift start shape offset OutOfMemory =
+    (length offset ≡ length start)
+    × EachIndex offset (λ k. slice_index start k + slice_index shape k + slice_index offset k < 2 ^ 64)

@@ -1,5 +1,6 @@
 -- Boxes as one value, and the cells of arrays over them.
-use Rattle.std.specs.Prelude.{◌≡◌, nat_eq, ◌==◌, ◌&&◌, ℕ, ◌+◌, ◌-◌, ◌<◌, ◌≤◌, ◌^◌, Bool, true, List, [], ◌++◌, codes, decimal, length, map, min, slice_index, slice_get, Option, if◌then◌else◌}
+use Rattle.std.specs.Prelude.{◌≡◌, nat_eq, ◌==◌, ◌&&◌, ℕ, ◌+◌, ◌-◌, ◌<◌, ◌≤◌, ◌^◌, Bool, true, suc, List, [], ◌∷◌, ◌++◌, codes, decimal, length, map, min, replicate, slice_index, slice_get, Option, if◌then◌else◌, refl}
+use Rattle.std.proofs.Common.{ap}
 use Rattle.std.specs.List.{flat_map, range_with_len}
 use Rattle.std.specs.Cmp.Lexicographic.{pointwise}
 use Rattle.std.specs.declared.ops.Range.{Range}
@@ -16,6 +17,32 @@ pub record Box : Type 0 where
 abbrev pub box_of : ArraySubset → Box
 box_of subset = record { start = subset.start.items; shape = subset.shape.items }
 
+abbrev pub box_from : List ℕ → List ℕ → Box
+box_from start shape = record { start = start; shape = shape }
+
+-- the box of an array of this shape, and the one without positions, at the origin
+abbrev pub box_at_origin : List ℕ → Box
+box_at_origin shape = record { start = replicate (length shape) 0; shape = shape }
+
+abbrev pub empty_box : ℕ → Box
+empty_box dimensions = record { start = replicate dimensions 0; shape = replicate dimensions 0 }
+
+-- from a start up to an end that it leaves out
+abbrev pub box_between : List ℕ → List ℕ → Box
+box_between start end = record { start = start; shape = zip_with (λ e s. e - s) end start }
+
+-- the box, seen from another corner: its start less the offset, and with the offset added
+abbrev pub seen_from : Box → List ℕ → Box
+seen_from box offset = record { start = zip_with (λ s t. s - t) box.start offset; shape = box.shape }
+
+abbrev pub shifted_box : Box → List ℕ → Box
+shifted_box box offset = record { start = zip_with (λ s t. s + t) box.start offset; shape = box.shape }
+
+-- the box lies in an array of this shape
+pub record LiesInShape (box : Box) (shape : List ℕ) : Type 0 where
+  pub same_length : length box.start ≡ length shape
+  pub ends : (k : ℕ) → k < length shape → slice_index box.start k + slice_index box.shape k ≤ slice_index shape k
+
 -- the same start and the same shape
 abbrev pub box_eq : Box → Box → Bool
 box_eq a b = pointwise nat_eq a.start b.start && pointwise nat_eq a.shape b.shape
@@ -27,6 +54,10 @@ box_of_ranges ranges = record { start = map (λ r. r.start) ranges; shape = map 
 -- one extent for each start
 abbrev pub IsLong : Box → Type 0
 IsLong box = length box.start ≡ length box.shape
+
+pub IsLong-ranges : (ranges : List (Range ℕ)) → IsLong (box_of_ranges ranges)
+IsLong-ranges [] = refl
+IsLong-ranges (range ∷ ranges) = ap suc (IsLong-ranges ranges)
 
 -- whether the position lies in the box
 abbrev pub in_box : Box → List ℕ → Bool

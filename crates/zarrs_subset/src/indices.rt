@@ -4,16 +4,15 @@ ghost use Rattle.std.specs.Prelude.{◌≡◌, ◌+◌, [], length, true, IfOk, 
 ghost use Rattle.std.specs.Bool.{OnTrue, OnFalse};
 ghost use Rattle.std.specs.Iterator.{item_count};
 ghost use Rattle.zarrs_subset.specs.Boxes.{position_count, EndsFit};
-ghost use Rattle.zarrs_subset.specs.Regions.{Holds, IsLong, box_of, in_box, place_in, positions};
-ghost use Rattle.zarrs_subset.specs.Steps.{box_from};
+ghost use Rattle.zarrs_subset.specs.Regions.{Holds, IsLong, box_from, box_of, in_box, place_in, positions};
 
 use crate::ArrayIndicesTinyVec;
 use crate::subset::ArraySubset;
 use smallvec::SmallVec;
 use std::alloc::{AllocError, Global};
 
-/// A walk through the positions of a box in row-major order. It lends the position where it stands, and allocates none on its
-/// way.
+/// A walk through the positions of a box in row-major order, which lends the position that it is at. No position is
+/// allocated on the way.
 #[derive(Drop)]
 pub struct PositionWalk<'a> {
     subset: &'a ArraySubset,
@@ -25,7 +24,7 @@ impl<'a> PositionWalk<'a> {
     ghost use Rattle.std.specs.Prelude.{Some, slice_get};
     ghost use Rattle.zarrs_subset.specs.Walks.{walk_box, walk_number};
 
-    /// The position where the walk stands.
+    /// The position that the walk is at.
     #[inline]
     pub fn current(&self) -> &[u64]
         ensures { slice_get (positions (walk_box self.now)) (walk_number self.now) ≡ Some result.now }
@@ -77,7 +76,7 @@ impl ArraySubset {
         }
     }
 
-    /// A walk that stands at the first position of the box, if the box has positions.
+    /// A walk at the first position of the box, if the box has positions.
     pub fn walk(&self, alloc: Global) -> Result<Option<PositionWalk<'_>>, AllocError>
         ensures none { IfOk result (λ o. MatchOption o (positions (box_of self.now) ≡ []) (λ walk. walk_box walk ≡ box_of self.now)) }
         ensures first { IfOk result (λ o. MatchOption o (positions (box_of self.now) ≡ []) (λ walk. walk_number walk ≡ 0)) }

@@ -124,13 +124,7 @@ impl Runs {
 
 // Copies one run of `len` bytes. `N` is the length where it is known before the program runs, else 0.
 #[inline(always)]
-fn copy_run<const N: usize>(
-    len: usize,
-    source: &[u8],
-    from: usize,
-    target: &mut [u8],
-    to: usize,
-)
+fn copy_run<const N: usize>(len: usize, source: &[u8], from: usize, target: &mut [u8], to: usize)
     requires known { 0 < N → len ≡ N }
     requires source_room { from + len ≤ length source.now }
     requires target_room { to + len ≤ length target.old }

@@ -2,7 +2,7 @@
 
 ghost use Rattle.std.specs.Prelude.{◌≡◌, ℕ, ◌+◌, ◌*◌, ◌<◌, ◌≤◌, ◌-◌, ◌^◌, ◌↔◌, ◌&&◌, List, length, map, slice_index, max, min, Bool, IfOk, IfErr, OnOk, OnErr, IsTrue, SomeIndex, EachIndex, MatchOption, replicate, slice_get};
 ghost use Rattle.zarrs_subset.specs.Boxes.{EndsFit, ends, zip_with, position_count};
-ghost use Rattle.zarrs_subset.specs.Refusals.{IsMismatch, RefusesStartShape, RefusesStartEnd, RefusesLength, RefusesOffset};
+ghost use Rattle.zarrs_subset.specs.Refusals.{IsMismatch, RefusesStartShape, RefusesStartEnd, RefusesLength, RefusesOffset, RefusesShift};
 
 use crate::error::{ArraySubsetError, IncompatibleDimensionalityError, SizeOverflow};
 use crate::lists::{distances, earlier, ends_of, extents, has_zero, later, sums};
@@ -23,12 +23,11 @@ pub struct ArraySubset {
 }
 
 impl ArraySubset {
-    ghost use Rattle.zarrs_subset.specs.Regions.{Box, box_of, box_of_ranges, in_box, positions, overlap_of, bound_to, IsBox};
+    ghost use Rattle.zarrs_subset.specs.Regions.{IsBox, bound_to, box_at_origin, box_between, box_from, box_of, box_of_ranges, empty_box, in_box, overlap_of, positions, seen_from, shifted_box};
 
     /// The empty box at the origin.
     pub fn new_empty(alloc: Global, dimensionality: usize) -> Result<Self, AllocError>
-        ensures start { IfOk result (λ b. (box_of b).start ≡ replicate dimensionality 0) }
-        ensures shape { IfOk result (λ b. (box_of b).shape ≡ replicate dimensionality 0) }
+        ensures { IfOk result (λ b. box_of b ≡ empty_box dimensionality) }
     {
         let start = vec![in alloc; 0; dimensionality]?;
         let shape = vec![in alloc; 0; dimensionality]?;
@@ -37,8 +36,7 @@ impl ArraySubset {
 
     /// The box of this shape at the origin.
     pub fn new_with_shape(alloc: Global, shape: ArrayShape) -> Result<Self, AllocError>
-        ensures start { IfOk result (λ b. (box_of b).start ≡ replicate (length shape.items) 0) }
-        ensures shape { IfOk result (λ b. (box_of b).shape ≡ shape.items) }
+        ensures { IfOk result (λ b. box_of b ≡ box_at_origin shape.items) }
     {
         let start = vec![in alloc; 0u64; shape.len()]?;
         Ok(ArraySubset { start, shape })
@@ -48,22 +46,20 @@ impl ArraySubset {
     pub fn new(start: ArrayIndices, shape: ArrayShape) -> Self
         requires same_length { length start.items ≡ length shape.items }
         requires ends_fit { EndsFit start.items shape.items }
-        ensures start { (box_of result).start ≡ start.items }
-        ensures shape { (box_of result).shape ≡ shape.items }
+        ensures { box_of result ≡ box_from start.items shape.items }
     {
         Self { start, shape }
     }
 
     /// The box of this start and this shape.
     ///
-    /// Refused where they differ in length, or where the end passes `u64`.
+    /// Refused if they differ in length, or if the end passes `u64`.
     pub fn new_with_start_shape(
         start: ArrayIndices,
         shape: ArrayShape,
     ) -> Result<Self, ArraySubsetError>
-        ensures start { IfOk result (λ b. (box_of b).start ≡ start.items) }
-        ensures shape { IfOk result (λ b. (box_of b).shape ≡ shape.items) }
-        ensures is_box { OnOk result (IsBox (record { start = start.items; shape = shape.items })) }
+        ensures value { IfOk result (λ b. box_of b ≡ box_from start.items shape.items) }
+        ensures is_box { OnOk result (IsBox (box_from start.items shape.items)) }
         ensures refused { IfErr result (RefusesStartShape start.items shape.items) }
     {
         if start.len() != shape.len() {
@@ -79,15 +75,15 @@ impl ArraySubset {
 
     /// The box from this start up to this end, which it leaves out.
     ///
-    /// Refused where they differ in length, or where the end lies below the start.
+    /// Refused if they differ in length, or if the end lies below the start.
     pub fn new_with_start_end_exc(
         start: ArrayIndices,
         end: ArrayIndices,
     ) -> Result<Self, ArraySubsetError>
-        ensures start { IfOk result (λ b. (box_of b).start ≡ start.items) }
-        ensures shape { IfOk result (λ b. (box_of b).shape ≡ zip_with (λ e s. e - s) end.items start.items) }
+        ensures value { IfOk result (λ b. box_of b ≡ box_between start.items end.items) }
         ensures dimensions { OnOk result (length start.items ≡ length end.items) }
-        ensures ordered { OnOk result (EachIndex start.items (λ k. slice_index start.items k ≤ slice_index end.items k)) }
+        ensures ordered { OnOk result
+            (EachIndex start.items (λ k. slice_index start.items k ≤ slice_index end.items k)) }
         ensures refused { IfErr result (RefusesStartEnd start.items end.items) }
     {
         if start.len() != end.len() {
@@ -104,8 +100,7 @@ impl ArraySubset {
 
     /// The box of these ranges, one for each dimension. A reversed range has extent 0 and ends at its start.
     pub fn new_with_ranges(alloc: Global, ranges: &[Range<u64>]) -> Result<Self, AllocError>
-        ensures start { IfOk result (λ b. (box_of b).start ≡ (box_of_ranges ranges.now).start) }
-        ensures shape { IfOk result (λ b. (box_of b).shape ≡ (box_of_ranges ranges.now).shape) }
+        ensures { IfOk result (λ b. box_of b ≡ box_of_ranges ranges.now) }
     {
         let start = ranges.iter().map(|range| range.start).collect(alloc)?;
         let shape = ranges
@@ -197,7 +192,7 @@ impl ArraySubset {
 
     /// The box of the positions that both boxes have. Where they do not meet in a dimension, its extent is 0.
     ///
-    /// Refused where the numbers of dimensions differ.
+    /// Refused if the numbers of dimensions differ.
     pub fn overlap<B: ArraySubsetTraits>(
         &self,
         alloc: Global,
@@ -205,12 +200,10 @@ impl ArraySubset {
     ) -> Result<ArraySubset, ArraySubsetError>
         ensures common { IfOk result (λ b. (position : List ℕ) → in_box (box_of b) position
             ≡ (in_box (box_of self.now) position && in_box (B.region other.now) position)) }
-        ensures start { IfOk result (λ b. (box_of b).start
-            ≡ (overlap_of (box_of self.now) (B.region other.now)).start) }
-        ensures shape { IfOk result (λ b. (box_of b).shape
-            ≡ (overlap_of (box_of self.now) (B.region other.now)).shape) }
+        ensures value { IfOk result (λ b. box_of b ≡ overlap_of (box_of self.now) (B.region other.now)) }
         ensures dimensions { OnOk result (length (box_of self.now).start ≡ length (B.region other.now).start) }
-        ensures refused { IfErr result (RefusesLength (length (B.region other.now).start) (length (box_of self.now).start)) }
+        ensures refused { IfErr result
+            (RefusesLength (length (B.region other.now).start) (length (box_of self.now).start)) }
     {
         self.check_length(other.dimensionality())?;
         let other = other.to_array_subset(alloc)?;
@@ -224,16 +217,16 @@ impl ArraySubset {
 
     /// The box as it is seen from `offset`.
     ///
-    /// Refused where the numbers of dimensions differ, or where the start lies below the offset.
+    /// Refused if the numbers of dimensions differ, or if the start lies below the offset.
     pub fn relative_to(
         &self,
         alloc: Global,
         offset: &[u64],
     ) -> Result<ArraySubset, ArraySubsetError>
-        ensures start { IfOk result (λ b. (box_of b).start ≡ zip_with (λ s t. s - t) (box_of self.now).start offset.now) }
-        ensures shape { IfOk result (λ b. (box_of b).shape ≡ (box_of self.now).shape) }
+        ensures value { IfOk result (λ b. box_of b ≡ seen_from (box_of self.now) offset.now) }
         ensures dimensions { OnOk result (length offset.now ≡ length (box_of self.now).start) }
-        ensures above { OnOk result (EachIndex offset.now (λ k. slice_index offset.now k ≤ slice_index (box_of self.now).start k)) }
+        ensures above { OnOk result (EachIndex offset.now
+            (λ k. slice_index offset.now k ≤ slice_index (box_of self.now).start k)) }
         ensures refused { IfErr result (RefusesOffset (box_of self.now).start offset.now) }
     {
         self.check_length(offset.len())?;
@@ -247,12 +240,30 @@ impl ArraySubset {
         Ok(ArraySubset { start, shape })
     }
 
+    /// The box with `offset` added to its start: the same positions, seen from a corner that lies `offset` before.
+    ///
+    /// Refused if the numbers of dimensions differ, or if the end passes `u64`.
+    pub fn shifted_by(&self, alloc: Global, offset: &[u64]) -> Result<ArraySubset, ArraySubsetError>
+        ensures value { IfOk result (λ b. box_of b ≡ shifted_box (box_of self.now) offset.now) }
+        ensures dimensions { OnOk result (length offset.now ≡ length (box_of self.now).start) }
+        ensures refused { IfErr result (RefusesShift (box_of self.now).start (box_of self.now).shape offset.now) }
+    {
+        self.check_length(offset.len())?;
+        for k in 0..offset.len() {
+            if offset[k] > u64::MAX - (self.start[k] + self.shape[k]) {
+                return Err(ArraySubsetError::EndOverflow);
+            }
+        }
+        let start = sums(alloc, &self.start, offset)?;
+        let shape = Vec::from_slice(alloc, &self.shape)?;
+        Ok(ArraySubset { start, shape })
+    }
+
     /// The box with its start and its end cut to `end`.
     ///
-    /// Refused where the numbers of dimensions differ.
+    /// Refused if the numbers of dimensions differ.
     pub fn bound(&self, alloc: Global, end: &[u64]) -> Result<ArraySubset, ArraySubsetError>
-        ensures start { IfOk result (λ b. (box_of b).start ≡ (bound_to (box_of self.now) end.now).start) }
-        ensures shape { IfOk result (λ b. (box_of b).shape ≡ (bound_to (box_of self.now) end.now).shape) }
+        ensures value { IfOk result (λ b. box_of b ≡ bound_to (box_of self.now) end.now) }
         ensures dimensions { OnOk result (length end.now ≡ length (box_of self.now).start) }
         ensures refused { IfErr result (RefusesLength (length end.now) (length (box_of self.now).start)) }
     {

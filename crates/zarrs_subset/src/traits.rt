@@ -1,9 +1,8 @@
 //! What stands for a box.
 
-ghost use Rattle.std.specs.Prelude.{◌≡◌, ◌-◌, ◌≤◌, ◌^◌, length, IfOk, OnErr, MatchOption};
+ghost use Rattle.std.specs.Prelude.{◌≡◌, ◌-◌, ◌+◌, ◌<◌, ◌≤◌, ◌^◌, ◌↔◌, length, slice_index, IfOk, IsTrue, OnErr, MatchOption, SomeIndex};
 ghost use Rattle.zarrs_subset.specs.Boxes.{ends, position_count};
-ghost use Rattle.zarrs_subset.specs.Regions.{Box, IsBox, IsLong, box_of, box_of_ranges};
-ghost use Rattle.zarrs_subset.specs.RangeLaws.{IsLong-ranges};
+ghost use Rattle.zarrs_subset.specs.Regions.{Box, IsBox, IsLong, IsLong-ranges, LiesInShape, box_of, box_of_ranges};
 
 use crate::error::SizeOverflow;
 use crate::lists::ends_of;
@@ -42,13 +41,48 @@ pub trait ArraySubsetTraits {
         ensures refused { OnErr result (2 ^ 64 ≤ position_count (region self.now).shape) }
         ensures is_box { IsBox (region self.now) };
 
+    /// The indices of the box along the dimension.
+    fn range(&self, dimension: usize) -> Range<u64>
+        requires { dimension < length (region self.now).start }
+        ensures start { result.start ≡ slice_index (region self.now).start dimension }
+        ensures end { result.end
+            ≡ slice_index (region self.now).start dimension + slice_index (region self.now).shape dimension };
+
     /// The box as a subset of its own.
     fn to_array_subset(&self, alloc: Global) -> Result<ArraySubset, AllocError>
-        ensures start { IfOk result (λ subset. (box_of subset).start ≡ (region self.now).start) }
-        ensures shape { IfOk result (λ subset. (box_of subset).shape ≡ (region self.now).shape) };
+        ensures { IfOk result (λ subset. box_of subset ≡ region self.now) };
 
     // One extent for each start.
     ghost is_long: { (value : Self) → IsLong (region value) };
+
+    /// Whether the box has no position: some extent is 0.
+    final fn is_empty(&self) -> bool
+        ensures { IsTrue result ↔ SomeIndex (region self.now).shape
+            (λ k. slice_index (region self.now).shape k ≡ 0) }
+    {
+        for dimension in 0..self.dimensionality() {
+            let range = self.range(dimension);
+            if range.start == range.end {
+                return true;
+            }
+        }
+        false
+    }
+
+    /// Whether the box lies in an array of this shape.
+    final fn inbounds_shape(&self, array_shape: &[u64]) -> bool
+        ensures { IsTrue result ↔ LiesInShape (region self.now) array_shape.now }
+    {
+        if self.dimensionality() != array_shape.len() {
+            return false;
+        }
+        for (dimension, extent) in array_shape.iter().enumerate() {
+            if self.range(dimension).end > *extent {
+                return false;
+            }
+        }
+        true
+    }
 }
 
 impl ArraySubsetTraits for ArraySubset {
@@ -74,6 +108,11 @@ impl ArraySubsetTraits for ArraySubset {
 
     fn num_elements(&self) -> Result<u64, SizeOverflow> {
         element_count(self.shape()).ok_or(SizeOverflow)
+    }
+
+    fn range(&self, dimension: usize) -> Range<u64> {
+        let start = self.start()[dimension];
+        start..start + self.shape()[dimension]
     }
 
     fn to_array_subset(&self, _: Global) -> Result<ArraySubset, AllocError> {
@@ -106,6 +145,10 @@ impl ArraySubsetTraits for Vec<Range<u64>> {
         range_product(self).ok_or(SizeOverflow)
     }
 
+    fn range(&self, dimension: usize) -> Range<u64> {
+        range_along(self, dimension)
+    }
+
     fn to_array_subset(&self, alloc: Global) -> Result<ArraySubset, AllocError> {
         ArraySubset::new_with_ranges(alloc, self)
     }
@@ -136,6 +179,10 @@ impl ArraySubsetTraits for &[Range<u64>] {
         range_product(*self).ok_or(SizeOverflow)
     }
 
+    fn range(&self, dimension: usize) -> Range<u64> {
+        range_along(*self, dimension)
+    }
+
     fn to_array_subset(&self, alloc: Global) -> Result<ArraySubset, AllocError> {
         ArraySubset::new_with_ranges(alloc, *self)
     }
@@ -164,6 +211,10 @@ impl<const N: usize> ArraySubsetTraits for [Range<u64>; N] {
 
     fn num_elements(&self) -> Result<u64, SizeOverflow> {
         range_product(self).ok_or(SizeOverflow)
+    }
+
+    fn range(&self, dimension: usize) -> Range<u64> {
+        range_along(self, dimension)
     }
 
     fn to_array_subset(&self, alloc: Global) -> Result<ArraySubset, AllocError> {
@@ -197,6 +248,17 @@ fn range_ends(alloc: Global, ranges: &[Range<u64>]) -> Result<ArrayIndices, Allo
         .iter()
         .map(|range| range.end.max(range.start))
         .collect(alloc)
+}
+
+// The indices along the dimension. A reversed range ends at its start.
+fn range_along(ranges: &[Range<u64>], dimension: usize) -> Range<u64>
+    requires { dimension < length ranges.now }
+    ensures start { result.start ≡ slice_index (box_of_ranges ranges.now).start dimension }
+    ensures end { result.end ≡ slice_index (box_of_ranges ranges.now).start dimension
+        + slice_index (box_of_ranges ranges.now).shape dimension }
+{
+    let start = ranges[dimension].start;
+    start..ranges[dimension].end.max(start)
 }
 
 // The product of the extents, if that fits `u64`.

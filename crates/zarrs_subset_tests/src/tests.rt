@@ -1,11 +1,14 @@
 ghost use Rattle.std.specs.Prelude.{◌≡◌, ◌*◌, length, IfOk};
-ghost use Rattle.zarrs_subset.specs.Regions.{box_of};
+ghost use Rattle.zarrs_subset.specs.Regions.{box_from, box_of};
 
 use std::alloc::Global;
 use std::ops::Range;
 use std::process::Abort;
 use std::test::Fail;
-use zarrs_subset::laws::{boxes_hold_along_each_dimension, positions_are_row_major};
+use zarrs_subset::laws::{
+    boxes_hold_along_each_dimension, parts_lie_in_their_chunks, positions_are_row_major,
+    shifted_boxes_hold_shifted_positions,
+};
 use zarrs_subset::{
     ArraySubset, ArraySubsetError, ArraySubsetTraits, IncompatibleDimensionalityError,
     SizeOverflow, copy_box, element_count, place_part, ravel_indices, unravel_index,
@@ -16,8 +19,7 @@ fn numbers(alloc: Global, numbers: &[u64]) -> Result<Vec<u64>, Fail> {
 }
 
 fn subset(alloc: Global, start: &[u64], shape: &[u64]) -> Result<ArraySubset, Fail>
-    ensures start { IfOk result (λ made. (box_of made).start ≡ start.now) }
-    ensures shape { IfOk result (λ made. (box_of made).shape ≡ shape.now) }
+    ensures { IfOk result (λ made. box_of made ≡ box_from start.now shape.now) }
 {
     let start = Vec::from_slice(alloc, start)?;
     let shape = Vec::from_slice(alloc, shape)?;
@@ -254,6 +256,48 @@ fn boxes_seen_from_an_offset(rt: HostRuntime) -> Result<(), Fail> {
 }
 
 #[test]
+fn boxes_shifted_by_an_offset(rt: HostRuntime) -> Result<(), Fail> {
+    let alloc = rt.alloc();
+    let made = subset(alloc, &[3, 5], &[2, 2])?;
+    must_print(
+        &rt,
+        alloc,
+        &made.shifted_by(alloc, &[1, 5])?,
+        "[4..6, 10..12]",
+    )?;
+    must_refuse(
+        &rt,
+        &made.shifted_by(alloc, &[u64::MAX - 4, 0]),
+        &ArraySubsetError::EndOverflow,
+    );
+    must_be(
+        &rt,
+        &made.shifted_by(alloc, &[u64::MAX - 5, 0])?,
+        &[u64::MAX - 2, 5],
+        &[2, 2],
+    );
+    let mismatch = IncompatibleDimensionalityError::new(1, 2);
+    let refusal = ArraySubsetError::IncompatibleDimensionality(mismatch);
+    must_refuse(&rt, &made.shifted_by(alloc, &[1]), &refusal);
+    Ok(())
+}
+
+#[test]
+fn boxes_within_an_array(rt: HostRuntime) -> Result<(), Fail> {
+    let part = subset(rt.alloc(), &[3, 5], &[2, 2])?;
+    let cases: [(&[u64], bool); 4] = [
+        (&[5, 7], true),
+        (&[5, 6], false),
+        (&[4, 9], false),
+        (&[9, 9, 9], false),
+    ];
+    for (shape, expected) in &cases {
+        assert_eq!(rt; part.inbounds_shape(*shape), *expected);
+    }
+    Ok(())
+}
+
+#[test]
 fn boxes_cut_to_an_end(rt: HostRuntime) -> Result<(), Fail> {
     let alloc = rt.alloc();
     let made = subset(alloc, &[3, 5], &[4, 2])?;
@@ -418,6 +462,8 @@ fn counts_of_a_million_dimensions(rt: HostRuntime) -> Result<(), Fail> {
 fn laws_of_boxes_can_be_called() {
     positions_are_row_major();
     boxes_hold_along_each_dimension();
+    shifted_boxes_hold_shifted_positions();
+    parts_lie_in_their_chunks();
 }
 
 fn must_walk(
@@ -490,7 +536,8 @@ fn described<B: ArraySubsetTraits>(alloc: Global, region: &B) -> Result<String, 
     let count = region.dimensionality();
     let is_empty = region.num_elements() == Ok(0);
     let own = region.to_array_subset(alloc)?;
-    Ok(format!(in alloc; "{count} {start:?} {shape:?} {end:?} {is_empty} {own}")?)
+    let along = if count == 2 { region.range(1) } else { 0..0 };
+    Ok(format!(in alloc; "{count} {start:?} {shape:?} {end:?} {is_empty} {own} {along:?}")?)
 }
 
 fn must_be_described<B: ArraySubsetTraits>(
@@ -498,7 +545,7 @@ fn must_be_described<B: ArraySubsetTraits>(
     alloc: Global,
     region: &B,
 ) -> Result<(), Fail> {
-    let expected = "2 [1, 7] [3, 0] [4, 7] true [1..4, 7..7]";
+    let expected = "2 [1, 7] [3, 0] [4, 7] true [1..4, 7..7] 7..7";
     assert_eq!(rt; described(alloc, region)?.as_str(), expected);
     Ok(())
 }

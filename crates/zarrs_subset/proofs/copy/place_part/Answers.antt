@@ -1,7 +1,7 @@
-use Rattle.std.proofs.Common.{arith, rules, ◌≡◌, ◌+◌, ◌-◌, ◌<◌, max, min, length, slice_index, refl, sym, ◌∙◌}
-use Rattle.zarrs_subset.specs.Boxes.{MeetAlong, overlap_extents, zip_with}
+use Rattle.std.proofs.Common.{arith, rules, ◌≡◌, ◌+◌, ◌-◌, ◌<◌, max, min, length, slice_index, refl, sym}
+use Rattle.zarrs_subset.specs.Boxes.{MeetAlong, overlap_extents}
 use Rattle.zarrs_subset.specs.Regions.{box_of}
-use Rattle.zarrs_subset.proofs.Overlaps.{length-zip_with, length-overlap_extents}
+use Rattle.zarrs_subset.proofs.Overlaps.{length-overlap_extents}
 use Rattle.zarrs_subset.proofs.Parts.{BytesPlaced-apart, TakesPart-from, shared_start, shared_other_start, zip_with-at, overlap_extents-at, shared_fits, shared_some, shared_copied}
 use Rattle.zarrs_subset.proofs.BoxRuns.{box_copied, AllSome-fits, block_within, fits_at, IsPlan-more}
 use Rattle.zarrs_subset.proofs.copy.place_part.Goals.{then-cell_size-eq0-via-then-cell_size-eq0, then-cell_size-eq0-via-else-cell_size-eq0+then-are_apart}
@@ -34,8 +34,11 @@ add-requires-clause-source_room c =
     let some = shared_some _ _ _ _ long part_long dimensions meet in
     let next : c.loop-k.k ≡ c.loop-k.k - 1 + 1 = omega arith in
     let block = rw next at c.loop-k.invariant.plan.source_block in
-    omega (arith, block_within c.shape-part_shape.result.now (c.loop-k.k - 1) _ _ (length c.args.part.now) (omega arith)
-    (AllSome-fits _ _ _ some fits.1) block (search rules))
+    omega (
+      arith,
+      block_within c.shape-part_shape.result.now (c.loop-k.k - 1) _ _ (length c.args.part.now) (omega arith)
+          (AllSome-fits _ _ _ some fits.1) block (search rules),
+    )
 
 pub add-requires-clause-target_room : goal.add-requires-clause-target_room
 add-requires-clause-target_room c =
@@ -47,8 +50,11 @@ add-requires-clause-target_room c =
     let some = shared_some _ _ _ _ long part_long dimensions meet in
     let next : c.loop-k.k ≡ c.loop-k.k - 1 + 1 = omega arith in
     let block = rw next at c.loop-k.invariant.plan.target_block in
-    omega (arith, block_within c.shape-shape.result.now (c.loop-k.k - 1) _ _ (length c.args.target.now) (omega arith)
-    (AllSome-fits _ _ _ some fits.0) block (search rules))
+    omega (
+      arith,
+      block_within c.shape-shape.result.now (c.loop-k.k - 1) _ _ (length c.args.target.now) (omega arith)
+          (AllSome-fits _ _ _ some fits.0) block (search rules),
+    )
 
 pub loop-k-preserved : goal.loop-k-preserved
 loop-k-preserved c =
@@ -74,7 +80,7 @@ loop-k-preserved c =
     record {
       within = omega arith;
       plan = IsPlan-more _ _ k _ _ _ _ _ _ _ (omega arith) (fits_at _ _ _ _ _ k fits.1 fits.0 inside)
-      (rw (from, to, extent) at c.add.ensures) c.loop-k.invariant.plan;
+          (rw (from, to, extent) at c.add.ensures) c.loop-k.invariant.plan;
     }
 
 pub returns : goal.returns

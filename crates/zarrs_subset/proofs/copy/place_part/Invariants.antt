@@ -12,5 +12,5 @@ abbrev pub invariant-loop-k : goal.invariant-loop-k
 invariant-loop-k l = record {
   within : l.k ≤ length l.start;
   plan : IsPlan l.cell_size (drop l.k l.part_shape) (drop l.k (shared_other_start l.start l.part_start)) (drop l.k l.shape)
-  (drop l.k (shared_start l.start l.part_start)) (drop l.k (overlap_extents l.start l.shape l.part_start l.part_shape)) l.runs;
+      (drop l.k (shared_start l.start l.part_start)) (drop l.k (overlap_extents l.start l.shape l.part_start l.part_shape)) l.runs;
 }

@@ -1,6 +1,6 @@
 use Rattle.std.proofs.Common.{ℕ, ◌≡◌, ◌<◌, ◌≤◌, length}
-use Rattle.zarrs_subset.specs.Steps.{box_from, IsEndedAt}
-use Rattle.zarrs_subset.proofs.WalkLemmas.{reset_from}
+use Rattle.zarrs_subset.specs.Regions.{box_from}
+use Rattle.zarrs_subset.proofs.WalkLemmas.{IsEndedAt, reset_from}
 use Rattle.zarrs_subset.proofs.indices.advance.Given as goal
 
 abbrev pub decreases-loop-axis : goal.decreases-loop-axis

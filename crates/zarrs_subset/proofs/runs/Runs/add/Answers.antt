@@ -1,7 +1,7 @@
-use Rattle.std.proofs.Common.{rules, arith, refl, sym, ap, ◌∙◌, ◌≡◌, ◌+◌, ◌-◌, ◌*◌, ◌<◌, ◌≤◌, [], drop, length, ◌↔◌}
-use Rattle.std.proofs.Math.Nat.{add-mul, mul_comm, mul_assoc, mul-le-mul_left}
+use Rattle.std.proofs.Common.{rules, arith, refl, sym, ap, ◌∙◌, ◌≡◌, ◌-◌, ◌*◌, ◌<◌, ◌≤◌, [], drop, length}
+use Rattle.std.proofs.Math.Nat.{mul_comm, mul_assoc}
 use Rattle.std.proofs.lemmas.List.{drop_all}
-use Rattle.zarrs_subset.specs.Boxes.{position_count, place}
+use Rattle.zarrs_subset.specs.Boxes.{position_count}
 use Rattle.zarrs_subset.proofs.PlanLemmas.{Extends, joined, pushed, single, extended_reaches, reaches_more, extended_apart, extended_source_span, extended_target_span, room_more, few_more, iff_trans, offset_more, some_more, drop-set_before}
 use Rattle.zarrs_subset.proofs.runs.Runs.add.Goals as goal
 use Rattle.zarrs_subset.proofs.runs.Runs.add.Goals.{then-self-eq-MOST_STRIDES+then-self+then-self-2, else-self-eq-MOST_STRIDES+then-extent-gt1, else-self-eq-MOST_STRIDES+else-extent-gt1}
@@ -33,9 +33,9 @@ invariant_of-self c =
       some = some_more _ _ _ _ _ _ _ _ _ old.some c.requires.some step;
       apart = extended_apart _ _ _ _ _ _ _ _ _ (omega (arith, old.target_room)) old.apart step;
       source_room = rw (extended_source_span _ _ _ _ _ _ _ _ _ c.requires.some step)
-      (room_more _ _ _ _ _ _ old.source_room c.requires.source_fits c.requires.some);
+          (room_more _ _ _ _ _ _ old.source_room c.requires.source_fits c.requires.some);
       target_room = rw (extended_target_span _ _ _ _ _ _ _ _ _ c.requires.some step)
-      (room_more _ _ _ _ _ _ old.target_room c.requires.target_fits c.requires.some);
+          (room_more _ _ _ _ _ _ old.target_room c.requires.target_fits c.requires.some);
       few = few_more _ _ _ _ _ _ _ _ _ _ _ (omega (arith, c.requires.target_fits)) old.few step;
     }
 
@@ -62,5 +62,5 @@ returns c = λ size S F T U es plan.
       source_offset = offset_more _ _ _ _ _ _ plan.source_offset plan.source_block;
       target_offset = offset_more _ _ _ _ _ _ plan.target_offset plan.target_block;
       reaches = λ t s. iff_trans _ _ _ (extended_reaches _ _ _ _ _ _ _ _ _ t s old.some step)
-      (reaches_more _ _ _ _ _ _ _ _ _ t s plan.source_block plan.target_block plan.reaches);
+          (reaches_more _ _ _ _ _ _ _ _ _ t s plan.source_block plan.target_block plan.reaches);
     }
