@@ -4,7 +4,7 @@
 
 mod document;
 mod fields;
-mod members;
+pub mod members;
 mod numbers;
 mod reading;
 mod writing;

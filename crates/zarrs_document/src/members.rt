@@ -3,10 +3,12 @@ ghost use Rattle.std.specs.Prelude.{◌≡◌, [], ◌∷◌, option_map, option
 ghost use Rattle.serde_json.specs.Find.{get_member, as_array, as_object};
 ghost use Rattle.serde_json.specs.View.{view, items_view, members_view};
 ghost use Rattle.zarrs_metadata.specs.Members.{besides, nonempty};
-ghost use Rattle.zarrs_document.specs.Members.{members_in, object_data, put_some};
+ghost use Rattle.zarrs_metadata.specs.Lists.{numbers_of};
+ghost use Rattle.zarrs_document.specs.Members.{is_text, is_number, members_in, object_data, put_some};
 
 use serde_json::{Map, Value};
 use std::alloc::{AllocError, Global};
+use zarrs_metadata::numbers;
 
 /// Takes the member of this name out.
 pub fn take_member(members: &mut Map<String, Value>, name: &str) -> Option<Value>
@@ -18,6 +20,14 @@ pub fn take_member(members: &mut Map<String, Value>, name: &str) -> Option<Value
     // It tells the proof that the names ascend.
     let _count = members.len();
     members.remove(name)
+}
+
+/// The member of this name.
+pub fn member_of<'a>(members: &'a Map<String, Value>, name: &str) -> Option<&'a Value>
+    ensures { option_map (λ value. view value.now) result
+        ≡ get_member name.now (members_view members.now.entries) }
+{
+    members.get(name)
 }
 
 /// Puts the member in, if there is one, over a member of that name.
@@ -84,7 +94,8 @@ pub fn members_in(alloc: Global, member: Option<Value>) -> Option<Map<String, Va
     }
 }
 
-fn is_empty(members: &Map<String, Value>) -> bool
+/// Whether there is no member.
+pub fn is_empty(members: &Map<String, Value>) -> bool
     ensures { result ≡ is_none (nonempty (members_view members.now.entries)) }
 {
     members.is_empty()
@@ -99,5 +110,42 @@ pub fn object_value(members: &Map<String, Value>) -> Result<Option<Value>, Alloc
         Ok(None)
     } else {
         Ok(Some(Value::Object(copied(members)?)))
+    }
+}
+
+/// Whether the member is this number.
+pub fn is_number(member: &Option<Value>, wanted: u64) -> bool
+    ensures { result ≡ is_number wanted (option_map view member.now) }
+{
+    match member {
+        Some(value) => match value.as_u64() {
+            Some(number) => number == wanted,
+            None => false,
+        },
+        None => false,
+    }
+}
+
+/// Whether the member is this text.
+pub fn is_text(member: &Option<Value>, wanted: &str) -> bool
+    ensures { result ≡ is_text wanted.now (option_map view member.now) }
+{
+    match member {
+        Some(value) => match value.as_str() {
+            Some(text) => text == wanted,
+            None => false,
+        },
+        None => false,
+    }
+}
+
+/// The list of whole numbers that the member reads as.
+pub fn numbers_in(alloc: Global, member: Option<Value>) -> Result<Option<Vec<u64>>, AllocError>
+    ensures { IfOk result (λ o. option_map (λ v. v.items) o
+        ≡ option_and_then numbers_of (option_map view member)) }
+{
+    match member {
+        Some(value) => numbers(alloc, &value),
+        None => Ok(None),
     }
 }

@@ -2,19 +2,19 @@
 ghost use Rattle.std.specs.Prelude.{◌≡◌, Some, None, map, codes, option_map, option_and_then, IfOk};
 ghost use Rattle.serde_json.specs.View.{view, items_view, members_view};
 ghost use Rattle.zarrs_metadata.specs.Members.{besides};
-ghost use Rattle.zarrs_metadata.specs.Lists.{all_of, numbers_of};
+ghost use Rattle.zarrs_metadata.specs.Lists.{all_of};
 ghost use Rattle.zarrs_metadata.specs.Extension.{extension_of};
 ghost use Rattle.zarrs_metadata.specs.View.{extension_view};
-ghost use Rattle.zarrs_document.specs.Members.{is_text, is_number, list_in};
+ghost use Rattle.zarrs_document.specs.Members.{list_in};
 ghost use Rattle.zarrs_document.specs.Document.{dimension_name_of, transformers_in, names_in, parts_of, document_names, is_array, draft_of, assembled, document_from, document_of};
 ghost use Rattle.zarrs_document.specs.View.{name_view, document_view, parts_view, draft_view};
 
 use crate::document::{ArrayMetadataV3, DimensionName};
 use crate::fields::{AdditionalFieldsV3, read_fields};
-use crate::members::{items_in, members_in, object_of, take_member};
+use crate::members::{is_number, is_text, items_in, members_in, numbers_in, object_of, take_member};
 use serde_json::{Map, Value};
 use std::alloc::{AllocError, Global};
-use zarrs_metadata::{MetadataV3, numbers};
+use zarrs_metadata::MetadataV3;
 
 /// The members of a document, and the others.
 #[derive(Drop)]
@@ -184,43 +184,6 @@ impl Draft {
             dimension_names: dimension_names?,
             additional_fields,
         })
-    }
-}
-
-/// Whether the member is this number.
-pub fn is_number(member: &Option<Value>, wanted: u64) -> bool
-    ensures { result ≡ is_number wanted (option_map view member.now) }
-{
-    match member {
-        Some(value) => match value.as_u64() {
-            Some(number) => number == wanted,
-            None => false,
-        },
-        None => false,
-    }
-}
-
-/// Whether the member is this text.
-pub fn is_text(member: &Option<Value>, wanted: &str) -> bool
-    ensures { result ≡ is_text wanted.now (option_map view member.now) }
-{
-    match member {
-        Some(value) => match value.as_str() {
-            Some(text) => text == wanted,
-            None => false,
-        },
-        None => false,
-    }
-}
-
-/// The list of whole numbers that the member reads as.
-pub fn numbers_in(alloc: Global, member: Option<Value>) -> Result<Option<Vec<u64>>, AllocError>
-    ensures { IfOk result (λ o. option_map (λ v. v.items) o
-        ≡ option_and_then numbers_of (option_map view member)) }
-{
-    match member {
-        Some(value) => numbers(alloc, &value),
-        None => Ok(None),
     }
 }
 
