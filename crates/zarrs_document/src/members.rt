@@ -73,7 +73,7 @@ fn list_of(value: Value) -> Option<Vec<Value>>
 }
 
 /// The items of a list, or `None` for any other value and for an absent one.
-pub(crate) fn items_in(member: Option<Value>) -> Option<Vec<Value>>
+pub fn items_in(member: Option<Value>) -> Option<Vec<Value>>
     ensures { option_map (λ v. items_view v.items) result
         ≡ option_and_then as_array (option_map view member) }
 {
