@@ -8,22 +8,22 @@ use Rattle.zarrs_metadata.specs.Members.{has_only}
 use Rattle.zarrs_metadata.specs.Separator.{separator_of, separator_data}
 use Rattle.zarrs_metadata.specs.declared.separators.ChunkKeySeparator.{ChunkKeySeparator}
 use Rattle.zarrs_metadata.specs.declared.separators.ChunkKeySeparator.TheVariants.{Slash, Dot}
-use Rattle.zarrs_keys.specs.Suffix.{is_suffix}
+use Rattle.zarrs_keys.specs.Keys.{is_suffix}
 use Rattle.zarrs_keys.specs.declared.encodings.ChunkKeyEncoding.{ChunkKeyEncoding}
 use Rattle.zarrs_keys.specs.declared.encodings.ChunkKeyEncoding.TheVariants.{Default, V2, DefaultSuffix}
 
 -- ---- what metadata says
 
--- the separator of a member, or the one that an absent member stands for
+-- the separator of a member, or the one that an absent member means
 abbrev pub separator_or : ChunkKeySeparator → Option Data → Option ChunkKeySeparator
 separator_or absent None = Some absent
 separator_or absent (Some value) = separator_of value
 
--- the member `separator` of a configuration, or the one that stands for it
+-- the member `separator` of a configuration, or the one that an absent member means
 abbrev pub separator_in : ChunkKeySeparator → Members → Option ChunkKeySeparator
 separator_in absent configuration = separator_or absent (get_member (codes "separator") configuration)
 
--- the text, where it is a suffix
+-- the text, if it is a suffix
 abbrev pub suffix_named : List ℕ → Option (List ℕ)
 suffix_named text = if is_suffix text then Some text else None
 
@@ -31,15 +31,15 @@ suffix_named text = if is_suffix text then Some text else None
 abbrev pub suffix_in : Members → Option (List ℕ)
 suffix_in configuration = option_and_then suffix_named (option_and_then as_str (get_member (codes "suffix") configuration))
 
--- `/` where no separator is given
+-- the `default` encoding; an absent separator is `/`
 abbrev pub default_of : Members → Option ChunkKeyEncoding
 default_of configuration = if has_only (codes "separator" ∷ []) configuration then option_map Default (separator_in Slash configuration) else None
 
--- `.` where no separator is given
+-- the `v2` encoding; an absent separator is `.`
 abbrev pub v2_of : Members → Option ChunkKeyEncoding
 v2_of configuration = if has_only (codes "separator" ∷ []) configuration then option_map V2 (separator_in Dot configuration) else None
 
--- `/` where no separator is given; the suffix is always given
+-- the `default_suffix` encoding; an absent separator is `/`, and the suffix is not absent
 abbrev pub default_suffix_of : Members → Option ChunkKeyEncoding
 default_suffix_of configuration =
     if has_only (codes "separator" ∷ codes "suffix" ∷ []) configuration then (do
@@ -56,8 +56,8 @@ encoding_named name configuration =
     else None
 
 -- the encoding that metadata says
-abbrev pub encoding_of : ExtensionData → Option ChunkKeyEncoding
-encoding_of extension = encoding_named extension.name (settings extension)
+abbrev pub key_encoding_of : ExtensionData → Option ChunkKeyEncoding
+key_encoding_of extension = encoding_named extension.name (settings extension)
 
 -- ---- what is written for an encoding
 

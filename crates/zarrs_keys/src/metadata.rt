@@ -2,9 +2,9 @@
 ghost use Rattle.std.specs.Prelude.{◌≡◌, Some, IfOk, IfErr};
 ghost use Rattle.serde_json.specs.Data.{no_members};
 ghost use Rattle.zarrs_metadata.specs.Extension.{settings};
-ghost use Rattle.zarrs_metadata.specs.View.{extension_view};
+ghost use Rattle.zarrs_metadata.specs.Extension.{extension_view};
 ghost use Rattle.zarrs_metadata.specs.Refusals.{RefusesMeaning};
-ghost use Rattle.zarrs_keys.specs.Metadata.{separator_in, suffix_named, suffix_in, default_of, v2_of, default_suffix_of, encoding_of, configured, separator_member, extension_of_encoding};
+ghost use Rattle.zarrs_keys.specs.Metadata.{separator_in, suffix_named, suffix_in, default_of, v2_of, default_suffix_of, key_encoding_of, configured, separator_member, extension_of_encoding};
 
 use crate::encodings::ChunkKeyEncoding;
 use crate::error::KeySuffixError;
@@ -13,7 +13,7 @@ use serde_json::Value;
 use std::alloc::{AllocError, Global};
 use zarrs_metadata::{ChunkKeySeparator, MetadataV3, PluginCreateError};
 
-/// The separator of a configuration, or the one that stands for it where it gives none.
+/// Returns the separator of a configuration, or `absent` if it has none.
 fn separator_in(absent: ChunkKeySeparator, metadata: &MetadataV3) -> Option<ChunkKeySeparator>
     ensures { result ≡ separator_in absent (settings (extension_view metadata.now)) }
 {
@@ -23,7 +23,7 @@ fn separator_in(absent: ChunkKeySeparator, metadata: &MetadataV3) -> Option<Chun
     }
 }
 
-/// The suffix with this text, or none where it is no suffix.
+/// Returns the suffix with this text, or `None` if it is not a suffix.
 fn suffix_named(alloc: Global, text: &str) -> Result<Option<KeySuffix>, AllocError>
     ensures { IfOk result (λ suffix. suffix ≡ suffix_named text.now) }
 {
@@ -34,7 +34,7 @@ fn suffix_named(alloc: Global, text: &str) -> Result<Option<KeySuffix>, AllocErr
     }
 }
 
-/// The suffix of a configuration.
+/// Returns the suffix of a configuration.
 fn suffix_in(alloc: Global, metadata: &MetadataV3) -> Result<Option<KeySuffix>, AllocError>
     ensures { IfOk result (λ suffix. suffix ≡ suffix_in (settings (extension_view metadata.now))) }
 {
@@ -44,7 +44,7 @@ fn suffix_in(alloc: Global, metadata: &MetadataV3) -> Result<Option<KeySuffix>, 
     }
 }
 
-/// The `default` encoding with this configuration, if it is one of it.
+/// Returns the `default` encoding with this configuration, if it is one of it.
 fn default_of(metadata: &MetadataV3) -> Option<ChunkKeyEncoding>
     ensures { result ≡ default_of (settings (extension_view metadata.now)) }
 {
@@ -55,7 +55,7 @@ fn default_of(metadata: &MetadataV3) -> Option<ChunkKeyEncoding>
     Some(ChunkKeyEncoding::Default(separator))
 }
 
-/// The `v2` encoding with this configuration, if it is one of it.
+/// Returns the `v2` encoding with this configuration, if it is one of it.
 fn v2_of(metadata: &MetadataV3) -> Option<ChunkKeyEncoding>
     ensures { result ≡ v2_of (settings (extension_view metadata.now)) }
 {
@@ -66,7 +66,7 @@ fn v2_of(metadata: &MetadataV3) -> Option<ChunkKeyEncoding>
     Some(ChunkKeyEncoding::V2(separator))
 }
 
-/// The `default_suffix` encoding with this configuration, if it is one of it.
+/// Returns the `default_suffix` encoding with this configuration, if it is one of it.
 fn default_suffix_of(
     alloc: Global,
     metadata: &MetadataV3,
@@ -86,9 +86,9 @@ fn default_suffix_of(
     }
 }
 
-/// The encoding that metadata says, if it says one.
+/// Returns the encoding that metadata says, if it says one.
 fn encoding_of(alloc: Global, metadata: &MetadataV3) -> Result<Option<ChunkKeyEncoding>, AllocError>
-    ensures { IfOk result (λ encoding. encoding ≡ encoding_of (extension_view metadata.now)) }
+    ensures { IfOk result (λ encoding. encoding ≡ key_encoding_of (extension_view metadata.now)) }
 {
     match metadata.name() {
         "default" => Ok(default_of(metadata)),
@@ -98,7 +98,7 @@ fn encoding_of(alloc: Global, metadata: &MetadataV3) -> Result<Option<ChunkKeyEn
     }
 }
 
-/// The metadata of this name, with the separator as its configuration.
+/// Returns the metadata of this name, with the separator as its configuration.
 fn with_separator(
     alloc: Global,
     name: &str,
@@ -113,20 +113,22 @@ fn with_separator(
 }
 
 impl ChunkKeyEncoding {
-    /// The encoding that metadata says: `default`, `v2` or `default_suffix` (also under the name
+    /// Reads the encoding that metadata says: `default`, `v2` or `default_suffix` (also under the name
     /// `zarrs.default_suffix`), with a `separator` of `/` or `.` and, for the last, a `suffix`.
-    /// Without a `separator` the one of `default` and `default_suffix` is `/`, that of `v2` is `.`
+    /// If it has no `separator`, the one of `default` and `default_suffix` is `/`, that of `v2` is `.`
     /// (Zarr V3 core specification, chunk key encoding).
     ///
     /// # Errors
-    /// `Other` where the metadata says none of them: for another name, a member of another shape,
+    /// `Other` if the metadata says none of them: for another name, a member of another shape,
     /// and a configuration with any other member.
     pub fn from_metadata(
         alloc: Global,
         metadata: &MetadataV3,
     ) -> Result<ChunkKeyEncoding, PluginCreateError>
-        ensures read { IfOk result (λ encoding. encoding_of (extension_view metadata.now) ≡ Some encoding) }
-        ensures refused { IfErr result (RefusesMeaning (encoding_of (extension_view metadata.now))) }
+        ensures read { IfOk result (λ encoding.
+            key_encoding_of (extension_view metadata.now) ≡ Some encoding) }
+        ensures refused { IfErr result
+            (RefusesMeaning (key_encoding_of (extension_view metadata.now))) }
     {
         let Some(encoding) = encoding_of(alloc, metadata)? else {
             let name = metadata.name();
@@ -136,10 +138,10 @@ impl ChunkKeyEncoding {
         Ok(encoding)
     }
 
-    /// The metadata of the encoding. The separator is always written.
+    /// Returns the metadata of the encoding. The separator is always written.
     pub fn metadata(&self, alloc: Global) -> Result<MetadataV3, AllocError>
         ensures written { IfOk result (λ m. extension_view m ≡ extension_of_encoding self.now) }
-        ensures reads_back { IfOk result (λ m. encoding_of (extension_view m) ≡ Some self.now) }
+        ensures reads_back { IfOk result (λ m. key_encoding_of (extension_view m) ≡ Some self.now) }
     {
         match self {
             ChunkKeyEncoding::Default(separator) => with_separator(alloc, "default", *separator),
@@ -153,6 +155,3 @@ impl ChunkKeyEncoding {
         }
     }
 }
-
-#[cfg(test)]
-mod tests;

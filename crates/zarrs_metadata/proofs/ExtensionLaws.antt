@@ -1,16 +1,16 @@
 -- What is written reads as what was written.
 use Rattle.std.proofs.Common.{◌≡◌, ℕ, List, [], ◌∷◌, Bool, true, false, Option, Some, None, codes, refl, ap, ◌∙◌}
 use Rattle.serde_json.specs.Data.{Members, no_members, member}
-use Rattle.zarrs_metadata.specs.Extension.{ExtensionData, normal, data_of, extension_of, extension_from, extension_of_members, extension_names}
+use Rattle.zarrs_metadata.specs.Extension.{ExtensionData, normal, extension_data, extension_of, extension_from, extension_of_members, extension_names}
 use Rattle.serde_json.specs.Find.{get_member}
 use Rattle.std.specs.Prelude.{is_none}
 use Rattle.zarrs_metadata.specs.Members.{besides, nonempty}
 use Rattle.zarrs_metadata.proofs.MemberLemmas.{besides-besides, get_member-besides, nothing_besides}
 
-pub round_trip : (e : ExtensionData) → extension_of (data_of e) ≡ Some (normal e)
+pub round_trip : (e : ExtensionData) → extension_of (extension_data e) ≡ Some (normal e)
 round_trip e = trip e.name e.configuration e.must_understand
   where
-    trip : (text : List ℕ) (settings : Option Members) (must : Bool) → extension_of (data_of (record { name = text; configuration = settings; must_understand = must })) ≡ Some (normal (record { name = text; configuration = settings; must_understand = must }))
+    trip : (text : List ℕ) (settings : Option Members) (must : Bool) → extension_of (extension_data (record { name = text; configuration = settings; must_understand = must })) ≡ Some (normal (record { name = text; configuration = settings; must_understand = must }))
     trip text None true = refl
     trip text None false = refl
     trip text (Some no_members) true = refl

@@ -1,8 +1,10 @@
 -- An extension point, and the JSON values that say one.
-use Rattle.std.specs.Prelude.{ℕ, List, [], ◌∷◌, Bool, true, false, codes, if◌then◌else◌, Option, Some, None, unwrap_or, option_map, option_and_then}
+use Rattle.std.specs.Prelude.{ℕ, List, [], ◌∷◌, Bool, true, false, codes, if◌then◌else◌, Option, Some, None, unwrap_or, option_map, option_and_then, string_bytes}
 use Rattle.serde_json.specs.Data.{Data, null, boolean, number, string, array, object, Members, no_members, member}
 use Rattle.serde_json.specs.Find.{get_member, as_str, as_bool, as_object}
+use Rattle.serde_json.specs.View.{members_view}
 use Rattle.zarrs_metadata.specs.Members.{has_only, nonempty}
+use Rattle.zarrs_metadata.specs.declared.extension.MetadataV3.{MetadataV3}
 
 -- a name, the members of a configuration, and whether the extension must be understood
 pub record ExtensionData : Type 0 where
@@ -10,15 +12,21 @@ pub record ExtensionData : Type 0 where
   pub configuration : Option Members
   pub must_understand : Bool
 
--- the members of the configuration, where an absent one is an empty one
+-- the extension point that a value of this type is
+abbrev pub extension_view : MetadataV3 → ExtensionData
+extension_view m =
+    record { name = string_bytes m.name; configuration = option_map (λ c. members_view c.entries) m.configuration; must_understand = m.must_understand }
+
+-- the members of the configuration; an absent one has none
 abbrev pub settings : ExtensionData → Members
 settings e = unwrap_or e.configuration no_members
 
+-- the value, passed on to the next step if it is present
 infixl 10 ◌>>=◌
 abbrev pub ◌>>=◌ : {A B : Type 0} → Option A → (A → Option B) → Option B
 o >>= f = option_and_then f o
 
--- no configuration, and to be understood
+-- a name alone: no configuration, and to be understood
 abbrev pub named : List ℕ → ExtensionData
 named text = record { name = text; configuration = None; must_understand = true }
 
@@ -29,7 +37,7 @@ abbrev pub configuration_from : Option Data → Option (Option Members)
 configuration_from None = Some None
 configuration_from (Some d) = option_map nonempty (as_object d)
 
--- true where it is absent
+-- an absent flag is true
 abbrev pub must_understand_from : Option Data → Option Bool
 must_understand_from None = Some true
 must_understand_from (Some d) = as_bool d
@@ -38,7 +46,7 @@ must_understand_from (Some d) = as_bool d
 abbrev pub extension_names : List (List ℕ)
 extension_names = codes "must_understand" ∷ codes "configuration" ∷ codes "name" ∷ []
 
--- the three members, each of its shape, where they are all
+-- the three members, each of its shape, if there is no other
 abbrev pub extension_from : Option Data → Option Data → Option Data → Bool → Option ExtensionData
 extension_from text configuration flag is_all = do
   n ← option_and_then as_str text
@@ -70,12 +78,12 @@ abbrev pub with_must_understand : Bool → Members → Members
 with_must_understand true others = others
 with_must_understand false others = member (codes "must_understand") (boolean false) others
 
--- the object, with the flag where it is false
+-- the object; the flag is written only if it is false
 abbrev pub object_with : List ℕ → Option Members → Bool → Data
 object_with text configuration flag =
     object (with_configuration configuration (with_must_understand flag (member (codes "name") (string text) no_members)))
 
--- its name alone where that says it all, else an object
+-- its name alone if that says it all, else an object
 abbrev pub data_with : List ℕ → Option Members → Bool → Data
 data_with text None true = string text
 data_with text None false = object_with text None false
@@ -86,5 +94,5 @@ abbrev pub normal : ExtensionData → ExtensionData
 normal e = record e { configuration = option_and_then nonempty e.configuration }
 
 -- the JSON value of an extension point
-abbrev pub data_of : ExtensionData → Data
-data_of e = data_with e.name (option_and_then nonempty e.configuration) e.must_understand
+abbrev pub extension_data : ExtensionData → Data
+extension_data e = data_with e.name (option_and_then nonempty e.configuration) e.must_understand

@@ -3,4 +3,3 @@ pub mod Members
 pub mod Extension
 pub mod Lists
 pub mod Refusals
-pub mod View

@@ -9,7 +9,7 @@ abbrev pub all_of : {A : Type 0} → (Data → Option A) → Items → Option (L
 all_of f no_items = Some []
 all_of f (item d ds) = option_and_then (λ a. option_map (λ more. a ∷ more) (all_of f ds)) (f d)
 
--- the list that a JSON value says, where each item says an element
+-- the list that a JSON value says, if each item says an element
 abbrev pub list_of : {A : Type 0} → (Data → Option A) → Data → Option (List A)
 list_of f d = option_and_then (all_of f) (as_array d)
 

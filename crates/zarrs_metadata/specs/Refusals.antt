@@ -3,12 +3,12 @@ use Rattle.std.specs.Prelude.{◌≡◌, ℕ, List, Option, None, string_bytes}
 use Rattle.zarrs_metadata.specs.declared.error.PluginCreateError.{PluginCreateError}
 use Rattle.zarrs_metadata.specs.declared.error.PluginCreateError.TheVariants.{Other, OutOfMemory}
 
--- the refusal with this text, or want of memory for it
-abbrev pub SaysOther : List ℕ → PluginCreateError → Type 0
-SaysOther text (Other said) = string_bytes said ≡ text
-SaysOther text OutOfMemory = Unit {0}
+-- the refusal with this text, or out of memory
+abbrev pub SaysReason : List ℕ → PluginCreateError → Type 0
+SaysReason text (Other said) = string_bytes said ≡ text
+SaysReason text OutOfMemory = Unit {0}
 
--- the metadata means nothing of the kind, or memory was short
+-- the metadata means nothing of the kind, or memory ran out
 abbrev pub RefusesMeaning : {A : Type 0} → Option A → PluginCreateError → Type 0
 RefusesMeaning meant (Other said) = meant ≡ None
 RefusesMeaning meant OutOfMemory = Unit {0}

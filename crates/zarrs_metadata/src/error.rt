@@ -5,13 +5,13 @@ ghost use Rattle.zarrs_metadata.specs.declared.error.PluginCreateError.TheVarian
 use std::alloc::{AllocError, AllocFailed, Global};
 use thiserror::Error;
 
-/// Why a JSON value is no metadata.
+/// Why a JSON value is not metadata.
 #[derive(Debug, Drop, Error)]
 pub enum MetadataError {
     /// The value has another shape than the metadata.
     #[error("the metadata has another shape")]
     InvalidShape,
-    /// Memory was short.
+    /// Memory ran out.
     #[error("out of memory")]
     OutOfMemory,
 }
@@ -19,10 +19,10 @@ pub enum MetadataError {
 /// Why no grid, key encoding, data type or codec was made from metadata.
 #[derive(Debug, Drop, Error)]
 pub enum PluginCreateError {
-    /// The metadata says none, as the text explains.
+    /// The metadata describes none, for the reason in the text.
     #[error("{0}")]
     Other(String),
-    /// Memory was short.
+    /// Memory ran out.
     #[error("out of memory")]
     OutOfMemory,
 }
@@ -44,11 +44,11 @@ impl<T: Drop> From<AllocFailed<T>> for PluginCreateError {
 }
 
 impl PluginCreateError {
-    ghost use Rattle.zarrs_metadata.specs.Refusals.{SaysOther};
+    ghost use Rattle.zarrs_metadata.specs.Refusals.{SaysReason};
 
-    /// The refusal with this text, or want of memory for it.
+    /// The refusal with this text, or `OutOfMemory`.
     pub fn other(alloc: Global, text: &str) -> PluginCreateError
-        ensures { SaysOther text.now result }
+        ensures { SaysReason text.now result }
     {
         match String::from_str(alloc, text) {
             Ok(text) => PluginCreateError::Other(text),

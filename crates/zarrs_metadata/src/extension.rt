@@ -4,10 +4,10 @@ ghost use Rattle.serde_json.specs.Data.{object, put};
 ghost use Rattle.serde_json.specs.View.{view, members_view};
 ghost use Rattle.serde_json.specs.Find.{as_str, get_member};
 ghost use Rattle.zarrs_metadata.specs.Members.{has_only, nonempty};
-ghost use Rattle.zarrs_metadata.specs.Extension.{named, settings, extension_of, extension_from, data_of, normal, configuration_from, must_understand_from};
+ghost use Rattle.zarrs_metadata.specs.Extension.{named, settings, extension_of, extension_from, extension_data, normal, configuration_from, must_understand_from};
 
 use crate::error::MetadataError;
-use crate::members::{copied, have_only, is_empty, kept, member_of, object_of, take_member};
+use crate::members::{have_only, kept, object_of, take_member};
 use serde_json::{Map, Value};
 use std::alloc::{AllocError, Global};
 
@@ -22,7 +22,7 @@ pub struct MetadataV3 {
 }
 
 impl MetadataV3 {
-    ghost use Rattle.zarrs_metadata.specs.View.{extension_view};
+    ghost use Rattle.zarrs_metadata.specs.Extension.{extension_view};
 
     /// An extension without configuration, which must be understood.
     pub fn new(name: String) -> MetadataV3
@@ -49,14 +49,14 @@ impl MetadataV3 {
         }
     }
 
-    /// Its name.
+    /// Returns its name.
     pub fn name(&self) -> &str
         ensures { result.now ≡ (extension_view self.now).name }
     {
         self.name.as_str()
     }
 
-    /// Its configuration, by name of the member.
+    /// Returns its configuration, by name of the member.
     pub fn configuration(&self) -> Option<&Map<String, Value>>
         ensures { option_map (λ c. members_view c.now.entries) result
             ≡ (extension_view self.now).configuration }
@@ -64,22 +64,22 @@ impl MetadataV3 {
         self.configuration.as_ref()
     }
 
-    /// Whether a reader must understand it (Zarr V3 core specification, extension points).
+    /// Returns whether a reader must understand it (Zarr V3 core specification, extension points).
     pub fn must_understand(&self) -> bool
         ensures { result ≡ (extension_view self.now).must_understand }
     {
         self.must_understand
     }
 
-    /// The member of this name of the configuration.
+    /// Returns the member of this name of the configuration.
     pub fn member(&self, name: &str) -> Option<&Value>
         ensures { option_map (λ value. view value.now) result
             ≡ get_member name.now (settings (extension_view self.now)) }
     {
-        member_of(self.configuration.as_ref()?, name)
+        self.configuration.as_ref()?.get(name)
     }
 
-    /// Whether the configuration has no member of another name than these.
+    /// Returns whether each member of the configuration has one of these names.
     pub fn has_only(&self, names: &[&str]) -> bool
         ensures { result ≡ has_only (map (λ name. name.now) names.now)
             (settings (extension_view self.now)) }
@@ -90,7 +90,7 @@ impl MetadataV3 {
         }
     }
 
-    /// Puts the member into the configuration, over a member of that name.
+    /// Puts the member into the configuration, in place of a present one of that name.
     pub fn with_member(
         self,
         alloc: Global,
@@ -118,9 +118,9 @@ impl MetadataV3 {
         self.name = name;
     }
 
-    /// The extension point that a JSON value says: a text, its name, or an object of `name`, an
+    /// Reads the extension point that a JSON value says: a text, its name, or an object of `name`, an
     /// optional `configuration` and an optional `must_understand`, and nothing else. An empty
-    /// configuration counts as none. It asks for no memory.
+    /// configuration counts as none. It allocates nothing.
     ///
     /// # Errors
     /// `InvalidShape` for any other value.
@@ -149,7 +149,7 @@ impl MetadataV3 {
         let name = take_member(&mut members, "name");
         let configuration = take_member(&mut members, "configuration");
         let must_understand = take_member(&mut members, "must_understand");
-        MetadataV3::from_parts(name, configuration, must_understand, is_empty(&members))
+        MetadataV3::from_parts(name, configuration, must_understand, members.is_empty())
     }
 
     fn from_parts(
@@ -174,10 +174,10 @@ impl MetadataV3 {
         })
     }
 
-    /// The JSON value of this extension point: its name as a text where it has no configuration and
-    /// must be understood, else an object. An empty configuration counts as none.
+    /// Returns the JSON value of this extension point: its name as a text if it has no configuration
+    /// and must be understood, else an object. An empty configuration counts as none.
     pub fn to_value(&self, alloc: Global) -> Result<Value, AllocError>
-        ensures written { IfOk result (λ v. view v ≡ data_of (extension_view self.now)) }
+        ensures written { IfOk result (λ v. view v ≡ extension_data (extension_view self.now)) }
         ensures reads_back { IfOk result (λ v. extension_of (view v)
             ≡ Some (normal (extension_view self.now))) }
     {
@@ -227,15 +227,16 @@ fn must_understand_of(member: Option<Value>) -> Option<bool>
     }
 }
 
-/// A configuration that has a member, as a value.
+/// Returns a configuration that has a member, as a value.
 fn written_configuration(
     configuration: Option<&Map<String, Value>>,
 ) -> Result<Option<Value>, AllocError>
     ensures { IfOk result (λ v. option_map view v
-        ≡ option_map object (option_and_then (λ c. nonempty (members_view c.now.entries)) configuration.entry)) }
+        ≡ option_map object (option_and_then (λ c. nonempty (members_view c.now.entries))
+        configuration.entry)) }
 {
     match configuration {
-        Some(members) if !is_empty(members) => Ok(Some(Value::Object(copied(members)?))),
+        Some(members) if !members.is_empty() => Ok(Some(Value::Object(members.clone()?))),
         _ => Ok(None),
     }
 }

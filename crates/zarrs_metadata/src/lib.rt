@@ -11,6 +11,3 @@ pub use error::{MetadataError, PluginCreateError};
 pub use extension::MetadataV3;
 pub use lists::{numbers, numbers_value};
 pub use separators::ChunkKeySeparator;
-
-#[cfg(test)]
-mod tests;

@@ -6,9 +6,11 @@ ghost use Rattle.zarrs_metadata.specs.Lists.{all_of, number_of, numbers_of, numb
 use serde_json::Value;
 use std::alloc::{AllocError, Global};
 
-/// The numbers of a list of whole numbers below 2^64, or `None` where the value is no such list.
+/// Returns the numbers of a list of whole numbers below 2^64, or `None` if the value is not such a
+/// list.
 pub fn numbers(alloc: Global, value: &Value) -> Result<Option<Vec<u64>>, AllocError>
-    ensures { IfOk result (λ found. option_map (λ list. list.items) found ≡ numbers_of (view value.now)) }
+    ensures { IfOk result (λ found. option_map (λ list. list.items) found
+        ≡ numbers_of (view value.now)) }
 {
     match value.as_array() {
         Some(items) => all_numbers(alloc, items),
@@ -30,7 +32,7 @@ fn all_numbers(alloc: Global, items: &Vec<Value>) -> Result<Option<Vec<u64>>, Al
     Ok(Some(numbers))
 }
 
-/// The list of these numbers as a value.
+/// Returns the list of these numbers as a value.
 pub fn numbers_value(alloc: Global, numbers: &[u64]) -> Result<Value, AllocError>
     ensures written { IfOk result (λ value. view value ≡ numbers_data numbers.now) }
     ensures reads_back { IfOk result (λ value. numbers_of (view value) ≡ Some numbers.now) }

@@ -1,5 +1,5 @@
-//! Steps on the members of an object.
-ghost use Rattle.std.specs.Prelude.{◌≡◌, [], ◌∷◌, map, option_map, IfOk, is_none};
+//! The members of an object, by name.
+ghost use Rattle.std.specs.Prelude.{◌≡◌, [], ◌∷◌, map, option_map};
 ghost use Rattle.std.specs.Ordering.{nat_cmp, is_eq};
 ghost use Rattle.std.specs.Cmp.Lexicographic.{slice_cmp};
 ghost use Rattle.serde_json.specs.Find.{get_member, as_object};
@@ -7,36 +7,20 @@ ghost use Rattle.serde_json.specs.View.{view, members_view};
 ghost use Rattle.zarrs_metadata.specs.Members.{besides, is_named, has_only, nonempty};
 
 use serde_json::{Map, Value};
-use std::alloc::AllocError;
 
-/// Takes the member of this name out.
+/// Removes the member of this name, and returns it.
 pub(crate) fn take_member(members: &mut Map<String, Value>, name: &str) -> Option<Value>
     ensures found { option_map view result
         ≡ get_member name.now (members_view members.old.entries) }
     ensures left { members_view members.new.entries
         ≡ besides (name.now ∷ []) (members_view members.old.entries) }
 {
-    // It tells the proof that the names ascend.
+    // `len` tells the proof that the names ascend.
     let _count = members.len();
     members.remove(name)
 }
 
-/// The member of this name.
-pub(crate) fn member_of<'a>(members: &'a Map<String, Value>, name: &str) -> Option<&'a Value>
-    ensures { option_map (λ value. view value.now) result
-        ≡ get_member name.now (members_view members.now.entries) }
-{
-    members.get(name)
-}
-
-/// Whether there is no member.
-pub(crate) fn is_empty(members: &Map<String, Value>) -> bool
-    ensures { result ≡ is_none (nonempty (members_view members.now.entries)) }
-{
-    members.is_empty()
-}
-
-/// The members, where there is one.
+/// Returns the members, if there is one.
 pub(crate) fn kept(members: Map<String, Value>) -> Option<Map<String, Value>>
     ensures { option_map (λ m. members_view m.entries) result
         ≡ nonempty (members_view members.entries) }
@@ -48,14 +32,7 @@ pub(crate) fn kept(members: Map<String, Value>) -> Option<Map<String, Value>>
     }
 }
 
-/// A copy of the members.
-pub(crate) fn copied(members: &Map<String, Value>) -> Result<Map<String, Value>, AllocError>
-    ensures { IfOk result (λ m. members_view m.entries ≡ members_view members.now.entries) }
-{
-    members.clone()
-}
-
-/// The members of an object.
+/// Returns the members of an object.
 pub(crate) fn object_of(value: Value) -> Option<Map<String, Value>>
     ensures { option_map (λ m. members_view m.entries) result ≡ as_object (view value) }
 {
@@ -82,9 +59,10 @@ fn is_one_of(names: &[&str], key: &str) -> bool
     false
 }
 
-/// Whether no member has another name than these.
+/// Returns whether each member has one of these names.
 pub(crate) fn have_only(members: &Map<String, Value>, names: &[&str]) -> bool
-    ensures { result ≡ has_only (map (λ name. name.now) names.now) (members_view members.now.entries) }
+    ensures { result ≡ has_only (map (λ name. name.now) names.now)
+        (members_view members.now.entries) }
 {
     for (key, _member) in members.iter() {
         if !is_one_of(names, key.as_str()) {

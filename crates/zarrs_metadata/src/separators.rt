@@ -1,11 +1,11 @@
-//! What stands between the parts of a chunk key.
+//! The separator between the parts of a chunk key.
 ghost use Rattle.std.specs.Prelude.{◌≡◌, [], ◌∷◌, Some, IfOk};
 ghost use Rattle.serde_json.specs.View.{view};
 
 use serde_json::Value;
 use std::alloc::{AllocError, Global};
 
-/// What stands between two parts of a chunk key (Zarr V3 core specification, chunk key encoding).
+/// The separator between two parts of a chunk key (Zarr V3 core specification, chunk key encoding).
 #[derive(Clone, Copy, Debug, Drop, PartialEq, Eq)]
 pub enum ChunkKeySeparator {
     /// `/`
@@ -17,7 +17,7 @@ pub enum ChunkKeySeparator {
 impl ChunkKeySeparator {
     ghost use Rattle.zarrs_metadata.specs.Separator.{separator_byte, separator_data, separator_of};
 
-    /// The separator as a text of one byte.
+    /// Returns the separator as a text of one byte.
     pub fn as_str(self) -> &'static str
         ensures { result.now ≡ separator_byte self ∷ [] }
     {
@@ -27,7 +27,7 @@ impl ChunkKeySeparator {
         }
     }
 
-    /// The separator that a JSON value says: the text `/` or `.`.
+    /// Reads the separator that a JSON value says: the text `/` or `.`.
     pub fn from_value(value: &Value) -> Option<ChunkKeySeparator>
         ensures { result ≡ separator_of (view value.now) }
     {
@@ -38,7 +38,7 @@ impl ChunkKeySeparator {
         }
     }
 
-    /// The JSON value of the separator.
+    /// Returns the JSON value of the separator.
     pub fn to_value(self, alloc: Global) -> Result<Value, AllocError>
         ensures written { IfOk result (λ value. view value ≡ separator_data self) }
         ensures reads_back { IfOk result (λ value. separator_of (view value) ≡ Some self) }

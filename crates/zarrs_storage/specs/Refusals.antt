@@ -1,11 +1,10 @@
 -- Why a call is refused.
 use Rattle.std.specs.Prelude.{◌≡◌, ℕ, false, true, List, ◌⊎◌, string_bytes}
-use Rattle.zarrs_storage.specs.Key.{is_store_key}
-use Rattle.zarrs_storage.specs.Store.{StoreState}
+use Rattle.zarrs_storage.specs.Store.{StoreState, is_store_key, PassesValue}
 use Rattle.zarrs_storage.specs.declared.error.StorageError.{StorageError}
 use Rattle.zarrs_storage.specs.declared.error.StorageError.TheVariants.{InvalidMetadata, ReadOnly, InvalidByteRange, Exhausted, Other, OutOfMemory}
 
--- the text is no store key, or memory was short
+-- the text is not a store key, or memory ran out
 abbrev pub RefusesKey : List ℕ → StorageError → Type 0
 RefusesKey text (InvalidMetadata key said) = ⊥
 RefusesKey text ReadOnly = ⊥
@@ -14,11 +13,15 @@ RefusesKey text Exhausted = ⊥
 RefusesKey text (Other said) = is_store_key text ≡ false
 RefusesKey text OutOfMemory = Unit {0}
 
--- the key refuses, or memory was short
+-- the key refuses, or memory ran out
 abbrev pub RefusesRead : StoreState → List ℕ → StorageError → Type 0
 RefusesRead s key e = (e ≡ OutOfMemory) ⊎ (s.refuses key ≡ true)
 
--- the refusal with this text, or want of memory for it
+-- the range passes the value at the key, the key refuses, or memory ran out
+abbrev pub RefusesRange : StoreState → List ℕ → ℕ → ℕ → StorageError → Type 0
+RefusesRange s key offset count e = ((e ≡ InvalidByteRange) × PassesValue s.values key offset count) ⊎ RefusesRead s key e
+
+-- the refusal with this text, or out of memory
 abbrev pub SaysOther : List ℕ → StorageError → Type 0
 SaysOther text (Other said) = string_bytes said ≡ text
 SaysOther text OutOfMemory = Unit {0}

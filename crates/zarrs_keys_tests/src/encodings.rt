@@ -1,0 +1,158 @@
+//! What metadata of chunk key encodings is read, refused and written.
+use serde_json::Value;
+use std::alloc::Global;
+use std::process::Abort;
+use std::test::Fail;
+use zarrs_keys::{ChunkKeyEncoding, ChunkKeyEncodingTraits, ChunkKeySeparator, KeySuffix};
+use zarrs_metadata::{MetadataV3, PluginCreateError};
+
+/// The metadata of a JSON text.
+fn metadata_of(alloc: Global, text: &str) -> Result<MetadataV3, Fail> {
+    Ok(MetadataV3::from_value(Value::from_str(alloc, text)?)?)
+}
+
+/// The key that the encoding of a JSON text gives the chunk [1, 23].
+fn key_by(alloc: Global, text: &str) -> Result<String, Fail> {
+    let metadata = metadata_of(alloc, text)?;
+    let encoding = ChunkKeyEncoding::from_metadata(alloc, &metadata)?;
+    Ok(encoding.encode(alloc, &[1, 23])?)
+}
+
+#[test]
+fn metadata_that_is_read(rt: HostRuntime) -> Result<(), Fail> {
+    let alloc = rt.alloc();
+    for (text, key) in [
+        (r#""default""#, "c/1/23"),
+        (r#"{"name":"default","configuration":{}}"#, "c/1/23"),
+        (
+            r#"{"name":"default","configuration":{"separator":"/"}}"#,
+            "c/1/23",
+        ),
+        (
+            r#"{"name":"default","configuration":{"separator":"."}}"#,
+            "c.1.23",
+        ),
+        (r#"{"name":"default","must_understand":false}"#, "c/1/23"),
+        (r#""v2""#, "1.23"),
+        (r#"{"name":"v2","configuration":{"separator":"."}}"#, "1.23"),
+        (r#"{"name":"v2","configuration":{"separator":"/"}}"#, "1/23"),
+        (
+            r#"{"name":"default_suffix","configuration":{"suffix":".tiff"}}"#,
+            "c/1/23.tiff",
+        ),
+        (
+            r#"{"name":"default_suffix","configuration":{"separator":".","suffix":"_0"}}"#,
+            "c.1.23_0",
+        ),
+        (
+            r#"{"name":"zarrs.default_suffix","configuration":{"suffix":".tiff"}}"#,
+            "c/1/23.tiff",
+        ),
+    ] {
+        assert_eq!(rt; key_by(alloc, text)?.as_str(), key, "{text}");
+    }
+    Ok(())
+}
+
+fn must_be_refused(rt: &impl Abort, alloc: Global, metadata: &MetadataV3) {
+    let refused = ChunkKeyEncoding::from_metadata(alloc, metadata);
+    assert!(rt; matches!(&refused, Err(PluginCreateError::Other(_))));
+}
+
+#[test]
+fn metadata_that_is_refused(rt: HostRuntime) -> Result<(), Fail> {
+    let alloc = rt.alloc();
+    for text in [
+        r#""hilbert""#,
+        r#""Default""#,
+        r#""default_suffix""#,
+        r#"{"name":"default","configuration":{"separator":"-"}}"#,
+        r#"{"name":"default","configuration":{"separator":""}}"#,
+        r#"{"name":"default","configuration":{"separator":null}}"#,
+        r#"{"name":"v2","configuration":{"separator":1}}"#,
+        r#"{"name":"default","configuration":{"order":"C"}}"#,
+        r#"{"name":"v2","configuration":{"separator":"/","suffix":".tiff"}}"#,
+        r#"{"name":"default_suffix","configuration":{"separator":"/"}}"#,
+        r#"{"name":"default_suffix","configuration":{"suffix":""}}"#,
+        r#"{"name":"default_suffix","configuration":{"suffix":"/x"}}"#,
+        r#"{"name":"default_suffix","configuration":{"suffix":1}}"#,
+        r#"{"name":"default_suffix","configuration":{"order":"C","suffix":".tiff"}}"#,
+    ] {
+        must_be_refused(&rt, alloc, &metadata_of(alloc, text)?);
+    }
+    Ok(())
+}
+
+fn must_be_written(
+    rt: &impl Abort,
+    alloc: Global,
+    encoding: &ChunkKeyEncoding,
+    text: &str,
+) -> Result<(), Fail> {
+    let value = encoding.metadata(alloc)?.to_value(alloc)?;
+    assert_eq!(rt; value.to_string(alloc)?.as_str(), text);
+    Ok(())
+}
+
+fn suffixed(alloc: Global, separator: ChunkKeySeparator) -> Result<ChunkKeyEncoding, Fail> {
+    let suffix = KeySuffix::new(alloc, ".tiff")?;
+    Ok(ChunkKeyEncoding::DefaultSuffix(separator, suffix))
+}
+
+#[test]
+fn metadata_that_is_written(rt: HostRuntime) -> Result<(), Fail> {
+    let alloc = rt.alloc();
+    must_be_written(
+        &rt,
+        alloc,
+        &ChunkKeyEncoding::Default(ChunkKeySeparator::Slash),
+        r#"{"configuration":{"separator":"/"},"name":"default"}"#,
+    )?;
+    must_be_written(
+        &rt,
+        alloc,
+        &ChunkKeyEncoding::V2(ChunkKeySeparator::Dot),
+        r#"{"configuration":{"separator":"."},"name":"v2"}"#,
+    )?;
+    must_be_written(
+        &rt,
+        alloc,
+        &suffixed(alloc, ChunkKeySeparator::Slash)?,
+        r#"{"configuration":{"separator":"/","suffix":".tiff"},"name":"default_suffix"}"#,
+    )
+}
+
+fn must_be_read_again(
+    rt: &impl Abort,
+    alloc: Global,
+    encoding: &ChunkKeyEncoding,
+) -> Result<(), Fail> {
+    let metadata = encoding.metadata(alloc)?;
+    assert!(rt; ChunkKeyEncoding::from_metadata(alloc, &metadata)? == *encoding);
+    Ok(())
+}
+
+#[test]
+fn written_metadata_is_read_again(rt: HostRuntime) -> Result<(), Fail> {
+    let alloc = rt.alloc();
+    for separator in [ChunkKeySeparator::Slash, ChunkKeySeparator::Dot] {
+        must_be_read_again(&rt, alloc, &ChunkKeyEncoding::Default(separator))?;
+        must_be_read_again(&rt, alloc, &ChunkKeyEncoding::V2(separator))?;
+        must_be_read_again(&rt, alloc, &suffixed(alloc, separator)?)?;
+    }
+    Ok(())
+}
+
+#[test]
+fn text_of_a_refusal(rt: HostRuntime) -> Result<(), Fail> {
+    let alloc = rt.alloc();
+    let metadata = metadata_of(alloc, r#""hilbert""#)?;
+    match ChunkKeyEncoding::from_metadata(alloc, &metadata) {
+        Ok(_) => assert!(rt; false),
+        Err(error) => assert_eq!(rt;
+            format!(in alloc; "{error}")?.as_str(),
+            "no chunk key encoding `hilbert` has this configuration"
+        ),
+    }
+    Ok(())
+}

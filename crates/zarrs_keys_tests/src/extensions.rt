@@ -1,0 +1,206 @@
+//! Extension points, lists of numbers and separators, both ways; and the texts of refusals.
+use serde_json::{Map, Value, json};
+use std::alloc::Global;
+use std::process::Abort;
+use std::test::Fail;
+use zarrs_metadata::{
+    ChunkKeySeparator, MetadataError, MetadataV3, PluginCreateError, numbers, numbers_value,
+};
+
+fn must_be_written(
+    rt: &impl Abort,
+    alloc: Global,
+    metadata: &MetadataV3,
+    text: &str,
+) -> Result<(), Fail> {
+    assert_eq!(rt; metadata.to_value(alloc)?.to_string(alloc)?.as_str(), text);
+    Ok(())
+}
+
+fn read(alloc: Global, text: &str) -> Result<MetadataV3, Fail> {
+    Ok(MetadataV3::from_value(Value::from_str(alloc, text)?)?)
+}
+
+fn must_be_plain(rt: &impl Abort, metadata: &MetadataV3, name: &str) {
+    assert_eq!(rt; metadata.name(), name);
+    assert!(rt; metadata.configuration().is_none());
+    assert!(rt; metadata.must_understand());
+    assert!(rt; metadata.has_only(&[]));
+}
+
+#[test]
+fn a_name_alone_is_a_text(rt: HostRuntime) -> Result<(), Fail> {
+    let alloc = rt.alloc();
+    let mut metadata = MetadataV3::new(String::from_str(alloc, "squeeze")?);
+    must_be_plain(&rt, &metadata, "squeeze");
+    must_be_written(&rt, alloc, &metadata, "\"squeeze\"")?;
+    metadata.set_name(String::from_str(alloc, "zarrs.squeeze")?);
+    must_be_written(&rt, alloc, &metadata, "\"zarrs.squeeze\"")
+}
+
+#[test]
+fn an_empty_configuration_counts_as_none(rt: HostRuntime) -> Result<(), Fail> {
+    let alloc = rt.alloc();
+    let name = String::from_str(alloc, "bytes")?;
+    let empty = MetadataV3::new_with_configuration(name, Map::new(alloc));
+    must_be_written(&rt, alloc, &empty, "\"bytes\"")?;
+    let read = MetadataV3::from_value(json!(in alloc; {"name": "bytes", "configuration": {}})?)?;
+    must_be_plain(&rt, &read, "bytes");
+    Ok(())
+}
+
+fn tiles(alloc: Global) -> Result<MetadataV3, Fail> {
+    let suffix = Value::try_from_str(alloc, ".tiff")?;
+    let separator = ChunkKeySeparator::Slash.to_value(alloc)?;
+    Ok(
+        MetadataV3::new(String::from_str(alloc, "default_suffix")?)
+            .with_member(alloc, "suffix", suffix)?
+            .with_member(alloc, "separator", separator)?,
+    )
+}
+
+fn must_have_tiles(rt: &impl Abort, metadata: &MetadataV3) {
+    assert_eq!(rt; metadata.name(), "default_suffix");
+    assert_eq!(rt;
+        metadata.member("suffix").and_then(Value::as_str),
+        Some(".tiff")
+    );
+    assert!(rt; metadata.member("order").is_none());
+    assert!(rt; metadata.has_only(&["separator", "suffix"]));
+    assert!(rt; !metadata.has_only(&["separator"]));
+}
+
+#[test]
+fn an_object_is_written_in_order_of_its_names(rt: HostRuntime) -> Result<(), Fail> {
+    let alloc = rt.alloc();
+    let metadata = tiles(alloc)?;
+    let written =
+        "{\"configuration\":{\"separator\":\"/\",\"suffix\":\".tiff\"},\"name\":\"default_suffix\"}";
+    must_be_written(&rt, alloc, &metadata, written)?;
+    let read = MetadataV3::from_value(metadata.to_value(alloc)?)?;
+    must_have_tiles(&rt, &read);
+    must_be_written(&rt, alloc, &read, written)
+}
+
+#[test]
+fn an_extension_that_need_not_be_understood(rt: HostRuntime) -> Result<(), Fail> {
+    let alloc = rt.alloc();
+    let flagged = read(alloc, "{\"must_understand\":false,\"name\":\"proj\"}")?;
+    assert!(rt; !flagged.must_understand());
+    must_be_written(
+        &rt,
+        alloc,
+        &flagged,
+        "{\"must_understand\":false,\"name\":\"proj\"}",
+    )?;
+    let needed = read(alloc, "{\"must_understand\":true,\"name\":\"proj\"}")?;
+    must_be_written(&rt, alloc, &needed, "\"proj\"")
+}
+
+#[test]
+fn another_shape_is_refused(rt: HostRuntime) -> Result<(), Fail> {
+    let alloc = rt.alloc();
+    for text in [
+        "null",
+        "true",
+        "7",
+        "[\"bytes\"]",
+        "{}",
+        "{\"name\":7}",
+        "{\"name\":\"a\",\"configuration\":[]}",
+        "{\"name\":\"a\",\"configuration\":null}",
+        "{\"name\":\"a\",\"must_understand\":1}",
+        "{\"name\":\"a\",\"more\":1}",
+    ] {
+        let refused = MetadataV3::from_value(Value::from_str(alloc, text)?);
+        assert!(rt; matches!(&refused, Err(MetadataError::InvalidShape)));
+    }
+    Ok(())
+}
+
+fn must_list(
+    rt: &impl Abort,
+    alloc: Global,
+    value: &Value,
+    list: &[u64],
+) -> Result<(), Fail> {
+    let read = numbers(alloc, value)?;
+    assert!(rt; read.is_some_and(|numbers| numbers.as_slice() == list));
+    Ok(())
+}
+
+#[test]
+fn lists_of_numbers(rt: HostRuntime) -> Result<(), Fail> {
+    let alloc = rt.alloc();
+    let written = numbers_value(alloc, &[0, 18446744073709551615])?;
+    assert_eq!(rt;
+        written.to_string(alloc)?.as_str(),
+        "[0,18446744073709551615]"
+    );
+    must_list(&rt, alloc, &written, &[0, 18446744073709551615])?;
+    must_list(&rt, alloc, &Value::from_str(alloc, "[]")?, &[])
+}
+
+#[test]
+fn lists_that_are_refused(rt: HostRuntime) -> Result<(), Fail> {
+    let alloc = rt.alloc();
+    for text in [
+        "7",
+        "[7,-1]",
+        "[1.5]",
+        "[[7]]",
+        "[18446744073709551616]",
+        "[null]",
+    ] {
+        assert!(rt; numbers(alloc, &Value::from_str(alloc, text)?)?.is_none());
+    }
+    Ok(())
+}
+
+#[test]
+fn separators(rt: HostRuntime) -> Result<(), Fail> {
+    let alloc = rt.alloc();
+    for (separator, text) in [
+        (ChunkKeySeparator::Slash, "/"),
+        (ChunkKeySeparator::Dot, "."),
+    ] {
+        assert_eq!(rt; separator.as_str(), text);
+        let written = separator.to_value(alloc)?;
+        assert!(rt; ChunkKeySeparator::from_value(&written) == Some(separator));
+    }
+    Ok(())
+}
+
+#[test]
+fn separators_that_are_refused(rt: HostRuntime) -> Result<(), Fail> {
+    let alloc = rt.alloc();
+    for text in ["7", "null", "\"\"", "\"-\"", "\"//\""] {
+        let value = Value::from_str(alloc, text)?;
+        assert!(rt; ChunkKeySeparator::from_value(&value).is_none());
+    }
+    Ok(())
+}
+
+#[test]
+fn texts_of_creation_refusals(rt: HostRuntime) -> Result<(), Fail> {
+    let alloc = rt.alloc();
+    let other = PluginCreateError::other(alloc, "a chunk size is 0");
+    assert_eq!(rt; other.to_string(alloc)?.as_str(), "a chunk size is 0");
+    let memory = PluginCreateError::OutOfMemory;
+    assert_eq!(rt; memory.to_string(alloc)?.as_str(), "out of memory");
+    Ok(())
+}
+
+#[test]
+fn texts_of_metadata_refusals(rt: HostRuntime) -> Result<(), Fail> {
+    let alloc = rt.alloc();
+    assert_eq!(rt;
+        MetadataError::InvalidShape.to_string(alloc)?.as_str(),
+        "the metadata has another shape"
+    );
+    assert_eq!(rt;
+        MetadataError::OutOfMemory.to_string(alloc)?.as_str(),
+        "out of memory"
+    );
+    Ok(())
+}

@@ -1,0 +1,101 @@
+-- Stores over a store.
+use Rattle.std.specs.Prelude.{ℕ, ◌+◌, ◌==◌, ◌&&◌, ◌||◌, Bool, false, not, nat_lt, List, ◌∷◌, Option, Some, None, Result, MatchResult}
+use Rattle.std.specs.Borrow.{MutBor}
+use Rattle.zarrs_storage.specs.Store.{StoreState, Values, Accepts, Refuses, is_listed, last_call}
+use Rattle.zarrs_storage.specs.declared.faults.Fault.{Fault}
+use Rattle.zarrs_storage.specs.declared.fences.Fence.{Fence}
+use Rattle.zarrs_storage.specs.declared.lending.Lent.{Lent}
+use Rattle.zarrs_storage.specs.declared.stops.Stop.{Stop}
+use Rattle.zarrs_storage.specs.declared.whole.WholeRefused.{WholeRefused}
+
+-- ---- states
+
+-- the state of a lent store, with its lender
+abbrev pub lent_state : {S : Type 0} → (S → StoreState) → MutBor S → StoreState
+lent_state state s = record (state s.now) { lenders = s.ghost_name ∷ (state s.now).lenders }
+
+-- the store that is lent
+abbrev pub lent_store : {S : Type 0} → Lent S → MutBor S
+lent_store lent = lent.store
+
+-- the state, with counts of its own
+abbrev pub with_counts : StoreState → ℕ → ℕ → StoreState
+with_counts s calls failures = record s { calls = calls; failures = failures }
+
+-- the state, if these keys refuse too
+abbrev pub with_refused : StoreState → List (List ℕ) → StoreState
+with_refused s keys = record s { refuses = λ key. is_listed keys key || s.refuses key }
+
+-- the state, if these keys alone may be asked
+abbrev pub fenced : StoreState → List (List ℕ) → StoreState
+fenced s keys = record s { may_ask = λ key. is_listed keys key && s.may_ask key }
+
+-- the keys that may be asked
+abbrev pub fence_keys : {S : Type 0} → Fence S → List (List ℕ)
+fence_keys fence = fence.keys.items
+
+-- ---- writing calls
+
+-- a writing call that was passed on, and accepted or refused there
+abbrev pub PassedOn : {T E : Type 0} → Result T E → StoreState → StoreState → Values → Type 0
+PassedOn result old new written = MatchResult result (λ _. Accepts old new written) (λ _. Refuses old new)
+
+-- whether a number is given, and is this one
+abbrev pub is_write_number : Option ℕ → ℕ → Bool
+is_write_number None number = false
+is_write_number (Some given) number = given == number
+
+-- ---- `Fault`
+
+-- the store below, where the listed keys refuse, with counts of its own
+abbrev pub fault_state : {S : Type 0} → (S → StoreState) → Fault S → StoreState
+fault_state state fault = with_counts (with_refused (state fault.store) fault.refused_keys.items) fault.counts.calls fault.counts.failures
+
+abbrev pub below_fault : {S : Type 0} → Fault S → S
+below_fault fault = fault.store
+
+abbrev pub fault_keys : {S : Type 0} → Fault S → List (List ℕ)
+fault_keys fault = fault.refused_keys.items
+
+abbrev pub fault_write : {S : Type 0} → Fault S → Option ℕ
+fault_write fault = fault.refused_write
+
+-- whether the next writing call is the one to be refused
+abbrev pub fault_is_next : {S : Type 0} → Fault S → Bool
+fault_is_next fault = nat_lt fault.counts.calls last_call && is_write_number fault.refused_write (fault.counts.calls + 1)
+
+-- whether the next writing call is passed on
+abbrev pub fault_passes_on : {S : Type 0} → Fault S → Bool
+fault_passes_on fault = nat_lt fault.counts.calls last_call && not (is_write_number fault.refused_write (fault.counts.calls + 1))
+
+-- ---- `Stop`
+
+-- the store below, with counts of its own
+abbrev pub stop_state : {S : Type 0} → (S → StoreState) → Stop S → StoreState
+stop_state state stop = with_counts (state stop.store) stop.counts.calls stop.counts.failures
+
+abbrev pub below_stop : {S : Type 0} → Stop S → S
+below_stop stop = stop.store
+
+abbrev pub stop_limit : {S : Type 0} → Stop S → ℕ
+stop_limit stop = stop.passed
+
+-- whether the next writing call is one to be refused
+abbrev pub stop_is_next : {S : Type 0} → Stop S → Bool
+stop_is_next stop = nat_lt stop.counts.calls last_call && not (nat_lt stop.counts.calls stop.passed)
+
+-- whether the next writing call is passed on
+abbrev pub stop_passes_on : {S : Type 0} → Stop S → Bool
+stop_passes_on stop = nat_lt stop.counts.calls last_call && nat_lt stop.counts.calls stop.passed
+
+-- ---- `WholeRefused`
+
+-- the store below, where the listed keys refuse
+abbrev pub whole_state : {S : Type 0} → (S → StoreState) → WholeRefused S → StoreState
+whole_state state whole = with_refused (state whole.store) whole.keys.items
+
+abbrev pub below_whole : {S : Type 0} → WholeRefused S → S
+below_whole whole = whole.store
+
+abbrev pub whole_keys : {S : Type 0} → WholeRefused S → List (List ℕ)
+whole_keys whole = whole.keys.items

@@ -1,0 +1,598 @@
+//! Each public call with ample memory, and what no clause says: the texts of errors.
+ghost use Rattle.std.specs.Prelude.{◌≡◌, ℕ, true, OnOk};
+ghost use Rattle.std.specs.FinMap as map;
+ghost use Rattle.zarrs_storage.specs.Store.{MayReadWhole, is_listed};
+
+use bytes::Bytes;
+use std::alloc::Global;
+use std::process::Abort;
+use std::test::Fail;
+use zarrs_storage::{
+    Fault, Fence, Lent, MemoryStore, ReadOnly, ReadableStorageTraits, Stop, StorageError, StoreKey,
+    WholeRefused, WritableStorageTraits,
+};
+
+fn must_read(rt: &impl Abort, alloc: Global, key: &StoreKey, text: &str) -> Result<(), Fail> {
+    assert_eq!(rt; key.as_str(), text);
+    assert_eq!(rt; key.to_string(alloc)?.as_str(), text);
+    Ok(())
+}
+
+fn must_equal(rt: &impl Abort, alloc: Global, key: &StoreKey, text: &str) -> Result<(), Fail> {
+    let moved = StoreKey::from_string(alloc, String::from_str(alloc, text)?)?;
+    assert!(rt; *key == moved);
+    assert!(rt; *key == key.clone()?);
+    Ok(())
+}
+
+#[test]
+fn a_key_is_its_text(rt: HostRuntime) -> Result<(), Fail> {
+    let alloc = rt.alloc();
+    let first = StoreKey::new(alloc, "c/0/1")?;
+    must_read(&rt, alloc, &first, "c/0/1")?;
+    must_equal(&rt, alloc, &first, "c/0/1")?;
+    assert!(rt; first != StoreKey::new(alloc, "c/0/10")?);
+    assert!(rt; StoreKey::new(alloc, "c/10")? < StoreKey::new(alloc, "c/2")?);
+    Ok(())
+}
+
+#[test]
+fn a_slash_at_an_end_is_refused(rt: HostRuntime) {
+    let alloc = rt.alloc();
+    for text in ["", "/", "/c", "c/"] {
+        assert!(rt; matches!(StoreKey::new(alloc, text), Err(StorageError::Other(_))));
+    }
+}
+
+fn must_be_absent(
+    rt: &impl Abort,
+    alloc: Global,
+    store: &MemoryStore,
+    key: &StoreKey,
+) -> Result<(), Fail> {
+    assert!(rt; store.get(alloc, key)?.is_none());
+    Ok(())
+}
+
+fn must_be_present(
+    rt: &impl Abort,
+    alloc: Global,
+    store: &MemoryStore,
+    key: &StoreKey,
+    value: &'static [u8],
+) -> Result<(), Fail> {
+    let found = store.get(alloc, key)?;
+    assert!(rt; found == Some(Bytes::from_static(value)));
+    Ok(())
+}
+
+fn must_have_counted(rt: &impl Abort, store: &MemoryStore, calls: u64) {
+    assert_eq!(rt; store.calls(), calls);
+    assert_eq!(rt; store.failures(), 0);
+}
+
+fn set(
+    store: &mut MemoryStore,
+    alloc: Global,
+    key: &StoreKey,
+    value: &'static [u8],
+) -> Result<(), Fail> {
+    Ok(store.set(alloc, key, Bytes::from_static(value))?)
+}
+
+fn erase(store: &mut MemoryStore, alloc: Global, key: &StoreKey) -> Result<(), Fail> {
+    Ok(store.erase(alloc, key)?)
+}
+
+#[test]
+fn memory_keeps_values(rt: HostRuntime) -> Result<(), Fail> {
+    let alloc = rt.alloc();
+    let mut store = MemoryStore::new(alloc);
+    let first = StoreKey::new(alloc, "a")?;
+    must_be_absent(&rt, alloc, &store, &first)?;
+    set(&mut store, alloc, &first, &[1, 2])?;
+    set(&mut store, alloc, &first, &[3])?;
+    must_be_present(&rt, alloc, &store, &first, &[3])?;
+    erase(&mut store, alloc, &first)?;
+    must_be_absent(&rt, alloc, &store, &first)?;
+    erase(&mut store, alloc, &first)?;
+    must_have_counted(&rt, &store, 4);
+    Ok(())
+}
+
+fn listed(alloc: Global, store: &MemoryStore) -> Result<String, Fail> {
+    let mut listed = String::new(alloc);
+    for key in &store.keys(alloc)? {
+        write!(listed, "{key} ")?;
+    }
+    Ok(listed)
+}
+
+#[test]
+fn keys_ascend_by_their_bytes(rt: HostRuntime) -> Result<(), Fail> {
+    let alloc = rt.alloc();
+    let mut store = MemoryStore::new(alloc);
+    for text in ["zarr.json", "c/2", "c", "c/10", "c/1/0", "c/1"] {
+        set(&mut store, alloc, &StoreKey::new(alloc, text)?, &[])?;
+    }
+    assert_eq!(rt;
+        listed(alloc, &store)?.as_str(),
+        "c c/1 c/1/0 c/10 c/2 zarr.json "
+    );
+    Ok(())
+}
+
+fn must_be_exhausted(
+    rt: &impl Abort,
+    store: &mut MemoryStore,
+    alloc: Global,
+    key: &StoreKey,
+) -> Result<(), Fail> {
+    let refused = store.set(alloc, key, Bytes::from_static(&[8]));
+    assert!(rt; matches!(refused, Err(StorageError::Exhausted)));
+    assert!(rt; matches!(store.erase(alloc, key), Err(StorageError::Exhausted)));
+    let refused = store.set_partial(alloc, key, 0, &[8]);
+    assert!(rt; matches!(refused, Err(StorageError::Exhausted)));
+    Ok(())
+}
+
+#[test]
+fn an_exhausted_store_refuses_each_write(rt: HostRuntime) -> Result<(), Fail> {
+    let alloc = rt.alloc();
+    let mut store = MemoryStore::with_calls(alloc, u64::MAX);
+    let key = StoreKey::new(alloc, "a")?;
+    must_be_exhausted(&rt, &mut store, alloc, &key)?;
+    must_be_absent(&rt, alloc, &store, &key)?;
+    must_have_counted(&rt, &store, u64::MAX);
+    Ok(())
+}
+
+#[test]
+fn the_last_writing_call(rt: HostRuntime) -> Result<(), Fail> {
+    let alloc = rt.alloc();
+    let mut store = MemoryStore::with_calls(alloc, u64::MAX - 1);
+    let key = StoreKey::new(alloc, "a")?;
+    set(&mut store, alloc, &key, &[7])?;
+    must_be_exhausted(&rt, &mut store, alloc, &key)?;
+    must_be_present(&rt, alloc, &store, &key, &[7])?;
+    must_have_counted(&rt, &store, u64::MAX);
+    Ok(())
+}
+
+/// Moves a value, through the bounds alone.
+fn rename<S: WritableStorageTraits>(
+    store: &mut S,
+    alloc: Global,
+    from: &StoreKey,
+    to: &StoreKey,
+) -> Result<(), StorageError>
+    requires may_ask { (S.ReadableStorageTraits.state store.old).may_ask from.now ≡ true }
+    requires may_read { MayReadWhole (S.ReadableStorageTraits.state store.old) from.now }
+{
+    if let Some(value) = store.get(alloc, from)? {
+        store.set(alloc, to, value)?;
+        store.erase(alloc, from)?;
+    }
+    Ok(())
+}
+
+#[test]
+fn a_store_behind_its_bound(rt: HostRuntime) -> Result<(), Fail> {
+    let alloc = rt.alloc();
+    let mut store = MemoryStore::new(alloc);
+    let (old, new) = (StoreKey::new(alloc, "old")?, StoreKey::new(alloc, "new")?);
+    set(&mut store, alloc, &old, &[1, 2])?;
+    rename(&mut store, alloc, &old, &new)?;
+    must_be_present(&rt, alloc, &store, &new, &[1, 2])?;
+    must_be_absent(&rt, alloc, &store, &old)?;
+    must_have_counted(&rt, &store, 3);
+    Ok(())
+}
+
+fn must_say(rt: &impl Abort, alloc: Global, error: &StorageError, text: &str) -> Result<(), Fail> {
+    assert_eq!(rt; error.to_string(alloc)?.as_str(), text);
+    Ok(())
+}
+
+#[test]
+fn texts_of_refusals(rt: HostRuntime) -> Result<(), Fail> {
+    let alloc = rt.alloc();
+    must_say(&rt, alloc, &StorageError::other(alloc, "fault"), "fault")?;
+    must_say(
+        &rt,
+        alloc,
+        &StorageError::ReadOnly,
+        "the store is read only",
+    )?;
+    must_say(
+        &rt,
+        alloc,
+        &StorageError::InvalidByteRange,
+        "a byte range passes its value",
+    )?;
+    must_say(
+        &rt,
+        alloc,
+        &StorageError::Exhausted,
+        "the store has no writing call left",
+    )?;
+    must_say(&rt, alloc, &StorageError::OutOfMemory, "out of memory")?;
+    Ok(())
+}
+
+#[test]
+fn text_of_invalid_metadata(rt: HostRuntime) -> Result<(), Fail> {
+    let alloc = rt.alloc();
+    let said = String::from_str(alloc, "no shape")?;
+    let invalid = StorageError::InvalidMetadata(StoreKey::new(alloc, "zarr.json")?, said);
+    must_say(
+        &rt,
+        alloc,
+        &invalid,
+        "invalid metadata at zarr.json: no shape",
+    )
+}
+
+// ---- ranges, sizes and partial writes
+
+fn must_have_range(
+    rt: &impl Abort,
+    alloc: Global,
+    store: &MemoryStore,
+    key: &StoreKey,
+    range: (u64, u64),
+    value: &'static [u8],
+) -> Result<(), Fail> {
+    let found = store.get_partial(alloc, key, range.0, range.1)?;
+    assert!(rt; found == Some(Bytes::from_static(value)));
+    Ok(())
+}
+
+fn must_pass_the_value(
+    rt: &impl Abort,
+    alloc: Global,
+    store: &MemoryStore,
+    key: &StoreKey,
+    range: (u64, u64),
+) {
+    let refused = store.get_partial(alloc, key, range.0, range.1);
+    assert!(rt; matches!(refused, Err(StorageError::InvalidByteRange)));
+}
+
+fn must_have_size(
+    rt: &impl Abort,
+    alloc: Global,
+    store: &MemoryStore,
+    key: &StoreKey,
+    size: Option<u64>,
+) -> Result<(), Fail> {
+    assert!(rt; store.size_key(alloc, key)? == size);
+    Ok(())
+}
+
+#[test]
+fn ranges_and_sizes(rt: HostRuntime) -> Result<(), Fail> {
+    let alloc = rt.alloc();
+    let mut store = MemoryStore::new(alloc);
+    let key = StoreKey::new(alloc, "a")?;
+    must_have_size(&rt, alloc, &store, &key, None)?;
+    set(&mut store, alloc, &key, &[1, 2, 3, 4])?;
+    must_have_size(&rt, alloc, &store, &key, Some(4))?;
+    must_have_range(&rt, alloc, &store, &key, (0, 4), &[1, 2, 3, 4])?;
+    must_have_range(&rt, alloc, &store, &key, (1, 2), &[2, 3])?;
+    must_have_range(&rt, alloc, &store, &key, (4, 0), &[])?;
+    for range in [(0, 5), (4, 1), (5, 0), (u64::MAX, 1), (1, u64::MAX)] {
+        must_pass_the_value(&rt, alloc, &store, &key, range);
+    }
+    Ok(())
+}
+
+#[test]
+fn a_range_of_an_absent_value(rt: HostRuntime) -> Result<(), Fail> {
+    let alloc = rt.alloc();
+    let store = MemoryStore::new(alloc);
+    let key = StoreKey::new(alloc, "a")?;
+    assert!(rt; store.get_partial(alloc, &key, 3, u64::MAX)?.is_none());
+    Ok(())
+}
+
+fn set_partial(
+    store: &mut MemoryStore,
+    alloc: Global,
+    key: &StoreKey,
+    offset: u64,
+    bytes: &'static [u8],
+) -> Result<(), Fail> {
+    Ok(store.set_partial(alloc, key, offset, bytes)?)
+}
+
+#[test]
+fn partial_writes(rt: HostRuntime) -> Result<(), Fail> {
+    let alloc = rt.alloc();
+    let mut store = MemoryStore::new(alloc);
+    let key = StoreKey::new(alloc, "a")?;
+    assert!(rt; store.supports_set_partial());
+    set_partial(&mut store, alloc, &key, 2, &[7])?;
+    must_be_present(&rt, alloc, &store, &key, &[0, 0, 7])?;
+    set_partial(&mut store, alloc, &key, 1, &[8])?;
+    must_be_present(&rt, alloc, &store, &key, &[0, 8, 7])?;
+    set_partial(&mut store, alloc, &key, 2, &[5, 6])?;
+    must_be_present(&rt, alloc, &store, &key, &[0, 8, 5, 6])?;
+    set_partial(&mut store, alloc, &key, 6, &[])?;
+    must_be_present(&rt, alloc, &store, &key, &[0, 8, 5, 6, 0, 0])?;
+    must_have_counted(&rt, &store, 4);
+    Ok(())
+}
+
+#[test]
+fn a_partial_write_past_the_last_place(rt: HostRuntime) -> Result<(), Fail> {
+    let alloc = rt.alloc();
+    let mut store = MemoryStore::new(alloc);
+    let key = StoreKey::new(alloc, "a")?;
+    let refused = store.set_partial(alloc, &key, u64::MAX, &[1]);
+    assert!(rt; matches!(refused, Err(StorageError::InvalidByteRange)));
+    must_be_absent(&rt, alloc, &store, &key)?;
+    assert_eq!(rt; store.calls(), 1);
+    assert_eq!(rt; store.failures(), 1);
+    Ok(())
+}
+
+// ---- stores over a store
+
+fn must_refuse<T: Drop>(rt: &impl Abort, outcome: &Result<T, StorageError>, text: &'static str) {
+    assert!(rt; matches!(outcome, Err(StorageError::Other(said)) if said.as_str() == text));
+}
+
+#[test]
+fn a_store_lent_to_be_read(rt: HostRuntime) -> Result<(), Fail> {
+    let alloc = rt.alloc();
+    let mut store = MemoryStore::new(alloc);
+    let key = StoreKey::new(alloc, "a")?;
+    set(&mut store, alloc, &key, &[1, 2])?;
+    let lent = ReadOnly::new(&store);
+    assert!(rt; lent.get(alloc, &key)? == Some(Bytes::from_static(&[1, 2])));
+    assert!(rt; lent.get_partial(alloc, &key, 1, 1)? == Some(Bytes::from_static(&[2])));
+    assert!(rt; lent.size_key(alloc, &key)? == Some(2));
+    Ok(())
+}
+
+/// Writes through a loan. The caller knows what became of the store.
+fn set_lent(
+    store: &mut MemoryStore,
+    alloc: Global,
+    key: &StoreKey,
+    value: Bytes,
+) -> Result<(), StorageError>
+    ensures { OnOk result (store.new.values ≡ map.insert store.old.values key.now value) }
+{
+    let mut lent = Lent::new(store);
+    let outcome = lent.set(alloc, key, value);
+    let store = lent.into_inner();
+    let _ = store;
+    outcome
+}
+
+#[test]
+fn a_store_lent_to_be_written(rt: HostRuntime) -> Result<(), Fail> {
+    let alloc = rt.alloc();
+    let mut store = MemoryStore::new(alloc);
+    let key = StoreKey::new(alloc, "a")?;
+    set_lent(&mut store, alloc, &key, Bytes::from_static(&[1, 2]))?;
+    must_be_present(&rt, alloc, &store, &key, &[1, 2])?;
+    write_lent(&rt, &mut store, alloc, &key)?;
+    must_be_absent(&rt, alloc, &store, &key)?;
+    must_have_counted(&rt, &store, 3);
+    Ok(())
+}
+
+fn write_lent(
+    rt: &impl Abort,
+    store: &mut MemoryStore,
+    alloc: Global,
+    key: &StoreKey,
+) -> Result<(), Fail> {
+    let mut lent = Lent::new(store);
+    assert!(rt; lent.supports_set_partial());
+    lent.set_partial(alloc, key, 1, &[3])?;
+    assert!(rt; lent.get(alloc, key)? == Some(Bytes::from_static(&[1, 3])));
+    assert!(rt; lent.size_key(alloc, key)? == Some(2));
+    assert!(rt; lent.get_partial(alloc, key, 1, 1)? == Some(Bytes::from_static(&[3])));
+    Ok(lent.erase(alloc, key)?)
+}
+
+fn must_refuse_reads<S: ReadableStorageTraits>(
+    rt: &impl Abort,
+    alloc: Global,
+    store: &S,
+    key: &StoreKey,
+)
+    requires may_ask { (S.state store.now).may_ask key.now ≡ true }
+    requires may_read { (place : ℕ) → (S.state store.now).may_read key.now place ≡ true }
+{
+    must_refuse(rt, &store.get(alloc, key), "fault");
+    must_refuse(rt, &store.get_partial(alloc, key, 0, 1), "fault");
+    must_refuse(rt, &store.size_key(alloc, key), "fault");
+}
+
+fn must_pass_reads<S: ReadableStorageTraits>(
+    rt: &impl Abort,
+    alloc: Global,
+    store: &S,
+    key: &StoreKey,
+) -> Result<(), Fail>
+    requires may_ask { (S.state store.now).may_ask key.now ≡ true }
+    requires may_read { (place : ℕ) → (S.state store.now).may_read key.now place ≡ true }
+{
+    assert!(rt; store.get(alloc, key)?.is_some());
+    assert!(rt; store.get_partial(alloc, key, 0, 1)?.is_some());
+    assert!(rt; store.size_key(alloc, key)?.is_some());
+    Ok(())
+}
+
+#[test]
+fn faulty_reads(rt: HostRuntime) -> Result<(), Fail> {
+    let alloc = rt.alloc();
+    let mut store = MemoryStore::new(alloc);
+    let (good, bad) = (StoreKey::new(alloc, "good")?, StoreKey::new(alloc, "bad")?);
+    set(&mut store, alloc, &good, &[1])?;
+    set(&mut store, alloc, &bad, &[2])?;
+    let fault = Fault::new(store, vec![in alloc; bad.clone()?]?, None);
+    must_refuse_reads(&rt, alloc, &fault, &bad);
+    must_pass_reads(&rt, alloc, &fault, &good)
+}
+
+fn must_have_seen(rt: &impl Abort, counts: (u64, u64), calls: u64, failures: u64) {
+    assert_eq!(rt; counts.0, calls);
+    assert_eq!(rt; counts.1, failures);
+}
+
+fn must_erase<S: WritableStorageTraits>(
+    rt: &impl Abort,
+    alloc: Global,
+    store: &mut S,
+    key: &StoreKey,
+) {
+    assert!(rt; store.erase(alloc, key).is_ok());
+}
+
+fn must_refuse_erase<S: WritableStorageTraits>(
+    rt: &impl Abort,
+    alloc: Global,
+    store: &mut S,
+    key: &StoreKey,
+    text: &'static str,
+) {
+    must_refuse(rt, &store.erase(alloc, key), text);
+}
+
+#[test]
+fn one_faulty_write(rt: HostRuntime) -> Result<(), Fail> {
+    let alloc = rt.alloc();
+    let mut store = MemoryStore::with_calls(alloc, 5);
+    let key = StoreKey::new(alloc, "a")?;
+    set(&mut store, alloc, &key, &[1])?;
+    let mut fault = Fault::new(store, Vec::new(alloc), Some(2));
+    fault.set(alloc, &key, Bytes::from_static(&[2]))?;
+    must_refuse_erase(&rt, alloc, &mut fault, &key, "fault");
+    must_pass_reads(&rt, alloc, &fault, &key)?;
+    fault.set_partial(alloc, &key, 1, &[3])?;
+    must_have_seen(&rt, (fault.calls(), fault.failures()), 3, 1);
+    let store = fault.into_inner();
+    must_be_present(&rt, alloc, &store, &key, &[2, 3])?;
+    must_have_counted(&rt, &store, 8);
+    Ok(())
+}
+
+#[test]
+fn each_writing_call_may_be_the_faulty_one(rt: HostRuntime) -> Result<(), Fail> {
+    let alloc = rt.alloc();
+    let key = StoreKey::new(alloc, "a")?;
+    let store = MemoryStore::new(alloc);
+    let mut fault = Fault::new(store, Vec::new(alloc), Some(1));
+    must_refuse(&rt, &fault.set(alloc, &key, Bytes::new()), "fault");
+    let mut fault = Fault::new(fault, Vec::new(alloc), Some(1));
+    must_refuse(&rt, &fault.set_partial(alloc, &key, 0, &[1]), "fault");
+    must_erase(&rt, alloc, &mut fault, &key);
+    assert!(rt; fault.supports_set_partial());
+    Ok(())
+}
+
+fn must_stop(rt: &impl Abort, alloc: Global, stop: &mut Stop<MemoryStore>, key: &StoreKey) {
+    must_refuse(rt, &stop.set(alloc, key, Bytes::new()), "stop");
+    must_refuse(rt, &stop.set_partial(alloc, key, 0, &[1]), "stop");
+    must_refuse_erase(rt, alloc, stop, key, "stop");
+}
+
+#[test]
+fn a_stop_after_two_writes(rt: HostRuntime) -> Result<(), Fail> {
+    let alloc = rt.alloc();
+    let key = StoreKey::new(alloc, "a")?;
+    let mut stop = Stop::new(MemoryStore::new(alloc), 2);
+    stop.set(alloc, &key, Bytes::from_static(&[1]))?;
+    stop.set_partial(alloc, &key, 1, &[2])?;
+    must_stop(&rt, alloc, &mut stop, &key);
+    must_pass_reads(&rt, alloc, &stop, &key)?;
+    must_have_seen(&rt, (stop.calls(), stop.failures()), 5, 3);
+    let store = stop.into_inner();
+    must_be_present(&rt, alloc, &store, &key, &[1, 2])?;
+    must_have_counted(&rt, &store, 2);
+    Ok(())
+}
+
+#[test]
+fn a_stop_at_once(rt: HostRuntime) -> Result<(), Fail> {
+    let alloc = rt.alloc();
+    let key = StoreKey::new(alloc, "a")?;
+    let mut stop = Stop::new(MemoryStore::new(alloc), 0);
+    must_stop(&rt, alloc, &mut stop, &key);
+    assert!(rt; stop.supports_set_partial());
+    must_have_counted(&rt, &stop.into_inner(), 0);
+    Ok(())
+}
+
+#[test]
+fn whole_values_refused(rt: HostRuntime) -> Result<(), Fail> {
+    let alloc = rt.alloc();
+    let (key, other) = (StoreKey::new(alloc, "a")?, StoreKey::new(alloc, "b")?);
+    let mut store = WholeRefused::new(MemoryStore::new(alloc), vec![in alloc; key.clone()?]?);
+    store.set(alloc, &key, Bytes::from_static(&[1, 2]))?;
+    store.set_partial(alloc, &other, 0, &[1])?;
+    must_pass_parts(&rt, alloc, &store, &key)?;
+    must_pass_reads(&rt, alloc, &store, &other)?;
+    must_erase(&rt, alloc, &mut store, &other);
+    assert!(rt; store.supports_set_partial());
+    must_have_counted(&rt, &store.into_inner(), 3);
+    Ok(())
+}
+
+fn must_pass_parts(
+    rt: &impl Abort,
+    alloc: Global,
+    store: &WholeRefused<MemoryStore>,
+    key: &StoreKey,
+) -> Result<(), Fail> {
+    must_refuse(rt, &store.get(alloc, key), "get");
+    assert!(rt; store.get_partial(alloc, key, 1, 1)? == Some(Bytes::from_static(&[2])));
+    assert!(rt; store.size_key(alloc, key)? == Some(2));
+    Ok(())
+}
+
+fn must_read_through_a_fence(
+    rt: &impl Abort,
+    alloc: Global,
+    store: &mut MemoryStore,
+    keys: Vec<StoreKey>,
+    key: &StoreKey,
+) -> Result<(), Fail>
+    requires { is_listed keys.items key.now ≡ true }
+{
+    let fence = Fence::new(store, keys);
+    must_pass_reads(rt, alloc, &fence, key)
+}
+
+fn must_write_through_a_fence(
+    rt: &impl Abort,
+    alloc: Global,
+    store: &mut MemoryStore,
+    key: &StoreKey,
+) -> Result<(), Fail> {
+    let mut fence = Fence::new(store, Vec::new(alloc));
+    fence.set_partial(alloc, key, 0, &[1])?;
+    fence.set(alloc, key, Bytes::from_static(&[1, 2]))?;
+    assert!(rt; fence.supports_set_partial());
+    Ok(fence.erase(alloc, key)?)
+}
+
+#[test]
+fn a_fenced_store(rt: HostRuntime) -> Result<(), Fail> {
+    let alloc = rt.alloc();
+    let mut store = MemoryStore::new(alloc);
+    let (key, other) = (StoreKey::new(alloc, "a")?, StoreKey::new(alloc, "b")?);
+    set(&mut store, alloc, &key, &[1])?;
+    let keys = vec![in alloc; key.clone()?]?;
+    must_read_through_a_fence(&rt, alloc, &mut store, keys, &key)?;
+    must_write_through_a_fence(&rt, alloc, &mut store, &other)?;
+    must_be_absent(&rt, alloc, &store, &other)?;
+    must_have_counted(&rt, &store, 4);
+    Ok(())
+}
