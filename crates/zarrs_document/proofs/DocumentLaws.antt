@@ -5,7 +5,7 @@ use Rattle.serde_json.specs.Find.{get_member}
 use Rattle.zarrs_metadata.specs.Members.{is_named, besides}
 use Rattle.zarrs_document.specs.Members.{put_some, put_all, list_in, members_in, object_data}
 use Rattle.zarrs_document.specs.Fields.{FieldData, fields_of, fields_data, normal_field, normal_fields}
-use Rattle.zarrs_metadata.specs.Extension.{ExtensionData, normal, extension_of, data_of}
+use Rattle.zarrs_metadata.specs.Extension.{ExtensionData, normal, extension_of, extension_data}
 use Rattle.zarrs_document.specs.Document.{DocumentData, PartsData, DraftData, document_names, parts_of, draft_of, dimension_name_of, transformers_in, names_in, assembled, document_from, document_of, dimension_name_data, transformers_data, document_members, data_of_document, normal_document}
 use Rattle.zarrs_metadata.specs.Lists.{number_data, numbers_data, list_data}
 use Rattle.zarrs_metadata.proofs.ExtensionLaws.{round_trip}
@@ -18,11 +18,11 @@ pub written_in_turn : (m : DocumentData) (v_zarr_format v_node_type v_shape v_da
     → v_zarr_format ≡ Some (number_data 3) → m_zarr_format ≡ put_some (codes "zarr_format") v_zarr_format start
     → v_node_type ≡ Some (string (codes "array")) → m_node_type ≡ put_some (codes "node_type") v_node_type m_zarr_format
     → v_shape ≡ Some (numbers_data m.shape) → m_shape ≡ put_some (codes "shape") v_shape m_node_type
-    → v_data_type ≡ Some (data_of m.data_type) → m_data_type ≡ put_some (codes "data_type") v_data_type m_shape
-    → v_chunk_grid ≡ Some (data_of m.chunk_grid) → m_chunk_grid ≡ put_some (codes "chunk_grid") v_chunk_grid m_data_type
-    → v_chunk_key_encoding ≡ Some (data_of m.chunk_key_encoding) → m_chunk_key_encoding ≡ put_some (codes "chunk_key_encoding") v_chunk_key_encoding m_chunk_grid
+    → v_data_type ≡ Some (extension_data m.data_type) → m_data_type ≡ put_some (codes "data_type") v_data_type m_shape
+    → v_chunk_grid ≡ Some (extension_data m.chunk_grid) → m_chunk_grid ≡ put_some (codes "chunk_grid") v_chunk_grid m_data_type
+    → v_chunk_key_encoding ≡ Some (extension_data m.chunk_key_encoding) → m_chunk_key_encoding ≡ put_some (codes "chunk_key_encoding") v_chunk_key_encoding m_chunk_grid
     → v_fill_value ≡ Some m.fill_value → m_fill_value ≡ put_some (codes "fill_value") v_fill_value m_chunk_key_encoding
-    → v_codecs ≡ Some (list_data data_of m.codecs) → m_codecs ≡ put_some (codes "codecs") v_codecs m_fill_value
+    → v_codecs ≡ Some (list_data extension_data m.codecs) → m_codecs ≡ put_some (codes "codecs") v_codecs m_fill_value
     → v_attributes ≡ object_data m.attributes → m_attributes ≡ put_some (codes "attributes") v_attributes m_codecs
     → v_storage_transformers ≡ transformers_data m.storage_transformers → m_storage_transformers ≡ put_some (codes "storage_transformers") v_storage_transformers m_attributes
     → v_dimension_names ≡ option_map (list_data dimension_name_data) m.dimension_names → m_dimension_names ≡ put_some (codes "dimension_names") v_dimension_names m_storage_transformers
@@ -38,7 +38,7 @@ unfolding parts_of
 same_parts ms w e_zarr_format e_node_type e_shape e_data_type e_chunk_grid e_chunk_key_encoding e_fill_value e_codecs e_attributes e_storage_transformers e_dimension_names e = rw (e_zarr_format, e_node_type, e_shape, e_data_type, e_chunk_grid, e_chunk_key_encoding, e_fill_value, e_codecs, e_attributes, e_storage_transformers, e_dimension_names, e) refl
 
 abbrev written_parts : DocumentData → PartsData
-written_parts m = record { zarr_format = Some (number_data 3); node_type = Some (string (codes "array")); shape = Some (numbers_data m.shape); data_type = Some (data_of m.data_type); chunk_grid = Some (data_of m.chunk_grid); chunk_key_encoding = Some (data_of m.chunk_key_encoding); fill_value = Some m.fill_value; codecs = Some (list_data data_of m.codecs); attributes = object_data m.attributes; storage_transformers = transformers_data m.storage_transformers; dimension_names = option_map (list_data dimension_name_data) m.dimension_names; others = besides document_names (fields_data m.additional_fields) }
+written_parts m = record { zarr_format = Some (number_data 3); node_type = Some (string (codes "array")); shape = Some (numbers_data m.shape); data_type = Some (extension_data m.data_type); chunk_grid = Some (extension_data m.chunk_grid); chunk_key_encoding = Some (extension_data m.chunk_key_encoding); fill_value = Some m.fill_value; codecs = Some (list_data extension_data m.codecs); attributes = object_data m.attributes; storage_transformers = transformers_data m.storage_transformers; dimension_names = option_map (list_data dimension_name_data) m.dimension_names; others = besides document_names (fields_data m.additional_fields) }
 
 parts_written : (m : DocumentData) → parts_of (put_all (document_members m) (besides document_names (fields_data m.additional_fields))) ≡ written_parts m
 parts_written m =
@@ -71,8 +71,8 @@ attributes_back : (ms : Members) → members_in (object_data ms) ≡ Some ms
 attributes_back no_members = refl
 attributes_back (member key d ms) = refl
 
-list_back : (es : List ExtensionData) → list_in extension_of (Some (list_data data_of es)) ≡ Some (map normal es)
-list_back es = all_of-items_of extension_of data_of normal round_trip es
+list_back : (es : List ExtensionData) → list_in extension_of (Some (list_data extension_data es)) ≡ Some (map normal es)
+list_back es = all_of-items_of extension_of extension_data normal round_trip es
 
 transformers_back : (es : List ExtensionData) → transformers_in (transformers_data es) ≡ Some (map normal es)
 transformers_back [] = refl

@@ -7,8 +7,8 @@ use Rattle.serde_json.specs.Written.{has_float}
 use Rattle.serde_json.specs.Read.{read, max_depth}
 use Rattle.zarrs_metadata.specs.Members.{besides}
 use Rattle.zarrs_metadata.specs.Lists.{all_of, list_data, numbers_of, numbers_data, number_data}
-use Rattle.zarrs_metadata.specs.Extension.{◌>>=◌, ExtensionData, normal, extension_of, data_of}
-use Rattle.zarrs_document.specs.Members.{is_text, is_number, list_in, members_in, object_data, put_all}
+use Rattle.zarrs_metadata.specs.Extension.{◌>>=◌, ExtensionData, normal, extension_of, extension_data}
+use Rattle.zarrs_document.specs.Members.{reads_as_text, reads_as_number, list_in, members_in, object_data, put_all}
 use Rattle.zarrs_document.specs.Fields.{FieldData, fields_of, fields_data, normal_fields}
 
 -- the metadata of an array; a dimension may have no name
@@ -148,7 +148,7 @@ assembled w = do
 
 -- the members are those of a V3 array
 abbrev pub is_array : PartsData → Bool
-is_array p = is_number 3 p.zarr_format && is_text (codes "array") p.node_type
+is_array p = reads_as_number 3 p.zarr_format && reads_as_text (codes "array") p.node_type
 
 abbrev pub document_from : PartsData → Option DocumentData
 document_from p = if is_array p then assembled (draft_of p) else None
@@ -173,29 +173,34 @@ dimension_name_data (Some text) = string text
 
 abbrev pub transformers_data : List ExtensionData → Option Data
 transformers_data [] = None
-transformers_data (e ∷ es) = Some (list_data data_of (e ∷ es))
+transformers_data (e ∷ es) = Some (list_data extension_data (e ∷ es))
 
 -- the members of a document; empty attributes, empty transformers and absent names are not written
 abbrev pub document_members : DocumentData → List (List ℕ × Option Data)
 document_members m =
-    (codes "dimension_names", option_map (list_data dimension_name_data) m.dimension_names) ∷ (codes "storage_transformers", transformers_data m.storage_transformers) ∷ (codes "attributes", object_data m.attributes) ∷ (codes "codecs", Some (list_data data_of m.codecs)) ∷ (codes "fill_value", Some m.fill_value) ∷ (codes "chunk_key_encoding", Some (data_of m.chunk_key_encoding)) ∷ (codes "chunk_grid", Some (data_of m.chunk_grid)) ∷ (codes "data_type", Some (data_of m.data_type)) ∷ (codes "shape", Some (numbers_data m.shape)) ∷ (codes "node_type", Some (string (codes "array"))) ∷ (codes "zarr_format", Some (number_data 3)) ∷ []
+    (codes "dimension_names", option_map (list_data dimension_name_data) m.dimension_names) ∷ (codes "storage_transformers", transformers_data m.storage_transformers) ∷ (codes "attributes", object_data m.attributes) ∷ (codes "codecs", Some (list_data extension_data m.codecs)) ∷ (codes "fill_value", Some m.fill_value) ∷ (codes "chunk_key_encoding", Some (extension_data m.chunk_key_encoding)) ∷ (codes "chunk_grid", Some (extension_data m.chunk_grid)) ∷ (codes "data_type", Some (extension_data m.data_type)) ∷ (codes "shape", Some (numbers_data m.shape)) ∷ (codes "node_type", Some (string (codes "array"))) ∷ (codes "zarr_format", Some (number_data 3)) ∷ []
 
 -- the JSON value of a document: a field under one of its own names is not written
 unfoldable pub data_of_document : DocumentData → Data
 data_of_document m = object (put_all (document_members m) (besides document_names (fields_data m.additional_fields)))
 
--- a document as it is read again: an empty configuration counts as none
-abbrev pub normal_document : DocumentData → DocumentData
-normal_document m = record m {
+-- an empty configuration counts as none
+abbrev pub without_empty_configurations : DocumentData → DocumentData
+without_empty_configurations m = record m {
   data_type = normal m.data_type;
   chunk_grid = normal m.chunk_grid;
   chunk_key_encoding = normal m.chunk_key_encoding;
   codecs = map normal m.codecs;
   storage_transformers = map normal m.storage_transformers;
+}
+
+-- a document as it is read again
+abbrev pub normal_document : DocumentData → DocumentData
+normal_document m = record (without_empty_configurations m) {
   additional_fields = normal_fields document_names m.additional_fields;
 }
 
 -- bytes that read as the document, unless its tree nests too deep or has a left-out number
-abbrev pub IsTextOf : DocumentData → List ℕ → Type 0
-IsTextOf m bytes =
+abbrev pub IsDocumentText : DocumentData → List ℕ → Type 0
+IsDocumentText m bytes =
     depth (data_of_document m) ≤ max_depth → has_float (data_of_document m) ≡ false → document_said bytes ≡ Some (normal_document m)

@@ -8,12 +8,12 @@ use Rattle.zarrs_metadata.specs.Lists.{all_of, number_of}
 -- ---- read
 
 -- the member is this text
-abbrev pub is_text : List ℕ → Option Data → Bool
-is_text text o = unwrap_or (option_map (λ s. bytes_eq s text) (option_and_then as_str o)) false
+abbrev pub reads_as_text : List ℕ → Option Data → Bool
+reads_as_text text o = unwrap_or (option_map (λ s. bytes_eq s text) (option_and_then as_str o)) false
 
 -- the member is this number
-abbrev pub is_number : ℕ → Option Data → Bool
-is_number n o = unwrap_or (option_map (λ m. m == n) (option_and_then number_of o)) false
+abbrev pub reads_as_number : ℕ → Option Data → Bool
+reads_as_number n o = unwrap_or (option_map (λ m. m == n) (option_and_then number_of o)) false
 
 -- the list of what each item of the member reads as
 abbrev pub list_in : {A : Type 0} → (Data → Option A) → Option Data → Option (List A)

@@ -2,7 +2,7 @@
 use Rattle.std.specs.Prelude.{ℕ, List, map, Option, option_map, String, string_bytes}
 use Rattle.std.specs.declared.alloc.Global.{Global}
 use Rattle.serde_json.specs.View.{view, members_view}
-use Rattle.zarrs_metadata.specs.View.{extension_view}
+use Rattle.zarrs_metadata.specs.Extension.{extension_view}
 use Rattle.zarrs_document.specs.Fields.{FieldData}
 use Rattle.zarrs_document.specs.Document.{DocumentData, PartsData, DraftData}
 use Rattle.zarrs_document.specs.declared.fields.AdditionalFieldV3.{AdditionalFieldV3}

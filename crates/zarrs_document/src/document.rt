@@ -1,11 +1,12 @@
 //! The V3 document of an array.
 ghost use Rattle.std.specs.Prelude.{◌≡◌, Some, None, map, option_map, IfOk, IfErr};
 ghost use Rattle.serde_json.specs.View.{view, members_view};
-ghost use Rattle.zarrs_metadata.specs.View.{extension_view};
-ghost use Rattle.zarrs_document.specs.Document.{document_of, plain_document_of, document_said, plain_document, data_of_document, normal_document, IsTextOf};
+ghost use Rattle.zarrs_metadata.specs.Extension.{extension_view};
+ghost use Rattle.zarrs_document.specs.Document.{document_of, without_empty_configurations, plain_document_of, document_said, plain_document, data_of_document, normal_document, IsDocumentText};
 ghost use Rattle.zarrs_document.specs.Refusals.{RefusesReading};
 ghost use Rattle.zarrs_document.specs.View.{name_view, fields_view, document_view};
 
+use crate::copying::copied_document;
 use crate::fields::AdditionalFieldsV3;
 use crate::numbers::holds_float;
 use crate::reading::read_document;
@@ -13,6 +14,9 @@ use crate::writing::document_value;
 use serde_json::{Category, Map, Value};
 use std::alloc::{AllocError, Global};
 use zarrs_metadata::{ChunkKeySeparator, MetadataError, MetadataV3};
+
+/// A fill value in metadata: null, a bool, a number, a text, a list or an object.
+pub type FillValueMetadata = Value;
 
 /// The name of a dimension, or `None` for a dimension without a name.
 pub type DimensionName = Option<String>;
@@ -30,7 +34,7 @@ pub struct ArrayMetadataV3 {
     /// The chunk key encoding.
     pub chunk_key_encoding: MetadataV3,
     /// The fill value, as the data type reads it.
-    pub fill_value: Value,
+    pub fill_value: FillValueMetadata,
     /// The codecs, in the order in which they encode.
     pub codecs: Vec<MetadataV3>,
     /// The attributes of the user.
@@ -54,7 +58,7 @@ impl ArrayMetadataV3 {
         shape: Vec<u64>,
         chunk_grid: MetadataV3,
         data_type: MetadataV3,
-        fill_value: Value,
+        fill_value: FillValueMetadata,
         codecs: Vec<MetadataV3>,
     ) -> Result<ArrayMetadataV3, AllocError>
         ensures { IfOk result (λ m. document_view m
@@ -76,6 +80,17 @@ impl ArrayMetadataV3 {
             dimension_names: None,
             additional_fields: Map::new(alloc),
         })
+    }
+
+    /// A copy, in which an empty configuration is none.
+    ///
+    /// # Errors
+    /// If memory is short.
+    pub fn try_clone(&self, alloc: Global) -> Result<ArrayMetadataV3, AllocError>
+        ensures { IfOk result (λ copy. document_view copy
+            ≡ without_empty_configurations (document_view self.now)) }
+    {
+        copied_document(alloc, self)
     }
 
     /// With these attributes.
@@ -192,7 +207,7 @@ impl ArrayMetadataV3 {
     /// # Errors
     /// If memory is short.
     pub fn to_vec_pretty(&self, alloc: Global) -> Result<Vec<u8>, AllocError>
-        ensures { IfOk result (λ bytes. IsTextOf (document_view self.now) bytes.items) }
+        ensures { IfOk result (λ bytes. IsDocumentText (document_view self.now) bytes.items) }
     {
         let value = self.to_value(alloc)?;
         let bytes = value.to_vec_pretty(alloc)?;

@@ -2,6 +2,7 @@
 //! and stored bytes (Zarr V3 core specification, array metadata).
 #![tactic(auto)]
 
+mod copying;
 mod document;
 mod fields;
 pub mod members;
@@ -9,6 +10,6 @@ mod numbers;
 mod reading;
 mod writing;
 
-pub use document::{ArrayMetadataV3, DimensionName};
+pub use document::{ArrayMetadataV3, DimensionName, FillValueMetadata};
 pub use fields::{AdditionalFieldV3, AdditionalFieldsV3};
 pub use numbers::holds_float;

@@ -4,7 +4,7 @@ ghost use Rattle.serde_json.specs.Find.{get_member, as_array, as_object};
 ghost use Rattle.serde_json.specs.View.{view, items_view, members_view};
 ghost use Rattle.zarrs_metadata.specs.Members.{besides, nonempty};
 ghost use Rattle.zarrs_metadata.specs.Lists.{numbers_of};
-ghost use Rattle.zarrs_document.specs.Members.{is_text, is_number, members_in, object_data, put_some};
+ghost use Rattle.zarrs_document.specs.Members.{reads_as_text, reads_as_number, members_in, object_data, put_some};
 
 use serde_json::{Map, Value};
 use std::alloc::{AllocError, Global};
@@ -114,8 +114,8 @@ pub fn object_value(members: &Map<String, Value>) -> Result<Option<Value>, Alloc
 }
 
 /// Whether the member is this number.
-pub fn is_number(member: &Option<Value>, wanted: u64) -> bool
-    ensures { result ≡ is_number wanted (option_map view member.now) }
+pub fn reads_as_number(member: &Option<Value>, wanted: u64) -> bool
+    ensures { result ≡ reads_as_number wanted (option_map view member.now) }
 {
     match member {
         Some(value) => match value.as_u64() {
@@ -127,8 +127,8 @@ pub fn is_number(member: &Option<Value>, wanted: u64) -> bool
 }
 
 /// Whether the member is this text.
-pub fn is_text(member: &Option<Value>, wanted: &str) -> bool
-    ensures { result ≡ is_text wanted.now (option_map view member.now) }
+pub fn reads_as_text(member: &Option<Value>, wanted: &str) -> bool
+    ensures { result ≡ reads_as_text wanted.now (option_map view member.now) }
 {
     match member {
         Some(value) => match value.as_str() {

@@ -4,14 +4,14 @@ ghost use Rattle.serde_json.specs.View.{view, items_view, members_view};
 ghost use Rattle.zarrs_metadata.specs.Members.{besides};
 ghost use Rattle.zarrs_metadata.specs.Lists.{all_of};
 ghost use Rattle.zarrs_metadata.specs.Extension.{extension_of};
-ghost use Rattle.zarrs_metadata.specs.View.{extension_view};
+ghost use Rattle.zarrs_metadata.specs.Extension.{extension_view};
 ghost use Rattle.zarrs_document.specs.Members.{list_in};
 ghost use Rattle.zarrs_document.specs.Document.{dimension_name_of, transformers_in, names_in, parts_of, document_names, is_array, draft_of, assembled, document_from, document_of};
 ghost use Rattle.zarrs_document.specs.View.{name_view, document_view, parts_view, draft_view};
 
 use crate::document::{ArrayMetadataV3, DimensionName};
 use crate::fields::{AdditionalFieldsV3, read_fields};
-use crate::members::{is_number, is_text, items_in, members_in, numbers_in, object_of, take_member};
+use crate::members::{reads_as_number, reads_as_text, items_in, members_in, numbers_in, object_of, take_member};
 use serde_json::{Map, Value};
 use std::alloc::{AllocError, Global};
 use zarrs_metadata::MetadataV3;
@@ -115,7 +115,7 @@ impl Parts {
     fn is_array(&self) -> bool
         ensures { result ≡ is_array (parts_view self.now) }
     {
-        is_number(&self.zarr_format, 3) && is_text(&self.node_type, "array")
+        reads_as_number(&self.zarr_format, 3) && reads_as_text(&self.node_type, "array")
     }
 
     fn read(self, alloc: Global) -> Result<Draft, AllocError>

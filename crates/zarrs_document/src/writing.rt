@@ -1,9 +1,9 @@
 //! Writing a document as a JSON value, member by member.
 ghost use Rattle.std.specs.Prelude.{◌≡◌, map, option_map, IfOk};
 ghost use Rattle.serde_json.specs.View.{view};
-ghost use Rattle.zarrs_metadata.specs.Extension.{data_of};
+ghost use Rattle.zarrs_metadata.specs.Extension.{extension_data};
 ghost use Rattle.zarrs_metadata.specs.Lists.{list_data};
-ghost use Rattle.zarrs_metadata.specs.View.{extension_view};
+ghost use Rattle.zarrs_metadata.specs.Extension.{extension_view};
 ghost use Rattle.zarrs_document.specs.Document.{dimension_name_data, transformers_data, data_of_document};
 ghost use Rattle.zarrs_document.specs.View.{name_view, document_view};
 
@@ -49,7 +49,7 @@ pub(crate) fn document_value(
 }
 
 fn extensions_value(alloc: Global, extensions: &Vec<MetadataV3>) -> Result<Value, AllocError>
-    ensures { IfOk result (λ v. view v ≡ list_data data_of (map extension_view extensions.now.items)) }
+    ensures { IfOk result (λ v. view v ≡ list_data extension_data (map extension_view extensions.now.items)) }
 {
     let mut values = Vec::new(alloc);
     for extension in extensions {

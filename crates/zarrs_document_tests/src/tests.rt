@@ -380,6 +380,18 @@ fn documents_with_more_parts(rt: HostRuntime) -> Result<(), Fail> {
     must_read_again(&rt, alloc, &document)
 }
 
+#[test]
+fn copies(rt: HostRuntime) -> Result<(), Fail> {
+    let alloc = rt.alloc();
+    let mut members = small(alloc)?;
+    let names = Value::from_str(alloc, "[null,\"x\"]")?;
+    serde_json::put(&mut members, alloc, "dimension_names", names)?;
+    serde_json::put(&mut members, alloc, "version", Value::from(7u64))?;
+    let document = ArrayMetadataV3::from_value(alloc, Value::Object(members))?;
+    let written = document.to_value(alloc)?.to_string(alloc)?;
+    must_write(&rt, alloc, &document.try_clone(alloc)?, written.as_str())
+}
+
 fn must_hold(rt: &impl Abort, alloc: Global, text: &str, float: bool) -> Result<(), Fail> {
     let value = Value::from_str(alloc, text)?;
     assert_eq!(rt; holds_float(&value), float, "{text}");

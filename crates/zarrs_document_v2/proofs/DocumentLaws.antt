@@ -16,7 +16,7 @@ use Rattle.zarrs_document.proofs.ListLemmas.{map_both}
 use Rattle.zarrs_document.proofs.MemberLemmas.{get_member-put_all}
 use Rattle.zarrs_document_v2.specs.declared.order.ArrayMetadataV2Order.{ArrayMetadataV2Order}
 use Rattle.zarrs_document_v2.specs.declared.order.ArrayMetadataV2Order.TheVariants.{C, F}
-use Rattle.zarrs_document_v2.specs.Document.{DocumentV2Data, PartsV2Data, DraftV2Data, size_of, order_of, separator_in, parts_of_v2, draft_of_v2, assembled_v2, document_v2_from, document_v2_of, order_data, document_v2_members, data_with, data_of_v2, without_attributes}
+use Rattle.zarrs_document_v2.specs.Document.{DocumentV2Data, PartsV2Data, DraftV2Data, size_of, chunk_order_of, dimension_separator_in, parts_of_v2, draft_of_v2, assembled_v2, document_v2_from, document_v2_of, order_data, document_v2_members, data_v2_with, data_of_v2, without_attributes}
 
 -- ---- written one after the other
 
@@ -31,8 +31,8 @@ pub written_in_turn : (attributes : Option Data) (m : DocumentV2Data) (v_zarr_fo
     → v_filters ≡ Some m.filters → m_filters ≡ put_some (codes "filters") v_filters m_order
     → v_dimension_separator ≡ Some (separator_data m.dimension_separator) → m_dimension_separator ≡ put_some (codes "dimension_separator") v_dimension_separator m_filters
     → v_attributes ≡ attributes → m_attributes ≡ put_some (codes "attributes") v_attributes m_dimension_separator
-    → object m_attributes ≡ data_with attributes m
-unfolding data_with
+    → object m_attributes ≡ data_v2_with attributes m
+unfolding data_v2_with
 written_in_turn attributes m v_zarr_format v_shape v_chunks v_dtype v_compressor v_fill_value v_order v_filters v_dimension_separator v_attributes m_zarr_format m_shape m_chunks m_dtype m_compressor m_fill_value m_order m_filters m_dimension_separator m_attributes i_zarr_format e_zarr_format i_shape e_shape i_chunks e_chunks i_dtype e_dtype i_compressor e_compressor i_fill_value e_fill_value i_order e_order i_filters e_filters i_dimension_separator e_dimension_separator i_attributes e_attributes =
     rw (e_attributes, e_dimension_separator, e_filters, e_order, e_fill_value, e_compressor, e_dtype, e_chunks, e_shape, e_zarr_format, i_zarr_format, i_shape, i_chunks, i_dtype, i_compressor, i_fill_value, i_order, i_filters, i_dimension_separator, i_attributes) refl
 
@@ -69,7 +69,7 @@ assembled_all : (w : DraftV2Data) (m : DocumentV2Data)
 unfolding assembled_v2
 assembled_all w m e1 e2 e3 e4 e5 e6 e7 e8 e9 = rw (e1, e2, e3, e4, e5, e6, e7, e8, e9) refl
 
-order_back : (o : ArrayMetadataV2Order) → order_of (order_data o) ≡ Some o
+order_back : (o : ArrayMetadataV2Order) → chunk_order_of (order_data o) ≡ Some o
 order_back C = refl
 order_back F = refl
 
@@ -90,13 +90,13 @@ sizes_back sizes =
     ap (λ ds. list_in size_of (Some (array (items_of ds)))) (sym (map_both number_data non_zero_u64_get sizes))
     ∙ all_of-items_of size_of (λ size. number_data (non_zero_u64_get size)) non_zero_u64_get size_back sizes
 
-pub data_with_back : (m : DocumentV2Data) → list_in size_of (Some (numbers_data m.chunks)) ≡ Some m.chunks → document_v2_of (data_of_v2 m) ≡ Some m
-unfolding data_with draft_of_v2
-data_with_back m sizes =
+pub data_v2_with_back : (m : DocumentV2Data) → list_in size_of (Some (numbers_data m.chunks)) ≡ Some m.chunks → document_v2_of (data_of_v2 m) ≡ Some m
+unfolding data_v2_with draft_of_v2
+data_v2_with_back m sizes =
     ap document_v2_from (parts_written (object_data m.attributes) m)
     ∙ assembled_all (draft_of_v2 (written_parts (object_data m.attributes) m)) m (numbers_of-numbers_data m.shape) sizes refl refl refl (order_back m.order) refl (separator_back m.dimension_separator) (attributes_back m.attributes)
 
 -- attributes that are left out are not written
-pub without_same : (m : DocumentV2Data) → data_with None m ≡ data_of_v2 (without_attributes m)
-unfolding data_with
+pub without_same : (m : DocumentV2Data) → data_v2_with None m ≡ data_of_v2 (without_attributes m)
+unfolding data_v2_with
 without_same m = refl

@@ -7,7 +7,7 @@ use Rattle.zarrs_metadata.specs.Lists.{number_of, numbers_data, number_data}
 use Rattle.zarrs_metadata.specs.Extension.{ExtensionData, named}
 use Rattle.zarrs_metadata.specs.Separator.{separator_data}
 use Rattle.zarrs_metadata.specs.declared.separators.ChunkKeySeparator.{ChunkKeySeparator}
-use Rattle.zarrs_document.specs.Members.{is_text}
+use Rattle.zarrs_document.specs.Members.{reads_as_text}
 use Rattle.zarrs_document.specs.Document.{DocumentData}
 use Rattle.zarrs_document_v2.specs.Document.{DocumentV2Data}
 use Rattle.zarrs_document_v2.specs.declared.order.ArrayMetadataV2Order.{ArrayMetadataV2Order}
@@ -81,8 +81,8 @@ bool_fill (array ds) = None
 bool_fill (object ms) = None
 
 -- the value is a whole number from the first to the second
-abbrev pub is_within : ℤ → ℤ → Data → Bool
-is_within low high d =
+abbrev pub is_number_within : ℤ → ℤ → Data → Bool
+is_number_within low high d =
     unwrap_or (option_map (λ z. int_le low z && int_le z high) (option_and_then as_i64 (as_number d))) false
 
 -- the value is a whole number up to this one
@@ -110,10 +110,10 @@ text_fill (object ms) = None
 -- the fill value of V3
 abbrev pub fill_v3 : KindV2 → Data → Option Data
 fill_v3 kind.Bool d = bool_fill d
-fill_v3 kind.Int8 d = number_fill (is_within (negsuc 127) (pos 127)) d
-fill_v3 kind.Int16 d = number_fill (is_within (negsuc 32767) (pos 32767)) d
-fill_v3 kind.Int32 d = number_fill (is_within (negsuc 2147483647) (pos 2147483647)) d
-fill_v3 kind.Int64 d = number_fill (is_within (negsuc 9223372036854775807) (pos 9223372036854775807)) d
+fill_v3 kind.Int8 d = number_fill (is_number_within (negsuc 127) (pos 127)) d
+fill_v3 kind.Int16 d = number_fill (is_number_within (negsuc 32767) (pos 32767)) d
+fill_v3 kind.Int32 d = number_fill (is_number_within (negsuc 2147483647) (pos 2147483647)) d
+fill_v3 kind.Int64 d = number_fill (is_number_within (negsuc 9223372036854775807) (pos 9223372036854775807)) d
 fill_v3 kind.Uint8 d = number_fill (is_up_to 255) d
 fill_v3 kind.Uint16 d = number_fill (is_up_to 65535) d
 fill_v3 kind.Uint32 d = number_fill (is_up_to 4294967295) d
@@ -125,7 +125,7 @@ fill_v3 kind.Text d = text_fill d
 -- `{"id": "vlen-utf8"}`
 abbrev pub is_vlen_utf8 : Data → Bool
 is_vlen_utf8 d =
-    unwrap_or (option_map (λ ms. is_text (codes "vlen-utf8") (get_member (codes "id") ms) && has_only (codes "id" ∷ []) ms) (as_object d)) false
+    unwrap_or (option_map (λ ms. reads_as_text (codes "vlen-utf8") (get_member (codes "id") ms) && has_only (codes "id" ∷ []) ms) (as_object d)) false
 
 -- no filter: null or an empty list
 abbrev pub has_no_filter : Data → Bool

@@ -10,7 +10,7 @@ use Rattle.zarrs_metadata.specs.Extension.{◌>>=◌}
 use Rattle.zarrs_metadata.specs.Separator.{separator_of, separator_data}
 use Rattle.zarrs_metadata.specs.declared.separators.ChunkKeySeparator.{ChunkKeySeparator}
 use Rattle.zarrs_metadata.specs.declared.separators.ChunkKeySeparator.TheVariants.{Dot}
-use Rattle.zarrs_document.specs.Members.{is_number, list_in, members_in, object_data, put_all}
+use Rattle.zarrs_document.specs.Members.{reads_as_number, list_in, members_in, object_data, put_all}
 use Rattle.zarrs_document_v2.specs.declared.order.ArrayMetadataV2Order.{ArrayMetadataV2Order}
 use Rattle.zarrs_document_v2.specs.declared.order.ArrayMetadataV2Order.TheVariants.{C, F}
 
@@ -52,13 +52,13 @@ size_of d = option_and_then (λ n. if n == 0 then None else Some n) (number_of d
 abbrev pub order_named : List ℕ → Option ArrayMetadataV2Order
 order_named text = if bytes_eq text (codes "C") then Some C else (if bytes_eq text (codes "F") then Some F else None)
 
-abbrev pub order_of : Data → Option ArrayMetadataV2Order
-order_of d = option_and_then order_named (as_str d)
+abbrev pub chunk_order_of : Data → Option ArrayMetadataV2Order
+chunk_order_of d = option_and_then order_named (as_str d)
 
 -- an absent separator is `.`
-abbrev pub separator_in : Option Data → Option ChunkKeySeparator
-separator_in None = Some Dot
-separator_in (Some d) = separator_of d
+abbrev pub dimension_separator_in : Option Data → Option ChunkKeySeparator
+dimension_separator_in None = Some Dot
+dimension_separator_in (Some d) = separator_of d
 
 -- the members of a document, by name
 pub record PartsV2Data : Type 0 where
@@ -106,9 +106,9 @@ draft_of_v2 p = record {
   dtype = option_and_then as_str p.dtype;
   compressor = p.compressor;
   fill_value = p.fill_value;
-  order = option_and_then order_of p.order;
+  order = option_and_then chunk_order_of p.order;
   filters = p.filters;
-  dimension_separator = separator_in p.dimension_separator;
+  dimension_separator = dimension_separator_in p.dimension_separator;
   attributes = members_in p.attributes;
 }
 
@@ -128,7 +128,7 @@ assembled_v2 w = do
 
 -- the document of these members; other members are ignored
 abbrev pub document_v2_from : PartsV2Data → Option DocumentV2Data
-document_v2_from p = if is_number 2 p.zarr_format then assembled_v2 (draft_of_v2 p) else None
+document_v2_from p = if reads_as_number 2 p.zarr_format then assembled_v2 (draft_of_v2 p) else None
 
 -- the document that a JSON value reads as
 abbrev pub document_v2_of : Data → Option DocumentV2Data
@@ -165,19 +165,19 @@ abbrev pub document_v2_members : Option Data → DocumentV2Data → List (List �
 document_v2_members attributes m =
     (codes "attributes", attributes) ∷ (codes "dimension_separator", Some (separator_data m.dimension_separator)) ∷ (codes "filters", Some m.filters) ∷ (codes "order", Some (order_data m.order)) ∷ (codes "fill_value", Some m.fill_value) ∷ (codes "compressor", Some m.compressor) ∷ (codes "dtype", Some (string m.dtype)) ∷ (codes "chunks", Some (numbers_data m.chunks)) ∷ (codes "shape", Some (numbers_data m.shape)) ∷ (codes "zarr_format", Some (number_data 2)) ∷ []
 
-unfoldable pub data_with : Option Data → DocumentV2Data → Data
-data_with attributes m = object (put_all (document_v2_members attributes m) no_members)
+unfoldable pub data_v2_with : Option Data → DocumentV2Data → Data
+data_v2_with attributes m = object (put_all (document_v2_members attributes m) no_members)
 
 -- the JSON value of a document; empty attributes are not written
 abbrev pub data_of_v2 : DocumentV2Data → Data
-data_of_v2 m = data_with (object_data m.attributes) m
+data_of_v2 m = data_v2_with (object_data m.attributes) m
 
 -- bytes that read as the document, unless its tree nests too deep or has a left-out number
-abbrev pub IsTextOfV2 : DocumentV2Data → List ℕ → Type 0
-IsTextOfV2 m bytes =
+abbrev pub IsDocumentV2Text : DocumentV2Data → List ℕ → Type 0
+IsDocumentV2Text m bytes =
     depth (data_of_v2 m) ≤ max_depth → has_float (data_of_v2 m) ≡ false → document_v2_said bytes ≡ Some m
 
 -- bytes that read as the attributes, unless they nest too deep or have a left-out number
-abbrev pub IsTextOfAttributes : Members → List ℕ → Type 0
-IsTextOfAttributes ms bytes =
+abbrev pub IsAttributesText : Members → List ℕ → Type 0
+IsAttributesText ms bytes =
     depth (object ms) ≤ max_depth → has_float (object ms) ≡ false → attributes_said bytes ≡ Some ms

@@ -4,8 +4,8 @@ ghost use Rattle.serde_json.specs.Data.{array};
 ghost use Rattle.serde_json.specs.Find.{get_member};
 ghost use Rattle.serde_json.specs.View.{view, items_view, members_view};
 ghost use Rattle.zarrs_metadata.specs.Members.{is_named, has_only};
-ghost use Rattle.zarrs_document.specs.Members.{is_text};
-ghost use Rattle.zarrs_metadata.specs.View.{extension_view};
+ghost use Rattle.zarrs_document.specs.Members.{reads_as_text};
+ghost use Rattle.zarrs_metadata.specs.Extension.{extension_view};
 ghost use Rattle.zarrs_document.specs.View.{document_view};
 ghost use Rattle.zarrs_document_v2.specs.Conversion.{is_vlen_utf8, has_no_filter, has_text_filter, has_filters_of, is_uncompressed, extension_with_member, endian_name, bytes_codec, cells_codec, count_down, order_codecs, converted, to_v3};
 ghost use Rattle.zarrs_document_v2.specs.Refusals.{RefusesConversion};
@@ -232,7 +232,7 @@ fn is_vlen_utf8(filter: &Value) -> bool
 }
 
 fn has_text_id(members: &Map<String, Value>) -> bool
-    ensures { result ≡ is_text (codes "vlen-utf8")
+    ensures { result ≡ reads_as_text (codes "vlen-utf8")
         (get_member (codes "id") (members_view members.now.entries)) }
 {
     match member_of(members, "id") {

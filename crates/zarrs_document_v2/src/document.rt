@@ -3,7 +3,7 @@ ghost use Rattle.std.specs.Prelude.{◌≡◌, Some, map, string_bytes, IfOk, If
 ghost use Rattle.std.specs.Int.NonZero.{non_zero_u64_get};
 ghost use Rattle.serde_json.specs.View.{view, members_view};
 ghost use Rattle.zarrs_document.specs.Refusals.{RefusesReading};
-ghost use Rattle.zarrs_document_v2.specs.Document.{document_v2_of, plain_document_v2_of, document_v2_said, plain_document_v2, without_attributes, data_of_v2, IsTextOfV2, IsTextOfAttributes};
+ghost use Rattle.zarrs_document_v2.specs.Document.{document_v2_of, plain_document_v2_of, document_v2_said, plain_document_v2, without_attributes, data_of_v2, IsDocumentV2Text, IsAttributesText};
 ghost use Rattle.zarrs_document_v2.specs.View.{document_v2_view};
 
 use crate::order::ArrayMetadataV2Order;
@@ -13,8 +13,12 @@ use crate::writing::{array_value, document_value};
 use serde_json::{Map, Value};
 use std::alloc::{AllocError, Global};
 use std::num::NonZeroU64;
-use zarrs_document::holds_float;
+use zarrs_document::members::copied;
+use zarrs_document::{FillValueMetadata, holds_float};
 use zarrs_metadata::{ChunkKeySeparator, MetadataError};
+
+/// The name of a V2 data type, such as `<i4`.
+pub type DataTypeMetadataV2 = String;
 
 /// The metadata of a V2 array, as `.zarray` and `.zattrs` hold it (Zarr V2 storage specification).
 #[derive(Drop)]
@@ -23,12 +27,12 @@ pub struct ArrayMetadataV2 {
     pub shape: Vec<u64>,
     /// The extent of a chunk in each dimension.
     pub chunks: Vec<NonZeroU64>,
-    /// The data type, as `<i4`.
-    pub dtype: String,
+    /// The data type.
+    pub dtype: DataTypeMetadataV2,
     /// The compressor, or null.
     pub compressor: Value,
     /// The fill value, or null.
-    pub fill_value: Value,
+    pub fill_value: FillValueMetadata,
     /// The order of the cells in a chunk.
     pub order: ArrayMetadataV2Order,
     /// The list of filters, or null.
@@ -44,8 +48,8 @@ impl ArrayMetadataV2 {
     pub fn new(
         shape: Vec<u64>,
         chunks: Vec<NonZeroU64>,
-        dtype: String,
-        fill_value: Value,
+        dtype: DataTypeMetadataV2,
+        fill_value: FillValueMetadata,
         compressor: Value,
         filters: Value,
     ) -> ArrayMetadataV2
@@ -65,6 +69,33 @@ impl ArrayMetadataV2 {
             dimension_separator: ChunkKeySeparator::Dot,
             attributes: Map::new(alloc),
         }
+    }
+
+    /// A copy.
+    ///
+    /// # Errors
+    /// If memory is short.
+    pub fn try_clone(&self, alloc: Global) -> Result<ArrayMetadataV2, AllocError>
+        ensures { IfOk result (λ copy. document_v2_view copy ≡ document_v2_view self.now) }
+    {
+        let shape = Vec::from_slice(alloc, self.shape.as_slice())?;
+        let chunks = Vec::from_slice(alloc, self.chunks.as_slice())?;
+        let dtype = self.dtype.clone()?;
+        let compressor = self.compressor.clone()?;
+        let fill_value = self.fill_value.clone()?;
+        let filters = self.filters.clone()?;
+        let attributes = copied(&self.attributes)?;
+        Ok(ArrayMetadataV2 {
+            shape,
+            chunks,
+            dtype,
+            compressor,
+            fill_value,
+            order: self.order,
+            filters,
+            dimension_separator: self.dimension_separator,
+            attributes,
+        })
     }
 
     /// With this order of the cells in a chunk.
@@ -144,7 +175,7 @@ impl ArrayMetadataV2 {
     /// If memory is short.
     pub fn to_vec_pretty(&self, alloc: Global) -> Result<Vec<u8>, AllocError>
         ensures { IfOk result (λ bytes.
-            IsTextOfV2 (without_attributes (document_v2_view self.now)) bytes.items) }
+            IsDocumentV2Text (without_attributes (document_v2_view self.now)) bytes.items) }
     {
         let value = array_value(alloc, self)?;
         let bytes = value.to_vec_pretty(alloc)?;
@@ -157,7 +188,7 @@ impl ArrayMetadataV2 {
     /// If memory is short.
     pub fn attributes_to_vec_pretty(&self, alloc: Global) -> Result<Vec<u8>, AllocError>
         ensures { IfOk result (λ bytes.
-            IsTextOfAttributes (members_view self.now.attributes.entries) bytes.items) }
+            IsAttributesText (members_view self.now.attributes.entries) bytes.items) }
     {
         object_text(alloc, &self.attributes)
     }

@@ -1,7 +1,7 @@
 //! The order of cells in a V2 chunk.
 ghost use Rattle.std.specs.Prelude.{◌≡◌, IfOk};
 ghost use Rattle.serde_json.specs.View.{view};
-ghost use Rattle.zarrs_document_v2.specs.Document.{order_of, order_data};
+ghost use Rattle.zarrs_document_v2.specs.Document.{chunk_order_of, order_data};
 
 use serde_json::Value;
 use std::alloc::{AllocError, Global};
@@ -18,7 +18,7 @@ pub enum ArrayMetadataV2Order {
 impl ArrayMetadataV2Order {
     /// The order that a JSON value reads as: the text `C` or `F`.
     pub fn from_value(value: &Value) -> Option<ArrayMetadataV2Order>
-        ensures { result ≡ order_of (view value.now) }
+        ensures { result ≡ chunk_order_of (view value.now) }
     {
         match value.as_str()? {
             "C" => Some(ArrayMetadataV2Order::C),

@@ -5,7 +5,7 @@ ghost use Rattle.serde_json.specs.Find.{as_str};
 ghost use Rattle.serde_json.specs.View.{view, items_view, members_view};
 ghost use Rattle.zarrs_metadata.specs.Lists.{all_of};
 ghost use Rattle.zarrs_document.specs.Members.{list_in};
-ghost use Rattle.zarrs_document_v2.specs.Document.{size_of, order_of, separator_in, parts_of_v2, draft_of_v2, assembled_v2, document_v2_from, document_v2_of};
+ghost use Rattle.zarrs_document_v2.specs.Document.{size_of, chunk_order_of, dimension_separator_in, parts_of_v2, draft_of_v2, assembled_v2, document_v2_from, document_v2_of};
 ghost use Rattle.zarrs_document_v2.specs.View.{document_v2_view, parts_v2_view, draft_v2_view};
 
 use crate::document::ArrayMetadataV2;
@@ -14,7 +14,7 @@ use serde_json::{Map, Value};
 use std::alloc::{AllocError, Global};
 use std::num::NonZeroU64;
 use zarrs_document::members::{
-    is_number, items_in, members_in, numbers_in, object_of, take_member,
+    reads_as_number, items_in, members_in, numbers_in, object_of, take_member,
 };
 use zarrs_metadata::ChunkKeySeparator;
 
@@ -65,7 +65,7 @@ fn document_from(alloc: Global, parts: Parts) -> Result<Option<ArrayMetadataV2>,
     ensures { IfOk result (λ o. option_map document_v2_view o
         ≡ document_v2_from (parts_v2_view parts)) }
 {
-    if is_number(&parts.zarr_format, 2) {
+    if reads_as_number(&parts.zarr_format, 2) {
         let draft = parts.read(alloc)?;
         Ok(draft.assemble())
     } else {
@@ -126,7 +126,7 @@ impl Parts {
             fill_value,
             order: order_in(order),
             filters,
-            dimension_separator: separator_in(dimension_separator),
+            dimension_separator: dimension_separator_in(dimension_separator),
             attributes: members_in(alloc, attributes),
         })
     }
@@ -205,7 +205,7 @@ fn text_in(member: Option<Value>) -> Option<String>
 }
 
 fn order_in(member: Option<Value>) -> Option<ArrayMetadataV2Order>
-    ensures { result ≡ option_and_then order_of (option_map view member) }
+    ensures { result ≡ option_and_then chunk_order_of (option_map view member) }
 {
     match member {
         Some(value) => ArrayMetadataV2Order::from_value(&value),
@@ -213,8 +213,8 @@ fn order_in(member: Option<Value>) -> Option<ArrayMetadataV2Order>
     }
 }
 
-fn separator_in(member: Option<Value>) -> Option<ChunkKeySeparator>
-    ensures { result ≡ separator_in (option_map view member) }
+fn dimension_separator_in(member: Option<Value>) -> Option<ChunkKeySeparator>
+    ensures { result ≡ dimension_separator_in (option_map view member) }
 {
     match member {
         Some(value) => ChunkKeySeparator::from_value(&value),

@@ -2,7 +2,7 @@
 ghost use Rattle.std.specs.Prelude.{◌≡◌, Some, option_map, IfOk, IfErr};
 ghost use Rattle.serde_json.specs.View.{view, members_view};
 ghost use Rattle.zarrs_document.specs.Refusals.{RefusesReading};
-ghost use Rattle.zarrs_document_v2.specs.Document.{value_said, plain_members_of, attributes_said, IsTextOfAttributes};
+ghost use Rattle.zarrs_document_v2.specs.Document.{value_said, plain_members_of, attributes_said, IsAttributesText};
 
 use serde_json::{Category, Map, Value};
 use std::alloc::{AllocError, Global};
@@ -57,7 +57,7 @@ pub(crate) fn object_text(
     alloc: Global,
     members: &Map<String, Value>,
 ) -> Result<Vec<u8>, AllocError>
-    ensures { IfOk result (λ bytes. IsTextOfAttributes (members_view members.now.entries) bytes.items) }
+    ensures { IfOk result (λ bytes. IsAttributesText (members_view members.now.entries) bytes.items) }
 {
     let value = Value::Object(copied(members)?);
     let bytes = value.to_vec_pretty(alloc)?;

@@ -1,7 +1,7 @@
 //! The data types of V2 that have a V3 name, and their fill values.
 ghost use Rattle.std.specs.Prelude.{◌≡◌, ℕ, ℤ, pos, negsuc, option_map, Some, IfOk};
 ghost use Rattle.serde_json.specs.View.{view};
-ghost use Rattle.zarrs_document_v2.specs.Conversion.{wide_kind, narrow_kind, type_v2, kind_name, is_text_kind, bool_fill, is_within, is_up_to, number_fill, text_fill, fill_v3};
+ghost use Rattle.zarrs_document_v2.specs.Conversion.{wide_kind, narrow_kind, type_v2, kind_name, is_text_kind, bool_fill, is_number_within, is_up_to, number_fill, text_fill, fill_v3};
 
 use serde_json::Value;
 use std::alloc::{AllocError, Global};
@@ -140,8 +140,8 @@ fn bool_fill(value: &Value) -> Option<Value>
     }
 }
 
-fn is_within(value: &Value, low: i64, high: i64) -> bool
-    ensures { result ≡ is_within low high (view value.now) }
+fn is_number_within(value: &Value, low: i64, high: i64) -> bool
+    ensures { result ≡ is_number_within low high (view value.now) }
 {
     match value.as_i64() {
         Some(number) => low <= number && number <= high,
@@ -159,11 +159,11 @@ fn is_up_to(value: &Value, high: u64) -> bool
 }
 
 fn signed_fill(value: &Value, low: i64, high: i64) -> Option<Value>
-    ensures { option_map view result ≡ number_fill (is_within low high) (view value.now) }
+    ensures { option_map view result ≡ number_fill (is_number_within low high) (view value.now) }
 {
     match value {
         Value::Null => Some(Value::from(0u64)),
-        Value::Number(number) if is_within(value, low, high) => Some(Value::Number(*number)),
+        Value::Number(number) if is_number_within(value, low, high) => Some(Value::Number(*number)),
         _ => None,
     }
 }

@@ -3,7 +3,7 @@ ghost use Rattle.std.specs.Prelude.{◌≡◌, map, option_map, IfOk, Some};
 ghost use Rattle.std.specs.Int.NonZero.{non_zero_u64_get};
 ghost use Rattle.serde_json.specs.View.{view};
 ghost use Rattle.zarrs_metadata.specs.Lists.{numbers_data};
-ghost use Rattle.zarrs_document_v2.specs.Document.{document_v2_of, without_attributes, data_with, data_of_v2};
+ghost use Rattle.zarrs_document_v2.specs.Document.{document_v2_of, without_attributes, data_v2_with, data_of_v2};
 ghost use Rattle.zarrs_document_v2.specs.View.{document_v2_view};
 
 use crate::document::ArrayMetadataV2;
@@ -43,7 +43,7 @@ fn value_with(
     attributes: Option<Value>,
 ) -> Result<Value, AllocError>
     ensures { IfOk result (λ v. view v
-        ≡ data_with (option_map view attributes) (document_v2_view document.now)) }
+        ≡ data_v2_with (option_map view attributes) (document_v2_view document.now)) }
 {
     let mut members = Map::new(alloc);
     let shape = numbers_value(alloc, document.shape.as_slice())?;

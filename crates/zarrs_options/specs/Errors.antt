@@ -11,14 +11,14 @@ use Rattle.zarrs_options.specs.declared.error.ArrayCreateError.{ArrayCreateError
 use Rattle.zarrs_options.specs.declared.error.ArrayCreateError.TheVariants as create
 
 -- a store's refusal, or out of memory
-abbrev pub error_of_storage : StorageError → ArrayCreateError
-error_of_storage storage.OutOfMemory = create.OutOfMemory
-error_of_storage error = create.StorageError error
+abbrev pub create_error_of_storage : StorageError → ArrayCreateError
+create_error_of_storage storage.OutOfMemory = create.OutOfMemory
+create_error_of_storage error = create.StorageError error
 
 -- a path's refusal, or out of memory
-abbrev pub error_of_path : NodePathError → ArrayCreateError
-error_of_path path.OutOfMemory = create.OutOfMemory
-error_of_path error = create.NodePathError error
+abbrev pub create_error_of_path : NodePathError → ArrayCreateError
+create_error_of_path path.OutOfMemory = create.OutOfMemory
+create_error_of_path error = create.NodePathError error
 
 -- the field that must be understood
 abbrev pub name_of_field : AdditionalFieldUnsupportedError → List ℕ

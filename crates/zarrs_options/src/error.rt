@@ -2,7 +2,7 @@
 ghost use Rattle.std.specs.Prelude.{◌≡◌, string_bytes};
 ghost use Rattle.serde_json.specs.View.{view};
 ghost use Rattle.zarrs_options.specs.declared.error.ArrayCreateError.TheVariants as create;
-ghost use Rattle.zarrs_options.specs.Errors.{error_of_storage, error_of_path, name_of_field, value_of_field};
+ghost use Rattle.zarrs_options.specs.Errors.{create_error_of_storage, create_error_of_path, name_of_field, value_of_field};
 
 use serde_json::Value;
 use std::alloc::{AllocError, AllocFailed};
@@ -132,7 +132,7 @@ impl From<AdditionalFieldUnsupportedError> for ArrayCreateError {
 }
 
 impl From<StorageError> for ArrayCreateError {
-    ghost from_gives = { λ error e. e ≡ error_of_storage error };
+    ghost from_gives = { λ error e. e ≡ create_error_of_storage error };
 
     fn from(error: StorageError) -> ArrayCreateError {
         match error {
@@ -143,7 +143,7 @@ impl From<StorageError> for ArrayCreateError {
 }
 
 impl From<NodePathError> for ArrayCreateError {
-    ghost from_gives = { λ error e. e ≡ error_of_path error };
+    ghost from_gives = { λ error e. e ≡ create_error_of_path error };
 
     fn from(error: NodePathError) -> ArrayCreateError {
         match error {

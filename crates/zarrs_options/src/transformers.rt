@@ -1,7 +1,7 @@
 //! Storage transformers: none is supported.
 ghost use Rattle.std.specs.Prelude.{◌≡◌, map, Some, IfOk, IfErr};
 ghost use Rattle.zarrs_metadata.specs.Refusals.{RefusesMeaning};
-ghost use Rattle.zarrs_metadata.specs.View.{extension_view};
+ghost use Rattle.zarrs_metadata.specs.Extension.{extension_view};
 ghost use Rattle.zarrs_options.specs.Options.{transformers_said};
 
 use std::alloc::Global;

@@ -3,7 +3,7 @@ use Rattle.std.specs.Vec.Iter.{into_iter_items, into_iter_len}
 use Rattle.serde_json.specs.View.{items_view}
 use Rattle.zarrs_metadata.specs.Extension.{extension_of}
 use Rattle.zarrs_metadata.specs.Lists.{all_of}
-use Rattle.zarrs_metadata.specs.View.{extension_view}
+use Rattle.zarrs_metadata.specs.Extension.{extension_view}
 use Rattle.zarrs_document.proofs.reading.all_extensions.Given as goal
 
 -- what is left says the rest
