@@ -4,3 +4,4 @@ pub mod FieldLemmas
 pub mod PartsLemmas
 pub mod DocumentLaws
 pub mod TextLaws
+pub mod NormalLaws

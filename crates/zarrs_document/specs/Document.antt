@@ -157,7 +157,7 @@ document_from p = if is_array p then assembled (draft_of p) else None
 abbrev pub document_of : Data → Option DocumentData
 document_of d = option_and_then (λ ms. document_from (parts_of ms)) (as_object d)
 
--- the same for a value without left-out numbers: numbers that are no integer of 64 bits
+-- the same for a value without left-out numbers: numbers that are not an integer of 64 bits
 abbrev pub plain_document_of : Data → Option DocumentData
 plain_document_of d = if has_float d then None else document_of d
 

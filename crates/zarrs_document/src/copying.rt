@@ -10,7 +10,7 @@ use crate::members::copied;
 use std::alloc::{AllocError, Global};
 use zarrs_metadata::MetadataV3;
 
-/// A copy of the document, in which an empty configuration is none.
+/// Returns a copy of the document, in which an empty configuration is none.
 pub(crate) fn copied_document(
     alloc: Global,
     document: &ArrayMetadataV3,
@@ -42,7 +42,7 @@ pub(crate) fn copied_document(
     })
 }
 
-/// A copy of the extension point, in which an empty configuration is none.
+/// Returns a copy of the extension point, in which an empty configuration is none.
 fn copied_extension(alloc: Global, extension: &MetadataV3) -> Result<MetadataV3, AllocError>
     ensures { IfOk result (λ copy. extension_view copy ≡ normal (extension_view extension.now)) }
 {
@@ -76,10 +76,7 @@ fn copied_name(name: &DimensionName) -> Result<DimensionName, AllocError>
     }
 }
 
-fn copied_names(
-    alloc: Global,
-    names: &Vec<DimensionName>,
-) -> Result<Vec<DimensionName>, AllocError>
+fn copied_names(alloc: Global, names: &Vec<DimensionName>) -> Result<Vec<DimensionName>, AllocError>
     ensures { IfOk result (λ copies. map name_view copies.items ≡ map name_view names.now.items) }
 {
     let mut copies = Vec::with_capacity(alloc, names.len())?;

@@ -48,11 +48,11 @@ pub struct ArrayMetadataV3 {
 }
 
 impl ArrayMetadataV3 {
-    /// The metadata of these parts, with `default` chunk keys separated by `/`, and without
+    /// Returns the metadata of these parts, with `default` chunk keys separated by `/`, and without
     /// attributes, storage transformers, dimension names and additional fields.
     ///
     /// # Errors
-    /// If memory is short.
+    /// If memory runs out.
     pub fn new(
         alloc: Global,
         shape: Vec<u64>,
@@ -66,8 +66,11 @@ impl ArrayMetadataV3 {
             (view fill_value) (map extension_view codecs.items)) }
     {
         let separator = ChunkKeySeparator::Slash.to_value(alloc)?;
-        let chunk_key_encoding = MetadataV3::new(String::from_str(alloc, "default")?)
-            .with_member(alloc, "separator", separator)?;
+        let chunk_key_encoding = MetadataV3::new(String::from_str(alloc, "default")?).with_member(
+            alloc,
+            "separator",
+            separator,
+        )?;
         Ok(ArrayMetadataV3 {
             shape,
             data_type,
@@ -82,10 +85,10 @@ impl ArrayMetadataV3 {
         })
     }
 
-    /// A copy, in which an empty configuration is none.
+    /// Returns a copy, in which an empty configuration is none.
     ///
     /// # Errors
-    /// If memory is short.
+    /// If memory runs out.
     pub fn try_clone(&self, alloc: Global) -> Result<ArrayMetadataV3, AllocError>
         ensures { IfOk result (λ copy. document_view copy
             ≡ without_empty_configurations (document_view self.now)) }
@@ -93,7 +96,7 @@ impl ArrayMetadataV3 {
         copied_document(alloc, self)
     }
 
-    /// With these attributes.
+    /// Returns the metadata with these attributes.
     pub fn with_attributes(self, attributes: Map<String, Value>) -> ArrayMetadataV3
         ensures { document_view result
             ≡ record (document_view self) { attributes = members_view attributes.entries } }
@@ -101,11 +104,12 @@ impl ArrayMetadataV3 {
         ArrayMetadataV3 { attributes, ..self }
     }
 
-    /// With these additional fields. A field under the name of a member of this document is not
+    /// Returns the metadata with these additional fields. A field under the name of a member of this document is not
     /// written.
     pub fn with_additional_fields(self, additional_fields: AdditionalFieldsV3) -> ArrayMetadataV3
         ensures { document_view result ≡ record (document_view self) {
-            additional_fields = fields_view additional_fields.entries } }
+          additional_fields = fields_view additional_fields.entries;
+        } }
     {
         ArrayMetadataV3 {
             additional_fields,
@@ -113,10 +117,11 @@ impl ArrayMetadataV3 {
         }
     }
 
-    /// With this chunk key encoding.
+    /// Returns the metadata with this chunk key encoding.
     pub fn with_chunk_key_encoding(self, chunk_key_encoding: MetadataV3) -> ArrayMetadataV3
         ensures { document_view result ≡ record (document_view self) {
-            chunk_key_encoding = extension_view chunk_key_encoding } }
+          chunk_key_encoding = extension_view chunk_key_encoding;
+        } }
     {
         ArrayMetadataV3 {
             chunk_key_encoding,
@@ -124,13 +129,14 @@ impl ArrayMetadataV3 {
         }
     }
 
-    /// With these names of dimensions.
+    /// Returns the metadata with these names of dimensions.
     pub fn with_dimension_names(
         self,
         dimension_names: Option<Vec<DimensionName>>,
     ) -> ArrayMetadataV3
         ensures { document_view result ≡ record (document_view self) {
-            dimension_names = option_map (λ names. map name_view names.items) dimension_names } }
+          dimension_names = option_map (λ names. map name_view names.items) dimension_names;
+        } }
     {
         ArrayMetadataV3 {
             dimension_names,
@@ -138,13 +144,11 @@ impl ArrayMetadataV3 {
         }
     }
 
-    /// With these storage transformers.
-    pub fn with_storage_transformers(
-        self,
-        storage_transformers: Vec<MetadataV3>,
-    ) -> ArrayMetadataV3
+    /// Returns the metadata with these storage transformers.
+    pub fn with_storage_transformers(self, storage_transformers: Vec<MetadataV3>) -> ArrayMetadataV3
         ensures { document_view result ≡ record (document_view self) {
-            storage_transformers = map extension_view storage_transformers.items } }
+          storage_transformers = map extension_view storage_transformers.items;
+        } }
     {
         ArrayMetadataV3 {
             storage_transformers,
@@ -152,13 +156,15 @@ impl ArrayMetadataV3 {
         }
     }
 
-    /// The document that a JSON value reads as.
+    /// Reads the document that a JSON value is.
     ///
     /// # Errors
-    /// `InvalidShape` for any other value, and for one that holds a number that is no integer of
+    /// `InvalidShape` for any other value, and for one that holds a number that is not an integer of
     /// 64 bits.
     pub fn from_value(alloc: Global, value: Value) -> Result<ArrayMetadataV3, MetadataError>
         ensures read { IfOk result (λ m. plain_document_of (view value) ≡ Some (document_view m)) }
+        // It is read again as it is: it has no empty configuration.
+        ensures normal { IfOk result (λ m. normal_document (document_view m) ≡ document_view m) }
         ensures refused { IfErr result (RefusesReading (plain_document_of (view value))) }
     {
         if holds_float(&value) {
@@ -171,11 +177,11 @@ impl ArrayMetadataV3 {
         }
     }
 
-    /// The JSON value of this document. Empty attributes, empty storage transformers, absent names
+    /// Returns the JSON value of this document. Empty attributes, empty storage transformers, absent names
     /// and additional fields under a name of another member are not written.
     ///
     /// # Errors
-    /// If memory is short.
+    /// If memory runs out.
     pub fn to_value(&self, alloc: Global) -> Result<Value, AllocError>
         ensures written { IfOk result (λ v. view v ≡ data_of_document (document_view self.now)) }
         ensures reads_back { IfOk result (λ v. document_of (view v)
@@ -184,13 +190,14 @@ impl ArrayMetadataV3 {
         document_value(alloc, self)
     }
 
-    /// The document that bytes read as: UTF-8, JSON that nests at most 127 deep, without a number
-    /// that is no integer of 64 bits, and a document.
+    /// Reads the document that bytes are: UTF-8, JSON that nests at most 127 deep, without a number
+    /// that is not an integer of 64 bits, and a document.
     ///
     /// # Errors
     /// `InvalidShape` for any other bytes.
     pub fn from_slice(alloc: Global, bytes: &[u8]) -> Result<ArrayMetadataV3, MetadataError>
         ensures read { IfOk result (λ m. document_said bytes.now ≡ Some (document_view m)) }
+        ensures normal { IfOk result (λ m. normal_document (document_view m) ≡ document_view m) }
         ensures refused { IfErr result (RefusesReading (document_said bytes.now)) }
     {
         match Value::from_slice(alloc, bytes) {
@@ -202,10 +209,10 @@ impl ArrayMetadataV3 {
         }
     }
 
-    /// The document as the bytes that are stored: its JSON value, indented.
+    /// Returns the bytes that are stored for the document: its JSON value, indented.
     ///
     /// # Errors
-    /// If memory is short.
+    /// If memory runs out.
     pub fn to_vec_pretty(&self, alloc: Global) -> Result<Vec<u8>, AllocError>
         ensures { IfOk result (λ bytes. IsDocumentText (document_view self.now) bytes.items) }
     {

@@ -33,7 +33,7 @@ impl Clone for AdditionalFieldV3 {
 }
 
 impl AdditionalFieldV3 {
-    /// The field of this value without its flag, and whether it must be understood. Only an object
+    /// Returns the field of this value, which is without its flag, and of this flag. Only an object
     /// is written with a flag: any other value is read again as one that must be understood.
     pub fn new(value: Value, must_understand: bool) -> AdditionalFieldV3
         ensures { field_view result
@@ -45,21 +45,21 @@ impl AdditionalFieldV3 {
         }
     }
 
-    /// Its value without the flag.
+    /// Returns its value without the flag.
     pub fn as_value(&self) -> &Value
         ensures { view result.now ≡ (field_view self.now).value }
     {
         &self.value
     }
 
-    /// Whether a reader must understand it.
+    /// Returns whether a reader must understand it.
     pub fn must_understand(&self) -> bool
         ensures { result ≡ (field_view self.now).must_understand }
     {
         self.must_understand
     }
 
-    /// The field that a JSON value reads as.
+    /// Reads the field that a JSON value is.
     pub fn from_value(value: Value) -> AdditionalFieldV3
         ensures { field_view result ≡ field_of (view value) }
     {
@@ -70,7 +70,7 @@ impl AdditionalFieldV3 {
         }
     }
 
-    /// The JSON value of this field, an object with its flag if that is false.
+    /// Returns the JSON value of this field; an object gets its flag if that is false.
     pub fn to_value(&self, alloc: Global) -> Result<Value, AllocError>
         ensures { IfOk result (λ v. view v ≡ data_of_field (field_view self.now)) }
     {
@@ -121,7 +121,7 @@ fn flagged(alloc: Global, mut members: Map<String, Value>) -> Result<Value, Allo
     Ok(Value::Object(members))
 }
 
-/// The fields that these members read as.
+/// Reads the fields that these members are.
 pub(crate) fn read_fields(
     alloc: Global,
     members: Map<String, Value>,
@@ -129,7 +129,7 @@ pub(crate) fn read_fields(
     ensures { IfOk result (λ fields. fields_view fields.entries
         ≡ fields_of (members_view members.entries)) }
 {
-    // It tells the proof that the names ascend.
+    // `len` tells the proof that the names ascend.
     let _count = members.len();
     let mut fields = Map::new(alloc);
     for (name, value) in members {
@@ -138,7 +138,7 @@ pub(crate) fn read_fields(
     Ok(fields)
 }
 
-/// The members that are written for these fields.
+/// Returns the members that are written for these fields.
 pub(crate) fn written_fields(
     alloc: Global,
     fields: &AdditionalFieldsV3,
@@ -154,10 +154,8 @@ pub(crate) fn written_fields(
     Ok(members)
 }
 
-/// A copy of the fields.
-pub(crate) fn copied_fields(
-    fields: &AdditionalFieldsV3,
-) -> Result<AdditionalFieldsV3, AllocError>
+/// Returns a copy of the fields.
+pub(crate) fn copied_fields(fields: &AdditionalFieldsV3) -> Result<AdditionalFieldsV3, AllocError>
     ensures { IfOk result (λ copy. fields_view copy.entries ≡ fields_view fields.now.entries) }
 {
     fields.clone()

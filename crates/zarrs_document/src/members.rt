@@ -10,19 +10,19 @@ use serde_json::{Map, Value};
 use std::alloc::{AllocError, Global};
 use zarrs_metadata::numbers;
 
-/// Takes the member of this name out.
+/// Removes the member of this name, and returns it.
 pub fn take_member(members: &mut Map<String, Value>, name: &str) -> Option<Value>
     ensures found { option_map view result
         ≡ get_member name.now (members_view members.old.entries) }
     ensures left { members_view members.new.entries
         ≡ besides (name.now ∷ []) (members_view members.old.entries) }
 {
-    // It tells the proof that the names ascend.
+    // `len` tells the proof that the names ascend.
     let _count = members.len();
     members.remove(name)
 }
 
-/// The member of this name.
+/// Returns the member of this name.
 pub fn member_of<'a>(members: &'a Map<String, Value>, name: &str) -> Option<&'a Value>
     ensures { option_map (λ value. view value.now) result
         ≡ get_member name.now (members_view members.now.entries) }
@@ -46,14 +46,14 @@ pub fn put_member(
     }
 }
 
-/// A copy of the members.
+/// Returns a copy of the members.
 pub fn copied(members: &Map<String, Value>) -> Result<Map<String, Value>, AllocError>
     ensures { IfOk result (λ m. members_view m.entries ≡ members_view members.now.entries) }
 {
     members.clone()
 }
 
-/// The members of an object, or `None` for any other value.
+/// Returns the members of an object, or `None` for any other value.
 pub fn object_of(value: Value) -> Option<Map<String, Value>>
     ensures { option_map (λ m. members_view m.entries) result ≡ as_object (view value) }
 {
@@ -72,7 +72,7 @@ fn list_of(value: Value) -> Option<Vec<Value>>
     }
 }
 
-/// The items of a list, or `None` for any other value and for an absent one.
+/// Returns the items of a list, or `None` for any other value and for an absent one.
 pub fn items_in(member: Option<Value>) -> Option<Vec<Value>>
     ensures { option_map (λ v. items_view v.items) result
         ≡ option_and_then as_array (option_map view member) }
@@ -83,7 +83,7 @@ pub fn items_in(member: Option<Value>) -> Option<Vec<Value>>
     }
 }
 
-/// The members of an object; an absent object is empty.
+/// Returns the members of an object; an absent object is empty.
 pub fn members_in(alloc: Global, member: Option<Value>) -> Option<Map<String, Value>>
     ensures { option_map (λ m. members_view m.entries) result
         ≡ members_in (option_map view member) }
@@ -94,14 +94,14 @@ pub fn members_in(alloc: Global, member: Option<Value>) -> Option<Map<String, Va
     }
 }
 
-/// Whether there is no member.
+/// Returns whether there is no member.
 pub fn is_empty(members: &Map<String, Value>) -> bool
     ensures { result ≡ is_none (nonempty (members_view members.now.entries)) }
 {
     members.is_empty()
 }
 
-/// An object that has a member, as a value.
+/// Returns an object that has a member, as a value.
 pub fn object_value(members: &Map<String, Value>) -> Result<Option<Value>, AllocError>
     ensures { IfOk result (λ v. option_map view v
         ≡ object_data (members_view members.now.entries)) }
@@ -113,7 +113,7 @@ pub fn object_value(members: &Map<String, Value>) -> Result<Option<Value>, Alloc
     }
 }
 
-/// Whether the member is this number.
+/// Returns whether the member is this number.
 pub fn reads_as_number(member: &Option<Value>, wanted: u64) -> bool
     ensures { result ≡ reads_as_number wanted (option_map view member.now) }
 {
@@ -126,7 +126,7 @@ pub fn reads_as_number(member: &Option<Value>, wanted: u64) -> bool
     }
 }
 
-/// Whether the member is this text.
+/// Returns whether the member is this text.
 pub fn reads_as_text(member: &Option<Value>, wanted: &str) -> bool
     ensures { result ≡ reads_as_text wanted.now (option_map view member.now) }
 {
@@ -139,7 +139,7 @@ pub fn reads_as_text(member: &Option<Value>, wanted: &str) -> bool
     }
 }
 
-/// The list of whole numbers that the member reads as.
+/// Reads the list of whole numbers below 2^64 that the member is.
 pub fn numbers_in(alloc: Global, member: Option<Value>) -> Result<Option<Vec<u64>>, AllocError>
     ensures { IfOk result (λ o. option_map (λ v. v.items) o
         ≡ option_and_then numbers_of (option_map view member)) }

@@ -1,11 +1,11 @@
-//! Left-out numbers: those that are no integer of 64 bits.
+//! Left-out numbers: those that are not an integer of 64 bits.
 ghost use Rattle.std.specs.Prelude.{◌≡◌};
 ghost use Rattle.serde_json.specs.View.{view, items_view, members_view};
 ghost use Rattle.serde_json.specs.Written.{has_float, items_have_float, members_have_float};
 
 use serde_json::{Map, Value};
 
-/// Whether the value holds a number that is no integer of 64 bits, at any depth.
+/// Returns whether the value holds a number that is not an integer of 64 bits, at any depth.
 #[cycle(numbers)]
 pub fn holds_float(value: &Value) -> bool
     ensures { result ≡ has_float (view value.now) }

@@ -11,7 +11,9 @@ ghost use Rattle.zarrs_document.specs.View.{name_view, document_view, parts_view
 
 use crate::document::{ArrayMetadataV3, DimensionName};
 use crate::fields::{AdditionalFieldsV3, read_fields};
-use crate::members::{reads_as_number, reads_as_text, items_in, members_in, numbers_in, object_of, take_member};
+use crate::members::{
+    items_in, members_in, numbers_in, object_of, reads_as_number, reads_as_text, take_member,
+};
 use serde_json::{Map, Value};
 use std::alloc::{AllocError, Global};
 use zarrs_metadata::MetadataV3;
@@ -33,7 +35,7 @@ pub(crate) struct Parts {
     others: Map<String, Value>,
 }
 
-/// The members of a document as they read: `None` for a member that is missing or of another
+/// The members of a document, each read: `None` for a member that is missing or of another
 /// shape.
 #[derive(Drop)]
 pub(crate) struct Draft {
@@ -49,7 +51,7 @@ pub(crate) struct Draft {
     additional_fields: AdditionalFieldsV3,
 }
 
-/// The document that a JSON value reads as.
+/// Reads the document that a JSON value is.
 pub(crate) fn read_document(
     alloc: Global,
     value: Value,
@@ -73,7 +75,7 @@ fn document_from(alloc: Global, parts: Parts) -> Result<Option<ArrayMetadataV3>,
     }
 }
 
-/// The members under names that are no member of a document.
+/// Returns the members under names that a document does not use.
 pub(crate) fn other_members(members: Map<String, Value>) -> Map<String, Value>
     ensures { members_view result.entries
         ≡ besides document_names (members_view members.entries) }
@@ -280,10 +282,7 @@ fn names_in(
     }
 }
 
-fn names_from(
-    alloc: Global,
-    value: Value,
-) -> Result<Option<Option<Vec<DimensionName>>>, AllocError>
+fn names_from(alloc: Global, value: Value) -> Result<Option<Option<Vec<DimensionName>>>, AllocError>
     ensures { IfOk result (λ o. option_map (option_map (λ v. map name_view v.items)) o
         ≡ names_in (Some (view value))) }
 {

@@ -15,11 +15,8 @@ use serde_json::Value;
 use std::alloc::{AllocError, Global};
 use zarrs_metadata::{MetadataV3, numbers_value};
 
-/// The JSON value of a document.
-pub(crate) fn document_value(
-    alloc: Global,
-    document: &ArrayMetadataV3,
-) -> Result<Value, AllocError>
+/// Returns the JSON value of a document.
+pub(crate) fn document_value(alloc: Global, document: &ArrayMetadataV3) -> Result<Value, AllocError>
     ensures { IfOk result (λ v. view v ≡ data_of_document (document_view document.now)) }
 {
     let fields = written_fields(alloc, &document.additional_fields)?;
@@ -39,7 +36,12 @@ pub(crate) fn document_value(
     put_member(&mut members, alloc, "shape", Some(shape))?;
     put_member(&mut members, alloc, "data_type", Some(data_type))?;
     put_member(&mut members, alloc, "chunk_grid", Some(chunk_grid))?;
-    put_member(&mut members, alloc, "chunk_key_encoding", Some(key_encoding))?;
+    put_member(
+        &mut members,
+        alloc,
+        "chunk_key_encoding",
+        Some(key_encoding),
+    )?;
     put_member(&mut members, alloc, "fill_value", Some(fill_value))?;
     put_member(&mut members, alloc, "codecs", Some(codecs))?;
     put_member(&mut members, alloc, "attributes", attributes)?;

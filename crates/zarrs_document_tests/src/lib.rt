@@ -1,7 +1,5 @@
-//! Tests of `zarrs_document` and of `zarrs_document_v2`.
+//! Tests of `zarrs_document`.
 #![tactic(auto)]
 
 #[cfg(test)]
 mod tests;
-#[cfg(test)]
-mod tests_v2;

@@ -63,14 +63,12 @@ fn changed(alloc: Global, name: &str, text: &str) -> Result<Value, Fail> {
     Ok(Value::Object(members))
 }
 
-fn must_refuse_member(
-    rt: &impl Abort,
-    alloc: Global,
-    name: &str,
-    text: &str,
-) -> Result<(), Fail> {
+fn must_refuse_member(rt: &impl Abort, alloc: Global, name: &str, text: &str) -> Result<(), Fail> {
     let refused = ArrayMetadataV3::from_value(alloc, changed(alloc, name, text)?);
-    assert!(rt; matches!(refused, Err(MetadataError::InvalidShape)), "{name} {text}");
+    assert!(rt;
+        matches!(refused, Err(MetadataError::InvalidShape)),
+        "{name} {text}"
+    );
     Ok(())
 }
 
@@ -78,7 +76,10 @@ fn must_refuse_without(rt: &impl Abort, alloc: Global, name: &str) -> Result<(),
     let mut members = small(alloc)?;
     assert!(rt; members::take_member(&mut members, name).is_some());
     let refused = ArrayMetadataV3::from_value(alloc, Value::Object(members));
-    assert!(rt; matches!(refused, Err(MetadataError::InvalidShape)), "{name}");
+    assert!(rt;
+        matches!(refused, Err(MetadataError::InvalidShape)),
+        "{name}"
+    );
     Ok(())
 }
 
@@ -284,9 +285,17 @@ fn fields_that_need_not_be_understood(rt: HostRuntime) -> Result<(), Fail> {
     for (text, must_understand, value) in [
         ("{\"a\":1,\"must_understand\":false}", false, "{\"a\":1}"),
         ("{\"must_understand\":false}", false, "{}"),
-        ("{\"must_understand\":true}", true, "{\"must_understand\":true}"),
+        (
+            "{\"must_understand\":true}",
+            true,
+            "{\"must_understand\":true}",
+        ),
         ("{\"must_understand\":0}", true, "{\"must_understand\":0}"),
-        ("{\"a\":{\"must_understand\":false}}", true, "{\"a\":{\"must_understand\":false}}"),
+        (
+            "{\"a\":{\"must_understand\":false}}",
+            true,
+            "{\"a\":{\"must_understand\":false}}",
+        ),
         ("false", true, "false"),
         ("[]", true, "[]"),
     ] {
@@ -354,7 +363,12 @@ fn documents_made_of_their_parts(rt: HostRuntime) -> Result<(), Fail> {
 fn documents_with_more_parts(rt: HostRuntime) -> Result<(), Fail> {
     let alloc = rt.alloc();
     let mut attributes = Map::new(alloc);
-    serde_json::put(&mut attributes, alloc, "unit", Value::try_from_str(alloc, "m")?)?;
+    serde_json::put(
+        &mut attributes,
+        alloc,
+        "unit",
+        Value::try_from_str(alloc, "m")?,
+    )?;
     let mut transformers = Vec::new(alloc);
     transformers.push(named(alloc, "indirect")?)?;
     let names = vec![in alloc; Some(String::from_str(alloc, "x")?)]?;
@@ -401,10 +415,21 @@ fn must_hold(rt: &impl Abort, alloc: Global, text: &str, float: bool) -> Result<
 #[test]
 fn numbers_that_are_left_out(rt: HostRuntime) -> Result<(), Fail> {
     let alloc = rt.alloc();
-    for text in ["1.0", "1e2", "-0", "[{\"a\":[0.5]}]", "18446744073709551616"] {
+    for text in [
+        "1.0",
+        "1e2",
+        "-0",
+        "[{\"a\":[0.5]}]",
+        "18446744073709551616",
+    ] {
         must_hold(&rt, alloc, text, true)?;
     }
-    for text in ["null", "\"1.0\"", "18446744073709551615", "[-9223372036854775808]"] {
+    for text in [
+        "null",
+        "\"1.0\"",
+        "18446744073709551615",
+        "[-9223372036854775808]",
+    ] {
         must_hold(&rt, alloc, text, false)?;
     }
     Ok(())

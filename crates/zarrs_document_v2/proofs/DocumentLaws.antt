@@ -1,22 +1,22 @@
 -- The document that is written reads as what was written.
-use Rattle.std.proofs.Common.{◌≡◌, ℕ, List, [], ◌∷◌, map, Bool, true, false, Option, Some, None, option_map, codes, refl, sym, ap, ◌∙◌, arith}
+use Rattle.std.proofs.Common.{◌≡◌, ℕ, List, map, Option, Some, None, codes, refl, sym, ap, ◌∙◌, arith}
 use Rattle.std.proofs.lemmas.Bool.{ne_eqb}
 use Rattle.std.specs.Int.NonZero.{non_zero_u64_get}
 use Rattle.std.specs.declared.num.NonZeroU64.{NonZeroU64}
 use Rattle.serde_json.specs.Data.{Data, string, array, object, Members, no_members, member}
 use Rattle.serde_json.specs.Find.{get_member}
 use Rattle.serde_json.specs.View.{items_of}
-use Rattle.zarrs_metadata.specs.Lists.{number_data, numbers_of, numbers_data}
+use Rattle.zarrs_metadata.specs.Lists.{number_data, numbers_data}
 use Rattle.zarrs_metadata.specs.Separator.{separator_of, separator_data}
 use Rattle.zarrs_metadata.specs.declared.separators.ChunkKeySeparator.{ChunkKeySeparator}
 use Rattle.zarrs_metadata.specs.declared.separators.ChunkKeySeparator.TheVariants.{Slash, Dot}
-use Rattle.zarrs_metadata.proofs.ListLemmas.{all_of-items_of, map_same, numbers_of-numbers_data}
+use Rattle.zarrs_metadata.proofs.ListLemmas.{all_of-items_of, numbers_of-numbers_data}
 use Rattle.zarrs_document.specs.Members.{put_some, put_all, list_in, members_in, object_data}
 use Rattle.zarrs_document.proofs.ListLemmas.{map_both}
 use Rattle.zarrs_document.proofs.MemberLemmas.{get_member-put_all}
 use Rattle.zarrs_document_v2.specs.declared.order.ArrayMetadataV2Order.{ArrayMetadataV2Order}
 use Rattle.zarrs_document_v2.specs.declared.order.ArrayMetadataV2Order.TheVariants.{C, F}
-use Rattle.zarrs_document_v2.specs.Document.{DocumentV2Data, PartsV2Data, DraftV2Data, size_of, chunk_order_of, dimension_separator_in, parts_of_v2, draft_of_v2, assembled_v2, document_v2_from, document_v2_of, order_data, document_v2_members, data_v2_with, data_of_v2, without_attributes}
+use Rattle.zarrs_document_v2.specs.Document.{DocumentV2Data, PartsV2Data, DraftV2Data, size_of, chunk_order_of, parts_of_v2, draft_of_v2, assembled_v2, document_v2_from, document_v2_of, order_data, document_v2_members, data_v2_with, data_of_v2, without_attributes}
 
 -- ---- written one after the other
 

@@ -1,12 +1,11 @@
 -- A V2 document as a V3 document, and why one has none.
-use Rattle.std.specs.Prelude.{ℕ, zero, suc, ◌-◌, ◌^◌, ℤ, pos, negsuc, int_le, nat_le, length, List, [], ◌∷◌, ◌&&◌, Bool, true, false, codes, bytes_eq, if◌then◌else◌, Option, Some, None, option_map, option_and_then, unwrap_or, is_some, Result, Ok, Err}
-use Rattle.serde_json.specs.Data.{Data, Num, unsigned, negative, float, null, boolean, number, string, array, object, Items, no_items, item, Members, no_members, member}
-use Rattle.serde_json.specs.Find.{get_member, as_null, as_str, as_number, as_u64, as_i64, as_object}
+use Rattle.std.specs.Prelude.{ℕ, zero, suc, ℤ, pos, negsuc, int_le, nat_le, length, List, [], ◌∷◌, ◌&&◌, Bool, true, false, codes, bytes_eq, if◌then◌else◌, Option, Some, None, option_map, option_and_then, unwrap_or, is_some, Result, Ok, Err}
+use Rattle.serde_json.specs.Data.{Data, null, boolean, number, string, array, object, no_items, item, no_members, member}
+use Rattle.serde_json.specs.Find.{get_member, as_null, as_number, as_u64, as_i64, as_object}
 use Rattle.zarrs_metadata.specs.Members.{has_only}
 use Rattle.zarrs_metadata.specs.Lists.{number_of, numbers_data, number_data}
 use Rattle.zarrs_metadata.specs.Extension.{ExtensionData, named}
 use Rattle.zarrs_metadata.specs.Separator.{separator_data}
-use Rattle.zarrs_metadata.specs.declared.separators.ChunkKeySeparator.{ChunkKeySeparator}
 use Rattle.zarrs_document.specs.Members.{reads_as_text}
 use Rattle.zarrs_document.specs.Document.{DocumentData}
 use Rattle.zarrs_document_v2.specs.Document.{DocumentV2Data}

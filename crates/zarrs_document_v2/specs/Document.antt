@@ -1,7 +1,7 @@
 -- The V2 document of an array (Zarr V2 storage specification, arrays and attributes), and the JSON values that read as one.
-use Rattle.std.specs.Prelude.{◌≡◌, ◌≤◌, ℕ, List, [], ◌∷◌, ◌==◌, Bool, true, false, bytes_eq, codes, if◌then◌else◌, Option, Some, None, option_map, option_and_then}
+use Rattle.std.specs.Prelude.{◌≡◌, ◌≤◌, ℕ, List, [], ◌∷◌, ◌==◌, false, bytes_eq, codes, if◌then◌else◌, Option, Some, None, option_and_then}
 use Rattle.std.specs.Str.{is_utf8}
-use Rattle.serde_json.specs.Data.{Data, depth, null, string, object, Members, no_members}
+use Rattle.serde_json.specs.Data.{Data, depth, string, object, Members, no_members}
 use Rattle.serde_json.specs.Find.{get_member, as_str, as_object}
 use Rattle.serde_json.specs.Written.{has_float}
 use Rattle.serde_json.specs.Read.{read, max_depth}
@@ -134,7 +134,7 @@ document_v2_from p = if reads_as_number 2 p.zarr_format then assembled_v2 (draft
 abbrev pub document_v2_of : Data → Option DocumentV2Data
 document_v2_of d = option_and_then (λ ms. document_v2_from (parts_of_v2 ms)) (as_object d)
 
--- the same for a value without left-out numbers: numbers that are no integer of 64 bits
+-- the same for a value without left-out numbers: numbers that are not an integer of 64 bits
 abbrev pub plain_document_v2_of : Data → Option DocumentV2Data
 plain_document_v2_of d = if has_float d then None else document_v2_of d
 

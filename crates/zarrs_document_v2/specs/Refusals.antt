@@ -5,7 +5,7 @@ use Rattle.zarrs_document_v2.specs.Conversion.{ConversionRefusal, no_type, no_fi
 use Rattle.zarrs_document_v2.specs.declared.error.ArrayMetadataV2ToV3Error.{ArrayMetadataV2ToV3Error}
 use Rattle.zarrs_document_v2.specs.declared.error.ArrayMetadataV2ToV3Error.TheVariants.{UnsupportedDataType, InvalidFillValueMetadata, UnsupportedZarrV2Array, OutOfMemory}
 
--- by the first refusal; or memory was short
+-- by the first refusal, or memory ran out
 abbrev pub RefusesConversion : {A : Type 0} → Result A ConversionRefusal → ArrayMetadataV2ToV3Error → Type 0
 RefusesConversion converted (UnsupportedDataType dtype) = converted ≡ Err (no_type (string_bytes dtype))
 RefusesConversion converted (InvalidFillValueMetadata name value) = converted ≡ Err (no_fill_value (string_bytes name) (view value))

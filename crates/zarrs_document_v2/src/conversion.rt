@@ -22,7 +22,7 @@ use zarrs_document::ArrayMetadataV3;
 use zarrs_document::members::{copied, member_of};
 use zarrs_metadata::{MetadataV3, numbers_value};
 
-/// The V3 document of a V2 document: the same array under the same chunk keys and bytes.
+/// Returns the V3 document of a V2 document: the same array under the same chunk keys and bytes.
 ///
 /// # Errors
 /// In this order: `UnsupportedDataType`, `InvalidFillValueMetadata`, and `UnsupportedZarrV2Array`
@@ -89,7 +89,7 @@ fn converted(
     })
 }
 
-/// The extension of this name with this one member in its configuration.
+/// Returns the extension of this name with this one member in its configuration.
 fn extension_with(
     alloc: Global,
     name: &str,
@@ -102,7 +102,7 @@ fn extension_with(
     MetadataV3::new(String::from_str(alloc, name)?).with_member(alloc, key, value)
 }
 
-/// The codecs in the order in which they encode.
+/// Returns the codecs in the order in which they encode.
 fn codecs_of(
     alloc: Global,
     metadata: &ArrayMetadataV2,
@@ -125,7 +125,7 @@ fn codecs_of(
     Ok(codecs)
 }
 
-/// The numbers below this one, the greatest first.
+/// Returns the numbers below this one, the greatest first.
 fn count_down(alloc: Global, count: u64) -> Result<Vec<u64>, AllocError>
     ensures { IfOk result (λ numbers. numbers.items ≡ count_down count) }
 {
@@ -138,7 +138,7 @@ fn count_down(alloc: Global, count: u64) -> Result<Vec<u64>, AllocError>
     Ok(numbers)
 }
 
-/// The codec that makes bytes of the cells.
+/// Returns the codec that makes bytes of the cells.
 fn cells_codec(alloc: Global, cells: TypeV2) -> Result<MetadataV3, AllocError>
     ensures { IfOk result (λ m. extension_view m ≡ cells_codec cells) }
 {
@@ -170,7 +170,7 @@ fn endian_name(endian: EndianV2) -> &'static str
     }
 }
 
-/// Whether there is no compressor, and no filter but the one that the kind needs.
+/// Returns whether there is no compressor, and no filter but the one that the kind needs.
 fn is_uncompressed(kind: KindV2, metadata: &ArrayMetadataV2) -> bool
     ensures { result ≡ is_uncompressed kind (document_v2_view metadata.now) }
 {
@@ -221,7 +221,7 @@ fn is_text_filter(items: &[Value]) -> bool
     }
 }
 
-/// Whether the filter is `{"id": "vlen-utf8"}`.
+/// Returns whether the filter is `{"id": "vlen-utf8"}`.
 fn is_vlen_utf8(filter: &Value) -> bool
     ensures { result ≡ is_vlen_utf8 (view filter.now) }
 {

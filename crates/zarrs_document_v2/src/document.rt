@@ -37,14 +37,14 @@ pub struct ArrayMetadataV2 {
     pub order: ArrayMetadataV2Order,
     /// The list of filters, or null.
     pub filters: Value,
-    /// What stands between the numbers of a chunk key.
+    /// The separator between the numbers of a chunk key.
     pub dimension_separator: ChunkKeySeparator,
     /// The attributes of the user.
     pub attributes: Map<String, Value>,
 }
 
 impl ArrayMetadataV2 {
-    /// The metadata of these parts, in order C, with `.` in its chunk keys and without attributes.
+    /// Returns the metadata of these parts, in order C, with `.` in its chunk keys and without attributes.
     pub fn new(
         shape: Vec<u64>,
         chunks: Vec<NonZeroU64>,
@@ -71,10 +71,10 @@ impl ArrayMetadataV2 {
         }
     }
 
-    /// A copy.
+    /// Returns a copy.
     ///
     /// # Errors
-    /// If memory is short.
+    /// If memory runs out.
     pub fn try_clone(&self, alloc: Global) -> Result<ArrayMetadataV2, AllocError>
         ensures { IfOk result (λ copy. document_v2_view copy ≡ document_v2_view self.now) }
     {
@@ -98,14 +98,14 @@ impl ArrayMetadataV2 {
         })
     }
 
-    /// With this order of the cells in a chunk.
+    /// Returns the metadata with this order of the cells in a chunk.
     pub fn with_order(self, order: ArrayMetadataV2Order) -> ArrayMetadataV2
         ensures { document_v2_view result ≡ record (document_v2_view self) { order = order } }
     {
         ArrayMetadataV2 { order, ..self }
     }
 
-    /// With this separator in its chunk keys.
+    /// Returns the metadata with this separator in its chunk keys.
     pub fn with_dimension_separator(self, separator: ChunkKeySeparator) -> ArrayMetadataV2
         ensures { document_v2_view result
             ≡ record (document_v2_view self) { dimension_separator = separator } }
@@ -116,7 +116,7 @@ impl ArrayMetadataV2 {
         }
     }
 
-    /// With these attributes.
+    /// Returns the metadata with these attributes.
     pub fn with_attributes(self, attributes: Map<String, Value>) -> ArrayMetadataV2
         ensures { document_v2_view result
             ≡ record (document_v2_view self) { attributes = members_view attributes.entries } }
@@ -124,11 +124,11 @@ impl ArrayMetadataV2 {
         ArrayMetadataV2 { attributes, ..self }
     }
 
-    /// The document that a JSON value reads as. An object `attributes` is taken as the attributes;
+    /// Reads the document that a JSON value is. An object `attributes` is taken as the attributes;
     /// members under other names are ignored.
     ///
     /// # Errors
-    /// `InvalidShape` for any other value, and for one that holds a number that is no integer of
+    /// `InvalidShape` for any other value, and for one that holds a number that is not an integer of
     /// 64 bits.
     pub fn from_value(alloc: Global, value: Value) -> Result<ArrayMetadataV2, MetadataError>
         ensures read { IfOk result (λ m. plain_document_v2_of (view value) ≡ Some (document_v2_view m)) }
@@ -144,10 +144,10 @@ impl ArrayMetadataV2 {
         }
     }
 
-    /// The JSON value of this document. Empty attributes are not written.
+    /// Returns the JSON value of this document. Empty attributes are not written.
     ///
     /// # Errors
-    /// If memory is short.
+    /// If memory runs out.
     pub fn to_value(&self, alloc: Global) -> Result<Value, AllocError>
         ensures written { IfOk result (λ v. view v ≡ data_of_v2 (document_v2_view self.now)) }
         ensures reads_back { IfOk result (λ v. document_v2_of (view v)
@@ -156,8 +156,8 @@ impl ArrayMetadataV2 {
         document_value(alloc, self)
     }
 
-    /// The document that the bytes of `.zarray` read as: UTF-8, JSON that nests at most 127 deep,
-    /// without a number that is no integer of 64 bits, and a document.
+    /// Reads the document that the bytes of `.zarray` are: UTF-8, JSON that nests at most 127 deep,
+    /// without a number that is not an integer of 64 bits, and a document.
     ///
     /// # Errors
     /// `InvalidShape` for any other bytes.
@@ -169,10 +169,10 @@ impl ArrayMetadataV2 {
         ArrayMetadataV2::from_value(alloc, value)
     }
 
-    /// The bytes that are stored as `.zarray`: the document without its attributes, indented.
+    /// Returns the bytes that are stored as `.zarray`: the document without its attributes, indented.
     ///
     /// # Errors
-    /// If memory is short.
+    /// If memory runs out.
     pub fn to_vec_pretty(&self, alloc: Global) -> Result<Vec<u8>, AllocError>
         ensures { IfOk result (λ bytes.
             IsDocumentV2Text (without_attributes (document_v2_view self.now)) bytes.items) }
@@ -182,10 +182,10 @@ impl ArrayMetadataV2 {
         Ok(bytes)
     }
 
-    /// The bytes that are stored as `.zattrs`: the attributes, indented.
+    /// Returns the bytes that are stored as `.zattrs`: the attributes, indented.
     ///
     /// # Errors
-    /// If memory is short.
+    /// If memory runs out.
     pub fn attributes_to_vec_pretty(&self, alloc: Global) -> Result<Vec<u8>, AllocError>
         ensures { IfOk result (λ bytes.
             IsAttributesText (members_view self.now.attributes.entries) bytes.items) }

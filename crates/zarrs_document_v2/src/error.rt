@@ -23,7 +23,7 @@ pub enum ArrayMetadataV2ToV3Error {
     /// The compressor or the filters have no V3 codec.
     #[error("unsupported Zarr V2 array: {0}")]
     UnsupportedZarrV2Array(String),
-    /// Memory was short.
+    /// Memory ran out.
     #[error("out of memory")]
     OutOfMemory,
 }

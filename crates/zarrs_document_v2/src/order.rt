@@ -16,7 +16,7 @@ pub enum ArrayMetadataV2Order {
 }
 
 impl ArrayMetadataV2Order {
-    /// The order that a JSON value reads as: the text `C` or `F`.
+    /// Reads the order that a JSON value is: the text `C` or `F`.
     pub fn from_value(value: &Value) -> Option<ArrayMetadataV2Order>
         ensures { result ≡ chunk_order_of (view value.now) }
     {
@@ -27,7 +27,7 @@ impl ArrayMetadataV2Order {
         }
     }
 
-    /// The JSON value of the order.
+    /// Returns the JSON value of the order.
     pub fn to_value(self, alloc: Global) -> Result<Value, AllocError>
         ensures { IfOk result (λ value. view value ≡ order_data self) }
     {

@@ -14,7 +14,7 @@ use serde_json::{Map, Value};
 use std::alloc::{AllocError, Global};
 use std::num::NonZeroU64;
 use zarrs_document::members::{
-    reads_as_number, items_in, members_in, numbers_in, object_of, take_member,
+    items_in, members_in, numbers_in, object_of, reads_as_number, take_member,
 };
 use zarrs_metadata::ChunkKeySeparator;
 
@@ -33,7 +33,7 @@ pub(crate) struct Parts {
     attributes: Option<Value>,
 }
 
-/// The members of a document as they read: `None` for a member that is missing or of another
+/// The members of a document, each read: `None` for a member that is missing or of another
 /// shape.
 #[derive(Drop)]
 pub(crate) struct Draft {
@@ -48,7 +48,7 @@ pub(crate) struct Draft {
     attributes: Option<Map<String, Value>>,
 }
 
-/// The document that a JSON value reads as.
+/// Reads the document that a JSON value is.
 pub(crate) fn read_document(
     alloc: Global,
     value: Value,
@@ -182,10 +182,7 @@ fn all_sizes(alloc: Global, items: Vec<Value>) -> Result<Option<Vec<NonZeroU64>>
     Ok(Some(sizes))
 }
 
-fn sizes_in(
-    alloc: Global,
-    member: Option<Value>,
-) -> Result<Option<Vec<NonZeroU64>>, AllocError>
+fn sizes_in(alloc: Global, member: Option<Value>) -> Result<Option<Vec<NonZeroU64>>, AllocError>
     ensures { IfOk result (λ o. option_map (λ v. map non_zero_u64_get v.items) o
         ≡ list_in size_of (option_map view member)) }
 {

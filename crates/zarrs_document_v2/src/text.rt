@@ -10,7 +10,7 @@ use zarrs_document::holds_float;
 use zarrs_document::members::{copied, object_of};
 use zarrs_metadata::MetadataError;
 
-/// The JSON value that bytes read as.
+/// Reads the JSON value that bytes are.
 pub(crate) fn value_from_slice(alloc: Global, bytes: &[u8]) -> Result<Value, MetadataError>
     ensures read { IfOk result (λ value. value_said bytes.now ≡ Some (view value)) }
     ensures refused { IfErr result (RefusesReading (value_said bytes.now)) }
@@ -33,11 +33,11 @@ fn plain_members(value: Value) -> Option<Map<String, Value>>
     object_of(value)
 }
 
-/// The attributes that the bytes of `.zattrs` read as.
+/// Reads the attributes that the bytes of `.zattrs` are.
 ///
 /// # Errors
-/// `InvalidShape` for bytes that are no JSON object, for one that nests deeper than 127, and for
-/// one with a number that is no integer of 64 bits.
+/// `InvalidShape` for bytes that are not a JSON object, for one that nests deeper than 127, and for
+/// one with a number that is not an integer of 64 bits.
 pub fn attributes_from_slice(
     alloc: Global,
     bytes: &[u8],
@@ -52,7 +52,7 @@ pub fn attributes_from_slice(
     }
 }
 
-/// An object as bytes, indented.
+/// Returns an object as bytes, indented.
 pub(crate) fn object_text(
     alloc: Global,
     members: &Map<String, Value>,

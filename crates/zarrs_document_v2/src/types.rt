@@ -62,7 +62,7 @@ fn narrow_kind(text: &[u8]) -> Option<KindV2>
 }
 
 impl TypeV2 {
-    /// The type that a text as `<i4` names.
+    /// Returns the type that a text such as `<i4` names.
     pub(crate) fn from_text(text: &str) -> Option<TypeV2>
         ensures { result ≡ type_v2 text.now }
     {
@@ -77,7 +77,7 @@ impl TypeV2 {
 }
 
 impl KindV2 {
-    /// The V3 name of the type.
+    /// Returns the V3 name of the type.
     pub(crate) fn name(self) -> &'static str
         ensures { result.now ≡ kind_name self }
     {
@@ -95,14 +95,14 @@ impl KindV2 {
         }
     }
 
-    /// Whether the cells are texts.
+    /// Returns whether the cells are texts.
     pub(crate) fn is_text(self) -> bool
         ensures { result ≡ is_text_kind self }
     {
         matches!(self, KindV2::Text)
     }
 
-    /// The fill value of V3 for this one, or `None` for a value that is none of the type.
+    /// Returns the fill value of V3 for this one, or `None` for a value that is not of the type.
     pub(crate) fn fill_value(
         self,
         alloc: Global,

@@ -39,10 +39,10 @@ impl From<ArrayMetadataV2> for ArrayMetadata {
 }
 
 impl ArrayMetadata {
-    /// The metadata that a JSON value reads as: V2 if its `zarr_format` is 2, else V3.
+    /// Reads the metadata that a JSON value is: V2 if its `zarr_format` is 2, else V3.
     ///
     /// # Errors
-    /// `InvalidShape` for any other value, and for one that holds a number that is no integer of
+    /// `InvalidShape` for any other value, and for one that holds a number that is not an integer of
     /// 64 bits.
     pub fn from_value(alloc: Global, value: Value) -> Result<ArrayMetadata, MetadataError>
         ensures read { IfOk result (λ m. metadata_of (view value) ≡ Some (metadata_view m)) }
@@ -61,10 +61,10 @@ impl ArrayMetadata {
         }
     }
 
-    /// The JSON value of the metadata, as `to_value` of its version gives it.
+    /// Returns the JSON value of the metadata, as `to_value` of its version gives it.
     ///
     /// # Errors
-    /// If memory is short.
+    /// If memory runs out.
     pub fn to_value(&self, alloc: Global) -> Result<Value, AllocError>
         ensures { IfOk result (λ v. view v ≡ data_of_metadata (metadata_view self.now)) }
     {

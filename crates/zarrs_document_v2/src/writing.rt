@@ -13,11 +13,8 @@ use std::num::NonZeroU64;
 use zarrs_document::members::{object_value, put_member};
 use zarrs_metadata::numbers_value;
 
-/// The JSON value of a document.
-pub(crate) fn document_value(
-    alloc: Global,
-    document: &ArrayMetadataV2,
-) -> Result<Value, AllocError>
+/// Returns the JSON value of a document.
+pub(crate) fn document_value(alloc: Global, document: &ArrayMetadataV2) -> Result<Value, AllocError>
     ensures written { IfOk result (λ v. view v ≡ data_of_v2 (document_v2_view document.now)) }
     ensures reads_back { IfOk result (λ v. document_v2_of (view v)
         ≡ Some (document_v2_view document.now)) }
@@ -26,7 +23,7 @@ pub(crate) fn document_value(
     value_with(alloc, document, attributes)
 }
 
-/// The JSON value of a document without its attributes.
+/// Returns the JSON value of a document without its attributes.
 pub(crate) fn array_value(alloc: Global, document: &ArrayMetadataV2) -> Result<Value, AllocError>
     ensures written { IfOk result (λ v. view v
         ≡ data_of_v2 (without_attributes (document_v2_view document.now))) }
@@ -36,7 +33,7 @@ pub(crate) fn array_value(alloc: Global, document: &ArrayMetadataV2) -> Result<V
     value_with(alloc, document, None)
 }
 
-/// The JSON value of a document with these attributes.
+/// Returns the JSON value of a document with these attributes.
 fn value_with(
     alloc: Global,
     document: &ArrayMetadataV2,
@@ -67,7 +64,7 @@ fn value_with(
     Ok(Value::Object(members))
 }
 
-/// The list of these sizes as a value.
+/// Returns the list of these sizes as a value.
 pub(crate) fn sizes_value(alloc: Global, sizes: &Vec<NonZeroU64>) -> Result<Value, AllocError>
     ensures { IfOk result (λ v. view v ≡ numbers_data (map non_zero_u64_get sizes.now.items)) }
 {

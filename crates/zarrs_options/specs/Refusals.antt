@@ -70,7 +70,7 @@ abbrev pub ◌>>=◌ : {A B : Type 0} → Result A CreateRefusal → (A → Resu
 Ok a >>= f = f a
 Err refusal >>= f = Err refusal
 
--- a creation is refused: if memory is short, which may come at any growth; else by the first refusal that is decided
+-- a creation is refused: if memory runs out, which may come at any growth; else by the first refusal that is decided
 abbrev pub RefusesCreation : {A : Type 0} → Result A CreateRefusal → CreateRefusal → Type 0
 RefusesCreation made out_of_memory = Unit {0}
 RefusesCreation made other = made ≡ Err other

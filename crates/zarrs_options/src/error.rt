@@ -21,7 +21,7 @@ pub struct AdditionalFieldUnsupportedError {
 }
 
 impl AdditionalFieldUnsupportedError {
-    /// The refusal of the field of this name and this value.
+    /// Returns the refusal of the field of this name and this value.
     pub fn new(name: String, value: Value) -> AdditionalFieldUnsupportedError
         ensures name { name_of_field result ≡ string_bytes name }
         ensures value { value_of_field result ≡ view value }
@@ -29,14 +29,14 @@ impl AdditionalFieldUnsupportedError {
         AdditionalFieldUnsupportedError { name, value }
     }
 
-    /// The name of the field.
+    /// Returns the name of the field.
     pub fn name(&self) -> &str
         ensures { result.now ≡ name_of_field self.now }
     {
         self.name.as_str()
     }
 
-    /// The value of the field.
+    /// Returns the value of the field.
     pub fn value(&self) -> &Value
         ensures { view result.now ≡ value_of_field self.now }
     {
@@ -96,13 +96,13 @@ pub enum ArrayCreateError {
     /// The store refused a call, or its metadata reads as none.
     #[error(transparent)]
     StorageError(StorageError),
-    /// There is no metadata at the path.
+    /// The path has no metadata.
     #[error("array metadata is missing")]
     MissingMetadata,
     /// The V2 metadata has a compressor, or filters that are not those of its data type.
     #[error("unsupported Zarr V2 array: {0}")]
     UnsupportedZarrV2Array(String),
-    /// Memory was short.
+    /// Memory ran out.
     #[error("out of memory")]
     OutOfMemory,
 }

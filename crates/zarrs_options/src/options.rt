@@ -26,14 +26,14 @@ impl Default for ArrayMetadataOptions {
 }
 
 impl ArrayMetadataOptions {
-    /// Which version is written.
+    /// Returns which version is written.
     pub fn metadata_convert_version(&self) -> MetadataConvertVersion
         ensures { result ≡ (options_view self.now).convert_version }
     {
         self.convert_version
     }
 
-    /// The options with this version.
+    /// Returns the options with this version.
     pub fn with_metadata_convert_version(
         self,
         convert_version: MetadataConvertVersion,
@@ -60,14 +60,14 @@ impl ArrayMetadataOptions {
         self
     }
 
-    /// Whether the attribute `_zarrs` is written.
+    /// Returns whether the attribute `_zarrs` is written.
     pub fn include_zarrs_metadata(&self) -> bool
         ensures { result ≡ (options_view self.now).include_zarrs_metadata }
     {
         self.include_zarrs_metadata
     }
 
-    /// The options with this choice of whether `_zarrs` is written.
+    /// Returns the options with this choice of whether `_zarrs` is written.
     pub fn with_include_zarrs_metadata(self, include_zarrs_metadata: bool) -> ArrayMetadataOptions
         ensures { options_view result
             ≡ record (options_view self) { include_zarrs_metadata = include_zarrs_metadata } }
@@ -82,26 +82,28 @@ impl ArrayMetadataOptions {
     pub fn set_include_zarrs_metadata(&mut self, include_zarrs_metadata: bool) -> &mut Self
         ensures same_loan { result.ghost_name ≡ self.entry.ghost_name }
         ensures set { options_view result.now ≡ record (options_view self.old) {
-            include_zarrs_metadata = include_zarrs_metadata } }
+          include_zarrs_metadata = include_zarrs_metadata;
+        } }
     {
         self.include_zarrs_metadata = include_zarrs_metadata;
         self
     }
 
-    /// Whether aliases of extensions are written as main names.
+    /// Returns whether aliases of extensions are written as main names.
     pub fn convert_aliased_extension_names(&self) -> bool
         ensures { result ≡ (options_view self.now).convert_aliased_extension_names }
     {
         self.convert_aliased_extension_names
     }
 
-    /// The options with this choice of whether aliases are written as main names.
+    /// Returns the options with this choice of whether aliases are written as main names.
     pub fn with_convert_aliased_extension_names(
         self,
         convert_aliased_extension_names: bool,
     ) -> ArrayMetadataOptions
         ensures { options_view result ≡ record (options_view self) {
-            convert_aliased_extension_names = convert_aliased_extension_names } }
+          convert_aliased_extension_names = convert_aliased_extension_names;
+        } }
     {
         ArrayMetadataOptions {
             convert_aliased_extension_names,
@@ -116,7 +118,8 @@ impl ArrayMetadataOptions {
     ) -> &mut Self
         ensures same_loan { result.ghost_name ≡ self.entry.ghost_name }
         ensures set { options_view result.now ≡ record (options_view self.old) {
-            convert_aliased_extension_names = convert_aliased_extension_names } }
+          convert_aliased_extension_names = convert_aliased_extension_names;
+        } }
     {
         self.convert_aliased_extension_names = convert_aliased_extension_names;
         self

@@ -5,10 +5,10 @@ ghost use Rattle.std.specs.Int.NonZero.{non_zero_u64_get};
 use std::alloc::{AllocError, Global};
 use std::num::NonZeroU64;
 
-/// The extents of a chunk as the shape of an array.
+/// Returns the extents of a chunk as the shape of an array.
 ///
 /// # Errors
-/// If memory is short.
+/// If memory runs out.
 pub fn chunk_shape_to_array_shape(
     alloc: Global,
     chunk_shape: &[NonZeroU64],

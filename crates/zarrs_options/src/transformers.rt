@@ -12,7 +12,7 @@ use zarrs_metadata::{MetadataV3, PluginCreateError};
 pub struct StorageTransformerChain;
 
 impl StorageTransformerChain {
-    /// The chain of these transformers.
+    /// Returns the chain of these transformers.
     ///
     /// # Errors
     /// `Other` if there is one.

@@ -9,8 +9,8 @@ use zarrs_keys::{NodePath, NodePathError};
 use zarrs_metadata::{MetadataV3, PluginCreateError};
 use zarrs_options::{
     AdditionalFieldUnsupportedError, ArrayCreateError, ArrayMetadataOptions,
-    MetadataConvertVersion, MetadataEraseVersion, MetadataRetrieveVersion,
-    StorageTransformerChain, chunk_shape_to_array_shape,
+    MetadataConvertVersion, MetadataEraseVersion, MetadataRetrieveVersion, StorageTransformerChain,
+    chunk_shape_to_array_shape,
 };
 use zarrs_storage::StorageError;
 
@@ -113,7 +113,10 @@ fn texts_of_refusals(rt: HostRuntime) -> Result<(), Fail> {
             ArrayCreateError::InvalidSubchunkShape(shape),
             "invalid subchunk shape [2, 0]: all elements must be non-zero",
         ),
-        (ArrayCreateError::MissingMetadata, "array metadata is missing"),
+        (
+            ArrayCreateError::MissingMetadata,
+            "array metadata is missing",
+        ),
         (
             ArrayCreateError::UnsupportedZarrV2Array(text),
             "unsupported Zarr V2 array: a compressor",
@@ -132,7 +135,12 @@ fn texts_of_fill_values(rt: HostRuntime) -> Result<(), Fail> {
         data_type_name: String::from_str(alloc, "int16")?,
         fill_value: FillValue::new([7].to_vec(alloc)?),
     };
-    must_print(&rt, alloc, &bytes, "invalid fill value for data type `int16`: [7]")?;
+    must_print(
+        &rt,
+        alloc,
+        &bytes,
+        "invalid fill value for data type `int16`: [7]",
+    )?;
     let metadata = ArrayCreateError::InvalidFillValueMetadata {
         data_type_name: String::from_str(alloc, "string")?,
         fill_value_metadata: Value::from_str(alloc, "{\"a\": [1, 2]}")?,
@@ -168,7 +176,12 @@ fn fields_that_must_be_understood(rt: HostRuntime) -> Result<(), Fail> {
     let field = AdditionalFieldUnsupportedError::new(String::from_str(alloc, "key")?, Value::Null);
     must_be_field(&rt, &field);
     let error = ArrayCreateError::from(field);
-    must_print(&rt, alloc, &error, "unsupported additional field key with value null")
+    must_print(
+        &rt,
+        alloc,
+        &error,
+        "unsupported additional field key with value null",
+    )
 }
 
 fn must_be_memory(rt: &impl Abort, error: &ArrayCreateError) {
@@ -182,7 +195,17 @@ fn refusals_of_lower_layers(rt: HostRuntime) {
     must_be_memory(&rt, &ArrayCreateError::from(StorageError::OutOfMemory));
     must_be_memory(&rt, &ArrayCreateError::from(NodePathError::OutOfMemory));
     let storage = ArrayCreateError::from(StorageError::ReadOnly);
-    assert!(rt; matches!(storage, ArrayCreateError::StorageError(StorageError::ReadOnly)));
+    assert!(rt;
+        matches!(
+            storage,
+            ArrayCreateError::StorageError(StorageError::ReadOnly)
+        )
+    );
     let path = NodePath::new(alloc, "no slash").map_err(ArrayCreateError::from);
-    assert!(rt; matches!(path, Err(ArrayCreateError::NodePathError(NodePathError::Invalid))));
+    assert!(rt;
+        matches!(
+            path,
+            Err(ArrayCreateError::NodePathError(NodePathError::Invalid))
+        )
+    );
 }

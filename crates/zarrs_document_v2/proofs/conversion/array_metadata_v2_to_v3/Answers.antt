@@ -1,6 +1,6 @@
-use Rattle.std.proofs.Common.{◌≡◌, true, false, Some, None, Ok, option_map, sym, ap, ◌∙◌}
+use Rattle.std.proofs.Common.{◌≡◌, Some, None, Ok, option_map, sym, ap, ◌∙◌}
 use Rattle.serde_json.specs.View.{view}
-use Rattle.zarrs_document_v2.specs.Conversion.{type_v2, fill_v3, is_uncompressed}
+use Rattle.zarrs_document_v2.specs.Conversion.{type_v2, fill_v3}
 use Rattle.zarrs_document_v2.specs.View.{document_v2_view}
 use Rattle.zarrs_document_v2.proofs.ConversionLaws.{without_type, without_fill, without_codecs, with_all}
 use Rattle.zarrs_document_v2.proofs.conversion.array_metadata_v2_to_v3.Goals as goal

@@ -1,4 +1,4 @@
-use Rattle.std.proofs.Common.{◌≡◌, [], ◌∷◌, ◌++◌, suc, ◌-◌, sym, ap, ◌∙◌, append_assoc, arith}
+use Rattle.std.proofs.Common.{◌≡◌, [], ◌∷◌, ◌++◌, ◌-◌, sym, ap, ◌∙◌, append_assoc, arith}
 use Rattle.zarrs_document_v2.specs.Conversion.{count_down}
 use Rattle.zarrs_document_v2.proofs.FilterLemmas.{count_down_step}
 use Rattle.zarrs_document_v2.proofs.conversion.count_down.Goals as goal

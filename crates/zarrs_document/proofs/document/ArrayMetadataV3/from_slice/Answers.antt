@@ -15,5 +15,6 @@ returns-in-Ok-clause-refused c =
 pub returns-in_default : goal.returns-in_default
 returns-in_default c = record {
   read = tt;
+  normal = tt;
   refused = nothing_said c.args.bytes.now (c.in-Err.ensures.err (λ memory. c.in_default.not-Memory (c.classify.ensures.memory.1 memory)));
 }

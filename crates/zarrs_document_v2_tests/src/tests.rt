@@ -127,7 +127,10 @@ fn attributes_and_other_members(rt: HostRuntime) -> Result<(), Fail> {
 
 fn must_refuse_value(rt: &impl Abort, alloc: Global, value: Value, name: &str) {
     let refused = ArrayMetadataV2::from_value(alloc, value);
-    assert!(rt; matches!(refused, Err(MetadataError::InvalidShape)), "{name}");
+    assert!(rt;
+        matches!(refused, Err(MetadataError::InvalidShape)),
+        "{name}"
+    );
 }
 
 #[test]
@@ -284,7 +287,13 @@ fn must_have_type(
     assert_eq!(rt; document.data_type.name(), name);
     assert_eq!(rt; document.fill_value.to_string(alloc)?.as_str(), fill_value);
     assert_eq!(rt; document.codecs.len(), 1);
-    assert_eq!(rt; document.codecs[0].to_value(alloc)?.to_string(alloc)?.as_str(), codec);
+    assert_eq!(rt;
+        document.codecs[0]
+            .to_value(alloc)?
+            .to_string(alloc)?
+            .as_str(),
+        codec
+    );
     Ok(())
 }
 
@@ -314,12 +323,23 @@ fn numbers_keep_their_fill_values(rt: HostRuntime) -> Result<(), Fail> {
 #[test]
 fn fill_values_of_other_kinds(rt: HostRuntime) -> Result<(), Fail> {
     let alloc = rt.alloc();
-    for (fill, shown) in [("true", "true"), ("false", "false"), ("1", "true"), ("0", "false"), ("null", "false")] {
+    for (fill, shown) in [
+        ("true", "true"),
+        ("false", "false"),
+        ("1", "true"),
+        ("0", "false"),
+        ("null", "false"),
+    ] {
         let document = converted(alloc, &[("dtype", "\"|b1\""), ("fill_value", fill)])?;
         must_have_type(&rt, alloc, &document, "bool", shown, "\"bytes\"")?;
     }
     let filters = ("filters", "[{\"id\":\"vlen-utf8\"}]");
-    for (fill, shown) in [("\"\"", "\"\""), ("\"ab\"", "\"ab\""), ("0", "\"\""), ("null", "\"\"")] {
+    for (fill, shown) in [
+        ("\"\"", "\"\""),
+        ("\"ab\"", "\"ab\""),
+        ("0", "\"\""),
+        ("null", "\"\""),
+    ] {
         let document = converted(alloc, &[("dtype", "\"|O\""), ("fill_value", fill), filters])?;
         must_have_type(&rt, alloc, &document, "string", shown, "\"vlen-utf8\"")?;
     }
@@ -334,8 +354,18 @@ fn refusal(
 }
 
 fn must_have_no_type(rt: &impl Abort, alloc: Global, dtype: &str) -> Result<(), Fail> {
-    let refused = refusal(alloc, &[("dtype", dtype), ("fill_value", "\"a\""), ("compressor", "{}")])?;
-    let is_type = matches!(refused, Some(ArrayMetadataV2ToV3Error::UnsupportedDataType(_)));
+    let refused = refusal(
+        alloc,
+        &[
+            ("dtype", dtype),
+            ("fill_value", "\"a\""),
+            ("compressor", "{}"),
+        ],
+    )?;
+    let is_type = matches!(
+        refused,
+        Some(ArrayMetadataV2ToV3Error::UnsupportedDataType(_))
+    );
     assert!(rt; is_type, "{dtype}");
     Ok(())
 }
@@ -344,8 +374,20 @@ fn must_have_no_type(rt: &impl Abort, alloc: Global, dtype: &str) -> Result<(), 
 fn data_types_without_a_v3_name(rt: HostRuntime) -> Result<(), Fail> {
     let alloc = rt.alloc();
     for dtype in [
-        "\"<f4\"", "\"|i2\"", "\"<i1\"", "\">u1\"", "\"<b1\"", "\"i4\"", "\"<i4 \"", "\"|S5\"", "\"<U2\"",
-        "\"<M8[ns]\"", "\"O\"", "\"<O\"", "\"\"", "\"|\"",
+        "\"<f4\"",
+        "\"|i2\"",
+        "\"<i1\"",
+        "\">u1\"",
+        "\"<b1\"",
+        "\"i4\"",
+        "\"<i4 \"",
+        "\"|S5\"",
+        "\"<U2\"",
+        "\"<M8[ns]\"",
+        "\"O\"",
+        "\"<O\"",
+        "\"\"",
+        "\"|\"",
     ] {
         must_have_no_type(&rt, alloc, dtype)?;
     }
@@ -353,8 +395,14 @@ fn data_types_without_a_v3_name(rt: HostRuntime) -> Result<(), Fail> {
 }
 
 fn must_have_no_fill(rt: &impl Abort, alloc: Global, dtype: &str, fill: &str) -> Result<(), Fail> {
-    let refused = refusal(alloc, &[("dtype", dtype), ("fill_value", fill), ("compressor", "{}")])?;
-    let is_fill = matches!(refused, Some(ArrayMetadataV2ToV3Error::InvalidFillValueMetadata { .. }));
+    let refused = refusal(
+        alloc,
+        &[("dtype", dtype), ("fill_value", fill), ("compressor", "{}")],
+    )?;
+    let is_fill = matches!(
+        refused,
+        Some(ArrayMetadataV2ToV3Error::InvalidFillValueMetadata { .. })
+    );
     assert!(rt; is_fill, "{dtype} {fill}");
     Ok(())
 }
@@ -383,9 +431,16 @@ fn fill_values_that_are_none_of_the_type(rt: HostRuntime) -> Result<(), Fail> {
     Ok(())
 }
 
-fn must_have_no_codecs(rt: &impl Abort, alloc: Global, changes: &[(&str, &str)]) -> Result<(), Fail> {
+fn must_have_no_codecs(
+    rt: &impl Abort,
+    alloc: Global,
+    changes: &[(&str, &str)],
+) -> Result<(), Fail> {
     let refused = refusal(alloc, changes)?;
-    let is_codec = matches!(refused, Some(ArrayMetadataV2ToV3Error::UnsupportedZarrV2Array(_)));
+    let is_codec = matches!(
+        refused,
+        Some(ArrayMetadataV2ToV3Error::UnsupportedZarrV2Array(_))
+    );
     assert!(rt; is_codec);
     Ok(())
 }
@@ -395,12 +450,24 @@ fn compressors_and_filters_without_a_codec(rt: HostRuntime) -> Result<(), Fail> 
     let alloc = rt.alloc();
     let text = ("dtype", "\"|O\"");
     let fill = ("fill_value", "null");
-    must_have_no_codecs(&rt, alloc, &[("compressor", "{\"id\":\"zlib\",\"level\":1}")])?;
+    must_have_no_codecs(
+        &rt,
+        alloc,
+        &[("compressor", "{\"id\":\"zlib\",\"level\":1}")],
+    )?;
     must_have_no_codecs(&rt, alloc, &[("filters", "[{\"id\":\"vlen-utf8\"}]")])?;
     must_have_no_codecs(&rt, alloc, &[text, fill])?;
     must_have_no_codecs(&rt, alloc, &[text, fill, ("filters", "[]")])?;
-    must_have_no_codecs(&rt, alloc, &[text, fill, ("filters", "[{\"id\":\"vlen-bytes\"}]")])?;
-    must_have_no_codecs(&rt, alloc, &[text, fill, ("filters", "[{\"id\":\"vlen-utf8\",\"x\":1}]")])?;
+    must_have_no_codecs(
+        &rt,
+        alloc,
+        &[text, fill, ("filters", "[{\"id\":\"vlen-bytes\"}]")],
+    )?;
+    must_have_no_codecs(
+        &rt,
+        alloc,
+        &[text, fill, ("filters", "[{\"id\":\"vlen-utf8\",\"x\":1}]")],
+    )?;
     let twice = ("filters", "[{\"id\":\"vlen-utf8\"},{\"id\":\"vlen-utf8\"}]");
     must_have_no_codecs(&rt, alloc, &[text, fill, twice])
 }
@@ -444,7 +511,10 @@ fn chunks_of_other_dimensions_are_converted(rt: HostRuntime) -> Result<(), Fail>
     let alloc = rt.alloc();
     let document = converted(alloc, &[("chunks", "[2]"), ("order", "\"F\"")])?;
     let grid = document.chunk_grid.to_value(alloc)?.to_string(alloc)?;
-    assert_eq!(rt; grid.as_str(), "{\"configuration\":{\"chunk_shape\":[2]},\"name\":\"regular\"}");
+    assert_eq!(rt;
+        grid.as_str(),
+        "{\"configuration\":{\"chunk_shape\":[2]},\"name\":\"regular\"}"
+    );
     Ok(())
 }
 
@@ -471,7 +541,12 @@ fn metadata_of_both_versions(rt: HostRuntime) -> Result<(), Fail> {
     let value = v3.to_value(alloc)?;
     must_be_version(&rt, alloc, &metadata(alloc, value)?, 3)?;
     must_be_version(&rt, alloc, &ArrayMetadata::from(v3), 3)?;
-    must_be_version(&rt, alloc, &metadata(alloc, Value::Object(small(alloc)?))?, 2)?;
+    must_be_version(
+        &rt,
+        alloc,
+        &metadata(alloc, Value::Object(small(alloc)?))?,
+        2,
+    )?;
     must_be_version(&rt, alloc, &ArrayMetadata::from(made(alloc)?), 2)?;
     let neither = json!(in alloc; {"zarr_format": 4})?;
     let refused = ArrayMetadata::from_value(alloc, neither);
