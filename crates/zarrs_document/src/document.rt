@@ -104,8 +104,8 @@ impl ArrayMetadataV3 {
         ArrayMetadataV3 { attributes, ..self }
     }
 
-    /// Returns the metadata with these additional fields. A field under the name of a member of this document is not
-    /// written.
+    /// Returns the metadata with these additional fields. A field under the name of a member of
+    /// this document is not written.
     pub fn with_additional_fields(self, additional_fields: AdditionalFieldsV3) -> ArrayMetadataV3
         ensures { document_view result ≡ record (document_view self) {
           additional_fields = fields_view additional_fields.entries;
@@ -159,8 +159,8 @@ impl ArrayMetadataV3 {
     /// Reads the document that a JSON value is.
     ///
     /// # Errors
-    /// `InvalidShape` for any other value, and for one that holds a number that is not an integer of
-    /// 64 bits.
+    /// `InvalidShape` for any other value, and for one that holds a number that is not an integer
+    /// of 64 bits.
     pub fn from_value(alloc: Global, value: Value) -> Result<ArrayMetadataV3, MetadataError>
         ensures read { IfOk result (λ m. plain_document_of (view value) ≡ Some (document_view m)) }
         // It is read again as it is: it has no empty configuration.
@@ -177,8 +177,8 @@ impl ArrayMetadataV3 {
         }
     }
 
-    /// Returns the JSON value of this document. Empty attributes, empty storage transformers, absent names
-    /// and additional fields under a name of another member are not written.
+    /// Returns the JSON value of this document. Empty attributes, empty storage transformers,
+    /// absent names and additional fields under a name of another member are not written.
     ///
     /// # Errors
     /// If memory runs out.

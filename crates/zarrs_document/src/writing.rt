@@ -51,7 +51,8 @@ pub(crate) fn document_value(alloc: Global, document: &ArrayMetadataV3) -> Resul
 }
 
 fn extensions_value(alloc: Global, extensions: &Vec<MetadataV3>) -> Result<Value, AllocError>
-    ensures { IfOk result (λ v. view v ≡ list_data extension_data (map extension_view extensions.now.items)) }
+    ensures { IfOk result (λ v. view v
+        ≡ list_data extension_data (map extension_view extensions.now.items)) }
 {
     let mut values = Vec::new(alloc);
     for extension in extensions {
@@ -70,7 +71,8 @@ fn name_value(alloc: Global, name: &DimensionName) -> Result<Value, AllocError>
 }
 
 fn names_value(alloc: Global, names: &Vec<DimensionName>) -> Result<Value, AllocError>
-    ensures { IfOk result (λ v. view v ≡ list_data dimension_name_data (map name_view names.now.items)) }
+    ensures { IfOk result (λ v. view v
+        ≡ list_data dimension_name_data (map name_view names.now.items)) }
 {
     let mut values = Vec::new(alloc);
     for name in names {

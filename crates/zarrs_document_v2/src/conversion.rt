@@ -31,7 +31,8 @@ pub fn array_metadata_v2_to_v3(
     alloc: Global,
     metadata: &ArrayMetadataV2,
 ) -> Result<ArrayMetadataV3, ArrayMetadataV2ToV3Error>
-    ensures converted { IfOk result (λ m. to_v3 (document_v2_view metadata.now) ≡ Ok (document_view m)) }
+    ensures converted { IfOk result (λ m. to_v3 (document_v2_view metadata.now)
+        ≡ Ok (document_view m)) }
     ensures refused { IfErr result (RefusesConversion (to_v3 (document_v2_view metadata.now))) }
 {
     let cells = match TypeV2::from_text(metadata.dtype.as_str()) {
@@ -109,7 +110,8 @@ fn codecs_of(
     cells: TypeV2,
 ) -> Result<Vec<MetadataV3>, AllocError>
     ensures { IfOk result (λ codecs. map extension_view codecs.items
-        ≡ order_codecs metadata.now.order (length metadata.now.shape.items) (cells_codec cells ∷ [])) }
+        ≡ order_codecs metadata.now.order (length metadata.now.shape.items)
+        (cells_codec cells ∷ [])) }
 {
     let mut codecs = Vec::new(alloc);
     let shape = metadata.shape.as_slice();

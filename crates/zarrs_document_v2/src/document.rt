@@ -44,7 +44,8 @@ pub struct ArrayMetadataV2 {
 }
 
 impl ArrayMetadataV2 {
-    /// Returns the metadata of these parts, in order C, with `.` in its chunk keys and without attributes.
+    /// Returns the metadata of these parts, in order C, with `.` in its chunk keys and without
+    /// attributes.
     pub fn new(
         shape: Vec<u64>,
         chunks: Vec<NonZeroU64>,
@@ -128,10 +129,11 @@ impl ArrayMetadataV2 {
     /// members under other names are ignored.
     ///
     /// # Errors
-    /// `InvalidShape` for any other value, and for one that holds a number that is not an integer of
-    /// 64 bits.
+    /// `InvalidShape` for any other value, and for one that holds a number that is not an integer
+    /// of 64 bits.
     pub fn from_value(alloc: Global, value: Value) -> Result<ArrayMetadataV2, MetadataError>
-        ensures read { IfOk result (λ m. plain_document_v2_of (view value) ≡ Some (document_v2_view m)) }
+        ensures read { IfOk result (λ m. plain_document_v2_of (view value)
+            ≡ Some (document_v2_view m)) }
         ensures refused { IfErr result (RefusesReading (plain_document_v2_of (view value))) }
     {
         if holds_float(&value) {
@@ -169,7 +171,8 @@ impl ArrayMetadataV2 {
         ArrayMetadataV2::from_value(alloc, value)
     }
 
-    /// Returns the bytes that are stored as `.zarray`: the document without its attributes, indented.
+    /// Returns the bytes that are stored as `.zarray`: the document without its attributes,
+    /// indented.
     ///
     /// # Errors
     /// If memory runs out.

@@ -57,7 +57,8 @@ pub(crate) fn object_text(
     alloc: Global,
     members: &Map<String, Value>,
 ) -> Result<Vec<u8>, AllocError>
-    ensures { IfOk result (λ bytes. IsAttributesText (members_view members.now.entries) bytes.items) }
+    ensures { IfOk result (λ bytes.
+        IsAttributesText (members_view members.now.entries) bytes.items) }
 {
     let value = Value::Object(copied(members)?);
     let bytes = value.to_vec_pretty(alloc)?;

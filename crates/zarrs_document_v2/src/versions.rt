@@ -42,8 +42,8 @@ impl ArrayMetadata {
     /// Reads the metadata that a JSON value is: V2 if its `zarr_format` is 2, else V3.
     ///
     /// # Errors
-    /// `InvalidShape` for any other value, and for one that holds a number that is not an integer of
-    /// 64 bits.
+    /// `InvalidShape` for any other value, and for one that holds a number that is not an integer
+    /// of 64 bits.
     pub fn from_value(alloc: Global, value: Value) -> Result<ArrayMetadata, MetadataError>
         ensures read { IfOk result (λ m. metadata_of (view value) ≡ Some (metadata_view m)) }
         ensures refused { IfErr result (RefusesReading (metadata_of (view value))) }

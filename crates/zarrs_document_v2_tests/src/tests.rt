@@ -75,7 +75,10 @@ fn changed(alloc: Global, name: &str, text: &str) -> Result<Value, Fail> {
 }
 
 /// The small array with these members in place of its own.
-fn with_members(alloc: Global, changes: &[(&str, &str)]) -> Result<ArrayMetadataV2, Fail> {
+fn with_members(
+    alloc: Global,
+    changes: &[(&'static str, &'static str)],
+) -> Result<ArrayMetadataV2, Fail> {
     let mut members = small(alloc)?;
     for (name, text) in changes {
         serde_json::put(&mut members, alloc, name, Value::from_str(alloc, text)?)?;
@@ -272,7 +275,10 @@ fn a_foreign_array_is_converted(rt: HostRuntime) -> Result<(), Fail> {
     must_convert(&rt, alloc, &document, written)
 }
 
-fn converted(alloc: Global, changes: &[(&str, &str)]) -> Result<ArrayMetadataV3, Fail> {
+fn converted(
+    alloc: Global,
+    changes: &[(&'static str, &'static str)],
+) -> Result<ArrayMetadataV3, Fail> {
     Ok(array_metadata_v2_to_v3(alloc, &with_members(alloc, changes)?)?)
 }
 
@@ -348,12 +354,12 @@ fn fill_values_of_other_kinds(rt: HostRuntime) -> Result<(), Fail> {
 
 fn refusal(
     alloc: Global,
-    changes: &[(&str, &str)],
+    changes: &[(&'static str, &'static str)],
 ) -> Result<Option<ArrayMetadataV2ToV3Error>, Fail> {
     Ok(array_metadata_v2_to_v3(alloc, &with_members(alloc, changes)?).err())
 }
 
-fn must_have_no_type(rt: &impl Abort, alloc: Global, dtype: &str) -> Result<(), Fail> {
+fn must_have_no_type(rt: &impl Abort, alloc: Global, dtype: &'static str) -> Result<(), Fail> {
     let refused = refusal(
         alloc,
         &[
@@ -394,7 +400,12 @@ fn data_types_without_a_v3_name(rt: HostRuntime) -> Result<(), Fail> {
     Ok(())
 }
 
-fn must_have_no_fill(rt: &impl Abort, alloc: Global, dtype: &str, fill: &str) -> Result<(), Fail> {
+fn must_have_no_fill(
+    rt: &impl Abort,
+    alloc: Global,
+    dtype: &'static str,
+    fill: &'static str,
+) -> Result<(), Fail> {
     let refused = refusal(
         alloc,
         &[("dtype", dtype), ("fill_value", fill), ("compressor", "{}")],
@@ -434,7 +445,7 @@ fn fill_values_that_are_none_of_the_type(rt: HostRuntime) -> Result<(), Fail> {
 fn must_have_no_codecs(
     rt: &impl Abort,
     alloc: Global,
-    changes: &[(&str, &str)],
+    changes: &[(&'static str, &'static str)],
 ) -> Result<(), Fail> {
     let refused = refusal(alloc, changes)?;
     let is_codec = matches!(
@@ -475,7 +486,7 @@ fn compressors_and_filters_without_a_codec(rt: HostRuntime) -> Result<(), Fail> 
 fn must_print(
     rt: &impl Abort,
     alloc: Global,
-    changes: &[(&str, &str)],
+    changes: &[(&'static str, &'static str)],
     text: &str,
 ) -> Result<(), Fail> {
     let refused = refusal(alloc, changes)?.ok_or("it is converted")?;

@@ -20,7 +20,8 @@ impl StorageTransformerChain {
         alloc: Global,
         transformers: &[MetadataV3],
     ) -> Result<StorageTransformerChain, PluginCreateError>
-        ensures read { IfOk result (λ _. transformers_said (map extension_view transformers.now) ≡ Some tt) }
+        ensures read { IfOk result (λ _. transformers_said (map extension_view transformers.now)
+            ≡ Some tt) }
         ensures refused { IfErr result (RefusesMeaning
             (transformers_said (map extension_view transformers.now))) }
     {
