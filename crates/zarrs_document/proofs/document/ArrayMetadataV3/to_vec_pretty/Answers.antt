@@ -1,0 +1,12 @@
+use Rattle.std.proofs.Common.{◌≡◌, ◌≤◌, Some, subst}
+use Rattle.serde_json.specs.Data.{Data, depth}
+use Rattle.serde_json.specs.Read.{read, max_depth}
+use Rattle.zarrs_document.specs.View.{document_view}
+use Rattle.zarrs_document.proofs.TextLaws.{written_text}
+use Rattle.zarrs_document.proofs.document.ArrayMetadataV3.to_vec_pretty.Goals as goal
+
+pub returns : goal.returns
+returns c =
+    let m = document_view c.args.self.now in
+    written_text m c.in_ok-bytes.bytes.items c.in_ok-bytes.ensures.utf8
+    (subst (λ (d : Data). depth d ≤ max_depth → read c.in_ok-bytes.bytes.items ≡ Some d) c.in_ok-value.ensures.written c.in_ok-bytes.ensures.reads_back)

@@ -1,0 +1,5 @@
+pub mod Members
+pub mod Fields
+pub mod Document
+pub mod View
+pub mod Refusals

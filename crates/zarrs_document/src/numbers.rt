@@ -1,0 +1,43 @@
+//! Left-out numbers: those that are not an integer of 64 bits.
+ghost use Rattle.std.specs.Prelude.{◌≡◌};
+ghost use Rattle.serde_json.specs.View.{view, items_view, members_view};
+ghost use Rattle.serde_json.specs.Written.{has_float, items_have_float, members_have_float};
+
+use serde_json::{Map, Value};
+
+/// Returns whether the value holds a number that is not an integer of 64 bits, at any depth.
+#[cycle(numbers)]
+pub fn holds_float(value: &Value) -> bool
+    ensures { result ≡ has_float (view value.now) }
+{
+    match value {
+        Value::Number(number) => number.is_f64(),
+        Value::Array(items) => items_hold_float(items),
+        Value::Object(members) => members_hold_float(members),
+        _ => false,
+    }
+}
+
+#[cycle(numbers)]
+fn items_hold_float(items: &Vec<Value>) -> bool
+    ensures { result ≡ items_have_float (items_view items.now.items) }
+{
+    for item in items {
+        if holds_float(item) {
+            return true;
+        }
+    }
+    false
+}
+
+#[cycle(numbers)]
+fn members_hold_float(members: &Map<String, Value>) -> bool
+    ensures { result ≡ members_have_float (members_view members.now.entries) }
+{
+    for (_name, member) in members.iter() {
+        if holds_float(member) {
+            return true;
+        }
+    }
+    false
+}

@@ -1,0 +1,5 @@
+//! Tests of `zarrs_document`.
+#![tactic(auto)]
+
+#[cfg(test)]
+mod tests;

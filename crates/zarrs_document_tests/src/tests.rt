@@ -1,0 +1,436 @@
+//! V3 documents as other programs write them, each public call with ample memory, and the shapes
+//! that are refused.
+use serde_json::{Map, Value, json};
+use std::alloc::{AllocError, Global};
+use std::process::Abort;
+use std::test::Fail;
+use zarrs_document::{
+    AdditionalFieldV3, AdditionalFieldsV3, ArrayMetadataV3, holds_float, members,
+};
+use zarrs_metadata::{MetadataError, MetadataV3};
+
+/// The smallest document.
+const SMALL: &str = concat!(
+    "{\"chunk_grid\":{\"configuration\":{\"chunk_shape\":[4]},\"name\":\"regular\"},",
+    "\"chunk_key_encoding\":{\"configuration\":{\"separator\":\"/\"},\"name\":\"default\"},",
+    "\"codecs\":[\"packbits\"],\"data_type\":\"bool\",\"fill_value\":false,",
+    "\"node_type\":\"array\",\"shape\":[8],\"zarr_format\":3}"
+);
+
+fn read(alloc: Global, text: &str) -> Result<ArrayMetadataV3, Fail> {
+    Ok(ArrayMetadataV3::from_slice(alloc, text.as_bytes())?)
+}
+
+fn must_write(
+    rt: &impl Abort,
+    alloc: Global,
+    document: &ArrayMetadataV3,
+    text: &str,
+) -> Result<(), Fail> {
+    let written = document.to_value(alloc)?.to_string(alloc)?;
+    assert_eq!(rt; written.as_str(), text);
+    Ok(())
+}
+
+/// What is stored for the document is read again as the same document.
+fn must_read_again(rt: &impl Abort, alloc: Global, document: &ArrayMetadataV3) -> Result<(), Fail> {
+    let bytes = document.to_vec_pretty(alloc)?;
+    let again = ArrayMetadataV3::from_slice(alloc, bytes.as_slice())?;
+    let written = document.to_value(alloc)?.to_string(alloc)?;
+    must_write(rt, alloc, &again, written.as_str())
+}
+
+fn must_read_as(rt: &impl Abort, alloc: Global, text: &str, written: &str) -> Result<(), Fail> {
+    let document = read(alloc, text)?;
+    must_write(rt, alloc, &document, written)?;
+    must_read_again(rt, alloc, &document)
+}
+
+fn must_refuse(rt: &impl Abort, alloc: Global, bytes: &[u8]) {
+    let refused = ArrayMetadataV3::from_slice(alloc, bytes);
+    assert!(rt; matches!(refused, Err(MetadataError::InvalidShape)));
+}
+
+/// The members of the smallest document.
+fn small(alloc: Global) -> Result<Map<String, Value>, Fail> {
+    Ok(members::object_of(Value::from_str(alloc, SMALL)?).ok_or("no object")?)
+}
+
+/// The smallest document with this member.
+fn changed(alloc: Global, name: &str, text: &str) -> Result<Value, Fail> {
+    let mut members = small(alloc)?;
+    serde_json::put(&mut members, alloc, name, Value::from_str(alloc, text)?)?;
+    Ok(Value::Object(members))
+}
+
+fn must_refuse_member(rt: &impl Abort, alloc: Global, name: &str, text: &str) -> Result<(), Fail> {
+    let refused = ArrayMetadataV3::from_value(alloc, changed(alloc, name, text)?);
+    assert!(rt;
+        matches!(refused, Err(MetadataError::InvalidShape)),
+        "{name} {text}"
+    );
+    Ok(())
+}
+
+fn must_refuse_without(rt: &impl Abort, alloc: Global, name: &str) -> Result<(), Fail> {
+    let mut members = small(alloc)?;
+    assert!(rt; members::take_member(&mut members, name).is_some());
+    let refused = ArrayMetadataV3::from_value(alloc, Value::Object(members));
+    assert!(rt;
+        matches!(refused, Err(MetadataError::InvalidShape)),
+        "{name}"
+    );
+    Ok(())
+}
+
+#[test]
+fn the_example_of_the_core_specification(rt: HostRuntime) -> Result<(), Fail> {
+    let text = r#"{
+        "zarr_format": 3,
+        "node_type": "array",
+        "shape": [10000, 1000],
+        "dimension_names": ["rows", "columns"],
+        "data_type": "float64",
+        "chunk_grid": {
+            "name": "regular",
+            "configuration": {
+                "chunk_shape": [1000, 100]
+            }
+        },
+        "chunk_key_encoding": {
+            "name": "default",
+            "configuration": {
+                "separator": "/"
+            }
+        },
+        "codecs": [{
+            "name": "bytes",
+            "configuration": {
+                "endian": "little"
+            }
+        }],
+        "fill_value": "NaN",
+        "attributes": {
+            "foo": 42,
+            "bar": "apples",
+            "baz": [1, 2, 3, 4]
+        }
+    }"#;
+    let written = concat!(
+        "{\"attributes\":{\"bar\":\"apples\",\"baz\":[1,2,3,4],\"foo\":42},",
+        "\"chunk_grid\":{\"configuration\":{\"chunk_shape\":[1000,100]},\"name\":\"regular\"},",
+        "\"chunk_key_encoding\":{\"configuration\":{\"separator\":\"/\"},\"name\":\"default\"},",
+        "\"codecs\":[{\"configuration\":{\"endian\":\"little\"},\"name\":\"bytes\"}],",
+        "\"data_type\":\"float64\",\"dimension_names\":[\"rows\",\"columns\"],",
+        "\"fill_value\":\"NaN\",\"node_type\":\"array\",\"shape\":[10000,1000],\"zarr_format\":3}"
+    );
+    must_read_as(&rt, rt.alloc(), text, written)
+}
+
+fn must_have_members(rt: &impl Abort, document: &ArrayMetadataV3) {
+    assert!(rt; document.shape.as_slice() == [8].as_slice());
+    assert_eq!(rt; document.data_type.name(), "bool");
+    assert_eq!(rt; document.chunk_grid.name(), "regular");
+    assert_eq!(rt; document.chunk_key_encoding.name(), "default");
+    assert!(rt; matches!(document.fill_value, Value::Bool(false)));
+    assert_eq!(rt; document.codecs.len(), 1);
+}
+
+fn must_lack_the_rest(rt: &impl Abort, document: &ArrayMetadataV3) {
+    assert!(rt; document.attributes.is_empty());
+    assert!(rt; document.storage_transformers.is_empty());
+    assert!(rt; document.dimension_names.is_none());
+    assert!(rt; document.additional_fields.is_empty());
+}
+
+#[test]
+fn members_that_may_be_absent(rt: HostRuntime) -> Result<(), Fail> {
+    let alloc = rt.alloc();
+    let document = read(alloc, SMALL)?;
+    must_have_members(&rt, &document);
+    must_lack_the_rest(&rt, &document);
+    must_read_as(&rt, alloc, SMALL, SMALL)?;
+    for (name, text) in [
+        ("attributes", "{}"),
+        ("storage_transformers", "[]"),
+        ("dimension_names", "null"),
+    ] {
+        let document = ArrayMetadataV3::from_value(alloc, changed(alloc, name, text)?)?;
+        must_write(&rt, alloc, &document, SMALL)?;
+    }
+    Ok(())
+}
+
+#[test]
+fn members_of_another_shape(rt: HostRuntime) -> Result<(), Fail> {
+    let alloc = rt.alloc();
+    for (name, text) in [
+        ("zarr_format", "2"),
+        ("zarr_format", "\"3\""),
+        ("node_type", "\"group\""),
+        ("node_type", "null"),
+        ("shape", "8"),
+        ("shape", "[-1]"),
+        ("shape", "[18446744073709551616]"),
+        ("data_type", "null"),
+        ("data_type", "{\"name\":\"bool\",\"size\":1}"),
+        ("chunk_grid", "[]"),
+        ("chunk_key_encoding", "7"),
+        ("codecs", "\"bytes\""),
+        ("codecs", "[7]"),
+        ("attributes", "[]"),
+        ("attributes", "{\"a\":1e2}"),
+        ("storage_transformers", "{}"),
+        ("dimension_names", "[7]"),
+        ("dimension_names", "\"x\""),
+        ("fill_value", "1.5"),
+        ("proj", "[{\"a\":-0.5}]"),
+    ] {
+        must_refuse_member(&rt, alloc, name, text)?;
+    }
+    Ok(())
+}
+
+#[test]
+fn members_that_are_missing(rt: HostRuntime) -> Result<(), Fail> {
+    let alloc = rt.alloc();
+    for name in [
+        "zarr_format",
+        "node_type",
+        "shape",
+        "data_type",
+        "chunk_grid",
+        "chunk_key_encoding",
+        "fill_value",
+        "codecs",
+    ] {
+        must_refuse_without(&rt, alloc, name)?;
+    }
+    Ok(())
+}
+
+/// A document whose attributes hold so many lists, one in the other.
+fn nested(alloc: Global, count: usize) -> Result<String, AllocError> {
+    let mut text = String::from_str(alloc, "{\"attributes\":{\"a\":")?;
+    for _ in 0..count {
+        text.push('[')?;
+    }
+    for _ in 0..count {
+        text.push(']')?;
+    }
+    text.push_str("},")?;
+    text.push_str(SMALL.strip_prefix("{").unwrap_or(""))?;
+    Ok(text)
+}
+
+#[test]
+fn bytes_that_are_no_document(rt: HostRuntime) -> Result<(), Fail> {
+    let alloc = rt.alloc();
+    for bytes in ["", "{", "[]", "null", "{}", "\"array\"", "{} {}"] {
+        must_refuse(&rt, alloc, bytes.as_bytes());
+    }
+    must_refuse(&rt, alloc, &[0x22, 0xff, 0x22]);
+    let deepest = read(alloc, nested(alloc, 125)?.as_str())?;
+    must_read_again(&rt, alloc, &deepest)?;
+    must_refuse(&rt, alloc, nested(alloc, 126)?.as_bytes());
+    Ok(())
+}
+
+#[test]
+fn names_of_dimensions(rt: HostRuntime) -> Result<(), Fail> {
+    let alloc = rt.alloc();
+    let value = changed(alloc, "dimension_names", "[null,\"x\",\"\"]")?;
+    let document = ArrayMetadataV3::from_value(alloc, value)?;
+    let written = concat!(
+        "{\"chunk_grid\":{\"configuration\":{\"chunk_shape\":[4]},\"name\":\"regular\"},",
+        "\"chunk_key_encoding\":{\"configuration\":{\"separator\":\"/\"},\"name\":\"default\"},",
+        "\"codecs\":[\"packbits\"],\"data_type\":\"bool\",\"dimension_names\":[null,\"x\",\"\"],",
+        "\"fill_value\":false,\"node_type\":\"array\",\"shape\":[8],\"zarr_format\":3}"
+    );
+    must_write(&rt, alloc, &document, written)?;
+    must_read_again(&rt, alloc, &document)
+}
+
+#[test]
+fn extensions_in_their_shortest_form(rt: HostRuntime) -> Result<(), Fail> {
+    let alloc = rt.alloc();
+    for text in [
+        "[{\"name\":\"packbits\"}]",
+        "[{\"configuration\":{},\"name\":\"packbits\"}]",
+        "[{\"must_understand\":true,\"name\":\"packbits\"}]",
+    ] {
+        let document = ArrayMetadataV3::from_value(alloc, changed(alloc, "codecs", text)?)?;
+        must_write(&rt, alloc, &document, SMALL)?;
+    }
+    Ok(())
+}
+
+fn must_be_field(
+    rt: &impl Abort,
+    alloc: Global,
+    field: &AdditionalFieldV3,
+    must_understand: bool,
+    value: &str,
+    written: &str,
+) -> Result<(), Fail> {
+    assert_eq!(rt; field.must_understand(), must_understand);
+    assert_eq!(rt; field.as_value().to_string(alloc)?.as_str(), value);
+    assert_eq!(rt; field.to_value(alloc)?.to_string(alloc)?.as_str(), written);
+    Ok(())
+}
+
+#[test]
+fn fields_that_need_not_be_understood(rt: HostRuntime) -> Result<(), Fail> {
+    let alloc = rt.alloc();
+    for (text, must_understand, value) in [
+        ("{\"a\":1,\"must_understand\":false}", false, "{\"a\":1}"),
+        ("{\"must_understand\":false}", false, "{}"),
+        (
+            "{\"must_understand\":true}",
+            true,
+            "{\"must_understand\":true}",
+        ),
+        ("{\"must_understand\":0}", true, "{\"must_understand\":0}"),
+        (
+            "{\"a\":{\"must_understand\":false}}",
+            true,
+            "{\"a\":{\"must_understand\":false}}",
+        ),
+        ("false", true, "false"),
+        ("[]", true, "[]"),
+    ] {
+        let field = AdditionalFieldV3::from_value(Value::from_str(alloc, text)?);
+        must_be_field(&rt, alloc, &field, must_understand, value, text)?;
+        must_be_field(&rt, alloc, &field.clone()?, must_understand, value, text)?;
+    }
+    let number = AdditionalFieldV3::new(Value::from(7u64), false);
+    must_be_field(&rt, alloc, &number, false, "7", "7")
+}
+
+fn must_have_fields(rt: &impl Abort, document: &ArrayMetadataV3) {
+    assert_eq!(rt; document.additional_fields.len(), 2);
+    let proj = document.additional_fields.get("proj");
+    assert!(rt; proj.is_some_and(|field| !field.must_understand()));
+    let version = document.additional_fields.get("version");
+    assert!(rt; version.is_some_and(|field| field.must_understand()));
+}
+
+#[test]
+fn additional_fields_of_a_document(rt: HostRuntime) -> Result<(), Fail> {
+    let alloc = rt.alloc();
+    let mut members = small(alloc)?;
+    let proj = json!(in alloc; {"code": "EPSG:4326", "must_understand": false})?;
+    serde_json::put(&mut members, alloc, "proj", proj)?;
+    serde_json::put(&mut members, alloc, "version", Value::from(7u64))?;
+    let document = ArrayMetadataV3::from_value(alloc, Value::Object(members))?;
+    must_have_fields(&rt, &document);
+    let written = concat!(
+        "{\"chunk_grid\":{\"configuration\":{\"chunk_shape\":[4]},\"name\":\"regular\"},",
+        "\"chunk_key_encoding\":{\"configuration\":{\"separator\":\"/\"},\"name\":\"default\"},",
+        "\"codecs\":[\"packbits\"],\"data_type\":\"bool\",\"fill_value\":false,",
+        "\"node_type\":\"array\",\"proj\":{\"code\":\"EPSG:4326\",\"must_understand\":false},",
+        "\"shape\":[8],\"version\":7,\"zarr_format\":3}"
+    );
+    must_write(&rt, alloc, &document, written)?;
+    must_read_again(&rt, alloc, &document)
+}
+
+fn named(alloc: Global, name: &str) -> Result<MetadataV3, AllocError> {
+    Ok(MetadataV3::new(String::from_str(alloc, name)?))
+}
+
+/// The smallest document, made of its parts.
+fn made(alloc: Global) -> Result<ArrayMetadataV3, Fail> {
+    let mut codecs = Vec::new(alloc);
+    codecs.push(named(alloc, "packbits")?)?;
+    let chunks = zarrs_metadata::numbers_value(alloc, &[4])?;
+    let grid = named(alloc, "regular")?.with_member(alloc, "chunk_shape", chunks)?;
+    let shape = [8].to_vec(alloc)?;
+    let kind = named(alloc, "bool")?;
+    Ok(ArrayMetadataV3::new(alloc, shape, grid, kind, Value::Bool(false), codecs)?)
+}
+
+#[test]
+fn documents_made_of_their_parts(rt: HostRuntime) -> Result<(), Fail> {
+    let alloc = rt.alloc();
+    let document = made(alloc)?;
+    must_write(&rt, alloc, &document, SMALL)?;
+    must_lack_the_rest(&rt, &document);
+    Ok(())
+}
+
+#[test]
+fn documents_with_more_parts(rt: HostRuntime) -> Result<(), Fail> {
+    let alloc = rt.alloc();
+    let mut attributes = Map::new(alloc);
+    serde_json::put(
+        &mut attributes,
+        alloc,
+        "unit",
+        Value::try_from_str(alloc, "m")?,
+    )?;
+    let mut transformers = Vec::new(alloc);
+    transformers.push(named(alloc, "indirect")?)?;
+    let names = vec![in alloc; Some(String::from_str(alloc, "x")?)]?;
+    let mut fields: AdditionalFieldsV3 = Map::new(alloc);
+    let version = AdditionalFieldV3::new(Value::from(7u64), true);
+    drop(fields.insert(String::from_str(alloc, "version")?, version)?);
+    let shadowed = AdditionalFieldV3::new(Value::Null, true);
+    drop(fields.insert(String::from_str(alloc, "codecs")?, shadowed)?);
+    let document = made(alloc)?
+        .with_attributes(attributes)
+        .with_storage_transformers(transformers)
+        .with_dimension_names(Some(names))
+        .with_additional_fields(fields)
+        .with_chunk_key_encoding(named(alloc, "v2")?);
+    let written = concat!(
+        "{\"attributes\":{\"unit\":\"m\"},\"chunk_grid\":{\"configuration\":",
+        "{\"chunk_shape\":[4]},\"name\":\"regular\"},\"chunk_key_encoding\":\"v2\",",
+        "\"codecs\":[\"packbits\"],\"data_type\":\"bool\",\"dimension_names\":[\"x\"],",
+        "\"fill_value\":false,\"node_type\":\"array\",\"shape\":[8],",
+        "\"storage_transformers\":[\"indirect\"],\"version\":7,\"zarr_format\":3}"
+    );
+    must_write(&rt, alloc, &document, written)?;
+    must_read_again(&rt, alloc, &document)
+}
+
+#[test]
+fn copies(rt: HostRuntime) -> Result<(), Fail> {
+    let alloc = rt.alloc();
+    let mut members = small(alloc)?;
+    let names = Value::from_str(alloc, "[null,\"x\"]")?;
+    serde_json::put(&mut members, alloc, "dimension_names", names)?;
+    serde_json::put(&mut members, alloc, "version", Value::from(7u64))?;
+    let document = ArrayMetadataV3::from_value(alloc, Value::Object(members))?;
+    let written = document.to_value(alloc)?.to_string(alloc)?;
+    must_write(&rt, alloc, &document.try_clone(alloc)?, written.as_str())
+}
+
+fn must_hold(rt: &impl Abort, alloc: Global, text: &str, float: bool) -> Result<(), Fail> {
+    let value = Value::from_str(alloc, text)?;
+    assert_eq!(rt; holds_float(&value), float, "{text}");
+    Ok(())
+}
+
+#[test]
+fn numbers_that_are_left_out(rt: HostRuntime) -> Result<(), Fail> {
+    let alloc = rt.alloc();
+    for text in [
+        "1.0",
+        "1e2",
+        "-0",
+        "[{\"a\":[0.5]}]",
+        "18446744073709551616",
+    ] {
+        must_hold(&rt, alloc, text, true)?;
+    }
+    for text in [
+        "null",
+        "\"1.0\"",
+        "18446744073709551615",
+        "[-9223372036854775808]",
+    ] {
+        must_hold(&rt, alloc, text, false)?;
+    }
+    Ok(())
+}

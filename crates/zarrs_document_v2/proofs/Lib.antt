@@ -1,0 +1,4 @@
+pub mod DocumentLaws
+pub mod TextLaws
+pub mod FilterLemmas
+pub mod ConversionLaws

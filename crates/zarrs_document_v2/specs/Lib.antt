@@ -1,0 +1,4 @@
+pub mod Document
+pub mod Conversion
+pub mod View
+pub mod Refusals

@@ -1,0 +1,190 @@
+//! The data types of V2 that have a V3 name, and their fill values.
+ghost use Rattle.std.specs.Prelude.{◌≡◌, ℕ, ℤ, pos, negsuc, option_map, Some, IfOk};
+ghost use Rattle.serde_json.specs.View.{view};
+ghost use Rattle.zarrs_document_v2.specs.Conversion.{wide_kind, narrow_kind, type_v2, kind_name, is_text_kind, bool_fill, is_number_within, is_up_to, number_fill, text_fill, fill_v3};
+
+use serde_json::Value;
+use std::alloc::{AllocError, Global};
+
+/// What the cells of a data type are.
+#[derive(Clone, Copy, Debug, Drop, PartialEq, Eq)]
+pub(crate) enum KindV2 {
+    Bool,
+    Int8,
+    Int16,
+    Int32,
+    Int64,
+    Uint8,
+    Uint16,
+    Uint32,
+    Uint64,
+    Text,
+}
+
+/// The order of the bytes of a number.
+#[derive(Clone, Copy, Debug, Drop, PartialEq, Eq)]
+pub(crate) enum EndianV2 {
+    Little,
+    Big,
+}
+
+/// A data type: the kind of its cells, and the order of their bytes where there is one.
+#[derive(Clone, Copy, Debug, Drop, PartialEq, Eq)]
+pub(crate) struct TypeV2 {
+    pub(crate) kind: KindV2,
+    pub(crate) endian: Option<EndianV2>,
+}
+
+fn wide_kind(text: &[u8]) -> Option<KindV2>
+    ensures { result ≡ wide_kind text.now }
+{
+    match text {
+        b"i2" => Some(KindV2::Int16),
+        b"i4" => Some(KindV2::Int32),
+        b"i8" => Some(KindV2::Int64),
+        b"u2" => Some(KindV2::Uint16),
+        b"u4" => Some(KindV2::Uint32),
+        b"u8" => Some(KindV2::Uint64),
+        _ => None,
+    }
+}
+
+fn narrow_kind(text: &[u8]) -> Option<KindV2>
+    ensures { result ≡ narrow_kind text.now }
+{
+    match text {
+        b"b1" => Some(KindV2::Bool),
+        b"i1" => Some(KindV2::Int8),
+        b"u1" => Some(KindV2::Uint8),
+        b"O" => Some(KindV2::Text),
+        _ => None,
+    }
+}
+
+impl TypeV2 {
+    /// Returns the type that a text such as `<i4` names.
+    pub(crate) fn from_text(text: &str) -> Option<TypeV2>
+        ensures { result ≡ type_v2 text.now }
+    {
+        let (kind, endian) = match text.as_bytes() {
+            [b'<', rest @ ..] => (wide_kind(rest)?, Some(EndianV2::Little)),
+            [b'>', rest @ ..] => (wide_kind(rest)?, Some(EndianV2::Big)),
+            [b'|', rest @ ..] => (narrow_kind(rest)?, None),
+            _ => return None,
+        };
+        Some(TypeV2 { kind, endian })
+    }
+}
+
+impl KindV2 {
+    /// Returns the V3 name of the type.
+    pub(crate) fn name(self) -> &'static str
+        ensures { result.now ≡ kind_name self }
+    {
+        match self {
+            KindV2::Bool => "bool",
+            KindV2::Int8 => "int8",
+            KindV2::Int16 => "int16",
+            KindV2::Int32 => "int32",
+            KindV2::Int64 => "int64",
+            KindV2::Uint8 => "uint8",
+            KindV2::Uint16 => "uint16",
+            KindV2::Uint32 => "uint32",
+            KindV2::Uint64 => "uint64",
+            KindV2::Text => "string",
+        }
+    }
+
+    /// Returns whether the cells are texts.
+    pub(crate) fn is_text(self) -> bool
+        ensures { result ≡ is_text_kind self }
+    {
+        matches!(self, KindV2::Text)
+    }
+
+    /// Returns the fill value of V3 for this one, or `None` for a value that is not of the type.
+    pub(crate) fn fill_value(
+        self,
+        alloc: Global,
+        value: &Value,
+    ) -> Result<Option<Value>, AllocError>
+        ensures { IfOk result (λ o. option_map view o ≡ fill_v3 self (view value.now)) }
+    {
+        match self {
+            KindV2::Bool => Ok(bool_fill(value)),
+            KindV2::Int8 => Ok(signed_fill(value, -128, 127)),
+            KindV2::Int16 => Ok(signed_fill(value, -32768, 32767)),
+            KindV2::Int32 => Ok(signed_fill(value, -2147483648, 2147483647)),
+            KindV2::Int64 => Ok(signed_fill(value, -9223372036854775808, 9223372036854775807)),
+            KindV2::Uint8 => Ok(unsigned_fill(value, 255)),
+            KindV2::Uint16 => Ok(unsigned_fill(value, 65535)),
+            KindV2::Uint32 => Ok(unsigned_fill(value, 4294967295)),
+            KindV2::Uint64 => Ok(unsigned_fill(value, 18446744073709551615)),
+            KindV2::Text => text_fill(alloc, value),
+        }
+    }
+}
+
+fn bool_fill(value: &Value) -> Option<Value>
+    ensures { option_map view result ≡ bool_fill (view value.now) }
+{
+    match value {
+        Value::Null => Some(Value::Bool(false)),
+        Value::Bool(flag) => Some(Value::Bool(*flag)),
+        Value::Number(number) => match number.as_u64()? {
+            0 => Some(Value::Bool(false)),
+            1 => Some(Value::Bool(true)),
+            _ => None,
+        },
+        _ => None,
+    }
+}
+
+fn is_number_within(value: &Value, low: i64, high: i64) -> bool
+    ensures { result ≡ is_number_within low high (view value.now) }
+{
+    match value.as_i64() {
+        Some(number) => low <= number && number <= high,
+        None => false,
+    }
+}
+
+fn is_up_to(value: &Value, high: u64) -> bool
+    ensures { result ≡ is_up_to high (view value.now) }
+{
+    match value.as_u64() {
+        Some(number) => number <= high,
+        None => false,
+    }
+}
+
+fn signed_fill(value: &Value, low: i64, high: i64) -> Option<Value>
+    ensures { option_map view result ≡ number_fill (is_number_within low high) (view value.now) }
+{
+    match value {
+        Value::Null => Some(Value::from(0u64)),
+        Value::Number(number) if is_number_within(value, low, high) => Some(Value::Number(*number)),
+        _ => None,
+    }
+}
+
+fn unsigned_fill(value: &Value, high: u64) -> Option<Value>
+    ensures { option_map view result ≡ number_fill (is_up_to high) (view value.now) }
+{
+    match value {
+        Value::Null => Some(Value::from(0u64)),
+        Value::Number(number) if is_up_to(value, high) => Some(Value::Number(*number)),
+        _ => None,
+    }
+}
+
+fn text_fill(alloc: Global, value: &Value) -> Result<Option<Value>, AllocError>
+    ensures { IfOk result (λ o. option_map view o ≡ text_fill (view value.now)) }
+{
+    match value {
+        Value::Null => Ok(Some(Value::String(String::new(alloc)))),
+        Value::String(text) => Ok(Some(Value::String(text.clone()?))),
+        Value::Number(_) if is_up_to(value, 0) => Ok(Some(Value::String(String::new(alloc)))),
+        _ => Ok(None),
+    }
+}

@@ -1,0 +1,5 @@
+//! Tests of `zarrs_document_v2`.
+#![tactic(auto)]
+
+#[cfg(test)]
+mod tests;

@@ -1,0 +1,587 @@
+//! V2 documents as other programs write them, their conversion, each public call with ample memory,
+//! and the shapes that are refused.
+use serde_json::{Map, Value, json};
+use std::alloc::{AllocError, Global};
+use std::num::NonZeroU64;
+use std::process::Abort;
+use std::test::Fail;
+use zarrs_document::{ArrayMetadataV3, members};
+use zarrs_document_v2::{
+    ArrayMetadata, ArrayMetadataV2, ArrayMetadataV2Order, ArrayMetadataV2ToV3Error,
+    array_metadata_v2_to_v3, attributes_from_slice,
+};
+use zarrs_metadata::{ChunkKeySeparator, MetadataError};
+
+/// What zarr-python writes for a small array without a compressor.
+const PYTHON: &str = r#"{
+    "chunks": [
+        2,
+        2
+    ],
+    "compressor": null,
+    "dtype": "<u2",
+    "fill_value": 0,
+    "filters": null,
+    "order": "C",
+    "shape": [
+        4,
+        2
+    ],
+    "zarr_format": 2
+}"#;
+
+const WRITTEN: &str = concat!(
+    "{\"chunks\":[2,2],\"compressor\":null,\"dimension_separator\":\".\",\"dtype\":\"<u2\",",
+    "\"fill_value\":0,\"filters\":null,\"order\":\"C\",\"shape\":[4,2],\"zarr_format\":2}"
+);
+
+fn read(alloc: Global, text: &str) -> Result<ArrayMetadataV2, Fail> {
+    Ok(ArrayMetadataV2::from_slice(alloc, text.as_bytes())?)
+}
+
+fn must_write(
+    rt: &impl Abort,
+    alloc: Global,
+    document: &ArrayMetadataV2,
+    text: &str,
+) -> Result<(), Fail> {
+    let written = document.to_value(alloc)?.to_string(alloc)?;
+    assert_eq!(rt; written.as_str(), text);
+    Ok(())
+}
+
+/// The bytes of `.zarray` and of `.zattrs` are read again as the same document.
+fn must_read_again(rt: &impl Abort, alloc: Global, document: &ArrayMetadataV2) -> Result<(), Fail> {
+    let bytes = document.to_vec_pretty(alloc)?;
+    let again = ArrayMetadataV2::from_slice(alloc, bytes.as_slice())?;
+    assert!(rt; again.attributes.is_empty());
+    let bytes = document.attributes_to_vec_pretty(alloc)?;
+    let attributes = attributes_from_slice(alloc, bytes.as_slice())?;
+    let again = again.with_attributes(attributes);
+    let written = document.to_value(alloc)?.to_string(alloc)?;
+    must_write(rt, alloc, &again, written.as_str())
+}
+
+/// The members of the small array.
+fn small(alloc: Global) -> Result<Map<String, Value>, Fail> {
+    Ok(members::object_of(Value::from_str(alloc, PYTHON)?).ok_or("no object")?)
+}
+
+/// The small array with this member.
+fn changed(alloc: Global, name: &str, text: &str) -> Result<Value, Fail> {
+    let mut members = small(alloc)?;
+    serde_json::put(&mut members, alloc, name, Value::from_str(alloc, text)?)?;
+    Ok(Value::Object(members))
+}
+
+/// The small array with these members in place of its own.
+fn with_members(
+    alloc: Global,
+    changes: &[(&'static str, &'static str)],
+) -> Result<ArrayMetadataV2, Fail> {
+    let mut members = small(alloc)?;
+    for (name, text) in changes {
+        serde_json::put(&mut members, alloc, name, Value::from_str(alloc, text)?)?;
+    }
+    Ok(ArrayMetadataV2::from_value(alloc, Value::Object(members))?)
+}
+
+fn must_be_small(rt: &impl Abort, document: &ArrayMetadataV2) {
+    assert!(rt; document.shape.as_slice() == [4, 2].as_slice());
+    assert_eq!(rt; document.chunks.len(), 2);
+    assert_eq!(rt; document.dtype.as_str(), "<u2");
+    assert!(rt; document.compressor.is_null());
+    assert!(rt; document.filters.is_null());
+    assert!(rt; document.order == ArrayMetadataV2Order::C);
+    assert!(rt; document.dimension_separator == ChunkKeySeparator::Dot);
+    assert!(rt; document.attributes.is_empty());
+}
+
+#[test]
+fn an_array_of_zarr_python(rt: HostRuntime) -> Result<(), Fail> {
+    let alloc = rt.alloc();
+    let document = read(alloc, PYTHON)?;
+    must_be_small(&rt, &document);
+    must_write(&rt, alloc, &document, WRITTEN)?;
+    must_read_again(&rt, alloc, &document)?;
+    must_write(&rt, alloc, &document.try_clone(alloc)?, WRITTEN)
+}
+
+#[test]
+fn attributes_and_other_members(rt: HostRuntime) -> Result<(), Fail> {
+    let alloc = rt.alloc();
+    let document = with_members(
+        alloc,
+        &[
+            ("attributes", "{\"a\":1}"),
+            ("dimension_separator", "\"/\""),
+            ("order", "\"F\""),
+            ("consolidated", "true"),
+        ],
+    )?;
+    let written = concat!(
+        "{\"attributes\":{\"a\":1},\"chunks\":[2,2],\"compressor\":null,",
+        "\"dimension_separator\":\"/\",\"dtype\":\"<u2\",\"fill_value\":0,\"filters\":null,",
+        "\"order\":\"F\",\"shape\":[4,2],\"zarr_format\":2}"
+    );
+    must_write(&rt, alloc, &document, written)?;
+    must_read_again(&rt, alloc, &document)
+}
+
+fn must_refuse_value(rt: &impl Abort, alloc: Global, value: Value, name: &str) {
+    let refused = ArrayMetadataV2::from_value(alloc, value);
+    assert!(rt;
+        matches!(refused, Err(MetadataError::InvalidShape)),
+        "{name}"
+    );
+}
+
+#[test]
+fn members_of_another_shape(rt: HostRuntime) -> Result<(), Fail> {
+    let alloc = rt.alloc();
+    for (name, text) in [
+        ("zarr_format", "3"),
+        ("shape", "[-1]"),
+        ("chunks", "[2,0]"),
+        ("chunks", "2"),
+        ("dtype", "7"),
+        ("order", "\"A\""),
+        ("order", "null"),
+        ("dimension_separator", "\"-\""),
+        ("attributes", "[]"),
+        ("fill_value", "0.5"),
+        ("consolidated", "[1e2]"),
+    ] {
+        must_refuse_value(&rt, alloc, changed(alloc, name, text)?, name);
+    }
+    Ok(())
+}
+
+fn without(alloc: Global, name: &str) -> Result<Value, Fail> {
+    let mut members = small(alloc)?;
+    drop(members::take_member(&mut members, name));
+    Ok(Value::Object(members))
+}
+
+#[test]
+fn members_that_are_missing(rt: HostRuntime) -> Result<(), Fail> {
+    let alloc = rt.alloc();
+    for name in [
+        "zarr_format",
+        "shape",
+        "chunks",
+        "dtype",
+        "compressor",
+        "fill_value",
+        "order",
+        "filters",
+    ] {
+        must_refuse_value(&rt, alloc, without(alloc, name)?, name);
+    }
+    Ok(())
+}
+
+fn must_refuse_bytes(rt: &impl Abort, alloc: Global, bytes: &[u8]) {
+    let document = ArrayMetadataV2::from_slice(alloc, bytes);
+    assert!(rt; matches!(document, Err(MetadataError::InvalidShape)));
+    let attributes = attributes_from_slice(alloc, bytes);
+    assert!(rt; matches!(attributes, Err(MetadataError::InvalidShape)));
+}
+
+#[test]
+fn bytes_that_are_no_object(rt: HostRuntime) {
+    let alloc = rt.alloc();
+    for text in ["", "{", "[]", "null", "{\"a\":1.5}", "\"a\""] {
+        must_refuse_bytes(&rt, alloc, text.as_bytes());
+    }
+    must_refuse_bytes(&rt, alloc, &[0x22, 0xff, 0x22]);
+}
+
+fn size(number: u64) -> Result<NonZeroU64, Fail> {
+    Ok(NonZeroU64::new(number).ok_or("a size is 0")?)
+}
+
+/// The small array, made of its parts.
+fn made(alloc: Global) -> Result<ArrayMetadataV2, Fail> {
+    let shape = [4, 2].to_vec(alloc)?;
+    let chunks = [size(2)?, size(2)?].to_vec(alloc)?;
+    let dtype = String::from_str(alloc, "<u2")?;
+    let zero = Value::from(0u64);
+    Ok(ArrayMetadataV2::new(shape, chunks, dtype, zero, Value::Null, Value::Null))
+}
+
+#[test]
+fn documents_made_of_their_parts(rt: HostRuntime) -> Result<(), Fail> {
+    let alloc = rt.alloc();
+    must_write(&rt, alloc, &made(alloc)?, WRITTEN)?;
+    let document = made(alloc)?
+        .with_order(ArrayMetadataV2Order::F)
+        .with_dimension_separator(ChunkKeySeparator::Slash);
+    let written = concat!(
+        "{\"chunks\":[2,2],\"compressor\":null,\"dimension_separator\":\"/\",\"dtype\":\"<u2\",",
+        "\"fill_value\":0,\"filters\":null,\"order\":\"F\",\"shape\":[4,2],\"zarr_format\":2}"
+    );
+    must_write(&rt, alloc, &document, written)
+}
+
+fn must_convert(
+    rt: &impl Abort,
+    alloc: Global,
+    document: &ArrayMetadataV2,
+    text: &str,
+) -> Result<(), Fail> {
+    let converted = array_metadata_v2_to_v3(alloc, document)?;
+    let written = converted.to_value(alloc)?.to_string(alloc)?;
+    assert_eq!(rt; written.as_str(), text);
+    Ok(())
+}
+
+#[test]
+fn order_f_becomes_a_transposition(rt: HostRuntime) -> Result<(), Fail> {
+    let alloc = rt.alloc();
+    let document = with_members(alloc, &[("shape", "[2,2]"), ("order", "\"F\"")])?;
+    let written = concat!(
+        "{\"chunk_grid\":{\"configuration\":{\"chunk_shape\":[2,2]},\"name\":\"regular\"},",
+        "\"chunk_key_encoding\":{\"configuration\":{\"separator\":\".\"},\"name\":\"v2\"},",
+        "\"codecs\":[{\"configuration\":{\"order\":[1,0]},\"name\":\"transpose\"},",
+        "{\"configuration\":{\"endian\":\"little\"},\"name\":\"bytes\"}],",
+        "\"data_type\":\"uint16\",\"fill_value\":0,\"node_type\":\"array\",\"shape\":[2,2],",
+        "\"zarr_format\":3}"
+    );
+    must_convert(&rt, alloc, &document, written)
+}
+
+#[test]
+fn a_foreign_array_is_converted(rt: HostRuntime) -> Result<(), Fail> {
+    let alloc = rt.alloc();
+    let document = with_members(
+        alloc,
+        &[
+            ("attributes", "{\"units\":\"m\"}"),
+            ("dimension_separator", "\"/\""),
+            ("dtype", "\">i8\""),
+            ("fill_value", "null"),
+            ("filters", "[]"),
+        ],
+    )?;
+    let written = concat!(
+        "{\"attributes\":{\"units\":\"m\"},",
+        "\"chunk_grid\":{\"configuration\":{\"chunk_shape\":[2,2]},\"name\":\"regular\"},",
+        "\"chunk_key_encoding\":{\"configuration\":{\"separator\":\"/\"},\"name\":\"v2\"},",
+        "\"codecs\":[{\"configuration\":{\"endian\":\"big\"},\"name\":\"bytes\"}],",
+        "\"data_type\":\"int64\",\"fill_value\":0,\"node_type\":\"array\",\"shape\":[4,2],",
+        "\"zarr_format\":3}"
+    );
+    must_convert(&rt, alloc, &document, written)
+}
+
+fn converted(
+    alloc: Global,
+    changes: &[(&'static str, &'static str)],
+) -> Result<ArrayMetadataV3, Fail> {
+    Ok(array_metadata_v2_to_v3(alloc, &with_members(alloc, changes)?)?)
+}
+
+fn must_have_type(
+    rt: &impl Abort,
+    alloc: Global,
+    document: &ArrayMetadataV3,
+    name: &str,
+    fill_value: &str,
+    codec: &str,
+) -> Result<(), Fail> {
+    assert_eq!(rt; document.data_type.name(), name);
+    assert_eq!(rt; document.fill_value.to_string(alloc)?.as_str(), fill_value);
+    assert_eq!(rt; document.codecs.len(), 1);
+    assert_eq!(rt;
+        document.codecs[0]
+            .to_value(alloc)?
+            .to_string(alloc)?
+            .as_str(),
+        codec
+    );
+    Ok(())
+}
+
+#[test]
+fn numbers_keep_their_fill_values(rt: HostRuntime) -> Result<(), Fail> {
+    let alloc = rt.alloc();
+    let little = "{\"configuration\":{\"endian\":\"little\"},\"name\":\"bytes\"}";
+    let big = "{\"configuration\":{\"endian\":\"big\"},\"name\":\"bytes\"}";
+    for (dtype, fill, name, codec) in [
+        ("\"|i1\"", "-128", "int8", "\"bytes\""),
+        ("\"|u1\"", "255", "uint8", "\"bytes\""),
+        ("\"<i2\"", "32767", "int16", little),
+        ("\">i2\"", "-32768", "int16", big),
+        ("\"<i4\"", "-2147483648", "int32", little),
+        ("\">i8\"", "-9223372036854775808", "int64", big),
+        ("\"<i8\"", "9223372036854775807", "int64", little),
+        ("\">u2\"", "65535", "uint16", big),
+        ("\"<u4\"", "4294967295", "uint32", little),
+        ("\"<u8\"", "18446744073709551615", "uint64", little),
+    ] {
+        let document = converted(alloc, &[("dtype", dtype), ("fill_value", fill)])?;
+        must_have_type(&rt, alloc, &document, name, fill, codec)?;
+    }
+    Ok(())
+}
+
+#[test]
+fn fill_values_of_other_kinds(rt: HostRuntime) -> Result<(), Fail> {
+    let alloc = rt.alloc();
+    for (fill, shown) in [
+        ("true", "true"),
+        ("false", "false"),
+        ("1", "true"),
+        ("0", "false"),
+        ("null", "false"),
+    ] {
+        let document = converted(alloc, &[("dtype", "\"|b1\""), ("fill_value", fill)])?;
+        must_have_type(&rt, alloc, &document, "bool", shown, "\"bytes\"")?;
+    }
+    let filters = ("filters", "[{\"id\":\"vlen-utf8\"}]");
+    for (fill, shown) in [
+        ("\"\"", "\"\""),
+        ("\"ab\"", "\"ab\""),
+        ("0", "\"\""),
+        ("null", "\"\""),
+    ] {
+        let document = converted(alloc, &[("dtype", "\"|O\""), ("fill_value", fill), filters])?;
+        must_have_type(&rt, alloc, &document, "string", shown, "\"vlen-utf8\"")?;
+    }
+    Ok(())
+}
+
+fn refusal(
+    alloc: Global,
+    changes: &[(&'static str, &'static str)],
+) -> Result<Option<ArrayMetadataV2ToV3Error>, Fail> {
+    Ok(array_metadata_v2_to_v3(alloc, &with_members(alloc, changes)?).err())
+}
+
+fn must_have_no_type(rt: &impl Abort, alloc: Global, dtype: &'static str) -> Result<(), Fail> {
+    let refused = refusal(
+        alloc,
+        &[
+            ("dtype", dtype),
+            ("fill_value", "\"a\""),
+            ("compressor", "{}"),
+        ],
+    )?;
+    let is_type = matches!(
+        refused,
+        Some(ArrayMetadataV2ToV3Error::UnsupportedDataType(_))
+    );
+    assert!(rt; is_type, "{dtype}");
+    Ok(())
+}
+
+#[test]
+fn data_types_without_a_v3_name(rt: HostRuntime) -> Result<(), Fail> {
+    let alloc = rt.alloc();
+    for dtype in [
+        "\"<f4\"",
+        "\"|i2\"",
+        "\"<i1\"",
+        "\">u1\"",
+        "\"<b1\"",
+        "\"i4\"",
+        "\"<i4 \"",
+        "\"|S5\"",
+        "\"<U2\"",
+        "\"<M8[ns]\"",
+        "\"O\"",
+        "\"<O\"",
+        "\"\"",
+        "\"|\"",
+    ] {
+        must_have_no_type(&rt, alloc, dtype)?;
+    }
+    Ok(())
+}
+
+fn must_have_no_fill(
+    rt: &impl Abort,
+    alloc: Global,
+    dtype: &'static str,
+    fill: &'static str,
+) -> Result<(), Fail> {
+    let refused = refusal(
+        alloc,
+        &[("dtype", dtype), ("fill_value", fill), ("compressor", "{}")],
+    )?;
+    let is_fill = matches!(
+        refused,
+        Some(ArrayMetadataV2ToV3Error::InvalidFillValueMetadata { .. })
+    );
+    assert!(rt; is_fill, "{dtype} {fill}");
+    Ok(())
+}
+
+#[test]
+fn fill_values_that_are_none_of_the_type(rt: HostRuntime) -> Result<(), Fail> {
+    let alloc = rt.alloc();
+    for (dtype, fill) in [
+        ("\"|b1\"", "2"),
+        ("\"|b1\"", "\"true\""),
+        ("\"|i1\"", "128"),
+        ("\"|i1\"", "-129"),
+        ("\"|u1\"", "256"),
+        ("\"|u1\"", "-1"),
+        ("\"<i2\"", "32768"),
+        ("\"<i8\"", "9223372036854775808"),
+        ("\"<u4\"", "4294967296"),
+        ("\"<i4\"", "true"),
+        ("\"<i4\"", "\"invalid\""),
+        ("\"<i4\"", "[0]"),
+        ("\"|O\"", "1"),
+        ("\"|O\"", "true"),
+    ] {
+        must_have_no_fill(&rt, alloc, dtype, fill)?;
+    }
+    Ok(())
+}
+
+fn must_have_no_codecs(
+    rt: &impl Abort,
+    alloc: Global,
+    changes: &[(&'static str, &'static str)],
+) -> Result<(), Fail> {
+    let refused = refusal(alloc, changes)?;
+    let is_codec = matches!(
+        refused,
+        Some(ArrayMetadataV2ToV3Error::UnsupportedZarrV2Array(_))
+    );
+    assert!(rt; is_codec);
+    Ok(())
+}
+
+#[test]
+fn compressors_and_filters_without_a_codec(rt: HostRuntime) -> Result<(), Fail> {
+    let alloc = rt.alloc();
+    let text = ("dtype", "\"|O\"");
+    let fill = ("fill_value", "null");
+    must_have_no_codecs(
+        &rt,
+        alloc,
+        &[("compressor", "{\"id\":\"zlib\",\"level\":1}")],
+    )?;
+    must_have_no_codecs(&rt, alloc, &[("filters", "[{\"id\":\"vlen-utf8\"}]")])?;
+    must_have_no_codecs(&rt, alloc, &[text, fill])?;
+    must_have_no_codecs(&rt, alloc, &[text, fill, ("filters", "[]")])?;
+    must_have_no_codecs(
+        &rt,
+        alloc,
+        &[text, fill, ("filters", "[{\"id\":\"vlen-bytes\"}]")],
+    )?;
+    must_have_no_codecs(
+        &rt,
+        alloc,
+        &[text, fill, ("filters", "[{\"id\":\"vlen-utf8\",\"x\":1}]")],
+    )?;
+    let twice = ("filters", "[{\"id\":\"vlen-utf8\"},{\"id\":\"vlen-utf8\"}]");
+    must_have_no_codecs(&rt, alloc, &[text, fill, twice])
+}
+
+fn must_print(
+    rt: &impl Abort,
+    alloc: Global,
+    changes: &[(&'static str, &'static str)],
+    text: &str,
+) -> Result<(), Fail> {
+    let refused = refusal(alloc, changes)?.ok_or("it is converted")?;
+    assert_eq!(rt; refused.to_string(alloc)?.as_str(), text);
+    Ok(())
+}
+
+#[test]
+fn texts_of_refusals(rt: HostRuntime) -> Result<(), Fail> {
+    let alloc = rt.alloc();
+    must_print(
+        &rt,
+        alloc,
+        &[("dtype", "\"<i4\""), ("fill_value", "\"invalid\"")],
+        "invalid fill value metadata for data type `<i4`: \"invalid\"",
+    )?;
+    must_print(
+        &rt,
+        alloc,
+        &[("dtype", "\"<f4\"")],
+        "unsupported Zarr V2 data type: <f4",
+    )?;
+    must_print(
+        &rt,
+        alloc,
+        &[("compressor", "{}")],
+        "unsupported Zarr V2 array: a compressor, or filters that are not supported",
+    )
+}
+
+#[test]
+fn chunks_of_other_dimensions_are_converted(rt: HostRuntime) -> Result<(), Fail> {
+    let alloc = rt.alloc();
+    let document = converted(alloc, &[("chunks", "[2]"), ("order", "\"F\"")])?;
+    let grid = document.chunk_grid.to_value(alloc)?.to_string(alloc)?;
+    assert_eq!(rt;
+        grid.as_str(),
+        "{\"configuration\":{\"chunk_shape\":[2]},\"name\":\"regular\"}"
+    );
+    Ok(())
+}
+
+fn must_be_version(
+    rt: &impl Abort,
+    alloc: Global,
+    metadata: &ArrayMetadata,
+    version: u64,
+) -> Result<(), Fail> {
+    let value = metadata.to_value(alloc)?;
+    let found = value.get("zarr_format").and_then(Value::as_u64);
+    assert!(rt; found == Some(version));
+    Ok(())
+}
+
+fn metadata(alloc: Global, value: Value) -> Result<ArrayMetadata, Fail> {
+    Ok(ArrayMetadata::from_value(alloc, value)?)
+}
+
+#[test]
+fn metadata_of_both_versions(rt: HostRuntime) -> Result<(), Fail> {
+    let alloc = rt.alloc();
+    let v3 = converted(alloc, &[])?;
+    let value = v3.to_value(alloc)?;
+    must_be_version(&rt, alloc, &metadata(alloc, value)?, 3)?;
+    must_be_version(&rt, alloc, &ArrayMetadata::from(v3), 3)?;
+    must_be_version(
+        &rt,
+        alloc,
+        &metadata(alloc, Value::Object(small(alloc)?))?,
+        2,
+    )?;
+    must_be_version(&rt, alloc, &ArrayMetadata::from(made(alloc)?), 2)?;
+    let neither = json!(in alloc; {"zarr_format": 4})?;
+    let refused = ArrayMetadata::from_value(alloc, neither);
+    assert!(rt; matches!(refused, Err(MetadataError::InvalidShape)));
+    Ok(())
+}
+
+fn must_be_order(
+    rt: &impl Abort,
+    alloc: Global,
+    order: ArrayMetadataV2Order,
+    text: &str,
+) -> Result<(), AllocError> {
+    let value = order.to_value(alloc)?;
+    assert_eq!(rt; value.as_str(), Some(text));
+    assert!(rt; ArrayMetadataV2Order::from_value(&value) == Some(order));
+    Ok(())
+}
+
+#[test]
+fn orders(rt: HostRuntime) -> Result<(), Fail> {
+    let alloc = rt.alloc();
+    must_be_order(&rt, alloc, ArrayMetadataV2Order::C, "C")?;
+    must_be_order(&rt, alloc, ArrayMetadataV2Order::F, "F")?;
+    assert!(rt; ArrayMetadataV2Order::from_value(&Value::Null).is_none());
+    Ok(())
+}

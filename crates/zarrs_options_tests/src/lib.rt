@@ -1,0 +1,5 @@
+//! Tests of `zarrs_options`.
+#![tactic(auto)]
+
+#[cfg(test)]
+mod tests;

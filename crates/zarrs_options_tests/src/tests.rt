@@ -1,0 +1,211 @@
+//! Each public call with ample memory, and the texts of refusals.
+use serde_json::Value;
+use std::alloc::{AllocError, Global};
+use std::num::NonZeroU64;
+use std::process::Abort;
+use std::test::Fail;
+use zarrs_data_type::FillValue;
+use zarrs_keys::{NodePath, NodePathError};
+use zarrs_metadata::{MetadataV3, PluginCreateError};
+use zarrs_options::{
+    AdditionalFieldUnsupportedError, ArrayCreateError, ArrayMetadataOptions,
+    MetadataConvertVersion, MetadataEraseVersion, MetadataRetrieveVersion, StorageTransformerChain,
+    chunk_shape_to_array_shape,
+};
+use zarrs_storage::StorageError;
+
+fn must_choose(
+    rt: &impl Abort,
+    options: &ArrayMetadataOptions,
+    version: MetadataConvertVersion,
+    include: bool,
+    convert: bool,
+) {
+    assert!(rt; options.metadata_convert_version() == version);
+    assert_eq!(rt; options.include_zarrs_metadata(), include);
+    assert_eq!(rt; options.convert_aliased_extension_names(), convert);
+}
+
+#[test]
+fn options_are_set_one_by_one(rt: HostRuntime) {
+    let default = ArrayMetadataOptions::default();
+    must_choose(&rt, &default, MetadataConvertVersion::Default, true, false);
+    let v3 = default.with_metadata_convert_version(MetadataConvertVersion::V3);
+    must_choose(&rt, &v3, MetadataConvertVersion::V3, true, false);
+    let plain = v3.with_include_zarrs_metadata(false);
+    must_choose(&rt, &plain, MetadataConvertVersion::V3, false, false);
+    let main = plain.with_convert_aliased_extension_names(true);
+    must_choose(&rt, &main, MetadataConvertVersion::V3, false, true);
+    must_choose(&rt, &default, MetadataConvertVersion::Default, true, false);
+}
+
+#[test]
+fn options_are_set_in_place(rt: HostRuntime) {
+    let mut options = ArrayMetadataOptions::default();
+    options
+        .set_metadata_convert_version(MetadataConvertVersion::V3)
+        .set_convert_aliased_extension_names(true);
+    must_choose(&rt, &options, MetadataConvertVersion::V3, true, true);
+    options.set_include_zarrs_metadata(false);
+    must_choose(&rt, &options, MetadataConvertVersion::V3, false, true);
+}
+
+#[test]
+fn versions_by_default(rt: HostRuntime) {
+    assert!(rt; MetadataConvertVersion::default() == MetadataConvertVersion::Default);
+    assert!(rt; MetadataEraseVersion::default() == MetadataEraseVersion::Default);
+    assert!(rt; MetadataRetrieveVersion::default() == MetadataRetrieveVersion::Default);
+    assert!(rt; MetadataEraseVersion::All != MetadataEraseVersion::V3);
+    assert!(rt; MetadataRetrieveVersion::V2 != MetadataRetrieveVersion::V3);
+}
+
+#[test]
+fn storage_transformers_are_refused(rt: HostRuntime) -> Result<(), Fail> {
+    let alloc = rt.alloc();
+    let none = StorageTransformerChain::from_metadata(alloc, &[])?;
+    assert!(rt; none == StorageTransformerChain::default());
+    let mut some = Vec::new(alloc);
+    some.push(MetadataV3::new(String::from_str(alloc, "indirect")?))?;
+    let refused = StorageTransformerChain::from_metadata(alloc, some.as_slice());
+    assert!(rt; matches!(refused, Err(PluginCreateError::Other(_))));
+    Ok(())
+}
+
+#[test]
+fn chunk_shapes_as_array_shapes(rt: HostRuntime) -> Result<(), Fail> {
+    let alloc = rt.alloc();
+    let sizes = [NonZeroU64::MIN, NonZeroU64::MAX];
+    let shape = chunk_shape_to_array_shape(alloc, &sizes)?;
+    assert!(rt; shape.as_slice() == [1, 18446744073709551615].as_slice());
+    assert!(rt; chunk_shape_to_array_shape(alloc, &[])?.is_empty());
+    Ok(())
+}
+
+fn must_print(
+    rt: &impl Abort,
+    alloc: Global,
+    error: &ArrayCreateError,
+    text: &str,
+) -> Result<(), Fail> {
+    assert_eq!(rt; error.to_string(alloc)?.as_str(), text);
+    Ok(())
+}
+
+fn other(alloc: Global, text: &str) -> PluginCreateError {
+    PluginCreateError::other(alloc, text)
+}
+
+#[test]
+fn texts_of_refusals(rt: HostRuntime) -> Result<(), Fail> {
+    let alloc = rt.alloc();
+    let shape = [2, 0].to_vec(alloc)?;
+    let text = String::from_str(alloc, "a compressor")?;
+    for (error, text) in [
+        (
+            ArrayCreateError::InvalidChunkGridDimensionality(3, 2),
+            "chunk grid dimensionality 3 does not match array dimensionality 2",
+        ),
+        (
+            ArrayCreateError::InvalidDimensionNames(3, 2),
+            "the number of dimension names 3 does not match array dimensionality 2",
+        ),
+        (
+            ArrayCreateError::InvalidSubchunkShape(shape),
+            "invalid subchunk shape [2, 0]: all elements must be non-zero",
+        ),
+        (
+            ArrayCreateError::MissingMetadata,
+            "array metadata is missing",
+        ),
+        (
+            ArrayCreateError::UnsupportedZarrV2Array(text),
+            "unsupported Zarr V2 array: a compressor",
+        ),
+        (ArrayCreateError::OutOfMemory, "out of memory"),
+    ] {
+        must_print(&rt, alloc, &error, text)?;
+    }
+    Ok(())
+}
+
+#[test]
+fn texts_of_fill_values(rt: HostRuntime) -> Result<(), Fail> {
+    let alloc = rt.alloc();
+    let bytes = ArrayCreateError::InvalidFillValue {
+        data_type_name: String::from_str(alloc, "int16")?,
+        fill_value: FillValue::new([7].to_vec(alloc)?),
+    };
+    must_print(
+        &rt,
+        alloc,
+        &bytes,
+        "invalid fill value for data type `int16`: [7]",
+    )?;
+    let metadata = ArrayCreateError::InvalidFillValueMetadata {
+        data_type_name: String::from_str(alloc, "string")?,
+        fill_value_metadata: Value::from_str(alloc, "{\"a\": [1, 2]}")?,
+    };
+    let text = "invalid fill value metadata for data type `string`: {\"a\":[1,2]}";
+    must_print(&rt, alloc, &metadata, text)
+}
+
+#[test]
+fn refusals_pass_on_their_texts(rt: HostRuntime) -> Result<(), Fail> {
+    let alloc = rt.alloc();
+    for error in [
+        ArrayCreateError::DataTypeCreateError(other(alloc, "why")),
+        ArrayCreateError::CodecsCreateError(other(alloc, "why")),
+        ArrayCreateError::StorageTransformersCreateError(other(alloc, "why")),
+        ArrayCreateError::ChunkGridCreateError(other(alloc, "why")),
+        ArrayCreateError::ChunkKeyEncodingCreateError(other(alloc, "why")),
+        ArrayCreateError::from(StorageError::other(alloc, "why")),
+    ] {
+        must_print(&rt, alloc, &error, "why")?;
+    }
+    Ok(())
+}
+
+fn must_be_field(rt: &impl Abort, error: &AdditionalFieldUnsupportedError) {
+    assert_eq!(rt; error.name(), "key");
+    assert!(rt; error.value().is_null());
+}
+
+#[test]
+fn fields_that_must_be_understood(rt: HostRuntime) -> Result<(), Fail> {
+    let alloc = rt.alloc();
+    let field = AdditionalFieldUnsupportedError::new(String::from_str(alloc, "key")?, Value::Null);
+    must_be_field(&rt, &field);
+    let error = ArrayCreateError::from(field);
+    must_print(
+        &rt,
+        alloc,
+        &error,
+        "unsupported additional field key with value null",
+    )
+}
+
+fn must_be_memory(rt: &impl Abort, error: &ArrayCreateError) {
+    assert!(rt; matches!(error, ArrayCreateError::OutOfMemory));
+}
+
+#[test]
+fn refusals_of_lower_layers(rt: HostRuntime) {
+    let alloc = rt.alloc();
+    must_be_memory(&rt, &ArrayCreateError::from(AllocError));
+    must_be_memory(&rt, &ArrayCreateError::from(StorageError::OutOfMemory));
+    must_be_memory(&rt, &ArrayCreateError::from(NodePathError::OutOfMemory));
+    let storage = ArrayCreateError::from(StorageError::ReadOnly);
+    assert!(rt;
+        matches!(
+            storage,
+            ArrayCreateError::StorageError(StorageError::ReadOnly)
+        )
+    );
+    let path = NodePath::new(alloc, "no slash").map_err(ArrayCreateError::from);
+    assert!(rt;
+        matches!(
+            path,
+            Err(ArrayCreateError::NodePathError(NodePathError::Invalid))
+        )
+    );
+}
