@@ -89,7 +89,8 @@ impl Work for Read {
     fn run(&mut self, alloc: Global, turn: u8) -> Result<u8> {
         let mut seen = turn;
         for number in 0..self.calls {
-            let ArrayBytes::Fixed(cells) = self.engine.retrieve_chunk(alloc, &[number % CHUNKS])?;
+            let found = self.engine.retrieve_chunk(alloc, &[number % CHUNKS])?;
+            let cells = found.into_fixed()?;
             seen ^= cells
                 .as_slice()
                 .get(usize::from(turn))

@@ -1,7 +1,4 @@
 //! Fills, and tests of cells.
-ghost use Rattle.std.specs.Prelude.{◌≤◌};
-ghost use Rattle.zarrs_data_type.specs.Kind.{kind, cell_size};
-
 use crate::measure::{Work, row};
 use anyhow::{Result, anyhow};
 use std::alloc::Global;
@@ -12,9 +9,7 @@ use zarrs_data_type::{ArrayBytes, DataType, FillValue};
 const BYTES: usize = 1 << 20;
 
 /// An unsigned type whose cells have this many bytes.
-fn unsigned(width: usize) -> DataType
-    ensures { cell_size (kind result) ≤ 8 }
-{
+fn unsigned(width: usize) -> DataType {
     match width {
         1 => DataType::UInt8,
         2 => DataType::UInt16,
@@ -40,17 +35,16 @@ impl Work for Fill {
     fn run(&mut self, alloc: Global, turn: u8) -> Result<u8> {
         let data_type = unsigned(self.0);
         let fill_value = fill_of(alloc, self.0, turn)?;
+        let count = (BYTES / 8) as u64;
         if self.0 == 0 || !fill_value.is_value_of(&data_type) {
             return Err(anyhow!("no fill value"));
         }
-        let count = (BYTES / 8) as u64;
-        let ArrayBytes::Fixed(made) = ArrayBytes::new_fill_value(
-            alloc,
-            &data_type,
-            count,
-            &fill_value,
-        )?;
-        Ok(made.as_slice().last().copied().unwrap_or(0))
+        let size = data_type.held_size(fill_value.as_bytes());
+        if count.checked_mul(size as u64).is_none() {
+            return Err(anyhow!("too many bytes"));
+        }
+        let made = ArrayBytes::new_fill_value(alloc, &data_type, count, &fill_value)?;
+        Ok(made.into_fixed()?.as_slice().last().copied().unwrap_or(0))
     }
 }
 

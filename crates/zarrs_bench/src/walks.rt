@@ -33,6 +33,31 @@ impl Work for Positions {
     }
 }
 
+/// `ArraySubset::walk` over the same box, which lends each position.
+#[derive(Drop)]
+struct LentPositions;
+
+impl Work for LentPositions {
+    fn run(&mut self, alloc: Global, turn: u8) -> Result<u8> {
+        let first = u64::from(turn);
+        let ranges = [first..first + 100, 0..100, 0..100];
+        let subset = ArraySubset::new_with_ranges(alloc, &ranges)?;
+        let Some(mut walk) = subset.walk(alloc)? else {
+            return Err(anyhow!("no position"));
+        };
+        let mut seen = 0;
+        for _ in 0..1_000_000 {
+            if let [i, j, k] = *walk.current() {
+                seen = mixed(mixed(mixed(seen, i), j), k);
+            }
+            if !walk.advance() {
+                break;
+            }
+        }
+        Ok((seen & 0xff) as u8)
+    }
+}
+
 /// Three loops.
 #[derive(Drop)]
 struct PlainPositions;
@@ -199,6 +224,14 @@ pub fn print_rows<R: Clock + Print + Alloc<A = Global>>(rt: &R) -> Result<()> {
         "indices over 1,000,000 positions",
         0,
         &mut Positions,
+        &mut PlainPositions,
+    )?;
+    row(
+        rt,
+        alloc,
+        "walk over 1,000,000 positions",
+        0,
+        &mut LentPositions,
         &mut PlainPositions,
     )?;
     let mut queries = Queries(thousands(alloc)?);

@@ -41,9 +41,10 @@ pub fn bytes_tell_arrays_apart(one: &MemoryEngine, other: &MemoryEngine)
     requires same_layout { layout_of other.now ≡ layout_of one.now }
     requires history { IsHistory (layout_of one.now) (state_of open_state one.now) }
     requires other_history { IsHistory (layout_of one.now) (state_of open_state other.now) }
-    ensures {
-        HaveEqualContent (layout_of one.now) (store_of open_state one.now) (store_of open_state other.now)
-        ↔ HaveEqualBytes (layout_of one.now) (store_of open_state one.now) (store_of open_state other.now) }
+    ensures { HaveEqualContent (layout_of one.now) (store_of open_state one.now)
+        (store_of open_state other.now)
+        ↔ HaveEqualBytes (layout_of one.now) (store_of open_state one.now)
+        (store_of open_state other.now) }
 {
     layouts_are_lawful(one);
     histories_agree();

@@ -24,8 +24,7 @@ fn small_array(alloc: Global) -> Result<MemoryEngine, Fail> {
 }
 
 fn must_hold(rt: &impl Abort, data: &ArrayBytes<'_>, cells: &[u8]) {
-    let ArrayBytes::Fixed(held) = data;
-    assert_eq!(rt; held.as_slice(), cells);
+    assert!(rt; matches!(data, ArrayBytes::Fixed(held) if held.as_slice() == cells));
 }
 
 fn must_be_present(

@@ -4,7 +4,6 @@ use anyhow::Result;
 use std::alloc::Global;
 use std::ops::Range;
 use zarrs_chunk_grid::ChunkGridTraits;
-use zarrs_data_type::ArrayBytes;
 
 /// The sum of the cells of the chunks that the region meets, or `None` if a position of it is in no chunk.
 ///
@@ -21,7 +20,7 @@ pub fn sum_of_chunks(
     let mut sum = 0u64;
     for chunk_indices in chunks.indices(alloc) {
         let chunk_indices = chunk_indices?;
-        let ArrayBytes::Fixed(cells) = engine.retrieve_chunk(alloc, &chunk_indices)?;
+        let cells = engine.retrieve_chunk(alloc, &chunk_indices)?.into_fixed()?;
         for cell in cells.as_slice() {
             sum = sum.saturating_add(u64::from(*cell));
         }
