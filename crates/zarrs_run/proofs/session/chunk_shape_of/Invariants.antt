@@ -1,6 +1,0 @@
-use Rattle.std.proofs.Common.{◌≡◌, take}
-use Rattle.zarrs_chunk_grid.specs.Shapes.{sizes_of}
-use Rattle.zarrs_run.proofs.session.chunk_shape_of.Given as goal
-
-abbrev pub invariant-loop-extent : goal.invariant-loop-extent
-invariant-loop-extent l = sizes_of l.sizes.items ≡ take l.extent-index l.extents

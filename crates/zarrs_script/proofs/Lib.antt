@@ -1,0 +1,10 @@
+pub mod Numbers
+pub mod Split
+pub mod Lists
+pub mod Lines
+pub mod Bytes
+pub mod CellBytes
+pub mod Printing
+pub mod Texts
+pub mod Transcripts
+pub mod NewArrays

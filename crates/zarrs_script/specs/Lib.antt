@@ -1,0 +1,8 @@
+pub mod Words
+pub mod CellTypes
+pub mod Script
+pub mod Parsed
+pub mod Transcript
+pub mod Answers
+pub mod Sessions
+pub mod Sizes

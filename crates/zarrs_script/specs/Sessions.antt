@@ -1,0 +1,50 @@
+-- The sessions that values of the code stand for, and what is still to be written.
+use Rattle.std.specs.Prelude.{◌≡◌, ℕ, Bool, List, [], ◌∷◌, ◌++◌, Option, Some, None, Result, Ok, Err}
+use Rattle.std.specs.Io.KnownBytes.{Appends}
+use Rattle.zarrs_storage.specs.Memory.{open_state}
+use Rattle.zarrs_steps.specs.declared.call.Reply.{Reply}
+use Rattle.zarrs_engine.specs.Engine.{layout_of, state_of}
+use Rattle.zarrs_script.specs.declared.cell_type.CellType.{CellType}
+use Rattle.zarrs_script.specs.declared.command.Creation.{Creation}
+use Rattle.zarrs_script.specs.declared.array.OpenArray.{OpenArray}
+use Rattle.zarrs_script.specs.declared.error.CreationError.{CreationError}
+use Rattle.zarrs_script.specs.declared.error.CreationError.TheVariants.{NoGrid, OutOfMemory}
+use Rattle.zarrs_script.specs.Words.{◌>>=◌}
+use Rattle.zarrs_script.specs.Script.{Order}
+use Rattle.zarrs_script.specs.Transcript.{Opened, Session, Transcript, MakesGrid, new_array, reply_text}
+
+-- what an open array is
+abbrev pub opened : OpenArray → Opened
+opened array = record { cell_type = array.cell_type; layout = layout_of array.engine; state = state_of open_state array.engine }
+
+-- the session that an array, or none, stands for
+abbrev pub session_of : Option OpenArray → Session
+session_of None = None
+session_of (Some array) = Some (opened array)
+
+-- a new array is what the line says, or it has no grid, or memory ran out
+abbrev pub Creates : Creation → Result OpenArray CreationError → Type 0
+Creates creation (Ok array) =
+    MakesGrid creation.shape.items creation.chunk_shape.items × (opened array ≡ new_array creation.shape.items creation.chunk_shape.items creation.cell_type creation.fill.items)
+Creates creation (Err NoGrid) = MakesGrid creation.shape.items creation.chunk_shape.items → ⊥
+Creates creation (Err OutOfMemory) = Unit {0}
+
+-- new is old with such a text after it
+abbrev pub Prints : List ℕ → List ℕ → (List ℕ → Type 0) → Type 0
+Prints old new IsSuch = (text : List ℕ) × (new ≡ old ++ text) × IsSuch text
+
+-- What is pending is written later. Such a text followed it: a front of both was written, and the rest is pending now.
+abbrev pub Puts : (old new : Option (List ℕ)) (pending left : List ℕ) → (List ℕ → Type 0) → Type 0
+Puts old new pending left IsSuch = (text : List ℕ) × (written : List ℕ) × Appends old new written × (pending ++ text ≡ written ++ left) × IsSuch text
+
+-- the lines of replies, one after the other
+abbrev pub replies_text : CellType → List Reply → Option (List ℕ)
+replies_text cell_type [] = Some []
+replies_text cell_type (reply ∷ replies) = do
+  text ← reply_text cell_type reply
+  texts ← replies_text cell_type replies
+  Some (text ++ texts)
+
+-- the orders were done, from one session to the next
+abbrev pub Follows : Session → List Order → List ℕ → Bool → Session → Type 0
+Follows before orders text refused after = Transcript before orders (record { text = text; refused = refused; after = after })

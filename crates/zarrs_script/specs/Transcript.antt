@@ -1,0 +1,152 @@
+-- What a script prints.
+use Rattle.std.specs.Prelude.{◌≡◌, ◌⊎◌, ◌==◌, ℕ, zero, suc, ◌||◌, Bool, true, false, List, [], ◌∷◌, ◌++◌, map, length, slice_index, codes, decimal, unwrap_or, Option, Some, None, option_map}
+use Rattle.std.specs.List.{flat_map, list_any, join_with_byte}
+use Rattle.std.specs.FinMap as finite
+use Rattle.hex.specs.Hex.{encode_lower}
+use Rattle.zarrs_storage.specs.Store.{StoreState, Values}
+use Rattle.zarrs_storage.specs.Memory.{open_state}
+use Rattle.zarrs_metadata.specs.declared.separators.ChunkKeySeparator.TheVariants.{Slash}
+use Rattle.zarrs_keys.specs.Encodings.{default_key}
+use Rattle.zarrs_chunk_grid.specs.Axes.{regular_axis}
+use Rattle.zarrs_chunk_grid.specs.Grids.{Grid}
+use Rattle.zarrs_data_type.specs.ArrayData.{ArrayData, data_of}
+use Rattle.zarrs_data_type.specs.Cells.{cells}
+use Rattle.zarrs_codec_leaf.specs.Bytes.{bytes_meaning}
+use Rattle.zarrs_codec_array.specs.Arrays.{same_array}
+use Rattle.zarrs_codec.specs.Chains.{whole_chunk}
+use Rattle.zarrs_codec.specs.Through.{through}
+use Rattle.zarrs_steps.specs.declared.call.Call.{Call}
+use Rattle.zarrs_steps.specs.declared.call.Reply.{Reply}
+use Rattle.zarrs_steps.specs.declared.call.Reply.TheVariants.{Done, Cells, MaybeCells, Refused}
+use Rattle.zarrs_steps.specs.Layout.{Layout, layout_at}
+use Rattle.zarrs_steps.specs.Layout.{ArrayState}
+use Rattle.zarrs_steps.specs.Refusals.{refusal_of, refusal_number}
+use Rattle.zarrs_steps.specs.Step.{Step}
+use Rattle.zarrs_script.specs.declared.cell_type.CellType.{CellType}
+use Rattle.zarrs_script.specs.CellTypes.{kind_of, cell_text}
+use Rattle.zarrs_script.specs.Script.{Order, Array, Keys}
+use Rattle.zarrs_script.specs.Parsed.{order_of_call}
+
+-- an open array: the type of its cells, what its parts mean, its store and its shape
+pub record Opened : Type 0 where
+  pub cell_type : CellType
+  pub layout : Layout
+  pub state : ArrayState
+
+-- what lines speak to: nothing before the first array, and after a refused one
+abbrev pub Session : Type 0
+Session = Option Opened
+
+abbrev pub line : List ℕ → List ℕ
+line text = text ++ 10 ∷ []
+
+abbrev pub refusal : ℕ → List ℕ
+refusal number = line (codes "refused E" ++ decimal number)
+
+-- texts joined by commas, or `-` for none
+abbrev pub list_text : List (List ℕ) → List ℕ
+list_text [] = codes "-"
+list_text (text ∷ texts) = join_with_byte 44 (text ∷ texts)
+
+-- the line of the cells that the data stands for
+abbrev pub data_text : CellType → ArrayData → Option (List ℕ)
+data_text cell_type held = option_map (λ given. line (list_text (map (cell_text cell_type) given))) (cells (kind_of cell_type) held)
+
+-- the line of a reply; of data there is one if it stands for cells
+abbrev pub reply_text : CellType → Reply → Option (List ℕ)
+reply_text cell_type Done = Some (line (codes "ok"))
+reply_text cell_type (Cells held) = data_text cell_type (data_of held)
+reply_text cell_type (MaybeCells (Some held)) = data_text cell_type (data_of held)
+reply_text cell_type (MaybeCells None) = Some (line (codes "none"))
+reply_text cell_type (Refused error) = Some (refusal (refusal_number (refusal_of error)))
+
+abbrev pub is_refusal : Reply → Bool
+is_refusal (Refused error) = true
+is_refusal _ = false
+
+-- the bytes that are present at a key
+abbrev pub bytes_at : Values → List ℕ → List ℕ
+bytes_at values key = unwrap_or (finite.get values key) []
+
+-- a key and its bytes in hexadecimal
+abbrev pub key_text : Values → List ℕ → List ℕ
+key_text values key = line (key ++ 32 ∷ encode_lower (bytes_at values key))
+
+-- a line for each of the keys
+abbrev pub lines_of_keys : Values → List (List ℕ) → List ℕ
+lines_of_keys values [] = line (codes "none")
+lines_of_keys values (key ∷ keys) = flat_map (key_text values) (key ∷ keys)
+
+-- the keys that are present, in ascending order of their bytes
+abbrev pub keys_text : Values → List ℕ
+keys_text values = lines_of_keys values (finite.keys values)
+
+-- `count` lines that nothing is done for
+abbrev pub skipped : ℕ → List ℕ
+skipped zero = []
+skipped (suc count) = line (codes "skipped") ++ skipped count
+
+-- what one line did: its text, whether it holds a refusal, and the session after it
+pub record Outcome : Type 0 where
+  pub text : List ℕ
+  pub refused : Bool
+  pub after : Session
+
+-- a chunk's extents make a grid of a shape: they are as many, and none of them is 0
+pub record MakesGrid (shape chunk_shape : List ℕ) : Type 0 where
+  pub same : length chunk_shape ≡ length shape
+  pub nonzero : list_any (λ extent. extent == 0) chunk_shape ≡ false
+
+-- the `regular` grid of chunks of these extents
+abbrev pub grid_of : List ℕ → Grid
+grid_of chunk_shape = record { dimensions = length chunk_shape; axis = λ k. regular_axis (slice_index chunk_shape k) }
+
+-- what the parts of a new array mean: the `regular` grid, `default` keys with `/` at the path `/`, the codec `bytes`
+abbrev pub layout_for : List ℕ → CellType → List ℕ → Layout
+layout_for chunk_shape cell_type fill =
+    layout_at (grid_of chunk_shape) (codes "/") (default_key Slash) (through same_array (whole_chunk bytes_meaning)) (kind_of cell_type) fill
+
+-- a store in memory that holds nothing
+abbrev pub new_store : StoreState
+new_store = open_state (record { values = finite.empty; calls = 0; failures = 0 })
+
+-- a new array of this shape
+abbrev pub new_array : List ℕ → List ℕ → CellType → List ℕ → Opened
+new_array shape chunk_shape cell_type fill = record {
+  cell_type = cell_type;
+  layout = layout_for chunk_shape cell_type fill;
+  state = record { store = new_store; shape = shape };
+}
+
+-- A new array is open, or it is refused: E18 where the chunk's extents make no grid of the shape, E26 if memory runs out.
+abbrev pub Opens : List ℕ → List ℕ → CellType → List ℕ → Outcome → Type 0
+Opens shape chunk_shape cell_type fill outcome =
+    (MakesGrid shape chunk_shape × (outcome ≡ record { text = line (codes "ok"); refused = false; after = Some (new_array shape chunk_shape cell_type fill) }))
+    ⊎ ((MakesGrid shape chunk_shape → ⊥) × (outcome ≡ record { text = refusal 18; refused = true; after = None }))
+    ⊎ (outcome ≡ record { text = refusal 26; refused = true; after = None })
+
+-- The call that the line asks for makes a step of the engine, which stores no empty chunks, and its reply is printed.
+pub record Calls (order : Order) (before : Opened) (outcome : Outcome) : Type 0 where
+  pub call : Call
+  pub asks : order_of_call call ≡ order
+  pub reply : Reply
+  pub state : ArrayState
+  pub step : Step before.layout false call reply before.state state
+  pub prints : reply_text before.cell_type reply ≡ Some outcome.text
+  pub refused : outcome.refused ≡ is_refusal reply
+  pub after : outcome.after ≡ Some (record { cell_type = before.cell_type; layout = before.layout; state = state })
+
+-- what a line may do
+abbrev pub Does : Session → Order → Outcome → Type 0
+Does before (Array shape chunk_shape cell_type fill) outcome = Opens shape chunk_shape cell_type fill outcome
+-- without an open array nothing is done
+Does None order outcome = outcome ≡ record { text = line (codes "skipped"); refused = false; after = None }
+Does (Some array) Keys outcome = outcome ≡ record { text = keys_text array.state.store.values; refused = false; after = Some array }
+Does (Some array) order outcome = Calls order array outcome
+
+-- the outcome of lines, one after the other
+abbrev pub Transcript : Session → List Order → Outcome → Type 0
+Transcript before [] outcome = outcome ≡ record { text = []; refused = false; after = before }
+Transcript before (order ∷ orders) outcome =
+    (first : Outcome) × Does before order first × (rest : Outcome) × Transcript first.after orders rest
+    × (outcome ≡ record { text = first.text ++ rest.text; refused = first.refused || rest.refused; after = rest.after })

@@ -1,0 +1,23 @@
+//! The open array that the lines of a script speak to.
+ghost use Rattle.std.specs.Prelude.{◌≡◌, true};
+ghost use Rattle.zarrs_data_type.specs.Same.{kind_eq};
+ghost use Rattle.zarrs_engine.specs.Engine.{layout_of};
+ghost use Rattle.zarrs_script.specs.CellTypes.{kind_of};
+
+use crate::cell_type::CellType;
+use zarrs_chunk_grid::RegularChunkGrid;
+use zarrs_codec::CodecChain;
+use zarrs_engine::Engine;
+use zarrs_keys::ChunkKeyEncoding;
+use zarrs_storage::MemoryStore;
+
+/// An engine over a store in memory, of the parts that a script's arrays have.
+pub type MemoryEngine = Engine<MemoryStore, RegularChunkGrid, ChunkKeyEncoding, CodecChain>;
+
+/// The open array.
+#[derive(Drop)]
+pub struct OpenArray {
+    pub cell_type: CellType,
+    pub engine: MemoryEngine,
+    ghost typed: { kind_eq (layout_of engine).kind (kind_of cell_type) ≡ true },
+}

@@ -1,0 +1,100 @@
+//! What parsing, creating and running refuse.
+ghost use Rattle.std.specs.Prelude.{◌≡◌};
+ghost use Rattle.zarrs_script.specs.declared.error.ParseError.TheVariants as parse;
+ghost use Rattle.zarrs_script.specs.declared.error.ScriptError.TheVariants as script;
+ghost use Rattle.zarrs_script.specs.declared.error.CreationError.TheVariants as creation;
+
+use std::alloc::{AllocError, AllocFailed};
+use std::io;
+use thiserror::Error;
+
+/// Why a line is not read.
+#[derive(Clone, Copy, Debug, Drop, PartialEq, Eq, Error)]
+pub enum ParseError {
+    #[error("not a command")]
+    NotACommand,
+    #[error("out of memory")]
+    OutOfMemory,
+}
+
+/// Why a script is not run.
+#[derive(Clone, Copy, Debug, Drop, PartialEq, Eq, Error)]
+pub enum ScriptError {
+    /// The number of the first line that is not a command, from 1.
+    #[error("line {0}: not a command")]
+    NotACommand(u64),
+    #[error("out of memory")]
+    OutOfMemory,
+}
+
+/// Why an `array` line is refused.
+#[derive(Clone, Copy, Debug, Drop, PartialEq, Eq, Error)]
+pub enum CreationError {
+    /// The chunk shape has another length than the shape, or an extent 0.
+    #[error("the chunk shape makes no grid of the array shape")]
+    NoGrid,
+    #[error("out of memory")]
+    OutOfMemory,
+}
+
+/// Input, output or memory outside a call failed.
+#[derive(Debug, Drop)]
+pub struct Stopped;
+
+impl From<AllocError> for ParseError {
+    ghost from_gives = { λ _ e. e ≡ parse.OutOfMemory };
+
+    fn from(_error: AllocError) -> ParseError {
+        ParseError::OutOfMemory
+    }
+}
+
+impl<T: Drop> From<AllocFailed<T>> for ParseError {
+    ghost from_gives = { λ _ e. e ≡ parse.OutOfMemory };
+
+    fn from(_error: AllocFailed<T>) -> ParseError {
+        ParseError::OutOfMemory
+    }
+}
+
+impl From<AllocError> for ScriptError {
+    ghost from_gives = { λ _ e. e ≡ script.OutOfMemory };
+
+    fn from(_error: AllocError) -> ScriptError {
+        ScriptError::OutOfMemory
+    }
+}
+
+impl From<AllocError> for CreationError {
+    ghost from_gives = { λ _ e. e ≡ creation.OutOfMemory };
+
+    fn from(_error: AllocError) -> CreationError {
+        CreationError::OutOfMemory
+    }
+}
+
+impl<T: Drop> From<AllocFailed<T>> for CreationError {
+    ghost from_gives = { λ _ e. e ≡ creation.OutOfMemory };
+
+    fn from(_error: AllocFailed<T>) -> CreationError {
+        CreationError::OutOfMemory
+    }
+}
+
+impl From<AllocError> for Stopped {
+    fn from(_error: AllocError) -> Stopped {
+        Stopped
+    }
+}
+
+impl<T: Drop> From<AllocFailed<T>> for Stopped {
+    fn from(_error: AllocFailed<T>) -> Stopped {
+        Stopped
+    }
+}
+
+impl From<io::Error> for Stopped {
+    fn from(_error: io::Error) -> Stopped {
+        Stopped
+    }
+}

@@ -1,0 +1,13 @@
+//! Scripts: lines that make an array in memory, store, read and erase its chunks, and list the keys of its store.
+#![tactic(auto)]
+
+mod array;
+mod cell_type;
+mod command;
+mod create;
+mod error;
+mod parse;
+mod print;
+mod run;
+
+pub use run::run_script;

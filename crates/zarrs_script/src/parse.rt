@@ -1,0 +1,367 @@
+//! Reads the commands of a script.
+ghost use Rattle.std.specs.Prelude.{◌≡◌, ◌==◌, ◌∷◌, [], ◌++◌, position, IfOk, OnOk, IsSome};
+ghost use Rattle.std.specs.List.{slice_split};
+ghost use Rattle.zarrs_data_type.specs.Cell.{fill_cell};
+ghost use Rattle.zarrs_script.specs.Words.{number_of, each_of, numbers_of};
+ghost use Rattle.zarrs_script.specs.CellTypes.{kind_of, cell_of, joined_cells, cells_of, low_bytes, positive, negative, unsigned_cell, signed_cell};
+ghost use Rattle.zarrs_script.specs.Script.{verb_of, array_order, chunk_order, indices_of, keys_order, verb_order, order_of, type_after, is_skipped, orders_of};
+ghost use Rattle.zarrs_script.specs.Parsed.{Gives, Grows, words_in, TakesWord, TakesLastWord, order_of_call, order_of_command, orders_in, Parses};
+
+use crate::cell_type::CellType;
+use crate::command::{Block, Command, Creation, Verb};
+use crate::error::{ParseError, ScriptError};
+use std::alloc::{AllocError, Global};
+use std::borrow::CowSlice;
+use zarrs_data_type::ArrayBytes;
+use zarrs_engine::Call;
+
+#[tactic(auto, unfolding(crate::specs::Script::verb_of))]
+fn verb_of(word: &[u8]) -> Option<Verb>
+    ensures { result ≡ verb_of word.now }
+{
+    if word == b"array".as_slice() {
+        Some(Verb::Array)
+    } else if word == b"chunk".as_slice() {
+        Some(Verb::Chunk)
+    } else if word == b"read".as_slice() {
+        Some(Verb::Read)
+    } else if word == b"erase".as_slice() {
+        Some(Verb::Erase)
+    } else if word == b"keys".as_slice() {
+        Some(Verb::Keys)
+    } else {
+        None
+    }
+}
+
+/// One decimal digit or more, of a number below 2^64.
+fn number_of(word: &[u8]) -> Option<u64>
+    ensures { result ≡ number_of word.now }
+{
+    if word.is_empty() {
+        return None;
+    }
+    let mut number = 0u64;
+    for byte in word {
+        if !byte.is_ascii_digit() {
+            return None;
+        }
+        number = number
+            .checked_mul(10)?
+            .checked_add(u64::from(*byte - b'0'))?;
+    }
+    Some(number)
+}
+
+/// Adds the lowest bytes of the number, the lowest first.
+fn push_bytes(cells: &mut Vec<u8>, count: usize, number: u64) -> Result<(), AllocError>
+    ensures { OnOk result (cells.new.items ≡ cells.old.items ++ low_bytes count number) }
+{
+    let mut rest = number;
+    for _ in 0..count {
+        cells.push((rest % 256) as u8)?;
+        rest /= 256;
+    }
+    Ok(())
+}
+
+/// Adds the bytes of the cell with this number.
+fn push_positive(cells: &mut Vec<u8>, cell_type: CellType, number: u64) -> Result<(), ParseError>
+    ensures { Grows result cells.old.items cells.new.items (positive cell_type number) }
+{
+    if number > cell_type.greatest() {
+        return Err(ParseError::NotACommand);
+    }
+    push_bytes(cells, cell_type.size(), number)?;
+    Ok(())
+}
+
+/// Adds the bytes of the cell with this number below 0.
+fn push_negative(cells: &mut Vec<u8>, cell_type: CellType, number: u64) -> Result<(), ParseError>
+    ensures { Grows result cells.old.items cells.new.items (negative cell_type number) }
+{
+    if !cell_type.is_signed() || number > cell_type.greatest() + 1 {
+        return Err(ParseError::NotACommand);
+    }
+    push_bytes(cells, cell_type.size(), 0u64.wrapping_sub(number))?;
+    Ok(())
+}
+
+/// Adds the bytes of the cell with the number that the digits write.
+fn push_unsigned(cells: &mut Vec<u8>, cell_type: CellType, digits: &[u8]) -> Result<(), ParseError>
+    ensures { Grows result cells.old.items cells.new.items (unsigned_cell cell_type digits.now) }
+{
+    let Some(number) = number_of(digits) else {
+        return Err(ParseError::NotACommand);
+    };
+    push_positive(cells, cell_type, number)
+}
+
+/// Adds the bytes of the cell with the number below 0 that the digits write.
+fn push_signed(cells: &mut Vec<u8>, cell_type: CellType, digits: &[u8]) -> Result<(), ParseError>
+    ensures { Grows result cells.old.items cells.new.items (signed_cell cell_type digits.now) }
+{
+    let Some(number) = number_of(digits) else {
+        return Err(ParseError::NotACommand);
+    };
+    push_negative(cells, cell_type, number)
+}
+
+/// Adds the bytes of the cell that the word writes.
+#[tactic(auto, unfolding(crate::specs::CellTypes::cell_of))]
+fn push_cell(cells: &mut Vec<u8>, cell_type: CellType, word: &[u8]) -> Result<(), ParseError>
+    ensures { Grows result cells.old.items cells.new.items (cell_of cell_type word.now) }
+{
+    let Some((first, digits)) = word.split_first() else {
+        return Err(ParseError::NotACommand);
+    };
+    if *first == b'-' {
+        push_signed(cells, cell_type, digits)
+    } else {
+        push_unsigned(cells, cell_type, word)
+    }
+}
+
+/// The bytes of the cell that the word writes.
+fn cell_of(alloc: Global, cell_type: CellType, word: &[u8]) -> Result<Vec<u8>, ParseError>
+    ensures value { Gives (λ cell. cell.items) result (cell_of cell_type word.now) }
+    ensures whole { IfOk result (λ cell. IsSome (fill_cell (kind_of cell_type) cell.items)) }
+{
+    let mut cell = Vec::new(alloc);
+    push_cell(&mut cell, cell_type, word)?;
+    Ok(cell)
+}
+
+/// The numbers that are joined by commas.
+fn number_items(alloc: Global, word: &[u8]) -> Result<Vec<u64>, ParseError>
+    ensures { Gives (λ numbers. numbers.items) result
+        (each_of number_of (slice_split (λ b. b == 44) word.now)) }
+{
+    let mut numbers = Vec::new(alloc);
+    for item in word.split(|byte| *byte == b',') {
+        let Some(number) = number_of(item) else {
+            return Err(ParseError::NotACommand);
+        };
+        numbers.push(number)?;
+    }
+    Ok(numbers)
+}
+
+/// The numbers of a list: they are joined by commas, or there are none, for `-`.
+#[tactic(auto, unfolding(crate::specs::Words::items_of))]
+fn numbers_of(alloc: Global, word: &[u8]) -> Result<Vec<u64>, ParseError>
+    ensures { Gives (λ numbers. numbers.items) result (numbers_of word.now) }
+{
+    if word == b"-".as_slice() {
+        return Ok(Vec::new(alloc));
+    }
+    number_items(alloc, word)
+}
+
+/// The bytes of the cells that are joined by commas.
+fn cell_items(alloc: Global, cell_type: CellType, word: &[u8]) -> Result<Vec<u8>, ParseError>
+    ensures { Gives (λ cells. cells.items) result
+        (joined_cells (each_of (cell_of cell_type) (slice_split (λ b. b == 44) word.now))) }
+{
+    let mut cells = Vec::new(alloc);
+    for item in word.split(|byte| *byte == b',') {
+        push_cell(&mut cells, cell_type, item)?;
+    }
+    Ok(cells)
+}
+
+/// The bytes of the cells of a list.
+#[tactic(auto, unfolding(crate::specs::Words::items_of))]
+fn cells_of(alloc: Global, cell_type: CellType, word: &[u8]) -> Result<Vec<u8>, ParseError>
+    ensures { Gives (λ cells. cells.items) result (cells_of cell_type word.now) }
+{
+    if word == b"-".as_slice() {
+        return Ok(Vec::new(alloc));
+    }
+    cell_items(alloc, cell_type, word)
+}
+
+/// Where the first space is.
+fn space_in(text: &[u8]) -> Option<usize>
+    ensures { result ≡ position (λ b. b == 32) text.now }
+{
+    text.iter().position(|byte| *byte == b' ')
+}
+
+/// The first of the words, which are separated by one space, and the others if there are any.
+fn next_word(words: Option<&[u8]>) -> Result<(&[u8], Option<&[u8]>), ParseError>
+    ensures { TakesWord words.entry result }
+{
+    let Some(text) = words else {
+        return Err(ParseError::NotACommand);
+    };
+    match space_in(text) {
+        Some(place) => Ok((&text[..place], Some(&text[place + 1..]))),
+        None => Ok((text, None)),
+    }
+}
+
+/// The only word that is left.
+fn last_word(words: Option<&[u8]>) -> Result<&[u8], ParseError>
+    ensures { TakesLastWord words.entry result }
+{
+    match next_word(words)? {
+        (word, None) => Ok(word),
+        (_, Some(_)) => Err(ParseError::NotACommand),
+    }
+}
+
+fn array_command(alloc: Global, words: Option<&[u8]>) -> Result<Command, ParseError>
+    ensures { Gives order_of_command result (array_order (words_in words.entry)) }
+{
+    let (shape, words) = next_word(words)?;
+    let (chunk_shape, words) = next_word(words)?;
+    let (name, words) = next_word(words)?;
+    let fill = last_word(words)?;
+    let shape = numbers_of(alloc, shape)?;
+    let chunk_shape = numbers_of(alloc, chunk_shape)?;
+    let cell_type = CellType::named(name).ok_or(ParseError::NotACommand)?;
+    let fill = cell_of(alloc, cell_type, fill)?;
+    Ok(Command::Array(Creation {
+        shape,
+        chunk_shape,
+        cell_type,
+        fill,
+    }))
+}
+
+fn chunk_command(
+    alloc: Global,
+    cell_type: CellType,
+    words: Option<&[u8]>,
+) -> Result<Command, ParseError>
+    ensures { Gives order_of_command result (chunk_order cell_type (words_in words.entry)) }
+{
+    let (indices, words) = next_word(words)?;
+    let cells = last_word(words)?;
+    let chunk_indices = numbers_of(alloc, indices)?;
+    let cells = cells_of(alloc, cell_type, cells)?;
+    let chunk_data = ArrayBytes::Fixed(CowSlice::Owned(cells));
+    Ok(Command::Call(Call::StoreChunk(chunk_indices, chunk_data)))
+}
+
+/// The indices of a line that has nothing else.
+fn indices_of(alloc: Global, words: Option<&[u8]>) -> Result<Vec<u64>, ParseError>
+    ensures { Gives (λ indices. indices.items) result (indices_of (words_in words.entry)) }
+{
+    let indices = last_word(words)?;
+    numbers_of(alloc, indices)
+}
+
+fn keys_command(words: Option<&[u8]>) -> Result<Command, ParseError>
+    ensures { Gives order_of_command result (keys_order (words_in words.entry)) }
+{
+    match words {
+        None => Ok(Command::Keys),
+        Some(_) => Err(ParseError::NotACommand),
+    }
+}
+
+/// The command of a line that begins with this verb. The latest array before it has the known type.
+fn verb_command(
+    alloc: Global,
+    verb: Verb,
+    known: Option<CellType>,
+    words: Option<&[u8]>,
+) -> Result<Command, ParseError>
+    ensures { Gives order_of_command result (verb_order verb known (words_in words.entry)) }
+{
+    match (verb, known) {
+        (Verb::Array, _) => array_command(alloc, words),
+        (_, None) => Err(ParseError::NotACommand),
+        (Verb::Chunk, Some(cell_type)) => chunk_command(alloc, cell_type, words),
+        (Verb::Read, Some(_)) => {
+            Ok(Command::Call(Call::RetrieveChunk(indices_of(alloc, words)?)))
+        }
+        (Verb::Erase, Some(_)) => Ok(Command::Call(Call::EraseChunk(indices_of(alloc, words)?))),
+        (Verb::Keys, Some(_)) => keys_command(words),
+    }
+}
+
+/// The command of a line, if the latest array before it has the known type.
+#[tactic(auto, unfolding(crate::specs::Script::order_of))]
+fn command_of(alloc: Global, known: Option<CellType>, line: &[u8]) -> Result<Command, ParseError>
+    ensures { Gives order_of_command result (order_of known line.now) }
+{
+    let (first, words) = next_word(Some(line))?;
+    let verb = verb_of(first).ok_or(ParseError::NotACommand)?;
+    verb_command(alloc, verb, known, words)
+}
+
+fn type_after(known: Option<CellType>, command: &Command) -> Option<CellType>
+    ensures { result ≡ type_after known (order_of_command command.now) }
+{
+    match command {
+        Command::Array(creation) => Some(creation.cell_type),
+        _ => known,
+    }
+}
+
+fn is_skipped(line: &[u8]) -> bool
+    ensures { result ≡ is_skipped line.now }
+{
+    match line {
+        [] => true,
+        [first, ..] => *first == b'#',
+    }
+}
+
+/// Adds a call to the last block, if that is one of calls, else as a block of its own.
+fn add_call(alloc: Global, blocks: &mut Vec<Block>, call: Call) -> Result<(), AllocError>
+    ensures { OnOk result (orders_in blocks.new.items
+        ≡ orders_in blocks.old.items ++ order_of_call call ∷ []) }
+{
+    match blocks.pop() {
+        Some(Block::Calls(mut calls)) => {
+            calls.push(call)?;
+            blocks.push(Block::Calls(calls))?;
+        }
+        Some(block) => {
+            blocks.push(block)?;
+            blocks.push(Block::Calls(vec![in alloc; call]?))?;
+        }
+        None => blocks.push(Block::Calls(vec![in alloc; call]?))?,
+    }
+    Ok(())
+}
+
+fn add(alloc: Global, blocks: &mut Vec<Block>, command: Command) -> Result<(), AllocError>
+    ensures { OnOk result (orders_in blocks.new.items
+        ≡ orders_in blocks.old.items ++ order_of_command command ∷ []) }
+{
+    match command {
+        Command::Array(creation) => blocks.push(Block::Array(creation))?,
+        Command::Call(call) => add_call(alloc, blocks, call)?,
+        Command::Keys => blocks.push(Block::Keys)?,
+    }
+    Ok(())
+}
+
+/// The commands of a script, in blocks. The whole script is read before any is run.
+pub fn blocks_of(alloc: Global, script: &[u8]) -> Result<Vec<Block>, ScriptError>
+    ensures { Parses (λ blocks. orders_in blocks.items) result (orders_of script.now) }
+{
+    let mut blocks = Vec::new(alloc);
+    let mut known = None;
+    let mut number = 0u64;
+    for line in script.split(|byte| *byte == b'\n') {
+        number += 1;
+        if is_skipped(line) {
+            continue;
+        }
+        match command_of(alloc, known, line) {
+            Ok(command) => {
+                known = type_after(known, &command);
+                add(alloc, &mut blocks, command)?;
+            }
+            Err(ParseError::NotACommand) => return Err(ScriptError::NotACommand(number)),
+            Err(ParseError::OutOfMemory) => return Err(ScriptError::OutOfMemory),
+        }
+    }
+    Ok(blocks)
+}

@@ -1,0 +1,270 @@
+//! Prints replies and keys.
+ghost use Rattle.std.specs.Prelude.{◌≡◌, ◌≤◌, ◌++◌, ◌*◌, ◌∷◌, [], codes, decimal, map, length, IfOk, OnOk, IsSome, Some, All};
+ghost use Rattle.std.specs.List.{flat_map, list_any};
+ghost use Rattle.zarrs_data_type.specs.ArrayData.{fixed};
+ghost use Rattle.zarrs_data_type.specs.Cells.{cells};
+ghost use Rattle.zarrs_steps.specs.Refusals.{refusal_of, refusal_number};
+ghost use Rattle.zarrs_script.specs.CellTypes.{kind_of, size_of, value_of, number_text};
+ghost use Rattle.zarrs_script.specs.Transcript.{line, refusal, data_text, reply_text, is_refusal, bytes_at, key_text, keys_text, skipped};
+ghost use Rattle.zarrs_script.specs.Sessions.{Puts, replies_text};
+
+use crate::cell_type::CellType;
+use crate::error::Stopped;
+use bytes::Bytes;
+use itoa::Buffer;
+use std::alloc::{AllocError, Global};
+use std::io::Write;
+use zarrs_codec_leaf::CodecError;
+use zarrs_data_type::ArrayBytes;
+use zarrs_engine::{ArrayError, Reply};
+use zarrs_storage::{MemoryStore, ReadableStorageTraits, StorageError, StoreKey};
+
+/// As many bytes are gathered before they are written.
+const PENDING: usize = 8192;
+
+/// Writes what is pending, if it is enough.
+pub fn spill<W: Write>(writer: &mut W, out: &mut Vec<u8>) -> Result<(), Stopped>
+    ensures { OnOk result (Puts (W.contents writer.old) (W.contents writer.new)
+        out.old.items out.new.items (λ text. text ≡ [])) }
+{
+    if out.len() < PENDING {
+        return Ok(());
+    }
+    writer.write_all(out)?;
+    out.clear();
+    Ok(())
+}
+
+/// Prints a line.
+pub fn put_line(out: &mut Vec<u8>, text: &[u8]) -> Result<(), AllocError>
+    ensures { OnOk result (out.new.items ≡ out.old.items ++ line text.now) }
+{
+    out.extend_from_slice(text)?;
+    out.push(b'\n')?;
+    Ok(())
+}
+
+/// Prints the line of a refusal, by its number.
+pub fn put_refusal(out: &mut Vec<u8>, number: u8) -> Result<(), AllocError>
+    ensures { OnOk result (out.new.items ≡ out.old.items ++ refusal number) }
+{
+    let mut buffer = Buffer::new();
+    out.extend_from_slice(b"refused E")?;
+    out.extend_from_slice(buffer.format(number).as_bytes())?;
+    out.push(b'\n')?;
+    Ok(())
+}
+
+/// The message for a line that is not a command.
+pub fn complaint(alloc: Global, number: u64) -> Result<Vec<u8>, AllocError>
+    ensures { IfOk result (λ text. text.items ≡ line (codes "line " ++ decimal number ++ codes ": not a command")) }
+{
+    let mut buffer = Buffer::new();
+    let mut text = Vec::from_slice(alloc, b"line ")?;
+    text.extend_from_slice(buffer.format(number).as_bytes())?;
+    text.extend_from_slice(b": not a command\n")?;
+    Ok(text)
+}
+
+/// The number of these bytes, the lowest first.
+fn value_of(bytes: &[u8]) -> u64
+    requires { length bytes.now ≤ 8 }
+    ensures { result ≡ value_of bytes.now }
+{
+    let mut value = 0u64;
+    for count in 0..bytes.len() {
+        value = value * 256 + u64::from(bytes[bytes.len() - 1 - count]);
+    }
+    value
+}
+
+fn put_decimal(out: &mut Vec<u8>, number: u64) -> Result<(), AllocError>
+    ensures { OnOk result (out.new.items ≡ out.old.items ++ decimal number) }
+{
+    let mut buffer = Buffer::new();
+    out.extend_from_slice(buffer.format(number).as_bytes())
+}
+
+/// Prints a number below 0.
+fn put_negative(out: &mut Vec<u8>, number: u64) -> Result<(), AllocError>
+    ensures { OnOk result (out.new.items ≡ out.old.items ++ 45 ∷ decimal number) }
+{
+    out.push(b'-')?;
+    put_decimal(out, number)
+}
+
+/// Prints a cell.
+fn put_number(out: &mut Vec<u8>, cell_type: CellType, cell: &[u8]) -> Result<(), AllocError>
+    requires { length cell.now ≡ size_of cell_type }
+    ensures { OnOk result (out.new.items ≡ out.old.items ++ number_text cell_type cell.now) }
+{
+    let value = value_of(cell);
+    if cell_type.is_signed() && value > cell_type.greatest() {
+        return put_negative(out, cell_type.greatest() * 2 + 1 - value + 1);
+    }
+    put_decimal(out, value)
+}
+
+/// Prints the cells of these bytes, joined by commas, or `-` for none.
+fn put_cells<W: Write>(
+    writer: &mut W,
+    out: &mut Vec<u8>,
+    cell_type: CellType,
+    bytes: &[u8],
+) -> Result<(), Stopped>
+    requires { IsSome (data_text cell_type (fixed bytes.now)) }
+    ensures { OnOk result (Puts (W.contents writer.old) (W.contents writer.new)
+        out.old.items out.new.items (λ text. data_text cell_type (fixed bytes.now) ≡ Some text)) }
+{
+    let size = cell_type.size();
+    if bytes.len() < size {
+        put_line(out, b"-")?;
+        return Ok(());
+    }
+    put_number(out, cell_type, &bytes[..size])?;
+    for index in 1..bytes.len() / size {
+        out.push(b',')?;
+        put_number(out, cell_type, &bytes[index * size..index * size + size])?;
+        spill(writer, out)?;
+    }
+    out.push(b'\n')?;
+    Ok(())
+}
+
+/// The number of a refusal, and 0 for one that no call returns.
+fn refusal_number(error: &ArrayError) -> u8
+    ensures { result ≡ refusal_number (refusal_of error.now) }
+{
+    match error {
+        ArrayError::InvalidArraySubset(..) => 1,
+        ArrayError::InvalidChunkSubset(..) => 2,
+        ArrayError::InvalidChunkGridIndicesError(_) => 3,
+        ArrayError::CodecError(CodecError::DoesNotFit) => 4,
+        ArrayError::ElementError(_) => 5,
+        ArrayError::InvalidDataShape(..) => 6,
+        ArrayError::StorageError(StorageError::OutOfMemory) => 0,
+        ArrayError::StorageError(_) => 7,
+        ArrayError::SizeOverflow => 8,
+        ArrayError::OutOfMemory => 9,
+        ArrayError::IncompatibleDimensionalityError(_) => 10,
+        _ => 0,
+    }
+}
+
+/// Prints the reply, and tells whether it is a refusal.
+fn put_reply<W: Write>(
+    writer: &mut W,
+    out: &mut Vec<u8>,
+    cell_type: CellType,
+    reply: &Reply,
+) -> Result<bool, Stopped>
+    requires { IsSome (reply_text cell_type reply.now) }
+    ensures text { OnOk result (Puts (W.contents writer.old) (W.contents writer.new)
+        out.old.items out.new.items (λ text. reply_text cell_type reply.now ≡ Some text)) }
+    ensures refused { IfOk result (λ refused. refused ≡ is_refusal reply.now) }
+{
+    match reply {
+        Reply::Done => {
+            put_line(out, b"ok")?;
+            Ok(false)
+        }
+        Reply::MaybeCells(None) => {
+            put_line(out, b"none")?;
+            Ok(false)
+        }
+        Reply::Cells(data) | Reply::MaybeCells(Some(data)) => {
+            let ArrayBytes::Fixed(cells) = data;
+            put_cells(writer, out, cell_type, cells.as_slice())?;
+            Ok(false)
+        }
+        Reply::Refused(error) => {
+            put_refusal(out, refusal_number(error))?;
+            Ok(true)
+        }
+    }
+}
+
+/// Prints the replies, each of which is dropped then, and tells whether one is a refusal.
+pub fn put_replies<W: Write>(
+    writer: &mut W,
+    out: &mut Vec<u8>,
+    cell_type: CellType,
+    replies: Vec<Reply>,
+) -> Result<bool, Stopped>
+    requires { All (λ reply. IsSome (reply_text cell_type reply)) replies.items }
+    ensures text { OnOk result (Puts (W.contents writer.old) (W.contents writer.new)
+        out.old.items out.new.items (λ text. replies_text cell_type replies.items ≡ Some text)) }
+    ensures refused { IfOk result (λ refused. refused ≡ list_any is_refusal replies.items) }
+{
+    let mut refused = false;
+    for reply in replies {
+        let is_refusal = put_reply(writer, out, cell_type, &reply)?;
+        drop(reply);
+        spill(writer, out)?;
+        refused |= is_refusal;
+    }
+    Ok(refused)
+}
+
+/// Prints that `count` lines were skipped.
+pub fn put_skipped<W: Write>(writer: &mut W, out: &mut Vec<u8>, count: usize) -> Result<(), Stopped>
+    ensures { OnOk result (Puts (W.contents writer.old) (W.contents writer.new)
+        out.old.items out.new.items (λ text. text ≡ skipped count)) }
+{
+    for _ in 0..count {
+        put_line(out, b"skipped")?;
+        spill(writer, out)?;
+    }
+    Ok(())
+}
+
+/// The bytes at a key, or none. A store in memory refuses only if memory runs out.
+fn value_at(alloc: Global, store: &MemoryStore, key: &StoreKey) -> Result<Bytes, AllocError>
+    ensures { IfOk result (λ value. value ≡ bytes_at store.now.values key.now) }
+{
+    match store.get(alloc, key) {
+        Ok(Some(value)) => Ok(value),
+        Ok(None) => Ok(Bytes::new()),
+        Err(_) => Err(AllocError),
+    }
+}
+
+/// Prints a key, and its bytes in hexadecimal.
+fn put_key(
+    alloc: Global,
+    out: &mut Vec<u8>,
+    store: &MemoryStore,
+    key: &StoreKey,
+) -> Result<(), AllocError>
+    ensures { OnOk result (out.new.items ≡ out.old.items ++ key_text store.now.values key.now) }
+{
+    out.extend_from_slice(key.as_str().as_bytes())?;
+    out.push(b' ')?;
+    let value = value_at(alloc, store, key)?;
+    let digits = hex::encode(alloc, value.as_slice())?;
+    out.extend_from_slice(digits.as_bytes())?;
+    out.push(b'\n')?;
+    Ok(())
+}
+
+/// Prints the keys that are present in ascending order, and their bytes, or that there is none.
+pub fn put_keys<W: Write>(
+    alloc: Global,
+    writer: &mut W,
+    out: &mut Vec<u8>,
+    store: &MemoryStore,
+) -> Result<(), Stopped>
+    ensures { OnOk result (Puts (W.contents writer.old) (W.contents writer.new)
+        out.old.items out.new.items (λ text. text ≡ keys_text store.now.values)) }
+{
+    let keys = store.keys(alloc)?;
+    if keys.is_empty() {
+        put_line(out, b"none")?;
+        return Ok(());
+    }
+    for key in &keys {
+        put_key(alloc, out, store, key)?;
+        spill(writer, out)?;
+    }
+    Ok(())
+}

@@ -1,0 +1,170 @@
+//! Runs scripts.
+ghost use Rattle.std.specs.Prelude.{◌≡◌, ◌∷◌, [], IfOk, ◌⊎◌, None, Some, map};
+ghost use Rattle.zarrs_script.specs.Parsed.{orders_in_block, orders_in, order_of_call};
+ghost use Rattle.zarrs_script.specs.Transcript.{Session, Opens};
+ghost use Rattle.zarrs_script.specs.Answers.{IsAnswer, Reads, Writes};
+ghost use Rattle.zarrs_script.specs.Sessions.{opened, session_of, Prints, Puts, Follows};
+
+use crate::array::OpenArray;
+use crate::command::{Block, Creation};
+use crate::error::{CreationError, ScriptError, Stopped};
+use crate::parse::blocks_of;
+use crate::print::{complaint, put_keys, put_line, put_refusal, put_replies, put_skipped, spill};
+use std::alloc::{AllocError, Global};
+use std::io::{Read, Write};
+use zarrs_codec::CodecOptions;
+use zarrs_engine::{Call, replay};
+
+/// Opens an array if it is accepted, and tells whether it was refused.
+fn open(
+    alloc: Global,
+    out: &mut Vec<u8>,
+    creation: Creation,
+) -> Result<(Option<OpenArray>, bool), AllocError>
+    ensures { IfOk result (λ opening. Prints out.old.items out.new.items
+        (λ text. Opens creation.shape.items creation.chunk_shape.items creation.cell_type
+        creation.fill.items (record {
+          text = text;
+          refused = opening.1;
+          after = session_of opening.0;
+        }))) }
+{
+    match OpenArray::create(alloc, creation) {
+        Ok(array) => {
+            put_line(out, b"ok")?;
+            Ok((Some(array), false))
+        }
+        Err(CreationError::NoGrid) => {
+            put_refusal(out, 18)?;
+            Ok((None, true))
+        }
+        Err(CreationError::OutOfMemory) => {
+            put_refusal(out, 26)?;
+            Ok((None, true))
+        }
+    }
+}
+
+/// Makes the calls, and tells whether one was refused.
+fn serve<W: Write>(
+    alloc: Global,
+    writer: &mut W,
+    out: &mut Vec<u8>,
+    array: &mut OpenArray,
+    calls: &[Call],
+) -> Result<bool, Stopped>
+    ensures { IfOk result (λ refused. Puts (W.contents writer.old) (W.contents writer.new)
+        out.old.items out.new.items (λ text. Follows (Some (opened array.old))
+        (map order_of_call calls.now) text refused (Some (opened array.new)))) }
+{
+    let replies = replay(alloc, &mut array.engine, calls, &CodecOptions::default())?;
+    let refused = put_replies(writer, out, array.cell_type, replies)?;
+    Ok(refused)
+}
+
+/// Runs a block, and tells whether it holds a refusal.
+fn run_block<W: Write>(
+    alloc: Global,
+    writer: &mut W,
+    out: &mut Vec<u8>,
+    array: &mut Option<OpenArray>,
+    block: Block,
+) -> Result<bool, Stopped>
+    ensures { IfOk result (λ refused. Puts (W.contents writer.old) (W.contents writer.new)
+        out.old.items out.new.items (λ text. Follows (session_of array.old)
+        (orders_in_block block) text refused (session_of array.new))) }
+{
+    match (block, array.as_mut()) {
+        (Block::Array(creation), _) => {
+            let (opening, refused) = open(alloc, out, creation)?;
+            *array = opening;
+            Ok(refused)
+        }
+        (Block::Calls(calls), Some(array)) => serve(alloc, writer, out, array, &calls),
+        (Block::Calls(calls), None) => {
+            put_skipped(writer, out, calls.len())?;
+            Ok(false)
+        }
+        (Block::Keys, Some(array)) => {
+            put_keys(alloc, writer, out, array.engine.storage())?;
+            Ok(false)
+        }
+        (Block::Keys, None) => {
+            put_skipped(writer, out, 1)?;
+            Ok(false)
+        }
+    }
+}
+
+/// Runs the blocks and writes their text, and tells whether one holds a refusal.
+fn run_blocks<W: Write>(alloc: Global, writer: &mut W, blocks: Vec<Block>) -> Result<bool, Stopped>
+    ensures { IfOk result (λ refused. Writes (W.contents writer.old) (W.contents writer.new)
+        (λ text. (after : Session) × Follows None (orders_in blocks.items) text refused after)) }
+{
+    let mut array = None;
+    let mut refused = false;
+    let mut out = Vec::new(alloc);
+    for block in blocks {
+        refused |= run_block(alloc, writer, &mut out, &mut array, block)?;
+        spill(writer, &mut out)?;
+    }
+    writer.write_all(&out)?;
+    Ok(refused)
+}
+
+/// Writes what the script prints, and gives the status, 0 to 2.
+fn answer<W: Write>(alloc: Global, writer: &mut W, script: &[u8]) -> Result<u8, Stopped>
+    ensures { IfOk result (λ status. Writes (W.contents writer.old) (W.contents writer.new)
+        (λ text. IsAnswer script.now text status)) }
+{
+    match blocks_of(alloc, script) {
+        Ok(blocks) => {
+            let refused = run_blocks(alloc, writer, blocks)?;
+            Ok(u8::from(refused))
+        }
+        Err(ScriptError::NotACommand(number)) => {
+            let text = complaint(alloc, number)?;
+            writer.write_all(&text)?;
+            Ok(2)
+        }
+        Err(ScriptError::OutOfMemory) => Err(Stopped),
+    }
+}
+
+/// Reads the whole script, and writes what it prints.
+fn read_and_answer<R: Read, W: Write>(
+    alloc: Global,
+    reader: &mut R,
+    writer: &mut W,
+) -> Result<u8, Stopped>
+    ensures { IfOk result (λ status. Reads (R.remaining reader.old) (R.remaining reader.new)
+        (λ script. Writes (W.contents writer.old) (W.contents writer.new)
+        (λ text. IsAnswer script text status))) }
+{
+    let mut script = Vec::new(alloc);
+    reader.read_to_end(&mut script)?;
+    let status = answer(alloc, writer, &script)?;
+    writer.flush()?;
+    Ok(status)
+}
+
+/// Runs the script that the reader holds, prints into the writer, and returns the status.
+///
+/// Each line is a command, empty, or begins with `#`. A command is `array SHAPE CHUNKS TYPE FILL`,
+/// `chunk INDICES CELLS`, `read INDICES`, `erase INDICES` or `keys`. A list is numbers joined by `,`, or `-`. A type is
+/// `bool`, `int8` to `int64` or `uint8` to `uint64`. Its cells are numbers, of a signed type also with `-` before
+/// them; of `bool` they are 0 and 1.
+///
+/// | Status | Meaning |
+/// |---|---|
+/// | 0 | nothing was refused |
+/// | 1 | something was refused, and the script went on |
+/// | 2 | a line is not a command: its number alone is printed |
+/// | 3 | input, output or memory outside a call failed, and nothing more was printed |
+pub fn run_script<R: Read, W: Write>(alloc: Global, reader: &mut R, writer: &mut W) -> u8
+    ensures { Reads (R.remaining reader.old) (R.remaining reader.new)
+        (λ script. Writes (W.contents writer.old) (W.contents writer.new)
+        (λ text. IsAnswer script text result)) ⊎ (result ≡ 3) }
+{
+    read_and_answer(alloc, reader, writer).unwrap_or(3)
+}

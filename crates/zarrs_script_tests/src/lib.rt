@@ -1,0 +1,5 @@
+//! Tests of `zarrs_script`: scripts, what they print, and how they end.
+#![tactic(auto)]
+
+#[cfg(test)]
+mod tests;

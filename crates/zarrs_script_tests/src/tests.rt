@@ -1,0 +1,478 @@
+//! Scripts, what they print, and how they end.
+use std::alloc::{AllocError, Global};
+use std::io::{self, ErrorKind, Read, Write};
+use std::process::Abort;
+use std::test::Fail;
+use zarrs_script::run_script;
+
+/// The script must print this text, and end with this status.
+fn must_print(rt: &impl Abort, alloc: Global, script: &[u8], prints: &[u8], status: u8) {
+    let mut reader = script;
+    let mut text = Vec::new(alloc);
+    let ended = run_script(alloc, &mut reader, &mut text);
+    assert_eq!(rt; text.as_slice(), prints, "of {script:?}");
+    assert_eq!(rt; ended, status, "of {script:?}");
+}
+
+#[test]
+fn scripts_print_what_they_ask(rt: HostRuntime) {
+    let cases: [(&str, &str, u8); 16] = [
+        (
+            "array 4 2 uint8 0\nchunk 1 5,6\nread 1\nread 0\nkeys\nerase 1\nkeys\n",
+            "ok\nok\n5,6\n0,0\nc/1 0506\nok\nnone\n",
+            0,
+        ),
+        (
+            "array - - uint8 0\nchunk - 7\nkeys\nread -\n",
+            "ok\nok\nc 07\n7\n",
+            0,
+        ),
+        (
+            "array 18446744073709551615 9223372036854775808 uint8 0\nread 1\nerase 1\n",
+            "ok\nrefused E3\nok\n",
+            1,
+        ),
+        (
+            "array 4 0 uint8 0\nchunk 0 1\n",
+            "refused E18\nskipped\n",
+            1,
+        ),
+        (
+            "array 4,2 2,2 uint8 9\nchunk 0,0 9,9,9,9\nkeys\nchunk 1,0 9,9,9,8\nkeys\nread 5,5\n",
+            "ok\nok\nnone\nok\nc/1/0 09090908\n9,9,9,9\n",
+            0,
+        ),
+        (
+            "array 4 2 uint8 0\nchunk 0 1,2,3\nerase 0,0\n",
+            "ok\nrefused E4\nrefused E3\n",
+            1,
+        ),
+        ("array 4 2 uint8 0\nchunk 0,0 1,2\n", "ok\nrefused E3\n", 1),
+        // keys in ascending order of their bytes
+        (
+            "array 12 1 uint8 0\nchunk 10 1\nchunk 9 171\nchunk 1 2\nkeys\n",
+            "ok\nok\nok\nok\nc/1 02\nc/10 01\nc/9 ab\n",
+            0,
+        ),
+        // a new array has a new store, also where no call stands between
+        (
+            "array 4 2 uint8 0\nchunk 1 5,6\narray 4 2 uint8 3\narray 4 2 uint8 4\nkeys\nread 1\n",
+            "ok\nok\nok\nok\nnone\n4,4\n",
+            0,
+        ),
+        // what follows a refused array is skipped, up to the next array
+        (
+            "array 4 2,2 uint8 0\nkeys\nread 0\nchunk 0 1,2\nkeys\narray 4 2 uint8 1\nread 0\n",
+            "refused E18\nskipped\nskipped\nskipped\nskipped\nok\n1,1\n",
+            1,
+        ),
+        // a refused line hides no later one, and no later one hides it
+        (
+            "array 4 2 uint8 0\nread 0,0\nread 0\nkeys\nread 1\n",
+            "ok\nrefused E3\n0,0\nnone\n0,0\n",
+            1,
+        ),
+        // one chunk of an array without dimensions, stored, filled and erased
+        (
+            "array - - uint8 3\nchunk - 3\nkeys\nchunk - 4\nread -\nerase -\nread -\nread 0\n",
+            "ok\nok\nnone\nok\n4\nok\n3\nrefused E3\n",
+            1,
+        ),
+        // a chunk lies past the shape
+        (
+            "array 0 2 uint8 7\nread 0\nchunk 0 1,2\nread 0\n",
+            "ok\n7,7\nok\n1,2\n",
+            0,
+        ),
+        // a size past the number types comes before the number of cells
+        (
+            "array 4294967296,4294967296 4294967296,4294967296 uint8 0\nread 0,0\nchunk 0,0 1\n",
+            "ok\nrefused E8\nrefused E8\n",
+            1,
+        ),
+        // more memory than there is
+        (
+            "array 18446744073709551615 18446744073709551615 uint8 0\nread 0\nerase 0\n",
+            "ok\nrefused E9\nok\n",
+            1,
+        ),
+        ("", "", 0),
+    ];
+    for (script, prints, status) in cases {
+        must_print(&rt, rt.alloc(), script.as_bytes(), prints.as_bytes(), status);
+    }
+}
+
+#[test]
+fn the_first_line_that_is_no_command_is_named(rt: HostRuntime) {
+    let cases: [(&[u8], &str); 22] = [
+        (
+            b"array 4 2 uint8 0\nchunk 0 1,256\n",
+            "line 2: not a command\n",
+        ),
+        (b"array 4 2 uint8 0\nchunk 2\n", "line 2: not a command\n"),
+        (b"keys\narray 4 2 uint8 0\n", "line 1: not a command\n"),
+        (b"# first\n\nread 0\n", "line 3: not a command\n"),
+        (
+            b"array 4 2 uint8 0\n\n#\nread 18446744073709551616\n",
+            "line 4: not a command\n",
+        ),
+        (
+            b"array 4 2 uint8 0\nread 99999999999999999999999\n",
+            "line 2: not a command\n",
+        ),
+        (b"array 4 2 uint8 256\n", "line 1: not a command\n"),
+        (b"array 4 2 float32 0\n", "line 1: not a command\n"),
+        (b"array 4 2 uint8\n", "line 1: not a command\n"),
+        (b"array 4 2 uint8 0 0\n", "line 1: not a command\n"),
+        (b"array 4  2 uint8 0\n", "line 1: not a command\n"),
+        (b"array 4 2 uint8 0 \n", "line 1: not a command\n"),
+        (b" array 4 2 uint8 0\n", "line 1: not a command\n"),
+        (b"array 4 2 uint8 -\n", "line 1: not a command\n"),
+        (b"array 4, 2 uint8 0\n", "line 1: not a command\n"),
+        (b"array +4 2 uint8 0\n", "line 1: not a command\n"),
+        (b"array 4 2 uint8 0\r\nkeys\n", "line 1: not a command\n"),
+        (b"array 4 2 uint8 0\nkeys 0\n", "line 2: not a command\n"),
+        (
+            b"array 4 2 uint8 0\nkeys\n \nchunk\n",
+            "line 3: not a command\n",
+        ),
+        (b"array 4 2 uint8 0\nread 1,,1\n", "line 2: not a command\n"),
+        (b"array 4 2 uint8 0\nmeta", "line 2: not a command\n"),
+        (
+            b"array 4 2 uint8 0\nread \xff\xfe\n",
+            "line 2: not a command\n",
+        ),
+    ];
+    for (script, prints) in cases {
+        must_print(&rt, rt.alloc(), script, prints.as_bytes(), 2);
+    }
+}
+
+#[test]
+fn lines_are_plain_bytes(rt: HostRuntime) {
+    let script =
+        b"# \xff\xfe is no text\n\narray 004 0002 uint8 00\n#\n\nchunk 01 005,00255\nread 1";
+    must_print(&rt, rt.alloc(), script, b"ok\nok\n5,255\n", 0);
+}
+
+/// Gives its text in small parts, and then an error.
+#[derive(Drop)]
+struct BrokenReader {
+    text: &'static [u8],
+}
+
+impl Read for BrokenReader {
+    fn read(&mut self, buffer: &mut [u8]) -> io::Result<usize> {
+        let Some((first, rest)) = self.text.split_first() else {
+            return Err(io::Error::from(ErrorKind::ConnectionReset));
+        };
+        let Some(place) = buffer.first_mut() else {
+            return Ok(0);
+        };
+        *place = *first;
+        self.text = rest;
+        Ok(1)
+    }
+}
+
+/// The reader must end the script with status 3, and nothing is printed.
+fn must_not_read(rt: &impl Abort, alloc: Global, reader: &mut BrokenReader) {
+    let mut text = Vec::new(alloc);
+    assert_eq!(rt; run_script(alloc, reader, &mut text), 3);
+    assert!(rt; text.is_empty());
+}
+
+#[test]
+fn input_that_fails_ends_with_status_3(rt: HostRuntime) {
+    let mut reader = BrokenReader {
+        text: b"array 4 2 uint8 0\nkeys\n",
+    };
+    must_not_read(&rt, rt.alloc(), &mut reader);
+}
+
+/// Takes `room` bytes, one at a time, and then fails.
+#[derive(Drop)]
+struct BrokenWriter {
+    text: Vec<u8>,
+    room: usize,
+}
+
+impl Write for BrokenWriter {
+    fn write(&mut self, bytes: &[u8]) -> io::Result<usize> {
+        if self.text.len() >= self.room {
+            return Err(io::Error::from(ErrorKind::StorageFull));
+        }
+        let Some(first) = bytes.first() else {
+            return Ok(0);
+        };
+        self.text.push(*first)?;
+        Ok(1)
+    }
+
+    fn flush(&mut self) -> io::Result<()> {
+        Ok(())
+    }
+}
+
+/// The script must end with status 3, and the writer has a front of the text.
+fn must_not_write(rt: &impl Abort, script: &[u8], prints: &[u8], writer: &mut BrokenWriter, alloc: Global) {
+    let mut reader = script;
+    assert_eq!(rt; run_script(alloc, &mut reader, writer), 3);
+    assert!(rt; writer.text.len() <= writer.room);
+    assert!(rt; prints.starts_with(writer.text.as_slice()));
+}
+
+#[test]
+fn output_that_fails_ends_with_status_3(rt: HostRuntime) {
+    for room in 0..10 {
+        let mut writer = BrokenWriter {
+            text: Vec::new(rt.alloc()),
+            room,
+        };
+        let script = b"array 4 2 uint8 0\nread 5,5\nread 0\n";
+        must_not_write(&rt, script, b"ok\nrefused E3\n0,0\n", &mut writer, rt.alloc());
+    }
+}
+
+/// Keeps what is written back until it is flushed, and then fails.
+#[derive(Drop)]
+struct LateWriter;
+
+impl Write for LateWriter {
+    fn write(&mut self, bytes: &[u8]) -> io::Result<usize> {
+        Ok(bytes.len())
+    }
+
+    fn flush(&mut self) -> io::Result<()> {
+        Err(io::Error::from(ErrorKind::StorageFull))
+    }
+}
+
+fn must_not_flush(rt: &impl Abort, alloc: Global, writer: &mut LateWriter) {
+    let mut reader = b"array 4 2 uint8 0\n".as_slice();
+    assert_eq!(rt; run_script(alloc, &mut reader, writer), 3);
+}
+
+#[test]
+fn output_that_is_not_flushed_ends_with_status_3(rt: HostRuntime) {
+    must_not_flush(&rt, rt.alloc(), &mut LateWriter);
+}
+
+/// An array of 100 chunks, and `pairs` pairs of a `chunk` and a `read`.
+fn long_script(alloc: Global, pairs: u32) -> Result<Vec<u8>, AllocError> {
+    let mut script = Vec::from_slice(alloc, b"array 400 4 uint8 0\n")?;
+    let mut buffer = itoa::Buffer::new();
+    for pair in 0..pairs {
+        script.extend_from_slice(b"chunk ")?;
+        script.extend_from_slice(buffer.format(pair % 100).as_bytes())?;
+        script.extend_from_slice(b" 1,2,3,")?;
+        script.extend_from_slice(buffer.format(pair % 256).as_bytes())?;
+        script.extend_from_slice(b"\nread ")?;
+        script.extend_from_slice(buffer.format(pair % 100).as_bytes())?;
+        script.extend_from_slice(b"\n")?;
+    }
+    Ok(script)
+}
+
+/// The script must print this many lines, the last of which are these, and end with status 0.
+fn must_end(rt: &impl Abort, alloc: Global, script: &[u8], lines: usize, last: &[u8]) {
+    let mut reader = script;
+    let mut text = Vec::new(alloc);
+    assert_eq!(rt; run_script(alloc, &mut reader, &mut text), 0);
+    assert_eq!(rt; text.as_slice().split(|byte| *byte == b'\n').count(), lines + 1);
+    assert!(rt; text.as_slice().ends_with(last));
+}
+
+#[test]
+fn a_hundred_thousand_lines(rt: HostRuntime) -> Result<(), Fail> {
+    let script = long_script(rt.alloc(), 50_000)?;
+    must_end(&rt, rt.alloc(), &script, 100_001, b"\nok\n1,2,3,79\n");
+    Ok(())
+}
+
+#[test]
+fn each_type_has_its_cells(rt: HostRuntime) {
+    let cases: [(&str, &str, u8); 12] = [
+        // the least and the greatest number of each type, as they are printed and as they are stored
+        (
+            "array 2 2 bool 1\nread 0\nchunk 0 0,1\nread 0\nkeys\n",
+            "ok\n1,1\nok\n0,1\nc/0 0001\n",
+            0,
+        ),
+        (
+            "array 2 2 int8 -1\nread 0\nchunk 0 -128,127\nread 0\nkeys\n",
+            "ok\n-1,-1\nok\n-128,127\nc/0 807f\n",
+            0,
+        ),
+        (
+            "array 2 2 int16 7\nread 0\nchunk 0 -32768,32767\nread 0\nkeys\n",
+            "ok\n7,7\nok\n-32768,32767\nc/0 0080ff7f\n",
+            0,
+        ),
+        (
+            "array 2 2 int32 0\nchunk 0 -2147483648,2147483647\nread 0\nkeys\n",
+            "ok\nok\n-2147483648,2147483647\nc/0 00000080ffffff7f\n",
+            0,
+        ),
+        (
+            "array 2 2 int64 -2\nread 0\nchunk 0 -9223372036854775808,9223372036854775807\nread 0\nkeys\n",
+            "ok\n-2,-2\nok\n-9223372036854775808,9223372036854775807\nc/0 0000000000000080ffffffffffffff7f\n",
+            0,
+        ),
+        (
+            "array 2 2 uint16 258\nread 0\nchunk 0 0,65535\nread 0\nkeys\n",
+            "ok\n258,258\nok\n0,65535\nc/0 0000ffff\n",
+            0,
+        ),
+        (
+            "array 2 2 uint32 65536\nread 0\nchunk 0 1,4294967295\nread 0\nkeys\n",
+            "ok\n65536,65536\nok\n1,4294967295\nc/0 01000000ffffffff\n",
+            0,
+        ),
+        (
+            "array 2 2 uint64 0\nchunk 0 1,18446744073709551615\nread 0\nkeys\n",
+            "ok\nok\n1,18446744073709551615\nc/0 0100000000000000ffffffffffffffff\n",
+            0,
+        ),
+        // a chunk of signed cells, and one of bools
+        (
+            "array 2 2 int16 -1\nchunk 0 -2,258\nkeys\n",
+            "ok\nok\nc/0 feff0201\n",
+            0,
+        ),
+        (
+            "array 3 3 bool 0\nchunk 0 1,0,1\nkeys\n",
+            "ok\nok\nc/0 010001\n",
+            0,
+        ),
+        // `-0` is 0, which is the fill value here, so the chunk is not kept; leading zeros stand after the sign
+        (
+            "array 2 2 int8 0\nchunk 0 -0,-000\nkeys\nchunk 0 -007,08\nread 0\n",
+            "ok\nok\nnone\nok\n-7,8\n",
+            0,
+        ),
+        // a chunk of no cells is read as `-`, and one of too few cells is refused
+        (
+            "array 2 2 int32 0\nchunk 0 -\nchunk 0 1\n",
+            "ok\nrefused E4\nrefused E4\n",
+            1,
+        ),
+    ];
+    for (script, prints, status) in cases {
+        must_print(&rt, rt.alloc(), script.as_bytes(), prints.as_bytes(), status);
+    }
+}
+
+#[test]
+fn a_cell_outside_its_type_is_not_a_command(rt: HostRuntime) {
+    let cells: [&str; 20] = [
+        "bool 2",
+        "bool -1",
+        "bool -0",
+        "bool true",
+        "int8 128",
+        "int8 -129",
+        "int16 32768",
+        "int16 -32769",
+        "int32 2147483648",
+        "int32 -2147483649",
+        "int64 9223372036854775808",
+        "int64 -9223372036854775809",
+        "int64 -18446744073709551616",
+        "uint8 -1",
+        "uint16 65536",
+        "uint32 4294967296",
+        "uint64 18446744073709551616",
+        "int8 --1",
+        "int8 -",
+        "int8 +1",
+    ];
+    for cell in cells {
+        must_not_be_a_command(&rt, rt.alloc(), cell);
+    }
+}
+
+/// An `array` line with this type and fill value must be named as not a command.
+fn must_not_be_a_command(rt: &impl Abort, alloc: Global, cell: &str) {
+    let mut script = Vec::new(alloc);
+    if script.extend_from_slice(b"array 2 2 ").is_err() || script.extend_from_slice(cell.as_bytes()).is_err() {
+        return;
+    }
+    must_print(rt, alloc, &script, b"line 1: not a command\n", 2);
+}
+
+/// Cells of one chunk, joined by commas, that take more than is gathered before it is written.
+fn long_list(alloc: Global, cells: u32) -> Result<Vec<u8>, AllocError> {
+    let mut list = Vec::from_slice(alloc, b"-30000")?;
+    let mut buffer = itoa::Buffer::new();
+    for cell in 1..cells {
+        list.extend_from_slice(b",")?;
+        list.extend_from_slice(buffer.format(cell).as_bytes())?;
+    }
+    Ok(list)
+}
+
+#[test]
+fn a_long_chunk_is_printed_whole(rt: HostRuntime) -> Result<(), Fail> {
+    let list = long_list(rt.alloc(), 20_000)?;
+    let mut script = Vec::from_slice(rt.alloc(), b"array 20000 20000 int16 0\nchunk 0 ")?;
+    script.extend_from_slice(&list)?;
+    script.extend_from_slice(b"\nread 0\n")?;
+    let mut prints = Vec::from_slice(rt.alloc(), b"ok\nok\n")?;
+    prints.extend_from_slice(&list)?;
+    prints.extend_from_slice(b"\n")?;
+    must_print(&rt, rt.alloc(), &script, &prints, 0);
+    Ok(())
+}
+
+#[test]
+fn the_examples_print_what_is_beside_them(rt: HostRuntime) {
+    let cases: [(&str, &str, u8); 7] = [
+        // examples/cells.zarrs
+        (
+            "# Leading zeros are allowed, and so are empty lines.\n\narray 0010 001 uint8 000\nchunk 9 0171\nchunk 10 1\nchunk 1 02\n\n# Keys in ascending order of their bytes: `c/10` is before `c/9`\nkeys\n\n# The last chunk of an array of 3 cells in chunks of 2 crosses the end. Its cells are kept as they are.\narray 3 2 uint8 255\nchunk 1 7,8\nread 1\nkeys\n\n# Chunk 5 lies past the shape, and is a chunk of the grid all the same.\nread 5\nchunk 5 1,255\nread 5\n",
+            "ok\nok\nok\nok\nc/1 02\nc/10 01\nc/9 ab\nok\nok\n7,8\nc/1 0708\n255,255\nok\n1,255\n",
+            0,
+        ),
+        // examples/first.zarrs
+        (
+            "array 4 2 uint8 0\nchunk 1 5,6\nread 1\nread 0\nkeys\nerase 1\nkeys\n",
+            "ok\nok\n5,6\n0,0\nc/1 0506\nok\nnone\n",
+            0,
+        ),
+        // examples/limits.zarrs
+        (
+            "# The last number of 64 bits. Two chunks of 2^63 would end past it, so the second one is no chunk.\narray 18446744073709551615 9223372036854775808 uint8 0\nread 1\nerase 1\n\n# Any index list of the right length names a key, so it can be erased. Only those of chunks can be stored.\nchunk 18446744073709551615 1\nerase 18446744073709551615\n\n# E8: a chunk of 2^64 bytes. This comes before the number of cells.\narray 4294967296,4294967296 4294967296,4294967296 uint8 0\nchunk 0,0 1\nread 0,0\n\n# E9: a chunk of 2^64 - 1 bytes, which no memory holds\narray 18446744073709551615 18446744073709551615 uint8 0\nread 0\nchunk 0 1\nkeys\n",
+            "ok\nrefused E3\nok\nrefused E3\nok\nok\nrefused E8\nrefused E8\nok\nrefused E9\nrefused E4\nnone\n",
+            1,
+        ),
+        // examples/no_dimension.zarrs
+        (
+            "# An array without dimensions has one position, in one chunk, whose index list is empty.\narray - - uint8 3\nread -\nchunk - 4\nkeys\nread -\n\n# A chunk that is all fill is not kept.\nchunk - 3\nkeys\nerase -\nread -\nread 0\n",
+            "ok\n3\nok\nc 04\n4\nok\nnone\nok\n3\nrefused E3\n",
+            1,
+        ),
+        // examples/not_a_command.zarrs
+        (
+            "# The whole script is read before any of it runs. Line 6 has a cell that no byte is, so nothing runs,\n# its number alone is printed, and the status is 2.\narray 4 2 uint8 0\nchunk 0 1,2\n\nchunk 1 3,256\nread 0\n",
+            "line 6: not a command\n",
+            2,
+        ),
+        // examples/refusals.zarrs
+        (
+            "# Each refused call prints its number, and the script goes on. It ends with status 1.\narray 4,4 2,2 uint8 0\n\n# E3: no chunk has these indices. The list has another length than the array has dimensions.\nread 1\nchunk 0,0,0 1\nerase 0\n\n# E4: three cells in a chunk of four\nchunk 0,0 1,2,3\n\n# What was refused changed nothing, and what follows is answered.\nkeys\nchunk 1,1 1,2,3,4\nread 1,1\nkeys\n\n# E18: a chunk shape of another length, and one with an extent 0\narray 4,4 2 uint8 0\narray 4,4 2,0 uint8 0\n",
+            "ok\nrefused E3\nrefused E3\nrefused E3\nrefused E4\nnone\nok\n1,2,3,4\nc/1/1 01020304\nrefused E18\nrefused E18\n",
+            1,
+        ),
+        // examples/skipped.zarrs
+        (
+            "# Lines behind a refused `array` are skipped up to the next one. A skipped line is no refusal.\narray 4 2 uint8 7\nchunk 0 1,2\narray 4 0 uint8 0\nchunk 0 3,4\nread 0\nkeys\nerase 0\n\n# A new array has a new store: nothing is left of the first one.\narray 4 2 uint8 9\nkeys\nread 0\n",
+            "ok\nok\nrefused E18\nskipped\nskipped\nskipped\nskipped\nok\nnone\n9,9\n",
+            1,
+        ),
+    ];
+    for (script, prints, status) in cases {
+        must_print(&rt, rt.alloc(), script.as_bytes(), prints.as_bytes(), status);
+    }
+}
