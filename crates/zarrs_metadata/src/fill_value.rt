@@ -1,8 +1,7 @@
 //! Fill values as metadata says them.
 ghost use Rattle.std.specs.Prelude.{◌≡◌, IfOk};
-ghost use Rattle.serde_json.specs.View.{view, items_view};
+ghost use Rattle.serde_json.specs.View.{view, items_view, members_view};
 
-use crate::members::copied;
 use serde_json::{Map, Number, Value};
 use std::alloc::{AllocError, Global};
 
@@ -65,7 +64,7 @@ impl FillValueMetadata {
             FillValueMetadata::Number(number) => Ok(Value::Number(number.clone()?)),
             FillValueMetadata::String(text) => Value::try_from_str(alloc, text.as_str()),
             FillValueMetadata::Array(items) => Ok(Value::Array(copied_items(items)?)),
-            FillValueMetadata::Object(members) => Ok(Value::Object(copied(members)?)),
+            FillValueMetadata::Object(members) => Ok(Value::Object(copied_members(members)?)),
         }
     }
 
@@ -82,4 +81,11 @@ fn copied_items(items: &Vec<Value>) -> Result<Vec<Value>, AllocError>
     ensures { IfOk result (λ copy. items_view copy.items ≡ items_view items.now.items) }
 {
     items.clone()
+}
+
+/// A copy of the members.
+fn copied_members(members: &Map<String, Value>) -> Result<Map<String, Value>, AllocError>
+    ensures { IfOk result (λ copy. members_view copy.entries ≡ members_view members.now.entries) }
+{
+    members.clone()
 }

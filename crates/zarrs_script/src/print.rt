@@ -173,7 +173,9 @@ fn put_reply<W: Write>(
             Ok(false)
         }
         Reply::Cells(data) | Reply::MaybeCells(Some(data)) => {
-            let ArrayBytes::Fixed(cells) = data;
+            let ArrayBytes::Fixed(cells) = data else {
+                unreachable!();
+            };
             put_cells(writer, out, cell_type, cells.as_slice())?;
             Ok(false)
         }
