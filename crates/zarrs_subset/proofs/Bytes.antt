@@ -1,10 +1,23 @@
--- Positions of a box, one dimension at a time.
-use Rattle.std.proofs.Common.{◌≡◌, ℕ, zero, suc, ◌+◌, ◌<◌, ◌≤◌, true, List, [], ◌∷◌, length, slice_index, nat_le, nat_lt, refl, arith}
+-- Cells of one byte.
+use Rattle.std.proofs.Common.{◌≡◌, ℕ, zero, suc, ◌+◌, ◌*◌, ◌<◌, ◌≤◌, true, List, [], ◌∷◌, length, get_or, slice_index, slice_get, Some, nat_le, nat_lt, refl, sym, ap, ◌∙◌, arith}
+use Rattle.std.proofs.lemmas.Option.{slice_get-get_or}
 use Rattle.std.proofs.lemmas.Bool.{and_parts, and_from, ltb-true, leb-true, lt-ltb, le-leb, false≢true}
 use Rattle.zarrs_subset.specs.Boxes.{position_count, in_range, is_within, offset_from}
+use Rattle.zarrs_subset.specs.Pieces.{piece_at}
 use Rattle.zarrs_subset.specs.Regions.{Box, IsLong, Holds, InBox, place_in}
-use Rattle.zarrs_subset.proofs.Kernel.{place_below}
+use Rattle.zarrs_subset.proofs.Kernel.{get_or-part, place_below}
 use Rattle.zarrs_subset.proofs.Positions.{offset_from-in}
+
+-- equal cells of one byte are equal bytes
+pub byte_of : (a b : List ℕ) (j k : ℕ) → j < length a → k < length b → piece_at 1 a j ≡ piece_at 1 b k → slice_get a j ≡ slice_get b k
+byte_of a b j k h i e =
+    let first = get_or-part (j * 1) (j * 1 + 1) 0 a (omega arith) in
+    let second = get_or-part (k * 1) (k * 1 + 1) 0 b (omega arith) in
+    let j_is : j * 1 + 0 ≡ j = omega arith in
+    let k_is : k * 1 + 0 ≡ k = omega arith in
+    slice_get-get_or a j 0 h
+    ∙ ap (λ x. Some x) (ap (λ n. get_or a n 0) (sym j_is) ∙ sym first ∙ ap (λ xs. get_or xs 0 0) e ∙ second ∙ ap (λ n. get_or b n 0) k_is)
+    ∙ sym (slice_get-get_or b k 0 i)
 
 -- a place is below the number of positions
 pub place_in_below : (box : Box) (position : List ℕ) → IsLong box → Holds box position → place_in box position < position_count box.shape

@@ -13,14 +13,6 @@ length_fits (s ∷ start) [] shape h = absurd h
 length_fits (s ∷ start) (e ∷ extents) [] h = absurd h
 length_fits (s ∷ start) (e ∷ extents) (n ∷ shape) h = ap suc (length_fits start extents shape h.1)
 
-pub length_shape : (start extents shape : List ℕ) → BoxFits start extents shape → length shape ≡ length extents
-length_shape [] [] [] h = refl
-length_shape [] [] (n ∷ shape) h = absurd h
-length_shape [] (e ∷ extents) shape h = absurd h
-length_shape (s ∷ start) [] shape h = absurd h
-length_shape (s ∷ start) (e ∷ extents) [] h = absurd h
-length_shape (s ∷ start) (e ∷ extents) (n ∷ shape) h = ap suc (length_shape start extents shape h.1)
-
 -- a box with an extent 0
 pub BoxCopied-zero : (size k : ℕ) (S F T U es from old : List ℕ) → k < length es → get_or es k 0 ≡ 0 → BoxFits U es T → BoxCopied size S F T U es from old old
 BoxCopied-zero size k S F T U es from old below none fits p byte inside within =

@@ -1,8 +1,8 @@
 -- Lemmas of a part's cells that go to their places in the cells of a box.
-use Rattle.std.proofs.Common.{◌≡◌, ℕ, zero, suc, ◌+◌, ◌-◌, ◌*◌, ◌<◌, ◌≤◌, true, false, nat_lt, nat_le, min, max, List, [], ◌∷◌, length, map, slice_index, slice_get, if◌then◌else◌, Some, refl, sym, ap, ◌∙◌, arith, inl, inr}
+use Rattle.std.proofs.Common.{◌≡◌, ℕ, zero, suc, ◌+◌, ◌-◌, ◌*◌, ◌<◌, ◌≤◌, true, false, ◌&&◌, nat_lt, nat_le, min, max, List, [], ◌∷◌, length, map, slice_index, slice_get, if◌then◌else◌, Some, refl, sym, ap, ◌∙◌, arith, inl, inr}
+use Rattle.std.specs.Option.{option_map}
 use Rattle.std.proofs.lemmas.Bool.{cases_Bool, and_parts, ltb-true, leb-true, false≢true}
 use Rattle.std.proofs.lemmas.Bool.Decides.{nat_tests}
-use Rattle.std.specs.Option.{option_map}
 use Rattle.std.proofs.lemmas.Option.{slice_get-get_or, slice_get-map}
 use Rattle.std.proofs.lemmas.List.FromFn.{length-map-range_with_len, get_or-map-range_with_len}
 use Rattle.zarrs_subset.specs.Boxes.{position_count, place, BoxFits, in_range, is_within, moved, offset_from, zip_with, overlap_extents, MeetAlong}
@@ -12,6 +12,7 @@ use Rattle.zarrs_subset.specs.Regions.{Box, IsLong, place_in, cells_over, TakesP
 use Rattle.zarrs_subset.proofs.Kernel.{place_below, cell_ends, piece_at-same}
 use Rattle.zarrs_subset.proofs.Overlaps.{AllSome, length-overlap_extents}
 use Rattle.zarrs_subset.proofs.Positions.{offset_from-in}
+use Rattle.zarrs_subset.proofs.Bytes.{place_in_below, byte_of}
 
 -- ---- what two boxes share, as a box of the array over each
 
@@ -172,3 +173,25 @@ TakesPart-map f box other part old new takes = λ position holds.
       | inl hit ↦ rw hit (ap (option_map f) (rw hit at at) ∙ sym (slice_get-map f part (place_in other position)))
       | inr miss ↦ rw miss (ap (option_map f) (rw miss at at) ∙ sym (slice_get-map f old (place_in box position)))
     ]
+
+-- of cells of one byte, the same is said of the bytes
+pub TakesPart-bytes : (box other : Box) (part old new : List ℕ) → IsLong box → IsLong other
+    → length part ≡ position_count other.shape → length old ≡ position_count box.shape → length new ≡ length old
+    → TakesPart box other (cells_over 1 other part) (cells_over 1 box old) (cells_over 1 box new)
+    → TakesPart box other part old new
+TakesPart-bytes box other part old new long other_long part_len old_len same takes = λ position holds.
+    let at = takes position holds in
+    let below = place_in_below box position long holds in
+    let here = slice_get-pieces 1 (position_count box.shape) (place_in box position) new below in
+    elim (cases_Bool (is_within other.start other.shape position)) [
+      | inl hit ↦
+          let within = place_in_below other position other_long hit in
+          let there = slice_get-pieces 1 (position_count other.shape) (place_in other position) part within in
+          rw hit (byte_of new part (place_in box position) (place_in other position) (omega arith) (omega arith) (same_some _ _ (sym here ∙ (rw hit at at) ∙ there)))
+      | inr miss ↦
+          let there = slice_get-pieces 1 (position_count box.shape) (place_in box position) old below in
+          rw miss (byte_of new old (place_in box position) (place_in box position) (omega arith) (omega arith) (same_some _ _ (sym here ∙ (rw miss at at) ∙ there)))
+    ]
+  where
+    same_some : (a b : List ℕ) → Some a ≡ Some b → a ≡ b
+    same_some a b e = cc

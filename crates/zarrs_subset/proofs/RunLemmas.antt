@@ -1,10 +1,10 @@
 -- Lemmas of copies of runs of bytes.
-use Rattle.std.proofs.Common.{◌≡◌, ℕ, ◌+◌, ◌-◌, ◌*◌, ◌<◌, ◌≤◌, List, [], ◌∷◌, length, get_or, slice_range, refl, ap, ◌∙◌, arith, inl, inr}
-use Rattle.std.proofs.Math.Nat.{mul-le-mul_right}
+use Rattle.std.proofs.Common.{◌≡◌, ◌≢◌, ℕ, ◌+◌, ◌-◌, ◌*◌, ◌<◌, ◌≤◌, List, [], ◌∷◌, length, get_or, slice_range, refl, sym, ap, ◌∙◌, arith, inl, inr}
+use Rattle.std.proofs.Math.Nat.{mul-le-mul_right, add-mul}
 use Rattle.std.proofs.lemmas.Bool.{cases_lt, cases_eq}
 use borrow.Rule.Slice.PartMut.{put_mid}
 use Rattle.zarrs_subset.specs.declared.runs.Stride.{Stride}
-use Rattle.zarrs_subset.specs.Strides.{Reaches, target_span, RunsCopied}
+use Rattle.zarrs_subset.specs.Strides.{Reaches, source_span, target_span, RunsCopied}
 use Rattle.zarrs_subset.proofs.Kernel.{get_or-put_mid_inside, get_or-put_mid_below, get_or-put_mid_above, get_or-part, block_order}
 
 -- one run
@@ -29,6 +29,14 @@ run_copied len from to wk source old part kIs room partIs partLen = rw kIs (reco
     ]
   ];
 })
+
+-- no repetition
+pub runs_none : (ss ts : ℕ) (strides : List Stride) (len from to : ℕ) (source old : List ℕ)
+    → RunsCopied (record { count = 0; source_step = ss; target_step = ts } ∷ strides) len from to source old old
+runs_none ss ts strides len from to source old = record {
+  copied = λ t s reached. let below : reached.0 < 0 = reached.3 in absurd (omega arith);
+  kept = λ i out. refl;
+}
 
 -- a byte that is reached lies within the span
 pub reached_below : (strides : List Stride) (len t s : ℕ) → Reaches strides len t s → t < target_span strides len
@@ -70,3 +78,9 @@ runs_more k ss ts strides len from to read write source old mid new readIs write
       ∙ before.kept i (λ t s reached. let below : reached.0 < k = reached.3 in
       out t s (reached.0, reached.1, reached.2, omega arith, reached.4, reached.5, reached.6));
 }
+
+-- a repetition ends within the array
+pub step_within : (k count step span from len : ℕ) → k < count → from + ((count - 1) * step + span) ≤ len → from + k * step + span ≤ len
+step_within k count step span from len below room =
+    let low : k ≤ count - 1 = omega arith in
+    omega (arith, mul-le-mul_right step low)

@@ -1,11 +1,12 @@
 -- Lemmas of a walk through the positions of a box.
-use Rattle.std.proofs.Common.{◌≡◌, ℕ, zero, suc, ◌+◌, ◌-◌, ◌*◌, ◌<◌, ◌≤◌, true, false, nat_lt, nat_le, List, [], ◌∷◌, ◌++◌, length, drop, take, slice_index, Bool, add-one, refl, sym, ap, ◌∙◌, arith, SomeIndex, Result, Ok, Err, OnErr, append-nil, slice_set, inl, inr}
+use Rattle.std.proofs.Common.{◌≡◌, ℕ, zero, suc, ◌+◌, ◌-◌, ◌*◌, ◌<◌, ◌≤◌, true, false, nat_lt, nat_le, List, [], ◌∷◌, ◌++◌, length, drop, take, slice_index, Bool, is_none, if◌then◌else◌, Option, MatchOption, Some, None, add-one, refl, sym, ap, ◌∙◌, arith, SomeIndex, Result, Ok, Err, OnErr, append-nil, slice_set, inl, inr}
 use Rattle.std.proofs.Math.Nat.{add-mul}
 use Rattle.std.specs.Bool.{OnTrue, OnFalse}
 use Rattle.std.specs.List.{refill}
 use Rattle.std.proofs.lemmas.List.{drop_all, drop_more, take_all}
 use Rattle.std.proofs.lemmas.Bool.{cases_eq, and_parts, and_from, ltb-true, leb-true, lt-ltb, le-leb, false≢true}
 use Rattle.std.proofs.lemmas.Option.{get_or_from_slice_get}
+use Rattle.smallvec.specs.SmallVec.{SmallVec}
 use Rattle.zarrs_subset.specs.Boxes.{position_count, place, in_range, is_within, offset_from}
 use Rattle.zarrs_subset.specs.Regions.{Box, IsLong, Holds, positions, place_in}
 use Rattle.zarrs_subset.proofs.Bytes.{place_in_below, holds_along}
@@ -197,6 +198,10 @@ set-reset (s ∷ start) (i ∷ position) (suc k) n v is below =
 pub reset_more : (start position : List ℕ) (k : ℕ) → k < length start
     → take k position ++ slice_index start k ∷ drop (k + 1) start ≡ reset_from start position k
 reset_more start position k below = ap (λ l. take k position ++ l) (sym (drop_more start k 0 below))
+
+-- back at the start in each dimension
+pub reset_all : (start position : List ℕ) → reset_from start position 0 ≡ start
+reset_all start position = refl
 
 pub IsFreeIn-last : (box : Box) (p : List ℕ) (n k : ℕ) → n ≡ k + 1 → k < length box.start → length p ≡ length box.start
     → slice_index p k + 1 < slice_index box.start k + slice_index box.shape k

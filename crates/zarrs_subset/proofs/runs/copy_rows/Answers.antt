@@ -1,4 +1,5 @@
-use Rattle.std.proofs.Common.{arith, refl, ◌≡◌}
+use Rattle.std.proofs.Common.{arith, refl, ◌≡◌, ap, sym, ◌∷◌, []}
+use Rattle.zarrs_subset.specs.Strides.{RunsCopied}
 use Rattle.zarrs_subset.proofs.RunLemmas.{runs_more}
 use Rattle.zarrs_subset.proofs.runs.copy_rows.Goals as goal
 
