@@ -99,7 +99,13 @@ fn scripts_print_what_they_ask(rt: HostRuntime) {
         ("", "", 0),
     ];
     for (script, prints, status) in cases {
-        must_print(&rt, rt.alloc(), script.as_bytes(), prints.as_bytes(), status);
+        must_print(
+            &rt,
+            rt.alloc(),
+            script.as_bytes(),
+            prints.as_bytes(),
+            status,
+        );
     }
 }
 
@@ -216,7 +222,13 @@ impl Write for BrokenWriter {
 }
 
 /// The script must end with status 3, and the writer has a front of the text.
-fn must_not_write(rt: &impl Abort, script: &[u8], prints: &[u8], writer: &mut BrokenWriter, alloc: Global) {
+fn must_not_write(
+    rt: &impl Abort,
+    script: &[u8],
+    prints: &[u8],
+    writer: &mut BrokenWriter,
+    alloc: Global,
+) {
     let mut reader = script;
     assert_eq!(rt; run_script(alloc, &mut reader, writer), 3);
     assert!(rt; writer.text.len() <= writer.room);
@@ -231,7 +243,13 @@ fn output_that_fails_ends_with_status_3(rt: HostRuntime) {
             room,
         };
         let script = b"array 4 2 uint8 0\nread 5,5\nread 0\n";
-        must_not_write(&rt, script, b"ok\nrefused E3\n0,0\n", &mut writer, rt.alloc());
+        must_not_write(
+            &rt,
+            script,
+            b"ok\nrefused E3\n0,0\n",
+            &mut writer,
+            rt.alloc(),
+        );
     }
 }
 
@@ -275,19 +293,22 @@ fn long_script(alloc: Global, pairs: u32) -> Result<Vec<u8>, AllocError> {
     Ok(script)
 }
 
-/// The script must print this many lines, the last of which are these, and end with status 0.
-fn must_end(rt: &impl Abort, alloc: Global, script: &[u8], lines: usize, last: &[u8]) {
+/// What the script prints must end with these lines, and a line feed cuts it into this many pieces. The status is 0.
+fn must_end(rt: &impl Abort, alloc: Global, script: &[u8], pieces: usize, last: &[u8]) {
     let mut reader = script;
     let mut text = Vec::new(alloc);
     assert_eq!(rt; run_script(alloc, &mut reader, &mut text), 0);
-    assert_eq!(rt; text.as_slice().split(|byte| *byte == b'\n').count(), lines + 1);
+    assert_eq!(rt;
+        text.as_slice().split(|byte| *byte == b'\n').count(),
+        pieces
+    );
     assert!(rt; text.as_slice().ends_with(last));
 }
 
 #[test]
 fn a_hundred_thousand_lines(rt: HostRuntime) -> Result<(), Fail> {
     let script = long_script(rt.alloc(), 50_000)?;
-    must_end(&rt, rt.alloc(), &script, 100_001, b"\nok\n1,2,3,79\n");
+    must_end(&rt, rt.alloc(), &script, 100_002, b"\nok\n1,2,3,79\n");
     Ok(())
 }
 
@@ -360,7 +381,13 @@ fn each_type_has_its_cells(rt: HostRuntime) {
         ),
     ];
     for (script, prints, status) in cases {
-        must_print(&rt, rt.alloc(), script.as_bytes(), prints.as_bytes(), status);
+        must_print(
+            &rt,
+            rt.alloc(),
+            script.as_bytes(),
+            prints.as_bytes(),
+            status,
+        );
     }
 }
 
@@ -396,7 +423,9 @@ fn a_cell_outside_its_type_is_not_a_command(rt: HostRuntime) {
 /// An `array` line with this type and fill value must be named as not a command.
 fn must_not_be_a_command(rt: &impl Abort, alloc: Global, cell: &str) {
     let mut script = Vec::new(alloc);
-    if script.extend_from_slice(b"array 2 2 ").is_err() || script.extend_from_slice(cell.as_bytes()).is_err() {
+    if script.extend_from_slice(b"array 2 2 ").is_err()
+        || script.extend_from_slice(cell.as_bytes()).is_err()
+    {
         return;
     }
     must_print(rt, alloc, &script, b"line 1: not a command\n", 2);
@@ -473,6 +502,12 @@ fn the_examples_print_what_is_beside_them(rt: HostRuntime) {
         ),
     ];
     for (script, prints, status) in cases {
-        must_print(&rt, rt.alloc(), script.as_bytes(), prints.as_bytes(), status);
+        must_print(
+            &rt,
+            rt.alloc(),
+            script.as_bytes(),
+            prints.as_bytes(),
+            status,
+        );
     }
 }
