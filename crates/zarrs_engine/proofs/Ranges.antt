@@ -124,7 +124,3 @@ range_length range long n index at = (holds_along range index long (positions_in
 -- memory was short before the first chunk
 pub range_short : (layout : Layout) (range : Box) (state : StoreState) → RefusesEraseChunks layout range refusal.out_of_memory state state
 range_short layout range state = refused_early _ _ _ _ state tt
-
--- the range has another number of dimensions
-pub range_refused : (layout : Layout) (range : Box) (state : StoreState) (r : Refusal) → RefusesBy (length_refusal layout range.start) r → RefusesEraseChunks layout range r state state
-range_refused layout range state r why = refused_early _ _ _ _ state why

@@ -5,7 +5,9 @@ use std::num::NonZeroU64;
 use std::process::Abort;
 use std::test::Fail;
 use zarrs_chunk_grid::RegularChunkGrid;
-use zarrs_codec::{ArrayToBytesCodec, BytesCodec, BytesToBytesCodecs, CodecChain, CodecError, CodecOptions};
+use zarrs_codec::{
+    ArrayToBytesCodec, BytesCodec, BytesToBytesCodecs, CodecChain, CodecError, CodecOptions,
+};
 use zarrs_data_type::{ArrayBytes, DataType, ElementError, FillValue};
 use zarrs_engine::{ArrayError, Call, Engine, Reply, layouts_are_lawful, replay};
 use zarrs_keys::{ChunkKeyEncoding, ChunkKeySeparator, NodePath};
@@ -214,37 +216,25 @@ fn a_range_of_chunks_is_erased(rt: HostRuntime) -> Result<(), Fail> {
         store(alloc, &mut engine, &[chunk, 0], &[1, 2, 3, 4], &options)?;
     }
     must_have(&rt, alloc, &engine, 3, 3)?;
-    let calls = vec![in alloc;
-        Call::EraseChunks(range_of(alloc, &[1, 0], &[2, 1])?),
-        Call::EraseChunks(range_of(alloc, &[0, 0], &[3, 0])?),
-        Call::EraseChunks(range_of(alloc, &[0], &[1])?),
-    ]?;
-    let replies = replay(alloc, &mut engine, &calls, &options)?;
-    must_erase_two(&rt, &replies);
+    erase_range(alloc, &mut engine, &[1, 0], &[2, 1])?;
+    erase_range(alloc, &mut engine, &[0, 0], &[3, 0])?;
     must_read(&rt, alloc, &engine, &[0, 0], &[1, 2, 3, 4])?;
     must_be_present(&rt, alloc, &engine, &[2, 0], false)?;
     must_have(&rt, alloc, &engine, 1, 5)
 }
 
-fn range_of(alloc: Global, start: &[u64], shape: &[u64]) -> Result<ArraySubset, Fail> {
+fn erase_range(
+    alloc: Global,
+    engine: &mut MemoryEngine,
+    start: &[u64],
+    shape: &[u64],
+) -> Result<(), Fail> {
     let range = ArraySubset::new_with_start_shape(start.to_vec(alloc)?, shape.to_vec(alloc)?)?;
-    Ok(range)
-}
-
-/// A range, an empty one, and one of another number of dimensions.
-fn must_erase_two(rt: &impl Abort, replies: &[Reply]) {
-    let [erased, nothing, unnamed] = replies else {
-        assert!(rt; false, "three replies");
-        return;
-    };
-    assert!(rt; matches!(erased, Reply::Done));
-    assert!(rt; matches!(nothing, Reply::Done));
-    assert!(rt;
-        matches!(
-            unnamed,
-            Reply::Refused(ArrayError::InvalidChunkGridIndicesError(_))
-        )
-    );
+    if range.dimensionality() != engine.dimensionality() {
+        return Err("another number of dimensions".into());
+    }
+    engine.erase_chunks(alloc, &range)?;
+    Ok(())
 }
 
 fn must_answer_four(rt: &impl Abort, replies: &[Reply]) {

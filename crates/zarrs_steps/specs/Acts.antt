@@ -1,6 +1,6 @@
 -- What a call is to do, whichever call it is.
 use Rattle.std.specs.Prelude.{ℕ, Bool, true, false, List, [], ◌∷◌}
-use Rattle.zarrs_subset.specs.Regions.{Box, box_of, positions}
+use Rattle.zarrs_subset.specs.Regions.{Box}
 use Rattle.zarrs_chunk_grid.specs.Grids.{box_at}
 use Rattle.zarrs_data_type.specs.ArrayData.{ArrayData, data_of}
 use Rattle.zarrs_steps.specs.Layout.{Layout}
@@ -23,6 +23,5 @@ pub data Act : Type 0 where
 abbrev pub act_of : Layout → Call → Act
 act_of layout (call.StoreChunk index held) = store (box_at layout.grid index.items) (data_of held) (index.items ∷ [])
 act_of layout (call.EraseChunk index) = erase (index.items ∷ [])
-act_of layout (call.EraseChunks range) = erase (positions (box_of range))
 act_of layout (call.RetrieveChunkIfExists index) = read_chunk false index.items
 act_of layout (call.RetrieveChunk index) = read_chunk true index.items

@@ -2,7 +2,7 @@
 use Rattle.std.specs.Cmp.Lexicographic.{pointwise}
 use Rattle.std.specs.Prelude.{nat_eq, ℕ, ◌^◌, ◌==◌, ◌&&◌, not, nat_le, Bool, if◌then◌else◌, List, length, Option, Some, None}
 use Rattle.zarrs_subset.specs.Boxes.{position_count}
-use Rattle.zarrs_subset.specs.Regions.{Box, box_of, box_eq}
+use Rattle.zarrs_subset.specs.Regions.{Box, box_eq}
 use Rattle.zarrs_chunk_grid.specs.Grids.{box_at, index_at, has_box, range_box}
 use Rattle.zarrs_data_type.specs.Kind.{is_variable}
 use Rattle.zarrs_data_type.specs.Cell.{Cell}
@@ -97,7 +97,6 @@ read_part_refusal layout index part =
 abbrev pub argument_refusal : Layout → List ℕ → Call → Option Refusal
 argument_refusal layout shape (call.StoreChunk index held) = store_chunk_refusal layout index.items (data_of held)
 argument_refusal layout shape (call.EraseChunk index) = length_refusal layout index.items
-argument_refusal layout shape (call.EraseChunks range) = length_refusal layout (box_of range).start
 argument_refusal layout shape (call.RetrieveChunkIfExists index) = length_refusal layout index.items
 argument_refusal layout shape (call.RetrieveChunk index) = length_refusal layout index.items
 

@@ -12,7 +12,6 @@ use Rattle.zarrs_steps.specs.Layout.{ArrayState}
 abbrev pub Reach : Layout → List ℕ → Call → List ℕ → Type 0
 Reach layout shape (call.StoreChunk index held) i = ⊥
 Reach layout shape (call.EraseChunk index) i = ⊥
-Reach layout shape (call.EraseChunks range) i = ⊥
 Reach layout shape (call.RetrieveChunkIfExists index) i = i ≡ index.items
 Reach layout shape (call.RetrieveChunk index) i = i ≡ index.items
 

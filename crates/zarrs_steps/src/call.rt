@@ -1,7 +1,7 @@
 //! Calls of an array, and their replies.
 use crate::error::ArrayError;
 use zarrs_data_type::ArrayBytes;
-use zarrs_subset::{ArrayIndices, ArraySubset};
+use zarrs_subset::ArrayIndices;
 
 /// A call of an array.
 #[derive(Drop)]
@@ -10,8 +10,6 @@ pub enum Call {
     StoreChunk(ArrayIndices, ArrayBytes<'static>),
     /// Erase the chunk with these indices.
     EraseChunk(ArrayIndices),
-    /// Erase the chunks with the indices in this range.
-    EraseChunks(ArraySubset),
     /// Read the chunk with these indices, if it is present.
     RetrieveChunkIfExists(ArrayIndices),
     /// Read the chunk with these indices, which is all fill if it is absent.

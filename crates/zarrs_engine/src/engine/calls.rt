@@ -89,15 +89,6 @@ impl<
                     Err(error) => Reply::Refused(error.into()),
                 }
             }
-            Call::EraseChunks(chunks) => {
-                if chunks.dimensionality() != self.parts.grid.dimensionality() {
-                    return Reply::Refused(crate::parts::invalid_indices(alloc, chunks.start()));
-                }
-                match self.erase_chunks(alloc, chunks) {
-                    Ok(()) => Reply::Done,
-                    Err(error) => Reply::Refused(error.into()),
-                }
-            }
             Call::RetrieveChunkIfExists(chunk_indices) => {
                 match self.retrieve_chunk_if_exists(alloc, chunk_indices) {
                     Ok(found) => Reply::MaybeCells(found),

@@ -14,12 +14,12 @@ put_replies-requires g c =
     let old = c.args.array.now in
     let typed = (kind_eq-Decides (layout_of old.engine).kind (kind_of old.cell_type)).0 old.typed in
     replies_said old.cell_type (layout_of old.engine) c.args.calls.now c.in_ok-replies.replies.items (state_of open_state old.engine) (state_of open_state c.replay.new.engine) typed
-    (subst (λ (keep : Bool). Run (layout_of old.engine) keep c.args.calls.now c.in_ok-replies.replies.items (state_of open_state old.engine) (state_of open_state c.replay.new.engine)) c.default.ensures told.run)
+    (subst (λ (keep : Bool). Run (layout_of old.engine) keep c.args.calls.now c.in_ok-replies.replies.items (state_of open_state old.engine) (state_of open_state c.replay.new.engine)) c.default.ensures.0 told.run)
 
 pub returns : goal.returns
 returns g c =
     let told = c.in_ok-replies.ensures in
     let old = c.args.array.now in
     puts_as (g.W.Write.contents c.args.writer.now) _ c.args.out.now.items _
-    (calls_served old.cell_type (layout_of old.engine) (layout_of c.replay.new.engine) _ c.args.calls.now c.in_ok-replies.replies.items (state_of open_state old.engine) (state_of open_state c.replay.new.engine) _ c.default.ensures told.layout c.in_ok-refused.ensures.refused told.run)
+    (calls_served old.cell_type (layout_of old.engine) (layout_of c.replay.new.engine) _ c.args.calls.now c.in_ok-replies.replies.items (state_of open_state old.engine) (state_of open_state c.replay.new.engine) _ c.default.ensures.0 told.layout c.in_ok-refused.ensures.refused told.run)
     c.in_ok-refused.ensures.text

@@ -1,5 +1,4 @@
-use Rattle.std.proofs.Common.{◌≡◌, ◌∙◌, sym, length, List, ℕ, refl, subst, arith, option_map}
-use Rattle.zarrs_subset.specs.Regions.{box_of}
+use Rattle.std.proofs.Common.{List, ℕ, refl, subst, arith, option_map}
 use Rattle.zarrs_data_type.specs.ArrayData.{data_of}
 use Rattle.zarrs_steps.specs.Refusals.{refusal_of}
 use Rattle.zarrs_steps.specs.Changes.{RetrievesChunk, RetrievesIfExists}
@@ -7,7 +6,6 @@ use Rattle.zarrs_engine.specs.Engine.{layout_of}
 use Rattle.zarrs_engine.specs.Parts.{RefusesIndices}
 use Rattle.zarrs_engine.proofs.Chunks.{refuses_length, retrieved_length, found_length}
 use Rattle.zarrs_engine.proofs.Writes.{erase_refused}
-use Rattle.zarrs_engine.proofs.Ranges.{range_refused}
 use Rattle.zarrs_engine.proofs.engine.Engine.answer.Goals as goal
 
 pub returns-then-len-dimensionality-clause-step : goal.returns-then-len-dimensionality-clause-step
@@ -40,13 +38,3 @@ returns-in-Ok-retrieve_chunk-clause-step g c =
     let made = data_of c.in-Ok-retrieve_chunk.data in
     let cells = subst (λ (i : List ℕ). RetrievesChunk layout i made state) c.deref-in-RetrieveChunk.ensures.value c.in-Ok-retrieve_chunk.ensures.cells in
     rw c.in-RetrieveChunk.is (refl, (refl, retrieved_length layout index made state cells, cells))
-
-pub returns-then-dimensionality-clause-step : goal.returns-then-dimensionality-clause-step
-returns-then-dimensionality-clause-step g c =
-    let layout = layout_of c.args.self.now in
-    let state = g.S.ReadableStorageTraits.state c.args.self.now.storage in
-    let range = box_of c.in-EraseChunks.chunks in
-    let e = c.invalid_indices-then-dimensionality.result in
-    let wrong : length range.start ≡ layout.grid.dimensions → ⊥ = λ long. c.if-dimensionality.true (c.dimensionality-in-EraseChunks.ensures.count ∙ long ∙ sym c.dimensionality-in-EraseChunks-2.ensures) in
-    let said = refuses_length layout range.start e wrong (subst (λ (i : List ℕ). RefusesIndices i e) c.start.ensures c.invalid_indices-then-dimensionality.ensures) in
-    rw c.in-EraseChunks.is (refl, range_refused layout range state (refusal_of e) said)

@@ -1,8 +1,11 @@
 use Rattle.std.proofs.Common.{◌≡◌, ℕ, List, codes, refl, ap, ◌∙◌}
 use Rattle.zarrs_chunk_grid.specs.declared.regular.RegularChunkGrid.{RegularChunkGrid}
 use Rattle.zarrs_chunk_grid.specs.Shapes.{sizes_of}
-use Rattle.zarrs_codec.specs.declared.chain.ArrayToBytesCodec.{ArrayToBytesCodec}
-use Rattle.zarrs_codec.specs.Chains.{leaf_meaning, whole_chunk}
+use Rattle.zarrs_codec_array.specs.ArrayCodecs.{arrays_meaning}
+use Rattle.zarrs_codec_array.specs.declared.array.ArrayToArrayCodec.{ArrayToArrayCodec}
+use Rattle.zarrs_codec_leaf.specs.Bytes.{bytes_meaning}
+use Rattle.zarrs_codec.specs.Chains.{whole_chunk}
+use Rattle.zarrs_codec.specs.Through.{through}
 use Rattle.zarrs_script.proofs.NewArrays.{makes_grid, made_array}
 use Rattle.zarrs_script.proofs.array.OpenArray.create.Goals as goal
 
@@ -15,7 +18,7 @@ returns c =
       makes_grid asked.shape.items asked.chunk_shape.items sizes is c.in-Ok.ensures.long,
       made_array asked.shape.items asked.chunk_shape.items asked.fill.items asked.cell_type sizes _ _ _ _ _ _ _ _ _ is
           made.layout c.in-Ok.ensures.grid c.in-Ok-new.ensures.ok refl
-          (ap (λ (codec : ArrayToBytesCodec). whole_chunk (leaf_meaning codec)) c.new-4.ensures)
-          c.data_type.ensures c.new-5.ensures (made.storage ∙ c.new-3.ensures)
+          (c.new-5.ensures.meaning ∙ ap (λ (codecs : List ArrayToArrayCodec). through (arrays_meaning codecs) (whole_chunk bytes_meaning)) c.new-4.ensures.items)
+          c.data_type.ensures c.new-6.ensures (made.storage ∙ c.new-3.ensures)
           (ap (λ (grid : RegularChunkGrid). grid.array_shape.items) made.grid ∙ c.in-Ok.ensures.shape),
     )
