@@ -242,7 +242,8 @@ fn must_repeat(
 ) -> Result<(), Fail>
     requires filled { IsSome (fill_cell (kind data_type.now) fill.now) }
     requires other { IsSome (fill_cell (kind data_type.now) other.now) }
-    requires size { 3 * held_size (kind data_type.now) (fill_of (kind data_type.now) fill.now) < 2 ^ 64 }
+    requires size { 3 * held_size (kind data_type.now) (fill_of
+        (kind data_type.now) fill.now) < 2 ^ 64 }
 {
     let made = ArrayBytes::new_fill_value(alloc, data_type, 3, fill)?;
     assert!(rt; made.validate(data_type, 3));
@@ -416,7 +417,8 @@ fn must_spread(
     present: &ArrayBytes<'_>,
 ) -> Result<(), Fail>
     requires flags { All (λ flag. flag < 2) mask.now }
-    requires present { HasCells (kind inner.now) (data_of present.now) (count_by flag_set mask.now) }
+    requires present { HasCells (kind inner.now) (data_of present.now)
+        (count_by flag_set mask.now) }
     requires size { length mask.now * cell_size (kind inner.now) < 2 ^ 64 }
 {
     let made = ArrayBytes::from_present(alloc, inner, Vec::from_slice(alloc, mask)?, present)?;
