@@ -1,17 +1,14 @@
 -- Numbers and the cells that they stand for.
-use Rattle.std.proofs.Common.{◌≡◌, ℕ, ◌*◌, true, false, List, length, map, get_or, Option, None, Some, refl, sym, ap, ◌∙◌}
+use Rattle.std.proofs.Common.{◌≡◌, ℕ, true, List, length, map, get_or, Some, ap, ◌∙◌}
 use Rattle.std.specs.List.{flat_map}
 use Rattle.std.proofs.lemmas.Simd.{map-map}
 use Rattle.zarrs_types.specs.declared.data_type.DataType.{DataType}
-use Rattle.zarrs_types.specs.Kind.{Kind, kind, element_size, is_variable, inner_of}
-use Rattle.zarrs_types.specs.Kind as type
-use Rattle.zarrs_types.specs.Cell.{Cell, bytes, takes_any_bytes}
+use Rattle.zarrs_types.specs.Kind.{Kind, kind, element_size}
+use Rattle.zarrs_types.specs.Cell.{bytes, takes_any_bytes}
 use Rattle.zarrs_types.specs.Same.{kind_eq, kind_eq-Decides}
-use Rattle.zarrs_types.proofs.Sizes.{element_size-positive, no_inner}
-use Rattle.zarrs_cells.specs.ArrayData.{ArrayData, fixed, variable, optional}
-use Rattle.zarrs_cells.specs.Cells.{cells, fits}
-use Rattle.zarrs_cells.proofs.Cells.{cells-parts}
-use Rattle.zarrs_cells.proofs.Filled.{fits-fixed, fits-variable, fits-optional}
+use Rattle.zarrs_types.proofs.Sizes.{element_size-positive}
+use Rattle.zarrs_cells.specs.ArrayData.{fixed}
+use Rattle.zarrs_cells.specs.Cells.{cells}
 use Rattle.zarrs_cells.proofs.Fixed.{cells-held}
 use Rattle.zarrs_cells.proofs.Pieces.{length-flat_map_same, pieces-flat_map}
 use Rattle.zarrs_cells.proofs.Validity.{any_held}
