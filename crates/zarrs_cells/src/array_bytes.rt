@@ -65,7 +65,8 @@ impl<'a> ArrayBytes<'a> {
     ) -> Result<ArrayBytes<'a>, ExpectedVariableLengthBytesError>
         ensures made { IfOk result (λ made. data_of made
             ≡ variable (byte_strings offsets.entry (cow_slice_items bytes.entry))) }
-        ensures accepted { IsOk result ↔ (last_offset offsets.entry ≡ length (cow_slice_items bytes.entry)) }
+        ensures accepted { IsOk result ↔ (last_offset offsets.entry
+            ≡ length (cow_slice_items bytes.entry)) }
     {
         Ok(ArrayBytes::Variable(ArrayBytesVariableLength::new(bytes, offsets)?))
     }
@@ -144,7 +145,7 @@ impl<'a> ArrayBytes<'a> {
 }
 
 impl<'a> ArrayBytesOptional<'a> {
-    /// The inner data under the mask. Whether the mask has a byte for each inner cell is what `ArrayBytes::validate` tells.
+    /// The inner data under the mask. `ArrayBytes::validate` tells whether the mask has a byte for each inner cell.
     ///
     /// # Errors
     /// A byte of the mask is above 1.

@@ -6,8 +6,8 @@ use thiserror::Error;
 #[error("expected fixed length array bytes")]
 pub struct ExpectedFixedLengthBytesError;
 
-/// Array bytes that are not of variable length, offsets that fall or do not start at 0, or offsets whose last one is not
-/// the length of the bytes.
+/// Array bytes that are not of variable length, offsets that fall or do not start at 0, or a last offset that is not the
+/// length of the bytes.
 #[derive(Debug, Drop, Error, PartialEq, Eq)]
 #[error("expected variable length array bytes")]
 pub struct ExpectedVariableLengthBytesError;

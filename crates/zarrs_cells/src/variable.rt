@@ -38,8 +38,10 @@ impl<'a> ArrayBytesVariableLength<'a> {
         bytes: CowSlice<'a, u8>,
         offsets: ArrayBytesOffsets<'a>,
     ) -> Result<ArrayBytesVariableLength<'a>, ExpectedVariableLengthBytesError>
-        ensures made { IfOk result (λ made. made ≡ byte_strings offsets.entry (cow_slice_items bytes.entry)) }
-        ensures accepted { IsOk result ↔ (last_offset offsets.entry ≡ length (cow_slice_items bytes.entry)) }
+        ensures made { IfOk result (λ made. made
+            ≡ byte_strings offsets.entry (cow_slice_items bytes.entry)) }
+        ensures accepted { IsOk result ↔ (last_offset offsets.entry
+            ≡ length (cow_slice_items bytes.entry)) }
     {
         let numbers = offsets.as_slice();
         if numbers[numbers.len() - 1] != bytes.as_slice().len() {
@@ -103,7 +105,8 @@ impl<'a> ArrayBytesVariableLength<'a> {
 fn cut<'b>(offsets: &[usize], bytes: &'b [u8], index: usize) -> &'b [u8]
     requires cuts { AreCuts offsets.now bytes.now }
     requires below { index + 1 < length offsets.now }
-    ensures { result.now ≡ slice_range bytes.now (slice_index offsets.now index) (slice_index offsets.now (index + 1)) }
+    ensures { result.now ≡ slice_range bytes.now (slice_index offsets.now index)
+        (slice_index offsets.now (index + 1)) }
 {
     &bytes[offsets[index]..offsets[index + 1]]
 }

@@ -39,7 +39,8 @@ pub trait Element: Drop {
         data_type: &DataType,
         elements: &[Self],
     ) -> Result<ArrayBytes<'static>, ElementError>
-        ensures cells { IfOk result (λ made. cells (kind data_type.now) (data_of made) ≡ Some (map cell elements.now)) }
+        ensures cells { IfOk result (λ made. cells (kind data_type.now) (data_of made)
+            ≡ Some (map cell elements.now)) }
         ensures served { OnOk result (serves (kind data_type.now) ≡ true) }
         ensures refused { IfErr result (RefusesElement (serves (kind data_type.now))) };
 }
@@ -55,9 +56,11 @@ pub trait ElementOwned: Element {
         data_type: &DataType,
         data: &ArrayBytes<'_>,
     ) -> Result<Vec<Self>, ElementError>
-        ensures cells { IfOk result (λ elements. cells (kind data_type.now) (data_of «data».now) ≡ Some (map Self.cell elements.items)) }
+        ensures cells { IfOk result (λ elements. cells (kind data_type.now) (data_of «data».now)
+            ≡ Some (map Self.cell elements.items)) }
         ensures served { OnOk result (Self.serves (kind data_type.now) ≡ true) }
-        ensures refused { IfErr result (RefusesCells (Self.serves (kind data_type.now)) (cells (kind data_type.now) (data_of «data».now))) };
+        ensures refused { IfErr result (RefusesCells (Self.serves (kind data_type.now)) (cells
+            (kind data_type.now) (data_of «data».now))) };
 }
 
 impl Element for u8 {

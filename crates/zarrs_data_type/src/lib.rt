@@ -3,9 +3,11 @@
 
 mod element;
 mod error;
+mod into_field;
 
 pub use element::{Element, ElementOwned};
 pub use error::{ArrayBytesFixedDisjointViewCreateError, ElementError};
+pub use into_field::IntoField;
 pub use zarrs_cells::{
     ArrayBytes, ArrayBytesOffsets, ArrayBytesOptional, ArrayBytesVariableLength,
     ExpectedFixedLengthBytesError, ExpectedOptionalBytesError, ExpectedVariableLengthBytesError,

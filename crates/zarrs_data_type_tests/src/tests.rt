@@ -13,17 +13,22 @@ use std::process::Abort;
 use std::test::Fail;
 use zarrs_data_type::{
     ArrayBytes, ArrayBytesFixedDisjointViewCreateError, ArrayBytesOffsets, ArrayBytesOptional,
-    ArrayBytesVariableLength, DataType, Element, ElementError, ElementOwned, ExpectedFixedLengthBytesError,
-    ExpectedOptionalBytesError, ExpectedVariableLengthBytesError, FillValue, VariableLengthBuilder,
-    convert_from_bytes_slice, convert_to_bytes_vec, data_type, inner_fill, transmute_from_bytes_vec,
-    transmute_to_bytes, transmute_to_bytes_vec,
+    ArrayBytesVariableLength, DataType, Element, ElementError, ElementOwned,
+    ExpectedFixedLengthBytesError, ExpectedOptionalBytesError, ExpectedVariableLengthBytesError,
+    FillValue, IntoField, VariableLengthBuilder, convert_from_bytes_slice, convert_to_bytes_vec,
+    data_type, inner_fill, transmute_from_bytes_vec, transmute_to_bytes, transmute_to_bytes_vec,
 };
 
 fn must_be(rt: &impl Abort, fact: bool, what: &str) {
     assert!(rt; fact, "{what}");
 }
 
-fn must_have_size(rt: &impl Abort, data_type: &DataType, element: Option<usize>, cell: Option<usize>) {
+fn must_have_size(
+    rt: &impl Abort,
+    data_type: &DataType,
+    element: Option<usize>,
+    cell: Option<usize>,
+) {
     assert_eq!(rt; data_type.element_size(), element);
     assert_eq!(rt; data_type.fixed_size(), cell);
     assert_eq!(rt; data_type.is_fixed(), cell.is_some());
@@ -69,8 +74,16 @@ fn types_are_compared_with_their_parts(rt: HostRuntime) -> Result<(), Fail> {
     must_differ(&rt, &numbers, &optional(alloc, DataType::Int32)?);
     must_differ(&rt, &DataType::UInt8, &DataType::Bool);
     must_differ(&rt, &raw(3)?, &raw(4)?);
-    must_be(&rt, numbers.optional_inner() == Some(&DataType::UInt32), "inner type");
-    must_be(&rt, DataType::UInt8.optional_inner().is_none(), "no inner type");
+    must_be(
+        &rt,
+        numbers.optional_inner() == Some(&DataType::UInt32),
+        "inner type",
+    );
+    must_be(
+        &rt,
+        DataType::UInt8.optional_inner().is_none(),
+        "no inner type",
+    );
     must_be(&rt, DataType::String.is_variable(), "string");
     must_be(&rt, !numbers.is_variable(), "optional");
     must_be(&rt, numbers.takes_any_bytes(), "numbers");
@@ -108,7 +121,13 @@ fn a_fill_value_is_one_cell(rt: HostRuntime) -> Result<(), Fail> {
     Ok(())
 }
 
-fn must_validate(rt: &impl Abort, data: &ArrayBytes<'_>, data_type: &DataType, count: u64, is: bool) {
+fn must_validate(
+    rt: &impl Abort,
+    data: &ArrayBytes<'_>,
+    data_type: &DataType,
+    count: u64,
+    is: bool,
+) {
     assert_eq!(rt; data.validate(data_type, count), is);
 }
 
@@ -127,13 +146,35 @@ fn cells_take_their_exact_length(rt: HostRuntime) {
 
 #[test]
 fn a_bool_is_zero_or_one(rt: HostRuntime) {
-    must_validate(&rt, &ArrayBytes::from_flen(&[0, 1, 1]), &DataType::Bool, 3, true);
-    must_validate(&rt, &ArrayBytes::from_flen(&[0, 2, 1]), &DataType::Bool, 3, false);
-    must_validate(&rt, &ArrayBytes::from_flen(&[0, 2, 1]), &DataType::UInt8, 3, true);
+    must_validate(
+        &rt,
+        &ArrayBytes::from_flen(&[0, 1, 1]),
+        &DataType::Bool,
+        3,
+        true,
+    );
+    must_validate(
+        &rt,
+        &ArrayBytes::from_flen(&[0, 2, 1]),
+        &DataType::Bool,
+        3,
+        false,
+    );
+    must_validate(
+        &rt,
+        &ArrayBytes::from_flen(&[0, 2, 1]),
+        &DataType::UInt8,
+        3,
+        true,
+    );
 }
 
 fn must_cut(rt: &impl Abort, offsets: &'static [usize], is: bool) {
-    assert_eq!(rt; ArrayBytesOffsets::new(CowSlice::Borrowed(offsets)).is_ok(), is, "{offsets:?}");
+    assert_eq!(rt;
+        ArrayBytesOffsets::new(CowSlice::Borrowed(offsets)).is_ok(),
+        is,
+        "{offsets:?}"
+    );
 }
 
 #[test]
@@ -170,11 +211,19 @@ fn byte_strings_lie_between_offsets(rt: HostRuntime) -> Result<(), Fail> {
     let held = data.into_variable()?.into_owned(alloc)?;
     must_hold(&rt, &held, &[b"a", b"bb", b"", b"ccc"]);
     must_be(&rt, held.bytes() == b"abbccc".as_slice(), "bytes");
-    must_be(&rt, held.offsets().as_slice() == [0, 1, 3, 3, 6].as_slice(), "offsets");
+    must_be(
+        &rt,
+        held.offsets().as_slice() == [0, 1, 3, 3, 6].as_slice(),
+        "offsets",
+    );
     must_be(&rt, !held.is_empty(), "not empty");
     let late = ArrayBytesOffsets::new(CowSlice::Borrowed(&[0, 9]))?;
     let refused = ArrayBytesVariableLength::new(CowSlice::Borrowed(b"a"), late);
-    must_be(&rt, refused.is_err_and(|e| e == ExpectedVariableLengthBytesError), "end");
+    must_be(
+        &rt,
+        refused.is_err_and(|e| e == ExpectedVariableLengthBytesError),
+        "end",
+    );
     Ok(())
 }
 
@@ -211,7 +260,11 @@ fn a_mask_has_zeros_and_ones(rt: HostRuntime) -> Result<(), Fail> {
     let alloc = rt.alloc();
     let data = Box::new(alloc, ArrayBytes::from_flen(&[7]))?;
     let refused = ArrayBytesOptional::new(data, CowSlice::Borrowed(&[2]));
-    must_be(&rt, refused.is_err_and(|e| e == ExpectedOptionalBytesError), "mask byte 2");
+    must_be(
+        &rt,
+        refused.is_err_and(|e| e == ExpectedOptionalBytesError),
+        "mask byte 2",
+    );
     let held = masked(alloc, ArrayBytes::from_flen(&[7, 8]), &[1, 0])?.into_optional()?;
     must_be(&rt, held.mask() == [1, 0].as_slice(), "mask");
     must_validate(&rt, held.data(), &DataType::UInt8, 2, true);
@@ -242,7 +295,8 @@ fn must_repeat(
 ) -> Result<(), Fail>
     requires filled { IsSome (fill_cell (kind data_type.now) fill.now) }
     requires other { IsSome (fill_cell (kind data_type.now) other.now) }
-    requires size { 3 * held_size (kind data_type.now) (fill_of (kind data_type.now) fill.now) < 2 ^ 64 }
+    requires size { 3 * held_size (kind data_type.now) (fill_of
+        (kind data_type.now) fill.now) < 2 ^ 64 }
 {
     let made = ArrayBytes::new_fill_value(alloc, data_type, 3, fill)?;
     assert!(rt; made.validate(data_type, 3));
@@ -275,16 +329,64 @@ fn must_repeat_tested(
 #[test]
 fn fill_values_are_repeated(rt: HostRuntime) -> Result<(), Fail> {
     let alloc = rt.alloc();
-    must_repeat_tested(&rt, alloc, &DataType::Int16, vec![in alloc; 0xFEu8, 0xFF]?, vec![in alloc; 0u8, 0]?)?;
-    must_repeat_tested(&rt, alloc, &DataType::Bool, vec![in alloc; 1u8]?, vec![in alloc; 0u8]?)?;
-    must_repeat_tested(&rt, alloc, &raw(3)?, vec![in alloc; 1u8, 2, 3]?, vec![in alloc; 1u8, 2, 4]?)?;
-    must_repeat_tested(&rt, alloc, &DataType::String, vec![in alloc; 0x61u8, 0x62]?, Vec::new(alloc))?;
-    must_repeat_tested(&rt, alloc, &DataType::Bytes, Vec::new(alloc), vec![in alloc; 0u8]?)?;
+    must_repeat_tested(
+        &rt,
+        alloc,
+        &DataType::Int16,
+        vec![in alloc; 0xFEu8, 0xFF]?,
+        vec![in alloc; 0u8, 0]?,
+    )?;
+    must_repeat_tested(
+        &rt,
+        alloc,
+        &DataType::Bool,
+        vec![in alloc; 1u8]?,
+        vec![in alloc; 0u8]?,
+    )?;
+    must_repeat_tested(
+        &rt,
+        alloc,
+        &raw(3)?,
+        vec![in alloc; 1u8, 2, 3]?,
+        vec![in alloc; 1u8, 2, 4]?,
+    )?;
+    must_repeat_tested(
+        &rt,
+        alloc,
+        &DataType::String,
+        vec![in alloc; 0x61u8, 0x62]?,
+        Vec::new(alloc),
+    )?;
+    must_repeat_tested(
+        &rt,
+        alloc,
+        &DataType::Bytes,
+        Vec::new(alloc),
+        vec![in alloc; 0u8]?,
+    )?;
     let inner = optional(alloc, DataType::UInt8)?;
-    must_repeat_tested(&rt, alloc, &inner, vec![in alloc; 0u8]?, vec![in alloc; 0u8, 1]?)?;
+    must_repeat_tested(
+        &rt,
+        alloc,
+        &inner,
+        vec![in alloc; 0u8]?,
+        vec![in alloc; 0u8, 1]?,
+    )?;
     let nested = optional(alloc, inner)?;
-    must_repeat_tested(&rt, alloc, &nested, vec![in alloc; 7u8, 1, 1]?, vec![in alloc; 0u8, 1]?)?;
-    must_repeat_tested(&rt, alloc, &nested, vec![in alloc; 0u8, 1]?, vec![in alloc; 0u8]?)?;
+    must_repeat_tested(
+        &rt,
+        alloc,
+        &nested,
+        vec![in alloc; 7u8, 1, 1]?,
+        vec![in alloc; 0u8, 1]?,
+    )?;
+    must_repeat_tested(
+        &rt,
+        alloc,
+        &nested,
+        vec![in alloc; 0u8, 1]?,
+        vec![in alloc; 0u8]?,
+    )?;
     Ok(())
 }
 
@@ -359,11 +461,29 @@ fn numbers_are_cells(rt: HostRuntime) -> Result<(), Fail> {
     must_be_listed(&rt, alloc, &data_type::uint8(), &[0u8, 255], &[0, 255])?;
     must_be_listed(&rt, alloc, &data_type::int8(), &[-1i8, 127], &[255, 127])?;
     must_be_listed(&rt, alloc, &data_type::uint16(), &[258u16], &[2, 1])?;
-    must_be_listed(&rt, alloc, &data_type::int16(), &[-2i16, 258], &[0xFE, 0xFF, 2, 1])?;
+    must_be_listed(
+        &rt,
+        alloc,
+        &data_type::int16(),
+        &[-2i16, 258],
+        &[0xFE, 0xFF, 2, 1],
+    )?;
     must_be_listed(&rt, alloc, &data_type::uint32(), &[1u32], &[1, 0, 0, 0])?;
-    must_be_listed(&rt, alloc, &data_type::int32(), &[-1i32], &[255, 255, 255, 255])?;
+    must_be_listed(
+        &rt,
+        alloc,
+        &data_type::int32(),
+        &[-1i32],
+        &[255, 255, 255, 255],
+    )?;
     must_be_listed(&rt, alloc, &data_type::uint64(), &[u64::MAX], &[255; 8])?;
-    must_be_listed(&rt, alloc, &data_type::int64(), &[i64::MIN], &[0, 0, 0, 0, 0, 0, 0, 128])?;
+    must_be_listed(
+        &rt,
+        alloc,
+        &data_type::int64(),
+        &[i64::MIN],
+        &[0, 0, 0, 0, 0, 0, 0, 128],
+    )?;
     Ok(())
 }
 
@@ -404,7 +524,11 @@ fn fill_values_are_compared_and_copied(rt: HostRuntime) -> Result<(), Fail> {
     let alloc = rt.alloc();
     let value = FillValue::new(vec![in alloc; 7u8, 1]?);
     must_be(&rt, value == value.try_clone(alloc)?, "copy");
-    must_be(&rt, value != FillValue::new(vec![in alloc; 7u8]?), "shorter");
+    must_be(
+        &rt,
+        value != FillValue::new(vec![in alloc; 7u8]?),
+        "shorter",
+    );
     Ok(())
 }
 
@@ -416,7 +540,8 @@ fn must_spread(
     present: &ArrayBytes<'_>,
 ) -> Result<(), Fail>
     requires flags { All (λ flag. flag < 2) mask.now }
-    requires present { HasCells (kind inner.now) (data_of present.now) (count_by flag_set mask.now) }
+    requires present { HasCells (kind inner.now) (data_of present.now)
+        (count_by flag_set mask.now) }
     requires size { length mask.now * cell_size (kind inner.now) < 2 ^ 64 }
 {
     let made = ArrayBytes::from_present(alloc, inner, Vec::from_slice(alloc, mask)?, present)?;
@@ -436,5 +561,26 @@ fn present_cells_go_under_a_mask(rt: HostRuntime) -> Result<(), Fail> {
     if none.validate(&DataType::UInt8, 0) {
         must_spread(&rt, alloc, &DataType::UInt8, &[0, 0], &none)?;
     }
+    Ok(())
+}
+
+fn must_fill_bytes(rt: &impl Abort, value: &FillValue, expected: &[u8]) {
+    assert!(rt; value.as_bytes() == expected);
+}
+
+#[test]
+fn numbers_become_fill_values(rt: HostRuntime) -> Result<(), Fail> {
+    let alloc = rt.alloc();
+    must_fill_bytes(&rt, &true.into_field(alloc)?, &[1]);
+    must_fill_bytes(&rt, &7u8.into_field(alloc)?, &[7]);
+    must_fill_bytes(&rt, &258u16.into_field(alloc)?, &[2, 1]);
+    must_fill_bytes(&rt, &1u32.into_field(alloc)?, &[1, 0, 0, 0]);
+    must_fill_bytes(&rt, &1u64.into_field(alloc)?, &[1, 0, 0, 0, 0, 0, 0, 0]);
+    must_fill_bytes(&rt, &(-1i8).into_field(alloc)?, &[255]);
+    must_fill_bytes(&rt, &(-2i16).into_field(alloc)?, &[0xFE, 0xFF]);
+    must_fill_bytes(&rt, &(-1i32).into_field(alloc)?, &[255; 4]);
+    must_fill_bytes(&rt, &(-1i64).into_field(alloc)?, &[255; 8]);
+    let value = FillValue::new(vec![in alloc; 3u8]?);
+    must_fill_bytes(&rt, &value.into_field(alloc)?, &[3]);
     Ok(())
 }

@@ -59,9 +59,6 @@ impl DataTypeMetadataV2 {
     pub fn try_clone(&self, alloc: Global) -> Result<DataTypeMetadataV2, AllocError>
         ensures { IfOk result (λ copy. copy ≡ self.now) }
     {
-        Ok(DataTypeMetadataV2::new(String::from_str(
-            alloc,
-            self.text.as_str(),
-        )?))
+        Ok(DataTypeMetadataV2::new(String::from_str(alloc, self.text.as_str())?))
     }
 }

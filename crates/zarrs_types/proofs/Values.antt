@@ -25,9 +25,11 @@ fill_cell-value (type.optional u) f c is = go (λ front d at. fill_cell-value u 
     none_value : (b : Bool) → cond b (Some none) None ≡ Some c → is_value (type.optional u) c ≡ true
     none_value true e = let same : none ≡ c = cc in subst (λ d. is_value (type.optional u) d ≡ true) same refl
     none_value false e = cc
+
     some_value : (o : Option Cell) → ((d : Cell) → o ≡ Some d → is_value u d ≡ true) → option_map some o ≡ Some c → is_value (type.optional u) c ≡ true
     some_value None below e = cc
     some_value (Some d) below e = let same : some d ≡ c = cc in subst (λ x. is_value (type.optional u) x ≡ true) same (below d refl)
+
     go : ((front : List ℕ) (d : Cell) → fill_cell u front ≡ Some d → is_value u d ≡ true) → (o : Option (List ℕ)) → elim o [ None ↦ cond (bytes_eq f (0 ∷ [])) (Some none) None | Some front ↦ option_map some (fill_cell u front) ] ≡ Some c → is_value (type.optional u) c ≡ true
     go below None e = none_value (bytes_eq f (0 ∷ [])) e
     go below (Some front) e = some_value (fill_cell u front) (below front) e

@@ -119,7 +119,8 @@ impl<'a> ArrayBytes<'a> {
         fill_value: &FillValue,
     ) -> Result<ArrayBytes<'static>, AllocError>
         requires filled { IsSome (fill_cell (kind data_type.now) fill_value.now) }
-        requires size { count * held_size (kind data_type.now) (fill_of (kind data_type.now) fill_value.now) < 2 ^ 64 }
+        requires size { count * held_size (kind data_type.now) (fill_of
+            (kind data_type.now) fill_value.now) < 2 ^ 64 }
         ensures { IfOk result (λ made. cells (kind data_type.now) (data_of made)
             ≡ Some (replicate count (fill_of (kind data_type.now) fill_value.now))) }
     {
@@ -134,7 +135,8 @@ impl<'a> ArrayBytes<'a> {
         fill: &[u8],
     ) -> Result<ArrayBytes<'static>, AllocError>
         requires filled { IsSome (fill_cell (kind data_type.now) fill.now) }
-        requires size { count * held_size (kind data_type.now) (fill_of (kind data_type.now) fill.now) < 2 ^ 64 }
+        requires size { count * held_size (kind data_type.now) (fill_of
+            (kind data_type.now) fill.now) < 2 ^ 64 }
         ensures { IfOk result (λ made. IsFilled (kind data_type.now) (data_of made) count
             (fill_of (kind data_type.now) fill.now)) }
     {
@@ -188,7 +190,8 @@ impl<'a> ArrayBytes<'a> {
         count: usize,
     ) -> Result<ArrayBytes<'a>, AllocError>
         requires { flag < 2 }
-        ensures { IfOk result (λ made. data_of made ≡ optional (replicate count flag) (data_of self.entry)) }
+        ensures { IfOk result (λ made. data_of made
+            ≡ optional (replicate count flag) (data_of self.entry)) }
     {
         let flags = repeated_byte(alloc, flag, count)?;
         self.with_optional_mask(alloc, CowSlice::Owned(flags))
@@ -199,7 +202,8 @@ impl<'a> ArrayBytes<'a> {
         requires has_cells { IsSome (cells (kind data_type.now) (data_of self.now)) }
         requires filled { IsSome (fill_cell (kind data_type.now) fill_value.now) }
         ensures { IfSome (cells (kind data_type.now) (data_of self.now))
-            (λ cs. result ≡ list_all (λ c. cell_eq c (fill_of (kind data_type.now) fill_value.now)) cs) }
+            (λ cs. result ≡ list_all (λ c. cell_eq c (fill_of
+            (kind data_type.now) fill_value.now)) cs) }
     {
         self.is_filled(data_type, fill_value.as_bytes())
     }
@@ -209,7 +213,8 @@ impl<'a> ArrayBytes<'a> {
         requires fits { (n : ℕ) × IsTrue (fits (kind data_type.now) (data_of self.now) n) }
         requires filled { IsSome (fill_cell (kind data_type.now) fill.now) }
         ensures { (n : ℕ) → fits (kind data_type.now) (data_of self.now) n ≡ true
-            → IsTrue result ↔ AreAllCells (kind data_type.now) (data_of self.now) n (fill_of (kind data_type.now) fill.now) }
+            → IsTrue result ↔ AreAllCells (kind data_type.now) (data_of self.now) n (fill_of
+            (kind data_type.now) fill.now) }
     {
         match self {
             ArrayBytes::Fixed(bytes) => is_repeated(bytes.as_slice(), fill),

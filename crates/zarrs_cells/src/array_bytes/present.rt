@@ -49,10 +49,13 @@ impl<'a> ArrayBytes<'a> {
         data_type: &DataType,
         places: &[usize],
     ) -> Result<ArrayBytes<'static>, AllocError>
-        requires cells { (n : ℕ) × IsTrue (fits (kind data_type.now) (data_of self.now) n) × (0 < n → All (λ p. p < n) places.now) }
+        requires cells { (n : ℕ) × IsTrue (fits (kind data_type.now) (data_of self.now) n)
+            × (0 < n → All (λ p. p < n) places.now) }
         requires size { length places.now * cell_size (kind data_type.now) < 2 ^ 64 }
-        ensures kind { IfOk result (λ made. IsTrue (fits (kind data_type.now) (data_of made) (length places.now))) }
-        ensures cells { IfOk result (λ made. (n : ℕ) → fits (kind data_type.now) (data_of self.now) n ≡ true → 0 < n
+        ensures kind { IfOk result (λ made. IsTrue (fits (kind data_type.now) (data_of made)
+            (length places.now))) }
+        ensures cells { IfOk result (λ made. (n : ℕ)
+            → fits (kind data_type.now) (data_of self.now) n ≡ true → 0 < n
             → IsSelection (kind data_type.now) (data_of made) (data_of self.now) places.now) }
     {
         if self.fits(data_type, 0) {
@@ -71,10 +74,12 @@ impl<'a> ArrayBytes<'a> {
         present: &ArrayBytes<'_>,
     ) -> Result<ArrayBytes<'static>, AllocError>
         requires flags { All (λ flag. flag < 2) mask.items }
-        requires present { HasCells (kind inner.now) (data_of present.now) (count_by flag_set mask.items) }
+        requires present { HasCells (kind inner.now) (data_of present.now)
+            (count_by flag_set mask.items) }
         requires size { length mask.items * cell_size (kind inner.now) < 2 ^ 64 }
         ensures { IfOk result (λ made. IfSome (cells (kind inner.now) (data_of present.now))
-            (λ ds. cells (optional (kind inner.now)) (data_of made) ≡ Some (spread_cells mask.items ds))) }
+            (λ ds. cells (optional (kind inner.now)) (data_of made)
+            ≡ Some (spread_cells mask.items ds))) }
     {
         let ranks = ranks_set(alloc, mask.as_slice())?;
         let data = present.spread(alloc, inner, ranks.as_slice())?;
@@ -90,7 +95,8 @@ impl<'a> ArrayBytesOptional<'a> {
         inner: &DataType,
     ) -> Result<ArrayBytes<'static>, AllocError>
         requires { IsSome (cells (optional (kind inner.now)) (optional_data self.now)) }
-        ensures { IfOk result (λ made. IfSome (cells (optional (kind inner.now)) (optional_data self.now))
+        ensures { IfOk result (λ made. IfSome (cells (optional (kind inner.now))
+            (optional_data self.now))
             (λ cs. cells (kind inner.now) (data_of made) ≡ Some (present_cells cs))) }
     {
         let places = places_set(alloc, self.mask.as_slice())?;

@@ -22,7 +22,8 @@ fn select_fixed(
     ensures len { IfOk result (λ selected. length selected.items ≡ length places.now * size) }
     ensures cells { IfOk result (λ selected. EachIndex places.now (λ k.
         slice_range selected.items (k * size) (k * size + size)
-        ≡ slice_range bytes.now (slice_index places.now k * size) (slice_index places.now k * size + size))) }
+        ≡ slice_range bytes.now (slice_index places.now k * size)
+        (slice_index places.now k * size + size))) }
 {
     let mut selected = Vec::with_capacity(alloc, places.len().saturating_mul(size))?;
     for place in places {
@@ -38,7 +39,8 @@ fn select_strings(
     places: &[usize],
 ) -> Result<ArrayBytesVariableLength<'static>, AllocError>
     requires { All (λ p. p < length strings.now) places.now }
-    ensures { IfOk result (λ selected. selected ≡ map (λ p. slice_index_or strings.now p []) places.now) }
+    ensures { IfOk result (λ selected. selected
+        ≡ map (λ p. slice_index_or strings.now p []) places.now) }
 {
     let mut builder = VariableLengthBuilder::with_capacity(alloc, places.len(), 0)?;
     for place in places {
@@ -51,7 +53,8 @@ fn select_strings(
 fn select_flags(alloc: Global, flags: &[u8], places: &[usize]) -> Result<Vec<u8>, AllocError>
     requires mask { All (λ flag. flag < 2) flags.now }
     requires within { All (λ p. p < length flags.now) places.now }
-    ensures items { IfOk result (λ selected. selected.items ≡ map (λ p. slice_index flags.now p) places.now) }
+    ensures items { IfOk result (λ selected. selected.items
+        ≡ map (λ p. slice_index flags.now p) places.now) }
     ensures mask { IfOk result (λ selected. All (λ flag. flag < 2) selected.items) }
 {
     let mut selected = Vec::with_capacity(alloc, places.len())?;
@@ -70,7 +73,8 @@ impl<'a> ArrayBytes<'a> {
         places: &[usize],
     ) -> Result<ArrayBytes<'static>, AllocError>
         requires { CanSelect (kind data_type.now) (data_of self.now) places.now }
-        ensures { IfOk result (λ selected. IsSelection (kind data_type.now) (data_of selected) (data_of self.now) places.now) }
+        ensures { IfOk result (λ selected. IsSelection (kind data_type.now) (data_of selected)
+            (data_of self.now) places.now) }
     {
         match self {
             ArrayBytes::Fixed(bytes) => match data_type.element_size() {

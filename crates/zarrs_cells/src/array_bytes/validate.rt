@@ -18,7 +18,7 @@ pub(super) fn fixed_cell(bytes: &[u8], size: usize, index: usize) -> &[u8]
 }
 
 impl<'a> ArrayBytes<'a> {
-    /// Whether this is data of the type with so many cells, each a value of it. What lies under a none is not looked at.
+    /// Whether this is data of the type with so many cells, each a value of it. It ignores what lies under a none.
     pub fn validate(&self, data_type: &DataType, count: u64) -> bool
         ensures { IsTrue result ↔ HasCells (kind data_type.now) (data_of self.now) count }
     {
@@ -69,7 +69,8 @@ impl<'a> ArrayBytes<'a> {
     /// Whether the cell of this number is a value of the type.
     fn is_value_at(&self, data_type: &DataType, index: usize) -> bool
         requires { HasCellAt (kind data_type.now) (data_of self.now) index }
-        ensures { result ≡ is_value (kind data_type.now) (cell_at (kind data_type.now) (data_of self.now) index) }
+        ensures { result ≡ is_value (kind data_type.now) (cell_at (kind data_type.now)
+            (data_of self.now) index) }
     {
         match self {
             ArrayBytes::Fixed(bytes) => match data_type.element_size() {

@@ -37,7 +37,8 @@ pub(super) fn number_list<T: WholeNumber>(
     requires any { takes_any_bytes (kind data_type.now) ≡ true }
     ensures cells { IfOk result (λ numbers. cells (kind data_type.now) (data_of «data».now)
         ≡ Some (map (λ x. bytes (T.le_bytes x)) numbers.items)) }
-    ensures refused { IfErr result (RefusesCells true (cells (kind data_type.now) (data_of «data».now))) }
+    ensures refused { IfErr result (RefusesCells true (cells (kind data_type.now)
+        (data_of «data».now))) }
 {
     let size = data_type.element_size().unwrap();
     match data {

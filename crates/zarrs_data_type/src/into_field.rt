@@ -1,0 +1,96 @@
+//! Values that become fields.
+ghost use Rattle.std.specs.Prelude.{◌≡◌, [], ◌∷◌, if◌then◌else◌, IfOk};
+ghost use Rattle.std.specs.Int.{w8, w16, w32, w64, cast_unsigned, to_le_bytes};
+
+use std::alloc::{AllocError, Global};
+use zarrs_types::FillValue;
+
+/// A value that becomes a field, in memory of the allocator.
+pub trait IntoField<T> {
+    // Holds of a value and each field that it may become.
+    ghost gives: { Self → T → Type 0 };
+
+    /// The field.
+    fn into_field(self, alloc: Global) -> Result<T, AllocError>
+        ensures { IfOk result (λ field. gives self field) };
+}
+
+impl IntoField<FillValue> for FillValue {
+    ghost gives = { λ value field. field ≡ value };
+
+    fn into_field(self, _alloc: Global) -> Result<FillValue, AllocError> {
+        Ok(self)
+    }
+}
+
+impl IntoField<FillValue> for bool {
+    ghost gives = { λ value field. field ≡ (if value then 1 else 0) ∷ [] };
+
+    fn into_field(self, alloc: Global) -> Result<FillValue, AllocError> {
+        Ok(FillValue::new(vec![in alloc; u8::from(self)]?))
+    }
+}
+
+impl IntoField<FillValue> for u8 {
+    ghost gives = { λ value field. field ≡ value ∷ [] };
+
+    fn into_field(self, alloc: Global) -> Result<FillValue, AllocError> {
+        Ok(FillValue::new(Vec::from_slice(alloc, &self.to_le_bytes())?))
+    }
+}
+
+impl IntoField<FillValue> for u16 {
+    ghost gives = { λ value field. field ≡ to_le_bytes w16 value };
+
+    fn into_field(self, alloc: Global) -> Result<FillValue, AllocError> {
+        Ok(FillValue::new(Vec::from_slice(alloc, &self.to_le_bytes())?))
+    }
+}
+
+impl IntoField<FillValue> for u32 {
+    ghost gives = { λ value field. field ≡ to_le_bytes w32 value };
+
+    fn into_field(self, alloc: Global) -> Result<FillValue, AllocError> {
+        Ok(FillValue::new(Vec::from_slice(alloc, &self.to_le_bytes())?))
+    }
+}
+
+impl IntoField<FillValue> for u64 {
+    ghost gives = { λ value field. field ≡ to_le_bytes w64 value };
+
+    fn into_field(self, alloc: Global) -> Result<FillValue, AllocError> {
+        Ok(FillValue::new(Vec::from_slice(alloc, &self.to_le_bytes())?))
+    }
+}
+
+impl IntoField<FillValue> for i8 {
+    ghost gives = { λ value field. field ≡ cast_unsigned w8 value ∷ [] };
+
+    fn into_field(self, alloc: Global) -> Result<FillValue, AllocError> {
+        Ok(FillValue::new(Vec::from_slice(alloc, &self.to_le_bytes())?))
+    }
+}
+
+impl IntoField<FillValue> for i16 {
+    ghost gives = { λ value field. field ≡ to_le_bytes w16 (cast_unsigned w16 value) };
+
+    fn into_field(self, alloc: Global) -> Result<FillValue, AllocError> {
+        Ok(FillValue::new(Vec::from_slice(alloc, &self.to_le_bytes())?))
+    }
+}
+
+impl IntoField<FillValue> for i32 {
+    ghost gives = { λ value field. field ≡ to_le_bytes w32 (cast_unsigned w32 value) };
+
+    fn into_field(self, alloc: Global) -> Result<FillValue, AllocError> {
+        Ok(FillValue::new(Vec::from_slice(alloc, &self.to_le_bytes())?))
+    }
+}
+
+impl IntoField<FillValue> for i64 {
+    ghost gives = { λ value field. field ≡ to_le_bytes w64 (cast_unsigned w64 value) };
+
+    fn into_field(self, alloc: Global) -> Result<FillValue, AllocError> {
+        Ok(FillValue::new(Vec::from_slice(alloc, &self.to_le_bytes())?))
+    }
+}
