@@ -1,6 +1,5 @@
 -- Chains behind codecs that make an array of an array.
-use Rattle.std.proofs.Common.{◌≡◌, ℕ, Bool, true, false, cond, ◌&&◌, List, [], ◌∷◌, length, Option, None, Some, refl, sym, ap, ◌∙◌}
-use Rattle.std.proofs.lemmas.Bool.{and_parts}
+use Rattle.std.proofs.Common.{◌≡◌, ℕ, Bool, true, false, ◌&&◌, List, length, Option, None, Some, refl, sym, ap, ◌∙◌}
 use Rattle.zarrs_types.specs.Kind.{Kind}
 use Rattle.zarrs_types.specs.Cell.{Cell, are_values, is_value}
 use Rattle.zarrs_subset.specs.Boxes.{position_count}

@@ -140,12 +140,7 @@ impl CodecChain {
 impl ChainTraits for CodecChain {
     ghost meaning = { chain_meaning };
 
-    fn fits(
-        &self,
-        alloc: Global,
-        data_type: &DataType,
-        shape: &[u64],
-    ) -> Result<bool, AllocError> {
+    fn fits(&self, alloc: Global, data_type: &DataType, shape: &[u64]) -> Result<bool, AllocError> {
         if !self.takes_shape(alloc, shape)? {
             return Ok(false);
         }

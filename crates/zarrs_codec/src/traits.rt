@@ -21,12 +21,7 @@ pub trait ChainTraits {
     ghost meaning: { Self → ChainMeaning };
 
     /// Whether the chain takes this type in chunks of this shape.
-    fn fits(
-        &self,
-        alloc: Global,
-        data_type: &DataType,
-        shape: &[u64],
-    ) -> Result<bool, AllocError>
+    fn fits(&self, alloc: Global, data_type: &DataType, shape: &[u64]) -> Result<bool, AllocError>
         ensures { IfOk result (λ fits. fits ≡ (meaning self.now).fits (kind data_type.now) shape.now) };
 
     /// The bytes of a chunk's cells.

@@ -1,18 +1,17 @@
 -- Codecs that make an array of an array, one after another.
-use Rattle.std.proofs.Common.{◌≡◌, ℕ, zero, suc, ◌+◌, ◌<◌, ◌≤◌, Bool, true, false, cond, ◌&&◌, List, [], ◌∷◌, ◌++◌, length, take, drop, get_or, Option, None, Some, refl, sym, ap, ◌∙◌, subst, arith}
-use Rattle.std.specs.Prelude.{IfSome, option_and_then, IsSomeAnd, option_map}
+use Rattle.std.proofs.Common.{◌≡◌, ℕ, zero, suc, ◌+◌, ◌<◌, ◌≤◌, Bool, true, false, cond, ◌&&◌, List, [], ◌∷◌, ◌++◌, length, take, drop, get_or, None, Some, refl, sym, ap, ◌∙◌, subst}
+use Rattle.std.specs.Prelude.{IfSome, option_and_then}
 use Rattle.std.proofs.lemmas.Bool.{and_parts, and_from}
 use Rattle.std.proofs.lemmas.List.{take_more, take_all}
-use Rattle.std.specs.List.{list_all}
 use Rattle.zarrs_data_type.specs.ArrayData.{ArrayData}
 use Rattle.zarrs_data_type.specs.Cell.{Cell}
 use Rattle.zarrs_data_type.specs.Cells.{cells, HasCells}
 use Rattle.zarrs_data_type.specs.Kind.{Kind}
 use Rattle.zarrs_data_type.proofs.Cells.{HasCells-cells, HasCells-some}
 use Rattle.zarrs_subset.specs.Boxes.{position_count}
-use Rattle.zarrs_codec_array.specs.Arrays.{ArrayMeaning, IsLawfulArray, and_then}
+use Rattle.zarrs_codec_array.specs.Arrays.{ArrayMeaning, and_then}
 use Rattle.zarrs_codec_array.specs.ArrayCodecs.{array_meaning, arrays_meaning, arrays-lawful, array-lawful}
-use Rattle.zarrs_codec_array.specs.Gathered.{IsEncodedArray, IsDecodedArray, data_or, encoded_shape}
+use Rattle.zarrs_codec_array.specs.Gathered.{encoded_shape}
 use Rattle.zarrs_codec_array.specs.declared.array.ArrayToArrayCodec.{ArrayToArrayCodec}
 
 pub shape-cons : (a b : ArrayMeaning) (s : List ℕ) → encoded_shape (and_then a b) s ≡ option_and_then (encoded_shape b) (encoded_shape a s)

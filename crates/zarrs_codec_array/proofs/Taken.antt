@@ -1,10 +1,9 @@
 -- Data whose cells are taken in another order, kind by kind.
-use Rattle.std.proofs.Common.{◌≡◌, ℕ, ◌+◌, ◌*◌, ◌<◌, ◌≤◌, Bool, true, false, cond, eqb, ◌&&◌, List, [], ◌∷◌, length, map, get_or, Option, None, Some, refl, sym, ap, ◌∙◌, subst, arith}
-use Rattle.std.specs.Prelude.{slice_index, slice_index_or, IfSome, All, slice_range}
-use Rattle.std.specs.List.{list_all, range_with_len}
+use Rattle.std.proofs.Common.{◌≡◌, ℕ, ◌+◌, ◌*◌, ◌<◌, true, false, cond, eqb, ◌&&◌, List, [], length, map, get_or, None, Some, sym, ap, ◌∙◌, subst, arith}
+use Rattle.std.specs.Prelude.{slice_index, slice_index_or, All}
 use Rattle.std.proofs.lemmas.Bool.{eq-eqb, and_from}
 use Rattle.std.proofs.lemmas.List.{length-map, get_or-map, get_or_default}
-use Rattle.std.proofs.lemmas.List.FromFn.{length-map-range_with_len, get_or-map-range_with_len}
+use Rattle.std.proofs.lemmas.List.FromFn.{get_or-map-range_with_len}
 use Rattle.std.proofs.lemmas.List.Sums.{AllPass-from_list_all}
 use Rattle.zarrs_data_type.specs.Kind.{Kind, element_size, is_variable, inner_of}
 use Rattle.zarrs_data_type.specs.Cell.{Cell, bytes, none, some, is_value, are_values}
@@ -13,8 +12,6 @@ use Rattle.zarrs_data_type.specs.Cells.{fits, cell_at, cells}
 use Rattle.zarrs_data_type.proofs.Cells.{IsSized, cells-as, cells-parts, cells-values}
 use Rattle.zarrs_data_type.proofs.Filled.{cell_at-fixed}
 use Rattle.zarrs_subset.specs.Boxes.{position_count, InShape, place, unravel}
-use Rattle.zarrs_subset.specs.Pieces.{piece_at}
-use Rattle.zarrs_subset.specs.Rearranged.{made_of}
 use Rattle.zarrs_subset.proofs.Kernel.{place_below, piece_at-same, cell_ends}
 use Rattle.zarrs_subset.proofs.Positions.{unravel_in, place-unravel}
 use Rattle.zarrs_subset.proofs.RearrangedCells.{length-made_of, get_or-made_of}

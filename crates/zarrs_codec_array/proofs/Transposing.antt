@@ -1,12 +1,10 @@
 -- Data of arrays whose dimensions are in another order.
-use Rattle.std.proofs.Common.{◌≡◌, ℕ, zero, suc, ◌+◌, ◌-◌, ◌*◌, ◌<◌, ◌≤◌, Bool, true, List, [], ◌∷◌, ◌++◌, length, map, take, drop, get_or, refl, sym, ap, ◌∙◌, subst, arith, append-nil}
+use Rattle.std.proofs.Common.{◌≡◌, ℕ, zero, suc, ◌+◌, ◌*◌, ◌<◌, List, [], ◌∷◌, ◌++◌, length, take, drop, refl, ap, ◌∙◌, arith, append-nil}
 use Rattle.std.specs.Prelude.{slice_index}
-use Rattle.std.proofs.lemmas.List.{length-map, get_or-map, ext_get_or, take_all, drop_all, get_or_past}
-use Rattle.std.proofs.Math.Nat.{mul_comm, mul_assoc, add-mul, suc-mul}
-use Rattle.zarrs_subset.specs.Boxes.{position_count, InShape, place}
-use Rattle.zarrs_codec_array.specs.Orders.{dot, scaled, permuted, strides}
-use Rattle.zarrs_codec_array.specs.OrderLaws.{length-permuted, length-strides}
-use Rattle.zarrs_codec_array.specs.Gathered.{IsGathered, AreWithin, IsWay}
+use Rattle.std.proofs.lemmas.List.{length-map, take_all, drop_all}
+use Rattle.std.proofs.Math.Nat.{mul_assoc, add-mul}
+use Rattle.zarrs_codec_array.specs.Orders.{dot, scaled, permuted}
+use Rattle.zarrs_codec_array.specs.Gathered.{AreWithin}
 use Rattle.zarrs_codec_array.proofs.Gathering.{row_end}
 
 -- a number of a scaled list

@@ -1,6 +1,6 @@
 -- The ways of `transpose`, and what it makes of data.
-use Rattle.std.proofs.Common.{◌≡◌, ℕ, zero, suc, ◌+◌, ◌*◌, ◌<◌, ◌≤◌, Bool, true, List, [], ◌∷◌, length, map, get_or, Option, None, Some, refl, sym, ap, ◌∙◌, subst, arith}
-use Rattle.std.specs.Prelude.{slice_index, IfSome, IsSomeAnd}
+use Rattle.std.proofs.Common.{◌≡◌, ℕ, zero, suc, ◌<◌, true, List, [], length, get_or, Some, refl, sym, ap, ◌∙◌, subst, arith}
+use Rattle.std.specs.Prelude.{slice_index, IfSome}
 use Rattle.std.proofs.lemmas.List.{ext_get_or, nil_from_length}
 use Rattle.std.proofs.lemmas.List.FromFn.{get_or-map-range_with_len}
 use Rattle.zarrs_data_type.specs.ArrayData.{ArrayData}
@@ -12,10 +12,10 @@ use Rattle.zarrs_subset.specs.Boxes.{position_count, InShape, place}
 use Rattle.zarrs_subset.proofs.Counts.{length-InShape}
 use Rattle.zarrs_subset.proofs.Kernel.{place_below}
 use Rattle.zarrs_subset.proofs.RearrangedCells.{length-made_of}
-use Rattle.zarrs_codec_array.specs.Arrays.{rearranged, transposed}
+use Rattle.zarrs_codec_array.specs.Arrays.{transposed}
 use Rattle.zarrs_codec_array.specs.Orders.{is_order, permuted, index_of, inverse, strides, dot}
 use Rattle.zarrs_codec_array.specs.OrderLaws.{entry_below, index_at, at_index, length-permuted, length-inverse, permuted_at, inverse_at, permuted_in, inverse_in, there_and_back, count-permuted, dot-permuted, length-strides, place-dot}
-use Rattle.zarrs_codec_array.specs.Gathered.{AreWithin, IsWay, IsTaken}
+use Rattle.zarrs_codec_array.specs.Gathered.{IsWay, IsTaken}
 use Rattle.zarrs_codec_array.proofs.Taken.{taken-cells}
 
 pub no_cell : (n : ℕ) → (0 < n → ⊥) → n ≡ 0

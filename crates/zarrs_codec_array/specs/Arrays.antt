@@ -1,6 +1,6 @@
 -- What codecs that make an array of an array mean.
-use Rattle.std.specs.Prelude.{◌≡◌, ℕ, ◌*◌, ◌/◌, ◌<◌, ◌^◌, Bool, true, Option, None, Some, List, [], ◌∷◌, length, map, slice_index, slice_index_or, nat_lt, ◌==◌, ◌&&◌, if◌then◌else◌, count_by}
-use Rattle.std.specs.List.{list_all, filter}
+use Rattle.std.specs.Prelude.{◌≡◌, ℕ, ◌/◌, ◌^◌, Bool, true, List, [], ◌∷◌, length, map, slice_index, slice_index_or, nat_lt, ◌==◌, ◌&&◌, if◌then◌else◌}
+use Rattle.std.specs.List.{list_all}
 use Rattle.zarrs_types.specs.Cell.{Cell, none}
 use Rattle.zarrs_subset.specs.Boxes.{position_count, place}
 use Rattle.zarrs_subset.specs.Rearranged.{made_of}

@@ -1,7 +1,7 @@
 -- The laws of orders: a sum or a product over an order is that over the numbers below its length.
 use Rattle.std.proofs.Common.{◌≡◌, ℕ, zero, suc, ◌+◌, ◌*◌, ◌<◌, ◌≤◌, Bool, true, false, cond, eqb, ◌||◌, List, [], ◌∷◌, length, map, get_or, refl, sym, ap, ◌∙◌, arith}
 use Rattle.std.specs.Prelude.{slice_index, nat_lt}
-use Rattle.std.specs.List.{range_with_len, list_all, list_any}
+use Rattle.std.specs.List.{range_with_len, list_any}
 use Rattle.std.proofs.Math.Nat.{mul_comm, mul_assoc}
 use Rattle.std.proofs.lemmas.Bool.{eqb-true, eq-eqb, ltb-true, lt-ltb, false≢true}
 use Rattle.std.proofs.lemmas.List.{length-map, get_or-map, ext_get_or}
@@ -98,7 +98,6 @@ module _ (order : List ℕ) (is : is_order order ≡ true) where
       let d = length order in
       total-all op unit comm assoc g d order refl order_has
       ∙ sym (total-all op unit comm assoc g d (range_with_len 0 d) (length-range_with_len 0 d) (λ j lt. range_has d j lt))
-
 
 -- ---- sums
 

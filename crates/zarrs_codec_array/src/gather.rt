@@ -26,14 +26,7 @@ fn gather_cells<const N: usize>(
 }
 
 // The same with cells of `size` bytes.
-fn gather_pieces(
-    to: &mut [u8],
-    from: &[u8],
-    size: usize,
-    extent: usize,
-    step: usize,
-    start: usize,
-)
+fn gather_pieces(to: &mut [u8], from: &[u8], size: usize, extent: usize, step: usize, start: usize)
     requires len { length to.old ≡ extent * size }
     requires within { AreWithin size (extent ∷ []) (step ∷ []) start (length from.now) }
     ensures { IsGathered size (extent ∷ []) (step ∷ []) start from.now to.new }
@@ -58,14 +51,7 @@ fn copy_cells(to: &mut [u8], from: &[u8], size: usize, extent: usize, start: usi
 }
 
 // Does what `gather` says in one dimension, of `extent` cells.
-fn gather_line(
-    to: &mut [u8],
-    from: &[u8],
-    size: usize,
-    extent: usize,
-    step: usize,
-    start: usize,
-)
+fn gather_line(to: &mut [u8], from: &[u8], size: usize, extent: usize, step: usize, start: usize)
     requires len { length to.old ≡ extent * size }
     requires within { AreWithin size (extent ∷ []) (step ∷ []) start (length from.now) }
     ensures { IsGathered size (extent ∷ []) (step ∷ []) start from.now to.new }

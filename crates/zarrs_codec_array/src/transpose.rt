@@ -75,14 +75,7 @@ impl TransposeCodec {
             return Ok(None);
         }
         let target = lists::permuted(alloc, &self.order, shape)?;
-        Ok(Some(rearranged(
-            alloc,
-            bytes,
-            data_type,
-            &target,
-            shape,
-            &self.order,
-        )?))
+        Ok(Some(rearranged(alloc, bytes, data_type, &target, shape, &self.order)?))
     }
 
     /// The decoded array, whose shape this is, or `None` if there is no cell.
@@ -103,9 +96,7 @@ impl TransposeCodec {
         }
         let source = lists::permuted(alloc, &self.order, shape)?;
         let inverse = lists::inverse(alloc, &self.order)?;
-        Ok(Some(rearranged(
-            alloc, bytes, data_type, shape, &source, &inverse,
-        )?))
+        Ok(Some(rearranged(alloc, bytes, data_type, shape, &source, &inverse)?))
     }
 }
 

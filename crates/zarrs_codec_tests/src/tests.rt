@@ -70,7 +70,15 @@ fn numbers_are_little_endian(rt: HostRuntime) -> Result<(), Fail> {
     let alloc = rt.alloc();
     let chain = chain_of(Vec::new(alloc));
     let numbers = [0xFE, 0xFF, 0x02, 0x01];
-    must_encode(&rt, alloc, &chain, &DataType::Int16, &[2], &numbers, &numbers)
+    must_encode(
+        &rt,
+        alloc,
+        &chain,
+        &DataType::Int16,
+        &[2],
+        &numbers,
+        &numbers,
+    )
 }
 
 #[test]
@@ -108,7 +116,14 @@ fn transposes_of_no_one_and_three_dimensions(rt: HostRuntime) -> Result<(), Fail
     let alloc = rt.alloc();
     must_transpose(&rt, alloc, &[], &[], &[7], &[7])?;
     must_transpose(&rt, alloc, &[0], &[3], &[1, 2, 3], &[1, 2, 3])?;
-    must_transpose(&rt, alloc, &[2, 0, 1], &[1, 2, 3], &[1, 2, 3, 4, 5, 6], &[1, 4, 2, 5, 3, 6])?;
+    must_transpose(
+        &rt,
+        alloc,
+        &[2, 0, 1],
+        &[1, 2, 3],
+        &[1, 2, 3, 4, 5, 6],
+        &[1, 4, 2, 5, 3, 6],
+    )?;
     must_transpose(&rt, alloc, &[1, 2, 0], &[2, 0, 3], &[], &[])
 }
 
@@ -116,7 +131,14 @@ fn transposes_of_no_one_and_three_dimensions(rt: HostRuntime) -> Result<(), Fail
 fn a_transpose_of_five_dimensions_moves_each(rt: HostRuntime) -> Result<(), Fail> {
     let alloc = rt.alloc();
     let cells = [0, 1, 2, 3, 4, 5, 6, 7];
-    must_transpose(&rt, alloc, &[4, 1, 2, 3, 0], &[2, 1, 2, 1, 2], &cells, &[0, 4, 2, 6, 1, 5, 3, 7])
+    must_transpose(
+        &rt,
+        alloc,
+        &[4, 1, 2, 3, 0],
+        &[2, 1, 2, 1, 2],
+        &cells,
+        &[0, 4, 2, 6, 1, 5, 3, 7],
+    )
 }
 
 #[test]
@@ -124,7 +146,15 @@ fn cells_of_two_and_three_bytes_move_whole(rt: HostRuntime) -> Result<(), Fail> 
     let alloc = rt.alloc();
     let chain = chain_of(vec![in alloc; transpose(alloc, &[1, 0])?]?);
     let cells = [1, 0, 2, 0, 3, 0, 4, 0];
-    must_encode(&rt, alloc, &chain, &DataType::UInt16, &[2, 2], &cells, &[1, 0, 3, 0, 2, 0, 4, 0])?;
+    must_encode(
+        &rt,
+        alloc,
+        &chain,
+        &DataType::UInt16,
+        &[2, 2],
+        &cells,
+        &[1, 0, 3, 0, 2, 0, 4, 0],
+    )?;
     let raw = DataType::Raw(NonZeroUsize::new(3).ok_or("zero")?);
     let triples = [1, 1, 1, 2, 2, 2, 3, 3, 3, 4, 4, 4];
     let swapped = [1, 1, 1, 3, 3, 3, 2, 2, 2, 4, 4, 4];
@@ -135,10 +165,22 @@ fn cells_of_two_and_three_bytes_move_whole(rt: HostRuntime) -> Result<(), Fail> 
 fn two_transposes_and_a_squeeze_go_in_order(rt: HostRuntime) -> Result<(), Fail> {
     let alloc = rt.alloc();
     let squeeze = ArrayToArrayCodec::Squeeze(SqueezeCodec);
-    let codecs = vec![in alloc; transpose(alloc, &[2, 0, 1])?, squeeze, transpose(alloc, &[1, 0])?]?;
+    let codecs = vec![in alloc;
+        transpose(alloc, &[2, 0, 1])?,
+        squeeze,
+        transpose(alloc, &[1, 0])?,
+    ]?;
     let chain = chain_of(codecs);
     let cells = [1, 2, 3, 4, 5, 6];
-    must_encode(&rt, alloc, &chain, &DataType::UInt8, &[1, 2, 3], &cells, &cells)
+    must_encode(
+        &rt,
+        alloc,
+        &chain,
+        &DataType::UInt8,
+        &[1, 2, 3],
+        &cells,
+        &cells,
+    )
 }
 
 fn must_not_fit(
@@ -161,7 +203,10 @@ fn what_does_not_fit_is_refused(rt: HostRuntime) -> Result<(), Fail> {
     let plain = chain_of(Vec::new(alloc));
     let optional = DataType::Optional(Box::new(alloc, DataType::UInt8)?);
     must_not_fit(&rt, alloc, &plain, &optional, &[2])?;
-    assert!(&rt; swap.compact(alloc, &[1], &[1]).is_err_and(|e| e == CodecError::DoesNotFit));
+    assert!(&rt;
+        swap.compact(alloc, &[1], &[1])
+            .is_err_and(|e| e == CodecError::DoesNotFit)
+    );
     Ok(())
 }
 
@@ -222,7 +267,12 @@ fn must_read(rt: &impl Abort, alloc: Global, error: &CodecError, text: &str) -> 
 fn errors_say_what_is_wrong(rt: HostRuntime) -> Result<(), Fail> {
     let alloc = rt.alloc();
     must_read(&rt, alloc, &CodecError::OutOfMemory, "out of memory")?;
-    must_read(&rt, alloc, &CodecError::SizeOverflow, "size exceeds the number types")?;
+    must_read(
+        &rt,
+        alloc,
+        &CodecError::SizeOverflow,
+        "size exceeds the number types",
+    )?;
     must_read(
         &rt,
         alloc,

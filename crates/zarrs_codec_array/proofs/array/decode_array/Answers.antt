@@ -1,4 +1,4 @@
-use Rattle.std.proofs.Common.{rules, arith, ◌≡◌, ◌+◌, ◌-◌, ◌<◌, true, length, take, ap, sym, subst, ◌∙◌}
+use Rattle.std.proofs.Common.{rules, arith, ◌≡◌, ◌+◌, ◌-◌, ◌<◌, true, length, take, sym, subst, ◌∙◌}
 use Rattle.std.specs.Prelude.{IfSome, Some}
 use Rattle.zarrs_data_type.specs.ArrayData.{data_of}
 use Rattle.zarrs_data_type.specs.Cells.{cells, HasCells}
@@ -36,10 +36,11 @@ loop-k-preserved c =
     let f = data_of c.in_ok-current.current in
     let front = (arrays_meaning (take k c.args.codecs.now)).shape s in
     let next : IfSome (cells t e) (λ ys. cells t f ≡ Some ((array_meaning codec).back front ys)) =
-    subst (λ x. IfSome (cells t e) (λ ys. cells t f ≡ Some ((array_meaning codec).back x ys))) (c.deref.ensures.value ∙ c.in_ok-before.ensures) c.in_ok-current.ensures in
-    (omega (arith, c.loop-k.invariant.0),
-    undone-more c.args.codecs.now k codec s lt c.index-codecs-k.is c.requires.fits t (data_of c.args.bytes) e f c.requires.cells
-    (subst (λ n. IsUndone c.args.codecs.now n s t (data_of c.args.bytes) e) whole c.loop-k.invariant.1) next)
+    subst (λ x. IfSome (cells t e) (λ ys. cells t f ≡ Some ((array_meaning codec).back x ys))) (c.deref.ensures.value ∙ c.in_ok-before.ensures) c.in_ok-current.ensures in (
+      omega (arith, c.loop-k.invariant.0),
+      undone-more c.args.codecs.now k codec s lt c.index-codecs-k.is c.requires.fits t (data_of c.args.bytes) e f c.requires.cells
+          (subst (λ n. IsUndone c.args.codecs.now n s t (data_of c.args.bytes) e) whole c.loop-k.invariant.1) next,
+    )
 
 pub loop-k-init : goal.loop-k-init
 loop-k-init c = (search rules, undone-first c.args.codecs.now _ c.args.shape.now (kind c.args.data_type.now) (data_of c.args.bytes) (search rules) c.requires.cells)

@@ -1,6 +1,5 @@
-use Rattle.std.proofs.Common.{rules, arith, ◌≡◌, ◌+◌, true, length, take, ap, sym, subst, ◌∙◌}
+use Rattle.std.proofs.Common.{◌≡◌, ◌+◌, true, take, sym, subst, ◌∙◌}
 use Rattle.std.specs.Prelude.{IfSome, Some}
-use Rattle.std.proofs.lemmas.List.{take_all}
 use Rattle.zarrs_data_type.specs.ArrayData.{data_of}
 use Rattle.zarrs_data_type.specs.Cells.{cells, HasCells}
 use Rattle.zarrs_data_type.specs.Kind.{kind}

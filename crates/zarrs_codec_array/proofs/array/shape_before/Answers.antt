@@ -1,4 +1,4 @@
-use Rattle.std.proofs.Common.{rules, ◌≡◌, List, ℕ, length, take, map, Some, None, ap, sym, option_map, ◌∙◌}
+use Rattle.std.proofs.Common.{◌≡◌, take, Some, None, ap, sym, option_map, ◌∙◌}
 use Rattle.zarrs_codec_array.specs.ArrayCodecs.{arrays_meaning}
 use Rattle.zarrs_codec_array.specs.Gathered.{encoded_shape}
 use Rattle.zarrs_codec_array.proofs.Chained.{fits-take, shape-fits}

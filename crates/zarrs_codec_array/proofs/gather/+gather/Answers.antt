@@ -1,9 +1,9 @@
-use Rattle.std.proofs.Common.{refl, ◌-◌, slice_range, rules, arith, ◌≡◌, ◌+◌, ◌*◌, ◌/◌, ◌<◌, ◌≤◌, [], ◌∷◌, length, ap, sym, subst, get_or, ◌∙◌}
+use Rattle.std.proofs.Common.{refl, ◌-◌, slice_range, rules, arith, ◌≡◌, ◌+◌, ◌*◌, ◌/◌, ◌<◌, ◌≤◌, ◌∷◌, length, ap, sym, subst, get_or, ◌∙◌}
 use borrow.Rule.Slice.PartMut.{put_mid}
 use Rattle.zarrs_subset.specs.Boxes.{position_count}
 use Rattle.zarrs_subset.proofs.Kernel.{length_part, block_is}
-use Rattle.zarrs_codec_array.specs.Gathered.{IsGathered, AreWithin}
-use Rattle.zarrs_codec_array.proofs.Gathering.{head_tail, row_end, gathered-empty, gathered-cell, gathered-more, gathered-first, within-row, some_cell, some_factor, no_dimension, one_dimension, length-slice_tail, some_tail, rows_len}
+use Rattle.zarrs_codec_array.specs.Gathered.{IsGathered}
+use Rattle.zarrs_codec_array.proofs.Gathering.{head_tail, row_end, gathered-empty, gathered-more, gathered-first, within-row, some_cell, some_factor, length-slice_tail, some_tail, rows_len}
 use Rattle.zarrs_codec_array.proofs.gather.+gather.Goals as goal
 
 pub returns-then-is_empty : goal.returns-then-is_empty
@@ -61,11 +61,16 @@ gather-requires t c =
     let some : 0 < e = omega arith in
     let is : b ≡ position_count (slice_range shape 1 (length shape)) * n = block_is shape n (length c.args.to.now) some c.requires.len in
     let whole : length c.args.to.now ≡ e * b = c.requires.len ∙ rows_len shape n b dims is in
-    let room : i * b + b ≤ length c.loop-i.to = omega (arith, row_end i e b c.loop-i-test.true) in
-    (first_of (omega (arith, c.decreases, length-slice_tail shape dims), search rules),
-    ((omega (arith, length-slice_tail shape dims, length-slice_tail steps dims')),
-    (length_part (i * b) b c.loop-i.to room ∙ is,
-    within-row n i shape steps c.args.start (length c.args.from.now) dims c.requires.same_length c.requires.within c.loop-i-test.true)))
+    let room : i * b + b ≤ length c.loop-i.to = omega (arith, row_end i e b c.loop-i-test.true) in (
+      first_of (omega (arith, c.decreases, length-slice_tail shape dims), search rules),
+      (
+        (omega (arith, length-slice_tail shape dims, length-slice_tail steps dims')),
+        (
+          length_part (i * b) b c.loop-i.to room ∙ is,
+          within-row n i shape steps c.args.start (length c.args.from.now) dims c.requires.same_length c.requires.within c.loop-i-test.true,
+        ),
+      ),
+    )
 
 pub loop-i-preserved : goal.loop-i-preserved
 loop-i-preserved t c =

@@ -1,6 +1,5 @@
-use Rattle.std.proofs.Common.{rules, arith, ◌≡◌, ◌+◌, ◌*◌, ◌<◌, ◌≤◌, ◌++◌, [], length, map, get_or, refl, sym, ap, ◌∙◌, slice_index_or, slice_range, append-nil}
+use Rattle.std.proofs.Common.{rules, arith, ◌≡◌, ◌+◌, ◌*◌, ◌<◌, ◌++◌, [], length, map, get_or, ap, ◌∙◌, slice_index_or, slice_range}
 use Rattle.std.specs.List.{flat_map, range_with_len}
-use Rattle.zarrs_subset.specs.Boxes.{position_count}
 use Rattle.zarrs_codec_array.specs.Gathered.{walked}
 use Rattle.zarrs_codec_array.proofs.Gathering.{within-row, some_cell, some_tail, length-slice_tail}
 use Rattle.zarrs_codec_array.proofs.Walks.{walked_more, walked-rows}
@@ -32,11 +31,16 @@ push_strings-requires t c =
     let dims : 0 < length shape = search rules in
     let row = within-row 1 c.loop-i.i shape c.args.steps.now c.args.start (length c.args.from.now) dims c.requires.same_length c.requires.within c.loop-i-test.true in
     let steps = c.args.steps.now in
-    let dims' : 0 < length steps = omega arith in
-    (first_of (omega (arith, c.decreases, length-slice_tail shape dims), search rules),
-    ((omega (arith, length-slice_tail shape dims, length-slice_tail steps dims')),
-    (some_tail shape dims c.requires.some,
-    (c.requires.fits, row))))
+    let dims' : 0 < length steps = omega arith in (
+      first_of (omega (arith, c.decreases, length-slice_tail shape dims), search rules),
+      (
+        (omega (arith, length-slice_tail shape dims, length-slice_tail steps dims')),
+        (
+          some_tail shape dims c.requires.some,
+          (c.requires.fits, row),
+        ),
+      ),
+    )
 
 pub loop-i-preserved : goal.loop-i-preserved
 loop-i-preserved t c =

@@ -1,7 +1,6 @@
-use Rattle.std.proofs.Common.{refl, ◌-◌, slice_range, rules, arith, ◌≡◌, ◌+◌, ◌*◌, ◌<◌, ◌≤◌, [], ◌∷◌, length, ap, sym, subst, ◌∙◌}
-use Rattle.zarrs_subset.proofs.Kernel.{length_part}
+use Rattle.std.proofs.Common.{refl, slice_range, arith, ◌≡◌, ◌+◌, ◌*◌, [], ◌∷◌, length, ap, sym, subst, ◌∙◌}
 use Rattle.zarrs_codec_array.specs.Gathered.{IsGathered}
-use Rattle.zarrs_codec_array.proofs.Gathering.{row_read, line_read, gathered-line, gathered-empty, gathered-cell, gathered-more, gathered-first, row_end}
+use Rattle.zarrs_codec_array.proofs.Gathering.{line_read, gathered-line, gathered-empty}
 use Rattle.zarrs_codec_array.proofs.gather.copy_cells.Goals as goal
 
 pub overflow_add-start : goal.overflow_add-start
@@ -22,4 +21,3 @@ returns-then-len-gt0 c =
 pub returns-else-len-gt0 : goal.returns-else-len-gt0
 returns-else-len-gt0 c =
     gathered-empty c.args.size (c.args.extent ∷ []) (c.args.size ∷ []) c.args.from.now c.args.to.now c.args.start (omega arith)
-

@@ -1,7 +1,7 @@
-use Rattle.std.proofs.Common.{refl, ◌-◌, slice_range, rules, arith, ◌≡◌, ◌+◌, ◌*◌, ◌<◌, ◌≤◌, [], ◌∷◌, length, ap, sym, subst, ◌∙◌}
+use Rattle.std.proofs.Common.{refl, ◌-◌, slice_range, arith, ◌≡◌, ◌+◌, ◌*◌, ◌≤◌, [], ◌∷◌, length, sym, subst, ◌∙◌}
 use Rattle.zarrs_subset.proofs.Kernel.{length_part}
 use Rattle.zarrs_codec_array.specs.Gathered.{IsGathered}
-use Rattle.zarrs_codec_array.proofs.Gathering.{row_read, line_read, gathered-line, gathered-empty, gathered-cell, gathered-more, gathered-first, row_end}
+use Rattle.zarrs_codec_array.proofs.Gathering.{row_read, gathered-cell, gathered-more, gathered-first, row_end}
 use Rattle.zarrs_codec_array.proofs.gather.gather_pieces.Goals as goal
 
 pub loop-i-init : goal.loop-i-init

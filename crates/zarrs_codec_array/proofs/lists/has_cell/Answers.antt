@@ -1,5 +1,4 @@
-use Rattle.std.proofs.Common.{rules, arith, ◌≡◌, ◌<◌, true, refl}
-use Rattle.zarrs_subset.specs.Boxes.{position_count}
+use Rattle.std.proofs.Common.{arith, refl}
 use Rattle.zarrs_subset.proofs.Counts.{count_zero, count_some}
 use Rattle.zarrs_codec_array.proofs.lists.has_cell.Goals as goal
 

@@ -1,5 +1,5 @@
-use Rattle.std.proofs.Common.{rules, arith, ◌≡◌, ◌+◌, ◌<◌, ◌≤◌, length, ℕ, get_or, slice_set, refl, sym, ap, ◌∙◌}
-use Rattle.zarrs_codec_array.proofs.Marks.{undone-all, order_apart, reset}
+use Rattle.std.proofs.Common.{arith, ◌≡◌, length}
+use Rattle.zarrs_codec_array.proofs.Marks.{undone-all, reset}
 use Rattle.zarrs_codec_array.specs.OrderLaws.{entry_below}
 use Rattle.zarrs_codec_array.proofs.lists.inverse.Goals as goal
 

@@ -1,4 +1,4 @@
-use Rattle.std.proofs.Common.{rules, arith, ◌≡◌, ◌<◌, length, ap, sym, ℕ, ◌∙◌, eqb}
+use Rattle.std.proofs.Common.{ap, ◌∙◌, eqb}
 use Rattle.std.specs.List.{list_all, list_any}
 use Rattle.std.proofs.lemmas.List.{take_all}
 use Rattle.zarrs_codec_array.proofs.Marks.{marked-all}

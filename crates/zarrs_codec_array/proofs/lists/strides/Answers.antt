@@ -1,4 +1,4 @@
-use Rattle.std.proofs.Common.{rules, arith, ◌≡◌, ◌+◌, ◌-◌, ◌*◌, ◌<◌, ◌≤◌, length, ℕ, get_or, refl, sym, ap, ◌∙◌, drop}
+use Rattle.std.proofs.Common.{arith, ◌≡◌, ◌+◌, ◌-◌, ◌*◌, ◌<◌, length, get_or, sym, ap, ◌∙◌, drop}
 use Rattle.std.proofs.lemmas.List.{length-set}
 use Rattle.zarrs_codec_array.specs.Orders.{strides, scaled}
 use Rattle.zarrs_subset.specs.Boxes.{position_count}

@@ -1,4 +1,4 @@
-use Rattle.std.proofs.Common.{rules, arith, ◌≡◌, suc, ◌*◌, true, None, Some, length, ap, sym, subst, ◌∙◌}
+use Rattle.std.proofs.Common.{rules, arith, ◌≡◌, suc, ◌*◌, true, Some, length, ap, sym, subst, ◌∙◌}
 use Rattle.std.proofs.lemmas.Result.{IfOk-weaker}
 use Rattle.zarrs_subset.specs.Boxes.{position_count}
 use Rattle.zarrs_data_type.specs.ArrayData.{data_of, fixed, variable, optional}
@@ -20,9 +20,10 @@ rearranged-requires t c =
     let at = fits-optional k c.in-Optional.optional.mask d n (subst (λ x. fits k (data_of x) n ≡ true) c.in-Optional.is c.requires.fits) in
     let inner : inner_of k ≡ Some (kind c.in-Some.inner.now) = search rules in
     let same : at.0 ≡ kind c.in-Some.inner.now = (let e : Some at.0 ≡ Some (kind c.in-Some.inner.now) = sym at.1 ∙ inner in cc) in
-    let shallow : suc (depth (data_of c.data.result.now)) ≡ depth (data_of c.args.bytes.now) = ap (λ x. suc (depth x)) c.data.ensures ∙ sym (ap (λ x. depth (data_of x)) c.in-Optional.is) in
-    (omega (arith, c.decreases, shallow),
-    (subst (λ u. fits u (data_of c.data.result.now) n ≡ true) same (subst (λ x. fits at.0 x n ≡ true) (sym c.data.ensures) at.3), c.requires.ways))
+    let shallow : suc (depth (data_of c.data.result.now)) ≡ depth (data_of c.args.bytes.now) = ap (λ x. suc (depth x)) c.data.ensures ∙ sym (ap (λ x. depth (data_of x)) c.in-Optional.is) in (
+      omega (arith, c.decreases, shallow),
+      (subst (λ u. fits u (data_of c.data.result.now) n ≡ true) same (subst (λ x. fits at.0 x n ≡ true) (sym c.data.ensures) at.3), c.requires.ways),
+    )
 
 pub with_optional_mask-requires : goal.with_optional_mask-requires
 with_optional_mask-requires t c =

@@ -1,8 +1,8 @@
-use Rattle.std.proofs.Common.{rules, arith, ◌≡◌, ◌*◌, ◌<◌, ℕ, length, ap, sym, subst, ◌∙◌, take, drop, ◌++◌}
+use Rattle.std.proofs.Common.{arith, ◌≡◌, length, ap, sym, subst, ◌∙◌}
 use Rattle.zarrs_subset.specs.Boxes.{position_count}
 use Rattle.zarrs_codec_array.specs.Gathered.{IsGathered, AreWithin}
 use Rattle.zarrs_codec_array.specs.Orders.{scaled, permuted, strides}
-use Rattle.zarrs_codec_array.specs.OrderLaws.{length-permuted, length-strides}
+use Rattle.zarrs_codec_array.specs.OrderLaws.{length-strides}
 use Rattle.zarrs_codec_array.proofs.Transposing.{permuted-scaled, within-scaled, lent_back, length-scaled}
 use Rattle.zarrs_codec_array.proofs.transpose.rearranged_bytes.Goals as goal
 

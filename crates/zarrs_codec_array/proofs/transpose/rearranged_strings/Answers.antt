@@ -1,11 +1,10 @@
-use Rattle.std.proofs.Common.{rules, arith, ◌≡◌, ◌*◌, ◌<◌, ℕ, length, ap, sym, subst, ◌∙◌}
+use Rattle.std.proofs.Common.{rules, arith, ◌≡◌, length, ap, sym, subst, ◌∙◌}
 use Rattle.std.specs.Prelude.{map, slice_index_or, []}
 use Rattle.zarrs_codec_array.specs.Gathered.{walked}
-use Rattle.zarrs_subset.specs.Boxes.{position_count}
-use Rattle.zarrs_codec_array.specs.Gathered.{IsGathered, AreWithin}
-use Rattle.zarrs_codec_array.specs.Orders.{scaled, permuted, strides}
-use Rattle.zarrs_codec_array.specs.OrderLaws.{length-permuted, length-strides}
-use Rattle.zarrs_codec_array.proofs.Transposing.{permuted-scaled, within-scaled, length-scaled, scaled-one}
+use Rattle.zarrs_codec_array.specs.Gathered.{AreWithin}
+use Rattle.zarrs_codec_array.specs.Orders.{permuted, strides}
+use Rattle.zarrs_codec_array.specs.OrderLaws.{length-strides}
+use Rattle.zarrs_codec_array.proofs.Transposing.{length-scaled, scaled-one}
 use Rattle.zarrs_codec_array.proofs.transpose.rearranged_strings.Goals as goal
 
 pub permuted-requires : goal.permuted-requires

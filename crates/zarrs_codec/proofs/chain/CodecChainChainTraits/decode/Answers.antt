@@ -1,9 +1,8 @@
-use Rattle.std.proofs.Common.{rules, ◌≡◌, ◌<◌, true, Some, IfErr, ap, sym, subst, ◌∙◌}
-use Rattle.std.specs.Prelude.{IfSome, IfOk, IsSome}
-use Rattle.std.proofs.lemmas.Result.{IfOk-weaker}
+use Rattle.std.proofs.Common.{rules, ◌≡◌, true, Some, sym, subst, ◌∙◌}
+use Rattle.std.specs.Prelude.{IfSome}
 use Rattle.zarrs_data_type.specs.ArrayData.{data_of}
 use Rattle.zarrs_data_type.specs.Cell.{fill_of}
-use Rattle.zarrs_data_type.specs.Cells.{cells, HasCells}
+use Rattle.zarrs_data_type.specs.Cells.{cells}
 use Rattle.zarrs_data_type.specs.Kind.{kind}
 use Rattle.zarrs_subset.specs.Boxes.{position_count}
 use Rattle.zarrs_codec_array.specs.ArrayCodecs.{arrays_meaning, arrays-lawful}
@@ -14,7 +13,7 @@ use Rattle.zarrs_codec.specs.Refusals.{RefusesChunkDecoding}
 use Rattle.zarrs_codec.specs.Through.{through}
 use Rattle.zarrs_codec.proofs.Kept.{err_kept}
 use Rattle.zarrs_codec.proofs.Counts.{count_fits, some_count}
-use Rattle.zarrs_codec.proofs.Passed.{decoded-through, refused-through, decoded-has, decoded-refusal}
+use Rattle.zarrs_codec.proofs.Passed.{decoded-through, decoded-has, decoded-refusal}
 use Rattle.zarrs_codec.proofs.chain.CodecChainChainTraits.decode.Goals as goal
 
 pub unwrap-count-requires : goal.unwrap-count-requires

@@ -1,4 +1,4 @@
-use Rattle.std.proofs.Common.{rules, arith, ◌≡◌, ◌++◌, ◌∷◌, [], cond, take, get_or, sym, ap, ◌∙◌}
+use Rattle.std.proofs.Common.{◌++◌, ◌∷◌, [], cond, take, get_or, sym, ap, ◌∙◌}
 use Rattle.std.proofs.lemmas.Bool.{eq-eqb}
 use Rattle.zarrs_codec_array.specs.Arrays.{squeeze_shape}
 use Rattle.zarrs_codec_array.proofs.Squeezed.{squeeze_more, not_one}

@@ -1,8 +1,7 @@
-use Rattle.std.proofs.Common.{rules, arith, ◌≡◌, ◌<◌, ℕ, length, true, ap, sym, subst, ◌∙◌}
-use Rattle.std.specs.Prelude.{slice_index, IfSome}
-use Rattle.std.proofs.lemmas.Result.{IfOk-weaker}
+use Rattle.std.proofs.Common.{arith, ◌≡◌, ◌<◌, ℕ, length, true, ap, sym, subst, ◌∙◌}
+use Rattle.std.specs.Prelude.{slice_index}
 use Rattle.zarrs_data_type.specs.ArrayData.{data_of}
-use Rattle.zarrs_data_type.specs.Cells.{cells, fits}
+use Rattle.zarrs_data_type.specs.Cells.{fits}
 use Rattle.zarrs_data_type.specs.Kind.{kind}
 use Rattle.zarrs_data_type.proofs.Cells.{HasCells-parts}
 use Rattle.zarrs_data_type.proofs.Sizes.{element_size-positive}

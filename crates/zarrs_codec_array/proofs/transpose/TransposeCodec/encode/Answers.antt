@@ -1,14 +1,12 @@
-use Rattle.std.proofs.Common.{rules, arith, ◌≡◌, ◌<◌, ℕ, length, true, ap, sym, subst, ◌∙◌}
-use Rattle.std.specs.Prelude.{slice_index, IfSome}
-use Rattle.std.proofs.lemmas.Result.{IfOk-weaker}
+use Rattle.std.proofs.Common.{arith, ◌≡◌, ◌<◌, ℕ, length, ap, sym, subst, ◌∙◌}
+use Rattle.std.specs.Prelude.{slice_index}
 use Rattle.zarrs_data_type.specs.ArrayData.{data_of}
-use Rattle.zarrs_data_type.specs.Cells.{cells, fits}
 use Rattle.zarrs_data_type.specs.Kind.{kind}
 use Rattle.zarrs_data_type.proofs.Cells.{HasCells-parts}
 use Rattle.zarrs_data_type.proofs.Sizes.{element_size-positive}
 use Rattle.zarrs_subset.specs.Boxes.{position_count}
 use Rattle.zarrs_codec_array.specs.Gathered.{IsWay, IsTaken}
-use Rattle.zarrs_codec_array.specs.Orders.{permuted, inverse, strides}
+use Rattle.zarrs_codec_array.specs.Orders.{permuted, strides}
 use Rattle.zarrs_codec_array.specs.OrderLaws.{entry_below}
 use Rattle.std.proofs.lemmas.Bool.{false≢true}
 use Rattle.zarrs_codec_array.proofs.Ways.{way-forward, encoded-taken, encoded-empty, no_cell}

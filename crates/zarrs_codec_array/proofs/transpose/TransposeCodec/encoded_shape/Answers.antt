@@ -1,4 +1,4 @@
-use Rattle.std.proofs.Common.{rules, arith, ◌≡◌, ◌<◌, ℕ, length, ap, sym, subst, ◌∙◌}
+use Rattle.std.proofs.Common.{arith, ◌≡◌, ◌<◌, ℕ, length, sym, subst}
 use Rattle.std.specs.Prelude.{slice_index}
 use Rattle.zarrs_codec_array.specs.OrderLaws.{entry_below}
 use Rattle.zarrs_codec_array.proofs.transpose.TransposeCodec.encoded_shape.Goals as goal

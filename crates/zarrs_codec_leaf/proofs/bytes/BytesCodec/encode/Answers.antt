@@ -1,6 +1,6 @@
-use Rattle.std.proofs.Common.{◌≡◌, false, ap, subst}
-use Rattle.std.specs.Prelude.{IsSome, is_some}
-use Rattle.zarrs_data_type.specs.ArrayData.{data_of, variable, optional}
+use Rattle.std.proofs.Common.{subst}
+use Rattle.std.specs.Prelude.{IsSome}
+use Rattle.zarrs_data_type.specs.ArrayData.{data_of}
 use Rattle.zarrs_data_type.specs.Cells.{cells}
 use Rattle.zarrs_data_type.specs.Kind.{kind}
 use Rattle.zarrs_codec_leaf.proofs.Encodings.{variable-unsized, optional-unsized}
