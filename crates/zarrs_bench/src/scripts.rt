@@ -141,5 +141,12 @@ pub fn print_rows<R: Clock + Print + Alloc<A = Global>>(rt: &R) -> Result<()> {
         script: long_script(alloc)?,
         values: BTreeMap::new(alloc),
     };
-    row(rt, alloc, "a script of 100,001 lines", 0, &mut script, &mut plain)
+    row(
+        rt,
+        alloc,
+        "a script of 100,001 lines",
+        0,
+        &mut script,
+        &mut plain,
+    )
 }
