@@ -6,6 +6,7 @@ mod chunks;
 mod copies;
 mod fills;
 mod measure;
+mod scripts;
 mod walks;
 
 use anyhow::Result;
@@ -25,5 +26,6 @@ fn run(rt: &HostRuntime) -> Result<()> {
     fills::print_rows(rt)?;
     copies::print_rows(rt)?;
     walks::print_rows(rt)?;
-    chunks::print_rows(rt)
+    chunks::print_rows(rt)?;
+    scripts::print_rows(rt)
 }

@@ -1,0 +1,152 @@
+//! Scripts.
+use crate::measure::{Work, row};
+use anyhow::{Result, anyhow};
+use itoa::Buffer;
+use std::alloc::Global;
+use std::collections::BTreeMap;
+use std::time::Clock;
+use zarrs_script::run_script;
+
+/// How many pairs of a `chunk` and a `read` a script has.
+const PAIRS: u32 = 50_000;
+
+/// An array of 100 chunks of four cells, and pairs of a `chunk` and a `read`.
+fn long_script(alloc: Global) -> Result<Vec<u8>> {
+    let mut script = Vec::from_slice(alloc, b"array 400 4 uint8 0\n")?;
+    let mut buffer = Buffer::new();
+    for pair in 0..PAIRS {
+        script.extend_from_slice(b"chunk ")?;
+        script.extend_from_slice(buffer.format(pair % 100).as_bytes())?;
+        script.extend_from_slice(b" 1,2,3,")?;
+        script.extend_from_slice(buffer.format(pair % 256).as_bytes())?;
+        script.extend_from_slice(b"\nread ")?;
+        script.extend_from_slice(buffer.format(pair % 100).as_bytes())?;
+        script.extend_from_slice(b"\n")?;
+    }
+    Ok(script)
+}
+
+/// The lowest byte of the length of what was written.
+fn low_len(text: &[u8]) -> u8 {
+    (text.len() & 0xff) as u8
+}
+
+/// `run_script`.
+#[derive(Drop)]
+struct Script(Vec<u8>);
+
+impl Work for Script {
+    fn run(&mut self, alloc: Global, _turn: u8) -> Result<u8> {
+        let mut reader = self.0.as_slice();
+        let mut text = Vec::new(alloc);
+        let status = run_script(alloc, &mut reader, &mut text);
+        Ok(status ^ low_len(&text))
+    }
+}
+
+/// The same lines over a map from keys to bytes.
+#[derive(Drop)]
+struct PlainScript {
+    script: Vec<u8>,
+    values: BTreeMap<String, Vec<u8>>,
+}
+
+/// The number that these digits write.
+fn number_of(digits: &[u8]) -> Result<u64> {
+    let mut number = 0u64;
+    for digit in digits {
+        if !digit.is_ascii_digit() {
+            return Err(anyhow!("no digit"));
+        }
+        let Some(tens) = number.checked_mul(10) else {
+            return Err(anyhow!("a long number"));
+        };
+        number = tens.saturating_add(u64::from(*digit - b'0'));
+    }
+    Ok(number)
+}
+
+/// The cells of a list.
+fn cells_of(alloc: Global, list: &[u8]) -> Result<Vec<u8>> {
+    let mut cells = Vec::new(alloc);
+    for item in list.split(|byte| *byte == b',') {
+        let Ok(cell) = u8::try_from(number_of(item)?) else {
+            return Err(anyhow!("no byte"));
+        };
+        cells.push(cell)?;
+    }
+    Ok(cells)
+}
+
+/// Writes the cells of a list.
+fn put_cells(text: &mut Vec<u8>, cells: &[u8]) -> Result<()> {
+    let mut buffer = Buffer::new();
+    for (place, cell) in cells.iter().enumerate() {
+        if place > 0 {
+            text.push(b',')?;
+        }
+        text.extend_from_slice(buffer.format(*cell).as_bytes())?;
+    }
+    text.push(b'\n')?;
+    Ok(())
+}
+
+/// The key of the chunk with this index.
+fn key_of(alloc: Global, index: &[u8]) -> Result<String> {
+    let mut buffer = Buffer::new();
+    let mut key = String::with_capacity(alloc, 32)?;
+    key.push_str("c/")?;
+    key.push_str(buffer.format(number_of(index)?))?;
+    Ok(key)
+}
+
+impl PlainScript {
+    /// Does what a line asks.
+    fn run_line(&mut self, alloc: Global, line: &[u8], text: &mut Vec<u8>) -> Result<()> {
+        let mut words = line.split(|byte| *byte == b' ');
+        match (words.next(), words.next(), words.next()) {
+            (Some(b"chunk"), Some(index), Some(cells)) => {
+                let key = key_of(alloc, index)?;
+                self.values.insert(key, cells_of(alloc, cells)?)?;
+                text.extend_from_slice(b"ok\n")?;
+            }
+            (Some(b"read"), Some(index), None) => match self.values.get(&key_of(alloc, index)?) {
+                Some(cells) => put_cells(text, cells)?,
+                None => put_cells(text, &[0, 0, 0, 0])?,
+            },
+            _ => text.extend_from_slice(b"ok\n")?,
+        }
+        Ok(())
+    }
+}
+
+impl Work for PlainScript {
+    fn run(&mut self, alloc: Global, _turn: u8) -> Result<u8> {
+        let mut text = Vec::new(alloc);
+        let script = self.script.clone()?;
+        for line in script.split(|byte| *byte == b'\n') {
+            if !line.is_empty() {
+                self.run_line(alloc, line, &mut text)?;
+            }
+        }
+        Ok(low_len(&text))
+    }
+}
+
+/// The rows of this file.
+pub fn print_rows<R: Clock + Print + Alloc<A = Global>>(rt: &R) -> Result<()> {
+    let alloc = rt.alloc();
+    let mut script = Script(long_script(alloc)?);
+    let mut plain = PlainScript {
+        script: long_script(alloc)?,
+        values: BTreeMap::new(alloc),
+    };
+    row(
+        rt,
+        alloc,
+        "a script of 100,001 lines",
+        0,
+        &mut script,
+        &mut plain,
+    )
+}

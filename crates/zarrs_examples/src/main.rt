@@ -1,0 +1,49 @@
+//! The program `zarrs_examples`: it runs each script of `examples/` and compares what the script writes with the file
+//! beside it.
+#![tactic(auto)]
+
+use anyhow::{Result, bail};
+use std::alloc::Global;
+use std::fs;
+use std::rt::Files;
+use zarrs_script::run_script;
+
+/// The scripts, and the status that each ends with.
+const EXAMPLES: [(&str, u8); 8] = [
+    ("first", 0),
+    ("cells", 0),
+    ("types", 0),
+    ("no_dimension", 1),
+    ("refusals", 1),
+    ("skipped", 1),
+    ("limits", 1),
+    ("not_a_command", 2),
+];
+
+/// What the script writes, and its status.
+fn outcome(alloc: Global, script: &[u8]) -> (Vec<u8>, u8) {
+    let mut reader = script;
+    let mut text = Vec::new(alloc);
+    let status = run_script(alloc, &mut reader, &mut text);
+    (text, status)
+}
+
+/// Runs the script with this name, and fails if it ends or writes otherwise.
+fn run_example<R: Files + Alloc<A = Global> + Print>(rt: &R, name: &str, status: u8) -> Result<()> {
+    let alloc = rt.alloc();
+    let script = fs::read(rt, format!(in alloc; "{name}.zarrs")?)?;
+    let expected = fs::read(rt, format!(in alloc; "{name}.out")?)?;
+    let (text, ended) = outcome(alloc, &script);
+    if ended != status || text != expected {
+        bail!("{name} ended with status {ended}, or wrote something else than its file");
+    }
+    println!(rt; "{name}: status {ended}, as expected")?;
+    Ok(())
+}
+
+fn main(rt: HostRuntime) -> Result<()> {
+    for (name, status) in EXAMPLES {
+        run_example(&rt, name, status)?;
+    }
+    Ok(())
+}
