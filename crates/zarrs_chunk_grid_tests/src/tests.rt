@@ -524,7 +524,12 @@ fn must_fill(
     start: &[u64],
     shape: &[u64],
 ) -> Result<(), Fail> {
-    must_be(rt, &grid.chunks_subset(alloc, chunks)?.ok_or("there")?, start, shape);
+    must_be(
+        rt,
+        &grid.chunks_subset(alloc, chunks)?.ok_or("there")?,
+        start,
+        shape,
+    );
     Ok(())
 }
 
@@ -532,8 +537,22 @@ fn must_fill(
 fn boxes_of_ranges_of_chunks(rt: HostRuntime) -> Result<(), Fail> {
     let alloc = rt.alloc();
     let grid = two_and_three_by_four(alloc)?;
-    must_fill(&rt, alloc, &grid, &region(alloc, &[0, 1], &[2, 3])?, &[0, 4], &[5, 12])?;
-    must_fill(&rt, alloc, &grid, &region(alloc, &[1, 5], &[1, 1])?, &[2, 20], &[3, 4])?;
+    must_fill(
+        &rt,
+        alloc,
+        &grid,
+        &region(alloc, &[0, 1], &[2, 3])?,
+        &[0, 4],
+        &[5, 12],
+    )?;
+    must_fill(
+        &rt,
+        alloc,
+        &grid,
+        &region(alloc, &[1, 5], &[1, 1])?,
+        &[2, 20],
+        &[3, 4],
+    )?;
     must_fill(&rt, alloc, &grid, &region(alloc, &[7], &[0])?, &[0], &[0])?;
     assert!(rt; grid.chunks_subset(alloc, &[1..3, 0..1])?.is_none());
     assert!(rt; grid.chunks_subset(alloc, &[2..3, 0..1])?.is_none());

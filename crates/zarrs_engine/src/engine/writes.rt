@@ -105,11 +105,7 @@ impl<
     ///
     /// # Errors
     /// If the store refuses, and `OutOfMemory`. The chunks before that one are gone then, and no later one.
-    pub fn erase_chunks(
-        &mut self,
-        alloc: Global,
-        chunks: &ArraySubset,
-    ) -> Result<(), StorageError>
+    pub fn erase_chunks(&mut self, alloc: Global, chunks: &ArraySubset) -> Result<(), StorageError>
         requires { length (box_of chunks.now).start ≡ (layout_of self.old).grid.dimensions }
         ensures done { OnOk result
             (ErasesChunks (layout_of self.old) (box_of chunks.now) (store_of S.state self.old)
