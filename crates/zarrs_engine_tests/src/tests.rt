@@ -57,8 +57,10 @@ fn foreign_engine(alloc: Global) -> Result<MemoryEngine, Fail> {
 }
 
 fn holds(data: &ArrayBytes<'_>, bytes: &[u8]) -> bool {
-    let ArrayBytes::Fixed(held) = data;
-    held.as_slice() == bytes
+    match data {
+        ArrayBytes::Fixed(held) => held.as_slice() == bytes,
+        _ => false,
+    }
 }
 
 /// The chunk reads as these bytes.
