@@ -40,8 +40,7 @@ impl<'a> PositionWalk<'a> {
         ensures last { OnFalse result (walk_number self.old + 1 ≡ length (positions (walk_box self.old))) }
         ensures first { OnFalse result (walk_number self.new ≡ 0) }
     {
-        let start = self.subset.start();
-        let shape = self.subset.shape();
+        let (start, shape) = (self.subset.start(), self.subset.shape());
         advance(self.current.as_mut_slice(), start, shape)
     }
 }
@@ -107,8 +106,7 @@ impl<'a> Indices<'a> {
         ensures refused { OnErr result (0 < length (positions_left self.old)) }
     {
         if self.is_started {
-            let start = self.subset.start();
-            let shape = self.subset.shape();
+            let (start, shape) = (self.subset.start(), self.subset.shape());
             return Ok(advance(self.current.as_mut_slice(), start, shape));
         }
         if self.subset.is_empty() {
@@ -134,21 +132,30 @@ impl<'a> Iterator for Indices<'a> {
         if self.is_done {
             return None;
         }
-        match self.step() {
-            Ok(true) => {
-                let position = SmallVec::from_slice(self.alloc, self.current.as_slice());
-                self.is_done = position.is_err();
-                Some(position)
-            }
+        let position = match self.step() {
+            Ok(true) => copy_of(self.alloc, self.current.as_slice()),
             Ok(false) => {
                 self.is_done = true;
-                None
+                return None;
             }
-            Err(error) => {
-                self.is_done = true;
-                Some(Err(error))
-            }
-        }
+            Err(error) => Err(error),
+        };
+        self.is_done = position.is_err();
+        Some(position)
+    }
+}
+
+// A copy of the position. A copy of an array of known length is several times as fast as one of a slice.
+#[inline]
+fn copy_of(alloc: Global, position: &[u64]) -> Result<ArrayIndicesTinyVec, AllocError>
+    ensures { IfOk result (λ copy. copy.items ≡ position.now) }
+{
+    match *position {
+        [i] => SmallVec::from_array(alloc, [i]),
+        [i, j] => SmallVec::from_array(alloc, [i, j]),
+        [i, j, k] => SmallVec::from_array(alloc, [i, j, k]),
+        [i, j, k, l] => SmallVec::from_array(alloc, [i, j, k, l]),
+        _ => SmallVec::from_slice(alloc, position),
     }
 }
 

@@ -16,10 +16,7 @@ pub fn element_count(shape: &[u64]) -> Option<u64>
     }
     let mut count: u64 = 1;
     for extent in shape {
-        let Some(product) = count.checked_mul(*extent) else {
-            return None;
-        };
-        count = product;
+        count = count.checked_mul(*extent)?;
     }
     Some(count)
 }
@@ -34,20 +31,12 @@ pub fn ravel_indices(indices: &[u64], shape: &[u64]) -> Option<u64>
     if indices.len() != shape.len() {
         return None;
     }
+    let mut number: u64 = 0;
     for k in 0..shape.len() {
         if indices[k] >= shape[k] {
             return None;
         }
-    }
-    let mut number: u64 = 0;
-    for k in 0..shape.len() {
-        let Some(row) = number.checked_mul(shape[k]) else {
-            return None;
-        };
-        let Some(sum) = row.checked_add(indices[k]) else {
-            return None;
-        };
-        number = sum;
+        number = number.checked_mul(shape[k])?.checked_add(indices[k])?;
     }
     Some(number)
 }
@@ -74,9 +63,5 @@ pub fn unravel_index(
         indices[axis] = rest % shape[axis];
         rest /= shape[axis];
     }
-    if rest == 0 {
-        Ok(Some(indices))
-    } else {
-        Ok(None)
-    }
+    Ok((rest == 0).then_some(indices))
 }

@@ -3,8 +3,6 @@ use Rattle.zarrs_subset.specs.Boxes.{position_count, place}
 use Rattle.zarrs_subset.proofs.ravel.ravel_indices.Given as goal
 
 abbrev pub invariant-loop-k : goal.invariant-loop-k
-invariant-loop-k l = (j : ℕ) → j < l.k → slice_index l.indices j < slice_index l.shape j
-
-abbrev pub invariant-loop-k-2 : goal.invariant-loop-k-2
-invariant-loop-k-2 l =
-    l.number * position_count (drop l.k l.shape) + place (drop l.k l.shape) (drop l.k l.indices) ≡ place l.shape l.indices
+invariant-loop-k l =
+    ((j : ℕ) → j < l.k → slice_index l.indices j < slice_index l.shape j)
+    × (l.number * position_count (drop l.k l.shape) + place (drop l.k l.shape) (drop l.k l.indices) ≡ place l.shape l.indices)

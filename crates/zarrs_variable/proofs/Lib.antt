@@ -1,0 +1,3 @@
+pub mod ByteStrings
+pub mod Inside
+mod Numbers

@@ -1,0 +1,19 @@
+-- Parts of byte strings: those of a box, of byte strings that are an array over another box.
+use Rattle.std.specs.Prelude.{◌≡◌, ℕ, ◌+◌, ◌<◌, ◌≤◌, List, [], length, slice_index, slice_index_or, if◌then◌else◌}
+use Rattle.zarrs_subset.specs.Regions.{Box, in_box, place_in}
+
+-- the box lies in another: it starts and ends there in each dimension
+pub record LiesInBox (box other : Box) : Type 0 where
+  pub same_length : length box.start ≡ length other.start
+  pub starts : (k : ℕ) → k < length other.start → slice_index other.start k ≤ slice_index box.start k
+  pub ends : (k : ℕ) → k < length other.start
+      → slice_index box.start k + slice_index box.shape k ≤ slice_index other.start k + slice_index other.shape k
+
+-- the byte string at a position of the box, of those of an array over it
+abbrev pub string_at : Box → List (List ℕ) → List ℕ → List ℕ
+string_at box strings position = slice_index_or strings (place_in box position) []
+
+-- the byte string that `part` has at the position, where `other` has the position, and else the old one
+abbrev pub string_taken : Box → Box → List (List ℕ) → List (List ℕ) → List ℕ → List ℕ
+string_taken box other part old position =
+    if in_box other position then string_at other part position else string_at box old position
