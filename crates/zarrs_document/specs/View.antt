@@ -3,6 +3,7 @@ use Rattle.std.specs.Prelude.{ℕ, List, map, Option, option_map, String, string
 use Rattle.std.specs.declared.alloc.Global.{Global}
 use Rattle.serde_json.specs.View.{view, members_view}
 use Rattle.zarrs_metadata.specs.Extension.{extension_view}
+use Rattle.zarrs_metadata.specs.FillValue.{fill_data}
 use Rattle.zarrs_document.specs.Fields.{FieldData}
 use Rattle.zarrs_document.specs.Document.{DocumentData, PartsData, DraftData}
 use Rattle.zarrs_document.specs.declared.fields.AdditionalFieldV3.{AdditionalFieldV3}
@@ -26,7 +27,7 @@ document_view m = record {
   data_type = extension_view m.data_type;
   chunk_grid = extension_view m.chunk_grid;
   chunk_key_encoding = extension_view m.chunk_key_encoding;
-  fill_value = view m.fill_value;
+  fill_value = fill_data m.fill_value;
   codecs = map extension_view m.codecs.items;
   attributes = members_view m.attributes.entries;
   storage_transformers = map extension_view m.storage_transformers.items;
@@ -57,7 +58,7 @@ draft_view w = record {
   data_type = option_map extension_view w.data_type;
   chunk_grid = option_map extension_view w.chunk_grid;
   chunk_key_encoding = option_map extension_view w.chunk_key_encoding;
-  fill_value = option_map view w.fill_value;
+  fill_value = option_map fill_data w.fill_value;
   codecs = option_map (λ v. map extension_view v.items) w.codecs;
   attributes = option_map (λ m. members_view m.entries) w.attributes;
   storage_transformers = option_map (λ v. map extension_view v.items) w.storage_transformers;

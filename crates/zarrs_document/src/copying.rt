@@ -1,7 +1,6 @@
 //! Copies of a document and of its parts.
 ghost use Rattle.std.specs.Prelude.{◌≡◌, map, option_map, IfOk};
-ghost use Rattle.zarrs_metadata.specs.Extension.{extension_view, normal};
-ghost use Rattle.zarrs_document.specs.Document.{without_empty_configurations};
+ghost use Rattle.zarrs_metadata.specs.Extension.{extension_view};
 ghost use Rattle.zarrs_document.specs.View.{name_view, document_view};
 
 use crate::document::{ArrayMetadataV3, DimensionName};
@@ -10,19 +9,18 @@ use crate::members::copied;
 use std::alloc::{AllocError, Global};
 use zarrs_metadata::MetadataV3;
 
-/// Returns a copy of the document, in which an empty configuration is none.
+/// Returns a copy of the document.
 pub(crate) fn copied_document(
     alloc: Global,
     document: &ArrayMetadataV3,
 ) -> Result<ArrayMetadataV3, AllocError>
-    ensures { IfOk result (λ copy. document_view copy
-        ≡ without_empty_configurations (document_view document.now)) }
+    ensures { IfOk result (λ copy. document_view copy ≡ document_view document.now) }
 {
     let shape = Vec::from_slice(alloc, document.shape.as_slice())?;
-    let data_type = copied_extension(alloc, &document.data_type)?;
-    let chunk_grid = copied_extension(alloc, &document.chunk_grid)?;
-    let chunk_key_encoding = copied_extension(alloc, &document.chunk_key_encoding)?;
-    let fill_value = document.fill_value.clone()?;
+    let data_type = document.data_type.try_clone()?;
+    let chunk_grid = document.chunk_grid.try_clone()?;
+    let chunk_key_encoding = document.chunk_key_encoding.try_clone()?;
+    let fill_value = document.fill_value.try_clone(alloc)?;
     let codecs = copied_extensions(alloc, &document.codecs)?;
     let attributes = copied(&document.attributes)?;
     let storage_transformers = copied_extensions(alloc, &document.storage_transformers)?;
@@ -42,27 +40,16 @@ pub(crate) fn copied_document(
     })
 }
 
-/// Returns a copy of the extension point, in which an empty configuration is none.
-fn copied_extension(alloc: Global, extension: &MetadataV3) -> Result<MetadataV3, AllocError>
-    ensures { IfOk result (λ copy. extension_view copy ≡ normal (extension_view extension.now)) }
-{
-    let value = extension.to_value(alloc)?;
-    match MetadataV3::from_value(value) {
-        Ok(copy) => Ok(copy),
-        Err(_) => unreachable!(),
-    }
-}
-
 fn copied_extensions(
     alloc: Global,
     extensions: &Vec<MetadataV3>,
 ) -> Result<Vec<MetadataV3>, AllocError>
     ensures { IfOk result (λ copies. map extension_view copies.items
-        ≡ map normal (map extension_view extensions.now.items)) }
+        ≡ map extension_view extensions.now.items) }
 {
     let mut copies = Vec::with_capacity(alloc, extensions.len())?;
     for extension in extensions {
-        copies.push(copied_extension(alloc, extension)?)?;
+        copies.push(extension.try_clone()?)?;
     }
     Ok(copies)
 }

@@ -2,7 +2,8 @@
 ghost use Rattle.std.specs.Prelude.{◌≡◌, Some, None, map, option_map, IfOk, IfErr};
 ghost use Rattle.serde_json.specs.View.{view, members_view};
 ghost use Rattle.zarrs_metadata.specs.Extension.{extension_view};
-ghost use Rattle.zarrs_document.specs.Document.{document_of, without_empty_configurations, plain_document_of, document_said, plain_document, data_of_document, normal_document, IsDocumentText};
+ghost use Rattle.zarrs_metadata.specs.FillValue.{fill_data};
+ghost use Rattle.zarrs_document.specs.Document.{document_of, plain_document_of, document_said, plain_document, data_of_document, normal_document, IsDocumentText};
 ghost use Rattle.zarrs_document.specs.Refusals.{RefusesReading};
 ghost use Rattle.zarrs_document.specs.View.{name_view, fields_view, document_view};
 
@@ -13,17 +14,14 @@ use crate::reading::read_document;
 use crate::writing::document_value;
 use serde_json::{Category, Map, Value};
 use std::alloc::{AllocError, Global};
-use zarrs_metadata::{ChunkKeySeparator, MetadataError, MetadataV3};
-
-/// A fill value in metadata: null, a bool, a number, a text, a list or an object.
-pub type FillValueMetadata = Value;
+use zarrs_metadata::{ChunkKeySeparator, FillValueMetadata, MetadataError, MetadataV3};
 
 /// The name of a dimension, or `None` for a dimension without a name.
 pub type DimensionName = Option<String>;
 
 /// The metadata of a V3 array, as `zarr.json` holds it (Zarr V3 core specification, array
 /// metadata).
-#[derive(Drop)]
+#[derive(Debug, Drop)]
 pub struct ArrayMetadataV3 {
     /// The extent of each dimension.
     pub shape: Vec<u64>,
@@ -63,7 +61,7 @@ impl ArrayMetadataV3 {
     ) -> Result<ArrayMetadataV3, AllocError>
         ensures { IfOk result (λ m. document_view m
             ≡ plain_document shape.items (extension_view chunk_grid) (extension_view data_type)
-            (view fill_value) (map extension_view codecs.items)) }
+            (fill_data fill_value) (map extension_view codecs.items)) }
     {
         let separator = ChunkKeySeparator::Slash.to_value(alloc)?;
         let chunk_key_encoding = MetadataV3::new(String::from_str(alloc, "default")?).with_member(
@@ -85,13 +83,12 @@ impl ArrayMetadataV3 {
         })
     }
 
-    /// Returns a copy, in which an empty configuration is none.
+    /// Returns a copy.
     ///
     /// # Errors
     /// If memory runs out.
     pub fn try_clone(&self, alloc: Global) -> Result<ArrayMetadataV3, AllocError>
-        ensures { IfOk result (λ copy. document_view copy
-            ≡ without_empty_configurations (document_view self.now)) }
+        ensures { IfOk result (λ copy. document_view copy ≡ document_view self.now) }
     {
         copied_document(alloc, self)
     }

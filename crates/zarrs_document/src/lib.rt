@@ -10,6 +10,7 @@ mod numbers;
 mod reading;
 mod writing;
 
-pub use document::{ArrayMetadataV3, DimensionName, FillValueMetadata};
+pub use document::{ArrayMetadataV3, DimensionName};
 pub use fields::{AdditionalFieldV3, AdditionalFieldsV3};
 pub use numbers::holds_float;
+pub use zarrs_metadata::FillValueMetadata;

@@ -4,23 +4,13 @@ ghost use Rattle.serde_json.specs.Find.{get_member, as_array, as_object};
 ghost use Rattle.serde_json.specs.View.{view, items_view, members_view};
 ghost use Rattle.zarrs_metadata.specs.Members.{besides, nonempty};
 ghost use Rattle.zarrs_metadata.specs.Lists.{numbers_of};
+ghost use Rattle.zarrs_metadata.specs.FillValue.{fill_data};
 ghost use Rattle.zarrs_document.specs.Members.{reads_as_text, reads_as_number, members_in, object_data, put_some};
 
 use serde_json::{Map, Value};
 use std::alloc::{AllocError, Global};
-use zarrs_metadata::numbers;
-
-/// Removes the member of this name, and returns it.
-pub fn take_member(members: &mut Map<String, Value>, name: &str) -> Option<Value>
-    ensures found { option_map view result
-        ≡ get_member name.now (members_view members.old.entries) }
-    ensures left { members_view members.new.entries
-        ≡ besides (name.now ∷ []) (members_view members.old.entries) }
-{
-    // `len` tells the proof that the names ascend.
-    let _count = members.len();
-    members.remove(name)
-}
+pub use zarrs_metadata::members::{copied, object_of, take_member};
+use zarrs_metadata::{FillValueMetadata, numbers};
 
 /// Returns the member of this name.
 pub fn member_of<'a>(members: &'a Map<String, Value>, name: &str) -> Option<&'a Value>
@@ -46,23 +36,6 @@ pub fn put_member(
     }
 }
 
-/// Returns a copy of the members.
-pub fn copied(members: &Map<String, Value>) -> Result<Map<String, Value>, AllocError>
-    ensures { IfOk result (λ m. members_view m.entries ≡ members_view members.now.entries) }
-{
-    members.clone()
-}
-
-/// Returns the members of an object, or `None` for any other value.
-pub fn object_of(value: Value) -> Option<Map<String, Value>>
-    ensures { option_map (λ m. members_view m.entries) result ≡ as_object (view value) }
-{
-    match value {
-        Value::Object(members) => Some(members),
-        _ => None,
-    }
-}
-
 fn list_of(value: Value) -> Option<Vec<Value>>
     ensures { option_map (λ v. items_view v.items) result ≡ as_array (view value) }
 {
@@ -79,6 +52,16 @@ pub fn items_in(member: Option<Value>) -> Option<Vec<Value>>
 {
     match member {
         Some(value) => list_of(value),
+        None => None,
+    }
+}
+
+/// Returns the fill value that the member says.
+pub fn fill_value_in(member: Option<Value>) -> Option<FillValueMetadata>
+    ensures { option_map fill_data result ≡ option_map view member }
+{
+    match member {
+        Some(value) => Some(FillValueMetadata::from_value(value)),
         None => None,
     }
 }

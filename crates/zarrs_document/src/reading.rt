@@ -3,8 +3,7 @@ ghost use Rattle.std.specs.Prelude.{◌≡◌, Some, None, map, codes, option_ma
 ghost use Rattle.serde_json.specs.View.{view, items_view, members_view};
 ghost use Rattle.zarrs_metadata.specs.Members.{besides};
 ghost use Rattle.zarrs_metadata.specs.Lists.{all_of};
-ghost use Rattle.zarrs_metadata.specs.Extension.{extension_of};
-ghost use Rattle.zarrs_metadata.specs.Extension.{extension_view};
+ghost use Rattle.zarrs_metadata.specs.Extension.{extension_of, extension_view};
 ghost use Rattle.zarrs_document.specs.Members.{list_in};
 ghost use Rattle.zarrs_document.specs.Document.{dimension_name_of, transformers_in, names_in, parts_of, document_names, is_array, draft_of, assembled, document_from, document_of};
 ghost use Rattle.zarrs_document.specs.View.{name_view, document_view, parts_view, draft_view};
@@ -12,11 +11,12 @@ ghost use Rattle.zarrs_document.specs.View.{name_view, document_view, parts_view
 use crate::document::{ArrayMetadataV3, DimensionName};
 use crate::fields::{AdditionalFieldsV3, read_fields};
 use crate::members::{
-    items_in, members_in, numbers_in, object_of, reads_as_number, reads_as_text, take_member,
+    fill_value_in, items_in, members_in, numbers_in, object_of, reads_as_number, reads_as_text,
+    take_member,
 };
 use serde_json::{Map, Value};
 use std::alloc::{AllocError, Global};
-use zarrs_metadata::MetadataV3;
+use zarrs_metadata::{FillValueMetadata, MetadataV3};
 
 /// The members of a document, and the others.
 #[derive(Drop)]
@@ -43,7 +43,7 @@ pub(crate) struct Draft {
     data_type: Option<MetadataV3>,
     chunk_grid: Option<MetadataV3>,
     chunk_key_encoding: Option<MetadataV3>,
-    fill_value: Option<Value>,
+    fill_value: Option<FillValueMetadata>,
     codecs: Option<Vec<MetadataV3>>,
     attributes: Option<Map<String, Value>>,
     storage_transformers: Option<Vec<MetadataV3>>,
@@ -147,7 +147,7 @@ impl Parts {
             data_type: extension_in(data_type),
             chunk_grid: extension_in(chunk_grid),
             chunk_key_encoding: extension_in(chunk_key_encoding),
-            fill_value,
+            fill_value: fill_value_in(fill_value),
             codecs,
             attributes: members_in(alloc, attributes),
             storage_transformers,

@@ -26,7 +26,7 @@ pub(crate) fn document_value(alloc: Global, document: &ArrayMetadataV3) -> Resul
     let data_type = document.data_type.to_value(alloc)?;
     let chunk_grid = document.chunk_grid.to_value(alloc)?;
     let key_encoding = document.chunk_key_encoding.to_value(alloc)?;
-    let fill_value = document.fill_value.clone()?;
+    let fill_value = document.fill_value.to_value(alloc)?;
     let codecs = extensions_value(alloc, &document.codecs)?;
     let attributes = object_value(&document.attributes)?;
     let transformers = transformers_value(alloc, &document.storage_transformers)?;

@@ -7,7 +7,7 @@ use std::test::Fail;
 use zarrs_document::{
     AdditionalFieldV3, AdditionalFieldsV3, ArrayMetadataV3, holds_float, members,
 };
-use zarrs_metadata::{MetadataError, MetadataV3};
+use zarrs_metadata::{FillValueMetadata, MetadataError, MetadataV3};
 
 /// The smallest document.
 const SMALL: &str = concat!(
@@ -132,7 +132,7 @@ fn must_have_members(rt: &impl Abort, document: &ArrayMetadataV3) {
     assert_eq!(rt; document.data_type.name(), "bool");
     assert_eq!(rt; document.chunk_grid.name(), "regular");
     assert_eq!(rt; document.chunk_key_encoding.name(), "default");
-    assert!(rt; matches!(document.fill_value, Value::Bool(false)));
+    assert!(rt; matches!(document.fill_value, FillValueMetadata::Bool(false)));
     assert_eq!(rt; document.codecs.len(), 1);
 }
 
@@ -347,7 +347,14 @@ fn made(alloc: Global) -> Result<ArrayMetadataV3, Fail> {
     let grid = named(alloc, "regular")?.with_member(alloc, "chunk_shape", chunks)?;
     let shape = [8].to_vec(alloc)?;
     let kind = named(alloc, "bool")?;
-    Ok(ArrayMetadataV3::new(alloc, shape, grid, kind, Value::Bool(false), codecs)?)
+    Ok(ArrayMetadataV3::new(
+        alloc,
+        shape,
+        grid,
+        kind,
+        FillValueMetadata::Bool(false),
+        codecs,
+    )?)
 }
 
 #[test]

@@ -1,9 +1,10 @@
 -- What the types of this crate stand for.
-use Rattle.std.specs.Prelude.{map, codes, if◌then◌else◌, Option, option_map, string_bytes}
+use Rattle.std.specs.Prelude.{map, codes, if◌then◌else◌, Option, option_map}
 use Rattle.std.specs.Int.NonZero.{non_zero_u64_get}
 use Rattle.serde_json.specs.Data.{Data}
 use Rattle.serde_json.specs.Find.{get}
 use Rattle.serde_json.specs.View.{view, members_view}
+use Rattle.zarrs_metadata.specs.FillValue.{fill_data}
 use Rattle.zarrs_document.specs.Members.{reads_as_number}
 use Rattle.zarrs_document.specs.Document.{DocumentData, plain_document_of, data_of_document}
 use Rattle.zarrs_document.specs.View.{document_view}
@@ -18,9 +19,9 @@ abbrev pub document_v2_view : ArrayMetadataV2 → DocumentV2Data
 document_v2_view m = record {
   shape = m.shape.items;
   chunks = map non_zero_u64_get m.chunks.items;
-  dtype = string_bytes m.dtype;
+  dtype = m.dtype;
   compressor = view m.compressor;
-  fill_value = view m.fill_value;
+  fill_value = fill_data m.fill_value;
   order = m.order;
   filters = view m.filters;
   dimension_separator = m.dimension_separator;
@@ -46,9 +47,9 @@ abbrev pub draft_v2_view : Draft → DraftV2Data
 draft_v2_view w = record {
   shape = option_map (λ v. v.items) w.shape;
   chunks = option_map (λ v. map non_zero_u64_get v.items) w.chunks;
-  dtype = option_map string_bytes w.dtype;
+  dtype = w.dtype;
   compressor = option_map view w.compressor;
-  fill_value = option_map view w.fill_value;
+  fill_value = option_map fill_data w.fill_value;
   order = w.order;
   filters = option_map view w.filters;
   dimension_separator = w.dimension_separator;

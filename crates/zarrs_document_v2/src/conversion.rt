@@ -6,6 +6,7 @@ ghost use Rattle.serde_json.specs.View.{view, items_view, members_view};
 ghost use Rattle.zarrs_metadata.specs.Members.{is_named, has_only};
 ghost use Rattle.zarrs_document.specs.Members.{reads_as_text};
 ghost use Rattle.zarrs_metadata.specs.Extension.{extension_view};
+ghost use Rattle.zarrs_metadata.specs.FillValue.{fill_data};
 ghost use Rattle.zarrs_document.specs.View.{document_view};
 ghost use Rattle.zarrs_document_v2.specs.Conversion.{is_vlen_utf8, has_no_filter, has_text_filter, has_filters_of, is_uncompressed, extension_with_member, endian_name, bytes_codec, cells_codec, count_down, order_codecs, converted, to_v3};
 ghost use Rattle.zarrs_document_v2.specs.Refusals.{RefusesConversion};
@@ -20,7 +21,7 @@ use serde_json::{Map, Value};
 use std::alloc::{AllocError, Global};
 use zarrs_document::ArrayMetadataV3;
 use zarrs_document::members::{copied, member_of};
-use zarrs_metadata::{MetadataV3, numbers_value};
+use zarrs_metadata::{FillValueMetadata, MetadataV3, numbers_value};
 
 /// Returns the V3 document of a V2 document: the same array under the same chunk keys and bytes.
 ///
@@ -38,7 +39,7 @@ pub fn array_metadata_v2_to_v3(
     let cells = match TypeV2::from_text(metadata.dtype.as_str()) {
         Some(cells) => cells,
         None => {
-            let dtype = metadata.dtype.clone()?;
+            let dtype = String::from_str(alloc, metadata.dtype.as_str())?;
             return Err(ArrayMetadataV2ToV3Error::UnsupportedDataType(dtype));
         }
     };
@@ -46,8 +47,8 @@ pub fn array_metadata_v2_to_v3(
         Some(fill_value) => fill_value,
         None => {
             return Err(ArrayMetadataV2ToV3Error::InvalidFillValueMetadata {
-                data_type_name: metadata.dtype.clone()?,
-                fill_value_metadata: metadata.fill_value.clone()?,
+                data_type_name: String::from_str(alloc, metadata.dtype.as_str())?,
+                fill_value_metadata: metadata.fill_value.try_clone(alloc)?,
             });
         }
     };
@@ -63,10 +64,10 @@ fn converted(
     alloc: Global,
     metadata: &ArrayMetadataV2,
     cells: TypeV2,
-    fill_value: Value,
+    fill_value: FillValueMetadata,
 ) -> Result<ArrayMetadataV3, AllocError>
     ensures { IfOk result (λ m. document_view m
-        ≡ converted (document_v2_view metadata.now) cells (view fill_value)) }
+        ≡ converted (document_v2_view metadata.now) cells (fill_data fill_value)) }
 {
     let shape = metadata.shape.as_slice().to_vec(alloc)?;
     let chunks = sizes_value(alloc, &metadata.chunks)?;

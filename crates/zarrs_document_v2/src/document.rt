@@ -1,7 +1,8 @@
 //! The V2 document of an array.
-ghost use Rattle.std.specs.Prelude.{◌≡◌, Some, map, string_bytes, IfOk, IfErr};
+ghost use Rattle.std.specs.Prelude.{◌≡◌, Some, map, IfOk, IfErr};
 ghost use Rattle.std.specs.Int.NonZero.{non_zero_u64_get};
 ghost use Rattle.serde_json.specs.View.{view, members_view};
+ghost use Rattle.zarrs_metadata.specs.FillValue.{fill_data};
 ghost use Rattle.zarrs_document.specs.Refusals.{RefusesReading};
 ghost use Rattle.zarrs_document_v2.specs.Document.{document_v2_of, plain_document_v2_of, document_v2_said, plain_document_v2, without_attributes, data_of_v2, IsDocumentV2Text, IsAttributesText};
 ghost use Rattle.zarrs_document_v2.specs.View.{document_v2_view};
@@ -13,15 +14,12 @@ use crate::writing::{array_value, document_value};
 use serde_json::{Map, Value};
 use std::alloc::{AllocError, Global};
 use std::num::NonZeroU64;
+use zarrs_document::holds_float;
 use zarrs_document::members::copied;
-use zarrs_document::{FillValueMetadata, holds_float};
-use zarrs_metadata::{ChunkKeySeparator, MetadataError};
-
-/// The name of a V2 data type, such as `<i4`.
-pub type DataTypeMetadataV2 = String;
+use zarrs_metadata::{ChunkKeySeparator, DataTypeMetadataV2, FillValueMetadata, MetadataError};
 
 /// The metadata of a V2 array, as `.zarray` and `.zattrs` hold it (Zarr V2 storage specification).
-#[derive(Drop)]
+#[derive(Debug, Drop)]
 pub struct ArrayMetadataV2 {
     /// The extent of each dimension.
     pub shape: Vec<u64>,
@@ -55,8 +53,8 @@ impl ArrayMetadataV2 {
         filters: Value,
     ) -> ArrayMetadataV2
         ensures { document_v2_view result ≡ plain_document_v2 shape.items
-            (map non_zero_u64_get chunks.items) (string_bytes dtype)
-            (view fill_value) (view compressor) (view filters) }
+            (map non_zero_u64_get chunks.items) dtype (fill_data fill_value)
+            (view compressor) (view filters) }
     {
         let alloc = *shape.allocator();
         ArrayMetadataV2 {
@@ -81,9 +79,9 @@ impl ArrayMetadataV2 {
     {
         let shape = Vec::from_slice(alloc, self.shape.as_slice())?;
         let chunks = Vec::from_slice(alloc, self.chunks.as_slice())?;
-        let dtype = self.dtype.clone()?;
+        let dtype = self.dtype.try_clone(alloc)?;
         let compressor = self.compressor.clone()?;
-        let fill_value = self.fill_value.clone()?;
+        let fill_value = self.fill_value.try_clone(alloc)?;
         let filters = self.filters.clone()?;
         let attributes = copied(&self.attributes)?;
         Ok(ArrayMetadataV2 {

@@ -2,9 +2,9 @@
 ghost use Rattle.std.specs.Prelude.{◌≡◌};
 ghost use Rattle.zarrs_document_v2.specs.declared.error.ArrayMetadataV2ToV3Error.TheVariants as conversion;
 
-use serde_json::Value;
 use std::alloc::{AllocError, AllocFailed};
 use thiserror::Error;
+use zarrs_metadata::FillValueMetadata;
 
 /// Why a V2 document has no V3 document.
 #[derive(Debug, Drop, Error)]
@@ -18,7 +18,7 @@ pub enum ArrayMetadataV2ToV3Error {
         /// The data type, as the V2 document names it.
         data_type_name: String,
         /// What was to be its fill value.
-        fill_value_metadata: Value,
+        fill_value_metadata: FillValueMetadata,
     },
     /// The compressor or the filters have no V3 codec.
     #[error("unsupported Zarr V2 array: {0}")]

@@ -13,8 +13,9 @@ mod versions;
 mod writing;
 
 pub use conversion::array_metadata_v2_to_v3;
-pub use document::{ArrayMetadataV2, DataTypeMetadataV2};
+pub use document::ArrayMetadataV2;
 pub use error::ArrayMetadataV2ToV3Error;
 pub use order::ArrayMetadataV2Order;
 pub use text::attributes_from_slice;
 pub use versions::ArrayMetadata;
+pub use zarrs_metadata::DataTypeMetadataV2;

@@ -14,9 +14,9 @@ use serde_json::{Map, Value};
 use std::alloc::{AllocError, Global};
 use std::num::NonZeroU64;
 use zarrs_document::members::{
-    items_in, members_in, numbers_in, object_of, reads_as_number, take_member,
+    fill_value_in, items_in, members_in, numbers_in, object_of, reads_as_number, take_member,
 };
-use zarrs_metadata::ChunkKeySeparator;
+use zarrs_metadata::{ChunkKeySeparator, DataTypeMetadataV2, FillValueMetadata};
 
 /// The members of a document.
 #[derive(Drop)]
@@ -39,9 +39,9 @@ pub(crate) struct Parts {
 pub(crate) struct Draft {
     shape: Option<Vec<u64>>,
     chunks: Option<Vec<NonZeroU64>>,
-    dtype: Option<String>,
+    dtype: Option<DataTypeMetadataV2>,
     compressor: Option<Value>,
-    fill_value: Option<Value>,
+    fill_value: Option<FillValueMetadata>,
     order: Option<ArrayMetadataV2Order>,
     filters: Option<Value>,
     dimension_separator: Option<ChunkKeySeparator>,
@@ -121,9 +121,9 @@ impl Parts {
         Ok(Draft {
             shape,
             chunks,
-            dtype: text_in(dtype),
+            dtype: data_type_in(dtype),
             compressor,
-            fill_value,
+            fill_value: fill_value_in(fill_value),
             order: order_in(order),
             filters,
             dimension_separator: dimension_separator_in(dimension_separator),
@@ -192,12 +192,12 @@ fn sizes_in(alloc: Global, member: Option<Value>) -> Result<Option<Vec<NonZeroU6
     }
 }
 
-fn text_in(member: Option<Value>) -> Option<String>
-    ensures { option_map string_bytes result ≡ option_and_then as_str (option_map view member) }
+fn data_type_in(member: Option<Value>) -> Option<DataTypeMetadataV2>
+    ensures { result ≡ option_and_then as_str (option_map view member) }
 {
     match member {
-        Some(Value::String(text)) => Some(text),
-        _ => None,
+        Some(value) => DataTypeMetadataV2::from_value(value),
+        None => None,
     }
 }
 

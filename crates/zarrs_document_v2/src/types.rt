@@ -1,10 +1,14 @@
 //! The data types of V2 that have a V3 name, and their fill values.
 ghost use Rattle.std.specs.Prelude.{◌≡◌, ℕ, ℤ, pos, negsuc, option_map, Some, IfOk};
-ghost use Rattle.serde_json.specs.View.{view};
+ghost use Rattle.serde_json.specs.Data.{number};
+ghost use Rattle.serde_json.specs.View.{number_view};
+ghost use Rattle.zarrs_metadata.specs.FillValue.{fill_data};
+ghost use Rattle.zarrs_metadata.specs.Lists.{number_data};
 ghost use Rattle.zarrs_document_v2.specs.Conversion.{wide_kind, narrow_kind, type_v2, kind_name, is_text_kind, bool_fill, is_number_within, is_up_to, number_fill, text_fill, fill_v3};
 
-use serde_json::Value;
+use serde_json::Number;
 use std::alloc::{AllocError, Global};
+use zarrs_metadata::FillValueMetadata;
 
 /// What the cells of a data type are.
 #[derive(Clone, Copy, Debug, Drop, PartialEq, Eq)]
@@ -106,9 +110,9 @@ impl KindV2 {
     pub(crate) fn fill_value(
         self,
         alloc: Global,
-        value: &Value,
-    ) -> Result<Option<Value>, AllocError>
-        ensures { IfOk result (λ o. option_map view o ≡ fill_v3 self (view value.now)) }
+        value: &FillValueMetadata,
+    ) -> Result<Option<FillValueMetadata>, AllocError>
+        ensures { IfOk result (λ o. option_map fill_data o ≡ fill_v3 self (fill_data value.now)) }
     {
         match self {
             KindV2::Bool => Ok(bool_fill(value)),
@@ -125,66 +129,82 @@ impl KindV2 {
     }
 }
 
-fn bool_fill(value: &Value) -> Option<Value>
-    ensures { option_map view result ≡ bool_fill (view value.now) }
+/// Returns the number 0.
+fn zero() -> FillValueMetadata
+    ensures { fill_data result ≡ number_data 0 }
+{
+    FillValueMetadata::Number(Number::from(0u64))
+}
+
+fn bool_fill(value: &FillValueMetadata) -> Option<FillValueMetadata>
+    ensures { option_map fill_data result ≡ bool_fill (fill_data value.now) }
 {
     match value {
-        Value::Null => Some(Value::Bool(false)),
-        Value::Bool(flag) => Some(Value::Bool(*flag)),
-        Value::Number(number) => match number.as_u64()? {
-            0 => Some(Value::Bool(false)),
-            1 => Some(Value::Bool(true)),
+        FillValueMetadata::Null => Some(FillValueMetadata::Bool(false)),
+        FillValueMetadata::Bool(flag) => Some(FillValueMetadata::Bool(*flag)),
+        FillValueMetadata::Number(number) => match number.as_u64()? {
+            0 => Some(FillValueMetadata::Bool(false)),
+            1 => Some(FillValueMetadata::Bool(true)),
             _ => None,
         },
         _ => None,
     }
 }
 
-fn is_number_within(value: &Value, low: i64, high: i64) -> bool
-    ensures { result ≡ is_number_within low high (view value.now) }
+fn is_number_within(found: &Number, low: i64, high: i64) -> bool
+    ensures { result ≡ is_number_within low high (number (number_view found.now)) }
 {
-    match value.as_i64() {
+    match found.as_i64() {
         Some(number) => low <= number && number <= high,
         None => false,
     }
 }
 
-fn is_up_to(value: &Value, high: u64) -> bool
-    ensures { result ≡ is_up_to high (view value.now) }
+fn is_up_to(found: &Number, high: u64) -> bool
+    ensures { result ≡ is_up_to high (number (number_view found.now)) }
 {
-    match value.as_u64() {
+    match found.as_u64() {
         Some(number) => number <= high,
         None => false,
     }
 }
 
-fn signed_fill(value: &Value, low: i64, high: i64) -> Option<Value>
-    ensures { option_map view result ≡ number_fill (is_number_within low high) (view value.now) }
+fn signed_fill(value: &FillValueMetadata, low: i64, high: i64) -> Option<FillValueMetadata>
+    ensures { option_map fill_data result ≡ number_fill (is_number_within low high) (fill_data value.now) }
 {
     match value {
-        Value::Null => Some(Value::from(0u64)),
-        Value::Number(number) if is_number_within(value, low, high) => Some(Value::Number(*number)),
+        FillValueMetadata::Null => Some(zero()),
+        FillValueMetadata::Number(number) if is_number_within(number, low, high) => Some(
+            FillValueMetadata::Number(*number),
+        ),
         _ => None,
     }
 }
 
-fn unsigned_fill(value: &Value, high: u64) -> Option<Value>
-    ensures { option_map view result ≡ number_fill (is_up_to high) (view value.now) }
+fn unsigned_fill(value: &FillValueMetadata, high: u64) -> Option<FillValueMetadata>
+    ensures { option_map fill_data result ≡ number_fill (is_up_to high) (fill_data value.now) }
 {
     match value {
-        Value::Null => Some(Value::from(0u64)),
-        Value::Number(number) if is_up_to(value, high) => Some(Value::Number(*number)),
+        FillValueMetadata::Null => Some(zero()),
+        FillValueMetadata::Number(number) if is_up_to(number, high) => Some(
+            FillValueMetadata::Number(*number),
+        ),
         _ => None,
     }
 }
 
-fn text_fill(alloc: Global, value: &Value) -> Result<Option<Value>, AllocError>
-    ensures { IfOk result (λ o. option_map view o ≡ text_fill (view value.now)) }
+fn text_fill(
+    alloc: Global,
+    value: &FillValueMetadata,
+) -> Result<Option<FillValueMetadata>, AllocError>
+    ensures { IfOk result (λ o. option_map fill_data o ≡ text_fill (fill_data value.now)) }
 {
     match value {
-        Value::Null => Ok(Some(Value::String(String::new(alloc)))),
-        Value::String(text) => Ok(Some(Value::String(text.clone()?))),
-        Value::Number(_) if is_up_to(value, 0) => Ok(Some(Value::String(String::new(alloc)))),
+        FillValueMetadata::Null => Ok(Some(FillValueMetadata::String(String::new(alloc)))),
+        FillValueMetadata::String(text) => Ok(Some(FillValueMetadata::String(text.clone()?))),
+        FillValueMetadata::Number(number) if is_up_to(number, 0) => Ok(Some(
+            FillValueMetadata::String(String::new(alloc)),
+        )),
         _ => Ok(None),
     }
 }

@@ -14,7 +14,7 @@ use zarrs_document::ArrayMetadataV3;
 use zarrs_metadata::MetadataError;
 
 /// The metadata of an array.
-#[derive(Drop)]
+#[derive(Debug, Drop)]
 pub enum ArrayMetadata {
     /// Of a V3 array.
     V3(ArrayMetadataV3),

@@ -45,9 +45,9 @@ fn value_with(
     let mut members = Map::new(alloc);
     let shape = numbers_value(alloc, document.shape.as_slice())?;
     let chunks = sizes_value(alloc, &document.chunks)?;
-    let dtype = Value::try_from_str(alloc, document.dtype.as_str())?;
+    let dtype = document.dtype.to_value(alloc)?;
     let compressor = document.compressor.clone()?;
-    let fill_value = document.fill_value.clone()?;
+    let fill_value = document.fill_value.to_value(alloc)?;
     let order = document.order.to_value(alloc)?;
     let filters = document.filters.clone()?;
     let separator = document.dimension_separator.to_value(alloc)?;

@@ -10,7 +10,7 @@ use zarrs_document_v2::{
     ArrayMetadata, ArrayMetadataV2, ArrayMetadataV2Order, ArrayMetadataV2ToV3Error,
     array_metadata_v2_to_v3, attributes_from_slice,
 };
-use zarrs_metadata::{ChunkKeySeparator, MetadataError};
+use zarrs_metadata::{ChunkKeySeparator, DataTypeMetadataV2, FillValueMetadata, MetadataError};
 
 /// What zarr-python writes for a small array without a compressor.
 const PYTHON: &str = r#"{
@@ -205,8 +205,8 @@ fn size(number: u64) -> Result<NonZeroU64, Fail> {
 fn made(alloc: Global) -> Result<ArrayMetadataV2, Fail> {
     let shape = [4, 2].to_vec(alloc)?;
     let chunks = [size(2)?, size(2)?].to_vec(alloc)?;
-    let dtype = String::from_str(alloc, "<u2")?;
-    let zero = Value::from(0u64);
+    let dtype = DataTypeMetadataV2::new(String::from_str(alloc, "<u2")?);
+    let zero = FillValueMetadata::from_value(Value::from(0u64));
     Ok(ArrayMetadataV2::new(shape, chunks, dtype, zero, Value::Null, Value::Null))
 }
 
@@ -291,7 +291,14 @@ fn must_have_type(
     codec: &str,
 ) -> Result<(), Fail> {
     assert_eq!(rt; document.data_type.name(), name);
-    assert_eq!(rt; document.fill_value.to_string(alloc)?.as_str(), fill_value);
+    assert_eq!(rt;
+        document
+            .fill_value
+            .to_value(alloc)?
+            .to_string(alloc)?
+            .as_str(),
+        fill_value
+    );
     assert_eq!(rt; document.codecs.len(), 1);
     assert_eq!(rt;
         document.codecs[0]

@@ -7,14 +7,14 @@ ghost use Rattle.zarrs_metadata.specs.Members.{has_only, nonempty};
 ghost use Rattle.zarrs_metadata.specs.Extension.{named, settings, extension_of, extension_from, extension_data, normal, configuration_from, must_understand_from};
 
 use crate::error::MetadataError;
-use crate::members::{have_only, kept, object_of, take_member};
+use crate::members::{copied, have_only, kept, object_of, take_member};
 use serde_json::{Map, Value};
 use std::alloc::{AllocError, Global};
 
 /// An extension point of a V3 document: a data type, a chunk grid, a chunk key encoding, a codec or
 /// a storage transformer, by its name and its configuration (Zarr V3 core specification, extension
 /// points).
-#[derive(Drop)]
+#[derive(Debug, Drop)]
 pub struct MetadataV3 {
     name: String,
     configuration: Option<Map<String, Value>>,
@@ -106,6 +106,25 @@ impl MetadataV3 {
         Ok(MetadataV3 {
             name: self.name,
             configuration: Some(members),
+            must_understand: self.must_understand,
+        })
+    }
+
+    /// The same extension point.
+    ///
+    /// # Errors
+    /// If memory runs out.
+    pub fn try_clone(&self) -> Result<MetadataV3, AllocError>
+        ensures { IfOk result (λ copy. extension_view copy ≡ extension_view self.now) }
+    {
+        let name = self.name.clone()?;
+        let configuration = match self.configuration.as_ref() {
+            Some(members) => Some(copied(members)?),
+            None => None,
+        };
+        Ok(MetadataV3 {
+            name,
+            configuration,
             must_understand: self.must_understand,
         })
     }

@@ -6,7 +6,7 @@ mod error;
 mod extension;
 mod fill_value;
 mod lists;
-mod members;
+pub mod members;
 mod separators;
 
 pub use data_type::DataTypeMetadataV2;

@@ -1,5 +1,5 @@
 //! The members of an object, by name.
-ghost use Rattle.std.specs.Prelude.{◌≡◌, [], ◌∷◌, map, option_map};
+ghost use Rattle.std.specs.Prelude.{◌≡◌, [], ◌∷◌, map, option_map, IfOk};
 ghost use Rattle.std.specs.Ordering.{nat_cmp, is_eq};
 ghost use Rattle.std.specs.Cmp.Lexicographic.{slice_cmp};
 ghost use Rattle.serde_json.specs.Find.{get_member, as_object};
@@ -7,9 +7,10 @@ ghost use Rattle.serde_json.specs.View.{view, members_view};
 ghost use Rattle.zarrs_metadata.specs.Members.{besides, is_named, has_only, nonempty};
 
 use serde_json::{Map, Value};
+use std::alloc::AllocError;
 
 /// Removes the member of this name, and returns it.
-pub(crate) fn take_member(members: &mut Map<String, Value>, name: &str) -> Option<Value>
+pub fn take_member(members: &mut Map<String, Value>, name: &str) -> Option<Value>
     ensures found { option_map view result
         ≡ get_member name.now (members_view members.old.entries) }
     ensures left { members_view members.new.entries
@@ -18,6 +19,16 @@ pub(crate) fn take_member(members: &mut Map<String, Value>, name: &str) -> Optio
     // `len` tells the proof that the names ascend.
     let _count = members.len();
     members.remove(name)
+}
+
+/// Returns a copy of the members.
+///
+/// # Errors
+/// If memory runs out.
+pub fn copied(members: &Map<String, Value>) -> Result<Map<String, Value>, AllocError>
+    ensures { IfOk result (λ m. members_view m.entries ≡ members_view members.now.entries) }
+{
+    members.clone()
 }
 
 /// Returns the members, if there is one.
@@ -32,8 +43,8 @@ pub(crate) fn kept(members: Map<String, Value>) -> Option<Map<String, Value>>
     }
 }
 
-/// Returns the members of an object.
-pub(crate) fn object_of(value: Value) -> Option<Map<String, Value>>
+/// Returns the members of an object, or `None` for any other value.
+pub fn object_of(value: Value) -> Option<Map<String, Value>>
     ensures { option_map (λ m. members_view m.entries) result ≡ as_object (view value) }
 {
     match value {

@@ -1,7 +1,7 @@
 -- Why no array is created, and which refusal comes first.
 use Rattle.std.specs.Prelude.{◌≡◌, ℕ, List, Option, Some, None, Result, Ok, Err, string_bytes}
 use Rattle.serde_json.specs.Data.{Data}
-use Rattle.serde_json.specs.View.{view}
+use Rattle.zarrs_metadata.specs.FillValue.{fill_data}
 use Rattle.zarrs_options.specs.Errors.{name_of_field, value_of_field}
 use Rattle.zarrs_options.specs.declared.error.ArrayCreateError.{ArrayCreateError}
 use Rattle.zarrs_options.specs.declared.error.ArrayCreateError.TheVariants as error
@@ -47,7 +47,7 @@ create_refusal_of (error.NodePathError e) = node_path
 create_refusal_of (error.AdditionalFieldUnsupportedError e) = additional_field (name_of_field e) (value_of_field e)
 create_refusal_of (error.DataTypeCreateError e) = data_type
 create_refusal_of (error.InvalidFillValue name bytes) = fill_value (string_bytes name) bytes
-create_refusal_of (error.InvalidFillValueMetadata name value) = fill_value_metadata (string_bytes name) (view value)
+create_refusal_of (error.InvalidFillValueMetadata name value) = fill_value_metadata (string_bytes name) (fill_data value)
 create_refusal_of (error.CodecsCreateError e) = codecs
 create_refusal_of (error.StorageTransformersCreateError e) = storage_transformers
 create_refusal_of (error.ChunkGridCreateError e) = chunk_grid
@@ -64,11 +64,6 @@ create_refusal_of error.OutOfMemory = out_of_memory
 abbrev pub said_or : {A : Type 0} → CreateRefusal → Option A → Result A CreateRefusal
 said_or refusal None = Err refusal
 said_or refusal (Some a) = Ok a
-
-infixl 10 ◌>>=◌
-abbrev pub ◌>>=◌ : {A B : Type 0} → Result A CreateRefusal → (A → Result B CreateRefusal) → Result B CreateRefusal
-Ok a >>= f = f a
-Err refusal >>= f = Err refusal
 
 -- a creation is refused: if memory runs out, which may come at any growth; else by the first refusal that is decided
 abbrev pub RefusesCreation : {A : Type 0} → Result A CreateRefusal → CreateRefusal → Type 0

@@ -2,14 +2,15 @@
 ghost use Rattle.std.specs.Prelude.{◌≡◌, string_bytes};
 ghost use Rattle.serde_json.specs.View.{view};
 ghost use Rattle.zarrs_options.specs.declared.error.ArrayCreateError.TheVariants as create;
-ghost use Rattle.zarrs_options.specs.Errors.{create_error_of_storage, create_error_of_path, name_of_field, value_of_field};
+ghost use Rattle.zarrs_options.specs.Errors.{create_error_of_storage, create_error_of_path};
+ghost use Rattle.zarrs_options.specs.Errors.{name_of_field, value_of_field};
 
 use serde_json::Value;
 use std::alloc::{AllocError, AllocFailed};
 use thiserror::Error;
 use zarrs_data_type::FillValue;
 use zarrs_keys::NodePathError;
-use zarrs_metadata::PluginCreateError;
+use zarrs_metadata::{FillValueMetadata, PluginCreateError};
 use zarrs_storage::StorageError;
 
 /// An additional field of a document that must be understood, and is not.
@@ -70,7 +71,7 @@ pub enum ArrayCreateError {
         /// The data type.
         data_type_name: String,
         /// What was to be its fill value.
-        fill_value_metadata: Value,
+        fill_value_metadata: FillValueMetadata,
     },
     /// The metadata names no chain of codecs.
     #[error(transparent)]

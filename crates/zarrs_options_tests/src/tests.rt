@@ -6,7 +6,7 @@ use std::process::Abort;
 use std::test::Fail;
 use zarrs_data_type::FillValue;
 use zarrs_keys::{NodePath, NodePathError};
-use zarrs_metadata::{MetadataV3, PluginCreateError};
+use zarrs_metadata::{FillValueMetadata, MetadataV3, PluginCreateError};
 use zarrs_options::{
     AdditionalFieldUnsupportedError, ArrayCreateError, ArrayMetadataOptions,
     MetadataConvertVersion, MetadataEraseVersion, MetadataRetrieveVersion, StorageTransformerChain,
@@ -141,12 +141,38 @@ fn texts_of_fill_values(rt: HostRuntime) -> Result<(), Fail> {
         &bytes,
         "invalid fill value for data type `int16`: [7]",
     )?;
-    let metadata = ArrayCreateError::InvalidFillValueMetadata {
-        data_type_name: String::from_str(alloc, "string")?,
-        fill_value_metadata: Value::from_str(alloc, "{\"a\": [1, 2]}")?,
-    };
-    let text = "invalid fill value metadata for data type `string`: {\"a\":[1,2]}";
-    must_print(&rt, alloc, &metadata, text)
+    Ok(())
+}
+
+/// Fill values of each kind, as JSON writes them.
+const FILL_VALUES: [&str; 9] = [
+    "null",
+    "true",
+    "-7",
+    "\"a\\\"b\\\\c\\n\\t\\r\\b\\f\\u0001\"",
+    "[]",
+    "[1,[null]]",
+    "{}",
+    "{\"a\":[1,2],\"b\":\"\\n\"}",
+    "{\"\\\"\":\"é\"}",
+];
+
+#[test]
+fn texts_of_fill_values_in_metadata(rt: HostRuntime) -> Result<(), Fail> {
+    let alloc = rt.alloc();
+    for text in FILL_VALUES {
+        let error = ArrayCreateError::InvalidFillValueMetadata {
+            data_type_name: String::from_str(alloc, "string")?,
+            fill_value_metadata: FillValueMetadata::from_value(Value::from_str(alloc, text)?),
+        };
+        let mut wanted = String::from_str(
+            alloc,
+            "invalid fill value metadata for data type `string`: ",
+        )?;
+        wanted.push_str(text)?;
+        must_print(&rt, alloc, &error, wanted.as_str())?;
+    }
+    Ok(())
 }
 
 #[test]

@@ -1,3 +1,6 @@
 pub mod Cell
+pub mod FillMetadata
+pub mod Fills
 pub mod Kind
 pub mod Same
+pub mod TypeMetadata

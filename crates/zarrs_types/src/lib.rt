@@ -2,7 +2,11 @@
 #![tactic(auto)]
 
 pub mod data_type;
+mod error;
+mod fill_metadata;
 mod fill_value;
+mod metadata;
 
 pub use data_type::DataType;
+pub use error::{DataTypeFillValueError, DataTypeFillValueMetadataError};
 pub use fill_value::{FillValue, inner_fill};

@@ -42,7 +42,7 @@ returns c =
     (ap Some c.in_ok-data_type.ensures.written) c.in_ok-put_member-4.ensures
     (ap Some c.in_ok-chunk_grid.ensures.written) c.in_ok-put_member-5.ensures
     (ap Some c.in_ok-key_encoding.ensures.written) c.in_ok-put_member-6.ensures
-    (ap Some c.in_ok-fill_value.ensures.cases) c.in_ok-put_member-7.ensures
+    (ap Some c.in_ok-fill_value.ensures) c.in_ok-put_member-7.ensures
     (ap Some c.in_ok-codecs.ensures) c.in_ok-put_member-8.ensures
     (c.in_ok-attributes.ensures) c.in_ok-put_member-9.ensures
     (c.in_ok-transformers.ensures) c.in_ok-put_member-10.ensures

@@ -35,9 +35,9 @@ returns c =
     (ap Some c.from.ensures) (c.in_ok-put_member.ensures ∙ ap (λ es. put_some (codes "zarr_format") (Some (view c.from.result)) (members_view es)) c.new-members.ensures.empty)
     (ap Some (c.in_ok-shape.ensures.written ∙ ap numbers_data c.as_slice.ensures.value)) c.in_ok-put_member-2.ensures
     (ap Some c.in_ok-chunks.ensures) c.in_ok-put_member-3.ensures
-    (ap Some (c.in_ok-dtype.ensures ∙ ap string c.as_str.ensures.value)) c.in_ok-put_member-4.ensures
+    (ap Some c.in_ok-dtype.ensures) c.in_ok-put_member-4.ensures
     (ap Some c.in_ok-compressor.ensures.cases) c.in_ok-put_member-5.ensures
-    (ap Some c.in_ok-fill_value.ensures.cases) c.in_ok-put_member-6.ensures
+    (ap Some c.in_ok-fill_value.ensures) c.in_ok-put_member-6.ensures
     (ap Some c.in_ok-order.ensures) c.in_ok-put_member-7.ensures
     (ap Some c.in_ok-filters.ensures.cases) c.in_ok-put_member-8.ensures
     (ap Some c.in_ok-separator.ensures.written) c.in_ok-put_member-9.ensures

@@ -5,4 +5,4 @@ use Rattle.zarrs_document_v2.proofs.reading.Parts.read.Goals as goal
 pub returns : goal.returns
 unfolding draft_of_v2
 returns c =
-    rw (c.in_ok-shape.ensures, c.in_ok-chunks.ensures, c.text_in.ensures, c.order_in.ensures, c.dimension_separator_in.ensures, c.members_in.ensures) refl
+    rw (c.in_ok-shape.ensures, c.in_ok-chunks.ensures, c.data_type_in.ensures, c.fill_value_in.ensures, c.order_in.ensures, c.dimension_separator_in.ensures, c.members_in.ensures) refl
