@@ -1,5 +1,7 @@
 -- Chunks by the words of the layer above: has_box, box_at, index_at, is_covered.
-use Rattle.std.proofs.Common.{◌≡◌, ℕ, zero, suc, ◌+◌, ◌-◌, ◌<◌, ◌≤◌, ◌^◌, ◌==◌, nat_lt, true, false, List, length, get_or, slice_index, Some, slice_get, Contains, eq-eqb, refl, sym, ◌∙◌, subst, inl, inr, arith}
+use Rattle.std.proofs.Common.{◌≡◌, ℕ, zero, suc, ◌+◌, ◌-◌, ◌<◌, ◌≤◌, ◌^◌, ◌==◌, nat_lt, true, false, List, length}
+use Rattle.std.proofs.Common.{get_or, slice_index, Some, None, option_map, ap, slice_get, Contains, eq-eqb}
+use Rattle.std.proofs.Common.{refl, sym, ◌∙◌, subst, inl, inr, arith}
 use Rattle.std.proofs.lemmas.Bool.{cases_Bool, and_parts, and_from, ltb-true, lt-ltb, cases_lt}
 use Rattle.std.proofs.lemmas.Map.Views.{exact_unsigned_eq}
 use Rattle.std.proofs.lemmas.List.{get_or_past}
@@ -9,7 +11,8 @@ use Rattle.zarrs_subset.specs.Boxes.{positions_from, place, offset_from}
 use Rattle.zarrs_subset.specs.Regions.{Box, IsLong, Holds, IsBox}
 use Rattle.zarrs_subset.proofs.Bytes.{holds_along, along_holds}
 use Rattle.zarrs_subset.proofs.Positions.{positions_in, positions_all}
-use Rattle.zarrs_chunk_grid.specs.Grids.{Grid, IsGrid, InChunk, Meets, IsMet, each_dimension, index_at, box_at, HasBox, has_box, numbered_along, covered_along, is_covered, start_along, extent_along}
+use Rattle.zarrs_chunk_grid.specs.Grids.{Grid, IsGrid, InChunk, Meets, IsMet, each_dimension, index_at, box_at, HasBox}
+use Rattle.zarrs_chunk_grid.specs.Grids.{has_box, chunk_box, numbered_along, covered_along, is_covered, start_along, extent_along}
 use Rattle.zarrs_chunk_grid.proofs.AxisLemmas.{covered_below, count_fits, edge_fits}
 use Rattle.zarrs_chunk_grid.proofs.Walks.{ChunkSoFar, AlongChunk}
 use Rattle.zarrs_chunk_grid.proofs.MetChunks.{at_dimension, index_at_covers, index_is, same_box}
@@ -72,6 +75,15 @@ no_box g indices k within past =
       | inr none ↦ none
     ]
 
+-- the chunk's box as one option, and what is read off it
+pub some_chunk : {A : Type 0} (g : Grid) (indices : List ℕ) (f : Box → A) (x : A) → has_box g indices ≡ true
+    → x ≡ f (box_at g indices) → Some x ≡ option_map f (chunk_box g indices)
+some_chunk g indices f x there is = rw there (ap (λ y. Some y) is)
+
+pub no_chunk : {A : Type 0} (g : Grid) (indices : List ℕ) (f : Box → A) → has_box g indices ≡ false
+    → None ≡ option_map f (chunk_box g indices)
+no_chunk g indices f none = rw none refl
+
 -- what a walk over all dimensions has made is the chunk's box
 pub chunk_whole : (g : Grid) (indices start shape : List ℕ) (n : ℕ) → n ≡ g.dimensions → ChunkSoFar g indices start shape n → record { start = start; shape = shape } ≡ box_at g indices
 unfolding box_at
@@ -112,9 +124,9 @@ box_dimensions g indices = length-map-range_with_len _ 0 g.dimensions
 
 module _ (g : Grid) (l : IsGrid g) where
   -- the box of a chunk that is there is a box
-  pub chunk_box : (indices : List ℕ) → has_box g indices ≡ true → IsBox (box_at g indices)
+  pub box_is_box : (indices : List ℕ) → has_box g indices ≡ true → IsBox (box_at g indices)
   unfolding box_at
-  chunk_box indices there =
+  box_is_box indices there =
       let has = box_is_there g indices there in
       let long = length-map-range_with_len (start_along g indices) 0 g.dimensions in
       record {

@@ -1,14 +1,24 @@
 -- Chunks of one size.
-use Rattle.std.proofs.Common.{◌≡◌, ℕ, ◌+◌, ◌-◌, ◌*◌, ◌/◌, ◌<◌, ◌≤◌, ◌^◌, min, List, [], ◌∷◌, length, refl, arith}
+use Rattle.std.proofs.Common.{◌≡◌, ℕ, ◌+◌, ◌-◌, ◌*◌, ◌/◌, ◌<◌, ◌≤◌, ◌^◌, min, List, [], ◌∷◌, length, map, refl, ap, arith}
 use Rattle.std.proofs.Math.Nat.{div-mul-le_self, mul-le-mul_right}
 use Rattle.std.specs.declared.num.NonZeroU64.{NonZeroU64}
+use Rattle.std.specs.List.{zip}
 use Rattle.std.specs.Int.{div_ceil}
+use Rattle.std.specs.Int.NonZero.{non_zero_u64_get}
 use Rattle.std.proofs.lemmas.Grind.{div_ceil_times}
-use Rattle.zarrs_chunk_grid.specs.Axes.{IsInterval, bounded_axis}
+use Rattle.zarrs_chunk_grid.specs.Axes.{IsInterval, bounded_axis, sizes_of}
 use Rattle.zarrs_chunk_grid.specs.GridLaws.{numbered_before}
-use Rattle.zarrs_chunk_grid.specs.Shapes.{chunk_counts}
+use Rattle.zarrs_chunk_grid.specs.Configurations.{chunk_counts}
 
-pub chunk_counts_long : (extents : List ℕ) (sizes : List NonZeroU64) → length sizes ≡ length extents → length (chunk_counts extents sizes) ≡ length extents
+-- how many chunks there are along each dimension, from the sizes themselves
+pub counts_read : (extents : List ℕ) (sizes : List NonZeroU64)
+    → map (λ q. div_ceil q.0 (non_zero_u64_get q.1)) (zip extents sizes) ≡ chunk_counts extents (sizes_of sizes)
+counts_read [] sizes = refl
+counts_read (extent ∷ extents) [] = refl
+counts_read (extent ∷ extents) (size ∷ sizes) = ap (λ r. div_ceil extent size.value ∷ r) (counts_read extents sizes)
+
+pub chunk_counts_long : (extents sizes : List ℕ) → length sizes ≡ length extents
+    → length (chunk_counts extents sizes) ≡ length extents
 chunk_counts_long [] sizes h = refl
 chunk_counts_long (extent ∷ extents) [] h = absurd (omega arith)
 chunk_counts_long (extent ∷ extents) (size ∷ sizes) h = omega (arith, chunk_counts_long extents sizes (omega arith))

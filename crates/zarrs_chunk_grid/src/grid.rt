@@ -1,14 +1,14 @@
 //! The named grids as one type.
+ghost use Rattle.std.specs.Prelude.{◌≡◌, IfOk};
 
-use crate::bounded::RegularBoundedChunkGrid;
 use crate::rectangular::RectangularChunkGrid;
-use crate::regular::RegularChunkGrid;
+use crate::regular::{RegularBoundedChunkGrid, RegularChunkGrid};
 use crate::traits::{ChunkGridTraits, Interval};
 use std::alloc::{AllocError, Global};
 use zarrs_metadata::MetadataV3;
 
 /// One of the named grids.
-#[derive(Drop)]
+#[derive(Debug, Drop)]
 pub enum ChunkGrid {
     /// Chunks of one shape, which may pass the array's end.
     Regular(RegularChunkGrid),
@@ -19,7 +19,6 @@ pub enum ChunkGrid {
 }
 
 impl From<RegularChunkGrid> for ChunkGrid {
-    ghost use Rattle.std.specs.Prelude.{◌≡◌};
     ghost use Rattle.zarrs_chunk_grid.specs.declared.grid.ChunkGrid.TheVariants.{Regular};
 
     ghost from_gives = { λ g grid. grid ≡ Regular g };
@@ -30,7 +29,6 @@ impl From<RegularChunkGrid> for ChunkGrid {
 }
 
 impl From<RegularBoundedChunkGrid> for ChunkGrid {
-    ghost use Rattle.std.specs.Prelude.{◌≡◌};
     ghost use Rattle.zarrs_chunk_grid.specs.declared.grid.ChunkGrid.TheVariants.{RegularBounded};
 
     ghost from_gives = { λ g grid. grid ≡ RegularBounded g };
@@ -41,7 +39,6 @@ impl From<RegularBoundedChunkGrid> for ChunkGrid {
 }
 
 impl From<RectangularChunkGrid> for ChunkGrid {
-    ghost use Rattle.std.specs.Prelude.{◌≡◌};
     ghost use Rattle.zarrs_chunk_grid.specs.declared.grid.ChunkGrid.TheVariants.{Rectangular};
 
     ghost from_gives = { λ g grid. grid ≡ Rectangular g };
@@ -51,25 +48,48 @@ impl From<RectangularChunkGrid> for ChunkGrid {
     }
 }
 
+impl ChunkGrid {
+    ghost use Rattle.zarrs_chunk_grid.specs.GridView.{configuration_of};
+
+    /// The same grid.
+    pub fn try_clone(&self, alloc: Global) -> Result<ChunkGrid, AllocError>
+        ensures configuration { IfOk result (λ g. configuration_of g ≡ configuration_of self.now) }
+        ensures grid { IfOk result (λ g. ⟦<ChunkGrid as ChunkGridTraits>⟧.grid g
+            ≡ ⟦<ChunkGrid as ChunkGridTraits>⟧.grid self.now) }
+        ensures shape { IfOk result (λ g. ⟦<ChunkGrid as ChunkGridTraits>⟧.array_extents g
+            ≡ ⟦<ChunkGrid as ChunkGridTraits>⟧.array_extents self.now) }
+        ensures counts { IfOk result (λ g. ⟦<ChunkGrid as ChunkGridTraits>⟧.grid_extents g
+            ≡ ⟦<ChunkGrid as ChunkGridTraits>⟧.grid_extents self.now) }
+    {
+        match self {
+            ChunkGrid::Regular(grid) => Ok(ChunkGrid::Regular(grid.try_clone(alloc)?)),
+            ChunkGrid::RegularBounded(grid) => {
+                Ok(ChunkGrid::RegularBounded(grid.try_clone(alloc)?))
+            }
+            ChunkGrid::Rectangular(grid) => Ok(ChunkGrid::Rectangular(grid.try_clone(alloc)?)),
+        }
+    }
+}
+
 impl ChunkGridTraits for ChunkGrid {
     ghost use Rattle.zarrs_chunk_grid.specs.declared.grid.ChunkGrid.TheVariants.{Regular, RegularBounded, Rectangular};
-    ghost use Rattle.zarrs_chunk_grid.specs.GridLaws.{regular_grid_lawful, bounded_grid_lawful};
-    ghost use Rattle.zarrs_chunk_grid.specs.SizesLaws.{rectangular_grid_lawful};
-    ghost use Rattle.zarrs_chunk_grid.specs.GridData.{extension_of_grid};
-    ghost use Rattle.zarrs_chunk_grid.specs.GridView.{grid_data, array_extents_of, grid_extents_of, axes_of};
+    ghost use Rattle.zarrs_chunk_grid.specs.GridLaws.{regular_lawful, bounded_lawful, rectangular_lawful};
+    ghost use Rattle.zarrs_chunk_grid.specs.Configurations.{grid_of};
+    ghost use Rattle.zarrs_chunk_grid.specs.Metadata.{extension_of_grid};
+    ghost use Rattle.zarrs_chunk_grid.specs.GridView.{configuration_of, array_extents_of, grid_extents_of};
 
     ghost array_extents = { array_extents_of };
 
     ghost grid_extents = { grid_extents_of };
 
-    ghost grid = { axes_of };
+    ghost grid = { λ g. grid_of (configuration_of g) (array_extents_of g) };
 
-    ghost extension = { λ g. extension_of_grid (grid_data g) };
+    ghost extension = { λ g. extension_of_grid (configuration_of g) };
 
     ghost lawful = { elim [
-      | Regular g ↦ regular_grid_lawful g.chunk_shape.items
-      | RegularBounded g ↦ bounded_grid_lawful g.array_shape.items g.chunk_shape.items g.extents_fit
-      | Rectangular g ↦ rectangular_grid_lawful g.sizes.items
+      | Regular g ↦ regular_lawful g.chunk_shape.items g.array_shape.items
+      | RegularBounded g ↦ bounded_lawful g.chunk_shape.items g.array_shape.items g.extents_fit
+      | Rectangular g ↦ rectangular_lawful g.sizes.items g.array_shape.items
     ] };
 
     fn array_shape(&self) -> &[u64] {

@@ -1,8 +1,12 @@
 //! The `rectangular` grid.
-ghost use Rattle.std.specs.Prelude.{◌≡◌, ℕ, true, length, IfOk, IfErr, OnOk};
-ghost use Rattle.zarrs_chunk_grid.specs.Sizes.{all_fill, counts_of};
+ghost use Rattle.std.specs.Prelude.{◌≡◌, ℕ, true, length, map, IfOk, IfErr, OnOk};
+ghost use Rattle.zarrs_chunk_grid.specs.Configurations.{rectangular, sizes_view};
+ghost use Rattle.zarrs_chunk_grid.specs.Configurations.{all_fill, counts_of, grid_of, takes_shape};
+ghost use Rattle.zarrs_chunk_grid.specs.GridLaws.{rectangular_lawful};
+ghost use Rattle.zarrs_chunk_grid.specs.Metadata.{extension_of_grid};
+ghost use Rattle.zarrs_chunk_grid.specs.Refusals.{RefusesGrid};
 
-use crate::chunk_sizes::ChunkSizes;
+use crate::dimension::ChunkSizes;
 use crate::error::{GridError, check_length};
 use crate::metadata::{dimensions_value, grid_metadata};
 use crate::traits::{ChunkGridTraits, Interval};
@@ -11,20 +15,21 @@ use zarrs_metadata::MetadataV3;
 use zarrs_subset::ArrayShape;
 
 /// Along each dimension chunks of one size, or chunks of listed sizes.
-#[derive(Drop)]
+#[derive(Debug, Drop)]
 pub struct RectangularChunkGrid {
     array_shape: ArrayShape,
     grid_shape: ArrayShape,
     sizes: Vec<ChunkSizes>,
     ghost sizes_dimensions: { length sizes.items ≡ length array_shape.items },
     ghost grid_dimensions: { length grid_shape.items ≡ length array_shape.items },
-    ghost counted: { grid_shape.items ≡ counts_of sizes.items array_shape.items },
-    ghost filled: { all_fill sizes.items array_shape.items ≡ true },
+    ghost counted: { grid_shape.items
+        ≡ counts_of (rectangular (map sizes_view sizes.items)) array_shape.items },
+    ghost filled: { all_fill (map sizes_view sizes.items) array_shape.items ≡ true },
 }
 
 impl RectangularChunkGrid {
-    ghost use Rattle.zarrs_chunk_grid.specs.Sizes.{rectangular_grid, RefusesSizes};
-    ghost use Rattle.zarrs_chunk_grid.specs.GridView.{rectangular_sizes};
+    ghost use Rattle.zarrs_chunk_grid.specs.GridView.{configuration_of};
+    ghost use Rattle.zarrs_chunk_grid.specs.declared.grid.ChunkGrid.TheVariants.{Rectangular};
 
     /// The grid of these sizes, one entry for each dimension, over an array of that shape.
     pub fn new(
@@ -32,16 +37,20 @@ impl RectangularChunkGrid {
         array_shape: ArrayShape,
         sizes: Vec<ChunkSizes>,
     ) -> Result<Self, GridError>
-        ensures grid { IfOk result
-            (λ g. ⟦<RectangularChunkGrid as ChunkGridTraits>⟧.grid g ≡ rectangular_grid sizes.items) }
-        ensures sizes { IfOk result (λ g. rectangular_sizes g ≡ sizes.items) }
-        ensures shape { IfOk result
-            (λ g. ⟦<RectangularChunkGrid as ChunkGridTraits>⟧.array_extents g ≡ array_shape.items) }
-        ensures counts { IfOk result
-            (λ g. ⟦<RectangularChunkGrid as ChunkGridTraits>⟧.grid_extents g ≡ counts_of sizes.items array_shape.items) }
-        ensures long { OnOk result (length sizes.items ≡ length array_shape.items) }
-        ensures filled { OnOk result (all_fill sizes.items array_shape.items ≡ true) }
-        ensures refused { IfErr result (RefusesSizes sizes.items array_shape.items) }
+        ensures configuration { IfOk result
+            (λ g. configuration_of (Rectangular g) ≡ rectangular (map sizes_view sizes.items)) }
+        ensures grid { IfOk result (λ g. ⟦<RectangularChunkGrid as ChunkGridTraits>⟧.grid g
+            ≡ grid_of (rectangular (map sizes_view sizes.items)) array_shape.items) }
+        ensures shape { IfOk result (λ g.
+            ⟦<RectangularChunkGrid as ChunkGridTraits>⟧.array_extents g
+            ≡ array_shape.items) }
+        ensures counts { IfOk result (λ g.
+            ⟦<RectangularChunkGrid as ChunkGridTraits>⟧.grid_extents g
+            ≡ counts_of (rectangular (map sizes_view sizes.items)) array_shape.items) }
+        ensures taken { OnOk result
+            (takes_shape (rectangular (map sizes_view sizes.items)) array_shape.items ≡ true) }
+        ensures refused { IfErr result
+            (RefusesGrid (rectangular (map sizes_view sizes.items)) array_shape.items) }
     {
         check_length(sizes.len(), array_shape.len())?;
         let mut grid_shape = Vec::with_capacity(alloc, sizes.len())?;
@@ -57,24 +66,49 @@ impl RectangularChunkGrid {
             sizes,
         })
     }
+
+    /// The same grid.
+    pub fn try_clone(&self, alloc: Global) -> Result<Self, AllocError>
+        ensures configuration { IfOk result
+            (λ g. configuration_of (Rectangular g) ≡ configuration_of (Rectangular self.now)) }
+        ensures grid { IfOk result (λ g. ⟦<RectangularChunkGrid as ChunkGridTraits>⟧.grid g
+            ≡ ⟦<RectangularChunkGrid as ChunkGridTraits>⟧.grid self.now) }
+        ensures shape { IfOk result (λ g.
+            ⟦<RectangularChunkGrid as ChunkGridTraits>⟧.array_extents g
+            ≡ ⟦<RectangularChunkGrid as ChunkGridTraits>⟧.array_extents self.now) }
+        ensures counts { IfOk result (λ g.
+            ⟦<RectangularChunkGrid as ChunkGridTraits>⟧.grid_extents g
+            ≡ ⟦<RectangularChunkGrid as ChunkGridTraits>⟧.grid_extents self.now) }
+    {
+        Ok(RectangularChunkGrid {
+            array_shape: Vec::from_slice(alloc, &self.array_shape)?,
+            grid_shape: Vec::from_slice(alloc, &self.grid_shape)?,
+            sizes: copied_sizes(alloc, &self.sizes)?,
+        })
+    }
+}
+
+// The same sizes, dimension by dimension.
+fn copied_sizes(alloc: Global, sizes: &[ChunkSizes]) -> Result<Vec<ChunkSizes>, AllocError>
+    ensures { IfOk result (λ copies. map sizes_view copies.items ≡ map sizes_view sizes.now) }
+{
+    let mut copies = Vec::with_capacity(alloc, sizes.len())?;
+    for cut in sizes {
+        copies.push(cut.try_clone(alloc)?)?;
+    }
+    Ok(copies)
 }
 
 impl ChunkGridTraits for RectangularChunkGrid {
-    ghost use Rattle.zarrs_chunk_grid.specs.Sizes.{rectangular_grid};
-    ghost use Rattle.zarrs_chunk_grid.specs.SizesLaws.{rectangular_grid_lawful};
-    ghost use Rattle.std.specs.Prelude.{map};
-    ghost use Rattle.zarrs_chunk_grid.specs.GridData.{rectangular, extension_of_grid};
-    ghost use Rattle.zarrs_chunk_grid.specs.GridView.{sizes_view};
-
     ghost array_extents = { λ g. g.array_shape.items };
 
     ghost grid_extents = { λ g. g.grid_shape.items };
 
-    ghost grid = { λ g. rectangular_grid g.sizes.items };
+    ghost grid = { λ g. grid_of (rectangular (map sizes_view g.sizes.items)) g.array_shape.items };
 
     ghost extension = { λ g. extension_of_grid (rectangular (map sizes_view g.sizes.items)) };
 
-    ghost lawful = { λ g. rectangular_grid_lawful g.sizes.items };
+    ghost lawful = { λ g. rectangular_lawful g.sizes.items g.array_shape.items };
 
     fn array_shape(&self) -> &[u64] {
         &self.array_shape

@@ -5,7 +5,7 @@ use std::process::Abort;
 use std::test::Fail;
 use zarrs_chunk_grid::laws::{
     box_of_a_chunk, chunk_of_a_position, chunk_range_fills_a_box, chunks_share_no_position,
-    covered_positions, metadata_means_its_grid, metadata_says_its_grid, metadata_says_its_sizes,
+    covered_positions, grid_of_its_configuration, metadata_describes_the_configuration,
 };
 use zarrs_chunk_grid::{
     ChunkGrid, ChunkGridTraits, ChunkShape, ChunkSizes, GridError, RectangularChunkGrid,
@@ -447,14 +447,45 @@ fn must_be_written(
     Ok(())
 }
 
+/// The copy has the shapes of the grid, and its metadata.
+fn must_be_copied(rt: &impl Abort, alloc: Global, grid: &ChunkGrid) -> Result<(), Fail> {
+    let copy = grid.try_clone(alloc)?;
+    must_have_shapes(rt, &copy, grid.array_shape(), grid.grid_shape());
+    must_be_written(rt, alloc, &copy, written(alloc, grid)?.as_str())?;
+    Ok(())
+}
+
+#[test]
+fn copies_of_grids(rt: HostRuntime) -> Result<(), Fail> {
+    let alloc = rt.alloc();
+    must_be_copied(&rt, alloc, &regular(alloc, &[5], &[2])?)?;
+    must_be_copied(&rt, alloc, &bounded(alloc, &[5], &[2])?)?;
+    must_be_copied(&rt, alloc, &two_and_three_by_four(alloc)?)?;
+    Ok(())
+}
+
+#[test]
+fn grids_made_anew_from_metadata_over_another_shape(rt: HostRuntime) -> Result<(), Fail> {
+    let alloc = rt.alloc();
+    let metadata = bounded(alloc, &[5], &[2])?.metadata(alloc)?;
+    let longer = ChunkGrid::from_metadata(alloc, &metadata, &[8])?;
+    must_have_shapes(&rt, &longer, &[8], &[4]);
+    must_be_chunk(&rt, alloc, &longer, &[2], &[4], &[2])?;
+    let listed = two_and_three_by_four(alloc)?.metadata(alloc)?;
+    let wider = ChunkGrid::from_metadata(alloc, &listed, &[5, 9])?;
+    must_have_shapes(&rt, &wider, &[5, 9], &[2, 3]);
+    let refused = ChunkGrid::from_metadata(alloc, &listed, &[6, 8]);
+    assert!(rt; matches!(&refused, Err(PluginCreateError::Other(_))));
+    Ok(())
+}
+
 #[test]
 fn regular_grids_read_from_metadata_and_written_again(rt: HostRuntime) -> Result<(), Fail> {
     let alloc = rt.alloc();
     let text = "{\"configuration\":{\"chunk_shape\":[4,3]},\"name\":\"regular\"}";
     let grid = read_grid(alloc, text, &[8, 8])?;
-    metadata_says_its_grid(&grid);
-    metadata_means_its_grid(&grid);
-    metadata_says_its_sizes(&grid);
+    metadata_describes_the_configuration(&grid);
+    grid_of_its_configuration(&grid);
     assert!(rt; matches!(&grid, ChunkGrid::Regular(_)));
     must_have_shapes(&rt, &grid, &[8, 8], &[2, 3]);
     must_be_written(&rt, alloc, &grid, text)?;

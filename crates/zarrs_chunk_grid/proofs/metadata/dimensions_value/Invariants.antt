@@ -1,7 +1,7 @@
 use Rattle.std.proofs.Common.{◌≡◌, take, map}
 use Rattle.serde_json.specs.View.{view}
-use Rattle.zarrs_chunk_grid.specs.GridData.{sizes_data}
-use Rattle.zarrs_chunk_grid.specs.GridView.{sizes_view}
+use Rattle.zarrs_chunk_grid.specs.Metadata.{sizes_data}
+use Rattle.zarrs_chunk_grid.specs.Configurations.{sizes_view}
 use Rattle.zarrs_chunk_grid.proofs.metadata.dimensions_value.Given as goal
 
 -- the values so far

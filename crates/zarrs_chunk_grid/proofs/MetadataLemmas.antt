@@ -1,0 +1,52 @@
+-- Chunk grids in metadata: what is written reads as what was written.
+use Rattle.std.proofs.Common.{◌≡◌, ℕ, ◌<◌, ◌^◌, List, map, Option, Some, option_map, option_and_then, sum, refl, ap, ◌∙◌, arith}
+use Rattle.std.specs.Int.NonZero.{non_zero_u64_get}
+use Rattle.std.specs.Option.{option_or}
+use Rattle.std.specs.declared.num.NonZeroU64.{NonZeroU64}
+use Rattle.std.proofs.lemmas.Bool.{ne_eqb, lt-ltb}
+use Rattle.std.proofs.lemmas.Simd.{map-map}
+use Rattle.serde_json.specs.Data.{Data}
+use Rattle.serde_json.specs.View.{items_of}
+use Rattle.zarrs_metadata.specs.Lists.{all_of, list_of, list_data, number_data}
+use Rattle.zarrs_metadata.proofs.ListLemmas.{all_of-items_of}
+use Rattle.zarrs_chunk_grid.specs.Axes.{sizes_of}
+use Rattle.zarrs_chunk_grid.specs.Configurations.{DimensionSizes, one, listed, regular, bounded, rectangular, sizes_view}
+use Rattle.zarrs_chunk_grid.specs.Metadata.{size_said, sizes_said, listed_within, sizes_data}
+use Rattle.zarrs_chunk_grid.specs.Metadata.{configuration_said, extension_of_grid}
+use Rattle.zarrs_chunk_grid.specs.GridView.{configuration_of}
+use Rattle.zarrs_chunk_grid.specs.declared.dimension.ChunkSizes.{ChunkSizes}
+use Rattle.zarrs_chunk_grid.specs.declared.dimension.ChunkSizes.TheVariants.{Size, Sizes}
+use Rattle.zarrs_chunk_grid.specs.declared.grid.ChunkGrid.{ChunkGrid}
+use Rattle.zarrs_chunk_grid.specs.declared.grid.ChunkGrid.TheVariants.{Regular, RegularBounded, Rectangular}
+
+size_back : (size : NonZeroU64) → size_said (number_data size.value) ≡ Some size.value
+size_back size = let some = size.ok in rw (ne_eqb size.value 0 (λ z. absurd (omega arith))) refl
+
+sizes_back : (sizes : List NonZeroU64) → list_of size_said (list_data number_data (sizes_of sizes)) ≡ Some (sizes_of sizes)
+sizes_back sizes =
+    ap (λ (ds : List Data). all_of size_said (items_of ds)) (map-map number_data non_zero_u64_get sizes)
+    ∙ all_of-items_of size_said (λ (size : NonZeroU64). number_data size.value) non_zero_u64_get size_back sizes
+
+or_first : (said : Option ℕ) (n : ℕ) (rest : Option DimensionSizes) → said ≡ Some n → option_or (option_map one said) rest ≡ Some (one n)
+or_first said n rest is = rw is refl
+
+within_is : (sizes : List ℕ) → sum sizes < 2 ^ 64 → listed_within sizes ≡ Some (listed sizes)
+within_is sizes fits = rw (lt-ltb _ _ fits) refl
+
+dimension_back : (sizes : ChunkSizes) → sizes_said (sizes_data (sizes_view sizes)) ≡ Some (sizes_view sizes)
+dimension_back (Size size) = or_first _ size.value _ (size_back size)
+dimension_back (Sizes list) =
+    ap (option_and_then listed_within) (sizes_back list.sizes.items)
+    ∙ within_is (sizes_of list.sizes.items) list.fits
+
+dimensions_back : (sizes : List ChunkSizes) → list_of sizes_said (list_data sizes_data (map sizes_view sizes)) ≡ Some (map sizes_view sizes)
+dimensions_back sizes =
+    ap (λ (ds : List Data). all_of sizes_said (items_of ds)) (map-map sizes_data sizes_view sizes)
+    ∙ all_of-items_of sizes_said (λ (s : ChunkSizes). sizes_data (sizes_view s)) sizes_view dimension_back sizes
+
+-- the configuration that a grid's own metadata says
+pub said_back : (g : ChunkGrid) → configuration_said (extension_of_grid (configuration_of g)) ≡ Some (configuration_of g)
+said_back (Regular g) = ap (λ (o : Option (List ℕ)). option_map regular o) (sizes_back g.chunk_shape.items)
+said_back (RegularBounded g) = ap (λ (o : Option (List ℕ)). option_map bounded o) (sizes_back g.chunk_shape.items)
+said_back (Rectangular g) =
+    ap (λ (o : Option (List DimensionSizes)). option_map rectangular o) (dimensions_back g.sizes.items)

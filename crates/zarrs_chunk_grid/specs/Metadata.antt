@@ -1,0 +1,96 @@
+-- What the metadata of a chunk grid says, and what is written for one.
+use Rattle.std.specs.Prelude.{◌==◌, ◌||◌, ◌^◌, nat_lt, ℕ, Bool, true, List, [], ◌∷◌, sum, codes, if◌then◌else◌}
+use Rattle.std.specs.Prelude.{Option, Some, None, option_map, option_and_then}
+use Rattle.std.specs.Option.{option_or}
+use Rattle.std.specs.Str.{bytes_eq}
+use Rattle.serde_json.specs.Data.{Data, Members, no_members, member}
+use Rattle.serde_json.specs.Find.{get_member}
+use Rattle.zarrs_metadata.specs.Members.{has_only}
+use Rattle.zarrs_metadata.specs.Lists.{list_of, list_data, number_of, number_data}
+use Rattle.zarrs_metadata.specs.Extension.{ExtensionData, settings, ◌>>=◌}
+use Rattle.zarrs_chunk_grid.specs.Configurations.{DimensionSizes, one, listed, takes_shape}
+use Rattle.zarrs_chunk_grid.specs.Configurations.{GridConfiguration, regular, bounded, rectangular}
+
+-- ---- what an extension point says
+
+-- a size is not 0
+abbrev pub nonzero : ℕ → Option ℕ
+nonzero n = if n == 0 then None else Some n
+
+-- the size that a JSON value says
+abbrev pub size_said : Data → Option ℕ
+size_said d = option_and_then nonzero (number_of d)
+
+-- sizes that end below 2 ^ 64, as every extent does
+abbrev pub listed_within : List ℕ → Option DimensionSizes
+listed_within sizes = if nat_lt (sum sizes) (2 ^ 64) then Some (listed sizes) else None
+
+-- a size, or a list of sizes
+abbrev pub sizes_said : Data → Option DimensionSizes
+sizes_said d =
+    option_or (option_map one (size_said d))
+    (option_and_then listed_within (list_of size_said d))
+
+-- the two names of the `regular_bounded` grid
+abbrev pub names_bounded : List ℕ → Bool
+names_bounded name =
+    bytes_eq name (codes "regular_bounded") || bytes_eq name (codes "zarrs.regular_bounded")
+
+-- the configuration of the grid of this name and this `chunk_shape`
+abbrev pub named_configuration : List ℕ → Data → Option GridConfiguration
+named_configuration name d =
+    if bytes_eq name (codes "regular")
+    then option_map regular (list_of size_said d)
+    else (if names_bounded name
+    then option_map bounded (list_of size_said d)
+    else (if bytes_eq name (codes "rectangular")
+    then option_map rectangular (list_of sizes_said d)
+    else None))
+
+-- the one member of a configuration, `chunk_shape`
+abbrev pub only_chunk_shape : Members → Option Data
+only_chunk_shape ms =
+    if has_only (codes "chunk_shape" ∷ []) ms then get_member (codes "chunk_shape") ms else None
+
+-- the configuration that an extension point says
+abbrev pub configuration_said : ExtensionData → Option GridConfiguration
+configuration_said e = only_chunk_shape (settings e) >>= named_configuration e.name
+
+-- the configuration, if there is such a grid over an array of that shape
+abbrev pub over_shape : List ℕ → GridConfiguration → Option GridConfiguration
+over_shape shape configuration =
+    if takes_shape configuration shape then Some configuration else None
+
+-- the configuration of the grid over an array of that shape that an extension point says
+abbrev pub grid_said : ExtensionData → List ℕ → Option GridConfiguration
+grid_said e shape = configuration_said e >>= over_shape shape
+
+-- ---- what is written for a grid
+
+abbrev pub sizes_data : DimensionSizes → Data
+sizes_data (one size) = number_data size
+sizes_data (listed sizes) = list_data number_data sizes
+
+abbrev pub grid_name : GridConfiguration → List ℕ
+grid_name (regular sizes) = codes "regular"
+grid_name (bounded sizes) = codes "regular_bounded"
+grid_name (rectangular sizes) = codes "rectangular"
+
+abbrev pub shape_data : GridConfiguration → Data
+shape_data (regular sizes) = list_data number_data sizes
+shape_data (bounded sizes) = list_data number_data sizes
+shape_data (rectangular sizes) = list_data sizes_data sizes
+
+-- an extension point of this name whose configuration is this `chunk_shape`
+abbrev pub extension_with : List ℕ → Data → ExtensionData
+extension_with name d =
+    record {
+      name = name;
+      configuration = Some (member (codes "chunk_shape") d no_members);
+      must_understand = true;
+    }
+
+-- the extension point that describes a configuration
+abbrev pub extension_of_grid : GridConfiguration → ExtensionData
+extension_of_grid configuration =
+    extension_with (grid_name configuration) (shape_data configuration)
