@@ -1,9 +1,10 @@
-pub mod ByteStrings
+pub use Rattle.zarrs_variable.proofs.ByteStrings
 pub mod Cells
 pub mod Filled
 pub mod Fills
 pub mod Fixed
 pub mod Made
+pub mod Parts
 pub mod Pieces
 pub mod Presence
 pub mod Validity

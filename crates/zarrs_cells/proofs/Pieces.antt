@@ -1,14 +1,18 @@
 -- Bytes cut into pieces of one size, and put together again.
-use Rattle.std.proofs.Common.{◌≡◌, ℕ, zero, suc, ◌+◌, ◌-◌, ◌*◌, ◌<◌, ◌≤◌, Bool, true, false, List, [], ◌∷◌, ◌++◌, length, map, take, drop, get_or, replicate, ◌&&◌, refl, sym, ap, ◌∙◌, arith, append_assoc, append-nil}
+use Rattle.std.proofs.Common.{◌≡◌, ℕ, zero, suc, ◌+◌, ◌-◌, ◌*◌, ◌/◌, ◌%◌, ◌<◌, ◌≤◌, ◌==◌, Bool, true, false, List, [], ◌∷◌, ◌++◌, length, map, take, drop, get_or, replicate, ◌&&◌, refl, sym, ap, ◌∙◌, arith, append_assoc, append-nil}
 use Rattle.std.specs.Prelude.{slice_range}
 use Rattle.std.specs.List.{range_with_len, flat_map, list_all, repeat}
 use Rattle.std.proofs.lemmas.Grind.{flat_map-append}
+use Rattle.std.proofs.lemmas.Bool.{eqb-true, and_parts}
 use Rattle.std.proofs.lemmas.List.{length-append, length-drop, length-take-le, take_at, take_all, take_more}
 use Rattle.std.proofs.lemmas.List.Folds.{list_all-append}
 use Rattle.std.proofs.lemmas.List.FromFn.{length-map-range_with_len, get_or-map-range_with_len, map-range_with_len_more, fill_by_all}
-use Rattle.std.proofs.Math.Nat.{suc-mul, mul-le-mul_right}
+use Rattle.std.proofs.lemmas.Nat.{div-add-mod'}
+use Rattle.std.proofs.Math.Nat.{suc-mul, mul-le-mul_right, mul-div-mul_right, mod-lt, mul_assoc, add-mul}
 use Rattle.std.proofs.Math.Seq.{take-add, drop-append-add}
+use borrow.Author.Count.{below_more}
 use Rattle.zarrs_subset.specs.Pieces.{pieces}
+use Rattle.zarrs_variable.proofs.ByteStrings.{slice_range-front, slice_range-seam}
 
 -- a slice of what stands behind
 slice_range-past : (xs ys : List ℕ) (a b : ℕ) → slice_range (xs ++ ys) (length xs + a) (length xs + b) ≡ slice_range ys a b
@@ -132,15 +136,71 @@ repeat_twice p half both len m n is twice whole sum =
     ∙ sym (repeat_add p m m)
     ∙ ap (λ k. repeat k p) (sym sum)
 
--- one byte, repeated
-pub repeat_one : (x n : ℕ) → repeat n (x ∷ []) ≡ replicate n x
-repeat_one x zero = refl
-repeat_one x (suc n) = ap (λ l. x ∷ l) (repeat_one x n)
+-- no bytes, again and again
+repeat_empty : (n : ℕ) → repeat {A = ℕ} n [] ≡ []
+repeat_empty zero = refl
+repeat_empty (suc n) = repeat_empty n
 
-pub repeat_single : (p : List ℕ) (n : ℕ) → 1 ≤ length p → length p < 2 → replicate n (get_or p 0 0) ≡ repeat n p
-repeat_single [] n some one = absurd (omega arith)
-repeat_single (x ∷ []) n some one = sym (repeat_one x n)
-repeat_single (x ∷ y ∷ p) n some one = absurd (omega arith)
+pub repeat_none : (p : List ℕ) (n : ℕ) (made : List ℕ) → length p ≡ 0 → made ≡ [] → made ≡ repeat n p
+repeat_none [] n made none is = is ∙ sym (repeat_empty n)
+repeat_none (x ∷ p) n made none is = absurd (omega arith)
+
+replicate_add : (x m n : ℕ) → replicate (m + n) x ≡ replicate m x ++ replicate n x
+replicate_add x zero n = let e : zero + n ≡ n = omega arith in ap (λ k. replicate k x) e
+replicate_add x (suc m) n =
+    let e : suc m + n ≡ suc (m + n) = omega arith in
+    ap (λ k. replicate k x) e ∙ ap (λ l. x ∷ l) (replicate_add x m n)
+
+-- bytes that are all the same
+all_same : (x : ℕ) (p : List ℕ) → list_all (λ b. b == x) p ≡ true → p ≡ replicate (length p) x
+all_same x [] is = refl
+all_same x (y ∷ p) is =
+    let both = and_parts (y == x) (list_all (λ b. b == x) p) is in
+    ap (λ z. z ∷ p) (eqb-true y x both.0) ∙ ap (λ l. x ∷ l) (all_same x p both.1)
+
+-- and again and again
+pub repeat_same : (x : ℕ) (p : List ℕ) (n : ℕ) → list_all (λ b. b == x) p ≡ true → replicate (n * length p) x ≡ repeat n p
+repeat_same x p zero is = let e : zero * length p ≡ 0 = omega arith in ap (λ k. replicate k x) e
+repeat_same x p (suc n) is =
+    let e : suc n * length p ≡ length p + n * length p = omega (arith, suc-mul n (length p)) in
+    ap (λ k. replicate k x) e
+    ∙ replicate_add x (length p) (n * length p)
+    ∙ ap (λ l. l ++ replicate (n * length p) x) (sym (all_same x p is))
+    ∙ ap (λ l. p ++ l) (repeat_same x p n is)
+
+repeat_repeat : (p : List ℕ) (m n : ℕ) → repeat n (repeat m p) ≡ repeat (n * m) p
+repeat_repeat p m zero = let e : 0 ≡ zero * m = omega arith in ap (λ k. repeat k p) e
+repeat_repeat p m (suc n) =
+    let e : m + n * m ≡ suc n * m = omega (arith, suc-mul n m) in
+    ap (λ l. repeat m p ++ l) (repeat_repeat p m n) ∙ sym (repeat_add p m (n * m)) ∙ ap (λ k. repeat k p) e
+
+-- the front of what is repeated
+take_repeated : (p : List ℕ) (m n : ℕ) → n ≤ m → take (n * length p) (repeat m p) ≡ repeat n p
+take_repeated p m n le =
+    let sum : m ≡ n + (m - n) = omega arith in
+    ap (λ k. take (n * length p) (repeat k p)) sum
+    ∙ ap (take (n * length p)) (repeat_add p n (m - n))
+    ∙ take_at (repeat n p) (repeat (m - n) p) (n * length p) (length-repeat p n)
+
+-- blocks of m pieces, the last one cut, are the pieces
+pub repeat_blocks : (p block : List ℕ) (m n len : ℕ) → 0 < m → 0 < length p → block ≡ repeat m p → len ≡ n * length p
+    → repeat (len / length block) block ++ take (len % length block) block ≡ repeat n p
+repeat_blocks p block m n len some wide is bytes =
+    let w = length p in
+    let width : length block ≡ m * w = ap length is ∙ length-repeat p m in
+    let whole : len / length block ≡ n / m =
+    ap (λ k. k / length block) bytes ∙ ap (λ k. n * w / k) width ∙ mul-div-mul_right n m wide in
+    let split : n / m * m + n % m ≡ n = div-add-mod' n m in
+    let rest : len % length block ≡ n % m * w =
+    omega (arith, div-add-mod' len (length block), ap (λ k. k * length block) whole, ap (λ k. n / m * k) width, mul_assoc (n / m) m w, add-mul (n / m * m) (n % m) w, ap (λ k. k * w) split) in
+    let below = mod-lt n some in
+    ap (λ k. repeat k block ++ take (len % length block) block) whole
+    ∙ ap (λ k. repeat (n / m) block ++ take k block) rest
+    ∙ ap (λ l. repeat (n / m) l ++ take (n % m * w) l) is
+    ∙ ap (λ l. l ++ take (n % m * w) (repeat m p)) (repeat_repeat p m (n / m))
+    ∙ ap (λ l. repeat (n / m * m) p ++ l) (take_repeated p m (n % m) (omega arith))
+    ∙ sym (repeat_add p (n / m * m) (n % m))
+    ∙ ap (λ k. repeat k p) split
 
 and_true : (x : Bool) → (x && true) ≡ x
 and_true true = refl
@@ -152,3 +212,20 @@ all-take_more test xs i lt =
     ap (list_all test) (take_more xs i 0 lt)
     ∙ list_all-append test (take i xs) (get_or xs i 0 ∷ [])
     ∙ ap (λ x. list_all test (take i xs) && x) (and_true (test (get_or xs i 0)))
+
+-- ---- cells of one size, put one behind another
+
+-- one more cell of one size
+pub fixed_push : (out piece : List ℕ) (size i : ℕ) (f : ℕ → List ℕ) → length out ≡ i * size → length piece ≡ size → ((k : ℕ) → k < i → slice_range out (k * size) (k * size + size) ≡ f k) → piece ≡ f i → (k : ℕ) → k < i + 1 → slice_range (out ++ piece) (k * size) (k * size + size) ≡ f k
+fixed_push out piece size i f len one below here =
+    below_more (λ k. slice_range (out ++ piece) (k * size) (k * size + size) ≡ f k) i
+    (λ k lt.
+    let within = mul-le-mul_right {m = k + 1} {n = i} size (omega arith) in
+    slice_range-front out piece (k * size) (k * size + size) (omega arith) (omega arith) ∙ below k lt)
+    (slice_range-seam out piece (i * size) (i * size + size) (sym len) (omega arith) ∙ here)
+
+-- a cell of one size has that size
+pub length-fixed_cell : (bytes : List ℕ) (size n p : ℕ) → length bytes ≡ n * size → p < n → length (slice_range bytes (p * size) (p * size + size)) ≡ size
+length-fixed_cell bytes size n p len lt =
+    let within = mul-le-mul_right {m = p + 1} {n = n} size (omega arith) in
+    length-take-le (p * size + size - p * size) (drop (p * size) bytes) (omega (arith, length-drop (p * size) bytes)) ∙ omega arith

@@ -1,20 +1,22 @@
 //! The bytes that stand for a list of cells.
 ghost use Rattle.std.specs.Prelude.{◌≡◌, ◌↔◌, ◌<◌, All, IfOk, IsOk, is_ok, length};
 ghost use Rattle.std.specs.Cow.{cow_slice_items};
-ghost use Rattle.zarrs_cells.specs.ArrayData.{data_of, optional_data, mask_of, inner_data, fixed, variable, optional, is_fixed_data, is_variable_data, is_optional_data};
-ghost use Rattle.zarrs_cells.specs.Offsets.{byte_strings, last_offset};
+ghost use Rattle.zarrs_cells.specs.ArrayData.{data_of, optional_data, mask_of, inner_data, fixed, variable};
+ghost use Rattle.zarrs_cells.specs.ArrayData.{optional, is_fixed_data, is_variable_data, is_optional_data};
+ghost use Rattle.zarrs_variable.specs.Offsets.{byte_strings, last_offset};
 
-use crate::error::{
-    ExpectedFixedLengthBytesError, ExpectedOptionalBytesError, ExpectedVariableLengthBytesError,
-};
+use crate::error::{ExpectedFixedLengthBytesError, ExpectedOptionalBytesError};
 use crate::mask::{Mask, are_flags};
-use crate::offsets::ArrayBytesOffsets;
-use crate::variable::ArrayBytesVariableLength;
 use std::alloc::{AllocError, Global};
 use std::borrow::CowSlice;
+use zarrs_variable::{
+    ArrayBytesOffsets, ArrayBytesVariableLength, ExpectedVariableLengthBytesError,
+};
 
+mod extract;
 mod fill;
 mod fixed;
+mod part;
 mod present;
 mod select;
 mod validate;

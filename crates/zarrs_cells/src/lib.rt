@@ -2,15 +2,14 @@
 #![tactic(auto)]
 
 mod array_bytes;
+mod boxes;
 mod error;
 mod mask;
-mod offsets;
-mod variable;
 
 pub use array_bytes::{ArrayBytes, ArrayBytesOptional};
-pub use error::{
-    ExpectedFixedLengthBytesError, ExpectedOptionalBytesError, ExpectedVariableLengthBytesError,
-};
-pub use offsets::ArrayBytesOffsets;
-pub use variable::{ArrayBytesVariableLength, VariableLengthBuilder};
+pub use error::{ExpectedFixedLengthBytesError, ExpectedOptionalBytesError};
 pub use zarrs_types::{DataType, FillValue};
+pub use zarrs_variable::{
+    ArrayBytesOffsets, ArrayBytesVariableLength, ExpectedVariableLengthBytesError,
+    VariableLengthBuilder, lies_in_box,
+};

@@ -7,3 +7,5 @@ pub use Rattle.zarrs_cells.proofs.Validity
 pub use Rattle.zarrs_types.proofs.Same
 pub use Rattle.zarrs_types.proofs.Sizes
 pub mod ElementCells
+pub mod StringCells
+pub mod FlagCells

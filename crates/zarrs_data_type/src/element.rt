@@ -14,7 +14,9 @@ use std::alloc::Global;
 use zarrs_cells::ArrayBytes;
 use zarrs_types::DataType;
 
+mod flags;
 mod numbers;
+mod strings;
 
 use numbers::{number_data, number_list};
 

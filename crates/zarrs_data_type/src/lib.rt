@@ -1,20 +1,25 @@
 //! Data types, their values, and the cells of arrays in memory.
 #![tactic(auto)]
 
+mod array_lists;
 mod element;
 mod error;
 mod into_field;
 
+pub use array_lists::{FromArrayBytes, IntoArrayBytes};
 pub use element::{Element, ElementOwned};
 pub use error::{ArrayBytesFixedDisjointViewCreateError, ElementError};
 pub use into_field::IntoField;
 pub use zarrs_cells::{
     ArrayBytes, ArrayBytesOffsets, ArrayBytesOptional, ArrayBytesVariableLength,
     ExpectedFixedLengthBytesError, ExpectedOptionalBytesError, ExpectedVariableLengthBytesError,
-    VariableLengthBuilder,
+    VariableLengthBuilder, lies_in_box,
 };
 pub use zarrs_numbers::{
     WholeNumber, convert_from_bytes_slice, convert_to_bytes_vec, transmute_from_bytes_vec,
     transmute_to_bytes, transmute_to_bytes_vec,
 };
-pub use zarrs_types::{DataType, FillValue, data_type, inner_fill};
+pub use zarrs_types::{
+    DataType, DataTypeFillValueError, DataTypeFillValueMetadataError, FillValue, data_type,
+    inner_fill,
+};

@@ -1,5 +1,6 @@
 //! Cells that are all the same.
-ghost use Rattle.std.specs.Prelude.{◌≡◌, ◌↔◌, ◌==◌, ℕ, ◌*◌, ◌/◌, ◌<◌, ◌^◌, [], true, Some, IfOk, IfSome, IsSome, IsTrue, length, replicate};
+ghost use Rattle.std.specs.Prelude.{◌≡◌, ◌↔◌, ◌==◌, ℕ, ◌*◌, ◌/◌, ◌%◌, ◌<◌, ◌^◌, ◌++◌, [], true};
+ghost use Rattle.std.specs.Prelude.{Some, IfOk, IfSome, IsSome, IsTrue, length, replicate, take};
 ghost use Rattle.std.specs.List.{list_all, repeat};
 ghost use Rattle.std.specs.Str.{bytes_eq};
 ghost use Rattle.zarrs_cells.specs.ArrayData.{data_of, optional};
@@ -9,20 +10,26 @@ ghost use Rattle.zarrs_types.specs.Kind.{kind, cell_size};
 ghost use Rattle.zarrs_subset.specs.Pieces.{pieces};
 
 use super::ArrayBytes;
-use crate::variable::{ArrayBytesVariableLength, VariableLengthBuilder};
 use std::alloc::{AllocError, Global};
 use std::borrow::CowSlice;
 use zarrs_types::{DataType, FillValue, inner_fill};
+use zarrs_variable::{ArrayBytesVariableLength, VariableLengthBuilder};
+
+/// A block of fill is this long at most, so that it stays in the nearest cache while it is copied.
+const BLOCK_LEN: usize = 16384;
 
 /// The piece, so many times.
 pub(super) fn repeated(alloc: Global, piece: &[u8], count: usize) -> Result<Vec<u8>, AllocError>
     requires { count * length piece.now < 2 ^ 64 }
     ensures { IfOk result (λ bytes. bytes.items ≡ repeat count piece.now) }
 {
-    match piece {
-        [byte] => repeated_byte(alloc, *byte, count),
-        _ => repeated_piece(alloc, piece, count),
+    if piece.is_empty() {
+        return Ok(Vec::new(alloc));
     }
+    if are_all(piece, piece[0]) {
+        return repeated_byte(alloc, piece[0], count * piece.len());
+    }
+    repeated_piece(alloc, piece, count)
 }
 
 fn repeated_byte(alloc: Global, byte: u8, count: usize) -> Result<Vec<u8>, AllocError>
@@ -31,12 +38,40 @@ fn repeated_byte(alloc: Global, byte: u8, count: usize) -> Result<Vec<u8>, Alloc
     vec![in alloc; byte; count]
 }
 
+/// The piece, so many times: a block of pieces, and its copies.
 fn repeated_piece(alloc: Global, piece: &[u8], count: usize) -> Result<Vec<u8>, AllocError>
+    requires some { 0 < length piece.now }
+    requires size { count * length piece.now < 2 ^ 64 }
+    ensures { IfOk result (λ bytes. bytes.items ≡ repeat count piece.now) }
+{
+    let block_count = (BLOCK_LEN / piece.len()).max(1).min(count);
+    let block = block_of(alloc, piece, block_count)?;
+    if block_count == count {
+        return Ok(block);
+    }
+    block_copies(alloc, block.as_slice(), count * piece.len())
+}
+
+fn block_of(alloc: Global, piece: &[u8], count: usize) -> Result<Vec<u8>, AllocError>
     requires { count * length piece.now < 2 ^ 64 }
     ensures { IfOk result (λ bytes. bytes.items ≡ repeat count piece.now) }
 {
     let bytes = Vec::with_capacity(alloc, count * piece.len())?;
     put_repeated(bytes, piece, count)
+}
+
+/// So many bytes: the block again and again, the last one cut.
+fn block_copies(alloc: Global, block: &[u8], len: usize) -> Result<Vec<u8>, AllocError>
+    requires { 0 < length block.now }
+    ensures { IfOk result (λ bytes. bytes.items ≡ repeat (len / length block.now) block.now
+        ++ take (len % length block.now) block.now) }
+{
+    let mut bytes = Vec::with_capacity(alloc, len)?;
+    for _done in 0..len / block.len() {
+        bytes.extend_from_slice(block)?;
+    }
+    bytes.extend_from_slice(&block[..len % block.len()])?;
+    Ok(bytes)
 }
 
 /// Puts the piece, so many times, into the empty vector. Each half is a copy of the one before. (The vector is moved, not

@@ -1,15 +1,16 @@
 //! The cells at given places.
-ghost use Rattle.std.specs.Prelude.{◌≡◌, ◌<◌, ◌+◌, ◌*◌, ℕ, [], All, EachIndex, IfOk, map, length, slice_index, slice_index_or, slice_range};
+ghost use Rattle.std.specs.Prelude.{◌≡◌, ◌<◌, ◌+◌, ◌*◌, ℕ, [], All, EachIndex, IfOk, map, length};
+ghost use Rattle.std.specs.Prelude.{slice_index, slice_index_or, slice_range};
 ghost use Rattle.zarrs_cells.specs.ArrayData.{data_of};
 ghost use Rattle.zarrs_cells.specs.Cells.{CanSelect, IsSelection};
 ghost use Rattle.zarrs_types.specs.Kind.{kind};
 
 use super::ArrayBytes;
 use super::validate::fixed_cell;
-use crate::variable::{ArrayBytesVariableLength, VariableLengthBuilder};
 use std::alloc::{AllocError, Global};
 use std::borrow::CowSlice;
 use zarrs_types::DataType;
+use zarrs_variable::{ArrayBytesVariableLength, VariableLengthBuilder};
 
 /// The cells of one size at these places, one after another.
 fn select_fixed(

@@ -1,6 +1,6 @@
 use Rattle.std.proofs.Common.{◌+◌, ◌*◌, length-append, arith, refl}
 use Rattle.std.specs.Prelude.{slice_index, slice_range}
-use Rattle.zarrs_cells.proofs.ByteStrings.{fixed_push, length-fixed_cell}
+use Rattle.zarrs_cells.proofs.Pieces.{fixed_push, length-fixed_cell}
 use Rattle.zarrs_cells.proofs.array_bytes.select.select_fixed.Goals as goal
 
 pub loop-place-preserved : goal.loop-place-preserved

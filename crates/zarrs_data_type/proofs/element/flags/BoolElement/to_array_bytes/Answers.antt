@@ -1,0 +1,13 @@
+use Rattle.std.proofs.Common.{sym, ap, ◌∙◌}
+use Rattle.zarrs_types.specs.Kind.{kind}
+use Rattle.zarrs_types.specs.Kind as type
+use Rattle.zarrs_cells.specs.Cells.{cells}
+use Rattle.zarrs_data_type.proofs.FlagCells.{flags-made}
+use Rattle.zarrs_data_type.proofs.StringCells.{kind_is}
+use Rattle.zarrs_data_type.proofs.element.flags.BoolElement.to_array_bytes.Goals as goal
+
+pub returns-clause-cells : goal.returns-clause-cells
+returns-clause-cells c =
+    let k = kind c.args.data_type.now in
+    ap (cells k) c.new_flen.ensures
+    ∙ flags-made k c.args.elements.now c.in_ok-bytes.bytes.items (kind_is k type.bool (sym c.serves.ensures ∙ c.if-not-serves.false)) c.in_ok-bytes.ensures
