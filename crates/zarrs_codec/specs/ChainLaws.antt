@@ -1,8 +1,11 @@
 -- The law of every chain of the code, from those of its codecs.
 use Rattle.std.proofs.Common.{refl, sym, ap, ◌∙◌}
 use Rattle.zarrs_codec_array.specs.ArrayCodecs.{arrays_meaning, arrays-lawful}
+use Rattle.zarrs_codec_leaf.specs.Bytes.{endian_of}
 use Rattle.zarrs_codec_leaf.specs.BytesLaws.{bytes-lawful}
 use Rattle.zarrs_codec_leaf.specs.Leaf.{LeafMeaning, IsLawfulLeaf}
+use Rattle.zarrs_codec_leaf.specs.PackBitsLaws.{packbits-lawful}
+use Rattle.zarrs_codec_leaf.specs.VlenStringsLaws.{vlen_utf8-lawful, vlen_bytes-lawful}
 use Rattle.zarrs_codec.specs.declared.chain.ArrayToBytesCodec.{ArrayToBytesCodec}
 use Rattle.zarrs_codec.specs.declared.chain.ArrayToBytesCodec.TheVariants as codec
 use Rattle.zarrs_codec.specs.declared.chain.CodecChain.{CodecChain}
@@ -11,7 +14,10 @@ use Rattle.zarrs_codec.specs.Chains.{array_to_array_of, array_to_bytes_of, leaf_
 use Rattle.zarrs_codec.specs.Through.{through-lawful}
 
 pub leaf-lawful : (c : ArrayToBytesCodec) → IsLawfulLeaf (leaf_meaning c)
-leaf-lawful (codec.Bytes bytes) = bytes-lawful
+leaf-lawful (codec.Bytes bytes) = bytes-lawful (endian_of bytes)
+leaf-lawful (codec.PackBits packbits) = packbits-lawful
+leaf-lawful (codec.VlenUtf8 texts) = vlen_utf8-lawful
+leaf-lawful (codec.VlenBytes strings) = vlen_bytes-lawful
 
 whole_chunk-lawful : (leaf : LeafMeaning) → IsLawfulLeaf leaf → IsLawfulChain (whole_chunk leaf)
 whole_chunk-lawful leaf law = record {

@@ -2,8 +2,10 @@
 use Rattle.std.specs.Prelude.{Some, None, List}
 use Rattle.zarrs_codec_array.specs.ArrayCodecs.{arrays_meaning}
 use Rattle.zarrs_codec_array.specs.declared.array.ArrayToArrayCodec.{ArrayToArrayCodec}
-use Rattle.zarrs_codec_leaf.specs.Bytes.{bytes_meaning}
+use Rattle.zarrs_codec_leaf.specs.Bytes.{bytes_meaning_of, endian_of}
 use Rattle.zarrs_codec_leaf.specs.Leaf.{LeafMeaning}
+use Rattle.zarrs_codec_leaf.specs.PackBits.{packbits_meaning}
+use Rattle.zarrs_codec_leaf.specs.VlenStrings.{vlen_utf8_meaning, vlen_bytes_meaning}
 use Rattle.zarrs_subset.specs.Boxes.{position_count}
 use Rattle.zarrs_codec.specs.declared.chain.ArrayToBytesCodec.{ArrayToBytesCodec}
 use Rattle.zarrs_codec.specs.declared.chain.ArrayToBytesCodec.TheVariants as codec
@@ -24,7 +26,10 @@ bytes_to_bytes_of chain = chain.bytes_to_bytes
 
 -- a codec of plain cells
 abbrev pub leaf_meaning : ArrayToBytesCodec → LeafMeaning
-leaf_meaning (codec.Bytes bytes) = bytes_meaning
+leaf_meaning (codec.Bytes bytes) = bytes_meaning_of (endian_of bytes)
+leaf_meaning (codec.PackBits packbits) = packbits_meaning
+leaf_meaning (codec.VlenUtf8 texts) = vlen_utf8_meaning
+leaf_meaning (codec.VlenBytes strings) = vlen_bytes_meaning
 
 -- a codec of plain cells as a chain: the cells are those of the whole chunk, and its bytes are compact
 abbrev pub whole_chunk : LeafMeaning → ChainMeaning

@@ -16,7 +16,7 @@ use crate::options::CodecOptions;
 use crate::traits::ChainTraits;
 use std::alloc::{AllocError, Global};
 use zarrs_codec_array::{ArrayToArrayCodec, decode_array, encode_array, encoded_shape};
-use zarrs_codec_leaf::{BytesCodec, CodecError};
+use zarrs_codec_leaf::{BytesCodec, CodecError, PackBitsCodec, VlenBytesCodec, VlenUtf8Codec};
 use zarrs_data_type::{ArrayBytes, DataType, FillValue};
 use zarrs_subset::element_count;
 
@@ -25,6 +25,12 @@ use zarrs_subset::element_count;
 pub enum ArrayToBytesCodec {
     /// Elements one after another.
     Bytes(BytesCodec),
+    /// Bools, eight to a byte.
+    PackBits(PackBitsCodec),
+    /// Texts, each behind its length.
+    VlenUtf8(VlenUtf8Codec),
+    /// Byte strings, each behind its length.
+    VlenBytes(VlenBytesCodec),
 }
 
 /// The codecs that make bytes of bytes: there is none.
@@ -46,6 +52,9 @@ impl ArrayToBytesCodec {
     {
         match self {
             ArrayToBytesCodec::Bytes(codec) => codec.takes(data_type),
+            ArrayToBytesCodec::PackBits(codec) => codec.takes(data_type),
+            ArrayToBytesCodec::VlenUtf8(codec) => codec.takes(data_type),
+            ArrayToBytesCodec::VlenBytes(codec) => codec.takes(data_type),
         }
     }
 
@@ -58,14 +67,37 @@ impl ArrayToBytesCodec {
         data_type: &DataType,
     ) -> Result<Vec<u8>, CodecError>
         requires { IsSome (cells (kind data_type.now) (data_or made.now (data_of bytes.now))) }
-        ensures encoded { IfOk result (λ encoded. encoding_of (leaf_meaning self.now) (kind data_type.now)
+        ensures encoded { IfOk result (λ encoded.
+            encoding_of (leaf_meaning self.now) (kind data_type.now)
             (data_or made.now (data_of bytes.now)) ≡ Some encoded.items) }
         ensures refused { IfErr result (RefusesEncoding (leaf_meaning self.now) (kind data_type.now)
             (data_or made.now (data_of bytes.now))) }
     {
-        match (self, made) {
-            (ArrayToBytesCodec::Bytes(codec), Some(made)) => codec.encode(alloc, made, data_type),
-            (ArrayToBytesCodec::Bytes(codec), None) => codec.encode(alloc, bytes, data_type),
+        match made {
+            Some(made) => self.encode_data(alloc, made, data_type),
+            None => self.encode_data(alloc, bytes, data_type),
+        }
+    }
+
+    /// The bytes of the cells.
+    fn encode_data(
+        &self,
+        alloc: Global,
+        bytes: &ArrayBytes<'_>,
+        data_type: &DataType,
+    ) -> Result<Vec<u8>, CodecError>
+        requires { IsSome (cells (kind data_type.now) (data_of bytes.now)) }
+        ensures encoded { IfOk result (λ encoded.
+            encoding_of (leaf_meaning self.now) (kind data_type.now)
+            (data_of bytes.now) ≡ Some encoded.items) }
+        ensures refused { IfErr result (RefusesEncoding (leaf_meaning self.now) (kind data_type.now)
+            (data_of bytes.now)) }
+    {
+        match self {
+            ArrayToBytesCodec::Bytes(codec) => codec.encode(alloc, bytes, data_type),
+            ArrayToBytesCodec::PackBits(codec) => codec.encode(alloc, bytes, data_type),
+            ArrayToBytesCodec::VlenUtf8(codec) => codec.encode(alloc, bytes, data_type),
+            ArrayToBytesCodec::VlenBytes(codec) => codec.encode(alloc, bytes, data_type),
         }
     }
 
@@ -80,10 +112,14 @@ impl ArrayToBytesCodec {
         ensures cells { IfOk result (λ made. cells (kind data_type.now) (data_of made)
             ≡ (leaf_meaning self.now).decoded (kind data_type.now) count encoded.now) }
         ensures some { IfOk result (λ made. IsSome (cells (kind data_type.now) (data_of made))) }
-        ensures refused { IfErr result (RefusesDecoding (leaf_meaning self.now) (kind data_type.now) count encoded.now) }
+        ensures refused { IfErr result (RefusesDecoding (leaf_meaning self.now)
+            (kind data_type.now) count encoded.now) }
     {
         match self {
             ArrayToBytesCodec::Bytes(codec) => codec.decode(alloc, encoded, data_type, count),
+            ArrayToBytesCodec::PackBits(codec) => codec.decode(alloc, encoded, data_type, count),
+            ArrayToBytesCodec::VlenUtf8(codec) => codec.decode(alloc, encoded, data_type, count),
+            ArrayToBytesCodec::VlenBytes(codec) => codec.decode(alloc, encoded, data_type, count),
         }
     }
 }

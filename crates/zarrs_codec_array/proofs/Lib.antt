@@ -2,6 +2,8 @@ pub mod Chained
 pub mod Depth
 pub mod Gathering
 pub mod Marks
+pub mod MetadataLaws
+pub mod Reshaping
 pub mod Squeezed
 pub mod Taken
 pub mod Transposing

@@ -2,13 +2,15 @@
 use Rattle.std.specs.Prelude.{List, [], ◌∷◌}
 use Rattle.zarrs_codec_array.specs.declared.array.ArrayToArrayCodec.{ArrayToArrayCodec}
 use Rattle.zarrs_codec_array.specs.declared.array.ArrayToArrayCodec.TheVariants as codec
-use Rattle.zarrs_codec_array.specs.Arrays.{ArrayMeaning, IsLawfulArray, same_array, and_then, transposed, squeezed}
-use Rattle.zarrs_codec_array.specs.ArrayLaws.{same_array-lawful, and_then-lawful, transposed-lawful, squeezed-lawful}
+use Rattle.zarrs_codec_array.specs.Arrays.{ArrayMeaning, IsLawfulArray, same_array, and_then, transposed, reshaped, squeezed}
+use Rattle.zarrs_codec_array.specs.ArrayLaws.{same_array-lawful, and_then-lawful, transposed-lawful, reshaped-lawful, squeezed-lawful}
+use Rattle.zarrs_codec_array.specs.Reshape.{entries_of}
 use Rattle.zarrs_codec_array.specs.Transpose.{order_of}
 
 -- what a codec means
 abbrev pub array_meaning : ArrayToArrayCodec → ArrayMeaning
 array_meaning (codec.Transpose t) = transposed (order_of t)
+array_meaning (codec.Reshape r) = reshaped (entries_of r)
 array_meaning (codec.Squeeze s) = squeezed
 
 -- what codecs mean one after another, the first one first
@@ -18,6 +20,7 @@ arrays_meaning (c ∷ cs) = and_then (array_meaning c) (arrays_meaning cs)
 
 pub array-lawful : (c : ArrayToArrayCodec) → IsLawfulArray (array_meaning c)
 array-lawful (codec.Transpose t) = transposed-lawful t.order.items t.in_order
+array-lawful (codec.Reshape r) = reshaped-lawful (entries_of r)
 array-lawful (codec.Squeeze s) = squeezed-lawful
 
 pub arrays-lawful : (cs : List ArrayToArrayCodec) → IsLawfulArray (arrays_meaning cs)

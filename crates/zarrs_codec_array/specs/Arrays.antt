@@ -67,23 +67,21 @@ pub data Extent : Type 0 where
   product_of : List ℕ → Extent
   rest : Extent
 
--- the extent that an entry names by itself: that of dimensions is the product of theirs
-abbrev pub named_extent : List ℕ → Extent → ℕ
-named_extent s (size n) = n
-named_extent s (product_of dimensions) = position_count (map (λ j. slice_index s j) dimensions)
-named_extent s rest = 1
+-- the extent that an entry names: that of dimensions is the product of theirs, and `left` is what is left
+abbrev pub named_extent : List ℕ → ℕ → Extent → ℕ
+named_extent s left (size n) = n
+named_extent s left (product_of dimensions) = position_count (map (λ j. slice_index s j) dimensions)
+named_extent s left rest = left
 
--- what is left for the entry `rest`
+abbrev pub named_shape : List ℕ → ℕ → List Extent → List ℕ
+named_shape s left entries = map (named_extent s left) entries
+
+-- what the other entries leave of the number of cells
 abbrev pub extent_left : List ℕ → List Extent → ℕ
-extent_left s entries = position_count s / position_count (map (named_extent s) entries)
-
-abbrev pub extent_of : List ℕ → List Extent → Extent → ℕ
-extent_of s entries (size n) = n
-extent_of s entries (product_of dimensions) = named_extent s (product_of dimensions)
-extent_of s entries rest = extent_left s entries
+extent_left s entries = position_count s / position_count (named_shape s 1 entries)
 
 abbrev pub reshape_shape : List Extent → List ℕ → List ℕ
-reshape_shape entries s = map (extent_of s entries) entries
+reshape_shape entries s = named_shape s (extent_left s entries) entries
 
 -- whether the entry names dimensions of the shape alone
 abbrev pub names_within : List ℕ → Extent → Bool

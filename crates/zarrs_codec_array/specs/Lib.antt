@@ -1,7 +1,10 @@
 pub mod ArrayCodecs
 pub mod ArrayLaws
 pub mod Arrays
+pub mod Extents
 pub mod Gathered
+pub mod Metadata
 pub mod OrderLaws
 pub mod Orders
+pub mod Reshape
 pub mod Transpose

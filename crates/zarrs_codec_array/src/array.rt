@@ -5,8 +5,10 @@ ghost use Rattle.zarrs_data_type.specs.ArrayData.{ArrayData, data_of};
 ghost use Rattle.zarrs_data_type.specs.Cells.{cells, HasCells};
 ghost use Rattle.zarrs_data_type.specs.Kind.{kind};
 ghost use Rattle.zarrs_codec_array.specs.ArrayCodecs.{array_meaning, arrays_meaning};
+ghost use Rattle.zarrs_codec_array.specs.Metadata.{array_codec_data};
 ghost use Rattle.zarrs_codec_array.specs.Gathered.{IsEncodedArray, IsDecodedArray, data_or, encoded_shape};
 
+use crate::reshape::ReshapeCodec;
 use crate::squeeze::SqueezeCodec;
 use crate::transpose::TransposeCodec;
 use std::alloc::{AllocError, Global};
@@ -17,11 +19,28 @@ use zarrs_data_type::{ArrayBytes, DataType};
 pub enum ArrayToArrayCodec {
     /// The dimensions in another order.
     Transpose(TransposeCodec),
+    /// Another shape with as many cells.
+    Reshape(ReshapeCodec),
     /// No dimension of extent 1.
     Squeeze(SqueezeCodec),
 }
 
 impl ArrayToArrayCodec {
+    /// The same codec.
+    pub fn try_clone(&self, alloc: Global) -> Result<ArrayToArrayCodec, AllocError>
+        ensures { IfOk result (λ copy. array_codec_data copy ≡ array_codec_data self.now) }
+    {
+        match self {
+            ArrayToArrayCodec::Transpose(codec) => {
+                Ok(ArrayToArrayCodec::Transpose(codec.try_clone(alloc)?))
+            }
+            ArrayToArrayCodec::Reshape(codec) => {
+                Ok(ArrayToArrayCodec::Reshape(codec.try_clone(alloc)?))
+            }
+            ArrayToArrayCodec::Squeeze(codec) => Ok(ArrayToArrayCodec::Squeeze(*codec)),
+        }
+    }
+
     /// The shape of the encoded array, or `None` if the codec does not take arrays of this shape.
     pub fn encoded_shape(
         &self,
@@ -33,6 +52,7 @@ impl ArrayToArrayCodec {
     {
         match self {
             ArrayToArrayCodec::Transpose(codec) => codec.encoded_shape(alloc, shape),
+            ArrayToArrayCodec::Reshape(codec) => codec.encoded_shape(alloc, shape),
             ArrayToArrayCodec::Squeeze(codec) => codec.encoded_shape(alloc, shape),
         }
     }
@@ -52,7 +72,7 @@ impl ArrayToArrayCodec {
     {
         match self {
             ArrayToArrayCodec::Transpose(codec) => codec.encode(alloc, bytes, data_type, shape),
-            ArrayToArrayCodec::Squeeze(_) => Ok(None),
+            ArrayToArrayCodec::Reshape(_) | ArrayToArrayCodec::Squeeze(_) => Ok(None),
         }
     }
 
@@ -71,7 +91,7 @@ impl ArrayToArrayCodec {
     {
         match self {
             ArrayToArrayCodec::Transpose(codec) => codec.decode(alloc, bytes, data_type, shape),
-            ArrayToArrayCodec::Squeeze(_) => Ok(None),
+            ArrayToArrayCodec::Reshape(_) | ArrayToArrayCodec::Squeeze(_) => Ok(None),
         }
     }
 }

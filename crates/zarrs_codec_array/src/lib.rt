@@ -4,9 +4,12 @@
 mod array;
 mod gather;
 mod lists;
+mod metadata;
+mod reshape;
 mod squeeze;
 mod transpose;
 
 pub use array::{ArrayToArrayCodec, decode_array, encode_array, encoded_shape};
+pub use reshape::{ReshapeCodec, ReshapeExtent};
 pub use squeeze::SqueezeCodec;
 pub use transpose::TransposeCodec;

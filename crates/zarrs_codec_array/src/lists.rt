@@ -39,7 +39,8 @@ fn are_all(found: &[bool]) -> bool
 /// Marks the entry of this number, if there is one.
 fn mark(found: &mut [bool], number: u64)
     ensures len { length found.new ≡ length found.old }
-    ensures entries { (j : ℕ) → j < length found.old → slice_index_or found.new j false ≡ (slice_index_or found.old j false || (number == j)) }
+    ensures entries { (j : ℕ) → j < length found.old
+        → slice_index_or found.new j false ≡ (slice_index_or found.old j false || (number == j)) }
 {
     if number < found.len() as u64 {
         found[number as usize] = true;

@@ -43,6 +43,14 @@ impl TransposeCodec {
         &self.order
     }
 
+    /// The same codec.
+    pub fn try_clone(&self, alloc: Global) -> Result<TransposeCodec, AllocError>
+        ensures { IfOk result (λ copy. order_of copy ≡ order_of self.now) }
+    {
+        let order = Vec::from_slice(alloc, &self.order)?;
+        Ok(TransposeCodec { order })
+    }
+
     /// The shape of the encoded array, or `None` if it has another number of dimensions than the order.
     pub(crate) fn encoded_shape(
         &self,

@@ -1,1 +1,4 @@
 pub mod Encodings
+pub mod Joined
+pub mod PackedData
+pub mod StringData

@@ -1,4 +1,11 @@
 pub mod Bytes
 pub mod BytesLaws
-pub mod Refusals
+pub mod Chosen
 pub mod Leaf
+pub mod PackBits
+pub mod PackBitsLaws
+pub mod Refusals
+pub mod Strings
+pub mod StringsLaws
+pub mod VlenStrings
+pub mod VlenStringsLaws

@@ -3,7 +3,12 @@
 
 mod bytes;
 mod error;
+mod packbits;
+mod reversed;
+mod vlen_strings;
 
-pub use bytes::BytesCodec;
+pub use bytes::{BytesCodec, Endianness};
 pub use error::CodecError;
+pub use packbits::PackBitsCodec;
+pub use vlen_strings::{VlenBytesCodec, VlenUtf8Codec};
 pub use zarrs_codec_array::{ArrayToArrayCodec, SqueezeCodec, TransposeCodec};

@@ -1,5 +1,9 @@
-//! The tests of `zarrs_codec_leaf` and `zarrs_codec`, over their public calls alone.
+//! The tests of chains of codecs and their metadata, over the public calls of `zarrs_codec` alone.
 #![tactic(auto)]
 
+#[cfg(test)]
+mod metadata;
+#[cfg(test)]
+mod strings;
 #[cfg(test)]
 mod tests;

@@ -26,7 +26,7 @@ fn chain_of(codecs: Vec<ArrayToArrayCodec>) -> CodecChain {
 }
 
 /// The codec `transpose` of this order.
-fn transpose(alloc: Global, order: &[u64]) -> Result<ArrayToArrayCodec, Fail> {
+pub(crate) fn transpose(alloc: Global, order: &[u64]) -> Result<ArrayToArrayCodec, Fail> {
     let codec = TransposeCodec::new(alloc, Vec::from_slice(alloc, order)?)?;
     Ok(ArrayToArrayCodec::Transpose(codec.ok_or("an order")?))
 }
@@ -39,7 +39,7 @@ fn must_hold(rt: &impl Abort, data: &ArrayBytes<'_>, bytes: &[u8]) {
 }
 
 /// The cells encode to these bytes, which decode to the cells.
-fn must_encode(
+pub(crate) fn must_encode(
     rt: &impl Abort,
     alloc: Global,
     chain: &CodecChain,

@@ -1,0 +1,6 @@
+use Rattle.std.proofs.Common.{◌≡◌, take, map}
+use Rattle.zarrs_codec_array.specs.Metadata.{array_codec_data}
+use Rattle.zarrs_codec.proofs.metadata.copied_array_codecs.Given as goal
+
+abbrev pub invariant-loop-codec : goal.invariant-loop-codec
+invariant-loop-codec l = map array_codec_data l.copy.items ≡ map array_codec_data (take l.codec-index l.codecs)

@@ -1,0 +1,96 @@
+-- The metadata of codecs that make an array of an array: what is read from it, and what is written for one.
+use Rattle.std.specs.Prelude.{ℕ, ℤ, negsuc, List, [], ◌∷◌, true, ◌==◌, ◌||◌, codes, if◌then◌else◌, Option, Some, None, option_map, option_and_then}
+use Rattle.std.specs.Option.{option_or}
+use Rattle.std.specs.Ordering.{int_eq}
+use Rattle.std.specs.Str.{bytes_eq}
+use Rattle.serde_json.specs.Data.{Data, number, negative, Members, no_members, member}
+use Rattle.serde_json.specs.Find.{get_member, as_number, as_i64}
+use Rattle.zarrs_metadata.specs.Extension.{ExtensionData, settings, named}
+use Rattle.zarrs_metadata.specs.Lists.{list_of, list_data, number_of, number_data, numbers_of, numbers_data}
+use Rattle.zarrs_metadata.specs.Members.{has_only}
+use Rattle.zarrs_codec_array.specs.Arrays.{ArrayMeaning, transposed, reshaped, squeezed, Extent, size, product_of, rest}
+use Rattle.zarrs_codec_array.specs.Extents.{is_reshape}
+use Rattle.zarrs_codec_array.specs.Orders.{is_order}
+use Rattle.zarrs_codec_array.specs.Reshape.{entries_of}
+use Rattle.zarrs_codec_array.specs.Transpose.{order_of}
+use Rattle.zarrs_codec_array.specs.declared.array.ArrayToArrayCodec.{ArrayToArrayCodec}
+use Rattle.zarrs_codec_array.specs.declared.array.ArrayToArrayCodec.TheVariants as code
+
+-- a codec with its configuration
+pub data ArrayCodecData : Type 0 where
+  transpose : List ℕ → ArrayCodecData
+  reshape : List Extent → ArrayCodecData
+  squeeze : ArrayCodecData
+
+-- the configuration of a codec
+abbrev pub array_codec_data : ArrayToArrayCodec → ArrayCodecData
+array_codec_data (code.Transpose t) = transpose (order_of t)
+array_codec_data (code.Reshape r) = reshape (entries_of r)
+array_codec_data (code.Squeeze s) = squeeze
+
+-- ---- what metadata says
+
+-- the one member of a configuration, if it has this name
+abbrev pub only_member : List ℕ → Members → Option Data
+only_member name ms = if has_only (name ∷ []) ms then get_member name ms else None
+
+-- a size is above 0
+abbrev pub size_of : ℕ → Option Extent
+size_of n = if n == 0 then None else Some (size n)
+
+-- -1 is what is left
+abbrev pub rest_of : ℤ → Option Extent
+rest_of z = if int_eq z (negsuc 0) then Some rest else None
+
+-- a size, -1, or a list of dimensions
+abbrev pub extent_said : Data → Option Extent
+extent_said d =
+    option_or (option_and_then size_of (number_of d))
+    (option_or (option_and_then rest_of (option_and_then as_i64 (as_number d))) (option_map product_of (numbers_of d)))
+
+abbrev pub transpose_of : List ℕ → Option ArrayCodecData
+transpose_of order = if is_order order then Some (transpose order) else None
+
+abbrev pub reshape_of : List Extent → Option ArrayCodecData
+reshape_of entries = if is_reshape entries then Some (reshape entries) else None
+
+-- `transpose`: the member `order` is an order
+abbrev pub transpose_said : Members → Option ArrayCodecData
+transpose_said ms = option_and_then transpose_of (option_and_then numbers_of (only_member (codes "order") ms))
+
+-- `reshape`: the member `shape` names no dimension twice, and at most one entry is what is left
+abbrev pub reshape_said : Members → Option ArrayCodecData
+reshape_said ms = option_and_then reshape_of (option_and_then (list_of extent_said) (only_member (codes "shape") ms))
+
+-- `squeeze` has no configuration
+abbrev pub squeeze_said : Members → Option ArrayCodecData
+squeeze_said ms = if has_only [] ms then Some squeeze else None
+
+-- the codec of this name, with this configuration
+abbrev pub array_codec_named : List ℕ → Members → Option ArrayCodecData
+array_codec_named name ms =
+    if bytes_eq name (codes "transpose") then transpose_said ms
+    else if bytes_eq name (codes "reshape") || bytes_eq name (codes "zarrs.reshape") then reshape_said ms
+    else if bytes_eq name (codes "squeeze") || bytes_eq name (codes "zarrs.squeeze") then squeeze_said ms
+    else None
+
+-- the codec that metadata says
+abbrev pub array_codec_said : ExtensionData → Option ArrayCodecData
+array_codec_said extension = array_codec_named extension.name (settings extension)
+
+-- ---- what is written for a codec
+
+abbrev pub extent_data : Extent → Data
+extent_data (size n) = number_data n
+extent_data (product_of dimensions) = numbers_data dimensions
+extent_data rest = number (negative (negsuc 0))
+
+-- an extension point of this name, whose configuration is this member
+abbrev pub with_one_member : List ℕ → List ℕ → Data → ExtensionData
+with_one_member name key d = record { name = name; configuration = Some (member key d no_members); must_understand = true }
+
+-- the metadata of a codec
+abbrev pub extension_of_array_codec : ArrayCodecData → ExtensionData
+extension_of_array_codec (transpose order) = with_one_member (codes "transpose") (codes "order") (numbers_data order)
+extension_of_array_codec (reshape entries) = with_one_member (codes "reshape") (codes "shape") (list_data extent_data entries)
+extension_of_array_codec squeeze = named (codes "squeeze")

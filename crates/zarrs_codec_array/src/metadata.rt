@@ -1,0 +1,230 @@
+//! The metadata of codecs that make an array of an array, both ways.
+ghost use Rattle.std.specs.Prelude.{◌≡◌, Some, None, map, option_map, option_and_then, IfOk, IfErr, if◌then◌else◌};
+ghost use Rattle.std.specs.Int.NonZero.{non_zero_u64_get};
+ghost use Rattle.serde_json.specs.View.{view, items_view};
+ghost use Rattle.serde_json.specs.Find.{as_number, as_i64};
+ghost use Rattle.zarrs_metadata.specs.Extension.{extension_view, settings};
+ghost use Rattle.zarrs_metadata.specs.Lists.{all_of, list_of, list_data, number_of};
+ghost use Rattle.zarrs_metadata.specs.Refusals.{RefusesMeaning};
+ghost use Rattle.zarrs_codec_array.specs.Arrays.{size, rest};
+ghost use Rattle.zarrs_codec_array.specs.Extents.{extent_view, extents_view};
+ghost use Rattle.zarrs_codec_array.specs.Metadata.{array_codec_data, only_member, size_of, rest_of, extent_said, extent_data, transpose_said, reshape_said, squeeze_said, array_codec_said, with_one_member, extension_of_array_codec};
+
+use crate::array::ArrayToArrayCodec;
+use crate::reshape::{ReshapeCodec, ReshapeExtent};
+use crate::squeeze::SqueezeCodec;
+use crate::transpose::TransposeCodec;
+use serde_json::Value;
+use std::alloc::{AllocError, Global};
+use std::num::NonZeroU64;
+use zarrs_metadata::{MetadataV3, PluginCreateError, numbers, numbers_value};
+
+impl ArrayToArrayCodec {
+    /// Reads the codec that metadata says: `transpose` with its `order`, `reshape` (also `zarrs.reshape`) with its
+    /// `shape`, or `squeeze` (also `zarrs.squeeze`) without configuration (Zarr V3 core specification, "Codecs").
+    ///
+    /// # Errors
+    /// `Other` if the metadata says none of them: for another name, an `order` that is no order, a `shape` of other
+    /// entries or one that names a dimension twice or has a second -1, and a configuration with any other member.
+    pub fn from_metadata(
+        alloc: Global,
+        metadata: &MetadataV3,
+    ) -> Result<ArrayToArrayCodec, PluginCreateError>
+        ensures read { IfOk result (λ codec.
+            array_codec_said (extension_view metadata.now) ≡ Some (array_codec_data codec)) }
+        ensures refused { IfErr result (RefusesMeaning (array_codec_said (extension_view metadata.now))) }
+    {
+        let Some(codec) = codec_from(alloc, metadata)? else {
+            let name = metadata.name();
+            let text = format!(in alloc;
+                "no array-to-array codec `{name}` has this configuration"
+            )?;
+            return Err(PluginCreateError::Other(text));
+        };
+        Ok(codec)
+    }
+
+    /// Returns the metadata of the codec.
+    pub fn create_metadata(&self, alloc: Global) -> Result<MetadataV3, AllocError>
+        ensures written { IfOk result (λ m. extension_view m ≡ extension_of_array_codec (array_codec_data self.now)) }
+        ensures reads_back { IfOk result (λ m. array_codec_said (extension_view m) ≡ Some (array_codec_data self.now)) }
+    {
+        match self {
+            ArrayToArrayCodec::Transpose(codec) => {
+                with_member(
+                    alloc,
+                    "transpose",
+                    "order",
+                    numbers_value(alloc, codec.order())?,
+                )
+            }
+            ArrayToArrayCodec::Reshape(codec) => {
+                with_member(
+                    alloc,
+                    "reshape",
+                    "shape",
+                    extents_value(alloc, codec.entries())?,
+                )
+            }
+            ArrayToArrayCodec::Squeeze(_) => {
+                Ok(MetadataV3::new(String::from_str(alloc, "squeeze")?))
+            }
+        }
+    }
+}
+
+/// Returns the codec that metadata says, if it says one.
+fn codec_from(alloc: Global, metadata: &MetadataV3) -> Result<Option<ArrayToArrayCodec>, AllocError>
+    ensures { IfOk result (λ codec. option_map array_codec_data codec
+        ≡ array_codec_said (extension_view metadata.now)) }
+{
+    match metadata.name() {
+        "transpose" => transpose_from(alloc, metadata),
+        "reshape" | "zarrs.reshape" => reshape_from(alloc, metadata),
+        "squeeze" | "zarrs.squeeze" => Ok(squeeze_from(metadata)),
+        _ => Ok(None),
+    }
+}
+
+fn transpose_from(
+    alloc: Global,
+    metadata: &MetadataV3,
+) -> Result<Option<ArrayToArrayCodec>, AllocError>
+    ensures { IfOk result (λ codec. option_map array_codec_data codec
+        ≡ transpose_said (settings (extension_view metadata.now))) }
+{
+    let Some(value) = only_member(metadata, "order") else {
+        return Ok(None);
+    };
+    let Some(order) = numbers(alloc, value)? else {
+        return Ok(None);
+    };
+    match TransposeCodec::new(alloc, order)? {
+        Some(codec) => Ok(Some(ArrayToArrayCodec::Transpose(codec))),
+        None => Ok(None),
+    }
+}
+
+fn reshape_from(
+    alloc: Global,
+    metadata: &MetadataV3,
+) -> Result<Option<ArrayToArrayCodec>, AllocError>
+    ensures { IfOk result (λ codec. option_map array_codec_data codec
+        ≡ reshape_said (settings (extension_view metadata.now))) }
+{
+    let Some(value) = only_member(metadata, "shape") else {
+        return Ok(None);
+    };
+    let Some(entries) = extents_from(alloc, value)? else {
+        return Ok(None);
+    };
+    match ReshapeCodec::new(alloc, entries)? {
+        Some(codec) => Ok(Some(ArrayToArrayCodec::Reshape(codec))),
+        None => Ok(None),
+    }
+}
+
+fn squeeze_from(metadata: &MetadataV3) -> Option<ArrayToArrayCodec>
+    ensures { option_map array_codec_data result ≡ squeeze_said (settings (extension_view metadata.now)) }
+{
+    if metadata.has_only(&[]) {
+        Some(ArrayToArrayCodec::Squeeze(SqueezeCodec))
+    } else {
+        None
+    }
+}
+
+/// Returns the one member of the configuration, if it has this name.
+fn only_member<'a>(metadata: &'a MetadataV3, name: &str) -> Option<&'a Value>
+    ensures { option_map (λ value. view value.now) result
+        ≡ only_member name.now (settings (extension_view metadata.now)) }
+{
+    if !metadata.has_only(&[name]) {
+        return None;
+    }
+    metadata.member(name)
+}
+
+fn extents_from(alloc: Global, value: &Value) -> Result<Option<Vec<ReshapeExtent>>, AllocError>
+    ensures { IfOk result (λ found. option_map (λ entries. extents_view entries.items) found
+        ≡ list_of extent_said (view value.now)) }
+{
+    match value.as_array() {
+        Some(items) => all_extents(alloc, items),
+        None => Ok(None),
+    }
+}
+
+fn all_extents(alloc: Global, items: &Vec<Value>) -> Result<Option<Vec<ReshapeExtent>>, AllocError>
+    ensures { IfOk result (λ found. option_map (λ entries. extents_view entries.items) found
+        ≡ all_of extent_said (items_view items.now.items)) }
+{
+    let mut entries = Vec::with_capacity(alloc, items.len())?;
+    for item in items {
+        match extent_from(alloc, item)? {
+            Some(entry) => entries.push(entry)?,
+            None => return Ok(None),
+        }
+    }
+    Ok(Some(entries))
+}
+
+/// Returns the entry that a JSON value says: a size above 0, -1, or a list of dimensions.
+fn extent_from(alloc: Global, value: &Value) -> Result<Option<ReshapeExtent>, AllocError>
+    ensures { IfOk result (λ found. option_map extent_view found ≡ extent_said (view value.now)) }
+{
+    if let Some(size) = size_from(value) {
+        return Ok(Some(ReshapeExtent::Size(size)));
+    }
+    if is_minus_one(value) {
+        return Ok(Some(ReshapeExtent::Rest));
+    }
+    match numbers(alloc, value)? {
+        Some(dimensions) => Ok(Some(ReshapeExtent::ProductOf(dimensions))),
+        None => Ok(None),
+    }
+}
+
+fn size_from(value: &Value) -> Option<NonZeroU64>
+    ensures { option_map (λ n. size (non_zero_u64_get n)) result
+        ≡ option_and_then size_of (number_of (view value.now)) }
+{
+    NonZeroU64::new(value.as_u64()?)
+}
+
+fn is_minus_one(value: &Value) -> bool
+    ensures { (if result then Some rest else None)
+        ≡ option_and_then rest_of (option_and_then as_i64 (as_number (view value.now))) }
+{
+    match value.as_i64() {
+        Some(number) => number == -1,
+        None => false,
+    }
+}
+
+/// Returns the metadata of this name, whose configuration is this member.
+fn with_member(alloc: Global, name: &str, key: &str, value: Value) -> Result<MetadataV3, AllocError>
+    ensures { IfOk result (λ m. extension_view m ≡ with_one_member name.now key.now (view value)) }
+{
+    MetadataV3::new(String::from_str(alloc, name)?).with_member(alloc, key, value)
+}
+
+fn extents_value(alloc: Global, entries: &[ReshapeExtent]) -> Result<Value, AllocError>
+    ensures { IfOk result (λ value. view value ≡ list_data extent_data (extents_view entries.now)) }
+{
+    let mut values = Vec::with_capacity(alloc, entries.len())?;
+    for entry in entries {
+        values.push(extent_value(alloc, entry)?)?;
+    }
+    Ok(Value::Array(values))
+}
+
+fn extent_value(alloc: Global, entry: &ReshapeExtent) -> Result<Value, AllocError>
+    ensures { IfOk result (λ value. view value ≡ extent_data (extent_view entry.now)) }
+{
+    match entry {
+        ReshapeExtent::Size(size) => Ok(Value::from(size.get())),
+        ReshapeExtent::ProductOf(dimensions) => numbers_value(alloc, dimensions),
+        ReshapeExtent::Rest => Ok(Value::from(-1i64)),
+    }
+}

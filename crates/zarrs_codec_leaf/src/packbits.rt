@@ -1,0 +1,156 @@
+//! The codec `packbits`.
+ghost use Rattle.std.specs.Prelude.{◌≡◌, ◌<◌, ◌^◌, All, Some, IfOk, IfErr, IsSome, length, map};
+ghost use Rattle.zarrs_data_type.specs.ArrayData.{data_of};
+ghost use Rattle.zarrs_data_type.specs.Cells.{cells};
+ghost use Rattle.zarrs_data_type.specs.Kind.{kind};
+ghost use Rattle.zarrs_codec_leaf.specs.PackBits.{are_zero, byte_bits, packbits_meaning, packed, packed_byte};
+ghost use Rattle.zarrs_codec_leaf.specs.Refusals.{RefusesEncoding, RefusesDecoding};
+ghost use Rattle.zarrs_codec_leaf.specs.Leaf.{encoding_of};
+
+use crate::error::CodecError;
+use std::alloc::{AllocError, Global};
+use zarrs_data_type::{ArrayBytes, DataType};
+
+/// Bools, eight to a byte, the first in the lowest bit. The bits behind the last bool are 0.
+#[derive(Clone, Copy, Debug, Default, Drop, PartialEq, Eq)]
+pub struct PackBitsCodec;
+
+impl PackBitsCodec {
+    /// Whether the codec takes cells of this type.
+    pub fn takes(&self, data_type: &DataType) -> bool
+        ensures { result ≡ packbits_meaning.takes (kind data_type.now) }
+    {
+        match data_type {
+            DataType::Bool => true,
+            _ => false,
+        }
+    }
+
+    /// The bytes of the cells.
+    pub fn encode(
+        &self,
+        alloc: Global,
+        bytes: &ArrayBytes<'_>,
+        data_type: &DataType,
+    ) -> Result<Vec<u8>, CodecError>
+        requires { IsSome (cells (kind data_type.now) (data_of bytes.now)) }
+        ensures encoded { IfOk result (λ encoded. encoding_of packbits_meaning (kind data_type.now)
+            (data_of bytes.now) ≡ Some encoded.items) }
+        ensures refused { IfErr result (RefusesEncoding packbits_meaning (kind data_type.now)
+            (data_of bytes.now)) }
+    {
+        if !self.takes(data_type) {
+            return Err(CodecError::DoesNotFit);
+        }
+        match bytes {
+            ArrayBytes::Fixed(bytes) => Ok(packed(alloc, bytes.as_slice())?),
+            ArrayBytes::Variable(_) => Err(CodecError::DoesNotFit),
+            ArrayBytes::Optional(_) => Err(CodecError::DoesNotFit),
+        }
+    }
+
+    /// The `count` cells of the bytes.
+    pub fn decode(
+        &self,
+        alloc: Global,
+        encoded: &[u8],
+        data_type: &DataType,
+        count: u64,
+    ) -> Result<ArrayBytes<'static>, CodecError>
+        ensures cells { IfOk result (λ made. cells (kind data_type.now) (data_of made)
+            ≡ packbits_meaning.decoded (kind data_type.now) count encoded.now) }
+        ensures some { IfOk result (λ made. IsSome (cells (kind data_type.now) (data_of made))) }
+        ensures refused { IfErr result (RefusesDecoding packbits_meaning (kind data_type.now) count
+            encoded.now) }
+    {
+        if !self.takes(data_type) {
+            return Err(CodecError::DoesNotFit);
+        }
+        if encoded.len() as u64 != count.div_ceil(8) {
+            return Err(CodecError::DoesNotFit);
+        }
+        let cells = unpacked(alloc, encoded)?;
+        let (flags, padding) = cells.as_slice().as_flattened().split_at(count as usize);
+        if !are_zero(padding) {
+            return Err(CodecError::DoesNotFit);
+        }
+        Ok(ArrayBytes::new_flen(Vec::from_slice(alloc, flags)?))
+    }
+}
+
+/// The flags, eight to a byte.
+fn packed(alloc: Global, flags: &[u8]) -> Result<Vec<u8>, AllocError>
+    requires { All (λ flag. flag < 2) flags.now }
+    ensures { IfOk result (λ made. made.items ≡ packed flags.now) }
+{
+    let (whole, rest) = flags.as_chunks::<8>();
+    let mut bytes = Vec::with_capacity(alloc, flags.len().div_ceil(8))?;
+    for eight in whole {
+        bytes.push_reserved(packed_eight(eight));
+    }
+    if rest.is_empty() {
+        return Ok(bytes);
+    }
+    bytes.push(packed_byte(rest))?;
+    Ok(bytes)
+}
+
+/// The byte of eight flags.
+fn packed_eight(flags: &[u8; 8]) -> u8
+    requires { All (λ flag. flag < 2) flags.now }
+    ensures { result ≡ packed_byte flags.now }
+{
+    let [a, b, c, d, e, f, g, h] = *flags;
+    a + 2 * b + 4 * c + 8 * d + 16 * (e + 2 * f + 4 * g + 8 * h)
+}
+
+/// The byte of at most eight flags.
+fn packed_byte(flags: &[u8]) -> u8
+    requires flags { All (λ flag. flag < 2) flags.now }
+    requires few { length flags.now < 9 }
+    ensures byte { result ≡ packed_byte flags.now }
+    ensures small { result < 2 ^ length flags.now }
+{
+    match flags {
+        [] => 0,
+        [flag, rest @ ..] => *flag + 2 * packed_byte(rest),
+    }
+}
+
+/// The bits of the bytes, eight by eight.
+fn unpacked(alloc: Global, bytes: &[u8]) -> Result<Vec<[u8; 8]>, AllocError>
+    ensures { IfOk result (λ made. made.items ≡ map byte_bits bytes.now) }
+{
+    let mut cells = Vec::with_capacity(alloc, bytes.len())?;
+    for byte in bytes {
+        cells.push_reserved(bits_of(*byte));
+    }
+    Ok(cells)
+}
+
+/// The bits of a byte, the lowest first.
+fn bits_of(byte: u8) -> [u8; 8]
+    ensures { result ≡ byte_bits byte }
+{
+    [
+        byte % 2,
+        byte / 2 % 2,
+        byte / 4 % 2,
+        byte / 8 % 2,
+        byte / 16 % 2,
+        byte / 32 % 2,
+        byte / 64 % 2,
+        byte / 128 % 2,
+    ]
+}
+
+/// Whether each bit is 0.
+fn are_zero(bits: &[u8]) -> bool
+    ensures { result ≡ are_zero bits.now }
+{
+    let mut zero = true;
+    for bit in bits {
+        zero &= *bit == 0;
+    }
+    zero
+}

@@ -1,0 +1,263 @@
+//! The codecs `vlen-utf8` and `vlen-bytes`.
+ghost use Rattle.std.specs.Prelude.{◌≡◌, ◌++◌, ℕ, List, Some, Ok, true, IfOk, IfErr, IsSome, option_map};
+ghost use Rattle.zarrs_data_type.specs.ArrayData.{data_of};
+ghost use Rattle.zarrs_data_type.specs.Cells.{cells};
+ghost use Rattle.zarrs_data_type.specs.Kind.{kind};
+ghost use Rattle.zarrs_codec_leaf.specs.VlenStrings.{behind_length, counted, first_string, is_short, strings_of, uncounted, vlen_bytes_meaning, vlen_utf8_meaning};
+ghost use Rattle.zarrs_codec_leaf.specs.Refusals.{RefusesEncoding, RefusesDecoding};
+ghost use Rattle.zarrs_codec_leaf.specs.Leaf.{encoding_of};
+
+use crate::error::CodecError;
+use std::alloc::{AllocError, Global};
+use zarrs_data_type::{ArrayBytes, ArrayBytesVariableLength, DataType, VariableLengthBuilder};
+
+/// Texts: their number in 4 bytes, little endian, and each text behind its length, in as many.
+#[derive(Clone, Copy, Debug, Default, Drop, PartialEq, Eq)]
+pub struct VlenUtf8Codec;
+
+/// Byte strings: their number in 4 bytes, little endian, and each byte string behind its length, in as many.
+#[derive(Clone, Copy, Debug, Default, Drop, PartialEq, Eq)]
+pub struct VlenBytesCodec;
+
+impl VlenUtf8Codec {
+    /// Whether the codec takes cells of this type.
+    pub fn takes(&self, data_type: &DataType) -> bool
+        ensures { result ≡ vlen_utf8_meaning.takes (kind data_type.now) }
+    {
+        match data_type {
+            DataType::String => true,
+            _ => false,
+        }
+    }
+
+    /// The bytes of the cells.
+    pub fn encode(
+        &self,
+        alloc: Global,
+        bytes: &ArrayBytes<'_>,
+        data_type: &DataType,
+    ) -> Result<Vec<u8>, CodecError>
+        requires { IsSome (cells (kind data_type.now) (data_of bytes.now)) }
+        ensures encoded { IfOk result (λ encoded. encoding_of vlen_utf8_meaning (kind data_type.now)
+            (data_of bytes.now) ≡ Some encoded.items) }
+        ensures refused { IfErr result (RefusesEncoding vlen_utf8_meaning (kind data_type.now)
+            (data_of bytes.now)) }
+    {
+        if !self.takes(data_type) {
+            return Err(CodecError::DoesNotFit);
+        }
+        match bytes {
+            ArrayBytes::Variable(strings) => {
+                let made = counted(alloc, strings)?;
+                match made {
+                    Some(encoded) => Ok(encoded),
+                    None => Err(CodecError::SizeOverflow),
+                }
+            }
+            ArrayBytes::Fixed(_) => Err(CodecError::DoesNotFit),
+            ArrayBytes::Optional(_) => Err(CodecError::DoesNotFit),
+        }
+    }
+
+    /// The `count` cells of the bytes.
+    pub fn decode(
+        &self,
+        alloc: Global,
+        encoded: &[u8],
+        data_type: &DataType,
+        count: u64,
+    ) -> Result<ArrayBytes<'static>, CodecError>
+        ensures cells { IfOk result (λ made. cells (kind data_type.now) (data_of made)
+            ≡ vlen_utf8_meaning.decoded (kind data_type.now) count encoded.now) }
+        ensures some { IfOk result (λ made. IsSome (cells (kind data_type.now) (data_of made))) }
+        ensures refused { IfErr result (RefusesDecoding vlen_utf8_meaning (kind data_type.now) count
+            encoded.now) }
+    {
+        if !self.takes(data_type) {
+            return Err(CodecError::DoesNotFit);
+        }
+        let read = uncounted(alloc, encoded, count)?;
+        match read {
+            Some(strings) => {
+                let data = ArrayBytes::Variable(strings);
+                if !data.validate(data_type, count) {
+                    return Err(CodecError::DoesNotFit);
+                }
+                Ok(data)
+            }
+            None => Err(CodecError::DoesNotFit),
+        }
+    }
+}
+
+impl VlenBytesCodec {
+    /// Whether the codec takes cells of this type.
+    pub fn takes(&self, data_type: &DataType) -> bool
+        ensures { result ≡ vlen_bytes_meaning.takes (kind data_type.now) }
+    {
+        match data_type {
+            DataType::Bytes => true,
+            _ => false,
+        }
+    }
+
+    /// The bytes of the cells.
+    pub fn encode(
+        &self,
+        alloc: Global,
+        bytes: &ArrayBytes<'_>,
+        data_type: &DataType,
+    ) -> Result<Vec<u8>, CodecError>
+        requires { IsSome (cells (kind data_type.now) (data_of bytes.now)) }
+        ensures encoded { IfOk result (λ encoded. encoding_of vlen_bytes_meaning (kind data_type.now)
+            (data_of bytes.now) ≡ Some encoded.items) }
+        ensures refused { IfErr result (RefusesEncoding vlen_bytes_meaning (kind data_type.now)
+            (data_of bytes.now)) }
+    {
+        if !self.takes(data_type) {
+            return Err(CodecError::DoesNotFit);
+        }
+        match bytes {
+            ArrayBytes::Variable(strings) => {
+                let made = counted(alloc, strings)?;
+                match made {
+                    Some(encoded) => Ok(encoded),
+                    None => Err(CodecError::SizeOverflow),
+                }
+            }
+            ArrayBytes::Fixed(_) => Err(CodecError::DoesNotFit),
+            ArrayBytes::Optional(_) => Err(CodecError::DoesNotFit),
+        }
+    }
+
+    /// The `count` cells of the bytes.
+    pub fn decode(
+        &self,
+        alloc: Global,
+        encoded: &[u8],
+        data_type: &DataType,
+        count: u64,
+    ) -> Result<ArrayBytes<'static>, CodecError>
+        ensures cells { IfOk result (λ made. cells (kind data_type.now) (data_of made)
+            ≡ vlen_bytes_meaning.decoded (kind data_type.now) count encoded.now) }
+        ensures some { IfOk result (λ made. IsSome (cells (kind data_type.now) (data_of made))) }
+        ensures refused { IfErr result (RefusesDecoding vlen_bytes_meaning (kind data_type.now) count
+            encoded.now) }
+    {
+        if !self.takes(data_type) {
+            return Err(CodecError::DoesNotFit);
+        }
+        let read = uncounted(alloc, encoded, count)?;
+        match read {
+            Some(strings) => {
+                let data = ArrayBytes::Variable(strings);
+                if !data.validate(data_type, count) {
+                    return Err(CodecError::DoesNotFit);
+                }
+                Ok(data)
+            }
+            None => Err(CodecError::DoesNotFit),
+        }
+    }
+}
+
+/// The bytes of byte strings, or nothing if their number or a length does not fit 4 bytes.
+fn counted(
+    alloc: Global,
+    strings: &ArrayBytesVariableLength<'_>,
+) -> Result<Option<Vec<u8>>, AllocError>
+    ensures { IfOk result (λ made. option_map (λ encoded. encoded.items) made ≡ counted strings.now) }
+{
+    let count = strings.len();
+    if count > u32::MAX as usize {
+        return Ok(None);
+    }
+    let room = strings
+        .bytes()
+        .len()
+        .saturating_add(count.saturating_mul(4));
+    let mut encoded = Vec::with_capacity(alloc, room.saturating_add(4))?;
+    encoded.extend_from_slice(&(count as u32).to_le_bytes())?;
+    for index in 0..count {
+        let pushed = push_string(&mut encoded, strings.get(index))?;
+        if !pushed {
+            return Ok(None);
+        }
+    }
+    Ok(Some(encoded))
+}
+
+/// Puts a byte string behind its length to the bytes, if the length fits 4 bytes.
+fn push_string(encoded: &mut Vec<u8>, string: &[u8]) -> Result<bool, AllocError>
+    ensures fits { IfOk result (λ pushed. pushed ≡ is_short string.now) }
+    ensures pushed { result ≡ Ok true
+        → encoded.new.items ≡ encoded.old.items ++ behind_length string.now }
+{
+    if string.len() > u32::MAX as usize {
+        return Ok(false);
+    }
+    encoded.extend_from_slice(&(string.len() as u32).to_le_bytes())?;
+    encoded.extend_from_slice(string)?;
+    Ok(true)
+}
+
+/// The `count` byte strings of the bytes, behind their number.
+fn uncounted(
+    alloc: Global,
+    encoded: &[u8],
+    count: u64,
+) -> Result<Option<ArrayBytesVariableLength<'static>>, AllocError>
+    ensures { IfOk result (λ strings. strings ≡ uncounted count encoded.now) }
+{
+    match encoded.split_first_chunk::<4>() {
+        Some((head, strings)) => {
+            if u32::from_le_bytes(*head) as u64 != count {
+                return Ok(None);
+            }
+            strings_of(alloc, strings, count)
+        }
+        None => Ok(None),
+    }
+}
+
+/// The `count` byte strings of the bytes, if nothing follows them.
+fn strings_of(
+    alloc: Global,
+    bytes: &[u8],
+    count: u64,
+) -> Result<Option<ArrayBytesVariableLength<'static>>, AllocError>
+    ensures { IfOk result (λ strings. strings ≡ strings_of count bytes.now) }
+{
+    let room = (bytes.len() / 4).min(count as usize);
+    let mut builder = VariableLengthBuilder::with_capacity(alloc, room, bytes.len() - 4 * room)?;
+    let mut rest = bytes;
+    for index in 0..count {
+        match first_string(rest) {
+            Some((string, left)) => {
+                builder.push(string)?;
+                rest = left;
+            }
+            None => return Ok(None),
+        }
+    }
+    if !rest.is_empty() {
+        return Ok(None);
+    }
+    Ok(Some(builder.finish()))
+}
+
+/// The byte string at the front, and what follows it.
+fn first_string(bytes: &[u8]) -> Option<(&[u8], &[u8])>
+    ensures { option_map (λ parts. (parts.0.now, parts.1.now)) result ≡ first_string bytes.now }
+{
+    match bytes.split_first_chunk::<4>() {
+        Some((head, rest)) => {
+            let len = u32::from_le_bytes(*head) as usize;
+            if len > rest.len() {
+                return None;
+            }
+            Some(rest.split_at(len))
+        }
+        None => None,
+    }
+}

@@ -1,0 +1,188 @@
+//! The codecs `vlen-utf8` and `vlen-bytes`, byte for byte, with ample memory.
+use std::alloc::Global;
+use std::borrow::CowSlice;
+use std::process::Abort;
+use std::test::Fail;
+use zarrs_codec_leaf::{CodecError, VlenBytesCodec, VlenUtf8Codec};
+use zarrs_data_type::{ArrayBytes, ArrayBytesOffsets, DataType};
+
+fn strings(bytes: &'static [u8], offsets: &'static [usize]) -> Result<ArrayBytes<'static>, Fail> {
+    let offsets = ArrayBytesOffsets::new(CowSlice::Borrowed(offsets))?;
+    Ok(ArrayBytes::new_vlen(CowSlice::Borrowed(bytes), offsets)?)
+}
+
+fn must_be_same(rt: &impl Abort, left: &ArrayBytes<'_>, right: &ArrayBytes<'_>) {
+    match (left, right) {
+        (ArrayBytes::Variable(left), ArrayBytes::Variable(right)) => {
+            assert_eq!(rt; left.bytes(), right.bytes());
+            assert_eq!(rt; left.offsets().as_slice(), right.offsets().as_slice());
+        }
+        _ => assert!(rt; false, "byte strings"),
+    }
+}
+
+fn must_be_bytes(rt: &impl Abort, made: &[u8], encoded: &[u8]) {
+    assert_eq!(rt; made, encoded);
+}
+
+/// The texts encode to these bytes, which decode to the texts.
+fn must_encode_texts(
+    rt: &impl Abort,
+    alloc: Global,
+    texts: &ArrayBytes<'_>,
+    count: u64,
+    encoded: &[u8],
+) -> Result<(), Fail> {
+    if !texts.validate(&DataType::String, count) {
+        return Err("no texts".into());
+    }
+    let made = VlenUtf8Codec.encode(alloc, texts, &DataType::String)?;
+    must_be_bytes(rt, &made, encoded);
+    let back = VlenUtf8Codec.decode(alloc, encoded, &DataType::String, count)?;
+    must_be_same(rt, &back, texts);
+    Ok(())
+}
+
+/// The byte strings encode to these bytes, which decode to the byte strings.
+fn must_encode_bytes(
+    rt: &impl Abort,
+    alloc: Global,
+    lists: &ArrayBytes<'_>,
+    count: u64,
+    encoded: &[u8],
+) -> Result<(), Fail> {
+    if !lists.validate(&DataType::Bytes, count) {
+        return Err("no byte strings".into());
+    }
+    let made = VlenBytesCodec.encode(alloc, lists, &DataType::Bytes)?;
+    must_be_bytes(rt, &made, encoded);
+    let back = VlenBytesCodec.decode(alloc, encoded, &DataType::Bytes, count)?;
+    must_be_same(rt, &back, lists);
+    Ok(())
+}
+
+#[test]
+fn texts_stand_behind_their_lengths(rt: HostRuntime) -> Result<(), Fail> {
+    let alloc = rt.alloc();
+    must_encode_texts(
+        &rt,
+        alloc,
+        &strings(b"abcd", &[0, 1, 1, 4])?,
+        3,
+        &[
+            3, 0, 0, 0, 1, 0, 0, 0, 97, 0, 0, 0, 0, 3, 0, 0, 0, 98, 99, 100,
+        ],
+    )?;
+    must_encode_texts(
+        &rt,
+        alloc,
+        &strings(&[0xC3, 0xA4], &[0, 2])?,
+        1,
+        &[1, 0, 0, 0, 2, 0, 0, 0, 0xC3, 0xA4],
+    )?;
+    must_encode_texts(&rt, alloc, &strings(b"", &[0])?, 0, &[0, 0, 0, 0])
+}
+
+#[test]
+fn byte_strings_stand_behind_their_lengths(rt: HostRuntime) -> Result<(), Fail> {
+    let alloc = rt.alloc();
+    must_encode_bytes(
+        &rt,
+        alloc,
+        &strings(&[0, 255], &[0, 2, 2])?,
+        2,
+        &[2, 0, 0, 0, 2, 0, 0, 0, 0, 255, 0, 0, 0, 0],
+    )?;
+    must_encode_bytes(&rt, alloc, &strings(b"", &[0])?, 0, &[0, 0, 0, 0])
+}
+
+/// A list of 256 texts of 1 byte, and one text of 256 bytes: the second byte of a number counts.
+#[test]
+fn numbers_are_little_endian(rt: HostRuntime) -> Result<(), Fail> {
+    let alloc = rt.alloc();
+    let mut encoded = Vec::from_slice(alloc, &[1, 0, 0, 0, 0, 1, 0, 0])?;
+    encoded.extend_from_slice(&[65; 256])?;
+    let text = strings(&[65; 256], &[0, 256])?;
+    must_encode_texts(&rt, alloc, &text, 1, &encoded)?;
+    must_encode_bytes(&rt, alloc, &text, 1, &encoded)
+}
+
+fn must_not_be_texts(rt: &impl Abort, alloc: Global, count: u64, encoded: &[u8]) {
+    let made = VlenUtf8Codec.decode(alloc, encoded, &DataType::String, count);
+    assert!(rt;
+        made.is_err_and(|error| error == CodecError::DoesNotFit),
+        "{encoded:?}"
+    );
+}
+
+fn must_not_be_byte_strings(rt: &impl Abort, alloc: Global, count: u64, encoded: &[u8]) {
+    let made = VlenBytesCodec.decode(alloc, encoded, &DataType::Bytes, count);
+    assert!(rt;
+        made.is_err_and(|error| error == CodecError::DoesNotFit),
+        "{encoded:?}"
+    );
+}
+
+#[test]
+fn foreign_bytes_are_no_texts(rt: HostRuntime) {
+    let alloc = rt.alloc();
+    must_not_be_texts(&rt, alloc, 1, &[1, 0, 0, 0, 1, 0, 0, 0, 0xFF]);
+    must_not_be_texts(&rt, alloc, 1, &[2, 0, 0, 0, 0, 0, 0, 0, 0, 0, 0, 0]);
+    must_not_be_texts(&rt, alloc, 1, &[1, 0, 0, 0, 0, 0, 0, 0, 0]);
+    must_not_be_texts(&rt, alloc, 1, &[1, 0, 0, 0, 0xFF, 0xFF, 0xFF, 0xFF]);
+    must_not_be_texts(&rt, alloc, 1, &[1, 0, 0, 0, 2, 0, 0, 0, 97]);
+    must_not_be_texts(&rt, alloc, 1, &[1, 0, 0, 0, 1, 0]);
+    must_not_be_texts(&rt, alloc, 1, &[1, 0, 0, 0]);
+    must_not_be_texts(&rt, alloc, 1, &[0, 0, 0, 0]);
+    must_not_be_texts(&rt, alloc, 0, &[0, 0, 0]);
+    must_not_be_texts(&rt, alloc, 0, &[]);
+}
+
+#[test]
+fn foreign_bytes_are_no_byte_strings(rt: HostRuntime) {
+    let alloc = rt.alloc();
+    must_not_be_byte_strings(&rt, alloc, 1, &[2, 0, 0, 0, 0, 0, 0, 0, 0, 0, 0, 0]);
+    must_not_be_byte_strings(&rt, alloc, 1, &[1, 0, 0, 0, 0, 0, 0, 0, 0]);
+    must_not_be_byte_strings(&rt, alloc, 1, &[1, 0, 0, 0, 0xFF, 0xFF, 0xFF, 0xFF]);
+    must_not_be_byte_strings(&rt, alloc, 1, &[1, 0, 0, 0, 2, 0, 0, 0, 97]);
+    must_not_be_byte_strings(&rt, alloc, 1, &[1, 0, 0, 0, 1, 0]);
+    must_not_be_byte_strings(&rt, alloc, 0, &[]);
+}
+
+fn must_not_fit(rt: &impl Abort, made: &Result<Vec<u8>, CodecError>) {
+    assert!(rt; matches!(made, Err(CodecError::DoesNotFit)));
+}
+
+/// Neither codec takes the data, which is one cell of the type.
+fn must_take_neither(
+    rt: &impl Abort,
+    alloc: Global,
+    data_type: &DataType,
+    data: &ArrayBytes<'_>,
+) -> Result<(), Fail> {
+    if !data.validate(data_type, 1) {
+        return Err("no cell".into());
+    }
+    must_not_fit(rt, &VlenUtf8Codec.encode(alloc, data, data_type));
+    must_not_fit(rt, &VlenBytesCodec.encode(alloc, data, data_type));
+    Ok(())
+}
+
+fn must_take(rt: &impl Abort, data_type: &DataType, texts: bool, byte_strings: bool) {
+    assert_eq!(rt; VlenUtf8Codec.takes(data_type), texts);
+    assert_eq!(rt; VlenBytesCodec.takes(data_type), byte_strings);
+}
+
+#[test]
+fn each_codec_takes_its_type_alone(rt: HostRuntime) -> Result<(), Fail> {
+    let alloc = rt.alloc();
+    must_take(&rt, &DataType::String, true, false);
+    must_take(&rt, &DataType::Bytes, false, true);
+    must_take(&rt, &DataType::UInt8, false, false);
+    must_take_neither(&rt, alloc, &DataType::UInt8, &ArrayBytes::from_flen(&[7]))?;
+    let optional = DataType::Optional(Box::new(alloc, DataType::String)?);
+    must_take(&rt, &optional, false, false);
+    let made = VlenUtf8Codec.decode(alloc, &[0, 0, 0, 0], &DataType::Bytes, 0);
+    assert!(rt; made.is_err_and(|error| error == CodecError::DoesNotFit));
+    Ok(())
+}

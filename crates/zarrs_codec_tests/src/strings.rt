@@ -1,0 +1,209 @@
+//! Chains that end with `vlen-utf8` or `vlen-bytes`, byte for byte, with ample memory.
+use crate::tests::transpose;
+use std::alloc::Global;
+use std::borrow::CowSlice;
+use std::process::Abort;
+use std::test::Fail;
+use zarrs_codec::{
+    ArrayToArrayCodec, ArrayToBytesCodec, BytesToBytesCodecs, ChainTraits, CodecChain, CodecError,
+    CodecOptions, VlenBytesCodec, VlenUtf8Codec,
+};
+use zarrs_data_type::{ArrayBytes, ArrayBytesOffsets, DataType, FillValue};
+
+/// The chain of these codecs before `vlen-utf8`.
+fn chain_of_texts(codecs: Vec<ArrayToArrayCodec>) -> CodecChain {
+    CodecChain::new(
+        codecs,
+        ArrayToBytesCodec::VlenUtf8(VlenUtf8Codec),
+        BytesToBytesCodecs,
+    )
+}
+
+/// The chain of `vlen-bytes` alone.
+fn chain_of_byte_strings(alloc: Global) -> CodecChain {
+    CodecChain::new(
+        Vec::new(alloc),
+        ArrayToBytesCodec::VlenBytes(VlenBytesCodec),
+        BytesToBytesCodecs,
+    )
+}
+
+pub(crate) fn strings(
+    bytes: &'static [u8],
+    offsets: &'static [usize],
+) -> Result<ArrayBytes<'static>, Fail> {
+    let offsets = ArrayBytesOffsets::new(CowSlice::Borrowed(offsets))?;
+    Ok(ArrayBytes::new_vlen(CowSlice::Borrowed(bytes), offsets)?)
+}
+
+fn must_be_same(rt: &impl Abort, left: &ArrayBytes<'_>, right: &ArrayBytes<'_>) {
+    match (left, right) {
+        (ArrayBytes::Variable(left), ArrayBytes::Variable(right)) => {
+            assert_eq!(rt; left.bytes(), right.bytes());
+            assert_eq!(rt; left.offsets().as_slice(), right.offsets().as_slice());
+        }
+        _ => assert!(rt; false, "byte strings"),
+    }
+}
+
+/// The cells encode to these bytes, which decode to the cells. The fill value is the empty byte string.
+pub(crate) fn must_encode_strings(
+    rt: &impl Abort,
+    alloc: Global,
+    chain: &CodecChain,
+    data_type: &DataType,
+    shape: &[u64],
+    cells: &ArrayBytes<'_>,
+    encoded: &[u8],
+) -> Result<(), Fail> {
+    let empty = FillValue::new(Vec::new(alloc));
+    assert!(rt; empty.is_value_of(data_type));
+    let count = zarrs_subset::element_count(shape).ok_or("a count")?;
+    assert!(rt; count < 100);
+    assert!(rt; cells.validate(data_type, count));
+    let options = CodecOptions::default();
+    let made = chain.encode(alloc, cells, data_type, &empty, shape, &options)?;
+    assert_eq!(rt; made.as_slice(), encoded);
+    let back = chain.decode(alloc, &made, data_type, &empty, shape)?;
+    must_be_same(rt, &back, cells);
+    assert!(rt; chain.compact(alloc, &made, shape)?.is_none());
+    assert!(rt; chain.fits(alloc, data_type, shape)?);
+    Ok(())
+}
+
+#[test]
+fn texts_stand_behind_their_lengths(rt: HostRuntime) -> Result<(), Fail> {
+    let alloc = rt.alloc();
+    must_encode_strings(
+        &rt,
+        alloc,
+        &chain_of_texts(Vec::new(alloc)),
+        &DataType::String,
+        &[2],
+        &strings(b"abcd", &[0, 1, 4])?,
+        &[2, 0, 0, 0, 1, 0, 0, 0, 97, 3, 0, 0, 0, 98, 99, 100],
+    )
+}
+
+#[test]
+fn byte_strings_stand_behind_their_lengths(rt: HostRuntime) -> Result<(), Fail> {
+    let alloc = rt.alloc();
+    must_encode_strings(
+        &rt,
+        alloc,
+        &chain_of_byte_strings(alloc),
+        &DataType::Bytes,
+        &[2],
+        &strings(&[0, 255], &[0, 2, 2])?,
+        &[2, 0, 0, 0, 2, 0, 0, 0, 0, 255, 0, 0, 0, 0],
+    )
+}
+
+#[test]
+fn a_chunk_without_a_cell_is_its_number_alone(rt: HostRuntime) -> Result<(), Fail> {
+    let alloc = rt.alloc();
+    must_encode_strings(
+        &rt,
+        alloc,
+        &chain_of_texts(Vec::new(alloc)),
+        &DataType::String,
+        &[2, 0],
+        &strings(b"", &[0])?,
+        &[0, 0, 0, 0],
+    )
+}
+
+/// The texts "a", "bb" and "" above "c", "dd" and "e", column by column.
+#[test]
+fn a_transpose_moves_texts_whole(rt: HostRuntime) -> Result<(), Fail> {
+    let alloc = rt.alloc();
+    let encoded = [
+        6, 0, 0, 0, 1, 0, 0, 0, 97, 1, 0, 0, 0, 99, 2, 0, 0, 0, 98, 98, 2, 0, 0, 0, 100, 100, 0, 0,
+        0, 0, 1, 0, 0, 0, 101,
+    ];
+    must_encode_strings(
+        &rt,
+        alloc,
+        &chain_of_texts(vec![in alloc; transpose(alloc, &[1, 0])?]?),
+        &DataType::String,
+        &[2, 3],
+        &strings(b"abbcdde", &[0, 1, 3, 3, 4, 6, 7])?,
+        &encoded,
+    )
+}
+
+/// The bytes are those of no cell.
+fn must_not_be_one_cell(
+    rt: &impl Abort,
+    alloc: Global,
+    chain: &CodecChain,
+    data_type: &DataType,
+    encoded: &[u8],
+) {
+    let empty = FillValue::new(Vec::new(alloc));
+    assert!(rt; empty.is_value_of(data_type));
+    assert_eq!(rt; data_type.cell_size(), 1);
+    let made = chain.decode(alloc, encoded, data_type, &empty, &[1]);
+    assert!(rt;
+        made.is_err_and(|error| error == CodecError::DoesNotFit),
+        "{encoded:?}"
+    );
+}
+
+#[test]
+fn foreign_bytes_are_no_text(rt: HostRuntime) {
+    let alloc = rt.alloc();
+    let chain = chain_of_texts(Vec::new(alloc));
+    let of_type = &DataType::String;
+    must_not_be_one_cell(&rt, alloc, &chain, of_type, &[1, 0, 0, 0, 1, 0, 0, 0, 0xFF]);
+    let two = [2, 0, 0, 0, 0, 0, 0, 0, 0, 0, 0, 0];
+    must_not_be_one_cell(&rt, alloc, &chain, of_type, &two);
+    must_not_be_one_cell(&rt, alloc, &chain, of_type, &[1, 0, 0, 0, 0, 0, 0, 0, 0]);
+    let past = [1, 0, 0, 0, 0xFF, 0xFF, 0xFF, 0xFF];
+    must_not_be_one_cell(&rt, alloc, &chain, of_type, &past);
+    must_not_be_one_cell(&rt, alloc, &chain, of_type, &[]);
+}
+
+#[test]
+fn foreign_bytes_are_no_byte_string(rt: HostRuntime) {
+    let alloc = rt.alloc();
+    let chain = chain_of_byte_strings(alloc);
+    let of_type = &DataType::Bytes;
+    let two = [2, 0, 0, 0, 0, 0, 0, 0, 0, 0, 0, 0];
+    must_not_be_one_cell(&rt, alloc, &chain, of_type, &two);
+    must_not_be_one_cell(&rt, alloc, &chain, of_type, &[1, 0, 0, 0, 0, 0, 0, 0, 0]);
+    must_not_be_one_cell(&rt, alloc, &chain, of_type, &[1, 0, 0, 0, 2, 0, 0, 0, 97]);
+    must_not_be_one_cell(&rt, alloc, &chain, of_type, &[1, 0, 0]);
+}
+
+/// The data is two cells of the type, and the chain takes no such cells.
+fn must_not_take(
+    rt: &impl Abort,
+    alloc: Global,
+    chain: &CodecChain,
+    data_type: &DataType,
+    fill: &FillValue,
+    cells: &ArrayBytes<'_>,
+) -> Result<(), Fail> {
+    assert!(rt; fill.is_value_of(data_type));
+    assert!(rt; cells.validate(data_type, 2));
+    assert!(rt; !chain.fits(alloc, data_type, &[2])?);
+    let options = CodecOptions::default();
+    let made = chain.encode(alloc, cells, data_type, fill, &[2], &options);
+    assert!(rt; made.is_err_and(|error| error == CodecError::DoesNotFit));
+    Ok(())
+}
+
+#[test]
+fn each_chain_takes_its_type_alone(rt: HostRuntime) -> Result<(), Fail> {
+    let alloc = rt.alloc();
+    let texts = chain_of_texts(Vec::new(alloc));
+    let byte_strings = chain_of_byte_strings(alloc);
+    let empty = FillValue::new(Vec::new(alloc));
+    let cells = strings(b"ab", &[0, 1, 2])?;
+    must_not_take(&rt, alloc, &texts, &DataType::Bytes, &empty, &cells)?;
+    must_not_take(&rt, alloc, &byte_strings, &DataType::String, &empty, &cells)?;
+    let zero = FillValue::new(vec![in alloc; 0]?);
+    let numbers = ArrayBytes::from_flen(&[1, 2]);
+    must_not_take(&rt, alloc, &texts, &DataType::UInt8, &zero, &numbers)
+}
