@@ -1,5 +1,6 @@
 -- Ranges of chunks: their box is made of them, and covers each of them.
 use Rattle.std.proofs.Common.{◌≡◌, ℕ, true, false, not, cond, List, Option, Some, None, Contains, refl, sym, ◌∙◌, ap, subst, arith}
+use Rattle.std.specs.Option.{option_or}
 use Rattle.std.proofs.lemmas.List.FromFn.{length-map-range_with_len}
 use Rattle.std.proofs.lemmas.Option.{slice_get_within, get_or_from_slice_get, slice_get-get_or}
 use Rattle.zarrs_subset.specs.Boxes.{place, offset_from}
@@ -11,7 +12,7 @@ use Rattle.zarrs_chunk_grid.proofs.Chunks.{holds_chunk, chunk_index, has_box_is,
 use Rattle.zarrs_chunk_grid.proofs.MetChunks.{range_fills}
 use Rattle.zarrs_steps.specs.Layout.{Layout, IsLawful}
 use Rattle.zarrs_steps.specs.Refusals as refusal
-use Rattle.zarrs_steps.specs.Refusals.{Refusal, or_else}
+use Rattle.zarrs_steps.specs.Refusals.{Refusal}
 use Rattle.zarrs_steps.specs.ChunkBoxes.{CoversBox, is_empty, last_of}
 use Rattle.zarrs_steps.specs.ArgumentRefusals.{chunk_refusal, range_refusal}
 use Rattle.zarrs_steps.specs.StateRefusals.{IsPart}
@@ -50,7 +51,7 @@ module _ (grid : Grid) (lawful : IsGrid grid) (range : Box) (long : IsLong range
       subst (Contains (positions range)) (sym is) (n, slice_get_within _ n _ at, get_or_from_slice_get _ n _ _ at)
 
 -- Where the first and the last chunk of a range that is not empty are there, it is a range of chunks.
-first_part : (a b : Option Refusal) → or_else a b ≡ None → (a ≡ None) × (b ≡ None)
+first_part : (a b : Option Refusal) → option_or a b ≡ None → (a ≡ None) × (b ≡ None)
 first_part None b h = (refl, h)
 first_part (Some x) b h = absurd (cc)
 

@@ -1,6 +1,7 @@
 -- Refusals of the parts of a call are refusals of the call.
 use Rattle.std.proofs.Common.{◌⊎◌, inl, inr, ◌≡◌, ℕ, ◌*◌, ◌^◌, ◌<◌, ◌≤◌, true, false, not, cond, List, Option, Some, None, refl, ◌∙◌, ap, arith}
 use Rattle.std.specs.Prelude.{unwrap_or}
+use Rattle.std.specs.Option.{option_or}
 use Rattle.std.proofs.lemmas.Bool.{le-leb, lt-leb, leb-false}
 use Rattle.std.proofs.Math.Nat.{mul-le-mul_left}
 use Rattle.zarrs_subset.specs.Boxes.{position_count}
@@ -16,7 +17,7 @@ use Rattle.zarrs_steps.specs.Layout.{Layout}
 use Rattle.zarrs_steps.specs.Errors.{error_of_storage, error_of_codec}
 use Rattle.zarrs_steps.specs.Changes.{Makes}
 use Rattle.zarrs_steps.specs.Refusals as refusal
-use Rattle.zarrs_steps.specs.Refusals.{Refusal, refusal_of, refusal_of_storage, refusal_of_codec, or_else, box_refusal, is_too_large, data_refusal, encode_refusal, encoded_cells, is_left_out, RefusesBy}
+use Rattle.zarrs_steps.specs.Refusals.{Refusal, refusal_of, refusal_of_storage, refusal_of_codec, box_refusal, is_too_large, data_refusal, encode_refusal, encoded_cells, is_left_out, RefusesBy}
 
 -- what refuses a part of a call refuses the call
 pub refusal_moved : (a b : Option Refusal) (r : Refusal) → ((x : Refusal) → a ≡ Some x → b ≡ Some x) → RefusesBy a r → RefusesBy b r
@@ -60,20 +61,20 @@ refuses_said first (refusal.dimensionality got expected) h = h
 refuses_said first refusal.unused h = h
 
 -- the first of two refusals is that of both
-pub first_refusal : (a b : Option Refusal) (x : Refusal) → a ≡ Some x → or_else a b ≡ Some x
+pub first_refusal : (a b : Option Refusal) (x : Refusal) → a ≡ Some x → option_or a b ≡ Some x
 first_refusal None b x h = absurd (cc)
 first_refusal (Some y) b x h = h
 
 -- and the second one, where the first part refuses nothing
-pub second_refusal : (a b : Option Refusal) → a ≡ None → or_else a b ≡ b
+pub second_refusal : (a b : Option Refusal) → a ≡ None → option_or a b ≡ b
 second_refusal None b h = refl
 second_refusal (Some y) b h = absurd (cc)
 
-pub refused_first : (a b : Option Refusal) (r : Refusal) → RefusesBy a r → RefusesBy (or_else a b) r
-refused_first a b r h = refusal_moved a (or_else a b) r (first_refusal a b) h
+pub refused_first : (a b : Option Refusal) (r : Refusal) → RefusesBy a r → RefusesBy (option_or a b) r
+refused_first a b r h = refusal_moved a (option_or a b) r (first_refusal a b) h
 
-pub refused_second : (a b : Option Refusal) (r : Refusal) → a ≡ None → RefusesBy b r → RefusesBy (or_else a b) r
-refused_second a b r none h = refusal_moved b (or_else a b) r (λ x is. second_refusal a b none ∙ is) h
+pub refused_second : (a b : Option Refusal) (r : Refusal) → a ≡ None → RefusesBy b r → RefusesBy (option_or a b) r
+refused_second a b r none h = refusal_moved b (option_or a b) r (λ x is. second_refusal a b none ∙ is) h
 
 -- what the error of a store says
 pub storage_said : (e : StorageError) → refusal_of (error_of_storage e) ≡ refusal_of_storage e

@@ -1,6 +1,7 @@
 -- What the calls refuse, and which refusal comes first.
 use Rattle.std.specs.Prelude.{◌≡◌, ℕ, ◌*◌, ◌^◌, ◌==◌, ◌&&◌, not, nat_le, Bool, if◌then◌else◌, List, length, Option, Some, None, is_some}
 use Rattle.std.specs.List.{list_all}
+use Rattle.std.specs.Option.{option_or}
 use Rattle.zarrs_subset.specs.Boxes.{position_count}
 use Rattle.zarrs_subset.specs.Regions.{Box, box_of}
 use Rattle.zarrs_chunk_grid.specs.Grids.{box_at, has_box}
@@ -98,11 +99,6 @@ refusal_of_codec coded.DoesNotFit = codec
 refusal_of_codec coded.SizeOverflow = size_overflow
 refusal_of_codec coded.OutOfMemory = out_of_memory
 
--- the first of two refusals, where there is one
-abbrev pub or_else : Option Refusal → Option Refusal → Option Refusal
-or_else None later = later
-or_else (Some first) later = Some first
-
 -- the index list has another length than the grid has dimensions
 abbrev pub length_refusal : Layout → List ℕ → Option Refusal
 length_refusal layout index = if length index == layout.grid.dimensions then None else Some (indices index)
@@ -152,9 +148,9 @@ fill_refusal layout shape = refuse_if (nat_le (2 ^ 64) (position_count shape * h
 -- The refusal that the bytes at the key of a chunk decide where the chunk is read: the index list, the size, the
 -- bytes, in this order. An absent chunk is asked for its box where its cells are needed.
 abbrev pub read_refusal : Layout → Bool → List ℕ → Option (List ℕ) → Option Refusal
-read_refusal layout needed index None = if needed then or_else (box_refusal layout index) (fill_refusal layout (box_at layout.grid index).shape) else None
+read_refusal layout needed index None = if needed then option_or (box_refusal layout index) (fill_refusal layout (box_at layout.grid index).shape) else None
 read_refusal layout needed index (Some encoded) =
-    or_else (box_refusal layout index) (if is_some (decoded_cells layout (box_at layout.grid index) encoded) then None else Some codec)
+    option_or (box_refusal layout index) (if is_some (decoded_cells layout (box_at layout.grid index) encoded) then None else Some codec)
 
 -- the store refuses to read the key of the chunk
 abbrev pub key_refusal : Layout → List ℕ → StoreState → Option Refusal

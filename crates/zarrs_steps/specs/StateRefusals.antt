@@ -1,5 +1,6 @@
 -- Why a call is refused that its arguments do not refuse.
 use Rattle.std.specs.Prelude.{◌≡◌, ◌⊎◌, ℕ, [], ◌≤◌, ◌^◌, Bool, true, false, List, length, Option, Some, None, Contains, if◌then◌else◌}
+use Rattle.std.specs.Option.{option_or}
 use Rattle.std.specs.List.{sum_by}
 use Rattle.zarrs_subset.specs.Boxes.{position_count}
 use Rattle.zarrs_subset.specs.Regions.{Box, Holds, in_box, cell_in}
@@ -12,7 +13,7 @@ use Rattle.zarrs_data_type.specs.Cells.{cells}
 use Rattle.zarrs_steps.specs.Layout.{Layout}
 use Rattle.zarrs_steps.specs.Content.{value_at, content, Reads}
 use Rattle.zarrs_steps.specs.Refusals as refusal
-use Rattle.zarrs_steps.specs.Refusals.{Refusal, RefusesBy, or_else, is_too_large, data_refusal, key_refusal, read_refusal}
+use Rattle.zarrs_steps.specs.Refusals.{Refusal, RefusesBy, is_too_large, data_refusal, key_refusal, read_refusal}
 use Rattle.zarrs_steps.specs.Changes.{IsPresent}
 use Rattle.zarrs_steps.specs.ChunkBoxes.{CoversBox}
 use Rattle.zarrs_steps.specs.Reads.{IsBroken}
@@ -102,5 +103,5 @@ RefusesRegionRead layout first region chunks state r = RefusesBy first r ⊎ ((f
 -- a refused read of a whole chunk, exactly: what the arguments decide first, then the key, then the bytes
 abbrev pub RefusesChunkRead : Layout → Option Refusal → Bool → List ℕ → StoreState → Refusal → Type 0
 RefusesChunkRead layout early needed index state r =
-    let first = or_else early (or_else (key_refusal layout index state) (read_refusal layout needed index (value_at state (layout.key index)))) in
+    let first = option_or early (option_or (key_refusal layout index state) (read_refusal layout needed index (value_at state (layout.key index)))) in
     RefusesBy first r

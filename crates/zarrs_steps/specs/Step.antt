@@ -12,7 +12,9 @@ use Rattle.zarrs_steps.specs.declared.call.Reply.{Reply}
 use Rattle.zarrs_steps.specs.declared.call.Reply.TheVariants.{Done, Cells, MaybeCells, Refused}
 use Rattle.zarrs_steps.specs.Layout.{ArrayState}
 use Rattle.zarrs_steps.specs.Acts.{Act, store, erase, read, read_chunk, act_of}
-use Rattle.zarrs_steps.specs.ArgumentRefusals.{argument_refusal, store_chunk_refusal}
+use Rattle.zarrs_steps.specs.ChunkBoxes.{chunks_met, chunks_box, part_box, is_whole_of}
+use Rattle.zarrs_steps.specs.ArgumentRefusals.{argument_refusal, store_chunk_refusal, store_chunks_refusal, store_part_refusal, store_region_refusal}
+use Rattle.zarrs_steps.specs.ArgumentRefusals.{read_chunks_refusal, read_part_refusal, read_region_refusal}
 use Rattle.zarrs_steps.specs.Fronts.{Takes, StoresAll, ErasesAll, RefusesWrite}
 use Rattle.zarrs_steps.specs.Reads.{ReadsRegion}
 use Rattle.zarrs_steps.specs.StateRefusals.{RefusesPart, RefusesErasure, RefusesRegionRead, RefusesChunkRead}
@@ -38,6 +40,36 @@ abbrev pub RefusesStoreChunk : Layout → Bool → List ℕ → ArrayData → Re
 RefusesStoreChunk layout keep index held r old new =
     RefusesStore layout keep (store_chunk_refusal layout index held) (box_at layout.grid index) held (index ∷ []) r old new
 
+-- an accepted store over the chunks of a range, each by one writing call
+abbrev pub StoresChunks : Layout → Bool → Box → ArrayData → StoreState → StoreState → Type 0
+StoresChunks layout keep range held old new =
+    (store_chunks_refusal layout range held ≡ None) × StoresAll layout keep (chunks_box layout.grid range) held (positions range) old new
+
+-- a refused one, of which a front is done
+abbrev pub RefusesStoreChunks : Layout → Bool → Box → ArrayData → Refusal → StoreState → StoreState → Type 0
+RefusesStoreChunks layout keep range held r old new =
+    RefusesStore layout keep (store_chunks_refusal layout range held) (chunks_box layout.grid range) held (positions range) r old new
+
+-- an accepted store over a part of a chunk, by one writing call
+abbrev pub StoresPart : Layout → Bool → List ℕ → Box → ArrayData → StoreState → StoreState → Type 0
+StoresPart layout keep index part held old new =
+    (store_part_refusal layout index part held ≡ None) × StoresAll layout keep (part_box (box_at layout.grid index) part) held (index ∷ []) old new
+
+-- a refused one, which changes no value
+abbrev pub RefusesStorePart : Layout → Bool → List ℕ → Box → ArrayData → Refusal → StoreState → StoreState → Type 0
+RefusesStorePart layout keep index part held r old new =
+    RefusesStore layout keep (store_part_refusal layout index part held) (part_box (box_at layout.grid index) part) held (index ∷ []) r old new
+
+-- an accepted store over a region of an array of this shape, by one writing call for each chunk that it meets
+abbrev pub StoresRegion : Layout → Bool → List ℕ → Box → ArrayData → StoreState → StoreState → Type 0
+StoresRegion layout keep shape region held old new =
+    (store_region_refusal layout shape region held ≡ None) × StoresAll layout keep region held (chunks_met layout.grid region) old new
+
+-- a refused one, of which a front is done
+abbrev pub RefusesStoreRegion : Layout → Bool → List ℕ → Box → ArrayData → Refusal → StoreState → StoreState → Type 0
+RefusesStoreRegion layout keep shape region held r old new =
+    RefusesStore layout keep (store_region_refusal layout shape region held) region held (chunks_met layout.grid region) r old new
+
 -- an accepted erasure of one chunk, by one writing call
 abbrev pub ErasesChunk : Layout → List ℕ → StoreState → StoreState → Type 0
 ErasesChunk layout index old new = (length_refusal layout index ≡ None) × ErasesAll layout (index ∷ []) old new
@@ -53,6 +85,38 @@ ErasesChunks layout range old new = (length_refusal layout range.start ≡ None)
 -- a refused one, of which a front is done
 abbrev pub RefusesEraseChunks : Layout → Box → Refusal → StoreState → StoreState → Type 0
 RefusesEraseChunks layout range r old new = RefusesErase layout (length_refusal layout range.start) (positions range) r old new
+
+-- an accepted read of the chunks of a range
+abbrev pub RetrievesChunks : Layout → List ℕ → Box → ArrayData → StoreState → Type 0
+RetrievesChunks layout shape range held state =
+    (read_chunks_refusal layout shape range ≡ None) × ReadsRegion layout (chunks_box layout.grid range) (positions range) held state
+
+-- a refused one
+abbrev pub RefusesRetrieveChunks : Layout → List ℕ → Box → Refusal → StoreState → Type 0
+RefusesRetrieveChunks layout shape range r state =
+    RefusesRegionRead layout (read_chunks_refusal layout shape range) (chunks_box layout.grid range) (positions range) state r
+
+-- an accepted read of a part of a chunk; of all of it, that of the chunk
+pub record RetrievesPart (layout : Layout) (index : List ℕ) (part : Box) (held : ArrayData) (state : StoreState) : Type 0 where
+  pub accepted : read_part_refusal layout index part ≡ None
+  pub whole : is_whole_of (box_at layout.grid index).shape part ≡ true → RetrievesChunk layout index held state
+  pub proper : is_whole_of (box_at layout.grid index).shape part ≡ false → ReadsRegion layout (part_box (box_at layout.grid index) part) (index ∷ []) held state
+
+-- a refused one
+pub record RefusesRetrievePart (layout : Layout) (index : List ℕ) (part : Box) (r : Refusal) (state : StoreState) : Type 0 where
+  pub whole : is_whole_of (box_at layout.grid index).shape part ≡ true → RefusesChunkRead layout (read_part_refusal layout index part) true index state r
+  pub proper : is_whole_of (box_at layout.grid index).shape part ≡ false
+      → RefusesRegionRead layout (read_part_refusal layout index part) (part_box (box_at layout.grid index) part) (index ∷ []) state r
+
+-- an accepted read of a region
+abbrev pub RetrievesRegion : Layout → List ℕ → Box → ArrayData → StoreState → Type 0
+RetrievesRegion layout shape region held state =
+    (read_region_refusal layout shape region ≡ None) × ReadsRegion layout region (chunks_met layout.grid region) held state
+
+-- a refused one
+abbrev pub RefusesRetrieveRegion : Layout → List ℕ → Box → Refusal → StoreState → Type 0
+RefusesRetrieveRegion layout shape region r state =
+    RefusesRegionRead layout (read_region_refusal layout shape region) region (chunks_met layout.grid region) state r
 
 -- What an act does to the store, and what it returns, where this is the first refusal that its arguments decide.
 abbrev pub ActStep : Layout → Bool → Option Refusal → Act → Reply → StoreState → StoreState → Type 0

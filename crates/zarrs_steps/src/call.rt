@@ -1,19 +1,33 @@
 //! Calls of an array, and their replies.
 use crate::error::ArrayError;
 use zarrs_data_type::ArrayBytes;
-use zarrs_subset::ArrayIndices;
+use zarrs_subset::{ArrayIndices, ArraySubset};
 
 /// A call of an array.
 #[derive(Drop)]
 pub enum Call {
     /// Store the cells of the chunk with these indices.
     StoreChunk(ArrayIndices, ArrayBytes<'static>),
+    /// Store these cells, in row-major order, over the chunks with the indices in this range.
+    StoreChunks(ArraySubset, ArrayBytes<'static>),
+    /// Store these cells over a part of the chunk with these indices. The part is seen from the origin of the chunk.
+    StoreChunkSubset(ArrayIndices, ArraySubset, ArrayBytes<'static>),
+    /// Store these cells over this region.
+    StoreArraySubset(ArraySubset, ArrayBytes<'static>),
     /// Erase the chunk with these indices.
     EraseChunk(ArrayIndices),
+    /// Erase the chunks with the indices in this range.
+    EraseChunks(ArraySubset),
     /// Read the chunk with these indices, if it is present.
     RetrieveChunkIfExists(ArrayIndices),
     /// Read the chunk with these indices, which is all fill if it is absent.
     RetrieveChunk(ArrayIndices),
+    /// Read the cells of the chunks with the indices in this range, which are fill where a chunk is absent.
+    RetrieveChunks(ArraySubset),
+    /// Read the cells of a part of the chunk with these indices. The part is seen from the origin of the chunk.
+    RetrieveChunkSubset(ArrayIndices, ArraySubset),
+    /// Read the cells of this region, which are fill where a chunk is absent.
+    RetrieveArraySubset(ArraySubset),
 }
 
 /// The reply to a call.

@@ -1,5 +1,5 @@
-//! Laws of steps, of runs and of canonical stores: what follows from the contracts of the calls, whatever the store, the
-//! grid, the keys and the chain. Each is the contract of a function that does nothing.
+//! Laws of steps, of runs and of canonical stores: what follows from the contracts of the calls, whatever the store,
+//! the grid, the keys and the chain. Each is the contract of a function that does nothing.
 ghost use Rattle.zarrs_steps.specs.Laws.{
   ContentIsBytes,
   CanonicalStoresDecode,
@@ -16,8 +16,8 @@ ghost use Rattle.zarrs_steps.specs.Laws.{
   PartsMakeTheRegion,
 };
 
-/// Canonical stores of one layout have equal content exactly if the same bytes are present at each chunk key, or none in
-/// both. So stores are compared without decoding a chunk.
+/// Canonical stores of one layout have equal content exactly if the same bytes are present at each chunk key, or none
+/// in both. So stores are compared without decoding a chunk.
 pub fn content_is_bytes()
     ensures { ContentIsBytes }
 {}
