@@ -1,4 +1,11 @@
-mod Chunks
 mod Puts
 mod Writes
 mod Ranges
+mod RegionReads
+mod RegionSteps
+mod PartReads
+mod PartSteps
+mod PartWrites
+mod RegionFronts
+mod RegionArguments
+mod PartStores

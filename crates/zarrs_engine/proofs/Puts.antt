@@ -12,7 +12,7 @@ use Rattle.zarrs_steps.specs.Refusals as refusal
 use Rattle.zarrs_steps.specs.Refusals.{Refusal, refusal_of_storage}
 use Rattle.zarrs_steps.specs.StateRefusals.{RefusesErasure, CallFails}
 use Rattle.zarrs_steps.proofs.RefusalLemmas.{makes_none}
-use Rattle.zarrs_engine.specs.Parts.{RefusesPut}
+use Rattle.zarrs_layout.specs.Parts.{RefusesPut}
 
 apart_test : (a b : List ℕ) → a ≢ b → bytes_eq a b ≡ false
 apart_test a b apart = elim (cases_Bool (bytes_eq a b)) [

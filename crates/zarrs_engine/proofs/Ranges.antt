@@ -1,5 +1,5 @@
 -- Erasures of many chunks, one after another.
-use Rattle.std.proofs.Common.{◌≡◌, ◌+◌, ◌<◌, ◌≤◌, ℕ, List, [], ◌∷◌, ◌++◌, length, take, Option, Some, None, slice_get, get_or, refl, sym, ◌∙◌, ap, subst, inl, inr, arith}
+use Rattle.std.proofs.Common.{◌≡◌, ◌+◌, ℕ, List, [], ◌∷◌, ◌++◌, length, take, Option, Some, None, slice_get, refl, sym, ◌∙◌, ap, subst, inl, inr, arith}
 use Rattle.std.proofs.lemmas.List.{take_more, take_all}
 use Rattle.std.proofs.lemmas.Option.{slice_get_within, get_or_from_slice_get}
 use Rattle.zarrs_subset.specs.Regions.{Box, IsLong, positions}
@@ -11,7 +11,7 @@ use Rattle.zarrs_steps.specs.Refusals as refusal
 use Rattle.zarrs_steps.specs.Refusals.{Refusal, RefusesBy, length_refusal}
 use Rattle.zarrs_steps.specs.Changes.{Makes, Erases}
 use Rattle.zarrs_steps.specs.StateRefusals.{RefusesErasure}
-use Rattle.zarrs_steps.specs.Fronts.{Front, ErasesAll, RefusesWrite}
+use Rattle.zarrs_steps.specs.Fronts.{Front, ErasesAll}
 use Rattle.zarrs_steps.specs.Step.{ErasesChunk, RefusesEraseChunk, RefusesEraseChunks, RefusesErase}
 use Rattle.zarrs_engine.proofs.Writes.{refused_early}
 use Rattle.zarrs_steps.proofs.Loops.{erases_push, erases_all}
@@ -124,3 +124,7 @@ range_length range long n index at = (holds_along range index long (positions_in
 -- memory was short before the first chunk
 pub range_short : (layout : Layout) (range : Box) (state : StoreState) → RefusesEraseChunks layout range refusal.out_of_memory state state
 range_short layout range state = refused_early _ _ _ _ state tt
+
+-- the range has another number of dimensions, or memory was short
+pub range_refused : (layout : Layout) (range : Box) (state : StoreState) (r : Refusal) → RefusesBy (length_refusal layout range.start) r → RefusesEraseChunks layout range r state state
+range_refused layout range state r why = refused_early _ _ _ _ state why

@@ -1,5 +1,6 @@
 -- Writes of one chunk, from what their parts leave.
 use Rattle.std.proofs.Common.{◌≡◌, ◌≢◌, ◌⊎◌, ◌==◌, not, ℕ, Bool, true, false, cond, List, [], ◌∷◌, length, is_some, Option, Some, None, Contains, refl, sym, ◌∙◌, ap, subst, inl, inr, arith}
+use Rattle.std.specs.Option.{option_or}
 use Rattle.std.proofs.lemmas.Bool.{cases_Bool, eq-eqb, eqb-true}
 use Rattle.zarrs_subset.specs.Boxes.{position_count}
 use Rattle.zarrs_subset.specs.Regions.{Box, Holds, cell_in}
@@ -14,7 +15,7 @@ use Rattle.zarrs_data_type.proofs.Cells.{cells-values}
 use Rattle.zarrs_steps.specs.Layout.{Layout, IsLawful}
 use Rattle.zarrs_steps.specs.Content.{value_at, content, indexed_cell, chunk_cell}
 use Rattle.zarrs_steps.specs.Refusals as refusal
-use Rattle.zarrs_steps.specs.Refusals.{Refusal, RefusesBy, or_else, length_refusal, box_refusal, is_too_large, is_left_out, encoded_cells, encode_refusal, data_refusal}
+use Rattle.zarrs_steps.specs.Refusals.{Refusal, RefusesBy, length_refusal, box_refusal, is_too_large, is_left_out, encoded_cells, encode_refusal, data_refusal}
 use Rattle.zarrs_steps.specs.ArgumentRefusals.{store_chunk_refusal, cells_refusal, count_refusal}
 use Rattle.zarrs_steps.specs.Changes.{Makes, IsPut, Erases, ChangesKeysOf}
 use Rattle.zarrs_steps.specs.StateRefusals.{AreUpdated, RefusesPart, RefusesErasure, IsRefusedAs}
@@ -23,8 +24,8 @@ use Rattle.zarrs_steps.specs.Step.{StoresChunk, RefusesStoreChunk, ErasesChunk, 
 use Rattle.zarrs_steps.proofs.Contents.{content_covered, content_uncovered, covered_has_box, index_list, one_key, only_member, member}
 use Rattle.zarrs_steps.proofs.RefusalLemmas.{memory_or_said, refusal_moved, second_refusal, box_accepted, makes_none}
 use Rattle.zarrs_steps.proofs.Loops.{stored_part, stores_all, erases_all}
-use Rattle.zarrs_engine.specs.Parts.{HasValue, RefusesPut}
-use Rattle.zarrs_engine.proofs.Chunks.{right_length}
+use Rattle.zarrs_layout.specs.Parts.{HasValue, RefusesPut}
+use Rattle.zarrs_layout.proofs.Chunks.{right_length}
 
 -- ---- writes of which nothing was done
 
@@ -73,7 +74,7 @@ encode_kinds true fits r is = absurd (cc)
 encode_kinds false true r is = inr (cc)
 encode_kinds false false r is = inl (cc)
 
-left_kinds : (left made fits : Bool) (r : Refusal) → cond left None (cond made None (cond fits (Some refusal.size_overflow) (Some refusal.codec))) ≡ Some r → (r ≡ refusal.codec) ⊎ (r ≡ refusal.size_overflow)
+pub left_kinds : (left made fits : Bool) (r : Refusal) → cond left None (cond made None (cond fits (Some refusal.size_overflow) (Some refusal.codec))) ≡ Some r → (r ≡ refusal.codec) ⊎ (r ≡ refusal.size_overflow)
 left_kinds true made fits r is = absurd (cc)
 left_kinds false made fits r is = encode_kinds made fits r is
 
@@ -179,7 +180,7 @@ pub box_refused : (layout : Layout) (keep : Bool) (index : List ℕ) (held : Arr
 box_refused layout keep index held state r why =
     refused_early _ _ _ _ state (refusal_moved (box_refusal layout index) (store_chunk_refusal layout index held) r (λ x is. first_is_box (box_refusal layout index) _ x is) why)
   where
-    first_is_box : (a b : Option Refusal) (x : Refusal) → a ≡ Some x → or_else a b ≡ Some x
+    first_is_box : (a b : Option Refusal) (x : Refusal) → a ≡ Some x → option_or a b ≡ Some x
     first_is_box None b x h = absurd (cc)
     first_is_box (Some y) b x h = h
 

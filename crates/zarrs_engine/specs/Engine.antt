@@ -4,18 +4,13 @@ use Rattle.zarrs_storage.specs.Store.{StoreState}
 use Rattle.zarrs_chunk_grid.specs.declared.traits.ChunkGridTraits.{Ghosts as GridMeaning}
 use Rattle.zarrs_keys.specs.declared.traits.ChunkKeyEncodingTraits.{Ghosts as KeyMeaning}
 use Rattle.zarrs_codec.specs.declared.traits.ChainTraits.{Ghosts as ChainMeanings}
-use Rattle.zarrs_data_type.specs.Kind.{kind}
 use Rattle.zarrs_data_type.specs.declared.data_type.DataType.{DataType}
-use Rattle.zarrs_steps.specs.Layout.{Layout, layout_at}
+use Rattle.zarrs_steps.specs.Layout.{Layout}
 use Rattle.zarrs_steps.specs.Layout.{ArrayState}
-use Rattle.zarrs_engine.specs.declared.parts.Parts.{Parts}
+use Rattle.zarrs_layout.specs.Layouts.{layout_of_parts}
 use Rattle.zarrs_engine.specs.declared.engine.Engine.{Engine}
 
 module _ {G K C : Type 0} {g : GridMeaning G} {k : KeyMeaning K} {c : ChainMeanings C} where
-  -- what the parts of an engine mean
-  abbrev pub layout_of_parts : Parts G K C g k c → Layout
-  layout_of_parts parts = layout_at (g.grid parts.grid) parts.path (k.key parts.keys) (c.meaning parts.chain) (kind parts.data_type) parts.fill_value
-
   module _ {S : Type 0} where
     -- what an engine means
     abbrev pub layout_of : Engine S G K C g k c → Layout

@@ -1,2 +1,3 @@
 pub mod Engine
-pub mod Parts
+pub mod RegionReads
+pub mod RegionWrites

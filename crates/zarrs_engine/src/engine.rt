@@ -1,14 +1,17 @@
 //! An engine: a store, and the parts that say what its values mean.
 mod calls;
+mod part_reads;
 mod reads;
+mod region_reads;
+mod region_writes;
 mod writes;
 
-use crate::parts::Parts;
 pub use calls::replay;
 use zarrs_chunk_grid::ChunkGridTraits;
 use zarrs_codec::ChainTraits;
 use zarrs_data_type::{DataType, FillValue};
 use zarrs_keys::{ChunkKeyEncodingTraits, NodePath};
+use zarrs_layout::Parts;
 
 /// The chunks of one array in a store.
 ///
@@ -26,7 +29,8 @@ impl<S, G: ChunkGridTraits, K: ChunkKeyEncodingTraits, C: ChainTraits> Engine<S,
     ghost use Rattle.zarrs_data_type.specs.Kind.{kind};
     ghost use Rattle.zarrs_data_type.specs.Cell.{fill_cell};
     ghost use Rattle.zarrs_steps.specs.Layout.{layout_at};
-    ghost use Rattle.zarrs_engine.specs.Engine.{layout_of, the_store, path_of, grid_of, keys_of, chain_of, data_type_of, fill_value_of};
+    ghost use Rattle.zarrs_engine.specs.Engine.{layout_of, the_store, path_of, grid_of, keys_of};
+    ghost use Rattle.zarrs_engine.specs.Engine.{chain_of, data_type_of, fill_value_of};
 
     /// An engine over the store, for the array at the path that is cut by the grid, whose chunks lie at the keys of the
     /// encoding and are turned into bytes by the chain. The bytes of the fill value are a value of the data type.

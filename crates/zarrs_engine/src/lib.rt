@@ -3,7 +3,6 @@
 #![tactic(auto)]
 
 mod engine;
-mod parts;
 
 pub use engine::{Engine, layouts_are_lawful, replay};
 pub use zarrs_steps::{ArrayError, Call, Reply};

@@ -2,4 +2,6 @@
 #![tactic(auto)]
 
 #[cfg(test)]
+mod ranges;
+#[cfg(test)]
 mod tests;

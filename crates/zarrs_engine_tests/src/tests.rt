@@ -14,10 +14,10 @@ use zarrs_keys::{ChunkKeyEncoding, ChunkKeySeparator, NodePath};
 use zarrs_storage::{Bytes, MemoryStore, StorageError, StoreKey, WritableStorageTraits};
 use zarrs_subset::ArraySubset;
 
-type MemoryEngine = Engine<MemoryStore, RegularChunkGrid, ChunkKeyEncoding, CodecChain>;
+pub(crate) type MemoryEngine = Engine<MemoryStore, RegularChunkGrid, ChunkKeyEncoding, CodecChain>;
 
 /// An array of bytes at `/` of this shape, in chunks of that shape, over the store.
-fn bytes_engine(
+pub(crate) fn bytes_engine(
     alloc: Global,
     storage: MemoryStore,
     shape: &[u64],
@@ -64,7 +64,7 @@ fn holds(data: &ArrayBytes<'_>, bytes: &[u8]) -> bool {
 }
 
 /// The chunk reads as these bytes.
-fn must_read(
+pub(crate) fn must_read(
     rt: &impl Abort,
     alloc: Global,
     engine: &MemoryEngine,
@@ -77,7 +77,7 @@ fn must_read(
 }
 
 /// Whether the chunk is present.
-fn must_be_present(
+pub(crate) fn must_be_present(
     rt: &impl Abort,
     alloc: Global,
     engine: &MemoryEngine,
@@ -104,7 +104,7 @@ fn must_have(
     Ok(())
 }
 
-fn store(
+pub(crate) fn store(
     alloc: Global,
     engine: &mut MemoryEngine,
     indices: &[u64],

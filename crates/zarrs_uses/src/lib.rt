@@ -5,6 +5,7 @@ pub mod chunks;
 pub mod histories;
 pub mod make;
 pub mod refusals;
+pub mod regions;
 #[cfg(test)]
 mod tests;
 pub mod walk;

@@ -3,6 +3,7 @@ use crate::chunks::{erase, is_present, store_and_read};
 use crate::histories::{count_refused, have_equal_bytes};
 use crate::make::{MemoryEngine, bytes_array};
 use crate::refusals::advice;
+use crate::regions::{part_of_chunk, store_region};
 use crate::walk::sum_of_chunks;
 use std::alloc::Global;
 use std::num::NonZeroU64;
@@ -10,7 +11,8 @@ use std::process::Abort;
 use std::test::Fail;
 use zarrs_chunk_grid::ChunkShape;
 use zarrs_data_type::ArrayBytes;
-use zarrs_engine::Call;
+use zarrs_engine::{ArrayError, Call};
+use zarrs_subset::ArraySubset;
 
 /// The shape of chunks of 2 by 2 cells.
 fn two_by_two(alloc: Global) -> Result<ChunkShape, Fail> {
@@ -71,35 +73,78 @@ fn the_chunks_of_a_region_are_walked(rt: HostRuntime) -> Result<(), Fail> {
     must_sum(&rt, alloc, &engine, None, u64::MAX)
 }
 
-fn must_advise(
+fn region(alloc: Global, start: &[u64], shape: &[u64]) -> Result<ArraySubset, Fail> {
+    Ok(ArraySubset::new_with_start_shape(start.to_vec(alloc)?, shape.to_vec(alloc)?)?)
+}
+
+/// The part of the chunk reads as these bytes.
+fn must_read_part(
     rt: &impl Abort,
     alloc: Global,
+    engine: &MemoryEngine,
     indices: &[u64],
-    cells: &[u8],
-    text: &str,
+    part: &ArraySubset,
+    bytes: &[u8],
 ) -> Result<(), Fail> {
-    let mut engine = small_array(alloc)?;
-    match store_and_read(alloc, &mut engine, indices, cells) {
-        Ok(_) => Err("nothing was refused".into()),
-        Err(error) => {
-            assert_eq!(rt; advice(&error), text);
-            Ok(())
-        }
-    }
+    must_hold(rt, &part_of_chunk(alloc, engine, indices, part)?, bytes);
+    Ok(())
 }
 
 #[test]
-fn refusals_are_told_apart(rt: HostRuntime) -> Result<(), Fail> {
+fn a_part_of_a_chunk_is_read(rt: HostRuntime) -> Result<(), Fail> {
     let alloc = rt.alloc();
+    let mut engine = small_array(alloc)?;
+    let _ = store_and_read(alloc, &mut engine, &[1, 0], &[5, 6, 7, 8])?;
+    let column = region(alloc, &[0, 1], &[2, 1])?;
+    must_read_part(&rt, alloc, &engine, &[1, 0], &column, &[6, 8])?;
+    must_read_part(&rt, alloc, &engine, &[0, 0], &column, &[0, 0])
+}
+
+#[test]
+fn a_region_is_stored_across_chunks(rt: HostRuntime) -> Result<(), Fail> {
+    let alloc = rt.alloc();
+    let mut engine = small_array(alloc)?;
+    let _ = store_and_read(alloc, &mut engine, &[0, 0], &[5, 6, 7, 8])?;
+    let middle = region(alloc, &[1, 1], &[2, 2])?;
+    store_region(alloc, &mut engine, &middle, &[1, 2, 3, 4])?;
+    let whole = region(alloc, &[0, 0], &[2, 2])?;
+    must_read_part(&rt, alloc, &engine, &[0, 0], &whole, &[5, 6, 7, 1])?;
+    must_read_part(&rt, alloc, &engine, &[0, 1], &whole, &[0, 0, 2, 0])?;
+    must_read_part(&rt, alloc, &engine, &[1, 0], &whole, &[0, 3, 0, 0])?;
+    must_read_part(&rt, alloc, &engine, &[1, 1], &whole, &[4, 0, 0, 0])
+}
+
+fn must_advise<T>(rt: &impl Abort, got: &Result<T, ArrayError>, text: &str) {
+    assert!(rt; matches!(got, Err(error) if advice(error) == text));
+}
+
+#[test]
+fn refusals_of_chunks_are_told_apart(rt: HostRuntime) -> Result<(), Fail> {
+    let alloc = rt.alloc();
+    let mut engine = small_array(alloc)?;
+    let got = store_and_read(alloc, &mut engine, &[0], &[1, 2, 3, 4]);
+    must_advise(&rt, &got, "no chunk has these indices: ask the grid");
+    let unfit = "the cells do not fit, or the bytes in the store are no chunk";
+    let got = store_and_read(alloc, &mut engine, &[0, 0], &[1, 2, 3]);
+    must_advise(&rt, &got, unfit);
+    Ok(())
+}
+
+#[test]
+fn refusals_of_regions_are_told_apart(rt: HostRuntime) -> Result<(), Fail> {
+    let alloc = rt.alloc();
+    let mut engine = small_array(alloc)?;
+    let passing = region(alloc, &[1, 1], &[2, 2])?;
+    let got = part_of_chunk(alloc, &engine, &[1, 1], &passing);
+    must_advise(&rt, &got, "the part does not lie in its chunk");
+    let far = region(alloc, &[0, u64::MAX - 1], &[1, 1])?;
+    let got = store_region(alloc, &mut engine, &far, &[1]);
     must_advise(
         &rt,
-        alloc,
-        &[0],
-        &[1, 2, 3, 4],
-        "no chunk has these indices: ask the grid",
-    )?;
-    let unfit = "the cells, or the bytes in the store, are not those of a chunk";
-    must_advise(&rt, alloc, &[0, 0], &[1, 2, 3], unfit)
+        &got,
+        "the chunks do not cover this region: ask the grid",
+    );
+    Ok(())
 }
 
 /// A store of these cells in chunk (0, 0).

@@ -14,8 +14,10 @@ use std::alloc::{AllocError, Global};
 use zarrs_chunk_grid::ChunkGridTraits;
 use zarrs_codec::{ChainTraits, CodecOptions};
 use zarrs_keys::ChunkKeyEncodingTraits;
+use zarrs_layout::invalid_indices;
 use zarrs_steps::{Call, Reply};
 use zarrs_storage::WritableStorageTraits;
+use zarrs_subset::ArraySubset;
 
 /// Makes the calls in turn, whether earlier ones were refused or not, and returns the reply to each.
 ///
@@ -60,14 +62,17 @@ impl<
     K: ChunkKeyEncodingTraits,
     C: ChainTraits,
 > Engine<S, G, K, C> {
-    ghost use Rattle.std.specs.Prelude.{◌≡◌};
+    ghost use Rattle.std.specs.Prelude.{◌≡◌, Bool};
+    ghost use Rattle.zarrs_subset.specs.Regions.{box_of, positions};
     ghost use Rattle.zarrs_codec.specs.Options.{stores_empty_chunks};
+    ghost use Rattle.zarrs_steps.specs.Acts.{erase};
     ghost use Rattle.zarrs_steps.specs.Reach.{MayAskCall};
-    ghost use Rattle.zarrs_steps.specs.Step.{Step};
-    ghost use Rattle.zarrs_engine.specs.Engine.{layout_of, state_of};
+    ghost use Rattle.zarrs_steps.specs.Refusals.{length_refusal};
+    ghost use Rattle.zarrs_steps.specs.Step.{ActStep, Step};
+    ghost use Rattle.zarrs_engine.specs.Engine.{layout_of, state_of, store_of, KeepsParts};
 
-    /// Makes one call, and returns the reply.
-    fn answer(&mut self, alloc: Global, call: &Call, options: &CodecOptions) -> Reply
+    /// Makes one call, and returns the reply: that it was done, what was read, or why it was refused.
+    pub fn answer(&mut self, alloc: Global, call: &Call, options: &CodecOptions) -> Reply
         requires { MayAskCall (layout_of self.old) call.now (state_of S.state self.old) }
         ensures step { Step (layout_of self.old) (stores_empty_chunks options.now) call.now result
             (state_of S.state self.old) (state_of S.state self.new) }
@@ -80,15 +85,34 @@ impl<
                     Err(error) => Reply::Refused(error),
                 }
             }
+            Call::StoreChunks(chunks, data) => {
+                match self.store_chunks(alloc, chunks, data, options) {
+                    Ok(()) => Reply::Done,
+                    Err(error) => Reply::Refused(error),
+                }
+            }
+            Call::StoreChunkSubset(chunk_indices, chunk_subset, data) => {
+                match self.store_chunk_subset(alloc, chunk_indices, chunk_subset, data, options) {
+                    Ok(()) => Reply::Done,
+                    Err(error) => Reply::Refused(error),
+                }
+            }
+            Call::StoreArraySubset(array_subset, data) => {
+                match self.store_array_subset(alloc, array_subset, data, options) {
+                    Ok(()) => Reply::Done,
+                    Err(error) => Reply::Refused(error),
+                }
+            }
             Call::EraseChunk(chunk_indices) => {
                 if chunk_indices.len() != self.parts.grid.dimensionality() {
-                    return Reply::Refused(crate::parts::invalid_indices(alloc, chunk_indices));
+                    return Reply::Refused(invalid_indices(alloc, chunk_indices));
                 }
                 match self.erase_chunk(alloc, chunk_indices) {
                     Ok(()) => Reply::Done,
                     Err(error) => Reply::Refused(error.into()),
                 }
             }
+            Call::EraseChunks(chunks) => self.answer_erase_chunks(alloc, chunks),
             Call::RetrieveChunkIfExists(chunk_indices) => {
                 match self.retrieve_chunk_if_exists(alloc, chunk_indices) {
                     Ok(found) => Reply::MaybeCells(found),
@@ -99,6 +123,39 @@ impl<
                 Ok(data) => Reply::Cells(data),
                 Err(error) => Reply::Refused(error),
             },
+            Call::RetrieveChunks(chunks) => match self.retrieve_chunks(alloc, chunks) {
+                Ok(data) => Reply::Cells(data),
+                Err(error) => Reply::Refused(error),
+            },
+            Call::RetrieveChunkSubset(chunk_indices, chunk_subset) => {
+                match self.retrieve_chunk_subset(alloc, chunk_indices, chunk_subset) {
+                    Ok(data) => Reply::Cells(data),
+                    Err(error) => Reply::Refused(error),
+                }
+            }
+            Call::RetrieveArraySubset(array_subset) => {
+                match self.retrieve_array_subset(alloc, array_subset) {
+                    Ok(data) => Reply::Cells(data),
+                    Err(error) => Reply::Refused(error),
+                }
+            }
+        }
+    }
+
+    /// The reply to an erasure of a range of chunks.
+    fn answer_erase_chunks(&mut self, alloc: Global, chunks: &ArraySubset) -> Reply
+        ensures step { (keep : Bool) → ActStep (layout_of self.old) keep
+            (length_refusal (layout_of self.old) (box_of chunks.now).start)
+            (erase (positions (box_of chunks.now))) result (store_of S.state self.old)
+            (store_of S.state self.new) }
+        ensures parts { KeepsParts self.old self.new }
+    {
+        if chunks.dimensionality() != self.parts.grid.dimensionality() {
+            return Reply::Refused(invalid_indices(alloc, chunks.start()));
+        }
+        match self.erase_chunks(alloc, chunks) {
+            Ok(()) => Reply::Done,
+            Err(error) => Reply::Refused(error.into()),
         }
     }
 }

@@ -5,6 +5,7 @@ use zarrs_chunk_grid::ChunkGridTraits;
 use zarrs_codec::ChainTraits;
 use zarrs_data_type::ArrayBytes;
 use zarrs_keys::ChunkKeyEncodingTraits;
+use zarrs_layout::invalid_indices;
 use zarrs_steps::ArrayError;
 use zarrs_storage::{Bytes, ReadableStorageTraits};
 
@@ -22,10 +23,10 @@ impl<
     ghost use Rattle.zarrs_steps.specs.Changes.{RetrievesChunk, RetrievesIfExists};
     ghost use Rattle.zarrs_steps.specs.StateRefusals.{RefusesChunkRead};
     ghost use Rattle.zarrs_engine.specs.Engine.{layout_of, store_of};
-    ghost use Rattle.zarrs_engine.specs.Parts.{RefusesValue};
+    ghost use Rattle.zarrs_layout.specs.Parts.{RefusesValue};
 
-    // The bytes that are present at the key of the chunk with these indices.
-    fn stored_bytes(
+    /// The bytes that are present at the key of the chunk with these indices.
+    pub(super) fn stored_bytes(
         &self,
         alloc: Global,
         chunk_indices: &[u64],
@@ -43,7 +44,7 @@ impl<
             ((layout_of self.now).key chunk_indices.now) ≡ true → IsErr result }
     {
         if chunk_indices.len() != self.parts.grid.dimensionality() {
-            return Err(crate::parts::invalid_indices(alloc, chunk_indices));
+            return Err(invalid_indices(alloc, chunk_indices));
         }
         let key = self.parts.chunk_key(alloc, chunk_indices)?;
         let value = self.storage.get(alloc, &key)?;

@@ -21,9 +21,10 @@ impl<
     ghost use Rattle.zarrs_codec.specs.Options.{stores_empty_chunks};
     ghost use Rattle.zarrs_steps.specs.Refusals.{refusal_of, refusal_of_storage};
     ghost use Rattle.zarrs_steps.specs.Changes.{IsPut};
-    ghost use Rattle.zarrs_steps.specs.Step.{StoresChunk, RefusesStoreChunk, ErasesChunk, RefusesEraseChunk, ErasesChunks, RefusesEraseChunks};
+    ghost use Rattle.zarrs_steps.specs.Step.{StoresChunk, RefusesStoreChunk, ErasesChunk, RefusesEraseChunk};
+    ghost use Rattle.zarrs_steps.specs.Step.{ErasesChunks, RefusesEraseChunks};
     ghost use Rattle.zarrs_engine.specs.Engine.{layout_of, store_of, KeepsParts};
-    ghost use Rattle.zarrs_engine.specs.Parts.{RefusesPut};
+    ghost use Rattle.zarrs_layout.specs.Parts.{RefusesPut};
 
     /// Sets the value at one key, or erases the key, by one writing call of the store.
     ///
@@ -100,8 +101,8 @@ impl<
         self.put(alloc, &key, None)
     }
 
-    /// Erases the chunks with the indices in the range, in row-major order, whether they are present or not, each by one
-    /// writing call of the store. An empty range asks nothing of the store.
+    /// Erases the chunks with the indices in the range, in row-major order, whether they are present or not, each by
+    /// one writing call of the store. An empty range asks nothing of the store.
     ///
     /// # Errors
     /// If the store refuses, and `OutOfMemory`. The chunks before that one are gone then, and no later one.

@@ -7,7 +7,7 @@ use Rattle.zarrs_storage.specs.declared.error.StorageError.{StorageError}
 use Rattle.zarrs_steps.specs.Refusals as refusal
 use Rattle.zarrs_steps.specs.Refusals.{refusal_of_storage}
 use Rattle.zarrs_steps.specs.Step.{RefusesEraseChunk}
-use Rattle.zarrs_engine.specs.Parts.{RefusesPut}
+use Rattle.zarrs_layout.specs.Parts.{RefusesPut}
 use Rattle.zarrs_engine.proofs.Puts.{each_error}
 use Rattle.zarrs_engine.proofs.Writes.{erase_refused, erase_failed}
 use Rattle.zarrs_engine.proofs.engine.Engine.erase_chunk.Goals as goal

@@ -1,11 +1,12 @@
-use Rattle.std.proofs.Common.{◌≡◌, ◌∙◌, ◌+◌, ◌<◌, List, ℕ, Some, slice_get, length, rules, refl, sym, ap, subst, arith}
+use Rattle.std.proofs.Common.{◌≡◌, ◌∙◌, ◌+◌, Some, slice_get, length, rules, sym, ap, subst, arith}
 use Rattle.std.proofs.lemmas.Option.{slice_get_within}
 use Rattle.zarrs_subset.specs.Regions.{Box, box_of, positions}
-use Rattle.zarrs_subset.specs.Walks.{walk_box, walk_number}
+use Rattle.zarrs_subset.specs.Walks.{walk_number}
 use Rattle.zarrs_steps.specs.Refusals.{refusal_of_storage, length_refusal}
 use Rattle.zarrs_steps.specs.Step.{ErasesChunk, RefusesEraseChunk}
-use Rattle.zarrs_engine.specs.Engine.{layout_of, layout_of_parts}
-use Rattle.zarrs_engine.proofs.Chunks.{right_length}
+use Rattle.zarrs_engine.specs.Engine.{layout_of}
+use Rattle.zarrs_layout.specs.Layouts.{layout_of_parts}
+use Rattle.zarrs_layout.proofs.Chunks.{right_length}
 use Rattle.zarrs_engine.proofs.Ranges.{Gone, gone_more, gone_all, gone_fails, range_length, range_short}
 use Rattle.zarrs_engine.proofs.engine.Engine.erase_chunks.Goals as goal
 

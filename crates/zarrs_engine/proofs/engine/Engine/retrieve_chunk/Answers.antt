@@ -7,11 +7,11 @@ use Rattle.zarrs_data_type.specs.Cells.{cells}
 use Rattle.zarrs_engine.specs.Engine.{layout_of}
 use Rattle.zarrs_steps.specs.Content.{decoded_cells}
 use Rattle.zarrs_steps.specs.Changes.{RetrievesChunk}
-use Rattle.zarrs_engine.proofs.Chunks.{both_ok, retrieved, retrieved_fill}
+use Rattle.zarrs_layout.proofs.Chunks.{both_ok, retrieved, retrieved_fill}
 use Rattle.zarrs_steps.specs.declared.error.ArrayError.{ArrayError}
 use Rattle.zarrs_steps.specs.Refusals.{RefusesBy, refusal_of, read_refusal, length_refusal}
 use Rattle.zarrs_steps.specs.StateRefusals.{RefusesChunkRead}
-use Rattle.zarrs_engine.proofs.Chunks.{read_refused_then}
+use Rattle.zarrs_layout.proofs.Chunks.{read_refused_then}
 use Rattle.zarrs_engine.proofs.Puts.{each_error}
 use Rattle.zarrs_engine.proofs.engine.Engine.retrieve_chunk.Goals as goal
 

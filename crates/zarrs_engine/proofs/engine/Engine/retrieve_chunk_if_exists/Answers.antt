@@ -1,10 +1,10 @@
 use Rattle.std.proofs.Common.{ap, sym, ◌∙◌, Some}
 use Rattle.zarrs_data_type.specs.ArrayData.{data_of}
 use Rattle.zarrs_engine.specs.Engine.{layout_of}
-use Rattle.zarrs_engine.proofs.Chunks.{retrieved}
+use Rattle.zarrs_layout.proofs.Chunks.{retrieved}
 use Rattle.std.proofs.Common.{rules, false}
 use Rattle.zarrs_steps.specs.Refusals.{refusal_of}
-use Rattle.zarrs_engine.proofs.Chunks.{read_refused_then}
+use Rattle.zarrs_layout.proofs.Chunks.{read_refused_then}
 use Rattle.zarrs_engine.proofs.engine.Engine.retrieve_chunk_if_exists.Goals as goal
 
 pub returns-in_ok-data-in-Some-clause-cells : goal.returns-in_ok-data-in-Some-clause-cells

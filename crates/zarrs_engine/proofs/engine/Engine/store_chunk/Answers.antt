@@ -5,7 +5,7 @@ use Rattle.zarrs_data_type.specs.Cells.{cells}
 use Rattle.zarrs_codec.specs.Options.{stores_empty_chunks}
 use Rattle.zarrs_steps.specs.Refusals.{RefusesBy, refusal_of, data_refusal}
 use Rattle.zarrs_engine.specs.Engine.{layout_of}
-use Rattle.zarrs_engine.specs.Parts.{HasValue}
+use Rattle.zarrs_layout.specs.Parts.{HasValue}
 use Rattle.zarrs_engine.proofs.Writes.{box_refused, data_refused, stored_chunk}
 use Rattle.std.proofs.Common.{◌≡◌, None, Option, List, sym}
 use Rattle.zarrs_chunk_grid.specs.Grids.{box_at}

@@ -1,0 +1,191 @@
+-- Reads of parts of chunks.
+use Rattle.std.proofs.Common.{◌≡◌, ◌+◌, ◌<◌, ℕ, zero, suc, true, false, cond, List, [], ◌∷◌, length, replicate, slice_index, Option, Some, None, Contains, refl, sym, ◌∙◌, ap, subst, inl, inr, arith}
+use Rattle.std.specs.Option.{option_or}
+use Rattle.std.specs.Str.{bytes_eq}
+use Rattle.std.proofs.lemmas.Bool.{cases_Bool, and_from, and_parts, false≢true}
+use Rattle.std.proofs.lemmas.Grind.{same_number_lists}
+use Rattle.std.proofs.lemmas.List.{get_or-replicate, length-replicate}
+use Rattle.std.proofs.lemmas.Slice.Eq.{bytes_eq-Decides}
+use Rattle.zarrs_subset.specs.Boxes.{offset_by, position_count}
+use Rattle.zarrs_subset.specs.Regions.{Box, IsLong, Holds, LiesInShape, box_from, shifted_box}
+use Rattle.zarrs_subset.proofs.Overlaps.{length-zip_with}
+use Rattle.zarrs_subset.proofs.Shifts.{part_in_chunk}
+use Rattle.zarrs_chunk_grid.specs.Grids.{box_at, has_box}
+use Rattle.zarrs_chunk_grid.proofs.Chunks.{box_covered, box_dimensions, box_index, box_is_there, box_long}
+use Rattle.zarrs_storage.specs.Store.{StoreState}
+use Rattle.zarrs_data_type.specs.Cell.{Cell}
+use Rattle.zarrs_data_type.specs.ArrayData.{ArrayData}
+use Rattle.zarrs_data_type.specs.Cells.{cells}
+use Rattle.zarrs_steps.specs.Layout.{Layout, IsLawful}
+use Rattle.zarrs_steps.specs.ArgumentRefusals.{chunk_refusal, part_refusal, read_part_refusal, read_size_refusal}
+use Rattle.zarrs_steps.specs.Changes.{RetrievesChunk}
+use Rattle.zarrs_steps.specs.ChunkBoxes.{is_whole_of, part_box}
+use Rattle.zarrs_steps.specs.Reads.{ReadsRegion}
+use Rattle.zarrs_steps.specs.Refusals.{Refusal, RefusesBy, length_refusal, key_refusal, read_refusal}
+use Rattle.zarrs_steps.specs.StateRefusals.{RefusesChunkRead, RefusesRegionRead}
+use Rattle.zarrs_steps.specs.Step.{RetrievesPart, RefusesRetrievePart}
+use Rattle.zarrs_steps.specs.Content.{value_at}
+use Rattle.zarrs_steps.proofs.Contents.{member, only_member}
+use Rattle.zarrs_steps.proofs.RefusalLemmas.{refused_first, refused_second, second_refusal}
+use Rattle.zarrs_layout.specs.Covers.{CoverRegion}
+use Rattle.zarrs_engine.specs.RegionReads.{ReadsOneMore}
+use Rattle.zarrs_layout.proofs.ChunkParts.{chunk_has, part_lies, shifted_part}
+use Rattle.zarrs_layout.proofs.Chunks.{right_length}
+use Rattle.zarrs_engine.proofs.RegionReads.{read_all, read_none}
+
+-- ---- which part is the whole chunk
+
+same_bytes : (a b : List ℕ) → a ≡ b → bytes_eq a b ≡ true
+same_bytes a b is = (bytes_eq-Decides a b).1 is
+
+offset_origin : (start : List ℕ) (n : ℕ) → length start ≡ n → offset_by start (replicate n 0) ≡ start
+offset_origin [] n long = refl
+offset_origin (s ∷ start) zero long = absurd (omega arith)
+offset_origin (s ∷ start) (suc n) long =
+    let here : s + 0 ≡ s = omega arith in
+    ap (λ x. x ∷ offset_by start (replicate n 0)) here ∙ ap (λ xs. s ∷ xs) (offset_origin start n (omega arith))
+
+module _ (chunk part : Box) (long : IsLong chunk) where
+  -- a part that lies where its chunk does is all of it
+  pub whole_part : LiesInShape part chunk.shape → part_box chunk part ≡ chunk → is_whole_of chunk.shape part ≡ true
+  whole_part lies is =
+      let shapes : part.shape ≡ chunk.shape = ap (λ (b : Box). b.shape) is in
+      let zeros = length-replicate {A = ℕ} (length chunk.shape) 0 in
+      let starts : part.start ≡ replicate (length chunk.shape) 0 =
+      same_number_lists part.start (replicate (length chunk.shape) 0) (lies.same_length ∙ sym zeros) (λ k below.
+      let inside : k < length chunk.shape = omega (arith, lies.same_length) in
+      let end = lies.ends k inside in
+      let full = ap (λ xs. slice_index xs k) shapes in
+      let at = get_or-replicate {A = ℕ} (length chunk.shape) k 0 0 inside in
+      omega arith) in
+      and_from (bytes_eq part.start (replicate (length chunk.shape) 0)) (bytes_eq part.shape chunk.shape) (same_bytes _ _ starts) (same_bytes _ _ shapes)
+
+  -- and another one is not
+  pub proper_part : (part_box chunk part ≡ chunk → ⊥) → is_whole_of chunk.shape part ≡ false
+  proper_part apart =
+      elim (cases_Bool (is_whole_of chunk.shape part)) [
+        | inr not_whole ↦ not_whole
+        | inl whole ↦
+            let parts = and_parts (bytes_eq part.start (replicate (length chunk.shape) 0)) (bytes_eq part.shape chunk.shape) whole in
+            let starts = (bytes_eq-Decides part.start (replicate (length chunk.shape) 0)).0 parts.0 in
+            let shapes = (bytes_eq-Decides part.shape chunk.shape).0 parts.1 in
+            absurd (apart (
+            ap (λ start. box_from (offset_by chunk.start start) part.shape) starts
+            ∙ ap (λ start. box_from start part.shape) (offset_origin chunk.start (length chunk.shape) long)
+            ∙ ap (λ shape. box_from chunk.start shape) shapes))
+      ]
+
+-- ---- the chunk of a part covers it
+
+module _ (layout : Layout) (lawful : IsLawful layout) (index : List ℕ) (has : has_box layout.grid index ≡ true) (part : Box) (part_long : IsLong part) where
+  pub cover_part : LiesInShape part (box_at layout.grid index).shape → CoverRegion layout.grid (part_box (box_at layout.grid index) part) (index ∷ [])
+  cover_part lies =
+      let chunk = box_at layout.grid index in
+      let long = box_long layout.grid index in
+      let there = box_is_there layout.grid index has in
+      let same : length part.start ≡ length chunk.start = lies.same_length ∙ sym long in
+      let starts = length-zip_with (λ s t. s + t) part.start chunk.start same in
+      let inside : (position : List ℕ) → Holds (shifted_box part chunk.start) position → Holds chunk position =
+      λ position holds. part_in_chunk chunk part position long part_long lies holds in
+      subst (λ (b : Box). CoverRegion layout.grid b (index ∷ [])) (shifted_part chunk part) (record {
+        long = starts ∙ part_long;
+        dimensions = starts ∙ same ∙ box_dimensions layout.grid index;
+        boxed = λ i among. subst (λ (i : List ℕ). has_box layout.grid i ≡ true) (sym (only_member index i among)) has;
+        covered = λ position holds. box_covered layout.grid lawful.grid index position there (inside position holds);
+        listed = λ position holds. subst (λ (i : List ℕ). Contains (index ∷ []) i) (sym (box_index layout.grid lawful.grid index position there (inside position holds))) (member index);
+      })
+
+-- ---- the read of a part
+
+module _ (layout : Layout) (index : List ℕ) (part : Box) (state : StoreState) where
+  parts_refused : (r : Refusal) → RefusesBy (read_part_refusal layout index part) r → RefusesRetrievePart layout index part r state
+  parts_refused r h = record {
+    whole = λ is. refused_first (read_part_refusal layout index part) (option_or (key_refusal layout index state) (read_refusal layout true index (value_at state (layout.key index)))) r h;
+    proper = λ is. inl h;
+  }
+
+  -- there is no such chunk
+  pub part_refused_chunk : (r : Refusal) → RefusesBy (chunk_refusal layout index) r → RefusesRetrievePart layout index part r state
+  part_refused_chunk r h = parts_refused r (refused_first (chunk_refusal layout index) _ r h)
+
+  -- the part passes the chunk
+  pub part_refused_part : (r : Refusal) → chunk_refusal layout index ≡ None → RefusesBy (part_refusal layout index part) r → RefusesRetrievePart layout index part r state
+  part_refused_part r chunk h = parts_refused r (refused_second (chunk_refusal layout index) _ r chunk (refused_first (part_refusal layout index part) _ r h))
+
+  module _ (chunk : chunk_refusal layout index ≡ None) (lies : part_refusal layout index part ≡ None) where
+    then_sized : read_part_refusal layout index part ≡ cond (is_whole_of (box_at layout.grid index).shape part) None (read_size_refusal layout part.shape)
+    then_sized = second_refusal (chunk_refusal layout index) _ chunk ∙ second_refusal (part_refusal layout index part) _ lies
+
+    module _ (is : is_whole_of (box_at layout.grid index).shape part ≡ true) where
+      whole_accepted : read_part_refusal layout index part ≡ None
+      whole_accepted = then_sized ∙ ap (λ b. cond b None (read_size_refusal layout part.shape)) is
+
+      -- all of the chunk was read
+      pub whole_read : (held : ArrayData) → RetrievesChunk layout index held state → RetrievesPart layout index part held state
+      whole_read held r = record {
+        accepted = whole_accepted;
+        whole = λ whole. r;
+        proper = λ proper. absurd (false≢true (sym proper ∙ is));
+      }
+
+      pub whole_refused : (r : Refusal) → RefusesChunkRead layout (length_refusal layout index) true index state r → RefusesRetrievePart layout index part r state
+      whole_refused r h =
+          let long = right_length layout index (box_is_there layout.grid index (chunk_has layout index chunk)).long in
+          record {
+            whole = λ whole. subst (λ (o : Option Refusal). RefusesChunkRead layout o true index state r) (long ∙ sym whole_accepted) h;
+            proper = λ proper. absurd (false≢true (sym proper ∙ is));
+          }
+
+    module _ (is : is_whole_of (box_at layout.grid index).shape part ≡ false) where
+      proper_first : read_part_refusal layout index part ≡ read_size_refusal layout part.shape
+      proper_first = then_sized ∙ ap (λ b. cond b None (read_size_refusal layout part.shape)) is
+
+      -- a part was read
+      pub proper_read : (held : ArrayData) → read_size_refusal layout part.shape ≡ None → ReadsRegion layout (part_box (box_at layout.grid index) part) (index ∷ []) held state → RetrievesPart layout index part held state
+      proper_read held fits r = record {
+        accepted = proper_first ∙ fits;
+        whole = λ whole. absurd (false≢true (sym is ∙ whole));
+        proper = λ proper. r;
+      }
+
+      pub proper_refused : (r : Refusal) → RefusesRegionRead layout (read_size_refusal layout part.shape) (part_box (box_at layout.grid index) part) (index ∷ []) state r → RefusesRetrievePart layout index part r state
+      proper_refused r h = record {
+        whole = λ whole. absurd (false≢true (sym is ∙ whole));
+        proper = λ proper. subst (λ (o : Option Refusal). RefusesRegionRead layout o (part_box (box_at layout.grid index) part) (index ∷ []) state r) (sym proper_first) h;
+      }
+
+-- ---- the read of a part, from what its steps leave
+
+module _ (layout : Layout) (lawful : IsLawful layout) (index : List ℕ) (part chunk region : Box) (part_long : IsLong part) (chunk_is : chunk ≡ box_at layout.grid index) (region_is : region ≡ part_box chunk part)
+    (there : chunk_refusal layout index ≡ None) (inside : part_refusal layout index part ≡ None) where
+  region_at : region ≡ part_box (box_at layout.grid index) part
+  region_at = region_is ∙ ap (λ (b : Box). part_box b part) chunk_is
+
+  -- the part is the whole chunk exactly if it lies where the chunk does
+  pub is_whole : region ≡ chunk → is_whole_of (box_at layout.grid index).shape part ≡ true
+  is_whole same =
+      whole_part (box_at layout.grid index) part (box_long layout.grid index) (part_lies layout index part inside) (sym region_at ∙ same ∙ chunk_is)
+
+  pub is_proper : (region ≡ chunk → ⊥) → is_whole_of (box_at layout.grid index).shape part ≡ false
+  is_proper apart =
+      proper_part (box_at layout.grid index) part (box_long layout.grid index) (λ same. apart (region_at ∙ same ∙ sym chunk_is))
+
+  pub part_cover : CoverRegion layout.grid region (index ∷ [])
+  part_cover =
+      subst (λ (b : Box). CoverRegion layout.grid b (index ∷ [])) (sym region_at)
+      (cover_part layout lawful index (chunk_has layout index there) part part_long (part_lies layout index part inside))
+
+  module _ (state : StoreState) (apart : region ≡ chunk → ⊥) where
+    -- fill, and the cells that the chunk has of the part
+    pub part_read : (old new : ArrayData) → cells layout.kind old ≡ Some (replicate (position_count region.shape) layout.fill) → read_size_refusal layout region.shape ≡ None
+        → ReadsOneMore layout region index state old new → RetrievesPart layout index part new state
+    part_read old new fill fits one =
+        let none = read_none layout lawful region state old part_cover.long fill (length-replicate {A = Cell} (position_count region.shape) layout.fill) in
+        let reads = read_all layout lawful region (index ∷ []) state new part_cover (one [] none) in
+        proper_read layout index part state there inside (is_proper apart) new (ap (λ (b : Box). read_size_refusal layout b.shape) (sym region_is) ∙ fits)
+        (subst (λ (b : Box). ReadsRegion layout b (index ∷ []) new state) region_at reads)
+
+    pub part_not_read : (r : Refusal) → RefusesRegionRead layout (read_size_refusal layout region.shape) region (index ∷ []) state r → RefusesRetrievePart layout index part r state
+    part_not_read r why =
+        proper_refused layout index part state there inside (is_proper apart) r
+        (subst (λ (b : Box). RefusesRegionRead layout (read_size_refusal layout b.shape) b (index ∷ []) state r) region_at why)

@@ -1,0 +1,175 @@
+-- A chunk that takes its part of a region's data.
+use Rattle.std.proofs.Common.{◌≡◌, ◌≢◌, ◌⊎◌, ◌==◌, ◌<◌, ◌≤◌, ◌+◌, ◌-◌, ◌*◌, ◌^◌, not, max, ℕ, zero, suc, Bool, true, false, cond, nat_le, List, [], ◌∷◌, length, replicate, slice_index, is_some, Option, Some, None, Contains, refl, sym, ◌∙◌, ap, subst, inl, inr, arith}
+use Rattle.std.specs.Option.{option_or}
+use Rattle.std.specs.List.{sum_by}
+use Rattle.std.proofs.lemmas.Bool.{cases_Bool, eq-eqb, leb-true, leb-false, le-leb, lt-leb}
+use Rattle.std.proofs.lemmas.List.{length-replicate}
+use Rattle.std.proofs.lemmas.List.Folds.{sum_by-replicate}
+use Rattle.zarrs_subset.specs.Boxes.{position_count}
+use Rattle.zarrs_subset.specs.Regions.{Box, IsLong, Holds, InBox, cell_in, in_box, place_in}
+use Rattle.zarrs_subset.proofs.Bytes.{along_holds, holds_along, place_in_below}
+use Rattle.zarrs_chunk_grid.specs.Grids.{box_at, has_box}
+use Rattle.zarrs_chunk_grid.proofs.Chunks.{box_is_there, box_long}
+use Rattle.zarrs_storage.specs.Store.{StoreState}
+use Rattle.zarrs_data_type.specs.Kind.{Kind, cell_size}
+use Rattle.zarrs_data_type.specs.Cell.{Cell, bytes, none, some, held_size}
+use Rattle.zarrs_data_type.specs.ArrayData.{ArrayData}
+use Rattle.zarrs_data_type.specs.Cells.{HasCells, cells}
+use Rattle.zarrs_cells.proofs.Cells.{HasCells-cells}
+use Rattle.zarrs_cells.specs.Parts.{TakesCells, ExtractsCells}
+use Rattle.zarrs_cells.specs.StringParts.{LiesInBox}
+use Rattle.zarrs_steps.specs.Layout.{Layout, IsLawful}
+use Rattle.zarrs_steps.specs.Content.{value_at, content, decoded_cells}
+use Rattle.zarrs_steps.specs.Refusals as refusal
+use Rattle.zarrs_steps.specs.Refusals.{Refusal, RefusesBy, box_refusal, fill_refusal, is_too_large, key_refusal, length_refusal, read_refusal}
+use Rattle.zarrs_steps.specs.Changes.{RetrievesChunk}
+use Rattle.zarrs_steps.specs.ChunkBoxes.{CoversBox}
+use Rattle.zarrs_steps.specs.Reads.{IsBroken}
+use Rattle.zarrs_steps.specs.StateRefusals.{AreLarge, AreUpdated, IsLargeBox, IsPart, RefusesChunkRead, RefusesPart, cell_length, known_cell}
+use Rattle.zarrs_steps.proofs.Contents.{absent_fill, fill_at, replicated}
+use Rattle.zarrs_steps.proofs.RefusalLemmas.{first_refusal, fit_chunk, memory_or_said, second_refusal, not_large}
+use Rattle.zarrs_engine.specs.RegionWrites.{HasUpdated}
+use Rattle.zarrs_layout.proofs.Chunks.{right_length}
+
+-- ---- boxes
+
+-- a box that lies in another has no position outside it
+pub lies_covers : (box other : Box) → IsLong box → IsLong other → LiesInBox box other → CoversBox other box
+lies_covers box other long other_long lies = λ position holds.
+    let inside = holds_along box position long holds in
+    let same = lies.same_length in
+    along_holds other position other_long (record {
+      same_length = inside.same_length ∙ same;
+      from = λ k below. let a = lies.starts k below in let b = inside.from k (omega (arith, same)) in omega arith;
+      below = λ k below. let a = lies.ends k below in let b = inside.below k (omega (arith, same)) in omega arith;
+    })
+
+-- ---- what a chunk is after it took its part
+
+module _ (layout : Layout) (region : Box) (held : ArrayData) (index : List ℕ) (state : StoreState) where
+  -- the region covers the chunk
+  pub updated_whole : (made : ArrayData) → CoversBox region (box_at layout.grid index) → ExtractsCells layout.kind region held (box_at layout.grid index) made → HasUpdated layout region held index state made
+  updated_whole made covers e = record {
+    chunk = e.made;
+    is_chunk = e.new_is;
+    updated = record {
+      given = e.held;
+      are_cells = e.old_is;
+      count = e.count;
+      each = λ position holds.
+          e.same position holds ∙ sym (ap (λ b. cond b (cell_in region e.held position) (content layout (value_at state) position)) (covers position holds));
+    };
+  }
+
+  -- the region is the chunk
+  pub updated_same : region ≡ box_at layout.grid index → HasCells layout.kind held (position_count region.shape) → HasUpdated layout region held index state held
+  updated_same is given =
+      let found = HasCells-cells layout.kind held (position_count region.shape) given in
+      let box = box_at layout.grid index in
+      record {
+        chunk = found.0;
+        is_chunk = found.1;
+        updated = record {
+          given = found.0;
+          are_cells = found.1;
+          count = found.2 ∙ ap (λ (b : Box). position_count b.shape) is;
+          each = λ position holds.
+              let inside : in_box region position ≡ true = ap (λ (b : Box). in_box b position) is ∙ holds in
+              ap (λ (b : Box). cell_in b found.0 position) (sym is)
+              ∙ sym (ap (λ b. cond b (cell_in region found.0 position) (content layout (value_at state) position)) inside);
+        };
+      }
+
+  -- the chunk was read
+  pub updated_part : (before made : ArrayData) → RetrievesChunk layout index before state → TakesCells layout.kind (box_at layout.grid index) region held before made → HasUpdated layout region held index state made
+  updated_part before made r t =
+      let one : Some t.held ≡ Some r.chunk = sym t.old_is ∙ r.is_chunk in
+      let same : t.held ≡ r.chunk = cc in
+      record {
+        chunk = t.made;
+        is_chunk = t.new_is;
+        updated = record {
+          given = t.given;
+          are_cells = t.part_is;
+          count = t.count ∙ ap (λ (cs : List Cell). length cs) same ∙ r.reads.count;
+          each = λ position holds.
+              t.takes position holds
+              ∙ ap (λ o. cond (in_box region position) (cell_in region t.given position) o)
+              (ap (λ (cs : List Cell). cell_in (box_at layout.grid index) cs position) same ∙ sym (r.reads.each position holds));
+        };
+      }
+
+-- ---- why a chunk that has to be read is refused
+
+-- a fill value takes the bytes of a cell, or its own
+held_is : (k : Kind) (c : Cell) → (held_size k c ≡ cell_size k) ⊎ (held_size k c ≡ cell_length c)
+held_is k (bytes b) = elim (cases_Bool (nat_le (cell_size k) (length b))) [
+  | inl less ↦ inr (let l = leb-true (cell_size k) (length b) less in omega arith)
+  | inr more ↦ inl (let m = leb-false (cell_size k) (length b) more in omega arith)
+]
+held_is k none = inl refl
+held_is k (some c) = held_is k c
+
+module _ (layout : Layout) (lawful : IsLawful layout) (keep : Bool) (region : Box) (held : ArrayData) (index : List ℕ) (state : StoreState)
+    (has : has_box layout.grid index ≡ true) (fit : is_too_large layout (box_at layout.grid index).shape ≡ false) (part : IsPart layout region index) where
+  large_fill : value_at state (layout.key index) ≡ None → 2 ^ 64 ≤ position_count (box_at layout.grid index).shape * held_size layout.kind layout.fill → IsLargeBox layout (box_at layout.grid index) state
+  large_fill absent large =
+      let box = box_at layout.grid index in
+      let n = position_count box.shape in
+      let given = replicate n layout.fill in
+      let count : length given ≡ n = length-replicate n layout.fill in
+      let size : 2 ^ 64 ≤ n * cell_length layout.fill = elim (held_is layout.kind layout.fill) [
+        | inl is ↦ absurd (let small = not_large layout box.shape fit in let more = subst (λ s. 2 ^ 64 ≤ n * s) is large in omega arith)
+        | inr is ↦ subst (λ s. 2 ^ 64 ≤ n * s) is large
+      ] in
+      let sums = sum_by-replicate cell_length n layout.fill in (
+        given,
+        record {
+          count = count;
+          each = λ position holds.
+              let below = place_in_below box position (box_long layout.grid index) holds in
+              ap (λ o. Some (known_cell o)) (absent_fill layout (value_at state) lawful index has absent position holds)
+              ∙ sym (fill_at layout.fill given (place_in box position) (replicated layout.fill n) (omega (arith, count)));
+        },
+        subst (λ s. 2 ^ 64 ≤ s) (sym sums) size,
+      )
+
+  bytes_fail : (r : Refusal) (value : Option (List ℕ)) → value_at state (layout.key index) ≡ value → read_refusal layout true index value ≡ Some r → RefusesPart layout keep region held index 0 state r
+  bytes_fail r None absent h =
+      let shape = (box_at layout.grid index).shape in
+      let size : fill_refusal layout shape ≡ Some r = sym (second_refusal (box_refusal layout index) _ (fit_chunk layout index has fit)) ∙ h in
+      elim (cases_Bool (nat_le (2 ^ 64) (position_count shape * held_size layout.kind layout.fill))) [
+        | inl large ↦
+            let is : Some refusal.size_overflow ≡ Some r = sym (ap (λ b. cond b (Some refusal.size_overflow) None) large) ∙ size in
+            let same : refusal.size_overflow ≡ r = cc in
+            subst (RefusesPart layout keep region held index 0 state) same (refl, inr (inl (part, inl (large_fill absent (leb-true (2 ^ 64) _ large)))))
+        | inr small ↦ absurd (let clash : None ≡ Some r = sym (ap (λ b. cond b (Some refusal.size_overflow) None) small) ∙ size in cc)
+      ]
+  bytes_fail r (Some encoded) stands h =
+      let box = box_at layout.grid index in
+      let decode : cond (is_some (decoded_cells layout box encoded)) None (Some refusal.codec) ≡ Some r = sym (second_refusal (box_refusal layout index) _ (fit_chunk layout index has fit)) ∙ h in
+      elim (decoded_cells layout box encoded) as (λ o. decoded_cells layout box encoded ≡ o → cond (is_some o) None (Some refusal.codec) ≡ Some r → RefusesPart layout keep region held index 0 state r) [
+        | None ↦ λ at is.
+            let same : refusal.codec ≡ r = cc in
+            subst (RefusesPart layout keep region held index 0 state) same (refl, fit, inl (part, record { encoded = encoded; stands = stands; undecoded = at }))
+        | Some found ↦ λ at is. absurd (let clash : None ≡ Some r = is in cc)
+      ] refl decode
+
+  -- the chunk cannot be read
+  pub read_fails : (r : Refusal) → RefusesChunkRead layout (length_refusal layout index) true index state r → RefusesPart layout keep region held index 0 state r
+  read_fails r h = elim (memory_or_said _ r h) [
+    | inl memory ↦ subst (RefusesPart layout keep region held index 0 state) (sym memory) tt
+    | inr said ↦
+        let after : option_or (key_refusal layout index state) (read_refusal layout true index (value_at state (layout.key index))) ≡ Some r =
+        sym (second_refusal (length_refusal layout index) _ (right_length layout index (box_is_there layout.grid index has).long)) ∙ said in
+        elim (cases_Bool (state.refuses (layout.key index))) [
+          | inl refuses ↦
+              let key = ap (λ b. cond b (Some refusal.storage) None) refuses in
+              let is : Some refusal.storage ≡ Some r = sym (first_refusal (key_refusal layout index state) _ refusal.storage key) ∙ after in
+              let same : refusal.storage ≡ r = cc in
+              subst (RefusesPart layout keep region held index 0 state) same (inl (refl, part, refuses))
+          | inr open_key ↦
+              let bytes = sym (second_refusal (key_refusal layout index state) _ (ap (λ b. cond b (Some refusal.storage) None) open_key)) ∙ after in
+              bytes_fail r (value_at state (layout.key index)) refl bytes
+        ]
+  ]

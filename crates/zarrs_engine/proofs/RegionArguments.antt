@@ -1,0 +1,36 @@
+-- What the arguments of a write of a region decide.
+use Rattle.std.proofs.Common.{◌≡◌, ◌⊎◌, ◌==◌, ◌<◌, ◌^◌, not, ℕ, Bool, true, false, cond, List, [], ◌∷◌, length, Option, Some, None, refl, sym, ◌∙◌, ap, subst, inl, inr, arith}
+use Rattle.std.specs.Option.{option_or}
+use Rattle.std.proofs.lemmas.Bool.{cases_Bool, eq-eqb, eqb-true}
+use Rattle.zarrs_subset.specs.Boxes.{position_count}
+use Rattle.zarrs_subset.specs.Regions.{Box}
+use Rattle.zarrs_data_type.specs.Cell.{Cell}
+use Rattle.zarrs_data_type.specs.ArrayData.{ArrayData}
+use Rattle.zarrs_data_type.specs.Cells.{HasCells, cells}
+use Rattle.zarrs_cells.proofs.Cells.{HasCells-cells, HasCells-some}
+use Rattle.zarrs_storage.specs.Store.{StoreState}
+use Rattle.zarrs_steps.specs.Layout.{Layout}
+use Rattle.zarrs_steps.specs.ChunkBoxes.{is_one_chunk}
+use Rattle.zarrs_steps.specs.ArgumentRefusals.{cells_refusal, count_refusal, region_data_refusal, region_refusal, size_refusal}
+use Rattle.zarrs_steps.specs.Refusals as refusal
+use Rattle.zarrs_steps.specs.Refusals.{Refusal, RefusesBy, is_too_large}
+use Rattle.zarrs_steps.specs.Step.{RefusesStoreRegion}
+use Rattle.zarrs_steps.proofs.RefusalLemmas.{refusal_moved, refused_first, refused_second}
+use Rattle.zarrs_engine.proofs.Writes.{refused_early}
+
+-- ---- writes of regions
+
+-- memory was short
+pub no_refusal : (first : Option Refusal) (r : Refusal) → RefusesBy None r → RefusesBy first r
+no_refusal first r why = refusal_moved None first r (λ x is. absurd (let clash : None ≡ Some x = is in cc)) why
+
+-- the arguments refuse it
+pub region_first : (layout : Layout) (keep : Bool) (shape : List ℕ) (region : Box) (held : ArrayData) (state : StoreState) (r : Refusal)
+    → RefusesBy (region_refusal layout shape region) r → RefusesStoreRegion layout keep shape region held r state state
+region_first layout keep shape region held state r why =
+    refused_early _ _ _ _ state (refused_first (region_refusal layout shape region) (region_data_refusal layout region held) r why)
+
+pub region_second : (layout : Layout) (keep : Bool) (shape : List ℕ) (region : Box) (held : ArrayData) (state : StoreState) (r : Refusal)
+    → region_refusal layout shape region ≡ None → RefusesBy (region_data_refusal layout region held) r → RefusesStoreRegion layout keep shape region held r state state
+region_second layout keep shape region held state r none why =
+    refused_early _ _ _ _ state (refused_second (region_refusal layout shape region) (region_data_refusal layout region held) r none why)

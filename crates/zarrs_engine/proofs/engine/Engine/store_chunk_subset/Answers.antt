@@ -1,0 +1,131 @@
+use Rattle.std.proofs.Common.{◌≡◌, ◌≢◌, ◌∙◌, Some, length, rules, ap, sym}
+use Rattle.std.proofs.lemmas.Result.{on_ok_weaker}
+use Rattle.zarrs_subset.specs.Regions.{box_of}
+use Rattle.zarrs_data_type.specs.ArrayData.{data_of}
+use Rattle.zarrs_codec.specs.Options.{stores_empty_chunks}
+use Rattle.zarrs_steps.specs.declared.error.ArrayError.{ArrayError}
+use Rattle.zarrs_steps.specs.Refusals.{dimensionality, refusal_of}
+use Rattle.zarrs_steps.specs.Step.{RefusesStorePart}
+use Rattle.zarrs_steps.proofs.RefusalLemmas.{refuses_said}
+use Rattle.zarrs_engine.specs.Engine.{layout_of}
+use Rattle.zarrs_engine.specs.RegionWrites.{LeavesPart}
+use Rattle.zarrs_engine.proofs.PartReads.{part_cover}
+use Rattle.zarrs_engine.proofs.PartStores.{data_refuses, part_chunk, part_length, part_passing, stored_ask_part, takes_none, takes_part}
+use Rattle.zarrs_engine.proofs.Puts.{each_error}
+use Rattle.zarrs_engine.proofs.engine.Engine.store_chunk_subset.Goals as goal
+
+pub returns-then-chunk_indices-dimensions-clause-refused : goal.returns-then-chunk_indices-dimensions-clause-refused
+returns-then-chunk_indices-dimensions-clause-refused g c =
+    let layout = layout_of c.args.self.now in
+    let keep = stores_empty_chunks c.args.options.now in
+    let state = g.S.ReadableStorageTraits.state c.args.self.now.storage in
+    let index = c.args.chunk_indices.now in
+    let part = box_of c.args.chunk_subset.now in
+    let held = data_of c.args.chunk_subset_data.now in
+    let e = c.new-error.result in
+    let said = ap (λ n. Some (dimensionality n layout.grid.dimensions)) (sym c.new-error.ensures.got) ∙ ap (λ n. Some (dimensionality e.got n)) (sym (c.new-error.ensures.expected ∙ c.dimensionality-dimensions.ensures)) in
+    part_length layout index part held keep state (dimensionality e.got e.expected) (λ is. c.if-chunk_indices-dimensions.true (is ∙ sym c.dimensionality-dimensions.ensures)) said
+
+pub returns-in_err-chunk-clause-refused : goal.returns-in_err-chunk-clause-refused
+returns-in_err-chunk-clause-refused g c =
+    let layout = layout_of c.args.self.now in
+    let keep = stores_empty_chunks c.args.options.now in
+    let state = g.S.ReadableStorageTraits.state c.args.self.now.storage in
+    let index = c.args.chunk_indices.now in
+    let part = box_of c.args.chunk_subset.now in
+    let held = data_of c.args.chunk_subset_data.now in
+    let long = c.if-chunk_indices-dimensions.false ∙ c.dimensionality-dimensions.ensures in
+    let why = part_chunk layout index part held keep state (refusal_of c.in_err-chunk.field-0.0) long c.in_err-chunk.ensures.refused in
+    search (rules, why)
+
+pub returns-in_err-region-clause-refused : goal.returns-in_err-region-clause-refused
+returns-in_err-region-clause-refused g c =
+    let layout = layout_of c.args.self.now in
+    let keep = stores_empty_chunks c.args.options.now in
+    let state = g.S.ReadableStorageTraits.state c.args.self.now.storage in
+    let index = c.args.chunk_indices.now in
+    let part = box_of c.args.chunk_subset.now in
+    let held = data_of c.args.chunk_subset_data.now in
+    let long = c.if-chunk_indices-dimensions.false ∙ c.dimensionality-dimensions.ensures in
+    let why = part_passing layout index part held keep state (refusal_of c.in_err-region.field-0.0) long c.in_ok-chunk.ensures.accepted c.in_err-region.ensures.refused in
+    search (rules, why)
+
+pub returns-in_err-check_cells-clause-refused : goal.returns-in_err-check_cells-clause-refused
+returns-in_err-check_cells-clause-refused g c =
+    let layout = layout_of c.args.self.now in
+    let keep = stores_empty_chunks c.args.options.now in
+    let state = g.S.ReadableStorageTraits.state c.args.self.now.storage in
+    let index = c.args.chunk_indices.now in
+    let part = box_of c.args.chunk_subset.now in
+    let held = data_of c.args.chunk_subset_data.now in
+    let chunk = c.in_ok-chunk.ensures in
+    let region = c.in_ok-region.ensures in
+    let why = data_refuses layout c.args.self.now.parts.lawful index part (box_of c.in_ok-chunk.chunk) (box_of c.in_ok-region.region) c.args.chunk_subset.now.same_length chunk.region region.part chunk.accepted region.accepted held c.eq.result c.eq.ensures keep (refusal_of c.in_err-check_cells.field-0.0) state (refuses_said _ (refusal_of c.in_err-check_cells.field-0.0) c.in_err-check_cells.ensures.refused) in
+    search (rules, why)
+
+pub store_part-requires-clause-dimensions : goal.store_part-requires-clause-dimensions
+store_part-requires-clause-dimensions g c =
+    let layout = layout_of c.args.self.now in
+    let keep = stores_empty_chunks c.args.options.now in
+    let state = g.S.ReadableStorageTraits.state c.args.self.now.storage in
+    let index = c.args.chunk_indices.now in
+    let part = box_of c.args.chunk_subset.now in
+    let held = data_of c.args.chunk_subset_data.now in
+    let chunk = c.in_ok-chunk.ensures in
+    let region = c.in_ok-region.ensures in
+    (part_cover layout c.args.self.now.parts.lawful index part (box_of c.in_ok-chunk.chunk) (box_of c.in_ok-region.region) c.args.chunk_subset.now.same_length chunk.region region.part chunk.accepted region.accepted).dimensions
+
+pub store_part-requires-clause-covered : goal.store_part-requires-clause-covered
+store_part-requires-clause-covered g c =
+    let layout = layout_of c.args.self.now in
+    let keep = stores_empty_chunks c.args.options.now in
+    let state = g.S.ReadableStorageTraits.state c.args.self.now.storage in
+    let index = c.args.chunk_indices.now in
+    let part = box_of c.args.chunk_subset.now in
+    let held = data_of c.args.chunk_subset_data.now in
+    let chunk = c.in_ok-chunk.ensures in
+    let region = c.in_ok-region.ensures in
+    (part_cover layout c.args.self.now.parts.lawful index part (box_of c.in_ok-chunk.chunk) (box_of c.in_ok-region.region) c.args.chunk_subset.now.same_length chunk.region region.part chunk.accepted region.accepted).covered
+
+pub store_part-requires-clause-ask : goal.store_part-requires-clause-ask
+store_part-requires-clause-ask g c =
+    let layout = layout_of c.args.self.now in
+    let keep = stores_empty_chunks c.args.options.now in
+    let state = g.S.ReadableStorageTraits.state c.args.self.now.storage in
+    let index = c.args.chunk_indices.now in
+    let part = box_of c.args.chunk_subset.now in
+    let held = data_of c.args.chunk_subset_data.now in
+    let chunk = c.in_ok-chunk.ensures in
+    let region = c.in_ok-region.ensures in
+    stored_ask_part layout c.args.self.now.parts.lawful index part (box_of c.in_ok-chunk.chunk) (box_of c.in_ok-region.region) c.args.chunk_subset.now.same_length chunk.region region.part chunk.accepted region.accepted held state c.requires
+
+pub returns-clause-done : goal.returns-clause-done
+returns-clause-done g c =
+    let layout = layout_of c.args.self.now in
+    let keep = stores_empty_chunks c.args.options.now in
+    let state = g.S.ReadableStorageTraits.state c.args.self.now.storage in
+    let index = c.args.chunk_indices.now in
+    let part = box_of c.args.chunk_subset.now in
+    let held = data_of c.args.chunk_subset_data.now in
+    let chunk = c.in_ok-chunk.ensures in
+    let region = c.in_ok-region.ensures in
+    let new = g.S.ReadableStorageTraits.state c.store_part.new.self.storage in
+    let fits = c.in_ok-check_cells.ensures in
+    on_ok_weaker c.store_part.result (takes_part layout c.args.self.now.parts.lawful index part (box_of c.in_ok-chunk.chunk) (box_of c.in_ok-region.region) c.args.chunk_subset.now.same_length chunk.region region.part chunk.accepted region.accepted held c.eq.result c.eq.ensures keep fits.accepted fits.given state new) c.store_part.ensures.done
+
+pub returns-clause-refused : goal.returns-clause-refused
+returns-clause-refused g c =
+    let layout = layout_of c.args.self.now in
+    let keep = stores_empty_chunks c.args.options.now in
+    let state = g.S.ReadableStorageTraits.state c.args.self.now.storage in
+    let index = c.args.chunk_indices.now in
+    let part = box_of c.args.chunk_subset.now in
+    let held = data_of c.args.chunk_subset_data.now in
+    let chunk = c.in_ok-chunk.ensures in
+    let region = c.in_ok-region.ensures in
+    let new = g.S.ReadableStorageTraits.state c.store_part.new.self.storage in
+    let fits = c.in_ok-check_cells.ensures in
+    each_error c.store_part.result (λ (e : ArrayError). LeavesPart layout keep (box_of c.in_ok-region.region) held index (refusal_of e) state new)
+    (λ (e : ArrayError). RefusesStorePart layout keep index part held (refusal_of e) state new)
+    (λ e left. takes_none layout c.args.self.now.parts.lawful index part (box_of c.in_ok-chunk.chunk) (box_of c.in_ok-region.region) c.args.chunk_subset.now.same_length chunk.region region.part chunk.accepted region.accepted held c.eq.result c.eq.ensures keep fits.accepted fits.given state new (refusal_of e) left)
+    c.store_part.ensures.refused

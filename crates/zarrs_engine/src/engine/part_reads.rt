@@ -1,0 +1,83 @@
+//! Reads of parts of chunks and of ranges of chunks.
+use super::Engine;
+use std::alloc::Global;
+use zarrs_chunk_grid::ChunkGridTraits;
+use zarrs_codec::ChainTraits;
+use zarrs_data_type::ArrayBytes;
+use zarrs_keys::ChunkKeyEncodingTraits;
+use zarrs_steps::ArrayError;
+use zarrs_storage::ReadableStorageTraits;
+use zarrs_subset::ArraySubset;
+
+impl<
+    S: ReadableStorageTraits,
+    G: ChunkGridTraits,
+    K: ChunkKeyEncodingTraits,
+    C: ChainTraits,
+> Engine<S, G, K, C> {
+    ghost use Rattle.std.specs.Prelude.{IfOk, IfErr};
+    ghost use Rattle.zarrs_subset.specs.Regions.{box_of, positions};
+    ghost use Rattle.zarrs_data_type.specs.ArrayData.{data_of};
+    ghost use Rattle.zarrs_steps.specs.Reach.{MayAskChunk, MayAskChunks};
+    ghost use Rattle.zarrs_steps.specs.Refusals.{refusal_of};
+    ghost use Rattle.zarrs_steps.specs.Step.{RetrievesChunks, RefusesRetrieveChunks};
+    ghost use Rattle.zarrs_steps.specs.Step.{RetrievesPart, RefusesRetrievePart};
+    ghost use Rattle.zarrs_engine.specs.Engine.{layout_of, state_of, store_of};
+
+    /// The cells of the chunks with the indices in the range, in row-major order over all of them. Where a chunk is
+    /// absent they are fill. A range without a chunk has no cell, and asks nothing of the store.
+    ///
+    /// # Errors
+    /// In this order: E1 for another number of dimensions; E3 for a first index without a chunk, then for such a last
+    /// one; E8 for more cells, or as many fill values, than a `usize` counts bytes. Then as for `retrieve_array_subset`
+    /// over the region of these chunks. E9 may come at any time.
+    pub fn retrieve_chunks(
+        &self,
+        alloc: Global,
+        chunks: &ArraySubset,
+    ) -> Result<ArrayBytes<'static>, ArrayError>
+        requires { MayAskChunks (layout_of self.now) (positions (box_of chunks.now))
+            (store_of S.state self.now) }
+        ensures cells { IfOk result (λ made. RetrievesChunks (layout_of self.now)
+            (state_of S.state self.now).shape (box_of chunks.now) (data_of made)
+            (store_of S.state self.now)) }
+        ensures refused { IfErr result (λ e. RefusesRetrieveChunks (layout_of self.now)
+            (state_of S.state self.now).shape (box_of chunks.now) (refusal_of e)
+            (store_of S.state self.now)) }
+    {
+        let region = self.parts.chunks_region(alloc, chunks)?;
+        self.read_region(alloc, &region, chunks)
+    }
+
+    /// The cells of a part of the chunk with these indices, in row-major order. The part is seen from the origin of the
+    /// chunk. Where the chunk is absent they are fill.
+    ///
+    /// # Errors
+    /// In this order: E3 for another number of indices than dimensions, or without a chunk; E2 for a part of another
+    /// number of dimensions, or that passes the chunk. Then for the whole chunk the errors of `retrieve_chunk`; for
+    /// another part E8 for more cells, or as many fill values, than a `usize` counts bytes, E7 if the store refuses the
+    /// key, E8 for a chunk of more bytes than a `usize` counts, E4 if its bytes do not decode. E9 may come at any time.
+    pub fn retrieve_chunk_subset(
+        &self,
+        alloc: Global,
+        chunk_indices: &[u64],
+        chunk_subset: &ArraySubset,
+    ) -> Result<ArrayBytes<'static>, ArrayError>
+        requires { MayAskChunk (layout_of self.now) chunk_indices.now (store_of S.state self.now) }
+        ensures cells { IfOk result (λ made. RetrievesPart (layout_of self.now) chunk_indices.now
+            (box_of chunk_subset.now) (data_of made) (store_of S.state self.now)) }
+        ensures refused { IfErr result (λ e. RefusesRetrievePart (layout_of self.now)
+            chunk_indices.now (box_of chunk_subset.now) (refusal_of e)
+            (store_of S.state self.now)) }
+    {
+        let chunk = self.parts.chunk_box(alloc, chunk_indices)?;
+        let region = self
+            .parts
+            .part_of(alloc, chunk_indices, &chunk, chunk_subset)?;
+        if region == chunk {
+            return self.retrieve_chunk(alloc, chunk_indices);
+        }
+        let data = self.parts.filled(alloc, &region)?;
+        self.with_chunk(alloc, &region, data, chunk_indices)
+    }
+}

@@ -1,0 +1,307 @@
+//! Writes of parts of chunks, of ranges of chunks and of regions.
+use super::Engine;
+use std::alloc::Global;
+use zarrs_chunk_grid::ChunkGridTraits;
+use zarrs_codec::{ChainTraits, CodecOptions};
+use zarrs_data_type::{ArrayBytes, lies_in_box};
+use zarrs_keys::ChunkKeyEncodingTraits;
+use zarrs_layout::{Chunk, invalid_indices};
+use zarrs_steps::ArrayError;
+use zarrs_storage::WritableStorageTraits;
+use zarrs_subset::{ArraySubset, IncompatibleDimensionalityError};
+
+impl<
+    S: WritableStorageTraits,
+    G: ChunkGridTraits,
+    K: ChunkKeyEncodingTraits,
+    C: ChainTraits,
+> Engine<S, G, K, C> {
+    ghost use Rattle.std.specs.Prelude.{◌≡◌, true, false, Bool, Option, None, [], ◌∷◌, length};
+    ghost use Rattle.std.specs.Prelude.{IfOk, IfErr, OnOk};
+    ghost use Rattle.zarrs_subset.specs.Boxes.{position_count};
+    ghost use Rattle.zarrs_subset.specs.Regions.{Box, box_of, positions};
+    ghost use Rattle.zarrs_chunk_grid.specs.Grids.{box_at, has_box};
+    ghost use Rattle.zarrs_data_type.specs.ArrayData.{ArrayData, data_of};
+    ghost use Rattle.zarrs_data_type.specs.Cells.{HasCells};
+    ghost use Rattle.zarrs_codec.specs.Options.{stores_empty_chunks};
+    ghost use Rattle.zarrs_steps.specs.ChunkBoxes.{chunks_met, part_box};
+    ghost use Rattle.zarrs_steps.specs.Fronts.{StoresAll};
+    ghost use Rattle.zarrs_steps.specs.Reach.{MayAskParts};
+    ghost use Rattle.zarrs_steps.specs.Refusals.{Refusal, is_too_large, refusal_of};
+    ghost use Rattle.zarrs_steps.specs.StateRefusals.{RefusesPart};
+    ghost use Rattle.zarrs_steps.specs.Step.{RefusesStore, StoresChunks, RefusesStoreChunks};
+    ghost use Rattle.zarrs_steps.specs.Step.{StoresPart, RefusesStorePart};
+    ghost use Rattle.zarrs_steps.specs.Step.{StoresRegion, RefusesStoreRegion};
+    ghost use Rattle.zarrs_layout.specs.Covers.{CoverRegion};
+    ghost use Rattle.zarrs_engine.specs.Engine.{layout_of, state_of, store_of, KeepsParts};
+    ghost use Rattle.zarrs_engine.specs.RegionWrites.{AreCovered, HasUpdated, LeavesPart};
+    ghost use Rattle.zarrs_engine.specs.RegionWrites.{StoresOneMore};
+
+    /// The cells of a chunk after it took its part of the region's data. Unless the region covers the chunk, the chunk
+    /// is read first.
+    fn updated_chunk(
+        &self,
+        alloc: Global,
+        region: &ArraySubset,
+        region_data: &ArrayBytes<'_>,
+        chunk_indices: &[u64],
+        chunk: &ArraySubset,
+    ) -> Result<ArrayBytes<'static>, ArrayError>
+        requires boxed { has_box (layout_of self.now).grid chunk_indices.now ≡ true }
+        requires chunk { box_of chunk.now ≡ box_at (layout_of self.now).grid chunk_indices.now }
+        requires fit { is_too_large (layout_of self.now) (box_of chunk.now).shape ≡ false }
+        requires dimensions { length (box_of region.now).start
+            ≡ (layout_of self.now).grid.dimensions }
+        requires given { HasCells (layout_of self.now).kind (data_of region_data.now)
+            (position_count (box_of region.now).shape) }
+        requires ask { MayAskParts (layout_of self.now) (box_of region.now)
+            (chunk_indices.now ∷ []) (store_of S.state self.now) }
+        ensures updated { IfOk result (λ made. HasUpdated (layout_of self.now) (box_of region.now)
+            (data_of region_data.now) chunk_indices.now (store_of S.state self.now) (data_of made)) }
+        ensures refused { (keep : Bool) → IfErr result
+            (λ e. RefusesPart (layout_of self.now) keep (box_of region.now)
+            (data_of region_data.now) chunk_indices.now 0 (store_of S.state self.now)
+            (refusal_of e)) }
+    {
+        if lies_in_box(chunk, region) {
+            let data = region_data.extract_array_subset(
+                alloc,
+                &self.parts.data_type,
+                region,
+                chunk,
+            )?;
+            return Ok(data);
+        }
+        let held = self.retrieve_chunk(alloc, chunk_indices)?;
+        let data = held.with_part(alloc, &self.parts.data_type, chunk, region_data, region)?;
+        Ok(data)
+    }
+
+    /// Puts the value of a chunk with this data at its key, by one writing call of the store.
+    fn put_chunk(
+        &mut self,
+        alloc: Global,
+        chunk_indices: &[u64],
+        chunk: &Chunk,
+        chunk_data: &ArrayBytes<'_>,
+        options: &CodecOptions,
+    ) -> Result<(), ArrayError>
+        requires boxed { has_box (layout_of self.old).grid chunk_indices.now ≡ true }
+        requires chunk { box_of chunk.now.region
+            ≡ box_at (layout_of self.old).grid chunk_indices.now }
+        requires fit { is_too_large (layout_of self.old) (box_of chunk.now.region).shape ≡ false }
+        ensures done { (region : Box) (held : ArrayData)
+            → AreCovered (layout_of self.old).grid region
+            → HasUpdated (layout_of self.old) region held chunk_indices.now
+            (store_of S.state self.old) (data_of chunk_data.now)
+            → HasCells (layout_of self.old).kind held (position_count region.shape)
+            → OnOk result (StoresOneMore (layout_of self.old) (stores_empty_chunks options.now)
+            region held chunk_indices.now (store_of S.state self.old) (store_of S.state self.new)) }
+        ensures refused { (region : Box) (held : ArrayData)
+            → HasUpdated (layout_of self.old) region held chunk_indices.now
+            (store_of S.state self.old) (data_of chunk_data.now)
+            → IfErr result (λ e. LeavesPart (layout_of self.old) (stores_empty_chunks options.now)
+            region held chunk_indices.now (refusal_of e) (store_of S.state self.old)
+            (store_of S.state self.new)) }
+        ensures parts { KeepsParts self.old self.new }
+    {
+        let key = self.parts.chunk_key(alloc, chunk_indices)?;
+        let value = self.parts.value_of(alloc, chunk, chunk_data, options)?;
+        self.put(alloc, &key, value)?;
+        Ok(())
+    }
+
+    /// Stores the part of the region's data that one chunk takes.
+    fn store_part(
+        &mut self,
+        alloc: Global,
+        region: &ArraySubset,
+        region_data: &ArrayBytes<'_>,
+        chunk_indices: &[u64],
+        options: &CodecOptions,
+    ) -> Result<(), ArrayError>
+        requires boxed { has_box (layout_of self.old).grid chunk_indices.now ≡ true }
+        requires dimensions { length (box_of region.now).start
+            ≡ (layout_of self.old).grid.dimensions }
+        requires covered { AreCovered (layout_of self.old).grid (box_of region.now) }
+        requires given { HasCells (layout_of self.old).kind (data_of region_data.now)
+            (position_count (box_of region.now).shape) }
+        requires ask { MayAskParts (layout_of self.old) (box_of region.now)
+            (chunk_indices.now ∷ []) (store_of S.state self.old) }
+        ensures done { OnOk result
+            (StoresOneMore (layout_of self.old) (stores_empty_chunks options.now)
+            (box_of region.now) (data_of region_data.now) chunk_indices.now
+            (store_of S.state self.old) (store_of S.state self.new)) }
+        ensures refused { IfErr result
+            (λ e. LeavesPart (layout_of self.old) (stores_empty_chunks options.now)
+            (box_of region.now) (data_of region_data.now) chunk_indices.now (refusal_of e)
+            (store_of S.state self.old) (store_of S.state self.new)) }
+        ensures parts { KeepsParts self.old self.new }
+    {
+        let chunk = self.parts.chunk(alloc, chunk_indices)?;
+        if chunk.region == *region {
+            return self.put_chunk(alloc, chunk_indices, &chunk, region_data, options);
+        }
+        let data = self.updated_chunk(alloc, region, region_data, chunk_indices, &chunk.region)?;
+        self.put_chunk(alloc, chunk_indices, &chunk, &data, options)
+    }
+
+    /// Stores the region's data in these chunks, one after another.
+    fn store_along(
+        &mut self,
+        alloc: Global,
+        region: &ArraySubset,
+        region_data: &ArrayBytes<'_>,
+        chunks: &ArraySubset,
+        options: &CodecOptions,
+    ) -> Result<(), ArrayError>
+        requires cover { CoverRegion (layout_of self.old).grid (box_of region.now)
+            (positions (box_of chunks.now)) }
+        requires given { HasCells (layout_of self.old).kind (data_of region_data.now)
+            (position_count (box_of region.now).shape) }
+        requires ask { MayAskParts (layout_of self.old) (box_of region.now)
+            (positions (box_of chunks.now)) (store_of S.state self.old) }
+        ensures done { OnOk result
+            (StoresAll (layout_of self.old) (stores_empty_chunks options.now) (box_of region.now)
+            (data_of region_data.now) (positions (box_of chunks.now)) (store_of S.state self.old)
+            (store_of S.state self.new)) }
+        ensures refused { (first : Option Refusal) → first ≡ None → IfErr result
+            (λ e. RefusesStore (layout_of self.old) (stores_empty_chunks options.now) first
+            (box_of region.now) (data_of region_data.now) (positions (box_of chunks.now))
+            (refusal_of e) (store_of S.state self.old) (store_of S.state self.new)) }
+        ensures parts { KeepsParts self.old self.new }
+    {
+        let Some(mut walk) = chunks.walk(alloc)? else {
+            return Ok(());
+        };
+        loop {
+            self.store_part(alloc, region, region_data, walk.current(), options)?;
+            if !walk.advance() {
+                return Ok(());
+            }
+        }
+    }
+
+    /// Stores the cells, in row-major order, over the chunks with the indices in the range, one chunk after another in
+    /// row-major order, each by one writing call of the store. No chunk is read. A range without a chunk takes data
+    /// without a cell, and asks nothing of the store.
+    ///
+    /// # Errors
+    /// In this order: E8 for more chunks than a `u64` counts; of a range of one chunk the errors of `store_chunk`; E3
+    /// for a first index without a chunk, then for such a last one; E4 for data that is not one cell for each position,
+    /// each a value of the data type. Then, at one of the chunks: E8 for a chunk of more bytes than a `usize` counts;
+    /// E4 if the chain does not take it; E8 if its bytes pass a size; E7 if the store refuses. E9 may come at any time.
+    /// The chunks before that one are stored then, and no later one.
+    pub fn store_chunks(
+        &mut self,
+        alloc: Global,
+        chunks: &ArraySubset,
+        chunks_data: &ArrayBytes<'_>,
+        options: &CodecOptions,
+    ) -> Result<(), ArrayError>
+        ensures done { OnOk result
+            (StoresChunks (layout_of self.old) (stores_empty_chunks options.now)
+            (box_of chunks.now) (data_of chunks_data.now) (store_of S.state self.old)
+            (store_of S.state self.new)) }
+        ensures refused { IfErr result
+            (λ e. RefusesStoreChunks (layout_of self.old) (stores_empty_chunks options.now)
+            (box_of chunks.now) (data_of chunks_data.now) (refusal_of e)
+            (store_of S.state self.old) (store_of S.state self.new)) }
+        ensures parts { KeepsParts self.old self.new }
+    {
+        let Ok(number) = chunks.num_elements() else {
+            return Err(ArrayError::SizeOverflow);
+        };
+        if number == 0 {
+            return self.parts.check_cells(false, chunks, chunks_data);
+        }
+        if chunks.dimensionality() != self.parts.grid.dimensionality() {
+            return Err(invalid_indices(alloc, chunks.start()));
+        }
+        let region = self.parts.chunks_region(alloc, chunks)?;
+        self.parts.check_cells(number == 1, &region, chunks_data)?;
+        self.store_along(alloc, &region, chunks_data, chunks, options)
+    }
+
+    /// Stores the cells over a part of the chunk with these indices, by one writing call of the store. The part is seen
+    /// from the origin of the chunk. Unless it is the whole chunk, the chunk is read first.
+    ///
+    /// # Errors
+    /// In this order: E10 for another number of indices than dimensions; E3 for indices without a chunk; E2 for a part
+    /// of another number of dimensions, or that passes the chunk; if it is the whole chunk, E8 if that has more bytes
+    /// than a `usize` counts; E4 for data that is not one cell for each position, each a value of the data type. Then
+    /// E8 for such a chunk; E7 if the chunk is read and the store refuses its key; E4 if its bytes do not decode, or the
+    /// chain does not take it; E8 if its bytes pass a size; E7 if the store refuses the write. E9 may come at any time.
+    /// Nothing is changed then.
+    pub fn store_chunk_subset(
+        &mut self,
+        alloc: Global,
+        chunk_indices: &[u64],
+        chunk_subset: &ArraySubset,
+        chunk_subset_data: &ArrayBytes<'_>,
+        options: &CodecOptions,
+    ) -> Result<(), ArrayError>
+        requires { MayAskParts (layout_of self.old)
+            (part_box (box_at (layout_of self.old).grid chunk_indices.now) (box_of chunk_subset.now))
+            (chunk_indices.now ∷ []) (store_of S.state self.old) }
+        ensures done { OnOk result
+            (StoresPart (layout_of self.old) (stores_empty_chunks options.now) chunk_indices.now
+            (box_of chunk_subset.now) (data_of chunk_subset_data.now) (store_of S.state self.old)
+            (store_of S.state self.new)) }
+        ensures refused { IfErr result
+            (λ e. RefusesStorePart (layout_of self.old) (stores_empty_chunks options.now)
+            chunk_indices.now (box_of chunk_subset.now) (data_of chunk_subset_data.now)
+            (refusal_of e) (store_of S.state self.old) (store_of S.state self.new)) }
+        ensures parts { KeepsParts self.old self.new }
+    {
+        let dimensions = self.parts.grid.dimensionality();
+        if chunk_indices.len() != dimensions {
+            let error = IncompatibleDimensionalityError::new(chunk_indices.len(), dimensions);
+            return Err(ArrayError::IncompatibleDimensionalityError(error));
+        }
+        let chunk = self.parts.chunk_box(alloc, chunk_indices)?;
+        let region = self
+            .parts
+            .part_of(alloc, chunk_indices, &chunk, chunk_subset)?;
+        self.parts
+            .check_cells(region == chunk, &region, chunk_subset_data)?;
+        self.store_part(alloc, &region, chunk_subset_data, chunk_indices, options)
+    }
+
+    /// Stores the cells, in row-major order, over the region, one chunk after another in row-major order, each by one
+    /// writing call of the store. A chunk of which the region covers a part alone is read first; cells of it outside
+    /// the region stay. An empty region asks nothing of the store.
+    ///
+    /// # Errors
+    /// In this order: E1 for another number of dimensions, or a position that no chunk covers; for a region that is one
+    /// chunk E8 if it has more bytes than a `usize` counts; E4 for data that is not one cell for each position, each a
+    /// value of the data type. Then, at one of the chunks: E8 for a chunk of more bytes than a `usize` counts; of a
+    /// chunk that is read, E7 if the store refuses its key, and E4 if its bytes do not decode; E4 if the chain does not
+    /// take it; E8 if its bytes pass a size; E7 if the store refuses the write. E9 may come at any time. The chunks
+    /// before that one are stored then, and no later one.
+    pub fn store_array_subset(
+        &mut self,
+        alloc: Global,
+        array_subset: &ArraySubset,
+        subset_data: &ArrayBytes<'_>,
+        options: &CodecOptions,
+    ) -> Result<(), ArrayError>
+        requires { MayAskParts (layout_of self.old) (box_of array_subset.now)
+            (chunks_met (layout_of self.old).grid (box_of array_subset.now))
+            (store_of S.state self.old) }
+        ensures done { OnOk result
+            (StoresRegion (layout_of self.old) (stores_empty_chunks options.now)
+            (state_of S.state self.old).shape (box_of array_subset.now) (data_of subset_data.now)
+            (store_of S.state self.old) (store_of S.state self.new)) }
+        ensures refused { IfErr result
+            (λ e. RefusesStoreRegion (layout_of self.old) (stores_empty_chunks options.now)
+            (state_of S.state self.old).shape (box_of array_subset.now) (data_of subset_data.now)
+            (refusal_of e) (store_of S.state self.old) (store_of S.state self.new)) }
+        ensures parts { KeepsParts self.old self.new }
+    {
+        let chunks = self.parts.chunks_met(alloc, array_subset)?;
+        let is_chunk = self.parts.is_one_chunk(alloc, array_subset, &chunks)?;
+        self.parts.check_cells(is_chunk, array_subset, subset_data)?;
+        self.store_along(alloc, array_subset, subset_data, &chunks, options)
+    }
+}

@@ -1,0 +1,5 @@
+pub mod Chunks
+pub mod RegionRefusals
+pub mod ChunkParts
+pub mod ChunkRanges
+pub mod OneChunk

@@ -1,0 +1,39 @@
+-- What the steps inside a call leave.
+use Rattle.std.specs.Prelude.{◌≡◌, ◌≢◌, ℕ, ◌+◌, ◌<◌, ◌≤◌, Bool, List, length, Option, Some}
+use Rattle.std.specs.Option.{option_or}
+use Rattle.zarrs_subset.specs.Boxes.{position_count}
+use Rattle.zarrs_subset.specs.Regions.{Box}
+use Rattle.zarrs_storage.specs.Store.{StoreState, last_call}
+use Rattle.zarrs_data_type.specs.Cell.{Cell}
+use Rattle.zarrs_data_type.specs.ArrayData.{ArrayData}
+use Rattle.zarrs_data_type.specs.Cells.{cells}
+use Rattle.zarrs_steps.specs.declared.error.ArrayError.{ArrayError}
+use Rattle.zarrs_steps.specs.Layout.{Layout}
+use Rattle.zarrs_steps.specs.Refusals.{Refusal, indices, refusal_of, RefusesBy, length_refusal, key_refusal}
+use Rattle.zarrs_steps.specs.Changes.{IsValueOf, Makes}
+use Rattle.zarrs_steps.specs.StateRefusals.{RefusesErasure}
+
+-- the refusal names these indices, or memory was short
+abbrev pub RefusesIndices : List ℕ → ArrayError → Type 0
+RefusesIndices index e = RefusesBy (Some (indices index)) (refusal_of e)
+
+-- the bytes of a chunk cannot be had: an index list of another length, or a key that the store refuses to read
+abbrev pub RefusesValue : Layout → List ℕ → StoreState → Refusal → Type 0
+RefusesValue layout index state = RefusesBy (option_or (length_refusal layout index) (key_refusal layout index state))
+
+-- the data is the cells of a chunk of this box, and this is what is to be present at its key
+pub record HasValue (layout : Layout) (keep : Bool) (box : Box) (held : ArrayData) (value : Option (List ℕ)) : Type 0 where
+  pub chunk : List Cell
+  pub is_chunk : cells layout.kind held ≡ Some chunk
+  pub count : length chunk ≡ position_count box.shape
+  pub is_value : IsValueOf layout keep box chunk value
+
+-- A writing call was refused, or memory for it was short: no value changed, and at most one failure was counted, none if
+-- no call was left.
+pub record RefusesPut (refusal : Refusal) (old new : StoreState) : Type 0 where
+  pub failed : ℕ
+  pub one : failed ≤ 1
+  pub counted : 0 < failed → new.calls ≢ last_call + 1
+  pub values : new.values ≡ old.values
+  pub makes : Makes 0 failed old new
+  pub cause : RefusesErasure failed new refusal

@@ -1,0 +1,7 @@
+//! Tests of calls on regions.
+#![tactic(auto)]
+
+#[cfg(test)]
+mod part_reads;
+#[cfg(test)]
+mod region_reads;

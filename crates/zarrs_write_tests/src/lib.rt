@@ -1,0 +1,9 @@
+//! Tests of writes of regions, of parts of chunks and of ranges of chunks.
+#![tactic(auto)]
+
+#[cfg(test)]
+mod engines;
+#[cfg(test)]
+mod refusals;
+#[cfg(test)]
+mod writes;
