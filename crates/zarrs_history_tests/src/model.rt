@@ -1,0 +1,331 @@
+//! The plain model: a list of cells, one for each position, and what each call does to it.
+use std::alloc::Global;
+use std::test::Fail;
+
+/// What a cell is that was never written.
+pub(crate) const FILL: u8 = 2;
+
+/// A box: the first index of each dimension, and its extent.
+#[derive(Drop)]
+pub(crate) struct Region {
+    pub(crate) start: Vec<u64>,
+    pub(crate) shape: Vec<u64>,
+}
+
+/// Why a call is refused.
+#[derive(Clone, Copy, Drop)]
+pub(crate) enum Refusal {
+    /// E1
+    Region,
+    /// E2
+    Part,
+    /// E3
+    Indices,
+    /// E4
+    Data,
+    /// E10
+    Dimensions,
+}
+
+/// What a call is answered.
+#[derive(Drop)]
+pub(crate) enum Answer {
+    Done,
+    Cells(Vec<u8>),
+    Absent,
+    Refused(Refusal),
+}
+
+/// Where the cells that a call names stand in the list, or why it is refused.
+pub(crate) type Found = Result<Vec<usize>, Refusal>;
+
+/// The index lists, each followed by each of `extent` indices from `start` on.
+fn lengthened(
+    alloc: Global,
+    lists: &[Vec<u64>],
+    start: u64,
+    extent: u64,
+) -> Result<Vec<Vec<u64>>, Fail> {
+    let mut longer = Vec::new(alloc);
+    let end = start.checked_add(extent).ok_or("no such box")?;
+    for list in lists {
+        for index in start..end {
+            let mut next = list.as_slice().to_vec(alloc)?;
+            next.push(index)?;
+            longer.push(next)?;
+        }
+    }
+    Ok(longer)
+}
+
+impl Region {
+    /// The positions of the box, the last index running fastest.
+    pub(crate) fn positions(&self, alloc: Global) -> Result<Vec<Vec<u64>>, Fail> {
+        let mut lists = Vec::new(alloc);
+        lists.push(Vec::new(alloc))?;
+        for (start, extent) in self.start.iter().zip(&self.shape) {
+            lists = lengthened(alloc, &lists, *start, *extent)?;
+        }
+        Ok(lists)
+    }
+
+    pub(crate) fn is_empty(&self) -> bool {
+        for extent in &self.shape {
+            if *extent == 0 {
+                return true;
+            }
+        }
+        false
+    }
+
+    /// Whether the box ends within these extents.
+    fn fits(&self, extents: &[u64]) -> bool {
+        if self.start.len() != extents.len() {
+            return false;
+        }
+        for ((start, length), extent) in self.start.iter().zip(&self.shape).zip(extents) {
+            match start.checked_add(*length) {
+                Some(end) if end <= *extent => {}
+                _ => return false,
+            }
+        }
+        true
+    }
+
+    /// The box, moved by these offsets.
+    fn moved(&self, alloc: Global, offsets: &[u64]) -> Result<Region, Fail> {
+        let mut start = Vec::new(alloc);
+        for (index, offset) in self.start.iter().zip(offsets) {
+            start.push(index.checked_add(*offset).ok_or("no such box")?)?;
+        }
+        Ok(Region {
+            start,
+            shape: self.shape.as_slice().to_vec(alloc)?,
+        })
+    }
+}
+
+/// The cells of an array whose chunks begin and end at these edges along each dimension.
+#[derive(Drop)]
+pub(crate) struct Model<'a> {
+    pub(crate) edges: &'a [&'a [u64]],
+    /// Whether there are chunks past the last edges. No call asks for them.
+    pub(crate) is_open: bool,
+    cells: Vec<u8>,
+}
+
+/// Where the last chunk ends.
+fn end_of(edges: &[u64]) -> u64 {
+    match edges.last() {
+        Some(end) => *end,
+        None => 0,
+    }
+}
+
+impl<'a> Model<'a> {
+    pub(crate) fn new(
+        alloc: Global,
+        edges: &'a [&'a [u64]],
+        is_open: bool,
+    ) -> Result<Model<'a>, Fail> {
+        let mut model = Model {
+            edges,
+            is_open,
+            cells: Vec::new(alloc),
+        };
+        for _ in model.whole(alloc)?.positions(alloc)? {
+            model.cells.push(FILL)?;
+        }
+        Ok(model)
+    }
+
+    pub(crate) fn dimensions(&self) -> usize {
+        self.edges.len()
+    }
+
+    /// The number of positions along each dimension.
+    pub(crate) fn extents(&self, alloc: Global) -> Result<Vec<u64>, Fail> {
+        let mut extents = Vec::new(alloc);
+        for edges in self.edges {
+            extents.push(end_of(edges))?;
+        }
+        Ok(extents)
+    }
+
+    /// The number of chunks along each dimension.
+    pub(crate) fn counts(&self, alloc: Global) -> Result<Vec<u64>, Fail> {
+        let mut counts = Vec::new(alloc);
+        for edges in self.edges {
+            counts.push((edges.len() as u64).saturating_sub(1))?;
+        }
+        Ok(counts)
+    }
+
+    /// The box of all positions.
+    pub(crate) fn whole(&self, alloc: Global) -> Result<Region, Fail> {
+        Ok(Region {
+            start: vec![in alloc; 0u64; self.dimensions()]?,
+            shape: self.extents(alloc)?,
+        })
+    }
+
+    /// The range of all chunks.
+    pub(crate) fn chunks(&self, alloc: Global) -> Result<Region, Fail> {
+        Ok(Region {
+            start: vec![in alloc; 0u64; self.dimensions()]?,
+            shape: self.counts(alloc)?,
+        })
+    }
+
+    /// Where the cell at the position stands in the list.
+    fn place(&self, position: &[u64]) -> Option<usize> {
+        let mut place = 0u64;
+        for (index, edges) in position.iter().zip(self.edges) {
+            let extent = end_of(edges);
+            if *index >= extent {
+                return None;
+            }
+            place = place.checked_mul(extent)?.checked_add(*index)?;
+        }
+        Some(place as usize)
+    }
+
+    /// Where the cells of the box stand in the list, or `None` if it has a position that no chunk covers.
+    fn places(&self, alloc: Global, region: &Region) -> Result<Option<Vec<usize>>, Fail> {
+        let mut places = Vec::new(alloc);
+        for position in &region.positions(alloc)? {
+            let Some(place) = self.place(position) else {
+                return Ok(None);
+            };
+            places.push(place)?;
+        }
+        Ok(Some(places))
+    }
+
+    /// The box from where the first chunk of a range begins to where the last one ends.
+    fn box_of_chunks(&self, alloc: Global, range: &Region) -> Result<Option<Region>, Fail> {
+        let mut start = Vec::new(alloc);
+        let mut shape = Vec::new(alloc);
+        for ((first, count), edges) in range.start.iter().zip(&range.shape).zip(self.edges) {
+            let end = first.checked_add(*count).ok_or("no such range")?;
+            let (Some(low), Some(high)) = (edges.get(*first as usize), edges.get(end as usize))
+            else {
+                return Ok(None);
+            };
+            start.push(*low)?;
+            shape.push(high.saturating_sub(*low))?;
+        }
+        Ok(Some(Region { start, shape }))
+    }
+
+    /// The box of a chunk.
+    pub(crate) fn chunk_box(&self, alloc: Global, indices: &[u64]) -> Result<Option<Region>, Fail> {
+        if indices.len() != self.dimensions() {
+            return Ok(None);
+        }
+        for (index, edges) in indices.iter().zip(self.edges) {
+            if *index >= edges.len() as u64 {
+                return Ok(None);
+            }
+        }
+        let range = Region {
+            start: indices.to_vec(alloc)?,
+            shape: vec![in alloc; 1u64; indices.len()]?,
+        };
+        self.box_of_chunks(alloc, &range)
+    }
+
+    fn found_in(&self, alloc: Global, region: &Region, otherwise: Refusal) -> Result<Found, Fail> {
+        match self.places(alloc, region)? {
+            Some(places) => Ok(Ok(places)),
+            None => Ok(Err(otherwise)),
+        }
+    }
+
+    /// The cells of a region.
+    pub(crate) fn find_region(&self, alloc: Global, region: &Region) -> Result<Found, Fail> {
+        if region.start.len() != self.dimensions() {
+            return Ok(Err(Refusal::Region));
+        }
+        self.found_in(alloc, region, Refusal::Region)
+    }
+
+    /// The cells of a chunk.
+    pub(crate) fn find_chunk(&self, alloc: Global, indices: &[u64]) -> Result<Found, Fail> {
+        match self.chunk_box(alloc, indices)? {
+            Some(region) => self.found_in(alloc, &region, Refusal::Indices),
+            None => Ok(Err(Refusal::Indices)),
+        }
+    }
+
+    /// The cells of a part of a chunk.
+    pub(crate) fn find_part(
+        &self,
+        alloc: Global,
+        indices: &[u64],
+        part: &Region,
+    ) -> Result<Found, Fail> {
+        let Some(chunk) = self.chunk_box(alloc, indices)? else {
+            return Ok(Err(Refusal::Indices));
+        };
+        if !part.fits(&chunk.shape) {
+            return Ok(Err(Refusal::Part));
+        }
+        self.found_in(alloc, &part.moved(alloc, &chunk.start)?, Refusal::Part)
+    }
+
+    /// The cells of the chunks in a range of as many dimensions as the array has.
+    pub(crate) fn find_chunks(&self, alloc: Global, range: &Region) -> Result<Found, Fail> {
+        if range.is_empty() {
+            return Ok(Ok(Vec::new(alloc)));
+        }
+        match self.box_of_chunks(alloc, range)? {
+            Some(region) => self.found_in(alloc, &region, Refusal::Indices),
+            None => Ok(Err(Refusal::Indices)),
+        }
+    }
+
+    /// The cells at these places.
+    pub(crate) fn cells_at(&self, alloc: Global, places: &[usize]) -> Result<Vec<u8>, Fail> {
+        let mut cells = Vec::new(alloc);
+        for place in places {
+            cells.push(*self.cells.get(*place).ok_or("no such cell")?)?;
+        }
+        Ok(cells)
+    }
+
+    pub(crate) fn read(&self, alloc: Global, found: &Found) -> Result<Answer, Fail> {
+        match found {
+            Ok(places) => Ok(Answer::Cells(self.cells_at(alloc, places)?)),
+            Err(refusal) => Ok(Answer::Refused(*refusal)),
+        }
+    }
+
+    pub(crate) fn store(&mut self, found: &Found, data: &[u8]) -> Answer {
+        let places = match found {
+            Ok(places) => places,
+            Err(refusal) => return Answer::Refused(*refusal),
+        };
+        if places.len() != data.len() {
+            return Answer::Refused(Refusal::Data);
+        }
+        for (place, cell) in places.iter().zip(data) {
+            if let Some(held) = self.cells.get_mut(*place) {
+                *held = *cell;
+            }
+        }
+        Answer::Done
+    }
+
+    /// Makes the cells fill. Where there is no chunk nothing changes.
+    pub(crate) fn erase(&mut self, found: &Found) {
+        let Ok(places) = found else {
+            return;
+        };
+        for place in places {
+            if let Some(held) = self.cells.get_mut(*place) {
+                *held = FILL;
+            }
+        }
+    }
+}
