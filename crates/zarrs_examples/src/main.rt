@@ -1,4 +1,4 @@
-//! The program `zarrs_examples`: it runs each script of `examples/` and compares what the script writes with the file
+//! The program `zarrs_examples`: it runs each script of `data/` and compares what the script writes with the file
 //! beside it.
 #![tactic(auto)]
 
@@ -9,12 +9,13 @@ use std::rt::Files;
 use zarrs_script::run_script;
 
 /// The scripts, and the status that each ends with.
-const EXAMPLES: [(&str, u8); 8] = [
+const EXAMPLES: [(&str, u8); 9] = [
     ("first", 0),
     ("cells", 0),
     ("types", 0),
     ("no_dimension", 1),
     ("refusals", 1),
+    ("regions", 1),
     ("skipped", 1),
     ("limits", 1),
     ("not_a_command", 2),

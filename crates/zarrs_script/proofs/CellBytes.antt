@@ -1,10 +1,11 @@
 -- The bytes that words of cells say are values of their type.
-use Rattle.std.proofs.Common.{◌≡◌, ℕ, ◌-◌, ◌+◌, ◌^◌, ◌%◌, ◌<◌, ◌≤◌, ◌==◌, ◌&&◌, List, [], ◌∷◌, ◌++◌, Bool, true, false, cond, nat_le, nat_lt, Option, Some, None, IsSome, refl, subst, sym, ◌∙◌, rules, arith}
+use Rattle.std.proofs.Common.{◌≡◌, ℕ, ◌-◌, ◌+◌, ◌^◌, ◌%◌, ◌<◌, ◌≤◌, ◌==◌, ◌&&◌, List, [], ◌∷◌, ◌++◌, Bool, true, false, cond, nat_le, nat_lt, Option, Some, None, IsSome, refl, subst, rules, arith}
 use Rattle.std.proofs.lemmas.Bool.Decides.{nat_tests}
 use Rattle.zarrs_data_type.specs.Cell.{fill_cell}
+use Rattle.zarrs_metadata.specs.Extension.{◌>>=◌}
 use Rattle.zarrs_script.specs.declared.cell_type.CellType.{CellType}
 use Rattle.zarrs_script.specs.declared.cell_type.CellType.TheVariants as cell
-use Rattle.zarrs_script.specs.Words.{◌>>=◌, number_of}
+use Rattle.zarrs_script.specs.Words.{number_of}
 use Rattle.zarrs_script.specs.CellTypes.{kind_of, size_of, greatest, is_signed, low_bytes, positive, negative, cell_of}
 
 -- a `bool` has the byte 0 or 1

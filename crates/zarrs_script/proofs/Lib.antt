@@ -1,6 +1,7 @@
 pub mod Numbers
 pub mod Split
 pub mod Lists
+pub mod Regions
 pub mod Lines
 pub mod Bytes
 pub mod CellBytes

@@ -1,13 +1,14 @@
 -- Reading a list item by item.
-use Rattle.std.proofs.Common.{◌≡◌, ℕ, ◌+◌, ◌<◌, List, [], ◌∷◌, ◌++◌, length, drop, get_or, Option, Some, None, refl, sym, ap, subst, ◌∙◌, append_assoc, arith}
+use Rattle.std.proofs.Common.{◌≡◌, ℕ, ◌+◌, ◌<◌, List, [], ◌∷◌, ◌++◌, length, drop, get_or, Option, Some, None, refl, sym, ap, ◌∙◌, append_assoc, arith}
 use Rattle.std.proofs.lemmas.List.{at_drop_more, at_drop_all, append-nil}
 use Rattle.std.specs.List.{concat}
 use Rattle.std.specs.Iterator.{Yields}
 use Rattle.std.proofs.lemmas.Iterator.{YieldsList}
 use Rattle.std.proofs.lemmas.Iterator.Consumers.{YieldsList-turn, YieldsList-end}
+use Rattle.zarrs_metadata.specs.Extension.{◌>>=◌}
 use Rattle.zarrs_script.specs.declared.error.ParseError.{ParseError}
 use Rattle.zarrs_script.specs.declared.error.ParseError.TheVariants.{NotACommand, OutOfMemory}
-use Rattle.zarrs_script.specs.Words.{◌>>=◌, each_of}
+use Rattle.zarrs_script.specs.Words.{each_of}
 use Rattle.zarrs_script.specs.CellTypes.{joined_cells}
 use Rattle.zarrs_script.specs.Script.{keys_order}
 use Rattle.zarrs_script.specs.Parsed.{Fails}

@@ -1,19 +1,21 @@
 -- What new arrays are.
-use Rattle.std.proofs.Common.{◌≡◌, ◌≢◌, ◌==◌, ℕ, ◌<◌, ◌+◌, true, false, List, [], ◌∷◌, ◌++◌, length, take, get_or, slice_index, codes, Err, refl, sym, ap, ◌∙◌, arith}
+use Rattle.std.proofs.Common.{◌≡◌, ◌≢◌, ◌==◌, ℕ, ◌<◌, ◌+◌, true, false, List, [], ◌∷◌, ◌++◌, length, take, get_or, codes, Err, refl, sym, ap, ◌∙◌, subst, arith}
 use Rattle.std.specs.List.{list_any}
 use Rattle.std.specs.FinMap as finite
 use Rattle.std.specs.Int.NonZero.{non_zero_u64_get}
 use Rattle.std.specs.declared.num.NonZeroU64.{NonZeroU64}
+use Rattle.std.proofs.lemmas.Bool.{and_parts}
 use Rattle.std.proofs.lemmas.Bool.Decides.{nat_tests}
-use Rattle.std.proofs.lemmas.List.{length-map, take_more, map_push}
+use Rattle.std.proofs.lemmas.Map.Views.{exact_unsigned_eq}
+use Rattle.std.proofs.lemmas.List.{take_more, map_push}
 use Rattle.std.proofs.lemmas.List.Folds.{list_any_at}
 use Rattle.zarrs_storage.specs.Memory.{MemoryState, open_state}
 use Rattle.zarrs_metadata.specs.declared.separators.ChunkKeySeparator.TheVariants.{Slash}
 use Rattle.zarrs_keys.specs.Encodings.{default_key}
-use Rattle.zarrs_chunk_grid.specs.Axes.{regular_axis}
-use Rattle.zarrs_chunk_grid.specs.Grids.{Grid, regular_grid}
-use Rattle.zarrs_chunk_grid.specs.Refusals.{RefusesDimensionality}
-use Rattle.zarrs_chunk_grid.specs.Shapes.{sizes_of}
+use Rattle.zarrs_chunk_grid.specs.Axes.{sizes_of}
+use Rattle.zarrs_chunk_grid.specs.Grids.{Grid}
+use Rattle.zarrs_chunk_grid.specs.Configurations.{regular, grid_of, takes_shape}
+use Rattle.zarrs_chunk_grid.specs.Refusals.{RefusesGrid}
 use Rattle.zarrs_chunk_grid.specs.declared.error.GridError.{GridError}
 use Rattle.zarrs_chunk_grid.specs.declared.error.GridError.TheVariants as grid_error
 use Rattle.zarrs_data_type.specs.Kind.{Kind}
@@ -23,13 +25,12 @@ use Rattle.zarrs_codec_array.specs.Arrays.{same_array}
 use Rattle.zarrs_codec.specs.Chains.{whole_chunk}
 use Rattle.zarrs_codec.specs.Through.{through}
 use Rattle.zarrs_steps.specs.Layout.{Layout, layout_at}
-use Rattle.zarrs_steps.specs.Layout.{ArrayState}
 use Rattle.zarrs_script.specs.declared.cell_type.CellType.{CellType}
 use Rattle.zarrs_script.specs.declared.command.Creation.{Creation}
 use Rattle.zarrs_script.specs.declared.error.CreationError.{CreationError}
 use Rattle.zarrs_script.specs.declared.error.CreationError.TheVariants.{NoGrid, OutOfMemory}
 use Rattle.zarrs_script.specs.CellTypes.{kind_of}
-use Rattle.zarrs_script.specs.Transcript.{Opened, MakesGrid, grid_of, layout_for, new_array}
+use Rattle.zarrs_script.specs.Transcript.{Opened, MakesGrid, layout_for, new_array}
 use Rattle.zarrs_script.specs.Sessions.{Creates}
 use Rattle.zarrs_script.specs.Sizes.{HasSizes}
 
@@ -53,29 +54,23 @@ none_zero (size ∷ sizes) =
     let test : (non_zero_u64_get size == 0) ≡ false = grind (arith, nat_tests) in
     rw test (none_zero sizes)
 
-pub makes_grid : (shape chunk_shape : List ℕ) (sizes : List NonZeroU64) → sizes_of sizes ≡ chunk_shape → length sizes ≡ length shape → MakesGrid shape chunk_shape
-makes_grid shape chunk_shape sizes is long =
-    let counted : length (sizes_of sizes) ≡ length sizes = length-map sizes non_zero_u64_get in
+pub makes_grid : (shape chunk_shape : List ℕ) (sizes : List NonZeroU64) → sizes_of sizes ≡ chunk_shape → takes_shape (regular (sizes_of sizes)) shape ≡ true → MakesGrid shape chunk_shape
+makes_grid shape chunk_shape sizes is taken =
     record {
-      same = ap length (sym is) ∙ counted ∙ long;
+      taken = subst (λ (extents : List ℕ). takes_shape (regular extents) shape ≡ true) is taken;
       nonzero = ap (list_any (λ extent. extent == 0)) (sym is) ∙ none_zero sizes;
     }
-
-grid_is : (chunk_shape : List ℕ) (sizes : List NonZeroU64) → sizes_of sizes ≡ chunk_shape → regular_grid sizes ≡ grid_of chunk_shape
-grid_is chunk_shape sizes is =
-    let counted : length sizes ≡ length (sizes_of sizes) = sym (length-map sizes non_zero_u64_get) in
-    ap (λ (n : ℕ). record { dimensions = n; axis = λ k. regular_axis (slice_index (sizes_of sizes) k) }) counted ∙ ap grid_of is
 
 -- the layout of equal parts is the same
 same_layout : (g h : Grid) (p q : List ℕ) (k l : List ℕ → List ℕ) (c d : ChainMeaning) (t u : Kind) (f e : List ℕ) → g ≡ h → p ≡ q → k ≡ l → c ≡ d → t ≡ u → f ≡ e → layout_at g p k c t f ≡ layout_at h q l d u e
 same_layout g h p q k l c d t u f e grid path key chain kind fill = λ i. layout_at (grid i) (path i) (key i) (chain i) (kind i) (fill i)
 
 pub made_array : (shape chunk_shape fill : List ℕ) (cell_type : CellType) (sizes : List NonZeroU64) (grid : Grid) (path : List ℕ) (key : List ℕ → List ℕ) (chain : ChainMeaning) (kind : Kind) (held : List ℕ) (layout : Layout) (store : MemoryState) (extents : List ℕ)
-    → sizes_of sizes ≡ chunk_shape → layout ≡ layout_at grid path key chain kind held → grid ≡ regular_grid sizes → path ≡ codes "/" → key ≡ default_key Slash → chain ≡ through same_array (whole_chunk bytes_meaning) → kind ≡ kind_of cell_type → held ≡ fill
+    → sizes_of sizes ≡ chunk_shape → layout ≡ layout_at grid path key chain kind held → grid ≡ grid_of (regular (sizes_of sizes)) shape → path ≡ codes "/" → key ≡ default_key Slash → chain ≡ through same_array (whole_chunk bytes_meaning) → kind ≡ kind_of cell_type → held ≡ fill
     → store ≡ record { values = finite.empty; calls = 0; failures = 0 } → extents ≡ shape
     → ◌≡◌ {A = Opened} (record { cell_type = cell_type; layout = layout; state = record { store = open_state store; shape = extents } }) (new_array shape chunk_shape cell_type fill)
 made_array shape chunk_shape fill cell_type sizes grid path key chain kind held layout store extents is made on_grid at_root by_default in_bytes typed filled empty long =
-    let same : layout ≡ layout_for chunk_shape cell_type fill = made ∙ same_layout grid (grid_of chunk_shape) path (codes "/") key (default_key Slash) chain (through same_array (whole_chunk bytes_meaning)) kind (kind_of cell_type) held fill (on_grid ∙ grid_is chunk_shape sizes is) at_root by_default in_bytes typed filled in
+    let same : layout ≡ layout_for shape chunk_shape cell_type fill = made ∙ same_layout grid (grid_of (regular chunk_shape) shape) path (codes "/") key (default_key Slash) chain (through same_array (whole_chunk bytes_meaning)) kind (kind_of cell_type) held fill (on_grid ∙ ap (λ (extents : List ℕ). grid_of (regular extents) shape) is) at_root by_default in_bytes typed filled in
     λ i. record { cell_type = cell_type; layout = same i; state = record { store = open_state (empty i); shape = long i } }
 
 -- without sizes there is no array
@@ -84,9 +79,9 @@ no_sizes creation NoGrid zero = λ makes. absurd (cc (zero, makes.nonzero))
 no_sizes creation OutOfMemory h = tt
 
 -- nor where the lengths differ
-pub no_grid : (shape chunk_shape : List ℕ) (sizes : List NonZeroU64) (error : GridError) → sizes_of sizes ≡ chunk_shape → RefusesDimensionality (length sizes) (length shape) error → error ≢ grid_error.OutOfMemory → MakesGrid shape chunk_shape → ⊥
+pub no_grid : (shape chunk_shape : List ℕ) (sizes : List NonZeroU64) (error : GridError) → sizes_of sizes ≡ chunk_shape → RefusesGrid (regular (sizes_of sizes)) shape error → error ≢ grid_error.OutOfMemory → MakesGrid shape chunk_shape → ⊥
 no_grid shape chunk_shape sizes (grid_error.IncompatibleDimensionality mismatch) is refused memory makes =
-    let counted : length (sizes_of sizes) ≡ length sizes = length-map sizes non_zero_u64_get in
-    refused.0 (sym counted ∙ ap length is ∙ makes.same)
-no_grid shape chunk_shape sizes grid_error.UnequalExtent is refused memory makes = absurd refused
+    let parts = and_parts (length chunk_shape == length shape) true makes.taken in
+    refused.0 (ap length is ∙ exact_unsigned_eq _ _ parts.0)
+no_grid shape chunk_shape sizes grid_error.UnequalExtent is refused memory makes = absurd (let never = refused.1 in cc)
 no_grid shape chunk_shape sizes grid_error.OutOfMemory is refused memory makes = memory refl

@@ -1,14 +1,13 @@
 -- The text of cells, one cell after another.
-use Rattle.std.proofs.Common.{◌≡◌, ℕ, zero, suc, ◌+◌, ◌-◌, ◌^◌, decimal, nat_lt, lt-ltb, get_or, ◌*◌, ◌/◌, ◌<◌, ◌≤◌, ◌==◌, ◌&&◌, Bool, true, false, cond, List, [], ◌∷◌, ◌++◌, length, map, take, slice_range, Option, Some, None, IsSome, option_map, codes, refl, sym, ap, ◌∙◌, append_assoc, arith}
+use Rattle.std.proofs.Common.{◌≡◌, ℕ, zero, suc, ◌+◌, ◌-◌, ◌^◌, decimal, nat_lt, lt-ltb, get_or, ◌*◌, ◌/◌, ◌<◌, ◌≤◌, ◌==◌, ◌&&◌, Bool, true, false, cond, List, [], ◌∷◌, ◌++◌, length, map, take, slice_range, Option, Some, None, IsSome, option_map, refl, sym, ap, ◌∙◌, append_assoc, arith}
 use Rattle.std.specs.List.{range_with_len, join_with_byte}
 use Rattle.std.proofs.lemmas.Bool.Decides.{nat_tests}
 use Rattle.std.proofs.lemmas.List.FromFn.{map-range_with_len_more, length-map-range_with_len}
 use Rattle.zarrs_data_type.specs.ArrayData.{fixed}
-use Rattle.zarrs_data_type.specs.Cell.{Cell, bytes, are_values}
-use Rattle.zarrs_data_type.specs.Cells.{cells}
+use Rattle.zarrs_data_type.specs.Cell.{Cell, bytes}
 use Rattle.zarrs_script.specs.declared.cell_type.CellType.{CellType}
 use Rattle.zarrs_script.specs.declared.cell_type.CellType.TheVariants as cell
-use Rattle.zarrs_script.specs.CellTypes.{kind_of, size_of, greatest, is_signed, value_of, number_text, cell_text}
+use Rattle.zarrs_script.specs.CellTypes.{size_of, greatest, is_signed, value_of, number_text, cell_text}
 use Rattle.zarrs_script.proofs.Bytes.{value_below}
 use Rattle.zarrs_script.specs.Transcript.{line, list_text, data_text}
 

@@ -5,12 +5,12 @@ use Rattle.zarrs_script.specs.Script.{Order, orders_of}
 use Rattle.zarrs_script.specs.Transcript.{Outcome, Transcript, line}
 
 -- such bytes were all that a reader had left
-abbrev pub Reads : Option (List ℕ) → Option (List ℕ) → (List ℕ → Type 0) → Type 0
-Reads old new IsSuch = (bytes : List ℕ) × Consumes old new bytes × IsAtEnd new × IsSuch bytes
+abbrev pub ReadsAll : Option (List ℕ) → Option (List ℕ) → (List ℕ → Type 0) → Type 0
+ReadsAll old new IsSuch = (bytes : List ℕ) × Consumes old new bytes × IsAtEnd new × IsSuch bytes
 
 -- what a writer holds grew by such a text
-abbrev pub Writes : Option (List ℕ) → Option (List ℕ) → (List ℕ → Type 0) → Type 0
-Writes old new IsSuch = (text : List ℕ) × Appends old new text × IsSuch text
+abbrev pub WritesText : Option (List ℕ) → Option (List ℕ) → (List ℕ → Type 0) → Type 0
+WritesText old new IsSuch = (text : List ℕ) × Appends old new text × IsSuch text
 
 -- a transcript of the script, and its status: 1 where it holds a refusal, else 0
 abbrev pub IsTranscriptOf : List ℕ → List ℕ → ℕ → Type 0

@@ -4,9 +4,10 @@ use Rattle.std.specs.List.{concat}
 use Rattle.std.specs.Str.{bytes_eq}
 use Rattle.zarrs_data_type.specs.Kind.{Kind, bool, int8, int16, int32, int64, uint8, uint16, uint32, uint64}
 use Rattle.zarrs_data_type.specs.Cell.{Cell, fill_bytes}
+use Rattle.zarrs_metadata.specs.Extension.{◌>>=◌}
 use Rattle.zarrs_script.specs.declared.cell_type.CellType.{CellType}
 use Rattle.zarrs_script.specs.declared.cell_type.CellType.TheVariants as cell
-use Rattle.zarrs_script.specs.Words.{◌>>=◌, number_of, each_of, items_of}
+use Rattle.zarrs_script.specs.Words.{number_of, each_of, items_of}
 
 -- the data type of the cells
 abbrev pub kind_of : CellType → Kind

@@ -1,7 +1,8 @@
 -- What parsing gives.
-use Rattle.std.specs.Prelude.{◌≡◌, ◌==◌, ℕ, List, [], ◌∷◌, ◌++◌, map, Option, Some, None, Result, Ok, Err}
+use Rattle.std.specs.Prelude.{◌≡◌, ◌==◌, ℕ, List, [], ◌∷◌, ◌++◌, Option, Some, None, Result, Ok, Err}
 use Rattle.std.specs.Borrow.{Bor}
-use Rattle.std.specs.List.{flat_map, slice_split}
+use Rattle.std.specs.List.{slice_split}
+use Rattle.zarrs_subset.specs.Regions.{box_of}
 use Rattle.zarrs_data_type.specs.ArrayData.{data_of}
 use Rattle.zarrs_steps.specs.declared.call.Call.{Call}
 use Rattle.zarrs_steps.specs.declared.call.Call.TheVariants as call
@@ -10,12 +11,10 @@ use Rattle.zarrs_script.specs.declared.command.Command.{Command}
 use Rattle.zarrs_script.specs.declared.command.Command.TheVariants as command
 use Rattle.zarrs_script.specs.declared.error.ParseError.{ParseError}
 use Rattle.zarrs_script.specs.declared.error.ParseError.TheVariants.{NotACommand, OutOfMemory}
-use Rattle.zarrs_script.specs.declared.command.Block.{Block}
-use Rattle.zarrs_script.specs.declared.command.Block.TheVariants as block
 use Rattle.zarrs_script.specs.declared.error.ScriptError.{ScriptError}
 use Rattle.zarrs_script.specs.declared.error.ScriptError.TheVariants as script
-use Rattle.zarrs_script.specs.Words.{◌>>=◌}
-use Rattle.zarrs_script.specs.Script.{Order, Array, Chunk, Read, Erase, Keys, Other}
+use Rattle.zarrs_metadata.specs.Extension.{◌>>=◌}
+use Rattle.zarrs_script.specs.Script.{Order, Array, Chunk, Read, Erase, Put, Get, Keys, Other}
 
 -- a text that says this is refused with this error: it says nothing, or memory ran out
 abbrev pub Fails : {Y : Type 0} → ParseError → Option Y → Type 0
@@ -40,20 +39,14 @@ abbrev pub order_of_call : Call → Order
 order_of_call (call.StoreChunk indices held) = Chunk indices.items (data_of held)
 order_of_call (call.RetrieveChunk indices) = Read indices.items
 order_of_call (call.EraseChunk indices) = Erase indices.items
+order_of_call (call.StoreArraySubset region held) = Put (box_of region) (data_of held)
+order_of_call (call.RetrieveArraySubset region) = Get (box_of region)
 order_of_call _ = Other
 
 abbrev pub order_of_command : Command → Order
 order_of_command (command.Array made) = order_of_creation made
 order_of_command (command.Call asked) = order_of_call asked
 order_of_command command.Keys = Keys
-
-abbrev pub orders_in_block : Block → List Order
-orders_in_block (block.Array made) = order_of_creation made ∷ []
-orders_in_block (block.Calls calls) = map order_of_call calls.items
-orders_in_block block.Keys = Keys ∷ []
-
-abbrev pub orders_in : List Block → List Order
-orders_in blocks = flat_map orders_in_block blocks
 
 -- what was parsed is what the script says, unless memory ran out
 abbrev pub Parses : {X : Type 0} → (X → List Order) → Result X ScriptError → Result (List Order) ℕ → Type 0

@@ -2,11 +2,13 @@
 use Rattle.std.specs.Prelude.{ℕ, ◌+◌, ◌==◌, Bool, true, if◌then◌else◌, List, [], ◌∷◌, codes, Option, Some, None, Result, Ok, Err}
 use Rattle.std.specs.List.{slice_split}
 use Rattle.std.specs.Str.{bytes_eq}
+use Rattle.zarrs_subset.specs.Regions.{Box}
 use Rattle.zarrs_data_type.specs.ArrayData.{ArrayData, fixed}
+use Rattle.zarrs_metadata.specs.Extension.{◌>>=◌}
 use Rattle.zarrs_script.specs.declared.cell_type.CellType.{CellType}
 use Rattle.zarrs_script.specs.declared.command.Verb.{Verb}
 use Rattle.zarrs_script.specs.declared.command.Verb.TheVariants as verb
-use Rattle.zarrs_script.specs.Words.{◌>>=◌, numbers_of}
+use Rattle.zarrs_script.specs.Words.{numbers_of, region_of}
 use Rattle.zarrs_script.specs.CellTypes.{type_of, cell_of, cells_of}
 
 -- what a line asks for
@@ -17,6 +19,9 @@ pub data Order : Type 0 where
   Chunk : (indices : List ℕ) (cells : ArrayData) → Order
   Read : (indices : List ℕ) → Order
   Erase : (indices : List ℕ) → Order
+  -- store cells over this region, and read it
+  Put : (region : Box) (cells : ArrayData) → Order
+  Get : (region : Box) → Order
   -- list the keys
   Keys : Order
   -- a call that no line asks for
@@ -28,6 +33,8 @@ verb_of word =
     else if bytes_eq word (codes "chunk") then Some verb.Chunk
     else if bytes_eq word (codes "read") then Some verb.Read
     else if bytes_eq word (codes "erase") then Some verb.Erase
+    else if bytes_eq word (codes "put") then Some verb.Put
+    else if bytes_eq word (codes "get") then Some verb.Get
     else if bytes_eq word (codes "keys") then Some verb.Keys
     else None
 
@@ -47,6 +54,17 @@ chunk_order cell_type (indices ∷ cells ∷ []) = do
   Some (Chunk indices (fixed cells))
 chunk_order cell_type _ = None
 
+abbrev pub put_order : CellType → List (List ℕ) → Option Order
+put_order cell_type (start ∷ shape ∷ cells ∷ []) = do
+  region ← region_of start shape
+  cells ← cells_of cell_type cells
+  Some (Put region (fixed cells))
+put_order cell_type _ = None
+
+abbrev pub get_order : List (List ℕ) → Option Order
+get_order (start ∷ shape ∷ []) = region_of start shape >>= λ region. Some (Get region)
+get_order _ = None
+
 -- indices and nothing else
 abbrev pub indices_of : List (List ℕ) → Option (List ℕ)
 indices_of (indices ∷ []) = numbers_of indices
@@ -63,6 +81,8 @@ verb_order verb.Array known words = array_order words
 verb_order verb.Chunk known words = known >>= λ cell_type. chunk_order cell_type words
 verb_order verb.Read known words = known >>= λ _. indices_of words >>= λ indices. Some (Read indices)
 verb_order verb.Erase known words = known >>= λ _. indices_of words >>= λ indices. Some (Erase indices)
+verb_order verb.Put known words = known >>= λ cell_type. put_order cell_type words
+verb_order verb.Get known words = known >>= λ _. get_order words
 verb_order verb.Keys known words = known >>= λ _. keys_order words
 
 abbrev pub words_order : Option CellType → List (List ℕ) → Option Order

@@ -1,17 +1,14 @@
 -- The sessions that values of the code stand for, and what is still to be written.
-use Rattle.std.specs.Prelude.{◌≡◌, ℕ, Bool, List, [], ◌∷◌, ◌++◌, Option, Some, None, Result, Ok, Err}
+use Rattle.std.specs.Prelude.{◌≡◌, ℕ, Bool, List, ◌++◌, Option, Some, None, Result, Ok, Err}
 use Rattle.std.specs.Io.KnownBytes.{Appends}
 use Rattle.zarrs_storage.specs.Memory.{open_state}
-use Rattle.zarrs_steps.specs.declared.call.Reply.{Reply}
 use Rattle.zarrs_engine.specs.Engine.{layout_of, state_of}
-use Rattle.zarrs_script.specs.declared.cell_type.CellType.{CellType}
 use Rattle.zarrs_script.specs.declared.command.Creation.{Creation}
 use Rattle.zarrs_script.specs.declared.array.OpenArray.{OpenArray}
 use Rattle.zarrs_script.specs.declared.error.CreationError.{CreationError}
 use Rattle.zarrs_script.specs.declared.error.CreationError.TheVariants.{NoGrid, OutOfMemory}
-use Rattle.zarrs_script.specs.Words.{◌>>=◌}
 use Rattle.zarrs_script.specs.Script.{Order}
-use Rattle.zarrs_script.specs.Transcript.{Opened, Session, Transcript, MakesGrid, new_array, reply_text}
+use Rattle.zarrs_script.specs.Transcript.{Opened, Session, Transcript, MakesGrid, new_array}
 
 -- what an open array is
 abbrev pub opened : OpenArray → Opened
@@ -36,14 +33,6 @@ Prints old new IsSuch = (text : List ℕ) × (new ≡ old ++ text) × IsSuch tex
 -- What is pending is written later. Such a text followed it: a front of both was written, and the rest is pending now.
 abbrev pub Puts : (old new : Option (List ℕ)) (pending left : List ℕ) → (List ℕ → Type 0) → Type 0
 Puts old new pending left IsSuch = (text : List ℕ) × (written : List ℕ) × Appends old new written × (pending ++ text ≡ written ++ left) × IsSuch text
-
--- the lines of replies, one after the other
-abbrev pub replies_text : CellType → List Reply → Option (List ℕ)
-replies_text cell_type [] = Some []
-replies_text cell_type (reply ∷ replies) = do
-  text ← reply_text cell_type reply
-  texts ← replies_text cell_type replies
-  Some (text ++ texts)
 
 -- the orders were done, from one session to the next
 abbrev pub Follows : Session → List Order → List ℕ → Bool → Session → Type 0

@@ -1,5 +1,5 @@
 -- What a script prints.
-use Rattle.std.specs.Prelude.{◌≡◌, ◌⊎◌, ◌==◌, ℕ, zero, suc, ◌||◌, Bool, true, false, List, [], ◌∷◌, ◌++◌, map, length, slice_index, codes, decimal, unwrap_or, Option, Some, None, option_map}
+use Rattle.std.specs.Prelude.{◌≡◌, ◌⊎◌, ◌==◌, ℕ, ◌||◌, Bool, true, false, List, [], ◌∷◌, ◌++◌, map, codes, decimal, unwrap_or, Option, Some, None, option_map}
 use Rattle.std.specs.List.{flat_map, list_any, join_with_byte}
 use Rattle.std.specs.FinMap as finite
 use Rattle.hex.specs.Hex.{encode_lower}
@@ -7,8 +7,7 @@ use Rattle.zarrs_storage.specs.Store.{StoreState, Values}
 use Rattle.zarrs_storage.specs.Memory.{open_state}
 use Rattle.zarrs_metadata.specs.declared.separators.ChunkKeySeparator.TheVariants.{Slash}
 use Rattle.zarrs_keys.specs.Encodings.{default_key}
-use Rattle.zarrs_chunk_grid.specs.Axes.{regular_axis}
-use Rattle.zarrs_chunk_grid.specs.Grids.{Grid}
+use Rattle.zarrs_chunk_grid.specs.Configurations.{regular, grid_of, takes_shape}
 use Rattle.zarrs_data_type.specs.ArrayData.{ArrayData, data_of}
 use Rattle.zarrs_data_type.specs.Cells.{cells}
 use Rattle.zarrs_codec_leaf.specs.Bytes.{bytes_meaning}
@@ -81,30 +80,21 @@ lines_of_keys values (key ∷ keys) = flat_map (key_text values) (key ∷ keys)
 abbrev pub keys_text : Values → List ℕ
 keys_text values = lines_of_keys values (finite.keys values)
 
--- `count` lines that nothing is done for
-abbrev pub skipped : ℕ → List ℕ
-skipped zero = []
-skipped (suc count) = line (codes "skipped") ++ skipped count
-
 -- what one line did: its text, whether it holds a refusal, and the session after it
 pub record Outcome : Type 0 where
   pub text : List ℕ
   pub refused : Bool
   pub after : Session
 
--- a chunk's extents make a grid of a shape: they are as many, and none of them is 0
+-- a chunk's extents make a `regular` grid of a shape: they are as many, and none of them is 0
 pub record MakesGrid (shape chunk_shape : List ℕ) : Type 0 where
-  pub same : length chunk_shape ≡ length shape
+  pub taken : takes_shape (regular chunk_shape) shape ≡ true
   pub nonzero : list_any (λ extent. extent == 0) chunk_shape ≡ false
 
--- the `regular` grid of chunks of these extents
-abbrev pub grid_of : List ℕ → Grid
-grid_of chunk_shape = record { dimensions = length chunk_shape; axis = λ k. regular_axis (slice_index chunk_shape k) }
-
 -- what the parts of a new array mean: the `regular` grid, `default` keys with `/` at the path `/`, the codec `bytes`
-abbrev pub layout_for : List ℕ → CellType → List ℕ → Layout
-layout_for chunk_shape cell_type fill =
-    layout_at (grid_of chunk_shape) (codes "/") (default_key Slash) (through same_array (whole_chunk bytes_meaning)) (kind_of cell_type) fill
+abbrev pub layout_for : List ℕ → List ℕ → CellType → List ℕ → Layout
+layout_for shape chunk_shape cell_type fill =
+    layout_at (grid_of (regular chunk_shape) shape) (codes "/") (default_key Slash) (through same_array (whole_chunk bytes_meaning)) (kind_of cell_type) fill
 
 -- a store in memory that holds nothing
 abbrev pub new_store : StoreState
@@ -114,7 +104,7 @@ new_store = open_state (record { values = finite.empty; calls = 0; failures = 0 
 abbrev pub new_array : List ℕ → List ℕ → CellType → List ℕ → Opened
 new_array shape chunk_shape cell_type fill = record {
   cell_type = cell_type;
-  layout = layout_for chunk_shape cell_type fill;
+  layout = layout_for shape chunk_shape cell_type fill;
   state = record { store = new_store; shape = shape };
 }
 

@@ -1,13 +1,11 @@
--- What the words of a line say: numbers, and lists of what is joined by commas.
-use Rattle.std.specs.Prelude.{ℕ, ◌^◌, ◌==◌, ◌&&◌, Bool, true, false, if◌then◌else◌, nat_lt, List, [], ◌∷◌, codes, Option, Some, None}
+-- What the words of a line say: numbers, lists of what is joined by commas, and regions.
+use Rattle.std.specs.Prelude.{ℕ, ◌+◌, ◌^◌, ◌==◌, ◌&&◌, Bool, false, if◌then◌else◌, nat_lt, List, [], ◌∷◌, codes, Option, Some, None}
+use Rattle.std.specs.Cmp.Lexicographic.{pointwise}
 use Rattle.std.specs.List.{slice_split}
 use Rattle.std.specs.Str.{bytes_eq, all_ascii_digits}
 use Rattle.std.specs.Str.Parse.{digits_value}
-
-infixl 10 ◌>>=◌
-abbrev pub ◌>>=◌ : {A B : Type 0} → Option A → (A → Option B) → Option B
-None >>= f = None
-(Some x) >>= f = f x
+use Rattle.zarrs_subset.specs.Regions.{Box, box_from}
+use Rattle.zarrs_metadata.specs.Extension.{◌>>=◌}
 
 -- a number: one decimal digit or more, below 2 ^ 64
 abbrev pub is_number : List ℕ → Bool
@@ -31,3 +29,16 @@ each_of item (word ∷ words) = do
 
 abbrev pub numbers_of : List ℕ → Option (List ℕ)
 numbers_of word = each_of number_of (items_of word)
+
+-- there is a region that begins at `start` and has this shape: the lists are as long, and each end is below 2 ^ 64
+abbrev pub is_region : List ℕ → List ℕ → Bool
+is_region start shape = pointwise (λ first extent. nat_lt (first + extent) (2 ^ 64)) start shape
+
+abbrev pub region_at : List ℕ → List ℕ → Option Box
+region_at start shape = if is_region start shape then Some (box_from start shape) else None
+
+abbrev pub region_of : List ℕ → List ℕ → Option Box
+region_of start shape = do
+  start ← numbers_of start
+  shape ← numbers_of shape
+  region_at start shape

@@ -13,6 +13,8 @@ pub enum Verb {
     Chunk,
     Read,
     Erase,
+    Put,
+    Get,
     Keys,
 }
 
@@ -36,13 +38,5 @@ pub enum Command {
     /// A call of the open array.
     Call(Call),
     /// Lists the keys that are present, and their bytes.
-    Keys,
-}
-
-/// Commands that are run together: the calls up to the next other command are one list.
-#[derive(Drop)]
-pub enum Block {
-    Array(Creation),
-    Calls(Vec<Call>),
     Keys,
 }

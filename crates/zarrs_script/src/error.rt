@@ -65,6 +65,14 @@ impl From<AllocError> for ScriptError {
     }
 }
 
+impl<T: Drop> From<AllocFailed<T>> for ScriptError {
+    ghost from_gives = { λ _ e. e ≡ script.OutOfMemory };
+
+    fn from(_error: AllocFailed<T>) -> ScriptError {
+        ScriptError::OutOfMemory
+    }
+}
+
 impl From<AllocError> for CreationError {
     ghost from_gives = { λ _ e. e ≡ creation.OutOfMemory };
 

@@ -1,19 +1,23 @@
 //! Reads the commands of a script.
-ghost use Rattle.std.specs.Prelude.{◌≡◌, ◌==◌, ◌∷◌, [], ◌++◌, position, IfOk, OnOk, IsSome};
+ghost use Rattle.std.specs.Prelude.{◌≡◌, ◌==◌, ◌++◌, map, position, IfOk, OnOk, IsSome};
 ghost use Rattle.std.specs.List.{slice_split};
+ghost use Rattle.zarrs_subset.specs.Regions.{box_of};
 ghost use Rattle.zarrs_data_type.specs.Cell.{fill_cell};
-ghost use Rattle.zarrs_script.specs.Words.{number_of, each_of, numbers_of};
-ghost use Rattle.zarrs_script.specs.CellTypes.{kind_of, cell_of, joined_cells, cells_of, low_bytes, positive, negative, unsigned_cell, signed_cell};
-ghost use Rattle.zarrs_script.specs.Script.{verb_of, array_order, chunk_order, indices_of, keys_order, verb_order, order_of, type_after, is_skipped, orders_of};
-ghost use Rattle.zarrs_script.specs.Parsed.{Gives, Grows, words_in, TakesWord, TakesLastWord, order_of_call, order_of_command, orders_in, Parses};
+ghost use Rattle.zarrs_script.specs.Words.{number_of, each_of, numbers_of, region_of};
+ghost use Rattle.zarrs_script.specs.CellTypes.{kind_of, cell_of, joined_cells, cells_of, low_bytes};
+ghost use Rattle.zarrs_script.specs.CellTypes.{positive, negative, unsigned_cell, signed_cell};
+ghost use Rattle.zarrs_script.specs.Script.{verb_of, array_order, chunk_order, put_order, get_order, indices_of};
+ghost use Rattle.zarrs_script.specs.Script.{keys_order, verb_order, order_of, type_after, is_skipped, orders_of};
+ghost use Rattle.zarrs_script.specs.Parsed.{Gives, Grows, words_in, TakesWord, TakesLastWord, order_of_command, Parses};
 
 use crate::cell_type::CellType;
-use crate::command::{Block, Command, Creation, Verb};
+use crate::command::{Command, Creation, Verb};
 use crate::error::{ParseError, ScriptError};
 use std::alloc::{AllocError, Global};
 use std::borrow::CowSlice;
 use zarrs_data_type::ArrayBytes;
 use zarrs_engine::Call;
+use zarrs_subset::ArraySubset;
 
 #[tactic(auto, unfolding(crate::specs::Script::verb_of))]
 fn verb_of(word: &[u8]) -> Option<Verb>
@@ -27,6 +31,10 @@ fn verb_of(word: &[u8]) -> Option<Verb>
         Some(Verb::Read)
     } else if word == b"erase".as_slice() {
         Some(Verb::Erase)
+    } else if word == b"put".as_slice() {
+        Some(Verb::Put)
+    } else if word == b"get".as_slice() {
+        Some(Verb::Get)
     } else if word == b"keys".as_slice() {
         Some(Verb::Keys)
     } else {
@@ -245,6 +253,43 @@ fn chunk_command(
     Ok(Command::Call(Call::StoreChunk(chunk_indices, chunk_data)))
 }
 
+/// The region that begins at the indices of one word and has the extents of the other.
+fn region_of(alloc: Global, start: &[u8], shape: &[u8]) -> Result<ArraySubset, ParseError>
+    ensures { Gives box_of result (region_of start.now shape.now) }
+{
+    let start = numbers_of(alloc, start)?;
+    let shape = numbers_of(alloc, shape)?;
+    match ArraySubset::new_with_start_shape(start, shape) {
+        Ok(region) => Ok(region),
+        Err(_) => Err(ParseError::NotACommand),
+    }
+}
+
+fn put_command(
+    alloc: Global,
+    cell_type: CellType,
+    words: Option<&[u8]>,
+) -> Result<Command, ParseError>
+    ensures { Gives order_of_command result (put_order cell_type (words_in words.entry)) }
+{
+    let (start, words) = next_word(words)?;
+    let (shape, words) = next_word(words)?;
+    let cells = last_word(words)?;
+    let region = region_of(alloc, start, shape)?;
+    let cells = cells_of(alloc, cell_type, cells)?;
+    let data = ArrayBytes::Fixed(CowSlice::Owned(cells));
+    Ok(Command::Call(Call::StoreArraySubset(region, data)))
+}
+
+fn get_command(alloc: Global, words: Option<&[u8]>) -> Result<Command, ParseError>
+    ensures { Gives order_of_command result (get_order (words_in words.entry)) }
+{
+    let (start, words) = next_word(words)?;
+    let shape = last_word(words)?;
+    let region = region_of(alloc, start, shape)?;
+    Ok(Command::Call(Call::RetrieveArraySubset(region)))
+}
+
 /// The indices of a line that has nothing else.
 fn indices_of(alloc: Global, words: Option<&[u8]>) -> Result<Vec<u64>, ParseError>
     ensures { Gives (λ indices. indices.items) result (indices_of (words_in words.entry)) }
@@ -279,6 +324,8 @@ fn verb_command(
             Ok(Command::Call(Call::RetrieveChunk(indices_of(alloc, words)?)))
         }
         (Verb::Erase, Some(_)) => Ok(Command::Call(Call::EraseChunk(indices_of(alloc, words)?))),
+        (Verb::Put, Some(cell_type)) => put_command(alloc, cell_type, words),
+        (Verb::Get, Some(_)) => get_command(alloc, words),
         (Verb::Keys, Some(_)) => keys_command(words),
     }
 }
@@ -311,42 +358,12 @@ fn is_skipped(line: &[u8]) -> bool
     }
 }
 
-/// Adds a call to the last block, if that is one of calls, else as a block of its own.
-fn add_call(alloc: Global, blocks: &mut Vec<Block>, call: Call) -> Result<(), AllocError>
-    ensures { OnOk result (orders_in blocks.new.items
-        ≡ orders_in blocks.old.items ++ order_of_call call ∷ []) }
+/// The commands of a script. The whole script is read before any is run.
+pub fn commands_of(alloc: Global, script: &[u8]) -> Result<Vec<Command>, ScriptError>
+    ensures { Parses (λ commands. map order_of_command commands.items) result
+        (orders_of script.now) }
 {
-    match blocks.pop() {
-        Some(Block::Calls(mut calls)) => {
-            calls.push(call)?;
-            blocks.push(Block::Calls(calls))?;
-        }
-        Some(block) => {
-            blocks.push(block)?;
-            blocks.push(Block::Calls(vec![in alloc; call]?))?;
-        }
-        None => blocks.push(Block::Calls(vec![in alloc; call]?))?,
-    }
-    Ok(())
-}
-
-fn add(alloc: Global, blocks: &mut Vec<Block>, command: Command) -> Result<(), AllocError>
-    ensures { OnOk result (orders_in blocks.new.items
-        ≡ orders_in blocks.old.items ++ order_of_command command ∷ []) }
-{
-    match command {
-        Command::Array(creation) => blocks.push(Block::Array(creation))?,
-        Command::Call(call) => add_call(alloc, blocks, call)?,
-        Command::Keys => blocks.push(Block::Keys)?,
-    }
-    Ok(())
-}
-
-/// The commands of a script, in blocks. The whole script is read before any is run.
-pub fn blocks_of(alloc: Global, script: &[u8]) -> Result<Vec<Block>, ScriptError>
-    ensures { Parses (λ blocks. orders_in blocks.items) result (orders_of script.now) }
-{
-    let mut blocks = Vec::new(alloc);
+    let mut commands = Vec::new(alloc);
     let mut known = None;
     let mut number = 0u64;
     for line in script.split(|byte| *byte == b'\n') {
@@ -357,11 +374,11 @@ pub fn blocks_of(alloc: Global, script: &[u8]) -> Result<Vec<Block>, ScriptError
         match command_of(alloc, known, line) {
             Ok(command) => {
                 known = type_after(known, &command);
-                add(alloc, &mut blocks, command)?;
+                commands.push(command)?;
             }
             Err(ParseError::NotACommand) => return Err(ScriptError::NotACommand(number)),
             Err(ParseError::OutOfMemory) => return Err(ScriptError::OutOfMemory),
         }
     }
-    Ok(blocks)
+    Ok(commands)
 }

@@ -1,12 +1,12 @@
 //! Prints replies and keys.
-ghost use Rattle.std.specs.Prelude.{◌≡◌, ◌≤◌, ◌++◌, ◌*◌, ◌∷◌, [], codes, decimal, map, length, IfOk, OnOk, IsSome, Some, All};
-ghost use Rattle.std.specs.List.{flat_map, list_any};
+ghost use Rattle.std.specs.Prelude.{◌≡◌, ◌≤◌, ◌++◌, ◌*◌, ◌∷◌, [], codes, decimal, length, IfOk, OnOk, IsSome, Some};
 ghost use Rattle.zarrs_data_type.specs.ArrayData.{fixed};
 ghost use Rattle.zarrs_data_type.specs.Cells.{cells};
 ghost use Rattle.zarrs_steps.specs.Refusals.{refusal_of, refusal_number};
 ghost use Rattle.zarrs_script.specs.CellTypes.{kind_of, size_of, value_of, number_text};
-ghost use Rattle.zarrs_script.specs.Transcript.{line, refusal, data_text, reply_text, is_refusal, bytes_at, key_text, keys_text, skipped};
-ghost use Rattle.zarrs_script.specs.Sessions.{Puts, replies_text};
+ghost use Rattle.zarrs_script.specs.Transcript.{line, refusal, data_text, reply_text, is_refusal};
+ghost use Rattle.zarrs_script.specs.Transcript.{bytes_at, key_text, keys_text};
+ghost use Rattle.zarrs_script.specs.Sessions.{Puts};
 
 use crate::cell_type::CellType;
 use crate::error::Stopped;
@@ -152,7 +152,7 @@ fn refusal_number(error: &ArrayError) -> u8
 }
 
 /// Prints the reply, and tells whether it is a refusal.
-fn put_reply<W: Write>(
+pub fn put_reply<W: Write>(
     writer: &mut W,
     out: &mut Vec<u8>,
     cell_type: CellType,
@@ -186,38 +186,11 @@ fn put_reply<W: Write>(
     }
 }
 
-/// Prints the replies, each of which is dropped then, and tells whether one is a refusal.
-pub fn put_replies<W: Write>(
-    writer: &mut W,
-    out: &mut Vec<u8>,
-    cell_type: CellType,
-    replies: Vec<Reply>,
-) -> Result<bool, Stopped>
-    requires { All (λ reply. IsSome (reply_text cell_type reply)) replies.items }
-    ensures text { OnOk result (Puts (W.contents writer.old) (W.contents writer.new)
-        out.old.items out.new.items (λ text. replies_text cell_type replies.items ≡ Some text)) }
-    ensures refused { IfOk result (λ refused. refused ≡ list_any is_refusal replies.items) }
+/// Prints that a line was skipped.
+pub fn put_skipped(out: &mut Vec<u8>) -> Result<(), AllocError>
+    ensures { OnOk result (out.new.items ≡ out.old.items ++ line (codes "skipped")) }
 {
-    let mut refused = false;
-    for reply in replies {
-        let is_refusal = put_reply(writer, out, cell_type, &reply)?;
-        drop(reply);
-        spill(writer, out)?;
-        refused |= is_refusal;
-    }
-    Ok(refused)
-}
-
-/// Prints that `count` lines were skipped.
-pub fn put_skipped<W: Write>(writer: &mut W, out: &mut Vec<u8>, count: usize) -> Result<(), Stopped>
-    ensures { OnOk result (Puts (W.contents writer.old) (W.contents writer.new)
-        out.old.items out.new.items (λ text. text ≡ skipped count)) }
-{
-    for _ in 0..count {
-        put_line(out, b"skipped")?;
-        spill(writer, out)?;
-    }
-    Ok(())
+    put_line(out, b"skipped")
 }
 
 /// The bytes at a key, or none. A store in memory refuses only if memory runs out.

@@ -1,19 +1,19 @@
 //! Runs scripts.
-ghost use Rattle.std.specs.Prelude.{◌≡◌, ◌∷◌, [], IfOk, ◌⊎◌, None, Some, map};
-ghost use Rattle.zarrs_script.specs.Parsed.{orders_in_block, orders_in, order_of_call};
-ghost use Rattle.zarrs_script.specs.Transcript.{Session, Opens};
-ghost use Rattle.zarrs_script.specs.Answers.{IsAnswer, Reads, Writes};
+ghost use Rattle.std.specs.Prelude.{◌≡◌, IfOk, ◌⊎◌, None, Some, map};
+ghost use Rattle.zarrs_script.specs.Parsed.{order_of_call, order_of_command};
+ghost use Rattle.zarrs_script.specs.Transcript.{Session, Opens, Does};
+ghost use Rattle.zarrs_script.specs.Answers.{IsAnswer, ReadsAll, WritesText};
 ghost use Rattle.zarrs_script.specs.Sessions.{opened, session_of, Prints, Puts, Follows};
 
 use crate::array::OpenArray;
-use crate::command::{Block, Creation};
+use crate::command::{Command, Creation};
 use crate::error::{CreationError, ScriptError, Stopped};
-use crate::parse::blocks_of;
-use crate::print::{complaint, put_keys, put_line, put_refusal, put_replies, put_skipped, spill};
+use crate::parse::commands_of;
+use crate::print::{complaint, put_keys, put_line, put_refusal, put_reply, put_skipped, spill};
 use std::alloc::{AllocError, Global};
 use std::io::{Read, Write};
 use zarrs_codec::CodecOptions;
-use zarrs_engine::{Call, replay};
+use zarrs_engine::Call;
 
 /// Opens an array if it is accepted, and tells whether it was refused.
 fn open(
@@ -45,67 +45,80 @@ fn open(
     }
 }
 
-/// Makes the calls, and tells whether one was refused.
+/// Makes the call, prints its reply, and tells whether that is a refusal.
 fn serve<W: Write>(
     alloc: Global,
     writer: &mut W,
     out: &mut Vec<u8>,
     array: &mut OpenArray,
-    calls: &[Call],
+    call: &Call,
 ) -> Result<bool, Stopped>
     ensures { IfOk result (λ refused. Puts (W.contents writer.old) (W.contents writer.new)
-        out.old.items out.new.items (λ text. Follows (Some (opened array.old))
-        (map order_of_call calls.now) text refused (Some (opened array.new)))) }
+        out.old.items out.new.items
+        (λ text. Does (Some (opened array.old)) (order_of_call call.now) (record {
+          text = text;
+          refused = refused;
+          after = Some (opened array.new);
+        }))) }
 {
-    let replies = replay(alloc, &mut array.engine, calls, &CodecOptions::default())?;
-    let refused = put_replies(writer, out, array.cell_type, replies)?;
+    let reply = array.engine.answer(alloc, call, &CodecOptions::default());
+    let refused = put_reply(writer, out, array.cell_type, &reply)?;
     Ok(refused)
 }
 
-/// Runs a block, and tells whether it holds a refusal.
-fn run_block<W: Write>(
+/// Runs a command, and tells whether it was refused.
+fn run_command<W: Write>(
     alloc: Global,
     writer: &mut W,
     out: &mut Vec<u8>,
     array: &mut Option<OpenArray>,
-    block: Block,
+    command: Command,
 ) -> Result<bool, Stopped>
     ensures { IfOk result (λ refused. Puts (W.contents writer.old) (W.contents writer.new)
-        out.old.items out.new.items (λ text. Follows (session_of array.old)
-        (orders_in_block block) text refused (session_of array.new))) }
+        out.old.items out.new.items
+        (λ text. Does (session_of array.old) (order_of_command command) (record {
+          text = text;
+          refused = refused;
+          after = session_of array.new;
+        }))) }
 {
-    match (block, array.as_mut()) {
-        (Block::Array(creation), _) => {
+    match (command, array.as_mut()) {
+        (Command::Array(creation), _) => {
             let (opening, refused) = open(alloc, out, creation)?;
             *array = opening;
             Ok(refused)
         }
-        (Block::Calls(calls), Some(array)) => serve(alloc, writer, out, array, &calls),
-        (Block::Calls(calls), None) => {
-            put_skipped(writer, out, calls.len())?;
-            Ok(false)
-        }
-        (Block::Keys, Some(array)) => {
+        (Command::Call(call), Some(array)) => serve(alloc, writer, out, array, &call),
+        (Command::Keys, Some(array)) => {
             put_keys(alloc, writer, out, array.engine.storage())?;
             Ok(false)
         }
-        (Block::Keys, None) => {
-            put_skipped(writer, out, 1)?;
+        (Command::Call(_), None) => {
+            put_skipped(out)?;
+            Ok(false)
+        }
+        (Command::Keys, None) => {
+            put_skipped(out)?;
             Ok(false)
         }
     }
 }
 
-/// Runs the blocks and writes their text, and tells whether one holds a refusal.
-fn run_blocks<W: Write>(alloc: Global, writer: &mut W, blocks: Vec<Block>) -> Result<bool, Stopped>
-    ensures { IfOk result (λ refused. Writes (W.contents writer.old) (W.contents writer.new)
-        (λ text. (after : Session) × Follows None (orders_in blocks.items) text refused after)) }
+/// Runs the commands and writes what they print, and tells whether one was refused.
+fn run_commands<W: Write>(
+    alloc: Global,
+    writer: &mut W,
+    commands: Vec<Command>,
+) -> Result<bool, Stopped>
+    ensures { IfOk result (λ refused. WritesText (W.contents writer.old) (W.contents writer.new)
+        (λ text. (after : Session)
+        × Follows None (map order_of_command commands.items) text refused after)) }
 {
     let mut array = None;
     let mut refused = false;
     let mut out = Vec::new(alloc);
-    for block in blocks {
-        refused |= run_block(alloc, writer, &mut out, &mut array, block)?;
+    for command in commands {
+        refused |= run_command(alloc, writer, &mut out, &mut array, command)?;
         spill(writer, &mut out)?;
     }
     writer.write_all(&out)?;
@@ -114,12 +127,12 @@ fn run_blocks<W: Write>(alloc: Global, writer: &mut W, blocks: Vec<Block>) -> Re
 
 /// Writes what the script prints, and gives the status, 0 to 2.
 fn answer<W: Write>(alloc: Global, writer: &mut W, script: &[u8]) -> Result<u8, Stopped>
-    ensures { IfOk result (λ status. Writes (W.contents writer.old) (W.contents writer.new)
+    ensures { IfOk result (λ status. WritesText (W.contents writer.old) (W.contents writer.new)
         (λ text. IsAnswer script.now text status)) }
 {
-    match blocks_of(alloc, script) {
-        Ok(blocks) => {
-            let refused = run_blocks(alloc, writer, blocks)?;
+    match commands_of(alloc, script) {
+        Ok(commands) => {
+            let refused = run_commands(alloc, writer, commands)?;
             Ok(u8::from(refused))
         }
         Err(ScriptError::NotACommand(number)) => {
@@ -137,8 +150,8 @@ fn read_and_answer<R: Read, W: Write>(
     reader: &mut R,
     writer: &mut W,
 ) -> Result<u8, Stopped>
-    ensures { IfOk result (λ status. Reads (R.remaining reader.old) (R.remaining reader.new)
-        (λ script. Writes (W.contents writer.old) (W.contents writer.new)
+    ensures { IfOk result (λ status. ReadsAll (R.remaining reader.old) (R.remaining reader.new)
+        (λ script. WritesText (W.contents writer.old) (W.contents writer.new)
         (λ text. IsAnswer script text status))) }
 {
     let mut script = Vec::new(alloc);
@@ -151,9 +164,10 @@ fn read_and_answer<R: Read, W: Write>(
 /// Runs the script that the reader holds, prints into the writer, and returns the status.
 ///
 /// Each line is a command, empty, or begins with `#`. A command is `array SHAPE CHUNKS TYPE FILL`,
-/// `chunk INDICES CELLS`, `read INDICES`, `erase INDICES` or `keys`. A list is numbers joined by `,`, or `-`. A type is
-/// `bool`, `int8` to `int64` or `uint8` to `uint64`. Its cells are numbers, of a signed type also with `-` before
-/// them; of `bool` they are 0 and 1.
+/// `chunk INDICES CELLS`, `read INDICES`, `erase INDICES`, `put START SHAPE CELLS`, `get START SHAPE` or `keys`. A list
+/// is numbers joined by `,`, or `-`. A region's START and SHAPE have one entry for each dimension, and each end, their
+/// sum, is below 2^64. A type is `bool`, `int8` to `int64` or `uint8` to `uint64`. Its cells are numbers, of a signed
+/// type also with `-` before them; of `bool` they are 0 and 1.
 ///
 /// | Status | Meaning |
 /// |---|---|
@@ -162,8 +176,8 @@ fn read_and_answer<R: Read, W: Write>(
 /// | 2 | a line is not a command: its number alone is printed |
 /// | 3 | input, output or memory outside a call failed, and nothing more was printed |
 pub fn run_script<R: Read, W: Write>(alloc: Global, reader: &mut R, writer: &mut W) -> u8
-    ensures { Reads (R.remaining reader.old) (R.remaining reader.new)
-        (λ script. Writes (W.contents writer.old) (W.contents writer.new)
+    ensures { ReadsAll (R.remaining reader.old) (R.remaining reader.new)
+        (λ script. WritesText (W.contents writer.old) (W.contents writer.new)
         (λ text. IsAnswer script text result)) ⊎ (result ≡ 3) }
 {
     read_and_answer(alloc, reader, writer).unwrap_or(3)

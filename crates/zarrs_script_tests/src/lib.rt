@@ -2,4 +2,6 @@
 #![tactic(auto)]
 
 #[cfg(test)]
+mod regions;
+#[cfg(test)]
 mod tests;

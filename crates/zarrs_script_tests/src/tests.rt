@@ -6,12 +6,19 @@ use std::test::Fail;
 use zarrs_script::run_script;
 
 /// The script must print this text, and end with this status.
-fn must_print(rt: &impl Abort, alloc: Global, script: &[u8], prints: &[u8], status: u8) {
+pub fn must_print(rt: &impl Abort, alloc: Global, script: &[u8], prints: &[u8], status: u8) {
     let mut reader = script;
     let mut text = Vec::new(alloc);
     let ended = run_script(alloc, &mut reader, &mut text);
     assert_eq!(rt; text.as_slice(), prints, "of {script:?}");
     assert_eq!(rt; ended, status, "of {script:?}");
+}
+
+/// Each script must print its text, and end with its status.
+pub fn must_print_each(rt: &impl Abort, alloc: Global, cases: &[(&str, &str, u8)]) {
+    for (script, prints, status) in cases {
+        must_print(rt, alloc, script.as_bytes(), prints.as_bytes(), *status);
+    }
 }
 
 #[test]
@@ -98,15 +105,37 @@ fn scripts_print_what_they_ask(rt: HostRuntime) {
         ),
         ("", "", 0),
     ];
-    for (script, prints, status) in cases {
-        must_print(
-            &rt,
-            rt.alloc(),
-            script.as_bytes(),
-            prints.as_bytes(),
-            status,
-        );
-    }
+    must_print_each(&rt, rt.alloc(), &cases);
+}
+
+#[test]
+fn a_refusal_stops_no_later_call(rt: HostRuntime) {
+    let cases: [(&str, &str, u8); 4] = [
+        // calls between two `keys` lines, with refusals in the middle: each line is answered, in turn
+        (
+            "array 6 2 int16 0\nkeys\nchunk 0 1,2\nread 0\nchunk 1 3\nread 0,0\nchunk 2 -5,6\nread 2\nread 1\nerase 0\nread 0\nkeys\n",
+            "ok\nnone\nok\n1,2\nrefused E4\nrefused E3\nok\n-5,6\n0,0\nok\n0,0\nc/2 fbff0600\n",
+            1,
+        ),
+        // a read prints what stands at its line, not what later lines leave
+        (
+            "array 2 2 uint8 0\nread 0\nchunk 0 1,2\nread 0\nchunk 0 3,4\nread 0\nerase 0\nread 0\nkeys\n",
+            "ok\n0,0\nok\n1,2\nok\n3,4\nok\n0,0\nnone\n",
+            0,
+        ),
+        // a refusal of the last call, and of a call before an `array` line, is not forgotten
+        (
+            "array 2 2 uint8 0\nread 0\nkeys\nread 0,0\n",
+            "ok\n0,0\nnone\nrefused E3\n",
+            1,
+        ),
+        (
+            "array 2 2 uint8 0\nerase -\narray 2 2 uint8 1\nread 0\n",
+            "ok\nrefused E3\nok\n1,1\n",
+            1,
+        ),
+    ];
+    must_print_each(&rt, rt.alloc(), &cases);
 }
 
 #[test]
@@ -380,15 +409,7 @@ fn each_type_has_its_cells(rt: HostRuntime) {
             1,
         ),
     ];
-    for (script, prints, status) in cases {
-        must_print(
-            &rt,
-            rt.alloc(),
-            script.as_bytes(),
-            prints.as_bytes(),
-            status,
-        );
-    }
+    must_print_each(&rt, rt.alloc(), &cases);
 }
 
 #[test]
@@ -453,61 +474,4 @@ fn a_long_chunk_is_printed_whole(rt: HostRuntime) -> Result<(), Fail> {
     prints.extend_from_slice(b"\n")?;
     must_print(&rt, rt.alloc(), &script, &prints, 0);
     Ok(())
-}
-
-#[test]
-fn the_examples_print_what_is_beside_them(rt: HostRuntime) {
-    let cases: [(&str, &str, u8); 7] = [
-        // examples/cells.zarrs
-        (
-            "# Leading zeros are allowed, and so are empty lines.\n\narray 0010 001 uint8 000\nchunk 9 0171\nchunk 10 1\nchunk 1 02\n\n# Keys in ascending order of their bytes: `c/10` is before `c/9`\nkeys\n\n# The last chunk of an array of 3 cells in chunks of 2 crosses the end. Its cells are kept as they are.\narray 3 2 uint8 255\nchunk 1 7,8\nread 1\nkeys\n\n# Chunk 5 lies past the shape, and is a chunk of the grid all the same.\nread 5\nchunk 5 1,255\nread 5\n",
-            "ok\nok\nok\nok\nc/1 02\nc/10 01\nc/9 ab\nok\nok\n7,8\nc/1 0708\n255,255\nok\n1,255\n",
-            0,
-        ),
-        // examples/first.zarrs
-        (
-            "array 4 2 uint8 0\nchunk 1 5,6\nread 1\nread 0\nkeys\nerase 1\nkeys\n",
-            "ok\nok\n5,6\n0,0\nc/1 0506\nok\nnone\n",
-            0,
-        ),
-        // examples/limits.zarrs
-        (
-            "# The last number of 64 bits. Two chunks of 2^63 would end past it, so the second one is no chunk.\narray 18446744073709551615 9223372036854775808 uint8 0\nread 1\nerase 1\n\n# Any index list of the right length names a key, so it can be erased. Only those of chunks can be stored.\nchunk 18446744073709551615 1\nerase 18446744073709551615\n\n# E8: a chunk of 2^64 bytes. This comes before the number of cells.\narray 4294967296,4294967296 4294967296,4294967296 uint8 0\nchunk 0,0 1\nread 0,0\n\n# E9: a chunk of 2^64 - 1 bytes, which no memory holds\narray 18446744073709551615 18446744073709551615 uint8 0\nread 0\nchunk 0 1\nkeys\n",
-            "ok\nrefused E3\nok\nrefused E3\nok\nok\nrefused E8\nrefused E8\nok\nrefused E9\nrefused E4\nnone\n",
-            1,
-        ),
-        // examples/no_dimension.zarrs
-        (
-            "# An array without dimensions has one position, in one chunk, whose index list is empty.\narray - - uint8 3\nread -\nchunk - 4\nkeys\nread -\n\n# A chunk that is all fill is not kept.\nchunk - 3\nkeys\nerase -\nread -\nread 0\n",
-            "ok\n3\nok\nc 04\n4\nok\nnone\nok\n3\nrefused E3\n",
-            1,
-        ),
-        // examples/not_a_command.zarrs
-        (
-            "# The whole script is read before any of it runs. Line 6 has a cell that no byte is, so nothing runs,\n# its number alone is printed, and the status is 2.\narray 4 2 uint8 0\nchunk 0 1,2\n\nchunk 1 3,256\nread 0\n",
-            "line 6: not a command\n",
-            2,
-        ),
-        // examples/refusals.zarrs
-        (
-            "# Each refused call prints its number, and the script goes on. It ends with status 1.\narray 4,4 2,2 uint8 0\n\n# E3: no chunk has these indices. The list has another length than the array has dimensions.\nread 1\nchunk 0,0,0 1\nerase 0\n\n# E4: three cells in a chunk of four\nchunk 0,0 1,2,3\n\n# What was refused changed nothing, and what follows is answered.\nkeys\nchunk 1,1 1,2,3,4\nread 1,1\nkeys\n\n# E18: a chunk shape of another length, and one with an extent 0\narray 4,4 2 uint8 0\narray 4,4 2,0 uint8 0\n",
-            "ok\nrefused E3\nrefused E3\nrefused E3\nrefused E4\nnone\nok\n1,2,3,4\nc/1/1 01020304\nrefused E18\nrefused E18\n",
-            1,
-        ),
-        // examples/skipped.zarrs
-        (
-            "# Lines behind a refused `array` are skipped up to the next one. A skipped line is no refusal.\narray 4 2 uint8 7\nchunk 0 1,2\narray 4 0 uint8 0\nchunk 0 3,4\nread 0\nkeys\nerase 0\n\n# A new array has a new store: nothing is left of the first one.\narray 4 2 uint8 9\nkeys\nread 0\n",
-            "ok\nok\nrefused E18\nskipped\nskipped\nskipped\nskipped\nok\nnone\n9,9\n",
-            1,
-        ),
-    ];
-    for (script, prints, status) in cases {
-        must_print(
-            &rt,
-            rt.alloc(),
-            script.as_bytes(),
-            prints.as_bytes(),
-            status,
-        );
-    }
 }

@@ -1,4 +1,4 @@
-use Rattle.std.proofs.Common.{◌≡◌, ◌==◌, ◌+◌, ◌<◌, ◌≤◌, ◌^◌, ℕ, List, ◌∷◌, [], ◌++◌, length, drop, ap, sym, ◌∙◌, rules, arith}
+use Rattle.std.proofs.Common.{◌==◌, length, ap, sym, ◌∙◌, rules}
 use Rattle.std.specs.List.{slice_split}
 use Rattle.std.specs.Slice.Iter as slice
 use Rattle.std.proofs.lemmas.List.{length_push}

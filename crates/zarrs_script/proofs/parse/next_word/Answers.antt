@@ -1,5 +1,4 @@
-use Rattle.std.proofs.Common.{◌≡◌, ◌==◌, ◌∙◌, ap, sym}
-use Rattle.zarrs_script.specs.Parsed.{words_in}
+use Rattle.std.proofs.Common.{◌==◌, sym}
 use Rattle.zarrs_script.proofs.Split.{cut_at, uncut}
 use Rattle.zarrs_script.proofs.parse.next_word.Goals as goal
 

@@ -1,4 +1,4 @@
-use Rattle.std.proofs.Common.{◌≡◌, ◌<◌}
+use Rattle.std.proofs.Common.{◌≡◌}
 use Rattle.std.specs.List.{join_with_byte}
 use Rattle.zarrs_script.specs.Sessions.{Puts}
 use Rattle.zarrs_script.proofs.Texts.{texts}

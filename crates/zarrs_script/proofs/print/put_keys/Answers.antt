@@ -1,7 +1,7 @@
 use Rattle.std.proofs.Common.{◌≡◌, ◌++◌, ◌+◌, List, ℕ, [], take, refl, sym, ap, ◌∙◌}
 use Rattle.std.specs.List.{flat_map}
 use Rattle.std.proofs.lemmas.List.{append-nil}
-use Rattle.zarrs_script.specs.Transcript.{key_text, keys_text}
+use Rattle.zarrs_script.specs.Transcript.{key_text}
 use Rattle.zarrs_script.proofs.Printing.{puts_pending, puts_more, puts_spilled, one_key}
 use Rattle.zarrs_script.proofs.print.put_keys.Goals as goal
 

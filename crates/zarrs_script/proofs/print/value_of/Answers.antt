@@ -1,4 +1,4 @@
-use Rattle.std.proofs.Common.{◌≡◌, ◌+◌, ◌-◌, ◌*◌, ◌<◌, ◌^◌, ℕ, List, ◌∷◌, length, drop, get_or, sym, ap, ◌∙◌, arith}
+use Rattle.std.proofs.Common.{◌+◌, ◌-◌, ◌*◌, ℕ, length, ap, ◌∙◌, arith}
 use Rattle.zarrs_script.proofs.Bytes.{byte_room, one_value, one_power}
 use Rattle.zarrs_script.proofs.print.value_of.Goals as goal
 

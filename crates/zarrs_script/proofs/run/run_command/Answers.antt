@@ -1,0 +1,31 @@
+use Rattle.std.proofs.Common.{codes, refl}
+use Rattle.zarrs_script.specs.Transcript.{line}
+use Rattle.zarrs_script.proofs.Printing.{puts_as, puts_pending}
+use Rattle.zarrs_script.proofs.Transcripts.{array_opened, call_skipped, keys_skipped, keys_listed}
+use Rattle.zarrs_script.proofs.run.run_command.Goals as goal
+
+pub returns-in_ok-opening-in-Array-default : goal.returns-in_ok-opening-in-Array-default
+returns-in_ok-opening-in-Array-default g c =
+    let arm = c.in_ok-opening-in-Array-default in
+    let printed = arm.ensures in
+    puts_pending (g.W.Write.contents c.args.writer.now) c.args.out.now.items c.open.new.out.items printed.0 printed.1
+    (array_opened c.args.array.now c.args.command c.in-Array-default.creation _ c.in-Array-default.is-0 printed.2)
+
+pub returns-in_ok-put_keys-in-Keys-Some : goal.returns-in_ok-put_keys-in-Keys-Some
+returns-in_ok-put_keys-in-Keys-Some g c =
+    puts_as (g.W.Write.contents c.args.writer.now) _ c.args.out.now.items _
+    (λ text is. keys_listed c.in-Keys-Some.array.now c.args.array.now c.args.command text c.in-Keys-Some.ensures.value c.in-Keys-Some.is-0 is)
+    (rw c.storage.ensures at c.in_ok-put_keys-in-Keys-Some.ensures)
+
+pub returns-in_ok-put_skipped-in-Call-None : goal.returns-in_ok-put_skipped-in-Call-None
+returns-in_ok-put_skipped-in-Call-None g c =
+    puts_pending (g.W.Write.contents c.args.writer.now) c.args.out.now.items _ (line (codes "skipped")) c.in_ok-put_skipped-in-Call-None.ensures
+    (call_skipped c.args.array.now c.args.command _ (line (codes "skipped")) c.in-Call-None.ensures.value c.in-Call-None.is-0 refl)
+
+pub returns-in_ok-put_skipped-in-Keys-None : goal.returns-in_ok-put_skipped-in-Keys-None
+returns-in_ok-put_skipped-in-Keys-None g c =
+    puts_pending (g.W.Write.contents c.args.writer.now) c.args.out.now.items _ (line (codes "skipped")) c.in_ok-put_skipped-in-Keys-None.ensures
+    (keys_skipped c.args.array.now c.args.command (line (codes "skipped")) c.in-Keys-None.ensures.value c.in-Keys-None.is-0 refl)
+
+pub returns-in-Call-Some : goal.returns-in-Call-Some
+returns-in-Call-Some g c = rw (← c.in-Call-Some.ensures.value, c.in-Call-Some.is-0) c.serve.ensures
