@@ -6,6 +6,7 @@ mod chunks;
 mod copies;
 mod fills;
 mod measure;
+mod regions;
 mod scripts;
 mod walks;
 
@@ -27,5 +28,6 @@ fn run(rt: &HostRuntime) -> Result<()> {
     copies::print_rows(rt)?;
     walks::print_rows(rt)?;
     chunks::print_rows(rt)?;
+    regions::print_rows(rt)?;
     scripts::print_rows(rt)
 }
