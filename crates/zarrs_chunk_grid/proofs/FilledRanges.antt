@@ -69,7 +69,6 @@ module _ (g : Grid) (l : IsGrid g) (range : Box) (long : length range.start ≡ 
   }
 
   pub filled_is : box_from start shape ≡ chunks_box g range
-  unfolding chunks_box
   filled_is =
       let extents = list_any_none (λ extent. extent == 0) range.shape (all_some range.shape some) in
       let first : ℕ → ℕ = λ k. (g.axis k).edge (slice_index range.start k) in
@@ -83,6 +82,5 @@ module _ (g : Grid) (l : IsGrid g) (range : Box) (long : length range.start ≡ 
       rw extents (same_box (box_from start shape) (range_box g range) starts shapes)
 
 -- a range without indices
-pub empty_is_filled : (g : Grid) (range : Box) (k : ℕ) → k < length range.shape → slice_index range.shape k ≡ 0 → empty_box (length range.start) ≡ chunks_box g range
-unfolding chunks_box
+pub empty_is_filled : (g : Grid) (range : Box) (k : ℕ) → k < length range.shape → slice_index range.shape k ≡ 0 → empty_box (length range.shape) ≡ chunks_box g range
 empty_is_filled g range k within none = rw (list_any_at (λ extent. extent == 0) range.shape k 0 within (eq-eqb _ _ none)) refl

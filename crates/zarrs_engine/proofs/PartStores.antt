@@ -1,5 +1,5 @@
 -- Writes over parts of chunks and over ranges of chunks.
-use Rattle.std.proofs.Common.{◌≡◌, ◌≢◌, ◌⊎◌, ◌↔◌, ◌==◌, IsTrue, ◌<◌, ◌≤◌, ◌+◌, ◌-◌, ◌*◌, ◌^◌, not, nat_le, ℕ, zero, suc, Bool, true, false, cond, List, [], ◌∷◌, length, replicate, slice_index, get_or, Contains, slice_get, OnOk, Result, Ok, Err, Option, Some, None, refl, sym, ◌∙◌, ap, subst, inl, inr, arith}
+use Rattle.std.proofs.Common.{◌≡◌, ◌≢◌, ◌↔◌, ◌==◌, IsTrue, ◌<◌, ◌≤◌, ◌+◌, ◌-◌, ◌*◌, ◌^◌, not, ℕ, zero, suc, Bool, true, false, cond, List, [], ◌∷◌, length, slice_index, Contains, OnOk, Result, Ok, Err, Option, Some, None, refl, sym, ◌∙◌, ap, subst, inl, inr, arith}
 use Rattle.std.specs.Option.{option_or}
 use Rattle.std.specs.List.{range_with_len}
 use Rattle.std.proofs.lemmas.List.{length-map}
@@ -7,15 +7,15 @@ use Rattle.std.proofs.lemmas.List.FromFn.{length-range_with_len}
 use Rattle.std.proofs.lemmas.Bool.{cases_Bool, eq-eqb, eqb-true, false≢true, le-leb, lt-leb}
 use Rattle.std.proofs.lemmas.Grind.{same_number_lists}
 use Rattle.std.proofs.Math.Nat.{mul-le-mul_left}
-use Rattle.zarrs_subset.specs.Boxes.{position_count, zip_with}
-use Rattle.zarrs_subset.specs.Regions.{Box, Holds, IsLong, box_from, positions}
+use Rattle.zarrs_subset.specs.Boxes.{position_count}
+use Rattle.zarrs_subset.specs.Regions.{Box, Holds, IsLong, box_from, empty_box, positions}
 use Rattle.zarrs_subset.proofs.Bytes.{along_holds, holds_along, place_in_below}
 use Rattle.zarrs_subset.proofs.Counts.{count_some, count_zero}
 use Rattle.zarrs_subset.proofs.Overlaps.{length-zip_with}
 use Rattle.zarrs_subset.proofs.Positions.{length-positions, positions_in}
 use Rattle.std.proofs.lemmas.Option.{slice_get-get_or}
-use Rattle.zarrs_chunk_grid.specs.Grids.{Grid, IsChunkRange, box_at, each_dimension, extent_along, has_box, index_at, range_box, start_along}
-use Rattle.zarrs_chunk_grid.proofs.Chunks.{box_is_there, box_long, box_dimensions, holds_chunk}
+use Rattle.zarrs_chunk_grid.specs.Grids.{Grid, IsChunkRange, box_at, chunks_box, each_dimension, extent_along, has_box, range_box, start_along}
+use Rattle.zarrs_chunk_grid.proofs.Chunks.{box_is_there, holds_chunk}
 use Rattle.zarrs_chunk_grid.proofs.MetChunks.{at_dimension, range_fills}
 use Rattle.zarrs_storage.specs.Store.{StoreState}
 use Rattle.zarrs_data_type.specs.ArrayData.{ArrayData}
@@ -23,20 +23,20 @@ use Rattle.zarrs_data_type.specs.Cells.{HasCells}
 use Rattle.zarrs_cells.proofs.Cells.{HasCells-cells}
 use Rattle.zarrs_steps.specs.Layout.{Layout, IsLawful}
 use Rattle.zarrs_steps.specs.ArgumentRefusals.{box_data_refusal, cells_refusal, chunk_refusal, dimensions_refusal, part_refusal, range_refusal, size_refusal, store_chunk_refusal, store_chunks_refusal, store_part_refusal}
-use Rattle.zarrs_steps.specs.ChunkBoxes.{CoversBox, chunks_box, empty_box, is_empty, is_whole_of, last_of, part_box}
+use Rattle.zarrs_steps.specs.ChunkBoxes.{CoversBox, is_empty, is_whole_of, last_of, part_box}
 use Rattle.zarrs_steps.specs.Fronts.{StoresAll}
 use Rattle.zarrs_steps.specs.Reach.{MayAskParts}
 use Rattle.zarrs_steps.specs.Refusals as refusal
 use Rattle.zarrs_steps.specs.Refusals.{Refusal, RefusesBy, box_refusal, is_too_large, refuse_if}
 use Rattle.zarrs_steps.specs.Step.{RefusesStore, RefusesStoreChunks, RefusesStorePart, StoresChunks, StoresPart}
 use Rattle.zarrs_steps.proofs.Covers.{last_at, some_extent}
-use Rattle.zarrs_steps.proofs.RefusalLemmas.{first_refusal, makes_none, no_chunk, refused_first, refused_second, refuses_said, second_refusal}
+use Rattle.zarrs_steps.proofs.RefusalLemmas.{first_refusal, no_chunk, refused_first, refused_second, second_refusal}
 use Rattle.zarrs_layout.specs.Covers.{CoverRegion}
 use Rattle.zarrs_engine.specs.RegionWrites.{LeavesPart, StoresOneMore}
 use Rattle.zarrs_layout.proofs.ChunkParts.{chunk_accepted, chunk_has, chunk_missing}
 use Rattle.zarrs_engine.proofs.PartReads.{is_proper, is_whole, part_cover}
 use Rattle.zarrs_layout.proofs.ChunkRanges.{no_position, range_first}
-use Rattle.zarrs_layout.proofs.OneChunk.{empty_is, not_empty}
+use Rattle.zarrs_layout.proofs.OneChunk.{not_empty}
 use Rattle.zarrs_engine.proofs.RegionFronts.{stored_all, stored_fails, stored_more, stored_none}
 use Rattle.zarrs_engine.proofs.Writes.{refused_early}
 

@@ -4,11 +4,11 @@ use Rattle.std.specs.List.{list_any}
 use Rattle.std.specs.Option.{option_or}
 use Rattle.std.proofs.lemmas.Bool.{cases_Bool, false≢true, lt-leb}
 use Rattle.std.proofs.lemmas.List.{get_or-replicate, length-replicate}
-use Rattle.std.proofs.lemmas.List.Folds.{list_any_at, list_any_none}
+use Rattle.std.proofs.lemmas.List.Folds.{list_any_none}
 use Rattle.std.proofs.lemmas.List.FromFn.{length-map-range_with_len}
 use Rattle.std.proofs.lemmas.Option.{slice_get-get_or}
 use Rattle.zarrs_subset.specs.Boxes.{ends, position_count, zip_with}
-use Rattle.zarrs_subset.specs.Regions.{Box, IsLong, Holds, positions}
+use Rattle.zarrs_subset.specs.Regions.{Box, IsLong, Holds, empty_box, positions}
 use Rattle.zarrs_subset.proofs.Bytes.{holds_along}
 use Rattle.zarrs_subset.proofs.Overlaps.{in_box-empty, length-zip_with}
 use Rattle.zarrs_subset.proofs.Positions.{positions_in}
@@ -21,7 +21,6 @@ use Rattle.zarrs_data_type.specs.Cell.{held_size}
 use Rattle.zarrs_data_type.specs.ArrayData.{ArrayData}
 use Rattle.zarrs_steps.specs.Layout.{Layout}
 use Rattle.zarrs_steps.specs.ArgumentRefusals.{chunk_refusal, dimensions_refusal, range_refusal, read_chunks_refusal, read_size_refusal}
-use Rattle.zarrs_steps.specs.ChunkBoxes as boxes
 use Rattle.zarrs_steps.specs.ChunkBoxes.{is_empty, last_of}
 use Rattle.zarrs_steps.specs.Reads.{ReadsRegion}
 use Rattle.zarrs_steps.specs.Refusals as refusal
@@ -45,8 +44,6 @@ last_before (s ∷ start) (e ∷ shape) = ap (λ xs. (s + e - 1) ∷ xs) (last_b
 -- ---- a range with indices
 
 -- a range is empty or has indices
-pub range_empty : (range : Box) (k : ℕ) → k < length range.shape → slice_index range.shape k ≡ 0 → is_empty range ≡ true
-range_empty range k within none = list_any_at (λ extent. extent == 0) range.shape k 0 within (eq-eqb _ _ none)
 
 pub range_some : (range : Box) → HasIndices range → is_empty range ≡ false
 range_some range some = list_any_none (λ extent. extent == 0) range.shape (all_some range.shape some)
@@ -88,21 +85,14 @@ module _ (grid : Grid) (range : Box) (long : IsLong range) where
   listed : (index : List ℕ) → Contains (positions range) index → Holds range index
   listed index among = positions_in range.start range.shape among.0 index long (slice_get-get_or (positions range) among.0 index among.1 ∙ ap Some among.2)
 
-  pub region_of_range : HasIndices range → chunks_box grid range ≡ boxes.chunks_box grid range
-  unfolding chunks_box
-  region_of_range some = rw (range_some range some) refl
-
-  pub region_of_none : (k : ℕ) → k < length range.shape → slice_index range.shape k ≡ 0 → boxes.empty_box (length range.start) ≡ boxes.chunks_box grid range
-  region_of_none k within none = rw (range_empty range k within none, long) refl
-
   -- the chunks of a range cover their region
-  pub cover_range : IsGrid grid → HasIndices range → IsChunkRange grid range → CoverRegion grid (boxes.chunks_box grid range) (positions range)
+  pub cover_range : IsGrid grid → HasIndices range → IsChunkRange grid range → CoverRegion grid (chunks_box grid range) (positions range)
   cover_range lawful some is_range =
       let box = range_box grid range in
       let starts = length-map-range_with_len (λ k. (grid.axis k).edge (slice_index range.start k)) 0 grid.dimensions in
       let box_long : IsLong box = starts ∙ sym (length-map-range_with_len (λ k.
       (grid.axis k).edge (slice_index range.start k + slice_index range.shape k) - (grid.axis k).edge (slice_index range.start k)) 0 grid.dimensions) in
-      let is : boxes.chunks_box grid range ≡ box = rw (range_some range some) refl in
+      let is : chunks_box grid range ≡ box = rw (range_some range some) refl in
       subst (λ (b : Box). CoverRegion grid b (positions range)) (sym is) (record {
         long = box_long;
         dimensions = starts;
@@ -119,12 +109,12 @@ module _ (grid : Grid) (range : Box) (long : IsLong range) where
       })
 
   -- and those of an empty range the empty region
-  pub cover_none : length range.start ≡ grid.dimensions → (k : ℕ) → k < length range.shape → slice_index range.shape k ≡ 0 → CoverRegion grid (boxes.empty_box (length range.start)) (positions range)
+  pub cover_none : length range.start ≡ grid.dimensions → (k : ℕ) → k < length range.shape → slice_index range.shape k ≡ 0 → CoverRegion grid (empty_box (length range.start)) (positions range)
   cover_none dimensions k within none =
       let n = length range.start in
       let zeros = length-replicate {A = ℕ} n 0 in
       let zero_at = get_or-replicate {A = ℕ} n k 0 0 (omega (arith, long)) in
-      let out : (position : List ℕ) → Holds (boxes.empty_box n) position → ⊥ =
+      let out : (position : List ℕ) → Holds (empty_box n) position → ⊥ =
       λ position holds. false≢true (sym (in_box-empty (replicate n 0) (replicate n 0) position k refl (omega (arith, zeros, long)) zero_at) ∙ holds) in
       record {
         long = refl;
@@ -183,7 +173,7 @@ no_position (e ∷ shape) h = omega arith
 
 module _ (layout : Layout) (shape : List ℕ) (range : Box) where
   -- a range that is not refused before is refused for the size of its region
-  pub range_size : range_first layout shape range ≡ None → read_chunks_refusal layout shape range ≡ read_size_refusal layout (boxes.chunks_box layout.grid range).shape
+  pub range_size : range_first layout shape range ≡ None → read_chunks_refusal layout shape range ≡ read_size_refusal layout (chunks_box layout.grid range).shape
   range_size none =
       then_size (dimensions_refusal layout shape range) (range_refusal layout range) (read_size_refusal layout (range_box layout.grid range).shape) (is_empty range) none
       ∙ elim (cases_Bool (is_empty range)) [
@@ -196,14 +186,14 @@ module _ (layout : Layout) (shape : List ℕ) (range : Box) where
       inl (refusal_moved (range_first layout shape range) (read_chunks_refusal layout shape range) r
       (more (dimensions_refusal layout shape range) (range_refusal layout range) (read_size_refusal layout (range_box layout.grid range).shape) (is_empty range)) h)
 
-  pub range_refused_then : (region : Box) (state : StoreState) (r : Refusal) → range_first layout shape range ≡ None → region ≡ boxes.chunks_box layout.grid range
+  pub range_refused_then : (region : Box) (state : StoreState) (r : Refusal) → range_first layout shape range ≡ None → region ≡ chunks_box layout.grid range
       → RefusesRegionRead layout (read_size_refusal layout region.shape) region (positions range) state r → RefusesRetrieveChunks layout shape range r state
   range_refused_then region state r none is why =
-      subst (λ (o : Option Refusal). RefusesRegionRead layout o (boxes.chunks_box layout.grid range) (positions range) state r) (sym (range_size none))
+      subst (λ (o : Option Refusal). RefusesRegionRead layout o (chunks_box layout.grid range) (positions range) state r) (sym (range_size none))
       (subst (λ (b : Box). RefusesRegionRead layout (read_size_refusal layout b.shape) b (positions range) state r) is why)
 
   -- an accepted one
-  pub range_read : (region : Box) (held : ArrayData) (state : StoreState) → range_first layout shape range ≡ None → region ≡ boxes.chunks_box layout.grid range
+  pub range_read : (region : Box) (held : ArrayData) (state : StoreState) → range_first layout shape range ≡ None → region ≡ chunks_box layout.grid range
       → read_size_refusal layout region.shape ≡ None → ReadsRegion layout region (positions range) held state → RetrievesChunks layout shape range held state
   range_read region held state none is fits r =
       (range_size none ∙ ap (λ (b : Box). read_size_refusal layout b.shape) (sym is) ∙ fits, subst (λ (b : Box). ReadsRegion layout b (positions range) held state) is r)

@@ -11,10 +11,10 @@ impl<G: ChunkGridTraits, K: ChunkKeyEncodingTraits, C: ChainTraits> Parts<G, K, 
     ghost use Rattle.std.specs.Prelude.{◌≡◌, if◌then◌else◌, false, None, IfOk, IfErr, OnOk};
     ghost use Rattle.std.specs.Option.{option_or};
     ghost use Rattle.zarrs_subset.specs.Regions.{box_of, positions};
-    ghost use Rattle.zarrs_chunk_grid.specs.Grids.{box_at, has_box};
+    ghost use Rattle.zarrs_chunk_grid.specs.Grids.{box_at, chunks_box, has_box};
     ghost use Rattle.zarrs_steps.specs.ArgumentRefusals.{chunk_refusal, dimensions_refusal};
     ghost use Rattle.zarrs_steps.specs.ArgumentRefusals.{part_refusal, range_refusal};
-    ghost use Rattle.zarrs_steps.specs.ChunkBoxes.{chunks_box, is_empty, last_of, part_box};
+    ghost use Rattle.zarrs_steps.specs.ChunkBoxes.{is_empty, last_of, part_box};
     ghost use Rattle.zarrs_steps.specs.Refusals.{RefusesBy, refusal_of};
     ghost use Rattle.zarrs_layout.specs.Layouts.{layout_of_parts};
     ghost use Rattle.zarrs_layout.specs.Covers.{CoverRegion};

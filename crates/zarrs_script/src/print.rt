@@ -15,7 +15,7 @@ use itoa::Buffer;
 use std::alloc::{AllocError, Global};
 use std::io::Write;
 use zarrs_codec_leaf::CodecError;
-use zarrs_data_type::ArrayBytes;
+use zarrs_data_type::{ArrayBytes, ElementError};
 use zarrs_engine::{ArrayError, Reply};
 use zarrs_storage::{MemoryStore, ReadableStorageTraits, StorageError, StoreKey};
 
@@ -140,7 +140,7 @@ fn refusal_number(error: &ArrayError) -> u8
         ArrayError::InvalidChunkSubset(..) => 2,
         ArrayError::InvalidChunkGridIndicesError(_) => 3,
         ArrayError::CodecError(CodecError::DoesNotFit) => 4,
-        ArrayError::ElementError(_) => 5,
+        ArrayError::ElementError(ElementError::IncompatibleElementType) => 5,
         ArrayError::InvalidDataShape(..) => 6,
         ArrayError::StorageError(StorageError::OutOfMemory) => 0,
         ArrayError::StorageError(_) => 7,

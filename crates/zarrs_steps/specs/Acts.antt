@@ -1,10 +1,10 @@
 -- What a call is to do, whichever call it is.
 use Rattle.std.specs.Prelude.{ℕ, Bool, true, false, List, [], ◌∷◌, if◌then◌else◌}
 use Rattle.zarrs_subset.specs.Regions.{Box, box_of, positions}
-use Rattle.zarrs_chunk_grid.specs.Grids.{box_at}
+use Rattle.zarrs_chunk_grid.specs.Grids.{box_at, chunks_box}
 use Rattle.zarrs_data_type.specs.ArrayData.{ArrayData, data_of}
 use Rattle.zarrs_steps.specs.Layout.{Layout}
-use Rattle.zarrs_steps.specs.ChunkBoxes.{chunks_met, chunks_box, part_box, is_whole_of}
+use Rattle.zarrs_steps.specs.ChunkBoxes.{chunks_met, part_box, is_whole_of}
 use Rattle.zarrs_steps.specs.declared.call.Call.{Call}
 use Rattle.zarrs_steps.specs.declared.call.Call.TheVariants as call
 

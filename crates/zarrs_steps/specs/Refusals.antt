@@ -10,6 +10,8 @@ use Rattle.zarrs_storage.specs.declared.error.StorageError.{StorageError}
 use Rattle.zarrs_storage.specs.declared.error.StorageError.TheVariants as stored
 use Rattle.zarrs_codec_leaf.specs.declared.error.CodecError.{CodecError}
 use Rattle.zarrs_codec_leaf.specs.declared.error.CodecError.TheVariants as coded
+use Rattle.zarrs_data_type.specs.declared.error.ElementError.{ElementError}
+use Rattle.zarrs_data_type.specs.declared.error.ElementError.TheVariants as elements
 use Rattle.zarrs_data_type.specs.Kind.{cell_size}
 use Rattle.zarrs_data_type.specs.Cell.{Cell, cell_eq, held_size}
 use Rattle.zarrs_data_type.specs.Cells.{cells}
@@ -51,7 +53,8 @@ refusal_of (error.InvalidChunkGridIndicesError index) = indices index.items
 refusal_of (error.CodecError coded.DoesNotFit) = codec
 refusal_of (error.CodecError coded.SizeOverflow) = unused
 refusal_of (error.CodecError coded.OutOfMemory) = unused
-refusal_of (error.ElementError e) = element
+refusal_of (error.ElementError elements.IncompatibleElementType) = element
+refusal_of (error.ElementError elements.OutOfMemory) = unused
 refusal_of (error.InvalidDataShape got expected) = data_shape got.items expected.items
 refusal_of (error.StorageError (stored.InvalidMetadata key said)) = storage
 refusal_of (error.StorageError stored.ReadOnly) = storage

@@ -2,7 +2,7 @@
 use Rattle.std.specs.Prelude.{◌≡◌, ℕ, Bool, true, false, List, [], ◌∷◌, Option, None, option_map}
 use Rattle.zarrs_storage.specs.Store.{StoreState}
 use Rattle.zarrs_subset.specs.Regions.{Box, positions}
-use Rattle.zarrs_chunk_grid.specs.Grids.{box_at}
+use Rattle.zarrs_chunk_grid.specs.Grids.{box_at, chunks_box}
 use Rattle.zarrs_data_type.specs.ArrayData.{ArrayData, data_of}
 use Rattle.zarrs_steps.specs.Layout.{Layout}
 use Rattle.zarrs_steps.specs.Refusals.{Refusal, refusal_of, RefusesBy, length_refusal}
@@ -12,7 +12,7 @@ use Rattle.zarrs_steps.specs.declared.call.Reply.{Reply}
 use Rattle.zarrs_steps.specs.declared.call.Reply.TheVariants.{Done, Cells, MaybeCells, Refused}
 use Rattle.zarrs_steps.specs.Layout.{ArrayState}
 use Rattle.zarrs_steps.specs.Acts.{Act, store, erase, read, read_chunk, act_of}
-use Rattle.zarrs_steps.specs.ChunkBoxes.{chunks_met, chunks_box, part_box, is_whole_of}
+use Rattle.zarrs_steps.specs.ChunkBoxes.{chunks_met, part_box, is_whole_of}
 use Rattle.zarrs_steps.specs.ArgumentRefusals.{argument_refusal, store_chunk_refusal, store_chunks_refusal, store_part_refusal, store_region_refusal}
 use Rattle.zarrs_steps.specs.ArgumentRefusals.{read_chunks_refusal, read_part_refusal, read_region_refusal}
 use Rattle.zarrs_steps.specs.Fronts.{Takes, StoresAll, ErasesAll, RefusesWrite}

@@ -11,7 +11,7 @@ returns-then-is_empty-clause-value g c =
     let range = g.R.ArraySubsetTraits.region c.args.chunks.now in
     let empty : SomeIndex range.shape (λ k. slice_index range.shape k ≡ 0) = search rules in
     let count : c.dimensionality.result ≡ length range.start = search rules in
-    rw (c.in_ok-new_empty.ensures, count) (empty_is_filled grid range empty.0 empty.1 empty.2)
+    rw (c.in_ok-new_empty.ensures, count, g.met.R.ArraySubsetTraits.is_long c.args.chunks.now) (empty_is_filled grid range empty.0 empty.1 empty.2)
 
 pub overflow_sub-filled : goal.overflow_sub-filled
 overflow_sub-filled g c =

@@ -1,11 +1,10 @@
 use Rattle.std.proofs.Common.{◌≡◌, SomeIndex, slice_index, refl, sym, ◌∙◌, ap, subst}
 use Rattle.std.proofs.lemmas.Bool.{false≢true}
-use Rattle.zarrs_subset.specs.Regions.{Box, box_of, positions}
-use Rattle.zarrs_steps.specs.ChunkBoxes.{empty_box}
+use Rattle.zarrs_subset.specs.Regions.{Box, box_of, empty_box, positions}
 use Rattle.zarrs_steps.specs.Refusals.{refusal_of}
 use Rattle.zarrs_layout.specs.Layouts.{layout_of_parts}
 use Rattle.zarrs_layout.specs.Covers.{CoverRegion}
-use Rattle.zarrs_layout.proofs.ChunkRanges.{cover_none, cover_range, first_accepted, first_refused, has_indices, range_passes, region_of_range}
+use Rattle.zarrs_layout.proofs.ChunkRanges.{cover_none, cover_range, first_accepted, first_refused, has_indices, range_passes}
 use Rattle.zarrs_layout.proofs.parts.Parts.chunks_region.Goals as goal
 
 pub returns-then-is_empty-clause-cover : goal.returns-then-is_empty-clause-cover
@@ -42,7 +41,7 @@ returns-in-Ok-Some-clause-region g c =
     let range = box_of c.args.chunks.now in
     let some = has_indices range (λ empty. false≢true (c.if-is_empty.ensures.1 empty)) in
     let value = rw c.in-Ok-Some.field-0-is at c.in-Ok-Some.ensures.value in
-    value ∙ region_of_range layout.grid range c.args.chunks.now.same_length some
+    value
 
 pub returns-in-Ok-Some-clause-cover : goal.returns-in-Ok-Some-clause-cover
 returns-in-Ok-Some-clause-cover g c =
@@ -51,8 +50,7 @@ returns-in-Ok-Some-clause-cover g c =
     let some = has_indices range (λ empty. false≢true (c.if-is_empty.ensures.1 empty)) in
     let value = rw c.in-Ok-Some.field-0-is at c.in-Ok-Some.ensures.value in
     let is_range = (rw c.in-Ok-Some.field-0-is at c.in-Ok-Some.ensures.some) some in
-    let is = value ∙ region_of_range layout.grid range c.args.chunks.now.same_length some in
-    subst (λ (b : Box). CoverRegion layout.grid b (positions range)) (sym is)
+    subst (λ (b : Box). CoverRegion layout.grid b (positions range)) (sym value)
     (cover_range layout.grid range c.args.chunks.now.same_length c.args.self.now.lawful.grid some is_range)
 
 pub returns-in-Ok-Some-clause-accepted : goal.returns-in-Ok-Some-clause-accepted
