@@ -1,4 +1,5 @@
 mod Puts
+mod Encoded
 mod Writes
 mod Ranges
 mod RegionReads

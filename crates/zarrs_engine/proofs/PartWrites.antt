@@ -1,12 +1,11 @@
 -- A chunk that takes its part of a region's data.
-use Rattle.std.proofs.Common.{◌≡◌, ◌≢◌, ◌⊎◌, ◌==◌, ◌<◌, ◌≤◌, ◌+◌, ◌-◌, ◌*◌, ◌^◌, not, max, ℕ, zero, suc, Bool, true, false, cond, nat_le, List, [], ◌∷◌, length, replicate, slice_index, is_some, Option, Some, None, Contains, refl, sym, ◌∙◌, ap, subst, inl, inr, arith}
+use Rattle.std.proofs.Common.{◌≡◌, ◌⊎◌, ◌≤◌, ◌*◌, ◌^◌, ℕ, Bool, true, false, cond, nat_le, List, length, replicate, is_some, Option, Some, None, refl, sym, ◌∙◌, ap, subst, inl, inr, arith}
 use Rattle.std.specs.Option.{option_or}
-use Rattle.std.specs.List.{sum_by}
-use Rattle.std.proofs.lemmas.Bool.{cases_Bool, eq-eqb, leb-true, leb-false, le-leb, lt-leb}
+use Rattle.std.proofs.lemmas.Bool.{cases_Bool, leb-true, leb-false}
 use Rattle.std.proofs.lemmas.List.{length-replicate}
 use Rattle.std.proofs.lemmas.List.Folds.{sum_by-replicate}
 use Rattle.zarrs_subset.specs.Boxes.{position_count}
-use Rattle.zarrs_subset.specs.Regions.{Box, IsLong, Holds, InBox, cell_in, in_box, place_in}
+use Rattle.zarrs_subset.specs.Regions.{Box, IsLong, cell_in, in_box, place_in}
 use Rattle.zarrs_subset.proofs.Bytes.{along_holds, holds_along, place_in_below}
 use Rattle.zarrs_chunk_grid.specs.Grids.{box_at, has_box}
 use Rattle.zarrs_chunk_grid.proofs.Chunks.{box_is_there, box_long}
@@ -14,7 +13,7 @@ use Rattle.zarrs_storage.specs.Store.{StoreState}
 use Rattle.zarrs_data_type.specs.Kind.{Kind, cell_size}
 use Rattle.zarrs_data_type.specs.Cell.{Cell, bytes, none, some, held_size}
 use Rattle.zarrs_data_type.specs.ArrayData.{ArrayData}
-use Rattle.zarrs_data_type.specs.Cells.{HasCells, cells}
+use Rattle.zarrs_data_type.specs.Cells.{HasCells}
 use Rattle.zarrs_cells.proofs.Cells.{HasCells-cells}
 use Rattle.zarrs_cells.specs.Parts.{TakesCells, ExtractsCells}
 use Rattle.zarrs_cells.specs.StringParts.{LiesInBox}
@@ -24,8 +23,7 @@ use Rattle.zarrs_steps.specs.Refusals as refusal
 use Rattle.zarrs_steps.specs.Refusals.{Refusal, RefusesBy, box_refusal, fill_refusal, is_too_large, key_refusal, length_refusal, read_refusal}
 use Rattle.zarrs_steps.specs.Changes.{RetrievesChunk}
 use Rattle.zarrs_steps.specs.ChunkBoxes.{CoversBox}
-use Rattle.zarrs_steps.specs.Reads.{IsBroken}
-use Rattle.zarrs_steps.specs.StateRefusals.{AreLarge, AreUpdated, IsLargeBox, IsPart, RefusesChunkRead, RefusesPart, cell_length, known_cell}
+use Rattle.zarrs_steps.specs.StateRefusals.{IsLargeBox, IsPart, RefusesChunkRead, RefusesPart, cell_length, known_cell}
 use Rattle.zarrs_steps.proofs.Contents.{absent_fill, fill_at, replicated}
 use Rattle.zarrs_steps.proofs.RefusalLemmas.{first_refusal, fit_chunk, memory_or_said, second_refusal, not_large}
 use Rattle.zarrs_engine.specs.RegionWrites.{HasUpdated}

@@ -1,19 +1,11 @@
 -- What the arguments of a write of a region decide.
-use Rattle.std.proofs.Common.{◌≡◌, ◌⊎◌, ◌==◌, ◌<◌, ◌^◌, not, ℕ, Bool, true, false, cond, List, [], ◌∷◌, length, Option, Some, None, refl, sym, ◌∙◌, ap, subst, inl, inr, arith}
-use Rattle.std.specs.Option.{option_or}
-use Rattle.std.proofs.lemmas.Bool.{cases_Bool, eq-eqb, eqb-true}
-use Rattle.zarrs_subset.specs.Boxes.{position_count}
+use Rattle.std.proofs.Common.{◌≡◌, ℕ, Bool, List, Option, Some, None}
 use Rattle.zarrs_subset.specs.Regions.{Box}
-use Rattle.zarrs_data_type.specs.Cell.{Cell}
 use Rattle.zarrs_data_type.specs.ArrayData.{ArrayData}
-use Rattle.zarrs_data_type.specs.Cells.{HasCells, cells}
-use Rattle.zarrs_cells.proofs.Cells.{HasCells-cells, HasCells-some}
 use Rattle.zarrs_storage.specs.Store.{StoreState}
 use Rattle.zarrs_steps.specs.Layout.{Layout}
-use Rattle.zarrs_steps.specs.ChunkBoxes.{is_one_chunk}
-use Rattle.zarrs_steps.specs.ArgumentRefusals.{cells_refusal, count_refusal, region_data_refusal, region_refusal, size_refusal}
-use Rattle.zarrs_steps.specs.Refusals as refusal
-use Rattle.zarrs_steps.specs.Refusals.{Refusal, RefusesBy, is_too_large}
+use Rattle.zarrs_steps.specs.ArgumentRefusals.{region_data_refusal, region_refusal}
+use Rattle.zarrs_steps.specs.Refusals.{Refusal, RefusesBy}
 use Rattle.zarrs_steps.specs.Step.{RefusesStoreRegion}
 use Rattle.zarrs_steps.proofs.RefusalLemmas.{refusal_moved, refused_first, refused_second}
 use Rattle.zarrs_engine.proofs.Writes.{refused_early}

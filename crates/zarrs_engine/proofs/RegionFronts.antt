@@ -7,7 +7,6 @@ use Rattle.zarrs_subset.specs.Boxes.{position_count}
 use Rattle.zarrs_subset.specs.Regions.{Box, Holds, IsLong, positions}
 use Rattle.zarrs_subset.proofs.Positions.{positions_once}
 use Rattle.zarrs_chunk_grid.specs.Grids.{box_at, has_box, index_at}
-use Rattle.zarrs_keys.specs.Keys.{IsIndexList}
 use Rattle.zarrs_storage.specs.Store.{StoreState, KeepsReach}
 use Rattle.zarrs_data_type.specs.Cell.{Cell}
 use Rattle.zarrs_data_type.specs.ArrayData.{ArrayData}

@@ -1,3 +1,4 @@
 pub mod Engine
+pub mod Encoded
 pub mod RegionReads
 pub mod RegionWrites

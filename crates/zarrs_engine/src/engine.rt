@@ -1,5 +1,6 @@
 //! An engine: a store, and the parts that say what its values mean.
 mod calls;
+mod encoded;
 mod part_reads;
 mod reads;
 mod region_reads;

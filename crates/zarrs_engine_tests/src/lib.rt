@@ -2,6 +2,8 @@
 #![tactic(auto)]
 
 #[cfg(test)]
+mod encoded;
+#[cfg(test)]
 mod ranges;
 #[cfg(test)]
 mod tests;

@@ -7,7 +7,7 @@ ghost use Rattle.zarrs_steps.specs.Reach.{MayAskCalls};
 ghost use Rattle.zarrs_steps.specs.Step.{Run};
 ghost use Rattle.zarrs_steps.specs.Canon.{IsCanonical};
 ghost use Rattle.zarrs_steps.specs.Laws.{EachDecodes};
-ghost use Rattle.zarrs_engine.specs.Engine.{layout_of, store_of, state_of};
+ghost use Rattle.zarrs_engine.specs.Engine.{layout_of, store_of, state_of, KeepsParts};
 
 use super::Engine;
 use std::alloc::{AllocError, Global};
@@ -40,6 +40,7 @@ pub fn replay<
         (state_of S.state engine.old) (state_of S.state engine.new)) }
     ensures untouched { OnErr result (engine.new ≡ engine.old) }
     ensures layout { layout_of engine.new ≡ layout_of engine.old }
+    ensures parts { KeepsParts engine.old engine.new }
     ensures reach { KeepsReach (store_of S.state engine.old) (store_of S.state engine.new) }
     // If empty chunks are not kept, the bytes of a canonical store stay a function of its content.
     ensures canonical { stores_empty_chunks options.now ≡ false
@@ -77,6 +78,7 @@ impl<
         ensures step { Step (layout_of self.old) (stores_empty_chunks options.now) call.now result
             (state_of S.state self.old) (state_of S.state self.new) }
         ensures layout { layout_of self.new ≡ layout_of self.old }
+        ensures parts { KeepsParts self.old self.new }
     {
         match call {
             Call::StoreChunk(chunk_indices, chunk_data) => {

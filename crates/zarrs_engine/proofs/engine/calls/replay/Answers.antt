@@ -36,6 +36,7 @@ loop-call-preserved g c =
     record {
       run = rw (more, p.items) (run_push layout keep _ _ call c.answer-reply.result old mid new i.run step);
       layout = s.layout ∙ i.layout;
+      parts = s.parts ∙ i.parts;
       reach = reach_then old.store mid.store new.store i.reach (step_reach layout keep _ _ mid new step);
       shape = step.0 ∙ i.shape;
       count = omega arith;
