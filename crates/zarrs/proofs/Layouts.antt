@@ -1,0 +1,63 @@
+-- An array lies in its store as its document says.
+use Rattle.std.proofs.Common.{◌≡◌, List, [], ◌∷◌, ℕ, map, Some, Result, Ok, Err, refl, ap, sym, ◌∙◌}
+use Rattle.std.specs.Result.{result_ok}
+use Rattle.zarrs_codec_array.specs.ArrayCodecs.{array_meaning, arrays_meaning}
+use Rattle.zarrs_codec_array.specs.Arrays.{ArrayMeaning, and_then}
+use Rattle.zarrs_codec_array.specs.Metadata.{array_codec_data}
+use Rattle.zarrs_codec_array.specs.declared.array.ArrayToArrayCodec.{ArrayToArrayCodec}
+use Rattle.zarrs_codec_array.specs.declared.array.ArrayToArrayCodec.TheVariants as array_codec
+use Rattle.zarrs_codec_leaf.specs.Leaf.{LeafMeaning}
+use Rattle.zarrs_codec.specs.Chain.{ChainMeaning}
+use Rattle.zarrs_codec.specs.Chains.{array_to_array_of, array_to_bytes_of, chain_meaning, leaf_meaning, whole_chunk}
+use Rattle.zarrs_codec.specs.Metadata.{bytes_codec_data, chain_data}
+use Rattle.zarrs_codec.specs.Through.{through}
+use Rattle.zarrs_codec.specs.declared.chain.ArrayToBytesCodec.{ArrayToBytesCodec}
+use Rattle.zarrs_codec.specs.declared.chain.ArrayToBytesCodec.TheVariants as bytes_codec
+use Rattle.zarrs_codec.specs.declared.chain.CodecChain.{CodecChain}
+use Rattle.zarrs_document.specs.Document.{normal_document}
+use Rattle.zarrs_engine.specs.Engine.{chain_of}
+use Rattle.zarrs_options.specs.Refusals.{CreateRefusal}
+use Rattle.zarrs.specs.Meanings.{Meaning, creation, array_codec_meant, array_codecs_meant, bytes_codec_meant, chain_meant, layout_meant}
+use Rattle.zarrs.specs.Arrays.{document_of_array, meaning_of_array, layout_of_array, path_of_array}
+use Rattle.zarrs.specs.declared.array.Array.{Array}
+use Rattle.zarrs.proofs.Normal.{normal_says_the_same}
+
+array_is : (c : ArrayToArrayCodec) → array_meaning c ≡ array_codec_meant (array_codec_data c)
+array_is (array_codec.Transpose t) = refl
+array_is (array_codec.Reshape r) = refl
+array_is (array_codec.Squeeze s) = refl
+
+arrays_are : (cs : List ArrayToArrayCodec) → arrays_meaning cs ≡ array_codecs_meant (map array_codec_data cs)
+arrays_are [] = refl
+arrays_are (c ∷ cs) =
+    ap (λ (a : ArrayMeaning). and_then a (arrays_meaning cs)) (array_is c)
+    ∙ ap (λ (a : ArrayMeaning). and_then (array_codec_meant (array_codec_data c)) a) (arrays_are cs)
+
+leaf_is : (c : ArrayToBytesCodec) → leaf_meaning c ≡ bytes_codec_meant (bytes_codec_data c)
+leaf_is (bytes_codec.Bytes codec) = refl
+leaf_is (bytes_codec.PackBits codec) = refl
+leaf_is (bytes_codec.VlenUtf8 codec) = refl
+leaf_is (bytes_codec.VlenBytes codec) = refl
+
+chain_is : (chain : CodecChain) → chain_meaning chain ≡ chain_meant (chain_data chain)
+chain_is chain =
+    ap (λ (a : ArrayMeaning). through a (whole_chunk (leaf_meaning (array_to_bytes_of chain)))) (arrays_are (array_to_array_of chain))
+    ∙ ap (λ (l : LeafMeaning). through (array_codecs_meant (map array_codec_data (array_to_array_of chain))) (whole_chunk l)) (leaf_is (array_to_bytes_of chain))
+
+ok_is : {A : Type 0} (r : Result A CreateRefusal) (a : A) → result_ok r ≡ Some a → r ≡ Ok a
+ok_is (Ok x) a is = cc
+ok_is (Err e) a is = cc
+
+module _ {S : Type 0} where
+  pub layout_is : (a : Array S) → layout_of_array a ≡ layout_meant (path_of_array a) (meaning_of_array a)
+  layout_is a = ap (λ (m : ChainMeaning). record (layout_meant (path_of_array a) (meaning_of_array a)) { chain = m }) (chain_is (chain_of a.engine))
+
+  pub parts_are : (a : Array S) → creation (document_of_array a) ≡ Ok (meaning_of_array a)
+  parts_are a = ok_is _ _ a.agrees
+
+  -- arrays at one path, the document of one of which is the normal form of the other's, lie in the same way
+  pub one_layout : (a b : Array S) → document_of_array b ≡ normal_document (document_of_array a) → path_of_array b ≡ path_of_array a → layout_of_array b ≡ layout_of_array a
+  one_layout a b same path =
+      let said : Ok (meaning_of_array b) ≡ Ok (meaning_of_array a) = sym (parts_are b) ∙ ap creation same ∙ normal_says_the_same (document_of_array a) ∙ parts_are a in
+      let meaning : meaning_of_array b ≡ meaning_of_array a = cc in
+      layout_is b ∙ ap (λ (p : List ℕ). layout_meant p (meaning_of_array b)) path ∙ ap (λ (m : Meaning). layout_meant (path_of_array a) m) meaning ∙ sym (layout_is a)

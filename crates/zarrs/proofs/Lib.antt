@@ -1,0 +1,6 @@
+pub mod Creation
+pub mod Openings
+pub mod Normal
+pub mod Trips
+pub mod Layouts
+pub mod Puts

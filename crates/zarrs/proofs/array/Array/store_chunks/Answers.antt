@@ -1,0 +1,7 @@
+use Rattle.zarrs.proofs.array.Array.store_chunks.Goals as goal
+
+pub returns-clause-done : goal.returns-clause-done
+returns-clause-done g c = rw c.default.ensures.0 at c.store_chunks_opt.ensures.done
+
+pub returns-clause-refused : goal.returns-clause-refused
+returns-clause-refused g c = rw c.default.ensures.0 at c.store_chunks_opt.ensures.refused

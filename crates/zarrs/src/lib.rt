@@ -1,0 +1,23 @@
+//! Arrays in stores: made from their metadata, opened, read and written.
+#![tactic(auto)]
+
+mod array;
+pub mod laws;
+mod opening;
+mod parts;
+mod reopening;
+
+pub use array::Array;
+pub use reopening::written_and_opened;
+pub use zarrs_chunk_grid::ChunkGrid;
+pub use zarrs_codec::{CodecChain, CodecOptions};
+pub use zarrs_data_type::{ArrayBytes, DataType, FillValue};
+pub use zarrs_document::{
+    AdditionalFieldV3, AdditionalFieldsV3, ArrayMetadataV3, DimensionName, FillValueMetadata,
+};
+pub use zarrs_engine::{ArrayError, Call, Reply};
+pub use zarrs_keys::{ChunkKeyEncoding, ChunkKeySeparator, NodePath, NodePathError};
+pub use zarrs_metadata::{MetadataV3, PluginCreateError};
+pub use zarrs_options::{AdditionalFieldUnsupportedError, ArrayCreateError};
+pub use zarrs_storage::{StorageError, StoreKey};
+pub use zarrs_subset::ArraySubset;
