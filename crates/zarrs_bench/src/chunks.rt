@@ -1,11 +1,11 @@
 //! Chunks stored and read.
-use crate::measure::{Work, row};
 use anyhow::{Result, anyhow};
 use itoa::Buffer;
 use std::alloc::Global;
 use std::collections::BTreeMap;
 use std::num::NonZeroU64;
 use std::time::Clock;
+use zarrs_bench_rows::measure::{Work, row};
 use zarrs_codec::CodecOptions;
 use zarrs_data_type::ArrayBytes;
 use zarrs_uses::make::{MemoryEngine, bytes_array};

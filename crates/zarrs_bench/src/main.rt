@@ -3,15 +3,12 @@
 #![tactic(auto)]
 
 mod chunks;
-mod copies;
-mod fills;
-mod measure;
 mod regions;
 mod scripts;
-mod walks;
 
 use anyhow::Result;
 use std::env;
+use zarrs_bench_rows::{copies, fills, measure, walks};
 
 fn main(rt: HostRuntime) -> Result<()> {
     match env::args(&rt)?.nth(1) {

@@ -1,10 +1,10 @@
 //! Regions stored and read, of an array of 32 MiB in chunks of 64 KiB.
-use crate::measure::{Work, row};
 use anyhow::{Result, anyhow};
 use itoa::Buffer;
 use std::alloc::Global;
 use std::num::NonZeroU64;
 use std::time::Clock;
+use zarrs_bench_rows::measure::{Work, row};
 use zarrs_codec::CodecOptions;
 use zarrs_data_type::ArrayBytes;
 use zarrs_storage::{Bytes, MemoryStore, ReadableStorageTraits, StoreKey, WritableStorageTraits};

@@ -1,10 +1,10 @@
 //! Scripts.
-use crate::measure::{Work, row};
 use anyhow::{Result, anyhow};
 use itoa::Buffer;
 use std::alloc::Global;
 use std::collections::BTreeMap;
 use std::time::Clock;
+use zarrs_bench_rows::measure::{Work, row};
 use zarrs_script::run_script;
 
 /// How many pairs of a `chunk` and a `read` a script has.

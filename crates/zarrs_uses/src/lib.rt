@@ -2,6 +2,7 @@
 #![tactic(auto)]
 
 pub mod chunks;
+pub mod documents;
 pub mod histories;
 pub mod make;
 pub mod refusals;

@@ -1,5 +1,6 @@
 //! Each use, run.
 use crate::chunks::{erase, is_present, store_and_read};
+use crate::documents::{create_array, read_region_at};
 use crate::histories::{count_refused, have_equal_bytes};
 use crate::make::{MemoryEngine, bytes_array};
 use crate::refusals::advice;
@@ -12,6 +13,7 @@ use std::test::Fail;
 use zarrs_chunk_grid::ChunkShape;
 use zarrs_data_type::ArrayBytes;
 use zarrs_engine::{ArrayError, Call};
+use zarrs_storage::MemoryStore;
 use zarrs_subset::ArraySubset;
 
 /// The shape of chunks of 2 by 2 cells.
@@ -196,5 +198,27 @@ fn refused_calls_are_counted(rt: HostRuntime) -> Result<(), Fail> {
     ]?;
     let mut engine = small_array(alloc)?;
     assert_eq!(rt; count_refused(alloc, &mut engine, &calls)?, 2);
+    Ok(())
+}
+
+/// The document of an array of 4 by 4 bytes in chunks of 2 by 2, whose cells are 7 where none was written.
+const DOCUMENT: &[u8] = br#"{
+    "zarr_format": 3,
+    "node_type": "array",
+    "shape": [4, 4],
+    "data_type": "uint8",
+    "chunk_grid": {"name": "regular", "configuration": {"chunk_shape": [2, 2]}},
+    "chunk_key_encoding": {"name": "default", "configuration": {"separator": "/"}},
+    "fill_value": 7,
+    "codecs": ["bytes"]
+}"#;
+
+#[test]
+fn an_array_is_created_and_opened_again(rt: HostRuntime) -> Result<(), Fail> {
+    let alloc = rt.alloc();
+    let array = create_array(alloc, MemoryStore::new(alloc), "/climate/rain", DOCUMENT)?;
+    let row = region(alloc, &[1, 0], &[1, 4])?;
+    let cells = read_region_at(alloc, array.into_storage(), "/climate/rain", &row)?;
+    must_hold(&rt, &cells, &[7, 7, 7, 7]);
     Ok(())
 }
