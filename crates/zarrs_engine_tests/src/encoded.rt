@@ -54,7 +54,13 @@ fn must_overflow(rt: &impl Abort, found: &Result<Vec<Option<Vec<u8>>>, ArrayErro
 /// An array of 4 by 4 bytes in chunks of 2 by 2, of which the last one is present.
 fn one_of_four(alloc: Global) -> Result<MemoryEngine, Fail> {
     let mut engine = bytes_engine(alloc, MemoryStore::new(alloc), &[4, 4], &[2, 2], 0)?;
-    store(alloc, &mut engine, &[1, 1], &[5, 6, 7, 8], &CodecOptions::default())?;
+    store(
+        alloc,
+        &mut engine,
+        &[1, 1],
+        &[5, 6, 7, 8],
+        &CodecOptions::default(),
+    )?;
     Ok(engine)
 }
 
@@ -71,8 +77,16 @@ fn stored_bytes_are_returned_and_absent_chunks_are_none(rt: HostRuntime) -> Resu
 fn the_bytes_of_a_range_come_in_row_major_order(rt: HostRuntime) -> Result<(), Fail> {
     let alloc = rt.alloc();
     let engine = one_of_four(alloc)?;
-    must_be_none_and_some(&rt, &all_stored(alloc, &engine, &[1, 0], &[1, 2])??, &[5, 6, 7, 8]);
-    must_be_none_and_some(&rt, &all_stored(alloc, &engine, &[0, 1], &[2, 1])??, &[5, 6, 7, 8]);
+    must_be_none_and_some(
+        &rt,
+        &all_stored(alloc, &engine, &[1, 0], &[1, 2])??,
+        &[5, 6, 7, 8],
+    );
+    must_be_none_and_some(
+        &rt,
+        &all_stored(alloc, &engine, &[0, 1], &[2, 1])??,
+        &[5, 6, 7, 8],
+    );
     assert_eq!(rt; all_stored(alloc, &engine, &[9, 9], &[0, 3])??.len(), 0);
     Ok(())
 }
@@ -81,6 +95,9 @@ fn the_bytes_of_a_range_come_in_row_major_order(rt: HostRuntime) -> Result<(), F
 fn more_chunks_than_a_number_counts_are_refused(rt: HostRuntime) -> Result<(), Fail> {
     let alloc = rt.alloc();
     let engine = one_of_four(alloc)?;
-    must_overflow(&rt, &all_stored(alloc, &engine, &[0, 0], &[1 << 32, 1 << 32])?);
+    must_overflow(
+        &rt,
+        &all_stored(alloc, &engine, &[0, 0], &[1 << 32, 1 << 32])?,
+    );
     Ok(())
 }
