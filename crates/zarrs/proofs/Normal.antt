@@ -4,7 +4,6 @@ use Rattle.std.proofs.lemmas.List.{take-map, length-map}
 use Rattle.std.proofs.lemmas.Option.{slice_get-map}
 use Rattle.serde_json.specs.Data.{Members, no_members, member}
 use Rattle.zarrs_metadata.specs.Extension.{ExtensionData, settings, normal}
-use Rattle.zarrs_document.specs.Document.{DocumentData, normal_document}
 use Rattle.zarrs_chunk_grid.specs.Metadata.{grid_said}
 use Rattle.zarrs_keys.specs.Metadata.{key_encoding_of}
 use Rattle.zarrs_types.specs.TypeMetadata.{kind_of}

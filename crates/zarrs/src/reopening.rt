@@ -10,29 +10,29 @@ use std::alloc::Global;
 use zarrs_options::ArrayCreateError;
 use zarrs_storage::WritableStorageTraits;
 
-/// Stores the document of the array, takes the store out and opens the array there again: it is at the same path, of
-/// the same document up to its normal form, and lies in its store in the same way.
+/// Stores the document of the array, takes the store out and opens the array there again. If what is written for the
+/// document reads as it, the array that opens is of the same document up to its normal form, and lies in its store in
+/// the same way.
 ///
 /// # Errors
-/// E23 if the store refuses, and E26.
+/// E23 if the store refuses, and E26; for a document that is not read again also E23 and E12. The store is dropped then.
 pub fn written_and_opened<S: WritableStorageTraits + Drop>(
     alloc: Global,
     array: Array<S>,
-    path: &str,
 ) -> Result<Array<S>, ArrayCreateError>
-    requires path { path_of_array array ≡ path.now }
-    requires ask { (store_of_array S.state array).may_ask (v3_key path.now) ≡ true }
+    requires ask { (store_of_array S.state array).may_ask (v3_key (path_of_array array)) ≡ true }
     requires places { (place : ℕ)
-        → (store_of_array S.state array).may_read (v3_key path.now) place ≡ true }
-    requires read { IsReadAgain (document_of_array array) }
-    ensures document { IfOk result
+        → (store_of_array S.state array).may_read (v3_key (path_of_array array)) place ≡ true }
+    ensures document { IsReadAgain (document_of_array array) → IfOk result
         (λ a. document_of_array a ≡ normal_document (document_of_array array)) }
     ensures path { IfOk result (λ a. path_of_array a ≡ path_of_array array) }
-    ensures layout { IfOk result (λ a. layout_of_array a ≡ layout_of_array array) }
+    ensures layout { IsReadAgain (document_of_array array) → IfOk result
+        (λ a. layout_of_array a ≡ layout_of_array array) }
 {
     let mut array = array;
+    let path = array.path().clone()?;
     array.store_metadata(alloc)?;
     let storage = array.into_storage();
-    let opened = Array::open(alloc, storage, path)?;
+    let opened = Array::open(alloc, storage, path.as_str())?;
     Ok(opened)
 }

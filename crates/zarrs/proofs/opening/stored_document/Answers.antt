@@ -1,4 +1,4 @@
-use Rattle.std.proofs.Common.{◌≡◌, ◌∙◌, ap, sym, subst, true, ℕ, List, Some, None, rules}
+use Rattle.std.proofs.Common.{◌≡◌, ◌∙◌, ap, sym, subst, ℕ, List, Some, rules}
 use Rattle.zarrs_document.specs.View.{document_view}
 use Rattle.zarrs_storage.specs.Refusals.{RefusesRead}
 use Rattle.zarrs_steps.specs.Content.{value_at}
