@@ -1,0 +1,9 @@
+//! Tests of arrays: made from documents, stored and opened, read and written.
+#![tactic(auto)]
+
+#[cfg(test)]
+mod creation;
+#[cfg(test)]
+mod made;
+#[cfg(test)]
+mod opening;

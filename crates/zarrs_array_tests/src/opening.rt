@@ -1,0 +1,260 @@
+//! Arrays that are stored, opened and erased, and the refusals of an opening in their order.
+use crate::made::{BYTES, MemoryArray, array, document};
+use std::alloc::Global;
+use std::process::Abort;
+use std::test::Fail;
+use zarrs::{
+    Array, ArrayBytes, ArrayCreateError, NodePathError, StorageError, StoreKey, written_and_opened,
+};
+use zarrs_storage::{
+    Bytes, Fault, MemoryStore, ReadableStorageTraits, WholeRefused, WritableStorageTraits,
+};
+
+fn must_have_keys(
+    rt: &impl Abort,
+    alloc: Global,
+    storage: &MemoryStore,
+    names: &[&str],
+) -> Result<(), Fail> {
+    let keys = storage.keys(alloc)?;
+    assert_eq!(rt; keys.len(), names.len());
+    for (key, name) in keys.iter().zip(names.iter()) {
+        assert_eq!(rt; key.as_str(), *name);
+    }
+    Ok(())
+}
+
+/// The stored text of the array at the key is the indented text of its document.
+fn must_hold_its_text(
+    rt: &impl Abort,
+    alloc: Global,
+    array: &MemoryArray,
+    name: &str,
+) -> Result<(), Fail> {
+    let key = StoreKey::new(alloc, name)?;
+    let held = array.storage().get(alloc, &key)?.ok_or("no document")?;
+    let text = array.metadata().to_vec_pretty(alloc)?;
+    assert!(rt; *held == *text);
+    Ok(())
+}
+
+fn must_be_of_the_text(
+    rt: &impl Abort,
+    alloc: Global,
+    array: &MemoryArray,
+    text: &str,
+) -> Result<(), Fail> {
+    let written = array.metadata().to_value(alloc)?.to_string(alloc)?;
+    assert_eq!(rt; written.as_str(), text);
+    Ok(())
+}
+
+fn holds(data: &ArrayBytes<'_>, bytes: &[u8]) -> bool {
+    match data {
+        ArrayBytes::Fixed(held) => held.as_slice() == bytes,
+        _ => false,
+    }
+}
+
+fn must_read(
+    rt: &impl Abort,
+    alloc: Global,
+    array: &MemoryArray,
+    indices: &[u64],
+    bytes: &[u8],
+) -> Result<(), Fail> {
+    let cells = array.retrieve_chunk(alloc, indices)?;
+    assert!(rt; holds(&cells, bytes));
+    Ok(())
+}
+
+#[test]
+fn an_array_is_stored_and_opened(rt: HostRuntime) -> Result<(), Fail> {
+    let alloc = rt.alloc();
+    let mut array = array(alloc, "/array", &[])?;
+    array.store_metadata(alloc)?;
+    must_hold_its_text(&rt, alloc, &array, "array/zarr.json")?;
+    let storage = array.into_storage();
+    must_have_keys(&rt, alloc, &storage, &["array/zarr.json"])?;
+    assert_eq!(rt; storage.calls(), 1);
+    let mut opened = Array::open(alloc, storage, "/array")?;
+    must_be_of_the_text(&rt, alloc, &opened, BYTES)?;
+    must_read(&rt, alloc, &opened, &[0, 1], &[0; 16])?;
+    let cells = ArrayBytes::new_flen(vec![in alloc; 5u8; 16]?);
+    opened.store_chunk(alloc, &[0, 1], &cells)?;
+    must_read(&rt, alloc, &opened, &[0, 1], &[5; 16])?;
+    let storage = opened.into_storage();
+    must_have_keys(&rt, alloc, &storage, &["array/c/0/1", "array/zarr.json"])
+}
+
+fn must_lie_at(rt: &impl Abort, array: &MemoryArray, path: &str) {
+    assert_eq!(rt; array.path().as_str(), path);
+    assert_eq!(rt; array.storage().calls(), 1);
+}
+
+#[test]
+fn an_array_is_written_and_opened(rt: HostRuntime) -> Result<(), Fail> {
+    let alloc = rt.alloc();
+    let opened = written_and_opened(alloc, array(alloc, "/a/b", &[])?)?;
+    must_lie_at(&rt, &opened, "/a/b");
+    must_be_of_the_text(&rt, alloc, &opened, BYTES)?;
+    must_hold_its_text(&rt, alloc, &opened, "a/b/zarr.json")
+}
+
+#[test]
+fn the_root_has_the_key_alone(rt: HostRuntime) -> Result<(), Fail> {
+    let alloc = rt.alloc();
+    let mut array = array(alloc, "/", &[("attributes", "{\"a\":[1,null]}")])?;
+    array.store_metadata(alloc)?;
+    must_hold_its_text(&rt, alloc, &array, "zarr.json")?;
+    array.erase_metadata(alloc)?;
+    let storage = array.into_storage();
+    assert_eq!(rt; storage.calls(), 2);
+    must_have_keys(&rt, alloc, &storage, &[])
+}
+
+/// A store that holds these bytes at `zarr.json`.
+fn holding(alloc: Global, bytes: Vec<u8>) -> Result<MemoryStore, Fail> {
+    let mut storage = MemoryStore::new(alloc);
+    let key = StoreKey::new(alloc, "zarr.json")?;
+    storage.set(alloc, &key, Bytes::from_vec(bytes)?)?;
+    Ok(storage)
+}
+
+fn holding_text(alloc: Global, text: &str) -> Result<MemoryStore, Fail> {
+    holding(alloc, text.as_bytes().to_vec(alloc)?)
+}
+
+/// A store that holds the document with these members.
+fn holding_document(alloc: Global, changes: &[(&str, &str)]) -> Result<MemoryStore, Fail> {
+    holding(alloc, document(alloc, changes)?.to_vec_pretty(alloc)?)
+}
+
+/// The refusal of opening the array at the root.
+fn refusal(alloc: Global, storage: MemoryStore, path: &str) -> Result<ArrayCreateError, Fail> {
+    match Array::open(alloc, storage, path) {
+        Ok(_) => Err("the array opens".into()),
+        Err(error) => Ok(error),
+    }
+}
+
+fn must_be_a_path(rt: &impl Abort, error: &ArrayCreateError) {
+    assert!(rt;
+        matches!(
+            error,
+            ArrayCreateError::NodePathError(NodePathError::Invalid)
+        )
+    );
+}
+
+fn must_be_missing(rt: &impl Abort, error: &ArrayCreateError) {
+    assert!(rt; matches!(error, ArrayCreateError::MissingMetadata));
+}
+
+fn must_be_no_document(rt: &impl Abort, error: &ArrayCreateError) {
+    let ArrayCreateError::StorageError(StorageError::InvalidMetadata(key, _)) = error else {
+        assert!(rt; false, "no E23");
+        return;
+    };
+    assert_eq!(rt; key.as_str(), "zarr.json");
+}
+
+#[test]
+fn e11_e24_e23(rt: HostRuntime) -> Result<(), Fail> {
+    let alloc = rt.alloc();
+    must_be_a_path(&rt, &refusal(alloc, holding_text(alloc, "?")?, "root")?);
+    must_be_missing(&rt, &refusal(alloc, MemoryStore::new(alloc), "/")?);
+    must_be_missing(&rt, &refusal(alloc, holding_text(alloc, BYTES)?, "/array")?);
+    for text in [
+        "",
+        "?",
+        "{}",
+        "[1]",
+        "{\"zarr_format\":3,\"node_type\":\"group\"}",
+    ] {
+        must_be_no_document(&rt, &refusal(alloc, holding_text(alloc, text)?, "/")?);
+    }
+    Ok(())
+}
+
+fn must_be_refused_by_the_store(rt: &impl Abort, error: &ArrayCreateError) {
+    assert!(rt;
+        matches!(
+            error,
+            ArrayCreateError::StorageError(StorageError::Other(_))
+        )
+    );
+}
+
+#[test]
+fn e23_of_a_key_that_refuses(rt: HostRuntime) -> Result<(), Fail> {
+    let alloc = rt.alloc();
+    let keys = vec![in alloc; StoreKey::new(alloc, "zarr.json")?]?;
+    let storage = WholeRefused::new(holding_text(alloc, BYTES)?, keys);
+    match Array::open(alloc, storage, "/") {
+        Ok(_) => Err("the array opens".into()),
+        Err(error) => {
+            must_be_refused_by_the_store(&rt, &error);
+            Ok(())
+        }
+    }
+}
+
+fn must_name_the_field(
+    rt: &impl Abort,
+    alloc: Global,
+    error: &ArrayCreateError,
+) -> Result<(), Fail> {
+    let ArrayCreateError::AdditionalFieldUnsupportedError(field) = error else {
+        assert!(rt; false, "no E12");
+        return Ok(());
+    };
+    assert_eq!(rt; field.name(), "b");
+    assert_eq!(rt; field.value().to_string(alloc)?.as_str(), "[2]");
+    Ok(())
+}
+
+#[test]
+fn e12_names_the_first_field(rt: HostRuntime) -> Result<(), Fail> {
+    let alloc = rt.alloc();
+    let changes = [
+        ("a", "{\"must_understand\":false}"),
+        ("b", "[2]"),
+        ("c", "3"),
+        ("codecs", "[]"),
+    ];
+    let error = refusal(alloc, holding_document(alloc, &changes)?, "/")?;
+    must_name_the_field(&rt, alloc, &error)
+}
+
+#[test]
+fn a_field_that_need_not_be_understood(rt: HostRuntime) -> Result<(), Fail> {
+    let alloc = rt.alloc();
+    let changes = [("a", "{\"must_understand\":false,\"x\":1}")];
+    let array = Array::open(alloc, holding_document(alloc, &changes)?, "/")?;
+    assert_eq!(rt; array.metadata().additional_fields.len(), 1);
+    Ok(())
+}
+
+fn must_be_no_chain(rt: &impl Abort, error: &ArrayCreateError) {
+    assert!(rt; matches!(error, ArrayCreateError::CodecsCreateError(_)));
+}
+
+#[test]
+fn a_document_that_is_read_and_makes_no_array(rt: HostRuntime) -> Result<(), Fail> {
+    let alloc = rt.alloc();
+    let storage = holding_document(alloc, &[("codecs", "[\"gzip\"]")])?;
+    must_be_no_chain(&rt, &refusal(alloc, storage, "/")?);
+    Ok(())
+}
+
+#[test]
+fn a_store_that_refuses_keeps_its_document(rt: HostRuntime) -> Result<(), Fail> {
+    let alloc = rt.alloc();
+    let storage = Fault::new(holding_text(alloc, BYTES)?, Vec::new(alloc), Some(1));
+    let mut array = Array::open(alloc, storage, "/")?;
+    assert!(rt; matches!(array.erase_metadata(alloc), Err(StorageError::Other(_))));
+    let storage = array.into_storage();
+    assert_eq!(rt; storage.failures(), 1);
+    must_have_keys(&rt, alloc, &storage.into_inner(), &["zarr.json"])
+}
