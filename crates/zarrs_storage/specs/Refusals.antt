@@ -2,9 +2,10 @@
 use Rattle.std.specs.Prelude.{◌≡◌, ℕ, false, true, List, ◌⊎◌, string_bytes}
 use Rattle.zarrs_storage.specs.Store.{StoreState, is_store_key, PassesValue}
 use Rattle.zarrs_storage.specs.declared.error.StorageError.{StorageError}
-use Rattle.zarrs_storage.specs.declared.error.StorageError.TheVariants.{InvalidMetadata, ReadOnly, InvalidByteRange, Exhausted, Other, OutOfMemory}
+use Rattle.zarrs_storage.specs.declared.error.StorageError.TheVariants.{InvalidMetadata, ReadOnly, InvalidByteRange}
+use Rattle.zarrs_storage.specs.declared.error.StorageError.TheVariants.{Exhausted, Other, OutOfMemory}
 
--- the text is not a store key, or memory ran out
+-- the text is not a store key, or out of memory
 abbrev pub RefusesKey : List ℕ → StorageError → Type 0
 RefusesKey text (InvalidMetadata key said) = ⊥
 RefusesKey text ReadOnly = ⊥
@@ -13,11 +14,11 @@ RefusesKey text Exhausted = ⊥
 RefusesKey text (Other said) = is_store_key text ≡ false
 RefusesKey text OutOfMemory = Unit {0}
 
--- the key refuses, or memory ran out
+-- the key refuses, or out of memory
 abbrev pub RefusesRead : StoreState → List ℕ → StorageError → Type 0
 RefusesRead s key e = (e ≡ OutOfMemory) ⊎ (s.refuses key ≡ true)
 
--- the range passes the value at the key, the key refuses, or memory ran out
+-- the range passes the value at the key, the key refuses, or out of memory
 abbrev pub RefusesRange : StoreState → List ℕ → ℕ → ℕ → StorageError → Type 0
 RefusesRange s key offset count e = ((e ≡ InvalidByteRange) × PassesValue s.values key offset count) ⊎ RefusesRead s key e
 

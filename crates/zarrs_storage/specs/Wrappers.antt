@@ -47,7 +47,7 @@ is_write_number (Some given) number = given == number
 
 -- ---- `Fault`
 
--- the store below, where the listed keys refuse, with counts of its own
+-- the store below with counts of its own; the listed keys refuse
 abbrev pub fault_state : {S : Type 0} → (S → StoreState) → Fault S → StoreState
 fault_state state fault = with_counts (with_refused (state fault.store) fault.refused_keys.items) fault.counts.calls fault.counts.failures
 
@@ -90,7 +90,7 @@ stop_passes_on stop = nat_lt stop.counts.calls last_call && nat_lt stop.counts.c
 
 -- ---- `WholeRefused`
 
--- the store below, where the listed keys refuse
+-- the store below; the listed keys refuse
 abbrev pub whole_state : {S : Type 0} → (S → StoreState) → WholeRefused S → StoreState
 whole_state state whole = with_refused (state whole.store) whole.keys.items
 

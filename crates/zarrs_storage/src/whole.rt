@@ -1,7 +1,8 @@
-//! A store that refuses to read whole values.
+//! `WholeRefused`: a store that refuses to read whole values.
 ghost use Rattle.std.specs.Prelude.{◌≡◌, true, codes, IfOk, IfErr, IsErr, IsErrAnd};
 ghost use Rattle.std.specs.FinMap as map;
-ghost use Rattle.zarrs_storage.specs.Store.{MayReadWhole, MayReadRange, PassesValue, is_listed, value_range, size_at};
+ghost use Rattle.zarrs_storage.specs.Store.{MayReadWhole, MayReadRange, PassesValue, is_listed};
+ghost use Rattle.zarrs_storage.specs.Store.{value_range, size_at};
 ghost use Rattle.zarrs_storage.specs.Refusals.{RefusesRead, RefusesRange, SaysOther};
 ghost use Rattle.zarrs_storage.specs.Wrappers.{with_refused, whole_state, below_whole, whole_keys};
 
