@@ -1,7 +1,8 @@
 -- What is written reads as what was written.
 use Rattle.std.proofs.Common.{◌≡◌, ℕ, List, [], ◌∷◌, Bool, true, false, Option, Some, None, codes, refl, ap, ◌∙◌}
 use Rattle.serde_json.specs.Data.{Members, no_members, member}
-use Rattle.zarrs_metadata.specs.Extension.{ExtensionData, normal, extension_data, extension_of, extension_from, extension_of_members, extension_names}
+use Rattle.zarrs_metadata.specs.Extension.{ExtensionData, normal, extension_data, extension_of, extension_from}
+use Rattle.zarrs_metadata.specs.Extension.{extension_of_members, extension_names}
 use Rattle.serde_json.specs.Find.{get_member}
 use Rattle.std.specs.Prelude.{is_none}
 use Rattle.zarrs_metadata.specs.Members.{besides, nonempty}

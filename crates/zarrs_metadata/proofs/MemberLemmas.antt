@@ -1,5 +1,6 @@
 -- A `Map` and the members that it is seen as, and members by name.
-use Rattle.std.proofs.Common.{◌≡◌, ℕ, ◌↔◌, List, [], ◌∷◌, length, Some, Ordering, Less, Equal, Greater, string_bytes, string_cmp, nat_cmp, is_eq, Bool, true, false, IsTrue, refl, sym, ap, ◌∙◌, subst, arith}
+use Rattle.std.proofs.Common.{◌≡◌, ℕ, ◌↔◌, List, [], ◌∷◌, length, Some, Ordering, Less, Equal, Greater, string_bytes}
+use Rattle.std.proofs.Common.{string_cmp, nat_cmp, is_eq, Bool, true, false, IsTrue, refl, sym, ap, ◌∙◌, subst, arith}
 use Rattle.std.proofs.lemmas.Map.Text.{is_eq-slice_cmp}
 use Rattle.std.proofs.lemmas.Slice.Eq.{bytes_eq-Decides}
 use Rattle.std.specs.Prelude.{is_none}

@@ -1,5 +1,6 @@
 -- An extension point, and the JSON values that say one.
-use Rattle.std.specs.Prelude.{ℕ, List, [], ◌∷◌, Bool, true, false, codes, if◌then◌else◌, Option, Some, None, unwrap_or, option_map, option_and_then, string_bytes}
+use Rattle.std.specs.Prelude.{ℕ, List, [], ◌∷◌, Bool, true, false, codes, if◌then◌else◌, Option, Some, None, unwrap_or}
+use Rattle.std.specs.Prelude.{option_map, option_and_then, string_bytes}
 use Rattle.serde_json.specs.Data.{Data, null, boolean, number, string, array, object, Members, no_members, member}
 use Rattle.serde_json.specs.Find.{get_member, as_str, as_bool, as_object}
 use Rattle.serde_json.specs.View.{members_view}

@@ -49,6 +49,9 @@ impl DataTypeMetadataV2 {
     }
 
     /// The JSON value of this data type.
+    ///
+    /// # Errors
+    /// `AllocError`: out of memory.
     pub fn to_value(&self, alloc: Global) -> Result<Value, AllocError>
         ensures { IfOk result (λ value. view value ≡ string self.now) }
     {
@@ -56,6 +59,9 @@ impl DataTypeMetadataV2 {
     }
 
     /// The same data type.
+    ///
+    /// # Errors
+    /// `AllocError`: out of memory.
     pub fn try_clone(&self, alloc: Global) -> Result<DataTypeMetadataV2, AllocError>
         ensures { IfOk result (λ copy. copy ≡ self.now) }
     {

@@ -11,7 +11,7 @@ pub enum MetadataError {
     /// The value has another shape than the metadata.
     #[error("the metadata has another shape")]
     InvalidShape,
-    /// Memory ran out.
+    /// Out of memory.
     #[error("out of memory")]
     OutOfMemory,
 }
@@ -22,7 +22,7 @@ pub enum PluginCreateError {
     /// The metadata describes none, for the reason in the text.
     #[error("{0}")]
     Other(String),
-    /// Memory ran out.
+    /// Out of memory.
     #[error("out of memory")]
     OutOfMemory,
 }

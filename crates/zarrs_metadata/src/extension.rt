@@ -1,10 +1,13 @@
 //! Extension points: a name, a configuration, and whether it must be understood.
-ghost use Rattle.std.specs.Prelude.{◌≡◌, map, option_map, string_bytes, IfOk, IfErr, Some, None, option_and_then, true};
+ghost use Rattle.std.specs.Prelude.{◌≡◌, map, option_map, string_bytes, IfOk, IfErr, Some, None};
+ghost use Rattle.std.specs.Prelude.{option_and_then, true};
 ghost use Rattle.serde_json.specs.Data.{object, put};
 ghost use Rattle.serde_json.specs.View.{view, members_view};
 ghost use Rattle.serde_json.specs.Find.{as_str, get_member};
 ghost use Rattle.zarrs_metadata.specs.Members.{has_only, nonempty};
-ghost use Rattle.zarrs_metadata.specs.Extension.{named, settings, extension_of, extension_from, extension_data, normal, configuration_from, must_understand_from};
+ghost use Rattle.zarrs_metadata.specs.Extension.{named, settings, extension_of, extension_from};
+ghost use Rattle.zarrs_metadata.specs.Extension.{extension_data, normal, configuration_from};
+ghost use Rattle.zarrs_metadata.specs.Extension.{must_understand_from};
 
 use crate::error::MetadataError;
 use crate::members::{copied, have_only, kept, object_of, take_member};
@@ -91,6 +94,9 @@ impl MetadataV3 {
     }
 
     /// Puts the member into the configuration, in place of a present one of that name.
+    ///
+    /// # Errors
+    /// `AllocError`: out of memory.
     pub fn with_member(
         self,
         alloc: Global,
@@ -113,7 +119,7 @@ impl MetadataV3 {
     /// The same extension point.
     ///
     /// # Errors
-    /// If memory runs out.
+    /// `AllocError`: out of memory.
     pub fn try_clone(&self) -> Result<MetadataV3, AllocError>
         ensures { IfOk result (λ copy. extension_view copy ≡ extension_view self.now) }
     {
@@ -195,6 +201,9 @@ impl MetadataV3 {
 
     /// Returns the JSON value of this extension point: its name as a text if it has no configuration
     /// and must be understood, else an object. An empty configuration counts as none.
+    ///
+    /// # Errors
+    /// `AllocError`: out of memory.
     pub fn to_value(&self, alloc: Global) -> Result<Value, AllocError>
         ensures written { IfOk result (λ v. view v ≡ extension_data (extension_view self.now)) }
         ensures reads_back { IfOk result (λ v. extension_of (view v)

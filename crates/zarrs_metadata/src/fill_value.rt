@@ -58,6 +58,9 @@ impl FillValueMetadata {
     }
 
     /// The JSON value of this fill value, which stays.
+    ///
+    /// # Errors
+    /// `AllocError`: out of memory.
     pub fn to_value(&self, alloc: Global) -> Result<Value, AllocError>
         ensures { IfOk result (λ value. view value ≡ fill_data self.now) }
     {
@@ -72,6 +75,9 @@ impl FillValueMetadata {
     }
 
     /// The same fill value.
+    ///
+    /// # Errors
+    /// `AllocError`: out of memory.
     pub fn try_clone(&self, alloc: Global) -> Result<FillValueMetadata, AllocError>
         ensures { IfOk result (λ copy. fill_data copy ≡ fill_data self.now) }
     {

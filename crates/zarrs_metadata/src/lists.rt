@@ -8,6 +8,9 @@ use std::alloc::{AllocError, Global};
 
 /// Returns the numbers of a list of whole numbers below 2^64, or `None` if the value is not such a
 /// list.
+///
+/// # Errors
+/// `AllocError`: out of memory.
 pub fn numbers(alloc: Global, value: &Value) -> Result<Option<Vec<u64>>, AllocError>
     ensures { IfOk result (λ found. option_map (λ list. list.items) found
         ≡ numbers_of (view value.now)) }
@@ -33,6 +36,9 @@ fn all_numbers(alloc: Global, items: &Vec<Value>) -> Result<Option<Vec<u64>>, Al
 }
 
 /// Returns the list of these numbers as a value.
+///
+/// # Errors
+/// `AllocError`: out of memory.
 pub fn numbers_value(alloc: Global, numbers: &[u64]) -> Result<Value, AllocError>
     ensures written { IfOk result (λ value. view value ≡ numbers_data numbers.now) }
     ensures reads_back { IfOk result (λ value. numbers_of (view value) ≡ Some numbers.now) }

@@ -24,7 +24,7 @@ pub fn take_member(members: &mut Map<String, Value>, name: &str) -> Option<Value
 /// Returns a copy of the members.
 ///
 /// # Errors
-/// If memory runs out.
+/// `AllocError`: out of memory.
 pub fn copied(members: &Map<String, Value>) -> Result<Map<String, Value>, AllocError>
     ensures { IfOk result (λ m. members_view m.entries ≡ members_view members.now.entries) }
 {

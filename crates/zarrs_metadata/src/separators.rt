@@ -39,6 +39,9 @@ impl ChunkKeySeparator {
     }
 
     /// Returns the JSON value of the separator.
+    ///
+    /// # Errors
+    /// `AllocError`: out of memory.
     pub fn to_value(self, alloc: Global) -> Result<Value, AllocError>
         ensures written { IfOk result (λ value. view value ≡ separator_data self) }
         ensures reads_back { IfOk result (λ value. separator_of (view value) ≡ Some self) }
