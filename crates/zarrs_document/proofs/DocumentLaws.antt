@@ -6,7 +6,10 @@ use Rattle.zarrs_metadata.specs.Members.{is_named, besides}
 use Rattle.zarrs_document.specs.Members.{put_some, put_all, list_in, members_in, object_data}
 use Rattle.zarrs_document.specs.Fields.{FieldData, fields_of, fields_data, normal_field, normal_fields}
 use Rattle.zarrs_metadata.specs.Extension.{ExtensionData, normal, extension_of, extension_data}
-use Rattle.zarrs_document.specs.Document.{DocumentData, PartsData, DraftData, document_names, parts_of, draft_of, dimension_name_of, transformers_in, names_in, assembled, document_from, document_of, dimension_name_data, transformers_data, document_members, data_of_document, normal_document}
+use Rattle.zarrs_document.specs.Document.{DocumentData, PartsData, DraftData, document_names, parts_of, draft_of}
+use Rattle.zarrs_document.specs.Document.{dimension_name_of, transformers_in, names_in, assembled, document_from}
+use Rattle.zarrs_document.specs.Document.{document_of, dimension_name_data, transformers_data, document_members}
+use Rattle.zarrs_document.specs.Document.{data_of_document, normal_document}
 use Rattle.zarrs_metadata.specs.Lists.{number_data, numbers_data, list_data}
 use Rattle.zarrs_metadata.proofs.ExtensionLaws.{round_trip}
 use Rattle.zarrs_metadata.proofs.ListLemmas.{all_of-items_of, map_same, numbers_of-numbers_data}

@@ -1,14 +1,19 @@
 -- A document that was read is read again as it is.
-use Rattle.std.proofs.Common.{◌≡◌, ℕ, List, [], ◌∷◌, map, Bool, true, false, if◌then◌else◌, Option, Some, None, option_map, option_and_then, unwrap_or, not, codes, refl, sym, ap, subst, ◌∙◌}
-use Rattle.serde_json.specs.Data.{Data, null, boolean, number, string, array, object, Items, no_items, item, Members, no_members, member, put}
+use Rattle.std.proofs.Common.{◌≡◌, ℕ, List, [], ◌∷◌, map, Bool, true, false, if◌then◌else◌, Option, Some, None}
+use Rattle.std.proofs.Common.{option_map, option_and_then, unwrap_or, not, codes, refl, sym, ap, subst, ◌∙◌}
+use Rattle.serde_json.specs.Data.{Data, null, boolean, number, string, array, object, Items, no_items, item, Members}
+use Rattle.serde_json.specs.Data.{no_members, member, put}
 use Rattle.serde_json.specs.Find.{get_member, as_array, as_bool, as_object, as_str}
 use Rattle.serde_json.proofs.Views.{get_member-put}
 use Rattle.zarrs_metadata.specs.Members.{is_named, has_only, besides, nonempty}
 use Rattle.zarrs_metadata.specs.Lists.{all_of}
-use Rattle.zarrs_metadata.specs.Extension.{ExtensionData, named, normal, extension_of, extension_names, configuration_from, must_understand_from}
+use Rattle.zarrs_metadata.specs.Extension.{ExtensionData, named, normal, extension_of, extension_names}
+use Rattle.zarrs_metadata.specs.Extension.{configuration_from, must_understand_from}
 use Rattle.zarrs_document.specs.Members.{list_in}
 use Rattle.zarrs_document.specs.Fields.{FieldData, flag_names, is_unneeded, field_of, normal_field, fields_of, normal_fields}
-use Rattle.zarrs_document.specs.Document.{DocumentData, PartsData, DraftData, document_names, parts_of, is_array, draft_of, transformers_in, assembled, document_from, document_of, normal_document}
+use Rattle.zarrs_document.specs.Document.{DocumentData, PartsData, DraftData, document_names, parts_of, is_array}
+use Rattle.zarrs_document.specs.Document.{draft_of, transformers_in, assembled, document_from, document_of}
+use Rattle.zarrs_document.specs.Document.{normal_document}
 use Rattle.zarrs_document.proofs.MemberLemmas.{besides-put, besides-again}
 
 -- ---- a value that is there came of one that was there

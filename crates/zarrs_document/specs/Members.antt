@@ -35,7 +35,7 @@ abbrev pub put_some : List ℕ → Option Data → Members → Members
 put_some key None ms = ms
 put_some key (Some d) ms = put key d ms
 
--- with those of the members that are there, the first last
+-- with those of the members that are present, the first one put in last
 abbrev pub put_all : List (List ℕ × Option Data) → Members → Members
 put_all [] ms = ms
 put_all (e ∷ es) ms = put_some e.0 e.1 (put_all es ms)

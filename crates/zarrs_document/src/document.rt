@@ -3,7 +3,9 @@ ghost use Rattle.std.specs.Prelude.{◌≡◌, Some, None, map, option_map, IfOk
 ghost use Rattle.serde_json.specs.View.{view, members_view};
 ghost use Rattle.zarrs_metadata.specs.Extension.{extension_view};
 ghost use Rattle.zarrs_metadata.specs.FillValue.{fill_data};
-ghost use Rattle.zarrs_document.specs.Document.{document_of, plain_document_of, document_said, plain_document, data_of_document, normal_document, IsDocumentText};
+ghost use Rattle.zarrs_document.specs.Document.{document_of, plain_document_of, document_said};
+ghost use Rattle.zarrs_document.specs.Document.{plain_document, data_of_document, normal_document};
+ghost use Rattle.zarrs_document.specs.Document.{IsDocumentText};
 ghost use Rattle.zarrs_document.specs.Refusals.{RefusesReading};
 ghost use Rattle.zarrs_document.specs.View.{name_view, fields_view, document_view};
 
@@ -50,7 +52,7 @@ impl ArrayMetadataV3 {
     /// attributes, storage transformers, dimension names and additional fields.
     ///
     /// # Errors
-    /// If memory runs out.
+    /// `AllocError`: out of memory.
     pub fn new(
         alloc: Global,
         shape: Vec<u64>,
@@ -86,7 +88,7 @@ impl ArrayMetadataV3 {
     /// Returns a copy.
     ///
     /// # Errors
-    /// If memory runs out.
+    /// `AllocError`: out of memory.
     pub fn try_clone(&self, alloc: Global) -> Result<ArrayMetadataV3, AllocError>
         ensures { IfOk result (λ copy. document_view copy ≡ document_view self.now) }
     {
@@ -157,7 +159,7 @@ impl ArrayMetadataV3 {
     ///
     /// # Errors
     /// `InvalidShape` for any other value, and for one that holds a number that is not an integer
-    /// of 64 bits.
+    /// of 64 bits. `OutOfMemory` may come at any time.
     pub fn from_value(alloc: Global, value: Value) -> Result<ArrayMetadataV3, MetadataError>
         ensures read { IfOk result (λ m. plain_document_of (view value) ≡ Some (document_view m)) }
         // It is read again as it is: it has no empty configuration.
@@ -178,7 +180,7 @@ impl ArrayMetadataV3 {
     /// absent names and additional fields under a name of another member are not written.
     ///
     /// # Errors
-    /// If memory runs out.
+    /// `AllocError`: out of memory.
     pub fn to_value(&self, alloc: Global) -> Result<Value, AllocError>
         ensures written { IfOk result (λ v. view v ≡ data_of_document (document_view self.now)) }
         ensures reads_back { IfOk result (λ v. document_of (view v)
@@ -191,7 +193,7 @@ impl ArrayMetadataV3 {
     /// that is not an integer of 64 bits, and a document.
     ///
     /// # Errors
-    /// `InvalidShape` for any other bytes.
+    /// `InvalidShape` for any other bytes. `OutOfMemory` may come at any time.
     pub fn from_slice(alloc: Global, bytes: &[u8]) -> Result<ArrayMetadataV3, MetadataError>
         ensures read { IfOk result (λ m. document_said bytes.now ≡ Some (document_view m)) }
         ensures normal { IfOk result (λ m. normal_document (document_view m) ≡ document_view m) }
@@ -209,7 +211,7 @@ impl ArrayMetadataV3 {
     /// Returns the bytes that are stored for the document: its JSON value, indented.
     ///
     /// # Errors
-    /// If memory runs out.
+    /// `AllocError`: out of memory.
     pub fn to_vec_pretty(&self, alloc: Global) -> Result<Vec<u8>, AllocError>
         ensures { IfOk result (λ bytes. IsDocumentText (document_view self.now) bytes.items) }
     {

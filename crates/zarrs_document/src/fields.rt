@@ -2,7 +2,8 @@
 ghost use Rattle.std.specs.Prelude.{◌≡◌, codes, false, IfOk};
 ghost use Rattle.serde_json.specs.Data.{object, boolean, put as with_member};
 ghost use Rattle.serde_json.specs.View.{view, members_view};
-ghost use Rattle.zarrs_document.specs.Fields.{field_of, data_of_field, fields_of, fields_data, is_unneeded, without_flag, with_flag};
+ghost use Rattle.zarrs_document.specs.Fields.{field_of, data_of_field, fields_of, fields_data};
+ghost use Rattle.zarrs_document.specs.Fields.{is_unneeded, without_flag, with_flag};
 ghost use Rattle.zarrs_document.specs.View.{field_view, fields_view};
 
 use crate::members::take_member;
@@ -71,6 +72,9 @@ impl AdditionalFieldV3 {
     }
 
     /// Returns the JSON value of this field; an object gets its flag if that is false.
+    ///
+    /// # Errors
+    /// `AllocError`: out of memory.
     pub fn to_value(&self, alloc: Global) -> Result<Value, AllocError>
         ensures { IfOk result (λ v. view v ≡ data_of_field (field_view self.now)) }
     {

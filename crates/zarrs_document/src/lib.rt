@@ -1,5 +1,4 @@
-//! The V3 document of an array: its members in Rust's types, read from and written to JSON values
-//! and stored bytes (Zarr V3 core specification, array metadata).
+//! The V3 document of an array (Zarr V3 core specification, array metadata), from and to stored bytes.
 #![tactic(auto)]
 
 mod copying;

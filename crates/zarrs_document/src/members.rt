@@ -5,7 +5,8 @@ ghost use Rattle.serde_json.specs.View.{view, items_view, members_view};
 ghost use Rattle.zarrs_metadata.specs.Members.{besides, nonempty};
 ghost use Rattle.zarrs_metadata.specs.Lists.{numbers_of};
 ghost use Rattle.zarrs_metadata.specs.FillValue.{fill_data};
-ghost use Rattle.zarrs_document.specs.Members.{reads_as_text, reads_as_number, members_in, object_data, put_some};
+ghost use Rattle.zarrs_document.specs.Members.{reads_as_text, reads_as_number, members_in};
+ghost use Rattle.zarrs_document.specs.Members.{object_data, put_some};
 
 use serde_json::{Map, Value};
 use std::alloc::{AllocError, Global};
@@ -21,6 +22,9 @@ pub fn member_of<'a>(members: &'a Map<String, Value>, name: &str) -> Option<&'a 
 }
 
 /// Puts the member in, if there is one, over a member of that name.
+///
+/// # Errors
+/// `AllocError`: out of memory.
 pub fn put_member(
     members: &mut Map<String, Value>,
     alloc: Global,
@@ -85,6 +89,9 @@ pub fn is_empty(members: &Map<String, Value>) -> bool
 }
 
 /// Returns an object that has a member, as a value.
+///
+/// # Errors
+/// `AllocError`: out of memory.
 pub fn object_value(members: &Map<String, Value>) -> Result<Option<Value>, AllocError>
     ensures { IfOk result (λ v. option_map view v
         ≡ object_data (members_view members.now.entries)) }
@@ -123,6 +130,9 @@ pub fn reads_as_text(member: &Option<Value>, wanted: &str) -> bool
 }
 
 /// Reads the list of whole numbers below 2^64 that the member is.
+///
+/// # Errors
+/// `AllocError`: out of memory.
 pub fn numbers_in(alloc: Global, member: Option<Value>) -> Result<Option<Vec<u64>>, AllocError>
     ensures { IfOk result (λ o. option_map (λ v. v.items) o
         ≡ option_and_then numbers_of (option_map view member)) }

@@ -5,7 +5,9 @@ ghost use Rattle.zarrs_metadata.specs.Members.{besides};
 ghost use Rattle.zarrs_metadata.specs.Lists.{all_of};
 ghost use Rattle.zarrs_metadata.specs.Extension.{extension_of, extension_view};
 ghost use Rattle.zarrs_document.specs.Members.{list_in};
-ghost use Rattle.zarrs_document.specs.Document.{dimension_name_of, transformers_in, names_in, parts_of, document_names, is_array, draft_of, assembled, document_from, document_of};
+ghost use Rattle.zarrs_document.specs.Document.{dimension_name_of, transformers_in, names_in};
+ghost use Rattle.zarrs_document.specs.Document.{parts_of, document_names, is_array, draft_of};
+ghost use Rattle.zarrs_document.specs.Document.{assembled, document_from, document_of};
 ghost use Rattle.zarrs_document.specs.View.{name_view, document_view, parts_view, draft_view};
 
 use crate::document::{ArrayMetadataV3, DimensionName};

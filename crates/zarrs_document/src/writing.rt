@@ -4,7 +4,8 @@ ghost use Rattle.serde_json.specs.View.{view};
 ghost use Rattle.zarrs_metadata.specs.Extension.{extension_data};
 ghost use Rattle.zarrs_metadata.specs.Lists.{list_data};
 ghost use Rattle.zarrs_metadata.specs.Extension.{extension_view};
-ghost use Rattle.zarrs_document.specs.Document.{dimension_name_data, transformers_data, data_of_document};
+ghost use Rattle.zarrs_document.specs.Document.{dimension_name_data, transformers_data};
+ghost use Rattle.zarrs_document.specs.Document.{data_of_document};
 ghost use Rattle.zarrs_document.specs.View.{name_view, document_view};
 
 use crate::document::{ArrayMetadataV3, DimensionName};
