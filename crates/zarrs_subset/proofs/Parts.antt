@@ -1,11 +1,14 @@
 -- Lemmas of a part's cells that go to their places in the cells of a box.
-use Rattle.std.proofs.Common.{◌≡◌, ℕ, zero, suc, ◌+◌, ◌-◌, ◌*◌, ◌<◌, ◌≤◌, true, false, ◌&&◌, nat_lt, nat_le, min, max, List, [], ◌∷◌, length, map, slice_index, slice_get, if◌then◌else◌, Some, refl, sym, ap, ◌∙◌, arith, inl, inr}
+use Rattle.std.proofs.Common.{◌≡◌, ℕ, zero, suc, ◌+◌, ◌-◌, ◌*◌, ◌<◌, ◌≤◌, true, false, ◌&&◌, nat_lt, nat_le, min, max}
+use Rattle.std.proofs.Common.{List, [], ◌∷◌, length, map, slice_index, slice_get, if◌then◌else◌, Some, refl, sym, ap}
+use Rattle.std.proofs.Common.{◌∙◌, arith, inl, inr}
 use Rattle.std.specs.Option.{option_map}
 use Rattle.std.proofs.lemmas.Bool.{cases_Bool, and_parts, ltb-true, leb-true, false≢true}
 use Rattle.std.proofs.lemmas.Bool.Decides.{nat_tests}
 use Rattle.std.proofs.lemmas.Option.{slice_get-get_or, slice_get-map}
 use Rattle.std.proofs.lemmas.List.FromFn.{length-map-range_with_len, get_or-map-range_with_len}
-use Rattle.zarrs_subset.specs.Boxes.{position_count, place, BoxFits, in_range, is_within, moved, offset_from, zip_with, overlap_extents, MeetAlong}
+use Rattle.zarrs_subset.specs.Boxes.{position_count, place, BoxFits, in_range, is_within, moved, offset_from, zip_with}
+use Rattle.zarrs_subset.specs.Boxes.{overlap_extents, MeetAlong}
 use Rattle.zarrs_subset.specs.Cells.{BoxCopied}
 use Rattle.zarrs_subset.specs.Pieces.{piece_at, pieces}
 use Rattle.zarrs_subset.specs.Regions.{Box, IsLong, place_in, cells_over, TakesPart}

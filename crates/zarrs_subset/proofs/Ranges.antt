@@ -1,5 +1,7 @@
 -- Lemmas of the box of a list of ranges.
-use Rattle.std.proofs.Common.{◌≡◌, ℕ, zero, suc, ◌+◌, ◌-◌, ◌*◌, ◌<◌, ◌≤◌, ◌^◌, max, nat_eq, Bool, true, false, ◌||◌, List, [], ◌∷◌, length, map, drop, slice_index, slice_index_or, Option, None, Some, MatchOption, SomeIff, refl, sym, ap, ◌∙◌, arith, inl, inr}
+use Rattle.std.proofs.Common.{◌≡◌, ℕ, zero, suc, ◌+◌, ◌-◌, ◌*◌, ◌<◌, ◌≤◌, ◌^◌, max, nat_eq, Bool, true, false, ◌||◌}
+use Rattle.std.proofs.Common.{List, [], ◌∷◌, length, map, drop, slice_index, slice_index_or, Option, None, Some}
+use Rattle.std.proofs.Common.{MatchOption, SomeIff, refl, sym, ap, ◌∙◌, arith, inl, inr}
 use Rattle.std.proofs.lemmas.Bool.{or_cases, cases_eq, cases_lt, eqb-true, eqb-false}
 use Rattle.std.proofs.lemmas.List.{drop_all, get_or-map}
 use Rattle.std.specs.declared.ops.Range.{Range}

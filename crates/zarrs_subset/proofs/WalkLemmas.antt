@@ -1,5 +1,8 @@
 -- Lemmas of a walk through the positions of a box.
-use Rattle.std.proofs.Common.{◌≡◌, ℕ, zero, suc, ◌+◌, ◌-◌, ◌*◌, ◌<◌, ◌≤◌, true, false, nat_lt, nat_le, List, [], ◌∷◌, ◌++◌, length, drop, take, slice_index, Bool, is_none, if◌then◌else◌, Option, MatchOption, Some, None, add-one, refl, sym, ap, ◌∙◌, arith, SomeIndex, Result, Ok, Err, OnErr, append-nil, slice_set, inl, inr}
+use Rattle.std.proofs.Common.{◌≡◌, ℕ, zero, suc, ◌+◌, ◌-◌, ◌*◌, ◌<◌, ◌≤◌, true, false, nat_lt, nat_le, List, [], ◌∷◌}
+use Rattle.std.proofs.Common.{◌++◌, length, drop, take, slice_index, Bool, is_none, if◌then◌else◌, Option, MatchOption}
+use Rattle.std.proofs.Common.{Some, None, add-one, refl, sym, ap, ◌∙◌, arith, SomeIndex, Result, Ok, Err, OnErr}
+use Rattle.std.proofs.Common.{append-nil, slice_set, inl, inr}
 use Rattle.std.proofs.Math.Nat.{add-mul}
 use Rattle.std.specs.Bool.{OnTrue, OnFalse}
 use Rattle.std.specs.List.{refill}

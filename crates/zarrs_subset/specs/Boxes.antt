@@ -1,6 +1,7 @@
 -- Positions, boxes and their row-major order. A position is a list of numbers, one for each dimension;
 -- a box is its start and its extents, both of that length.
-use Rattle.std.specs.Prelude.{ℕ, ◌+◌, ◌-◌, ◌*◌, ◌/◌, ◌%◌, ◌<◌, ◌≤◌, Bool, true, false, ◌&&◌, List, [], ◌∷◌, map, nat_le, nat_lt, max, min, slice_index, ◌^◌, length}
+use Rattle.std.specs.Prelude.{ℕ, ◌+◌, ◌-◌, ◌*◌, ◌/◌, ◌%◌, ◌<◌, ◌≤◌, Bool, true, false, ◌&&◌, List, [], ◌∷◌, map, nat_le}
+use Rattle.std.specs.Prelude.{nat_lt, max, min, slice_index, ◌^◌, length}
 use Rattle.std.specs.List.{flat_map, range_with_len, zip}
 
 -- how many positions an array or a box has: the product of its extents

@@ -3,7 +3,7 @@ use Rattle.std.specs.Prelude.{◌≡◌, ℕ, ◌+◌, ◌*◌, ◌<◌, true, L
 use Rattle.zarrs_subset.specs.Pieces.{piece_at}
 use Rattle.zarrs_subset.specs.Boxes.{InShape, place, is_within, moved}
 
--- `new` is `old`, an array of shape `target`, but for the cells of the box of `start` and `extents`, which are those
+-- `new` is `old`, an array of shape `target`, except the cells of the box of `start` and `extents`, which are those
 -- of the array `from` of shape `source` at the box of `origin` and `extents`: byte by byte
 abbrev pub BoxCopied : ℕ → List ℕ → List ℕ → List ℕ → List ℕ → List ℕ → List ℕ → List ℕ → List ℕ → Type 0
 BoxCopied size source origin target start extents from old new =

@@ -2,7 +2,7 @@
 use Rattle.std.specs.Prelude.{ℕ, ◌+◌, ◌*◌, List, map, slice_range}
 use Rattle.std.specs.List.{range_with_len}
 
--- the piece of number k, where each has `size` bytes
+-- the piece of number k, if each has `size` bytes
 abbrev pub piece_at : ℕ → List ℕ → ℕ → List ℕ
 piece_at size bytes k = slice_range bytes (k * size) (k * size + size)
 

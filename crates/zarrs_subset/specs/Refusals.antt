@@ -1,8 +1,9 @@
--- Why a call that makes a box is refused. Where memory ran out, nothing that the arguments say refuses it.
+-- Why a call that makes a box is refused. Out of memory comes only if nothing that the arguments say is refused.
 use Rattle.std.specs.Prelude.{◌≡◌, ◌≢◌, ℕ, ◌+◌, ◌<◌, ◌≤◌, ◌^◌, List, length, slice_index, SomeIndex, EachIndex}
 use Rattle.zarrs_subset.specs.declared.error.IncompatibleDimensionalityError.{IncompatibleDimensionalityError}
 use Rattle.zarrs_subset.specs.declared.error.ArraySubsetError.{ArraySubsetError}
-use Rattle.zarrs_subset.specs.declared.error.ArraySubsetError.TheVariants.{IncompatibleDimensionality, EndOverflow, EndBelowStart, StartBelowOffset, OutOfMemory}
+use Rattle.zarrs_subset.specs.declared.error.ArraySubsetError.TheVariants.{IncompatibleDimensionality, EndOverflow}
+use Rattle.zarrs_subset.specs.declared.error.ArraySubsetError.TheVariants.{EndBelowStart, StartBelowOffset, OutOfMemory}
 
 -- the two lengths differ, and the error holds them
 abbrev pub IsMismatch : ℕ → ℕ → IncompatibleDimensionalityError → Type 0

@@ -1,11 +1,14 @@
 -- Boxes as one value, and the cells of arrays over them.
-use Rattle.std.specs.Prelude.{◌≡◌, nat_eq, ◌==◌, ◌&&◌, ℕ, ◌+◌, ◌-◌, ◌<◌, ◌≤◌, ◌^◌, Bool, true, suc, List, [], ◌∷◌, ◌++◌, codes, decimal, length, map, min, replicate, slice_index, slice_get, Option, if◌then◌else◌, refl}
+use Rattle.std.specs.Prelude.{◌≡◌, nat_eq, ◌==◌, ◌&&◌, ℕ, ◌+◌, ◌-◌, ◌<◌, ◌≤◌, ◌^◌, Bool, true, suc, List, [], ◌∷◌, ◌++◌}
+use Rattle.std.specs.Prelude.{codes, decimal, length, map, min, replicate, slice_index, slice_get, Option}
+use Rattle.std.specs.Prelude.{if◌then◌else◌, refl}
 use Rattle.std.proofs.Common.{ap}
 use Rattle.std.specs.List.{flat_map, range_with_len}
 use Rattle.std.specs.Cmp.Lexicographic.{pointwise}
 use Rattle.std.specs.declared.ops.Range.{Range}
 use Rattle.zarrs_subset.specs.declared.subset.ArraySubset.{ArraySubset}
-use Rattle.zarrs_subset.specs.Boxes.{position_count, place, is_within, offset_from, positions_from, zip_with, ends, overlap_start, overlap_extents}
+use Rattle.zarrs_subset.specs.Boxes.{position_count, place, is_within, offset_from, positions_from, zip_with, ends}
+use Rattle.zarrs_subset.specs.Boxes.{overlap_start, overlap_extents}
 use Rattle.zarrs_subset.specs.Pieces.{pieces}
 
 -- the first index of each dimension, and its extent
@@ -95,7 +98,7 @@ bound_to box end =
     let start = zip_with (λ s b. min s b) box.start end in
     record { start = start; shape = zip_with (λ e s. e - s) (zip_with (λ e b. min e b) (ends box.start box.shape) end) start }
 
--- how the range of one dimension is printed, after a comma and a blank but for the first
+-- how the range of one dimension is printed, after a comma and a blank except the first
 abbrev pub range_text : Box → ℕ → List ℕ
 range_text box k =
     let start = slice_index box.start k in
@@ -117,7 +120,7 @@ cell_in box cells position = slice_get cells (place_in box position)
 abbrev pub cells_over : ℕ → Box → List ℕ → List (List ℕ)
 cells_over size box bytes = pieces size (position_count box.shape) bytes
 
--- `new` are the cells `old` of the box, but for the positions that another box has: these have that box's cells
+-- `new` are the cells `old` of the box, except at the positions that another box has: these have that box's cells
 abbrev pub TakesPart : {X : Type 0} → Box → Box → List X → List X → List X → Type 0
 TakesPart box other part old new =
     (position : List ℕ) → Holds box position

@@ -29,7 +29,7 @@ pub AreApart-prop : (strides : List Stride) (len : ℕ) → IsProp (AreApart str
 AreApart-prop [] len = Unit-prop
 AreApart-prop (stride ∷ strides) len = ×_prop (×_prop le_prop le_prop) (AreApart-prop strides len)
 
--- `new` is `old` but for the bytes that the copy reaches, which are those of `source`
+-- `new` is `old` except the bytes that the copy reaches, which are those of `source`
 pub record RunsCopied (strides : List Stride) (len source_offset target_offset : ℕ) (source old new : List ℕ) : Type 0 where
   pub copied : (to from : ℕ) → Reaches strides len to from → slice_index new (target_offset + to) ≡ slice_index source (source_offset + from)
   pub kept : (i : ℕ) → ((to from : ℕ) → Reaches strides len to from → i ≢ target_offset + to) → slice_index new i ≡ slice_index old i

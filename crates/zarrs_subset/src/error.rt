@@ -1,4 +1,4 @@
-//! What the calls of this crate refuse.
+//! Why boxes are not made, and sizes not counted.
 
 ghost use Rattle.std.specs.Prelude.{◌≡◌};
 
@@ -14,7 +14,7 @@ pub struct IncompatibleDimensionalityError {
 }
 
 impl IncompatibleDimensionalityError {
-    /// A list of length `got` came where one of length `expected` was wanted.
+    /// A list of length `got` came; one of length `expected` was wanted.
     pub fn new(got: usize, expected: usize) -> Self
         ensures got { result.got ≡ got }
         ensures expected { result.expected ≡ expected }
@@ -52,7 +52,7 @@ pub enum ArraySubsetError {
     /// In some dimension the start lies below the offset.
     #[error("the start of the array subset lies below the offset")]
     StartBelowOffset,
-    /// There was no memory.
+    /// Out of memory.
     #[error("out of memory")]
     OutOfMemory,
 }

@@ -4,7 +4,8 @@ ghost use Rattle.std.specs.Prelude.{◌≡◌, ◌+◌, [], length, true, IfOk, 
 ghost use Rattle.std.specs.Bool.{OnTrue, OnFalse};
 ghost use Rattle.std.specs.Iterator.{item_count};
 ghost use Rattle.zarrs_subset.specs.Boxes.{position_count, EndsFit};
-ghost use Rattle.zarrs_subset.specs.Regions.{Holds, IsLong, box_from, box_of, in_box, place_in, positions};
+ghost use Rattle.zarrs_subset.specs.Regions.{Holds, IsLong, box_from, box_of, in_box, place_in};
+ghost use Rattle.zarrs_subset.specs.Regions.{positions};
 
 use crate::ArrayIndicesTinyVec;
 use crate::subset::ArraySubset;
@@ -45,9 +46,9 @@ impl<'a> PositionWalk<'a> {
     }
 }
 
-/// The positions of a box in row-major order, as [`ArraySubset::indices`] gives them.
+/// The positions of a box in row-major order, as [`ArraySubset::indices`] returns them.
 ///
-/// An item is refused if there is no memory for it, and is then the last one.
+/// An item that is refused, because out of memory, is the last one.
 #[derive(Drop)]
 pub struct Indices<'a> {
     subset: &'a ArraySubset,
@@ -76,6 +77,9 @@ impl ArraySubset {
     }
 
     /// A walk at the first position of the box, if the box has positions.
+    ///
+    /// # Errors
+    /// `AllocError`: out of memory.
     pub fn walk(&self, alloc: Global) -> Result<Option<PositionWalk<'_>>, AllocError>
         ensures none { IfOk result (λ o. MatchOption o (positions (box_of self.now) ≡ []) (λ walk. walk_box walk ≡ box_of self.now)) }
         ensures first { IfOk result (λ o. MatchOption o (positions (box_of self.now) ≡ []) (λ walk. walk_number walk ≡ 0)) }

@@ -1,7 +1,8 @@
 //! Laws of boxes, as contracts of functions that do nothing.
 ghost use Rattle.std.specs.Prelude.{◌≡◌, ◌↔◌, ℕ, List, Some, length, slice_get};
 ghost use Rattle.zarrs_subset.specs.Boxes.{offset_by};
-ghost use Rattle.zarrs_subset.specs.Regions.{Box, Holds, InBox, IsLong, LiesInShape, place_in, positions, shifted_box};
+ghost use Rattle.zarrs_subset.specs.Regions.{Box, Holds, InBox, IsLong, LiesInShape, place_in};
+ghost use Rattle.zarrs_subset.specs.Regions.{positions, shifted_box};
 
 /// The list of the positions of a box has each of them once, at its row-major number, and no others.
 pub fn positions_are_row_major()

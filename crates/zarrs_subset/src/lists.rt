@@ -1,6 +1,7 @@
 //! Lists of numbers of two arrays' coordinates, dimension by dimension.
 
-ghost use Rattle.std.specs.Prelude.{◌≡◌, ℕ, ◌+◌, ◌-◌, ◌^◌, ◌<◌, ◌≤◌, ◌↔◌, length, max, min, slice_index, IfOk, IsTrue, SomeIndex};
+ghost use Rattle.std.specs.Prelude.{◌≡◌, ℕ, ◌+◌, ◌-◌, ◌^◌, ◌<◌, ◌≤◌, ◌↔◌, length, max, min};
+ghost use Rattle.std.specs.Prelude.{slice_index, IfOk, IsTrue, SomeIndex};
 ghost use Rattle.zarrs_subset.specs.Boxes.{zip_with, ends, EndsFit};
 
 use crate::{ArrayIndices, ArrayShape};

@@ -23,7 +23,7 @@ pub fn element_count(shape: &[u64]) -> Option<u64>
 
 /// The row-major number of a position of an array of this shape.
 ///
-/// `None` where the lists differ in length, where an index is not below its extent, or where the number passes `u64`.
+/// `None` if the lists differ in length, if an index is not below its extent, or if the number passes `u64`.
 pub fn ravel_indices(indices: &[u64], shape: &[u64]) -> Option<u64>
     ensures { MatchOption result (InShape shape.now indices.now → 2 ^ 64 ≤ place shape.now indices.now)
         (λ n. InShape shape.now indices.now × (n ≡ place shape.now indices.now)) }
@@ -43,7 +43,10 @@ pub fn ravel_indices(indices: &[u64], shape: &[u64]) -> Option<u64>
 
 /// The position of that row-major number of an array of this shape.
 ///
-/// `Some` exactly where no extent is 0 and the number is below the product of the extents, which is 1 with no dimension.
+/// `Some` exactly if no extent is 0 and the number is below the product of the extents, which is 1 with no dimension.
+///
+/// # Errors
+/// `AllocError`: out of memory.
 pub fn unravel_index(
     alloc: Global,
     index: u64,

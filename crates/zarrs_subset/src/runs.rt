@@ -1,9 +1,11 @@
 //! Copies of runs of bytes that lie at equal distances, one row after another.
 
-ghost use Rattle.std.specs.Prelude.{◌≡◌, ℕ, ◌+◌, ◌-◌, ◌*◌, ◌<◌, ◌≤◌, ◌^◌, List, [], ◌∷◌, drop, length};
-ghost use Rattle.zarrs_subset.specs.Strides.{AreApart, AreApart-prop, RunsCopied, source_span, target_span};
+ghost use Rattle.std.specs.Prelude.{◌≡◌, ℕ, ◌+◌, ◌-◌, ◌*◌, ◌<◌, ◌≤◌, ◌^◌, List, [], ◌∷◌, drop};
+ghost use Rattle.std.specs.Prelude.{length};
+ghost use Rattle.zarrs_subset.specs.Strides.{AreApart, AreApart-prop, RunsCopied, source_span};
+ghost use Rattle.zarrs_subset.specs.Strides.{target_span};
 
-/// A repetition of a copy: `count` times, and each time so many bytes further in the source and in the target.
+/// A repetition of a copy: `count` times, each time one step further in the source and in the target, in bytes.
 #[derive(Clone, Copy)]
 pub(crate) struct Stride {
     pub count: usize,
@@ -26,8 +28,8 @@ const MOST_STRIDES: usize = 64;
 
 /// The copy of a box as runs of `len` bytes: each stride repeats what those after it copy.
 ///
-/// The dimensions come one after another, the last one first. Dimensions that are whole in both arrays make the runs longer, and one
-/// of extent 1 takes no stride.
+/// The dimensions come one after another, the last one first. Dimensions that are whole in both arrays make the runs
+/// longer, and one of extent 1 takes no stride.
 #[derive(Drop)]
 pub(crate) struct Runs {
     strides: [Stride; 64],
@@ -37,7 +39,7 @@ pub(crate) struct Runs {
     // Where the first run begins.
     source_offset: usize,
     target_offset: usize,
-    // How many bytes belong to one index of the next dimension.
+    // The number of bytes of one index of the next dimension.
     source_block: usize,
     target_block: usize,
     ghost within: { first ≤ 64 },
@@ -122,7 +124,7 @@ impl Runs {
     }
 }
 
-// Copies one run of `len` bytes. `N` is the length where it is known before the program runs, else 0.
+// Copies one run of `len` bytes. `N` is the length if it is known before the program runs, else 0.
 #[inline(always)]
 fn copy_run<const N: usize>(len: usize, source: &[u8], from: usize, target: &mut [u8], to: usize)
     requires known { 0 < N → len ≡ N }

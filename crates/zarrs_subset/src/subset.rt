@@ -1,8 +1,12 @@
-//! A box of positions.
+//! `ArraySubset`, a box of positions.
 
-ghost use Rattle.std.specs.Prelude.{◌≡◌, ℕ, ◌+◌, ◌*◌, ◌<◌, ◌≤◌, ◌-◌, ◌^◌, ◌↔◌, ◌&&◌, List, length, map, slice_index, max, min, Bool, IfOk, IfErr, OnOk, OnErr, IsTrue, SomeIndex, EachIndex, MatchOption, replicate, slice_get};
+ghost use Rattle.std.specs.Prelude.{◌≡◌, ℕ, ◌+◌, ◌*◌, ◌<◌, ◌≤◌, ◌-◌, ◌^◌, ◌↔◌, ◌&&◌, List, length};
+ghost use Rattle.std.specs.Prelude.{map, slice_index, max, min, Bool, IfOk, IfErr, OnOk, OnErr};
+ghost use Rattle.std.specs.Prelude.{IsTrue, SomeIndex, EachIndex, MatchOption, replicate};
+ghost use Rattle.std.specs.Prelude.{slice_get};
 ghost use Rattle.zarrs_subset.specs.Boxes.{EndsFit, ends, zip_with, position_count};
-ghost use Rattle.zarrs_subset.specs.Refusals.{IsMismatch, RefusesStartShape, RefusesStartEnd, RefusesLength, RefusesOffset, RefusesShift};
+ghost use Rattle.zarrs_subset.specs.Refusals.{IsMismatch, RefusesStartShape, RefusesStartEnd};
+ghost use Rattle.zarrs_subset.specs.Refusals.{RefusesLength, RefusesOffset, RefusesShift};
 
 use crate::error::{ArraySubsetError, IncompatibleDimensionalityError, SizeOverflow};
 use crate::lists::{distances, earlier, ends_of, extents, has_zero, later, sums};
@@ -23,9 +27,15 @@ pub struct ArraySubset {
 }
 
 impl ArraySubset {
-    ghost use Rattle.zarrs_subset.specs.Regions.{IsBox, bound_to, box_at_origin, box_between, box_from, box_of, box_of_ranges, empty_box, in_box, overlap_of, positions, seen_from, shifted_box};
+    ghost use Rattle.zarrs_subset.specs.Regions.{IsBox, bound_to, box_at_origin, box_between};
+    ghost use Rattle.zarrs_subset.specs.Regions.{box_from, box_of, box_of_ranges, empty_box};
+    ghost use Rattle.zarrs_subset.specs.Regions.{in_box, overlap_of, positions, seen_from};
+    ghost use Rattle.zarrs_subset.specs.Regions.{shifted_box};
 
     /// The empty box at the origin.
+    ///
+    /// # Errors
+    /// `AllocError`: out of memory.
     pub fn new_empty(alloc: Global, dimensionality: usize) -> Result<Self, AllocError>
         ensures { IfOk result (λ b. box_of b ≡ empty_box dimensionality) }
     {
@@ -35,6 +45,9 @@ impl ArraySubset {
     }
 
     /// The box of this shape at the origin.
+    ///
+    /// # Errors
+    /// `AllocError`: out of memory.
     pub fn new_with_shape(alloc: Global, shape: ArrayShape) -> Result<Self, AllocError>
         ensures { IfOk result (λ b. box_of b ≡ box_at_origin shape.items) }
     {
@@ -53,7 +66,8 @@ impl ArraySubset {
 
     /// The box of this start and this shape.
     ///
-    /// Refused if they differ in length, or if the end passes `u64`.
+    /// # Errors
+    /// In this order: `IncompatibleDimensionality` if they differ in length; `EndOverflow` if an end passes `u64`.
     pub fn new_with_start_shape(
         start: ArrayIndices,
         shape: ArrayShape,
@@ -75,7 +89,9 @@ impl ArraySubset {
 
     /// The box from this start up to this end, which it leaves out.
     ///
-    /// Refused if they differ in length, or if the end lies below the start.
+    /// # Errors
+    /// In this order: `IncompatibleDimensionality` if they differ in length; `EndBelowStart` if an end lies below its
+    /// start.
     pub fn new_with_start_end_exc(
         start: ArrayIndices,
         end: ArrayIndices,
@@ -99,6 +115,9 @@ impl ArraySubset {
     }
 
     /// The box of these ranges, one for each dimension. A reversed range has extent 0 and ends at its start.
+    ///
+    /// # Errors
+    /// `AllocError`: out of memory.
     pub fn new_with_ranges(alloc: Global, ranges: &[Range<u64>]) -> Result<Self, AllocError>
         ensures { IfOk result (λ b. box_of b ≡ box_of_ranges ranges.now) }
     {
@@ -147,6 +166,9 @@ impl ArraySubset {
     }
 
     /// The index after the last one of each dimension.
+    ///
+    /// # Errors
+    /// `AllocError`: out of memory.
     pub fn end_exc(&self, alloc: Global) -> Result<ArrayIndices, AllocError>
         ensures { IfOk result (λ end. end.items ≡ ends (box_of self.now).start (box_of self.now).shape) }
     {
@@ -154,6 +176,9 @@ impl ArraySubset {
     }
 
     /// The number of positions: the product of the extents.
+    ///
+    /// # Errors
+    /// `SizeOverflow` if that number passes `u64`.
     pub fn num_elements(&self) -> Result<u64, SizeOverflow>
         ensures ok { IfOk result (λ n. n ≡ position_count (box_of self.now).shape) }
         ensures refused { OnErr result (2 ^ 64 ≤ position_count (box_of self.now).shape) }
@@ -169,6 +194,9 @@ impl ArraySubset {
     }
 
     /// The position of that number in row-major order, if there is one.
+    ///
+    /// # Errors
+    /// `AllocError`: out of memory.
     pub fn position(&self, alloc: Global, number: u64) -> Result<Option<ArrayIndices>, AllocError>
         ensures { IfOk result (λ r. MatchOption r (position_count (box_of self.now).shape ≤ number)
             (λ p. slice_get (positions (box_of self.now)) number ≡ Some p.items)) }
@@ -180,6 +208,9 @@ impl ArraySubset {
     }
 
     /// The position of that number in row-major order.
+    ///
+    /// # Errors
+    /// `AllocError`: out of memory.
     pub fn nth_position(&self, alloc: Global, number: u64) -> Result<ArrayIndices, AllocError>
         requires { number < position_count (box_of self.now).shape }
         ensures { IfOk result (λ p. slice_get (positions (box_of self.now)) number ≡ Some p.items) }
@@ -190,9 +221,10 @@ impl ArraySubset {
         }
     }
 
-    /// The box of the positions that both boxes have. Where they do not meet in a dimension, its extent is 0.
+    /// The box of the positions that both boxes have. If they do not meet in a dimension, its extent is 0.
     ///
-    /// Refused if the numbers of dimensions differ.
+    /// # Errors
+    /// In this order: `IncompatibleDimensionality` if the numbers of dimensions differ; `OutOfMemory`.
     pub fn overlap<B: ArraySubsetTraits>(
         &self,
         alloc: Global,
@@ -217,7 +249,9 @@ impl ArraySubset {
 
     /// The box as it is seen from `offset`.
     ///
-    /// Refused if the numbers of dimensions differ, or if the start lies below the offset.
+    /// # Errors
+    /// In this order: `IncompatibleDimensionality` if the numbers of dimensions differ; `StartBelowOffset` if a start
+    /// lies below the offset; `OutOfMemory`.
     pub fn relative_to(
         &self,
         alloc: Global,
@@ -242,7 +276,9 @@ impl ArraySubset {
 
     /// The box with `offset` added to its start: the same positions, seen from a corner that lies `offset` before.
     ///
-    /// Refused if the numbers of dimensions differ, or if the end passes `u64`.
+    /// # Errors
+    /// In this order: `IncompatibleDimensionality` if the numbers of dimensions differ; `EndOverflow` if an end passes
+    /// `u64`; `OutOfMemory`.
     pub fn shifted_by(&self, alloc: Global, offset: &[u64]) -> Result<ArraySubset, ArraySubsetError>
         ensures value { IfOk result (λ b. box_of b ≡ shifted_box (box_of self.now) offset.now) }
         ensures dimensions { OnOk result (length offset.now ≡ length (box_of self.now).start) }
@@ -261,7 +297,8 @@ impl ArraySubset {
 
     /// The box with its start and its end cut to `end`.
     ///
-    /// Refused if the numbers of dimensions differ.
+    /// # Errors
+    /// In this order: `IncompatibleDimensionality` if the numbers of dimensions differ; `OutOfMemory`.
     pub fn bound(&self, alloc: Global, end: &[u64]) -> Result<ArraySubset, ArraySubsetError>
         ensures value { IfOk result (λ b. box_of b ≡ bound_to (box_of self.now) end.now) }
         ensures dimensions { OnOk result (length end.now ≡ length (box_of self.now).start) }

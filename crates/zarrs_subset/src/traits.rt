@@ -1,8 +1,10 @@
-//! What stands for a box.
+//! `ArraySubsetTraits`: values that stand for a box.
 
-ghost use Rattle.std.specs.Prelude.{◌≡◌, ◌-◌, ◌+◌, ◌<◌, ◌≤◌, ◌^◌, ◌↔◌, length, slice_index, IfOk, IsTrue, OnErr, MatchOption, SomeIndex};
+ghost use Rattle.std.specs.Prelude.{◌≡◌, ◌-◌, ◌+◌, ◌<◌, ◌≤◌, ◌^◌, ◌↔◌, length, slice_index, IfOk};
+ghost use Rattle.std.specs.Prelude.{IsTrue, OnErr, MatchOption, SomeIndex};
 ghost use Rattle.zarrs_subset.specs.Boxes.{ends, position_count};
-ghost use Rattle.zarrs_subset.specs.Regions.{Box, IsBox, IsLong, IsLong-ranges, LiesInShape, box_of, box_of_ranges};
+ghost use Rattle.zarrs_subset.specs.Regions.{Box, IsBox, IsLong, IsLong-ranges, LiesInShape};
+ghost use Rattle.zarrs_subset.specs.Regions.{box_of, box_of_ranges};
 
 use crate::error::SizeOverflow;
 use crate::lists::ends_of;
@@ -24,18 +26,30 @@ pub trait ArraySubsetTraits {
         ensures { result ≡ length (region self.now).start };
 
     /// The first index of each dimension.
+    ///
+    /// # Errors
+    /// `AllocError`: out of memory.
     fn start(&self, alloc: Global) -> Result<ArrayIndices, AllocError>
         ensures { IfOk result (λ start. start.items ≡ (region self.now).start) };
 
     /// The extent of each dimension.
+    ///
+    /// # Errors
+    /// `AllocError`: out of memory.
     fn shape(&self, alloc: Global) -> Result<ArrayShape, AllocError>
         ensures { IfOk result (λ shape. shape.items ≡ (region self.now).shape) };
 
     /// The index after the last one of each dimension.
+    ///
+    /// # Errors
+    /// `AllocError`: out of memory.
     fn end_exc(&self, alloc: Global) -> Result<ArrayIndices, AllocError>
         ensures { IfOk result (λ end. end.items ≡ ends (region self.now).start (region self.now).shape) };
 
     /// The number of positions: the product of the extents.
+    ///
+    /// # Errors
+    /// `SizeOverflow` if that number passes `u64`.
     fn num_elements(&self) -> Result<u64, SizeOverflow>
         ensures ok { IfOk result (λ count. count ≡ position_count (region self.now).shape) }
         ensures refused { OnErr result (2 ^ 64 ≤ position_count (region self.now).shape) }
@@ -49,6 +63,9 @@ pub trait ArraySubsetTraits {
             ≡ slice_index (region self.now).start dimension + slice_index (region self.now).shape dimension };
 
     /// The box as a subset of its own.
+    ///
+    /// # Errors
+    /// `AllocError`: out of memory.
     fn to_array_subset(&self, alloc: Global) -> Result<ArraySubset, AllocError>
         ensures { IfOk result (λ subset. box_of subset ≡ region self.now) };
 
@@ -222,14 +239,12 @@ impl<const N: usize> ArraySubsetTraits for [Range<u64>; N] {
     }
 }
 
-// The start of each range.
 fn range_starts(alloc: Global, ranges: &[Range<u64>]) -> Result<ArrayIndices, AllocError>
     ensures { IfOk result (λ starts. starts.items ≡ (box_of_ranges ranges.now).start) }
 {
     ranges.iter().map(|range| range.start).collect(alloc)
 }
 
-// The extent of each range.
 fn range_extents(alloc: Global, ranges: &[Range<u64>]) -> Result<ArrayShape, AllocError>
     ensures { IfOk result (λ extents. extents.items ≡ (box_of_ranges ranges.now).shape) }
 {
@@ -239,7 +254,7 @@ fn range_extents(alloc: Global, ranges: &[Range<u64>]) -> Result<ArrayShape, All
         .collect(alloc)
 }
 
-// The end of each range, or its start where it is reversed.
+// The end of each range, or its start if it is reversed.
 fn range_ends(alloc: Global, ranges: &[Range<u64>]) -> Result<ArrayIndices, AllocError>
     ensures { IfOk result (λ found. found.items
         ≡ ends (box_of_ranges ranges.now).start (box_of_ranges ranges.now).shape) }

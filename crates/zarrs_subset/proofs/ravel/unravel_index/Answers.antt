@@ -1,4 +1,5 @@
-use Rattle.std.proofs.Common.{arith, rules, ◌≡◌, ℕ, ◌<◌, ◌≤◌, ◌+◌, ◌-◌, ◌%◌, ◌/◌, List, Vec, length, drop, slice_index, ◌∷◌, sym, ap, ◌∙◌, SomeIndex, inl, inr}
+use Rattle.std.proofs.Common.{arith, rules, ◌≡◌, ℕ, ◌<◌, ◌≤◌, ◌+◌, ◌-◌, ◌%◌, ◌/◌, List, Vec, length, drop, slice_index}
+use Rattle.std.proofs.Common.{◌∷◌, sym, ap, ◌∙◌, SomeIndex, inl, inr}
 use Rattle.std.proofs.Math.Dec.{eqb}
 use Rattle.std.proofs.Math.Nat.{mod-eq_of_lt, div-eq_of_lt}
 use Rattle.std.proofs.lemmas.Bool.{iff_false, cases_lt}

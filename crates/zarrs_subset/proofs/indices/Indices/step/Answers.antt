@@ -6,7 +6,8 @@ use Rattle.zarrs_subset.specs.Boxes.{position_count}
 use Rattle.zarrs_subset.specs.Regions.{Holds, box_of, place_in}
 use Rattle.zarrs_subset.specs.Walks.{positions_left}
 use Rattle.zarrs_subset.proofs.Overlaps.{AllSome}
-use Rattle.zarrs_subset.proofs.WalkLemmas.{refill-same, drop-next, drop-end, positions-empty, length-positions-some, positions-first, start_within_some, on_err}
+use Rattle.zarrs_subset.proofs.WalkLemmas.{refill-same, drop-next, drop-end, positions-empty, length-positions-some}
+use Rattle.zarrs_subset.proofs.WalkLemmas.{positions-first, start_within_some, on_err}
 use Rattle.zarrs_subset.proofs.indices.Indices.step.Goals as goal
 
 pub returns-then-self-clause-some : goal.returns-then-self-clause-some

@@ -2,9 +2,13 @@ use Rattle.std.proofs.Common.{rules, arith, refl, sym, ap, ◌∙◌, ◌≡◌,
 use Rattle.std.proofs.Math.Nat.{add-mul, mul_comm, mul_assoc, mul-le-mul_left}
 use Rattle.std.proofs.lemmas.List.{drop_all}
 use Rattle.zarrs_subset.specs.Boxes.{position_count, place}
-use Rattle.zarrs_subset.proofs.PlanLemmas.{Extends, joined, pushed, single, extended_reaches, reaches_more, extended_apart, extended_source_span, extended_target_span, room_more, few_more, iff_trans, offset_more, some_more, drop-set_before}
+use Rattle.zarrs_subset.proofs.PlanLemmas.{Extends, joined, pushed, single, extended_reaches, reaches_more}
+use Rattle.zarrs_subset.proofs.PlanLemmas.{extended_apart, extended_source_span, extended_target_span, room_more}
+use Rattle.zarrs_subset.proofs.PlanLemmas.{few_more, iff_trans, offset_more, some_more, drop-set_before}
 use Rattle.zarrs_subset.proofs.runs.Runs.add.Goals as goal
-use Rattle.zarrs_subset.proofs.runs.Runs.add.Goals.{then-self-eq-MOST_STRIDES+then-self+then-self-2, else-self-eq-MOST_STRIDES+then-extent-gt1, else-self-eq-MOST_STRIDES+else-extent-gt1}
+use Rattle.zarrs_subset.proofs.runs.Runs.add.Goals.{then-self-eq-MOST_STRIDES+then-self+then-self-2}
+use Rattle.zarrs_subset.proofs.runs.Runs.add.Goals.{else-self-eq-MOST_STRIDES+then-extent-gt1}
+use Rattle.zarrs_subset.proofs.runs.Runs.add.Goals.{else-self-eq-MOST_STRIDES+else-extent-gt1}
 
 pub invariant_of-self : goal.invariant_of-self
 invariant_of-self c =
