@@ -4,7 +4,9 @@ ghost use Rattle.serde_json.specs.Data.{no_members};
 ghost use Rattle.zarrs_metadata.specs.Extension.{settings};
 ghost use Rattle.zarrs_metadata.specs.Extension.{extension_view};
 ghost use Rattle.zarrs_metadata.specs.Refusals.{RefusesMeaning};
-ghost use Rattle.zarrs_keys.specs.Metadata.{separator_in, suffix_named, suffix_in, default_of, v2_of, default_suffix_of, key_encoding_of, configured, separator_member, extension_of_encoding};
+ghost use Rattle.zarrs_keys.specs.Metadata.{separator_in, suffix_named, suffix_in, default_of};
+ghost use Rattle.zarrs_keys.specs.Metadata.{v2_of, default_suffix_of, key_encoding_of, configured};
+ghost use Rattle.zarrs_keys.specs.Metadata.{separator_member, extension_of_encoding};
 
 use crate::encodings::ChunkKeyEncoding;
 use crate::error::KeySuffixError;
@@ -120,7 +122,7 @@ impl ChunkKeyEncoding {
     ///
     /// # Errors
     /// `Other` if the metadata says none of them: for another name, a member of another shape,
-    /// and a configuration with any other member.
+    /// and a configuration with any other member. `OutOfMemory` may come at any time.
     pub fn from_metadata(
         alloc: Global,
         metadata: &MetadataV3,
@@ -139,6 +141,9 @@ impl ChunkKeyEncoding {
     }
 
     /// Returns the metadata of the encoding. The separator is always written.
+    ///
+    /// # Errors
+    /// `AllocError`: out of memory.
     pub fn metadata(&self, alloc: Global) -> Result<MetadataV3, AllocError>
         ensures written { IfOk result (λ m. extension_view m ≡ extension_of_encoding self.now) }
         ensures reads_back { IfOk result (λ m. key_encoding_of (extension_view m) ≡ Some self.now) }
