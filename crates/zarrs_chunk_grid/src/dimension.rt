@@ -3,7 +3,8 @@ ghost use Rattle.std.specs.Prelude.{◌≡◌, ℕ, ◌+◌, ◌<◌, ◌≤◌,
 ghost use Rattle.std.specs.Prelude.{IfOk, IfErr, OnOk, IfSome, IfNone};
 ghost use Rattle.std.specs.Option.{SomeIff};
 ghost use Rattle.std.specs.Int.NonZero.{non_zero_u64_get};
-ghost use Rattle.zarrs_chunk_grid.specs.Axes.{IsInterval, Covers, regular_axis, bounded_axis, sizes_axis};
+ghost use Rattle.zarrs_chunk_grid.specs.Axes.{IsInterval, Covers, regular_axis, bounded_axis};
+ghost use Rattle.zarrs_chunk_grid.specs.Axes.{sizes_axis};
 ghost use Rattle.zarrs_chunk_grid.specs.Axes.{sizes_of, ends_of_sizes};
 
 use crate::error::GridError;
@@ -87,6 +88,7 @@ impl SizeList {
     ///
     /// # Errors
     /// `UnequalExtent` if the sizes add up to more than a `u64`, so that no array has that extent.
+    /// `OutOfMemory` may come at any time.
     pub fn new(alloc: Global, sizes: Vec<NonZeroU64>) -> Result<SizeList, GridError>
         ensures same { IfOk result (λ list. sizes_in list ≡ sizes.items) }
         ensures fits { OnOk result (sum (sizes_of sizes.items) < 2 ^ 64) }
@@ -112,6 +114,9 @@ impl SizeList {
     }
 
     /// The same list.
+    ///
+    /// # Errors
+    /// `AllocError`: out of memory.
     pub fn try_clone(&self, alloc: Global) -> Result<SizeList, AllocError>
         ensures { IfOk result (λ copy. sizes_in copy ≡ sizes_in self.now) }
     {
@@ -176,6 +181,9 @@ impl ChunkSizes {
     ghost use Rattle.zarrs_chunk_grid.specs.Configurations.{axis_of, fills, count_of, sizes_view};
 
     /// The same sizes.
+    ///
+    /// # Errors
+    /// `AllocError`: out of memory.
     pub fn try_clone(&self, alloc: Global) -> Result<ChunkSizes, AllocError>
         ensures { IfOk result (λ copy. sizes_view copy ≡ sizes_view self.now) }
     {
@@ -185,7 +193,7 @@ impl ChunkSizes {
         }
     }
 
-    /// How many chunks the extent takes, or `None` if the sizes do not add up to it.
+    /// The number of chunks that the extent takes, or `None` if the sizes do not add up to it.
     pub(crate) fn count(&self, extent: u64) -> Option<u64>
         ensures { SomeIff result (fills (sizes_view self.now) extent ≡ true)
             (count_of (sizes_view self.now) extent) }

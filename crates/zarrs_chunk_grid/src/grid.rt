@@ -52,6 +52,9 @@ impl ChunkGrid {
     ghost use Rattle.zarrs_chunk_grid.specs.GridView.{configuration_of};
 
     /// The same grid.
+    ///
+    /// # Errors
+    /// `AllocError`: out of memory.
     pub fn try_clone(&self, alloc: Global) -> Result<ChunkGrid, AllocError>
         ensures configuration { IfOk result (λ g. configuration_of g ≡ configuration_of self.now) }
         ensures grid { IfOk result (λ g. ⟦<ChunkGrid as ChunkGridTraits>⟧.grid g
@@ -72,11 +75,15 @@ impl ChunkGrid {
 }
 
 impl ChunkGridTraits for ChunkGrid {
-    ghost use Rattle.zarrs_chunk_grid.specs.declared.grid.ChunkGrid.TheVariants.{Regular, RegularBounded, Rectangular};
-    ghost use Rattle.zarrs_chunk_grid.specs.GridLaws.{regular_lawful, bounded_lawful, rectangular_lawful};
+    ghost use Rattle.zarrs_chunk_grid.specs.declared.grid.ChunkGrid.TheVariants.{Regular};
+    ghost use Rattle.zarrs_chunk_grid.specs.declared.grid.ChunkGrid.TheVariants.{RegularBounded};
+    ghost use Rattle.zarrs_chunk_grid.specs.declared.grid.ChunkGrid.TheVariants.{Rectangular};
+    ghost use Rattle.zarrs_chunk_grid.specs.GridLaws.{regular_lawful, bounded_lawful};
+    ghost use Rattle.zarrs_chunk_grid.specs.GridLaws.{rectangular_lawful};
     ghost use Rattle.zarrs_chunk_grid.specs.Configurations.{grid_of};
     ghost use Rattle.zarrs_chunk_grid.specs.Metadata.{extension_of_grid};
-    ghost use Rattle.zarrs_chunk_grid.specs.GridView.{configuration_of, array_extents_of, grid_extents_of};
+    ghost use Rattle.zarrs_chunk_grid.specs.GridView.{configuration_of, array_extents_of};
+    ghost use Rattle.zarrs_chunk_grid.specs.GridView.{grid_extents_of};
 
     ghost array_extents = { array_extents_of };
 

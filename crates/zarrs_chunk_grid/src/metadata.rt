@@ -33,7 +33,7 @@ impl ChunkGrid {
     ///
     /// # Errors
     /// `Other` for another name or configuration, a list of another length than the shape, a size that is no whole
-    /// number from 1 to 2^64 - 1, and listed sizes whose sum is not the extent.
+    /// number from 1 to 2^64 - 1, and listed sizes whose sum is not the extent. `OutOfMemory` may come at any time.
     pub fn from_metadata(
         alloc: Global,
         metadata: &MetadataV3,

@@ -32,6 +32,10 @@ impl RectangularChunkGrid {
     ghost use Rattle.zarrs_chunk_grid.specs.declared.grid.ChunkGrid.TheVariants.{Rectangular};
 
     /// The grid of these sizes, one entry for each dimension, over an array of that shape.
+    ///
+    /// # Errors
+    /// In this order: `IncompatibleDimensionality` for another number of entries than dimensions;
+    /// `UnequalExtent` for listed sizes that do not add up to the extent, or `OutOfMemory`.
     pub fn new(
         alloc: Global,
         array_shape: ArrayShape,
@@ -68,6 +72,9 @@ impl RectangularChunkGrid {
     }
 
     /// The same grid.
+    ///
+    /// # Errors
+    /// `AllocError`: out of memory.
     pub fn try_clone(&self, alloc: Global) -> Result<Self, AllocError>
         ensures configuration { IfOk result
             (λ g. configuration_of (Rectangular g) ≡ configuration_of (Rectangular self.now)) }

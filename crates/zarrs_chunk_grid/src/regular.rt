@@ -1,11 +1,13 @@
 //! The grids of chunks of one shape: `regular` and `regular_bounded`.
-ghost use Rattle.std.specs.Prelude.{◌≡◌, ℕ, ◌<◌, ◌^◌, length, map, slice_index, true, IfOk, IfErr, OnOk};
+ghost use Rattle.std.specs.Prelude.{◌≡◌, ℕ, ◌<◌, ◌^◌, length, map, slice_index, true, IfOk, IfErr};
+ghost use Rattle.std.specs.Prelude.{OnOk};
 ghost use Rattle.std.specs.List.{zip};
 ghost use Rattle.std.specs.Int.{div_ceil};
 ghost use Rattle.std.specs.Int.NonZero.{non_zero_u64_get};
 ghost use Rattle.zarrs_chunk_grid.specs.Axes.{sizes_of};
 ghost use Rattle.zarrs_chunk_grid.specs.Configurations.{bounded, regular};
-ghost use Rattle.zarrs_chunk_grid.specs.Configurations.{chunk_counts, counts_of, grid_of, takes_shape};
+ghost use Rattle.zarrs_chunk_grid.specs.Configurations.{chunk_counts, counts_of, grid_of};
+ghost use Rattle.zarrs_chunk_grid.specs.Configurations.{takes_shape};
 ghost use Rattle.zarrs_chunk_grid.specs.GridLaws.{bounded_lawful, regular_lawful};
 ghost use Rattle.zarrs_chunk_grid.specs.Metadata.{extension_of_grid};
 ghost use Rattle.zarrs_chunk_grid.specs.Refusals.{RefusesGrid};
@@ -36,6 +38,9 @@ impl RegularChunkGrid {
     ghost use Rattle.zarrs_chunk_grid.specs.declared.grid.ChunkGrid.TheVariants.{Regular};
 
     /// The grid of chunks of this shape over an array of that shape.
+    ///
+    /// # Errors
+    /// In this order: `IncompatibleDimensionality` if the shapes differ in length; `OutOfMemory`.
     pub fn new(
         alloc: Global,
         array_shape: ArrayShape,
@@ -64,6 +69,9 @@ impl RegularChunkGrid {
     }
 
     /// The same grid.
+    ///
+    /// # Errors
+    /// `AllocError`: out of memory.
     pub fn try_clone(&self, alloc: Global) -> Result<Self, AllocError>
         ensures configuration { IfOk result
             (λ g. configuration_of (Regular g) ≡ configuration_of (Regular self.now)) }
@@ -133,6 +141,9 @@ impl RegularBoundedChunkGrid {
     ghost use Rattle.zarrs_chunk_grid.specs.declared.grid.ChunkGrid.TheVariants.{RegularBounded};
 
     /// The grid of chunks of this shape over an array of that shape.
+    ///
+    /// # Errors
+    /// In this order: `IncompatibleDimensionality` if the shapes differ in length; `OutOfMemory`.
     pub fn new(
         alloc: Global,
         array_shape: ArrayShape,
@@ -163,6 +174,9 @@ impl RegularBoundedChunkGrid {
     }
 
     /// The same grid.
+    ///
+    /// # Errors
+    /// `AllocError`: out of memory.
     pub fn try_clone(&self, alloc: Global) -> Result<Self, AllocError>
         ensures configuration { IfOk result
             (λ g. configuration_of (RegularBounded g)
