@@ -1,5 +1,6 @@
 -- Fill values that metadata says.
-use Rattle.std.proofs.Common.{◌≡◌, ℕ, ◌+◌, ◌-◌, ◌<◌, Bool, true, false, cond, eqb, ltb, List, [], ◌∷◌, ◌++◌, length, get_or, take, Option, None, Some, refl, sym, ap, ◌∙◌, subst, arith, length-append}
+use Rattle.std.proofs.Common.{◌≡◌, ℕ, ◌+◌, ◌-◌, ◌<◌, Bool, true, false, cond, eqb, ltb, List, [], ◌∷◌, ◌++◌, length}
+use Rattle.std.proofs.Common.{get_or, take, Option, None, Some, refl, sym, ap, ◌∙◌, subst, arith, length-append}
 use Rattle.std.specs.Prelude.{ℤ, pos, negsuc, IsSome, option_map, option_and_then, ◌&&◌}
 use Rattle.std.specs.Int.{w8, w16, w32, w64, cast_unsigned, to_le_bytes, from_bool}
 use Rattle.std.specs.List.{list_all}
@@ -14,7 +15,8 @@ use Rattle.zarrs_metadata.specs.Lists.{number_of}
 use Rattle.zarrs_types.specs.Kind.{Kind}
 use Rattle.zarrs_types.specs.Kind as type
 use Rattle.zarrs_types.specs.Cell.{Cell, bytes, none, some, is_element, fill_cell, inner_fill}
-use Rattle.zarrs_types.specs.FillMetadata.{unsigned_said, signed_said, bytes_said, sized_said, text_said, element_said, sole_item, fill_said}
+use Rattle.zarrs_types.specs.FillMetadata.{unsigned_said, signed_said, bytes_said, sized_said, text_said, element_said}
+use Rattle.zarrs_types.specs.FillMetadata.{sole_item, fill_said}
 
 -- what holds of each image holds of the image that is there
 image : {A : Type 0} (g : A → List ℕ) (P : List ℕ → Type 0) → ((a : A) → P (g a)) → (o : Option A) (f : List ℕ) → option_map g o ≡ Some f → P f

@@ -1,5 +1,7 @@
 -- The data type that metadata says.
-use Rattle.std.proofs.Common.{◌≡◌, ℕ, zero, suc, ◌*◌, ◌<◌, ◌≤◌, Bool, true, false, cond, ltb, leb, max, Ordering, Less, Equal, Greater, nat_cmp, List, [], ◌∷◌, Option, None, Some, refl, sym, ap, ◌∙◌, subst, arith}
+use Rattle.std.proofs.Common.{◌≡◌, ℕ, zero, suc, ◌*◌, ◌<◌, ◌≤◌, Bool, true, false, cond, ltb, leb, max, Ordering, Less}
+use Rattle.std.proofs.Common.{Equal, Greater, nat_cmp, List, [], ◌∷◌, Option, None, Some, refl, sym, ap, ◌∙◌, subst}
+use Rattle.std.proofs.Common.{arith}
 use Rattle.std.specs.Prelude.{codes, option_map, option_and_then, unwrap_or, ◌&&◌}
 use Rattle.std.specs.Fmt.{decimal}
 use Rattle.std.specs.Ordering.{match_ordering}
@@ -11,7 +13,9 @@ use Rattle.zarrs_metadata.specs.Extension.{ExtensionData, settings}
 use Rattle.zarrs_metadata.specs.Members.{has_only}
 use Rattle.zarrs_types.specs.Kind.{Kind}
 use Rattle.zarrs_types.specs.Kind as type
-use Rattle.zarrs_types.specs.TypeMetadata.{raw_size, number_said, size_of_bits, plain_kind, is_optional_name, configuration_said, inner_extension, kind_within, levels_in, kind_of, inner_members, kind_extension, is_readable}
+use Rattle.zarrs_types.specs.TypeMetadata.{raw_size, number_said, size_of_bits, plain_kind, is_optional_name}
+use Rattle.zarrs_types.specs.TypeMetadata.{configuration_said, inner_extension, kind_within, levels_in, kind_of}
+use Rattle.zarrs_types.specs.TypeMetadata.{inner_members, kind_extension, is_readable}
 use Rattle.zarrs_types.proofs.TypeNames.{number_said-decimal, size_of_bits-times}
 
 -- a member nests no deeper than all members

@@ -1,5 +1,6 @@
 -- Values of types.
-use Rattle.std.proofs.Common.{◌≡◌, ℕ, Bool, true, false, cond, List, [], ◌∷◌, Option, None, Some, Result, Ok, Err, MatchResult, is_ok, refl, sym, ap, ◌∙◌, subst}
+use Rattle.std.proofs.Common.{◌≡◌, ℕ, Bool, true, false, cond, List, [], ◌∷◌, Option, None, Some, Result, Ok, Err}
+use Rattle.std.proofs.Common.{MatchResult, is_ok, refl, sym, ap, ◌∙◌, subst}
 use Rattle.std.specs.Prelude.{IsSome, length, max, option_map, unwrap_or}
 use Rattle.zarrs_types.proofs.Sizes.{held_size-inner}
 use Rattle.zarrs_types.specs.Kind.{Kind, cell_size, is_variable, inner_of}

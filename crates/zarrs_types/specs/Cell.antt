@@ -1,5 +1,6 @@
 -- Cells, and which of them are values of a type.
-use Rattle.std.specs.Prelude.{ℕ, ◌-◌, Bool, true, false, Option, None, Some, List, [], ◌∷◌, ◌++◌, length, take, ◌==◌, ◌&&◌, nat_lt, max, slice_index, is_some, option_map, unwrap_or, if◌then◌else◌}
+use Rattle.std.specs.Prelude.{ℕ, ◌-◌, Bool, true, false, Option, None, Some, List, [], ◌∷◌, ◌++◌, length, take, ◌==◌}
+use Rattle.std.specs.Prelude.{◌&&◌, nat_lt, max, slice_index, is_some, option_map, unwrap_or, if◌then◌else◌}
 use Rattle.std.specs.List.{list_all}
 use Rattle.std.specs.Str.{is_utf8, bytes_eq}
 use Rattle.zarrs_types.specs.Kind.{Kind, element_size, cell_size, inner_of}
@@ -35,11 +36,11 @@ is_value k (some c) = elim (inner_of k) [ None ↦ false | Some inner ↦ is_val
 abbrev pub are_values : Kind → List Cell → Bool
 are_values k cs = list_all (λ c. is_value k c) cs
 
--- the cells, where each is a value of the type
+-- the cells, if each is a value of the type
 abbrev pub values_only : Kind → List Cell → Option (List Cell)
 values_only k cs = if are_values k cs then Some cs else None
 
--- whether each of these bytes may stand in a cell of the type: for bool 0 and 1
+-- whether a cell of the type may hold each of these bytes: for bool 0 and 1
 abbrev pub may_hold : Kind → List ℕ → Bool
 may_hold type.bool b = list_all (λ x. nat_lt x 2) b
 may_hold _ b = true
@@ -62,7 +63,8 @@ inner_fill f =
     if nat_lt 0 (length f) && (slice_index f (length f - 1) == 1) then Some (take (length f - 1) f)
     else None
 
--- the cell of these bytes of a fill value: for an optional type the inner bytes and then 1 are some, and the one byte 0 is none
+-- the cell of these bytes of a fill value: for an optional type the inner bytes and then 1 are some, and the one byte 0
+-- is none
 abbrev pub fill_cell : Kind → List ℕ → Option Cell
 fill_cell (type.optional inner) f = elim (inner_fill f) [
   | None ↦ if bytes_eq f (0 ∷ []) then Some none else None

@@ -1,5 +1,7 @@
 -- Fill values as metadata says them.
-use Rattle.std.specs.Prelude.{ℕ, ℤ, pos, negsuc, int_le, nat_lt, nat_le, ◌==◌, ◌&&◌, List, [], ◌∷◌, ◌++◌, length, slice_index, Bool, true, false, if◌then◌else◌, Option, None, Some, option_map, option_and_then}
+use Rattle.std.specs.Prelude.{ℕ, ℤ, pos, negsuc, int_le, nat_lt, nat_le, ◌==◌, ◌&&◌, List, [], ◌∷◌, ◌++◌, length}
+use Rattle.std.specs.Prelude.{slice_index, Bool, true, false, if◌then◌else◌, Option, None, Some, option_map}
+use Rattle.std.specs.Prelude.{option_and_then}
 use Rattle.std.specs.Int.{w8, w16, w32, w64, cast_unsigned, cast_signed, to_le_bytes, from_le_bytes, from_bool}
 use Rattle.std.specs.List.{list_all}
 use Rattle.std.specs.Str.{is_utf8}
@@ -24,7 +26,7 @@ signed_said low high d = option_and_then (λ z. if int_le low z && int_le z high
 abbrev pub bytes_said : Data → Option (List ℕ)
 bytes_said d = option_and_then (λ b. if list_all (λ x. nat_lt x 256) b then Some b else None) (numbers_of d)
 
--- a list of so many bytes
+-- a list of `size` bytes
 abbrev pub sized_said : ℕ → Data → Option (List ℕ)
 sized_said size d = option_and_then (λ b. if length b == size then Some b else None) (bytes_said d)
 
@@ -53,7 +55,8 @@ sole_item no_items = None
 sole_item (item d no_items) = Some d
 sole_item (item d (item e ds)) = None
 
--- the bytes of the fill value that a JSON value says: for an optional type null is none, and a list of one value is some of what it says
+-- the bytes of the fill value that a JSON value says: for an optional type null is none, and a list of one value is
+-- some of what it says
 abbrev pub fill_said : Kind → Data → Option (List ℕ)
 fill_said (type.optional inner) null = Some (0 ∷ [])
 fill_said (type.optional inner) (array ds) = option_and_then (λ d. option_map (λ b. b ++ 1 ∷ []) (fill_said inner d)) (sole_item ds)

@@ -1,5 +1,6 @@
 -- The metadata of data types: what is read from it, and what is written for one.
-use Rattle.std.specs.Prelude.{ℕ, zero, suc, ◌*◌, ◌/◌, ◌%◌, ◌^◌, nat_lt, nat_le, ◌==◌, ◌&&◌, ◌||◌, List, [], ◌∷◌, Bool, true, false, codes, if◌then◌else◌, Option, None, Some, option_map, option_and_then}
+use Rattle.std.specs.Prelude.{ℕ, zero, suc, ◌*◌, ◌/◌, ◌%◌, ◌^◌, nat_lt, nat_le, ◌==◌, ◌&&◌, ◌||◌, List, [], ◌∷◌, Bool}
+use Rattle.std.specs.Prelude.{true, false, codes, if◌then◌else◌, Option, None, Some, option_map, option_and_then}
 use Rattle.std.specs.Fmt.{decimal}
 use Rattle.std.specs.Str.{bytes_eq}
 use Rattle.std.specs.Str.Parse.{digits_value}
@@ -17,7 +18,7 @@ abbrev pub number_said : List ℕ → Option ℕ
 number_said text =
     if nat_lt (digits_value 10 text) (2 ^ 32) && bytes_eq (decimal (digits_value 10 text)) text then Some (digits_value 10 text) else None
 
--- the size in bytes of so many bits: a whole number of bytes from 1 to 65,536
+-- the size in bytes of this number of bits: a whole number of bytes from 1 to 65,536
 abbrev pub size_of_bits : ℕ → Option ℕ
 size_of_bits bits = if (bits % 8 == 0) && (nat_lt 0 bits && nat_le bits 524288) then Some (bits / 8) else None
 
@@ -58,7 +59,8 @@ inner_extension ms =
       c ← configuration_said (get_member (codes "configuration") ms)
       Some (record { name = n; configuration = c; must_understand = true })) else None
 
--- the type that an extension point says, within so many levels of types; one that is not optional has no configuration
+-- the type that an extension point says, within this number of levels of types; one that is not optional has no
+-- configuration
 abbrev pub kind_within : ℕ → ExtensionData → Option Kind
 kind_within zero e = None
 kind_within (suc levels) e =

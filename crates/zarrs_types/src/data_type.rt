@@ -1,7 +1,9 @@
 //! The types of the cells of an array.
 ghost use Rattle.std.specs.Prelude.{◌≡◌, IfOk, IsSome, is_some, option_map};
-ghost use Rattle.zarrs_types.specs.Cell.{is_element, fill_cell, fill_of, held_size, takes_any_bytes};
-ghost use Rattle.zarrs_types.specs.Kind.{kind, cell_size, element_size, fixed_size, inner_of, is_variable};
+ghost use Rattle.zarrs_types.specs.Cell.{is_element, fill_cell, fill_of, held_size};
+ghost use Rattle.zarrs_types.specs.Cell.{takes_any_bytes};
+ghost use Rattle.zarrs_types.specs.Kind.{kind, cell_size, element_size, fixed_size, inner_of};
+ghost use Rattle.zarrs_types.specs.Kind.{is_variable};
 ghost use Rattle.zarrs_types.specs.Kind as type;
 ghost use Rattle.zarrs_types.specs.Same.{kind_eq, type_eq, type_eq-laws, type_eq-equivalence};
 
@@ -42,6 +44,9 @@ pub enum DataType {
 
 impl DataType {
     /// The same type.
+    ///
+    /// # Errors
+    /// `AllocError`: out of memory.
     pub fn try_clone(&self, alloc: Global) -> Result<DataType, AllocError>
         ensures { IfOk result (λ copy. kind copy ≡ kind self.now) }
     {

@@ -1,5 +1,6 @@
 //! Fill values as metadata says them, both ways.
-ghost use Rattle.std.specs.Prelude.{◌≡◌, [], ◌∷◌, ◌++◌, true, Some, None, nat_lt, length, option_map, if◌then◌else◌, IfOk, IfErr, IsSome};
+ghost use Rattle.std.specs.Prelude.{◌≡◌, [], ◌∷◌, ◌++◌, true, Some, None, nat_lt, length};
+ghost use Rattle.std.specs.Prelude.{option_map, if◌then◌else◌, IfOk, IfErr, IsSome};
 ghost use Rattle.std.specs.Int.{w16, w32, w64, from_le_bytes};
 ghost use Rattle.std.specs.List.{list_all};
 ghost use Rattle.std.specs.Str.{is_utf8};
@@ -9,7 +10,8 @@ ghost use Rattle.zarrs_metadata.specs.FillValue.{fill_data};
 ghost use Rattle.zarrs_metadata.specs.Lists.{numbers_data};
 ghost use Rattle.zarrs_types.specs.Cell.{fill_cell, is_element};
 ghost use Rattle.zarrs_types.specs.Fills.{RefusesFillMetadata, RefusesFill};
-ghost use Rattle.zarrs_types.specs.FillMetadata.{bytes_said, sized_said, text_said, element_said, sole_item, fill_said, element_data, fill_written};
+ghost use Rattle.zarrs_types.specs.FillMetadata.{bytes_said, sized_said, text_said, element_said};
+ghost use Rattle.zarrs_types.specs.FillMetadata.{sole_item, fill_said, element_data, fill_written};
 ghost use Rattle.zarrs_types.specs.Kind.{kind};
 ghost use Rattle.zarrs_types.specs.Kind as type;
 
@@ -20,7 +22,6 @@ use serde_json::Value;
 use std::alloc::{AllocError, Global};
 use zarrs_metadata::{FillValueMetadata, numbers, numbers_value};
 
-/// Returns these bytes.
 fn made(alloc: Global, bytes: &[u8]) -> Result<Option<Vec<u8>>, AllocError>
     ensures { IfOk result (λ made. option_map (λ b. b.items) made ≡ Some bytes.now) }
 {
@@ -367,7 +368,7 @@ impl DataType {
     /// string; for an optional type null for none, and a list of one value of the inner type for some.
     ///
     /// # Errors
-    /// `Invalid` if it says no value of this type.
+    /// `Invalid` if it says no value of this type. `OutOfMemory` may come at any time.
     pub fn fill_value_v3(
         &self,
         alloc: Global,
@@ -388,7 +389,7 @@ impl DataType {
     /// Returns the metadata of a fill value.
     ///
     /// # Errors
-    /// `Invalid` if it is no value of this type.
+    /// In this order: `Invalid` if it is no value of this type; `OutOfMemory`.
     pub fn metadata_fill_value(
         &self,
         alloc: Global,

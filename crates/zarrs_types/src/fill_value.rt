@@ -40,6 +40,9 @@ impl FillValue {
     }
 
     /// The same fill value.
+    ///
+    /// # Errors
+    /// `AllocError`: out of memory.
     pub fn try_clone(&self, alloc: Global) -> Result<FillValue, AllocError>
         ensures { IfOk result (λ copy. copy ≡ self.now) }
     {

@@ -1,5 +1,6 @@
 //! The metadata of data types, both ways.
-ghost use Rattle.std.specs.Prelude.{◌≡◌, ◌*◌, [], ◌∷◌, None, option_and_then, if◌then◌else◌, Some, option_map, string_bytes, true, decimal, IfOk, IfErr};
+ghost use Rattle.std.specs.Prelude.{◌≡◌, ◌*◌, [], ◌∷◌, None, option_and_then, if◌then◌else◌, Some};
+ghost use Rattle.std.specs.Prelude.{option_map, string_bytes, true, decimal, IfOk, IfErr};
 ghost use Rattle.std.specs.Int.NonZero.{non_zero_usize_get};
 ghost use Rattle.serde_json.specs.Data.{no_members};
 ghost use Rattle.serde_json.specs.View.{members_view};
@@ -7,7 +8,10 @@ ghost use Rattle.zarrs_metadata.specs.Extension.{extension_view, settings};
 ghost use Rattle.zarrs_metadata.specs.Refusals.{RefusesMeaning};
 ghost use Rattle.zarrs_types.specs.Kind.{kind, optional};
 ghost use Rattle.zarrs_metadata.specs.Members.{has_only};
-ghost use Rattle.zarrs_types.specs.TypeMetadata.{is_optional_name, inner_members, number_said, size_of_bits, raw_size, plain_kind, inner_extension, kind_of, kind_name, kind_extension, is_readable};
+ghost use Rattle.zarrs_types.specs.TypeMetadata.{is_optional_name, inner_members, number_said};
+ghost use Rattle.zarrs_types.specs.TypeMetadata.{size_of_bits, raw_size, plain_kind};
+ghost use Rattle.zarrs_types.specs.TypeMetadata.{inner_extension, kind_of, kind_name};
+ghost use Rattle.zarrs_types.specs.TypeMetadata.{kind_extension, is_readable};
 
 use crate::data_type::DataType;
 use itoa::Buffer;
@@ -30,7 +34,7 @@ fn number_said(text: &str) -> Option<u32>
     }
 }
 
-/// Returns the size in bytes of so many bits, if a raw type may have it.
+/// Returns the size in bytes of this number of bits, if a raw type may have it.
 fn size_of_bits(bits: u32) -> Option<NonZeroUsize>
     ensures { option_map non_zero_usize_get result ≡ size_of_bits bits }
 {
@@ -82,7 +86,6 @@ fn plain_type(name: &str) -> Option<DataType>
     }
 }
 
-/// Returns a copy of the members.
 fn copied(members: &Map<String, Value>) -> Result<Map<String, Value>, AllocError>
     ensures { IfOk result (λ copy. members_view copy.entries ≡ members_view members.now.entries) }
 {
@@ -160,7 +163,7 @@ impl DataType {
     ///
     /// # Errors
     /// `Other` if the metadata says none of them: for another name, a raw type whose bits are no multiple of 8 or are
-    /// more than 524,288, and a configuration with any other member.
+    /// more than 524,288, and a configuration with any other member. `OutOfMemory` may come at any time.
     pub fn from_metadata(
         alloc: Global,
         metadata: &MetadataV3,
@@ -177,6 +180,9 @@ impl DataType {
     }
 
     /// Returns its V3 name, as `uint8`, `r16` or `zarrs.optional`.
+    ///
+    /// # Errors
+    /// `AllocError`: out of memory.
     pub fn name_v3(&self, alloc: Global) -> Result<String, AllocError>
         ensures { IfOk result (λ name. string_bytes name ≡ kind_name (kind self.now)) }
     {
@@ -198,6 +204,9 @@ impl DataType {
     }
 
     /// Returns its metadata. It reads as this type again, unless it is or holds a raw type of more than 65,536 bytes.
+    ///
+    /// # Errors
+    /// `AllocError`: out of memory.
     pub fn metadata(&self, alloc: Global) -> Result<MetadataV3, AllocError>
         ensures written { IfOk result (λ m. extension_view m ≡ kind_extension (kind self.now)) }
         ensures reads_back { is_readable (kind self.now) ≡ true
