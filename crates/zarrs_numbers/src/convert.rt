@@ -6,6 +6,9 @@ use crate::whole_number::WholeNumber;
 use std::alloc::{AllocError, Global};
 
 /// The numbers of these bytes.
+///
+/// # Errors
+/// `AllocError`: out of memory.
 pub fn convert_from_bytes_slice<T: WholeNumber>(
     alloc: Global,
     bytes: &[u8],
@@ -17,6 +20,9 @@ pub fn convert_from_bytes_slice<T: WholeNumber>(
 }
 
 /// The numbers of these bytes.
+///
+/// # Errors
+/// `AllocError`: out of memory.
 pub fn transmute_from_bytes_vec<T: WholeNumber>(
     alloc: Global,
     bytes: Vec<u8>,
@@ -28,6 +34,9 @@ pub fn transmute_from_bytes_vec<T: WholeNumber>(
 }
 
 /// The bytes of these numbers.
+///
+/// # Errors
+/// `AllocError`: out of memory.
 pub fn convert_to_bytes_vec<T: WholeNumber>(
     alloc: Global,
     numbers: &[T],
@@ -38,6 +47,9 @@ pub fn convert_to_bytes_vec<T: WholeNumber>(
 }
 
 /// The bytes of these numbers.
+///
+/// # Errors
+/// `AllocError`: out of memory.
 pub fn transmute_to_bytes_vec<T: WholeNumber>(
     alloc: Global,
     numbers: Vec<T>,
@@ -48,6 +60,9 @@ pub fn transmute_to_bytes_vec<T: WholeNumber>(
 }
 
 /// The bytes of these numbers.
+///
+/// # Errors
+/// `AllocError`: out of memory.
 pub fn transmute_to_bytes<T: WholeNumber>(
     alloc: Global,
     numbers: &[T],

@@ -14,14 +14,20 @@ pub trait WholeNumber: Copy + Drop {
     // Its bytes, the lowest first.
     ghost le_bytes: { Self → List ℕ };
 
-    // Each number has so many bytes.
+    // Each number has `size` bytes.
     ghost sized: { (number : Self) → length (le_bytes number) ≡ size };
 
     /// The bytes of the numbers, one after another.
+    ///
+    /// # Errors
+    /// `AllocError`: out of memory.
     fn to_bytes(alloc: Global, numbers: &[Self]) -> Result<Vec<u8>, AllocError>
         ensures { IfOk result (λ made. made.items ≡ flat_map le_bytes numbers.now) };
 
     /// The numbers of these bytes.
+    ///
+    /// # Errors
+    /// `AllocError`: out of memory.
     fn from_bytes(alloc: Global, bytes: &[u8]) -> Result<Vec<Self>, AllocError>
         requires { length bytes.now % size ≡ 0 }
         ensures { IfOk result (λ made. flat_map Self.le_bytes made.items ≡ bytes.now) };
