@@ -13,7 +13,7 @@ pub record LiesInBox (box other : Box) : Type 0 where
 abbrev pub string_at : Box → List (List ℕ) → List ℕ → List ℕ
 string_at box strings position = slice_index_or strings (place_in box position) []
 
--- the byte string that `part` has at the position, where `other` has the position, and else the old one
+-- the byte string that `part` has at the position, if `other` has the position, and else the old one
 abbrev pub string_taken : Box → Box → List (List ℕ) → List (List ℕ) → List ℕ → List ℕ
 string_taken box other part old position =
     if in_box other position then string_at other part position else string_at box old position

@@ -50,6 +50,9 @@ fn number_in(subset: &ArraySubset, position: &[u64]) -> Option<u64>
 }
 
 /// The byte strings at the positions of `subset`, of an array over `held_box`.
+///
+/// # Errors
+/// `AllocError`: out of memory.
 pub fn extract_strings(
     alloc: Global,
     strings: &ArrayBytesVariableLength<'_>,
@@ -94,6 +97,9 @@ fn push_at(
 }
 
 /// These byte strings, an array over `held_box`, with those of `part` at the positions that both boxes have.
+///
+/// # Errors
+/// `AllocError`: out of memory.
 pub fn strings_with_part(
     alloc: Global,
     held: ArrayBytesVariableLength<'static>,
@@ -114,7 +120,7 @@ pub fn strings_with_part(
     merged_strings(alloc, &held, held_box, part, part_box)
 }
 
-/// The same, where the part is not empty.
+/// The same, if the part is not empty.
 fn merged_strings(
     alloc: Global,
     held: &ArrayBytesVariableLength<'_>,
@@ -146,8 +152,8 @@ fn merged_strings(
     }
 }
 
-/// Puts a byte string behind the others: that of `part` at the position, if its box has it, or else the held one of this
-/// number.
+/// Puts a byte string behind the others: that of `part` at the position, if its box has it, or else the held one of
+/// this number.
 #[inline]
 fn push_taken(
     builder: &mut VariableLengthBuilder,

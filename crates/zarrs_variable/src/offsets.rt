@@ -30,7 +30,8 @@ impl<'a> ArrayBytesOffsets<'a> {
     /// These offsets.
     ///
     /// # Errors
-    /// There is no offset, the first one is not 0, or one is below the one before it.
+    /// `ExpectedVariableLengthBytesError`: there is no offset, the first one is not 0, or one is below the one before
+    /// it.
     pub fn new(
         offsets: CowSlice<'a, usize>,
     ) -> Result<ArrayBytesOffsets<'a>, ExpectedVariableLengthBytesError>
@@ -62,6 +63,9 @@ impl<'a> ArrayBytesOffsets<'a> {
     }
 
     /// The same offsets, owned.
+    ///
+    /// # Errors
+    /// `AllocError`: out of memory.
     pub fn into_owned(self, alloc: Global) -> Result<ArrayBytesOffsets<'static>, AllocError>
         ensures { IfOk result (λ owned. owned ≡ self.entry) }
     {

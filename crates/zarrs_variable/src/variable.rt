@@ -1,8 +1,10 @@
 //! Byte strings of any length.
-ghost use Rattle.std.specs.Prelude.{◌≡◌, ◌↔◌, ◌==◌, ◌<◌, ◌+◌, [], ◌∷◌, ◌++◌, IfOk, OnOk, OnErr, IsOk, length};
+ghost use Rattle.std.specs.Prelude.{◌≡◌, ◌↔◌, ◌==◌, ◌<◌, ◌+◌, [], ◌∷◌, ◌++◌, IfOk, OnOk, OnErr};
+ghost use Rattle.std.specs.Prelude.{IsOk, length};
 ghost use Rattle.std.specs.Prelude.{slice_index, slice_index_or, slice_range};
 ghost use Rattle.std.specs.Cow.{cow_slice_items};
-ghost use Rattle.zarrs_variable.specs.Offsets.{AreCuts, byte_strings, joined, last_offset, offsets_of};
+ghost use Rattle.zarrs_variable.specs.Offsets.{AreCuts, byte_strings, joined, last_offset};
+ghost use Rattle.zarrs_variable.specs.Offsets.{offsets_of};
 
 use crate::error::ExpectedVariableLengthBytesError;
 use crate::offsets::ArrayBytesOffsets;
@@ -34,7 +36,7 @@ impl<'a> ArrayBytesVariableLength<'a> {
     /// The byte strings that the offsets cut from the bytes.
     ///
     /// # Errors
-    /// The last offset is not the length of the bytes.
+    /// `ExpectedVariableLengthBytesError`: the last offset is not the length of the bytes.
     pub fn new(
         bytes: CowSlice<'a, u8>,
         offsets: ArrayBytesOffsets<'a>,
@@ -90,6 +92,9 @@ impl<'a> ArrayBytesVariableLength<'a> {
     }
 
     /// The same byte strings, owned.
+    ///
+    /// # Errors
+    /// `AllocError`: out of memory.
     pub fn into_owned(self, alloc: Global) -> Result<ArrayBytesVariableLength<'static>, AllocError>
         ensures { IfOk result (λ owned. owned ≡ self.entry) }
     {
@@ -132,6 +137,9 @@ impl Model for VariableLengthBuilder {
 
 impl VariableLengthBuilder {
     /// No byte strings.
+    ///
+    /// # Errors
+    /// `AllocError`: out of memory.
     pub fn new(alloc: Global) -> Result<VariableLengthBuilder, AllocError>
         ensures { IfOk result (λ builder. builder ≡ []) }
     {
@@ -139,6 +147,9 @@ impl VariableLengthBuilder {
     }
 
     /// No byte strings, with room for `count` of them, of `len` bytes together.
+    ///
+    /// # Errors
+    /// `AllocError`: out of memory.
     pub fn with_capacity(
         alloc: Global,
         count: usize,
@@ -155,7 +166,7 @@ impl VariableLengthBuilder {
     /// Puts one more byte string behind the others.
     ///
     /// # Errors
-    /// Out of memory: the builder is as it was.
+    /// `AllocError`: out of memory. The builder is then as it was.
     pub fn push(&mut self, string: &[u8]) -> Result<(), AllocError>
         ensures pushed { OnOk result (self.new ≡ self.old ++ string.now ∷ []) }
         ensures kept { OnErr result (self.new ≡ self.old) }
