@@ -1,5 +1,6 @@
 -- Data whose cells are all that of a fill value, level by level.
-use Rattle.std.proofs.Common.{◌≡◌, ◌==◌, ℕ, ◌+◌, ◌*◌, ◌/◌, ◌<◌, Bool, true, false, cond, eqb, ◌&&◌, List, [], length, get_or, Option, None, Some, IsTrue, ◌↔◌, refl, sym, ap, ◌∙◌, subst, arith}
+use Rattle.std.proofs.Common.{◌≡◌, ◌==◌, ℕ, ◌+◌, ◌*◌, ◌/◌, ◌<◌, Bool, true, false, cond, eqb, ◌&&◌, List, [], length}
+use Rattle.std.proofs.Common.{get_or, Option, None, Some, IsTrue, ◌↔◌, refl, sym, ap, ◌∙◌, subst, arith}
 use Rattle.std.specs.Prelude.{All, IsSome, IfSome, slice_index, slice_range}
 use Rattle.std.specs.Bool.{Decides}
 use Rattle.std.specs.List.{list_all}

@@ -1,5 +1,7 @@
 -- The cells that array bytes stand for.
-use Rattle.std.specs.Prelude.{◌≡◌, ℕ, ◌+◌, ◌*◌, ◌/◌, Bool, true, false, Option, None, Some, List, [], map, length, ◌==◌, ◌&&◌, slice_index, slice_index_or, slice_range, if◌then◌else◌, IsSomeAnd, ◌<◌, IsTrue, All}
+use Rattle.std.specs.Prelude.{◌≡◌, ℕ, ◌+◌, ◌*◌, ◌/◌, Bool, true, false, Option, None, Some, List, [], map, length, ◌==◌}
+use Rattle.std.specs.Prelude.{◌&&◌, slice_index, slice_index_or, slice_range, if◌then◌else◌, IsSomeAnd, ◌<◌, IsTrue}
+use Rattle.std.specs.Prelude.{All}
 use Rattle.std.specs.List.{range_with_len}
 use Rattle.zarrs_types.specs.Kind.{Kind, element_size, is_variable, inner_of}
 use Rattle.zarrs_types.specs.Cell.{Cell, bytes, none, some, are_values}
@@ -25,7 +27,8 @@ cell_at k (optional mask inner) i =
     if slice_index mask i == 0 then none
     else elim (inner_of k) [ None ↦ none | Some u ↦ some (cell_at u inner i) ]
 
--- the cells that data stands for: nothing where it is of another kind, a mask has another length, or a cell is no value of the type
+-- the cells that data stands for: nothing if it is of another kind, a mask has another length, or a cell is no value of
+-- the type
 abbrev pub cells : Kind → ArrayData → Option (List Cell)
 cells k d =
     let cs = map (λ i. cell_at k d i) (range_with_len 0 (count_of k d)) in

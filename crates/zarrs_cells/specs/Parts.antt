@@ -7,8 +7,8 @@ use Rattle.zarrs_types.specs.Cell.{Cell}
 use Rattle.zarrs_cells.specs.ArrayData.{ArrayData}
 use Rattle.zarrs_cells.specs.Cells.{cells, fits, cell_at}
 
--- the new data has the cells of `part`, an array over `other`, at the positions of `box` that `other` has too, and elsewhere
--- the cells of the old data
+-- the new data has the cells of `part`, an array over `other`, at the positions of `box` that `other` has too, and
+-- elsewhere the cells of the old data
 pub record TakesCells (k : Kind) (box other : Box) (part old new : ArrayData) : Type 0 where
   pub given : List Cell
   pub held : List Cell
@@ -30,7 +30,7 @@ pub record ExtractsCells (k : Kind) (box : Box) (old : ArrayData) (part : Box) (
 
 -- ---- the same of what has the number i, level by level
 
--- what is new at a position of `box` is what `part` has there, where `other` has the position, and else what is old
+-- what is new at a position of `box` is what `part` has there, if `other` has the position, and else what is old
 abbrev pub TakesAt : {X : Type 0} → Box → Box → (ℕ → X) → (ℕ → X) → (ℕ → X) → Type 0
 TakesAt box other part old new =
     (position : List ℕ) → Holds box position

@@ -1,5 +1,6 @@
 -- The cells of optional data that are some.
-use Rattle.std.specs.Prelude.{ℕ, ◌==◌, not, Bool, List, [], ◌∷◌, map, take, filter, count_by, slice_index, Option, None, Some, if◌then◌else◌}
+use Rattle.std.specs.Prelude.{ℕ, ◌==◌, not, Bool, List, [], ◌∷◌, map, take, filter, count_by, slice_index, Option, None}
+use Rattle.std.specs.Prelude.{Some, if◌then◌else◌}
 use Rattle.std.specs.List.{range_with_len, filter_map}
 use Rattle.zarrs_types.specs.Cell.{Cell, bytes, none, some}
 
@@ -25,7 +26,7 @@ inner_cell (bytes b) = None
 abbrev pub present_cells : List Cell → List Cell
 present_cells cs = filter_map inner_cell cs
 
--- none where the flag is not set, and else some of the next cell
+-- none if the flag is not set, and else some of the next cell
 abbrev pub spread_cells : List ℕ → List Cell → List Cell
 spread_cells [] ds = []
 spread_cells (flag ∷ mask) [] = none ∷ spread_cells mask []

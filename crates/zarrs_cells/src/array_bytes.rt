@@ -1,8 +1,10 @@
 //! The bytes that stand for a list of cells.
 ghost use Rattle.std.specs.Prelude.{◌≡◌, ◌↔◌, ◌<◌, All, IfOk, IsOk, is_ok, length};
 ghost use Rattle.std.specs.Cow.{cow_slice_items};
-ghost use Rattle.zarrs_cells.specs.ArrayData.{data_of, optional_data, mask_of, inner_data, fixed, variable};
-ghost use Rattle.zarrs_cells.specs.ArrayData.{optional, is_fixed_data, is_variable_data, is_optional_data};
+ghost use Rattle.zarrs_cells.specs.ArrayData.{data_of, optional_data, mask_of, inner_data, fixed};
+ghost use Rattle.zarrs_cells.specs.ArrayData.{variable};
+ghost use Rattle.zarrs_cells.specs.ArrayData.{optional, is_fixed_data, is_variable_data};
+ghost use Rattle.zarrs_cells.specs.ArrayData.{is_optional_data};
 ghost use Rattle.zarrs_variable.specs.Offsets.{byte_strings, last_offset};
 
 use crate::error::{ExpectedFixedLengthBytesError, ExpectedOptionalBytesError};
@@ -60,7 +62,7 @@ impl<'a> ArrayBytes<'a> {
     /// Cells of any size: the byte strings that the offsets cut from the bytes.
     ///
     /// # Errors
-    /// The last offset is not the length of the bytes.
+    /// `ExpectedVariableLengthBytesError`: the last offset is not the length of the bytes.
     pub fn new_vlen(
         bytes: CowSlice<'a, u8>,
         offsets: ArrayBytesOffsets<'a>,
@@ -73,7 +75,10 @@ impl<'a> ArrayBytes<'a> {
         Ok(ArrayBytes::Variable(ArrayBytesVariableLength::new(bytes, offsets)?))
     }
 
-    /// This data under a mask: cells of an optional type. Whether a mask is one tells `ArrayBytesOptional::new`.
+    /// This data under a mask: cells of an optional type. `ArrayBytesOptional::new` is the test of a mask.
+    ///
+    /// # Errors
+    /// `AllocError`: out of memory.
     pub fn with_optional_mask(
         self,
         alloc: Global,
@@ -90,6 +95,9 @@ impl<'a> ArrayBytes<'a> {
     }
 
     /// The bytes of cells of one size.
+    ///
+    /// # Errors
+    /// `ExpectedFixedLengthBytesError`: the data is not cells of one size.
     pub fn into_fixed(self) -> Result<CowSlice<'a, u8>, ExpectedFixedLengthBytesError>
         ensures bytes { IfOk result (λ bytes. data_of self.entry ≡ fixed (cow_slice_items bytes)) }
         ensures accepted { is_ok result ≡ is_fixed_data (data_of self.entry) }
@@ -101,6 +109,9 @@ impl<'a> ArrayBytes<'a> {
     }
 
     /// The byte strings of cells of any size.
+    ///
+    /// # Errors
+    /// `ExpectedVariableLengthBytesError`: the data is not byte strings.
     pub fn into_variable(
         self,
     ) -> Result<ArrayBytesVariableLength<'a>, ExpectedVariableLengthBytesError>
@@ -114,6 +125,9 @@ impl<'a> ArrayBytes<'a> {
     }
 
     /// The mask and the inner data of cells of an optional type.
+    ///
+    /// # Errors
+    /// `ExpectedOptionalBytesError`: the data is not optional.
     pub fn into_optional(self) -> Result<ArrayBytesOptional<'a>, ExpectedOptionalBytesError>
         ensures parts { IfOk result (λ held. data_of self.entry ≡ optional_data held) }
         ensures accepted { is_ok result ≡ is_optional_data (data_of self.entry) }
@@ -125,6 +139,9 @@ impl<'a> ArrayBytes<'a> {
     }
 
     /// The same data, owned.
+    ///
+    /// # Errors
+    /// `AllocError`: out of memory.
     pub fn into_owned(self, alloc: Global) -> Result<ArrayBytes<'static>, AllocError>
         ensures { IfOk result (λ owned. data_of owned ≡ data_of self.entry) }
     {
@@ -147,10 +164,10 @@ impl<'a> ArrayBytes<'a> {
 }
 
 impl<'a> ArrayBytesOptional<'a> {
-    /// The inner data under the mask. `ArrayBytes::validate` tells whether the mask has a byte for each inner cell.
+    /// The inner data under the mask. `ArrayBytes::validate` tests that the mask has a byte for each inner cell.
     ///
     /// # Errors
-    /// A byte of the mask is above 1.
+    /// `ExpectedOptionalBytesError`: a byte of the mask is above 1.
     pub fn new(
         data: Box<ArrayBytes<'a>>,
         mask: CowSlice<'a, u8>,

@@ -39,7 +39,6 @@ impl<'a> Mask<'a> {
         Mask { bytes }
     }
 
-    /// The bytes.
     pub(crate) fn as_slice(&self) -> &[u8]
         ensures bytes { result.now ≡ self.now }
         ensures flags { All (λ byte. byte < 2) self.now }

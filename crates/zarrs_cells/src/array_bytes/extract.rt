@@ -17,6 +17,9 @@ use zarrs_variable::extract_strings;
 
 impl<'a> ArrayBytes<'a> {
     /// The cells of this data, an array over `held_box`, at the positions of `subset`, in row-major order.
+    ///
+    /// # Errors
+    /// `AllocError`: out of memory.
     pub fn extract_array_subset(
         &self,
         alloc: Global,

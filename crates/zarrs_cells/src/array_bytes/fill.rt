@@ -18,7 +18,7 @@ use zarrs_variable::{ArrayBytesVariableLength, VariableLengthBuilder};
 /// A block of fill is this long at most, so that it stays in the nearest cache while it is copied.
 const BLOCK_LEN: usize = 16384;
 
-/// The piece, so many times.
+/// `piece`, repeated `count` times.
 pub(super) fn repeated(alloc: Global, piece: &[u8], count: usize) -> Result<Vec<u8>, AllocError>
     requires { count * length piece.now < 2 ^ 64 }
     ensures { IfOk result (λ bytes. bytes.items ≡ repeat count piece.now) }
@@ -38,7 +38,7 @@ fn repeated_byte(alloc: Global, byte: u8, count: usize) -> Result<Vec<u8>, Alloc
     vec![in alloc; byte; count]
 }
 
-/// The piece, so many times: a block of pieces, and its copies.
+/// `piece`, repeated `count` times: a block of pieces, and its copies.
 fn repeated_piece(alloc: Global, piece: &[u8], count: usize) -> Result<Vec<u8>, AllocError>
     requires some { 0 < length piece.now }
     requires size { count * length piece.now < 2 ^ 64 }
@@ -60,7 +60,7 @@ fn block_of(alloc: Global, piece: &[u8], count: usize) -> Result<Vec<u8>, AllocE
     put_repeated(bytes, piece, count)
 }
 
-/// So many bytes: the block again and again, the last one cut.
+/// `len` bytes: the block repeated, the last one cut.
 fn block_copies(alloc: Global, block: &[u8], len: usize) -> Result<Vec<u8>, AllocError>
     requires { 0 < length block.now }
     ensures { IfOk result (λ bytes. bytes.items ≡ repeat (len / length block.now) block.now
@@ -74,8 +74,8 @@ fn block_copies(alloc: Global, block: &[u8], len: usize) -> Result<Vec<u8>, Allo
     Ok(bytes)
 }
 
-/// Puts the piece, so many times, into the empty vector. Each half is a copy of the one before. (The vector is moved, not
-/// lent: so `extend_from_within` copies many bytes at a time.)
+/// Puts `piece`, repeated `count` times, into the empty vector. Each half is a copy of the one before. (The vector is
+/// moved, not lent: so `extend_from_within` copies many bytes at a time.)
 fn put_repeated(bytes: Vec<u8>, piece: &[u8], count: usize) -> Result<Vec<u8>, AllocError>
     requires { bytes.items ≡ [] }
     ensures { IfOk result (λ made. made.items ≡ repeat count piece.now) }
@@ -91,7 +91,7 @@ fn put_repeated(bytes: Vec<u8>, piece: &[u8], count: usize) -> Result<Vec<u8>, A
     Ok(made)
 }
 
-/// The byte string, so many times.
+/// `string`, repeated `count` times.
 fn repeated_string(
     alloc: Global,
     string: &[u8],
@@ -146,7 +146,10 @@ fn are_all_strings(strings: &ArrayBytesVariableLength<'_>, string: &[u8]) -> boo
 }
 
 impl<'a> ArrayBytes<'a> {
-    /// Data of so many cells, each that of the fill value.
+    /// Data of `count` cells, each that of the fill value.
+    ///
+    /// # Errors
+    /// `AllocError`: out of memory.
     pub fn new_fill_value(
         alloc: Global,
         data_type: &DataType,
@@ -193,7 +196,7 @@ impl<'a> ArrayBytes<'a> {
         }
     }
 
-    /// Data of so many cells, whatever they are.
+    /// Data of `count` cells, whatever they are.
     pub(super) fn missing(
         alloc: Global,
         data_type: &DataType,
@@ -217,7 +220,7 @@ impl<'a> ArrayBytes<'a> {
         }
     }
 
-    /// This data under a mask of so many flags, all the same.
+    /// This data under a mask of `count` flags, each `flag`.
     fn under_flags(
         self,
         alloc: Global,
@@ -232,7 +235,7 @@ impl<'a> ArrayBytes<'a> {
         self.with_optional_mask(alloc, CowSlice::Owned(flags))
     }
 
-    /// Whether each cell is that of the fill value. What lies under a none is not looked at.
+    /// Whether each cell is that of the fill value. It ignores what lies under a none.
     pub fn is_fill_value(&self, data_type: &DataType, fill_value: &FillValue) -> bool
         requires has_cells { IsSome (cells (kind data_type.now) (data_of self.now)) }
         requires filled { IsSome (fill_cell (kind data_type.now) fill_value.now) }

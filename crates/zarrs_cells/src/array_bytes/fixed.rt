@@ -9,14 +9,14 @@ ghost use Rattle.zarrs_types.specs.Kind.{kind};
 use crate::mask::are_flags;
 use zarrs_types::DataType;
 
-/// Whether so many cells of this size take so many bytes.
+/// Whether `count` cells of `size` bytes take `len` bytes.
 pub(super) fn is_size_of(len: usize, count: u64, size: usize) -> bool
     ensures { IsTrue result ↔ (len ≡ count * size) }
 {
     count.checked_mul(size as u64) == Some(len as u64)
 }
 
-/// Whether each of these bytes may stand in a cell of the type.
+/// Whether a cell of the type may hold each of these bytes.
 fn may_hold(bytes: &[u8], data_type: &DataType) -> bool
     ensures { result ≡ may_hold (kind data_type.now) bytes.now }
 {
@@ -26,7 +26,7 @@ fn may_hold(bytes: &[u8], data_type: &DataType) -> bool
     }
 }
 
-/// Whether these bytes are so many cells of the type, each a value of it.
+/// Whether these bytes are `count` cells of the type, each a value of it.
 pub(super) fn has_cells(bytes: &[u8], data_type: &DataType, count: u64) -> bool
     ensures { IsTrue result ↔ HasCells (kind data_type.now) (fixed bytes.now) count }
 {

@@ -1,4 +1,4 @@
-//! Data with another part.
+//! Data over a box, with the cells of a part put in.
 ghost use Rattle.std.specs.Prelude.{◌≡◌, IfOk, IsTrue, length};
 ghost use Rattle.std.specs.Cow.{cow_slice_items};
 ghost use Rattle.zarrs_cells.specs.ArrayData.{data_of, fixed, variable};
@@ -17,8 +17,11 @@ use zarrs_types::DataType;
 use zarrs_variable::{ArrayBytesVariableLength, strings_with_part};
 
 impl ArrayBytes<'static> {
-    /// This data, an array over `held_box`, with the cells of `part`, an array over `part_box`, at the positions that both
-    /// boxes have. Every other cell stays.
+    /// This data, an array over `held_box`, with the cells of `part`, an array over `part_box`, at the positions that
+    /// both boxes have. Every other cell stays.
+    ///
+    /// # Errors
+    /// `AllocError`: out of memory.
     pub fn with_part(
         self,
         alloc: Global,

@@ -1,9 +1,11 @@
 //! The inner cells of optional data that are some, and optional data made of them.
-ghost use Rattle.std.specs.Prelude.{◌≡◌, ◌<◌, ◌*◌, ◌^◌, ℕ, true, All, IfOk, IfSome, IsSome, IsTrue, Some};
+ghost use Rattle.std.specs.Prelude.{◌≡◌, ◌<◌, ◌*◌, ◌^◌, ℕ, true, All, IfOk, IfSome, IsSome, IsTrue};
+ghost use Rattle.std.specs.Prelude.{Some};
 ghost use Rattle.std.specs.Prelude.{length, count_by};
 ghost use Rattle.zarrs_cells.specs.ArrayData.{data_of, optional_data};
 ghost use Rattle.zarrs_cells.specs.Cells.{cells, fits, HasCells, IsSelection};
-ghost use Rattle.zarrs_cells.specs.Present.{flag_set, places_set, ranks_set, present_cells, spread_cells};
+ghost use Rattle.zarrs_cells.specs.Present.{flag_set, places_set, ranks_set, present_cells};
+ghost use Rattle.zarrs_cells.specs.Present.{spread_cells};
 ghost use Rattle.zarrs_types.specs.Kind.{kind, cell_size, optional};
 
 use super::{ArrayBytes, ArrayBytesOptional};
@@ -43,7 +45,7 @@ fn ranks_set(alloc: Global, mask: &[u8]) -> Result<Vec<usize>, AllocError>
 }
 
 impl<'a> ArrayBytes<'a> {
-    /// The cells at these places; whatever cells if there are none to take.
+    /// The cells at these places; any cells if there are none to take.
     fn spread(
         &self,
         alloc: Global,
@@ -68,6 +70,9 @@ impl<'a> ArrayBytes<'a> {
 
     /// Data of an optional type: a cell whose flag is 0 is none, the others are some of the present cells in their
     /// order. `inner` is the inner type.
+    ///
+    /// # Errors
+    /// `AllocError`: out of memory.
     pub fn from_present(
         alloc: Global,
         inner: &DataType,
@@ -90,6 +95,9 @@ impl<'a> ArrayBytes<'a> {
 
 impl<'a> ArrayBytesOptional<'a> {
     /// The inner cells of the cells that are some, in their order. `inner` is the inner type.
+    ///
+    /// # Errors
+    /// `AllocError`: out of memory.
     pub fn present(
         &self,
         alloc: Global,

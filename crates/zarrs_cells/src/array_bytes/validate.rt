@@ -1,4 +1,4 @@
-//! Whether data has so many cells of a type.
+//! Whether data is a number of cells of a type.
 ghost use Rattle.std.specs.Prelude.{◌≡◌, ◌↔◌, ◌+◌, ◌*◌, ◌<◌, ℕ, IsTrue, length, slice_range};
 ghost use Rattle.zarrs_cells.specs.ArrayData.{data_of};
 ghost use Rattle.zarrs_cells.specs.Cells.{cell_at, fits, HasCellAt, HasCells};
@@ -18,7 +18,7 @@ pub(super) fn fixed_cell(bytes: &[u8], size: usize, index: usize) -> &[u8]
 }
 
 impl<'a> ArrayBytes<'a> {
-    /// Whether this is data of the type with so many cells, each a value of it. It ignores what lies under a none.
+    /// Whether this is data of the type with `count` cells, each a value of it. It ignores what lies under a none.
     pub fn validate(&self, data_type: &DataType, count: u64) -> bool
         ensures { IsTrue result ↔ HasCells (kind data_type.now) (data_of self.now) count }
     {
@@ -31,7 +31,7 @@ impl<'a> ArrayBytes<'a> {
         data_type.takes_any_bytes() || self.are_values(data_type, count)
     }
 
-    /// Whether this is data of the type's kind with so many cells, at each level.
+    /// Whether this is data of the type's kind with `count` cells, at each level.
     pub(super) fn fits(&self, data_type: &DataType, count: u64) -> bool
         ensures { result ≡ fits (kind data_type.now) (data_of self.now) count }
     {
