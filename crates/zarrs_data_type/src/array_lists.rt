@@ -11,7 +11,7 @@ use std::alloc::Global;
 use zarrs_cells::ArrayBytes;
 use zarrs_types::DataType;
 
-/// What a read answers: array bytes as they are, or the values of their cells.
+/// What a read returns: array bytes as they are, or the values of their cells.
 pub trait FromArrayBytes: Sized {
     // Whether the values are those of a data type.
     ghost serves: { Kind → Bool };
@@ -23,6 +23,7 @@ pub trait FromArrayBytes: Sized {
     ///
     /// # Errors
     /// `IncompatibleElementType`: the values are not those of the data type, or the data is no list of its cells.
+    /// `OutOfMemory` may come at any time.
     fn from_array_bytes(
         alloc: Global,
         array_bytes: ArrayBytes<'static>,
@@ -75,7 +76,7 @@ pub trait IntoArrayBytes<'a>: Sized {
     /// Data of these cells.
     ///
     /// # Errors
-    /// `IncompatibleElementType`: the values are not those of the data type.
+    /// `IncompatibleElementType`: the values are not those of the data type. `OutOfMemory` may come at any time.
     fn into_array_bytes(
         self,
         alloc: Global,

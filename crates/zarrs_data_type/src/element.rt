@@ -35,7 +35,7 @@ pub trait Element: Drop {
     /// Data whose cells are these values.
     ///
     /// # Errors
-    /// `IncompatibleElementType`: the values are not those of the data type.
+    /// `IncompatibleElementType`: the values are not those of the data type. `OutOfMemory` may come at any time.
     fn to_array_bytes(
         alloc: Global,
         data_type: &DataType,
@@ -53,6 +53,7 @@ pub trait ElementOwned: Element {
     ///
     /// # Errors
     /// `IncompatibleElementType`: the values are not those of the data type, or the data is no list of its cells.
+    /// `OutOfMemory` may come at any time.
     fn from_array_bytes(
         alloc: Global,
         data_type: &DataType,

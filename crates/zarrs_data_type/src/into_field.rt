@@ -11,6 +11,9 @@ pub trait IntoField<T> {
     ghost gives: { Self → T → Type 0 };
 
     /// The field.
+    ///
+    /// # Errors
+    /// `AllocError`: out of memory.
     fn into_field(self, alloc: Global) -> Result<T, AllocError>
         ensures { IfOk result (λ field. gives self field) };
 }

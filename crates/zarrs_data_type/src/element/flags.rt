@@ -1,5 +1,6 @@
 //! Flags as cells.
-ghost use Rattle.std.specs.Prelude.{◌≡◌, [], ◌∷◌, map, Some, None, nat_lt, option_map, if◌then◌else◌, IfOk};
+ghost use Rattle.std.specs.Prelude.{◌≡◌, [], ◌∷◌, map, Some, None, nat_lt, option_map};
+ghost use Rattle.std.specs.Prelude.{if◌then◌else◌, IfOk};
 ghost use Rattle.std.specs.Int.{from_bool};
 ghost use Rattle.std.specs.List.{list_all};
 ghost use Rattle.zarrs_types.specs.Cell.{bytes};

@@ -1,5 +1,6 @@
 //! Texts and byte strings as cells.
-ghost use Rattle.std.specs.Prelude.{◌≡◌, [], ◌∷◌, map, true, Some, None, option_map, string_bytes, if◌then◌else◌, IfOk};
+ghost use Rattle.std.specs.Prelude.{◌≡◌, [], ◌∷◌, map, true, Some, None, option_map, string_bytes};
+ghost use Rattle.std.specs.Prelude.{if◌then◌else◌, IfOk};
 ghost use Rattle.std.specs.List.{list_all};
 ghost use Rattle.std.specs.Str.{is_utf8};
 ghost use Rattle.zarrs_types.specs.Cell.{bytes};
