@@ -14,7 +14,9 @@ use Rattle.zarrs_subset.proofs.Kernel.{place_below}
 use Rattle.zarrs_subset.proofs.RearrangedCells.{length-made_of}
 use Rattle.zarrs_codec_array.specs.Arrays.{transposed}
 use Rattle.zarrs_codec_array.specs.Orders.{is_order, permuted, index_of, inverse, strides, dot}
-use Rattle.zarrs_codec_array.specs.OrderLaws.{entry_below, index_at, at_index, length-permuted, length-inverse, permuted_at, inverse_at, permuted_in, inverse_in, there_and_back, count-permuted, dot-permuted, length-strides, place-dot}
+use Rattle.zarrs_codec_array.specs.OrderLaws.{entry_below, index_at, at_index, length-permuted, length-inverse}
+use Rattle.zarrs_codec_array.specs.OrderLaws.{permuted_at, inverse_at, permuted_in, inverse_in, there_and_back}
+use Rattle.zarrs_codec_array.specs.OrderLaws.{count-permuted, dot-permuted, length-strides, place-dot}
 use Rattle.zarrs_codec_array.specs.Gathered.{IsWay, IsTaken}
 use Rattle.zarrs_codec_array.proofs.Taken.{taken-cells}
 

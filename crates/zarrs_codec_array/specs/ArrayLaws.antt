@@ -1,5 +1,6 @@
 -- The laws of codecs that make an array of an array.
-use Rattle.std.proofs.Common.{◌≡◌, ℕ, ◌*◌, ◌^◌, Bool, true, false, cond, eqb, ◌&&◌, List, [], ◌∷◌, length, get_or, refl, sym, ap, ◌∙◌, arith}
+use Rattle.std.proofs.Common.{◌≡◌, ℕ, ◌*◌, ◌^◌, Bool, true, false, cond, eqb, ◌&&◌, List, [], ◌∷◌, length, get_or, refl}
+use Rattle.std.proofs.Common.{sym, ap, ◌∙◌, arith}
 use Rattle.std.specs.Prelude.{nat_lt}
 use Rattle.std.specs.List.{list_all}
 use Rattle.std.proofs.lemmas.Bool.{eqb-true, and_parts}
@@ -9,7 +10,9 @@ use Rattle.zarrs_subset.specs.Boxes.{position_count, InShape, place}
 use Rattle.zarrs_subset.specs.Rearranged.{made_of}
 use Rattle.zarrs_subset.proofs.Kernel.{place_below}
 use Rattle.zarrs_subset.proofs.RearrangedCells.{length-made_of, made_of-same, read_all, made_at, all-made_of}
-use Rattle.zarrs_codec_array.specs.Arrays.{ArrayMeaning, IsLawfulArray, same_array, and_then, rearranged, transposed, with_shape, Extent, reshape_shape, names_within, reshaped, squeeze_shape, squeezed}
+use Rattle.zarrs_codec_array.specs.Arrays.{ArrayMeaning, IsLawfulArray, same_array, and_then, rearranged, transposed}
+use Rattle.zarrs_codec_array.specs.Arrays.{with_shape, Extent, reshape_shape, names_within, reshaped, squeeze_shape}
+use Rattle.zarrs_codec_array.specs.Arrays.{squeezed}
 use Rattle.zarrs_codec_array.specs.Orders.{is_order, permuted, inverse}
 use Rattle.zarrs_codec_array.specs.OrderLaws.{permuted_in, inverse_in, there_and_back, count-permuted}
 

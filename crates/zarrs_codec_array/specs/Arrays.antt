@@ -1,5 +1,6 @@
 -- What codecs that make an array of an array mean.
-use Rattle.std.specs.Prelude.{◌≡◌, ℕ, ◌/◌, ◌^◌, Bool, true, List, [], ◌∷◌, length, map, slice_index, slice_index_or, nat_lt, ◌==◌, ◌&&◌, if◌then◌else◌}
+use Rattle.std.specs.Prelude.{◌≡◌, ℕ, ◌/◌, ◌^◌, Bool, true, List, [], ◌∷◌, length, map, slice_index, slice_index_or}
+use Rattle.std.specs.Prelude.{nat_lt, ◌==◌, ◌&&◌, if◌then◌else◌}
 use Rattle.std.specs.List.{list_all}
 use Rattle.zarrs_types.specs.Cell.{Cell, none}
 use Rattle.zarrs_subset.specs.Boxes.{position_count, place}
@@ -20,14 +21,14 @@ pub record ArrayMeaning : Type 0 where
 
 -- the law of such a codec
 pub record IsLawfulArray (m : ArrayMeaning) : Type 0 where
-  -- as many positions in the encoded array
+  -- the encoded array has the same number of positions
   pub count : (s : List ℕ) → m.fits s ≡ true → position_count (m.shape s) ≡ position_count s
-  -- decoding gives back what was encoded
+  -- decoding returns what was encoded
   pub round_trip : (s : List ℕ) (cs : List Cell) → m.fits s ≡ true → length cs ≡ position_count s → m.back s (m.forward s cs) ≡ cs
-  -- as many cells, both ways
+  -- the same number of cells, both ways
   pub forward_len : (s : List ℕ) (cs : List Cell) → m.fits s ≡ true → length cs ≡ position_count s → length (m.forward s cs) ≡ position_count s
   pub back_len : (s : List ℕ) (cs : List Cell) → m.fits s ≡ true → length cs ≡ position_count s → length (m.back s cs) ≡ position_count s
-  -- what each cell has, each has afterwards
+  -- a fact of all cells holds of all cells afterwards
   pub forward_all : (v : Cell → Bool) (s : List ℕ) (cs : List Cell) → m.fits s ≡ true → length cs ≡ position_count s → list_all v cs ≡ true → list_all v (m.forward s cs) ≡ true
   pub back_all : (v : Cell → Bool) (s : List ℕ) (cs : List Cell) → m.fits s ≡ true → length cs ≡ position_count s → list_all v cs ≡ true → list_all v (m.back s cs) ≡ true
 
@@ -44,7 +45,8 @@ and_then a b = record {
   back = λ s cs. a.back s (b.back (a.shape s) cs);
 }
 
--- the cells of an array of the shape `target`: at the position q that of the array of the shape `source` at the position `permuted way q`
+-- the cells of an array of the shape `target`: at the position q that of the array of the shape `source` at the
+-- position `permuted way q`
 abbrev pub rearranged : List ℕ → List ℕ → List ℕ → List Cell → List Cell
 rearranged target source way cs = made_of (λ q. slice_index_or cs (place source (permuted way q)) none) target
 
@@ -57,7 +59,7 @@ transposed order = record {
   back = λ s cs. rearranged s (permuted order s) order cs;
 }
 
--- a codec that gives an array another shape, and keeps its cells in their order
+-- a codec that makes an array of another shape, and keeps its cells in their order
 abbrev pub with_shape : (List ℕ → Bool) → (List ℕ → List ℕ) → ArrayMeaning
 with_shape fits shape = record { fits = fits; shape = shape; forward = λ s cs. cs; back = λ s cs. cs }
 
@@ -88,7 +90,7 @@ abbrev pub names_within : List ℕ → Extent → Bool
 names_within s (product_of dimensions) = list_all (λ j. nat_lt j (length s)) dimensions
 names_within s _ = true
 
--- `reshape`: fits if its dimensions are there, its extents fit u64 and their product is that of the array's
+-- `reshape`: fits if the shape has its dimensions, its extents fit u64 and their product is that of the array's
 abbrev pub reshaped : List Extent → ArrayMeaning
 reshaped entries =
     with_shape

@@ -1,5 +1,6 @@
 -- The entries of the codec `reshape`.
-use Rattle.std.specs.Prelude.{ℕ, ◌^◌, Bool, true, false, ◌&&◌, not, nat_lt, nat_le, ◌==◌, List, [], ◌∷◌, map, Option, Some, None, option_map, option_and_then, if◌then◌else◌}
+use Rattle.std.specs.Prelude.{ℕ, ◌^◌, Bool, true, false, ◌&&◌, not, nat_lt, nat_le, ◌==◌, List, [], ◌∷◌, map, Option}
+use Rattle.std.specs.Prelude.{Some, None, option_map, option_and_then, if◌then◌else◌}
 use Rattle.std.specs.List.{flat_map, list_any, count_by}
 use Rattle.std.specs.Int.NonZero.{non_zero_u64_get}
 use Rattle.zarrs_codec_array.specs.Arrays.{Extent, size, product_of, rest, named_extent, names_within}
@@ -39,7 +40,7 @@ extents_view entries = map extent_view entries
 
 -- ---- the encoded shape, entry by entry
 
--- the extent of an entry, if its dimensions are there and it fits u64
+-- the extent of an entry, if the shape has its dimensions and it fits u64
 abbrev pub fitting_extent : List ℕ → ℕ → Extent → Option ℕ
 fitting_extent s left e = if names_within s e && nat_lt (named_extent s left e) (2 ^ 64) then Some (named_extent s left e) else None
 

@@ -1,5 +1,6 @@
 -- Cells taken in another order.
-use Rattle.std.specs.Prelude.{◌≡◌, ℕ, ◌+◌, ◌*◌, ◌<◌, ◌≤◌, true, Option, None, Some, List, [], ◌∷◌, length, slice_index, IfSome, if◌then◌else◌}
+use Rattle.std.specs.Prelude.{◌≡◌, ℕ, ◌+◌, ◌*◌, ◌<◌, ◌≤◌, true, Option, None, Some, List, [], ◌∷◌, length, slice_index}
+use Rattle.std.specs.Prelude.{IfSome, if◌then◌else◌}
 use Rattle.std.specs.List.{flat_map, range_with_len}
 use Rattle.zarrs_cells.specs.ArrayData.{ArrayData, data_of}
 use Rattle.zarrs_cells.specs.Cells.{fits, cell_at, cells}
@@ -9,7 +10,8 @@ use Rattle.zarrs_subset.specs.Boxes.{position_count, InShape, place}
 use Rattle.zarrs_codec_array.specs.Arrays.{ArrayMeaning}
 use Rattle.zarrs_codec_array.specs.Orders.{dot, permuted, strides}
 
--- `to` is an array of this shape, of cells of `size` bytes: at each position q the `size` bytes of `from` at `start` and q steps further
+-- `to` is an array of this shape, of cells of `size` bytes: at each position q the `size` bytes of `from` at `start`
+-- and q steps further
 pub record IsGathered (size : ℕ) (shape steps : List ℕ) (start : ℕ) (from to : List ℕ) : Type 0 where
   pub same : (q : List ℕ) (k : ℕ) → InShape shape q → k < size
       → slice_index to (place shape q * size + k) ≡ slice_index from (start + dot steps q + k)
@@ -24,7 +26,8 @@ walked [] steps start = start ∷ []
 walked (n ∷ shape) [] start = []
 walked (n ∷ shape) (a ∷ steps) start = flat_map (λ i. walked shape steps (start + i * a)) (range_with_len 0 n)
 
--- dimension i of an array of the shape `target` is dimension `way[i]` of one of the shape `source`, which has as many cells
+-- dimension i of an array of the shape `target` is dimension `way[i]` of one of the shape `source`, with the same
+-- number of cells
 pub record IsWay (target source way : List ℕ) : Type 0 where
   pub some : 0 < position_count source
   pub same_count : position_count target ≡ position_count source

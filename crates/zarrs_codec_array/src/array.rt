@@ -6,7 +6,8 @@ ghost use Rattle.zarrs_data_type.specs.Cells.{cells, HasCells};
 ghost use Rattle.zarrs_data_type.specs.Kind.{kind};
 ghost use Rattle.zarrs_codec_array.specs.ArrayCodecs.{array_meaning, arrays_meaning};
 ghost use Rattle.zarrs_codec_array.specs.Metadata.{array_codec_data};
-ghost use Rattle.zarrs_codec_array.specs.Gathered.{IsEncodedArray, IsDecodedArray, data_or, encoded_shape};
+ghost use Rattle.zarrs_codec_array.specs.Gathered.{IsEncodedArray, IsDecodedArray, data_or};
+ghost use Rattle.zarrs_codec_array.specs.Gathered.{encoded_shape};
 
 use crate::reshape::ReshapeCodec;
 use crate::squeeze::SqueezeCodec;
@@ -19,7 +20,7 @@ use zarrs_data_type::{ArrayBytes, DataType};
 pub enum ArrayToArrayCodec {
     /// The dimensions in another order.
     Transpose(TransposeCodec),
-    /// Another shape with as many cells.
+    /// Another shape with the same number of cells.
     Reshape(ReshapeCodec),
     /// No dimension of extent 1.
     Squeeze(SqueezeCodec),
@@ -27,6 +28,9 @@ pub enum ArrayToArrayCodec {
 
 impl ArrayToArrayCodec {
     /// The same codec.
+    ///
+    /// # Errors
+    /// `AllocError`: out of memory.
     pub fn try_clone(&self, alloc: Global) -> Result<ArrayToArrayCodec, AllocError>
         ensures { IfOk result (λ copy. array_codec_data copy ≡ array_codec_data self.now) }
     {
@@ -42,6 +46,9 @@ impl ArrayToArrayCodec {
     }
 
     /// The shape of the encoded array, or `None` if the codec does not take arrays of this shape.
+    ///
+    /// # Errors
+    /// `AllocError`: out of memory.
     pub fn encoded_shape(
         &self,
         alloc: Global,
@@ -58,6 +65,9 @@ impl ArrayToArrayCodec {
     }
 
     /// The encoded array, or `None` if the cells keep their order.
+    ///
+    /// # Errors
+    /// `AllocError`: out of memory.
     pub fn encode(
         &self,
         alloc: Global,
@@ -77,6 +87,9 @@ impl ArrayToArrayCodec {
     }
 
     /// The decoded array, whose shape this is, or `None` if the cells keep their order.
+    ///
+    /// # Errors
+    /// `AllocError`: out of memory.
     pub fn decode(
         &self,
         alloc: Global,
@@ -97,6 +110,9 @@ impl ArrayToArrayCodec {
 }
 
 /// The shape of the array that the codecs make, or `None` if one of them does not take the shape that comes to it.
+///
+/// # Errors
+/// `AllocError`: out of memory.
 pub fn encoded_shape(
     alloc: Global,
     codecs: &[ArrayToArrayCodec],
@@ -185,6 +201,9 @@ fn decode_next(
 }
 
 /// The array that the codecs make, the first one first, or `None` if the cells keep their order.
+///
+/// # Errors
+/// `AllocError`: out of memory.
 pub fn encode_array(
     alloc: Global,
     codecs: &[ArrayToArrayCodec],
@@ -207,6 +226,9 @@ pub fn encode_array(
 }
 
 /// The array that the codecs made this one of, whose shape was this one.
+///
+/// # Errors
+/// `AllocError`: out of memory.
 pub fn decode_array(
     alloc: Global,
     codecs: &[ArrayToArrayCodec],

@@ -1,5 +1,6 @@
 //! Cells taken in another order.
-ghost use Rattle.std.specs.Prelude.{◌≡◌, ◌+◌, ◌*◌, ◌<◌, ◌^◌, [], ◌∷◌, ◌++◌, length, map, slice_index_or, OnOk};
+ghost use Rattle.std.specs.Prelude.{◌≡◌, ◌+◌, ◌*◌, ◌<◌, ◌^◌, [], ◌∷◌, ◌++◌, length, map};
+ghost use Rattle.std.specs.Prelude.{slice_index_or, OnOk};
 ghost use Rattle.zarrs_subset.specs.Boxes.{position_count};
 ghost use Rattle.zarrs_codec_array.specs.Gathered.{IsGathered, AreWithin, walked};
 
@@ -110,7 +111,7 @@ pub(crate) fn gather(
     }
 }
 
-// Puts the strings of an array of the shape `extents` behind the others: at each position the string that is as many
+// Puts the strings of an array of the shape `extents` behind the others: at each position the string that lies its
 // steps after `start`.
 pub(crate) fn push_strings(
     to: &mut VariableLengthBuilder,

@@ -1,5 +1,6 @@
 //! Lists of numbers, one for each dimension.
-ghost use Rattle.std.specs.Prelude.{◌≡◌, ℕ, ◌*◌, ◌<◌, ◌^◌, length, slice_index, slice_index_or, true, false, ◌||◌, ◌==◌, ◌↔◌, IsTrue, IfOk};
+ghost use Rattle.std.specs.Prelude.{◌≡◌, ℕ, ◌*◌, ◌<◌, ◌^◌, length, slice_index, slice_index_or};
+ghost use Rattle.std.specs.Prelude.{true, false, ◌||◌, ◌==◌, ◌↔◌, IsTrue, IfOk};
 ghost use Rattle.std.specs.List.{list_all};
 ghost use Rattle.zarrs_subset.specs.Boxes.{position_count};
 ghost use Rattle.zarrs_codec_array.specs.Orders.{is_order, permuted, inverse, strides, scaled};

@@ -1,5 +1,6 @@
 //! The metadata of codecs that make an array of an array, both ways.
-ghost use Rattle.std.specs.Prelude.{◌≡◌, Some, None, map, option_map, option_and_then, IfOk, IfErr, if◌then◌else◌};
+ghost use Rattle.std.specs.Prelude.{◌≡◌, Some, None, map, option_map, option_and_then, IfOk, IfErr};
+ghost use Rattle.std.specs.Prelude.{if◌then◌else◌};
 ghost use Rattle.std.specs.Int.NonZero.{non_zero_u64_get};
 ghost use Rattle.serde_json.specs.View.{view, items_view};
 ghost use Rattle.serde_json.specs.Find.{as_number, as_i64};
@@ -8,7 +9,10 @@ ghost use Rattle.zarrs_metadata.specs.Lists.{all_of, list_of, list_data, number_
 ghost use Rattle.zarrs_metadata.specs.Refusals.{RefusesMeaning};
 ghost use Rattle.zarrs_codec_array.specs.Arrays.{size, rest};
 ghost use Rattle.zarrs_codec_array.specs.Extents.{extent_view, extents_view};
-ghost use Rattle.zarrs_codec_array.specs.Metadata.{array_codec_data, only_member, size_of, rest_of, extent_said, extent_data, transpose_said, reshape_said, squeeze_said, array_codec_said, with_one_member, extension_of_array_codec};
+ghost use Rattle.zarrs_codec_array.specs.Metadata.{array_codec_data, only_member, size_of, rest_of};
+ghost use Rattle.zarrs_codec_array.specs.Metadata.{extent_said, extent_data, transpose_said};
+ghost use Rattle.zarrs_codec_array.specs.Metadata.{reshape_said, squeeze_said, array_codec_said};
+ghost use Rattle.zarrs_codec_array.specs.Metadata.{with_one_member, extension_of_array_codec};
 
 use crate::array::ArrayToArrayCodec;
 use crate::reshape::{ReshapeCodec, ReshapeExtent};
@@ -26,6 +30,7 @@ impl ArrayToArrayCodec {
     /// # Errors
     /// `Other` if the metadata says none of them: for another name, an `order` that is no order, a `shape` of other
     /// entries or one that names a dimension twice or has a second -1, and a configuration with any other member.
+    /// `OutOfMemory` may come at any time.
     pub fn from_metadata(
         alloc: Global,
         metadata: &MetadataV3,
@@ -45,6 +50,9 @@ impl ArrayToArrayCodec {
     }
 
     /// Returns the metadata of the codec.
+    ///
+    /// # Errors
+    /// `AllocError`: out of memory.
     pub fn create_metadata(&self, alloc: Global) -> Result<MetadataV3, AllocError>
         ensures written { IfOk result (λ m. extension_view m ≡ extension_of_array_codec (array_codec_data self.now)) }
         ensures reads_back { IfOk result (λ m. array_codec_said (extension_view m) ≡ Some (array_codec_data self.now)) }

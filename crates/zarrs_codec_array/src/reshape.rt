@@ -1,10 +1,14 @@
 //! The codec `reshape` (Zarr extension "reshape").
-ghost use Rattle.std.specs.Prelude.{◌≡◌, ◌+◌, ◌<◌, ◌≤◌, ◌/◌, ◌^◌, ◌&&◌, true, None, Some, map, length, nat_lt, slice_index, IfOk, ◌↔◌, IsTrue, option_map, if◌then◌else◌};
+ghost use Rattle.std.specs.Prelude.{◌≡◌, ◌+◌, ◌<◌, ◌≤◌, ◌/◌, ◌^◌, ◌&&◌, true, None, Some, map};
+ghost use Rattle.std.specs.Prelude.{length, nat_lt, slice_index, IfOk, ◌↔◌, IsTrue, option_map};
+ghost use Rattle.std.specs.Prelude.{if◌then◌else◌};
 ghost use Rattle.std.specs.List.{flat_map, count_by, list_all};
 ghost use Rattle.zarrs_subset.specs.Boxes.{position_count};
 ghost use Rattle.zarrs_codec_array.specs.Arrays.{reshaped};
 ghost use Rattle.zarrs_codec_array.specs.Gathered.{encoded_shape};
-ghost use Rattle.zarrs_codec_array.specs.Extents.{dimensions_in, is_rest, are_distinct, is_reshape, extent_view, extents_view, fitting_extent, fitting_shape};
+ghost use Rattle.zarrs_codec_array.specs.Extents.{dimensions_in, is_rest, are_distinct, is_reshape};
+ghost use Rattle.zarrs_codec_array.specs.Extents.{extent_view, extents_view, fitting_extent};
+ghost use Rattle.zarrs_codec_array.specs.Extents.{fitting_shape};
 
 use crate::lists;
 use std::alloc::{AllocError, Global};
@@ -25,6 +29,9 @@ pub enum ReshapeExtent {
 
 impl ReshapeExtent {
     /// The same entry.
+    ///
+    /// # Errors
+    /// `AllocError`: out of memory.
     pub fn try_clone(&self, alloc: Global) -> Result<ReshapeExtent, AllocError>
         ensures { IfOk result (λ copy. extent_view copy ≡ extent_view self.now) }
     {
@@ -49,6 +56,9 @@ impl ReshapeCodec {
     ghost use Rattle.zarrs_codec_array.specs.Reshape.{entries_of};
 
     /// The codec of these entries; `None` if they name a dimension twice, or if two of them are what is left.
+    ///
+    /// # Errors
+    /// `AllocError`: out of memory.
     pub fn new(
         alloc: Global,
         entries: Vec<ReshapeExtent>,
@@ -71,6 +81,9 @@ impl ReshapeCodec {
     }
 
     /// The same codec.
+    ///
+    /// # Errors
+    /// `AllocError`: out of memory.
     pub fn try_clone(&self, alloc: Global) -> Result<ReshapeCodec, AllocError>
         ensures { IfOk result (λ copy. entries_of copy ≡ entries_of self.now) }
     {
@@ -95,7 +108,6 @@ impl ReshapeCodec {
     }
 }
 
-/// The same entries.
 fn copied_entries(
     alloc: Global,
     entries: &[ReshapeExtent],
@@ -109,7 +121,7 @@ fn copied_entries(
     Ok(copy)
 }
 
-/// The shape of these entries, for an array of this shape and so many cells.
+/// The shape of these entries, for an array of this shape, which has `count` cells.
 fn reshaped_shape(
     alloc: Global,
     entries: &[ReshapeExtent],
@@ -144,7 +156,7 @@ fn extent_left(count: u64, named: &[u64]) -> u64
     }
 }
 
-/// Whether an array of this shape has so many cells.
+/// Whether an array of this shape has `count` cells.
 fn has_count(shape: &[u64], count: u64) -> bool
     ensures { IsTrue result ↔ (position_count shape.now ≡ count) }
 {
@@ -187,7 +199,7 @@ fn are_distinct(alloc: Global, numbers: &[u64]) -> Result<bool, AllocError>
     Ok(true)
 }
 
-/// How many entries are what is left.
+/// The number of entries that are what is left.
 fn rests(entries: &[ReshapeExtent]) -> usize
     ensures { result ≡ count_by is_rest (extents_view entries.now) }
 {
@@ -200,7 +212,7 @@ fn rests(entries: &[ReshapeExtent]) -> usize
     count
 }
 
-/// The extents of the entries, where `left` is what is left; `None` if one of them names a dimension that the shape
+/// The extents of the entries; `left` is what is left. `None` if one of them names a dimension that the shape
 /// does not have, or passes `u64`.
 fn fitting_shape(
     alloc: Global,
@@ -221,7 +233,6 @@ fn fitting_shape(
     Ok(Some(made))
 }
 
-/// The extent of one entry.
 fn fitting_extent(
     alloc: Global,
     entry: &ReshapeExtent,
@@ -237,7 +248,7 @@ fn fitting_extent(
     }
 }
 
-/// The product of the extents of these dimensions, if they are there and it fits `u64`.
+/// The product of the extents of these dimensions, if the shape has them and it fits `u64`.
 fn product_of(alloc: Global, dimensions: &[u64], shape: &[u64]) -> Result<Option<u64>, AllocError>
     ensures { IfOk result (λ product. product ≡ (let extents = map (λ j. slice_index shape.now j) dimensions.now in
         if list_all (λ j. nat_lt j (length shape.now)) dimensions.now && nat_lt (position_count extents) (2 ^ 64)

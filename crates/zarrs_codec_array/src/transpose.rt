@@ -1,11 +1,13 @@
 //! The codec `transpose` (Zarr V3 core specification, "Transpose codec").
-ghost use Rattle.std.specs.Prelude.{◌≡◌, ◌*◌, true, None, Some, [], length, map, slice_index_or, IfOk, option_map, if◌then◌else◌};
+ghost use Rattle.std.specs.Prelude.{◌≡◌, ◌*◌, true, None, Some, [], length, map, slice_index_or};
+ghost use Rattle.std.specs.Prelude.{IfOk, option_map, if◌then◌else◌};
 ghost use Rattle.zarrs_subset.specs.Boxes.{position_count};
 ghost use Rattle.zarrs_data_type.specs.ArrayData.{data_of};
 ghost use Rattle.zarrs_data_type.specs.Cells.{HasCells, fits};
 ghost use Rattle.zarrs_data_type.specs.Kind.{kind};
 ghost use Rattle.zarrs_codec_array.specs.Arrays.{transposed};
-ghost use Rattle.zarrs_codec_array.specs.Gathered.{IsGathered, IsTaken, IsWay, walked, IsEncodedArray, IsDecodedArray, encoded_shape};
+ghost use Rattle.zarrs_codec_array.specs.Gathered.{IsGathered, IsTaken, IsWay, walked};
+ghost use Rattle.zarrs_codec_array.specs.Gathered.{IsEncodedArray, IsDecodedArray, encoded_shape};
 ghost use Rattle.zarrs_codec_array.specs.Orders.{is_order, permuted, strides, scaled};
 
 use crate::gather::{gather, push_strings};
@@ -25,6 +27,9 @@ impl TransposeCodec {
     ghost use Rattle.zarrs_codec_array.specs.Transpose.{order_of};
 
     /// The codec of this order, which is of the numbers below its length, each once; `None` for another list.
+    ///
+    /// # Errors
+    /// `AllocError`: out of memory.
     pub fn new(alloc: Global, order: Vec<u64>) -> Result<Option<TransposeCodec>, AllocError>
         ensures { IfOk result (λ made. option_map order_of made
             ≡ (if is_order order.items then Some order.items else None)) }
@@ -44,6 +49,9 @@ impl TransposeCodec {
     }
 
     /// The same codec.
+    ///
+    /// # Errors
+    /// `AllocError`: out of memory.
     pub fn try_clone(&self, alloc: Global) -> Result<TransposeCodec, AllocError>
         ensures { IfOk result (λ copy. order_of copy ≡ order_of self.now) }
     {
