@@ -1,4 +1,4 @@
--- When a codec of plain cells refuses. Memory may be short at any time.
+-- Why a codec of plain cells refuses. Out of memory may come at any time.
 use Rattle.std.specs.Prelude.{◌≡◌, ℕ, true, false, List, None}
 use Rattle.zarrs_codec_leaf.specs.declared.error.CodecError.{CodecError}
 use Rattle.zarrs_codec_leaf.specs.declared.error.CodecError.TheVariants as error

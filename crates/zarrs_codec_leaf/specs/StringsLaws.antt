@@ -1,5 +1,6 @@
 -- The law of a codec of byte strings.
-use Rattle.std.proofs.Common.{◌≡◌, ℕ, ◌<◌, Bool, true, false, cond, List, [], ◌∷◌, length, map, get_or, Option, None, Some, refl, sym, ap, ◌∙◌}
+use Rattle.std.proofs.Common.{◌≡◌, ℕ, ◌<◌, Bool, true, false, cond, List, [], ◌∷◌, length, map, get_or, Option, None}
+use Rattle.std.proofs.Common.{Some, refl, sym, ap, ◌∙◌}
 use Rattle.std.specs.Prelude.{option_and_then}
 use Rattle.std.proofs.lemmas.Bool.{false≢true}
 use Rattle.std.proofs.lemmas.List.{length-map}
@@ -28,7 +29,7 @@ string_cells k cs is values =
     map-map bytes cell_bytes cs
     ∙ map_same (λ c. bytes (cell_bytes c)) cs (λ i d lt. string_cell k (get_or cs i d) is (AllPass-from_list_all (λ c. is_value k c) cs values i d lt))
 
--- a codec of byte strings is lawful if it reads those again that it writes, and as many as were asked for
+-- a codec of byte strings is lawful if it reads again what it writes, and the number of byte strings that was asked for
 module _ (takes : Kind → Bool) (written : List (List ℕ) → Option (List ℕ)) (read : ℕ → List ℕ → Option (List (List ℕ))) where
   abbrev of_strings : LeafMeaning
   of_strings = strings_meaning takes written read

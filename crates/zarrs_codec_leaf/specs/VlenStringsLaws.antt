@@ -1,5 +1,6 @@
 -- The laws of `vlen-utf8` and `vlen-bytes`.
-use Rattle.std.proofs.Common.{◌≡◌, ℕ, zero, suc, ◌+◌, ◌<◌, ◌^◌, Bool, true, false, cond, eqb, ◌&&◌, List, [], ◌∷◌, ◌++◌, length, map, take, drop, Option, None, Some, refl, sym, ap, ◌∙◌, arith}
+use Rattle.std.proofs.Common.{◌≡◌, ℕ, zero, suc, ◌+◌, ◌<◌, ◌^◌, Bool, true, false, cond, eqb, ◌&&◌, List, [], ◌∷◌, ◌++◌}
+use Rattle.std.proofs.Common.{length, map, take, drop, Option, None, Some, refl, sym, ap, ◌∙◌, arith}
 use Rattle.std.specs.Prelude.{nat_lt, nat_le, option_map, option_and_then}
 use Rattle.std.specs.List.{list_all, flat_map}
 use Rattle.std.specs.Int.{w32, to_le_bytes, from_le_bytes}
@@ -8,7 +9,8 @@ use Rattle.std.proofs.lemmas.Nat.{from_le_bytes-to_le_bytes_4}
 use Rattle.std.proofs.lemmas.List.{length-append, append_assoc, take_at, drop_at, drop-drop}
 use Rattle.zarrs_types.specs.Kind.{Kind, is_variable}
 use Rattle.zarrs_types.specs.Kind as type
-use Rattle.zarrs_codec_leaf.specs.VlenStrings.{is_string, is_bytes, is_short, behind_length, counted, first_string, strings_of, uncounted, vlen_utf8_meaning, vlen_bytes_meaning}
+use Rattle.zarrs_codec_leaf.specs.VlenStrings.{is_string, is_bytes, is_short, behind_length, counted, first_string}
+use Rattle.zarrs_codec_leaf.specs.VlenStrings.{strings_of, uncounted, vlen_utf8_meaning, vlen_bytes_meaning}
 use Rattle.zarrs_codec_leaf.specs.Chosen.{some_is, only_parts, bind_parts, map_parts}
 use Rattle.zarrs_codec_leaf.specs.Leaf.{IsLawfulLeaf}
 use Rattle.zarrs_codec_leaf.specs.StringsLaws.{strings-lawful}

@@ -3,7 +3,8 @@ ghost use Rattle.std.specs.Prelude.{◌≡◌, ◌<◌, ◌^◌, All, Some, IfOk
 ghost use Rattle.zarrs_data_type.specs.ArrayData.{data_of};
 ghost use Rattle.zarrs_data_type.specs.Cells.{cells};
 ghost use Rattle.zarrs_data_type.specs.Kind.{kind};
-ghost use Rattle.zarrs_codec_leaf.specs.PackBits.{are_zero, byte_bits, packbits_meaning, packed, packed_byte};
+ghost use Rattle.zarrs_codec_leaf.specs.PackBits.{are_zero, byte_bits, packbits_meaning, packed};
+ghost use Rattle.zarrs_codec_leaf.specs.PackBits.{packed_byte};
 ghost use Rattle.zarrs_codec_leaf.specs.Refusals.{RefusesEncoding, RefusesDecoding};
 ghost use Rattle.zarrs_codec_leaf.specs.Leaf.{encoding_of};
 
@@ -27,6 +28,9 @@ impl PackBitsCodec {
     }
 
     /// The bytes of the cells.
+    ///
+    /// # Errors
+    /// `DoesNotFit` if the codec does not take the type. `OutOfMemory` may come at any time.
     pub fn encode(
         &self,
         alloc: Global,
@@ -50,6 +54,11 @@ impl PackBitsCodec {
     }
 
     /// The `count` cells of the bytes.
+    ///
+    /// # Errors
+    /// `DoesNotFit` if the codec does not take the type, if there are more or fewer bytes than
+    /// `count` bools need, or if a bit behind the last bool is not 0. `OutOfMemory` may come at any
+    /// time.
     pub fn decode(
         &self,
         alloc: Global,
@@ -144,7 +153,6 @@ fn bits_of(byte: u8) -> [u8; 8]
     ]
 }
 
-/// Whether each bit is 0.
 fn are_zero(bits: &[u8]) -> bool
     ensures { result ≡ are_zero bits.now }
 {

@@ -1,4 +1,4 @@
-//! Cells whose bytes stand the other way round.
+//! Cells with their bytes in reverse.
 ghost use Rattle.std.specs.Prelude.{◌≡◌, ◌/◌, ◌<◌, IfOk, length, reverse};
 ghost use Rattle.std.specs.List.{flat_map};
 ghost use Rattle.std.specs.Simd.{first_chunks};

@@ -1,9 +1,12 @@
 //! The codecs `vlen-utf8` and `vlen-bytes`.
-ghost use Rattle.std.specs.Prelude.{◌≡◌, ◌++◌, ℕ, List, Some, Ok, true, IfOk, IfErr, IsSome, option_map};
+ghost use Rattle.std.specs.Prelude.{◌≡◌, ◌++◌, ℕ, List, Some, Ok, true, IfOk, IfErr, IsSome};
+ghost use Rattle.std.specs.Prelude.{option_map};
 ghost use Rattle.zarrs_data_type.specs.ArrayData.{data_of};
 ghost use Rattle.zarrs_data_type.specs.Cells.{cells};
 ghost use Rattle.zarrs_data_type.specs.Kind.{kind};
-ghost use Rattle.zarrs_codec_leaf.specs.VlenStrings.{behind_length, counted, first_string, is_short, strings_of, uncounted, vlen_bytes_meaning, vlen_utf8_meaning};
+ghost use Rattle.zarrs_codec_leaf.specs.VlenStrings.{behind_length, counted, first_string};
+ghost use Rattle.zarrs_codec_leaf.specs.VlenStrings.{is_short, strings_of, uncounted};
+ghost use Rattle.zarrs_codec_leaf.specs.VlenStrings.{vlen_bytes_meaning, vlen_utf8_meaning};
 ghost use Rattle.zarrs_codec_leaf.specs.Refusals.{RefusesEncoding, RefusesDecoding};
 ghost use Rattle.zarrs_codec_leaf.specs.Leaf.{encoding_of};
 
@@ -11,11 +14,12 @@ use crate::error::CodecError;
 use std::alloc::{AllocError, Global};
 use zarrs_data_type::{ArrayBytes, ArrayBytesVariableLength, DataType, VariableLengthBuilder};
 
-/// Texts: their number in 4 bytes, little endian, and each text behind its length, in as many.
+/// Texts: their number in 4 bytes, little endian, and each text behind its length, in 4 bytes too.
 #[derive(Clone, Copy, Debug, Default, Drop, PartialEq, Eq)]
 pub struct VlenUtf8Codec;
 
-/// Byte strings: their number in 4 bytes, little endian, and each byte string behind its length, in as many.
+/// Byte strings: their number in 4 bytes, little endian, and each byte string behind its
+/// length, in 4 bytes too.
 #[derive(Clone, Copy, Debug, Default, Drop, PartialEq, Eq)]
 pub struct VlenBytesCodec;
 
@@ -31,6 +35,10 @@ impl VlenUtf8Codec {
     }
 
     /// The bytes of the cells.
+    ///
+    /// # Errors
+    /// In this order: `DoesNotFit` if the codec does not take the type; `SizeOverflow` if the number of the cells, or
+    /// the length of one, does not fit 4 bytes. `OutOfMemory` may come at any time.
     pub fn encode(
         &self,
         alloc: Global,
@@ -60,6 +68,10 @@ impl VlenUtf8Codec {
     }
 
     /// The `count` cells of the bytes.
+    ///
+    /// # Errors
+    /// `DoesNotFit` if the codec does not take the type, or if the bytes are not `count` cells of it. `OutOfMemory` may
+    /// come at any time.
     pub fn decode(
         &self,
         alloc: Global,
@@ -102,6 +114,10 @@ impl VlenBytesCodec {
     }
 
     /// The bytes of the cells.
+    ///
+    /// # Errors
+    /// In this order: `DoesNotFit` if the codec does not take the type; `SizeOverflow` if the number of the cells, or
+    /// the length of one, does not fit 4 bytes. `OutOfMemory` may come at any time.
     pub fn encode(
         &self,
         alloc: Global,
@@ -131,6 +147,10 @@ impl VlenBytesCodec {
     }
 
     /// The `count` cells of the bytes.
+    ///
+    /// # Errors
+    /// `DoesNotFit` if the codec does not take the type, or if the bytes are not `count` cells of it. `OutOfMemory` may
+    /// come at any time.
     pub fn decode(
         &self,
         alloc: Global,
@@ -161,7 +181,7 @@ impl VlenBytesCodec {
     }
 }
 
-/// The bytes of byte strings, or nothing if their number or a length does not fit 4 bytes.
+/// The bytes of byte strings, or `None` if their number or a length does not fit 4 bytes.
 fn counted(
     alloc: Global,
     strings: &ArrayBytesVariableLength<'_>,
