@@ -1,5 +1,6 @@
 -- The metadata of a chain, codec by codec.
-use Rattle.std.proofs.Common.{◌≡◌, ℕ, ◌+◌, ◌-◌, ◌<◌, List, [], ◌∷◌, ◌++◌, length, map, take, drop, get_or, Option, Some, None, option_map, option_and_then, refl, sym, ap, ◌∙◌, arith}
+use Rattle.std.proofs.Common.{◌≡◌, ℕ, ◌+◌, ◌-◌, ◌<◌, List, [], ◌∷◌, ◌++◌, length, map, take, drop, get_or, Option, Some}
+use Rattle.std.proofs.Common.{None, option_map, option_and_then, refl, sym, ap, ◌∙◌, arith}
 use Rattle.std.specs.Prelude.{slice_get}
 use Rattle.std.proofs.Math.Seq.{take-append_seam}
 use Rattle.std.proofs.lemmas.List.{drop_more, length-append}
@@ -12,7 +13,9 @@ use Rattle.zarrs_codec_array.specs.Metadata.{ArrayCodecData, array_codec_data, a
 use Rattle.zarrs_codec_array.specs.declared.array.ArrayToArrayCodec.{ArrayToArrayCodec}
 use Rattle.zarrs_codec_array.proofs.MetadataLaws.{array_codec_back}
 use Rattle.zarrs_codec_leaf.specs.declared.bytes.Endianness.TheVariants.{Little, Big}
-use Rattle.zarrs_codec.specs.Metadata.{BytesCodecData, bytes, packbits, vlen_utf8, vlen_bytes, bytes_codec_said, array_codecs_said, chain_of_parts, chain_said, extension_of_bytes_codec, extensions_of_chain}
+use Rattle.zarrs_codec.specs.Metadata.{BytesCodecData, bytes, packbits, vlen_utf8, vlen_bytes, bytes_codec_said}
+use Rattle.zarrs_codec.specs.Metadata.{array_codecs_said, chain_of_parts, chain_said, extension_of_bytes_codec}
+use Rattle.zarrs_codec.specs.Metadata.{extensions_of_chain}
 
 -- the last of the extension points, and those before it
 rest_count : (n m : ℕ) → n ≡ m + 1 → n - 1 ≡ m

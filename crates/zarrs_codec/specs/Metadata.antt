@@ -1,5 +1,6 @@
 -- The metadata of a chain of codecs: what is read from it, and what is written for one.
-use Rattle.std.specs.Prelude.{ℕ, ◌-◌, List, [], ◌∷◌, ◌++◌, codes, if◌then◌else◌, Option, Some, None, length, map, take, slice_get, option_map, option_and_then}
+use Rattle.std.specs.Prelude.{ℕ, ◌-◌, List, [], ◌∷◌, ◌++◌, codes, if◌then◌else◌, Option, Some, None, length, map, take}
+use Rattle.std.specs.Prelude.{slice_get, option_map, option_and_then}
 use Rattle.std.specs.Str.{bytes_eq}
 use Rattle.serde_json.specs.Data.{Data, string, Members}
 use Rattle.serde_json.specs.Find.{get_member, as_str}
@@ -96,13 +97,15 @@ chain_of_parts front last = do
   codec ← last
   Some (record { array_to_array = codecs; array_to_bytes = codec })
 
--- the chain that extension points say: the last one says the array-to-bytes codec, those before it say array-to-array codecs
+-- the chain that extension points say: the last one says the array-to-bytes codec, those before it say array-to-array
+-- codecs
 abbrev pub chain_said : List ExtensionData → Option ChainData
 chain_said es = chain_of_parts (array_codecs_said (take (length es - 1) es)) (option_and_then bytes_codec_said (slice_get es (length es - 1)))
 
 -- ---- what a builder takes if it is given none
 
--- `bytes`, little endian, for a type that is fixed and not optional, `vlen-utf8` for texts, `vlen-bytes` for byte strings
+-- `bytes`, little endian, for a type that is fixed and not optional, `vlen-utf8` for texts, `vlen-bytes` for byte
+-- strings
 abbrev pub default_codec : Kind → Option BytesCodecData
 default_codec type.string = Some vlen_utf8
 default_codec type.bytes = Some vlen_bytes

@@ -1,4 +1,4 @@
--- When a call of a chain refuses. Memory may be short at any time.
+-- Why a call of a chain refuses. Out of memory may come at any time.
 use Rattle.std.specs.Prelude.{◌≡◌, ℕ, Bool, true, false, List, None}
 use Rattle.zarrs_codec_leaf.specs.declared.error.CodecError.{CodecError}
 use Rattle.zarrs_codec_leaf.specs.declared.error.CodecError.TheVariants as error

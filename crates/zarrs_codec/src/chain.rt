@@ -8,7 +8,8 @@ ghost use Rattle.zarrs_codec_array.specs.ArrayCodecs.{arrays_meaning};
 ghost use Rattle.zarrs_codec_array.specs.Gathered.{data_or};
 ghost use Rattle.zarrs_codec_leaf.specs.Leaf.{encoding_of};
 ghost use Rattle.zarrs_codec_leaf.specs.Refusals.{RefusesEncoding, RefusesDecoding};
-ghost use Rattle.zarrs_codec.specs.Chains.{array_to_array_of, array_to_bytes_of, bytes_to_bytes_of, leaf_meaning, whole_chunk, chain_meaning};
+ghost use Rattle.zarrs_codec.specs.Chains.{array_to_array_of, array_to_bytes_of, bytes_to_bytes_of};
+ghost use Rattle.zarrs_codec.specs.Chains.{leaf_meaning, whole_chunk, chain_meaning};
 ghost use Rattle.zarrs_codec.specs.ChainLaws.{chain-lawful};
 ghost use Rattle.zarrs_codec.specs.Through.{through};
 

@@ -6,7 +6,11 @@ ghost use Rattle.zarrs_metadata.specs.Extension.{extension_view, settings};
 ghost use Rattle.zarrs_metadata.specs.Refusals.{RefusesMeaning};
 ghost use Rattle.zarrs_data_type.specs.Kind.{kind};
 ghost use Rattle.zarrs_codec_array.specs.Metadata.{array_codec_data, extension_of_array_codec};
-ghost use Rattle.zarrs_codec.specs.Metadata.{bytes, bytes_codec_data, chain_data, endian_said, bytes_said, packbits_said, plain_said, bytes_codec_said, array_codecs_said, chain_of_parts, chain_said, default_codec, extension_of_bytes_codec, extensions_of_chain};
+ghost use Rattle.zarrs_codec.specs.Metadata.{bytes, bytes_codec_data, chain_data, endian_said};
+ghost use Rattle.zarrs_codec.specs.Metadata.{bytes_said, packbits_said, plain_said};
+ghost use Rattle.zarrs_codec.specs.Metadata.{bytes_codec_said, array_codecs_said, chain_of_parts};
+ghost use Rattle.zarrs_codec.specs.Metadata.{chain_said, default_codec, extension_of_bytes_codec};
+ghost use Rattle.zarrs_codec.specs.Metadata.{extensions_of_chain};
 
 use crate::chain::{ArrayToBytesCodec, BytesToBytesCodecs, CodecChain};
 use serde_json::Value;
@@ -23,7 +27,7 @@ impl ArrayToBytesCodec {
     ///
     /// # Errors
     /// `Other` if the metadata says none of them: for another name, a member of another shape, and a configuration
-    /// with any other member.
+    /// with any other member. `OutOfMemory` may come at any time.
     pub fn from_metadata(
         alloc: Global,
         metadata: &MetadataV3,
@@ -43,6 +47,9 @@ impl ArrayToBytesCodec {
     }
 
     /// Returns the metadata of the codec.
+    ///
+    /// # Errors
+    /// `AllocError`: out of memory.
     pub fn create_metadata(&self, alloc: Global) -> Result<MetadataV3, AllocError>
         ensures written { IfOk result (λ m.
             extension_view m ≡ extension_of_bytes_codec (bytes_codec_data self.now)) }
@@ -82,7 +89,7 @@ impl CodecChain {
     ///
     /// # Errors
     /// `Other` if the list is empty, if the last one says no array-to-bytes codec, or if one before it says no
-    /// array-to-array codec.
+    /// array-to-array codec. `OutOfMemory` may come at any time.
     pub fn from_metadata(
         alloc: Global,
         metadatas: &[MetadataV3],
@@ -101,6 +108,9 @@ impl CodecChain {
     }
 
     /// Returns the metadata of the codecs, in their order.
+    ///
+    /// # Errors
+    /// `AllocError`: out of memory.
     pub fn create_metadatas(&self, alloc: Global) -> Result<Vec<MetadataV3>, AllocError>
         ensures written { IfOk result (λ made.
             map extension_view made.items ≡ extensions_of_chain (chain_data self.now)) }
@@ -113,6 +123,9 @@ impl CodecChain {
     }
 
     /// The same chain.
+    ///
+    /// # Errors
+    /// `AllocError`: out of memory.
     pub fn try_clone(&self, alloc: Global) -> Result<CodecChain, AllocError>
         ensures { IfOk result (λ copy. chain_data copy ≡ chain_data self.now) }
     {

@@ -6,7 +6,8 @@ ghost use Rattle.zarrs_data_type.specs.Cell.{fill_cell, fill_of};
 ghost use Rattle.zarrs_data_type.specs.ArrayData.{data_of};
 ghost use Rattle.zarrs_data_type.specs.Cells.{cells, HasCells};
 ghost use Rattle.zarrs_codec.specs.Chain.{ChainMeaning, IsLawfulChain, chunk_encoding};
-ghost use Rattle.zarrs_codec.specs.Refusals.{RefusesChunkEncoding, RefusesChunkDecoding, RefusesCompaction};
+ghost use Rattle.zarrs_codec.specs.Refusals.{RefusesChunkEncoding, RefusesChunkDecoding};
+ghost use Rattle.zarrs_codec.specs.Refusals.{RefusesCompaction};
 ghost use Rattle.zarrs_codec.specs.Options.{stores_empty_chunks};
 
 use crate::options::CodecOptions;
@@ -21,10 +22,17 @@ pub trait ChainTraits {
     ghost meaning: { Self → ChainMeaning };
 
     /// Whether the chain takes this type in chunks of this shape.
+    ///
+    /// # Errors
+    /// `AllocError`: out of memory.
     fn fits(&self, alloc: Global, data_type: &DataType, shape: &[u64]) -> Result<bool, AllocError>
         ensures { IfOk result (λ fits. fits ≡ (meaning self.now).fits (kind data_type.now) shape.now) };
 
-    /// The bytes of a chunk's cells.
+    /// The bytes of a chunk's cells. `shape` has the chunk's extents, `bytes` its cells in row-major order.
+    ///
+    /// # Errors
+    /// In this order: `DoesNotFit` if the chain does not take the type and the shape; `SizeOverflow` if a size is too
+    /// large. `OutOfMemory` may come at any time.
     fn encode(
         &self,
         alloc: Global,
@@ -43,6 +51,9 @@ pub trait ChainTraits {
             (kind data_type.now) (fill_of (kind data_type.now) fill_value.now) shape.now (data_of bytes.now)) };
 
     /// The cells of a chunk's bytes.
+    ///
+    /// # Errors
+    /// `DoesNotFit` if the bytes do not decode. `OutOfMemory` may come at any time.
     fn decode(
         &self,
         alloc: Global,
@@ -59,7 +70,10 @@ pub trait ChainTraits {
         ensures refused { IfErr result (RefusesChunkDecoding (meaning self.now) (kind data_type.now)
             (fill_of (kind data_type.now) fill_value.now) shape.now encoded.now) };
 
-    /// The bytes of the same cells without what no cell needs, where those are other bytes.
+    /// The bytes of the same cells without what no cell needs, or `None` if those are the same bytes.
+    ///
+    /// # Errors
+    /// `DoesNotFit` if the bytes do not decode. `OutOfMemory` may come at any time.
     fn compact(
         &self,
         alloc: Global,
@@ -70,6 +84,6 @@ pub trait ChainTraits {
             ≡ Some (option_map (λ encoded. encoded.items) less)) }
         ensures refused { IfErr result (RefusesCompaction (meaning self.now) shape.now encoded.now) };
 
-    /// Decoding gives back what was encoded, and what was encoded is compact.
+    /// Decoding returns what was encoded, and what was encoded is compact.
     ghost lawful: { (chain : Self) → IsLawfulChain (meaning chain) };
 }
