@@ -1,7 +1,9 @@
 -- The content over one chunk.
 use Rattle.std.proofs.lemmas.Slice.Eq.{bytes_eq-Decides}
 use Rattle.std.proofs.lemmas.Bool.{cases_Bool}
-use Rattle.std.proofs.Common.{◌≢◌, ◌⊎◌, bytes_eq, inl, inr, ◌≡◌, ℕ, suc, zero, ◌<◌, Bool, true, false, ◌&&◌, cond, List, [], ◌∷◌, length, Option, Some, None, slice_get, Contains, replicate, refl, sym, ◌∙◌, ap, subst, arith}
+use Rattle.std.proofs.Common.{◌≢◌, ◌⊎◌, bytes_eq, inl, inr, ◌≡◌, ℕ, suc, zero, ◌<◌, Bool, true, false, ◌&&◌, cond, List}
+use Rattle.std.proofs.Common.{[], ◌∷◌, length, Option, Some, None, slice_get, Contains, replicate, refl, sym, ◌∙◌, ap}
+use Rattle.std.proofs.Common.{subst, arith}
 use Rattle.std.specs.Prelude.{IsSome, option_map, unwrap_or, ◌-◌, ◌==◌, nat_lt, slice_index, take}
 use Rattle.std.specs.List.{list_all}
 use Rattle.std.proofs.lemmas.List.{length-replicate}
@@ -9,7 +11,8 @@ use Rattle.zarrs_subset.specs.Boxes.{position_count}
 use Rattle.zarrs_subset.specs.Regions.{Holds, place_in}
 use Rattle.zarrs_subset.proofs.Bytes.{place_in_below}
 use Rattle.zarrs_chunk_grid.specs.Grids.{Grid, IsGrid, box_at, index_at, is_covered, has_box}
-use Rattle.zarrs_chunk_grid.proofs.Chunks.{box_is_there, has_box_is, box_long, box_words, box_index, box_covered, covered_holds, covered_chunk, chunk_has_box}
+use Rattle.zarrs_chunk_grid.proofs.Chunks.{box_is_there, has_box_is, box_long, box_words, box_index, box_covered}
+use Rattle.zarrs_chunk_grid.proofs.Chunks.{covered_holds, covered_chunk, chunk_has_box}
 use Rattle.zarrs_keys.specs.Keys.{IsIndexList, IsLawfulKey, IsMetadataName, v3_name, v2_array_name, v2_attributes_name}
 use Rattle.zarrs_keys.specs.Paths.{path_key}
 use Rattle.zarrs_keys.proofs.PathLemmas.{lawful_at}

@@ -2,7 +2,9 @@
 use Rattle.std.specs.List.{list_any}
 use Rattle.std.specs.Str.{bytes_eq}
 use Rattle.std.proofs.lemmas.Slice.Eq.{bytes_eq-Decides}
-use Rattle.std.proofs.Common.{get_or, ◌||◌, zero, suc, ◌<◌, ◌≡◌, ◌≢◌, ◌≤◌, not, ◌&&◌, ℕ, Bool, true, false, cond, List, [], ◌∷◌, ◌++◌, length, take, Option, Some, None, Contains, refl, sym, ◌∙◌, ap, subst, inl, inr, arith}
+use Rattle.std.proofs.Common.{get_or, ◌||◌, zero, suc, ◌<◌, ◌≡◌, ◌≢◌, ◌≤◌, not, ◌&&◌, ℕ, Bool, true, false, cond, List}
+use Rattle.std.proofs.Common.{[], ◌∷◌, ◌++◌, length, take, Option, Some, None, Contains, refl, sym, ◌∙◌, ap, subst, inl}
+use Rattle.std.proofs.Common.{inr, arith}
 use Rattle.std.proofs.lemmas.Bool.{cases_Bool, false≢true}
 use Rattle.std.proofs.lemmas.List.Elements.{Contains-push, Contains-push_cases, Contains-append_left}
 use Rattle.zarrs_subset.specs.Boxes.{position_count}
@@ -18,7 +20,8 @@ use Rattle.zarrs_data_type.specs.Cells.{cells}
 use Rattle.zarrs_steps.specs.Layout.{Layout, IsLawful}
 use Rattle.zarrs_steps.specs.Content.{value_at, content, Reads, cell_at_place, chunk_cell}
 use Rattle.zarrs_steps.specs.Changes.{IsValueOf, ChangesKeysOf, Makes, Stores, Erases, IsPut}
-use Rattle.zarrs_steps.proofs.Contents.{fill_at, index_list, one_key, content_in_box, content_covered, content_uncovered, covered_has_box, in_chunk, member, only_member}
+use Rattle.zarrs_steps.proofs.Contents.{fill_at, index_list, one_key, content_in_box, content_covered}
+use Rattle.zarrs_steps.proofs.Contents.{content_uncovered, covered_has_box, in_chunk, member, only_member}
 use Rattle.zarrs_steps.proofs.Contents.{same_or_not}
 use Rattle.zarrs_steps.specs.Fronts.{Front, Takes, StoresAll, ErasesAll, is_in_chunks}
 use Rattle.zarrs_steps.specs.StateRefusals.{AreUpdated}

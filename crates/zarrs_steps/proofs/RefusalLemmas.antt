@@ -1,5 +1,6 @@
 -- Refusals of the parts of a call are refusals of the call.
-use Rattle.std.proofs.Common.{◌⊎◌, inl, inr, ◌≡◌, ℕ, ◌*◌, ◌^◌, ◌<◌, ◌≤◌, true, false, not, cond, List, Option, Some, None, refl, ◌∙◌, ap, arith}
+use Rattle.std.proofs.Common.{◌⊎◌, inl, inr, ◌≡◌, ℕ, ◌*◌, ◌^◌, ◌<◌, ◌≤◌, true, false, not, cond, List, Option, Some}
+use Rattle.std.proofs.Common.{None, refl, ◌∙◌, ap, arith}
 use Rattle.std.specs.Prelude.{unwrap_or}
 use Rattle.std.specs.Option.{option_or}
 use Rattle.std.proofs.lemmas.Bool.{le-leb, lt-leb, leb-false}
@@ -17,7 +18,9 @@ use Rattle.zarrs_steps.specs.Layout.{Layout}
 use Rattle.zarrs_steps.specs.Errors.{error_of_storage, error_of_codec}
 use Rattle.zarrs_steps.specs.Changes.{Makes}
 use Rattle.zarrs_steps.specs.Refusals as refusal
-use Rattle.zarrs_steps.specs.Refusals.{Refusal, refusal_of, refusal_of_storage, refusal_of_codec, box_refusal, is_too_large, data_refusal, encode_refusal, encoded_cells, is_left_out, RefusesBy}
+use Rattle.zarrs_steps.specs.Refusals.{Refusal, refusal_of, refusal_of_storage, refusal_of_codec, box_refusal}
+use Rattle.zarrs_steps.specs.Refusals.{is_too_large, data_refusal, encode_refusal, encoded_cells, is_left_out}
+use Rattle.zarrs_steps.specs.Refusals.{RefusesBy}
 
 -- what refuses a part of a call refuses the call
 pub refusal_moved : (a b : Option Refusal) (r : Refusal) → ((x : Refusal) → a ≡ Some x → b ≡ Some x) → RefusesBy a r → RefusesBy b r
@@ -33,7 +36,7 @@ refusal_moved a b refusal.out_of_memory f h = tt
 refusal_moved a b (refusal.dimensionality got expected) f h = f _ h
 refusal_moved a b refusal.unused f h = f _ h
 
--- a refusal is the one that is decided, or memory was short
+-- a refusal is the one that is decided, or out of memory
 pub memory_or_said : (first : Option Refusal) (r : Refusal) → RefusesBy first r → (r ≡ refusal.out_of_memory) ⊎ (first ≡ Some r)
 memory_or_said first (refusal.array_subset region shape) h = inr h
 memory_or_said first (refusal.chunk_subset part index shape) h = inr h

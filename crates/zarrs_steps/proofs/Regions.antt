@@ -1,5 +1,6 @@
 -- Reads after stores, stores after reads, disjoint writes, and parts of a region.
-use Rattle.std.proofs.Common.{◌≡◌, ℕ, Bool, true, false, cond, List, [], ◌∷◌, length, Option, Some, None, refl, sym, ◌∙◌, ap, subst, inl, inr, arith}
+use Rattle.std.proofs.Common.{◌≡◌, ℕ, Bool, true, false, cond, List, [], ◌∷◌, length, Option, Some, None, refl, sym}
+use Rattle.std.proofs.Common.{◌∙◌, ap, subst, inl, inr, arith}
 use Rattle.std.specs.Prelude.{option_and_then}
 use Rattle.std.proofs.lemmas.Bool.{cases_Bool}
 use Rattle.zarrs_subset.specs.Boxes.{position_count}
@@ -27,7 +28,9 @@ use Rattle.zarrs_steps.specs.ArgumentRefusals.{argument_refusal}
 use Rattle.zarrs_steps.specs.Fronts.{StoresAll}
 use Rattle.zarrs_steps.specs.Reads.{ReadsKnown}
 use Rattle.zarrs_steps.specs.Step.{ActStep, Step, Run}
-use Rattle.zarrs_steps.specs.Laws.{IsQuiet, AreQuiet, StoresAt, ReadsAt, region_read, data_in, touches, written, ReadAfterStore, StoreAfterRead, DisjointWritesAgree, ReadsOfDecodingChunks, PartsMakeTheRegion}
+use Rattle.zarrs_steps.specs.Laws.{IsQuiet, AreQuiet, StoresAt, ReadsAt, region_read, data_in, touches, written}
+use Rattle.zarrs_steps.specs.Laws.{ReadAfterStore, StoreAfterRead, DisjointWritesAgree, ReadsOfDecodingChunks}
+use Rattle.zarrs_steps.specs.Laws.{PartsMakeTheRegion}
 use Rattle.zarrs_steps.proofs.Shapes.{slice_there}
 
 -- lists of cells with equal cells are one

@@ -1,5 +1,6 @@
 -- What the two shapes of a write keep: some chunks took their part, or some chunks are gone.
-use Rattle.std.proofs.Common.{◌≡◌, ◌≢◌, ◌⊎◌, ◌<◌, zero, suc, ℕ, Bool, true, false, List, [], ◌∷◌, length, take, Option, Some, None, slice_get, Contains, refl, sym, ◌∙◌, ap, subst, inl, inr, arith}
+use Rattle.std.proofs.Common.{◌≡◌, ◌≢◌, ◌⊎◌, ◌<◌, zero, suc, ℕ, Bool, true, false, List, [], ◌∷◌, length, take, Option}
+use Rattle.std.proofs.Common.{Some, None, slice_get, Contains, refl, sym, ◌∙◌, ap, subst, inl, inr, arith}
 use Rattle.std.specs.FinMap as map
 use Rattle.std.proofs.lemmas.List.FromFn.{length-map-range_with_len}
 use Rattle.zarrs_subset.specs.Regions.{Box, Holds, place_in, cell_in}

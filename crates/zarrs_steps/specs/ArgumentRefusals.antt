@@ -28,7 +28,7 @@ cells_refusal layout count held = count_refusal count (cells layout.kind held)
 abbrev pub size_refusal : Layout → List ℕ → Option Refusal
 size_refusal layout shape = refuse_if (is_too_large layout shape) refusal.size_overflow
 
--- E8: so many cells of the type, or so many fill values, take more bytes than a usize counts
+-- E8: the cells of a box of this shape, or a fill value for each, take more bytes than a usize counts
 abbrev pub read_size_refusal : Layout → List ℕ → Option Refusal
 read_size_refusal layout shape = option_or (size_refusal layout shape) (fill_refusal layout shape)
 
@@ -54,7 +54,7 @@ abbrev pub region_refusal : Layout → List ℕ → Box → Option Refusal
 region_refusal layout shape region =
     option_or (dimensions_refusal layout shape region) (refuse_if (not (is_covered_box layout.grid region)) (refusal.array_subset region shape))
 
--- data over a box of this shape: where it is a whole chunk, its size; the cells
+-- data over a box of this shape: if it is a whole chunk, its size; the cells
 abbrev pub box_data_refusal : Layout → Bool → List ℕ → ArrayData → Option Refusal
 box_data_refusal layout is_whole shape held =
     option_or (if is_whole then size_refusal layout shape else None) (cells_refusal layout (position_count shape) held)
@@ -72,7 +72,7 @@ store_chunks_refusal layout range held =
     else if number == 1 then store_chunk_refusal layout range.start held
     else option_or (range_refusal layout range) (cells_refusal layout (position_count (range_box layout.grid range).shape) held)
 
--- a store of a part: the length, the chunk, the part; where it is the whole chunk, its size; the cells
+-- a store of a part: the length, the chunk, the part; if it is the whole chunk, its size; the cells
 abbrev pub store_part_refusal : Layout → List ℕ → Box → ArrayData → Option Refusal
 store_part_refusal layout index part held =
     let shape = (box_at layout.grid index).shape in
@@ -81,7 +81,7 @@ store_part_refusal layout index part held =
     (option_or (part_refusal layout index part)
     (box_data_refusal layout (is_whole_of shape part) part.shape held)))
 
--- data over a region: where it is one whole chunk, its size; the cells
+-- data over a region: if it is one whole chunk, its size; the cells
 abbrev pub region_data_refusal : Layout → Box → ArrayData → Option Refusal
 region_data_refusal layout region held = box_data_refusal layout (is_one_chunk layout.grid region) region.shape held
 
@@ -100,7 +100,7 @@ read_chunks_refusal layout shape range =
     (if is_empty range then None
     else option_or (range_refusal layout range) (read_size_refusal layout (range_box layout.grid range).shape))
 
--- a read of a part: the index list, the part; where it is not the whole chunk, its size
+-- a read of a part: the index list, the part; if it is not the whole chunk, its size
 abbrev pub read_part_refusal : Layout → List ℕ → Box → Option Refusal
 read_part_refusal layout index part =
     option_or (chunk_refusal layout index)

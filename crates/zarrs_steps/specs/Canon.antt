@@ -9,7 +9,8 @@ use Rattle.zarrs_steps.specs.Layout.{Layout}
 use Rattle.zarrs_steps.specs.Content.{value_at, content, Reads}
 use Rattle.zarrs_steps.specs.Refusals.{is_left_out, encoded_cells}
 
--- what is present at the key of a chunk of this box for the function: nothing if that is all fill, else the bytes of its cells
+-- what is present at the key of a chunk of this box for the function: nothing if that is all fill, else the bytes of
+-- its cells
 abbrev pub IsCanonicalValue : Layout → (List ℕ → Option Cell) → Box → Option (List ℕ) → Type 0
 IsCanonicalValue layout f box None = (position : List ℕ) → Holds box position → f position ≡ Some layout.fill
 IsCanonicalValue layout f box (Some encoded) =

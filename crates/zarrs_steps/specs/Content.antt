@@ -8,11 +8,11 @@ use Rattle.zarrs_storage.specs.Store.{StoreState}
 use Rattle.zarrs_data_type.specs.Cell.{Cell}
 use Rattle.zarrs_steps.specs.Layout.{Layout}
 
--- the bytes that stand at each key
+-- the bytes that are present at each key
 abbrev pub value_at : StoreState → List ℕ → Option (List ℕ)
 value_at state key = map.get state.values key
 
--- the cell at a place, where there are cells
+-- the cell at a place, if there are cells
 abbrev pub cell_at_place : Option (List Cell) → ℕ → Option Cell
 cell_at_place None place = None
 cell_at_place (Some cells) place = slice_get cells place
@@ -21,7 +21,7 @@ cell_at_place (Some cells) place = slice_get cells place
 abbrev pub decoded_cells : Layout → Box → List ℕ → Option (List Cell)
 decoded_cells layout box encoded = layout.chain.decoded layout.kind layout.fill box.shape encoded
 
--- the cell of a chunk at a position: the fill value where no bytes stand, else that of the decoded bytes
+-- the cell of a chunk at a position: the fill value if the chunk is absent, else that of the decoded bytes
 abbrev pub chunk_cell : Layout → Option (List ℕ) → Box → List ℕ → Option Cell
 chunk_cell layout None box position = Some layout.fill
 chunk_cell layout (Some encoded) box position = cell_at_place (decoded_cells layout box encoded) (place_in box position)
@@ -30,8 +30,8 @@ chunk_cell layout (Some encoded) box position = cell_at_place (decoded_cells lay
 abbrev pub indexed_cell : Layout → (List ℕ → Option (List ℕ)) → List ℕ → List ℕ → Option Cell
 indexed_cell layout stored index position = chunk_cell layout (stored (layout.key index)) (box_at layout.grid index) position
 
--- The cell at a position, for a look-up of the bytes at each key: none where no chunk covers the position, or
--- where its chunk does not decode.
+-- The cell at a position, for a look-up of the bytes at each key: none if no chunk covers the position, or
+-- if its chunk does not decode.
 unfoldable pub content : Layout → (List ℕ → Option (List ℕ)) → List ℕ → Option Cell
 content layout stored position =
     if is_covered layout.grid position then indexed_cell layout stored (index_at layout.grid position) position else None

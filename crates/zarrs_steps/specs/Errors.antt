@@ -14,23 +14,23 @@ use Rattle.zarrs_steps.specs.declared.error.ArrayError.TheVariants as array
 abbrev pub unfit : ArrayError
 unfit = array.CodecError codec.DoesNotFit
 
--- a store's refusal, but being out of memory
+-- a store's refusal, except out of memory
 abbrev pub error_of_storage : StorageError → ArrayError
 error_of_storage storage.OutOfMemory = array.OutOfMemory
 error_of_storage error = array.StorageError error
 
--- a codec's refusal, but a size and being out of memory
+-- a codec's refusal, except a size and out of memory
 abbrev pub error_of_codec : CodecError → ArrayError
 error_of_codec codec.DoesNotFit = unfit
 error_of_codec codec.SizeOverflow = array.SizeOverflow
 error_of_codec codec.OutOfMemory = array.OutOfMemory
 
--- a refusal of values, but being out of memory
+-- a refusal of values, except out of memory
 abbrev pub error_of_element : ElementError → ArrayError
 error_of_element element.OutOfMemory = array.OutOfMemory
 error_of_element error = array.ElementError error
 
--- a refusal of a box, but being out of memory
+-- a refusal of a box, except out of memory
 abbrev pub error_of_subset : ArraySubsetError → ArrayError
 error_of_subset subset.OutOfMemory = array.OutOfMemory
 error_of_subset error = array.ArraySubsetError error

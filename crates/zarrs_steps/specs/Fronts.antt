@@ -13,7 +13,7 @@ use Rattle.zarrs_steps.specs.Layout.{Layout}
 use Rattle.zarrs_steps.specs.Content.{value_at, content}
 use Rattle.zarrs_steps.specs.Changes.{Makes, Stores, Erases}
 
--- the data is as many cells as the region has positions, and these chunks took their part of them
+-- the data is one cell for each position of the region, and these chunks took their part of them
 pub record Takes (layout : Layout) (keep : Bool) (region : Box) (held : ArrayData) (indices : List (List ℕ)) (old new : StoreState) : Type 0 where
   pub given : List Cell
   pub are_cells : cells layout.kind held ≡ Some given
@@ -56,9 +56,9 @@ pub record RefusesWrite (changed : List (List ℕ) → Type 0) (chunks : List (L
   pub done : ℕ
   pub failed : ℕ
   pub front : Front changed chunks done failed old new
-  -- where there is a chunk, one is not done
+  -- if there is a chunk, one is not done
   pub below : 0 < length chunks → done < length chunks
-  -- at most one writing call was refused, and none is counted where no call was left
+  -- at most one writing call was refused, and none is counted if no call was left
   pub one : failed ≤ 1
   pub counted : 0 < failed → new.calls ≢ last_call + 1
   -- with its reason: nothing was done and no writing call made; or the next chunk was refused

@@ -8,7 +8,7 @@ use Rattle.zarrs_codec.specs.Chain.{ChainMeaning, IsLawfulChain}
 use Rattle.zarrs_data_type.specs.Cell.{Cell, bytes, none, some}
 use Rattle.zarrs_steps.specs.Layout.{Layout, IsLawful, IsInjective, AreApart}
 
--- how often a cell is some of a cell, and what stands inside
+-- how often a cell is some of a cell, and the bytes inside
 abbrev depth_of : Cell → ℕ
 depth_of (bytes b) = 0
 depth_of none = 0

@@ -46,13 +46,13 @@ CanonicalStoresDecode = (layout : Layout) → IsLawful layout → (state : Store
 abbrev pub EmptyStoresAreCanonical : Type 0
 EmptyStoresAreCanonical = (layout : Layout) → IsLawful layout → (state : StoreState) → HasNoChunk layout state → IsCanonical layout (value_at state)
 
--- a step leaves a canonical store canonical, where empty chunks are not kept
+-- a step leaves a canonical store canonical, if empty chunks are not kept
 abbrev pub StepsKeepCanon : Type 0
 StepsKeepCanon =
     (layout : Layout) → IsLawful layout → (call : Call) (reply : Reply) (old new : ArrayState)
     → Step layout false call reply old new → IsCanonical layout (value_at old.store) → IsCanonical layout (value_at new.store)
 
--- a step leaves chunks that decode, where all did
+-- a step leaves chunks that decode, if all did
 abbrev pub StepsKeepDecoding : Type 0
 StepsKeepDecoding =
     (layout : Layout) → IsLawful layout → (keep : Bool) (call : Call) (reply : Reply) (old new : ArrayState)
@@ -64,11 +64,11 @@ StepsKeepReach =
     (layout : Layout) (keep : Bool) (call : Call) (reply : Reply) (old new : ArrayState)
     → Step layout keep call reply old new → KeepsReach old.store new.store
 
--- a run from a store without a chunk, where empty chunks are not kept
+-- a run from a store without a chunk, if empty chunks are not kept
 abbrev pub IsHistory : Layout → ArrayState → Type 0
 IsHistory layout new = (calls : List Call) × (replies : List Reply) × (old : ArrayState) × HasNoChunk layout old.store × Run layout false calls replies old new
 
--- two histories from stores without a chunk have equal content exactly where they have equal bytes
+-- two histories from stores without a chunk have equal content exactly if they have equal bytes
 abbrev pub HistoriesAgree : Type 0
 HistoriesAgree =
     (layout : Layout) → IsLawful layout → (a b : ArrayState) → IsHistory layout a → IsHistory layout b
@@ -149,7 +149,7 @@ written layout _ position = None
 abbrev pub AreDisjoint : Layout → Call → Call → Type 0
 AreDisjoint layout a b = (position : List ℕ) → touches layout (act_of layout a) position ≡ true → touches layout (act_of layout b) position ≡ false
 
--- two disjoint writes, accepted in both orders, give the same content
+-- two disjoint writes, accepted in both orders, leave the same content
 abbrev pub DisjointWritesAgree : Type 0
 DisjointWritesAgree =
     (layout : Layout) → IsLawful layout → (keep : Bool) (a b : Call) (s0 s1 s2 t1 t2 : ArrayState)
@@ -158,15 +158,15 @@ DisjointWritesAgree =
     → Step layout keep b Done s0 t1 → Step layout keep a Done t1 t2
     → HaveEqualContent layout s2.store t2.store
 
--- where each chunk decodes, a read returns the content over its region
+-- if each chunk decodes, a read returns the content over its region
 abbrev pub ReadsOfDecodingChunks : Type 0
 ReadsOfDecodingChunks =
     (layout : Layout) → IsLawful layout → (keep : Bool) (call : Call) (region : Box) (got : ArrayData) (old new : ArrayState)
     → ReadsAt layout keep call region got old new → EachDecodes layout old.store
     → (given : List Cell) × (cells layout.kind got ≡ Some given) × Reads (content layout (value_at old.store)) region given
 
--- A region's cells are those of its parts put together: a list of as many cells as the region, which at each position
--- of the region has the cell that the read of some part has there, is what a read of the region answers.
+-- A region's cells are those of its parts put together: a list of one cell for each position of the region, which
+-- at each of them has the cell that the read of some part has there, is what a read of the region returns.
 abbrev pub PartsMakeTheRegion : Type 0
 PartsMakeTheRegion =
     (layout : Layout) → IsLawful layout → (keep : Bool) (call : Call) (region : Box) (got : ArrayData) (old new : ArrayState) (made : List Cell)

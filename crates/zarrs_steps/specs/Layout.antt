@@ -8,8 +8,8 @@ use Rattle.zarrs_data_type.specs.Kind.{Kind}
 use Rattle.zarrs_data_type.specs.Cell.{Cell, fill_of, is_value}
 use Rattle.zarrs_codec.specs.Chain.{ChainMeaning, IsLawfulChain}
 
--- How an array lies in a store: its grid, the store key of each chunk, the keys of its metadata, the chain of codecs, the
--- data type, and the cell of the fill value.
+-- How an array lies in a store: its grid, the store key of each chunk, the keys of its metadata, the chain of codecs,
+-- the data type, and the cell of the fill value.
 pub record Layout : Type 0 where
   pub grid : Grid
   pub key : List ℕ → List ℕ

@@ -11,7 +11,7 @@ use Rattle.zarrs_steps.specs.Layout.{ArrayState}
 use Rattle.zarrs_steps.specs.ChunkBoxes.{chunks_met, part_box}
 use Rattle.zarrs_steps.specs.StateRefusals.{IsPart}
 
--- The chunk of which the call may ask the key: of a read, those that it names or meets; of a store of a part or of a
+-- The chunks of which the call may ask the key: of a read, those that it names or meets; of a store of a part or of a
 -- region, those of which it covers a part alone. (The shape is that of the array as the call begins.)
 abbrev pub Reach : Layout → List ℕ → Call → List ℕ → Type 0
 Reach layout shape (call.StoreChunk index held) i = ⊥
@@ -35,7 +35,7 @@ pub record MayAsk (layout : Layout) (index : List ℕ) (state : ArrayState) : Ty
 abbrev pub MayAskCall : Layout → Call → ArrayState → Type 0
 MayAskCall layout call state = (index : List ℕ) → Reach layout state.shape call index → IsIndexList layout.grid.dimensions index → MayAsk layout index state
 
--- and so for each of these calls
+-- what each of these calls may ask may be asked
 abbrev pub MayAskCalls : Layout → List Call → ArrayState → Type 0
 MayAskCalls layout calls state = (call : Call) → Contains calls call → MayAskCall layout call state
 
@@ -44,10 +44,10 @@ pub record MayAskChunk (layout : Layout) (index : List ℕ) (state : StoreState)
   pub key : IsIndexList layout.grid.dimensions index → state.may_ask (layout.key index) ≡ true
   pub places : IsIndexList layout.grid.dimensions index → MayReadWhole state (layout.key index)
 
--- and so for each of these chunks
+-- the same for each of these chunks
 abbrev pub MayAskChunks : Layout → List (List ℕ) → StoreState → Type 0
 MayAskChunks layout chunks state = (index : List ℕ) → Contains chunks index → MayAskChunk layout index state
 
--- and so for each of these chunks of which the region covers a part alone
+-- the same for each of these chunks of which the region covers a part alone
 abbrev pub MayAskParts : Layout → Box → List (List ℕ) → StoreState → Type 0
 MayAskParts layout region chunks state = (index : List ℕ) → Contains chunks index → IsPart layout region index → MayAskChunk layout index state

@@ -17,8 +17,8 @@ pub record IsBroken (layout : Layout) (index : List ℕ) (state : StoreState) : 
   pub stands : value_at state (layout.key index) ≡ Some encoded
   pub undecoded : decoded_cells layout (box_at layout.grid index) encoded ≡ None
 
--- The cells are as many as the box has positions, and those of the function wherever it has one. (It has none where a
--- chunk does not decode: what is returned there is open.)
+-- There is one cell for each position of the box: that of the function, if it has one. (It has none in a chunk that
+-- does not decode: what is returned there is open.)
 pub record ReadsKnown (f : List ℕ → Option Cell) (box : Box) (given : List Cell) : Type 0 where
   pub count : length given ≡ position_count box.shape
   pub each : (position : List ℕ) (cell : Cell) → Holds box position → f position ≡ Some cell → cell_in box given position ≡ Some cell

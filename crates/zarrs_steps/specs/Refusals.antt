@@ -42,7 +42,7 @@ pub data Refusal : Type 0 where
   out_of_memory : Refusal
   -- E10: the number of dimensions that was given, and the one that was wanted
   dimensionality : ℕ → ℕ → Refusal
-  -- one that no call answers
+  -- one that no call returns
   unused : Refusal
 
 -- the refusal that an error is
@@ -132,7 +132,7 @@ encode_refusal layout keep shape cells =
     else if layout.chain.fits layout.kind shape then Some size_overflow
     else Some codec
 
--- the data is no cells of the type or not as many as the shape has positions, or its bytes cannot be made
+-- the data is not one cell of the type for each position of the shape, or its bytes cannot be made
 abbrev pub data_refusal : Layout → Bool → List ℕ → Option (List Cell) → Option Refusal
 data_refusal layout keep shape None = Some codec
 data_refusal layout keep shape (Some cells) =
@@ -148,8 +148,8 @@ refuse_if said refusal = if said then Some refusal else None
 abbrev pub fill_refusal : Layout → List ℕ → Option Refusal
 fill_refusal layout shape = refuse_if (nat_le (2 ^ 64) (position_count shape * held_size layout.kind layout.fill)) size_overflow
 
--- The refusal that the bytes at the key of a chunk decide where the chunk is read: the index list, the size, the
--- bytes, in this order. An absent chunk is asked for its box where its cells are needed.
+-- The refusal that the bytes at the key of a chunk decide if the chunk is read: the index list, the size, the
+-- bytes, in this order. An absent chunk is asked for its box if its cells are needed.
 abbrev pub read_refusal : Layout → Bool → List ℕ → Option (List ℕ) → Option Refusal
 read_refusal layout needed index None = if needed then option_or (box_refusal layout index) (fill_refusal layout (box_at layout.grid index).shape) else None
 read_refusal layout needed index (Some encoded) =
@@ -159,7 +159,8 @@ read_refusal layout needed index (Some encoded) =
 abbrev pub key_refusal : Layout → List ℕ → StoreState → Option Refusal
 key_refusal layout index state = if state.refuses (layout.key index) then Some storage else None
 
--- The call is refused because memory was short, which may come at any growth, or by the first refusal that is decided.
+-- The call is refused because it is out of memory, which may come at any growth, or by the first refusal that is
+-- decided.
 abbrev pub RefusesBy : Option Refusal → Refusal → Type 0
 RefusesBy first out_of_memory = Unit {0}
 RefusesBy first refusal = first ≡ Some refusal

@@ -28,7 +28,7 @@ cell_length (cell.some inner) = cell_length inner
 abbrev pub AreLarge : List Cell → Type 0
 AreLarge given = 2 ^ 64 ≤ sum_by cell_length given
 
--- the cell, or one without bytes where there is none
+-- the cell, or one without bytes if there is none
 abbrev pub known_cell : Option Cell → Cell
 known_cell None = cell.bytes []
 known_cell (Some found) = found
@@ -62,7 +62,7 @@ abbrev pub CallFails : ℕ → StoreState → Type 0
 CallFails failed new = (failed ≡ 1) ⊎ (new.calls ≡ last_call)
 
 -- Why a chunk does not take its part, in the store state at that moment: its key refuses to be read, or the
--- writing call failed (E7); it does not decode, or the chain takes no such chunk (E4); a size (E8); memory (E9).
+-- writing call failed (E7); it does not decode, or the chain takes no such chunk (E4); a size (E8); out of memory (E9).
 abbrev pub RefusesPart : Layout → Bool → Box → ArrayData → List ℕ → ℕ → StoreState → Refusal → Type 0
 RefusesPart layout keep region held index failed new refusal.storage =
     ((failed ≡ 0) × IsPart layout region index × (new.refuses (layout.key index) ≡ true))
@@ -84,8 +84,8 @@ RefusesErasure failed new refusal.storage = CallFails failed new
 RefusesErasure failed new refusal.out_of_memory = Unit {0}
 RefusesErasure failed new _ = ⊥
 
--- Why a region is not read: some key of its chunks refuses (E7), some chunk does not decode (E4), a size (E8), memory
--- (E9). Which of these comes where several hold is open.
+-- Why a region is not read: some key of its chunks refuses (E7), some chunk does not decode (E4), a size (E8), out of
+-- memory (E9). Which of these comes if several hold is open.
 abbrev pub RefusesSomeChunk : Layout → Box → List (List ℕ) → StoreState → Refusal → Type 0
 RefusesSomeChunk layout region chunks state refusal.storage = (index : List ℕ) × Contains chunks index × (state.refuses (layout.key index) ≡ true)
 RefusesSomeChunk layout region chunks state refusal.codec = (index : List ℕ) × Contains chunks index × IsBroken layout index state

@@ -13,7 +13,8 @@ use Rattle.zarrs_steps.specs.declared.call.Reply.TheVariants.{Done, Cells, Maybe
 use Rattle.zarrs_steps.specs.Layout.{ArrayState}
 use Rattle.zarrs_steps.specs.Acts.{Act, store, erase, read, read_chunk, act_of}
 use Rattle.zarrs_steps.specs.ChunkBoxes.{chunks_met, part_box, is_whole_of}
-use Rattle.zarrs_steps.specs.ArgumentRefusals.{argument_refusal, store_chunk_refusal, store_chunks_refusal, store_part_refusal, store_region_refusal}
+use Rattle.zarrs_steps.specs.ArgumentRefusals.{argument_refusal, store_chunk_refusal, store_chunks_refusal}
+use Rattle.zarrs_steps.specs.ArgumentRefusals.{store_part_refusal, store_region_refusal}
 use Rattle.zarrs_steps.specs.ArgumentRefusals.{read_chunks_refusal, read_part_refusal, read_region_refusal}
 use Rattle.zarrs_steps.specs.Fronts.{Takes, StoresAll, ErasesAll, RefusesWrite}
 use Rattle.zarrs_steps.specs.Reads.{ReadsRegion}
@@ -118,7 +119,7 @@ abbrev pub RefusesRetrieveRegion : Layout → List ℕ → Box → Refusal → S
 RefusesRetrieveRegion layout shape region r state =
     RefusesRegionRead layout (read_region_refusal layout shape region) region (chunks_met layout.grid region) state r
 
--- What an act does to the store, and what it returns, where this is the first refusal that its arguments decide.
+-- What an act does to the store, and what it returns, if this is the first refusal that its arguments decide.
 abbrev pub ActStep : Layout → Bool → Option Refusal → Act → Reply → StoreState → StoreState → Type 0
 ActStep layout keep first (store region held chunks) Done old new = (first ≡ None) × StoresAll layout keep region held chunks old new
 ActStep layout keep first (store region held chunks) (Refused e) old new = RefusesStore layout keep first region held chunks (refusal_of e) old new
@@ -131,18 +132,18 @@ ActStep layout keep first (read_chunk false index) (MaybeCells found) old new = 
 ActStep layout keep first (read_chunk needed index) (Refused e) old new = (new ≡ old) × RefusesChunkRead layout first needed index old (refusal_of e)
 -- To come, as further rows, with no change above:
 --   (compact index) (Compacted b): first ≡ None; the content is as before; with false new ≡ old; with true the one key,
---     which stood, holds the compaction of what it held, and Makes 1 0
+--     which was present, holds the compaction of what it held, and Makes 1 0
 --   (compact index) (Refused e): Leaves, at most one writing call failed; the cause as for a chunk that is read whole
 --   (resize shape) Done, (Refused e): a front of the cut chunks, by Front and RefusesWrite with a third change beside
 --     Takes and Erases: fill past the shape, and each key of the front absent or the bytes of its cells
--- no other reply is given
+-- no other reply is returned
 ActStep layout keep first act reply old new = ⊥
 
 -- the array's shape after an act with this reply: no act here changes it (a resize that was done leaves its own)
 abbrev pub shape_after : Act → Reply → List ℕ → List ℕ
 shape_after act reply shape = shape
 
--- The engine may answer this reply to the call and go on from old to new, where empty chunks are kept or not.
+-- The engine may return this reply to the call and go from old to new; empty chunks are kept or not.
 abbrev pub Step : Layout → Bool → Call → Reply → ArrayState → ArrayState → Type 0
 Step layout keep call reply old new =
     (new.shape ≡ shape_after (act_of layout call) reply old.shape)

@@ -3,7 +3,7 @@ use crate::error::ArrayError;
 use zarrs_data_type::ArrayBytes;
 use zarrs_subset::{ArrayIndices, ArraySubset};
 
-/// A call of an array.
+/// A call of an array, with its arguments.
 #[derive(Drop)]
 pub enum Call {
     /// Store the cells of the chunk with these indices.
@@ -22,15 +22,15 @@ pub enum Call {
     RetrieveChunkIfExists(ArrayIndices),
     /// Read the chunk with these indices, which is all fill if it is absent.
     RetrieveChunk(ArrayIndices),
-    /// Read the cells of the chunks with the indices in this range, which are fill where a chunk is absent.
+    /// Read the cells of the chunks with the indices in this range. Those of an absent chunk are fill.
     RetrieveChunks(ArraySubset),
     /// Read the cells of a part of the chunk with these indices. The part is seen from the origin of the chunk.
     RetrieveChunkSubset(ArrayIndices, ArraySubset),
-    /// Read the cells of this region, which are fill where a chunk is absent.
+    /// Read the cells of this region. Those of an absent chunk are fill.
     RetrieveArraySubset(ArraySubset),
 }
 
-/// The reply to a call.
+/// What a call of an array returned.
 #[derive(Drop)]
 pub enum Reply {
     /// A store or an erasure was accepted.

@@ -1,7 +1,8 @@
 //! What the calls of an array refuse.
 ghost use Rattle.std.specs.Prelude.{◌≡◌};
 ghost use Rattle.zarrs_steps.specs.declared.error.ArrayError.TheVariants as array;
-ghost use Rattle.zarrs_steps.specs.Errors.{error_of_storage, error_of_codec, error_of_element, error_of_subset, unfit};
+ghost use Rattle.zarrs_steps.specs.Errors.{error_of_storage, error_of_codec, error_of_element};
+ghost use Rattle.zarrs_steps.specs.Errors.{error_of_subset, unfit};
 
 use std::alloc::{AllocError, AllocFailed};
 use thiserror::Error;
@@ -43,7 +44,7 @@ pub enum ArrayError {
     /// A number of cells, bytes or chunks that no `usize` or `u64` counts.
     #[error("size exceeds the number types")]
     SizeOverflow,
-    /// Memory was short.
+    /// Out of memory.
     #[error("out of memory")]
     OutOfMemory,
     /// Lists that should have one entry for each dimension differ in length.

@@ -1,5 +1,4 @@
-//! Laws of steps, of runs and of canonical stores: what follows from the contracts of the calls, whatever the store,
-//! the grid, the keys and the chain. Each is the contract of a function that does nothing.
+//! Laws of steps, of runs and of canonical stores, as contracts of functions that do nothing.
 ghost use Rattle.zarrs_steps.specs.Laws.{
   ContentIsBytes,
   CanonicalStoresDecode,
@@ -70,7 +69,7 @@ pub fn store_after_read()
     ensures { StoreAfterRead }
 {}
 
-/// Two disjoint writes that are accepted in both orders give the same content.
+/// Two disjoint writes that are accepted in both orders leave the same content.
 pub fn disjoint_writes_agree()
     ensures { DisjointWritesAgree }
 {}

@@ -1,5 +1,4 @@
-//! The calls of an array, what each does to the array and its store, and the laws of lists of calls. An array is a
-//! function from positions to cells; a call is a step from one state of the store to the next.
+//! The calls of an array, what each does to the array and its store, and the laws of lists of calls.
 #![tactic(auto)]
 
 mod call;
