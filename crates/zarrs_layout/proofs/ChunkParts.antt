@@ -1,5 +1,6 @@
 -- Chunks and parts of chunks: where they lie, and which are refused.
-use Rattle.std.proofs.Common.{◌≡◌, ◌+◌, ◌<◌, ◌≤◌, not, ℕ, zero, suc, true, false, List, [], ◌∷◌, length, slice_index, nat_le, Option, Some, None, refl, sym, ◌∙◌, ap, subst, inl, inr, arith}
+use Rattle.std.proofs.Common.{◌≡◌, ◌+◌, ◌<◌, ◌≤◌, not, ℕ, zero, suc, true, false, List, [], ◌∷◌, length, slice_index}
+use Rattle.std.proofs.Common.{nat_le, Option, Some, None, refl, sym, ◌∙◌, ap, subst, inl, inr, arith}
 use Rattle.std.proofs.lemmas.Bool.{cases_Bool, and_from, and_parts, false≢true, le-leb, leb-true}
 use Rattle.zarrs_subset.specs.Boxes.{EndsFit, offset_by, zip_with}
 use Rattle.zarrs_subset.specs.Refusals.{RefusesShift}

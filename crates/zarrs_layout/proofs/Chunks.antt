@@ -1,5 +1,6 @@
 -- Calls of one chunk, from what their parts ensure.
-use Rattle.std.proofs.Common.{◌≡◌, ◌≢◌, ℕ, Bool, true, false, not, cond, List, length, Option, Some, None, is_some, replicate, ◌==◌, eq-eqb, IfOk, OnOk, Result, Ok, Err, refl, sym, ◌∙◌, ap, subst, inl, inr}
+use Rattle.std.proofs.Common.{◌≡◌, ◌≢◌, ℕ, Bool, true, false, not, cond, List, length, Option, Some, None, is_some}
+use Rattle.std.proofs.Common.{replicate, ◌==◌, eq-eqb, IfOk, OnOk, Result, Ok, Err, refl, sym, ◌∙◌, ap, subst, inl, inr}
 use Rattle.std.specs.Option.{option_or}
 use Rattle.std.proofs.lemmas.Bool.{cases_Bool}
 use Rattle.std.proofs.lemmas.Map.Views.{exact_unsigned_eq}
@@ -24,7 +25,9 @@ use Rattle.zarrs_steps.specs.Layout.{Layout, IsLawful}
 use Rattle.zarrs_steps.specs.Content.{value_at, decoded_cells}
 use Rattle.zarrs_steps.specs.Errors.{error_of_storage, error_of_codec}
 use Rattle.zarrs_steps.specs.Refusals as refusal
-use Rattle.zarrs_steps.specs.Refusals.{Refusal, refusal_of, refusal_of_storage, length_refusal, box_refusal, is_left_out, encoded_cells, encode_refusal, data_refusal, key_refusal, read_refusal, RefusesBy}
+use Rattle.zarrs_steps.specs.Refusals.{Refusal, refusal_of, refusal_of_storage, length_refusal, box_refusal}
+use Rattle.zarrs_steps.specs.Refusals.{is_left_out, encoded_cells, encode_refusal, data_refusal, key_refusal}
+use Rattle.zarrs_steps.specs.Refusals.{read_refusal, RefusesBy}
 use Rattle.zarrs_steps.specs.Changes.{RetrievesChunk, RetrievesIfExists}
 use Rattle.zarrs_steps.specs.StateRefusals.{RefusesChunkRead}
 use Rattle.zarrs_layout.specs.Parts.{RefusesIndices, RefusesValue}
@@ -137,7 +140,7 @@ pub value_refused_length : (layout : Layout) (index : List ℕ) (state : StoreSt
 value_refused_length layout index state e wrong r =
     refused_first (length_refusal layout index) (key_refusal layout index state) (refusal_of e) (refuses_length layout index e wrong r)
 
--- what the store says is the refusal of the key, or memory was short
+-- what the store says is the refusal of the key, or out of memory
 value_refused_said : (first : Option Refusal) (e : StorageError) → first ≡ Some refusal.storage → RefusesBy first (refusal_of (error_of_storage e))
 value_refused_said first (stored.InvalidMetadata key encoded) h = h
 value_refused_said first stored.ReadOnly h = h

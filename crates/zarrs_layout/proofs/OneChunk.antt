@@ -1,5 +1,6 @@
 -- Regions that are one chunk, and the cells of a region's data.
-use Rattle.std.proofs.Common.{◌≡◌, ◌↔◌, ◌==◌, ◌&&◌, ◌<◌, not, ℕ, Bool, true, false, cond, List, length, slice_index, IsTrue, refl, sym, ◌∙◌, ap, inl, inr, arith}
+use Rattle.std.proofs.Common.{◌≡◌, ◌↔◌, ◌==◌, ◌&&◌, ◌<◌, not, ℕ, Bool, true, false, cond, List, length, slice_index}
+use Rattle.std.proofs.Common.{IsTrue, refl, sym, ◌∙◌, ap, inl, inr, arith}
 use Rattle.std.specs.List.{SomeIndex}
 use Rattle.std.specs.Str.{bytes_eq}
 use Rattle.std.proofs.lemmas.Bool.{and_from, and_parts, cases_Bool, eq-eqb, false≢true}

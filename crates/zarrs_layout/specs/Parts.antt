@@ -13,11 +13,11 @@ use Rattle.zarrs_steps.specs.Refusals.{Refusal, indices, refusal_of, RefusesBy, 
 use Rattle.zarrs_steps.specs.Changes.{IsValueOf, Makes}
 use Rattle.zarrs_steps.specs.StateRefusals.{RefusesErasure}
 
--- the refusal names these indices, or memory was short
+-- the refusal names these indices, or out of memory
 abbrev pub RefusesIndices : List ℕ → ArrayError → Type 0
 RefusesIndices index e = RefusesBy (Some (indices index)) (refusal_of e)
 
--- the bytes of a chunk cannot be had: an index list of another length, or a key that the store refuses to read
+-- the bytes of a chunk are not returned: an index list of another length, or a key that the store refuses to read
 abbrev pub RefusesValue : Layout → List ℕ → StoreState → Refusal → Type 0
 RefusesValue layout index state = RefusesBy (option_or (length_refusal layout index) (key_refusal layout index state))
 
@@ -28,8 +28,8 @@ pub record HasValue (layout : Layout) (keep : Bool) (box : Box) (held : ArrayDat
   pub count : length chunk ≡ position_count box.shape
   pub is_value : IsValueOf layout keep box chunk value
 
--- A writing call was refused, or memory for it was short: no value changed, and at most one failure was counted, none if
--- no call was left.
+-- A writing call was refused, or out of memory: no value changed, and at most one failure was counted, none if no call
+-- was left.
 pub record RefusesPut (refusal : Refusal) (old new : StoreState) : Type 0 where
   pub failed : ℕ
   pub one : failed ≤ 1

@@ -1,5 +1,4 @@
-//! The parts of an array beside its store: where it lies, how it is cut into chunks, how their keys are made, and how
-//! their cells become bytes. What a call asks of them alone is decided here, before the store is asked for anything.
+//! The parts of an array beside its store, and what they alone decide of a call, before the store is asked.
 #![tactic(auto)]
 
 mod chunk_parts;

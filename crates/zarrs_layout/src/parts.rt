@@ -30,7 +30,7 @@ pub struct Parts<G: ChunkGridTraits, K: ChunkKeyEncodingTraits, C: ChainTraits> 
     pub chain: C,
     /// The type of the cells.
     pub data_type: DataType,
-    /// The bytes of the value of a cell that was never written, which are a value of the type.
+    /// The bytes of the value of a cell that was never written. They are a value of the type.
     pub fill_value: FillValue,
     ghost lawful: { IsLawful (layout_at (G.grid grid) path (K.key keys) (C.meaning chain)
         (kind data_type) fill_value) } by { IsLawful-prop (layout_at (G.grid grid) path
@@ -38,7 +38,7 @@ pub struct Parts<G: ChunkGridTraits, K: ChunkKeyEncodingTraits, C: ChainTraits> 
     ghost filled: { IsSome (fill_cell (kind data_type) fill_value) },
 }
 
-/// The box of a chunk, and how many cells it has.
+/// The box of a chunk, and the number of its cells.
 #[derive(Drop)]
 pub struct Chunk {
     /// The box.
@@ -66,7 +66,7 @@ impl<G: ChunkGridTraits, K: ChunkKeyEncodingTraits, C: ChainTraits> Parts<G, K, 
     /// The key of the chunk with these indices.
     ///
     /// # Errors
-    /// If memory runs out.
+    /// Only `OutOfMemory`.
     pub fn chunk_key(&self, alloc: Global, chunk_indices: &[u64]) -> Result<StoreKey, StorageError>
         ensures key { IfOk result (λ key. key ≡ (layout_of_parts self.now).key chunk_indices.now) }
         ensures accepted { IsOkUnless result StorageError.OutOfMemory }
@@ -74,7 +74,7 @@ impl<G: ChunkGridTraits, K: ChunkKeyEncodingTraits, C: ChainTraits> Parts<G, K, 
         chunk_key(alloc, &self.path, &self.keys, chunk_indices)
     }
 
-    /// How many cells a chunk of this box has, if no more bytes than a `usize` counts hold them.
+    /// The number of cells of a chunk of this box, or `None` if they have more bytes than a `usize` counts.
     pub fn cell_count(&self, region: &ArraySubset) -> Option<u64>
         ensures some { IfSome result (λ count. count ≡ position_count (box_of region.now).shape) }
         ensures small { OnSome result
@@ -95,8 +95,8 @@ impl<G: ChunkGridTraits, K: ChunkKeyEncodingTraits, C: ChainTraits> Parts<G, K, 
     /// The chunk with these indices.
     ///
     /// # Errors
-    /// In this order: E3 for indices without a chunk; E8 for a chunk of more bytes than a `usize` counts. E9 may come at
-    /// any time.
+    /// In this order: E3 for indices without a chunk; E8 for a chunk of more bytes than a `usize` counts. E9 may come
+    /// at any time.
     pub fn chunk(&self, alloc: Global, chunk_indices: &[u64]) -> Result<Chunk, ArrayError>
         ensures region { IfOk result (λ chunk. box_of chunk.region
             ≡ box_at (G.grid self.now.grid) chunk_indices.now) }
@@ -187,8 +187,8 @@ impl<G: ChunkGridTraits, K: ChunkKeyEncodingTraits, C: ChainTraits> Parts<G, K, 
     /// The cells of the chunk with these indices if it is absent.
     ///
     /// # Errors
-    /// In this order: those of `chunk`; E8 if so many fill values have more bytes than a `usize` counts. E9 may come at
-    /// any time.
+    /// In this order: those of `chunk`; E8 if that many fill values have more bytes than a `usize` counts. E9 may come
+    /// at any time.
     pub fn fill(
         &self,
         alloc: Global,

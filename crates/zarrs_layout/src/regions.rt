@@ -16,13 +16,14 @@ impl<G: ChunkGridTraits, K: ChunkKeyEncodingTraits, C: ChainTraits> Parts<G, K, 
     ghost use Rattle.zarrs_data_type.specs.Kind.{kind};
     ghost use Rattle.zarrs_data_type.specs.ArrayData.{data_of};
     ghost use Rattle.zarrs_data_type.specs.Cells.{HasCells, cells, count_of};
-    ghost use Rattle.zarrs_steps.specs.ArgumentRefusals.{box_data_refusal, read_size_refusal, region_refusal};
+    ghost use Rattle.zarrs_steps.specs.ArgumentRefusals.{box_data_refusal, read_size_refusal};
+    ghost use Rattle.zarrs_steps.specs.ArgumentRefusals.{region_refusal};
     ghost use Rattle.zarrs_steps.specs.ChunkBoxes.{is_one_chunk};
     ghost use Rattle.zarrs_steps.specs.Refusals.{RefusesBy, array_subset, refusal_of};
     ghost use Rattle.zarrs_layout.specs.Layouts.{layout_of_parts};
     ghost use Rattle.zarrs_layout.specs.Covers.{CoverRegion};
 
-    /// The refusal of this region: E1, or that memory ran out.
+    /// The refusal of this region: E1, or out of memory.
     pub fn invalid_region(&self, alloc: Global, region: &ArraySubset) -> ArrayError
         ensures { RefusesBy (Some (array_subset (box_of region.now)
             (G.array_extents self.now.grid))) (refusal_of result) }
@@ -64,7 +65,7 @@ impl<G: ChunkGridTraits, K: ChunkKeyEncodingTraits, C: ChainTraits> Parts<G, K, 
     /// The cells of the region if each is the fill value's.
     ///
     /// # Errors
-    /// E8 for more cells, or as many fill values, than a `usize` counts bytes. E9 may come at any time.
+    /// E8 if the cells, or that many fill values, have more bytes than a `usize` counts. E9 may come at any time.
     pub fn filled(
         &self,
         alloc: Global,
@@ -92,7 +93,7 @@ impl<G: ChunkGridTraits, K: ChunkKeyEncodingTraits, C: ChainTraits> Parts<G, K, 
     /// Whether the region is the box of one chunk, the first one of those that it meets.
     ///
     /// # Errors
-    /// If memory runs out.
+    /// E9 alone: out of memory.
     pub fn is_one_chunk(
         &self,
         alloc: Global,
@@ -142,8 +143,8 @@ impl<G: ChunkGridTraits, K: ChunkKeyEncodingTraits, C: ChainTraits> Parts<G, K, 
     /// Refuses data that is not one cell for each position of the region.
     ///
     /// # Errors
-    /// In this order: E8 if the region is a whole chunk of more bytes than a `usize` counts; E4 for data that is not one
-    /// cell for each position, each a value of the data type.
+    /// In this order: E8 if the region is a whole chunk of more bytes than a `usize` counts; E4 for data that is not
+    /// one cell for each position, each a value of the data type.
     pub fn check_cells(
         &self,
         is_whole: bool,
