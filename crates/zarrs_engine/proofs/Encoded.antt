@@ -1,5 +1,6 @@
 -- The stored bytes of some chunks of a list, one more of them, and all.
-use Rattle.std.proofs.Common.{◌≡◌, ◌∙◌, ◌+◌, ◌++◌, ℕ, true, cond, List, [], ◌∷◌, length, map, take, slice_get, Option, Some, None, Result, Ok, Err, Contains, inl, inr, sym, ap, subst, arith}
+use Rattle.std.proofs.Common.{◌≡◌, ◌∙◌, ◌+◌, ◌++◌, ℕ, true, cond, List, [], ◌∷◌, length, map, take, slice_get, Option}
+use Rattle.std.proofs.Common.{Some, None, Result, Ok, Err, Contains, inl, inr, sym, ap, subst, arith}
 use Rattle.std.specs.Result.{OnErr, is_err}
 use Rattle.std.proofs.lemmas.Bool.{cases_Bool, false≢true}
 use Rattle.std.proofs.lemmas.List.{map_push, take_more, take_all}

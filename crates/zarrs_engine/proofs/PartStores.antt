@@ -1,5 +1,7 @@
 -- Writes over parts of chunks and over ranges of chunks.
-use Rattle.std.proofs.Common.{◌≡◌, ◌≢◌, ◌↔◌, ◌==◌, IsTrue, ◌<◌, ◌≤◌, ◌+◌, ◌-◌, ◌*◌, ◌^◌, not, ℕ, zero, suc, Bool, true, false, cond, List, [], ◌∷◌, length, slice_index, Contains, OnOk, Result, Ok, Err, Option, Some, None, refl, sym, ◌∙◌, ap, subst, inl, inr, arith}
+use Rattle.std.proofs.Common.{◌≡◌, ◌≢◌, ◌↔◌, ◌==◌, IsTrue, ◌<◌, ◌≤◌, ◌+◌, ◌-◌, ◌*◌, ◌^◌, not, ℕ, zero, suc, Bool, true}
+use Rattle.std.proofs.Common.{false, cond, List, [], ◌∷◌, length, slice_index, Contains, OnOk, Result, Ok, Err, Option}
+use Rattle.std.proofs.Common.{Some, None, refl, sym, ◌∙◌, ap, subst, inl, inr, arith}
 use Rattle.std.specs.Option.{option_or}
 use Rattle.std.specs.List.{range_with_len}
 use Rattle.std.proofs.lemmas.List.{length-map}
@@ -14,7 +16,8 @@ use Rattle.zarrs_subset.proofs.Counts.{count_some, count_zero}
 use Rattle.zarrs_subset.proofs.Overlaps.{length-zip_with}
 use Rattle.zarrs_subset.proofs.Positions.{length-positions, positions_in}
 use Rattle.std.proofs.lemmas.Option.{slice_get-get_or}
-use Rattle.zarrs_chunk_grid.specs.Grids.{Grid, IsChunkRange, box_at, chunks_box, each_dimension, extent_along, has_box, range_box, start_along}
+use Rattle.zarrs_chunk_grid.specs.Grids.{Grid, IsChunkRange, box_at, chunks_box, each_dimension, extent_along, has_box}
+use Rattle.zarrs_chunk_grid.specs.Grids.{range_box, start_along}
 use Rattle.zarrs_chunk_grid.proofs.Chunks.{box_is_there, holds_chunk}
 use Rattle.zarrs_chunk_grid.proofs.MetChunks.{at_dimension, range_fills}
 use Rattle.zarrs_storage.specs.Store.{StoreState}
@@ -22,7 +25,9 @@ use Rattle.zarrs_data_type.specs.ArrayData.{ArrayData}
 use Rattle.zarrs_data_type.specs.Cells.{HasCells}
 use Rattle.zarrs_cells.proofs.Cells.{HasCells-cells}
 use Rattle.zarrs_steps.specs.Layout.{Layout, IsLawful}
-use Rattle.zarrs_steps.specs.ArgumentRefusals.{box_data_refusal, cells_refusal, chunk_refusal, dimensions_refusal, part_refusal, range_refusal, size_refusal, store_chunk_refusal, store_chunks_refusal, store_part_refusal}
+use Rattle.zarrs_steps.specs.ArgumentRefusals.{box_data_refusal, cells_refusal, chunk_refusal, dimensions_refusal}
+use Rattle.zarrs_steps.specs.ArgumentRefusals.{part_refusal, range_refusal, size_refusal, store_chunk_refusal}
+use Rattle.zarrs_steps.specs.ArgumentRefusals.{store_chunks_refusal, store_part_refusal}
 use Rattle.zarrs_steps.specs.ChunkBoxes.{CoversBox, is_empty, is_whole_of, last_of, part_box}
 use Rattle.zarrs_steps.specs.Fronts.{StoresAll}
 use Rattle.zarrs_steps.specs.Reach.{MayAskParts}

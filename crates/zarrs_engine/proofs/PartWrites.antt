@@ -1,5 +1,6 @@
 -- A chunk that takes its part of a region's data.
-use Rattle.std.proofs.Common.{◌≡◌, ◌⊎◌, ◌≤◌, ◌*◌, ◌^◌, ℕ, Bool, true, false, cond, nat_le, List, length, replicate, is_some, Option, Some, None, refl, sym, ◌∙◌, ap, subst, inl, inr, arith}
+use Rattle.std.proofs.Common.{◌≡◌, ◌⊎◌, ◌≤◌, ◌*◌, ◌^◌, ℕ, Bool, true, false, cond, nat_le, List, length, replicate}
+use Rattle.std.proofs.Common.{is_some, Option, Some, None, refl, sym, ◌∙◌, ap, subst, inl, inr, arith}
 use Rattle.std.specs.Option.{option_or}
 use Rattle.std.proofs.lemmas.Bool.{cases_Bool, leb-true, leb-false}
 use Rattle.std.proofs.lemmas.List.{length-replicate}
@@ -20,7 +21,8 @@ use Rattle.zarrs_cells.specs.StringParts.{LiesInBox}
 use Rattle.zarrs_steps.specs.Layout.{Layout, IsLawful}
 use Rattle.zarrs_steps.specs.Content.{value_at, content, decoded_cells}
 use Rattle.zarrs_steps.specs.Refusals as refusal
-use Rattle.zarrs_steps.specs.Refusals.{Refusal, RefusesBy, box_refusal, fill_refusal, is_too_large, key_refusal, length_refusal, read_refusal}
+use Rattle.zarrs_steps.specs.Refusals.{Refusal, RefusesBy, box_refusal, fill_refusal, is_too_large, key_refusal}
+use Rattle.zarrs_steps.specs.Refusals.{length_refusal, read_refusal}
 use Rattle.zarrs_steps.specs.Changes.{RetrievesChunk}
 use Rattle.zarrs_steps.specs.ChunkBoxes.{CoversBox}
 use Rattle.zarrs_steps.specs.StateRefusals.{IsLargeBox, IsPart, RefusesChunkRead, RefusesPart, cell_length, known_cell}

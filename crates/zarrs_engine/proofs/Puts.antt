@@ -1,5 +1,6 @@
 -- One writing call of the store.
-use Rattle.std.proofs.Common.{Result, Ok, Err, IfErr, OnErr, ◌≡◌, ◌≢◌, bytes_eq, ℕ, ◌==◌, true, false, cond, List, Some, None, refl, sym, ◌∙◌, ap, arith, inl, inr, ◌⊎◌}
+use Rattle.std.proofs.Common.{Result, Ok, Err, IfErr, OnErr, ◌≡◌, ◌≢◌, bytes_eq, ℕ, ◌==◌, true, false, cond, List, Some}
+use Rattle.std.proofs.Common.{None, refl, sym, ◌∙◌, ap, arith, inl, inr, ◌⊎◌}
 use Rattle.std.specs.FinMap as map
 use Rattle.std.proofs.lemmas.Slice.Eq.{bytes_eq-Decides}
 use Rattle.std.proofs.lemmas.Bool.{cases_Bool, eqb-true, eq-eqb}
@@ -41,7 +42,7 @@ put_erase key old new a = record {
 eq_last : (n : ℕ) → n ≡ last_call → (n == last_call) ≡ true
 eq_last n is = eq-eqb n last_call is
 
--- a writing call that failed is the reason, or memory was short
+-- a writing call that failed is the reason, or out of memory
 failed_erasure : (e : StorageError) (failed : ℕ) (new : StoreState) → CallFails failed new → RefusesErasure failed new (refusal_of_storage e)
 failed_erasure (stored.InvalidMetadata key said) failed new fails = fails
 failed_erasure stored.ReadOnly failed new fails = fails
@@ -74,7 +75,7 @@ put_refused e old new r = record {
   ]);
 }
 
--- memory was short before any call
+-- out of memory before any call
 pub put_short : (state : StoreState) → RefusesPut refusal.out_of_memory state state
 put_short state = record {
   failed = 0;

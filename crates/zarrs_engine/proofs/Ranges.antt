@@ -1,5 +1,6 @@
 -- Erasures of many chunks, one after another.
-use Rattle.std.proofs.Common.{◌≡◌, ◌+◌, ℕ, List, [], ◌∷◌, ◌++◌, length, take, Option, Some, None, slice_get, refl, sym, ◌∙◌, ap, subst, inl, inr, arith}
+use Rattle.std.proofs.Common.{◌≡◌, ◌+◌, ℕ, List, [], ◌∷◌, ◌++◌, length, take, Option, Some, None, slice_get, refl, sym}
+use Rattle.std.proofs.Common.{◌∙◌, ap, subst, inl, inr, arith}
 use Rattle.std.proofs.lemmas.List.{take_more, take_all}
 use Rattle.std.proofs.lemmas.Option.{slice_get_within, get_or_from_slice_get}
 use Rattle.zarrs_subset.specs.Regions.{Box, IsLong, positions}
@@ -121,10 +122,10 @@ module _ (layout : Layout) (chunks : List (List ℕ)) where
 pub range_length : (range : Box) → IsLong range → (n : ℕ) (index : List ℕ) → slice_get (positions range) n ≡ Some index → length index ≡ length range.start
 range_length range long n index at = (holds_along range index long (positions_in range.start range.shape n index long at)).same_length
 
--- memory was short before the first chunk
+-- out of memory before the first chunk
 pub range_short : (layout : Layout) (range : Box) (state : StoreState) → RefusesEraseChunks layout range refusal.out_of_memory state state
 range_short layout range state = refused_early _ _ _ _ state tt
 
--- the range has another number of dimensions, or memory was short
+-- the range has another number of dimensions, or out of memory
 pub range_refused : (layout : Layout) (range : Box) (state : StoreState) (r : Refusal) → RefusesBy (length_refusal layout range.start) r → RefusesEraseChunks layout range r state state
 range_refused layout range state r why = refused_early _ _ _ _ state why

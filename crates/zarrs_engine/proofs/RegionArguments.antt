@@ -12,7 +12,7 @@ use Rattle.zarrs_engine.proofs.Writes.{refused_early}
 
 -- ---- writes of regions
 
--- memory was short
+-- out of memory
 pub no_refusal : (first : Option Refusal) (r : Refusal) → RefusesBy None r → RefusesBy first r
 no_refusal first r why = refusal_moved None first r (λ x is. absurd (let clash : None ≡ Some x = is in cc)) why
 

@@ -1,5 +1,7 @@
 -- Writes of regions, one chunk after another.
-use Rattle.std.proofs.Common.{◌≡◌, ◌+◌, ◌<◌, ℕ, Bool, true, false, not, cond, List, [], ◌∷◌, ◌++◌, length, take, get_or, Contains, is_some, Option, Some, None, slice_get, refl, sym, ◌∙◌, ap, subst, inl, inr, arith}
+use Rattle.std.proofs.Common.{◌≡◌, ◌+◌, ◌<◌, ℕ, Bool, true, false, not, cond, List, [], ◌∷◌, ◌++◌, length, take, get_or}
+use Rattle.std.proofs.Common.{Contains, is_some, Option, Some, None, slice_get, refl, sym, ◌∙◌, ap, subst, inl, inr}
+use Rattle.std.proofs.Common.{arith}
 use Rattle.std.proofs.lemmas.List.{get_or-take, length-take-le, take_more, take_all}
 use Rattle.std.proofs.lemmas.Option.{slice_get-get_or, slice_get_within, get_or_from_slice_get}
 use Rattle.std.proofs.lemmas.Bool.{cases_Bool, eq-eqb}
@@ -15,7 +17,8 @@ use Rattle.zarrs_cells.proofs.Cells.{HasCells-cells, cells-values}
 use Rattle.zarrs_steps.specs.Layout.{Layout, IsLawful}
 use Rattle.zarrs_steps.specs.Content.{value_at}
 use Rattle.zarrs_steps.specs.Refusals as refusal
-use Rattle.zarrs_steps.specs.Refusals.{Refusal, RefusesBy, box_refusal, data_refusal, encode_refusal, encoded_cells, is_left_out, is_too_large}
+use Rattle.zarrs_steps.specs.Refusals.{Refusal, RefusesBy, box_refusal, data_refusal, encode_refusal, encoded_cells}
+use Rattle.zarrs_steps.specs.Refusals.{is_left_out, is_too_large}
 use Rattle.zarrs_steps.specs.Changes.{IsPut, IsValueOf, Makes, Stores}
 use Rattle.zarrs_steps.specs.Fronts.{Front, StoresAll, Takes}
 use Rattle.zarrs_steps.specs.Reach.{MayAskChunk, MayAskParts}
@@ -52,7 +55,7 @@ module _ (layout : Layout) (keep : Bool) (region : Box) (held : ArrayData) (inde
     cause = why;
   }
 
-  -- memory was short
+  -- out of memory
   pub leaves_memory : (state : StoreState) → LeavesPart layout keep region held index refusal.out_of_memory state state
   leaves_memory state = leaves_state refusal.out_of_memory state tt
 
@@ -224,7 +227,7 @@ module _ (layout : Layout) (keep : Bool) (region : Box) (held : ArrayData) (chun
         cause = inr (index, at, (none, l.cause));
       }
 
-  -- memory was short before the first chunk
+  -- out of memory before the first chunk
   pub stored_short : (first : Option Refusal) (state : StoreState) → RefusesStore layout keep first region held chunks refusal.out_of_memory state state
   stored_short first state = refused_early _ _ _ _ state tt
 

@@ -1,5 +1,6 @@
 -- Writes of one chunk, from what their parts leave.
-use Rattle.std.proofs.Common.{◌≡◌, ◌≢◌, ◌⊎◌, ◌==◌, not, ℕ, Bool, true, false, cond, List, [], ◌∷◌, length, is_some, Option, Some, None, Contains, refl, sym, ◌∙◌, ap, subst, inl, inr, arith}
+use Rattle.std.proofs.Common.{◌≡◌, ◌≢◌, ◌⊎◌, ◌==◌, not, ℕ, Bool, true, false, cond, List, [], ◌∷◌, length, is_some}
+use Rattle.std.proofs.Common.{Option, Some, None, Contains, refl, sym, ◌∙◌, ap, subst, inl, inr, arith}
 use Rattle.std.specs.Option.{option_or}
 use Rattle.std.proofs.lemmas.Bool.{cases_Bool, eq-eqb, eqb-true}
 use Rattle.zarrs_subset.specs.Boxes.{position_count}
@@ -15,7 +16,8 @@ use Rattle.zarrs_data_type.proofs.Cells.{cells-values}
 use Rattle.zarrs_steps.specs.Layout.{Layout, IsLawful}
 use Rattle.zarrs_steps.specs.Content.{value_at, content, indexed_cell, chunk_cell}
 use Rattle.zarrs_steps.specs.Refusals as refusal
-use Rattle.zarrs_steps.specs.Refusals.{Refusal, RefusesBy, length_refusal, box_refusal, is_too_large, is_left_out, encoded_cells, encode_refusal, data_refusal}
+use Rattle.zarrs_steps.specs.Refusals.{Refusal, RefusesBy, length_refusal, box_refusal, is_too_large, is_left_out}
+use Rattle.zarrs_steps.specs.Refusals.{encoded_cells, encode_refusal, data_refusal}
 use Rattle.zarrs_steps.specs.ArgumentRefusals.{store_chunk_refusal, cells_refusal, count_refusal}
 use Rattle.zarrs_steps.specs.Changes.{Makes, IsPut, Erases, ChangesKeysOf}
 use Rattle.zarrs_steps.specs.StateRefusals.{AreUpdated, RefusesPart, RefusesErasure, IsRefusedAs}
@@ -184,7 +186,7 @@ box_refused layout keep index held state r why =
     first_is_box None b x h = absurd (cc)
     first_is_box (Some y) b x h = h
 
--- memory was short
+-- out of memory
 pub short_of_memory : (layout : Layout) (keep : Bool) (index : List ℕ) (held : ArrayData) (state : StoreState) → RefusesStoreChunk layout keep index held refusal.out_of_memory state state
 short_of_memory layout keep index held state = refused_early _ _ _ _ state tt
 
@@ -262,6 +264,6 @@ module _ (layout : Layout) (lawful : IsLawful layout) (index key : List ℕ) (ol
 pub erase_failed : (layout : Layout) (index : List ℕ) (old new : StoreState) (r : Refusal) → length index ≡ layout.grid.dimensions → RefusesPut r old new → RefusesEraseChunk layout index r old new
 erase_failed layout index old new r long put = refused_late _ index _ _ r old new put (right_length layout index long, put.cause)
 
--- the index list has another length, or memory was short
+-- the index list has another length, or out of memory
 pub erase_refused : (layout : Layout) (index : List ℕ) (state : StoreState) (r : Refusal) → RefusesBy (length_refusal layout index) r → RefusesEraseChunk layout index r state state
 erase_refused layout index state r why = refused_early _ _ _ _ state why

@@ -10,7 +10,7 @@ abbrev pub stored_values : Layout → StoreState → List (List ℕ) → List (O
 stored_values layout state indices = map (λ index. value_at state (layout.key index)) indices
 
 -- The bytes of these chunks are not returned: there are more chunks than a `u64` counts, the store refuses to read the
--- key of one of them, or memory ran out.
+-- key of one of them, or out of memory.
 abbrev pub RefusesEncoded : Layout → List (List ℕ) → StoreState → Refusal → Type 0
 RefusesEncoded layout chunks state out_of_memory = Unit {0}
 RefusesEncoded layout chunks state size_overflow = 2 ^ 64 ≤ length chunks

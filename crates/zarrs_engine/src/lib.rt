@@ -1,5 +1,4 @@
-//! The engine of the array layer: chunks of cells over a store, generic over the store, the chunk grid, the encoding of
-//! chunk keys and the chain of codecs.
+//! The engine: the calls of an array over any store, chunk grid, encoding of chunk keys and chain of codecs.
 #![tactic(auto)]
 
 mod engine;

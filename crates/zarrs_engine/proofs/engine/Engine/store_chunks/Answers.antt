@@ -12,7 +12,9 @@ use Rattle.zarrs_steps.proofs.RefusalLemmas.{refuses_said}
 use Rattle.zarrs_engine.specs.Engine.{layout_of}
 use Rattle.zarrs_layout.specs.Parts.{RefusesIndices}
 use Rattle.zarrs_layout.proofs.Chunks.{wrong_length}
-use Rattle.zarrs_engine.proofs.PartStores.{chunks_early, chunks_none, none_empty, range_ask, range_data, range_first_none, range_left, range_many, range_missing, range_none, range_refuses, range_stored, two_ok}
+use Rattle.zarrs_engine.proofs.PartStores.{chunks_early, chunks_none, none_empty, range_ask, range_data}
+use Rattle.zarrs_engine.proofs.PartStores.{range_first_none, range_left, range_many, range_missing, range_none}
+use Rattle.zarrs_engine.proofs.PartStores.{range_refuses, range_stored, two_ok}
 use Rattle.zarrs_engine.proofs.Puts.{each_error}
 use Rattle.zarrs_engine.proofs.engine.Engine.store_chunks.Goals as goal
 
