@@ -1,10 +1,12 @@
 -- Regions that words write.
-use Rattle.std.proofs.Common.{◌≡◌, ◌&&◌, ℕ, zero, suc, ◌+◌, ◌^◌, ◌<◌, ◌≤◌, Bool, true, false, nat_lt, List, [], ◌∷◌, length, get_or, Some, None, refl, lt-ltb, le-ltb, arith}
+use Rattle.std.proofs.Common.{◌≡◌, ◌&&◌, ℕ, zero, suc, ◌+◌, ◌^◌, ◌<◌, ◌≤◌, Bool, true, false, nat_lt, List, [], ◌∷◌}
+use Rattle.std.proofs.Common.{length, get_or, Some, None, refl, lt-ltb, le-ltb, arith}
 use Rattle.std.specs.Cmp.Lexicographic.{unequal}
 use Rattle.zarrs_subset.specs.Regions.{IsBox, box_from}
 use Rattle.zarrs_subset.specs.Refusals.{RefusesStartShape}
 use Rattle.zarrs_subset.specs.declared.error.ArraySubsetError.{ArraySubsetError}
-use Rattle.zarrs_subset.specs.declared.error.ArraySubsetError.TheVariants.{IncompatibleDimensionality, EndOverflow, EndBelowStart, StartBelowOffset, OutOfMemory}
+use Rattle.zarrs_subset.specs.declared.error.ArraySubsetError.TheVariants.{IncompatibleDimensionality, EndOverflow}
+use Rattle.zarrs_subset.specs.declared.error.ArraySubsetError.TheVariants.{EndBelowStart, StartBelowOffset, OutOfMemory}
 use Rattle.zarrs_script.specs.Words.{numbers_of, is_region, region_of}
 
 -- each end fits: there is such a region

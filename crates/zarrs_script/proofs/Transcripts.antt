@@ -1,5 +1,6 @@
 -- How transcripts go on.
-use Rattle.std.proofs.Common.{◌≡◌, ℕ, ◌||◌, Bool, true, false, List, [], ◌∷◌, ◌++◌, map, codes, Option, Some, None, IsSome, option_map, refl, sym, ap, subst, ◌∙◌, append_assoc}
+use Rattle.std.proofs.Common.{◌≡◌, ℕ, ◌||◌, Bool, true, false, List, [], ◌∷◌, ◌++◌, map, codes, Option, Some, None}
+use Rattle.std.proofs.Common.{IsSome, option_map, refl, sym, ap, subst, ◌∙◌, append_assoc}
 use Rattle.std.proofs.lemmas.List.{append-nil, map_push}
 use Rattle.zarrs_data_type.specs.Kind.{Kind}
 use Rattle.zarrs_data_type.specs.Cell.{Cell}
@@ -24,7 +25,8 @@ use Rattle.zarrs_script.specs.declared.array.OpenArray.{OpenArray}
 use Rattle.zarrs_script.specs.CellTypes.{kind_of, cell_text}
 use Rattle.zarrs_script.specs.Script.{Order}
 use Rattle.zarrs_script.specs.Parsed.{order_of_call, order_of_command}
-use Rattle.zarrs_script.specs.Transcript.{Opened, Session, Outcome, Opens, Calls, Does, Transcript, line, list_text, keys_text, data_text, reply_text, is_refusal}
+use Rattle.zarrs_script.specs.Transcript.{Opened, Session, Outcome, Opens, Calls, Does, Transcript, line, list_text}
+use Rattle.zarrs_script.specs.Transcript.{keys_text, data_text, reply_text, is_refusal}
 use Rattle.zarrs_script.specs.Sessions.{Follows, session_of, opened}
 
 -- the session of these parts

@@ -1,5 +1,6 @@
 -- The types of the cells of a script's arrays, and how their cells are written.
-use Rattle.std.specs.Prelude.{ℕ, zero, suc, ◌+◌, ◌-◌, ◌*◌, ◌/◌, ◌%◌, ◌^◌, ◌==◌, ◌&&◌, Bool, true, false, if◌then◌else◌, nat_lt, nat_le, List, [], ◌∷◌, ◌++◌, codes, decimal, Option, Some, None}
+use Rattle.std.specs.Prelude.{ℕ, zero, suc, ◌+◌, ◌-◌, ◌*◌, ◌/◌, ◌%◌, ◌^◌, ◌==◌, ◌&&◌, Bool, true, false, if◌then◌else◌}
+use Rattle.std.specs.Prelude.{nat_lt, nat_le, List, [], ◌∷◌, ◌++◌, codes, decimal, Option, Some, None}
 use Rattle.std.specs.List.{concat}
 use Rattle.std.specs.Str.{bytes_eq}
 use Rattle.zarrs_data_type.specs.Kind.{Kind, bool, int8, int16, int32, int64, uint8, uint16, uint32, uint64}
@@ -79,11 +80,11 @@ value_of (b ∷ bytes) = b + value_of bytes * 256
 
 -- ---- what a word says
 
--- the bytes of a number from 0, where the type has it
+-- the bytes of a number from 0, if the type has it
 abbrev pub positive : CellType → ℕ → Option (List ℕ)
 positive cell_type n = if nat_le n (greatest cell_type) then Some (low_bytes (size_of cell_type) n) else None
 
--- the bytes of - n, where the type has it: two's complement
+-- the bytes of - n, if the type has it: two's complement
 abbrev pub negative : CellType → ℕ → Option (List ℕ)
 negative cell_type n =
     if is_signed cell_type && nat_le n (greatest cell_type + 1) then Some (low_bytes (size_of cell_type) (2 ^ 64 - n)) else None

@@ -1,4 +1,4 @@
--- What parsing gives.
+-- What parsing returns.
 use Rattle.std.specs.Prelude.{◌≡◌, ◌==◌, ℕ, List, [], ◌∷◌, ◌++◌, Option, Some, None, Result, Ok, Err}
 use Rattle.std.specs.Borrow.{Bor}
 use Rattle.std.specs.List.{slice_split}
@@ -16,17 +16,17 @@ use Rattle.zarrs_script.specs.declared.error.ScriptError.TheVariants as script
 use Rattle.zarrs_metadata.specs.Extension.{◌>>=◌}
 use Rattle.zarrs_script.specs.Script.{Order, Array, Chunk, Read, Erase, Put, Get, Keys, Other}
 
--- a text that says this is refused with this error: it says nothing, or memory ran out
+-- a text that says this is refused with this error: it says nothing, or out of memory
 abbrev pub Fails : {Y : Type 0} → ParseError → Option Y → Type 0
 Fails NotACommand said = said ≡ None
 Fails OutOfMemory said = Unit {0}
 
--- what a function returned, seen by view, is what the text says, unless memory ran out
+-- what a function returned, seen by view, is what the text says, unless out of memory
 abbrev pub Gives : {X Y : Type 0} → (X → Y) → Result X ParseError → Option Y → Type 0
 Gives view (Ok x) said = said ≡ Some (view x)
 Gives view (Err e) said = Fails e said
 
--- a list grew by what the text says, unless memory ran out
+-- a list grew by what the text says, unless out of memory
 abbrev pub Grows : Result (Unit {0}) ParseError → List ℕ → List ℕ → Option (List ℕ) → Type 0
 Grows (Ok _) old new said = (said >>= λ more. Some (old ++ more)) ≡ Some new
 Grows (Err e) old new said = Fails e said
@@ -48,7 +48,7 @@ order_of_command (command.Array made) = order_of_creation made
 order_of_command (command.Call asked) = order_of_call asked
 order_of_command command.Keys = Keys
 
--- what was parsed is what the script says, unless memory ran out
+-- what was parsed is what the script says, unless out of memory
 abbrev pub Parses : {X : Type 0} → (X → List Order) → Result X ScriptError → Result (List Order) ℕ → Type 0
 Parses view (Ok parsed) said = said ≡ Ok (view parsed)
 Parses view (Err (script.NotACommand line)) said = said ≡ Err line

@@ -19,7 +19,7 @@ abbrev pub session_of : Option OpenArray → Session
 session_of None = None
 session_of (Some array) = Some (opened array)
 
--- a new array is what the line says, or it has no grid, or memory ran out
+-- a new array is what the line says, or it has no grid, or out of memory
 abbrev pub Creates : Creation → Result OpenArray CreationError → Type 0
 Creates creation (Ok array) =
     MakesGrid creation.shape.items creation.chunk_shape.items × (opened array ≡ new_array creation.shape.items creation.chunk_shape.items creation.cell_type creation.fill.items)

@@ -7,7 +7,7 @@ use Rattle.zarrs_chunk_grid.specs.Axes.{sizes_of}
 use Rattle.zarrs_script.specs.declared.error.CreationError.{CreationError}
 use Rattle.zarrs_script.specs.declared.error.CreationError.TheVariants.{NoGrid, OutOfMemory}
 
--- the extents, none of them 0, or one of them is 0, or memory ran out
+-- the extents, none of them 0, or one of them is 0, or out of memory
 abbrev pub HasSizes : List ℕ → Result (Vec NonZeroU64 Global) CreationError → Type 0
 HasSizes extents (Ok sizes) = sizes_of sizes.items ≡ extents
 HasSizes extents (Err NoGrid) = list_any (λ extent. extent == 0) extents ≡ true

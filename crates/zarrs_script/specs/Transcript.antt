@@ -1,5 +1,6 @@
 -- What a script prints.
-use Rattle.std.specs.Prelude.{◌≡◌, ◌⊎◌, ◌==◌, ℕ, ◌||◌, Bool, true, false, List, [], ◌∷◌, ◌++◌, map, codes, decimal, unwrap_or, Option, Some, None, option_map}
+use Rattle.std.specs.Prelude.{◌≡◌, ◌⊎◌, ◌==◌, ℕ, ◌||◌, Bool, true, false, List, [], ◌∷◌, ◌++◌, map, codes, decimal}
+use Rattle.std.specs.Prelude.{unwrap_or, Option, Some, None, option_map}
 use Rattle.std.specs.List.{flat_map, list_any, join_with_byte}
 use Rattle.std.specs.FinMap as finite
 use Rattle.hex.specs.Hex.{encode_lower}
@@ -86,7 +87,7 @@ pub record Outcome : Type 0 where
   pub refused : Bool
   pub after : Session
 
--- a chunk's extents make a `regular` grid of a shape: they are as many, and none of them is 0
+-- a chunk's extents make a `regular` grid of a shape: there is one for each dimension, and none of them is 0
 pub record MakesGrid (shape chunk_shape : List ℕ) : Type 0 where
   pub taken : takes_shape (regular chunk_shape) shape ≡ true
   pub nonzero : list_any (λ extent. extent == 0) chunk_shape ≡ false
@@ -108,7 +109,7 @@ new_array shape chunk_shape cell_type fill = record {
   state = record { store = new_store; shape = shape };
 }
 
--- A new array is open, or it is refused: E18 where the chunk's extents make no grid of the shape, E26 if memory runs out.
+-- A new array is open, or it is refused: E18 if the chunk's extents make no grid of the shape, E26 if out of memory.
 abbrev pub Opens : List ℕ → List ℕ → CellType → List ℕ → Outcome → Type 0
 Opens shape chunk_shape cell_type fill outcome =
     (MakesGrid shape chunk_shape × (outcome ≡ record { text = line (codes "ok"); refused = false; after = Some (new_array shape chunk_shape cell_type fill) }))

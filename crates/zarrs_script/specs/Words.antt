@@ -30,7 +30,7 @@ each_of item (word ∷ words) = do
 abbrev pub numbers_of : List ℕ → Option (List ℕ)
 numbers_of word = each_of number_of (items_of word)
 
--- there is a region that begins at `start` and has this shape: the lists are as long, and each end is below 2 ^ 64
+-- there is a region that begins at `start` and has this shape: the lists have one length, and each end is below 2 ^ 64
 abbrev pub is_region : List ℕ → List ℕ → Bool
 is_region start shape = pointwise (λ first extent. nat_lt (first + extent) (2 ^ 64)) start shape
 

@@ -1,4 +1,4 @@
-//! New arrays.
+//! The arrays that `array` lines make.
 ghost use Rattle.std.specs.Prelude.{◌≡◌};
 ghost use Rattle.zarrs_script.specs.Sizes.{HasSizes};
 ghost use Rattle.zarrs_script.specs.Sessions.{Creates};
@@ -34,7 +34,8 @@ impl OpenArray {
     /// codec `bytes`.
     ///
     /// # Errors
-    /// `NoGrid` if the chunk shape has another length than the shape, or an extent 0.
+    /// `NoGrid` if the chunk shape has another length than the shape, or an extent 0. `OutOfMemory` may come at any
+    /// time.
     pub fn create(alloc: Global, creation: Creation) -> Result<OpenArray, CreationError>
         ensures { Creates creation result }
     {

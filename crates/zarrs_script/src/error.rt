@@ -11,8 +11,10 @@ use thiserror::Error;
 /// Why a line is not read.
 #[derive(Clone, Copy, Debug, Drop, PartialEq, Eq, Error)]
 pub enum ParseError {
+    /// The line is not a command.
     #[error("not a command")]
     NotACommand,
+    /// Out of memory.
     #[error("out of memory")]
     OutOfMemory,
 }

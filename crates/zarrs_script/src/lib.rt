@@ -1,5 +1,4 @@
-//! Scripts: lines that make an array in memory, store, read and erase its chunks, store and read regions of it, and
-//! list the keys of its store.
+//! Scripts: lines that make an array in memory, store, read and erase its cells, and list the keys of its store.
 #![tactic(auto)]
 
 mod array;

@@ -6,9 +6,12 @@ ghost use Rattle.zarrs_data_type.specs.Cell.{fill_cell};
 ghost use Rattle.zarrs_script.specs.Words.{number_of, each_of, numbers_of, region_of};
 ghost use Rattle.zarrs_script.specs.CellTypes.{kind_of, cell_of, joined_cells, cells_of, low_bytes};
 ghost use Rattle.zarrs_script.specs.CellTypes.{positive, negative, unsigned_cell, signed_cell};
-ghost use Rattle.zarrs_script.specs.Script.{verb_of, array_order, chunk_order, put_order, get_order, indices_of};
-ghost use Rattle.zarrs_script.specs.Script.{keys_order, verb_order, order_of, type_after, is_skipped, orders_of};
-ghost use Rattle.zarrs_script.specs.Parsed.{Gives, Grows, words_in, TakesWord, TakesLastWord, order_of_command, Parses};
+ghost use Rattle.zarrs_script.specs.Script.{verb_of, array_order, chunk_order, put_order};
+ghost use Rattle.zarrs_script.specs.Script.{get_order, indices_of};
+ghost use Rattle.zarrs_script.specs.Script.{keys_order, verb_order, order_of, type_after};
+ghost use Rattle.zarrs_script.specs.Script.{is_skipped, orders_of};
+ghost use Rattle.zarrs_script.specs.Parsed.{Gives, Grows, words_in, TakesWord, TakesLastWord};
+ghost use Rattle.zarrs_script.specs.Parsed.{order_of_command, Parses};
 
 use crate::cell_type::CellType;
 use crate::command::{Command, Creation, Verb};
@@ -359,6 +362,9 @@ fn is_skipped(line: &[u8]) -> bool
 }
 
 /// The commands of a script. The whole script is read before any is run.
+///
+/// # Errors
+/// `NotACommand` for the first line that is no command. `OutOfMemory` may come at any time.
 pub fn commands_of(alloc: Global, script: &[u8]) -> Result<Vec<Command>, ScriptError>
     ensures { Parses (λ commands. map order_of_command commands.items) result
         (orders_of script.now) }

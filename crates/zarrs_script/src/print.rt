@@ -1,5 +1,6 @@
 //! Prints replies and keys.
-ghost use Rattle.std.specs.Prelude.{◌≡◌, ◌≤◌, ◌++◌, ◌*◌, ◌∷◌, [], codes, decimal, length, IfOk, OnOk, IsSome, Some};
+ghost use Rattle.std.specs.Prelude.{◌≡◌, ◌≤◌, ◌++◌, ◌*◌, ◌∷◌, [], codes, decimal, length, IfOk};
+ghost use Rattle.std.specs.Prelude.{OnOk, IsSome, Some};
 ghost use Rattle.zarrs_data_type.specs.ArrayData.{fixed};
 ghost use Rattle.zarrs_data_type.specs.Cells.{cells};
 ghost use Rattle.zarrs_steps.specs.Refusals.{refusal_of, refusal_number};
@@ -19,10 +20,13 @@ use zarrs_data_type::{ArrayBytes, ElementError};
 use zarrs_engine::{ArrayError, Reply};
 use zarrs_storage::{MemoryStore, ReadableStorageTraits, StorageError, StoreKey};
 
-/// As many bytes are gathered before they are written.
+/// The number of bytes that are gathered before they are written.
 const PENDING: usize = 8192;
 
 /// Writes what is pending, if it is enough.
+///
+/// # Errors
+/// `Stopped` if the output fails.
 pub fn spill<W: Write>(writer: &mut W, out: &mut Vec<u8>) -> Result<(), Stopped>
     ensures { OnOk result (Puts (W.contents writer.old) (W.contents writer.new)
         out.old.items out.new.items (λ text. text ≡ [])) }
@@ -36,6 +40,9 @@ pub fn spill<W: Write>(writer: &mut W, out: &mut Vec<u8>) -> Result<(), Stopped>
 }
 
 /// Prints a line.
+///
+/// # Errors
+/// `AllocError`: out of memory.
 pub fn put_line(out: &mut Vec<u8>, text: &[u8]) -> Result<(), AllocError>
     ensures { OnOk result (out.new.items ≡ out.old.items ++ line text.now) }
 {
@@ -45,6 +52,9 @@ pub fn put_line(out: &mut Vec<u8>, text: &[u8]) -> Result<(), AllocError>
 }
 
 /// Prints the line of a refusal, by its number.
+///
+/// # Errors
+/// `AllocError`: out of memory.
 pub fn put_refusal(out: &mut Vec<u8>, number: u8) -> Result<(), AllocError>
     ensures { OnOk result (out.new.items ≡ out.old.items ++ refusal number) }
 {
@@ -55,7 +65,10 @@ pub fn put_refusal(out: &mut Vec<u8>, number: u8) -> Result<(), AllocError>
     Ok(())
 }
 
-/// The message for a line that is not a command.
+/// The text for a line, by its number, that is not a command.
+///
+/// # Errors
+/// `AllocError`: out of memory.
 pub fn complaint(alloc: Global, number: u64) -> Result<Vec<u8>, AllocError>
     ensures { IfOk result (λ text. text.items ≡ line (codes "line " ++ decimal number ++ codes ": not a command")) }
 {
@@ -152,6 +165,9 @@ fn refusal_number(error: &ArrayError) -> u8
 }
 
 /// Prints the reply, and tells whether it is a refusal.
+///
+/// # Errors
+/// `Stopped` if the output fails, or out of memory.
 pub fn put_reply<W: Write>(
     writer: &mut W,
     out: &mut Vec<u8>,
@@ -187,13 +203,16 @@ pub fn put_reply<W: Write>(
 }
 
 /// Prints that a line was skipped.
+///
+/// # Errors
+/// `AllocError`: out of memory.
 pub fn put_skipped(out: &mut Vec<u8>) -> Result<(), AllocError>
     ensures { OnOk result (out.new.items ≡ out.old.items ++ line (codes "skipped")) }
 {
     put_line(out, b"skipped")
 }
 
-/// The bytes at a key, or none. A store in memory refuses only if memory runs out.
+/// The bytes at a key, or none. A store in memory is refused only if out of memory.
 fn value_at(alloc: Global, store: &MemoryStore, key: &StoreKey) -> Result<Bytes, AllocError>
     ensures { IfOk result (λ value. value ≡ bytes_at store.now.values key.now) }
 {
@@ -223,6 +242,9 @@ fn put_key(
 }
 
 /// Prints the keys that are present in ascending order, and their bytes, or that there is none.
+///
+/// # Errors
+/// `Stopped` if the output fails, or out of memory.
 pub fn put_keys<W: Write>(
     alloc: Global,
     writer: &mut W,

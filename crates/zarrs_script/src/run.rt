@@ -1,4 +1,4 @@
-//! Runs scripts.
+//! `run_script`: runs a script, and writes what it prints.
 ghost use Rattle.std.specs.Prelude.{◌≡◌, IfOk, ◌⊎◌, None, Some, map};
 ghost use Rattle.zarrs_script.specs.Parsed.{order_of_call, order_of_command};
 ghost use Rattle.zarrs_script.specs.Transcript.{Session, Opens, Does};
@@ -125,7 +125,7 @@ fn run_commands<W: Write>(
     Ok(refused)
 }
 
-/// Writes what the script prints, and gives the status, 0 to 2.
+/// Writes what the script prints, and returns the status, 0 to 2.
 fn answer<W: Write>(alloc: Global, writer: &mut W, script: &[u8]) -> Result<u8, Stopped>
     ensures { IfOk result (λ status. WritesText (W.contents writer.old) (W.contents writer.new)
         (λ text. IsAnswer script.now text status)) }
