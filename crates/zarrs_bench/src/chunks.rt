@@ -224,6 +224,9 @@ fn absent(rt: &(impl Clock + Print), alloc: Global, case: Case) -> Result<()> {
 }
 
 /// The rows of this file.
+///
+/// # Errors
+/// The clock or the output fails, or out of memory.
 pub fn print_rows<R: Clock + Print + Alloc<A = Global>>(rt: &R) -> Result<()> {
     let alloc = rt.alloc();
     for case in CASES {

@@ -1,5 +1,4 @@
-//! The program `zarrs_bench`: with the argument `run` it measures the crates against plain loops over slices, and prints
-//! a table of ratios. Without it, it prints how to run it.
+//! The program `zarrs_bench`: with the argument `run` it measures the crates against plain loops over slices.
 #![tactic(auto)]
 
 mod chunks;

@@ -373,6 +373,9 @@ fn pair(
 }
 
 /// The rows of this file. The first case stores all chunks.
+///
+/// # Errors
+/// The clock or the output fails, or out of memory.
 pub fn print_rows<R: Clock + Print + Alloc<A = Global>>(rt: &R) -> Result<()> {
     let alloc = rt.alloc();
     let mut stores = (array(alloc)?, MemoryStore::new(alloc));

@@ -1,4 +1,4 @@
-//! Scripts.
+//! Scripts of many lines.
 use anyhow::{Result, anyhow};
 use itoa::Buffer;
 use std::alloc::Global;
@@ -134,6 +134,9 @@ impl Work for PlainScript {
 }
 
 /// The rows of this file.
+///
+/// # Errors
+/// The clock or the output fails, or out of memory.
 pub fn print_rows<R: Clock + Print + Alloc<A = Global>>(rt: &R) -> Result<()> {
     let alloc = rt.alloc();
     let mut script = Script(long_script(alloc)?);

@@ -147,6 +147,9 @@ impl Work for PlainBools {
 }
 
 /// The rows of this file.
+///
+/// # Errors
+/// The clock or the output fails, or out of memory.
 pub fn print_rows<R: Clock + Print + Alloc<A = Global>>(rt: &R) -> Result<()> {
     let alloc = rt.alloc();
     for (width, name) in [

@@ -6,6 +6,9 @@ use std::time::{Clock, Instant};
 /// A piece of work that is measured.
 pub trait Work {
     /// Does it once, and returns a byte that depends on what it made. `turn` differs from call to call.
+    ///
+    /// # Errors
+    /// What the work refuses.
     fn run(&mut self, alloc: Global, turn: u8) -> Result<u8>;
 }
 
@@ -35,6 +38,9 @@ pub struct CopyBytes {
 
 impl CopyBytes {
     /// Copies of so many bytes in all.
+    ///
+    /// # Errors
+    /// Out of memory.
     pub fn new(alloc: Global, len: usize) -> Result<CopyBytes> {
         let block = len.clamp(1, 1 << 20);
         Ok(CopyBytes {
@@ -68,6 +74,9 @@ struct Times {
 }
 
 /// Prints the head of the table.
+///
+/// # Errors
+/// The output fails.
 pub fn heading(rt: &impl Print) -> Result<()> {
     println!(rt; "| Work | us | us, plain Rust | Ratio | Ratio to a memory copy |")?;
     println!(rt; "|---|---|---|---|---|")?;
@@ -76,6 +85,9 @@ pub fn heading(rt: &impl Print) -> Result<()> {
 
 /// Measures the work of the product, that of plain Rust and a copy of so many bytes, in turns, and prints the row of
 /// their best times. No byte is copied if the work is none over bytes.
+///
+/// # Errors
+/// The work, the clock or the output fails, or out of memory.
 pub fn row<P: Work, Q: Work>(
     rt: &(impl Clock + Print),
     alloc: Global,

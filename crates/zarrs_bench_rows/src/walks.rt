@@ -215,6 +215,9 @@ impl Work for PlainKeys {
 }
 
 /// The rows of this file.
+///
+/// # Errors
+/// The clock or the output fails, or out of memory.
 pub fn print_rows<R: Clock + Print + Alloc<A = Global>>(rt: &R) -> Result<()> {
     let alloc = rt.alloc();
     let tens = vec![in alloc; 10; 3]?;

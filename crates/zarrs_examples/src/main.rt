@@ -1,5 +1,4 @@
-//! The program `zarrs_examples`: it runs each script of `data/` and compares what the script writes with the file
-//! beside it.
+//! The program `zarrs_examples`: it runs each script of `data/`, and compares its output with the file beside it.
 #![tactic(auto)]
 
 use anyhow::{Result, bail};

@@ -1,5 +1,4 @@
-//! The program `zarrs_run`: it runs the script on standard input over an array in memory, prints on standard output, and
-//! ends with the status that `zarrs_script::run_script` describes.
+//! The program `zarrs_run`: it runs the script on standard input, and ends with the status of `run_script`.
 #![tactic(auto)]
 
 use std::io;
