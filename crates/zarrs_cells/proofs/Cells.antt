@@ -105,7 +105,7 @@ HasCells-cells k d n has = go (cells k d) refl has
     go None is h = absurd h
     go (Some cs) is h = (cs, is, h)
 
--- cells that are some, and as many
+-- cells that are some, and the same number of them
 pub HasCells-some : (k : Kind) (d : ArrayData) (cs : List Cell) → cells k d ≡ Some cs → HasCells k d (length cs)
 HasCells-some k d cs is = subst (λ o. IsSomeAnd o (λ x. length x ≡ length cs)) (sym is) refl
 

@@ -41,7 +41,7 @@ map-replicate : (n : ℕ) (p : List ℕ) → map bytes (replicate n p) ≡ repli
 map-replicate zero p = refl
 map-replicate (suc n) p = ap (λ l. bytes p ∷ l) (map-replicate n p)
 
--- the fill value's bytes, again and again, stand for so many cells of fill
+-- the fill value's bytes, repeated n times, stand for n cells of fill
 pub cells-repeat : (k : Kind) (size n : ℕ) (f : List ℕ) → element_size k ≡ Some size → 0 < size → IsSome (fill_cell k f) → cells k (fixed (repeat n f)) ≡ Some (replicate n (fill_of k f))
 cells-repeat k size n f is positive some =
     let fill = fill_parts k size f is some in

@@ -17,7 +17,7 @@ use Rattle.zarrs_cells.proofs.Filled.{cell_at-fixed}
 use Rattle.zarrs_cells.proofs.Fills.{fill_parts}
 use Rattle.zarrs_cells.proofs.Pieces.{length-repeat, pieces-repeat}
 
--- filled data has the fill value's cell, so many times
+-- filled data has the fill value's cell, repeated
 pub cells-filled : (t : DataType) (made : ArrayData) (n : ℕ) (f : List ℕ) → IsSome (fill_cell (kind t) f) → IsFilled (kind t) made n (fill_of (kind t) f)
     → cells (kind t) made ≡ Some (replicate n (fill_of (kind t) f))
 cells-filled t made n f there is =

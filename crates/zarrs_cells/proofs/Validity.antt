@@ -1,4 +1,4 @@
--- Whether data has so many cells of a type, level by level.
+-- Whether data is a number of cells of a type, level by level.
 use Rattle.std.proofs.Common.{◌≡◌, ◌==◌, ℕ, ◌<◌, Bool, true, false, cond, List, [], map, get_or, None, Some, IsTrue}
 use Rattle.std.proofs.Common.{◌↔◌, refl, sym, ap, ◌∙◌, subst, arith}
 use Rattle.std.specs.Prelude.{All, nat_lt, slice_index, is_some, slice_index_or}

@@ -55,7 +55,7 @@ numbered_from g indices (suc n) h =
     and_from (nat_lt (slice_index indices n) (g.axis n).count) (numbered_along g indices n)
     (lt-ltb _ _ (h n (omega arith))) (numbered_from g indices n (λ k below. h k (omega arith)))
 
--- the two forms of "the chunk is there"
+-- the two forms of "there is such a chunk"
 pub has_box_is : (g : Grid) (indices : List ℕ) → HasBox g indices → has_box g indices ≡ true
 unfolding has_box
 has_box_is g indices has =
@@ -67,7 +67,7 @@ box_is_there g indices h =
     let parts = and_parts (length indices == g.dimensions) (numbered_along g indices g.dimensions) h in
     record { long = exact_unsigned_eq _ _ parts.0; numbered = numbered_parts g indices g.dimensions parts.1 }
 
--- no chunk is there where some dimension has none of that number
+-- there is no such chunk if some dimension has none of that number
 pub no_box : (g : Grid) (indices : List ℕ) (k : ℕ) → k < g.dimensions → (g.axis k).count ≤ slice_index indices k → has_box g indices ≡ false
 no_box g indices k within past =
     elim (cases_Bool (has_box g indices)) [
@@ -123,7 +123,7 @@ unfolding box_at
 box_dimensions g indices = length-map-range_with_len _ 0 g.dimensions
 
 module _ (g : Grid) (l : IsGrid g) where
-  -- the box of a chunk that is there is a box
+  -- the box of a chunk is a box
   pub box_is_box : (indices : List ℕ) → has_box g indices ≡ true → IsBox (box_at g indices)
   unfolding box_at
   box_is_box indices there =
@@ -139,7 +139,7 @@ module _ (g : Grid) (l : IsGrid g) where
             rw (at_dimension g.dimensions (start_along g indices) k inside, at_dimension g.dimensions (extent_along g indices) k inside) (omega arith);
       }
 
-  -- each index list whose chunk is there has numbers that fit u64
+  -- each index list of a chunk has numbers that fit u64
   pub box_words : (indices : List ℕ) → HasBox g indices → (k : ℕ) → slice_index indices k < 2 ^ 64
   box_words indices has k =
       elim (cases_lt k g.dimensions) [

@@ -55,7 +55,7 @@ module _ (a : ArrayMeaning) (leaf : LeafMeaning) (k : Kind) (s : List ℕ) (fit 
     pub refused-through : leaf.decoded k (position_count s) b ≡ None → (through a (whole_chunk leaf)).decoded k f s b ≡ None
     refused-through none = decoded_at ∙ ap (option_and_then (λ cs. Some (a.back s cs))) none
 
--- data of decoded bytes has as many cells as were asked for
+-- data of decoded bytes has the number of cells that was asked for
 pub decoded-has : (leaf : LeafMeaning) → IsLawfulLeaf leaf → (k : Kind) (n : ℕ) (b : List ℕ) (d : ArrayData) → cells k d ≡ leaf.decoded k n b → IsSome (cells k d) → HasCells k d n
 decoded-has leaf law k n b d is there = go (cells k d) refl there
   where

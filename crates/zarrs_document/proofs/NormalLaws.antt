@@ -16,7 +16,7 @@ use Rattle.zarrs_document.specs.Document.{draft_of, transformers_in, assembled, 
 use Rattle.zarrs_document.specs.Document.{normal_document}
 use Rattle.zarrs_document.proofs.MemberLemmas.{besides-put, besides-again}
 
--- ---- a value that is there came of one that was there
+-- ---- a value that is present came of one that was present
 
 bind_some : {A B : Type 0} (f : A → Option B) (o : Option A) (b : B) → option_and_then f o ≡ Some b → (a : A) × (o ≡ Some a) × (f a ≡ Some b)
 bind_some f None b h = cc

@@ -289,7 +289,7 @@ module _ (layout : Layout) (range : Box) (held : ArrayData) where
                   ∙ ap (λ b. wanted b (chunks_box layout.grid range)) (sym is_not)
             ]
 
-        -- the dimensions are right, and some chunk is there
+        -- the dimensions are right, and there is a chunk
         pub range_said : (shape : List ℕ) → range_first layout shape range ≡ range_refusal layout range
         range_said shape =
             second_refusal (dimensions_refusal layout shape range) _ (ap (λ b. refuse_if (not b) (refusal.array_subset range shape)) (eq-eqb _ _ dimensions))

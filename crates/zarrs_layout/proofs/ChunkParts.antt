@@ -20,7 +20,7 @@ use Rattle.zarrs_layout.specs.Parts.{RefusesIndices}
 
 -- ---- the chunk
 
--- a chunk that is there is not refused
+-- indices with a chunk are not refused
 pub chunk_accepted : (layout : Layout) (index : List ℕ) → has_box layout.grid index ≡ true → chunk_refusal layout index ≡ None
 chunk_accepted layout index has = ap (λ b. refuse_if (not b) (refusal.indices index)) has
 

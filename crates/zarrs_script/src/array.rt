@@ -17,7 +17,9 @@ pub type MemoryEngine = Engine<MemoryStore, RegularChunkGrid, ChunkKeyEncoding, 
 /// The open array.
 #[derive(Drop)]
 pub struct OpenArray {
+    /// The type of its cells.
     pub cell_type: CellType,
+    /// Its engine, which owns the store.
     pub engine: MemoryEngine,
     ghost typed: { kind_eq (layout_of engine).kind (kind_of cell_type) ≡ true },
 }

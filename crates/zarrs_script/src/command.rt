@@ -25,6 +25,7 @@ pub struct Creation {
     pub shape: Vec<u64>,
     /// A chunk's extent along each dimension.
     pub chunk_shape: Vec<u64>,
+    /// The type of its cells.
     pub cell_type: CellType,
     /// The bytes of the fill value.
     pub fill: Vec<u8>,
@@ -34,6 +35,7 @@ pub struct Creation {
 /// What a line asks for.
 #[derive(Drop)]
 pub enum Command {
+    /// Makes an array.
     Array(Creation),
     /// A call of the open array.
     Call(Call),

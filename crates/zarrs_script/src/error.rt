@@ -25,6 +25,7 @@ pub enum ScriptError {
     /// The number of the first line that is not a command, from 1.
     #[error("line {0}: not a command")]
     NotACommand(u64),
+    /// Out of memory.
     #[error("out of memory")]
     OutOfMemory,
 }
@@ -35,6 +36,7 @@ pub enum CreationError {
     /// The chunk shape has another length than the shape, or an extent 0.
     #[error("the chunk shape makes no grid of the array shape")]
     NoGrid,
+    /// Out of memory.
     #[error("out of memory")]
     OutOfMemory,
 }

@@ -50,7 +50,7 @@ module _ (grid : Grid) (lawful : IsGrid grid) (range : Box) (long : IsLong range
       let n = place range.shape (offset_from range.start found.0) in
       subst (Contains (positions range)) (sym is) (n, slice_get_within _ n _ at, get_or_from_slice_get _ n _ _ at)
 
--- Where the first and the last chunk of a range that is not empty are there, it is a range of chunks.
+-- If a range is not empty and its first and its last index have a chunk, it is a range of chunks.
 first_part : (a b : Option Refusal) → option_or a b ≡ None → (a ≡ None) × (b ≡ None)
 first_part None b h = (refl, h)
 first_part (Some x) b h = absurd (cc)

@@ -36,7 +36,7 @@ among_or_not (j ∷ indices) i =
       ]
     ]
 
--- a chunk that is there has a position: its first one
+-- a chunk has a position: its first one
 pub first_held : (grid : Grid) → IsGrid grid → (index : List ℕ) → has_box grid index ≡ true → Holds (box_at grid index) (box_at grid index).start
 unfolding box_at
 first_held grid lawful index there =

@@ -12,7 +12,7 @@ length-zip_with f [] (y ∷ ys) h = absurd (omega arith)
 length-zip_with f (x ∷ xs) [] h = absurd (omega arith)
 length-zip_with f (x ∷ xs) (y ∷ ys) h = omega (arith, length-zip_with f xs ys (omega arith))
 
--- a list is the numbers that f gives, one by one
+-- a list is the numbers of f, one by one
 pub zip_with-from : (f : ℕ → ℕ → ℕ) (xs ys zs : List ℕ) → length xs ≡ length ys → length zs ≡ length xs
     → ((k : ℕ) → k < length xs → slice_index zs k ≡ f (slice_index xs k) (slice_index ys k)) → zs ≡ zip_with f xs ys
 zip_with-from f [] [] [] h l at = refl

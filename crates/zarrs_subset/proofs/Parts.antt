@@ -110,7 +110,7 @@ shared_moved (s ∷ S) (x ∷ X) (t ∷ T) (y ∷ Y) (n ∷ p) h i j inside hit 
 
 -- ---- bytes over boxes
 
--- `new` is `old`, over the box of `start` and `shape`, but for the positions of another box, which have the bytes of `part`:
+-- `new` is `old`, over the box of `start` and `shape`, except the positions of another box, which have the bytes of `part`:
 -- byte by byte
 abbrev pub BytesPlaced : ℕ → List ℕ → List ℕ → List ℕ → List ℕ → List ℕ → List ℕ → List ℕ → Type 0
 BytesPlaced size start shape other_start other_shape part old new =

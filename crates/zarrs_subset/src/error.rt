@@ -9,7 +9,9 @@ use thiserror::Error;
 #[derive(Clone, Copy, Debug, PartialEq, Eq, Drop, Error)]
 #[error("incompatible dimensionality {got}, expected {expected}")]
 pub struct IncompatibleDimensionalityError {
+    /// The length that came.
     pub got: usize,
+    /// The length that was wanted.
     pub expected: usize,
 }
 

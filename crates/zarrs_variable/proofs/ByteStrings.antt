@@ -108,7 +108,7 @@ joined-strings offsets bytes cuts =
     ∙ ap (λ k. take k bytes) cuts.covered
     ∙ take_all (length bytes) bytes (omega arith)
 
--- the first n byte strings have so many bytes
+-- the number of bytes of the first n byte strings
 sum_front : (offsets bytes : List ℕ) → AreCuts offsets bytes → (n : ℕ) → n + 1 ≤ length offsets → sum_by length (take n (byte_strings offsets bytes)) ≡ slice_index offsets n
 sum_front offsets bytes cuts zero le = sym cuts.are_offsets.from_zero
 sum_front offsets bytes cuts (suc n) le =
