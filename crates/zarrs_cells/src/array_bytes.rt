@@ -2,8 +2,7 @@
 ghost use Rattle.std.specs.Prelude.{◌≡◌, ◌↔◌, ◌<◌, All, IfOk, IsOk, is_ok, length};
 ghost use Rattle.std.specs.Cow.{cow_slice_items};
 ghost use Rattle.zarrs_cells.specs.ArrayData.{data_of, optional_data, mask_of, inner_data, fixed};
-ghost use Rattle.zarrs_cells.specs.ArrayData.{variable};
-ghost use Rattle.zarrs_cells.specs.ArrayData.{optional, is_fixed_data, is_variable_data};
+ghost use Rattle.zarrs_cells.specs.ArrayData.{variable, optional, is_fixed_data, is_variable_data};
 ghost use Rattle.zarrs_cells.specs.ArrayData.{is_optional_data};
 ghost use Rattle.zarrs_variable.specs.Offsets.{byte_strings, last_offset};
 

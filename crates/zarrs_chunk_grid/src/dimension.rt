@@ -4,8 +4,7 @@ ghost use Rattle.std.specs.Prelude.{IfOk, IfErr, OnOk, IfSome, IfNone};
 ghost use Rattle.std.specs.Option.{SomeIff};
 ghost use Rattle.std.specs.Int.NonZero.{non_zero_u64_get};
 ghost use Rattle.zarrs_chunk_grid.specs.Axes.{IsInterval, Covers, regular_axis, bounded_axis};
-ghost use Rattle.zarrs_chunk_grid.specs.Axes.{sizes_axis};
-ghost use Rattle.zarrs_chunk_grid.specs.Axes.{sizes_of, ends_of_sizes};
+ghost use Rattle.zarrs_chunk_grid.specs.Axes.{sizes_axis, sizes_of, ends_of_sizes};
 
 use crate::error::GridError;
 use crate::traits::Interval;

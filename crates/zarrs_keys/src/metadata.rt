@@ -1,8 +1,7 @@
 //! The metadata of chunk key encodings, both ways.
 ghost use Rattle.std.specs.Prelude.{◌≡◌, Some, IfOk, IfErr};
 ghost use Rattle.serde_json.specs.Data.{no_members};
-ghost use Rattle.zarrs_metadata.specs.Extension.{settings};
-ghost use Rattle.zarrs_metadata.specs.Extension.{extension_view};
+ghost use Rattle.zarrs_metadata.specs.Extension.{settings, extension_view};
 ghost use Rattle.zarrs_metadata.specs.Refusals.{RefusesMeaning};
 ghost use Rattle.zarrs_keys.specs.Metadata.{separator_in, suffix_named, suffix_in, default_of};
 ghost use Rattle.zarrs_keys.specs.Metadata.{v2_of, default_suffix_of, key_encoding_of, configured};

@@ -11,8 +11,7 @@ use Rattle.zarrs_steps.specs.declared.call.Call.{Call}
 use Rattle.zarrs_steps.specs.declared.call.Call.TheVariants as call
 use Rattle.zarrs_steps.specs.declared.call.Reply.{Reply}
 use Rattle.zarrs_steps.specs.declared.call.Reply.TheVariants.{Done, Cells, MaybeCells, Refused}
-use Rattle.zarrs_steps.specs.Layout.{Layout}
-use Rattle.zarrs_steps.specs.Layout.{ArrayState}
+use Rattle.zarrs_steps.specs.Layout.{Layout, ArrayState}
 use Rattle.zarrs_steps.specs.Acts.{Act, store, erase, read, read_chunk, act_of}
 use Rattle.zarrs_steps.specs.ArgumentRefusals.{argument_refusal}
 use Rattle.zarrs_steps.specs.Refusals.{Refusal}

@@ -18,8 +18,7 @@ use Rattle.zarrs_codec.specs.Through.{through}
 use Rattle.zarrs_steps.specs.declared.call.Call.{Call}
 use Rattle.zarrs_steps.specs.declared.call.Reply.{Reply}
 use Rattle.zarrs_steps.specs.declared.call.Reply.TheVariants.{Done, Cells, MaybeCells, Refused}
-use Rattle.zarrs_steps.specs.Layout.{Layout, layout_at}
-use Rattle.zarrs_steps.specs.Layout.{ArrayState}
+use Rattle.zarrs_steps.specs.Layout.{Layout, layout_at, ArrayState}
 use Rattle.zarrs_steps.specs.Refusals.{refusal_of, refusal_number}
 use Rattle.zarrs_steps.specs.Step.{Step}
 use Rattle.zarrs_script.specs.declared.cell_type.CellType.{CellType}

@@ -7,9 +7,8 @@ ghost use Rattle.zarrs_script.specs.Words.{number_of, each_of, numbers_of, regio
 ghost use Rattle.zarrs_script.specs.CellTypes.{kind_of, cell_of, joined_cells, cells_of, low_bytes};
 ghost use Rattle.zarrs_script.specs.CellTypes.{positive, negative, unsigned_cell, signed_cell};
 ghost use Rattle.zarrs_script.specs.Script.{verb_of, array_order, chunk_order, put_order};
-ghost use Rattle.zarrs_script.specs.Script.{get_order, indices_of};
-ghost use Rattle.zarrs_script.specs.Script.{keys_order, verb_order, order_of, type_after};
-ghost use Rattle.zarrs_script.specs.Script.{is_skipped, orders_of};
+ghost use Rattle.zarrs_script.specs.Script.{get_order, indices_of, keys_order, verb_order};
+ghost use Rattle.zarrs_script.specs.Script.{order_of, type_after, is_skipped, orders_of};
 ghost use Rattle.zarrs_script.specs.Parsed.{Gives, Grows, words_in, TakesWord, TakesLastWord};
 ghost use Rattle.zarrs_script.specs.Parsed.{order_of_command, Parses};
 

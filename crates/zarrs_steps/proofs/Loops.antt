@@ -21,8 +21,7 @@ use Rattle.zarrs_steps.specs.Layout.{Layout, IsLawful}
 use Rattle.zarrs_steps.specs.Content.{value_at, content, Reads, cell_at_place, chunk_cell}
 use Rattle.zarrs_steps.specs.Changes.{IsValueOf, ChangesKeysOf, Makes, Stores, Erases, IsPut}
 use Rattle.zarrs_steps.proofs.Contents.{fill_at, index_list, one_key, content_in_box, content_covered}
-use Rattle.zarrs_steps.proofs.Contents.{content_uncovered, covered_has_box, in_chunk, member, only_member}
-use Rattle.zarrs_steps.proofs.Contents.{same_or_not}
+use Rattle.zarrs_steps.proofs.Contents.{content_uncovered, covered_has_box, in_chunk, member, only_member, same_or_not}
 use Rattle.zarrs_steps.specs.Fronts.{Front, Takes, StoresAll, ErasesAll, is_in_chunks}
 use Rattle.zarrs_steps.specs.StateRefusals.{AreUpdated}
 

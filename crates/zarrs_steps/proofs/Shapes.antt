@@ -16,8 +16,7 @@ use Rattle.zarrs_steps.specs.Content.{value_at, content, Reads, decoded_cells, c
 use Rattle.zarrs_steps.specs.Changes.{IsValueOf, ChangesKeysOf, Stores, Erases}
 use Rattle.zarrs_steps.specs.Canon.{IsCanonicalValue, IsCanonical}
 use Rattle.zarrs_steps.specs.Laws.{EachDecodes}
-use Rattle.zarrs_steps.proofs.Contents.{fill_at, index_list, one_key, content_in_box}
-use Rattle.zarrs_steps.proofs.Contents.{same_or_not}
+use Rattle.zarrs_steps.proofs.Contents.{fill_at, index_list, one_key, content_in_box, same_or_not}
 use Rattle.zarrs_steps.specs.Fronts.{Front}
 
 not_among : (j i : List ℕ) (indices : List (List ℕ)) → j ≢ i → (Contains indices i → ⊥) → Contains (j ∷ indices) i → ⊥

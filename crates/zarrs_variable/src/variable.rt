@@ -1,7 +1,6 @@
 //! Byte strings of any length.
 ghost use Rattle.std.specs.Prelude.{◌≡◌, ◌↔◌, ◌==◌, ◌<◌, ◌+◌, [], ◌∷◌, ◌++◌, IfOk, OnOk, OnErr};
-ghost use Rattle.std.specs.Prelude.{IsOk, length};
-ghost use Rattle.std.specs.Prelude.{slice_index, slice_index_or, slice_range};
+ghost use Rattle.std.specs.Prelude.{IsOk, length, slice_index, slice_index_or, slice_range};
 ghost use Rattle.std.specs.Cow.{cow_slice_items};
 ghost use Rattle.zarrs_variable.specs.Offsets.{AreCuts, byte_strings, joined, last_offset};
 ghost use Rattle.zarrs_variable.specs.Offsets.{offsets_of};

@@ -1,7 +1,6 @@
 //! The inner cells of optional data that are some, and optional data made of them.
 ghost use Rattle.std.specs.Prelude.{◌≡◌, ◌<◌, ◌*◌, ◌^◌, ℕ, true, All, IfOk, IfSome, IsSome, IsTrue};
-ghost use Rattle.std.specs.Prelude.{Some};
-ghost use Rattle.std.specs.Prelude.{length, count_by};
+ghost use Rattle.std.specs.Prelude.{Some, length, count_by};
 ghost use Rattle.zarrs_cells.specs.ArrayData.{data_of, optional_data};
 ghost use Rattle.zarrs_cells.specs.Cells.{cells, fits, HasCells, IsSelection};
 ghost use Rattle.zarrs_cells.specs.Present.{flag_set, places_set, ranks_set, present_cells};

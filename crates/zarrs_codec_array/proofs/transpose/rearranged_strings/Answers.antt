@@ -1,7 +1,6 @@
 use Rattle.std.proofs.Common.{rules, arith, ◌≡◌, length, ap, sym, subst, ◌∙◌}
 use Rattle.std.specs.Prelude.{map, slice_index_or, []}
-use Rattle.zarrs_codec_array.specs.Gathered.{walked}
-use Rattle.zarrs_codec_array.specs.Gathered.{AreWithin}
+use Rattle.zarrs_codec_array.specs.Gathered.{walked, AreWithin}
 use Rattle.zarrs_codec_array.specs.Orders.{permuted, strides}
 use Rattle.zarrs_codec_array.specs.OrderLaws.{length-strides}
 use Rattle.zarrs_codec_array.proofs.Transposing.{length-scaled, scaled-one}
