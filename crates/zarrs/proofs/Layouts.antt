@@ -1,4 +1,4 @@
--- An array lies in its store as its document says.
+-- An array lies in its store as its metadata says.
 use Rattle.std.proofs.Common.{◌≡◌, List, [], ◌∷◌, ℕ, map, Some, Result, Ok, Err, refl, ap, sym, ◌∙◌}
 use Rattle.std.specs.Result.{result_ok}
 use Rattle.zarrs_codec_array.specs.ArrayCodecs.{array_meaning, arrays_meaning}
@@ -14,13 +14,12 @@ use Rattle.zarrs_codec.specs.Through.{through}
 use Rattle.zarrs_codec.specs.declared.chain.ArrayToBytesCodec.{ArrayToBytesCodec}
 use Rattle.zarrs_codec.specs.declared.chain.ArrayToBytesCodec.TheVariants as bytes_codec
 use Rattle.zarrs_codec.specs.declared.chain.CodecChain.{CodecChain}
-use Rattle.zarrs_document.specs.Document.{normal_document}
 use Rattle.zarrs_engine.specs.Engine.{chain_of}
 use Rattle.zarrs_options.specs.Refusals.{CreateRefusal}
-use Rattle.zarrs.specs.Meanings.{Meaning, creation, array_codec_meant, array_codecs_meant, bytes_codec_meant, chain_meant, layout_meant}
-use Rattle.zarrs.specs.Arrays.{document_of_array, meaning_of_array, layout_of_array, path_of_array}
+use Rattle.zarrs_array_metadata.specs.Meanings.{Meaning, creation}
+use Rattle.zarrs.specs.Layouts.{array_codec_meant, array_codecs_meant, bytes_codec_meant, chain_meant, layout_meant}
+use Rattle.zarrs.specs.Arrays.{metadata_of_array, meaning_of_array, layout_of_array, path_of_array}
 use Rattle.zarrs.specs.declared.array.Array.{Array}
-use Rattle.zarrs.proofs.Normal.{normal_says_the_same}
 
 array_is : (c : ArrayToArrayCodec) → array_meaning c ≡ array_codec_meant (array_codec_data c)
 array_is (array_codec.Transpose t) = refl
@@ -52,12 +51,12 @@ module _ {S : Type 0} where
   pub layout_is : (a : Array S) → layout_of_array a ≡ layout_meant (path_of_array a) (meaning_of_array a)
   layout_is a = ap (λ (m : ChainMeaning). record (layout_meant (path_of_array a) (meaning_of_array a)) { chain = m }) (chain_is (chain_of a.engine))
 
-  pub parts_are : (a : Array S) → creation (document_of_array a) ≡ Ok (meaning_of_array a)
+  pub parts_are : (a : Array S) → creation (metadata_of_array a) ≡ Ok (meaning_of_array a)
   parts_are a = ok_is _ _ a.agrees
 
-  -- arrays at one path, the document of one of which is the normal form of the other's, lie in the same way
-  pub one_layout : (a b : Array S) → document_of_array b ≡ normal_document (document_of_array a) → path_of_array b ≡ path_of_array a → layout_of_array b ≡ layout_of_array a
+  -- arrays at one path, of which the second one's metadata says the parts of the first, lie in the same way
+  pub one_layout : (a b : Array S) → creation (metadata_of_array b) ≡ Ok (meaning_of_array a) → path_of_array b ≡ path_of_array a → layout_of_array b ≡ layout_of_array a
   one_layout a b same path =
-      let said : Ok (meaning_of_array b) ≡ Ok (meaning_of_array a) = sym (parts_are b) ∙ ap creation same ∙ normal_says_the_same (document_of_array a) ∙ parts_are a in
+      let said : Ok (meaning_of_array b) ≡ Ok (meaning_of_array a) = sym (parts_are b) ∙ same in
       let meaning : meaning_of_array b ≡ meaning_of_array a = cc in
       layout_is b ∙ ap (λ (p : List ℕ). layout_meant p (meaning_of_array b)) path ∙ ap (λ (m : Meaning). layout_meant (path_of_array a) m) meaning ∙ sym (layout_is a)

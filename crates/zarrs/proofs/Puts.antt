@@ -1,10 +1,20 @@
--- A writing call for which memory was short.
-use Rattle.std.proofs.Common.{refl, arith}
-use Rattle.zarrs_storage.specs.Store.{StoreState}
-use Rattle.zarrs_steps.specs.Refusals.{out_of_memory}
+-- Writing calls one after another.
+use Rattle.std.proofs.Common.{◌≡◌, inl, inr, ℕ, List, [], ◌∷◌, ◌++◌, refl, sym, subst, ◌∙◌, arith}
+use Rattle.std.proofs.lemmas.List.{append-nil, append_assoc}
+use Rattle.zarrs_storage.specs.Store.{StoreState, KeepsReach}
+use Rattle.zarrs_keys.specs.Keys.{v3_name, v2_array_name, v2_attributes_name, IsMetadataName}
+use Rattle.zarrs_keys.specs.Paths.{path_key}
+use Rattle.zarrs_options.specs.declared.versions.MetadataRetrieveVersion.{MetadataRetrieveVersion}
+use Rattle.zarrs_options.specs.declared.versions.MetadataRetrieveVersion.TheVariants as retrieve
+use Rattle.zarrs_array_metadata.specs.Opening.{MayAskKey, MayAskV2, MayAskMetadata, MayAskEachMetadata}
+use Rattle.zarrs_steps.specs.Changes.{IsPut}
+use Rattle.zarrs_steps.specs.Refusals.{Refusal, out_of_memory}
 use Rattle.zarrs_steps.proofs.RefusalLemmas.{makes_none}
 use Rattle.zarrs_layout.specs.Parts.{RefusesPut}
+use Rattle.zarrs_array_metadata.specs.Writing.{Put}
+use Rattle.zarrs.specs.Puts.{ArePut, RefusesPuts}
 
+-- out of memory before any call
 pub put_short : (state : StoreState) → RefusesPut out_of_memory state state
 put_short state = record {
   failed = 0;
@@ -14,3 +24,74 @@ put_short state = record {
   makes = makes_none state;
   cause = tt;
 }
+
+pub puts_short : (puts : List Put) (state : StoreState) → RefusesPuts puts out_of_memory state state
+puts_short puts state = record {
+  done = [];
+  left = puts;
+  all = refl;
+  middle = state;
+  front = refl;
+  refused = put_short state;
+}
+
+-- of these puts all are done but those that are left
+pub record Putting (puts left : List Put) (old now : StoreState) : Type 0 where
+  pub done : List Put
+  pub all : puts ≡ done ++ left
+  pub front : ArePut done old now
+
+pub put_none : (puts : List Put) (state : StoreState) → Putting puts puts state state
+put_none puts state = record { done = []; all = refl; front = refl }
+
+-- one more
+snoc : (done : List Put) (p : Put) (old middle new : StoreState) → ArePut done old middle → IsPut p.key p.value middle new → ArePut (done ++ (p ∷ [])) old new
+snoc [] p old middle new same put = record { middle = new; first = subst (λ (s : StoreState). IsPut p.key p.value s new) same put; others = refl }
+snoc (q ∷ done) p old middle new front put = record { middle = front.middle; first = front.first; others = snoc done p front.middle middle new front.others put }
+
+pub put_next : (puts left : List Put) (p : Put) (old middle new : StoreState) → Putting puts (p ∷ left) old middle → IsPut p.key p.value middle new → Putting puts left old new
+put_next puts left p old middle new so put = record {
+  done = so.done ++ (p ∷ []);
+  all = so.all ∙ sym (append_assoc so.done (p ∷ []) left);
+  front = snoc so.done p old middle new so.front put;
+}
+
+pub put_refused : (puts left : List Put) (r : Refusal) (old middle new : StoreState) → Putting puts left old middle → RefusesPut r middle new → RefusesPuts puts r old new
+put_refused puts left r old middle new so refused = record {
+  done = so.done;
+  left = left;
+  all = so.all;
+  middle = middle;
+  front = so.front;
+  refused = refused;
+}
+
+pub put_last : (puts : List Put) (old new : StoreState) → Putting puts [] old new → ArePut puts old new
+put_last puts old new so = subst (λ (ps : List Put). ArePut ps old new) (sym (so.all ∙ append-nil so.done)) so.front
+
+-- what may be asked stays
+pub reach_after : (puts : List Put) (old new : StoreState) → ArePut puts old new → KeepsReach old new
+reach_after [] old new same = subst (λ (s : StoreState). KeepsReach old s) (sym same) (record { may_ask = λ key. refl; may_read = λ key place. refl; sets_parts = refl; lenders = refl })
+reach_after (p ∷ puts) old new first =
+    let here = first.first.makes.reach in
+    let after = reach_after puts first.middle new first.others in
+    record {
+      may_ask = λ key. after.may_ask key ∙ here.may_ask key;
+      may_read = λ key place. after.may_read key place ∙ here.may_read key place;
+      sets_parts = after.sets_parts ∙ here.sets_parts;
+      lenders = after.lenders ∙ here.lenders;
+    }
+
+pub may_ask_after : (version : MetadataRetrieveVersion) (path : List ℕ) (old new : StoreState) → MayAskEachMetadata old path → KeepsReach old new → MayAskMetadata version new path
+may_ask_after version path old new each reach = by_version version
+  where
+    at : (name : List ℕ) → IsMetadataName name → MayAskKey new (path_key path name)
+    at name is = record { asked = reach.may_ask (path_key path name) ∙ each.asked name is; places = λ value place held below. reach.may_read (path_key path name) place ∙ each.places name is place }
+
+    both : MayAskV2 new path
+    both = record { array = at v2_array_name (inr (inl refl)); attributes = at v2_attributes_name (inr (inr refl)) }
+
+    by_version : (v : MetadataRetrieveVersion) → MayAskMetadata v new path
+    by_version retrieve.Default = (at v3_name (inl refl), both)
+    by_version retrieve.V3 = at v3_name (inl refl)
+    by_version retrieve.V2 = both

@@ -1,18 +1,19 @@
 -- What clauses show of an array.
 use Rattle.std.specs.Prelude.{◌≡◌, ℕ, List}
 use Rattle.zarrs_storage.specs.Store.{StoreState}
-use Rattle.zarrs_document.specs.Document.{DocumentData}
-use Rattle.zarrs_document.specs.View.{document_view}
+use Rattle.zarrs_document_v2.specs.View.{MetadataData, metadata_view}
+use Rattle.zarrs_codec.specs.declared.options.CodecOptions.{CodecOptions}
+use Rattle.zarrs_options.specs.Options.{MetadataOptionsData, options_view}
 use Rattle.zarrs_steps.specs.Layout.{Layout, ArrayState}
 use Rattle.zarrs_engine.specs.Engine.{layout_of, the_store, store_of, state_of, path_of, KeepsParts}
-use Rattle.zarrs.specs.Meanings.{Meaning}
+use Rattle.zarrs_array_metadata.specs.Meanings.{Meaning}
 use Rattle.zarrs.specs.Agreement.{meaning_of}
 use Rattle.zarrs.specs.declared.array.Array.{Array}
 
 module _ {S : Type 0} where
-  -- its document
-  abbrev pub document_of_array : Array S → DocumentData
-  document_of_array array = document_view array.metadata
+  -- its metadata
+  abbrev pub metadata_of_array : Array S → MetadataData
+  metadata_of_array array = metadata_view array.metadata
 
   -- its parts
   abbrev pub meaning_of_array : Array S → Meaning
@@ -30,6 +31,13 @@ module _ {S : Type 0} where
   abbrev pub storage_of_array : Array S → S
   storage_of_array array = the_store array.engine
 
+  -- the options of its codecs, and of its metadata
+  abbrev pub codec_options_of_array : Array S → CodecOptions
+  codec_options_of_array array = array.codec_options
+
+  abbrev pub metadata_options_of_array : Array S → MetadataOptionsData
+  metadata_options_of_array array = options_view array.metadata_options
+
   -- what its store is now
   abbrev pub store_of_array : (S → StoreState) → Array S → StoreState
   store_of_array state array = store_of state array.engine
@@ -42,3 +50,25 @@ module _ {S : Type 0} where
   pub record KeepsArray (old new : Array S) : Type 0 where
     pub parts : KeepsParts old.engine new.engine
     pub metadata : new.metadata ≡ old.metadata
+    pub codec_options : new.codec_options ≡ old.codec_options
+    pub metadata_options : new.metadata_options ≡ old.metadata_options
+
+  -- nothing but the metadata changed
+  pub record KeepsAllButMetadata (old new : Array S) : Type 0 where
+    pub engine : new.engine ≡ old.engine
+    pub codec_options : new.codec_options ≡ old.codec_options
+    pub metadata_options : new.metadata_options ≡ old.metadata_options
+
+  -- it has these options of its codecs, and nothing else changed
+  pub record HasCodecOptions (options : CodecOptions) (old new : Array S) : Type 0 where
+    pub set : new.codec_options ≡ options
+    pub engine : new.engine ≡ old.engine
+    pub metadata : new.metadata ≡ old.metadata
+    pub metadata_options : new.metadata_options ≡ old.metadata_options
+
+  -- it has these options of its metadata, and nothing else changed
+  pub record HasMetadataOptions (options : MetadataOptionsData) (old new : Array S) : Type 0 where
+    pub set : options_view new.metadata_options ≡ options
+    pub engine : new.engine ≡ old.engine
+    pub metadata : new.metadata ≡ old.metadata
+    pub codec_options : new.codec_options ≡ old.codec_options

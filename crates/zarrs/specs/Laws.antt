@@ -1,29 +1,65 @@
--- Laws of documents and of what a store holds of them.
+-- Laws of metadata and of what a store holds of it.
 use Rattle.std.specs.Prelude.{◌≡◌, ◌≤◌, ℕ, true, false, List, Ok}
-use Rattle.serde_json.specs.Data.{depth}
+use Rattle.serde_json.specs.Data.{depth, object}
 use Rattle.serde_json.specs.Read.{max_depth}
 use Rattle.serde_json.specs.Written.{has_float}
 use Rattle.zarrs_storage.specs.Store.{StoreState}
 use Rattle.zarrs_keys.specs.Paths.{is_node_path}
 use Rattle.zarrs_document.specs.Document.{DocumentData, data_of_document, normal_document}
-use Rattle.zarrs.specs.Meanings.{Meaning, creation}
-use Rattle.zarrs.specs.Opening.{v3_key, fields_understood, opened, StoresMetadata}
+use Rattle.zarrs_document_v2.specs.Document.{DocumentV2Data, data_of_v2, without_attributes}
+use Rattle.zarrs_document_v2.specs.View.{MetadataData, v3, v2}
+use Rattle.zarrs_options.specs.declared.versions.MetadataRetrieveVersion.{MetadataRetrieveVersion}
+use Rattle.zarrs_options.specs.declared.versions.MetadataRetrieveVersion.TheVariants as retrieve
+use Rattle.zarrs_array_metadata.specs.Meanings.{Meaning, creation, as_v3}
+use Rattle.zarrs_array_metadata.specs.Opening.{v3_key, v2_key, attributes_key, fields_understood, opened}
+use Rattle.zarrs_array_metadata.specs.Writing.{Put, IsWrittenBy}
+use Rattle.zarrs.specs.Puts.{ArePut}
 
 -- what is written for the document reads as it: its tree nests at most as deep as JSON that is read, has no left-out
 -- number, and has no field that must be understood
-pub record IsReadAgain (m : DocumentData) : Type 0 where
+pub record IsReadAgainV3 (m : DocumentData) : Type 0 where
   pub shallow : depth (data_of_document m) ≤ max_depth
   pub plain : has_float (data_of_document m) ≡ false
   pub understood : fields_understood (normal_document m).additional_fields ≡ Ok tt
 
--- the document that was written opens, if the key is not refused
+-- the same for each of the two texts of a V2 document
+pub record IsReadAgainV2 (m : DocumentV2Data) : Type 0 where
+  pub shallow : depth (data_of_v2 (without_attributes m)) ≤ max_depth
+  pub plain : has_float (data_of_v2 (without_attributes m)) ≡ false
+  pub shallow_attributes : depth (object m.attributes) ≤ max_depth
+  pub plain_attributes : has_float (object m.attributes) ≡ false
+
+abbrev pub IsReadAgain : MetadataData → Type 0
+IsReadAgain (v3 m) = IsReadAgainV3 m
+IsReadAgain (v2 m) = IsReadAgainV2 m
+
+-- an empty configuration is none
+abbrev pub normal_metadata : MetadataData → MetadataData
+normal_metadata (v3 m) = v3 (normal_document m)
+normal_metadata (v2 m) = v2 m
+
+-- by which version it is read
+abbrev pub version_of : MetadataData → MetadataRetrieveVersion
+version_of (v3 m) = retrieve.V3
+version_of (v2 m) = retrieve.V2
+
+-- the store refuses no key of the metadata
+abbrev pub NoKeyRefused : List ℕ → MetadataData → StoreState → Type 0
+NoKeyRefused path (v3 m) state = state.refuses (v3_key path) ≡ false
+NoKeyRefused path (v2 m) state = (state.refuses (v2_key path) ≡ false) × (state.refuses (attributes_key path) ≡ false)
+
+-- the metadata that was written opens, if no key of it is refused
 abbrev pub WrittenMetadataOpens : Type 0
 WrittenMetadataOpens =
-    (path : List ℕ) (m : DocumentData) (parts : Meaning) (old new : StoreState)
+    (path : List ℕ) (m : MetadataData) (parts : Meaning) (puts : List Put) (old new : StoreState)
     → is_node_path path ≡ true → creation m ≡ Ok parts → IsReadAgain m
-    → StoresMetadata path m old new → new.refuses (v3_key path) ≡ false
-    → opened new path ≡ Ok (normal_document m)
+    → IsWrittenBy path m puts → ArePut puts old new → NoKeyRefused path m new
+    → opened (version_of m) new path ≡ Ok (normal_metadata m)
 
--- a document and its normal form, in which an empty configuration is none, say the same parts
-abbrev pub NormalDocumentsSayTheSame : Type 0
-NormalDocumentsSayTheSame = (m : DocumentData) → creation (normal_document m) ≡ creation m
+-- metadata and its normal form, in which an empty configuration is none, say the same parts
+abbrev pub NormalMetadataSaysTheSame : Type 0
+NormalMetadataSaysTheSame = (m : MetadataData) → creation (normal_metadata m) ≡ creation m
+
+-- V2 metadata and its V3 document say the same parts
+abbrev pub ConvertedMetadataSaysTheSame : Type 0
+ConvertedMetadataSaysTheSame = (m n : MetadataData) → as_v3 m ≡ Ok n → creation n ≡ creation m

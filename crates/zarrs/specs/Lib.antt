@@ -1,6 +1,6 @@
-pub mod Meanings
-pub mod Sets
+pub mod Layouts
 pub mod Agreement
 pub mod Arrays
-pub mod Opening
+pub mod Puts
+pub mod Queries
 pub mod Laws

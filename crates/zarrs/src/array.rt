@@ -1,42 +1,50 @@
-//! An array: an engine, and the document that says its parts.
+//! An array: an engine, and the metadata that says its parts.
 mod calls;
 mod metadata;
+mod options;
+mod queries;
+mod versions;
 
 ghost use Rattle.zarrs.specs.Agreement.{Agrees, Agrees-prop};
 
-use crate::opening::stored_document;
-use crate::parts::parts_said;
 use serde_json::{Map, Value};
 use std::alloc::Global;
+use zarrs_array_metadata::{parts_said, stored_metadata};
 use zarrs_chunk_grid::{ChunkGrid, ChunkGridTraits};
-use zarrs_codec::CodecChain;
+use zarrs_codec::{CodecChain, CodecOptions};
 use zarrs_data_type::{DataType, FillValue};
-use zarrs_document::{ArrayMetadataV3, DimensionName};
+use zarrs_document::DimensionName;
+use zarrs_document_v2::ArrayMetadata;
 use zarrs_engine::Engine;
 use zarrs_keys::{ChunkKeyEncoding, NodePath};
-use zarrs_options::ArrayCreateError;
+use zarrs_options::{ArrayCreateError, ArrayMetadataOptions, MetadataRetrieveVersion};
 use zarrs_storage::ReadableStorageTraits;
 
 /// An array in a store.
 ///
-/// Its parts are those that its document says: the grid of its chunks, their keys, the codecs, the data type and the
-/// fill value (Zarr V3 core specification, array metadata).
+/// Its parts are those that its metadata says: the grid of its chunks, their keys, the codecs, the data type and the
+/// fill value (Zarr V3 core specification, array metadata; Zarr V2 storage specification, metadata).
 #[derive(Drop)]
 pub struct Array<TStorage> {
     engine: Engine<TStorage, ChunkGrid, ChunkKeyEncoding, CodecChain>,
-    metadata: ArrayMetadataV3,
+    metadata: ArrayMetadata,
+    codec_options: CodecOptions,
+    metadata_options: ArrayMetadataOptions,
     ghost agrees: { Agrees engine metadata } by { Agrees-prop engine metadata },
 }
 
 impl<TStorage> Array<TStorage> {
-    ghost use Rattle.std.specs.Prelude.{◌≡◌, map, length, option_map};
+    ghost use Rattle.std.specs.Prelude.{◌≡◌, map, option_map};
     ghost use Rattle.serde_json.specs.View.{members_view};
-    ghost use Rattle.zarrs_document.specs.View.{document_view, name_view};
+    ghost use Rattle.zarrs_document.specs.View.{name_view};
+    ghost use Rattle.zarrs_document_v2.specs.View.{metadata_view};
     ghost use Rattle.zarrs_chunk_grid.specs.Configurations.{counts_of};
     ghost use Rattle.zarrs_chunk_grid.specs.GridView.{configuration_of};
     ghost use Rattle.zarrs_types.specs.Kind.{kind};
     ghost use Rattle.zarrs_codec.specs.Metadata.{chain_data};
-    ghost use Rattle.zarrs.specs.Arrays.{document_of_array, meaning_of_array, layout_of_array};
+    ghost use Rattle.zarrs_array_metadata.specs.Meanings.{shape_said, attributes_of};
+    ghost use Rattle.zarrs_array_metadata.specs.Meanings.{dimension_names_of};
+    ghost use Rattle.zarrs.specs.Arrays.{metadata_of_array, meaning_of_array, layout_of_array};
     ghost use Rattle.zarrs.specs.Arrays.{path_of_array, storage_of_array};
 
     /// Returns the store.
@@ -53,18 +61,21 @@ impl<TStorage> Array<TStorage> {
         self.engine.path()
     }
 
-    /// Returns its document.
-    pub fn metadata(&self) -> &ArrayMetadataV3
-        ensures { document_view result.now ≡ document_of_array self.now }
+    /// Returns its metadata.
+    pub fn metadata(&self) -> &ArrayMetadata
+        ensures { metadata_view result.now ≡ metadata_of_array self.now }
     {
         &self.metadata
     }
 
     /// Returns the extent of each dimension.
     pub fn shape(&self) -> &[u64]
-        ensures document { result.now ≡ (document_of_array self.now).shape }
+        ensures { result.now ≡ shape_said (metadata_of_array self.now) }
     {
-        self.metadata.shape.as_slice()
+        match &self.metadata {
+            ArrayMetadata::V3(document) => document.shape.as_slice(),
+            ArrayMetadata::V2(document) => document.shape.as_slice(),
+        }
     }
 
     /// Returns the number of dimensions, which is the length of an index list.
@@ -117,19 +128,25 @@ impl<TStorage> Array<TStorage> {
         self.engine.keys()
     }
 
-    /// Returns the names of the dimensions, if there are any.
-    pub fn dimension_names(&self) -> &Option<Vec<DimensionName>>
-        ensures { option_map (λ names. map name_view names.items) result.now
-            ≡ (document_of_array self.now).dimension_names }
+    /// Returns the names of the dimensions, if there are any. A V2 array has none.
+    pub fn dimension_names(&self) -> Option<&[DimensionName]>
+        ensures { option_map (λ names. map name_view names.now) result
+            ≡ dimension_names_of (metadata_of_array self.now) }
     {
-        &self.metadata.dimension_names
+        match &self.metadata {
+            ArrayMetadata::V3(document) => document.dimension_names.as_deref(),
+            ArrayMetadata::V2(_) => None,
+        }
     }
 
     /// Returns the attributes of the user.
     pub fn attributes(&self) -> &Map<String, Value>
-        ensures { members_view result.now.entries ≡ (document_of_array self.now).attributes }
+        ensures { members_view result.now.entries ≡ attributes_of (metadata_of_array self.now) }
     {
-        &self.metadata.attributes
+        match &self.metadata {
+            ArrayMetadata::V3(document) => &document.attributes,
+            ArrayMetadata::V2(document) => &document.attributes,
+        }
     }
 
     /// Returns the store, which is all that is kept.
@@ -142,47 +159,49 @@ impl<TStorage> Array<TStorage> {
 
 impl<TStorage: Drop> Array<TStorage> {
     ghost use Rattle.std.specs.Prelude.{◌≡◌, IfOk, IfErr};
-    ghost use Rattle.zarrs_document.specs.View.{document_view};
+    ghost use Rattle.zarrs_document_v2.specs.View.{metadata_view};
     ghost use Rattle.zarrs_options.specs.Refusals.{create_refusal_of, RefusesCreation};
-    ghost use Rattle.zarrs.specs.Meanings.{creation, created};
-    ghost use Rattle.zarrs.specs.Arrays.{document_of_array, path_of_array, storage_of_array};
+    ghost use Rattle.zarrs_array_metadata.specs.Meanings.{creation, created};
+    ghost use Rattle.zarrs.specs.Arrays.{metadata_of_array, path_of_array, storage_of_array};
 
-    /// Makes the array at the path with this document. The store is not asked, and additional fields are not looked
-    /// at.
+    /// Makes the array at the path with this metadata and the default options. The store is not asked, and additional
+    /// fields are not looked at.
     ///
     /// # Errors
-    /// In this order: E11 for a path that is no path of a node; E16 for codecs that are no chain; E13 for no data type;
-    /// E18 for no chunk grid over the shape; E15 for no fill value of the data type; E17 for storage transformers; E19
-    /// for no chunk key encoding; E21 for more or fewer names than dimensions. E26 may come at any time. The store is
-    /// dropped then.
+    /// E11 for a path that is no path of a node. Then of V3 metadata in this order: E16 for codecs that are no chain;
+    /// E13 for no data type; E18 for no chunk grid over the shape; E15 for no fill value of the data type; E17 for
+    /// storage transformers; E19 for no chunk key encoding; E21 for more or fewer names than dimensions. Of V2 metadata:
+    /// E13 for a data type without a V3 name; E18 for a chunk of another number of dimensions; E15 for no fill value of
+    /// the data type; E25 for a compressor, or filters that are not those of the data type. E26 may come at any time.
+    /// The store is dropped then.
     pub fn new_with_metadata(
         alloc: Global,
         storage: TStorage,
         path: &str,
-        metadata: ArrayMetadataV3,
+        metadata: ArrayMetadata,
     ) -> Result<Array<TStorage>, ArrayCreateError>
-        ensures document { IfOk result (λ a. document_of_array a ≡ document_view metadata) }
+        ensures metadata { IfOk result (λ a. metadata_of_array a ≡ metadata_view metadata) }
         ensures path { IfOk result (λ a. path_of_array a ≡ path.now) }
         ensures storage { IfOk result (λ a. storage_of_array a ≡ storage) }
         ensures refused { IfErr result (λ e. RefusesCreation
-            (created path.now (document_view metadata)) (create_refusal_of e)) }
+            (created path.now (metadata_view metadata)) (create_refusal_of e)) }
     {
         let path = NodePath::new(alloc, path)?;
-        let array = Array::with_document(alloc, storage, path, metadata)?;
+        let array = Array::with_metadata(alloc, storage, path, metadata)?;
         Ok(array)
     }
 
-    fn with_document(
+    fn with_metadata(
         alloc: Global,
         storage: TStorage,
         path: NodePath,
-        metadata: ArrayMetadataV3,
+        metadata: ArrayMetadata,
     ) -> Result<Array<TStorage>, ArrayCreateError>
-        ensures document { IfOk result (λ a. document_of_array a ≡ document_view metadata) }
+        ensures metadata { IfOk result (λ a. metadata_of_array a ≡ metadata_view metadata) }
         ensures path { IfOk result (λ a. path_of_array a ≡ path) }
         ensures storage { IfOk result (λ a. storage_of_array a ≡ storage) }
         ensures refused { IfErr result
-            (λ e. RefusesCreation (creation (document_view metadata)) (create_refusal_of e)) }
+            (λ e. RefusesCreation (creation (metadata_view metadata)) (create_refusal_of e)) }
     {
         let parts = parts_said(alloc, &metadata)?;
         let engine = Engine::new(
@@ -194,38 +213,68 @@ impl<TStorage: Drop> Array<TStorage> {
             parts.data_type,
             parts.fill_value,
         );
-        Ok(Array { engine, metadata })
+        Ok(Array {
+            engine,
+            metadata,
+            codec_options: CodecOptions::default(),
+            metadata_options: ArrayMetadataOptions::default(),
+        })
     }
 }
 
 impl<TStorage: ReadableStorageTraits + Drop> Array<TStorage> {
     ghost use Rattle.std.specs.Prelude.{◌≡◌, Ok, IfOk, IfErr};
+    ghost use Rattle.zarrs_options.specs.declared.versions.MetadataRetrieveVersion.TheVariants as retrieve;
     ghost use Rattle.zarrs_options.specs.Refusals.{create_refusal_of, RefusesCreation};
-    ghost use Rattle.zarrs.specs.Opening.{opened, MayAskMetadata};
-    ghost use Rattle.zarrs.specs.Arrays.{document_of_array, path_of_array, storage_of_array};
+    ghost use Rattle.zarrs_array_metadata.specs.Opening.{opened, MayAskMetadata};
+    ghost use Rattle.zarrs.specs.Arrays.{metadata_of_array, path_of_array, storage_of_array};
 
-    /// Opens the array at the path: makes it of the document at the key `zarr.json` of the path.
+    /// Opens the array at the path by its V3 metadata, or by its V2 metadata if there is no `zarr.json`.
     ///
     /// # Errors
-    /// In this order: E11 for a path that is no path of a node; E23 if the store refuses the key; E24 if it is absent;
-    /// E23 for bytes that are no document of a V3 array; E12 for an additional field that must be understood. Then as
-    /// `new_with_metadata`. E26 may come at any time. The store is dropped then.
+    /// As `open_opt`.
     pub fn open(
         alloc: Global,
         storage: TStorage,
         path: &str,
     ) -> Result<Array<TStorage>, ArrayCreateError>
-        requires { MayAskMetadata (TStorage.state storage) path.now }
-        ensures document { IfOk result
-            (λ a. opened (TStorage.state storage) path.now ≡ Ok (document_of_array a)) }
+        requires { MayAskMetadata retrieve.Default (TStorage.state storage) path.now }
+        ensures metadata { IfOk result (λ a.
+            opened retrieve.Default (TStorage.state storage) path.now ≡ Ok (metadata_of_array a)) }
         ensures path { IfOk result (λ a. path_of_array a ≡ path.now) }
         ensures storage { IfOk result (λ a. storage_of_array a ≡ storage) }
-        ensures refused { IfErr result
-            (λ e. RefusesCreation (opened (TStorage.state storage) path.now) (create_refusal_of e)) }
+        ensures refused { IfErr result (λ e. RefusesCreation
+            (opened retrieve.Default (TStorage.state storage) path.now) (create_refusal_of e)) }
+    {
+        Array::open_opt(alloc, storage, path, &MetadataRetrieveVersion::Default)
+    }
+
+    /// Opens the array at the path: makes it of the metadata that the store holds there, of this version.
+    ///
+    /// The document is that at the key `zarr.json` of the path, or at `.zarray`, whose attributes are those at
+    /// `.zattrs` if that is present.
+    ///
+    /// # Errors
+    /// In this order: E11 for a path that is no path of a node; E23 if the store refuses a key that is asked, and for a
+    /// value there that is no such document; E24 if the metadata is absent; E12 for an additional field of a V3 document
+    /// that must be understood. Then as `new_with_metadata`. E26 may come at any time. The store is dropped then.
+    pub fn open_opt(
+        alloc: Global,
+        storage: TStorage,
+        path: &str,
+        version: &MetadataRetrieveVersion,
+    ) -> Result<Array<TStorage>, ArrayCreateError>
+        requires { MayAskMetadata version.now (TStorage.state storage) path.now }
+        ensures metadata { IfOk result (λ a.
+            opened version.now (TStorage.state storage) path.now ≡ Ok (metadata_of_array a)) }
+        ensures path { IfOk result (λ a. path_of_array a ≡ path.now) }
+        ensures storage { IfOk result (λ a. storage_of_array a ≡ storage) }
+        ensures refused { IfErr result (λ e. RefusesCreation
+            (opened version.now (TStorage.state storage) path.now) (create_refusal_of e)) }
     {
         let node_path = NodePath::new(alloc, path)?;
-        let metadata = stored_document(alloc, &storage, &node_path)?;
-        let array = Array::with_document(alloc, storage, node_path, metadata)?;
+        let metadata = stored_metadata(alloc, &storage, &node_path, *version)?;
+        let array = Array::with_metadata(alloc, storage, node_path, metadata)?;
         Ok(array)
     }
 }

@@ -3,8 +3,6 @@
 
 mod array;
 pub mod laws;
-mod opening;
-mod parts;
 mod reopening;
 
 pub use array::Array;
@@ -15,9 +13,16 @@ pub use zarrs_data_type::{ArrayBytes, DataType, FillValue};
 pub use zarrs_document::{
     AdditionalFieldV3, AdditionalFieldsV3, ArrayMetadataV3, DimensionName, FillValueMetadata,
 };
+pub use zarrs_document_v2::{
+    ArrayMetadata, ArrayMetadataV2, ArrayMetadataV2Order, ArrayMetadataV2ToV3Error,
+    DataTypeMetadataV2, array_metadata_v2_to_v3,
+};
 pub use zarrs_engine::{ArrayError, Call, Reply};
 pub use zarrs_keys::{ChunkKeyEncoding, ChunkKeySeparator, NodePath, NodePathError};
 pub use zarrs_metadata::{MetadataV3, PluginCreateError};
-pub use zarrs_options::{AdditionalFieldUnsupportedError, ArrayCreateError};
+pub use zarrs_options::{
+    AdditionalFieldUnsupportedError, ArrayCreateError, ArrayMetadataOptions,
+    MetadataConvertVersion, MetadataEraseVersion, MetadataRetrieveVersion,
+};
 pub use zarrs_storage::{StorageError, StoreKey};
 pub use zarrs_subset::ArraySubset;

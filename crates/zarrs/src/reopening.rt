@@ -1,38 +1,55 @@
 //! An array that is stored and opened again.
-ghost use Rattle.std.specs.Prelude.{◌≡◌, ℕ, true, IfOk};
-ghost use Rattle.zarrs_document.specs.Document.{normal_document};
-ghost use Rattle.zarrs.specs.Opening.{v3_key};
-ghost use Rattle.zarrs.specs.Laws.{IsReadAgain};
-ghost use Rattle.zarrs.specs.Arrays.{document_of_array, path_of_array, layout_of_array, store_of_array};
+ghost use Rattle.std.specs.Prelude.{◌≡◌, Ok, IfOk};
+ghost use Rattle.zarrs_document_v2.specs.View.{MetadataData, metadata_view};
+ghost use Rattle.zarrs_array_metadata.specs.Opening.{MayAskEachMetadata};
+ghost use Rattle.zarrs_array_metadata.specs.Shown.{shown};
+ghost use Rattle.zarrs.specs.Laws.{IsReadAgain, normal_metadata, version_of};
+ghost use Rattle.zarrs.specs.Arrays.{metadata_of_array, metadata_options_of_array};
+ghost use Rattle.zarrs.specs.Arrays.{path_of_array, layout_of_array, store_of_array};
 
 use crate::array::Array;
 use std::alloc::Global;
-use zarrs_options::ArrayCreateError;
+use zarrs_document_v2::ArrayMetadata;
+use zarrs_options::{ArrayCreateError, MetadataRetrieveVersion};
 use zarrs_storage::WritableStorageTraits;
 
-/// Stores the document of the array, takes the store out and opens the array there again. If what is written for the
-/// document reads as it, the array that opens is of the same document up to its normal form, and lies in its store in
-/// the same way.
+/// Returns the version of the metadata.
+fn version_of(metadata: &ArrayMetadata) -> MetadataRetrieveVersion
+    ensures { result ≡ version_of (metadata_view metadata.now) }
+{
+    match metadata {
+        ArrayMetadata::V3(_) => MetadataRetrieveVersion::V3,
+        ArrayMetadata::V2(_) => MetadataRetrieveVersion::V2,
+    }
+}
+
+/// Stores the metadata of the array, takes the store out and opens the array there again, by the version that was
+/// written. If what is written for the metadata reads as it, the array that opens has the metadata that was shown up to
+/// its normal form, and lies in its store in the same way.
 ///
 /// # Errors
-/// E23 if the store refuses, and E26; for a document that is not read again also E23 and E12. The store is dropped then.
+/// E23 if the store refuses, and E26; for metadata that is not read again also E23 and E12. The store is dropped then.
 pub fn written_and_opened<S: WritableStorageTraits + Drop>(
     alloc: Global,
     array: Array<S>,
 ) -> Result<Array<S>, ArrayCreateError>
-    requires ask { (store_of_array S.state array).may_ask (v3_key (path_of_array array)) ≡ true }
-    requires places { (place : ℕ)
-        → (store_of_array S.state array).may_read (v3_key (path_of_array array)) place ≡ true }
-    ensures document { IsReadAgain (document_of_array array) → IfOk result
-        (λ a. document_of_array a ≡ normal_document (document_of_array array)) }
+    requires { MayAskEachMetadata (store_of_array S.state array) (path_of_array array) }
+    ensures metadata { (m : MetadataData)
+        → shown (metadata_options_of_array array) (metadata_of_array array) ≡ Ok m
+        → IsReadAgain m → IfOk result (λ a. metadata_of_array a ≡ normal_metadata m) }
     ensures path { IfOk result (λ a. path_of_array a ≡ path_of_array array) }
-    ensures layout { IsReadAgain (document_of_array array) → IfOk result
-        (λ a. layout_of_array a ≡ layout_of_array array) }
+    ensures layout { (m : MetadataData)
+        → shown (metadata_options_of_array array) (metadata_of_array array) ≡ Ok m
+        → IsReadAgain m → IfOk result (λ a. layout_of_array a ≡ layout_of_array array) }
 {
     let mut array = array;
     let path = array.path().clone()?;
+    let Ok(written) = array.metadata_opt(alloc, array.metadata_options()) else {
+        return Err(ArrayCreateError::OutOfMemory);
+    };
+    let version = version_of(&written);
     array.store_metadata(alloc)?;
     let storage = array.into_storage();
-    let opened = Array::open(alloc, storage, path.as_str())?;
+    let opened = Array::open_opt(alloc, storage, path.as_str(), &version)?;
     Ok(opened)
 }

@@ -1,5 +1,5 @@
 //! Arrays that are made of documents, and the refusals in their order.
-use crate::made::{MemoryArray, array, create};
+use crate::made::{MemoryArray, array, create, document_of};
 use std::alloc::Global;
 use std::process::Abort;
 use std::test::Fail;
@@ -31,14 +31,12 @@ fn must_have_cells(rt: &impl Abort, array: &MemoryArray) {
     assert!(rt; matches!(keys, ChunkKeyEncoding::Default(ChunkKeySeparator::Slash)));
 }
 
-fn must_have_texts(rt: &impl Abort, array: &MemoryArray) {
+fn must_have_texts(rt: &impl Abort, array: &MemoryArray) -> Result<(), Fail> {
     assert_eq!(rt; array.attributes().len(), 1);
-    assert_eq!(rt; array.metadata().data_type.name(), "uint8");
-    let Some(names) = array.dimension_names() else {
-        assert!(rt; false, "no names");
-        return;
-    };
+    assert_eq!(rt; document_of(array)?.data_type.name(), "uint8");
+    let names = array.dimension_names().ok_or("no names")?;
     assert_eq!(rt; names.len(), 2);
+    Ok(())
 }
 
 #[test]
@@ -52,7 +50,7 @@ fn an_array_has_the_parts_of_its_document(rt: HostRuntime) -> Result<(), Fail> {
     let array = array(alloc, "/array", &changes)?;
     must_have_a_shape(&rt, &array);
     must_have_cells(&rt, &array);
-    must_have_texts(&rt, &array);
+    must_have_texts(&rt, &array)?;
     assert_eq!(rt; array.storage().calls(), 0);
     assert!(rt; array.into_storage().keys(alloc)?.is_empty());
     Ok(())
@@ -201,6 +199,6 @@ fn grids_that_do_not_take_the_shape(rt: HostRuntime) -> Result<(), Fail> {
 fn a_field_that_must_be_understood_is_not_looked_at(rt: HostRuntime) -> Result<(), Fail> {
     let alloc = rt.alloc();
     let array = array(alloc, "/", &[("key", "{\"a\":1}")])?;
-    assert_eq!(rt; array.metadata().additional_fields.len(), 1);
+    assert_eq!(rt; document_of(&array)?.additional_fields.len(), 1);
     Ok(())
 }

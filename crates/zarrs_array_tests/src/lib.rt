@@ -7,3 +7,5 @@ mod creation;
 mod made;
 #[cfg(test)]
 mod opening;
+#[cfg(test)]
+mod versions;

@@ -2,7 +2,7 @@
 use serde_json::Value;
 use std::alloc::Global;
 use std::test::Fail;
-use zarrs::{Array, ArrayCreateError, ArrayMetadataV3};
+use zarrs::{Array, ArrayCreateError, ArrayMetadata, ArrayMetadataV3};
 use zarrs_document::members;
 use zarrs_storage::MemoryStore;
 
@@ -32,7 +32,7 @@ pub(crate) fn create(
     path: &str,
     changes: &[(&str, &str)],
 ) -> Result<Result<MemoryArray, ArrayCreateError>, Fail> {
-    let metadata = document(alloc, changes)?;
+    let metadata = ArrayMetadata::V3(document(alloc, changes)?);
     let storage = MemoryStore::new(alloc);
     Ok(Array::new_with_metadata(alloc, storage, path, metadata))
 }
@@ -44,4 +44,12 @@ pub(crate) fn array(
     changes: &[(&str, &str)],
 ) -> Result<MemoryArray, Fail> {
     Ok(create(alloc, path, changes)??)
+}
+
+/// The V3 document of the array.
+pub(crate) fn document_of(array: &MemoryArray) -> Result<&ArrayMetadataV3, Fail> {
+    match array.metadata() {
+        ArrayMetadata::V3(document) => Ok(document),
+        ArrayMetadata::V2(_) => Err("the metadata is of V2".into()),
+    }
 }

@@ -1,10 +1,12 @@
 //! Arrays that are stored, opened and erased, and the refusals of an opening in their order.
-use crate::made::{BYTES, MemoryArray, array, document};
+use crate::made::{BYTES, MemoryArray, array, document, document_of};
+use serde_json::Map;
 use std::alloc::Global;
 use std::process::Abort;
 use std::test::Fail;
 use zarrs::{
-    Array, ArrayBytes, ArrayCreateError, NodePathError, StorageError, StoreKey, written_and_opened,
+    Array, ArrayBytes, ArrayCreateError, ArrayMetadata, NodePathError, StorageError, StoreKey,
+    written_and_opened,
 };
 use zarrs_storage::{
     Bytes, Fault, MemoryStore, ReadableStorageTraits, WholeRefused, WritableStorageTraits,
@@ -24,7 +26,7 @@ fn must_have_keys(
     Ok(())
 }
 
-/// The stored text of the array at the key is the indented text of its document.
+/// The stored text at the key is the indented text of the document that the array shows.
 fn must_hold_its_text(
     rt: &impl Abort,
     alloc: Global,
@@ -33,19 +35,26 @@ fn must_hold_its_text(
 ) -> Result<(), Fail> {
     let key = StoreKey::new(alloc, name)?;
     let held = array.storage().get(alloc, &key)?.ok_or("no document")?;
-    let text = array.metadata().to_vec_pretty(alloc)?;
+    let ArrayMetadata::V3(shown) = array.metadata_opt(alloc, array.metadata_options())? else {
+        return Err("the metadata is of V2".into());
+    };
+    let text = shown.to_vec_pretty(alloc)?;
     assert!(rt; *held == *text);
     Ok(())
 }
 
+/// The metadata has this compact text, except for the attribute of this library.
 fn must_be_of_the_text(
     rt: &impl Abort,
     alloc: Global,
     array: &MemoryArray,
     text: &str,
 ) -> Result<(), Fail> {
-    let written = array.metadata().to_value(alloc)?.to_string(alloc)?;
-    assert_eq!(rt; written.as_str(), text);
+    let made_by = array.attributes().get("_zarrs");
+    assert!(rt; made_by.is_some());
+    let document = document_of(array)?.try_clone(alloc)?;
+    let written = document.with_attributes(Map::new(alloc));
+    assert_eq!(rt; written.to_value(alloc)?.to_string(alloc)?.as_str(), text);
     Ok(())
 }
 
@@ -232,7 +241,7 @@ fn a_field_that_need_not_be_understood(rt: HostRuntime) -> Result<(), Fail> {
     let alloc = rt.alloc();
     let changes = [("a", "{\"must_understand\":false,\"x\":1}")];
     let array = Array::open(alloc, holding_document(alloc, &changes)?, "/")?;
-    assert_eq!(rt; array.metadata().additional_fields.len(), 1);
+    assert_eq!(rt; document_of(&array)?.additional_fields.len(), 1);
     Ok(())
 }
 

@@ -1,7 +1,7 @@
 //! Arrays by their documents.
 use anyhow::Result;
 use std::alloc::Global;
-use zarrs::{Array, ArrayBytes, ArrayMetadataV3, ArraySubset};
+use zarrs::{Array, ArrayBytes, ArrayMetadata, ArrayMetadataV3, ArraySubset};
 use zarrs_storage::MemoryStore;
 
 /// An array that is made of the text of its document, which is then in its store.
@@ -11,7 +11,7 @@ pub fn create_array(
     path: &str,
     document: &[u8],
 ) -> Result<Array<MemoryStore>> {
-    let metadata = ArrayMetadataV3::from_slice(alloc, document)?;
+    let metadata = ArrayMetadata::V3(ArrayMetadataV3::from_slice(alloc, document)?);
     let mut array = Array::new_with_metadata(alloc, storage, path, metadata)?;
     array.store_metadata(alloc)?;
     Ok(array)

@@ -1,47 +1,119 @@
-//! Metadata calls: the document of an array in its store.
+//! Metadata calls: the metadata of an array in its store.
 use super::Array;
 use std::alloc::Global;
-use zarrs_keys::meta_key_v3;
+use zarrs_array_metadata::{MetadataPut, erasures_of_metadata, puts_of_metadata};
+use zarrs_options::{ArrayMetadataOptions, MetadataEraseVersion};
 use zarrs_storage::{StorageError, WritableStorageTraits};
 
 impl<TStorage: WritableStorageTraits> Array<TStorage> {
-    ghost use Rattle.std.specs.Prelude.{◌≡◌, IfErr, OnOk};
+    ghost use Rattle.std.specs.Prelude.{◌≡◌, map, IfErr, OnOk};
+    ghost use Rattle.zarrs_options.specs.Options.{options_view};
+    ghost use Rattle.zarrs_options.specs.declared.versions.MetadataEraseVersion.TheVariants as erase;
     ghost use Rattle.zarrs_steps.specs.Refusals.{refusal_of_storage};
-    ghost use Rattle.zarrs_layout.specs.Parts.{RefusesPut};
-    ghost use Rattle.zarrs.specs.Opening.{StoresMetadata, ErasesMetadata};
-    ghost use Rattle.zarrs.specs.Arrays.{document_of_array, path_of_array, store_of_array, KeepsArray};
+    ghost use Rattle.zarrs_array_metadata.specs.Writing.{put_view, erasures};
+    ghost use Rattle.zarrs.specs.Puts.{ArePut, RefusesPuts, StoresMetadata, RefusesStoreMetadata};
+    ghost use Rattle.zarrs.specs.Arrays.{metadata_of_array, metadata_options_of_array};
+    ghost use Rattle.zarrs.specs.Arrays.{path_of_array, store_of_array, KeepsArray};
 
-    /// Stores the document at the key `zarr.json` of the path, as indented JSON, by one writing call of the store.
+    /// Stores the metadata, as the array's own metadata options show it. See `store_metadata_opt`.
     ///
     /// # Errors
-    /// If the store refuses, and `OutOfMemory`. No value is changed then.
+    /// As `store_metadata_opt`.
     pub fn store_metadata(&mut self, alloc: Global) -> Result<(), StorageError>
-        ensures done { OnOk result
-            (StoresMetadata (path_of_array self.old) (document_of_array self.old)
+        ensures done { OnOk result (StoresMetadata (metadata_options_of_array self.old)
+            (path_of_array self.old) (metadata_of_array self.old)
             (store_of_array TStorage.state self.old) (store_of_array TStorage.state self.new)) }
-        ensures refused { IfErr result (λ e. RefusesPut (refusal_of_storage e)
+        ensures refused { IfErr result (λ e. RefusesStoreMetadata (metadata_options_of_array self.old)
+            (path_of_array self.old) (metadata_of_array self.old) (refusal_of_storage e)
             (store_of_array TStorage.state self.old) (store_of_array TStorage.state self.new)) }
         ensures kept { KeepsArray self.old self.new }
     {
-        let key = meta_key_v3(alloc, self.engine.path())?;
-        let text = self.metadata.to_vec_pretty(alloc)?;
-        self.engine.put(alloc, &key, Some(text))?;
+        let options = self.metadata_options;
+        self.store_metadata_opt(alloc, &options)
+    }
+
+    /// Stores the metadata as these options show it, as indented JSON: of V3 at the key `zarr.json` of the path, by one
+    /// writing call of the store; of V2 first the attributes at `.zattrs`, which is erased if there is none, then the
+    /// rest at `.zarray`.
+    ///
+    /// # Errors
+    /// If the store refuses, and `OutOfMemory`. No value is changed then, except that the attributes of a V2 array may
+    /// be stored.
+    pub fn store_metadata_opt(
+        &mut self,
+        alloc: Global,
+        options: &ArrayMetadataOptions,
+    ) -> Result<(), StorageError>
+        ensures done { OnOk result (StoresMetadata (options_view options.now)
+            (path_of_array self.old) (metadata_of_array self.old)
+            (store_of_array TStorage.state self.old) (store_of_array TStorage.state self.new)) }
+        ensures refused { IfErr result (λ e. RefusesStoreMetadata (options_view options.now)
+            (path_of_array self.old) (metadata_of_array self.old) (refusal_of_storage e)
+            (store_of_array TStorage.state self.old) (store_of_array TStorage.state self.new)) }
+        ensures kept { KeepsArray self.old self.new }
+    {
+        // The metadata of an array has a V3 document, so that only memory can run out.
+        let Ok(metadata) = self.metadata_opt(alloc, options) else {
+            return Err(StorageError::OutOfMemory);
+        };
+        let puts = puts_of_metadata(alloc, self.engine.path(), &metadata)?;
+        self.put_all(alloc, puts)?;
         Ok(())
     }
 
-    /// Erases the document at the key `zarr.json` of the path, whether it is present or not, by one writing call of
-    /// the store.
+    /// Erases the metadata of the array's own version. See `erase_metadata_opt`.
     ///
     /// # Errors
-    /// If the store refuses, and `OutOfMemory`. No value is changed then.
+    /// As `erase_metadata_opt`.
     pub fn erase_metadata(&mut self, alloc: Global) -> Result<(), StorageError>
-        ensures done { OnOk result (ErasesMetadata (path_of_array self.old)
+        ensures done { OnOk result
+            (ArePut (erasures erase.Default (path_of_array self.old) (metadata_of_array self.old))
             (store_of_array TStorage.state self.old) (store_of_array TStorage.state self.new)) }
-        ensures refused { IfErr result (λ e. RefusesPut (refusal_of_storage e)
-            (store_of_array TStorage.state self.old) (store_of_array TStorage.state self.new)) }
+        ensures refused { IfErr result (λ e. RefusesPuts
+            (erasures erase.Default (path_of_array self.old) (metadata_of_array self.old))
+            (refusal_of_storage e) (store_of_array TStorage.state self.old)
+            (store_of_array TStorage.state self.new)) }
         ensures kept { KeepsArray self.old self.new }
     {
-        let key = meta_key_v3(alloc, self.engine.path())?;
-        self.engine.put(alloc, &key, None)
+        self.erase_metadata_opt(alloc, MetadataEraseVersion::Default)
+    }
+
+    /// Erases metadata, whether it is present or not, by one writing call of the store for each key: `zarr.json` for V3,
+    /// `.zarray` and `.zattrs` for V2, all three in this order, or by default those of the array's own version.
+    ///
+    /// # Errors
+    /// If the store refuses, and `OutOfMemory`. A front of the keys is erased then.
+    pub fn erase_metadata_opt(
+        &mut self,
+        alloc: Global,
+        version: MetadataEraseVersion,
+    ) -> Result<(), StorageError>
+        ensures done { OnOk result
+            (ArePut (erasures version (path_of_array self.old) (metadata_of_array self.old))
+            (store_of_array TStorage.state self.old) (store_of_array TStorage.state self.new)) }
+        ensures refused { IfErr result (λ e. RefusesPuts
+            (erasures version (path_of_array self.old) (metadata_of_array self.old))
+            (refusal_of_storage e) (store_of_array TStorage.state self.old)
+            (store_of_array TStorage.state self.new)) }
+        ensures kept { KeepsArray self.old self.new }
+    {
+        let puts = erasures_of_metadata(alloc, self.engine.path(), &self.metadata, version)?;
+        self.put_all(alloc, puts)
+    }
+
+    /// Puts these values at their keys, one after another.
+    fn put_all(&mut self, alloc: Global, puts: Vec<MetadataPut>) -> Result<(), StorageError>
+        ensures done { OnOk result (ArePut (map put_view puts.items)
+            (store_of_array TStorage.state self.old) (store_of_array TStorage.state self.new)) }
+        ensures refused { IfErr result (λ e. RefusesPuts (map put_view puts.items)
+            (refusal_of_storage e) (store_of_array TStorage.state self.old)
+            (store_of_array TStorage.state self.new)) }
+        ensures kept { KeepsArray self.old self.new }
+    {
+        for put in puts {
+            let MetadataPut { key, value } = put;
+            self.engine.put(alloc, &key, value)?;
+        }
+        Ok(())
     }
 }

@@ -1,0 +1,38 @@
+use Rattle.std.proofs.Common.{rules}
+use Rattle.zarrs_keys.specs.Paths.{is_node_path}
+use Rattle.zarrs_document_v2.specs.View.{metadata_view}
+use Rattle.zarrs_options.specs.Refusals.{create_refusal_of}
+use Rattle.zarrs_array_metadata.proofs.Openings.{not_false, opened_none, opened_unmade, is_opened, path_refused}
+use Rattle.zarrs.proofs.Layouts.{parts_are}
+use Rattle.zarrs.proofs.array.Array.open_opt.Goals as goal
+
+pub returns-in_err-node_path-clause-refused : goal.returns-in_err-node_path-clause-refused
+returns-in_err-node_path-clause-refused g c =
+    let why = path_refused c.args.version.now (g.TStorage.ReadableStorageTraits.state c.args.storage) c.args.path.now c.in_err-node_path.field-0.0 c.in_err-node_path.ensures.accepted in
+    search (rules, why)
+
+pub returns-in_err-metadata-clause-refused : goal.returns-in_err-metadata-clause-refused
+returns-in_err-metadata-clause-refused g c =
+    let state = g.TStorage.ReadableStorageTraits.state c.args.storage in
+    let path = c.args.path.now in
+    let valid = not_false (is_node_path path) (λ wrong. let bad = c.in_ok-node_path.ensures.tested wrong in cc) in
+    let why = opened_none c.args.version.now state path (create_refusal_of c.in_err-metadata.field-0.0) valid (rw c.in_ok-node_path.ensures.ok at c.in_err-metadata.ensures.refused) in
+    search (rules, why)
+
+pub returns-in_err-array-clause-refused : goal.returns-in_err-array-clause-refused
+returns-in_err-array-clause-refused g c =
+    let state = g.TStorage.ReadableStorageTraits.state c.args.storage in
+    let path = c.args.path.now in
+    let m = metadata_view c.in_ok-metadata.metadata in
+    let valid = not_false (is_node_path path) (λ wrong. let bad = c.in_ok-node_path.ensures.tested wrong in cc) in
+    let why = opened_unmade c.args.version.now state path m (create_refusal_of c.in_err-array.field-0.0) valid (rw c.in_ok-node_path.ensures.ok at c.in_ok-metadata.ensures.read) c.in_err-array.ensures.refused in
+    search (rules, why)
+
+pub returns-clause-metadata : goal.returns-clause-metadata
+returns-clause-metadata g c =
+    let state = g.TStorage.ReadableStorageTraits.state c.args.storage in
+    let path = c.args.path.now in
+    let m = metadata_view c.in_ok-metadata.metadata in
+    let valid = not_false (is_node_path path) (λ wrong. let bad = c.in_ok-node_path.ensures.tested wrong in cc) in
+    let made = rw c.in_ok-array.ensures.metadata at (parts_are c.in_ok-array.array) in
+    rw c.in_ok-array.ensures.metadata (is_opened c.args.version.now state path m _ valid (rw c.in_ok-node_path.ensures.ok at c.in_ok-metadata.ensures.read) made)

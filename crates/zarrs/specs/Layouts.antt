@@ -1,0 +1,42 @@
+-- How an array of these parts lies in its store.
+use Rattle.std.specs.Prelude.{ℕ, List, [], ◌∷◌}
+use Rattle.zarrs_keys.specs.Encodings.{encoding_key}
+use Rattle.zarrs_chunk_grid.specs.Configurations.{grid_of}
+use Rattle.zarrs_codec_array.specs.Arrays.{ArrayMeaning, same_array, and_then, transposed, reshaped, squeezed}
+use Rattle.zarrs_codec_array.specs.Metadata.{ArrayCodecData}
+use Rattle.zarrs_codec_array.specs.Metadata as rearranging
+use Rattle.zarrs_codec_leaf.specs.Bytes.{bytes_meaning_of}
+use Rattle.zarrs_codec_leaf.specs.Leaf.{LeafMeaning}
+use Rattle.zarrs_codec_leaf.specs.PackBits.{packbits_meaning}
+use Rattle.zarrs_codec_leaf.specs.VlenStrings.{vlen_utf8_meaning, vlen_bytes_meaning}
+use Rattle.zarrs_codec.specs.Chain.{ChainMeaning}
+use Rattle.zarrs_codec.specs.Chains.{whole_chunk}
+use Rattle.zarrs_codec.specs.Metadata.{ChainData, BytesCodecData}
+use Rattle.zarrs_codec.specs.Metadata as coding
+use Rattle.zarrs_codec.specs.Through.{through}
+use Rattle.zarrs_steps.specs.Layout.{Layout, layout_at}
+use Rattle.zarrs_array_metadata.specs.Meanings.{Meaning}
+
+abbrev pub array_codec_meant : ArrayCodecData → ArrayMeaning
+array_codec_meant (rearranging.transpose order) = transposed order
+array_codec_meant (rearranging.reshape entries) = reshaped entries
+array_codec_meant rearranging.squeeze = squeezed
+
+-- codecs one after another, the first one first
+abbrev pub array_codecs_meant : List ArrayCodecData → ArrayMeaning
+array_codecs_meant [] = same_array
+array_codecs_meant (codec ∷ more) = and_then (array_codec_meant codec) (array_codecs_meant more)
+
+abbrev pub bytes_codec_meant : BytesCodecData → LeafMeaning
+bytes_codec_meant (coding.bytes endian) = bytes_meaning_of endian
+bytes_codec_meant coding.packbits = packbits_meaning
+bytes_codec_meant coding.vlen_utf8 = vlen_utf8_meaning
+bytes_codec_meant coding.vlen_bytes = vlen_bytes_meaning
+
+-- a chain of codecs
+abbrev pub chain_meant : ChainData → ChainMeaning
+chain_meant chain = through (array_codecs_meant chain.array_to_array) (whole_chunk (bytes_codec_meant chain.array_to_bytes))
+
+-- how an array of these parts lies in its store, at a path
+abbrev pub layout_meant : List ℕ → Meaning → Layout
+layout_meant path m = layout_at (grid_of m.grid m.shape) path (encoding_key m.keys) (chain_meant m.chain) m.kind m.fill

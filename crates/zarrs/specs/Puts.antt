@@ -1,0 +1,50 @@
+-- What calls on the metadata of an array do in its store.
+use Rattle.std.specs.Prelude.{◌≡◌, ◌⊎◌, ℕ, List, [], ◌∷◌, ◌++◌, Ok}
+use Rattle.zarrs_storage.specs.Store.{StoreState}
+use Rattle.zarrs_steps.specs.Changes.{IsPut}
+use Rattle.zarrs_steps.specs.Refusals.{Refusal}
+use Rattle.zarrs_layout.specs.Parts.{RefusesPut}
+use Rattle.zarrs_document_v2.specs.View.{MetadataData}
+use Rattle.zarrs_options.specs.Options.{MetadataOptionsData}
+use Rattle.zarrs_array_metadata.specs.Shown.{shown}
+use Rattle.zarrs_array_metadata.specs.Writing.{Put, IsWrittenBy}
+
+-- this is put by one writing call, and then the rest is done
+pub record PutsFirst (put : Put) (rest : StoreState → Type 0) (old : StoreState) : Type 0 where
+  pub middle : StoreState
+  pub first : IsPut put.key put.value old middle
+  pub others : rest middle
+
+-- these are put, one after another, by one writing call each
+abbrev pub ArePut : List Put → StoreState → StoreState → Type 0
+ArePut [] old new = new ≡ old
+ArePut (p ∷ puts) old new = PutsFirst p (λ middle. ArePut puts middle new) old
+
+-- a front of these is put, and the next one is refused
+pub record RefusesPuts (puts : List Put) (refusal : Refusal) (old new : StoreState) : Type 0 where
+  pub done : List Put
+  pub left : List Put
+  pub all : puts ≡ done ++ left
+  pub middle : StoreState
+  pub front : ArePut done old middle
+  pub refused : RefusesPut refusal middle new
+
+-- the metadata of an array at the path is written as options show it
+pub record StoresMetadata (o : MetadataOptionsData) (path : List ℕ) (m : MetadataData) (old new : StoreState) : Type 0 where
+  pub shows : MetadataData
+  pub is_shown : shown o m ≡ Ok shows
+  pub puts : List Put
+  pub written : IsWrittenBy path shows puts
+  pub put : ArePut puts old new
+
+-- a front of what writes it is done
+pub record StoresMetadataFront (o : MetadataOptionsData) (path : List ℕ) (m : MetadataData) (refusal : Refusal) (old new : StoreState) : Type 0 where
+  pub shows : MetadataData
+  pub is_shown : shown o m ≡ Ok shows
+  pub puts : List Put
+  pub written : IsWrittenBy path shows puts
+  pub refused : RefusesPuts puts refusal old new
+
+-- it is not written: no value is changed, or a front of what writes it is done
+abbrev pub RefusesStoreMetadata : MetadataOptionsData → List ℕ → MetadataData → Refusal → StoreState → StoreState → Type 0
+RefusesStoreMetadata o path m refusal old new = RefusesPut refusal old new ⊎ StoresMetadataFront o path m refusal old new

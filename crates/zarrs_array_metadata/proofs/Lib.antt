@@ -1,0 +1,4 @@
+pub mod Order
+pub mod Openings
+pub mod Normal
+pub mod Names

@@ -1,0 +1,5 @@
+pub mod Meanings
+pub mod Sets
+pub mod Opening
+pub mod Shown
+pub mod Writing

@@ -1,0 +1,370 @@
+//! V2 arrays, and metadata in the other version.
+use crate::made::{MemoryArray, array};
+use std::alloc::Global;
+use std::process::Abort;
+use std::test::Fail;
+use zarrs::{
+    Array, ArrayBytes, ArrayCreateError, ArrayMetadata, ArrayMetadataOptions, ArraySubset,
+    MetadataConvertVersion, MetadataEraseVersion, MetadataRetrieveVersion, StorageError, StoreKey,
+};
+use zarrs_storage::{Bytes, Fault, MemoryStore, ReadableStorageTraits, WritableStorageTraits};
+
+/// A V2 document of 2 by 2 numbers of two bytes in one chunk, in order F.
+const COLUMNS: &str = concat!(
+    "{\"zarr_format\":2,\"shape\":[2,2],\"chunks\":[2,2],\"dtype\":\"<u2\",",
+    "\"compressor\":null,\"fill_value\":0,\"order\":\"F\",\"filters\":null}"
+);
+
+/// The same with these attributes in it, as some writers keep them.
+const WITH_ATTRIBUTES: &str = concat!(
+    "{\"zarr_format\":2,\"shape\":[2,2],\"chunks\":[2,2],\"dtype\":\"<u2\",",
+    "\"compressor\":null,\"fill_value\":0,\"order\":\"F\",\"filters\":null,",
+    "\"attributes\":{\"a\":1}}"
+);
+
+/// The V3 document of that array.
+const CONVERTED: &str = concat!(
+    "{\"chunk_grid\":{\"configuration\":{\"chunk_shape\":[2,2]},\"name\":\"regular\"},",
+    "\"chunk_key_encoding\":{\"configuration\":{\"separator\":\".\"},\"name\":\"v2\"},",
+    "\"codecs\":[{\"configuration\":{\"order\":[1,0]},\"name\":\"transpose\"},",
+    "{\"configuration\":{\"endian\":\"little\"},\"name\":\"bytes\"}],",
+    "\"data_type\":\"uint16\",\"fill_value\":0,\"node_type\":\"array\",\"shape\":[2,2],",
+    "\"zarr_format\":3}"
+);
+
+/// A store that holds these texts at these keys.
+fn holding(alloc: Global, entries: &[(&str, &str)]) -> Result<MemoryStore, Fail> {
+    let mut storage = MemoryStore::new(alloc);
+    for (name, text) in entries {
+        let key = StoreKey::new(alloc, *name)?;
+        let bytes = Bytes::from_vec(text.as_bytes().to_vec(alloc)?)?;
+        storage.set(alloc, &key, bytes)?;
+    }
+    Ok(storage)
+}
+
+fn open(alloc: Global, entries: &[(&str, &str)]) -> Result<MemoryArray, Fail> {
+    Ok(Array::open(alloc, holding(alloc, entries)?, "/")?)
+}
+
+/// The refusal of opening the array at the root.
+fn refusal(
+    alloc: Global,
+    entries: &[(&str, &str)],
+    version: MetadataRetrieveVersion,
+) -> Result<ArrayCreateError, Fail> {
+    match Array::open_opt(alloc, holding(alloc, entries)?, "/", &version) {
+        Ok(_) => Err("the array opens".into()),
+        Err(error) => Ok(error),
+    }
+}
+
+/// Which keys the store holds.
+fn must_have_keys(
+    rt: &impl Abort,
+    alloc: Global,
+    storage: &MemoryStore,
+    names: &[&str],
+) -> Result<(), Fail> {
+    let keys = storage.keys(alloc)?;
+    assert_eq!(rt; keys.len(), names.len());
+    for (key, name) in keys.iter().zip(names.iter()) {
+        assert_eq!(rt; key.as_str(), *name);
+    }
+    Ok(())
+}
+
+fn must_hold(
+    rt: &impl Abort,
+    alloc: Global,
+    storage: &MemoryStore,
+    name: &str,
+    bytes: &[u8],
+) -> Result<(), Fail> {
+    let key = StoreKey::new(alloc, name)?;
+    let held = storage.get(alloc, &key)?.ok_or("an absent key")?;
+    assert!(rt; *held == *bytes);
+    Ok(())
+}
+
+fn holds(data: &ArrayBytes<'_>, bytes: &[u8]) -> bool {
+    match data {
+        ArrayBytes::Fixed(held) => held.as_slice() == bytes,
+        _ => false,
+    }
+}
+
+fn must_read_back(
+    rt: &impl Abort,
+    alloc: Global,
+    array: &MemoryArray,
+    bytes: &[u8],
+) -> Result<(), Fail> {
+    let region = ArraySubset::new_with_shape(alloc, [2, 2].as_slice().to_vec(alloc)?)?;
+    let cells = array.retrieve_array_subset(alloc, &region)?;
+    assert!(rt; holds(&cells, bytes));
+    Ok(())
+}
+
+fn store_all(alloc: Global, array: &mut MemoryArray, bytes: &[u8]) -> Result<(), Fail> {
+    let region = ArraySubset::new_with_shape(alloc, [2, 2].as_slice().to_vec(alloc)?)?;
+    let cells = ArrayBytes::new_flen(bytes.to_vec(alloc)?);
+    array.store_array_subset(alloc, &region, &cells)?;
+    Ok(())
+}
+
+#[test]
+fn order_f_stores_columns(rt: HostRuntime) -> Result<(), Fail> {
+    let alloc = rt.alloc();
+    let mut array = open(alloc, &[(".zarray", COLUMNS)])?;
+    store_all(alloc, &mut array, &[1, 0, 2, 0, 3, 0, 4, 0])?;
+    must_hold(
+        &rt,
+        alloc,
+        array.storage(),
+        "0.0",
+        &[1, 0, 3, 0, 2, 0, 4, 0],
+    )?;
+    must_read_back(&rt, alloc, &array, &[1, 0, 2, 0, 3, 0, 4, 0])
+}
+
+/// The options that show metadata in V3, without the attribute of this library.
+fn plain_v3() -> ArrayMetadataOptions {
+    ArrayMetadataOptions::default()
+        .with_metadata_convert_version(MetadataConvertVersion::V3)
+        .with_include_zarrs_metadata(false)
+}
+
+fn must_show(
+    rt: &impl Abort,
+    alloc: Global,
+    array: &MemoryArray,
+    options: &ArrayMetadataOptions,
+    text: &str,
+) -> Result<(), Fail> {
+    let shown = array.metadata_opt(alloc, options)?;
+    assert_eq!(rt; shown.to_value(alloc)?.to_string(alloc)?.as_str(), text);
+    Ok(())
+}
+
+fn must_have_text(
+    rt: &impl Abort,
+    alloc: Global,
+    metadata: &ArrayMetadata,
+    text: &str,
+) -> Result<(), Fail> {
+    assert_eq!(rt; metadata.to_value(alloc)?.to_string(alloc)?.as_str(), text);
+    Ok(())
+}
+
+#[test]
+fn v2_metadata_is_shown_and_turned_into_v3(rt: HostRuntime) -> Result<(), Fail> {
+    let alloc = rt.alloc();
+    let array = open(alloc, &[(".zarray", COLUMNS)])?;
+    must_show(&rt, alloc, &array, &plain_v3(), CONVERTED)?;
+    let array = array.to_v3(alloc)?;
+    must_have_text(&rt, alloc, array.metadata(), CONVERTED)?;
+    must_have_keys(&rt, alloc, array.storage(), &[".zarray"])
+}
+
+/// The attributes of the array, as compact text.
+fn must_have_attributes(
+    rt: &impl Abort,
+    alloc: Global,
+    entries: &[(&str, &str)],
+    text: &str,
+) -> Result<(), Fail> {
+    let array = open(alloc, entries)?;
+    let attributes = serde_json::Value::Object(array.attributes().clone()?);
+    assert_eq!(rt; attributes.to_string(alloc)?.as_str(), text);
+    Ok(())
+}
+
+#[test]
+fn attributes_at_their_own_key_come_first(rt: HostRuntime) -> Result<(), Fail> {
+    let alloc = rt.alloc();
+    let array = (".zarray", WITH_ATTRIBUTES);
+    must_have_attributes(&rt, alloc, &[array], "{\"a\":1}")?;
+    must_have_attributes(&rt, alloc, &[array, (".zattrs", "{\"b\":2}")], "{\"b\":2}")
+}
+
+const MADE_BY: &str = concat!(
+    "{\"_zarrs\":{\"description\":\"This array was created with zarrs\",",
+    "\"repository\":\"https://github.com/zarrs/zarrs\",\"version\":\"0.23.13\"}}"
+);
+
+/// The value at the key is the indented form of this compact text.
+fn must_hold_text(
+    rt: &impl Abort,
+    alloc: Global,
+    storage: &MemoryStore,
+    name: &str,
+    text: &str,
+) -> Result<(), Fail> {
+    let value = serde_json::Value::from_str(alloc, text)?;
+    must_hold(rt, alloc, storage, name, &value.to_vec_pretty(alloc)?)
+}
+
+#[test]
+fn the_attribute_of_this_library_is_stored_and_not_kept(rt: HostRuntime) -> Result<(), Fail> {
+    let alloc = rt.alloc();
+    let mut array = array(alloc, "/", &[("attributes", "{\"_zarrs\":1}")])?;
+    let shown = array.metadata_opt(alloc, array.metadata_options())?;
+    array.store_metadata(alloc)?;
+    let text = shown.to_value(alloc)?.to_string(alloc)?;
+    must_hold_text(&rt, alloc, array.storage(), "zarr.json", &text)?;
+    let attributes = serde_json::Value::Object(array.attributes().clone()?);
+    assert_eq!(rt; attributes.to_string(alloc)?.as_str(), "{\"_zarrs\":1}");
+    Ok(())
+}
+
+#[test]
+fn v2_metadata_is_stored_in_two_parts(rt: HostRuntime) -> Result<(), Fail> {
+    let alloc = rt.alloc();
+    let mut array = open(alloc, &[(".zarray", COLUMNS), (".zattrs", "{}")])?;
+    array.store_metadata(alloc)?;
+    must_hold_text(&rt, alloc, array.storage(), ".zattrs", MADE_BY)?;
+    let options = ArrayMetadataOptions::default().with_include_zarrs_metadata(false);
+    array.store_metadata_opt(alloc, &options)?;
+    must_have_keys(&rt, alloc, array.storage(), &[".zarray"])?;
+    assert_eq!(rt; array.storage().calls(), 6);
+    Ok(())
+}
+
+#[test]
+fn a_refused_store_of_v2_metadata_keeps_its_document(rt: HostRuntime) -> Result<(), Fail> {
+    let alloc = rt.alloc();
+    let entries = [(".zarray", WITH_ATTRIBUTES)];
+    let storage = Fault::new(holding(alloc, &entries)?, Vec::new(alloc), Some(2));
+    let mut array = Array::open(alloc, storage, "/")?;
+    let refused = array.store_metadata(alloc);
+    assert!(rt; matches!(refused, Err(StorageError::Other(_))));
+    let storage = array.into_storage().into_inner();
+    must_have_keys(&rt, alloc, &storage, &[".zarray", ".zattrs"])?;
+    must_hold(&rt, alloc, &storage, ".zarray", WITH_ATTRIBUTES.as_bytes())
+}
+
+/// What is left of the metadata of both versions.
+fn must_leave(
+    rt: &impl Abort,
+    alloc: Global,
+    version: MetadataEraseVersion,
+    names: &[&str],
+) -> Result<(), Fail> {
+    let entries = [
+        (".zarray", COLUMNS),
+        (".zattrs", "{}"),
+        ("zarr.json", CONVERTED),
+    ];
+    let storage = holding(alloc, &entries)?;
+    let mut array = Array::open_opt(alloc, storage, "/", &MetadataRetrieveVersion::V2)?;
+    array.erase_metadata_opt(alloc, version)?;
+    must_have_keys(rt, alloc, array.storage(), names)
+}
+
+#[test]
+fn metadata_of_each_version_is_erased(rt: HostRuntime) -> Result<(), Fail> {
+    let alloc = rt.alloc();
+    must_leave(&rt, alloc, MetadataEraseVersion::Default, &["zarr.json"])?;
+    must_leave(&rt, alloc, MetadataEraseVersion::V2, &["zarr.json"])?;
+    must_leave(
+        &rt,
+        alloc,
+        MetadataEraseVersion::V3,
+        &[".zarray", ".zattrs"],
+    )?;
+    must_leave(&rt, alloc, MetadataEraseVersion::All, &[])
+}
+
+fn must_be_of_version_3(rt: &impl Abort, metadata: &ArrayMetadata) {
+    assert!(rt; matches!(metadata, ArrayMetadata::V3(_)));
+}
+
+fn must_be_missing(rt: &impl Abort, error: &ArrayCreateError) {
+    assert!(rt; matches!(error, ArrayCreateError::MissingMetadata));
+}
+
+fn must_be_no_document(rt: &impl Abort, error: &ArrayCreateError, name: &str) {
+    let ArrayCreateError::StorageError(StorageError::InvalidMetadata(key, _)) = error else {
+        assert!(rt; false, "no E23");
+        return;
+    };
+    assert_eq!(rt; key.as_str(), name);
+}
+
+#[test]
+fn v3_comes_before_v2(rt: HostRuntime) -> Result<(), Fail> {
+    let alloc = rt.alloc();
+    let both = [(".zarray", COLUMNS), ("zarr.json", CONVERTED)];
+    must_be_of_version_3(&rt, open(alloc, &both)?.metadata());
+    let bad = [(".zarray", COLUMNS), ("zarr.json", "?")];
+    let default = MetadataRetrieveVersion::Default;
+    must_be_no_document(&rt, &refusal(alloc, &bad, default)?, "zarr.json");
+    let v3 = MetadataRetrieveVersion::V3;
+    must_be_missing(&rt, &refusal(alloc, &[(".zarray", COLUMNS)], v3)?);
+    let v2 = MetadataRetrieveVersion::V2;
+    must_be_missing(&rt, &refusal(alloc, &[("zarr.json", CONVERTED)], v2)?);
+    must_be_no_document(
+        &rt,
+        &refusal(alloc, &[(".zarray", "{}")], default)?,
+        ".zarray",
+    );
+    let attributes = [(".zarray", COLUMNS), (".zattrs", "[]")];
+    must_be_no_document(&rt, &refusal(alloc, &attributes, default)?, ".zattrs");
+    Ok(())
+}
+
+/// The refusal of a V2 document of ten by ten with these members.
+fn refusal_of(
+    alloc: Global,
+    chunks: &str,
+    dtype: &str,
+    fill_value: &str,
+    compressor: &str,
+) -> Result<ArrayCreateError, Fail> {
+    let text = format!(in alloc;
+        "{{\"zarr_format\":2,\"shape\":[10,10],\"chunks\":{chunks},\"dtype\":\"{dtype}\",\
+         \"compressor\":{compressor},\"fill_value\":{fill_value},\"order\":\"C\",\"filters\":[]}}"
+    )?;
+    refusal(
+        alloc,
+        &[(".zarray", &text)],
+        MetadataRetrieveVersion::Default,
+    )
+}
+
+fn must_be_data_type(rt: &impl Abort, error: &ArrayCreateError) {
+    assert!(rt; matches!(error, ArrayCreateError::DataTypeCreateError(_)));
+}
+
+fn must_be_grid(rt: &impl Abort, error: &ArrayCreateError) {
+    assert!(rt; matches!(error, ArrayCreateError::ChunkGridCreateError(_)));
+}
+
+fn must_be_codecs(rt: &impl Abort, error: &ArrayCreateError) {
+    assert!(rt; matches!(error, ArrayCreateError::UnsupportedZarrV2Array(_)));
+}
+
+fn must_print(
+    rt: &impl Abort,
+    alloc: Global,
+    error: &ArrayCreateError,
+    text: &str,
+) -> Result<(), Fail> {
+    assert_eq!(rt; format!(in alloc; "{error}")?.as_str(), text);
+    Ok(())
+}
+
+#[test]
+fn a_v2_array_is_refused_in_order(rt: HostRuntime) -> Result<(), Fail> {
+    let alloc = rt.alloc();
+    must_be_data_type(&rt, &refusal_of(alloc, "[5]", "<f4", "\"x\"", "{}")?);
+    must_be_grid(&rt, &refusal_of(alloc, "[5]", "<i4", "\"x\"", "{}")?);
+    let error = refusal_of(alloc, "[5,5]", "<i4", "\"invalid\"", "{}")?;
+    let text = "invalid fill value metadata for data type `<i4`: \"invalid\"";
+    must_print(&rt, alloc, &error, text)?;
+    must_be_grid(&rt, &refusal_of(alloc, "[5]", "<i4", "0", "{}")?);
+    must_be_grid(&rt, &refusal_of(alloc, "[5]", "<i4", "0", "null")?);
+    must_be_codecs(&rt, &refusal_of(alloc, "[5,5]", "<i4", "0", "{}")?);
+    Ok(())
+}
