@@ -35,7 +35,7 @@ element_fixed (type.raw n) size b is v = is
 element_fixed type.string size b is v = cc
 element_fixed type.bytes size b is v = cc
 
-size_is : (k : Kind) (size : ℕ) → fixed_size k ≡ Some size → cell_size k ≡ size
+pub size_is : (k : Kind) (size : ℕ) → fixed_size k ≡ Some size → cell_size k ≡ size
 size_is k size is = sym (cell_size-fixed k) ∙ ap (λ o. unwrap_or o 1) is
 
 inner_value : (o : Option Kind) (c : Cell) → elim o [ None ↦ false | Some u ↦ is_value u c ] ≡ true → (u : Kind) × (o ≡ Some u) × (is_value u c ≡ true)

@@ -1,7 +1,7 @@
 -- The size of a cell of a type, and the number of its masks.
-use Rattle.std.proofs.Common.{◌≡◌, ℕ, ◌*◌, true, false, ◌&&◌, Option, None, Some, refl, sym, ap, ◌∙◌, subst}
+use Rattle.std.proofs.Common.{◌≡◌, ℕ, ◌*◌, true, false, ◌&&◌, Option, None, Some, inl, inr, refl, sym, ap, ◌∙◌, subst}
 use Rattle.std.specs.Prelude.{◌==◌}
-use Rattle.std.proofs.lemmas.Bool.{eqb-true, and_parts, false≢true}
+use Rattle.std.proofs.lemmas.Bool.{cases_Bool, eqb-true, and_parts, false≢true}
 use Rattle.zarrs_types.specs.Kind.{Kind, element_size, fixed_size, cell_size, inner_of, is_variable}
 use Rattle.zarrs_types.specs.Kind as type
 use Rattle.zarrs_cells.specs.ArrayData.{ArrayData, fixed, variable, optional}
@@ -44,7 +44,7 @@ element_is (type.raw n) size is = (is, refl)
 element_is type.string size is = cc
 element_is type.bytes size is = cc
 
-variable_none : (k : Kind) → is_variable k ≡ true → fixed_size k ≡ None
+pub variable_none : (k : Kind) → is_variable k ≡ true → fixed_size k ≡ None
 variable_none (type.optional inner) is = absurd (false≢true is)
 variable_none type.bool is = absurd (false≢true is)
 variable_none type.int8 is = absurd (false≢true is)
@@ -69,6 +69,13 @@ taken (Some size) cell_size depth deep is =
 
 pub type_taken : (cell_size depth : ℕ) (k : Kind) → takes_type cell_size depth k ≡ true → (fixed_size k ≡ Some cell_size) × (depth_of k ≡ depth)
 type_taken cell_size depth k is = taken (fixed_size k) cell_size depth (depth_of k) is
+
+-- which is no variable type
+pub taken_fixed : (cell_size depth : ℕ) (k : Kind) → takes_type cell_size depth k ≡ true → is_variable k ≡ false
+taken_fixed cell_size depth k is = elim (cases_Bool (is_variable k)) [
+  | inl variable_type ↦ absurd (let clash : None ≡ Some cell_size = sym (variable_none k variable_type) ∙ (type_taken cell_size depth k is).0 in cc)
+  | inr fixed_type ↦ fixed_type
+]
 
 -- data that fits the type has its levels
 pub fits_levels : (k : Kind) (size n : ℕ) (d : ArrayData) → fixed_size k ≡ Some size → fits k d n ≡ true → HasLevels (depth_of k) size n d
