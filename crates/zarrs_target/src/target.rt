@@ -115,6 +115,12 @@ impl<'a, 'm, 'r> ArrayBytesDecodeIntoTarget<'a, 'm, 'r> {
         ensures accepted { IsOk result ↔ IsTargetOver (length bytes.old) cell_size 0 0
             parent_shape.now (box_of region.now) }
         ensures target { IfOk result (λ t. IsTarget t) }
+        ensures same_bytes { IfOk result (λ t. t.bytes.ghost_name ≡ bytes.entry.ghost_name) }
+        ensures bytes { IfOk result (λ t. t.bytes.now ≡ bytes.old) }
+        ensures cell_size { IfOk result (λ t. t.cell_size ≡ cell_size) }
+        ensures depth { IfOk result (λ t. t.depth ≡ 0) }
+        ensures parent_shape { IfOk result (λ t. t.parent_shape.now ≡ parent_shape.now) }
+        ensures region { IfOk result (λ t. t.region.now ≡ region.now) }
     {
         ArrayBytesDecodeIntoTarget::new_optional(bytes, cell_size, &mut [], 0, parent_shape, region)
     }
@@ -135,6 +141,14 @@ impl<'a, 'm, 'r> ArrayBytesDecodeIntoTarget<'a, 'm, 'r> {
         ensures accepted { IsOk result ↔ IsTargetOver (length bytes.old) cell_size (length masks.old)
             depth parent_shape.now (box_of region.now) }
         ensures target { IfOk result (λ t. IsTarget t) }
+        ensures same_bytes { IfOk result (λ t. t.bytes.ghost_name ≡ bytes.entry.ghost_name) }
+        ensures same_masks { IfOk result (λ t. t.masks.ghost_name ≡ masks.entry.ghost_name) }
+        ensures bytes { IfOk result (λ t. t.bytes.now ≡ bytes.old) }
+        ensures masks { IfOk result (λ t. t.masks.now ≡ masks.old) }
+        ensures cell_size { IfOk result (λ t. t.cell_size ≡ cell_size) }
+        ensures depth { IfOk result (λ t. t.depth ≡ depth) }
+        ensures parent_shape { IfOk result (λ t. t.parent_shape.now ≡ parent_shape.now) }
+        ensures region { IfOk result (λ t. t.region.now ≡ region.now) }
     {
         ArrayBytesDecodeIntoTarget::check(bytes, cell_size, masks, depth, parent_shape, region)?;
         Ok(ArrayBytesDecodeIntoTarget::over(bytes, cell_size, masks, depth, parent_shape, region))
@@ -152,6 +166,19 @@ impl<'a, 'm, 'r> ArrayBytesDecodeIntoTarget<'a, 'm, 'r> {
         match data_type.fixed_size() {
             Some(size) => size == self.cell_size && is_depth(data_type, self.depth),
             None => false,
+        }
+    }
+
+    /// Whether the data is one cell of the target's size for each position of the box, under as many masks. This is the
+    /// test for what `write_cells` requires.
+    pub fn takes_data(&self, region_data: &ArrayBytes<'_>) -> bool
+        requires { IsTarget self.now }
+        ensures { IsTrue result ↔ HasLevels self.now.depth self.now.cell_size
+            (position_count (target_box self.now).shape) (data_of region_data.now) }
+    {
+        match self.region.num_elements() {
+            Ok(count) => has_levels(region_data, self.depth, self.cell_size, count),
+            Err(_) => unreachable!(),
         }
     }
 
@@ -212,6 +239,21 @@ fn is_depth(data_type: &DataType, depth: usize) -> bool
     match data_type {
         DataType::Optional(inner) => depth > 0 && is_depth(inner, depth - 1),
         _ => depth == 0,
+    }
+}
+
+/// Whether the data is so many cells of this size, under so many masks.
+fn has_levels(region_data: &ArrayBytes<'_>, depth: usize, size: usize, count: u64) -> bool
+    ensures { IsTrue result ↔ HasLevels depth size count (data_of region_data.now) }
+{
+    match region_data {
+        ArrayBytes::Fixed(cells) => depth == 0 && has_parts(cells.as_slice().len(), count, size),
+        ArrayBytes::Optional(optional) => {
+            depth > 0
+                && optional.mask().len() as u64 == count
+                && has_levels(optional.data(), depth - 1, size, count)
+        }
+        ArrayBytes::Variable(_) => false,
     }
 }
 
