@@ -1,5 +1,6 @@
 mod Puts
 mod Encoded
+mod Into
 mod Writes
 mod Ranges
 mod RegionReads

@@ -1,4 +1,5 @@
 pub mod Engine
 pub mod Encoded
+pub mod Into
 pub mod RegionReads
 pub mod RegionWrites

@@ -1,6 +1,7 @@
 //! An engine: a store, and the parts that say what its values mean.
 mod calls;
 mod encoded;
+mod into;
 mod part_reads;
 mod reads;
 mod region_reads;

@@ -1,0 +1,78 @@
+-- A box that is filled with one cell.
+use Rattle.std.proofs.Common.{◌≡◌, ℕ, ◌<◌, Bool, true, false, cond, List, length, replicate, get_or, Option, None, Some, refl, sym, ap, ◌∙◌, subst, arith}
+use Rattle.std.specs.Prelude.{unwrap_or}
+use Rattle.std.proofs.lemmas.Bool.{false≢true}
+use Rattle.std.proofs.lemmas.List.{length-replicate, get_or-replicate}
+use Rattle.std.proofs.lemmas.List.FromFn.{get_or-map-range_with_len}
+use Rattle.zarrs_subset.specs.Boxes.{position_count}
+use Rattle.zarrs_subset.specs.Regions.{Box, IsLong, in_box, place_in}
+use Rattle.zarrs_subset.proofs.Bytes.{place_in_below}
+use Rattle.zarrs_types.specs.Kind.{Kind, element_size, fixed_size, cell_size, inner_of}
+use Rattle.zarrs_types.specs.Kind as type
+use Rattle.zarrs_types.specs.Cell.{Cell, bytes, none, some, is_element, is_value, held_size}
+use Rattle.zarrs_types.proofs.Sizes.{cell_size-fixed, element_len, held_size-inner}
+use Rattle.zarrs_cells.specs.ArrayData.{ArrayData}
+use Rattle.zarrs_cells.specs.Cells.{cells, fits, cell_at}
+use Rattle.zarrs_cells.specs.Parts.{TakesEach}
+use Rattle.zarrs_cells.proofs.Cells.{cells-parts}
+use Rattle.zarrs_target.specs.Targets.{FillsBox}
+use Rattle.zarrs_target.proofs.TypeSizes.{optional_is}
+
+-- ---- sizes
+
+element_fixed : (k : Kind) (size : ℕ) (b : List ℕ) → fixed_size k ≡ Some size → is_element k b ≡ true → element_size k ≡ Some size
+element_fixed (type.optional inner) size b is v = absurd (false≢true v)
+element_fixed type.bool size b is v = is
+element_fixed type.int8 size b is v = is
+element_fixed type.int16 size b is v = is
+element_fixed type.int32 size b is v = is
+element_fixed type.int64 size b is v = is
+element_fixed type.uint8 size b is v = is
+element_fixed type.uint16 size b is v = is
+element_fixed type.uint32 size b is v = is
+element_fixed type.uint64 size b is v = is
+element_fixed (type.raw n) size b is v = is
+element_fixed type.string size b is v = cc
+element_fixed type.bytes size b is v = cc
+
+pub size_is : (k : Kind) (size : ℕ) → fixed_size k ≡ Some size → cell_size k ≡ size
+size_is k size is = sym (cell_size-fixed k) ∙ ap (λ o. unwrap_or o 1) is
+
+inner_value : (o : Option Kind) (c : Cell) → elim o [ None ↦ false | Some u ↦ is_value u c ] ≡ true → (u : Kind) × (o ≡ Some u) × (is_value u c ≡ true)
+inner_value None c v = absurd (false≢true v)
+inner_value (Some u) c v = (u, refl, v)
+
+-- a value of a fixed type takes the size of a cell
+pub held_fixed : (k : Kind) (size : ℕ) (c : Cell) → fixed_size k ≡ Some size → is_value k c ≡ true → held_size k c ≡ size
+held_fixed k size (bytes b) is v =
+    let len : length b ≡ size = element_len k size b (element_fixed k size b is v) v in
+    let same : cell_size k ≡ size = size_is k size is in
+    omega arith
+held_fixed k size none is v = size_is k size is
+held_fixed k size (some c) is v =
+    let u = inner_value (inner_of k) c v in
+    let e = optional_is k u.0 u.1 in
+    ap (λ w. held_size w c) e ∙ held_size-inner u.0 c ∙ held_fixed u.0 size c (ap fixed_size (sym e) ∙ is) u.2
+
+-- ---- cells
+
+-- each of the cells
+filled_cell : (k : Kind) (d : ArrayData) (n : ℕ) (c : Cell) → cells k d ≡ Some (replicate n c) → (i : ℕ) → i < n → cell_at k d i ≡ c
+filled_cell k d n c is i lt =
+    let len = length-replicate n c in
+    let all = (cells-parts k d (replicate n c) is).2 in
+    sym (get_or-map-range_with_len (λ j. cell_at k d j) 0 (length (replicate n c)) i i none (omega arith) (omega arith))
+    ∙ ap (λ l. get_or l i none) (sym all) ∙ get_or-replicate n i c none lt
+
+pub filled_fits : (k : Kind) (d : ArrayData) (n : ℕ) (c : Cell) → cells k d ≡ Some (replicate n c) → fits k d n ≡ true
+filled_fits k d n c is = subst (λ m. fits k d m ≡ true) (length-replicate n c) (cells-parts k d (replicate n c) is).0
+
+pub fills_box : (k : Kind) (box other : Box) (c : Cell) (part old new : ArrayData) → IsLong other → cells k part ≡ Some (replicate (position_count other.shape) c)
+    → TakesEach k box other part old new → FillsBox k box other c old new
+fills_box k box other c part old new long is takes = λ position holds. go position (in_box other position) refl (takes.each_cell position holds)
+  where
+    go : (position : List ℕ) (b : Bool) → in_box other position ≡ b
+        → cell_at k new (place_in box position) ≡ cond b (cell_at k part (place_in other position)) (cell_at k old (place_in box position))
+        → cell_at k new (place_in box position) ≡ cond b c (cell_at k old (place_in box position))
+    go position true there same = same ∙ filled_cell k part (position_count other.shape) c is (place_in other position) (place_in_below other position long there)
+    go position false there same = same

@@ -1,0 +1,4 @@
+pub mod TypeSizes
+pub mod Levels
+pub mod Boxes
+pub mod Fills

@@ -1,0 +1,6 @@
+//! Decode targets: boxes of arrays of cells that callers lend, to be written.
+#![tactic(auto)]
+
+mod target;
+
+pub use target::{ArrayBytesDecodeIntoTarget, copy_fill_value_into};

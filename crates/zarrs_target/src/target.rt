@@ -1,0 +1,366 @@
+//! A box of an array of cells that a caller lends to be written.
+ghost use Rattle.std.specs.Prelude.{◌≡◌, ◌↔◌, ◌*◌, ◌==◌, true, IfOk, IsOk, IsTrue, IsSome, OnErr, OnOk, length};
+ghost use Rattle.std.specs.Prelude.{◌≤◌, drop, slice_index, take};
+ghost use Rattle.zarrs_cells.specs.ArrayData.{data_of};
+ghost use Rattle.zarrs_cells.specs.Cells.{fits};
+ghost use Rattle.zarrs_cells.specs.Parts.{TakesAt, TakesEach};
+ghost use Rattle.zarrs_subset.specs.Boxes.{position_count};
+ghost use Rattle.zarrs_subset.specs.Pieces.{piece_at};
+ghost use Rattle.zarrs_subset.specs.Regions.{box_of, box_at_origin};
+ghost use Rattle.zarrs_types.specs.Cell.{fill_cell, fill_of};
+ghost use Rattle.zarrs_types.specs.Kind.{Kind, kind};
+ghost use Rattle.zarrs_target.specs.Targets.{FillsBox, HasLevels, IsTargetOver, TakesLevels, depth_of, masked, takes_type};
+
+use std::alloc::{AllocError, Global};
+use zarrs_cells::ArrayBytes;
+use zarrs_data_type::ArrayBytesFixedDisjointViewCreateError;
+use zarrs_subset::{ArraySubset, ArraySubsetTraits, element_count, place_part};
+use zarrs_types::{DataType, FillValue};
+
+/// The box `region` of an array of `parent_shape`, which a caller lends to be written.
+///
+/// `bytes` has a cell of `cell_size` bytes for each position of the parent, in row-major order. `masks` has `depth` parts,
+/// the outermost first, each with a byte for each position of the parent: one for each level of an optional type.
+///
+/// Each call requires `IsTarget`, which `over`, `new_fixed` and `new_optional` ensure. Each slice has a lifetime of its own,
+/// so that its lender knows what it ends as.
+#[derive(Drop)]
+pub struct ArrayBytesDecodeIntoTarget<'a, 'm, 'r> {
+    /// The cells of the parent.
+    pub bytes: &'a mut [u8],
+    /// The masks of the parent.
+    pub masks: &'m mut [u8],
+    /// The size of a cell in bytes.
+    pub cell_size: usize,
+    /// The number of masks.
+    pub depth: usize,
+    /// The shape of the parent.
+    pub parent_shape: &'r [u64],
+    /// The box.
+    pub region: &'r ArraySubset,
+}
+
+impl<'a, 'm, 'r> ArrayBytesDecodeIntoTarget<'a, 'm, 'r> {
+    ghost use Rattle.zarrs_target.specs.States.{IsTarget};
+
+    /// Whether these are the parts of a target.
+    ///
+    /// # Errors
+    /// Bytes or masks of another length than the parent asks, a parent of more positions than a `u64` counts, or a box that
+    /// does not lie in the parent.
+    pub fn check(
+        bytes: &[u8],
+        cell_size: usize,
+        masks: &[u8],
+        depth: usize,
+        parent_shape: &[u64],
+        region: &ArraySubset,
+    ) -> Result<(), ArrayBytesFixedDisjointViewCreateError>
+        ensures { IsOk result ↔ IsTargetOver (length bytes.now) cell_size (length masks.now) depth
+            parent_shape.now (box_of region.now) }
+    {
+        let Some(count) = element_count(parent_shape) else {
+            return Err(ArrayBytesFixedDisjointViewCreateError);
+        };
+        if !has_parts(bytes.len(), count, cell_size)
+            || !has_parts(masks.len(), count, depth)
+            || !region.inbounds_shape(parent_shape)
+        {
+            return Err(ArrayBytesFixedDisjointViewCreateError);
+        }
+        Ok(())
+    }
+
+    /// The target of these parts, which `check` accepts.
+    pub fn over(
+        bytes: &'a mut [u8],
+        cell_size: usize,
+        masks: &'m mut [u8],
+        depth: usize,
+        parent_shape: &'r [u64],
+        region: &'r ArraySubset,
+    ) -> ArrayBytesDecodeIntoTarget<'a, 'm, 'r>
+        requires { IsTargetOver (length bytes.old) cell_size (length masks.old) depth
+            parent_shape.now (box_of region.now) }
+        ensures target { IsTarget result }
+        ensures same_bytes { result.bytes.ghost_name ≡ bytes.entry.ghost_name }
+        ensures same_masks { result.masks.ghost_name ≡ masks.entry.ghost_name }
+        ensures bytes { result.bytes.now ≡ bytes.old }
+        ensures masks { result.masks.now ≡ masks.old }
+        ensures cell_size { result.cell_size ≡ cell_size }
+        ensures depth { result.depth ≡ depth }
+        ensures parent_shape { result.parent_shape.now ≡ parent_shape.now }
+        ensures region { result.region.now ≡ region.now }
+    {
+        ArrayBytesDecodeIntoTarget {
+            bytes,
+            masks,
+            cell_size,
+            depth,
+            parent_shape,
+            region,
+        }
+    }
+
+    /// The target of a type that is not optional: `bytes` has a cell for each position of the parent.
+    ///
+    /// # Errors
+    /// As `check`.
+    pub fn new_fixed(
+        bytes: &'a mut [u8],
+        cell_size: usize,
+        parent_shape: &'r [u64],
+        region: &'r ArraySubset,
+    ) -> Result<ArrayBytesDecodeIntoTarget<'a, 'm, 'r>, ArrayBytesFixedDisjointViewCreateError>
+        ensures accepted { IsOk result ↔ IsTargetOver (length bytes.old) cell_size 0 0
+            parent_shape.now (box_of region.now) }
+        ensures target { IfOk result (λ t. IsTarget t) }
+        ensures same_bytes { IfOk result (λ t. t.bytes.ghost_name ≡ bytes.entry.ghost_name) }
+        ensures bytes { IfOk result (λ t. t.bytes.now ≡ bytes.old) }
+        ensures cell_size { IfOk result (λ t. t.cell_size ≡ cell_size) }
+        ensures depth { IfOk result (λ t. t.depth ≡ 0) }
+        ensures parent_shape { IfOk result (λ t. t.parent_shape.now ≡ parent_shape.now) }
+        ensures region { IfOk result (λ t. t.region.now ≡ region.now) }
+    {
+        ArrayBytesDecodeIntoTarget::new_optional(bytes, cell_size, &mut [], 0, parent_shape, region)
+    }
+
+    /// The target of a type that is optional at `depth` levels: `masks` has a mask of the parent for each, the outermost
+    /// first.
+    ///
+    /// # Errors
+    /// As `check`.
+    pub fn new_optional(
+        bytes: &'a mut [u8],
+        cell_size: usize,
+        masks: &'m mut [u8],
+        depth: usize,
+        parent_shape: &'r [u64],
+        region: &'r ArraySubset,
+    ) -> Result<ArrayBytesDecodeIntoTarget<'a, 'm, 'r>, ArrayBytesFixedDisjointViewCreateError>
+        ensures accepted { IsOk result ↔ IsTargetOver (length bytes.old) cell_size (length masks.old)
+            depth parent_shape.now (box_of region.now) }
+        ensures target { IfOk result (λ t. IsTarget t) }
+        ensures same_bytes { IfOk result (λ t. t.bytes.ghost_name ≡ bytes.entry.ghost_name) }
+        ensures same_masks { IfOk result (λ t. t.masks.ghost_name ≡ masks.entry.ghost_name) }
+        ensures bytes { IfOk result (λ t. t.bytes.now ≡ bytes.old) }
+        ensures masks { IfOk result (λ t. t.masks.now ≡ masks.old) }
+        ensures cell_size { IfOk result (λ t. t.cell_size ≡ cell_size) }
+        ensures depth { IfOk result (λ t. t.depth ≡ depth) }
+        ensures parent_shape { IfOk result (λ t. t.parent_shape.now ≡ parent_shape.now) }
+        ensures region { IfOk result (λ t. t.region.now ≡ region.now) }
+    {
+        ArrayBytesDecodeIntoTarget::check(bytes, cell_size, masks, depth, parent_shape, region)?;
+        Ok(ArrayBytesDecodeIntoTarget::over(bytes, cell_size, masks, depth, parent_shape, region))
+    }
+}
+
+impl<'a, 'm, 'r> ArrayBytesDecodeIntoTarget<'a, 'm, 'r> {
+    ghost use Rattle.zarrs_target.specs.States.{IsTarget, SameBox, StaysOutside, data_of_target};
+    ghost use Rattle.zarrs_target.specs.States.{parent_box, target_box};
+
+    /// Whether the cells of the type have the target's size and as many masks.
+    pub fn takes_type(&self, data_type: &DataType) -> bool
+        ensures { result ≡ takes_type self.now.cell_size self.now.depth (kind data_type.now) }
+    {
+        match data_type.fixed_size() {
+            Some(size) => size == self.cell_size && is_depth(data_type, self.depth),
+            None => false,
+        }
+    }
+
+    /// Whether the data is one cell of the target's size for each position of the box, under as many masks. This is the
+    /// test for what `write_cells` requires.
+    pub fn takes_data(&self, region_data: &ArrayBytes<'_>) -> bool
+        requires { IsTarget self.now }
+        ensures { IsTrue result ↔ HasLevels self.now.depth self.now.cell_size
+            (position_count (target_box self.now).shape) (data_of region_data.now) }
+    {
+        match self.region.num_elements() {
+            Ok(count) => has_levels(region_data, self.depth, self.cell_size, count),
+            Err(_) => unreachable!(),
+        }
+    }
+
+    /// Writes the cells of the box, in row-major order, to their places. What lies under a none moves with its mask. Every
+    /// byte outside the box stays.
+    ///
+    /// # Errors
+    /// If memory runs out; then every byte stays.
+    pub fn write_cells(
+        &mut self,
+        alloc: Global,
+        region_data: &ArrayBytes<'_>,
+    ) -> Result<(), AllocError>
+        requires target { IsTarget self.old }
+        requires data { HasLevels self.old.depth self.old.cell_size
+            (position_count (target_box self.old).shape) (data_of region_data.now) }
+        ensures target { IsTarget self.new }
+        ensures same_bytes { self.new.bytes.ghost_name ≡ self.old.bytes.ghost_name }
+        ensures same_masks { self.new.masks.ghost_name ≡ self.old.masks.ghost_name }
+        ensures same_box { SameBox self.old self.new }
+        ensures written { OnOk result (TakesLevels self.old.cell_size (parent_box self.old)
+            (target_box self.old) (data_of region_data.now) (data_of_target self.old) (data_of_target self.new)) }
+        ensures cells { OnOk result ((k : Kind)
+            → takes_type self.old.cell_size self.old.depth k ≡ true
+            → fits k (data_of region_data.now) (position_count (target_box self.old).shape) ≡ true
+            → TakesEach k (parent_box self.old) (target_box self.old) (data_of region_data.now)
+            (data_of_target self.old) (data_of_target self.new)) }
+        ensures outside { StaysOutside self.old self.new }
+        ensures kept_bytes { OnErr result (self.new.bytes.now ≡ self.old.bytes.now) }
+        ensures kept_masks { OnErr result (self.new.masks.now ≡ self.old.masks.now) }
+    {
+        let Some(count) = element_count(self.parent_shape) else {
+            unreachable!()
+        };
+        let parent = ArraySubset::new_with_shape(alloc, self.parent_shape.to_vec(alloc)?)?;
+        let place = Place {
+            parent: &parent,
+            region: self.region,
+            count: count as usize,
+            cell_size: self.cell_size,
+        };
+        write_levels(region_data, self.depth, &place, self.masks, self.bytes);
+        Ok(())
+    }
+}
+
+/// Whether so many positions, of so many bytes each, take `len` bytes.
+fn has_parts(len: usize, count: u64, size: usize) -> bool
+    ensures { IsTrue result ↔ (len ≡ count * size) }
+{
+    count.checked_mul(size as u64) == Some(len as u64)
+}
+
+/// Whether the type is optional at so many levels.
+fn is_depth(data_type: &DataType, depth: usize) -> bool
+    ensures { result ≡ (depth_of (kind data_type.now) == depth) }
+{
+    match data_type {
+        DataType::Optional(inner) => depth > 0 && is_depth(inner, depth - 1),
+        _ => depth == 0,
+    }
+}
+
+/// Whether the data is so many cells of this size, under so many masks.
+fn has_levels(region_data: &ArrayBytes<'_>, depth: usize, size: usize, count: u64) -> bool
+    ensures { IsTrue result ↔ HasLevels depth size count (data_of region_data.now) }
+{
+    match region_data {
+        ArrayBytes::Fixed(cells) => depth == 0 && has_parts(cells.as_slice().len(), count, size),
+        ArrayBytes::Optional(optional) => {
+            depth > 0
+                && optional.mask().len() as u64 == count
+                && has_levels(optional.data(), depth - 1, size, count)
+        }
+        ArrayBytes::Variable(_) => false,
+    }
+}
+
+/// Where a target's box lies.
+#[derive(Clone, Copy)]
+struct Place<'r> {
+    /// All positions of the parent.
+    parent: &'r ArraySubset,
+    /// The box.
+    region: &'r ArraySubset,
+    /// The number of positions of the parent.
+    count: usize,
+    /// The size of a cell in bytes.
+    cell_size: usize,
+}
+
+/// Writes the data level by level: a mask, and what lies under it.
+fn write_levels(
+    region_data: &ArrayBytes<'_>,
+    depth: usize,
+    place: &Place<'_>,
+    masks: &mut [u8],
+    bytes: &mut [u8],
+)
+    requires dimensions { length (box_of place.now.parent.now).start
+        ≡ length (box_of place.now.region.now).start }
+    requires count { place.now.count ≡ position_count (box_of place.now.parent.now).shape }
+    requires data { HasLevels depth place.now.cell_size
+        (position_count (box_of place.now.region.now).shape) (data_of region_data.now) }
+    requires bytes_len { length bytes.old ≡ place.now.count * place.now.cell_size }
+    requires masks_len { length masks.old ≡ place.now.count * depth }
+    ensures { TakesLevels place.now.cell_size (box_of place.now.parent.now)
+        (box_of place.now.region.now) (data_of region_data.now)
+        (masked depth place.now.count masks.old bytes.old)
+        (masked depth place.now.count masks.new bytes.new) }
+{
+    match region_data {
+        ArrayBytes::Fixed(cells) => {
+            write_part(place, bytes, cells.as_slice(), place.cell_size);
+        }
+        ArrayBytes::Optional(optional) => {
+            write_mask(place, masks, optional.mask());
+            let rest = &mut masks[place.count..];
+            write_levels(optional.data(), depth - 1, place, rest, bytes);
+        }
+        ArrayBytes::Variable(_) => unreachable!(),
+    }
+}
+
+/// Writes the outermost mask. The others stay.
+fn write_mask(place: &Place<'_>, masks: &mut [u8], mask: &[u8])
+    requires dimensions { length (box_of place.now.parent.now).start
+        ≡ length (box_of place.now.region.now).start }
+    requires count { place.now.count ≡ position_count (box_of place.now.parent.now).shape }
+    requires masks_len { place.now.count ≤ length masks.old }
+    requires mask_len { length mask.now ≡ position_count (box_of place.now.region.now).shape }
+    ensures written { TakesAt (box_of place.now.parent.now) (box_of place.now.region.now)
+        (slice_index mask.now) (slice_index (take place.now.count masks.old))
+        (slice_index (take place.now.count masks.new)) }
+    ensures room { place.now.count ≤ length masks.new }
+    ensures others { drop place.now.count masks.new ≡ drop place.now.count masks.old }
+{
+    write_part(place, &mut masks[..place.count], mask, 1);
+}
+
+/// Writes the bytes of one level, so many for each position of the box.
+fn write_part(place: &Place<'_>, target: &mut [u8], part: &[u8], size: usize)
+    requires dimensions { length (box_of place.now.parent.now).start
+        ≡ length (box_of place.now.region.now).start }
+    requires target_len { length target.old ≡ position_count (box_of place.now.parent.now).shape * size }
+    requires part_len { length part.now ≡ position_count (box_of place.now.region.now).shape * size }
+    ensures { TakesAt (box_of place.now.parent.now) (box_of place.now.region.now)
+        (piece_at size part.now) (piece_at size target.old) (piece_at size target.new) }
+{
+    place_part(place.parent, target, place.region, part, size);
+}
+
+ghost use Rattle.zarrs_target.specs.States.{IsTarget, SameBox, StaysOutside, data_of_target};
+ghost use Rattle.zarrs_target.specs.States.{parent_box, target_box};
+
+/// Fills the box with the fill value. Every byte outside the box stays.
+///
+/// # Errors
+/// If memory runs out; then every byte stays.
+pub fn copy_fill_value_into(
+    alloc: Global,
+    data_type: &DataType,
+    fill_value: &FillValue,
+    target: &mut ArrayBytesDecodeIntoTarget<'_, '_, '_>,
+) -> Result<(), AllocError>
+    requires target { IsTarget target.old }
+    requires takes { takes_type target.old.cell_size target.old.depth (kind data_type.now) ≡ true }
+    requires filled { IsSome (fill_cell (kind data_type.now) fill_value.now) }
+    ensures target { IsTarget target.new }
+    ensures same_bytes { target.new.bytes.ghost_name ≡ target.old.bytes.ghost_name }
+    ensures same_masks { target.new.masks.ghost_name ≡ target.old.masks.ghost_name }
+    ensures same_box { SameBox target.old target.new }
+    ensures fills { OnOk result (FillsBox (kind data_type.now) (parent_box target.old)
+        (target_box target.old) (fill_of (kind data_type.now) fill_value.now)
+        (data_of_target target.old) (data_of_target target.new)) }
+    ensures outside { StaysOutside target.old target.new }
+    ensures kept_bytes { OnErr result (target.new.bytes.now ≡ target.old.bytes.now) }
+    ensures kept_masks { OnErr result (target.new.masks.now ≡ target.old.masks.now) }
+{
+    let Ok(count) = target.region.num_elements() else {
+        unreachable!()
+    };
+    let data = ArrayBytes::new_fill_value(alloc, data_type, count, fill_value)?;
+    target.write_cells(alloc, &data)
+}
