@@ -1,16 +1,16 @@
 //! Reads of ranges of chunks and of parts of chunks.
-use crate::region_reads::{TOO_LARGE, UNFIT, nine_cells};
+use crate::region_reads::{TOO_LARGE, UNFIT, nine_cells, nine_cells_must_answer};
 use crate::steps::Answer::{Cells, Done, Refused};
 use crate::steps::Step::{Put, ReadChunks, ReadPart, Store};
-use crate::steps::{Row, bytes_engine, engine_of, engine_over, must_answer, must_answer_in_list};
+use crate::steps::{
+    Case, Row, engine_of, engine_over, must_answer, must_go_on, must_go_on_in_list,
+};
 use std::test::Fail;
 use zarrs_data_type::DataType;
 use zarrs_storage::{Fault, MemoryStore, StoreKey};
 
 #[test]
 fn a_range_over_four_chunks(rt: HostRuntime) -> Result<(), Fail> {
-    let alloc = rt.alloc();
-    let mut engine = nine_cells(&rt, alloc)?;
     const ROWS: &[Row] = &[
         (
             ReadChunks(&[0, 0], &[2, 2]),
@@ -39,18 +39,16 @@ fn a_range_over_four_chunks(rt: HostRuntime) -> Result<(), Fail> {
             Cells(&[&[1, 1, 1, 1], &[1, 1, 1, 1], &[1, 1, 1, 1], &[1, 1, 1, 1]]),
         ),
     ];
-    must_answer(&rt, alloc, &mut engine, ROWS)
+    nine_cells_must_answer(&rt, rt.alloc(), ROWS)
 }
 
 #[test]
 fn an_empty_range_has_no_cell(rt: HostRuntime) -> Result<(), Fail> {
-    let alloc = rt.alloc();
-    let mut engine = nine_cells(&rt, alloc)?;
     const ROWS: &[Row] = &[
         (ReadChunks(&[0, 0], &[0, 2]), Cells(&[])),
         (ReadChunks(&[u64::MAX, 9], &[0, 1]), Cells(&[])),
     ];
-    must_answer(&rt, alloc, &mut engine, ROWS)
+    nine_cells_must_answer(&rt, rt.alloc(), ROWS)
 }
 
 /// The store refuses to read the first chunk: what asks for it is refused, and what does not is not.
@@ -67,13 +65,11 @@ fn an_empty_range_asks_nothing(rt: HostRuntime) -> Result<(), Fail> {
         (ReadPart(&[0], &[1], &[1]), Refused("fault")),
         (ReadPart(&[1], &[1], &[1]), Cells(&[&[0]])),
     ];
-    must_answer(&rt, alloc, &mut engine, ROWS)
+    must_go_on(&rt, alloc, &mut engine, ROWS)
 }
 
 #[test]
 fn a_range_of_other_dimensions_is_refused(rt: HostRuntime) -> Result<(), Fail> {
-    let alloc = rt.alloc();
-    let mut engine = nine_cells(&rt, alloc)?;
     const ROWS: &[Row] = &[
         (
             ReadChunks(&[0], &[1]),
@@ -84,38 +80,38 @@ fn a_range_of_other_dimensions_is_refused(rt: HostRuntime) -> Result<(), Fail> {
             Refused("array subset [0..0, 0..0, 0..0] is not compatible with array shape [8, 8]"),
         ),
     ];
-    must_answer(&rt, alloc, &mut engine, ROWS)
+    nine_cells_must_answer(&rt, rt.alloc(), ROWS)
 }
 
 #[test]
 fn an_index_without_a_chunk_is_refused(rt: HostRuntime) -> Result<(), Fail> {
-    let alloc = rt.alloc();
-    let mut engine = bytes_engine(alloc, &[u64::MAX], &[1 << 63])?;
-    const ROWS: &[Row] = &[
-        (
-            ReadChunks(&[0], &[3]),
-            Refused("invalid chunk grid indices: [2]"),
-        ),
-        (
-            ReadChunks(&[1], &[2]),
-            Refused("invalid chunk grid indices: [1]"),
-        ),
-        (
-            ReadPart(&[1], &[0], &[1]),
-            Refused("invalid chunk grid indices: [1]"),
-        ),
-        (
-            ReadPart(&[0, 0], &[0], &[1]),
-            Refused("invalid chunk grid indices: [0, 0]"),
-        ),
-    ];
-    must_answer(&rt, alloc, &mut engine, ROWS)
+    const CASE: Case = Case {
+        shape: &[u64::MAX],
+        chunk_shape: &[1 << 63],
+        rows: &[
+            (
+                ReadChunks(&[0], &[3]),
+                Refused("invalid chunk grid indices: [2]"),
+            ),
+            (
+                ReadChunks(&[1], &[2]),
+                Refused("invalid chunk grid indices: [1]"),
+            ),
+            (
+                ReadPart(&[1], &[0], &[1]),
+                Refused("invalid chunk grid indices: [1]"),
+            ),
+            (
+                ReadPart(&[0, 0], &[0], &[1]),
+                Refused("invalid chunk grid indices: [0, 0]"),
+            ),
+        ],
+    };
+    must_answer(&rt, rt.alloc(), &CASE)
 }
 
 #[test]
 fn parts_of_present_and_absent_chunks(rt: HostRuntime) -> Result<(), Fail> {
-    let alloc = rt.alloc();
-    let mut engine = nine_cells(&rt, alloc)?;
     const ROWS: &[Row] = &[
         (
             ReadPart(&[1, 1], &[0, 0], &[2, 2]),
@@ -131,13 +127,11 @@ fn parts_of_present_and_absent_chunks(rt: HostRuntime) -> Result<(), Fail> {
             Cells(&[&[4], &[7], &[1], &[1]]),
         ),
     ];
-    must_answer(&rt, alloc, &mut engine, ROWS)
+    nine_cells_must_answer(&rt, rt.alloc(), ROWS)
 }
 
 #[test]
 fn a_part_that_is_the_whole_chunk(rt: HostRuntime) -> Result<(), Fail> {
-    let alloc = rt.alloc();
-    let mut engine = nine_cells(&rt, alloc)?;
     const ROWS: &[Row] = &[
         (
             ReadPart(&[1, 1], &[0, 0], &[4, 4]),
@@ -148,24 +142,20 @@ fn a_part_that_is_the_whole_chunk(rt: HostRuntime) -> Result<(), Fail> {
             Cells(&[&[1, 1, 1, 1], &[1, 1, 1, 1], &[1, 1, 1, 1], &[1, 1, 1, 1]]),
         ),
     ];
-    must_answer(&rt, alloc, &mut engine, ROWS)
+    nine_cells_must_answer(&rt, rt.alloc(), ROWS)
 }
 
 #[test]
 fn an_empty_part_has_no_cell(rt: HostRuntime) -> Result<(), Fail> {
-    let alloc = rt.alloc();
-    let mut engine = nine_cells(&rt, alloc)?;
     const ROWS: &[Row] = &[
         (ReadPart(&[1, 1], &[4, 0], &[0, 4]), Cells(&[])),
         (ReadPart(&[0, 0], &[0, 0], &[0, 0]), Cells(&[])),
     ];
-    must_answer(&rt, alloc, &mut engine, ROWS)
+    nine_cells_must_answer(&rt, rt.alloc(), ROWS)
 }
 
 #[test]
 fn a_part_that_passes_its_chunk_is_refused(rt: HostRuntime) -> Result<(), Fail> {
-    let alloc = rt.alloc();
-    let mut engine = nine_cells(&rt, alloc)?;
     const ROWS: &[Row] = &[
         (
             ReadPart(&[1, 1], &[3, 3], &[2, 1]),
@@ -184,22 +174,24 @@ fn a_part_that_passes_its_chunk_is_refused(rt: HostRuntime) -> Result<(), Fail> 
             Refused("chunk subset [0..1] is not compatible with chunk [1, 1] with shape [4, 4]"),
         ),
     ];
-    must_answer(&rt, alloc, &mut engine, ROWS)
+    nine_cells_must_answer(&rt, rt.alloc(), ROWS)
 }
 
 #[test]
 fn parts_of_a_chunk_that_does_not_decode(rt: HostRuntime) -> Result<(), Fail> {
-    let alloc = rt.alloc();
-    let mut engine = bytes_engine(alloc, &[6], &[2])?;
-    const ROWS: &[Row] = &[
-        (Put("c/1", &[9]), Done),
-        (ReadPart(&[1], &[1], &[1]), Refused(UNFIT)),
-        (ReadPart(&[1], &[0], &[2]), Refused(UNFIT)),
-        (ReadChunks(&[0], &[3]), Refused(UNFIT)),
-        (ReadPart(&[2], &[1], &[1]), Cells(&[&[0]])),
-        (ReadChunks(&[2], &[1]), Cells(&[&[0, 0]])),
-    ];
-    must_answer(&rt, alloc, &mut engine, ROWS)
+    const CASE: Case = Case {
+        shape: &[6],
+        chunk_shape: &[2],
+        rows: &[
+            (Put("c/1", &[9]), Done),
+            (ReadPart(&[1], &[1], &[1]), Refused(UNFIT)),
+            (ReadPart(&[1], &[0], &[2]), Refused(UNFIT)),
+            (ReadChunks(&[0], &[3]), Refused(UNFIT)),
+            (ReadPart(&[2], &[1], &[1]), Cells(&[&[0]])),
+            (ReadChunks(&[2], &[1]), Cells(&[&[0, 0]])),
+        ],
+    };
+    must_answer(&rt, rt.alloc(), &CASE)
 }
 
 #[test]
@@ -211,19 +203,21 @@ fn a_part_of_a_chunk_past_the_numbers(rt: HostRuntime) -> Result<(), Fail> {
         (ReadPart(&[1], &[0], &[1 << 61]), Refused(TOO_LARGE)),
         (ReadChunks(&[0], &[2]), Refused(TOO_LARGE)),
     ];
-    must_answer(&rt, alloc, &mut engine, ROWS)
+    must_go_on(&rt, alloc, &mut engine, ROWS)
 }
 
 #[test]
 fn without_dimensions_there_is_one_chunk_of_one_cell(rt: HostRuntime) -> Result<(), Fail> {
-    let alloc = rt.alloc();
-    let mut engine = bytes_engine(alloc, &[], &[])?;
-    const ROWS: &[Row] = &[
-        (Store(&[], &[&[7]]), Done),
-        (ReadChunks(&[], &[]), Cells(&[&[7]])),
-        (ReadPart(&[], &[], &[]), Cells(&[&[7]])),
-    ];
-    must_answer(&rt, alloc, &mut engine, ROWS)
+    const CASE: Case = Case {
+        shape: &[],
+        chunk_shape: &[],
+        rows: &[
+            (Store(&[], &[&[7]]), Done),
+            (ReadChunks(&[], &[]), Cells(&[&[7]])),
+            (ReadPart(&[], &[], &[]), Cells(&[&[7]])),
+        ],
+    };
+    must_answer(&rt, rt.alloc(), &CASE)
 }
 
 /// The calls read the first chunk, the last of the nine cells, and a part that passes its chunk.
@@ -244,5 +238,5 @@ fn ranges_and_parts_are_read_in_a_list_of_calls(rt: HostRuntime) -> Result<(), F
             ),
         ),
     ];
-    must_answer_in_list(&rt, alloc, &mut engine, ROWS)
+    must_go_on_in_list(&rt, alloc, &mut engine, ROWS)
 }

@@ -2,7 +2,7 @@
 use crate::steps::Answer::{Cells, Done, Refused};
 use crate::steps::Step::{Put, ReadRegion, Store};
 use crate::steps::{
-    Row, TestEngine, bytes_engine, engine_of, must_answer, must_answer_in_list, region,
+    Case, Row, TestEngine, engine_of, must_answer, must_go_on, must_go_on_in_list, region,
 };
 use std::alloc::Global;
 use std::borrow::CowSlice;
@@ -42,14 +42,22 @@ pub(crate) fn nine_cells(rt: &impl Abort, alloc: Global) -> Result<TestEngine, F
             Done,
         ),
     ];
-    must_answer(rt, alloc, &mut engine, ROWS)?;
+    must_go_on(rt, alloc, &mut engine, ROWS)?;
     Ok(engine)
+}
+
+/// The calls of the nine cells must give their answers.
+pub(crate) fn nine_cells_must_answer(
+    rt: &impl Abort,
+    alloc: Global,
+    rows: &[Row],
+) -> Result<(), Fail> {
+    let mut engine = nine_cells(rt, alloc)?;
+    must_go_on(rt, alloc, &mut engine, rows)
 }
 
 #[test]
 fn nine_cells_over_four_chunks(rt: HostRuntime) -> Result<(), Fail> {
-    let alloc = rt.alloc();
-    let mut engine = nine_cells(&rt, alloc)?;
     const ROWS: &[Row] = &[
         (
             ReadRegion(&[3, 2], &[3, 5]),
@@ -58,13 +66,11 @@ fn nine_cells_over_four_chunks(rt: HostRuntime) -> Result<(), Fail> {
         (ReadRegion(&[4, 4], &[2, 2]), Cells(&[&[5, 6], &[8, 9]])),
         (ReadRegion(&[5, 5], &[1, 1]), Cells(&[&[9]])),
     ];
-    must_answer(&rt, alloc, &mut engine, ROWS)
+    nine_cells_must_answer(&rt, rt.alloc(), ROWS)
 }
 
 #[test]
 fn a_region_that_is_one_chunk(rt: HostRuntime) -> Result<(), Fail> {
-    let alloc = rt.alloc();
-    let mut engine = nine_cells(&rt, alloc)?;
     const ROWS: &[Row] = &[
         (
             ReadRegion(&[4, 4], &[4, 4]),
@@ -75,25 +81,21 @@ fn a_region_that_is_one_chunk(rt: HostRuntime) -> Result<(), Fail> {
             Cells(&[&[1, 1, 1, 1], &[1, 1, 1, 1], &[1, 1, 1, 1], &[1, 1, 1, 1]]),
         ),
     ];
-    must_answer(&rt, alloc, &mut engine, ROWS)
+    nine_cells_must_answer(&rt, rt.alloc(), ROWS)
 }
 
 #[test]
 fn no_cell_outside_the_array(rt: HostRuntime) -> Result<(), Fail> {
-    let alloc = rt.alloc();
-    let mut engine = nine_cells(&rt, alloc)?;
     const ROWS: &[Row] = &[
         (ReadRegion(&[100, 0], &[0, 4]), Cells(&[])),
         (ReadRegion(&[0, 0], &[0, 4]), Cells(&[])),
         (ReadRegion(&[u64::MAX, 9], &[0, 1]), Cells(&[])),
     ];
-    must_answer(&rt, alloc, &mut engine, ROWS)
+    nine_cells_must_answer(&rt, rt.alloc(), ROWS)
 }
 
 #[test]
 fn other_dimensions_are_refused(rt: HostRuntime) -> Result<(), Fail> {
-    let alloc = rt.alloc();
-    let mut engine = nine_cells(&rt, alloc)?;
     const ROWS: &[Row] = &[
         (
             ReadRegion(&[0], &[1]),
@@ -104,24 +106,26 @@ fn other_dimensions_are_refused(rt: HostRuntime) -> Result<(), Fail> {
             Refused("array subset [0..0, 0..0, 0..0] is not compatible with array shape [8, 8]"),
         ),
     ];
-    must_answer(&rt, alloc, &mut engine, ROWS)
+    nine_cells_must_answer(&rt, rt.alloc(), ROWS)
 }
 
 /// The array has 2^64 - 1 cells, and one chunk of 2^63: a second one would pass the numbers.
 #[test]
 fn a_cell_that_no_chunk_covers_is_refused(rt: HostRuntime) -> Result<(), Fail> {
-    let alloc = rt.alloc();
-    let mut engine = bytes_engine(alloc, &[u64::MAX], &[1 << 63])?;
-    const ROWS: &[Row] = &[
-        (ReadRegion(&[(1 << 63) - 2], &[2]), Cells(&[&[0, 0]])),
-        (
-            ReadRegion(&[(1 << 63) - 1], &[2]),
-            Refused(
-                "array subset [9223372036854775807..9223372036854775809] is not compatible with array shape [18446744073709551615]",
+    const CASE: Case = Case {
+        shape: &[u64::MAX],
+        chunk_shape: &[1 << 63],
+        rows: &[
+            (ReadRegion(&[(1 << 63) - 2], &[2]), Cells(&[&[0, 0]])),
+            (
+                ReadRegion(&[(1 << 63) - 1], &[2]),
+                Refused(
+                    "array subset [9223372036854775807..9223372036854775809] is not compatible with array shape [18446744073709551615]",
+                ),
             ),
-        ),
-    ];
-    must_answer(&rt, alloc, &mut engine, ROWS)
+        ],
+    };
+    must_answer(&rt, rt.alloc(), &CASE)
 }
 
 #[test]
@@ -135,30 +139,34 @@ fn absent_chunks_read_as_the_fill_value(rt: HostRuntime) -> Result<(), Fail> {
             Cells(&[&[0, 1, 255, 255], &[2, 3, 255, 255]]),
         ),
     ];
-    must_answer(&rt, alloc, &mut engine, ROWS)
+    must_go_on(&rt, alloc, &mut engine, ROWS)
 }
 
 #[test]
 fn cells_past_the_shape_are_read(rt: HostRuntime) -> Result<(), Fail> {
-    let alloc = rt.alloc();
-    let mut engine = bytes_engine(alloc, &[5], &[4])?;
-    const ROWS: &[Row] = &[
-        (Store(&[1], &[&[1, 2, 3, 4]]), Done),
-        (ReadRegion(&[4], &[4]), Cells(&[&[1, 2, 3, 4]])),
-        (ReadRegion(&[3], &[4]), Cells(&[&[0, 1, 2, 3]])),
-    ];
-    must_answer(&rt, alloc, &mut engine, ROWS)
+    const CASE: Case = Case {
+        shape: &[5],
+        chunk_shape: &[4],
+        rows: &[
+            (Store(&[1], &[&[1, 2, 3, 4]]), Done),
+            (ReadRegion(&[4], &[4]), Cells(&[&[1, 2, 3, 4]])),
+            (ReadRegion(&[3], &[4]), Cells(&[&[0, 1, 2, 3]])),
+        ],
+    };
+    must_answer(&rt, rt.alloc(), &CASE)
 }
 
 #[test]
 fn a_region_without_dimensions_is_one_cell(rt: HostRuntime) -> Result<(), Fail> {
-    let alloc = rt.alloc();
-    let mut engine = bytes_engine(alloc, &[], &[])?;
-    const ROWS: &[Row] = &[
-        (Store(&[], &[&[7]]), Done),
-        (ReadRegion(&[], &[]), Cells(&[&[7]])),
-    ];
-    must_answer(&rt, alloc, &mut engine, ROWS)
+    const CASE: Case = Case {
+        shape: &[],
+        chunk_shape: &[],
+        rows: &[
+            (Store(&[], &[&[7]]), Done),
+            (ReadRegion(&[], &[]), Cells(&[&[7]])),
+        ],
+    };
+    must_answer(&rt, rt.alloc(), &CASE)
 }
 
 /// The data is these texts, put together, with the place where each begins and the last one ends.
@@ -222,22 +230,24 @@ fn a_chunk_that_is_no_text_is_refused(rt: HostRuntime) -> Result<(), Fail> {
         (Put("c/0", &[1, 0, 0, 0, 1, 0, 0, 0, 0xFF]), Done),
         (ReadRegion(&[0], &[2]), Refused(UNFIT)),
     ];
-    must_answer(&rt, alloc, &mut engine, ROWS)
+    must_go_on(&rt, alloc, &mut engine, ROWS)
 }
 
 #[test]
 fn a_chunk_that_does_not_decode_beside_one_that_does(rt: HostRuntime) -> Result<(), Fail> {
-    let alloc = rt.alloc();
-    let mut engine = bytes_engine(alloc, &[6], &[2])?;
-    const ROWS: &[Row] = &[
-        (Put("c/1", &[9]), Done),
-        (Store(&[0], &[&[1, 2]]), Done),
-        (ReadRegion(&[0], &[2]), Cells(&[&[1, 2]])),
-        (ReadRegion(&[1], &[2]), Refused(UNFIT)),
-        (ReadRegion(&[2], &[2]), Refused(UNFIT)),
-        (ReadRegion(&[4], &[2]), Cells(&[&[0, 0]])),
-    ];
-    must_answer(&rt, alloc, &mut engine, ROWS)
+    const CASE: Case = Case {
+        shape: &[6],
+        chunk_shape: &[2],
+        rows: &[
+            (Put("c/1", &[9]), Done),
+            (Store(&[0], &[&[1, 2]]), Done),
+            (ReadRegion(&[0], &[2]), Cells(&[&[1, 2]])),
+            (ReadRegion(&[1], &[2]), Refused(UNFIT)),
+            (ReadRegion(&[2], &[2]), Refused(UNFIT)),
+            (ReadRegion(&[4], &[2]), Cells(&[&[0, 0]])),
+        ],
+    };
+    must_answer(&rt, rt.alloc(), &CASE)
 }
 
 #[test]
@@ -245,7 +255,7 @@ fn a_region_past_the_numbers_is_refused(rt: HostRuntime) -> Result<(), Fail> {
     let alloc = rt.alloc();
     let mut engine = engine_of(alloc, &[1 << 62], &[1 << 61], DataType::Int64, &[0; 8])?;
     const ROWS: &[Row] = &[(ReadRegion(&[0], &[1 << 61]), Refused(TOO_LARGE))];
-    must_answer(&rt, alloc, &mut engine, ROWS)
+    must_go_on(&rt, alloc, &mut engine, ROWS)
 }
 
 #[test]
@@ -259,5 +269,5 @@ fn regions_are_read_in_a_list_of_calls(rt: HostRuntime) -> Result<(), Fail> {
             Refused("array subset [5..6] is not compatible with array shape [8, 8]"),
         ),
     ];
-    must_answer_in_list(&rt, alloc, &mut engine, ROWS)
+    must_go_on_in_list(&rt, alloc, &mut engine, ROWS)
 }

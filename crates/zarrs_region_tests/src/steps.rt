@@ -61,11 +61,7 @@ pub(crate) fn engine_of(
 }
 
 /// An array of bytes with fill 0, without a chunk.
-pub(crate) fn bytes_engine(
-    alloc: Global,
-    shape: &[u64],
-    chunk: &[u64],
-) -> Result<TestEngine, Fail> {
+fn bytes_engine(alloc: Global, shape: &[u64], chunk: &[u64]) -> Result<TestEngine, Fail> {
     engine_of(alloc, shape, chunk, DataType::UInt8, &[0])
 }
 
@@ -217,8 +213,21 @@ fn must_be(
     Ok(())
 }
 
+/// Calls of an engine over a new array of bytes with fill 0.
+pub(crate) struct Case {
+    pub(crate) shape: &'static [u64],
+    pub(crate) chunk_shape: &'static [u64],
+    pub(crate) rows: &'static [Row],
+}
+
+/// Makes the calls of the case in turn. Each must give its answer.
+pub(crate) fn must_answer(rt: &impl Abort, alloc: Global, case: &Case) -> Result<(), Fail> {
+    let mut engine = bytes_engine(alloc, case.shape, case.chunk_shape)?;
+    must_go_on(rt, alloc, &mut engine, case.rows)
+}
+
 /// Makes the calls in turn. Each must give its answer.
-pub(crate) fn must_answer(
+pub(crate) fn must_go_on(
     rt: &impl Abort,
     alloc: Global,
     engine: &mut TestEngine,
@@ -253,7 +262,7 @@ fn must_be_answers(
 }
 
 /// Makes the calls as one list. Each must give its answer.
-pub(crate) fn must_answer_in_list(
+pub(crate) fn must_go_on_in_list(
     rt: &impl Abort,
     alloc: Global,
     engine: &mut TestEngine,
