@@ -6,4 +6,6 @@ mod encoded;
 #[cfg(test)]
 mod ranges;
 #[cfg(test)]
+mod steps;
+#[cfg(test)]
 mod tests;

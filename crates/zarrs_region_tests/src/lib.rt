@@ -5,3 +5,5 @@
 mod part_reads;
 #[cfg(test)]
 mod region_reads;
+#[cfg(test)]
+mod steps;

@@ -2,8 +2,8 @@
 #![tactic(auto)]
 
 #[cfg(test)]
-mod engines;
-#[cfg(test)]
 mod refusals;
+#[cfg(test)]
+mod steps;
 #[cfg(test)]
 mod writes;

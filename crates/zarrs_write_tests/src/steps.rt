@@ -1,0 +1,386 @@
+//! Tests as tables: each row is a call of an engine, and the answer that it must give.
+use std::alloc::{AllocError, Global};
+use std::num::NonZeroU64;
+use std::process::Abort;
+use std::test::Fail;
+use zarrs_chunk_grid::RegularChunkGrid;
+use zarrs_codec::{BytesToBytesCodecs, CodecChain, CodecOptions, default_array_to_bytes_codec};
+use zarrs_data_type::{ArrayBytes, DataType, FillValue};
+use zarrs_engine::{ArrayError, Call, Engine, Reply, replay};
+use zarrs_keys::{ChunkKeyEncoding, ChunkKeySeparator, NodePath};
+use zarrs_storage::{Fault, MemoryStore, ReadableStorageTraits, StoreKey};
+use zarrs_subset::{ArraySubset, ArraySubsetError};
+
+pub(crate) type EngineOver<S> = Engine<S, RegularChunkGrid, ChunkKeyEncoding, CodecChain>;
+
+pub(crate) type TestEngine = EngineOver<Fault<MemoryStore>>;
+
+/// An array at `/` of this shape, in chunks of that shape, over the store. Its chain is the default codec of the type.
+pub(crate) fn engine_over<S: Drop>(
+    alloc: Global,
+    storage: S,
+    shape: &[u64],
+    chunk: &[u64],
+    data_type: DataType,
+    fill: &[u8],
+) -> Result<EngineOver<S>, Fail> {
+    let mut chunk_shape = Vec::new(alloc);
+    for extent in chunk {
+        chunk_shape.push(NonZeroU64::new(*extent).ok_or("an extent is 0")?)?;
+    }
+    let grid = RegularChunkGrid::new(alloc, shape.to_vec(alloc)?, chunk_shape)?;
+    let fill_value = FillValue::new(fill.to_vec(alloc)?);
+    if !data_type.is_fill(fill_value.as_bytes()) {
+        return Err("no fill value of the type".into());
+    }
+    let codec = default_array_to_bytes_codec(&data_type).ok_or("no codec of the type")?;
+    Ok(Engine::new(
+        storage,
+        NodePath::new(alloc, "/")?,
+        grid,
+        ChunkKeyEncoding::Default(ChunkKeySeparator::Slash),
+        CodecChain::new(Vec::new(alloc), codec, BytesToBytesCodecs),
+        data_type,
+        fill_value,
+    ))
+}
+
+/// A store without values that refuses to read these keys.
+pub(crate) fn unread(alloc: Global, names: &[&str]) -> Result<Fault<MemoryStore>, Fail> {
+    let mut keys = Vec::new(alloc);
+    for name in names {
+        keys.push(StoreKey::new(alloc, name)?)?;
+    }
+    Ok(Fault::new(MemoryStore::new(alloc), keys, None))
+}
+
+/// An array of bytes, with fill 0, over a store that refuses to read these keys.
+pub(crate) fn bytes_engine(
+    alloc: Global,
+    unread_names: &[&str],
+    shape: &[u64],
+    chunk: &[u64],
+) -> Result<TestEngine, Fail> {
+    let storage = unread(alloc, unread_names)?;
+    engine_over(alloc, storage, shape, chunk, DataType::UInt8, &[0])
+}
+
+/// A call of an engine. A region, a range of chunks and a part of a chunk are given by their start and their shape,
+/// cells by their rows.
+pub(crate) enum Step {
+    StoreRegion(&'static [u64], &'static [u64], &'static [&'static [u8]]),
+    StoreChunks(&'static [u64], &'static [u64], &'static [&'static [u8]]),
+    /// Stores the cells of a part of the chunk with the first indices.
+    StorePart(&'static [u64], &'static [u64], &'static [u64], &'static [&'static [u8]]),
+    /// Puts bytes at a key.
+    Put(&'static str, &'static [u8]),
+    ReadRegion(&'static [u64], &'static [u64]),
+    ReadChunks(&'static [u64], &'static [u64]),
+    /// Reads a part of the chunk with the first indices.
+    ReadPart(&'static [u64], &'static [u64], &'static [u64]),
+}
+
+/// What a call must answer.
+pub(crate) enum Answer {
+    Done,
+    Cells(&'static [&'static [u8]]),
+    /// A refusal, as it is printed.
+    Refused(&'static str),
+}
+
+/// A call, and what it must answer.
+pub(crate) type Row = (Step, Answer);
+
+pub(crate) fn subset(
+    alloc: Global,
+    start: &[u64],
+    shape: &[u64],
+) -> Result<ArraySubset, ArraySubsetError> {
+    ArraySubset::new_with_start_shape(start.to_vec(alloc)?, shape.to_vec(alloc)?)
+}
+
+fn cells(alloc: Global, rows: &[&[u8]]) -> Result<ArrayBytes<'static>, AllocError> {
+    let mut cells = Vec::new(alloc);
+    for row in rows {
+        cells.extend_from_slice(row)?;
+    }
+    Ok(ArrayBytes::new_flen(cells))
+}
+
+fn store_region(
+    alloc: Global,
+    engine: &mut TestEngine,
+    start: &[u64],
+    shape: &[u64],
+    rows: &[&[u8]],
+) -> Result<Reply, ArrayError> {
+    let (asked, data) = (subset(alloc, start, shape)?, cells(alloc, rows)?);
+    engine.store_array_subset(alloc, &asked, &data, &CodecOptions::default())?;
+    Ok(Reply::Done)
+}
+
+fn store_chunks(
+    alloc: Global,
+    engine: &mut TestEngine,
+    start: &[u64],
+    shape: &[u64],
+    rows: &[&[u8]],
+) -> Result<Reply, ArrayError> {
+    let (asked, data) = (subset(alloc, start, shape)?, cells(alloc, rows)?);
+    engine.store_chunks(alloc, &asked, &data, &CodecOptions::default())?;
+    Ok(Reply::Done)
+}
+
+fn store_part(
+    alloc: Global,
+    engine: &mut TestEngine,
+    indices: &[u64],
+    start: &[u64],
+    shape: &[u64],
+    rows: &[&[u8]],
+) -> Result<Reply, ArrayError> {
+    let (asked, data) = (subset(alloc, start, shape)?, cells(alloc, rows)?);
+    engine.store_chunk_subset(alloc, indices, &asked, &data, &CodecOptions::default())?;
+    Ok(Reply::Done)
+}
+
+fn put(
+    alloc: Global,
+    engine: &mut TestEngine,
+    key: &str,
+    bytes: &[u8],
+) -> Result<Reply, ArrayError> {
+    let key = StoreKey::new(alloc, key)?;
+    engine.put(alloc, &key, Some(bytes.to_vec(alloc)?))?;
+    Ok(Reply::Done)
+}
+
+fn read_region(
+    alloc: Global,
+    engine: &TestEngine,
+    start: &[u64],
+    shape: &[u64],
+) -> Result<Reply, ArrayError> {
+    let asked = subset(alloc, start, shape)?;
+    Ok(Reply::Cells(engine.retrieve_array_subset(alloc, &asked)?))
+}
+
+fn read_chunks(
+    alloc: Global,
+    engine: &TestEngine,
+    start: &[u64],
+    shape: &[u64],
+) -> Result<Reply, ArrayError> {
+    let asked = subset(alloc, start, shape)?;
+    Ok(Reply::Cells(engine.retrieve_chunks(alloc, &asked)?))
+}
+
+fn read_part(
+    alloc: Global,
+    engine: &TestEngine,
+    indices: &[u64],
+    start: &[u64],
+    shape: &[u64],
+) -> Result<Reply, ArrayError> {
+    let asked = subset(alloc, start, shape)?;
+    Ok(Reply::Cells(engine.retrieve_chunk_subset(alloc, indices, &asked)?))
+}
+
+/// Makes a call of the engine.
+fn make(alloc: Global, engine: &mut TestEngine, step: &Step) -> Reply {
+    let made = match step {
+        Step::StoreRegion(start, shape, rows) => store_region(alloc, engine, start, shape, rows),
+        Step::StoreChunks(start, shape, rows) => store_chunks(alloc, engine, start, shape, rows),
+        Step::StorePart(indices, start, shape, rows) => {
+            store_part(alloc, engine, indices, start, shape, rows)
+        }
+        Step::Put(key, bytes) => put(alloc, engine, key, bytes),
+        Step::ReadRegion(start, shape) => read_region(alloc, engine, start, shape),
+        Step::ReadChunks(start, shape) => read_chunks(alloc, engine, start, shape),
+        Step::ReadPart(indices, start, shape) => read_part(alloc, engine, indices, start, shape),
+    };
+    match made {
+        Ok(reply) => reply,
+        Err(error) => Reply::Refused(error),
+    }
+}
+
+/// The call of a list of calls, if it can stand there.
+fn call_of(alloc: Global, step: &Step) -> Result<Call, Fail> {
+    Ok(match step {
+        Step::StoreRegion(start, shape, rows) => {
+            Call::StoreArraySubset(subset(alloc, start, shape)?, cells(alloc, rows)?)
+        }
+        Step::StoreChunks(start, shape, rows) => {
+            Call::StoreChunks(subset(alloc, start, shape)?, cells(alloc, rows)?)
+        }
+        Step::StorePart(indices, start, shape, rows) => {
+            let part = subset(alloc, start, shape)?;
+            Call::StoreChunkSubset(indices.to_vec(alloc)?, part, cells(alloc, rows)?)
+        }
+        Step::ReadRegion(start, shape) => Call::RetrieveArraySubset(subset(alloc, start, shape)?),
+        Step::ReadChunks(start, shape) => Call::RetrieveChunks(subset(alloc, start, shape)?),
+        Step::ReadPart(indices, start, shape) => {
+            Call::RetrieveChunkSubset(indices.to_vec(alloc)?, subset(alloc, start, shape)?)
+        }
+        Step::Put(_, _) => return Err("no call of a list".into()),
+    })
+}
+
+/// Whether the cells are these rows, one after another.
+fn are_rows(cells: &[u8], rows: &[&[u8]]) -> bool {
+    let mut rest = cells;
+    for row in rows {
+        match rest.strip_prefix(*row) {
+            Some(after) => rest = after,
+            None => return false,
+        }
+    }
+    rest.is_empty()
+}
+
+fn must_be(
+    rt: &impl Abort,
+    alloc: Global,
+    reply: &Reply,
+    answer: &Answer,
+    row: usize,
+) -> Result<(), Fail> {
+    match (reply, answer) {
+        (Reply::Done, Answer::Done) => {}
+        (Reply::Cells(ArrayBytes::Fixed(held)), Answer::Cells(rows)) => {
+            assert!(rt; are_rows(held.as_slice(), rows), "row {row}");
+        }
+        (Reply::Refused(error), Answer::Refused(text)) => {
+            assert_eq!(rt; error.to_string(alloc)?.as_str(), *text, "row {row}");
+        }
+        _ => assert!(rt; false, "another answer at row {row}"),
+    }
+    Ok(())
+}
+
+/// Makes the calls in turn. Each must give its answer.
+fn must_answer(
+    rt: &impl Abort,
+    alloc: Global,
+    engine: &mut TestEngine,
+    rows: &[Row],
+) -> Result<(), Fail> {
+    for (row, (step, answer)) in rows.iter().enumerate() {
+        let reply = make(alloc, engine, step);
+        must_be(rt, alloc, &reply, answer, row)?;
+    }
+    Ok(())
+}
+
+fn list_of(alloc: Global, rows: &[Row]) -> Result<Vec<Call>, Fail> {
+    let mut calls = Vec::new(alloc);
+    for (step, _) in rows {
+        calls.push(call_of(alloc, step)?)?;
+    }
+    Ok(calls)
+}
+
+fn must_be_answers(
+    rt: &impl Abort,
+    alloc: Global,
+    replies: &[Reply],
+    rows: &[Row],
+) -> Result<(), Fail> {
+    assert_eq!(rt; replies.len(), rows.len());
+    for (row, (reply, (_, answer))) in replies.iter().zip(rows).enumerate() {
+        must_be(rt, alloc, reply, answer, row)?;
+    }
+    Ok(())
+}
+
+/// Makes the calls as one list. Each must give its answer.
+pub(crate) fn must_answer_in_list(
+    rt: &impl Abort,
+    alloc: Global,
+    engine: &mut TestEngine,
+    rows: &[Row],
+) -> Result<(), Fail> {
+    let calls = list_of(alloc, rows)?;
+    let replies = replay(alloc, engine, &calls, &CodecOptions::default())?;
+    must_be_answers(rt, alloc, &replies, rows)
+}
+
+/// Calls of an engine over a new array of bytes with fill 0, and what they leave.
+pub(crate) struct Case {
+    /// The keys that the store refuses to read.
+    pub(crate) unread: &'static [&'static str],
+    pub(crate) shape: &'static [u64],
+    pub(crate) chunk_shape: &'static [u64],
+    pub(crate) rows: &'static [Row],
+    /// How many writing calls the store saw.
+    pub(crate) calls: u64,
+    /// The store's keys and values, as `printed` prints them.
+    pub(crate) left: &'static str,
+}
+
+/// Makes the calls of the case in turn. Each must give its answer, and they must leave what the case says.
+pub(crate) fn must_leave(rt: &impl Abort, alloc: Global, case: &Case) -> Result<(), Fail> {
+    let engine = bytes_engine(alloc, case.unread, case.shape, case.chunk_shape)?;
+    must_leave_over(rt, alloc, engine, case.rows, case.calls, case.left)
+}
+
+/// Makes the calls in turn. Each must give its answer, and they must leave a store that saw this many writing calls, and
+/// has these values.
+pub(crate) fn must_leave_over(
+    rt: &impl Abort,
+    alloc: Global,
+    mut engine: TestEngine,
+    rows: &[Row],
+    calls: u64,
+    values: &str,
+) -> Result<(), Fail> {
+    must_answer(rt, alloc, &mut engine, rows)?;
+    must_be_left(rt, alloc, engine.into_storage(), calls, values)
+}
+
+/// The store saw this many writing calls, and has these values.
+pub(crate) fn must_be_left(
+    rt: &impl Abort,
+    alloc: Global,
+    storage: Fault<MemoryStore>,
+    calls: u64,
+    values: &str,
+) -> Result<(), Fail> {
+    assert_eq!(rt; storage.calls(), calls);
+    must_have(rt, alloc, &storage.into_inner(), values)
+}
+
+/// The store has these values.
+pub(crate) fn must_have(
+    rt: &impl Abort,
+    alloc: Global,
+    store: &MemoryStore,
+    values: &str,
+) -> Result<(), Fail> {
+    assert_eq!(rt; printed(alloc, store)?.as_str(), values);
+    Ok(())
+}
+
+/// The keys and values of the store, as "c/0: 1 2; c/1: 3 4".
+fn printed(alloc: Global, store: &MemoryStore) -> Result<String, Fail> {
+    let mut text = String::new(alloc);
+    for key in &store.keys(alloc)? {
+        if !text.is_empty() {
+            text.push_str("; ")?;
+        }
+        text.push_str(key.as_str())?;
+        text.push_str(":")?;
+        if let Some(value) = store.get(alloc, key)? {
+            push_bytes(alloc, &mut text, value.as_slice())?;
+        }
+    }
+    Ok(text)
+}
+
+fn push_bytes(alloc: Global, text: &mut String, bytes: &[u8]) -> Result<(), Fail> {
+    for byte in bytes {
+        text.push_str(format!(in alloc; " {byte}")?.as_str())?;
+    }
+    Ok(())
+}
