@@ -120,7 +120,8 @@ fn a_cell_that_no_chunk_covers_is_refused(rt: HostRuntime) -> Result<(), Fail> {
             (
                 ReadRegion(&[(1 << 63) - 1], &[2]),
                 Refused(
-                    "array subset [9223372036854775807..9223372036854775809] is not compatible with array shape [18446744073709551615]",
+                    "array subset [9223372036854775807..9223372036854775809] is not compatible \
+                    with array shape [18446744073709551615]",
                 ),
             ),
         ],

@@ -45,7 +45,8 @@ fn what_no_chunk_covers_is_refused(rt: HostRuntime) -> Result<(), Fail> {
             (
                 StoreRegion(&[u64::MAX - 1], &[1], &[&[1]]),
                 Refused(
-                    "array subset [18446744073709551614..18446744073709551615] is not compatible with array shape [18446744073709551615]",
+                    "array subset [18446744073709551614..18446744073709551615] is not compatible \
+                    with array shape [18446744073709551615]",
                 ),
             ),
             (

@@ -325,8 +325,8 @@ pub(crate) fn must_leave(rt: &impl Abort, alloc: Global, case: &Case) -> Result<
     must_leave_over(rt, alloc, engine, case.rows, case.calls, case.left)
 }
 
-/// Makes the calls in turn. Each must give its answer, and they must leave a store that saw this many writing calls, and
-/// has these values.
+/// Makes the calls in turn. Each must give its answer, and they must leave a store that saw this many writing calls
+/// and has these values.
 pub(crate) fn must_leave_over(
     rt: &impl Abort,
     alloc: Global,

@@ -2,8 +2,8 @@
 use crate::steps::Answer::{Cells, Done, Refused};
 use crate::steps::Step::{ReadChunks, ReadPart, ReadRegion, StoreChunks, StorePart, StoreRegion};
 use crate::steps::{
-    Case, Row, TestEngine, bytes_engine, engine_over, must_answer_in_list, must_be_left, must_have,
-    must_leave, must_leave_over, subset, unread,
+    Case, EngineOver, Row, TestEngine, bytes_engine, engine_over, must_answer_in_list,
+    must_be_left, must_have, must_leave, must_leave_over, subset, unread,
 };
 use std::alloc::Global;
 use std::borrow::CowSlice;
@@ -202,15 +202,24 @@ fn an_empty_part_is_one_writing_call(rt: HostRuntime) -> Result<(), Fail> {
     must_leave(&rt, rt.alloc(), &CASE)
 }
 
-/// Stores 1 to 16 over four chunks, then nothing over no chunk, through a fence that lets no key be asked.
-fn store_through_a_fence(alloc: Global, store: &mut MemoryStore) -> Result<(), Fail> {
-    let (fence, options) = (Fence::new(store, Vec::new(alloc)), CodecOptions::default());
-    let mut engine = engine_over(alloc, fence, &[4, 4], &[2, 2], DataType::UInt8, &[0])?;
+/// Stores 1 to 16 over four chunks, then nothing over no chunk.
+fn store_sixteen(
+    alloc: Global,
+    engine: &mut EngineOver<Fence<'_, MemoryStore>>,
+) -> Result<(), Fail> {
+    let options = CodecOptions::default();
     let rows = ArrayBytes::from_flen(&[1, 2, 3, 4, 5, 6, 7, 8, 9, 10, 11, 12, 13, 14, 15, 16]);
     engine.store_chunks(alloc, &subset(alloc, &[0, 0], &[2, 2])?, &rows, &options)?;
     let none = subset(alloc, &[7, 7, 7], &[1, 0, 1])?;
     engine.store_chunks(alloc, &none, &ArrayBytes::from_flen(&[]), &options)?;
     Ok(())
+}
+
+/// Stores through a fence that lets no key be asked.
+fn store_through_a_fence(alloc: Global, store: &mut MemoryStore) -> Result<(), Fail> {
+    let fence = Fence::new(store, Vec::new(alloc));
+    let mut engine = engine_over(alloc, fence, &[4, 4], &[2, 2], DataType::UInt8, &[0])?;
+    store_sixteen(alloc, &mut engine)
 }
 
 #[test]
