@@ -1,5 +1,6 @@
 //! An array: an engine, and the metadata that says its parts.
 mod calls;
+mod into;
 mod metadata;
 mod options;
 mod queries;

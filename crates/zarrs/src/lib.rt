@@ -26,3 +26,4 @@ pub use zarrs_options::{
 };
 pub use zarrs_storage::{StorageError, StoreKey};
 pub use zarrs_subset::ArraySubset;
+pub use zarrs_target::ArrayBytesDecodeIntoTarget;

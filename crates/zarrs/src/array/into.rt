@@ -1,0 +1,56 @@
+//! Reads of regions into boxes that callers lend, which pass to the engine.
+use super::Array;
+use std::alloc::Global;
+use zarrs_engine::ArrayError;
+use zarrs_storage::ReadableStorageTraits;
+use zarrs_subset::ArraySubset;
+use zarrs_target::ArrayBytesDecodeIntoTarget;
+
+impl<TStorage: ReadableStorageTraits> Array<TStorage> {
+    ghost use Rattle.std.specs.Prelude.{◌≡◌, IfErr, OnErr, OnOk};
+    ghost use Rattle.zarrs_subset.specs.Regions.{box_of};
+    ghost use Rattle.zarrs_steps.specs.ChunkBoxes.{chunks_met};
+    ghost use Rattle.zarrs_steps.specs.Reach.{MayAskChunks};
+    ghost use Rattle.zarrs_steps.specs.Refusals.{refusal_of};
+    ghost use Rattle.zarrs_target.specs.States.{IsTarget, SameBox, StaysOutside};
+    ghost use Rattle.zarrs_engine.specs.Into.{HasContent, RefusesRetrieveInto, RetrievesInto};
+    ghost use Rattle.zarrs.specs.Arrays.{layout_of_array, store_of_array, state_of_array};
+
+    /// Reads the region into the target's box, where its cells are in row-major order. Every byte outside the box
+    /// stays.
+    ///
+    /// # Errors
+    /// In this order: E1 for another number of dimensions; E4 for a target of another cell size or depth than the data
+    /// type's, of which a variable type has none; E6 for a box of another shape than the region's; E1 for a position
+    /// that no chunk covers; then as `retrieve_array_subset`. E9 may come at any time. Every byte of the target stays.
+    pub fn retrieve_array_subset_into(
+        &self,
+        alloc: Global,
+        array_subset: &ArraySubset,
+        target: &mut ArrayBytesDecodeIntoTarget<'_, '_, '_>,
+    ) -> Result<(), ArrayError>
+        requires ask { MayAskChunks (layout_of_array self.now)
+            (chunks_met (layout_of_array self.now).grid (box_of array_subset.now))
+            (store_of_array TStorage.state self.now) }
+        requires target { IsTarget target.old }
+        ensures target { IsTarget target.new }
+        ensures same_bytes { target.new.bytes.ghost_name ≡ target.old.bytes.ghost_name }
+        ensures same_masks { target.new.masks.ghost_name ≡ target.old.masks.ghost_name }
+        ensures same_box { SameBox target.old target.new }
+        ensures cells { OnOk result (RetrievesInto (layout_of_array self.now)
+            (state_of_array TStorage.state self.now).shape (box_of array_subset.now)
+            (store_of_array TStorage.state self.now) target.old target.new) }
+        ensures content { OnOk result (HasContent (layout_of_array self.now)
+            (box_of array_subset.now) (store_of_array TStorage.state self.now) target.old
+            target.new) }
+        ensures refused { IfErr result (λ e. RefusesRetrieveInto (layout_of_array self.now)
+            (state_of_array TStorage.state self.now).shape (box_of array_subset.now) target.old
+            (refusal_of e) (store_of_array TStorage.state self.now)) }
+        ensures outside { StaysOutside target.old target.new }
+        ensures kept_bytes { OnErr result (target.new.bytes.now ≡ target.old.bytes.now) }
+        ensures kept_masks { OnErr result (target.new.masks.now ≡ target.old.masks.now) }
+    {
+        self.engine
+            .retrieve_array_subset_into(alloc, array_subset, target)
+    }
+}

@@ -1,0 +1,195 @@
+//! The calls of an array, each at concrete types with ample memory: 4 by 4 bytes in chunks of 2 by 2.
+use crate::made::{MemoryArray, array};
+use std::alloc::Global;
+use std::process::Abort;
+use std::test::Fail;
+use zarrs::{ArrayBytes, ArrayBytesDecodeIntoTarget, ArraySubset, CodecOptions};
+
+fn small_array(alloc: Global) -> Result<MemoryArray, Fail> {
+    let grid = "{\"name\":\"regular\",\"configuration\":{\"chunk_shape\":[2,2]}}";
+    array(alloc, "/", &[("shape", "[4,4]"), ("chunk_grid", grid)])
+}
+
+fn region(alloc: Global, start: &[u64], shape: &[u64]) -> Result<ArraySubset, Fail> {
+    let start = start.to_vec(alloc)?;
+    let shape = shape.to_vec(alloc)?;
+    Ok(ArraySubset::new_with_start_shape(start, shape)?)
+}
+
+fn bytes(alloc: Global, bytes: &[u8]) -> Result<ArrayBytes<'static>, Fail> {
+    Ok(ArrayBytes::new_flen(bytes.to_vec(alloc)?))
+}
+
+fn must_be(rt: &impl Abort, data: &ArrayBytes<'_>, bytes: &[u8]) {
+    let ArrayBytes::Fixed(held) = data else {
+        assert!(rt; false, "other data");
+        return;
+    };
+    assert!(rt; held.as_slice() == bytes);
+}
+
+fn must_hold(
+    rt: &impl Abort,
+    alloc: Global,
+    array: &MemoryArray,
+    cells: &[u8],
+) -> Result<(), Fail> {
+    let all = array.subset_all(alloc)?;
+    must_be(rt, &array.retrieve_array_subset(alloc, &all)?, cells);
+    Ok(())
+}
+
+/// Writes of a chunk, of a part of one, of a range of chunks and of a region.
+fn write(alloc: Global, array: &mut MemoryArray) -> Result<(), Fail> {
+    array.store_chunk(alloc, &[0, 0], &bytes(alloc, &[1, 2, 3, 4])?)?;
+    let part = region(alloc, &[1, 0], &[1, 2])?;
+    array.store_chunk_subset(alloc, &[0, 1], &part, &bytes(alloc, &[5, 6])?)?;
+    let chunks = region(alloc, &[1, 0], &[1, 2])?;
+    array.store_chunks(alloc, &chunks, &bytes(alloc, &[7; 8])?)?;
+    let middle = region(alloc, &[1, 1], &[2, 2])?;
+    array.store_array_subset(alloc, &middle, &bytes(alloc, &[9; 4])?)?;
+    Ok(())
+}
+
+#[test]
+fn what_is_written_is_in_its_region(rt: HostRuntime) -> Result<(), Fail> {
+    let alloc = rt.alloc();
+    let mut array = small_array(alloc)?;
+    write(alloc, &mut array)?;
+    must_hold(
+        &rt,
+        alloc,
+        &array,
+        &[
+            1, 2, 0, 0, //
+            3, 9, 9, 6, //
+            7, 9, 9, 7, //
+            7, 7, 7, 7,
+        ],
+    )
+}
+
+/// The same with options that keep empty chunks, and erasures of a chunk and of a range.
+fn write_with_options(alloc: Global, array: &mut MemoryArray) -> Result<(), Fail> {
+    let options = CodecOptions::default().with_store_empty_chunks(true);
+    array.store_chunk_opt(alloc, &[0, 0], &bytes(alloc, &[0; 4])?, &options)?;
+    let part = region(alloc, &[0, 0], &[1, 1])?;
+    array.store_chunk_subset_opt(alloc, &[0, 1], &part, &bytes(alloc, &[0])?, &options)?;
+    let chunks = region(alloc, &[1, 0], &[1, 2])?;
+    array.store_chunks_opt(alloc, &chunks, &bytes(alloc, &[0; 8])?, &options)?;
+    let all = array.subset_all(alloc)?;
+    array.store_array_subset_opt(alloc, &all, &bytes(alloc, &[0; 16])?, &options)?;
+    Ok(())
+}
+
+fn must_have_keys(
+    rt: &impl Abort,
+    alloc: Global,
+    array: &MemoryArray,
+    count: usize,
+) -> Result<(), Fail> {
+    assert_eq!(rt; array.storage().keys(alloc)?.len(), count);
+    Ok(())
+}
+
+#[test]
+fn empty_chunks_are_kept_and_erased(rt: HostRuntime) -> Result<(), Fail> {
+    let alloc = rt.alloc();
+    let mut array = small_array(alloc)?;
+    write_with_options(alloc, &mut array)?;
+    must_have_keys(&rt, alloc, &array, 4)?;
+    array.erase_chunk(alloc, &[0, 0])?;
+    array.erase_chunks(alloc, &region(alloc, &[1, 0], &[1, 2])?)?;
+    must_have_keys(&rt, alloc, &array, 1)
+}
+
+/// Reads of a chunk, of a part of one and of a range, and of the stored bytes.
+fn must_read(rt: &impl Abort, alloc: Global, array: &MemoryArray) -> Result<(), Fail> {
+    let part = region(alloc, &[0, 1], &[2, 1])?;
+    must_be(
+        rt,
+        &array.retrieve_chunk_subset(alloc, &[0, 0], &part)?,
+        &[2, 9],
+    );
+    let chunks = region(alloc, &[1, 0], &[1, 2])?;
+    must_be(
+        rt,
+        &array.retrieve_chunks(alloc, &chunks)?,
+        &[7, 9, 9, 7, 7, 7, 7, 7],
+    );
+    let found = array.retrieve_chunk_if_exists(alloc, &[0, 1])?;
+    must_be(rt, &found.ok_or("an absent chunk")?, &[0, 0, 9, 6]);
+    let stored = array.retrieve_encoded_chunk(alloc, &[1, 0])?;
+    assert!(rt; stored.ok_or("an absent chunk")?.as_slice() == [7, 9, 7, 7].as_slice());
+    assert_eq!(rt; array.retrieve_encoded_chunks(alloc, &chunks)?.len(), 2);
+    Ok(())
+}
+
+/// Reads two cells into a lent box, and one column into a box of another shape, which is refused.
+fn must_read_into(rt: &impl Abort, alloc: Global, array: &MemoryArray) -> Result<(), Fail> {
+    let mut lent = [8u8; 9];
+    let inside = region(alloc, &[1, 1], &[1, 2])?;
+    let mut target = ArrayBytesDecodeIntoTarget::new_fixed(&mut lent, 1, &[3, 3], &inside)?;
+    let cells = region(alloc, &[1, 2], &[1, 2])?;
+    array.retrieve_array_subset_into(alloc, &cells, &mut target)?;
+    let column = region(alloc, &[1, 2], &[2, 1])?;
+    let refused = array.retrieve_array_subset_into(alloc, &column, &mut target);
+    assert!(rt; matches!(refused, Err(zarrs::ArrayError::InvalidDataShape(_, _))));
+    assert!(rt; lent == [8, 8, 8, 8, 9, 6, 8, 8, 8]);
+    Ok(())
+}
+
+#[test]
+fn what_is_read_is_what_was_written(rt: HostRuntime) -> Result<(), Fail> {
+    let alloc = rt.alloc();
+    let mut array = small_array(alloc)?;
+    write(alloc, &mut array)?;
+    must_read(&rt, alloc, &array)?;
+    must_read_into(&rt, alloc, &array)
+}
+
+fn must_lie(rt: &impl Abort, alloc: Global, array: &MemoryArray) -> Result<(), Fail> {
+    assert_eq!(rt; array.chunk_key(alloc, &[1, 0])?.as_str(), "c/1/0");
+    assert_eq!(rt;
+        array.chunk_origin(alloc, &[1, 0])?.as_slice(),
+        [2, 0].as_slice()
+    );
+    assert_eq!(rt;
+        array.chunk_shape_usize(alloc, &[1, 0])?.as_slice(),
+        [2, 2].as_slice()
+    );
+    assert_eq!(rt; array.chunk_shape(alloc, &[1, 0])?.len(), 2);
+    let past = array.chunk_subset(alloc, &[1, 2])?;
+    assert_eq!(rt; past.start(), [2, 4].as_slice());
+    let cut = array.chunk_subset_bounded(alloc, &[1, 2])?;
+    assert_eq!(rt; cut.shape(), [2, 0].as_slice());
+    Ok(())
+}
+
+fn must_meet(rt: &impl Abort, alloc: Global, array: &MemoryArray) -> Result<(), Fail> {
+    let met = array.chunks_in_array_subset(alloc, &region(alloc, &[1, 1], &[1, 2])?)?;
+    assert_eq!(rt; met.ok_or("no chunks")?.shape(), [1, 2].as_slice());
+    let line = array.chunks_in_array_subset(alloc, &region(alloc, &[1], &[1])?);
+    assert!(rt;
+        matches!(
+            line,
+            Err(zarrs::ArrayError::IncompatibleDimensionalityError(_))
+        )
+    );
+    let none = array.chunk_subset(alloc, &[1]);
+    assert!(rt;
+        matches!(
+            none,
+            Err(zarrs::ArrayError::InvalidChunkGridIndicesError(_))
+        )
+    );
+    Ok(())
+}
+
+#[test]
+fn queries_say_where_chunks_lie(rt: HostRuntime) -> Result<(), Fail> {
+    let alloc = rt.alloc();
+    let array = small_array(alloc)?;
+    must_lie(&rt, alloc, &array)?;
+    must_meet(&rt, alloc, &array)
+}
