@@ -1,7 +1,10 @@
-//! Arrays by their documents.
+//! Arrays by their metadata.
 use anyhow::Result;
 use std::alloc::Global;
-use zarrs::{Array, ArrayBytes, ArrayMetadata, ArrayMetadataV3, ArraySubset};
+use zarrs::{
+    Array, ArrayBytes, ArrayMetadata, ArrayMetadataOptions, ArrayMetadataV3, ArraySubset,
+    MetadataConvertVersion,
+};
 use zarrs_storage::MemoryStore;
 
 /// An array that is made of the text of its document, which is then in its store.
@@ -27,4 +30,15 @@ pub fn read_region_at(
     let array = Array::open(alloc, storage, path)?;
     let cells = array.retrieve_array_subset(alloc, region)?;
     Ok(cells)
+}
+
+/// The V3 document of the array in the store, of whichever version its metadata is, as compact text.
+pub fn v3_text(alloc: Global, storage: MemoryStore, path: &str) -> Result<String> {
+    let array = Array::open(alloc, storage, path)?;
+    let options = ArrayMetadataOptions::default().with_metadata_convert_version(
+        MetadataConvertVersion::V3,
+    );
+    let metadata = array.metadata_opt(alloc, &options)?;
+    let text = metadata.to_value(alloc)?.to_string(alloc)?;
+    Ok(text)
 }

@@ -1,6 +1,6 @@
 //! Each use, run.
 use crate::chunks::{erase, is_present, store_and_read};
-use crate::documents::{create_array, read_region_at};
+use crate::documents::{create_array, read_region_at, v3_text};
 use crate::histories::{count_refused, have_equal_bytes};
 use crate::make::{MemoryEngine, bytes_array};
 use crate::refusals::advice;
@@ -13,7 +13,7 @@ use std::test::Fail;
 use zarrs_chunk_grid::ChunkShape;
 use zarrs_data_type::ArrayBytes;
 use zarrs_engine::{ArrayError, Call};
-use zarrs_storage::MemoryStore;
+use zarrs_storage::{Bytes, MemoryStore, StoreKey, WritableStorageTraits};
 use zarrs_subset::ArraySubset;
 
 /// The shape of chunks of 2 by 2 cells.
@@ -220,5 +220,37 @@ fn an_array_is_created_and_opened_again(rt: HostRuntime) -> Result<(), Fail> {
     let row = region(alloc, &[1, 0], &[1, 4])?;
     let cells = read_region_at(alloc, array.into_storage(), "/climate/rain", &row)?;
     must_hold(&rt, &cells, &[7, 7, 7, 7]);
+    Ok(())
+}
+
+/// The V2 document of an array of 6 texts, as zarr-python writes it, and the V3 document that it becomes.
+const V2_DOCUMENT: &[u8] = br#"{
+    "shape": [6],
+    "chunks": [2],
+    "dtype": "|O",
+    "fill_value": "",
+    "order": "C",
+    "filters": [{"id": "vlen-utf8"}],
+    "dimension_separator": "/",
+    "compressor": null,
+    "zarr_format": 2
+}"#;
+
+const CONVERTED: &str = concat!(
+    "{\"attributes\":{\"_zarrs\":{\"description\":\"This array was created with zarrs\",",
+    "\"repository\":\"https://github.com/zarrs/zarrs\",\"version\":\"0.23.13\"}},",
+    "\"chunk_grid\":{\"configuration\":{\"chunk_shape\":[2]},\"name\":\"regular\"},",
+    "\"chunk_key_encoding\":{\"configuration\":{\"separator\":\"/\"},\"name\":\"v2\"},",
+    "\"codecs\":[\"vlen-utf8\"],\"data_type\":\"string\",\"fill_value\":\"\",",
+    "\"node_type\":\"array\",\"shape\":[6],\"zarr_format\":3}"
+);
+
+#[test]
+fn a_v2_array_is_shown_in_v3(rt: HostRuntime) -> Result<(), Fail> {
+    let alloc = rt.alloc();
+    let mut storage = MemoryStore::new(alloc);
+    let key = StoreKey::new(alloc, "names/.zarray")?;
+    storage.set(alloc, &key, Bytes::from_static(V2_DOCUMENT))?;
+    assert_eq!(rt; v3_text(alloc, storage, "/names")?.as_str(), CONVERTED);
     Ok(())
 }
