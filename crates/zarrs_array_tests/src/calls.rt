@@ -3,7 +3,7 @@ use crate::made::{MemoryArray, array};
 use std::alloc::Global;
 use std::process::Abort;
 use std::test::Fail;
-use zarrs::{ArrayBytes, ArrayBytesDecodeIntoTarget, ArraySubset, CodecOptions};
+use zarrs::{ArrayBytes, ArrayBytesDecodeIntoTarget, ArraySubset, Call, CodecOptions, Reply};
 
 fn small_array(alloc: Global) -> Result<MemoryArray, Fail> {
     let grid = "{\"name\":\"regular\",\"configuration\":{\"chunk_shape\":[2,2]}}";
@@ -146,6 +146,26 @@ fn what_is_read_is_what_was_written(rt: HostRuntime) -> Result<(), Fail> {
     write(alloc, &mut array)?;
     must_read(&rt, alloc, &array)?;
     must_read_into(&rt, alloc, &array)
+}
+
+/// A list of calls: a store, and a read of indices without a chunk key.
+fn must_replay(rt: &impl Abort, alloc: Global, array: &mut MemoryArray) -> Result<(), Fail> {
+    let cells = bytes(alloc, &[1; 4])?;
+    let calls = vec![in alloc;
+        Call::StoreChunk(vec![in alloc; 0, 0]?, cells),
+        Call::RetrieveChunk(vec![in alloc; 0]?),
+    ]?;
+    let replies = array.replay(alloc, &calls, &CodecOptions::default())?;
+    assert!(rt; matches!(replies.as_slice(), [Reply::Done, Reply::Refused(_)]));
+    Ok(())
+}
+
+#[test]
+fn a_list_of_calls_has_a_reply_each(rt: HostRuntime) -> Result<(), Fail> {
+    let alloc = rt.alloc();
+    let mut array = small_array(alloc)?;
+    must_replay(&rt, alloc, &mut array)?;
+    must_have_keys(&rt, alloc, &array, 1)
 }
 
 fn must_lie(rt: &impl Abort, alloc: Global, array: &MemoryArray) -> Result<(), Fail> {
