@@ -1,5 +1,6 @@
 //! V2 arrays, and metadata in the other version.
 use crate::made::{MemoryArray, array};
+use serde_json::{Map, Value};
 use std::alloc::Global;
 use std::process::Abort;
 use std::test::Fail;
@@ -147,27 +148,40 @@ fn must_show(
     Ok(())
 }
 
-fn must_have_text(
-    rt: &impl Abort,
-    alloc: Global,
-    metadata: &ArrayMetadata,
-    text: &str,
-) -> Result<(), Fail> {
-    assert_eq!(rt; metadata.to_value(alloc)?.to_string(alloc)?.as_str(), text);
-    Ok(())
+#[test]
+fn v2_metadata_is_shown_in_v3(rt: HostRuntime) -> Result<(), Fail> {
+    let alloc = rt.alloc();
+    let array = open(alloc, &[(".zarray", COLUMNS)])?;
+    must_show(&rt, alloc, &array, &plain_v3(), CONVERTED)
+}
+
+/// The array has V3 metadata of this text, and its store has the V2 document alone.
+fn must_be_converted(rt: &impl Abort, alloc: Global, array: &MemoryArray) -> Result<(), Fail> {
+    let text = array.metadata().to_value(alloc)?.to_string(alloc)?;
+    assert_eq!(rt; text.as_str(), CONVERTED);
+    must_have_keys(rt, alloc, array.storage(), &[".zarray"])
 }
 
 #[test]
-fn v2_metadata_is_shown_and_turned_into_v3(rt: HostRuntime) -> Result<(), Fail> {
+fn a_v2_array_becomes_a_v3_array(rt: HostRuntime) -> Result<(), Fail> {
     let alloc = rt.alloc();
     let array = open(alloc, &[(".zarray", COLUMNS)])?;
-    must_show(&rt, alloc, &array, &plain_v3(), CONVERTED)?;
     let array = array.to_v3(alloc)?;
-    must_have_text(&rt, alloc, array.metadata(), CONVERTED)?;
-    must_have_keys(&rt, alloc, array.storage(), &[".zarray"])
+    must_be_converted(&rt, alloc, &array)
 }
 
-/// The attributes of the array, as compact text.
+fn must_have_members(
+    rt: &impl Abort,
+    alloc: Global,
+    attributes: &Map<String, Value>,
+    text: &str,
+) -> Result<(), Fail> {
+    let attributes = Value::Object(attributes.clone()?);
+    assert_eq!(rt; attributes.to_string(alloc)?.as_str(), text);
+    Ok(())
+}
+
+/// The attributes of the array that opens, as compact text.
 fn must_have_attributes(
     rt: &impl Abort,
     alloc: Global,
@@ -175,9 +189,7 @@ fn must_have_attributes(
     text: &str,
 ) -> Result<(), Fail> {
     let array = open(alloc, entries)?;
-    let attributes = serde_json::Value::Object(array.attributes().clone()?);
-    assert_eq!(rt; attributes.to_string(alloc)?.as_str(), text);
-    Ok(())
+    must_have_members(rt, alloc, array.attributes(), text)
 }
 
 #[test]
@@ -201,20 +213,42 @@ fn must_hold_text(
     name: &str,
     text: &str,
 ) -> Result<(), Fail> {
-    let value = serde_json::Value::from_str(alloc, text)?;
+    let value = Value::from_str(alloc, text)?;
     must_hold(rt, alloc, storage, name, &value.to_vec_pretty(alloc)?)
+}
+
+/// What is stored has the attribute of this library, and the array has its own.
+fn must_store_what_it_shows(
+    rt: &impl Abort,
+    alloc: Global,
+    array: &mut MemoryArray,
+) -> Result<(), Fail> {
+    let shown = array.metadata_opt(alloc, array.metadata_options())?;
+    array.store_metadata(alloc)?;
+    let text = shown.to_value(alloc)?.to_string(alloc)?;
+    must_hold_text(rt, alloc, array.storage(), "zarr.json", &text)?;
+    must_have_members(rt, alloc, array.attributes(), "{\"_zarrs\":1}")
 }
 
 #[test]
 fn the_attribute_of_this_library_is_stored_and_not_kept(rt: HostRuntime) -> Result<(), Fail> {
     let alloc = rt.alloc();
     let mut array = array(alloc, "/", &[("attributes", "{\"_zarrs\":1}")])?;
-    let shown = array.metadata_opt(alloc, array.metadata_options())?;
+    must_store_what_it_shows(&rt, alloc, &mut array)
+}
+
+/// The attributes are stored at their key, which is erased if there is none.
+fn must_store_two_parts(
+    rt: &impl Abort,
+    alloc: Global,
+    array: &mut MemoryArray,
+) -> Result<(), Fail> {
     array.store_metadata(alloc)?;
-    let text = shown.to_value(alloc)?.to_string(alloc)?;
-    must_hold_text(&rt, alloc, array.storage(), "zarr.json", &text)?;
-    let attributes = serde_json::Value::Object(array.attributes().clone()?);
-    assert_eq!(rt; attributes.to_string(alloc)?.as_str(), "{\"_zarrs\":1}");
+    must_hold_text(rt, alloc, array.storage(), ".zattrs", MADE_BY)?;
+    let options = ArrayMetadataOptions::default().with_include_zarrs_metadata(false);
+    array.store_metadata_opt(alloc, &options)?;
+    must_have_keys(rt, alloc, array.storage(), &[".zarray"])?;
+    assert_eq!(rt; array.storage().calls(), 6);
     Ok(())
 }
 
@@ -222,26 +256,40 @@ fn the_attribute_of_this_library_is_stored_and_not_kept(rt: HostRuntime) -> Resu
 fn v2_metadata_is_stored_in_two_parts(rt: HostRuntime) -> Result<(), Fail> {
     let alloc = rt.alloc();
     let mut array = open(alloc, &[(".zarray", COLUMNS), (".zattrs", "{}")])?;
-    array.store_metadata(alloc)?;
-    must_hold_text(&rt, alloc, array.storage(), ".zattrs", MADE_BY)?;
-    let options = ArrayMetadataOptions::default().with_include_zarrs_metadata(false);
-    array.store_metadata_opt(alloc, &options)?;
-    must_have_keys(&rt, alloc, array.storage(), &[".zarray"])?;
-    assert_eq!(rt; array.storage().calls(), 6);
-    Ok(())
+    must_store_two_parts(&rt, alloc, &mut array)
+}
+
+fn must_refuse_to_store(rt: &impl Abort, alloc: Global, array: &mut Array<Fault<MemoryStore>>) {
+    let refused = array.store_metadata(alloc);
+    assert!(rt; matches!(refused, Err(StorageError::Other(_))));
+}
+
+/// The attributes were stored, and the document is what it was.
+fn must_have_a_front(rt: &impl Abort, alloc: Global, storage: &MemoryStore) -> Result<(), Fail> {
+    must_have_keys(rt, alloc, storage, &[".zarray", ".zattrs"])?;
+    must_hold(rt, alloc, storage, ".zarray", WITH_ATTRIBUTES.as_bytes())
 }
 
 #[test]
 fn a_refused_store_of_v2_metadata_keeps_its_document(rt: HostRuntime) -> Result<(), Fail> {
     let alloc = rt.alloc();
-    let entries = [(".zarray", WITH_ATTRIBUTES)];
-    let storage = Fault::new(holding(alloc, &entries)?, Vec::new(alloc), Some(2));
+    let storage = holding(alloc, &[(".zarray", WITH_ATTRIBUTES)])?;
+    let storage = Fault::new(storage, Vec::new(alloc), Some(2));
     let mut array = Array::open(alloc, storage, "/")?;
-    let refused = array.store_metadata(alloc);
-    assert!(rt; matches!(refused, Err(StorageError::Other(_))));
+    must_refuse_to_store(&rt, alloc, &mut array);
     let storage = array.into_storage().into_inner();
-    must_have_keys(&rt, alloc, &storage, &[".zarray", ".zattrs"])?;
-    must_hold(&rt, alloc, &storage, ".zarray", WITH_ATTRIBUTES.as_bytes())
+    must_have_a_front(&rt, alloc, &storage)
+}
+
+fn must_erase(
+    rt: &impl Abort,
+    alloc: Global,
+    array: &mut MemoryArray,
+    version: MetadataEraseVersion,
+    names: &[&str],
+) -> Result<(), Fail> {
+    array.erase_metadata_opt(alloc, version)?;
+    must_have_keys(rt, alloc, array.storage(), names)
 }
 
 /// What is left of the metadata of both versions.
@@ -258,8 +306,7 @@ fn must_leave(
     ];
     let storage = holding(alloc, &entries)?;
     let mut array = Array::open_opt(alloc, storage, "/", &MetadataRetrieveVersion::V2)?;
-    array.erase_metadata_opt(alloc, version)?;
-    must_have_keys(rt, alloc, array.storage(), names)
+    must_erase(rt, alloc, &mut array, version, names)
 }
 
 #[test]
