@@ -9,7 +9,8 @@ ghost use Rattle.zarrs_subset.specs.Pieces.{piece_at};
 ghost use Rattle.zarrs_subset.specs.Regions.{box_of, box_at_origin};
 ghost use Rattle.zarrs_types.specs.Cell.{fill_cell, fill_of};
 ghost use Rattle.zarrs_types.specs.Kind.{Kind, kind};
-ghost use Rattle.zarrs_target.specs.Targets.{FillsBox, HasLevels, IsTargetOver, TakesLevels, depth_of, masked, takes_type};
+ghost use Rattle.zarrs_target.specs.Targets.{FillsBox, HasLevels, IsTargetOver, TakesLevels};
+ghost use Rattle.zarrs_target.specs.Targets.{depth_of, masked, takes_type};
 
 use std::alloc::{AllocError, Global};
 use zarrs_cells::ArrayBytes;
@@ -19,11 +20,11 @@ use zarrs_types::{DataType, FillValue};
 
 /// The box `region` of an array of `parent_shape`, which a caller lends to be written.
 ///
-/// `bytes` has a cell of `cell_size` bytes for each position of the parent, in row-major order. `masks` has `depth` parts,
-/// the outermost first, each with a byte for each position of the parent: one for each level of an optional type.
+/// `bytes` has a cell of `cell_size` bytes for each position of the parent, in row-major order. `masks` has `depth`
+/// parts, the outermost first, each with a byte for each position of the parent: one a level of an optional type.
 ///
-/// Each call requires `IsTarget`, which `over`, `new_fixed` and `new_optional` ensure. Each slice has a lifetime of its own,
-/// so that its lender knows what it ends as.
+/// Each call requires `IsTarget`, which `over`, `new_fixed` and `new_optional` ensure. Each slice has a lifetime of its
+/// own, so that its lender knows what it ends as.
 #[derive(Drop)]
 pub struct ArrayBytesDecodeIntoTarget<'a, 'm, 'r> {
     /// The cells of the parent.
@@ -46,8 +47,8 @@ impl<'a, 'm, 'r> ArrayBytesDecodeIntoTarget<'a, 'm, 'r> {
     /// Whether these are the parts of a target.
     ///
     /// # Errors
-    /// Bytes or masks of another length than the parent asks, a parent of more positions than a `u64` counts, or a box that
-    /// does not lie in the parent.
+    /// Bytes or masks of another length than the parent asks, a parent of more positions than a `u64` counts, or a box
+    /// that does not lie in the parent.
     pub fn check(
         bytes: &[u8],
         cell_size: usize,
@@ -125,8 +126,8 @@ impl<'a, 'm, 'r> ArrayBytesDecodeIntoTarget<'a, 'm, 'r> {
         ArrayBytesDecodeIntoTarget::new_optional(bytes, cell_size, &mut [], 0, parent_shape, region)
     }
 
-    /// The target of a type that is optional at `depth` levels: `masks` has a mask of the parent for each, the outermost
-    /// first.
+    /// The target of a type that is optional at `depth` levels: `masks` has a mask of the parent for each, the
+    /// outermost first.
     ///
     /// # Errors
     /// As `check`.
@@ -138,8 +139,8 @@ impl<'a, 'm, 'r> ArrayBytesDecodeIntoTarget<'a, 'm, 'r> {
         parent_shape: &'r [u64],
         region: &'r ArraySubset,
     ) -> Result<ArrayBytesDecodeIntoTarget<'a, 'm, 'r>, ArrayBytesFixedDisjointViewCreateError>
-        ensures accepted { IsOk result ↔ IsTargetOver (length bytes.old) cell_size (length masks.old)
-            depth parent_shape.now (box_of region.now) }
+        ensures accepted { IsOk result ↔ IsTargetOver (length bytes.old) cell_size
+            (length masks.old) depth parent_shape.now (box_of region.now) }
         ensures target { IfOk result (λ t. IsTarget t) }
         ensures same_bytes { IfOk result (λ t. t.bytes.ghost_name ≡ bytes.entry.ghost_name) }
         ensures same_masks { IfOk result (λ t. t.masks.ghost_name ≡ masks.entry.ghost_name) }
@@ -182,8 +183,8 @@ impl<'a, 'm, 'r> ArrayBytesDecodeIntoTarget<'a, 'm, 'r> {
         }
     }
 
-    /// Writes the cells of the box, in row-major order, to their places. What lies under a none moves with its mask. Every
-    /// byte outside the box stays.
+    /// Writes the cells of the box, in row-major order, to their places. What lies under a none moves with its mask.
+    /// Every byte outside the box stays.
     ///
     /// # Errors
     /// If memory runs out; then every byte stays.
@@ -200,7 +201,8 @@ impl<'a, 'm, 'r> ArrayBytesDecodeIntoTarget<'a, 'm, 'r> {
         ensures same_masks { self.new.masks.ghost_name ≡ self.old.masks.ghost_name }
         ensures same_box { SameBox self.old self.new }
         ensures written { OnOk result (TakesLevels self.old.cell_size (parent_box self.old)
-            (target_box self.old) (data_of region_data.now) (data_of_target self.old) (data_of_target self.new)) }
+            (target_box self.old) (data_of region_data.now)
+            (data_of_target self.old) (data_of_target self.new)) }
         ensures cells { OnOk result ((k : Kind)
             → takes_type self.old.cell_size self.old.depth k ≡ true
             → fits k (data_of region_data.now) (position_count (target_box self.old).shape) ≡ true
@@ -323,8 +325,10 @@ fn write_mask(place: &Place<'_>, masks: &mut [u8], mask: &[u8])
 fn write_part(place: &Place<'_>, target: &mut [u8], part: &[u8], size: usize)
     requires dimensions { length (box_of place.now.parent.now).start
         ≡ length (box_of place.now.region.now).start }
-    requires target_len { length target.old ≡ position_count (box_of place.now.parent.now).shape * size }
-    requires part_len { length part.now ≡ position_count (box_of place.now.region.now).shape * size }
+    requires target_len { length target.old
+        ≡ position_count (box_of place.now.parent.now).shape * size }
+    requires part_len { length part.now
+        ≡ position_count (box_of place.now.region.now).shape * size }
     ensures { TakesAt (box_of place.now.parent.now) (box_of place.now.region.now)
         (piece_at size part.now) (piece_at size target.old) (piece_at size target.new) }
 {

@@ -25,12 +25,13 @@ impl<
     ghost use Rattle.zarrs_engine.specs.Engine.{layout_of, state_of, store_of};
     ghost use Rattle.zarrs_engine.specs.Into.{HasContent, RefusesRetrieveInto, RetrievesInto, target_refusal};
 
-    /// Reads the region into the target's box: its cells stand there in row-major order. Every byte outside the box stays.
+    /// Reads the region into the target's box, where its cells stand in row-major order. Every byte outside the box
+    /// stays.
     ///
     /// # Errors
     /// In this order: E1 for another number of dimensions; E4 for a target of another cell size or depth than the data
-    /// type's, of which a variable type has none; E6 for a box of another shape than the region's; E1 for a position that
-    /// no chunk covers; then as `retrieve_array_subset`. E9 may come at any time. Then every byte of the target stays.
+    /// type's, of which a variable type has none; E6 for a box of another shape than the region's; E1 for a position
+    /// that no chunk covers; then as `retrieve_array_subset`. E9 may come at any time. Then every byte stays.
     pub fn retrieve_array_subset_into(
         &self,
         alloc: Global,
@@ -73,11 +74,12 @@ impl<
         region: &ArraySubset,
         target: &ArrayBytesDecodeIntoTarget<'_, '_, '_>,
     ) -> Result<(), ArrayError>
-        ensures dimensions { OnOk result ((length (box_of region.now).start)
+        ensures dimensions { OnOk result (length (box_of region.now).start
             ≡ (layout_of self.now).grid.dimensions) }
         ensures takes { OnOk result (takes_type target.now.cell_size target.now.depth
             (layout_of self.now).kind ≡ true) }
-        ensures same_shape { OnOk result ((target_box target.now).shape ≡ (box_of region.now).shape) }
+        ensures same_shape { OnOk result
+            ((target_box target.now).shape ≡ (box_of region.now).shape) }
         ensures refused { IfErr result (λ e. RefusesBy (target_refusal (layout_of self.now)
             (G.array_extents self.now.parts.grid) (box_of region.now) target.now) (refusal_of e)) }
     {
