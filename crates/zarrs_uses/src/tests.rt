@@ -41,16 +41,24 @@ fn must_be_present(
     Ok(())
 }
 
+fn must_store_read_and_erase(
+    rt: &impl Abort,
+    alloc: Global,
+    engine: &mut MemoryEngine,
+) -> Result<(), Fail> {
+    must_be_present(rt, alloc, engine, false)?;
+    let data = store_and_read(alloc, engine, &[1, 0], &[5, 6, 7, 8])?;
+    must_hold(rt, &data, &[5, 6, 7, 8]);
+    must_be_present(rt, alloc, engine, true)?;
+    erase(alloc, engine, &[1, 0])?;
+    must_be_present(rt, alloc, engine, false)
+}
+
 #[test]
 fn a_chunk_is_stored_read_and_erased(rt: HostRuntime) -> Result<(), Fail> {
     let alloc = rt.alloc();
     let mut engine = small_array(alloc)?;
-    must_be_present(&rt, alloc, &engine, false)?;
-    let data = store_and_read(alloc, &mut engine, &[1, 0], &[5, 6, 7, 8])?;
-    must_hold(&rt, &data, &[5, 6, 7, 8]);
-    must_be_present(&rt, alloc, &engine, true)?;
-    erase(alloc, &mut engine, &[1, 0])?;
-    must_be_present(&rt, alloc, &engine, false)
+    must_store_read_and_erase(&rt, alloc, &mut engine)
 }
 
 fn must_sum(
@@ -64,15 +72,19 @@ fn must_sum(
     Ok(())
 }
 
+fn must_walk(rt: &impl Abort, alloc: Global, engine: &mut MemoryEngine) -> Result<(), Fail> {
+    let _ = store_and_read(alloc, engine, &[0, 0], &[1, 2, 3, 4])?;
+    let _ = store_and_read(alloc, engine, &[0, 1], &[10, 10, 10, 10])?;
+    must_sum(rt, alloc, engine, Some(10), 2)?;
+    must_sum(rt, alloc, engine, Some(50), 3)?;
+    must_sum(rt, alloc, engine, None, u64::MAX)
+}
+
 #[test]
 fn the_chunks_of_a_region_are_walked(rt: HostRuntime) -> Result<(), Fail> {
     let alloc = rt.alloc();
     let mut engine = small_array(alloc)?;
-    let _ = store_and_read(alloc, &mut engine, &[0, 0], &[1, 2, 3, 4])?;
-    let _ = store_and_read(alloc, &mut engine, &[0, 1], &[10, 10, 10, 10])?;
-    must_sum(&rt, alloc, &engine, Some(10), 2)?;
-    must_sum(&rt, alloc, &engine, Some(50), 3)?;
-    must_sum(&rt, alloc, &engine, None, u64::MAX)
+    must_walk(&rt, alloc, &mut engine)
 }
 
 fn region(alloc: Global, start: &[u64], shape: &[u64]) -> Result<ArraySubset, Fail> {
@@ -92,43 +104,85 @@ fn must_read_part(
     Ok(())
 }
 
+fn must_read_columns(
+    rt: &impl Abort,
+    alloc: Global,
+    engine: &mut MemoryEngine,
+) -> Result<(), Fail> {
+    let _ = store_and_read(alloc, engine, &[1, 0], &[5, 6, 7, 8])?;
+    let column = region(alloc, &[0, 1], &[2, 1])?;
+    must_read_part(rt, alloc, engine, &[1, 0], &column, &[6, 8])?;
+    must_read_part(rt, alloc, engine, &[0, 0], &column, &[0, 0])
+}
+
 #[test]
 fn a_part_of_a_chunk_is_read(rt: HostRuntime) -> Result<(), Fail> {
     let alloc = rt.alloc();
     let mut engine = small_array(alloc)?;
-    let _ = store_and_read(alloc, &mut engine, &[1, 0], &[5, 6, 7, 8])?;
-    let column = region(alloc, &[0, 1], &[2, 1])?;
-    must_read_part(&rt, alloc, &engine, &[1, 0], &column, &[6, 8])?;
-    must_read_part(&rt, alloc, &engine, &[0, 0], &column, &[0, 0])
+    must_read_columns(&rt, alloc, &mut engine)
+}
+
+fn must_store_across_chunks(
+    rt: &impl Abort,
+    alloc: Global,
+    engine: &mut MemoryEngine,
+) -> Result<(), Fail> {
+    let _ = store_and_read(alloc, engine, &[0, 0], &[5, 6, 7, 8])?;
+    let middle = region(alloc, &[1, 1], &[2, 2])?;
+    store_region(alloc, engine, &middle, &[1, 2, 3, 4])?;
+    let whole = region(alloc, &[0, 0], &[2, 2])?;
+    must_read_part(rt, alloc, engine, &[0, 0], &whole, &[5, 6, 7, 1])?;
+    must_read_part(rt, alloc, engine, &[0, 1], &whole, &[0, 0, 2, 0])?;
+    must_read_part(rt, alloc, engine, &[1, 0], &whole, &[0, 3, 0, 0])?;
+    must_read_part(rt, alloc, engine, &[1, 1], &whole, &[4, 0, 0, 0])
 }
 
 #[test]
 fn a_region_is_stored_across_chunks(rt: HostRuntime) -> Result<(), Fail> {
     let alloc = rt.alloc();
     let mut engine = small_array(alloc)?;
-    let _ = store_and_read(alloc, &mut engine, &[0, 0], &[5, 6, 7, 8])?;
-    let middle = region(alloc, &[1, 1], &[2, 2])?;
-    store_region(alloc, &mut engine, &middle, &[1, 2, 3, 4])?;
-    let whole = region(alloc, &[0, 0], &[2, 2])?;
-    must_read_part(&rt, alloc, &engine, &[0, 0], &whole, &[5, 6, 7, 1])?;
-    must_read_part(&rt, alloc, &engine, &[0, 1], &whole, &[0, 0, 2, 0])?;
-    must_read_part(&rt, alloc, &engine, &[1, 0], &whole, &[0, 3, 0, 0])?;
-    must_read_part(&rt, alloc, &engine, &[1, 1], &whole, &[4, 0, 0, 0])
+    must_store_across_chunks(&rt, alloc, &mut engine)
 }
 
 fn must_advise<T>(rt: &impl Abort, got: &Result<T, ArrayError>, text: &str) {
     assert!(rt; matches!(got, Err(error) if advice(error) == text));
 }
 
+fn must_refuse_chunks(
+    rt: &impl Abort,
+    alloc: Global,
+    engine: &mut MemoryEngine,
+) -> Result<(), Fail> {
+    let got = store_and_read(alloc, engine, &[0], &[1, 2, 3, 4]);
+    must_advise(rt, &got, "no chunk has these indices: ask the grid");
+    let unfit = "the cells do not fit, or the bytes in the store are no chunk";
+    let got = store_and_read(alloc, engine, &[0, 0], &[1, 2, 3]);
+    must_advise(rt, &got, unfit);
+    Ok(())
+}
+
 #[test]
 fn refusals_of_chunks_are_told_apart(rt: HostRuntime) -> Result<(), Fail> {
     let alloc = rt.alloc();
     let mut engine = small_array(alloc)?;
-    let got = store_and_read(alloc, &mut engine, &[0], &[1, 2, 3, 4]);
-    must_advise(&rt, &got, "no chunk has these indices: ask the grid");
-    let unfit = "the cells do not fit, or the bytes in the store are no chunk";
-    let got = store_and_read(alloc, &mut engine, &[0, 0], &[1, 2, 3]);
-    must_advise(&rt, &got, unfit);
+    must_refuse_chunks(&rt, alloc, &mut engine)
+}
+
+fn must_refuse_regions(
+    rt: &impl Abort,
+    alloc: Global,
+    engine: &mut MemoryEngine,
+) -> Result<(), Fail> {
+    let passing = region(alloc, &[1, 1], &[2, 2])?;
+    let got = part_of_chunk(alloc, engine, &[1, 1], &passing);
+    must_advise(rt, &got, "the part does not lie in its chunk");
+    let far = region(alloc, &[0, u64::MAX - 1], &[1, 1])?;
+    let got = store_region(alloc, engine, &far, &[1]);
+    must_advise(
+        rt,
+        &got,
+        "the chunks do not cover this region: ask the grid",
+    );
     Ok(())
 }
 
@@ -136,23 +190,44 @@ fn refusals_of_chunks_are_told_apart(rt: HostRuntime) -> Result<(), Fail> {
 fn refusals_of_regions_are_told_apart(rt: HostRuntime) -> Result<(), Fail> {
     let alloc = rt.alloc();
     let mut engine = small_array(alloc)?;
-    let passing = region(alloc, &[1, 1], &[2, 2])?;
-    let got = part_of_chunk(alloc, &engine, &[1, 1], &passing);
-    must_advise(&rt, &got, "the part does not lie in its chunk");
-    let far = region(alloc, &[0, u64::MAX - 1], &[1, 1])?;
-    let got = store_region(alloc, &mut engine, &far, &[1]);
-    must_advise(
-        &rt,
-        &got,
-        "the chunks do not cover this region: ask the grid",
-    );
-    Ok(())
+    must_refuse_regions(&rt, alloc, &mut engine)
 }
 
 /// A store of these cells in chunk (0, 0).
 fn store_call(alloc: Global, cells: &[u8]) -> Result<Call, Fail> {
     let data = ArrayBytes::new_flen(cells.to_vec(alloc)?);
     Ok(Call::StoreChunk(vec![in alloc; 0, 0]?, data))
+}
+
+/// So many of the calls are refused.
+fn must_refuse(
+    rt: &impl Abort,
+    alloc: Global,
+    engine: &mut MemoryEngine,
+    calls: &[Call],
+    refused: usize,
+) -> Result<(), Fail> {
+    assert_eq!(rt; count_refused(alloc, engine, calls)?, refused);
+    Ok(())
+}
+
+/// The array after these calls, of which none is refused.
+fn array_after(rt: &impl Abort, alloc: Global, calls: &[Call]) -> Result<MemoryEngine, Fail> {
+    let mut engine = small_array(alloc)?;
+    must_refuse(rt, alloc, &mut engine, calls, 0)?;
+    Ok(engine)
+}
+
+fn must_be_equal(
+    rt: &impl Abort,
+    alloc: Global,
+    first: &MemoryEngine,
+    second: &MemoryEngine,
+    equal: bool,
+) -> Result<(), Fail> {
+    let found = have_equal_bytes(alloc, first.storage(), second.storage())?;
+    assert_eq!(rt; found, equal);
+    Ok(())
 }
 
 fn must_leave_equal_bytes(
@@ -162,15 +237,9 @@ fn must_leave_equal_bytes(
     other: &[Call],
     equal: bool,
 ) -> Result<(), Fail> {
-    let mut first = small_array(alloc)?;
-    let mut second = small_array(alloc)?;
-    assert_eq!(rt; count_refused(alloc, &mut first, one)?, 0);
-    assert_eq!(rt; count_refused(alloc, &mut second, other)?, 0);
-    assert_eq!(rt;
-        have_equal_bytes(alloc, first.storage(), second.storage())?,
-        equal
-    );
-    Ok(())
+    let first = array_after(rt, alloc, one)?;
+    let second = array_after(rt, alloc, other)?;
+    must_be_equal(rt, alloc, &first, &second, equal)
 }
 
 #[test]
@@ -197,8 +266,7 @@ fn refused_calls_are_counted(rt: HostRuntime) -> Result<(), Fail> {
         Call::RetrieveChunk(vec![in alloc; 0, 0]?),
     ]?;
     let mut engine = small_array(alloc)?;
-    assert_eq!(rt; count_refused(alloc, &mut engine, &calls)?, 2);
-    Ok(())
+    must_refuse(&rt, alloc, &mut engine, &calls, 2)
 }
 
 /// The document of an array of 4 by 4 bytes in chunks of 2 by 2, whose cells are 7 where none was written.
