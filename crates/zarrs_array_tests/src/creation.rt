@@ -39,6 +39,15 @@ fn must_have_texts(rt: &impl Abort, array: &MemoryArray) -> Result<(), Fail> {
     Ok(())
 }
 
+fn must_have_its_parts(rt: &impl Abort, alloc: Global, array: &MemoryArray) -> Result<(), Fail> {
+    must_have_a_shape(rt, array);
+    must_have_cells(rt, array);
+    must_have_texts(rt, array)?;
+    assert_eq!(rt; array.storage().calls(), 0);
+    assert!(rt; array.storage().keys(alloc)?.is_empty());
+    Ok(())
+}
+
 #[test]
 fn an_array_has_the_parts_of_its_document(rt: HostRuntime) -> Result<(), Fail> {
     let alloc = rt.alloc();
@@ -48,12 +57,7 @@ fn an_array_has_the_parts_of_its_document(rt: HostRuntime) -> Result<(), Fail> {
         ("fill_value", "7"),
     ];
     let array = array(alloc, "/array", &changes)?;
-    must_have_a_shape(&rt, &array);
-    must_have_cells(&rt, &array);
-    must_have_texts(&rt, &array)?;
-    assert_eq!(rt; array.storage().calls(), 0);
-    assert!(rt; array.into_storage().keys(alloc)?.is_empty());
-    Ok(())
+    must_have_its_parts(&rt, alloc, &array)
 }
 
 /// A fault for each refusal, the first one first.

@@ -77,49 +77,69 @@ fn must_read(
     Ok(())
 }
 
+fn must_store(rt: &impl Abort, alloc: Global, array: &mut MemoryArray) -> Result<(), Fail> {
+    array.store_metadata(alloc)?;
+    must_hold_its_text(rt, alloc, array, "array/zarr.json")?;
+    must_have_keys(rt, alloc, array.storage(), &["array/zarr.json"])?;
+    assert_eq!(rt; array.storage().calls(), 1);
+    Ok(())
+}
+
+/// The array is that of the document, and a chunk of it is stored.
+fn must_go_on(rt: &impl Abort, alloc: Global, array: &mut MemoryArray) -> Result<(), Fail> {
+    must_be_of_the_text(rt, alloc, array, BYTES)?;
+    must_read(rt, alloc, array, &[0, 1], &[0; 16])?;
+    let cells = ArrayBytes::new_flen(vec![in alloc; 5u8; 16]?);
+    array.store_chunk(alloc, &[0, 1], &cells)?;
+    must_read(rt, alloc, array, &[0, 1], &[5; 16])?;
+    must_have_keys(
+        rt,
+        alloc,
+        array.storage(),
+        &["array/c/0/1", "array/zarr.json"],
+    )
+}
+
 #[test]
 fn an_array_is_stored_and_opened(rt: HostRuntime) -> Result<(), Fail> {
     let alloc = rt.alloc();
     let mut array = array(alloc, "/array", &[])?;
-    array.store_metadata(alloc)?;
-    must_hold_its_text(&rt, alloc, &array, "array/zarr.json")?;
-    let storage = array.into_storage();
-    must_have_keys(&rt, alloc, &storage, &["array/zarr.json"])?;
-    assert_eq!(rt; storage.calls(), 1);
-    let mut opened = Array::open(alloc, storage, "/array")?;
-    must_be_of_the_text(&rt, alloc, &opened, BYTES)?;
-    must_read(&rt, alloc, &opened, &[0, 1], &[0; 16])?;
-    let cells = ArrayBytes::new_flen(vec![in alloc; 5u8; 16]?);
-    opened.store_chunk(alloc, &[0, 1], &cells)?;
-    must_read(&rt, alloc, &opened, &[0, 1], &[5; 16])?;
-    let storage = opened.into_storage();
-    must_have_keys(&rt, alloc, &storage, &["array/c/0/1", "array/zarr.json"])
+    must_store(&rt, alloc, &mut array)?;
+    let mut opened = Array::open(alloc, array.into_storage(), "/array")?;
+    must_go_on(&rt, alloc, &mut opened)
 }
 
-fn must_lie_at(rt: &impl Abort, array: &MemoryArray, path: &str) {
-    assert_eq!(rt; array.path().as_str(), path);
+fn must_lie_at(rt: &impl Abort, alloc: Global, array: &MemoryArray) -> Result<(), Fail> {
+    assert_eq!(rt; array.path().as_str(), "/a/b");
     assert_eq!(rt; array.storage().calls(), 1);
+    must_be_of_the_text(rt, alloc, array, BYTES)?;
+    must_hold_its_text(rt, alloc, array, "a/b/zarr.json")
 }
 
 #[test]
 fn an_array_is_written_and_opened(rt: HostRuntime) -> Result<(), Fail> {
     let alloc = rt.alloc();
     let opened = written_and_opened(alloc, array(alloc, "/a/b", &[])?)?;
-    must_lie_at(&rt, &opened, "/a/b");
-    must_be_of_the_text(&rt, alloc, &opened, BYTES)?;
-    must_hold_its_text(&rt, alloc, &opened, "a/b/zarr.json")
+    must_lie_at(&rt, alloc, &opened)
+}
+
+fn must_store_and_erase(
+    rt: &impl Abort,
+    alloc: Global,
+    array: &mut MemoryArray,
+) -> Result<(), Fail> {
+    array.store_metadata(alloc)?;
+    must_hold_its_text(rt, alloc, array, "zarr.json")?;
+    array.erase_metadata(alloc)?;
+    assert_eq!(rt; array.storage().calls(), 2);
+    must_have_keys(rt, alloc, array.storage(), &[])
 }
 
 #[test]
 fn the_root_has_the_key_alone(rt: HostRuntime) -> Result<(), Fail> {
     let alloc = rt.alloc();
     let mut array = array(alloc, "/", &[("attributes", "{\"a\":[1,null]}")])?;
-    array.store_metadata(alloc)?;
-    must_hold_its_text(&rt, alloc, &array, "zarr.json")?;
-    array.erase_metadata(alloc)?;
-    let storage = array.into_storage();
-    assert_eq!(rt; storage.calls(), 2);
-    must_have_keys(&rt, alloc, &storage, &[])
+    must_store_and_erase(&rt, alloc, &mut array)
 }
 
 /// A store that holds these bytes at `zarr.json`.
@@ -236,13 +256,17 @@ fn e12_names_the_first_field(rt: HostRuntime) -> Result<(), Fail> {
     must_name_the_field(&rt, alloc, &error)
 }
 
+fn must_have_a_field(rt: &impl Abort, array: &MemoryArray) -> Result<(), Fail> {
+    assert_eq!(rt; document_of(array)?.additional_fields.len(), 1);
+    Ok(())
+}
+
 #[test]
 fn a_field_that_need_not_be_understood(rt: HostRuntime) -> Result<(), Fail> {
     let alloc = rt.alloc();
     let changes = [("a", "{\"must_understand\":false,\"x\":1}")];
     let array = Array::open(alloc, holding_document(alloc, &changes)?, "/")?;
-    assert_eq!(rt; document_of(&array)?.additional_fields.len(), 1);
-    Ok(())
+    must_have_a_field(&rt, &array)
 }
 
 fn must_be_no_chain(rt: &impl Abort, error: &ArrayCreateError) {
