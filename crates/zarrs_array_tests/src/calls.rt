@@ -94,6 +94,66 @@ fn must_have_keys(
     Ok(())
 }
 
+/// A caller asks the array for the number of dimensions before it erases a chunk, or asks for its key or its bytes.
+fn erase(alloc: Global, array: &mut MemoryArray, indices: &[u64]) -> Result<(), Fail> {
+    if indices.len() != array.dimensionality() {
+        return Err("another number of dimensions".into());
+    }
+    array.erase_chunk(alloc, indices)?;
+    Ok(())
+}
+
+fn erase_range(alloc: Global, array: &mut MemoryArray, chunks: &ArraySubset) -> Result<(), Fail> {
+    if chunks.dimensionality() != array.dimensionality() {
+        return Err("another number of dimensions".into());
+    }
+    array.erase_chunks(alloc, chunks)?;
+    Ok(())
+}
+
+fn must_have_key(
+    rt: &impl Abort,
+    alloc: Global,
+    array: &MemoryArray,
+    indices: &[u64],
+    key: &str,
+) -> Result<(), Fail> {
+    if indices.len() != array.dimensionality() {
+        return Err("another number of dimensions".into());
+    }
+    assert_eq!(rt; array.chunk_key(alloc, indices)?.as_str(), key);
+    Ok(())
+}
+
+fn must_be_stored(
+    rt: &impl Abort,
+    alloc: Global,
+    array: &MemoryArray,
+    indices: &[u64],
+    bytes: &[u8],
+) -> Result<(), Fail> {
+    if indices.len() != array.dimensionality() {
+        return Err("another number of dimensions".into());
+    }
+    let stored = array.retrieve_encoded_chunk(alloc, indices)?;
+    assert!(rt; stored.ok_or("an absent chunk")?.as_slice() == bytes);
+    Ok(())
+}
+
+fn must_store_so_many(
+    rt: &impl Abort,
+    alloc: Global,
+    array: &MemoryArray,
+    chunks: &ArraySubset,
+    count: usize,
+) -> Result<(), Fail> {
+    if chunks.dimensionality() != array.dimensionality() {
+        return Err("another number of dimensions".into());
+    }
+    assert_eq!(rt; array.retrieve_encoded_chunks(alloc, chunks)?.len(), count);
+    Ok(())
+}
+
 fn must_keep_and_erase(
     rt: &impl Abort,
     alloc: Global,
@@ -101,8 +161,8 @@ fn must_keep_and_erase(
 ) -> Result<(), Fail> {
     write_with_options(alloc, array)?;
     must_have_keys(rt, alloc, array, 4)?;
-    array.erase_chunk(alloc, &[0, 0])?;
-    array.erase_chunks(alloc, &region(alloc, &[1, 0], &[1, 2])?)?;
+    erase(alloc, array, &[0, 0])?;
+    erase_range(alloc, array, &region(alloc, &[1, 0], &[1, 2])?)?;
     must_have_keys(rt, alloc, array, 1)
 }
 
@@ -129,10 +189,8 @@ fn must_read(rt: &impl Abort, alloc: Global, array: &MemoryArray) -> Result<(), 
     );
     let found = array.retrieve_chunk_if_exists(alloc, &[0, 1])?;
     must_be(rt, &found.ok_or("an absent chunk")?, &[0, 0, 9, 6]);
-    let stored = array.retrieve_encoded_chunk(alloc, &[1, 0])?;
-    assert!(rt; stored.ok_or("an absent chunk")?.as_slice() == [7, 9, 7, 7].as_slice());
-    assert_eq!(rt; array.retrieve_encoded_chunks(alloc, &chunks)?.len(), 2);
-    Ok(())
+    must_be_stored(rt, alloc, array, &[1, 0], &[7, 9, 7, 7])?;
+    must_store_so_many(rt, alloc, array, &chunks, 2)
 }
 
 /// Reads two cells into a lent box, and one column into a box of another shape, which is refused.
@@ -182,7 +240,7 @@ fn a_list_of_calls_has_a_reply_each(rt: HostRuntime) -> Result<(), Fail> {
 }
 
 fn must_lie(rt: &impl Abort, alloc: Global, array: &MemoryArray) -> Result<(), Fail> {
-    assert_eq!(rt; array.chunk_key(alloc, &[1, 0])?.as_str(), "c/1/0");
+    must_have_key(rt, alloc, array, &[1, 0], "c/1/0")?;
     assert_eq!(rt;
         array.chunk_origin(alloc, &[1, 0])?.as_slice(),
         [2, 0].as_slice()
