@@ -8,7 +8,11 @@ ghost use Rattle.zarrs_document.specs.Members.{reads_as_text};
 ghost use Rattle.zarrs_metadata.specs.Extension.{extension_view};
 ghost use Rattle.zarrs_metadata.specs.FillValue.{fill_data};
 ghost use Rattle.zarrs_document.specs.View.{document_view};
-ghost use Rattle.zarrs_document_v2.specs.Conversion.{is_vlen_utf8, has_no_filter, has_text_filter, has_filters_of, is_uncompressed, extension_with_member, endian_name, bytes_codec, cells_codec, count_down, order_codecs, converted, to_v3};
+ghost use Rattle.zarrs_document_v2.specs.Conversion.{is_vlen_utf8, has_no_filter, has_text_filter};
+ghost use Rattle.zarrs_document_v2.specs.Conversion.{has_filters_of, is_uncompressed};
+ghost use Rattle.zarrs_document_v2.specs.Conversion.{extension_with_member, endian_name};
+ghost use Rattle.zarrs_document_v2.specs.Conversion.{bytes_codec, cells_codec, count_down};
+ghost use Rattle.zarrs_document_v2.specs.Conversion.{order_codecs, converted, to_v3};
 ghost use Rattle.zarrs_document_v2.specs.Refusals.{RefusesConversion};
 ghost use Rattle.zarrs_document_v2.specs.View.{document_v2_view};
 

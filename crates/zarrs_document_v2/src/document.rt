@@ -4,7 +4,10 @@ ghost use Rattle.std.specs.Int.NonZero.{non_zero_u64_get};
 ghost use Rattle.serde_json.specs.View.{view, members_view};
 ghost use Rattle.zarrs_metadata.specs.FillValue.{fill_data};
 ghost use Rattle.zarrs_document.specs.Refusals.{RefusesReading};
-ghost use Rattle.zarrs_document_v2.specs.Document.{document_v2_of, plain_document_v2_of, document_v2_said, plain_document_v2, without_attributes, data_of_v2, IsDocumentV2Text, IsAttributesText};
+ghost use Rattle.zarrs_document_v2.specs.Document.{document_v2_of, plain_document_v2_of};
+ghost use Rattle.zarrs_document_v2.specs.Document.{document_v2_said, plain_document_v2};
+ghost use Rattle.zarrs_document_v2.specs.Document.{without_attributes, data_of_v2};
+ghost use Rattle.zarrs_document_v2.specs.Document.{IsDocumentV2Text, IsAttributesText};
 ghost use Rattle.zarrs_document_v2.specs.View.{document_v2_view};
 
 use crate::order::ArrayMetadataV2Order;

@@ -5,7 +5,9 @@ ghost use Rattle.serde_json.specs.Find.{as_str};
 ghost use Rattle.serde_json.specs.View.{view, items_view, members_view};
 ghost use Rattle.zarrs_metadata.specs.Lists.{all_of};
 ghost use Rattle.zarrs_document.specs.Members.{list_in};
-ghost use Rattle.zarrs_document_v2.specs.Document.{size_of, chunk_order_of, dimension_separator_in, parts_of_v2, draft_of_v2, assembled_v2, document_v2_from, document_v2_of};
+ghost use Rattle.zarrs_document_v2.specs.Document.{size_of, chunk_order_of, dimension_separator_in};
+ghost use Rattle.zarrs_document_v2.specs.Document.{parts_of_v2, draft_of_v2, assembled_v2};
+ghost use Rattle.zarrs_document_v2.specs.Document.{document_v2_from, document_v2_of};
 ghost use Rattle.zarrs_document_v2.specs.View.{document_v2_view, parts_v2_view, draft_v2_view};
 
 use crate::document::ArrayMetadataV2;

@@ -4,7 +4,9 @@ ghost use Rattle.serde_json.specs.Data.{number};
 ghost use Rattle.serde_json.specs.View.{number_view};
 ghost use Rattle.zarrs_metadata.specs.FillValue.{fill_data};
 ghost use Rattle.zarrs_metadata.specs.Lists.{number_data};
-ghost use Rattle.zarrs_document_v2.specs.Conversion.{wide_kind, narrow_kind, type_v2, kind_name, is_text_kind, bool_fill, is_number_within, is_up_to, number_fill, text_fill, fill_v3};
+ghost use Rattle.zarrs_document_v2.specs.Conversion.{wide_kind, narrow_kind, type_v2, kind_name};
+ghost use Rattle.zarrs_document_v2.specs.Conversion.{is_text_kind, bool_fill, is_number_within};
+ghost use Rattle.zarrs_document_v2.specs.Conversion.{is_up_to, number_fill, text_fill, fill_v3};
 
 use serde_json::Number;
 use std::alloc::{AllocError, Global};
