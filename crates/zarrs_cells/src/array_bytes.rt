@@ -141,7 +141,7 @@ impl<'a> ArrayBytes<'a> {
     ///
     /// # Errors
     /// `AllocError`: out of memory.
-    pub fn into_owned(self, alloc: Global) -> Result<ArrayBytes<'static>, AllocError>
+    pub fn into_owned<'b>(self, alloc: Global) -> Result<ArrayBytes<'b>, AllocError>
         ensures { IfOk result (λ owned. data_of owned ≡ data_of self.entry) }
     {
         match self {

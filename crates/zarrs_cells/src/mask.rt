@@ -47,7 +47,7 @@ impl<'a> Mask<'a> {
     }
 
     /// The same mask, owned.
-    pub(crate) fn into_owned(self, alloc: Global) -> Result<Mask<'static>, AllocError>
+    pub(crate) fn into_owned<'b>(self, alloc: Global) -> Result<Mask<'b>, AllocError>
         ensures { IfOk result (λ owned. owned ≡ self.entry) }
     {
         Ok(Mask {

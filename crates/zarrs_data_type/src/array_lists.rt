@@ -1,11 +1,11 @@
 //! Lists of values and array bytes, which stand for the same cells.
-ghost use Rattle.std.specs.Prelude.{◌≡◌, Bool, true, map, Some, IfOk, IfErr};
+ghost use Rattle.std.specs.Prelude.{◌≡◌, Bool, true, map, Some, IfOk, IfErr, OnOk};
 ghost use Rattle.zarrs_cells.specs.ArrayData.{ArrayData, data_of};
 ghost use Rattle.zarrs_cells.specs.Cells.{cells};
 ghost use Rattle.zarrs_types.specs.Kind.{Kind, kind};
 ghost use Rattle.zarrs_data_type.specs.Elements.{RefusesElement, RefusesCells};
 
-use crate::element::ElementOwned;
+use crate::element::{Element, ElementOwned};
 use crate::error::ElementError;
 use std::alloc::Global;
 use zarrs_cells::ArrayBytes;
@@ -19,7 +19,7 @@ pub trait FromArrayBytes: Sized {
     // Whether this is made of data of the type.
     ghost reads: { Kind → ArrayData → Self → Type 0 };
 
-    /// The value of this data, in row-major order of a box of this shape.
+    /// The value of this data.
     ///
     /// # Errors
     /// `IncompatibleElementType`: the values are not those of the data type, or the data is no list of its cells.
@@ -27,10 +27,10 @@ pub trait FromArrayBytes: Sized {
     fn from_array_bytes(
         alloc: Global,
         array_bytes: ArrayBytes<'static>,
-        shape: &[u64],
         data_type: &DataType,
     ) -> Result<Self, ElementError>
         ensures read { IfOk result (reads (kind data_type.now) (data_of array_bytes.entry)) }
+        ensures served { OnOk result (serves (kind data_type.now) ≡ true) }
         ensures refused { IfErr result (RefusesCells (serves (kind data_type.now))
             (cells (kind data_type.now) (data_of array_bytes.entry))) };
 }
@@ -43,7 +43,6 @@ impl FromArrayBytes for ArrayBytes<'static> {
     fn from_array_bytes(
         _alloc: Global,
         array_bytes: ArrayBytes<'static>,
-        _shape: &[u64],
         _data_type: &DataType,
     ) -> Result<ArrayBytes<'static>, ElementError> {
         Ok(array_bytes)
@@ -58,14 +57,13 @@ impl<T: ElementOwned> FromArrayBytes for Vec<T> {
     fn from_array_bytes(
         alloc: Global,
         array_bytes: ArrayBytes<'static>,
-        _shape: &[u64],
         data_type: &DataType,
     ) -> Result<Vec<T>, ElementError> {
         T::from_array_bytes(alloc, data_type, &array_bytes)
     }
 }
 
-/// What a write takes: array bytes as they are.
+/// What a write takes: array bytes as they are, or the values of their cells.
 pub trait IntoArrayBytes<'a>: Sized {
     // Whether the values are those of a data type.
     ghost serves: { Kind → Bool };
@@ -83,6 +81,7 @@ pub trait IntoArrayBytes<'a>: Sized {
         data_type: &DataType,
     ) -> Result<ArrayBytes<'a>, ElementError>
         ensures given { IfOk result (λ made. gives self (kind data_type.now) (data_of made)) }
+        ensures served { OnOk result (serves (kind data_type.now) ≡ true) }
         ensures refused { IfErr result (RefusesElement (serves (kind data_type.now))) };
 }
 
@@ -97,5 +96,65 @@ impl<'a> IntoArrayBytes<'a> for ArrayBytes<'a> {
         _data_type: &DataType,
     ) -> Result<ArrayBytes<'a>, ElementError> {
         Ok(self)
+    }
+}
+
+impl<'a, T: Element> IntoArrayBytes<'a> for Vec<T> {
+    ghost serves = { T.serves };
+
+    ghost gives = { λ list k d. cells k d ≡ Some (map T.cell list.items) };
+
+    fn into_array_bytes(
+        self,
+        alloc: Global,
+        data_type: &DataType,
+    ) -> Result<ArrayBytes<'a>, ElementError> {
+        let made = T::to_array_bytes(alloc, data_type, &self)?;
+        Ok(made.into_owned(alloc)?)
+    }
+}
+
+impl<'a, T: Element, const N: usize> IntoArrayBytes<'a> for [T; N] {
+    ghost serves = { T.serves };
+
+    ghost gives = { λ list k d. cells k d ≡ Some (map T.cell list) };
+
+    fn into_array_bytes(
+        self,
+        alloc: Global,
+        data_type: &DataType,
+    ) -> Result<ArrayBytes<'a>, ElementError> {
+        let made = T::to_array_bytes(alloc, data_type, &self)?;
+        Ok(made.into_owned(alloc)?)
+    }
+}
+
+impl<'a, T: Element, const N: usize> IntoArrayBytes<'a> for &[T; N] {
+    ghost serves = { T.serves };
+
+    ghost gives = { λ list k d. cells k d ≡ Some (map T.cell list.now) };
+
+    fn into_array_bytes(
+        self,
+        alloc: Global,
+        data_type: &DataType,
+    ) -> Result<ArrayBytes<'a>, ElementError> {
+        let made = T::to_array_bytes(alloc, data_type, self)?;
+        Ok(made.into_owned(alloc)?)
+    }
+}
+
+impl<'a, T: Element> IntoArrayBytes<'a> for &[T] {
+    ghost serves = { T.serves };
+
+    ghost gives = { λ list k d. cells k d ≡ Some (map T.cell list.now) };
+
+    fn into_array_bytes(
+        self,
+        alloc: Global,
+        data_type: &DataType,
+    ) -> Result<ArrayBytes<'a>, ElementError> {
+        let made = T::to_array_bytes(alloc, data_type, self)?;
+        Ok(made.into_owned(alloc)?)
     }
 }

@@ -1,8 +1,10 @@
 //! Values that become fields.
 ghost use Rattle.std.specs.Prelude.{◌≡◌, [], ◌∷◌, if◌then◌else◌, IfOk};
+ghost use Rattle.std.specs.Prelude.{Some, option_map, string_bytes};
 ghost use Rattle.std.specs.Int.{w8, w16, w32, w64, cast_unsigned, to_le_bytes};
 
 use std::alloc::{AllocError, Global};
+use zarrs_subset::ArrayShape;
 use zarrs_types::FillValue;
 
 /// A value that becomes a field, in memory of the allocator.
@@ -95,5 +97,72 @@ impl IntoField<FillValue> for i64 {
 
     fn into_field(self, alloc: Global) -> Result<FillValue, AllocError> {
         Ok(FillValue::new(Vec::from_slice(alloc, &self.to_le_bytes())?))
+    }
+}
+
+impl IntoField<ArrayShape> for Vec<u64> {
+    ghost gives = { λ shape field. field ≡ shape };
+
+    fn into_field(self, _alloc: Global) -> Result<ArrayShape, AllocError> {
+        Ok(self)
+    }
+}
+
+impl<const N: usize> IntoField<ArrayShape> for [u64; N] {
+    ghost gives = { λ shape field. field.items ≡ shape };
+
+    fn into_field(self, alloc: Global) -> Result<ArrayShape, AllocError> {
+        Vec::from_slice(alloc, &self)
+    }
+}
+
+impl<const N: usize> IntoField<ArrayShape> for &[u64; N] {
+    ghost gives = { λ shape field. field.items ≡ shape.now };
+
+    fn into_field(self, alloc: Global) -> Result<ArrayShape, AllocError> {
+        Vec::from_slice(alloc, self)
+    }
+}
+
+impl IntoField<ArrayShape> for &[u64] {
+    ghost gives = { λ shape field. field.items ≡ shape.now };
+
+    fn into_field(self, alloc: Global) -> Result<ArrayShape, AllocError> {
+        Vec::from_slice(alloc, self)
+    }
+}
+
+impl IntoField<Option<String>> for Option<String> {
+    ghost gives = { λ name field. field ≡ name };
+
+    fn into_field(self, _alloc: Global) -> Result<Option<String>, AllocError> {
+        Ok(self)
+    }
+}
+
+impl IntoField<Option<String>> for String {
+    ghost gives = { λ name field. field ≡ Some name };
+
+    fn into_field(self, _alloc: Global) -> Result<Option<String>, AllocError> {
+        Ok(Some(self))
+    }
+}
+
+impl IntoField<Option<String>> for Option<&str> {
+    ghost gives = { λ name field. option_map string_bytes field ≡ option_map (λ text. text.now) name };
+
+    fn into_field(self, alloc: Global) -> Result<Option<String>, AllocError> {
+        match self {
+            Some(name) => name.into_field(alloc),
+            None => Ok(None),
+        }
+    }
+}
+
+impl IntoField<Option<String>> for &str {
+    ghost gives = { λ name field. option_map string_bytes field ≡ Some name.now };
+
+    fn into_field(self, alloc: Global) -> Result<Option<String>, AllocError> {
+        Ok(Some(String::from_str(alloc, self)?))
     }
 }

@@ -66,7 +66,7 @@ impl<'a> ArrayBytesOffsets<'a> {
     ///
     /// # Errors
     /// `AllocError`: out of memory.
-    pub fn into_owned(self, alloc: Global) -> Result<ArrayBytesOffsets<'static>, AllocError>
+    pub fn into_owned<'b>(self, alloc: Global) -> Result<ArrayBytesOffsets<'b>, AllocError>
         ensures { IfOk result (λ owned. owned ≡ self.entry) }
     {
         Ok(ArrayBytesOffsets {

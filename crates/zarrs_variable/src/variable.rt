@@ -94,7 +94,7 @@ impl<'a> ArrayBytesVariableLength<'a> {
     ///
     /// # Errors
     /// `AllocError`: out of memory.
-    pub fn into_owned(self, alloc: Global) -> Result<ArrayBytesVariableLength<'static>, AllocError>
+    pub fn into_owned<'b>(self, alloc: Global) -> Result<ArrayBytesVariableLength<'b>, AllocError>
         ensures { IfOk result (λ owned. owned ≡ self.entry) }
     {
         let ArrayBytesVariableLength { bytes, offsets } = self;

@@ -4,6 +4,7 @@ ghost use Rattle.std.specs.Prelude.{if◌then◌else◌, IfOk};
 ghost use Rattle.std.specs.List.{list_all};
 ghost use Rattle.std.specs.Str.{is_utf8};
 ghost use Rattle.zarrs_types.specs.Cell.{bytes};
+ghost use Rattle.zarrs_types.specs.Kind.{kind};
 ghost use Rattle.zarrs_types.specs.Kind as type;
 ghost use Rattle.zarrs_types.specs.Same.{kind_eq};
 
@@ -21,6 +22,18 @@ fn joined_strings(alloc: Global, texts: &[String]) -> Result<VariableLengthBuild
     let mut strings = VariableLengthBuilder::with_capacity(alloc, texts.len(), 0)?;
     for text in texts {
         strings.push(text.as_str().as_bytes())?;
+    }
+    Ok(strings)
+}
+
+/// The lent texts one after another.
+fn joined_texts(alloc: Global, texts: &[&str]) -> Result<VariableLengthBuilder, AllocError>
+    ensures strings { IfOk result (λ made. made ≡ map (λ text. text.now) texts.now) }
+    ensures texts { IfOk result (λ made. list_all (λ s. is_utf8 s) made ≡ true) }
+{
+    let mut strings = VariableLengthBuilder::with_capacity(alloc, texts.len(), 0)?;
+    for text in texts {
+        strings.push(text.as_bytes())?;
     }
     Ok(strings)
 }
@@ -106,6 +119,30 @@ impl ElementOwned for String {
             Some(texts) => Ok(texts),
             None => Err(ElementError::IncompatibleElementType),
         }
+    }
+}
+
+impl Element for &str {
+    ghost cell = { λ text. bytes text.now };
+
+    ghost serves = { λ k. kind_eq k type.string };
+
+    fn serves(data_type: &DataType) -> bool
+        ensures { result ≡ kind_eq (kind data_type.now) type.string }
+    {
+        *data_type == DataType::String
+    }
+
+    fn to_array_bytes(
+        alloc: Global,
+        data_type: &DataType,
+        elements: &[&str],
+    ) -> Result<ArrayBytes<'static>, ElementError> {
+        if !<&str as Element>::serves(data_type) {
+            return Err(ElementError::IncompatibleElementType);
+        }
+        let strings = joined_texts(alloc, elements)?;
+        Ok(ArrayBytes::Variable(strings.finish()))
     }
 }
 

@@ -1,4 +1,4 @@
-use Rattle.std.proofs.Common.{◌≡◌, map, string_bytes, refl, sym, ap, ◌∙◌}
+use Rattle.std.proofs.Common.{map, string_bytes, refl, sym, ap, ◌∙◌}
 use Rattle.std.specs.Prelude.{option_map}
 use Rattle.zarrs_types.specs.Kind.{kind}
 use Rattle.zarrs_types.specs.Kind as type
