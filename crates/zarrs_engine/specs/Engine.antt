@@ -51,3 +51,13 @@ module _ {G K C : Type 0} {g : GridMeaning G} {k : KeyMeaning K} {c : ChainMeani
     -- nothing but the store changed
     abbrev pub KeepsParts : Engine S G K C g k c → Engine S G K C g k c → Type 0
     KeepsParts old new = new.parts ≡ old.parts
+
+    -- the engine has this grid, and everything else stayed
+    pub record GivesGrid (given : G) (old new : Engine S G K C g k c) : Type 0 where
+      pub storage : the_store new ≡ the_store old
+      pub grid : grid_of new ≡ given
+      pub path : path_of new ≡ path_of old
+      pub keys : keys_of new ≡ keys_of old
+      pub chain : chain_of new ≡ chain_of old
+      pub data_type : data_type_of new ≡ data_type_of old
+      pub fill_value : fill_value_of new ≡ fill_value_of old

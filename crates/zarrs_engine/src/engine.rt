@@ -31,6 +31,7 @@ impl<S, G: ChunkGridTraits, K: ChunkKeyEncodingTraits, C: ChainTraits> Engine<S,
     ghost use Rattle.zarrs_data_type.specs.Kind.{kind};
     ghost use Rattle.zarrs_data_type.specs.Cell.{fill_cell};
     ghost use Rattle.zarrs_steps.specs.Layout.{layout_at};
+    ghost use Rattle.zarrs_layout.specs.Layouts.{layout_of_parts};
     ghost use Rattle.zarrs_engine.specs.Engine.{layout_of, the_store, path_of, grid_of, keys_of};
     ghost use Rattle.zarrs_engine.specs.Engine.{chain_of, data_type_of, fill_value_of};
 
@@ -72,6 +73,19 @@ impl<S, G: ChunkGridTraits, K: ChunkKeyEncodingTraits, C: ChainTraits> Engine<S,
         ensures { result.now ≡ the_store self.now }
     {
         &self.storage
+    }
+
+    /// What an engine is beside its store.
+    pub fn parts(&self) -> &Parts<G, K, C>
+        ensures layout { layout_of_parts result.now ≡ layout_of self.now }
+        ensures path { result.now.path ≡ path_of self.now }
+        ensures grid { result.now.grid ≡ grid_of self.now }
+        ensures keys { result.now.keys ≡ keys_of self.now }
+        ensures chain { result.now.chain ≡ chain_of self.now }
+        ensures data_type { result.now.data_type ≡ data_type_of self.now }
+        ensures fill_value { result.now.fill_value ≡ fill_value_of self.now }
+    {
+        &self.parts
     }
 
     /// Where the array lies.
@@ -131,7 +145,16 @@ impl<S, G: ChunkGridTraits + Drop, K: ChunkKeyEncodingTraits + Drop, C: ChainTra
     C,
 > {
     ghost use Rattle.std.specs.Prelude.{◌≡◌};
-    ghost use Rattle.zarrs_engine.specs.Engine.{the_store};
+    ghost use Rattle.zarrs_engine.specs.Engine.{the_store, grid_of, GivesGrid};
+
+    /// Replaces how the array is cut into chunks, over as many dimensions. The store is not asked: what it holds is
+    /// read by the new grid from now on.
+    pub fn set_chunk_grid(&mut self, grid: G)
+        requires { (G.grid grid).dimensions ≡ (G.grid (grid_of self.old)).dimensions }
+        ensures { GivesGrid grid self.old self.new }
+    {
+        self.parts.grid = grid;
+    }
 
     /// The store, which is all that is kept.
     pub fn into_storage(self) -> S

@@ -15,7 +15,9 @@ impl<
     K: ChunkKeyEncodingTraits,
     C: ChainTraits,
 > Engine<S, G, K, C> {
-    ghost use Rattle.std.specs.Prelude.{◌≡◌, IfErr, OnOk, length, option_map};
+    ghost use Rattle.std.specs.Prelude.{◌≡◌, true, Some, IsSome, IfErr, OnOk, length, option_map};
+    ghost use Rattle.zarrs_chunk_grid.specs.Grids.{box_at, has_box};
+    ghost use Rattle.zarrs_steps.specs.Content.{decoded_cells};
     ghost use Rattle.zarrs_subset.specs.Regions.{box_of};
     ghost use Rattle.zarrs_data_type.specs.ArrayData.{data_of};
     ghost use Rattle.zarrs_codec.specs.Options.{stores_empty_chunks};
@@ -80,6 +82,33 @@ impl<
         let key = self.parts.chunk_key(alloc, chunk_indices)?;
         let value = self.parts.value_of(alloc, &chunk, chunk_data, options)?;
         self.put(alloc, &key, value)?;
+        Ok(())
+    }
+
+    /// Stores these bytes as those of the chunk with these indices, by one writing call of the store. They are the
+    /// encoding of its cells.
+    ///
+    /// # Errors
+    /// E7 if the store refuses. E9 may come at any time. Nothing is changed then.
+    pub fn store_encoded_chunk(
+        &mut self,
+        alloc: Global,
+        chunk_indices: &[u64],
+        encoded_chunk_bytes: Bytes,
+    ) -> Result<(), ArrayError>
+        requires chunk { has_box (layout_of self.old).grid chunk_indices.now ≡ true }
+        requires decodes { IsSome (decoded_cells (layout_of self.old)
+            (box_at (layout_of self.old).grid chunk_indices.now) encoded_chunk_bytes) }
+        ensures done { OnOk result
+            (IsPut ((layout_of self.old).key chunk_indices.now) (Some encoded_chunk_bytes)
+            (store_of S.state self.old) (store_of S.state self.new)) }
+        ensures refused { IfErr result
+            (λ e. RefusesPut (refusal_of e) (store_of S.state self.old)
+            (store_of S.state self.new)) }
+        ensures parts { KeepsParts self.old self.new }
+    {
+        let key = self.parts.chunk_key(alloc, chunk_indices)?;
+        self.storage.set(alloc, &key, encoded_chunk_bytes)?;
         Ok(())
     }
 

@@ -1,0 +1,28 @@
+use Rattle.std.proofs.Common.{List, ℕ, Some, subst, sym, rules}
+use Rattle.zarrs_steps.specs.Changes.{IsPut}
+use Rattle.zarrs_steps.specs.Refusals.{Refusal}
+use Rattle.zarrs_steps.proofs.RefusalLemmas.{storage_said}
+use Rattle.zarrs_layout.specs.Parts.{RefusesPut}
+use Rattle.zarrs_engine.proofs.Puts.{put_set, put_short, put_refused}
+use Rattle.zarrs_engine.proofs.engine.Engine.store_encoded_chunk.Goals as goal
+
+pub returns-clause-done : goal.returns-clause-done
+returns-clause-done g c =
+    let old = g.S.ReadableStorageTraits.state c.args.self.now.storage in
+    let new = g.S.ReadableStorageTraits.state c.set.new.self in
+    subst (λ (key : List ℕ). IsPut key (Some c.args.encoded_chunk_bytes) old new) c.in_ok-key.ensures.key
+    (put_set c.in_ok-key.key c.args.encoded_chunk_bytes old new c.in_ok-set.ensures.ok)
+
+pub returns-in_err-key-clause-refused : goal.returns-in_err-key-clause-refused
+returns-in_err-key-clause-refused g c =
+    let why = put_short (g.S.ReadableStorageTraits.state c.args.self.now.storage) in
+    search (rules, why)
+
+pub returns-in_err-set-clause-refused : goal.returns-in_err-set-clause-refused
+returns-in_err-set-clause-refused g c =
+    let old = g.S.ReadableStorageTraits.state c.args.self.now.storage in
+    let new = g.S.ReadableStorageTraits.state c.set.new.self in
+    let e = c.in_err-set.field-0.0 in
+    let why = put_refused e old new c.in_err-set.ensures.refused in
+    let said = subst (λ (r : Refusal). RefusesPut r old new) (sym (storage_said e)) why in
+    search (rules, said)
