@@ -1,3 +1,5 @@
 pub mod Layouts
 pub mod Puts
+pub mod Typed
+pub mod Named
 pub mod Trips

@@ -1,9 +1,10 @@
 -- What clauses show of an array.
-use Rattle.std.specs.Prelude.{◌≡◌, ℕ, List}
+use Rattle.std.specs.Prelude.{◌≡◌, ℕ, List, false}
 use Rattle.zarrs_storage.specs.Store.{StoreState}
 use Rattle.zarrs_document_v2.specs.View.{MetadataData, metadata_view}
+use Rattle.zarrs_codec.specs.Options.{stores_empty_chunks, encodes_partially}
 use Rattle.zarrs_codec.specs.declared.options.CodecOptions.{CodecOptions}
-use Rattle.zarrs_options.specs.Options.{MetadataOptionsData, options_view}
+use Rattle.zarrs_options.specs.Options.{MetadataOptionsData, options_view, default_options}
 use Rattle.zarrs_steps.specs.Layout.{Layout, ArrayState}
 use Rattle.zarrs_engine.specs.Engine.{layout_of, the_store, store_of, state_of, path_of, KeepsParts}
 use Rattle.zarrs_array_metadata.specs.Meanings.{Meaning}
@@ -72,3 +73,9 @@ module _ {S : Type 0} where
     pub engine : new.engine ≡ old.engine
     pub metadata : new.metadata ≡ old.metadata
     pub codec_options : new.codec_options ≡ old.codec_options
+
+  -- it has the default options of its codecs, which choose nothing, and of its metadata
+  pub record HasDefaultOptions (array : Array S) : Type 0 where
+    pub empty_chunks : stores_empty_chunks array.codec_options ≡ false
+    pub partial_encoding : encodes_partially array.codec_options ≡ false
+    pub metadata : options_view array.metadata_options ≡ default_options

@@ -4,3 +4,4 @@ pub mod Arrays
 pub mod Puts
 pub mod Queries
 pub mod Laws
+pub mod Typed

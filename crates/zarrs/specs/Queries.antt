@@ -1,7 +1,10 @@
 -- What queries refuse.
-use Rattle.std.specs.Prelude.{◌==◌, not, length, Option}
+use Rattle.std.specs.Prelude.{◌==◌, not, if◌then◌else◌, length, Option, None}
+use Rattle.std.specs.Option.{option_or}
 use Rattle.zarrs_subset.specs.Regions.{Box}
 use Rattle.zarrs_steps.specs.Layout.{Layout}
+use Rattle.zarrs_steps.specs.ArgumentRefusals.{range_refusal}
+use Rattle.zarrs_steps.specs.ChunkBoxes.{is_empty}
 use Rattle.zarrs_steps.specs.Refusals.{Refusal, refuse_if, dimensionality}
 
 -- E10: the region has another number of dimensions than the array
@@ -9,3 +12,11 @@ abbrev pub query_refusal : Layout → Box → Option Refusal
 query_refusal layout region =
     let given = length region.start in
     refuse_if (not (given == layout.grid.dimensions)) (dimensionality given layout.grid.dimensions)
+
+-- E3: the first chunk of a range that is not empty, or the last one, is none
+abbrev pub chunks_refusal : Layout → Box → Option Refusal
+chunks_refusal layout range = if is_empty range then None else range_refusal layout range
+
+-- the same; E10: an empty range of another number of dimensions has no box within the array
+abbrev pub bounded_chunks_refusal : Layout → Box → Option Refusal
+bounded_chunks_refusal layout range = option_or (chunks_refusal layout range) (query_refusal layout range)

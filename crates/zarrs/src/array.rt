@@ -4,7 +4,10 @@ mod into;
 mod metadata;
 mod options;
 mod queries;
+mod reads;
+mod setters;
 mod versions;
+mod writes;
 
 ghost use Rattle.zarrs.specs.Agreement.{Agrees, Agrees-prop};
 
@@ -164,6 +167,7 @@ impl<TStorage: Drop> Array<TStorage> {
     ghost use Rattle.zarrs_options.specs.Refusals.{create_refusal_of, RefusesCreation};
     ghost use Rattle.zarrs_array_metadata.specs.Meanings.{creation, created};
     ghost use Rattle.zarrs.specs.Arrays.{metadata_of_array, path_of_array, storage_of_array};
+    ghost use Rattle.zarrs.specs.Arrays.{HasDefaultOptions};
 
     /// Makes the array at the path with this metadata and the default options. The store is not asked, and additional
     /// fields are not looked at.
@@ -184,6 +188,7 @@ impl<TStorage: Drop> Array<TStorage> {
         ensures metadata { IfOk result (λ a. metadata_of_array a ≡ metadata_view metadata) }
         ensures path { IfOk result (λ a. path_of_array a ≡ path.now) }
         ensures storage { IfOk result (λ a. storage_of_array a ≡ storage) }
+        ensures options { IfOk result HasDefaultOptions }
         ensures refused { IfErr result (λ e. RefusesCreation
             (created path.now (metadata_view metadata)) (create_refusal_of e)) }
     {
@@ -201,6 +206,7 @@ impl<TStorage: Drop> Array<TStorage> {
         ensures metadata { IfOk result (λ a. metadata_of_array a ≡ metadata_view metadata) }
         ensures path { IfOk result (λ a. path_of_array a ≡ path) }
         ensures storage { IfOk result (λ a. storage_of_array a ≡ storage) }
+        ensures options { IfOk result HasDefaultOptions }
         ensures refused { IfErr result
             (λ e. RefusesCreation (creation (metadata_view metadata)) (create_refusal_of e)) }
     {

@@ -9,7 +9,10 @@ pub use array::Array;
 pub use reopening::written_and_opened;
 pub use zarrs_chunk_grid::ChunkGrid;
 pub use zarrs_codec::{CodecChain, CodecOptions};
-pub use zarrs_data_type::{ArrayBytes, DataType, FillValue};
+pub use zarrs_data_type::{
+    ArrayBytes, DataType, Element, ElementError, ElementOwned, FillValue, FromArrayBytes,
+    IntoArrayBytes,
+};
 pub use zarrs_document::{
     AdditionalFieldV3, AdditionalFieldsV3, ArrayMetadataV3, DimensionName, FillValueMetadata,
 };

@@ -2,3 +2,4 @@ pub mod Order
 pub mod Openings
 pub mod Normal
 pub mod Names
+pub mod Changed

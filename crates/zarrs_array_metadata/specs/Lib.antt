@@ -3,3 +3,4 @@ pub mod Sets
 pub mod Opening
 pub mod Shown
 pub mod Writing
+pub mod Changes

@@ -150,7 +150,7 @@ fn keys_from(alloc: Global, metadata: &MetadataV3) -> Result<ChunkKeyEncoding, A
     }
 }
 
-fn check_names(
+pub(crate) fn check_names(
     dimensions: usize,
     names: &Option<Vec<DimensionName>>,
 ) -> Result<(), ArrayCreateError>

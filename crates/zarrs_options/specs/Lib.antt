@@ -1,3 +1,4 @@
 pub mod Options
 pub mod Errors
 pub mod Refusals
+pub mod Given

@@ -8,7 +8,7 @@ use zarrs_engine::ArrayError;
 use zarrs_keys::chunk_key;
 use zarrs_layout::invalid_indices;
 use zarrs_storage::StoreKey;
-use zarrs_subset::{ArrayIndices, ArraySubset};
+use zarrs_subset::{ArrayIndices, ArraySubset, ArraySubsetTraits, IncompatibleDimensionalityError};
 
 /// Returns the extents as sizes in memory.
 fn memory_sizes(alloc: Global, extents: &[u64]) -> Result<Vec<usize>, AllocError>
@@ -22,11 +22,11 @@ impl<TStorage> Array<TStorage> {
     ghost use Rattle.std.specs.Prelude.{IsOkUnless};
     ghost use Rattle.zarrs_subset.specs.Regions.{box_of, bound_to, box_at_origin};
     ghost use Rattle.zarrs_chunk_grid.specs.Axes.{sizes_of};
-    ghost use Rattle.zarrs_chunk_grid.specs.Grids.{HasUncovered, IsMet, box_at};
+    ghost use Rattle.zarrs_chunk_grid.specs.Grids.{HasUncovered, IsMet, box_at, chunks_box};
     ghost use Rattle.zarrs_steps.specs.ArgumentRefusals.{chunk_refusal};
     ghost use Rattle.zarrs_steps.specs.Refusals.{RefusesBy, refusal_of};
     ghost use Rattle.zarrs_array_metadata.specs.Meanings.{shape_said};
-    ghost use Rattle.zarrs.specs.Queries.{query_refusal};
+    ghost use Rattle.zarrs.specs.Queries.{query_refusal, chunks_refusal, bounded_chunks_refusal};
     ghost use Rattle.zarrs.specs.Arrays.{layout_of_array, metadata_of_array};
 
     /// Returns the key of the chunk with these indices, of which there is one for each dimension.
@@ -60,15 +60,7 @@ impl<TStorage> Array<TStorage> {
         ensures refused { IfErr result (λ e. RefusesBy
             (chunk_refusal (layout_of_array self.now) chunk_indices.now) (refusal_of e)) }
     {
-        match self.engine.chunk_grid().subset(alloc, chunk_indices) {
-            Ok(Some(chunk)) => Ok(chunk),
-            Ok(None) => Err(invalid_indices(alloc, chunk_indices)),
-            Err(GridError::IncompatibleDimensionality(_)) => {
-                Err(invalid_indices(alloc, chunk_indices))
-            }
-            Err(GridError::UnequalExtent) => unreachable!(),
-            Err(GridError::OutOfMemory) => Err(ArrayError::OutOfMemory),
-        }
+        self.engine.parts().chunk_box(alloc, chunk_indices)
     }
 
     /// Returns where the chunk with these indices begins.
@@ -158,6 +150,60 @@ impl<TStorage> Array<TStorage> {
     {
         let chunk = self.chunk_subset(alloc, chunk_indices)?;
         match chunk.bound(alloc, self.shape()) {
+            Ok(bounded) => Ok(bounded),
+            Err(_) => Err(ArrayError::OutOfMemory),
+        }
+    }
+
+    /// Returns the region that the chunks with the indices in the range fill; of a range without a chunk the empty one.
+    ///
+    /// # Errors
+    /// E3 for a first index that is not that of a chunk, then for such a last one. E9 may come at any time.
+    pub fn chunks_subset(
+        &self,
+        alloc: Global,
+        chunks: &ArraySubset,
+    ) -> Result<ArraySubset, ArrayError>
+        ensures region { IfOk result (λ b. box_of b
+            ≡ chunks_box (layout_of_array self.now).grid (box_of chunks.now)) }
+        ensures accepted { OnOk result
+            (chunks_refusal (layout_of_array self.now) (box_of chunks.now) ≡ None) }
+        ensures refused { IfErr result (λ e. RefusesBy
+            (chunks_refusal (layout_of_array self.now) (box_of chunks.now)) (refusal_of e)) }
+    {
+        if chunks.is_empty() {
+            return Ok(ArraySubset::new_empty(alloc, chunks.dimensionality())?);
+        }
+        if chunks.dimensionality() != self.dimensionality() {
+            return Err(invalid_indices(alloc, chunks.start()));
+        }
+        self.engine.parts().chunks_region(alloc, chunks)
+    }
+
+    /// Returns the region that the chunks with the indices in the range fill, cut at the end of the array.
+    ///
+    /// # Errors
+    /// As `chunks_subset`; E10 for a range without a chunk of another number of dimensions.
+    pub fn chunks_subset_bounded(
+        &self,
+        alloc: Global,
+        chunks: &ArraySubset,
+    ) -> Result<ArraySubset, ArrayError>
+        ensures region { IfOk result (λ b. box_of b
+            ≡ bound_to (chunks_box (layout_of_array self.now).grid (box_of chunks.now))
+            (shape_said (metadata_of_array self.now))) }
+        ensures accepted { OnOk result
+            (bounded_chunks_refusal (layout_of_array self.now) (box_of chunks.now) ≡ None) }
+        ensures refused { IfErr result (λ e. RefusesBy
+            (bounded_chunks_refusal (layout_of_array self.now) (box_of chunks.now))
+            (refusal_of e)) }
+    {
+        let region = self.chunks_subset(alloc, chunks)?;
+        let (got, expected) = (chunks.dimensionality(), self.dimensionality());
+        if got != expected {
+            return Err(IncompatibleDimensionalityError::new(got, expected).into());
+        }
+        match region.bound(alloc, self.shape()) {
             Ok(bounded) => Ok(bounded),
             Err(_) => Err(ArrayError::OutOfMemory),
         }

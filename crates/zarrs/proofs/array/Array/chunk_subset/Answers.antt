@@ -1,9 +1,0 @@
-use Rattle.zarrs_layout.proofs.Chunks.{wrong_length}
-use Rattle.zarrs_layout.proofs.ChunkParts.{chunk_refused}
-use Rattle.zarrs.specs.Arrays.{layout_of_array}
-use Rattle.zarrs.proofs.array.Array.chunk_subset.Goals as goal
-
-pub returns-in-Err-IncompatibleDimensionality-clause-refused : goal.returns-in-Err-IncompatibleDimensionality-clause-refused
-returns-in-Err-IncompatibleDimensionality-clause-refused g c =
-    let mismatch = rw (c.in-Err-IncompatibleDimensionality.field-0-is, c.chunk_grid.ensures) at c.in-Err-IncompatibleDimensionality.ensures.refused in
-    chunk_refused (layout_of_array c.args.self.now) c.args.chunk_indices.now _ (wrong_length (layout_of_array c.args.self.now) c.args.chunk_indices.now mismatch.0) c.invalid_indices-in-Err-IncompatibleDimensionality.ensures

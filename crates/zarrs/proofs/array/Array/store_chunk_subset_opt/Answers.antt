@@ -1,0 +1,26 @@
+use Rattle.zarrs_subset.specs.Regions.{box_of}
+use Rattle.zarrs_data_type.specs.ArrayData.{data_of}
+use Rattle.zarrs_codec.specs.Options.{stores_empty_chunks}
+use Rattle.zarrs_steps.specs.Step.{RefusesStorePart}
+use Rattle.zarrs.specs.Typed.{place_refusal}
+use Rattle.zarrs.specs.Arrays.{layout_of_array}
+use Rattle.zarrs.proofs.Typed.{stored_as, not_stored}
+use Rattle.zarrs.proofs.array.Array.store_chunk_subset_opt.Goals as goal
+
+pub returns-clause-done : goal.returns-clause-done
+returns-clause-done g c =
+    let given = rw c.data_type.ensures at c.in-Ok.ensures.given in
+    stored_as c.store_chunk_subset.result _ _ (data_of c.in-Ok.chunk_subset_data) given c.store_chunk_subset.ensures.done
+
+pub returns-clause-refused : goal.returns-clause-refused
+returns-clause-refused g c =
+    let layout = layout_of_array c.args.self.now in
+    let keep = stores_empty_chunks c.args.options.now in
+    let old = g.TStorage.ReadableStorageTraits.state c.args.self.now.engine.storage in
+    let new = g.TStorage.ReadableStorageTraits.state c.store_chunk_subset.new.self.storage in
+    let index = c.args.chunk_indices.now in
+    let part = box_of c.args.chunk_subset.now in
+    let given = rw c.data_type.ensures at c.in-Ok.ensures.given in
+    let served = rw c.data_type.ensures at c.in-Ok.ensures.served in
+    not_stored c.store_chunk_subset.result (g.D.IntoArrayBytes.serves layout.kind) (place_refusal layout index part) (g.D.IntoArrayBytes.gives c.args.chunk_subset_data layout.kind)
+    (λ held r. RefusesStorePart layout keep index part held r old new) (data_of c.in-Ok.chunk_subset_data) old new served given c.store_chunk_subset.ensures.refused

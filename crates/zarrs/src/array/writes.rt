@@ -1,0 +1,357 @@
+//! Stores of an array, which pass to its engine. They take array bytes, or a list of the values of the cells.
+ghost use Rattle.std.specs.Prelude.{◌≡◌, None, IfErr, OnOk};
+ghost use Rattle.zarrs_subset.specs.Regions.{box_of};
+ghost use Rattle.zarrs_steps.specs.Refusals.{RefusesBy, refusal_of};
+ghost use Rattle.zarrs.specs.Typed.{number_refusal};
+
+use super::Array;
+use std::alloc::Global;
+use zarrs_codec::CodecOptions;
+use zarrs_data_type::IntoArrayBytes;
+use zarrs_engine::ArrayError;
+use zarrs_storage::WritableStorageTraits;
+use zarrs_subset::{ArraySubset, ArraySubsetTraits, IncompatibleDimensionalityError};
+
+/// Tests whether a `u64` counts the chunks of a range.
+///
+/// # Errors
+/// E8 if it does not.
+fn check_number(chunks: &ArraySubset) -> Result<(), ArrayError>
+    ensures accepted { OnOk result (number_refusal (box_of chunks.now) ≡ None) }
+    ensures refused { IfErr result (λ e. RefusesBy (number_refusal (box_of chunks.now))
+        (refusal_of e)) }
+{
+    match chunks.num_elements() {
+        Ok(_) => Ok(()),
+        Err(_) => Err(ArrayError::SizeOverflow),
+    }
+}
+
+impl<TStorage> Array<TStorage> {
+    ghost use Rattle.std.specs.Prelude.{◌≡◌, None, IfErr, OnOk};
+    ghost use Rattle.zarrs_subset.specs.Regions.{box_of};
+    ghost use Rattle.zarrs_steps.specs.Refusals.{RefusesBy, refusal_of};
+    ghost use Rattle.zarrs.specs.Arrays.{layout_of_array};
+    ghost use Rattle.zarrs.specs.Typed.{place_refusal};
+
+    /// Tests whether a part lies in the chunk with these indices.
+    ///
+    /// # Errors
+    /// In this order: E10 for another number of indices than dimensions; E3 for indices without a chunk; E2 for a part
+    /// of another number of dimensions, or that passes the chunk. E9 may come at any time.
+    fn check_place(
+        &self,
+        alloc: Global,
+        chunk_indices: &[u64],
+        chunk_subset: &ArraySubset,
+    ) -> Result<(), ArrayError>
+        ensures accepted { OnOk result (place_refusal (layout_of_array self.now) chunk_indices.now
+            (box_of chunk_subset.now) ≡ None) }
+        ensures refused { IfErr result (λ e. RefusesBy (place_refusal (layout_of_array self.now)
+            chunk_indices.now (box_of chunk_subset.now)) (refusal_of e)) }
+    {
+        let dimensions = self.dimensionality();
+        if chunk_indices.len() != dimensions {
+            let error = IncompatibleDimensionalityError::new(chunk_indices.len(), dimensions);
+            return Err(error.into());
+        }
+        let parts = self.engine.parts();
+        let chunk = parts.chunk_box(alloc, chunk_indices)?;
+        let _ = parts.part_of(alloc, chunk_indices, &chunk, chunk_subset)?;
+        Ok(())
+    }
+}
+
+impl<TStorage: WritableStorageTraits> Array<TStorage> {
+    ghost use Rattle.std.specs.Prelude.{◌≡◌, [], ◌∷◌, true, false, IfErr, OnOk};
+    ghost use Rattle.zarrs_subset.specs.Regions.{box_of};
+    ghost use Rattle.zarrs_chunk_grid.specs.Grids.{box_at};
+    ghost use Rattle.zarrs_codec.specs.Options.{stores_empty_chunks};
+    ghost use Rattle.zarrs_steps.specs.ChunkBoxes.{chunks_met, part_box};
+    ghost use Rattle.zarrs_steps.specs.Reach.{MayAskParts};
+    ghost use Rattle.zarrs_steps.specs.Refusals.{refusal_of};
+    ghost use Rattle.zarrs.specs.Arrays.{layout_of_array, store_of_array, state_of_array};
+    ghost use Rattle.zarrs.specs.Arrays.{KeepsArray};
+    ghost use Rattle.zarrs.specs.Typed.{StoresChunkAs, RefusesStoreChunkAs};
+    ghost use Rattle.zarrs.specs.Typed.{StoresChunksAs, RefusesStoreChunksAs};
+    ghost use Rattle.zarrs.specs.Typed.{StoresPartAs, RefusesStorePartAs};
+    ghost use Rattle.zarrs.specs.Typed.{StoresRegionAs, RefusesStoreRegionAs};
+
+    /// Stores the cells of the chunk with these indices, by one writing call of the store. If each cell is the fill
+    /// value's, the key is erased.
+    ///
+    /// # Errors
+    /// In this order: E5 for values that are not those of the data type; E3 for indices without a chunk; E8 for a chunk
+    /// of more bytes than a `usize` counts; E4 for data
+    /// that is not one cell for each position, each a value of the data type, or that the chain does not take; E8 if
+    /// the bytes pass a size; E7 if the store refuses. E9 may come at any time. Nothing is changed then.
+    pub fn store_chunk<'a, D: IntoArrayBytes<'a>>(
+        &mut self,
+        alloc: Global,
+        chunk_indices: &[u64],
+        chunk_data: D,
+    ) -> Result<(), ArrayError>
+        ensures done { OnOk result (StoresChunkAs (layout_of_array self.old) false
+            (D.gives chunk_data) chunk_indices.now
+            (store_of_array TStorage.state self.old) (store_of_array TStorage.state self.new)) }
+        ensures served { OnOk result (D.serves (layout_of_array self.old).kind ≡ true) }
+        ensures refused { IfErr result (λ e. RefusesStoreChunkAs D.serves
+            (layout_of_array self.old) false
+            (D.gives chunk_data) chunk_indices.now (store_of_array TStorage.state self.old)
+            (store_of_array TStorage.state self.new) (refusal_of e)) }
+        ensures kept { KeepsArray self.old self.new }
+    {
+        self.store_chunk_opt(alloc, chunk_indices, chunk_data, &CodecOptions::default())
+    }
+
+    /// Does what `store_chunk` does, under these options.
+    ///
+    /// # Errors
+    /// Those of `store_chunk`.
+    pub fn store_chunk_opt<'a, D: IntoArrayBytes<'a>>(
+        &mut self,
+        alloc: Global,
+        chunk_indices: &[u64],
+        chunk_data: D,
+        options: &CodecOptions,
+    ) -> Result<(), ArrayError>
+        ensures done { OnOk result (StoresChunkAs
+            (layout_of_array self.old) (stores_empty_chunks options.now)
+            (D.gives chunk_data) chunk_indices.now
+            (store_of_array TStorage.state self.old) (store_of_array TStorage.state self.new)) }
+        ensures served { OnOk result (D.serves (layout_of_array self.old).kind ≡ true) }
+        ensures refused { IfErr result (λ e. RefusesStoreChunkAs D.serves
+            (layout_of_array self.old) (stores_empty_chunks options.now)
+            (D.gives chunk_data) chunk_indices.now (store_of_array TStorage.state self.old)
+            (store_of_array TStorage.state self.new) (refusal_of e)) }
+        ensures kept { KeepsArray self.old self.new }
+    {
+        let chunk_data = chunk_data.into_array_bytes(alloc, self.engine.data_type())?;
+        self.engine
+            .store_chunk(alloc, chunk_indices, &chunk_data, options)
+    }
+
+    /// Stores the cells, in row-major order, over the chunks with the indices in the range, one chunk after another in
+    /// row-major order, each by one writing call of the store. No chunk is read. A range without a chunk takes data
+    /// without a cell, and asks nothing of the store.
+    ///
+    /// # Errors
+    /// In this order: E8 for more chunks than a `u64` counts; E5 for values that are not those of the data type; of a
+    /// range of one chunk the errors of `store_chunk`; E3
+    /// for a first index without a chunk, then for such a last one; E4 for data that is not one cell for each position,
+    /// each a value of the data type. Then, at one of the chunks: E8 for a chunk of more bytes than a `usize` counts;
+    /// E4 if the chain does not take it; E8 if its bytes pass a size; E7 if the store refuses. E9 may come at any time.
+    /// The chunks before that one are stored then, and no later one.
+    pub fn store_chunks<'a, D: IntoArrayBytes<'a>>(
+        &mut self,
+        alloc: Global,
+        chunks: &ArraySubset,
+        chunks_data: D,
+    ) -> Result<(), ArrayError>
+        ensures done { OnOk result (StoresChunksAs (layout_of_array self.old) false
+            (D.gives chunks_data) (box_of chunks.now)
+            (store_of_array TStorage.state self.old) (store_of_array TStorage.state self.new)) }
+        ensures served { OnOk result (D.serves (layout_of_array self.old).kind ≡ true) }
+        ensures refused { IfErr result (λ e. RefusesStoreChunksAs D.serves
+            (layout_of_array self.old) false
+            (D.gives chunks_data) (box_of chunks.now) (store_of_array TStorage.state self.old)
+            (store_of_array TStorage.state self.new) (refusal_of e)) }
+        ensures kept { KeepsArray self.old self.new }
+    {
+        self.store_chunks_opt(alloc, chunks, chunks_data, &CodecOptions::default())
+    }
+
+    /// Does what `store_chunks` does, under these options.
+    ///
+    /// # Errors
+    /// Those of `store_chunks`.
+    pub fn store_chunks_opt<'a, D: IntoArrayBytes<'a>>(
+        &mut self,
+        alloc: Global,
+        chunks: &ArraySubset,
+        chunks_data: D,
+        options: &CodecOptions,
+    ) -> Result<(), ArrayError>
+        ensures done { OnOk result (StoresChunksAs
+            (layout_of_array self.old) (stores_empty_chunks options.now)
+            (D.gives chunks_data) (box_of chunks.now)
+            (store_of_array TStorage.state self.old) (store_of_array TStorage.state self.new)) }
+        ensures served { OnOk result (D.serves (layout_of_array self.old).kind ≡ true) }
+        ensures refused { IfErr result (λ e. RefusesStoreChunksAs D.serves
+            (layout_of_array self.old) (stores_empty_chunks options.now)
+            (D.gives chunks_data) (box_of chunks.now) (store_of_array TStorage.state self.old)
+            (store_of_array TStorage.state self.new) (refusal_of e)) }
+        ensures kept { KeepsArray self.old self.new }
+    {
+        let chunks_data = match chunks_data.into_array_bytes(alloc, self.engine.data_type()) {
+            Ok(chunks_data) => chunks_data,
+            Err(error) => {
+                check_number(chunks)?;
+                return Err(error.into());
+            }
+        };
+        self.engine
+            .store_chunks(alloc, chunks, &chunks_data, options)
+    }
+
+    /// Stores the cells over a part of the chunk with these indices, by one writing call of the store. The part is seen
+    /// from the origin of the chunk. Unless it is the whole chunk, the chunk is read first.
+    ///
+    /// # Errors
+    /// In this order: E10 for another number of indices than dimensions; E3 for indices without a chunk; E2 for a part
+    /// of another number of dimensions, or that passes the chunk; E5 for values that are not those of the data type; if
+    /// it is the whole chunk, E8 if that has more bytes than a `usize` counts; E4 for data that is not one cell for
+    /// each position, each a value of the data type. Then E8 for such a chunk; E7 if the chunk is read and the store
+    /// refuses its key; E4 if its bytes do not decode, or the chain does not take it; E8 if its bytes pass a size; E7
+    /// if the store refuses the write. E9 may come at any time. Nothing is changed then.
+    pub fn store_chunk_subset<'a, D: IntoArrayBytes<'a>>(
+        &mut self,
+        alloc: Global,
+        chunk_indices: &[u64],
+        chunk_subset: &ArraySubset,
+        chunk_subset_data: D,
+    ) -> Result<(), ArrayError>
+        requires { MayAskParts (layout_of_array self.old)
+            (part_box (box_at (layout_of_array self.old).grid chunk_indices.now)
+            (box_of chunk_subset.now)) (chunk_indices.now ∷ [])
+            (store_of_array TStorage.state self.old) }
+        ensures done { OnOk result (StoresPartAs (layout_of_array self.old) false
+            (D.gives chunk_subset_data) chunk_indices.now (box_of chunk_subset.now)
+            (store_of_array TStorage.state self.old) (store_of_array TStorage.state self.new)) }
+        ensures served { OnOk result (D.serves (layout_of_array self.old).kind ≡ true) }
+        ensures refused { IfErr result (λ e. RefusesStorePartAs D.serves
+            (layout_of_array self.old) false
+            (D.gives chunk_subset_data) chunk_indices.now (box_of chunk_subset.now)
+            (store_of_array TStorage.state self.old)
+            (store_of_array TStorage.state self.new) (refusal_of e)) }
+        ensures kept { KeepsArray self.old self.new }
+    {
+        self.store_chunk_subset_opt(
+            alloc,
+            chunk_indices,
+            chunk_subset,
+            chunk_subset_data,
+            &CodecOptions::default(),
+        )
+    }
+
+    /// Does what `store_chunk_subset` does, under these options.
+    ///
+    /// # Errors
+    /// Those of `store_chunk_subset`.
+    pub fn store_chunk_subset_opt<'a, D: IntoArrayBytes<'a>>(
+        &mut self,
+        alloc: Global,
+        chunk_indices: &[u64],
+        chunk_subset: &ArraySubset,
+        chunk_subset_data: D,
+        options: &CodecOptions,
+    ) -> Result<(), ArrayError>
+        requires { MayAskParts (layout_of_array self.old)
+            (part_box (box_at (layout_of_array self.old).grid chunk_indices.now)
+            (box_of chunk_subset.now)) (chunk_indices.now ∷ [])
+            (store_of_array TStorage.state self.old) }
+        ensures done { OnOk result (StoresPartAs
+            (layout_of_array self.old) (stores_empty_chunks options.now)
+            (D.gives chunk_subset_data) chunk_indices.now (box_of chunk_subset.now)
+            (store_of_array TStorage.state self.old) (store_of_array TStorage.state self.new)) }
+        ensures served { OnOk result (D.serves (layout_of_array self.old).kind ≡ true) }
+        ensures refused { IfErr result (λ e. RefusesStorePartAs D.serves
+            (layout_of_array self.old) (stores_empty_chunks options.now)
+            (D.gives chunk_subset_data) chunk_indices.now (box_of chunk_subset.now)
+            (store_of_array TStorage.state self.old)
+            (store_of_array TStorage.state self.new) (refusal_of e)) }
+        ensures kept { KeepsArray self.old self.new }
+    {
+        let chunk_subset_data = match chunk_subset_data.into_array_bytes(
+            alloc,
+            self.engine.data_type(),
+        ) {
+            Ok(chunk_subset_data) => chunk_subset_data,
+            Err(error) => {
+                self.check_place(alloc, chunk_indices, chunk_subset)?;
+                return Err(error.into());
+            }
+        };
+        self.engine.store_chunk_subset(
+            alloc,
+            chunk_indices,
+            chunk_subset,
+            &chunk_subset_data,
+            options,
+        )
+    }
+
+    /// Stores the cells, in row-major order, over the region, one chunk after another in row-major order, each by one
+    /// writing call of the store. A chunk of which the region covers a part alone is read first; cells of it outside
+    /// the region stay. An empty region asks nothing of the store.
+    ///
+    /// # Errors
+    /// In this order: E1 for another number of dimensions, or a position that no chunk covers; E5 for values that are
+    /// not those of the data type; for a region that is one chunk E8 if it has more bytes than a `usize` counts; E4 for
+    /// data that is not one cell for each position, each a value of the data type. Then, at one of the chunks: E8 for a
+    /// chunk of more bytes than a `usize` counts; of a chunk that is read, E7 if the store refuses its key, and E4 if
+    /// its bytes do not decode; E4 if the chain does not take it; E8 if its bytes pass a size; E7 if the store refuses
+    /// the write. E9 may come at any time. The chunks before that one are stored then, and no later one.
+    pub fn store_array_subset<'a, D: IntoArrayBytes<'a>>(
+        &mut self,
+        alloc: Global,
+        array_subset: &ArraySubset,
+        subset_data: D,
+    ) -> Result<(), ArrayError>
+        requires { MayAskParts (layout_of_array self.old) (box_of array_subset.now)
+            (chunks_met (layout_of_array self.old).grid (box_of array_subset.now))
+            (store_of_array TStorage.state self.old) }
+        ensures done { OnOk result (StoresRegionAs (layout_of_array self.old) false
+            (state_of_array TStorage.state self.old).shape (D.gives subset_data)
+            (box_of array_subset.now)
+            (store_of_array TStorage.state self.old) (store_of_array TStorage.state self.new)) }
+        ensures served { OnOk result (D.serves (layout_of_array self.old).kind ≡ true) }
+        ensures refused { IfErr result (λ e. RefusesStoreRegionAs D.serves
+            (layout_of_array self.old) false
+            (state_of_array TStorage.state self.old).shape (D.gives subset_data)
+            (box_of array_subset.now) (store_of_array TStorage.state self.old)
+            (store_of_array TStorage.state self.new) (refusal_of e)) }
+        ensures kept { KeepsArray self.old self.new }
+    {
+        self.store_array_subset_opt(alloc, array_subset, subset_data, &CodecOptions::default())
+    }
+
+    /// Does what `store_array_subset` does, under these options.
+    ///
+    /// # Errors
+    /// Those of `store_array_subset`.
+    pub fn store_array_subset_opt<'a, D: IntoArrayBytes<'a>>(
+        &mut self,
+        alloc: Global,
+        array_subset: &ArraySubset,
+        subset_data: D,
+        options: &CodecOptions,
+    ) -> Result<(), ArrayError>
+        requires { MayAskParts (layout_of_array self.old) (box_of array_subset.now)
+            (chunks_met (layout_of_array self.old).grid (box_of array_subset.now))
+            (store_of_array TStorage.state self.old) }
+        ensures done { OnOk result (StoresRegionAs
+            (layout_of_array self.old) (stores_empty_chunks options.now)
+            (state_of_array TStorage.state self.old).shape (D.gives subset_data)
+            (box_of array_subset.now)
+            (store_of_array TStorage.state self.old) (store_of_array TStorage.state self.new)) }
+        ensures served { OnOk result (D.serves (layout_of_array self.old).kind ≡ true) }
+        ensures refused { IfErr result (λ e. RefusesStoreRegionAs D.serves
+            (layout_of_array self.old) (stores_empty_chunks options.now)
+            (state_of_array TStorage.state self.old).shape (D.gives subset_data)
+            (box_of array_subset.now) (store_of_array TStorage.state self.old)
+            (store_of_array TStorage.state self.new) (refusal_of e)) }
+        ensures kept { KeepsArray self.old self.new }
+    {
+        let subset_data = match subset_data.into_array_bytes(alloc, self.engine.data_type()) {
+            Ok(subset_data) => subset_data,
+            Err(error) => {
+                let _ = self.engine.parts().chunks_met(alloc, array_subset)?;
+                return Err(error.into());
+            }
+        };
+        self.engine
+            .store_array_subset(alloc, array_subset, &subset_data, options)
+    }
+}
