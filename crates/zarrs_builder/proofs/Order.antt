@@ -1,0 +1,82 @@
+-- Which refusal of a builder comes first.
+use Rattle.std.proofs.Common.{◌≡◌, ℕ, List, length, Option, Some, Result, Ok, refl}
+use Rattle.serde_json.specs.Data.{Data}
+use Rattle.zarrs_metadata.specs.Extension.{ExtensionData}
+use Rattle.zarrs_chunk_grid.specs.Configurations.{GridConfiguration}
+use Rattle.zarrs_types.specs.Kind.{Kind}
+use Rattle.zarrs_codec.specs.Metadata.{BytesCodecData}
+use Rattle.zarrs_document.specs.Document.{DocumentData}
+use Rattle.zarrs_document_v2.specs.View.{v3}
+use Rattle.zarrs_options.specs.Refusals.{CreateRefusal, data_type, chunk_grid, said_or, RefusesCreation}
+use Rattle.zarrs_array_metadata.proofs.Order.{bound}
+use Rattle.zarrs_array_metadata.specs.Meanings.{names_said, path_said, created}
+use Rattle.zarrs_builder.specs.Given.{FillData}
+use Rattle.zarrs_builder.specs.Builders.{BuilderData, FieldsData, fields_of}
+use Rattle.zarrs_builder.specs.Built.{codec_chosen, grid_chosen, fill_chosen, fill_stated, chosen, document_with, document_of_fields, built, built_at, built_metadata}
+
+-- each field found memory
+pub all_found : (b : BuilderData) (s : List ℕ) → b.shape ≡ Some s → (g : Option ExtensionData) → b.chunk_grid ≡ Some g → (k : Option Kind) → b.data_type ≡ Some k → (f : FillData) → b.fill_value ≡ Some f → (n : Option (List (Option (List ℕ)))) → b.dimension_names ≡ Some n
+    → fields_of b ≡ Some (record { shape = s; chunk_grid = g; data_type = k; fill_value = f; dimension_names = n })
+unfolding fields_of
+all_found b s e1 g e2 k e3 f e4 n e5 = rw (e1, e2, e3, e4, e5) refl
+
+-- ---- what the fields say
+
+module _ (b : BuilderData) (f : FieldsData) (r : CreateRefusal) where
+  pub at_type : RefusesCreation (said_or data_type f.data_type) r → RefusesCreation (chosen b f) r
+  unfolding chosen
+  at_type is = bound _ _ r is
+
+  module _ (k : Kind) (e1 : f.data_type ≡ Some k) where
+    pub at_codec : RefusesCreation (codec_chosen b.array_to_bytes k) r → RefusesCreation (chosen b f) r
+    unfolding chosen
+    at_codec is = rw e1 (bound _ _ r is)
+
+    module _ (codec : BytesCodecData) (e2 : codec_chosen b.array_to_bytes k ≡ Ok codec) where
+      pub at_grid : RefusesCreation (said_or chunk_grid (grid_chosen f.chunk_grid f.shape)) r → RefusesCreation (chosen b f) r
+      unfolding chosen
+      at_grid is = rw (e1, e2) (bound _ _ r is)
+
+      module _ (grid : GridConfiguration) (e3 : grid_chosen f.chunk_grid f.shape ≡ Some grid) where
+        pub at_fill : RefusesCreation (fill_chosen k f.fill_value) r → RefusesCreation (chosen b f) r
+        unfolding chosen
+        at_fill is = rw (e1, e2, e3) (bound _ _ r is)
+
+        module _ (fill : List ℕ) (e4 : fill_chosen k f.fill_value ≡ Ok fill) where
+          pub at_names : RefusesCreation (names_said (length f.shape) f.dimension_names) r → RefusesCreation (chosen b f) r
+          unfolding chosen
+          at_names is = rw (e1, e2, e3, e4) (bound _ _ r is)
+
+          module _ (e5 : names_said (length f.shape) f.dimension_names ≡ Ok tt) where
+            pub at_stated : RefusesCreation (fill_stated k fill) r → RefusesCreation (chosen b f) r
+            unfolding chosen
+            at_stated is = rw (e1, e2, e3, e4, e5) (bound _ _ r is)
+
+pub all_chosen : (b : BuilderData) (f : FieldsData) (k : Kind) → f.data_type ≡ Some k → (codec : BytesCodecData) → codec_chosen b.array_to_bytes k ≡ Ok codec → (grid : GridConfiguration) → grid_chosen f.chunk_grid f.shape ≡ Some grid → (fill : List ℕ) → fill_chosen k f.fill_value ≡ Ok fill
+    → names_said (length f.shape) f.dimension_names ≡ Ok tt → (stated : Data) → fill_stated k fill ≡ Ok stated
+    → chosen b f ≡ Ok (record { kind = k; codec = codec; grid = grid; fill_value = stated })
+unfolding chosen
+all_chosen b f k e1 codec e2 grid e3 fill e4 e5 stated e6 = rw (e1, e2, e3, e4, e5, e6) refl
+
+-- ---- the array
+
+module _ (b : BuilderData) (f : FieldsData) (e : fields_of b ≡ Some f) where
+  pub built_refused : (r : CreateRefusal) → RefusesCreation (document_of_fields b f) r → RefusesCreation (built b) r
+  built_refused r is = rw e is
+
+  pub is_built : (m : DocumentData) → document_of_fields b f ≡ Ok m → built b ≡ Ok m
+  is_built m is = rw e is
+
+  pub metadata_built : (m : DocumentData) → document_of_fields b f ≡ Ok m → built_metadata b ≡ Ok (v3 m)
+  metadata_built m is = rw (e, is) refl
+
+  module _ (path : List ℕ) (r : CreateRefusal) where
+    pub at_path : RefusesCreation (path_said path) r → RefusesCreation (built_at path b) r
+    at_path is = rw e (bound _ _ r is)
+
+    module _ (valid : path_said path ≡ Ok tt) where
+      pub at_document : RefusesCreation (document_of_fields b f) r → RefusesCreation (built_at path b) r
+      at_document is = rw (e, valid) (bound _ _ r is)
+
+      pub at_creation : (m : DocumentData) → document_of_fields b f ≡ Ok m → RefusesCreation (created path (v3 m)) r → RefusesCreation (built_at path b) r
+      at_creation m made is = rw (e, valid, made) (rw valid at is)

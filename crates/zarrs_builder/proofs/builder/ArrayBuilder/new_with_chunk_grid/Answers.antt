@@ -1,0 +1,11 @@
+use Rattle.zarrs_options.specs.Given.{grid_given}
+use Rattle.zarrs_builder.proofs.Fields.{of_ok}
+use Rattle.zarrs_builder.proofs.builder.ArrayBuilder.new_with_chunk_grid.Goals as goal
+
+pub returns-clause-grid : goal.returns-clause-grid
+returns-clause-grid g c = record {
+  grid = c.into-chunk_grid.result;
+  is_given = c.into-chunk_grid.ensures;
+  shape = of_ok c.from_slice.result (λ v. v.items) _ (rw c.array_shape.ensures.value at c.from_slice.ensures.items);
+  chunk_grid = of_ok c.grid_field.result grid_given _ c.grid_field.ensures;
+}

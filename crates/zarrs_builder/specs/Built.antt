@@ -1,0 +1,87 @@
+-- The metadata that a builder says, or the first refusal.
+use Rattle.std.specs.Prelude.{◌≡◌, ℕ, List, [], length, Option, Some, None, Result, Ok, Err, is_some, if◌then◌else◌, option_and_then}
+use Rattle.serde_json.specs.Data.{Data}
+use Rattle.zarrs_metadata.specs.Extension.{ExtensionData}
+use Rattle.zarrs_keys.specs.Metadata.{extension_of_encoding}
+use Rattle.zarrs_chunk_grid.specs.Configurations.{GridConfiguration}
+use Rattle.zarrs_chunk_grid.specs.Metadata.{grid_said, extension_of_grid}
+use Rattle.zarrs_types.specs.Cell.{fill_cell}
+use Rattle.zarrs_types.specs.FillMetadata.{fill_said, fill_written}
+use Rattle.zarrs_types.specs.Kind.{Kind}
+use Rattle.zarrs_types.specs.TypeMetadata.{kind_name, kind_extension}
+use Rattle.zarrs_codec.specs.Metadata.{BytesCodecData, default_codec, extensions_of_chain}
+use Rattle.zarrs_document.specs.Document.{DocumentData}
+use Rattle.zarrs_document_v2.specs.View.{MetadataData, v3}
+use Rattle.zarrs_options.specs.Refusals.{CreateRefusal, data_type, codecs, chunk_grid, fill_value, fill_value_metadata, out_of_memory, said_or}
+use Rattle.zarrs_array_metadata.specs.Meanings.{Meaning, creation_v3, path_said, names_said, ◌>>=◌}
+use Rattle.zarrs_builder.specs.Given.{FillData, by_bytes, by_metadata}
+use Rattle.zarrs_builder.specs.Builders.{BuilderData, FieldsData, fields_of}
+
+-- the codec that makes bytes: the one that is set, or the default one of the type
+abbrev pub codec_chosen : Option BytesCodecData → Kind → Result BytesCodecData CreateRefusal
+codec_chosen (Some codec) k = Ok codec
+codec_chosen None k = said_or codecs (default_codec k)
+
+-- the grid over an array of that shape that is given, if there is one
+abbrev pub grid_chosen : Option ExtensionData → List ℕ → Option GridConfiguration
+grid_chosen given shape = option_and_then (λ e. grid_said e shape) given
+
+-- the bytes of the fill value; those that are given as bytes may be no value of the type
+abbrev pub fill_chosen : Kind → FillData → Result (List ℕ) CreateRefusal
+fill_chosen k (by_bytes f) = Ok f
+fill_chosen k (by_metadata d) = said_or (fill_value_metadata (kind_name k) d) (fill_said k d)
+
+-- its metadata, if the bytes are a value of the type
+abbrev pub fill_stated : Kind → List ℕ → Result Data CreateRefusal
+fill_stated k f = if is_some (fill_cell k f) then Ok (fill_written k f) else Err (fill_value (kind_name k) f)
+
+pub record ChosenData : Type 0 where
+  pub kind : Kind
+  pub codec : BytesCodecData
+  pub grid : GridConfiguration
+  pub fill_value : Data
+
+-- what fields say, or the first refusal
+unfoldable pub chosen : BuilderData → FieldsData → Result ChosenData CreateRefusal
+chosen b f = do
+  kind ← said_or data_type f.data_type
+  codec ← codec_chosen b.array_to_bytes kind
+  grid ← said_or chunk_grid (grid_chosen f.chunk_grid f.shape)
+  fill ← fill_chosen kind f.fill_value
+  named ← names_said (length f.shape) f.dimension_names
+  stated ← fill_stated kind fill
+  Ok (record { kind = kind; codec = codec; grid = grid; fill_value = stated })
+
+-- the metadata of these parts, by main names
+abbrev pub document_with : BuilderData → FieldsData → ChosenData → DocumentData
+document_with b f c = record {
+  shape = f.shape;
+  data_type = kind_extension c.kind;
+  chunk_grid = extension_of_grid c.grid;
+  chunk_key_encoding = extension_of_encoding b.chunk_key_encoding;
+  fill_value = c.fill_value;
+  codecs = extensions_of_chain (record { array_to_array = b.array_to_array; array_to_bytes = c.codec });
+  attributes = b.attributes;
+  storage_transformers = [];
+  dimension_names = f.dimension_names;
+  additional_fields = b.additional_fields;
+}
+
+abbrev pub document_of_fields : BuilderData → FieldsData → Result DocumentData CreateRefusal
+document_of_fields b f = chosen b f >>= (λ c. Ok (document_with b f c))
+
+-- the fields, each of which found memory
+abbrev pub found : BuilderData → Result FieldsData CreateRefusal
+found b = said_or out_of_memory (fields_of b)
+
+-- The metadata of a builder, or the first refusal.
+abbrev pub built : BuilderData → Result DocumentData CreateRefusal
+built b = found b >>= document_of_fields b
+
+-- the parts of the array of a builder at a path, or the first refusal
+abbrev pub built_at : List ℕ → BuilderData → Result Meaning CreateRefusal
+built_at path b = found b >>= (λ f. path_said path >>= (λ valid. document_of_fields b f >>= creation_v3))
+
+-- the metadata of the array of a builder
+abbrev pub built_metadata : BuilderData → Result MetadataData CreateRefusal
+built_metadata b = built b >>= (λ m. Ok (v3 m))

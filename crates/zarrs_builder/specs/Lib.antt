@@ -1,0 +1,5 @@
+pub mod Given
+pub mod Builders
+pub mod Built
+pub mod Lending
+pub mod Parts

@@ -1,0 +1,124 @@
+//! Builders of arrays that there are.
+ghost use Rattle.std.specs.Prelude.{◌≡◌, Some, IfOk, IsOkUnless};
+ghost use Rattle.zarrs_metadata.specs.FillValue.{fill_data};
+ghost use Rattle.zarrs_types.specs.FillMetadata.{fill_written};
+ghost use Rattle.zarrs_document.specs.View.{fields_view};
+ghost use Rattle.zarrs_document_v2.specs.View.{metadata_view};
+ghost use Rattle.zarrs.specs.Arrays.{meaning_of_array};
+ghost use Rattle.zarrs_builder.specs.Builders.{additional_fields_of};
+ghost use Rattle.zarrs_builder.specs.declared.builder.ArrayBuilder.{ArrayBuilder};
+
+use super::{ArrayBuilder, grid_field};
+use crate::copies::{copied_codecs, copied_dimension_names, copied_fields};
+use serde_json::Map;
+use std::alloc::{AllocError, Global};
+use zarrs::Array;
+use zarrs_codec::BytesToBytesCodecs;
+use zarrs_data_type::{DataTypeFillValueError, IntoField};
+use zarrs_document::{AdditionalFieldsV3, FillValueMetadata};
+use zarrs_document_v2::ArrayMetadata;
+use zarrs_metadata::members::copied;
+use zarrs_options::{ArrayCreateError, StorageTransformerChain};
+
+impl ArrayBuilder {
+    ghost use Rattle.zarrs.specs.Arrays.{metadata_of_array, meaning_of_array};
+    ghost use Rattle.zarrs_builder.specs.Builders.{builder_view, builder_of};
+
+    /// Returns a builder of an array with the shape, the chunk grid, the data type, the fill value, the codecs, the
+    /// chunk keys, the attributes and the names of dimensions of this one, and of V3 the additional fields. The fill
+    /// value is metadata, so that a data type that is set later reads it.
+    ///
+    /// # Errors
+    /// E26 alone.
+    pub fn from_array<TStorage>(
+        alloc: Global,
+        array: &Array<TStorage>,
+    ) -> Result<ArrayBuilder, ArrayCreateError>
+        ensures made { IfOk result (λ b. builder_view b
+            ≡ builder_of (metadata_of_array array.now) (meaning_of_array array.now)) }
+        ensures accepted { IsOkUnless result ArrayCreateError.OutOfMemory }
+    {
+        let fill_value = fill_metadata(alloc, array)?.into_field(alloc)?;
+        let shape = Vec::from_slice(alloc, array.shape())?;
+        let chunk_grid = grid_field(alloc, array.chunk_grid())?;
+        let data_type = array.data_type().try_clone(alloc)?.into_field(alloc)?;
+        let dimension_names = copied_dimension_names(alloc, array.dimension_names())?;
+        let chunk_key_encoding = array.chunk_key_encoding().clone()?;
+        let codecs = array.codecs();
+        let array_to_array_codecs = copied_codecs(alloc, codecs.array_to_array_codecs())?;
+        let attributes = copied(array.attributes())?;
+        let additional_fields = fields_of_metadata(alloc, array.metadata())?;
+        Ok(ArrayBuilder {
+            shape: Ok(shape),
+            chunk_grid: Ok(chunk_grid),
+            data_type: Ok(data_type),
+            fill_value: Ok(fill_value),
+            dimension_names: Ok(dimension_names),
+            chunk_key_encoding,
+            array_to_array_codecs,
+            array_to_bytes_codec: Some(codecs.array_to_bytes_codec().try_clone()),
+            bytes_to_bytes_codecs: BytesToBytesCodecs,
+            attributes,
+            additional_fields,
+            storage_transformers: StorageTransformerChain,
+        })
+    }
+}
+
+/// Returns the metadata of the fill value, which is a value of the data type.
+fn fill_metadata<TStorage>(
+    alloc: Global,
+    array: &Array<TStorage>,
+) -> Result<FillValueMetadata, AllocError>
+    ensures { IfOk result (λ m. fill_data m ≡ fill_written (meaning_of_array array.now).kind
+        (meaning_of_array array.now).fill) }
+{
+    match array
+        .data_type()
+        .metadata_fill_value(alloc, array.fill_value())
+    {
+        Ok(metadata) => Ok(metadata),
+        Err(DataTypeFillValueError::OutOfMemory) => Err(AllocError),
+        Err(DataTypeFillValueError::Invalid) => unreachable!(),
+    }
+}
+
+/// Returns a copy of the additional fields. V2 metadata has none.
+fn fields_of_metadata(
+    alloc: Global,
+    metadata: &ArrayMetadata,
+) -> Result<AdditionalFieldsV3, AllocError>
+    ensures { IfOk result (λ fields. fields_view fields.entries
+        ≡ additional_fields_of (metadata_view metadata.now)) }
+{
+    match metadata {
+        ArrayMetadata::V3(document) => copied_fields(&document.additional_fields),
+        ArrayMetadata::V2(_) => Ok(Map::new(alloc)),
+    }
+}
+
+/// What has a builder of another one like it.
+pub trait ToBuilder {
+    // Holds of a value and each builder that it may return.
+    ghost builds: { Self → ArrayBuilder → Type 0 };
+
+    /// Returns a builder of another one like this.
+    ///
+    /// # Errors
+    /// E26 alone.
+    fn builder(&self, alloc: Global) -> Result<ArrayBuilder, ArrayCreateError>
+        ensures made { IfOk result (builds self.now) }
+        ensures accepted { IsOkUnless result ArrayCreateError.OutOfMemory };
+}
+
+impl<TStorage> ToBuilder for Array<TStorage> {
+    ghost use Rattle.zarrs.specs.Arrays.{metadata_of_array, meaning_of_array};
+    ghost use Rattle.zarrs_builder.specs.Builders.{builder_view, builder_of};
+
+    ghost builds = { λ array builder. builder_view builder
+        ≡ builder_of (metadata_of_array array) (meaning_of_array array) };
+
+    fn builder(&self, alloc: Global) -> Result<ArrayBuilder, ArrayCreateError> {
+        ArrayBuilder::from_array(alloc, self)
+    }
+}

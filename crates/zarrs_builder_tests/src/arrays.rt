@@ -1,0 +1,149 @@
+//! Arrays that are built, and builders of arrays.
+use crate::made::{BYTES, bytes, must_say};
+use serde_json::Value;
+use std::alloc::Global;
+use std::num::NonZeroU64;
+use std::process::Abort;
+use std::test::Fail;
+use zarrs::{Array, ArrayMetadata, ArrayMetadataV2, DataTypeMetadataV2};
+use zarrs_builder::{ArrayBuilder, ToBuilder};
+use zarrs_data_type::DataType;
+use zarrs_document::{ArrayMetadataV3, FillValueMetadata};
+use zarrs_storage::MemoryStore;
+
+type MemoryArray = Array<MemoryStore>;
+
+fn must_be_cut(rt: &impl Abort, array: &MemoryArray) {
+    assert_eq!(rt; array.path().as_str(), "/array");
+    assert_eq!(rt; array.shape(), [8, 8].as_slice());
+    assert_eq!(rt; array.chunk_grid_shape(), [4, 4].as_slice());
+    assert_eq!(rt; array.storage().calls(), 0);
+}
+
+fn must_be_named(rt: &impl Abort, array: &MemoryArray, names: &[&str]) -> Result<(), Fail> {
+    let said = array.dimension_names().ok_or("no names")?;
+    assert_eq!(rt; said.len(), names.len());
+    for (name, wanted) in said.iter().zip(names.iter()) {
+        assert!(rt; name.as_deref() == Some(*wanted));
+    }
+    Ok(())
+}
+
+const NAMES: &[&str] = &["y", "x"];
+
+/// 8 by 8 numbers in chunks of 2 by 2, whose dimensions have names.
+fn numbers(alloc: Global) -> ArrayBuilder {
+    let mut builder = ArrayBuilder::new(alloc, [8u64, 8], [2u64, 2], DataType::Int8, 0i8);
+    builder.dimension_names(alloc, Some(NAMES.iter().copied()));
+    builder
+}
+
+#[test]
+fn an_array_is_built(rt: HostRuntime) -> Result<(), Fail> {
+    let alloc = rt.alloc();
+    let array = numbers(alloc).build(alloc, MemoryStore::new(alloc), "/array")?;
+    must_be_cut(&rt, &array);
+    must_be_named(&rt, &array, &["y", "x"])
+}
+
+#[test]
+fn an_array_is_built_by_the_other_name(rt: HostRuntime) -> Result<(), Fail> {
+    let alloc = rt.alloc();
+    let array = numbers(alloc).build_arc(alloc, MemoryStore::new(alloc), "/array")?;
+    must_be_cut(&rt, &array);
+    Ok(())
+}
+
+fn must_be(rt: &impl Abort, numbers: &[i8], wanted: &[i8]) {
+    assert!(rt; numbers == wanted);
+}
+
+/// A chunk is stored and read, and another one is fill.
+fn must_keep_cells(rt: &impl Abort, alloc: Global, array: &mut MemoryArray) -> Result<(), Fail> {
+    array.store_chunk(alloc, &[3, 3], &[1i8, 2, 3, 4])?;
+    let stored: Vec<i8> = array.retrieve_chunk(alloc, &[3, 3])?;
+    must_be(rt, &stored, &[1, 2, 3, 4]);
+    let absent: Vec<i8> = array.retrieve_chunk(alloc, &[0, 0])?;
+    must_be(rt, &absent, &[7, 7, 7, 7]);
+    Ok(())
+}
+
+#[test]
+fn a_built_array_is_stored_and_read(rt: HostRuntime) -> Result<(), Fail> {
+    let alloc = rt.alloc();
+    let mut builder = numbers(alloc);
+    builder.fill_value(alloc, 7u8);
+    let mut array = builder.build(alloc, MemoryStore::new(alloc), "/")?;
+    must_keep_cells(&rt, alloc, &mut array)
+}
+
+/// The builder of the array says this metadata.
+fn must_build(rt: &impl Abort, alloc: Global, array: &MemoryArray, text: &str) -> Result<(), Fail> {
+    must_say(rt, alloc, &array.builder(alloc)?, text)
+}
+
+/// A V3 document with everything that a builder takes, by other names.
+const DOCUMENT: &str = concat!(
+    "{\"attributes\":{\"a\":1},\"chunk_grid\":{\"name\":\"zarrs.regular_bounded\",",
+    "\"configuration\":{\"chunk_shape\":[3]}},\"chunk_key_encoding\":\"v2\",",
+    "\"codecs\":[\"vlen-bytes\"],\"data_type\":\"variable_length_bytes\",",
+    "\"dimension_names\":[null],\"fill_value\":[7],\"key\":5,\"node_type\":\"array\",",
+    "\"shape\":[5],\"zarr_format\":3}"
+);
+
+/// The metadata that a builder of that array says.
+const BUILT: &str = concat!(
+    "{\"attributes\":{\"a\":1},\"chunk_grid\":{\"configuration\":{\"chunk_shape\":[3]},",
+    "\"name\":\"regular_bounded\"},\"chunk_key_encoding\":{\"configuration\":",
+    "{\"separator\":\".\"},\"name\":\"v2\"},\"codecs\":[\"vlen-bytes\"],",
+    "\"data_type\":\"bytes\",\"dimension_names\":[null],\"fill_value\":[7],\"key\":5,",
+    "\"node_type\":\"array\",\"shape\":[5],\"zarr_format\":3}"
+);
+
+fn v3_array(alloc: Global) -> Result<MemoryArray, Fail> {
+    let document = ArrayMetadataV3::from_value(alloc, Value::from_str(alloc, DOCUMENT)?)?;
+    let metadata = ArrayMetadata::V3(document);
+    Ok(Array::new_with_metadata(alloc, MemoryStore::new(alloc), "/", metadata)?)
+}
+
+#[test]
+fn a_builder_of_a_v3_array(rt: HostRuntime) -> Result<(), Fail> {
+    must_build(&rt, rt.alloc(), &v3_array(rt.alloc())?, BUILT)
+}
+
+/// The V3 metadata of a V2 array of numbers whose fill value is null.
+const CONVERTED: &str = concat!(
+    "{\"chunk_grid\":{\"configuration\":{\"chunk_shape\":[2,2]},\"name\":\"regular\"},",
+    "\"chunk_key_encoding\":{\"configuration\":{\"separator\":\".\"},\"name\":\"v2\"},",
+    "\"codecs\":[{\"configuration\":{\"endian\":\"little\"},\"name\":\"bytes\"}],",
+    "\"data_type\":\"uint16\",\"fill_value\":0,\"node_type\":\"array\",\"shape\":[2,2],",
+    "\"zarr_format\":3}"
+);
+
+/// The metadata of that V2 array.
+fn v2_document(alloc: Global) -> Result<ArrayMetadataV2, Fail> {
+    let size = NonZeroU64::new(2).ok_or("no size")?;
+    let shape = [2, 2].to_vec(alloc)?;
+    let chunks = [size, size].to_vec(alloc)?;
+    let dtype = DataTypeMetadataV2::new(String::from_str(alloc, "<u2")?);
+    let fill_value = FillValueMetadata::Null;
+    Ok(ArrayMetadataV2::new(shape, chunks, dtype, fill_value, Value::Null, Value::Null))
+}
+
+fn v2_array(alloc: Global) -> Result<MemoryArray, Fail> {
+    let metadata = ArrayMetadata::V2(v2_document(alloc)?);
+    Ok(Array::new_with_metadata(alloc, MemoryStore::new(alloc), "/", metadata)?)
+}
+
+#[test]
+fn a_builder_of_a_v2_array(rt: HostRuntime) -> Result<(), Fail> {
+    must_build(&rt, rt.alloc(), &v2_array(rt.alloc())?, CONVERTED)
+}
+
+#[test]
+fn a_builder_is_used_again(rt: HostRuntime) -> Result<(), Fail> {
+    let alloc = rt.alloc();
+    let builder = bytes(alloc);
+    drop(builder.build(alloc, MemoryStore::new(alloc), "/")?);
+    must_say(&rt, alloc, &builder, BYTES)
+}
