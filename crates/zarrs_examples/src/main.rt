@@ -8,13 +8,14 @@ use std::rt::Files;
 use zarrs_script::run_script;
 
 /// The scripts, and the status that each ends with.
-const EXAMPLES: [(&str, u8); 9] = [
+const EXAMPLES: [(&str, u8); 10] = [
     ("first", 0),
     ("cells", 0),
     ("types", 0),
     ("no_dimension", 1),
     ("refusals", 1),
     ("regions", 1),
+    ("metadata", 1),
     ("skipped", 1),
     ("limits", 1),
     ("not_a_command", 2),

@@ -11,7 +11,7 @@ use Rattle.zarrs_script.specs.declared.error.ParseError.{ParseError}
 use Rattle.zarrs_script.specs.declared.error.ParseError.TheVariants.{NotACommand, OutOfMemory}
 use Rattle.zarrs_script.specs.Words.{each_of}
 use Rattle.zarrs_script.specs.CellTypes.{joined_cells}
-use Rattle.zarrs_script.specs.Script.{keys_order}
+use Rattle.zarrs_script.specs.Script.{keys_order, meta_order}
 use Rattle.zarrs_script.specs.Parsed.{Fails}
 
 -- the word is number k of the parts
@@ -88,3 +88,8 @@ fails_at OutOfMemory item front parts k word whole turn h so_far = tt
 pub no_keys : (words : List (List ℕ)) → (words ≡ [] → ⊥) → keys_order words ≡ None
 no_keys [] h = absurd (h refl)
 no_keys (word ∷ words) h = refl
+
+-- nor a `meta` line
+pub no_meta : (words : List (List ℕ)) → (words ≡ [] → ⊥) → meta_order words ≡ None
+no_meta [] h = absurd (h refl)
+no_meta (word ∷ words) h = refl

@@ -1,6 +1,6 @@
 -- What new arrays are.
 use Rattle.std.proofs.Common.{◌≡◌, ◌≢◌, ◌==◌, ℕ, ◌<◌, ◌+◌, true, false, List, [], ◌∷◌, ◌++◌, length, take, get_or}
-use Rattle.std.proofs.Common.{codes, Err, refl, sym, ap, ◌∙◌, subst, arith}
+use Rattle.std.proofs.Common.{codes, map, Some, Ok, Err, refl, sym, ap, ◌∙◌, subst, arith}
 use Rattle.std.specs.List.{list_any}
 use Rattle.std.specs.FinMap as finite
 use Rattle.std.specs.Int.NonZero.{non_zero_u64_get}
@@ -20,6 +20,22 @@ use Rattle.zarrs_chunk_grid.specs.Refusals.{RefusesGrid}
 use Rattle.zarrs_chunk_grid.specs.declared.error.GridError.{GridError}
 use Rattle.zarrs_chunk_grid.specs.declared.error.GridError.TheVariants as grid_error
 use Rattle.zarrs_data_type.specs.Kind.{Kind}
+use Rattle.serde_json.specs.Written.{has_float}
+use Rattle.zarrs_document.specs.Document.{DocumentData, data_of_document}
+use Rattle.zarrs_keys.specs.declared.encodings.ChunkKeyEncoding.TheVariants.{Default}
+use Rattle.zarrs_chunk_grid.specs.Configurations.{GridConfiguration}
+use Rattle.zarrs_codec_array.specs.Metadata.{array_codec_data}
+use Rattle.zarrs_codec_array.specs.declared.array.ArrayToArrayCodec.{ArrayToArrayCodec}
+use Rattle.zarrs_codec_leaf.specs.Bytes.{endian_of}
+use Rattle.zarrs_codec_leaf.specs.declared.bytes.BytesCodec.{BytesCodec}
+use Rattle.zarrs_codec_leaf.specs.declared.bytes.Endianness.TheVariants.{Little}
+use Rattle.zarrs_codec.specs.Chains.{array_to_array_of, array_to_bytes_of}
+use Rattle.zarrs_codec.specs.Metadata.{ChainData, chain_data, bytes_codec_data, bytes}
+use Rattle.zarrs_codec.specs.declared.chain.ArrayToBytesCodec.TheVariants as code
+use Rattle.zarrs_codec.specs.declared.chain.CodecChain.{CodecChain}
+use Rattle.zarrs_array_metadata.specs.Meanings.{Meaning, creation_v3}
+use Rattle.zarrs_script_metadata.specs.Parts.{is_number, document_for}
+use Rattle.zarrs_script_metadata.proofs.Plain.{plain_document_for}
 use Rattle.zarrs_codec.specs.Chain.{ChainMeaning}
 use Rattle.zarrs_codec_leaf.specs.Bytes.{bytes_meaning}
 use Rattle.zarrs_codec_array.specs.Arrays.{same_array}
@@ -27,11 +43,12 @@ use Rattle.zarrs_codec.specs.Chains.{whole_chunk}
 use Rattle.zarrs_codec.specs.Through.{through}
 use Rattle.zarrs_steps.specs.Layout.{Layout, layout_at}
 use Rattle.zarrs_script.specs.declared.cell_type.CellType.{CellType}
+use Rattle.zarrs_script.specs.declared.cell_type.CellType.TheVariants as cell
 use Rattle.zarrs_script.specs.declared.command.Creation.{Creation}
 use Rattle.zarrs_script.specs.declared.error.CreationError.{CreationError}
 use Rattle.zarrs_script.specs.declared.error.CreationError.TheVariants.{NoGrid, OutOfMemory}
 use Rattle.zarrs_script.specs.CellTypes.{kind_of}
-use Rattle.zarrs_script.specs.Transcript.{Opened, MakesGrid, layout_for, new_array}
+use Rattle.zarrs_script.specs.Transcript.{Opened, MakesGrid, SaysItsParts, layout_for, parts_of_line, metadata_for, new_array}
 use Rattle.zarrs_script.specs.Sessions.{Creates}
 use Rattle.zarrs_script.specs.Sizes.{HasSizes}
 
@@ -66,13 +83,57 @@ makes_grid shape chunk_shape sizes is taken =
 same_layout : (g h : Grid) (p q : List ℕ) (k l : List ℕ → List ℕ) (c d : ChainMeaning) (t u : Kind) (f e : List ℕ) → g ≡ h → p ≡ q → k ≡ l → c ≡ d → t ≡ u → f ≡ e → layout_at g p k c t f ≡ layout_at h q l d u e
 same_layout g h p q k l c d t u f e grid path key chain kind fill = λ i. layout_at (grid i) (path i) (key i) (chain i) (kind i) (fill i)
 
-pub made_array : (shape chunk_shape fill : List ℕ) (cell_type : CellType) (sizes : List NonZeroU64) (grid : Grid) (path : List ℕ) (key : List ℕ → List ℕ) (chain : ChainMeaning) (kind : Kind) (held : List ℕ) (layout : Layout) (store : MemoryState) (extents : List ℕ)
+pub made_array : (shape chunk_shape fill : List ℕ) (cell_type : CellType) (sizes : List NonZeroU64) (grid : Grid) (path : List ℕ) (key : List ℕ → List ℕ) (chain : ChainMeaning) (kind : Kind) (held : List ℕ) (layout : Layout) (document : DocumentData) (store : MemoryState) (extents : List ℕ)
     → sizes_of sizes ≡ chunk_shape → layout ≡ layout_at grid path key chain kind held → grid ≡ grid_of (regular (sizes_of sizes)) shape → path ≡ codes "/" → key ≡ default_key Slash → chain ≡ through same_array (whole_chunk bytes_meaning) → kind ≡ kind_of cell_type → held ≡ fill
-    → store ≡ record { values = finite.empty; calls = 0; failures = 0 } → extents ≡ shape
-    → ◌≡◌ {A = Opened} (record { cell_type = cell_type; layout = layout; state = record { store = open_state store; shape = extents } }) (new_array shape chunk_shape cell_type fill)
-made_array shape chunk_shape fill cell_type sizes grid path key chain kind held layout store extents is made on_grid at_root by_default in_bytes typed filled empty long =
+    → document ≡ metadata_for shape chunk_shape cell_type fill → store ≡ record { values = finite.empty; calls = 0; failures = 0 } → extents ≡ shape
+    → ◌≡◌ {A = Opened} (record { cell_type = cell_type; layout = layout; metadata = document; state = record { store = open_state store; shape = extents } }) (new_array shape chunk_shape cell_type fill)
+made_array shape chunk_shape fill cell_type sizes grid path key chain kind held layout document store extents is made on_grid at_root by_default in_bytes typed filled described empty long =
     let same : layout ≡ layout_for shape chunk_shape cell_type fill = made ∙ same_layout grid (grid_of (regular chunk_shape) shape) path (codes "/") key (default_key Slash) chain (through same_array (whole_chunk bytes_meaning)) kind (kind_of cell_type) held fill (on_grid ∙ ap (λ (extents : List ℕ). grid_of (regular extents) shape) is) at_root by_default in_bytes typed filled in
-    λ i. record { cell_type = cell_type; layout = same i; state = record { store = open_state (empty i); shape = long i } }
+    λ i. record { cell_type = cell_type; layout = same i; metadata = described i; state = record { store = open_state (empty i); shape = long i } }
+
+-- ---- what new arrays have beside their layout
+
+numeric : (cell_type : CellType) → is_number (kind_of cell_type) ≡ true
+numeric cell.Bool = refl
+numeric cell.Int8 = refl
+numeric cell.Int16 = refl
+numeric cell.Int32 = refl
+numeric cell.Int64 = refl
+numeric cell.UInt8 = refl
+numeric cell.UInt16 = refl
+numeric cell.UInt32 = refl
+numeric cell.UInt64 = refl
+
+-- the type of the cells is a bool or an integer
+pub is_numeric : (kind : Kind) (cell_type : CellType) → kind ≡ kind_of cell_type → is_number kind ≡ true
+is_numeric kind cell_type typed = ap is_number typed ∙ numeric cell_type
+
+-- a chain of `bytes` alone, little endian
+pub little_chain : (chain : CodecChain) (codecs : List ArrayToArrayCodec) (codec : BytesCodec) → array_to_array_of chain ≡ codecs → codecs ≡ [] → array_to_bytes_of chain ≡ code.Bytes codec → endian_of codec ≡ Some Little
+    → chain_data chain ≡ record { array_to_array = []; array_to_bytes = bytes (Some Little) }
+little_chain chain codecs codec front none last endian =
+    let before = front ∙ none in
+    let after = ap bytes_codec_data last ∙ ap bytes endian in
+    λ i. record { array_to_array = map array_codec_data (before i); array_to_bytes = after i }
+
+-- the parts are those of the line
+pub made_parts : (shape chunk_shape fill : List ℕ) (cell_type : CellType) (sizes : List NonZeroU64) (extents : List ℕ) (grid : GridConfiguration) (chain : ChainData) (kind : Kind) (held : List ℕ)
+    → sizes_of sizes ≡ chunk_shape → extents ≡ shape → grid ≡ regular (sizes_of sizes) → chain ≡ record { array_to_array = []; array_to_bytes = bytes (Some Little) } → kind ≡ kind_of cell_type → held ≡ fill
+    → ◌≡◌ {A = Meaning} (record { shape = extents; grid = grid; keys = Default Slash; chain = chain; kind = kind; fill = held }) (parts_of_line shape chunk_shape cell_type fill)
+made_parts shape chunk_shape fill cell_type sizes extents grid chain kind held is long on_grid in_bytes typed filled =
+    let cut = on_grid ∙ ap regular is in
+    λ i. record { shape = long i; grid = cut i; keys = Default Slash; chain = in_bytes i; kind = typed i; fill = filled i }
+
+-- the metadata says the parts of the line
+pub says_parts : (shape chunk_shape fill : List ℕ) (cell_type : CellType) (parts : Meaning) (document : DocumentData) → parts ≡ parts_of_line shape chunk_shape cell_type fill → document ≡ document_for parts → creation_v3 document ≡ Ok parts
+    → SaysItsParts shape chunk_shape cell_type fill
+says_parts shape chunk_shape fill cell_type parts document are described says =
+    ap (λ (p : Meaning). creation_v3 (document_for p)) (sym are) ∙ ap creation_v3 (sym described) ∙ says ∙ ap Ok are
+
+-- the metadata holds no float
+pub is_plain : (shape chunk_shape fill : List ℕ) (cell_type : CellType) (document : DocumentData) → document ≡ metadata_for shape chunk_shape cell_type fill → has_float (data_of_document document) ≡ false
+is_plain shape chunk_shape fill cell_type document described =
+    ap (λ (d : DocumentData). has_float (data_of_document d)) described ∙ plain_document_for shape chunk_shape (kind_of cell_type) fill (numeric cell_type)
 
 -- without sizes there is no array
 pub no_sizes : (creation : Creation) (error : CreationError) → HasSizes creation.chunk_shape.items (Err error) → Creates creation (Err error)

@@ -16,6 +16,9 @@ use Rattle.zarrs_steps.specs.Acts.{Act, store, erase, read, read_chunk, act_of}
 use Rattle.zarrs_steps.specs.ArgumentRefusals.{argument_refusal}
 use Rattle.zarrs_steps.specs.Refusals.{Refusal}
 use Rattle.zarrs_steps.specs.Step.{ActStep, Step}
+use Rattle.zarrs_document.specs.Document.{DocumentData}
+use Rattle.zarrs_document.specs.View.{document_view}
+use Rattle.zarrs_script_metadata.specs.Parts.{text_of_document}
 use Rattle.zarrs_script.specs.declared.cell_type.CellType.{CellType}
 use Rattle.zarrs_script.specs.declared.command.Creation.{Creation}
 use Rattle.zarrs_script.specs.declared.command.Command.{Command}
@@ -29,8 +32,8 @@ use Rattle.zarrs_script.specs.Transcript.{keys_text, data_text, reply_text, is_r
 use Rattle.zarrs_script.specs.Sessions.{Follows, session_of, opened}
 
 -- the session of these parts
-abbrev pub at : CellType → Layout → ArrayState → Session
-at cell_type layout state = Some (record { cell_type = cell_type; layout = layout; state = state })
+abbrev pub at : CellType → Layout → DocumentData → ArrayState → Session
+at cell_type layout metadata state = Some (record { cell_type = cell_type; layout = layout; metadata = metadata; state = state })
 
 -- data that stands for cells has a text
 some_text : (cell_type : CellType) (kind : Kind) (held : ArrayData) (given : List Cell) → kind ≡ kind_of cell_type → cells kind held ≡ Some given → IsSome (data_text cell_type held)
@@ -73,10 +76,10 @@ does_call (call.RetrieveChunkSubset indices part) array outcome calls = calls
 does_call (call.RetrieveArraySubset region) array outcome calls = calls
 
 -- a step of the engine is what the line of its call may do
-pub call_served : (cell_type : CellType) (layout after : Layout) (keep : Bool) (asked : Call) (reply : Reply) (old new : ArrayState) (refused : Bool) → keep ≡ false → after ≡ layout → refused ≡ is_refusal reply → Step layout keep asked reply old new
-    → (text : List ℕ) → reply_text cell_type reply ≡ Some text → Does (at cell_type layout old) (order_of_call asked) (record { text = text; refused = refused; after = at cell_type after new })
-call_served cell_type layout after keep asked reply old new refused default stays told step text said =
-    does_call asked (record { cell_type = cell_type; layout = layout; state = old }) (record { text = text; refused = refused; after = at cell_type after new }) (record {
+pub call_served : (cell_type : CellType) (layout after : Layout) (metadata : DocumentData) (keep : Bool) (asked : Call) (reply : Reply) (old new : ArrayState) (refused : Bool) → keep ≡ false → after ≡ layout → refused ≡ is_refusal reply → Step layout keep asked reply old new
+    → (text : List ℕ) → reply_text cell_type reply ≡ Some text → Does (at cell_type layout metadata old) (order_of_call asked) (record { text = text; refused = refused; after = at cell_type after metadata new })
+call_served cell_type layout after metadata keep asked reply old new refused default stays told step text said =
+    does_call asked (record { cell_type = cell_type; layout = layout; metadata = metadata; state = old }) (record { text = text; refused = refused; after = at cell_type after metadata new }) (record {
       call = asked;
       asks = refl;
       reply = reply;
@@ -84,7 +87,7 @@ call_served cell_type layout after keep asked reply old new refused default stay
       step = subst (λ (k : Bool). Step layout k asked reply old new) default step;
       prints = said;
       refused = told;
-      after = ap (λ (l : Layout). at cell_type l new) stays;
+      after = ap (λ (l : Layout). at cell_type l metadata new) stays;
     })
 
 -- without an array a call is skipped
@@ -154,6 +157,16 @@ keys_skipped array command text absent is prints = rw (← absent, is, prints) r
 pub keys_listed : (array : OpenArray) (before : Option OpenArray) (command : Command) (text : List ℕ) → Some array ≡ before → command ≡ command_of.Keys → text ≡ keys_text (opened array).state.store.values
     → Does (session_of before) (order_of_command command) (record { text = text; refused = false; after = Some (opened array) })
 keys_listed array before command text old is prints = rw (← old, is, prints) refl
+
+-- a `meta` line without an array
+pub meta_skipped : (array : Option OpenArray) (command : Command) (text : List ℕ) → None ≡ array → command ≡ command_of.Meta → text ≡ line (codes "skipped")
+    → Does (session_of array) (order_of_command command) (record { text = text; refused = false; after = session_of array })
+meta_skipped array command text absent is prints = rw (← absent, is, prints) refl
+
+-- a `meta` line
+pub meta_shown : (array : OpenArray) (before : Option OpenArray) (command : Command) (text : List ℕ) → Some array ≡ before → command ≡ command_of.Meta → text ≡ line (text_of_document (document_view array.metadata))
+    → Does (session_of before) (order_of_command command) (record { text = text; refused = false; after = Some (opened array) })
+meta_shown array before command text old is prints = rw (← old, is, prints) refl
 
 -- an `array` line
 pub array_opened : (before : Option OpenArray) (command : Command) (creation : Creation) (outcome : Outcome) → command ≡ command_of.Array creation

@@ -14,7 +14,7 @@ use Rattle.zarrs_script.specs.declared.error.ParseError.TheVariants.{NotACommand
 use Rattle.zarrs_script.specs.declared.error.ScriptError.{ScriptError}
 use Rattle.zarrs_script.specs.declared.error.ScriptError.TheVariants as script
 use Rattle.zarrs_metadata.specs.Extension.{◌>>=◌}
-use Rattle.zarrs_script.specs.Script.{Order, Array, Chunk, Read, Erase, Put, Get, Keys, Other}
+use Rattle.zarrs_script.specs.Script.{Order, Array, Chunk, Read, Erase, Put, Get, Keys, Meta, Other}
 
 -- a text that says this is refused with this error: it says nothing, or out of memory
 abbrev pub Fails : {Y : Type 0} → ParseError → Option Y → Type 0
@@ -47,6 +47,7 @@ abbrev pub order_of_command : Command → Order
 order_of_command (command.Array made) = order_of_creation made
 order_of_command (command.Call asked) = order_of_call asked
 order_of_command command.Keys = Keys
+order_of_command command.Meta = Meta
 
 -- what was parsed is what the script says, unless out of memory
 abbrev pub Parses : {X : Type 0} → (X → List Order) → Result X ScriptError → Result (List Order) ℕ → Type 0

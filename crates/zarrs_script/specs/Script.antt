@@ -24,6 +24,8 @@ pub data Order : Type 0 where
   Get : (region : Box) → Order
   -- list the keys
   Keys : Order
+  -- show the metadata
+  Meta : Order
   -- a call that no line asks for
   Other : Order
 
@@ -36,6 +38,7 @@ verb_of word =
     else if bytes_eq word (codes "put") then Some verb.Put
     else if bytes_eq word (codes "get") then Some verb.Get
     else if bytes_eq word (codes "keys") then Some verb.Keys
+    else if bytes_eq word (codes "meta") then Some verb.Meta
     else None
 
 abbrev pub array_order : List (List ℕ) → Option Order
@@ -74,6 +77,10 @@ abbrev pub keys_order : List (List ℕ) → Option Order
 keys_order [] = Some Keys
 keys_order _ = None
 
+abbrev pub meta_order : List (List ℕ) → Option Order
+meta_order [] = Some Meta
+meta_order _ = None
+
 -- The order of a line with this verb and these words after it, if the latest array before it has the known type.
 -- Before the first array there is no order except an array's.
 abbrev pub verb_order : Verb → Option CellType → List (List ℕ) → Option Order
@@ -84,6 +91,7 @@ verb_order verb.Erase known words = known >>= λ _. indices_of words >>= λ indi
 verb_order verb.Put known words = known >>= λ cell_type. put_order cell_type words
 verb_order verb.Get known words = known >>= λ _. get_order words
 verb_order verb.Keys known words = known >>= λ _. keys_order words
+verb_order verb.Meta known words = known >>= λ _. meta_order words
 
 abbrev pub words_order : Option CellType → List (List ℕ) → Option Order
 words_order known [] = None

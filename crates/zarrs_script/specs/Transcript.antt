@@ -1,12 +1,13 @@
 -- What a script prints.
 use Rattle.std.specs.Prelude.{◌≡◌, ◌⊎◌, ◌==◌, ℕ, ◌||◌, Bool, true, false, List, [], ◌∷◌, ◌++◌, map, codes, decimal}
-use Rattle.std.specs.Prelude.{unwrap_or, Option, Some, None, option_map}
+use Rattle.std.specs.Prelude.{unwrap_or, Option, Some, None, option_map, Ok}
 use Rattle.std.specs.List.{flat_map, list_any, join_with_byte}
 use Rattle.std.specs.FinMap as finite
 use Rattle.hex.specs.Hex.{encode_lower}
 use Rattle.zarrs_storage.specs.Store.{StoreState, Values}
 use Rattle.zarrs_storage.specs.Memory.{open_state}
 use Rattle.zarrs_metadata.specs.declared.separators.ChunkKeySeparator.TheVariants.{Slash}
+use Rattle.zarrs_document.specs.Document.{DocumentData}
 use Rattle.zarrs_keys.specs.Encodings.{default_key}
 use Rattle.zarrs_chunk_grid.specs.Configurations.{regular, grid_of, takes_shape}
 use Rattle.zarrs_data_type.specs.ArrayData.{ArrayData, data_of}
@@ -21,15 +22,18 @@ use Rattle.zarrs_steps.specs.declared.call.Reply.TheVariants.{Done, Cells, Maybe
 use Rattle.zarrs_steps.specs.Layout.{Layout, layout_at, ArrayState}
 use Rattle.zarrs_steps.specs.Refusals.{refusal_of, refusal_number}
 use Rattle.zarrs_steps.specs.Step.{Step}
+use Rattle.zarrs_array_metadata.specs.Meanings.{Meaning, creation_v3}
+use Rattle.zarrs_script_metadata.specs.Parts.{parts_for, document_for, text_of_document}
 use Rattle.zarrs_script.specs.declared.cell_type.CellType.{CellType}
 use Rattle.zarrs_script.specs.CellTypes.{kind_of, cell_text}
-use Rattle.zarrs_script.specs.Script.{Order, Array, Keys}
+use Rattle.zarrs_script.specs.Script.{Order, Array, Keys, Meta}
 use Rattle.zarrs_script.specs.Parsed.{order_of_call}
 
--- an open array: the type of its cells, what its parts mean, its store and its shape
+-- an open array: the type of its cells, what its parts mean, its metadata, its store and its shape
 pub record Opened : Type 0 where
   pub cell_type : CellType
   pub layout : Layout
+  pub metadata : DocumentData
   pub state : ArrayState
 
 -- what lines speak to: nothing before the first array, and after a refused one
@@ -96,6 +100,14 @@ abbrev pub layout_for : List ℕ → List ℕ → CellType → List ℕ → Layo
 layout_for shape chunk_shape cell_type fill =
     layout_at (grid_of (regular chunk_shape) shape) (codes "/") (default_key Slash) (through same_array (whole_chunk bytes_meaning)) (kind_of cell_type) fill
 
+-- the parts of a new array
+abbrev pub parts_of_line : List ℕ → List ℕ → CellType → List ℕ → Meaning
+parts_of_line shape chunk_shape cell_type fill = parts_for shape chunk_shape (kind_of cell_type) fill
+
+-- the metadata of a new array, which says its parts
+abbrev pub metadata_for : List ℕ → List ℕ → CellType → List ℕ → DocumentData
+metadata_for shape chunk_shape cell_type fill = document_for (parts_of_line shape chunk_shape cell_type fill)
+
 -- a store in memory that holds nothing
 abbrev pub new_store : StoreState
 new_store = open_state (record { values = finite.empty; calls = 0; failures = 0 })
@@ -105,13 +117,19 @@ abbrev pub new_array : List ℕ → List ℕ → CellType → List ℕ → Opene
 new_array shape chunk_shape cell_type fill = record {
   cell_type = cell_type;
   layout = layout_for shape chunk_shape cell_type fill;
+  metadata = metadata_for shape chunk_shape cell_type fill;
   state = record { store = new_store; shape = shape };
 }
+
+-- the metadata of a new array says its parts
+abbrev pub SaysItsParts : List ℕ → List ℕ → CellType → List ℕ → Type 0
+SaysItsParts shape chunk_shape cell_type fill =
+    creation_v3 (metadata_for shape chunk_shape cell_type fill) ≡ Ok (parts_of_line shape chunk_shape cell_type fill)
 
 -- A new array is open, or it is refused: E18 if the chunk's extents make no grid of the shape, E26 if out of memory.
 abbrev pub Opens : List ℕ → List ℕ → CellType → List ℕ → Outcome → Type 0
 Opens shape chunk_shape cell_type fill outcome =
-    (MakesGrid shape chunk_shape × (outcome ≡ record { text = line (codes "ok"); refused = false; after = Some (new_array shape chunk_shape cell_type fill) }))
+    (MakesGrid shape chunk_shape × SaysItsParts shape chunk_shape cell_type fill × (outcome ≡ record { text = line (codes "ok"); refused = false; after = Some (new_array shape chunk_shape cell_type fill) }))
     ⊎ ((MakesGrid shape chunk_shape → ⊥) × (outcome ≡ record { text = refusal 18; refused = true; after = None }))
     ⊎ (outcome ≡ record { text = refusal 26; refused = true; after = None })
 
@@ -124,7 +142,7 @@ pub record Calls (order : Order) (before : Opened) (outcome : Outcome) : Type 0 
   pub step : Step before.layout false call reply before.state state
   pub prints : reply_text before.cell_type reply ≡ Some outcome.text
   pub refused : outcome.refused ≡ is_refusal reply
-  pub after : outcome.after ≡ Some (record { cell_type = before.cell_type; layout = before.layout; state = state })
+  pub after : outcome.after ≡ Some (record before { state = state })
 
 -- what a line may do
 abbrev pub Does : Session → Order → Outcome → Type 0
@@ -132,6 +150,7 @@ Does before (Array shape chunk_shape cell_type fill) outcome = Opens shape chunk
 -- without an open array nothing is done
 Does None order outcome = outcome ≡ record { text = line (codes "skipped"); refused = false; after = None }
 Does (Some array) Keys outcome = outcome ≡ record { text = keys_text array.state.store.values; refused = false; after = Some array }
+Does (Some array) Meta outcome = outcome ≡ record { text = line (text_of_document array.metadata); refused = false; after = Some array }
 Does (Some array) order outcome = Calls order array outcome
 
 -- the outcome of lines, one after the other

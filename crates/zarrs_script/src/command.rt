@@ -16,6 +16,7 @@ pub enum Verb {
     Put,
     Get,
     Keys,
+    Meta,
 }
 
 /// A new array. There may be no such array: the lists are as the line has them.
@@ -41,4 +42,6 @@ pub enum Command {
     Call(Call),
     /// Lists the keys that are present, and their bytes.
     Keys,
+    /// Shows the metadata of the open array.
+    Meta,
 }

@@ -1,7 +1,7 @@
 //! The arrays that `array` lines make.
-ghost use Rattle.std.specs.Prelude.{◌≡◌};
+ghost use Rattle.std.specs.Prelude.{◌≡◌, IfOk};
 ghost use Rattle.zarrs_script.specs.Sizes.{HasSizes};
-ghost use Rattle.zarrs_script.specs.Sessions.{Creates};
+ghost use Rattle.zarrs_script.specs.Sessions.{Creates, HasParts};
 
 use crate::array::OpenArray;
 use crate::command::Creation;
@@ -13,6 +13,7 @@ use zarrs_codec::{ArrayToBytesCodec, BytesCodec, BytesToBytesCodecs, CodecChain}
 use zarrs_data_type::FillValue;
 use zarrs_engine::Engine;
 use zarrs_keys::{ChunkKeyEncoding, ChunkKeySeparator, NodePath};
+use zarrs_script_metadata::metadata_of_parts;
 use zarrs_storage::MemoryStore;
 
 /// The extents of a chunk, none of which may be 0.
@@ -31,13 +32,14 @@ fn chunk_shape_of(alloc: Global, extents: &[u64]) -> Result<ChunkShape, Creation
 
 impl OpenArray {
     /// A new array at the path `/` of a new store in memory, with the `regular` grid, `default` keys with `/` and the
-    /// codec `bytes`.
+    /// codec `bytes`, and the metadata that says these parts.
     ///
     /// # Errors
     /// `NoGrid` if the chunk shape has another length than the shape, or an extent 0. `OutOfMemory` may come at any
     /// time.
     pub fn create(alloc: Global, creation: Creation) -> Result<OpenArray, CreationError>
-        ensures { Creates creation result }
+        ensures created { Creates creation result }
+        ensures parts { IfOk result (HasParts creation) }
     {
         let Creation {
             shape,
@@ -54,19 +56,27 @@ impl OpenArray {
         let Ok(root) = NodePath::new(alloc, "/") else {
             return Err(CreationError::OutOfMemory);
         };
+        let chain = CodecChain::new(
+            Vec::new(alloc),
+            ArrayToBytesCodec::Bytes(BytesCodec::little()),
+            BytesToBytesCodecs,
+        );
+        let data_type = cell_type.data_type();
+        let fill_value = FillValue::new(fill);
+        let metadata = metadata_of_parts(alloc, &grid, &chain, &data_type, &fill_value)?;
         let engine = Engine::new(
             MemoryStore::new(alloc),
             root,
             grid,
             ChunkKeyEncoding::Default(ChunkKeySeparator::Slash),
-            CodecChain::new(
-                Vec::new(alloc),
-                ArrayToBytesCodec::Bytes(BytesCodec::little()),
-                BytesToBytesCodecs,
-            ),
-            cell_type.data_type(),
-            FillValue::new(fill),
+            chain,
+            data_type,
+            fill_value,
         );
-        Ok(OpenArray { cell_type, engine })
+        Ok(OpenArray {
+            cell_type,
+            engine,
+            metadata,
+        })
     }
 }

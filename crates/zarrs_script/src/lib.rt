@@ -1,4 +1,5 @@
-//! Scripts: lines that make an array in memory, store, read and erase its cells, and list the keys of its store.
+//! Scripts: lines that make an array in memory, store, read and erase its cells, list the keys of its store, and show
+//! its metadata.
 #![tactic(auto)]
 
 mod array;

@@ -7,7 +7,8 @@ ghost use Rattle.zarrs_script.specs.Words.{number_of, each_of, numbers_of, regio
 ghost use Rattle.zarrs_script.specs.CellTypes.{kind_of, cell_of, joined_cells, cells_of, low_bytes};
 ghost use Rattle.zarrs_script.specs.CellTypes.{positive, negative, unsigned_cell, signed_cell};
 ghost use Rattle.zarrs_script.specs.Script.{verb_of, array_order, chunk_order, put_order};
-ghost use Rattle.zarrs_script.specs.Script.{get_order, indices_of, keys_order, verb_order};
+ghost use Rattle.zarrs_script.specs.Script.{get_order, indices_of, keys_order, meta_order};
+ghost use Rattle.zarrs_script.specs.Script.{verb_order};
 ghost use Rattle.zarrs_script.specs.Script.{order_of, type_after, is_skipped, orders_of};
 ghost use Rattle.zarrs_script.specs.Parsed.{Gives, Grows, words_in, TakesWord, TakesLastWord};
 ghost use Rattle.zarrs_script.specs.Parsed.{order_of_command, Parses};
@@ -39,6 +40,8 @@ fn verb_of(word: &[u8]) -> Option<Verb>
         Some(Verb::Get)
     } else if word == b"keys".as_slice() {
         Some(Verb::Keys)
+    } else if word == b"meta".as_slice() {
+        Some(Verb::Meta)
     } else {
         None
     }
@@ -309,6 +312,15 @@ fn keys_command(words: Option<&[u8]>) -> Result<Command, ParseError>
     }
 }
 
+fn meta_command(words: Option<&[u8]>) -> Result<Command, ParseError>
+    ensures { Gives order_of_command result (meta_order (words_in words.entry)) }
+{
+    match words {
+        None => Ok(Command::Meta),
+        Some(_) => Err(ParseError::NotACommand),
+    }
+}
+
 /// The command of a line that begins with this verb. The latest array before it has the known type.
 fn verb_command(
     alloc: Global,
@@ -329,6 +341,7 @@ fn verb_command(
         (Verb::Put, Some(cell_type)) => put_command(alloc, cell_type, words),
         (Verb::Get, Some(_)) => get_command(alloc, words),
         (Verb::Keys, Some(_)) => keys_command(words),
+        (Verb::Meta, Some(_)) => meta_command(words),
     }
 }
 

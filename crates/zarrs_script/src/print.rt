@@ -1,9 +1,13 @@
-//! Prints replies and keys.
+//! Prints replies, keys and metadata.
 ghost use Rattle.std.specs.Prelude.{◌≡◌, ◌≤◌, ◌++◌, ◌*◌, ◌∷◌, [], codes, decimal, length, IfOk};
-ghost use Rattle.std.specs.Prelude.{OnOk, IsSome, Some};
+ghost use Rattle.std.specs.Prelude.{OnOk, IsSome, Some, false};
+ghost use Rattle.serde_json.specs.Written.{has_float};
+ghost use Rattle.zarrs_document.specs.Document.{data_of_document};
+ghost use Rattle.zarrs_document.specs.View.{document_view};
 ghost use Rattle.zarrs_data_type.specs.ArrayData.{fixed};
 ghost use Rattle.zarrs_data_type.specs.Cells.{cells};
 ghost use Rattle.zarrs_steps.specs.Refusals.{refusal_of, refusal_number};
+ghost use Rattle.zarrs_script_metadata.specs.Parts.{text_of_document};
 ghost use Rattle.zarrs_script.specs.CellTypes.{kind_of, size_of, value_of, number_text};
 ghost use Rattle.zarrs_script.specs.Transcript.{line, refusal, data_text, reply_text, is_refusal};
 ghost use Rattle.zarrs_script.specs.Transcript.{bytes_at, key_text, keys_text};
@@ -17,7 +21,9 @@ use std::alloc::{AllocError, Global};
 use std::io::Write;
 use zarrs_codec_leaf::CodecError;
 use zarrs_data_type::{ArrayBytes, ElementError};
+use zarrs_document::ArrayMetadataV3;
 use zarrs_engine::{ArrayError, Reply};
+use zarrs_script_metadata::metadata_text;
 use zarrs_storage::{MemoryStore, ReadableStorageTraits, StorageError, StoreKey};
 
 /// The number of bytes that are gathered before they are written.
@@ -264,4 +270,21 @@ pub fn put_keys<W: Write>(
         spill(writer, out)?;
     }
     Ok(())
+}
+
+/// Prints the compact text of the metadata.
+///
+/// # Errors
+/// `AllocError`: out of memory.
+pub fn put_metadata(
+    alloc: Global,
+    out: &mut Vec<u8>,
+    metadata: &ArrayMetadataV3,
+) -> Result<(), AllocError>
+    requires { has_float (data_of_document (document_view metadata.now)) ≡ false }
+    ensures { OnOk result
+        (out.new.items ≡ out.old.items ++ line (text_of_document (document_view metadata.now))) }
+{
+    let text = metadata_text(alloc, metadata)?;
+    put_line(out, text.as_bytes())
 }

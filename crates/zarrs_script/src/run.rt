@@ -9,7 +9,9 @@ use crate::array::OpenArray;
 use crate::command::{Command, Creation};
 use crate::error::{CreationError, ScriptError, Stopped};
 use crate::parse::commands_of;
-use crate::print::{complaint, put_keys, put_line, put_refusal, put_reply, put_skipped, spill};
+use crate::print::{
+    complaint, put_keys, put_line, put_metadata, put_refusal, put_reply, put_skipped, spill,
+};
 use std::alloc::{AllocError, Global};
 use std::io::{Read, Write};
 use zarrs_codec::CodecOptions;
@@ -93,11 +95,19 @@ fn run_command<W: Write>(
             put_keys(alloc, writer, out, array.engine.storage())?;
             Ok(false)
         }
+        (Command::Meta, Some(array)) => {
+            put_metadata(alloc, out, &array.metadata)?;
+            Ok(false)
+        }
         (Command::Call(_), None) => {
             put_skipped(out)?;
             Ok(false)
         }
         (Command::Keys, None) => {
+            put_skipped(out)?;
+            Ok(false)
+        }
+        (Command::Meta, None) => {
             put_skipped(out)?;
             Ok(false)
         }
@@ -164,10 +174,10 @@ fn read_and_answer<R: Read, W: Write>(
 /// Runs the script that the reader holds, prints into the writer, and returns the status.
 ///
 /// Each line is a command, empty, or begins with `#`. A command is `array SHAPE CHUNKS TYPE FILL`,
-/// `chunk INDICES CELLS`, `read INDICES`, `erase INDICES`, `put START SHAPE CELLS`, `get START SHAPE` or `keys`. A list
-/// is numbers joined by `,`, or `-`. A region's START and SHAPE have one entry for each dimension, and each end, their
-/// sum, is below 2^64. A type is `bool`, `int8` to `int64` or `uint8` to `uint64`. Its cells are numbers, of a signed
-/// type also with `-` before them; of `bool` they are 0 and 1.
+/// `chunk INDICES CELLS`, `read INDICES`, `erase INDICES`, `put START SHAPE CELLS`, `get START SHAPE`, `keys` or `meta`.
+/// A list is numbers joined by `,`, or `-`. A region's START and SHAPE have one entry for each dimension, and each end,
+/// their sum, is below 2^64. A type is `bool`, `int8` to `int64` or `uint8` to `uint64`. Its cells are numbers, of a
+/// signed type also with `-` before them; of `bool` they are 0 and 1.
 ///
 /// | Status | Meaning |
 /// |---|---|

@@ -2,6 +2,8 @@
 #![tactic(auto)]
 
 #[cfg(test)]
+mod meta;
+#[cfg(test)]
 mod regions;
 #[cfg(test)]
 mod tests;

@@ -19,7 +19,7 @@ fn a_region_without_positions_has_no_cells(rt: HostRuntime) {
 
 #[test]
 fn regions_are_stored_and_read(rt: HostRuntime) {
-    let cases: [(&str, &str, u8); 9] = [
+    const CASES: &[(&str, &str, u8)] = &[
         // absent chunks are fill
         (
             "array 4,4 2,2 int16 -7\nget 1,1 2,3\nkeys\n",
@@ -75,12 +75,12 @@ fn regions_are_stored_and_read(rt: HostRuntime) {
             1,
         ),
     ];
-    must_print_each(&rt, rt.alloc(), &cases);
+    must_print_each(&rt, rt.alloc(), CASES);
 }
 
 #[test]
 fn the_words_of_no_region_are_no_command(rt: HostRuntime) {
-    let lines: [&str; 14] = [
+    const LINES: &[&str] = &[
         "get",
         "get 0,0",
         "get 0,0 4,4 1",
@@ -96,7 +96,7 @@ fn the_words_of_no_region_are_no_command(rt: HostRuntime) {
         "put 0,0 1,1 256",
         "put 0,18446744073709551615 1,1 1",
     ];
-    for line in lines {
+    for line in LINES {
         must_not_be_a_line(&rt, rt.alloc(), line);
     }
 }

@@ -23,7 +23,7 @@ pub fn must_print_each(rt: &impl Abort, alloc: Global, cases: &[(&str, &str, u8)
 
 #[test]
 fn scripts_print_what_they_ask(rt: HostRuntime) {
-    let cases: [(&str, &str, u8); 16] = [
+    const CASES: &[(&str, &str, u8)] = &[
         (
             "array 4 2 uint8 0\nchunk 1 5,6\nread 1\nread 0\nkeys\nerase 1\nkeys\n",
             "ok\nok\n5,6\n0,0\nc/1 0506\nok\nnone\n",
@@ -105,12 +105,12 @@ fn scripts_print_what_they_ask(rt: HostRuntime) {
         ),
         ("", "", 0),
     ];
-    must_print_each(&rt, rt.alloc(), &cases);
+    must_print_each(&rt, rt.alloc(), CASES);
 }
 
 #[test]
 fn a_refusal_stops_no_later_call(rt: HostRuntime) {
-    let cases: [(&str, &str, u8); 4] = [
+    const CASES: &[(&str, &str, u8)] = &[
         // calls between two `keys` lines, with refusals in the middle: each line is answered, in turn
         (
             "array 6 2 int16 0\nkeys\nchunk 0 1,2\nread 0\nchunk 1 3\nread 0,0\nchunk 2 -5,6\nread 2\nread 1\nerase 0\nread 0\nkeys\n",
@@ -135,12 +135,12 @@ fn a_refusal_stops_no_later_call(rt: HostRuntime) {
             1,
         ),
     ];
-    must_print_each(&rt, rt.alloc(), &cases);
+    must_print_each(&rt, rt.alloc(), CASES);
 }
 
 #[test]
 fn the_first_line_that_is_no_command_is_named(rt: HostRuntime) {
-    let cases: [(&[u8], &str); 22] = [
+    const CASES: &[(&[u8], &str)] = &[
         (
             b"array 4 2 uint8 0\nchunk 0 1,256\n",
             "line 2: not a command\n",
@@ -173,13 +173,13 @@ fn the_first_line_that_is_no_command_is_named(rt: HostRuntime) {
             "line 3: not a command\n",
         ),
         (b"array 4 2 uint8 0\nread 1,,1\n", "line 2: not a command\n"),
-        (b"array 4 2 uint8 0\nmeta", "line 2: not a command\n"),
+        (b"array 4 2 uint8 0\nkey", "line 2: not a command\n"),
         (
             b"array 4 2 uint8 0\nread \xff\xfe\n",
             "line 2: not a command\n",
         ),
     ];
-    for (script, prints) in cases {
+    for (script, prints) in CASES {
         must_print(&rt, rt.alloc(), script, prints.as_bytes(), 2);
     }
 }
@@ -343,7 +343,7 @@ fn a_hundred_thousand_lines(rt: HostRuntime) -> Result<(), Fail> {
 
 #[test]
 fn each_type_has_its_cells(rt: HostRuntime) {
-    let cases: [(&str, &str, u8); 12] = [
+    const CASES: &[(&str, &str, u8)] = &[
         // the least and the greatest number of each type, as they are printed and as they are stored
         (
             "array 2 2 bool 1\nread 0\nchunk 0 0,1\nread 0\nkeys\n",
@@ -409,12 +409,12 @@ fn each_type_has_its_cells(rt: HostRuntime) {
             1,
         ),
     ];
-    must_print_each(&rt, rt.alloc(), &cases);
+    must_print_each(&rt, rt.alloc(), CASES);
 }
 
 #[test]
 fn a_cell_outside_its_type_is_not_a_command(rt: HostRuntime) {
-    let cells: [&str; 20] = [
+    const CELLS: &[&str] = &[
         "bool 2",
         "bool -1",
         "bool -0",
@@ -436,7 +436,7 @@ fn a_cell_outside_its_type_is_not_a_command(rt: HostRuntime) {
         "int8 -",
         "int8 +1",
     ];
-    for cell in cells {
+    for cell in CELLS {
         must_not_be_a_command(&rt, rt.alloc(), cell);
     }
 }

@@ -1,7 +1,9 @@
 use Rattle.std.proofs.Common.{codes, refl}
+use Rattle.zarrs_document.specs.View.{document_view}
+use Rattle.zarrs_script_metadata.specs.Parts.{text_of_document}
 use Rattle.zarrs_script.specs.Transcript.{line}
 use Rattle.zarrs_script.proofs.Printing.{puts_as, puts_pending}
-use Rattle.zarrs_script.proofs.Transcripts.{array_opened, call_skipped, keys_skipped, keys_listed}
+use Rattle.zarrs_script.proofs.Transcripts.{array_opened, call_skipped, keys_skipped, keys_listed, meta_skipped, meta_shown}
 use Rattle.zarrs_script.proofs.run.run_command.Goals as goal
 
 pub returns-in_ok-opening-in-Array-default : goal.returns-in_ok-opening-in-Array-default
@@ -16,6 +18,17 @@ returns-in_ok-put_keys-in-Keys-Some g c =
     puts_as (g.W.Write.contents c.args.writer.now) _ c.args.out.now.items _
     (λ text is. keys_listed c.in-Keys-Some.array.now c.args.array.now c.args.command text c.in-Keys-Some.ensures.value c.in-Keys-Some.is-0 is)
     (rw c.storage.ensures at c.in_ok-put_keys-in-Keys-Some.ensures)
+
+pub returns-in_ok-put_metadata-in-Meta-Some : goal.returns-in_ok-put_metadata-in-Meta-Some
+returns-in_ok-put_metadata-in-Meta-Some g c =
+    let shown = line (text_of_document (document_view c.in-Meta-Some.array.now.metadata)) in
+    puts_pending (g.W.Write.contents c.args.writer.now) c.args.out.now.items _ shown c.in_ok-put_metadata-in-Meta-Some.ensures
+    (meta_shown c.in-Meta-Some.array.now c.args.array.now c.args.command shown c.in-Meta-Some.ensures.value c.in-Meta-Some.is-0 refl)
+
+pub returns-in_ok-put_skipped-in-Meta-None : goal.returns-in_ok-put_skipped-in-Meta-None
+returns-in_ok-put_skipped-in-Meta-None g c =
+    puts_pending (g.W.Write.contents c.args.writer.now) c.args.out.now.items _ (line (codes "skipped")) c.in_ok-put_skipped-in-Meta-None.ensures
+    (meta_skipped c.args.array.now c.args.command (line (codes "skipped")) c.in-Meta-None.ensures.value c.in-Meta-None.is-0 refl)
 
 pub returns-in_ok-put_skipped-in-Call-None : goal.returns-in_ok-put_skipped-in-Call-None
 returns-in_ok-put_skipped-in-Call-None g c =

@@ -1,0 +1,3 @@
+pub mod Fills
+pub mod Plain
+pub mod Documents
