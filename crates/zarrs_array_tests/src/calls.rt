@@ -16,16 +16,8 @@ fn region(alloc: Global, start: &[u64], shape: &[u64]) -> Result<ArraySubset, Fa
     Ok(ArraySubset::new_with_start_shape(start, shape)?)
 }
 
-fn bytes(alloc: Global, bytes: &[u8]) -> Result<ArrayBytes<'static>, Fail> {
-    Ok(ArrayBytes::new_flen(bytes.to_vec(alloc)?))
-}
-
-fn must_be(rt: &impl Abort, data: &ArrayBytes<'_>, bytes: &[u8]) {
-    let ArrayBytes::Fixed(held) = data else {
-        assert!(rt; false, "other data");
-        return;
-    };
-    assert!(rt; held.as_slice() == bytes);
+fn must_be(rt: &impl Abort, held: &[u8], bytes: &[u8]) {
+    assert!(rt; held == bytes);
 }
 
 fn must_hold(
@@ -35,19 +27,20 @@ fn must_hold(
     cells: &[u8],
 ) -> Result<(), Fail> {
     let all = array.subset_all(alloc)?;
-    must_be(rt, &array.retrieve_array_subset(alloc, &all)?, cells);
+    let held: Vec<u8> = array.retrieve_array_subset(alloc, &all)?;
+    must_be(rt, &held, cells);
     Ok(())
 }
 
 /// Writes of a chunk, of a part of one, of a range of chunks and of a region.
 fn write(alloc: Global, array: &mut MemoryArray) -> Result<(), Fail> {
-    array.store_chunk(alloc, &[0, 0], &bytes(alloc, &[1, 2, 3, 4])?)?;
+    array.store_chunk(alloc, &[0, 0], &[1u8, 2, 3, 4])?;
     let part = region(alloc, &[1, 0], &[1, 2])?;
-    array.store_chunk_subset(alloc, &[0, 1], &part, &bytes(alloc, &[5, 6])?)?;
+    array.store_chunk_subset(alloc, &[0, 1], &part, &[5u8, 6])?;
     let chunks = region(alloc, &[1, 0], &[1, 2])?;
-    array.store_chunks(alloc, &chunks, &bytes(alloc, &[7; 8])?)?;
+    array.store_chunks(alloc, &chunks, &[7u8; 8])?;
     let middle = region(alloc, &[1, 1], &[2, 2])?;
-    array.store_array_subset(alloc, &middle, &bytes(alloc, &[9; 4])?)?;
+    array.store_array_subset(alloc, &middle, &[9u8; 4])?;
     Ok(())
 }
 
@@ -74,13 +67,13 @@ fn what_is_written_is_in_its_region(rt: HostRuntime) -> Result<(), Fail> {
 /// The same with options that keep empty chunks, and erasures of a chunk and of a range.
 fn write_with_options(alloc: Global, array: &mut MemoryArray) -> Result<(), Fail> {
     let options = CodecOptions::default().with_store_empty_chunks(true);
-    array.store_chunk_opt(alloc, &[0, 0], &bytes(alloc, &[0; 4])?, &options)?;
+    array.store_chunk_opt(alloc, &[0, 0], &[0u8; 4], &options)?;
     let part = region(alloc, &[0, 0], &[1, 1])?;
-    array.store_chunk_subset_opt(alloc, &[0, 1], &part, &bytes(alloc, &[0])?, &options)?;
+    array.store_chunk_subset_opt(alloc, &[0, 1], &part, &[0u8], &options)?;
     let chunks = region(alloc, &[1, 0], &[1, 2])?;
-    array.store_chunks_opt(alloc, &chunks, &bytes(alloc, &[0; 8])?, &options)?;
+    array.store_chunks_opt(alloc, &chunks, &[0u8; 8], &options)?;
     let all = array.subset_all(alloc)?;
-    array.store_array_subset_opt(alloc, &all, &bytes(alloc, &[0; 16])?, &options)?;
+    array.store_array_subset_opt(alloc, &all, &[0u8; 16], &options)?;
     Ok(())
 }
 
@@ -176,18 +169,12 @@ fn empty_chunks_are_kept_and_erased(rt: HostRuntime) -> Result<(), Fail> {
 /// Reads of a chunk, of a part of one and of a range, and of the stored bytes.
 fn must_read(rt: &impl Abort, alloc: Global, array: &MemoryArray) -> Result<(), Fail> {
     let part = region(alloc, &[0, 1], &[2, 1])?;
-    must_be(
-        rt,
-        &array.retrieve_chunk_subset(alloc, &[0, 0], &part)?,
-        &[2, 9],
-    );
+    let held: Vec<u8> = array.retrieve_chunk_subset(alloc, &[0, 0], &part)?;
+    must_be(rt, &held, &[2, 9]);
     let chunks = region(alloc, &[1, 0], &[1, 2])?;
-    must_be(
-        rt,
-        &array.retrieve_chunks(alloc, &chunks)?,
-        &[7, 9, 9, 7, 7, 7, 7, 7],
-    );
-    let found = array.retrieve_chunk_if_exists(alloc, &[0, 1])?;
+    let held: Vec<u8> = array.retrieve_chunks(alloc, &chunks)?;
+    must_be(rt, &held, &[7, 9, 9, 7, 7, 7, 7, 7]);
+    let found: Option<Vec<u8>> = array.retrieve_chunk_if_exists(alloc, &[0, 1])?;
     must_be(rt, &found.ok_or("an absent chunk")?, &[0, 0, 9, 6]);
     must_be_stored(rt, alloc, array, &[1, 0], &[7, 9, 7, 7])?;
     must_store_so_many(rt, alloc, array, &chunks, 2)
@@ -222,7 +209,7 @@ fn what_is_read_is_what_was_written(rt: HostRuntime) -> Result<(), Fail> {
 
 /// A list of calls: a store, and a read of indices without a chunk key.
 fn must_replay(rt: &impl Abort, alloc: Global, array: &mut MemoryArray) -> Result<(), Fail> {
-    let cells = bytes(alloc, &[1; 4])?;
+    let cells = ArrayBytes::new_flen(vec![in alloc; 1u8; 4]?);
     let calls = vec![in alloc;
         Call::StoreChunk(vec![in alloc; 0, 0]?, cells),
         Call::RetrieveChunk(vec![in alloc; 0]?),
@@ -257,6 +244,36 @@ fn must_lie(rt: &impl Abort, alloc: Global, array: &MemoryArray) -> Result<(), F
     Ok(())
 }
 
+/// The boxes of ranges of chunks, and the refusals of a range.
+fn must_fill(rt: &impl Abort, alloc: Global, array: &MemoryArray) -> Result<(), Fail> {
+    let right = region(alloc, &[0, 1], &[2, 2])?;
+    assert_eq!(rt;
+        array.chunks_subset(alloc, &right)?.shape(),
+        [4, 4].as_slice()
+    );
+    assert_eq!(rt;
+        array.chunks_subset_bounded(alloc, &right)?.shape(),
+        [4, 2].as_slice()
+    );
+    let empty = region(alloc, &[9], &[0])?;
+    assert_eq!(rt; array.chunks_subset(alloc, &empty)?.start(), [0].as_slice());
+    let cut = array.chunks_subset_bounded(alloc, &empty);
+    assert!(rt;
+        matches!(
+            cut,
+            Err(zarrs::ArrayError::IncompatibleDimensionalityError(_))
+        )
+    );
+    let line = array.chunks_subset(alloc, &region(alloc, &[1], &[1])?);
+    assert!(rt;
+        matches!(
+            line,
+            Err(zarrs::ArrayError::InvalidChunkGridIndicesError(_))
+        )
+    );
+    Ok(())
+}
+
 fn must_meet(rt: &impl Abort, alloc: Global, array: &MemoryArray) -> Result<(), Fail> {
     let met = array.chunks_in_array_subset(alloc, &region(alloc, &[1, 1], &[1, 2])?)?;
     assert_eq!(rt; met.ok_or("no chunks")?.shape(), [1, 2].as_slice());
@@ -281,5 +298,7 @@ fn must_meet(rt: &impl Abort, alloc: Global, array: &MemoryArray) -> Result<(), 
 fn queries_say_where_chunks_lie(rt: HostRuntime) -> Result<(), Fail> {
     let alloc = rt.alloc();
     let array = small_array(alloc)?;
+    must_lie(&rt, alloc, &array)?;
+    must_fill(&rt, alloc, &array)?;
     must_meet(&rt, alloc, &array)
 }

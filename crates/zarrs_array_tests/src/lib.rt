@@ -10,4 +10,8 @@ mod made;
 #[cfg(test)]
 mod opening;
 #[cfg(test)]
+mod setters;
+#[cfg(test)]
+mod typed;
+#[cfg(test)]
 mod versions;

@@ -5,7 +5,7 @@ use std::alloc::Global;
 use std::process::Abort;
 use std::test::Fail;
 use zarrs::{
-    Array, ArrayBytes, ArrayCreateError, ArrayMetadata, NodePathError, StorageError, StoreKey,
+    Array, ArrayCreateError, ArrayMetadata, NodePathError, StorageError, StoreKey,
     written_and_opened,
 };
 use zarrs_storage::{
@@ -58,13 +58,6 @@ fn must_be_of_the_text(
     Ok(())
 }
 
-fn holds(data: &ArrayBytes<'_>, bytes: &[u8]) -> bool {
-    match data {
-        ArrayBytes::Fixed(held) => held.as_slice() == bytes,
-        _ => false,
-    }
-}
-
 fn must_read(
     rt: &impl Abort,
     alloc: Global,
@@ -72,8 +65,8 @@ fn must_read(
     indices: &[u64],
     bytes: &[u8],
 ) -> Result<(), Fail> {
-    let cells = array.retrieve_chunk(alloc, indices)?;
-    assert!(rt; holds(&cells, bytes));
+    let cells: Vec<u8> = array.retrieve_chunk(alloc, indices)?;
+    assert!(rt; cells.as_slice() == bytes);
     Ok(())
 }
 
@@ -89,8 +82,7 @@ fn must_store(rt: &impl Abort, alloc: Global, array: &mut MemoryArray) -> Result
 fn must_go_on(rt: &impl Abort, alloc: Global, array: &mut MemoryArray) -> Result<(), Fail> {
     must_be_of_the_text(rt, alloc, array, BYTES)?;
     must_read(rt, alloc, array, &[0, 1], &[0; 16])?;
-    let cells = ArrayBytes::new_flen(vec![in alloc; 5u8; 16]?);
-    array.store_chunk(alloc, &[0, 1], &cells)?;
+    array.store_chunk(alloc, &[0, 1], &[5u8; 16])?;
     must_read(rt, alloc, array, &[0, 1], &[5; 16])?;
     must_have_keys(
         rt,

@@ -102,7 +102,7 @@ fn must_read_back(
     bytes: &[u8],
 ) -> Result<(), Fail> {
     let region = ArraySubset::new_with_shape(alloc, [2, 2].as_slice().to_vec(alloc)?)?;
-    let cells = array.retrieve_array_subset(alloc, &region)?;
+    let cells: ArrayBytes<'static> = array.retrieve_array_subset(alloc, &region)?;
     assert!(rt; holds(&cells, bytes));
     Ok(())
 }
@@ -110,7 +110,7 @@ fn must_read_back(
 fn store_all(alloc: Global, array: &mut MemoryArray, bytes: &[u8]) -> Result<(), Fail> {
     let region = ArraySubset::new_with_shape(alloc, [2, 2].as_slice().to_vec(alloc)?)?;
     let cells = ArrayBytes::new_flen(bytes.to_vec(alloc)?);
-    array.store_array_subset(alloc, &region, &cells)?;
+    array.store_array_subset(alloc, &region, cells)?;
     Ok(())
 }
 
@@ -414,4 +414,20 @@ fn a_v2_array_is_refused_in_order(rt: HostRuntime) -> Result<(), Fail> {
     must_be_grid(&rt, &refusal_of(alloc, "[5]", "<i4", "0", "null")?);
     must_be_codecs(&rt, &refusal_of(alloc, "[5,5]", "<i4", "0", "{}")?);
     Ok(())
+}
+
+/// A V2 array takes no names, and has none to take away.
+fn must_have_no_names(rt: &impl Abort, alloc: Global, array: &mut MemoryArray) -> Result<(), Fail> {
+    array.name_dimensions(alloc, None)?;
+    let named = array.name_dimensions(alloc, Some(vec![in alloc; None, None]?));
+    assert!(rt; matches!(named, Err(ArrayCreateError::UnsupportedZarrV2Array(_))));
+    assert!(rt; array.dimension_names().is_none());
+    Ok(())
+}
+
+#[test]
+fn a_v2_array_has_no_names(rt: HostRuntime) -> Result<(), Fail> {
+    let alloc = rt.alloc();
+    let mut array = open(alloc, &[(".zarray", COLUMNS)])?;
+    must_have_no_names(&rt, alloc, &mut array)
 }

@@ -1,92 +1,72 @@
-use serde_json::Value;
+//! Grids and what they say of chunks and regions, with ample memory.
+use crate::grids::{AxisSizes, Grid, grid_of, listed, numbers, region, sizes};
 use std::alloc::Global;
-use std::num::NonZeroU64;
 use std::process::Abort;
 use std::test::Fail;
 use zarrs_chunk_grid::laws::{
     box_of_a_chunk, chunk_of_a_position, chunk_range_fills_a_box, chunks_share_no_position,
-    covered_positions, grid_of_its_configuration, metadata_describes_the_configuration,
+    covered_positions,
 };
 use zarrs_chunk_grid::{
-    ChunkGrid, ChunkGridTraits, ChunkShape, ChunkSizes, GridError, RectangularChunkGrid,
+    ChunkGrid, ChunkGridTraits, ChunkSizes, GridError, RectangularChunkGrid,
     RegularBoundedChunkGrid, RegularChunkGrid, SizeList,
 };
-use zarrs_metadata::{MetadataV3, PluginCreateError};
 use zarrs_subset::{ArraySubset, IncompatibleDimensionalityError};
 
-fn numbers(alloc: Global, numbers: &[u64]) -> Result<Vec<u64>, Fail> {
-    Ok(Vec::from_slice(alloc, numbers)?)
+const HALF: u64 = 9223372036854775808;
+
+/// A box of index lists or of positions: where it starts, and its shape.
+type Corner = (&'static [u64], &'static [u64]);
+
+/// What a grid says.
+enum Fact {
+    /// The shape of the array, and the number of chunks along each dimension.
+    Shapes(&'static [u64], &'static [u64]),
+    /// The box of the chunk with these indices.
+    Chunk(&'static [u64], Corner),
+    /// Where the chunk with these indices starts, and its shape.
+    OriginAndShape(&'static [u64], Corner),
+    /// The shape of the chunk with these indices, as plain numbers.
+    PlainShape(&'static [u64], &'static [u64]),
+    /// No chunk has these indices.
+    NoChunk(&'static [u64]),
+    /// A region meets the chunks of a box of index lists.
+    Meets(Corner, Corner),
+    /// No chunks cover the region.
+    Uncovered(Corner),
+    /// The chunks of a box of index lists fill a box.
+    Fills(Corner, Corner),
+    /// Some of these chunks are not there.
+    NoRange(Corner),
+    /// Along the first of one dimension, the number of the chunk with this coordinate.
+    Number(u64, Option<u64>),
 }
 
-fn size(number: u64) -> Result<NonZeroU64, Fail> {
-    Ok(NonZeroU64::new(number).ok_or("a size is 0")?)
+fn must_be(rt: &impl Abort, found: &ArraySubset, expected: &Corner) {
+    assert_eq!(rt; found.start(), expected.0);
+    assert_eq!(rt; found.shape(), expected.1);
 }
 
-fn sizes(alloc: Global, numbers: &[u64]) -> Result<ChunkShape, Fail> {
-    let mut sizes = Vec::new(alloc);
-    for number in numbers {
-        sizes.push(size(*number)?)?;
-    }
-    Ok(sizes)
-}
-
-fn listed(alloc: Global, numbers: &[u64]) -> Result<ChunkSizes, Fail> {
-    Ok(ChunkSizes::Sizes(SizeList::new(alloc, sizes(alloc, numbers)?)?))
-}
-
-fn region(alloc: Global, start: &[u64], shape: &[u64]) -> Result<ArraySubset, Fail> {
-    Ok(ArraySubset::new_with_start_shape(numbers(alloc, start)?, numbers(alloc, shape)?)?)
-}
-
-fn regular(alloc: Global, array_shape: &[u64], chunk_shape: &[u64]) -> Result<ChunkGrid, Fail> {
-    let array_shape = numbers(alloc, array_shape)?;
-    Ok(RegularChunkGrid::new(alloc, array_shape, sizes(alloc, chunk_shape)?)?.into())
-}
-
-fn bounded(alloc: Global, array_shape: &[u64], chunk_shape: &[u64]) -> Result<ChunkGrid, Fail> {
-    let array_shape = numbers(alloc, array_shape)?;
-    Ok(RegularBoundedChunkGrid::new(alloc, array_shape, sizes(alloc, chunk_shape)?)?.into())
-}
-
-fn rectangular(
-    alloc: Global,
+pub(crate) fn must_have_shapes(
+    rt: &impl Abort,
+    grid: &ChunkGrid,
     array_shape: &[u64],
-    sizes: Vec<ChunkSizes>,
-) -> Result<ChunkGrid, Fail> {
-    Ok(RectangularChunkGrid::new(alloc, numbers(alloc, array_shape)?, sizes)?.into())
-}
-
-fn two_and_three_by_four(alloc: Global) -> Result<ChunkGrid, Fail> {
-    let mut sizes = Vec::new(alloc);
-    sizes.push(listed(alloc, &[2, 3])?)?;
-    sizes.push(ChunkSizes::Size(size(4)?))?;
-    rectangular(alloc, &[5, 8], sizes)
-}
-
-fn must_be(rt: &impl Abort, found: &ArraySubset, start: &[u64], shape: &[u64]) {
-    assert_eq!(rt; found.start(), start);
-    assert_eq!(rt; found.shape(), shape);
-}
-
-fn must_have_shapes(rt: &impl Abort, grid: &ChunkGrid, array_shape: &[u64], grid_shape: &[u64]) {
+    grid_shape: &[u64],
+) {
     assert_eq!(rt; grid.dimensionality(), array_shape.len());
     assert_eq!(rt; grid.array_shape(), array_shape);
     assert_eq!(rt; grid.grid_shape(), grid_shape);
 }
 
-/// The region meets the chunks of that box of index lists.
 fn must_meet(
     rt: &impl Abort,
     alloc: Global,
     grid: &ChunkGrid,
-    region: &ArraySubset,
-    start: &[u64],
-    shape: &[u64],
+    asked: &Corner,
+    met: &Corner,
 ) -> Result<(), Fail> {
-    let met = grid
-        .chunks_in_array_subset(alloc, region)?
-        .ok_or("covered")?;
-    must_be(rt, &met, start, shape);
+    let found = grid.chunks_in_array_subset(alloc, &region(alloc, asked.0, asked.1)?)?;
+    must_be(rt, &found.ok_or("covered")?, met);
     Ok(())
 }
 
@@ -94,26 +74,44 @@ fn must_not_cover(
     rt: &impl Abort,
     alloc: Global,
     grid: &ChunkGrid,
-    region: &ArraySubset,
+    asked: &Corner,
 ) -> Result<(), Fail> {
-    assert!(rt; grid.chunks_in_array_subset(alloc, region)?.is_none());
+    let found = grid.chunks_in_array_subset(alloc, &region(alloc, asked.0, asked.1)?)?;
+    assert!(rt; found.is_none());
     Ok(())
 }
 
-fn must_be_chunk(
+fn must_fill(
+    rt: &impl Abort,
+    alloc: Global,
+    grid: &ChunkGrid,
+    chunks: &Corner,
+    filled: &Corner,
+) -> Result<(), Fail> {
+    let found = grid.chunks_subset(alloc, &region(alloc, chunks.0, chunks.1)?)?;
+    must_be(rt, &found.ok_or("there")?, filled);
+    Ok(())
+}
+
+fn must_have_no_range(
+    rt: &impl Abort,
+    alloc: Global,
+    grid: &ChunkGrid,
+    chunks: &Corner,
+) -> Result<(), Fail> {
+    let found = grid.chunks_subset(alloc, &region(alloc, chunks.0, chunks.1)?)?;
+    assert!(rt; found.is_none());
+    Ok(())
+}
+
+pub(crate) fn must_be_chunk(
     rt: &impl Abort,
     alloc: Global,
     grid: &ChunkGrid,
     indices: &[u64],
-    start: &[u64],
-    shape: &[u64],
+    chunk: &Corner,
 ) -> Result<(), Fail> {
-    must_be(
-        rt,
-        &grid.subset(alloc, indices)?.ok_or("there")?,
-        start,
-        shape,
-    );
+    must_be(rt, &grid.subset(alloc, indices)?.ok_or("there")?, chunk);
     Ok(())
 }
 
@@ -122,13 +120,12 @@ fn must_be_origin_and_shape(
     alloc: Global,
     grid: &ChunkGrid,
     indices: &[u64],
-    start: &[u64],
-    shape: &[u64],
+    chunk: &Corner,
 ) -> Result<(), Fail> {
     let origin = grid.chunk_origin(alloc, indices)?.ok_or("there")?;
-    assert_eq!(rt; origin.as_slice(), start);
+    assert_eq!(rt; origin.as_slice(), chunk.0);
     let found = grid.chunk_shape(alloc, indices)?.ok_or("there")?;
-    assert_eq!(rt; found.as_slice(), sizes(alloc, shape)?.as_slice());
+    assert_eq!(rt; found.as_slice(), sizes(alloc, chunk.1)?.as_slice());
     Ok(())
 }
 
@@ -151,63 +148,82 @@ fn must_have_no_chunk(
     indices: &[u64],
 ) -> Result<(), Fail> {
     assert!(rt; grid.subset(alloc, indices)?.is_none());
-    Ok(())
-}
-
-fn must_say_nothing_of_it(
-    rt: &impl Abort,
-    alloc: Global,
-    grid: &ChunkGrid,
-    indices: &[u64],
-) -> Result<(), Fail> {
-    must_have_no_chunk(rt, alloc, grid, indices)?;
     assert!(rt; grid.chunk_origin(alloc, indices)?.is_none());
     assert!(rt; grid.chunk_shape(alloc, indices)?.is_none());
     assert!(rt; grid.chunk_shape_u64(alloc, indices)?.is_none());
     Ok(())
 }
 
-/// Two indices where the grid has one dimension.
-fn must_refuse_two(rt: &impl Abort, alloc: Global, grid: &ChunkGrid) -> Result<(), Fail> {
-    let refused = GridError::IncompatibleDimensionality(IncompatibleDimensionalityError::new(2, 1));
-    assert!(rt; matches!(grid.subset(alloc, &[0, 0]), Err(e) if e == refused));
-    assert!(rt; matches!(grid.chunk_origin(alloc, &[0, 0]), Err(e) if e == refused));
-    assert!(rt; matches!(grid.chunk_shape(alloc, &[0, 0]), Err(e) if e == refused));
-    assert!(rt; matches!(grid.chunk_shape_u64(alloc, &[0, 0]), Err(e) if e == refused));
+fn must_have_number(rt: &impl Abort, grid: &ChunkGrid, coordinate: u64, number: Option<u64>) {
+    assert_eq!(rt; grid.dimensionality(), 1);
+    assert_eq!(rt; grid.chunk_number(0, coordinate), number);
+}
+
+fn must_say(rt: &impl Abort, alloc: Global, grid: &ChunkGrid, fact: &Fact) -> Result<(), Fail> {
+    match fact {
+        Fact::Shapes(array_shape, grid_shape) => {
+            must_have_shapes(rt, grid, array_shape, grid_shape);
+        }
+        Fact::Chunk(indices, chunk) => must_be_chunk(rt, alloc, grid, indices, chunk)?,
+        Fact::OriginAndShape(indices, chunk) => {
+            must_be_origin_and_shape(rt, alloc, grid, indices, chunk)?;
+        }
+        Fact::PlainShape(indices, shape) => {
+            must_have_plain_shape(rt, alloc, grid, indices, shape)?;
+        }
+        Fact::NoChunk(indices) => must_have_no_chunk(rt, alloc, grid, indices)?,
+        Fact::Meets(asked, met) => must_meet(rt, alloc, grid, asked, met)?,
+        Fact::Uncovered(asked) => must_not_cover(rt, alloc, grid, asked)?,
+        Fact::Fills(chunks, filled) => must_fill(rt, alloc, grid, chunks, filled)?,
+        Fact::NoRange(chunks) => must_have_no_range(rt, alloc, grid, chunks)?,
+        Fact::Number(coordinate, number) => must_have_number(rt, grid, *coordinate, *number),
+    }
     Ok(())
 }
 
-fn must_refuse_a_flat_region(rt: &impl Abort, alloc: Global, grid: &ChunkGrid) -> Result<(), Fail> {
-    let refused = GridError::IncompatibleDimensionality(IncompatibleDimensionalityError::new(2, 1));
-    let flat = region(alloc, &[0, 0], &[1, 1])?;
-    assert!(rt; matches!(grid.chunks_in_array_subset(alloc, &flat), Err(e) if e == refused));
+/// The grid says each of these.
+fn must_say_each(rt: &impl Abort, alloc: Global, grid: &Grid, facts: &[Fact]) -> Result<(), Fail> {
+    let grid = grid_of(alloc, grid)?;
+    for fact in facts {
+        must_say(rt, alloc, &grid, fact)?;
+    }
     Ok(())
 }
+
+const FOURS: Grid = Grid::Regular(&[8], &[4]);
+
+/// Chunks of 2 and of 3 rows, each of 4 columns.
+pub(crate) const TWO_AND_THREE_BY_FOUR: Grid = Grid::Rectangular(
+    &[5, 8],
+    &[AxisSizes::Listed(&[2, 3]), AxisSizes::Each(4)],
+);
 
 #[test]
 fn regular_chunks_that_a_region_meets(rt: HostRuntime) -> Result<(), Fail> {
-    let alloc = rt.alloc();
-    let grid = regular(alloc, &[8], &[4])?;
-    must_meet(&rt, alloc, &grid, &region(alloc, &[0], &[4])?, &[0], &[1])?;
-    must_meet(&rt, alloc, &grid, &region(alloc, &[0], &[5])?, &[0], &[2])?;
-    Ok(())
+    const FACTS: &[Fact] = &[
+        Fact::Meets((&[0], &[4]), (&[0], &[1])),
+        Fact::Meets((&[0], &[5]), (&[0], &[2])),
+    ];
+    must_say_each(&rt, rt.alloc(), &FOURS, FACTS)
+}
+
+fn must_be_empty(rt: &impl Abort, found: &ArraySubset) {
+    assert!(rt; found.is_empty());
+    assert_eq!(rt; found.shape(), [0].as_slice());
 }
 
 #[test]
 fn an_empty_region_past_the_array_meets_no_chunk(rt: HostRuntime) -> Result<(), Fail> {
     let alloc = rt.alloc();
-    let grid = regular(alloc, &[8], &[4])?;
-    let none = grid
-        .chunks_in_array_subset(alloc, &region(alloc, &[9], &[0])?)?
-        .ok_or("covered")?;
-    assert!(rt; none.is_empty());
-    assert_eq!(rt; none.shape(), [0].as_slice());
+    let grid = grid_of(alloc, &FOURS)?;
+    let found = grid.chunks_in_array_subset(alloc, &region(alloc, &[9], &[0])?)?;
+    must_be_empty(&rt, &found.ok_or("covered")?);
     Ok(())
 }
 
 #[test]
 fn laws_of_a_grid(rt: HostRuntime) -> Result<(), Fail> {
-    let grid = regular(rt.alloc(), &[8], &[4])?;
+    let grid = grid_of(rt.alloc(), &FOURS)?;
     chunks_share_no_position(&grid);
     chunk_of_a_position(&grid);
     chunk_range_fills_a_box(&grid);
@@ -218,92 +234,99 @@ fn laws_of_a_grid(rt: HostRuntime) -> Result<(), Fail> {
 
 #[test]
 fn bounded_chunks_end_with_the_array(rt: HostRuntime) -> Result<(), Fail> {
-    let alloc = rt.alloc();
-    let grid = bounded(alloc, &[5], &[2])?;
-    must_have_shapes(&rt, &grid, &[5], &[3]);
-    must_be_chunk(&rt, alloc, &grid, &[2], &[4], &[1])?;
-    must_have_no_chunk(&rt, alloc, &grid, &[3])?;
-    must_not_cover(&rt, alloc, &grid, &region(alloc, &[4], &[2])?)?;
-    Ok(())
+    const FACTS: &[Fact] = &[
+        Fact::Shapes(&[5], &[3]),
+        Fact::Chunk(&[2], (&[4], &[1])),
+        Fact::NoChunk(&[3]),
+        Fact::Uncovered((&[4], &[2])),
+    ];
+    must_say_each(&rt, rt.alloc(), &Grid::Bounded(&[5], &[2]), FACTS)
 }
 
 #[test]
 fn rectangular_chunks_of_listed_sizes(rt: HostRuntime) -> Result<(), Fail> {
-    let alloc = rt.alloc();
-    let grid = two_and_three_by_four(alloc)?;
-    must_have_shapes(&rt, &grid, &[5, 8], &[2, 2]);
-    must_be_chunk(&rt, alloc, &grid, &[1, 5], &[2, 20], &[3, 4])?;
-    must_be_origin_and_shape(&rt, alloc, &grid, &[1, 5], &[2, 20], &[3, 4])?;
-    must_have_plain_shape(&rt, alloc, &grid, &[1, 5], &[3, 4])?;
-    must_have_no_chunk(&rt, alloc, &grid, &[2, 0])?;
+    const FACTS: &[Fact] = &[
+        Fact::Shapes(&[5, 8], &[2, 2]),
+        Fact::Chunk(&[1, 5], (&[2, 20], &[3, 4])),
+        Fact::OriginAndShape(&[1, 5], (&[2, 20], &[3, 4])),
+        Fact::PlainShape(&[1, 5], &[3, 4]),
+        Fact::NoChunk(&[2, 0]),
+    ];
+    must_say_each(&rt, rt.alloc(), &TWO_AND_THREE_BY_FOUR, FACTS)
+}
+
+fn must_meet_ranges(rt: &impl Abort, alloc: Global, grid: &ChunkGrid) -> Result<(), Fail> {
+    let met = grid.chunks_in_array_subset(alloc, &[1..5, 4..9])?;
+    must_be(rt, &met.ok_or("covered")?, &(&[0, 1], &[2, 2]));
     Ok(())
 }
 
 #[test]
 fn ranges_that_a_rectangular_grid_is_asked_for(rt: HostRuntime) -> Result<(), Fail> {
-    let alloc = rt.alloc();
-    let grid = two_and_three_by_four(alloc)?;
-    let met = grid
-        .chunks_in_array_subset(alloc, &[1..5, 4..9])?
-        .ok_or("covered")?;
-    must_be(&rt, &met, &[0, 1], &[2, 2]);
-    Ok(())
+    let grid = grid_of(rt.alloc(), &TWO_AND_THREE_BY_FOUR)?;
+    must_meet_ranges(&rt, rt.alloc(), &grid)
+}
+
+fn must_be_unequal<T>(rt: &impl Abort, made: &Result<T, GridError>) {
+    assert!(rt; matches!(made, Err(GridError::UnequalExtent)));
 }
 
 #[test]
 fn listed_sizes_that_do_not_add_up_to_the_extent(rt: HostRuntime) -> Result<(), Fail> {
     let alloc = rt.alloc();
-    let mut sizes = Vec::new(alloc);
-    sizes.push(listed(alloc, &[2, 3])?)?;
+    let sizes = vec![in alloc; listed(alloc, &[2, 3])?]?;
     let grid = RectangularChunkGrid::new(alloc, numbers(alloc, &[6])?, sizes);
-    assert!(rt; matches!(grid, Err(GridError::UnequalExtent)));
+    must_be_unequal(&rt, &grid);
     Ok(())
 }
 
 fn must_pass_a_u64(rt: &impl Abort, alloc: Global) -> Result<(), Fail> {
-    let list = SizeList::new(alloc, sizes(alloc, &[u64::MAX, 1])?);
-    assert!(rt; matches!(list, Err(GridError::UnequalExtent)));
+    must_be_unequal(rt, &SizeList::new(alloc, sizes(alloc, &[u64::MAX, 1])?));
     Ok(())
 }
 
-// The grid has one dimension.
-fn must_have_numbers(rt: &impl Abort, grid: &ChunkGrid, coordinate: u64, number: Option<u64>) {
-    assert_eq!(rt; grid.dimensionality(), 1);
-    assert_eq!(rt; grid.chunk_number(0, coordinate), number);
+fn must_end_at_the_last_u64(rt: &impl Abort, alloc: Global) -> Result<(), Fail> {
+    let list = SizeList::new(alloc, sizes(alloc, &[u64::MAX - 1, 1])?)?;
+    assert_eq!(rt; list.end(), u64::MAX);
+    Ok(())
 }
 
 #[test]
 fn listed_sizes_past_a_u64(rt: HostRuntime) -> Result<(), Fail> {
-    let alloc = rt.alloc();
-    must_pass_a_u64(&rt, alloc)?;
-    let list = SizeList::new(alloc, sizes(alloc, &[u64::MAX - 1, 1])?)?;
-    assert_eq!(rt; list.end(), u64::MAX);
-    let mut sizes = Vec::new(alloc);
-    sizes.push(ChunkSizes::Sizes(list))?;
-    let grid = rectangular(alloc, &[u64::MAX], sizes)?;
-    must_meet(
-        &rt,
-        alloc,
-        &grid,
-        &region(alloc, &[u64::MAX - 1], &[1])?,
-        &[1],
-        &[1],
-    )?;
-    must_have_numbers(&rt, &grid, u64::MAX - 1, Some(1));
-    must_have_numbers(&rt, &grid, u64::MAX, None);
+    const GRID: Grid = Grid::Rectangular(&[u64::MAX], &[AxisSizes::Listed(&[u64::MAX - 1, 1])]);
+    const FACTS: &[Fact] = &[
+        Fact::Meets((&[u64::MAX - 1], &[1]), (&[1], &[1])),
+        Fact::Number(u64::MAX - 1, Some(1)),
+        Fact::Number(u64::MAX, None),
+    ];
+    must_pass_a_u64(&rt, rt.alloc())?;
+    must_end_at_the_last_u64(&rt, rt.alloc())?;
+    must_say_each(&rt, rt.alloc(), &GRID, FACTS)
+}
+
+/// Two indices where the grid has one dimension.
+fn must_refuse_two(rt: &impl Abort, alloc: Global, grid: &ChunkGrid) {
+    let refused = GridError::IncompatibleDimensionality(IncompatibleDimensionalityError::new(2, 1));
+    assert!(rt; matches!(grid.subset(alloc, &[0, 0]), Err(e) if e == refused));
+    assert!(rt; matches!(grid.chunk_origin(alloc, &[0, 0]), Err(e) if e == refused));
+    assert!(rt; matches!(grid.chunk_shape(alloc, &[0, 0]), Err(e) if e == refused));
+    assert!(rt; matches!(grid.chunk_shape_u64(alloc, &[0, 0]), Err(e) if e == refused));
+}
+
+fn must_refuse_a_flat_region(rt: &impl Abort, alloc: Global, grid: &ChunkGrid) -> Result<(), Fail> {
+    let refused = GridError::IncompatibleDimensionality(IncompatibleDimensionalityError::new(2, 1));
+    let flat = region(alloc, &[0, 0], &[1, 1])?;
+    assert!(rt; matches!(grid.chunks_in_array_subset(alloc, &flat), Err(e) if e == refused));
     Ok(())
 }
 
 #[test]
 fn indices_past_the_last_chunk_or_of_another_length(rt: HostRuntime) -> Result<(), Fail> {
-    let alloc = rt.alloc();
-    let mut sizes = Vec::new(alloc);
-    sizes.push(listed(alloc, &[2, 3])?)?;
-    let grid = rectangular(alloc, &[5], sizes)?;
-    must_say_nothing_of_it(&rt, alloc, &grid, &[2])?;
-    must_refuse_two(&rt, alloc, &grid)?;
-    must_refuse_a_flat_region(&rt, alloc, &grid)?;
-    Ok(())
+    const GRID: Grid = Grid::Rectangular(&[5], &[AxisSizes::Listed(&[2, 3])]);
+    must_say_each(&rt, rt.alloc(), &GRID, &[Fact::NoChunk(&[2])])?;
+    let grid = grid_of(rt.alloc(), &GRID)?;
+    must_refuse_two(&rt, rt.alloc(), &grid);
+    must_refuse_a_flat_region(&rt, rt.alloc(), &grid)
 }
 
 fn must_refuse_a_regular_one(rt: &impl Abort, alloc: Global) -> Result<(), Fail> {
@@ -332,70 +355,63 @@ fn chunk_shapes_of_another_length(rt: HostRuntime) -> Result<(), Fail> {
 
 #[test]
 fn regular_chunks_end_at_the_last_u64(rt: HostRuntime) -> Result<(), Fail> {
-    let alloc = rt.alloc();
-    let half = 9223372036854775808;
-    let grid = regular(alloc, &[u64::MAX], &[half])?;
-    must_have_shapes(&rt, &grid, &[u64::MAX], &[2]);
-    must_have_plain_shape(&rt, alloc, &grid, &[0], &[half])?;
-    assert!(rt; grid.chunk_shape(alloc, &[1])?.is_none());
-    must_not_cover(&rt, alloc, &grid, &region(alloc, &[u64::MAX - 1], &[1])?)?;
-    Ok(())
+    const FACTS: &[Fact] = &[
+        Fact::Shapes(&[u64::MAX], &[2]),
+        Fact::PlainShape(&[0], &[HALF]),
+        Fact::NoChunk(&[1]),
+        Fact::Uncovered((&[u64::MAX - 1], &[1])),
+    ];
+    must_say_each(&rt, rt.alloc(), &Grid::Regular(&[u64::MAX], &[HALF]), FACTS)
 }
 
 #[test]
 fn bounded_chunks_reach_the_last_u64(rt: HostRuntime) -> Result<(), Fail> {
-    let alloc = rt.alloc();
-    let half = 9223372036854775808;
-    let grid = bounded(alloc, &[u64::MAX], &[half])?;
-    must_be_chunk(&rt, alloc, &grid, &[1], &[half], &[half - 1])?;
-    must_meet(
-        &rt,
-        alloc,
-        &grid,
-        &region(alloc, &[u64::MAX - 1], &[1])?,
-        &[1],
-        &[1],
-    )?;
-    Ok(())
+    const FACTS: &[Fact] = &[
+        Fact::Chunk(&[1], (&[HALF], &[HALF - 1])),
+        Fact::Meets((&[u64::MAX - 1], &[1]), (&[1], &[1])),
+    ];
+    must_say_each(&rt, rt.alloc(), &Grid::Bounded(&[u64::MAX], &[HALF]), FACTS)
 }
 
 #[test]
 fn a_grid_of_no_dimension_has_one_chunk(rt: HostRuntime) -> Result<(), Fail> {
-    let alloc = rt.alloc();
-    let grid = regular(alloc, &[], &[])?;
-    must_have_shapes(&rt, &grid, &[], &[]);
-    must_be_chunk(&rt, alloc, &grid, &[], &[], &[])?;
-    must_meet(&rt, alloc, &grid, &region(alloc, &[], &[])?, &[], &[])?;
-    Ok(())
+    const FACTS: &[Fact] = &[
+        Fact::Shapes(&[], &[]),
+        Fact::Chunk(&[], (&[], &[])),
+        Fact::Meets((&[], &[]), (&[], &[])),
+    ];
+    must_say_each(&rt, rt.alloc(), &Grid::Regular(&[], &[]), FACTS)
 }
 
 #[test]
 fn arrays_of_extent_0(rt: HostRuntime) -> Result<(), Fail> {
-    let alloc = rt.alloc();
-    let grid = bounded(alloc, &[0, 4], &[2, 2])?;
-    must_have_shapes(&rt, &grid, &[0, 4], &[0, 2]);
-    must_have_no_chunk(&rt, alloc, &grid, &[0, 0])?;
-    Ok(())
+    const FACTS: &[Fact] = &[Fact::Shapes(&[0, 4], &[0, 2]), Fact::NoChunk(&[0, 0])];
+    must_say_each(&rt, rt.alloc(), &Grid::Bounded(&[0, 4], &[2, 2]), FACTS)
 }
 
 #[test]
 fn an_extent_of_0_in_no_size(rt: HostRuntime) -> Result<(), Fail> {
-    let alloc = rt.alloc();
-    let mut sizes = Vec::new(alloc);
-    sizes.push(listed(alloc, &[])?)?;
-    let grid = rectangular(alloc, &[0], sizes)?;
-    must_have_shapes(&rt, &grid, &[0], &[0]);
-    must_have_no_chunk(&rt, alloc, &grid, &[0])?;
-    must_not_cover(&rt, alloc, &grid, &region(alloc, &[0], &[1])?)?;
-    Ok(())
+    const GRID: Grid = Grid::Rectangular(&[0], &[AxisSizes::Listed(&[])]);
+    const FACTS: &[Fact] = &[
+        Fact::Shapes(&[0], &[0]),
+        Fact::NoChunk(&[0]),
+        Fact::Uncovered((&[0], &[1])),
+    ];
+    must_say_each(&rt, rt.alloc(), &GRID, FACTS)
 }
 
 fn a_million(alloc: Global) -> Result<SizeList, Fail> {
-    let mut list = Vec::new(alloc);
+    let mut list = Vec::with_capacity(alloc, 1000000)?;
     for number in 0..1000000u64 {
-        list.push(size(number % 3 + 1)?)?;
+        let size = std::num::NonZeroU64::new(number % 3 + 1).ok_or("a size is 0")?;
+        list.push(size)?;
     }
     Ok(SizeList::new(alloc, list)?)
+}
+
+fn must_be_a_million(rt: &impl Abort, list: &SizeList) {
+    assert_eq!(rt; list.sizes().len(), 1000000);
+    assert_eq!(rt; list.end(), 1999999);
 }
 
 fn must_find_its_chunk(
@@ -416,178 +432,31 @@ fn must_find_its_chunk(
 fn a_million_listed_sizes(rt: HostRuntime) -> Result<(), Fail> {
     let alloc = rt.alloc();
     let list = a_million(alloc)?;
-    assert_eq!(rt; list.sizes().len(), 1000000);
-    let extent = list.end();
-    assert_eq!(rt; extent, 1999999);
-    let mut sizes = Vec::new(alloc);
-    sizes.push(ChunkSizes::Sizes(list))?;
-    let grid = rectangular(alloc, &[extent], sizes)?;
+    must_be_a_million(&rt, &list);
+    let sizes = vec![in alloc; ChunkSizes::Sizes(list)]?;
+    let grid = RectangularChunkGrid::new(alloc, numbers(alloc, &[1999999])?, sizes)?.into();
     for number in 0..100000u64 {
         must_find_its_chunk(&rt, alloc, &grid, 19 * number)?;
     }
     Ok(())
 }
 
-fn read_grid(alloc: Global, text: &str, array_shape: &[u64]) -> Result<ChunkGrid, Fail> {
-    let metadata = MetadataV3::from_value(Value::from_str(alloc, text)?)?;
-    Ok(ChunkGrid::from_metadata(alloc, &metadata, array_shape)?)
-}
-
-fn written(alloc: Global, grid: &ChunkGrid) -> Result<String, Fail> {
-    Ok(grid.metadata(alloc)?.to_value(alloc)?.to_string(alloc)?)
-}
-
-fn must_be_written(
-    rt: &impl Abort,
-    alloc: Global,
-    grid: &ChunkGrid,
-    text: &str,
-) -> Result<(), Fail> {
-    assert_eq!(rt; written(alloc, grid)?.as_str(), text);
-    Ok(())
-}
-
-/// The copy has the shapes of the grid, and its metadata.
-fn must_be_copied(rt: &impl Abort, alloc: Global, grid: &ChunkGrid) -> Result<(), Fail> {
-    let copy = grid.try_clone(alloc)?;
-    must_have_shapes(rt, &copy, grid.array_shape(), grid.grid_shape());
-    must_be_written(rt, alloc, &copy, written(alloc, grid)?.as_str())?;
-    Ok(())
-}
-
-#[test]
-fn copies_of_grids(rt: HostRuntime) -> Result<(), Fail> {
-    let alloc = rt.alloc();
-    must_be_copied(&rt, alloc, &regular(alloc, &[5], &[2])?)?;
-    must_be_copied(&rt, alloc, &bounded(alloc, &[5], &[2])?)?;
-    must_be_copied(&rt, alloc, &two_and_three_by_four(alloc)?)?;
-    Ok(())
-}
-
-#[test]
-fn grids_made_anew_from_metadata_over_another_shape(rt: HostRuntime) -> Result<(), Fail> {
-    let alloc = rt.alloc();
-    let metadata = bounded(alloc, &[5], &[2])?.metadata(alloc)?;
-    let longer = ChunkGrid::from_metadata(alloc, &metadata, &[8])?;
-    must_have_shapes(&rt, &longer, &[8], &[4]);
-    must_be_chunk(&rt, alloc, &longer, &[2], &[4], &[2])?;
-    let listed = two_and_three_by_four(alloc)?.metadata(alloc)?;
-    let wider = ChunkGrid::from_metadata(alloc, &listed, &[5, 9])?;
-    must_have_shapes(&rt, &wider, &[5, 9], &[2, 3]);
-    let refused = ChunkGrid::from_metadata(alloc, &listed, &[6, 8]);
-    assert!(rt; matches!(&refused, Err(PluginCreateError::Other(_))));
-    Ok(())
-}
-
-#[test]
-fn regular_grids_read_from_metadata_and_written_again(rt: HostRuntime) -> Result<(), Fail> {
-    let alloc = rt.alloc();
-    let text = "{\"configuration\":{\"chunk_shape\":[4,3]},\"name\":\"regular\"}";
-    let grid = read_grid(alloc, text, &[8, 8])?;
-    metadata_describes_the_configuration(&grid);
-    grid_of_its_configuration(&grid);
-    assert!(rt; matches!(&grid, ChunkGrid::Regular(_)));
-    must_have_shapes(&rt, &grid, &[8, 8], &[2, 3]);
-    must_be_written(&rt, alloc, &grid, text)?;
-    Ok(())
-}
-
-#[test]
-fn bounded_grids_read_from_metadata_and_written_again(rt: HostRuntime) -> Result<(), Fail> {
-    let alloc = rt.alloc();
-    let text = "{\"configuration\":{\"chunk_shape\":[2]},\"name\":\"zarrs.regular_bounded\"}";
-    let main = "{\"configuration\":{\"chunk_shape\":[2]},\"name\":\"regular_bounded\"}";
-    let grid = read_grid(alloc, text, &[5])?;
-    assert!(rt; matches!(&grid, ChunkGrid::RegularBounded(_)));
-    must_have_shapes(&rt, &grid, &[5], &[3]);
-    must_be_written(&rt, alloc, &grid, main)?;
-    assert!(rt; matches!(&read_grid(alloc, main, &[5])?, ChunkGrid::RegularBounded(_)));
-    Ok(())
-}
-
-#[test]
-fn rectangular_grids_read_from_metadata_and_written_again(rt: HostRuntime) -> Result<(), Fail> {
-    let alloc = rt.alloc();
-    let text = "{\"configuration\":{\"chunk_shape\":[[2,3],4]},\"name\":\"rectangular\"}";
-    let grid = read_grid(alloc, text, &[5, 8])?;
-    assert!(rt; matches!(&grid, ChunkGrid::Rectangular(_)));
-    must_have_shapes(&rt, &grid, &[5, 8], &[2, 2]);
-    must_be_written(&rt, alloc, &grid, text)?;
-    Ok(())
-}
-
-#[test]
-fn metadata_that_says_no_grid(rt: HostRuntime) -> Result<(), Fail> {
-    let alloc = rt.alloc();
-    for text in [
-        "\"regular\"",
-        "{\"name\":\"regular\",\"configuration\":{}}",
-        "{\"name\":\"other\",\"configuration\":{\"chunk_shape\":[4]}}",
-        "{\"name\":\"zarrs.regular\",\"configuration\":{\"chunk_shape\":[4]}}",
-        "{\"name\":\"regular\",\"configuration\":{\"chunk_shape\":4}}",
-        "{\"name\":\"regular\",\"configuration\":{\"chunk_shape\":[4,4]}}",
-        "{\"name\":\"regular\",\"configuration\":{\"chunk_shape\":[0]}}",
-        "{\"name\":\"regular\",\"configuration\":{\"chunk_shape\":[-1]}}",
-        "{\"name\":\"regular\",\"configuration\":{\"chunk_shape\":[1.5]}}",
-        "{\"name\":\"regular\",\"configuration\":{\"chunk_shape\":[[4]]}}",
-        "{\"name\":\"regular\",\"configuration\":{\"chunk_shape\":[4],\"more\":1}}",
-        "{\"name\":\"regular_bounded\",\"configuration\":{\"chunk_shape\":[]}}",
-        "{\"name\":\"rectangular\",\"configuration\":{\"chunk_shape\":[[4,0]]}}",
-        "{\"name\":\"rectangular\",\"configuration\":{\"chunk_shape\":[[4,2]]}}",
-        "{\"name\":\"rectangular\",\"configuration\":{\"chunk_shape\":[[4,1],[1]]}}",
-        "{\"name\":\"rectangular\",\"configuration\":{\"chunk_shape\":[[18446744073709551615,6]]}}",
-    ] {
-        let metadata = MetadataV3::from_value(Value::from_str(alloc, text)?)?;
-        let refused = ChunkGrid::from_metadata(alloc, &metadata, &[5]);
-        assert!(rt;
-            matches!(&refused, Err(PluginCreateError::Other(_))),
-            "{text}"
-        );
-    }
-    Ok(())
-}
-
-fn must_fill(
-    rt: &impl Abort,
-    alloc: Global,
-    grid: &ChunkGrid,
-    chunks: &ArraySubset,
-    start: &[u64],
-    shape: &[u64],
-) -> Result<(), Fail> {
-    must_be(
-        rt,
-        &grid.chunks_subset(alloc, chunks)?.ok_or("there")?,
-        start,
-        shape,
-    );
-    Ok(())
+fn must_refuse_one_range(rt: &impl Abort, alloc: Global, grid: &ChunkGrid) {
+    let refused = GridError::IncompatibleDimensionality(IncompatibleDimensionalityError::new(1, 2));
+    assert!(rt; matches!(grid.chunks_subset(alloc, &[0..1]), Err(e) if e == refused));
 }
 
 #[test]
 fn boxes_of_ranges_of_chunks(rt: HostRuntime) -> Result<(), Fail> {
-    let alloc = rt.alloc();
-    let grid = two_and_three_by_four(alloc)?;
-    must_fill(
-        &rt,
-        alloc,
-        &grid,
-        &region(alloc, &[0, 1], &[2, 3])?,
-        &[0, 4],
-        &[5, 12],
-    )?;
-    must_fill(
-        &rt,
-        alloc,
-        &grid,
-        &region(alloc, &[1, 5], &[1, 1])?,
-        &[2, 20],
-        &[3, 4],
-    )?;
-    must_fill(&rt, alloc, &grid, &region(alloc, &[7], &[0])?, &[0], &[0])?;
-    assert!(rt; grid.chunks_subset(alloc, &[1..3, 0..1])?.is_none());
-    assert!(rt; grid.chunks_subset(alloc, &[2..3, 0..1])?.is_none());
-    let refused = GridError::IncompatibleDimensionality(IncompatibleDimensionalityError::new(1, 2));
-    assert!(rt; matches!(grid.chunks_subset(alloc, &[0..1]), Err(e) if e == refused));
+    const FACTS: &[Fact] = &[
+        Fact::Fills((&[0, 1], &[2, 3]), (&[0, 4], &[5, 12])),
+        Fact::Fills((&[1, 5], &[1, 1]), (&[2, 20], &[3, 4])),
+        Fact::Fills((&[7], &[0]), (&[0], &[0])),
+        Fact::NoRange((&[1, 0], &[2, 1])),
+        Fact::NoRange((&[2, 0], &[1, 1])),
+    ];
+    must_say_each(&rt, rt.alloc(), &TWO_AND_THREE_BY_FOUR, FACTS)?;
+    let grid = grid_of(rt.alloc(), &TWO_AND_THREE_BY_FOUR)?;
+    must_refuse_one_range(&rt, rt.alloc(), &grid);
     Ok(())
 }

@@ -1,16 +1,15 @@
 //! The metadata of codecs and chains, with ample memory.
 use crate::strings::{must_encode_strings, strings};
-use crate::tests::must_encode;
+use crate::tests::{must_encode, type_of};
 use serde_json::Value;
 use std::alloc::Global;
-use std::num::NonZeroUsize;
 use std::process::Abort;
 use std::test::Fail;
 use zarrs_codec::{
     ArrayToArrayCodec, ArrayToBytesCodec, BytesToBytesCodecs, CodecChain,
     default_array_to_bytes_codec,
 };
-use zarrs_data_type::DataType;
+use zarrs_data_type::{ArrayBytes, DataType};
 use zarrs_metadata::{MetadataV3, PluginCreateError};
 
 const SWAP: &str = "{\"configuration\":{\"order\":[1,0]},\"name\":\"transpose\"}";
@@ -63,19 +62,21 @@ fn must_be_array_codec(
 
 #[test]
 fn array_codecs_are_read_and_written(rt: HostRuntime) -> Result<(), Fail> {
-    let alloc = rt.alloc();
-    must_be_array_codec(&rt, alloc, SWAP, SWAP)?;
-    must_be_array_codec(&rt, alloc, JOINED, JOINED)?;
-    must_be_array_codec(
-        &rt,
-        alloc,
-        "{\"name\":\"zarrs.reshape\",\"configuration\":{\"shape\":[2,-1]}}",
-        "{\"configuration\":{\"shape\":[2,-1]},\"name\":\"reshape\"}",
-    )?;
-    must_be_array_codec(&rt, alloc, "\"squeeze\"", "\"squeeze\"")?;
-    must_be_array_codec(&rt, alloc, "\"zarrs.squeeze\"", "\"squeeze\"")?;
-    let empty = "{\"name\":\"squeeze\",\"configuration\":{}}";
-    must_be_array_codec(&rt, alloc, empty, "\"squeeze\"")
+    const ROWS: &[(&str, &str)] = &[
+        (SWAP, SWAP),
+        (JOINED, JOINED),
+        (
+            "{\"name\":\"zarrs.reshape\",\"configuration\":{\"shape\":[2,-1]}}",
+            "{\"configuration\":{\"shape\":[2,-1]},\"name\":\"reshape\"}",
+        ),
+        ("\"squeeze\"", "\"squeeze\""),
+        ("\"zarrs.squeeze\"", "\"squeeze\""),
+        ("{\"name\":\"squeeze\",\"configuration\":{}}", "\"squeeze\""),
+    ];
+    for (text, written) in ROWS {
+        must_be_array_codec(&rt, rt.alloc(), text, written)?;
+    }
+    Ok(())
 }
 
 fn must_be_no_array_codec(rt: &impl Abort, alloc: Global, text: &str) -> Result<(), Fail> {
@@ -88,36 +89,30 @@ fn must_be_no_array_codec(rt: &impl Abort, alloc: Global, text: &str) -> Result<
     Ok(())
 }
 
-fn must_be_no_transpose(rt: &impl Abort, alloc: Global, members: &str) -> Result<(), Fail> {
-    let text = format!(in alloc; "{{\"name\":\"transpose\",\"configuration\":{{{members}}}}}")?;
-    must_be_no_array_codec(rt, alloc, &text)
-}
-
-fn must_be_no_reshape(rt: &impl Abort, alloc: Global, members: &str) -> Result<(), Fail> {
-    let text = format!(in alloc; "{{\"name\":\"reshape\",\"configuration\":{{{members}}}}}")?;
-    must_be_no_array_codec(rt, alloc, &text)
-}
-
 #[test]
 fn metadata_of_no_array_codec_is_refused(rt: HostRuntime) -> Result<(), Fail> {
-    let alloc = rt.alloc();
-    must_be_no_array_codec(&rt, alloc, "\"gzip\"")?;
-    must_be_no_array_codec(&rt, alloc, "\"bytes\"")?;
-    must_be_no_array_codec(&rt, alloc, "\"transpose\"")?;
-    must_be_no_transpose(&rt, alloc, "\"order\":[0,0]")?;
-    must_be_no_transpose(&rt, alloc, "\"order\":[1]")?;
-    must_be_no_transpose(&rt, alloc, "\"order\":[0,-1]")?;
-    must_be_no_transpose(&rt, alloc, "\"order\":\"C\"")?;
-    must_be_no_transpose(&rt, alloc, "\"order\":[0],\"more\":1")?;
-    must_be_no_array_codec(&rt, alloc, "\"reshape\"")?;
-    must_be_no_reshape(&rt, alloc, "\"shape\":[0]")?;
-    must_be_no_reshape(&rt, alloc, "\"shape\":[-2]")?;
-    must_be_no_reshape(&rt, alloc, "\"shape\":[-1,-1]")?;
-    must_be_no_reshape(&rt, alloc, "\"shape\":[[0],[0]]")?;
-    must_be_no_reshape(&rt, alloc, "\"shape\":[\"a\"]")?;
-    must_be_no_reshape(&rt, alloc, "\"shape\":4")?;
-    let more = "{\"name\":\"squeeze\",\"configuration\":{\"axes\":[0]}}";
-    must_be_no_array_codec(&rt, alloc, more)
+    const TEXTS: &[&str] = &[
+        "\"gzip\"",
+        "\"bytes\"",
+        "\"transpose\"",
+        "{\"name\":\"transpose\",\"configuration\":{\"order\":[0,0]}}",
+        "{\"name\":\"transpose\",\"configuration\":{\"order\":[1]}}",
+        "{\"name\":\"transpose\",\"configuration\":{\"order\":[0,-1]}}",
+        "{\"name\":\"transpose\",\"configuration\":{\"order\":\"C\"}}",
+        "{\"name\":\"transpose\",\"configuration\":{\"order\":[0],\"more\":1}}",
+        "\"reshape\"",
+        "{\"name\":\"reshape\",\"configuration\":{\"shape\":[0]}}",
+        "{\"name\":\"reshape\",\"configuration\":{\"shape\":[-2]}}",
+        "{\"name\":\"reshape\",\"configuration\":{\"shape\":[-1,-1]}}",
+        "{\"name\":\"reshape\",\"configuration\":{\"shape\":[[0],[0]]}}",
+        "{\"name\":\"reshape\",\"configuration\":{\"shape\":[\"a\"]}}",
+        "{\"name\":\"reshape\",\"configuration\":{\"shape\":4}}",
+        "{\"name\":\"squeeze\",\"configuration\":{\"axes\":[0]}}",
+    ];
+    for text in TEXTS {
+        must_be_no_array_codec(&rt, rt.alloc(), text)?;
+    }
+    Ok(())
 }
 
 /// The first text says an array-to-bytes codec, whose metadata is the second.
@@ -135,24 +130,40 @@ fn must_be_bytes_codec(
 
 #[test]
 fn bytes_codecs_are_read_and_written(rt: HostRuntime) -> Result<(), Fail> {
-    let alloc = rt.alloc();
-    must_be_bytes_codec(&rt, alloc, LITTLE, LITTLE)?;
-    must_be_bytes_codec(&rt, alloc, BIG, BIG)?;
-    must_be_bytes_codec(&rt, alloc, "\"bytes\"", "\"bytes\"")?;
-    must_be_bytes_codec(&rt, alloc, "\"packbits\"", "\"packbits\"")?;
-    let none = "{\"name\":\"packbits\",\"configuration\":{\"padding_encoding\":\"none\"}}";
-    must_be_bytes_codec(&rt, alloc, none, "\"packbits\"")
+    const ROWS: &[(&str, &str)] = &[
+        (LITTLE, LITTLE),
+        (BIG, BIG),
+        ("\"bytes\"", "\"bytes\""),
+        ("\"packbits\"", "\"packbits\""),
+        (
+            "{\"name\":\"packbits\",\"configuration\":{\"padding_encoding\":\"none\"}}",
+            "\"packbits\"",
+        ),
+    ];
+    for (text, written) in ROWS {
+        must_be_bytes_codec(&rt, rt.alloc(), text, written)?;
+    }
+    Ok(())
 }
 
 #[test]
 fn codecs_of_strings_are_read_and_written(rt: HostRuntime) -> Result<(), Fail> {
-    let alloc = rt.alloc();
-    must_be_bytes_codec(&rt, alloc, "\"vlen-utf8\"", "\"vlen-utf8\"")?;
-    let empty = "{\"name\":\"vlen-utf8\",\"configuration\":{}}";
-    must_be_bytes_codec(&rt, alloc, empty, "\"vlen-utf8\"")?;
-    must_be_bytes_codec(&rt, alloc, "\"vlen-bytes\"", "\"vlen-bytes\"")?;
-    let empty = "{\"name\":\"vlen-bytes\",\"configuration\":{}}";
-    must_be_bytes_codec(&rt, alloc, empty, "\"vlen-bytes\"")
+    const ROWS: &[(&str, &str)] = &[
+        ("\"vlen-utf8\"", "\"vlen-utf8\""),
+        (
+            "{\"name\":\"vlen-utf8\",\"configuration\":{}}",
+            "\"vlen-utf8\"",
+        ),
+        ("\"vlen-bytes\"", "\"vlen-bytes\""),
+        (
+            "{\"name\":\"vlen-bytes\",\"configuration\":{}}",
+            "\"vlen-bytes\"",
+        ),
+    ];
+    for (text, written) in ROWS {
+        must_be_bytes_codec(&rt, rt.alloc(), text, written)?;
+    }
+    Ok(())
 }
 
 fn must_be_no_bytes_codec(
@@ -173,22 +184,22 @@ fn must_be_no_bytes_codec(
 
 #[test]
 fn metadata_of_no_bytes_codec_is_refused(rt: HostRuntime) -> Result<(), Fail> {
-    let alloc = rt.alloc();
-    must_be_no_bytes_codec(&rt, alloc, "gzip", "")?;
-    must_be_no_bytes_codec(&rt, alloc, "squeeze", "")?;
-    must_be_no_bytes_codec(&rt, alloc, "bytes", "\"endian\":\"middle\"")?;
-    must_be_no_bytes_codec(&rt, alloc, "bytes", "\"endian\":null")?;
-    must_be_no_bytes_codec(&rt, alloc, "bytes", "\"endian\":\"big\",\"more\":1")?;
-    must_be_no_bytes_codec(
-        &rt,
-        alloc,
-        "packbits",
-        "\"padding_encoding\":\"first_byte\"",
-    )?;
-    must_be_no_bytes_codec(&rt, alloc, "packbits", "\"endian\":\"big\"")?;
-    must_be_no_bytes_codec(&rt, alloc, "vlen-utf8", "\"endian\":\"big\"")?;
-    must_be_no_bytes_codec(&rt, alloc, "vlen-bytes", "\"level\":1")?;
-    must_be_no_bytes_codec(&rt, alloc, "vlen_utf8", "")
+    const ROWS: &[(&str, &str)] = &[
+        ("gzip", ""),
+        ("squeeze", ""),
+        ("bytes", "\"endian\":\"middle\""),
+        ("bytes", "\"endian\":null"),
+        ("bytes", "\"endian\":\"big\",\"more\":1"),
+        ("packbits", "\"padding_encoding\":\"first_byte\""),
+        ("packbits", "\"endian\":\"big\""),
+        ("vlen-utf8", "\"endian\":\"big\""),
+        ("vlen-bytes", "\"level\":1"),
+        ("vlen_utf8", ""),
+    ];
+    for (name, members) in ROWS {
+        must_be_no_bytes_codec(&rt, rt.alloc(), name, members)?;
+    }
+    Ok(())
 }
 
 fn must_have_metadatas(
@@ -220,90 +231,101 @@ fn must_have_parts(rt: &impl Abort, chain: &CodecChain, array_codecs: usize) {
     assert_eq!(rt; *chain.bytes_to_bytes_codecs(), BytesToBytesCodecs);
 }
 
+/// The texts say a chain of so many codecs before `bytes`, which swaps the last two dimensions of 2 rows of 3.
+fn must_swap(
+    rt: &impl Abort,
+    alloc: Global,
+    texts: &[&str],
+    array_codecs: usize,
+    shape: &[u64],
+) -> Result<(), Fail> {
+    let chain = chain_of(rt, alloc, texts)?;
+    must_have_parts(rt, &chain, array_codecs);
+    let (cells, swapped) = ([1, 2, 3, 4, 5, 6], [1, 4, 2, 5, 3, 6]);
+    must_encode(rt, alloc, &chain, &DataType::UInt8, shape, &cells, &swapped)
+}
+
 #[test]
 fn a_chain_is_made_of_its_metadata(rt: HostRuntime) -> Result<(), Fail> {
-    let alloc = rt.alloc();
-    let chain = chain_of(&rt, alloc, &[SWAP, LITTLE])?;
-    must_have_parts(&rt, &chain, 1);
-    let cells = [1, 2, 3, 4, 5, 6];
-    let swapped = [1, 4, 2, 5, 3, 6];
-    must_encode(
-        &rt,
-        alloc,
-        &chain,
-        &DataType::UInt8,
-        &[2, 3],
-        &cells,
-        &swapped,
-    )?;
-    let chain = chain_of(&rt, alloc, &[JOINED, SWAP, "\"squeeze\"", BIG])?;
-    must_have_parts(&rt, &chain, 3);
-    must_encode(
-        &rt,
-        alloc,
-        &chain,
-        &DataType::UInt8,
-        &[1, 2, 3],
-        &cells,
-        &swapped,
-    )
+    const FOUR: &[&str] = &[JOINED, SWAP, "\"squeeze\"", BIG];
+    must_swap(&rt, rt.alloc(), &[SWAP, LITTLE], 1, &[2, 3])?;
+    must_swap(&rt, rt.alloc(), FOUR, 3, &[1, 2, 3])
+}
+
+/// The text says a chain, which makes these bytes of cells of one dimension.
+fn must_encode_by(
+    rt: &impl Abort,
+    alloc: Global,
+    text: &str,
+    data_type: &DataType,
+    shape: &[u64],
+    cells: &[u8],
+    encoded: &[u8],
+) -> Result<(), Fail> {
+    let chain = chain_of(rt, alloc, &[text])?;
+    must_encode(rt, alloc, &chain, data_type, shape, cells, encoded)
 }
 
 #[test]
 fn a_chain_of_one_codec(rt: HostRuntime) -> Result<(), Fail> {
     let alloc = rt.alloc();
-    let chain = chain_of(&rt, alloc, &["\"packbits\""])?;
-    let flags = [1, 0, 1, 1, 0, 0, 0, 1, 1];
-    must_encode(
-        &rt,
-        alloc,
-        &chain,
-        &DataType::Bool,
-        &[9],
-        &flags,
-        &[0x8D, 0x01],
-    )?;
-    let chain = chain_of(&rt, alloc, &[BIG])?;
-    must_encode(
-        &rt,
-        alloc,
-        &chain,
-        &DataType::UInt16,
-        &[1],
-        &[2, 1],
-        &[1, 2],
-    )
+    const FLAGS: &[u8] = &[1, 0, 1, 1, 0, 0, 0, 1, 1];
+    const PACKED: &[u8] = &[0x8D, 0x01];
+    let (flags, numbers) = (DataType::Bool, DataType::UInt16);
+    must_encode_by(&rt, alloc, "\"packbits\"", &flags, &[9], FLAGS, PACKED)?;
+    must_encode_by(&rt, alloc, BIG, &numbers, &[1], &[2, 1], &[1, 2])
 }
 
-#[test]
-fn a_chain_of_texts_is_made_of_its_metadata(rt: HostRuntime) -> Result<(), Fail> {
-    let alloc = rt.alloc();
-    let chain = chain_of(&rt, alloc, &[SWAP, "\"vlen-utf8\""])?;
-    assert_eq!(rt; chain.array_to_array_codecs().len(), 1);
+/// The texts say a chain of so many codecs before the codec of texts, which makes these bytes of texts.
+fn must_encode_texts(
+    rt: &impl Abort,
+    alloc: Global,
+    texts: &[&str],
+    array_codecs: usize,
+    shape: &[u64],
+    cells: &ArrayBytes<'_>,
+    encoded: &[u8],
+) -> Result<(), Fail> {
+    let chain = chain_of(rt, alloc, texts)?;
+    assert_eq!(rt; chain.array_to_array_codecs().len(), array_codecs);
     assert!(rt; matches!(chain.array_to_bytes_codec(), ArrayToBytesCodec::VlenUtf8(_)));
-    let cells = strings(b"abc", &[0, 1, 3])?;
-    must_encode_strings(
-        &rt,
-        alloc,
-        &chain,
-        &DataType::String,
-        &[2, 1],
-        &cells,
-        &[2, 0, 0, 0, 1, 0, 0, 0, 97, 2, 0, 0, 0, 98, 99],
-    )?;
-    let chain = chain_of(&rt, alloc, &["\"vlen-bytes\""])?;
+    must_encode_strings(rt, alloc, &chain, &DataType::String, shape, cells, encoded)
+}
+
+/// The text says the chain of `vlen-bytes` alone, which makes these bytes of byte strings.
+fn must_encode_byte_strings(
+    rt: &impl Abort,
+    alloc: Global,
+    text: &str,
+    cells: &ArrayBytes<'_>,
+    encoded: &[u8],
+) -> Result<(), Fail> {
+    let chain = chain_of(rt, alloc, &[text])?;
     assert!(rt;
         matches!(
             chain.array_to_bytes_codec(),
             ArrayToBytesCodec::VlenBytes(_)
         )
     );
-    must_encode_strings(
+    must_encode_strings(rt, alloc, &chain, &DataType::Bytes, &[1], cells, encoded)
+}
+
+#[test]
+fn a_chain_of_texts_is_made_of_its_metadata(rt: HostRuntime) -> Result<(), Fail> {
+    const ENCODED: &[u8] = &[2, 0, 0, 0, 1, 0, 0, 0, 97, 2, 0, 0, 0, 98, 99];
+    must_encode_texts(
         &rt,
-        alloc,
-        &chain,
-        &DataType::Bytes,
-        &[1],
+        rt.alloc(),
+        &[SWAP, "\"vlen-utf8\""],
+        1,
+        &[2, 1],
+        &strings(b"abc", &[0, 1, 3])?,
+        ENCODED,
+    )?;
+    must_encode_byte_strings(
+        &rt,
+        rt.alloc(),
+        "\"vlen-bytes\"",
         &strings(&[7], &[0, 1])?,
         &[1, 0, 0, 0, 1, 0, 0, 0, 7],
     )
@@ -317,44 +339,47 @@ fn must_be_no_chain(rt: &impl Abort, alloc: Global, texts: &[&str]) -> Result<()
 
 #[test]
 fn metadata_of_no_chain_is_refused(rt: HostRuntime) -> Result<(), Fail> {
-    let alloc = rt.alloc();
-    must_be_no_chain(&rt, alloc, &[])?;
-    must_be_no_chain(&rt, alloc, &[SWAP])?;
-    must_be_no_chain(&rt, alloc, &[LITTLE, SWAP])?;
-    must_be_no_chain(&rt, alloc, &[LITTLE, LITTLE])?;
-    must_be_no_chain(&rt, alloc, &["\"gzip\"", LITTLE])?;
-    must_be_no_chain(&rt, alloc, &[LITTLE, "\"gzip\""])?;
-    must_be_no_chain(&rt, alloc, &["\"transpose\"", LITTLE])
+    const CHAINS: &[&[&str]] = &[
+        &[],
+        &[SWAP],
+        &[LITTLE, SWAP],
+        &[LITTLE, LITTLE],
+        &["\"gzip\"", LITTLE],
+        &[LITTLE, "\"gzip\""],
+        &["\"transpose\"", LITTLE],
+    ];
+    for texts in CHAINS {
+        must_be_no_chain(&rt, rt.alloc(), texts)?;
+    }
+    Ok(())
 }
 
-/// The codec of a chain that names none has this metadata.
-fn must_default_to(
-    rt: &impl Abort,
-    alloc: Global,
-    data_type: &DataType,
-    text: &str,
-) -> Result<(), Fail> {
-    let codec = default_array_to_bytes_codec(data_type).ok_or("a codec")?;
+/// The codec of a chain that names none has this metadata, for cells of the type of this name.
+fn must_default_to(rt: &impl Abort, alloc: Global, name: &str, text: &str) -> Result<(), Fail> {
+    let codec = default_array_to_bytes_codec(&type_of(alloc, name)?).ok_or("a codec")?;
     must_be_written(rt, alloc, &codec.create_metadata(alloc)?, text)
 }
 
 #[test]
 fn each_type_has_its_default_codec(rt: HostRuntime) -> Result<(), Fail> {
-    let alloc = rt.alloc();
-    must_default_to(&rt, alloc, &DataType::Bool, LITTLE)?;
-    must_default_to(&rt, alloc, &DataType::Int8, LITTLE)?;
-    must_default_to(&rt, alloc, &DataType::Int16, LITTLE)?;
-    must_default_to(&rt, alloc, &DataType::Int32, LITTLE)?;
-    must_default_to(&rt, alloc, &DataType::Int64, LITTLE)?;
-    must_default_to(&rt, alloc, &DataType::UInt8, LITTLE)?;
-    must_default_to(&rt, alloc, &DataType::UInt16, LITTLE)?;
-    must_default_to(&rt, alloc, &DataType::UInt32, LITTLE)?;
-    must_default_to(&rt, alloc, &DataType::UInt64, LITTLE)?;
-    let raw = DataType::Raw(NonZeroUsize::new(3).ok_or("zero")?);
-    must_default_to(&rt, alloc, &raw, LITTLE)?;
-    must_default_to(&rt, alloc, &DataType::String, "\"vlen-utf8\"")?;
-    must_default_to(&rt, alloc, &DataType::Bytes, "\"vlen-bytes\"")?;
-    let optional = DataType::Optional(Box::new(alloc, DataType::String)?);
+    const ROWS: &[(&str, &str)] = &[
+        ("bool", LITTLE),
+        ("int8", LITTLE),
+        ("int16", LITTLE),
+        ("int32", LITTLE),
+        ("int64", LITTLE),
+        ("uint8", LITTLE),
+        ("uint16", LITTLE),
+        ("uint32", LITTLE),
+        ("uint64", LITTLE),
+        ("r24", LITTLE),
+        ("string", "\"vlen-utf8\""),
+        ("bytes", "\"vlen-bytes\""),
+    ];
+    for (name, text) in ROWS {
+        must_default_to(&rt, rt.alloc(), name, text)?;
+    }
+    let optional = DataType::Optional(Box::new(rt.alloc(), DataType::String)?);
     assert!(rt; default_array_to_bytes_codec(&optional).is_none());
     Ok(())
 }

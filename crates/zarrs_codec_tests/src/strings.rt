@@ -5,18 +5,32 @@ use std::borrow::CowSlice;
 use std::process::Abort;
 use std::test::Fail;
 use zarrs_codec::{
-    ArrayToArrayCodec, ArrayToBytesCodec, BytesToBytesCodecs, ChainTraits, CodecChain, CodecError,
-    CodecOptions, VlenBytesCodec, VlenUtf8Codec,
+    ArrayToBytesCodec, BytesToBytesCodecs, ChainTraits, CodecChain, CodecError, CodecOptions,
+    VlenBytesCodec, VlenUtf8Codec,
 };
 use zarrs_data_type::{ArrayBytes, ArrayBytesOffsets, DataType, FillValue};
 
-/// The chain of these codecs before `vlen-utf8`.
-fn chain_of_texts(codecs: Vec<ArrayToArrayCodec>) -> CodecChain {
-    CodecChain::new(
+/// The orders of transposes before `vlen-utf8`, a shape, the bytes of its texts, where each begins and the last one
+/// ends, and the bytes that they encode to.
+type Row = (
+    &'static [&'static [u64]],
+    &'static [u64],
+    &'static [u8],
+    &'static [usize],
+    &'static [u8],
+);
+
+/// The chain of transposes of these orders before `vlen-utf8`.
+fn chain_of_texts(alloc: Global, orders: &[&[u64]]) -> Result<CodecChain, Fail> {
+    let mut codecs = Vec::new(alloc);
+    for order in orders {
+        codecs.push(transpose(alloc, order)?)?;
+    }
+    Ok(CodecChain::new(
         codecs,
         ArrayToBytesCodec::VlenUtf8(VlenUtf8Codec),
         BytesToBytesCodecs,
-    )
+    ))
 }
 
 /// The chain of `vlen-bytes` alone.
@@ -36,7 +50,7 @@ pub(crate) fn strings(
     Ok(ArrayBytes::new_vlen(CowSlice::Borrowed(bytes), offsets)?)
 }
 
-fn must_be_same(rt: &impl Abort, left: &ArrayBytes<'_>, right: &ArrayBytes<'_>) {
+pub(crate) fn must_be_same(rt: &impl Abort, left: &ArrayBytes<'_>, right: &ArrayBytes<'_>) {
     match (left, right) {
         (ArrayBytes::Variable(left), ArrayBytes::Variable(right)) => {
             assert_eq!(rt; left.bytes(), right.bytes());
@@ -71,18 +85,23 @@ pub(crate) fn must_encode_strings(
     Ok(())
 }
 
+/// The texts of the row encode to its bytes, and back.
+fn must_encode_texts(rt: &impl Abort, alloc: Global, row: &Row) -> Result<(), Fail> {
+    let (orders, shape, bytes, offsets, encoded) = row;
+    let (chain, cells) = (chain_of_texts(alloc, orders)?, strings(bytes, offsets)?);
+    must_encode_strings(rt, alloc, &chain, &DataType::String, shape, &cells, encoded)
+}
+
 #[test]
 fn texts_stand_behind_their_lengths(rt: HostRuntime) -> Result<(), Fail> {
-    let alloc = rt.alloc();
-    must_encode_strings(
-        &rt,
-        alloc,
-        &chain_of_texts(Vec::new(alloc)),
-        &DataType::String,
+    const ROW: Row = (
+        &[],
         &[2],
-        &strings(b"abcd", &[0, 1, 4])?,
+        b"abcd",
+        &[0, 1, 4],
         &[2, 0, 0, 0, 1, 0, 0, 0, 97, 3, 0, 0, 0, 98, 99, 100],
-    )
+    );
+    must_encode_texts(&rt, rt.alloc(), &ROW)
 }
 
 #[test]
@@ -101,35 +120,24 @@ fn byte_strings_stand_behind_their_lengths(rt: HostRuntime) -> Result<(), Fail> 
 
 #[test]
 fn a_chunk_without_a_cell_is_its_number_alone(rt: HostRuntime) -> Result<(), Fail> {
-    let alloc = rt.alloc();
-    must_encode_strings(
-        &rt,
-        alloc,
-        &chain_of_texts(Vec::new(alloc)),
-        &DataType::String,
-        &[2, 0],
-        &strings(b"", &[0])?,
-        &[0, 0, 0, 0],
-    )
+    const ROW: Row = (&[], &[2, 0], b"", &[0], &[0, 0, 0, 0]);
+    must_encode_texts(&rt, rt.alloc(), &ROW)
 }
 
 /// The texts "a", "bb" and "" above "c", "dd" and "e", column by column.
 #[test]
 fn a_transpose_moves_texts_whole(rt: HostRuntime) -> Result<(), Fail> {
-    let alloc = rt.alloc();
-    let encoded = [
-        6, 0, 0, 0, 1, 0, 0, 0, 97, 1, 0, 0, 0, 99, 2, 0, 0, 0, 98, 98, 2, 0, 0, 0, 100, 100, 0, 0,
-        0, 0, 1, 0, 0, 0, 101,
-    ];
-    must_encode_strings(
-        &rt,
-        alloc,
-        &chain_of_texts(vec![in alloc; transpose(alloc, &[1, 0])?]?),
-        &DataType::String,
+    const ROW: Row = (
+        &[&[1, 0]],
         &[2, 3],
-        &strings(b"abbcdde", &[0, 1, 3, 3, 4, 6, 7])?,
-        &encoded,
-    )
+        b"abbcdde",
+        &[0, 1, 3, 3, 4, 6, 7],
+        &[
+            6, 0, 0, 0, 1, 0, 0, 0, 97, 1, 0, 0, 0, 99, 2, 0, 0, 0, 98, 98, 2, 0, 0, 0, 100, 100,
+            0, 0, 0, 0, 1, 0, 0, 0, 101,
+        ],
+    );
+    must_encode_texts(&rt, rt.alloc(), &ROW)
 }
 
 /// The bytes are those of no cell.
@@ -150,30 +158,43 @@ fn must_not_be_one_cell(
     );
 }
 
+/// Each is the bytes of no cell.
+fn must_be_no_cells(
+    rt: &impl Abort,
+    alloc: Global,
+    chain: &CodecChain,
+    data_type: &DataType,
+    foreign: &[&[u8]],
+) {
+    for encoded in foreign {
+        must_not_be_one_cell(rt, alloc, chain, data_type, encoded);
+    }
+}
+
 #[test]
-fn foreign_bytes_are_no_text(rt: HostRuntime) {
-    let alloc = rt.alloc();
-    let chain = chain_of_texts(Vec::new(alloc));
-    let of_type = &DataType::String;
-    must_not_be_one_cell(&rt, alloc, &chain, of_type, &[1, 0, 0, 0, 1, 0, 0, 0, 0xFF]);
-    let two = [2, 0, 0, 0, 0, 0, 0, 0, 0, 0, 0, 0];
-    must_not_be_one_cell(&rt, alloc, &chain, of_type, &two);
-    must_not_be_one_cell(&rt, alloc, &chain, of_type, &[1, 0, 0, 0, 0, 0, 0, 0, 0]);
-    let past = [1, 0, 0, 0, 0xFF, 0xFF, 0xFF, 0xFF];
-    must_not_be_one_cell(&rt, alloc, &chain, of_type, &past);
-    must_not_be_one_cell(&rt, alloc, &chain, of_type, &[]);
+fn foreign_bytes_are_no_text(rt: HostRuntime) -> Result<(), Fail> {
+    const FOREIGN: &[&[u8]] = &[
+        &[1, 0, 0, 0, 1, 0, 0, 0, 0xFF],
+        &[2, 0, 0, 0, 0, 0, 0, 0, 0, 0, 0, 0],
+        &[1, 0, 0, 0, 0, 0, 0, 0, 0],
+        &[1, 0, 0, 0, 0xFF, 0xFF, 0xFF, 0xFF],
+        &[],
+    ];
+    let chain = chain_of_texts(rt.alloc(), &[])?;
+    must_be_no_cells(&rt, rt.alloc(), &chain, &DataType::String, FOREIGN);
+    Ok(())
 }
 
 #[test]
 fn foreign_bytes_are_no_byte_string(rt: HostRuntime) {
-    let alloc = rt.alloc();
-    let chain = chain_of_byte_strings(alloc);
-    let of_type = &DataType::Bytes;
-    let two = [2, 0, 0, 0, 0, 0, 0, 0, 0, 0, 0, 0];
-    must_not_be_one_cell(&rt, alloc, &chain, of_type, &two);
-    must_not_be_one_cell(&rt, alloc, &chain, of_type, &[1, 0, 0, 0, 0, 0, 0, 0, 0]);
-    must_not_be_one_cell(&rt, alloc, &chain, of_type, &[1, 0, 0, 0, 2, 0, 0, 0, 97]);
-    must_not_be_one_cell(&rt, alloc, &chain, of_type, &[1, 0, 0]);
+    const FOREIGN: &[&[u8]] = &[
+        &[2, 0, 0, 0, 0, 0, 0, 0, 0, 0, 0, 0],
+        &[1, 0, 0, 0, 0, 0, 0, 0, 0],
+        &[1, 0, 0, 0, 2, 0, 0, 0, 97],
+        &[1, 0, 0],
+    ];
+    let chain = chain_of_byte_strings(rt.alloc());
+    must_be_no_cells(&rt, rt.alloc(), &chain, &DataType::Bytes, FOREIGN);
 }
 
 /// The data is two cells of the type, and the chain takes no such cells.
@@ -182,28 +203,32 @@ fn must_not_take(
     alloc: Global,
     chain: &CodecChain,
     data_type: &DataType,
-    fill: &FillValue,
+    fill: &'static [u8],
     cells: &ArrayBytes<'_>,
 ) -> Result<(), Fail> {
+    let fill = FillValue::new(Vec::from_slice(alloc, fill)?);
     assert!(rt; fill.is_value_of(data_type));
     assert!(rt; cells.validate(data_type, 2));
     assert!(rt; !chain.fits(alloc, data_type, &[2])?);
     let options = CodecOptions::default();
-    let made = chain.encode(alloc, cells, data_type, fill, &[2], &options);
+    let made = chain.encode(alloc, cells, data_type, &fill, &[2], &options);
     assert!(rt; made.is_err_and(|error| error == CodecError::DoesNotFit));
     Ok(())
 }
 
+/// `vlen-utf8` takes neither byte strings nor numbers.
+fn must_take_texts_alone(rt: &impl Abort, alloc: Global) -> Result<(), Fail> {
+    let chain = chain_of_texts(alloc, &[])?;
+    let cells = strings(b"ab", &[0, 1, 2])?;
+    must_not_take(rt, alloc, &chain, &DataType::Bytes, &[], &cells)?;
+    let numbers = ArrayBytes::from_flen(&[1, 2]);
+    must_not_take(rt, alloc, &chain, &DataType::UInt8, &[0], &numbers)
+}
+
 #[test]
 fn each_chain_takes_its_type_alone(rt: HostRuntime) -> Result<(), Fail> {
-    let alloc = rt.alloc();
-    let texts = chain_of_texts(Vec::new(alloc));
-    let byte_strings = chain_of_byte_strings(alloc);
-    let empty = FillValue::new(Vec::new(alloc));
+    must_take_texts_alone(&rt, rt.alloc())?;
+    let chain = chain_of_byte_strings(rt.alloc());
     let cells = strings(b"ab", &[0, 1, 2])?;
-    must_not_take(&rt, alloc, &texts, &DataType::Bytes, &empty, &cells)?;
-    must_not_take(&rt, alloc, &byte_strings, &DataType::String, &empty, &cells)?;
-    let zero = FillValue::new(vec![in alloc; 0]?);
-    let numbers = ArrayBytes::from_flen(&[1, 2]);
-    must_not_take(&rt, alloc, &texts, &DataType::UInt8, &zero, &numbers)
+    must_not_take(&rt, rt.alloc(), &chain, &DataType::String, &[], &cells)
 }

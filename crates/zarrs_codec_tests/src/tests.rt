@@ -1,13 +1,5 @@
-//! Chains and their codecs, byte for byte, with ample memory.
-ghost use Rattle.std.specs.Prelude.{◌≡◌, ◌*◌, ◌<◌, ◌^◌, IsSome};
-ghost use Rattle.zarrs_subset.specs.Boxes.{position_count};
-ghost use Rattle.zarrs_data_type.specs.ArrayData.{data_of};
-ghost use Rattle.zarrs_data_type.specs.Cell.{fill_cell};
-ghost use Rattle.zarrs_data_type.specs.Cells.{HasCells};
-ghost use Rattle.zarrs_data_type.specs.Kind.{kind, cell_size};
-
+//! Chains that end with `bytes`, byte for byte, with ample memory.
 use std::alloc::Global;
-use std::num::NonZeroUsize;
 use std::process::Abort;
 use std::test::Fail;
 use zarrs_codec::{
@@ -15,20 +7,56 @@ use zarrs_codec::{
     CodecError, CodecOptions, SqueezeCodec, TransposeCodec,
 };
 use zarrs_data_type::{ArrayBytes, DataType, FillValue};
+use zarrs_metadata::MetadataV3;
 
-/// The chain of these codecs before `bytes`.
-fn chain_of(codecs: Vec<ArrayToArrayCodec>) -> CodecChain {
-    CodecChain::new(
-        codecs,
-        ArrayToBytesCodec::Bytes(BytesCodec::little()),
-        BytesToBytesCodecs,
-    )
+/// A codec before `bytes`.
+enum Stage {
+    /// A transpose of this order.
+    Transpose(&'static [u64]),
+    Squeeze,
 }
+
+const SWAP: Stage = Stage::Transpose(&[1, 0]);
+
+/// The codecs before `bytes`, the name of a type, a shape, its cells and the bytes that they encode to.
+type Row = (
+    &'static [Stage],
+    &'static str,
+    &'static [u64],
+    &'static [u8],
+    &'static [u8],
+);
 
 /// The codec `transpose` of this order.
 pub(crate) fn transpose(alloc: Global, order: &[u64]) -> Result<ArrayToArrayCodec, Fail> {
     let codec = TransposeCodec::new(alloc, Vec::from_slice(alloc, order)?)?;
     Ok(ArrayToArrayCodec::Transpose(codec.ok_or("an order")?))
+}
+
+fn codec_of(alloc: Global, stage: &Stage) -> Result<ArrayToArrayCodec, Fail> {
+    match stage {
+        Stage::Transpose(order) => transpose(alloc, order),
+        Stage::Squeeze => Ok(ArrayToArrayCodec::Squeeze(SqueezeCodec)),
+    }
+}
+
+/// The chain of these codecs before `bytes`.
+fn chain_of(alloc: Global, stages: &[Stage]) -> Result<CodecChain, Fail> {
+    let mut codecs = Vec::new(alloc);
+    for stage in stages {
+        codecs.push(codec_of(alloc, stage)?)?;
+    }
+    Ok(CodecChain::new(
+        codecs,
+        ArrayToBytesCodec::Bytes(BytesCodec::little()),
+        BytesToBytesCodecs,
+    ))
+}
+
+/// The type of this name.
+pub(crate) fn type_of(alloc: Global, name: &str) -> Result<DataType, Fail> {
+    let metadata = MetadataV3::new(String::from_str(alloc, name)?);
+    Ok(DataType::from_metadata(alloc, &metadata)?)
 }
 
 fn must_hold(rt: &impl Abort, data: &ArrayBytes<'_>, bytes: &[u8]) {
@@ -65,149 +93,152 @@ pub(crate) fn must_encode(
     Ok(())
 }
 
+/// The cells of each row encode to its bytes, and back.
+fn must_encode_each(rt: &impl Abort, alloc: Global, rows: &[Row]) -> Result<(), Fail> {
+    for (stages, name, shape, cells, encoded) in rows {
+        let (chain, data_type) = (chain_of(alloc, stages)?, type_of(alloc, name)?);
+        must_encode(rt, alloc, &chain, &data_type, shape, cells, encoded)?;
+    }
+    Ok(())
+}
+
 #[test]
 fn numbers_are_little_endian(rt: HostRuntime) -> Result<(), Fail> {
-    let alloc = rt.alloc();
-    let chain = chain_of(Vec::new(alloc));
-    let numbers = [0xFE, 0xFF, 0x02, 0x01];
-    must_encode(
-        &rt,
-        alloc,
-        &chain,
-        &DataType::Int16,
-        &[2],
-        &numbers,
-        &numbers,
-    )
+    const NUMBERS: &[u8] = &[0xFE, 0xFF, 0x02, 0x01];
+    const ROWS: &[Row] = &[(&[], "int16", &[2], NUMBERS, NUMBERS)];
+    must_encode_each(&rt, rt.alloc(), ROWS)
 }
 
 #[test]
 fn raw_bytes_stay_as_they_are(rt: HostRuntime) -> Result<(), Fail> {
-    let alloc = rt.alloc();
-    let raw = DataType::Raw(NonZeroUsize::new(3).ok_or("zero")?);
-    let chain = chain_of(Vec::new(alloc));
-    let cells = [1, 2, 3, 4, 5, 6];
-    must_encode(&rt, alloc, &chain, &raw, &[2], &cells, &cells)
-}
-
-/// A transpose of this order makes these bytes of the cells.
-fn must_transpose(
-    rt: &impl Abort,
-    alloc: Global,
-    order: &[u64],
-    shape: &[u64],
-    cells: &[u8],
-    encoded: &[u8],
-) -> Result<(), Fail> {
-    let chain = chain_of(vec![in alloc; transpose(alloc, order)?]?);
-    must_encode(rt, alloc, &chain, &DataType::UInt8, shape, cells, encoded)
+    const CELLS: &[u8] = &[1, 2, 3, 4, 5, 6];
+    const ROWS: &[Row] = &[(&[], "r24", &[2], CELLS, CELLS)];
+    must_encode_each(&rt, rt.alloc(), ROWS)
 }
 
 #[test]
 fn a_transpose_of_two_dimensions_swaps_them(rt: HostRuntime) -> Result<(), Fail> {
-    let alloc = rt.alloc();
-    let cells = [1, 2, 3, 4, 5, 6];
-    must_transpose(&rt, alloc, &[1, 0], &[2, 3], &cells, &[1, 4, 2, 5, 3, 6])?;
-    must_transpose(&rt, alloc, &[0, 1], &[2, 3], &cells, &cells)
+    const CELLS: &[u8] = &[1, 2, 3, 4, 5, 6];
+    const ROWS: &[Row] = &[
+        (&[SWAP], "uint8", &[2, 3], CELLS, &[1, 4, 2, 5, 3, 6]),
+        (&[Stage::Transpose(&[0, 1])], "uint8", &[2, 3], CELLS, CELLS),
+    ];
+    must_encode_each(&rt, rt.alloc(), ROWS)
 }
 
 #[test]
 fn transposes_of_no_one_and_three_dimensions(rt: HostRuntime) -> Result<(), Fail> {
-    let alloc = rt.alloc();
-    must_transpose(&rt, alloc, &[], &[], &[7], &[7])?;
-    must_transpose(&rt, alloc, &[0], &[3], &[1, 2, 3], &[1, 2, 3])?;
-    must_transpose(
-        &rt,
-        alloc,
-        &[2, 0, 1],
-        &[1, 2, 3],
-        &[1, 2, 3, 4, 5, 6],
-        &[1, 4, 2, 5, 3, 6],
-    )?;
-    must_transpose(&rt, alloc, &[1, 2, 0], &[2, 0, 3], &[], &[])
+    const ROWS: &[Row] = &[
+        (&[Stage::Transpose(&[])], "uint8", &[], &[7], &[7]),
+        (
+            &[Stage::Transpose(&[0])],
+            "uint8",
+            &[3],
+            &[1, 2, 3],
+            &[1, 2, 3],
+        ),
+        (
+            &[Stage::Transpose(&[2, 0, 1])],
+            "uint8",
+            &[1, 2, 3],
+            &[1, 2, 3, 4, 5, 6],
+            &[1, 4, 2, 5, 3, 6],
+        ),
+        (
+            &[Stage::Transpose(&[1, 2, 0])],
+            "uint8",
+            &[2, 0, 3],
+            &[],
+            &[],
+        ),
+    ];
+    must_encode_each(&rt, rt.alloc(), ROWS)
 }
 
 #[test]
 fn a_transpose_of_five_dimensions_moves_each(rt: HostRuntime) -> Result<(), Fail> {
-    let alloc = rt.alloc();
-    let cells = [0, 1, 2, 3, 4, 5, 6, 7];
-    must_transpose(
-        &rt,
-        alloc,
-        &[4, 1, 2, 3, 0],
+    const ROWS: &[Row] = &[(
+        &[Stage::Transpose(&[4, 1, 2, 3, 0])],
+        "uint8",
         &[2, 1, 2, 1, 2],
-        &cells,
+        &[0, 1, 2, 3, 4, 5, 6, 7],
         &[0, 4, 2, 6, 1, 5, 3, 7],
-    )
+    )];
+    must_encode_each(&rt, rt.alloc(), ROWS)
 }
 
 #[test]
 fn cells_of_two_and_three_bytes_move_whole(rt: HostRuntime) -> Result<(), Fail> {
-    let alloc = rt.alloc();
-    let chain = chain_of(vec![in alloc; transpose(alloc, &[1, 0])?]?);
-    let cells = [1, 0, 2, 0, 3, 0, 4, 0];
-    must_encode(
-        &rt,
-        alloc,
-        &chain,
-        &DataType::UInt16,
-        &[2, 2],
-        &cells,
-        &[1, 0, 3, 0, 2, 0, 4, 0],
-    )?;
-    let raw = DataType::Raw(NonZeroUsize::new(3).ok_or("zero")?);
-    let triples = [1, 1, 1, 2, 2, 2, 3, 3, 3, 4, 4, 4];
-    let swapped = [1, 1, 1, 3, 3, 3, 2, 2, 2, 4, 4, 4];
-    must_encode(&rt, alloc, &chain, &raw, &[2, 2], &triples, &swapped)
+    const ROWS: &[Row] = &[
+        (
+            &[SWAP],
+            "uint16",
+            &[2, 2],
+            &[1, 0, 2, 0, 3, 0, 4, 0],
+            &[1, 0, 3, 0, 2, 0, 4, 0],
+        ),
+        (
+            &[SWAP],
+            "r24",
+            &[2, 2],
+            &[1, 1, 1, 2, 2, 2, 3, 3, 3, 4, 4, 4],
+            &[1, 1, 1, 3, 3, 3, 2, 2, 2, 4, 4, 4],
+        ),
+    ];
+    must_encode_each(&rt, rt.alloc(), ROWS)
 }
 
 #[test]
 fn two_transposes_and_a_squeeze_go_in_order(rt: HostRuntime) -> Result<(), Fail> {
-    let alloc = rt.alloc();
-    let squeeze = ArrayToArrayCodec::Squeeze(SqueezeCodec);
-    let codecs = vec![in alloc;
-        transpose(alloc, &[2, 0, 1])?,
-        squeeze,
-        transpose(alloc, &[1, 0])?,
-    ]?;
-    let chain = chain_of(codecs);
-    let cells = [1, 2, 3, 4, 5, 6];
-    must_encode(
-        &rt,
-        alloc,
-        &chain,
-        &DataType::UInt8,
+    const CELLS: &[u8] = &[1, 2, 3, 4, 5, 6];
+    const ROWS: &[Row] = &[(
+        &[Stage::Transpose(&[2, 0, 1]), Stage::Squeeze, SWAP],
+        "uint8",
         &[1, 2, 3],
-        &cells,
-        &cells,
-    )
+        CELLS,
+        CELLS,
+    )];
+    must_encode_each(&rt, rt.alloc(), ROWS)
 }
 
+/// The chain of these codecs takes no chunk of this shape.
 fn must_not_fit(
     rt: &impl Abort,
     alloc: Global,
-    chain: &CodecChain,
+    stages: &[Stage],
     data_type: &DataType,
     shape: &[u64],
 ) -> Result<(), Fail> {
+    let chain = chain_of(alloc, stages)?;
     assert!(rt; !chain.fits(alloc, data_type, shape)?);
+    Ok(())
+}
+
+fn must_not_fit_optional_cells(rt: &impl Abort, alloc: Global) -> Result<(), Fail> {
+    let optional = DataType::Optional(Box::new(alloc, DataType::UInt8)?);
+    must_not_fit(rt, alloc, &[], &optional, &[2])
+}
+
+/// The chain of these codecs compacts no chunk of this shape.
+fn must_not_compact(
+    rt: &impl Abort,
+    alloc: Global,
+    stages: &[Stage],
+    shape: &[u64],
+) -> Result<(), Fail> {
+    let chain = chain_of(alloc, stages)?;
+    let made = chain.compact(alloc, &[1], shape);
+    assert!(rt; made.is_err_and(|error| error == CodecError::DoesNotFit));
     Ok(())
 }
 
 #[test]
 fn what_does_not_fit_is_refused(rt: HostRuntime) -> Result<(), Fail> {
-    let alloc = rt.alloc();
-    let swap = chain_of(vec![in alloc; transpose(alloc, &[1, 0])?]?);
-    must_not_fit(&rt, alloc, &swap, &DataType::UInt8, &[2])?;
-    must_not_fit(&rt, alloc, &swap, &DataType::String, &[2, 2])?;
-    let plain = chain_of(Vec::new(alloc));
-    let optional = DataType::Optional(Box::new(alloc, DataType::UInt8)?);
-    must_not_fit(&rt, alloc, &plain, &optional, &[2])?;
-    assert!(&rt;
-        swap.compact(alloc, &[1], &[1])
-            .is_err_and(|e| e == CodecError::DoesNotFit)
-    );
-    Ok(())
+    const SWAPS: &[Stage] = &[SWAP];
+    must_not_fit(&rt, rt.alloc(), SWAPS, &DataType::UInt8, &[2])?;
+    must_not_fit(&rt, rt.alloc(), SWAPS, &DataType::String, &[2, 2])?;
+    must_not_fit_optional_cells(&rt, rt.alloc())?;
+    must_not_compact(&rt, rt.alloc(), SWAPS, &[1])
 }
 
 #[test]
@@ -220,9 +251,11 @@ fn a_list_that_is_no_order_is_not_taken(rt: HostRuntime) -> Result<(), Fail> {
     Ok(())
 }
 
-fn must_not_decode(
+/// The chain decodes these bytes to no cells of the type.
+pub(crate) fn must_not_decode(
     rt: &impl Abort,
     alloc: Global,
+    chain: &CodecChain,
     data_type: &DataType,
     shape: &[u64],
     encoded: &[u8],
@@ -232,18 +265,32 @@ fn must_not_decode(
     assert!(rt; zero.is_value_of(data_type));
     let count = zarrs_subset::element_count(shape).ok_or("a count")?;
     assert!(rt; count < 100 && size < 100);
-    let chain = chain_of(Vec::new(alloc));
     let made = chain.decode(alloc, encoded, data_type, &zero, shape);
     assert!(rt; made.is_err_and(|error| error == CodecError::DoesNotFit));
     Ok(())
 }
 
+/// Names of types and bytes, which `bytes` decodes to no two cells.
+fn must_be_no_two_cells(
+    rt: &impl Abort,
+    alloc: Global,
+    rows: &[(&str, &[u8])],
+) -> Result<(), Fail> {
+    let chain = chain_of(alloc, &[])?;
+    for (name, encoded) in rows {
+        must_not_decode(rt, alloc, &chain, &type_of(alloc, name)?, &[2], encoded)?;
+    }
+    Ok(())
+}
+
 #[test]
 fn bytes_of_another_length_and_bools_above_one_do_not_decode(rt: HostRuntime) -> Result<(), Fail> {
-    let alloc = rt.alloc();
-    must_not_decode(&rt, alloc, &DataType::UInt8, &[2], &[1, 2, 3])?;
-    must_not_decode(&rt, alloc, &DataType::UInt16, &[2], &[1, 2, 3])?;
-    must_not_decode(&rt, alloc, &DataType::Bool, &[2], &[0, 2])
+    const ROWS: &[(&str, &[u8])] = &[
+        ("uint8", &[1, 2, 3]),
+        ("uint16", &[1, 2, 3]),
+        ("bool", &[0, 2]),
+    ];
+    must_be_no_two_cells(&rt, rt.alloc(), ROWS)
 }
 
 #[test]

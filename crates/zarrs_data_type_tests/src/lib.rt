@@ -1,5 +1,16 @@
-//! The tests of `zarrs_data_type` and of the crates that it shows, over their public calls alone.
+//! The tests of types, of their metadata, of cells and of elements, over the public calls of `zarrs_types`, `zarrs_cells`
+//! and `zarrs_data_type` alone.
 #![tactic(auto)]
 
 #[cfg(test)]
+mod elements;
+#[cfg(test)]
+mod metadata;
+#[cfg(test)]
+mod parts;
+#[cfg(test)]
 mod tests;
+#[cfg(test)]
+mod types;
+#[cfg(test)]
+mod values;

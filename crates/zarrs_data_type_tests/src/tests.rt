@@ -6,6 +6,7 @@ ghost use Rattle.zarrs_data_type.specs.Cells.{HasCells};
 ghost use Rattle.zarrs_data_type.specs.Kind.{kind, cell_size};
 ghost use Rattle.zarrs_data_type.specs.Present.{flag_set};
 
+use crate::metadata::type_of;
 use std::alloc::{AllocError, Global};
 use std::borrow::CowSlice;
 use std::num::NonZeroUsize;
@@ -95,30 +96,37 @@ fn must_fill(rt: &impl Abort, data_type: &DataType, fill: &[u8], is: bool) {
     assert_eq!(rt; data_type.is_fill(fill), is, "{fill:?}");
 }
 
+/// The bytes are those of a fill value, and are lent again.
+fn must_be_value(rt: &impl Abort, alloc: Global, name: &str, bytes: &[u8]) -> Result<(), Fail> {
+    let value = FillValue::new(Vec::from_slice(alloc, bytes)?);
+    assert!(rt; value.is_value_of(&type_of(alloc, name)?));
+    assert_eq!(rt; value.as_bytes(), bytes);
+    Ok(())
+}
+
 #[test]
 fn a_fill_value_is_one_cell(rt: HostRuntime) -> Result<(), Fail> {
-    let alloc = rt.alloc();
-    must_fill(&rt, &DataType::UInt16, &[2, 1], true);
-    must_fill(&rt, &DataType::UInt8, &[2, 1], false);
-    must_fill(&rt, &DataType::String, &[2, 1], true);
-    must_fill(&rt, &DataType::String, &[0xFF], false);
-    must_fill(&rt, &DataType::Bytes, &[0xFF], true);
-    must_fill(&rt, &DataType::Bool, &[2], false);
-    let inner = optional(alloc, DataType::UInt8)?;
-    must_fill(&rt, &inner, &[0], true);
-    must_fill(&rt, &inner, &[2, 1], true);
-    must_fill(&rt, &inner, &[2], false);
-    let nested = optional(alloc, inner)?;
-    must_fill(&rt, &nested, &[0], true);
-    must_fill(&rt, &nested, &[0, 1], true);
-    must_fill(&rt, &nested, &[7, 1, 1], true);
-    must_fill(&rt, &nested, &[2, 1], false);
+    const ROWS: &[(&str, &[u8], bool)] = &[
+        ("uint16", &[2, 1], true),
+        ("uint8", &[2, 1], false),
+        ("string", &[2, 1], true),
+        ("string", &[0xFF], false),
+        ("bytes", &[0xFF], true),
+        ("bool", &[2], false),
+        ("uint8?", &[0], true),
+        ("uint8?", &[2, 1], true),
+        ("uint8?", &[2], false),
+        ("uint8??", &[0], true),
+        ("uint8??", &[0, 1], true),
+        ("uint8??", &[7, 1, 1], true),
+        ("uint8??", &[2, 1], false),
+    ];
+    for (name, fill, is) in ROWS {
+        must_fill(&rt, &type_of(rt.alloc(), name)?, fill, *is);
+    }
     must_be(&rt, inner_fill(&[7, 1]) == Some([7].as_slice()), "front");
     must_be(&rt, inner_fill(&[0]).is_none(), "none");
-    let value = FillValue::new(vec![in alloc; 7u8, 1, 1]?);
-    must_be(&rt, value.is_value_of(&nested), "value");
-    must_be(&rt, value.as_bytes() == [7, 1, 1].as_slice(), "bytes");
-    Ok(())
+    must_be_value(&rt, rt.alloc(), "uint8??", &[7, 1, 1])
 }
 
 fn must_validate(
@@ -309,15 +317,16 @@ fn must_repeat(
     Ok(())
 }
 
+/// Each of the two values of the type is told from the other.
 fn must_repeat_tested(
     rt: &impl Abort,
     alloc: Global,
     data_type: &DataType,
-    fill: Vec<u8>,
-    other: Vec<u8>,
+    fill: &[u8],
+    other: &[u8],
 ) -> Result<(), Fail> {
-    let fill = FillValue::new(fill);
-    let other = FillValue::new(other);
+    let fill = FillValue::new(Vec::from_slice(alloc, fill)?);
+    let other = FillValue::new(Vec::from_slice(alloc, other)?);
     if fill.is_value_of(data_type) && other.is_value_of(data_type) {
         if data_type.held_size(fill.as_bytes()) < 100 {
             return must_repeat(rt, alloc, data_type, &fill, &other);
@@ -328,65 +337,19 @@ fn must_repeat_tested(
 
 #[test]
 fn fill_values_are_repeated(rt: HostRuntime) -> Result<(), Fail> {
-    let alloc = rt.alloc();
-    must_repeat_tested(
-        &rt,
-        alloc,
-        &DataType::Int16,
-        vec![in alloc; 0xFEu8, 0xFF]?,
-        vec![in alloc; 0u8, 0]?,
-    )?;
-    must_repeat_tested(
-        &rt,
-        alloc,
-        &DataType::Bool,
-        vec![in alloc; 1u8]?,
-        vec![in alloc; 0u8]?,
-    )?;
-    must_repeat_tested(
-        &rt,
-        alloc,
-        &raw(3)?,
-        vec![in alloc; 1u8, 2, 3]?,
-        vec![in alloc; 1u8, 2, 4]?,
-    )?;
-    must_repeat_tested(
-        &rt,
-        alloc,
-        &DataType::String,
-        vec![in alloc; 0x61u8, 0x62]?,
-        Vec::new(alloc),
-    )?;
-    must_repeat_tested(
-        &rt,
-        alloc,
-        &DataType::Bytes,
-        Vec::new(alloc),
-        vec![in alloc; 0u8]?,
-    )?;
-    let inner = optional(alloc, DataType::UInt8)?;
-    must_repeat_tested(
-        &rt,
-        alloc,
-        &inner,
-        vec![in alloc; 0u8]?,
-        vec![in alloc; 0u8, 1]?,
-    )?;
-    let nested = optional(alloc, inner)?;
-    must_repeat_tested(
-        &rt,
-        alloc,
-        &nested,
-        vec![in alloc; 7u8, 1, 1]?,
-        vec![in alloc; 0u8, 1]?,
-    )?;
-    must_repeat_tested(
-        &rt,
-        alloc,
-        &nested,
-        vec![in alloc; 0u8, 1]?,
-        vec![in alloc; 0u8]?,
-    )?;
+    const ROWS: &[(&str, &[u8], &[u8])] = &[
+        ("int16", &[0xFE, 0xFF], &[0, 0]),
+        ("bool", &[1], &[0]),
+        ("r24", &[1, 2, 3], &[1, 2, 4]),
+        ("string", &[0x61, 0x62], &[]),
+        ("bytes", &[], &[0]),
+        ("uint8?", &[0], &[0, 1]),
+        ("uint8??", &[7, 1, 1], &[0, 1]),
+        ("uint8??", &[0, 1], &[0]),
+    ];
+    for (name, fill, other) in ROWS {
+        must_repeat_tested(&rt, rt.alloc(), &type_of(rt.alloc(), name)?, fill, other)?;
+    }
     Ok(())
 }
 

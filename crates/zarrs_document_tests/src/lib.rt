@@ -1,5 +1,7 @@
-//! Tests of `zarrs_document`.
+//! Tests of `zarrs_document` and `zarrs_document_v2`.
 #![tactic(auto)]
 
 #[cfg(test)]
-mod tests;
+mod documents_v2;
+#[cfg(test)]
+mod documents_v3;

@@ -1,4 +1,4 @@
-//! Tests of the engine and of the laws of calls.
+//! Tests of the engine, of its reads into targets and of the laws of calls.
 #![tactic(auto)]
 
 #[cfg(test)]
@@ -7,5 +7,7 @@ mod encoded;
 mod ranges;
 #[cfg(test)]
 mod steps;
+#[cfg(test)]
+mod target_reads;
 #[cfg(test)]
 mod tests;

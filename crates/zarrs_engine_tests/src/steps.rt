@@ -25,6 +25,18 @@ pub(crate) fn bytes_engine<S: Drop>(
     chunk: &[u64],
     fill: u8,
 ) -> Result<EngineOver<S>, Fail> {
+    engine_over(alloc, storage, shape, chunk, DataType::UInt8, &[fill])
+}
+
+/// An array of the type at `/` of this shape, in chunks of that shape, over the store. Its chain is `bytes` alone.
+pub(crate) fn engine_over<S: Drop>(
+    alloc: Global,
+    storage: S,
+    shape: &[u64],
+    chunk: &[u64],
+    data_type: DataType,
+    fill: &[u8],
+) -> Result<EngineOver<S>, Fail> {
     let mut chunk_shape = Vec::new(alloc);
     for extent in chunk {
         chunk_shape.push(NonZeroU64::new(*extent).ok_or("an extent is 0")?)?;
@@ -37,16 +49,11 @@ pub(crate) fn bytes_engine<S: Drop>(
         ArrayToBytesCodec::Bytes(BytesCodec::little()),
         BytesToBytesCodecs,
     );
-    let fill_value = FillValue::new(vec![in alloc; fill]?);
-    Ok(Engine::new(
-        storage,
-        path,
-        grid,
-        keys,
-        chain,
-        DataType::UInt8,
-        fill_value,
-    ))
+    let fill_value = FillValue::new(fill.to_vec(alloc)?);
+    if !data_type.is_fill(fill_value.as_bytes()) {
+        return Err("no fill value of the type".into());
+    }
+    Ok(Engine::new(storage, path, grid, keys, chain, data_type, fill_value))
 }
 
 /// A call of an engine. A chunk is named by its indices, a range of chunks by its start and its shape.

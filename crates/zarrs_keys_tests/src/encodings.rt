@@ -21,7 +21,7 @@ fn key_by(alloc: Global, text: &str) -> Result<String, Fail> {
 #[test]
 fn metadata_that_is_read(rt: HostRuntime) -> Result<(), Fail> {
     let alloc = rt.alloc();
-    for (text, key) in [
+    const ROWS: &[(&str, &str)] = &[
         (r#""default""#, "c/1/23"),
         (r#"{"name":"default","configuration":{}}"#, "c/1/23"),
         (
@@ -48,8 +48,9 @@ fn metadata_that_is_read(rt: HostRuntime) -> Result<(), Fail> {
             r#"{"name":"zarrs.default_suffix","configuration":{"suffix":".tiff"}}"#,
             "c/1/23.tiff",
         ),
-    ] {
-        assert_eq!(rt; key_by(alloc, text)?.as_str(), key, "{text}");
+    ];
+    for (text, key) in ROWS {
+        assert_eq!(rt; key_by(alloc, text)?.as_str(), *key, "{text}");
     }
     Ok(())
 }
@@ -62,7 +63,7 @@ fn must_be_refused(rt: &impl Abort, alloc: Global, metadata: &MetadataV3) {
 #[test]
 fn metadata_that_is_refused(rt: HostRuntime) -> Result<(), Fail> {
     let alloc = rt.alloc();
-    for text in [
+    const TEXTS: &[&str] = &[
         r#""hilbert""#,
         r#""Default""#,
         r#""default_suffix""#,
@@ -77,7 +78,8 @@ fn metadata_that_is_refused(rt: HostRuntime) -> Result<(), Fail> {
         r#"{"name":"default_suffix","configuration":{"suffix":"/x"}}"#,
         r#"{"name":"default_suffix","configuration":{"suffix":1}}"#,
         r#"{"name":"default_suffix","configuration":{"order":"C","suffix":".tiff"}}"#,
-    ] {
+    ];
+    for text in TEXTS {
         must_be_refused(&rt, alloc, &metadata_of(alloc, text)?);
     }
     Ok(())

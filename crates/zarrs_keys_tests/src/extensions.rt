@@ -100,7 +100,7 @@ fn an_extension_that_need_not_be_understood(rt: HostRuntime) -> Result<(), Fail>
 #[test]
 fn another_shape_is_refused(rt: HostRuntime) -> Result<(), Fail> {
     let alloc = rt.alloc();
-    for text in [
+    const TEXTS: &[&str] = &[
         "null",
         "true",
         "7",
@@ -111,7 +111,8 @@ fn another_shape_is_refused(rt: HostRuntime) -> Result<(), Fail> {
         "{\"name\":\"a\",\"configuration\":null}",
         "{\"name\":\"a\",\"must_understand\":1}",
         "{\"name\":\"a\",\"more\":1}",
-    ] {
+    ];
+    for text in TEXTS {
         let refused = MetadataV3::from_value(Value::from_str(alloc, text)?);
         assert!(rt; matches!(&refused, Err(MetadataError::InvalidShape)));
     }
@@ -139,14 +140,15 @@ fn lists_of_numbers(rt: HostRuntime) -> Result<(), Fail> {
 #[test]
 fn lists_that_are_refused(rt: HostRuntime) -> Result<(), Fail> {
     let alloc = rt.alloc();
-    for text in [
+    const TEXTS: &[&str] = &[
         "7",
         "[7,-1]",
         "[1.5]",
         "[[7]]",
         "[18446744073709551616]",
         "[null]",
-    ] {
+    ];
+    for text in TEXTS {
         assert!(rt; numbers(alloc, &Value::from_str(alloc, text)?)?.is_none());
     }
     Ok(())

@@ -1,4 +1,4 @@
-//! The tests of `zarrs_metadata` and `zarrs_keys`, over their public calls alone.
+//! The tests of `zarrs_metadata`, `zarrs_keys` and `zarrs_options`, over their public calls alone.
 #![tactic(auto)]
 
 #[cfg(test)]
@@ -7,3 +7,5 @@ mod encodings;
 mod extensions;
 #[cfg(test)]
 mod keys;
+#[cfg(test)]
+mod options;

@@ -1,13 +1,12 @@
 //! Reads of ranges of chunks and of parts of chunks.
-use crate::region_reads::{TOO_LARGE, UNFIT, nine_cells, nine_cells_must_answer};
+use crate::region_reads::{nine_cells_must_answer, nine_cells_must_answer_in_list};
 use crate::steps::Answer::{Cells, Done, Refused};
 use crate::steps::Step::{Put, ReadChunks, ReadPart, Store};
 use crate::steps::{
-    Case, Row, engine_of, engine_over, must_answer, must_go_on, must_go_on_in_list,
+    ReadCase, Row, TOO_LARGE, UNFIT, WriteCase, must_answer, must_answer_of, must_leave,
 };
 use std::test::Fail;
 use zarrs_data_type::DataType;
-use zarrs_storage::{Fault, MemoryStore, StoreKey};
 
 #[test]
 fn a_range_over_four_chunks(rt: HostRuntime) -> Result<(), Fail> {
@@ -54,18 +53,21 @@ fn an_empty_range_has_no_cell(rt: HostRuntime) -> Result<(), Fail> {
 /// The store refuses to read the first chunk: what asks for it is refused, and what does not is not.
 #[test]
 fn an_empty_range_asks_nothing(rt: HostRuntime) -> Result<(), Fail> {
-    let alloc = rt.alloc();
-    let unread = vec![in alloc; StoreKey::new(alloc, "c/0")?]?;
-    let storage = Fault::new(MemoryStore::new(alloc), unread, None);
-    let mut engine = engine_over(alloc, storage, &[4], &[2], DataType::UInt8, &[0])?;
-    const ROWS: &[Row] = &[
-        (ReadChunks(&[0], &[2]), Refused("fault")),
-        (ReadChunks(&[0], &[0]), Cells(&[])),
-        (ReadChunks(&[1], &[1]), Cells(&[&[0, 0]])),
-        (ReadPart(&[0], &[1], &[1]), Refused("fault")),
-        (ReadPart(&[1], &[1], &[1]), Cells(&[&[0]])),
-    ];
-    must_go_on(&rt, alloc, &mut engine, ROWS)
+    const CASE: WriteCase = WriteCase {
+        unread: &["c/0"],
+        shape: &[4],
+        chunk_shape: &[2],
+        rows: &[
+            (ReadChunks(&[0], &[2]), Refused("fault")),
+            (ReadChunks(&[0], &[0]), Cells(&[])),
+            (ReadChunks(&[1], &[1]), Cells(&[&[0, 0]])),
+            (ReadPart(&[0], &[1], &[1]), Refused("fault")),
+            (ReadPart(&[1], &[1], &[1]), Cells(&[&[0]])),
+        ],
+        calls: 0,
+        left: "",
+    };
+    must_leave(&rt, rt.alloc(), &CASE)
 }
 
 #[test]
@@ -85,7 +87,7 @@ fn a_range_of_other_dimensions_is_refused(rt: HostRuntime) -> Result<(), Fail> {
 
 #[test]
 fn an_index_without_a_chunk_is_refused(rt: HostRuntime) -> Result<(), Fail> {
-    const CASE: Case = Case {
+    const CASE: ReadCase = ReadCase {
         shape: &[u64::MAX],
         chunk_shape: &[1 << 63],
         rows: &[
@@ -179,7 +181,7 @@ fn a_part_that_passes_its_chunk_is_refused(rt: HostRuntime) -> Result<(), Fail> 
 
 #[test]
 fn parts_of_a_chunk_that_does_not_decode(rt: HostRuntime) -> Result<(), Fail> {
-    const CASE: Case = Case {
+    const CASE: ReadCase = ReadCase {
         shape: &[6],
         chunk_shape: &[2],
         rows: &[
@@ -196,19 +198,21 @@ fn parts_of_a_chunk_that_does_not_decode(rt: HostRuntime) -> Result<(), Fail> {
 
 #[test]
 fn a_part_of_a_chunk_past_the_numbers(rt: HostRuntime) -> Result<(), Fail> {
-    let alloc = rt.alloc();
-    let mut engine = engine_of(alloc, &[1 << 62], &[1 << 61], DataType::Int64, &[0; 8])?;
-    const ROWS: &[Row] = &[
-        (ReadPart(&[1], &[7], &[2]), Cells(&[&[0; 8], &[0; 8]])),
-        (ReadPart(&[1], &[0], &[1 << 61]), Refused(TOO_LARGE)),
-        (ReadChunks(&[0], &[2]), Refused(TOO_LARGE)),
-    ];
-    must_go_on(&rt, alloc, &mut engine, ROWS)
+    const CASE: ReadCase = ReadCase {
+        shape: &[1 << 62],
+        chunk_shape: &[1 << 61],
+        rows: &[
+            (ReadPart(&[1], &[7], &[2]), Cells(&[&[0; 8], &[0; 8]])),
+            (ReadPart(&[1], &[0], &[1 << 61]), Refused(TOO_LARGE)),
+            (ReadChunks(&[0], &[2]), Refused(TOO_LARGE)),
+        ],
+    };
+    must_answer_of(&rt, rt.alloc(), DataType::Int64, &[0; 8], &CASE)
 }
 
 #[test]
 fn without_dimensions_there_is_one_chunk_of_one_cell(rt: HostRuntime) -> Result<(), Fail> {
-    const CASE: Case = Case {
+    const CASE: ReadCase = ReadCase {
         shape: &[],
         chunk_shape: &[],
         rows: &[
@@ -223,8 +227,6 @@ fn without_dimensions_there_is_one_chunk_of_one_cell(rt: HostRuntime) -> Result<
 /// The calls read the first chunk, the last of the nine cells, and a part that passes its chunk.
 #[test]
 fn ranges_and_parts_are_read_in_a_list_of_calls(rt: HostRuntime) -> Result<(), Fail> {
-    let alloc = rt.alloc();
-    let mut engine = nine_cells(&rt, alloc)?;
     const ROWS: &[Row] = &[
         (
             ReadChunks(&[0, 0], &[1, 1]),
@@ -238,5 +240,5 @@ fn ranges_and_parts_are_read_in_a_list_of_calls(rt: HostRuntime) -> Result<(), F
             ),
         ),
     ];
-    must_go_on_in_list(&rt, alloc, &mut engine, ROWS)
+    nine_cells_must_answer_in_list(&rt, rt.alloc(), ROWS)
 }

@@ -2,7 +2,8 @@
 use crate::steps::Answer::{Cells, Done, Refused};
 use crate::steps::Step::{Put, ReadRegion, Store};
 use crate::steps::{
-    Case, Row, TestEngine, engine_of, must_answer, must_go_on, must_go_on_in_list, region,
+    ReadCase, Row, TOO_LARGE, TestEngine, UNFIT, engine_of, must_answer, must_answer_of,
+    must_go_on, must_go_on_in_list, subset,
 };
 use std::alloc::Global;
 use std::borrow::CowSlice;
@@ -12,12 +13,8 @@ use zarrs_codec::CodecOptions;
 use zarrs_data_type::{ArrayBytes, ArrayBytesOffsets, DataType};
 use zarrs_storage::{Bytes, ReadableStorageTraits, StoreKey};
 
-pub(crate) const UNFIT: &str = "the codec does not take this type, shape or these bytes";
-
-pub(crate) const TOO_LARGE: &str = "size exceeds the number types";
-
 /// The array of the nine cells: 1 to 9 at [3..6, 3..6], and fill 1.
-pub(crate) fn nine_cells(rt: &impl Abort, alloc: Global) -> Result<TestEngine, Fail> {
+fn nine_cells(rt: &impl Abort, alloc: Global) -> Result<TestEngine, Fail> {
     let mut engine = engine_of(alloc, &[8, 8], &[4, 4], DataType::UInt8, &[1])?;
     const ROWS: &[Row] = &[
         (
@@ -54,6 +51,16 @@ pub(crate) fn nine_cells_must_answer(
 ) -> Result<(), Fail> {
     let mut engine = nine_cells(rt, alloc)?;
     must_go_on(rt, alloc, &mut engine, rows)
+}
+
+/// The calls of the nine cells must give their answers as one list.
+pub(crate) fn nine_cells_must_answer_in_list(
+    rt: &impl Abort,
+    alloc: Global,
+    rows: &[Row],
+) -> Result<(), Fail> {
+    let mut engine = nine_cells(rt, alloc)?;
+    must_go_on_in_list(rt, alloc, &mut engine, rows)
 }
 
 #[test]
@@ -112,7 +119,7 @@ fn other_dimensions_are_refused(rt: HostRuntime) -> Result<(), Fail> {
 /// The array has 2^64 - 1 cells, and one chunk of 2^63: a second one would pass the numbers.
 #[test]
 fn a_cell_that_no_chunk_covers_is_refused(rt: HostRuntime) -> Result<(), Fail> {
-    const CASE: Case = Case {
+    const CASE: ReadCase = ReadCase {
         shape: &[u64::MAX],
         chunk_shape: &[1 << 63],
         rows: &[
@@ -131,21 +138,23 @@ fn a_cell_that_no_chunk_covers_is_refused(rt: HostRuntime) -> Result<(), Fail> {
 
 #[test]
 fn absent_chunks_read_as_the_fill_value(rt: HostRuntime) -> Result<(), Fail> {
-    let alloc = rt.alloc();
-    let mut engine = engine_of(alloc, &[4, 4], &[2, 2], DataType::Int8, &[255])?;
-    const ROWS: &[Row] = &[
-        (Store(&[0, 0], &[&[0, 1], &[2, 3]]), Done),
-        (
-            ReadRegion(&[0, 0], &[2, 4]),
-            Cells(&[&[0, 1, 255, 255], &[2, 3, 255, 255]]),
-        ),
-    ];
-    must_go_on(&rt, alloc, &mut engine, ROWS)
+    const CASE: ReadCase = ReadCase {
+        shape: &[4, 4],
+        chunk_shape: &[2, 2],
+        rows: &[
+            (Store(&[0, 0], &[&[0, 1], &[2, 3]]), Done),
+            (
+                ReadRegion(&[0, 0], &[2, 4]),
+                Cells(&[&[0, 1, 255, 255], &[2, 3, 255, 255]]),
+            ),
+        ],
+    };
+    must_answer_of(&rt, rt.alloc(), DataType::Int8, &[255], &CASE)
 }
 
 #[test]
 fn cells_past_the_shape_are_read(rt: HostRuntime) -> Result<(), Fail> {
-    const CASE: Case = Case {
+    const CASE: ReadCase = ReadCase {
         shape: &[5],
         chunk_shape: &[4],
         rows: &[
@@ -159,7 +168,7 @@ fn cells_past_the_shape_are_read(rt: HostRuntime) -> Result<(), Fail> {
 
 #[test]
 fn a_region_without_dimensions_is_one_cell(rt: HostRuntime) -> Result<(), Fail> {
-    const CASE: Case = Case {
+    const CASE: ReadCase = ReadCase {
         shape: &[],
         chunk_shape: &[],
         rows: &[
@@ -206,7 +215,7 @@ fn store_texts(alloc: Global, engine: &mut TestEngine) -> Result<(), Fail> {
 fn must_read_texts(rt: &impl Abort, alloc: Global, engine: &TestEngine) -> Result<(), Fail> {
     let whole = engine.retrieve_chunk(alloc, &[0, 0])?;
     must_be_texts(rt, &whole, b"abcd\xC3\xA4", &[0, 1, 1, 4, 6]);
-    let asked = region(alloc, &[0, 1], &[2, 2])?;
+    let asked = subset(alloc, &[0, 1], &[2, 2])?;
     let across = engine.retrieve_array_subset(alloc, &asked)?;
     must_be_texts(rt, &across, b"bb\xC3\xA4bb", &[0, 0, 2, 4, 6]);
     Ok(())
@@ -225,18 +234,20 @@ fn texts_over_two_chunks(rt: HostRuntime) -> Result<(), Fail> {
 
 #[test]
 fn a_chunk_that_is_no_text_is_refused(rt: HostRuntime) -> Result<(), Fail> {
-    let alloc = rt.alloc();
-    let mut engine = engine_of(alloc, &[2], &[1], DataType::String, b"")?;
-    const ROWS: &[Row] = &[
-        (Put("c/0", &[1, 0, 0, 0, 1, 0, 0, 0, 0xFF]), Done),
-        (ReadRegion(&[0], &[2]), Refused(UNFIT)),
-    ];
-    must_go_on(&rt, alloc, &mut engine, ROWS)
+    const CASE: ReadCase = ReadCase {
+        shape: &[2],
+        chunk_shape: &[1],
+        rows: &[
+            (Put("c/0", &[1, 0, 0, 0, 1, 0, 0, 0, 0xFF]), Done),
+            (ReadRegion(&[0], &[2]), Refused(UNFIT)),
+        ],
+    };
+    must_answer_of(&rt, rt.alloc(), DataType::String, b"", &CASE)
 }
 
 #[test]
 fn a_chunk_that_does_not_decode_beside_one_that_does(rt: HostRuntime) -> Result<(), Fail> {
-    const CASE: Case = Case {
+    const CASE: ReadCase = ReadCase {
         shape: &[6],
         chunk_shape: &[2],
         rows: &[
@@ -253,16 +264,16 @@ fn a_chunk_that_does_not_decode_beside_one_that_does(rt: HostRuntime) -> Result<
 
 #[test]
 fn a_region_past_the_numbers_is_refused(rt: HostRuntime) -> Result<(), Fail> {
-    let alloc = rt.alloc();
-    let mut engine = engine_of(alloc, &[1 << 62], &[1 << 61], DataType::Int64, &[0; 8])?;
-    const ROWS: &[Row] = &[(ReadRegion(&[0], &[1 << 61]), Refused(TOO_LARGE))];
-    must_go_on(&rt, alloc, &mut engine, ROWS)
+    const CASE: ReadCase = ReadCase {
+        shape: &[1 << 62],
+        chunk_shape: &[1 << 61],
+        rows: &[(ReadRegion(&[0], &[1 << 61]), Refused(TOO_LARGE))],
+    };
+    must_answer_of(&rt, rt.alloc(), DataType::Int64, &[0; 8], &CASE)
 }
 
 #[test]
 fn regions_are_read_in_a_list_of_calls(rt: HostRuntime) -> Result<(), Fail> {
-    let alloc = rt.alloc();
-    let mut engine = nine_cells(&rt, alloc)?;
     const ROWS: &[Row] = &[
         (ReadRegion(&[5, 5], &[1, 1]), Cells(&[&[9]])),
         (
@@ -270,5 +281,5 @@ fn regions_are_read_in_a_list_of_calls(rt: HostRuntime) -> Result<(), Fail> {
             Refused("array subset [5..6] is not compatible with array shape [8, 8]"),
         ),
     ];
-    must_go_on_in_list(&rt, alloc, &mut engine, ROWS)
+    nine_cells_must_answer_in_list(&rt, rt.alloc(), ROWS)
 }

@@ -1,5 +1,5 @@
 //! Tests as tables: each row is a call of an engine, and the answer that it must give.
-use std::alloc::Global;
+use std::alloc::{AllocError, Global};
 use std::num::NonZeroU64;
 use std::process::Abort;
 use std::test::Fail;
@@ -8,25 +8,26 @@ use zarrs_codec::{BytesToBytesCodecs, CodecChain, CodecOptions, default_array_to
 use zarrs_data_type::{ArrayBytes, DataType, FillValue};
 use zarrs_engine::{ArrayError, Call, Engine, Reply, replay};
 use zarrs_keys::{ChunkKeyEncoding, ChunkKeySeparator, NodePath};
-use zarrs_storage::{Fault, MemoryStore, StoreKey};
+use zarrs_storage::{Fault, MemoryStore, ReadableStorageTraits, StoreKey};
 use zarrs_subset::{ArraySubset, ArraySubsetError};
 
-pub(crate) type TestEngine = Engine<
-    Fault<MemoryStore>,
-    RegularChunkGrid,
-    ChunkKeyEncoding,
-    CodecChain,
->;
+pub(crate) const UNFIT: &str = "the codec does not take this type, shape or these bytes";
+
+pub(crate) const TOO_LARGE: &str = "size exceeds the number types";
+
+pub(crate) type EngineOver<S> = Engine<S, RegularChunkGrid, ChunkKeyEncoding, CodecChain>;
+
+pub(crate) type TestEngine = EngineOver<Fault<MemoryStore>>;
 
 /// An array at `/` of this shape, in chunks of that shape, over the store. Its chain is the default codec of the type.
-pub(crate) fn engine_over(
+pub(crate) fn engine_over<S: Drop>(
     alloc: Global,
-    storage: Fault<MemoryStore>,
+    storage: S,
     shape: &[u64],
     chunk: &[u64],
     data_type: DataType,
     fill: &[u8],
-) -> Result<TestEngine, Fail> {
+) -> Result<EngineOver<S>, Fail> {
     let mut chunk_shape = Vec::new(alloc);
     for extent in chunk {
         chunk_shape.push(NonZeroU64::new(*extent).ok_or("an extent is 0")?)?;
@@ -48,6 +49,15 @@ pub(crate) fn engine_over(
     ))
 }
 
+/// A store without values that refuses to read these keys.
+pub(crate) fn unread(alloc: Global, names: &[&str]) -> Result<Fault<MemoryStore>, Fail> {
+    let mut keys = Vec::new(alloc);
+    for name in names {
+        keys.push(StoreKey::new(alloc, name)?)?;
+    }
+    Ok(Fault::new(MemoryStore::new(alloc), keys, None))
+}
+
 /// Such an array without a chunk.
 pub(crate) fn engine_of(
     alloc: Global,
@@ -56,13 +66,8 @@ pub(crate) fn engine_of(
     data_type: DataType,
     fill: &[u8],
 ) -> Result<TestEngine, Fail> {
-    let storage = Fault::new(MemoryStore::new(alloc), Vec::new(alloc), None);
+    let storage = unread(alloc, &[])?;
     engine_over(alloc, storage, shape, chunk, data_type, fill)
-}
-
-/// An array of bytes with fill 0, without a chunk.
-fn bytes_engine(alloc: Global, shape: &[u64], chunk: &[u64]) -> Result<TestEngine, Fail> {
-    engine_of(alloc, shape, chunk, DataType::UInt8, &[0])
 }
 
 /// A call of an engine. A region, a range of chunks and a part of a chunk are given by their start and their shape,
@@ -70,6 +75,10 @@ fn bytes_engine(alloc: Global, shape: &[u64], chunk: &[u64]) -> Result<TestEngin
 pub(crate) enum Step {
     /// Stores the cells of the chunk with these indices.
     Store(&'static [u64], &'static [&'static [u8]]),
+    StoreRegion(&'static [u64], &'static [u64], &'static [&'static [u8]]),
+    StoreChunks(&'static [u64], &'static [u64], &'static [&'static [u8]]),
+    /// Stores the cells of a part of the chunk with the first indices.
+    StorePart(&'static [u64], &'static [u64], &'static [u64], &'static [&'static [u8]]),
     /// Puts bytes at a key.
     Put(&'static str, &'static [u8]),
     ReadRegion(&'static [u64], &'static [u64]),
@@ -89,12 +98,20 @@ pub(crate) enum Answer {
 /// A call, and what it must answer.
 pub(crate) type Row = (Step, Answer);
 
-pub(crate) fn region(
+pub(crate) fn subset(
     alloc: Global,
     start: &[u64],
     shape: &[u64],
 ) -> Result<ArraySubset, ArraySubsetError> {
     ArraySubset::new_with_start_shape(start.to_vec(alloc)?, shape.to_vec(alloc)?)
+}
+
+fn cells(alloc: Global, rows: &[&[u8]]) -> Result<ArrayBytes<'static>, AllocError> {
+    let mut cells = Vec::new(alloc);
+    for row in rows {
+        cells.extend_from_slice(row)?;
+    }
+    Ok(ArrayBytes::new_flen(cells))
 }
 
 fn store(
@@ -103,12 +120,45 @@ fn store(
     indices: &[u64],
     rows: &[&[u8]],
 ) -> Result<Reply, ArrayError> {
-    let mut cells = Vec::new(alloc);
-    for row in rows {
-        cells.extend_from_slice(row)?;
-    }
-    let options = CodecOptions::default();
-    engine.store_chunk(alloc, indices, &ArrayBytes::new_flen(cells), &options)?;
+    let data = cells(alloc, rows)?;
+    engine.store_chunk(alloc, indices, &data, &CodecOptions::default())?;
+    Ok(Reply::Done)
+}
+
+fn store_region(
+    alloc: Global,
+    engine: &mut TestEngine,
+    start: &[u64],
+    shape: &[u64],
+    rows: &[&[u8]],
+) -> Result<Reply, ArrayError> {
+    let (asked, data) = (subset(alloc, start, shape)?, cells(alloc, rows)?);
+    engine.store_array_subset(alloc, &asked, &data, &CodecOptions::default())?;
+    Ok(Reply::Done)
+}
+
+fn store_chunks(
+    alloc: Global,
+    engine: &mut TestEngine,
+    start: &[u64],
+    shape: &[u64],
+    rows: &[&[u8]],
+) -> Result<Reply, ArrayError> {
+    let (asked, data) = (subset(alloc, start, shape)?, cells(alloc, rows)?);
+    engine.store_chunks(alloc, &asked, &data, &CodecOptions::default())?;
+    Ok(Reply::Done)
+}
+
+fn store_part(
+    alloc: Global,
+    engine: &mut TestEngine,
+    indices: &[u64],
+    start: &[u64],
+    shape: &[u64],
+    rows: &[&[u8]],
+) -> Result<Reply, ArrayError> {
+    let (asked, data) = (subset(alloc, start, shape)?, cells(alloc, rows)?);
+    engine.store_chunk_subset(alloc, indices, &asked, &data, &CodecOptions::default())?;
     Ok(Reply::Done)
 }
 
@@ -129,7 +179,7 @@ fn read_region(
     start: &[u64],
     shape: &[u64],
 ) -> Result<Reply, ArrayError> {
-    let asked = region(alloc, start, shape)?;
+    let asked = subset(alloc, start, shape)?;
     Ok(Reply::Cells(engine.retrieve_array_subset(alloc, &asked)?))
 }
 
@@ -139,7 +189,7 @@ fn read_chunks(
     start: &[u64],
     shape: &[u64],
 ) -> Result<Reply, ArrayError> {
-    let asked = region(alloc, start, shape)?;
+    let asked = subset(alloc, start, shape)?;
     Ok(Reply::Cells(engine.retrieve_chunks(alloc, &asked)?))
 }
 
@@ -150,7 +200,7 @@ fn read_part(
     start: &[u64],
     shape: &[u64],
 ) -> Result<Reply, ArrayError> {
-    let asked = region(alloc, start, shape)?;
+    let asked = subset(alloc, start, shape)?;
     Ok(Reply::Cells(engine.retrieve_chunk_subset(alloc, indices, &asked)?))
 }
 
@@ -158,6 +208,11 @@ fn read_part(
 fn make(alloc: Global, engine: &mut TestEngine, step: &Step) -> Reply {
     let made = match step {
         Step::Store(indices, rows) => store(alloc, engine, indices, rows),
+        Step::StoreRegion(start, shape, rows) => store_region(alloc, engine, start, shape, rows),
+        Step::StoreChunks(start, shape, rows) => store_chunks(alloc, engine, start, shape, rows),
+        Step::StorePart(indices, start, shape, rows) => {
+            store_part(alloc, engine, indices, start, shape, rows)
+        }
         Step::Put(key, bytes) => put(alloc, engine, key, bytes),
         Step::ReadRegion(start, shape) => read_region(alloc, engine, start, shape),
         Step::ReadChunks(start, shape) => read_chunks(alloc, engine, start, shape),
@@ -172,12 +227,22 @@ fn make(alloc: Global, engine: &mut TestEngine, step: &Step) -> Reply {
 /// The call of a list of calls, if it can stand there.
 fn call_of(alloc: Global, step: &Step) -> Result<Call, Fail> {
     Ok(match step {
-        Step::ReadRegion(start, shape) => Call::RetrieveArraySubset(region(alloc, start, shape)?),
-        Step::ReadChunks(start, shape) => Call::RetrieveChunks(region(alloc, start, shape)?),
-        Step::ReadPart(indices, start, shape) => {
-            Call::RetrieveChunkSubset(indices.to_vec(alloc)?, region(alloc, start, shape)?)
+        Step::StoreRegion(start, shape, rows) => {
+            Call::StoreArraySubset(subset(alloc, start, shape)?, cells(alloc, rows)?)
         }
-        _ => return Err("no call of a list".into()),
+        Step::StoreChunks(start, shape, rows) => {
+            Call::StoreChunks(subset(alloc, start, shape)?, cells(alloc, rows)?)
+        }
+        Step::StorePart(indices, start, shape, rows) => {
+            let part = subset(alloc, start, shape)?;
+            Call::StoreChunkSubset(indices.to_vec(alloc)?, part, cells(alloc, rows)?)
+        }
+        Step::ReadRegion(start, shape) => Call::RetrieveArraySubset(subset(alloc, start, shape)?),
+        Step::ReadChunks(start, shape) => Call::RetrieveChunks(subset(alloc, start, shape)?),
+        Step::ReadPart(indices, start, shape) => {
+            Call::RetrieveChunkSubset(indices.to_vec(alloc)?, subset(alloc, start, shape)?)
+        }
+        Step::Store(_, _) | Step::Put(_, _) => return Err("no call of a list".into()),
     })
 }
 
@@ -211,19 +276,6 @@ fn must_be(
         _ => assert!(rt; false, "another answer at row {row}"),
     }
     Ok(())
-}
-
-/// Calls of an engine over a new array of bytes with fill 0.
-pub(crate) struct Case {
-    pub(crate) shape: &'static [u64],
-    pub(crate) chunk_shape: &'static [u64],
-    pub(crate) rows: &'static [Row],
-}
-
-/// Makes the calls of the case in turn. Each must give its answer.
-pub(crate) fn must_answer(rt: &impl Abort, alloc: Global, case: &Case) -> Result<(), Fail> {
-    let mut engine = bytes_engine(alloc, case.shape, case.chunk_shape)?;
-    must_go_on(rt, alloc, &mut engine, case.rows)
 }
 
 /// Makes the calls in turn. Each must give its answer.
@@ -271,4 +323,127 @@ pub(crate) fn must_go_on_in_list(
     let calls = list_of(alloc, rows)?;
     let replies = replay(alloc, engine, &calls, &CodecOptions::default())?;
     must_be_answers(rt, alloc, &replies, rows)
+}
+
+/// Reads of a new array, and what is put there for them.
+pub(crate) struct ReadCase {
+    pub(crate) shape: &'static [u64],
+    pub(crate) chunk_shape: &'static [u64],
+    pub(crate) rows: &'static [Row],
+}
+
+/// Makes the calls of the case over bytes with fill 0, in turn. Each must give its answer.
+pub(crate) fn must_answer(rt: &impl Abort, alloc: Global, case: &ReadCase) -> Result<(), Fail> {
+    must_answer_of(rt, alloc, DataType::UInt8, &[0], case)
+}
+
+/// Makes the calls of the case over cells of the type with this fill value, in turn. Each must give its answer.
+pub(crate) fn must_answer_of(
+    rt: &impl Abort,
+    alloc: Global,
+    data_type: DataType,
+    fill: &[u8],
+    case: &ReadCase,
+) -> Result<(), Fail> {
+    let mut engine = engine_of(alloc, case.shape, case.chunk_shape, data_type, fill)?;
+    must_go_on(rt, alloc, &mut engine, case.rows)
+}
+
+/// Calls of an engine over a new array, and what they leave.
+pub(crate) struct WriteCase {
+    /// The keys that the store refuses to read.
+    pub(crate) unread: &'static [&'static str],
+    pub(crate) shape: &'static [u64],
+    pub(crate) chunk_shape: &'static [u64],
+    pub(crate) rows: &'static [Row],
+    /// How many writing calls the store saw.
+    pub(crate) calls: u64,
+    /// The store's keys and values, as `printed` prints them.
+    pub(crate) left: &'static str,
+}
+
+/// Makes the calls of the case over bytes with fill 0, in turn. Each must give its answer, and they must leave what the
+/// case says.
+pub(crate) fn must_leave(rt: &impl Abort, alloc: Global, case: &WriteCase) -> Result<(), Fail> {
+    must_leave_of(rt, alloc, DataType::UInt8, &[0], case)
+}
+
+/// The same over cells of the type with this fill value.
+pub(crate) fn must_leave_of(
+    rt: &impl Abort,
+    alloc: Global,
+    data_type: DataType,
+    fill: &[u8],
+    case: &WriteCase,
+) -> Result<(), Fail> {
+    let storage = unread(alloc, case.unread)?;
+    let engine = engine_over(
+        alloc,
+        storage,
+        case.shape,
+        case.chunk_shape,
+        data_type,
+        fill,
+    )?;
+    must_leave_over(rt, alloc, engine, case.rows, case.calls, case.left)
+}
+
+/// Makes the calls in turn. Each must give its answer, and they must leave a store that saw this many writing calls
+/// and has these values.
+pub(crate) fn must_leave_over(
+    rt: &impl Abort,
+    alloc: Global,
+    mut engine: TestEngine,
+    rows: &[Row],
+    calls: u64,
+    values: &str,
+) -> Result<(), Fail> {
+    must_go_on(rt, alloc, &mut engine, rows)?;
+    must_be_left(rt, alloc, engine.into_storage(), calls, values)
+}
+
+/// The store saw this many writing calls, and has these values.
+pub(crate) fn must_be_left(
+    rt: &impl Abort,
+    alloc: Global,
+    storage: Fault<MemoryStore>,
+    calls: u64,
+    values: &str,
+) -> Result<(), Fail> {
+    assert_eq!(rt; storage.calls(), calls);
+    must_have(rt, alloc, &storage.into_inner(), values)
+}
+
+/// The store has these values.
+pub(crate) fn must_have(
+    rt: &impl Abort,
+    alloc: Global,
+    store: &MemoryStore,
+    values: &str,
+) -> Result<(), Fail> {
+    assert_eq!(rt; printed(alloc, store)?.as_str(), values);
+    Ok(())
+}
+
+/// The keys and values of the store, as "c/0: 1 2; c/1: 3 4".
+fn printed(alloc: Global, store: &MemoryStore) -> Result<String, Fail> {
+    let mut text = String::new(alloc);
+    for key in &store.keys(alloc)? {
+        if !text.is_empty() {
+            text.push_str("; ")?;
+        }
+        text.push_str(key.as_str())?;
+        text.push_str(":")?;
+        if let Some(value) = store.get(alloc, key)? {
+            push_bytes(alloc, &mut text, value.as_slice())?;
+        }
+    }
+    Ok(text)
+}
+
+fn push_bytes(alloc: Global, text: &mut String, bytes: &[u8]) -> Result<(), Fail> {
+    for byte in bytes {
+        text.push_str(format!(in alloc; " {byte}")?.as_str())?;
+    }
+    Ok(())
 }

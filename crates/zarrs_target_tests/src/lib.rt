@@ -1,7 +1,5 @@
-//! Tests of decode targets, and of reads of regions into them.
+//! Tests of decode targets.
 #![tactic(auto)]
 
-#[cfg(test)]
-mod reads;
 #[cfg(test)]
 mod targets;

@@ -2,7 +2,7 @@
 use anyhow::Result;
 use std::alloc::Global;
 use zarrs::{
-    Array, ArrayBytes, ArrayMetadata, ArrayMetadataOptions, ArrayMetadataV3, ArraySubset,
+    Array, ArrayMetadata, ArrayMetadataOptions, ArrayMetadataV3, ArraySubset,
     MetadataConvertVersion,
 };
 use zarrs_storage::MemoryStore;
@@ -20,16 +20,16 @@ pub fn create_array(
     Ok(array)
 }
 
-/// The cells of a region of the array whose document is in the store.
+/// The numbers of a region of the array of bytes whose document is in the store.
 pub fn read_region_at(
     alloc: Global,
     storage: MemoryStore,
     path: &str,
     region: &ArraySubset,
-) -> Result<ArrayBytes<'static>> {
+) -> Result<Vec<u8>> {
     let array = Array::open(alloc, storage, path)?;
-    let cells = array.retrieve_array_subset(alloc, region)?;
-    Ok(cells)
+    let numbers: Vec<u8> = array.retrieve_array_subset(alloc, region)?;
+    Ok(numbers)
 }
 
 /// The V3 document of the array in the store, of whichever version its metadata is, as compact text.

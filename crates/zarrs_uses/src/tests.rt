@@ -281,13 +281,17 @@ const DOCUMENT: &[u8] = br#"{
     "codecs": ["bytes"]
 }"#;
 
+fn must_be(rt: &impl Abort, numbers: &[u8], wanted: &[u8]) {
+    assert!(rt; numbers == wanted);
+}
+
 #[test]
 fn an_array_is_created_and_opened_again(rt: HostRuntime) -> Result<(), Fail> {
     let alloc = rt.alloc();
     let array = create_array(alloc, MemoryStore::new(alloc), "/climate/rain", DOCUMENT)?;
     let row = region(alloc, &[1, 0], &[1, 4])?;
-    let cells = read_region_at(alloc, array.into_storage(), "/climate/rain", &row)?;
-    must_hold(&rt, &cells, &[7, 7, 7, 7]);
+    let numbers = read_region_at(alloc, array.into_storage(), "/climate/rain", &row)?;
+    must_be(&rt, &numbers, &[7, 7, 7, 7]);
     Ok(())
 }
 

@@ -199,8 +199,7 @@ fn must_answer<T: ElementOwned + PartialEq>(
     data_type: &DataType,
     elements: &[T],
 ) -> Result<(), Fail> {
-    let shape = [elements.len() as u64];
-    let read = <Vec<T> as FromArrayBytes>::from_array_bytes(alloc, data, &shape, data_type)?;
+    let read = <Vec<T> as FromArrayBytes>::from_array_bytes(alloc, data, data_type)?;
     must_be_the_list(rt, &read, elements);
     Ok(())
 }
@@ -233,7 +232,6 @@ fn must_stay(
     let kept = <ArrayBytes<'static> as FromArrayBytes>::from_array_bytes(
         alloc,
         taken,
-        &[2],
         &DataType::String,
     )?;
     must_be_same(rt, &kept, &strings(bytes, offsets)?);
@@ -255,9 +253,9 @@ fn a_read_answers_values_or_array_bytes(rt: HostRuntime) -> Result<(), Fail> {
 fn a_read_as_values_of_another_type_is_refused(rt: HostRuntime) {
     let alloc = rt.alloc();
     let cells = ArrayBytes::from_flen(&[2, 1]);
-    let read = <Vec<u16> as FromArrayBytes>::from_array_bytes(alloc, cells, &[2], &DataType::UInt8);
+    let read = <Vec<u16> as FromArrayBytes>::from_array_bytes(alloc, cells, &DataType::UInt8);
     must_not_answer(&rt, &read);
     let cells = ArrayBytes::from_flen(&[2, 1]);
-    let read = <Vec<bool> as FromArrayBytes>::from_array_bytes(alloc, cells, &[2], &DataType::Bool);
+    let read = <Vec<bool> as FromArrayBytes>::from_array_bytes(alloc, cells, &DataType::Bool);
     must_not_answer(&rt, &read);
 }

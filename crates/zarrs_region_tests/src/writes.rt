@@ -2,8 +2,8 @@
 use crate::steps::Answer::{Cells, Done, Refused};
 use crate::steps::Step::{ReadChunks, ReadPart, ReadRegion, StoreChunks, StorePart, StoreRegion};
 use crate::steps::{
-    Case, EngineOver, Row, TestEngine, bytes_engine, engine_over, must_answer_in_list,
-    must_be_left, must_have, must_leave, must_leave_over, subset, unread,
+    EngineOver, Row, TestEngine, WriteCase, engine_of, engine_over, must_be_left,
+    must_go_on_in_list, must_have, must_leave, must_leave_of, subset,
 };
 use std::alloc::Global;
 use std::borrow::CowSlice;
@@ -14,7 +14,7 @@ use zarrs_storage::{Fence, MemoryStore};
 
 #[test]
 fn a_region_over_four_chunks(rt: HostRuntime) -> Result<(), Fail> {
-    const CASE: Case = Case {
+    const CASE: WriteCase = WriteCase {
         unread: &[],
         shape: &[4, 4],
         chunk_shape: &[2, 2],
@@ -33,7 +33,7 @@ fn a_region_over_four_chunks(rt: HostRuntime) -> Result<(), Fail> {
 
 #[test]
 fn cells_beside_the_region_stay(rt: HostRuntime) -> Result<(), Fail> {
-    const CASE: Case = Case {
+    const CASE: WriteCase = WriteCase {
         unread: &[],
         shape: &[2, 6],
         chunk_shape: &[2, 3],
@@ -56,7 +56,7 @@ fn cells_beside_the_region_stay(rt: HostRuntime) -> Result<(), Fail> {
 
 #[test]
 fn writes_of_whole_chunks_read_nothing(rt: HostRuntime) -> Result<(), Fail> {
-    const CASE: Case = Case {
+    const CASE: WriteCase = WriteCase {
         unread: &["c/0/0", "c/0/1", "c/0/2", "c/0/3"],
         shape: &[2, 8],
         chunk_shape: &[2, 2],
@@ -79,20 +79,24 @@ fn writes_of_whole_chunks_read_nothing(rt: HostRuntime) -> Result<(), Fail> {
 
 #[test]
 fn fill_that_is_not_zero_stays_beside_a_write(rt: HostRuntime) -> Result<(), Fail> {
-    let alloc = rt.alloc();
-    let storage = unread(alloc, &[])?;
-    let engine = engine_over(alloc, storage, &[6], &[3], DataType::Int8, &[255])?;
-    const ROWS: &[Row] = &[
-        (StoreRegion(&[1], &[1], &[&[5]]), Done),
-        (StorePart(&[1], &[1], &[2], &[&[6, 7]]), Done),
-    ];
-    must_leave_over(&rt, alloc, engine, ROWS, 2, "c/0: 255 5 255; c/1: 255 6 7")
+    const CASE: WriteCase = WriteCase {
+        unread: &[],
+        shape: &[6],
+        chunk_shape: &[3],
+        rows: &[
+            (StoreRegion(&[1], &[1], &[&[5]]), Done),
+            (StorePart(&[1], &[1], &[2], &[&[6, 7]]), Done),
+        ],
+        calls: 2,
+        left: "c/0: 255 5 255; c/1: 255 6 7",
+    };
+    must_leave_of(&rt, rt.alloc(), DataType::Int8, &[255], &CASE)
 }
 
 /// The array has three cells; its second chunk has a fourth one.
 #[test]
 fn cells_past_the_shape_are_written(rt: HostRuntime) -> Result<(), Fail> {
-    const CASE: Case = Case {
+    const CASE: WriteCase = WriteCase {
         unread: &[],
         shape: &[3],
         chunk_shape: &[2],
@@ -108,7 +112,7 @@ fn cells_past_the_shape_are_written(rt: HostRuntime) -> Result<(), Fail> {
 
 #[test]
 fn an_empty_region_asks_nothing(rt: HostRuntime) -> Result<(), Fail> {
-    const CASE: Case = Case {
+    const CASE: WriteCase = WriteCase {
         unread: &["c/0/0"],
         shape: &[2, 2],
         chunk_shape: &[2, 2],
@@ -135,8 +139,7 @@ fn store_texts(alloc: Global, engine: &mut TestEngine) -> Result<(), Fail> {
 #[test]
 fn texts_over_two_chunks(rt: HostRuntime) -> Result<(), Fail> {
     let alloc = rt.alloc();
-    let storage = unread(alloc, &[])?;
-    let mut engine = engine_over(alloc, storage, &[4], &[2], DataType::String, b"zz")?;
+    let mut engine = engine_of(alloc, &[4], &[2], DataType::String, b"zz")?;
     store_texts(alloc, &mut engine)?;
     let left =
         "c/0: 2 0 0 0 2 0 0 0 122 122 3 0 0 0 97 98 99; c/1: 2 0 0 0 2 0 0 0 195 164 2 0 0 0 122 122";
@@ -153,14 +156,14 @@ fn store_and_keep(alloc: Global, engine: &mut TestEngine) -> Result<(), Fail> {
 #[test]
 fn a_chunk_of_fill_is_kept_by_choice(rt: HostRuntime) -> Result<(), Fail> {
     let alloc = rt.alloc();
-    let mut engine = bytes_engine(alloc, &[], &[4], &[2])?;
+    let mut engine = engine_of(alloc, &[4], &[2], DataType::UInt8, &[0])?;
     store_and_keep(alloc, &mut engine)?;
     must_be_left(&rt, alloc, engine.into_storage(), 1, "c/0: 0 0")
 }
 
 #[test]
 fn a_part_of_a_present_chunk(rt: HostRuntime) -> Result<(), Fail> {
-    const CASE: Case = Case {
+    const CASE: WriteCase = WriteCase {
         unread: &[],
         shape: &[2, 6],
         chunk_shape: &[2, 3],
@@ -187,7 +190,7 @@ fn a_part_of_a_present_chunk(rt: HostRuntime) -> Result<(), Fail> {
 /// A present chunk is written as it was, and an absent one is erased.
 #[test]
 fn an_empty_part_is_one_writing_call(rt: HostRuntime) -> Result<(), Fail> {
-    const CASE: Case = Case {
+    const CASE: WriteCase = WriteCase {
         unread: &[],
         shape: &[2, 4],
         chunk_shape: &[2, 2],
@@ -234,7 +237,7 @@ fn a_range_of_four_chunks_asks_for_no_key(rt: HostRuntime) -> Result<(), Fail> {
 
 #[test]
 fn a_range_of_one_chunk_and_one_of_two(rt: HostRuntime) -> Result<(), Fail> {
-    const CASE: Case = Case {
+    const CASE: WriteCase = WriteCase {
         unread: &[],
         shape: &[6, 4],
         chunk_shape: &[2, 2],
@@ -257,7 +260,7 @@ fn a_range_of_one_chunk_and_one_of_two(rt: HostRuntime) -> Result<(), Fail> {
 
 #[test]
 fn chunks_that_become_fill_are_erased(rt: HostRuntime) -> Result<(), Fail> {
-    const CASE: Case = Case {
+    const CASE: WriteCase = WriteCase {
         unread: &[],
         shape: &[8],
         chunk_shape: &[2],
@@ -275,7 +278,7 @@ fn chunks_that_become_fill_are_erased(rt: HostRuntime) -> Result<(), Fail> {
 
 #[test]
 fn writes_without_dimensions(rt: HostRuntime) -> Result<(), Fail> {
-    const CASE: Case = Case {
+    const CASE: WriteCase = WriteCase {
         unread: &["c"],
         shape: &[],
         chunk_shape: &[],
@@ -293,7 +296,7 @@ fn writes_without_dimensions(rt: HostRuntime) -> Result<(), Fail> {
 #[test]
 fn writes_and_reads_in_a_list_of_calls(rt: HostRuntime) -> Result<(), Fail> {
     let alloc = rt.alloc();
-    let mut engine = bytes_engine(alloc, &[], &[4, 4], &[2, 2])?;
+    let mut engine = engine_of(alloc, &[4, 4], &[2, 2], DataType::UInt8, &[0])?;
     const ROWS: &[Row] = &[
         (StoreRegion(&[1, 1], &[2, 2], &[&[1, 2], &[3, 4]]), Done),
         (
@@ -317,7 +320,7 @@ fn writes_and_reads_in_a_list_of_calls(rt: HostRuntime) -> Result<(), Fail> {
         ),
         (ReadPart(&[1, 1], &[0, 0], &[2, 1]), Cells(&[&[4], &[0]])),
     ];
-    must_answer_in_list(&rt, alloc, &mut engine, ROWS)?;
+    must_go_on_in_list(&rt, alloc, &mut engine, ROWS)?;
     let left = "c/0/0: 5 6 10 11; c/0/1: 7 8 12 13; c/1/0: 0 3 0 0; c/1/1: 4 0 0 9";
     must_be_left(&rt, alloc, engine.into_storage(), 7, left)
 }

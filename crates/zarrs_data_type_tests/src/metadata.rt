@@ -48,6 +48,17 @@ fn must_refuse_type(rt: &impl Abort, alloc: Global, text: &str) -> Result<(), Fa
     Ok(())
 }
 
+/// The type of this name, or of a name before `?` the optional one of it.
+pub(crate) fn type_of(alloc: Global, name: &str) -> Result<DataType, Fail> {
+    let plain = name.trim_end_matches('?');
+    let metadata = MetadataV3::new(String::from_str(alloc, plain)?);
+    let mut data_type = DataType::from_metadata(alloc, &metadata)?;
+    for _ in plain.len()..name.len() {
+        data_type = optional(alloc, data_type)?;
+    }
+    Ok(data_type)
+}
+
 #[test]
 fn types_of_numbers_are_read_as_they_are_written(rt: HostRuntime) -> Result<(), Fail> {
     let alloc = rt.alloc();
@@ -95,30 +106,23 @@ fn types_are_read_as_they_are_written(rt: HostRuntime) -> Result<(), Fail> {
 
 #[test]
 fn metadata_of_no_type_is_refused(rt: HostRuntime) -> Result<(), Fail> {
-    let alloc = rt.alloc();
-    must_refuse_type(&rt, alloc, "\"float32\"")?;
-    must_refuse_type(&rt, alloc, "\"r12\"")?;
-    must_refuse_type(&rt, alloc, "\"r0\"")?;
-    must_refuse_type(&rt, alloc, "\"r08\"")?;
-    must_refuse_type(&rt, alloc, "\"r+8\"")?;
-    must_refuse_type(&rt, alloc, "\"r\"")?;
-    must_refuse_type(&rt, alloc, "\"r524296\"")?;
-    must_refuse_type(&rt, alloc, "\"optional\"")?;
-    must_refuse_type(
-        &rt,
-        alloc,
+    const TEXTS: &[&str] = &[
+        "\"float32\"",
+        "\"r12\"",
+        "\"r0\"",
+        "\"r08\"",
+        "\"r+8\"",
+        "\"r\"",
+        "\"r524296\"",
+        "\"optional\"",
         "{\"name\":\"uint8\",\"configuration\":{\"endian\":\"big\"}}",
-    )?;
-    must_refuse_type(
-        &rt,
-        alloc,
         "{\"name\":\"optional\",\"configuration\":{\"name\":\"r12\"}}",
-    )?;
-    must_refuse_type(
-        &rt,
-        alloc,
         "{\"name\":\"optional\",\"configuration\":{\"name\":\"uint8\",\"more\":1}}",
-    )
+    ];
+    for text in TEXTS {
+        must_refuse_type(&rt, rt.alloc(), text)?;
+    }
+    Ok(())
 }
 
 fn fill_metadata(alloc: Global, text: &str) -> Result<FillValueMetadata, Fail> {
@@ -154,77 +158,80 @@ fn must_refuse_fill(
     Ok(())
 }
 
+/// The name of a type, the text of a fill value, and its bytes, if it is one of the type.
+type Fill = (&'static str, &'static str, Option<&'static [u8]>);
+
+fn must_fill_each(rt: &impl Abort, alloc: Global, rows: &[Fill]) -> Result<(), Fail> {
+    for (name, text, bytes) in rows {
+        let data_type = type_of(alloc, name)?;
+        match bytes {
+            Some(bytes) => must_fill(rt, alloc, &data_type, text, bytes)?,
+            None => must_refuse_fill(rt, alloc, &data_type, text)?,
+        }
+    }
+    Ok(())
+}
+
 #[test]
 fn fill_values_of_optionals_in_optionals(rt: HostRuntime) -> Result<(), Fail> {
-    let alloc = rt.alloc();
-    let nested = optional(alloc, optional(alloc, DataType::UInt8)?)?;
-    must_fill(&rt, alloc, &nested, "null", &[0])?;
-    must_fill(&rt, alloc, &nested, "[null]", &[0, 1])?;
-    must_fill(&rt, alloc, &nested, "[[7]]", &[7, 1, 1])?;
-    must_refuse_fill(&rt, alloc, &nested, "[7]")?;
-    must_refuse_fill(&rt, alloc, &nested, "[]")?;
-    must_refuse_fill(&rt, alloc, &nested, "[null,null]")
+    const ROWS: &[Fill] = &[
+        ("uint8??", "null", Some(&[0])),
+        ("uint8??", "[null]", Some(&[0, 1])),
+        ("uint8??", "[[7]]", Some(&[7, 1, 1])),
+        ("uint8??", "[7]", None),
+        ("uint8??", "[]", None),
+        ("uint8??", "[null,null]", None),
+    ];
+    must_fill_each(&rt, rt.alloc(), ROWS)
 }
 
 #[test]
 fn fill_values_of_numbers(rt: HostRuntime) -> Result<(), Fail> {
-    let alloc = rt.alloc();
-    must_fill(&rt, alloc, &DataType::UInt8, "255", &[255])?;
-    must_refuse_fill(&rt, alloc, &DataType::UInt8, "256")?;
-    must_refuse_fill(&rt, alloc, &DataType::UInt8, "-1")?;
-    must_refuse_fill(&rt, alloc, &DataType::UInt8, "true")?;
-    must_refuse_fill(&rt, alloc, &DataType::UInt8, "null")?;
-    must_fill(&rt, alloc, &DataType::Int8, "-128", &[128])?;
-    must_refuse_fill(&rt, alloc, &DataType::Int8, "128")?;
-    must_fill(&rt, alloc, &DataType::Int16, "-2", &[254, 255])?;
-    must_fill(&rt, alloc, &DataType::UInt16, "258", &[2, 1])?;
-    must_fill(&rt, alloc, &DataType::Int32, "-2147483648", &[0, 0, 0, 128])?;
-    must_fill(
-        &rt,
-        alloc,
-        &DataType::UInt32,
-        "4294967295",
-        &[255, 255, 255, 255],
-    )?;
-    must_fill(
-        &rt,
-        alloc,
-        &DataType::Int64,
-        "-9223372036854775808",
-        &[0, 0, 0, 0, 0, 0, 0, 128],
-    )?;
-    must_fill(
-        &rt,
-        alloc,
-        &DataType::Int64,
-        "9223372036854775807",
-        &[255, 255, 255, 255, 255, 255, 255, 127],
-    )?;
-    must_refuse_fill(&rt, alloc, &DataType::Int64, "9223372036854775808")?;
-    must_fill(
-        &rt,
-        alloc,
-        &DataType::UInt64,
-        "18446744073709551615",
-        &[255, 255, 255, 255, 255, 255, 255, 255],
-    )
+    const ROWS: &[Fill] = &[
+        ("uint8", "255", Some(&[255])),
+        ("uint8", "256", None),
+        ("uint8", "-1", None),
+        ("uint8", "true", None),
+        ("uint8", "null", None),
+        ("int8", "-128", Some(&[128])),
+        ("int8", "128", None),
+        ("int16", "-2", Some(&[254, 255])),
+        ("uint16", "258", Some(&[2, 1])),
+        ("int32", "-2147483648", Some(&[0, 0, 0, 128])),
+        ("uint32", "4294967295", Some(&[255; 4])),
+        (
+            "int64",
+            "-9223372036854775808",
+            Some(&[0, 0, 0, 0, 0, 0, 0, 128]),
+        ),
+        (
+            "int64",
+            "9223372036854775807",
+            Some(&[255, 255, 255, 255, 255, 255, 255, 127]),
+        ),
+        ("int64", "9223372036854775808", None),
+        ("uint64", "18446744073709551615", Some(&[255; 8])),
+    ];
+    must_fill_each(&rt, rt.alloc(), ROWS)
 }
 
 #[test]
 fn fill_values_of_other_types(rt: HostRuntime) -> Result<(), Fail> {
-    let alloc = rt.alloc();
-    must_fill(&rt, alloc, &DataType::Bool, "true", &[1])?;
-    must_fill(&rt, alloc, &DataType::Bool, "false", &[0])?;
-    must_refuse_fill(&rt, alloc, &DataType::Bool, "1")?;
-    must_fill(&rt, alloc, &raw(2)?, "[1,255]", &[1, 255])?;
-    must_refuse_fill(&rt, alloc, &raw(2)?, "[1]")?;
-    must_refuse_fill(&rt, alloc, &raw(2)?, "[1,256]")?;
-    must_fill(&rt, alloc, &DataType::String, "\"\"", &[])?;
-    must_fill(&rt, alloc, &DataType::String, "\"ab\"", &[97, 98])?;
-    must_refuse_fill(&rt, alloc, &DataType::String, "123")?;
-    must_fill(&rt, alloc, &DataType::Bytes, "[]", &[])?;
-    must_fill(&rt, alloc, &DataType::Bytes, "[0,255]", &[0, 255])?;
-    must_refuse_fill(&rt, alloc, &DataType::Bytes, "\"AP8=\"")
+    const ROWS: &[Fill] = &[
+        ("bool", "true", Some(&[1])),
+        ("bool", "false", Some(&[0])),
+        ("bool", "1", None),
+        ("r16", "[1,255]", Some(&[1, 255])),
+        ("r16", "[1]", None),
+        ("r16", "[1,256]", None),
+        ("string", "\"\"", Some(&[])),
+        ("string", "\"ab\"", Some(&[97, 98])),
+        ("string", "123", None),
+        ("bytes", "[]", Some(&[])),
+        ("bytes", "[0,255]", Some(&[0, 255])),
+        ("bytes", "\"AP8=\"", None),
+    ];
+    must_fill_each(&rt, rt.alloc(), ROWS)
 }
 
 fn must_have_no_metadata(

@@ -1,25 +1,10 @@
 //! The codecs `vlen-utf8` and `vlen-bytes`, byte for byte, with ample memory.
+use crate::strings::{must_be_same, strings};
 use std::alloc::Global;
-use std::borrow::CowSlice;
 use std::process::Abort;
 use std::test::Fail;
 use zarrs_codec_leaf::{CodecError, VlenBytesCodec, VlenUtf8Codec};
-use zarrs_data_type::{ArrayBytes, ArrayBytesOffsets, DataType};
-
-fn strings(bytes: &'static [u8], offsets: &'static [usize]) -> Result<ArrayBytes<'static>, Fail> {
-    let offsets = ArrayBytesOffsets::new(CowSlice::Borrowed(offsets))?;
-    Ok(ArrayBytes::new_vlen(CowSlice::Borrowed(bytes), offsets)?)
-}
-
-fn must_be_same(rt: &impl Abort, left: &ArrayBytes<'_>, right: &ArrayBytes<'_>) {
-    match (left, right) {
-        (ArrayBytes::Variable(left), ArrayBytes::Variable(right)) => {
-            assert_eq!(rt; left.bytes(), right.bytes());
-            assert_eq!(rt; left.offsets().as_slice(), right.offsets().as_slice());
-        }
-        _ => assert!(rt; false, "byte strings"),
-    }
-}
+use zarrs_data_type::{ArrayBytes, DataType};
 
 fn must_be_bytes(rt: &impl Abort, made: &[u8], encoded: &[u8]) {
     assert_eq!(rt; made, encoded);
@@ -61,39 +46,49 @@ fn must_encode_bytes(
     Ok(())
 }
 
+/// The bytes of some strings, where each begins and the last one ends, their number and the bytes that they encode to.
+type Row = (&'static [u8], &'static [usize], u64, &'static [u8]);
+
 #[test]
 fn texts_stand_behind_their_lengths(rt: HostRuntime) -> Result<(), Fail> {
-    let alloc = rt.alloc();
-    must_encode_texts(
-        &rt,
-        alloc,
-        &strings(b"abcd", &[0, 1, 1, 4])?,
-        3,
-        &[
-            3, 0, 0, 0, 1, 0, 0, 0, 97, 0, 0, 0, 0, 3, 0, 0, 0, 98, 99, 100,
-        ],
-    )?;
-    must_encode_texts(
-        &rt,
-        alloc,
-        &strings(&[0xC3, 0xA4], &[0, 2])?,
-        1,
-        &[1, 0, 0, 0, 2, 0, 0, 0, 0xC3, 0xA4],
-    )?;
-    must_encode_texts(&rt, alloc, &strings(b"", &[0])?, 0, &[0, 0, 0, 0])
+    const ROWS: &[Row] = &[
+        (
+            b"abcd",
+            &[0, 1, 1, 4],
+            3,
+            &[
+                3, 0, 0, 0, 1, 0, 0, 0, 97, 0, 0, 0, 0, 3, 0, 0, 0, 98, 99, 100,
+            ],
+        ),
+        (
+            &[0xC3, 0xA4],
+            &[0, 2],
+            1,
+            &[1, 0, 0, 0, 2, 0, 0, 0, 0xC3, 0xA4],
+        ),
+        (b"", &[0], 0, &[0, 0, 0, 0]),
+    ];
+    for (bytes, offsets, count, encoded) in ROWS {
+        must_encode_texts(&rt, rt.alloc(), &strings(bytes, offsets)?, *count, encoded)?;
+    }
+    Ok(())
 }
 
 #[test]
 fn byte_strings_stand_behind_their_lengths(rt: HostRuntime) -> Result<(), Fail> {
-    let alloc = rt.alloc();
-    must_encode_bytes(
-        &rt,
-        alloc,
-        &strings(&[0, 255], &[0, 2, 2])?,
-        2,
-        &[2, 0, 0, 0, 2, 0, 0, 0, 0, 255, 0, 0, 0, 0],
-    )?;
-    must_encode_bytes(&rt, alloc, &strings(b"", &[0])?, 0, &[0, 0, 0, 0])
+    const ROWS: &[Row] = &[
+        (
+            &[0, 255],
+            &[0, 2, 2],
+            2,
+            &[2, 0, 0, 0, 2, 0, 0, 0, 0, 255, 0, 0, 0, 0],
+        ),
+        (b"", &[0], 0, &[0, 0, 0, 0]),
+    ];
+    for (bytes, offsets, count, encoded) in ROWS {
+        must_encode_bytes(&rt, rt.alloc(), &strings(bytes, offsets)?, *count, encoded)?;
+    }
+    Ok(())
 }
 
 /// A list of 256 texts of 1 byte, and one text of 256 bytes: the second byte of a number counts.
@@ -125,28 +120,36 @@ fn must_not_be_byte_strings(rt: &impl Abort, alloc: Global, count: u64, encoded:
 
 #[test]
 fn foreign_bytes_are_no_texts(rt: HostRuntime) {
-    let alloc = rt.alloc();
-    must_not_be_texts(&rt, alloc, 1, &[1, 0, 0, 0, 1, 0, 0, 0, 0xFF]);
-    must_not_be_texts(&rt, alloc, 1, &[2, 0, 0, 0, 0, 0, 0, 0, 0, 0, 0, 0]);
-    must_not_be_texts(&rt, alloc, 1, &[1, 0, 0, 0, 0, 0, 0, 0, 0]);
-    must_not_be_texts(&rt, alloc, 1, &[1, 0, 0, 0, 0xFF, 0xFF, 0xFF, 0xFF]);
-    must_not_be_texts(&rt, alloc, 1, &[1, 0, 0, 0, 2, 0, 0, 0, 97]);
-    must_not_be_texts(&rt, alloc, 1, &[1, 0, 0, 0, 1, 0]);
-    must_not_be_texts(&rt, alloc, 1, &[1, 0, 0, 0]);
-    must_not_be_texts(&rt, alloc, 1, &[0, 0, 0, 0]);
-    must_not_be_texts(&rt, alloc, 0, &[0, 0, 0]);
-    must_not_be_texts(&rt, alloc, 0, &[]);
+    const ROWS: &[(u64, &[u8])] = &[
+        (1, &[1, 0, 0, 0, 1, 0, 0, 0, 0xFF]),
+        (1, &[2, 0, 0, 0, 0, 0, 0, 0, 0, 0, 0, 0]),
+        (1, &[1, 0, 0, 0, 0, 0, 0, 0, 0]),
+        (1, &[1, 0, 0, 0, 0xFF, 0xFF, 0xFF, 0xFF]),
+        (1, &[1, 0, 0, 0, 2, 0, 0, 0, 97]),
+        (1, &[1, 0, 0, 0, 1, 0]),
+        (1, &[1, 0, 0, 0]),
+        (1, &[0, 0, 0, 0]),
+        (0, &[0, 0, 0]),
+        (0, &[]),
+    ];
+    for (count, encoded) in ROWS {
+        must_not_be_texts(&rt, rt.alloc(), *count, encoded);
+    }
 }
 
 #[test]
 fn foreign_bytes_are_no_byte_strings(rt: HostRuntime) {
-    let alloc = rt.alloc();
-    must_not_be_byte_strings(&rt, alloc, 1, &[2, 0, 0, 0, 0, 0, 0, 0, 0, 0, 0, 0]);
-    must_not_be_byte_strings(&rt, alloc, 1, &[1, 0, 0, 0, 0, 0, 0, 0, 0]);
-    must_not_be_byte_strings(&rt, alloc, 1, &[1, 0, 0, 0, 0xFF, 0xFF, 0xFF, 0xFF]);
-    must_not_be_byte_strings(&rt, alloc, 1, &[1, 0, 0, 0, 2, 0, 0, 0, 97]);
-    must_not_be_byte_strings(&rt, alloc, 1, &[1, 0, 0, 0, 1, 0]);
-    must_not_be_byte_strings(&rt, alloc, 0, &[]);
+    const ROWS: &[(u64, &[u8])] = &[
+        (1, &[2, 0, 0, 0, 0, 0, 0, 0, 0, 0, 0, 0]),
+        (1, &[1, 0, 0, 0, 0, 0, 0, 0, 0]),
+        (1, &[1, 0, 0, 0, 0xFF, 0xFF, 0xFF, 0xFF]),
+        (1, &[1, 0, 0, 0, 2, 0, 0, 0, 97]),
+        (1, &[1, 0, 0, 0, 1, 0]),
+        (0, &[]),
+    ];
+    for (count, encoded) in ROWS {
+        must_not_be_byte_strings(&rt, rt.alloc(), *count, encoded);
+    }
 }
 
 fn must_not_fit(rt: &impl Abort, made: &Result<Vec<u8>, CodecError>) {

@@ -150,11 +150,12 @@ fn members_that_may_be_absent(rt: HostRuntime) -> Result<(), Fail> {
     must_have_members(&rt, &document);
     must_lack_the_rest(&rt, &document);
     must_read_as(&rt, alloc, SMALL, SMALL)?;
-    for (name, text) in [
+    const ROWS: &[(&str, &str)] = &[
         ("attributes", "{}"),
         ("storage_transformers", "[]"),
         ("dimension_names", "null"),
-    ] {
+    ];
+    for (name, text) in ROWS {
         let document = ArrayMetadataV3::from_value(alloc, changed(alloc, name, text)?)?;
         must_write(&rt, alloc, &document, SMALL)?;
     }
@@ -164,7 +165,7 @@ fn members_that_may_be_absent(rt: HostRuntime) -> Result<(), Fail> {
 #[test]
 fn members_of_another_shape(rt: HostRuntime) -> Result<(), Fail> {
     let alloc = rt.alloc();
-    for (name, text) in [
+    const ROWS: &[(&str, &str)] = &[
         ("zarr_format", "2"),
         ("zarr_format", "\"3\""),
         ("node_type", "\"group\""),
@@ -185,7 +186,8 @@ fn members_of_another_shape(rt: HostRuntime) -> Result<(), Fail> {
         ("dimension_names", "\"x\""),
         ("fill_value", "1.5"),
         ("proj", "[{\"a\":-0.5}]"),
-    ] {
+    ];
+    for (name, text) in ROWS {
         must_refuse_member(&rt, alloc, name, text)?;
     }
     Ok(())
@@ -194,7 +196,7 @@ fn members_of_another_shape(rt: HostRuntime) -> Result<(), Fail> {
 #[test]
 fn members_that_are_missing(rt: HostRuntime) -> Result<(), Fail> {
     let alloc = rt.alloc();
-    for name in [
+    const NAMES: &[&str] = &[
         "zarr_format",
         "node_type",
         "shape",
@@ -203,7 +205,8 @@ fn members_that_are_missing(rt: HostRuntime) -> Result<(), Fail> {
         "chunk_key_encoding",
         "fill_value",
         "codecs",
-    ] {
+    ];
+    for name in NAMES {
         must_refuse_without(&rt, alloc, name)?;
     }
     Ok(())
@@ -254,11 +257,12 @@ fn names_of_dimensions(rt: HostRuntime) -> Result<(), Fail> {
 #[test]
 fn extensions_in_their_shortest_form(rt: HostRuntime) -> Result<(), Fail> {
     let alloc = rt.alloc();
-    for text in [
+    const TEXTS: &[&str] = &[
         "[{\"name\":\"packbits\"}]",
         "[{\"configuration\":{},\"name\":\"packbits\"}]",
         "[{\"must_understand\":true,\"name\":\"packbits\"}]",
-    ] {
+    ];
+    for text in TEXTS {
         let document = ArrayMetadataV3::from_value(alloc, changed(alloc, "codecs", text)?)?;
         must_write(&rt, alloc, &document, SMALL)?;
     }
@@ -282,7 +286,7 @@ fn must_be_field(
 #[test]
 fn fields_that_need_not_be_understood(rt: HostRuntime) -> Result<(), Fail> {
     let alloc = rt.alloc();
-    for (text, must_understand, value) in [
+    const ROWS: &[(&str, bool, &str)] = &[
         ("{\"a\":1,\"must_understand\":false}", false, "{\"a\":1}"),
         ("{\"must_understand\":false}", false, "{}"),
         (
@@ -298,10 +302,11 @@ fn fields_that_need_not_be_understood(rt: HostRuntime) -> Result<(), Fail> {
         ),
         ("false", true, "false"),
         ("[]", true, "[]"),
-    ] {
+    ];
+    for (text, must_understand, value) in ROWS {
         let field = AdditionalFieldV3::from_value(Value::from_str(alloc, text)?);
-        must_be_field(&rt, alloc, &field, must_understand, value, text)?;
-        must_be_field(&rt, alloc, &field.clone()?, must_understand, value, text)?;
+        must_be_field(&rt, alloc, &field, *must_understand, value, text)?;
+        must_be_field(&rt, alloc, &field.clone()?, *must_understand, value, text)?;
     }
     let number = AdditionalFieldV3::new(Value::from(7u64), false);
     must_be_field(&rt, alloc, &number, false, "7", "7")
@@ -422,21 +427,23 @@ fn must_hold(rt: &impl Abort, alloc: Global, text: &str, float: bool) -> Result<
 #[test]
 fn numbers_that_are_left_out(rt: HostRuntime) -> Result<(), Fail> {
     let alloc = rt.alloc();
-    for text in [
+    const FLOATS: &[&str] = &[
         "1.0",
         "1e2",
         "-0",
         "[{\"a\":[0.5]}]",
         "18446744073709551616",
-    ] {
+    ];
+    for text in FLOATS {
         must_hold(&rt, alloc, text, true)?;
     }
-    for text in [
+    const OTHERS: &[&str] = &[
         "null",
         "\"1.0\"",
         "18446744073709551615",
         "[-9223372036854775808]",
-    ] {
+    ];
+    for text in OTHERS {
         must_hold(&rt, alloc, text, false)?;
     }
     Ok(())

@@ -1,18 +1,16 @@
 //! Writes that are refused: by their arguments, by the store, by the bytes that are present.
 use crate::steps::Answer::{Cells, Done, Refused};
 use crate::steps::Step::{Put, ReadRegion, StoreChunks, StorePart, StoreRegion};
-use crate::steps::{Case, Row, engine_over, must_leave, must_leave_over, unread};
+use crate::steps::{
+    Row, TOO_LARGE, UNFIT, WriteCase, engine_over, must_leave, must_leave_of, must_leave_over,
+};
 use std::test::Fail;
 use zarrs_data_type::DataType;
 use zarrs_storage::{Fault, MemoryStore};
 
-const UNFIT: &str = "the codec does not take this type, shape or these bytes";
-
-const TOO_LARGE: &str = "size exceeds the number types";
-
 #[test]
 fn a_region_of_other_dimensions_is_refused(rt: HostRuntime) -> Result<(), Fail> {
-    const CASE: Case = Case {
+    const CASE: WriteCase = WriteCase {
         unread: &[],
         shape: &[4, 4],
         chunk_shape: &[2, 2],
@@ -37,7 +35,7 @@ fn a_region_of_other_dimensions_is_refused(rt: HostRuntime) -> Result<(), Fail> 
 /// The last chunk would pass the numbers, so there is none.
 #[test]
 fn what_no_chunk_covers_is_refused(rt: HostRuntime) -> Result<(), Fail> {
-    const CASE: Case = Case {
+    const CASE: WriteCase = WriteCase {
         unread: &[],
         shape: &[u64::MAX],
         chunk_shape: &[1 << 63],
@@ -70,7 +68,7 @@ fn what_no_chunk_covers_is_refused(rt: HostRuntime) -> Result<(), Fail> {
 
 #[test]
 fn another_number_of_cells_of_a_region_is_refused(rt: HostRuntime) -> Result<(), Fail> {
-    const CASE: Case = Case {
+    const CASE: WriteCase = WriteCase {
         unread: &[],
         shape: &[6],
         chunk_shape: &[2],
@@ -86,7 +84,7 @@ fn another_number_of_cells_of_a_region_is_refused(rt: HostRuntime) -> Result<(),
 
 #[test]
 fn another_number_of_cells_of_chunks_is_refused(rt: HostRuntime) -> Result<(), Fail> {
-    const CASE: Case = Case {
+    const CASE: WriteCase = WriteCase {
         unread: &[],
         shape: &[6],
         chunk_shape: &[2],
@@ -103,7 +101,7 @@ fn another_number_of_cells_of_chunks_is_refused(rt: HostRuntime) -> Result<(), F
 
 #[test]
 fn indices_of_other_dimensions_are_refused(rt: HostRuntime) -> Result<(), Fail> {
-    const CASE: Case = Case {
+    const CASE: WriteCase = WriteCase {
         unread: &[],
         shape: &[4, 4],
         chunk_shape: &[2, 2],
@@ -129,7 +127,7 @@ fn indices_of_other_dimensions_are_refused(rt: HostRuntime) -> Result<(), Fail> 
 
 #[test]
 fn a_part_that_passes_its_chunk_is_refused(rt: HostRuntime) -> Result<(), Fail> {
-    const CASE: Case = Case {
+    const CASE: WriteCase = WriteCase {
         unread: &[],
         shape: &[4, 6],
         chunk_shape: &[2, 3],
@@ -161,18 +159,22 @@ fn a_part_that_passes_its_chunk_is_refused(rt: HostRuntime) -> Result<(), Fail> 
 
 #[test]
 fn sizes_past_the_numbers_are_refused(rt: HostRuntime) -> Result<(), Fail> {
-    let alloc = rt.alloc();
-    let (storage, size) = (unread(alloc, &[])?, [1 << 61]);
-    let engine = engine_over(alloc, storage, &size, &size, DataType::Int64, &[0; 8])?;
-    const ROWS: &[Row] = &[
-        (StoreRegion(&[3], &[1], &[&[1; 8]]), Refused(TOO_LARGE)),
-        (StoreChunks(&[0], &[1], &[&[1; 8]]), Refused(TOO_LARGE)),
-        (
-            StoreChunks(&[0, 0], &[1 << 32, 1 << 32], &[]),
-            Refused(TOO_LARGE),
-        ),
-    ];
-    must_leave_over(&rt, alloc, engine, ROWS, 0, "")
+    const CASE: WriteCase = WriteCase {
+        unread: &[],
+        shape: &[1 << 61],
+        chunk_shape: &[1 << 61],
+        rows: &[
+            (StoreRegion(&[3], &[1], &[&[1; 8]]), Refused(TOO_LARGE)),
+            (StoreChunks(&[0], &[1], &[&[1; 8]]), Refused(TOO_LARGE)),
+            (
+                StoreChunks(&[0, 0], &[1 << 32, 1 << 32], &[]),
+                Refused(TOO_LARGE),
+            ),
+        ],
+        calls: 0,
+        left: "",
+    };
+    must_leave_of(&rt, rt.alloc(), DataType::Int64, &[0; 8], &CASE)
 }
 
 #[test]
@@ -207,7 +209,7 @@ fn a_range_is_stored_up_to_the_last_call(rt: HostRuntime) -> Result<(), Fail> {
 /// The first region covers the second chunk, which is not read, and the second region a part of it.
 #[test]
 fn a_region_is_stored_up_to_a_refused_read(rt: HostRuntime) -> Result<(), Fail> {
-    const CASE: Case = Case {
+    const CASE: WriteCase = WriteCase {
         unread: &["c/1"],
         shape: &[6],
         chunk_shape: &[2],
@@ -225,7 +227,7 @@ fn a_region_is_stored_up_to_a_refused_read(rt: HostRuntime) -> Result<(), Fail> 
 /// The second chunk holds three bytes where two are wanted. A part of it is refused, and the whole is replaced.
 #[test]
 fn a_chunk_that_does_not_decode(rt: HostRuntime) -> Result<(), Fail> {
-    const CASE: Case = Case {
+    const CASE: WriteCase = WriteCase {
         unread: &[],
         shape: &[6],
         chunk_shape: &[2],

@@ -139,7 +139,7 @@ fn must_refuse_value(rt: &impl Abort, alloc: Global, value: Value, name: &str) {
 #[test]
 fn members_of_another_shape(rt: HostRuntime) -> Result<(), Fail> {
     let alloc = rt.alloc();
-    for (name, text) in [
+    const ROWS: &[(&str, &str)] = &[
         ("zarr_format", "3"),
         ("shape", "[-1]"),
         ("chunks", "[2,0]"),
@@ -151,7 +151,8 @@ fn members_of_another_shape(rt: HostRuntime) -> Result<(), Fail> {
         ("attributes", "[]"),
         ("fill_value", "0.5"),
         ("consolidated", "[1e2]"),
-    ] {
+    ];
+    for (name, text) in ROWS {
         must_refuse_value(&rt, alloc, changed(alloc, name, text)?, name);
     }
     Ok(())
@@ -166,7 +167,7 @@ fn without(alloc: Global, name: &str) -> Result<Value, Fail> {
 #[test]
 fn members_that_are_missing(rt: HostRuntime) -> Result<(), Fail> {
     let alloc = rt.alloc();
-    for name in [
+    const NAMES: &[&str] = &[
         "zarr_format",
         "shape",
         "chunks",
@@ -175,7 +176,8 @@ fn members_that_are_missing(rt: HostRuntime) -> Result<(), Fail> {
         "fill_value",
         "order",
         "filters",
-    ] {
+    ];
+    for name in NAMES {
         must_refuse_value(&rt, alloc, without(alloc, name)?, name);
     }
     Ok(())
@@ -313,20 +315,21 @@ fn must_have_type(
 #[test]
 fn numbers_keep_their_fill_values(rt: HostRuntime) -> Result<(), Fail> {
     let alloc = rt.alloc();
-    let little = "{\"configuration\":{\"endian\":\"little\"},\"name\":\"bytes\"}";
-    let big = "{\"configuration\":{\"endian\":\"big\"},\"name\":\"bytes\"}";
-    for (dtype, fill, name, codec) in [
+    const LITTLE: &str = "{\"configuration\":{\"endian\":\"little\"},\"name\":\"bytes\"}";
+    const BIG: &str = "{\"configuration\":{\"endian\":\"big\"},\"name\":\"bytes\"}";
+    const ROWS: &[(&str, &str, &str, &str)] = &[
         ("\"|i1\"", "-128", "int8", "\"bytes\""),
         ("\"|u1\"", "255", "uint8", "\"bytes\""),
-        ("\"<i2\"", "32767", "int16", little),
-        ("\">i2\"", "-32768", "int16", big),
-        ("\"<i4\"", "-2147483648", "int32", little),
-        ("\">i8\"", "-9223372036854775808", "int64", big),
-        ("\"<i8\"", "9223372036854775807", "int64", little),
-        ("\">u2\"", "65535", "uint16", big),
-        ("\"<u4\"", "4294967295", "uint32", little),
-        ("\"<u8\"", "18446744073709551615", "uint64", little),
-    ] {
+        ("\"<i2\"", "32767", "int16", LITTLE),
+        ("\">i2\"", "-32768", "int16", BIG),
+        ("\"<i4\"", "-2147483648", "int32", LITTLE),
+        ("\">i8\"", "-9223372036854775808", "int64", BIG),
+        ("\"<i8\"", "9223372036854775807", "int64", LITTLE),
+        ("\">u2\"", "65535", "uint16", BIG),
+        ("\"<u4\"", "4294967295", "uint32", LITTLE),
+        ("\"<u8\"", "18446744073709551615", "uint64", LITTLE),
+    ];
+    for (dtype, fill, name, codec) in ROWS {
         let document = converted(alloc, &[("dtype", dtype), ("fill_value", fill)])?;
         must_have_type(&rt, alloc, &document, name, fill, codec)?;
     }
@@ -336,23 +339,25 @@ fn numbers_keep_their_fill_values(rt: HostRuntime) -> Result<(), Fail> {
 #[test]
 fn fill_values_of_other_kinds(rt: HostRuntime) -> Result<(), Fail> {
     let alloc = rt.alloc();
-    for (fill, shown) in [
+    const BOOLS: &[(&str, &str)] = &[
         ("true", "true"),
         ("false", "false"),
         ("1", "true"),
         ("0", "false"),
         ("null", "false"),
-    ] {
+    ];
+    for (fill, shown) in BOOLS {
         let document = converted(alloc, &[("dtype", "\"|b1\""), ("fill_value", fill)])?;
         must_have_type(&rt, alloc, &document, "bool", shown, "\"bytes\"")?;
     }
     let filters = ("filters", "[{\"id\":\"vlen-utf8\"}]");
-    for (fill, shown) in [
+    const TEXTS: &[(&str, &str)] = &[
         ("\"\"", "\"\""),
         ("\"ab\"", "\"ab\""),
         ("0", "\"\""),
         ("null", "\"\""),
-    ] {
+    ];
+    for (fill, shown) in TEXTS {
         let document = converted(alloc, &[("dtype", "\"|O\""), ("fill_value", fill), filters])?;
         must_have_type(&rt, alloc, &document, "string", shown, "\"vlen-utf8\"")?;
     }
@@ -386,7 +391,7 @@ fn must_have_no_type(rt: &impl Abort, alloc: Global, dtype: &'static str) -> Res
 #[test]
 fn data_types_without_a_v3_name(rt: HostRuntime) -> Result<(), Fail> {
     let alloc = rt.alloc();
-    for dtype in [
+    const TYPES: &[&str] = &[
         "\"<f4\"",
         "\"|i2\"",
         "\"<i1\"",
@@ -401,7 +406,8 @@ fn data_types_without_a_v3_name(rt: HostRuntime) -> Result<(), Fail> {
         "\"<O\"",
         "\"\"",
         "\"|\"",
-    ] {
+    ];
+    for dtype in TYPES {
         must_have_no_type(&rt, alloc, dtype)?;
     }
     Ok(())
@@ -428,7 +434,7 @@ fn must_have_no_fill(
 #[test]
 fn fill_values_that_are_none_of_the_type(rt: HostRuntime) -> Result<(), Fail> {
     let alloc = rt.alloc();
-    for (dtype, fill) in [
+    const ROWS: &[(&str, &str)] = &[
         ("\"|b1\"", "2"),
         ("\"|b1\"", "\"true\""),
         ("\"|i1\"", "128"),
@@ -443,7 +449,8 @@ fn fill_values_that_are_none_of_the_type(rt: HostRuntime) -> Result<(), Fail> {
         ("\"<i4\"", "[0]"),
         ("\"|O\"", "1"),
         ("\"|O\"", "true"),
-    ] {
+    ];
+    for (dtype, fill) in ROWS {
         must_have_no_fill(&rt, alloc, dtype, fill)?;
     }
     Ok(())

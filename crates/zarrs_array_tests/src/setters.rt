@@ -1,0 +1,38 @@
+//! Setters of arrays.
+use crate::made::{MemoryArray, array, document_of};
+use std::alloc::Global;
+use std::process::Abort;
+use std::test::Fail;
+use zarrs::{ArrayCreateError, DimensionName};
+
+fn names(alloc: Global, texts: &[&str]) -> Result<Option<Vec<DimensionName>>, Fail> {
+    let mut names = Vec::new(alloc);
+    for text in texts {
+        names.push(Some(String::from_str(alloc, text)?))?;
+    }
+    Ok(Some(names))
+}
+
+fn must_have_names(rt: &impl Abort, array: &MemoryArray, count: Option<usize>) {
+    assert!(rt; array.dimension_names().map(|names| names.len()) == count);
+}
+
+/// Two names are taken, and three are refused; then they are taken away.
+fn must_name(rt: &impl Abort, alloc: Global, array: &mut MemoryArray) -> Result<(), Fail> {
+    let _ = array.set_dimension_names(alloc, names(alloc, &["y", "x"])?)?;
+    must_have_names(rt, array, Some(2));
+    let three = array.name_dimensions(alloc, names(alloc, &["z", "y", "x"])?);
+    assert!(rt; matches!(three, Err(ArrayCreateError::InvalidDimensionNames(3, 2))));
+    must_have_names(rt, array, Some(2));
+    assert!(rt; document_of(array)?.dimension_names.is_some());
+    array.name_dimensions(alloc, None)?;
+    must_have_names(rt, array, None);
+    Ok(())
+}
+
+#[test]
+fn dimensions_are_named(rt: HostRuntime) -> Result<(), Fail> {
+    let alloc = rt.alloc();
+    let mut array = array(alloc, "/", &[])?;
+    must_name(&rt, alloc, &mut array)
+}

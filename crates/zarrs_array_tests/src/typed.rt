@@ -1,0 +1,152 @@
+//! Reads that return lists of values, and stores that take them.
+use crate::made::{MemoryArray, array};
+use std::alloc::Global;
+use std::process::Abort;
+use std::test::Fail;
+use zarrs::{ArrayError, ArraySubset, CodecOptions, ElementError};
+use zarrs_subset::ArrayShape;
+
+const WORDS: &[(&str, &str)] = &[
+    ("shape", "[4]"),
+    (
+        "chunk_grid",
+        "{\"name\":\"regular\",\"configuration\":{\"chunk_shape\":[2]}}",
+    ),
+    ("data_type", "\"int16\""),
+    ("fill_value", "-1"),
+];
+
+const TEXTS: &[(&str, &str)] = &[
+    ("shape", "[2]"),
+    (
+        "chunk_grid",
+        "{\"name\":\"regular\",\"configuration\":{\"chunk_shape\":[2]}}",
+    ),
+    ("data_type", "\"string\""),
+    ("fill_value", "\"\""),
+    ("codecs", "[{\"name\":\"vlen-utf8\"}]"),
+];
+
+fn region(alloc: Global, start: &[u64], shape: &[u64]) -> Result<ArraySubset, Fail> {
+    let shape: ArrayShape = shape.to_vec(alloc)?;
+    Ok(ArraySubset::new_with_start_shape(start.to_vec(alloc)?, shape)?)
+}
+
+fn must_be_an_element_error<T: Drop>(rt: &impl Abort, read: Result<T, ArrayError>) {
+    assert!(rt;
+        matches!(
+            read,
+            Err(ArrayError::ElementError(ElementError::IncompatibleElementType))
+        )
+    );
+}
+
+/// Lists, arrays and slices are stored, and read as lists.
+fn must_store_lists(rt: &impl Abort, alloc: Global, array: &mut MemoryArray) -> Result<(), Fail> {
+    array.store_chunk(alloc, &[0], vec![in alloc; 1i16, 2]?)?;
+    array.store_chunk_subset(alloc, &[1], &region(alloc, &[0], &[1])?, [-3i16])?;
+    array.store_array_subset(alloc, &region(alloc, &[1], &[1])?, [7i16].as_slice())?;
+    let held: Vec<i16> = array.retrieve_array_subset(alloc, &array.subset_all(alloc)?)?;
+    assert!(rt; held.as_slice() == [1, 7, -3, -1].as_slice());
+    Ok(())
+}
+
+#[test]
+fn lists_are_stored_and_read(rt: HostRuntime) -> Result<(), Fail> {
+    let alloc = rt.alloc();
+    let mut array = array(alloc, "/", WORDS)?;
+    must_store_lists(&rt, alloc, &mut array)
+}
+
+/// A present chunk is read as values of another type, and an absent one.
+fn must_refuse_other_lists(
+    rt: &impl Abort,
+    alloc: Global,
+    array: &mut MemoryArray,
+) -> Result<(), Fail> {
+    array.store_chunk(alloc, &[0], &[1i16, 2])?;
+    must_be_an_element_error(rt, array.retrieve_chunk::<Vec<u16>>(alloc, &[0]));
+    must_be_an_element_error(rt, array.retrieve_chunk_if_exists::<Vec<u16>>(alloc, &[0]));
+    let absent: Option<Vec<u16>> = array.retrieve_chunk_if_exists(alloc, &[1])?;
+    assert!(rt; absent.is_none());
+    let all = array.subset_all(alloc)?;
+    must_be_an_element_error(rt, array.retrieve_array_subset::<Vec<bool>>(alloc, &all));
+    must_be_an_element_error(
+        rt,
+        array.retrieve_chunks::<Vec<u8>>(alloc, &region(alloc, &[0], &[2])?),
+    );
+    must_be_an_element_error(
+        rt,
+        array.retrieve_chunk_subset::<Vec<u8>>(alloc, &[0], &region(alloc, &[1], &[1])?),
+    );
+    let far = array.retrieve_chunk::<Vec<u16>>(alloc, &[0, 0]);
+    assert!(rt; matches!(far, Err(ArrayError::InvalidChunkGridIndicesError(_))));
+    Ok(())
+}
+
+#[test]
+fn lists_of_another_type_are_refused_last_by_reads(rt: HostRuntime) -> Result<(), Fail> {
+    let alloc = rt.alloc();
+    let mut array = array(alloc, "/", WORDS)?;
+    must_refuse_other_lists(&rt, alloc, &mut array)
+}
+
+/// A store of another type is refused after the place of the part, the region or the number of chunks, and before the
+/// number of values; that of a chunk comes first.
+fn must_refuse_in_order(
+    rt: &impl Abort,
+    alloc: Global,
+    array: &mut MemoryArray,
+) -> Result<(), Fail> {
+    must_be_an_element_error(rt, array.store_chunk(alloc, &[0, 0], &[1u8]));
+    let one = region(alloc, &[0], &[1])?;
+    must_be_an_element_error(rt, array.store_chunk_subset(alloc, &[0], &one, &[1u8; 3]));
+    must_be_an_element_error(rt, array.store_array_subset(alloc, &one, &[1u8; 3]));
+    must_be_an_element_error(rt, array.store_chunks(alloc, &one, &[1u8; 3]));
+    let past = region(alloc, &[1], &[2])?;
+    let part = array.store_chunk_subset(alloc, &[0], &past, &[1u8; 2]);
+    assert!(rt; matches!(part, Err(ArrayError::InvalidChunkSubset(_, _, _))));
+    let index = array.store_chunk_subset(alloc, &[0, 0], &one, &[1u8]);
+    assert!(rt; matches!(index, Err(ArrayError::IncompatibleDimensionalityError(_))));
+    let square = region(alloc, &[0, 0], &[1, 1])?;
+    let other = array.store_array_subset(alloc, &square, &[1u8]);
+    assert!(rt; matches!(other, Err(ArrayError::InvalidArraySubset(_, _))));
+    let many = region(alloc, &[0, 0], &[u64::MAX, 2])?;
+    let number = array.store_chunks(alloc, &many, &[1u8]);
+    assert!(rt; matches!(number, Err(ArrayError::SizeOverflow)));
+    assert_eq!(rt; array.storage().calls(), 0);
+    Ok(())
+}
+
+#[test]
+fn lists_of_another_type_are_refused_in_their_place_by_stores(rt: HostRuntime) -> Result<(), Fail> {
+    let alloc = rt.alloc();
+    let mut array = array(alloc, "/", WORDS)?;
+    must_refuse_in_order(&rt, alloc, &mut array)
+}
+
+/// Texts that are lent are stored, and read as texts that are owned; the other way of each call takes options.
+fn must_store_texts(rt: &impl Abort, alloc: Global, array: &mut MemoryArray) -> Result<(), Fail> {
+    let options = CodecOptions::default();
+    array.store_chunk_opt(alloc, &[0], &["ab", ""], &options)?;
+    let held: Vec<String> = array.retrieve_chunk_opt(alloc, &[0], &options)?;
+    assert!(rt; held.len() == 2 && held[0].as_str() == "ab" && held[1].is_empty());
+    let all = array.subset_all(alloc)?;
+    let same: Vec<String> = array.retrieve_array_subset_opt(alloc, &all, &options)?;
+    assert_eq!(rt; same.len(), 2);
+    let part: Vec<String> = array.retrieve_chunk_subset_opt(alloc, &[0], &all, &options)?;
+    assert_eq!(rt; part.len(), 2);
+    let chunks = region(alloc, &[0], &[1])?;
+    let range: Vec<String> = array.retrieve_chunks_opt(alloc, &chunks, &options)?;
+    assert_eq!(rt; range.len(), 2);
+    let found: Option<Vec<String>> = array.retrieve_chunk_if_exists_opt(alloc, &[0], &options)?;
+    assert!(rt; found.is_some());
+    Ok(())
+}
+
+#[test]
+fn texts_are_stored_and_read(rt: HostRuntime) -> Result<(), Fail> {
+    let alloc = rt.alloc();
+    let mut array = array(alloc, "/", TEXTS)?;
+    must_store_texts(&rt, alloc, &mut array)
+}

@@ -1,0 +1,149 @@
+//! The metadata of grids: what is read, refused and written, and copies.
+use crate::grids::{Grid, grid_of};
+use crate::tests::{TWO_AND_THREE_BY_FOUR, must_be_chunk, must_have_shapes};
+use serde_json::Value;
+use std::alloc::Global;
+use std::process::Abort;
+use std::test::Fail;
+use zarrs_chunk_grid::laws::{grid_of_its_configuration, metadata_describes_the_configuration};
+use zarrs_chunk_grid::{ChunkGrid, ChunkGridTraits};
+use zarrs_metadata::{MetadataV3, PluginCreateError};
+
+const FIVE_BY_TWOS: Grid = Grid::Bounded(&[5], &[2]);
+
+fn read_grid(alloc: Global, text: &str, array_shape: &[u64]) -> Result<ChunkGrid, Fail> {
+    let metadata = MetadataV3::from_value(Value::from_str(alloc, text)?)?;
+    Ok(ChunkGrid::from_metadata(alloc, &metadata, array_shape)?)
+}
+
+fn written(alloc: Global, grid: &ChunkGrid) -> Result<String, Fail> {
+    Ok(grid.metadata(alloc)?.to_value(alloc)?.to_string(alloc)?)
+}
+
+fn must_be_written(
+    rt: &impl Abort,
+    alloc: Global,
+    grid: &ChunkGrid,
+    text: &str,
+) -> Result<(), Fail> {
+    assert_eq!(rt; written(alloc, grid)?.as_str(), text);
+    Ok(())
+}
+
+/// The copy has the shapes of the grid, and its metadata.
+fn must_be_copied(rt: &impl Abort, alloc: Global, grid: &Grid) -> Result<(), Fail> {
+    let grid = grid_of(alloc, grid)?;
+    let copy = grid.try_clone(alloc)?;
+    must_have_shapes(rt, &copy, grid.array_shape(), grid.grid_shape());
+    must_be_written(rt, alloc, &copy, written(alloc, &grid)?.as_str())?;
+    Ok(())
+}
+
+#[test]
+fn copies_of_grids(rt: HostRuntime) -> Result<(), Fail> {
+    must_be_copied(&rt, rt.alloc(), &Grid::Regular(&[5], &[2]))?;
+    must_be_copied(&rt, rt.alloc(), &FIVE_BY_TWOS)?;
+    must_be_copied(&rt, rt.alloc(), &TWO_AND_THREE_BY_FOUR)
+}
+
+/// The grid's metadata over another shape.
+fn anew(alloc: Global, grid: &Grid, array_shape: &[u64]) -> Result<ChunkGrid, Fail> {
+    let metadata = grid_of(alloc, grid)?.metadata(alloc)?;
+    Ok(ChunkGrid::from_metadata(alloc, &metadata, array_shape)?)
+}
+
+fn must_lengthen(rt: &impl Abort, alloc: Global) -> Result<(), Fail> {
+    let longer = anew(alloc, &FIVE_BY_TWOS, &[8])?;
+    must_have_shapes(rt, &longer, &[8], &[4]);
+    must_be_chunk(rt, alloc, &longer, &[2], &(&[4], &[2]))
+}
+
+fn must_widen(rt: &impl Abort, alloc: Global) -> Result<(), Fail> {
+    let wider = anew(alloc, &TWO_AND_THREE_BY_FOUR, &[5, 9])?;
+    must_have_shapes(rt, &wider, &[5, 9], &[2, 3]);
+    Ok(())
+}
+
+#[test]
+fn grids_made_anew_from_metadata_over_another_shape(rt: HostRuntime) -> Result<(), Fail> {
+    let alloc = rt.alloc();
+    must_lengthen(&rt, alloc)?;
+    must_widen(&rt, alloc)?;
+    let listed = grid_of(alloc, &TWO_AND_THREE_BY_FOUR)?.metadata(alloc)?;
+    let refused = ChunkGrid::from_metadata(alloc, &listed, &[6, 8]);
+    assert!(rt; matches!(&refused, Err(PluginCreateError::Other(_))));
+    Ok(())
+}
+
+#[test]
+fn regular_grids_read_from_metadata_and_written_again(rt: HostRuntime) -> Result<(), Fail> {
+    const TEXT: &str = "{\"configuration\":{\"chunk_shape\":[4,3]},\"name\":\"regular\"}";
+    let grid = read_grid(rt.alloc(), TEXT, &[8, 8])?;
+    metadata_describes_the_configuration(&grid);
+    grid_of_its_configuration(&grid);
+    assert!(rt; matches!(&grid, ChunkGrid::Regular(_)));
+    must_have_shapes(&rt, &grid, &[8, 8], &[2, 3]);
+    must_be_written(&rt, rt.alloc(), &grid, TEXT)
+}
+
+/// The text says a bounded grid of 3 chunks, whose metadata is the second.
+fn must_be_bounded(rt: &impl Abort, alloc: Global, text: &str, written: &str) -> Result<(), Fail> {
+    let grid = read_grid(alloc, text, &[5])?;
+    assert!(rt; matches!(&grid, ChunkGrid::RegularBounded(_)));
+    must_have_shapes(rt, &grid, &[5], &[3]);
+    must_be_written(rt, alloc, &grid, written)
+}
+
+#[test]
+fn bounded_grids_read_from_metadata_and_written_again(rt: HostRuntime) -> Result<(), Fail> {
+    const ALIAS: &str =
+        "{\"configuration\":{\"chunk_shape\":[2]},\"name\":\"zarrs.regular_bounded\"}";
+    const MAIN: &str = "{\"configuration\":{\"chunk_shape\":[2]},\"name\":\"regular_bounded\"}";
+    must_be_bounded(&rt, rt.alloc(), ALIAS, MAIN)?;
+    must_be_bounded(&rt, rt.alloc(), MAIN, MAIN)
+}
+
+#[test]
+fn rectangular_grids_read_from_metadata_and_written_again(rt: HostRuntime) -> Result<(), Fail> {
+    const TEXT: &str = "{\"configuration\":{\"chunk_shape\":[[2,3],4]},\"name\":\"rectangular\"}";
+    let grid = read_grid(rt.alloc(), TEXT, &[5, 8])?;
+    assert!(rt; matches!(&grid, ChunkGrid::Rectangular(_)));
+    must_have_shapes(&rt, &grid, &[5, 8], &[2, 2]);
+    must_be_written(&rt, rt.alloc(), &grid, TEXT)
+}
+
+fn must_say_no_grid(rt: &impl Abort, alloc: Global, text: &str) -> Result<(), Fail> {
+    let metadata = MetadataV3::from_value(Value::from_str(alloc, text)?)?;
+    let refused = ChunkGrid::from_metadata(alloc, &metadata, &[5]);
+    assert!(rt;
+        matches!(&refused, Err(PluginCreateError::Other(_))),
+        "{text}"
+    );
+    Ok(())
+}
+
+#[test]
+fn metadata_that_says_no_grid(rt: HostRuntime) -> Result<(), Fail> {
+    const TEXTS: &[&str] = &[
+        "\"regular\"",
+        "{\"name\":\"regular\",\"configuration\":{}}",
+        "{\"name\":\"other\",\"configuration\":{\"chunk_shape\":[4]}}",
+        "{\"name\":\"zarrs.regular\",\"configuration\":{\"chunk_shape\":[4]}}",
+        "{\"name\":\"regular\",\"configuration\":{\"chunk_shape\":4}}",
+        "{\"name\":\"regular\",\"configuration\":{\"chunk_shape\":[4,4]}}",
+        "{\"name\":\"regular\",\"configuration\":{\"chunk_shape\":[0]}}",
+        "{\"name\":\"regular\",\"configuration\":{\"chunk_shape\":[-1]}}",
+        "{\"name\":\"regular\",\"configuration\":{\"chunk_shape\":[1.5]}}",
+        "{\"name\":\"regular\",\"configuration\":{\"chunk_shape\":[[4]]}}",
+        "{\"name\":\"regular\",\"configuration\":{\"chunk_shape\":[4],\"more\":1}}",
+        "{\"name\":\"regular_bounded\",\"configuration\":{\"chunk_shape\":[]}}",
+        "{\"name\":\"rectangular\",\"configuration\":{\"chunk_shape\":[[4,0]]}}",
+        "{\"name\":\"rectangular\",\"configuration\":{\"chunk_shape\":[[4,2]]}}",
+        "{\"name\":\"rectangular\",\"configuration\":{\"chunk_shape\":[[4,1],[1]]}}",
+        "{\"name\":\"rectangular\",\"configuration\":{\"chunk_shape\":[[18446744073709551615,6]]}}",
+    ];
+    for text in TEXTS {
+        must_say_no_grid(&rt, rt.alloc(), text)?;
+    }
+    Ok(())
+}

@@ -1,5 +1,0 @@
-//! Tests of `zarrs_options`.
-#![tactic(auto)]
-
-#[cfg(test)]
-mod tests;
