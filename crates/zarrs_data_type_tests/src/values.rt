@@ -4,7 +4,7 @@ use std::process::Abort;
 use std::test::Fail;
 use zarrs_data_type::{ArrayBytes, DataType, ElementError, IntoArrayBytes, IntoField};
 
-fn must_hold(rt: &impl Abort, made: Result<ArrayBytes<'_>, ElementError>, bytes: &[u8]) {
+fn must_hold(rt: &impl Abort, made: &Result<ArrayBytes<'_>, ElementError>, bytes: &[u8]) {
     assert!(rt; matches!(made, Ok(ArrayBytes::Fixed(held)) if held.as_slice() == bytes));
 }
 
@@ -18,22 +18,22 @@ fn lists_become_array_bytes(rt: HostRuntime) -> Result<(), Fail> {
     let numbers = [258u16, 1];
     must_hold(
         &rt,
-        numbers.into_array_bytes(alloc, &DataType::UInt16),
+        &numbers.into_array_bytes(alloc, &DataType::UInt16),
         &[2, 1, 1, 0],
     );
     let slice = numbers.as_slice();
     must_hold(
         &rt,
-        slice.into_array_bytes(alloc, &DataType::UInt16),
+        &slice.into_array_bytes(alloc, &DataType::UInt16),
         &[2, 1, 1, 0],
     );
     must_hold(
         &rt,
-        (&numbers).into_array_bytes(alloc, &DataType::UInt16),
+        &(&numbers).into_array_bytes(alloc, &DataType::UInt16),
         &[2, 1, 1, 0],
     );
     let list = vec![in alloc; true, false]?;
-    must_hold(&rt, list.into_array_bytes(alloc, &DataType::Bool), &[1, 0]);
+    must_hold(&rt, &list.into_array_bytes(alloc, &DataType::Bool), &[1, 0]);
     must_be_refused(&rt, &numbers.into_array_bytes(alloc, &DataType::Int16));
     must_be_refused(&rt, &slice.into_array_bytes(alloc, &DataType::UInt8));
     Ok(())
