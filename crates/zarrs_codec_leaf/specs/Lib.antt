@@ -7,5 +7,7 @@ pub mod PackBitsLaws
 pub mod Refusals
 pub mod Strings
 pub mod StringsLaws
+pub mod Vlen
+pub mod VlenLaws
 pub mod VlenStrings
 pub mod VlenStringsLaws

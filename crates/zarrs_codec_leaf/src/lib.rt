@@ -5,10 +5,12 @@ mod bytes;
 mod error;
 mod packbits;
 mod reversed;
+mod vlen;
 mod vlen_strings;
 
 pub use bytes::{BytesCodec, Endianness};
 pub use error::CodecError;
 pub use packbits::PackBitsCodec;
+pub use vlen::VlenCodec;
 pub use vlen_strings::{VlenBytesCodec, VlenUtf8Codec};
 pub use zarrs_codec_array::{ArrayToArrayCodec, SqueezeCodec, TransposeCodec};

@@ -1,0 +1,190 @@
+//! The codec `zarrs.vlen`.
+ghost use Rattle.std.specs.Prelude.{◌≡◌, ◌/◌, ◌<◌, ◌++◌, Some, IfOk, IfErr, IsSome, OnOk, length, map};
+ghost use Rattle.std.specs.Prelude.{option_map};
+ghost use Rattle.std.specs.List.{flat_map};
+ghost use Rattle.std.specs.Int.{w64, to_le_bytes, from_le_bytes};
+ghost use Rattle.std.specs.Simd.{first_chunks};
+ghost use Rattle.zarrs_data_type.specs.ArrayData.{data_of};
+ghost use Rattle.zarrs_data_type.specs.Cells.{cells};
+ghost use Rattle.zarrs_data_type.specs.Kind.{kind};
+ghost use Rattle.zarrs_codec_leaf.specs.Vlen.{cut, indexed, split_index, unindexed, vlen_meaning};
+ghost use Rattle.zarrs_codec_leaf.specs.Refusals.{RefusesEncoding, RefusesDecoding};
+ghost use Rattle.zarrs_codec_leaf.specs.Leaf.{encoding_of};
+
+use crate::error::CodecError;
+use std::alloc::{AllocError, Global};
+use std::borrow::CowSlice;
+use zarrs_data_type::{ArrayBytes, ArrayBytesOffsets, ArrayBytesVariableLength, DataType};
+
+/// Texts or byte strings: the length of the index in 8 bytes, little endian, the index, and their bytes one after
+/// another. The index has the offset where each of them starts, and where the last one ends, in 8 bytes too.
+#[derive(Clone, Copy, Debug, Default, Drop, PartialEq, Eq)]
+pub struct VlenCodec;
+
+impl VlenCodec {
+    /// Whether the codec takes cells of this type.
+    pub fn takes(&self, data_type: &DataType) -> bool
+        ensures { result ≡ vlen_meaning.takes (kind data_type.now) }
+    {
+        data_type.is_variable()
+    }
+
+    /// The bytes of the cells.
+    ///
+    /// # Errors
+    /// In this order: `DoesNotFit` if the codec does not take the type; `SizeOverflow` if the length of the index does
+    /// not fit 8 bytes. `OutOfMemory` may come at any time.
+    pub fn encode(
+        &self,
+        alloc: Global,
+        bytes: &ArrayBytes<'_>,
+        data_type: &DataType,
+    ) -> Result<Vec<u8>, CodecError>
+        requires { IsSome (cells (kind data_type.now) (data_of bytes.now)) }
+        ensures encoded { IfOk result (λ encoded. encoding_of vlen_meaning (kind data_type.now)
+            (data_of bytes.now) ≡ Some encoded.items) }
+        ensures refused { IfErr result (RefusesEncoding vlen_meaning (kind data_type.now)
+            (data_of bytes.now)) }
+    {
+        if !self.takes(data_type) {
+            return Err(CodecError::DoesNotFit);
+        }
+        match bytes {
+            ArrayBytes::Variable(strings) => {
+                let made = indexed(alloc, strings)?;
+                match made {
+                    Some(encoded) => Ok(encoded),
+                    None => Err(CodecError::SizeOverflow),
+                }
+            }
+            ArrayBytes::Fixed(_) => Err(CodecError::DoesNotFit),
+            ArrayBytes::Optional(_) => Err(CodecError::DoesNotFit),
+        }
+    }
+
+    /// The `count` cells of the bytes.
+    ///
+    /// # Errors
+    /// `DoesNotFit` if the codec does not take the type, or if the bytes are not `count` cells of it. `OutOfMemory` may
+    /// come at any time.
+    pub fn decode(
+        &self,
+        alloc: Global,
+        encoded: &[u8],
+        data_type: &DataType,
+        count: u64,
+    ) -> Result<ArrayBytes<'static>, CodecError>
+        ensures cells { IfOk result (λ made. cells (kind data_type.now) (data_of made)
+            ≡ vlen_meaning.decoded (kind data_type.now) count encoded.now) }
+        ensures some { IfOk result (λ made. IsSome (cells (kind data_type.now) (data_of made))) }
+        ensures refused { IfErr result (RefusesDecoding vlen_meaning (kind data_type.now) count
+            encoded.now) }
+    {
+        if !self.takes(data_type) {
+            return Err(CodecError::DoesNotFit);
+        }
+        let read = unindexed(alloc, encoded, count)?;
+        match read {
+            Some(strings) => {
+                let data = ArrayBytes::Variable(strings);
+                if !data.validate(data_type, count) {
+                    return Err(CodecError::DoesNotFit);
+                }
+                Ok(data)
+            }
+            None => Err(CodecError::DoesNotFit),
+        }
+    }
+}
+
+/// The length of the index, the index and the data of byte strings, or `None` if the length of the index does not fit
+/// 8 bytes.
+fn indexed(
+    alloc: Global,
+    strings: &ArrayBytesVariableLength<'_>,
+) -> Result<Option<Vec<u8>>, AllocError>
+    ensures { IfOk result (λ made. option_map (λ encoded. encoded.items) made ≡ indexed strings.now) }
+{
+    let offsets = strings.offsets().as_slice();
+    let bytes = strings.bytes();
+    let Some(index_len) = offsets.len().checked_mul(8) else {
+        return Ok(None);
+    };
+    let room = index_len.saturating_add(bytes.len()).saturating_add(8);
+    let mut encoded = Vec::with_capacity(alloc, room)?;
+    encoded.extend_from_slice(&(index_len as u64).to_le_bytes())?;
+    push_index(&mut encoded, offsets)?;
+    encoded.extend_from_slice(bytes)?;
+    Ok(Some(encoded))
+}
+
+/// Puts the offsets behind the bytes, each in 8 bytes.
+fn push_index(encoded: &mut Vec<u8>, offsets: &[usize]) -> Result<(), AllocError>
+    ensures { OnOk result (encoded.new.items
+        ≡ encoded.old.items ++ flat_map (to_le_bytes w64) offsets.now) }
+{
+    for offset in offsets {
+        encoded.extend_from_slice(&(*offset as u64).to_le_bytes())?;
+    }
+    Ok(())
+}
+
+/// The `count` byte strings of the bytes, behind their index.
+fn unindexed(
+    alloc: Global,
+    encoded: &[u8],
+    count: u64,
+) -> Result<Option<ArrayBytesVariableLength<'static>>, AllocError>
+    ensures { IfOk result (λ strings. strings ≡ unindexed count encoded.now) }
+{
+    match split_index(encoded, count) {
+        Some((index, bytes)) => cut(alloc, offsets_in(alloc, index)?, bytes),
+        None => Ok(None),
+    }
+}
+
+/// The index of `count` byte strings, and what follows it, if the bytes begin with its length.
+fn split_index(encoded: &[u8], count: u64) -> Option<(&[u8], &[u8])>
+    ensures { option_map (λ parts. (parts.0.now, parts.1.now)) result
+        ≡ split_index count encoded.now }
+{
+    match encoded.split_first_chunk::<8>() {
+        Some((head, rest)) => {
+            let len = u64::from_le_bytes(*head);
+            if count >= rest.len() as u64 / 8 || len != 8 * (count + 1) {
+                return None;
+            }
+            Some(rest.split_at(len as usize))
+        }
+        None => None,
+    }
+}
+
+/// The offsets of an index.
+fn offsets_in(alloc: Global, index: &[u8]) -> Result<Vec<usize>, AllocError>
+    ensures { IfOk result (λ offsets. offsets.items
+        ≡ map (from_le_bytes w64) (first_chunks 8 (length index.now / 8) index.now)) }
+{
+    let (cells, _) = index.as_chunks::<8>();
+    let mut offsets = Vec::with_capacity(alloc, cells.len())?;
+    for cell in cells {
+        offsets.push_reserved(u64::from_le_bytes(*cell) as usize);
+    }
+    Ok(offsets)
+}
+
+/// The byte strings that the offsets cut from the bytes.
+fn cut(
+    alloc: Global,
+    offsets: Vec<usize>,
+    bytes: &[u8],
+) -> Result<Option<ArrayBytesVariableLength<'static>>, AllocError>
+    requires { 0 < length offsets.items }
+    ensures { IfOk result (λ strings. strings ≡ cut offsets.items bytes.now) }
+{
+    let Ok(offsets) = ArrayBytesOffsets::new(CowSlice::Owned(offsets)) else {
+        return Ok(None);
+    };
+    let bytes = CowSlice::Owned(Vec::from_slice(alloc, bytes)?);
+    Ok(ArrayBytesVariableLength::new(bytes, offsets).ok())
+}
