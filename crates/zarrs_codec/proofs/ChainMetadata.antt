@@ -12,10 +12,10 @@ use Rattle.zarrs_metadata.specs.declared.extension.MetadataV3.{MetadataV3}
 use Rattle.zarrs_codec_array.specs.Metadata.{ArrayCodecData, array_codec_data, array_codec_said, extension_of_array_codec}
 use Rattle.zarrs_codec_array.specs.declared.array.ArrayToArrayCodec.{ArrayToArrayCodec}
 use Rattle.zarrs_codec_array.proofs.MetadataLaws.{array_codec_back}
-use Rattle.zarrs_codec_leaf.specs.declared.bytes.Endianness.TheVariants.{Little, Big}
-use Rattle.zarrs_codec.specs.Metadata.{BytesCodecData, bytes, packbits, vlen_utf8, vlen_bytes, bytes_codec_said}
+use Rattle.zarrs_codec.specs.Metadata.{BytesCodecData, bytes_codec_said}
 use Rattle.zarrs_codec.specs.Metadata.{array_codecs_said, chain_of_parts, chain_said, extension_of_bytes_codec}
 use Rattle.zarrs_codec.specs.Metadata.{extensions_of_chain}
+use Rattle.zarrs_codec.proofs.OptionalMetadata.{bytes_codec_back}
 
 -- the last of the extension points, and those before it
 rest_count : (n m : ℕ) → n ≡ m + 1 → n - 1 ≡ m
@@ -42,14 +42,6 @@ chain_said-parts front last =
 array_codecs_back : (cs : List ArrayToArrayCodec) → array_codecs_said (map extension_of_array_codec (map array_codec_data cs)) ≡ Some (map array_codec_data cs)
 array_codecs_back [] = refl
 array_codecs_back (c ∷ cs) = rw (array_codec_back c, array_codecs_back cs) refl
-
-pub bytes_codec_back : (c : BytesCodecData) → bytes_codec_said (extension_of_bytes_codec c) ≡ Some c
-bytes_codec_back (bytes None) = refl
-bytes_codec_back (bytes (Some Little)) = refl
-bytes_codec_back (bytes (Some Big)) = refl
-bytes_codec_back packbits = refl
-bytes_codec_back vlen_utf8 = refl
-bytes_codec_back vlen_bytes = refl
 
 -- what is written for a chain reads as that chain
 pub chain_back : (cs : List ArrayToArrayCodec) (c : BytesCodecData) → chain_said (extensions_of_chain (record { array_to_array = map array_codec_data cs; array_to_bytes = c })) ≡ Some (record { array_to_array = map array_codec_data cs; array_to_bytes = c })

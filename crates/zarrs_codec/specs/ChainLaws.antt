@@ -5,19 +5,29 @@ use Rattle.zarrs_codec_leaf.specs.Bytes.{endian_of}
 use Rattle.zarrs_codec_leaf.specs.BytesLaws.{bytes-lawful}
 use Rattle.zarrs_codec_leaf.specs.Leaf.{LeafMeaning, IsLawfulLeaf}
 use Rattle.zarrs_codec_leaf.specs.PackBitsLaws.{packbits-lawful}
+use Rattle.zarrs_codec_leaf.specs.VlenLaws.{vlen-lawful}
 use Rattle.zarrs_codec_leaf.specs.VlenStringsLaws.{vlen_utf8-lawful, vlen_bytes-lawful}
 use Rattle.zarrs_codec.specs.declared.chain.ArrayToBytesCodec.{ArrayToBytesCodec}
-use Rattle.zarrs_codec.specs.declared.chain.ArrayToBytesCodec.TheVariants as codec
+use Rattle.zarrs_codec.specs.declared.chain.ArrayToBytesCodec as codec
 use Rattle.zarrs_codec.specs.declared.chain.CodecChain.{CodecChain}
+use Rattle.zarrs_codec.specs.declared.optional.MaskCodec.{MaskCodec}
+use Rattle.zarrs_codec.specs.declared.optional.MaskCodec.TheVariants as mask
 use Rattle.zarrs_codec.specs.Chain.{IsLawfulChain}
-use Rattle.zarrs_codec.specs.Chains.{array_to_array_of, array_to_bytes_of, leaf_meaning, whole_chunk, chain_meaning}
+use Rattle.zarrs_codec.specs.Chains.{array_to_array_of, array_to_bytes_of, leaf_meaning, mask_meaning, whole_chunk, chain_meaning}
+use Rattle.zarrs_codec.specs.OptionalLaws.{optional-lawful}
 use Rattle.zarrs_codec.specs.Through.{through-lawful}
+
+pub mask-lawful : (m : MaskCodec) → IsLawfulLeaf (mask_meaning m)
+mask-lawful (mask.PackBits packbits) = packbits-lawful
+mask-lawful (mask.Bytes bytes) = bytes-lawful (endian_of bytes)
 
 pub leaf-lawful : (c : ArrayToBytesCodec) → IsLawfulLeaf (leaf_meaning c)
 leaf-lawful (codec.Bytes bytes) = bytes-lawful (endian_of bytes)
 leaf-lawful (codec.PackBits packbits) = packbits-lawful
 leaf-lawful (codec.VlenUtf8 texts) = vlen_utf8-lawful
 leaf-lawful (codec.VlenBytes strings) = vlen_bytes-lawful
+leaf-lawful (codec.Vlen strings) = vlen-lawful
+leaf-lawful (codec.Optional' flags p inner) = optional-lawful (mask_meaning flags) (leaf_meaning inner) (mask-lawful flags) (leaf-lawful inner)
 
 whole_chunk-lawful : (leaf : LeafMeaning) → IsLawfulLeaf leaf → IsLawfulChain (whole_chunk leaf)
 whole_chunk-lawful leaf law = record {

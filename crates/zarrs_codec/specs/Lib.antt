@@ -2,6 +2,10 @@ pub mod Chain
 pub mod ChainLaws
 pub mod Chains
 pub mod Metadata
+pub mod Optional
+pub mod OptionalLaws
 pub mod Options
 pub mod Refusals
+pub mod Sole
 pub mod Through
+pub mod VlenMetadata

@@ -13,15 +13,19 @@ ghost use Rattle.zarrs_codec.specs.Chains.{leaf_meaning, whole_chunk, chain_mean
 ghost use Rattle.zarrs_codec.specs.ChainLaws.{chain-lawful};
 ghost use Rattle.zarrs_codec.specs.Through.{through};
 
+use crate::optional::OptionalCodec;
 use crate::options::CodecOptions;
 use crate::traits::ChainTraits;
 use std::alloc::{AllocError, Global};
 use zarrs_codec_array::{ArrayToArrayCodec, decode_array, encode_array, encoded_shape};
-use zarrs_codec_leaf::{BytesCodec, CodecError, PackBitsCodec, VlenBytesCodec, VlenUtf8Codec};
+use zarrs_codec_leaf::{
+    BytesCodec, CodecError, PackBitsCodec, VlenBytesCodec, VlenCodec, VlenUtf8Codec,
+};
 use zarrs_data_type::{ArrayBytes, DataType, FillValue};
 use zarrs_subset::element_count;
 
 /// A codec that makes bytes of cells (Zarr V3 core specification, "Codecs").
+#[cycle(codec)]
 #[derive(Debug, Drop)]
 pub enum ArrayToBytesCodec {
     /// Elements one after another.
@@ -32,6 +36,10 @@ pub enum ArrayToBytesCodec {
     VlenUtf8(VlenUtf8Codec),
     /// Byte strings, each behind its length.
     VlenBytes(VlenBytesCodec),
+    /// Texts or byte strings, behind the index of their offsets.
+    Vlen(VlenCodec),
+    /// Cells of an optional type: a mask, and the inner cells.
+    Optional(OptionalCodec),
 }
 
 /// The codecs that make bytes of bytes: there is none.
@@ -48,7 +56,8 @@ pub struct CodecChain {
 
 impl ArrayToBytesCodec {
     /// Whether the codec takes cells of this type.
-    fn takes(&self, data_type: &DataType) -> bool
+    #[cycle(takes)]
+    pub(crate) fn takes(&self, data_type: &DataType) -> bool
         ensures { result ≡ (leaf_meaning self.now).takes (kind data_type.now) }
     {
         match self {
@@ -56,6 +65,8 @@ impl ArrayToBytesCodec {
             ArrayToBytesCodec::PackBits(codec) => codec.takes(data_type),
             ArrayToBytesCodec::VlenUtf8(codec) => codec.takes(data_type),
             ArrayToBytesCodec::VlenBytes(codec) => codec.takes(data_type),
+            ArrayToBytesCodec::Vlen(codec) => codec.takes(data_type),
+            ArrayToBytesCodec::Optional(codec) => codec.takes(data_type),
         }
     }
 
@@ -81,7 +92,8 @@ impl ArrayToBytesCodec {
     }
 
     /// The bytes of the cells.
-    fn encode_data(
+    #[cycle(encode)]
+    pub(crate) fn encode_data(
         &self,
         alloc: Global,
         bytes: &ArrayBytes<'_>,
@@ -99,17 +111,21 @@ impl ArrayToBytesCodec {
             ArrayToBytesCodec::PackBits(codec) => codec.encode(alloc, bytes, data_type),
             ArrayToBytesCodec::VlenUtf8(codec) => codec.encode(alloc, bytes, data_type),
             ArrayToBytesCodec::VlenBytes(codec) => codec.encode(alloc, bytes, data_type),
+            ArrayToBytesCodec::Vlen(codec) => codec.encode(alloc, bytes, data_type),
+            ArrayToBytesCodec::Optional(codec) => codec.encode(alloc, bytes, data_type),
         }
     }
 
     /// The `count` cells of the bytes.
-    fn decode(
+    #[cycle(decode)]
+    pub(crate) fn decode(
         &self,
         alloc: Global,
         encoded: &[u8],
         data_type: &DataType,
         count: u64,
     ) -> Result<ArrayBytes<'static>, CodecError>
+        requires size { count * cell_size (kind data_type.now) < 2 ^ 64 }
         ensures cells { IfOk result (λ made. cells (kind data_type.now) (data_of made)
             ≡ (leaf_meaning self.now).decoded (kind data_type.now) count encoded.now) }
         ensures some { IfOk result (λ made. IsSome (cells (kind data_type.now) (data_of made))) }
@@ -121,6 +137,8 @@ impl ArrayToBytesCodec {
             ArrayToBytesCodec::PackBits(codec) => codec.decode(alloc, encoded, data_type, count),
             ArrayToBytesCodec::VlenUtf8(codec) => codec.decode(alloc, encoded, data_type, count),
             ArrayToBytesCodec::VlenBytes(codec) => codec.decode(alloc, encoded, data_type, count),
+            ArrayToBytesCodec::Vlen(codec) => codec.decode(alloc, encoded, data_type, count),
+            ArrayToBytesCodec::Optional(codec) => codec.decode(alloc, encoded, data_type, count),
         }
     }
 }

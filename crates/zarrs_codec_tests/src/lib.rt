@@ -9,8 +9,12 @@ mod leaf_codecs;
 #[cfg(test)]
 mod metadata;
 #[cfg(test)]
+mod optional;
+#[cfg(test)]
 mod strings;
 #[cfg(test)]
 mod tests;
 #[cfg(test)]
 mod vlen_codecs;
+#[cfg(test)]
+mod vlen_tests;

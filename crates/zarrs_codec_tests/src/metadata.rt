@@ -124,7 +124,7 @@ fn must_be_bytes_codec(
 ) -> Result<(), Fail> {
     let codec = ArrayToBytesCodec::from_metadata(alloc, &metadata_of(alloc, text)?)?;
     must_be_written(rt, alloc, &codec.create_metadata(alloc)?, written)?;
-    let copy = codec.try_clone();
+    let copy = codec.try_clone(alloc)?;
     must_be_written(rt, alloc, &copy.create_metadata(alloc)?, written)
 }
 
@@ -164,6 +164,64 @@ fn codecs_of_strings_are_read_and_written(rt: HostRuntime) -> Result<(), Fail> {
         must_be_bytes_codec(&rt, rt.alloc(), text, written)?;
     }
     Ok(())
+}
+
+/// `zarrs.vlen` as it is written.
+const VLEN: &str =
+    "{\"configuration\":{\"data_codecs\":[\"bytes\"],\"index_codecs\":[{\"configuration\":{\"endian\":\"little\"},\"name\":\"bytes\"}],\"index_data_type\":\"uint64\"},\"name\":\"zarrs.vlen\"}";
+
+#[test]
+fn the_codec_of_an_index_is_read_and_written(rt: HostRuntime) -> Result<(), Fail> {
+    const ROWS: &[&str] = &[
+        VLEN,
+        "{\"name\":\"vlen\",\"configuration\":{\"index_data_type\":\"uint64\",\"index_location\":\"start\",\"index_codecs\":[{\"name\":\"bytes\",\"configuration\":{\"endian\":\"little\"}}],\"data_codecs\":[{\"name\":\"bytes\"}]}}",
+    ];
+    for text in ROWS {
+        must_be_bytes_codec(&rt, rt.alloc(), text, VLEN)?;
+    }
+    Ok(())
+}
+
+/// Configurations of `zarrs.vlen` that are not taken: each differs from that of `VLEN` in one member.
+#[test]
+fn other_configurations_of_the_codec_of_an_index_are_refused(rt: HostRuntime) -> Result<(), Fail> {
+    const LITTLE_INDEX: &str =
+        "\"index_codecs\":[{\"name\":\"bytes\",\"configuration\":{\"endian\":\"little\"}}]";
+    const DATA: &str = "\"data_codecs\":[\"bytes\"]";
+    const UINT64: &str = "\"index_data_type\":\"uint64\"";
+    const ROWS: &[(&str, &str, &str, &str)] = &[
+        (UINT64, LITTLE_INDEX, DATA, ",\"index_location\":\"end\""),
+        (UINT64, LITTLE_INDEX, DATA, ",\"index_location\":null"),
+        (UINT64, LITTLE_INDEX, DATA, ",\"more\":1"),
+        ("\"index_data_type\":\"uint32\"", LITTLE_INDEX, DATA, ""),
+        (UINT64, "\"index_codecs\":[\"bytes\"]", DATA, ""),
+        (UINT64, "\"index_codecs\":[]", DATA, ""),
+        (
+            UINT64,
+            "\"index_codecs\":[{\"name\":\"bytes\",\"configuration\":{\"endian\":\"big\"}}]",
+            DATA,
+            "",
+        ),
+        (
+            UINT64,
+            LITTLE_INDEX,
+            "\"data_codecs\":[\"bytes\",\"bytes\"]",
+            "",
+        ),
+        (UINT64, LITTLE_INDEX, "\"data_codecs\":\"bytes\"", ""),
+        (UINT64, LITTLE_INDEX, "\"data_codecs\":[\"packbits\"]", ""),
+        (
+            UINT64,
+            LITTLE_INDEX,
+            "\"data_codecs\":[{\"name\":\"bytes\",\"configuration\":{\"endian\":\"little\"}}]",
+            "",
+        ),
+    ];
+    for (index_type, index, data, more) in ROWS {
+        let members = format!(in rt.alloc(); "{index_type},{index},{data}{more}")?;
+        must_be_no_bytes_codec(&rt, rt.alloc(), "zarrs.vlen", &members)?;
+    }
+    must_be_no_bytes_codec(&rt, rt.alloc(), "zarrs.vlen", "")
 }
 
 fn must_be_no_bytes_codec(
@@ -356,7 +414,7 @@ fn metadata_of_no_chain_is_refused(rt: HostRuntime) -> Result<(), Fail> {
 
 /// The codec of a chain that names none has this metadata, for cells of the type of this name.
 fn must_default_to(rt: &impl Abort, alloc: Global, name: &str, text: &str) -> Result<(), Fail> {
-    let codec = default_array_to_bytes_codec(&type_of(alloc, name)?).ok_or("a codec")?;
+    let codec = default_array_to_bytes_codec(alloc, &type_of(alloc, name)?)?;
     must_be_written(rt, alloc, &codec.create_metadata(alloc)?, text)
 }
 
@@ -379,7 +437,93 @@ fn each_type_has_its_default_codec(rt: HostRuntime) -> Result<(), Fail> {
     for (name, text) in ROWS {
         must_default_to(&rt, rt.alloc(), name, text)?;
     }
-    let optional = DataType::Optional(Box::new(rt.alloc(), DataType::String)?);
-    assert!(rt; default_array_to_bytes_codec(&optional).is_none());
+    Ok(())
+}
+
+/// The metadata of `zarrs.optional` with these codecs.
+fn optional_text(alloc: Global, mask: &str, data: &str) -> Result<String, Fail> {
+    Ok(format!(in alloc;
+        "{{\"configuration\":{{\"data_codecs\":[{data}],\"mask_codecs\":[{mask}]}},\"name\":\"zarrs.optional\"}}"
+    )?)
+}
+
+/// The default codec of an optional type of the type of this name, and of an optional type of that one.
+fn must_default_to_optional(
+    rt: &impl Abort,
+    alloc: Global,
+    name: &str,
+    text: &str,
+) -> Result<(), Fail> {
+    let once = DataType::Optional(Box::new(alloc, type_of(alloc, name)?)?);
+    let written = optional_text(alloc, "\"packbits\"", text)?;
+    let codec = default_array_to_bytes_codec(alloc, &once)?;
+    must_be_written(rt, alloc, &codec.create_metadata(alloc)?, &written)?;
+    let twice = DataType::Optional(Box::new(alloc, once)?);
+    let written = optional_text(alloc, "\"packbits\"", &written)?;
+    let codec = default_array_to_bytes_codec(alloc, &twice)?;
+    must_be_written(rt, alloc, &codec.create_metadata(alloc)?, &written)
+}
+
+#[test]
+fn each_optional_type_has_its_default_codec(rt: HostRuntime) -> Result<(), Fail> {
+    const ROWS: &[(&str, &str)] = &[
+        ("uint8", LITTLE),
+        ("string", "\"vlen-utf8\""),
+        ("bytes", "\"vlen-bytes\""),
+    ];
+    for (name, text) in ROWS {
+        must_default_to_optional(&rt, rt.alloc(), name, text)?;
+    }
+    Ok(())
+}
+
+/// These codecs say `zarrs.optional`, under both its names.
+fn must_be_optional(rt: &impl Abort, alloc: Global, mask: &str, data: &str) -> Result<(), Fail> {
+    let written = optional_text(alloc, mask, data)?;
+    must_be_bytes_codec(rt, alloc, &written, &written)?;
+    let text = format!(in alloc;
+        "{{\"name\":\"optional\",\"configuration\":{{\"mask_codecs\":[{mask}],\"data_codecs\":[{data}]}}}}"
+    )?;
+    must_be_bytes_codec(rt, alloc, &text, &written)
+}
+
+#[test]
+fn optional_codecs_are_read_and_written(rt: HostRuntime) -> Result<(), Fail> {
+    const NESTED: &str =
+        "{\"configuration\":{\"data_codecs\":[\"packbits\"],\"mask_codecs\":[\"bytes\"]},\"name\":\"zarrs.optional\"}";
+    const ROWS: &[(&str, &str)] = &[
+        ("\"packbits\"", LITTLE),
+        ("\"bytes\"", "\"packbits\""),
+        (BIG, "\"vlen-utf8\""),
+        ("\"packbits\"", NESTED),
+    ];
+    for (mask, data) in ROWS {
+        must_be_optional(&rt, rt.alloc(), mask, data)?;
+    }
+    Ok(())
+}
+
+#[test]
+fn metadata_of_no_optional_codec_is_refused(rt: HostRuntime) -> Result<(), Fail> {
+    const MEMBERS: &[&str] = &[
+        "",
+        "\"mask_codecs\":[\"packbits\"]",
+        "\"data_codecs\":[\"bytes\"]",
+        "\"mask_codecs\":[],\"data_codecs\":[\"bytes\"]",
+        "\"mask_codecs\":[\"packbits\"],\"data_codecs\":[]",
+        "\"mask_codecs\":[\"packbits\",\"packbits\"],\"data_codecs\":[\"bytes\"]",
+        "\"mask_codecs\":[\"packbits\"],\"data_codecs\":[\"bytes\",\"bytes\"]",
+        "\"mask_codecs\":\"packbits\",\"data_codecs\":[\"bytes\"]",
+        "\"mask_codecs\":[\"packbits\"],\"data_codecs\":\"bytes\"",
+        "\"mask_codecs\":[\"vlen-utf8\"],\"data_codecs\":[\"bytes\"]",
+        "\"mask_codecs\":[1],\"data_codecs\":[\"bytes\"]",
+        "\"mask_codecs\":[\"packbits\"],\"data_codecs\":[\"squeeze\"]",
+        "\"mask_codecs\":[\"packbits\"],\"data_codecs\":[\"sharding_indexed\"]",
+        "\"mask_codecs\":[\"packbits\"],\"data_codecs\":[\"zarrs.optional\"]",
+        "\"mask_codecs\":[\"packbits\"],\"data_codecs\":[\"bytes\"],\"more\":1",
+    ];
+    for members in MEMBERS {
+        must_be_no_bytes_codec(&rt, rt.alloc(), "zarrs.optional", members)?;
+    }
     Ok(())
 }

@@ -86,7 +86,7 @@ fn engine_of(alloc: Global, grid: ChunkGrid, size: u8) -> Result<GridEngine, Fai
     if !data_type.is_fill(fill_value.as_bytes()) {
         return Err("no fill value of the type".into());
     }
-    let codec = default_array_to_bytes_codec(&data_type).ok_or("no codec of the type")?;
+    let codec = default_array_to_bytes_codec(alloc, &data_type)?;
     Ok(Engine::new(
         MemoryStore::new(alloc),
         NodePath::new(alloc, "/")?,

@@ -37,7 +37,7 @@ pub(crate) fn engine_over<S: Drop>(
     if !data_type.is_fill(fill_value.as_bytes()) {
         return Err("no fill value of the type".into());
     }
-    let codec = default_array_to_bytes_codec(&data_type).ok_or("no codec of the type")?;
+    let codec = default_array_to_bytes_codec(alloc, &data_type)?;
     Ok(Engine::new(
         storage,
         NodePath::new(alloc, "/")?,

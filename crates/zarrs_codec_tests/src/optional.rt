@@ -1,0 +1,228 @@
+//! The codec `zarrs.optional`, byte for byte, with ample memory.
+use crate::strings::strings;
+use crate::tests::type_of;
+use std::alloc::Global;
+use std::borrow::CowSlice;
+use std::process::Abort;
+use std::test::Fail;
+use zarrs_codec::{
+    ArrayToBytesCodec, BytesCodec, BytesToBytesCodecs, ChainTraits, CodecChain, CodecError,
+    CodecOptions, MaskCodec, OptionalCodec, PackBitsCodec, VlenUtf8Codec,
+};
+use zarrs_data_type::{ArrayBytes, ArrayBytesOptional, DataType, FillValue};
+
+const PACKED: MaskCodec = MaskCodec::PackBits(PackBitsCodec);
+
+/// Masks, the outermost first, the numbers of one byte under them, and the bytes that they encode to.
+type Row = (&'static [&'static [u8]], &'static [u8], &'static [u8]);
+
+/// The type of this name, made optional so many times.
+fn optional_type(alloc: Global, name: &str, depth: usize) -> Result<DataType, Fail> {
+    let mut data_type = type_of(alloc, name)?;
+    for _ in 0..depth {
+        data_type = DataType::Optional(Box::new(alloc, data_type)?);
+    }
+    Ok(data_type)
+}
+
+/// The chain of this codec under `zarrs.optional` so many times, each with this codec for its mask.
+fn chain_of(
+    alloc: Global,
+    mask: MaskCodec,
+    data: ArrayToBytesCodec,
+    depth: usize,
+) -> Result<CodecChain, Fail> {
+    let mut codec = data;
+    for _ in 0..depth {
+        codec = ArrayToBytesCodec::Optional(OptionalCodec::new(alloc, mask, codec)?);
+    }
+    Ok(CodecChain::new(Vec::new(alloc), codec, BytesToBytesCodecs))
+}
+
+fn numbers() -> ArrayToBytesCodec {
+    ArrayToBytesCodec::Bytes(BytesCodec::little())
+}
+
+/// The data under this mask.
+fn masked(
+    alloc: Global,
+    data: ArrayBytes<'static>,
+    mask: &[u8],
+) -> Result<ArrayBytes<'static>, Fail> {
+    let mask = CowSlice::Owned(Vec::from_slice(alloc, mask)?);
+    let optional = ArrayBytesOptional::new(Box::new(alloc, data)?, mask);
+    Ok(ArrayBytes::Optional(optional.ok().ok_or("a mask")?))
+}
+
+/// Numbers of one byte under these masks, the outermost first.
+fn data_of(alloc: Global, masks: &[&[u8]], bytes: &[u8]) -> Result<ArrayBytes<'static>, Fail> {
+    let mut data = ArrayBytes::new_flen(Vec::from_slice(alloc, bytes)?);
+    for mask in masks.iter().rev() {
+        data = masked(alloc, data, mask)?;
+    }
+    Ok(data)
+}
+
+fn must_have_mask(rt: &impl Abort, data: &ArrayBytes<'_>, mask: &[u8]) {
+    match data {
+        ArrayBytes::Optional(optional) => assert_eq!(rt; optional.mask(), mask),
+        _ => assert!(rt; false),
+    }
+}
+
+/// The cells encode to these bytes, which decode to cells under this mask, of the same bytes.
+fn must_encode(
+    rt: &impl Abort,
+    alloc: Global,
+    chain: &CodecChain,
+    data_type: &DataType,
+    data: &ArrayBytes<'_>,
+    mask: &[u8],
+    encoded: &[u8],
+) -> Result<(), Fail> {
+    let null = FillValue::new(vec![in alloc; 0u8]?);
+    assert!(rt; null.is_value_of(data_type));
+    let shape = [mask.len() as u64];
+    let count = zarrs_subset::element_count(&shape).ok_or("a count")?;
+    assert!(rt; count < 100 && data_type.cell_size() < 100);
+    assert!(rt; data.validate(data_type, count));
+    let options = CodecOptions::default();
+    let made = chain.encode(alloc, data, data_type, &null, &shape, &options)?;
+    assert_eq!(rt; made.as_slice(), encoded);
+    let back = chain.decode(alloc, &made, data_type, &null, &shape)?;
+    must_have_mask(rt, &back, mask);
+    assert!(rt; back.validate(data_type, count));
+    let again = chain.encode(alloc, &back, data_type, &null, &shape, &options)?;
+    assert_eq!(rt; again.as_slice(), encoded);
+    assert!(rt; chain.compact(alloc, &made, &shape)?.is_none());
+    assert!(rt; chain.fits(alloc, data_type, &shape)?);
+    Ok(())
+}
+
+/// Numbers of one byte, made optional so many times, encode to the bytes of their row, and back.
+fn must_encode_each(
+    rt: &impl Abort,
+    alloc: Global,
+    mask: MaskCodec,
+    depth: usize,
+    rows: &[Row],
+) -> Result<(), Fail> {
+    let data_type = optional_type(alloc, "uint8", depth)?;
+    let chain = chain_of(alloc, mask, numbers(), depth)?;
+    for (masks, bytes, encoded) in rows {
+        let data = data_of(alloc, masks, bytes)?;
+        let outermost = masks.first().ok_or("a mask")?;
+        must_encode(rt, alloc, &chain, &data_type, &data, outermost, encoded)?;
+    }
+    Ok(())
+}
+
+#[test]
+fn a_packed_mask_stands_before_the_cells_that_are_some(rt: HostRuntime) -> Result<(), Fail> {
+    const ONE: &[u8] = &[1, 0, 0, 0, 0, 0, 0, 0, 1, 0, 0, 0, 0, 0, 0, 0, 2, 5];
+    const NONE: &[u8] = &[1, 0, 0, 0, 0, 0, 0, 0, 0, 0, 0, 0, 0, 0, 0, 0, 0];
+    const ROWS: &[Row] = &[
+        (&[&[0, 1]], &[0, 5], ONE),
+        (&[&[0, 1]], &[9, 5], ONE),
+        (&[&[0, 0]], &[9, 5], NONE),
+        (&[&[]], &[], &[0; 16]),
+    ];
+    must_encode_each(&rt, rt.alloc(), PACKED, 1, ROWS)
+}
+
+#[test]
+fn a_mask_in_bytes_has_any_endian_or_none(rt: HostRuntime) -> Result<(), Fail> {
+    const ONE: &[u8] = &[2, 0, 0, 0, 0, 0, 0, 0, 1, 0, 0, 0, 0, 0, 0, 0, 0, 1, 5];
+    const ROWS: &[Row] = &[(&[&[0, 1]], &[9, 5], ONE)];
+    let alloc = rt.alloc();
+    must_encode_each(&rt, alloc, MaskCodec::Bytes(BytesCodec::little()), 1, ROWS)?;
+    must_encode_each(&rt, alloc, MaskCodec::Bytes(BytesCodec::big()), 1, ROWS)?;
+    must_encode_each(&rt, alloc, MaskCodec::Bytes(BytesCodec::new(None)), 1, ROWS)
+}
+
+#[test]
+fn optionals_of_optionals_nest(rt: HostRuntime) -> Result<(), Fail> {
+    const SEVEN: &[u8] = &[
+        1, 0, 0, 0, 0, 0, 0, 0, 0x12, 0, 0, 0, 0, 0, 0, 0, 3, 1, 0, 0, 0, 0, 0, 0, 0, 1, 0, 0, 0,
+        0, 0, 0, 0, 1, 7,
+    ];
+    const ONE: &[u8] = &[
+        1, 0, 0, 0, 0, 0, 0, 0, 0x12, 0, 0, 0, 0, 0, 0, 0, 3, 1, 0, 0, 0, 0, 0, 0, 0, 1, 0, 0, 0,
+        0, 0, 0, 0, 1, 1,
+    ];
+    const ROWS: &[Row] = &[
+        (&[&[1, 1, 0], &[1, 0, 0]], &[7, 0, 0], SEVEN),
+        (&[&[1, 1, 0], &[1, 0, 1]], &[7, 8, 9], SEVEN),
+        (&[&[1, 1], &[1, 0]], &[1, 2], ONE),
+    ];
+    must_encode_each(&rt, rt.alloc(), PACKED, 2, ROWS)
+}
+
+#[test]
+fn texts_that_are_some_stand_behind_the_mask(rt: HostRuntime) -> Result<(), Fail> {
+    const ONE: &[u8] = &[
+        1, 0, 0, 0, 0, 0, 0, 0, 9, 0, 0, 0, 0, 0, 0, 0, 1, 1, 0, 0, 0, 1, 0, 0, 0, 97,
+    ];
+    const NONE: &[u8] = &[1, 0, 0, 0, 0, 0, 0, 0, 0, 0, 0, 0, 0, 0, 0, 0, 0];
+    let alloc = rt.alloc();
+    let texts = optional_type(alloc, "string", 1)?;
+    let chain = chain_of(alloc, PACKED, ArrayToBytesCodec::VlenUtf8(VlenUtf8Codec), 1)?;
+    let one = masked(alloc, strings(b"abc", &[0, 1, 3])?, &[1, 0])?;
+    must_encode(&rt, alloc, &chain, &texts, &one, &[1, 0], ONE)?;
+    let none = masked(alloc, strings(b"abc", &[0, 1, 3])?, &[0, 0])?;
+    must_encode(&rt, alloc, &chain, &texts, &none, &[0, 0], NONE)
+}
+
+/// The chain decodes the bytes to no single cell of the type.
+fn must_not_decode(
+    rt: &impl Abort,
+    alloc: Global,
+    chain: &CodecChain,
+    data_type: &DataType,
+    encoded: &[u8],
+) -> Result<(), Fail> {
+    let null = FillValue::new(vec![in alloc; 0u8]?);
+    assert!(rt; null.is_value_of(data_type));
+    assert!(rt; data_type.cell_size() < 100);
+    let made = chain.decode(alloc, encoded, data_type, &null, &[1]);
+    assert!(rt; made.is_err_and(|error| error == CodecError::DoesNotFit));
+    Ok(())
+}
+
+#[test]
+fn foreign_bytes_are_no_optional_cells(rt: HostRuntime) -> Result<(), Fail> {
+    const ROWS: &[&[u8]] = &[
+        &[],
+        &[1, 0, 0, 0, 0, 0, 0, 0, 1, 0, 0, 0, 0, 0, 0],
+        &[
+            255, 255, 255, 255, 255, 255, 255, 255, 0, 0, 0, 0, 0, 0, 0, 0,
+        ],
+        &[
+            255, 255, 255, 255, 255, 255, 255, 255, 1, 0, 0, 0, 0, 0, 0, 0,
+        ],
+        &[1, 0, 0, 0, 0, 0, 0, 0, 1, 0, 0, 0, 0, 0, 0, 0, 0, 5],
+        &[1, 0, 0, 0, 0, 0, 0, 0, 0, 0, 0, 0, 0, 0, 0, 0, 1],
+        &[1, 0, 0, 0, 0, 0, 0, 0, 0, 0, 0, 0, 0, 0, 0, 0, 2],
+        &[1, 0, 0, 0, 0, 0, 0, 0, 1, 0, 0, 0, 0, 0, 0, 0, 1, 5, 5],
+        &[1, 0, 0, 0, 0, 0, 0, 0, 2, 0, 0, 0, 0, 0, 0, 0, 1, 5, 5],
+    ];
+    let alloc = rt.alloc();
+    let data_type = optional_type(alloc, "uint8", 1)?;
+    let chain = chain_of(alloc, PACKED, numbers(), 1)?;
+    for encoded in ROWS {
+        must_not_decode(&rt, alloc, &chain, &data_type, encoded)?;
+    }
+    Ok(())
+}
+
+#[test]
+fn only_optional_types_of_what_the_data_codec_takes_fit(rt: HostRuntime) -> Result<(), Fail> {
+    const ROWS: &[(&str, usize)] = &[("uint8", 0), ("string", 1), ("uint8", 2)];
+    let alloc = rt.alloc();
+    let chain = chain_of(alloc, PACKED, numbers(), 1)?;
+    for (name, depth) in ROWS {
+        let data_type = optional_type(alloc, name, *depth)?;
+        assert!(rt; !chain.fits(alloc, &data_type, &[1])?);
+    }
+    Ok(())
+}
