@@ -9,3 +9,4 @@ pub use Rattle.zarrs_types.proofs.Sizes
 pub mod ElementCells
 pub mod StringCells
 pub mod FlagCells
+pub mod OptionCells

@@ -1,6 +1,6 @@
 -- Why values of Rust and cells are refused.
-use Rattle.std.specs.Prelude.{◌≡◌, Bool, true, false, List, Option, None}
-use Rattle.zarrs_types.specs.Cell.{Cell}
+use Rattle.std.specs.Prelude.{◌≡◌, Bool, true, false, List, Option, None, Some}
+use Rattle.zarrs_types.specs.Cell.{Cell, none, some}
 use Rattle.zarrs_data_type.specs.declared.error.ElementError.{ElementError}
 use Rattle.zarrs_data_type.specs.declared.error.ElementError.TheVariants.{IncompatibleElementType, OutOfMemory}
 
@@ -13,3 +13,8 @@ RefusesElement served OutOfMemory = Unit {0}
 abbrev pub RefusesCells : Bool → Option (List Cell) → ElementError → Type 0
 RefusesCells served cs IncompatibleElementType = served ≡ true → cs ≡ None
 RefusesCells served cs OutOfMemory = Unit {0}
+
+-- the cell of a value that may be absent: none, or some of the value's cell
+abbrev pub option_cell : {T : Type 0} → (T → Cell) → Option T → Cell
+option_cell cell None = none
+option_cell cell (Some x) = some (cell x)

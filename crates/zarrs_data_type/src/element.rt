@@ -14,10 +14,13 @@ use std::alloc::Global;
 use zarrs_cells::ArrayBytes;
 use zarrs_types::DataType;
 
+mod copies;
 mod flags;
 mod numbers;
+mod options;
 mod strings;
 
+use copies::copied;
 use numbers::{number_data, number_list};
 
 /// A value of Rust that stands for a cell.
@@ -43,6 +46,20 @@ pub trait Element: Drop {
     ) -> Result<ArrayBytes<'static>, ElementError>
         ensures cells { IfOk result (λ made. cells (kind data_type.now) (data_of made)
             ≡ Some (map cell elements.now)) }
+        ensures served { OnOk result (serves (kind data_type.now) ≡ true) }
+        ensures refused { IfErr result (RefusesElement (serves (kind data_type.now))) };
+
+    /// Data whose cells are these values, which are lent one by one.
+    ///
+    /// # Errors
+    /// `IncompatibleElementType`: the values are not those of the data type. `OutOfMemory` may come at any time.
+    fn lent_to_array_bytes(
+        alloc: Global,
+        data_type: &DataType,
+        elements: &[&Self],
+    ) -> Result<ArrayBytes<'static>, ElementError>
+        ensures cells { IfOk result (λ made. cells (kind data_type.now) (data_of made)
+            ≡ Some (map cell (map (λ element. element.now) elements.now))) }
         ensures served { OnOk result (serves (kind data_type.now) ≡ true) }
         ensures refused { IfErr result (RefusesElement (serves (kind data_type.now))) };
 }
@@ -85,6 +102,15 @@ impl Element for u8 {
         }
         Ok(number_data(alloc, data_type, elements)?)
     }
+
+    fn lent_to_array_bytes(
+        alloc: Global,
+        data_type: &DataType,
+        elements: &[&u8],
+    ) -> Result<ArrayBytes<'static>, ElementError> {
+        let numbers = copied(alloc, elements)?;
+        <u8 as Element>::to_array_bytes(alloc, data_type, &numbers)
+    }
 }
 
 impl ElementOwned for u8 {
@@ -118,6 +144,15 @@ impl Element for u16 {
             return Err(ElementError::IncompatibleElementType);
         }
         Ok(number_data(alloc, data_type, elements)?)
+    }
+
+    fn lent_to_array_bytes(
+        alloc: Global,
+        data_type: &DataType,
+        elements: &[&u16],
+    ) -> Result<ArrayBytes<'static>, ElementError> {
+        let numbers = copied(alloc, elements)?;
+        <u16 as Element>::to_array_bytes(alloc, data_type, &numbers)
     }
 }
 
@@ -153,6 +188,15 @@ impl Element for u32 {
         }
         Ok(number_data(alloc, data_type, elements)?)
     }
+
+    fn lent_to_array_bytes(
+        alloc: Global,
+        data_type: &DataType,
+        elements: &[&u32],
+    ) -> Result<ArrayBytes<'static>, ElementError> {
+        let numbers = copied(alloc, elements)?;
+        <u32 as Element>::to_array_bytes(alloc, data_type, &numbers)
+    }
 }
 
 impl ElementOwned for u32 {
@@ -186,6 +230,15 @@ impl Element for u64 {
             return Err(ElementError::IncompatibleElementType);
         }
         Ok(number_data(alloc, data_type, elements)?)
+    }
+
+    fn lent_to_array_bytes(
+        alloc: Global,
+        data_type: &DataType,
+        elements: &[&u64],
+    ) -> Result<ArrayBytes<'static>, ElementError> {
+        let numbers = copied(alloc, elements)?;
+        <u64 as Element>::to_array_bytes(alloc, data_type, &numbers)
     }
 }
 
@@ -221,6 +274,15 @@ impl Element for i8 {
         }
         Ok(number_data(alloc, data_type, elements)?)
     }
+
+    fn lent_to_array_bytes(
+        alloc: Global,
+        data_type: &DataType,
+        elements: &[&i8],
+    ) -> Result<ArrayBytes<'static>, ElementError> {
+        let numbers = copied(alloc, elements)?;
+        <i8 as Element>::to_array_bytes(alloc, data_type, &numbers)
+    }
 }
 
 impl ElementOwned for i8 {
@@ -254,6 +316,15 @@ impl Element for i16 {
             return Err(ElementError::IncompatibleElementType);
         }
         Ok(number_data(alloc, data_type, elements)?)
+    }
+
+    fn lent_to_array_bytes(
+        alloc: Global,
+        data_type: &DataType,
+        elements: &[&i16],
+    ) -> Result<ArrayBytes<'static>, ElementError> {
+        let numbers = copied(alloc, elements)?;
+        <i16 as Element>::to_array_bytes(alloc, data_type, &numbers)
     }
 }
 
@@ -289,6 +360,15 @@ impl Element for i32 {
         }
         Ok(number_data(alloc, data_type, elements)?)
     }
+
+    fn lent_to_array_bytes(
+        alloc: Global,
+        data_type: &DataType,
+        elements: &[&i32],
+    ) -> Result<ArrayBytes<'static>, ElementError> {
+        let numbers = copied(alloc, elements)?;
+        <i32 as Element>::to_array_bytes(alloc, data_type, &numbers)
+    }
 }
 
 impl ElementOwned for i32 {
@@ -322,6 +402,15 @@ impl Element for i64 {
             return Err(ElementError::IncompatibleElementType);
         }
         Ok(number_data(alloc, data_type, elements)?)
+    }
+
+    fn lent_to_array_bytes(
+        alloc: Global,
+        data_type: &DataType,
+        elements: &[&i64],
+    ) -> Result<ArrayBytes<'static>, ElementError> {
+        let numbers = copied(alloc, elements)?;
+        <i64 as Element>::to_array_bytes(alloc, data_type, &numbers)
     }
 }
 

@@ -7,6 +7,8 @@ mod elements;
 #[cfg(test)]
 mod metadata;
 #[cfg(test)]
+mod options;
+#[cfg(test)]
 mod parts;
 #[cfg(test)]
 mod tests;

@@ -7,6 +7,7 @@ ghost use Rattle.zarrs_types.specs.Cell.{bytes};
 ghost use Rattle.zarrs_types.specs.Kind as type;
 ghost use Rattle.zarrs_types.specs.Same.{kind_eq};
 
+use super::copies::copied;
 use super::{Element, ElementOwned};
 use crate::error::ElementError;
 use std::alloc::{AllocError, Global};
@@ -58,6 +59,15 @@ impl Element for bool {
         }
         let bytes = flag_bytes(alloc, elements)?;
         Ok(ArrayBytes::new_flen(bytes))
+    }
+
+    fn lent_to_array_bytes(
+        alloc: Global,
+        data_type: &DataType,
+        elements: &[&bool],
+    ) -> Result<ArrayBytes<'static>, ElementError> {
+        let flags = copied(alloc, elements)?;
+        <bool as Element>::to_array_bytes(alloc, data_type, &flags)
     }
 }
 

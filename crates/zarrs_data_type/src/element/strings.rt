@@ -8,6 +8,7 @@ ghost use Rattle.zarrs_types.specs.Kind.{kind};
 ghost use Rattle.zarrs_types.specs.Kind as type;
 ghost use Rattle.zarrs_types.specs.Same.{kind_eq};
 
+use super::copies::copied;
 use super::{Element, ElementOwned};
 use crate::error::ElementError;
 use std::alloc::{AllocError, Global};
@@ -38,9 +39,35 @@ fn joined_texts(alloc: Global, texts: &[&str]) -> Result<VariableLengthBuilder, 
     Ok(strings)
 }
 
+/// The texts one after another, which are lent one by one.
+fn joined_lent_strings(
+    alloc: Global,
+    texts: &[&String],
+) -> Result<VariableLengthBuilder, AllocError>
+    ensures strings { IfOk result (λ made. made ≡ map (λ text. string_bytes text.now) texts.now) }
+    ensures texts { IfOk result (λ made. list_all (λ s. is_utf8 s) made ≡ true) }
+{
+    let mut strings = VariableLengthBuilder::with_capacity(alloc, texts.len(), 0)?;
+    for text in texts {
+        strings.push(text.as_str().as_bytes())?;
+    }
+    Ok(strings)
+}
+
 /// The byte strings one after another.
 fn joined_bytes(alloc: Global, lists: &[Vec<u8>]) -> Result<VariableLengthBuilder, AllocError>
     ensures { IfOk result (λ made. made ≡ map (λ b. b.items) lists.now) }
+{
+    let mut strings = VariableLengthBuilder::with_capacity(alloc, lists.len(), 0)?;
+    for bytes in lists {
+        strings.push(bytes.as_slice())?;
+    }
+    Ok(strings)
+}
+
+/// The byte strings one after another, which are lent one by one.
+fn joined_lent_bytes(alloc: Global, lists: &[&Vec<u8>]) -> Result<VariableLengthBuilder, AllocError>
+    ensures { IfOk result (λ made. made ≡ map (λ b. b.now.items) lists.now) }
 {
     let mut strings = VariableLengthBuilder::with_capacity(alloc, lists.len(), 0)?;
     for bytes in lists {
@@ -101,6 +128,18 @@ impl Element for String {
         let strings = joined_strings(alloc, elements)?;
         Ok(ArrayBytes::Variable(strings.finish()))
     }
+
+    fn lent_to_array_bytes(
+        alloc: Global,
+        data_type: &DataType,
+        elements: &[&String],
+    ) -> Result<ArrayBytes<'static>, ElementError> {
+        if !<String as Element>::serves(data_type) {
+            return Err(ElementError::IncompatibleElementType);
+        }
+        let strings = joined_lent_strings(alloc, elements)?;
+        Ok(ArrayBytes::Variable(strings.finish()))
+    }
 }
 
 impl ElementOwned for String {
@@ -144,6 +183,15 @@ impl Element for &str {
         let strings = joined_texts(alloc, elements)?;
         Ok(ArrayBytes::Variable(strings.finish()))
     }
+
+    fn lent_to_array_bytes(
+        alloc: Global,
+        data_type: &DataType,
+        elements: &[&&str],
+    ) -> Result<ArrayBytes<'static>, ElementError> {
+        let texts = copied(alloc, elements)?;
+        <&str as Element>::to_array_bytes(alloc, data_type, &texts)
+    }
 }
 
 impl Element for Vec<u8> {
@@ -164,6 +212,18 @@ impl Element for Vec<u8> {
             return Err(ElementError::IncompatibleElementType);
         }
         let strings = joined_bytes(alloc, elements)?;
+        Ok(ArrayBytes::Variable(strings.finish()))
+    }
+
+    fn lent_to_array_bytes(
+        alloc: Global,
+        data_type: &DataType,
+        elements: &[&Vec<u8>],
+    ) -> Result<ArrayBytes<'static>, ElementError> {
+        if !<Vec<u8> as Element>::serves(data_type) {
+            return Err(ElementError::IncompatibleElementType);
+        }
+        let strings = joined_lent_bytes(alloc, elements)?;
         Ok(ArrayBytes::Variable(strings.finish()))
     }
 }
