@@ -31,3 +31,9 @@ pub record SameBox (t u : ArrayBytesDecodeIntoTarget) : Type 0 where
 -- every byte and every mask of a position outside the box stays
 abbrev pub StaysOutside : ArrayBytesDecodeIntoTarget → ArrayBytesDecodeIntoTarget → Type 0
 StaysOutside t u = KeepsOutside t.cell_size (parent_box t) (target_box t) (data_of_target t) (data_of_target u)
+
+-- two targets over one parent, with the same cell size and depth
+pub record SameParent (t u : ArrayBytesDecodeIntoTarget) : Type 0 where
+  pub cell_size : u.cell_size ≡ t.cell_size
+  pub depth : u.depth ≡ t.depth
+  pub parent_shape : u.parent_shape.now ≡ t.parent_shape.now

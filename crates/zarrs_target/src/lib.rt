@@ -3,4 +3,4 @@
 
 mod target;
 
-pub use target::{ArrayBytesDecodeIntoTarget, copy_fill_value_into};
+pub use target::{ArrayBytesDecodeIntoTarget, SubdividedTarget, copy_fill_value_into};

@@ -1,18 +1,20 @@
 //! A box of an array of cells that a caller lends to be written.
 ghost use Rattle.std.specs.Prelude.{◌≡◌, ◌↔◌, ◌*◌, ◌==◌, true, IfOk, IsOk, IsTrue, IsSome, OnErr, OnOk, length};
-ghost use Rattle.std.specs.Prelude.{◌≤◌, drop, slice_index, take};
+ghost use Rattle.std.specs.Prelude.{◌≤◌, [], drop, slice_index, take};
 ghost use Rattle.zarrs_cells.specs.ArrayData.{data_of};
 ghost use Rattle.zarrs_cells.specs.Cells.{fits};
 ghost use Rattle.zarrs_cells.specs.Parts.{TakesAt, TakesEach};
 ghost use Rattle.zarrs_subset.specs.Boxes.{position_count};
 ghost use Rattle.zarrs_subset.specs.Pieces.{piece_at};
-ghost use Rattle.zarrs_subset.specs.Regions.{box_of, box_at_origin};
+ghost use Rattle.zarrs_subset.specs.Regions.{LiesInShape, box_of, box_at_origin};
 ghost use Rattle.zarrs_types.specs.Cell.{fill_cell, fill_of};
 ghost use Rattle.zarrs_types.specs.Kind.{Kind, kind};
+ghost use Rattle.zarrs_variable.specs.StringParts.{LiesInBox};
 ghost use Rattle.zarrs_target.specs.Targets.{FillsBox, HasLevels, IsTargetOver, TakesLevels};
 ghost use Rattle.zarrs_target.specs.Targets.{depth_of, masked, takes_type};
 
 use std::alloc::{AllocError, Global};
+use std::mem;
 use zarrs_cells::ArrayBytes;
 use zarrs_data_type::ArrayBytesFixedDisjointViewCreateError;
 use zarrs_subset::{ArraySubset, ArraySubsetTraits, element_count, place_part};
@@ -156,9 +158,73 @@ impl<'a, 'm, 'r> ArrayBytesDecodeIntoTarget<'a, 'm, 'r> {
     }
 }
 
+/// A smaller box of a target, with the target's slices. `rejoin` takes it back: it cannot be dropped.
+pub struct SubdividedTarget<'a, 'm, 'r> {
+    /// The target whose box is the smaller one.
+    pub target: ArrayBytesDecodeIntoTarget<'a, 'm, 'r>,
+}
+
 impl<'a, 'm, 'r> ArrayBytesDecodeIntoTarget<'a, 'm, 'r> {
-    ghost use Rattle.zarrs_target.specs.States.{IsTarget, SameBox, StaysOutside, data_of_target};
-    ghost use Rattle.zarrs_target.specs.States.{parent_box, target_box};
+    ghost use Rattle.zarrs_target.specs.States.{IsTarget, SameBox, SameParent, StaysOutside};
+    ghost use Rattle.zarrs_target.specs.States.{data_of_target, parent_box, target_box};
+
+    /// Lends the box `region` of the same parent, whose start and end lie in this target's box. Until `rejoin` takes it
+    /// back, this target has no byte and no mask.
+    pub fn subdivide<'s>(&mut self, region: &'s ArraySubset) -> SubdividedTarget<'a, 'm, 's>
+    where
+        'r: 's,
+        requires target { IsTarget self.old }
+        requires inside { LiesInBox (box_of region.now) (target_box self.old) }
+        ensures target { IsTarget result.target }
+        ensures same_bytes { result.target.bytes.ghost_name ≡ self.old.bytes.ghost_name }
+        ensures same_masks { result.target.masks.ghost_name ≡ self.old.masks.ghost_name }
+        ensures bytes { result.target.bytes.now ≡ self.old.bytes.now }
+        ensures masks { result.target.masks.now ≡ self.old.masks.now }
+        ensures region { result.target.region.now ≡ region.now }
+        ensures same_parent { SameParent self.old result.target }
+        ensures same_box { SameBox self.old self.new }
+        ensures inside { LiesInShape (target_box self.new) self.new.parent_shape.now }
+        ensures lent_bytes { self.new.bytes.now ≡ [] }
+        ensures lent_masks { self.new.masks.now ≡ [] }
+    {
+        let bytes = mem::replace(&mut self.bytes, &mut []);
+        let masks = mem::replace(&mut self.masks, &mut []);
+        SubdividedTarget {
+            target: ArrayBytesDecodeIntoTarget {
+                bytes,
+                masks,
+                cell_size: self.cell_size,
+                depth: self.depth,
+                parent_shape: self.parent_shape,
+                region,
+            },
+        }
+    }
+
+    /// Takes back a smaller box that this target lent: this target has what was written into it.
+    pub fn rejoin(&mut self, part: SubdividedTarget<'a, 'm, '_>)
+        requires target { IsTarget part.target }
+        requires parent { SameParent self.old part.target }
+        requires inside { LiesInShape (target_box self.old) self.old.parent_shape.now }
+        ensures target { IsTarget self.new }
+        ensures same_bytes { self.new.bytes.ghost_name ≡ part.entry.target.bytes.ghost_name }
+        ensures same_masks { self.new.masks.ghost_name ≡ part.entry.target.masks.ghost_name }
+        ensures bytes { self.new.bytes.now ≡ part.entry.target.bytes.now }
+        ensures masks { self.new.masks.now ≡ part.entry.target.masks.now }
+        ensures same_box { SameBox self.old self.new }
+    {
+        let SubdividedTarget { target } = part;
+        let ArrayBytesDecodeIntoTarget {
+            bytes,
+            masks,
+            cell_size: _,
+            depth: _,
+            parent_shape: _,
+            region: _,
+        } = target;
+        self.bytes = bytes;
+        self.masks = masks;
+    }
 
     /// Whether the cells of the type have the target's size and as many masks.
     pub fn takes_type(&self, data_type: &DataType) -> bool

@@ -1,6 +1,7 @@
 //! Targets that are made, written and filled, with ample memory.
 
-ghost use Rattle.zarrs_target.specs.States.{IsTarget};
+ghost use Rattle.std.specs.Prelude.{◌≡◌};
+ghost use Rattle.zarrs_target.specs.States.{IsTarget, SameBox};
 
 use std::alloc::Global;
 use std::borrow::CowSlice;
@@ -8,6 +9,7 @@ use std::process::Abort;
 use std::test::Fail;
 use zarrs_data_type::{
     ArrayBytes, ArrayBytesFixedDisjointViewCreateError, ArrayBytesOptional, DataType, FillValue,
+    lies_in_box,
 };
 use zarrs_subset::ArraySubset;
 use zarrs_target::{ArrayBytesDecodeIntoTarget, copy_fill_value_into};
@@ -127,6 +129,81 @@ fn masks_are_written(rt: HostRuntime) -> Result<(), Fail> {
     must_be(&rt, masks.as_slice(), &[7, 1, 1, 8, 0, 1]);
     must_be(&rt, &bytes[..2], &[9, 9]);
     must_be(&rt, &bytes[4..], &[3, 4]);
+    Ok(())
+}
+
+/// Writes the cells of the target's box.
+fn write(
+    alloc: Global,
+    target: &mut ArrayBytesDecodeIntoTarget<'_, '_, '_>,
+    data: &ArrayBytes<'_>,
+) -> Result<(), Fail>
+    requires { IsTarget target.old }
+    ensures target { IsTarget target.new }
+    ensures same_bytes { target.new.bytes.ghost_name ≡ target.old.bytes.ghost_name }
+    ensures same_masks { target.new.masks.ghost_name ≡ target.old.masks.ghost_name }
+    ensures same_box { SameBox target.old target.new }
+{
+    if !target.takes_data(data) {
+        return Err("cells of another number".into());
+    }
+    target.write_cells(alloc, data)?;
+    Ok(())
+}
+
+/// Writes the cells of a smaller box.
+fn write_part(
+    alloc: Global,
+    target: &mut ArrayBytesDecodeIntoTarget<'_, '_, '_>,
+    region: &ArraySubset,
+    data: &ArrayBytes<'_>,
+) -> Result<(), Fail>
+    requires { IsTarget target.old }
+    ensures target { IsTarget target.new }
+    ensures same_bytes { target.new.bytes.ghost_name ≡ target.old.bytes.ghost_name }
+    ensures same_masks { target.new.masks.ghost_name ≡ target.old.masks.ghost_name }
+    ensures same_box { SameBox target.old target.new }
+{
+    if !lies_in_box(region, target.region) {
+        return Err("a box outside the target's".into());
+    }
+    let mut part = target.subdivide(region);
+    let written = write(alloc, &mut part.target, data);
+    target.rejoin(part);
+    written
+}
+
+#[test]
+fn a_box_is_written_by_two_halves(rt: HostRuntime) -> Result<(), Fail> {
+    let alloc = rt.alloc();
+    let region = box_at(alloc, &[0, 1], &[2, 2])?;
+    let left = box_at(alloc, &[0, 1], &[2, 1])?;
+    let right = box_at(alloc, &[0, 2], &[2, 1])?;
+    let mut bytes = [9u8; 6];
+    let mut masks = [7u8; 6];
+    let mut target = ArrayBytesDecodeIntoTarget::new_optional(
+        &mut bytes,
+        1,
+        &mut masks,
+        1,
+        &[2, 3],
+        &region,
+    )?;
+    write_part(
+        alloc,
+        &mut target,
+        &left,
+        &masked(alloc, &[&[1, 0]], &[1, 2])?,
+    )?;
+    write_part(
+        alloc,
+        &mut target,
+        &right,
+        &masked(alloc, &[&[0, 1]], &[3, 4])?,
+    )?;
+    drop(target);
+    must_be(&rt, masks.as_slice(), &[7, 1, 0, 7, 0, 1]);
+    must_be(&rt, bytes.as_slice(), &[9, 1, 3, 9, 2, 4]);
     Ok(())
 }
 
