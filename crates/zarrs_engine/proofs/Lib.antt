@@ -11,3 +11,5 @@ mod PartWrites
 mod RegionFronts
 mod RegionArguments
 mod PartStores
+mod Comparisons
+mod PartialDecoders

@@ -54,7 +54,8 @@ module _ (layout : Layout) (chunks : List (List ℕ)) where
   pub gone_none : (state : StoreState) → Gone layout chunks 0 state state
   gone_none state = record { erases = erases_none layout state; untouched = λ none. refl; makes = makes_none state }
 
-  next_front : (done : ℕ) (index : List ℕ) → slice_get chunks done ≡ Some index → take (done + 1) chunks ≡ take done chunks ++ index ∷ []
+  -- one more of them
+  pub next_front : (done : ℕ) (index : List ℕ) → slice_get chunks done ≡ Some index → take (done + 1) chunks ≡ take done chunks ++ index ∷ []
   next_front done index at =
       take_more chunks done index (slice_get_within chunks done index at)
       ∙ ap (λ x. take done chunks ++ x ∷ []) (get_or_from_slice_get chunks done index index at)

@@ -27,6 +27,7 @@ pub struct Engine<S, G: ChunkGridTraits, K: ChunkKeyEncodingTraits, C: ChainTrai
 }
 
 impl<S, G: ChunkGridTraits, K: ChunkKeyEncodingTraits, C: ChainTraits> Engine<S, G, K, C> {
+    ghost use Rattle.std.specs.Borrow.{sem};
     ghost use Rattle.std.specs.Prelude.{◌≡◌, IsSome};
     ghost use Rattle.zarrs_data_type.specs.Kind.{kind};
     ghost use Rattle.zarrs_data_type.specs.Cell.{fill_cell};
@@ -34,6 +35,7 @@ impl<S, G: ChunkGridTraits, K: ChunkKeyEncodingTraits, C: ChainTraits> Engine<S,
     ghost use Rattle.zarrs_layout.specs.Layouts.{layout_of_parts};
     ghost use Rattle.zarrs_engine.specs.Engine.{layout_of, the_store, path_of, grid_of, keys_of};
     ghost use Rattle.zarrs_engine.specs.Engine.{chain_of, data_type_of, fill_value_of};
+    ghost use Rattle.zarrs_engine.specs.Lending.{LendsStore};
 
     /// An engine over the store, for the array at the path that is cut by the grid, whose chunks lie at the keys of the
     /// encoding and are turned into bytes by the chain. The bytes of the fill value are a value of the data type.
@@ -73,6 +75,15 @@ impl<S, G: ChunkGridTraits, K: ChunkKeyEncodingTraits, C: ChainTraits> Engine<S,
         ensures { result.now ≡ the_store self.now }
     {
         &self.storage
+    }
+
+    /// Lends the store, for a caller that changes it. The parts of the engine stay.
+    pub fn storage_mut(&mut self) -> &mut S
+        ensures* writes_back { sem 𝓛 (LendsStore S.row G.row K.row C.row G.ChunkGridTraits
+            K.ChunkKeyEncodingTraits C.ChainTraits self.entry result) }
+        ensures value { result.now ≡ the_store self.old }
+    {
+        &mut self.storage
     }
 
     /// What an engine is beside its store.

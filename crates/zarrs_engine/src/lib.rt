@@ -1,9 +1,13 @@
 //! The engine: the calls of an array over any store, chunk grid, encoding of chunk keys and chain of codecs.
 #![tactic(auto)]
 
+mod comparison;
 mod engine;
+mod partial_decoder;
 
+pub use comparison::chunks_equal;
 pub use engine::{Engine, layouts_are_lawful, replay};
+pub use partial_decoder::ArrayPartialDecoder;
 pub use zarrs_steps::{ArrayError, Call, Reply};
 
 /// Laws of steps, of runs and of canonical stores.

@@ -1,8 +1,12 @@
-//! Tests of the engine, of its reads into targets and of the laws of calls.
+//! Tests of the engine, of its reads into targets, of partial decoders, of comparisons and of the laws of calls.
 #![tactic(auto)]
 
 #[cfg(test)]
+mod comparisons;
+#[cfg(test)]
 mod encoded;
+#[cfg(test)]
+mod partial_decoders;
 #[cfg(test)]
 mod ranges;
 #[cfg(test)]

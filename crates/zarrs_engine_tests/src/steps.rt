@@ -10,12 +10,25 @@ use zarrs_codec::{
 use zarrs_data_type::{ArrayBytes, DataType, FillValue};
 use zarrs_engine::{ArrayError, Call, Engine, Reply, replay};
 use zarrs_keys::{ChunkKeyEncoding, ChunkKeySeparator, NodePath};
-use zarrs_storage::{MemoryStore, StorageError, StoreKey};
+use zarrs_storage::{Bytes, MemoryStore, StorageError, StoreKey, WritableStorageTraits};
 use zarrs_subset::{ArraySubset, ArraySubsetError};
 
 pub(crate) type EngineOver<S> = Engine<S, RegularChunkGrid, ChunkKeyEncoding, CodecChain>;
 
 pub(crate) type MemoryEngine = EngineOver<MemoryStore>;
+
+/// A key, and the bytes at it.
+pub(crate) type Value = (&'static str, &'static [u8]);
+
+/// A store with these values.
+pub(crate) fn store_of(alloc: Global, values: &[Value]) -> Result<MemoryStore, Fail> {
+    let mut storage = MemoryStore::new(alloc);
+    for (key, bytes) in values {
+        let key = StoreKey::new(alloc, key)?;
+        storage.set(alloc, &key, Bytes::from_static(bytes))?;
+    }
+    Ok(storage)
+}
 
 /// An array of bytes at `/` of this shape, in chunks of that shape, over the store.
 pub(crate) fn bytes_engine<S: Drop>(
@@ -106,11 +119,15 @@ enum Got {
     Counts(usize, u64, u64),
 }
 
-fn region(alloc: Global, start: &[u64], shape: &[u64]) -> Result<ArraySubset, ArraySubsetError> {
+pub(crate) fn region(
+    alloc: Global,
+    start: &[u64],
+    shape: &[u64],
+) -> Result<ArraySubset, ArraySubsetError> {
     ArraySubset::new_with_start_shape(start.to_vec(alloc)?, shape.to_vec(alloc)?)
 }
 
-fn no_chunk(alloc: Global, indices: &[u64]) -> ArrayError {
+pub(crate) fn no_chunk(alloc: Global, indices: &[u64]) -> ArrayError {
     match indices.to_vec(alloc) {
         Ok(indices) => ArrayError::InvalidChunkGridIndicesError(indices),
         Err(error) => error.into(),

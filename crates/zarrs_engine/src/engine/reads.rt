@@ -26,7 +26,7 @@ impl<
     ghost use Rattle.zarrs_layout.specs.Parts.{RefusesValue};
 
     /// The bytes that are present at the key of the chunk with these indices.
-    pub(super) fn stored_bytes(
+    pub(crate) fn stored_bytes(
         &self,
         alloc: Global,
         chunk_indices: &[u64],

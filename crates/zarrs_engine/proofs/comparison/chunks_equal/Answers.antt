@@ -1,0 +1,108 @@
+use Rattle.std.proofs.Common.{◌≡◌, ◌∙◌, ◌+◌, Some, slice_get, length, rules, refl, subst, sym, inl, arith}
+use Rattle.std.proofs.lemmas.Bool.{false≢true}
+use Rattle.std.proofs.lemmas.Option.{slice_get_within}
+use Rattle.zarrs_subset.specs.Regions.{Box, box_of, positions}
+use Rattle.zarrs_subset.specs.Walks.{walk_number}
+use Rattle.zarrs_subset.proofs.Positions.{length-positions}
+use Rattle.zarrs_steps.specs.Refusals.{refusal_of}
+use Rattle.zarrs_engine.specs.Engine.{layout_of}
+use Rattle.zarrs_engine.proofs.Comparisons.{comparison_refused, same_all, same_more}
+use Rattle.zarrs_engine.proofs.Encoded.{on_error}
+use Rattle.zarrs_engine.proofs.Ranges.{range_length}
+use Rattle.zarrs_engine.proofs.RegionSteps.{at_among}
+use Rattle.zarrs_engine.proofs.comparison.chunks_equal.Goals as goal
+
+pub returns-then-is_err-clause-refused : goal.returns-then-is_err-clause-refused
+returns-then-is_err-clause-refused g c =
+    let range = box_of c.args.chunks.now in
+    let count = length-positions range.start range.shape c.args.chunks.now.same_length in
+    let many = on_error c.num_elements.result c.num_elements.ensures.refused (sym c.is_err.ensures.value ∙ c.if-is_err.true) in
+    inl (omega arith)
+
+pub chunk_equal-requires-clause-dimensions_a : goal.chunk_equal-requires-clause-dimensions_a
+chunk_equal-requires-clause-dimensions_a g c =
+    let range = box_of c.args.chunks.now in
+    let n = walk_number c.loop-walk.walk in
+    let index = c.current.result.now in
+    let at = subst (λ (b : Box). slice_get (positions b) n ≡ Some index) c.loop-walk.invariant.same_box c.current.ensures in
+    range_length range c.args.chunks.now.same_length n index at ∙ c.requires.dimensions_a
+
+pub chunk_equal-requires-clause-dimensions_b : goal.chunk_equal-requires-clause-dimensions_b
+chunk_equal-requires-clause-dimensions_b g c =
+    let range = box_of c.args.chunks.now in
+    let n = walk_number c.loop-walk.walk in
+    let index = c.current.result.now in
+    let at = subst (λ (b : Box). slice_get (positions b) n ≡ Some index) c.loop-walk.invariant.same_box c.current.ensures in
+    range_length range c.args.chunks.now.same_length n index at ∙ c.requires.dimensions_b
+
+pub chunk_equal-requires-clause-ask_a : goal.chunk_equal-requires-clause-ask_a
+chunk_equal-requires-clause-ask_a g c =
+    let chunks = positions (box_of c.args.chunks.now) in
+    let n = walk_number c.loop-walk.walk in
+    let index = c.current.result.now in
+    let at = subst (λ (b : Box). slice_get (positions b) n ≡ Some index) c.loop-walk.invariant.same_box c.current.ensures in
+    c.requires.ask_a index (at_among chunks n index at)
+
+pub chunk_equal-requires-clause-ask_b : goal.chunk_equal-requires-clause-ask_b
+chunk_equal-requires-clause-ask_b g c =
+    let chunks = positions (box_of c.args.chunks.now) in
+    let n = walk_number c.loop-walk.walk in
+    let index = c.current.result.now in
+    let at = subst (λ (b : Box). slice_get (positions b) n ≡ Some index) c.loop-walk.invariant.same_box c.current.ensures in
+    c.requires.ask_b index (at_among chunks n index at)
+
+pub returns-in_err-chunk_equal-clause-refused : goal.returns-in_err-chunk_equal-clause-refused
+returns-in_err-chunk_equal-clause-refused g c =
+    let one = g.S1.ReadableStorageTraits.state c.args.a.now.storage in
+    let two = g.S2.ReadableStorageTraits.state c.args.b.now.storage in
+    let chunks = positions (box_of c.args.chunks.now) in
+    let n = walk_number c.loop-walk.walk in
+    let index = c.current.result.now in
+    let at = subst (λ (b : Box). slice_get (positions b) n ≡ Some index) c.loop-walk.invariant.same_box c.current.ensures in
+    let why = comparison_refused (layout_of c.args.a.now) (layout_of c.args.b.now) one two chunks index (refusal_of c.in_err-chunk_equal.field-0.0) (at_among chunks n index at) c.in_err-chunk_equal.ensures.refused in
+    search (rules, why)
+
+pub returns-then-not-branch-clause-different : goal.returns-then-not-branch-clause-different
+returns-then-not-branch-clause-different g c =
+    let chunks = positions (box_of c.args.chunks.now) in
+    let n = walk_number c.loop-walk.walk in
+    let index = c.current.result.now in
+    let at = subst (λ (b : Box). slice_get (positions b) n ≡ Some index) c.loop-walk.invariant.same_box c.current.ensures in
+    (index, at_among chunks n index at, λ same. false≢true (sym c.if-not-branch.true ∙ c.in_ok-chunk_equal.ensures.equal.1 same))
+
+pub returns-then-not-advance-clause-equal : goal.returns-then-not-advance-clause-equal
+returns-then-not-advance-clause-equal g c =
+    let one = g.S1.ReadableStorageTraits.state c.args.a.now.storage in
+    let two = g.S2.ReadableStorageTraits.state c.args.b.now.storage in
+    let chunks = positions (box_of c.args.chunks.now) in
+    let i = c.loop-walk.invariant in
+    let n = walk_number c.loop-walk.walk in
+    let index = c.current.result.now in
+    let at = subst (λ (b : Box). slice_get (positions b) n ≡ Some index) i.same_box c.current.ensures in
+    let last = subst (λ (b : Box). n + 1 ≡ length (positions b)) i.same_box c.if-not-advance.ensures.last in
+    same_all (layout_of c.args.a.now) (layout_of c.args.b.now) one two chunks (n + 1) last
+    (same_more (layout_of c.args.a.now) (layout_of c.args.b.now) one two chunks n (n + 1) index refl at i.same (c.in_ok-chunk_equal.ensures.equal.0 c.if-not-branch.false))
+
+pub loop-walk-smaller : goal.loop-walk-smaller
+loop-walk-smaller g c =
+    let chunks = positions (box_of c.args.chunks.now) in
+    let n = walk_number c.loop-walk.walk in
+    let index = c.current.result.now in
+    let at = subst (λ (b : Box). slice_get (positions b) n ≡ Some index) c.loop-walk.invariant.same_box c.current.ensures in
+    let here = slice_get_within chunks n index at in
+    let next = c.if-not-advance.ensures.next in
+    omega arith
+
+pub loop-walk-preserved : goal.loop-walk-preserved
+loop-walk-preserved g c =
+    let one = g.S1.ReadableStorageTraits.state c.args.a.now.storage in
+    let two = g.S2.ReadableStorageTraits.state c.args.b.now.storage in
+    let chunks = positions (box_of c.args.chunks.now) in
+    let i = c.loop-walk.invariant in
+    let n = walk_number c.loop-walk.walk in
+    let index = c.current.result.now in
+    let at = subst (λ (b : Box). slice_get (positions b) n ≡ Some index) i.same_box c.current.ensures in
+    record {
+      same_box = c.if-not-advance.ensures.same_box ∙ i.same_box;
+      same = same_more (layout_of c.args.a.now) (layout_of c.args.b.now) one two chunks n _ index c.if-not-advance.ensures.next at i.same (c.in_ok-chunk_equal.ensures.equal.0 c.if-not-branch.false);
+    }

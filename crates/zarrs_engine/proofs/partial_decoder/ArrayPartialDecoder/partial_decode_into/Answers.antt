@@ -1,0 +1,62 @@
+use Rattle.std.proofs.Common.{OnOk, subst, inr}
+use Rattle.zarrs_subset.specs.Boxes.{position_count}
+use Rattle.zarrs_subset.specs.Regions.{Box, box_of}
+use Rattle.zarrs_target.specs.States.{parent_box, target_box}
+use Rattle.zarrs_target.proofs.Levels.{masked_keeps}
+use Rattle.zarrs_steps.specs.declared.error.ArrayError.{ArrayError}
+use Rattle.zarrs_steps.specs.Refusals.{refusal_of}
+use Rattle.zarrs_engine.specs.Engine.{layout_of}
+use Rattle.zarrs_engine.specs.Into.{HasContent, RefusesRetrieveInto}
+use Rattle.zarrs_engine.specs.PartialDecoders.{RefusesPartInto}
+use Rattle.zarrs_engine.proofs.PartialDecoders.{part_ask, part_region}
+use Rattle.zarrs_engine.proofs.Puts.{each_error}
+use Rattle.zarrs_engine.proofs.partial_decoder.ArrayPartialDecoder.partial_decode_into.Goals as goal
+
+pub returns-in_err-region-clause-covered : goal.returns-in_err-region-clause-covered
+returns-in_err-region-clause-covered g c lies =
+    let decoder = c.args.self.now in
+    let part = c.args.chunk_subset.now in
+    part_region (layout_of decoder.engine.now) decoder.engine.now.parts.lawful decoder.chunk_indices.items decoder.boxed (box_of part) part.same_length lies
+    (g.G.ChunkGridTraits.array_extents decoder.engine.now.parts.grid)
+
+pub returns-in_err-region-clause-outside : goal.returns-in_err-region-clause-outside
+returns-in_err-region-clause-outside g c =
+    let t = c.args.target.now in
+    masked_keeps t.cell_size (parent_box t) (target_box t) t.depth (position_count t.parent_shape.now) t.masks.now t.bytes.now
+
+pub retrieve_array_subset_into-requires-clause-ask : goal.retrieve_array_subset_into-requires-clause-ask
+retrieve_array_subset_into-requires-clause-ask g c =
+    let decoder = c.args.self.now in
+    let part = c.args.chunk_subset.now in
+    let region = c.in_ok-region.ensures in
+    part_ask (layout_of decoder.engine.now) decoder.engine.now.parts.lawful decoder.chunk_indices.items decoder.boxed (box_of part) part.same_length region.accepted
+    (box_of c.in_ok-region.region) region.region (g.S.ReadableStorageTraits.state decoder.engine.now.storage) c.requires.ask
+
+pub returns-clause-covered : goal.returns-clause-covered
+returns-clause-covered g c lies =
+    let decoder = c.args.self.now in
+    let part = c.args.chunk_subset.now in
+    part_region (layout_of decoder.engine.now) decoder.engine.now.parts.lawful decoder.chunk_indices.items decoder.boxed (box_of part) part.same_length lies
+    (g.G.ChunkGridTraits.array_extents decoder.engine.now.parts.grid)
+
+pub returns-clause-content : goal.returns-clause-content
+returns-clause-content g c =
+    let engine = c.args.self.now.engine.now in
+    let state = g.S.ReadableStorageTraits.state engine.storage in
+    let read = c.retrieve_array_subset_into in
+    subst (λ (b : Box). OnOk read.result (HasContent (layout_of engine) b state c.args.target.now read.new.target)) c.in_ok-region.ensures.region read.ensures.content
+
+pub returns-clause-refused : goal.returns-clause-refused
+returns-clause-refused g c =
+    let decoder = c.args.self.now in
+    let layout = layout_of decoder.engine.now in
+    let state = g.S.ReadableStorageTraits.state decoder.engine.now.storage in
+    let shape = g.G.ChunkGridTraits.array_extents decoder.engine.now.parts.grid in
+    let index = decoder.chunk_indices.items in
+    let part = box_of c.args.chunk_subset.now in
+    let t = c.args.target.now in
+    let region = c.in_ok-region.ensures in
+    each_error c.retrieve_array_subset_into.result (λ (e : ArrayError). RefusesRetrieveInto layout shape (box_of c.in_ok-region.region) t (refusal_of e) state)
+    (λ (e : ArrayError). RefusesPartInto layout shape index part t (refusal_of e) state)
+    (λ e why. inr (region.accepted, subst (λ (b : Box). RefusesRetrieveInto layout shape b t (refusal_of e) state) region.region why))
+    c.retrieve_array_subset_into.ensures.refused

@@ -1,0 +1,21 @@
+-- Chunks of two arrays, compared by the bytes that are stored.
+use Rattle.std.specs.Prelude.{◌≡◌, ◌≢◌, ◌⊎◌, ℕ, List, Contains}
+use Rattle.zarrs_storage.specs.Store.{StoreState}
+use Rattle.zarrs_steps.specs.Layout.{Layout}
+use Rattle.zarrs_steps.specs.Content.{value_at}
+use Rattle.zarrs_steps.specs.Refusals.{Refusal}
+use Rattle.zarrs_engine.specs.Encoded.{RefusesEncoded}
+
+-- an array lies like `a` in the store `one`, another like `b` in `two`; these are indices of chunks
+module _ (a b : Layout) (one two : StoreState) (chunks : List (List ℕ)) where
+  -- of each of these chunks the same bytes are stored in both, or none in both
+  abbrev pub HoldSameChunks : Type 0
+  HoldSameChunks = (index : List ℕ) → Contains chunks index → value_at one (a.key index) ≡ value_at two (b.key index)
+
+  -- of one of these chunks they are not
+  abbrev pub DifferInChunk : Type 0
+  DifferInChunk = (index : List ℕ) × Contains chunks index × (value_at one (a.key index) ≢ value_at two (b.key index))
+
+  -- these chunks are not compared: their bytes are not returned by one of the stores
+  abbrev pub RefusesComparison : Refusal → Type 0
+  RefusesComparison r = RefusesEncoded a chunks one r ⊎ RefusesEncoded b chunks two r

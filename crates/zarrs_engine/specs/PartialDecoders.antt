@@ -1,0 +1,35 @@
+-- Reads of the parts of one chunk.
+use Rattle.std.specs.Prelude.{◌≡◌, ◌⊎◌, ℕ, List, None}
+use Rattle.zarrs_subset.specs.Regions.{Box}
+use Rattle.zarrs_chunk_grid.specs.Grids.{box_at}
+use Rattle.zarrs_chunk_grid.specs.declared.traits.ChunkGridTraits.{Ghosts as GridMeaning}
+use Rattle.zarrs_keys.specs.declared.traits.ChunkKeyEncodingTraits.{Ghosts as KeyMeaning}
+use Rattle.zarrs_codec.specs.declared.traits.ChainTraits.{Ghosts as ChainMeanings}
+use Rattle.zarrs_storage.specs.Store.{StoreState}
+use Rattle.zarrs_steps.specs.ArgumentRefusals.{part_refusal}
+use Rattle.zarrs_steps.specs.ChunkBoxes.{part_box}
+use Rattle.zarrs_steps.specs.Layout.{Layout}
+use Rattle.zarrs_steps.specs.Refusals.{Refusal, RefusesBy}
+use Rattle.zarrs_target.specs.declared.target.ArrayBytesDecodeIntoTarget.{ArrayBytesDecodeIntoTarget}
+use Rattle.zarrs_engine.specs.Into.{RefusesRetrieveInto}
+use Rattle.zarrs_engine.specs.declared.engine.Engine.{Engine}
+use Rattle.zarrs_engine.specs.declared.partial_decoder.ArrayPartialDecoder.{ArrayPartialDecoder}
+
+module _ {G K C : Type 0} {g : GridMeaning G} {k : KeyMeaning K} {c : ChainMeanings C} where
+  module _ {S : Type 0} where
+    -- the engine that a decoder reads, and the indices of its chunk
+    abbrev pub engine_of : ArrayPartialDecoder S G K C g k c → Engine S G K C g k c
+    engine_of decoder = decoder.engine.now
+
+    abbrev pub indices_of : ArrayPartialDecoder S G K C g k c → List ℕ
+    indices_of decoder = decoder.chunk_indices.items
+
+-- the region of the array that this part of the chunk is
+abbrev pub region_of_part : Layout → List ℕ → Box → Box
+region_of_part layout index part = part_box (box_at layout.grid index) part
+
+-- a refused read of a part into a target: the part does not lie in the chunk, or its region is not read into the target
+abbrev pub RefusesPartInto : Layout → List ℕ → List ℕ → Box → ArrayBytesDecodeIntoTarget → Refusal → StoreState → Type 0
+RefusesPartInto layout shape index part t r state =
+    RefusesBy (part_refusal layout index part) r
+    ⊎ ((part_refusal layout index part ≡ None) × RefusesRetrieveInto layout shape (region_of_part layout index part) t r state)

@@ -1,0 +1,108 @@
+//! Arrays that are compared by the bytes of their chunks.
+ghost use Rattle.std.specs.Prelude.{◌≡◌, ◌↔◌, ◌⊎◌, IfOk, IfErr, IsTrue, length};
+ghost use Rattle.std.specs.Bool.{OnFalse, OnTrue};
+ghost use Rattle.zarrs_subset.specs.Regions.{box_of, positions};
+ghost use Rattle.zarrs_steps.specs.Content.{value_at};
+ghost use Rattle.zarrs_steps.specs.Reach.{MayAskChunk, MayAskChunks};
+ghost use Rattle.zarrs_steps.specs.Refusals.{RefusesBy, key_refusal, refusal_of};
+ghost use Rattle.zarrs_engine.specs.Comparisons.{DifferInChunk, HoldSameChunks, RefusesComparison};
+ghost use Rattle.zarrs_engine.specs.Engine.{layout_of, store_of};
+
+use crate::engine::Engine;
+use std::alloc::Global;
+use zarrs_chunk_grid::ChunkGridTraits;
+use zarrs_codec::ChainTraits;
+use zarrs_keys::ChunkKeyEncodingTraits;
+use zarrs_steps::ArrayError;
+use zarrs_storage::ReadableStorageTraits;
+use zarrs_subset::ArraySubset;
+
+/// Whether of each chunk with indices in the range the same bytes are stored in both arrays, or none in both. No chunk
+/// is decoded. The chunks are asked in row-major order, up to the first one that differs; an empty range asks nothing.
+///
+/// # Errors
+/// E8 for more chunks than a `u64` counts; E7 if one of the stores refuses the key of one of them. E9 may come at any
+/// time.
+pub fn chunks_equal<
+    S1: ReadableStorageTraits,
+    G1: ChunkGridTraits,
+    K1: ChunkKeyEncodingTraits,
+    C1: ChainTraits,
+    S2: ReadableStorageTraits,
+    G2: ChunkGridTraits,
+    K2: ChunkKeyEncodingTraits,
+    C2: ChainTraits,
+>(
+    alloc: Global,
+    a: &Engine<S1, G1, K1, C1>,
+    b: &Engine<S2, G2, K2, C2>,
+    chunks: &ArraySubset,
+) -> Result<bool, ArrayError>
+    requires dimensions_a { length (box_of chunks.now).start ≡ (layout_of a.now).grid.dimensions }
+    requires dimensions_b { length (box_of chunks.now).start ≡ (layout_of b.now).grid.dimensions }
+    requires ask_a { MayAskChunks (layout_of a.now) (positions (box_of chunks.now))
+        (store_of S1.state a.now) }
+    requires ask_b { MayAskChunks (layout_of b.now) (positions (box_of chunks.now))
+        (store_of S2.state b.now) }
+    ensures equal { IfOk result (λ equal. OnTrue equal (HoldSameChunks (layout_of a.now)
+        (layout_of b.now) (store_of S1.state a.now) (store_of S2.state b.now)
+        (positions (box_of chunks.now)))) }
+    ensures different { IfOk result (λ equal. OnFalse equal (DifferInChunk (layout_of a.now)
+        (layout_of b.now) (store_of S1.state a.now) (store_of S2.state b.now)
+        (positions (box_of chunks.now)))) }
+    ensures refused { IfErr result (λ e. RefusesComparison (layout_of a.now) (layout_of b.now)
+        (store_of S1.state a.now) (store_of S2.state b.now) (positions (box_of chunks.now))
+        (refusal_of e)) }
+{
+    if chunks.num_elements().is_err() {
+        return Err(ArrayError::SizeOverflow);
+    }
+    let Some(mut walk) = chunks.walk(alloc)? else {
+        return Ok(true);
+    };
+    loop {
+        if !chunk_equal(alloc, a, b, walk.current())? {
+            return Ok(false);
+        }
+        if !walk.advance() {
+            return Ok(true);
+        }
+    }
+}
+
+/// Whether of the chunk with these indices the same bytes are stored in both arrays, or none in both.
+///
+/// # Errors
+/// E7 if one of the stores refuses the key. E9 may come at any time.
+fn chunk_equal<
+    S1: ReadableStorageTraits,
+    G1: ChunkGridTraits,
+    K1: ChunkKeyEncodingTraits,
+    C1: ChainTraits,
+    S2: ReadableStorageTraits,
+    G2: ChunkGridTraits,
+    K2: ChunkKeyEncodingTraits,
+    C2: ChainTraits,
+>(
+    alloc: Global,
+    a: &Engine<S1, G1, K1, C1>,
+    b: &Engine<S2, G2, K2, C2>,
+    chunk_indices: &[u64],
+) -> Result<bool, ArrayError>
+    requires dimensions_a { length chunk_indices.now ≡ (layout_of a.now).grid.dimensions }
+    requires dimensions_b { length chunk_indices.now ≡ (layout_of b.now).grid.dimensions }
+    requires ask_a { MayAskChunk (layout_of a.now) chunk_indices.now (store_of S1.state a.now) }
+    requires ask_b { MayAskChunk (layout_of b.now) chunk_indices.now (store_of S2.state b.now) }
+    ensures equal { IfOk result (λ equal. IsTrue equal
+        ↔ (value_at (store_of S1.state a.now) ((layout_of a.now).key chunk_indices.now)
+        ≡ value_at (store_of S2.state b.now) ((layout_of b.now).key chunk_indices.now))) }
+    ensures refused { IfErr result (λ e.
+        RefusesBy (key_refusal (layout_of a.now) chunk_indices.now (store_of S1.state a.now))
+        (refusal_of e)
+        ⊎ RefusesBy (key_refusal (layout_of b.now) chunk_indices.now (store_of S2.state b.now))
+        (refusal_of e)) }
+{
+    let value = a.stored_bytes(alloc, chunk_indices)?;
+    let other = b.stored_bytes(alloc, chunk_indices)?;
+    Ok(value == other)
+}

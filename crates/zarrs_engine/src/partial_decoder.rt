@@ -1,0 +1,197 @@
+//! Reads of the parts of one chunk, one after another.
+ghost use Rattle.std.specs.Prelude.{◌≡◌, true};
+ghost use Rattle.zarrs_chunk_grid.specs.Grids.{has_box};
+ghost use Rattle.zarrs_engine.specs.Engine.{layout_of};
+
+use crate::engine::Engine;
+use std::alloc::Global;
+use zarrs_chunk_grid::ChunkGridTraits;
+use zarrs_codec::{ChainTraits, CodecOptions};
+use zarrs_data_type::ArrayBytes;
+use zarrs_keys::ChunkKeyEncodingTraits;
+use zarrs_steps::ArrayError;
+use zarrs_storage::ReadableStorageTraits;
+use zarrs_subset::{ArrayIndices, ArraySubset};
+use zarrs_target::ArrayBytesDecodeIntoTarget;
+
+/// A chunk of an array, of which parts are read. It keeps nothing of what it read.
+#[derive(Drop)]
+pub struct ArrayPartialDecoder<
+    'a,
+    S,
+    G: ChunkGridTraits,
+    K: ChunkKeyEncodingTraits,
+    C: ChainTraits,
+> {
+    engine: &'a Engine<S, G, K, C>,
+    chunk_indices: ArrayIndices,
+    ghost boxed: { has_box (layout_of engine.now).grid chunk_indices.items ≡ true },
+}
+
+impl<S, G: ChunkGridTraits, K: ChunkKeyEncodingTraits, C: ChainTraits> Engine<S, G, K, C> {
+    ghost use Rattle.std.specs.Prelude.{◌≡◌, true, IfOk, IfErr, OnOk};
+    ghost use Rattle.zarrs_chunk_grid.specs.Grids.{has_box};
+    ghost use Rattle.zarrs_steps.specs.ArgumentRefusals.{chunk_refusal};
+    ghost use Rattle.zarrs_steps.specs.Refusals.{RefusesBy, refusal_of};
+    ghost use Rattle.zarrs_engine.specs.Engine.{layout_of};
+    ghost use Rattle.zarrs_engine.specs.PartialDecoders.{engine_of, indices_of};
+
+    /// The chunk with these indices, to read parts of it. The store is not asked.
+    ///
+    /// # Errors
+    /// E3 for another number of indices than dimensions, or indices without a chunk. E9 may come at any time.
+    pub fn partial_decoder(
+        &self,
+        alloc: Global,
+        chunk_indices: &[u64],
+    ) -> Result<ArrayPartialDecoder<'_, S, G, K, C>, ArrayError>
+        ensures engine { IfOk result (λ decoder. engine_of decoder ≡ self.now) }
+        ensures chunk { IfOk result (λ decoder. indices_of decoder ≡ chunk_indices.now) }
+        ensures accepted { OnOk result (has_box (layout_of self.now).grid chunk_indices.now ≡ true) }
+        ensures refused { IfErr result (λ e. RefusesBy
+            (chunk_refusal (layout_of self.now) chunk_indices.now) (refusal_of e)) }
+    {
+        self.parts().chunk_box(alloc, chunk_indices)?;
+        Ok(ArrayPartialDecoder {
+            engine: self,
+            chunk_indices: chunk_indices.to_vec(alloc)?,
+        })
+    }
+}
+
+impl<
+    S: ReadableStorageTraits,
+    G: ChunkGridTraits,
+    K: ChunkKeyEncodingTraits,
+    C: ChainTraits,
+> ArrayPartialDecoder<'_, S, G, K, C> {
+    ghost use Rattle.std.specs.Prelude.{◌≡◌, ◌↔◌, true, None, IfOk, IfErr, IsTrue, OnErr, OnOk};
+    ghost use Rattle.zarrs_subset.specs.Regions.{box_of};
+    ghost use Rattle.zarrs_data_type.specs.ArrayData.{data_of};
+    ghost use Rattle.zarrs_steps.specs.ArgumentRefusals.{part_refusal, region_refusal};
+    ghost use Rattle.zarrs_steps.specs.Changes.{IsPresent};
+    ghost use Rattle.zarrs_steps.specs.Reach.{MayAskChunk};
+    ghost use Rattle.zarrs_steps.specs.Refusals.{RefusesBy, key_refusal, refusal_of};
+    ghost use Rattle.zarrs_steps.specs.Step.{RetrievesPart, RefusesRetrievePart};
+    ghost use Rattle.zarrs_target.specs.States.{IsTarget, SameBox, StaysOutside};
+    ghost use Rattle.zarrs_engine.specs.Engine.{layout_of, state_of, store_of};
+    ghost use Rattle.zarrs_engine.specs.Into.{HasContent, RetrievesInto};
+    ghost use Rattle.zarrs_engine.specs.PartialDecoders.{engine_of, indices_of};
+    ghost use Rattle.zarrs_engine.specs.PartialDecoders.{RefusesPartInto, region_of_part};
+
+    /// The cells of a part of the chunk, in row-major order, as `Engine::retrieve_chunk_subset` returns them. The part
+    /// is seen from the origin of the chunk. Where the chunk is absent they are fill.
+    ///
+    /// # Errors
+    /// E2 for a part of another number of dimensions, or that passes the chunk. Then as for
+    /// `Engine::retrieve_chunk_subset`. E9 may come at any time.
+    pub fn partial_decode(
+        &self,
+        alloc: Global,
+        chunk_subset: &ArraySubset,
+        _options: &CodecOptions,
+    ) -> Result<ArrayBytes<'static>, ArrayError>
+        requires { MayAskChunk (layout_of (engine_of self.now)) (indices_of self.now)
+            (store_of S.state (engine_of self.now)) }
+        ensures cells { IfOk result (λ made. RetrievesPart (layout_of (engine_of self.now))
+            (indices_of self.now) (box_of chunk_subset.now) (data_of made)
+            (store_of S.state (engine_of self.now))) }
+        ensures refused { IfErr result (λ e. RefusesRetrievePart (layout_of (engine_of self.now))
+            (indices_of self.now) (box_of chunk_subset.now) (refusal_of e)
+            (store_of S.state (engine_of self.now))) }
+    {
+        self.engine
+            .retrieve_chunk_subset(alloc, &self.chunk_indices, chunk_subset)
+    }
+
+    /// Reads a part of the chunk into the target's box, where its cells stand in row-major order. The part is seen from
+    /// the origin of the chunk. Every byte outside the box stays.
+    ///
+    /// # Errors
+    /// E2 for a part of another number of dimensions, or that passes the chunk. Then as for
+    /// `Engine::retrieve_array_subset_into` over the region that the part is in the array: E4 for a target of another
+    /// cell size or depth than the data type's, of which a variable type has none; E6 for a box of another shape than
+    /// the part's; E7, E8 and E4 as the read of a region has them. E9 may come at any time. Then every byte stays.
+    pub fn partial_decode_into(
+        &self,
+        alloc: Global,
+        chunk_subset: &ArraySubset,
+        target: &mut ArrayBytesDecodeIntoTarget<'_, '_, '_>,
+        _options: &CodecOptions,
+    ) -> Result<(), ArrayError>
+        requires ask { MayAskChunk (layout_of (engine_of self.now)) (indices_of self.now)
+            (store_of S.state (engine_of self.now)) }
+        requires target { IsTarget target.old }
+        ensures target { IsTarget target.new }
+        ensures same_bytes { target.new.bytes.ghost_name ≡ target.old.bytes.ghost_name }
+        ensures same_masks { target.new.masks.ghost_name ≡ target.old.masks.ghost_name }
+        ensures same_box { SameBox target.old target.new }
+        ensures accepted { OnOk result (part_refusal (layout_of (engine_of self.now))
+            (indices_of self.now) (box_of chunk_subset.now) ≡ None) }
+        // Chunks cover a part that lies in the chunk, so it is not refused by E1.
+        ensures covered { part_refusal (layout_of (engine_of self.now)) (indices_of self.now)
+            (box_of chunk_subset.now) ≡ None
+            → region_refusal (layout_of (engine_of self.now))
+            (state_of S.state (engine_of self.now)).shape (region_of_part
+            (layout_of (engine_of self.now)) (indices_of self.now) (box_of chunk_subset.now)) ≡ None }
+        ensures cells { OnOk result (RetrievesInto (layout_of (engine_of self.now))
+            (state_of S.state (engine_of self.now)).shape (region_of_part
+            (layout_of (engine_of self.now)) (indices_of self.now) (box_of chunk_subset.now))
+            (store_of S.state (engine_of self.now)) target.old target.new) }
+        ensures content { OnOk result (HasContent (layout_of (engine_of self.now)) (region_of_part
+            (layout_of (engine_of self.now)) (indices_of self.now) (box_of chunk_subset.now))
+            (store_of S.state (engine_of self.now)) target.old target.new) }
+        ensures refused { IfErr result (λ e. RefusesPartInto (layout_of (engine_of self.now))
+            (state_of S.state (engine_of self.now)).shape (indices_of self.now)
+            (box_of chunk_subset.now) target.old (refusal_of e)
+            (store_of S.state (engine_of self.now))) }
+        ensures outside { StaysOutside target.old target.new }
+        ensures kept_bytes { OnErr result (target.new.bytes.now ≡ target.old.bytes.now) }
+        ensures kept_masks { OnErr result (target.new.masks.now ≡ target.old.masks.now) }
+    {
+        let region = self.region_of(alloc, chunk_subset)?;
+        self.engine
+            .retrieve_array_subset_into(alloc, &region, target)
+    }
+
+    /// The region of the array that a part of the chunk is.
+    ///
+    /// # Errors
+    /// E2 for a part of another number of dimensions, or that passes the chunk. E9 may come at any time.
+    fn region_of(
+        &self,
+        alloc: Global,
+        chunk_subset: &ArraySubset,
+    ) -> Result<ArraySubset, ArrayError>
+        ensures region { IfOk result (λ region. box_of region ≡ region_of_part
+            (layout_of (engine_of self.now)) (indices_of self.now) (box_of chunk_subset.now)) }
+        ensures accepted { OnOk result (part_refusal (layout_of (engine_of self.now))
+            (indices_of self.now) (box_of chunk_subset.now) ≡ None) }
+        ensures refused { IfErr result (λ e. RefusesBy (part_refusal
+            (layout_of (engine_of self.now)) (indices_of self.now) (box_of chunk_subset.now))
+            (refusal_of e)) }
+    {
+        let parts = self.engine.parts();
+        let chunk = parts.chunk_box(alloc, &self.chunk_indices)?;
+        parts.part_of(alloc, &self.chunk_indices, &chunk, chunk_subset)
+    }
+
+    /// Whether the chunk is present. None of its bytes is read.
+    ///
+    /// # Errors
+    /// E7 if the store refuses the key. E9 may come at any time.
+    pub fn exists(&self, alloc: Global) -> Result<bool, ArrayError>
+        requires { (store_of S.state (engine_of self.now)).may_ask
+            ((layout_of (engine_of self.now)).key (indices_of self.now)) ≡ true }
+        ensures present { IfOk result (λ present. IsTrue present ↔ IsPresent
+            (layout_of (engine_of self.now)) (indices_of self.now)
+            (store_of S.state (engine_of self.now))) }
+        ensures refused { IfErr result (λ e. RefusesBy (key_refusal
+            (layout_of (engine_of self.now)) (indices_of self.now)
+            (store_of S.state (engine_of self.now))) (refusal_of e)) }
+    {
+        let key = self.engine.parts().chunk_key(alloc, &self.chunk_indices)?;
+        let size = self.engine.storage().size_key(alloc, &key)?;
+        Ok(size.is_some())
+    }
+}

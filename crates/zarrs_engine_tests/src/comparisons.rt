@@ -1,0 +1,180 @@
+//! Comparisons of the stored bytes of two arrays, with ample memory and with stores that refuse.
+use crate::steps::{EngineOver, MemoryEngine, Value, bytes_engine, no_chunk, region, store_of};
+use std::alloc::Global;
+use std::process::Abort;
+use std::test::Fail;
+use zarrs_engine::{ArrayError, chunks_equal};
+use zarrs_storage::{Bytes, Fault, MemoryStore, StorageError, StoreKey, WritableStorageTraits};
+
+/// What a comparison must answer.
+#[derive(Clone, Copy)]
+enum Answer {
+    Equal,
+    Different,
+    /// E7.
+    Faulty,
+    /// E8.
+    TooMany,
+}
+
+/// Where a range of chunks starts, its shape, and what the comparison must answer.
+type Row = (&'static [u64], &'static [u64], Answer);
+
+/// An array of 4 by 4 bytes in chunks of 2 by 2, with these values.
+fn engine_of(alloc: Global, values: &[Value]) -> Result<MemoryEngine, Fail> {
+    bytes_engine(alloc, store_of(alloc, values)?, &[4, 4], &[2, 2], 0)
+}
+
+/// The same, over a store that refuses to read one key.
+fn faulty_engine(
+    alloc: Global,
+    values: &[Value],
+    key: &str,
+) -> Result<EngineOver<Fault<MemoryStore>>, Fail> {
+    let key = StoreKey::new(alloc, key)?;
+    let storage = Fault::new(store_of(alloc, values)?, vec![in alloc; key]?, None);
+    bytes_engine(alloc, storage, &[4, 4], &[2, 2], 0)
+}
+
+/// A caller asks the engines for the number of dimensions before it compares chunks.
+fn compare(
+    alloc: Global,
+    a: &MemoryEngine,
+    b: &MemoryEngine,
+    start: &[u64],
+    shape: &[u64],
+) -> Result<bool, ArrayError> {
+    let range = region(alloc, start, shape)?;
+    if range.dimensionality() != a.dimensionality()
+        || range.dimensionality() != b.dimensionality()
+    {
+        return Err(no_chunk(alloc, start));
+    }
+    chunks_equal(alloc, a, b, &range)
+}
+
+/// The same, of which one store may refuse.
+fn compare_faulty(
+    alloc: Global,
+    a: &EngineOver<Fault<MemoryStore>>,
+    b: &MemoryEngine,
+    start: &[u64],
+    shape: &[u64],
+) -> Result<bool, ArrayError> {
+    let range = region(alloc, start, shape)?;
+    if range.dimensionality() != a.dimensionality()
+        || range.dimensionality() != b.dimensionality()
+    {
+        return Err(no_chunk(alloc, start));
+    }
+    chunks_equal(alloc, a, b, &range)
+}
+
+fn is_answer(got: &Result<bool, ArrayError>, answer: Answer) -> bool {
+    match (got, answer) {
+        (Ok(equal), Answer::Equal) => *equal,
+        (Ok(equal), Answer::Different) => !*equal,
+        (Err(ArrayError::StorageError(StorageError::Other(_))), Answer::Faulty)
+        | (Err(ArrayError::SizeOverflow), Answer::TooMany) => true,
+        _ => false,
+    }
+}
+
+/// Each comparison must give its answer, whichever array comes first.
+fn must_answer(rt: &impl Abort, alloc: Global, a: &MemoryEngine, b: &MemoryEngine, rows: &[Row]) {
+    for (row, (start, shape, answer)) in rows.iter().enumerate() {
+        assert!(rt;
+            is_answer(&compare(alloc, a, b, start, shape), *answer),
+            "row {row}"
+        );
+        assert!(rt;
+            is_answer(&compare(alloc, b, a, start, shape), *answer),
+            "row {row}"
+        );
+    }
+}
+
+/// Each comparison must give its answer.
+fn must_answer_faulty(
+    rt: &impl Abort,
+    alloc: Global,
+    a: &EngineOver<Fault<MemoryStore>>,
+    b: &MemoryEngine,
+    rows: &[Row],
+) {
+    for (row, (start, shape, answer)) in rows.iter().enumerate() {
+        let got = compare_faulty(alloc, a, b, start, shape);
+        assert!(rt; is_answer(&got, *answer), "row {row}");
+    }
+}
+
+/// The stores differ in chunk [0, 1] by its bytes, and in chunk [1, 0], which one of them has.
+#[test]
+fn chunks_are_equal_or_both_absent(rt: HostRuntime) -> Result<(), Fail> {
+    const ONE: &[Value] = &[
+        ("c/0/0", &[1, 2, 3, 4]),
+        ("c/0/1", &[5, 5, 5, 5]),
+        ("c/1/0", &[0; 4]),
+    ];
+    const TWO: &[Value] = &[("c/0/0", &[1, 2, 3, 4]), ("c/0/1", &[5, 5, 5])];
+    const ROWS: &[Row] = &[
+        (&[0, 0], &[1, 1], Answer::Equal),
+        (&[1, 1], &[1, 1], Answer::Equal),
+        (&[0, 1], &[1, 1], Answer::Different),
+        (&[1, 0], &[1, 1], Answer::Different),
+        (&[1, 0], &[1, 2], Answer::Different),
+        (&[0, 0], &[2, 2], Answer::Different),
+        (&[0, 2], &[9, 9], Answer::Equal),
+    ];
+    let a = engine_of(rt.alloc(), ONE)?;
+    let b = engine_of(rt.alloc(), TWO)?;
+    must_answer(&rt, rt.alloc(), &a, &b, ROWS);
+    Ok(())
+}
+
+/// An empty range has no chunk that differs, and one of more chunks than a number counts is not begun.
+#[test]
+fn ranges_without_chunks_and_with_too_many(rt: HostRuntime) -> Result<(), Fail> {
+    const ROWS: &[Row] = &[
+        (&[0, 0], &[0, 3], Answer::Equal),
+        (&[0, 0], &[1 << 32, 1 << 32], Answer::TooMany),
+    ];
+    let a = engine_of(rt.alloc(), &[("c/0/0", &[1, 2, 3, 4])])?;
+    let b = engine_of(rt.alloc(), &[])?;
+    must_answer(&rt, rt.alloc(), &a, &b, ROWS);
+    Ok(())
+}
+
+/// The key of chunk [0, 1] refuses. A difference before it ends the comparison.
+#[test]
+fn a_key_that_refuses_ends_the_comparison(rt: HostRuntime) -> Result<(), Fail> {
+    const ROWS: &[Row] = &[
+        (&[0, 1], &[1, 1], Answer::Faulty),
+        (&[0, 1], &[2, 1], Answer::Faulty),
+        (&[1, 0], &[1, 2], Answer::Equal),
+        (&[0, 0], &[1, 2], Answer::Different),
+    ];
+    let a = faulty_engine(rt.alloc(), &[("c/0/0", &[1, 2, 3, 4])], "c/0/1")?;
+    let b = engine_of(rt.alloc(), &[])?;
+    must_answer_faulty(&rt, rt.alloc(), &a, &b, ROWS);
+    Ok(())
+}
+
+/// Puts bytes at a key of the store that the engine lends.
+fn put_into_store(alloc: Global, engine: &mut MemoryEngine) -> Result<(), Fail> {
+    let key = StoreKey::new(alloc, "c/1/1")?;
+    engine
+        .storage_mut()
+        .set(alloc, &key, Bytes::from_static(&[7; 4]))?;
+    Ok(())
+}
+
+#[test]
+fn a_store_that_was_lent_has_what_was_put_into_it(rt: HostRuntime) -> Result<(), Fail> {
+    const ROWS: &[Row] = &[(&[1, 1], &[1, 1], Answer::Equal)];
+    let mut a = engine_of(rt.alloc(), &[])?;
+    let b = engine_of(rt.alloc(), &[("c/1/1", &[7; 4])])?;
+    put_into_store(rt.alloc(), &mut a)?;
+    must_answer(&rt, rt.alloc(), &a, &b, ROWS);
+    Ok(())
+}
