@@ -8,16 +8,19 @@ use Rattle.zarrs_codec_array.specs.declared.array.ArrayToArrayCodec.{ArrayToArra
 use Rattle.zarrs_codec_array.specs.declared.array.ArrayToArrayCodec.TheVariants as array_codec
 use Rattle.zarrs_codec_leaf.specs.Leaf.{LeafMeaning}
 use Rattle.zarrs_codec.specs.Chain.{ChainMeaning}
-use Rattle.zarrs_codec.specs.Chains.{array_to_array_of, array_to_bytes_of, chain_meaning, leaf_meaning, whole_chunk}
-use Rattle.zarrs_codec.specs.Metadata.{bytes_codec_data, chain_data}
+use Rattle.zarrs_codec.specs.Chains.{array_to_array_of, array_to_bytes_of, chain_meaning, leaf_meaning, mask_meaning, whole_chunk}
+use Rattle.zarrs_codec.specs.Metadata.{mask_codec_data, bytes_codec_data, chain_data}
+use Rattle.zarrs_codec.specs.Optional.{optional_meaning}
 use Rattle.zarrs_codec.specs.Through.{through}
 use Rattle.zarrs_codec.specs.declared.chain.ArrayToBytesCodec.{ArrayToBytesCodec}
-use Rattle.zarrs_codec.specs.declared.chain.ArrayToBytesCodec.TheVariants as bytes_codec
+use Rattle.zarrs_codec.specs.declared.chain.ArrayToBytesCodec as bytes_codec
+use Rattle.zarrs_codec.specs.declared.optional.MaskCodec.{MaskCodec}
+use Rattle.zarrs_codec.specs.declared.optional.MaskCodec.TheVariants as mask_codec
 use Rattle.zarrs_codec.specs.declared.chain.CodecChain.{CodecChain}
 use Rattle.zarrs_engine.specs.Engine.{chain_of}
 use Rattle.zarrs_options.specs.Refusals.{CreateRefusal}
 use Rattle.zarrs_array_metadata.specs.Meanings.{Meaning, creation}
-use Rattle.zarrs.specs.Layouts.{array_codec_meant, array_codecs_meant, bytes_codec_meant, chain_meant, layout_meant}
+use Rattle.zarrs.specs.Layouts.{array_codec_meant, array_codecs_meant, mask_codec_meant, bytes_codec_meant, chain_meant, layout_meant}
 use Rattle.zarrs.specs.Arrays.{metadata_of_array, meaning_of_array, layout_of_array, path_of_array}
 use Rattle.zarrs.specs.declared.array.Array.{Array}
 
@@ -32,11 +35,19 @@ arrays_are (c ∷ cs) =
     ap (λ (a : ArrayMeaning). and_then a (arrays_meaning cs)) (array_is c)
     ∙ ap (λ (a : ArrayMeaning). and_then (array_codec_meant (array_codec_data c)) a) (arrays_are cs)
 
+mask_is : (c : MaskCodec) → mask_meaning c ≡ mask_codec_meant (mask_codec_data c)
+mask_is (mask_codec.PackBits codec) = refl
+mask_is (mask_codec.Bytes codec) = refl
+
 leaf_is : (c : ArrayToBytesCodec) → leaf_meaning c ≡ bytes_codec_meant (bytes_codec_data c)
 leaf_is (bytes_codec.Bytes codec) = refl
 leaf_is (bytes_codec.PackBits codec) = refl
 leaf_is (bytes_codec.VlenUtf8 codec) = refl
 leaf_is (bytes_codec.VlenBytes codec) = refl
+leaf_is (bytes_codec.Vlen codec) = refl
+leaf_is (bytes_codec.Optional' mask p inner) =
+    ap (λ (m : LeafMeaning). optional_meaning m (leaf_meaning inner)) (mask_is mask)
+    ∙ ap (λ (l : LeafMeaning). optional_meaning (mask_codec_meant (mask_codec_data mask)) l) (leaf_is inner)
 
 chain_is : (chain : CodecChain) → chain_meaning chain ≡ chain_meant (chain_data chain)
 chain_is chain =
@@ -60,3 +71,8 @@ module _ {S : Type 0} where
       let said : Ok (meaning_of_array b) ≡ Ok (meaning_of_array a) = sym (parts_are b) ∙ same in
       let meaning : meaning_of_array b ≡ meaning_of_array a = cc in
       layout_is b ∙ ap (λ (p : List ℕ). layout_meant p (meaning_of_array b)) path ∙ ap (λ (m : Meaning). layout_meant (path_of_array a) m) meaning ∙ sym (layout_is a)
+
+-- arrays of the same parts at one path lie in the same way, whichever their stores
+pub layout_of_parts : {S T : Type 0} (a : Array S) (b : Array T) → path_of_array b ≡ path_of_array a → meaning_of_array b ≡ meaning_of_array a → layout_of_array b ≡ layout_of_array a
+layout_of_parts a b path meaning =
+    layout_is b ∙ ap (λ (p : List ℕ). layout_meant p (meaning_of_array b)) path ∙ ap (λ (m : Meaning). layout_meant (path_of_array a) m) meaning ∙ sym (layout_is a)

@@ -3,3 +3,4 @@ pub mod Puts
 pub mod Typed
 pub mod Named
 pub mod Trips
+pub mod Regridded

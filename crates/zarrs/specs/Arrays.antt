@@ -6,7 +6,7 @@ use Rattle.zarrs_codec.specs.Options.{stores_empty_chunks, encodes_partially}
 use Rattle.zarrs_codec.specs.declared.options.CodecOptions.{CodecOptions}
 use Rattle.zarrs_options.specs.Options.{MetadataOptionsData, options_view, default_options}
 use Rattle.zarrs_steps.specs.Layout.{Layout, ArrayState}
-use Rattle.zarrs_engine.specs.Engine.{layout_of, the_store, store_of, state_of, path_of, KeepsParts}
+use Rattle.zarrs_engine.specs.Engine.{layout_of, the_store, store_of, state_of, path_of, grid_of, KeepsParts, GivesGrid}
 use Rattle.zarrs_array_metadata.specs.Meanings.{Meaning}
 use Rattle.zarrs.specs.Agreement.{meaning_of}
 use Rattle.zarrs.specs.declared.array.Array.{Array}
@@ -60,6 +60,12 @@ module _ {S : Type 0} where
     pub codec_options : new.codec_options ≡ old.codec_options
     pub metadata_options : new.metadata_options ≡ old.metadata_options
 
+  -- nothing but the metadata and the grid changed
+  pub record KeepsAllButGrid (old new : Array S) : Type 0 where
+    pub engine : GivesGrid (grid_of new.engine) old.engine new.engine
+    pub codec_options : new.codec_options ≡ old.codec_options
+    pub metadata_options : new.metadata_options ≡ old.metadata_options
+
   -- it has these options of its codecs, and nothing else changed
   pub record HasCodecOptions (options : CodecOptions) (old new : Array S) : Type 0 where
     pub set : new.codec_options ≡ options
@@ -79,3 +85,12 @@ module _ {S : Type 0} where
     pub empty_chunks : stores_empty_chunks array.codec_options ≡ false
     pub partial_encoding : encodes_partially array.codec_options ≡ false
     pub metadata : options_view array.metadata_options ≡ default_options
+
+-- the array has the path, the parts, the metadata and the options of the other one, whichever its store
+pub record HasAllButStore {S T : Type 0} (other : Array S) (array : Array T) : Type 0 where
+  pub path : path_of_array array ≡ path_of_array other
+  pub metadata : metadata_of_array array ≡ metadata_of_array other
+  pub parts : meaning_of_array array ≡ meaning_of_array other
+  pub layout : layout_of_array array ≡ layout_of_array other
+  pub codec_options : codec_options_of_array array ≡ codec_options_of_array other
+  pub metadata_options : metadata_options_of_array array ≡ metadata_options_of_array other

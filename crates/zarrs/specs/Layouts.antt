@@ -8,11 +8,13 @@ use Rattle.zarrs_codec_array.specs.Metadata as rearranging
 use Rattle.zarrs_codec_leaf.specs.Bytes.{bytes_meaning_of}
 use Rattle.zarrs_codec_leaf.specs.Leaf.{LeafMeaning}
 use Rattle.zarrs_codec_leaf.specs.PackBits.{packbits_meaning}
+use Rattle.zarrs_codec_leaf.specs.Vlen.{vlen_meaning}
 use Rattle.zarrs_codec_leaf.specs.VlenStrings.{vlen_utf8_meaning, vlen_bytes_meaning}
 use Rattle.zarrs_codec.specs.Chain.{ChainMeaning}
 use Rattle.zarrs_codec.specs.Chains.{whole_chunk}
-use Rattle.zarrs_codec.specs.Metadata.{ChainData, BytesCodecData}
+use Rattle.zarrs_codec.specs.Metadata.{ChainData, BytesCodecData, MaskCodecData}
 use Rattle.zarrs_codec.specs.Metadata as coding
+use Rattle.zarrs_codec.specs.Optional.{optional_meaning}
 use Rattle.zarrs_codec.specs.Through.{through}
 use Rattle.zarrs_steps.specs.Layout.{Layout, layout_at}
 use Rattle.zarrs_array_metadata.specs.Meanings.{Meaning}
@@ -27,11 +29,17 @@ abbrev pub array_codecs_meant : List ArrayCodecData → ArrayMeaning
 array_codecs_meant [] = same_array
 array_codecs_meant (codec ∷ more) = and_then (array_codec_meant codec) (array_codecs_meant more)
 
+abbrev pub mask_codec_meant : MaskCodecData → LeafMeaning
+mask_codec_meant (coding.byte_mask endian) = bytes_meaning_of endian
+mask_codec_meant coding.packed_mask = packbits_meaning
+
 abbrev pub bytes_codec_meant : BytesCodecData → LeafMeaning
 bytes_codec_meant (coding.bytes endian) = bytes_meaning_of endian
 bytes_codec_meant coding.packbits = packbits_meaning
 bytes_codec_meant coding.vlen_utf8 = vlen_utf8_meaning
 bytes_codec_meant coding.vlen_bytes = vlen_bytes_meaning
+bytes_codec_meant coding.vlen = vlen_meaning
+bytes_codec_meant (coding.optional mask inner) = optional_meaning (mask_codec_meant mask) (bytes_codec_meant inner)
 
 -- a chain of codecs
 abbrev pub chain_meant : ChainData → ChainMeaning

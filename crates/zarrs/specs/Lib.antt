@@ -5,3 +5,6 @@ pub mod Puts
 pub mod Queries
 pub mod Laws
 pub mod Typed
+pub mod Setters
+pub mod Lending
+pub mod Elements

@@ -1,6 +1,9 @@
 //! An array: an engine, and the metadata that says its parts.
 mod calls;
+mod copies;
+mod elements;
 mod into;
+mod lending;
 mod metadata;
 mod options;
 mod queries;
@@ -21,7 +24,9 @@ use zarrs_document::DimensionName;
 use zarrs_document_v2::ArrayMetadata;
 use zarrs_engine::Engine;
 use zarrs_keys::{ChunkKeyEncoding, NodePath};
-use zarrs_options::{ArrayCreateError, ArrayMetadataOptions, MetadataRetrieveVersion};
+use zarrs_options::{
+    ArrayCreateError, ArrayMetadataOptions, MetadataRetrieveVersion, StorageTransformerChain,
+};
 use zarrs_storage::ReadableStorageTraits;
 
 /// An array in a store.
@@ -130,6 +135,11 @@ impl<TStorage> Array<TStorage> {
         ensures { result.now ≡ (meaning_of_array self.now).keys }
     {
         self.engine.keys()
+    }
+
+    /// Returns the chain of its storage transformers, which is empty.
+    pub fn storage_transformers(&self) -> StorageTransformerChain {
+        StorageTransformerChain
     }
 
     /// Returns the names of the dimensions, if there are any. A V2 array has none.

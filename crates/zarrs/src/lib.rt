@@ -7,11 +7,14 @@ mod reopening;
 
 pub use array::Array;
 pub use reopening::written_and_opened;
-pub use zarrs_chunk_grid::ChunkGrid;
+pub use zarrs_chunk_grid::{
+    ChunkGrid, ChunkGridTraits, ChunkShape, RectangularChunkGrid, RegularBoundedChunkGrid,
+    RegularChunkGrid,
+};
 pub use zarrs_codec::{CodecChain, CodecOptions};
 pub use zarrs_data_type::{
     ArrayBytes, DataType, Element, ElementError, ElementOwned, FillValue, FromArrayBytes,
-    IntoArrayBytes,
+    IntoArrayBytes, IntoField,
 };
 pub use zarrs_document::{
     AdditionalFieldV3, AdditionalFieldsV3, ArrayMetadataV3, DimensionName, FillValueMetadata,
@@ -24,9 +27,13 @@ pub use zarrs_engine::{ArrayError, Call, Reply};
 pub use zarrs_keys::{ChunkKeyEncoding, ChunkKeySeparator, NodePath, NodePathError};
 pub use zarrs_metadata::{MetadataV3, PluginCreateError};
 pub use zarrs_options::{
-    AdditionalFieldUnsupportedError, ArrayCreateError, ArrayMetadataOptions,
-    MetadataConvertVersion, MetadataEraseVersion, MetadataRetrieveVersion,
+    AdditionalFieldUnsupportedError, ArrayBuilderChunkGridMetadata, ArrayCreateError,
+    ArrayMetadataOptions, MetadataConvertVersion, MetadataEraseVersion, MetadataRetrieveVersion,
+    StorageTransformerChain,
 };
-pub use zarrs_storage::{StorageError, StoreKey};
-pub use zarrs_subset::ArraySubset;
+pub use zarrs_storage::{
+    Bytes, Fault, Fence, Lent, MemoryStore, ReadOnly, ReadableStorageTraits, StorageError,
+    StoreKey, WritableStorageTraits,
+};
+pub use zarrs_subset::{ArrayIndices, ArrayShape, ArraySubset, ArraySubsetTraits};
 pub use zarrs_target::ArrayBytesDecodeIntoTarget;

@@ -1,5 +1,5 @@
 -- Names of dimensions say nothing of the parts of an array.
-use Rattle.std.proofs.Common.{◌≡◌, ℕ, List, length, Option, Some, None, Result, Ok, Err, refl, sym, ap, ◌∙◌}
+use Rattle.std.proofs.Common.{◌≡◌, ℕ, List, length, Option, None, Result, Ok, Err, refl, sym, ap, ◌∙◌}
 use Rattle.std.specs.Result.{result_ok}
 use Rattle.zarrs_document.specs.Document.{DocumentData}
 use Rattle.zarrs_document_v2.specs.View.{MetadataData, v3, v2}

@@ -3,3 +3,4 @@ pub mod Openings
 pub mod Normal
 pub mod Names
 pub mod Changed
+pub mod Grids

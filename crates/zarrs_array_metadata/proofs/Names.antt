@@ -90,12 +90,12 @@ same_chain es =
 -- ---- documents
 
 -- an accepted step of a creation, and what comes after it
-record Accepted {A B : Type 0} (o : Result A CreateRefusal) (f : A → Result B CreateRefusal) (b : B) : Type 0 where
-  value : A
-  first : o ≡ Ok value
-  rest : f value ≡ Ok b
+pub record Accepted {A B : Type 0} (o : Result A CreateRefusal) (f : A → Result B CreateRefusal) (b : B) : Type 0 where
+  pub value : A
+  pub first : o ≡ Ok value
+  pub rest : f value ≡ Ok b
 
-accepted : {A B : Type 0} (o : Result A CreateRefusal) (f : A → Result B CreateRefusal) (b : B) → (o >>= f) ≡ Ok b → Accepted o f b
+pub accepted : {A B : Type 0} (o : Result A CreateRefusal) (f : A → Result B CreateRefusal) (b : B) → (o >>= f) ≡ Ok b → Accepted o f b
 accepted (Ok a) f b is = record { value = a; first = refl; rest = is }
 accepted (Err e) f b is = absurd cc
 
@@ -132,8 +132,12 @@ shown_ok m = Ok m
 of_shown : (m n : MetadataData) (parts : Meaning) → shown_ok m ≡ Ok n → creation m ≡ Ok parts → creation n ≡ Ok parts
 of_shown m n parts is made = let same : m ≡ n = cc in subst (λ (x : MetadataData). creation x ≡ Ok parts) same made
 
--- the parts of a V2 array are not in its attributes
-attributes_say_nothing : (m : DocumentV2Data) (ms : Members) → creation_v2 (record m { attributes = ms }) ≡ creation_v2 m
+-- the parts of an array are not in its attributes
+pub attributes_of_v3_say_nothing : (m : DocumentData) (ms : Members) → creation_v3 (record m { attributes = ms }) ≡ creation_v3 m
+unfolding creation_v3
+attributes_of_v3_say_nothing m ms = refl
+
+pub attributes_say_nothing : (m : DocumentV2Data) (ms : Members) → creation_v2 (record m { attributes = ms }) ≡ creation_v2 m
 unfolding creation_v3 to_v3
 attributes_say_nothing m ms = by_type (type_v2 m.dtype)
   where

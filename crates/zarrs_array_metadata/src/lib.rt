@@ -8,7 +8,7 @@ mod parts;
 mod shown;
 mod writing;
 
-pub use changes::name_dimensions;
+pub use changes::{name_dimensions, regrid, reshape};
 pub use creation::parts_said;
 pub use opening::stored_metadata;
 pub use parts::ArrayParts;

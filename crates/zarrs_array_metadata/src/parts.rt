@@ -66,7 +66,7 @@ fn data_type_from(alloc: Global, metadata: &MetadataV3) -> Result<DataType, Arra
     }
 }
 
-fn grid_from(
+pub(crate) fn grid_from(
     alloc: Global,
     metadata: &MetadataV3,
     shape: &[u64],

@@ -4,13 +4,19 @@
 #[cfg(test)]
 mod calls;
 #[cfg(test)]
+mod copies;
+#[cfg(test)]
 mod creation;
+#[cfg(test)]
+mod elements;
 #[cfg(test)]
 mod made;
 #[cfg(test)]
 mod opening;
 #[cfg(test)]
 mod setters;
+#[cfg(test)]
+mod shapes;
 #[cfg(test)]
 mod typed;
 #[cfg(test)]

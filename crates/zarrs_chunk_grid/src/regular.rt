@@ -87,6 +87,13 @@ impl RegularChunkGrid {
             chunk_shape: Vec::from_slice(alloc, &self.chunk_shape)?,
         })
     }
+
+    /// The size of a chunk along each dimension.
+    pub fn sizes(&self) -> &[NonZeroU64]
+        ensures { configuration_of (Regular self.now) ≡ regular (sizes_of result.now) }
+    {
+        &self.chunk_shape
+    }
 }
 
 impl ChunkGridTraits for RegularChunkGrid {

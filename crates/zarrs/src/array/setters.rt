@@ -1,9 +1,11 @@
 //! Setters of an array. None of them asks the store.
 use super::Array;
 use std::alloc::Global;
-use zarrs_array_metadata::name_dimensions;
+use zarrs_array_metadata::{name_dimensions, regrid, reshape};
+use zarrs_data_type::IntoField;
 use zarrs_document::DimensionName;
-use zarrs_options::ArrayCreateError;
+use zarrs_options::{ArrayBuilderChunkGridMetadata, ArrayCreateError};
+use zarrs_subset::ArrayShape;
 
 impl<TStorage> Array<TStorage> {
     ghost use Rattle.std.specs.Prelude.{◌≡◌, map, Ok, IfOk, IfErr, OnOk, OnErr, option_map};
@@ -58,6 +60,100 @@ impl<TStorage> Array<TStorage> {
             (metadata_of_array self.old)) (create_refusal_of e)) }
     {
         self.name_dimensions(alloc, dimension_names)?;
+        Ok(self)
+    }
+}
+
+impl<TStorage> Array<TStorage> {
+    ghost use Rattle.std.specs.Prelude.{◌≡◌, Ok, IfOk, IfErr, OnOk, OnErr};
+    ghost use Rattle.zarrs_options.specs.Given.{grid_given};
+    ghost use Rattle.zarrs_options.specs.Refusals.{create_refusal_of, RefusesCreation};
+    ghost use Rattle.zarrs_array_metadata.specs.Changes.{reshaping, regridding};
+    ghost use Rattle.zarrs.specs.Arrays.{metadata_of_array, KeepsArray, KeepsAllButGrid};
+    ghost use Rattle.zarrs.specs.Setters.{Regrids, RefusesRegrid};
+
+    /// Gives the array this shape, as `set_shape` does.
+    ///
+    /// # Errors
+    /// Those of `set_shape`. The array stays as it was then.
+    pub fn reshape(&mut self, alloc: Global, shape: ArrayShape) -> Result<(), ArrayCreateError>
+        ensures reshaped { OnOk result (reshaping shape.items (metadata_of_array self.old)
+            ≡ Ok (metadata_of_array self.new)) }
+        ensures refused { IfErr result (λ e. RefusesCreation
+            (reshaping shape.items (metadata_of_array self.old)) (create_refusal_of e)) }
+        ensures untouched { OnErr result (KeepsArray self.old self.new) }
+        ensures kept { KeepsAllButGrid self.old self.new }
+    {
+        let grid = reshape(alloc, &mut self.metadata, shape)?;
+        self.engine.set_chunk_grid(grid);
+        Ok(())
+    }
+
+    /// Gives the array this shape, and makes its chunk grid anew from its metadata. The store is not asked: a chunk that
+    /// it holds is read by the new grid. `reshape` says what stands if this is refused.
+    ///
+    /// # Errors
+    /// E18 if there is no such grid over the shape, so also for another number of dimensions. E26 may come at any time.
+    pub fn set_shape(
+        &mut self,
+        alloc: Global,
+        shape: ArrayShape,
+    ) -> Result<&mut Self, ArrayCreateError>
+        ensures same_loan { IfOk result (λ array. array.ghost_name ≡ self.entry.ghost_name) }
+        ensures reshaped { IfOk result (λ array. reshaping shape.items
+            (metadata_of_array self.old) ≡ Ok (metadata_of_array array.now)) }
+        ensures refused { IfErr result (λ e. RefusesCreation
+            (reshaping shape.items (metadata_of_array self.old)) (create_refusal_of e)) }
+        ensures kept { IfOk result (λ array. KeepsAllButGrid self.old array.now) }
+    {
+        self.reshape(alloc, shape)?;
+        Ok(self)
+    }
+
+    /// Gives the array this shape and this chunk grid, as `set_shape_and_chunk_grid` does.
+    ///
+    /// # Errors
+    /// Those of `set_shape_and_chunk_grid`. The array stays as it was then.
+    pub fn regrid(
+        &mut self,
+        alloc: Global,
+        shape: ArrayShape,
+        chunk_grid_metadata: &ArrayBuilderChunkGridMetadata,
+    ) -> Result<(), ArrayCreateError>
+        ensures regridded { OnOk result (regridding shape.items (grid_given chunk_grid_metadata.now)
+            (metadata_of_array self.old) ≡ Ok (metadata_of_array self.new)) }
+        ensures refused { IfErr result (λ e. RefusesCreation (regridding shape.items
+            (grid_given chunk_grid_metadata.now) (metadata_of_array self.old))
+            (create_refusal_of e)) }
+        ensures untouched { OnErr result (KeepsArray self.old self.new) }
+        ensures kept { KeepsAllButGrid self.old self.new }
+    {
+        let grid = regrid(alloc, &mut self.metadata, shape, chunk_grid_metadata)?;
+        self.engine.set_chunk_grid(grid);
+        Ok(())
+    }
+
+    /// Gives the array this shape and this chunk grid. The store is not asked: a chunk that it holds is read by the new
+    /// grid. `regrid` says what stands if this is refused.
+    ///
+    /// # Errors
+    /// In this order: E18 for a text that is no metadata of a grid; E20 for another number of dimensions; E18 for no
+    /// chunk grid over the shape, and for a V2 array and a grid that is not `regular`. E26 may come at any time.
+    pub fn set_shape_and_chunk_grid<G: IntoField<ArrayBuilderChunkGridMetadata>>(
+        &mut self,
+        alloc: Global,
+        shape: ArrayShape,
+        chunk_grid_metadata: G,
+    ) -> Result<&mut Self, ArrayCreateError>
+        ensures same_loan { IfOk result (λ array. array.ghost_name ≡ self.entry.ghost_name) }
+        ensures regridded { IfOk result (λ array. Regrids (G.gives chunk_grid_metadata)
+            shape.items (metadata_of_array self.old) (metadata_of_array array.now)) }
+        ensures refused { IfErr result (λ e. RefusesRegrid (G.gives chunk_grid_metadata)
+            shape.items (metadata_of_array self.old) (create_refusal_of e)) }
+        ensures kept { IfOk result (λ array. KeepsAllButGrid self.old array.now) }
+    {
+        let chunk_grid_metadata = chunk_grid_metadata.into_field(alloc)?;
+        self.regrid(alloc, shape, &chunk_grid_metadata)?;
         Ok(self)
     }
 }

@@ -1,0 +1,25 @@
+use Rattle.std.proofs.Common.{◌∙◌, sym}
+use Rattle.zarrs_document_v2.specs.View.{metadata_view}
+use Rattle.zarrs_chunk_grid.specs.GridView.{configuration_of, array_extents_of}
+use Rattle.zarrs_array_metadata.proofs.Grids.{is_reshaped, grid_dimensions_are}
+use Rattle.zarrs.specs.Agreement.{meaning_of}
+use Rattle.zarrs.proofs.Layouts.{parts_are}
+use Rattle.zarrs.proofs.Regridded.{agrees_after}
+use Rattle.zarrs.proofs.array.Array.reshape.Goals as goal
+
+pub set_chunk_grid-requires : goal.set_chunk_grid-requires
+set_chunk_grid-requires g c =
+    let old = c.args.self.now in
+    let grid = c.in_ok-grid.grid in
+    let parts = meaning_of old.engine in
+    let cut = is_reshaped (metadata_view old.metadata) (metadata_view c.reshape.new.metadata) parts c.args.shape.items (configuration_of grid) (parts_are old) c.in_ok-grid.ensures.reshaped c.in_ok-grid.ensures.grid in
+    grid_dimensions_are (configuration_of grid) (array_extents_of grid) ∙ cut.dimensions ∙ sym (grid_dimensions_are parts.grid parts.shape)
+
+pub invariant_of-self-2 : goal.invariant_of-self-2
+invariant_of-self-2 g c =
+    let old = c.args.self.now in
+    let grid = c.in_ok-grid.grid in
+    let cut = is_reshaped (metadata_view old.metadata) (metadata_view c.reshape.new.metadata) (meaning_of old.engine) c.args.shape.items (configuration_of grid) (parts_are old) c.in_ok-grid.ensures.reshaped c.in_ok-grid.ensures.grid in
+    record {
+      agrees = agrees_after grid old.engine c.set_chunk_grid.new.self (metadata_view old.metadata) c.reshape.new.metadata c.args.shape.items c.set_chunk_grid.ensures cut c.in_ok-grid.ensures.shape;
+    }
