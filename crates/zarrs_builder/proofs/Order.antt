@@ -28,31 +28,26 @@ module _ (b : BuilderData) (f : FieldsData) (r : CreateRefusal) where
   at_type is = bound _ _ r is
 
   module _ (k : Kind) (e1 : f.data_type ≡ Some k) where
-    pub at_codec : RefusesCreation (codec_chosen b.array_to_bytes k) r → RefusesCreation (chosen b f) r
+    pub at_grid : RefusesCreation (said_or chunk_grid (grid_chosen f.chunk_grid f.shape)) r → RefusesCreation (chosen b f) r
     unfolding chosen
-    at_codec is = rw e1 (bound _ _ r is)
+    at_grid is = rw e1 (bound _ _ r is)
 
-    module _ (codec : BytesCodecData) (e2 : codec_chosen b.array_to_bytes k ≡ Ok codec) where
-      pub at_grid : RefusesCreation (said_or chunk_grid (grid_chosen f.chunk_grid f.shape)) r → RefusesCreation (chosen b f) r
+    module _ (grid : GridConfiguration) (e3 : grid_chosen f.chunk_grid f.shape ≡ Some grid) where
+      pub at_fill : RefusesCreation (fill_chosen k f.fill_value) r → RefusesCreation (chosen b f) r
       unfolding chosen
-      at_grid is = rw (e1, e2) (bound _ _ r is)
+      at_fill is = rw (e1, e3) (bound _ _ r is)
 
-      module _ (grid : GridConfiguration) (e3 : grid_chosen f.chunk_grid f.shape ≡ Some grid) where
-        pub at_fill : RefusesCreation (fill_chosen k f.fill_value) r → RefusesCreation (chosen b f) r
+      module _ (fill : List ℕ) (e4 : fill_chosen k f.fill_value ≡ Ok fill) where
+        pub at_names : RefusesCreation (names_said (length f.shape) f.dimension_names) r → RefusesCreation (chosen b f) r
         unfolding chosen
-        at_fill is = rw (e1, e2, e3) (bound _ _ r is)
+        at_names is = rw (e1, e3, e4) (bound _ _ r is)
 
-        module _ (fill : List ℕ) (e4 : fill_chosen k f.fill_value ≡ Ok fill) where
-          pub at_names : RefusesCreation (names_said (length f.shape) f.dimension_names) r → RefusesCreation (chosen b f) r
+        module _ (e5 : names_said (length f.shape) f.dimension_names ≡ Ok tt) where
+          pub at_stated : RefusesCreation (fill_stated k fill) r → RefusesCreation (chosen b f) r
           unfolding chosen
-          at_names is = rw (e1, e2, e3, e4) (bound _ _ r is)
+          at_stated is = rw (e1, e3, e4, e5) (bound _ _ r is)
 
-          module _ (e5 : names_said (length f.shape) f.dimension_names ≡ Ok tt) where
-            pub at_stated : RefusesCreation (fill_stated k fill) r → RefusesCreation (chosen b f) r
-            unfolding chosen
-            at_stated is = rw (e1, e2, e3, e4, e5) (bound _ _ r is)
-
-pub all_chosen : (b : BuilderData) (f : FieldsData) (k : Kind) → f.data_type ≡ Some k → (codec : BytesCodecData) → codec_chosen b.array_to_bytes k ≡ Ok codec → (grid : GridConfiguration) → grid_chosen f.chunk_grid f.shape ≡ Some grid → (fill : List ℕ) → fill_chosen k f.fill_value ≡ Ok fill
+pub all_chosen : (b : BuilderData) (f : FieldsData) (k : Kind) → f.data_type ≡ Some k → (codec : BytesCodecData) → codec_chosen b.array_to_bytes k ≡ codec → (grid : GridConfiguration) → grid_chosen f.chunk_grid f.shape ≡ Some grid → (fill : List ℕ) → fill_chosen k f.fill_value ≡ Ok fill
     → names_said (length f.shape) f.dimension_names ≡ Ok tt → (stated : Data) → fill_stated k fill ≡ Ok stated
     → chosen b f ≡ Ok (record { kind = k; codec = codec; grid = grid; fill_value = stated })
 unfolding chosen

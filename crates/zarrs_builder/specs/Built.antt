@@ -12,15 +12,15 @@ use Rattle.zarrs_types.specs.TypeMetadata.{kind_name, kind_extension}
 use Rattle.zarrs_codec.specs.Metadata.{BytesCodecData, default_codec, extensions_of_chain}
 use Rattle.zarrs_document.specs.Document.{DocumentData}
 use Rattle.zarrs_document_v2.specs.View.{MetadataData, v3}
-use Rattle.zarrs_options.specs.Refusals.{CreateRefusal, data_type, codecs, chunk_grid, fill_value, fill_value_metadata, out_of_memory, said_or}
+use Rattle.zarrs_options.specs.Refusals.{CreateRefusal, data_type, chunk_grid, fill_value, fill_value_metadata, out_of_memory, said_or}
 use Rattle.zarrs_array_metadata.specs.Meanings.{Meaning, creation_v3, path_said, names_said, ◌>>=◌}
 use Rattle.zarrs_builder.specs.Given.{FillData, by_bytes, by_metadata}
 use Rattle.zarrs_builder.specs.Builders.{BuilderData, FieldsData, fields_of}
 
 -- the codec that makes bytes: the one that is set, or the default one of the type
-abbrev pub codec_chosen : Option BytesCodecData → Kind → Result BytesCodecData CreateRefusal
-codec_chosen (Some codec) k = Ok codec
-codec_chosen None k = said_or codecs (default_codec k)
+abbrev pub codec_chosen : Option BytesCodecData → Kind → BytesCodecData
+codec_chosen (Some codec) k = codec
+codec_chosen None k = default_codec k
 
 -- the grid over an array of that shape that is given, if there is one
 abbrev pub grid_chosen : Option ExtensionData → List ℕ → Option GridConfiguration
@@ -45,12 +45,11 @@ pub record ChosenData : Type 0 where
 unfoldable pub chosen : BuilderData → FieldsData → Result ChosenData CreateRefusal
 chosen b f = do
   kind ← said_or data_type f.data_type
-  codec ← codec_chosen b.array_to_bytes kind
   grid ← said_or chunk_grid (grid_chosen f.chunk_grid f.shape)
   fill ← fill_chosen kind f.fill_value
   named ← names_said (length f.shape) f.dimension_names
   stated ← fill_stated kind fill
-  Ok (record { kind = kind; codec = codec; grid = grid; fill_value = stated })
+  Ok (record { kind = kind; codec = codec_chosen b.array_to_bytes kind; grid = grid; fill_value = stated })
 
 -- the metadata of these parts, by main names
 abbrev pub document_with : BuilderData → FieldsData → ChosenData → DocumentData

@@ -9,7 +9,7 @@ use zarrs_builder::{
 };
 use zarrs_data_type::{DataType, FillValue, IntoField};
 use zarrs_keys::NodePathError;
-use zarrs_metadata::{FillValueMetadata, PluginCreateError};
+use zarrs_metadata::PluginCreateError;
 use zarrs_options::ArrayCreateError;
 use zarrs_storage::MemoryStore;
 
@@ -213,22 +213,5 @@ fn huge(alloc: Global) -> Result<ArrayBuilder, Fail> {
 fn a_raw_type_that_metadata_cannot_say(rt: HostRuntime) -> Result<(), Fail> {
     let alloc = rt.alloc();
     must_be_of_the_data_type(&rt, &of_path(alloc, &huge(alloc)?, "/")?);
-    Ok(())
-}
-
-fn must_be_of_codecs(rt: &impl Abort, error: &ArrayCreateError) {
-    assert!(rt;
-        matches!(
-            error,
-            ArrayCreateError::CodecsCreateError(PluginCreateError::Other(_))
-        )
-    );
-}
-
-#[test]
-fn an_optional_type_without_a_codec(rt: HostRuntime) -> Result<(), Fail> {
-    let alloc = rt.alloc();
-    let text = "{\"name\":\"zarrs.optional\",\"configuration\":{\"name\":\"uint8\"}}";
-    must_be_of_codecs(&rt, &of_cells(alloc, text, FillValueMetadata::Null)?);
     Ok(())
 }

@@ -21,6 +21,24 @@ fn a_builder_says_what_it_was_given(rt: HostRuntime) -> Result<(), Fail> {
     must_say(&rt, rt.alloc(), &bytes(rt.alloc()), BYTES)
 }
 
+/// The metadata of four bytes, each of which may be none.
+const OPTIONAL: &str = concat!(
+    "{\"chunk_grid\":{\"configuration\":{\"chunk_shape\":[2]},\"name\":\"regular\"},",
+    "\"chunk_key_encoding\":{\"configuration\":{\"separator\":\"/\"},\"name\":\"default\"},",
+    "\"codecs\":[{\"configuration\":{\"data_codecs\":[{\"configuration\":{\"endian\":\"little\"},",
+    "\"name\":\"bytes\"}],\"mask_codecs\":[\"packbits\"]},\"name\":\"zarrs.optional\"}],",
+    "\"data_type\":{\"configuration\":{\"name\":\"uint8\"},\"name\":\"zarrs.optional\"},",
+    "\"fill_value\":null,\"node_type\":\"array\",\"shape\":[4],\"zarr_format\":3}"
+);
+
+#[test]
+fn an_optional_type_has_a_default_codec(rt: HostRuntime) -> Result<(), Fail> {
+    let alloc = rt.alloc();
+    let text = "{\"name\":\"zarrs.optional\",\"configuration\":{\"name\":\"uint8\"}}";
+    let builder = ArrayBuilder::new(alloc, [4u64], [2u64], text, FillValueMetadata::Null);
+    must_say(&rt, alloc, &builder, OPTIONAL)
+}
+
 fn object(alloc: Global, text: &str) -> Result<Map<String, Value>, Fail> {
     Ok(members::object_of(Value::from_str(alloc, text)?).ok_or("no object")?)
 }

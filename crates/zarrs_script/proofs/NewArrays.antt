@@ -31,7 +31,7 @@ use Rattle.zarrs_codec_leaf.specs.declared.bytes.BytesCodec.{BytesCodec}
 use Rattle.zarrs_codec_leaf.specs.declared.bytes.Endianness.TheVariants.{Little}
 use Rattle.zarrs_codec.specs.Chains.{array_to_array_of, array_to_bytes_of}
 use Rattle.zarrs_codec.specs.Metadata.{ChainData, chain_data, bytes_codec_data, bytes}
-use Rattle.zarrs_codec.specs.declared.chain.ArrayToBytesCodec.TheVariants as code
+use Rattle.zarrs_codec.specs.declared.chain.ArrayToBytesCodec as code
 use Rattle.zarrs_codec.specs.declared.chain.CodecChain.{CodecChain}
 use Rattle.zarrs_array_metadata.specs.Meanings.{Meaning, creation_v3}
 use Rattle.zarrs_script_metadata.specs.Parts.{is_number, document_for}

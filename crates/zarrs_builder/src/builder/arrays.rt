@@ -46,6 +46,7 @@ impl ArrayBuilder {
         let chunk_key_encoding = array.chunk_key_encoding().clone()?;
         let codecs = array.codecs();
         let array_to_array_codecs = copied_codecs(alloc, codecs.array_to_array_codecs())?;
+        let array_to_bytes_codec = codecs.array_to_bytes_codec().try_clone(alloc)?;
         let attributes = copied(array.attributes())?;
         let additional_fields = fields_of_metadata(alloc, array.metadata())?;
         Ok(ArrayBuilder {
@@ -56,7 +57,7 @@ impl ArrayBuilder {
             dimension_names: Ok(dimension_names),
             chunk_key_encoding,
             array_to_array_codecs,
-            array_to_bytes_codec: Some(codecs.array_to_bytes_codec().try_clone()),
+            array_to_bytes_codec: Some(array_to_bytes_codec),
             bytes_to_bytes_codecs: BytesToBytesCodecs,
             attributes,
             additional_fields,

@@ -64,10 +64,9 @@ impl ArrayBuilder {
     /// fill value as the data type writes it.
     ///
     /// # Errors
-    /// E26 if a field found no memory. Then in this order: E13 for no data type; E16 for an optional data type without
-    /// a codec that makes bytes, as none of them takes it; E18 for no chunk grid over the shape; E15 for metadata that
-    /// is no fill value of the data type; E21 for more or fewer names than dimensions; E14 for bytes that are no fill
-    /// value of the data type. E26 may come at any time.
+    /// E26 if a field found no memory. Then in this order: E13 for no data type; E18 for no chunk grid over the shape;
+    /// E15 for metadata that is no fill value of the data type; E21 for more or fewer names than dimensions; E14 for
+    /// bytes that are no fill value of the data type. E26 may come at any time.
     pub fn build_metadata(&self, alloc: Global) -> Result<ArrayMetadataV3, ArrayCreateError>
         ensures made { IfOk result (λ m. built (builder_view self.now) ≡ Ok (document_view m)) }
         ensures refused { IfErr result (λ e. RefusesCreation
@@ -252,29 +251,14 @@ fn codec_for(
     alloc: Global,
     codec: &Option<ArrayToBytesCodec>,
     data_type: &DataType,
-) -> Result<ArrayToBytesCodec, ArrayCreateError>
-    ensures made { IfOk result (λ c. codec_chosen (option_map bytes_codec_data codec.now)
-        (kind data_type.now) ≡ Ok (bytes_codec_data c)) }
-    ensures refused { IfErr result (λ e. RefusesCreation (codec_chosen
-        (option_map bytes_codec_data codec.now) (kind data_type.now)) (create_refusal_of e)) }
+) -> Result<ArrayToBytesCodec, AllocError>
+    ensures { IfOk result (λ c. bytes_codec_data c ≡ codec_chosen
+        (option_map bytes_codec_data codec.now) (kind data_type.now)) }
 {
     if let Some(codec) = codec {
-        return Ok(codec.try_clone());
+        return codec.try_clone(alloc);
     }
-    match default_array_to_bytes_codec(data_type) {
-        Some(codec) => Ok(codec),
-        None => Err(no_codec(alloc)),
-    }
-}
-
-fn no_codec(alloc: Global) -> ArrayCreateError
-    ensures { RefusesCreation (said_or {A = Unit {0}} refusal.codecs None)
-        (create_refusal_of result) }
-{
-    match PluginCreateError::other(alloc, "an optional data type has no default codec") {
-        PluginCreateError::OutOfMemory => ArrayCreateError::OutOfMemory,
-        error => ArrayCreateError::CodecsCreateError(error),
-    }
+    default_array_to_bytes_codec(alloc, data_type)
 }
 
 /// Returns the grid over an array of this shape.
