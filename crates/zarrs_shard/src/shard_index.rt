@@ -1,0 +1,207 @@
+//! The index of a shard, and the writing of shards.
+ghost use Rattle.std.specs.Prelude.{◌≡◌, ℕ, ◌*◌, ◌<◌, ◌≤◌, ◌^◌, ◌++◌, [], Some, None, Bool, List, Option};
+ghost use Rattle.std.specs.Prelude.{All, IfOk, IfSome, length, map, drop, option_map};
+ghost use Rattle.zarrs_subset.specs.Pieces.{pieces};
+ghost use Rattle.zarrs_shard.specs.ShardIndex.{range_part, IsComplete, IsRangeWithin, IsWriting, PushesPart};
+ghost use Rattle.zarrs_shard.specs.Shards.{entry_bytes, named_part, shard_bytes, shard_parts};
+ghost use Rattle.zarrs_shard.specs.Steps.{all_some};
+
+use std::alloc::{AllocError, Global};
+
+/// The bytes of an entry of an index: a `u64` offset and a `u64` length.
+const ENTRY_LEN: usize = 16;
+
+/// Where the bytes of a subchunk stand in its shard.
+#[derive(Clone, Copy, Debug, Drop)]
+pub struct SubchunkRange {
+    /// The offset of the first byte.
+    pub start: usize,
+    /// The offset behind the last byte.
+    pub end: usize,
+}
+
+/// Where each of `count` subchunks of a shard stands, in row-major order of subchunks, or `None` for an absent one.
+///
+/// `None` if the bytes are no shard: they are shorter than the index, or a present range does not lie in the data part.
+///
+/// # Errors
+/// `AllocError`: out of memory.
+pub fn read_index(
+    alloc: Global,
+    encoded: &[u8],
+    count: u64,
+    at_start: bool,
+) -> Result<Option<Vec<Option<SubchunkRange>>>, AllocError>
+    ensures parts { IfOk result (λ read. shard_parts at_start count encoded.now
+        ≡ option_map (λ ranges. map (range_part encoded.now) ranges.items) read) }
+    ensures within { IfOk result (λ read. IfSome read
+        (λ ranges. All (IsRangeWithin (length encoded.now)) ranges.items)) }
+{
+    if count > (encoded.len() / ENTRY_LEN) as u64 {
+        return Ok(None);
+    }
+    let index_len = count as usize * ENTRY_LEN;
+    if at_start {
+        let index = &encoded[..index_len];
+        return read_entries(alloc, index, count as usize, index_len, encoded.len());
+    }
+    let end = encoded.len() - index_len;
+    read_entries(alloc, &encoded[end..], count as usize, 0, end)
+}
+
+/// The ranges that so many entries of an index name, if they lie from `start` to `end`.
+fn read_entries(
+    alloc: Global,
+    index: &[u8],
+    count: usize,
+    start: usize,
+    end: usize,
+) -> Result<Option<Vec<Option<SubchunkRange>>>, AllocError>
+    requires { length index.now ≡ count * 16 }
+    ensures parts { IfOk result (λ read. (shard : List ℕ)
+        → all_some (map (named_part shard start end) (pieces 16 count index.now))
+        ≡ option_map (λ ranges. map (range_part shard) ranges.items) read) }
+    ensures within { IfOk result (λ read. IfSome read (λ ranges. All (IsRangeWithin end) ranges.items)) }
+{
+    let mut ranges = Vec::with_capacity(alloc, count)?;
+    for number in 0..count {
+        let entry = &index[number * ENTRY_LEN..number * ENTRY_LEN + ENTRY_LEN];
+        match entry_range(entry, start, end) {
+            Some(range) => ranges.push(range)?,
+            None => return Ok(None),
+        }
+    }
+    Ok(Some(ranges))
+}
+
+/// The range that an entry names, if it lies from `start` to `end`: `Some(None)` for an absent subchunk.
+fn entry_range(entry: &[u8], start: usize, end: usize) -> Option<Option<SubchunkRange>>
+    requires { length entry.now ≡ 16 }
+    ensures part { (shard : List ℕ) → named_part shard start end entry.now ≡ option_map (range_part shard) result }
+    ensures within { IfSome result (IsRangeWithin end) }
+{
+    let offset = u64::from_le_bytes(entry[..8].try_into().unwrap());
+    let len = u64::from_le_bytes(entry[8..].try_into().unwrap());
+    if offset == u64::MAX && len == u64::MAX {
+        return Some(None);
+    }
+    let past = offset.checked_add(len)?;
+    if offset < start as u64 || past > end as u64 {
+        return None;
+    }
+    Some(Some(SubchunkRange {
+        start: offset as usize,
+        end: past as usize,
+    }))
+}
+
+/// A shard that is being written, subchunk by subchunk in row-major order.
+#[derive(Drop)]
+pub struct ShardWriter {
+    at_start: bool,
+    // The room for an index at the start, and the subchunks.
+    encoded: Vec<u8>,
+    // The entries of the index.
+    entries: Vec<u8>,
+}
+
+impl ShardWriter {
+    /// A shard of `count` subchunks, none of which is written.
+    ///
+    /// # Errors
+    /// `AllocError`: out of memory.
+    pub fn new(alloc: Global, count: usize, at_start: bool) -> Result<ShardWriter, AllocError>
+        requires { count * 16 < 2 ^ 64 }
+        ensures { IfOk result (λ writer. IsWriting at_start count writer []) }
+    {
+        let encoded = if at_start {
+            vec![in alloc; 0; count * ENTRY_LEN]?
+        } else {
+            Vec::new(alloc)
+        };
+        Ok(ShardWriter {
+            at_start,
+            encoded,
+            entries: Vec::new(alloc),
+        })
+    }
+
+    /// Leaves out the next subchunk.
+    ///
+    /// # Errors
+    /// `AllocError`: out of memory.
+    pub fn push_absent(&mut self) -> Result<(), AllocError>
+        ensures { IfOk result (λ _. PushesPart self.old self.new None) }
+    {
+        self.push_entry(u64::MAX, u64::MAX)
+    }
+
+    /// Writes the next subchunk, which has these bytes.
+    ///
+    /// # Errors
+    /// `AllocError`: out of memory.
+    pub fn push(&mut self, part: &[u8]) -> Result<(), AllocError>
+        ensures { IfOk result (λ _. PushesPart self.old self.new (Some part.now)) }
+    {
+        let offset = self.encoded.len() as u64;
+        self.push_entry(offset, part.len() as u64)?;
+        self.encoded.extend_from_slice(part)?;
+        Ok(())
+    }
+
+    fn push_entry(&mut self, offset: u64, len: u64) -> Result<(), AllocError>
+        ensures entries { IfOk result (λ _. self.new.entries.items
+            ≡ self.old.entries.items ++ entry_bytes offset len) }
+        ensures encoded { self.new.encoded ≡ self.old.encoded }
+        ensures at_start { self.new.at_start ≡ self.old.at_start }
+    {
+        self.entries.extend_from_slice(&offset.to_le_bytes())?;
+        self.entries.extend_from_slice(&len.to_le_bytes())?;
+        Ok(())
+    }
+
+    /// The bytes of the shard, if each of its subchunks is written or left out.
+    ///
+    /// # Errors
+    /// `AllocError`: out of memory.
+    pub fn finish(self) -> Result<Vec<u8>, AllocError>
+        requires { IsComplete self }
+        ensures { IfOk result (λ shard. (at_start : Bool) (parts : List (Option (List ℕ)))
+            → IsWriting at_start (length parts) self parts → shard.items ≡ shard_bytes at_start parts) }
+    {
+        let ShardWriter {
+            at_start,
+            encoded,
+            entries,
+        } = self;
+        if at_start {
+            Ok(with_front(encoded, &entries))
+        } else {
+            with_end(encoded, &entries)
+        }
+    }
+}
+
+/// The bytes, the first of them replaced by others.
+fn with_front(mut bytes: Vec<u8>, front: &[u8]) -> Vec<u8>
+    requires { length front.now ≤ length bytes.items }
+    ensures { result.items ≡ front.now ++ drop (length front.now) bytes.items }
+{
+    put_front(&mut bytes, front);
+    bytes
+}
+
+fn put_front(bytes: &mut [u8], front: &[u8])
+    requires { length front.now ≤ length bytes.old }
+    ensures { bytes.new ≡ front.now ++ drop (length front.now) bytes.old }
+{
+    bytes[..front.len()].copy_from_slice(front);
+}
+
+/// The bytes, and more bytes behind them.
+fn with_end(mut bytes: Vec<u8>, end: &[u8]) -> Result<Vec<u8>, AllocError>
+    ensures { IfOk result (λ whole. whole.items ≡ bytes.items ++ end.now) }
+{
+    bytes.extend_from_slice(end)?;
+    Ok(bytes)
+}

@@ -1,0 +1,5 @@
+//! Tests of shards.
+#![tactic(auto)]
+
+#[cfg(test)]
+mod shards;
