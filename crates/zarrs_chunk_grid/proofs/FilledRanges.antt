@@ -4,7 +4,7 @@ use Rattle.std.proofs.lemmas.Grind.{same_number_lists}
 use Rattle.std.proofs.lemmas.List.Folds.{list_any_none, list_any_at}
 use Rattle.std.proofs.lemmas.List.FromFn.{length-map-range_with_len}
 use Rattle.zarrs_subset.specs.Regions.{Box, IsBox, IsLong, box_from, empty_box}
-use Rattle.zarrs_chunk_grid.specs.Axes.{Axis, IsAxis, IsFilled, IsInterval}
+use Rattle.zarrs_chunk_grid.specs.Axes.{Axis, IsAxis, IsAxisRange, IsInterval}
 use Rattle.zarrs_chunk_grid.specs.Grids.{Grid, IsGrid, HasIndices, IsChunkRange, each_dimension, range_box, chunks_box}
 use Rattle.zarrs_chunk_grid.proofs.AxisLemmas.{edge_le}
 use Rattle.zarrs_chunk_grid.proofs.Walks.{PairsBelow}
@@ -25,7 +25,7 @@ interval_fits a l i start extent interval =
 
 -- what the first and the last interval of a range fill
 pub filled_from_ends : (a : Axis) (first end start extent last_start last_extent : ℕ) → first < end
-    → IsInterval a first start extent → IsInterval a (end - 1) last_start last_extent → IsFilled a first end start (last_start + last_extent)
+    → IsInterval a first start extent → IsInterval a (end - 1) last_start last_extent → IsAxisRange a first end start (last_start + last_extent)
 filled_from_ends a first end start extent last_start last_extent some begin last =
     let at : end - 1 + 1 ≡ end = omega arith in
     record {
@@ -34,13 +34,13 @@ filled_from_ends a first end start extent last_start last_extent some begin last
       ends = last.ends ∙ ap a.edge at;
     }
 
-pub filled_in_order : (a : Axis) (l : IsAxis a) (first end start stop : ℕ) → first ≤ end → IsFilled a first end start stop → start ≤ stop
+pub filled_in_order : (a : Axis) (l : IsAxis a) (first end start stop : ℕ) → first ≤ end → IsAxisRange a first end start stop → start ≤ stop
 filled_in_order a l first end start stop low filled =
     let up = edge_le a l first end low filled.numbered in
     omega (arith, up, filled.begins, filled.ends)
 
 pub filled_at : (g : Grid) (range : Box) (k first end start stop : ℕ) → first ≡ slice_index range.start k → end ≡ slice_index range.start k + slice_index range.shape k
-    → IsFilled (g.axis k) first end start stop → FilledAt g range k start (stop - start)
+    → IsAxisRange (g.axis k) first end start stop → FilledAt g range k start (stop - start)
 filled_at g range k first end start stop firstIs endIs filled =
     let ends : stop ≡ (g.axis k).edge (slice_index range.start k + slice_index range.shape k) = filled.ends ∙ ap (g.axis k).edge endIs in
     let begins : start ≡ (g.axis k).edge (slice_index range.start k) = filled.begins ∙ ap (g.axis k).edge firstIs in

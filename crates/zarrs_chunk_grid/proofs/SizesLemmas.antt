@@ -12,7 +12,7 @@ use Rattle.std.proofs.lemmas.List.Sums.{sum_by-take-le}
 use Rattle.std.proofs.lemmas.List.Sorted.{IsNonDecreasingBy-from_default}
 use Rattle.std.proofs.lemmas.List.FromFn.{length-map-range_with_len, get_or-map-range_with_len}
 use Rattle.zarrs_chunk_grid.specs.Axes.{Covers, IsInterval, sizes_axis, sizes_of, ends_of_sizes}
-use Rattle.zarrs_chunk_grid.specs.Configurations.{rectangular, count_of, counts_of, fills, all_fill, sizes_view}
+use Rattle.zarrs_chunk_grid.specs.Configurations.{rectangular, chunks_along, counts_of, fills, all_fill, sizes_view}
 use Rattle.zarrs_chunk_grid.specs.GridLaws.{size_read, sizes_axis_lawful, sum_more}
 use Rattle.zarrs_chunk_grid.specs.declared.dimension.ChunkSizes.{ChunkSizes}
 use Rattle.zarrs_chunk_grid.proofs.AxisLemmas.{edge_le}
@@ -108,15 +108,15 @@ module _ (sizes : List ℕ) (ends : List ℕ) (number x : ℕ) (is : ends ≡ en
 
 -- the counts, one dimension after the other
 pub counts_from : (sizes : List ChunkSizes) (extents counts : List ℕ) → length sizes ≡ length extents → length counts ≡ length sizes →
-    ((k : ℕ) (d : ChunkSizes) → k < length sizes → slice_index counts k ≡ count_of (sizes_view (slice_index_or sizes k d)) (slice_index extents k)) → counts ≡ counts_of (rectangular (map sizes_view sizes)) extents
+    ((k : ℕ) (d : ChunkSizes) → k < length sizes → slice_index counts k ≡ chunks_along (sizes_view (slice_index_or sizes k d)) (slice_index extents k)) → counts ≡ counts_of (rectangular (map sizes_view sizes)) extents
 counts_from [] extents [] long same each = refl
 counts_from [] extents (count ∷ counts) long same each = absurd (omega arith)
 counts_from (s ∷ sizes) [] counts long same each = absurd (omega arith)
 counts_from (s ∷ sizes) (extent ∷ extents) [] long same each = absurd (omega arith)
 counts_from (s ∷ sizes) (extent ∷ extents) (count ∷ counts) long same each =
-    let head : count ≡ count_of (sizes_view s) extent = each 0 s (omega arith) in
+    let head : count ≡ chunks_along (sizes_view s) extent = each 0 s (omega arith) in
     let tail : counts ≡ counts_of (rectangular (map sizes_view sizes)) extents = counts_from sizes extents counts (omega arith) (omega arith) (λ k d h. each (suc k) d (omega arith)) in
-    let join : (c : ℕ) (cs : List ℕ) → c ≡ count_of (sizes_view s) extent → cs ≡ counts_of (rectangular (map sizes_view sizes)) extents → c ∷ cs ≡ count_of (sizes_view s) extent ∷ counts_of (rectangular (map sizes_view sizes)) extents = λ c cs p q. ap (λ c. c ∷ cs) p ∙ ap (λ cs. count_of (sizes_view s) extent ∷ cs) q in
+    let join : (c : ℕ) (cs : List ℕ) → c ≡ chunks_along (sizes_view s) extent → cs ≡ counts_of (rectangular (map sizes_view sizes)) extents → c ∷ cs ≡ chunks_along (sizes_view s) extent ∷ counts_of (rectangular (map sizes_view sizes)) extents = λ c cs p q. ap (λ c. c ∷ cs) p ∙ ap (λ cs. chunks_along (sizes_view s) extent ∷ cs) q in
     join count counts head tail
 
 -- each list of sizes adds up, one dimension after the other

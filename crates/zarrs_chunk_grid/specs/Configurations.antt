@@ -45,14 +45,14 @@ grid_of (rectangular sizes) shape =
 abbrev pub chunk_counts : List ℕ → List ℕ → List ℕ
 chunk_counts extents sizes = map (λ q. div_ceil q.0 q.1) (zip extents sizes)
 
-abbrev pub count_of : DimensionSizes → ℕ → ℕ
-count_of (one size) extent = div_ceil extent size
-count_of (listed sizes) extent = length sizes
+abbrev pub chunks_along : DimensionSizes → ℕ → ℕ
+chunks_along (one size) extent = div_ceil extent size
+chunks_along (listed sizes) extent = length sizes
 
 abbrev pub counts_of : GridConfiguration → List ℕ → List ℕ
 counts_of (regular sizes) shape = chunk_counts shape sizes
 counts_of (bounded sizes) shape = chunk_counts shape sizes
-counts_of (rectangular sizes) shape = map (λ q. count_of q.0 q.1) (zip sizes shape)
+counts_of (rectangular sizes) shape = map (λ q. chunks_along q.0 q.1) (zip sizes shape)
 
 -- ---- which arrays take the grid
 

@@ -177,7 +177,7 @@ pub enum ChunkSizes {
 }
 
 impl ChunkSizes {
-    ghost use Rattle.zarrs_chunk_grid.specs.Configurations.{axis_of, fills, count_of, sizes_view};
+    ghost use Rattle.zarrs_chunk_grid.specs.Configurations.{axis_of, fills, chunks_along, sizes_view};
 
     /// The same sizes.
     ///
@@ -195,7 +195,7 @@ impl ChunkSizes {
     /// The number of chunks that the extent takes, or `None` if the sizes do not add up to it.
     pub(crate) fn count(&self, extent: u64) -> Option<u64>
         ensures { SomeIff result (fills (sizes_view self.now) extent ≡ true)
-            (count_of (sizes_view self.now) extent) }
+            (chunks_along (sizes_view self.now) extent) }
     {
         match self {
             ChunkSizes::Size(size) => Some(extent.div_ceil(size.get())),

@@ -13,7 +13,7 @@ use bytes::Bytes;
 use std::alloc::Global;
 
 /// A store that refuses `get` of some keys, with `Other("get")`. Their sizes and ranges pass.
-#[derive(Drop)]
+#[derive(Debug, Drop)]
 pub struct WholeRefused<S> {
     store: S,
     keys: Vec<StoreKey>,

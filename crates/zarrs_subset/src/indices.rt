@@ -14,7 +14,7 @@ use std::alloc::{AllocError, Global};
 
 /// A walk through the positions of a box in row-major order, which lends the position that it is at. No position is
 /// allocated on the way.
-#[derive(Drop)]
+#[derive(Debug, Drop)]
 pub struct PositionWalk<'a> {
     subset: &'a ArraySubset,
     current: ArrayIndicesTinyVec,
@@ -49,7 +49,7 @@ impl<'a> PositionWalk<'a> {
 /// The positions of a box in row-major order, as [`ArraySubset::indices`] returns them.
 ///
 /// An item that is refused, because out of memory, is the last one.
-#[derive(Drop)]
+#[derive(Debug, Drop)]
 pub struct Indices<'a> {
     subset: &'a ArraySubset,
     alloc: Global,

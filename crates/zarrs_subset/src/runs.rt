@@ -119,6 +119,9 @@ impl Runs {
             2 => copy_runs::<2>(strides, 2, source, from, target, to),
             4 => copy_runs::<4>(strides, 4, source, from, target, to),
             8 => copy_runs::<8>(strides, 8, source, from, target, to),
+            16 => copy_runs::<16>(strides, 16, source, from, target, to),
+            32 => copy_runs::<32>(strides, 32, source, from, target, to),
+            64 => copy_runs::<64>(strides, 64, source, from, target, to),
             len => copy_runs::<0>(strides, len, source, from, target, to),
         }
     }

@@ -10,7 +10,7 @@ use zarrs_subset::laws::{
     shifted_boxes_hold_shifted_positions,
 };
 use zarrs_subset::{
-    ArraySubset, ArraySubsetError, ArraySubsetTraits, IncompatibleDimensionalityError,
+    ArraySubset, ArraySubsetError, ArraySubsetTraits, Corner, IncompatibleDimensionalityError,
     SizeOverflow, copy_box, element_count, place_part, ravel_indices, unravel_index,
 };
 
@@ -352,11 +352,15 @@ fn a_box_goes_into_a_larger_array(rt: HostRuntime) {
     let mut target = [9u8; 9];
     copy_box(
         &[5, 6],
-        &[1, 2],
-        &[0, 0],
+        Corner {
+            shape: &[1, 2],
+            start: &[0, 0],
+        },
         &mut target,
-        &[3, 3],
-        &[1, 1],
+        Corner {
+            shape: &[3, 3],
+            start: &[1, 1],
+        },
         &[1, 2],
         1,
     );
@@ -381,11 +385,15 @@ fn whole_planes_go_together(rt: HostRuntime) {
     let mut target = [0u8; 12];
     copy_box(
         &TWELVE,
-        &[3, 2, 2],
-        &[1, 0, 0],
+        Corner {
+            shape: &[3, 2, 2],
+            start: &[1, 0, 0],
+        },
         &mut target,
-        &[3, 2, 2],
-        &[0, 0, 0],
+        Corner {
+            shape: &[3, 2, 2],
+            start: &[0, 0, 0],
+        },
         &[2, 2, 2],
         1,
     );
@@ -401,11 +409,15 @@ fn whole_rows_go_together(rt: HostRuntime) {
     let mut target = [0u8; 12];
     copy_box(
         &TWELVE,
-        &[2, 3, 1],
-        &[0, 1, 0],
+        Corner {
+            shape: &[2, 3, 1],
+            start: &[0, 1, 0],
+        },
         &mut target,
-        &[3, 2, 1],
-        &[1, 0, 0],
+        Corner {
+            shape: &[3, 2, 1],
+            start: &[1, 0, 0],
+        },
         &[2, 2, 1],
         2,
     );
@@ -421,9 +433,17 @@ fn copies_of_nothing_end_at_once(rt: HostRuntime) -> Result<(), Fail> {
     let huge = 1u64 << 40;
     let mut none: [u8; 0] = [];
     let empty = [huge, 0];
-    copy_box(&[], &empty, &[0, 0], &mut none, &empty, &[0, 0], &empty, 1);
+    let corner = Corner {
+        shape: &empty,
+        start: &[0, 0],
+    };
+    copy_box(&[], corner, &mut none, corner, &empty, 1);
     let full = [huge, 4];
-    copy_box(&[], &full, &[0, 0], &mut none, &full, &[0, 0], &full, 0);
+    let corner = Corner {
+        shape: &full,
+        start: &[0, 0],
+    };
+    copy_box(&[], corner, &mut none, corner, &full, 0);
     let empty_box = subset(rt.alloc(), &[0, 0], &empty)?;
     place_part(&empty_box, &mut none, &empty_box, &[], 1);
     let full_box = subset(rt.alloc(), &[0, 0], &full)?;
@@ -455,6 +475,22 @@ fn counts_of_a_million_dimensions(rt: HostRuntime) -> Result<(), Fail> {
     must_count(&rt, &ranges, Ok(0));
     let shape = vec![in alloc; 1u64; 1_000_000]?;
     assert_eq!(rt; element_count(&shape), Some(1));
+    Ok(())
+}
+
+fn place_one_cell(region: &ArraySubset, target: &mut [u8; 1]) -> Result<(), Fail> {
+    if region.num_elements()? == 1 {
+        place_part(region, target, region, &[7], 1);
+    }
+    Ok(())
+}
+
+#[test]
+fn a_cell_of_a_million_dimensions_goes_to_its_place(rt: HostRuntime) -> Result<(), Fail> {
+    let region = ArraySubset::new_with_ranges(rt.alloc(), &million_ranges(rt.alloc())?)?;
+    let mut target = [0u8];
+    place_one_cell(&region, &mut target)?;
+    assert_eq!(rt; target, [7]);
     Ok(())
 }
 

@@ -9,5 +9,5 @@ decreases-loop-k l = l.k
 abbrev pub invariant-loop-k : goal.invariant-loop-k
 invariant-loop-k l = record {
   within : l.k ≤ length l.extents;
-  plan : IsPlan l.cell_size (drop l.k l.source_shape) (drop l.k l.source_start) (drop l.k l.target_shape) (drop l.k l.target_start) (drop l.k l.extents) l.runs;
+  plan : IsPlan l.cell_size (drop l.k l.from.shape.now) (drop l.k l.from.start.now) (drop l.k l.to.shape.now) (drop l.k l.to.start.now) (drop l.k l.extents) l.runs;
 }

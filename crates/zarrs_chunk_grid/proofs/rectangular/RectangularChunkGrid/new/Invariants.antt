@@ -1,5 +1,5 @@
 use Rattle.std.proofs.Common.{◌≡◌, ℕ, ◌<◌, true, length, slice_index, slice_index_or}
-use Rattle.zarrs_chunk_grid.specs.Configurations.{fills, count_of, sizes_view}
+use Rattle.zarrs_chunk_grid.specs.Configurations.{fills, chunks_along, sizes_view}
 use Rattle.zarrs_chunk_grid.specs.declared.dimension.ChunkSizes.{ChunkSizes}
 use Rattle.zarrs_chunk_grid.proofs.rectangular.RectangularChunkGrid.new.Given as goal
 
@@ -7,5 +7,5 @@ abbrev pub invariant-loop-dimension : goal.invariant-loop-dimension
 invariant-loop-dimension l = record {
   long : length l.grid_shape.items ≡ l.dimension;
   filled : (k : ℕ) (d : ChunkSizes) → k < l.dimension → fills (sizes_view (slice_index_or l.sizes.items k d)) (slice_index l.array_shape.items k) ≡ true;
-  counted : (k : ℕ) (d : ChunkSizes) → k < l.dimension → slice_index l.grid_shape.items k ≡ count_of (sizes_view (slice_index_or l.sizes.items k d)) (slice_index l.array_shape.items k);
+  counted : (k : ℕ) (d : ChunkSizes) → k < l.dimension → slice_index l.grid_shape.items k ≡ chunks_along (sizes_view (slice_index_or l.sizes.items k d)) (slice_index l.array_shape.items k);
 }
