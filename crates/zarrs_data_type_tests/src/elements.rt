@@ -112,6 +112,26 @@ fn texts_are_byte_strings_of_utf8(rt: HostRuntime) -> Result<(), Fail> {
     must_be_texts(&rt, alloc, &[], b"", &[0])
 }
 
+/// The data is so many byte strings, of so many bytes in all.
+fn must_hold_strings(rt: &impl Abort, data: &ArrayBytes<'_>, count: usize, len: usize) {
+    match data {
+        ArrayBytes::Variable(strings) => {
+            assert_eq!(rt; strings.len(), count);
+            assert_eq!(rt; strings.bytes().len(), len);
+        }
+        _ => assert!(rt; false, "data of another kind"),
+    }
+}
+
+#[test]
+fn a_million_texts_become_cells(rt: HostRuntime) -> Result<(), Fail> {
+    let texts = vec![in rt.alloc(); "ab"; 1_000_000]?;
+    let made = <&str>::to_array_bytes(rt.alloc(), &DataType::String, &texts)?;
+    must_hold_strings(&rt, &made, 1_000_000, 2_000_000);
+    assert!(rt; made.validate(&DataType::String, 1_000_000));
+    Ok(())
+}
+
 /// The lists of bytes are these cells, and are read from them.
 fn must_be_byte_strings(
     rt: &impl Abort,

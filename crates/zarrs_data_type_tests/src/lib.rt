@@ -7,6 +7,8 @@ mod elements;
 #[cfg(test)]
 mod metadata;
 #[cfg(test)]
+mod metadata_v2;
+#[cfg(test)]
 mod options;
 #[cfg(test)]
 mod parts;

@@ -125,7 +125,7 @@ fn metadata_of_no_type_is_refused(rt: HostRuntime) -> Result<(), Fail> {
     Ok(())
 }
 
-fn fill_metadata(alloc: Global, text: &str) -> Result<FillValueMetadata, Fail> {
+pub(crate) fn fill_metadata(alloc: Global, text: &str) -> Result<FillValueMetadata, Fail> {
     Ok(FillValueMetadata::from_value(Value::from_str(alloc, text)?))
 }
 
@@ -210,7 +210,20 @@ fn fill_values_of_numbers(rt: HostRuntime) -> Result<(), Fail> {
             Some(&[255, 255, 255, 255, 255, 255, 255, 127]),
         ),
         ("int64", "9223372036854775808", None),
+        ("int64", "-9223372036854775809", None),
+        ("int64", "-18446744073709551615", None),
         ("uint64", "18446744073709551615", Some(&[255; 8])),
+        ("uint64", "18446744073709551616", None),
+        (
+            "uint64",
+            "9223372036854775808",
+            Some(&[0, 0, 0, 0, 0, 0, 0, 128]),
+        ),
+        ("uint64", "-9223372036854775808", None),
+        ("uint64", "0", Some(&[0; 8])),
+        ("uint64", "-1", None),
+        ("int64", "0.0", None),
+        ("int64", "1e3", None),
     ];
     must_fill_each(&rt, rt.alloc(), ROWS)
 }
@@ -221,6 +234,7 @@ fn fill_values_of_other_types(rt: HostRuntime) -> Result<(), Fail> {
         ("bool", "true", Some(&[1])),
         ("bool", "false", Some(&[0])),
         ("bool", "1", None),
+        ("bool", "2", None),
         ("r16", "[1,255]", Some(&[1, 255])),
         ("r16", "[1]", None),
         ("r16", "[1,256]", None),

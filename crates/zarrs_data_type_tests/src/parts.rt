@@ -346,3 +346,60 @@ fn empty_boxes_take_and_give_nothing(rt: HostRuntime) -> Result<(), Fail> {
     must_take(&rt, alloc, &DataType::String, none, strings, none.1)?;
     must_extract(&rt, alloc, &DataType::String, strings, &empty, none.1)
 }
+
+#[test]
+fn strings_over_rows_are_extracted_and_updated(rt: HostRuntime) -> Result<(), Fail> {
+    let alloc = rt.alloc();
+    let cells = Cells::Strings(b"abbcccdee", &[0, 1, 3, 6, 7, 7, 9]);
+    let held = (&Corner(&[0, 0], &[2, 3]), &cells);
+    let right = Cells::Strings(b"bbcccee", &[0, 2, 5, 5, 7]);
+    let corner = Corner(&[0, 1], &[2, 2]);
+    must_extract(&rt, alloc, &DataType::String, held, &corner, &right)?;
+    let part = (&corner, &Cells::Strings(b"xyyz", &[0, 1, 1, 3, 4]));
+    let made = Cells::Strings(b"axdyyz", &[0, 1, 2, 2, 3, 5, 6]);
+    must_take(&rt, alloc, &DataType::String, held, part, &made)
+}
+
+#[test]
+fn an_empty_part_of_strings_over_rows_is_nothing(rt: HostRuntime) -> Result<(), Fail> {
+    let alloc = rt.alloc();
+    let cells = Cells::Strings(b"abbcccdee", &[0, 1, 3, 6, 7, 7, 9]);
+    let held = (&Corner(&[0, 0], &[2, 3]), &cells);
+    let none = Cells::Strings(b"", &[0]);
+    let corner = Corner(&[1, 1], &[0, 2]);
+    must_extract(&rt, alloc, &DataType::String, held, &corner, &none)?;
+    must_take(
+        &rt,
+        alloc,
+        &DataType::String,
+        held,
+        (&corner, &none),
+        &cells,
+    )
+}
+
+#[test]
+fn an_array_of_no_dimension_is_one_cell(rt: HostRuntime) -> Result<(), Fail> {
+    let alloc = rt.alloc();
+    let all = Corner(&[], &[]);
+    let (seven, nine) = (Cells::Numbers(&[7, 0]), Cells::Numbers(&[9, 1]));
+    must_extract(&rt, alloc, &DataType::UInt16, (&all, &seven), &all, &seven)?;
+    must_take(
+        &rt,
+        alloc,
+        &DataType::UInt16,
+        (&all, &seven),
+        (&all, &nine),
+        &nine,
+    )?;
+    let (text, empty) = (Cells::Strings(b"ab", &[0, 2]), Cells::Strings(b"", &[0, 0]));
+    must_extract(&rt, alloc, &DataType::String, (&all, &text), &all, &text)?;
+    must_take(
+        &rt,
+        alloc,
+        &DataType::String,
+        (&all, &text),
+        (&all, &empty),
+        &empty,
+    )
+}

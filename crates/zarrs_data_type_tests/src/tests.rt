@@ -244,6 +244,20 @@ fn text_is_utf8(rt: HostRuntime) -> Result<(), Fail> {
 }
 
 #[test]
+fn byte_strings_may_all_be_empty(rt: HostRuntime) -> Result<(), Fail> {
+    let alloc = rt.alloc();
+    let data = strings(b"", &[0, 0, 0])?;
+    must_validate(&rt, &data, &DataType::String, 2, true);
+    must_validate(&rt, &data, &DataType::Bytes, 2, true);
+    must_validate(&rt, &data, &DataType::String, 0, false);
+    must_hold(&rt, &data.into_variable()?.into_owned(alloc)?, &[b"", b""]);
+    let none = strings(b"", &[0])?;
+    must_validate(&rt, &none, &DataType::String, 0, true);
+    must_validate(&rt, &none, &DataType::String, 1, false);
+    Ok(())
+}
+
+#[test]
 fn byte_strings_are_put_behind_others(rt: HostRuntime) -> Result<(), Fail> {
     let alloc = rt.alloc();
     let mut builder = VariableLengthBuilder::new(alloc)?;

@@ -22,31 +22,31 @@ pub(crate) fn document_value(alloc: Global, document: &ArrayMetadataV3) -> Resul
 {
     let fields = written_fields(alloc, &document.additional_fields)?;
     let mut members = other_members(fields);
-    let node_type = Value::try_from_str(alloc, "array")?;
-    let shape = numbers_value(alloc, document.shape.as_slice())?;
-    let data_type = document.data_type.to_value(alloc)?;
-    let chunk_grid = document.chunk_grid.to_value(alloc)?;
-    let key_encoding = document.chunk_key_encoding.to_value(alloc)?;
-    let fill_value = document.fill_value.to_value(alloc)?;
-    let codecs = extensions_value(alloc, &document.codecs)?;
-    let attributes = object_value(&document.attributes)?;
-    let transformers = transformers_value(alloc, &document.storage_transformers)?;
-    let names = names_member(alloc, &document.dimension_names)?;
     put_member(&mut members, alloc, "zarr_format", Some(Value::from(3u64)))?;
+    let node_type = Value::try_from_str(alloc, "array")?;
     put_member(&mut members, alloc, "node_type", Some(node_type))?;
+    let shape = numbers_value(alloc, document.shape.as_slice())?;
     put_member(&mut members, alloc, "shape", Some(shape))?;
+    let data_type = document.data_type.to_value(alloc)?;
     put_member(&mut members, alloc, "data_type", Some(data_type))?;
+    let chunk_grid = document.chunk_grid.to_value(alloc)?;
     put_member(&mut members, alloc, "chunk_grid", Some(chunk_grid))?;
+    let key_encoding = document.chunk_key_encoding.to_value(alloc)?;
     put_member(
         &mut members,
         alloc,
         "chunk_key_encoding",
         Some(key_encoding),
     )?;
+    let fill_value = document.fill_value.to_value(alloc)?;
     put_member(&mut members, alloc, "fill_value", Some(fill_value))?;
+    let codecs = extensions_value(alloc, &document.codecs)?;
     put_member(&mut members, alloc, "codecs", Some(codecs))?;
+    let attributes = object_value(&document.attributes)?;
     put_member(&mut members, alloc, "attributes", attributes)?;
+    let transformers = transformers_value(alloc, &document.storage_transformers)?;
     put_member(&mut members, alloc, "storage_transformers", transformers)?;
+    let names = names_member(alloc, &document.dimension_names)?;
     put_member(&mut members, alloc, "dimension_names", names)?;
     Ok(Value::Object(members))
 }

@@ -3,7 +3,7 @@ use Rattle.std.proofs.Common.{◌≡◌, true, false, Some, None, Ok, Err, refl}
 use Rattle.serde_json.specs.Data.{Data}
 use Rattle.zarrs_document_v2.specs.Document.{DocumentV2Data}
 use Rattle.zarrs_document_v2.specs.Conversion.{no_type, no_fill_value, no_codecs, type_v2, fill_v3, is_uncompressed, converted, to_v3}
-use Rattle.zarrs_document_v2.specs.declared.types.TypeV2.{TypeV2}
+use Rattle.zarrs_metadata.specs.declared.types_v2.TypeV2.{TypeV2}
 
 pub without_type : (m : DocumentV2Data) → type_v2 m.dtype ≡ None → to_v3 m ≡ Err (no_type m.dtype)
 unfolding to_v3

@@ -16,7 +16,7 @@ use Rattle.zarrs_document.proofs.ListLemmas.{map_both}
 use Rattle.zarrs_document.proofs.MemberLemmas.{get_member-put_all}
 use Rattle.zarrs_document_v2.specs.declared.order.ArrayMetadataV2Order.{ArrayMetadataV2Order}
 use Rattle.zarrs_document_v2.specs.declared.order.ArrayMetadataV2Order.TheVariants.{C, F}
-use Rattle.zarrs_document_v2.specs.Document.{DocumentV2Data, PartsV2Data, DraftV2Data, size_of, chunk_order_of, parts_of_v2, draft_of_v2, assembled_v2, document_v2_from, document_v2_of, order_data, document_v2_members, data_v2_with, data_of_v2, without_attributes}
+use Rattle.zarrs_document_v2.specs.Document.{DocumentV2Data, PartsV2Data, DraftV2Data, non_zero_size, chunk_order_of, parts_of_v2, draft_of_v2, assembled_v2, document_v2_from, document_v2_of, order_data, document_v2_members, data_v2_with, data_of_v2, without_attributes}
 
 -- ---- written one after the other
 
@@ -81,16 +81,16 @@ attributes_back : (ms : Members) → members_in (object_data ms) ≡ Some ms
 attributes_back no_members = refl
 attributes_back (member key d ms) = refl
 
-size_back : (size : NonZeroU64) → size_of (number_data (non_zero_u64_get size)) ≡ Some (non_zero_u64_get size)
+size_back : (size : NonZeroU64) → non_zero_size (number_data (non_zero_u64_get size)) ≡ Some (non_zero_u64_get size)
 size_back size = let some = size.ok in rw (ne_eqb size.value 0 (λ z. absurd (omega arith))) refl
 
 -- sizes of chunks are read again
-pub sizes_back : (sizes : List NonZeroU64) → list_in size_of (Some (numbers_data (map non_zero_u64_get sizes))) ≡ Some (map non_zero_u64_get sizes)
+pub sizes_back : (sizes : List NonZeroU64) → list_in non_zero_size (Some (numbers_data (map non_zero_u64_get sizes))) ≡ Some (map non_zero_u64_get sizes)
 sizes_back sizes =
-    ap (λ ds. list_in size_of (Some (array (items_of ds)))) (sym (map_both number_data non_zero_u64_get sizes))
-    ∙ all_of-items_of size_of (λ size. number_data (non_zero_u64_get size)) non_zero_u64_get size_back sizes
+    ap (λ ds. list_in non_zero_size (Some (array (items_of ds)))) (sym (map_both number_data non_zero_u64_get sizes))
+    ∙ all_of-items_of non_zero_size (λ size. number_data (non_zero_u64_get size)) non_zero_u64_get size_back sizes
 
-pub data_v2_with_back : (m : DocumentV2Data) → list_in size_of (Some (numbers_data m.chunks)) ≡ Some m.chunks → document_v2_of (data_of_v2 m) ≡ Some m
+pub data_v2_with_back : (m : DocumentV2Data) → list_in non_zero_size (Some (numbers_data m.chunks)) ≡ Some m.chunks → document_v2_of (data_of_v2 m) ≡ Some m
 unfolding data_v2_with draft_of_v2
 data_v2_with_back m sizes =
     ap document_v2_from (parts_written (object_data m.attributes) m)

@@ -46,8 +46,8 @@ without_attributes m = record m { attributes = no_members }
 -- ---- read
 
 -- a size of a chunk is not 0
-abbrev pub size_of : Data → Option ℕ
-size_of d = option_and_then (λ n. if n == 0 then None else Some n) (number_of d)
+abbrev pub non_zero_size : Data → Option ℕ
+non_zero_size d = option_and_then (λ n. if n == 0 then None else Some n) (number_of d)
 
 abbrev pub order_named : List ℕ → Option ArrayMetadataV2Order
 order_named text = if bytes_eq text (codes "C") then Some C else (if bytes_eq text (codes "F") then Some F else None)
@@ -102,7 +102,7 @@ pub record DraftV2Data : Type 0 where
 unfoldable pub draft_of_v2 : PartsV2Data → DraftV2Data
 draft_of_v2 p = record {
   shape = option_and_then numbers_of p.shape;
-  chunks = list_in size_of p.chunks;
+  chunks = list_in non_zero_size p.chunks;
   dtype = option_and_then as_str p.dtype;
   compressor = p.compressor;
   fill_value = p.fill_value;

@@ -10,7 +10,7 @@ ghost use Rattle.zarrs_metadata.specs.FillValue.{fill_data};
 ghost use Rattle.zarrs_document.specs.View.{document_view};
 ghost use Rattle.zarrs_document_v2.specs.Conversion.{is_vlen_utf8, has_no_filter, has_text_filter};
 ghost use Rattle.zarrs_document_v2.specs.Conversion.{has_filters_of, is_uncompressed};
-ghost use Rattle.zarrs_document_v2.specs.Conversion.{extension_with_member, endian_name};
+ghost use Rattle.zarrs_document_v2.specs.Conversion.{extension_with_member, endian_name_v2};
 ghost use Rattle.zarrs_document_v2.specs.Conversion.{bytes_codec, cells_codec, count_down};
 ghost use Rattle.zarrs_document_v2.specs.Conversion.{order_codecs, converted, to_v3};
 ghost use Rattle.zarrs_document_v2.specs.Refusals.{RefusesConversion};
@@ -19,13 +19,12 @@ ghost use Rattle.zarrs_document_v2.specs.View.{document_v2_view};
 use crate::document::ArrayMetadataV2;
 use crate::error::ArrayMetadataV2ToV3Error;
 use crate::order::ArrayMetadataV2Order;
-use crate::types::{EndianV2, KindV2, TypeV2};
 use crate::writing::sizes_value;
 use serde_json::{Map, Value};
 use std::alloc::{AllocError, Global};
 use zarrs_document::ArrayMetadataV3;
 use zarrs_document::members::{copied, member_of};
-use zarrs_metadata::{FillValueMetadata, MetadataV3, numbers_value};
+use zarrs_metadata::{EndianV2, FillValueMetadata, KindV2, MetadataV3, TypeV2, numbers_value};
 
 /// Returns the V3 document of a V2 document: the same array under the same chunk keys and bytes.
 ///
@@ -162,14 +161,14 @@ fn bytes_codec(alloc: Global, endian: Option<EndianV2>) -> Result<MetadataV3, Al
     match endian {
         None => Ok(MetadataV3::new(String::from_str(alloc, "bytes")?)),
         Some(endian) => {
-            let endian = Value::try_from_str(alloc, endian_name(endian))?;
+            let endian = Value::try_from_str(alloc, endian_name_v2(endian))?;
             extension_with(alloc, "bytes", "endian", endian)
         }
     }
 }
 
-fn endian_name(endian: EndianV2) -> &'static str
-    ensures { result.now ≡ endian_name endian }
+fn endian_name_v2(endian: EndianV2) -> &'static str
+    ensures { result.now ≡ endian_name_v2 endian }
 {
     match endian {
         EndianV2::Little => "little",

@@ -8,7 +8,6 @@ mod error;
 mod order;
 mod reading;
 mod text;
-mod types;
 mod versions;
 mod writing;
 

@@ -5,7 +5,7 @@ ghost use Rattle.serde_json.specs.Find.{as_str};
 ghost use Rattle.serde_json.specs.View.{view, items_view, members_view};
 ghost use Rattle.zarrs_metadata.specs.Lists.{all_of};
 ghost use Rattle.zarrs_document.specs.Members.{list_in};
-ghost use Rattle.zarrs_document_v2.specs.Document.{size_of, chunk_order_of, dimension_separator_in};
+ghost use Rattle.zarrs_document_v2.specs.Document.{non_zero_size, chunk_order_of, dimension_separator_in};
 ghost use Rattle.zarrs_document_v2.specs.Document.{parts_of_v2, draft_of_v2, assembled_v2};
 ghost use Rattle.zarrs_document_v2.specs.Document.{document_v2_from, document_v2_of};
 ghost use Rattle.zarrs_document_v2.specs.View.{document_v2_view, parts_v2_view, draft_v2_view};
@@ -165,14 +165,14 @@ impl Draft {
 }
 
 fn size_from(value: &Value) -> Option<NonZeroU64>
-    ensures { option_map non_zero_u64_get result ≡ size_of (view value.now) }
+    ensures { option_map non_zero_u64_get result ≡ non_zero_size (view value.now) }
 {
     NonZeroU64::new(value.as_u64()?)
 }
 
 fn all_sizes(alloc: Global, items: Vec<Value>) -> Result<Option<Vec<NonZeroU64>>, AllocError>
     ensures { IfOk result (λ o. option_map (λ v. map non_zero_u64_get v.items) o
-        ≡ all_of size_of (items_view items.items)) }
+        ≡ all_of non_zero_size (items_view items.items)) }
 {
     let mut sizes = Vec::with_capacity(alloc, items.len())?;
     for item in items {
@@ -186,7 +186,7 @@ fn all_sizes(alloc: Global, items: Vec<Value>) -> Result<Option<Vec<NonZeroU64>>
 
 fn sizes_in(alloc: Global, member: Option<Value>) -> Result<Option<Vec<NonZeroU64>>, AllocError>
     ensures { IfOk result (λ o. option_map (λ v. map non_zero_u64_get v.items) o
-        ≡ list_in size_of (option_map view member)) }
+        ≡ list_in non_zero_size (option_map view member)) }
 {
     match items_in(member) {
         Some(items) => all_sizes(alloc, items),

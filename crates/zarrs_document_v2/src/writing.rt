@@ -43,22 +43,22 @@ fn value_with(
         ≡ data_v2_with (option_map view attributes) (document_v2_view document.now)) }
 {
     let mut members = Map::new(alloc);
-    let shape = numbers_value(alloc, document.shape.as_slice())?;
-    let chunks = sizes_value(alloc, &document.chunks)?;
-    let dtype = document.dtype.to_value(alloc)?;
-    let compressor = document.compressor.clone()?;
-    let fill_value = document.fill_value.to_value(alloc)?;
-    let order = document.order.to_value(alloc)?;
-    let filters = document.filters.clone()?;
-    let separator = document.dimension_separator.to_value(alloc)?;
     put_member(&mut members, alloc, "zarr_format", Some(Value::from(2u64)))?;
+    let shape = numbers_value(alloc, document.shape.as_slice())?;
     put_member(&mut members, alloc, "shape", Some(shape))?;
+    let chunks = sizes_value(alloc, &document.chunks)?;
     put_member(&mut members, alloc, "chunks", Some(chunks))?;
+    let dtype = document.dtype.to_value(alloc)?;
     put_member(&mut members, alloc, "dtype", Some(dtype))?;
+    let compressor = document.compressor.clone()?;
     put_member(&mut members, alloc, "compressor", Some(compressor))?;
+    let fill_value = document.fill_value.to_value(alloc)?;
     put_member(&mut members, alloc, "fill_value", Some(fill_value))?;
+    let order = document.order.to_value(alloc)?;
     put_member(&mut members, alloc, "order", Some(order))?;
+    let filters = document.filters.clone()?;
     put_member(&mut members, alloc, "filters", Some(filters))?;
+    let separator = document.dimension_separator.to_value(alloc)?;
     put_member(&mut members, alloc, "dimension_separator", Some(separator))?;
     put_member(&mut members, alloc, "attributes", attributes)?;
     Ok(Value::Object(members))

@@ -4,3 +4,4 @@ pub mod Members
 pub mod Extension
 pub mod Lists
 pub mod Refusals
+pub mod TypesV2

@@ -8,6 +8,7 @@ mod fill_value;
 mod lists;
 pub mod members;
 mod separators;
+mod types_v2;
 
 pub use data_type::DataTypeMetadataV2;
 pub use error::{MetadataError, PluginCreateError};
@@ -15,3 +16,4 @@ pub use extension::MetadataV3;
 pub use fill_value::FillValueMetadata;
 pub use lists::{numbers, numbers_value};
 pub use separators::ChunkKeySeparator;
+pub use types_v2::{EndianV2, KindV2, TypeV2};

@@ -27,7 +27,7 @@ use zarrs_types::{DataType, FillValue};
 ///
 /// Each call requires `IsTarget`, which `over`, `new_fixed` and `new_optional` ensure. Each slice has a lifetime of its
 /// own, so that its lender knows what it ends as.
-#[derive(Drop)]
+#[derive(Debug, Drop)]
 pub struct ArrayBytesDecodeIntoTarget<'a, 'm, 'r> {
     /// The cells of the parent.
     pub bytes: &'a mut [u8],

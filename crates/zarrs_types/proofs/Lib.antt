@@ -4,3 +4,4 @@ pub mod Values
 pub mod TypeNames
 pub mod TypeReading
 pub mod FillReading
+pub mod FillWriting

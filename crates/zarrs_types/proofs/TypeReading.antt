@@ -14,7 +14,7 @@ use Rattle.zarrs_metadata.specs.Members.{has_only}
 use Rattle.zarrs_types.specs.Kind.{Kind}
 use Rattle.zarrs_types.specs.Kind as type
 use Rattle.zarrs_types.specs.TypeMetadata.{raw_size, number_said, size_of_bits, plain_kind, is_optional_name}
-use Rattle.zarrs_types.specs.TypeMetadata.{configuration_said, inner_extension, kind_within, levels_in, kind_of}
+use Rattle.zarrs_types.specs.TypeMetadata.{type_configuration_said, inner_extension, kind_within, levels_in, kind_of}
 use Rattle.zarrs_types.specs.TypeMetadata.{inner_members, kind_extension, is_readable}
 use Rattle.zarrs_types.proofs.TypeNames.{number_said-decimal, size_of_bits-times}
 
@@ -64,7 +64,7 @@ inner_extension-levels ms i is =
         omega (arith, levels_le inner, object_within d inner is, get_member-depth (codes "configuration") ms d at, levels_of_named ms dn named)
 
     with_name : (dn : Data) (t : Option (List ℕ)) (c : Option Data) → get_member (codes "name") ms ≡ Some dn → get_member (codes "configuration") ms ≡ c
-        → inner_with t (configuration_said c) ≡ Some i → levels_in (settings i) < levels_in ms
+        → inner_with t (type_configuration_said c) ≡ Some i → levels_in (settings i) < levels_in ms
     with_name dn None c named at e = cc
     with_name dn (Some text) None named at e =
         let same : made text None ≡ i = cc in
@@ -73,7 +73,7 @@ inner_extension-levels ms i is =
     with_name dn (Some text) (Some d) named at e = configured d dn text (as_object d) named at refl e
 
     go : (b : Bool) (n : Option Data) → get_member (codes "name") ms ≡ n → (c : Option Data) → get_member (codes "configuration") ms ≡ c
-        → cond b (inner_with (option_and_then as_str n) (configuration_said c)) None ≡ Some i → levels_in (settings i) < levels_in ms
+        → cond b (inner_with (option_and_then as_str n) (type_configuration_said c)) None ≡ Some i → levels_in (settings i) < levels_in ms
     go false n named c at e = cc
     go true None named c at e = cc
     go true (Some dn) named c at e = with_name dn (as_str dn) c named at e

@@ -47,16 +47,16 @@ abbrev pub is_optional_name : List ℕ → Bool
 is_optional_name name = bytes_eq name (codes "zarrs.optional") || bytes_eq name (codes "optional")
 
 -- an absent configuration is none
-abbrev pub configuration_said : Option Data → Option (Option Members)
-configuration_said None = Some None
-configuration_said (Some d) = option_map Some (as_object d)
+abbrev pub type_configuration_said : Option Data → Option (Option Members)
+type_configuration_said None = Some None
+type_configuration_said (Some d) = option_map Some (as_object d)
 
 -- the inner type in the configuration of an optional type: its name and, if it has one, its configuration
 abbrev pub inner_extension : Members → Option ExtensionData
 inner_extension ms =
     if has_only (codes "name" ∷ codes "configuration" ∷ []) ms then (do
       n ← option_and_then as_str (get_member (codes "name") ms)
-      c ← configuration_said (get_member (codes "configuration") ms)
+      c ← type_configuration_said (get_member (codes "configuration") ms)
       Some (record { name = n; configuration = c; must_understand = true })) else None
 
 -- the type that an extension point says, within this number of levels of types; one that is not optional has no
