@@ -27,7 +27,7 @@ use Rattle.zarrs_codec_leaf.proofs.PackedData.{bools_small}
 use Rattle.zarrs_codec_leaf.specs.Refusals.{RefusesEncoding, RefusesDecoding}
 use Rattle.zarrs_codec_leaf.specs.declared.error.CodecError.{CodecError}
 use Rattle.zarrs_codec_leaf.specs.declared.error.CodecError.TheVariants as error
-use Rattle.zarrs_codec.specs.Optional.{some_flag, mask_cells, behind_lengths, parts_of, encoded_if_any, decoded_if_any}
+use Rattle.zarrs_codec.specs.Optional.{some_flag, mask_cells, behind_lengths, mask_and_data, encoded_if_any, decoded_if_any}
 use Rattle.zarrs_codec.specs.Optional.{if_any, takes_optional, optional_meaning}
 use Rattle.zarrs_codec.specs.OptionalLaws.{if_any-lawful, bind_none}
 
@@ -152,14 +152,14 @@ module _ (m d : LeafMeaning) (k u : Kind) (is : inner_of k ≡ Some u) (n : ℕ)
   abbrev from_flags : List ℕ → List ℕ → Option (List Cell)
   from_flags flags body = decoded_if_any d u (count_by flag_set flags) body >>= λ ds. Some (spread_cells flags ds)
 
-  decoded-at : (optional_meaning m d).decoded k n b ≡ (parts_of b >>= λ p. from_mask p.0 p.1)
+  decoded-at : (optional_meaning m d).decoded k n b ≡ (mask_and_data b >>= λ p. from_mask p.0 p.1)
   decoded-at =
-      ap (λ o. o >>= λ v. parts_of b >>= λ p. m.decoded type.bool n p.0 >>= λ bools. decoded_if_any d v (count_by flag_set (map flag_of bools)) p.1 >>= λ ds. Some (spread_cells (map flag_of bools) ds)) is
+      ap (λ o. o >>= λ v. mask_and_data b >>= λ p. m.decoded type.bool n p.0 >>= λ bools. decoded_if_any d v (count_by flag_set (map flag_of bools)) p.1 >>= λ ds. Some (spread_cells (map flag_of bools) ds)) is
 
-  pub unparted : parts_of b ≡ None → (optional_meaning m d).decoded k n b ≡ None
+  pub unparted : mask_and_data b ≡ None → (optional_meaning m d).decoded k n b ≡ None
   unparted not = decoded-at ∙ ap (λ o. o >>= λ p. from_mask p.0 p.1) not
 
-  module _ (mask body : List ℕ) (parts : parts_of b ≡ Some (mask, body)) where
+  module _ (mask body : List ℕ) (parts : mask_and_data b ≡ Some (mask, body)) where
     parted-at : (optional_meaning m d).decoded k n b ≡ from_mask mask body
     parted-at = decoded-at ∙ ap (λ o. o >>= λ p. from_mask p.0 p.1) parts
 

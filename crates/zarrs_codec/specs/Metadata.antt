@@ -76,8 +76,8 @@ endian_said None = Some None
 endian_said (Some value) = option_map Some (option_and_then endian_named (as_str value))
 
 -- `bytes`: the member `endian` may be absent
-abbrev pub bytes_said : Members → Option BytesCodecData
-bytes_said ms = if has_only (codes "endian" ∷ []) ms then option_map bytes (endian_said (get_member (codes "endian") ms)) else None
+abbrev pub bytes_with : Members → Option BytesCodecData
+bytes_with ms = if has_only (codes "endian" ∷ []) ms then option_map bytes (endian_said (get_member (codes "endian") ms)) else None
 
 -- the one padding that there is
 abbrev pub packbits_named : List ℕ → Option BytesCodecData
@@ -102,7 +102,7 @@ vlen_codec_said ms = if vlen_said ms then Some vlen else None
 -- the codec of this name, with this configuration, if it holds no other codec
 abbrev pub bytes_codec_named : List ℕ → Members → Option BytesCodecData
 bytes_codec_named name ms =
-    if bytes_eq name (codes "bytes") then bytes_said ms
+    if bytes_eq name (codes "bytes") then bytes_with ms
     else if bytes_eq name (codes "packbits") then packbits_said ms
     else if bytes_eq name (codes "vlen-utf8") then plain_said vlen_utf8 ms
     else if bytes_eq name (codes "vlen-bytes") then plain_said vlen_bytes ms

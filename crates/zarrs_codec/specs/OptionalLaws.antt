@@ -16,7 +16,7 @@ use Rattle.zarrs_cells.specs.Present.{flag_set, present_cells, spread_cells}
 use Rattle.zarrs_codec_leaf.specs.Chosen.{some_is, only_parts, bind_parts}
 use Rattle.zarrs_codec_leaf.specs.Leaf.{LeafMeaning, IsLawfulLeaf}
 use Rattle.zarrs_codec_leaf.specs.PackBits.{flag_of, flag_cell}
-use Rattle.zarrs_codec.specs.Optional.{some_flag, mask_cells, behind_lengths, parts_of, encoded_if_any, decoded_if_any}
+use Rattle.zarrs_codec.specs.Optional.{some_flag, mask_cells, behind_lengths, mask_and_data, encoded_if_any, decoded_if_any}
 use Rattle.zarrs_codec.specs.Optional.{if_any, takes_optional, optional_meaning}
 
 -- ---- two byte strings behind their lengths
@@ -24,9 +24,9 @@ use Rattle.zarrs_codec.specs.Optional.{if_any, takes_optional, optional_meaning}
 length-le8 : (n : ℕ) → length (to_le_bytes w64 n) ≡ 8
 length-le8 n = refl
 
-pub parts_of-joined : (mask body : List ℕ) → length mask < 2 ^ 64 → length body < 2 ^ 64
-    → parts_of (to_le_bytes w64 (length mask) ++ (to_le_bytes w64 (length body) ++ (mask ++ body))) ≡ Some (mask, body)
-parts_of-joined mask body mask_lt data_lt =
+pub mask_and_data-joined : (mask body : List ℕ) → length mask < 2 ^ 64 → length body < 2 ^ 64
+    → mask_and_data (to_le_bytes w64 (length mask) ++ (to_le_bytes w64 (length body) ++ (mask ++ body))) ≡ Some (mask, body)
+mask_and_data-joined mask body mask_lt data_lt =
     let lm = length mask in
     let ld = length body in
     let a = to_le_bytes w64 lm in
@@ -165,15 +165,15 @@ module _ (m d : LeafMeaning) (mask_law : IsLawfulLeaf m) (law : IsLawfulLeaf d) 
       let whole = to_le_bytes w64 lm ++ (to_le_bytes w64 ld ++ (mask.0 ++ body.0)) in
       let fit = only_parts (nat_lt lm (2 ^ 64) && nat_lt ld (2 ^ 64)) (Some whole) b body.2 in
       let lens = and_parts (nat_lt lm (2 ^ 64)) (nat_lt ld (2 ^ 64)) fit.0 in
-      let parts : parts_of b ≡ Some (mask.0, body.0) =
-      ap parts_of (sym (some_is fit.1)) ∙ parts_of-joined mask.0 body.0 (ltb-true lm (2 ^ 64) lens.0) (ltb-true ld (2 ^ 64) lens.1) in
+      let parts : mask_and_data b ≡ Some (mask.0, body.0) =
+      ap mask_and_data (sym (some_is fit.1)) ∙ mask_and_data-joined mask.0 body.0 (ltb-true lm (2 ^ 64) lens.0) (ltb-true ld (2 ^ 64) lens.1) in
       let read_mask : m.decoded type.bool (length cs) mask.0 ≡ Some (mask_cells cs) =
       ap (λ n. m.decoded type.bool n mask.0) (sym (length-map cs (λ c. flag_cell (some_flag c)))) ∙ mask_law.round_trip type.bool (mask_cells cs) mask.0 (mask-values cs) mask.1 in
       let same_flags : map flag_of (mask_cells cs) ≡ map some_flag cs = map-map flag_of (λ c. flag_cell (some_flag c)) cs in
       let read_data : decoded_if_any d u (count_by flag_set (map some_flag cs)) body.0 ≡ Some present =
       ap (λ n. decoded_if_any d u n body.0) (count-some cs) ∙ any_again d law u present body.0 (present-values k u cs inner.1 v) body.1 in
       let finish : List ℕ → List ℕ → Option (List Cell) = λ text fs. decoded_if_any d u (count_by flag_set fs) text >>= λ ds. Some (spread_cells fs ds) in
-      ap (λ o. o >>= λ x. parts_of b >>= λ ps. m.decoded type.bool (length cs) ps.0 >>= λ ms. decoded_if_any d x (count_by flag_set (map flag_of ms)) ps.1 >>= λ ds. Some (spread_cells (map flag_of ms) ds)) inner.1
+      ap (λ o. o >>= λ x. mask_and_data b >>= λ ps. m.decoded type.bool (length cs) ps.0 >>= λ ms. decoded_if_any d x (count_by flag_set (map flag_of ms)) ps.1 >>= λ ds. Some (spread_cells (map flag_of ms) ds)) inner.1
       ∙ ap (λ o. o >>= λ ps. m.decoded type.bool (length cs) ps.0 >>= λ ms. finish ps.1 (map flag_of ms)) parts
       ∙ ap (λ o. o >>= λ ms. finish body.0 (map flag_of ms)) read_mask
       ∙ ap (finish body.0) same_flags
@@ -182,9 +182,9 @@ module _ (m d : LeafMeaning) (mask_law : IsLawfulLeaf m) (law : IsLawfulLeaf d) 
 
   parts : (k : Kind) (n : ℕ) (b : List ℕ) (cs : List Cell) → (optional_meaning m d).decoded k n b ≡ Some cs → (length cs ≡ n) × (are_values k cs ≡ true)
   parts k n b cs made =
-      let inner = bind_parts (inner_of k) (λ u. parts_of b >>= λ p. m.decoded type.bool n p.0 >>= λ ms. decoded_if_any d u (count_by flag_set (map flag_of ms)) p.1 >>= λ ds. Some (spread_cells (map flag_of ms) ds)) cs made in
+      let inner = bind_parts (inner_of k) (λ u. mask_and_data b >>= λ p. m.decoded type.bool n p.0 >>= λ ms. decoded_if_any d u (count_by flag_set (map flag_of ms)) p.1 >>= λ ds. Some (spread_cells (map flag_of ms) ds)) cs made in
       let u = inner.0 in
-      let cut = bind_parts (parts_of b) (λ p. m.decoded type.bool n p.0 >>= λ ms. decoded_if_any d u (count_by flag_set (map flag_of ms)) p.1 >>= λ ds. Some (spread_cells (map flag_of ms) ds)) cs inner.2 in
+      let cut = bind_parts (mask_and_data b) (λ p. m.decoded type.bool n p.0 >>= λ ms. decoded_if_any d u (count_by flag_set (map flag_of ms)) p.1 >>= λ ds. Some (spread_cells (map flag_of ms) ds)) cs inner.2 in
       let mask = bind_parts (m.decoded type.bool n cut.0.0) (λ ms. decoded_if_any d u (count_by flag_set (map flag_of ms)) cut.0.1 >>= λ ds. Some (spread_cells (map flag_of ms) ds)) cs cut.2 in
       let flags = map flag_of mask.0 in
       let present = bind_parts (decoded_if_any d u (count_by flag_set flags) cut.0.1) (λ ds. Some (spread_cells flags ds)) cs mask.2 in
@@ -204,10 +204,10 @@ module _ (m d : LeafMeaning) (mask_law : IsLawfulLeaf m) (law : IsLawfulLeaf d) 
   unread k n b not = go (inner_of k) not
     where
       go : (o : Option Kind) → elim o [ None ↦ false | Some u ↦ d.takes u ] ≡ false
-          → (o >>= λ u. parts_of b >>= λ p. m.decoded type.bool n p.0 >>= λ ms. decoded_if_any d u (count_by flag_set (map flag_of ms)) p.1 >>= λ ds. Some (spread_cells (map flag_of ms) ds)) ≡ None
+          → (o >>= λ u. mask_and_data b >>= λ p. m.decoded type.bool n p.0 >>= λ ms. decoded_if_any d u (count_by flag_set (map flag_of ms)) p.1 >>= λ ds. Some (spread_cells (map flag_of ms) ds)) ≡ None
       go None off = refl
       go (Some u) off =
-          bind_none (parts_of b) (λ p. m.decoded type.bool n p.0 >>= λ ms. decoded_if_any d u (count_by flag_set (map flag_of ms)) p.1 >>= λ ds. Some (spread_cells (map flag_of ms) ds)) (λ p.
+          bind_none (mask_and_data b) (λ p. m.decoded type.bool n p.0 >>= λ ms. decoded_if_any d u (count_by flag_set (map flag_of ms)) p.1 >>= λ ds. Some (spread_cells (map flag_of ms) ds)) (λ p.
           bind_none (m.decoded type.bool n p.0) (λ ms. decoded_if_any d u (count_by flag_set (map flag_of ms)) p.1 >>= λ ds. Some (spread_cells (map flag_of ms) ds)) (λ ms.
           ap (λ o. o >>= λ ds. Some (spread_cells (map flag_of ms) ds)) (any_unread d law u (count_by flag_set (map flag_of ms)) p.1 off)))
 

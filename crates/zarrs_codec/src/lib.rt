@@ -12,7 +12,7 @@ mod vlen_metadata;
 pub use chain::{ArrayToBytesCodec, BytesToBytesCodecs, CodecChain};
 pub use metadata::default_array_to_bytes_codec;
 pub use optional::{MaskCodec, OptionalCodec};
-pub use options::{CodecMetadataOptions, CodecOptions};
+pub use options::{CodecMetadataOptions, CodecOptions, CodecSpecificOptions};
 pub use traits::ChainTraits;
 pub use zarrs_codec_array::{
     ArrayToArrayCodec, ReshapeCodec, ReshapeExtent, SqueezeCodec, TransposeCodec,

@@ -9,7 +9,7 @@ ghost use Rattle.zarrs_data_type.specs.Kind.{kind};
 ghost use Rattle.zarrs_codec_array.specs.Metadata.{array_codec_data, extension_of_array_codec};
 ghost use Rattle.zarrs_types.specs.TypeMetadata.{is_optional_name};
 ghost use Rattle.zarrs_codec.specs.Metadata.{mask_codec_data, bytes_codec_data, chain_data};
-ghost use Rattle.zarrs_codec.specs.Metadata.{endian_said, bytes_said, packbits_said, plain_said};
+ghost use Rattle.zarrs_codec.specs.Metadata.{endian_said, bytes_with, packbits_said, plain_said};
 ghost use Rattle.zarrs_codec.specs.Metadata.{bytes_codec_named, mask_codec_said, as_mask, vlen_codec_said};
 ghost use Rattle.zarrs_codec.specs.Metadata.{optional_parts, optional_said, bytes_codec_said};
 ghost use Rattle.zarrs_codec.specs.Metadata.{array_codecs_said, chain_of_parts, chain_said};
@@ -279,7 +279,7 @@ fn codec_named(metadata: &MetadataV3) -> Result<Option<ArrayToBytesCodec>, Alloc
 }
 
 fn bytes_from(metadata: &MetadataV3) -> Option<ArrayToBytesCodec>
-    ensures { option_map bytes_codec_data result ≡ bytes_said (settings (extension_view metadata.now)) }
+    ensures { option_map bytes_codec_data result ≡ bytes_with (settings (extension_view metadata.now)) }
 {
     if !metadata.has_only(&["endian"]) {
         return None;

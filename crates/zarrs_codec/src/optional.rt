@@ -16,7 +16,7 @@ ghost use Rattle.zarrs_codec.specs.Chains.{leaf_meaning, mask_meaning, mask_code
 ghost use Rattle.zarrs_codec.specs.Chains.{optional_meaning_of};
 ghost use Rattle.zarrs_codec.specs.Metadata.{mask_codec_data, optional_codec_data};
 ghost use Rattle.zarrs_codec.specs.Metadata.{extension_of_mask_codec, extension_of_bytes_codec};
-ghost use Rattle.zarrs_codec.specs.Optional.{if_any, behind_lengths, parts_of};
+ghost use Rattle.zarrs_codec.specs.Optional.{if_any, behind_lengths, mask_and_data};
 
 use crate::chain::ArrayToBytesCodec;
 use crate::metadata::{bytes_metadata, named, optional_metadata};
@@ -203,7 +203,7 @@ impl OptionalCodec {
         let Some(inner) = data_type.optional_inner() else {
             return Err(CodecError::DoesNotFit);
         };
-        let Some((mask, body)) = parts_of(encoded) else {
+        let Some((mask, body)) = mask_and_data(encoded) else {
             return Err(CodecError::DoesNotFit);
         };
         let DecodedMask { flags, set } = self.mask.decode_mask(alloc, mask, inner, count)?;
@@ -371,8 +371,8 @@ fn behind_lengths(alloc: Global, mask: &[u8], body: &[u8]) -> Result<Vec<u8>, Al
 }
 
 /// The two byte strings, if nothing follows them.
-fn parts_of(encoded: &[u8]) -> Option<(&[u8], &[u8])>
-    ensures { option_map (λ parts. (parts.0.now, parts.1.now)) result ≡ parts_of encoded.now }
+fn mask_and_data(encoded: &[u8]) -> Option<(&[u8], &[u8])>
+    ensures { option_map (λ parts. (parts.0.now, parts.1.now)) result ≡ mask_and_data encoded.now }
 {
     let (mask_len, rest) = encoded.split_first_chunk::<8>()?;
     let (data_len, parts) = rest.split_first_chunk::<8>()?;

@@ -8,12 +8,12 @@ use borrow.Rule.Slice.PartMut.{put_mid}
 use Rattle.zarrs_subset.specs.Boxes.{position_count, InShape, place, unravel}
 use Rattle.zarrs_subset.proofs.Kernel.{get_or-put_mid_inside, other_block, in_block, below_block, place_below, get_or-part, tail_is}
 use Rattle.zarrs_subset.proofs.Positions.{unravel_in}
-use Rattle.zarrs_codec_array.specs.Orders.{dot}
+use Rattle.zarrs_codec_array.specs.Orders.{dot_product}
 use Rattle.zarrs_codec_array.specs.Gathered.{IsGathered, AreWithin}
 
 abbrev Same : ℕ → List ℕ → List ℕ → ℕ → List ℕ → List ℕ → Type 0
 Same size shape steps start from to =
-    (q : List ℕ) (k : ℕ) → InShape shape q → k < size → slice_index to (place shape q * size + k) ≡ slice_index from (start + dot steps q + k)
+    (q : List ℕ) (k : ℕ) → InShape shape q → k < size → slice_index to (place shape q * size + k) ≡ slice_index from (start + dot_product steps q + k)
 
 pub head_tail : (xs : List ℕ) → 0 < length xs → xs ≡ get_or xs 0 0 ∷ slice_range xs 1 (length xs)
 head_tail [] lt = absurd (omega arith)
@@ -85,7 +85,7 @@ more_at size row a start w b shape steps from mid sub block at room len more cal
     elim (cases_eq i row) [
       | inl same ↦
           let here : i * b + (place shape p * size + k) ≡ w + (place shape p * size + k) = ap (λ n. n * b + (place shape p * size + k)) same ∙ ap (λ n. n + (place shape p * size + k)) (sym at) in
-          let to : start + row * a + dot steps p + k ≡ start + (i * a + dot steps p) + k = (let e : row * a ≡ i * a = ap (λ n. n * a) (sym same) in omega arith) in
+          let to : start + row * a + dot_product steps p + k ≡ start + (i * a + dot_product steps p) + k = (let e : row * a ≡ i * a = ap (λ n. n * a) (sym same) in omega arith) in
           ap (λ n. get_or (put_mid w b mid sub) n 0) (spot ∙ here)
           ∙ get_or-put_mid_inside w b (place shape p * size + k) mid sub room len within
           ∙ call.same p k inside.1 lt

@@ -1,4 +1,5 @@
 pub mod Chained
+pub mod Columns
 pub mod Depth
 pub mod Gathering
 pub mod Marks

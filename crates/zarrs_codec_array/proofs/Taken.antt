@@ -18,7 +18,7 @@ use Rattle.zarrs_subset.proofs.Positions.{unravel_in, place-unravel}
 use Rattle.zarrs_subset.proofs.RearrangedCells.{length-made_of, get_or-made_of}
 use Rattle.zarrs_codec_array.specs.Arrays.{rearranged}
 use Rattle.zarrs_codec_array.specs.ArrayLaws.{rearranged_values}
-use Rattle.zarrs_codec_array.specs.Orders.{dot, scaled, permuted}
+use Rattle.zarrs_codec_array.specs.Orders.{dot_product, scaled, permuted}
 use Rattle.zarrs_codec_array.specs.Gathered.{IsGathered, AreWithin, IsTaken, walked}
 use Rattle.zarrs_codec_array.proofs.Transposing.{dot-scaled}
 use Rattle.zarrs_codec_array.proofs.Walks.{length-walked, walked_at}
@@ -29,12 +29,12 @@ taken-fixed k size n shape steps b made is len len' within gathered = record {
   fits = ap (λ o. elim o [ None ↦ false | Some s ↦ eqb (length made) (position_count shape * s) ]) is ∙ eq-eqb (length made) (position_count shape * size) len';
   same = λ q inside.
       let below = place_below shape q inside in
-      let there : dot steps q < n = (let room = within.each q inside in omega arith) in
+      let there : dot_product steps q < n = (let room = within.each q inside in omega arith) in
       cell_at-fixed k size made (place shape q) is
       ∙ ap bytes
-      (piece_at-same size (place shape q) (dot steps q) made b (cell_ends size (place shape q) (position_count shape) (length made) below len') (cell_ends size (dot steps q) n (length b) there len)
+      (piece_at-same size (place shape q) (dot_product steps q) made b (cell_ends size (place shape q) (position_count shape) (length made) below len') (cell_ends size (dot_product steps q) n (length b) there len)
       (λ j lt. gathered.same q j inside lt ∙ ap (λ x. get_or b x 0) (let d = dot-scaled size steps q in omega arith)))
-      ∙ sym (cell_at-fixed k size b (dot steps q) is);
+      ∙ sym (cell_at-fixed k size b (dot_product steps q) is);
 }
 
 pub taken-variable : (k : Kind) (n : ℕ) (shape steps : List ℕ) (strings made : List (List ℕ)) → is_variable k ≡ true → length strings ≡ n → length shape ≡ length steps
@@ -47,7 +47,7 @@ taken-variable k n shape steps strings made is len long within all =
       fits = and_from (is_variable k) (eqb (length made) (position_count shape)) is (eq-eqb (length made) (position_count shape) len');
       same = λ q inside.
           let below = place_below shape q inside in
-          let zero_more : 0 + dot steps q ≡ dot steps q = omega arith in
+          let zero_more : 0 + dot_product steps q ≡ dot_product steps q = omega arith in
           ap (λ l. bytes (get_or l (place shape q) [])) all
           ∙ ap bytes (get_or-map get w (place shape q) 0 [] (omega (arith, length-walked shape steps 0 long)))
           ∙ ap (λ i. bytes (get i)) (walked_at shape steps q 0 long inside ∙ zero_more);
@@ -64,13 +64,13 @@ taken-optional k u shape steps mask made inner made_inner is len gathered taken 
   same = λ q inside.
       let at : place shape q * 1 + 0 ≡ place shape q = omega arith in
       let d = dot-scaled 1 steps q in
-      let to : 0 + dot (scaled 1 steps) q + 0 ≡ dot steps q = omega arith in
-      let flag : slice_index made (place shape q) ≡ slice_index mask (dot steps q) =
+      let to : 0 + dot_product (scaled 1 steps) q + 0 ≡ dot_product steps q = omega arith in
+      let flag : slice_index made (place shape q) ≡ slice_index mask (dot_product steps q) =
       ap (slice_index made) (sym at) ∙ gathered.same q 0 inside (omega arith) ∙ ap (slice_index mask) to in
       optional_at k u made made_inner (place shape q) is
       ∙ ap (λ x. cond (eqb x 0) none (some (cell_at u made_inner (place shape q)))) flag
-      ∙ ap (λ c. cond (eqb (slice_index mask (dot steps q)) 0) none (some c)) (taken.same q inside)
-      ∙ sym (optional_at k u mask inner (dot steps q) is);
+      ∙ ap (λ c. cond (eqb (slice_index mask (dot_product steps q)) 0) none (some c)) (taken.same q inside)
+      ∙ sym (optional_at k u mask inner (dot_product steps q) is);
 }
 
 -- the flags of a mask are flags in another order
@@ -81,15 +81,15 @@ flags-gathered n shape steps mask made len len' within gathered flags i d lt =
     let q = unravel shape i in
     let inside = unravel_in shape i below in
     let at : place shape q * 1 + 0 ≡ i = omega (arith, place-unravel shape i below) in
-    let to : 0 + dot (scaled 1 steps) q + 0 ≡ dot steps q = omega (arith, dot-scaled 1 steps q) in
-    let there : dot steps q < length mask = (let room = within.each q inside in omega arith) in
-    let flag : slice_index made i ≡ slice_index mask (dot steps q) =
+    let to : 0 + dot_product (scaled 1 steps) q + 0 ≡ dot_product steps q = omega (arith, dot-scaled 1 steps q) in
+    let there : dot_product steps q < length mask = (let room = within.each q inside in omega arith) in
+    let flag : slice_index made i ≡ slice_index mask (dot_product steps q) =
     ap (slice_index made) (sym at) ∙ gathered.same q 0 inside (omega arith) ∙ ap (slice_index mask) to in
-    omega (arith, flag, get_or_default made i d 0 lt, flags (dot steps q) 0 there)
+    omega (arith, flag, get_or_default made i d 0 lt, flags (dot_product steps q) 0 there)
 
 -- the cells of data whose cells are taken in another order
 pub taken-cells : (k : Kind) (d made : ArrayData) (cs : List Cell) (target source way steps : List ℕ) → IsSized k → cells k d ≡ Some cs → length cs ≡ position_count source → position_count target ≡ position_count source
-    → IsTaken k target steps d made → ((q : List ℕ) → InShape target q → dot steps q ≡ place source (permuted way q)) → ((q : List ℕ) → InShape target q → InShape source (permuted way q))
+    → IsTaken k target steps d made → ((q : List ℕ) → InShape target q → dot_product steps q ≡ place source (permuted way q)) → ((q : List ℕ) → InShape target q → InShape source (permuted way q))
     → cells k made ≡ Some (rearranged target source way cs)
 taken-cells k d made cs target source way steps sized is len count taken place_is within =
     let F : List ℕ → Cell = λ q. get_or cs (place source (permuted way q)) none in

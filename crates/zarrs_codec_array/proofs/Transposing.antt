@@ -3,7 +3,7 @@ use Rattle.std.proofs.Common.{◌≡◌, ℕ, zero, suc, ◌+◌, ◌*◌, ◌<�
 use Rattle.std.specs.Prelude.{slice_index}
 use Rattle.std.proofs.lemmas.List.{length-map, take_all, drop_all}
 use Rattle.std.proofs.Math.Nat.{mul_assoc, add-mul}
-use Rattle.zarrs_codec_array.specs.Orders.{dot, scaled, permuted}
+use Rattle.zarrs_codec_array.specs.Orders.{dot_product, scaled, permuted}
 use Rattle.zarrs_codec_array.specs.Gathered.{AreWithin}
 use Rattle.zarrs_codec_array.proofs.Gathering.{row_end}
 
@@ -17,18 +17,18 @@ pub permuted-scaled : (size : ℕ) (way xs : List ℕ) → permuted way (scaled 
 permuted-scaled size [] xs = refl
 permuted-scaled size (j ∷ way) xs = ap (λ x. x ∷ permuted way (scaled size xs)) (scaled_at size xs j) ∙ ap (λ l. (slice_index xs j * size) ∷ l) (permuted-scaled size way xs)
 
-pub dot-scaled : (size : ℕ) (steps q : List ℕ) → dot (scaled size steps) q ≡ dot steps q * size
+pub dot-scaled : (size : ℕ) (steps q : List ℕ) → dot_product (scaled size steps) q ≡ dot_product steps q * size
 dot-scaled size [] q = omega arith
 dot-scaled size (a ∷ steps) [] = omega arith
 dot-scaled size (a ∷ steps) (i ∷ q) =
     ap (λ x. i * (a * size) + x) (dot-scaled size steps q)
-    ∙ omega (arith, mul_assoc i a size, add-mul (i * a) (dot steps q) size)
+    ∙ omega (arith, mul_assoc i a size, add-mul (i * a) (dot_product steps q) size)
 
 pub within-scaled : (size n : ℕ) (shape steps : List ℕ) → AreWithin 1 shape steps 0 n → AreWithin size shape (scaled size steps) 0 (n * size)
 within-scaled size n shape steps within = record {
   each = λ q inside.
-      let below : dot steps q < n = (let room = within.each q inside in omega arith) in
-      omega (arith, dot-scaled size steps q, row_end (dot steps q) n size below);
+      let below : dot_product steps q < n = (let room = within.each q inside in omega arith) in
+      omega (arith, dot-scaled size steps q, row_end (dot_product steps q) n size below);
 }
 
 -- a list lent as a slice

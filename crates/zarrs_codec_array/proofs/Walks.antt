@@ -8,7 +8,7 @@ use Rattle.std.proofs.lemmas.Grind.{flat_map-append}
 use Rattle.std.proofs.lemmas.List.FromFn.{map-range_with_len_more}
 use Rattle.zarrs_subset.specs.Boxes.{position_count, InShape, place}
 use Rattle.zarrs_subset.proofs.Kernel.{place_below, tail_is}
-use Rattle.zarrs_codec_array.specs.Orders.{dot}
+use Rattle.zarrs_codec_array.specs.Orders.{dot_product}
 use Rattle.zarrs_codec_array.specs.Gathered.{walked}
 
 length_rows : (f : ℕ → List ℕ) (m s e : ℕ) → ((i : ℕ) → length (f i) ≡ m) → length (flat_map f (range_with_len s e)) ≡ e * m
@@ -41,7 +41,7 @@ length-walked (n ∷ shape) [] start len = absurd (omega arith)
 length-walked (n ∷ shape) (a ∷ steps) start len =
     length_rows (λ i. walked shape steps (start + i * a)) (position_count shape) 0 n (λ i. length-walked shape steps (start + i * a) (omega arith))
 
-pub walked_at : (shape steps q : List ℕ) (start : ℕ) → length shape ≡ length steps → InShape shape q → get_or (walked shape steps start) (place shape q) 0 ≡ start + dot steps q
+pub walked_at : (shape steps q : List ℕ) (start : ℕ) → length shape ≡ length steps → InShape shape q → get_or (walked shape steps start) (place shape q) 0 ≡ start + dot_product steps q
 walked_at [] [] [] start len inside = omega arith
 walked_at [] [] (i ∷ q) start len inside = absurd inside
 walked_at [] (a ∷ steps) q start len inside = absurd (omega arith)

@@ -13,7 +13,7 @@ use Rattle.zarrs_subset.proofs.Counts.{length-InShape}
 use Rattle.zarrs_subset.proofs.Kernel.{place_below}
 use Rattle.zarrs_subset.proofs.RearrangedCells.{length-made_of}
 use Rattle.zarrs_codec_array.specs.Arrays.{transposed}
-use Rattle.zarrs_codec_array.specs.Orders.{is_order, permuted, index_of, inverse, strides, dot}
+use Rattle.zarrs_codec_array.specs.Orders.{is_order, permuted, index_of, inverse, strides, dot_product}
 use Rattle.zarrs_codec_array.specs.OrderLaws.{entry_below, index_at, at_index, length-permuted, length-inverse}
 use Rattle.zarrs_codec_array.specs.OrderLaws.{permuted_at, inverse_at, permuted_in, inverse_in, there_and_back}
 use Rattle.zarrs_codec_array.specs.OrderLaws.{count-permuted, dot-permuted, length-strides, place-dot}
@@ -26,7 +26,7 @@ no_cell (suc n) empty = absurd (empty (omega arith))
 
 module _ (order s : List ℕ) (is : is_order order ≡ true) (long : length order ≡ length s) where
   -- the number of the source's cell of a position of the encoded array
-  pub forward_place : (q : List ℕ) → InShape (permuted order s) q → dot (permuted order (strides s)) q ≡ place s (permuted (inverse order) q)
+  pub forward_place : (q : List ℕ) → InShape (permuted order s) q → dot_product (permuted order (strides s)) q ≡ place s (permuted (inverse order) q)
   forward_place q inside =
       let len = length-InShape (permuted order s) q inside in
       dot-permuted order is s long (strides s) q (length-strides s ∙ sym long) (len ∙ length-permuted order s)
@@ -43,7 +43,7 @@ module _ (order s : List ℕ) (is : is_order order ≡ true) (long : length orde
       ∙ ap (slice_index steps) (index_at order is i here))
 
   -- the number of the encoded array's cell of a position of the decoded one
-  pub back_place : (p : List ℕ) → InShape s p → dot (permuted (inverse order) (strides (permuted order s))) p ≡ place (permuted order s) (permuted order p)
+  pub back_place : (p : List ℕ) → InShape s p → dot_product (permuted (inverse order) (strides (permuted order s))) p ≡ place (permuted order s) (permuted order p)
   back_place p inside =
       let steps = strides (permuted order s) in
       let len : length steps ≡ length order = length-strides (permuted order s) ∙ length-permuted order s in
@@ -51,9 +51,9 @@ module _ (order s : List ℕ) (is : is_order order ≡ true) (long : length orde
       let n : length back ≡ length order = length-permuted (inverse order) steps ∙ length-inverse order is in
       sym
       (place-dot (permuted order s) (permuted order p) (permuted_in order is s long p inside)
-      ∙ ap (λ x. dot x (permuted order p)) (sym (undone steps len))
+      ∙ ap (λ x. dot_product x (permuted order p)) (sym (undone steps len))
       ∙ dot-permuted order is s long back (permuted order p) n (length-permuted order p)
-      ∙ ap (dot back) (there_and_back order is s long p inside))
+      ∙ ap (dot_product back) (there_and_back order is s long p inside))
 
   pub way-forward : 0 < position_count s → IsWay (permuted order s) s order
   way-forward some = record {

@@ -11,7 +11,7 @@ use Rattle.zarrs_subset.specs.Rearranged.{made_of}
 use Rattle.zarrs_subset.proofs.Kernel.{place_below}
 use Rattle.zarrs_subset.proofs.RearrangedCells.{length-made_of, made_of-same, read_all, made_at, all-made_of}
 use Rattle.zarrs_codec_array.specs.Arrays.{ArrayMeaning, IsLawfulArray, same_array, and_then, rearranged, transposed}
-use Rattle.zarrs_codec_array.specs.Arrays.{with_shape, Extent, reshape_shape, names_within, reshaped, squeeze_shape}
+use Rattle.zarrs_codec_array.specs.Arrays.{keeping_cells, Extent, reshape_shape, names_within, reshaped, squeeze_shape}
 use Rattle.zarrs_codec_array.specs.Arrays.{squeezed}
 use Rattle.zarrs_codec_array.specs.Orders.{is_order, permuted, inverse}
 use Rattle.zarrs_codec_array.specs.OrderLaws.{permuted_in, inverse_in, there_and_back, count-permuted}
@@ -88,8 +88,8 @@ transposed-lawful order is = record {
 
 -- ---- `reshape` and `squeeze`
 
-pub with_shape-lawful : (fits : List ℕ → Bool) (shape : List ℕ → List ℕ) → ((s : List ℕ) → fits s ≡ true → position_count (shape s) ≡ position_count s) → IsLawfulArray (with_shape fits shape)
-with_shape-lawful fits shape count = record {
+pub keeping_cells-lawful : (fits : List ℕ → Bool) (shape : List ℕ → List ℕ) → ((s : List ℕ) → fits s ≡ true → position_count (shape s) ≡ position_count s) → IsLawfulArray (keeping_cells fits shape)
+keeping_cells-lawful fits shape count = record {
   count = count;
   round_trip = λ s cs fit len. refl;
   forward_len = λ s cs fit len. len;
@@ -100,7 +100,7 @@ with_shape-lawful fits shape count = record {
 
 pub reshaped-lawful : (entries : List Extent) → IsLawfulArray (reshaped entries)
 reshaped-lawful entries =
-    with_shape-lawful _ (reshape_shape entries)
+    keeping_cells-lawful _ (reshape_shape entries)
     (λ s fit.
     eqb-true (position_count (reshape_shape entries s)) (position_count s)
     (and_parts (list_all (names_within s) entries && list_all (λ n. nat_lt n (2 ^ 64)) (reshape_shape entries s) && nat_lt (position_count s) (2 ^ 64)) _ fit).1)
@@ -114,4 +114,4 @@ count-squeeze [] = refl
 count-squeeze (n ∷ s) = squeeze_step n s (eqb n 1) refl (count-squeeze s)
 
 pub squeezed-lawful : IsLawfulArray squeezed
-squeezed-lawful = with_shape-lawful (λ s. true) squeeze_shape (λ s fit. count-squeeze s)
+squeezed-lawful = keeping_cells-lawful (λ s. true) squeeze_shape (λ s fit. count-squeeze s)

@@ -60,8 +60,8 @@ transposed order = record {
 }
 
 -- a codec that makes an array of another shape, and keeps its cells in their order
-abbrev pub with_shape : (List ℕ → Bool) → (List ℕ → List ℕ) → ArrayMeaning
-with_shape fits shape = record { fits = fits; shape = shape; forward = λ s cs. cs; back = λ s cs. cs }
+abbrev pub keeping_cells : (List ℕ → Bool) → (List ℕ → List ℕ) → ArrayMeaning
+keeping_cells fits shape = record { fits = fits; shape = shape; forward = λ s cs. cs; back = λ s cs. cs }
 
 -- an entry of the shape of `reshape`: a size, dimensions of the decoded array, or what is left
 pub data Extent : Type 0 where
@@ -93,7 +93,7 @@ names_within s _ = true
 -- `reshape`: fits if the shape has its dimensions, its extents fit u64 and their product is that of the array's
 abbrev pub reshaped : List Extent → ArrayMeaning
 reshaped entries =
-    with_shape
+    keeping_cells
     (λ s. list_all (names_within s) entries && list_all (λ n. nat_lt n (2 ^ 64)) (reshape_shape entries s)
     && nat_lt (position_count s) (2 ^ 64) && (position_count (reshape_shape entries s) == position_count s))
     (reshape_shape entries)
@@ -105,4 +105,4 @@ squeeze_shape (n ∷ s) = if n == 1 then squeeze_shape s else n ∷ squeeze_shap
 
 -- `squeeze`: the dimensions of extent 1 go
 abbrev pub squeezed : ArrayMeaning
-squeezed = with_shape (λ s. true) squeeze_shape
+squeezed = keeping_cells (λ s. true) squeeze_shape

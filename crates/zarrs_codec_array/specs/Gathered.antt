@@ -8,17 +8,22 @@ use Rattle.zarrs_types.specs.Kind.{Kind}
 use Rattle.zarrs_cells.specs.declared.array_bytes.ArrayBytes.{ArrayBytes}
 use Rattle.zarrs_subset.specs.Boxes.{position_count, InShape, place}
 use Rattle.zarrs_codec_array.specs.Arrays.{ArrayMeaning}
-use Rattle.zarrs_codec_array.specs.Orders.{dot, permuted, strides}
+use Rattle.zarrs_codec_array.specs.Orders.{dot_product, permuted, strides}
 
 -- `to` is an array of this shape, of cells of `size` bytes: at each position q the `size` bytes of `from` at `start`
 -- and q steps further
 pub record IsGathered (size : ℕ) (shape steps : List ℕ) (start : ℕ) (from to : List ℕ) : Type 0 where
   pub same : (q : List ℕ) (k : ℕ) → InShape shape q → k < size
-      → slice_index to (place shape q * size + k) ≡ slice_index from (start + dot steps q + k)
+      → slice_index to (place shape q * size + k) ≡ slice_index from (start + dot_product steps q + k)
 
 -- the `size` bytes at `start` and q steps further, for each position q of an array of this shape, are among `len` bytes
 pub record AreWithin (size : ℕ) (shape steps : List ℕ) (start len : ℕ) : Type 0 where
-  pub each : (q : List ℕ) → InShape shape q → start + dot steps q + size ≤ len
+  pub each : (q : List ℕ) → InShape shape q → start + dot_product steps q + size ≤ len
+
+-- the first `done` columns of a table of so many rows and columns of cells of `size` bytes are gathered in `to`
+pub record AreColumns (size rows columns row_step column_step start done : ℕ) (from to : List ℕ) : Type 0 where
+  pub same : (i j k : ℕ) → i < rows → j < done → k < size
+      → slice_index to ((i * columns + j) * size + k) ≡ slice_index from (start + i * row_step + j * column_step + k)
 
 -- the number of steps to each position of an array of this shape, in row-major order
 abbrev pub walked : List ℕ → List ℕ → ℕ → List ℕ
@@ -38,7 +43,7 @@ pub record IsWay (target source way : List ℕ) : Type 0 where
 -- `made` is data of an array of this shape: at each position q the cell of `taken` of the number that is q steps
 pub record IsTaken (k : Kind) (shape steps : List ℕ) (taken made : ArrayData) : Type 0 where
   pub fits : fits k made (position_count shape) ≡ true
-  pub same : (q : List ℕ) → InShape shape q → cell_at k made (place shape q) ≡ cell_at k taken (dot steps q)
+  pub same : (q : List ℕ) → InShape shape q → cell_at k made (place shape q) ≡ cell_at k taken (dot_product steps q)
 
 -- data that was made, or if none was the data it was to be made of
 abbrev pub data_or : Option ArrayBytes → ArrayData → ArrayData

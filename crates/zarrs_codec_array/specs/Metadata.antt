@@ -36,8 +36,8 @@ abbrev pub only_member : List ℕ → Members → Option Data
 only_member name ms = if has_only (name ∷ []) ms then get_member name ms else None
 
 -- a size is above 0
-abbrev pub size_of : ℕ → Option Extent
-size_of n = if n == 0 then None else Some (size n)
+abbrev pub extent_of_number : ℕ → Option Extent
+extent_of_number n = if n == 0 then None else Some (size n)
 
 -- -1 is what is left
 abbrev pub rest_of : ℤ → Option Extent
@@ -46,7 +46,7 @@ rest_of z = if int_eq z (negsuc 0) then Some rest else None
 -- a size, -1, or a list of dimensions
 abbrev pub extent_said : Data → Option Extent
 extent_said d =
-    option_or (option_and_then size_of (number_of d))
+    option_or (option_and_then extent_of_number (number_of d))
     (option_or (option_and_then rest_of (option_and_then as_i64 (as_number d))) (option_map product_of (numbers_of d)))
 
 abbrev pub transpose_of : List ℕ → Option ArrayCodecData

@@ -12,7 +12,7 @@ use Rattle.std.proofs.lemmas.List.FromFn.{get_or-map-range_with_len}
 use Rattle.std.proofs.lemmas.List.Sums.{AllPass-from_list_all}
 use Rattle.zarrs_subset.specs.Boxes.{position_count, InShape, place}
 use Rattle.zarrs_subset.proofs.Counts.{InShape-from, length-InShape, InShape-at}
-use Rattle.zarrs_codec_array.specs.Orders.{is_order, permuted, index_of, inverse, strides, dot}
+use Rattle.zarrs_codec_array.specs.Orders.{is_order, permuted, index_of, inverse, strides, dot_product}
 
 abbrev has : ℕ → List ℕ → Bool
 has j ks = list_any (λ k. eqb k j) ks
@@ -214,7 +214,7 @@ map_all s =
     (λ i lt. get_or-map-range_with_len (λ j. slice_index s j) 0 (length s) i i 0 (omega arith) (omega arith))
 
 -- a sum of products, as a sum over the indices
-dot_total : (steps p : List ℕ) (c : ℕ) (h : ℕ → ℕ) → length steps ≡ length p → ((i : ℕ) → i < length steps → h (c + i) ≡ slice_index p i * slice_index steps i) → total add 0 h (range_with_len c (length steps)) ≡ dot steps p
+dot_total : (steps p : List ℕ) (c : ℕ) (h : ℕ → ℕ) → length steps ≡ length p → ((i : ℕ) → i < length steps → h (c + i) ≡ slice_index p i * slice_index steps i) → total add 0 h (range_with_len c (length steps)) ≡ dot_product steps p
 dot_total [] p c h len each = refl
 dot_total (a ∷ steps) [] c h len each = absurd (omega arith)
 dot_total (a ∷ steps) (i ∷ p) c h len each =
@@ -305,7 +305,7 @@ module _ (order : List ℕ) (is : is_order order ≡ true) where
         ∙ ap position_count (ap (λ n. map (λ j. slice_index s j) (range_with_len 0 n)) long ∙ map_all s)
 
     -- the row-major number of a position, by the steps of the array that has the dimensions in the order
-    pub dot-permuted : (steps q : List ℕ) → length steps ≡ length order → length q ≡ length order → dot (permuted order steps) q ≡ dot steps (permuted (inverse order) q)
+    pub dot-permuted : (steps q : List ℕ) → length steps ≡ length order → length q ≡ length order → dot_product (permuted order steps) q ≡ dot_product steps (permuted (inverse order) q)
     dot-permuted steps q ls lq =
         let d = length order in
         let g : ℕ → ℕ = λ j. slice_index q (index_of j order) * slice_index steps j in
@@ -332,7 +332,7 @@ length-strides [] = refl
 length-strides (n ∷ s) = ap suc (length-strides s)
 
 -- the row-major number of a position
-pub place-dot : (s p : List ℕ) → InShape s p → place s p ≡ dot (strides s) p
+pub place-dot : (s p : List ℕ) → InShape s p → place s p ≡ dot_product (strides s) p
 place-dot [] p is = refl
 place-dot (n ∷ s) [] is = refl
 place-dot (n ∷ s) (i ∷ p) is = ap (λ x. i * position_count s + x) (place-dot s p is.1)

@@ -30,7 +30,7 @@ abbrev pub scaled : ℕ → List ℕ → List ℕ
 scaled size steps = map (λ n. n * size) steps
 
 -- the sum of the products
-abbrev pub dot : List ℕ → List ℕ → ℕ
-dot [] p = 0
-dot (a ∷ steps) [] = 0
-dot (a ∷ steps) (i ∷ p) = i * a + dot steps p
+abbrev pub dot_product : List ℕ → List ℕ → ℕ
+dot_product [] p = 0
+dot_product (a ∷ steps) [] = 0
+dot_product (a ∷ steps) (i ∷ p) = i * a + dot_product steps p

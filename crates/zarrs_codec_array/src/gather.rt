@@ -1,8 +1,8 @@
 //! Cells taken in another order.
 ghost use Rattle.std.specs.Prelude.{◌≡◌, ◌+◌, ◌*◌, ◌<◌, ◌^◌, [], ◌∷◌, ◌++◌, length, map};
-ghost use Rattle.std.specs.Prelude.{slice_index_or, OnOk};
+ghost use Rattle.std.specs.Prelude.{◌≤◌, slice_index_or, OnOk};
 ghost use Rattle.zarrs_subset.specs.Boxes.{position_count};
-ghost use Rattle.zarrs_codec_array.specs.Gathered.{IsGathered, AreWithin, walked};
+ghost use Rattle.zarrs_codec_array.specs.Gathered.{IsGathered, AreWithin, AreColumns, walked};
 
 use std::alloc::AllocError;
 use zarrs_data_type::{ArrayBytesVariableLength, VariableLengthBuilder};
@@ -70,6 +70,59 @@ fn gather_line(to: &mut [u8], from: &[u8], size: usize, extent: usize, step: usi
     }
 }
 
+// A table of cells to gather: its extents, the steps from row to row and from column to column, and where its first cell
+// lies in `from`.
+#[derive(Clone, Copy, Drop)]
+struct Table {
+    rows: usize,
+    columns: usize,
+    row_step: usize,
+    column_step: usize,
+    start: usize,
+}
+
+// How many columns of a table are gathered at once: the cells of `from` that follow those of one row are read for the
+// next rows, while they are near.
+const COLUMNS: usize = 32;
+
+// Gathers `count` columns from the column `first` on, the columns before them being gathered.
+fn gather_columns(to: &mut [u8], from: &[u8], size: usize, table: Table, first: usize, count: usize)
+    requires some { 0 < size }
+    requires some_column { 0 < count }
+    requires columns { first + count ≤ table.columns }
+    requires len { length to.old ≡ table.rows * (table.columns * size) }
+    requires within { AreWithin size (table.rows ∷ table.columns ∷ []) (table.row_step ∷ table.column_step ∷ [])
+        table.start (length from.now) }
+    requires before { AreColumns size table.rows table.columns table.row_step table.column_step table.start
+        first from.now to.old }
+    ensures { AreColumns size table.rows table.columns table.row_step table.column_step table.start
+        (first + count) from.now to.new }
+{
+    for row in 0..table.rows {
+        let write = row * (table.columns * size) + first * size;
+        let read = table.start + row * table.row_step + first * table.column_step;
+        let cells = &mut to[write..write + count * size];
+        gather_line(cells, from, size, count, table.column_step, read);
+    }
+}
+
+// Does what `gather` says in two dimensions.
+fn gather_table(to: &mut [u8], from: &[u8], size: usize, table: Table)
+    requires some { 0 < size }
+    requires len { length to.old ≡ table.rows * (table.columns * size) }
+    requires within { AreWithin size (table.rows ∷ table.columns ∷ []) (table.row_step ∷ table.column_step ∷ [])
+        table.start (length from.now) }
+    ensures { IsGathered size (table.rows ∷ table.columns ∷ []) (table.row_step ∷ table.column_step ∷ [])
+        table.start from.now to.new }
+{
+    let mut first = 0;
+    while first < table.columns {
+        let count = COLUMNS.min(table.columns - first);
+        gather_columns(to, from, size, table, first, count);
+        first += count;
+    }
+}
+
 // Fills `to`, an array of the shape `extents` of cells of `size` bytes: at each position the cell of `from` that is as
 // many steps after `start`.
 pub(crate) fn gather(
@@ -95,6 +148,17 @@ pub(crate) fn gather(
     let extent = extents[0] as usize;
     if extents.len() == 1 {
         gather_line(to, from, size, extent, steps[0] as usize, start);
+        return;
+    }
+    if extents.len() == 2 && steps[1] as usize != size {
+        let table = Table {
+            rows: extent,
+            columns: extents[1] as usize,
+            row_step: steps[0] as usize,
+            column_step: steps[1] as usize,
+            start,
+        };
+        gather_table(to, from, size, table);
         return;
     }
     let block = to.len() / extent;

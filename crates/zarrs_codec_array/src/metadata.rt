@@ -9,7 +9,7 @@ ghost use Rattle.zarrs_metadata.specs.Lists.{all_of, list_of, list_data, number_
 ghost use Rattle.zarrs_metadata.specs.Refusals.{RefusesMeaning};
 ghost use Rattle.zarrs_codec_array.specs.Arrays.{size, rest};
 ghost use Rattle.zarrs_codec_array.specs.Extents.{extent_view, extents_view};
-ghost use Rattle.zarrs_codec_array.specs.Metadata.{array_codec_data, only_member, size_of, rest_of};
+ghost use Rattle.zarrs_codec_array.specs.Metadata.{array_codec_data, only_member, extent_of_number, rest_of};
 ghost use Rattle.zarrs_codec_array.specs.Metadata.{extent_said, extent_data, transpose_said};
 ghost use Rattle.zarrs_codec_array.specs.Metadata.{reshape_said, squeeze_said, array_codec_said};
 ghost use Rattle.zarrs_codec_array.specs.Metadata.{with_one_member, extension_of_array_codec};
@@ -195,7 +195,7 @@ fn extent_from(alloc: Global, value: &Value) -> Result<Option<ReshapeExtent>, Al
 
 fn size_from(value: &Value) -> Option<NonZeroU64>
     ensures { option_map (λ n. size (non_zero_u64_get n)) result
-        ≡ option_and_then size_of (number_of (view value.now)) }
+        ≡ option_and_then extent_of_number (number_of (view value.now)) }
 {
     NonZeroU64::new(value.as_u64()?)
 }

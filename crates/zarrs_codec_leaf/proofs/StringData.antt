@@ -20,10 +20,10 @@ use Rattle.zarrs_data_type.specs.Cells.{cells, cell_at, HasCells}
 use Rattle.zarrs_data_type.proofs.Filled.{fits-cells, fits-optional}
 use Rattle.zarrs_data_type.proofs.Fixed.{sized_cells}
 use Rattle.zarrs_codec_leaf.specs.Bytes.{cell_bytes}
-use Rattle.zarrs_codec_leaf.specs.Chosen.{some_is, only_parts, map_same, size_of}
+use Rattle.zarrs_codec_leaf.specs.Chosen.{some_is, only_parts, map_same, chosen_size}
 use Rattle.zarrs_codec_leaf.specs.Leaf.{LeafMeaning, IsLawfulLeaf, encoding_of}
 use Rattle.zarrs_codec_leaf.specs.Strings.{strings_meaning}
-use Rattle.zarrs_codec_leaf.specs.VlenStrings.{is_short, behind_length, counted, first_string, strings_of, uncounted}
+use Rattle.zarrs_codec_leaf.specs.VlenStrings.{is_short, behind_length, counted_strings, first_string, strings_of, uncounted}
 
 -- the cells of byte strings
 pub cells-variable : (k : Kind) (strings : List (List ℕ)) → is_variable k ≡ true → cells k (variable strings) ≡ values_only k (map bytes strings)
@@ -79,7 +79,7 @@ module _ (takes : Kind → Bool) (written : List (List ℕ) → Option (List ℕ
   pub encoding_of-strings : (d : ArrayData) (strings : List (List ℕ)) → d ≡ variable strings → IsSome (cells k d) → encoding_of leaf k d ≡ written strings
   encoding_of-strings d strings is there =
       let same : cells k d ≡ values_only k (map bytes strings) = ap (cells k) is ∙ cells-variable k strings (only taken) in
-      let p = size_of (values_only k (map bytes strings)) (ap is_some (sym same) ∙ there) in
+      let p = chosen_size (values_only k (map bytes strings)) (ap is_some (sym same) ∙ there) in
       let q = only_parts (are_values k (map bytes strings)) (Some (map bytes strings)) p.0 p.1 in
       ap (option_and_then (λ cs. leaf.encoded k cs)) (same ∙ p.1 ∙ sym q.1)
       ∙ ap (λ x. cond x (written (map cell_bytes (map bytes strings))) None) taken
@@ -129,7 +129,7 @@ short_more strings i string lt before is short =
     list_all_more is_short strings i [] lt ∙ and_from (list_all is_short (take i strings)) (is_short (get_or strings i [])) before (ap is_short (sym is) ∙ short)
 
 pub counted_all : (strings : List (List ℕ)) (i : ℕ) (made : List ℕ) → length strings ≤ i → length strings < 2 ^ 32 → list_all is_short (take i strings) ≡ true
-    → made ≡ to_le_bytes w32 (length strings) ++ flat_map behind_length (take i strings) → Some made ≡ counted strings
+    → made ≡ to_le_bytes w32 (length strings) ++ flat_map behind_length (take i strings) → Some made ≡ counted_strings strings
 counted_all strings i made end few short is =
     let n = length strings in
     let body = to_le_bytes w32 n ++ flat_map behind_length strings in
@@ -141,12 +141,12 @@ uncounted_if true true made fails = absurd (fails refl refl)
 uncounted_if true false made fails = refl
 uncounted_if false short made fails = refl
 
-pub counted_long : (strings : List (List ℕ)) (i : ℕ) (string : List ℕ) → i < length strings → string ≡ get_or strings i [] → is_short string ≡ false → None ≡ counted strings
+pub counted_long : (strings : List (List ℕ)) (i : ℕ) (string : List ℕ) → i < length strings → string ≡ get_or strings i [] → is_short string ≡ false → None ≡ counted_strings strings
 counted_long strings i string lt is long =
     sym (uncounted_if (nat_lt (length strings) (2 ^ 32)) (list_all is_short strings) (to_le_bytes w32 (length strings) ++ flat_map behind_length strings)
     (λ few short. false≢true (sym long ∙ ap is_short is ∙ AllPass-from_list_all is_short strings short i [] lt)))
 
-pub counted_many : (strings : List (List ℕ)) → 2 ^ 32 ≤ length strings → None ≡ counted strings
+pub counted_many : (strings : List (List ℕ)) → 2 ^ 32 ≤ length strings → None ≡ counted_strings strings
 counted_many strings many =
     sym (ap (λ x. cond (x && list_all is_short strings) (Some (to_le_bytes w32 (length strings) ++ flat_map behind_length strings)) None) (le-ltb (length strings) (2 ^ 32) many))
 

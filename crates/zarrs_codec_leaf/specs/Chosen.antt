@@ -22,9 +22,9 @@ pub map_same : {X : Type 0} (f : X → X) (xs : List X) → ((k : ℕ) (d : X) �
 map_same f [] each = refl
 map_same f (x ∷ xs) each = ap (λ y. y ∷ map f xs) (each 0 x (omega arith)) ∙ ap (λ l. x ∷ l) (map_same f xs (λ k d lt. each (suc k) d (omega arith)))
 
-pub size_of : {A : Type 0} (o : Option A) → is_some o ≡ true → (size : A) × (o ≡ Some size)
-size_of None is = cc
-size_of (Some size) is = (size, refl)
+pub chosen_size : {A : Type 0} (o : Option A) → is_some o ≡ true → (size : A) × (o ≡ Some size)
+chosen_size None is = cc
+chosen_size (Some size) is = (size, refl)
 
 pub not_some : {A : Type 0} (o : Option A) → is_some o ≡ false → o ≡ None
 not_some None is = refl

@@ -26,8 +26,8 @@ abbrev pub is_short : List ℕ → Bool
 is_short string = nat_lt (length string) (2 ^ 32)
 
 -- the bytes of byte strings, if their number and their lengths fit the fields
-abbrev pub counted : List (List ℕ) → Option (List ℕ)
-counted strings =
+abbrev pub counted_strings : List (List ℕ) → Option (List ℕ)
+counted_strings strings =
     if nat_lt (length strings) (2 ^ 32) && list_all is_short strings
     then Some (to_le_bytes w32 (length strings) ++ flat_map behind_length strings) else None
 
@@ -47,7 +47,7 @@ abbrev pub uncounted : ℕ → List ℕ → Option (List (List ℕ))
 uncounted n b = if nat_le 4 (length b) && (from_le_bytes w32 (take 4 b) == n) then strings_of n (drop 4 b) else None
 
 abbrev pub vlen_utf8_meaning : LeafMeaning
-vlen_utf8_meaning = strings_meaning is_string counted uncounted
+vlen_utf8_meaning = strings_meaning is_string counted_strings uncounted
 
 abbrev pub vlen_bytes_meaning : LeafMeaning
-vlen_bytes_meaning = strings_meaning is_bytes counted uncounted
+vlen_bytes_meaning = strings_meaning is_bytes counted_strings uncounted

@@ -9,7 +9,7 @@ use Rattle.std.proofs.lemmas.Nat.{from_le_bytes-to_le_bytes_4}
 use Rattle.std.proofs.lemmas.List.{length-append, append_assoc, take_at, drop_at, drop-drop}
 use Rattle.zarrs_types.specs.Kind.{Kind, is_variable}
 use Rattle.zarrs_types.specs.Kind as type
-use Rattle.zarrs_codec_leaf.specs.VlenStrings.{is_string, is_bytes, is_short, behind_length, counted, first_string}
+use Rattle.zarrs_codec_leaf.specs.VlenStrings.{is_string, is_bytes, is_short, behind_length, counted_strings, first_string}
 use Rattle.zarrs_codec_leaf.specs.VlenStrings.{strings_of, uncounted, vlen_utf8_meaning, vlen_bytes_meaning}
 use Rattle.zarrs_codec_leaf.specs.Chosen.{some_is, only_parts, bind_parts, map_parts}
 use Rattle.zarrs_codec_leaf.specs.Leaf.{IsLawfulLeaf}
@@ -43,7 +43,7 @@ strings_again (s ∷ strings) small =
     (first_again s (flat_map behind_length strings) (ltb-true (length s) (2 ^ 32) p.0))
     ∙ ap (option_map (λ ss. s ∷ ss)) (strings_again strings p.1)
 
-again : (strings : List (List ℕ)) (b : List ℕ) → counted strings ≡ Some b → uncounted (length strings) b ≡ Some strings
+again : (strings : List (List ℕ)) (b : List ℕ) → counted_strings strings ≡ Some b → uncounted (length strings) b ≡ Some strings
 again strings b made =
     let n = length strings in
     let head = to_le_bytes w32 n in
@@ -81,7 +81,7 @@ bytes-variable type.bytes is = refl
 bytes-variable k is = absurd (false≢true is)
 
 pub vlen_utf8-lawful : IsLawfulLeaf vlen_utf8_meaning
-vlen_utf8-lawful = strings-lawful is_string counted uncounted string-variable again count
+vlen_utf8-lawful = strings-lawful is_string counted_strings uncounted string-variable again count
 
 pub vlen_bytes-lawful : IsLawfulLeaf vlen_bytes_meaning
-vlen_bytes-lawful = strings-lawful is_bytes counted uncounted bytes-variable again count
+vlen_bytes-lawful = strings-lawful is_bytes counted_strings uncounted bytes-variable again count

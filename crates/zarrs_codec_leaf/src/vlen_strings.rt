@@ -4,7 +4,7 @@ ghost use Rattle.std.specs.Prelude.{option_map};
 ghost use Rattle.zarrs_data_type.specs.ArrayData.{data_of};
 ghost use Rattle.zarrs_data_type.specs.Cells.{cells};
 ghost use Rattle.zarrs_data_type.specs.Kind.{kind};
-ghost use Rattle.zarrs_codec_leaf.specs.VlenStrings.{behind_length, counted, first_string};
+ghost use Rattle.zarrs_codec_leaf.specs.VlenStrings.{behind_length, counted_strings, first_string};
 ghost use Rattle.zarrs_codec_leaf.specs.VlenStrings.{is_short, strings_of, uncounted};
 ghost use Rattle.zarrs_codec_leaf.specs.VlenStrings.{vlen_bytes_meaning, vlen_utf8_meaning};
 ghost use Rattle.zarrs_codec_leaf.specs.Refusals.{RefusesEncoding, RefusesDecoding};
@@ -56,7 +56,7 @@ impl VlenUtf8Codec {
         }
         match bytes {
             ArrayBytes::Variable(strings) => {
-                let made = counted(alloc, strings)?;
+                let made = counted_strings(alloc, strings)?;
                 match made {
                     Some(encoded) => Ok(encoded),
                     None => Err(CodecError::SizeOverflow),
@@ -135,7 +135,7 @@ impl VlenBytesCodec {
         }
         match bytes {
             ArrayBytes::Variable(strings) => {
-                let made = counted(alloc, strings)?;
+                let made = counted_strings(alloc, strings)?;
                 match made {
                     Some(encoded) => Ok(encoded),
                     None => Err(CodecError::SizeOverflow),
@@ -182,11 +182,12 @@ impl VlenBytesCodec {
 }
 
 /// The bytes of byte strings, or `None` if their number or a length does not fit 4 bytes.
-fn counted(
+fn counted_strings(
     alloc: Global,
     strings: &ArrayBytesVariableLength<'_>,
 ) -> Result<Option<Vec<u8>>, AllocError>
-    ensures { IfOk result (λ made. option_map (λ encoded. encoded.items) made ≡ counted strings.now) }
+    ensures { IfOk result (λ made.
+        option_map (λ encoded. encoded.items) made ≡ counted_strings strings.now) }
 {
     let count = strings.len();
     if count > u32::MAX as usize {

@@ -115,6 +115,12 @@ fn bytes_of_big_endian_have_the_exact_length(rt: HostRuntime) -> Result<(), Fail
     const ROWS: &[(&str, &[u64], &[u8])] = &[
         ("uint16", &[1], &[1]),
         ("uint16", &[1], &[1, 2, 3]),
+        ("int32", &[1], &[1, 2, 3]),
+        ("int32", &[1], &[1, 2, 3, 4, 5]),
+        ("uint64", &[1], &[1, 2, 3, 4, 5, 6, 7]),
+        ("uint64", &[1], &[1, 2, 3, 4, 5, 6, 7, 8, 9]),
+        ("r16", &[1], &[1]),
+        ("r16", &[1], &[1, 2, 3]),
         ("bool", &[1], &[2]),
     ];
     must_decode_none(&rt, rt.alloc(), big(), ROWS)
@@ -172,6 +178,22 @@ fn packed_bools_have_the_exact_length_and_no_other_bits(rt: HostRuntime) -> Resu
         ("bool", &[9], &[0x8D, 0x81]),
         ("bool", &[9], &[0x8D]),
         ("bool", &[9], &[0x8D, 0x01, 0x00]),
+        ("bool", &[0], &[0x00]),
+        ("bool", &[1], &[]),
+        ("bool", &[1], &[0x02]),
+        ("bool", &[1], &[0x80]),
+        ("bool", &[1], &[0x01, 0x00]),
+        ("bool", &[7], &[]),
+        ("bool", &[7], &[0x80]),
+        ("bool", &[7], &[0xFF]),
+        ("bool", &[8], &[]),
+        ("bool", &[8], &[0xFD, 0x00]),
+        ("bool", &[16], &[0xFD]),
+        ("bool", &[16], &[0xFD, 0xFF, 0x00]),
+        ("bool", &[17], &[0xFD, 0xFF]),
+        ("bool", &[17], &[0xFD, 0xFF, 0x03]),
+        ("bool", &[17], &[0xFD, 0xFF, 0x81]),
+        ("bool", &[17], &[0xFD, 0xFF, 0x01, 0x00]),
     ];
     must_decode_none(&rt, rt.alloc(), packbits(), ROWS)
 }

@@ -310,6 +310,27 @@ fn a_chain_is_made_of_its_metadata(rt: HostRuntime) -> Result<(), Fail> {
     must_swap(&rt, rt.alloc(), FOUR, 3, &[1, 2, 3])
 }
 
+/// The texts say a chain of as many codecs.
+fn must_be_a_chain(rt: &impl Abort, alloc: Global, texts: &[&str]) -> Result<(), Fail> {
+    let chain = chain_of(rt, alloc, texts)?;
+    must_have_parts(rt, &chain, texts.len().saturating_sub(1));
+    Ok(())
+}
+
+/// Codecs that make an array of an array may stand more than once, in any order.
+#[test]
+fn a_codec_named_twice_stands_twice(rt: HostRuntime) -> Result<(), Fail> {
+    const CHAINS: &[&[&str]] = &[
+        &[SWAP, SWAP, LITTLE],
+        &["\"squeeze\"", "\"squeeze\"", BIG],
+        &[SWAP, JOINED, SWAP, "\"squeeze\"", JOINED, LITTLE],
+    ];
+    for texts in CHAINS {
+        must_be_a_chain(&rt, rt.alloc(), texts)?;
+    }
+    Ok(())
+}
+
 /// The text says a chain, which makes these bytes of cells of one dimension.
 fn must_encode_by(
     rt: &impl Abort,
@@ -402,6 +423,12 @@ fn metadata_of_no_chain_is_refused(rt: HostRuntime) -> Result<(), Fail> {
         &[SWAP],
         &[LITTLE, SWAP],
         &[LITTLE, LITTLE],
+        &[BIG, LITTLE],
+        &["\"packbits\"", LITTLE],
+        &[SWAP, LITTLE, SWAP],
+        &[SWAP, SWAP],
+        &[LITTLE, "\"squeeze\""],
+        &[JOINED, LITTLE, "\"squeeze\"", LITTLE],
         &["\"gzip\"", LITTLE],
         &[LITTLE, "\"gzip\""],
         &["\"transpose\"", LITTLE],

@@ -1,13 +1,14 @@
 //! The codec `zarrs.optional`, byte for byte, with ample memory.
 use crate::strings::strings;
-use crate::tests::type_of;
+use crate::tests::{transpose, type_of};
 use std::alloc::Global;
 use std::borrow::CowSlice;
 use std::process::Abort;
 use std::test::Fail;
 use zarrs_codec::{
-    ArrayToBytesCodec, BytesCodec, BytesToBytesCodecs, ChainTraits, CodecChain, CodecError,
-    CodecOptions, MaskCodec, OptionalCodec, PackBitsCodec, VlenUtf8Codec,
+    ArrayToArrayCodec, ArrayToBytesCodec, BytesCodec, BytesToBytesCodecs, ChainTraits, CodecChain,
+    CodecError, CodecOptions, MaskCodec, OptionalCodec, PackBitsCodec, ReshapeCodec, ReshapeExtent,
+    VlenUtf8Codec,
 };
 use zarrs_data_type::{ArrayBytes, ArrayBytesOptional, DataType, FillValue};
 
@@ -70,7 +71,36 @@ fn must_have_mask(rt: &impl Abort, data: &ArrayBytes<'_>, mask: &[u8]) {
     }
 }
 
-/// The cells encode to these bytes, which decode to cells under this mask, of the same bytes.
+/// The cells of a chunk of this shape encode to these bytes, which decode to cells under this mask, of the same bytes.
+fn must_encode_in(
+    rt: &impl Abort,
+    alloc: Global,
+    chain: &CodecChain,
+    data_type: &DataType,
+    shape: &[u64],
+    data: &ArrayBytes<'_>,
+    mask: &[u8],
+    encoded: &[u8],
+) -> Result<(), Fail> {
+    let null = FillValue::new(vec![in alloc; 0u8]?);
+    assert!(rt; null.is_value_of(data_type));
+    let count = zarrs_subset::element_count(shape).ok_or("a count")?;
+    assert!(rt; count < 100 && data_type.cell_size() < 100);
+    assert!(rt; data.validate(data_type, count));
+    let options = CodecOptions::default();
+    let made = chain.encode(alloc, data, data_type, &null, shape, &options)?;
+    assert_eq!(rt; made.as_slice(), encoded);
+    let back = chain.decode(alloc, &made, data_type, &null, shape)?;
+    must_have_mask(rt, &back, mask);
+    assert!(rt; back.validate(data_type, count));
+    let again = chain.encode(alloc, &back, data_type, &null, shape, &options)?;
+    assert_eq!(rt; again.as_slice(), encoded);
+    assert!(rt; chain.compact(alloc, &made, shape)?.is_none());
+    assert!(rt; chain.fits(alloc, data_type, shape)?);
+    Ok(())
+}
+
+/// The same for a chunk of one dimension.
 fn must_encode(
     rt: &impl Abort,
     alloc: Global,
@@ -80,23 +110,8 @@ fn must_encode(
     mask: &[u8],
     encoded: &[u8],
 ) -> Result<(), Fail> {
-    let null = FillValue::new(vec![in alloc; 0u8]?);
-    assert!(rt; null.is_value_of(data_type));
     let shape = [mask.len() as u64];
-    let count = zarrs_subset::element_count(&shape).ok_or("a count")?;
-    assert!(rt; count < 100 && data_type.cell_size() < 100);
-    assert!(rt; data.validate(data_type, count));
-    let options = CodecOptions::default();
-    let made = chain.encode(alloc, data, data_type, &null, &shape, &options)?;
-    assert_eq!(rt; made.as_slice(), encoded);
-    let back = chain.decode(alloc, &made, data_type, &null, &shape)?;
-    must_have_mask(rt, &back, mask);
-    assert!(rt; back.validate(data_type, count));
-    let again = chain.encode(alloc, &back, data_type, &null, &shape, &options)?;
-    assert_eq!(rt; again.as_slice(), encoded);
-    assert!(rt; chain.compact(alloc, &made, &shape)?.is_none());
-    assert!(rt; chain.fits(alloc, data_type, &shape)?);
-    Ok(())
+    must_encode_in(rt, alloc, chain, data_type, &shape, data, mask, encoded)
 }
 
 /// Numbers of one byte, made optional so many times, encode to the bytes of their row, and back.
@@ -173,6 +188,86 @@ fn texts_that_are_some_stand_behind_the_mask(rt: HostRuntime) -> Result<(), Fail
     must_encode(&rt, alloc, &chain, &texts, &none, &[0, 0], NONE)
 }
 
+/// Optional numbers of one byte behind a transpose of two dimensions and a reshape to one.
+fn swapped_and_joined(alloc: Global) -> Result<CodecChain, Fail> {
+    let mut entries = Vec::new(alloc);
+    entries.push(ReshapeExtent::ProductOf([0, 1].to_vec(alloc)?))?;
+    let joined = ReshapeCodec::new(alloc, entries)?.ok_or("entries")?;
+    let mut codecs = Vec::new(alloc);
+    codecs.push(transpose(alloc, &[1, 0])?)?;
+    codecs.push(ArrayToArrayCodec::Reshape(joined))?;
+    let codec = ArrayToBytesCodec::Optional(OptionalCodec::new(alloc, PACKED, numbers())?);
+    Ok(CodecChain::new(codecs, codec, BytesToBytesCodecs))
+}
+
+/// The cells 1, none, 3 above none, 5, 6: their mask and their numbers go column by column.
+#[test]
+fn masks_go_through_a_transpose_and_a_reshape(rt: HostRuntime) -> Result<(), Fail> {
+    const MASK: &[u8] = &[1, 0, 1, 0, 1, 1];
+    const ENCODED: &[u8] = &[
+        1, 0, 0, 0, 0, 0, 0, 0, 4, 0, 0, 0, 0, 0, 0, 0, 0x39, 1, 5, 3, 6,
+    ];
+    let alloc = rt.alloc();
+    let (data_type, chain) = (
+        optional_type(alloc, "uint8", 1)?,
+        swapped_and_joined(alloc)?,
+    );
+    let data = data_of(alloc, &[MASK], &[1, 2, 3, 4, 5, 6])?;
+    must_encode_in(
+        &rt,
+        alloc,
+        &chain,
+        &data_type,
+        &[2, 3],
+        &data,
+        MASK,
+        ENCODED,
+    )
+}
+
+/// The bytes of one cell that is some at each of so many levels: at each a mask of one bit, and what lies below it. The
+/// number at the bottom is 7, or absent if the lowest level is none.
+fn nested(alloc: Global, depth: usize, lowest: u8) -> Result<Vec<u8>, Fail> {
+    let mut below = Vec::new(alloc);
+    if lowest == 1 {
+        below.push(7)?;
+    }
+    for level in 0..depth {
+        let mut made = Vec::from_slice(alloc, &[1, 0, 0, 0, 0, 0, 0, 0])?;
+        made.extend_from_slice(&(below.len() as u64).to_le_bytes())?;
+        made.push(if level == 0 { lowest } else { 1 })?;
+        made.extend_from_slice(&below)?;
+        below = made;
+    }
+    Ok(below)
+}
+
+/// One cell that is some at each of so many levels but the lowest one, whose flag this is.
+fn nested_data(alloc: Global, depth: usize, lowest: u8) -> Result<ArrayBytes<'static>, Fail> {
+    let mut data = ArrayBytes::new_flen(Vec::from_slice(alloc, &[7])?);
+    for level in 0..depth {
+        data = masked(alloc, data, &[if level == 0 { lowest } else { 1 }])?;
+    }
+    Ok(data)
+}
+
+fn must_nest(rt: &impl Abort, alloc: Global, lowest: u8, len: usize) -> Result<(), Fail> {
+    let (data_type, chain) = (
+        optional_type(alloc, "uint8", 64)?,
+        chain_of(alloc, PACKED, numbers(), 64)?,
+    );
+    let encoded = nested(alloc, 64, lowest)?;
+    assert_eq!(rt; encoded.len(), len);
+    let data = nested_data(alloc, 64, lowest)?;
+    must_encode(rt, alloc, &chain, &data_type, &data, &[1], &encoded)
+}
+
+#[test]
+fn optionals_nest_64_deep(rt: HostRuntime) -> Result<(), Fail> {
+    must_nest(&rt, rt.alloc(), 1, 1089)?;
+    must_nest(&rt, rt.alloc(), 0, 1088)
+}
+
 /// The chain decodes the bytes to no single cell of the type.
 fn must_not_decode(
     rt: &impl Abort,
@@ -209,6 +304,60 @@ fn foreign_bytes_are_no_optional_cells(rt: HostRuntime) -> Result<(), Fail> {
     let alloc = rt.alloc();
     let data_type = optional_type(alloc, "uint8", 1)?;
     let chain = chain_of(alloc, PACKED, numbers(), 1)?;
+    for encoded in ROWS {
+        must_not_decode(&rt, alloc, &chain, &data_type, encoded)?;
+    }
+    Ok(())
+}
+
+/// The mask is in bytes.
+#[test]
+fn a_mask_in_bytes_is_exact(rt: HostRuntime) -> Result<(), Fail> {
+    const ROWS: &[&[u8]] = &[
+        // a byte of the mask is 2
+        &[1, 0, 0, 0, 0, 0, 0, 0, 1, 0, 0, 0, 0, 0, 0, 0, 2, 5],
+        &[1, 0, 0, 0, 0, 0, 0, 0, 0, 0, 0, 0, 0, 0, 0, 0, 2],
+        &[1, 0, 0, 0, 0, 0, 0, 0, 1, 0, 0, 0, 0, 0, 0, 0, 255, 5],
+        // a byte of the mask short, and one too many
+        &[0, 0, 0, 0, 0, 0, 0, 0, 1, 0, 0, 0, 0, 0, 0, 0, 5],
+        &[2, 0, 0, 0, 0, 0, 0, 0, 1, 0, 0, 0, 0, 0, 0, 0, 1, 1, 5],
+        &[2, 0, 0, 0, 0, 0, 0, 0, 1, 0, 0, 0, 0, 0, 0, 0, 1, 0, 5],
+    ];
+    let alloc = rt.alloc();
+    let data_type = optional_type(alloc, "uint8", 1)?;
+    let chain = chain_of(alloc, MaskCodec::Bytes(BytesCodec::little()), numbers(), 1)?;
+    for encoded in ROWS {
+        must_not_decode(&rt, alloc, &chain, &data_type, encoded)?;
+    }
+    Ok(())
+}
+
+/// One text that is some.
+#[test]
+fn foreign_bytes_are_no_optional_text(rt: HostRuntime) -> Result<(), Fail> {
+    const ROWS: &[&[u8]] = &[
+        // no text
+        &[
+            1, 0, 0, 0, 0, 0, 0, 0, 9, 0, 0, 0, 0, 0, 0, 0, 1, 1, 0, 0, 0, 1, 0, 0, 0, 0xFF,
+        ],
+        // two texts, a byte short, a byte too many
+        &[
+            1, 0, 0, 0, 0, 0, 0, 0, 12, 0, 0, 0, 0, 0, 0, 0, 1, 2, 0, 0, 0, 0, 0, 0, 0, 0, 0, 0, 0,
+        ],
+        &[
+            1, 0, 0, 0, 0, 0, 0, 0, 8, 0, 0, 0, 0, 0, 0, 0, 1, 1, 0, 0, 0, 1, 0, 0, 0,
+        ],
+        &[
+            1, 0, 0, 0, 0, 0, 0, 0, 9, 0, 0, 0, 0, 0, 0, 0, 1, 1, 0, 0, 0, 0, 0, 0, 0, 97,
+        ],
+        // a number of no text where none is some
+        &[
+            1, 0, 0, 0, 0, 0, 0, 0, 4, 0, 0, 0, 0, 0, 0, 0, 0, 0, 0, 0, 0,
+        ],
+    ];
+    let alloc = rt.alloc();
+    let data_type = optional_type(alloc, "string", 1)?;
+    let chain = chain_of(alloc, PACKED, ArrayToBytesCodec::VlenUtf8(VlenUtf8Codec), 1)?;
     for encoded in ROWS {
         must_not_decode(&rt, alloc, &chain, &data_type, encoded)?;
     }

@@ -4,7 +4,7 @@ use std::process::Abort;
 use std::test::Fail;
 use zarrs_codec::{
     ArrayToArrayCodec, ArrayToBytesCodec, BytesCodec, BytesToBytesCodecs, ChainTraits, CodecChain,
-    CodecError, CodecOptions, SqueezeCodec, TransposeCodec,
+    CodecError, CodecOptions, CodecSpecificOptions, SqueezeCodec, TransposeCodec,
 };
 use zarrs_data_type::{ArrayBytes, DataType, FillValue};
 use zarrs_metadata::MetadataV3;
@@ -144,6 +144,8 @@ fn transposes_of_no_one_and_three_dimensions(rt: HostRuntime) -> Result<(), Fail
             &[1, 2, 3, 4, 5, 6],
             &[1, 4, 2, 5, 3, 6],
         ),
+        (&[Stage::Transpose(&[0])], "uint8", &[1], &[7], &[7]),
+        (&[Stage::Transpose(&[0])], "uint8", &[0], &[], &[]),
         (
             &[Stage::Transpose(&[1, 2, 0])],
             "uint8",
@@ -151,19 +153,80 @@ fn transposes_of_no_one_and_three_dimensions(rt: HostRuntime) -> Result<(), Fail
             &[],
             &[],
         ),
+        (
+            &[Stage::Transpose(&[2, 1, 0])],
+            "uint8",
+            &[1, 1, 1],
+            &[7],
+            &[7],
+        ),
     ];
     must_encode_each(&rt, rt.alloc(), ROWS)
 }
 
 #[test]
 fn a_transpose_of_five_dimensions_moves_each(rt: HostRuntime) -> Result<(), Fail> {
-    const ROWS: &[Row] = &[(
-        &[Stage::Transpose(&[4, 1, 2, 3, 0])],
-        "uint8",
-        &[2, 1, 2, 1, 2],
-        &[0, 1, 2, 3, 4, 5, 6, 7],
-        &[0, 4, 2, 6, 1, 5, 3, 7],
-    )];
+    const ROWS: &[Row] = &[
+        (
+            &[Stage::Transpose(&[4, 1, 2, 3, 0])],
+            "uint8",
+            &[2, 1, 2, 1, 2],
+            &[0, 1, 2, 3, 4, 5, 6, 7],
+            &[0, 4, 2, 6, 1, 5, 3, 7],
+        ),
+        (
+            &[Stage::Transpose(&[4, 3, 2, 1, 0])],
+            "uint16",
+            &[1, 1, 3, 2, 1],
+            &[0, 0, 1, 0, 2, 0, 3, 0, 4, 0, 5, 0],
+            &[0, 0, 2, 0, 4, 0, 1, 0, 3, 0, 5, 0],
+        ),
+        (
+            &[Stage::Transpose(&[4, 3, 2, 1, 0])],
+            "uint8",
+            &[2, 1, 0, 1, 3],
+            &[],
+            &[],
+        ),
+    ];
+    must_encode_each(&rt, rt.alloc(), ROWS)
+}
+
+/// The numbers from 0 on, and the even ones before the odd ones.
+const COUNTED: &[u8] = &[
+    0, 1, 2, 3, 4, 5, 6, 7, 8, 9, 10, 11, 12, 13, 14, 15, 16, 17, 18, 19, 20, 21, 22, 23, 24, 25,
+    26, 27, 28, 29, 30, 31, 32, 33, 34, 35, 36, 37, 38, 39, 40, 41, 42, 43, 44, 45, 46, 47, 48, 49,
+    50, 51, 52, 53, 54, 55, 56, 57, 58, 59, 60, 61, 62, 63, 64, 65, 66, 67, 68, 69, 70, 71, 72, 73,
+    74, 75, 76, 77, 78, 79,
+];
+
+const PARTED: &[u8] = &[
+    0, 2, 4, 6, 8, 10, 12, 14, 16, 18, 20, 22, 24, 26, 28, 30, 32, 34, 36, 38, 40, 42, 44, 46, 48,
+    50, 52, 54, 56, 58, 60, 62, 64, 66, 68, 70, 72, 74, 76, 78, 1, 3, 5, 7, 9, 11, 13, 15, 17, 19,
+    21, 23, 25, 27, 29, 31, 33, 35, 37, 39, 41, 43, 45, 47, 49, 51, 53, 55, 57, 59, 61, 63, 65, 67,
+    69, 71, 73, 75, 77, 79,
+];
+
+#[test]
+fn a_transpose_to_long_rows_moves_each_cell(rt: HostRuntime) -> Result<(), Fail> {
+    const ROWS: &[Row] = &[
+        (&[SWAP], "uint8", &[40, 2], COUNTED, PARTED),
+        (&[SWAP], "uint8", &[2, 40], PARTED, COUNTED),
+        (
+            &[Stage::Transpose(&[0, 2, 1])],
+            "uint8",
+            &[1, 40, 2],
+            COUNTED,
+            PARTED,
+        ),
+        (
+            &[Stage::Transpose(&[2, 0, 1])],
+            "uint8",
+            &[1, 40, 2],
+            COUNTED,
+            PARTED,
+        ),
+    ];
     must_encode_each(&rt, rt.alloc(), ROWS)
 }
 
@@ -244,8 +307,18 @@ fn what_does_not_fit_is_refused(rt: HostRuntime) -> Result<(), Fail> {
 #[test]
 fn a_list_that_is_no_order_is_not_taken(rt: HostRuntime) -> Result<(), Fail> {
     let alloc = rt.alloc();
-    for order in [[0, 0], [0, 2], [1, 1]] {
-        let order = Vec::from_slice(alloc, order.as_slice())?;
+    const LISTS: &[&[u64]] = &[
+        &[1],
+        &[0, 0],
+        &[0, 2],
+        &[1, 1],
+        &[1, 2],
+        &[2, 0, 3],
+        &[u64::MAX, 0],
+        &[0, 1, 2, 3, 3],
+    ];
+    for order in LISTS {
+        let order = Vec::from_slice(alloc, order)?;
         assert!(rt; TransposeCodec::new(alloc, order)?.is_none());
     }
     Ok(())
@@ -287,8 +360,19 @@ fn must_be_no_two_cells(
 fn bytes_of_another_length_and_bools_above_one_do_not_decode(rt: HostRuntime) -> Result<(), Fail> {
     const ROWS: &[(&str, &[u8])] = &[
         ("uint8", &[1, 2, 3]),
+        ("uint8", &[1]),
+        ("uint8", &[]),
         ("uint16", &[1, 2, 3]),
+        ("uint16", &[1, 2, 3, 4, 5]),
+        ("int32", &[1, 2, 3, 4, 5, 6, 7]),
+        ("int32", &[1, 2, 3, 4, 5, 6, 7, 8, 9]),
+        ("r24", &[1, 2, 3, 4, 5]),
+        ("r24", &[1, 2, 3, 4, 5, 6, 7]),
+        ("bool", &[0]),
+        ("bool", &[0, 1, 0]),
         ("bool", &[0, 2]),
+        ("bool", &[2, 0]),
+        ("bool", &[255, 1]),
     ];
     must_be_no_two_cells(&rt, rt.alloc(), ROWS)
 }
@@ -303,6 +387,7 @@ fn options_are_what_was_set(rt: HostRuntime) {
     chosen.set_store_empty_chunks(false);
     let partial = options.with_experimental_partial_encoding(true);
     assert_eq!(rt; chosen, partial);
+    assert_eq!(rt; CodecSpecificOptions::default(), CodecSpecificOptions);
 }
 
 fn must_read(rt: &impl Abort, alloc: Global, error: &CodecError, text: &str) -> Result<(), Fail> {

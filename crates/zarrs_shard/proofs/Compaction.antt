@@ -14,7 +14,8 @@ use Rattle.zarrs_subset.proofs.Positions.{unravel_in, place-unravel}
 use Rattle.zarrs_subset.proofs.RearrangedCells.{length-made_of, get_or-made_of}
 use Rattle.zarrs_shard.specs.Sharded.{SubchunkMeaning, IsLawfulSubchunk, IsEncodedPart, HoldsEncodedParts, CompactsTo, is_all_fill, part_of, cells_of_part, parts_of, cells_of_parts, sharded_fits, sharded_encoded, sharded_decoded, sharded_compacted}
 use Rattle.zarrs_shard.specs.Shards.{written_shard}
-use Rattle.zarrs_shard.specs.Steps.{◌>>=◌, all_some}
+use Rattle.zarrs_metadata.specs.Extension.{◌>>=◌}
+use Rattle.zarrs_shard.specs.Steps.{all_present}
 use Rattle.zarrs_shard.specs.Subchunks.{is_cut_by, quotients, subchunk_count, subchunk_of, assembled}
 use Rattle.zarrs_shard.proofs.Cuts.{subchunk_of-assembled}
 use Rattle.zarrs_shard.proofs.Missing.{some_is, bind_parts, only_if_parts, only_if_true, values_only_parts, length-all_some, all_some-at, all_some-from}
@@ -41,7 +42,7 @@ module _ (m : SubchunkMeaning) (at_start : Bool) (k : Kind) (f : Cell) (s sub : 
   cell_count (Some t) cells held = law.decoded_len t cells held
 
   parts_encoded : (b : List ℕ) (subchunks : List (List Cell)) (held : HoldsEncodedParts m at_start f s sub b) → is_cut_by s sub ≡ true
-      → all_some (map (cells_of_part m f sub) held.parts) ≡ Some subchunks → parts_of m false f s sub (assembled s sub subchunks) ≡ Some held.parts
+      → all_present (map (cells_of_part m f sub) held.parts) ≡ Some subchunks → parts_of m false f s sub (assembled s sub subchunks) ≡ Some held.parts
   parts_encoded b subchunks held cut is =
       let g = quotients s sub in
       let cs = assembled s sub subchunks in
@@ -76,7 +77,7 @@ module _ (m : SubchunkMeaning) (at_start : Bool) (k : Kind) (f : Cell) (s sub : 
       let p = only_if_parts (sharded_fits m s sub) _ cs decoded in
       let cut = (and_parts (is_cut_by s sub) m.fits p.0).0 in
       let q : cells_of_parts m k f s sub held.parts ≡ Some cs = sym (ap (λ o. o >>= cells_of_parts m k f s sub) held.parts_are) ∙ p.1 in
-      let r = bind_parts (all_some (map (cells_of_part m f sub) held.parts)) (λ subchunks. values_only k (assembled s sub subchunks)) cs q in
+      let r = bind_parts (all_present (map (cells_of_part m f sub) held.parts)) (λ subchunks. values_only k (assembled s sub subchunks)) cs q in
       let same = (values_only_parts k (assembled s sub r.0) cs r.2).1 in
       let e = only_if_parts (sharded_fits m s sub) _ made encoded in
       let written : written_shard at_start held.parts ≡ Some made =

@@ -8,7 +8,8 @@ use Rattle.std.proofs.lemmas.List.FromFn.{length-map-range_with_len, get_or-map-
 use Rattle.zarrs_types.specs.Cell.{Cell}
 use Rattle.zarrs_shard.specs.Sharded.{SubchunkMeaning, part_of, first_parts, parts_of, sharded_fits, sharded_encoded}
 use Rattle.zarrs_shard.specs.Shards.{data_bytes, index_bytes, shard_bytes, written_shard}
-use Rattle.zarrs_shard.specs.Steps.{◌>>=◌, only_if, all_some}
+use Rattle.zarrs_metadata.specs.Extension.{◌>>=◌}
+use Rattle.zarrs_shard.specs.Steps.{given_if, all_present}
 use Rattle.zarrs_shard.specs.Subchunks.{subchunk_count, subchunk_at}
 use Rattle.zarrs_shard.proofs.Missing.{only_if_false, all_some-more, all_some-none, length-all_some}
 use Rattle.zarrs_shard.proofs.ShardBytes.{length-joined_entries}
@@ -23,7 +24,7 @@ module _ (m : SubchunkMeaning) (empty : Bool) (f : Cell) (s sub : List ℕ) (cs 
       → first_parts m empty f s sub cs (n + 1) ≡ Some (parts ++ part ∷ [])
   next_part n parts part is here =
       let T = λ (j : ℕ). part_of m empty f (subchunk_at s sub cs j) in
-      ap all_some (map-range_with_len_more T 0 n n (omega arith)) ∙ all_some-more (map T (range_with_len 0 n)) parts (T n) part is here
+      ap all_present (map-range_with_len_more T 0 n n (omega arith)) ∙ all_some-more (map T (range_with_len 0 n)) parts (T n) part is here
 
   pub no_part : (n j : ℕ) → j < n → part_of m empty f (subchunk_at s sub cs j) ≡ None → first_parts m empty f s sub cs n ≡ None
   no_part n j lt is =
@@ -33,7 +34,7 @@ module _ (m : SubchunkMeaning) (empty : Bool) (f : Cell) (s sub : List ℕ) (cs 
 
   -- a chunk of so many subchunks that its index is too long
   pub too_many : (at_start : Bool) → 2 ^ 64 ≤ subchunk_count s sub * 16 → sharded_encoded m at_start empty f s sub cs ≡ None
-  too_many at_start large = ap (only_if (sharded_fits m s sub)) (go (parts_of m empty f s sub cs) refl) ∙ still (sharded_fits m s sub)
+  too_many at_start large = ap (given_if (sharded_fits m s sub)) (go (parts_of m empty f s sub cs) refl) ∙ still (sharded_fits m s sub)
     where
       go : (o : Option (List (Option (List ℕ)))) → parts_of m empty f s sub cs ≡ o → (o >>= written_shard at_start) ≡ None
       go None is = refl
@@ -44,6 +45,6 @@ module _ (m : SubchunkMeaning) (empty : Bool) (f : Cell) (s sub : List ℕ) (cs 
           let long = length-shard_bytes at_start parts in
           only_if_false (nat_lt (length (shard_bytes at_start parts)) (2 ^ 64)) _ (le-ltb (length (shard_bytes at_start parts)) (2 ^ 64) (omega arith))
 
-      still : (b : Bool) → only_if {A = List ℕ} b None ≡ None
+      still : (b : Bool) → given_if {A = List ℕ} b None ≡ None
       still true = refl
       still false = refl

@@ -3,7 +3,8 @@ use Rattle.std.proofs.Common.{◌≡◌, ℕ, zero, suc, ◌<◌, Bool, true, fa
 use Rattle.std.specs.Prelude.{option_map}
 use Rattle.zarrs_types.specs.Kind.{Kind}
 use Rattle.zarrs_types.specs.Cell.{Cell, are_values, values_only}
-use Rattle.zarrs_shard.specs.Steps.{◌>>=◌, only_if, all_some}
+use Rattle.zarrs_metadata.specs.Extension.{◌>>=◌}
+use Rattle.zarrs_shard.specs.Steps.{given_if, all_present}
 
 pub some_is : {A : Type 0} {x y : A} → Some x ≡ Some y → x ≡ y
 some_is e = cc
@@ -12,15 +13,15 @@ pub bind_parts : {A B : Type 0} (o : Option A) (f : A → Option B) (y : B) → 
 bind_parts None f y is = cc
 bind_parts (Some x) f y is = (x, refl, is)
 
-pub only_if_parts : {A : Type 0} (b : Bool) (o : Option A) (y : A) → only_if b o ≡ Some y → (b ≡ true) × (o ≡ Some y)
+pub only_if_parts : {A : Type 0} (b : Bool) (o : Option A) (y : A) → given_if b o ≡ Some y → (b ≡ true) × (o ≡ Some y)
 only_if_parts true o y is = (refl, is)
 only_if_parts false o y is = cc
 
-pub only_if_true : {A : Type 0} (b : Bool) (o : Option A) → b ≡ true → only_if b o ≡ o
-only_if_true b o is = ap (λ x. only_if x o) is
+pub only_if_true : {A : Type 0} (b : Bool) (o : Option A) → b ≡ true → given_if b o ≡ o
+only_if_true b o is = ap (λ x. given_if x o) is
 
-pub only_if_false : {A : Type 0} (b : Bool) (o : Option A) → b ≡ false → only_if b o ≡ None
-only_if_false b o is = ap (λ x. only_if x o) is
+pub only_if_false : {A : Type 0} (b : Bool) (o : Option A) → b ≡ false → given_if b o ≡ None
+only_if_false b o is = ap (λ x. given_if x o) is
 
 pub values_only_parts : (k : Kind) (cs ds : List Cell) → values_only k cs ≡ Some ds → (are_values k ds ≡ true) × (cs ≡ ds)
 values_only_parts k cs ds is =
@@ -28,32 +29,32 @@ values_only_parts k cs ds is =
     let e = some_is p.1 in
     (ap (are_values k) (sym e) ∙ p.0, e)
 
-pub all_some-cons : {X : Type 0} (o : Option X) (os : List (Option X)) (x : X) (xs : List X) → o ≡ Some x → all_some os ≡ Some xs → all_some (o ∷ os) ≡ Some (x ∷ xs)
-all_some-cons o os x xs is rest = ap (λ p. all_some (p ∷ os)) is ∙ ap (option_map (λ ys. x ∷ ys)) rest
+pub all_some-cons : {X : Type 0} (o : Option X) (os : List (Option X)) (x : X) (xs : List X) → o ≡ Some x → all_present os ≡ Some xs → all_present (o ∷ os) ≡ Some (x ∷ xs)
+all_some-cons o os x xs is rest = ap (λ p. all_present (p ∷ os)) is ∙ ap (option_map (λ ys. x ∷ ys)) rest
 
 -- the parts of a list of values none of which is missing
 pub record IsParted {X : Type 0} (o : Option X) (os : List (Option X)) (ys : List X) : Type 0 where
   pub head : X
   pub tail : List X
   pub head_is : o ≡ Some head
-  pub tail_is : all_some os ≡ Some tail
+  pub tail_is : all_present os ≡ Some tail
   pub whole : ys ≡ head ∷ tail
 
-parted_tail : {X : Type 0} (x : X) (os : List (Option X)) (r : Option (List X)) (ys : List X) → all_some os ≡ r → option_map (λ xs. x ∷ xs) r ≡ Some ys → IsParted (Some x) os ys
+parted_tail : {X : Type 0} (x : X) (os : List (Option X)) (r : Option (List X)) (ys : List X) → all_present os ≡ r → option_map (λ xs. x ∷ xs) r ≡ Some ys → IsParted (Some x) os ys
 parted_tail x os None ys is made = cc
 parted_tail x os (Some xs) ys is made = record { head = x; tail = xs; head_is = refl; tail_is = is; whole = sym (some_is made) }
 
-pub all_some-parts : {X : Type 0} (o : Option X) (os : List (Option X)) (ys : List X) → all_some (o ∷ os) ≡ Some ys → IsParted o os ys
+pub all_some-parts : {X : Type 0} (o : Option X) (os : List (Option X)) (ys : List X) → all_present (o ∷ os) ≡ Some ys → IsParted o os ys
 all_some-parts None os ys made = cc
-all_some-parts (Some x) os ys made = parted_tail x os (all_some os) ys refl made
+all_some-parts (Some x) os ys made = parted_tail x os (all_present os) ys refl made
 
-pub length-all_some : {X : Type 0} (os : List (Option X)) (ys : List X) → all_some os ≡ Some ys → length ys ≡ length os
+pub length-all_some : {X : Type 0} (os : List (Option X)) (ys : List X) → all_present os ≡ Some ys → length ys ≡ length os
 length-all_some [] ys made = ap length (sym (some_is made))
 length-all_some (o ∷ os) ys made =
     let p = all_some-parts o os ys made in ap length p.whole ∙ ap suc (length-all_some os p.tail p.tail_is)
 
 -- each of them
-pub all_some-at : {X : Type 0} (os : List (Option X)) (ys : List X) (k : ℕ) (d : Option X) (e : X) → all_some os ≡ Some ys → k < length os → get_or os k d ≡ Some (get_or ys k e)
+pub all_some-at : {X : Type 0} (os : List (Option X)) (ys : List X) (k : ℕ) (d : Option X) (e : X) → all_present os ≡ Some ys → k < length os → get_or os k d ≡ Some (get_or ys k e)
 all_some-at [] ys k d e made lt = absurd (omega arith)
 all_some-at (o ∷ os) ys zero d e made lt =
     let p = all_some-parts o os ys made in p.head_is ∙ ap (λ l. Some (get_or l 0 e)) (sym p.whole)
@@ -61,7 +62,7 @@ all_some-at (o ∷ os) ys (suc k) d e made lt =
     let p = all_some-parts o os ys made in all_some-at os p.tail k d e p.tail_is (omega arith) ∙ ap (λ l. Some (get_or l (suc k) e)) (sym p.whole)
 
 -- they are there where each of them is
-pub all_some-from : {X : Type 0} (os : List (Option X)) (ys : List X) → length ys ≡ length os → ((k : ℕ) (d : Option X) (e : X) → k < length os → get_or os k d ≡ Some (get_or ys k e)) → all_some os ≡ Some ys
+pub all_some-from : {X : Type 0} (os : List (Option X)) (ys : List X) → length ys ≡ length os → ((k : ℕ) (d : Option X) (e : X) → k < length os → get_or os k d ≡ Some (get_or ys k e)) → all_present os ≡ Some ys
 all_some-from [] [] len each = refl
 all_some-from [] (y ∷ ys) len each = absurd (omega arith)
 all_some-from (o ∷ os) [] len each = absurd (omega arith)
@@ -69,15 +70,15 @@ all_some-from (o ∷ os) (y ∷ ys) len each =
     all_some-cons o os y ys (each 0 None y (omega arith)) (all_some-from os ys (omega arith) (λ k d e lt. each (suc k) d e (omega arith)))
 
 -- one that is missing
-pub all_some-none : {X : Type 0} (os : List (Option X)) (k : ℕ) (d : Option X) → k < length os → get_or os k d ≡ None → all_some os ≡ None
+pub all_some-none : {X : Type 0} (os : List (Option X)) (k : ℕ) (d : Option X) → k < length os → get_or os k d ≡ None → all_present os ≡ None
 all_some-none [] k d lt is = absurd (omega arith)
-all_some-none (o ∷ os) zero d lt is = ap (λ p. all_some (p ∷ os)) is
+all_some-none (o ∷ os) zero d lt is = ap (λ p. all_present (p ∷ os)) is
 all_some-none (None ∷ os) (suc k) d lt is = refl
 all_some-none (Some x ∷ os) (suc k) d lt is = ap (option_map (λ xs. x ∷ xs)) (all_some-none os k d (omega arith) is)
 
 -- one more at the end
-pub all_some-more : {X : Type 0} (os : List (Option X)) (xs : List X) (o : Option X) (x : X) → all_some os ≡ Some xs → o ≡ Some x → all_some (os ++ o ∷ []) ≡ Some (xs ++ x ∷ [])
-all_some-more [] xs o x made is = ap (λ p. all_some (p ∷ [])) is ∙ ap (λ l. Some (l ++ x ∷ [])) (some_is made)
+pub all_some-more : {X : Type 0} (os : List (Option X)) (xs : List X) (o : Option X) (x : X) → all_present os ≡ Some xs → o ≡ Some x → all_present (os ++ o ∷ []) ≡ Some (xs ++ x ∷ [])
+all_some-more [] xs o x made is = ap (λ p. all_present (p ∷ [])) is ∙ ap (λ l. Some (l ++ x ∷ [])) (some_is made)
 all_some-more (p ∷ os) xs o x made is =
     let q = all_some-parts p os xs made in
     all_some-cons p (os ++ o ∷ []) q.head (q.tail ++ x ∷ []) q.head_is (all_some-more os q.tail o x q.tail_is is)

@@ -9,7 +9,7 @@ use Rattle.std.proofs.lemmas.List.{length-append, append_assoc, append-nil, take
 use Rattle.std.proofs.Math.Seq.{drop-append_seam}
 use Rattle.zarrs_subset.specs.Pieces.{pieces}
 use Rattle.zarrs_cells.proofs.Pieces.{length-flat_map_same, pieces-flat_map}
-use Rattle.zarrs_shard.specs.Steps.{only_if, all_some}
+use Rattle.zarrs_shard.specs.Steps.{given_if, all_present}
 use Rattle.zarrs_shard.proofs.Missing.{only_if_true, only_if_parts, some_is, all_some-cons}
 use Rattle.zarrs_shard.specs.Shards.{absent, entry_bytes, entries, data_bytes, index_bytes, shard_bytes, written_shard, named_part, shard_parts}
 
@@ -20,14 +20,14 @@ pub length-entry_bytes : (o l : ℕ) → length (entry_bytes o l) ≡ 16
 length-entry_bytes o l = refl
 
 -- both numbers of an entry
-pub entry_read : (shard : List ℕ) (start end o l : ℕ) → o < 2 ^ 64 → l < 2 ^ 64 → named_part shard start end (entry_bytes o l) ≡ cond (eqb o absent && eqb l absent) (Some None) (only_if (nat_le start o && nat_le (o + l) end) (Some (Some (slice_range shard o (o + l)))))
+pub entry_read : (shard : List ℕ) (start end o l : ℕ) → o < 2 ^ 64 → l < 2 ^ 64 → named_part shard start end (entry_bytes o l) ≡ cond (eqb o absent && eqb l absent) (Some None) (given_if (nat_le start o && nat_le (o + l) end) (Some (Some (slice_range shard o (o + l)))))
 entry_read shard start end o l o_lt l_lt =
     let a = to_le_bytes w64 o in
     let b = to_le_bytes w64 l in
     let first : from_le_bytes w64 (take 8 (a ++ b)) ≡ o = ap (from_le_bytes w64) (take_at a b 8 (length-le8 o)) ∙ from_le_bytes-to_le_bytes_8 o o_lt in
     let second : from_le_bytes w64 (drop 8 (a ++ b)) ≡ l = ap (from_le_bytes w64) (drop_at a b 8 (length-le8 o)) ∙ from_le_bytes-to_le_bytes_8 l l_lt in
-    ap (λ x. cond (eqb x absent && eqb (from_le_bytes w64 (drop 8 (a ++ b))) absent) (Some None) (only_if (nat_le start x && nat_le (x + from_le_bytes w64 (drop 8 (a ++ b))) end) (Some (Some (slice_range shard x (x + from_le_bytes w64 (drop 8 (a ++ b)))))))) first
-    ∙ ap (λ x. cond (eqb o absent && eqb x absent) (Some None) (only_if (nat_le start o && nat_le (o + x) end) (Some (Some (slice_range shard o (o + x)))))) second
+    ap (λ x. cond (eqb x absent && eqb (from_le_bytes w64 (drop 8 (a ++ b))) absent) (Some None) (given_if (nat_le start x && nat_le (x + from_le_bytes w64 (drop 8 (a ++ b))) end) (Some (Some (slice_range shard x (x + from_le_bytes w64 (drop 8 (a ++ b)))))))) first
+    ∙ ap (λ x. cond (eqb o absent && eqb x absent) (Some None) (given_if (nat_le start o && nat_le (o + x) end) (Some (Some (slice_range shard o (o + x)))))) second
 
 pub entry_absent : (shard : List ℕ) (start end : ℕ) → named_part shard start end (entry_bytes absent absent) ≡ Some None
 entry_absent shard start end = entry_read shard start end absent absent (omega arith) (omega arith)
@@ -42,11 +42,11 @@ not_absent o l lt =
 pub entry_present : (shard : List ℕ) (start end o l : ℕ) → start ≤ o → o + l ≤ end → end < 2 ^ 64 → named_part shard start end (entry_bytes o l) ≡ Some (Some (slice_range shard o (o + l)))
 entry_present shard start end o l behind within small =
     entry_read shard start end o l (omega arith) (omega arith)
-    ∙ ap (λ b. cond b (Some None) (only_if (nat_le start o && nat_le (o + l) end) (Some (Some (slice_range shard o (o + l)))))) (not_absent o l (omega arith))
+    ∙ ap (λ b. cond b (Some None) (given_if (nat_le start o && nat_le (o + l) end) (Some (Some (slice_range shard o (o + l)))))) (not_absent o l (omega arith))
     ∙ only_if_true (nat_le start o && nat_le (o + l) end) _ (and_from (nat_le start o) (nat_le (o + l) end) (le-leb start o behind) (le-leb (o + l) end within))
 
 -- the subchunks that an index names
-parts_behind : (front : List ℕ) (parts : List (Option (List ℕ))) (rest : List ℕ) (start end : ℕ) → start ≤ length front → length front + length (data_bytes parts) ≤ end → end < 2 ^ 64 → all_some (map (named_part (front ++ (data_bytes parts ++ rest)) start end) (entries (length front) parts)) ≡ Some parts
+parts_behind : (front : List ℕ) (parts : List (Option (List ℕ))) (rest : List ℕ) (start end : ℕ) → start ≤ length front → length front + length (data_bytes parts) ≤ end → end < 2 ^ 64 → all_present (map (named_part (front ++ (data_bytes parts ++ rest)) start end) (entries (length front) parts)) ≡ Some parts
 parts_behind front [] rest start end behind within small = refl
 parts_behind front (None ∷ parts) rest start end behind within small =
     let shard = front ++ (data_bytes parts ++ rest) in
@@ -63,9 +63,9 @@ parts_behind front (Some b ∷ parts) rest start end behind within small =
     let here : slice_range shard o (o + l) ≡ b =
     ap (λ k. take k (drop o shard)) width ∙ ap (take l) (drop-append_seam front ((b ++ p) ++ rest) ∙ append_assoc b p rest) ∙ take_at b (p ++ rest) l refl in
     let same : (front ++ b) ++ (p ++ rest) ≡ shard = append_assoc front b (p ++ rest) ∙ ap (λ x. front ++ x) (sym (append_assoc b p rest)) in
-    let others : all_some (map (named_part shard start end) (entries (o + l) parts)) ≡ Some parts =
-    ap (λ k. all_some (map (named_part shard start end) (entries k parts))) (sym m)
-    ∙ ap (λ s. all_some (map (named_part s start end) (entries (length (front ++ b)) parts))) (sym same)
+    let others : all_present (map (named_part shard start end) (entries (o + l) parts)) ≡ Some parts =
+    ap (λ k. all_present (map (named_part shard start end) (entries k parts))) (sym m)
+    ∙ ap (λ s. all_present (map (named_part s start end) (entries (length (front ++ b)) parts))) (sym same)
     ∙ parts_behind (front ++ b) parts rest start end (omega arith) (omega arith) small in
     all_some-cons (named_part shard start end (entry_bytes o l)) (map (named_part shard start end) (entries (o + l) parts)) (Some b) parts
     (entry_present shard start end o l behind (omega arith) small ∙ ap (λ x. Some (Some x)) here) others
@@ -103,8 +103,8 @@ shard_parts-shard_bytes false parts small =
     let cut : pieces 16 n (drop (length body) shard) ≡ entries 0 parts =
     ap (pieces 16 n) (drop-append_seam body index) ∙ cut_again 0 parts in
     only_if_true (nat_le (n * 16) (length shard)) _ (le-leb (n * 16) (length shard) (omega arith))
-    ∙ ap (λ end. all_some (map (named_part shard 0 end) (pieces 16 n (drop end shard)))) end_is
-    ∙ ap (λ l. all_some (map (named_part shard 0 (length body)) l)) cut
+    ∙ ap (λ end. all_present (map (named_part shard 0 end) (pieces 16 n (drop end shard)))) end_is
+    ∙ ap (λ l. all_present (map (named_part shard 0 (length body)) l)) cut
     ∙ parts_behind [] parts index 0 (length body) (omega arith) (omega arith) (omega arith)
 shard_parts-shard_bytes true parts small =
     let body = data_bytes parts in
@@ -117,9 +117,9 @@ shard_parts-shard_bytes true parts small =
     ap (pieces 16 n) (take_at index body (n * 16) index_len) ∙ cut_again (n * 16) parts in
     let whole : shard ≡ index ++ (body ++ []) = ap (λ x. index ++ x) (sym (append-nil body)) in
     only_if_true (nat_le (n * 16) (length shard)) _ (le-leb (n * 16) (length shard) (omega arith))
-    ∙ ap (λ l. all_some (map (named_part shard (n * 16) (length shard)) l)) cut
-    ∙ ap (λ l. all_some (map (named_part shard (n * 16) (length shard)) (entries l parts))) (sym index_len)
-    ∙ ap (λ x. all_some (map (named_part x (n * 16) (length shard)) (entries (length index) parts))) whole
+    ∙ ap (λ l. all_present (map (named_part shard (n * 16) (length shard)) l)) cut
+    ∙ ap (λ l. all_present (map (named_part shard (n * 16) (length shard)) (entries l parts))) (sym index_len)
+    ∙ ap (λ x. all_present (map (named_part x (n * 16) (length shard)) (entries (length index) parts))) whole
     ∙ parts_behind index parts [] (n * 16) (length shard) (omega arith) (omega arith) (omega arith)
 
 pub written_again : (at_start : Bool) (parts : List (Option (List ℕ))) (n : ℕ) (b : List ℕ) → length parts ≡ n → written_shard at_start parts ≡ Some b → (shard_bytes at_start parts ≡ b) × (shard_parts at_start n b ≡ Some parts)

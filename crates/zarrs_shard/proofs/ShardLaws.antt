@@ -16,7 +16,8 @@ use Rattle.zarrs_subset.proofs.Positions.{unravel_in}
 use Rattle.zarrs_subset.proofs.RearrangedCells.{length-made_of, get_or-made_of}
 use Rattle.zarrs_shard.specs.Sharded.{SubchunkMeaning, IsLawfulSubchunk, IsLawfulShard, is_all_fill, part_of, cells_of_part, parts_of, cells_of_parts, sharded_fits, sharded_encoded, sharded_decoded}
 use Rattle.zarrs_shard.specs.Shards.{index_in, data_start, data_end, written_shard, named_part, shard_parts, compaction}
-use Rattle.zarrs_shard.specs.Steps.{◌>>=◌, only_if, all_some}
+use Rattle.zarrs_metadata.specs.Extension.{◌>>=◌}
+use Rattle.zarrs_shard.specs.Steps.{given_if, all_present}
 use Rattle.zarrs_shard.specs.Subchunks.{is_cut_by, quotients, subchunk_count, subchunk_of, assembled}
 use Rattle.zarrs_shard.proofs.Cuts.{assembled_again, length-assembled, subchunk_len, subchunk_all}
 use Rattle.zarrs_shard.proofs.Missing.{some_is, bind_parts, only_if_parts, only_if_true, only_if_false, values_only_parts, length-all_some, all_some-at, all_some-from}
@@ -85,7 +86,7 @@ module _ (m : SubchunkMeaning) (at_start empty : Bool) (k : Kind) (f : Cell) (s 
   shard_values b cs made =
       let p = only_if_parts (sharded_fits m s sub) _ cs made in
       let q = bind_parts (shard_parts at_start (subchunk_count s sub) b) (cells_of_parts m k f s sub) cs p.1 in
-      let r = bind_parts (all_some (map (cells_of_part m f sub) q.0)) (λ subchunks. values_only k (assembled s sub subchunks)) cs q.2 in
+      let r = bind_parts (all_present (map (cells_of_part m f sub) q.0)) (λ subchunks. values_only k (assembled s sub subchunks)) cs q.2 in
       let v = values_only_parts k (assembled s sub r.0) cs r.2 in
       (ap length (sym v.1) ∙ length-assembled s sub r.0, v.0)
 
@@ -106,7 +107,7 @@ module _ (m : SubchunkMeaning) (at_start empty : Bool) (k : Kind) (f : Cell) (s 
         go false is e = written (m.encoded cells) refl e
 
     cells_again : (cs : List Cell) (parts : List (Option (List ℕ))) → is_cut_by s sub ≡ true → are_values k cs ≡ true → length cs ≡ position_count s
-        → parts_of m empty f s sub cs ≡ Some parts → all_some (map (cells_of_part m f sub) parts) ≡ Some (made_of (subchunk_of s sub cs) (quotients s sub))
+        → parts_of m empty f s sub cs ≡ Some parts → all_present (map (cells_of_part m f sub) parts) ≡ Some (made_of (subchunk_of s sub cs) (quotients s sub))
     cells_again cs parts cut values len made =
         let g = quotients s sub in
         let T = λ (i : List ℕ). part_of m empty f (subchunk_of s sub cs i) in
@@ -141,7 +142,7 @@ module _ (m : SubchunkMeaning) (at_start empty : Bool) (k : Kind) (f : Cell) (s 
       compacted_same = λ b less made.
           let p = only_if_parts (is_cut_by s sub) _ (Some less) made in
           let w = is_compacted at_start (subchunk_count s sub) b less p.1 in
-          ap (λ o. only_if (sharded_fits m s sub) (o >>= cells_of_parts m k f s sub)) (w.made_is ∙ sym w.old_is);
+          ap (λ o. given_if (sharded_fits m s sub) (o >>= cells_of_parts m k f s sub)) (w.made_is ∙ sym w.old_is);
       compacted_differs = λ b less made. λ same.
           let p = only_if_parts (is_cut_by s sub) _ (Some less) made in
           let w = is_compacted at_start (subchunk_count s sub) b less p.1 in

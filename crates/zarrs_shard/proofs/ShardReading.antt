@@ -6,7 +6,7 @@ use Rattle.std.proofs.lemmas.List.{map-append, get_or-map, length-map}
 use Rattle.std.proofs.lemmas.List.FromFn.{get_or-map-range_with_len}
 use Rattle.zarrs_subset.specs.Pieces.{pieces}
 use Rattle.zarrs_cells.proofs.Pieces.{pieces_more, length-pieces}
-use Rattle.zarrs_shard.specs.Steps.{all_some}
+use Rattle.zarrs_shard.specs.Steps.{all_present}
 use Rattle.zarrs_shard.proofs.Missing.{all_some-more, all_some-none}
 use Rattle.zarrs_shard.specs.declared.shard_index.SubchunkRange.{SubchunkRange}
 use Rattle.zarrs_shard.specs.Shards.{named_part}
@@ -14,7 +14,7 @@ use Rattle.zarrs_shard.specs.ShardIndex.{range_part, IsRangeWithin}
 
 -- the ranges of the first n entries
 pub record IsRead (n start end : ℕ) (index : List ℕ) (ranges : List (Option SubchunkRange)) : Type 0 where
-  pub each : (shard : List ℕ) → all_some (map (named_part shard start end) (pieces 16 n index)) ≡ Some (map (range_part shard) ranges)
+  pub each : (shard : List ℕ) → all_present (map (named_part shard start end) (pieces 16 n index)) ≡ Some (map (range_part shard) ranges)
   pub within : All (IsRangeWithin end) ranges
 
 pub read_none : (start end : ℕ) (index : List ℕ) → IsRead 0 start end index []
@@ -31,8 +31,8 @@ read_more n start end index entry ranges range is same here inside = record {
   each = λ shard.
       let read = named_part shard start end in
       let e = slice_range index (n * 16) (n * 16 + 16) in
-      ap (λ l. all_some (map read l)) (pieces_more 16 n index)
-      ∙ ap all_some (map-append read (pieces 16 n index) (e ∷ []))
+      ap (λ l. all_present (map read l)) (pieces_more 16 n index)
+      ∙ ap all_present (map-append read (pieces 16 n index) (e ∷ []))
       ∙ all_some-more (map read (pieces 16 n index)) (map (range_part shard) ranges) (read e) (range_part shard range) (is.each shard) (ap read (sym same) ∙ here shard)
       ∙ ap Some (sym (map-append (range_part shard) ranges (range ∷ [])));
   within = All-append (IsRangeWithin end) ranges (range ∷ []) is.within (λ k d lt. all_one end range inside k d lt);
@@ -40,7 +40,7 @@ read_more n start end index entry ranges range is same here inside = record {
 
 -- an entry that names no range
 pub read_none_at : (n k start end : ℕ) (shard index entry : List ℕ) → k < n → entry ≡ slice_range index (k * 16) (k * 16 + 16) → named_part shard start end entry ≡ None
-    → all_some (map (named_part shard start end) (pieces 16 n index)) ≡ None
+    → all_present (map (named_part shard start end) (pieces 16 n index)) ≡ None
 read_none_at n k start end shard index entry lt same missing =
     let read = named_part shard start end in
     let len = length-pieces 16 n index in

@@ -6,7 +6,8 @@ use Rattle.zarrs_types.specs.Kind.{Kind}
 use Rattle.zarrs_types.specs.Cell.{Cell, cell_eq, are_values, values_only}
 use Rattle.zarrs_subset.specs.Boxes.{position_count}
 use Rattle.zarrs_shard.specs.Shards.{shard_parts, written_shard, compaction}
-use Rattle.zarrs_shard.specs.Steps.{◌>>=◌, only_if, all_some}
+use Rattle.zarrs_metadata.specs.Extension.{◌>>=◌}
+use Rattle.zarrs_shard.specs.Steps.{given_if, all_present}
 use Rattle.zarrs_shard.specs.Subchunks.{is_cut_by, subchunk_count, subchunk_at, assembled}
 
 -- what the chain of subchunks means at one type, fill value and shape
@@ -42,7 +43,7 @@ cells_of_part m fill sub (Some b) = m.decoded b
 -- the parts of the first n subchunks of a chunk's cells
 abbrev pub first_parts : SubchunkMeaning → (store_empty : Bool) (fill : Cell) (shape sub : List ℕ) (cells : List Cell) (n : ℕ) → Option (List (Option (List ℕ)))
 first_parts m store_empty fill shape sub cells n =
-    all_some (map (λ j. part_of m store_empty fill (subchunk_at shape sub cells j)) (range_with_len 0 n))
+    all_present (map (λ j. part_of m store_empty fill (subchunk_at shape sub cells j)) (range_with_len 0 n))
 
 -- the parts of a chunk's cells
 abbrev pub parts_of : SubchunkMeaning → (store_empty : Bool) (fill : Cell) (shape sub : List ℕ) (cells : List Cell) → Option (List (Option (List ℕ)))
@@ -52,7 +53,7 @@ parts_of m store_empty fill shape sub cells =
 -- the cells of a chunk's parts
 abbrev pub cells_of_parts : SubchunkMeaning → Kind → (fill : Cell) (shape sub : List ℕ) → List (Option (List ℕ)) → Option (List Cell)
 cells_of_parts m k fill shape sub parts =
-    all_some (map (cells_of_part m fill sub) parts) >>= λ subchunks. values_only k (assembled shape sub subchunks)
+    all_present (map (cells_of_part m fill sub) parts) >>= λ subchunks. values_only k (assembled shape sub subchunks)
 
 -- ---- the four of a chain
 
@@ -63,18 +64,18 @@ sharded_fits m shape sub = is_cut_by shape sub && m.fits
 -- the bytes of a chunk's cells
 abbrev pub sharded_encoded : SubchunkMeaning → (at_start store_empty : Bool) (fill : Cell) (shape sub : List ℕ) (cells : List Cell) → Option (List ℕ)
 sharded_encoded m at_start store_empty fill shape sub cells =
-    only_if (sharded_fits m shape sub) (parts_of m store_empty fill shape sub cells >>= written_shard at_start)
+    given_if (sharded_fits m shape sub) (parts_of m store_empty fill shape sub cells >>= written_shard at_start)
 
 -- the cells of a chunk's bytes
 abbrev pub sharded_decoded : SubchunkMeaning → (at_start : Bool) → Kind → (fill : Cell) (shape sub : List ℕ) (encoded : List ℕ) → Option (List Cell)
 sharded_decoded m at_start k fill shape sub encoded =
-    only_if (sharded_fits m shape sub)
+    given_if (sharded_fits m shape sub)
     (shard_parts at_start (subchunk_count shape sub) encoded >>= cells_of_parts m k fill shape sub)
 
 -- the compaction of a chunk's bytes
 abbrev pub sharded_compacted : (at_start : Bool) (shape sub : List ℕ) (encoded : List ℕ) → Option (Option (List ℕ))
 sharded_compacted at_start shape sub encoded =
-    only_if (is_cut_by shape sub) (compaction at_start (subchunk_count shape sub) encoded)
+    given_if (is_cut_by shape sub) (compaction at_start (subchunk_count shape sub) encoded)
 
 -- ---- the laws
 

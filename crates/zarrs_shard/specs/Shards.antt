@@ -6,7 +6,8 @@ use Rattle.std.specs.List.{flat_map}
 use Rattle.std.specs.Int.{w64, to_le_bytes, from_le_bytes}
 use Rattle.std.specs.Str.{bytes_eq}
 use Rattle.zarrs_subset.specs.Pieces.{pieces}
-use Rattle.zarrs_shard.specs.Steps.{◌>>=◌, only_if, all_some}
+use Rattle.zarrs_metadata.specs.Extension.{◌>>=◌}
+use Rattle.zarrs_shard.specs.Steps.{given_if, all_present}
 
 -- the offset and the length of an absent subchunk
 abbrev pub absent : ℕ
@@ -44,7 +45,7 @@ shard_bytes at_start parts =
 -- the shard of these parts, if each offset and length is a u64
 abbrev pub written_shard : (at_start : Bool) → List (Option (List ℕ)) → Option (List ℕ)
 written_shard at_start parts =
-    only_if (nat_lt (length (shard_bytes at_start parts)) (2 ^ 64)) (Some (shard_bytes at_start parts))
+    given_if (nat_lt (length (shard_bytes at_start parts)) (2 ^ 64)) (Some (shard_bytes at_start parts))
 
 -- ---- reading
 
@@ -63,15 +64,15 @@ named_part shard start end entry =
     let offset = from_le_bytes w64 (take 8 entry) in
     let len = from_le_bytes w64 (drop 8 entry) in
     if (offset == absent) && (len == absent) then Some None
-    else only_if (nat_le start offset && nat_le (offset + len) end)
+    else given_if (nat_le start offset && nat_le (offset + len) end)
     (Some (Some (slice_range shard offset (offset + len))))
 
 -- the parts of a shard of so many subchunks, if it holds an index and each present part lies in the data part
 abbrev pub shard_parts : (at_start : Bool) (count : ℕ) (shard : List ℕ) → Option (List (Option (List ℕ)))
 shard_parts at_start count shard =
     let part = named_part shard (data_start at_start count) (data_end at_start count (length shard)) in
-    only_if (nat_le (count * 16) (length shard))
-    (all_some (map part (pieces 16 count (index_in at_start count shard))))
+    given_if (nat_le (count * 16) (length shard))
+    (all_present (map part (pieces 16 count (index_in at_start count shard))))
 
 -- ---- compaction
 

@@ -4,7 +4,7 @@ ghost use Rattle.std.specs.Prelude.{All, IfOk, IfSome, length, map, drop, option
 ghost use Rattle.zarrs_subset.specs.Pieces.{pieces};
 ghost use Rattle.zarrs_shard.specs.ShardIndex.{range_part, IsComplete, IsRangeWithin, IsWriting, PushesPart};
 ghost use Rattle.zarrs_shard.specs.Shards.{entry_bytes, named_part, shard_bytes, shard_parts};
-ghost use Rattle.zarrs_shard.specs.Steps.{all_some};
+ghost use Rattle.zarrs_shard.specs.Steps.{all_present};
 
 use std::alloc::{AllocError, Global};
 
@@ -59,7 +59,7 @@ fn read_entries(
 ) -> Result<Option<Vec<Option<SubchunkRange>>>, AllocError>
     requires { length index.now ≡ count * 16 }
     ensures parts { IfOk result (λ read. (shard : List ℕ)
-        → all_some (map (named_part shard start end) (pieces 16 count index.now))
+        → all_present (map (named_part shard start end) (pieces 16 count index.now))
         ≡ option_map (λ ranges. map (range_part shard) ranges.items) read) }
     ensures within { IfOk result (λ read. IfSome read (λ ranges. All (IsRangeWithin end) ranges.items)) }
 {
@@ -96,7 +96,7 @@ fn entry_range(entry: &[u8], start: usize, end: usize) -> Option<Option<Subchunk
 }
 
 /// A shard that is being written, subchunk by subchunk in row-major order.
-#[derive(Drop)]
+#[derive(Debug, Drop)]
 pub struct ShardWriter {
     at_start: bool,
     // The room for an index at the start, and the subchunks.

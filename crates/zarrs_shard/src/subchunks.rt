@@ -12,7 +12,7 @@ use zarrs_cells::{ArrayBytes, DataType};
 use zarrs_subset::{ArrayIndices, ArrayShape, ArraySubset, element_count, unravel_index};
 
 /// How a chunk is cut into subchunks of one shape, which divides the chunk's. They are numbered in row-major order.
-#[derive(Drop)]
+#[derive(Debug, Drop)]
 pub struct Subchunks {
     chunk_box: ArraySubset,
     shape: ArrayShape,

@@ -5,7 +5,7 @@ use Rattle.zarrs_data_type.specs.Kind.{kind, inner_of}
 use Rattle.zarrs_codec_leaf.specs.Refusals.{RefusesDecoding}
 use Rattle.zarrs_codec.specs.ChainLaws.{leaf-lawful}
 use Rattle.zarrs_codec.specs.Chains.{leaf_meaning, mask_meaning, mask_codec_of, data_codec_of, optional_meaning_of}
-use Rattle.zarrs_codec.specs.Optional.{if_any, parts_of}
+use Rattle.zarrs_codec.specs.Optional.{if_any, mask_and_data}
 use Rattle.zarrs_codec.proofs.Kept.{err_kept}
 use Rattle.zarrs_codec.proofs.OptionalData.{body-refused, present-has, decoded-optional}
 use Rattle.zarrs_codec.proofs.+decode.Goals as goal
@@ -21,13 +21,13 @@ optional::OptionalCodec::decode-returns-in_err-present-clause-refused t c =
     let flags = c.in_ok-flags.field-0.flags.items in
     let set = c.in_ok-flags.field-0.set in
     let is : inner_of k ≡ Some u = sym c.optional_inner.ensures ∙ ap (option_map (λ i. kind i.now)) c.in-Some.is in
-    let parts : parts_of b ≡ Some (c.in-Some-parts_of.mask.now, c.in-Some-parts_of.body.now) =
-    sym c.parts_of.ensures ∙ ap (option_map (λ p. (p.0.now, p.1.now))) c.in-Some-parts_of.is in
+    let parts : mask_and_data b ≡ Some (c.in-Some-mask_and_data.mask.now, c.in-Some-mask_and_data.body.now) =
+    sym c.mask_and_data.ensures ∙ ap (option_map (λ p. (p.0.now, p.1.now))) c.in-Some-mask_and_data.is in
     let e = c.in_err-present.field-0.0 in
     err_kept c.from_residual-in_err-present.result e (RefusesDecoding (optional_meaning_of codec) k n b) c.from_residual-in_err-present.ensures.1
-    (body-refused (mask_meaning (mask_codec_of codec)) (leaf_meaning (data_codec_of codec)) k u is n b c.in-Some-parts_of.mask.now c.in-Some-parts_of.body.now parts flags set
+    (body-refused (mask_meaning (mask_codec_of codec)) (leaf_meaning (data_codec_of codec)) k u is n b c.in-Some-mask_and_data.mask.now c.in-Some-mask_and_data.body.now parts flags set
     c.in_ok-flags.ensures.read c.in_ok-flags.ensures.set e
-    (subst (λ x. RefusesDecoding (if_any (leaf_meaning x)) u set c.in-Some-parts_of.body.now e) c.deref.ensures c.in_err-present.ensures.refused))
+    (subst (λ x. RefusesDecoding (if_any (leaf_meaning x)) u set c.in-Some-mask_and_data.body.now e) c.deref.ensures c.in_err-present.ensures.refused))
 
 pub optional::OptionalCodec::decode-from_present-requires-clause-present :
     goal.optional::OptionalCodec::decode-from_present-requires-clause-present
@@ -41,10 +41,10 @@ optional::OptionalCodec::decode-from_present-requires-clause-present t c =
     let set = c.in_ok-flags.field-0.set in
     let d = leaf_meaning (data_codec_of codec) in
     let is : inner_of k ≡ Some u = sym c.optional_inner.ensures ∙ ap (option_map (λ i. kind i.now)) c.in-Some.is in
-    let parts : parts_of b ≡ Some (c.in-Some-parts_of.mask.now, c.in-Some-parts_of.body.now) =
-    sym c.parts_of.ensures ∙ ap (option_map (λ p. (p.0.now, p.1.now))) c.in-Some-parts_of.is in
-    let read = subst (λ x. cells u (data_of c.in_ok-present.present) ≡ (if_any (leaf_meaning x)).decoded u set c.in-Some-parts_of.body.now) c.deref.ensures c.in_ok-present.ensures.cells in
-    present-has (mask_meaning (mask_codec_of codec)) d k u is n b c.in-Some-parts_of.mask.now c.in-Some-parts_of.body.now parts flags set
+    let parts : mask_and_data b ≡ Some (c.in-Some-mask_and_data.mask.now, c.in-Some-mask_and_data.body.now) =
+    sym c.mask_and_data.ensures ∙ ap (option_map (λ p. (p.0.now, p.1.now))) c.in-Some-mask_and_data.is in
+    let read = subst (λ x. cells u (data_of c.in_ok-present.present) ≡ (if_any (leaf_meaning x)).decoded u set c.in-Some-mask_and_data.body.now) c.deref.ensures c.in_ok-present.ensures.cells in
+    present-has (mask_meaning (mask_codec_of codec)) d k u is n b c.in-Some-mask_and_data.mask.now c.in-Some-mask_and_data.body.now parts flags set
     c.in_ok-flags.ensures.read c.in_ok-flags.ensures.set (data_of c.in_ok-present.present) read c.in_ok-present.ensures.some (leaf-lawful (data_codec_of codec))
 
 pub optional::OptionalCodec::decode-returns-clause-cells :
@@ -59,9 +59,9 @@ optional::OptionalCodec::decode-returns-clause-cells t c =
     let set = c.in_ok-flags.field-0.set in
     let d = leaf_meaning (data_codec_of codec) in
     let is : inner_of k ≡ Some u = sym c.optional_inner.ensures ∙ ap (option_map (λ i. kind i.now)) c.in-Some.is in
-    let parts : parts_of b ≡ Some (c.in-Some-parts_of.mask.now, c.in-Some-parts_of.body.now) =
-    sym c.parts_of.ensures ∙ ap (option_map (λ p. (p.0.now, p.1.now))) c.in-Some-parts_of.is in
-    let read = subst (λ x. cells u (data_of c.in_ok-present.present) ≡ (if_any (leaf_meaning x)).decoded u set c.in-Some-parts_of.body.now) c.deref.ensures c.in_ok-present.ensures.cells in
-    (decoded-optional (mask_meaning (mask_codec_of codec)) d k u is n b c.in-Some-parts_of.mask.now c.in-Some-parts_of.body.now parts flags set
+    let parts : mask_and_data b ≡ Some (c.in-Some-mask_and_data.mask.now, c.in-Some-mask_and_data.body.now) =
+    sym c.mask_and_data.ensures ∙ ap (option_map (λ p. (p.0.now, p.1.now))) c.in-Some-mask_and_data.is in
+    let read = subst (λ x. cells u (data_of c.in_ok-present.present) ≡ (if_any (leaf_meaning x)).decoded u set c.in-Some-mask_and_data.body.now) c.deref.ensures c.in_ok-present.ensures.cells in
+    (decoded-optional (mask_meaning (mask_codec_of codec)) d k u is n b c.in-Some-mask_and_data.mask.now c.in-Some-mask_and_data.body.now parts flags set
     c.in_ok-flags.ensures.read c.in_ok-flags.ensures.set (data_of c.in_ok-present.present) read c.in_ok-present.ensures.some
     (data_of c.in_ok-from_present.field-0) c.in_ok-from_present.ensures).0

@@ -6,6 +6,7 @@ use Rattle.zarrs_codec_array.specs.Gathered.{IsGathered}
 use Rattle.zarrs_codec_array.proofs.Gathering.{head_tail, row_end, gathered-empty, gathered-more, gathered-first}
 use Rattle.zarrs_codec_array.proofs.Gathering.{within-row, some_cell, some_factor, length-slice_tail, some_tail}
 use Rattle.zarrs_codec_array.proofs.Gathering.{rows_len}
+use Rattle.zarrs_codec_array.proofs.Columns.{table_len}
 use Rattle.zarrs_codec_array.proofs.gather.+gather.Goals as goal
 
 pub returns-then-is_empty : goal.returns-then-is_empty
@@ -73,6 +74,11 @@ gather-requires t c =
         ),
       ),
     )
+
+pub gather_table-requires-clause-len : goal.gather_table-requires-clause-len
+gather_table-requires-clause-len t c =
+    let two : length c.args.extents.now ≡ 2 = search rules in
+    c.requires.len ∙ table_len c.args.extents.now c.args.size two
 
 pub loop-i-preserved : goal.loop-i-preserved
 loop-i-preserved t c =

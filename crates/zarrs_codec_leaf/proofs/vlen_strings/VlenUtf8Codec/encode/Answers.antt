@@ -4,7 +4,7 @@ use Rattle.std.specs.Cow.{cow_slice_items}
 use Rattle.zarrs_data_type.specs.ArrayData.{data_of, variable}
 use Rattle.zarrs_data_type.specs.Cells.{cells}
 use Rattle.zarrs_data_type.specs.Kind.{kind}
-use Rattle.zarrs_codec_leaf.specs.VlenStrings.{counted, is_string, uncounted}
+use Rattle.zarrs_codec_leaf.specs.VlenStrings.{counted_strings, is_string, uncounted}
 use Rattle.zarrs_codec_leaf.specs.VlenStringsLaws.{string-variable}
 use Rattle.zarrs_codec_leaf.proofs.StringData.{encoding_of-strings, fixed_untaken, optional_untaken}
 use Rattle.zarrs_codec_leaf.proofs.vlen_strings.VlenUtf8Codec.encode.Goals as goal
@@ -25,7 +25,7 @@ pub returns-in-Some-clause-encoded : goal.returns-in-Some-clause-encoded
 returns-in-Some-clause-encoded c =
     let k = kind c.args.data_type.now in
     let taken = sym c.takes.ensures ∙ c.if-not-takes.false in
-    encoding_of-strings is_string counted uncounted k taken (string-variable k) (data_of c.args.bytes.now) c.in-Variable.strings (ap data_of c.in-Variable.is) c.requires
+    encoding_of-strings is_string counted_strings uncounted k taken (string-variable k) (data_of c.args.bytes.now) c.in-Variable.strings (ap data_of c.in-Variable.is) c.requires
     ∙ sym (ap (option_map (λ encoded. encoded.items)) (sym c.in-Some.is) ∙ c.in_ok-made-in-Variable.ensures)
 
 pub returns-in-None-clause-refused : goal.returns-in-None-clause-refused
@@ -33,6 +33,6 @@ returns-in-None-clause-refused c =
     let k = kind c.args.data_type.now in
     let taken = sym c.takes.ensures ∙ c.if-not-takes.false in (
       taken,
-      encoding_of-strings is_string counted uncounted k taken (string-variable k) (data_of c.args.bytes.now) c.in-Variable.strings (ap data_of c.in-Variable.is) c.requires
+      encoding_of-strings is_string counted_strings uncounted k taken (string-variable k) (data_of c.args.bytes.now) c.in-Variable.strings (ap data_of c.in-Variable.is) c.requires
           ∙ sym (ap (option_map (λ encoded. encoded.items)) (sym c.in-None.is) ∙ c.in_ok-made-in-Variable.ensures),
     )
