@@ -13,3 +13,5 @@ mod RegionArguments
 mod PartStores
 mod Comparisons
 mod PartialDecoders
+mod ReadLaws
+mod Replies

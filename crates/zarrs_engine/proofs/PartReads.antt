@@ -61,19 +61,22 @@ module _ (chunk part : Box) (long : IsLong chunk) where
       omega arith) in
       and_from (bytes_eq part.start (replicate (length chunk.shape) 0)) (bytes_eq part.shape chunk.shape) (same_bytes _ _ starts) (same_bytes _ _ shapes)
 
+  -- a part that is the whole chunk lies where it does
+  pub whole_box : is_whole_of chunk.shape part ≡ true → part_box chunk part ≡ chunk
+  whole_box whole =
+      let parts = and_parts (bytes_eq part.start (replicate (length chunk.shape) 0)) (bytes_eq part.shape chunk.shape) whole in
+      let starts = (bytes_eq-Decides part.start (replicate (length chunk.shape) 0)).0 parts.0 in
+      let shapes = (bytes_eq-Decides part.shape chunk.shape).0 parts.1 in
+      ap (λ start. box_from (offset_by chunk.start start) part.shape) starts
+      ∙ ap (λ start. box_from start part.shape) (offset_origin chunk.start (length chunk.shape) long)
+      ∙ ap (λ shape. box_from chunk.start shape) shapes
+
   -- and another one is not
   pub proper_part : (part_box chunk part ≡ chunk → ⊥) → is_whole_of chunk.shape part ≡ false
   proper_part apart =
       elim (cases_Bool (is_whole_of chunk.shape part)) [
         | inr not_whole ↦ not_whole
-        | inl whole ↦
-            let parts = and_parts (bytes_eq part.start (replicate (length chunk.shape) 0)) (bytes_eq part.shape chunk.shape) whole in
-            let starts = (bytes_eq-Decides part.start (replicate (length chunk.shape) 0)).0 parts.0 in
-            let shapes = (bytes_eq-Decides part.shape chunk.shape).0 parts.1 in
-            absurd (apart (
-            ap (λ start. box_from (offset_by chunk.start start) part.shape) starts
-            ∙ ap (λ start. box_from start part.shape) (offset_origin chunk.start (length chunk.shape) long)
-            ∙ ap (λ shape. box_from chunk.start shape) shapes))
+        | inl whole ↦ absurd (apart (whole_box whole))
       ]
 
 -- ---- the chunk of a part covers it

@@ -6,3 +6,4 @@ pub mod RegionWrites
 pub mod Lending
 pub mod Comparisons
 pub mod PartialDecoders
+pub mod ReadLaws

@@ -20,7 +20,7 @@ use zarrs_layout::Parts;
 /// An array is a function from the positions that its chunks cover to cells: the fill value if a chunk is absent, else
 /// what the bytes at its key decode to (Zarr V3 core specification, "Fill value", "Chunk encoding"). Each call says in
 /// its contract what it does to that function and to the store.
-#[derive(Drop)]
+#[derive(Debug, Drop)]
 pub struct Engine<S, G: ChunkGridTraits, K: ChunkKeyEncodingTraits, C: ChainTraits> {
     storage: S,
     parts: Parts<G, K, C>,

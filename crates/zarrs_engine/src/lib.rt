@@ -3,12 +3,10 @@
 
 mod comparison;
 mod engine;
+pub mod laws;
 mod partial_decoder;
 
 pub use comparison::chunks_equal;
 pub use engine::{Engine, layouts_are_lawful, replay};
 pub use partial_decoder::ArrayPartialDecoder;
 pub use zarrs_steps::{ArrayError, Call, Reply};
-
-/// Laws of steps, of runs and of canonical stores.
-pub use zarrs_steps as laws;

@@ -15,7 +15,7 @@ use zarrs_subset::{ArrayIndices, ArraySubset};
 use zarrs_target::ArrayBytesDecodeIntoTarget;
 
 /// A chunk of an array, of which parts are read. It keeps nothing of what it read.
-#[derive(Drop)]
+#[derive(Debug, Drop)]
 pub struct ArrayPartialDecoder<
     'a,
     S,

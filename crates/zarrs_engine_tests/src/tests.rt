@@ -251,6 +251,7 @@ fn laws_can_be_called(_rt: HostRuntime) {
     zarrs_engine::laws::disjoint_writes_agree();
     zarrs_engine::laws::reads_of_decoding_chunks();
     zarrs_engine::laws::parts_make_the_region();
+    zarrs_engine::laws::reads_agree();
 }
 
 fn must_print(rt: &impl Abort, alloc: Global, error: &ArrayError, text: &str) -> Result<(), Fail> {

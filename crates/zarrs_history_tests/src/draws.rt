@@ -1,9 +1,10 @@
 //! Random calls, with what the model answers them.
-use crate::model::{Answer, FILL, Found, Model, Refusal, Region};
+use crate::cells::CellType;
+use crate::model::{Answer, FILL, Faults, Found, Model, Refusal, Region};
 use crate::random::Random;
 use std::alloc::Global;
 use std::test::Fail;
-use zarrs_data_type::ArrayBytes;
+use zarrs_data_type::{ArrayBytes, DataType};
 use zarrs_engine::Call;
 use zarrs_subset::ArraySubset;
 
@@ -14,23 +15,13 @@ pub(crate) struct Drawn {
     pub(crate) answer: Answer,
 }
 
-/// What calls are drawn with. A cell is a byte in the model, and takes `size` bytes in the array.
+/// What calls are drawn with.
 #[derive(Drop)]
 pub(crate) struct Draws {
     pub(crate) alloc: Global,
     pub(crate) random: Random,
-    pub(crate) size: u8,
-}
-
-/// The bytes of cells in the array: one more than the last by 16, so that each differs.
-pub(crate) fn bytes_of(alloc: Global, cells: &[u8], size: u8) -> Result<Vec<u8>, Fail> {
-    let mut bytes = Vec::new(alloc);
-    for cell in cells {
-        for number in 0..size {
-            bytes.push(cell.wrapping_add(number.wrapping_mul(16)))?;
-        }
-    }
-    Ok(bytes)
+    pub(crate) cell_type: CellType,
+    pub(crate) data_type: DataType,
 }
 
 fn subset_of(alloc: Global, region: &Region) -> Result<ArraySubset, Fail> {
@@ -103,7 +94,7 @@ impl Draws {
     /// Cells for what was found; once in a while one more, or one less. They are often all fill.
     fn cells(&mut self, found: &Found) -> Result<Vec<u8>, Fail> {
         let count = match found {
-            Ok(places) => places.len(),
+            Ok(spot) => spot.places.len(),
             Err(_) => 3,
         };
         let values = if self.random.is_one_in(4) { 1 } else { 4 };
@@ -120,7 +111,7 @@ impl Draws {
     }
 
     fn data(&self, cells: &[u8]) -> Result<ArrayBytes<'static>, Fail> {
-        Ok(ArrayBytes::new_flen(bytes_of(self.alloc, cells, self.size)?))
+        self.cell_type.data(self.alloc, &self.data_type, cells)
     }
 
     fn store_region(&mut self, model: &mut Model<'_>) -> Result<Drawn, Fail> {
@@ -129,7 +120,7 @@ impl Draws {
         let cells = self.cells(&found)?;
         Ok(Drawn {
             call: Call::StoreArraySubset(subset_of(self.alloc, &region)?, self.data(&cells)?),
-            answer: model.store(&found, &cells),
+            answer: model.store(self.alloc, &found, &cells)?,
         })
     }
 
@@ -139,7 +130,7 @@ impl Draws {
         let cells = self.cells(&found)?;
         Ok(Drawn {
             call: Call::StoreChunk(indices, self.data(&cells)?),
-            answer: model.store(&found, &cells),
+            answer: model.store(self.alloc, &found, &cells)?,
         })
     }
 
@@ -155,7 +146,7 @@ impl Draws {
         let data = self.data(&cells)?;
         Ok(Drawn {
             call: Call::StoreChunkSubset(indices, subset_of(self.alloc, &part)?, data),
-            answer: model.store(&found, &cells),
+            answer: model.store(self.alloc, &found, &cells)?,
         })
     }
 
@@ -170,15 +161,14 @@ impl Draws {
         let cells = self.cells(&found)?;
         Ok(Drawn {
             call: Call::StoreChunks(subset_of(self.alloc, &range)?, self.data(&cells)?),
-            answer: model.store(&found, &cells),
+            answer: model.store(self.alloc, &found, &cells)?,
         })
     }
 
     fn erase_chunk(&mut self, model: &mut Model<'_>) -> Result<Drawn, Fail> {
         let indices = self.indices(model)?;
         let answer = if indices.len() == model.dimensions() {
-            model.erase(&model.find_chunk(self.alloc, &indices)?);
-            Answer::Done
+            model.erase(self.alloc, &[indices.as_slice().to_vec(self.alloc)?])?
         } else {
             Answer::Refused(Refusal::Indices)
         };
@@ -191,17 +181,15 @@ impl Draws {
     /// A range may go past the grid, where nothing is erased.
     fn erase_chunks(&mut self, model: &mut Model<'_>) -> Result<Drawn, Fail> {
         let range = self.range(model)?;
-        let call = Call::EraseChunks(subset_of(self.alloc, &range)?);
-        if range.start.len() != model.dimensions() {
-            let answer = Answer::Refused(Refusal::Indices);
-            return Ok(Drawn { call, answer });
-        }
-        for indices in &range.positions(self.alloc)? {
-            let found = model.find_chunk(self.alloc, indices)?;
-            model.erase(&found);
-        }
-        let answer = Answer::Done;
-        Ok(Drawn { call, answer })
+        let answer = if range.start.len() == model.dimensions() {
+            model.erase(self.alloc, &range.positions(self.alloc)?)?
+        } else {
+            Answer::Refused(Refusal::Indices)
+        };
+        Ok(Drawn {
+            call: Call::EraseChunks(subset_of(self.alloc, &range)?),
+            answer,
+        })
     }
 
     fn read_region(&mut self, model: &Model<'_>) -> Result<Drawn, Fail> {
@@ -227,7 +215,9 @@ impl Draws {
         let indices = self.indices(model)?;
         let found = model.find_chunk(self.alloc, &indices)?;
         let answer = match model.read(self.alloc, &found)? {
-            Answer::Refused(_) if indices.len() == model.dimensions() => Answer::Absent,
+            Answer::Refused(Refusal::Indices) if indices.len() == model.dimensions() => {
+                Answer::Absent
+            }
             Answer::Cells(cells) if is_all_fill(&cells) => Answer::Absent,
             other => other,
         };
@@ -254,10 +244,31 @@ impl Draws {
         let indices = self.indices(model)?;
         let part = self.part(model, &indices)?;
         let found = model.find_part(self.alloc, &indices, &part)?;
+        let answer = match model.read(self.alloc, &found)? {
+            Answer::Refused(Refusal::Storage) if part.is_empty() => Answer::NoneOrStorage,
+            other => other,
+        };
         Ok(Drawn {
             call: Call::RetrieveChunkSubset(indices, subset_of(self.alloc, &part)?),
-            answer: model.read(self.alloc, &found)?,
+            answer,
         })
+    }
+
+    /// What the store refuses from now on, in half of the draws nothing.
+    pub(crate) fn faults(&mut self, model: &Model<'_>) -> Result<Faults, Fail> {
+        let mut faults = Faults::none(self.alloc);
+        if self.random.is_one_in(2) {
+            return Ok(faults);
+        }
+        for indices in model.chunks(self.alloc)?.positions(self.alloc)? {
+            if self.random.is_one_in(4) {
+                faults.unread.push(indices)?;
+            }
+        }
+        if self.random.is_one_in(2) {
+            faults.write = Some(self.random.below(12).saturating_add(1));
+        }
+        Ok(faults)
     }
 
     /// A call of any kind. The model is as after it.

@@ -1,6 +1,7 @@
 //! Histories of calls of one engine and one model, from the same start.
-use crate::draws::{Drawn, Draws, bytes_of, is_all_fill};
-use crate::model::{Answer, FILL, Model, Refusal};
+use crate::cells::{CELL_TYPES, CellType};
+use crate::draws::{Drawn, Draws, is_all_fill};
+use crate::model::{Answer, Faults, Model, Refusal};
 use crate::random::Random;
 use std::alloc::Global;
 use std::num::NonZeroU64;
@@ -11,13 +12,18 @@ use zarrs_chunk_grid::{
     SizeList,
 };
 use zarrs_codec::{BytesToBytesCodecs, CodecChain, CodecOptions, default_array_to_bytes_codec};
-use zarrs_data_type::{ArrayBytes, DataType, FillValue};
+use zarrs_data_type::{ArrayBytes, DataType};
 use zarrs_engine::{ArrayError, Engine, Reply};
 use zarrs_keys::{ChunkKeyEncoding, ChunkKeySeparator, NodePath};
-use zarrs_storage::{Bytes, MemoryStore, ReadableStorageTraits, StoreKey};
+use zarrs_storage::{Bytes, Fault, MemoryStore, ReadableStorageTraits, StoreKey};
 use zarrs_subset::ArraySubset;
 
-type GridEngine = Engine<MemoryStore, ChunkGrid, ChunkKeyEncoding, CodecChain>;
+type GridEngine = Engine<Fault<MemoryStore>, ChunkGrid, ChunkKeyEncoding, CodecChain>;
+
+/// The stretches of a history, and the calls of each.
+const STRETCHES: u64 = 4;
+
+const CALLS: u64 = 12;
 
 /// How an array is cut: by a grid of chunks of one shape, or between these edges.
 #[derive(Clone, Copy, Drop)]
@@ -75,34 +81,41 @@ fn grid_of(alloc: Global, layout: &Layout<'_>) -> Result<ChunkGrid, Fail> {
     }
 }
 
-/// An engine without a chunk.
-fn engine_of(alloc: Global, grid: ChunkGrid, size: u8) -> Result<GridEngine, Fail> {
-    let data_type = if size == 1 {
-        DataType::UInt8
-    } else {
-        DataType::Int32
-    };
-    let fill_value = FillValue::new(bytes_of(alloc, &[FILL], size)?);
+/// The store, which refuses these calls.
+fn faulty(
+    alloc: Global,
+    storage: MemoryStore,
+    faults: &Faults,
+) -> Result<Fault<MemoryStore>, Fail> {
+    let mut keys = Vec::new(alloc);
+    for indices in &faults.unread {
+        keys.push(key_of(alloc, indices)?)?;
+    }
+    Ok(Fault::new(storage, keys, faults.write))
+}
+
+/// An engine over the store.
+fn engine_of(
+    alloc: Global,
+    storage: Fault<MemoryStore>,
+    layout: &Layout<'_>,
+    cell_type: CellType,
+) -> Result<GridEngine, Fail> {
+    let data_type = cell_type.data_type(alloc)?;
+    let fill_value = cell_type.fill_value(alloc)?;
     if !data_type.is_fill(fill_value.as_bytes()) {
         return Err("no fill value of the type".into());
     }
     let codec = default_array_to_bytes_codec(alloc, &data_type)?;
     Ok(Engine::new(
-        MemoryStore::new(alloc),
+        storage,
         NodePath::new(alloc, "/")?,
-        grid,
+        grid_of(alloc, layout)?,
         ChunkKeyEncoding::Default(ChunkKeySeparator::Slash),
         CodecChain::new(Vec::new(alloc), codec, BytesToBytesCodecs),
         data_type,
         fill_value,
     ))
-}
-
-fn holds(data: &ArrayBytes<'_>, bytes: &[u8]) -> bool {
-    match data {
-        ArrayBytes::Fixed(held) => held.as_slice() == bytes,
-        _ => false,
-    }
 }
 
 fn is_refusal(error: &ArrayError, refusal: Refusal) -> bool {
@@ -111,57 +124,81 @@ fn is_refusal(error: &ArrayError, refusal: Refusal) -> bool {
         Refusal::Part => matches!(error, ArrayError::InvalidChunkSubset(_, _, _)),
         Refusal::Indices => matches!(error, ArrayError::InvalidChunkGridIndicesError(_)),
         Refusal::Data => matches!(error, ArrayError::CodecError(_)),
+        Refusal::Storage => matches!(error, ArrayError::StorageError(_)),
         Refusal::Dimensions => matches!(error, ArrayError::IncompatibleDimensionalityError(_)),
     }
 }
 
 /// Whether the reply is what the model answered.
-fn is_answer(alloc: Global, reply: &Reply, answer: &Answer, size: u8) -> Result<bool, Fail> {
+fn is_answer(draws: &Draws, reply: &Reply, answer: &Answer) -> Result<bool, Fail> {
     match (reply, answer) {
         (Reply::Done, Answer::Done) => Ok(true),
         (Reply::MaybeCells(None), Answer::Absent) => Ok(true),
-        (Reply::Cells(data), Answer::Cells(cells)) => {
-            Ok(holds(data, &bytes_of(alloc, cells, size)?))
-        }
-        (Reply::MaybeCells(Some(data)), Answer::Cells(cells)) => {
-            Ok(holds(data, &bytes_of(alloc, cells, size)?))
-        }
+        (Reply::Cells(data), Answer::Cells(cells)) => are_cells(draws, data, cells),
+        (Reply::MaybeCells(Some(data)), Answer::Cells(cells)) => are_cells(draws, data, cells),
+        (Reply::Cells(data), Answer::NoneOrStorage) => are_cells(draws, data, &[]),
+        (Reply::Refused(error), Answer::NoneOrStorage) => Ok(is_refusal(error, Refusal::Storage)),
         (Reply::Refused(error), Answer::Refused(refusal)) => Ok(is_refusal(error, *refusal)),
         _ => Ok(false),
     }
 }
 
+fn are_cells(draws: &Draws, data: &ArrayBytes<'_>, cells: &[u8]) -> Result<bool, Fail> {
+    draws
+        .cell_type
+        .is(draws.alloc, &draws.data_type, data, cells)
+}
+
 /// The call of this number is answered as the model answers it.
 fn must_answer(
     rt: &impl Abort,
-    alloc: Global,
     engine: &mut GridEngine,
+    draws: &Draws,
     drawn: &Drawn,
-    size: u8,
     number: u64,
 ) -> Result<(), Fail> {
-    let reply = engine.answer(alloc, &drawn.call, &CodecOptions::default());
-    let is_right = is_answer(alloc, &reply, &drawn.answer, size)?;
+    let reply = engine.answer(draws.alloc, &drawn.call, &CodecOptions::default());
+    let is_right = is_answer(draws, &reply, &drawn.answer)?;
     assert!(rt; is_right, "call {number}");
     Ok(())
+}
+
+/// Makes this many random calls over the store, which refuses some of them. Returns the store.
+fn must_go_on(
+    rt: &impl Abort,
+    storage: MemoryStore,
+    layout: &Layout<'_>,
+    model: &mut Model<'_>,
+    draws: &mut Draws,
+    calls: u64,
+) -> Result<MemoryStore, Fail> {
+    model.faults = draws.faults(model)?;
+    let storage = faulty(draws.alloc, storage, &model.faults)?;
+    let mut engine = engine_of(draws.alloc, storage, layout, draws.cell_type)?;
+    for number in 0..calls {
+        let drawn = draws.call(model)?;
+        must_answer(rt, &mut engine, draws, &drawn, number)?;
+    }
+    let storage = engine.into_storage();
+    assert_eq!(rt; storage.calls(), model.faults.calls);
+    Ok(storage.into_inner())
 }
 
 /// The whole array reads as the model's cells.
 fn must_read_all(
     rt: &impl Abort,
-    alloc: Global,
     engine: &GridEngine,
     model: &Model<'_>,
-    size: u8,
+    draws: &Draws,
 ) -> Result<(), Fail> {
-    let whole = model.whole(alloc)?;
-    let Ok(places) = model.find_region(alloc, &whole)? else {
+    let whole = model.whole(draws.alloc)?;
+    let Ok(spot) = model.find_region(draws.alloc, &whole)? else {
         return Err("an array without its cells".into());
     };
-    let cells = model.cells_at(alloc, &places)?;
-    let region = ArraySubset::new_with_shape(alloc, whole.shape)?;
-    let data = engine.retrieve_array_subset(alloc, &region)?;
-    assert!(rt; holds(&data, &bytes_of(alloc, &cells, size)?));
+    let cells = model.cells_at(draws.alloc, &spot.places)?;
+    let region = ArraySubset::new_with_shape(draws.alloc, whole.shape)?;
+    let data = engine.retrieve_array_subset(draws.alloc, &region)?;
+    assert!(rt; are_cells(draws, &data, &cells)?);
     Ok(())
 }
 
@@ -177,70 +214,69 @@ fn key_of(alloc: Global, indices: &[u64]) -> Result<StoreKey, Fail> {
 /// The bytes of the chunk's cells are present at its key, or none if each is fill. Returns whether they are.
 fn must_be_stored(
     rt: &impl Abort,
-    alloc: Global,
-    engine: &GridEngine,
+    storage: &MemoryStore,
+    draws: &Draws,
     indices: &[u64],
     cells: &[u8],
-    size: u8,
 ) -> Result<bool, Fail> {
-    let found = engine.storage().get(alloc, &key_of(alloc, indices)?)?;
+    let found = storage.get(draws.alloc, &key_of(draws.alloc, indices)?)?;
     if is_all_fill(cells) {
         assert!(rt; found.is_none());
         return Ok(false);
     }
-    assert!(rt; found == Some(Bytes::from_vec(bytes_of(alloc, cells, size)?)?));
+    let encoded = draws.cell_type.encoded(draws.alloc, cells)?;
+    assert!(rt; found == Some(Bytes::from_vec(encoded)?));
     Ok(true)
 }
 
 /// The store holds the chunks that are not all fill, and nothing else.
 fn must_store_chunks(
     rt: &impl Abort,
-    alloc: Global,
-    engine: &GridEngine,
+    storage: &MemoryStore,
     model: &Model<'_>,
-    size: u8,
+    draws: &Draws,
 ) -> Result<(), Fail> {
     let mut count = 0usize;
-    for indices in &model.chunks(alloc)?.positions(alloc)? {
-        let Ok(places) = model.find_chunk(alloc, indices)? else {
+    for indices in &model.chunks(draws.alloc)?.positions(draws.alloc)? {
+        let Ok(spot) = model.find_chunk(draws.alloc, indices)? else {
             return Err("a chunk without its cells".into());
         };
-        let cells = model.cells_at(alloc, &places)?;
-        if must_be_stored(rt, alloc, engine, indices, &cells, size)? {
+        let cells = model.cells_at(draws.alloc, &spot.places)?;
+        if must_be_stored(rt, storage, draws, indices, &cells)? {
             count = count.saturating_add(1);
         }
     }
-    assert_eq!(rt; engine.storage().keys(alloc)?.len(), count);
+    assert_eq!(rt; storage.keys(draws.alloc)?.len(), count);
     Ok(())
 }
 
-/// Makes this many random calls.
+/// Makes random calls, by stretches over a store that refuses other ones of them.
 fn must_agree(
     rt: &impl Abort,
     alloc: Global,
     layout: &Layout<'_>,
-    size: u8,
+    cell_type: CellType,
     seed: u64,
-    calls: u64,
 ) -> Result<(), Fail> {
-    let mut engine = engine_of(alloc, grid_of(alloc, layout)?, size)?;
     let is_open = matches!(&layout.cut, Cut::Regular(_));
     let mut model = Model::new(alloc, layout.edges, is_open)?;
-    let random = Random::new(seed);
     let mut draws = Draws {
         alloc,
-        random,
-        size,
+        random: Random::new(seed),
+        cell_type,
+        data_type: cell_type.data_type(alloc)?,
     };
-    for number in 0..calls {
-        let drawn = draws.call(&mut model)?;
-        must_answer(rt, alloc, &mut engine, &drawn, size, number)?;
+    let mut storage = MemoryStore::new(alloc);
+    for _ in 0..STRETCHES {
+        storage = must_go_on(rt, storage, layout, &mut model, &mut draws, CALLS)?;
     }
-    must_read_all(rt, alloc, &engine, &model, size)?;
-    must_store_chunks(rt, alloc, &engine, &model, size)
+    must_store_chunks(rt, &storage, &model, &draws)?;
+    let storage = faulty(alloc, storage, &Faults::none(alloc))?;
+    let engine = engine_of(alloc, storage, layout, cell_type)?;
+    must_read_all(rt, &engine, &model, &draws)
 }
 
-/// Histories over cells of one byte, and a shorter one over cells of four.
+/// A history over cells of each type.
 fn must_agree_often(
     rt: &impl Abort,
     alloc: Global,
@@ -249,10 +285,10 @@ fn must_agree_often(
     edges: &[&[u64]],
 ) -> Result<(), Fail> {
     let layout = Layout { shape, cut, edges };
-    for seed in 0..5 {
-        must_agree(rt, alloc, &layout, 1, seed, 160)?;
+    for (seed, cell_type) in CELL_TYPES.iter().enumerate() {
+        must_agree(rt, alloc, &layout, *cell_type, seed as u64)?;
     }
-    must_agree(rt, alloc, &layout, 4, 5, 160)
+    Ok(())
 }
 
 #[test]

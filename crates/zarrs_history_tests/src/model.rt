@@ -23,6 +23,8 @@ pub(crate) enum Refusal {
     Indices,
     /// E4
     Data,
+    /// E7
+    Storage,
     /// E10
     Dimensions,
 }
@@ -34,10 +36,66 @@ pub(crate) enum Answer {
     Cells(Vec<u8>),
     Absent,
     Refused(Refusal),
+    /// No cells, or a refusal of the store.
+    NoneOrStorage,
 }
 
-/// Where the cells that a call names stand in the list, or why it is refused.
-pub(crate) type Found = Result<Vec<usize>, Refusal>;
+/// The cells that a call names: where they stand in the list, and the indices of the chunks that the call goes through.
+#[derive(Drop)]
+pub(crate) struct Spot {
+    pub(crate) places: Vec<usize>,
+    pub(crate) chunks: Vec<Vec<u64>>,
+}
+
+/// What a call names, or why it is refused.
+pub(crate) type Found = Result<Spot, Refusal>;
+
+/// What the store refuses.
+#[derive(Drop)]
+pub(crate) struct Faults {
+    /// The indices of the chunks whose keys it refuses to read.
+    pub(crate) unread: Vec<Vec<u64>>,
+    /// The number of the writing call that it refuses.
+    pub(crate) write: Option<u64>,
+    /// How many writing calls it saw.
+    pub(crate) calls: u64,
+}
+
+impl Faults {
+    pub(crate) fn none(alloc: Global) -> Faults {
+        Faults {
+            unread: Vec::new(alloc),
+            write: None,
+            calls: 0,
+        }
+    }
+
+    /// Whether it refuses to read a chunk.
+    pub(crate) fn refuses(&self, indices: &[u64]) -> bool {
+        for unread in &self.unread {
+            if unread.as_slice() == indices {
+                return true;
+            }
+        }
+        false
+    }
+
+    /// Whether it refuses to read one of the chunks.
+    fn refuses_one_of(&self, chunks: &[Vec<u64>]) -> bool {
+        for indices in chunks {
+            if self.refuses(indices) {
+                return true;
+            }
+        }
+        false
+    }
+
+    /// Counts a writing call. Returns whether it is refused.
+    fn refuses_next(&mut self) -> bool {
+        self.calls = self.calls.saturating_add(1);
+        self.write == Some(self.calls)
+    }
+}
 
 /// The index lists, each followed by each of `extent` indices from `start` on.
 fn lengthened(
@@ -111,6 +169,7 @@ pub(crate) struct Model<'a> {
     pub(crate) edges: &'a [&'a [u64]],
     /// Whether there are chunks past the last edges. No call asks for them.
     pub(crate) is_open: bool,
+    pub(crate) faults: Faults,
     cells: Vec<u8>,
 }
 
@@ -131,6 +190,7 @@ impl<'a> Model<'a> {
         let mut model = Model {
             edges,
             is_open,
+            faults: Faults::none(alloc),
             cells: Vec::new(alloc),
         };
         for _ in model.whole(alloc)?.positions(alloc)? {
@@ -235,9 +295,38 @@ impl<'a> Model<'a> {
         self.box_of_chunks(alloc, &range)
     }
 
-    fn found_in(&self, alloc: Global, region: &Region, otherwise: Refusal) -> Result<Found, Fail> {
+    /// Where the cells of a chunk stand in the list, of which there are none without a chunk.
+    fn chunk_places(&self, alloc: Global, indices: &[u64]) -> Result<Vec<usize>, Fail> {
+        let Some(chunk) = self.chunk_box(alloc, indices)? else {
+            return Ok(Vec::new(alloc));
+        };
+        match self.places(alloc, &chunk)? {
+            Some(places) => Ok(places),
+            None => Ok(Vec::new(alloc)),
+        }
+    }
+
+    /// The chunks that have a cell at one of these places, in row-major order.
+    fn chunks_at(&self, alloc: Global, places: &[usize]) -> Result<Vec<Vec<u64>>, Fail> {
+        let mut chunks = Vec::new(alloc);
+        for indices in self.chunks(alloc)?.positions(alloc)? {
+            if has_one_of(&self.chunk_places(alloc, &indices)?, places) {
+                chunks.push(indices)?;
+            }
+        }
+        Ok(chunks)
+    }
+
+    /// The cells of a box, which these chunks cover.
+    fn spot(
+        &self,
+        alloc: Global,
+        region: &Region,
+        chunks: Vec<Vec<u64>>,
+        otherwise: Refusal,
+    ) -> Result<Found, Fail> {
         match self.places(alloc, region)? {
-            Some(places) => Ok(Ok(places)),
+            Some(places) => Ok(Ok(Spot { places, chunks })),
             None => Ok(Err(otherwise)),
         }
     }
@@ -247,15 +336,20 @@ impl<'a> Model<'a> {
         if region.start.len() != self.dimensions() {
             return Ok(Err(Refusal::Region));
         }
-        self.found_in(alloc, region, Refusal::Region)
+        let Some(places) = self.places(alloc, region)? else {
+            return Ok(Err(Refusal::Region));
+        };
+        let chunks = self.chunks_at(alloc, &places)?;
+        Ok(Ok(Spot { places, chunks }))
     }
 
     /// The cells of a chunk.
     pub(crate) fn find_chunk(&self, alloc: Global, indices: &[u64]) -> Result<Found, Fail> {
-        match self.chunk_box(alloc, indices)? {
-            Some(region) => self.found_in(alloc, &region, Refusal::Indices),
-            None => Ok(Err(Refusal::Indices)),
-        }
+        let Some(region) = self.chunk_box(alloc, indices)? else {
+            return Ok(Err(Refusal::Indices));
+        };
+        let chunks = vec![in alloc; indices.to_vec(alloc)?]?;
+        self.spot(alloc, &region, chunks, Refusal::Indices)
     }
 
     /// The cells of a part of a chunk.
@@ -271,18 +365,25 @@ impl<'a> Model<'a> {
         if !part.fits(&chunk.shape) {
             return Ok(Err(Refusal::Part));
         }
-        self.found_in(alloc, &part.moved(alloc, &chunk.start)?, Refusal::Part)
+        let chunks = vec![in alloc; indices.to_vec(alloc)?]?;
+        self.spot(
+            alloc,
+            &part.moved(alloc, &chunk.start)?,
+            chunks,
+            Refusal::Part,
+        )
     }
 
     /// The cells of the chunks in a range of as many dimensions as the array has.
     pub(crate) fn find_chunks(&self, alloc: Global, range: &Region) -> Result<Found, Fail> {
+        let (places, chunks) = (Vec::new(alloc), Vec::new(alloc));
         if range.is_empty() {
-            return Ok(Ok(Vec::new(alloc)));
+            return Ok(Ok(Spot { places, chunks }));
         }
-        match self.box_of_chunks(alloc, range)? {
-            Some(region) => self.found_in(alloc, &region, Refusal::Indices),
-            None => Ok(Err(Refusal::Indices)),
-        }
+        let Some(region) = self.box_of_chunks(alloc, range)? else {
+            return Ok(Err(Refusal::Indices));
+        };
+        self.spot(alloc, &region, range.positions(alloc)?, Refusal::Indices)
     }
 
     /// The cells at these places.
@@ -294,38 +395,83 @@ impl<'a> Model<'a> {
         Ok(cells)
     }
 
+    /// Reads each of the chunks.
     pub(crate) fn read(&self, alloc: Global, found: &Found) -> Result<Answer, Fail> {
         match found {
-            Ok(places) => Ok(Answer::Cells(self.cells_at(alloc, places)?)),
+            Ok(spot) if self.faults.refuses_one_of(&spot.chunks) => {
+                Ok(Answer::Refused(Refusal::Storage))
+            }
+            Ok(spot) => Ok(Answer::Cells(self.cells_at(alloc, &spot.places)?)),
             Err(refusal) => Ok(Answer::Refused(*refusal)),
         }
     }
 
-    pub(crate) fn store(&mut self, found: &Found, data: &[u8]) -> Answer {
-        let places = match found {
-            Ok(places) => places,
-            Err(refusal) => return Answer::Refused(*refusal),
+    /// Stores the data in one chunk after another. One that is not covered is read first.
+    pub(crate) fn store(
+        &mut self,
+        alloc: Global,
+        found: &Found,
+        data: &[u8],
+    ) -> Result<Answer, Fail> {
+        let spot = match found {
+            Ok(spot) => spot,
+            Err(refusal) => return Ok(Answer::Refused(*refusal)),
         };
-        if places.len() != data.len() {
-            return Answer::Refused(Refusal::Data);
+        if spot.places.len() != data.len() {
+            return Ok(Answer::Refused(Refusal::Data));
         }
+        for indices in &spot.chunks {
+            let chunk = self.chunk_places(alloc, indices)?;
+            let is_part = !has_all(&spot.places, &chunk);
+            if is_part && self.faults.refuses(indices) || self.faults.refuses_next() {
+                return Ok(Answer::Refused(Refusal::Storage));
+            }
+            self.put(&chunk, &spot.places, data);
+        }
+        Ok(Answer::Done)
+    }
+
+    /// Gives the cells of the chunk that stand at these places those of the data.
+    fn put(&mut self, chunk: &[usize], places: &[usize], data: &[u8]) {
         for (place, cell) in places.iter().zip(data) {
-            if let Some(held) = self.cells.get_mut(*place) {
+            if let Some(held) = self.cells.get_mut(*place)
+                && chunk.contains(place)
+            {
                 *held = *cell;
             }
         }
-        Answer::Done
     }
 
-    /// Makes the cells fill. Where there is no chunk nothing changes.
-    pub(crate) fn erase(&mut self, found: &Found) {
-        let Ok(places) = found else {
-            return;
-        };
-        for place in places {
-            if let Some(held) = self.cells.get_mut(*place) {
-                *held = FILL;
+    /// Erases one chunk after another: its cells become fill. Where there is no chunk nothing changes.
+    pub(crate) fn erase(&mut self, alloc: Global, chunks: &[Vec<u64>]) -> Result<Answer, Fail> {
+        for indices in chunks {
+            if self.faults.refuses_next() {
+                return Ok(Answer::Refused(Refusal::Storage));
+            }
+            for place in &self.chunk_places(alloc, indices)? {
+                if let Some(held) = self.cells.get_mut(*place) {
+                    *held = FILL;
+                }
             }
         }
+        Ok(Answer::Done)
     }
+}
+
+fn has_one_of(places: &[usize], others: &[usize]) -> bool {
+    for place in others {
+        if places.contains(place) {
+            return true;
+        }
+    }
+    false
+}
+
+fn has_all(places: &[usize], others: &[usize]) -> bool {
+    for place in others {
+        if !places.contains(place) {
+            return false;
+        }
+    }
+    true
 }

@@ -18,7 +18,7 @@ use zarrs_storage::{StorageError, StoreKey};
 use zarrs_subset::ArraySubset;
 
 /// Where an array lies, how it is cut into chunks, and what the bytes of its chunks mean.
-#[derive(Drop)]
+#[derive(Debug, Drop)]
 pub struct Parts<G: ChunkGridTraits, K: ChunkKeyEncodingTraits, C: ChainTraits> {
     /// Where the array lies.
     pub path: NodePath,
@@ -39,7 +39,7 @@ pub struct Parts<G: ChunkGridTraits, K: ChunkKeyEncodingTraits, C: ChainTraits> 
 }
 
 /// The box of a chunk, and the number of its cells.
-#[derive(Drop)]
+#[derive(Debug, Drop)]
 pub struct Chunk {
     /// The box.
     pub region: ArraySubset,

@@ -1,7 +1,7 @@
 //! Reads of ranges of chunks and of parts of chunks.
 use crate::region_reads::{nine_cells_must_answer, nine_cells_must_answer_in_list};
 use crate::steps::Answer::{Cells, Done, Refused};
-use crate::steps::Step::{Put, ReadChunks, ReadPart, Store};
+use crate::steps::Step::{Put, ReadChunks, ReadPart, Store, StorePart};
 use crate::steps::{
     ReadCase, Row, TOO_LARGE, UNFIT, WriteCase, must_answer, must_answer_of, must_leave,
 };
@@ -39,6 +39,50 @@ fn a_range_over_four_chunks(rt: HostRuntime) -> Result<(), Fail> {
         ),
     ];
     nine_cells_must_answer(&rt, rt.alloc(), ROWS)
+}
+
+#[test]
+fn absent_chunks_of_a_range_are_the_fill_value(rt: HostRuntime) -> Result<(), Fail> {
+    const CASE: ReadCase = ReadCase {
+        shape: &[4, 4],
+        chunk_shape: &[2, 2],
+        rows: &[
+            (Store(&[0, 0], &[&[0, 1], &[2, 3]]), Done),
+            (
+                ReadChunks(&[0, 0], &[1, 2]),
+                Cells(&[&[0, 1, 255, 255], &[2, 3, 255, 255]]),
+            ),
+        ],
+    };
+    must_answer_of(&rt, rt.alloc(), DataType::Int8, &[255], &CASE)
+}
+
+/// The array has five cells; its second chunk has three more.
+#[test]
+fn parts_of_a_chunk_that_crosses_the_shape(rt: HostRuntime) -> Result<(), Fail> {
+    const CASE: ReadCase = ReadCase {
+        shape: &[5],
+        chunk_shape: &[4],
+        rows: &[
+            (Store(&[1], &[&[1, 2, 3, 4]]), Done),
+            (ReadPart(&[1], &[1], &[2]), Cells(&[&[2, 3]])),
+            (
+                ReadPart(&[1], &[3], &[2]),
+                Refused("chunk subset [3..5] is not compatible with chunk [1] with shape [4]"),
+            ),
+            (
+                StorePart(&[1], &[0, 0], &[1, 1], &[&[9]]),
+                Refused(
+                    "chunk subset [0..1, 0..1] is not compatible with chunk [1] with shape [4]",
+                ),
+            ),
+            (
+                StorePart(&[1, 0], &[0], &[1], &[&[9]]),
+                Refused("incompatible dimensionality 2, expected 1"),
+            ),
+        ],
+    };
+    must_answer(&rt, rt.alloc(), &CASE)
 }
 
 #[test]

@@ -2,14 +2,15 @@
 use crate::steps::Answer::{Cells, Done, Refused};
 use crate::steps::Step::{ReadChunks, ReadPart, ReadRegion, StoreChunks, StorePart, StoreRegion};
 use crate::steps::{
-    EngineOver, Row, TestEngine, WriteCase, engine_of, engine_over, must_be_left,
+    EngineOver, Row, TestEngine, UNFIT, WriteCase, engine_of, engine_over, must_be_left,
     must_go_on_in_list, must_have, must_leave, must_leave_of, subset,
 };
 use std::alloc::Global;
 use std::borrow::CowSlice;
+use std::process::Abort;
 use std::test::Fail;
 use zarrs_codec::CodecOptions;
-use zarrs_data_type::{ArrayBytes, ArrayBytesOffsets, DataType};
+use zarrs_data_type::{ArrayBytes, ArrayBytesOffsets, DataType, Element, ElementOwned};
 use zarrs_storage::{Fence, MemoryStore};
 
 #[test]
@@ -29,6 +30,30 @@ fn a_region_over_four_chunks(rt: HostRuntime) -> Result<(), Fail> {
         left: "c/0/0: 0 0 0 1; c/0/1: 0 0 2 0; c/1/0: 0 3 0 0; c/1/1: 4 0 0 0",
     };
     must_leave(&rt, rt.alloc(), &CASE)
+}
+
+/// Three of four chunks are not all fill, which is 1.
+#[test]
+fn nine_cells_over_four_chunks(rt: HostRuntime) -> Result<(), Fail> {
+    const CASE: WriteCase = WriteCase {
+        unread: &[],
+        shape: &[8, 8],
+        chunk_shape: &[4, 4],
+        rows: &[
+            (
+                StoreRegion(&[3, 3], &[3, 3], &[&[1, 2, 3], &[4, 5, 6], &[7, 8, 9]]),
+                Done,
+            ),
+            (
+                ReadRegion(&[3, 2], &[3, 5]),
+                Cells(&[&[1, 1, 2, 3, 1], &[1, 4, 5, 6, 1], &[1, 7, 8, 9, 1]]),
+            ),
+        ],
+        calls: 4,
+        left: "c/0/1: 1 1 1 1 1 1 1 1 1 1 1 1 2 3 1 1; c/1/0: 1 1 1 4 1 1 1 7 1 1 1 1 1 1 1 1; \
+            c/1/1: 5 6 1 1 8 9 1 1 1 1 1 1 1 1 1 1",
+    };
+    must_leave_of(&rt, rt.alloc(), DataType::UInt8, &[1], &CASE)
 }
 
 #[test]
@@ -119,6 +144,8 @@ fn an_empty_region_asks_nothing(rt: HostRuntime) -> Result<(), Fail> {
         rows: &[
             (StoreRegion(&[1, 1], &[0, 1], &[]), Done),
             (StoreRegion(&[u64::MAX, 9], &[0, 1], &[]), Done),
+            (StoreRegion(&[100, 0], &[0, 4], &[]), Done),
+            (StoreRegion(&[100, 0], &[0, 4], &[&[1]]), Refused(UNFIT)),
         ],
         calls: 0,
         left: "",
@@ -143,6 +170,59 @@ fn texts_over_two_chunks(rt: HostRuntime) -> Result<(), Fail> {
     store_texts(alloc, &mut engine)?;
     let left =
         "c/0: 2 0 0 0 2 0 0 0 122 122 3 0 0 0 97 98 99; c/1: 2 0 0 0 2 0 0 0 195 164 2 0 0 0 122 122";
+    must_be_left(&rt, alloc, engine.into_storage(), 2, left)
+}
+
+/// Stores the texts "a", "bb" and "ccc" above "d", "" and "f".
+fn store_six_texts(alloc: Global, engine: &mut TestEngine) -> Result<(), Fail> {
+    let places = ArrayBytesOffsets::new(CowSlice::Borrowed(&[0, 1, 3, 6, 7, 7, 8]))?;
+    let texts = ArrayBytes::new_vlen(CowSlice::Borrowed(b"abbcccdf"), places)?;
+    let region = subset(alloc, &[0, 0], &[2, 3])?;
+    engine.store_array_subset(alloc, &region, &texts, &CodecOptions::default())?;
+    Ok(())
+}
+
+/// The fill value is "", also past the shape.
+#[test]
+fn texts_over_a_chunk_that_crosses_the_shape(rt: HostRuntime) -> Result<(), Fail> {
+    let alloc = rt.alloc();
+    let mut engine = engine_of(alloc, &[2, 3], &[2, 2], DataType::String, b"")?;
+    store_six_texts(alloc, &mut engine)?;
+    let left = "c/0/0: 4 0 0 0 1 0 0 0 97 2 0 0 0 98 98 1 0 0 0 100 0 0 0 0; \
+        c/0/1: 4 0 0 0 3 0 0 0 99 99 99 0 0 0 0 1 0 0 0 102 0 0 0 0";
+    must_be_left(&rt, alloc, engine.into_storage(), 2, left)
+}
+
+fn nested_type(alloc: Global) -> Result<DataType, Fail> {
+    let inner = DataType::Optional(Box::new(alloc, DataType::UInt8)?);
+    Ok(DataType::Optional(Box::new(alloc, inner)?))
+}
+
+/// Stores the cells some(some(1)), some(none) and none, and reads the last two.
+fn must_read_nested(
+    rt: &impl Abort,
+    alloc: Global,
+    engine: &mut TestEngine,
+    data_type: &DataType,
+) -> Result<(), Fail> {
+    let cells = [Some(Some(1u8)), Some(None), None];
+    let data = <Option<Option<u8>>>::to_array_bytes(alloc, data_type, &cells)?;
+    let region = subset(alloc, &[0], &[3])?;
+    engine.store_array_subset(alloc, &region, &data, &CodecOptions::default())?;
+    let read = engine.retrieve_array_subset(alloc, &subset(alloc, &[1], &[2])?)?;
+    let cells = <Option<Option<u8>>>::from_array_bytes(alloc, data_type, &read)?;
+    assert!(rt; cells.as_slice() == [Some(None), None].as_slice());
+    Ok(())
+}
+
+/// The second chunk is all none, which is the fill value.
+#[test]
+fn optional_cells_of_an_optional_type(rt: HostRuntime) -> Result<(), Fail> {
+    let alloc = rt.alloc();
+    let data_type = nested_type(alloc)?;
+    let mut engine = engine_of(alloc, &[3], &[2], nested_type(alloc)?, &[0])?;
+    must_read_nested(&rt, alloc, &mut engine, &data_type)?;
+    let left = "c/0: 1 0 0 0 0 0 0 0 18 0 0 0 0 0 0 0 3 1 0 0 0 0 0 0 0 1 0 0 0 0 0 0 0 1 1";
     must_be_left(&rt, alloc, engine.into_storage(), 2, left)
 }
 

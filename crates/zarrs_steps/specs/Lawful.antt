@@ -6,7 +6,7 @@ use Rattle.std.proofs.Props.{props}
 use Rattle.zarrs_chunk_grid.specs.Grids.{Grid, IsGrid}
 use Rattle.zarrs_codec.specs.Chain.{ChainMeaning, IsLawfulChain}
 use Rattle.zarrs_data_type.specs.Cell.{Cell, bytes, none, some}
-use Rattle.zarrs_steps.specs.Layout.{Layout, IsLawful, IsInjective, AreApart}
+use Rattle.zarrs_steps.specs.Layout.{Layout, IsLawful, IsInjective, AreNoMetadataKeys}
 
 -- how often a cell is some of a cell, and the bytes inside
 abbrev depth_of : Cell → ℕ
@@ -41,7 +41,7 @@ grid_prop grid = hlevel props
 key_prop : (key : List ℕ → List ℕ) → IsProp (IsInjective key)
 key_prop key = hlevel props
 
-apart_prop : (dimensions : ℕ) (key : List ℕ → List ℕ) (names : List (List ℕ)) → IsProp (AreApart dimensions key names)
+apart_prop : (dimensions : ℕ) (key : List ℕ → List ℕ) (names : List (List ℕ)) → IsProp (AreNoMetadataKeys dimensions key names)
 apart_prop dimensions key names = hlevel props
 
 pub IsLawful-prop : (layout : Layout) → IsProp (IsLawful layout)

@@ -23,14 +23,14 @@ abbrev pub IsInjective : (List ℕ → List ℕ) → Type 0
 IsInjective key = (dimensions : ℕ) (a b : List ℕ) → IsIndexList dimensions a → IsIndexList dimensions b → key a ≡ key b → a ≡ b
 
 -- no chunk key is a metadata key
-abbrev pub AreApart : ℕ → (List ℕ → List ℕ) → List (List ℕ) → Type 0
-AreApart dimensions key metadata_keys = (index : List ℕ) → IsIndexList dimensions index → Contains metadata_keys (key index) → ⊥
+abbrev pub AreNoMetadataKeys : ℕ → (List ℕ → List ℕ) → List (List ℕ) → Type 0
+AreNoMetadataKeys dimensions key metadata_keys = (index : List ℕ) → IsIndexList dimensions index → Contains metadata_keys (key index) → ⊥
 
 -- what grids, keys, chains and fill values promise of a layout
 pub record IsLawful (layout : Layout) : Type 0 where
   pub grid : IsGrid layout.grid
   pub key : IsInjective layout.key
-  pub apart : AreApart layout.grid.dimensions layout.key layout.metadata_keys
+  pub apart : AreNoMetadataKeys layout.grid.dimensions layout.key layout.metadata_keys
   pub chain : IsLawfulChain layout.chain
   -- the fill value is a value of the type
   pub filled : is_value layout.kind layout.fill ≡ true

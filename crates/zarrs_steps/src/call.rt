@@ -4,7 +4,7 @@ use zarrs_data_type::ArrayBytes;
 use zarrs_subset::{ArrayIndices, ArraySubset};
 
 /// A call of an array, with its arguments.
-#[derive(Drop)]
+#[derive(Debug, Drop)]
 pub enum Call {
     /// Store the cells of the chunk with these indices.
     StoreChunk(ArrayIndices, ArrayBytes<'static>),
@@ -31,7 +31,7 @@ pub enum Call {
 }
 
 /// What a call of an array returned.
-#[derive(Drop)]
+#[derive(Debug, Drop)]
 pub enum Reply {
     /// A store or an erasure was accepted.
     Done,

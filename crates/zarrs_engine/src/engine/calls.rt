@@ -1,5 +1,5 @@
 //! Lists of calls.
-ghost use Rattle.std.specs.Prelude.{◌≡◌, false, IfOk, OnErr};
+ghost use Rattle.std.specs.Prelude.{◌≡◌, false, IfOk, IfErr, OnOk, OnErr};
 ghost use Rattle.zarrs_codec.specs.Options.{stores_empty_chunks};
 ghost use Rattle.zarrs_storage.specs.Store.{KeepsReach};
 ghost use Rattle.zarrs_steps.specs.Content.{value_at};
@@ -7,15 +7,17 @@ ghost use Rattle.zarrs_steps.specs.Reach.{MayAskCalls};
 ghost use Rattle.zarrs_steps.specs.Step.{Run};
 ghost use Rattle.zarrs_steps.specs.Canon.{IsCanonical};
 ghost use Rattle.zarrs_steps.specs.Laws.{EachDecodes};
+ghost use Rattle.zarrs_steps.specs.declared.call.Reply.TheVariants.{Done, Cells, Refused};
 ghost use Rattle.zarrs_engine.specs.Engine.{layout_of, store_of, state_of, KeepsParts};
 
 use super::Engine;
 use std::alloc::{AllocError, Global};
 use zarrs_chunk_grid::ChunkGridTraits;
 use zarrs_codec::{ChainTraits, CodecOptions};
+use zarrs_data_type::ArrayBytes;
 use zarrs_keys::ChunkKeyEncodingTraits;
 use zarrs_layout::invalid_indices;
-use zarrs_steps::{Call, Reply};
+use zarrs_steps::{ArrayError, Call, Reply};
 use zarrs_storage::WritableStorageTraits;
 use zarrs_subset::ArraySubset;
 
@@ -57,13 +59,35 @@ pub fn replay<
     Ok(replies)
 }
 
+/// The reply to a call that returns nothing.
+fn done(made: Result<(), ArrayError>) -> Reply
+    ensures done { OnOk made (result ≡ Done) }
+    ensures refused { IfErr made (λ e. result ≡ Refused e) }
+{
+    match made {
+        Ok(()) => Reply::Done,
+        Err(error) => Reply::Refused(error),
+    }
+}
+
+/// The reply to a call that returns cells.
+fn cells(made: Result<ArrayBytes<'static>, ArrayError>) -> Reply
+    ensures cells { IfOk made.entry (λ held. result ≡ Cells held) }
+    ensures refused { IfErr made.entry (λ e. result ≡ Refused e) }
+{
+    match made {
+        Ok(data) => Reply::Cells(data),
+        Err(error) => Reply::Refused(error),
+    }
+}
+
 impl<
     S: WritableStorageTraits,
     G: ChunkGridTraits,
     K: ChunkKeyEncodingTraits,
     C: ChainTraits,
 > Engine<S, G, K, C> {
-    ghost use Rattle.std.specs.Prelude.{◌≡◌, Bool};
+    ghost use Rattle.std.specs.Prelude.{◌≡◌, [], ◌∷◌, Bool};
     ghost use Rattle.zarrs_subset.specs.Regions.{box_of, positions};
     ghost use Rattle.zarrs_codec.specs.Options.{stores_empty_chunks};
     ghost use Rattle.zarrs_steps.specs.Acts.{erase};
@@ -82,38 +106,18 @@ impl<
     {
         match call {
             Call::StoreChunk(chunk_indices, chunk_data) => {
-                match self.store_chunk(alloc, chunk_indices, chunk_data, options) {
-                    Ok(()) => Reply::Done,
-                    Err(error) => Reply::Refused(error),
-                }
+                done(self.store_chunk(alloc, chunk_indices, chunk_data, options))
             }
             Call::StoreChunks(chunks, data) => {
-                match self.store_chunks(alloc, chunks, data, options) {
-                    Ok(()) => Reply::Done,
-                    Err(error) => Reply::Refused(error),
-                }
+                done(self.store_chunks(alloc, chunks, data, options))
             }
             Call::StoreChunkSubset(chunk_indices, chunk_subset, data) => {
-                match self.store_chunk_subset(alloc, chunk_indices, chunk_subset, data, options) {
-                    Ok(()) => Reply::Done,
-                    Err(error) => Reply::Refused(error),
-                }
+                done(self.store_chunk_subset(alloc, chunk_indices, chunk_subset, data, options))
             }
             Call::StoreArraySubset(array_subset, data) => {
-                match self.store_array_subset(alloc, array_subset, data, options) {
-                    Ok(()) => Reply::Done,
-                    Err(error) => Reply::Refused(error),
-                }
+                done(self.store_array_subset(alloc, array_subset, data, options))
             }
-            Call::EraseChunk(chunk_indices) => {
-                if chunk_indices.len() != self.parts.grid.dimensionality() {
-                    return Reply::Refused(invalid_indices(alloc, chunk_indices));
-                }
-                match self.erase_chunk(alloc, chunk_indices) {
-                    Ok(()) => Reply::Done,
-                    Err(error) => Reply::Refused(error.into()),
-                }
-            }
+            Call::EraseChunk(chunk_indices) => self.answer_erase_chunk(alloc, chunk_indices),
             Call::EraseChunks(chunks) => self.answer_erase_chunks(alloc, chunks),
             Call::RetrieveChunkIfExists(chunk_indices) => {
                 match self.retrieve_chunk_if_exists(alloc, chunk_indices) {
@@ -121,26 +125,31 @@ impl<
                     Err(error) => Reply::Refused(error),
                 }
             }
-            Call::RetrieveChunk(chunk_indices) => match self.retrieve_chunk(alloc, chunk_indices) {
-                Ok(data) => Reply::Cells(data),
-                Err(error) => Reply::Refused(error),
-            },
-            Call::RetrieveChunks(chunks) => match self.retrieve_chunks(alloc, chunks) {
-                Ok(data) => Reply::Cells(data),
-                Err(error) => Reply::Refused(error),
-            },
+            Call::RetrieveChunk(chunk_indices) => cells(self.retrieve_chunk(alloc, chunk_indices)),
+            Call::RetrieveChunks(chunks) => cells(self.retrieve_chunks(alloc, chunks)),
             Call::RetrieveChunkSubset(chunk_indices, chunk_subset) => {
-                match self.retrieve_chunk_subset(alloc, chunk_indices, chunk_subset) {
-                    Ok(data) => Reply::Cells(data),
-                    Err(error) => Reply::Refused(error),
-                }
+                cells(self.retrieve_chunk_subset(alloc, chunk_indices, chunk_subset))
             }
             Call::RetrieveArraySubset(array_subset) => {
-                match self.retrieve_array_subset(alloc, array_subset) {
-                    Ok(data) => Reply::Cells(data),
-                    Err(error) => Reply::Refused(error),
-                }
+                cells(self.retrieve_array_subset(alloc, array_subset))
             }
+        }
+    }
+
+    /// The reply to an erasure of one chunk.
+    fn answer_erase_chunk(&mut self, alloc: Global, chunk_indices: &[u64]) -> Reply
+        ensures step { (keep : Bool) → ActStep (layout_of self.old) keep
+            (length_refusal (layout_of self.old) chunk_indices.now)
+            (erase (chunk_indices.now ∷ [])) result (store_of S.state self.old)
+            (store_of S.state self.new) }
+        ensures parts { KeepsParts self.old self.new }
+    {
+        if chunk_indices.len() != self.parts.grid.dimensionality() {
+            return Reply::Refused(invalid_indices(alloc, chunk_indices));
+        }
+        match self.erase_chunk(alloc, chunk_indices) {
+            Ok(()) => Reply::Done,
+            Err(error) => Reply::Refused(error.into()),
         }
     }
 

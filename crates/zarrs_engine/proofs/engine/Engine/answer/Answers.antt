@@ -1,56 +1,112 @@
-use Rattle.std.proofs.Common.{List, ℕ, refl, ap, subst, arith, option_map}
-use Rattle.zarrs_subset.specs.Regions.{box_of}
+use Rattle.std.proofs.Common.{List, ℕ, [], ◌∷◌, IfErr, IfOk, OnOk, true, refl, ap, subst, option_map}
+use Rattle.zarrs_subset.specs.Regions.{box_of, positions}
+use Rattle.zarrs_chunk_grid.specs.Grids.{box_at, chunks_box}
+use Rattle.zarrs_cells.specs.declared.array_bytes.ArrayBytes.{ArrayBytes}
 use Rattle.zarrs_data_type.specs.ArrayData.{data_of}
 use Rattle.zarrs_codec.specs.Options.{stores_empty_chunks}
-use Rattle.zarrs_steps.specs.Refusals.{refusal_of}
+use Rattle.zarrs_steps.specs.Acts.{erase, read, read_chunk, read_part_act, store}
+use Rattle.zarrs_steps.specs.ArgumentRefusals.{read_chunks_refusal, read_part_refusal, read_region_refusal}
+use Rattle.zarrs_steps.specs.ArgumentRefusals.{store_chunk_refusal, store_chunks_refusal, store_part_refusal, store_region_refusal}
 use Rattle.zarrs_steps.specs.Changes.{RetrievesChunk, RetrievesIfExists}
-use Rattle.zarrs_steps.specs.ChunkBoxes.{chunks_met}
+use Rattle.zarrs_steps.specs.ChunkBoxes.{chunks_met, part_box}
 use Rattle.zarrs_steps.specs.Reach.{MayAskCall}
-use Rattle.zarrs_steps.specs.Step.{RetrievesPart, RefusesRetrievePart}
+use Rattle.zarrs_steps.specs.Refusals.{length_refusal, refusal_of}
+use Rattle.zarrs_steps.specs.StateRefusals.{RefusesChunkRead}
+use Rattle.zarrs_steps.specs.Step.{ActStep, StoresChunk, RefusesStoreChunk, StoresPart, RefusesStorePart}
+use Rattle.zarrs_steps.specs.Step.{RetrievesChunks, RefusesRetrieveChunks, RetrievesPart, RefusesRetrievePart}
+use Rattle.zarrs_steps.specs.Step.{RetrievesRegion, RefusesRetrieveRegion}
 use Rattle.zarrs_steps.specs.declared.call.Call.{Call}
+use Rattle.zarrs_steps.specs.declared.error.ArrayError.{ArrayError}
 use Rattle.zarrs_engine.specs.Engine.{layout_of, state_of}
-use Rattle.zarrs_layout.specs.Parts.{RefusesIndices}
-use Rattle.zarrs_layout.proofs.Chunks.{refuses_length, retrieved_length, found_length}
+use Rattle.zarrs_layout.proofs.Chunks.{retrieved_length, found_length}
 use Rattle.zarrs_engine.proofs.PartSteps.{part_step, part_refused_step}
 use Rattle.zarrs_engine.proofs.RegionSteps.{may_ask_chunks}
-use Rattle.zarrs_engine.proofs.Writes.{erase_refused}
+use Rattle.zarrs_engine.proofs.Replies.{cells_step, done_step}
 use Rattle.zarrs_engine.proofs.engine.Engine.answer.Goals as goal
 
-pub returns-then-len-dimensionality-clause-step : goal.returns-then-len-dimensionality-clause-step
-returns-then-len-dimensionality-clause-step g c =
+pub returns-in-StoreChunk-clause-step : goal.returns-in-StoreChunk-clause-step
+returns-in-StoreChunk-clause-step g c =
     let layout = layout_of c.args.self.now in
-    let state = g.S.ReadableStorageTraits.state c.args.self.now.storage in
-    let index = c.in-EraseChunk.chunk_indices in
-    let e = c.invalid_indices.result in
-    rw c.in-EraseChunk.is (
-      refl,
-      erase_refused layout index.items state (refusal_of e) (refuses_length layout index.items e
-          (λ long. c.if-len-dimensionality.true (omega (arith, long, index.ok.0, c.len.ensures, c.dimensionality.ensures)))
-          (subst (λ (i : List ℕ). RefusesIndices i e) c.deref-then-len-dimensionality.ensures.value c.invalid_indices.ensures)),
+    let keep = stores_empty_chunks c.args.options.now in
+    let old = g.S.ReadableStorageTraits.state c.args.self.now.storage in
+    let new = g.S.ReadableStorageTraits.state c.store_chunk.new.self.storage in
+    let index = c.in-StoreChunk.chunk_indices.items in
+    let held = data_of c.in-StoreChunk.chunk_data in
+    let e = c.store_chunk.ensures in
+    let at = c.deref.ensures.value in
+    rw c.in-StoreChunk.is (
+      ap (λ parts. g.G.ChunkGridTraits.array_extents parts.grid) e.parts,
+      done_step layout keep (store_chunk_refusal layout index held) (store (box_at layout.grid index) held (index ∷ [])) old new c.store_chunk.result c.done.result (subst (λ (i : List ℕ). OnOk c.store_chunk.result (StoresChunk layout keep i held old new)) at e.done) (subst (λ (i : List ℕ). IfErr c.store_chunk.result (λ e. RefusesStoreChunk layout keep i held (refusal_of e) old new)) at e.refused) c.done.ensures.done c.done.ensures.refused,
     )
+
+pub returns-in-StoreChunks-clause-step : goal.returns-in-StoreChunks-clause-step
+returns-in-StoreChunks-clause-step g c =
+    let layout = layout_of c.args.self.now in
+    let keep = stores_empty_chunks c.args.options.now in
+    let old = g.S.ReadableStorageTraits.state c.args.self.now.storage in
+    let new = g.S.ReadableStorageTraits.state c.store_chunks.new.self.storage in
+    let range = box_of c.in-StoreChunks.chunks in
+    let held = data_of c.in-StoreChunks.«data» in
+    let e = c.store_chunks.ensures in
+    rw c.in-StoreChunks.is (
+      ap (λ parts. g.G.ChunkGridTraits.array_extents parts.grid) e.parts,
+      done_step layout keep (store_chunks_refusal layout range held) (store (chunks_box layout.grid range) held (positions range)) old new c.store_chunks.result c.done-in-StoreChunks.result e.done e.refused c.done-in-StoreChunks.ensures.done c.done-in-StoreChunks.ensures.refused,
+    )
+
+pub returns-in-StoreChunkSubset-clause-step : goal.returns-in-StoreChunkSubset-clause-step
+returns-in-StoreChunkSubset-clause-step g c =
+    let layout = layout_of c.args.self.now in
+    let keep = stores_empty_chunks c.args.options.now in
+    let old = g.S.ReadableStorageTraits.state c.args.self.now.storage in
+    let new = g.S.ReadableStorageTraits.state c.store_chunk_subset.new.self.storage in
+    let index = c.in-StoreChunkSubset.chunk_indices.items in
+    let part = box_of c.in-StoreChunkSubset.chunk_subset in
+    let held = data_of c.in-StoreChunkSubset.«data» in
+    let e = c.store_chunk_subset.ensures in
+    let at = c.deref-in-StoreChunkSubset.ensures.value in
+    rw c.in-StoreChunkSubset.is (
+      ap (λ parts. g.G.ChunkGridTraits.array_extents parts.grid) e.parts,
+      done_step layout keep (store_part_refusal layout index part held) (store (part_box (box_at layout.grid index) part) held (index ∷ [])) old new c.store_chunk_subset.result c.done-in-StoreChunkSubset.result (subst (λ (i : List ℕ). OnOk c.store_chunk_subset.result (StoresPart layout keep i part held old new)) at e.done) (subst (λ (i : List ℕ). IfErr c.store_chunk_subset.result (λ e. RefusesStorePart layout keep i part held (refusal_of e) old new)) at e.refused) c.done-in-StoreChunkSubset.ensures.done c.done-in-StoreChunkSubset.ensures.refused,
+    )
+
+pub returns-in-StoreArraySubset-clause-step : goal.returns-in-StoreArraySubset-clause-step
+returns-in-StoreArraySubset-clause-step g c =
+    let layout = layout_of c.args.self.now in
+    let keep = stores_empty_chunks c.args.options.now in
+    let old = g.S.ReadableStorageTraits.state c.args.self.now.storage in
+    let new = g.S.ReadableStorageTraits.state c.store_array_subset.new.self.storage in
+    let shape = g.G.ChunkGridTraits.array_extents c.args.self.now.parts.grid in
+    let region = box_of c.in-StoreArraySubset.array_subset in
+    let held = data_of c.in-StoreArraySubset.«data» in
+    let e = c.store_array_subset.ensures in
+    rw c.in-StoreArraySubset.is (
+      ap (λ parts. g.G.ChunkGridTraits.array_extents parts.grid) e.parts,
+      done_step layout keep (store_region_refusal layout shape region held) (store region held (chunks_met layout.grid region)) old new c.store_array_subset.result c.done-in-StoreArraySubset.result e.done e.refused c.done-in-StoreArraySubset.ensures.done c.done-in-StoreArraySubset.ensures.refused,
+    )
+
+pub returns-in-EraseChunk-clause-step : goal.returns-in-EraseChunk-clause-step
+returns-in-EraseChunk-clause-step g c =
+    let layout = layout_of c.args.self.now in
+    let keep = stores_empty_chunks c.args.options.now in
+    let old = g.S.ReadableStorageTraits.state c.args.self.now.storage in
+    let new = g.S.ReadableStorageTraits.state c.answer_erase_chunk.new.self.storage in
+    let e = c.answer_erase_chunk.ensures in
+    let step = subst (λ (i : List ℕ). ActStep layout keep (length_refusal layout i) (erase (i ∷ [])) c.answer_erase_chunk.result old new) c.deref-in-EraseChunk.ensures.value (e.step keep) in
+    rw c.in-EraseChunk.is (ap (λ parts. g.G.ChunkGridTraits.array_extents parts.grid) e.parts, step)
 
 pub returns-in-EraseChunks-clause-step : goal.returns-in-EraseChunks-clause-step
 returns-in-EraseChunks-clause-step g c =
     let e = c.answer_erase_chunks.ensures in
     rw c.in-EraseChunks.is (ap (λ parts. g.G.ChunkGridTraits.array_extents parts.grid) e.parts, e.step (stores_empty_chunks c.args.options.now))
 
-pub returns-in-Ok-retrieve_chunk_if_exists-clause-step : goal.returns-in-Ok-retrieve_chunk_if_exists-clause-step
-returns-in-Ok-retrieve_chunk_if_exists-clause-step g c =
+pub returns-in-Ok-clause-step : goal.returns-in-Ok-clause-step
+returns-in-Ok-clause-step g c =
     let layout = layout_of c.args.self.now in
     let state = g.S.ReadableStorageTraits.state c.args.self.now.storage in
     let index = c.in-RetrieveChunkIfExists.chunk_indices.items in
-    let found = option_map data_of c.in-Ok-retrieve_chunk_if_exists.found in
-    let cells = subst (λ (i : List ℕ). RetrievesIfExists layout i found state) c.deref-in-RetrieveChunkIfExists.ensures.value c.in-Ok-retrieve_chunk_if_exists.ensures.cells in
+    let found = option_map data_of c.in-Ok.found in
+    let cells = subst (λ (i : List ℕ). RetrievesIfExists layout i found state) c.deref-in-RetrieveChunkIfExists.ensures.value c.in-Ok.ensures.cells in
     rw c.in-RetrieveChunkIfExists.is (refl, (refl, found_length layout index found state cells, cells))
-
-pub returns-in-Ok-retrieve_chunk-clause-step : goal.returns-in-Ok-retrieve_chunk-clause-step
-returns-in-Ok-retrieve_chunk-clause-step g c =
-    let layout = layout_of c.args.self.now in
-    let state = g.S.ReadableStorageTraits.state c.args.self.now.storage in
-    let index = c.in-RetrieveChunk.chunk_indices.items in
-    let made = data_of c.in-Ok-retrieve_chunk.data in
-    let cells = subst (λ (i : List ℕ). RetrievesChunk layout i made state) c.deref-in-RetrieveChunk.ensures.value c.in-Ok-retrieve_chunk.ensures.cells in
-    rw c.in-RetrieveChunk.is (refl, (refl, retrieved_length layout index made state cells, cells))
 
 pub retrieve_array_subset-requires : goal.retrieve_array_subset-requires
 retrieve_array_subset-requires g c =
@@ -59,29 +115,71 @@ retrieve_array_subset-requires g c =
     let region = box_of c.in-RetrieveArraySubset.array_subset in
     may_ask_chunks layout (chunks_met layout.grid region) state (subst (λ (call : Call). MayAskCall layout call state) c.in-RetrieveArraySubset.is c.requires)
 
-pub returns-in-Ok-retrieve_array_subset-clause-step : goal.returns-in-Ok-retrieve_array_subset-clause-step
-returns-in-Ok-retrieve_array_subset-clause-step g c =
-    let cells = c.in-Ok-retrieve_array_subset.ensures.cells in
-    rw c.in-RetrieveArraySubset.is (refl, (refl, cells.0, cells.1))
+pub returns-in-RetrieveChunk-clause-step : goal.returns-in-RetrieveChunk-clause-step
+returns-in-RetrieveChunk-clause-step g c =
+    let layout = layout_of c.args.self.now in
+    let keep = stores_empty_chunks c.args.options.now in
+    let state = g.S.ReadableStorageTraits.state c.args.self.now.storage in
+    let index = c.in-RetrieveChunk.chunk_indices.items in
+    let at = c.deref-in-RetrieveChunk.ensures.value in
+    let e = c.retrieve_chunk.ensures in
+    rw c.in-RetrieveChunk.is (
+      refl,
+      cells_step layout keep (length_refusal layout index) (read_chunk true index) state state c.retrieve_chunk.result c.cells.result (λ (held : ArrayBytes). RetrievesChunk layout index (data_of held) state) (λ (x : ArrayError). RefusesChunkRead layout (length_refusal layout index) true index state (refusal_of x))
+          (λ held r. (refl, retrieved_length layout index (data_of held) state r, r))
+          (λ x why. (refl, why))
+          (subst (λ (i : List ℕ). IfOk c.retrieve_chunk.result (λ (held : ArrayBytes). RetrievesChunk layout i (data_of held) state)) at e.cells)
+          (subst (λ (i : List ℕ). IfErr c.retrieve_chunk.result (λ (x : ArrayError). RefusesChunkRead layout (length_refusal layout i) true i state (refusal_of x))) at e.refused)
+          c.cells.ensures.cells c.cells.ensures.refused,
+    )
 
-pub returns-in-Ok-retrieve_chunk_subset-clause-step : goal.returns-in-Ok-retrieve_chunk_subset-clause-step
-returns-in-Ok-retrieve_chunk_subset-clause-step g c =
+pub returns-in-RetrieveChunks-clause-step : goal.returns-in-RetrieveChunks-clause-step
+returns-in-RetrieveChunks-clause-step g c =
+    let layout = layout_of c.args.self.now in
+    let keep = stores_empty_chunks c.args.options.now in
+    let state = g.S.ReadableStorageTraits.state c.args.self.now.storage in
+    let shape = g.G.ChunkGridTraits.array_extents c.args.self.now.parts.grid in
+    let range = box_of c.in-RetrieveChunks.chunks in
+    let e = c.retrieve_chunks.ensures in
+    rw c.in-RetrieveChunks.is (
+      refl,
+      cells_step layout keep (read_chunks_refusal layout shape range) (read (chunks_box layout.grid range) (positions range)) state state c.retrieve_chunks.result c.cells-in-RetrieveChunks.result (λ (held : ArrayBytes). RetrievesChunks layout shape range (data_of held) state) (λ (x : ArrayError). RefusesRetrieveChunks layout shape range (refusal_of x) state)
+          (λ held r. (refl, r.0, r.1))
+          (λ x why. (refl, why))
+          e.cells e.refused c.cells-in-RetrieveChunks.ensures.cells c.cells-in-RetrieveChunks.ensures.refused,
+    )
+
+pub returns-in-RetrieveChunkSubset-clause-step : goal.returns-in-RetrieveChunkSubset-clause-step
+returns-in-RetrieveChunkSubset-clause-step g c =
     let layout = layout_of c.args.self.now in
     let keep = stores_empty_chunks c.args.options.now in
     let state = g.S.ReadableStorageTraits.state c.args.self.now.storage in
     let index = c.in-RetrieveChunkSubset.chunk_indices.items in
     let part = box_of c.in-RetrieveChunkSubset.chunk_subset in
-    let made = c.in-Ok-retrieve_chunk_subset.data in
-    let cells = subst (λ (i : List ℕ). RetrievesPart layout i part (data_of made) state) c.deref-in-RetrieveChunkSubset.ensures.value c.in-Ok-retrieve_chunk_subset.ensures.cells in
-    rw c.in-RetrieveChunkSubset.is (refl, part_step layout keep index part state made cells)
+    let at = c.deref-in-RetrieveChunkSubset.ensures.value in
+    let e = c.retrieve_chunk_subset.ensures in
+    rw c.in-RetrieveChunkSubset.is (
+      refl,
+      cells_step layout keep (read_part_refusal layout index part) (read_part_act layout index part) state state c.retrieve_chunk_subset.result c.cells-in-RetrieveChunkSubset.result (λ (held : ArrayBytes). RetrievesPart layout index part (data_of held) state) (λ (x : ArrayError). RefusesRetrievePart layout index part (refusal_of x) state)
+          (λ held r. part_step layout keep index part state held r)
+          (λ x why. part_refused_step layout keep index part state x why)
+          (subst (λ (i : List ℕ). IfOk c.retrieve_chunk_subset.result (λ (held : ArrayBytes). RetrievesPart layout i part (data_of held) state)) at e.cells)
+          (subst (λ (i : List ℕ). IfErr c.retrieve_chunk_subset.result (λ (x : ArrayError). RefusesRetrievePart layout i part (refusal_of x) state)) at e.refused)
+          c.cells-in-RetrieveChunkSubset.ensures.cells c.cells-in-RetrieveChunkSubset.ensures.refused,
+    )
 
-pub returns-in-Err-retrieve_chunk_subset-clause-step : goal.returns-in-Err-retrieve_chunk_subset-clause-step
-returns-in-Err-retrieve_chunk_subset-clause-step g c =
+pub returns-in-RetrieveArraySubset-clause-step : goal.returns-in-RetrieveArraySubset-clause-step
+returns-in-RetrieveArraySubset-clause-step g c =
     let layout = layout_of c.args.self.now in
     let keep = stores_empty_chunks c.args.options.now in
     let state = g.S.ReadableStorageTraits.state c.args.self.now.storage in
-    let index = c.in-RetrieveChunkSubset.chunk_indices.items in
-    let part = box_of c.in-RetrieveChunkSubset.chunk_subset in
-    let e = c.in-Err-retrieve_chunk_subset.error in
-    let why = subst (λ (i : List ℕ). RefusesRetrievePart layout i part (refusal_of e) state) c.deref-in-RetrieveChunkSubset.ensures.value c.in-Err-retrieve_chunk_subset.ensures.refused in
-    rw c.in-RetrieveChunkSubset.is (refl, part_refused_step layout keep index part state e why)
+    let shape = g.G.ChunkGridTraits.array_extents c.args.self.now.parts.grid in
+    let region = box_of c.in-RetrieveArraySubset.array_subset in
+    let e = c.retrieve_array_subset.ensures in
+    rw c.in-RetrieveArraySubset.is (
+      refl,
+      cells_step layout keep (read_region_refusal layout shape region) (read region (chunks_met layout.grid region)) state state c.retrieve_array_subset.result c.cells-in-RetrieveArraySubset.result (λ (held : ArrayBytes). RetrievesRegion layout shape region (data_of held) state) (λ (x : ArrayError). RefusesRetrieveRegion layout shape region (refusal_of x) state)
+          (λ held r. (refl, r.0, r.1))
+          (λ x why. (refl, why))
+          e.cells e.refused c.cells-in-RetrieveArraySubset.ensures.cells c.cells-in-RetrieveArraySubset.ensures.refused,
+    )

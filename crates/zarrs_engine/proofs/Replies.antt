@@ -1,0 +1,28 @@
+-- Replies to calls, as steps of a run.
+use Rattle.std.proofs.Common.{Result, Ok, Err, IfErr, IfOk, OnOk, ◌≡◌, Bool, Option, sym, subst}
+use Rattle.zarrs_storage.specs.Store.{StoreState}
+use Rattle.zarrs_cells.specs.declared.array_bytes.ArrayBytes.{ArrayBytes}
+use Rattle.zarrs_steps.specs.declared.call.Reply.{Reply}
+use Rattle.zarrs_steps.specs.declared.call.Reply.TheVariants.{Cells, Done, Refused}
+use Rattle.zarrs_steps.specs.declared.error.ArrayError.{ArrayError}
+use Rattle.zarrs_steps.specs.Acts.{Act}
+use Rattle.zarrs_steps.specs.Layout.{Layout}
+use Rattle.zarrs_steps.specs.Refusals.{Refusal}
+use Rattle.zarrs_steps.specs.Step.{ActStep}
+
+module _ (layout : Layout) (keep : Bool) (first : Option Refusal) (act : Act) (old new : StoreState) where
+  abbrev Steps : Reply → Type 0
+  Steps reply = ActStep layout keep first act reply old new
+
+  -- of a call that returns nothing
+  pub done_step : {T : Type 0} (made : Result T ArrayError) (reply : Reply) → OnOk made (Steps Done) → IfErr made (λ e. Steps (Refused e))
+      → OnOk made (reply ≡ Done) → IfErr made (λ e. reply ≡ Refused e) → Steps reply
+  done_step (Ok x) reply step refused is none = subst Steps (sym is) step
+  done_step (Err e) reply step refused none is = subst Steps (sym is) refused
+
+  -- of a call that returns cells
+  pub cells_step : (made : Result ArrayBytes ArrayError) (reply : Reply) (P : ArrayBytes → Type 0) (Q : ArrayError → Type 0)
+      → ((held : ArrayBytes) → P held → Steps (Cells held)) → ((e : ArrayError) → Q e → Steps (Refused e))
+      → IfOk made P → IfErr made Q → IfOk made (λ held. reply ≡ Cells held) → IfErr made (λ e. reply ≡ Refused e) → Steps reply
+  cells_step (Ok held) reply P Q step refused p q is none = subst Steps (sym is) (step held p)
+  cells_step (Err e) reply P Q step refused p q none is = subst Steps (sym is) (refused e q)
