@@ -1,9 +1,8 @@
 -- An array with another grid is one that its new metadata says.
-use Rattle.std.proofs.Common.{◌≡◌, ℕ, List, Result, Ok, Err, OnOk, OnErr, IfOk, Some, refl, ap, sym, subst, ◌∙◌}
+use Rattle.std.proofs.Common.{◌≡◌, ℕ, List, Ok, ap, sym, ◌∙◌}
 use Rattle.std.specs.Result.{result_ok}
 use Rattle.zarrs_keys.specs.declared.encodings.ChunkKeyEncoding.{ChunkKeyEncoding}
 use Rattle.zarrs_keys.specs.declared.traits.ChunkKeyEncodingTraits.{Ghosts as KeyMeaning}
-use Rattle.zarrs_chunk_grid.specs.Configurations.{GridConfiguration, dimensions_of, grid_of as grid_over}
 use Rattle.zarrs_chunk_grid.specs.GridView.{configuration_of, array_extents_of}
 use Rattle.zarrs_chunk_grid.specs.declared.grid.ChunkGrid.{ChunkGrid}
 use Rattle.zarrs_chunk_grid.specs.declared.traits.ChunkGridTraits.{Ghosts as GridMeaning}
@@ -11,10 +10,10 @@ use Rattle.zarrs_codec.specs.declared.chain.CodecChain.{CodecChain}
 use Rattle.zarrs_codec.specs.declared.traits.ChainTraits.{Ghosts as ChainMeanings}
 use Rattle.zarrs_document_v2.specs.View.{MetadataData, metadata_view}
 use Rattle.zarrs_document_v2.specs.declared.versions.ArrayMetadata.{ArrayMetadata}
-use Rattle.zarrs_engine.specs.Engine.{grid_of, keys_of, chain_of, data_type_of, fill_value_of, GivesGrid}
+use Rattle.zarrs_engine.specs.Engine.{keys_of, chain_of, data_type_of, fill_value_of, GivesGrid}
 use Rattle.zarrs_engine.specs.declared.engine.Engine.{Engine}
-use Rattle.zarrs_array_metadata.specs.Meanings.{Meaning, meaning_with, creation, Says}
-use Rattle.zarrs_array_metadata.proofs.Grids.{cut_by, IsCutAnew, grid_dimensions_are}
+use Rattle.zarrs_array_metadata.specs.Meanings.{Meaning, meaning_with}
+use Rattle.zarrs_array_metadata.proofs.Grids.{cut_by, IsCutAnew}
 use Rattle.zarrs.specs.Agreement.{meaning_of, Agrees}
 
 module _ {g : GridMeaning ChunkGrid} {k : KeyMeaning ChunkKeyEncoding} {c : ChainMeanings CodecChain} {S : Type 0} where

@@ -11,7 +11,7 @@ use Rattle.zarrs_document_v2.specs.View.{MetadataData, v3, v2}
 use Rattle.zarrs_options.specs.declared.versions.MetadataRetrieveVersion.{MetadataRetrieveVersion}
 use Rattle.zarrs_options.specs.declared.versions.MetadataRetrieveVersion.TheVariants as retrieve
 use Rattle.zarrs_array_metadata.specs.Meanings.{Meaning, creation, as_v3}
-use Rattle.zarrs_array_metadata.specs.Opening.{v3_key, v2_key, attributes_key, fields_understood, opened}
+use Rattle.zarrs_array_metadata.specs.Opening.{v3_key, v2_array_key, attributes_key, fields_understood, opened}
 use Rattle.zarrs_array_metadata.specs.Writing.{Put, IsWrittenBy}
 use Rattle.zarrs.specs.Puts.{ArePut}
 
@@ -46,7 +46,7 @@ version_of (v2 m) = retrieve.V2
 -- the store refuses no key of the metadata
 abbrev pub NoKeyRefused : List ℕ → MetadataData → StoreState → Type 0
 NoKeyRefused path (v3 m) state = state.refuses (v3_key path) ≡ false
-NoKeyRefused path (v2 m) state = (state.refuses (v2_key path) ≡ false) × (state.refuses (attributes_key path) ≡ false)
+NoKeyRefused path (v2 m) state = (state.refuses (v2_array_key path) ≡ false) × (state.refuses (attributes_key path) ≡ false)
 
 -- the metadata that was written opens, if no key of it is refused
 abbrev pub WrittenMetadataOpens : Type 0

@@ -1,5 +1,5 @@
 -- Arrays whose attributes are lent.
-use Rattle.std.proofs.Common.{◌≡◌, ap, ◌∙◌}
+use Rattle.std.proofs.Common.{ap, ◌∙◌}
 use Rattle.std.specs.Borrow.{Lends, MutBor, Fml, RattleType}
 use Rattle.std.specs.Result.{result_ok}
 use Rattle.serde_json.specs.Rows.{map_row}

@@ -1,11 +1,13 @@
 //! An array: an engine, and the metadata that says its parts.
 mod calls;
+mod comparison;
 mod copies;
 mod elements;
 mod into;
 mod lending;
 mod metadata;
 mod options;
+mod part_reads;
 mod queries;
 mod reads;
 mod setters;
@@ -41,6 +43,15 @@ pub struct Array<TStorage> {
     metadata_options: ArrayMetadataOptions,
     ghost agrees: { Agrees engine metadata } by { Agrees-prop engine metadata },
 }
+
+/// A chunk of an array, of which parts are read.
+pub type ArrayPartialDecoder<'a, TStorage> = zarrs_engine::ArrayPartialDecoder<
+    'a,
+    TStorage,
+    ChunkGrid,
+    ChunkKeyEncoding,
+    CodecChain,
+>;
 
 impl<TStorage> Array<TStorage> {
     ghost use Rattle.std.specs.Prelude.{◌≡◌, map, option_map};

@@ -5,7 +5,7 @@ mod array;
 pub mod laws;
 mod reopening;
 
-pub use array::Array;
+pub use array::{Array, ArrayPartialDecoder};
 pub use reopening::written_and_opened;
 pub use zarrs_chunk_grid::{
     ChunkGrid, ChunkGridTraits, ChunkShape, RectangularChunkGrid, RegularBoundedChunkGrid,

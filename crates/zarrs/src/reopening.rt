@@ -6,10 +6,12 @@ ghost use Rattle.zarrs_array_metadata.specs.Shown.{shown};
 ghost use Rattle.zarrs.specs.Laws.{IsReadAgain, normal_metadata, version_of};
 ghost use Rattle.zarrs.specs.Arrays.{metadata_of_array, metadata_options_of_array};
 ghost use Rattle.zarrs.specs.Arrays.{path_of_array, layout_of_array, store_of_array};
+ghost use Rattle.zarrs.specs.Puts.{StoresMetadata};
 
 use crate::array::Array;
 use std::alloc::Global;
 use zarrs_document_v2::ArrayMetadata;
+use zarrs_keys::NodePath;
 use zarrs_options::{ArrayCreateError, MetadataRetrieveVersion};
 use zarrs_storage::WritableStorageTraits;
 
@@ -21,6 +23,37 @@ fn version_of(metadata: &ArrayMetadata) -> MetadataRetrieveVersion
         ArrayMetadata::V3(_) => MetadataRetrieveVersion::V3,
         ArrayMetadata::V2(_) => MetadataRetrieveVersion::V2,
     }
+}
+
+/// Returns where the array lies, and the version of the metadata that its own options show.
+fn path_and_version<S>(
+    alloc: Global,
+    array: &Array<S>,
+) -> Result<(NodePath, MetadataRetrieveVersion), ArrayCreateError>
+    ensures path { IfOk result (λ found. found.0 ≡ path_of_array array.now) }
+    ensures version { (m : MetadataData)
+        → shown (metadata_options_of_array array.now) (metadata_of_array array.now) ≡ Ok m
+        → IfOk result (λ found. found.1 ≡ version_of m) }
+{
+    let path = array.path().clone()?;
+    match array.metadata_opt(alloc, array.metadata_options()) {
+        Ok(shown) => Ok((path, version_of(&shown))),
+        Err(_) => Err(ArrayCreateError::OutOfMemory),
+    }
+}
+
+/// Stores the metadata of the array, and returns the store.
+fn stored<S: WritableStorageTraits + Drop>(
+    alloc: Global,
+    array: Array<S>,
+) -> Result<S, ArrayCreateError>
+    ensures { IfOk result (λ storage. StoresMetadata (metadata_options_of_array array)
+        (path_of_array array) (metadata_of_array array) (store_of_array S.state array)
+        (S.state storage)) }
+{
+    let mut array = array;
+    array.store_metadata(alloc)?;
+    Ok(array.into_storage())
 }
 
 /// Stores the metadata of the array, takes the store out and opens the array there again, by the version that was
@@ -42,14 +75,8 @@ pub fn written_and_opened<S: WritableStorageTraits + Drop>(
         → shown (metadata_options_of_array array) (metadata_of_array array) ≡ Ok m
         → IsReadAgain m → IfOk result (λ a. layout_of_array a ≡ layout_of_array array) }
 {
-    let mut array = array;
-    let path = array.path().clone()?;
-    let Ok(written) = array.metadata_opt(alloc, array.metadata_options()) else {
-        return Err(ArrayCreateError::OutOfMemory);
-    };
-    let version = version_of(&written);
-    array.store_metadata(alloc)?;
-    let storage = array.into_storage();
+    let (path, version) = path_and_version(alloc, &array)?;
+    let storage = stored(alloc, array)?;
     let opened = Array::open_opt(alloc, storage, path.as_str(), &version)?;
     Ok(opened)
 }

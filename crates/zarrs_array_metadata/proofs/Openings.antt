@@ -16,7 +16,7 @@ use Rattle.zarrs_options.specs.Errors.{create_error_of_path, create_error_of_sto
 use Rattle.zarrs_options.specs.Refusals.{CreateRefusal, node_path, storage, missing_metadata, create_refusal_of, RefusesCreation}
 use Rattle.zarrs_options.specs.declared.versions.MetadataRetrieveVersion.{MetadataRetrieveVersion}
 use Rattle.zarrs_array_metadata.specs.Meanings.{Meaning, creation, created, ◌>>=◌}
-use Rattle.zarrs_array_metadata.specs.Opening.{v3_key, v2_key, attributes_key, value_asked, fields_understood, understood_document, document_v2_read, attributed, stored_v3, stored_v2, stored_default, stored_by, stored_metadata, opened}
+use Rattle.zarrs_array_metadata.specs.Opening.{v3_key, v2_array_key, attributes_key, value_asked, fields_understood, understood_document, document_v2_read, attributed, stored_v3, stored_v2, stored_default, stored_by, stored_metadata, opened}
 use Rattle.zarrs_array_metadata.proofs.Order.{bound}
 
 -- ---- tests
@@ -89,15 +89,15 @@ module _ (state : StoreState) (path : List ℕ) (r : CreateRefusal) where
   unfolding stored_v3
   v3_bad bytes asked is = after _ _ _ r asked (bound _ _ r is)
 
-  pub v2_refused : RefusesCreation (value_asked state (v2_key path)) r → RefusesCreation (stored_v2 state path) r
+  pub v2_refused : RefusesCreation (value_asked state (v2_array_key path)) r → RefusesCreation (stored_v2 state path) r
   unfolding stored_v2
   v2_refused is = bound _ _ r is
 
-  pub v2_bad : (bytes : List ℕ) → value_asked state (v2_key path) ≡ Ok (Some bytes) → RefusesCreation (document_v2_read bytes) r → RefusesCreation (stored_v2 state path) r
+  pub v2_bad : (bytes : List ℕ) → value_asked state (v2_array_key path) ≡ Ok (Some bytes) → RefusesCreation (document_v2_read bytes) r → RefusesCreation (stored_v2 state path) r
   unfolding stored_v2
   v2_bad bytes asked is = after _ _ _ r asked (bound _ _ r is)
 
-  pub v2_unattributed : (bytes : List ℕ) (m : DocumentV2Data) → value_asked state (v2_key path) ≡ Ok (Some bytes) → document_v2_read bytes ≡ Ok m → RefusesCreation (attributed state path m) r → RefusesCreation (stored_v2 state path) r
+  pub v2_unattributed : (bytes : List ℕ) (m : DocumentV2Data) → value_asked state (v2_array_key path) ≡ Ok (Some bytes) → document_v2_read bytes ≡ Ok m → RefusesCreation (attributed state path m) r → RefusesCreation (stored_v2 state path) r
   unfolding stored_v2
   v2_unattributed bytes m asked said is = after _ _ _ r asked (after _ _ _ r said (bound _ _ r is))
 
@@ -127,11 +127,11 @@ module _ (state : StoreState) (path : List ℕ) where
   unfolding stored_v3
   v3_read bytes m asked said = goes_on _ _ _ _ asked (goes_on _ _ _ _ said refl)
 
-  pub v2_absent : value_asked state (v2_key path) ≡ Ok None → stored_v2 state path ≡ Ok None
+  pub v2_absent : value_asked state (v2_array_key path) ≡ Ok None → stored_v2 state path ≡ Ok None
   unfolding stored_v2
   v2_absent asked = goes_on _ _ _ _ asked refl
 
-  pub v2_read : (bytes : List ℕ) (m n : DocumentV2Data) → value_asked state (v2_key path) ≡ Ok (Some bytes) → document_v2_read bytes ≡ Ok m → attributed state path m ≡ Ok n → stored_v2 state path ≡ Ok (Some (v2 n))
+  pub v2_read : (bytes : List ℕ) (m n : DocumentV2Data) → value_asked state (v2_array_key path) ≡ Ok (Some bytes) → document_v2_read bytes ≡ Ok m → attributed state path m ≡ Ok n → stored_v2 state path ≡ Ok (Some (v2 n))
   unfolding stored_v2
   v2_read bytes m n asked said all = goes_on _ _ _ _ asked (goes_on _ _ _ _ said (goes_on _ _ _ _ all refl))
 

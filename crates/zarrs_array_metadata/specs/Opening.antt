@@ -20,8 +20,8 @@ abbrev pub v3_key : List ℕ → List ℕ
 v3_key path = path_key path v3_name
 
 -- the key of its V2 document, which has no attributes
-abbrev pub v2_key : List ℕ → List ℕ
-v2_key path = path_key path v2_array_name
+abbrev pub v2_array_key : List ℕ → List ℕ
+v2_array_key path = path_key path v2_array_name
 
 -- the key of its V2 attributes
 abbrev pub attributes_key : List ℕ → List ℕ
@@ -72,9 +72,9 @@ attributed state path m = value_asked state (attributes_key path) >>= with_store
 abbrev pub document_v2_read : List ℕ → Result DocumentV2Data CreateRefusal
 document_v2_read bytes = said_or storage (document_v2_said bytes)
 
-abbrev pub v2_of : StoreState → List ℕ → Option (List ℕ) → Result (Option MetadataData) CreateRefusal
-v2_of state path None = Ok None
-v2_of state path (Some bytes) = do
+abbrev pub v2_metadata_at : StoreState → List ℕ → Option (List ℕ) → Result (Option MetadataData) CreateRefusal
+v2_metadata_at state path None = Ok None
+v2_metadata_at state path (Some bytes) = do
   m ← document_v2_read bytes
   all ← attributed state path m
   Ok (Some (v2 all))
@@ -82,8 +82,8 @@ v2_of state path (Some bytes) = do
 -- the V2 document that a store holds, none if it is absent, or the first refusal
 unfoldable pub stored_v2 : StoreState → List ℕ → Result (Option MetadataData) CreateRefusal
 stored_v2 state path = do
-  value ← value_asked state (v2_key path)
-  v2_of state path value
+  value ← value_asked state (v2_array_key path)
+  v2_metadata_at state path value
 
 -- ---- of either version
 
@@ -123,7 +123,7 @@ pub record MayAskKey (state : StoreState) (key : List ℕ) : Type 0 where
 
 -- the V2 document of an array at the path and its attributes may be asked
 pub record MayAskV2 (state : StoreState) (path : List ℕ) : Type 0 where
-  pub array : MayAskKey state (v2_key path)
+  pub array : MayAskKey state (v2_array_key path)
   pub attributes : MayAskKey state (attributes_key path)
 
 -- the metadata of an array at the path may be asked, as far as it is of this version

@@ -6,7 +6,7 @@ use Rattle.zarrs_document_v2.specs.Document.{DocumentV2Data, without_attributes,
 use Rattle.zarrs_document_v2.specs.View.{MetadataData, v3, v2}
 use Rattle.zarrs_options.specs.declared.versions.MetadataEraseVersion.{MetadataEraseVersion}
 use Rattle.zarrs_options.specs.declared.versions.MetadataEraseVersion.TheVariants as erase
-use Rattle.zarrs_array_metadata.specs.Opening.{v3_key, v2_key, attributes_key}
+use Rattle.zarrs_array_metadata.specs.Opening.{v3_key, v2_array_key, attributes_key}
 use Rattle.zarrs_array_metadata.specs.declared.writing.MetadataPut.{MetadataPut}
 
 -- a key and the value that is put there, none if the key is erased
@@ -39,7 +39,7 @@ pub record IsWrittenV2 (path : List ℕ) (m : DocumentV2Data) (puts : List Put) 
   pub attributes_say : IsTextOfAttributes m.attributes attributes
   pub text : List ℕ
   pub says : IsDocumentV2Text (without_attributes m) text
-  pub is : puts ≡ put_at (attributes_key path) attributes ∷ put_at (v2_key path) (Some text) ∷ []
+  pub is : puts ≡ put_at (attributes_key path) attributes ∷ put_at (v2_array_key path) (Some text) ∷ []
 
 -- the metadata of an array at a path is written by these puts
 abbrev pub IsWrittenBy : List ℕ → MetadataData → List Put → Type 0
@@ -50,14 +50,14 @@ IsWrittenBy path (v2 m) puts = IsWrittenV2 path m puts
 
 abbrev pub keys_of_version : List ℕ → MetadataData → List (List ℕ)
 keys_of_version path (v3 m) = v3_key path ∷ []
-keys_of_version path (v2 m) = v2_key path ∷ attributes_key path ∷ []
+keys_of_version path (v2 m) = v2_array_key path ∷ attributes_key path ∷ []
 
 -- the keys of metadata that are erased
 abbrev pub erased_keys : MetadataEraseVersion → List ℕ → MetadataData → List (List ℕ)
 erased_keys erase.Default path m = keys_of_version path m
-erased_keys erase.All path m = v3_key path ∷ v2_key path ∷ attributes_key path ∷ []
+erased_keys erase.All path m = v3_key path ∷ v2_array_key path ∷ attributes_key path ∷ []
 erased_keys erase.V3 path m = v3_key path ∷ []
-erased_keys erase.V2 path m = v2_key path ∷ attributes_key path ∷ []
+erased_keys erase.V2 path m = v2_array_key path ∷ attributes_key path ∷ []
 
 -- the metadata of an array at a path is erased by these puts
 abbrev pub erasures : MetadataEraseVersion → List ℕ → MetadataData → List Put

@@ -27,7 +27,7 @@ use zarrs_metadata::{MetadataV3, PluginCreateError};
 use zarrs_options::{ArrayCreateError, StorageTransformerChain};
 
 /// The parts of an array, beside its path and its store.
-#[derive(Drop)]
+#[derive(Debug, Drop)]
 pub struct ArrayParts {
     /// How the array is cut into chunks.
     pub grid: ChunkGrid,

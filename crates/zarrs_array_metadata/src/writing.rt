@@ -3,7 +3,7 @@ ghost use Rattle.std.specs.Prelude.{◌≡◌, [], ◌∷◌, map, option_map, N
 ghost use Rattle.serde_json.specs.View.{members_view};
 ghost use Rattle.zarrs_document.specs.View.{document_view};
 ghost use Rattle.zarrs_document_v2.specs.View.{document_v2_view, metadata_view};
-ghost use Rattle.zarrs_array_metadata.specs.Opening.{v3_key, v2_key, attributes_key};
+ghost use Rattle.zarrs_array_metadata.specs.Opening.{v3_key, v2_array_key, attributes_key};
 ghost use Rattle.zarrs_array_metadata.specs.Writing.{put_at, put_view, erasures, IsTextOfAttributes};
 ghost use Rattle.zarrs_array_metadata.specs.Writing.{IsWrittenV3, IsWrittenV2, IsWrittenBy};
 
@@ -112,7 +112,7 @@ fn erase_v3(alloc: Global, path: &NodePath) -> Result<Vec<MetadataPut>, StorageE
 
 fn erase_v2(alloc: Global, path: &NodePath) -> Result<Vec<MetadataPut>, StorageError>
     ensures written { IfOk result (λ puts. map put_view puts.items
-        ≡ put_at (v2_key path.now) None ∷ put_at (attributes_key path.now) None ∷ []) }
+        ≡ put_at (v2_array_key path.now) None ∷ put_at (attributes_key path.now) None ∷ []) }
     ensures accepted { IsOkUnless result StorageError.OutOfMemory }
 {
     let array = meta_key_v2_array(alloc, path)?;
@@ -125,7 +125,7 @@ fn erase_v2(alloc: Global, path: &NodePath) -> Result<Vec<MetadataPut>, StorageE
 
 fn erase_all(alloc: Global, path: &NodePath) -> Result<Vec<MetadataPut>, StorageError>
     ensures written { IfOk result (λ puts. map put_view puts.items
-        ≡ put_at (v3_key path.now) None ∷ put_at (v2_key path.now) None
+        ≡ put_at (v3_key path.now) None ∷ put_at (v2_array_key path.now) None
         ∷ put_at (attributes_key path.now) None ∷ []) }
     ensures accepted { IsOkUnless result StorageError.OutOfMemory }
 {

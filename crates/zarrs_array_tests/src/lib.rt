@@ -8,11 +8,17 @@ mod copies;
 #[cfg(test)]
 mod creation;
 #[cfg(test)]
+mod decoders;
+#[cfg(test)]
 mod elements;
+#[cfg(test)]
+mod foreign;
 #[cfg(test)]
 mod made;
 #[cfg(test)]
 mod opening;
+#[cfg(test)]
+mod refusals;
 #[cfg(test)]
 mod setters;
 #[cfg(test)]

@@ -34,7 +34,7 @@ const CONVERTED: &str = concat!(
 );
 
 /// A store that holds these texts at these keys.
-fn holding(alloc: Global, entries: &[(&str, &str)]) -> Result<MemoryStore, Fail> {
+pub(crate) fn holding(alloc: Global, entries: &[(&str, &str)]) -> Result<MemoryStore, Fail> {
     let mut storage = MemoryStore::new(alloc);
     for (name, text) in entries {
         let key = StoreKey::new(alloc, *name)?;
@@ -44,7 +44,7 @@ fn holding(alloc: Global, entries: &[(&str, &str)]) -> Result<MemoryStore, Fail>
     Ok(storage)
 }
 
-fn open(alloc: Global, entries: &[(&str, &str)]) -> Result<MemoryArray, Fail> {
+pub(crate) fn open(alloc: Global, entries: &[(&str, &str)]) -> Result<MemoryArray, Fail> {
     Ok(Array::open(alloc, holding(alloc, entries)?, "/")?)
 }
 
@@ -130,13 +130,13 @@ fn order_f_stores_columns(rt: HostRuntime) -> Result<(), Fail> {
 }
 
 /// The options that show metadata in V3, without the attribute of this library.
-fn plain_v3() -> ArrayMetadataOptions {
+pub(crate) fn plain_v3() -> ArrayMetadataOptions {
     ArrayMetadataOptions::default()
         .with_metadata_convert_version(MetadataConvertVersion::V3)
         .with_include_zarrs_metadata(false)
 }
 
-fn must_show(
+pub(crate) fn must_show(
     rt: &impl Abort,
     alloc: Global,
     array: &MemoryArray,
@@ -358,61 +358,6 @@ fn v3_comes_before_v2(rt: HostRuntime) -> Result<(), Fail> {
     );
     let attributes = [(".zarray", COLUMNS), (".zattrs", "[]")];
     must_be_no_document(&rt, &refusal(alloc, &attributes, default)?, ".zattrs");
-    Ok(())
-}
-
-/// The refusal of a V2 document of ten by ten with these members.
-fn refusal_of(
-    alloc: Global,
-    chunks: &str,
-    dtype: &str,
-    fill_value: &str,
-    compressor: &str,
-) -> Result<ArrayCreateError, Fail> {
-    let text = format!(in alloc;
-        "{{\"zarr_format\":2,\"shape\":[10,10],\"chunks\":{chunks},\"dtype\":\"{dtype}\",\
-         \"compressor\":{compressor},\"fill_value\":{fill_value},\"order\":\"C\",\"filters\":[]}}"
-    )?;
-    refusal(
-        alloc,
-        &[(".zarray", &text)],
-        MetadataRetrieveVersion::Default,
-    )
-}
-
-fn must_be_data_type(rt: &impl Abort, error: &ArrayCreateError) {
-    assert!(rt; matches!(error, ArrayCreateError::DataTypeCreateError(_)));
-}
-
-fn must_be_grid(rt: &impl Abort, error: &ArrayCreateError) {
-    assert!(rt; matches!(error, ArrayCreateError::ChunkGridCreateError(_)));
-}
-
-fn must_be_codecs(rt: &impl Abort, error: &ArrayCreateError) {
-    assert!(rt; matches!(error, ArrayCreateError::UnsupportedZarrV2Array(_)));
-}
-
-fn must_print(
-    rt: &impl Abort,
-    alloc: Global,
-    error: &ArrayCreateError,
-    text: &str,
-) -> Result<(), Fail> {
-    assert_eq!(rt; format!(in alloc; "{error}")?.as_str(), text);
-    Ok(())
-}
-
-#[test]
-fn a_v2_array_is_refused_in_order(rt: HostRuntime) -> Result<(), Fail> {
-    let alloc = rt.alloc();
-    must_be_data_type(&rt, &refusal_of(alloc, "[5]", "<f4", "\"x\"", "{}")?);
-    must_be_grid(&rt, &refusal_of(alloc, "[5]", "<i4", "\"x\"", "{}")?);
-    let error = refusal_of(alloc, "[5,5]", "<i4", "\"invalid\"", "{}")?;
-    let text = "invalid fill value metadata for data type `<i4`: \"invalid\"";
-    must_print(&rt, alloc, &error, text)?;
-    must_be_grid(&rt, &refusal_of(alloc, "[5]", "<i4", "0", "{}")?);
-    must_be_grid(&rt, &refusal_of(alloc, "[5]", "<i4", "0", "null")?);
-    must_be_codecs(&rt, &refusal_of(alloc, "[5,5]", "<i4", "0", "{}")?);
     Ok(())
 }
 

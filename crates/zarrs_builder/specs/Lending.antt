@@ -5,9 +5,9 @@ use Rattle.zarrs_builder.specs.declared.builder.ArrayBuilder.{ArrayBuilder}
 use Rattle.zarrs_builder.specs.contracts.builder.ArrayBuilder.{the_row}
 
 -- the builder with these attributes
-abbrev pub with_attributes : ArrayBuilder → map_row.Denot → ArrayBuilder
-with_attributes b attributes = record b { attributes = attributes }
+abbrev pub builder_with_attributes : ArrayBuilder → map_row.Denot → ArrayBuilder
+builder_with_attributes b attributes = record b { attributes = attributes }
 
 -- once the borrow ends, the builder has the attributes last left behind it, and else what it had
-abbrev pub LendsAttributes : MutBor ArrayBuilder → MutBor map_row.Denot → Fml
-LendsAttributes builder attributes = Lends the_row map_row builder attributes (with_attributes builder.now)
+abbrev pub LendsBuilderAttributes : MutBor ArrayBuilder → MutBor map_row.Denot → Fml
+LendsBuilderAttributes builder attributes = Lends the_row map_row builder attributes (builder_with_attributes builder.now)

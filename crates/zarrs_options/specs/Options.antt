@@ -1,5 +1,6 @@
 -- The options of an array's metadata.
 use Rattle.std.specs.Prelude.{List, [], ◌∷◌, Bool, true, false, Option, Some, None}
+use Rattle.zarrs_codec.specs.declared.options.CodecMetadataOptions.{CodecMetadataOptions}
 use Rattle.zarrs_metadata.specs.Extension.{ExtensionData}
 use Rattle.zarrs_options.specs.declared.versions.MetadataConvertVersion.{MetadataConvertVersion}
 use Rattle.zarrs_options.specs.declared.versions.MetadataConvertVersion.TheVariants as convert
@@ -17,6 +18,10 @@ options_view o = record {
   include_zarrs_metadata = o.include_zarrs_metadata;
   convert_aliased_extension_names = o.convert_aliased_extension_names;
 }
+
+-- the options of the metadata of the codecs, which have one value: no option changes what is written
+abbrev pub codec_metadata_options_of : ArrayMetadataOptions → CodecMetadataOptions
+codec_metadata_options_of o = o.codec_metadata_options
 
 -- the version of the array, with `_zarrs`, and names as they are
 abbrev pub default_options : MetadataOptionsData

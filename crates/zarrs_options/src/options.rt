@@ -3,11 +3,13 @@ ghost use Rattle.std.specs.Prelude.{◌≡◌};
 ghost use Rattle.zarrs_options.specs.Options.{options_view, default_options};
 
 use crate::versions::MetadataConvertVersion;
+use zarrs_codec::CodecMetadataOptions;
 
 /// How the metadata of an array is shown and written. By default it is that of the array's own
 /// version, with the attribute `_zarrs`, and with names of extensions as they are.
 #[derive(Clone, Copy, Debug, Drop, PartialEq, Eq)]
 pub struct ArrayMetadataOptions {
+    codec_metadata_options: CodecMetadataOptions,
     convert_version: MetadataConvertVersion,
     include_zarrs_metadata: bool,
     convert_aliased_extension_names: bool,
@@ -18,6 +20,7 @@ impl Default for ArrayMetadataOptions {
 
     fn default() -> ArrayMetadataOptions {
         ArrayMetadataOptions {
+            codec_metadata_options: CodecMetadataOptions,
             convert_version: MetadataConvertVersion::Default,
             include_zarrs_metadata: true,
             convert_aliased_extension_names: false,
@@ -26,6 +29,52 @@ impl Default for ArrayMetadataOptions {
 }
 
 impl ArrayMetadataOptions {
+    ghost use Rattle.std.specs.Borrow.{sem};
+    ghost use Rattle.zarrs_options.specs.Lending.{LendsCodecOptions};
+    ghost use Rattle.zarrs_options.specs.Options.{codec_metadata_options_of};
+
+    /// Returns the options of the metadata of its codecs.
+    pub fn codec_metadata_options(&self) -> &CodecMetadataOptions
+        ensures { result.now ≡ codec_metadata_options_of self.now }
+    {
+        &self.codec_metadata_options
+    }
+
+    /// Lends the options of the metadata of its codecs, for a caller that changes them.
+    pub fn codec_metadata_options_mut(&mut self) -> &mut CodecMetadataOptions
+        ensures* writes_back { sem 𝓛 (LendsCodecOptions self.entry result) }
+        ensures value { result.now ≡ codec_metadata_options_of self.old }
+    {
+        &mut self.codec_metadata_options
+    }
+
+    /// Returns the options with these ones of the metadata of the codecs.
+    pub fn with_codec_metadata_options(
+        self,
+        codec_metadata_options: CodecMetadataOptions,
+    ) -> ArrayMetadataOptions
+        ensures set { codec_metadata_options_of result ≡ codec_metadata_options }
+        ensures kept { options_view result ≡ options_view self }
+    {
+        ArrayMetadataOptions {
+            codec_metadata_options,
+            ..self
+        }
+    }
+
+    /// Sets the options of the metadata of the codecs.
+    pub fn set_codec_metadata_options(
+        &mut self,
+        codec_metadata_options: CodecMetadataOptions,
+    ) -> &mut Self
+        ensures same_loan { result.ghost_name ≡ self.entry.ghost_name }
+        ensures set { codec_metadata_options_of result.now ≡ codec_metadata_options }
+        ensures kept { options_view result.now ≡ options_view self.old }
+    {
+        self.codec_metadata_options = codec_metadata_options;
+        self
+    }
+
     /// Returns which version is written.
     pub fn metadata_convert_version(&self) -> MetadataConvertVersion
         ensures { result ≡ (options_view self.now).convert_version }

@@ -1,6 +1,7 @@
 //! Reads of regions into boxes that callers lend, which pass to the engine.
 use super::Array;
 use std::alloc::Global;
+use zarrs_codec::CodecOptions;
 use zarrs_engine::ArrayError;
 use zarrs_storage::ReadableStorageTraits;
 use zarrs_subset::ArraySubset;
@@ -28,6 +29,41 @@ impl<TStorage: ReadableStorageTraits> Array<TStorage> {
         alloc: Global,
         array_subset: &ArraySubset,
         target: &mut ArrayBytesDecodeIntoTarget<'_, '_, '_>,
+    ) -> Result<(), ArrayError>
+        requires ask { MayAskChunks (layout_of_array self.now)
+            (chunks_met (layout_of_array self.now).grid (box_of array_subset.now))
+            (store_of_array TStorage.state self.now) }
+        requires target { IsTarget target.old }
+        ensures target { IsTarget target.new }
+        ensures same_bytes { target.new.bytes.ghost_name ≡ target.old.bytes.ghost_name }
+        ensures same_masks { target.new.masks.ghost_name ≡ target.old.masks.ghost_name }
+        ensures same_box { SameBox target.old target.new }
+        ensures cells { OnOk result (RetrievesInto (layout_of_array self.now)
+            (state_of_array TStorage.state self.now).shape (box_of array_subset.now)
+            (store_of_array TStorage.state self.now) target.old target.new) }
+        ensures content { OnOk result (HasContent (layout_of_array self.now)
+            (box_of array_subset.now) (store_of_array TStorage.state self.now) target.old
+            target.new) }
+        ensures refused { IfErr result (λ e. RefusesRetrieveInto (layout_of_array self.now)
+            (state_of_array TStorage.state self.now).shape (box_of array_subset.now) target.old
+            (refusal_of e) (store_of_array TStorage.state self.now)) }
+        ensures outside { StaysOutside target.old target.new }
+        ensures kept_bytes { OnErr result (target.new.bytes.now ≡ target.old.bytes.now) }
+        ensures kept_masks { OnErr result (target.new.masks.now ≡ target.old.masks.now) }
+    {
+        self.retrieve_array_subset_into_opt(alloc, array_subset, target, &CodecOptions::default())
+    }
+
+    /// Does what `retrieve_array_subset_into` does. No option changes what is read.
+    ///
+    /// # Errors
+    /// Those of `retrieve_array_subset_into`.
+    pub fn retrieve_array_subset_into_opt(
+        &self,
+        alloc: Global,
+        array_subset: &ArraySubset,
+        target: &mut ArrayBytesDecodeIntoTarget<'_, '_, '_>,
+        _options: &CodecOptions,
     ) -> Result<(), ArrayError>
         requires ask { MayAskChunks (layout_of_array self.now)
             (chunks_met (layout_of_array self.now).grid (box_of array_subset.now))

@@ -27,7 +27,7 @@ impl ArrayBuilder {
     ghost use Rattle.zarrs_builder.specs.Builders.{builder_view, shape_of, chunk_grid_of};
     ghost use Rattle.zarrs_builder.specs.Builders.{data_type_of, fill_value_of, HasGrid};
     ghost use Rattle.zarrs_builder.specs.Builders.{dimension_names_in};
-    ghost use Rattle.zarrs_builder.specs.Lending.{LendsAttributes};
+    ghost use Rattle.zarrs_builder.specs.Lending.{LendsBuilderAttributes};
 
     /// Sets the shape. The metadata of the chunk grid stays.
     pub fn shape<S: IntoField<ArrayShape>>(&mut self, alloc: Global, shape: S) -> &mut Self
@@ -175,7 +175,7 @@ impl ArrayBuilder {
 
     /// Lends the attributes of the user, for a caller that changes them.
     pub fn attributes_mut(&mut self) -> &mut Map<String, Value>
-        ensures* writes_back { sem 𝓛 (LendsAttributes self.entry result) }
+        ensures* writes_back { sem 𝓛 (LendsBuilderAttributes self.entry result) }
         ensures value { members_view result.now.entries ≡ (builder_view self.old).attributes }
     {
         &mut self.attributes

@@ -1,7 +1,6 @@
 use Rattle.std.proofs.Common.{ap, refl}
 use Rattle.zarrs.specs.Agreement.{meaning_of, Agrees, Agrees-prop}
 use Rattle.zarrs.specs.Lending.{still_says, with_attributes}
-use Rattle.zarrs.specs.declared.array.Array.{Array}
 use Rattle.zarrs.proofs.array.Array.attributes_mut.Goals as goal
 
 pub invariant_of-self-lent : goal.invariant_of-self-lent
