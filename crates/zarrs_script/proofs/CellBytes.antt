@@ -7,10 +7,10 @@ use Rattle.zarrs_metadata.specs.Extension.{◌>>=◌}
 use Rattle.zarrs_script.specs.declared.cell_type.CellType.{CellType}
 use Rattle.zarrs_script.specs.declared.cell_type.CellType.TheVariants as cell
 use Rattle.zarrs_script.specs.Words.{number_of}
-use Rattle.zarrs_script.specs.CellTypes.{kind_of, size_of, greatest, is_signed, low_bytes, positive, negative, cell_of}
+use Rattle.zarrs_script.specs.CellTypes.{kind_of_cells, cell_type_size, greatest, is_signed, low_bytes, positive, negative, cell_of}
 
 -- a `bool` has the byte 0 or 1
-one_bit : (n : ℕ) → nat_le n 1 ≡ true → IsSome (fill_cell (kind_of cell.Bool) (n % 256 ∷ []))
+one_bit : (n : ℕ) → nat_le n 1 ≡ true → IsSome (fill_cell (kind_of_cells cell.Bool) (n % 256 ∷ []))
 one_bit n h =
     let small : n ≤ 1 = grind (arith, nat_tests) in
     let same : n % 256 < 2 = omega arith in
@@ -19,14 +19,14 @@ one_bit n h =
 
 abbrev Whole : CellType → Option (List ℕ) → Type 0
 Whole cell_type None = Unit {0}
-Whole cell_type (Some bytes) = IsSome (fill_cell (kind_of cell_type) bytes)
+Whole cell_type (Some bytes) = IsSome (fill_cell (kind_of_cells cell_type) bytes)
 
-when : (cell_type : CellType) (test : Bool) (bytes : List ℕ) → (test ≡ true → IsSome (fill_cell (kind_of cell_type) bytes)) → Whole cell_type (cond test (Some bytes) None)
+when : (cell_type : CellType) (test : Bool) (bytes : List ℕ) → (test ≡ true → IsSome (fill_cell (kind_of_cells cell_type) bytes)) → Whole cell_type (cond test (Some bytes) None)
 when cell_type true bytes h = h refl
 when cell_type false bytes h = tt
 
 -- the lowest bytes of a number, as many as a cell has, are a cell
-low_is_cell : (cell_type : CellType) (n : ℕ) → nat_le n (greatest cell_type) ≡ true → IsSome (fill_cell (kind_of cell_type) (low_bytes (size_of cell_type) n))
+low_is_cell : (cell_type : CellType) (n : ℕ) → nat_le n (greatest cell_type) ≡ true → IsSome (fill_cell (kind_of_cells cell_type) (low_bytes (cell_type_size cell_type) n))
 low_is_cell cell.Bool n h = one_bit n h
 low_is_cell cell.Int8 n h = search rules
 low_is_cell cell.Int16 n h = search rules
@@ -37,7 +37,7 @@ low_is_cell cell.UInt16 n h = search rules
 low_is_cell cell.UInt32 n h = search rules
 low_is_cell cell.UInt64 n h = search rules
 
-signed_is_cell : (cell_type : CellType) (n : ℕ) (test : Bool) → (is_signed cell_type && test) ≡ true → IsSome (fill_cell (kind_of cell_type) (low_bytes (size_of cell_type) n))
+signed_is_cell : (cell_type : CellType) (n : ℕ) (test : Bool) → (is_signed cell_type && test) ≡ true → IsSome (fill_cell (kind_of_cells cell_type) (low_bytes (cell_type_size cell_type) n))
 signed_is_cell cell.Bool n test h = absurd (cc)
 signed_is_cell cell.Int8 n test h = search rules
 signed_is_cell cell.Int16 n test h = search rules
@@ -49,10 +49,10 @@ signed_is_cell cell.UInt32 n test h = absurd (cc)
 signed_is_cell cell.UInt64 n test h = absurd (cc)
 
 positive_whole : (cell_type : CellType) (n : ℕ) → Whole cell_type (positive cell_type n)
-positive_whole cell_type n = when cell_type (nat_le n (greatest cell_type)) (low_bytes (size_of cell_type) n) (low_is_cell cell_type n)
+positive_whole cell_type n = when cell_type (nat_le n (greatest cell_type)) (low_bytes (cell_type_size cell_type) n) (low_is_cell cell_type n)
 
 negative_whole : (cell_type : CellType) (n : ℕ) → Whole cell_type (negative cell_type n)
-negative_whole cell_type n = when cell_type (is_signed cell_type && nat_le n (greatest cell_type + 1)) (low_bytes (size_of cell_type) (2 ^ 64 - n)) (signed_is_cell cell_type (2 ^ 64 - n) (nat_le n (greatest cell_type + 1)))
+negative_whole cell_type n = when cell_type (is_signed cell_type && nat_le n (greatest cell_type + 1)) (low_bytes (cell_type_size cell_type) (2 ^ 64 - n)) (signed_is_cell cell_type (2 ^ 64 - n) (nat_le n (greatest cell_type + 1)))
 
 bound_whole : (cell_type : CellType) (said : Option ℕ) (f : ℕ → Option (List ℕ)) → ((n : ℕ) → Whole cell_type (f n)) → Whole cell_type (said >>= f)
 bound_whole cell_type None f h = tt
@@ -74,7 +74,7 @@ from_nothing None old new empty h = absurd (cc)
 from_nothing (Some more) old new empty h = rw empty at h
 
 -- the cell that was added to none is a value of its type
-pub first_cell_is_value : (cell_type : CellType) (word old new : List ℕ) → old ≡ [] → (cell_of cell_type word >>= λ more. Some (old ++ more)) ≡ Some new → IsSome (fill_cell (kind_of cell_type) new)
+pub first_cell_is_value : (cell_type : CellType) (word old new : List ℕ) → old ≡ [] → (cell_of cell_type word >>= λ more. Some (old ++ more)) ≡ Some new → IsSome (fill_cell (kind_of_cells cell_type) new)
 first_cell_is_value cell_type word old new empty h =
     let said = from_nothing (cell_of cell_type word) old new empty h in
     subst (Whole cell_type) said (word_whole cell_type word)

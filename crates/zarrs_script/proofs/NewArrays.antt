@@ -1,6 +1,6 @@
 -- What new arrays are.
 use Rattle.std.proofs.Common.{◌≡◌, ◌≢◌, ◌==◌, ℕ, ◌<◌, ◌+◌, true, false, List, [], ◌∷◌, ◌++◌, length, take, get_or}
-use Rattle.std.proofs.Common.{codes, map, Some, Ok, Err, refl, sym, ap, ◌∙◌, subst, arith}
+use Rattle.std.proofs.Common.{codes, map, Some, Result, Ok, Err, refl, sym, ap, ◌∙◌, subst, arith}
 use Rattle.std.specs.List.{list_any}
 use Rattle.std.specs.FinMap as finite
 use Rattle.std.specs.Int.NonZero.{non_zero_u64_get}
@@ -12,10 +12,8 @@ use Rattle.std.proofs.lemmas.List.{take_more, map_push}
 use Rattle.std.proofs.lemmas.List.Folds.{list_any_at}
 use Rattle.zarrs_storage.specs.Memory.{MemoryState, open_state}
 use Rattle.zarrs_metadata.specs.declared.separators.ChunkKeySeparator.TheVariants.{Slash}
-use Rattle.zarrs_keys.specs.Encodings.{default_key}
 use Rattle.zarrs_chunk_grid.specs.Axes.{sizes_of}
-use Rattle.zarrs_chunk_grid.specs.Grids.{Grid}
-use Rattle.zarrs_chunk_grid.specs.Configurations.{regular, grid_of, takes_shape}
+use Rattle.zarrs_chunk_grid.specs.Configurations.{regular, takes_shape}
 use Rattle.zarrs_chunk_grid.specs.Refusals.{RefusesGrid}
 use Rattle.zarrs_chunk_grid.specs.declared.error.GridError.{GridError}
 use Rattle.zarrs_chunk_grid.specs.declared.error.GridError.TheVariants as grid_error
@@ -33,23 +31,23 @@ use Rattle.zarrs_codec.specs.Chains.{array_to_array_of, array_to_bytes_of}
 use Rattle.zarrs_codec.specs.Metadata.{ChainData, chain_data, bytes_codec_data, bytes}
 use Rattle.zarrs_codec.specs.declared.chain.ArrayToBytesCodec as code
 use Rattle.zarrs_codec.specs.declared.chain.CodecChain.{CodecChain}
-use Rattle.zarrs_array_metadata.specs.Meanings.{Meaning, creation_v3}
-use Rattle.zarrs_script_metadata.specs.Parts.{is_number, document_for}
+use Rattle.zarrs_document_v2.specs.View.{MetadataData, v3}
+use Rattle.zarrs_options.specs.Refusals.{CreateRefusal, create_refusal_of, RefusesCreation}
+use Rattle.zarrs_options.specs.declared.error.ArrayCreateError.{ArrayCreateError}
+use Rattle.zarrs_options.specs.declared.error.ArrayCreateError.TheVariants as create_error
+use Rattle.zarrs_array_metadata.specs.Meanings.{Meaning, creation, creation_v3, created}
+use Rattle.zarrs.specs.Layouts.{layout_meant}
+use Rattle.zarrs_script_metadata.specs.Parts.{is_whole_number, document_for}
 use Rattle.zarrs_script_metadata.proofs.Plain.{plain_document_for}
-use Rattle.zarrs_codec.specs.Chain.{ChainMeaning}
-use Rattle.zarrs_codec_leaf.specs.Bytes.{bytes_meaning}
-use Rattle.zarrs_codec_array.specs.Arrays.{same_array}
-use Rattle.zarrs_codec.specs.Chains.{whole_chunk}
-use Rattle.zarrs_codec.specs.Through.{through}
-use Rattle.zarrs_steps.specs.Layout.{Layout, layout_at}
+use Rattle.zarrs_steps.specs.Layout.{Layout}
 use Rattle.zarrs_script.specs.declared.cell_type.CellType.{CellType}
 use Rattle.zarrs_script.specs.declared.cell_type.CellType.TheVariants as cell
 use Rattle.zarrs_script.specs.declared.command.Creation.{Creation}
 use Rattle.zarrs_script.specs.declared.error.CreationError.{CreationError}
 use Rattle.zarrs_script.specs.declared.error.CreationError.TheVariants.{NoGrid, OutOfMemory}
-use Rattle.zarrs_script.specs.CellTypes.{kind_of}
+use Rattle.zarrs_script.specs.CellTypes.{kind_of_cells}
 use Rattle.zarrs_script.specs.Transcript.{Opened, MakesGrid, SaysItsParts, layout_for, parts_of_line, metadata_for, new_array}
-use Rattle.zarrs_script.specs.Sessions.{Creates}
+use Rattle.zarrs_script.specs.Sessions.{HasNoArray}
 use Rattle.zarrs_script.specs.Sizes.{HasSizes}
 
 -- one extent more, which is not 0
@@ -79,21 +77,48 @@ makes_grid shape chunk_shape sizes is taken =
       nonzero = ap (list_any (λ extent. extent == 0)) (sym is) ∙ none_zero sizes;
     }
 
--- the layout of equal parts is the same
-same_layout : (g h : Grid) (p q : List ℕ) (k l : List ℕ → List ℕ) (c d : ChainMeaning) (t u : Kind) (f e : List ℕ) → g ≡ h → p ≡ q → k ≡ l → c ≡ d → t ≡ u → f ≡ e → layout_at g p k c t f ≡ layout_at h q l d u e
-same_layout g h p q k l c d t u f e grid path key chain kind fill = λ i. layout_at (grid i) (path i) (key i) (chain i) (kind i) (fill i)
+-- an array of these parts lies in its store as a new array does
+pub made_array : (shape chunk_shape fill : List ℕ) (cell_type : CellType) (path : List ℕ) (layout : Layout) (metadata : MetadataData) (parts : Meaning) (store : MemoryState) (extents : List ℕ)
+    → layout ≡ layout_meant path parts → path ≡ codes "/" → parts ≡ parts_of_line shape chunk_shape cell_type fill → metadata ≡ v3 (metadata_for shape chunk_shape cell_type fill)
+    → store ≡ record { values = finite.empty; calls = 0; failures = 0 } → extents ≡ parts.shape
+    → ◌≡◌ {A = Opened} (record { cell_type = cell_type; layout = layout; metadata = metadata; state = record { store = open_state store; shape = extents } }) (new_array shape chunk_shape cell_type fill)
+made_array shape chunk_shape fill cell_type path layout metadata parts store extents lies at_root are described empty long =
+    let same : layout ≡ layout_for shape chunk_shape cell_type fill = lies ∙ ap (λ (p : List ℕ). layout_meant p parts) at_root ∙ ap (λ (m : Meaning). layout_meant (codes "/") m) are in
+    let wide : extents ≡ shape = long ∙ ap (λ (m : Meaning). m.shape) are in
+    λ i. record { cell_type = cell_type; layout = same i; metadata = described i; state = record { store = open_state (empty i); shape = wide i } }
 
-pub made_array : (shape chunk_shape fill : List ℕ) (cell_type : CellType) (sizes : List NonZeroU64) (grid : Grid) (path : List ℕ) (key : List ℕ → List ℕ) (chain : ChainMeaning) (kind : Kind) (held : List ℕ) (layout : Layout) (document : DocumentData) (store : MemoryState) (extents : List ℕ)
-    → sizes_of sizes ≡ chunk_shape → layout ≡ layout_at grid path key chain kind held → grid ≡ grid_of (regular (sizes_of sizes)) shape → path ≡ codes "/" → key ≡ default_key Slash → chain ≡ through same_array (whole_chunk bytes_meaning) → kind ≡ kind_of cell_type → held ≡ fill
-    → document ≡ metadata_for shape chunk_shape cell_type fill → store ≡ record { values = finite.empty; calls = 0; failures = 0 } → extents ≡ shape
-    → ◌≡◌ {A = Opened} (record { cell_type = cell_type; layout = layout; metadata = document; state = record { store = open_state store; shape = extents } }) (new_array shape chunk_shape cell_type fill)
-made_array shape chunk_shape fill cell_type sizes grid path key chain kind held layout document store extents is made on_grid at_root by_default in_bytes typed filled described empty long =
-    let same : layout ≡ layout_for shape chunk_shape cell_type fill = made ∙ same_layout grid (grid_of (regular chunk_shape) shape) path (codes "/") key (default_key Slash) chain (through same_array (whole_chunk bytes_meaning)) kind (kind_of cell_type) held fill (on_grid ∙ ap (λ (extents : List ℕ). grid_of (regular extents) shape) is) at_root by_default in_bytes typed filled in
-    λ i. record { cell_type = cell_type; layout = same i; metadata = described i; state = record { store = open_state (empty i); shape = long i } }
+-- the parts of an array of metadata that says these parts
+pub same_parts : (document : DocumentData) (metadata : MetadataData) (parts own : Meaning) → metadata ≡ v3 document → creation_v3 document ≡ Ok parts → creation metadata ≡ Ok own → own ≡ parts
+same_parts document metadata parts own is says has =
+    let both : Ok own ≡ Ok parts = sym has ∙ ap creation is ∙ says in
+    cc
+
+-- nothing but memory refuses metadata that says parts
+pub only_memory : {A : Type 0} (made : Result A CreateRefusal) (a : A) (e : ArrayCreateError) → made ≡ Ok a → RefusesCreation made (create_refusal_of e) → e ≢ create_error.OutOfMemory → ⊥
+only_memory made a create_error.OutOfMemory is refused other = other refl
+only_memory made a (create_error.NodePathError e) is refused other = absurd (cc (is, refused))
+only_memory made a (create_error.AdditionalFieldUnsupportedError e) is refused other = absurd (cc (is, refused))
+only_memory made a (create_error.DataTypeCreateError e) is refused other = absurd (cc (is, refused))
+only_memory made a (create_error.InvalidFillValue name held) is refused other = absurd (cc (is, refused))
+only_memory made a (create_error.InvalidFillValueMetadata name value) is refused other = absurd (cc (is, refused))
+only_memory made a (create_error.CodecsCreateError e) is refused other = absurd (cc (is, refused))
+only_memory made a (create_error.StorageTransformersCreateError e) is refused other = absurd (cc (is, refused))
+only_memory made a (create_error.ChunkGridCreateError e) is refused other = absurd (cc (is, refused))
+only_memory made a (create_error.ChunkKeyEncodingCreateError e) is refused other = absurd (cc (is, refused))
+only_memory made a (create_error.InvalidChunkGridDimensionality grid dimensions) is refused other = absurd (cc (is, refused))
+only_memory made a (create_error.InvalidDimensionNames names dimensions) is refused other = absurd (cc (is, refused))
+only_memory made a (create_error.InvalidSubchunkShape shape) is refused other = absurd (cc (is, refused))
+only_memory made a (create_error.StorageError e) is refused other = absurd (cc (is, refused))
+only_memory made a create_error.MissingMetadata is refused other = absurd (cc (is, refused))
+only_memory made a (create_error.UnsupportedZarrV2Array text) is refused other = absurd (cc (is, refused))
+
+-- metadata that says parts, at the root
+pub created_at_root : (document : DocumentData) (path : List ℕ) (metadata : MetadataData) (parts : Meaning) → path ≡ codes "/" → metadata ≡ v3 document → creation_v3 document ≡ Ok parts → created path metadata ≡ Ok parts
+created_at_root document path metadata parts at_root is says = rw (at_root, is, says) refl
 
 -- ---- what new arrays have beside their layout
 
-numeric : (cell_type : CellType) → is_number (kind_of cell_type) ≡ true
+numeric : (cell_type : CellType) → is_whole_number (kind_of_cells cell_type) ≡ true
 numeric cell.Bool = refl
 numeric cell.Int8 = refl
 numeric cell.Int16 = refl
@@ -105,8 +130,8 @@ numeric cell.UInt32 = refl
 numeric cell.UInt64 = refl
 
 -- the type of the cells is a bool or an integer
-pub is_numeric : (kind : Kind) (cell_type : CellType) → kind ≡ kind_of cell_type → is_number kind ≡ true
-is_numeric kind cell_type typed = ap is_number typed ∙ numeric cell_type
+pub is_numeric : (kind : Kind) (cell_type : CellType) → kind ≡ kind_of_cells cell_type → is_whole_number kind ≡ true
+is_numeric kind cell_type typed = ap is_whole_number typed ∙ numeric cell_type
 
 -- a chain of `bytes` alone, little endian
 pub little_chain : (chain : CodecChain) (codecs : List ArrayToArrayCodec) (codec : BytesCodec) → array_to_array_of chain ≡ codecs → codecs ≡ [] → array_to_bytes_of chain ≡ code.Bytes codec → endian_of codec ≡ Some Little
@@ -118,7 +143,7 @@ little_chain chain codecs codec front none last endian =
 
 -- the parts are those of the line
 pub made_parts : (shape chunk_shape fill : List ℕ) (cell_type : CellType) (sizes : List NonZeroU64) (extents : List ℕ) (grid : GridConfiguration) (chain : ChainData) (kind : Kind) (held : List ℕ)
-    → sizes_of sizes ≡ chunk_shape → extents ≡ shape → grid ≡ regular (sizes_of sizes) → chain ≡ record { array_to_array = []; array_to_bytes = bytes (Some Little) } → kind ≡ kind_of cell_type → held ≡ fill
+    → sizes_of sizes ≡ chunk_shape → extents ≡ shape → grid ≡ regular (sizes_of sizes) → chain ≡ record { array_to_array = []; array_to_bytes = bytes (Some Little) } → kind ≡ kind_of_cells cell_type → held ≡ fill
     → ◌≡◌ {A = Meaning} (record { shape = extents; grid = grid; keys = Default Slash; chain = chain; kind = kind; fill = held }) (parts_of_line shape chunk_shape cell_type fill)
 made_parts shape chunk_shape fill cell_type sizes extents grid chain kind held is long on_grid in_bytes typed filled =
     let cut = on_grid ∙ ap regular is in
@@ -133,10 +158,10 @@ says_parts shape chunk_shape fill cell_type parts document are described says =
 -- the metadata holds no float
 pub is_plain : (shape chunk_shape fill : List ℕ) (cell_type : CellType) (document : DocumentData) → document ≡ metadata_for shape chunk_shape cell_type fill → has_float (data_of_document document) ≡ false
 is_plain shape chunk_shape fill cell_type document described =
-    ap (λ (d : DocumentData). has_float (data_of_document d)) described ∙ plain_document_for shape chunk_shape (kind_of cell_type) fill (numeric cell_type)
+    ap (λ (d : DocumentData). has_float (data_of_document d)) described ∙ plain_document_for shape chunk_shape (kind_of_cells cell_type) fill (numeric cell_type)
 
 -- without sizes there is no array
-pub no_sizes : (creation : Creation) (error : CreationError) → HasSizes creation.chunk_shape.items (Err error) → Creates creation (Err error)
+pub no_sizes : (creation : Creation) (error : CreationError) → HasSizes creation.chunk_shape.items (Err error) → HasNoArray creation error
 no_sizes creation NoGrid zero = λ makes. absurd (cc (zero, makes.nonzero))
 no_sizes creation OutOfMemory h = tt
 

@@ -7,7 +7,7 @@ use Rattle.zarrs_subset.specs.Refusals.{RefusesStartShape}
 use Rattle.zarrs_subset.specs.declared.error.ArraySubsetError.{ArraySubsetError}
 use Rattle.zarrs_subset.specs.declared.error.ArraySubsetError.TheVariants.{IncompatibleDimensionality, EndOverflow}
 use Rattle.zarrs_subset.specs.declared.error.ArraySubsetError.TheVariants.{EndBelowStart, StartBelowOffset, OutOfMemory}
-use Rattle.zarrs_script.specs.Words.{numbers_of, is_region, region_of}
+use Rattle.zarrs_script.specs.Words.{numbers_in_word, is_region, region_of}
 
 -- each end fits: there is such a region
 ends_fit : (start shape : List ℕ) → length shape ≡ length start → ((k : ℕ) → k < length start → get_or start k 0 + get_or shape k 0 < 2 ^ 64) → is_region start shape ≡ true
@@ -39,14 +39,14 @@ refused start shape StartBelowOffset h = absurd h
 refused start shape OutOfMemory h = absurd h
 
 -- the words of a region
-pub region_made : (start shape first extents : List ℕ) → numbers_of start ≡ Some first → numbers_of shape ≡ Some extents → IsBox (box_from first extents)
+pub region_made : (start shape first extents : List ℕ) → numbers_in_word start ≡ Some first → numbers_in_word shape ≡ Some extents → IsBox (box_from first extents)
     → region_of start shape ≡ Some (box_from first extents)
 region_made start shape first extents starts ends is_box =
     let made = ends_fit first extents is_box.same_length is_box.ends_fit in
     rw (starts, ends, made) refl
 
 -- the words of no region
-pub no_region : (start shape first extents : List ℕ) (error : ArraySubsetError) → numbers_of start ≡ Some first → numbers_of shape ≡ Some extents → RefusesStartShape first extents error
+pub no_region : (start shape first extents : List ℕ) (error : ArraySubsetError) → numbers_in_word start ≡ Some first → numbers_in_word shape ≡ Some extents → RefusesStartShape first extents error
     → region_of start shape ≡ None
 no_region start shape first extents error starts ends refuses =
     let none = refused first extents error refuses in

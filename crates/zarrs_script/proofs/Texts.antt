@@ -9,13 +9,13 @@ use Rattle.zarrs_data_type.specs.ArrayData.{fixed}
 use Rattle.zarrs_data_type.specs.Cell.{Cell, bytes}
 use Rattle.zarrs_script.specs.declared.cell_type.CellType.{CellType}
 use Rattle.zarrs_script.specs.declared.cell_type.CellType.TheVariants as cell
-use Rattle.zarrs_script.specs.CellTypes.{size_of, greatest, is_signed, value_of, number_text, cell_text}
+use Rattle.zarrs_script.specs.CellTypes.{cell_type_size, greatest, is_signed, value_of, number_text, cell_text}
 use Rattle.zarrs_script.proofs.Bytes.{value_below}
 use Rattle.zarrs_script.specs.Transcript.{line, list_text, data_text}
 
 -- cell number i of bytes, and its text
 abbrev pub cell_bytes : CellType → List ℕ → ℕ → List ℕ
-cell_bytes cell_type held i = slice_range held (i * size_of cell_type) (i * size_of cell_type + size_of cell_type)
+cell_bytes cell_type held i = slice_range held (i * cell_type_size cell_type) (i * cell_type_size cell_type + cell_type_size cell_type)
 
 abbrev pub text_at : CellType → List ℕ → ℕ → List ℕ
 text_at cell_type held i = number_text cell_type (cell_bytes cell_type held i)
@@ -28,15 +28,15 @@ texts cell_type held n = map (text_at cell_type held) (range_with_len 0 n)
 abbrev Text : CellType → List ℕ → Option (List ℕ) → Type 0
 Text cell_type held None = Unit {0}
 Text cell_type held (Some text) =
-    (length held ≡ length held / size_of cell_type * size_of cell_type) × (line (list_text (texts cell_type held (length held / size_of cell_type))) ≡ text)
+    (length held ≡ length held / cell_type_size cell_type * cell_type_size cell_type) × (line (list_text (texts cell_type held (length held / cell_type_size cell_type))) ≡ text)
 
 map_map : (f : Cell → List ℕ) (g : ℕ → Cell) (ns : List ℕ) → map (λ n. f (g n)) ns ≡ map f (map g ns)
 map_map f g [] = refl
 map_map f g (n ∷ ns) = ap (λ (xs : List (List ℕ)). f (g n) ∷ xs) (map_map f g ns)
 
 fixed_text : (cell_type : CellType) (held : List ℕ) (whole values : Bool) (given : List Cell)
-    → (whole ≡ true → length held ≡ length held / size_of cell_type * size_of cell_type)
-    → map (cell_text cell_type) given ≡ texts cell_type held (length held / size_of cell_type)
+    → (whole ≡ true → length held ≡ length held / cell_type_size cell_type * cell_type_size cell_type)
+    → map (cell_text cell_type) given ≡ texts cell_type held (length held / cell_type_size cell_type)
     → Text cell_type held (option_map (λ given. line (list_text (map (cell_text cell_type) given))) (cond (whole && values) (Some given) None))
 fixed_text cell_type held true true given long e = (long refl, ap (λ (ts : List (List ℕ)). line (list_text ts)) (sym e))
 fixed_text cell_type held true false given long e = tt
@@ -46,11 +46,11 @@ whole_cells : (held : List ℕ) (n : ℕ) → (length held == n) ≡ true → le
 whole_cells held n h = grind (arith, nat_tests)
 
 -- the cells of bytes, when each has this many of them
-sized : (cell_type : CellType) (held : List ℕ) (given : List Cell) (values : Bool) → given ≡ map (λ i. bytes (cell_bytes cell_type held i)) (range_with_len 0 (length held / size_of cell_type))
-    → Text cell_type held (option_map (λ given. line (list_text (map (cell_text cell_type) given))) (cond ((length held == length held / size_of cell_type * size_of cell_type) && values) (Some given) None))
+sized : (cell_type : CellType) (held : List ℕ) (given : List Cell) (values : Bool) → given ≡ map (λ i. bytes (cell_bytes cell_type held i)) (range_with_len 0 (length held / cell_type_size cell_type))
+    → Text cell_type held (option_map (λ given. line (list_text (map (cell_text cell_type) given))) (cond ((length held == length held / cell_type_size cell_type * cell_type_size cell_type) && values) (Some given) None))
 sized cell_type held given values is =
-    fixed_text cell_type held (length held == length held / size_of cell_type * size_of cell_type) values given (whole_cells held (length held / size_of cell_type * size_of cell_type))
-    (ap (map (cell_text cell_type)) is ∙ sym (map_map (cell_text cell_type) (λ i. bytes (cell_bytes cell_type held i)) (range_with_len 0 (length held / size_of cell_type))))
+    fixed_text cell_type held (length held == length held / cell_type_size cell_type * cell_type_size cell_type) values given (whole_cells held (length held / cell_type_size cell_type * cell_type_size cell_type))
+    (ap (map (cell_text cell_type)) is ∙ sym (map_map (cell_text cell_type) (λ i. bytes (cell_bytes cell_type held i)) (range_with_len 0 (length held / cell_type_size cell_type))))
 
 pub text_is : (cell_type : CellType) (held : List ℕ) → Text cell_type held (data_text cell_type (fixed held))
 text_is cell.Bool held = sized cell.Bool held _ _ refl
@@ -65,8 +65,8 @@ text_is cell.UInt64 held = sized cell.UInt64 held _ _ refl
 
 -- what data that has a text looks like
 pub record Shown (cell_type : CellType) (held : List ℕ) : Type 0 where
-  pub whole : length held ≡ length held / size_of cell_type * size_of cell_type
-  pub text : data_text cell_type (fixed held) ≡ Some (line (list_text (texts cell_type held (length held / size_of cell_type))))
+  pub whole : length held ≡ length held / cell_type_size cell_type * cell_type_size cell_type
+  pub text : data_text cell_type (fixed held) ≡ Some (line (list_text (texts cell_type held (length held / cell_type_size cell_type))))
 
 shown_as : (cell_type : CellType) (held : List ℕ) (said : Option (List ℕ)) → said ≡ data_text cell_type (fixed held) → IsSome said → Text cell_type held said → Shown cell_type held
 shown_as cell_type held None e some is = absurd (cc some)
@@ -99,7 +99,7 @@ joined_is cell_type held n some =
     list_of (texts cell_type held n) (omega arith)
 
 -- the first cell
-pub first_cell : (cell_type : CellType) (held : List ℕ) → take (size_of cell_type) held ≡ cell_bytes cell_type held 0
+pub first_cell : (cell_type : CellType) (held : List ℕ) → take (cell_type_size cell_type) held ≡ cell_bytes cell_type held 0
 first_cell cell.Bool held = refl
 first_cell cell.Int8 held = refl
 first_cell cell.Int16 held = refl
@@ -110,7 +110,7 @@ first_cell cell.UInt16 held = refl
 first_cell cell.UInt32 held = refl
 first_cell cell.UInt64 held = refl
 
-pub some_size : (cell_type : CellType) → 0 < size_of cell_type
+pub some_size : (cell_type : CellType) → 0 < cell_type_size cell_type
 some_size cell.Bool = omega arith
 some_size cell.Int8 = omega arith
 some_size cell.Int16 = omega arith
@@ -126,16 +126,16 @@ some_of : (n size long : ℕ) → long ≡ n * size → 0 < size → size ≤ lo
 some_of zero size long e positive le = absurd (omega (arith, e, positive, le))
 some_of (suc n) size long e positive le = omega arith
 
-pub all_texts : (cell_type : CellType) (held : List ℕ) (index : ℕ) → Shown cell_type held → size_of cell_type ≤ length held → length held / size_of cell_type ≤ index → (1 ≤ length held / size_of cell_type → index ≤ length held / size_of cell_type)
+pub all_texts : (cell_type : CellType) (held : List ℕ) (index : ℕ) → Shown cell_type held → cell_type_size cell_type ≤ length held → length held / cell_type_size cell_type ≤ index → (1 ≤ length held / cell_type_size cell_type → index ≤ length held / cell_type_size cell_type)
     → data_text cell_type (fixed held) ≡ Some (join_with_byte 44 (texts cell_type held index) ++ 10 ∷ [])
 all_texts cell_type held index is le past upto =
-    let some : 1 ≤ length held / size_of cell_type = some_of (length held / size_of cell_type) (size_of cell_type) (length held) is.whole (some_size cell_type) le in
+    let some : 1 ≤ length held / cell_type_size cell_type = some_of (length held / cell_type_size cell_type) (cell_type_size cell_type) (length held) is.whole (some_size cell_type) le in
     let below = upto some in
-    let all : index ≡ length held / size_of cell_type = omega arith in
-    is.text ∙ ap (λ (t : List ℕ). Some (line t)) (sym (joined_is cell_type held (length held / size_of cell_type) some) ∙ ap (λ (n : ℕ). join_with_byte 44 (texts cell_type held n)) (sym all))
+    let all : index ≡ length held / cell_type_size cell_type = omega arith in
+    is.text ∙ ap (λ (t : List ℕ). Some (line t)) (sym (joined_is cell_type held (length held / cell_type_size cell_type) some) ∙ ap (λ (n : ℕ). join_with_byte 44 (texts cell_type held n)) (sym all))
 
 -- a signed number in its bytes
-pub signed_below : (cell_type : CellType) (held : List ℕ) → is_signed cell_type ≡ true → length held ≡ size_of cell_type → ((i : ℕ) → get_or held i 0 < 256) → value_of held ≤ greatest cell_type * 2 + 1
+pub signed_below : (cell_type : CellType) (held : List ℕ) → is_signed cell_type ≡ true → length held ≡ cell_type_size cell_type → ((i : ℕ) → get_or held i 0 < 256) → value_of held ≤ greatest cell_type * 2 + 1
 signed_below cell.Bool held signed long small = absurd (cc signed)
 signed_below cell.Int8 held signed long small = let below = value_below held small in let power : 256 ^ length held ≡ 256 ^ 1 = ap (λ (n : ℕ). 256 ^ n) long in omega arith
 signed_below cell.Int16 held signed long small = let below = value_below held small in let power : 256 ^ length held ≡ 256 ^ 2 = ap (λ (n : ℕ). 256 ^ n) long in omega arith

@@ -1,5 +1,5 @@
 -- How transcripts go on.
-use Rattle.std.proofs.Common.{◌≡◌, ℕ, ◌||◌, Bool, true, false, List, [], ◌∷◌, ◌++◌, map, codes, Option, Some, None}
+use Rattle.std.proofs.Common.{◌≡◌, ℕ, ◌||◌, Bool, true, false, List, [], ◌∷◌, ◌++◌, map, length, codes, Option, Some, None}
 use Rattle.std.proofs.Common.{IsSome, option_map, refl, sym, ap, subst, ◌∙◌, append_assoc}
 use Rattle.std.proofs.lemmas.List.{append-nil, map_push}
 use Rattle.zarrs_data_type.specs.Kind.{Kind}
@@ -15,16 +15,16 @@ use Rattle.zarrs_steps.specs.Layout.{Layout, ArrayState}
 use Rattle.zarrs_steps.specs.Acts.{Act, store, erase, read, read_chunk, act_of}
 use Rattle.zarrs_steps.specs.ArgumentRefusals.{argument_refusal}
 use Rattle.zarrs_steps.specs.Refusals.{Refusal}
-use Rattle.zarrs_steps.specs.Step.{ActStep, Step}
-use Rattle.zarrs_document.specs.Document.{DocumentData}
-use Rattle.zarrs_document.specs.View.{document_view}
-use Rattle.zarrs_script_metadata.specs.Parts.{text_of_document}
+use Rattle.zarrs_steps.specs.Step.{ActStep, Step, Run}
+use Rattle.zarrs_document_v2.specs.View.{MetadataData}
+use Rattle.zarrs.specs.Arrays.{metadata_of_array}
+use Rattle.zarrs_script_metadata.specs.Parts.{text_of_metadata}
 use Rattle.zarrs_script.specs.declared.cell_type.CellType.{CellType}
 use Rattle.zarrs_script.specs.declared.command.Creation.{Creation}
 use Rattle.zarrs_script.specs.declared.command.Command.{Command}
 use Rattle.zarrs_script.specs.declared.command.Command.TheVariants as command_of
 use Rattle.zarrs_script.specs.declared.array.OpenArray.{OpenArray}
-use Rattle.zarrs_script.specs.CellTypes.{kind_of, cell_text}
+use Rattle.zarrs_script.specs.CellTypes.{kind_of_cells, cell_text}
 use Rattle.zarrs_script.specs.Script.{Order}
 use Rattle.zarrs_script.specs.Parsed.{order_of_call, order_of_command}
 use Rattle.zarrs_script.specs.Transcript.{Opened, Session, Outcome, Opens, Calls, Does, Transcript, line, list_text}
@@ -32,17 +32,17 @@ use Rattle.zarrs_script.specs.Transcript.{keys_text, data_text, reply_text, is_r
 use Rattle.zarrs_script.specs.Sessions.{Follows, session_of, opened}
 
 -- the session of these parts
-abbrev pub at : CellType → Layout → DocumentData → ArrayState → Session
+abbrev pub at : CellType → Layout → MetadataData → ArrayState → Session
 at cell_type layout metadata state = Some (record { cell_type = cell_type; layout = layout; metadata = metadata; state = state })
 
 -- data that stands for cells has a text
-some_text : (cell_type : CellType) (kind : Kind) (held : ArrayData) (given : List Cell) → kind ≡ kind_of cell_type → cells kind held ≡ Some given → IsSome (data_text cell_type held)
+some_text : (cell_type : CellType) (kind : Kind) (held : ArrayData) (given : List Cell) → kind ≡ kind_of_cells cell_type → cells kind held ≡ Some given → IsSome (data_text cell_type held)
 some_text cell_type kind held given typed is =
-    let same : cells (kind_of cell_type) held ≡ Some given = ap (λ (k : Kind). cells k held) (sym typed) ∙ is in
+    let same : cells (kind_of_cells cell_type) held ≡ Some given = ap (λ (k : Kind). cells k held) (sym typed) ∙ is in
     subst (λ (found : Option (List Cell)). IsSome (option_map (λ given. line (list_text (map (cell_text cell_type) given))) found)) (sym same) refl
 
 -- each reply of an act has a text
-act_said : (cell_type : CellType) (layout : Layout) (keep : Bool) (first : Option Refusal) (act : Act) (reply : Reply) (old new : StoreState) → layout.kind ≡ kind_of cell_type → ActStep layout keep first act reply old new → IsSome (reply_text cell_type reply)
+act_said : (cell_type : CellType) (layout : Layout) (keep : Bool) (first : Option Refusal) (act : Act) (reply : Reply) (old new : StoreState) → layout.kind ≡ kind_of_cells cell_type → ActStep layout keep first act reply old new → IsSome (reply_text cell_type reply)
 act_said cell_type layout keep first act Done old new typed s = refl
 act_said cell_type layout keep first act (Refused e) old new typed s = refl
 act_said cell_type layout keep first act (MaybeCells None) old new typed s = refl
@@ -58,7 +58,7 @@ act_said cell_type layout keep first (read_chunk true index) (MaybeCells (Some m
 act_said cell_type layout keep first (read_chunk false index) (MaybeCells (Some made)) old new typed s = some_text cell_type layout.kind (data_of made) s.2.0.chunk typed s.2.0.is_chunk
 
 -- each reply of a step has a text
-pub reply_said : (cell_type : CellType) (layout : Layout) (keep : Bool) (asked : Call) (reply : Reply) (old new : ArrayState) → layout.kind ≡ kind_of cell_type → Step layout keep asked reply old new → IsSome (reply_text cell_type reply)
+pub reply_said : (cell_type : CellType) (layout : Layout) (keep : Bool) (asked : Call) (reply : Reply) (old new : ArrayState) → layout.kind ≡ kind_of_cells cell_type → Step layout keep asked reply old new → IsSome (reply_text cell_type reply)
 reply_said cell_type layout keep asked reply old new typed step = act_said cell_type layout keep (argument_refusal layout old.shape asked) (act_of layout asked) reply old.store new.store typed step.1
 
 -- the line of a call may do what its call does
@@ -75,11 +75,12 @@ does_call (call.RetrieveChunks range) array outcome calls = calls
 does_call (call.RetrieveChunkSubset indices part) array outcome calls = calls
 does_call (call.RetrieveArraySubset region) array outcome calls = calls
 
--- a step of the engine is what the line of its call may do
-pub call_served : (cell_type : CellType) (layout after : Layout) (metadata : DocumentData) (keep : Bool) (asked : Call) (reply : Reply) (old new : ArrayState) (refused : Bool) → keep ≡ false → after ≡ layout → refused ≡ is_refusal reply → Step layout keep asked reply old new
-    → (text : List ℕ) → reply_text cell_type reply ≡ Some text → Does (at cell_type layout metadata old) (order_of_call asked) (record { text = text; refused = refused; after = at cell_type after metadata new })
-call_served cell_type layout after metadata keep asked reply old new refused default stays told step text said =
-    does_call asked (record { cell_type = cell_type; layout = layout; metadata = metadata; state = old }) (record { text = text; refused = refused; after = at cell_type after metadata new }) (record {
+-- a step of the array is what the line of its call may do
+pub call_served : (cell_type : CellType) (layout after : Layout) (metadata shown : MetadataData) (keep : Bool) (asked : Call) (reply : Reply) (old new : ArrayState) (refused : Bool)
+    → keep ≡ false → after ≡ layout → shown ≡ metadata → refused ≡ is_refusal reply → Step layout keep asked reply old new
+    → (text : List ℕ) → reply_text cell_type reply ≡ Some text → Does (at cell_type layout metadata old) (order_of_call asked) (record { text = text; refused = refused; after = at cell_type after shown new })
+call_served cell_type layout after metadata shown keep asked reply old new refused default lies says told step text said =
+    does_call asked (record { cell_type = cell_type; layout = layout; metadata = metadata; state = old }) (record { text = text; refused = refused; after = at cell_type after shown new }) (record {
       call = asked;
       asks = refl;
       reply = reply;
@@ -87,8 +88,19 @@ call_served cell_type layout after metadata keep asked reply old new refused def
       step = subst (λ (k : Bool). Step layout k asked reply old new) default step;
       prints = said;
       refused = told;
-      after = ap (λ (l : Layout). at cell_type l metadata new) stays;
+      after = λ i. at cell_type (lies i) (says i) new;
     })
+
+-- the reply to one call
+pub one_reply : (layout : Layout) (keep : Bool) (asked : Call) (replies : List Reply) (reply : Reply) (old new : ArrayState) → Run layout keep (asked ∷ []) (replies ++ reply ∷ []) old new → Step layout keep asked reply old new
+one_reply layout keep asked [] reply old new (mid, step, stays) = subst (λ (s : ArrayState). Step layout keep asked reply old s) (sym stays) step
+one_reply layout keep asked (first ∷ []) reply old new (mid, step, more) = absurd more
+one_reply layout keep asked (first ∷ second ∷ replies) reply old new (mid, step, more) = absurd more
+
+-- there is one
+pub some_reply : (layout : Layout) (keep : Bool) (asked : Call) (replies : List Reply) (old new : ArrayState) → length replies ≡ 0 → Run layout keep (asked ∷ []) replies old new → ⊥
+some_reply layout keep asked [] old new none run = run
+some_reply layout keep asked (reply ∷ replies) old new none run = absurd (cc)
 
 -- without an array a call is skipped
 skips_call : (asked : Call) → Does None (order_of_call asked) (record { text = line (codes "skipped"); refused = false; after = None })
@@ -164,7 +176,7 @@ pub meta_skipped : (array : Option OpenArray) (command : Command) (text : List �
 meta_skipped array command text absent is prints = rw (← absent, is, prints) refl
 
 -- a `meta` line
-pub meta_shown : (array : OpenArray) (before : Option OpenArray) (command : Command) (text : List ℕ) → Some array ≡ before → command ≡ command_of.Meta → text ≡ line (text_of_document (document_view array.metadata))
+pub meta_shown : (array : OpenArray) (before : Option OpenArray) (command : Command) (text : List ℕ) → Some array ≡ before → command ≡ command_of.Meta → text ≡ line (text_of_metadata (metadata_of_array array.array))
     → Does (session_of before) (order_of_command command) (record { text = text; refused = false; after = Some (opened array) })
 meta_shown array before command text old is prints = rw (← old, is, prints) refl
 

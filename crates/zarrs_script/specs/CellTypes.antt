@@ -11,16 +11,16 @@ use Rattle.zarrs_script.specs.declared.cell_type.CellType.TheVariants as cell
 use Rattle.zarrs_script.specs.Words.{number_of, each_of, items_of}
 
 -- the data type of the cells
-abbrev pub kind_of : CellType → Kind
-kind_of cell.Bool = bool
-kind_of cell.Int8 = int8
-kind_of cell.Int16 = int16
-kind_of cell.Int32 = int32
-kind_of cell.Int64 = int64
-kind_of cell.UInt8 = uint8
-kind_of cell.UInt16 = uint16
-kind_of cell.UInt32 = uint32
-kind_of cell.UInt64 = uint64
+abbrev pub kind_of_cells : CellType → Kind
+kind_of_cells cell.Bool = bool
+kind_of_cells cell.Int8 = int8
+kind_of_cells cell.Int16 = int16
+kind_of_cells cell.Int32 = int32
+kind_of_cells cell.Int64 = int64
+kind_of_cells cell.UInt8 = uint8
+kind_of_cells cell.UInt16 = uint16
+kind_of_cells cell.UInt32 = uint32
+kind_of_cells cell.UInt64 = uint64
 
 -- the type of a name
 unfoldable pub type_of : List ℕ → Option CellType
@@ -37,16 +37,16 @@ type_of word =
     else None
 
 -- the size of a cell in bytes
-abbrev pub size_of : CellType → ℕ
-size_of cell.Bool = 1
-size_of cell.Int8 = 1
-size_of cell.Int16 = 2
-size_of cell.Int32 = 4
-size_of cell.Int64 = 8
-size_of cell.UInt8 = 1
-size_of cell.UInt16 = 2
-size_of cell.UInt32 = 4
-size_of cell.UInt64 = 8
+abbrev pub cell_type_size : CellType → ℕ
+cell_type_size cell.Bool = 1
+cell_type_size cell.Int8 = 1
+cell_type_size cell.Int16 = 2
+cell_type_size cell.Int32 = 4
+cell_type_size cell.Int64 = 8
+cell_type_size cell.UInt8 = 1
+cell_type_size cell.UInt16 = 2
+cell_type_size cell.UInt32 = 4
+cell_type_size cell.UInt64 = 8
 
 -- the greatest number of the type
 abbrev pub greatest : CellType → ℕ
@@ -82,12 +82,12 @@ value_of (b ∷ bytes) = b + value_of bytes * 256
 
 -- the bytes of a number from 0, if the type has it
 abbrev pub positive : CellType → ℕ → Option (List ℕ)
-positive cell_type n = if nat_le n (greatest cell_type) then Some (low_bytes (size_of cell_type) n) else None
+positive cell_type n = if nat_le n (greatest cell_type) then Some (low_bytes (cell_type_size cell_type) n) else None
 
 -- the bytes of - n, if the type has it: two's complement
 abbrev pub negative : CellType → ℕ → Option (List ℕ)
 negative cell_type n =
-    if is_signed cell_type && nat_le n (greatest cell_type + 1) then Some (low_bytes (size_of cell_type) (2 ^ 64 - n)) else None
+    if is_signed cell_type && nat_le n (greatest cell_type + 1) then Some (low_bytes (cell_type_size cell_type) (2 ^ 64 - n)) else None
 
 abbrev pub unsigned_cell : CellType → List ℕ → Option (List ℕ)
 unsigned_cell cell_type digits = number_of digits >>= positive cell_type

@@ -8,7 +8,7 @@ use Rattle.zarrs_metadata.specs.Extension.{◌>>=◌}
 use Rattle.zarrs_script.specs.declared.cell_type.CellType.{CellType}
 use Rattle.zarrs_script.specs.declared.command.Verb.{Verb}
 use Rattle.zarrs_script.specs.declared.command.Verb.TheVariants as verb
-use Rattle.zarrs_script.specs.Words.{numbers_of, region_of}
+use Rattle.zarrs_script.specs.Words.{numbers_in_word, region_of}
 use Rattle.zarrs_script.specs.CellTypes.{type_of, cell_of, cells_of}
 
 -- what a line asks for
@@ -43,8 +43,8 @@ verb_of word =
 
 abbrev pub array_order : List (List ℕ) → Option Order
 array_order (shape ∷ chunk_shape ∷ cell_type ∷ fill ∷ []) = do
-  shape ← numbers_of shape
-  chunk_shape ← numbers_of chunk_shape
+  shape ← numbers_in_word shape
+  chunk_shape ← numbers_in_word chunk_shape
   cell_type ← type_of cell_type
   fill ← cell_of cell_type fill
   Some (Array shape chunk_shape cell_type fill)
@@ -52,7 +52,7 @@ array_order _ = None
 
 abbrev pub chunk_order : CellType → List (List ℕ) → Option Order
 chunk_order cell_type (indices ∷ cells ∷ []) = do
-  indices ← numbers_of indices
+  indices ← numbers_in_word indices
   cells ← cells_of cell_type cells
   Some (Chunk indices (fixed cells))
 chunk_order cell_type _ = None
@@ -70,7 +70,7 @@ get_order _ = None
 
 -- indices and nothing else
 abbrev pub indices_of : List (List ℕ) → Option (List ℕ)
-indices_of (indices ∷ []) = numbers_of indices
+indices_of (indices ∷ []) = numbers_in_word indices
 indices_of _ = None
 
 abbrev pub keys_order : List (List ℕ) → Option Order

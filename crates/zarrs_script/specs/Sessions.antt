@@ -3,45 +3,49 @@ use Rattle.std.specs.Prelude.{◌≡◌, ℕ, Bool, List, ◌++◌, Option, Some
 use Rattle.std.specs.Io.KnownBytes.{Appends}
 use Rattle.zarrs_storage.specs.Memory.{open_state}
 use Rattle.zarrs_document.specs.View.{document_view}
-use Rattle.zarrs_chunk_grid.specs.declared.grid.ChunkGrid.TheVariants.{Regular}
-use Rattle.zarrs_engine.specs.Engine.{layout_of, state_of, grid_of, keys_of, chain_of, data_type_of, fill_value_of}
-use Rattle.zarrs_array_metadata.specs.Meanings.{Meaning, meaning_with}
+use Rattle.zarrs_document.specs.declared.document.ArrayMetadataV3.{ArrayMetadataV3}
+use Rattle.zarrs.specs.Arrays.{layout_of_array, metadata_of_array, meaning_of_array, state_of_array}
 use Rattle.zarrs_script.specs.declared.command.Creation.{Creation}
 use Rattle.zarrs_script.specs.declared.array.OpenArray.{OpenArray}
 use Rattle.zarrs_script.specs.declared.error.CreationError.{CreationError}
 use Rattle.zarrs_script.specs.declared.error.CreationError.TheVariants.{NoGrid, OutOfMemory}
 use Rattle.zarrs_script.specs.Script.{Order}
-use Rattle.zarrs_script.specs.Transcript.{Opened, Session, Transcript, MakesGrid, SaysItsParts, parts_of_line, new_array}
+use Rattle.zarrs_script.specs.Transcript.{Opened, Session, Transcript, MakesGrid, SaysItsParts, parts_of_line, metadata_for, new_array}
 
 -- what an open array is
 abbrev pub opened : OpenArray → Opened
 opened array = record {
   cell_type = array.cell_type;
-  layout = layout_of array.engine;
-  metadata = document_view array.metadata;
-  state = state_of open_state array.engine;
+  layout = layout_of_array array.array;
+  metadata = metadata_of_array array.array;
+  state = state_of_array open_state array.array;
 }
-
--- the parts of its engine
-abbrev pub engine_parts : OpenArray → Meaning
-engine_parts array =
-    meaning_with (Regular (grid_of array.engine)) (keys_of array.engine) (chain_of array.engine) (data_type_of array.engine) (fill_value_of array.engine)
 
 -- the session that an array, or none, stands for
 abbrev pub session_of : Option OpenArray → Session
 session_of None = None
 session_of (Some array) = Some (opened array)
 
--- a new array is what the line says, or it has no grid, or out of memory
+-- why there is no array: the chunk's extents make no grid of the shape, or out of memory
+abbrev pub HasNoArray : Creation → CreationError → Type 0
+HasNoArray creation NoGrid = MakesGrid creation.shape.items creation.chunk_shape.items → ⊥
+HasNoArray creation OutOfMemory = Unit {0}
+
+-- the metadata of a new array says the parts of the line
+abbrev pub Describes : Creation → Result ArrayMetadataV3 CreationError → Type 0
+Describes creation (Ok m) =
+    MakesGrid creation.shape.items creation.chunk_shape.items × SaysItsParts creation.shape.items creation.chunk_shape.items creation.cell_type creation.fill.items × (document_view m ≡ metadata_for creation.shape.items creation.chunk_shape.items creation.cell_type creation.fill.items)
+Describes creation (Err error) = HasNoArray creation error
+
+-- a new array is what the line says
 abbrev pub Creates : Creation → Result OpenArray CreationError → Type 0
 Creates creation (Ok array) =
     MakesGrid creation.shape.items creation.chunk_shape.items × SaysItsParts creation.shape.items creation.chunk_shape.items creation.cell_type creation.fill.items × (opened array ≡ new_array creation.shape.items creation.chunk_shape.items creation.cell_type creation.fill.items)
-Creates creation (Err NoGrid) = MakesGrid creation.shape.items creation.chunk_shape.items → ⊥
-Creates creation (Err OutOfMemory) = Unit {0}
+Creates creation (Err error) = HasNoArray creation error
 
--- the parts of a new array's engine are those that its metadata says
+-- the parts of a new array are those of the line
 abbrev pub HasParts : Creation → OpenArray → Type 0
-HasParts creation array = engine_parts array ≡ parts_of_line creation.shape.items creation.chunk_shape.items creation.cell_type creation.fill.items
+HasParts creation array = meaning_of_array array.array ≡ parts_of_line creation.shape.items creation.chunk_shape.items creation.cell_type creation.fill.items
 
 -- new is old with such a text after it
 abbrev pub Prints : List ℕ → List ℕ → (List ℕ → Type 0) → Type 0

@@ -8,6 +8,7 @@ use Rattle.zarrs_storage.specs.Store.{StoreState, Values}
 use Rattle.zarrs_storage.specs.Memory.{open_state}
 use Rattle.zarrs_metadata.specs.declared.separators.ChunkKeySeparator.TheVariants.{Slash}
 use Rattle.zarrs_document.specs.Document.{DocumentData}
+use Rattle.zarrs_document_v2.specs.View.{MetadataData, v3}
 use Rattle.zarrs_keys.specs.Encodings.{default_key}
 use Rattle.zarrs_chunk_grid.specs.Configurations.{regular, grid_of, takes_shape}
 use Rattle.zarrs_data_type.specs.ArrayData.{ArrayData, data_of}
@@ -23,9 +24,9 @@ use Rattle.zarrs_steps.specs.Layout.{Layout, layout_at, ArrayState}
 use Rattle.zarrs_steps.specs.Refusals.{refusal_of, refusal_number}
 use Rattle.zarrs_steps.specs.Step.{Step}
 use Rattle.zarrs_array_metadata.specs.Meanings.{Meaning, creation_v3}
-use Rattle.zarrs_script_metadata.specs.Parts.{parts_for, document_for, text_of_document}
+use Rattle.zarrs_script_metadata.specs.Parts.{parts_for, document_for, text_of_metadata}
 use Rattle.zarrs_script.specs.declared.cell_type.CellType.{CellType}
-use Rattle.zarrs_script.specs.CellTypes.{kind_of, cell_text}
+use Rattle.zarrs_script.specs.CellTypes.{kind_of_cells, cell_text}
 use Rattle.zarrs_script.specs.Script.{Order, Array, Keys, Meta}
 use Rattle.zarrs_script.specs.Parsed.{order_of_call}
 
@@ -33,7 +34,7 @@ use Rattle.zarrs_script.specs.Parsed.{order_of_call}
 pub record Opened : Type 0 where
   pub cell_type : CellType
   pub layout : Layout
-  pub metadata : DocumentData
+  pub metadata : MetadataData
   pub state : ArrayState
 
 -- what lines speak to: nothing before the first array, and after a refused one
@@ -53,7 +54,7 @@ list_text (text ∷ texts) = join_with_byte 44 (text ∷ texts)
 
 -- the line of the cells that the data stands for
 abbrev pub data_text : CellType → ArrayData → Option (List ℕ)
-data_text cell_type held = option_map (λ given. line (list_text (map (cell_text cell_type) given))) (cells (kind_of cell_type) held)
+data_text cell_type held = option_map (λ given. line (list_text (map (cell_text cell_type) given))) (cells (kind_of_cells cell_type) held)
 
 -- the line of a reply; of data there is one if it stands for cells
 abbrev pub reply_text : CellType → Reply → Option (List ℕ)
@@ -98,11 +99,11 @@ pub record MakesGrid (shape chunk_shape : List ℕ) : Type 0 where
 -- what the parts of a new array mean: the `regular` grid, `default` keys with `/` at the path `/`, the codec `bytes`
 abbrev pub layout_for : List ℕ → List ℕ → CellType → List ℕ → Layout
 layout_for shape chunk_shape cell_type fill =
-    layout_at (grid_of (regular chunk_shape) shape) (codes "/") (default_key Slash) (through same_array (whole_chunk bytes_meaning)) (kind_of cell_type) fill
+    layout_at (grid_of (regular chunk_shape) shape) (codes "/") (default_key Slash) (through same_array (whole_chunk bytes_meaning)) (kind_of_cells cell_type) fill
 
 -- the parts of a new array
 abbrev pub parts_of_line : List ℕ → List ℕ → CellType → List ℕ → Meaning
-parts_of_line shape chunk_shape cell_type fill = parts_for shape chunk_shape (kind_of cell_type) fill
+parts_of_line shape chunk_shape cell_type fill = parts_for shape chunk_shape (kind_of_cells cell_type) fill
 
 -- the metadata of a new array, which says its parts
 abbrev pub metadata_for : List ℕ → List ℕ → CellType → List ℕ → DocumentData
@@ -117,7 +118,7 @@ abbrev pub new_array : List ℕ → List ℕ → CellType → List ℕ → Opene
 new_array shape chunk_shape cell_type fill = record {
   cell_type = cell_type;
   layout = layout_for shape chunk_shape cell_type fill;
-  metadata = metadata_for shape chunk_shape cell_type fill;
+  metadata = v3 (metadata_for shape chunk_shape cell_type fill);
   state = record { store = new_store; shape = shape };
 }
 
@@ -150,7 +151,7 @@ Does before (Array shape chunk_shape cell_type fill) outcome = Opens shape chunk
 -- without an open array nothing is done
 Does None order outcome = outcome ≡ record { text = line (codes "skipped"); refused = false; after = None }
 Does (Some array) Keys outcome = outcome ≡ record { text = keys_text array.state.store.values; refused = false; after = Some array }
-Does (Some array) Meta outcome = outcome ≡ record { text = line (text_of_document array.metadata); refused = false; after = Some array }
+Does (Some array) Meta outcome = outcome ≡ record { text = line (text_of_metadata array.metadata); refused = false; after = Some array }
 Does (Some array) order outcome = Calls order array outcome
 
 -- the outcome of lines, one after the other

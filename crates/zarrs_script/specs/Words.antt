@@ -27,8 +27,8 @@ each_of item (word ∷ words) = do
   others ← each_of item words
   Some (first ∷ others)
 
-abbrev pub numbers_of : List ℕ → Option (List ℕ)
-numbers_of word = each_of number_of (items_of word)
+abbrev pub numbers_in_word : List ℕ → Option (List ℕ)
+numbers_in_word word = each_of number_of (items_of word)
 
 -- there is a region that begins at `start` and has this shape: the lists have one length, and each end is below 2 ^ 64
 abbrev pub is_region : List ℕ → List ℕ → Bool
@@ -39,6 +39,6 @@ region_at start shape = if is_region start shape then Some (box_from start shape
 
 abbrev pub region_of : List ℕ → List ℕ → Option Box
 region_of start shape = do
-  start ← numbers_of start
-  shape ← numbers_of shape
+  start ← numbers_in_word start
+  shape ← numbers_in_word shape
   region_at start shape

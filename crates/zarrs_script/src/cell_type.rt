@@ -1,7 +1,7 @@
 //! The types of the cells of a script's arrays.
 ghost use Rattle.std.specs.Prelude.{◌≡◌};
 ghost use Rattle.zarrs_data_type.specs.Kind.{kind};
-ghost use Rattle.zarrs_script.specs.CellTypes.{kind_of, size_of, greatest, is_signed, type_of};
+ghost use Rattle.zarrs_script.specs.CellTypes.{kind_of_cells, cell_type_size, greatest, is_signed, type_of};
 
 use zarrs_data_type::DataType;
 
@@ -49,7 +49,7 @@ impl CellType {
     }
 
     pub fn data_type(self) -> DataType
-        ensures { kind result ≡ kind_of self }
+        ensures { kind result ≡ kind_of_cells self }
     {
         match self {
             CellType::Bool => DataType::Bool,
@@ -66,7 +66,7 @@ impl CellType {
 
     /// The size of a cell in bytes.
     pub fn size(self) -> usize
-        ensures { result ≡ size_of self }
+        ensures { result ≡ cell_type_size self }
     {
         match self {
             CellType::Bool | CellType::Int8 | CellType::UInt8 => 1,

@@ -1,7 +1,7 @@
 //! What the lines of a script ask for.
 ghost use Rattle.std.specs.Prelude.{IsSome};
 ghost use Rattle.zarrs_data_type.specs.Cell.{fill_cell};
-ghost use Rattle.zarrs_script.specs.CellTypes.{kind_of};
+ghost use Rattle.zarrs_script.specs.CellTypes.{kind_of_cells};
 
 use crate::cell_type::CellType;
 use zarrs_engine::Call;
@@ -30,7 +30,7 @@ pub struct Creation {
     pub cell_type: CellType,
     /// The bytes of the fill value.
     pub fill: Vec<u8>,
-    ghost filled: { IsSome (fill_cell (kind_of cell_type) fill.items) },
+    ghost filled: { IsSome (fill_cell (kind_of_cells cell_type) fill.items) },
 }
 
 /// What a line asks for.

@@ -1,18 +1,21 @@
 //! The arrays that `array` lines make.
 ghost use Rattle.std.specs.Prelude.{◌≡◌, IfOk};
 ghost use Rattle.zarrs_script.specs.Sizes.{HasSizes};
-ghost use Rattle.zarrs_script.specs.Sessions.{Creates, HasParts};
+ghost use Rattle.zarrs_script.specs.Sessions.{Describes, Creates, HasParts};
 
 use crate::array::OpenArray;
 use crate::command::Creation;
 use crate::error::CreationError;
 use std::alloc::Global;
 use std::num::NonZeroU64;
+use zarrs::Array;
+use zarrs::laws::an_array_is_its_metadata;
 use zarrs_chunk_grid::{ChunkShape, GridError, RegularChunkGrid};
 use zarrs_codec::{ArrayToBytesCodec, BytesCodec, BytesToBytesCodecs, CodecChain};
 use zarrs_data_type::FillValue;
-use zarrs_engine::Engine;
-use zarrs_keys::{ChunkKeyEncoding, ChunkKeySeparator, NodePath};
+use zarrs_document::ArrayMetadataV3;
+use zarrs_document_v2::ArrayMetadata;
+use zarrs_options::ArrayCreateError;
 use zarrs_script_metadata::metadata_of_parts;
 use zarrs_storage::MemoryStore;
 
@@ -30,9 +33,37 @@ fn chunk_shape_of(alloc: Global, extents: &[u64]) -> Result<ChunkShape, Creation
     Ok(sizes)
 }
 
+/// Makes the metadata of the array, which has the `regular` grid, `default` keys with `/` and the codec `bytes`, little
+/// endian, and says these parts.
+fn metadata_of(alloc: Global, creation: Creation) -> Result<ArrayMetadataV3, CreationError>
+    ensures { Describes creation result }
+{
+    let Creation {
+        shape,
+        chunk_shape,
+        cell_type,
+        fill,
+    } = creation;
+    let chunk_shape = chunk_shape_of(alloc, &chunk_shape)?;
+    let grid = match RegularChunkGrid::new(alloc, shape, chunk_shape) {
+        Ok(grid) => grid,
+        Err(GridError::OutOfMemory) => return Err(CreationError::OutOfMemory),
+        Err(_) => return Err(CreationError::NoGrid),
+    };
+    let chain = CodecChain::new(
+        Vec::new(alloc),
+        ArrayToBytesCodec::Bytes(BytesCodec::little()),
+        BytesToBytesCodecs,
+    );
+    let data_type = cell_type.data_type();
+    let fill_value = FillValue::new(fill);
+    let metadata = metadata_of_parts(alloc, &grid, &chain, &data_type, &fill_value)?;
+    Ok(metadata)
+}
+
 impl OpenArray {
     /// A new array at the path `/` of a new store in memory, with the `regular` grid, `default` keys with `/` and the
-    /// codec `bytes`, and the metadata that says these parts.
+    /// codec `bytes`, made of the metadata that says these parts.
     ///
     /// # Errors
     /// `NoGrid` if the chunk shape has another length than the shape, or an extent 0. `OutOfMemory` may come at any
@@ -41,42 +72,18 @@ impl OpenArray {
         ensures created { Creates creation result }
         ensures parts { IfOk result (HasParts creation) }
     {
-        let Creation {
-            shape,
-            chunk_shape,
-            cell_type,
-            fill,
-        } = creation;
-        let chunk_shape = chunk_shape_of(alloc, &chunk_shape)?;
-        let grid = match RegularChunkGrid::new(alloc, shape, chunk_shape) {
-            Ok(grid) => grid,
-            Err(GridError::OutOfMemory) => return Err(CreationError::OutOfMemory),
-            Err(_) => return Err(CreationError::NoGrid),
-        };
-        let Ok(root) = NodePath::new(alloc, "/") else {
-            return Err(CreationError::OutOfMemory);
-        };
-        let chain = CodecChain::new(
-            Vec::new(alloc),
-            ArrayToBytesCodec::Bytes(BytesCodec::little()),
-            BytesToBytesCodecs,
-        );
-        let data_type = cell_type.data_type();
-        let fill_value = FillValue::new(fill);
-        let metadata = metadata_of_parts(alloc, &grid, &chain, &data_type, &fill_value)?;
-        let engine = Engine::new(
-            MemoryStore::new(alloc),
-            root,
-            grid,
-            ChunkKeyEncoding::Default(ChunkKeySeparator::Slash),
-            chain,
-            data_type,
-            fill_value,
-        );
-        Ok(OpenArray {
-            cell_type,
-            engine,
-            metadata,
-        })
+        let cell_type = creation.cell_type;
+        let document = metadata_of(alloc, creation)?;
+        let metadata = ArrayMetadata::V3(document);
+        match Array::new_with_metadata(alloc, MemoryStore::new(alloc), "/", metadata) {
+            Ok(array) => {
+                an_array_is_its_metadata(&array);
+                Ok(OpenArray { cell_type, array })
+            }
+            Err(error) => match error {
+                ArrayCreateError::OutOfMemory => Err(CreationError::OutOfMemory),
+                _ => unreachable!(),
+            },
+        }
     }
 }

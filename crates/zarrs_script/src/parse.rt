@@ -3,8 +3,8 @@ ghost use Rattle.std.specs.Prelude.{◌≡◌, ◌==◌, ◌++◌, map, position
 ghost use Rattle.std.specs.List.{slice_split};
 ghost use Rattle.zarrs_subset.specs.Regions.{box_of};
 ghost use Rattle.zarrs_data_type.specs.Cell.{fill_cell};
-ghost use Rattle.zarrs_script.specs.Words.{number_of, each_of, numbers_of, region_of};
-ghost use Rattle.zarrs_script.specs.CellTypes.{kind_of, cell_of, joined_cells, cells_of, low_bytes};
+ghost use Rattle.zarrs_script.specs.Words.{number_of, each_of, numbers_in_word, region_of};
+ghost use Rattle.zarrs_script.specs.CellTypes.{kind_of_cells, cell_of, joined_cells, cells_of, low_bytes};
 ghost use Rattle.zarrs_script.specs.CellTypes.{positive, negative, unsigned_cell, signed_cell};
 ghost use Rattle.zarrs_script.specs.Script.{verb_of, array_order, chunk_order, put_order};
 ghost use Rattle.zarrs_script.specs.Script.{get_order, indices_of, keys_order, meta_order};
@@ -138,7 +138,7 @@ fn push_cell(cells: &mut Vec<u8>, cell_type: CellType, word: &[u8]) -> Result<()
 /// The bytes of the cell that the word writes.
 fn cell_of(alloc: Global, cell_type: CellType, word: &[u8]) -> Result<Vec<u8>, ParseError>
     ensures value { Gives (λ cell. cell.items) result (cell_of cell_type word.now) }
-    ensures whole { IfOk result (λ cell. IsSome (fill_cell (kind_of cell_type) cell.items)) }
+    ensures whole { IfOk result (λ cell. IsSome (fill_cell (kind_of_cells cell_type) cell.items)) }
 {
     let mut cell = Vec::new(alloc);
     push_cell(&mut cell, cell_type, word)?;
@@ -162,8 +162,8 @@ fn number_items(alloc: Global, word: &[u8]) -> Result<Vec<u64>, ParseError>
 
 /// The numbers of a list: they are joined by commas, or there are none, for `-`.
 #[tactic(auto, unfolding(crate::specs::Words::items_of))]
-fn numbers_of(alloc: Global, word: &[u8]) -> Result<Vec<u64>, ParseError>
-    ensures { Gives (λ numbers. numbers.items) result (numbers_of word.now) }
+fn numbers_in_word(alloc: Global, word: &[u8]) -> Result<Vec<u64>, ParseError>
+    ensures { Gives (λ numbers. numbers.items) result (numbers_in_word word.now) }
 {
     if word == b"-".as_slice() {
         return Ok(Vec::new(alloc));
@@ -231,8 +231,8 @@ fn array_command(alloc: Global, words: Option<&[u8]>) -> Result<Command, ParseEr
     let (chunk_shape, words) = next_word(words)?;
     let (name, words) = next_word(words)?;
     let fill = last_word(words)?;
-    let shape = numbers_of(alloc, shape)?;
-    let chunk_shape = numbers_of(alloc, chunk_shape)?;
+    let shape = numbers_in_word(alloc, shape)?;
+    let chunk_shape = numbers_in_word(alloc, chunk_shape)?;
     let cell_type = CellType::named(name).ok_or(ParseError::NotACommand)?;
     let fill = cell_of(alloc, cell_type, fill)?;
     Ok(Command::Array(Creation {
@@ -252,7 +252,7 @@ fn chunk_command(
 {
     let (indices, words) = next_word(words)?;
     let cells = last_word(words)?;
-    let chunk_indices = numbers_of(alloc, indices)?;
+    let chunk_indices = numbers_in_word(alloc, indices)?;
     let cells = cells_of(alloc, cell_type, cells)?;
     let chunk_data = ArrayBytes::Fixed(CowSlice::Owned(cells));
     Ok(Command::Call(Call::StoreChunk(chunk_indices, chunk_data)))
@@ -262,8 +262,8 @@ fn chunk_command(
 fn region_of(alloc: Global, start: &[u8], shape: &[u8]) -> Result<ArraySubset, ParseError>
     ensures { Gives box_of result (region_of start.now shape.now) }
 {
-    let start = numbers_of(alloc, start)?;
-    let shape = numbers_of(alloc, shape)?;
+    let start = numbers_in_word(alloc, start)?;
+    let shape = numbers_in_word(alloc, shape)?;
     match ArraySubset::new_with_start_shape(start, shape) {
         Ok(region) => Ok(region),
         Err(_) => Err(ParseError::NotACommand),
@@ -300,7 +300,7 @@ fn indices_of(alloc: Global, words: Option<&[u8]>) -> Result<Vec<u64>, ParseErro
     ensures { Gives (λ indices. indices.items) result (indices_of (words_in words.entry)) }
 {
     let indices = last_word(words)?;
-    numbers_of(alloc, indices)
+    numbers_in_word(alloc, indices)
 }
 
 fn keys_command(words: Option<&[u8]>) -> Result<Command, ParseError>

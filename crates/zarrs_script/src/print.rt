@@ -2,13 +2,12 @@
 ghost use Rattle.std.specs.Prelude.{◌≡◌, ◌≤◌, ◌++◌, ◌*◌, ◌∷◌, [], codes, decimal, length, IfOk};
 ghost use Rattle.std.specs.Prelude.{OnOk, IsSome, Some, false};
 ghost use Rattle.serde_json.specs.Written.{has_float};
-ghost use Rattle.zarrs_document.specs.Document.{data_of_document};
-ghost use Rattle.zarrs_document.specs.View.{document_view};
+ghost use Rattle.zarrs_document_v2.specs.View.{metadata_view, data_of_metadata};
 ghost use Rattle.zarrs_data_type.specs.ArrayData.{fixed};
 ghost use Rattle.zarrs_data_type.specs.Cells.{cells};
 ghost use Rattle.zarrs_steps.specs.Refusals.{refusal_of, refusal_number};
-ghost use Rattle.zarrs_script_metadata.specs.Parts.{text_of_document};
-ghost use Rattle.zarrs_script.specs.CellTypes.{kind_of, size_of, value_of, number_text};
+ghost use Rattle.zarrs_script_metadata.specs.Parts.{text_of_metadata};
+ghost use Rattle.zarrs_script.specs.CellTypes.{kind_of_cells, cell_type_size, value_of, number_text};
 ghost use Rattle.zarrs_script.specs.Transcript.{line, refusal, data_text, reply_text, is_refusal};
 ghost use Rattle.zarrs_script.specs.Transcript.{bytes_at, key_text, keys_text};
 ghost use Rattle.zarrs_script.specs.Sessions.{Puts};
@@ -21,7 +20,7 @@ use std::alloc::{AllocError, Global};
 use std::io::Write;
 use zarrs_codec_leaf::CodecError;
 use zarrs_data_type::{ArrayBytes, ElementError};
-use zarrs_document::ArrayMetadataV3;
+use zarrs_document_v2::ArrayMetadata;
 use zarrs_engine::{ArrayError, Reply};
 use zarrs_script_metadata::metadata_text;
 use zarrs_storage::{MemoryStore, ReadableStorageTraits, StorageError, StoreKey};
@@ -76,7 +75,8 @@ pub fn put_refusal(out: &mut Vec<u8>, number: u8) -> Result<(), AllocError>
 /// # Errors
 /// `AllocError`: out of memory.
 pub fn complaint(alloc: Global, number: u64) -> Result<Vec<u8>, AllocError>
-    ensures { IfOk result (λ text. text.items ≡ line (codes "line " ++ decimal number ++ codes ": not a command")) }
+    ensures { IfOk result (λ text. text.items
+        ≡ line (codes "line " ++ decimal number ++ codes ": not a command")) }
 {
     let mut buffer = Buffer::new();
     let mut text = Vec::from_slice(alloc, b"line ")?;
@@ -114,7 +114,7 @@ fn put_negative(out: &mut Vec<u8>, number: u64) -> Result<(), AllocError>
 
 /// Prints a cell.
 fn put_number(out: &mut Vec<u8>, cell_type: CellType, cell: &[u8]) -> Result<(), AllocError>
-    requires { length cell.now ≡ size_of cell_type }
+    requires { length cell.now ≡ cell_type_size cell_type }
     ensures { OnOk result (out.new.items ≡ out.old.items ++ number_text cell_type cell.now) }
 {
     let value = value_of(cell);
@@ -279,11 +279,11 @@ pub fn put_keys<W: Write>(
 pub fn put_metadata(
     alloc: Global,
     out: &mut Vec<u8>,
-    metadata: &ArrayMetadataV3,
+    metadata: &ArrayMetadata,
 ) -> Result<(), AllocError>
-    requires { has_float (data_of_document (document_view metadata.now)) ≡ false }
+    requires { has_float (data_of_metadata (metadata_view metadata.now)) ≡ false }
     ensures { OnOk result
-        (out.new.items ≡ out.old.items ++ line (text_of_document (document_view metadata.now))) }
+        (out.new.items ≡ out.old.items ++ line (text_of_metadata (metadata_view metadata.now))) }
 {
     let text = metadata_text(alloc, metadata)?;
     put_line(out, text.as_bytes())

@@ -53,17 +53,21 @@ fn serve<W: Write>(
     writer: &mut W,
     out: &mut Vec<u8>,
     array: &mut OpenArray,
-    call: &Call,
+    call: Call,
 ) -> Result<bool, Stopped>
     ensures { IfOk result (λ refused. Puts (W.contents writer.old) (W.contents writer.new)
         out.old.items out.new.items
-        (λ text. Does (Some (opened array.old)) (order_of_call call.now) (record {
+        (λ text. Does (Some (opened array.old)) (order_of_call call) (record {
           text = text;
           refused = refused;
           after = Some (opened array.new);
         }))) }
 {
-    let reply = array.engine.answer(alloc, call, &CodecOptions::default());
+    let options = CodecOptions::default();
+    let mut replies = array.array.replay(alloc, &[call], &options)?;
+    let Some(reply) = replies.pop() else {
+        unreachable!();
+    };
     let refused = put_reply(writer, out, array.cell_type, &reply)?;
     Ok(refused)
 }
@@ -90,13 +94,13 @@ fn run_command<W: Write>(
             *array = opening;
             Ok(refused)
         }
-        (Command::Call(call), Some(array)) => serve(alloc, writer, out, array, &call),
+        (Command::Call(call), Some(array)) => serve(alloc, writer, out, array, call),
         (Command::Keys, Some(array)) => {
-            put_keys(alloc, writer, out, array.engine.storage())?;
+            put_keys(alloc, writer, out, array.array.storage())?;
             Ok(false)
         }
         (Command::Meta, Some(array)) => {
-            put_metadata(alloc, out, &array.metadata)?;
+            put_metadata(alloc, out, array.array.metadata())?;
             Ok(false)
         }
         (Command::Call(_), None) => {

@@ -26,14 +26,14 @@ use Rattle.zarrs_codec.specs.declared.chain.CodecChain.{CodecChain}
 use Rattle.zarrs_codec.proofs.ChainMetadata.{chain_back}
 use Rattle.zarrs_array_metadata.specs.Meanings.{meaning_with, creation_v3}
 use Rattle.zarrs_array_metadata.proofs.Order.{all_said}
-use Rattle.zarrs_script_metadata.specs.Parts.{document_for, is_number}
+use Rattle.zarrs_script_metadata.specs.Parts.{document_for, is_whole_number}
 use Rattle.zarrs_script_metadata.proofs.Fills.{fill_back}
 
 -- documents of equal parts are the same
 pub same_document : (s t : List ℕ) (g h d e : ExtensionData) (f v : Data) (c k : List ExtensionData) → s ≡ t → g ≡ h → d ≡ e → f ≡ v → c ≡ k → plain_document s g d f c ≡ plain_document t h e v k
 same_document s t g h d e f v c k shape grid type fill codecs = λ i. plain_document (shape i) (grid i) (type i) (fill i) (codecs i)
 
-type_back : (k : Kind) → is_number k ≡ true → kind_of (kind_extension k) ≡ Some k
+type_back : (k : Kind) → is_whole_number k ≡ true → kind_of (kind_extension k) ≡ Some k
 type_back type.bool numeric = refl
 type_back type.int8 numeric = refl
 type_back type.int16 numeric = refl
@@ -58,7 +58,7 @@ parts_back : (shape : List ℕ) (grid : GridConfiguration) (chain : ChainData) (
 parts_back shape grid chain k fill e1 e2 e3 e4 =
     all_said (plain_document shape (extension_of_grid grid) (kind_extension k) (fill_written k fill) (extensions_of_chain chain)) chain e1 k e2 grid e3 fill e4 refl (Default Slash) refl refl
 
-pub document_says : (g : RegularChunkGrid) (chain : CodecChain) (t : DataType) (fill : List ℕ) (m : DocumentData) → is_number (kind t) ≡ true → IsSome (fill_cell (kind t) fill) → ((i : ℕ) → get_or fill i 0 < 256)
+pub document_says : (g : RegularChunkGrid) (chain : CodecChain) (t : DataType) (fill : List ℕ) (m : DocumentData) → is_whole_number (kind t) ≡ true → IsSome (fill_cell (kind t) fill) → ((i : ℕ) → get_or fill i 0 < 256)
     → m ≡ document_for (meaning_with (Regular g) (Default Slash) chain t fill) → creation_v3 m ≡ Ok (meaning_with (Regular g) (Default Slash) chain t fill)
 document_says g chain t fill m numeric there small is =
     ap creation_v3 is

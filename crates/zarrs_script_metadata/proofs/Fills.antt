@@ -14,7 +14,7 @@ use Rattle.zarrs_types.specs.Kind.{Kind}
 use Rattle.zarrs_types.specs.Kind as type
 use Rattle.zarrs_types.specs.Cell.{Cell, bytes, is_element, fill_cell}
 use Rattle.zarrs_types.specs.FillMetadata.{unsigned_said, signed_said, fill_said, fill_written}
-use Rattle.zarrs_script_metadata.specs.Parts.{is_number}
+use Rattle.zarrs_script_metadata.specs.Parts.{is_whole_number}
 
 -- ---- numbers
 
@@ -72,7 +72,7 @@ kept true b there = refl
 kept false b there = let nothing : IsSome {T = Cell} None = there in cc
 
 -- the bytes of a fill value are those of an element
-element_of : (k : Kind) (b : List ℕ) → is_number k ≡ true → IsSome (fill_cell k b) → is_element k b ≡ true
+element_of : (k : Kind) (b : List ℕ) → is_whole_number k ≡ true → IsSome (fill_cell k b) → is_element k b ≡ true
 element_of type.bool b numeric there = kept (is_element type.bool b) b there
 element_of type.int8 b numeric there = kept (is_element type.int8 b) b there
 element_of type.int16 b numeric there = kept (is_element type.int16 b) b there
@@ -84,7 +84,7 @@ element_of type.uint32 b numeric there = kept (is_element type.uint32 b) b there
 element_of type.uint64 b numeric there = kept (is_element type.uint64 b) b there
 element_of k b numeric there = cc
 
-element_back : (k : Kind) (b : List ℕ) → is_number k ≡ true → is_element k b ≡ true → ((i : ℕ) → get_or b i 0 < 256) → fill_said k (fill_written k b) ≡ Some b
+element_back : (k : Kind) (b : List ℕ) → is_whole_number k ≡ true → is_element k b ≡ true → ((i : ℕ) → get_or b i 0 < 256) → fill_said k (fill_written k b) ≡ Some b
 element_back type.bool b numeric is small =
     let parts = and_parts (eqb (length b) 1) (ltb (get_or b 0 0) 2) is in
     ap (λ (x : ℕ). Some (x ∷ [])) (bit_back (get_or b 0 0) (ltb-true _ _ parts.1)) ∙ ap Some (one_item b (eqb-true _ _ parts.0))
@@ -124,5 +124,5 @@ element_back type.uint64 b numeric is small =
 element_back k b numeric is small = cc
 
 -- what metadata says of the fill value that was written
-pub fill_back : (k : Kind) (b : List ℕ) → is_number k ≡ true → IsSome (fill_cell k b) → ((i : ℕ) → get_or b i 0 < 256) → fill_said k (fill_written k b) ≡ Some b
+pub fill_back : (k : Kind) (b : List ℕ) → is_whole_number k ≡ true → IsSome (fill_cell k b) → ((i : ℕ) → get_or b i 0 < 256) → fill_said k (fill_written k b) ≡ Some b
 fill_back k b numeric there small = element_back k b numeric (element_of k b numeric there) small

@@ -18,7 +18,7 @@ use Rattle.zarrs_types.specs.FillMetadata.{fill_written}
 use Rattle.zarrs_types.specs.Kind.{Kind}
 use Rattle.zarrs_types.specs.Kind as type
 use Rattle.zarrs_types.specs.TypeMetadata.{kind_extension}
-use Rattle.zarrs_script_metadata.specs.Parts.{parts_for, document_for, is_number}
+use Rattle.zarrs_script_metadata.specs.Parts.{parts_for, document_for, is_whole_number}
 
 put_plain : (key : List ℕ) (d : Data) (ms : Members) → has_float d ≡ false → members_have_float ms ≡ false → members_have_float (put key d ms) ≡ false
 put_plain key d no_members p q = ap (λ (b : Bool). b || false) p
@@ -59,7 +59,7 @@ integer_plain : (z : ℤ) → is_float (of_integer z) ≡ false
 integer_plain (pos n) = refl
 integer_plain (negsuc n) = refl
 
-type_plain : (k : Kind) → is_number k ≡ true → has_float (extension_data (kind_extension k)) ≡ false
+type_plain : (k : Kind) → is_whole_number k ≡ true → has_float (extension_data (kind_extension k)) ≡ false
 type_plain type.bool numeric = refl
 type_plain type.int8 numeric = refl
 type_plain type.int16 numeric = refl
@@ -71,7 +71,7 @@ type_plain type.uint32 numeric = refl
 type_plain type.uint64 numeric = refl
 type_plain k numeric = cc
 
-fill_plain : (k : Kind) (b : List ℕ) → is_number k ≡ true → has_float (fill_written k b) ≡ false
+fill_plain : (k : Kind) (b : List ℕ) → is_whole_number k ≡ true → has_float (fill_written k b) ≡ false
 fill_plain type.bool b numeric = refl
 fill_plain type.int8 b numeric = integer_plain _
 fill_plain type.int16 b numeric = integer_plain _
@@ -83,7 +83,7 @@ fill_plain type.uint32 b numeric = refl
 fill_plain type.uint64 b numeric = refl
 fill_plain k b numeric = cc
 
-pub plain_document_for : (shape chunk_shape : List ℕ) (k : Kind) (fill : List ℕ) → is_number k ≡ true → has_float (data_of_document (document_for (parts_for shape chunk_shape k fill))) ≡ false
+pub plain_document_for : (shape chunk_shape : List ℕ) (k : Kind) (fill : List ℕ) → is_whole_number k ≡ true → has_float (data_of_document (document_for (parts_for shape chunk_shape k fill))) ≡ false
 unfolding data_of_document
 plain_document_for shape chunk_shape k fill numeric =
     put_all_plain (document_members (document_for (parts_for shape chunk_shape k fill))) no_members

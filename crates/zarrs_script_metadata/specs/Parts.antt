@@ -1,8 +1,9 @@
--- The V3 document that says the parts of an array, and its text.
+-- The V3 document that says the parts of an array, and the text of metadata.
 use Rattle.std.specs.Prelude.{ℕ, List, [], Bool, true, false, Some}
 use Rattle.serde_json.specs.Written.{compact_text}
 use Rattle.zarrs_metadata.specs.declared.separators.ChunkKeySeparator.TheVariants.{Slash}
-use Rattle.zarrs_document.specs.Document.{DocumentData, plain_document, data_of_document}
+use Rattle.zarrs_document.specs.Document.{DocumentData, plain_document}
+use Rattle.zarrs_document_v2.specs.View.{MetadataData, data_of_metadata}
 use Rattle.zarrs_keys.specs.declared.encodings.ChunkKeyEncoding.TheVariants.{Default}
 use Rattle.zarrs_chunk_grid.specs.Configurations.{regular}
 use Rattle.zarrs_chunk_grid.specs.Metadata.{extension_of_grid}
@@ -30,19 +31,19 @@ abbrev pub document_for : Meaning → DocumentData
 document_for parts =
     plain_document parts.shape (extension_of_grid parts.grid) (kind_extension parts.kind) (fill_written parts.kind parts.fill) (extensions_of_chain parts.chain)
 
--- the text of a document: its JSON value without spaces
-abbrev pub text_of_document : DocumentData → List ℕ
-text_of_document document = compact_text (data_of_document document)
+-- the text of metadata: its JSON value without spaces
+abbrev pub text_of_metadata : MetadataData → List ℕ
+text_of_metadata metadata = compact_text (data_of_metadata metadata)
 
 -- bool and the integers
-abbrev pub is_number : Kind → Bool
-is_number type.bool = true
-is_number type.int8 = true
-is_number type.int16 = true
-is_number type.int32 = true
-is_number type.int64 = true
-is_number type.uint8 = true
-is_number type.uint16 = true
-is_number type.uint32 = true
-is_number type.uint64 = true
-is_number _ = false
+abbrev pub is_whole_number : Kind → Bool
+is_whole_number type.bool = true
+is_whole_number type.int8 = true
+is_whole_number type.int16 = true
+is_whole_number type.int32 = true
+is_whole_number type.int64 = true
+is_whole_number type.uint8 = true
+is_whole_number type.uint16 = true
+is_whole_number type.uint32 = true
+is_whole_number type.uint64 = true
+is_whole_number _ = false

@@ -9,7 +9,7 @@ ghost use Rattle.zarrs_types.specs.Cell.{fill_cell};
 ghost use Rattle.zarrs_types.specs.FillMetadata.{fill_written};
 ghost use Rattle.zarrs_types.specs.Kind.{kind};
 ghost use Rattle.zarrs_array_metadata.specs.Meanings.{meaning_with, creation_v3};
-ghost use Rattle.zarrs_script_metadata.specs.Parts.{document_for, is_number};
+ghost use Rattle.zarrs_script_metadata.specs.Parts.{document_for, is_whole_number};
 
 use std::alloc::{AllocError, Global};
 use zarrs_chunk_grid::{ChunkGridTraits, RegularChunkGrid};
@@ -50,7 +50,7 @@ pub fn metadata_of_parts(
     data_type: &DataType,
     fill_value: &FillValue,
 ) -> Result<ArrayMetadataV3, AllocError>
-    requires number { is_number (kind data_type.now) ≡ true }
+    requires number { is_whole_number (kind data_type.now) ≡ true }
     requires filled { IsSome (fill_cell (kind data_type.now) fill_value.now) }
     ensures document { IfOk result (λ m. document_view m ≡ document_for (meaning_with
         (Regular grid.now) (Default Slash) chain.now data_type.now fill_value.now)) }

@@ -1,6 +1,6 @@
 use Rattle.std.proofs.Common.{codes, refl}
-use Rattle.zarrs_document.specs.View.{document_view}
-use Rattle.zarrs_script_metadata.specs.Parts.{text_of_document}
+use Rattle.zarrs.specs.Arrays.{metadata_of_array}
+use Rattle.zarrs_script_metadata.specs.Parts.{text_of_metadata}
 use Rattle.zarrs_script.specs.Transcript.{line}
 use Rattle.zarrs_script.proofs.Printing.{puts_as, puts_pending}
 use Rattle.zarrs_script.proofs.Transcripts.{array_opened, call_skipped, keys_skipped, keys_listed, meta_skipped, meta_shown}
@@ -21,8 +21,8 @@ returns-in_ok-put_keys-in-Keys-Some g c =
 
 pub returns-in_ok-put_metadata-in-Meta-Some : goal.returns-in_ok-put_metadata-in-Meta-Some
 returns-in_ok-put_metadata-in-Meta-Some g c =
-    let shown = line (text_of_document (document_view c.in-Meta-Some.array.now.metadata)) in
-    puts_pending (g.W.Write.contents c.args.writer.now) c.args.out.now.items _ shown c.in_ok-put_metadata-in-Meta-Some.ensures
+    let shown = line (text_of_metadata (metadata_of_array c.in-Meta-Some.array.now.array)) in
+    puts_pending (g.W.Write.contents c.args.writer.now) c.args.out.now.items _ shown (rw c.metadata.ensures at c.in_ok-put_metadata-in-Meta-Some.ensures)
     (meta_shown c.in-Meta-Some.array.now c.args.array.now c.args.command shown c.in-Meta-Some.ensures.value c.in-Meta-Some.is-0 refl)
 
 pub returns-in_ok-put_skipped-in-Meta-None : goal.returns-in_ok-put_skipped-in-Meta-None

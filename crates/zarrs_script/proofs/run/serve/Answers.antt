@@ -1,22 +1,48 @@
-use Rattle.zarrs_data_type.specs.Same.{kind_eq-Decides}
+use Rattle.std.proofs.Common.{List, ◌∷◌, [], refl, subst, ap, arith}
 use Rattle.zarrs_storage.specs.Memory.{open_state}
-use Rattle.zarrs_document.specs.View.{document_view}
-use Rattle.zarrs_engine.specs.Engine.{layout_of, state_of}
-use Rattle.zarrs_script.specs.CellTypes.{kind_of}
+use Rattle.zarrs_document_v2.specs.View.{metadata_view}
+use Rattle.zarrs_data_type.specs.Same.{kind_eq-Decides}
+use Rattle.zarrs_steps.specs.declared.call.Reply.{Reply}
+use Rattle.zarrs_steps.specs.Step.{Run}
+use Rattle.zarrs_codec.specs.Options.{stores_empty_chunks}
+use Rattle.zarrs_layout.specs.Layouts.{layout_of_parts}
+use Rattle.zarrs.specs.Arrays.{layout_of_array, metadata_of_array, state_of_array}
+use Rattle.zarrs_script.specs.CellTypes.{kind_of_cells}
 use Rattle.zarrs_script.proofs.Printing.{puts_as}
-use Rattle.zarrs_script.proofs.Transcripts.{reply_said, call_served}
+use Rattle.zarrs_script.proofs.Transcripts.{one_reply, some_reply, reply_said, call_served}
 use Rattle.zarrs_script.proofs.run.serve.Goals as goal
+
+pub replay-requires : goal.replay-requires
+replay-requires g c call listed index reached long = record { key = refl; places = λ place. refl }
+
+pub unreachable-requires : goal.unreachable-requires
+unreachable-requires g c =
+    let old = c.args.array.now in
+    let replies = c.in_ok-replies.replies.items in
+    some_reply (layout_of_array old.array) (stores_empty_chunks c.default-options.result) c.args.call replies (state_of_array open_state old.array) (state_of_array open_state c.replay.new.self)
+    (omega (arith, c.in_default.ensures.cases.0)) c.in_ok-replies.ensures.run
 
 pub put_reply-requires : goal.put_reply-requires
 put_reply-requires g c =
     let old = c.args.array.now in
-    let typed = (kind_eq-Decides (layout_of old.engine).kind (kind_of old.cell_type)).0 old.typed in
-    reply_said old.cell_type (layout_of old.engine) _ c.args.call.now c.answer-reply.result (state_of open_state old.engine) (state_of open_state c.answer-reply.new.self) typed c.answer-reply.ensures.step
+    let keep = stores_empty_chunks c.default-options.result in
+    let before = state_of_array open_state old.array in
+    let after = state_of_array open_state c.replay.new.self in
+    let typed = (kind_eq-Decides (layout_of_array old.array).kind (kind_of_cells old.cell_type)).0 old.typed in
+    reply_said old.cell_type (layout_of_array old.array) keep c.args.call c.in-Some.reply before after typed
+    (one_reply (layout_of_array old.array) keep c.args.call c.pop.new.self.items c.in-Some.reply before after
+    (subst (λ (replies : List Reply). Run (layout_of_array old.array) keep (c.args.call ∷ []) replies before after) c.in-Some.ensures.items c.in_ok-replies.ensures.run))
 
 pub returns : goal.returns
 returns g c =
-    let told = c.answer-reply.ensures in
     let old = c.args.array.now in
+    let kept = c.replay.ensures.kept in
+    let keep = stores_empty_chunks c.default-options.result in
+    let before = state_of_array open_state old.array in
+    let after = state_of_array open_state c.replay.new.self in
     puts_as (g.W.Write.contents c.args.writer.now) _ c.args.out.now.items _
-    (call_served old.cell_type (layout_of old.engine) (layout_of c.answer-reply.new.self) (document_view old.metadata) _ c.args.call.now c.answer-reply.result (state_of open_state old.engine) (state_of open_state c.answer-reply.new.self) _ c.default.ensures.0 told.layout c.in_ok-refused.ensures.refused told.step)
+    (call_served old.cell_type (layout_of_array old.array) (layout_of_array c.replay.new.self) (metadata_of_array old.array) (metadata_of_array c.replay.new.self) keep c.args.call c.in-Some.reply before after _
+    c.default-options.ensures.0 (ap layout_of_parts kept.parts) (ap metadata_view kept.metadata) c.in_ok-refused.ensures.refused
+    (one_reply (layout_of_array old.array) keep c.args.call c.pop.new.self.items c.in-Some.reply before after
+    (subst (λ (replies : List Reply). Run (layout_of_array old.array) keep (c.args.call ∷ []) replies before after) c.in-Some.ensures.items c.in_ok-replies.ensures.run)))
     c.in_ok-refused.ensures.text
