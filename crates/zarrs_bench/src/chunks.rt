@@ -6,6 +6,7 @@ use std::collections::BTreeMap;
 use std::num::NonZeroU64;
 use std::time::Clock;
 use zarrs_bench_rows::measure::{Work, row};
+use zarrs_bench_rows::samples::touch;
 use zarrs_codec::CodecOptions;
 use zarrs_data_type::ArrayBytes;
 use zarrs_uses::make::{MemoryEngine, bytes_array};
@@ -33,9 +34,7 @@ struct Store {
 impl Work for Store {
     fn run(&mut self, alloc: Global, turn: u8) -> Result<u8> {
         let options = CodecOptions::default();
-        if let Some(first) = self.cells.first_mut() {
-            *first = turn;
-        }
+        touch(&mut self.cells, turn);
         for number in 0..self.calls {
             let chunk_data = ArrayBytes::from_flen(&self.cells);
             let chunk_indices = [number % CHUNKS];
@@ -65,9 +64,7 @@ struct PlainStore {
 
 impl Work for PlainStore {
     fn run(&mut self, alloc: Global, turn: u8) -> Result<u8> {
-        if let Some(first) = self.cells.first_mut() {
-            *first = turn;
-        }
+        touch(&mut self.cells, turn);
         for number in 0..self.calls {
             if self.cells.iter().any(|cell| *cell != 0) {
                 let key = key_of(alloc, number % CHUNKS)?;

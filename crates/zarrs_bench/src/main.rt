@@ -7,7 +7,7 @@ mod scripts;
 
 use anyhow::Result;
 use std::env;
-use zarrs_bench_rows::{copies, fills, measure, walks};
+use zarrs_bench_rows::{codecs, conversions, copies, fills, measure, parts, walks};
 
 fn main(rt: HostRuntime) -> Result<()> {
     match env::args(&rt)?.nth(1) {
@@ -22,7 +22,10 @@ fn run(rt: &HostRuntime) -> Result<()> {
     measure::heading(rt)?;
     fills::print_rows(rt)?;
     copies::print_rows(rt)?;
+    conversions::print_rows(rt)?;
+    parts::print_rows(rt)?;
     walks::print_rows(rt)?;
+    codecs::print_rows(rt)?;
     chunks::print_rows(rt)?;
     regions::print_rows(rt)?;
     scripts::print_rows(rt)

@@ -5,6 +5,7 @@ use std::alloc::Global;
 use std::num::NonZeroU64;
 use std::time::Clock;
 use zarrs_bench_rows::measure::{Work, row};
+use zarrs_bench_rows::samples::{bytes_of, tested, touch};
 use zarrs_codec::CodecOptions;
 use zarrs_data_type::ArrayBytes;
 use zarrs_storage::{Bytes, MemoryStore, ReadableStorageTraits, StoreKey, WritableStorageTraits};
@@ -90,22 +91,6 @@ fn chunk_of(row: u64, column: u64) -> Region {
     region_of([0, ROWS], [0, COLUMNS]).within(row, column)
 }
 
-/// So many bytes, of which each chunk has some that are not 0.
-fn bytes_of(alloc: Global, len: usize) -> Result<Vec<u8>> {
-    let mut bytes = vec![in alloc; 1; len]?;
-    for (place, byte) in bytes.iter_mut().enumerate() {
-        *byte = (place % 251) as u8;
-    }
-    Ok(bytes)
-}
-
-/// Three bytes of these.
-fn tested(bytes: &[u8]) -> u8 {
-    let first = bytes.first().copied().unwrap_or(0);
-    let middle = bytes.get(bytes.len() / 2).copied().unwrap_or(0);
-    first ^ middle ^ bytes.last().copied().unwrap_or(0)
-}
-
 /// `Engine::store_array_subset`.
 #[derive(Drop)]
 struct Store {
@@ -116,9 +101,7 @@ struct Store {
 
 impl Work for Store {
     fn run(&mut self, alloc: Global, turn: u8) -> Result<u8> {
-        if let Some(first) = self.cells.first_mut() {
-            *first = turn;
-        }
+        touch(&mut self.cells, turn);
         let options = CodecOptions::default();
         let data = ArrayBytes::from_flen(&self.cells);
         self.engine
@@ -241,9 +224,7 @@ impl PlainStore {
 
 impl Work for PlainStore {
     fn run(&mut self, alloc: Global, turn: u8) -> Result<u8> {
-        if let Some(first) = self.cells.first_mut() {
-            *first = turn;
-        }
+        touch(&mut self.cells, turn);
         let Region { rows, columns } = self.region;
         for row in rows.start / EXTENT..rows.end.div_ceil(EXTENT) {
             for column in columns.start / EXTENT..columns.end.div_ceil(EXTENT) {

@@ -158,11 +158,12 @@ pub fn print_rows<R: Clock + Print + Alloc<A = Global>>(rt: &R) -> Result<()> {
         (4, "fill of 131,072 cells of 4 bytes"),
         (8, "fill of 131,072 cells of 8 bytes"),
     ] {
+        let len = width * BYTES / 8;
         row(
             rt,
             alloc,
             name,
-            width * BYTES / 8,
+            len,
             &mut Fill(width),
             &mut PlainFill(width),
         )?;
@@ -177,23 +178,11 @@ fn tests(rt: &(impl Clock + Print), alloc: Global) -> Result<()> {
         fill_value: FillValue::new(vec![in alloc; 1; 4]?),
         cells: vec![in alloc; 1; BYTES]?,
     };
-    let mut plain_all_fill = PlainAllFill(vec![in alloc; 1; BYTES]?);
-    row(
-        rt,
-        alloc,
-        "all-fill test of 1 MiB",
-        BYTES,
-        &mut all_fill,
-        &mut plain_all_fill,
-    )?;
+    let mut plain = PlainAllFill(vec![in alloc; 1; BYTES]?);
+    let name = "all-fill test of 1 MiB";
+    row(rt, alloc, name, BYTES, &mut all_fill, &mut plain)?;
     let mut bools = Bools(vec![in alloc; 1; BYTES]?);
-    let mut plain_bools = PlainBools(vec![in alloc; 1; BYTES]?);
-    row(
-        rt,
-        alloc,
-        "test of 1 MiB of bools",
-        BYTES,
-        &mut bools,
-        &mut plain_bools,
-    )
+    let mut plain = PlainBools(vec![in alloc; 1; BYTES]?);
+    let name = "test of 1 MiB of bools";
+    row(rt, alloc, name, BYTES, &mut bools, &mut plain)
 }

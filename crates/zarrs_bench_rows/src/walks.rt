@@ -14,14 +14,14 @@ fn mixed(seen: u64, number: u64) -> u64 {
     seen.rotate_left(1) ^ number
 }
 
-/// `ArraySubset::indices` over a box of 100 x 100 x 100 positions.
+/// `ArraySubset::indices` over a box of 1000 x 100 x 100 positions.
 #[derive(Drop)]
 struct Positions;
 
 impl Work for Positions {
     fn run(&mut self, alloc: Global, turn: u8) -> Result<u8> {
         let first = u64::from(turn);
-        let ranges = [first..first + 100, 0..100, 0..100];
+        let ranges = [first..first + 1000, 0..100, 0..100];
         let subset = ArraySubset::new_with_ranges(alloc, &ranges)?;
         let mut seen = 0;
         for position in subset.indices(alloc) {
@@ -40,13 +40,13 @@ struct LentPositions;
 impl Work for LentPositions {
     fn run(&mut self, alloc: Global, turn: u8) -> Result<u8> {
         let first = u64::from(turn);
-        let ranges = [first..first + 100, 0..100, 0..100];
+        let ranges = [first..first + 1000, 0..100, 0..100];
         let subset = ArraySubset::new_with_ranges(alloc, &ranges)?;
         let Some(mut walk) = subset.walk(alloc)? else {
             return Err(anyhow!("no position"));
         };
         let mut seen = 0;
-        for _ in 0..1_000_000 {
+        for _ in 0..10_000_000 {
             if let [i, j, k] = *walk.current() {
                 seen = mixed(mixed(mixed(seen, i), j), k);
             }
@@ -66,7 +66,7 @@ impl Work for PlainPositions {
     fn run(&mut self, _alloc: Global, turn: u8) -> Result<u8> {
         let first = u64::from(turn);
         let mut seen = 0;
-        for i in first..first + 100 {
+        for i in first..first + 1000 {
             for j in 0..100 {
                 for k in 0..100 {
                     seen = mixed(mixed(mixed(seen, i), j), k);
@@ -220,49 +220,19 @@ impl Work for PlainKeys {
 /// The clock or the output fails, or out of memory.
 pub fn print_rows<R: Clock + Print + Alloc<A = Global>>(rt: &R) -> Result<()> {
     let alloc = rt.alloc();
+    let name = "indices over 10,000,000 positions";
+    row(rt, alloc, name, 0, &mut Positions, &mut PlainPositions)?;
+    let name = "walk over 10,000,000 positions";
+    row(rt, alloc, name, 0, &mut LentPositions, &mut PlainPositions)?;
     let tens = vec![in alloc; 10; 3]?;
-    row(
-        rt,
-        alloc,
-        "indices over 1,000,000 positions",
-        0,
-        &mut Positions,
-        &mut PlainPositions,
-    )?;
-    row(
-        rt,
-        alloc,
-        "walk over 1,000,000 positions",
-        0,
-        &mut LentPositions,
-        &mut PlainPositions,
-    )?;
     let mut queries = Queries(thousands(alloc)?);
-    let mut plain_queries = PlainQueries(tens.clone()?);
-    row(
-        rt,
-        alloc,
-        "100,000 grid queries of 3 dimensions",
-        0,
-        &mut queries,
-        &mut plain_queries,
-    )?;
+    let mut plain = PlainQueries(tens.clone()?);
+    let name = "100,000 grid queries of 3 dimensions";
+    row(rt, alloc, name, 0, &mut queries, &mut plain)?;
     let mut boxes = Boxes(thousands(alloc)?);
-    row(
-        rt,
-        alloc,
-        "100,000 chunk boxes of 3 dimensions",
-        0,
-        &mut boxes,
-        &mut PlainBoxes(tens),
-    )?;
+    let name = "100,000 chunk boxes of 3 dimensions";
+    row(rt, alloc, name, 0, &mut boxes, &mut PlainBoxes(tens))?;
     let mut keys = Keys(ChunkKeyEncoding::Default(ChunkKeySeparator::Slash));
-    row(
-        rt,
-        alloc,
-        "100,000 keys of 3 dimensions",
-        0,
-        &mut keys,
-        &mut PlainKeys,
-    )
+    let name = "100,000 keys of 3 dimensions";
+    row(rt, alloc, name, 0, &mut keys, &mut PlainKeys)
 }

@@ -1,0 +1,143 @@
+//! Parts of arrays in memory: cells of a box extracted, and cells put in.
+use crate::measure::{Work, row};
+use crate::samples::{bytes_of, tested, touch};
+use anyhow::{Result, anyhow};
+use std::alloc::Global;
+use std::time::Clock;
+use zarrs_data_type::{ArrayBytes, DataType, lies_in_box};
+use zarrs_subset::ArraySubset;
+
+/// The extent of the array in both dimensions: 1 MiB of cells of one byte.
+const EXTENT: u64 = 1024;
+
+/// How many bytes the array has.
+const LEN: usize = 1024 * 1024;
+
+/// How many of them are not at its edge.
+const INNER_LEN: usize = 1022 * 1022;
+
+/// The array, and all of it but the cells at its edge.
+#[derive(Drop)]
+struct Boxes {
+    whole: ArraySubset,
+    inner: ArraySubset,
+}
+
+/// The two boxes.
+fn make_boxes(alloc: Global) -> Result<Boxes> {
+    Ok(Boxes {
+        whole: ArraySubset::new_with_ranges(alloc, &[0..EXTENT, 0..EXTENT])?,
+        inner: ArraySubset::new_with_ranges(alloc, &[1..EXTENT - 1, 1..EXTENT - 1])?,
+    })
+}
+
+/// `ArrayBytes::extract_array_subset`.
+#[derive(Drop)]
+struct Extract {
+    boxes: Boxes,
+    cells: Vec<u8>,
+}
+
+impl Work for Extract {
+    fn run(&mut self, alloc: Global, turn: u8) -> Result<u8> {
+        touch(&mut self.cells, turn);
+        let Boxes { whole, inner } = &self.boxes;
+        let data = ArrayBytes::from_flen(&self.cells);
+        if !data.validate(&DataType::UInt8, whole.num_elements()?) || !lies_in_box(inner, whole) {
+            return Err(anyhow!("no cells"));
+        }
+        let made = data.extract_array_subset(alloc, &DataType::UInt8, whole, inner)?;
+        Ok(tested(made.into_fixed()?.as_slice()))
+    }
+}
+
+/// A copy of the inner cells of each row but the first and the last.
+#[derive(Drop)]
+struct PlainExtract(Vec<u8>);
+
+impl Work for PlainExtract {
+    fn run(&mut self, alloc: Global, turn: u8) -> Result<u8> {
+        touch(&mut self.0, turn);
+        let extent = EXTENT as usize;
+        let mut made = Vec::with_capacity(alloc, (extent - 2) * (extent - 2))?;
+        for row in self.0.chunks(extent).skip(1).take(extent - 2) {
+            made.extend_from_slice(row.get(1..extent - 1).unwrap_or(row))?;
+        }
+        Ok(tested(&made))
+    }
+}
+
+/// `ArrayBytes::with_part`, of cells that are copied before.
+#[derive(Drop)]
+struct Update {
+    boxes: Boxes,
+    cells: Vec<u8>,
+    part: Vec<u8>,
+}
+
+impl Work for Update {
+    fn run(&mut self, alloc: Global, turn: u8) -> Result<u8> {
+        touch(&mut self.part, turn);
+        let Boxes { whole, inner } = &self.boxes;
+        let held = ArrayBytes::new_flen(self.cells.to_vec(alloc)?);
+        let part = ArrayBytes::from_flen(&self.part);
+        if whole.dimensionality() != inner.dimensionality()
+            || !held.validate(&DataType::UInt8, whole.num_elements()?)
+            || !part.validate(&DataType::UInt8, inner.num_elements()?)
+        {
+            return Err(anyhow!("no cells"));
+        }
+        let made = held.with_part(alloc, &DataType::UInt8, whole, &part, inner)?;
+        Ok(tested(made.into_fixed()?.as_slice()))
+    }
+}
+
+/// The same copy, and the rows of the part put in.
+#[derive(Drop)]
+struct PlainUpdate {
+    cells: Vec<u8>,
+    part: Vec<u8>,
+}
+
+impl Work for PlainUpdate {
+    fn run(&mut self, alloc: Global, turn: u8) -> Result<u8> {
+        touch(&mut self.part, turn);
+        let extent = EXTENT as usize;
+        let mut made = self.cells.to_vec(alloc)?;
+        let rows = made.chunks_mut(extent).skip(1);
+        for (row, from) in rows.zip(self.part.chunks(extent - 2)) {
+            if let Some(to) = row.get_mut(1..extent - 1) {
+                if to.len() == from.len() {
+                    to.copy_from_slice(from);
+                }
+            }
+        }
+        Ok(tested(&made))
+    }
+}
+
+/// The rows of this file.
+///
+/// # Errors
+/// The clock or the output fails, or out of memory.
+pub fn print_rows<R: Clock + Print + Alloc<A = Global>>(rt: &R) -> Result<()> {
+    let alloc = rt.alloc();
+    let mut extract = Extract {
+        boxes: make_boxes(alloc)?,
+        cells: bytes_of(alloc, LEN)?,
+    };
+    let mut plain = PlainExtract(bytes_of(alloc, LEN)?);
+    let name = "extract all of 1 MiB but the cells at its edge";
+    row(rt, alloc, name, LEN, &mut extract, &mut plain)?;
+    let mut update = Update {
+        boxes: make_boxes(alloc)?,
+        cells: bytes_of(alloc, LEN)?,
+        part: bytes_of(alloc, INNER_LEN)?,
+    };
+    let mut plain = PlainUpdate {
+        cells: bytes_of(alloc, LEN)?,
+        part: bytes_of(alloc, INNER_LEN)?,
+    };
+    let name = "copy 1 MiB, and put all but the cells at its edge";
+    row(rt, alloc, name, LEN, &mut update, &mut plain)
+}
