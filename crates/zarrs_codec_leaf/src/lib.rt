@@ -4,7 +4,6 @@
 mod bytes;
 mod error;
 mod packbits;
-mod reversed;
 mod vlen;
 mod vlen_strings;
 

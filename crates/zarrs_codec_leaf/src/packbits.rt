@@ -1,5 +1,5 @@
 //! The codec `packbits`.
-ghost use Rattle.std.specs.Prelude.{◌≡◌, ◌<◌, ◌^◌, All, Some, IfOk, IfErr, IsSome, length, map};
+ghost use Rattle.std.specs.Prelude.{◌≡◌, ◌<◌, ◌^◌, All, Some, IfOk, IfErr, IsSome, length};
 ghost use Rattle.zarrs_data_type.specs.ArrayData.{data_of};
 ghost use Rattle.zarrs_data_type.specs.Cells.{cells};
 ghost use Rattle.zarrs_data_type.specs.Kind.{kind};
@@ -11,6 +11,7 @@ ghost use Rattle.zarrs_codec_leaf.specs.Leaf.{encoding_of};
 use crate::error::CodecError;
 use std::alloc::{AllocError, Global};
 use zarrs_data_type::{ArrayBytes, DataType};
+use zarrs_numbers::{Writing, written};
 
 /// Bools, eight to a byte, the first in the lowest bit. The bits behind the last bool are 0.
 #[derive(Clone, Copy, Debug, Default, Drop, PartialEq, Eq)]
@@ -78,12 +79,13 @@ impl PackBitsCodec {
         if encoded.len() as u64 != count.div_ceil(8) {
             return Err(CodecError::DoesNotFit);
         }
-        let cells = unpacked(alloc, encoded)?;
-        let (flags, padding) = cells.as_slice().as_flattened().split_at(count as usize);
+        let mut flags = written::<Bits, u8, 8>(alloc, encoded)?;
+        let (_, padding) = flags.as_slice().split_at(count as usize);
         if !are_zero(padding) {
             return Err(CodecError::DoesNotFit);
         }
-        Ok(ArrayBytes::new_flen(Vec::from_slice(alloc, flags)?))
+        flags.truncate(count as usize);
+        Ok(ArrayBytes::new_flen(flags))
     }
 }
 
@@ -126,31 +128,25 @@ fn packed_byte(flags: &[u8]) -> u8
     }
 }
 
-/// The bits of the bytes, eight by eight.
-fn unpacked(alloc: Global, bytes: &[u8]) -> Result<Vec<[u8; 8]>, AllocError>
-    ensures { IfOk result (λ made. made.items ≡ map byte_bits bytes.now) }
-{
-    let mut cells = Vec::with_capacity(alloc, bytes.len())?;
-    for byte in bytes {
-        cells.push_reserved(bits_of(*byte));
-    }
-    Ok(cells)
-}
-
 /// The bits of a byte, the lowest first.
-fn bits_of(byte: u8) -> [u8; 8]
-    ensures { result ≡ byte_bits byte }
-{
-    [
-        byte % 2,
-        byte / 2 % 2,
-        byte / 4 % 2,
-        byte / 8 % 2,
-        byte / 16 % 2,
-        byte / 32 % 2,
-        byte / 64 % 2,
-        byte / 128 % 2,
-    ]
+struct Bits;
+
+impl Writing<u8, 8> for Bits {
+    ghost written = { byte_bits };
+
+    fn write(byte: &u8) -> [u8; 8] {
+        let byte = *byte;
+        [
+            byte % 2,
+            byte / 2 % 2,
+            byte / 4 % 2,
+            byte / 8 % 2,
+            byte / 16 % 2,
+            byte / 32 % 2,
+            byte / 64 % 2,
+            byte / 128 % 2,
+        ]
+    }
 }
 
 fn are_zero(bits: &[u8]) -> bool

@@ -103,7 +103,8 @@ fn indexed(
     alloc: Global,
     strings: &ArrayBytesVariableLength<'_>,
 ) -> Result<Option<Vec<u8>>, AllocError>
-    ensures { IfOk result (λ made. option_map (λ encoded. encoded.items) made ≡ indexed strings.now) }
+    ensures { IfOk result (λ made. option_map (λ encoded. encoded.items) made
+        ≡ indexed strings.now) }
 {
     let offsets = strings.offsets().as_slice();
     let bytes = strings.bytes();

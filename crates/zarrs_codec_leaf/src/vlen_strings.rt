@@ -125,7 +125,8 @@ impl VlenBytesCodec {
         data_type: &DataType,
     ) -> Result<Vec<u8>, CodecError>
         requires { IsSome (cells (kind data_type.now) (data_of bytes.now)) }
-        ensures encoded { IfOk result (λ encoded. encoding_of vlen_bytes_meaning (kind data_type.now)
+        ensures encoded { IfOk result
+            (λ encoded. encoding_of vlen_bytes_meaning (kind data_type.now)
             (data_of bytes.now) ≡ Some encoded.items) }
         ensures refused { IfErr result (RefusesEncoding vlen_bytes_meaning (kind data_type.now)
             (data_of bytes.now)) }
@@ -161,8 +162,8 @@ impl VlenBytesCodec {
         ensures cells { IfOk result (λ made. cells (kind data_type.now) (data_of made)
             ≡ vlen_bytes_meaning.decoded (kind data_type.now) count encoded.now) }
         ensures some { IfOk result (λ made. IsSome (cells (kind data_type.now) (data_of made))) }
-        ensures refused { IfErr result (RefusesDecoding vlen_bytes_meaning (kind data_type.now) count
-            encoded.now) }
+        ensures refused { IfErr result (RefusesDecoding vlen_bytes_meaning (kind data_type.now)
+            count encoded.now) }
     {
         if !self.takes(data_type) {
             return Err(CodecError::DoesNotFit);

@@ -74,13 +74,14 @@ pub trait ElementOwned: Element {
     fn from_array_bytes(
         alloc: Global,
         data_type: &DataType,
-        data: &ArrayBytes<'_>,
+        array_bytes: &ArrayBytes<'_>,
     ) -> Result<Vec<Self>, ElementError>
-        ensures cells { IfOk result (λ elements. cells (kind data_type.now) (data_of «data».now)
+        ensures cells { IfOk result
+            (λ elements. cells (kind data_type.now) (data_of array_bytes.now)
             ≡ Some (map Self.cell elements.items)) }
         ensures served { OnOk result (Self.serves (kind data_type.now) ≡ true) }
         ensures refused { IfErr result (RefusesCells (Self.serves (kind data_type.now)) (cells
-            (kind data_type.now) (data_of «data».now))) };
+            (kind data_type.now) (data_of array_bytes.now))) };
 }
 
 impl Element for u8 {
@@ -117,12 +118,12 @@ impl ElementOwned for u8 {
     fn from_array_bytes(
         alloc: Global,
         data_type: &DataType,
-        data: &ArrayBytes<'_>,
+        array_bytes: &ArrayBytes<'_>,
     ) -> Result<Vec<u8>, ElementError> {
         if !<u8 as Element>::serves(data_type) {
             return Err(ElementError::IncompatibleElementType);
         }
-        number_list(alloc, data_type, data)
+        number_list(alloc, data_type, array_bytes)
     }
 }
 
@@ -160,12 +161,12 @@ impl ElementOwned for u16 {
     fn from_array_bytes(
         alloc: Global,
         data_type: &DataType,
-        data: &ArrayBytes<'_>,
+        array_bytes: &ArrayBytes<'_>,
     ) -> Result<Vec<u16>, ElementError> {
         if !<u16 as Element>::serves(data_type) {
             return Err(ElementError::IncompatibleElementType);
         }
-        number_list(alloc, data_type, data)
+        number_list(alloc, data_type, array_bytes)
     }
 }
 
@@ -203,12 +204,12 @@ impl ElementOwned for u32 {
     fn from_array_bytes(
         alloc: Global,
         data_type: &DataType,
-        data: &ArrayBytes<'_>,
+        array_bytes: &ArrayBytes<'_>,
     ) -> Result<Vec<u32>, ElementError> {
         if !<u32 as Element>::serves(data_type) {
             return Err(ElementError::IncompatibleElementType);
         }
-        number_list(alloc, data_type, data)
+        number_list(alloc, data_type, array_bytes)
     }
 }
 
@@ -246,12 +247,12 @@ impl ElementOwned for u64 {
     fn from_array_bytes(
         alloc: Global,
         data_type: &DataType,
-        data: &ArrayBytes<'_>,
+        array_bytes: &ArrayBytes<'_>,
     ) -> Result<Vec<u64>, ElementError> {
         if !<u64 as Element>::serves(data_type) {
             return Err(ElementError::IncompatibleElementType);
         }
-        number_list(alloc, data_type, data)
+        number_list(alloc, data_type, array_bytes)
     }
 }
 
@@ -289,12 +290,12 @@ impl ElementOwned for i8 {
     fn from_array_bytes(
         alloc: Global,
         data_type: &DataType,
-        data: &ArrayBytes<'_>,
+        array_bytes: &ArrayBytes<'_>,
     ) -> Result<Vec<i8>, ElementError> {
         if !<i8 as Element>::serves(data_type) {
             return Err(ElementError::IncompatibleElementType);
         }
-        number_list(alloc, data_type, data)
+        number_list(alloc, data_type, array_bytes)
     }
 }
 
@@ -332,12 +333,12 @@ impl ElementOwned for i16 {
     fn from_array_bytes(
         alloc: Global,
         data_type: &DataType,
-        data: &ArrayBytes<'_>,
+        array_bytes: &ArrayBytes<'_>,
     ) -> Result<Vec<i16>, ElementError> {
         if !<i16 as Element>::serves(data_type) {
             return Err(ElementError::IncompatibleElementType);
         }
-        number_list(alloc, data_type, data)
+        number_list(alloc, data_type, array_bytes)
     }
 }
 
@@ -375,12 +376,12 @@ impl ElementOwned for i32 {
     fn from_array_bytes(
         alloc: Global,
         data_type: &DataType,
-        data: &ArrayBytes<'_>,
+        array_bytes: &ArrayBytes<'_>,
     ) -> Result<Vec<i32>, ElementError> {
         if !<i32 as Element>::serves(data_type) {
             return Err(ElementError::IncompatibleElementType);
         }
-        number_list(alloc, data_type, data)
+        number_list(alloc, data_type, array_bytes)
     }
 }
 
@@ -418,11 +419,11 @@ impl ElementOwned for i64 {
     fn from_array_bytes(
         alloc: Global,
         data_type: &DataType,
-        data: &ArrayBytes<'_>,
+        array_bytes: &ArrayBytes<'_>,
     ) -> Result<Vec<i64>, ElementError> {
         if !<i64 as Element>::serves(data_type) {
             return Err(ElementError::IncompatibleElementType);
         }
-        number_list(alloc, data_type, data)
+        number_list(alloc, data_type, array_bytes)
     }
 }

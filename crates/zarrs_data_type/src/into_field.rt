@@ -149,7 +149,8 @@ impl IntoField<Option<String>> for String {
 }
 
 impl IntoField<Option<String>> for Option<&str> {
-    ghost gives = { λ name field. option_map string_bytes field ≡ option_map (λ text. text.now) name };
+    ghost gives = { λ name field. option_map string_bytes field ≡ option_map (λ text. text.now)
+        name };
 
     fn into_field(self, alloc: Global) -> Result<Option<String>, AllocError> {
         match self {

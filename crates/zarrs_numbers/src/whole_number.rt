@@ -3,7 +3,8 @@ ghost use Rattle.std.specs.Prelude.{◌≡◌, ℕ, ◌%◌, List, [], ◌∷◌
 ghost use Rattle.std.specs.Int.{w8, w16, w32, w64, cast_unsigned, to_le_bytes};
 ghost use Rattle.std.specs.List.{flat_map};
 
-use crate::little_endian::{from_bytes, to_bytes};
+use crate::little_endian::from_bytes;
+use crate::writing::written;
 use std::alloc::{AllocError, Global};
 
 /// A whole number of 8 to 64 bits. Its bytes are little endian.
@@ -41,7 +42,7 @@ impl WholeNumber for u8 {
     ghost sized = { λ number. refl };
 
     fn to_bytes(alloc: Global, numbers: &[u8]) -> Result<Vec<u8>, AllocError> {
-        to_bytes::<u8, 1>(alloc, numbers)
+        written::<u8, u8, 1>(alloc, numbers)
     }
 
     fn from_bytes(alloc: Global, bytes: &[u8]) -> Result<Vec<u8>, AllocError> {
@@ -57,7 +58,7 @@ impl WholeNumber for u16 {
     ghost sized = { λ number. refl };
 
     fn to_bytes(alloc: Global, numbers: &[u16]) -> Result<Vec<u8>, AllocError> {
-        to_bytes::<u16, 2>(alloc, numbers)
+        written::<u16, u16, 2>(alloc, numbers)
     }
 
     fn from_bytes(alloc: Global, bytes: &[u8]) -> Result<Vec<u16>, AllocError> {
@@ -73,7 +74,7 @@ impl WholeNumber for u32 {
     ghost sized = { λ number. refl };
 
     fn to_bytes(alloc: Global, numbers: &[u32]) -> Result<Vec<u8>, AllocError> {
-        to_bytes::<u32, 4>(alloc, numbers)
+        written::<u32, u32, 4>(alloc, numbers)
     }
 
     fn from_bytes(alloc: Global, bytes: &[u8]) -> Result<Vec<u32>, AllocError> {
@@ -89,7 +90,7 @@ impl WholeNumber for u64 {
     ghost sized = { λ number. refl };
 
     fn to_bytes(alloc: Global, numbers: &[u64]) -> Result<Vec<u8>, AllocError> {
-        to_bytes::<u64, 8>(alloc, numbers)
+        written::<u64, u64, 8>(alloc, numbers)
     }
 
     fn from_bytes(alloc: Global, bytes: &[u8]) -> Result<Vec<u64>, AllocError> {
@@ -105,7 +106,7 @@ impl WholeNumber for i8 {
     ghost sized = { λ number. refl };
 
     fn to_bytes(alloc: Global, numbers: &[i8]) -> Result<Vec<u8>, AllocError> {
-        to_bytes::<i8, 1>(alloc, numbers)
+        written::<i8, i8, 1>(alloc, numbers)
     }
 
     fn from_bytes(alloc: Global, bytes: &[u8]) -> Result<Vec<i8>, AllocError> {
@@ -121,7 +122,7 @@ impl WholeNumber for i16 {
     ghost sized = { λ number. refl };
 
     fn to_bytes(alloc: Global, numbers: &[i16]) -> Result<Vec<u8>, AllocError> {
-        to_bytes::<i16, 2>(alloc, numbers)
+        written::<i16, i16, 2>(alloc, numbers)
     }
 
     fn from_bytes(alloc: Global, bytes: &[u8]) -> Result<Vec<i16>, AllocError> {
@@ -137,7 +138,7 @@ impl WholeNumber for i32 {
     ghost sized = { λ number. refl };
 
     fn to_bytes(alloc: Global, numbers: &[i32]) -> Result<Vec<u8>, AllocError> {
-        to_bytes::<i32, 4>(alloc, numbers)
+        written::<i32, i32, 4>(alloc, numbers)
     }
 
     fn from_bytes(alloc: Global, bytes: &[u8]) -> Result<Vec<i32>, AllocError> {
@@ -153,7 +154,7 @@ impl WholeNumber for i64 {
     ghost sized = { λ number. refl };
 
     fn to_bytes(alloc: Global, numbers: &[i64]) -> Result<Vec<u8>, AllocError> {
-        to_bytes::<i64, 8>(alloc, numbers)
+        written::<i64, i64, 8>(alloc, numbers)
     }
 
     fn from_bytes(alloc: Global, bytes: &[u8]) -> Result<Vec<i64>, AllocError> {

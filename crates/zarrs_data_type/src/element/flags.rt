@@ -75,12 +75,12 @@ impl ElementOwned for bool {
     fn from_array_bytes(
         alloc: Global,
         data_type: &DataType,
-        data: &ArrayBytes<'_>,
+        array_bytes: &ArrayBytes<'_>,
     ) -> Result<Vec<bool>, ElementError> {
         if !<bool as Element>::serves(data_type) {
             return Err(ElementError::IncompatibleElementType);
         }
-        let ArrayBytes::Fixed(bytes) = data else {
+        let ArrayBytes::Fixed(bytes) = array_bytes else {
             return Err(ElementError::IncompatibleElementType);
         };
         match flags_of(alloc, bytes.as_slice())? {

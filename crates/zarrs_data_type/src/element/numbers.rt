@@ -31,17 +31,17 @@ pub(super) fn number_data<T: WholeNumber>(
 pub(super) fn number_list<T: WholeNumber>(
     alloc: Global,
     data_type: &DataType,
-    data: &ArrayBytes<'_>,
+    array_bytes: &ArrayBytes<'_>,
 ) -> Result<Vec<T>, ElementError>
     requires size { element_size (kind data_type.now) ≡ Some T.size }
     requires any { takes_any_bytes (kind data_type.now) ≡ true }
-    ensures cells { IfOk result (λ numbers. cells (kind data_type.now) (data_of «data».now)
+    ensures cells { IfOk result (λ numbers. cells (kind data_type.now) (data_of array_bytes.now)
         ≡ Some (map (λ x. bytes (T.le_bytes x)) numbers.items)) }
     ensures refused { IfErr result (RefusesCells true (cells (kind data_type.now)
-        (data_of «data».now))) }
+        (data_of array_bytes.now))) }
 {
     let size = data_type.element_size().unwrap();
-    match data {
+    match array_bytes {
         ArrayBytes::Fixed(bytes) if bytes.as_slice().len() % size == 0 => {
             Ok(T::from_bytes(alloc, bytes.as_slice())?)
         }

@@ -114,16 +114,16 @@ impl<T: ElementOwned> ElementOwned for Option<T> {
     fn from_array_bytes(
         alloc: Global,
         data_type: &DataType,
-        data: &ArrayBytes<'_>,
+        array_bytes: &ArrayBytes<'_>,
     ) -> Result<Vec<Option<T>>, ElementError> {
         let Some(inner) = data_type.optional_inner() else {
             return Err(ElementError::IncompatibleElementType);
         };
-        let ArrayBytes::Optional(optional) = data else {
+        let ArrayBytes::Optional(optional) = array_bytes else {
             return Err(ElementError::IncompatibleElementType);
         };
         let mask = optional.mask();
-        if !data.validate(data_type, mask.len() as u64) {
+        if !array_bytes.validate(data_type, mask.len() as u64) {
             return Err(ElementError::IncompatibleElementType);
         }
         let present = optional.present(alloc, inner)?;

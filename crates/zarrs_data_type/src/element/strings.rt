@@ -146,12 +146,12 @@ impl ElementOwned for String {
     fn from_array_bytes(
         alloc: Global,
         data_type: &DataType,
-        data: &ArrayBytes<'_>,
+        array_bytes: &ArrayBytes<'_>,
     ) -> Result<Vec<String>, ElementError> {
         if !<String as Element>::serves(data_type) {
             return Err(ElementError::IncompatibleElementType);
         }
-        let ArrayBytes::Variable(strings) = data else {
+        let ArrayBytes::Variable(strings) = array_bytes else {
             return Err(ElementError::IncompatibleElementType);
         };
         match texts_of(alloc, strings)? {
@@ -232,12 +232,12 @@ impl ElementOwned for Vec<u8> {
     fn from_array_bytes(
         alloc: Global,
         data_type: &DataType,
-        data: &ArrayBytes<'_>,
+        array_bytes: &ArrayBytes<'_>,
     ) -> Result<Vec<Vec<u8>>, ElementError> {
         if !<Vec<u8> as Element>::serves(data_type) {
             return Err(ElementError::IncompatibleElementType);
         }
-        let ArrayBytes::Variable(strings) = data else {
+        let ArrayBytes::Variable(strings) = array_bytes else {
             return Err(ElementError::IncompatibleElementType);
         };
         Ok(lists_of(alloc, strings)?)
