@@ -98,7 +98,8 @@ fn rename(
     main_name: Option<&'static str>,
 ) -> Result<(), AllocError>
     ensures { OnOk result (extension_view metadata.new ≡ record (extension_view metadata.old) {
-      name = unwrap_or (option_map (λ main. main.now) main_name.entry) (extension_view metadata.old).name;
+      name = unwrap_or (option_map (λ main. main.now) main_name.entry)
+          (extension_view metadata.old).name;
     }) }
 {
     if let Some(main_name) = main_name {

@@ -67,7 +67,7 @@ impl Work for PlainExtract {
     }
 }
 
-/// `ArrayBytes::with_part`, of cells that are copied before.
+/// `ArrayBytes::update_array_bytes`, of cells that are copied before.
 #[derive(Drop)]
 struct Update {
     boxes: Boxes,
@@ -87,7 +87,7 @@ impl Work for Update {
         {
             return Err(anyhow!("no cells"));
         }
-        let made = held.with_part(alloc, &DataType::UInt8, whole, &part, inner)?;
+        let made = held.update_array_bytes(alloc, &DataType::UInt8, whole, &part, inner)?;
         Ok(tested(made.into_fixed()?.as_slice()))
     }
 }

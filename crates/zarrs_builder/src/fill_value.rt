@@ -223,7 +223,8 @@ impl IntoField<ArrayBuilderFillValue> for i64 {
 }
 
 impl<T: FillNumber> IntoField<ArrayBuilderFillValue> for Vec<T> {
-    ghost gives = { λ numbers field. fill_given field ≡ by_metadata (list_data T.json numbers.items) };
+    ghost gives = { λ numbers field. fill_given field
+        ≡ by_metadata (list_data T.json numbers.items) };
 
     fn into_field(self, alloc: Global) -> Result<ArrayBuilderFillValue, AllocError> {
         Ok(ArrayBuilderFillValue::of_value(list_value(alloc, &self)?))
@@ -231,7 +232,8 @@ impl<T: FillNumber> IntoField<ArrayBuilderFillValue> for Vec<T> {
 }
 
 impl<T: FillNumber> IntoField<ArrayBuilderFillValue> for &[T] {
-    ghost gives = { λ numbers field. fill_given field ≡ by_metadata (list_data T.json numbers.now) };
+    ghost gives = { λ numbers field. fill_given field
+        ≡ by_metadata (list_data T.json numbers.now) };
 
     fn into_field(self, alloc: Global) -> Result<ArrayBuilderFillValue, AllocError> {
         Ok(ArrayBuilderFillValue::of_value(list_value(alloc, self)?))

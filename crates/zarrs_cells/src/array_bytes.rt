@@ -168,18 +168,18 @@ impl<'a> ArrayBytesOptional<'a> {
     /// # Errors
     /// `ExpectedOptionalBytesError`: a byte of the mask is above 1.
     pub fn new(
-        data: Box<ArrayBytes<'a>>,
+        inner: Box<ArrayBytes<'a>>,
         mask: CowSlice<'a, u8>,
     ) -> Result<ArrayBytesOptional<'a>, ExpectedOptionalBytesError>
         ensures made { IfOk result (λ made. optional_data made
-            ≡ optional (cow_slice_items mask.entry) (data_of «data».entry.value)) }
+            ≡ optional (cow_slice_items mask.entry) (data_of inner.entry.value)) }
         ensures accepted { IsOk result ↔ All (λ flag. flag < 2) (cow_slice_items mask.entry) }
     {
         if !are_flags(mask.as_slice()) {
             return Err(ExpectedOptionalBytesError);
         }
         Ok(ArrayBytesOptional {
-            data,
+            data: inner,
             mask: Mask::new(mask),
         })
     }

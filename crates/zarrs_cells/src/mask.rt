@@ -67,7 +67,8 @@ impl<'a> Mask<'a> {
             ≡ length (box_of part_box.now).start }
         requires held_len { length self ≡ position_count (box_of held_box.now).shape }
         requires part_len { length part.now ≡ position_count (box_of part_box.now).shape }
-        ensures len { IfOk result (λ made. length made ≡ position_count (box_of held_box.now).shape) }
+        ensures len { IfOk result (λ made. length made
+            ≡ position_count (box_of held_box.now).shape) }
         ensures flags { IfOk result (λ made. TakesAt (box_of held_box.now) (box_of part_box.now)
             (slice_index part.now) (slice_index self.entry) (slice_index made)) }
     {

@@ -151,7 +151,8 @@ impl CodecChain {
         bytes_to_bytes: BytesToBytesCodecs,
     ) -> CodecChain
         ensures meaning { chain_meaning result
-            ≡ through (arrays_meaning array_to_array.items) (whole_chunk (leaf_meaning array_to_bytes)) }
+            ≡ through (arrays_meaning array_to_array.items)
+            (whole_chunk (leaf_meaning array_to_bytes)) }
         ensures array_to_array { array_to_array_of result ≡ array_to_array.items }
         ensures array_to_bytes { array_to_bytes_of result ≡ array_to_bytes }
         ensures bytes_to_bytes { bytes_to_bytes_of result ≡ bytes_to_bytes }
@@ -186,7 +187,8 @@ impl CodecChain {
 
     /// Whether the codecs that make an array of an array take this shape.
     fn takes_shape(&self, alloc: Global, shape: &[u64]) -> Result<bool, AllocError>
-        ensures { IfOk result (λ takes. takes ≡ (arrays_meaning (array_to_array_of self.now)).fits shape.now) }
+        ensures { IfOk result (λ takes. takes ≡ (arrays_meaning (array_to_array_of self.now)).fits
+            shape.now) }
     {
         Ok(encoded_shape(alloc, &self.array_to_array, shape)?.is_some())
     }

@@ -47,7 +47,8 @@ impl ArrayToBytesCodec {
     ) -> Result<ArrayToBytesCodec, PluginCreateError>
         ensures read { IfOk result (λ codec.
             bytes_codec_said (extension_view metadata.now) ≡ Some (bytes_codec_data codec)) }
-        ensures refused { IfErr result (RefusesMeaning (bytes_codec_said (extension_view metadata.now))) }
+        ensures refused { IfErr result
+            (RefusesMeaning (bytes_codec_said (extension_view metadata.now))) }
     {
         let Some(codec) = codec_of(alloc, metadata)? else {
             let name = metadata.name();
@@ -122,7 +123,8 @@ impl CodecChain {
     ) -> Result<CodecChain, PluginCreateError>
         ensures read { IfOk result (λ chain.
             chain_said (map extension_view metadatas.now) ≡ Some (chain_data chain)) }
-        ensures refused { IfErr result (RefusesMeaning (chain_said (map extension_view metadatas.now))) }
+        ensures refused { IfErr result
+            (RefusesMeaning (chain_said (map extension_view metadatas.now))) }
     {
         let Some((last, front)) = metadatas.split_last() else {
             return Err(PluginCreateError::other(
@@ -279,7 +281,8 @@ fn codec_named(metadata: &MetadataV3) -> Result<Option<ArrayToBytesCodec>, Alloc
 }
 
 fn bytes_from(metadata: &MetadataV3) -> Option<ArrayToBytesCodec>
-    ensures { option_map bytes_codec_data result ≡ bytes_with (settings (extension_view metadata.now)) }
+    ensures { option_map bytes_codec_data result
+        ≡ bytes_with (settings (extension_view metadata.now)) }
 {
     if !metadata.has_only(&["endian"]) {
         return None;
@@ -302,7 +305,8 @@ fn endian_from(member: Option<&Value>) -> Option<Option<Endianness>>
 }
 
 fn packbits_from(metadata: &MetadataV3) -> Option<ArrayToBytesCodec>
-    ensures { option_map bytes_codec_data result ≡ packbits_said (settings (extension_view metadata.now)) }
+    ensures { option_map bytes_codec_data result
+        ≡ packbits_said (settings (extension_view metadata.now)) }
 {
     if !metadata.has_only(&["padding_encoding"]) {
         return None;
@@ -387,10 +391,12 @@ fn chain_from(
     front: &[MetadataV3],
     last: &MetadataV3,
 ) -> Result<CodecChain, PluginCreateError>
-    ensures read { IfOk result (λ chain. chain_of_parts (array_codecs_said (map extension_view front.now))
+    ensures read { IfOk result
+        (λ chain. chain_of_parts (array_codecs_said (map extension_view front.now))
         (bytes_codec_said (extension_view last.now)) ≡ Some (chain_data chain)) }
     ensures refused { IfErr result (RefusesMeaning (chain_of_parts
-        (array_codecs_said (map extension_view front.now)) (bytes_codec_said (extension_view last.now)))) }
+        (array_codecs_said (map extension_view front.now))
+        (bytes_codec_said (extension_view last.now)))) }
 {
     let array_to_array = array_codecs_from(alloc, front)?;
     let array_to_bytes = ArrayToBytesCodec::from_metadata(alloc, last)?;
@@ -403,7 +409,8 @@ fn array_codecs_from(
 ) -> Result<Vec<ArrayToArrayCodec>, PluginCreateError>
     ensures read { IfOk result (λ codecs. array_codecs_said (map extension_view metadatas.now)
         ≡ Some (map array_codec_data codecs.items)) }
-    ensures refused { IfErr result (RefusesMeaning (array_codecs_said (map extension_view metadatas.now))) }
+    ensures refused { IfErr result
+        (RefusesMeaning (array_codecs_said (map extension_view metadatas.now))) }
 {
     let mut codecs = Vec::with_capacity(alloc, metadatas.len())?;
     for metadata in metadatas {
@@ -431,7 +438,8 @@ fn copied_array_codecs(
     alloc: Global,
     codecs: &[ArrayToArrayCodec],
 ) -> Result<Vec<ArrayToArrayCodec>, AllocError>
-    ensures { IfOk result (λ copy. map array_codec_data copy.items ≡ map array_codec_data codecs.now) }
+    ensures { IfOk result (λ copy. map array_codec_data copy.items
+        ≡ map array_codec_data codecs.now) }
 {
     let mut copy = Vec::with_capacity(alloc, codecs.len())?;
     for codec in codecs {

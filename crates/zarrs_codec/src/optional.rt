@@ -96,8 +96,8 @@ impl MaskCodec {
         count: u64,
     ) -> Result<DecodedMask, CodecError>
         requires { count * cell_size (kind inner.now) < 2 ^ 64 }
-        ensures read { IfOk result (λ mask. (mask_meaning self.now).decoded type.bool count encoded.now
-            ≡ Some (map flag_cell mask.flags.items)) }
+        ensures read { IfOk result (λ mask. (mask_meaning self.now).decoded type.bool count
+            encoded.now ≡ Some (map flag_cell mask.flags.items)) }
         ensures flags { IfOk result (λ mask. All (λ flag. flag < 2) mask.flags.items) }
         ensures set { IfOk result (λ mask. mask.set ≡ count_by flag_set mask.flags.items) }
         ensures size { IfOk result (λ mask.
@@ -121,14 +121,14 @@ impl OptionalCodec {
     pub fn new(
         alloc: Global,
         mask: MaskCodec,
-        data: ArrayToBytesCodec,
+        inner: ArrayToBytesCodec,
     ) -> Result<OptionalCodec, AllocError>
         ensures mask { IfOk result (λ codec. mask_codec_of codec ≡ mask) }
-        ensures inner { IfOk result (λ codec. data_codec_of codec ≡ «data») }
+        ensures inner { IfOk result (λ codec. data_codec_of codec ≡ inner) }
     {
         Ok(OptionalCodec {
             mask,
-            data: Box::new(alloc, data)?,
+            data: Box::new(alloc, inner)?,
         })
     }
 

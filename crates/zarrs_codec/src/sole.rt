@@ -39,7 +39,8 @@ fn sole_item(items: &Vec<Value>) -> Option<&Value>
 
 /// Returns the extension point that a value says, if it says one.
 fn extension_from(value: &Value) -> Result<Option<MetadataV3>, AllocError>
-    ensures { IfOk result (λ found. option_map extension_view found ≡ extension_of (view value.now)) }
+    ensures { IfOk result (λ found. option_map extension_view found
+        ≡ extension_of (view value.now)) }
 {
     let copy = value.clone()?;
     match MetadataV3::from_value(copy) {

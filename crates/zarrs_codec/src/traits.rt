@@ -26,7 +26,8 @@ pub trait ChainTraits {
     /// # Errors
     /// `AllocError`: out of memory.
     fn fits(&self, alloc: Global, data_type: &DataType, shape: &[u64]) -> Result<bool, AllocError>
-        ensures { IfOk result (λ fits. fits ≡ (meaning self.now).fits (kind data_type.now) shape.now) };
+        ensures { IfOk result (λ fits. fits ≡ (meaning self.now).fits (kind data_type.now)
+            shape.now) };
 
     /// The bytes of a chunk's cells. `shape` has the chunk's extents, `bytes` its cells in row-major order.
     ///
@@ -43,12 +44,16 @@ pub trait ChainTraits {
         options: &CodecOptions,
     ) -> Result<Vec<u8>, CodecError>
         requires filled { IsSome (fill_cell (kind data_type.now) fill_value.now) }
-        requires cells { HasCells (kind data_type.now) (data_of bytes.now) (position_count shape.now) }
+        requires cells { HasCells (kind data_type.now) (data_of bytes.now)
+            (position_count shape.now) }
         ensures encoded { IfOk result (λ encoded.
             chunk_encoding (meaning self.now) (stores_empty_chunks options.now) (kind data_type.now)
-            (fill_of (kind data_type.now) fill_value.now) shape.now (data_of bytes.now) ≡ Some encoded.items) }
-        ensures refused { IfErr result (RefusesChunkEncoding (meaning self.now) (stores_empty_chunks options.now)
-            (kind data_type.now) (fill_of (kind data_type.now) fill_value.now) shape.now (data_of bytes.now)) };
+            (fill_of (kind data_type.now) fill_value.now) shape.now (data_of bytes.now)
+            ≡ Some encoded.items) }
+        ensures refused { IfErr result
+            (RefusesChunkEncoding (meaning self.now) (stores_empty_chunks options.now)
+            (kind data_type.now) (fill_of (kind data_type.now) fill_value.now) shape.now
+            (data_of bytes.now)) };
 
     /// The cells of a chunk's bytes.
     ///
@@ -65,7 +70,8 @@ pub trait ChainTraits {
         requires filled { IsSome (fill_cell (kind data_type.now) fill_value.now) }
         requires size { position_count shape.now * cell_size (kind data_type.now) < 2 ^ 64 }
         ensures cells { IfOk result (λ made. cells (kind data_type.now) (data_of made)
-            ≡ (meaning self.now).decoded (kind data_type.now) (fill_of (kind data_type.now) fill_value.now) shape.now encoded.now) }
+            ≡ (meaning self.now).decoded (kind data_type.now)
+            (fill_of (kind data_type.now) fill_value.now) shape.now encoded.now) }
         ensures some { IfOk result (λ made. IsSome (cells (kind data_type.now) (data_of made))) }
         ensures refused { IfErr result (RefusesChunkDecoding (meaning self.now) (kind data_type.now)
             (fill_of (kind data_type.now) fill_value.now) shape.now encoded.now) };
@@ -82,7 +88,8 @@ pub trait ChainTraits {
     ) -> Result<Option<Vec<u8>>, CodecError>
         ensures less { IfOk result (λ less. (meaning self.now).compacted shape.now encoded.now
             ≡ Some (option_map (λ encoded. encoded.items) less)) }
-        ensures refused { IfErr result (RefusesCompaction (meaning self.now) shape.now encoded.now) };
+        ensures refused { IfErr result (RefusesCompaction (meaning self.now) shape.now
+            encoded.now) };
 
     /// Decoding returns what was encoded, and what was encoded is compact.
     ghost lawful: { (chain : Self) → IsLawfulChain (meaning chain) };

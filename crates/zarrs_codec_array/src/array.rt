@@ -76,7 +76,8 @@ impl ArrayToArrayCodec {
         shape: &[u64],
     ) -> Result<Option<ArrayBytes<'static>>, AllocError>
         requires fits { (array_meaning self.now).fits shape.now ≡ true }
-        requires cells { HasCells (kind data_type.now) (data_of bytes.now) (position_count shape.now) }
+        requires cells { HasCells (kind data_type.now) (data_of bytes.now)
+            (position_count shape.now) }
         ensures { IfOk result (IsEncodedArray (array_meaning self.now) (kind data_type.now)
             shape.now (data_of bytes.now)) }
     {
@@ -98,7 +99,8 @@ impl ArrayToArrayCodec {
         shape: &[u64],
     ) -> Result<Option<ArrayBytes<'static>>, AllocError>
         requires fits { (array_meaning self.now).fits shape.now ≡ true }
-        requires cells { HasCells (kind data_type.now) (data_of bytes.now) (position_count shape.now) }
+        requires cells { HasCells (kind data_type.now) (data_of bytes.now)
+            (position_count shape.now) }
         ensures { IfOk result (IsDecodedArray (array_meaning self.now) (kind data_type.now)
             shape.now (data_of bytes.now)) }
     {
@@ -140,7 +142,8 @@ fn shape_before(
 ) -> Result<Vec<u64>, AllocError>
     requires below { k < length codecs.now }
     requires fits { (arrays_meaning codecs.now).fits shape.now ≡ true }
-    ensures { IfOk result (λ before. before.items ≡ (arrays_meaning (take k codecs.now)).shape shape.now) }
+    ensures { IfOk result (λ before. before.items ≡ (arrays_meaning (take k codecs.now)).shape
+        shape.now) }
 {
     match encoded_shape(alloc, &codecs[..k], shape)? {
         Some(before) => Ok(before),
@@ -158,7 +161,8 @@ fn encode_next(
     shape: &[u64],
 ) -> Result<Option<ArrayBytes<'static>>, AllocError>
     requires fits { (array_meaning codec.now).fits shape.now ≡ true }
-    requires cells { HasCells (kind data_type.now) (data_or current.now (data_of bytes.now)) (position_count shape.now) }
+    requires cells { HasCells (kind data_type.now) (data_or current.now (data_of bytes.now))
+        (position_count shape.now) }
     ensures { IfOk result (IsEncodedArray (array_meaning codec.now) (kind data_type.now)
         shape.now (data_or current.now (data_of bytes.now))) }
 {
@@ -192,7 +196,8 @@ fn decode_next(
     requires fits { (array_meaning codec.now).fits shape.now ≡ true }
     requires cells { HasCells (kind data_type.now) (data_of current) (position_count shape.now) }
     ensures { IfOk result (λ made. IfSome (cells (kind data_type.now) (data_of current.entry))
-        (λ cs. cells (kind data_type.now) (data_of made) ≡ Some ((array_meaning codec.now).back shape.now cs))) }
+        (λ cs. cells (kind data_type.now) (data_of made)
+        ≡ Some ((array_meaning codec.now).back shape.now cs))) }
 {
     match codec.decode(alloc, &current, data_type, shape)? {
         Some(made) => Ok(made),
@@ -239,7 +244,8 @@ pub fn decode_array(
     requires fits { (arrays_meaning codecs.now).fits shape.now ≡ true }
     requires cells { HasCells (kind data_type.now) (data_of bytes) (position_count shape.now) }
     ensures { IfOk result (λ made. IfSome (cells (kind data_type.now) (data_of bytes.entry))
-        (λ cs. cells (kind data_type.now) (data_of made) ≡ Some ((arrays_meaning codecs.now).back shape.now cs))) }
+        (λ cs. cells (kind data_type.now) (data_of made)
+        ≡ Some ((arrays_meaning codecs.now).back shape.now cs))) }
 {
     let mut current = bytes;
     let mut k = codecs.len();

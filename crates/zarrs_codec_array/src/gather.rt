@@ -91,10 +91,10 @@ fn gather_columns(to: &mut [u8], from: &[u8], size: usize, table: Table, first: 
     requires some_column { 0 < count }
     requires columns { first + count ≤ table.columns }
     requires len { length to.old ≡ table.rows * (table.columns * size) }
-    requires within { AreWithin size (table.rows ∷ table.columns ∷ []) (table.row_step ∷ table.column_step ∷ [])
-        table.start (length from.now) }
-    requires before { AreColumns size table.rows table.columns table.row_step table.column_step table.start
-        first from.now to.old }
+    requires within { AreWithin size (table.rows ∷ table.columns ∷ [])
+        (table.row_step ∷ table.column_step ∷ []) table.start (length from.now) }
+    requires before { AreColumns size table.rows table.columns table.row_step table.column_step
+        table.start first from.now to.old }
     ensures { AreColumns size table.rows table.columns table.row_step table.column_step table.start
         (first + count) from.now to.new }
 {
@@ -110,10 +110,10 @@ fn gather_columns(to: &mut [u8], from: &[u8], size: usize, table: Table, first: 
 fn gather_table(to: &mut [u8], from: &[u8], size: usize, table: Table)
     requires some { 0 < size }
     requires len { length to.old ≡ table.rows * (table.columns * size) }
-    requires within { AreWithin size (table.rows ∷ table.columns ∷ []) (table.row_step ∷ table.column_step ∷ [])
-        table.start (length from.now) }
-    ensures { IsGathered size (table.rows ∷ table.columns ∷ []) (table.row_step ∷ table.column_step ∷ [])
-        table.start from.now to.new }
+    requires within { AreWithin size (table.rows ∷ table.columns ∷ [])
+        (table.row_step ∷ table.column_step ∷ []) table.start (length from.now) }
+    ensures { IsGathered size (table.rows ∷ table.columns ∷ [])
+        (table.row_step ∷ table.column_step ∷ []) table.start from.now to.new }
 {
     let mut first = 0;
     while first < table.columns {

@@ -37,7 +37,8 @@ impl ArrayToArrayCodec {
     ) -> Result<ArrayToArrayCodec, PluginCreateError>
         ensures read { IfOk result (λ codec.
             array_codec_said (extension_view metadata.now) ≡ Some (array_codec_data codec)) }
-        ensures refused { IfErr result (RefusesMeaning (array_codec_said (extension_view metadata.now))) }
+        ensures refused { IfErr result
+            (RefusesMeaning (array_codec_said (extension_view metadata.now))) }
     {
         let Some(codec) = codec_from(alloc, metadata)? else {
             let name = metadata.name();
@@ -54,8 +55,10 @@ impl ArrayToArrayCodec {
     /// # Errors
     /// `AllocError`: out of memory.
     pub fn create_metadata(&self, alloc: Global) -> Result<MetadataV3, AllocError>
-        ensures written { IfOk result (λ m. extension_view m ≡ extension_of_array_codec (array_codec_data self.now)) }
-        ensures reads_back { IfOk result (λ m. array_codec_said (extension_view m) ≡ Some (array_codec_data self.now)) }
+        ensures written { IfOk result (λ m. extension_view m
+            ≡ extension_of_array_codec (array_codec_data self.now)) }
+        ensures reads_back { IfOk result (λ m. array_codec_said (extension_view m)
+            ≡ Some (array_codec_data self.now)) }
     {
         match self {
             ArrayToArrayCodec::Transpose(codec) => {
@@ -133,7 +136,8 @@ fn reshape_from(
 }
 
 fn squeeze_from(metadata: &MetadataV3) -> Option<ArrayToArrayCodec>
-    ensures { option_map array_codec_data result ≡ squeeze_said (settings (extension_view metadata.now)) }
+    ensures { option_map array_codec_data result
+        ≡ squeeze_said (settings (extension_view metadata.now)) }
 {
     if metadata.has_only(&[]) {
         Some(ArrayToArrayCodec::Squeeze(SqueezeCodec))

@@ -239,7 +239,8 @@ fn fitting_extent(
     shape: &[u64],
     left: u64,
 ) -> Result<Option<u64>, AllocError>
-    ensures { IfOk result (λ extent. extent ≡ fitting_extent shape.now left (extent_view entry.now)) }
+    ensures { IfOk result (λ extent. extent ≡ fitting_extent shape.now left
+        (extent_view entry.now)) }
 {
     match entry {
         ReshapeExtent::Size(size) => Ok(Some(size.get())),
@@ -250,9 +251,10 @@ fn fitting_extent(
 
 /// The product of the extents of these dimensions, if the shape has them and it fits `u64`.
 fn product_of(alloc: Global, dimensions: &[u64], shape: &[u64]) -> Result<Option<u64>, AllocError>
-    ensures { IfOk result (λ product. product ≡ (let extents = map (λ j. slice_index shape.now j) dimensions.now in
-        if list_all (λ j. nat_lt j (length shape.now)) dimensions.now && nat_lt (position_count extents) (2 ^ 64)
-        then Some (position_count extents) else None)) }
+    ensures { IfOk result (λ product. product
+        ≡ (let extents = map (λ j. slice_index shape.now j) dimensions.now in
+        if list_all (λ j. nat_lt j (length shape.now)) dimensions.now
+        && nat_lt (position_count extents) (2 ^ 64) then Some (position_count extents) else None)) }
 {
     if !are_below(dimensions, shape.len()) {
         return Ok(None);

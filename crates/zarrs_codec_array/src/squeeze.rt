@@ -16,7 +16,8 @@ impl SqueezeCodec {
         alloc: Global,
         shape: &[u64],
     ) -> Result<Option<Vec<u64>>, AllocError>
-        ensures { IfOk result (λ made. option_map (λ made. made.items) made ≡ encoded_shape squeezed shape.now) }
+        ensures { IfOk result (λ made. option_map (λ made. made.items) made
+            ≡ encoded_shape squeezed shape.now) }
     {
         let mut made = Vec::new(alloc);
         for extent in shape {

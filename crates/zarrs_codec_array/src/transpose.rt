@@ -83,7 +83,8 @@ impl TransposeCodec {
         shape: &[u64],
     ) -> Result<Option<ArrayBytes<'static>>, AllocError>
         requires fits { length (order_of self.now) ≡ length shape.now }
-        requires cells { HasCells (kind data_type.now) (data_of bytes.now) (position_count shape.now) }
+        requires cells { HasCells (kind data_type.now) (data_of bytes.now)
+            (position_count shape.now) }
         ensures { IfOk result (IsEncodedArray (transposed (order_of self.now)) (kind data_type.now)
             shape.now (data_of bytes.now)) }
     {
@@ -103,7 +104,8 @@ impl TransposeCodec {
         shape: &[u64],
     ) -> Result<Option<ArrayBytes<'static>>, AllocError>
         requires fits { length (order_of self.now) ≡ length shape.now }
-        requires cells { HasCells (kind data_type.now) (data_of bytes.now) (position_count shape.now) }
+        requires cells { HasCells (kind data_type.now) (data_of bytes.now)
+            (position_count shape.now) }
         ensures { IfOk result (IsDecodedArray (transposed (order_of self.now)) (kind data_type.now)
             shape.now (data_of bytes.now)) }
     {
@@ -126,7 +128,8 @@ fn rearranged(
     source: &[u64],
     way: &[u64],
 ) -> Result<ArrayBytes<'static>, AllocError>
-    requires fits { fits (kind data_type.now) (data_of bytes.now) (position_count source.now) ≡ true }
+    requires fits { fits (kind data_type.now) (data_of bytes.now) (position_count source.now)
+        ≡ true }
     requires ways { IsWay target.now source.now way.now }
     ensures { IfOk result (λ made. IsTaken (kind data_type.now) target.now
         (permuted way.now (strides source.now)) (data_of bytes.now) (data_of made)) }

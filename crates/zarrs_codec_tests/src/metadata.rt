@@ -167,14 +167,21 @@ fn codecs_of_strings_are_read_and_written(rt: HostRuntime) -> Result<(), Fail> {
 }
 
 /// `zarrs.vlen` as it is written.
-const VLEN: &str =
-    "{\"configuration\":{\"data_codecs\":[\"bytes\"],\"index_codecs\":[{\"configuration\":{\"endian\":\"little\"},\"name\":\"bytes\"}],\"index_data_type\":\"uint64\"},\"name\":\"zarrs.vlen\"}";
+const VLEN: &str = concat!(
+    "{\"configuration\":{\"data_codecs\":[\"bytes\"],",
+    "\"index_codecs\":[{\"configuration\":{\"endian\":\"little\"},\"name\":\"bytes\"}],",
+    "\"index_data_type\":\"uint64\"},\"name\":\"zarrs.vlen\"}"
+);
 
 #[test]
 fn the_codec_of_an_index_is_read_and_written(rt: HostRuntime) -> Result<(), Fail> {
     const ROWS: &[&str] = &[
         VLEN,
-        "{\"name\":\"vlen\",\"configuration\":{\"index_data_type\":\"uint64\",\"index_location\":\"start\",\"index_codecs\":[{\"name\":\"bytes\",\"configuration\":{\"endian\":\"little\"}}],\"data_codecs\":[{\"name\":\"bytes\"}]}}",
+        concat!(
+            "{\"name\":\"vlen\",\"configuration\":{\"index_data_type\":\"uint64\",",
+            "\"index_location\":\"start\",\"index_codecs\":[{\"name\":\"bytes\",",
+            "\"configuration\":{\"endian\":\"little\"}}],\"data_codecs\":[{\"name\":\"bytes\"}]}}"
+        ),
     ];
     for text in ROWS {
         must_be_bytes_codec(&rt, rt.alloc(), text, VLEN)?;

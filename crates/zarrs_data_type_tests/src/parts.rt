@@ -128,7 +128,7 @@ fn taken(
         && held.validate(data_type, count)
         && part.validate(data_type, given)
     {
-        return Ok(held.with_part(alloc, data_type, held_box, part, part_box)?);
+        return Ok(held.update_array_bytes(alloc, data_type, held_box, part, part_box)?);
     }
     Err("no cells of these boxes".into())
 }

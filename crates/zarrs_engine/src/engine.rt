@@ -49,8 +49,8 @@ impl<S, G: ChunkGridTraits, K: ChunkKeyEncodingTraits, C: ChainTraits> Engine<S,
         fill_value: FillValue,
     ) -> Self
         requires { IsSome (fill_cell (kind data_type) fill_value) }
-        ensures layout { layout_of result ≡ layout_at (G.grid grid) path (K.key keys) (C.meaning chain)
-            (kind data_type) fill_value }
+        ensures layout { layout_of result ≡ layout_at (G.grid grid) path (K.key keys)
+            (C.meaning chain) (kind data_type) fill_value }
         ensures storage { the_store result ≡ storage }
         ensures path { path_of result ≡ path }
         ensures grid { grid_of result ≡ grid }

@@ -47,7 +47,8 @@ impl<S, G: ChunkGridTraits, K: ChunkKeyEncodingTraits, C: ChainTraits> Engine<S,
     ) -> Result<ArrayPartialDecoder<'_, S, G, K, C>, ArrayError>
         ensures engine { IfOk result (λ decoder. engine_of decoder ≡ self.now) }
         ensures chunk { IfOk result (λ decoder. indices_of decoder ≡ chunk_indices.now) }
-        ensures accepted { OnOk result (has_box (layout_of self.now).grid chunk_indices.now ≡ true) }
+        ensures accepted { OnOk result (has_box (layout_of self.now).grid chunk_indices.now
+            ≡ true) }
         ensures refused { IfErr result (λ e. RefusesBy
             (chunk_refusal (layout_of self.now) chunk_indices.now) (refusal_of e)) }
     {
@@ -133,7 +134,8 @@ impl<
             (box_of chunk_subset.now) ≡ None
             → region_refusal (layout_of (engine_of self.now))
             (state_of S.state (engine_of self.now)).shape (region_of_part
-            (layout_of (engine_of self.now)) (indices_of self.now) (box_of chunk_subset.now)) ≡ None }
+            (layout_of (engine_of self.now)) (indices_of self.now) (box_of chunk_subset.now))
+            ≡ None }
         ensures cells { OnOk result (RetrievesInto (layout_of (engine_of self.now))
             (state_of S.state (engine_of self.now)).shape (region_of_part
             (layout_of (engine_of self.now)) (indices_of self.now) (box_of chunk_subset.now))

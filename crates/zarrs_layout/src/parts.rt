@@ -131,7 +131,8 @@ impl<G: ChunkGridTraits, K: ChunkKeyEncodingTraits, C: ChainTraits> Parts<G, K, 
             (box_of chunk.now.region) (data_of chunk_data.now) (option_map (λ v. v.items) value)) }
         ensures accepted { OnOk result
             (data_refusal (layout_of_parts self.now) (stores_empty_chunks options.now)
-            (box_of chunk.now.region).shape (cells (kind self.now.data_type) (data_of chunk_data.now)) ≡ None) }
+            (box_of chunk.now.region).shape
+            (cells (kind self.now.data_type) (data_of chunk_data.now)) ≡ None) }
         ensures refused { IfErr result
             (λ e. RefusesBy (data_refusal (layout_of_parts self.now)
             (stores_empty_chunks options.now) (box_of chunk.now.region).shape
@@ -171,7 +172,8 @@ impl<G: ChunkGridTraits, K: ChunkKeyEncodingTraits, C: ChainTraits> Parts<G, K, 
             ≡ decoded_cells (layout_of_parts self.now)
             (box_at (G.grid self.now.grid) chunk_indices.now) encoded.now) }
         ensures accepted { OnOk result
-            (read_refusal (layout_of_parts self.now) true chunk_indices.now (Some encoded.now) ≡ None) }
+            (read_refusal (layout_of_parts self.now) true chunk_indices.now (Some encoded.now)
+            ≡ None) }
         ensures refused { IfErr result
             (λ e. RefusesBy (read_refusal (layout_of_parts self.now) true chunk_indices.now
             (Some encoded.now)) (refusal_of e)) }
@@ -195,7 +197,8 @@ impl<G: ChunkGridTraits, K: ChunkKeyEncodingTraits, C: ChainTraits> Parts<G, K, 
         chunk_indices: &[u64],
     ) -> Result<ArrayBytes<'static>, ArrayError>
         ensures cells { IfOk result (λ made. cells (kind self.now.data_type) (data_of made)
-            ≡ Some (replicate (position_count (box_at (G.grid self.now.grid) chunk_indices.now).shape)
+            ≡ Some (replicate
+            (position_count (box_at (G.grid self.now.grid) chunk_indices.now).shape)
             (layout_of_parts self.now).fill)) }
         ensures accepted { OnOk result
             (read_refusal (layout_of_parts self.now) true chunk_indices.now None ≡ None) }

@@ -190,7 +190,8 @@ fn is_up_to(found: &Number, high: u64) -> bool
 }
 
 fn signed_fill(value: &FillValueMetadata, low: i64, high: i64) -> Option<FillValueMetadata>
-    ensures { option_map fill_data result ≡ number_fill (is_number_within low high) (fill_data value.now) }
+    ensures { option_map fill_data result ≡ number_fill (is_number_within low high)
+        (fill_data value.now) }
 {
     match value {
         FillValueMetadata::Null => Some(zero()),

@@ -159,16 +159,3 @@ says_parts shape chunk_shape fill cell_type parts document are described says =
 pub is_plain : (shape chunk_shape fill : List ℕ) (cell_type : CellType) (document : DocumentData) → document ≡ metadata_for shape chunk_shape cell_type fill → has_float (data_of_document document) ≡ false
 is_plain shape chunk_shape fill cell_type document described =
     ap (λ (d : DocumentData). has_float (data_of_document d)) described ∙ plain_document_for shape chunk_shape (kind_of_cells cell_type) fill (numeric cell_type)
-
--- without sizes there is no array
-pub no_sizes : (creation : Creation) (error : CreationError) → HasSizes creation.chunk_shape.items (Err error) → HasNoArray creation error
-no_sizes creation NoGrid zero = λ makes. absurd (cc (zero, makes.nonzero))
-no_sizes creation OutOfMemory h = tt
-
--- nor where the lengths differ
-pub no_grid : (shape chunk_shape : List ℕ) (sizes : List NonZeroU64) (error : GridError) → sizes_of sizes ≡ chunk_shape → RefusesGrid (regular (sizes_of sizes)) shape error → error ≢ grid_error.OutOfMemory → MakesGrid shape chunk_shape → ⊥
-no_grid shape chunk_shape sizes (grid_error.IncompatibleDimensionality mismatch) is refused memory makes =
-    let parts = and_parts (length chunk_shape == length shape) true makes.taken in
-    refused.0 (ap length is ∙ exact_unsigned_eq _ _ parts.0)
-no_grid shape chunk_shape sizes grid_error.UnequalExtent is refused memory makes = absurd (let never = refused.1 in cc)
-no_grid shape chunk_shape sizes grid_error.OutOfMemory is refused memory makes = memory refl

@@ -27,7 +27,6 @@ use Rattle.zarrs_codec.proofs.ChainMetadata.{chain_back}
 use Rattle.zarrs_array_metadata.specs.Meanings.{meaning_with, creation_v3}
 use Rattle.zarrs_array_metadata.proofs.Order.{all_said}
 use Rattle.zarrs_script_metadata.specs.Parts.{document_for, is_whole_number}
-use Rattle.zarrs_script_metadata.proofs.Fills.{fill_back}
 
 -- documents of equal parts are the same
 pub same_document : (s t : List ℕ) (g h d e : ExtensionData) (f v : Data) (c k : List ExtensionData) → s ≡ t → g ≡ h → d ≡ e → f ≡ v → c ≡ k → plain_document s g d f c ≡ plain_document t h e v k
@@ -58,9 +57,9 @@ parts_back : (shape : List ℕ) (grid : GridConfiguration) (chain : ChainData) (
 parts_back shape grid chain k fill e1 e2 e3 e4 =
     all_said (plain_document shape (extension_of_grid grid) (kind_extension k) (fill_written k fill) (extensions_of_chain chain)) chain e1 k e2 grid e3 fill e4 refl (Default Slash) refl refl
 
-pub document_says : (g : RegularChunkGrid) (chain : CodecChain) (t : DataType) (fill : List ℕ) (m : DocumentData) → is_whole_number (kind t) ≡ true → IsSome (fill_cell (kind t) fill) → ((i : ℕ) → get_or fill i 0 < 256)
+pub document_says : (g : RegularChunkGrid) (chain : CodecChain) (t : DataType) (fill : List ℕ) (m : DocumentData) → is_whole_number (kind t) ≡ true → fill_said (kind t) (fill_written (kind t) fill) ≡ Some fill
     → m ≡ document_for (meaning_with (Regular g) (Default Slash) chain t fill) → creation_v3 m ≡ Ok (meaning_with (Regular g) (Default Slash) chain t fill)
-document_says g chain t fill m numeric there small is =
+document_says g chain t fill m numeric said is =
     ap creation_v3 is
     ∙ parts_back (array_extents_of (Regular g)) (configuration_of (Regular g)) (chain_data chain) (kind t) fill
-    (chain_back (array_to_array_of chain) (bytes_codec_data (array_to_bytes_of chain))) (type_back (kind t) numeric) (grid_back (Regular g)) (fill_back (kind t) fill numeric there small)
+    (chain_back (array_to_array_of chain) (bytes_codec_data (array_to_bytes_of chain))) (type_back (kind t) numeric) (grid_back (Regular g)) said

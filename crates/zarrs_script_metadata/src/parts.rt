@@ -1,5 +1,5 @@
 //! The V3 metadata that says the parts of an array.
-ghost use Rattle.std.specs.Prelude.{◌≡◌, ℕ, ◌<◌, slice_index, true, Ok, IsSome, IfOk};
+ghost use Rattle.std.specs.Prelude.{◌≡◌, true, Ok, IsSome, IfOk};
 ghost use Rattle.zarrs_metadata.specs.FillValue.{fill_data};
 ghost use Rattle.zarrs_document.specs.View.{document_view};
 ghost use Rattle.zarrs_keys.specs.declared.encodings.ChunkKeyEncoding.TheVariants.{Default};
@@ -15,6 +15,7 @@ use std::alloc::{AllocError, Global};
 use zarrs_chunk_grid::{ChunkGridTraits, RegularChunkGrid};
 use zarrs_codec::CodecChain;
 use zarrs_document::{ArrayMetadataV3, FillValueMetadata};
+use zarrs_types::laws::written_fill_value_is_read;
 use zarrs_types::{DataType, DataTypeFillValueError, FillValue};
 
 /// Returns the metadata of the fill value.
@@ -32,11 +33,6 @@ fn fill_metadata(
         Err(DataTypeFillValueError::Invalid) => unreachable!(),
     }
 }
-
-/// Each number of a slice of bytes is below 256. This does nothing: its contract is the fact.
-fn are_bytes(_bytes: &[u8])
-    ensures { (i : ℕ) → slice_index _bytes.now i < 256 }
-{}
 
 /// Returns the V3 metadata of an array of bools or integers that is cut by this grid, with `default` keys separated by
 /// `/` (Zarr V3 core specification, array metadata). It says these parts.
@@ -57,7 +53,7 @@ pub fn metadata_of_parts(
     ensures says { IfOk result (λ m. creation_v3 (document_view m) ≡ Ok (meaning_with
         (Regular grid.now) (Default Slash) chain.now data_type.now fill_value.now)) }
 {
-    are_bytes(fill_value.as_bytes());
+    written_fill_value_is_read(data_type, fill_value);
     let shape = Vec::from_slice(alloc, grid.array_shape())?;
     let chunk_grid = grid.metadata(alloc)?;
     let data_type_metadata = data_type.metadata(alloc)?;

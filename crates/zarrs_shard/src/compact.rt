@@ -40,7 +40,8 @@ fn rewritten(
 ) -> Result<Vec<u8>, AllocError>
     requires within { All (IsRangeWithin (length shard.now)) ranges.now }
     requires count { length ranges.now * 16 < 2 ^ 64 }
-    ensures { IfOk result (λ made. made.items ≡ shard_bytes at_start (map (range_part shard.now) ranges.now)) }
+    ensures { IfOk result (λ made. made.items
+        ≡ shard_bytes at_start (map (range_part shard.now) ranges.now)) }
 {
     let mut writer = ShardWriter::new(alloc, ranges.len(), at_start)?;
     for range in ranges {

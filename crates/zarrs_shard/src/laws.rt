@@ -13,15 +13,17 @@ ghost use Rattle.zarrs_types.specs.Kind.{Kind};
 
 /// Decoding returns what was encoded, and what was encoded is compact, if the chain of the subchunks keeps its law.
 pub fn shards_are_lawful()
-    ensures { (m : SubchunkMeaning) (at_start store_empty : Bool) (k : Kind) (fill : Cell) (shape sub : List ℕ)
-        → IsLawfulSubchunk k (position_count sub) m → IsLawfulShard m at_start store_empty k fill shape sub }
+    ensures { (m : SubchunkMeaning) (at_start store_empty : Bool) (k : Kind) (fill : Cell)
+        (shape sub : List ℕ)
+        → IsLawfulSubchunk k (position_count sub) m → IsLawfulShard m at_start store_empty k fill
+        shape sub }
 {}
 
 /// A shard whose present subchunks hold the encoded bytes of their cells, none of them all fill, is the encoded bytes
 /// of its cells and has no compaction, or it compacts to those bytes.
 pub fn shards_compact_to_their_encoding()
-    ensures { (m : SubchunkMeaning) (at_start : Bool) (k : Kind) (fill : Cell) (shape sub encoded made : List ℕ)
-        (cells : List Cell)
+    ensures { (m : SubchunkMeaning) (at_start : Bool) (k : Kind) (fill : Cell)
+        (shape sub encoded made : List ℕ) (cells : List Cell)
         → IsLawfulSubchunk k (position_count sub) m
         → HoldsEncodedParts m at_start fill shape sub encoded
         → sharded_decoded m at_start k fill shape sub encoded ≡ Some cells
@@ -32,12 +34,13 @@ pub fn shards_compact_to_their_encoding()
 /// The parts of a chunk's cells are those of one subchunk after another, if each has one. Nothing is encoded if the index
 /// is too long.
 pub fn parts_follow_one_another()
-    ensures next { (m : SubchunkMeaning) (store_empty : Bool) (fill : Cell) (shape sub : List ℕ) (cells : List Cell)
-        (n : ℕ) (parts : List (Option (List ℕ))) (part : Option (List ℕ))
+    ensures next { (m : SubchunkMeaning) (store_empty : Bool) (fill : Cell) (shape sub : List ℕ)
+        (cells : List Cell) (n : ℕ) (parts : List (Option (List ℕ))) (part : Option (List ℕ))
         → first_parts m store_empty fill shape sub cells n ≡ Some parts
         → part_of m store_empty fill (subchunk_at shape sub cells n) ≡ Some part
         → first_parts m store_empty fill shape sub cells (n + 1) ≡ Some (parts ++ part ∷ []) }
-    ensures none { (m : SubchunkMeaning) (store_empty : Bool) (fill : Cell) (shape sub : List ℕ) (cells : List Cell)
+    ensures none { (m : SubchunkMeaning) (store_empty : Bool) (fill : Cell) (shape sub : List ℕ)
+        (cells : List Cell)
         (n j : ℕ) → j < n → part_of m store_empty fill (subchunk_at shape sub cells j) ≡ None
         → first_parts m store_empty fill shape sub cells n ≡ None }
     ensures too_many { (m : SubchunkMeaning) (store_empty : Bool) (fill : Cell) (shape sub : List ℕ)
@@ -50,16 +53,19 @@ pub fn subchunks_fill_their_chunk()
     ensures start { (k : Kind) (fill : Cell) (shape sub : List ℕ) (chunk : ArrayData)
         → is_cut_by shape sub ≡ true → cells k chunk ≡ Some (replicate (position_count shape) fill)
         → HasSubchunks k fill shape sub [] chunk }
-    ensures put { (k : Kind) (fill : Cell) (shape sub : List ℕ) (subchunks : List (List Cell)) (made : List Cell)
-        (part old new : ArrayData) → length subchunks < subchunk_count shape sub
+    ensures put { (k : Kind) (fill : Cell) (shape sub : List ℕ) (subchunks : List (List Cell))
+        (made : List Cell) (part old new : ArrayData) → length subchunks < subchunk_count shape sub
         → HasSubchunks k fill shape sub subchunks old
         → PutsSubchunk k shape sub (length subchunks) part old new → cells k part ≡ Some made
         → HasSubchunks k fill shape sub (subchunks ++ made ∷ []) new }
     ensures left_out { (k : Kind) (fill : Cell) (shape sub : List ℕ) (subchunks : List (List Cell))
         (chunk : ArrayData) → length subchunks < subchunk_count shape sub
         → HasSubchunks k fill shape sub subchunks chunk
-        → HasSubchunks k fill shape sub (subchunks ++ replicate (position_count sub) fill ∷ []) chunk }
-    ensures whole { (k : Kind) (fill : Cell) (shape sub : List ℕ) (subchunks : List (List Cell)) (chunk : ArrayData)
+        → HasSubchunks k fill shape sub (subchunks ++ replicate (position_count sub) fill ∷ [])
+        chunk }
+    ensures whole { (k : Kind) (fill : Cell) (shape sub : List ℕ) (subchunks : List (List Cell))
+        (chunk : ArrayData)
         → is_cut_by shape sub ≡ true → length subchunks ≡ subchunk_count shape sub
-        → HasSubchunks k fill shape sub subchunks chunk → cells k chunk ≡ Some (assembled shape sub subchunks) }
+        → HasSubchunks k fill shape sub subchunks chunk → cells k chunk
+        ≡ Some (assembled shape sub subchunks) }
 {}

@@ -61,7 +61,8 @@ fn read_entries(
     ensures parts { IfOk result (λ read. (shard : List ℕ)
         → all_present (map (named_part shard start end) (pieces 16 count index.now))
         ≡ option_map (λ ranges. map (range_part shard) ranges.items) read) }
-    ensures within { IfOk result (λ read. IfSome read (λ ranges. All (IsRangeWithin end) ranges.items)) }
+    ensures within { IfOk result
+        (λ read. IfSome read (λ ranges. All (IsRangeWithin end) ranges.items)) }
 {
     let mut ranges = Vec::with_capacity(alloc, count)?;
     for number in 0..count {
@@ -77,7 +78,8 @@ fn read_entries(
 /// The range that an entry names, if it lies from `start` to `end`: `Some(None)` for an absent subchunk.
 fn entry_range(entry: &[u8], start: usize, end: usize) -> Option<Option<SubchunkRange>>
     requires { length entry.now ≡ 16 }
-    ensures part { (shard : List ℕ) → named_part shard start end entry.now ≡ option_map (range_part shard) result }
+    ensures part { (shard : List ℕ) → named_part shard start end entry.now
+        ≡ option_map (range_part shard) result }
     ensures within { IfSome result (IsRangeWithin end) }
 {
     let offset = u64::from_le_bytes(entry[..8].try_into().unwrap());
@@ -167,7 +169,8 @@ impl ShardWriter {
     pub fn finish(self) -> Result<Vec<u8>, AllocError>
         requires { IsComplete self }
         ensures { IfOk result (λ shard. (at_start : Bool) (parts : List (Option (List ℕ)))
-            → IsWriting at_start (length parts) self parts → shard.items ≡ shard_bytes at_start parts) }
+            → IsWriting at_start (length parts) self parts → shard.items
+            ≡ shard_bytes at_start parts) }
     {
         let ShardWriter {
             at_start,

@@ -33,8 +33,10 @@ impl Subchunks {
     pub fn new(alloc: Global, shape: &[u64], sub: &[u64]) -> Result<Option<Subchunks>, AllocError>
         ensures cut { IfOk result (λ made. MatchOption made (is_cut_by shape.now sub.now ≡ false)
             (λ _. is_cut_by shape.now sub.now ≡ true)) }
-        ensures chunk { IfOk result (λ made. IfSome made (λ subchunks. chunk_shape subchunks ≡ shape.now)) }
-        ensures subchunk { IfOk result (λ made. IfSome made (λ subchunks. subchunk_shape subchunks ≡ sub.now)) }
+        ensures chunk { IfOk result
+            (λ made. IfSome made (λ subchunks. chunk_shape subchunks ≡ shape.now)) }
+        ensures subchunk { IfOk result
+            (λ made. IfSome made (λ subchunks. subchunk_shape subchunks ≡ sub.now)) }
     {
         if !is_cut_by(shape, sub) {
             return Ok(None);
@@ -92,7 +94,8 @@ impl Subchunks {
         number: u64,
     ) -> Result<ArrayBytes<'static>, AllocError>
         requires number { number < subchunk_count (chunk_shape self.now) (subchunk_shape self.now) }
-        requires held { HasCells (kind data_type.now) (data_of chunk.now) (position_count (chunk_shape self.now)) }
+        requires held { HasCells (kind data_type.now) (data_of chunk.now)
+            (position_count (chunk_shape self.now)) }
         ensures { IfOk result (λ made. ExtractsSubchunk (kind data_type.now) (chunk_shape self.now)
             (subchunk_shape self.now) number (data_of chunk.now) (data_of made)) }
     {
@@ -113,13 +116,16 @@ impl Subchunks {
         number: u64,
     ) -> Result<ArrayBytes<'static>, AllocError>
         requires number { number < subchunk_count (chunk_shape self.now) (subchunk_shape self.now) }
-        requires held { HasCells (kind data_type.now) (data_of chunk) (position_count (chunk_shape self.now)) }
-        requires part { HasCells (kind data_type.now) (data_of part.now) (position_count (subchunk_shape self.now)) }
+        requires held { HasCells (kind data_type.now) (data_of chunk)
+            (position_count (chunk_shape self.now)) }
+        requires part { HasCells (kind data_type.now) (data_of part.now)
+            (position_count (subchunk_shape self.now)) }
         ensures { IfOk result (λ made. PutsSubchunk (kind data_type.now) (chunk_shape self.now)
-            (subchunk_shape self.now) number (data_of part.now) (data_of chunk.entry) (data_of made)) }
+            (subchunk_shape self.now) number (data_of part.now) (data_of chunk.entry)
+            (data_of made)) }
     {
         let subset = self.subset(alloc, number)?;
-        chunk.with_part(alloc, data_type, &self.chunk_box, part, &subset)
+        chunk.update_array_bytes(alloc, data_type, &self.chunk_box, part, &subset)
     }
 }
 

@@ -114,7 +114,8 @@ fn must_have(
     number: u64,
     expected: &[u8],
 ) -> Result<(), Fail>
-    requires number { number < subchunk_count (chunk_shape subchunks.now) (subchunk_shape subchunks.now) }
+    requires number { number < subchunk_count (chunk_shape subchunks.now)
+        (subchunk_shape subchunks.now) }
     requires cells { counted.1 ≡ position_count (chunk_shape subchunks.now) }
 {
     let (cells, cell_count) = counted;
@@ -136,7 +137,8 @@ fn with_part(
     number: u64,
     cell_count: u64,
 ) -> Result<Option<ArrayBytes<'static>>, Fail>
-    requires number { number < subchunk_count (chunk_shape subchunks.now) (subchunk_shape subchunks.now) }
+    requires number { number < subchunk_count (chunk_shape subchunks.now)
+        (subchunk_shape subchunks.now) }
     requires cells { cell_count ≡ position_count (chunk_shape subchunks.now) }
 {
     let data_type = DataType::UInt8;
@@ -158,7 +160,8 @@ fn must_put(
     number: u64,
     expected: &[u8],
 ) -> Result<(), Fail>
-    requires number { number < subchunk_count (chunk_shape subchunks.now) (subchunk_shape subchunks.now) }
+    requires number { number < subchunk_count (chunk_shape subchunks.now)
+        (subchunk_shape subchunks.now) }
     requires cells { counted.1 ≡ position_count (chunk_shape subchunks.now) }
 {
     let (cells, cell_count) = counted;

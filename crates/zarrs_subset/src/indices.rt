@@ -28,7 +28,8 @@ impl<'a> PositionWalk<'a> {
     /// The position that the walk is at.
     #[inline]
     pub fn current(&self) -> &[u64]
-        ensures { slice_get (positions (walk_box self.now)) (walk_number self.now) ≡ Some result.now }
+        ensures { slice_get (positions (walk_box self.now)) (walk_number self.now)
+            ≡ Some result.now }
     {
         self.current.as_slice()
     }
@@ -38,7 +39,8 @@ impl<'a> PositionWalk<'a> {
     pub fn advance(&mut self) -> bool
         ensures same_box { walk_box self.new ≡ walk_box self.old }
         ensures next { OnTrue result (walk_number self.new ≡ walk_number self.old + 1) }
-        ensures last { OnFalse result (walk_number self.old + 1 ≡ length (positions (walk_box self.old))) }
+        ensures last { OnFalse result (walk_number self.old + 1
+            ≡ length (positions (walk_box self.old))) }
         ensures first { OnFalse result (walk_number self.new ≡ 0) }
     {
         let (start, shape) = (self.subset.start(), self.subset.shape());
@@ -81,8 +83,10 @@ impl ArraySubset {
     /// # Errors
     /// `AllocError`: out of memory.
     pub fn walk(&self, alloc: Global) -> Result<Option<PositionWalk<'_>>, AllocError>
-        ensures none { IfOk result (λ o. MatchOption o (positions (box_of self.now) ≡ []) (λ walk. walk_box walk ≡ box_of self.now)) }
-        ensures first { IfOk result (λ o. MatchOption o (positions (box_of self.now) ≡ []) (λ walk. walk_number walk ≡ 0)) }
+        ensures none { IfOk result (λ o. MatchOption o (positions (box_of self.now) ≡ [])
+            (λ walk. walk_box walk ≡ box_of self.now)) }
+        ensures first { IfOk result (λ o. MatchOption o (positions (box_of self.now) ≡ [])
+            (λ walk. walk_number walk ≡ 0)) }
     {
         if self.is_empty() {
             return Ok(None);
@@ -173,7 +177,8 @@ fn advance(position: &mut [u64], start: &[u64], shape: &[u64]) -> bool
     ensures holds { Holds (box_from start.now shape.now) position.new }
     ensures next { OnTrue result (place_in (box_from start.now shape.now) position.new
         ≡ place_in (box_from start.now shape.now) position.old + 1) }
-    ensures last { OnFalse result (place_in (box_from start.now shape.now) position.old + 1 ≡ position_count shape.now) }
+    ensures last { OnFalse result (place_in (box_from start.now shape.now) position.old + 1
+        ≡ position_count shape.now) }
     ensures first { OnFalse result (position.new ≡ start.now) }
 {
     let mut axis = start.len();

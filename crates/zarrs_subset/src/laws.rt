@@ -13,7 +13,8 @@ pub fn positions_are_row_major()
 
 /// A position lies in a box if and only if it does so in each dimension.
 pub fn boxes_hold_along_each_dimension()
-    ensures { (box : Box) (position : List ℕ) → IsLong box → (Holds box position) ↔ InBox box position }
+    ensures { (box : Box) (position : List ℕ) → IsLong box → (Holds box position) ↔ InBox box
+        position }
 {}
 
 /// The positions of a shifted box are those of the box, with the offset added.

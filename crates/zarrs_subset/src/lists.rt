@@ -63,7 +63,8 @@ pub(crate) fn ends_of(
 /// The extents from `start` up to `end`, which lies nowhere below it.
 pub(crate) fn extents(end: ArrayIndices, start: &[u64]) -> ArrayShape
     requires same_length { length end.items ≡ length start.now }
-    requires ordered { (k : ℕ) → k < length start.now → slice_index start.now k ≤ slice_index end.items k }
+    requires ordered { (k : ℕ) → k < length start.now → slice_index start.now k ≤ slice_index
+        end.items k }
     ensures { result.items ≡ zip_with (λ e s. e - s) end.items start.now }
 {
     let mut shape = end;

@@ -9,7 +9,8 @@ use std::alloc::{AllocError, Global};
 
 /// The number of positions of an array of this shape, the product of its extents, if that fits `u64`.
 pub fn element_count(shape: &[u64]) -> Option<u64>
-    ensures { MatchOption result (2 ^ 64 ≤ position_count shape.now) (λ n. n ≡ position_count shape.now) }
+    ensures { MatchOption result (2 ^ 64 ≤ position_count shape.now)
+        (λ n. n ≡ position_count shape.now) }
 {
     if has_zero(shape) {
         return Some(0);
@@ -25,7 +26,8 @@ pub fn element_count(shape: &[u64]) -> Option<u64>
 ///
 /// `None` if the lists differ in length, if an index is not below its extent, or if the number passes `u64`.
 pub fn ravel_indices(indices: &[u64], shape: &[u64]) -> Option<u64>
-    ensures { MatchOption result (InShape shape.now indices.now → 2 ^ 64 ≤ place shape.now indices.now)
+    ensures { MatchOption result (InShape shape.now indices.now
+        → 2 ^ 64 ≤ place shape.now indices.now)
         (λ n. InShape shape.now indices.now × (n ≡ place shape.now indices.now)) }
 {
     if indices.len() != shape.len() {

@@ -83,7 +83,8 @@ impl Runs {
         requires target_room { dimension.target_extent * self.old.target_block < 2 ^ 64 }
         ensures { (size : ℕ) (S F T U es : List ℕ) → IsPlan size S F T U es self.old
             → IsPlan size (dimension.source_extent ∷ S) (dimension.source_start ∷ F)
-            (dimension.target_extent ∷ T) (dimension.target_start ∷ U) (dimension.extent ∷ es) self.new }
+            (dimension.target_extent ∷ T) (dimension.target_start ∷ U) (dimension.extent ∷ es)
+            self.new }
     {
         let extent = dimension.extent as usize;
         self.source_offset += dimension.source_start as usize * self.source_block;
@@ -109,8 +110,8 @@ impl Runs {
     pub(crate) fn copy(&self, source: &[u8], target: &mut [u8])
         requires source_len { self.now.source_block ≤ length source.now }
         requires target_len { self.now.target_block ≤ length target.old }
-        ensures { RunsCopied (strides_of self.now) self.now.len self.now.source_offset self.now.target_offset
-            source.now target.old target.new }
+        ensures { RunsCopied (strides_of self.now) self.now.len self.now.source_offset
+            self.now.target_offset source.now target.old target.new }
     {
         let strides = &self.strides[self.first..];
         let (from, to) = (self.source_offset, self.target_offset);

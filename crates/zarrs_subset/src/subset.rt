@@ -170,7 +170,8 @@ impl ArraySubset {
     /// # Errors
     /// `AllocError`: out of memory.
     pub fn end_exc(&self, alloc: Global) -> Result<ArrayIndices, AllocError>
-        ensures { IfOk result (λ end. end.items ≡ ends (box_of self.now).start (box_of self.now).shape) }
+        ensures { IfOk result (λ end. end.items ≡ ends (box_of self.now).start
+            (box_of self.now).shape) }
     {
         ends_of(alloc, &self.start, &self.shape)
     }
@@ -188,7 +189,8 @@ impl ArraySubset {
 
     /// Whether the box has no position: some extent is 0.
     pub fn is_empty(&self) -> bool
-        ensures { IsTrue result ↔ SomeIndex (box_of self.now).shape (λ k. slice_index (box_of self.now).shape k ≡ 0) }
+        ensures { IsTrue result ↔ SomeIndex (box_of self.now).shape
+            (λ k. slice_index (box_of self.now).shape k ≡ 0) }
     {
         has_zero(&self.shape)
     }
@@ -232,8 +234,10 @@ impl ArraySubset {
     ) -> Result<ArraySubset, ArraySubsetError>
         ensures common { IfOk result (λ b. (position : List ℕ) → in_box (box_of b) position
             ≡ (in_box (box_of self.now) position && in_box (B.region other.now) position)) }
-        ensures value { IfOk result (λ b. box_of b ≡ overlap_of (box_of self.now) (B.region other.now)) }
-        ensures dimensions { OnOk result (length (box_of self.now).start ≡ length (B.region other.now).start) }
+        ensures value { IfOk result (λ b. box_of b ≡ overlap_of (box_of self.now)
+            (B.region other.now)) }
+        ensures dimensions { OnOk result (length (box_of self.now).start
+            ≡ length (B.region other.now).start) }
         ensures refused { IfErr result
             (RefusesLength (length (B.region other.now).start) (length (box_of self.now).start)) }
     {
@@ -282,7 +286,8 @@ impl ArraySubset {
     pub fn shifted_by(&self, alloc: Global, offset: &[u64]) -> Result<ArraySubset, ArraySubsetError>
         ensures value { IfOk result (λ b. box_of b ≡ shifted_box (box_of self.now) offset.now) }
         ensures dimensions { OnOk result (length offset.now ≡ length (box_of self.now).start) }
-        ensures refused { IfErr result (RefusesShift (box_of self.now).start (box_of self.now).shape offset.now) }
+        ensures refused { IfErr result (RefusesShift (box_of self.now).start (box_of self.now).shape
+            offset.now) }
     {
         self.check_length(offset.len())?;
         for k in 0..offset.len() {
@@ -302,7 +307,8 @@ impl ArraySubset {
     pub fn bound(&self, alloc: Global, end: &[u64]) -> Result<ArraySubset, ArraySubsetError>
         ensures value { IfOk result (λ b. box_of b ≡ bound_to (box_of self.now) end.now) }
         ensures dimensions { OnOk result (length end.now ≡ length (box_of self.now).start) }
-        ensures refused { IfErr result (RefusesLength (length end.now) (length (box_of self.now).start)) }
+        ensures refused { IfErr result
+            (RefusesLength (length end.now) (length (box_of self.now).start)) }
     {
         self.check_length(end.len())?;
         let own_end = self.end_exc(alloc)?;

@@ -44,7 +44,8 @@ pub trait ArraySubsetTraits {
     /// # Errors
     /// `AllocError`: out of memory.
     fn end_exc(&self, alloc: Global) -> Result<ArrayIndices, AllocError>
-        ensures { IfOk result (λ end. end.items ≡ ends (region self.now).start (region self.now).shape) };
+        ensures { IfOk result (λ end. end.items ≡ ends (region self.now).start
+            (region self.now).shape) };
 
     /// The number of positions: the product of the extents.
     ///
@@ -60,7 +61,8 @@ pub trait ArraySubsetTraits {
         requires { dimension < length (region self.now).start }
         ensures start { result.start ≡ slice_index (region self.now).start dimension }
         ensures end { result.end
-            ≡ slice_index (region self.now).start dimension + slice_index (region self.now).shape dimension };
+            ≡ slice_index (region self.now).start dimension + slice_index (region self.now).shape
+            dimension };
 
     /// The box as a subset of its own.
     ///

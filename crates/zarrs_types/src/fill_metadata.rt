@@ -374,7 +374,8 @@ impl DataType {
         alloc: Global,
         metadata: &FillValueMetadata,
     ) -> Result<FillValue, DataTypeFillValueMetadataError>
-        ensures read { IfOk result (λ f. fill_said (kind self.now) (fill_data metadata.now) ≡ Some f) }
+        ensures read { IfOk result (λ f. fill_said (kind self.now) (fill_data metadata.now)
+            ≡ Some f) }
         ensures value { IfOk result (λ f. IsSome (fill_cell (kind self.now) f)) }
         ensures refused { IfErr result
             (RefusesFillMetadata (fill_said (kind self.now) (fill_data metadata.now))) }

@@ -32,7 +32,8 @@ impl<TStorage: ReadableStorageTraits> Array<TStorage> {
     ) -> Result<Option<Vec<T>>, ArrayError>
         requires { MayAskChunk (layout_of_array self.now) chunk_indices.now
             (store_of_array TStorage.state self.now) }
-        ensures cells { IfOk result (RetrievesIfExistsAs (ReadsElements T.cell) (layout_of_array self.now)
+        ensures cells { IfOk result
+            (RetrievesIfExistsAs (ReadsElements T.cell) (layout_of_array self.now)
             chunk_indices.now (store_of_array TStorage.state self.now)) }
         ensures served { IfOk result (λ found. OnSome found
             (T.serves (layout_of_array self.now).kind ≡ true)) }
@@ -56,7 +57,8 @@ impl<TStorage: ReadableStorageTraits> Array<TStorage> {
     ) -> Result<Option<Vec<T>>, ArrayError>
         requires { MayAskChunk (layout_of_array self.now) chunk_indices.now
             (store_of_array TStorage.state self.now) }
-        ensures cells { IfOk result (RetrievesIfExistsAs (ReadsElements T.cell) (layout_of_array self.now)
+        ensures cells { IfOk result
+            (RetrievesIfExistsAs (ReadsElements T.cell) (layout_of_array self.now)
             chunk_indices.now (store_of_array TStorage.state self.now)) }
         ensures served { IfOk result (λ found. OnSome found
             (T.serves (layout_of_array self.now).kind ≡ true)) }
@@ -79,7 +81,8 @@ impl<TStorage: ReadableStorageTraits> Array<TStorage> {
     ) -> Result<Vec<T>, ArrayError>
         requires { MayAskChunk (layout_of_array self.now) chunk_indices.now
             (store_of_array TStorage.state self.now) }
-        ensures cells { IfOk result (RetrievesChunkAs (ReadsElements T.cell) (layout_of_array self.now)
+        ensures cells { IfOk result
+            (RetrievesChunkAs (ReadsElements T.cell) (layout_of_array self.now)
             chunk_indices.now (store_of_array TStorage.state self.now)) }
         ensures served { OnOk result (T.serves (layout_of_array self.now).kind ≡ true) }
         ensures refused { IfErr result (λ e. RefusesChunkAs T.serves (layout_of_array self.now)
@@ -102,7 +105,8 @@ impl<TStorage: ReadableStorageTraits> Array<TStorage> {
     ) -> Result<Vec<T>, ArrayError>
         requires { MayAskChunk (layout_of_array self.now) chunk_indices.now
             (store_of_array TStorage.state self.now) }
-        ensures cells { IfOk result (RetrievesChunkAs (ReadsElements T.cell) (layout_of_array self.now)
+        ensures cells { IfOk result
+            (RetrievesChunkAs (ReadsElements T.cell) (layout_of_array self.now)
             chunk_indices.now (store_of_array TStorage.state self.now)) }
         ensures served { OnOk result (T.serves (layout_of_array self.now).kind ≡ true) }
         ensures refused { IfErr result (λ e. RefusesChunkAs T.serves (layout_of_array self.now)
@@ -124,7 +128,8 @@ impl<TStorage: ReadableStorageTraits> Array<TStorage> {
     ) -> Result<Vec<T>, ArrayError>
         requires { MayAskChunks (layout_of_array self.now) (positions (box_of chunks.now))
             (store_of_array TStorage.state self.now) }
-        ensures cells { IfOk result (RetrievesChunksAs (ReadsElements T.cell) (layout_of_array self.now)
+        ensures cells { IfOk result
+            (RetrievesChunksAs (ReadsElements T.cell) (layout_of_array self.now)
             (state_of_array TStorage.state self.now).shape (box_of chunks.now)
             (store_of_array TStorage.state self.now)) }
         ensures served { OnOk result (T.serves (layout_of_array self.now).kind ≡ true) }
@@ -147,7 +152,8 @@ impl<TStorage: ReadableStorageTraits> Array<TStorage> {
     ) -> Result<Vec<T>, ArrayError>
         requires { MayAskChunks (layout_of_array self.now) (positions (box_of chunks.now))
             (store_of_array TStorage.state self.now) }
-        ensures cells { IfOk result (RetrievesChunksAs (ReadsElements T.cell) (layout_of_array self.now)
+        ensures cells { IfOk result
+            (RetrievesChunksAs (ReadsElements T.cell) (layout_of_array self.now)
             (state_of_array TStorage.state self.now).shape (box_of chunks.now)
             (store_of_array TStorage.state self.now)) }
         ensures served { OnOk result (T.serves (layout_of_array self.now).kind ≡ true) }
@@ -170,11 +176,13 @@ impl<TStorage: ReadableStorageTraits> Array<TStorage> {
     ) -> Result<Vec<T>, ArrayError>
         requires { MayAskChunk (layout_of_array self.now) chunk_indices.now
             (store_of_array TStorage.state self.now) }
-        ensures cells { IfOk result (RetrievesPartAs (ReadsElements T.cell) (layout_of_array self.now)
+        ensures cells { IfOk result
+            (RetrievesPartAs (ReadsElements T.cell) (layout_of_array self.now)
             chunk_indices.now (box_of chunk_subset.now) (store_of_array TStorage.state self.now)) }
         ensures served { OnOk result (T.serves (layout_of_array self.now).kind ≡ true) }
         ensures refused { IfErr result (λ e. RefusesPartAs T.serves (layout_of_array self.now)
-            chunk_indices.now (box_of chunk_subset.now) (store_of_array TStorage.state self.now) (refusal_of e)) }
+            chunk_indices.now (box_of chunk_subset.now) (store_of_array TStorage.state self.now)
+            (refusal_of e)) }
     {
         self.retrieve_chunk_subset(alloc, chunk_indices, chunk_subset)
     }
@@ -192,11 +200,13 @@ impl<TStorage: ReadableStorageTraits> Array<TStorage> {
     ) -> Result<Vec<T>, ArrayError>
         requires { MayAskChunk (layout_of_array self.now) chunk_indices.now
             (store_of_array TStorage.state self.now) }
-        ensures cells { IfOk result (RetrievesPartAs (ReadsElements T.cell) (layout_of_array self.now)
+        ensures cells { IfOk result
+            (RetrievesPartAs (ReadsElements T.cell) (layout_of_array self.now)
             chunk_indices.now (box_of chunk_subset.now) (store_of_array TStorage.state self.now)) }
         ensures served { OnOk result (T.serves (layout_of_array self.now).kind ≡ true) }
         ensures refused { IfErr result (λ e. RefusesPartAs T.serves (layout_of_array self.now)
-            chunk_indices.now (box_of chunk_subset.now) (store_of_array TStorage.state self.now) (refusal_of e)) }
+            chunk_indices.now (box_of chunk_subset.now) (store_of_array TStorage.state self.now)
+            (refusal_of e)) }
     {
         self.retrieve_chunk_subset_opt(alloc, chunk_indices, chunk_subset, options)
     }
@@ -213,7 +223,8 @@ impl<TStorage: ReadableStorageTraits> Array<TStorage> {
         requires { MayAskChunks (layout_of_array self.now)
             (chunks_met (layout_of_array self.now).grid (box_of array_subset.now))
             (store_of_array TStorage.state self.now) }
-        ensures cells { IfOk result (RetrievesRegionAs (ReadsElements T.cell) (layout_of_array self.now)
+        ensures cells { IfOk result
+            (RetrievesRegionAs (ReadsElements T.cell) (layout_of_array self.now)
             (state_of_array TStorage.state self.now).shape (box_of array_subset.now)
             (store_of_array TStorage.state self.now)) }
         ensures served { OnOk result (T.serves (layout_of_array self.now).kind ≡ true) }
@@ -237,7 +248,8 @@ impl<TStorage: ReadableStorageTraits> Array<TStorage> {
         requires { MayAskChunks (layout_of_array self.now)
             (chunks_met (layout_of_array self.now).grid (box_of array_subset.now))
             (store_of_array TStorage.state self.now) }
-        ensures cells { IfOk result (RetrievesRegionAs (ReadsElements T.cell) (layout_of_array self.now)
+        ensures cells { IfOk result
+            (RetrievesRegionAs (ReadsElements T.cell) (layout_of_array self.now)
             (state_of_array TStorage.state self.now).shape (box_of array_subset.now)
             (store_of_array TStorage.state self.now)) }
         ensures served { OnOk result (T.serves (layout_of_array self.now).kind ≡ true) }
@@ -282,7 +294,8 @@ impl<TStorage: WritableStorageTraits> Array<TStorage> {
         ensures refused { IfErr result (λ e. RefusesStoreChunkAs T.serves
             (layout_of_array self.old) false
             (GivesElements T.cell chunk_elements.now) chunk_indices.now
-            (store_of_array TStorage.state self.old) (store_of_array TStorage.state self.new) (refusal_of e)) }
+            (store_of_array TStorage.state self.old) (store_of_array TStorage.state self.new)
+            (refusal_of e)) }
         ensures kept { KeepsArray self.old self.new }
     {
         self.store_chunk(alloc, chunk_indices, chunk_elements)
@@ -299,14 +312,16 @@ impl<TStorage: WritableStorageTraits> Array<TStorage> {
         chunk_elements: &[T],
         options: &CodecOptions,
     ) -> Result<(), ArrayError>
-        ensures done { OnOk result (StoresChunkAs (layout_of_array self.old) (stores_empty_chunks options.now)
+        ensures done { OnOk result
+            (StoresChunkAs (layout_of_array self.old) (stores_empty_chunks options.now)
             (GivesElements T.cell chunk_elements.now) chunk_indices.now
             (store_of_array TStorage.state self.old) (store_of_array TStorage.state self.new)) }
         ensures served { OnOk result (T.serves (layout_of_array self.old).kind ≡ true) }
         ensures refused { IfErr result (λ e. RefusesStoreChunkAs T.serves
             (layout_of_array self.old) (stores_empty_chunks options.now)
             (GivesElements T.cell chunk_elements.now) chunk_indices.now
-            (store_of_array TStorage.state self.old) (store_of_array TStorage.state self.new) (refusal_of e)) }
+            (store_of_array TStorage.state self.old) (store_of_array TStorage.state self.new)
+            (refusal_of e)) }
         ensures kept { KeepsArray self.old self.new }
     {
         self.store_chunk_opt(alloc, chunk_indices, chunk_elements, options)
@@ -329,7 +344,8 @@ impl<TStorage: WritableStorageTraits> Array<TStorage> {
         ensures refused { IfErr result (λ e. RefusesStoreChunksAs T.serves
             (layout_of_array self.old) false
             (GivesElements T.cell chunks_elements.now) (box_of chunks.now)
-            (store_of_array TStorage.state self.old) (store_of_array TStorage.state self.new) (refusal_of e)) }
+            (store_of_array TStorage.state self.old) (store_of_array TStorage.state self.new)
+            (refusal_of e)) }
         ensures kept { KeepsArray self.old self.new }
     {
         self.store_chunks(alloc, chunks, chunks_elements)
@@ -346,14 +362,16 @@ impl<TStorage: WritableStorageTraits> Array<TStorage> {
         chunks_elements: &[T],
         options: &CodecOptions,
     ) -> Result<(), ArrayError>
-        ensures done { OnOk result (StoresChunksAs (layout_of_array self.old) (stores_empty_chunks options.now)
+        ensures done { OnOk result
+            (StoresChunksAs (layout_of_array self.old) (stores_empty_chunks options.now)
             (GivesElements T.cell chunks_elements.now) (box_of chunks.now)
             (store_of_array TStorage.state self.old) (store_of_array TStorage.state self.new)) }
         ensures served { OnOk result (T.serves (layout_of_array self.old).kind ≡ true) }
         ensures refused { IfErr result (λ e. RefusesStoreChunksAs T.serves
             (layout_of_array self.old) (stores_empty_chunks options.now)
             (GivesElements T.cell chunks_elements.now) (box_of chunks.now)
-            (store_of_array TStorage.state self.old) (store_of_array TStorage.state self.new) (refusal_of e)) }
+            (store_of_array TStorage.state self.old) (store_of_array TStorage.state self.new)
+            (refusal_of e)) }
         ensures kept { KeepsArray self.old self.new }
     {
         self.store_chunks_opt(alloc, chunks, chunks_elements, options)
@@ -375,13 +393,16 @@ impl<TStorage: WritableStorageTraits> Array<TStorage> {
             (box_of chunk_subset.now)) (chunk_indices.now ∷ [])
             (store_of_array TStorage.state self.old) }
         ensures done { OnOk result (StoresPartAs (layout_of_array self.old) false
-            (GivesElements T.cell chunk_subset_elements.now) chunk_indices.now (box_of chunk_subset.now)
+            (GivesElements T.cell chunk_subset_elements.now) chunk_indices.now
+            (box_of chunk_subset.now)
             (store_of_array TStorage.state self.old) (store_of_array TStorage.state self.new)) }
         ensures served { OnOk result (T.serves (layout_of_array self.old).kind ≡ true) }
         ensures refused { IfErr result (λ e. RefusesStorePartAs T.serves
             (layout_of_array self.old) false
-            (GivesElements T.cell chunk_subset_elements.now) chunk_indices.now (box_of chunk_subset.now)
-            (store_of_array TStorage.state self.old) (store_of_array TStorage.state self.new) (refusal_of e)) }
+            (GivesElements T.cell chunk_subset_elements.now) chunk_indices.now
+            (box_of chunk_subset.now)
+            (store_of_array TStorage.state self.old) (store_of_array TStorage.state self.new)
+            (refusal_of e)) }
         ensures kept { KeepsArray self.old self.new }
     {
         self.store_chunk_subset(alloc, chunk_indices, chunk_subset, chunk_subset_elements)
@@ -403,14 +424,18 @@ impl<TStorage: WritableStorageTraits> Array<TStorage> {
             (part_box (box_at (layout_of_array self.old).grid chunk_indices.now)
             (box_of chunk_subset.now)) (chunk_indices.now ∷ [])
             (store_of_array TStorage.state self.old) }
-        ensures done { OnOk result (StoresPartAs (layout_of_array self.old) (stores_empty_chunks options.now)
-            (GivesElements T.cell chunk_subset_elements.now) chunk_indices.now (box_of chunk_subset.now)
+        ensures done { OnOk result
+            (StoresPartAs (layout_of_array self.old) (stores_empty_chunks options.now)
+            (GivesElements T.cell chunk_subset_elements.now) chunk_indices.now
+            (box_of chunk_subset.now)
             (store_of_array TStorage.state self.old) (store_of_array TStorage.state self.new)) }
         ensures served { OnOk result (T.serves (layout_of_array self.old).kind ≡ true) }
         ensures refused { IfErr result (λ e. RefusesStorePartAs T.serves
             (layout_of_array self.old) (stores_empty_chunks options.now)
-            (GivesElements T.cell chunk_subset_elements.now) chunk_indices.now (box_of chunk_subset.now)
-            (store_of_array TStorage.state self.old) (store_of_array TStorage.state self.new) (refusal_of e)) }
+            (GivesElements T.cell chunk_subset_elements.now) chunk_indices.now
+            (box_of chunk_subset.now)
+            (store_of_array TStorage.state self.old) (store_of_array TStorage.state self.new)
+            (refusal_of e)) }
         ensures kept { KeepsArray self.old self.new }
     {
         self.store_chunk_subset_opt(
@@ -444,7 +469,8 @@ impl<TStorage: WritableStorageTraits> Array<TStorage> {
             (layout_of_array self.old) false
             (state_of_array TStorage.state self.old).shape
             (GivesElements T.cell subset_elements.now) (box_of array_subset.now)
-            (store_of_array TStorage.state self.old) (store_of_array TStorage.state self.new) (refusal_of e)) }
+            (store_of_array TStorage.state self.old) (store_of_array TStorage.state self.new)
+            (refusal_of e)) }
         ensures kept { KeepsArray self.old self.new }
     {
         self.store_array_subset(alloc, array_subset, subset_elements)
@@ -464,7 +490,8 @@ impl<TStorage: WritableStorageTraits> Array<TStorage> {
         requires { MayAskParts (layout_of_array self.old) (box_of array_subset.now)
             (chunks_met (layout_of_array self.old).grid (box_of array_subset.now))
             (store_of_array TStorage.state self.old) }
-        ensures done { OnOk result (StoresRegionAs (layout_of_array self.old) (stores_empty_chunks options.now)
+        ensures done { OnOk result
+            (StoresRegionAs (layout_of_array self.old) (stores_empty_chunks options.now)
             (state_of_array TStorage.state self.old).shape
             (GivesElements T.cell subset_elements.now) (box_of array_subset.now)
             (store_of_array TStorage.state self.old) (store_of_array TStorage.state self.new)) }
@@ -473,7 +500,8 @@ impl<TStorage: WritableStorageTraits> Array<TStorage> {
             (layout_of_array self.old) (stores_empty_chunks options.now)
             (state_of_array TStorage.state self.old).shape
             (GivesElements T.cell subset_elements.now) (box_of array_subset.now)
-            (store_of_array TStorage.state self.old) (store_of_array TStorage.state self.new) (refusal_of e)) }
+            (store_of_array TStorage.state self.old) (store_of_array TStorage.state self.new)
+            (refusal_of e)) }
         ensures kept { KeepsArray self.old self.new }
     {
         self.store_array_subset_opt(alloc, array_subset, subset_elements, options)

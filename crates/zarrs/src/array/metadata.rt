@@ -23,7 +23,8 @@ impl<TStorage: WritableStorageTraits> Array<TStorage> {
         ensures done { OnOk result (StoresMetadata (metadata_options_of_array self.old)
             (path_of_array self.old) (metadata_of_array self.old)
             (store_of_array TStorage.state self.old) (store_of_array TStorage.state self.new)) }
-        ensures refused { IfErr result (λ e. RefusesStoreMetadata (metadata_options_of_array self.old)
+        ensures refused { IfErr result
+            (λ e. RefusesStoreMetadata (metadata_options_of_array self.old)
             (path_of_array self.old) (metadata_of_array self.old) (refusal_of_storage e)
             (store_of_array TStorage.state self.old) (store_of_array TStorage.state self.new)) }
         ensures kept { KeepsArray self.old self.new }

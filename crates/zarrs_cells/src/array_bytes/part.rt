@@ -22,7 +22,7 @@ impl ArrayBytes<'static> {
     ///
     /// # Errors
     /// `AllocError`: out of memory.
-    pub fn with_part(
+    pub fn update_array_bytes(
         self,
         alloc: Global,
         data_type: &DataType,
@@ -107,7 +107,8 @@ fn fixed_with_part(
     requires part { IsTrue (fits (kind data_type.now) (data_of part.now)
         (position_count (box_of part_box.now).shape)) }
     ensures { IfOk result (λ made. TakesEach (kind data_type.now) (box_of held_box.now)
-        (box_of part_box.now) (data_of part.now) (fixed (cow_slice_items bytes.entry)) (data_of made)) }
+        (box_of part_box.now) (data_of part.now) (fixed (cow_slice_items bytes.entry))
+        (data_of made)) }
 {
     let ArrayBytes::Fixed(given) = part else {
         unreachable!()

@@ -32,11 +32,13 @@ impl<
         chunk_indices: &[u64],
     ) -> Result<Option<Vec<u8>>, ArrayError>
         requires dimensions { length chunk_indices.now ≡ (layout_of self.now).grid.dimensions }
-        requires ask { MayAskChunk (layout_of self.now) chunk_indices.now (store_of S.state self.now) }
+        requires ask { MayAskChunk (layout_of self.now) chunk_indices.now
+            (store_of S.state self.now) }
         ensures value { IfOk result (λ value. option_map (λ v. v.items) value
             ≡ value_at (store_of S.state self.now) ((layout_of self.now).key chunk_indices.now)) }
         ensures accepted { OnOk result
-            (key_refusal (layout_of self.now) chunk_indices.now (store_of S.state self.now) ≡ None) }
+            (key_refusal (layout_of self.now) chunk_indices.now (store_of S.state self.now)
+            ≡ None) }
         ensures refused { IfErr result (λ e. RefusesBy
             (key_refusal (layout_of self.now) chunk_indices.now (store_of S.state self.now))
             (refusal_of e)) }
@@ -56,7 +58,8 @@ impl<
         alloc: Global,
         chunks: &ArraySubset,
     ) -> Result<Vec<Option<Vec<u8>>>, ArrayError>
-        requires dimensions { length (box_of chunks.now).start ≡ (layout_of self.now).grid.dimensions }
+        requires dimensions { length (box_of chunks.now).start
+            ≡ (layout_of self.now).grid.dimensions }
         requires ask { MayAskChunks (layout_of self.now) (positions (box_of chunks.now))
             (store_of S.state self.now) }
         ensures values { IfOk result (λ values. map (option_map (λ v. v.items)) values.items

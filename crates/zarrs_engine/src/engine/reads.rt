@@ -34,9 +34,11 @@ impl<
         requires { MayAskChunk (layout_of self.now) chunk_indices.now (store_of S.state self.now) }
         ensures value { IfOk result (λ value. value
             ≡ value_at (store_of S.state self.now) ((layout_of self.now).key chunk_indices.now)) }
-        ensures long { OnOk result (length chunk_indices.now ≡ (layout_of self.now).grid.dimensions) }
+        ensures long { OnOk result (length chunk_indices.now
+            ≡ (layout_of self.now).grid.dimensions) }
         ensures asked { OnOk result
-            (key_refusal (layout_of self.now) chunk_indices.now (store_of S.state self.now) ≡ None) }
+            (key_refusal (layout_of self.now) chunk_indices.now (store_of S.state self.now)
+            ≡ None) }
         ensures refused { IfErr result
             (λ e. RefusesValue (layout_of self.now) chunk_indices.now (store_of S.state self.now)
             (refusal_of e)) }

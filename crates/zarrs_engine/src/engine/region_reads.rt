@@ -45,7 +45,8 @@ impl<
             ≡ (layout_of self.now).grid.dimensions }
         requires held { HasCells (layout_of self.now).kind (data_of held)
             (position_count (box_of region.now).shape) }
-        requires ask { MayAskChunk (layout_of self.now) chunk_indices.now (store_of S.state self.now) }
+        requires ask { MayAskChunk (layout_of self.now) chunk_indices.now
+            (store_of S.state self.now) }
         ensures read { IfOk result (λ made. ReadsOneMore (layout_of self.now) (box_of region.now)
             chunk_indices.now (store_of S.state self.now) (data_of held.entry) (data_of made)) }
         ensures refused { IfErr result
@@ -57,7 +58,13 @@ impl<
         };
         let chunk = self.parts.chunk(alloc, chunk_indices)?;
         let part = self.parts.decode(alloc, chunk_indices, &encoded)?;
-        let made = held.with_part(alloc, &self.parts.data_type, region, &part, &chunk.region)?;
+        let made = held.update_array_bytes(
+            alloc,
+            &self.parts.data_type,
+            region,
+            &part,
+            &chunk.region,
+        )?;
         Ok(made)
     }
 

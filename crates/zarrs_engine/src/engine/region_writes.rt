@@ -57,7 +57,8 @@ impl<
         requires ask { MayAskParts (layout_of self.now) (box_of region.now)
             (chunk_indices.now ∷ []) (store_of S.state self.now) }
         ensures updated { IfOk result (λ made. HasUpdated (layout_of self.now) (box_of region.now)
-            (data_of region_data.now) chunk_indices.now (store_of S.state self.now) (data_of made)) }
+            (data_of region_data.now) chunk_indices.now (store_of S.state self.now)
+            (data_of made)) }
         ensures refused { (keep : Bool) → IfErr result
             (λ e. RefusesPart (layout_of self.now) keep (box_of region.now)
             (data_of region_data.now) chunk_indices.now 0 (store_of S.state self.now)
@@ -73,7 +74,13 @@ impl<
             return Ok(data);
         }
         let held = self.retrieve_chunk(alloc, chunk_indices)?;
-        let data = held.with_part(alloc, &self.parts.data_type, chunk, region_data, region)?;
+        let data = held.update_array_bytes(
+            alloc,
+            &self.parts.data_type,
+            chunk,
+            region_data,
+            region,
+        )?;
         Ok(data)
     }
 
@@ -242,8 +249,8 @@ impl<
         options: &CodecOptions,
     ) -> Result<(), ArrayError>
         requires { MayAskParts (layout_of self.old)
-            (part_box (box_at (layout_of self.old).grid chunk_indices.now) (box_of chunk_subset.now))
-            (chunk_indices.now ∷ []) (store_of S.state self.old) }
+            (part_box (box_at (layout_of self.old).grid chunk_indices.now)
+            (box_of chunk_subset.now)) (chunk_indices.now ∷ []) (store_of S.state self.old) }
         ensures done { OnOk result
             (StoresPart (layout_of self.old) (stores_empty_chunks options.now) chunk_indices.now
             (box_of chunk_subset.now) (data_of chunk_subset_data.now) (store_of S.state self.old)

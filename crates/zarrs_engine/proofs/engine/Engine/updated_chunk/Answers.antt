@@ -49,8 +49,8 @@ returns-in_err-held-clause-refused g c = λ keep.
     c.requires.boxed fit part (refusal_of c.in_err-held.field-0.0) c.in_err-held.ensures.refused in
     search (rules, why)
 
-pub with_part-requires-clause-dimensions : goal.with_part-requires-clause-dimensions
-with_part-requires-clause-dimensions g c =
+pub update_array_bytes-requires-clause-dimensions : goal.update_array_bytes-requires-clause-dimensions
+update_array_bytes-requires-clause-dimensions g c =
     let layout = layout_of c.args.self.now in
     ap (λ (b : Box). length b.start) c.requires.chunk ∙ box_dimensions layout.grid c.args.chunk_indices.now ∙ sym c.requires.dimensions
 

@@ -43,14 +43,14 @@ returns-in_err-part-clause-refused g c =
     let why = some_broken layout (box_of c.args.region.now) c.args.chunk_indices.now state c.requires.boxed c.deref.result.now stands c.in_ok-chunk.ensures.accepted (refusal_of c.in_err-part.field-0.0) c.in_err-part.ensures.refused in
     search (rules, why)
 
-pub with_part-requires-clause-dimensions : goal.with_part-requires-clause-dimensions
-with_part-requires-clause-dimensions g c =
+pub update_array_bytes-requires-clause-dimensions : goal.update_array_bytes-requires-clause-dimensions
+update_array_bytes-requires-clause-dimensions g c =
     let layout = layout_of c.args.self.now in
     let index = c.args.chunk_indices.now in
     c.requires.dimensions ∙ sym (ap (λ (b : Box). length b.start) c.in_ok-chunk.ensures.region ∙ box_dimensions layout.grid index)
 
-pub with_part-requires-clause-part : goal.with_part-requires-clause-part
-with_part-requires-clause-part g c =
+pub update_array_bytes-requires-clause-part : goal.update_array_bytes-requires-clause-part
+update_array_bytes-requires-clause-part g c =
     let layout = layout_of c.args.self.now in
     let state = g.S.ReadableStorageTraits.state c.args.self.now.storage in
     let index = c.args.chunk_indices.now in

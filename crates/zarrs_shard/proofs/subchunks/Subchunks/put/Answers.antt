@@ -17,9 +17,9 @@ returns c =
     let k = kind c.args.data_type.now in
     let part = data_of c.args.part.now in
     let old = data_of c.args.chunk in
-    IfOk-weaker c.with_part.result _ _
+    IfOk-weaker c.update_array_bytes.result _ _
     (λ made x. puts_subchunk k s sub c.args.number self.cut c.requires.number part old (data_of made)
     (subst (λ box. TakesCells k box (subchunk_box s sub c.args.number) part old (data_of made)) self.at_origin
     (subst (λ box. TakesCells k (box_of self.chunk_box) box part old (data_of made)) c.in_ok-subset.ensures x))
     c.requires.held c.requires.part)
-    c.with_part.ensures
+    c.update_array_bytes.ensures

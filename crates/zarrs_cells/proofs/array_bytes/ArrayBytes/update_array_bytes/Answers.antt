@@ -6,7 +6,7 @@ use Rattle.zarrs_subset.specs.Regions.{box_of}
 use Rattle.zarrs_cells.specs.ArrayData.{data_of}
 use Rattle.zarrs_cells.proofs.Cells.{HasCells-parts}
 use Rattle.zarrs_cells.proofs.Parts.{takes_cells}
-use Rattle.zarrs_cells.proofs.array_bytes.ArrayBytes.with_part.Goals as goal
+use Rattle.zarrs_cells.proofs.array_bytes.ArrayBytes.update_array_bytes.Goals as goal
 
 pub put_part-requires-clause-held : goal.put_part-requires-clause-held
 put_part-requires-clause-held c = (HasCells-parts (kind c.args.data_type.now) (data_of c.args.self) (position_count (box_of c.args.held_box.now).shape) c.requires.held).0
