@@ -3,7 +3,7 @@ use Rattle.std.proofs.Common.{◌≡◌, ℕ, suc, ◌+◌, ◌-◌, ◌*◌, �
 use Rattle.std.proofs.Common.{get_or, sym, ap, ◌∙◌, append_assoc, arith}
 use Rattle.std.proofs.Math.Nat.{pow-le-pow_right, pow-suc}
 use Rattle.std.proofs.lemmas.List.{at_drop_more}
-use Rattle.zarrs_script.specs.CellTypes.{low_bytes, value_of}
+use Rattle.zarrs_script.specs.CellTexts.{low_bytes, value_of}
 
 -- one more byte: from what is there, with the rest after it
 pub one_byte : (front : List ℕ) (count k n : ℕ) → k < count → front ++ low_bytes (count - k) n ≡ (front ++ n % 256 ∷ []) ++ low_bytes (count - (k + 1)) (n / 256)

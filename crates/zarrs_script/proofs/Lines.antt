@@ -2,7 +2,7 @@
 use Rattle.std.proofs.Common.{◌≡◌, ℕ, ◌+◌, true, false, List, [], ◌∷◌, ◌++◌, length, drop, Option, Some, None, Result}
 use Rattle.std.proofs.Common.{Ok, Err, refl, sym, ap, ◌∙◌, append_assoc, arith}
 use Rattle.std.proofs.lemmas.List.{at_drop_all, append-nil}
-use Rattle.zarrs_script.specs.declared.cell_type.CellType.{CellType}
+use Rattle.zarrs_script_metadata.specs.declared.cell_type.CellType.{CellType}
 use Rattle.zarrs_script.specs.Script.{Order, order_of, type_after, is_skipped, onto, orders_from}
 use Rattle.zarrs_script.proofs.Lists.{IsPart, at_part}
 

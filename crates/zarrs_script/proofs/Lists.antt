@@ -10,7 +10,7 @@ use Rattle.zarrs_metadata.specs.Extension.{◌>>=◌}
 use Rattle.zarrs_script.specs.declared.error.ParseError.{ParseError}
 use Rattle.zarrs_script.specs.declared.error.ParseError.TheVariants.{NotACommand, OutOfMemory}
 use Rattle.zarrs_script.specs.Words.{each_of}
-use Rattle.zarrs_script.specs.CellTypes.{joined_cells}
+use Rattle.zarrs_script.specs.CellTexts.{joined_cells}
 use Rattle.zarrs_script.specs.Script.{keys_order, meta_order}
 use Rattle.zarrs_script.specs.Parsed.{Fails}
 

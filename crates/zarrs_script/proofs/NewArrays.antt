@@ -40,12 +40,12 @@ use Rattle.zarrs.specs.Layouts.{layout_meant}
 use Rattle.zarrs_script_metadata.specs.Parts.{is_whole_number, document_for}
 use Rattle.zarrs_script_metadata.proofs.Plain.{plain_document_for}
 use Rattle.zarrs_steps.specs.Layout.{Layout}
-use Rattle.zarrs_script.specs.declared.cell_type.CellType.{CellType}
-use Rattle.zarrs_script.specs.declared.cell_type.CellType.TheVariants as cell
+use Rattle.zarrs_script_metadata.specs.declared.cell_type.CellType.{CellType}
+use Rattle.zarrs_script_metadata.specs.declared.cell_type.CellType.TheVariants as cell
 use Rattle.zarrs_script.specs.declared.command.Creation.{Creation}
 use Rattle.zarrs_script.specs.declared.error.CreationError.{CreationError}
 use Rattle.zarrs_script.specs.declared.error.CreationError.TheVariants.{NoGrid, OutOfMemory}
-use Rattle.zarrs_script.specs.CellTypes.{kind_of_cells}
+use Rattle.zarrs_script_metadata.specs.CellTypes.{kind_of_cells}
 use Rattle.zarrs_script.specs.Transcript.{Opened, MakesGrid, SaysItsParts, layout_for, parts_of_line, metadata_for, new_array}
 use Rattle.zarrs_script.specs.Sessions.{HasNoArray}
 use Rattle.zarrs_script.specs.Sizes.{HasSizes}

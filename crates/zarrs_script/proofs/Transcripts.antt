@@ -19,12 +19,13 @@ use Rattle.zarrs_steps.specs.Step.{ActStep, Step, Run}
 use Rattle.zarrs_document_v2.specs.View.{MetadataData}
 use Rattle.zarrs.specs.Arrays.{metadata_of_array}
 use Rattle.zarrs_script_metadata.specs.Parts.{text_of_metadata}
-use Rattle.zarrs_script.specs.declared.cell_type.CellType.{CellType}
+use Rattle.zarrs_script_metadata.specs.declared.cell_type.CellType.{CellType}
 use Rattle.zarrs_script.specs.declared.command.Creation.{Creation}
 use Rattle.zarrs_script.specs.declared.command.Command.{Command}
 use Rattle.zarrs_script.specs.declared.command.Command.TheVariants as command_of
 use Rattle.zarrs_script.specs.declared.array.OpenArray.{OpenArray}
-use Rattle.zarrs_script.specs.CellTypes.{kind_of_cells, cell_text}
+use Rattle.zarrs_script_metadata.specs.CellTypes.{kind_of_cells}
+use Rattle.zarrs_script.specs.CellTexts.{cell_text}
 use Rattle.zarrs_script.specs.Script.{Order}
 use Rattle.zarrs_script.specs.Parsed.{order_of_call, order_of_command}
 use Rattle.zarrs_script.specs.Transcript.{Opened, Session, Outcome, Opens, Calls, Does, Transcript, line, list_text}

@@ -1,5 +1,5 @@
 pub mod Words
-pub mod CellTypes
+pub mod CellTexts
 pub mod Script
 pub mod Parsed
 pub mod Transcript

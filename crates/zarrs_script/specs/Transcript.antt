@@ -25,8 +25,9 @@ use Rattle.zarrs_steps.specs.Refusals.{refusal_of, refusal_number}
 use Rattle.zarrs_steps.specs.Step.{Step}
 use Rattle.zarrs_array_metadata.specs.Meanings.{Meaning, creation_v3}
 use Rattle.zarrs_script_metadata.specs.Parts.{parts_for, document_for, text_of_metadata}
-use Rattle.zarrs_script.specs.declared.cell_type.CellType.{CellType}
-use Rattle.zarrs_script.specs.CellTypes.{kind_of_cells, cell_text}
+use Rattle.zarrs_script_metadata.specs.declared.cell_type.CellType.{CellType}
+use Rattle.zarrs_script_metadata.specs.CellTypes.{kind_of_cells}
+use Rattle.zarrs_script.specs.CellTexts.{cell_text}
 use Rattle.zarrs_script.specs.Script.{Order, Array, Keys, Meta}
 use Rattle.zarrs_script.specs.Parsed.{order_of_call}
 

@@ -4,10 +4,10 @@ ghost use Rattle.serde_json.specs.Written.{has_float};
 ghost use Rattle.zarrs_document_v2.specs.View.{data_of_metadata};
 ghost use Rattle.zarrs_data_type.specs.Same.{kind_eq};
 ghost use Rattle.zarrs.specs.Arrays.{layout_of_array, metadata_of_array};
-ghost use Rattle.zarrs_script.specs.CellTypes.{kind_of_cells};
+ghost use Rattle.zarrs_script_metadata.specs.CellTypes.{kind_of_cells};
 
-use crate::cell_type::CellType;
 use zarrs::Array;
+use zarrs_script_metadata::CellType;
 use zarrs_storage::MemoryStore;
 
 /// The open array.

@@ -3,7 +3,6 @@
 #![tactic(auto)]
 
 mod array;
-mod cell_type;
 mod command;
 mod create;
 mod error;

@@ -4,8 +4,9 @@ ghost use Rattle.std.specs.List.{slice_split};
 ghost use Rattle.zarrs_subset.specs.Regions.{box_of};
 ghost use Rattle.zarrs_data_type.specs.Cell.{fill_cell};
 ghost use Rattle.zarrs_script.specs.Words.{number_of, each_of, numbers_in_word, region_of};
-ghost use Rattle.zarrs_script.specs.CellTypes.{kind_of_cells, cell_of, joined_cells, cells_of, low_bytes};
-ghost use Rattle.zarrs_script.specs.CellTypes.{positive, negative, unsigned_cell, signed_cell};
+ghost use Rattle.zarrs_script_metadata.specs.CellTypes.{kind_of_cells};
+ghost use Rattle.zarrs_script.specs.CellTexts.{cell_of, joined_cells, cells_of, low_bytes};
+ghost use Rattle.zarrs_script.specs.CellTexts.{positive, negative, unsigned_cell, signed_cell};
 ghost use Rattle.zarrs_script.specs.Script.{verb_of, array_order, chunk_order, put_order};
 ghost use Rattle.zarrs_script.specs.Script.{get_order, indices_of, keys_order, meta_order};
 ghost use Rattle.zarrs_script.specs.Script.{verb_order};
@@ -13,13 +14,13 @@ ghost use Rattle.zarrs_script.specs.Script.{order_of, type_after, is_skipped, or
 ghost use Rattle.zarrs_script.specs.Parsed.{Gives, Grows, words_in, TakesWord, TakesLastWord};
 ghost use Rattle.zarrs_script.specs.Parsed.{order_of_command, Parses};
 
-use crate::cell_type::CellType;
 use crate::command::{Command, Creation, Verb};
 use crate::error::{ParseError, ScriptError};
 use std::alloc::{AllocError, Global};
 use std::borrow::CowSlice;
 use zarrs_data_type::ArrayBytes;
 use zarrs_engine::Call;
+use zarrs_script_metadata::CellType;
 use zarrs_subset::ArraySubset;
 
 #[tactic(auto, unfolding(crate::specs::Script::verb_of))]
@@ -121,7 +122,7 @@ fn push_signed(cells: &mut Vec<u8>, cell_type: CellType, digits: &[u8]) -> Resul
 }
 
 /// Adds the bytes of the cell that the word writes.
-#[tactic(auto, unfolding(crate::specs::CellTypes::cell_of))]
+#[tactic(auto, unfolding(crate::specs::CellTexts::cell_of))]
 fn push_cell(cells: &mut Vec<u8>, cell_type: CellType, word: &[u8]) -> Result<(), ParseError>
     ensures { Grows result cells.old.items cells.new.items (cell_of cell_type word.now) }
 {

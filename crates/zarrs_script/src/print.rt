@@ -7,12 +7,12 @@ ghost use Rattle.zarrs_data_type.specs.ArrayData.{fixed};
 ghost use Rattle.zarrs_data_type.specs.Cells.{cells};
 ghost use Rattle.zarrs_steps.specs.Refusals.{refusal_of, refusal_number};
 ghost use Rattle.zarrs_script_metadata.specs.Parts.{text_of_metadata};
-ghost use Rattle.zarrs_script.specs.CellTypes.{kind_of_cells, cell_type_size, value_of, number_text};
+ghost use Rattle.zarrs_script_metadata.specs.CellTypes.{kind_of_cells, cell_type_size};
+ghost use Rattle.zarrs_script.specs.CellTexts.{value_of, number_text};
 ghost use Rattle.zarrs_script.specs.Transcript.{line, refusal, data_text, reply_text, is_refusal};
 ghost use Rattle.zarrs_script.specs.Transcript.{bytes_at, key_text, keys_text};
 ghost use Rattle.zarrs_script.specs.Sessions.{Puts};
 
-use crate::cell_type::CellType;
 use crate::error::Stopped;
 use bytes::Bytes;
 use itoa::Buffer;
@@ -22,7 +22,7 @@ use zarrs_codec_leaf::CodecError;
 use zarrs_data_type::{ArrayBytes, ElementError};
 use zarrs_document_v2::ArrayMetadata;
 use zarrs_engine::{ArrayError, Reply};
-use zarrs_script_metadata::metadata_text;
+use zarrs_script_metadata::{CellType, metadata_text};
 use zarrs_storage::{MemoryStore, ReadableStorageTraits, StorageError, StoreKey};
 
 /// The number of bytes that are gathered before they are written.

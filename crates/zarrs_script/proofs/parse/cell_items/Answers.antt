@@ -4,7 +4,7 @@ use Rattle.std.specs.Slice.Iter as slice
 use Rattle.std.proofs.lemmas.List.{length_push}
 use Rattle.std.proofs.lemmas.Iterator.Splits.{YieldsList-from_slice_split}
 use Rattle.zarrs_script.specs.Words.{each_of}
-use Rattle.zarrs_script.specs.CellTypes.{cell_of, joined_cells}
+use Rattle.zarrs_script.specs.CellTexts.{cell_of, joined_cells}
 use Rattle.zarrs_script.specs.Parsed.{Fails}
 use Rattle.zarrs_script.proofs.Lists.{turn, ended, one_cell, fails_at, all_cells}
 use Rattle.zarrs_script.proofs.parse.cell_items.Goals as goal

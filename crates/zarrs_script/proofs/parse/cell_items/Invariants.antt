@@ -1,7 +1,7 @@
 use Rattle.std.proofs.Common.{◌≡◌, ◌==◌, length, drop}
 use Rattle.std.specs.List.{slice_split}
 use Rattle.zarrs_script.specs.Words.{each_of}
-use Rattle.zarrs_script.specs.CellTypes.{cell_of, joined_cells}
+use Rattle.zarrs_script.specs.CellTexts.{cell_of, joined_cells}
 use Rattle.zarrs_script.proofs.Lists.{with_cells}
 use Rattle.zarrs_script.proofs.parse.cell_items.Given as goal
 

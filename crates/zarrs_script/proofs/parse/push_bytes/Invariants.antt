@@ -1,5 +1,5 @@
 use Rattle.std.proofs.Common.{◌≡◌, ◌-◌, ◌++◌}
-use Rattle.zarrs_script.specs.CellTypes.{low_bytes}
+use Rattle.zarrs_script.specs.CellTexts.{low_bytes}
 use Rattle.zarrs_script.proofs.parse.push_bytes.Given as goal
 
 abbrev pub invariant-loop : goal.invariant-loop

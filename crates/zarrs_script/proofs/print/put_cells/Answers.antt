@@ -1,6 +1,6 @@
 use Rattle.std.proofs.Common.{◌≡◌, ◌+◌, ◌*◌, ◌∷◌, [], ◌++◌, ℕ, List, take, slice_range, Some, refl, sym, ap, ◌∙◌, append_assoc, arith}
 use Rattle.std.specs.List.{join_with_byte}
-use Rattle.zarrs_script.specs.CellTypes.{number_text}
+use Rattle.zarrs_script.specs.CellTexts.{number_text}
 use Rattle.zarrs_script.proofs.Texts.{texts, text_at, shown, first_cell, one_text, all_texts}
 use Rattle.zarrs_script.proofs.Printing.{puts_pending, puts_more, puts_spilled}
 use Rattle.zarrs_script.proofs.print.put_cells.Goals as goal

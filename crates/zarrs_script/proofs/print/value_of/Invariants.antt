@@ -1,5 +1,5 @@
 use Rattle.std.proofs.Common.{◌≡◌, ◌<◌, ◌-◌, ◌^◌, length, drop}
-use Rattle.zarrs_script.specs.CellTypes.{value_of}
+use Rattle.zarrs_script.specs.CellTexts.{value_of}
 use Rattle.zarrs_script.proofs.print.value_of.Given as goal
 
 abbrev pub invariant-loop-count : goal.invariant-loop-count

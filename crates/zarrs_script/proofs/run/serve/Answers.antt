@@ -7,7 +7,7 @@ use Rattle.zarrs_steps.specs.Step.{Run}
 use Rattle.zarrs_codec.specs.Options.{stores_empty_chunks}
 use Rattle.zarrs_layout.specs.Layouts.{layout_of_parts}
 use Rattle.zarrs.specs.Arrays.{layout_of_array, metadata_of_array, state_of_array}
-use Rattle.zarrs_script.specs.CellTypes.{kind_of_cells}
+use Rattle.zarrs_script_metadata.specs.CellTypes.{kind_of_cells}
 use Rattle.zarrs_script.proofs.Printing.{puts_as}
 use Rattle.zarrs_script.proofs.Transcripts.{one_reply, some_reply, reply_said, call_served}
 use Rattle.zarrs_script.proofs.run.serve.Goals as goal

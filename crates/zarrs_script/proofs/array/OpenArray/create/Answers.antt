@@ -4,7 +4,7 @@ use Rattle.zarrs_document_v2.specs.View.{MetadataData, data_of_metadata, v3}
 use Rattle.zarrs_data_type.specs.Same.{kind_eq-Decides}
 use Rattle.zarrs_steps.specs.Layout.{Layout}
 use Rattle.zarrs_array_metadata.specs.Meanings.{Meaning}
-use Rattle.zarrs_script.specs.CellTypes.{kind_of_cells}
+use Rattle.zarrs_script_metadata.specs.CellTypes.{kind_of_cells}
 use Rattle.zarrs_script.proofs.NewArrays.{same_parts, made_array, is_plain, only_memory, created_at_root}
 use Rattle.zarrs_script.proofs.array.OpenArray.create.Goals as goal
 

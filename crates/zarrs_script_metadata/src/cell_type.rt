@@ -1,9 +1,9 @@
 //! The types of the cells of a script's arrays.
 ghost use Rattle.std.specs.Prelude.{◌≡◌};
-ghost use Rattle.zarrs_data_type.specs.Kind.{kind};
-ghost use Rattle.zarrs_script.specs.CellTypes.{kind_of_cells, cell_type_size, greatest, is_signed, type_of};
+ghost use Rattle.zarrs_types.specs.Kind.{kind};
+ghost use Rattle.zarrs_script_metadata.specs.CellTypes.{kind_of_cells, cell_type_size, greatest, is_signed, type_of};
 
-use zarrs_data_type::DataType;
+use zarrs_types::DataType;
 
 /// The type of an array's cells.
 #[derive(Clone, Copy, Debug, PartialEq, Eq)]
