@@ -4,3 +4,4 @@ pub mod Typed
 pub mod Named
 pub mod Trips
 pub mod Regridded
+mod Short

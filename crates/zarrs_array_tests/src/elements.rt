@@ -25,19 +25,19 @@ fn must_be(rt: &impl Abort, held: &[i16], elements: &[i16]) {
 
 fn must_store(rt: &impl Abort, alloc: Global, array: &mut MemoryArray) -> Result<(), Fail> {
     array.store_chunk_elements(alloc, &[0], &[1i16, 2])?;
-    array.store_chunk_subset_elements(alloc, &[1], &region(alloc, 0, 1)?, &[-3i16])?;
-    array.store_array_subset_elements(alloc, &region(alloc, 1, 1)?, &[7i16])?;
+    array.store_chunk_subset_elements(alloc, &[1], &[0..1], &[-3i16])?;
+    array.store_array_subset_elements(alloc, &[1..2], &[7i16])?;
     must_be(
         rt,
         &array.retrieve_chunk_elements::<i16>(alloc, &[0])?,
         &[1, 7],
     );
-    let part = array.retrieve_chunk_subset_elements::<i16>(alloc, &[1], &region(alloc, 0, 1)?)?;
+    let part = array.retrieve_chunk_subset_elements::<i16, _>(alloc, &[1], &region(alloc, 0, 1)?)?;
     must_be(rt, &part, &[-3]);
     array.store_chunks_elements(alloc, &region(alloc, 0, 2)?, &[4i16, 5, 6, 7])?;
-    let range = array.retrieve_chunks_elements::<i16>(alloc, &region(alloc, 0, 2)?)?;
+    let range = array.retrieve_chunks_elements::<i16, _>(alloc, &[0..2])?;
     must_be(rt, &range, &[4, 5, 6, 7]);
-    let all = array.retrieve_array_subset_elements::<i16>(alloc, &array.subset_all(alloc)?)?;
+    let all = array.retrieve_array_subset_elements::<i16, _>(alloc, &array.subset_all(alloc)?)?;
     must_be(rt, &all, &[4, 5, 6, 7]);
     assert!(rt;
         array
@@ -71,13 +71,13 @@ fn must_store_by_options(
     array.store_chunks_elements_opt(alloc, &one, &[4i16, 5], &options)?;
     must_be(
         rt,
-        &array.retrieve_chunks_elements_opt::<i16>(alloc, &one, &options)?,
+        &array.retrieve_chunks_elements_opt::<i16, _>(alloc, &one, &options)?,
         &[4, 5],
     );
     array.store_array_subset_elements_opt(alloc, &one, &[6i16], &options)?;
-    let all = array.retrieve_array_subset_elements_opt::<i16>(alloc, &two, &options)?;
+    let all = array.retrieve_array_subset_elements_opt::<i16, _>(alloc, &two, &options)?;
     must_be(rt, &all, &[6, 5]);
-    let part = array.retrieve_chunk_subset_elements_opt::<i16>(alloc, &[0], &one, &options)?;
+    let part = array.retrieve_chunk_subset_elements_opt::<i16, _>(alloc, &[0], &one, &options)?;
     must_be(rt, &part, &[6]);
     let absent = array.retrieve_chunk_elements_if_exists_opt::<i16>(alloc, &[1], &options)?;
     assert!(rt; absent.is_none());

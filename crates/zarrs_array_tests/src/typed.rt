@@ -70,14 +70,14 @@ fn must_refuse_other_lists(
     let absent: Option<Vec<u16>> = array.retrieve_chunk_if_exists(alloc, &[1])?;
     assert!(rt; absent.is_none());
     let all = array.subset_all(alloc)?;
-    must_be_an_element_error(rt, array.retrieve_array_subset::<Vec<bool>>(alloc, &all));
+    must_be_an_element_error(rt, array.retrieve_array_subset::<Vec<bool>, _>(alloc, &all));
     must_be_an_element_error(
         rt,
-        array.retrieve_chunks::<Vec<u8>>(alloc, &region(alloc, &[0], &[2])?),
+        array.retrieve_chunks::<Vec<u8>, _>(alloc, &region(alloc, &[0], &[2])?),
     );
     must_be_an_element_error(
         rt,
-        array.retrieve_chunk_subset::<Vec<u8>>(alloc, &[0], &region(alloc, &[1], &[1])?),
+        array.retrieve_chunk_subset::<Vec<u8>, _>(alloc, &[0], &region(alloc, &[1], &[1])?),
     );
     let far = array.retrieve_chunk::<Vec<u16>>(alloc, &[0, 0]);
     assert!(rt; matches!(far, Err(ArrayError::InvalidChunkGridIndicesError(_))));

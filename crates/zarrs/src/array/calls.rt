@@ -4,7 +4,7 @@ use std::alloc::{AllocError, Global};
 use zarrs_codec::CodecOptions;
 use zarrs_engine::{ArrayError, Call, Reply, replay};
 use zarrs_storage::{Bytes, ReadableStorageTraits, StorageError, WritableStorageTraits};
-use zarrs_subset::ArraySubset;
+use zarrs_subset::ArraySubsetTraits;
 
 impl<TStorage: ReadableStorageTraits> Array<TStorage> {
     ghost use Rattle.std.specs.Prelude.{◌≡◌, IfOk, IfErr, OnOk, None};
@@ -46,23 +46,24 @@ impl<TStorage: ReadableStorageTraits> Array<TStorage> {
     ///
     /// # Errors
     /// E8 for more chunks than a `u64` counts; E7 if the store refuses the key of one of them. E9 may come at any time.
-    pub fn retrieve_encoded_chunks(
+    pub fn retrieve_encoded_chunks<R: ArraySubsetTraits>(
         &self,
         alloc: Global,
-        chunks: &ArraySubset,
+        chunks: &R,
     ) -> Result<Vec<Option<Vec<u8>>>, ArrayError>
-        requires dimensions { length (box_of chunks.now).start
+        requires dimensions { length (R.region chunks.now).start
             ≡ (layout_of_array self.now).grid.dimensions }
-        requires ask { MayAskChunks (layout_of_array self.now) (positions (box_of chunks.now))
+        requires ask { MayAskChunks (layout_of_array self.now) (positions (R.region chunks.now))
             (store_of_array TStorage.state self.now) }
         ensures values { IfOk result (λ values. map (option_map (λ v. v.items)) values.items
             ≡ stored_values (layout_of_array self.now) (store_of_array TStorage.state self.now)
-            (positions (box_of chunks.now))) }
+            (positions (R.region chunks.now))) }
         ensures refused { IfErr result (λ e. RefusesEncoded (layout_of_array self.now)
-            (positions (box_of chunks.now)) (store_of_array TStorage.state self.now)
+            (positions (R.region chunks.now)) (store_of_array TStorage.state self.now)
             (refusal_of e)) }
     {
-        self.engine.retrieve_encoded_chunks(alloc, chunks)
+        let chunks = chunks.to_array_subset(alloc)?;
+        self.engine.retrieve_encoded_chunks(alloc, &chunks)
     }
 }
 
@@ -132,17 +133,24 @@ impl<TStorage: WritableStorageTraits> Array<TStorage> {
     ///
     /// # Errors
     /// If the store refuses, and `OutOfMemory`. The chunks before that one are gone then, and no later one.
-    pub fn erase_chunks(&mut self, alloc: Global, chunks: &ArraySubset) -> Result<(), StorageError>
-        requires { length (box_of chunks.now).start ≡ (layout_of_array self.old).grid.dimensions }
-        ensures done { OnOk result (ErasesChunks (layout_of_array self.old) (box_of chunks.now)
+    pub fn erase_chunks<R: ArraySubsetTraits>(
+        &mut self,
+        alloc: Global,
+        chunks: &R,
+    ) -> Result<(), StorageError>
+        requires { length (R.region chunks.now).start ≡ (layout_of_array self.old).grid.dimensions }
+        ensures done { OnOk result (ErasesChunks (layout_of_array self.old) (R.region chunks.now)
             (store_of_array TStorage.state self.old) (store_of_array TStorage.state self.new)) }
         ensures refused { IfErr result
-            (λ e. RefusesEraseChunks (layout_of_array self.old) (box_of chunks.now)
+            (λ e. RefusesEraseChunks (layout_of_array self.old) (R.region chunks.now)
             (refusal_of_storage e) (store_of_array TStorage.state self.old)
             (store_of_array TStorage.state self.new)) }
         ensures kept { KeepsArray self.old self.new }
     {
-        self.engine.erase_chunks(alloc, chunks)
+        let Ok(chunks) = chunks.to_array_subset(alloc) else {
+            return Err(StorageError::OutOfMemory);
+        };
+        self.engine.erase_chunks(alloc, &chunks)
     }
 
     /// Makes the calls in turn, whether earlier ones were refused or not, and returns the reply to each.

@@ -4,12 +4,12 @@ use std::alloc::Global;
 use std::fmt;
 use zarrs_engine::{ArrayError, chunks_equal};
 use zarrs_storage::ReadableStorageTraits;
-use zarrs_subset::ArraySubset;
+use zarrs_subset::ArraySubsetTraits;
 
 impl<TStorage: ReadableStorageTraits> Array<TStorage> {
     ghost use Rattle.std.specs.Prelude.{◌≡◌, IfOk, IfErr, length};
     ghost use Rattle.std.specs.Bool.{OnFalse, OnTrue};
-    ghost use Rattle.zarrs_subset.specs.Regions.{box_of, positions};
+    ghost use Rattle.zarrs_subset.specs.Regions.{positions};
     ghost use Rattle.zarrs_steps.specs.Reach.{MayAskChunks};
     ghost use Rattle.zarrs_steps.specs.Refusals.{refusal_of};
     ghost use Rattle.zarrs_engine.specs.Comparisons.{DifferInChunk, HoldSameChunks};
@@ -23,34 +23,35 @@ impl<TStorage: ReadableStorageTraits> Array<TStorage> {
     /// # Errors
     /// E8 for more chunks than a `u64` counts; E7 if one of the stores refuses the key of one of them. E9 may come at
     /// any time.
-    pub fn chunks_equal<TStorage2: ReadableStorageTraits>(
+    pub fn chunks_equal<TStorage2: ReadableStorageTraits, R: ArraySubsetTraits>(
         &self,
         alloc: Global,
         other: &Array<TStorage2>,
-        chunks: &ArraySubset,
+        chunks: &R,
     ) -> Result<bool, ArrayError>
-        requires dimensions { length (box_of chunks.now).start
+        requires dimensions { length (R.region chunks.now).start
             ≡ (layout_of_array self.now).grid.dimensions }
-        requires other_dimensions { length (box_of chunks.now).start
+        requires other_dimensions { length (R.region chunks.now).start
             ≡ (layout_of_array other.now).grid.dimensions }
-        requires ask { MayAskChunks (layout_of_array self.now) (positions (box_of chunks.now))
+        requires ask { MayAskChunks (layout_of_array self.now) (positions (R.region chunks.now))
             (store_of_array TStorage.state self.now) }
         requires other_ask { MayAskChunks (layout_of_array other.now)
-            (positions (box_of chunks.now)) (store_of_array TStorage2.state other.now) }
+            (positions (R.region chunks.now)) (store_of_array TStorage2.state other.now) }
         ensures equal { IfOk result (λ equal. OnTrue equal (HoldSameChunks
             (layout_of_array self.now) (layout_of_array other.now)
             (store_of_array TStorage.state self.now) (store_of_array TStorage2.state other.now)
-            (positions (box_of chunks.now)))) }
+            (positions (R.region chunks.now)))) }
         ensures different { IfOk result (λ equal. OnFalse equal (DifferInChunk
             (layout_of_array self.now) (layout_of_array other.now)
             (store_of_array TStorage.state self.now) (store_of_array TStorage2.state other.now)
-            (positions (box_of chunks.now)))) }
+            (positions (R.region chunks.now)))) }
         ensures refused { IfErr result (λ e. RefusesComparison (layout_of_array self.now)
             (layout_of_array other.now) (store_of_array TStorage.state self.now)
-            (store_of_array TStorage2.state other.now) (positions (box_of chunks.now))
+            (store_of_array TStorage2.state other.now) (positions (R.region chunks.now))
             (refusal_of e)) }
     {
-        chunks_equal(alloc, &self.engine, &other.engine, chunks)
+        let chunks = chunks.to_array_subset(alloc)?;
+        chunks_equal(alloc, &self.engine, &other.engine, &chunks)
     }
 }
 

@@ -5,7 +5,7 @@ use zarrs_codec::CodecOptions;
 use zarrs_data_type::{Element, ElementOwned};
 use zarrs_engine::ArrayError;
 use zarrs_storage::{ReadableStorageTraits, WritableStorageTraits};
-use zarrs_subset::ArraySubset;
+use zarrs_subset::ArraySubsetTraits;
 
 impl<TStorage: ReadableStorageTraits> Array<TStorage> {
     ghost use Rattle.std.specs.Prelude.{◌≡◌, true, IfOk, IfErr, OnOk, OnSome, IsErr};
@@ -121,20 +121,20 @@ impl<TStorage: ReadableStorageTraits> Array<TStorage> {
     ///
     /// # Errors
     /// Those of `retrieve_chunks`.
-    pub fn retrieve_chunks_elements<T: ElementOwned>(
+    pub fn retrieve_chunks_elements<T: ElementOwned, R: ArraySubsetTraits>(
         &self,
         alloc: Global,
-        chunks: &ArraySubset,
+        chunks: &R,
     ) -> Result<Vec<T>, ArrayError>
-        requires { MayAskChunks (layout_of_array self.now) (positions (box_of chunks.now))
+        requires { MayAskChunks (layout_of_array self.now) (positions (R.region chunks.now))
             (store_of_array TStorage.state self.now) }
         ensures cells { IfOk result
             (RetrievesChunksAs (ReadsElements T.cell) (layout_of_array self.now)
-            (state_of_array TStorage.state self.now).shape (box_of chunks.now)
+            (state_of_array TStorage.state self.now).shape (R.region chunks.now)
             (store_of_array TStorage.state self.now)) }
         ensures served { OnOk result (T.serves (layout_of_array self.now).kind ≡ true) }
         ensures refused { IfErr result (λ e. RefusesChunksAs T.serves (layout_of_array self.now)
-            (state_of_array TStorage.state self.now).shape (box_of chunks.now)
+            (state_of_array TStorage.state self.now).shape (R.region chunks.now)
             (store_of_array TStorage.state self.now) (refusal_of e)) }
     {
         self.retrieve_chunks(alloc, chunks)
@@ -144,21 +144,21 @@ impl<TStorage: ReadableStorageTraits> Array<TStorage> {
     ///
     /// # Errors
     /// Those of `retrieve_chunks_elements`.
-    pub fn retrieve_chunks_elements_opt<T: ElementOwned>(
+    pub fn retrieve_chunks_elements_opt<T: ElementOwned, R: ArraySubsetTraits>(
         &self,
         alloc: Global,
-        chunks: &ArraySubset,
+        chunks: &R,
         options: &CodecOptions,
     ) -> Result<Vec<T>, ArrayError>
-        requires { MayAskChunks (layout_of_array self.now) (positions (box_of chunks.now))
+        requires { MayAskChunks (layout_of_array self.now) (positions (R.region chunks.now))
             (store_of_array TStorage.state self.now) }
         ensures cells { IfOk result
             (RetrievesChunksAs (ReadsElements T.cell) (layout_of_array self.now)
-            (state_of_array TStorage.state self.now).shape (box_of chunks.now)
+            (state_of_array TStorage.state self.now).shape (R.region chunks.now)
             (store_of_array TStorage.state self.now)) }
         ensures served { OnOk result (T.serves (layout_of_array self.now).kind ≡ true) }
         ensures refused { IfErr result (λ e. RefusesChunksAs T.serves (layout_of_array self.now)
-            (state_of_array TStorage.state self.now).shape (box_of chunks.now)
+            (state_of_array TStorage.state self.now).shape (R.region chunks.now)
             (store_of_array TStorage.state self.now) (refusal_of e)) }
     {
         self.retrieve_chunks_opt(alloc, chunks, options)
@@ -168,20 +168,20 @@ impl<TStorage: ReadableStorageTraits> Array<TStorage> {
     ///
     /// # Errors
     /// Those of `retrieve_chunk_subset`.
-    pub fn retrieve_chunk_subset_elements<T: ElementOwned>(
+    pub fn retrieve_chunk_subset_elements<T: ElementOwned, R: ArraySubsetTraits>(
         &self,
         alloc: Global,
         chunk_indices: &[u64],
-        chunk_subset: &ArraySubset,
+        chunk_subset: &R,
     ) -> Result<Vec<T>, ArrayError>
         requires { MayAskChunk (layout_of_array self.now) chunk_indices.now
             (store_of_array TStorage.state self.now) }
         ensures cells { IfOk result
             (RetrievesPartAs (ReadsElements T.cell) (layout_of_array self.now)
-            chunk_indices.now (box_of chunk_subset.now) (store_of_array TStorage.state self.now)) }
+            chunk_indices.now (R.region chunk_subset.now) (store_of_array TStorage.state self.now)) }
         ensures served { OnOk result (T.serves (layout_of_array self.now).kind ≡ true) }
         ensures refused { IfErr result (λ e. RefusesPartAs T.serves (layout_of_array self.now)
-            chunk_indices.now (box_of chunk_subset.now) (store_of_array TStorage.state self.now)
+            chunk_indices.now (R.region chunk_subset.now) (store_of_array TStorage.state self.now)
             (refusal_of e)) }
     {
         self.retrieve_chunk_subset(alloc, chunk_indices, chunk_subset)
@@ -191,21 +191,21 @@ impl<TStorage: ReadableStorageTraits> Array<TStorage> {
     ///
     /// # Errors
     /// Those of `retrieve_chunk_subset_elements`.
-    pub fn retrieve_chunk_subset_elements_opt<T: ElementOwned>(
+    pub fn retrieve_chunk_subset_elements_opt<T: ElementOwned, R: ArraySubsetTraits>(
         &self,
         alloc: Global,
         chunk_indices: &[u64],
-        chunk_subset: &ArraySubset,
+        chunk_subset: &R,
         options: &CodecOptions,
     ) -> Result<Vec<T>, ArrayError>
         requires { MayAskChunk (layout_of_array self.now) chunk_indices.now
             (store_of_array TStorage.state self.now) }
         ensures cells { IfOk result
             (RetrievesPartAs (ReadsElements T.cell) (layout_of_array self.now)
-            chunk_indices.now (box_of chunk_subset.now) (store_of_array TStorage.state self.now)) }
+            chunk_indices.now (R.region chunk_subset.now) (store_of_array TStorage.state self.now)) }
         ensures served { OnOk result (T.serves (layout_of_array self.now).kind ≡ true) }
         ensures refused { IfErr result (λ e. RefusesPartAs T.serves (layout_of_array self.now)
-            chunk_indices.now (box_of chunk_subset.now) (store_of_array TStorage.state self.now)
+            chunk_indices.now (R.region chunk_subset.now) (store_of_array TStorage.state self.now)
             (refusal_of e)) }
     {
         self.retrieve_chunk_subset_opt(alloc, chunk_indices, chunk_subset, options)
@@ -215,21 +215,21 @@ impl<TStorage: ReadableStorageTraits> Array<TStorage> {
     ///
     /// # Errors
     /// Those of `retrieve_array_subset`.
-    pub fn retrieve_array_subset_elements<T: ElementOwned>(
+    pub fn retrieve_array_subset_elements<T: ElementOwned, R: ArraySubsetTraits>(
         &self,
         alloc: Global,
-        array_subset: &ArraySubset,
+        array_subset: &R,
     ) -> Result<Vec<T>, ArrayError>
         requires { MayAskChunks (layout_of_array self.now)
-            (chunks_met (layout_of_array self.now).grid (box_of array_subset.now))
+            (chunks_met (layout_of_array self.now).grid (R.region array_subset.now))
             (store_of_array TStorage.state self.now) }
         ensures cells { IfOk result
             (RetrievesRegionAs (ReadsElements T.cell) (layout_of_array self.now)
-            (state_of_array TStorage.state self.now).shape (box_of array_subset.now)
+            (state_of_array TStorage.state self.now).shape (R.region array_subset.now)
             (store_of_array TStorage.state self.now)) }
         ensures served { OnOk result (T.serves (layout_of_array self.now).kind ≡ true) }
         ensures refused { IfErr result (λ e. RefusesRegionAs T.serves (layout_of_array self.now)
-            (state_of_array TStorage.state self.now).shape (box_of array_subset.now)
+            (state_of_array TStorage.state self.now).shape (R.region array_subset.now)
             (store_of_array TStorage.state self.now) (refusal_of e)) }
     {
         self.retrieve_array_subset(alloc, array_subset)
@@ -239,22 +239,22 @@ impl<TStorage: ReadableStorageTraits> Array<TStorage> {
     ///
     /// # Errors
     /// Those of `retrieve_array_subset_elements`.
-    pub fn retrieve_array_subset_elements_opt<T: ElementOwned>(
+    pub fn retrieve_array_subset_elements_opt<T: ElementOwned, R: ArraySubsetTraits>(
         &self,
         alloc: Global,
-        array_subset: &ArraySubset,
+        array_subset: &R,
         options: &CodecOptions,
     ) -> Result<Vec<T>, ArrayError>
         requires { MayAskChunks (layout_of_array self.now)
-            (chunks_met (layout_of_array self.now).grid (box_of array_subset.now))
+            (chunks_met (layout_of_array self.now).grid (R.region array_subset.now))
             (store_of_array TStorage.state self.now) }
         ensures cells { IfOk result
             (RetrievesRegionAs (ReadsElements T.cell) (layout_of_array self.now)
-            (state_of_array TStorage.state self.now).shape (box_of array_subset.now)
+            (state_of_array TStorage.state self.now).shape (R.region array_subset.now)
             (store_of_array TStorage.state self.now)) }
         ensures served { OnOk result (T.serves (layout_of_array self.now).kind ≡ true) }
         ensures refused { IfErr result (λ e. RefusesRegionAs T.serves (layout_of_array self.now)
-            (state_of_array TStorage.state self.now).shape (box_of array_subset.now)
+            (state_of_array TStorage.state self.now).shape (R.region array_subset.now)
             (store_of_array TStorage.state self.now) (refusal_of e)) }
     {
         self.retrieve_array_subset_opt(alloc, array_subset, options)
@@ -331,19 +331,19 @@ impl<TStorage: WritableStorageTraits> Array<TStorage> {
     ///
     /// # Errors
     /// Those of `store_chunks`.
-    pub fn store_chunks_elements<T: Element>(
+    pub fn store_chunks_elements<T: Element, R: ArraySubsetTraits>(
         &mut self,
         alloc: Global,
-        chunks: &ArraySubset,
+        chunks: &R,
         chunks_elements: &[T],
     ) -> Result<(), ArrayError>
         ensures done { OnOk result (StoresChunksAs (layout_of_array self.old) false
-            (GivesElements T.cell chunks_elements.now) (box_of chunks.now)
+            (GivesElements T.cell chunks_elements.now) (R.region chunks.now)
             (store_of_array TStorage.state self.old) (store_of_array TStorage.state self.new)) }
         ensures served { OnOk result (T.serves (layout_of_array self.old).kind ≡ true) }
         ensures refused { IfErr result (λ e. RefusesStoreChunksAs T.serves
             (layout_of_array self.old) false
-            (GivesElements T.cell chunks_elements.now) (box_of chunks.now)
+            (GivesElements T.cell chunks_elements.now) (R.region chunks.now)
             (store_of_array TStorage.state self.old) (store_of_array TStorage.state self.new)
             (refusal_of e)) }
         ensures kept { KeepsArray self.old self.new }
@@ -355,21 +355,21 @@ impl<TStorage: WritableStorageTraits> Array<TStorage> {
     ///
     /// # Errors
     /// Those of `store_chunks_elements`.
-    pub fn store_chunks_elements_opt<T: Element>(
+    pub fn store_chunks_elements_opt<T: Element, R: ArraySubsetTraits>(
         &mut self,
         alloc: Global,
-        chunks: &ArraySubset,
+        chunks: &R,
         chunks_elements: &[T],
         options: &CodecOptions,
     ) -> Result<(), ArrayError>
         ensures done { OnOk result
             (StoresChunksAs (layout_of_array self.old) (stores_empty_chunks options.now)
-            (GivesElements T.cell chunks_elements.now) (box_of chunks.now)
+            (GivesElements T.cell chunks_elements.now) (R.region chunks.now)
             (store_of_array TStorage.state self.old) (store_of_array TStorage.state self.new)) }
         ensures served { OnOk result (T.serves (layout_of_array self.old).kind ≡ true) }
         ensures refused { IfErr result (λ e. RefusesStoreChunksAs T.serves
             (layout_of_array self.old) (stores_empty_chunks options.now)
-            (GivesElements T.cell chunks_elements.now) (box_of chunks.now)
+            (GivesElements T.cell chunks_elements.now) (R.region chunks.now)
             (store_of_array TStorage.state self.old) (store_of_array TStorage.state self.new)
             (refusal_of e)) }
         ensures kept { KeepsArray self.old self.new }
@@ -381,26 +381,26 @@ impl<TStorage: WritableStorageTraits> Array<TStorage> {
     ///
     /// # Errors
     /// Those of `store_chunk_subset`.
-    pub fn store_chunk_subset_elements<T: Element>(
+    pub fn store_chunk_subset_elements<T: Element, R: ArraySubsetTraits>(
         &mut self,
         alloc: Global,
         chunk_indices: &[u64],
-        chunk_subset: &ArraySubset,
+        chunk_subset: &R,
         chunk_subset_elements: &[T],
     ) -> Result<(), ArrayError>
         requires { MayAskParts (layout_of_array self.old)
             (part_box (box_at (layout_of_array self.old).grid chunk_indices.now)
-            (box_of chunk_subset.now)) (chunk_indices.now ∷ [])
+            (R.region chunk_subset.now)) (chunk_indices.now ∷ [])
             (store_of_array TStorage.state self.old) }
         ensures done { OnOk result (StoresPartAs (layout_of_array self.old) false
             (GivesElements T.cell chunk_subset_elements.now) chunk_indices.now
-            (box_of chunk_subset.now)
+            (R.region chunk_subset.now)
             (store_of_array TStorage.state self.old) (store_of_array TStorage.state self.new)) }
         ensures served { OnOk result (T.serves (layout_of_array self.old).kind ≡ true) }
         ensures refused { IfErr result (λ e. RefusesStorePartAs T.serves
             (layout_of_array self.old) false
             (GivesElements T.cell chunk_subset_elements.now) chunk_indices.now
-            (box_of chunk_subset.now)
+            (R.region chunk_subset.now)
             (store_of_array TStorage.state self.old) (store_of_array TStorage.state self.new)
             (refusal_of e)) }
         ensures kept { KeepsArray self.old self.new }
@@ -412,28 +412,28 @@ impl<TStorage: WritableStorageTraits> Array<TStorage> {
     ///
     /// # Errors
     /// Those of `store_chunk_subset_elements`.
-    pub fn store_chunk_subset_elements_opt<T: Element>(
+    pub fn store_chunk_subset_elements_opt<T: Element, R: ArraySubsetTraits>(
         &mut self,
         alloc: Global,
         chunk_indices: &[u64],
-        chunk_subset: &ArraySubset,
+        chunk_subset: &R,
         chunk_subset_elements: &[T],
         options: &CodecOptions,
     ) -> Result<(), ArrayError>
         requires { MayAskParts (layout_of_array self.old)
             (part_box (box_at (layout_of_array self.old).grid chunk_indices.now)
-            (box_of chunk_subset.now)) (chunk_indices.now ∷ [])
+            (R.region chunk_subset.now)) (chunk_indices.now ∷ [])
             (store_of_array TStorage.state self.old) }
         ensures done { OnOk result
             (StoresPartAs (layout_of_array self.old) (stores_empty_chunks options.now)
             (GivesElements T.cell chunk_subset_elements.now) chunk_indices.now
-            (box_of chunk_subset.now)
+            (R.region chunk_subset.now)
             (store_of_array TStorage.state self.old) (store_of_array TStorage.state self.new)) }
         ensures served { OnOk result (T.serves (layout_of_array self.old).kind ≡ true) }
         ensures refused { IfErr result (λ e. RefusesStorePartAs T.serves
             (layout_of_array self.old) (stores_empty_chunks options.now)
             (GivesElements T.cell chunk_subset_elements.now) chunk_indices.now
-            (box_of chunk_subset.now)
+            (R.region chunk_subset.now)
             (store_of_array TStorage.state self.old) (store_of_array TStorage.state self.new)
             (refusal_of e)) }
         ensures kept { KeepsArray self.old self.new }
@@ -451,24 +451,24 @@ impl<TStorage: WritableStorageTraits> Array<TStorage> {
     ///
     /// # Errors
     /// Those of `store_array_subset`.
-    pub fn store_array_subset_elements<T: Element>(
+    pub fn store_array_subset_elements<T: Element, R: ArraySubsetTraits>(
         &mut self,
         alloc: Global,
-        array_subset: &ArraySubset,
+        array_subset: &R,
         subset_elements: &[T],
     ) -> Result<(), ArrayError>
-        requires { MayAskParts (layout_of_array self.old) (box_of array_subset.now)
-            (chunks_met (layout_of_array self.old).grid (box_of array_subset.now))
+        requires { MayAskParts (layout_of_array self.old) (R.region array_subset.now)
+            (chunks_met (layout_of_array self.old).grid (R.region array_subset.now))
             (store_of_array TStorage.state self.old) }
         ensures done { OnOk result (StoresRegionAs (layout_of_array self.old) false
             (state_of_array TStorage.state self.old).shape
-            (GivesElements T.cell subset_elements.now) (box_of array_subset.now)
+            (GivesElements T.cell subset_elements.now) (R.region array_subset.now)
             (store_of_array TStorage.state self.old) (store_of_array TStorage.state self.new)) }
         ensures served { OnOk result (T.serves (layout_of_array self.old).kind ≡ true) }
         ensures refused { IfErr result (λ e. RefusesStoreRegionAs T.serves
             (layout_of_array self.old) false
             (state_of_array TStorage.state self.old).shape
-            (GivesElements T.cell subset_elements.now) (box_of array_subset.now)
+            (GivesElements T.cell subset_elements.now) (R.region array_subset.now)
             (store_of_array TStorage.state self.old) (store_of_array TStorage.state self.new)
             (refusal_of e)) }
         ensures kept { KeepsArray self.old self.new }
@@ -480,26 +480,26 @@ impl<TStorage: WritableStorageTraits> Array<TStorage> {
     ///
     /// # Errors
     /// Those of `store_array_subset_elements`.
-    pub fn store_array_subset_elements_opt<T: Element>(
+    pub fn store_array_subset_elements_opt<T: Element, R: ArraySubsetTraits>(
         &mut self,
         alloc: Global,
-        array_subset: &ArraySubset,
+        array_subset: &R,
         subset_elements: &[T],
         options: &CodecOptions,
     ) -> Result<(), ArrayError>
-        requires { MayAskParts (layout_of_array self.old) (box_of array_subset.now)
-            (chunks_met (layout_of_array self.old).grid (box_of array_subset.now))
+        requires { MayAskParts (layout_of_array self.old) (R.region array_subset.now)
+            (chunks_met (layout_of_array self.old).grid (R.region array_subset.now))
             (store_of_array TStorage.state self.old) }
         ensures done { OnOk result
             (StoresRegionAs (layout_of_array self.old) (stores_empty_chunks options.now)
             (state_of_array TStorage.state self.old).shape
-            (GivesElements T.cell subset_elements.now) (box_of array_subset.now)
+            (GivesElements T.cell subset_elements.now) (R.region array_subset.now)
             (store_of_array TStorage.state self.old) (store_of_array TStorage.state self.new)) }
         ensures served { OnOk result (T.serves (layout_of_array self.old).kind ≡ true) }
         ensures refused { IfErr result (λ e. RefusesStoreRegionAs T.serves
             (layout_of_array self.old) (stores_empty_chunks options.now)
             (state_of_array TStorage.state self.old).shape
-            (GivesElements T.cell subset_elements.now) (box_of array_subset.now)
+            (GivesElements T.cell subset_elements.now) (R.region array_subset.now)
             (store_of_array TStorage.state self.old) (store_of_array TStorage.state self.new)
             (refusal_of e)) }
         ensures kept { KeepsArray self.old self.new }

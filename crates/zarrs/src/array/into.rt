@@ -4,12 +4,11 @@ use std::alloc::Global;
 use zarrs_codec::CodecOptions;
 use zarrs_engine::ArrayError;
 use zarrs_storage::ReadableStorageTraits;
-use zarrs_subset::ArraySubset;
+use zarrs_subset::ArraySubsetTraits;
 use zarrs_target::ArrayBytesDecodeIntoTarget;
 
 impl<TStorage: ReadableStorageTraits> Array<TStorage> {
     ghost use Rattle.std.specs.Prelude.{◌≡◌, IfErr, OnErr, OnOk};
-    ghost use Rattle.zarrs_subset.specs.Regions.{box_of};
     ghost use Rattle.zarrs_steps.specs.ChunkBoxes.{chunks_met};
     ghost use Rattle.zarrs_steps.specs.Reach.{MayAskChunks};
     ghost use Rattle.zarrs_steps.specs.Refusals.{refusal_of};
@@ -24,14 +23,14 @@ impl<TStorage: ReadableStorageTraits> Array<TStorage> {
     /// In this order: E1 for another number of dimensions; E4 for a target of another cell size or depth than the data
     /// type's, of which a variable type has none; E6 for a box of another shape than the region's; E1 for a position
     /// that no chunk covers; then as `retrieve_array_subset`. E9 may come at any time. Every byte of the target stays.
-    pub fn retrieve_array_subset_into(
+    pub fn retrieve_array_subset_into<R: ArraySubsetTraits>(
         &self,
         alloc: Global,
-        array_subset: &ArraySubset,
+        array_subset: &R,
         target: &mut ArrayBytesDecodeIntoTarget<'_, '_, '_>,
     ) -> Result<(), ArrayError>
         requires ask { MayAskChunks (layout_of_array self.now)
-            (chunks_met (layout_of_array self.now).grid (box_of array_subset.now))
+            (chunks_met (layout_of_array self.now).grid (R.region array_subset.now))
             (store_of_array TStorage.state self.now) }
         requires target { IsTarget target.old }
         ensures target { IsTarget target.new }
@@ -39,13 +38,13 @@ impl<TStorage: ReadableStorageTraits> Array<TStorage> {
         ensures same_masks { target.new.masks.ghost_name ≡ target.old.masks.ghost_name }
         ensures same_box { SameBox target.old target.new }
         ensures cells { OnOk result (RetrievesInto (layout_of_array self.now)
-            (state_of_array TStorage.state self.now).shape (box_of array_subset.now)
+            (state_of_array TStorage.state self.now).shape (R.region array_subset.now)
             (store_of_array TStorage.state self.now) target.old target.new) }
         ensures content { OnOk result (HasContent (layout_of_array self.now)
-            (box_of array_subset.now) (store_of_array TStorage.state self.now) target.old
+            (R.region array_subset.now) (store_of_array TStorage.state self.now) target.old
             target.new) }
         ensures refused { IfErr result (λ e. RefusesRetrieveInto (layout_of_array self.now)
-            (state_of_array TStorage.state self.now).shape (box_of array_subset.now) target.old
+            (state_of_array TStorage.state self.now).shape (R.region array_subset.now) target.old
             (refusal_of e) (store_of_array TStorage.state self.now)) }
         ensures outside { StaysOutside target.old target.new }
         ensures kept_bytes { OnErr result (target.new.bytes.now ≡ target.old.bytes.now) }
@@ -58,15 +57,15 @@ impl<TStorage: ReadableStorageTraits> Array<TStorage> {
     ///
     /// # Errors
     /// Those of `retrieve_array_subset_into`.
-    pub fn retrieve_array_subset_into_opt(
+    pub fn retrieve_array_subset_into_opt<R: ArraySubsetTraits>(
         &self,
         alloc: Global,
-        array_subset: &ArraySubset,
+        array_subset: &R,
         target: &mut ArrayBytesDecodeIntoTarget<'_, '_, '_>,
         _options: &CodecOptions,
     ) -> Result<(), ArrayError>
         requires ask { MayAskChunks (layout_of_array self.now)
-            (chunks_met (layout_of_array self.now).grid (box_of array_subset.now))
+            (chunks_met (layout_of_array self.now).grid (R.region array_subset.now))
             (store_of_array TStorage.state self.now) }
         requires target { IsTarget target.old }
         ensures target { IsTarget target.new }
@@ -74,19 +73,20 @@ impl<TStorage: ReadableStorageTraits> Array<TStorage> {
         ensures same_masks { target.new.masks.ghost_name ≡ target.old.masks.ghost_name }
         ensures same_box { SameBox target.old target.new }
         ensures cells { OnOk result (RetrievesInto (layout_of_array self.now)
-            (state_of_array TStorage.state self.now).shape (box_of array_subset.now)
+            (state_of_array TStorage.state self.now).shape (R.region array_subset.now)
             (store_of_array TStorage.state self.now) target.old target.new) }
         ensures content { OnOk result (HasContent (layout_of_array self.now)
-            (box_of array_subset.now) (store_of_array TStorage.state self.now) target.old
+            (R.region array_subset.now) (store_of_array TStorage.state self.now) target.old
             target.new) }
         ensures refused { IfErr result (λ e. RefusesRetrieveInto (layout_of_array self.now)
-            (state_of_array TStorage.state self.now).shape (box_of array_subset.now) target.old
+            (state_of_array TStorage.state self.now).shape (R.region array_subset.now) target.old
             (refusal_of e) (store_of_array TStorage.state self.now)) }
         ensures outside { StaysOutside target.old target.new }
         ensures kept_bytes { OnErr result (target.new.bytes.now ≡ target.old.bytes.now) }
         ensures kept_masks { OnErr result (target.new.masks.now ≡ target.old.masks.now) }
     {
+        let array_subset = array_subset.to_array_subset(alloc)?;
         self.engine
-            .retrieve_array_subset_into(alloc, array_subset, target)
+            .retrieve_array_subset_into(alloc, &array_subset, target)
     }
 }

@@ -159,11 +159,24 @@ impl<TStorage> Array<TStorage> {
     ///
     /// # Errors
     /// E3 for a first index that is not that of a chunk, then for such a last one. E9 may come at any time.
-    pub fn chunks_subset(
+    pub fn chunks_subset<R: ArraySubsetTraits>(
         &self,
         alloc: Global,
-        chunks: &ArraySubset,
+        chunks: &R,
     ) -> Result<ArraySubset, ArrayError>
+        ensures region { IfOk result (λ b. box_of b
+            ≡ chunks_box (layout_of_array self.now).grid (R.region chunks.now)) }
+        ensures accepted { OnOk result
+            (chunks_refusal (layout_of_array self.now) (R.region chunks.now) ≡ None) }
+        ensures refused { IfErr result (λ e. RefusesBy
+            (chunks_refusal (layout_of_array self.now) (R.region chunks.now)) (refusal_of e)) }
+    {
+        let chunks = chunks.to_array_subset(alloc)?;
+        self.range_subset(alloc, &chunks)
+    }
+
+    /// Does what `chunks_subset` does.
+    fn range_subset(&self, alloc: Global, chunks: &ArraySubset) -> Result<ArraySubset, ArrayError>
         ensures region { IfOk result (λ b. box_of b
             ≡ chunks_box (layout_of_array self.now).grid (box_of chunks.now)) }
         ensures accepted { OnOk result
@@ -184,18 +197,18 @@ impl<TStorage> Array<TStorage> {
     ///
     /// # Errors
     /// As `chunks_subset`; E10 for a range without a chunk of another number of dimensions.
-    pub fn chunks_subset_bounded(
+    pub fn chunks_subset_bounded<R: ArraySubsetTraits>(
         &self,
         alloc: Global,
-        chunks: &ArraySubset,
+        chunks: &R,
     ) -> Result<ArraySubset, ArrayError>
         ensures region { IfOk result (λ b. box_of b
-            ≡ bound_to (chunks_box (layout_of_array self.now).grid (box_of chunks.now))
+            ≡ bound_to (chunks_box (layout_of_array self.now).grid (R.region chunks.now))
             (shape_said (metadata_of_array self.now))) }
         ensures accepted { OnOk result
-            (bounded_chunks_refusal (layout_of_array self.now) (box_of chunks.now) ≡ None) }
+            (bounded_chunks_refusal (layout_of_array self.now) (R.region chunks.now) ≡ None) }
         ensures refused { IfErr result (λ e. RefusesBy
-            (bounded_chunks_refusal (layout_of_array self.now) (box_of chunks.now))
+            (bounded_chunks_refusal (layout_of_array self.now) (R.region chunks.now))
             (refusal_of e)) }
     {
         let region = self.chunks_subset(alloc, chunks)?;
@@ -213,19 +226,19 @@ impl<TStorage> Array<TStorage> {
     ///
     /// # Errors
     /// E10 for another number of dimensions. E9 may come at any time.
-    pub fn chunks_in_array_subset(
+    pub fn chunks_in_array_subset<R: ArraySubsetTraits>(
         &self,
         alloc: Global,
-        region: &ArraySubset,
+        region: &R,
     ) -> Result<Option<ArraySubset>, ArrayError>
         ensures some { IfOk result (λ o. IfSome o (λ chunks.
-            IsMet (layout_of_array self.now).grid (box_of region.now) (box_of chunks))) }
+            IsMet (layout_of_array self.now).grid (R.region region.now) (box_of chunks))) }
         ensures none { IfOk result (λ o. IfNone o
-            (HasUncovered (layout_of_array self.now).grid (box_of region.now))) }
-        ensures long { OnOk result (length (box_of region.now).start
+            (HasUncovered (layout_of_array self.now).grid (R.region region.now))) }
+        ensures long { OnOk result (length (R.region region.now).start
             ≡ (layout_of_array self.now).grid.dimensions) }
         ensures refused { IfErr result (λ e. RefusesBy
-            (query_refusal (layout_of_array self.now) (box_of region.now)) (refusal_of e)) }
+            (query_refusal (layout_of_array self.now) (R.region region.now)) (refusal_of e)) }
     {
         match self
             .engine

@@ -6,7 +6,7 @@ use zarrs_codec::CodecOptions;
 use zarrs_data_type::{ArrayBytes, ElementError, FromArrayBytes};
 use zarrs_engine::ArrayError;
 use zarrs_storage::ReadableStorageTraits;
-use zarrs_subset::ArraySubset;
+use zarrs_subset::ArraySubsetTraits;
 
 impl<TStorage> Array<TStorage> {
     ghost use Rattle.std.specs.Prelude.{◌≡◌, true, IfOk, IfErr, OnOk};
@@ -33,7 +33,7 @@ impl<TStorage> Array<TStorage> {
 
 impl<TStorage: ReadableStorageTraits> Array<TStorage> {
     ghost use Rattle.std.specs.Prelude.{◌≡◌, true, IfOk, IfErr, OnOk, OnSome, IsErr};
-    ghost use Rattle.zarrs_subset.specs.Regions.{box_of, positions};
+    ghost use Rattle.zarrs_subset.specs.Regions.{positions};
     ghost use Rattle.zarrs_steps.specs.ChunkBoxes.{chunks_met};
     ghost use Rattle.zarrs_steps.specs.Reach.{MayAskChunk, MayAskChunks};
     ghost use Rattle.zarrs_steps.specs.Refusals.{refusal_of};
@@ -152,19 +152,19 @@ impl<TStorage: ReadableStorageTraits> Array<TStorage> {
     /// one; E8 for more cells, or as many fill values, than a `usize` counts bytes. Then as for `retrieve_array_subset`
     /// over the region of these chunks. E5 comes last, for values that are not those of the data type. E9 may come at
     /// any time.
-    pub fn retrieve_chunks<T: FromArrayBytes>(
+    pub fn retrieve_chunks<T: FromArrayBytes, R: ArraySubsetTraits>(
         &self,
         alloc: Global,
-        chunks: &ArraySubset,
+        chunks: &R,
     ) -> Result<T, ArrayError>
-        requires { MayAskChunks (layout_of_array self.now) (positions (box_of chunks.now))
+        requires { MayAskChunks (layout_of_array self.now) (positions (R.region chunks.now))
             (store_of_array TStorage.state self.now) }
         ensures cells { IfOk result (RetrievesChunksAs T.reads (layout_of_array self.now)
-            (state_of_array TStorage.state self.now).shape (box_of chunks.now)
+            (state_of_array TStorage.state self.now).shape (R.region chunks.now)
             (store_of_array TStorage.state self.now)) }
         ensures served { OnOk result (T.serves (layout_of_array self.now).kind ≡ true) }
         ensures refused { IfErr result (λ e. RefusesChunksAs T.serves (layout_of_array self.now)
-            (state_of_array TStorage.state self.now).shape (box_of chunks.now)
+            (state_of_array TStorage.state self.now).shape (R.region chunks.now)
             (store_of_array TStorage.state self.now) (refusal_of e)) }
     {
         self.retrieve_chunks_opt(alloc, chunks, &CodecOptions::default())
@@ -174,23 +174,24 @@ impl<TStorage: ReadableStorageTraits> Array<TStorage> {
     ///
     /// # Errors
     /// Those of `retrieve_chunks`.
-    pub fn retrieve_chunks_opt<T: FromArrayBytes>(
+    pub fn retrieve_chunks_opt<T: FromArrayBytes, R: ArraySubsetTraits>(
         &self,
         alloc: Global,
-        chunks: &ArraySubset,
+        chunks: &R,
         _options: &CodecOptions,
     ) -> Result<T, ArrayError>
-        requires { MayAskChunks (layout_of_array self.now) (positions (box_of chunks.now))
+        requires { MayAskChunks (layout_of_array self.now) (positions (R.region chunks.now))
             (store_of_array TStorage.state self.now) }
         ensures cells { IfOk result (RetrievesChunksAs T.reads (layout_of_array self.now)
-            (state_of_array TStorage.state self.now).shape (box_of chunks.now)
+            (state_of_array TStorage.state self.now).shape (R.region chunks.now)
             (store_of_array TStorage.state self.now)) }
         ensures served { OnOk result (T.serves (layout_of_array self.now).kind ≡ true) }
         ensures refused { IfErr result (λ e. RefusesChunksAs T.serves (layout_of_array self.now)
-            (state_of_array TStorage.state self.now).shape (box_of chunks.now)
+            (state_of_array TStorage.state self.now).shape (R.region chunks.now)
             (store_of_array TStorage.state self.now) (refusal_of e)) }
     {
-        let array_bytes = self.engine.retrieve_chunks(alloc, chunks)?;
+        let chunks = chunks.to_array_subset(alloc)?;
+        let array_bytes = self.engine.retrieve_chunks(alloc, &chunks)?;
         Ok(self.values_of(alloc, array_bytes)?)
     }
 
@@ -203,19 +204,19 @@ impl<TStorage: ReadableStorageTraits> Array<TStorage> {
     /// another part E8 for more cells, or as many fill values, than a `usize` counts bytes, E7 if the store refuses the
     /// key, E8 for a chunk of more bytes than a `usize` counts, E4 if its bytes do not decode; E5 for values that are
     /// not those of the data type. E9 may come at any time.
-    pub fn retrieve_chunk_subset<T: FromArrayBytes>(
+    pub fn retrieve_chunk_subset<T: FromArrayBytes, R: ArraySubsetTraits>(
         &self,
         alloc: Global,
         chunk_indices: &[u64],
-        chunk_subset: &ArraySubset,
+        chunk_subset: &R,
     ) -> Result<T, ArrayError>
         requires { MayAskChunk (layout_of_array self.now) chunk_indices.now
             (store_of_array TStorage.state self.now) }
         ensures cells { IfOk result (RetrievesPartAs T.reads (layout_of_array self.now)
-            chunk_indices.now (box_of chunk_subset.now) (store_of_array TStorage.state self.now)) }
+            chunk_indices.now (R.region chunk_subset.now) (store_of_array TStorage.state self.now)) }
         ensures served { OnOk result (T.serves (layout_of_array self.now).kind ≡ true) }
         ensures refused { IfErr result (λ e. RefusesPartAs T.serves (layout_of_array self.now)
-            chunk_indices.now (box_of chunk_subset.now) (store_of_array TStorage.state self.now)
+            chunk_indices.now (R.region chunk_subset.now) (store_of_array TStorage.state self.now)
             (refusal_of e)) }
     {
         self.retrieve_chunk_subset_opt(alloc, chunk_indices, chunk_subset, &CodecOptions::default())
@@ -225,25 +226,26 @@ impl<TStorage: ReadableStorageTraits> Array<TStorage> {
     ///
     /// # Errors
     /// Those of `retrieve_chunk_subset`.
-    pub fn retrieve_chunk_subset_opt<T: FromArrayBytes>(
+    pub fn retrieve_chunk_subset_opt<T: FromArrayBytes, R: ArraySubsetTraits>(
         &self,
         alloc: Global,
         chunk_indices: &[u64],
-        chunk_subset: &ArraySubset,
+        chunk_subset: &R,
         _options: &CodecOptions,
     ) -> Result<T, ArrayError>
         requires { MayAskChunk (layout_of_array self.now) chunk_indices.now
             (store_of_array TStorage.state self.now) }
         ensures cells { IfOk result (RetrievesPartAs T.reads (layout_of_array self.now)
-            chunk_indices.now (box_of chunk_subset.now) (store_of_array TStorage.state self.now)) }
+            chunk_indices.now (R.region chunk_subset.now) (store_of_array TStorage.state self.now)) }
         ensures served { OnOk result (T.serves (layout_of_array self.now).kind ≡ true) }
         ensures refused { IfErr result (λ e. RefusesPartAs T.serves (layout_of_array self.now)
-            chunk_indices.now (box_of chunk_subset.now) (store_of_array TStorage.state self.now)
+            chunk_indices.now (R.region chunk_subset.now) (store_of_array TStorage.state self.now)
             (refusal_of e)) }
     {
+        let chunk_subset = chunk_subset.to_array_subset(alloc)?;
         let array_bytes = self
             .engine
-            .retrieve_chunk_subset(alloc, chunk_indices, chunk_subset)?;
+            .retrieve_chunk_subset(alloc, chunk_indices, &chunk_subset)?;
         Ok(self.values_of(alloc, array_bytes)?)
     }
 
@@ -255,20 +257,20 @@ impl<TStorage: ReadableStorageTraits> Array<TStorage> {
     /// many fill values, than a `usize` counts bytes. Then E7 if the store refuses the key of a chunk that the region
     /// meets; E8 for such a chunk of more bytes than a `usize` counts, and E4 if its bytes do not decode. E9 may come
     /// at any time.
-    pub fn retrieve_array_subset<T: FromArrayBytes>(
+    pub fn retrieve_array_subset<T: FromArrayBytes, R: ArraySubsetTraits>(
         &self,
         alloc: Global,
-        array_subset: &ArraySubset,
+        array_subset: &R,
     ) -> Result<T, ArrayError>
         requires { MayAskChunks (layout_of_array self.now)
-            (chunks_met (layout_of_array self.now).grid (box_of array_subset.now))
+            (chunks_met (layout_of_array self.now).grid (R.region array_subset.now))
             (store_of_array TStorage.state self.now) }
         ensures cells { IfOk result (RetrievesRegionAs T.reads (layout_of_array self.now)
-            (state_of_array TStorage.state self.now).shape (box_of array_subset.now)
+            (state_of_array TStorage.state self.now).shape (R.region array_subset.now)
             (store_of_array TStorage.state self.now)) }
         ensures served { OnOk result (T.serves (layout_of_array self.now).kind ≡ true) }
         ensures refused { IfErr result (λ e. RefusesRegionAs T.serves (layout_of_array self.now)
-            (state_of_array TStorage.state self.now).shape (box_of array_subset.now)
+            (state_of_array TStorage.state self.now).shape (R.region array_subset.now)
             (store_of_array TStorage.state self.now) (refusal_of e)) }
     {
         self.retrieve_array_subset_opt(alloc, array_subset, &CodecOptions::default())
@@ -278,24 +280,25 @@ impl<TStorage: ReadableStorageTraits> Array<TStorage> {
     ///
     /// # Errors
     /// Those of `retrieve_array_subset`.
-    pub fn retrieve_array_subset_opt<T: FromArrayBytes>(
+    pub fn retrieve_array_subset_opt<T: FromArrayBytes, R: ArraySubsetTraits>(
         &self,
         alloc: Global,
-        array_subset: &ArraySubset,
+        array_subset: &R,
         _options: &CodecOptions,
     ) -> Result<T, ArrayError>
         requires { MayAskChunks (layout_of_array self.now)
-            (chunks_met (layout_of_array self.now).grid (box_of array_subset.now))
+            (chunks_met (layout_of_array self.now).grid (R.region array_subset.now))
             (store_of_array TStorage.state self.now) }
         ensures cells { IfOk result (RetrievesRegionAs T.reads (layout_of_array self.now)
-            (state_of_array TStorage.state self.now).shape (box_of array_subset.now)
+            (state_of_array TStorage.state self.now).shape (R.region array_subset.now)
             (store_of_array TStorage.state self.now)) }
         ensures served { OnOk result (T.serves (layout_of_array self.now).kind ≡ true) }
         ensures refused { IfErr result (λ e. RefusesRegionAs T.serves (layout_of_array self.now)
-            (state_of_array TStorage.state self.now).shape (box_of array_subset.now)
+            (state_of_array TStorage.state self.now).shape (R.region array_subset.now)
             (store_of_array TStorage.state self.now) (refusal_of e)) }
     {
-        let array_bytes = self.engine.retrieve_array_subset(alloc, array_subset)?;
+        let array_subset = array_subset.to_array_subset(alloc)?;
+        let array_bytes = self.engine.retrieve_array_subset(alloc, &array_subset)?;
         Ok(self.values_of(alloc, array_bytes)?)
     }
 }

@@ -1,6 +1,5 @@
 //! Stores of an array, which pass to its engine. They take array bytes, or a list of the values of the cells.
 ghost use Rattle.std.specs.Prelude.{◌≡◌, None, IfErr, OnOk};
-ghost use Rattle.zarrs_subset.specs.Regions.{box_of};
 ghost use Rattle.zarrs_steps.specs.Refusals.{RefusesBy, refusal_of};
 ghost use Rattle.zarrs.specs.Typed.{number_refusal};
 
@@ -16,9 +15,9 @@ use zarrs_subset::{ArraySubset, ArraySubsetTraits, IncompatibleDimensionalityErr
 ///
 /// # Errors
 /// E8 if it does not.
-fn check_number(chunks: &ArraySubset) -> Result<(), ArrayError>
-    ensures accepted { OnOk result (number_refusal (box_of chunks.now) ≡ None) }
-    ensures refused { IfErr result (λ e. RefusesBy (number_refusal (box_of chunks.now))
+fn check_number<R: ArraySubsetTraits>(chunks: &R) -> Result<(), ArrayError>
+    ensures accepted { OnOk result (number_refusal (R.region chunks.now) ≡ None) }
+    ensures refused { IfErr result (λ e. RefusesBy (number_refusal (R.region chunks.now))
         (refusal_of e)) }
 {
     match chunks.num_elements() {
@@ -39,16 +38,16 @@ impl<TStorage> Array<TStorage> {
     /// # Errors
     /// In this order: E10 for another number of indices than dimensions; E3 for indices without a chunk; E2 for a part
     /// of another number of dimensions, or that passes the chunk. E9 may come at any time.
-    fn check_place(
+    fn check_part(
         &self,
         alloc: Global,
         chunk_indices: &[u64],
-        chunk_subset: &ArraySubset,
+        part: &ArraySubset,
     ) -> Result<(), ArrayError>
         ensures accepted { OnOk result (place_refusal (layout_of_array self.now) chunk_indices.now
-            (box_of chunk_subset.now) ≡ None) }
+            (box_of part.now) ≡ None) }
         ensures refused { IfErr result (λ e. RefusesBy (place_refusal (layout_of_array self.now)
-            chunk_indices.now (box_of chunk_subset.now)) (refusal_of e)) }
+            chunk_indices.now (box_of part.now)) (refusal_of e)) }
     {
         let dimensions = self.dimensionality();
         if chunk_indices.len() != dimensions {
@@ -57,25 +56,60 @@ impl<TStorage> Array<TStorage> {
         }
         let parts = self.engine.parts();
         let chunk = parts.chunk_box(alloc, chunk_indices)?;
-        let _ = parts.part_of(alloc, chunk_indices, &chunk, chunk_subset)?;
+        let _ = parts.part_of(alloc, chunk_indices, &chunk, part)?;
         Ok(())
+    }
+
+    /// Does what `check_part` does, for whatever stands for the part.
+    fn check_place<R: ArraySubsetTraits>(
+        &self,
+        alloc: Global,
+        chunk_indices: &[u64],
+        chunk_subset: &R,
+    ) -> Result<(), ArrayError>
+        ensures accepted { OnOk result (place_refusal (layout_of_array self.now) chunk_indices.now
+            (R.region chunk_subset.now) ≡ None) }
+        ensures refused { IfErr result (λ e. RefusesBy (place_refusal (layout_of_array self.now)
+            chunk_indices.now (R.region chunk_subset.now)) (refusal_of e)) }
+    {
+        let part = chunk_subset.to_array_subset(alloc)?;
+        self.check_part(alloc, chunk_indices, &part)
     }
 }
 
 impl<TStorage: WritableStorageTraits> Array<TStorage> {
-    ghost use Rattle.std.specs.Prelude.{◌≡◌, [], ◌∷◌, true, false, IfErr, OnOk};
-    ghost use Rattle.zarrs_subset.specs.Regions.{box_of};
+    ghost use Rattle.std.specs.Prelude.{◌≡◌, [], ◌∷◌, true, false, None, IfErr, OnOk};
     ghost use Rattle.zarrs_chunk_grid.specs.Grids.{box_at};
     ghost use Rattle.zarrs_codec.specs.Options.{stores_empty_chunks};
     ghost use Rattle.zarrs_steps.specs.ChunkBoxes.{chunks_met, part_box};
+    ghost use Rattle.zarrs_steps.specs.ArgumentRefusals.{region_refusal};
     ghost use Rattle.zarrs_steps.specs.Reach.{MayAskParts};
-    ghost use Rattle.zarrs_steps.specs.Refusals.{refusal_of};
+    ghost use Rattle.zarrs_steps.specs.Refusals.{RefusesBy, refusal_of};
     ghost use Rattle.zarrs.specs.Arrays.{layout_of_array, store_of_array, state_of_array};
     ghost use Rattle.zarrs.specs.Arrays.{KeepsArray};
     ghost use Rattle.zarrs.specs.Typed.{StoresChunkAs, RefusesStoreChunkAs};
     ghost use Rattle.zarrs.specs.Typed.{StoresChunksAs, RefusesStoreChunksAs};
     ghost use Rattle.zarrs.specs.Typed.{StoresPartAs, RefusesStorePartAs};
     ghost use Rattle.zarrs.specs.Typed.{StoresRegionAs, RefusesStoreRegionAs};
+
+    /// Tests whether the chunks of the array cover the region.
+    ///
+    /// # Errors
+    /// E1 for another number of dimensions, or a position that no chunk covers. E9 may come at any time.
+    fn check_region<R: ArraySubsetTraits>(
+        &self,
+        alloc: Global,
+        array_subset: &R,
+    ) -> Result<(), ArrayError>
+        ensures accepted { OnOk result (region_refusal (layout_of_array self.now)
+            (state_of_array TStorage.state self.now).shape (R.region array_subset.now) ≡ None) }
+        ensures refused { IfErr result (λ e. RefusesBy (region_refusal (layout_of_array self.now)
+            (state_of_array TStorage.state self.now).shape (R.region array_subset.now)) (refusal_of e)) }
+    {
+        let region = array_subset.to_array_subset(alloc)?;
+        let _ = self.engine.parts().chunks_met(alloc, &region)?;
+        Ok(())
+    }
 
     /// Stores the cells of the chunk with these indices, by one writing call of the store. If each cell is the fill
     /// value's, the key is erased.
@@ -142,19 +176,19 @@ impl<TStorage: WritableStorageTraits> Array<TStorage> {
     /// each a value of the data type. Then, at one of the chunks: E8 for a chunk of more bytes than a `usize` counts;
     /// E4 if the chain does not take it; E8 if its bytes pass a size; E7 if the store refuses. E9 may come at any time.
     /// The chunks before that one are stored then, and no later one.
-    pub fn store_chunks<'a, D: IntoArrayBytes<'a>>(
+    pub fn store_chunks<'a, D: IntoArrayBytes<'a>, R: ArraySubsetTraits>(
         &mut self,
         alloc: Global,
-        chunks: &ArraySubset,
+        chunks: &R,
         chunks_data: D,
     ) -> Result<(), ArrayError>
         ensures done { OnOk result (StoresChunksAs (layout_of_array self.old) false
-            (D.gives chunks_data) (box_of chunks.now)
+            (D.gives chunks_data) (R.region chunks.now)
             (store_of_array TStorage.state self.old) (store_of_array TStorage.state self.new)) }
         ensures served { OnOk result (D.serves (layout_of_array self.old).kind ≡ true) }
         ensures refused { IfErr result (λ e. RefusesStoreChunksAs D.serves
             (layout_of_array self.old) false
-            (D.gives chunks_data) (box_of chunks.now) (store_of_array TStorage.state self.old)
+            (D.gives chunks_data) (R.region chunks.now) (store_of_array TStorage.state self.old)
             (store_of_array TStorage.state self.new) (refusal_of e)) }
         ensures kept { KeepsArray self.old self.new }
     {
@@ -165,21 +199,21 @@ impl<TStorage: WritableStorageTraits> Array<TStorage> {
     ///
     /// # Errors
     /// Those of `store_chunks`.
-    pub fn store_chunks_opt<'a, D: IntoArrayBytes<'a>>(
+    pub fn store_chunks_opt<'a, D: IntoArrayBytes<'a>, R: ArraySubsetTraits>(
         &mut self,
         alloc: Global,
-        chunks: &ArraySubset,
+        chunks: &R,
         chunks_data: D,
         options: &CodecOptions,
     ) -> Result<(), ArrayError>
         ensures done { OnOk result (StoresChunksAs
             (layout_of_array self.old) (stores_empty_chunks options.now)
-            (D.gives chunks_data) (box_of chunks.now)
+            (D.gives chunks_data) (R.region chunks.now)
             (store_of_array TStorage.state self.old) (store_of_array TStorage.state self.new)) }
         ensures served { OnOk result (D.serves (layout_of_array self.old).kind ≡ true) }
         ensures refused { IfErr result (λ e. RefusesStoreChunksAs D.serves
             (layout_of_array self.old) (stores_empty_chunks options.now)
-            (D.gives chunks_data) (box_of chunks.now) (store_of_array TStorage.state self.old)
+            (D.gives chunks_data) (R.region chunks.now) (store_of_array TStorage.state self.old)
             (store_of_array TStorage.state self.new) (refusal_of e)) }
         ensures kept { KeepsArray self.old self.new }
     {
@@ -190,8 +224,9 @@ impl<TStorage: WritableStorageTraits> Array<TStorage> {
                 return Err(error.into());
             }
         };
+        let chunks = chunks.to_array_subset(alloc)?;
         self.engine
-            .store_chunks(alloc, chunks, &chunks_data, options)
+            .store_chunks(alloc, &chunks, &chunks_data, options)
     }
 
     /// Stores the cells over a part of the chunk with these indices, by one writing call of the store. The part is seen
@@ -204,24 +239,24 @@ impl<TStorage: WritableStorageTraits> Array<TStorage> {
     /// each position, each a value of the data type. Then E8 for such a chunk; E7 if the chunk is read and the store
     /// refuses its key; E4 if its bytes do not decode, or the chain does not take it; E8 if its bytes pass a size; E7
     /// if the store refuses the write. E9 may come at any time. Nothing is changed then.
-    pub fn store_chunk_subset<'a, D: IntoArrayBytes<'a>>(
+    pub fn store_chunk_subset<'a, D: IntoArrayBytes<'a>, R: ArraySubsetTraits>(
         &mut self,
         alloc: Global,
         chunk_indices: &[u64],
-        chunk_subset: &ArraySubset,
+        chunk_subset: &R,
         chunk_subset_data: D,
     ) -> Result<(), ArrayError>
         requires { MayAskParts (layout_of_array self.old)
             (part_box (box_at (layout_of_array self.old).grid chunk_indices.now)
-            (box_of chunk_subset.now)) (chunk_indices.now ∷ [])
+            (R.region chunk_subset.now)) (chunk_indices.now ∷ [])
             (store_of_array TStorage.state self.old) }
         ensures done { OnOk result (StoresPartAs (layout_of_array self.old) false
-            (D.gives chunk_subset_data) chunk_indices.now (box_of chunk_subset.now)
+            (D.gives chunk_subset_data) chunk_indices.now (R.region chunk_subset.now)
             (store_of_array TStorage.state self.old) (store_of_array TStorage.state self.new)) }
         ensures served { OnOk result (D.serves (layout_of_array self.old).kind ≡ true) }
         ensures refused { IfErr result (λ e. RefusesStorePartAs D.serves
             (layout_of_array self.old) false
-            (D.gives chunk_subset_data) chunk_indices.now (box_of chunk_subset.now)
+            (D.gives chunk_subset_data) chunk_indices.now (R.region chunk_subset.now)
             (store_of_array TStorage.state self.old)
             (store_of_array TStorage.state self.new) (refusal_of e)) }
         ensures kept { KeepsArray self.old self.new }
@@ -239,26 +274,26 @@ impl<TStorage: WritableStorageTraits> Array<TStorage> {
     ///
     /// # Errors
     /// Those of `store_chunk_subset`.
-    pub fn store_chunk_subset_opt<'a, D: IntoArrayBytes<'a>>(
+    pub fn store_chunk_subset_opt<'a, D: IntoArrayBytes<'a>, R: ArraySubsetTraits>(
         &mut self,
         alloc: Global,
         chunk_indices: &[u64],
-        chunk_subset: &ArraySubset,
+        chunk_subset: &R,
         chunk_subset_data: D,
         options: &CodecOptions,
     ) -> Result<(), ArrayError>
         requires { MayAskParts (layout_of_array self.old)
             (part_box (box_at (layout_of_array self.old).grid chunk_indices.now)
-            (box_of chunk_subset.now)) (chunk_indices.now ∷ [])
+            (R.region chunk_subset.now)) (chunk_indices.now ∷ [])
             (store_of_array TStorage.state self.old) }
         ensures done { OnOk result (StoresPartAs
             (layout_of_array self.old) (stores_empty_chunks options.now)
-            (D.gives chunk_subset_data) chunk_indices.now (box_of chunk_subset.now)
+            (D.gives chunk_subset_data) chunk_indices.now (R.region chunk_subset.now)
             (store_of_array TStorage.state self.old) (store_of_array TStorage.state self.new)) }
         ensures served { OnOk result (D.serves (layout_of_array self.old).kind ≡ true) }
         ensures refused { IfErr result (λ e. RefusesStorePartAs D.serves
             (layout_of_array self.old) (stores_empty_chunks options.now)
-            (D.gives chunk_subset_data) chunk_indices.now (box_of chunk_subset.now)
+            (D.gives chunk_subset_data) chunk_indices.now (R.region chunk_subset.now)
             (store_of_array TStorage.state self.old)
             (store_of_array TStorage.state self.new) (refusal_of e)) }
         ensures kept { KeepsArray self.old self.new }
@@ -273,10 +308,11 @@ impl<TStorage: WritableStorageTraits> Array<TStorage> {
                 return Err(error.into());
             }
         };
+        let chunk_subset = chunk_subset.to_array_subset(alloc)?;
         self.engine.store_chunk_subset(
             alloc,
             chunk_indices,
-            chunk_subset,
+            &chunk_subset,
             &chunk_subset_data,
             options,
         )
@@ -293,24 +329,24 @@ impl<TStorage: WritableStorageTraits> Array<TStorage> {
     /// chunk of more bytes than a `usize` counts; of a chunk that is read, E7 if the store refuses its key, and E4 if
     /// its bytes do not decode; E4 if the chain does not take it; E8 if its bytes pass a size; E7 if the store refuses
     /// the write. E9 may come at any time. The chunks before that one are stored then, and no later one.
-    pub fn store_array_subset<'a, D: IntoArrayBytes<'a>>(
+    pub fn store_array_subset<'a, D: IntoArrayBytes<'a>, R: ArraySubsetTraits>(
         &mut self,
         alloc: Global,
-        array_subset: &ArraySubset,
+        array_subset: &R,
         subset_data: D,
     ) -> Result<(), ArrayError>
-        requires { MayAskParts (layout_of_array self.old) (box_of array_subset.now)
-            (chunks_met (layout_of_array self.old).grid (box_of array_subset.now))
+        requires { MayAskParts (layout_of_array self.old) (R.region array_subset.now)
+            (chunks_met (layout_of_array self.old).grid (R.region array_subset.now))
             (store_of_array TStorage.state self.old) }
         ensures done { OnOk result (StoresRegionAs (layout_of_array self.old) false
             (state_of_array TStorage.state self.old).shape (D.gives subset_data)
-            (box_of array_subset.now)
+            (R.region array_subset.now)
             (store_of_array TStorage.state self.old) (store_of_array TStorage.state self.new)) }
         ensures served { OnOk result (D.serves (layout_of_array self.old).kind ≡ true) }
         ensures refused { IfErr result (λ e. RefusesStoreRegionAs D.serves
             (layout_of_array self.old) false
             (state_of_array TStorage.state self.old).shape (D.gives subset_data)
-            (box_of array_subset.now) (store_of_array TStorage.state self.old)
+            (R.region array_subset.now) (store_of_array TStorage.state self.old)
             (store_of_array TStorage.state self.new) (refusal_of e)) }
         ensures kept { KeepsArray self.old self.new }
     {
@@ -321,37 +357,38 @@ impl<TStorage: WritableStorageTraits> Array<TStorage> {
     ///
     /// # Errors
     /// Those of `store_array_subset`.
-    pub fn store_array_subset_opt<'a, D: IntoArrayBytes<'a>>(
+    pub fn store_array_subset_opt<'a, D: IntoArrayBytes<'a>, R: ArraySubsetTraits>(
         &mut self,
         alloc: Global,
-        array_subset: &ArraySubset,
+        array_subset: &R,
         subset_data: D,
         options: &CodecOptions,
     ) -> Result<(), ArrayError>
-        requires { MayAskParts (layout_of_array self.old) (box_of array_subset.now)
-            (chunks_met (layout_of_array self.old).grid (box_of array_subset.now))
+        requires { MayAskParts (layout_of_array self.old) (R.region array_subset.now)
+            (chunks_met (layout_of_array self.old).grid (R.region array_subset.now))
             (store_of_array TStorage.state self.old) }
         ensures done { OnOk result (StoresRegionAs
             (layout_of_array self.old) (stores_empty_chunks options.now)
             (state_of_array TStorage.state self.old).shape (D.gives subset_data)
-            (box_of array_subset.now)
+            (R.region array_subset.now)
             (store_of_array TStorage.state self.old) (store_of_array TStorage.state self.new)) }
         ensures served { OnOk result (D.serves (layout_of_array self.old).kind ≡ true) }
         ensures refused { IfErr result (λ e. RefusesStoreRegionAs D.serves
             (layout_of_array self.old) (stores_empty_chunks options.now)
             (state_of_array TStorage.state self.old).shape (D.gives subset_data)
-            (box_of array_subset.now) (store_of_array TStorage.state self.old)
+            (R.region array_subset.now) (store_of_array TStorage.state self.old)
             (store_of_array TStorage.state self.new) (refusal_of e)) }
         ensures kept { KeepsArray self.old self.new }
     {
         let subset_data = match subset_data.into_array_bytes(alloc, self.engine.data_type()) {
             Ok(subset_data) => subset_data,
             Err(error) => {
-                let _ = self.engine.parts().chunks_met(alloc, array_subset)?;
+                self.check_region(alloc, array_subset)?;
                 return Err(error.into());
             }
         };
+        let array_subset = array_subset.to_array_subset(alloc)?;
         self.engine
-            .store_array_subset(alloc, array_subset, &subset_data, options)
+            .store_array_subset(alloc, &array_subset, &subset_data, options)
     }
 }

@@ -1,23 +1,11 @@
-use Rattle.std.proofs.Common.{◌≢◌, Bool, None, cond, length, ◌∙◌, sym, subst}
-use Rattle.std.proofs.lemmas.Bool.{false≢true}
-use Rattle.zarrs_subset.specs.Regions.{box_of}
-use Rattle.zarrs_steps.specs.ArgumentRefusals.{chunk_refusal, range_refusal}
-use Rattle.zarrs_steps.specs.ChunkBoxes.{last_of}
+use Rattle.std.proofs.Common.{IfErr, subst}
+use Rattle.zarrs_subset.specs.Regions.{Box}
 use Rattle.zarrs_steps.specs.Refusals.{RefusesBy, refusal_of}
-use Rattle.zarrs_steps.proofs.RefusalLemmas.{refused_first}
-use Rattle.zarrs_layout.proofs.Chunks.{wrong_length}
-use Rattle.zarrs_layout.proofs.ChunkParts.{chunk_refused}
-use Rattle.zarrs_layout.proofs.ChunkRanges.{has_indices, range_some}
 use Rattle.zarrs.specs.Arrays.{layout_of_array}
+use Rattle.zarrs.specs.Queries.{chunks_refusal}
 use Rattle.zarrs.proofs.array.Array.chunks_subset.Goals as goal
 
-pub returns-then-dimensionality-clause-refused : goal.returns-then-dimensionality-clause-refused
-returns-then-dimensionality-clause-refused g c =
-    let layout = layout_of_array c.args.self.now in
-    let range = box_of c.args.chunks.now in
-    let e = c.invalid_indices.result in
-    let some = has_indices range (λ empty. false≢true (c.if-is_empty.ensures.1 empty)) in
-    let wrong : length range.start ≢ layout.grid.dimensions = λ same. c.if-dimensionality.true (c.dimensionality-2.ensures.count ∙ same ∙ sym c.dimensionality-3.ensures) in
-    let said = chunk_refused layout range.start e (wrong_length layout range.start wrong) (rw c.start.ensures at c.invalid_indices.ensures) in
-    let first = refused_first (chunk_refusal layout range.start) (chunk_refusal layout (last_of range)) (refusal_of e) said in
-    subst (λ (b : Bool). RefusesBy (cond b None (range_refusal layout range)) (refusal_of e)) (sym (range_some range some)) first
+pub returns-clause-refused : goal.returns-clause-refused
+returns-clause-refused g c =
+    subst (λ (b : Box). IfErr c.range_subset.result (λ e. RefusesBy (chunks_refusal (layout_of_array c.args.self.now) b) (refusal_of e)))
+    c.in_ok-chunks.ensures c.range_subset.ensures.refused

@@ -1,0 +1,29 @@
+use Rattle.std.proofs.Common.{OnOk, IfErr, subst, sym}
+use Rattle.zarrs_subset.specs.Regions.{Box}
+use Rattle.zarrs_steps.specs.ChunkBoxes.{chunks_met}
+use Rattle.zarrs_steps.specs.Reach.{MayAskChunks}
+use Rattle.zarrs_steps.specs.Refusals.{refusal_of}
+use Rattle.zarrs_engine.specs.Into.{HasContent, RefusesRetrieveInto}
+use Rattle.zarrs_target.proofs.Levels.{masked_keeps}
+use Rattle.zarrs.specs.Arrays.{layout_of_array, store_of_array, state_of_array}
+use Rattle.zarrs.proofs.array.Array.retrieve_array_subset_into_opt.Goals as goal
+
+pub returns-in_err-array_subset-clause-outside : goal.returns-in_err-array_subset-clause-outside
+returns-in_err-array_subset-clause-outside g c = masked_keeps _ _ _ _ _ _ _
+
+pub retrieve_array_subset_into-requires-clause-ask : goal.retrieve_array_subset_into-requires-clause-ask
+retrieve_array_subset_into-requires-clause-ask g c =
+    let layout = layout_of_array c.args.self.now in
+    subst (λ (b : Box). MayAskChunks layout (chunks_met layout.grid b) (store_of_array g.TStorage.ReadableStorageTraits.state c.args.self.now)) (sym c.in_ok-array_subset.ensures) c.requires.ask
+
+pub returns-clause-content : goal.returns-clause-content
+returns-clause-content g c =
+    let array = c.args.self.now in
+    subst (λ (b : Box). OnOk c.retrieve_array_subset_into.result (HasContent (layout_of_array array) b (store_of_array g.TStorage.ReadableStorageTraits.state array) c.args.target.now c.retrieve_array_subset_into.new.target))
+    c.in_ok-array_subset.ensures c.retrieve_array_subset_into.ensures.content
+
+pub returns-clause-refused : goal.returns-clause-refused
+returns-clause-refused g c =
+    let array = c.args.self.now in
+    subst (λ (b : Box). IfErr c.retrieve_array_subset_into.result (λ e. RefusesRetrieveInto (layout_of_array array) (state_of_array g.TStorage.ReadableStorageTraits.state array).shape b c.args.target.now (refusal_of e) (store_of_array g.TStorage.ReadableStorageTraits.state array)))
+    c.in_ok-array_subset.ensures c.retrieve_array_subset_into.ensures.refused
