@@ -9,7 +9,7 @@ use zarrs_subset::ArraySubsetTraits;
 impl<TStorage: ReadableStorageTraits> Array<TStorage> {
     ghost use Rattle.std.specs.Prelude.{◌≡◌, IfOk, IfErr, OnOk, None};
     ghost use Rattle.std.specs.Prelude.{length, map, option_map};
-    ghost use Rattle.zarrs_subset.specs.Regions.{box_of, positions};
+    ghost use Rattle.zarrs_subset.specs.Regions.{positions};
     ghost use Rattle.zarrs_steps.specs.Reach.{MayAskChunk, MayAskChunks};
     ghost use Rattle.zarrs_steps.specs.Content.{value_at};
     ghost use Rattle.zarrs_steps.specs.Refusals.{RefusesBy, refusal_of, length_refusal, key_refusal};
@@ -72,7 +72,6 @@ impl<TStorage: WritableStorageTraits> Array<TStorage> {
     ghost use Rattle.std.specs.Prelude.{IfOk, IfErr, OnOk, OnErr};
     ghost use Rattle.zarrs_chunk_grid.specs.Grids.{box_at, has_box};
     ghost use Rattle.zarrs_steps.specs.Changes.{IsPut};
-    ghost use Rattle.zarrs_subset.specs.Regions.{box_of};
     ghost use Rattle.zarrs_codec.specs.Options.{stores_empty_chunks};
     ghost use Rattle.zarrs_steps.specs.Canon.{IsCanonical};
     ghost use Rattle.zarrs_steps.specs.Content.{decoded_cells, value_at};

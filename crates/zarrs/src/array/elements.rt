@@ -9,7 +9,7 @@ use zarrs_subset::ArraySubsetTraits;
 
 impl<TStorage: ReadableStorageTraits> Array<TStorage> {
     ghost use Rattle.std.specs.Prelude.{◌≡◌, true, IfOk, IfErr, OnOk, OnSome, IsErr};
-    ghost use Rattle.zarrs_subset.specs.Regions.{box_of, positions};
+    ghost use Rattle.zarrs_subset.specs.Regions.{positions};
     ghost use Rattle.zarrs_steps.specs.ChunkBoxes.{chunks_met};
     ghost use Rattle.zarrs_steps.specs.Reach.{MayAskChunk, MayAskChunks};
     ghost use Rattle.zarrs_steps.specs.Refusals.{refusal_of};
@@ -263,7 +263,6 @@ impl<TStorage: ReadableStorageTraits> Array<TStorage> {
 
 impl<TStorage: WritableStorageTraits> Array<TStorage> {
     ghost use Rattle.std.specs.Prelude.{◌≡◌, [], ◌∷◌, true, false, IfErr, OnOk};
-    ghost use Rattle.zarrs_subset.specs.Regions.{box_of};
     ghost use Rattle.zarrs_chunk_grid.specs.Grids.{box_at};
     ghost use Rattle.zarrs_codec.specs.Options.{stores_empty_chunks};
     ghost use Rattle.zarrs_steps.specs.ChunkBoxes.{chunks_met, part_box};
