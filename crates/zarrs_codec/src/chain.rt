@@ -118,13 +118,13 @@ impl ArrayToBytesCodec {
 
     /// The `count` cells of the bytes.
     #[cycle(decode)]
-    pub(crate) fn decode(
+    pub(crate) fn decode<'a>(
         &self,
         alloc: Global,
-        encoded: &[u8],
+        encoded: &'a [u8],
         data_type: &DataType,
         count: u64,
-    ) -> Result<ArrayBytes<'static>, CodecError>
+    ) -> Result<ArrayBytes<'a>, CodecError>
         requires size { count * cell_size (kind data_type.now) < 2 ^ 64 }
         ensures cells { IfOk result (λ made. cells (kind data_type.now) (data_of made)
             ≡ (leaf_meaning self.now).decoded (kind data_type.now) count encoded.now) }
@@ -190,6 +190,9 @@ impl CodecChain {
         ensures { IfOk result (λ takes. takes ≡ (arrays_meaning (array_to_array_of self.now)).fits
             shape.now) }
     {
+        if self.array_to_array.is_empty() {
+            return Ok(true);
+        }
         Ok(encoded_shape(alloc, &self.array_to_array, shape)?.is_some())
     }
 }
@@ -220,14 +223,14 @@ impl ChainTraits for CodecChain {
         self.array_to_bytes.encode(alloc, &made, bytes, data_type)
     }
 
-    fn decode(
+    fn decode<'a>(
         &self,
         alloc: Global,
-        encoded: &[u8],
+        encoded: &'a [u8],
         data_type: &DataType,
         fill_value: &FillValue,
         shape: &[u64],
-    ) -> Result<ArrayBytes<'static>, CodecError> {
+    ) -> Result<ArrayBytes<'a>, CodecError> {
         if !self.takes_shape(alloc, shape)? {
             return Err(CodecError::DoesNotFit);
         }

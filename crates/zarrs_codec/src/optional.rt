@@ -69,12 +69,12 @@ impl MaskCodec {
     }
 
     /// The `count` bools of the bytes.
-    fn decode(
+    fn decode<'a>(
         &self,
         alloc: Global,
-        encoded: &[u8],
+        encoded: &'a [u8],
         count: u64,
-    ) -> Result<ArrayBytes<'static>, CodecError>
+    ) -> Result<ArrayBytes<'a>, CodecError>
         ensures cells { IfOk result (λ made. cells type.bool (data_of made)
             ≡ (mask_meaning self.now).decoded type.bool count encoded.now) }
         ensures some { IfOk result (λ made. IsSome (cells type.bool (data_of made))) }
@@ -186,13 +186,13 @@ impl OptionalCodec {
 
     /// The `count` cells of the bytes.
     #[cycle(decode)]
-    pub(crate) fn decode(
+    pub(crate) fn decode<'a>(
         &self,
         alloc: Global,
-        encoded: &[u8],
+        encoded: &'a [u8],
         data_type: &DataType,
         count: u64,
-    ) -> Result<ArrayBytes<'static>, CodecError>
+    ) -> Result<ArrayBytes<'a>, CodecError>
         requires size { count * cell_size (kind data_type.now) < 2 ^ 64 }
         ensures cells { IfOk result (λ made. cells (kind data_type.now) (data_of made)
             ≡ (optional_meaning_of self.now).decoded (kind data_type.now) count encoded.now) }
@@ -208,7 +208,8 @@ impl OptionalCodec {
         };
         let DecodedMask { flags, set } = self.mask.decode_mask(alloc, mask, inner, count)?;
         let present = self.data.decode_if_any(alloc, body, inner, set)?;
-        Ok(ArrayBytes::from_present(alloc, inner, flags, &present)?)
+        let made = ArrayBytes::from_present(alloc, inner, flags, &present)?;
+        Ok(made.into_owned(alloc)?)
     }
 }
 
@@ -276,13 +277,13 @@ impl ArrayToBytesCodec {
 
     /// The `count` cells of the bytes, which are none if there is no cell.
     #[cycle(decode)]
-    fn decode_if_any(
+    fn decode_if_any<'a>(
         &self,
         alloc: Global,
-        encoded: &[u8],
+        encoded: &'a [u8],
         data_type: &DataType,
         count: u64,
-    ) -> Result<ArrayBytes<'static>, CodecError>
+    ) -> Result<ArrayBytes<'a>, CodecError>
         requires size { count * cell_size (kind data_type.now) < 2 ^ 64 }
         ensures cells { IfOk result (λ made. cells (kind data_type.now) (data_of made)
             ≡ (if_any (leaf_meaning self.now)).decoded (kind data_type.now) count encoded.now) }
@@ -309,7 +310,7 @@ fn bools_of(flags: &[u8]) -> ArrayBytes<'_>
 }
 
 /// The flags that are these cells of bool.
-fn flags_of(alloc: Global, bools: ArrayBytes<'static>) -> Result<Vec<u8>, AllocError>
+fn flags_of(alloc: Global, bools: ArrayBytes<'_>) -> Result<Vec<u8>, AllocError>
     requires { IsSome (cells type.bool (data_of bools)) }
     ensures cells { IfOk result (λ flags. cells type.bool (data_of bools.entry)
         ≡ Some (map flag_cell flags.items)) }
@@ -322,7 +323,7 @@ fn flags_of(alloc: Global, bools: ArrayBytes<'static>) -> Result<Vec<u8>, AllocE
     Ok(flags)
 }
 
-fn owned(alloc: Global, bytes: CowSlice<'static, u8>) -> Result<Vec<u8>, AllocError>
+fn owned(alloc: Global, bytes: CowSlice<'_, u8>) -> Result<Vec<u8>, AllocError>
     ensures { IfOk result (λ owned. owned.items ≡ cow_slice_items bytes.entry) }
 {
     Ok(bytes.into_owned(alloc)?)
@@ -342,7 +343,7 @@ fn count_set(flags: &[u8]) -> u64
 }
 
 /// Data of no cell.
-fn no_cells(alloc: Global, data_type: &DataType) -> Result<ArrayBytes<'static>, AllocError>
+fn no_cells<'a>(alloc: Global, data_type: &DataType) -> Result<ArrayBytes<'a>, AllocError>
     ensures { IfOk result (λ made. cells (kind data_type.now) (data_of made) ≡ Some []) }
 {
     match data_type {
@@ -350,10 +351,11 @@ fn no_cells(alloc: Global, data_type: &DataType) -> Result<ArrayBytes<'static>, 
             let data = no_cells(alloc, inner)?;
             data.with_optional_mask(alloc, CowSlice::Owned(Vec::new(alloc)))
         }
-        DataType::String | DataType::Bytes => Ok(ArrayBytes::Variable(
-            VariableLengthBuilder::with_capacity(alloc, 0, 0)?.finish(),
-        )),
-        _ => Ok(ArrayBytes::new_flen(Vec::new(alloc))),
+        DataType::String | DataType::Bytes => {
+            let none = VariableLengthBuilder::with_capacity(alloc, 0, 0)?.finish();
+            Ok(ArrayBytes::Variable(none))
+        }
+        _ => Ok(ArrayBytes::Fixed(CowSlice::Owned(Vec::new(alloc)))),
     }
 }
 

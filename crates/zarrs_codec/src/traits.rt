@@ -55,18 +55,19 @@ pub trait ChainTraits {
             (kind data_type.now) (fill_of (kind data_type.now) fill_value.now) shape.now
             (data_of bytes.now)) };
 
-    /// The cells of a chunk's bytes.
+    /// The cells of a chunk's bytes. They may be lent by these bytes, so that a caller who takes a part of them copies
+    /// that part alone.
     ///
     /// # Errors
     /// `DoesNotFit` if the bytes do not decode. `OutOfMemory` may come at any time.
-    fn decode(
+    fn decode<'a>(
         &self,
         alloc: Global,
-        encoded: &[u8],
+        encoded: &'a [u8],
         data_type: &DataType,
         fill_value: &FillValue,
         shape: &[u64],
-    ) -> Result<ArrayBytes<'static>, CodecError>
+    ) -> Result<ArrayBytes<'a>, CodecError>
         requires filled { IsSome (fill_cell (kind data_type.now) fill_value.now) }
         requires size { position_count shape.now * cell_size (kind data_type.now) < 2 ^ 64 }
         ensures cells { IfOk result (λ made. cells (kind data_type.now) (data_of made)

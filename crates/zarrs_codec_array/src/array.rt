@@ -185,14 +185,14 @@ fn later(
     }
 }
 
-/// The array that the codec made the current one of.
-fn decode_next(
+/// The array that the codec made the current one of. What is made is owned, and is not copied again.
+fn decode_next<'a>(
     alloc: Global,
     codec: &ArrayToArrayCodec,
-    current: ArrayBytes<'static>,
+    current: ArrayBytes<'a>,
     data_type: &DataType,
     shape: &[u64],
-) -> Result<ArrayBytes<'static>, AllocError>
+) -> Result<ArrayBytes<'a>, AllocError>
     requires fits { (array_meaning codec.now).fits shape.now ≡ true }
     requires cells { HasCells (kind data_type.now) (data_of current) (position_count shape.now) }
     ensures { IfOk result (λ made. IfSome (cells (kind data_type.now) (data_of current.entry))
@@ -200,7 +200,7 @@ fn decode_next(
         ≡ Some ((array_meaning codec.now).back shape.now cs))) }
 {
     match codec.decode(alloc, &current, data_type, shape)? {
-        Some(made) => Ok(made),
+        Some(made) => made.into_owned(alloc),
         None => Ok(current),
     }
 }
@@ -234,13 +234,13 @@ pub fn encode_array(
 ///
 /// # Errors
 /// `AllocError`: out of memory.
-pub fn decode_array(
+pub fn decode_array<'a>(
     alloc: Global,
     codecs: &[ArrayToArrayCodec],
-    bytes: ArrayBytes<'static>,
+    bytes: ArrayBytes<'a>,
     data_type: &DataType,
     shape: &[u64],
-) -> Result<ArrayBytes<'static>, AllocError>
+) -> Result<ArrayBytes<'a>, AllocError>
     requires fits { (arrays_meaning codecs.now).fits shape.now ≡ true }
     requires cells { HasCells (kind data_type.now) (data_of bytes) (position_count shape.now) }
     ensures { IfOk result (λ made. IfSome (cells (kind data_type.now) (data_of bytes.entry))

@@ -10,6 +10,7 @@ ghost use Rattle.zarrs_codec_leaf.specs.Leaf.{encoding_of};
 
 use crate::error::CodecError;
 use std::alloc::{AllocError, Global};
+use std::borrow::CowSlice;
 use zarrs_data_type::{ArrayBytes, DataType};
 use zarrs_numbers::{Writing, written};
 
@@ -60,13 +61,13 @@ impl PackBitsCodec {
     /// `DoesNotFit` if the codec does not take the type, if there are more or fewer bytes than
     /// `count` bools need, or if a bit behind the last bool is not 0. `OutOfMemory` may come at any
     /// time.
-    pub fn decode(
+    pub fn decode<'a>(
         &self,
         alloc: Global,
-        encoded: &[u8],
+        encoded: &'a [u8],
         data_type: &DataType,
         count: u64,
-    ) -> Result<ArrayBytes<'static>, CodecError>
+    ) -> Result<ArrayBytes<'a>, CodecError>
         ensures cells { IfOk result (λ made. cells (kind data_type.now) (data_of made)
             ≡ packbits_meaning.decoded (kind data_type.now) count encoded.now) }
         ensures some { IfOk result (λ made. IsSome (cells (kind data_type.now) (data_of made))) }
@@ -85,7 +86,7 @@ impl PackBitsCodec {
             return Err(CodecError::DoesNotFit);
         }
         flags.truncate(count as usize);
-        Ok(ArrayBytes::new_flen(flags))
+        Ok(ArrayBytes::Fixed(CowSlice::Owned(flags)))
     }
 }
 

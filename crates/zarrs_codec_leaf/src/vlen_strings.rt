@@ -72,13 +72,13 @@ impl VlenUtf8Codec {
     /// # Errors
     /// `DoesNotFit` if the codec does not take the type, or if the bytes are not `count` cells of it. `OutOfMemory` may
     /// come at any time.
-    pub fn decode(
+    pub fn decode<'a>(
         &self,
         alloc: Global,
-        encoded: &[u8],
+        encoded: &'a [u8],
         data_type: &DataType,
         count: u64,
-    ) -> Result<ArrayBytes<'static>, CodecError>
+    ) -> Result<ArrayBytes<'a>, CodecError>
         ensures cells { IfOk result (λ made. cells (kind data_type.now) (data_of made)
             ≡ vlen_utf8_meaning.decoded (kind data_type.now) count encoded.now) }
         ensures some { IfOk result (λ made. IsSome (cells (kind data_type.now) (data_of made))) }
@@ -152,13 +152,13 @@ impl VlenBytesCodec {
     /// # Errors
     /// `DoesNotFit` if the codec does not take the type, or if the bytes are not `count` cells of it. `OutOfMemory` may
     /// come at any time.
-    pub fn decode(
+    pub fn decode<'a>(
         &self,
         alloc: Global,
-        encoded: &[u8],
+        encoded: &'a [u8],
         data_type: &DataType,
         count: u64,
-    ) -> Result<ArrayBytes<'static>, CodecError>
+    ) -> Result<ArrayBytes<'a>, CodecError>
         ensures cells { IfOk result (λ made. cells (kind data_type.now) (data_of made)
             ≡ vlen_bytes_meaning.decoded (kind data_type.now) count encoded.now) }
         ensures some { IfOk result (λ made. IsSome (cells (kind data_type.now) (data_of made))) }

@@ -158,16 +158,16 @@ impl<G: ChunkGridTraits, K: ChunkKeyEncodingTraits, C: ChainTraits> Parts<G, K, 
         Ok(Some(encoded))
     }
 
-    /// The cells of the bytes of the chunk with these indices.
+    /// The cells of the bytes of the chunk with these indices. They may be lent by these bytes.
     ///
     /// # Errors
     /// In this order: those of `chunk`; E4 if the bytes do not decode. E9 may come at any time.
-    pub fn decode(
+    pub fn decode<'a>(
         &self,
         alloc: Global,
         chunk_indices: &[u64],
-        encoded: &[u8],
-    ) -> Result<ArrayBytes<'static>, ArrayError>
+        encoded: &'a [u8],
+    ) -> Result<ArrayBytes<'a>, ArrayError>
         ensures cells { IfOk result (λ made. cells (kind self.now.data_type) (data_of made)
             ≡ decoded_cells (layout_of_parts self.now)
             (box_at (G.grid self.now.grid) chunk_indices.now) encoded.now) }

@@ -78,7 +78,7 @@ impl<
         match self.stored_bytes(alloc, chunk_indices)? {
             Some(encoded) => {
                 let data = self.parts.decode(alloc, chunk_indices, &encoded)?;
-                Ok(Some(data))
+                Ok(Some(data.into_owned(alloc)?))
             }
             None => Ok(None),
         }
@@ -107,7 +107,10 @@ impl<
             ((layout_of self.now).key chunk_indices.now) ≡ true → IsErr result }
     {
         match self.stored_bytes(alloc, chunk_indices)? {
-            Some(encoded) => self.parts.decode(alloc, chunk_indices, &encoded),
+            Some(encoded) => {
+                let data = self.parts.decode(alloc, chunk_indices, &encoded)?;
+                Ok(data.into_owned(alloc)?)
+            }
             None => self.parts.fill(alloc, chunk_indices),
         }
     }

@@ -22,7 +22,7 @@ returns-clause-cells c =
     let is : all ≡ bits b = c.as_slice.ensures.value ∙ c.in_ok-flags.ensures.items in
     let len = c.if-encoded-div_ceil.false ∙ c.div_ceil.ensures ∙ ceil_len c.args.count in
     let kept = c.truncate.ensures.items ∙ ap (take c.args.count) (sym c.as_slice.ensures.value) ∙ sym c.split_at.ensures.front in
-    ap (cells k) (c.new_flen.ensures ∙ ap fixed kept)
+    ap (cells k) (ap fixed kept)
     ∙ (decoded-flags k c.args.count b all c.split_at.result.0.now c.split_at.result.1.now (sym c.takes.ensures ∙ c.if-not-takes.false) len is c.split_at.ensures.front c.split_at.ensures.back
     (sym c.are_zero.ensures ∙ c.if-not-are_zero.false)).0
 
@@ -34,6 +34,6 @@ returns-clause-some c =
     let is : all ≡ bits b = c.as_slice.ensures.value ∙ c.in_ok-flags.ensures.items in
     let len = c.if-encoded-div_ceil.false ∙ c.div_ceil.ensures ∙ ceil_len c.args.count in
     let kept = c.truncate.ensures.items ∙ ap (take c.args.count) (sym c.as_slice.ensures.value) ∙ sym c.split_at.ensures.front in
-    subst (λ d. IsSome (cells k d)) (sym (c.new_flen.ensures ∙ ap fixed kept))
+    subst (λ d. IsSome (cells k d)) (sym (ap fixed kept))
     (decoded-flags k c.args.count b all c.split_at.result.0.now c.split_at.result.1.now (sym c.takes.ensures ∙ c.if-not-takes.false) len is c.split_at.ensures.front c.split_at.ensures.back
     (sym c.are_zero.ensures ∙ c.if-not-are_zero.false)).1
