@@ -30,6 +30,7 @@ puts_short puts state = record {
   done = [];
   left = puts;
   all = refl;
+  none_left = λ none. refl;
   middle = state;
   front = refl;
   refused = put_short state;
@@ -56,11 +57,12 @@ put_next puts left p old middle new so put = record {
   front = snoc so.done p old middle new so.front put;
 }
 
-pub put_refused : (puts left : List Put) (r : Refusal) (old middle new : StoreState) → Putting puts left old middle → RefusesPut r middle new → RefusesPuts puts r old new
-put_refused puts left r old middle new so refused = record {
+pub put_refused : (puts left : List Put) (p : Put) (r : Refusal) (old middle new : StoreState) → Putting puts (p ∷ left) old middle → RefusesPut r middle new → RefusesPuts puts r old new
+put_refused puts left p r old middle new so refused = record {
   done = so.done;
-  left = left;
+  left = p ∷ left;
   all = so.all;
+  none_left = λ none. absurd (cc none);
   middle = middle;
   front = so.front;
   refused = refused;

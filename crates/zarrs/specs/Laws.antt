@@ -8,10 +8,12 @@ use Rattle.zarrs_keys.specs.Paths.{is_node_path}
 use Rattle.zarrs_document.specs.Document.{DocumentData, data_of_document, normal_document}
 use Rattle.zarrs_document_v2.specs.Document.{DocumentV2Data, data_of_v2, without_attributes}
 use Rattle.zarrs_document_v2.specs.View.{MetadataData, v3, v2}
+use Rattle.zarrs_options.specs.Options.{MetadataOptionsData}
 use Rattle.zarrs_options.specs.declared.versions.MetadataRetrieveVersion.{MetadataRetrieveVersion}
 use Rattle.zarrs_options.specs.declared.versions.MetadataRetrieveVersion.TheVariants as retrieve
 use Rattle.zarrs_array_metadata.specs.Meanings.{Meaning, creation, as_v3}
 use Rattle.zarrs_array_metadata.specs.Opening.{v3_key, v2_array_key, attributes_key, fields_understood, opened}
+use Rattle.zarrs_array_metadata.specs.Shown.{shown}
 use Rattle.zarrs_array_metadata.specs.Writing.{Put, IsWrittenBy}
 use Rattle.zarrs.specs.Puts.{ArePut}
 
@@ -63,3 +65,8 @@ NormalMetadataSaysTheSame = (m : MetadataData) → creation (normal_metadata m) 
 -- V2 metadata and its V3 document say the same parts
 abbrev pub ConvertedMetadataSaysTheSame : Type 0
 ConvertedMetadataSaysTheSame = (m n : MetadataData) → as_v3 m ≡ Ok n → creation n ≡ creation m
+
+-- metadata as options show it says the parts of the metadata that it was made of
+abbrev pub ShownMetadataSaysTheSame : Type 0
+ShownMetadataSaysTheSame =
+    (options : MetadataOptionsData) (m n : MetadataData) (parts : Meaning) → shown options m ≡ Ok n → creation m ≡ Ok parts → creation n ≡ Ok parts

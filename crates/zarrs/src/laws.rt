@@ -3,7 +3,7 @@ ghost use Rattle.std.specs.Prelude.{◌≡◌, Ok};
 ghost use Rattle.zarrs_array_metadata.specs.Meanings.{creation};
 ghost use Rattle.zarrs.specs.Layouts.{layout_meant};
 ghost use Rattle.zarrs.specs.Laws.{WrittenMetadataOpens, NormalMetadataSaysTheSame};
-ghost use Rattle.zarrs.specs.Laws.{ConvertedMetadataSaysTheSame};
+ghost use Rattle.zarrs.specs.Laws.{ConvertedMetadataSaysTheSame, ShownMetadataSaysTheSame};
 ghost use Rattle.zarrs.specs.Arrays.{metadata_of_array, meaning_of_array, layout_of_array, path_of_array};
 
 use crate::array::Array;
@@ -29,4 +29,10 @@ pub fn normal_metadata_says_the_same()
 /// V2 metadata and its V3 document say the same parts.
 pub fn converted_metadata_says_the_same()
     ensures { ConvertedMetadataSaysTheSame }
+{}
+
+/// Metadata that is shown by options, as it is written, says the parts of the array. So what was written for an array
+/// opens in its layout, by `written_metadata_opens`.
+pub fn shown_metadata_says_the_same()
+    ensures { ShownMetadataSaysTheSame }
 {}

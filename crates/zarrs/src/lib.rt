@@ -11,7 +11,10 @@ pub use zarrs_chunk_grid::{
     ChunkGrid, ChunkGridTraits, ChunkShape, RectangularChunkGrid, RegularBoundedChunkGrid,
     RegularChunkGrid,
 };
-pub use zarrs_codec::{CodecChain, CodecOptions};
+pub use zarrs_codec::{
+    ArrayToArrayCodec, ArrayToBytesCodec, BytesToBytesCodecs, ChainTraits, CodecChain, CodecError,
+    CodecMetadataOptions, CodecOptions,
+};
 pub use zarrs_data_type::{
     ArrayBytes, DataType, Element, ElementError, ElementOwned, FillValue, FromArrayBytes,
     IntoArrayBytes, IntoField,
@@ -24,16 +27,21 @@ pub use zarrs_document_v2::{
     DataTypeMetadataV2, array_metadata_v2_to_v3,
 };
 pub use zarrs_engine::{ArrayError, Call, Reply};
-pub use zarrs_keys::{ChunkKeyEncoding, ChunkKeySeparator, NodePath, NodePathError};
+pub use zarrs_keys::{
+    ChunkKeyEncoding, ChunkKeyEncodingTraits, ChunkKeySeparator, NodePath, NodePathError,
+};
 pub use zarrs_metadata::{MetadataV3, PluginCreateError};
 pub use zarrs_options::{
     AdditionalFieldUnsupportedError, ArrayBuilderChunkGridMetadata, ArrayCreateError,
     ArrayMetadataOptions, MetadataConvertVersion, MetadataEraseVersion, MetadataRetrieveVersion,
-    StorageTransformerChain,
+    StorageTransformerChain, chunk_shape_to_array_shape,
 };
 pub use zarrs_storage::{
-    Bytes, Fault, Fence, Lent, MemoryStore, ReadOnly, ReadableStorageTraits, StorageError,
-    StoreKey, WritableStorageTraits,
+    Bytes, Fault, Fence, Lent, MemoryStore, ReadOnly, ReadableStorageTraits, Stop, StorageError,
+    StoreKey, WholeRefused, WritableStorageTraits,
 };
-pub use zarrs_subset::{ArrayIndices, ArrayShape, ArraySubset, ArraySubsetTraits};
+pub use zarrs_subset::{
+    ArrayIndices, ArrayIndicesTinyVec, ArrayShape, ArraySubset, ArraySubsetError, ArraySubsetTraits,
+    IncompatibleDimensionalityError,
+};
 pub use zarrs_target::ArrayBytesDecodeIntoTarget;

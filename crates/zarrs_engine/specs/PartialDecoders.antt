@@ -1,5 +1,6 @@
 -- Reads of the parts of one chunk.
-use Rattle.std.specs.Prelude.{◌≡◌, ◌⊎◌, ℕ, List, None}
+use Rattle.std.specs.Prelude.{◌≡◌, ◌⊎◌, ℕ, List, Option, None}
+use Rattle.std.specs.Option.{option_or}
 use Rattle.zarrs_subset.specs.Regions.{Box}
 use Rattle.zarrs_chunk_grid.specs.Grids.{box_at}
 use Rattle.zarrs_chunk_grid.specs.declared.traits.ChunkGridTraits.{Ghosts as GridMeaning}
@@ -11,7 +12,7 @@ use Rattle.zarrs_steps.specs.ChunkBoxes.{part_box}
 use Rattle.zarrs_steps.specs.Layout.{Layout}
 use Rattle.zarrs_steps.specs.Refusals.{Refusal, RefusesBy}
 use Rattle.zarrs_target.specs.declared.target.ArrayBytesDecodeIntoTarget.{ArrayBytesDecodeIntoTarget}
-use Rattle.zarrs_engine.specs.Into.{RefusesRetrieveInto}
+use Rattle.zarrs_engine.specs.Into.{RefusesRetrieveInto, target_refusal}
 use Rattle.zarrs_engine.specs.declared.engine.Engine.{Engine}
 use Rattle.zarrs_engine.specs.declared.partial_decoder.ArrayPartialDecoder.{ArrayPartialDecoder}
 
@@ -27,6 +28,12 @@ module _ {G K C : Type 0} {g : GridMeaning G} {k : KeyMeaning K} {c : ChainMeani
 -- the region of the array that this part of the chunk is
 abbrev pub region_of_part : Layout → List ℕ → Box → Box
 region_of_part layout index part = part_box (box_at layout.grid index) part
+
+-- what the arguments of a read of a part into a target decide: a part that does not lie in the chunk, or a target that
+-- takes no cells of its region
+abbrev pub part_into_refusal : Layout → List ℕ → List ℕ → Box → ArrayBytesDecodeIntoTarget → Option Refusal
+part_into_refusal layout shape index part t =
+    option_or (part_refusal layout index part) (target_refusal layout shape (region_of_part layout index part) t)
 
 -- a refused read of a part into a target: the part does not lie in the chunk, or its region is not read into the target
 abbrev pub RefusesPartInto : Layout → List ℕ → List ℕ → Box → ArrayBytesDecodeIntoTarget → Refusal → StoreState → Type 0

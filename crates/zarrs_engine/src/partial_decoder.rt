@@ -66,7 +66,7 @@ impl<
     K: ChunkKeyEncodingTraits,
     C: ChainTraits,
 > ArrayPartialDecoder<'_, S, G, K, C> {
-    ghost use Rattle.std.specs.Prelude.{◌≡◌, ◌↔◌, true, None, IfOk, IfErr, IsTrue, OnErr, OnOk};
+    ghost use Rattle.std.specs.Prelude.{◌≡◌, ◌↔◌, true, None, IfOk, IfErr, IsSome, IsTrue, OnErr, OnOk};
     ghost use Rattle.zarrs_subset.specs.Regions.{box_of};
     ghost use Rattle.zarrs_data_type.specs.ArrayData.{data_of};
     ghost use Rattle.zarrs_steps.specs.ArgumentRefusals.{part_refusal, region_refusal};
@@ -78,7 +78,8 @@ impl<
     ghost use Rattle.zarrs_engine.specs.Engine.{layout_of, state_of, store_of};
     ghost use Rattle.zarrs_engine.specs.Into.{HasContent, RetrievesInto};
     ghost use Rattle.zarrs_engine.specs.PartialDecoders.{engine_of, indices_of};
-    ghost use Rattle.zarrs_engine.specs.PartialDecoders.{RefusesPartInto, region_of_part};
+    ghost use Rattle.zarrs_engine.specs.PartialDecoders.{RefusesPartInto, part_into_refusal};
+    ghost use Rattle.zarrs_engine.specs.PartialDecoders.{region_of_part};
 
     /// The cells of a part of the chunk, in row-major order, as `Engine::retrieve_chunk_subset` returns them. The part
     /// is seen from the origin of the chunk. Where the chunk is absent they are fill.
@@ -112,7 +113,8 @@ impl<
     /// E2 for a part of another number of dimensions, or that passes the chunk. Then as for
     /// `Engine::retrieve_array_subset_into` over the region that the part is in the array: E4 for a target of another
     /// cell size or depth than the data type's, of which a variable type has none; E6 for a box of another shape than
-    /// the part's; E7, E8 and E4 as the read of a region has them. E9 may come at any time. Then every byte stays.
+    /// the part's; E7, E8 and E4 as the read of a region has them. E9 may come at any time. What the arguments decide is
+    /// refused before a byte is written; after another refusal the inside of the box is open.
     pub fn partial_decode_into(
         &self,
         alloc: Global,
@@ -148,8 +150,14 @@ impl<
             (box_of chunk_subset.now) target.old (refusal_of e)
             (store_of S.state (engine_of self.now))) }
         ensures outside { StaysOutside target.old target.new }
-        ensures kept_bytes { OnErr result (target.new.bytes.now ≡ target.old.bytes.now) }
-        ensures kept_masks { OnErr result (target.new.masks.now ≡ target.old.masks.now) }
+        ensures kept_bytes { OnErr result (IsSome (part_into_refusal
+            (layout_of (engine_of self.now)) (state_of S.state (engine_of self.now)).shape
+            (indices_of self.now) (box_of chunk_subset.now) target.old)
+            → target.new.bytes.now ≡ target.old.bytes.now) }
+        ensures kept_masks { OnErr result (IsSome (part_into_refusal
+            (layout_of (engine_of self.now)) (state_of S.state (engine_of self.now)).shape
+            (indices_of self.now) (box_of chunk_subset.now) target.old)
+            → target.new.masks.now ≡ target.old.masks.now) }
     {
         let region = self.region_of(alloc, chunk_subset)?;
         self.engine

@@ -9,13 +9,21 @@ use zarrs_script_metadata::CellType;
 /// The first word of a line.
 #[derive(Clone, Copy, Debug, PartialEq, Eq)]
 pub enum Verb {
+    /// `array`
     Array,
+    /// `chunk`
     Chunk,
+    /// `read`
     Read,
+    /// `erase`
     Erase,
+    /// `put`
     Put,
+    /// `get`
     Get,
+    /// `keys`
     Keys,
+    /// `meta`
     Meta,
 }
 

@@ -8,14 +8,23 @@ use zarrs_types::DataType;
 /// The type of an array's cells.
 #[derive(Clone, Copy, Debug, PartialEq, Eq)]
 pub enum CellType {
+    /// `bool`
     Bool,
+    /// `int8`
     Int8,
+    /// `int16`
     Int16,
+    /// `int32`
     Int32,
+    /// `int64`
     Int64,
+    /// `uint8`
     UInt8,
+    /// `uint16`
     UInt16,
+    /// `uint32`
     UInt32,
+    /// `uint64`
     UInt64,
 }
 
@@ -48,6 +57,7 @@ impl CellType {
         }
     }
 
+    /// The data type of the cells.
     pub fn data_type(self) -> DataType
         ensures { kind result ≡ kind_of_cells self }
     {

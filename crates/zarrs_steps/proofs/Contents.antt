@@ -8,7 +8,7 @@ use Rattle.std.specs.Prelude.{IsSome, option_map, unwrap_or, ◌-◌, ◌==◌, 
 use Rattle.std.specs.List.{list_all}
 use Rattle.std.proofs.lemmas.List.{length-replicate}
 use Rattle.zarrs_subset.specs.Boxes.{position_count}
-use Rattle.zarrs_subset.specs.Regions.{Holds, place_in}
+use Rattle.zarrs_subset.specs.Regions.{Box, Holds, place_in}
 use Rattle.zarrs_subset.proofs.Bytes.{place_in_below}
 use Rattle.zarrs_chunk_grid.specs.Grids.{Grid, IsGrid, box_at, index_at, is_covered, has_box}
 use Rattle.zarrs_chunk_grid.proofs.Chunks.{box_is_there, has_box_is, box_long, box_words, box_index, box_covered}
@@ -23,7 +23,8 @@ use Rattle.zarrs_data_type.specs.Cell.{Cell, bytes, none, some, cell_eq, fill_ce
 use Rattle.zarrs_types.proofs.Values.{fill-value}
 use Rattle.zarrs_data_type.proofs.Same.{cell_eq-true, eq-cell_eq}
 use Rattle.zarrs_steps.specs.Layout.{Layout, IsLawful, layout_at, metadata_keys_at}
-use Rattle.zarrs_steps.specs.Content.{cell_at_place, chunk_cell, indexed_cell, decoded_cells, content, Reads}
+use Rattle.zarrs_steps.specs.Content.{cell_at_place, chunk_cell, indexed_cell, decoded_cells, content, value_at, Reads}
+use Rattle.zarrs_steps.specs.Laws.{SameChunksHaveSameCells, over_grid}
 
 -- each metadata key is that of a metadata name
 named_key : (path key : List ℕ) → Contains (metadata_keys_at path) key → (name : List ℕ) × IsMetadataName name × (key ≡ path_key path name)
@@ -156,3 +157,13 @@ same_or_not a b =
       | inl is ↦ inl ((bytes_eq-Decides a b).0 is)
       | inr apart ↦ inr (λ is. let same : bytes_eq a b ≡ true = (bytes_eq-Decides a b).1 is in let clash : true ≡ false = sym same ∙ apart in cc)
     ]
+
+-- the cell at a position is the same by two grids that have the same chunk there
+pub same_chunk : SameChunksHaveSameCells
+same_chunk layout grid state position same =
+    let i = index_at layout.grid position in
+    let stored = value_at state in
+    content_covered (over_grid grid layout) stored position same.still_covered
+    ∙ ap (λ j. indexed_cell (over_grid grid layout) stored j position) same.same_indices
+    ∙ ap (λ (b : Box). chunk_cell layout (stored (layout.key i)) b position) same.same_box
+    ∙ sym (content_covered layout stored position same.covered)

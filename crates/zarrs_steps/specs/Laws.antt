@@ -2,7 +2,7 @@
 use Rattle.std.specs.Prelude.{◌≡◌, ◌↔◌, ℕ, ◌+◌, Bool, true, false, List, [], ◌∷◌, length, Option, Some, None, option_and_then}
 use Rattle.zarrs_subset.specs.Boxes.{position_count}
 use Rattle.zarrs_subset.specs.Regions.{Box, Holds, in_box, cell_in}
-use Rattle.zarrs_chunk_grid.specs.Grids.{box_at, has_box}
+use Rattle.zarrs_chunk_grid.specs.Grids.{Grid, box_at, has_box, index_at, is_covered}
 use Rattle.zarrs_keys.specs.Keys.{IsIndexList}
 use Rattle.zarrs_storage.specs.Store.{StoreState, KeepsReach}
 use Rattle.zarrs_data_type.specs.Cell.{Cell}
@@ -176,3 +176,21 @@ PartsMakeTheRegion =
     → (part : Box) × (piece : Call) × (cut : ArrayData) × (after : ArrayState) × (found : List Cell)
     × ReadsAt layout keep piece part cut old after × (cells layout.kind cut ≡ Some found) × Holds part position × (cell_in region made position ≡ cell_in part found position))
     → cells layout.kind got ≡ Some made
+
+-- both grids cover the position, by a chunk of the same indices and the same box
+pub record HaveSameChunk (a b : Grid) (position : List ℕ) : Type 0 where
+  pub covered : is_covered a position ≡ true
+  pub still_covered : is_covered b position ≡ true
+  pub same_indices : index_at b position ≡ index_at a position
+  pub same_box : box_at b (index_at a position) ≡ box_at a (index_at a position)
+
+-- the layout of an array that is cut by another grid
+abbrev pub over_grid : Grid → Layout → Layout
+over_grid grid layout = record layout { grid = grid }
+
+-- an array that is cut by another grid has the same cell wherever its chunk is the same
+abbrev pub SameChunksHaveSameCells : Type 0
+SameChunksHaveSameCells =
+    (layout : Layout) (grid : Grid) (state : StoreState) (position : List ℕ)
+    → HaveSameChunk layout.grid grid position
+    → content (over_grid grid layout) (value_at state) position ≡ content layout (value_at state) position

@@ -13,6 +13,7 @@ ghost use Rattle.zarrs_steps.specs.Laws.{
   DisjointWritesAgree,
   ReadsOfDecodingChunks,
   PartsMakeTheRegion,
+  SameChunksHaveSameCells,
 };
 
 /// Canonical stores of one layout have equal content exactly if the same bytes are present at each chunk key, or none
@@ -82,4 +83,10 @@ pub fn reads_of_decoding_chunks()
 /// The cells of a region are those of its parts put together, whatever chunks it crosses.
 pub fn parts_make_the_region()
     ensures { PartsMakeTheRegion }
+{}
+
+/// An array that is cut by another grid, as after a change of its shape, has the same cell at each position whose chunk
+/// has the same indices and the same box in both grids.
+pub fn same_chunks_have_same_cells()
+    ensures { SameChunksHaveSameCells }
 {}

@@ -8,12 +8,13 @@ use zarrs_subset::ArraySubsetTraits;
 use zarrs_target::ArrayBytesDecodeIntoTarget;
 
 impl<TStorage: ReadableStorageTraits> Array<TStorage> {
-    ghost use Rattle.std.specs.Prelude.{◌≡◌, IfErr, OnErr, OnOk};
+    ghost use Rattle.std.specs.Prelude.{◌≡◌, IfErr, IsSome, OnErr, OnOk};
     ghost use Rattle.zarrs_steps.specs.ChunkBoxes.{chunks_met};
     ghost use Rattle.zarrs_steps.specs.Reach.{MayAskChunks};
     ghost use Rattle.zarrs_steps.specs.Refusals.{refusal_of};
     ghost use Rattle.zarrs_target.specs.States.{IsTarget, SameBox, StaysOutside};
     ghost use Rattle.zarrs_engine.specs.Into.{HasContent, RefusesRetrieveInto, RetrievesInto};
+    ghost use Rattle.zarrs_engine.specs.Into.{target_refusal};
     ghost use Rattle.zarrs.specs.Arrays.{layout_of_array, store_of_array, state_of_array};
 
     /// Reads the region into the target's box, where its cells are in row-major order. Every byte outside the box
@@ -22,7 +23,8 @@ impl<TStorage: ReadableStorageTraits> Array<TStorage> {
     /// # Errors
     /// In this order: E1 for another number of dimensions; E4 for a target of another cell size or depth than the data
     /// type's, of which a variable type has none; E6 for a box of another shape than the region's; E1 for a position
-    /// that no chunk covers; then as `retrieve_array_subset`. E9 may come at any time. Every byte of the target stays.
+    /// that no chunk covers; then as `retrieve_array_subset`. E9 may come at any time. What the arguments decide is
+    /// refused before a byte is written; after another refusal the inside of the box is open.
     pub fn retrieve_array_subset_into<R: ArraySubsetTraits>(
         &self,
         alloc: Global,
@@ -47,8 +49,12 @@ impl<TStorage: ReadableStorageTraits> Array<TStorage> {
             (state_of_array TStorage.state self.now).shape (R.region array_subset.now) target.old
             (refusal_of e) (store_of_array TStorage.state self.now)) }
         ensures outside { StaysOutside target.old target.new }
-        ensures kept_bytes { OnErr result (target.new.bytes.now ≡ target.old.bytes.now) }
-        ensures kept_masks { OnErr result (target.new.masks.now ≡ target.old.masks.now) }
+        ensures kept_bytes { OnErr result (IsSome (target_refusal (layout_of_array self.now)
+            (state_of_array TStorage.state self.now).shape (R.region array_subset.now) target.old)
+            → target.new.bytes.now ≡ target.old.bytes.now) }
+        ensures kept_masks { OnErr result (IsSome (target_refusal (layout_of_array self.now)
+            (state_of_array TStorage.state self.now).shape (R.region array_subset.now) target.old)
+            → target.new.masks.now ≡ target.old.masks.now) }
     {
         self.retrieve_array_subset_into_opt(alloc, array_subset, target, &CodecOptions::default())
     }
@@ -82,8 +88,12 @@ impl<TStorage: ReadableStorageTraits> Array<TStorage> {
             (state_of_array TStorage.state self.now).shape (R.region array_subset.now) target.old
             (refusal_of e) (store_of_array TStorage.state self.now)) }
         ensures outside { StaysOutside target.old target.new }
-        ensures kept_bytes { OnErr result (target.new.bytes.now ≡ target.old.bytes.now) }
-        ensures kept_masks { OnErr result (target.new.masks.now ≡ target.old.masks.now) }
+        ensures kept_bytes { OnErr result (IsSome (target_refusal (layout_of_array self.now)
+            (state_of_array TStorage.state self.now).shape (R.region array_subset.now) target.old)
+            → target.new.bytes.now ≡ target.old.bytes.now) }
+        ensures kept_masks { OnErr result (IsSome (target_refusal (layout_of_array self.now)
+            (state_of_array TStorage.state self.now).shape (R.region array_subset.now) target.old)
+            → target.new.masks.now ≡ target.old.masks.now) }
     {
         let array_subset = array_subset.to_array_subset(alloc)?;
         self.engine

@@ -22,7 +22,7 @@ impl<TStorage> Array<TStorage> {
     ghost use Rattle.std.specs.Prelude.{IsOkUnless};
     ghost use Rattle.zarrs_subset.specs.Regions.{box_of, bound_to, box_at_origin};
     ghost use Rattle.zarrs_chunk_grid.specs.Axes.{sizes_of};
-    ghost use Rattle.zarrs_chunk_grid.specs.Grids.{HasUncovered, IsMet, box_at, chunks_box};
+    ghost use Rattle.zarrs_chunk_grid.specs.Grids.{HasUncovered, IsMet, box_at, chunks_box, met};
     ghost use Rattle.zarrs_steps.specs.ArgumentRefusals.{chunk_refusal};
     ghost use Rattle.zarrs_steps.specs.Refusals.{RefusesBy, refusal_of};
     ghost use Rattle.zarrs_array_metadata.specs.Meanings.{shape_said};
@@ -231,6 +231,8 @@ impl<TStorage> Array<TStorage> {
         alloc: Global,
         region: &R,
     ) -> Result<Option<ArraySubset>, ArrayError>
+        ensures value { IfOk result (λ o. IfSome o (λ chunks.
+            box_of chunks ≡ met (layout_of_array self.now).grid (R.region region.now))) }
         ensures some { IfOk result (λ o. IfSome o (λ chunks.
             IsMet (layout_of_array self.now).grid (R.region region.now) (box_of chunks))) }
         ensures none { IfOk result (λ o. IfNone o

@@ -255,8 +255,8 @@ impl<TStorage: ReadableStorageTraits> Array<TStorage> {
     /// # Errors
     /// In this order: E1 for another number of dimensions, or a position that no chunk covers; E8 for more cells, or as
     /// many fill values, than a `usize` counts bytes. Then E7 if the store refuses the key of a chunk that the region
-    /// meets; E8 for such a chunk of more bytes than a `usize` counts, and E4 if its bytes do not decode. E9 may come
-    /// at any time.
+    /// meets; E8 for such a chunk of more bytes than a `usize` counts, and E4 if its bytes do not decode; E5 for another
+    /// type of values comes last. E9 may come at any time.
     pub fn retrieve_array_subset<T: FromArrayBytes, R: ArraySubsetTraits>(
         &self,
         alloc: Global,

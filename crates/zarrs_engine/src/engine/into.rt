@@ -15,7 +15,7 @@ impl<
     K: ChunkKeyEncodingTraits,
     C: ChainTraits,
 > Engine<S, G, K, C> {
-    ghost use Rattle.std.specs.Prelude.{◌≡◌, true, IfErr, OnErr, OnOk, length};
+    ghost use Rattle.std.specs.Prelude.{◌≡◌, true, IfErr, IsSome, OnErr, OnOk, length};
     ghost use Rattle.zarrs_subset.specs.Regions.{box_of};
     ghost use Rattle.zarrs_steps.specs.ChunkBoxes.{chunks_met};
     ghost use Rattle.zarrs_steps.specs.Reach.{MayAskChunks};
@@ -31,7 +31,8 @@ impl<
     /// # Errors
     /// In this order: E1 for another number of dimensions; E4 for a target of another cell size or depth than the data
     /// type's, of which a variable type has none; E6 for a box of another shape than the region's; E1 for a position
-    /// that no chunk covers; then as `retrieve_array_subset`. E9 may come at any time. Then every byte stays.
+    /// that no chunk covers; then as `retrieve_array_subset`. E9 may come at any time. What the arguments decide is
+    /// refused before a byte is written; after another refusal the inside of the box is open.
     pub fn retrieve_array_subset_into(
         &self,
         alloc: Global,
@@ -55,8 +56,12 @@ impl<
             (state_of S.state self.now).shape (box_of array_subset.now) target.old (refusal_of e)
             (store_of S.state self.now)) }
         ensures outside { StaysOutside target.old target.new }
-        ensures kept_bytes { OnErr result (target.new.bytes.now ≡ target.old.bytes.now) }
-        ensures kept_masks { OnErr result (target.new.masks.now ≡ target.old.masks.now) }
+        ensures kept_bytes { OnErr result (IsSome (target_refusal (layout_of self.now)
+            (state_of S.state self.now).shape (box_of array_subset.now) target.old)
+            → target.new.bytes.now ≡ target.old.bytes.now) }
+        ensures kept_masks { OnErr result (IsSome (target_refusal (layout_of self.now)
+            (state_of S.state self.now).shape (box_of array_subset.now) target.old)
+            → target.new.masks.now ≡ target.old.masks.now) }
     {
         self.check_target(alloc, array_subset, target)?;
         let data = self.retrieve_array_subset(alloc, array_subset)?;

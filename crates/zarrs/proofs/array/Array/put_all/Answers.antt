@@ -3,12 +3,20 @@ use Rattle.std.specs.Vec.Iter.{into_iter_items}
 use Rattle.zarrs_steps.specs.Refusals.{refusal_of_storage}
 use Rattle.zarrs_array_metadata.specs.Writing.{put_view}
 use Rattle.zarrs.specs.Arrays.{store_of_array}
+use Rattle.zarrs.specs.Puts.{RefusesPuts}
 use Rattle.zarrs.proofs.Puts.{Putting, put_next, put_refused}
 use Rattle.zarrs.proofs.array.Array.put_all.Goals as goal
 
 pub returns-in_err-put-clause-refused : goal.returns-in_err-put-clause-refused
 returns-in_err-put-clause-refused g c =
-    let why = put_refused (map put_view c.args.puts.items) _ (refusal_of_storage c.in_err-put.field-0.0) _ _ _ c.loop-put.invariant.0 c.in_err-put.ensures.refused in
+    let state = g.TStorage.ReadableStorageTraits.state in
+    let puts = map put_view c.args.puts.items in
+    let left = map put_view (into_iter_items c.next.new.self) in
+    let old = store_of_array state c.args.self.now in
+    let middle = store_of_array state c.loop-put.self in
+    let new = state c.put.new.self.storage in
+    let refusal = refusal_of_storage c.in_err-put.field-0.0 in
+    let why : Putting puts (put_view c.in-Some.put ∷ left) old middle → RefusesPuts puts refusal old new = λ so. put_refused puts left (put_view c.in-Some.put) refusal old middle new so c.in_err-put.ensures.refused in
     search (rules, why)
 
 pub loop-put-preserved : goal.loop-put-preserved

@@ -1,12 +1,14 @@
-use Rattle.std.proofs.Common.{OnOk, subst, inr}
+use Rattle.std.proofs.Common.{◌≡◌, Option, None, OnErr, OnOk, Result, sym, subst, inr}
+use Rattle.std.specs.Prelude.{IsSome}
+use Rattle.std.specs.Option.{option_or}
 use Rattle.zarrs_subset.specs.Boxes.{position_count}
 use Rattle.zarrs_subset.specs.Regions.{Box, box_of}
 use Rattle.zarrs_target.specs.States.{parent_box, target_box}
 use Rattle.zarrs_target.proofs.Levels.{masked_keeps}
 use Rattle.zarrs_steps.specs.declared.error.ArrayError.{ArrayError}
-use Rattle.zarrs_steps.specs.Refusals.{refusal_of}
+use Rattle.zarrs_steps.specs.Refusals.{Refusal, refusal_of}
 use Rattle.zarrs_engine.specs.Engine.{layout_of}
-use Rattle.zarrs_engine.specs.Into.{HasContent, RefusesRetrieveInto}
+use Rattle.zarrs_engine.specs.Into.{HasContent, RefusesRetrieveInto, target_refusal}
 use Rattle.zarrs_engine.specs.PartialDecoders.{RefusesPartInto}
 use Rattle.zarrs_engine.proofs.PartialDecoders.{part_ask, part_region}
 use Rattle.zarrs_engine.proofs.Puts.{each_error}
@@ -60,3 +62,25 @@ returns-clause-refused g c =
     (λ (e : ArrayError). RefusesPartInto layout shape index part t (refusal_of e) state)
     (λ e why. inr (region.accepted, subst (λ (b : Box). RefusesRetrieveInto layout shape b t (refusal_of e) state) region.region why))
     c.retrieve_array_subset_into.ensures.refused
+
+-- what is refused by the region is refused by the part, which lies in its chunk
+refused_later : {A E : Type 0} (result : Result A E) (P : Type 0) (first later : Option Refusal) → first ≡ None → OnErr result (IsSome later → P) → OnErr result (IsSome (option_or first later) → P)
+refused_later result P first later none kept = subst (λ x. OnErr result (IsSome (option_or x later) → P)) (sym none) kept
+
+pub returns-clause-kept_bytes : goal.returns-clause-kept_bytes
+returns-clause-kept_bytes g c =
+    let decoder = c.args.self.now in
+    let layout = layout_of decoder.engine.now in
+    let shape = g.G.ChunkGridTraits.array_extents decoder.engine.now.parts.grid in
+    let read = c.retrieve_array_subset_into in
+    refused_later read.result _ _ _ c.in_ok-region.ensures.accepted
+    (subst (λ (b : Box). OnErr read.result (IsSome (target_refusal layout shape b c.args.target.now) → read.new.target.bytes.now ≡ c.args.target.now.bytes.now)) c.in_ok-region.ensures.region read.ensures.kept_bytes)
+
+pub returns-clause-kept_masks : goal.returns-clause-kept_masks
+returns-clause-kept_masks g c =
+    let decoder = c.args.self.now in
+    let layout = layout_of decoder.engine.now in
+    let shape = g.G.ChunkGridTraits.array_extents decoder.engine.now.parts.grid in
+    let read = c.retrieve_array_subset_into in
+    refused_later read.result _ _ _ c.in_ok-region.ensures.accepted
+    (subst (λ (b : Box). OnErr read.result (IsSome (target_refusal layout shape b c.args.target.now) → read.new.target.masks.now ≡ c.args.target.now.masks.now)) c.in_ok-region.ensures.region read.ensures.kept_masks)

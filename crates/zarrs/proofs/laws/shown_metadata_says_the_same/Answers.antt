@@ -1,0 +1,5 @@
+use Rattle.zarrs_array_metadata.proofs.Names.{shown_says_the_same}
+use Rattle.zarrs.proofs.laws.shown_metadata_says_the_same.Goals as goal
+
+pub returns : goal.returns
+returns c = shown_says_the_same
