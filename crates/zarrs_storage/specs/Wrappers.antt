@@ -1,5 +1,5 @@
 -- Stores over a store.
-use Rattle.std.specs.Prelude.{ℕ, ◌+◌, ◌==◌, ◌&&◌, ◌||◌, Bool, false, not, nat_lt, List, ◌∷◌, Option, Some, None, Result, MatchResult}
+use Rattle.std.specs.Prelude.{◌≡◌, ℕ, ◌+◌, ◌==◌, ◌&&◌, ◌||◌, Bool, false, not, nat_lt, List, ◌∷◌, Option, Some, None, Result, MatchResult}
 use Rattle.std.specs.Borrow.{MutBor}
 use Rattle.zarrs_storage.specs.Store.{StoreState, Values, Accepts, Refuses, is_listed, last_call}
 use Rattle.zarrs_storage.specs.declared.faults.Fault.{Fault}
@@ -59,6 +59,11 @@ fault_keys fault = fault.refused_keys.items
 
 abbrev pub fault_write : {S : Type 0} → Fault S → Option ℕ
 fault_write fault = fault.refused_write
+
+-- what no call changes: the keys that refuse, and the number of the writing call that is refused
+pub record KeepsFault {S : Type 0} (old new : Fault S) : Type 0 where
+  pub keys : fault_keys new ≡ fault_keys old
+  pub write : fault_write new ≡ fault_write old
 
 -- whether the next writing call is the one to be refused
 abbrev pub fault_is_next : {S : Type 0} → Fault S → Bool

@@ -1,8 +1,10 @@
 //! `WholeRefused`: a store that refuses to read whole values.
-ghost use Rattle.std.specs.Prelude.{◌≡◌, true, codes, IfOk, IfErr, IsErr, IsErrAnd};
+ghost use Rattle.std.specs.Prelude.{◌≡◌, ◌+◌, ◌<◌, true, length, codes, IfOk, IfErr, OnOk, OnErr};
+ghost use Rattle.std.specs.Prelude.{IsErr, IsErrOf, IsErrAnd};
 ghost use Rattle.std.specs.FinMap as map;
-ghost use Rattle.zarrs_storage.specs.Store.{MayReadWhole, MayReadRange, PassesValue, is_listed};
-ghost use Rattle.zarrs_storage.specs.Store.{value_range, size_at};
+ghost use Rattle.zarrs_storage.specs.Store.{Accepts, Refuses, MayReadWhole, MayReadRange};
+ghost use Rattle.zarrs_storage.specs.Store.{PassesValue, is_listed, last_call, value_range};
+ghost use Rattle.zarrs_storage.specs.Store.{size_at, with_part};
 ghost use Rattle.zarrs_storage.specs.Refusals.{RefusesRead, RefusesRange, SaysOther};
 ghost use Rattle.zarrs_storage.specs.Wrappers.{with_refused, whole_state, below_whole, whole_keys};
 
@@ -86,11 +88,29 @@ impl<S: ReadableStorageTraits> ReadableStorageTraits for WholeRefused<S> {
 }
 
 impl<S: WritableStorageTraits> WritableStorageTraits for WholeRefused<S> {
-    fn set(&mut self, alloc: Global, key: &StoreKey, value: Bytes) -> Result<(), StorageError> {
+    fn set(&mut self, alloc: Global, key: &StoreKey, value: Bytes) -> Result<(), StorageError>
+        ensures ok { let state = S.ReadableStorageTraits.state in
+            OnOk result (Accepts (whole_state state self.old) (whole_state state self.new)
+            (map.insert (whole_state state self.old).values key.now value)) }
+        ensures refused { let state = S.ReadableStorageTraits.state in
+            OnErr result (Refuses (whole_state state self.old) (whole_state state self.new)) }
+        ensures exhausted { (whole_state S.ReadableStorageTraits.state self.old).calls ≡ last_call
+            → IsErrOf result StorageError.Exhausted }
+        ensures rule { whole_keys self.new ≡ whole_keys self.old }
+    {
         self.store.set(alloc, key, value)
     }
 
-    fn erase(&mut self, alloc: Global, key: &StoreKey) -> Result<(), StorageError> {
+    fn erase(&mut self, alloc: Global, key: &StoreKey) -> Result<(), StorageError>
+        ensures ok { let state = S.ReadableStorageTraits.state in
+            OnOk result (Accepts (whole_state state self.old) (whole_state state self.new)
+            (map.remove (whole_state state self.old).values key.now)) }
+        ensures refused { let state = S.ReadableStorageTraits.state in
+            OnErr result (Refuses (whole_state state self.old) (whole_state state self.new)) }
+        ensures exhausted { (whole_state S.ReadableStorageTraits.state self.old).calls ≡ last_call
+            → IsErrOf result StorageError.Exhausted }
+        ensures rule { whole_keys self.new ≡ whole_keys self.old }
+    {
         self.store.erase(alloc, key)
     }
 
@@ -100,7 +120,17 @@ impl<S: WritableStorageTraits> WritableStorageTraits for WholeRefused<S> {
         key: &StoreKey,
         offset: u64,
         bytes: &[u8],
-    ) -> Result<(), StorageError> {
+    ) -> Result<(), StorageError>
+        ensures ok { let state = S.ReadableStorageTraits.state in
+            OnOk result (Accepts (whole_state state self.old) (whole_state state self.new)
+            (with_part (whole_state state self.old).values key.now offset bytes.now)) }
+        ensures refused { let state = S.ReadableStorageTraits.state in
+            OnErr result (Refuses (whole_state state self.old) (whole_state state self.new)) }
+        ensures exhausted { (whole_state S.ReadableStorageTraits.state self.old).calls ≡ last_call
+            → IsErrOf result StorageError.Exhausted }
+        ensures passing { usize.MAX < offset + length bytes.now → IsErr result }
+        ensures rule { whole_keys self.new ≡ whole_keys self.old }
+    {
         self.store.set_partial(alloc, key, offset, bytes)
     }
 
