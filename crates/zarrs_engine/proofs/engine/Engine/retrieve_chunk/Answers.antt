@@ -1,8 +1,8 @@
-use Rattle.std.proofs.Common.{◌≡◌, ap, sym, ◌∙◌, true, None, Some, replicate}
+use Rattle.std.proofs.Common.{◌≡◌, ap, sym, subst, ◌∙◌, true, None, Some, replicate, rules}
 use Rattle.zarrs_subset.specs.Boxes.{position_count}
 use Rattle.zarrs_chunk_grid.specs.Grids.{box_at}
 use Rattle.zarrs_cells.specs.declared.array_bytes.ArrayBytes.{ArrayBytes}
-use Rattle.zarrs_data_type.specs.ArrayData.{data_of}
+use Rattle.zarrs_data_type.specs.ArrayData.{ArrayData, data_of}
 use Rattle.zarrs_data_type.specs.Cells.{cells}
 use Rattle.zarrs_engine.specs.Engine.{layout_of}
 use Rattle.zarrs_steps.specs.Content.{decoded_cells}
@@ -15,16 +15,17 @@ use Rattle.zarrs_layout.proofs.Chunks.{read_refused_then}
 use Rattle.zarrs_engine.proofs.Puts.{each_error}
 use Rattle.zarrs_engine.proofs.engine.Engine.retrieve_chunk.Goals as goal
 
-pub returns-in-Some-clause-cells : goal.returns-in-Some-clause-cells
-returns-in-Some-clause-cells g c =
+pub returns-in_ok-into_owned-in-Some-clause-cells : goal.returns-in_ok-into_owned-in-Some-clause-cells
+returns-in_ok-into_owned-in-Some-clause-cells g c =
     let layout = layout_of c.args.self.now in
     let lawful = c.args.self.now.parts.lawful in
     let state = g.S.ReadableStorageTraits.state c.args.self.now.storage in
     let index = c.args.chunk_indices.now in
     let encoded = c.deref.result.now in
     let at = ap Some c.deref.ensures ∙ sym c.in-Some.is ∙ c.in_ok-encoded.ensures.value in
-    both_ok c.decode.result (λ (made : ArrayBytes). cells layout.kind (data_of made) ≡ decoded_cells layout (box_at layout.grid index) encoded) (λ (made : ArrayBytes). RetrievesChunk layout index (data_of made) state) _
-    (λ made none is. retrieved layout lawful index (data_of made) state encoded at none is) c.decode.ensures.accepted c.decode.ensures.cells
+    let lent = c.in_ok-data-in-Some in
+    let read = retrieved layout lawful index (data_of lent.data) state encoded at lent.ensures.accepted lent.ensures.cells in
+    subst (λ (d : ArrayData). RetrievesChunk layout index d state) (sym c.in_ok-into_owned-in-Some.ensures) read
 
 pub returns-in-None-clause-cells : goal.returns-in-None-clause-cells
 returns-in-None-clause-cells g c =
@@ -36,15 +37,15 @@ returns-in-None-clause-cells g c =
     both_ok c.fill.result (λ (made : ArrayBytes). cells layout.kind (data_of made) ≡ Some (replicate (position_count (box_at layout.grid index).shape) layout.fill)) (λ (made : ArrayBytes). RetrievesChunk layout index (data_of made) state) _
     (λ made none is. retrieved_fill layout lawful index (data_of made) state at none is) c.fill.ensures.accepted c.fill.ensures.cells
 
-pub returns-in-Some-clause-refused : goal.returns-in-Some-clause-refused
-returns-in-Some-clause-refused g c =
+pub returns-in_err-data-in-Some-clause-refused : goal.returns-in_err-data-in-Some-clause-refused
+returns-in_err-data-in-Some-clause-refused g c =
     let layout = layout_of c.args.self.now in
     let state = g.S.ReadableStorageTraits.state c.args.self.now.storage in
     let index = c.args.chunk_indices.now in
     let encoded = c.deref.result.now in
     let at = ap Some c.deref.ensures ∙ sym c.in-Some.is ∙ c.in_ok-encoded.ensures.value in
-    each_error c.decode.result (λ (e : ArrayError). RefusesBy (read_refusal layout true index (Some encoded)) (refusal_of e)) (λ (e : ArrayError). RefusesChunkRead layout (length_refusal layout index) true index state (refusal_of e))
-    (λ e h. read_refused_then layout true index (Some encoded) state (refusal_of e) c.in_ok-encoded.ensures.long c.in_ok-encoded.ensures.asked at h) c.decode.ensures.refused
+    let why = read_refused_then layout true index (Some encoded) state (refusal_of c.in_err-data-in-Some.field-0.0) c.in_ok-encoded.ensures.long c.in_ok-encoded.ensures.asked at c.in_err-data-in-Some.ensures.refused in
+    search (rules, why)
 
 pub returns-in-None-clause-refused : goal.returns-in-None-clause-refused
 returns-in-None-clause-refused g c =

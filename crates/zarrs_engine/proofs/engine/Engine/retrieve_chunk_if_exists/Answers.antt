@@ -1,5 +1,6 @@
-use Rattle.std.proofs.Common.{ap, sym, ◌∙◌, Some}
-use Rattle.zarrs_data_type.specs.ArrayData.{data_of}
+use Rattle.std.proofs.Common.{ap, sym, subst, ◌∙◌, Some}
+use Rattle.zarrs_data_type.specs.ArrayData.{ArrayData, data_of}
+use Rattle.zarrs_steps.specs.Changes.{RetrievesChunk}
 use Rattle.zarrs_engine.specs.Engine.{layout_of}
 use Rattle.zarrs_layout.proofs.Chunks.{retrieved}
 use Rattle.std.proofs.Common.{rules, false}
@@ -7,15 +8,17 @@ use Rattle.zarrs_steps.specs.Refusals.{refusal_of}
 use Rattle.zarrs_layout.proofs.Chunks.{read_refused_then}
 use Rattle.zarrs_engine.proofs.engine.Engine.retrieve_chunk_if_exists.Goals as goal
 
-pub returns-in_ok-data-in-Some-clause-cells : goal.returns-in_ok-data-in-Some-clause-cells
-returns-in_ok-data-in-Some-clause-cells g c =
+pub returns-in_ok-into_owned-in-Some-clause-cells : goal.returns-in_ok-into_owned-in-Some-clause-cells
+returns-in_ok-into_owned-in-Some-clause-cells g c =
     let layout = layout_of c.args.self.now in
     let lawful = c.args.self.now.parts.lawful in
     let state = g.S.ReadableStorageTraits.state c.args.self.now.storage in
+    let index = c.args.chunk_indices.now in
     let encoded = c.deref.result.now in
     let at = ap Some c.deref.ensures ∙ sym c.in-Some.is ∙ c.in_ok-encoded.ensures.value in
-    let made = c.in_ok-data-in-Some in
-    (retrieved layout lawful c.args.chunk_indices.now (data_of made.data) state encoded at made.ensures.accepted made.ensures.cells, (encoded, sym at))
+    let lent = c.in_ok-data-in-Some in
+    let read = retrieved layout lawful index (data_of lent.data) state encoded at lent.ensures.accepted lent.ensures.cells in
+    (subst (λ (d : ArrayData). RetrievesChunk layout index d state) (sym c.in_ok-into_owned-in-Some.ensures) read, (encoded, sym at))
 
 pub returns-in_err-data-in-Some-clause-refused : goal.returns-in_err-data-in-Some-clause-refused
 returns-in_err-data-in-Some-clause-refused g c =
