@@ -34,7 +34,7 @@ attributes_again : (state : StoreState) (path : List ℕ) (m : DocumentV2Data) (
     → value_asked state (attributes_key path) ≡ Ok value → attributed state path (without_attributes m) ≡ Ok (record m { attributes = ms })
 attributes_again state path m no_members value none shallow plain asked = attributes_absent state path (without_attributes m) (asked ∙ ap Ok none)
 attributes_again state path m (member key d ms) None says shallow plain asked = absurd (let wrong : false ≡ true = says.0 in cc)
-attributes_again state path m (member key d ms) (Some text) says shallow plain asked = attributes_read state path (without_attributes m) text (member key d ms) asked (says.1 shallow plain)
+attributes_again state path m (member key d ms) (Some text) says shallow plain asked = attributes_read state path (without_attributes m) text (member key d ms) asked (says.1.reads_back shallow plain)
 
 -- a key that is not refused
 asked_is : (state : StoreState) (key : List ℕ) (value : Option (List ℕ)) → state.refuses key ≡ false → value_at state key ≡ value → value_asked state key ≡ Ok value
@@ -50,7 +50,7 @@ pub written_opens : WrittenMetadataOpens
 written_opens path (v3 m) parts puts old new valid made again written put asked =
     let first = subst (λ (ps : List Put). ArePut ps old new) written.is put in
     let held : value_at new (v3_key path) ≡ Some written.text = ap (λ (s : StoreState). value_at s (v3_key path)) first.others ∙ first.first.held in
-    let said = all_understood written.text (normal_document m) (written.says again.shallow again.plain) again.understood in
+    let said = all_understood written.text (normal_document m) (written.says.reads_back again.shallow again.plain) again.understood in
     let found = v3_read new path written.text (normal_document m) (asked_is new (v3_key path) _ asked held) said in
     is_opened retrieve.V3 new path (v3 (normal_document m)) parts valid (metadata_read retrieve.V3 new path _ found) (normal_metadata_says (v3 m) ∙ made)
 written_opens path (v2 m) parts puts old new valid made again written put asked =
@@ -58,7 +58,7 @@ written_opens path (v2 m) parts puts old new valid made again written put asked 
     let second = first.others in
     let held : value_at new (v2_array_key path) ≡ Some written.text = ap (λ (s : StoreState). value_at s (v2_array_key path)) second.others ∙ second.first.held in
     let beside : value_at new (attributes_key path) ≡ written.attributes = ap (λ (s : StoreState). value_at s (attributes_key path)) second.others ∙ second.first.others (attributes_key path) (keys_differ path) ∙ first.first.held in
-    let said : document_v2_read written.text ≡ Ok (without_attributes m) = rw (written.says again.shallow again.plain) refl in
+    let said : document_v2_read written.text ≡ Ok (without_attributes m) = rw (written.says.reads_back again.shallow again.plain) refl in
     let all = attributes_again new path m m.attributes written.attributes written.attributes_say again.shallow_attributes again.plain_attributes (asked_is new (attributes_key path) _ asked.1 beside) in
     let found = v2_read new path written.text (without_attributes m) m (asked_is new (v2_array_key path) _ asked.0 held) said all in
     is_opened retrieve.V2 new path (v2 m) parts valid (metadata_read retrieve.V2 new path _ found) made
@@ -83,7 +83,7 @@ opens_the_same path (v2 m) n parts puts old new made again written put is =
     let first = subst (λ (ps : List Put). ArePut ps old new) written.is put in
     let second = first.others in
     let held : value_at new (v2_array_key path) ≡ Some written.text = ap (λ (s : StoreState). value_at s (v2_array_key path)) second.others ∙ second.first.held in
-    let said : document_v2_read written.text ≡ Ok (without_attributes m) = rw (written.says again.shallow again.plain) refl in
+    let said : document_v2_read written.text ≡ Ok (without_attributes m) = rw (written.says.reads_back again.shallow again.plain) refl in
     let asked = not_true (new.refuses (v2_array_key path)) (λ refuses. opens_unless retrieve.V2 new path n is (metadata_refused retrieve.V2 new path storage (v2_refused new path storage (key_refused new (v2_array_key path) refuses)))) in
     let beside = not_true (new.refuses (attributes_key path)) (λ refuses. opens_unless retrieve.V2 new path n is (metadata_refused retrieve.V2 new path storage
     (v2_unattributed new path storage written.text (without_attributes m) (asked_is new (v2_array_key path) _ asked held) said

@@ -1,10 +1,12 @@
 -- The V3 document of an array (Zarr V3 core specification, array metadata), and the JSON values that read as one.
 use Rattle.std.specs.Prelude.{◌≡◌, ◌≤◌, ℕ, List, [], ◌∷◌, ◌&&◌, map, Bool, true, false, codes, if◌then◌else◌, Option}
 use Rattle.std.specs.Prelude.{Some, None, option_map, option_and_then}
-use Rattle.std.specs.Str.{is_utf8}
+use Rattle.std.specs.Str.{is_utf8, IsUtf8}
+use Rattle.json.specs.Lex.{tokens}
+use Rattle.json.specs.Layout.{pretty}
 use Rattle.serde_json.specs.Data.{Data, depth, null, boolean, number, string, array, object, Members, no_members, member}
 use Rattle.serde_json.specs.Find.{get_member, as_object}
-use Rattle.serde_json.specs.Written.{has_float}
+use Rattle.serde_json.specs.Written.{has_float, IsInOrder}
 use Rattle.serde_json.specs.Read.{read, max_depth}
 use Rattle.zarrs_metadata.specs.Members.{besides}
 use Rattle.zarrs_metadata.specs.Lists.{all_of, list_data, numbers_of, numbers_data, number_data}
@@ -201,7 +203,12 @@ normal_document m = record (without_empty_configurations m) {
   additional_fields = normal_fields document_names m.additional_fields;
 }
 
--- bytes that read as the document, unless its tree nests too deep or has a left-out number
-abbrev pub IsDocumentText : DocumentData → List ℕ → Type 0
-IsDocumentText m bytes =
-    depth (data_of_document m) ≤ max_depth → has_float (data_of_document m) ≡ false → document_said bytes ≡ Some (normal_document m)
+-- the pretty text of a document: its tokens are laid out over indented lines, its members stand in the order of the
+-- tree, and it reads as the document, unless its tree nests too deep or has a left-out number
+pub record IsDocumentText (m : DocumentData) (bytes : List ℕ) : Type 0 where
+  -- a line for each item and member, two spaces deeper for each bracket
+  pub layout : bytes ≡ pretty (tokens bytes)
+  pub utf8 : IsUtf8 bytes
+  -- each member and item of the tree once and in order, its integers in decimal
+  pub order : IsInOrder bytes (data_of_document m)
+  pub reads_back : depth (data_of_document m) ≤ max_depth → has_float (data_of_document m) ≡ false → document_said bytes ≡ Some (normal_document m)

@@ -2,8 +2,11 @@
 use Rattle.std.proofs.Common.{◌≡◌, ◌≤◌, ℕ, List, Bool, true, false, Option, Some, None, option_and_then, refl, ap}
 use Rattle.std.specs.Str.{IsUtf8, is_utf8}
 use Rattle.std.proofs.lemmas.Str.{is_utf8-from_IsUtf8, IsUtf8-from_is_utf8}
+use Rattle.json.specs.Lex.{tokens}
+use Rattle.json.specs.Layout.{pretty}
 use Rattle.serde_json.specs.Data.{Data, object, Members, depth}
 use Rattle.serde_json.specs.Read.{read, max_depth}
+use Rattle.serde_json.specs.Written.{IsInOrder}
 use Rattle.zarrs_metadata.specs.declared.error.MetadataError.{MetadataError}
 use Rattle.zarrs_metadata.specs.declared.error.MetadataError.TheVariants.{InvalidShape, OutOfMemory}
 use Rattle.zarrs_document.specs.Refusals.{RefusesReading}
@@ -26,8 +29,18 @@ pub refuses_more : {A B : Type 0} (o : Option A) (f : A → Option B) (e : Metad
 refuses_more o f InvalidShape h = ap (option_and_then f) h
 refuses_more o f OutOfMemory h = tt
 
-pub written_text : (m : DocumentV2Data) (bytes : List ℕ) → IsUtf8 bytes → document_v2_of (data_of_v2 m) ≡ Some m → (depth (data_of_v2 m) ≤ max_depth → read bytes ≡ Some (data_of_v2 m)) → IsDocumentV2Text m bytes
-written_text m bytes utf8 back reads = λ shallow plain. rw (said_value bytes (data_of_v2 m) utf8 (reads shallow), plain) back
+pub written_text : (m : DocumentV2Data) (bytes : List ℕ) → bytes ≡ pretty (tokens bytes) → IsUtf8 bytes → IsInOrder bytes (data_of_v2 m) → document_v2_of (data_of_v2 m) ≡ Some m → (depth (data_of_v2 m) ≤ max_depth → read bytes ≡ Some (data_of_v2 m)) → IsDocumentV2Text m bytes
+written_text m bytes layout utf8 order back reads = record {
+  layout = layout;
+  utf8 = utf8;
+  order = order;
+  reads_back = λ shallow plain. rw (said_value bytes (data_of_v2 m) utf8 (reads shallow), plain) back;
+}
 
-pub written_attributes : (ms : Members) (bytes : List ℕ) → IsUtf8 bytes → (depth (object ms) ≤ max_depth → read bytes ≡ Some (object ms)) → IsAttributesText ms bytes
-written_attributes ms bytes utf8 reads = λ shallow plain. rw (said_value bytes (object ms) utf8 (reads shallow), plain) refl
+pub written_attributes : (ms : Members) (bytes : List ℕ) → bytes ≡ pretty (tokens bytes) → IsUtf8 bytes → IsInOrder bytes (object ms) → (depth (object ms) ≤ max_depth → read bytes ≡ Some (object ms)) → IsAttributesText ms bytes
+written_attributes ms bytes layout utf8 order reads = record {
+  layout = layout;
+  utf8 = utf8;
+  order = order;
+  reads_back = λ shallow plain. rw (said_value bytes (object ms) utf8 (reads shallow), plain) refl;
+}

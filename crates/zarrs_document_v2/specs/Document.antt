@@ -1,9 +1,11 @@
 -- The V2 document of an array (Zarr V2 storage specification, arrays and attributes), and the JSON values that read as one.
 use Rattle.std.specs.Prelude.{◌≡◌, ◌≤◌, ℕ, List, [], ◌∷◌, ◌==◌, false, bytes_eq, codes, if◌then◌else◌, Option, Some, None, option_and_then}
-use Rattle.std.specs.Str.{is_utf8}
+use Rattle.std.specs.Str.{is_utf8, IsUtf8}
+use Rattle.json.specs.Lex.{tokens}
+use Rattle.json.specs.Layout.{pretty}
 use Rattle.serde_json.specs.Data.{Data, depth, string, object, Members, no_members}
 use Rattle.serde_json.specs.Find.{get_member, as_str, as_object}
-use Rattle.serde_json.specs.Written.{has_float}
+use Rattle.serde_json.specs.Written.{has_float, IsInOrder}
 use Rattle.serde_json.specs.Read.{read, max_depth}
 use Rattle.zarrs_metadata.specs.Lists.{number_of, numbers_of, numbers_data, number_data}
 use Rattle.zarrs_metadata.specs.Extension.{◌>>=◌}
@@ -172,12 +174,22 @@ data_v2_with attributes m = object (put_all (document_v2_members attributes m) n
 abbrev pub data_of_v2 : DocumentV2Data → Data
 data_of_v2 m = data_v2_with (object_data m.attributes) m
 
--- bytes that read as the document, unless its tree nests too deep or has a left-out number
-abbrev pub IsDocumentV2Text : DocumentV2Data → List ℕ → Type 0
-IsDocumentV2Text m bytes =
-    depth (data_of_v2 m) ≤ max_depth → has_float (data_of_v2 m) ≡ false → document_v2_said bytes ≡ Some m
+-- the pretty text of a document: its tokens are laid out over indented lines, its members stand in the order of the
+-- tree, and it reads as the document, unless its tree nests too deep or has a left-out number
+pub record IsDocumentV2Text (m : DocumentV2Data) (bytes : List ℕ) : Type 0 where
+  -- a line for each item and member, two spaces deeper for each bracket
+  pub layout : bytes ≡ pretty (tokens bytes)
+  pub utf8 : IsUtf8 bytes
+  -- each member and item of the tree once and in order, its integers in decimal
+  pub order : IsInOrder bytes (data_of_v2 m)
+  pub reads_back : depth (data_of_v2 m) ≤ max_depth → has_float (data_of_v2 m) ≡ false → document_v2_said bytes ≡ Some m
 
--- bytes that read as the attributes, unless they nest too deep or have a left-out number
-abbrev pub IsAttributesText : Members → List ℕ → Type 0
-IsAttributesText ms bytes =
-    depth (object ms) ≤ max_depth → has_float (object ms) ≡ false → attributes_said bytes ≡ Some ms
+-- the pretty text of the attributes: its tokens are laid out over indented lines, the attributes stand in their order,
+-- and it reads as the attributes, unless they nest too deep or have a left-out number
+pub record IsAttributesText (ms : Members) (bytes : List ℕ) : Type 0 where
+  -- a line for each item and member, two spaces deeper for each bracket
+  pub layout : bytes ≡ pretty (tokens bytes)
+  pub utf8 : IsUtf8 bytes
+  -- each attribute once and in order, its integers in decimal
+  pub order : IsInOrder bytes (object ms)
+  pub reads_back : depth (object ms) ≤ max_depth → has_float (object ms) ≡ false → attributes_said bytes ≡ Some ms
