@@ -41,7 +41,7 @@ pub use zarrs_storage::{
     StoreKey, WholeRefused, WritableStorageTraits,
 };
 pub use zarrs_subset::{
-    ArrayIndices, ArrayIndicesTinyVec, ArrayShape, ArraySubset, ArraySubsetError, ArraySubsetTraits,
-    IncompatibleDimensionalityError,
+    ArrayIndices, ArrayIndicesTinyVec, ArrayShape, ArraySubset, ArraySubsetError,
+    ArraySubsetTraits, IncompatibleDimensionalityError,
 };
 pub use zarrs_target::ArrayBytesDecodeIntoTarget;

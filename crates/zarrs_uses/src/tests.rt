@@ -336,7 +336,12 @@ const MEASURED: &[i16] = &[
 
 fn must_be_measured(rt: &impl Abort, millimetres: &[i16]) {
     assert_eq!(rt; millimetres.len(), 64);
-    assert!(rt; millimetres.iter().zip(MEASURED).all(|(read, wanted)| read == wanted));
+    assert!(rt;
+        millimetres
+            .iter()
+            .zip(MEASURED)
+            .all(|(read, wanted)| read == wanted)
+    );
 }
 
 #[test]
