@@ -162,7 +162,7 @@ impl Work for EncodeNumbers {
     }
 }
 
-/// `BytesCodec::decode` of numbers of 4 bytes.
+/// `BytesCodec::decode` of numbers of 4 bytes, and a copy of what it lends.
 #[derive(Drop)]
 struct DecodeNumbers {
     codec: BytesCodec,
@@ -175,7 +175,8 @@ impl Work for DecodeNumbers {
         let count = (BYTES / 4) as u64;
         let made = self
             .codec
-            .decode(alloc, &self.encoded, &DataType::UInt32, count)?;
+            .decode(alloc, &self.encoded, &DataType::UInt32, count)?
+            .into_owned(alloc)?;
         Ok(tested(made.into_fixed()?.as_slice()))
     }
 }

@@ -18,7 +18,6 @@ pub data Act : Type 0 where
   read : Box → List (List ℕ) → Act
   -- read a whole chunk: if it is absent, its cells are fill (true) or there are none (false)
   read_chunk : Bool → List ℕ → Act
-  -- compaction joins as `compact index`, a change of the array's shape as `resize shape`
 
 -- a read of a part of a chunk; of all of it, that of the chunk
 abbrev pub read_part_act : Layout → List ℕ → Box → Act

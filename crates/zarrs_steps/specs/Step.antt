@@ -130,16 +130,10 @@ ActStep layout keep first (read region chunks) (Refused e) old new = (new ≡ ol
 ActStep layout keep first (read_chunk true index) (Cells held) old new = (new ≡ old) × (first ≡ None) × RetrievesChunk layout index (data_of held) old
 ActStep layout keep first (read_chunk false index) (MaybeCells found) old new = (new ≡ old) × (first ≡ None) × RetrievesIfExists layout index (option_map data_of found) old
 ActStep layout keep first (read_chunk needed index) (Refused e) old new = (new ≡ old) × RefusesChunkRead layout first needed index old (refusal_of e)
--- To come, as further rows, with no change above:
---   (compact index) (Compacted b): first ≡ None; the content is as before; with false new ≡ old; with true the one key,
---     which was present, holds the compaction of what it held, and Makes 1 0
---   (compact index) (Refused e): Leaves, at most one writing call failed; the cause as for a chunk that is read whole
---   (resize shape) Done, (Refused e): a front of the cut chunks, by Front and RefusesWrite with a third change beside
---     Takes and Erases: fill past the shape, and each key of the front absent or the bytes of its cells
 -- no other reply is returned
 ActStep layout keep first act reply old new = ⊥
 
--- the array's shape after an act with this reply: no act here changes it (a resize that was done leaves its own)
+-- the array's shape after an act with this reply: no act changes it
 abbrev pub shape_after : Act → Reply → List ℕ → List ℕ
 shape_after act reply shape = shape
 

@@ -1,4 +1,5 @@
 //! Each use, run.
+use crate::built::{measure, rainfall};
 use crate::chunks::{erase, is_present, store_and_read};
 use crate::documents::{create_array, read_region_at, v3_text};
 use crate::histories::{count_refused, have_equal_bytes};
@@ -324,5 +325,31 @@ fn a_v2_array_is_shown_in_v3(rt: HostRuntime) -> Result<(), Fail> {
     let key = StoreKey::new(alloc, "names/.zarray")?;
     storage.set(alloc, &key, Bytes::from_static(V2_DOCUMENT))?;
     assert_eq!(rt; v3_text(alloc, storage, "/names")?.as_str(), CONVERTED);
+    Ok(())
+}
+
+/// What is known of the first two rows of places after four of them were measured.
+const MEASURED: &[i16] = &[
+    -1, -1, -1, -1, -1, -1, -1, -1, //
+    -1, -1, -1, 12, 0, 7, 31, -1,
+];
+
+fn must_be_measured(rt: &impl Abort, millimetres: &[i16]) {
+    assert_eq!(rt; millimetres.len(), 64);
+    assert!(rt;
+        millimetres
+            .iter()
+            .zip(MEASURED)
+            .all(|(read, wanted)| read == wanted)
+    );
+}
+
+#[test]
+fn an_array_is_built_and_measured(rt: HostRuntime) -> Result<(), Fail> {
+    let alloc = rt.alloc();
+    let mut array = rainfall(alloc, MemoryStore::new(alloc), "/climate/rain")?;
+    let places = region(alloc, &[1, 3], &[1, 4])?;
+    let millimetres = measure(alloc, &mut array, &places, &[12, 0, 7, 31])?;
+    must_be_measured(&rt, &millimetres);
     Ok(())
 }

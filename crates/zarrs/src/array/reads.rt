@@ -201,9 +201,9 @@ impl<TStorage: ReadableStorageTraits> Array<TStorage> {
     /// # Errors
     /// In this order: E3 for another number of indices than dimensions, or without a chunk; E2 for a part of another
     /// number of dimensions, or that passes the chunk. Then for the whole chunk the errors of `retrieve_chunk`; for
-    /// another part E8 for more cells, or as many fill values, than a `usize` counts bytes, E7 if the store refuses the
-    /// key, E8 for a chunk of more bytes than a `usize` counts, E4 if its bytes do not decode; E5 for values that are
-    /// not those of the data type. E9 may come at any time.
+    /// another part E8 for more cells, or as many fill values, than a `usize` counts bytes, and then one of these: E7
+    /// if the store refuses the key, E8 for a chunk of more bytes than a `usize` counts, E4 if its bytes do not decode.
+    /// E5 comes last, for values that are not those of the data type. E9 may come at any time.
     pub fn retrieve_chunk_subset<T: FromArrayBytes, R: ArraySubsetTraits>(
         &self,
         alloc: Global,
@@ -254,9 +254,9 @@ impl<TStorage: ReadableStorageTraits> Array<TStorage> {
     ///
     /// # Errors
     /// In this order: E1 for another number of dimensions, or a position that no chunk covers; E8 for more cells, or as
-    /// many fill values, than a `usize` counts bytes. Then E7 if the store refuses the key of a chunk that the region
-    /// meets; E8 for such a chunk of more bytes than a `usize` counts, and E4 if its bytes do not decode; E5 for another
-    /// type of values comes last. E9 may come at any time.
+    /// many fill values, than a `usize` counts bytes. Then one of these: E7 if the store refuses the key of a chunk that
+    /// the region meets, E8 for such a chunk of more bytes than a `usize` counts, E4 if its bytes do not decode. E5
+    /// comes last, for values that are not those of the data type. E9 may come at any time.
     pub fn retrieve_array_subset<T: FromArrayBytes, R: ArraySubsetTraits>(
         &self,
         alloc: Global,

@@ -1,0 +1,31 @@
+//! Arrays by a builder.
+use anyhow::Result;
+use std::alloc::Global;
+use zarrs::{Array, ArraySubset};
+use zarrs_builder::ArrayBuilder;
+use zarrs_data_type::DataType;
+use zarrs_storage::MemoryStore;
+
+/// Rainfall in millimetres over 8 by 8 places, in chunks of 4 by 4, where -1 means that nobody measured. Its metadata
+/// is in its store.
+pub fn rainfall(alloc: Global, storage: MemoryStore, path: &str) -> Result<Array<MemoryStore>> {
+    let names = ["y", "x"];
+    let mut builder = ArrayBuilder::new(alloc, [8u64, 8], [4u64, 4], DataType::Int16, -1i16);
+    builder.dimension_names(alloc, Some(names.iter().copied()));
+    let mut array = builder.build(alloc, storage, path)?;
+    array.store_metadata(alloc)?;
+    Ok(array)
+}
+
+/// Stores what was measured in a region, and reads all of the array.
+pub fn measure(
+    alloc: Global,
+    array: &mut Array<MemoryStore>,
+    region: &ArraySubset,
+    millimetres: &[i16],
+) -> Result<Vec<i16>> {
+    array.store_array_subset(alloc, region, millimetres)?;
+    let all = array.subset_all(alloc)?;
+    let numbers: Vec<i16> = array.retrieve_array_subset(alloc, &all)?;
+    Ok(numbers)
+}
