@@ -1,4 +1,5 @@
 //! The same array over another store, and lent attributes.
+use crate::checks::{must, must_eq};
 use crate::made::{MemoryArray, array};
 use serde_json::Value;
 use std::alloc::Global;
@@ -8,9 +9,9 @@ use zarrs::{Array, ArrayMetadata, ReadOnly};
 use zarrs_storage::MemoryStore;
 
 fn must_hold<S>(rt: &impl Abort, array: &Array<S>, held: &[u8], bytes: &[u8]) {
-    assert!(rt; array.shape() == [8, 8].as_slice());
-    assert!(rt; array.path().as_str() == "/a");
-    assert!(rt; held == bytes);
+    must(rt, array.shape() == [8, 8].as_slice());
+    must(rt, array.path().as_str() == "/a");
+    must(rt, held == bytes);
 }
 
 fn chunk_of(alloc: Global, array: &MemoryArray) -> Result<Vec<u8>, Fail> {
@@ -66,12 +67,12 @@ fn must_have_attribute(
     array: &mut MemoryArray,
 ) -> Result<(), Fail> {
     put_attribute(alloc, array)?;
-    assert_eq!(rt; array.attributes().len(), 1);
+    must_eq(rt, array.attributes().len(), 1);
     match array.metadata() {
-        ArrayMetadata::V3(document) => assert_eq!(rt; document.attributes.len(), 1),
+        ArrayMetadata::V3(document) => must_eq(rt, document.attributes.len(), 1),
         ArrayMetadata::V2(_) => return Err("the metadata is of V2".into()),
     }
-    assert!(rt; chunk_of(alloc, array)?.as_slice() == [0; 16].as_slice());
+    must(rt, chunk_of(alloc, array)?.as_slice() == [0; 16].as_slice());
     Ok(())
 }
 

@@ -1,4 +1,5 @@
 //! Reads and stores of elements, under their older names.
+use crate::checks::must;
 use crate::made::{MemoryArray, array};
 use std::alloc::Global;
 use std::process::Abort;
@@ -20,7 +21,7 @@ fn region(alloc: Global, start: u64, extent: u64) -> Result<ArraySubset, Fail> {
 }
 
 fn must_be(rt: &impl Abort, held: &[i16], elements: &[i16]) {
-    assert!(rt; held == elements);
+    must(rt, held == elements);
 }
 
 fn must_store(rt: &impl Abort, alloc: Global, array: &mut MemoryArray) -> Result<(), Fail> {
@@ -39,10 +40,11 @@ fn must_store(rt: &impl Abort, alloc: Global, array: &mut MemoryArray) -> Result
     must_be(rt, &range, &[4, 5, 6, 7]);
     let all = array.retrieve_array_subset_elements::<i16, _>(alloc, &array.subset_all(alloc)?)?;
     must_be(rt, &all, &[4, 5, 6, 7]);
-    assert!(rt;
+    must(
+        rt,
         array
             .retrieve_chunk_elements_if_exists::<i16>(alloc, &[0])?
-            .is_some()
+            .is_some(),
     );
     Ok(())
 }
@@ -80,7 +82,7 @@ fn must_store_by_options(
     let part = array.retrieve_chunk_subset_elements_opt::<i16, _>(alloc, &[0], &one, &options)?;
     must_be(rt, &part, &[6]);
     let absent = array.retrieve_chunk_elements_if_exists_opt::<i16>(alloc, &[1], &options)?;
-    assert!(rt; absent.is_none());
+    must(rt, absent.is_none());
     Ok(())
 }
 

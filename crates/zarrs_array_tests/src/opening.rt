@@ -1,4 +1,5 @@
 //! Arrays that are stored, opened and erased, and the refusals of an opening in their order.
+use crate::checks::{must, must_eq, must_for};
 use crate::made::{BYTES, MemoryArray, array, document, document_of};
 use serde_json::Map;
 use std::alloc::Global;
@@ -19,9 +20,9 @@ fn must_have_keys(
     names: &[&str],
 ) -> Result<(), Fail> {
     let keys = storage.keys(alloc)?;
-    assert_eq!(rt; keys.len(), names.len());
+    must_eq(rt, keys.len(), names.len());
     for (key, name) in keys.iter().zip(names.iter()) {
-        assert_eq!(rt; key.as_str(), *name);
+        must_eq(rt, key.as_str(), *name);
     }
     Ok(())
 }
@@ -39,7 +40,7 @@ fn must_hold_its_text(
         return Err("the metadata is of V2".into());
     };
     let text = shown.to_vec_pretty(alloc)?;
-    assert!(rt; *held == *text);
+    must(rt, *held == *text);
     Ok(())
 }
 
@@ -51,10 +52,14 @@ fn must_be_of_the_text(
     text: &str,
 ) -> Result<(), Fail> {
     let made_by = array.attributes().get("_zarrs");
-    assert!(rt; made_by.is_some());
+    must(rt, made_by.is_some());
     let document = document_of(array)?.try_clone(alloc)?;
     let written = document.with_attributes(Map::new(alloc));
-    assert_eq!(rt; written.to_value(alloc)?.to_string(alloc)?.as_str(), text);
+    must_eq(
+        rt,
+        written.to_value(alloc)?.to_string(alloc)?.as_str(),
+        text,
+    );
     Ok(())
 }
 
@@ -66,7 +71,7 @@ fn must_read(
     bytes: &[u8],
 ) -> Result<(), Fail> {
     let cells: Vec<u8> = array.retrieve_chunk(alloc, indices)?;
-    assert!(rt; cells.as_slice() == bytes);
+    must(rt, cells.as_slice() == bytes);
     Ok(())
 }
 
@@ -74,7 +79,7 @@ fn must_store(rt: &impl Abort, alloc: Global, array: &mut MemoryArray) -> Result
     array.store_metadata(alloc)?;
     must_hold_its_text(rt, alloc, array, "array/zarr.json")?;
     must_have_keys(rt, alloc, array.storage(), &["array/zarr.json"])?;
-    assert_eq!(rt; array.storage().calls(), 1);
+    must_eq(rt, array.storage().calls(), 1);
     Ok(())
 }
 
@@ -102,8 +107,8 @@ fn an_array_is_stored_and_opened(rt: HostRuntime) -> Result<(), Fail> {
 }
 
 fn must_lie_at(rt: &impl Abort, alloc: Global, array: &MemoryArray) -> Result<(), Fail> {
-    assert_eq!(rt; array.path().as_str(), "/a/b");
-    assert_eq!(rt; array.storage().calls(), 1);
+    must_eq(rt, array.path().as_str(), "/a/b");
+    must_eq(rt, array.storage().calls(), 1);
     must_be_of_the_text(rt, alloc, array, BYTES)?;
     must_hold_its_text(rt, alloc, array, "a/b/zarr.json")
 }
@@ -123,7 +128,7 @@ fn must_store_and_erase(
     array.store_metadata(alloc)?;
     must_hold_its_text(rt, alloc, array, "zarr.json")?;
     array.erase_metadata(alloc)?;
-    assert_eq!(rt; array.storage().calls(), 2);
+    must_eq(rt, array.storage().calls(), 2);
     must_have_keys(rt, alloc, array.storage(), &[])
 }
 
@@ -160,24 +165,25 @@ fn refusal(alloc: Global, storage: MemoryStore, path: &str) -> Result<ArrayCreat
 }
 
 fn must_be_a_path(rt: &impl Abort, error: &ArrayCreateError) {
-    assert!(rt;
+    must(
+        rt,
         matches!(
             error,
             ArrayCreateError::NodePathError(NodePathError::Invalid)
-        )
+        ),
     );
 }
 
 fn must_be_missing(rt: &impl Abort, error: &ArrayCreateError) {
-    assert!(rt; matches!(error, ArrayCreateError::MissingMetadata));
+    must(rt, matches!(error, ArrayCreateError::MissingMetadata));
 }
 
 fn must_be_no_document(rt: &impl Abort, error: &ArrayCreateError) {
     let ArrayCreateError::StorageError(StorageError::InvalidMetadata(key, _)) = error else {
-        assert!(rt; false, "no E23");
+        must_for(rt, "no E23", false);
         return;
     };
-    assert_eq!(rt; key.as_str(), "zarr.json");
+    must_eq(rt, key.as_str(), "zarr.json");
 }
 
 #[test]
@@ -199,11 +205,12 @@ fn e11_e24_e23(rt: HostRuntime) -> Result<(), Fail> {
 }
 
 fn must_be_refused_by_the_store(rt: &impl Abort, error: &ArrayCreateError) {
-    assert!(rt;
+    must(
+        rt,
         matches!(
             error,
             ArrayCreateError::StorageError(StorageError::Other(_))
-        )
+        ),
     );
 }
 
@@ -227,11 +234,11 @@ fn must_name_the_field(
     error: &ArrayCreateError,
 ) -> Result<(), Fail> {
     let ArrayCreateError::AdditionalFieldUnsupportedError(field) = error else {
-        assert!(rt; false, "no E12");
+        must_for(rt, "no E12", false);
         return Ok(());
     };
-    assert_eq!(rt; field.name(), "b");
-    assert_eq!(rt; field.value().to_string(alloc)?.as_str(), "[2]");
+    must_eq(rt, field.name(), "b");
+    must_eq(rt, field.value().to_string(alloc)?.as_str(), "[2]");
     Ok(())
 }
 
@@ -249,7 +256,7 @@ fn e12_names_the_first_field(rt: HostRuntime) -> Result<(), Fail> {
 }
 
 fn must_have_a_field(rt: &impl Abort, array: &MemoryArray) -> Result<(), Fail> {
-    assert_eq!(rt; document_of(array)?.additional_fields.len(), 1);
+    must_eq(rt, document_of(array)?.additional_fields.len(), 1);
     Ok(())
 }
 
@@ -262,7 +269,7 @@ fn a_field_that_need_not_be_understood(rt: HostRuntime) -> Result<(), Fail> {
 }
 
 fn must_be_no_chain(rt: &impl Abort, error: &ArrayCreateError) {
-    assert!(rt; matches!(error, ArrayCreateError::CodecsCreateError(_)));
+    must(rt, matches!(error, ArrayCreateError::CodecsCreateError(_)));
 }
 
 #[test]
@@ -278,8 +285,11 @@ fn a_store_that_refuses_keeps_its_document(rt: HostRuntime) -> Result<(), Fail> 
     let alloc = rt.alloc();
     let storage = Fault::new(holding_text(alloc, BYTES)?, Vec::new(alloc), Some(1));
     let mut array = Array::open(alloc, storage, "/")?;
-    assert!(rt; matches!(array.erase_metadata(alloc), Err(StorageError::Other(_))));
+    must(
+        &rt,
+        matches!(array.erase_metadata(alloc), Err(StorageError::Other(_))),
+    );
     let storage = array.into_storage();
-    assert_eq!(rt; storage.failures(), 1);
+    must_eq(&rt, storage.failures(), 1);
     must_have_keys(&rt, alloc, &storage.into_inner(), &["zarr.json"])
 }

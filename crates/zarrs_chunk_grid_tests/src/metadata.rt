@@ -1,4 +1,5 @@
 //! The metadata of grids: what is read, refused and written, and copies.
+use crate::checks::{must, must_eq, must_for};
 use crate::grids::{Grid, grid_of};
 use crate::tests::{TWO_AND_THREE_BY_FOUR, must_be_chunk, must_have_shapes};
 use serde_json::Value;
@@ -26,7 +27,7 @@ fn must_be_written(
     grid: &ChunkGrid,
     text: &str,
 ) -> Result<(), Fail> {
-    assert_eq!(rt; written(alloc, grid)?.as_str(), text);
+    must_eq(rt, written(alloc, grid)?.as_str(), text);
     Ok(())
 }
 
@@ -71,7 +72,7 @@ fn grids_made_anew_from_metadata_over_another_shape(rt: HostRuntime) -> Result<(
     must_widen(&rt, alloc)?;
     let listed = grid_of(alloc, &TWO_AND_THREE_BY_FOUR)?.metadata(alloc)?;
     let refused = ChunkGrid::from_metadata(alloc, &listed, &[6, 8]);
-    assert!(rt; matches!(&refused, Err(PluginCreateError::Other(_))));
+    must(&rt, matches!(&refused, Err(PluginCreateError::Other(_))));
     Ok(())
 }
 
@@ -81,7 +82,7 @@ fn regular_grids_read_from_metadata_and_written_again(rt: HostRuntime) -> Result
     let grid = read_grid(rt.alloc(), TEXT, &[8, 8])?;
     metadata_describes_the_configuration(&grid);
     grid_of_its_configuration(&grid);
-    assert!(rt; matches!(&grid, ChunkGrid::Regular(_)));
+    must(&rt, matches!(&grid, ChunkGrid::Regular(_)));
     must_have_shapes(&rt, &grid, &[8, 8], &[2, 3]);
     must_be_written(&rt, rt.alloc(), &grid, TEXT)
 }
@@ -89,7 +90,7 @@ fn regular_grids_read_from_metadata_and_written_again(rt: HostRuntime) -> Result
 /// The text says a bounded grid of 3 chunks, whose metadata is the second.
 fn must_be_bounded(rt: &impl Abort, alloc: Global, text: &str, written: &str) -> Result<(), Fail> {
     let grid = read_grid(alloc, text, &[5])?;
-    assert!(rt; matches!(&grid, ChunkGrid::RegularBounded(_)));
+    must(rt, matches!(&grid, ChunkGrid::RegularBounded(_)));
     must_have_shapes(rt, &grid, &[5], &[3]);
     must_be_written(rt, alloc, &grid, written)
 }
@@ -107,7 +108,7 @@ fn bounded_grids_read_from_metadata_and_written_again(rt: HostRuntime) -> Result
 fn rectangular_grids_read_from_metadata_and_written_again(rt: HostRuntime) -> Result<(), Fail> {
     const TEXT: &str = "{\"configuration\":{\"chunk_shape\":[[2,3],4]},\"name\":\"rectangular\"}";
     let grid = read_grid(rt.alloc(), TEXT, &[5, 8])?;
-    assert!(rt; matches!(&grid, ChunkGrid::Rectangular(_)));
+    must(&rt, matches!(&grid, ChunkGrid::Rectangular(_)));
     must_have_shapes(&rt, &grid, &[5, 8], &[2, 2]);
     must_be_written(&rt, rt.alloc(), &grid, TEXT)
 }
@@ -115,9 +116,10 @@ fn rectangular_grids_read_from_metadata_and_written_again(rt: HostRuntime) -> Re
 fn must_say_no_grid(rt: &impl Abort, alloc: Global, text: &str) -> Result<(), Fail> {
     let metadata = MetadataV3::from_value(Value::from_str(alloc, text)?)?;
     let refused = ChunkGrid::from_metadata(alloc, &metadata, &[5]);
-    assert!(rt;
+    must_for(
+        rt,
+        text,
         matches!(&refused, Err(PluginCreateError::Other(_))),
-        "{text}"
     );
     Ok(())
 }

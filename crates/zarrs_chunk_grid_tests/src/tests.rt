@@ -1,4 +1,5 @@
 //! Grids and what they say of chunks and regions, with ample memory.
+use crate::checks::{must, must_eq};
 use crate::grids::{AxisSizes, Grid, grid_of, listed, numbers, region, sizes};
 use std::alloc::Global;
 use std::process::Abort;
@@ -43,8 +44,8 @@ enum Fact {
 }
 
 fn must_be(rt: &impl Abort, found: &ArraySubset, expected: &Corner) {
-    assert_eq!(rt; found.start(), expected.0);
-    assert_eq!(rt; found.shape(), expected.1);
+    must_eq(rt, found.start(), expected.0);
+    must_eq(rt, found.shape(), expected.1);
 }
 
 pub(crate) fn must_have_shapes(
@@ -53,9 +54,9 @@ pub(crate) fn must_have_shapes(
     array_shape: &[u64],
     grid_shape: &[u64],
 ) {
-    assert_eq!(rt; grid.dimensionality(), array_shape.len());
-    assert_eq!(rt; grid.array_shape(), array_shape);
-    assert_eq!(rt; grid.grid_shape(), grid_shape);
+    must_eq(rt, grid.dimensionality(), array_shape.len());
+    must_eq(rt, grid.array_shape(), array_shape);
+    must_eq(rt, grid.grid_shape(), grid_shape);
 }
 
 fn must_meet(
@@ -77,7 +78,7 @@ fn must_not_cover(
     asked: &Corner,
 ) -> Result<(), Fail> {
     let found = grid.chunks_in_array_subset(alloc, &region(alloc, asked.0, asked.1)?)?;
-    assert!(rt; found.is_none());
+    must(rt, found.is_none());
     Ok(())
 }
 
@@ -100,7 +101,7 @@ fn must_have_no_range(
     chunks: &Corner,
 ) -> Result<(), Fail> {
     let found = grid.chunks_subset(alloc, &region(alloc, chunks.0, chunks.1)?)?;
-    assert!(rt; found.is_none());
+    must(rt, found.is_none());
     Ok(())
 }
 
@@ -123,9 +124,9 @@ fn must_be_origin_and_shape(
     chunk: &Corner,
 ) -> Result<(), Fail> {
     let origin = grid.chunk_origin(alloc, indices)?.ok_or("there")?;
-    assert_eq!(rt; origin.as_slice(), chunk.0);
+    must_eq(rt, origin.as_slice(), chunk.0);
     let found = grid.chunk_shape(alloc, indices)?.ok_or("there")?;
-    assert_eq!(rt; found.as_slice(), sizes(alloc, chunk.1)?.as_slice());
+    must_eq(rt, found.as_slice(), sizes(alloc, chunk.1)?.as_slice());
     Ok(())
 }
 
@@ -137,7 +138,7 @@ fn must_have_plain_shape(
     shape: &[u64],
 ) -> Result<(), Fail> {
     let plain = grid.chunk_shape_u64(alloc, indices)?.ok_or("there")?;
-    assert_eq!(rt; plain.as_slice(), shape);
+    must_eq(rt, plain.as_slice(), shape);
     Ok(())
 }
 
@@ -147,16 +148,16 @@ fn must_have_no_chunk(
     grid: &ChunkGrid,
     indices: &[u64],
 ) -> Result<(), Fail> {
-    assert!(rt; grid.subset(alloc, indices)?.is_none());
-    assert!(rt; grid.chunk_origin(alloc, indices)?.is_none());
-    assert!(rt; grid.chunk_shape(alloc, indices)?.is_none());
-    assert!(rt; grid.chunk_shape_u64(alloc, indices)?.is_none());
+    must(rt, grid.subset(alloc, indices)?.is_none());
+    must(rt, grid.chunk_origin(alloc, indices)?.is_none());
+    must(rt, grid.chunk_shape(alloc, indices)?.is_none());
+    must(rt, grid.chunk_shape_u64(alloc, indices)?.is_none());
     Ok(())
 }
 
 fn must_have_number(rt: &impl Abort, grid: &ChunkGrid, coordinate: u64, number: Option<u64>) {
-    assert_eq!(rt; grid.dimensionality(), 1);
-    assert_eq!(rt; grid.chunk_number(0, coordinate), number);
+    must_eq(rt, grid.dimensionality(), 1);
+    must_eq(rt, grid.chunk_number(0, coordinate), number);
 }
 
 fn must_say(rt: &impl Abort, alloc: Global, grid: &ChunkGrid, fact: &Fact) -> Result<(), Fail> {
@@ -208,8 +209,8 @@ fn regular_chunks_that_a_region_meets(rt: HostRuntime) -> Result<(), Fail> {
 }
 
 fn must_be_empty(rt: &impl Abort, found: &ArraySubset) {
-    assert!(rt; found.is_empty());
-    assert_eq!(rt; found.shape(), [0].as_slice());
+    must(rt, found.is_empty());
+    must_eq(rt, found.shape(), [0].as_slice());
 }
 
 #[test]
@@ -268,7 +269,7 @@ fn ranges_that_a_rectangular_grid_is_asked_for(rt: HostRuntime) -> Result<(), Fa
 }
 
 fn must_be_unequal<T>(rt: &impl Abort, made: &Result<T, GridError>) {
-    assert!(rt; matches!(made, Err(GridError::UnequalExtent)));
+    must(rt, matches!(made, Err(GridError::UnequalExtent)));
 }
 
 #[test]
@@ -287,7 +288,7 @@ fn must_pass_a_u64(rt: &impl Abort, alloc: Global) -> Result<(), Fail> {
 
 fn must_end_at_the_last_u64(rt: &impl Abort, alloc: Global) -> Result<(), Fail> {
     let list = SizeList::new(alloc, sizes(alloc, &[u64::MAX - 1, 1])?)?;
-    assert_eq!(rt; list.end(), u64::MAX);
+    must_eq(rt, list.end(), u64::MAX);
     Ok(())
 }
 
@@ -307,16 +308,31 @@ fn listed_sizes_past_a_u64(rt: HostRuntime) -> Result<(), Fail> {
 /// Two indices where the grid has one dimension.
 fn must_refuse_two(rt: &impl Abort, alloc: Global, grid: &ChunkGrid) {
     let refused = GridError::IncompatibleDimensionality(IncompatibleDimensionalityError::new(2, 1));
-    assert!(rt; matches!(grid.subset(alloc, &[0, 0]), Err(e) if e == refused));
-    assert!(rt; matches!(grid.chunk_origin(alloc, &[0, 0]), Err(e) if e == refused));
-    assert!(rt; matches!(grid.chunk_shape(alloc, &[0, 0]), Err(e) if e == refused));
-    assert!(rt; matches!(grid.chunk_shape_u64(alloc, &[0, 0]), Err(e) if e == refused));
+    must(
+        rt,
+        matches!(grid.subset(alloc, &[0, 0]), Err(e) if e == refused),
+    );
+    must(
+        rt,
+        matches!(grid.chunk_origin(alloc, &[0, 0]), Err(e) if e == refused),
+    );
+    must(
+        rt,
+        matches!(grid.chunk_shape(alloc, &[0, 0]), Err(e) if e == refused),
+    );
+    must(
+        rt,
+        matches!(grid.chunk_shape_u64(alloc, &[0, 0]), Err(e) if e == refused),
+    );
 }
 
 fn must_refuse_a_flat_region(rt: &impl Abort, alloc: Global, grid: &ChunkGrid) -> Result<(), Fail> {
     let refused = GridError::IncompatibleDimensionality(IncompatibleDimensionalityError::new(2, 1));
     let flat = region(alloc, &[0, 0], &[1, 1])?;
-    assert!(rt; matches!(grid.chunks_in_array_subset(alloc, &flat), Err(e) if e == refused));
+    must(
+        rt,
+        matches!(grid.chunks_in_array_subset(alloc, &flat), Err(e) if e == refused),
+    );
     Ok(())
 }
 
@@ -332,14 +348,14 @@ fn indices_past_the_last_chunk_or_of_another_length(rt: HostRuntime) -> Result<(
 fn must_refuse_a_regular_one(rt: &impl Abort, alloc: Global) -> Result<(), Fail> {
     let refused = GridError::IncompatibleDimensionality(IncompatibleDimensionalityError::new(2, 1));
     let grid = RegularChunkGrid::new(alloc, numbers(alloc, &[8])?, sizes(alloc, &[4, 4])?);
-    assert!(rt; matches!(grid, Err(e) if e == refused));
+    must(rt, matches!(grid, Err(e) if e == refused));
     Ok(())
 }
 
 fn must_refuse_a_bounded_one(rt: &impl Abort, alloc: Global) -> Result<(), Fail> {
     let refused = GridError::IncompatibleDimensionality(IncompatibleDimensionalityError::new(2, 1));
     let grid = RegularBoundedChunkGrid::new(alloc, numbers(alloc, &[8])?, sizes(alloc, &[4, 4])?);
-    assert!(rt; matches!(grid, Err(e) if e == refused));
+    must(rt, matches!(grid, Err(e) if e == refused));
     Ok(())
 }
 
@@ -349,7 +365,10 @@ fn chunk_shapes_of_another_length(rt: HostRuntime) -> Result<(), Fail> {
     must_refuse_a_regular_one(&rt, alloc)?;
     must_refuse_a_bounded_one(&rt, alloc)?;
     let grid = RectangularChunkGrid::new(alloc, numbers(alloc, &[8])?, Vec::new(alloc));
-    assert!(rt; matches!(grid, Err(GridError::IncompatibleDimensionality(_))));
+    must(
+        &rt,
+        matches!(grid, Err(GridError::IncompatibleDimensionality(_))),
+    );
     Ok(())
 }
 
@@ -410,8 +429,8 @@ fn a_million(alloc: Global) -> Result<SizeList, Fail> {
 }
 
 fn must_be_a_million(rt: &impl Abort, list: &SizeList) {
-    assert_eq!(rt; list.sizes().len(), 1000000);
-    assert_eq!(rt; list.end(), 1999999);
+    must_eq(rt, list.sizes().len(), 1000000);
+    must_eq(rt, list.end(), 1999999);
 }
 
 fn must_find_its_chunk(
@@ -424,7 +443,7 @@ fn must_find_its_chunk(
         .chunks_in_array_subset(alloc, &region(alloc, &[first], &[2])?)?
         .ok_or("covered")?;
     let chunk = grid.subset(alloc, met.start())?.ok_or("there")?;
-    assert!(rt; chunk.start().first() <= Some(&first));
+    must(rt, chunk.start().first() <= Some(&first));
     Ok(())
 }
 
@@ -443,7 +462,10 @@ fn a_million_listed_sizes(rt: HostRuntime) -> Result<(), Fail> {
 
 fn must_refuse_one_range(rt: &impl Abort, alloc: Global, grid: &ChunkGrid) {
     let refused = GridError::IncompatibleDimensionality(IncompatibleDimensionalityError::new(1, 2));
-    assert!(rt; matches!(grid.chunks_subset(alloc, &[0..1]), Err(e) if e == refused));
+    must(
+        rt,
+        matches!(grid.chunks_subset(alloc, &[0..1]), Err(e) if e == refused),
+    );
 }
 
 #[test]

@@ -1,4 +1,5 @@
 //! Codecs that make an array of an array: the shapes that they make, with ample memory.
+use crate::checks::{must, must_eq, must_for};
 use std::alloc::Global;
 use std::num::NonZeroU64;
 use std::process::Abort;
@@ -45,10 +46,10 @@ fn must_have_shape(
     expected: &[u64],
 ) -> Result<(), Fail> {
     let made = codec.encoded_shape(alloc, shape)?.ok_or("a shape")?;
-    assert_eq!(rt; made.as_slice(), expected);
+    must_eq(rt, made.as_slice(), expected);
     let copy = codec.try_clone(alloc)?;
     let made = copy.encoded_shape(alloc, shape)?.ok_or("a shape")?;
-    assert_eq!(rt; made.as_slice(), expected);
+    must_eq(rt, made.as_slice(), expected);
     Ok(())
 }
 
@@ -58,7 +59,7 @@ fn must_not_take(
     codec: &ArrayToArrayCodec,
     shape: &[u64],
 ) -> Result<(), Fail> {
-    assert!(rt; codec.encoded_shape(alloc, shape)?.is_none(), "{shape:?}");
+    must_for(rt, shape, codec.encoded_shape(alloc, shape)?.is_none());
     Ok(())
 }
 
@@ -118,7 +119,7 @@ fn a_reshape_names_sizes_products_and_what_is_left(rt: HostRuntime) -> Result<()
 
 fn must_be_no_reshape(rt: &impl Abort, alloc: Global, entries: &[Entry]) -> Result<(), Fail> {
     let made = ReshapeCodec::new(alloc, entries_of(alloc, entries)?)?;
-    assert!(rt; made.is_none());
+    must(rt, made.is_none());
     Ok(())
 }
 
@@ -142,11 +143,11 @@ fn must_be_entries(rt: &impl Abort, entries: &[ReshapeExtent]) {
         ReshapeExtent::Rest,
     ] = entries
     else {
-        assert!(rt; false, "three entries");
+        must_for(rt, "three entries", false);
         return;
     };
-    assert_eq!(rt; size.get(), 5);
-    assert_eq!(rt; dimensions.as_slice(), [1, 0].as_slice());
+    must_eq(rt, size.get(), 5);
+    must_eq(rt, dimensions.as_slice(), [1, 0].as_slice());
 }
 
 #[test]
@@ -164,9 +165,9 @@ fn entries_are_what_was_given(rt: HostRuntime) -> Result<(), Fail> {
 fn an_order_is_what_was_given(rt: HostRuntime) -> Result<(), Fail> {
     let alloc = rt.alloc();
     let codec = TransposeCodec::new(alloc, vec![in alloc; 2u64, 0, 1]?)?.ok_or("an order")?;
-    assert_eq!(rt; codec.order(), [2, 0, 1].as_slice());
+    must_eq(&rt, codec.order(), [2, 0, 1].as_slice());
     let copy = codec.try_clone(alloc)?;
-    assert_eq!(rt; copy.order(), [2, 0, 1].as_slice());
+    must_eq(&rt, copy.order(), [2, 0, 1].as_slice());
     Ok(())
 }
 
@@ -201,7 +202,7 @@ fn must_go_through(
     expected: &[u64],
 ) -> Result<(), Fail> {
     let made = encoded_shape(alloc, codecs, shape)?.ok_or("a shape")?;
-    assert_eq!(rt; made.as_slice(), expected);
+    must_eq(rt, made.as_slice(), expected);
     Ok(())
 }
 

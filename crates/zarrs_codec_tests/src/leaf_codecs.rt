@@ -1,4 +1,5 @@
 //! The codecs that make bytes of cells, byte for byte, with ample memory.
+use crate::checks::must;
 use crate::tests::{must_encode, must_not_decode, type_of};
 use std::alloc::Global;
 use std::process::Abort;
@@ -57,15 +58,15 @@ fn must_not_fit(
     let (chain, data_type) = (chain_of(alloc, codec), type_of(alloc, name)?);
     let size = data_type.element_size().ok_or("a size")?;
     let zero = FillValue::new(vec![in alloc; 0u8; size]?);
-    assert!(rt; zero.is_value_of(&data_type));
+    must(rt, zero.is_value_of(&data_type));
     let (shape, data) = ([count], ArrayBytes::from_flen(cells));
     let number = zarrs_subset::element_count(&shape).ok_or("a count")?;
-    assert!(rt; number < 100 && size < 100);
-    assert!(rt; data.validate(&data_type, number));
-    assert!(rt; !chain.fits(alloc, &data_type, &shape)?);
+    must(rt, number < 100 && size < 100);
+    must(rt, data.validate(&data_type, number));
+    must(rt, !chain.fits(alloc, &data_type, &shape)?);
     let options = CodecOptions::default();
     let made = chain.encode(alloc, &data, &data_type, &zero, &shape, &options);
-    assert!(rt; made.is_err_and(|error| error == CodecError::DoesNotFit));
+    must(rt, made.is_err_and(|error| error == CodecError::DoesNotFit));
     must_not_decode(rt, alloc, &chain, &data_type, &shape, &[])
 }
 
@@ -141,9 +142,15 @@ fn without_an_endian_only_single_bytes_and_raw_cells_fit(rt: HostRuntime) -> Res
 
 #[test]
 fn an_endian_is_what_was_given(rt: HostRuntime) {
-    assert!(&rt; BytesCodec::big().endian() == Some(zarrs_codec::Endianness::Big));
-    assert!(&rt; BytesCodec::little().endian() == Some(zarrs_codec::Endianness::Little));
-    assert!(&rt; BytesCodec::new(None).endian().is_none());
+    must(
+        &rt,
+        BytesCodec::big().endian() == Some(zarrs_codec::Endianness::Big),
+    );
+    must(
+        &rt,
+        BytesCodec::little().endian() == Some(zarrs_codec::Endianness::Little),
+    );
+    must(&rt, BytesCodec::new(None).endian().is_none());
 }
 
 #[test]

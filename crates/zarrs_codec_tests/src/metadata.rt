@@ -1,4 +1,5 @@
 //! The metadata of codecs and chains, with ample memory.
+use crate::checks::{must, must_eq, must_for};
 use crate::strings::{must_encode_strings, strings};
 use crate::tests::{must_encode, type_of};
 use serde_json::Value;
@@ -39,12 +40,12 @@ fn must_be_written(
     text: &str,
 ) -> Result<(), Fail> {
     let written = metadata.to_value(alloc)?.to_string(alloc)?;
-    assert_eq!(rt; written.as_str(), text);
+    must_eq(rt, written.as_str(), text);
     Ok(())
 }
 
 fn must_be_refused<T>(rt: &impl Abort, read: &Result<T, PluginCreateError>, text: &str) {
-    assert!(rt; matches!(read, Err(PluginCreateError::Other(_))), "{text}");
+    must_for(rt, text, matches!(read, Err(PluginCreateError::Other(_))));
 }
 
 /// The first text says an array-to-array codec, whose metadata is the second.
@@ -274,7 +275,7 @@ fn must_have_metadatas(
     texts: &[&str],
 ) -> Result<(), Fail> {
     let metadatas = chain.create_metadatas(alloc)?;
-    assert_eq!(rt; metadatas.len(), texts.len());
+    must_eq(rt, metadatas.len(), texts.len());
     for (metadata, text) in metadatas.iter().zip(texts) {
         must_be_written(rt, alloc, metadata, text)?;
     }
@@ -291,9 +292,12 @@ fn chain_of(rt: &impl Abort, alloc: Global, texts: &[&str]) -> Result<CodecChain
 }
 
 fn must_have_parts(rt: &impl Abort, chain: &CodecChain, array_codecs: usize) {
-    assert_eq!(rt; chain.array_to_array_codecs().len(), array_codecs);
-    assert!(rt; matches!(chain.array_to_bytes_codec(), ArrayToBytesCodec::Bytes(_)));
-    assert_eq!(rt; *chain.bytes_to_bytes_codecs(), BytesToBytesCodecs);
+    must_eq(rt, chain.array_to_array_codecs().len(), array_codecs);
+    must(
+        rt,
+        matches!(chain.array_to_bytes_codec(), ArrayToBytesCodec::Bytes(_)),
+    );
+    must_eq(rt, *chain.bytes_to_bytes_codecs(), BytesToBytesCodecs);
 }
 
 /// The texts say a chain of so many codecs before `bytes`, which swaps the last two dimensions of 2 rows of 3.
@@ -373,8 +377,11 @@ fn must_encode_texts(
     encoded: &[u8],
 ) -> Result<(), Fail> {
     let chain = chain_of(rt, alloc, texts)?;
-    assert_eq!(rt; chain.array_to_array_codecs().len(), array_codecs);
-    assert!(rt; matches!(chain.array_to_bytes_codec(), ArrayToBytesCodec::VlenUtf8(_)));
+    must_eq(rt, chain.array_to_array_codecs().len(), array_codecs);
+    must(
+        rt,
+        matches!(chain.array_to_bytes_codec(), ArrayToBytesCodec::VlenUtf8(_)),
+    );
     must_encode_strings(rt, alloc, &chain, &DataType::String, shape, cells, encoded)
 }
 
@@ -387,11 +394,12 @@ fn must_encode_byte_strings(
     encoded: &[u8],
 ) -> Result<(), Fail> {
     let chain = chain_of(rt, alloc, &[text])?;
-    assert!(rt;
+    must(
+        rt,
         matches!(
             chain.array_to_bytes_codec(),
             ArrayToBytesCodec::VlenBytes(_)
-        )
+        ),
     );
     must_encode_strings(rt, alloc, &chain, &DataType::Bytes, &[1], cells, encoded)
 }

@@ -1,4 +1,5 @@
 //! The codec `zarrs.optional`, byte for byte, with ample memory.
+use crate::checks::{must, must_eq};
 use crate::strings::strings;
 use crate::tests::{transpose, type_of};
 use std::alloc::Global;
@@ -66,8 +67,8 @@ fn data_of(alloc: Global, masks: &[&[u8]], bytes: &[u8]) -> Result<ArrayBytes<'s
 
 fn must_have_mask(rt: &impl Abort, data: &ArrayBytes<'_>, mask: &[u8]) {
     match data {
-        ArrayBytes::Optional(optional) => assert_eq!(rt; optional.mask(), mask),
-        _ => assert!(rt; false),
+        ArrayBytes::Optional(optional) => must_eq(rt, optional.mask(), mask),
+        _ => must(rt, false),
     }
 }
 
@@ -83,20 +84,20 @@ fn must_encode_in(
     encoded: &[u8],
 ) -> Result<(), Fail> {
     let null = FillValue::new(vec![in alloc; 0u8]?);
-    assert!(rt; null.is_value_of(data_type));
+    must(rt, null.is_value_of(data_type));
     let count = zarrs_subset::element_count(shape).ok_or("a count")?;
-    assert!(rt; count < 100 && data_type.cell_size() < 100);
-    assert!(rt; data.validate(data_type, count));
+    must(rt, count < 100 && data_type.cell_size() < 100);
+    must(rt, data.validate(data_type, count));
     let options = CodecOptions::default();
     let made = chain.encode(alloc, data, data_type, &null, shape, &options)?;
-    assert_eq!(rt; made.as_slice(), encoded);
+    must_eq(rt, made.as_slice(), encoded);
     let back = chain.decode(alloc, &made, data_type, &null, shape)?;
     must_have_mask(rt, &back, mask);
-    assert!(rt; back.validate(data_type, count));
+    must(rt, back.validate(data_type, count));
     let again = chain.encode(alloc, &back, data_type, &null, shape, &options)?;
-    assert_eq!(rt; again.as_slice(), encoded);
-    assert!(rt; chain.compact(alloc, &made, shape)?.is_none());
-    assert!(rt; chain.fits(alloc, data_type, shape)?);
+    must_eq(rt, again.as_slice(), encoded);
+    must(rt, chain.compact(alloc, &made, shape)?.is_none());
+    must(rt, chain.fits(alloc, data_type, shape)?);
     Ok(())
 }
 
@@ -257,7 +258,7 @@ fn must_nest(rt: &impl Abort, alloc: Global, lowest: u8, len: usize) -> Result<(
         chain_of(alloc, PACKED, numbers(), 64)?,
     );
     let encoded = nested(alloc, 64, lowest)?;
-    assert_eq!(rt; encoded.len(), len);
+    must_eq(rt, encoded.len(), len);
     let data = nested_data(alloc, 64, lowest)?;
     must_encode(rt, alloc, &chain, &data_type, &data, &[1], &encoded)
 }
@@ -277,10 +278,10 @@ fn must_not_decode(
     encoded: &[u8],
 ) -> Result<(), Fail> {
     let null = FillValue::new(vec![in alloc; 0u8]?);
-    assert!(rt; null.is_value_of(data_type));
-    assert!(rt; data_type.cell_size() < 100);
+    must(rt, null.is_value_of(data_type));
+    must(rt, data_type.cell_size() < 100);
     let made = chain.decode(alloc, encoded, data_type, &null, &[1]);
-    assert!(rt; made.is_err_and(|error| error == CodecError::DoesNotFit));
+    must(rt, made.is_err_and(|error| error == CodecError::DoesNotFit));
     Ok(())
 }
 
@@ -371,7 +372,7 @@ fn only_optional_types_of_what_the_data_codec_takes_fit(rt: HostRuntime) -> Resu
     let chain = chain_of(alloc, PACKED, numbers(), 1)?;
     for (name, depth) in ROWS {
         let data_type = optional_type(alloc, name, *depth)?;
-        assert!(rt; !chain.fits(alloc, &data_type, &[1])?);
+        must(&rt, !chain.fits(alloc, &data_type, &[1])?);
     }
     Ok(())
 }

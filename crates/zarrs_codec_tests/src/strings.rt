@@ -1,4 +1,5 @@
 //! Chains that end with `vlen-utf8` or `vlen-bytes`, byte for byte, with ample memory.
+use crate::checks::{must, must_eq, must_for};
 use crate::tests::transpose;
 use std::alloc::Global;
 use std::borrow::CowSlice;
@@ -53,10 +54,10 @@ pub(crate) fn strings(
 pub(crate) fn must_be_same(rt: &impl Abort, left: &ArrayBytes<'_>, right: &ArrayBytes<'_>) {
     match (left, right) {
         (ArrayBytes::Variable(left), ArrayBytes::Variable(right)) => {
-            assert_eq!(rt; left.bytes(), right.bytes());
-            assert_eq!(rt; left.offsets().as_slice(), right.offsets().as_slice());
+            must_eq(rt, left.bytes(), right.bytes());
+            must_eq(rt, left.offsets().as_slice(), right.offsets().as_slice());
         }
-        _ => assert!(rt; false, "byte strings"),
+        _ => must_for(rt, "byte strings", false),
     }
 }
 
@@ -71,17 +72,17 @@ pub(crate) fn must_encode_strings(
     encoded: &[u8],
 ) -> Result<(), Fail> {
     let empty = FillValue::new(Vec::new(alloc));
-    assert!(rt; empty.is_value_of(data_type));
+    must(rt, empty.is_value_of(data_type));
     let count = zarrs_subset::element_count(shape).ok_or("a count")?;
-    assert!(rt; count < 100);
-    assert!(rt; cells.validate(data_type, count));
+    must(rt, count < 100);
+    must(rt, cells.validate(data_type, count));
     let options = CodecOptions::default();
     let made = chain.encode(alloc, cells, data_type, &empty, shape, &options)?;
-    assert_eq!(rt; made.as_slice(), encoded);
+    must_eq(rt, made.as_slice(), encoded);
     let back = chain.decode(alloc, &made, data_type, &empty, shape)?;
     must_be_same(rt, &back, cells);
-    assert!(rt; chain.compact(alloc, &made, shape)?.is_none());
-    assert!(rt; chain.fits(alloc, data_type, shape)?);
+    must(rt, chain.compact(alloc, &made, shape)?.is_none());
+    must(rt, chain.fits(alloc, data_type, shape)?);
     Ok(())
 }
 
@@ -149,12 +150,13 @@ fn must_not_be_one_cell(
     encoded: &[u8],
 ) {
     let empty = FillValue::new(Vec::new(alloc));
-    assert!(rt; empty.is_value_of(data_type));
-    assert_eq!(rt; data_type.cell_size(), 1);
+    must(rt, empty.is_value_of(data_type));
+    must_eq(rt, data_type.cell_size(), 1);
     let made = chain.decode(alloc, encoded, data_type, &empty, &[1]);
-    assert!(rt;
+    must_for(
+        rt,
+        encoded,
         made.is_err_and(|error| error == CodecError::DoesNotFit),
-        "{encoded:?}"
     );
 }
 
@@ -207,12 +209,12 @@ fn must_not_take(
     cells: &ArrayBytes<'_>,
 ) -> Result<(), Fail> {
     let fill = FillValue::new(Vec::from_slice(alloc, fill)?);
-    assert!(rt; fill.is_value_of(data_type));
-    assert!(rt; cells.validate(data_type, 2));
-    assert!(rt; !chain.fits(alloc, data_type, &[2])?);
+    must(rt, fill.is_value_of(data_type));
+    must(rt, cells.validate(data_type, 2));
+    must(rt, !chain.fits(alloc, data_type, &[2])?);
     let options = CodecOptions::default();
     let made = chain.encode(alloc, cells, data_type, &fill, &[2], &options);
-    assert!(rt; made.is_err_and(|error| error == CodecError::DoesNotFit));
+    must(rt, made.is_err_and(|error| error == CodecError::DoesNotFit));
     Ok(())
 }
 

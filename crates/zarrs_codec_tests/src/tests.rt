@@ -1,4 +1,5 @@
 //! Chains that end with `bytes`, byte for byte, with ample memory.
+use crate::checks::{must, must_eq};
 use std::alloc::Global;
 use std::process::Abort;
 use std::test::Fail;
@@ -61,8 +62,8 @@ pub(crate) fn type_of(alloc: Global, name: &str) -> Result<DataType, Fail> {
 
 fn must_hold(rt: &impl Abort, data: &ArrayBytes<'_>, bytes: &[u8]) {
     match data {
-        ArrayBytes::Fixed(held) => assert_eq!(rt; held.as_slice(), bytes),
-        _ => assert!(rt; false),
+        ArrayBytes::Fixed(held) => must_eq(rt, held.as_slice(), bytes),
+        _ => must(rt, false),
     }
 }
 
@@ -78,18 +79,18 @@ pub(crate) fn must_encode(
 ) -> Result<(), Fail> {
     let size = data_type.element_size().ok_or("a size")?;
     let zero = FillValue::new(vec![in alloc; 0u8; size]?);
-    assert!(rt; zero.is_value_of(data_type));
+    must(rt, zero.is_value_of(data_type));
     let data = ArrayBytes::from_flen(cells);
     let count = zarrs_subset::element_count(shape).ok_or("a count")?;
-    assert!(rt; count < 100 && size < 100);
-    assert!(rt; data.validate(data_type, count));
+    must(rt, count < 100 && size < 100);
+    must(rt, data.validate(data_type, count));
     let options = CodecOptions::default();
     let made = chain.encode(alloc, &data, data_type, &zero, shape, &options)?;
-    assert_eq!(rt; made.as_slice(), encoded);
+    must_eq(rt, made.as_slice(), encoded);
     let back = chain.decode(alloc, &made, data_type, &zero, shape)?;
     must_hold(rt, &back, cells);
-    assert!(rt; chain.compact(alloc, &made, shape)?.is_none());
-    assert!(rt; chain.fits(alloc, data_type, shape)?);
+    must(rt, chain.compact(alloc, &made, shape)?.is_none());
+    must(rt, chain.fits(alloc, data_type, shape)?);
     Ok(())
 }
 
@@ -273,7 +274,7 @@ fn must_not_fit(
     shape: &[u64],
 ) -> Result<(), Fail> {
     let chain = chain_of(alloc, stages)?;
-    assert!(rt; !chain.fits(alloc, data_type, shape)?);
+    must(rt, !chain.fits(alloc, data_type, shape)?);
     Ok(())
 }
 
@@ -291,7 +292,7 @@ fn must_not_compact(
 ) -> Result<(), Fail> {
     let chain = chain_of(alloc, stages)?;
     let made = chain.compact(alloc, &[1], shape);
-    assert!(rt; made.is_err_and(|error| error == CodecError::DoesNotFit));
+    must(rt, made.is_err_and(|error| error == CodecError::DoesNotFit));
     Ok(())
 }
 
@@ -319,7 +320,7 @@ fn a_list_that_is_no_order_is_not_taken(rt: HostRuntime) -> Result<(), Fail> {
     ];
     for order in LISTS {
         let order = Vec::from_slice(alloc, order)?;
-        assert!(rt; TransposeCodec::new(alloc, order)?.is_none());
+        must(&rt, TransposeCodec::new(alloc, order)?.is_none());
     }
     Ok(())
 }
@@ -335,11 +336,11 @@ pub(crate) fn must_not_decode(
 ) -> Result<(), Fail> {
     let size = data_type.element_size().ok_or("a size")?;
     let zero = FillValue::new(vec![in alloc; 0u8; size]?);
-    assert!(rt; zero.is_value_of(data_type));
+    must(rt, zero.is_value_of(data_type));
     let count = zarrs_subset::element_count(shape).ok_or("a count")?;
-    assert!(rt; count < 100 && size < 100);
+    must(rt, count < 100 && size < 100);
     let made = chain.decode(alloc, encoded, data_type, &zero, shape);
-    assert!(rt; made.is_err_and(|error| error == CodecError::DoesNotFit));
+    must(rt, made.is_err_and(|error| error == CodecError::DoesNotFit));
     Ok(())
 }
 
@@ -380,18 +381,24 @@ fn bytes_of_another_length_and_bools_above_one_do_not_decode(rt: HostRuntime) ->
 #[test]
 fn options_are_what_was_set(rt: HostRuntime) {
     let options = CodecOptions::default();
-    assert!(rt; !options.store_empty_chunks() && !options.experimental_partial_encoding());
+    must(
+        &rt,
+        !options.store_empty_chunks() && !options.experimental_partial_encoding(),
+    );
     let mut chosen = options.with_store_empty_chunks(true);
     chosen.set_experimental_partial_encoding(true);
-    assert!(rt; chosen.store_empty_chunks() && chosen.experimental_partial_encoding());
+    must(
+        &rt,
+        chosen.store_empty_chunks() && chosen.experimental_partial_encoding(),
+    );
     chosen.set_store_empty_chunks(false);
     let partial = options.with_experimental_partial_encoding(true);
-    assert_eq!(rt; chosen, partial);
-    assert_eq!(rt; CodecSpecificOptions::default(), CodecSpecificOptions);
+    must_eq(&rt, chosen, partial);
+    must_eq(&rt, CodecSpecificOptions::default(), CodecSpecificOptions);
 }
 
 fn must_read(rt: &impl Abort, alloc: Global, error: &CodecError, text: &str) -> Result<(), Fail> {
-    assert_eq!(rt; format!(in alloc; "{error}")?.as_str(), text);
+    must_eq(rt, format!(in alloc; "{error}")?.as_str(), text);
     Ok(())
 }
 

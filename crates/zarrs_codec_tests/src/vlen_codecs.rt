@@ -1,4 +1,5 @@
 //! The codecs `vlen-utf8` and `vlen-bytes`, byte for byte, with ample memory.
+use crate::checks::{must, must_eq, must_for};
 use crate::strings::{must_be_same, strings};
 use std::alloc::Global;
 use std::process::Abort;
@@ -7,7 +8,7 @@ use zarrs_codec_leaf::{CodecError, VlenBytesCodec, VlenUtf8Codec};
 use zarrs_data_type::{ArrayBytes, DataType};
 
 fn must_be_bytes(rt: &impl Abort, made: &[u8], encoded: &[u8]) {
-    assert_eq!(rt; made, encoded);
+    must_eq(rt, made, encoded);
 }
 
 /// The texts encode to these bytes, which decode to the texts.
@@ -104,17 +105,19 @@ fn numbers_are_little_endian(rt: HostRuntime) -> Result<(), Fail> {
 
 fn must_not_be_texts(rt: &impl Abort, alloc: Global, count: u64, encoded: &[u8]) {
     let made = VlenUtf8Codec.decode(alloc, encoded, &DataType::String, count);
-    assert!(rt;
+    must_for(
+        rt,
+        encoded,
         made.is_err_and(|error| error == CodecError::DoesNotFit),
-        "{encoded:?}"
     );
 }
 
 fn must_not_be_byte_strings(rt: &impl Abort, alloc: Global, count: u64, encoded: &[u8]) {
     let made = VlenBytesCodec.decode(alloc, encoded, &DataType::Bytes, count);
-    assert!(rt;
+    must_for(
+        rt,
+        encoded,
         made.is_err_and(|error| error == CodecError::DoesNotFit),
-        "{encoded:?}"
     );
 }
 
@@ -165,7 +168,7 @@ fn foreign_bytes_are_no_byte_strings(rt: HostRuntime) {
 }
 
 fn must_not_fit(rt: &impl Abort, made: &Result<Vec<u8>, CodecError>) {
-    assert!(rt; matches!(made, Err(CodecError::DoesNotFit)));
+    must(rt, matches!(made, Err(CodecError::DoesNotFit)));
 }
 
 /// Neither codec takes the data, which is one cell of the type.
@@ -184,8 +187,8 @@ fn must_take_neither(
 }
 
 fn must_take(rt: &impl Abort, data_type: &DataType, texts: bool, byte_strings: bool) {
-    assert_eq!(rt; VlenUtf8Codec.takes(data_type), texts);
-    assert_eq!(rt; VlenBytesCodec.takes(data_type), byte_strings);
+    must_eq(rt, VlenUtf8Codec.takes(data_type), texts);
+    must_eq(rt, VlenBytesCodec.takes(data_type), byte_strings);
 }
 
 #[test]
@@ -198,6 +201,9 @@ fn each_codec_takes_its_type_alone(rt: HostRuntime) -> Result<(), Fail> {
     let optional = DataType::Optional(Box::new(alloc, DataType::String)?);
     must_take(&rt, &optional, false, false);
     let made = VlenUtf8Codec.decode(alloc, &[0, 0, 0, 0], &DataType::Bytes, 0);
-    assert!(rt; made.is_err_and(|error| error == CodecError::DoesNotFit));
+    must(
+        &rt,
+        made.is_err_and(|error| error == CodecError::DoesNotFit),
+    );
     Ok(())
 }

@@ -1,4 +1,5 @@
 //! The codec `zarrs.vlen`, byte for byte, with ample memory.
+use crate::checks::{must, must_eq, must_for};
 use crate::strings::{must_be_same, strings};
 use std::alloc::Global;
 use std::process::Abort;
@@ -7,7 +8,7 @@ use zarrs_codec_leaf::{CodecError, VlenCodec};
 use zarrs_data_type::{ArrayBytes, DataType};
 
 fn must_be_bytes(rt: &impl Abort, made: &[u8], encoded: &[u8]) {
-    assert_eq!(rt; made, encoded);
+    must_eq(rt, made, encoded);
 }
 
 /// The strings encode to these bytes, which decode to the strings.
@@ -95,9 +96,10 @@ fn must_not_decode(
     encoded: &[u8],
 ) {
     let made = VlenCodec.decode(alloc, encoded, data_type, count);
-    assert!(rt;
+    must_for(
+        rt,
+        encoded,
         made.is_err_and(|error| error == CodecError::DoesNotFit),
-        "{encoded:?}"
     );
 }
 
@@ -196,11 +198,11 @@ fn texts_are_utf_8(rt: HostRuntime) -> Result<(), Fail> {
 }
 
 fn must_not_fit(rt: &impl Abort, made: &Result<Vec<u8>, CodecError>) {
-    assert!(rt; matches!(made, Err(CodecError::DoesNotFit)));
+    must(rt, matches!(made, Err(CodecError::DoesNotFit)));
 }
 
 fn must_take(rt: &impl Abort, data_type: &DataType, takes: bool) {
-    assert_eq!(rt; VlenCodec.takes(data_type), takes);
+    must_eq(rt, VlenCodec.takes(data_type), takes);
 }
 
 #[test]

@@ -1,4 +1,5 @@
 //! Bools, texts and byte strings as cells, with ample memory.
+use crate::checks::{must, must_eq, must_for};
 use std::alloc::{AllocError, Global};
 use std::borrow::CowSlice;
 use std::num::NonZeroUsize;
@@ -17,18 +18,18 @@ fn strings(bytes: &'static [u8], offsets: &'static [usize]) -> Result<ArrayBytes
 fn must_be_same(rt: &impl Abort, left: &ArrayBytes<'_>, right: &ArrayBytes<'_>) {
     match (left, right) {
         (ArrayBytes::Fixed(left), ArrayBytes::Fixed(right)) => {
-            assert_eq!(rt; left.as_slice(), right.as_slice());
+            must_eq(rt, left.as_slice(), right.as_slice());
         }
         (ArrayBytes::Variable(left), ArrayBytes::Variable(right)) => {
-            assert_eq!(rt; left.bytes(), right.bytes());
-            assert_eq!(rt; left.offsets().as_slice(), right.offsets().as_slice());
+            must_eq(rt, left.bytes(), right.bytes());
+            must_eq(rt, left.offsets().as_slice(), right.offsets().as_slice());
         }
-        _ => assert!(rt; false, "data of another kind"),
+        _ => must_for(rt, "data of another kind", false),
     }
 }
 
 fn must_be_the_list<T: PartialEq>(rt: &impl Abort, read: &[T], elements: &[T]) {
-    assert!(rt; read == elements);
+    must(rt, read == elements);
 }
 
 /// The elements are these cells, and are read from them.
@@ -53,7 +54,10 @@ fn must_be_refused<T: Element>(
     elements: &[T],
 ) {
     let made = T::to_array_bytes(alloc, data_type, elements);
-    assert!(rt; made.is_err_and(|e| e == ElementError::IncompatibleElementType));
+    must(
+        rt,
+        made.is_err_and(|e| e == ElementError::IncompatibleElementType),
+    );
 }
 
 fn must_not_be_read<T: ElementOwned>(
@@ -63,7 +67,10 @@ fn must_not_be_read<T: ElementOwned>(
     data: &ArrayBytes<'_>,
 ) {
     let read = <T as ElementOwned>::from_array_bytes(alloc, data_type, data);
-    assert!(rt; read.is_err_and(|e| e == ElementError::IncompatibleElementType));
+    must(
+        rt,
+        read.is_err_and(|e| e == ElementError::IncompatibleElementType),
+    );
 }
 
 #[test]
@@ -116,10 +123,10 @@ fn texts_are_byte_strings_of_utf8(rt: HostRuntime) -> Result<(), Fail> {
 fn must_hold_strings(rt: &impl Abort, data: &ArrayBytes<'_>, count: usize, len: usize) {
     match data {
         ArrayBytes::Variable(strings) => {
-            assert_eq!(rt; strings.len(), count);
-            assert_eq!(rt; strings.bytes().len(), len);
+            must_eq(rt, strings.len(), count);
+            must_eq(rt, strings.bytes().len(), len);
         }
-        _ => assert!(rt; false, "data of another kind"),
+        _ => must_for(rt, "data of another kind", false),
     }
 }
 
@@ -128,7 +135,7 @@ fn a_million_texts_become_cells(rt: HostRuntime) -> Result<(), Fail> {
     let texts = vec![in rt.alloc(); "ab"; 1_000_000]?;
     let made = <&str>::to_array_bytes(rt.alloc(), &DataType::String, &texts)?;
     must_hold_strings(&rt, &made, 1_000_000, 2_000_000);
-    assert!(rt; made.validate(&DataType::String, 1_000_000));
+    must(&rt, made.validate(&DataType::String, 1_000_000));
     Ok(())
 }
 
@@ -225,7 +232,10 @@ fn must_answer<T: ElementOwned + PartialEq>(
 }
 
 fn must_not_answer<T: FromArrayBytes>(rt: &impl Abort, read: &Result<T, ElementError>) {
-    assert!(rt; matches!(read, Err(ElementError::IncompatibleElementType)));
+    must(
+        rt,
+        matches!(read, Err(ElementError::IncompatibleElementType)),
+    );
 }
 
 /// The texts of these cells are read as they are.

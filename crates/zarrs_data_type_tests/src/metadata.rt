@@ -1,4 +1,5 @@
 //! The metadata of types and of fill values, with ample memory.
+use crate::checks::{must, must_eq, must_for};
 use serde_json::Value;
 use std::alloc::{AllocError, Global};
 use std::num::NonZeroUsize;
@@ -21,7 +22,7 @@ fn metadata_of(alloc: Global, text: &str) -> Result<MetadataV3, Fail> {
 
 fn must_read(rt: &impl Abort, alloc: Global, text: &str, data_type: &DataType) -> Result<(), Fail> {
     let read = DataType::from_metadata(alloc, &metadata_of(alloc, text)?)?;
-    assert!(rt; read == *data_type, "{text}");
+    must_for(rt, text, read == *data_type);
     Ok(())
 }
 
@@ -35,15 +36,16 @@ fn must_write(
         .metadata(alloc)?
         .to_value(alloc)?
         .to_string(alloc)?;
-    assert_eq!(rt; written.as_str(), text);
+    must_eq(rt, written.as_str(), text);
     must_read(rt, alloc, text, data_type)
 }
 
 fn must_refuse_type(rt: &impl Abort, alloc: Global, text: &str) -> Result<(), Fail> {
     let refused = DataType::from_metadata(alloc, &metadata_of(alloc, text)?);
-    assert!(rt;
+    must_for(
+        rt,
+        text,
         matches!(&refused, Err(PluginCreateError::Other(_))),
-        "{text}"
     );
     Ok(())
 }
@@ -137,10 +139,10 @@ fn must_fill(
     bytes: &[u8],
 ) -> Result<(), Fail> {
     let fill_value = data_type.fill_value_v3(alloc, &fill_metadata(alloc, text)?)?;
-    assert!(rt; fill_value.as_bytes() == bytes, "{text}");
+    must_for(rt, text, fill_value.as_bytes() == bytes);
     let written = data_type.metadata_fill_value(alloc, &fill_value)?;
     let written = written.to_value(alloc)?.to_string(alloc)?;
-    assert_eq!(rt; written.as_str(), text);
+    must_eq(rt, written.as_str(), text);
     Ok(())
 }
 
@@ -151,9 +153,10 @@ fn must_refuse_fill(
     text: &str,
 ) -> Result<(), Fail> {
     let refused = data_type.fill_value_v3(alloc, &fill_metadata(alloc, text)?);
-    assert!(rt;
+    must_for(
+        rt,
+        text,
         matches!(&refused, Err(DataTypeFillValueMetadataError::Invalid)),
-        "{text}"
     );
     Ok(())
 }
@@ -255,7 +258,7 @@ fn must_have_no_metadata(
     fill_value: &FillValue,
 ) {
     let refused = data_type.metadata_fill_value(alloc, fill_value);
-    assert!(rt; matches!(&refused, Err(DataTypeFillValueError::Invalid)));
+    must(rt, matches!(&refused, Err(DataTypeFillValueError::Invalid)));
 }
 
 #[test]

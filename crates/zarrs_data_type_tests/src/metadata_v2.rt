@@ -1,4 +1,5 @@
 //! Types and fill values as the metadata of Zarr V2 says them, with ample memory.
+use crate::checks::{must_eq, must_for};
 use crate::metadata::{fill_metadata, type_of};
 use std::alloc::Global;
 use std::process::Abort;
@@ -13,15 +14,16 @@ fn dtype_of(alloc: Global, text: &str) -> Result<DataTypeMetadataV2, Fail> {
 
 fn must_read(rt: &impl Abort, alloc: Global, dtype: &str, name: &str) -> Result<(), Fail> {
     let read = DataType::from_metadata_v2(alloc, &dtype_of(alloc, dtype)?)?;
-    assert_eq!(rt; read.name_v3(alloc)?.as_str(), name, "{dtype}");
+    must_eq(rt, read.name_v3(alloc)?.as_str(), name);
     Ok(())
 }
 
 fn must_refuse_type(rt: &impl Abort, alloc: Global, dtype: &str) -> Result<(), Fail> {
     let refused = DataType::from_metadata_v2(alloc, &dtype_of(alloc, dtype)?);
-    assert!(rt;
+    must_for(
+        rt,
+        dtype,
         matches!(&refused, Err(PluginCreateError::Other(_))),
-        "{dtype}"
     );
     Ok(())
 }
@@ -72,7 +74,7 @@ fn must_fill(
     bytes: &[u8],
 ) -> Result<(), Fail> {
     let fill_value = data_type.fill_value_v2(alloc, &fill_metadata(alloc, text)?)?;
-    assert_eq!(rt; fill_value.as_bytes(), bytes, "{text}");
+    must_eq(rt, fill_value.as_bytes(), bytes);
     Ok(())
 }
 
@@ -83,9 +85,10 @@ fn must_refuse_fill(
     text: &str,
 ) -> Result<(), Fail> {
     let refused = data_type.fill_value_v2(alloc, &fill_metadata(alloc, text)?);
-    assert!(rt;
+    must_for(
+        rt,
+        text,
         matches!(&refused, Err(DataTypeFillValueMetadataError::Invalid)),
-        "{text}"
     );
     Ok(())
 }
@@ -201,7 +204,7 @@ fn must_be_read(rt: &impl Abort, alloc: Global, name: &str, bytes: &[u8]) -> Res
     written_fill_value_is_read(&data_type, &fill_value);
     let metadata = data_type.metadata_fill_value(alloc, &fill_value)?;
     let read = data_type.fill_value_v3(alloc, &metadata)?;
-    assert!(rt; read == fill_value, "{name}");
+    must_for(rt, name, read == fill_value);
     Ok(())
 }
 

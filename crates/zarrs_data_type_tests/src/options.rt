@@ -1,4 +1,5 @@
 //! Optional values as cells, with ample memory.
+use crate::checks::{must, must_eq, must_for};
 use std::alloc::Global;
 use std::process::Abort;
 use std::test::Fail;
@@ -14,16 +15,16 @@ fn must_hold(rt: &impl Abort, data: &ArrayBytes<'_>, masks: &[&[u8]], bytes: &[u
     for mask in masks {
         match level {
             ArrayBytes::Optional(held) => {
-                assert_eq!(rt; held.mask(), *mask);
+                must_eq(rt, held.mask(), *mask);
                 level = held.data();
             }
-            _ => assert!(rt; false, "data under fewer masks"),
+            _ => must_for(rt, "data under fewer masks", false),
         }
     }
     match level {
-        ArrayBytes::Fixed(held) => assert_eq!(rt; held.as_slice(), bytes),
-        ArrayBytes::Variable(held) => assert_eq!(rt; held.bytes(), bytes),
-        ArrayBytes::Optional(_) => assert!(rt; false, "data under more masks"),
+        ArrayBytes::Fixed(held) => must_eq(rt, held.as_slice(), bytes),
+        ArrayBytes::Variable(held) => must_eq(rt, held.bytes(), bytes),
+        ArrayBytes::Optional(_) => must_for(rt, "data under more masks", false),
     }
 }
 
@@ -42,7 +43,7 @@ fn must_become<T: Element>(
 }
 
 fn must_be_the_list<T: PartialEq>(rt: &impl Abort, read: &[T], elements: &[T]) {
-    assert!(rt; read == elements);
+    must(rt, read == elements);
 }
 
 /// The values are read from the data that they become.
@@ -65,7 +66,10 @@ fn must_be_refused<T: Element>(
     elements: &[T],
 ) {
     let made = T::to_array_bytes(alloc, data_type, elements);
-    assert!(rt; made.is_err_and(|e| e == ElementError::IncompatibleElementType));
+    must(
+        rt,
+        made.is_err_and(|e| e == ElementError::IncompatibleElementType),
+    );
 }
 
 fn must_not_be_read<T: ElementOwned>(
@@ -75,7 +79,10 @@ fn must_not_be_read<T: ElementOwned>(
     data: &ArrayBytes<'_>,
 ) {
     let read = <T as ElementOwned>::from_array_bytes(alloc, data_type, data);
-    assert!(rt; read.is_err_and(|e| e == ElementError::IncompatibleElementType));
+    must(
+        rt,
+        read.is_err_and(|e| e == ElementError::IncompatibleElementType),
+    );
 }
 
 #[test]

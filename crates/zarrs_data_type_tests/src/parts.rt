@@ -1,5 +1,6 @@
 //! Parts of data by boxes, with ample memory.
 
+use crate::checks::{must_eq, must_for};
 use std::alloc::Global;
 use std::borrow::CowSlice;
 use std::process::Abort;
@@ -55,11 +56,11 @@ fn masked(
 
 /// The bytes under each flag that is set are these; the others belong to no cell.
 fn must_have_bytes_under(rt: &impl Abort, mask: &[u8], bytes: &[u8], expected: &[u8]) {
-    assert_eq!(rt; bytes.len(), expected.len());
-    assert_eq!(rt; mask.len(), expected.len());
+    must_eq(rt, bytes.len(), expected.len());
+    must_eq(rt, mask.len(), expected.len());
     for k in 0..expected.len() {
         if k < mask.len() && k < bytes.len() && mask[k] == 1 {
-            assert_eq!(rt; bytes[k], expected[k]);
+            must_eq(rt, bytes[k], expected[k]);
         }
     }
 }
@@ -69,12 +70,12 @@ fn must_be_optional(
     left: &ArrayBytesOptional<'_>,
     right: &ArrayBytesOptional<'_>,
 ) {
-    assert_eq!(rt; left.mask(), right.mask());
+    must_eq(rt, left.mask(), right.mask());
     match (left.data(), right.data()) {
         (ArrayBytes::Fixed(bytes), ArrayBytes::Fixed(expected)) => {
             must_have_bytes_under(rt, left.mask(), bytes.as_slice(), expected.as_slice());
         }
-        _ => assert!(rt; false, "inner data of another kind"),
+        _ => must_for(rt, "inner data of another kind", false),
     }
 }
 
@@ -82,16 +83,16 @@ fn must_be_optional(
 fn must_be_same(rt: &impl Abort, left: &ArrayBytes<'_>, right: &ArrayBytes<'_>) {
     match (left, right) {
         (ArrayBytes::Fixed(left), ArrayBytes::Fixed(right)) => {
-            assert_eq!(rt; left.as_slice(), right.as_slice());
+            must_eq(rt, left.as_slice(), right.as_slice());
         }
         (ArrayBytes::Variable(left), ArrayBytes::Variable(right)) => {
-            assert_eq!(rt; left.bytes(), right.bytes());
-            assert_eq!(rt; left.offsets().as_slice(), right.offsets().as_slice());
+            must_eq(rt, left.bytes(), right.bytes());
+            must_eq(rt, left.offsets().as_slice(), right.offsets().as_slice());
         }
         (ArrayBytes::Optional(left), ArrayBytes::Optional(right)) => {
             must_be_optional(rt, left, right);
         }
-        _ => assert!(rt; false, "data of another kind"),
+        _ => must_for(rt, "data of another kind", false),
     }
 }
 
@@ -186,7 +187,7 @@ fn must_lie(
 ) -> Result<(), Fail> {
     let inner = box_at(alloc, inner)?;
     let outer = box_at(alloc, outer)?;
-    assert_eq!(rt; lies_in_box(&inner, &outer), expected);
+    must_eq(rt, lies_in_box(&inner, &outer), expected);
     Ok(())
 }
 

@@ -6,6 +6,7 @@ ghost use Rattle.zarrs_data_type.specs.Cells.{HasCells};
 ghost use Rattle.zarrs_data_type.specs.Kind.{kind, cell_size};
 ghost use Rattle.zarrs_data_type.specs.Present.{flag_set};
 
+use crate::checks::{must, must_eq, must_for};
 use crate::metadata::type_of;
 use std::alloc::{AllocError, Global};
 use std::borrow::CowSlice;
@@ -21,7 +22,7 @@ use zarrs_data_type::{
 };
 
 fn must_be(rt: &impl Abort, fact: bool, what: &str) {
-    assert!(rt; fact, "{what}");
+    must_for(rt, what, fact);
 }
 
 fn must_have_size(
@@ -30,10 +31,10 @@ fn must_have_size(
     element: Option<usize>,
     cell: Option<usize>,
 ) {
-    assert_eq!(rt; data_type.element_size(), element);
-    assert_eq!(rt; data_type.fixed_size(), cell);
-    assert_eq!(rt; data_type.is_fixed(), cell.is_some());
-    assert_eq!(rt; data_type.cell_size(), cell.unwrap_or(1));
+    must_eq(rt, data_type.element_size(), element);
+    must_eq(rt, data_type.fixed_size(), cell);
+    must_eq(rt, data_type.is_fixed(), cell.is_some());
+    must_eq(rt, data_type.cell_size(), cell.unwrap_or(1));
 }
 
 fn optional(alloc: Global, inner: DataType) -> Result<DataType, AllocError> {
@@ -58,12 +59,12 @@ fn types_have_sizes(rt: HostRuntime) -> Result<(), Fail> {
 }
 
 fn must_copy(rt: &impl Abort, alloc: Global, data_type: &DataType) -> Result<(), Fail> {
-    assert!(rt; data_type.try_clone(alloc)? == *data_type);
+    must(rt, data_type.try_clone(alloc)? == *data_type);
     Ok(())
 }
 
 fn must_differ(rt: &impl Abort, one: &DataType, other: &DataType) {
-    assert!(rt; *one != *other);
+    must(rt, *one != *other);
 }
 
 #[test]
@@ -93,14 +94,14 @@ fn types_are_compared_with_their_parts(rt: HostRuntime) -> Result<(), Fail> {
 }
 
 fn must_fill(rt: &impl Abort, data_type: &DataType, fill: &[u8], is: bool) {
-    assert_eq!(rt; data_type.is_fill(fill), is, "{fill:?}");
+    must_eq(rt, data_type.is_fill(fill), is);
 }
 
 /// The bytes are those of a fill value, and are lent again.
 fn must_be_value(rt: &impl Abort, alloc: Global, name: &str, bytes: &[u8]) -> Result<(), Fail> {
     let value = FillValue::new(Vec::from_slice(alloc, bytes)?);
-    assert!(rt; value.is_value_of(&type_of(alloc, name)?));
-    assert_eq!(rt; value.as_bytes(), bytes);
+    must(rt, value.is_value_of(&type_of(alloc, name)?));
+    must_eq(rt, value.as_bytes(), bytes);
     Ok(())
 }
 
@@ -136,7 +137,7 @@ fn must_validate(
     count: u64,
     is: bool,
 ) {
-    assert_eq!(rt; data.validate(data_type, count), is);
+    must_eq(rt, data.validate(data_type, count), is);
 }
 
 #[test]
@@ -178,10 +179,10 @@ fn a_bool_is_zero_or_one(rt: HostRuntime) {
 }
 
 fn must_cut(rt: &impl Abort, offsets: &'static [usize], is: bool) {
-    assert_eq!(rt;
+    must_eq(
+        rt,
         ArrayBytesOffsets::new(CowSlice::Borrowed(offsets)).is_ok(),
         is,
-        "{offsets:?}"
     );
 }
 
@@ -200,11 +201,11 @@ fn strings(bytes: &'static [u8], offsets: &'static [usize]) -> Result<ArrayBytes
 }
 
 fn must_hold(rt: &impl Abort, strings: &ArrayBytesVariableLength<'_>, expected: &[&[u8]]) {
-    assert_eq!(rt; strings.len(), expected.len());
+    must_eq(rt, strings.len(), expected.len());
     let count = strings.len();
     for index in 0..count {
         if index < expected.len() && index < strings.len() {
-            assert!(rt; strings.get(index) == expected[index]);
+            must(rt, strings.get(index) == expected[index]);
         }
     }
 }
@@ -321,13 +322,13 @@ fn must_repeat(
         (kind data_type.now) fill.now) < 2 ^ 64 }
 {
     let made = ArrayBytes::new_fill_value(alloc, data_type, 3, fill)?;
-    assert!(rt; made.validate(data_type, 3));
+    must(rt, made.validate(data_type, 3));
     if made.validate(data_type, 3) {
-        assert!(rt; made.is_fill_value(data_type, fill));
-        assert!(rt; !made.is_fill_value(data_type, other));
+        must(rt, made.is_fill_value(data_type, fill));
+        must(rt, !made.is_fill_value(data_type, other));
     }
     let owned = made.into_owned(alloc)?;
-    assert!(rt; owned.validate(data_type, 3));
+    must(rt, owned.validate(data_type, 3));
     Ok(())
 }
 
@@ -368,7 +369,7 @@ fn fill_values_are_repeated(rt: HostRuntime) -> Result<(), Fail> {
 }
 
 fn must_say(rt: &impl Abort, text: &str, expected: &str) {
-    assert_eq!(rt; text, expected);
+    must_eq(rt, text, expected);
 }
 
 #[test]
@@ -391,8 +392,8 @@ fn errors_say_what_is_wrong(rt: HostRuntime) -> Result<(), Fail> {
 
 fn must_have_bytes(rt: &impl Abort, data: &ArrayBytes<'_>, expected: &[u8]) {
     match data {
-        ArrayBytes::Fixed(bytes) => assert!(rt; bytes.as_slice() == expected),
-        _ => assert!(rt; false, "cells of one size"),
+        ArrayBytes::Fixed(bytes) => must(rt, bytes.as_slice() == expected),
+        _ => must_for(rt, "cells of one size", false),
     }
 }
 
@@ -403,7 +404,10 @@ fn must_be_refused<T: Element>(
     elements: &[T],
 ) -> Result<(), Fail> {
     let made = T::to_array_bytes(alloc, data_type, elements);
-    assert!(rt; made.is_err_and(|e| e == ElementError::IncompatibleElementType));
+    must(
+        rt,
+        made.is_err_and(|e| e == ElementError::IncompatibleElementType),
+    );
     Ok(())
 }
 
@@ -414,7 +418,10 @@ fn must_not_be_read<T: ElementOwned>(
     data: &ArrayBytes<'_>,
 ) {
     let read = T::from_array_bytes(alloc, data_type, data);
-    assert!(rt; read.is_err_and(|e| e == ElementError::IncompatibleElementType));
+    must(
+        rt,
+        read.is_err_and(|e| e == ElementError::IncompatibleElementType),
+    );
 }
 
 fn must_be_listed<T: ElementOwned + PartialEq>(
@@ -426,9 +433,9 @@ fn must_be_listed<T: ElementOwned + PartialEq>(
 ) -> Result<(), Fail> {
     let made = T::to_array_bytes(alloc, data_type, elements)?;
     must_have_bytes(rt, &made, bytes);
-    assert!(rt; made.validate(data_type, elements.len() as u64));
+    must(rt, made.validate(data_type, elements.len() as u64));
     let read = T::from_array_bytes(alloc, data_type, &made)?;
-    assert!(rt; read.as_slice() == elements);
+    must(rt, read.as_slice() == elements);
     Ok(())
 }
 
@@ -481,13 +488,25 @@ fn numbers_of_another_type_are_refused(rt: HostRuntime) -> Result<(), Fail> {
 fn must_convert(rt: &impl Abort, alloc: Global, bytes: &[u8], numbers: &[i16]) -> Result<(), Fail>
     requires { length bytes.now % 2 ≡ 0 }
 {
-    assert!(rt; convert_from_bytes_slice::<i16>(alloc, bytes)?.as_slice() == numbers);
+    must(
+        rt,
+        convert_from_bytes_slice::<i16>(alloc, bytes)?.as_slice() == numbers,
+    );
     let owned = Vec::from_slice(alloc, bytes)?;
-    assert!(rt; transmute_from_bytes_vec::<i16>(alloc, owned)?.as_slice() == numbers);
-    assert!(rt; convert_to_bytes_vec(alloc, numbers)?.as_slice() == bytes);
-    assert!(rt; transmute_to_bytes(alloc, numbers)?.as_slice() == bytes);
+    must(
+        rt,
+        transmute_from_bytes_vec::<i16>(alloc, owned)?.as_slice() == numbers,
+    );
+    must(
+        rt,
+        convert_to_bytes_vec(alloc, numbers)?.as_slice() == bytes,
+    );
+    must(rt, transmute_to_bytes(alloc, numbers)?.as_slice() == bytes);
     let owned = Vec::from_slice(alloc, numbers)?;
-    assert!(rt; transmute_to_bytes_vec(alloc, owned)?.as_slice() == bytes);
+    must(
+        rt,
+        transmute_to_bytes_vec(alloc, owned)?.as_slice() == bytes,
+    );
     Ok(())
 }
 
@@ -523,7 +542,7 @@ fn must_spread(
 {
     let made = ArrayBytes::from_present(alloc, inner, Vec::from_slice(alloc, mask)?, present)?;
     let whole = optional(alloc, inner.try_clone(alloc)?)?;
-    assert!(rt; made.validate(&whole, mask.len() as u64));
+    must(rt, made.validate(&whole, mask.len() as u64));
     Ok(())
 }
 
@@ -542,7 +561,7 @@ fn present_cells_go_under_a_mask(rt: HostRuntime) -> Result<(), Fail> {
 }
 
 fn must_fill_bytes(rt: &impl Abort, value: &FillValue, expected: &[u8]) {
-    assert!(rt; value.as_bytes() == expected);
+    must(rt, value.as_bytes() == expected);
 }
 
 #[test]

@@ -1,4 +1,5 @@
 //! Types, their names and their cells, with ample memory.
+use crate::checks::must_eq;
 use std::alloc::{AllocError, Global};
 use std::num::NonZeroUsize;
 use std::process::Abort;
@@ -15,7 +16,7 @@ fn must_have_name(
     data_type: &DataType,
     name: &str,
 ) -> Result<(), Fail> {
-    assert_eq!(rt; data_type.name_v3(alloc)?.as_str(), name);
+    must_eq(rt, data_type.name_v3(alloc)?.as_str(), name);
     Ok(())
 }
 
@@ -40,7 +41,7 @@ fn types_have_the_names_of_the_standard(rt: HostRuntime) -> Result<(), Fail> {
 }
 
 fn must_be_element(rt: &impl Abort, data_type: &DataType, bytes: &[u8], is: bool) {
-    assert_eq!(rt; data_type.is_element(bytes), is, "{bytes:?}");
+    must_eq(rt, data_type.is_element(bytes), is);
 }
 
 #[test]
@@ -59,7 +60,7 @@ fn a_cell_is_of_its_type(rt: HostRuntime) -> Result<(), Fail> {
 }
 
 fn must_say(rt: &impl Abort, text: &str, expected: &str) {
-    assert_eq!(rt; text, expected);
+    must_eq(rt, text, expected);
 }
 
 #[test]

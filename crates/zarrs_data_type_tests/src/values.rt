@@ -1,15 +1,22 @@
 //! Lists of values that become array bytes, and values that become shapes and names.
+use crate::checks::{must, must_for};
 use std::alloc::Global;
 use std::process::Abort;
 use std::test::Fail;
 use zarrs_data_type::{ArrayBytes, DataType, ElementError, IntoArrayBytes, IntoField};
 
 fn must_hold(rt: &impl Abort, made: &Result<ArrayBytes<'_>, ElementError>, bytes: &[u8]) {
-    assert!(rt; matches!(made, Ok(ArrayBytes::Fixed(held)) if held.as_slice() == bytes));
+    must(
+        rt,
+        matches!(made, Ok(ArrayBytes::Fixed(held)) if held.as_slice() == bytes),
+    );
 }
 
 fn must_be_refused(rt: &impl Abort, made: &Result<ArrayBytes<'_>, ElementError>) {
-    assert!(rt; matches!(made, Err(ElementError::IncompatibleElementType)));
+    must(
+        rt,
+        matches!(made, Err(ElementError::IncompatibleElementType)),
+    );
 }
 
 #[test]
@@ -42,11 +49,12 @@ fn lists_become_array_bytes(rt: HostRuntime) -> Result<(), Fail> {
 /// Texts that are lent become the bytes and the offsets of strings.
 fn must_be_texts(rt: &impl Abort, made: Result<ArrayBytes<'_>, ElementError>) {
     let Ok(ArrayBytes::Variable(strings)) = made else {
-        assert!(rt; false, "no texts");
+        must_for(rt, "no texts", false);
         return;
     };
-    assert!(rt;
-        strings.len() == 2 && strings.get(0) == b"ab".as_slice() && strings.get(1).is_empty()
+    must(
+        rt,
+        strings.len() == 2 && strings.get(0) == b"ab".as_slice() && strings.get(1).is_empty(),
     );
 }
 
@@ -58,11 +66,11 @@ fn lent_texts_become_array_bytes(rt: HostRuntime) {
 }
 
 fn must_be_the_shape(rt: &impl Abort, shape: &[u64]) {
-    assert!(rt; shape == [3, 4].as_slice());
+    must(rt, shape == [3, 4].as_slice());
 }
 
 fn must_be_the_name(rt: &impl Abort, name: &Option<String>) {
-    assert!(rt; matches!(name, Some(text) if text.as_str() == "x"));
+    must(rt, matches!(name, Some(text) if text.as_str() == "x"));
 }
 
 #[test]
@@ -93,6 +101,6 @@ fn texts_become_names(rt: HostRuntime) -> Result<(), Fail> {
     must_be_the_name(&rt, &some);
     let none: Option<&str> = None;
     let unnamed: Option<String> = none.into_field(alloc)?;
-    assert!(rt; unnamed.is_none());
+    must(&rt, unnamed.is_none());
     Ok(())
 }

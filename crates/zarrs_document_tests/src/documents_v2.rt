@@ -1,5 +1,6 @@
 //! V2 documents as other programs write them, their conversion, each public call with ample memory,
 //! and the shapes that are refused.
+use crate::checks::{must, must_eq, must_for};
 use serde_json::{Map, Value, json};
 use std::alloc::{AllocError, Global};
 use std::num::NonZeroU64;
@@ -46,7 +47,7 @@ fn must_write(
     text: &str,
 ) -> Result<(), Fail> {
     let written = document.to_value(alloc)?.to_string(alloc)?;
-    assert_eq!(rt; written.as_str(), text);
+    must_eq(rt, written.as_str(), text);
     Ok(())
 }
 
@@ -54,7 +55,7 @@ fn must_write(
 fn must_read_again(rt: &impl Abort, alloc: Global, document: &ArrayMetadataV2) -> Result<(), Fail> {
     let bytes = document.to_vec_pretty(alloc)?;
     let again = ArrayMetadataV2::from_slice(alloc, bytes.as_slice())?;
-    assert!(rt; again.attributes.is_empty());
+    must(rt, again.attributes.is_empty());
     let bytes = document.attributes_to_vec_pretty(alloc)?;
     let attributes = attributes_from_slice(alloc, bytes.as_slice())?;
     let again = again.with_attributes(attributes);
@@ -87,14 +88,14 @@ fn with_members(
 }
 
 fn must_be_small(rt: &impl Abort, document: &ArrayMetadataV2) {
-    assert!(rt; document.shape.as_slice() == [4, 2].as_slice());
-    assert_eq!(rt; document.chunks.len(), 2);
-    assert_eq!(rt; document.dtype.as_str(), "<u2");
-    assert!(rt; document.compressor.is_null());
-    assert!(rt; document.filters.is_null());
-    assert!(rt; document.order == ArrayMetadataV2Order::C);
-    assert!(rt; document.dimension_separator == ChunkKeySeparator::Dot);
-    assert!(rt; document.attributes.is_empty());
+    must(rt, document.shape.as_slice() == [4, 2].as_slice());
+    must_eq(rt, document.chunks.len(), 2);
+    must_eq(rt, document.dtype.as_str(), "<u2");
+    must(rt, document.compressor.is_null());
+    must(rt, document.filters.is_null());
+    must(rt, document.order == ArrayMetadataV2Order::C);
+    must(rt, document.dimension_separator == ChunkKeySeparator::Dot);
+    must(rt, document.attributes.is_empty());
 }
 
 #[test]
@@ -130,9 +131,10 @@ fn attributes_and_other_members(rt: HostRuntime) -> Result<(), Fail> {
 
 fn must_refuse_value(rt: &impl Abort, alloc: Global, value: Value, name: &str) {
     let refused = ArrayMetadataV2::from_value(alloc, value);
-    assert!(rt;
+    must_for(
+        rt,
+        name,
         matches!(refused, Err(MetadataError::InvalidShape)),
-        "{name}"
     );
 }
 
@@ -185,9 +187,9 @@ fn members_that_are_missing(rt: HostRuntime) -> Result<(), Fail> {
 
 fn must_refuse_bytes(rt: &impl Abort, alloc: Global, bytes: &[u8]) {
     let document = ArrayMetadataV2::from_slice(alloc, bytes);
-    assert!(rt; matches!(document, Err(MetadataError::InvalidShape)));
+    must(rt, matches!(document, Err(MetadataError::InvalidShape)));
     let attributes = attributes_from_slice(alloc, bytes);
-    assert!(rt; matches!(attributes, Err(MetadataError::InvalidShape)));
+    must(rt, matches!(attributes, Err(MetadataError::InvalidShape)));
 }
 
 #[test]
@@ -234,7 +236,7 @@ fn must_convert(
 ) -> Result<(), Fail> {
     let converted = array_metadata_v2_to_v3(alloc, document)?;
     let written = converted.to_value(alloc)?.to_string(alloc)?;
-    assert_eq!(rt; written.as_str(), text);
+    must_eq(rt, written.as_str(), text);
     Ok(())
 }
 
@@ -292,22 +294,24 @@ fn must_have_type(
     fill_value: &str,
     codec: &str,
 ) -> Result<(), Fail> {
-    assert_eq!(rt; document.data_type.name(), name);
-    assert_eq!(rt;
+    must_eq(rt, document.data_type.name(), name);
+    must_eq(
+        rt,
         document
             .fill_value
             .to_value(alloc)?
             .to_string(alloc)?
             .as_str(),
-        fill_value
+        fill_value,
     );
-    assert_eq!(rt; document.codecs.len(), 1);
-    assert_eq!(rt;
+    must_eq(rt, document.codecs.len(), 1);
+    must_eq(
+        rt,
         document.codecs[0]
             .to_value(alloc)?
             .to_string(alloc)?
             .as_str(),
-        codec
+        codec,
     );
     Ok(())
 }
@@ -384,7 +388,7 @@ fn must_have_no_type(rt: &impl Abort, alloc: Global, dtype: &'static str) -> Res
         refused,
         Some(ArrayMetadataV2ToV3Error::UnsupportedDataType(_))
     );
-    assert!(rt; is_type, "{dtype}");
+    must_for(rt, dtype, is_type);
     Ok(())
 }
 
@@ -427,7 +431,7 @@ fn must_have_no_fill(
         refused,
         Some(ArrayMetadataV2ToV3Error::InvalidFillValueMetadata { .. })
     );
-    assert!(rt; is_fill, "{dtype} {fill}");
+    must_for(rt, fill, is_fill);
     Ok(())
 }
 
@@ -466,7 +470,7 @@ fn must_have_no_codecs(
         refused,
         Some(ArrayMetadataV2ToV3Error::UnsupportedZarrV2Array(_))
     );
-    assert!(rt; is_codec);
+    must(rt, is_codec);
     Ok(())
 }
 
@@ -504,7 +508,7 @@ fn must_print(
     text: &str,
 ) -> Result<(), Fail> {
     let refused = refusal(alloc, changes)?.ok_or("it is converted")?;
-    assert_eq!(rt; refused.to_string(alloc)?.as_str(), text);
+    must_eq(rt, refused.to_string(alloc)?.as_str(), text);
     Ok(())
 }
 
@@ -536,9 +540,10 @@ fn chunks_of_other_dimensions_are_converted(rt: HostRuntime) -> Result<(), Fail>
     let alloc = rt.alloc();
     let document = converted(alloc, &[("chunks", "[2]"), ("order", "\"F\"")])?;
     let grid = document.chunk_grid.to_value(alloc)?.to_string(alloc)?;
-    assert_eq!(rt;
+    must_eq(
+        &rt,
         grid.as_str(),
-        "{\"configuration\":{\"chunk_shape\":[2]},\"name\":\"regular\"}"
+        "{\"configuration\":{\"chunk_shape\":[2]},\"name\":\"regular\"}",
     );
     Ok(())
 }
@@ -551,7 +556,7 @@ fn must_be_version(
 ) -> Result<(), Fail> {
     let value = metadata.to_value(alloc)?;
     let found = value.get("zarr_format").and_then(Value::as_u64);
-    assert!(rt; found == Some(version));
+    must(rt, found == Some(version));
     Ok(())
 }
 
@@ -575,7 +580,7 @@ fn metadata_of_both_versions(rt: HostRuntime) -> Result<(), Fail> {
     must_be_version(&rt, alloc, &ArrayMetadata::from(made(alloc)?), 2)?;
     let neither = json!(in alloc; {"zarr_format": 4})?;
     let refused = ArrayMetadata::from_value(alloc, neither);
-    assert!(rt; matches!(refused, Err(MetadataError::InvalidShape)));
+    must(&rt, matches!(refused, Err(MetadataError::InvalidShape)));
     Ok(())
 }
 
@@ -586,8 +591,8 @@ fn must_be_order(
     text: &str,
 ) -> Result<(), AllocError> {
     let value = order.to_value(alloc)?;
-    assert_eq!(rt; value.as_str(), Some(text));
-    assert!(rt; ArrayMetadataV2Order::from_value(&value) == Some(order));
+    must_eq(rt, value.as_str(), Some(text));
+    must(rt, ArrayMetadataV2Order::from_value(&value) == Some(order));
     Ok(())
 }
 
@@ -596,6 +601,9 @@ fn orders(rt: HostRuntime) -> Result<(), Fail> {
     let alloc = rt.alloc();
     must_be_order(&rt, alloc, ArrayMetadataV2Order::C, "C")?;
     must_be_order(&rt, alloc, ArrayMetadataV2Order::F, "F")?;
-    assert!(rt; ArrayMetadataV2Order::from_value(&Value::Null).is_none());
+    must(
+        &rt,
+        ArrayMetadataV2Order::from_value(&Value::Null).is_none(),
+    );
     Ok(())
 }

@@ -1,5 +1,6 @@
 //! V3 documents as other programs write them, each public call with ample memory, and the shapes
 //! that are refused.
+use crate::checks::{must, must_eq, must_for};
 use serde_json::{Map, Value, json};
 use std::alloc::{AllocError, Global};
 use std::process::Abort;
@@ -28,7 +29,7 @@ fn must_write(
     text: &str,
 ) -> Result<(), Fail> {
     let written = document.to_value(alloc)?.to_string(alloc)?;
-    assert_eq!(rt; written.as_str(), text);
+    must_eq(rt, written.as_str(), text);
     Ok(())
 }
 
@@ -48,7 +49,7 @@ fn must_read_as(rt: &impl Abort, alloc: Global, text: &str, written: &str) -> Re
 
 fn must_refuse(rt: &impl Abort, alloc: Global, bytes: &[u8]) {
     let refused = ArrayMetadataV3::from_slice(alloc, bytes);
-    assert!(rt; matches!(refused, Err(MetadataError::InvalidShape)));
+    must(rt, matches!(refused, Err(MetadataError::InvalidShape)));
 }
 
 /// The members of the smallest document.
@@ -65,20 +66,22 @@ fn changed(alloc: Global, name: &str, text: &str) -> Result<Value, Fail> {
 
 fn must_refuse_member(rt: &impl Abort, alloc: Global, name: &str, text: &str) -> Result<(), Fail> {
     let refused = ArrayMetadataV3::from_value(alloc, changed(alloc, name, text)?);
-    assert!(rt;
+    must_for(
+        rt,
+        text,
         matches!(refused, Err(MetadataError::InvalidShape)),
-        "{name} {text}"
     );
     Ok(())
 }
 
 fn must_refuse_without(rt: &impl Abort, alloc: Global, name: &str) -> Result<(), Fail> {
     let mut members = small(alloc)?;
-    assert!(rt; members::take_member(&mut members, name).is_some());
+    must(rt, members::take_member(&mut members, name).is_some());
     let refused = ArrayMetadataV3::from_value(alloc, Value::Object(members));
-    assert!(rt;
+    must_for(
+        rt,
+        name,
         matches!(refused, Err(MetadataError::InvalidShape)),
-        "{name}"
     );
     Ok(())
 }
@@ -128,19 +131,22 @@ fn the_example_of_the_core_specification(rt: HostRuntime) -> Result<(), Fail> {
 }
 
 fn must_have_members(rt: &impl Abort, document: &ArrayMetadataV3) {
-    assert!(rt; document.shape.as_slice() == [8].as_slice());
-    assert_eq!(rt; document.data_type.name(), "bool");
-    assert_eq!(rt; document.chunk_grid.name(), "regular");
-    assert_eq!(rt; document.chunk_key_encoding.name(), "default");
-    assert!(rt; matches!(document.fill_value, FillValueMetadata::Bool(false)));
-    assert_eq!(rt; document.codecs.len(), 1);
+    must(rt, document.shape.as_slice() == [8].as_slice());
+    must_eq(rt, document.data_type.name(), "bool");
+    must_eq(rt, document.chunk_grid.name(), "regular");
+    must_eq(rt, document.chunk_key_encoding.name(), "default");
+    must(
+        rt,
+        matches!(document.fill_value, FillValueMetadata::Bool(false)),
+    );
+    must_eq(rt, document.codecs.len(), 1);
 }
 
 fn must_lack_the_rest(rt: &impl Abort, document: &ArrayMetadataV3) {
-    assert!(rt; document.attributes.is_empty());
-    assert!(rt; document.storage_transformers.is_empty());
-    assert!(rt; document.dimension_names.is_none());
-    assert!(rt; document.additional_fields.is_empty());
+    must(rt, document.attributes.is_empty());
+    must(rt, document.storage_transformers.is_empty());
+    must(rt, document.dimension_names.is_none());
+    must(rt, document.additional_fields.is_empty());
 }
 
 #[test]
@@ -277,9 +283,13 @@ fn must_be_field(
     value: &str,
     written: &str,
 ) -> Result<(), Fail> {
-    assert_eq!(rt; field.must_understand(), must_understand);
-    assert_eq!(rt; field.as_value().to_string(alloc)?.as_str(), value);
-    assert_eq!(rt; field.to_value(alloc)?.to_string(alloc)?.as_str(), written);
+    must_eq(rt, field.must_understand(), must_understand);
+    must_eq(rt, field.as_value().to_string(alloc)?.as_str(), value);
+    must_eq(
+        rt,
+        field.to_value(alloc)?.to_string(alloc)?.as_str(),
+        written,
+    );
     Ok(())
 }
 
@@ -313,11 +323,11 @@ fn fields_that_need_not_be_understood(rt: HostRuntime) -> Result<(), Fail> {
 }
 
 fn must_have_fields(rt: &impl Abort, document: &ArrayMetadataV3) {
-    assert_eq!(rt; document.additional_fields.len(), 2);
+    must_eq(rt, document.additional_fields.len(), 2);
     let proj = document.additional_fields.get("proj");
-    assert!(rt; proj.is_some_and(|field| !field.must_understand()));
+    must(rt, proj.is_some_and(|field| !field.must_understand()));
     let version = document.additional_fields.get("version");
-    assert!(rt; version.is_some_and(|field| field.must_understand()));
+    must(rt, version.is_some_and(|field| field.must_understand()));
 }
 
 #[test]
@@ -420,7 +430,7 @@ fn copies(rt: HostRuntime) -> Result<(), Fail> {
 
 fn must_hold(rt: &impl Abort, alloc: Global, text: &str, float: bool) -> Result<(), Fail> {
     let value = Value::from_str(alloc, text)?;
-    assert_eq!(rt; holds_float(&value), float, "{text}");
+    must_eq(rt, holds_float(&value), float);
     Ok(())
 }
 

@@ -2,6 +2,8 @@
 #![tactic(auto)]
 
 #[cfg(test)]
+mod checks;
+#[cfg(test)]
 mod documents_v2;
 #[cfg(test)]
 mod documents_v3;

@@ -1,4 +1,5 @@
 //! Comparisons of the stored bytes of two arrays, with ample memory and with stores that refuse.
+use crate::checks::must_for;
 use crate::steps::{EngineOver, MemoryEngine, Value, bytes_engine, no_chunk, region, store_of};
 use std::alloc::Global;
 use std::process::Abort;
@@ -83,13 +84,15 @@ fn is_answer(got: &Result<bool, ArrayError>, answer: Answer) -> bool {
 /// Each comparison must give its answer, whichever array comes first.
 fn must_answer(rt: &impl Abort, alloc: Global, a: &MemoryEngine, b: &MemoryEngine, rows: &[Row]) {
     for (row, (start, shape, answer)) in rows.iter().enumerate() {
-        assert!(rt;
+        must_for(
+            rt,
+            row,
             is_answer(&compare(alloc, a, b, start, shape), *answer),
-            "row {row}"
         );
-        assert!(rt;
+        must_for(
+            rt,
+            row,
             is_answer(&compare(alloc, b, a, start, shape), *answer),
-            "row {row}"
         );
     }
 }
@@ -104,7 +107,7 @@ fn must_answer_faulty(
 ) {
     for (row, (start, shape, answer)) in rows.iter().enumerate() {
         let got = compare_faulty(alloc, a, b, start, shape);
-        assert!(rt; is_answer(&got, *answer), "row {row}");
+        must_for(rt, row, is_answer(&got, *answer));
     }
 }
 

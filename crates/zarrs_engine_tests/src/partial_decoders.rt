@@ -1,4 +1,5 @@
 //! Reads of the parts of one chunk by its decoder, with ample memory and with a store that refuses.
+use crate::checks::{must, must_for};
 use crate::steps::{EngineOver, MemoryEngine, Value, bytes_engine, region, store_of};
 use std::alloc::Global;
 use std::process::Abort;
@@ -79,7 +80,7 @@ fn read(
 fn must_answer(rt: &impl Abort, alloc: Global, engine: &MemoryEngine, rows: &[Row]) {
     for (row, (indices, start, shape, answer)) in rows.iter().enumerate() {
         let got = read(alloc, engine, indices, start, shape);
-        assert!(rt; is_answer(&got, answer), "row {row}");
+        must_for(rt, row, is_answer(&got, answer));
     }
 }
 
@@ -148,12 +149,12 @@ fn must_be_answer(
     row: usize,
 ) {
     if let Answer::Cells(expected) = answer {
-        assert!(rt; got.is_ok(), "row {row}");
-        assert_eq!(rt; bytes, *expected, "row {row}");
+        must_for(rt, row, got.is_ok());
+        must_for(rt, row, bytes == *expected);
         return;
     }
-    assert!(rt; refuses(got, answer), "row {row}");
-    assert!(rt; bytes.iter().all(|byte| *byte == 8), "row {row}");
+    must_for(rt, row, refuses(got, answer));
+    must_for(rt, row, bytes.iter().all(|byte| *byte == 8));
 }
 
 fn must_read_into(rt: &impl Abort, alloc: Global, engine: &MemoryEngine, rows: &[Row]) {
@@ -185,9 +186,9 @@ fn exists(alloc: Global, engine: &MemoryEngine, index: u64) -> Result<bool, Arra
 
 /// A chunk is present if its key is, whatever its bytes are.
 fn must_exist(rt: &impl Abort, alloc: Global, engine: &MemoryEngine) -> Result<(), Fail> {
-    assert!(rt; !exists(alloc, engine, 0)?);
-    assert!(rt; exists(alloc, engine, 1)?);
-    assert!(rt; exists(alloc, engine, 2)?);
+    must(rt, !exists(alloc, engine, 0)?);
+    must(rt, exists(alloc, engine, 1)?);
+    must(rt, exists(alloc, engine, 2)?);
     Ok(())
 }
 
@@ -213,8 +214,8 @@ fn must_refuse(
     let part = region(alloc, &[1], &[2])?;
     let decoder = engine.partial_decoder(alloc, &[1])?;
     let got = decoder.partial_decode(alloc, &part, &CodecOptions::default());
-    assert!(rt; refuses(&got, &Answer::Faulty));
-    assert!(rt; refuses(&decoder.exists(alloc), &Answer::Faulty));
+    must(rt, refuses(&got, &Answer::Faulty));
+    must(rt, refuses(&decoder.exists(alloc), &Answer::Faulty));
     Ok(())
 }
 

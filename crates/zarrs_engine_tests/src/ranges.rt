@@ -1,4 +1,5 @@
 //! Calls that erase ranges of chunks, with ample memory and with a store that refuses.
+use crate::checks::{must_eq, must_for};
 use crate::steps::Answer::{Absent, Cells, Counts, Done, Faulty, NoChunk};
 use crate::steps::Step::{Count, EraseRange, Read, ReadIfPresent, Store};
 use crate::steps::{
@@ -89,11 +90,11 @@ fn faulty_engine(alloc: Global) -> Result<EngineOver<Fault<MemoryStore>>, Fail> 
 
 fn must_hold_two_keys(rt: &impl Abort, keys: &[StoreKey]) {
     let [one, two] = keys else {
-        assert!(rt; false, "two keys");
+        must_for(rt, "two keys", false);
         return;
     };
-    assert_eq!(rt; one.as_str(), "c/1");
-    assert_eq!(rt; two.as_str(), "c/2");
+    must_eq(rt, one.as_str(), "c/1");
+    must_eq(rt, two.as_str(), "c/2");
 }
 
 #[test]
@@ -108,7 +109,7 @@ fn a_range_is_erased_up_to_a_refusal(rt: HostRuntime) -> Result<(), Fail> {
     let replies = replay(alloc, &mut engine, &calls, &CodecOptions::default())?;
     must_be(&rt, &replies, ROWS);
     let storage = engine.into_storage();
-    assert_eq!(rt; storage.calls(), 2);
+    must_eq(&rt, storage.calls(), 2);
     must_hold_two_keys(&rt, &storage.into_inner().keys(alloc)?);
     Ok(())
 }

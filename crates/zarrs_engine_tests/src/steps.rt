@@ -1,4 +1,5 @@
 //! Tests as tables: each row is a call of an engine, and the answer that it must give.
+use crate::checks::{must_eq, must_for};
 use std::alloc::Global;
 use std::num::NonZeroU64;
 use std::process::Abort;
@@ -324,7 +325,7 @@ pub(crate) fn must_go_on(rt: &impl Abort, alloc: Global, engine: &mut MemoryEngi
             Ok(got) => is_answer(&got, wanted),
             Err(error) => is_refused(&error, wanted),
         };
-        assert!(rt; is_answered, "row {row}");
+        must_for(rt, row, is_answered);
     }
 }
 
@@ -352,8 +353,8 @@ pub(crate) fn must_go_on_in_list(
 
 /// The replies are the answers of the rows.
 pub(crate) fn must_be(rt: &impl Abort, replies: &[Reply], rows: &[Row]) {
-    assert_eq!(rt; replies.len(), rows.len());
+    must_eq(rt, replies.len(), rows.len());
     for (row, (reply, (_, wanted))) in replies.iter().zip(rows).enumerate() {
-        assert!(rt; is_reply(reply, wanted), "row {row}");
+        must_for(rt, row, is_reply(reply, wanted));
     }
 }

@@ -1,4 +1,5 @@
 //! Reads of regions into targets, with ample memory.
+use crate::checks::{must, must_eq, must_for};
 use crate::steps::{MemoryEngine, engine_over};
 use std::alloc::Global;
 use std::process::Abort;
@@ -64,7 +65,7 @@ fn optional_cells(alloc: Global) -> Result<MemoryEngine, Fail> {
 }
 
 fn must_be(rt: &impl Abort, got: &[u8], expected: &[u8]) {
-    assert_eq!(rt; got, expected);
+    must_eq(rt, got, expected);
 }
 
 /// A read that is refused leaves each byte of the parent.
@@ -76,12 +77,12 @@ fn must_be_answer(
     row: usize,
 ) {
     if let Answer::Parent(expected) = answer {
-        assert!(rt; got.is_ok(), "row {row}");
-        assert_eq!(rt; parent, *expected, "row {row}");
+        must_for(rt, row, got.is_ok());
+        must_for(rt, row, parent == *expected);
         return;
     }
-    assert!(rt; is_refused(got, answer), "row {row}");
-    assert!(rt; parent.iter().all(|byte| *byte == 9), "row {row}");
+    must_for(rt, row, is_refused(got, answer));
+    must_for(rt, row, parent.iter().all(|byte| *byte == 9));
 }
 
 fn is_refused(got: &Result<(), ArrayError>, answer: &Answer) -> bool {
@@ -243,7 +244,7 @@ fn must_not_take(
         &place,
     )?;
     let got = engine.retrieve_array_subset_into(alloc, &asked, &mut target);
-    assert!(rt; is_refused(&got, &Answer::Target));
+    must(rt, is_refused(&got, &Answer::Target));
     Ok(())
 }
 

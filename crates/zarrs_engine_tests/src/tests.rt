@@ -1,5 +1,6 @@
 //! Each call at concrete types with ample memory, and what no clause says: the texts of errors.
 
+use crate::checks::{must, must_eq};
 use crate::steps::Answer::{Absent, Cells, Counts, Done, Exhausted, NoChunk, Unfit};
 use crate::steps::Step::{Count, Erase, EraseRange, Put, Read, ReadIfPresent, Store, StoreAndKeep};
 use crate::steps::{
@@ -168,25 +169,26 @@ fn another_number_of_indices_is_refused(rt: HostRuntime) -> Result<(), Fail> {
 /// The parts are lent as they were given.
 fn must_lend(rt: &impl Abort, engine: &MemoryEngine) {
     layouts_are_lawful(engine);
-    assert_eq!(rt; engine.dimensionality(), 2);
-    assert_eq!(rt; engine.path().as_str(), "/");
-    assert!(rt; *engine.data_type() == DataType::UInt8);
-    assert!(rt;
+    must_eq(rt, engine.dimensionality(), 2);
+    must_eq(rt, engine.path().as_str(), "/");
+    must(rt, *engine.data_type() == DataType::UInt8);
+    must(
+        rt,
         matches!(
             engine.keys(),
             ChunkKeyEncoding::Default(ChunkKeySeparator::Slash)
-        )
+        ),
     );
-    assert_eq!(rt; engine.fill_value().as_bytes(), [7].as_slice());
+    must_eq(rt, engine.fill_value().as_bytes(), [7].as_slice());
     let _grid = engine.chunk_grid();
     let _chain = engine.chain();
 }
 
 /// The store has no key, and saw no writing call.
 fn must_be_new(rt: &impl Abort, alloc: Global, store: &MemoryStore) -> Result<(), Fail> {
-    assert_eq!(rt; store.keys(alloc)?.len(), 0);
-    assert_eq!(rt; store.calls(), 0);
-    assert_eq!(rt; store.failures(), 0);
+    must_eq(rt, store.keys(alloc)?.len(), 0);
+    must_eq(rt, store.calls(), 0);
+    must_eq(rt, store.failures(), 0);
     Ok(())
 }
 
@@ -255,7 +257,7 @@ fn laws_can_be_called(_rt: HostRuntime) {
 }
 
 fn must_print(rt: &impl Abort, alloc: Global, error: &ArrayError, text: &str) -> Result<(), Fail> {
-    assert_eq!(rt; error.to_string(alloc)?.as_str(), text);
+    must_eq(rt, error.to_string(alloc)?.as_str(), text);
     Ok(())
 }
 
@@ -284,11 +286,14 @@ fn errors_say_what_was_refused(rt: HostRuntime) -> Result<(), Fail> {
 #[test]
 fn refusals_of_lower_layers_keep_their_meaning(rt: HostRuntime) {
     let memory: ArrayError = StorageError::OutOfMemory.into();
-    assert!(rt; matches!(memory, ArrayError::OutOfMemory));
+    must(&rt, matches!(memory, ArrayError::OutOfMemory));
     let size: ArrayError = CodecError::SizeOverflow.into();
-    assert!(rt; matches!(size, ArrayError::SizeOverflow));
+    must(&rt, matches!(size, ArrayError::SizeOverflow));
     let unfit: ArrayError = CodecError::DoesNotFit.into();
-    assert!(rt; matches!(unfit, ArrayError::CodecError(CodecError::DoesNotFit)));
+    must(
+        &rt,
+        matches!(unfit, ArrayError::CodecError(CodecError::DoesNotFit)),
+    );
     let element: ArrayError = ElementError::IncompatibleElementType.into();
-    assert!(rt; matches!(element, ArrayError::ElementError(_)));
+    must(&rt, matches!(element, ArrayError::ElementError(_)));
 }

@@ -1,4 +1,5 @@
 //! What metadata of chunk key encodings is read, refused and written.
+use crate::checks::{must, must_eq};
 use serde_json::Value;
 use std::alloc::Global;
 use std::process::Abort;
@@ -50,14 +51,14 @@ fn metadata_that_is_read(rt: HostRuntime) -> Result<(), Fail> {
         ),
     ];
     for (text, key) in ROWS {
-        assert_eq!(rt; key_by(alloc, text)?.as_str(), *key, "{text}");
+        must_eq(&rt, key_by(alloc, text)?.as_str(), *key);
     }
     Ok(())
 }
 
 fn must_be_refused(rt: &impl Abort, alloc: Global, metadata: &MetadataV3) {
     let refused = ChunkKeyEncoding::from_metadata(alloc, metadata);
-    assert!(rt; matches!(&refused, Err(PluginCreateError::Other(_))));
+    must(rt, matches!(&refused, Err(PluginCreateError::Other(_))));
 }
 
 #[test]
@@ -92,7 +93,7 @@ fn must_be_written(
     text: &str,
 ) -> Result<(), Fail> {
     let value = encoding.metadata(alloc)?.to_value(alloc)?;
-    assert_eq!(rt; value.to_string(alloc)?.as_str(), text);
+    must_eq(rt, value.to_string(alloc)?.as_str(), text);
     Ok(())
 }
 
@@ -130,7 +131,10 @@ fn must_be_read_again(
     encoding: &ChunkKeyEncoding,
 ) -> Result<(), Fail> {
     let metadata = encoding.metadata(alloc)?;
-    assert!(rt; ChunkKeyEncoding::from_metadata(alloc, &metadata)? == *encoding);
+    must(
+        rt,
+        ChunkKeyEncoding::from_metadata(alloc, &metadata)? == *encoding,
+    );
     Ok(())
 }
 
@@ -150,10 +154,11 @@ fn text_of_a_refusal(rt: HostRuntime) -> Result<(), Fail> {
     let alloc = rt.alloc();
     let metadata = metadata_of(alloc, r#""hilbert""#)?;
     match ChunkKeyEncoding::from_metadata(alloc, &metadata) {
-        Ok(_) => assert!(rt; false),
-        Err(error) => assert_eq!(rt;
+        Ok(_) => must(&rt, false),
+        Err(error) => must_eq(
+            &rt,
             format!(in alloc; "{error}")?.as_str(),
-            "no chunk key encoding `hilbert` has this configuration"
+            "no chunk key encoding `hilbert` has this configuration",
         ),
     }
     Ok(())

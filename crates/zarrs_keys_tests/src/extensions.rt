@@ -1,4 +1,5 @@
 //! Extension points, lists of numbers and separators, both ways; and the texts of refusals.
+use crate::checks::{must, must_eq};
 use serde_json::{Map, Value, json};
 use std::alloc::Global;
 use std::process::Abort;
@@ -13,7 +14,11 @@ fn must_be_written(
     metadata: &MetadataV3,
     text: &str,
 ) -> Result<(), Fail> {
-    assert_eq!(rt; metadata.to_value(alloc)?.to_string(alloc)?.as_str(), text);
+    must_eq(
+        rt,
+        metadata.to_value(alloc)?.to_string(alloc)?.as_str(),
+        text,
+    );
     Ok(())
 }
 
@@ -22,10 +27,10 @@ fn read(alloc: Global, text: &str) -> Result<MetadataV3, Fail> {
 }
 
 fn must_be_plain(rt: &impl Abort, metadata: &MetadataV3, name: &str) {
-    assert_eq!(rt; metadata.name(), name);
-    assert!(rt; metadata.configuration().is_none());
-    assert!(rt; metadata.must_understand());
-    assert!(rt; metadata.has_only(&[]));
+    must_eq(rt, metadata.name(), name);
+    must(rt, metadata.configuration().is_none());
+    must(rt, metadata.must_understand());
+    must(rt, metadata.has_only(&[]));
 }
 
 #[test]
@@ -60,14 +65,15 @@ fn tiles(alloc: Global) -> Result<MetadataV3, Fail> {
 }
 
 fn must_have_tiles(rt: &impl Abort, metadata: &MetadataV3) {
-    assert_eq!(rt; metadata.name(), "default_suffix");
-    assert_eq!(rt;
+    must_eq(rt, metadata.name(), "default_suffix");
+    must_eq(
+        rt,
         metadata.member("suffix").and_then(Value::as_str),
-        Some(".tiff")
+        Some(".tiff"),
     );
-    assert!(rt; metadata.member("order").is_none());
-    assert!(rt; metadata.has_only(&["separator", "suffix"]));
-    assert!(rt; !metadata.has_only(&["separator"]));
+    must(rt, metadata.member("order").is_none());
+    must(rt, metadata.has_only(&["separator", "suffix"]));
+    must(rt, !metadata.has_only(&["separator"]));
 }
 
 #[test]
@@ -86,7 +92,7 @@ fn an_object_is_written_in_order_of_its_names(rt: HostRuntime) -> Result<(), Fai
 fn an_extension_that_need_not_be_understood(rt: HostRuntime) -> Result<(), Fail> {
     let alloc = rt.alloc();
     let flagged = read(alloc, "{\"must_understand\":false,\"name\":\"proj\"}")?;
-    assert!(rt; !flagged.must_understand());
+    must(&rt, !flagged.must_understand());
     must_be_written(
         &rt,
         alloc,
@@ -114,14 +120,14 @@ fn another_shape_is_refused(rt: HostRuntime) -> Result<(), Fail> {
     ];
     for text in TEXTS {
         let refused = MetadataV3::from_value(Value::from_str(alloc, text)?);
-        assert!(rt; matches!(&refused, Err(MetadataError::InvalidShape)));
+        must(&rt, matches!(&refused, Err(MetadataError::InvalidShape)));
     }
     Ok(())
 }
 
 fn must_list(rt: &impl Abort, alloc: Global, value: &Value, list: &[u64]) -> Result<(), Fail> {
     let read = numbers(alloc, value)?;
-    assert!(rt; read.is_some_and(|numbers| numbers.as_slice() == list));
+    must(rt, read.is_some_and(|numbers| numbers.as_slice() == list));
     Ok(())
 }
 
@@ -129,9 +135,10 @@ fn must_list(rt: &impl Abort, alloc: Global, value: &Value, list: &[u64]) -> Res
 fn lists_of_numbers(rt: HostRuntime) -> Result<(), Fail> {
     let alloc = rt.alloc();
     let written = numbers_value(alloc, &[0, 18446744073709551615])?;
-    assert_eq!(rt;
+    must_eq(
+        &rt,
         written.to_string(alloc)?.as_str(),
-        "[0,18446744073709551615]"
+        "[0,18446744073709551615]",
     );
     must_list(&rt, alloc, &written, &[0, 18446744073709551615])?;
     must_list(&rt, alloc, &Value::from_str(alloc, "[]")?, &[])
@@ -149,7 +156,10 @@ fn lists_that_are_refused(rt: HostRuntime) -> Result<(), Fail> {
         "[null]",
     ];
     for text in TEXTS {
-        assert!(rt; numbers(alloc, &Value::from_str(alloc, text)?)?.is_none());
+        must(
+            &rt,
+            numbers(alloc, &Value::from_str(alloc, text)?)?.is_none(),
+        );
     }
     Ok(())
 }
@@ -161,9 +171,12 @@ fn separators(rt: HostRuntime) -> Result<(), Fail> {
         (ChunkKeySeparator::Slash, "/"),
         (ChunkKeySeparator::Dot, "."),
     ] {
-        assert_eq!(rt; separator.as_str(), text);
+        must_eq(&rt, separator.as_str(), text);
         let written = separator.to_value(alloc)?;
-        assert!(rt; ChunkKeySeparator::from_value(&written) == Some(separator));
+        must(
+            &rt,
+            ChunkKeySeparator::from_value(&written) == Some(separator),
+        );
     }
     Ok(())
 }
@@ -173,7 +186,7 @@ fn separators_that_are_refused(rt: HostRuntime) -> Result<(), Fail> {
     let alloc = rt.alloc();
     for text in ["7", "null", "\"\"", "\"-\"", "\"//\""] {
         let value = Value::from_str(alloc, text)?;
-        assert!(rt; ChunkKeySeparator::from_value(&value).is_none());
+        must(&rt, ChunkKeySeparator::from_value(&value).is_none());
     }
     Ok(())
 }
@@ -182,22 +195,24 @@ fn separators_that_are_refused(rt: HostRuntime) -> Result<(), Fail> {
 fn texts_of_creation_refusals(rt: HostRuntime) -> Result<(), Fail> {
     let alloc = rt.alloc();
     let other = PluginCreateError::other(alloc, "a chunk size is 0");
-    assert_eq!(rt; other.to_string(alloc)?.as_str(), "a chunk size is 0");
+    must_eq(&rt, other.to_string(alloc)?.as_str(), "a chunk size is 0");
     let memory = PluginCreateError::OutOfMemory;
-    assert_eq!(rt; memory.to_string(alloc)?.as_str(), "out of memory");
+    must_eq(&rt, memory.to_string(alloc)?.as_str(), "out of memory");
     Ok(())
 }
 
 #[test]
 fn texts_of_metadata_refusals(rt: HostRuntime) -> Result<(), Fail> {
     let alloc = rt.alloc();
-    assert_eq!(rt;
+    must_eq(
+        &rt,
         MetadataError::InvalidShape.to_string(alloc)?.as_str(),
-        "the metadata has another shape"
+        "the metadata has another shape",
     );
-    assert_eq!(rt;
+    must_eq(
+        &rt,
         MetadataError::OutOfMemory.to_string(alloc)?.as_str(),
-        "out of memory"
+        "out of memory",
     );
     Ok(())
 }

@@ -1,4 +1,5 @@
 //! Keys that the format's documents publish, what is refused, and that each call succeeds.
+use crate::checks::{must, must_eq, must_for};
 use std::alloc::Global;
 use std::process::Abort;
 use std::test::Fail;
@@ -16,7 +17,7 @@ fn must_encode<E: ChunkKeyEncodingTraits>(
     indices: &[u64],
     key: &str,
 ) -> Result<(), Fail> {
-    assert_eq!(rt; encoding.encode(alloc, indices)?.as_str(), key);
+    must_eq(rt, encoding.encode(alloc, indices)?.as_str(), key);
     Ok(())
 }
 
@@ -81,7 +82,7 @@ fn encodes_behind_a_text(rt: HostRuntime) -> Result<(), Fail> {
     let alloc = rt.alloc();
     let mut text = String::from_str(alloc, "a/")?;
     ChunkKeyEncoding::V2(ChunkKeySeparator::Dot).encode_into(&mut text, &[3, 4])?;
-    assert_eq!(rt; text.as_str(), "a/3.4");
+    must_eq(&rt, text.as_str(), "a/3.4");
     Ok(())
 }
 
@@ -90,9 +91,9 @@ fn suffixes_that_are_refused(rt: HostRuntime) -> Result<(), Fail> {
     let alloc = rt.alloc();
     for text in ["", "/x", "x/", " ", "ä", "~"] {
         let refused = KeySuffix::new(alloc, text);
-        assert!(rt; matches!(&refused, Err(KeySuffixError::Invalid)), "{text}");
+        must_for(&rt, text, matches!(&refused, Err(KeySuffixError::Invalid)));
     }
-    assert_eq!(rt; KeySuffix::new(alloc, "a-Z_0.9")?.as_str(), "a-Z_0.9");
+    must_eq(&rt, KeySuffix::new(alloc, "a-Z_0.9")?.as_str(), "a-Z_0.9");
     Ok(())
 }
 
@@ -102,10 +103,10 @@ fn must_have_keys(
     path: &NodePath,
     keys: (&str, &str, &str, &str),
 ) -> Result<(), Fail> {
-    assert_eq!(rt; data_key(alloc, path, "c/0")?.as_str(), keys.0);
-    assert_eq!(rt; meta_key_v3(alloc, path)?.as_str(), keys.1);
-    assert_eq!(rt; meta_key_v2_array(alloc, path)?.as_str(), keys.2);
-    assert_eq!(rt; meta_key_v2_attributes(alloc, path)?.as_str(), keys.3);
+    must_eq(rt, data_key(alloc, path, "c/0")?.as_str(), keys.0);
+    must_eq(rt, meta_key_v3(alloc, path)?.as_str(), keys.1);
+    must_eq(rt, meta_key_v2_array(alloc, path)?.as_str(), keys.2);
+    must_eq(rt, meta_key_v2_attributes(alloc, path)?.as_str(), keys.3);
     Ok(())
 }
 
@@ -117,7 +118,7 @@ fn must_have_chunk_key(
     indices: &[u64],
     key: &str,
 ) -> Result<(), Fail> {
-    assert_eq!(rt; chunk_key(alloc, path, encoding, indices)?.as_str(), key);
+    must_eq(rt, chunk_key(alloc, path, encoding, indices)?.as_str(), key);
     Ok(())
 }
 
@@ -162,7 +163,7 @@ fn long_keys(rt: HostRuntime) -> Result<(), Fail> {
 
 fn must_refuse_key(rt: &impl Abort, alloc: Global, path: &NodePath, encoded: &str) {
     let refused = data_key(alloc, path, encoded);
-    assert!(rt; matches!(&refused, Err(StorageError::Other(_))));
+    must(rt, matches!(&refused, Err(StorageError::Other(_))));
 }
 
 #[test]
@@ -182,14 +183,14 @@ fn paths_that_are_refused(rt: HostRuntime) -> Result<(), Fail> {
     let alloc = rt.alloc();
     for text in ["", "a", "/a/", "//", "/a//b", "//a", "a/b"] {
         let refused = NodePath::new(alloc, text);
-        assert!(rt; matches!(&refused, Err(NodePathError::Invalid)), "{text}");
+        must_for(&rt, text, matches!(&refused, Err(NodePathError::Invalid)));
     }
     Ok(())
 }
 
 fn must_show(rt: &impl Abort, alloc: Global, path: &NodePath, text: &str) -> Result<(), Fail> {
-    assert_eq!(rt; path.as_str(), text);
-    assert_eq!(rt; format!(in alloc; "{path}")?.as_str(), text);
+    must_eq(rt, path.as_str(), text);
+    must_eq(rt, format!(in alloc; "{path}")?.as_str(), text);
     Ok(())
 }
 
@@ -200,7 +201,7 @@ fn paths_of_any_names(rt: HostRuntime) -> Result<(), Fail> {
         must_show(&rt, alloc, &NodePath::new(alloc, text)?, text)?;
     }
     let path = NodePath::new(alloc, "/größe/..")?;
-    assert_eq!(rt; data_key(alloc, &path, "c/0")?.as_str(), "größe/../c/0");
+    must_eq(&rt, data_key(alloc, &path, "c/0")?.as_str(), "größe/../c/0");
     Ok(())
 }
 
@@ -225,8 +226,8 @@ fn must_differ<T: Clone + PartialEq + Drop>(
     value: &T,
     other: &T,
 ) -> Result<(), Fail> {
-    assert!(rt; value.clone()? == *value);
-    assert!(rt; *value != *other);
+    must(rt, value.clone()? == *value);
+    must(rt, *value != *other);
     Ok(())
 }
 
@@ -257,13 +258,15 @@ fn encodings_are_compared(rt: HostRuntime) -> Result<(), Fail> {
 #[test]
 fn texts_of_errors(rt: HostRuntime) -> Result<(), Fail> {
     let alloc = rt.alloc();
-    assert_eq!(rt;
+    must_eq(
+        &rt,
         format!(in alloc; "{}", NodePathError::Invalid)?.as_str(),
-        "a node path is `/`, or `/` and nonempty names joined by `/`"
+        "a node path is `/`, or `/` and nonempty names joined by `/`",
     );
-    assert_eq!(rt;
+    must_eq(
+        &rt,
         format!(in alloc; "{}", KeySuffixError::Invalid)?.as_str(),
-        "a suffix is nonempty, of ASCII letters, digits, `.`, `_` and `-`"
+        "a suffix is nonempty, of ASCII letters, digits, `.`, `_` and `-`",
     );
     Ok(())
 }

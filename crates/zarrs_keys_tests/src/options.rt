@@ -1,4 +1,5 @@
 //! Each public call with ample memory, and the texts of refusals.
+use crate::checks::{must, must_eq};
 use serde_json::Value;
 use std::alloc::{AllocError, Global};
 use std::num::NonZeroU64;
@@ -21,9 +22,9 @@ fn must_choose(
     include: bool,
     convert: bool,
 ) {
-    assert!(rt; options.metadata_convert_version() == version);
-    assert_eq!(rt; options.include_zarrs_metadata(), include);
-    assert_eq!(rt; options.convert_aliased_extension_names(), convert);
+    must(rt, options.metadata_convert_version() == version);
+    must_eq(rt, options.include_zarrs_metadata(), include);
+    must_eq(rt, options.convert_aliased_extension_names(), convert);
 }
 
 #[test]
@@ -52,22 +53,34 @@ fn options_are_set_in_place(rt: HostRuntime) {
 
 #[test]
 fn versions_by_default(rt: HostRuntime) {
-    assert!(rt; MetadataConvertVersion::default() == MetadataConvertVersion::Default);
-    assert!(rt; MetadataEraseVersion::default() == MetadataEraseVersion::Default);
-    assert!(rt; MetadataRetrieveVersion::default() == MetadataRetrieveVersion::Default);
-    assert!(rt; MetadataEraseVersion::All != MetadataEraseVersion::V3);
-    assert!(rt; MetadataRetrieveVersion::V2 != MetadataRetrieveVersion::V3);
+    must(
+        &rt,
+        MetadataConvertVersion::default() == MetadataConvertVersion::Default,
+    );
+    must(
+        &rt,
+        MetadataEraseVersion::default() == MetadataEraseVersion::Default,
+    );
+    must(
+        &rt,
+        MetadataRetrieveVersion::default() == MetadataRetrieveVersion::Default,
+    );
+    must(&rt, MetadataEraseVersion::All != MetadataEraseVersion::V3);
+    must(
+        &rt,
+        MetadataRetrieveVersion::V2 != MetadataRetrieveVersion::V3,
+    );
 }
 
 #[test]
 fn storage_transformers_are_refused(rt: HostRuntime) -> Result<(), Fail> {
     let alloc = rt.alloc();
     let none = StorageTransformerChain::from_metadata(alloc, &[])?;
-    assert!(rt; none == StorageTransformerChain::default());
+    must(&rt, none == StorageTransformerChain::default());
     let mut some = Vec::new(alloc);
     some.push(MetadataV3::new(String::from_str(alloc, "indirect")?))?;
     let refused = StorageTransformerChain::from_metadata(alloc, some.as_slice());
-    assert!(rt; matches!(refused, Err(PluginCreateError::Other(_))));
+    must(&rt, matches!(refused, Err(PluginCreateError::Other(_))));
     Ok(())
 }
 
@@ -76,8 +89,11 @@ fn chunk_shapes_as_array_shapes(rt: HostRuntime) -> Result<(), Fail> {
     let alloc = rt.alloc();
     let sizes = [NonZeroU64::MIN, NonZeroU64::MAX];
     let shape = chunk_shape_to_array_shape(alloc, &sizes)?;
-    assert!(rt; shape.as_slice() == [1, 18446744073709551615].as_slice());
-    assert!(rt; chunk_shape_to_array_shape(alloc, &[])?.is_empty());
+    must(
+        &rt,
+        shape.as_slice() == [1, 18446744073709551615].as_slice(),
+    );
+    must(&rt, chunk_shape_to_array_shape(alloc, &[])?.is_empty());
     Ok(())
 }
 
@@ -87,7 +103,7 @@ fn must_print(
     error: &ArrayCreateError,
     text: &str,
 ) -> Result<(), Fail> {
-    assert_eq!(rt; error.to_string(alloc)?.as_str(), text);
+    must_eq(rt, error.to_string(alloc)?.as_str(), text);
     Ok(())
 }
 
@@ -192,8 +208,8 @@ fn refusals_pass_on_their_texts(rt: HostRuntime) -> Result<(), Fail> {
 }
 
 fn must_be_field(rt: &impl Abort, error: &AdditionalFieldUnsupportedError) {
-    assert_eq!(rt; error.name(), "key");
-    assert!(rt; error.value().is_null());
+    must_eq(rt, error.name(), "key");
+    must(rt, error.value().is_null());
 }
 
 #[test]
@@ -211,7 +227,7 @@ fn fields_that_must_be_understood(rt: HostRuntime) -> Result<(), Fail> {
 }
 
 fn must_be_memory(rt: &impl Abort, error: &ArrayCreateError) {
-    assert!(rt; matches!(error, ArrayCreateError::OutOfMemory));
+    must(rt, matches!(error, ArrayCreateError::OutOfMemory));
 }
 
 #[test]
@@ -221,17 +237,19 @@ fn refusals_of_lower_layers(rt: HostRuntime) {
     must_be_memory(&rt, &ArrayCreateError::from(StorageError::OutOfMemory));
     must_be_memory(&rt, &ArrayCreateError::from(NodePathError::OutOfMemory));
     let storage = ArrayCreateError::from(StorageError::ReadOnly);
-    assert!(rt;
+    must(
+        &rt,
         matches!(
             storage,
             ArrayCreateError::StorageError(StorageError::ReadOnly)
-        )
+        ),
     );
     let path = NodePath::new(alloc, "no slash").map_err(ArrayCreateError::from);
-    assert!(rt;
+    must(
+        &rt,
         matches!(
             path,
             Err(ArrayCreateError::NodePathError(NodePathError::Invalid))
-        )
+        ),
     );
 }

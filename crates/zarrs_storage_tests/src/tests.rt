@@ -3,6 +3,7 @@ ghost use Rattle.std.specs.Prelude.{◌≡◌, ℕ, true, OnOk};
 ghost use Rattle.std.specs.FinMap as map;
 ghost use Rattle.zarrs_storage.specs.Store.{MayReadWhole, is_listed};
 
+use crate::checks::{must, must_eq};
 use bytes::Bytes;
 use std::alloc::Global;
 use std::process::Abort;
@@ -13,15 +14,15 @@ use zarrs_storage::{
 };
 
 fn must_read(rt: &impl Abort, alloc: Global, key: &StoreKey, text: &str) -> Result<(), Fail> {
-    assert_eq!(rt; key.as_str(), text);
-    assert_eq!(rt; key.to_string(alloc)?.as_str(), text);
+    must_eq(rt, key.as_str(), text);
+    must_eq(rt, key.to_string(alloc)?.as_str(), text);
     Ok(())
 }
 
 fn must_equal(rt: &impl Abort, alloc: Global, key: &StoreKey, text: &str) -> Result<(), Fail> {
     let moved = StoreKey::from_string(alloc, String::from_str(alloc, text)?)?;
-    assert!(rt; *key == moved);
-    assert!(rt; *key == key.clone()?);
+    must(rt, *key == moved);
+    must(rt, *key == key.clone()?);
     Ok(())
 }
 
@@ -31,8 +32,11 @@ fn a_key_is_its_text(rt: HostRuntime) -> Result<(), Fail> {
     let first = StoreKey::new(alloc, "c/0/1")?;
     must_read(&rt, alloc, &first, "c/0/1")?;
     must_equal(&rt, alloc, &first, "c/0/1")?;
-    assert!(rt; first != StoreKey::new(alloc, "c/0/10")?);
-    assert!(rt; StoreKey::new(alloc, "c/10")? < StoreKey::new(alloc, "c/2")?);
+    must(&rt, first != StoreKey::new(alloc, "c/0/10")?);
+    must(
+        &rt,
+        StoreKey::new(alloc, "c/10")? < StoreKey::new(alloc, "c/2")?,
+    );
     Ok(())
 }
 
@@ -40,7 +44,10 @@ fn a_key_is_its_text(rt: HostRuntime) -> Result<(), Fail> {
 fn a_slash_at_an_end_is_refused(rt: HostRuntime) {
     let alloc = rt.alloc();
     for text in ["", "/", "/c", "c/"] {
-        assert!(rt; matches!(StoreKey::new(alloc, text), Err(StorageError::Other(_))));
+        must(
+            &rt,
+            matches!(StoreKey::new(alloc, text), Err(StorageError::Other(_))),
+        );
     }
 }
 
@@ -50,7 +57,7 @@ fn must_be_absent(
     store: &MemoryStore,
     key: &StoreKey,
 ) -> Result<(), Fail> {
-    assert!(rt; store.get(alloc, key)?.is_none());
+    must(rt, store.get(alloc, key)?.is_none());
     Ok(())
 }
 
@@ -62,13 +69,13 @@ fn must_be_present(
     value: &'static [u8],
 ) -> Result<(), Fail> {
     let found = store.get(alloc, key)?;
-    assert!(rt; found == Some(Bytes::from_static(value)));
+    must(rt, found == Some(Bytes::from_static(value)));
     Ok(())
 }
 
 fn must_have_counted(rt: &impl Abort, store: &MemoryStore, calls: u64) {
-    assert_eq!(rt; store.calls(), calls);
-    assert_eq!(rt; store.failures(), 0);
+    must_eq(rt, store.calls(), calls);
+    must_eq(rt, store.failures(), 0);
 }
 
 fn set(
@@ -115,9 +122,10 @@ fn keys_ascend_by_their_bytes(rt: HostRuntime) -> Result<(), Fail> {
     for text in ["zarr.json", "c/2", "c", "c/10", "c/1/0", "c/1"] {
         set(&mut store, alloc, &StoreKey::new(alloc, text)?, &[])?;
     }
-    assert_eq!(rt;
+    must_eq(
+        &rt,
         listed(alloc, &store)?.as_str(),
-        "c c/1 c/1/0 c/10 c/2 zarr.json "
+        "c c/1 c/1/0 c/10 c/2 zarr.json ",
     );
     Ok(())
 }
@@ -129,10 +137,13 @@ fn must_be_exhausted(
     key: &StoreKey,
 ) -> Result<(), Fail> {
     let refused = store.set(alloc, key, Bytes::from_static(&[8]));
-    assert!(rt; matches!(refused, Err(StorageError::Exhausted)));
-    assert!(rt; matches!(store.erase(alloc, key), Err(StorageError::Exhausted)));
+    must(rt, matches!(refused, Err(StorageError::Exhausted)));
+    must(
+        rt,
+        matches!(store.erase(alloc, key), Err(StorageError::Exhausted)),
+    );
     let refused = store.set_partial(alloc, key, 0, &[8]);
-    assert!(rt; matches!(refused, Err(StorageError::Exhausted)));
+    must(rt, matches!(refused, Err(StorageError::Exhausted)));
     Ok(())
 }
 
@@ -190,7 +201,7 @@ fn a_store_behind_its_bound(rt: HostRuntime) -> Result<(), Fail> {
 }
 
 fn must_say(rt: &impl Abort, alloc: Global, error: &StorageError, text: &str) -> Result<(), Fail> {
-    assert_eq!(rt; error.to_string(alloc)?.as_str(), text);
+    must_eq(rt, error.to_string(alloc)?.as_str(), text);
     Ok(())
 }
 
@@ -244,7 +255,7 @@ fn must_have_range(
     value: &'static [u8],
 ) -> Result<(), Fail> {
     let found = store.get_partial(alloc, key, range.0, range.1)?;
-    assert!(rt; found == Some(Bytes::from_static(value)));
+    must(rt, found == Some(Bytes::from_static(value)));
     Ok(())
 }
 
@@ -256,7 +267,7 @@ fn must_pass_the_value(
     range: (u64, u64),
 ) {
     let refused = store.get_partial(alloc, key, range.0, range.1);
-    assert!(rt; matches!(refused, Err(StorageError::InvalidByteRange)));
+    must(rt, matches!(refused, Err(StorageError::InvalidByteRange)));
 }
 
 fn must_have_size(
@@ -266,7 +277,7 @@ fn must_have_size(
     key: &StoreKey,
     size: Option<u64>,
 ) -> Result<(), Fail> {
-    assert!(rt; store.size_key(alloc, key)? == size);
+    must(rt, store.size_key(alloc, key)? == size);
     Ok(())
 }
 
@@ -292,7 +303,7 @@ fn a_range_of_an_absent_value(rt: HostRuntime) -> Result<(), Fail> {
     let alloc = rt.alloc();
     let store = MemoryStore::new(alloc);
     let key = StoreKey::new(alloc, "a")?;
-    assert!(rt; store.get_partial(alloc, &key, 3, u64::MAX)?.is_none());
+    must(&rt, store.get_partial(alloc, &key, 3, u64::MAX)?.is_none());
     Ok(())
 }
 
@@ -311,7 +322,7 @@ fn partial_writes(rt: HostRuntime) -> Result<(), Fail> {
     let alloc = rt.alloc();
     let mut store = MemoryStore::new(alloc);
     let key = StoreKey::new(alloc, "a")?;
-    assert!(rt; store.supports_set_partial());
+    must(&rt, store.supports_set_partial());
     set_partial(&mut store, alloc, &key, 2, &[7])?;
     must_be_present(&rt, alloc, &store, &key, &[0, 0, 7])?;
     set_partial(&mut store, alloc, &key, 1, &[8])?;
@@ -330,17 +341,20 @@ fn a_partial_write_past_the_last_place(rt: HostRuntime) -> Result<(), Fail> {
     let mut store = MemoryStore::new(alloc);
     let key = StoreKey::new(alloc, "a")?;
     let refused = store.set_partial(alloc, &key, u64::MAX, &[1]);
-    assert!(rt; matches!(refused, Err(StorageError::InvalidByteRange)));
+    must(&rt, matches!(refused, Err(StorageError::InvalidByteRange)));
     must_be_absent(&rt, alloc, &store, &key)?;
-    assert_eq!(rt; store.calls(), 1);
-    assert_eq!(rt; store.failures(), 1);
+    must_eq(&rt, store.calls(), 1);
+    must_eq(&rt, store.failures(), 1);
     Ok(())
 }
 
 // ---- stores over a store
 
 fn must_refuse<T: Drop>(rt: &impl Abort, outcome: &Result<T, StorageError>, text: &'static str) {
-    assert!(rt; matches!(outcome, Err(StorageError::Other(said)) if said.as_str() == text));
+    must(
+        rt,
+        matches!(outcome, Err(StorageError::Other(said)) if said.as_str() == text),
+    );
 }
 
 #[test]
@@ -350,9 +364,15 @@ fn a_store_lent_to_be_read(rt: HostRuntime) -> Result<(), Fail> {
     let key = StoreKey::new(alloc, "a")?;
     set(&mut store, alloc, &key, &[1, 2])?;
     let lent = ReadOnly::new(&store);
-    assert!(rt; lent.get(alloc, &key)? == Some(Bytes::from_static(&[1, 2])));
-    assert!(rt; lent.get_partial(alloc, &key, 1, 1)? == Some(Bytes::from_static(&[2])));
-    assert!(rt; lent.size_key(alloc, &key)? == Some(2));
+    must(
+        &rt,
+        lent.get(alloc, &key)? == Some(Bytes::from_static(&[1, 2])),
+    );
+    must(
+        &rt,
+        lent.get_partial(alloc, &key, 1, 1)? == Some(Bytes::from_static(&[2])),
+    );
+    must(&rt, lent.size_key(alloc, &key)? == Some(2));
     Ok(())
 }
 
@@ -392,11 +412,17 @@ fn write_lent(
     key: &StoreKey,
 ) -> Result<(), Fail> {
     let mut lent = Lent::new(store);
-    assert!(rt; lent.supports_set_partial());
+    must(rt, lent.supports_set_partial());
     lent.set_partial(alloc, key, 1, &[3])?;
-    assert!(rt; lent.get(alloc, key)? == Some(Bytes::from_static(&[1, 3])));
-    assert!(rt; lent.size_key(alloc, key)? == Some(2));
-    assert!(rt; lent.get_partial(alloc, key, 1, 1)? == Some(Bytes::from_static(&[3])));
+    must(
+        rt,
+        lent.get(alloc, key)? == Some(Bytes::from_static(&[1, 3])),
+    );
+    must(rt, lent.size_key(alloc, key)? == Some(2));
+    must(
+        rt,
+        lent.get_partial(alloc, key, 1, 1)? == Some(Bytes::from_static(&[3])),
+    );
     Ok(lent.erase(alloc, key)?)
 }
 
@@ -423,9 +449,9 @@ fn must_pass_reads<S: ReadableStorageTraits>(
     requires may_ask { (S.state store.now).may_ask key.now ≡ true }
     requires may_read { (place : ℕ) → (S.state store.now).may_read key.now place ≡ true }
 {
-    assert!(rt; store.get(alloc, key)?.is_some());
-    assert!(rt; store.get_partial(alloc, key, 0, 1)?.is_some());
-    assert!(rt; store.size_key(alloc, key)?.is_some());
+    must(rt, store.get(alloc, key)?.is_some());
+    must(rt, store.get_partial(alloc, key, 0, 1)?.is_some());
+    must(rt, store.size_key(alloc, key)?.is_some());
     Ok(())
 }
 
@@ -442,8 +468,8 @@ fn faulty_reads(rt: HostRuntime) -> Result<(), Fail> {
 }
 
 fn must_have_seen(rt: &impl Abort, counts: (u64, u64), calls: u64, failures: u64) {
-    assert_eq!(rt; counts.0, calls);
-    assert_eq!(rt; counts.1, failures);
+    must_eq(rt, counts.0, calls);
+    must_eq(rt, counts.1, failures);
 }
 
 fn must_erase<S: WritableStorageTraits>(
@@ -452,7 +478,7 @@ fn must_erase<S: WritableStorageTraits>(
     store: &mut S,
     key: &StoreKey,
 ) {
-    assert!(rt; store.erase(alloc, key).is_ok());
+    must(rt, store.erase(alloc, key).is_ok());
 }
 
 fn must_refuse_erase<S: WritableStorageTraits>(
@@ -493,7 +519,7 @@ fn each_writing_call_may_be_the_faulty_one(rt: HostRuntime) -> Result<(), Fail> 
     let mut fault = Fault::new(fault, Vec::new(alloc), Some(1));
     must_refuse(&rt, &fault.set_partial(alloc, &key, 0, &[1]), "fault");
     must_erase(&rt, alloc, &mut fault, &key);
-    assert!(rt; fault.supports_set_partial());
+    must(&rt, fault.supports_set_partial());
     Ok(())
 }
 
@@ -525,7 +551,7 @@ fn a_stop_at_once(rt: HostRuntime) -> Result<(), Fail> {
     let key = StoreKey::new(alloc, "a")?;
     let mut stop = Stop::new(MemoryStore::new(alloc), 0);
     must_stop(&rt, alloc, &mut stop, &key);
-    assert!(rt; stop.supports_set_partial());
+    must(&rt, stop.supports_set_partial());
     must_have_counted(&rt, &stop.into_inner(), 0);
     Ok(())
 }
@@ -540,7 +566,7 @@ fn whole_values_refused(rt: HostRuntime) -> Result<(), Fail> {
     must_pass_parts(&rt, alloc, &store, &key)?;
     must_pass_reads(&rt, alloc, &store, &other)?;
     must_erase(&rt, alloc, &mut store, &other);
-    assert!(rt; store.supports_set_partial());
+    must(&rt, store.supports_set_partial());
     must_have_counted(&rt, &store.into_inner(), 3);
     Ok(())
 }
@@ -552,8 +578,11 @@ fn must_pass_parts(
     key: &StoreKey,
 ) -> Result<(), Fail> {
     must_refuse(rt, &store.get(alloc, key), "get");
-    assert!(rt; store.get_partial(alloc, key, 1, 1)? == Some(Bytes::from_static(&[2])));
-    assert!(rt; store.size_key(alloc, key)? == Some(2));
+    must(
+        rt,
+        store.get_partial(alloc, key, 1, 1)? == Some(Bytes::from_static(&[2])),
+    );
+    must(rt, store.size_key(alloc, key)? == Some(2));
     Ok(())
 }
 
@@ -579,7 +608,7 @@ fn must_write_through_a_fence(
     let mut fence = Fence::new(store, Vec::new(alloc));
     fence.set_partial(alloc, key, 0, &[1])?;
     fence.set(alloc, key, Bytes::from_static(&[1, 2]))?;
-    assert!(rt; fence.supports_set_partial());
+    must(rt, fence.supports_set_partial());
     Ok(fence.erase(alloc, key)?)
 }
 

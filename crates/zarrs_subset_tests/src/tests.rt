@@ -1,6 +1,7 @@
 ghost use Rattle.std.specs.Prelude.{◌≡◌, ◌*◌, length, IfOk};
 ghost use Rattle.zarrs_subset.specs.Regions.{box_from, box_of};
 
+use crate::checks::{must, must_eq};
 use std::alloc::Global;
 use std::ops::Range;
 use std::process::Abort;
@@ -27,13 +28,13 @@ fn subset(alloc: Global, start: &[u64], shape: &[u64]) -> Result<ArraySubset, Fa
 }
 
 fn must_be(rt: &impl Abort, found: &ArraySubset, start: &[u64], shape: &[u64]) {
-    assert_eq!(rt; found.dimensionality(), start.len());
-    assert_eq!(rt; found.start(), start);
-    assert_eq!(rt; found.shape(), shape);
+    must_eq(rt, found.dimensionality(), start.len());
+    must_eq(rt, found.start(), start);
+    must_eq(rt, found.shape(), shape);
 }
 
 fn must_print(rt: &impl Abort, alloc: Global, found: &ArraySubset, text: &str) -> Result<(), Fail> {
-    assert_eq!(rt; format!(in alloc; "{found}")?.as_str(), text);
+    must_eq(rt, format!(in alloc; "{found}")?.as_str(), text);
     Ok(())
 }
 
@@ -42,7 +43,7 @@ fn must_refuse(
     made: &Result<ArraySubset, ArraySubsetError>,
     refusal: &ArraySubsetError,
 ) {
-    assert!(rt; matches!(made, Err(error) if *error == *refusal));
+    must(rt, matches!(made, Err(error) if *error == *refusal));
 }
 
 fn must_have_in_common<B: ArraySubsetTraits>(
@@ -63,7 +64,7 @@ fn ranges_that_only_touch_overlap_in_nothing(rt: HostRuntime) -> Result<(), Fail
     let low = subset(alloc, &[0], &[4])?;
     let high = subset(alloc, &[4], &[4])?;
     must_have_in_common(&rt, alloc, &low, &high, &[4], &[0])?;
-    assert!(rt; low.overlap(alloc, &high)?.is_empty());
+    must(&rt, low.overlap(alloc, &high)?.is_empty());
     Ok(())
 }
 
@@ -79,8 +80,8 @@ fn overlap_is_what_both_boxes_have(rt: HostRuntime) -> Result<(), Fail> {
 }
 
 fn must_hold_both(rt: &impl Abort, mismatch: &IncompatibleDimensionalityError) {
-    assert_eq!(rt; mismatch.got(), 1);
-    assert_eq!(rt; mismatch.expected(), 2);
+    must_eq(rt, mismatch.got(), 1);
+    must_eq(rt, mismatch.expected(), 2);
 }
 
 #[test]
@@ -108,7 +109,7 @@ fn row_major_numbers_of_positions(rt: HostRuntime) {
         (&[huge, 0], &[huge + 1, huge], None),
     ];
     for (indices, shape, number) in &cases {
-        assert_eq!(rt; ravel_indices(*indices, *shape), *number);
+        must_eq(&rt, ravel_indices(*indices, *shape), *number);
     }
 }
 
@@ -120,7 +121,7 @@ fn must_unravel(
     position: &[u64],
 ) -> Result<(), Fail> {
     let found = unravel_index(alloc, number, shape)?.ok_or("a position")?;
-    assert_eq!(rt; found.as_slice(), position);
+    must_eq(rt, found.as_slice(), position);
     Ok(())
 }
 
@@ -130,7 +131,7 @@ fn must_not_unravel(
     number: u64,
     shape: &[u64],
 ) -> Result<(), Fail> {
-    assert!(rt; unravel_index(alloc, number, shape)?.is_none());
+    must(rt, unravel_index(alloc, number, shape)?.is_none());
     Ok(())
 }
 
@@ -147,12 +148,12 @@ fn positions_of_row_major_numbers(rt: HostRuntime) -> Result<(), Fail> {
 
 #[test]
 fn counts_of_positions(rt: HostRuntime) -> Result<(), Fail> {
-    assert_eq!(rt; element_count(&[]), Some(1));
-    assert_eq!(rt; element_count(&[3, 0, 18446744073709551615]), Some(0));
-    assert_eq!(rt; element_count(&[4294967296, 4294967296]), None);
+    must_eq(&rt, element_count(&[]), Some(1));
+    must_eq(&rt, element_count(&[3, 0, 18446744073709551615]), Some(0));
+    must_eq(&rt, element_count(&[4294967296, 4294967296]), None);
     let whole = subset(rt.alloc(), &[0, 0], &[4294967296, 4294967296])?;
-    assert_eq!(rt; whole.num_elements(), Err(SizeOverflow));
-    assert_eq!(rt; subset(rt.alloc(), &[5], &[3])?.num_elements(), Ok(3));
+    must_eq(&rt, whole.num_elements(), Err(SizeOverflow));
+    must_eq(&rt, subset(rt.alloc(), &[5], &[3])?.num_elements(), Ok(3));
     Ok(())
 }
 
@@ -162,7 +163,7 @@ fn must_end_at(
     made: &ArraySubset,
     end: &[u64],
 ) -> Result<(), Fail> {
-    assert_eq!(rt; made.end_exc(alloc)?.as_slice(), end);
+    must_eq(rt, made.end_exc(alloc)?.as_slice(), end);
     Ok(())
 }
 
@@ -210,8 +211,8 @@ fn boxes_of_ranges(rt: HostRuntime) -> Result<(), Fail> {
 }
 
 fn must_come_apart(rt: &impl Abort, made: &ArraySubset) -> Result<(), Fail> {
-    assert_eq!(rt; made.clone()?.into_start().as_slice(), made.start());
-    assert_eq!(rt; made.clone()?.into_shape().as_slice(), made.shape());
+    must_eq(rt, made.clone()?.into_start().as_slice(), made.start());
+    must_eq(rt, made.clone()?.into_shape().as_slice(), made.shape());
     Ok(())
 }
 
@@ -223,15 +224,15 @@ fn boxes_at_the_origin(rt: HostRuntime) -> Result<(), Fail> {
     must_come_apart(&rt, &made)?;
     let empty = ArraySubset::new_empty(alloc, 2)?;
     must_be(&rt, &empty, &[0, 0], &[0, 0]);
-    assert!(rt; made.clone()? == made);
-    assert!(rt; empty != made);
+    must(&rt, made.clone()? == made);
+    must(&rt, empty != made);
     Ok(())
 }
 
 fn must_make_the_same(rt: &impl Abort, alloc: Global, made: &ArraySubset) -> Result<(), Fail> {
     let start = vec![in alloc; 0u64; 2]?;
     let shape = vec![in alloc; 3u64; 2]?;
-    assert!(rt; ArraySubset::new(start, shape) == *made);
+    must(rt, ArraySubset::new(start, shape) == *made);
     Ok(())
 }
 
@@ -292,7 +293,7 @@ fn boxes_within_an_array(rt: HostRuntime) -> Result<(), Fail> {
         (&[9, 9, 9], false),
     ];
     for (shape, expected) in &cases {
-        assert_eq!(rt; part.inbounds_shape(*shape), *expected);
+        must_eq(&rt, part.inbounds_shape(*shape), *expected);
     }
     Ok(())
 }
@@ -311,8 +312,8 @@ fn must_have_third_and_no_fifth(
     made: &ArraySubset,
 ) -> Result<(), Fail> {
     let third = made.position(alloc, 3)?.ok_or("a position")?;
-    assert_eq!(rt; third.as_slice(), [4, 6].as_slice());
-    assert!(rt; made.position(alloc, 4)?.is_none());
+    must_eq(rt, third.as_slice(), [4, 6].as_slice());
+    must(rt, made.position(alloc, 4)?.is_none());
     Ok(())
 }
 
@@ -322,7 +323,7 @@ fn positions_of_a_box_by_number(rt: HostRuntime) -> Result<(), Fail> {
     let made = subset(alloc, &[3, 5], &[2, 2])?;
     must_have_third_and_no_fifth(&rt, alloc, &made)?;
     let second = made.nth_position(alloc, 1)?;
-    assert_eq!(rt; second.as_slice(), [3, 6].as_slice());
+    must_eq(&rt, second.as_slice(), [3, 6].as_slice());
     Ok(())
 }
 
@@ -332,7 +333,7 @@ fn must_say<E: std::fmt::Display>(
     error: &E,
     text: &str,
 ) -> Result<(), Fail> {
-    assert_eq!(rt; format!(in alloc; "{error}")?.as_str(), text);
+    must_eq(rt, format!(in alloc; "{error}")?.as_str(), text);
     Ok(())
 }
 
@@ -364,7 +365,11 @@ fn a_box_goes_into_a_larger_array(rt: HostRuntime) {
         &[1, 2],
         1,
     );
-    assert_eq!(rt; target.as_slice(), [9, 9, 9, 9, 5, 6, 9, 9, 9].as_slice());
+    must_eq(
+        &rt,
+        target.as_slice(),
+        [9, 9, 9, 9, 5, 6, 9, 9, 9].as_slice(),
+    );
 }
 
 #[test]
@@ -373,7 +378,11 @@ fn a_part_goes_to_its_place(rt: HostRuntime) -> Result<(), Fail> {
     let part = subset(rt.alloc(), &[0, 2], &[3, 3])?;
     let mut target = [9u8; 9];
     place_part(&whole, &mut target, &part, &[1, 2, 3, 4, 5, 6, 7, 8, 10], 1);
-    assert_eq!(rt; target.as_slice(), [9, 4, 5, 9, 7, 8, 9, 9, 9].as_slice());
+    must_eq(
+        &rt,
+        target.as_slice(),
+        [9, 4, 5, 9, 7, 8, 9, 9, 9].as_slice(),
+    );
     Ok(())
 }
 
@@ -397,9 +406,10 @@ fn whole_planes_go_together(rt: HostRuntime) {
         &[2, 2, 2],
         1,
     );
-    assert_eq!(rt;
+    must_eq(
+        &rt,
         target.as_slice(),
-        [5, 6, 7, 8, 9, 10, 11, 12, 0, 0, 0, 0].as_slice()
+        [5, 6, 7, 8, 9, 10, 11, 12, 0, 0, 0, 0].as_slice(),
     );
 }
 
@@ -421,9 +431,10 @@ fn whole_rows_go_together(rt: HostRuntime) {
         &[2, 2, 1],
         2,
     );
-    assert_eq!(rt;
+    must_eq(
+        &rt,
         target.as_slice(),
-        [0, 0, 0, 0, 3, 4, 5, 6, 9, 10, 11, 12].as_slice()
+        [0, 0, 0, 0, 3, 4, 5, 6, 9, 10, 11, 12].as_slice(),
     );
 }
 
@@ -452,7 +463,7 @@ fn copies_of_nothing_end_at_once(rt: HostRuntime) -> Result<(), Fail> {
 }
 
 fn must_count<B: ArraySubsetTraits>(rt: &impl Abort, region: &B, count: Result<u64, SizeOverflow>) {
-    assert_eq!(rt; region.num_elements(), count);
+    must_eq(rt, region.num_elements(), count);
 }
 
 fn million_ranges(alloc: Global) -> Result<Vec<Range<u64>>, Fail> {
@@ -474,7 +485,7 @@ fn counts_of_a_million_dimensions(rt: HostRuntime) -> Result<(), Fail> {
     ranges.push(1..0)?;
     must_count(&rt, &ranges, Ok(0));
     let shape = vec![in alloc; 1u64; 1_000_000]?;
-    assert_eq!(rt; element_count(&shape), Some(1));
+    must_eq(&rt, element_count(&shape), Some(1));
     Ok(())
 }
 
@@ -490,7 +501,7 @@ fn a_cell_of_a_million_dimensions_goes_to_its_place(rt: HostRuntime) -> Result<(
     let region = ArraySubset::new_with_ranges(rt.alloc(), &million_ranges(rt.alloc())?)?;
     let mut target = [0u8];
     place_one_cell(&region, &mut target)?;
-    assert_eq!(rt; target, [7]);
+    must_eq(&rt, target, [7]);
     Ok(())
 }
 
@@ -511,10 +522,10 @@ fn must_walk(
     let mut walk = region.indices(alloc);
     for position in expected {
         let found = walk.next().ok_or("a position")??;
-        assert_eq!(rt; found.as_slice(), *position);
+        must_eq(rt, found.as_slice(), *position);
     }
-    assert!(rt; walk.next().is_none());
-    assert!(rt; walk.next().is_none());
+    must(rt, walk.next().is_none());
+    must(rt, walk.next().is_none());
     Ok(())
 }
 
@@ -527,10 +538,10 @@ fn must_lend(
 ) -> Result<(), Fail> {
     let mut walk = region.walk(alloc)?.ok_or("a position")?;
     for (number, position) in expected.iter().enumerate() {
-        assert_eq!(rt; walk.current(), *position);
-        assert_eq!(rt; walk.advance(), number + 1 < expected.len());
+        must_eq(rt, walk.current(), *position);
+        must_eq(rt, walk.advance(), number + 1 < expected.len());
     }
-    assert_eq!(rt; Some(walk.current()), expected.first().copied());
+    must_eq(rt, Some(walk.current()), expected.first().copied());
     Ok(())
 }
 
@@ -559,7 +570,7 @@ fn positions_of_boxes_past_the_numbers(rt: HostRuntime) -> Result<(), Fail> {
     let mut walk = huge.indices(rt.alloc());
     for position in [[0, 7], [0, 8]] {
         let found = walk.next().ok_or("a position")??;
-        assert_eq!(rt; found.as_slice(), position.as_slice());
+        must_eq(&rt, found.as_slice(), position.as_slice());
     }
     Ok(())
 }
@@ -582,7 +593,7 @@ fn must_be_described<B: ArraySubsetTraits>(
     region: &B,
 ) -> Result<(), Fail> {
     let expected = "2 [1, 7] [3, 0] [4, 7] true [1..4, 7..7] 7..7";
-    assert_eq!(rt; described(alloc, region)?.as_str(), expected);
+    must_eq(rt, described(alloc, region)?.as_str(), expected);
     Ok(())
 }
 
@@ -605,6 +616,6 @@ fn a_walk_lends_its_positions(rt: HostRuntime) -> Result<(), Fail> {
     must_lend(&rt, alloc, &plane, &[&[1, 5], &[1, 6], &[2, 5], &[2, 6]])?;
     let long = subset(alloc, &[1, 2, 3, 4, 5], &[1, 1, 1, 2, 1])?;
     must_lend(&rt, alloc, &long, &[&[1, 2, 3, 4, 5], &[1, 2, 3, 5, 5]])?;
-    assert!(rt; subset(alloc, &[1, 5], &[2, 0])?.walk(alloc)?.is_none());
+    must(&rt, subset(alloc, &[1, 5], &[2, 0])?.walk(alloc)?.is_none());
     Ok(())
 }
