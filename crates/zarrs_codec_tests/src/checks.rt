@@ -1,10 +1,14 @@
 //! What tests say of what they find. An assertion in the body of a test takes several steps of its proof, each beside all
 //! that the test owns. A call of these takes one.
+ghost use Rattle.std.specs.Prelude.{IsTrue};
+
 use std::fmt::Debug;
 use std::process::Abort;
 
 /// Ends the test, except if this holds.
-pub(crate) fn must(rt: &impl Abort, holds: bool) {
+pub(crate) fn must(rt: &impl Abort, holds: bool)
+    ensures { IsTrue holds }
+{
     assert!(rt; holds);
 }
 

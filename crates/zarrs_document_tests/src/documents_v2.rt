@@ -305,12 +305,10 @@ fn must_have_type(
         fill_value,
     );
     must_eq(rt, document.codecs.len(), 1);
+    let written = document.codecs.first().ok_or("no codec")?;
     must_eq(
         rt,
-        document.codecs[0]
-            .to_value(alloc)?
-            .to_string(alloc)?
-            .as_str(),
+        written.to_value(alloc)?.to_string(alloc)?.as_str(),
         codec,
     );
     Ok(())
