@@ -562,20 +562,25 @@ fn metadata(alloc: Global, value: Value) -> Result<ArrayMetadata, Fail> {
     Ok(ArrayMetadata::from_value(alloc, value)?)
 }
 
+/// Metadata of a V3 document, made of it or read, says its version.
+fn must_be_v3(rt: &impl Abort, alloc: Global) -> Result<(), Fail> {
+    let document = converted(alloc, &[])?;
+    must_be_version(rt, alloc, &metadata(alloc, document.to_value(alloc)?)?, 3)?;
+    must_be_version(rt, alloc, &ArrayMetadata::from(document), 3)
+}
+
+/// The same of a V2 document.
+fn must_be_v2(rt: &impl Abort, alloc: Global) -> Result<(), Fail> {
+    let read = metadata(alloc, Value::Object(small(alloc)?))?;
+    must_be_version(rt, alloc, &read, 2)?;
+    must_be_version(rt, alloc, &ArrayMetadata::from(made(alloc)?), 2)
+}
+
 #[test]
 fn metadata_of_both_versions(rt: HostRuntime) -> Result<(), Fail> {
     let alloc = rt.alloc();
-    let v3 = converted(alloc, &[])?;
-    let value = v3.to_value(alloc)?;
-    must_be_version(&rt, alloc, &metadata(alloc, value)?, 3)?;
-    must_be_version(&rt, alloc, &ArrayMetadata::from(v3), 3)?;
-    must_be_version(
-        &rt,
-        alloc,
-        &metadata(alloc, Value::Object(small(alloc)?))?,
-        2,
-    )?;
-    must_be_version(&rt, alloc, &ArrayMetadata::from(made(alloc)?), 2)?;
+    must_be_v3(&rt, alloc)?;
+    must_be_v2(&rt, alloc)?;
     let neither = json!(in alloc; {"zarr_format": 4})?;
     let refused = ArrayMetadata::from_value(alloc, neither);
     must(&rt, matches!(refused, Err(MetadataError::InvalidShape)));

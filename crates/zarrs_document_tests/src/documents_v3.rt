@@ -354,21 +354,30 @@ fn named(alloc: Global, name: &str) -> Result<MetadataV3, AllocError> {
     Ok(MetadataV3::new(String::from_str(alloc, name)?))
 }
 
+/// The extension point of this name alone.
+fn listed(alloc: Global, name: &str) -> Result<Vec<MetadataV3>, AllocError> {
+    let mut list = Vec::new(alloc);
+    list.push(named(alloc, name)?)?;
+    Ok(list)
+}
+
+/// Chunks of four cells.
+fn fours(alloc: Global) -> Result<MetadataV3, AllocError> {
+    let chunks = zarrs_metadata::numbers_value(alloc, &[4])?;
+    named(alloc, "regular")?.with_member(alloc, "chunk_shape", chunks)
+}
+
 /// The smallest document, made of its parts.
 fn made(alloc: Global) -> Result<ArrayMetadataV3, Fail> {
-    let mut codecs = Vec::new(alloc);
-    codecs.push(named(alloc, "packbits")?)?;
-    let chunks = zarrs_metadata::numbers_value(alloc, &[4])?;
-    let grid = named(alloc, "regular")?.with_member(alloc, "chunk_shape", chunks)?;
     let shape = [8].to_vec(alloc)?;
     let kind = named(alloc, "bool")?;
     Ok(ArrayMetadataV3::new(
         alloc,
         shape,
-        grid,
+        fours(alloc)?,
         kind,
         FillValueMetadata::Bool(false),
-        codecs,
+        listed(alloc, "packbits")?,
     )?)
 }
 
@@ -381,9 +390,8 @@ fn documents_made_of_their_parts(rt: HostRuntime) -> Result<(), Fail> {
     Ok(())
 }
 
-#[test]
-fn documents_with_more_parts(rt: HostRuntime) -> Result<(), Fail> {
-    let alloc = rt.alloc();
+/// Attributes that say a unit.
+fn in_metres(alloc: Global) -> Result<Map<String, Value>, AllocError> {
     let mut attributes = Map::new(alloc);
     serde_json::put(
         &mut attributes,
@@ -391,20 +399,36 @@ fn documents_with_more_parts(rt: HostRuntime) -> Result<(), Fail> {
         "unit",
         Value::try_from_str(alloc, "m")?,
     )?;
-    let mut transformers = Vec::new(alloc);
-    transformers.push(named(alloc, "indirect")?)?;
-    let names = vec![in alloc; Some(String::from_str(alloc, "x")?)]?;
+    Ok(attributes)
+}
+
+/// A field, and another one under the name of a member, which is not written.
+fn two_fields(alloc: Global) -> Result<AdditionalFieldsV3, Fail> {
     let mut fields: AdditionalFieldsV3 = Map::new(alloc);
     let version = AdditionalFieldV3::new(Value::from(7u64), true);
     drop(fields.insert(String::from_str(alloc, "version")?, version)?);
     let shadowed = AdditionalFieldV3::new(Value::Null, true);
     drop(fields.insert(String::from_str(alloc, "codecs")?, shadowed)?);
-    let document = made(alloc)?
-        .with_attributes(attributes)
-        .with_storage_transformers(transformers)
-        .with_dimension_names(Some(names))
-        .with_additional_fields(fields)
-        .with_chunk_key_encoding(named(alloc, "v2")?);
+    Ok(fields)
+}
+
+/// The smallest document with each other part.
+fn with_more_parts(alloc: Global) -> Result<ArrayMetadataV3, Fail> {
+    let names = vec![in alloc; Some(String::from_str(alloc, "x")?)]?;
+    Ok(
+        made(alloc)?
+            .with_dimension_names(Some(names))
+            .with_attributes(in_metres(alloc)?)
+            .with_storage_transformers(listed(alloc, "indirect")?)
+            .with_additional_fields(two_fields(alloc)?)
+            .with_chunk_key_encoding(named(alloc, "v2")?),
+    )
+}
+
+#[test]
+fn documents_with_more_parts(rt: HostRuntime) -> Result<(), Fail> {
+    let alloc = rt.alloc();
+    let document = with_more_parts(alloc)?;
     let written = concat!(
         "{\"attributes\":{\"unit\":\"m\"},\"chunk_grid\":{\"configuration\":",
         "{\"chunk_shape\":[4]},\"name\":\"regular\"},\"chunk_key_encoding\":\"v2\",",
