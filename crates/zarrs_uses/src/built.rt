@@ -1,10 +1,23 @@
 //! Arrays by a builder.
 use anyhow::Result;
+use serde_json::{Map, Value};
 use std::alloc::Global;
 use zarrs::{Array, ArraySubset};
 use zarrs_builder::ArrayBuilder;
 use zarrs_data_type::DataType;
 use zarrs_storage::MemoryStore;
+
+/// The attributes that say the unit of the cells.
+fn in_unit(alloc: Global, unit: &str) -> Result<Map<String, Value>> {
+    let mut attributes = Map::new(alloc);
+    serde_json::put(
+        &mut attributes,
+        alloc,
+        "unit",
+        Value::try_from_str(alloc, unit)?,
+    )?;
+    Ok(attributes)
+}
 
 /// Rainfall in millimetres over 8 by 8 places, in chunks of 4 by 4, where -1 means that nobody measured. Its metadata
 /// is in its store.
@@ -12,9 +25,15 @@ pub fn rainfall(alloc: Global, storage: MemoryStore, path: &str) -> Result<Array
     let names = ["y", "x"];
     let mut builder = ArrayBuilder::new(alloc, [8u64, 8], [4u64, 4], DataType::Int16, -1i16);
     builder.dimension_names(alloc, Some(names.iter().copied()));
+    builder.attributes(in_unit(alloc, "mm")?);
     let mut array = builder.build(alloc, storage, path)?;
     array.store_metadata(alloc)?;
     Ok(array)
+}
+
+/// The unit of the cells, if the attributes say one.
+pub fn unit_of<S>(array: &Array<S>) -> Option<&str> {
+    array.attributes().get("unit").and_then(Value::as_str)
 }
 
 /// Stores what was measured in a region, and reads all of the array.

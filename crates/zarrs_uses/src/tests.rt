@@ -1,5 +1,5 @@
 //! Each use, run.
-use crate::built::{measure, rainfall};
+use crate::built::{measure, rainfall, unit_of};
 use crate::chunks::{erase, is_present, store_and_read};
 use crate::documents::{create_array, read_region_at, v3_text};
 use crate::histories::{count_refused, have_equal_bytes};
@@ -11,6 +11,7 @@ use std::alloc::Global;
 use std::num::NonZeroU64;
 use std::process::Abort;
 use std::test::Fail;
+use zarrs::Array;
 use zarrs_chunk_grid::ChunkShape;
 use zarrs_data_type::ArrayBytes;
 use zarrs_engine::{ArrayError, Call};
@@ -344,10 +345,21 @@ fn must_be_measured(rt: &impl Abort, millimetres: &[i16]) {
     );
 }
 
+/// The array has the names and the unit that it was built with.
+fn must_be_rainfall(rt: &impl Abort, array: &Array<MemoryStore>) {
+    assert!(rt; unit_of(array) == Some("mm"));
+    let names = array.dimension_names().unwrap_or(&[]);
+    assert_eq!(rt; names.len(), 2);
+    for (name, wanted) in names.iter().zip(["y", "x"]) {
+        assert!(rt; name.as_ref().is_some_and(|name| name.as_str() == wanted));
+    }
+}
+
 #[test]
 fn an_array_is_built_and_measured(rt: HostRuntime) -> Result<(), Fail> {
     let alloc = rt.alloc();
     let mut array = rainfall(alloc, MemoryStore::new(alloc), "/climate/rain")?;
+    must_be_rainfall(&rt, &array);
     let places = region(alloc, &[1, 3], &[1, 4])?;
     let millimetres = measure(alloc, &mut array, &places, &[12, 0, 7, 31])?;
     must_be_measured(&rt, &millimetres);
