@@ -1,5 +1,4 @@
 //! The calls of an array, each at concrete types with ample memory: 4 by 4 bytes in chunks of 2 by 2.
-use crate::checks::{must, must_eq};
 use crate::made::{MemoryArray, array};
 use std::alloc::Global;
 use std::process::Abort;
@@ -18,7 +17,7 @@ fn region(alloc: Global, start: &[u64], shape: &[u64]) -> Result<ArraySubset, Fa
 }
 
 fn must_be(rt: &impl Abort, held: &[u8], bytes: &[u8]) {
-    must(rt, held == bytes);
+    assert!(rt; held == bytes);
 }
 
 fn must_hold(
@@ -84,7 +83,7 @@ fn must_have_keys(
     array: &MemoryArray,
     count: usize,
 ) -> Result<(), Fail> {
-    must_eq(rt, array.storage().keys(alloc)?.len(), count);
+    assert_eq!(rt; array.storage().keys(alloc)?.len(), count);
     Ok(())
 }
 
@@ -115,7 +114,7 @@ fn must_have_key(
     if indices.len() != array.dimensionality() {
         return Err("another number of dimensions".into());
     }
-    must_eq(rt, array.chunk_key(alloc, indices)?.as_str(), key);
+    assert_eq!(rt; array.chunk_key(alloc, indices)?.as_str(), key);
     Ok(())
 }
 
@@ -130,7 +129,7 @@ fn must_be_stored(
         return Err("another number of dimensions".into());
     }
     let stored = array.retrieve_encoded_chunk(alloc, indices)?;
-    must(rt, stored.ok_or("an absent chunk")?.as_slice() == bytes);
+    assert!(rt; stored.ok_or("an absent chunk")?.as_slice() == bytes);
     Ok(())
 }
 
@@ -144,11 +143,7 @@ fn must_store_so_many(
     if chunks.dimensionality() != array.dimensionality() {
         return Err("another number of dimensions".into());
     }
-    must_eq(
-        rt,
-        array.retrieve_encoded_chunks(alloc, chunks)?.len(),
-        count,
-    );
+    assert_eq!(rt; array.retrieve_encoded_chunks(alloc, chunks)?.len(), count);
     Ok(())
 }
 
@@ -194,11 +189,8 @@ fn must_read_into(rt: &impl Abort, alloc: Global, array: &MemoryArray) -> Result
     array.retrieve_array_subset_into(alloc, &cells, &mut target)?;
     let column = region(alloc, &[1, 2], &[2, 1])?;
     let refused = array.retrieve_array_subset_into(alloc, &column, &mut target);
-    must(
-        rt,
-        matches!(refused, Err(zarrs::ArrayError::InvalidDataShape(_, _))),
-    );
-    must(rt, lent == [8, 8, 8, 8, 9, 6, 8, 8, 8]);
+    assert!(rt; matches!(refused, Err(zarrs::ArrayError::InvalidDataShape(_, _))));
+    assert!(rt; lent == [8, 8, 8, 8, 9, 6, 8, 8, 8]);
     Ok(())
 }
 
@@ -223,10 +215,7 @@ fn must_replay(rt: &impl Abort, alloc: Global, array: &mut MemoryArray) -> Resul
         Call::RetrieveChunk(vec![in alloc; 0]?),
     ]?;
     let replies = array.replay(alloc, &calls, &CodecOptions::default())?;
-    must(
-        rt,
-        matches!(replies.as_slice(), [Reply::Done, Reply::Refused(_)]),
-    );
+    assert!(rt; matches!(replies.as_slice(), [Reply::Done, Reply::Refused(_)]));
     must_have_keys(rt, alloc, array, 1)
 }
 
@@ -239,80 +228,68 @@ fn a_list_of_calls_has_a_reply_each(rt: HostRuntime) -> Result<(), Fail> {
 
 fn must_lie(rt: &impl Abort, alloc: Global, array: &MemoryArray) -> Result<(), Fail> {
     must_have_key(rt, alloc, array, &[1, 0], "c/1/0")?;
-    must_eq(
-        rt,
+    assert_eq!(rt;
         array.chunk_origin(alloc, &[1, 0])?.as_slice(),
-        [2, 0].as_slice(),
+        [2, 0].as_slice()
     );
-    must_eq(
-        rt,
+    assert_eq!(rt;
         array.chunk_shape_usize(alloc, &[1, 0])?.as_slice(),
-        [2, 2].as_slice(),
+        [2, 2].as_slice()
     );
-    must_eq(rt, array.chunk_shape(alloc, &[1, 0])?.len(), 2);
+    assert_eq!(rt; array.chunk_shape(alloc, &[1, 0])?.len(), 2);
     let past = array.chunk_subset(alloc, &[1, 2])?;
-    must_eq(rt, past.start(), [2, 4].as_slice());
+    assert_eq!(rt; past.start(), [2, 4].as_slice());
     let cut = array.chunk_subset_bounded(alloc, &[1, 2])?;
-    must_eq(rt, cut.shape(), [2, 0].as_slice());
+    assert_eq!(rt; cut.shape(), [2, 0].as_slice());
     Ok(())
 }
 
 /// The boxes of ranges of chunks, and the refusals of a range.
 fn must_fill(rt: &impl Abort, alloc: Global, array: &MemoryArray) -> Result<(), Fail> {
     let right = region(alloc, &[0, 1], &[2, 2])?;
-    must_eq(
-        rt,
+    assert_eq!(rt;
         array.chunks_subset(alloc, &right)?.shape(),
-        [4, 4].as_slice(),
+        [4, 4].as_slice()
     );
-    must_eq(
-        rt,
+    assert_eq!(rt;
         array.chunks_subset_bounded(alloc, &right)?.shape(),
-        [4, 2].as_slice(),
+        [4, 2].as_slice()
     );
     let empty = region(alloc, &[9], &[0])?;
-    must_eq(
-        rt,
-        array.chunks_subset(alloc, &empty)?.start(),
-        [0].as_slice(),
-    );
+    assert_eq!(rt; array.chunks_subset(alloc, &empty)?.start(), [0].as_slice());
     let cut = array.chunks_subset_bounded(alloc, &empty);
-    must(
-        rt,
+    assert!(rt;
         matches!(
             cut,
             Err(zarrs::ArrayError::IncompatibleDimensionalityError(_))
-        ),
+        )
     );
     let line = array.chunks_subset(alloc, &region(alloc, &[1], &[1])?);
-    must(
-        rt,
+    assert!(rt;
         matches!(
             line,
             Err(zarrs::ArrayError::InvalidChunkGridIndicesError(_))
-        ),
+        )
     );
     Ok(())
 }
 
 fn must_meet(rt: &impl Abort, alloc: Global, array: &MemoryArray) -> Result<(), Fail> {
     let met = array.chunks_in_array_subset(alloc, &region(alloc, &[1, 1], &[1, 2])?)?;
-    must_eq(rt, met.ok_or("no chunks")?.shape(), [1, 2].as_slice());
+    assert_eq!(rt; met.ok_or("no chunks")?.shape(), [1, 2].as_slice());
     let line = array.chunks_in_array_subset(alloc, &region(alloc, &[1], &[1])?);
-    must(
-        rt,
+    assert!(rt;
         matches!(
             line,
             Err(zarrs::ArrayError::IncompatibleDimensionalityError(_))
-        ),
+        )
     );
     let none = array.chunk_subset(alloc, &[1]);
-    must(
-        rt,
+    assert!(rt;
         matches!(
             none,
             Err(zarrs::ArrayError::InvalidChunkGridIndicesError(_))
-        ),
+        )
     );
     Ok(())
 }

@@ -1,5 +1,4 @@
 //! The same array over another store, and lent attributes.
-use crate::checks::{must, must_eq};
 use crate::made::{MemoryArray, array};
 use serde_json::Value;
 use std::alloc::Global;
@@ -9,9 +8,9 @@ use zarrs::{Array, ArrayMetadata, ReadOnly};
 use zarrs_storage::MemoryStore;
 
 fn must_hold<S>(rt: &impl Abort, array: &Array<S>, held: &[u8], bytes: &[u8]) {
-    must(rt, array.shape() == [8, 8].as_slice());
-    must(rt, array.path().as_str() == "/a");
-    must(rt, held == bytes);
+    assert!(rt; array.shape() == [8, 8].as_slice());
+    assert!(rt; array.path().as_str() == "/a");
+    assert!(rt; held == bytes);
 }
 
 fn chunk_of(alloc: Global, array: &MemoryArray) -> Result<Vec<u8>, Fail> {
@@ -67,12 +66,12 @@ fn must_have_attribute(
     array: &mut MemoryArray,
 ) -> Result<(), Fail> {
     put_attribute(alloc, array)?;
-    must_eq(rt, array.attributes().len(), 1);
+    assert_eq!(rt; array.attributes().len(), 1);
     match array.metadata() {
-        ArrayMetadata::V3(document) => must_eq(rt, document.attributes.len(), 1),
+        ArrayMetadata::V3(document) => assert_eq!(rt; document.attributes.len(), 1),
         ArrayMetadata::V2(_) => return Err("the metadata is of V2".into()),
     }
-    must(rt, chunk_of(alloc, array)?.as_slice() == [0; 16].as_slice());
+    assert!(rt; chunk_of(alloc, array)?.as_slice() == [0; 16].as_slice());
     Ok(())
 }
 

@@ -1,5 +1,4 @@
 //! Arrays that are made of documents, and the refusals in their order.
-use crate::checks::{must, must_eq};
 use crate::made::{MemoryArray, array, create, document_of};
 use std::alloc::Global;
 use std::process::Abort;
@@ -11,36 +10,32 @@ use zarrs::{
 use zarrs_codec::ArrayToBytesCodec;
 
 fn must_have_a_shape(rt: &impl Abort, array: &MemoryArray) {
-    must_eq(rt, array.path().as_str(), "/array");
-    must_eq(rt, array.shape(), [8, 8].as_slice());
-    must_eq(rt, array.dimensionality(), 2);
-    must_eq(rt, array.chunk_grid_shape(), [2, 2].as_slice());
-    must(rt, matches!(array.chunk_grid(), ChunkGrid::Regular(_)));
+    assert_eq!(rt; array.path().as_str(), "/array");
+    assert_eq!(rt; array.shape(), [8, 8].as_slice());
+    assert_eq!(rt; array.dimensionality(), 2);
+    assert_eq!(rt; array.chunk_grid_shape(), [2, 2].as_slice());
+    assert!(rt; matches!(array.chunk_grid(), ChunkGrid::Regular(_)));
 }
 
 fn must_have_cells(rt: &impl Abort, array: &MemoryArray) {
-    must(rt, matches!(array.data_type(), DataType::UInt8));
-    must_eq(rt, array.fill_value().as_bytes(), [7].as_slice());
-    must(rt, array.codecs().array_to_array_codecs().is_empty());
-    must(
-        rt,
+    assert!(rt; matches!(array.data_type(), DataType::UInt8));
+    assert_eq!(rt; array.fill_value().as_bytes(), [7].as_slice());
+    assert!(rt; array.codecs().array_to_array_codecs().is_empty());
+    assert!(rt;
         matches!(
             array.codecs().array_to_bytes_codec(),
             ArrayToBytesCodec::Bytes(_)
-        ),
+        )
     );
     let keys = array.chunk_key_encoding();
-    must(
-        rt,
-        matches!(keys, ChunkKeyEncoding::Default(ChunkKeySeparator::Slash)),
-    );
+    assert!(rt; matches!(keys, ChunkKeyEncoding::Default(ChunkKeySeparator::Slash)));
 }
 
 fn must_have_texts(rt: &impl Abort, array: &MemoryArray) -> Result<(), Fail> {
-    must_eq(rt, array.attributes().len(), 1);
-    must_eq(rt, document_of(array)?.data_type.name(), "uint8");
+    assert_eq!(rt; array.attributes().len(), 1);
+    assert_eq!(rt; document_of(array)?.data_type.name(), "uint8");
     let names = array.dimension_names().ok_or("no names")?;
-    must_eq(rt, names.len(), 2);
+    assert_eq!(rt; names.len(), 2);
     Ok(())
 }
 
@@ -48,8 +43,8 @@ fn must_have_its_parts(rt: &impl Abort, alloc: Global, array: &MemoryArray) -> R
     must_have_a_shape(rt, array);
     must_have_cells(rt, array);
     must_have_texts(rt, array)?;
-    must_eq(rt, array.storage().calls(), 0);
-    must(rt, array.storage().keys(alloc)?.is_empty());
+    assert_eq!(rt; array.storage().calls(), 0);
+    assert!(rt; array.storage().keys(alloc)?.is_empty());
     Ok(())
 }
 
@@ -73,12 +68,11 @@ fn refusal(alloc: Global, path: &str, changes: &[(&str, &str)]) -> Result<ArrayC
 }
 
 fn must_be_a_path(rt: &impl Abort, error: &ArrayCreateError) {
-    must(
-        rt,
+    assert!(rt;
         matches!(
             error,
             ArrayCreateError::NodePathError(NodePathError::Invalid)
-        ),
+        )
     );
 }
 
@@ -97,7 +91,7 @@ fn must_print(
     error: &ArrayCreateError,
     text: &str,
 ) -> Result<(), Fail> {
-    must_eq(rt, format!(in alloc; "{error}")?.as_str(), text);
+    assert_eq!(rt; format!(in alloc; "{error}")?.as_str(), text);
     Ok(())
 }
 
@@ -125,10 +119,7 @@ fn refusals_name_what_they_refuse(rt: HostRuntime) -> Result<(), Fail> {
 }
 
 fn must_be_grids(rt: &impl Abort, error: &ArrayCreateError) {
-    must(
-        rt,
-        matches!(error, ArrayCreateError::ChunkGridCreateError(_)),
-    );
+    assert!(rt; matches!(error, ArrayCreateError::ChunkGridCreateError(_)));
 }
 
 #[test]
@@ -149,6 +140,6 @@ fn grids_that_do_not_take_the_shape(rt: HostRuntime) -> Result<(), Fail> {
 fn a_field_that_must_be_understood_is_not_looked_at(rt: HostRuntime) -> Result<(), Fail> {
     let alloc = rt.alloc();
     let array = array(alloc, "/", &[("key", "{\"a\":1}")])?;
-    must_eq(&rt, document_of(&array)?.additional_fields.len(), 1);
+    assert_eq!(rt; document_of(&array)?.additional_fields.len(), 1);
     Ok(())
 }

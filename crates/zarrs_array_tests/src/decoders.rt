@@ -1,5 +1,4 @@
 //! Reads of parts of one chunk, arrays compared by their chunks, and what is printed: 8 by 8 bytes in chunks of 4 by 4.
-use crate::checks::must;
 use crate::made::{MemoryArray, array};
 use std::alloc::Global;
 use std::process::Abort;
@@ -35,29 +34,22 @@ fn must_decode(rt: &impl Abort, alloc: Global, array: &MemoryArray) -> Result<()
     let options = CodecOptions::default();
     let part = region(alloc, &[1, 2], &[2, 2])?;
     let present = array.partial_decoder(alloc, &[0, 1])?;
-    must(
-        rt,
+    assert!(rt;
         holds(
             &present.partial_decode(alloc, &part, &options)?,
-            &[7, 8, 11, 12],
-        ),
+            &[7, 8, 11, 12]
+        )
     );
     let absent = array.partial_decoder_opt(alloc, &[1, 1], &options)?;
-    must(
-        rt,
-        holds(&absent.partial_decode(alloc, &part, &options)?, &[0; 4]),
-    );
-    must(rt, present.exists(alloc)? && !absent.exists(alloc)?);
+    assert!(rt; holds(&absent.partial_decode(alloc, &part, &options)?, &[0; 4]));
+    assert!(rt; present.exists(alloc)? && !absent.exists(alloc)?);
     Ok(())
 }
 
 /// An index list without a chunk has no decoder.
 fn must_have_no_decoder(rt: &impl Abort, alloc: Global, array: &MemoryArray, indices: &[u64]) {
     let refused = array.partial_decoder(alloc, indices);
-    must(
-        rt,
-        matches!(refused, Err(ArrayError::InvalidChunkGridIndicesError(_))),
-    );
+    assert!(rt; matches!(refused, Err(ArrayError::InvalidChunkGridIndicesError(_))));
 }
 
 #[test]
@@ -74,7 +66,7 @@ fn must_read_into(rt: &impl Abort, alloc: Global, array: &MemoryArray) -> Result
     let mut target = ArrayBytesDecodeIntoTarget::new_fixed(&mut bytes, 1, &[1, 4], &place)?;
     let cells = region(alloc, &[0, 3], &[1, 2])?;
     array.retrieve_array_subset_into_opt(alloc, &cells, &mut target, &CodecOptions::default())?;
-    must(rt, bytes == [9, 0, 1, 9]);
+    assert!(rt; bytes == [9, 0, 1, 9]);
     Ok(())
 }
 
@@ -107,10 +99,10 @@ fn must_compare(
     array: &MemoryArray,
     other: &MemoryArray,
 ) -> Result<(), Fail> {
-    must(rt, are_equal(alloc, array, array, &[0, 0], &[2, 2])?);
-    must(rt, are_equal(alloc, array, other, &[1, 0], &[1, 2])?);
-    must(rt, !are_equal(alloc, array, other, &[0, 0], &[2, 2])?);
-    must(rt, !are_equal(alloc, other, array, &[0, 1], &[1, 1])?);
+    assert!(rt; are_equal(alloc, array, array, &[0, 0], &[2, 2])?);
+    assert!(rt; are_equal(alloc, array, other, &[1, 0], &[1, 2])?);
+    assert!(rt; !are_equal(alloc, array, other, &[0, 0], &[2, 2])?);
+    assert!(rt; !are_equal(alloc, other, array, &[0, 1], &[1, 1])?);
     Ok(())
 }
 
@@ -125,8 +117,8 @@ fn arrays_are_compared_by_their_chunks(rt: HostRuntime) -> Result<(), Fail> {
 /// What is printed has no store.
 fn must_be_printed(rt: &impl Abort, alloc: Global, array: &MemoryArray) -> Result<(), Fail> {
     let text = format!(in alloc; "{array:?}")?;
-    must(rt, text.as_str().starts_with("Array"));
-    must(rt, !text.as_str().contains("MemoryStore"));
+    assert!(rt; text.as_str().starts_with("Array"));
+    assert!(rt; !text.as_str().contains("MemoryStore"));
     Ok(())
 }
 
@@ -143,9 +135,6 @@ fn options_of_the_metadata_of_codecs(rt: HostRuntime) {
     );
     let _ = options.set_codec_metadata_options(CodecMetadataOptions);
     *options.codec_metadata_options_mut() = CodecMetadataOptions;
-    must(
-        &rt,
-        *options.codec_metadata_options() == CodecMetadataOptions,
-    );
-    must(&rt, options == ArrayMetadataOptions::default());
+    assert!(rt; *options.codec_metadata_options() == CodecMetadataOptions);
+    assert!(rt; options == ArrayMetadataOptions::default());
 }

@@ -1,5 +1,4 @@
 //! Reads and stores of elements, under their older names.
-use crate::checks::must;
 use crate::made::{MemoryArray, array};
 use std::alloc::Global;
 use std::process::Abort;
@@ -21,7 +20,7 @@ fn region(alloc: Global, start: u64, extent: u64) -> Result<ArraySubset, Fail> {
 }
 
 fn must_be(rt: &impl Abort, held: &[i16], elements: &[i16]) {
-    must(rt, held == elements);
+    assert!(rt; held == elements);
 }
 
 fn must_store(rt: &impl Abort, alloc: Global, array: &mut MemoryArray) -> Result<(), Fail> {
@@ -40,11 +39,10 @@ fn must_store(rt: &impl Abort, alloc: Global, array: &mut MemoryArray) -> Result
     must_be(rt, &range, &[4, 5, 6, 7]);
     let all = array.retrieve_array_subset_elements::<i16, _>(alloc, &array.subset_all(alloc)?)?;
     must_be(rt, &all, &[4, 5, 6, 7]);
-    must(
-        rt,
+    assert!(rt;
         array
             .retrieve_chunk_elements_if_exists::<i16>(alloc, &[0])?
-            .is_some(),
+            .is_some()
     );
     Ok(())
 }
@@ -82,7 +80,7 @@ fn must_store_by_options(
     let part = array.retrieve_chunk_subset_elements_opt::<i16, _>(alloc, &[0], &one, &options)?;
     must_be(rt, &part, &[6]);
     let absent = array.retrieve_chunk_elements_if_exists_opt::<i16>(alloc, &[1], &options)?;
-    must(rt, absent.is_none());
+    assert!(rt; absent.is_none());
     Ok(())
 }
 

@@ -1,5 +1,4 @@
 //! Arrays as other programs store them: each opens, and what is stored of it opens in turn.
-use crate::checks::must;
 use crate::made::MemoryArray;
 use crate::versions::{holding, must_show, open, plain_v3};
 use std::alloc::Global;
@@ -223,7 +222,7 @@ fn must_have_cells(
 ) -> Result<(), Fail> {
     let all = array.subset_all(alloc)?;
     let held: ArrayBytes<'static> = array.retrieve_array_subset(alloc, &all)?;
-    must(rt, bytes_of(&held) == Some(cells));
+    assert!(rt; bytes_of(&held) == Some(cells));
     Ok(())
 }
 

@@ -1,5 +1,4 @@
 //! Arrays that are stored, opened and erased, and the refusals of an opening in their order.
-use crate::checks::{must, must_eq, must_for};
 use crate::made::{BYTES, MemoryArray, array, document, document_of};
 use serde_json::Map;
 use std::alloc::Global;
@@ -20,9 +19,9 @@ fn must_have_keys(
     names: &[&str],
 ) -> Result<(), Fail> {
     let keys = storage.keys(alloc)?;
-    must_eq(rt, keys.len(), names.len());
+    assert_eq!(rt; keys.len(), names.len());
     for (key, name) in keys.iter().zip(names.iter()) {
-        must_eq(rt, key.as_str(), *name);
+        assert_eq!(rt; key.as_str(), *name);
     }
     Ok(())
 }
@@ -40,7 +39,7 @@ fn must_hold_its_text(
         return Err("the metadata is of V2".into());
     };
     let text = shown.to_vec_pretty(alloc)?;
-    must(rt, *held == *text);
+    assert!(rt; *held == *text);
     Ok(())
 }
 
@@ -52,14 +51,10 @@ fn must_be_of_the_text(
     text: &str,
 ) -> Result<(), Fail> {
     let made_by = array.attributes().get("_zarrs");
-    must(rt, made_by.is_some());
+    assert!(rt; made_by.is_some());
     let document = document_of(array)?.try_clone(alloc)?;
     let written = document.with_attributes(Map::new(alloc));
-    must_eq(
-        rt,
-        written.to_value(alloc)?.to_string(alloc)?.as_str(),
-        text,
-    );
+    assert_eq!(rt; written.to_value(alloc)?.to_string(alloc)?.as_str(), text);
     Ok(())
 }
 
@@ -71,7 +66,7 @@ fn must_read(
     bytes: &[u8],
 ) -> Result<(), Fail> {
     let cells: Vec<u8> = array.retrieve_chunk(alloc, indices)?;
-    must(rt, cells.as_slice() == bytes);
+    assert!(rt; cells.as_slice() == bytes);
     Ok(())
 }
 
@@ -79,7 +74,7 @@ fn must_store(rt: &impl Abort, alloc: Global, array: &mut MemoryArray) -> Result
     array.store_metadata(alloc)?;
     must_hold_its_text(rt, alloc, array, "array/zarr.json")?;
     must_have_keys(rt, alloc, array.storage(), &["array/zarr.json"])?;
-    must_eq(rt, array.storage().calls(), 1);
+    assert_eq!(rt; array.storage().calls(), 1);
     Ok(())
 }
 
@@ -107,8 +102,8 @@ fn an_array_is_stored_and_opened(rt: HostRuntime) -> Result<(), Fail> {
 }
 
 fn must_lie_at(rt: &impl Abort, alloc: Global, array: &MemoryArray) -> Result<(), Fail> {
-    must_eq(rt, array.path().as_str(), "/a/b");
-    must_eq(rt, array.storage().calls(), 1);
+    assert_eq!(rt; array.path().as_str(), "/a/b");
+    assert_eq!(rt; array.storage().calls(), 1);
     must_be_of_the_text(rt, alloc, array, BYTES)?;
     must_hold_its_text(rt, alloc, array, "a/b/zarr.json")
 }
@@ -128,7 +123,7 @@ fn must_store_and_erase(
     array.store_metadata(alloc)?;
     must_hold_its_text(rt, alloc, array, "zarr.json")?;
     array.erase_metadata(alloc)?;
-    must_eq(rt, array.storage().calls(), 2);
+    assert_eq!(rt; array.storage().calls(), 2);
     must_have_keys(rt, alloc, array.storage(), &[])
 }
 
@@ -165,25 +160,24 @@ fn refusal(alloc: Global, storage: MemoryStore, path: &str) -> Result<ArrayCreat
 }
 
 fn must_be_a_path(rt: &impl Abort, error: &ArrayCreateError) {
-    must(
-        rt,
+    assert!(rt;
         matches!(
             error,
             ArrayCreateError::NodePathError(NodePathError::Invalid)
-        ),
+        )
     );
 }
 
 fn must_be_missing(rt: &impl Abort, error: &ArrayCreateError) {
-    must(rt, matches!(error, ArrayCreateError::MissingMetadata));
+    assert!(rt; matches!(error, ArrayCreateError::MissingMetadata));
 }
 
 fn must_be_no_document(rt: &impl Abort, error: &ArrayCreateError) {
     let ArrayCreateError::StorageError(StorageError::InvalidMetadata(key, _)) = error else {
-        must_for(rt, "no E23", false);
+        assert!(rt; false, "no E23");
         return;
     };
-    must_eq(rt, key.as_str(), "zarr.json");
+    assert_eq!(rt; key.as_str(), "zarr.json");
 }
 
 #[test]
@@ -205,12 +199,11 @@ fn e11_e24_e23(rt: HostRuntime) -> Result<(), Fail> {
 }
 
 fn must_be_refused_by_the_store(rt: &impl Abort, error: &ArrayCreateError) {
-    must(
-        rt,
+    assert!(rt;
         matches!(
             error,
             ArrayCreateError::StorageError(StorageError::Other(_))
-        ),
+        )
     );
 }
 
@@ -234,11 +227,11 @@ fn must_name_the_field(
     error: &ArrayCreateError,
 ) -> Result<(), Fail> {
     let ArrayCreateError::AdditionalFieldUnsupportedError(field) = error else {
-        must_for(rt, "no E12", false);
+        assert!(rt; false, "no E12");
         return Ok(());
     };
-    must_eq(rt, field.name(), "b");
-    must_eq(rt, field.value().to_string(alloc)?.as_str(), "[2]");
+    assert_eq!(rt; field.name(), "b");
+    assert_eq!(rt; field.value().to_string(alloc)?.as_str(), "[2]");
     Ok(())
 }
 
@@ -256,7 +249,7 @@ fn e12_names_the_first_field(rt: HostRuntime) -> Result<(), Fail> {
 }
 
 fn must_have_a_field(rt: &impl Abort, array: &MemoryArray) -> Result<(), Fail> {
-    must_eq(rt, document_of(array)?.additional_fields.len(), 1);
+    assert_eq!(rt; document_of(array)?.additional_fields.len(), 1);
     Ok(())
 }
 
@@ -269,7 +262,7 @@ fn a_field_that_need_not_be_understood(rt: HostRuntime) -> Result<(), Fail> {
 }
 
 fn must_be_no_chain(rt: &impl Abort, error: &ArrayCreateError) {
-    must(rt, matches!(error, ArrayCreateError::CodecsCreateError(_)));
+    assert!(rt; matches!(error, ArrayCreateError::CodecsCreateError(_)));
 }
 
 #[test]
@@ -285,11 +278,8 @@ fn a_store_that_refuses_keeps_its_document(rt: HostRuntime) -> Result<(), Fail> 
     let alloc = rt.alloc();
     let storage = Fault::new(holding_text(alloc, BYTES)?, Vec::new(alloc), Some(1));
     let mut array = Array::open(alloc, storage, "/")?;
-    must(
-        &rt,
-        matches!(array.erase_metadata(alloc), Err(StorageError::Other(_))),
-    );
+    assert!(rt; matches!(array.erase_metadata(alloc), Err(StorageError::Other(_))));
     let storage = array.into_storage();
-    must_eq(&rt, storage.failures(), 1);
+    assert_eq!(rt; storage.failures(), 1);
     must_have_keys(&rt, alloc, &storage.into_inner(), &["zarr.json"])
 }

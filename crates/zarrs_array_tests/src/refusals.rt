@@ -1,5 +1,4 @@
 //! Which refusal an array has of a document, and which of two comes first.
-use crate::checks::must_eq;
 use crate::made::{MemoryArray, create};
 use serde_json::Value;
 use std::alloc::Global;
@@ -74,10 +73,10 @@ fn must_come_first(
     others: &[Fault],
 ) -> Result<(), Fail> {
     for other in others {
-        must_eq(rt, of_two(alloc, "/", fault, other)?, fault.2);
+        assert_eq!(rt; of_two(alloc, "/", fault, other)?, fault.2);
     }
-    must_eq(rt, of_two(alloc, "/", fault, fault)?, fault.2);
-    must_eq(rt, of_two(alloc, "array", fault, fault)?, 11);
+    assert_eq!(rt; of_two(alloc, "/", fault, fault)?, fault.2);
+    assert_eq!(rt; of_two(alloc, "array", fault, fault)?, 11);
     Ok(())
 }
 
@@ -129,10 +128,10 @@ fn must_come_first_v2(
     others: &[Fault],
 ) -> Result<(), Fail> {
     for other in others {
-        must_eq(rt, of_two_v2(alloc, "/", fault, other)?, fault.2);
+        assert_eq!(rt; of_two_v2(alloc, "/", fault, other)?, fault.2);
     }
-    must_eq(rt, of_two_v2(alloc, "/", fault, fault)?, fault.2);
-    must_eq(rt, of_two_v2(alloc, "array", fault, fault)?, 11);
+    assert_eq!(rt; of_two_v2(alloc, "/", fault, fault)?, fault.2);
+    assert_eq!(rt; of_two_v2(alloc, "array", fault, fault)?, 11);
     Ok(())
 }
 
@@ -165,7 +164,7 @@ fn must_be_refused(
     changes: &[(&str, &str)],
     wanted: u8,
 ) -> Result<(), Fail> {
-    must_eq(rt, refusal(create_v2(alloc, "/", changes)?)?, wanted);
+    assert_eq!(rt; refusal(create_v2(alloc, "/", changes)?)?, wanted);
     Ok(())
 }
 
@@ -199,7 +198,7 @@ fn must_print(
 ) -> Result<(), Fail> {
     match create_v2(alloc, "/", changes)? {
         Ok(_) => return Err("the array is made".into()),
-        Err(error) => must_eq(rt, format!(in alloc; "{error}")?.as_str(), text),
+        Err(error) => assert_eq!(rt; format!(in alloc; "{error}")?.as_str(), text),
     }
     Ok(())
 }

@@ -1,5 +1,4 @@
 //! Setters of arrays.
-use crate::checks::must;
 use crate::made::{MemoryArray, array, document_of};
 use std::alloc::Global;
 use std::process::Abort;
@@ -15,10 +14,7 @@ fn names(alloc: Global, texts: &[&str]) -> Result<Option<Vec<DimensionName>>, Fa
 }
 
 fn must_have_names(rt: &impl Abort, array: &MemoryArray, count: Option<usize>) {
-    must(
-        rt,
-        array.dimension_names().map(|names| names.len()) == count,
-    );
+    assert!(rt; array.dimension_names().map(|names| names.len()) == count);
 }
 
 /// Two names are taken, and three are refused; then they are taken away.
@@ -26,12 +22,9 @@ fn must_name(rt: &impl Abort, alloc: Global, array: &mut MemoryArray) -> Result<
     let _ = array.set_dimension_names(alloc, names(alloc, &["y", "x"])?)?;
     must_have_names(rt, array, Some(2));
     let three = array.name_dimensions(alloc, names(alloc, &["z", "y", "x"])?);
-    must(
-        rt,
-        matches!(three, Err(ArrayCreateError::InvalidDimensionNames(3, 2))),
-    );
+    assert!(rt; matches!(three, Err(ArrayCreateError::InvalidDimensionNames(3, 2))));
     must_have_names(rt, array, Some(2));
-    must(rt, document_of(array)?.dimension_names.is_some());
+    assert!(rt; document_of(array)?.dimension_names.is_some());
     array.name_dimensions(alloc, None)?;
     must_have_names(rt, array, None);
     Ok(())

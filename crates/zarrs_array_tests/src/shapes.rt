@@ -1,5 +1,4 @@
 //! Setters of the shape and the chunk grid.
-use crate::checks::{must, must_eq};
 use crate::made::{MemoryArray, array};
 use std::alloc::Global;
 use std::process::Abort;
@@ -32,19 +31,16 @@ fn v2_array(alloc: Global) -> Result<MemoryArray, Fail> {
 
 /// The array has this shape, also in its metadata, and so many chunks along each dimension.
 fn must_be(rt: &impl Abort, array: &MemoryArray, shape: &[u64], counts: &[u64]) {
-    must(rt, array.shape() == shape);
-    must(rt, array.chunk_grid_shape() == counts);
+    assert!(rt; array.shape() == shape);
+    assert!(rt; array.chunk_grid_shape() == counts);
 }
 
 fn must_be_no_grid<T: Drop>(rt: &impl Abort, refused: Result<T, ArrayCreateError>) {
-    must(
-        rt,
-        matches!(refused, Err(ArrayCreateError::ChunkGridCreateError(_))),
-    );
+    assert!(rt; matches!(refused, Err(ArrayCreateError::ChunkGridCreateError(_))));
 }
 
 fn must_have_stored_nothing(rt: &impl Abort, array: &MemoryArray) {
-    must_eq(rt, array.storage().calls(), 0);
+    assert_eq!(rt; array.storage().calls(), 0);
 }
 
 fn must_grow(rt: &impl Abort, alloc: Global, array: &mut MemoryArray) -> Result<(), Fail> {
@@ -71,12 +67,11 @@ fn a_v2_array_has_another_shape(rt: HostRuntime) -> Result<(), Fail> {
 }
 
 fn must_have_other_dimensions<T: Drop>(rt: &impl Abort, set: Result<T, ArrayCreateError>) {
-    must(
-        rt,
+    assert!(rt;
         matches!(
             set,
             Err(ArrayCreateError::InvalidChunkGridDimensionality(1, 2))
-        ),
+        )
     );
 }
 
@@ -102,18 +97,15 @@ fn must_have_chunk(
     origin: &[u64],
     shape: &[usize],
 ) -> Result<(), Fail> {
-    must(
-        rt,
-        array.chunk_shape_usize(alloc, indices)?.as_slice() == shape,
-    );
-    must(rt, array.chunk_origin(alloc, indices)?.as_slice() == origin);
+    assert!(rt; array.chunk_shape_usize(alloc, indices)?.as_slice() == shape);
+    assert!(rt; array.chunk_origin(alloc, indices)?.as_slice() == origin);
     Ok(())
 }
 
 fn must_have_grid_named(rt: &impl Abort, array: &MemoryArray, name: &str) {
     match array.metadata() {
-        ArrayMetadata::V3(document) => must_eq(rt, document.chunk_grid.name(), name),
-        ArrayMetadata::V2(_) => must_eq(rt, "regular", name),
+        ArrayMetadata::V3(document) => assert_eq!(rt; document.chunk_grid.name(), name),
+        ArrayMetadata::V2(_) => assert_eq!(rt; "regular", name),
     }
 }
 

@@ -1,5 +1,4 @@
 //! Reads that return lists of values, and stores that take them.
-use crate::checks::{must, must_eq};
 use crate::made::{MemoryArray, array};
 use std::alloc::Global;
 use std::process::Abort;
@@ -34,12 +33,11 @@ fn region(alloc: Global, start: &[u64], shape: &[u64]) -> Result<ArraySubset, Fa
 }
 
 fn must_be_an_element_error<T: Drop>(rt: &impl Abort, read: Result<T, ArrayError>) {
-    must(
-        rt,
+    assert!(rt;
         matches!(
             read,
             Err(ArrayError::ElementError(ElementError::IncompatibleElementType))
-        ),
+        )
     );
 }
 
@@ -49,7 +47,7 @@ fn must_store_lists(rt: &impl Abort, alloc: Global, array: &mut MemoryArray) -> 
     array.store_chunk_subset(alloc, &[1], &region(alloc, &[0], &[1])?, [-3i16])?;
     array.store_array_subset(alloc, &region(alloc, &[1], &[1])?, [7i16].as_slice())?;
     let held: Vec<i16> = array.retrieve_array_subset(alloc, &array.subset_all(alloc)?)?;
-    must(rt, held.as_slice() == [1, 7, -3, -1].as_slice());
+    assert!(rt; held.as_slice() == [1, 7, -3, -1].as_slice());
     Ok(())
 }
 
@@ -70,7 +68,7 @@ fn must_refuse_other_lists(
     must_be_an_element_error(rt, array.retrieve_chunk::<Vec<u16>>(alloc, &[0]));
     must_be_an_element_error(rt, array.retrieve_chunk_if_exists::<Vec<u16>>(alloc, &[0]));
     let absent: Option<Vec<u16>> = array.retrieve_chunk_if_exists(alloc, &[1])?;
-    must(rt, absent.is_none());
+    assert!(rt; absent.is_none());
     let all = array.subset_all(alloc)?;
     must_be_an_element_error(rt, array.retrieve_array_subset::<Vec<bool>, _>(alloc, &all));
     must_be_an_element_error(
@@ -82,10 +80,7 @@ fn must_refuse_other_lists(
         array.retrieve_chunk_subset::<Vec<u8>, _>(alloc, &[0], &region(alloc, &[1], &[1])?),
     );
     let far = array.retrieve_chunk::<Vec<u16>>(alloc, &[0, 0]);
-    must(
-        rt,
-        matches!(far, Err(ArrayError::InvalidChunkGridIndicesError(_))),
-    );
+    assert!(rt; matches!(far, Err(ArrayError::InvalidChunkGridIndicesError(_))));
     Ok(())
 }
 
@@ -110,25 +105,16 @@ fn must_refuse_in_order(
     must_be_an_element_error(rt, array.store_chunks(alloc, &one, &[1u8; 3]));
     let past = region(alloc, &[1], &[2])?;
     let part = array.store_chunk_subset(alloc, &[0], &past, &[1u8; 2]);
-    must(
-        rt,
-        matches!(part, Err(ArrayError::InvalidChunkSubset(_, _, _))),
-    );
+    assert!(rt; matches!(part, Err(ArrayError::InvalidChunkSubset(_, _, _))));
     let index = array.store_chunk_subset(alloc, &[0, 0], &one, &[1u8]);
-    must(
-        rt,
-        matches!(index, Err(ArrayError::IncompatibleDimensionalityError(_))),
-    );
+    assert!(rt; matches!(index, Err(ArrayError::IncompatibleDimensionalityError(_))));
     let square = region(alloc, &[0, 0], &[1, 1])?;
     let other = array.store_array_subset(alloc, &square, &[1u8]);
-    must(
-        rt,
-        matches!(other, Err(ArrayError::InvalidArraySubset(_, _))),
-    );
+    assert!(rt; matches!(other, Err(ArrayError::InvalidArraySubset(_, _))));
     let many = region(alloc, &[0, 0], &[u64::MAX, 2])?;
     let number = array.store_chunks(alloc, &many, &[1u8]);
-    must(rt, matches!(number, Err(ArrayError::SizeOverflow)));
-    must_eq(rt, array.storage().calls(), 0);
+    assert!(rt; matches!(number, Err(ArrayError::SizeOverflow)));
+    assert_eq!(rt; array.storage().calls(), 0);
     Ok(())
 }
 
@@ -144,20 +130,17 @@ fn must_store_texts(rt: &impl Abort, alloc: Global, array: &mut MemoryArray) -> 
     let options = CodecOptions::default();
     array.store_chunk_opt(alloc, &[0], &["ab", ""], &options)?;
     let held: Vec<String> = array.retrieve_chunk_opt(alloc, &[0], &options)?;
-    must(
-        rt,
-        held.len() == 2 && held[0].as_str() == "ab" && held[1].is_empty(),
-    );
+    assert!(rt; held.len() == 2 && held[0].as_str() == "ab" && held[1].is_empty());
     let all = array.subset_all(alloc)?;
     let same: Vec<String> = array.retrieve_array_subset_opt(alloc, &all, &options)?;
-    must_eq(rt, same.len(), 2);
+    assert_eq!(rt; same.len(), 2);
     let part: Vec<String> = array.retrieve_chunk_subset_opt(alloc, &[0], &all, &options)?;
-    must_eq(rt, part.len(), 2);
+    assert_eq!(rt; part.len(), 2);
     let chunks = region(alloc, &[0], &[1])?;
     let range: Vec<String> = array.retrieve_chunks_opt(alloc, &chunks, &options)?;
-    must_eq(rt, range.len(), 2);
+    assert_eq!(rt; range.len(), 2);
     let found: Option<Vec<String>> = array.retrieve_chunk_if_exists_opt(alloc, &[0], &options)?;
-    must(rt, found.is_some());
+    assert!(rt; found.is_some());
     Ok(())
 }
 

@@ -1,5 +1,4 @@
 //! V2 arrays, and metadata in the other version.
-use crate::checks::{must, must_eq, must_for};
 use crate::made::{MemoryArray, array};
 use serde_json::{Map, Value};
 use std::alloc::Global;
@@ -69,9 +68,9 @@ fn must_have_keys(
     names: &[&str],
 ) -> Result<(), Fail> {
     let keys = storage.keys(alloc)?;
-    must_eq(rt, keys.len(), names.len());
+    assert_eq!(rt; keys.len(), names.len());
     for (key, name) in keys.iter().zip(names.iter()) {
-        must_eq(rt, key.as_str(), *name);
+        assert_eq!(rt; key.as_str(), *name);
     }
     Ok(())
 }
@@ -85,7 +84,7 @@ fn must_hold(
 ) -> Result<(), Fail> {
     let key = StoreKey::new(alloc, name)?;
     let held = storage.get(alloc, &key)?.ok_or("an absent key")?;
-    must(rt, *held == *bytes);
+    assert!(rt; *held == *bytes);
     Ok(())
 }
 
@@ -104,7 +103,7 @@ fn must_read_back(
 ) -> Result<(), Fail> {
     let region = ArraySubset::new_with_shape(alloc, [2, 2].as_slice().to_vec(alloc)?)?;
     let cells: ArrayBytes<'static> = array.retrieve_array_subset(alloc, &region)?;
-    must(rt, holds(&cells, bytes));
+    assert!(rt; holds(&cells, bytes));
     Ok(())
 }
 
@@ -145,7 +144,7 @@ pub(crate) fn must_show(
     text: &str,
 ) -> Result<(), Fail> {
     let shown = array.metadata_opt(alloc, options)?;
-    must_eq(rt, shown.to_value(alloc)?.to_string(alloc)?.as_str(), text);
+    assert_eq!(rt; shown.to_value(alloc)?.to_string(alloc)?.as_str(), text);
     Ok(())
 }
 
@@ -159,7 +158,7 @@ fn v2_metadata_is_shown_in_v3(rt: HostRuntime) -> Result<(), Fail> {
 /// The array has V3 metadata of this text, and its store has the V2 document alone.
 fn must_be_converted(rt: &impl Abort, alloc: Global, array: &MemoryArray) -> Result<(), Fail> {
     let text = array.metadata().to_value(alloc)?.to_string(alloc)?;
-    must_eq(rt, text.as_str(), CONVERTED);
+    assert_eq!(rt; text.as_str(), CONVERTED);
     must_have_keys(rt, alloc, array.storage(), &[".zarray"])
 }
 
@@ -178,7 +177,7 @@ fn must_have_members(
     text: &str,
 ) -> Result<(), Fail> {
     let attributes = Value::Object(attributes.clone()?);
-    must_eq(rt, attributes.to_string(alloc)?.as_str(), text);
+    assert_eq!(rt; attributes.to_string(alloc)?.as_str(), text);
     Ok(())
 }
 
@@ -249,7 +248,7 @@ fn must_store_two_parts(
     let options = ArrayMetadataOptions::default().with_include_zarrs_metadata(false);
     array.store_metadata_opt(alloc, &options)?;
     must_have_keys(rt, alloc, array.storage(), &[".zarray"])?;
-    must_eq(rt, array.storage().calls(), 6);
+    assert_eq!(rt; array.storage().calls(), 6);
     Ok(())
 }
 
@@ -262,7 +261,7 @@ fn v2_metadata_is_stored_in_two_parts(rt: HostRuntime) -> Result<(), Fail> {
 
 fn must_refuse_to_store(rt: &impl Abort, alloc: Global, array: &mut Array<Fault<MemoryStore>>) {
     let refused = array.store_metadata(alloc);
-    must(rt, matches!(refused, Err(StorageError::Other(_))));
+    assert!(rt; matches!(refused, Err(StorageError::Other(_))));
 }
 
 /// The attributes were stored, and the document is what it was.
@@ -325,19 +324,19 @@ fn metadata_of_each_version_is_erased(rt: HostRuntime) -> Result<(), Fail> {
 }
 
 fn must_be_of_version_3(rt: &impl Abort, metadata: &ArrayMetadata) {
-    must(rt, matches!(metadata, ArrayMetadata::V3(_)));
+    assert!(rt; matches!(metadata, ArrayMetadata::V3(_)));
 }
 
 fn must_be_missing(rt: &impl Abort, error: &ArrayCreateError) {
-    must(rt, matches!(error, ArrayCreateError::MissingMetadata));
+    assert!(rt; matches!(error, ArrayCreateError::MissingMetadata));
 }
 
 fn must_be_no_document(rt: &impl Abort, error: &ArrayCreateError, name: &str) {
     let ArrayCreateError::StorageError(StorageError::InvalidMetadata(key, _)) = error else {
-        must_for(rt, "no E23", false);
+        assert!(rt; false, "no E23");
         return;
     };
-    must_eq(rt, key.as_str(), name);
+    assert_eq!(rt; key.as_str(), name);
 }
 
 #[test]
@@ -366,11 +365,8 @@ fn v3_comes_before_v2(rt: HostRuntime) -> Result<(), Fail> {
 fn must_have_no_names(rt: &impl Abort, alloc: Global, array: &mut MemoryArray) -> Result<(), Fail> {
     array.name_dimensions(alloc, None)?;
     let named = array.name_dimensions(alloc, Some(vec![in alloc; None, None]?));
-    must(
-        rt,
-        matches!(named, Err(ArrayCreateError::UnsupportedZarrV2Array(_))),
-    );
-    must(rt, array.dimension_names().is_none());
+    assert!(rt; matches!(named, Err(ArrayCreateError::UnsupportedZarrV2Array(_))));
+    assert!(rt; array.dimension_names().is_none());
     Ok(())
 }
 
