@@ -1,16 +1,10 @@
-//! Tests of arrays: made from documents, stored and opened, read and written.
+//! Tests of arrays: made from documents, stored, opened and changed.
 #![tactic(auto)]
 
-#[cfg(test)]
-mod calls;
 #[cfg(test)]
 mod copies;
 #[cfg(test)]
 mod creation;
-#[cfg(test)]
-mod decoders;
-#[cfg(test)]
-mod elements;
 #[cfg(test)]
 mod foreign;
 #[cfg(test)]
@@ -21,9 +15,5 @@ mod opening;
 mod refusals;
 #[cfg(test)]
 mod setters;
-#[cfg(test)]
-mod shapes;
-#[cfg(test)]
-mod typed;
 #[cfg(test)]
 mod versions;

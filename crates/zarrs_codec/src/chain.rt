@@ -116,6 +116,26 @@ impl ArrayToBytesCodec {
         }
     }
 
+    /// The bytes of the cells, which are given away.
+    fn encode_owned(
+        &self,
+        alloc: Global,
+        bytes: ArrayBytes<'_>,
+        data_type: &DataType,
+    ) -> Result<Vec<u8>, CodecError>
+        requires { IsSome (cells (kind data_type.now) (data_of bytes)) }
+        ensures encoded { IfOk result (λ encoded.
+            encoding_of (leaf_meaning self.now) (kind data_type.now)
+            (data_of bytes.entry) ≡ Some encoded.items) }
+        ensures refused { IfErr result (RefusesEncoding (leaf_meaning self.now) (kind data_type.now)
+            (data_of bytes.entry)) }
+    {
+        match self {
+            ArrayToBytesCodec::Bytes(codec) => codec.encode_owned(alloc, bytes, data_type),
+            _ => self.encode_data(alloc, &bytes, data_type),
+        }
+    }
+
     /// The `count` cells of the bytes.
     #[cycle(decode)]
     pub(crate) fn decode<'a>(
@@ -221,6 +241,24 @@ impl ChainTraits for CodecChain {
         }
         let made = encode_array(alloc, &self.array_to_array, bytes, data_type, shape)?;
         self.array_to_bytes.encode(alloc, &made, bytes, data_type)
+    }
+
+    fn encode_owned(
+        &self,
+        alloc: Global,
+        bytes: ArrayBytes<'_>,
+        data_type: &DataType,
+        fill_value: &FillValue,
+        shape: &[u64],
+        options: &CodecOptions,
+    ) -> Result<Vec<u8>, CodecError> {
+        if !self.takes_shape(alloc, shape)? {
+            return Err(CodecError::DoesNotFit);
+        }
+        match encode_array(alloc, &self.array_to_array, &bytes, data_type, shape)? {
+            Some(made) => self.array_to_bytes.encode_owned(alloc, made, data_type),
+            None => self.array_to_bytes.encode_owned(alloc, bytes, data_type),
+        }
     }
 
     fn decode<'a>(

@@ -55,6 +55,31 @@ pub trait ChainTraits {
             (kind data_type.now) (fill_of (kind data_type.now) fill_value.now) shape.now
             (data_of bytes.now)) };
 
+    /// The bytes of a chunk's cells, which are given away: a chain that would put owned bytes down as they are takes
+    /// them, and copies none.
+    ///
+    /// # Errors
+    /// Those of `encode`.
+    fn encode_owned(
+        &self,
+        alloc: Global,
+        bytes: ArrayBytes<'_>,
+        data_type: &DataType,
+        fill_value: &FillValue,
+        shape: &[u64],
+        options: &CodecOptions,
+    ) -> Result<Vec<u8>, CodecError>
+        requires filled { IsSome (fill_cell (kind data_type.now) fill_value.now) }
+        requires cells { HasCells (kind data_type.now) (data_of bytes) (position_count shape.now) }
+        ensures encoded { IfOk result (λ encoded.
+            chunk_encoding (meaning self.now) (stores_empty_chunks options.now) (kind data_type.now)
+            (fill_of (kind data_type.now) fill_value.now) shape.now (data_of bytes.entry)
+            ≡ Some encoded.items) }
+        ensures refused { IfErr result
+            (RefusesChunkEncoding (meaning self.now) (stores_empty_chunks options.now)
+            (kind data_type.now) (fill_of (kind data_type.now) fill_value.now) shape.now
+            (data_of bytes.entry)) };
+
     /// The cells of a chunk's bytes. They may be lent by these bytes, so that a caller who takes a part of them copies
     /// that part alone.
     ///

@@ -7,6 +7,8 @@ mod arrays;
 #[cfg(test)]
 mod checks;
 #[cfg(test)]
+mod given;
+#[cfg(test)]
 mod leaf_codecs;
 #[cfg(test)]
 mod metadata;

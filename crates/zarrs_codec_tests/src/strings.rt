@@ -22,7 +22,7 @@ type Row = (
 );
 
 /// The chain of transposes of these orders before `vlen-utf8`.
-fn chain_of_texts(alloc: Global, orders: &[&[u64]]) -> Result<CodecChain, Fail> {
+pub(crate) fn chain_of_texts(alloc: Global, orders: &[&[u64]]) -> Result<CodecChain, Fail> {
     let mut codecs = Vec::new(alloc);
     for order in orders {
         codecs.push(transpose(alloc, order)?)?;

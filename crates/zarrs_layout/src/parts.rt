@@ -51,16 +51,17 @@ pub struct Chunk {
 impl<G: ChunkGridTraits, K: ChunkKeyEncodingTraits, C: ChainTraits> Parts<G, K, C> {
     ghost use Rattle.std.specs.Prelude.{◌≡◌, ◌<◌, ◌*◌, ◌^◌, true, false, Some, None};
     ghost use Rattle.std.specs.Prelude.{option_map, replicate};
-    ghost use Rattle.std.specs.Prelude.{IfOk, IfErr, OnOk, IfSome, IfNone, OnSome, IsOkUnless};
+    ghost use Rattle.std.specs.Prelude.{IfOk, IfErr, OnOk, IfSome, IfNone, OnSome, IsSomeAnd, IsOkUnless};
     ghost use Rattle.zarrs_chunk_grid.specs.Grids.{box_at};
     ghost use Rattle.zarrs_data_type.specs.Kind.{cell_size};
     ghost use Rattle.zarrs_data_type.specs.ArrayData.{data_of};
-    ghost use Rattle.zarrs_data_type.specs.Cells.{cells};
+    ghost use Rattle.zarrs_data_type.specs.Cells.{cells, HasCells};
     ghost use Rattle.zarrs_codec.specs.Options.{stores_empty_chunks};
     ghost use Rattle.zarrs_layout.specs.Layouts.{layout_of_parts};
     ghost use Rattle.zarrs_steps.specs.Content.{decoded_cells};
     ghost use Rattle.zarrs_steps.specs.Refusals.{RefusesBy, refusal_of, is_too_large};
     ghost use Rattle.zarrs_steps.specs.Refusals.{box_refusal, data_refusal, read_refusal};
+    ghost use Rattle.zarrs_steps.specs.Refusals.{is_left_out};
     ghost use Rattle.zarrs_layout.specs.Parts.{HasValue};
 
     /// The key of the chunk with these indices.
@@ -138,24 +139,88 @@ impl<G: ChunkGridTraits, K: ChunkKeyEncodingTraits, C: ChainTraits> Parts<G, K, 
             (stores_empty_chunks options.now) (box_of chunk.now.region).shape
             (cells (kind self.now.data_type) (data_of chunk_data.now))) (refusal_of e)) }
     {
-        if !chunk_data.validate(&self.data_type, chunk.count) {
-            return Err(ArrayError::CodecError(CodecError::DoesNotFit));
-        }
-        if !options.store_empty_chunks()
-            && chunk_data.is_fill_value(&self.data_type, &self.fill_value)
-        {
+        if self.leaves_out(chunk, chunk_data, options)? {
             return Ok(None);
         }
-        let shape = chunk.region.shape();
         let encoded = self.chain.encode(
             alloc,
             chunk_data,
             &self.data_type,
             &self.fill_value,
-            shape,
+            chunk.region.shape(),
             options,
         )?;
         Ok(Some(encoded))
+    }
+
+    /// What `value_of` returns, of data that is given away: a chain that would put owned bytes down as they are copies
+    /// none.
+    ///
+    /// # Errors
+    /// Those of `value_of`.
+    pub fn value_of_owned(
+        &self,
+        alloc: Global,
+        chunk: &Chunk,
+        chunk_data: ArrayBytes<'_>,
+        options: &CodecOptions,
+    ) -> Result<Option<Vec<u8>>, ArrayError>
+        ensures value { IfOk result
+            (λ value. HasValue (layout_of_parts self.now) (stores_empty_chunks options.now)
+            (box_of chunk.now.region) (data_of chunk_data.entry)
+            (option_map (λ v. v.items) value)) }
+        ensures accepted { OnOk result
+            (data_refusal (layout_of_parts self.now) (stores_empty_chunks options.now)
+            (box_of chunk.now.region).shape
+            (cells (kind self.now.data_type) (data_of chunk_data.entry)) ≡ None) }
+        ensures refused { IfErr result
+            (λ e. RefusesBy (data_refusal (layout_of_parts self.now)
+            (stores_empty_chunks options.now) (box_of chunk.now.region).shape
+            (cells (kind self.now.data_type) (data_of chunk_data.entry))) (refusal_of e)) }
+    {
+        if self.leaves_out(chunk, &chunk_data, options)? {
+            return Ok(None);
+        }
+        let encoded = self.chain.encode_owned(
+            alloc,
+            chunk_data,
+            &self.data_type,
+            &self.fill_value,
+            chunk.region.shape(),
+            options,
+        )?;
+        Ok(Some(encoded))
+    }
+
+    /// Whether nothing is to be present at the key of the chunk with this data: empty chunks are not kept, and each
+    /// cell is the fill value's.
+    ///
+    /// # Errors
+    /// E4 for data that is not one cell for each position, each a value of the data type.
+    fn leaves_out(
+        &self,
+        chunk: &Chunk,
+        chunk_data: &ArrayBytes<'_>,
+        options: &CodecOptions,
+    ) -> Result<bool, ArrayError>
+        ensures cells { OnOk result (HasCells (kind self.now.data_type) (data_of chunk_data.now)
+            (position_count (box_of chunk.now.region).shape)) }
+        ensures left { IfOk result
+            (λ left. IsSomeAnd (cells (kind self.now.data_type) (data_of chunk_data.now))
+            (λ cs. left ≡ is_left_out (layout_of_parts self.now) (stores_empty_chunks options.now)
+            cs)) }
+        ensures refused { IfErr result
+            (λ e. data_refusal (layout_of_parts self.now) (stores_empty_chunks options.now)
+            (box_of chunk.now.region).shape
+            (cells (kind self.now.data_type) (data_of chunk_data.now)) ≡ Some (refusal_of e)) }
+    {
+        if !chunk_data.validate(&self.data_type, chunk.count) {
+            return Err(ArrayError::CodecError(CodecError::DoesNotFit));
+        }
+        Ok(
+            !options.store_empty_chunks()
+                && chunk_data.is_fill_value(&self.data_type, &self.fill_value),
+        )
     }
 
     /// The cells of the bytes of the chunk with these indices. They may be lent by these bytes.

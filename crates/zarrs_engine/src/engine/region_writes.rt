@@ -5,7 +5,7 @@ use zarrs_chunk_grid::ChunkGridTraits;
 use zarrs_codec::{ChainTraits, CodecOptions};
 use zarrs_data_type::{ArrayBytes, lies_in_box};
 use zarrs_keys::ChunkKeyEncodingTraits;
-use zarrs_layout::{Chunk, invalid_indices};
+use zarrs_layout::invalid_indices;
 use zarrs_steps::ArrayError;
 use zarrs_storage::WritableStorageTraits;
 use zarrs_subset::{ArraySubset, IncompatibleDimensionalityError};
@@ -17,22 +17,23 @@ impl<
     C: ChainTraits,
 > Engine<S, G, K, C> {
     ghost use Rattle.std.specs.Prelude.{◌≡◌, true, false, Bool, Option, None, [], ◌∷◌, length};
-    ghost use Rattle.std.specs.Prelude.{IfOk, IfErr, OnOk};
+    ghost use Rattle.std.specs.Prelude.{IfOk, IfErr, OnOk, option_map};
     ghost use Rattle.zarrs_subset.specs.Boxes.{position_count};
     ghost use Rattle.zarrs_subset.specs.Regions.{Box, box_of, positions};
     ghost use Rattle.zarrs_chunk_grid.specs.Grids.{box_at, has_box};
     ghost use Rattle.zarrs_data_type.specs.ArrayData.{ArrayData, data_of};
-    ghost use Rattle.zarrs_data_type.specs.Cells.{HasCells};
+    ghost use Rattle.zarrs_data_type.specs.Cells.{HasCells, cells};
     ghost use Rattle.zarrs_codec.specs.Options.{stores_empty_chunks};
     ghost use Rattle.zarrs_steps.specs.ChunkBoxes.{chunks_met, part_box};
     ghost use Rattle.zarrs_steps.specs.Fronts.{StoresAll};
     ghost use Rattle.zarrs_steps.specs.Reach.{MayAskParts};
-    ghost use Rattle.zarrs_steps.specs.Refusals.{Refusal, is_too_large, refusal_of};
+    ghost use Rattle.zarrs_steps.specs.Refusals.{Refusal, data_refusal, is_too_large, refusal_of};
     ghost use Rattle.zarrs_steps.specs.StateRefusals.{RefusesPart};
     ghost use Rattle.zarrs_steps.specs.Step.{RefusesStore, StoresChunks, RefusesStoreChunks};
     ghost use Rattle.zarrs_steps.specs.Step.{StoresPart, RefusesStorePart};
     ghost use Rattle.zarrs_steps.specs.Step.{StoresRegion, RefusesStoreRegion};
     ghost use Rattle.zarrs_layout.specs.Covers.{CoverRegion};
+    ghost use Rattle.zarrs_layout.specs.Parts.{HasValue};
     ghost use Rattle.zarrs_engine.specs.Engine.{layout_of, state_of, store_of, KeepsParts};
     ghost use Rattle.zarrs_engine.specs.RegionWrites.{AreCovered, HasUpdated, LeavesPart};
     ghost use Rattle.zarrs_engine.specs.RegionWrites.{StoresOneMore};
@@ -84,36 +85,36 @@ impl<
         Ok(data)
     }
 
-    /// Puts the value of a chunk with this data at its key, by one writing call of the store.
-    fn put_chunk(
+    /// Puts the value of a chunk at its key, by one writing call of the store.
+    fn put_value(
         &mut self,
         alloc: Global,
         chunk_indices: &[u64],
-        chunk: &Chunk,
-        chunk_data: &ArrayBytes<'_>,
-        options: &CodecOptions,
+        value: Option<Vec<u8>>,
     ) -> Result<(), ArrayError>
         requires boxed { has_box (layout_of self.old).grid chunk_indices.now ≡ true }
-        requires chunk { box_of chunk.now.region
-            ≡ box_at (layout_of self.old).grid chunk_indices.now }
-        requires fit { is_too_large (layout_of self.old) (box_of chunk.now.region).shape ≡ false }
-        ensures done { (region : Box) (held : ArrayData)
+        requires fit { is_too_large (layout_of self.old)
+            (box_at (layout_of self.old).grid chunk_indices.now).shape ≡ false }
+        ensures done { (keep : Bool) (region : Box) (held made : ArrayData)
             → AreCovered (layout_of self.old).grid region
-            → HasUpdated (layout_of self.old) region held chunk_indices.now
-            (store_of S.state self.old) (data_of chunk_data.now)
             → HasCells (layout_of self.old).kind held (position_count region.shape)
-            → OnOk result (StoresOneMore (layout_of self.old) (stores_empty_chunks options.now)
-            region held chunk_indices.now (store_of S.state self.old) (store_of S.state self.new)) }
-        ensures refused { (region : Box) (held : ArrayData)
             → HasUpdated (layout_of self.old) region held chunk_indices.now
-            (store_of S.state self.old) (data_of chunk_data.now)
-            → IfErr result (λ e. LeavesPart (layout_of self.old) (stores_empty_chunks options.now)
-            region held chunk_indices.now (refusal_of e) (store_of S.state self.old)
+            (store_of S.state self.old) made
+            → HasValue (layout_of self.old) keep (box_at (layout_of self.old).grid
+            chunk_indices.now) made (option_map (λ v. v.items) value.entry)
+            → OnOk result (StoresOneMore (layout_of self.old) keep region held chunk_indices.now
+            (store_of S.state self.old) (store_of S.state self.new)) }
+        ensures refused { (keep : Bool) (region : Box) (held made : ArrayData)
+            → HasUpdated (layout_of self.old) region held chunk_indices.now
+            (store_of S.state self.old) made
+            → data_refusal (layout_of self.old) keep (box_at (layout_of self.old).grid
+            chunk_indices.now).shape (cells (layout_of self.old).kind made) ≡ None
+            → IfErr result (λ e. LeavesPart (layout_of self.old) keep region held
+            chunk_indices.now (refusal_of e) (store_of S.state self.old)
             (store_of S.state self.new)) }
         ensures parts { KeepsParts self.old self.new }
     {
         let key = self.parts.chunk_key(alloc, chunk_indices)?;
-        let value = self.parts.value_of(alloc, chunk, chunk_data, options)?;
         self.put(alloc, &key, value)?;
         Ok(())
     }
@@ -147,10 +148,12 @@ impl<
     {
         let chunk = self.parts.chunk(alloc, chunk_indices)?;
         if chunk.region == *region {
-            return self.put_chunk(alloc, chunk_indices, &chunk, region_data, options);
+            let value = self.parts.value_of(alloc, &chunk, region_data, options)?;
+            return self.put_value(alloc, chunk_indices, value);
         }
         let data = self.updated_chunk(alloc, region, region_data, chunk_indices, &chunk.region)?;
-        self.put_chunk(alloc, chunk_indices, &chunk, &data, options)
+        let value = self.parts.value_of_owned(alloc, &chunk, data, options)?;
+        self.put_value(alloc, chunk_indices, value)
     }
 
     /// Stores the region's data in these chunks, one after another.
