@@ -2,7 +2,6 @@
 use crate::made::{MemoryArray, array, create, document_of};
 use std::alloc::Global;
 use std::process::Abort;
-use std::test::Fail;
 use zarrs::{
     ArrayCreateError, ChunkGrid, ChunkKeyEncoding, ChunkKeySeparator, DataType, NodePathError,
     PluginCreateError,
@@ -31,39 +30,48 @@ fn must_have_cells(rt: &impl Abort, array: &MemoryArray) {
     assert!(rt; matches!(keys, ChunkKeyEncoding::Default(ChunkKeySeparator::Slash)));
 }
 
-fn must_have_texts(rt: &impl Abort, array: &MemoryArray) -> Result<(), Fail> {
+fn must_have_texts(rt: &impl Abort, array: &MemoryArray) {
     assert_eq!(rt; array.attributes().len(), 1);
-    assert_eq!(rt; document_of(array)?.data_type.name(), "uint8");
-    let names = array.dimension_names().ok_or("no names")?;
+    assert_eq!(rt; document_of(rt, array).data_type.name(), "uint8");
+    let names = array.dimension_names().expect(rt, "no names");
     assert_eq!(rt; names.len(), 2);
-    Ok(())
 }
 
-fn must_have_its_parts(rt: &impl Abort, alloc: Global, array: &MemoryArray) -> Result<(), Fail> {
+fn must_have_its_parts(rt: &impl Abort, alloc: Global, array: &MemoryArray) {
     must_have_a_shape(rt, array);
     must_have_cells(rt, array);
-    must_have_texts(rt, array)?;
+    must_have_texts(rt, array);
     assert_eq!(rt; array.storage().calls(), 0);
-    assert!(rt; array.storage().keys(alloc)?.is_empty());
-    Ok(())
+    assert!(rt;
+        array
+            .storage()
+            .keys(alloc)
+            .expect(rt, "no refusal")
+            .is_empty()
+    );
 }
 
 #[test]
-fn an_array_has_the_parts_of_its_document(rt: HostRuntime) -> Result<(), Fail> {
+fn an_array_has_the_parts_of_its_document(rt: HostRuntime) {
     let alloc = rt.alloc();
     let changes = [
         ("attributes", "{\"unit\":\"mm\"}"),
         ("dimension_names", "[\"y\",null]"),
         ("fill_value", "7"),
     ];
-    let array = array(alloc, "/array", &changes)?;
+    let array = array(&rt, alloc, "/array", &changes);
     must_have_its_parts(&rt, alloc, &array)
 }
 
-fn refusal(alloc: Global, path: &str, changes: &[(&str, &str)]) -> Result<ArrayCreateError, Fail> {
-    match create(alloc, path, changes)? {
-        Ok(_) => Err("the array is made".into()),
-        Err(error) => Ok(error),
+fn refusal(
+    rt: &impl Abort,
+    alloc: Global,
+    path: &str,
+    changes: &[(&str, &str)],
+) -> ArrayCreateError {
+    match create(rt, alloc, path, changes) {
+        Ok(_) => rt.panic("the array is made"),
+        Err(error) => error,
     }
 }
 
@@ -77,22 +85,20 @@ fn must_be_a_path(rt: &impl Abort, error: &ArrayCreateError) {
 }
 
 #[test]
-fn paths_of_no_node_are_refused(rt: HostRuntime) -> Result<(), Fail> {
+fn paths_of_no_node_are_refused(rt: HostRuntime) {
     let alloc = rt.alloc();
     for path in ["", "array", "/array/", "//"] {
-        must_be_a_path(&rt, &refusal(alloc, path, &[])?);
+        must_be_a_path(&rt, &refusal(&rt, alloc, path, &[]));
     }
-    Ok(())
 }
 
-fn must_print(
-    rt: &impl Abort,
-    alloc: Global,
-    error: &ArrayCreateError,
-    text: &str,
-) -> Result<(), Fail> {
-    assert_eq!(rt; format!(in alloc; "{error}")?.as_str(), text);
-    Ok(())
+fn must_print(rt: &impl Abort, alloc: Global, error: &ArrayCreateError, text: &str) {
+    assert_eq!(rt;
+        format!(in alloc; "{error}")
+            .expect(rt, "no refusal")
+            .as_str(),
+        text
+    );
 }
 
 /// The texts of refusals that name what they refuse.
@@ -110,12 +116,16 @@ const TEXTS: &[(&str, &str, &str)] = &[
 ];
 
 #[test]
-fn refusals_name_what_they_refuse(rt: HostRuntime) -> Result<(), Fail> {
+fn refusals_name_what_they_refuse(rt: HostRuntime) {
     let alloc = rt.alloc();
     for (name, value, text) in TEXTS {
-        must_print(&rt, alloc, &refusal(alloc, "/", &[(*name, *value)])?, *text)?;
+        must_print(
+            &rt,
+            alloc,
+            &refusal(&rt, alloc, "/", &[(*name, *value)]),
+            *text,
+        );
     }
-    Ok(())
 }
 
 fn must_be_grids(rt: &impl Abort, error: &ArrayCreateError) {
@@ -123,7 +133,7 @@ fn must_be_grids(rt: &impl Abort, error: &ArrayCreateError) {
 }
 
 #[test]
-fn grids_that_do_not_take_the_shape(rt: HostRuntime) -> Result<(), Fail> {
+fn grids_that_do_not_take_the_shape(rt: HostRuntime) {
     let alloc = rt.alloc();
     for grid in [
         "{\"name\":\"regular\",\"configuration\":{\"chunk_shape\":[2,2,2]}}",
@@ -131,15 +141,13 @@ fn grids_that_do_not_take_the_shape(rt: HostRuntime) -> Result<(), Fail> {
         "{\"name\":\"rectangular\",\"configuration\":{\"chunk_shape\":[[2,3],8]}}",
         "{\"name\":\"rectilinear\"}",
     ] {
-        must_be_grids(&rt, &refusal(alloc, "/", &[("chunk_grid", grid)])?);
+        must_be_grids(&rt, &refusal(&rt, alloc, "/", &[("chunk_grid", grid)]));
     }
-    Ok(())
 }
 
 #[test]
-fn a_field_that_must_be_understood_is_not_looked_at(rt: HostRuntime) -> Result<(), Fail> {
+fn a_field_that_must_be_understood_is_not_looked_at(rt: HostRuntime) {
     let alloc = rt.alloc();
-    let array = array(alloc, "/", &[("key", "{\"a\":1}")])?;
-    assert_eq!(rt; document_of(&array)?.additional_fields.len(), 1);
-    Ok(())
+    let array = array(&rt, alloc, "/", &[("key", "{\"a\":1}")]);
+    assert_eq!(rt; document_of(&rt, &array).additional_fields.len(), 1);
 }

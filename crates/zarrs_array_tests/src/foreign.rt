@@ -3,7 +3,6 @@ use crate::made::MemoryArray;
 use crate::versions::{holding, must_show, open, plain_v3};
 use std::alloc::Global;
 use std::process::Abort;
-use std::test::Fail;
 use zarrs::{Array, ArrayBytes, ArrayMetadataOptions};
 
 /// What a store holds, the V3 document that says the same, and the cells of the whole array, if they are few. Texts
@@ -214,59 +213,56 @@ fn bytes_of<'a>(data: &'a ArrayBytes<'_>) -> Option<&'a [u8]> {
     }
 }
 
-fn must_have_cells(
-    rt: &impl Abort,
-    alloc: Global,
-    array: &MemoryArray,
-    cells: &[u8],
-) -> Result<(), Fail> {
-    let all = array.subset_all(alloc)?;
-    let held: ArrayBytes<'static> = array.retrieve_array_subset(alloc, &all)?;
+fn must_have_cells(rt: &impl Abort, alloc: Global, array: &MemoryArray, cells: &[u8]) {
+    let all = array.subset_all(alloc).expect(rt, "no refusal");
+    let held: ArrayBytes<'static> = array
+        .retrieve_array_subset(alloc, &all)
+        .expect(rt, "no refusal");
     assert!(rt; bytes_of(&held) == Some(cells));
-    Ok(())
 }
 
 /// The array is that of the row.
-fn must_be(rt: &impl Abort, alloc: Global, array: &MemoryArray, row: &Row) -> Result<(), Fail> {
-    must_show(rt, alloc, array, &plain_v3(), row.converted)?;
+fn must_be(rt: &impl Abort, alloc: Global, array: &MemoryArray, row: &Row) {
+    must_show(rt, alloc, array, &plain_v3(), row.converted);
     match row.cells {
         Some(cells) => must_have_cells(rt, alloc, array, cells),
-        None => Ok(()),
+        None => {},
     }
 }
 
 #[test]
-fn arrays_of_other_programs_open(rt: HostRuntime) -> Result<(), Fail> {
+fn arrays_of_other_programs_open(rt: HostRuntime) {
     for row in ROWS {
-        let array = open(rt.alloc(), row.entries)?;
-        must_be(&rt, rt.alloc(), &array, row)?;
+        let array = open(&rt, rt.alloc(), row.entries);
+        must_be(&rt, rt.alloc(), &array, row);
     }
-    Ok(())
 }
 
 /// Stores the metadata of the array, and opens what was stored.
-fn stored_and_opened(alloc: Global, array: MemoryArray) -> Result<MemoryArray, Fail> {
+fn stored_and_opened(rt: &impl Abort, alloc: Global, array: MemoryArray) -> MemoryArray {
     let mut array = array;
     let options = ArrayMetadataOptions::default().with_include_zarrs_metadata(false);
-    array.store_metadata_opt(alloc, &options)?;
-    Ok(Array::open(alloc, array.into_storage(), "/")?)
+    array
+        .store_metadata_opt(alloc, &options)
+        .expect(rt, "no refusal");
+    Array::open(rt, alloc, array.into_storage(), "/")
 }
 
 #[test]
-fn what_is_stored_of_them_opens(rt: HostRuntime) -> Result<(), Fail> {
+fn what_is_stored_of_them_opens(rt: HostRuntime) {
     for row in ROWS {
-        let array = stored_and_opened(rt.alloc(), open(rt.alloc(), row.entries)?)?;
-        must_be(&rt, rt.alloc(), &array, row)?;
+        let array = stored_and_opened(&rt, rt.alloc(), open(&rt, rt.alloc(), row.entries));
+        must_be(&rt, rt.alloc(), &array, row);
     }
-    Ok(())
 }
 
 #[test]
-fn what_is_stored_of_them_in_v3_opens(rt: HostRuntime) -> Result<(), Fail> {
+fn what_is_stored_of_them_in_v3_opens(rt: HostRuntime) {
     for row in ROWS {
-        let array = open(rt.alloc(), row.entries)?.to_v3(rt.alloc())?;
-        let array = stored_and_opened(rt.alloc(), array)?;
-        must_be(&rt, rt.alloc(), &array, row)?;
+        let array = open(&rt, rt.alloc(), row.entries)
+            .to_v3(rt.alloc())
+            .expect(&rt, "no refusal");
+        let array = stored_and_opened(&rt, rt.alloc(), array);
+        must_be(&rt, rt.alloc(), &array, row);
     }
-    Ok(())
 }

@@ -1,7 +1,7 @@
 //! The documents and arrays of the tests.
 use serde_json::Value;
 use std::alloc::Global;
-use std::test::Fail;
+use std::process::Abort;
 use zarrs::{Array, ArrayCreateError, ArrayMetadata, ArrayMetadataV3};
 use zarrs_document::members;
 use zarrs_storage::MemoryStore;
@@ -18,38 +18,53 @@ pub(crate) const BYTES: &str = concat!(
 );
 
 /// That document with these members in place of its own.
-pub(crate) fn document(alloc: Global, changes: &[(&str, &str)]) -> Result<ArrayMetadataV3, Fail> {
-    let mut object = members::object_of(Value::from_str(alloc, BYTES)?).ok_or("no object")?;
+pub(crate) fn document(
+    rt: &impl Abort,
+    alloc: Global,
+    changes: &[(&str, &str)],
+) -> ArrayMetadataV3 {
+    let mut object = members::object_of(Value::from_str(alloc, BYTES).expect(
+        rt,
+        "no refusal",
+    )).expect(rt, "no object");
     for (name, text) in changes {
-        serde_json::put(&mut object, alloc, *name, Value::from_str(alloc, *text)?)?;
+        serde_json::put(
+            &mut object,
+            alloc,
+            *name,
+            Value::from_str(alloc, *text).expect(rt, "no refusal"),
+        )
+        .expect(rt, "no refusal");
     }
-    Ok(ArrayMetadataV3::from_value(alloc, Value::Object(object))?)
+    ArrayMetadataV3::from_value(alloc, Value::Object(object)).expect(rt, "no refusal")
 }
 
 /// The array of that document at the path, over a new store in memory.
 pub(crate) fn create(
+    rt: &impl Abort,
     alloc: Global,
     path: &str,
     changes: &[(&str, &str)],
-) -> Result<Result<MemoryArray, ArrayCreateError>, Fail> {
-    let metadata = ArrayMetadata::V3(document(alloc, changes)?);
+) -> Result<MemoryArray, ArrayCreateError> {
+    let metadata = ArrayMetadata::V3(document(rt, alloc, changes));
     let storage = MemoryStore::new(alloc);
-    Ok(Array::new_with_metadata(alloc, storage, path, metadata))
+    Array::new_with_metadata(alloc, storage, path, metadata)
 }
 
 /// The same array, which is not refused.
 pub(crate) fn array(
+    rt: &impl Abort,
     alloc: Global,
     path: &str,
     changes: &[(&str, &str)],
-) -> Result<MemoryArray, Fail> {
-    Ok(create(alloc, path, changes)??)
+) -> MemoryArray {
+    create(rt, alloc, path, changes).expect(rt, "no refusal")
 }
 
 /// The V3 document of the array.
-pub(crate) fn document_of(array: &MemoryArray) -> Result<&ArrayMetadataV3, Fail> {
+pub(crate) fn document_of(rt: &impl Abort, array: &MemoryArray) -> &ArrayMetadataV3 {
     match array.metadata() {
-        ArrayMetadata::V3(document) => Ok(document),
-        ArrayMetadata::V2(_) => Err("the metadata is of V2".into()),
+        ArrayMetadata::V3(document) => document,
+        ArrayMetadata::V2(_) => rt.panic("the metadata is of V2"),
     }
 }

@@ -3,7 +3,6 @@ use crate::made::{MemoryArray, create};
 use serde_json::Value;
 use std::alloc::Global;
 use std::process::Abort;
-use std::test::Fail;
 use zarrs::{Array, ArrayCreateError, ArrayMetadata, ArrayMetadataV2};
 use zarrs_document::members;
 use zarrs_storage::MemoryStore;
@@ -52,40 +51,33 @@ fn number(error: &ArrayCreateError) -> u8 {
     }
 }
 
-fn refusal(array: Result<MemoryArray, ArrayCreateError>) -> Result<u8, Fail> {
+fn refusal(rt: &impl Abort, array: Result<MemoryArray, ArrayCreateError>) -> u8 {
     match array {
-        Ok(_) => Err("the array is made".into()),
-        Err(error) => Ok(number(&error)),
+        Ok(_) => rt.panic("the array is made"),
+        Err(error) => number(&error),
     }
 }
 
 /// The refusal of a V3 document with these two faults.
-fn of_two(alloc: Global, path: &str, first: &Fault, second: &Fault) -> Result<u8, Fail> {
+fn of_two(rt: &impl Abort, alloc: Global, path: &str, first: &Fault, second: &Fault) -> u8 {
     let changes = [(second.0, second.1), (first.0, first.1)];
-    refusal(create(alloc, path, &changes)?)
+    refusal(rt, create(rt, alloc, path, &changes))
 }
 
 /// The fault is refused alone, and before each of these.
-fn must_come_first(
-    rt: &impl Abort,
-    alloc: Global,
-    fault: &Fault,
-    others: &[Fault],
-) -> Result<(), Fail> {
+fn must_come_first(rt: &impl Abort, alloc: Global, fault: &Fault, others: &[Fault]) {
     for other in others {
-        assert_eq!(rt; of_two(alloc, "/", fault, other)?, fault.2);
+        assert_eq!(rt; of_two(rt, alloc, "/", fault, other), fault.2);
     }
-    assert_eq!(rt; of_two(alloc, "/", fault, fault)?, fault.2);
-    assert_eq!(rt; of_two(alloc, "array", fault, fault)?, 11);
-    Ok(())
+    assert_eq!(rt; of_two(rt, alloc, "/", fault, fault), fault.2);
+    assert_eq!(rt; of_two(rt, alloc, "array", fault, fault), 11);
 }
 
 #[test]
-fn refusals_of_v3_documents_come_in_order(rt: HostRuntime) -> Result<(), Fail> {
+fn refusals_of_v3_documents_come_in_order(rt: HostRuntime) {
     for i in 0..FAULTS.len() {
-        must_come_first(&rt, rt.alloc(), &FAULTS[i], &FAULTS[i + 1..])?;
+        must_come_first(&rt, rt.alloc(), &FAULTS[i], &FAULTS[i + 1..]);
     }
-    Ok(())
 }
 
 /// A V2 document of ten by ten numbers.
@@ -95,52 +87,57 @@ const NUMBERS: &str = concat!(
 );
 
 /// That document with these members in place of its own.
-fn document_v2(alloc: Global, changes: &[(&str, &str)]) -> Result<ArrayMetadataV2, Fail> {
-    let mut object = members::object_of(Value::from_str(alloc, NUMBERS)?).ok_or("no object")?;
+fn document_v2(rt: &impl Abort, alloc: Global, changes: &[(&str, &str)]) -> ArrayMetadataV2 {
+    let mut object = members::object_of(Value::from_str(alloc, NUMBERS).expect(
+        rt,
+        "no refusal",
+    )).expect(rt, "no object");
     for (name, text) in changes {
-        serde_json::put(&mut object, alloc, *name, Value::from_str(alloc, *text)?)?;
+        serde_json::put(
+            &mut object,
+            alloc,
+            *name,
+            Value::from_str(alloc, *text).expect(rt, "no refusal"),
+        )
+        .expect(rt, "no refusal");
     }
-    let text = Value::Object(object).to_string(alloc)?;
-    Ok(ArrayMetadataV2::from_slice(alloc, text.as_bytes())?)
+    let text = Value::Object(object)
+        .to_string(alloc)
+        .expect(rt, "no refusal");
+    ArrayMetadataV2::from_slice(alloc, text.as_bytes()).expect(rt, "no refusal")
 }
 
 fn create_v2(
+    rt: &impl Abort,
     alloc: Global,
     path: &str,
     changes: &[(&str, &str)],
-) -> Result<Result<MemoryArray, ArrayCreateError>, Fail> {
-    let metadata = ArrayMetadata::V2(document_v2(alloc, changes)?);
+) -> Result<MemoryArray, ArrayCreateError> {
+    let metadata = ArrayMetadata::V2(document_v2(rt, alloc, changes));
     let storage = MemoryStore::new(alloc);
-    Ok(Array::new_with_metadata(alloc, storage, path, metadata))
+    Array::new_with_metadata(alloc, storage, path, metadata)
 }
 
 /// The refusal of a V2 document with these two faults.
-fn of_two_v2(alloc: Global, path: &str, first: &Fault, second: &Fault) -> Result<u8, Fail> {
+fn of_two_v2(rt: &impl Abort, alloc: Global, path: &str, first: &Fault, second: &Fault) -> u8 {
     let changes = [(second.0, second.1), (first.0, first.1)];
-    refusal(create_v2(alloc, path, &changes)?)
+    refusal(rt, create_v2(rt, alloc, path, &changes))
 }
 
 /// The fault is refused alone, and before each of these.
-fn must_come_first_v2(
-    rt: &impl Abort,
-    alloc: Global,
-    fault: &Fault,
-    others: &[Fault],
-) -> Result<(), Fail> {
+fn must_come_first_v2(rt: &impl Abort, alloc: Global, fault: &Fault, others: &[Fault]) {
     for other in others {
-        assert_eq!(rt; of_two_v2(alloc, "/", fault, other)?, fault.2);
+        assert_eq!(rt; of_two_v2(rt, alloc, "/", fault, other), fault.2);
     }
-    assert_eq!(rt; of_two_v2(alloc, "/", fault, fault)?, fault.2);
-    assert_eq!(rt; of_two_v2(alloc, "array", fault, fault)?, 11);
-    Ok(())
+    assert_eq!(rt; of_two_v2(rt, alloc, "/", fault, fault), fault.2);
+    assert_eq!(rt; of_two_v2(rt, alloc, "array", fault, fault), 11);
 }
 
 #[test]
-fn refusals_of_v2_documents_come_in_order(rt: HostRuntime) -> Result<(), Fail> {
+fn refusals_of_v2_documents_come_in_order(rt: HostRuntime) {
     for i in 0..FAULTS_V2.len() {
-        must_come_first_v2(&rt, rt.alloc(), &FAULTS_V2[i], &FAULTS_V2[i + 1..])?;
+        must_come_first_v2(&rt, rt.alloc(), &FAULTS_V2[i], &FAULTS_V2[i + 1..]);
     }
-    Ok(())
 }
 
 /// Members of a V2 document that this library stores no array by.
@@ -158,22 +155,15 @@ const NOT_STORED: &[&[(&str, &str)]] = &[
     ],
 ];
 
-fn must_be_refused(
-    rt: &impl Abort,
-    alloc: Global,
-    changes: &[(&str, &str)],
-    wanted: u8,
-) -> Result<(), Fail> {
-    assert_eq!(rt; refusal(create_v2(alloc, "/", changes)?)?, wanted);
-    Ok(())
+fn must_be_refused(rt: &impl Abort, alloc: Global, changes: &[(&str, &str)], wanted: u8) {
+    assert_eq!(rt; refusal(rt, create_v2(rt, alloc, "/", changes)), wanted);
 }
 
 #[test]
-fn compressors_and_other_filters_are_refused(rt: HostRuntime) -> Result<(), Fail> {
+fn compressors_and_other_filters_are_refused(rt: HostRuntime) {
     for changes in NOT_STORED {
-        must_be_refused(&rt, rt.alloc(), changes, 25)?;
+        must_be_refused(&rt, rt.alloc(), changes, 25);
     }
-    Ok(())
 }
 
 /// The texts of refusals that name what they refuse.
@@ -190,23 +180,21 @@ const TEXTS: &[(&str, &str, &str)] = &[
     ),
 ];
 
-fn must_print(
-    rt: &impl Abort,
-    alloc: Global,
-    changes: &[(&str, &str)],
-    text: &str,
-) -> Result<(), Fail> {
-    match create_v2(alloc, "/", changes)? {
-        Ok(_) => return Err("the array is made".into()),
-        Err(error) => assert_eq!(rt; format!(in alloc; "{error}")?.as_str(), text),
+fn must_print(rt: &impl Abort, alloc: Global, changes: &[(&str, &str)], text: &str) {
+    match create_v2(rt, alloc, "/", changes) {
+        Ok(_) => return rt.panic("the array is made"),
+        Err(error) => assert_eq!(rt;
+            format!(in alloc; "{error}")
+                .expect(rt, "no refusal")
+                .as_str(),
+            text
+        ),
     }
-    Ok(())
 }
 
 #[test]
-fn refusals_name_the_fill_value(rt: HostRuntime) -> Result<(), Fail> {
+fn refusals_name_the_fill_value(rt: HostRuntime) {
     for (name, value, text) in TEXTS {
-        must_print(&rt, rt.alloc(), &[(*name, *value)], *text)?;
+        must_print(&rt, rt.alloc(), &[(*name, *value)], *text);
     }
-    Ok(())
 }

@@ -2,15 +2,16 @@
 use crate::made::{MemoryArray, array, document_of};
 use std::alloc::Global;
 use std::process::Abort;
-use std::test::Fail;
 use zarrs::{ArrayCreateError, DimensionName};
 
-fn names(alloc: Global, texts: &[&str]) -> Result<Option<Vec<DimensionName>>, Fail> {
+fn names(rt: &impl Abort, alloc: Global, texts: &[&str]) -> Option<Vec<DimensionName>> {
     let mut names = Vec::new(alloc);
     for text in texts {
-        names.push(Some(String::from_str(alloc, text)?))?;
+        names
+            .push(Some(String::from_str(alloc, text).expect(rt, "no refusal")))
+            .expect(rt, "no refusal");
     }
-    Ok(Some(names))
+    Some(names)
 }
 
 fn must_have_names(rt: &impl Abort, array: &MemoryArray, count: Option<usize>) {
@@ -18,21 +19,22 @@ fn must_have_names(rt: &impl Abort, array: &MemoryArray, count: Option<usize>) {
 }
 
 /// Two names are taken, and three are refused; then they are taken away.
-fn must_name(rt: &impl Abort, alloc: Global, array: &mut MemoryArray) -> Result<(), Fail> {
-    let _ = array.set_dimension_names(alloc, names(alloc, &["y", "x"])?)?;
+fn must_name(rt: &impl Abort, alloc: Global, array: &mut MemoryArray) {
+    let _ = array
+        .set_dimension_names(alloc, names(rt, alloc, &["y", "x"]))
+        .expect(rt, "no refusal");
     must_have_names(rt, array, Some(2));
-    let three = array.name_dimensions(alloc, names(alloc, &["z", "y", "x"])?);
+    let three = array.name_dimensions(alloc, names(rt, alloc, &["z", "y", "x"]));
     assert!(rt; matches!(three, Err(ArrayCreateError::InvalidDimensionNames(3, 2))));
     must_have_names(rt, array, Some(2));
-    assert!(rt; document_of(array)?.dimension_names.is_some());
-    array.name_dimensions(alloc, None)?;
+    assert!(rt; document_of(rt, array).dimension_names.is_some());
+    array.name_dimensions(alloc, None).expect(rt, "no refusal");
     must_have_names(rt, array, None);
-    Ok(())
 }
 
 #[test]
-fn dimensions_are_named(rt: HostRuntime) -> Result<(), Fail> {
+fn dimensions_are_named(rt: HostRuntime) {
     let alloc = rt.alloc();
-    let mut array = array(alloc, "/", &[])?;
+    let mut array = array(&rt, alloc, "/", &[]);
     must_name(&rt, alloc, &mut array)
 }

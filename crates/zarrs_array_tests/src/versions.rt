@@ -3,7 +3,6 @@ use crate::made::{MemoryArray, array};
 use serde_json::{Map, Value};
 use std::alloc::Global;
 use std::process::Abort;
-use std::test::Fail;
 use zarrs::{
     Array, ArrayBytes, ArrayCreateError, ArrayMetadata, ArrayMetadataOptions, ArraySubset,
     MetadataConvertVersion, MetadataEraseVersion, MetadataRetrieveVersion, StorageError, StoreKey,
@@ -34,58 +33,52 @@ const CONVERTED: &str = concat!(
 );
 
 /// A store that holds these texts at these keys.
-pub(crate) fn holding(alloc: Global, entries: &[(&str, &str)]) -> Result<MemoryStore, Fail> {
+pub(crate) fn holding(rt: &impl Abort, alloc: Global, entries: &[(&str, &str)]) -> MemoryStore {
     let mut storage = MemoryStore::new(alloc);
     for (name, text) in entries {
-        let key = StoreKey::new(alloc, *name)?;
-        let bytes = Bytes::from_vec(text.as_bytes().to_vec(alloc)?)?;
-        storage.set(alloc, &key, bytes)?;
+        let key = StoreKey::new(alloc, *name).expect(rt, "no refusal");
+        let bytes = Bytes::from_vec(text.as_bytes().to_vec(alloc).expect(rt, "no refusal")).expect(
+            rt,
+            "no refusal",
+        );
+        storage.set(alloc, &key, bytes).expect(rt, "no refusal");
     }
-    Ok(storage)
+    storage
 }
 
-pub(crate) fn open(alloc: Global, entries: &[(&str, &str)]) -> Result<MemoryArray, Fail> {
-    Ok(Array::open(alloc, holding(alloc, entries)?, "/")?)
+pub(crate) fn open(rt: &impl Abort, alloc: Global, entries: &[(&str, &str)]) -> MemoryArray {
+    Array::open(rt, alloc, holding(rt, alloc, entries), "/")
 }
 
 /// The refusal of opening the array at the root.
 fn refusal(
+    rt: &impl Abort,
     alloc: Global,
     entries: &[(&str, &str)],
     version: MetadataRetrieveVersion,
-) -> Result<ArrayCreateError, Fail> {
-    match Array::open_opt(alloc, holding(alloc, entries)?, "/", &version) {
-        Ok(_) => Err("the array opens".into()),
-        Err(error) => Ok(error),
+) -> ArrayCreateError {
+    match Array::open_opt(alloc, holding(rt, alloc, entries), "/", &version) {
+        Ok(_) => rt.panic("the array opens"),
+        Err(error) => error,
     }
 }
 
 /// Which keys the store holds.
-fn must_have_keys(
-    rt: &impl Abort,
-    alloc: Global,
-    storage: &MemoryStore,
-    names: &[&str],
-) -> Result<(), Fail> {
-    let keys = storage.keys(alloc)?;
+fn must_have_keys(rt: &impl Abort, alloc: Global, storage: &MemoryStore, names: &[&str]) {
+    let keys = storage.keys(alloc).expect(rt, "no refusal");
     assert_eq!(rt; keys.len(), names.len());
     for (key, name) in keys.iter().zip(names.iter()) {
         assert_eq!(rt; key.as_str(), *name);
     }
-    Ok(())
 }
 
-fn must_hold(
-    rt: &impl Abort,
-    alloc: Global,
-    storage: &MemoryStore,
-    name: &str,
-    bytes: &[u8],
-) -> Result<(), Fail> {
-    let key = StoreKey::new(alloc, name)?;
-    let held = storage.get(alloc, &key)?.ok_or("an absent key")?;
+fn must_hold(rt: &impl Abort, alloc: Global, storage: &MemoryStore, name: &str, bytes: &[u8]) {
+    let key = StoreKey::new(alloc, name).expect(rt, "no refusal");
+    let held = storage
+        .get(alloc, &key)
+        .expect(rt, "no refusal")
+        .expect(rt, "an absent key");
     assert!(rt; *held == *bytes);
-    Ok(())
 }
 
 fn holds(data: &ArrayBytes<'_>, bytes: &[u8]) -> bool {
@@ -95,37 +88,42 @@ fn holds(data: &ArrayBytes<'_>, bytes: &[u8]) -> bool {
     }
 }
 
-fn must_read_back(
-    rt: &impl Abort,
-    alloc: Global,
-    array: &MemoryArray,
-    bytes: &[u8],
-) -> Result<(), Fail> {
-    let region = ArraySubset::new_with_shape(alloc, [2, 2].as_slice().to_vec(alloc)?)?;
-    let cells: ArrayBytes<'static> = array.retrieve_array_subset(alloc, &region)?;
+fn must_read_back(rt: &impl Abort, alloc: Global, array: &MemoryArray, bytes: &[u8]) {
+    let region = ArraySubset::new_with_shape(
+        alloc,
+        [2, 2].as_slice().to_vec(alloc).expect(rt, "no refusal"),
+    )
+    .expect(rt, "no refusal");
+    let cells: ArrayBytes<'static> = array
+        .retrieve_array_subset(alloc, &region)
+        .expect(rt, "no refusal");
     assert!(rt; holds(&cells, bytes));
-    Ok(())
 }
 
-fn store_all(alloc: Global, array: &mut MemoryArray, bytes: &[u8]) -> Result<(), Fail> {
-    let region = ArraySubset::new_with_shape(alloc, [2, 2].as_slice().to_vec(alloc)?)?;
-    let cells = ArrayBytes::new_flen(bytes.to_vec(alloc)?);
-    array.store_array_subset(alloc, &region, cells)?;
-    Ok(())
+fn store_all(rt: &impl Abort, alloc: Global, array: &mut MemoryArray, bytes: &[u8]) {
+    let region = ArraySubset::new_with_shape(
+        alloc,
+        [2, 2].as_slice().to_vec(alloc).expect(rt, "no refusal"),
+    )
+    .expect(rt, "no refusal");
+    let cells = ArrayBytes::new_flen(bytes.to_vec(alloc).expect(rt, "no refusal"));
+    array
+        .store_array_subset(alloc, &region, cells)
+        .expect(rt, "no refusal");
 }
 
 #[test]
-fn order_f_stores_columns(rt: HostRuntime) -> Result<(), Fail> {
+fn order_f_stores_columns(rt: HostRuntime) {
     let alloc = rt.alloc();
-    let mut array = open(alloc, &[(".zarray", COLUMNS)])?;
-    store_all(alloc, &mut array, &[1, 0, 2, 0, 3, 0, 4, 0])?;
+    let mut array = open(&rt, alloc, &[(".zarray", COLUMNS)]);
+    store_all(&rt, alloc, &mut array, &[1, 0, 2, 0, 3, 0, 4, 0]);
     must_hold(
         &rt,
         alloc,
         array.storage(),
         "0.0",
         &[1, 0, 3, 0, 2, 0, 4, 0],
-    )?;
+    );
     must_read_back(&rt, alloc, &array, &[1, 0, 2, 0, 3, 0, 4, 0])
 }
 
@@ -142,61 +140,68 @@ pub(crate) fn must_show(
     array: &MemoryArray,
     options: &ArrayMetadataOptions,
     text: &str,
-) -> Result<(), Fail> {
-    let shown = array.metadata_opt(alloc, options)?;
-    assert_eq!(rt; shown.to_value(alloc)?.to_string(alloc)?.as_str(), text);
-    Ok(())
+) {
+    let shown = array.metadata_opt(alloc, options).expect(rt, "no refusal");
+    assert_eq!(rt;
+        shown
+            .to_value(alloc)
+            .expect(rt, "no refusal")
+            .to_string(alloc)
+            .expect(rt, "no refusal")
+            .as_str(),
+        text
+    );
 }
 
 #[test]
-fn v2_metadata_is_shown_in_v3(rt: HostRuntime) -> Result<(), Fail> {
+fn v2_metadata_is_shown_in_v3(rt: HostRuntime) {
     let alloc = rt.alloc();
-    let array = open(alloc, &[(".zarray", COLUMNS)])?;
+    let array = open(&rt, alloc, &[(".zarray", COLUMNS)]);
     must_show(&rt, alloc, &array, &plain_v3(), CONVERTED)
 }
 
 /// The array has V3 metadata of this text, and its store has the V2 document alone.
-fn must_be_converted(rt: &impl Abort, alloc: Global, array: &MemoryArray) -> Result<(), Fail> {
-    let text = array.metadata().to_value(alloc)?.to_string(alloc)?;
+fn must_be_converted(rt: &impl Abort, alloc: Global, array: &MemoryArray) {
+    let text = array
+        .metadata()
+        .to_value(alloc)
+        .expect(rt, "no refusal")
+        .to_string(alloc)
+        .expect(rt, "no refusal");
     assert_eq!(rt; text.as_str(), CONVERTED);
     must_have_keys(rt, alloc, array.storage(), &[".zarray"])
 }
 
 #[test]
-fn a_v2_array_becomes_a_v3_array(rt: HostRuntime) -> Result<(), Fail> {
+fn a_v2_array_becomes_a_v3_array(rt: HostRuntime) {
     let alloc = rt.alloc();
-    let array = open(alloc, &[(".zarray", COLUMNS)])?;
-    let array = array.to_v3(alloc)?;
+    let array = open(&rt, alloc, &[(".zarray", COLUMNS)]);
+    let array = array.to_v3(alloc).expect(&rt, "no refusal");
     must_be_converted(&rt, alloc, &array)
 }
 
-fn must_have_members(
-    rt: &impl Abort,
-    alloc: Global,
-    attributes: &Map<String, Value>,
-    text: &str,
-) -> Result<(), Fail> {
-    let attributes = Value::Object(attributes.clone()?);
-    assert_eq!(rt; attributes.to_string(alloc)?.as_str(), text);
-    Ok(())
+fn must_have_members(rt: &impl Abort, alloc: Global, attributes: &Map<String, Value>, text: &str) {
+    let attributes = Value::Object(attributes.clone().expect(rt, "no refusal"));
+    assert_eq!(rt;
+        attributes
+            .to_string(alloc)
+            .expect(rt, "no refusal")
+            .as_str(),
+        text
+    );
 }
 
 /// The attributes of the array that opens, as compact text.
-fn must_have_attributes(
-    rt: &impl Abort,
-    alloc: Global,
-    entries: &[(&str, &str)],
-    text: &str,
-) -> Result<(), Fail> {
-    let array = open(alloc, entries)?;
+fn must_have_attributes(rt: &impl Abort, alloc: Global, entries: &[(&str, &str)], text: &str) {
+    let array = open(rt, alloc, entries);
     must_have_members(rt, alloc, array.attributes(), text)
 }
 
 #[test]
-fn attributes_at_their_own_key_come_first(rt: HostRuntime) -> Result<(), Fail> {
+fn attributes_at_their_own_key_come_first(rt: HostRuntime) {
     let alloc = rt.alloc();
     let array = (".zarray", WITH_ATTRIBUTES);
-    must_have_attributes(&rt, alloc, &[array], "{\"a\":1}")?;
+    must_have_attributes(&rt, alloc, &[array], "{\"a\":1}");
     must_have_attributes(&rt, alloc, &[array, (".zattrs", "{\"b\":2}")], "{\"b\":2}")
 }
 
@@ -206,56 +211,55 @@ const MADE_BY: &str = concat!(
 );
 
 /// The value at the key is the indented form of this compact text.
-fn must_hold_text(
-    rt: &impl Abort,
-    alloc: Global,
-    storage: &MemoryStore,
-    name: &str,
-    text: &str,
-) -> Result<(), Fail> {
-    let value = Value::from_str(alloc, text)?;
-    must_hold(rt, alloc, storage, name, &value.to_vec_pretty(alloc)?)
+fn must_hold_text(rt: &impl Abort, alloc: Global, storage: &MemoryStore, name: &str, text: &str) {
+    let value = Value::from_str(alloc, text).expect(rt, "no refusal");
+    must_hold(
+        rt,
+        alloc,
+        storage,
+        name,
+        &value.to_vec_pretty(alloc).expect(rt, "no refusal"),
+    )
 }
 
 /// What is stored has the attribute of this library, and the array has its own.
-fn must_store_what_it_shows(
-    rt: &impl Abort,
-    alloc: Global,
-    array: &mut MemoryArray,
-) -> Result<(), Fail> {
-    let shown = array.metadata_opt(alloc, array.metadata_options())?;
-    array.store_metadata(alloc)?;
-    let text = shown.to_value(alloc)?.to_string(alloc)?;
-    must_hold_text(rt, alloc, array.storage(), "zarr.json", &text)?;
+fn must_store_what_it_shows(rt: &impl Abort, alloc: Global, array: &mut MemoryArray) {
+    let shown = array
+        .metadata_opt(alloc, array.metadata_options())
+        .expect(rt, "no refusal");
+    array.store_metadata(alloc).expect(rt, "no refusal");
+    let text = shown
+        .to_value(alloc)
+        .expect(rt, "no refusal")
+        .to_string(alloc)
+        .expect(rt, "no refusal");
+    must_hold_text(rt, alloc, array.storage(), "zarr.json", &text);
     must_have_members(rt, alloc, array.attributes(), "{\"_zarrs\":1}")
 }
 
 #[test]
-fn the_attribute_of_this_library_is_stored_and_not_kept(rt: HostRuntime) -> Result<(), Fail> {
+fn the_attribute_of_this_library_is_stored_and_not_kept(rt: HostRuntime) {
     let alloc = rt.alloc();
-    let mut array = array(alloc, "/", &[("attributes", "{\"_zarrs\":1}")])?;
+    let mut array = array(&rt, alloc, "/", &[("attributes", "{\"_zarrs\":1}")]);
     must_store_what_it_shows(&rt, alloc, &mut array)
 }
 
 /// The attributes are stored at their key, which is erased if there is none.
-fn must_store_two_parts(
-    rt: &impl Abort,
-    alloc: Global,
-    array: &mut MemoryArray,
-) -> Result<(), Fail> {
-    array.store_metadata(alloc)?;
-    must_hold_text(rt, alloc, array.storage(), ".zattrs", MADE_BY)?;
+fn must_store_two_parts(rt: &impl Abort, alloc: Global, array: &mut MemoryArray) {
+    array.store_metadata(alloc).expect(rt, "no refusal");
+    must_hold_text(rt, alloc, array.storage(), ".zattrs", MADE_BY);
     let options = ArrayMetadataOptions::default().with_include_zarrs_metadata(false);
-    array.store_metadata_opt(alloc, &options)?;
-    must_have_keys(rt, alloc, array.storage(), &[".zarray"])?;
+    array
+        .store_metadata_opt(alloc, &options)
+        .expect(rt, "no refusal");
+    must_have_keys(rt, alloc, array.storage(), &[".zarray"]);
     assert_eq!(rt; array.storage().calls(), 6);
-    Ok(())
 }
 
 #[test]
-fn v2_metadata_is_stored_in_two_parts(rt: HostRuntime) -> Result<(), Fail> {
+fn v2_metadata_is_stored_in_two_parts(rt: HostRuntime) {
     let alloc = rt.alloc();
-    let mut array = open(alloc, &[(".zarray", COLUMNS), (".zattrs", "{}")])?;
+    let mut array = open(&rt, alloc, &[(".zarray", COLUMNS), (".zattrs", "{}")]);
     must_store_two_parts(&rt, alloc, &mut array)
 }
 
@@ -265,17 +269,17 @@ fn must_refuse_to_store(rt: &impl Abort, alloc: Global, array: &mut Array<Fault<
 }
 
 /// The attributes were stored, and the document is what it was.
-fn must_have_a_front(rt: &impl Abort, alloc: Global, storage: &MemoryStore) -> Result<(), Fail> {
-    must_have_keys(rt, alloc, storage, &[".zarray", ".zattrs"])?;
+fn must_have_a_front(rt: &impl Abort, alloc: Global, storage: &MemoryStore) {
+    must_have_keys(rt, alloc, storage, &[".zarray", ".zattrs"]);
     must_hold(rt, alloc, storage, ".zarray", WITH_ATTRIBUTES.as_bytes())
 }
 
 #[test]
-fn a_refused_store_of_v2_metadata_keeps_its_document(rt: HostRuntime) -> Result<(), Fail> {
+fn a_refused_store_of_v2_metadata_keeps_its_document(rt: HostRuntime) {
     let alloc = rt.alloc();
-    let storage = holding(alloc, &[(".zarray", WITH_ATTRIBUTES)])?;
+    let storage = holding(&rt, alloc, &[(".zarray", WITH_ATTRIBUTES)]);
     let storage = Fault::new(storage, Vec::new(alloc), Some(2));
-    let mut array = Array::open(alloc, storage, "/")?;
+    let mut array = Array::open(&rt, alloc, storage, "/");
     must_refuse_to_store(&rt, alloc, &mut array);
     let storage = array.into_storage().into_inner();
     must_have_a_front(&rt, alloc, &storage)
@@ -287,39 +291,39 @@ fn must_erase(
     array: &mut MemoryArray,
     version: MetadataEraseVersion,
     names: &[&str],
-) -> Result<(), Fail> {
-    array.erase_metadata_opt(alloc, version)?;
+) {
+    array
+        .erase_metadata_opt(alloc, version)
+        .expect(rt, "no refusal");
     must_have_keys(rt, alloc, array.storage(), names)
 }
 
 /// What is left of the metadata of both versions.
-fn must_leave(
-    rt: &impl Abort,
-    alloc: Global,
-    version: MetadataEraseVersion,
-    names: &[&str],
-) -> Result<(), Fail> {
+fn must_leave(rt: &impl Abort, alloc: Global, version: MetadataEraseVersion, names: &[&str]) {
     let entries = [
         (".zarray", COLUMNS),
         (".zattrs", "{}"),
         ("zarr.json", CONVERTED),
     ];
-    let storage = holding(alloc, &entries)?;
-    let mut array = Array::open_opt(alloc, storage, "/", &MetadataRetrieveVersion::V2)?;
+    let storage = holding(rt, alloc, &entries);
+    let mut array = Array::open_opt(alloc, storage, "/", &MetadataRetrieveVersion::V2).expect(
+        rt,
+        "no refusal",
+    );
     must_erase(rt, alloc, &mut array, version, names)
 }
 
 #[test]
-fn metadata_of_each_version_is_erased(rt: HostRuntime) -> Result<(), Fail> {
+fn metadata_of_each_version_is_erased(rt: HostRuntime) {
     let alloc = rt.alloc();
-    must_leave(&rt, alloc, MetadataEraseVersion::Default, &["zarr.json"])?;
-    must_leave(&rt, alloc, MetadataEraseVersion::V2, &["zarr.json"])?;
+    must_leave(&rt, alloc, MetadataEraseVersion::Default, &["zarr.json"]);
+    must_leave(&rt, alloc, MetadataEraseVersion::V2, &["zarr.json"]);
     must_leave(
         &rt,
         alloc,
         MetadataEraseVersion::V3,
         &[".zarray", ".zattrs"],
-    )?;
+    );
     must_leave(&rt, alloc, MetadataEraseVersion::All, &[])
 }
 
@@ -340,39 +344,40 @@ fn must_be_no_document(rt: &impl Abort, error: &ArrayCreateError, name: &str) {
 }
 
 #[test]
-fn v3_comes_before_v2(rt: HostRuntime) -> Result<(), Fail> {
+fn v3_comes_before_v2(rt: HostRuntime) {
     let alloc = rt.alloc();
     let both = [(".zarray", COLUMNS), ("zarr.json", CONVERTED)];
-    must_be_of_version_3(&rt, open(alloc, &both)?.metadata());
+    must_be_of_version_3(&rt, open(&rt, alloc, &both).metadata());
     let bad = [(".zarray", COLUMNS), ("zarr.json", "?")];
     let default = MetadataRetrieveVersion::Default;
-    must_be_no_document(&rt, &refusal(alloc, &bad, default)?, "zarr.json");
+    must_be_no_document(&rt, &refusal(&rt, alloc, &bad, default), "zarr.json");
     let v3 = MetadataRetrieveVersion::V3;
-    must_be_missing(&rt, &refusal(alloc, &[(".zarray", COLUMNS)], v3)?);
+    must_be_missing(&rt, &refusal(&rt, alloc, &[(".zarray", COLUMNS)], v3));
     let v2 = MetadataRetrieveVersion::V2;
-    must_be_missing(&rt, &refusal(alloc, &[("zarr.json", CONVERTED)], v2)?);
+    must_be_missing(&rt, &refusal(&rt, alloc, &[("zarr.json", CONVERTED)], v2));
     must_be_no_document(
         &rt,
-        &refusal(alloc, &[(".zarray", "{}")], default)?,
+        &refusal(&rt, alloc, &[(".zarray", "{}")], default),
         ".zarray",
     );
     let attributes = [(".zarray", COLUMNS), (".zattrs", "[]")];
-    must_be_no_document(&rt, &refusal(alloc, &attributes, default)?, ".zattrs");
-    Ok(())
+    must_be_no_document(&rt, &refusal(&rt, alloc, &attributes, default), ".zattrs");
 }
 
 /// A V2 array takes no names, and has none to take away.
-fn must_have_no_names(rt: &impl Abort, alloc: Global, array: &mut MemoryArray) -> Result<(), Fail> {
-    array.name_dimensions(alloc, None)?;
-    let named = array.name_dimensions(alloc, Some(vec![in alloc; None, None]?));
+fn must_have_no_names(rt: &impl Abort, alloc: Global, array: &mut MemoryArray) {
+    array.name_dimensions(alloc, None).expect(rt, "no refusal");
+    let named = array.name_dimensions(
+        alloc,
+        Some(vec![in alloc; None, None].expect(rt, "no refusal")),
+    );
     assert!(rt; matches!(named, Err(ArrayCreateError::UnsupportedZarrV2Array(_))));
     assert!(rt; array.dimension_names().is_none());
-    Ok(())
 }
 
 #[test]
-fn a_v2_array_has_no_names(rt: HostRuntime) -> Result<(), Fail> {
+fn a_v2_array_has_no_names(rt: HostRuntime) {
     let alloc = rt.alloc();
-    let mut array = open(alloc, &[(".zarray", COLUMNS)])?;
+    let mut array = open(&rt, alloc, &[(".zarray", COLUMNS)]);
     must_have_no_names(&rt, alloc, &mut array)
 }

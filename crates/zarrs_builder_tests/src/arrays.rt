@@ -4,7 +4,6 @@ use serde_json::Value;
 use std::alloc::Global;
 use std::num::NonZeroU64;
 use std::process::Abort;
-use std::test::Fail;
 use zarrs::{Array, ArrayMetadata, ArrayMetadataV2, DataTypeMetadataV2};
 use zarrs_builder::{ArrayBuilder, ToBuilder};
 use zarrs_data_type::DataType;
@@ -20,13 +19,12 @@ fn must_be_cut(rt: &impl Abort, array: &MemoryArray) {
     assert_eq!(rt; array.storage().calls(), 0);
 }
 
-fn must_be_named(rt: &impl Abort, array: &MemoryArray, names: &[&str]) -> Result<(), Fail> {
-    let said = array.dimension_names().ok_or("no names")?;
+fn must_be_named(rt: &impl Abort, array: &MemoryArray, names: &[&str]) {
+    let said = array.dimension_names().expect(rt, "no names");
     assert_eq!(rt; said.len(), names.len());
     for (name, wanted) in said.iter().zip(names.iter()) {
         assert!(rt; name.as_deref() == Some(*wanted));
     }
-    Ok(())
 }
 
 const NAMES: &[&str] = &["y", "x"];
@@ -39,19 +37,22 @@ fn numbers(alloc: Global) -> ArrayBuilder {
 }
 
 #[test]
-fn an_array_is_built(rt: HostRuntime) -> Result<(), Fail> {
+fn an_array_is_built(rt: HostRuntime) {
     let alloc = rt.alloc();
-    let array = numbers(alloc).build(alloc, MemoryStore::new(alloc), "/array")?;
+    let array = numbers(alloc)
+        .build(alloc, MemoryStore::new(alloc), "/array")
+        .expect(&rt, "no refusal");
     must_be_cut(&rt, &array);
     must_be_named(&rt, &array, &["y", "x"])
 }
 
 #[test]
-fn an_array_is_built_by_the_other_name(rt: HostRuntime) -> Result<(), Fail> {
+fn an_array_is_built_by_the_other_name(rt: HostRuntime) {
     let alloc = rt.alloc();
-    let array = numbers(alloc).build_arc(alloc, MemoryStore::new(alloc), "/array")?;
+    let array = numbers(alloc)
+        .build_arc(alloc, MemoryStore::new(alloc), "/array")
+        .expect(&rt, "no refusal");
     must_be_cut(&rt, &array);
-    Ok(())
 }
 
 fn must_be(rt: &impl Abort, numbers: &[i8], wanted: &[i8]) {
@@ -59,27 +60,39 @@ fn must_be(rt: &impl Abort, numbers: &[i8], wanted: &[i8]) {
 }
 
 /// A chunk is stored and read, and another one is fill.
-fn must_keep_cells(rt: &impl Abort, alloc: Global, array: &mut MemoryArray) -> Result<(), Fail> {
-    array.store_chunk(alloc, &[3, 3], &[1i8, 2, 3, 4])?;
-    let stored: Vec<i8> = array.retrieve_chunk(alloc, &[3, 3])?;
+fn must_keep_cells(rt: &impl Abort, alloc: Global, array: &mut MemoryArray) {
+    array
+        .store_chunk(alloc, &[3, 3], &[1i8, 2, 3, 4])
+        .expect(rt, "no refusal");
+    let stored: Vec<i8> = array
+        .retrieve_chunk(alloc, &[3, 3])
+        .expect(rt, "no refusal");
     must_be(rt, &stored, &[1, 2, 3, 4]);
-    let absent: Vec<i8> = array.retrieve_chunk(alloc, &[0, 0])?;
+    let absent: Vec<i8> = array
+        .retrieve_chunk(alloc, &[0, 0])
+        .expect(rt, "no refusal");
     must_be(rt, &absent, &[7, 7, 7, 7]);
-    Ok(())
 }
 
 #[test]
-fn a_built_array_is_stored_and_read(rt: HostRuntime) -> Result<(), Fail> {
+fn a_built_array_is_stored_and_read(rt: HostRuntime) {
     let alloc = rt.alloc();
     let mut builder = numbers(alloc);
     builder.fill_value(alloc, 7u8);
-    let mut array = builder.build(alloc, MemoryStore::new(alloc), "/")?;
+    let mut array = builder
+        .build(alloc, MemoryStore::new(alloc), "/")
+        .expect(&rt, "no refusal");
     must_keep_cells(&rt, alloc, &mut array)
 }
 
 /// The builder of the array says this metadata.
-fn must_build(rt: &impl Abort, alloc: Global, array: &MemoryArray, text: &str) -> Result<(), Fail> {
-    must_say(rt, alloc, &array.builder(alloc)?, text)
+fn must_build(rt: &impl Abort, alloc: Global, array: &MemoryArray, text: &str) {
+    must_say(
+        rt,
+        alloc,
+        &array.builder(alloc).expect(rt, "no refusal"),
+        text,
+    )
 }
 
 /// A V3 document with everything that a builder takes, by other names.
@@ -100,15 +113,19 @@ const BUILT: &str = concat!(
     "\"node_type\":\"array\",\"shape\":[5],\"zarr_format\":3}"
 );
 
-fn v3_array(alloc: Global) -> Result<MemoryArray, Fail> {
-    let document = ArrayMetadataV3::from_value(alloc, Value::from_str(alloc, DOCUMENT)?)?;
+fn v3_array(rt: &impl Abort, alloc: Global) -> MemoryArray {
+    let document = ArrayMetadataV3::from_value(
+        alloc,
+        Value::from_str(alloc, DOCUMENT).expect(rt, "no refusal"),
+    )
+    .expect(rt, "no refusal");
     let metadata = ArrayMetadata::V3(document);
-    Ok(Array::new_with_metadata(alloc, MemoryStore::new(alloc), "/", metadata)?)
+    Array::new_with_metadata(alloc, MemoryStore::new(alloc), "/", metadata).expect(rt, "no refusal")
 }
 
 #[test]
-fn a_builder_of_a_v3_array(rt: HostRuntime) -> Result<(), Fail> {
-    must_build(&rt, rt.alloc(), &v3_array(rt.alloc())?, BUILT)
+fn a_builder_of_a_v3_array(rt: HostRuntime) {
+    must_build(&rt, rt.alloc(), &v3_array(&rt, rt.alloc()), BUILT)
 }
 
 /// The V3 metadata of a V2 array of numbers whose fill value is null.
@@ -121,29 +138,33 @@ const CONVERTED: &str = concat!(
 );
 
 /// The metadata of that V2 array.
-fn v2_document(alloc: Global) -> Result<ArrayMetadataV2, Fail> {
-    let size = NonZeroU64::new(2).ok_or("no size")?;
-    let shape = [2, 2].to_vec(alloc)?;
-    let chunks = [size, size].to_vec(alloc)?;
-    let dtype = DataTypeMetadataV2::new(String::from_str(alloc, "<u2")?);
+fn v2_document(rt: &impl Abort, alloc: Global) -> ArrayMetadataV2 {
+    let size = NonZeroU64::new(2).expect(rt, "no size");
+    let shape = [2, 2].to_vec(alloc).expect(rt, "no refusal");
+    let chunks = [size, size].to_vec(alloc).expect(rt, "no refusal");
+    let dtype = DataTypeMetadataV2::new(String::from_str(alloc, "<u2").expect(rt, "no refusal"));
     let fill_value = FillValueMetadata::Null;
-    Ok(ArrayMetadataV2::new(shape, chunks, dtype, fill_value, Value::Null, Value::Null))
+    ArrayMetadataV2::new(shape, chunks, dtype, fill_value, Value::Null, Value::Null)
 }
 
-fn v2_array(alloc: Global) -> Result<MemoryArray, Fail> {
-    let metadata = ArrayMetadata::V2(v2_document(alloc)?);
-    Ok(Array::new_with_metadata(alloc, MemoryStore::new(alloc), "/", metadata)?)
-}
-
-#[test]
-fn a_builder_of_a_v2_array(rt: HostRuntime) -> Result<(), Fail> {
-    must_build(&rt, rt.alloc(), &v2_array(rt.alloc())?, CONVERTED)
+fn v2_array(rt: &impl Abort, alloc: Global) -> MemoryArray {
+    let metadata = ArrayMetadata::V2(v2_document(rt, alloc));
+    Array::new_with_metadata(alloc, MemoryStore::new(alloc), "/", metadata).expect(rt, "no refusal")
 }
 
 #[test]
-fn a_builder_is_used_again(rt: HostRuntime) -> Result<(), Fail> {
+fn a_builder_of_a_v2_array(rt: HostRuntime) {
+    must_build(&rt, rt.alloc(), &v2_array(&rt, rt.alloc()), CONVERTED)
+}
+
+#[test]
+fn a_builder_is_used_again(rt: HostRuntime) {
     let alloc = rt.alloc();
     let builder = bytes(alloc);
-    drop(builder.build(alloc, MemoryStore::new(alloc), "/")?);
+    drop(
+        builder
+            .build(alloc, MemoryStore::new(alloc), "/")
+            .expect(&rt, "no refusal"),
+    );
     must_say(&rt, alloc, &builder, BYTES)
 }

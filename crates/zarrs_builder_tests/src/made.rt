@@ -1,7 +1,6 @@
 //! The builders of the tests.
 use std::alloc::Global;
 use std::process::Abort;
-use std::test::Fail;
 use zarrs_builder::ArrayBuilder;
 use zarrs_data_type::DataType;
 
@@ -20,14 +19,12 @@ pub(crate) const BYTES: &str = concat!(
 );
 
 /// The metadata that is built is this text.
-pub(crate) fn must_say(
-    rt: &impl Abort,
-    alloc: Global,
-    builder: &ArrayBuilder,
-    text: &str,
-) -> Result<(), Fail> {
-    let metadata = builder.build_metadata(alloc)?;
-    let said = metadata.to_value(alloc)?.to_string(alloc)?;
+pub(crate) fn must_say(rt: &impl Abort, alloc: Global, builder: &ArrayBuilder, text: &str) {
+    let metadata = builder.build_metadata(alloc).expect(rt, "no refusal");
+    let said = metadata
+        .to_value(alloc)
+        .expect(rt, "no refusal")
+        .to_string(alloc)
+        .expect(rt, "no refusal");
     assert_eq!(rt; said.as_str(), text);
-    Ok(())
 }

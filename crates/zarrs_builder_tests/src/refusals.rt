@@ -3,7 +3,6 @@ use crate::made::bytes;
 use std::alloc::Global;
 use std::num::NonZeroUsize;
 use std::process::Abort;
-use std::test::Fail;
 use zarrs_builder::{
     ArrayBuilder, ArrayBuilderChunkGridMetadata, ArrayBuilderDataType, ArrayBuilderFillValue,
 };
@@ -13,30 +12,32 @@ use zarrs_metadata::PluginCreateError;
 use zarrs_options::ArrayCreateError;
 use zarrs_storage::MemoryStore;
 
-fn refusal(alloc: Global, builder: &ArrayBuilder) -> Result<ArrayCreateError, Fail> {
+fn refusal(rt: &impl Abort, alloc: Global, builder: &ArrayBuilder) -> ArrayCreateError {
     match builder.build_metadata(alloc) {
-        Ok(_) => Err("the metadata is built".into()),
-        Err(error) => Ok(error),
+        Ok(_) => rt.panic("the metadata is built"),
+        Err(error) => error,
     }
 }
 
 /// The refusal of 8 by 8 numbers with this grid.
 fn of_grid<G: IntoField<ArrayBuilderChunkGridMetadata>>(
+    rt: &impl Abort,
     alloc: Global,
     grid: G,
-) -> Result<ArrayCreateError, Fail> {
+) -> ArrayCreateError {
     let builder = ArrayBuilder::new(alloc, [8u64, 8], grid, DataType::Int8, 0i8);
-    refusal(alloc, &builder)
+    refusal(rt, alloc, &builder)
 }
 
 /// The refusal of 8 by 8 cells of this data type with this fill value.
 fn of_cells<D: IntoField<ArrayBuilderDataType>, F: IntoField<ArrayBuilderFillValue>>(
+    rt: &impl Abort,
     alloc: Global,
     data_type: D,
     fill_value: F,
-) -> Result<ArrayCreateError, Fail> {
+) -> ArrayCreateError {
     let builder = ArrayBuilder::new(alloc, [8u64, 8], [2u64, 2], data_type, fill_value);
-    refusal(alloc, &builder)
+    refusal(rt, alloc, &builder)
 }
 
 fn must_be_of_the_grid(rt: &impl Abort, error: &ArrayCreateError) {
@@ -49,13 +50,12 @@ fn must_be_of_the_grid(rt: &impl Abort, error: &ArrayCreateError) {
 }
 
 #[test]
-fn grids_that_are_none(rt: HostRuntime) -> Result<(), Fail> {
+fn grids_that_are_none(rt: HostRuntime) {
     let alloc = rt.alloc();
-    must_be_of_the_grid(&rt, &of_grid(alloc, [2u64, 2, 2])?);
-    must_be_of_the_grid(&rt, &of_grid(alloc, [0u64, 0])?);
-    must_be_of_the_grid(&rt, &of_grid(alloc, "regular")?);
-    must_be_of_the_grid(&rt, &of_grid(alloc, "{")?);
-    Ok(())
+    must_be_of_the_grid(&rt, &of_grid(&rt, alloc, [2u64, 2, 2]));
+    must_be_of_the_grid(&rt, &of_grid(&rt, alloc, [0u64, 0]));
+    must_be_of_the_grid(&rt, &of_grid(&rt, alloc, "regular"));
+    must_be_of_the_grid(&rt, &of_grid(&rt, alloc, "{"));
 }
 
 fn must_be_of_the_data_type(rt: &impl Abort, error: &ArrayCreateError) {
@@ -68,22 +68,18 @@ fn must_be_of_the_data_type(rt: &impl Abort, error: &ArrayCreateError) {
 }
 
 #[test]
-fn data_types_that_are_none(rt: HostRuntime) -> Result<(), Fail> {
+fn data_types_that_are_none(rt: HostRuntime) {
     let alloc = rt.alloc();
-    must_be_of_the_data_type(&rt, &of_cells(alloc, "float64", 0u8)?);
-    must_be_of_the_data_type(&rt, &of_cells(alloc, "{\"name\":\"uint8\"", 0u8)?);
-    must_be_of_the_data_type(&rt, &of_cells(alloc, "{\"name\":7}", 0u8)?);
-    Ok(())
+    must_be_of_the_data_type(&rt, &of_cells(&rt, alloc, "float64", 0u8));
+    must_be_of_the_data_type(&rt, &of_cells(&rt, alloc, "{\"name\":\"uint8\"", 0u8));
+    must_be_of_the_data_type(&rt, &of_cells(&rt, alloc, "{\"name\":7}", 0u8));
 }
 
-fn must_print(
-    rt: &impl Abort,
-    alloc: Global,
-    error: &ArrayCreateError,
-    text: &str,
-) -> Result<(), Fail> {
-    assert_eq!(rt; error.to_string(alloc)?.as_str(), text);
-    Ok(())
+fn must_print(rt: &impl Abort, alloc: Global, error: &ArrayCreateError, text: &str) {
+    assert_eq!(rt;
+        error.to_string(alloc).expect(rt, "no refusal").as_str(),
+        text
+    );
 }
 
 fn must_be_of_fill_metadata(rt: &impl Abort, error: &ArrayCreateError) {
@@ -91,12 +87,17 @@ fn must_be_of_fill_metadata(rt: &impl Abort, error: &ArrayCreateError) {
 }
 
 #[test]
-fn fill_values_that_are_none(rt: HostRuntime) -> Result<(), Fail> {
+fn fill_values_that_are_none(rt: HostRuntime) {
     let alloc = rt.alloc();
-    let list = of_cells(alloc, DataType::Int8, vec![in alloc; 0i32, 0]?)?;
+    let list = of_cells(
+        &rt,
+        alloc,
+        DataType::Int8,
+        vec![in alloc; 0i32, 0].expect(&rt, "no refusal"),
+    );
     must_be_of_fill_metadata(&rt, &list);
-    must_be_of_fill_metadata(&rt, &of_cells(alloc, DataType::Int8, 128i16)?);
-    let number = of_cells(alloc, DataType::String, 123u8)?;
+    must_be_of_fill_metadata(&rt, &of_cells(&rt, alloc, DataType::Int8, 128i16));
+    let number = of_cells(&rt, alloc, DataType::String, 123u8);
     must_be_of_fill_metadata(&rt, &number);
     let text = "invalid fill value metadata for data type `string`: 123";
     must_print(&rt, alloc, &number, text)
@@ -107,10 +108,10 @@ fn must_be_of_the_fill_value(rt: &impl Abort, error: &ArrayCreateError) {
 }
 
 #[test]
-fn bytes_that_are_no_fill_value(rt: HostRuntime) -> Result<(), Fail> {
+fn bytes_that_are_no_fill_value(rt: HostRuntime) {
     let alloc = rt.alloc();
-    let bytes = FillValue::new([0, 0].to_vec(alloc)?);
-    let error = of_cells(alloc, "int8", bytes)?;
+    let bytes = FillValue::new([0, 0].to_vec(alloc).expect(&rt, "no refusal"));
+    let error = of_cells(&rt, alloc, "int8", bytes);
     must_be_of_the_fill_value(&rt, &error);
     must_print(
         &rt,
@@ -124,17 +125,16 @@ fn must_be_of_the_names(rt: &impl Abort, error: &ArrayCreateError) {
     assert!(rt; matches!(error, ArrayCreateError::InvalidDimensionNames(3, 2)));
 }
 
-fn of_names(alloc: Global, names: &[&'static str]) -> Result<ArrayCreateError, Fail> {
+fn of_names(rt: &impl Abort, alloc: Global, names: &[&'static str]) -> ArrayCreateError {
     let mut builder = bytes(alloc);
     builder.dimension_names(alloc, Some(names.iter().copied()));
-    refusal(alloc, &builder)
+    refusal(rt, alloc, &builder)
 }
 
 #[test]
-fn three_names_of_two_dimensions(rt: HostRuntime) -> Result<(), Fail> {
+fn three_names_of_two_dimensions(rt: HostRuntime) {
     let alloc = rt.alloc();
-    must_be_of_the_names(&rt, &of_names(alloc, &["z", "y", "x"])?);
-    Ok(())
+    must_be_of_the_names(&rt, &of_names(&rt, alloc, &["z", "y", "x"]));
 }
 
 const THREE_NAMES: &[&str] = &["y", "x", "t"];
@@ -147,7 +147,7 @@ fn faulty(alloc: Global) -> ArrayBuilder {
 }
 
 /// That builder without the first faults.
-fn less_faulty(alloc: Global, mended: usize) -> Result<ArrayBuilder, Fail> {
+fn less_faulty(rt: &impl Abort, alloc: Global, mended: usize) -> ArrayBuilder {
     let mut builder = faulty(alloc);
     if mended > 0 {
         builder.data_type(alloc, "int16");
@@ -156,31 +156,30 @@ fn less_faulty(alloc: Global, mended: usize) -> Result<ArrayBuilder, Fail> {
         builder.chunk_grid_metadata(alloc, [4u64, 4]);
     }
     if mended > 2 {
-        let bytes = FillValue::new([7].to_vec(alloc)?);
+        let bytes = FillValue::new([7].to_vec(alloc).expect(rt, "no refusal"));
         builder.fill_value(alloc, bytes);
     }
     if mended > 3 {
         builder.dimension_names(alloc, None::<[&str; 0]>);
     }
-    Ok(builder)
+    builder
 }
 
 #[test]
-fn refusals_come_in_order(rt: HostRuntime) -> Result<(), Fail> {
+fn refusals_come_in_order(rt: HostRuntime) {
     let alloc = rt.alloc();
-    must_be_of_the_data_type(&rt, &refusal(alloc, &less_faulty(alloc, 0)?)?);
-    must_be_of_the_grid(&rt, &refusal(alloc, &less_faulty(alloc, 1)?)?);
-    must_be_of_fill_metadata(&rt, &refusal(alloc, &less_faulty(alloc, 2)?)?);
-    must_be_of_the_names(&rt, &refusal(alloc, &less_faulty(alloc, 3)?)?);
-    must_be_of_the_fill_value(&rt, &refusal(alloc, &less_faulty(alloc, 4)?)?);
-    Ok(())
+    must_be_of_the_data_type(&rt, &refusal(&rt, alloc, &less_faulty(&rt, alloc, 0)));
+    must_be_of_the_grid(&rt, &refusal(&rt, alloc, &less_faulty(&rt, alloc, 1)));
+    must_be_of_fill_metadata(&rt, &refusal(&rt, alloc, &less_faulty(&rt, alloc, 2)));
+    must_be_of_the_names(&rt, &refusal(&rt, alloc, &less_faulty(&rt, alloc, 3)));
+    must_be_of_the_fill_value(&rt, &refusal(&rt, alloc, &less_faulty(&rt, alloc, 4)));
 }
 
 /// The refusal of the array at the path.
-fn of_path(alloc: Global, builder: &ArrayBuilder, path: &str) -> Result<ArrayCreateError, Fail> {
+fn of_path(rt: &impl Abort, alloc: Global, builder: &ArrayBuilder, path: &str) -> ArrayCreateError {
     match builder.build(alloc, MemoryStore::new(alloc), path) {
-        Ok(_) => Err("the array is built".into()),
-        Err(error) => Ok(error),
+        Ok(_) => rt.panic("the array is built"),
+        Err(error) => error,
     }
 }
 
@@ -194,24 +193,22 @@ fn must_be_of_the_path(rt: &impl Abort, error: &ArrayCreateError) {
 }
 
 #[test]
-fn a_path_comes_before_the_metadata(rt: HostRuntime) -> Result<(), Fail> {
+fn a_path_comes_before_the_metadata(rt: HostRuntime) {
     let alloc = rt.alloc();
-    must_be_of_the_path(&rt, &of_path(alloc, &faulty(alloc), "array")?);
-    must_be_of_the_data_type(&rt, &of_path(alloc, &faulty(alloc), "/array")?);
-    Ok(())
+    must_be_of_the_path(&rt, &of_path(&rt, alloc, &faulty(alloc), "array"));
+    must_be_of_the_data_type(&rt, &of_path(&rt, alloc, &faulty(alloc), "/array"));
 }
 
 /// A raw type of 65,537 bytes.
-fn huge(alloc: Global) -> Result<ArrayBuilder, Fail> {
-    let size = NonZeroUsize::new(65_537).ok_or("no size")?;
-    let fill_value = FillValue::new(vec![in alloc; 0; 65_537]?);
+fn huge(rt: &impl Abort, alloc: Global) -> ArrayBuilder {
+    let size = NonZeroUsize::new(65_537).expect(rt, "no size");
+    let fill_value = FillValue::new(vec![in alloc; 0; 65_537].expect(rt, "no refusal"));
     let data_type = DataType::Raw(size);
-    Ok(ArrayBuilder::new(alloc, [2u64], [2u64], data_type, fill_value))
+    ArrayBuilder::new(alloc, [2u64], [2u64], data_type, fill_value)
 }
 
 #[test]
-fn a_raw_type_that_metadata_cannot_say(rt: HostRuntime) -> Result<(), Fail> {
+fn a_raw_type_that_metadata_cannot_say(rt: HostRuntime) {
     let alloc = rt.alloc();
-    must_be_of_the_data_type(&rt, &of_path(alloc, &huge(alloc)?, "/")?);
-    Ok(())
+    must_be_of_the_data_type(&rt, &of_path(&rt, alloc, &huge(&rt, alloc), "/"));
 }

@@ -4,7 +4,6 @@ use serde_json::{Map, Value};
 use std::alloc::Global;
 use std::num::NonZeroU64;
 use std::process::Abort;
-use std::test::Fail;
 use zarrs_builder::{ArrayBuilder, ArrayBuilderChunkGridMetadata, ArrayBuilderFillValue};
 use zarrs_chunk_grid::{ChunkGrid, RegularBoundedChunkGrid};
 use zarrs_codec::{
@@ -17,7 +16,7 @@ use zarrs_metadata::{FillValueMetadata, MetadataV3};
 use zarrs_options::StorageTransformerChain;
 
 #[test]
-fn a_builder_says_what_it_was_given(rt: HostRuntime) -> Result<(), Fail> {
+fn a_builder_says_what_it_was_given(rt: HostRuntime) {
     must_say(&rt, rt.alloc(), &bytes(rt.alloc()), BYTES)
 }
 
@@ -32,35 +31,42 @@ const OPTIONAL: &str = concat!(
 );
 
 #[test]
-fn an_optional_type_has_a_default_codec(rt: HostRuntime) -> Result<(), Fail> {
+fn an_optional_type_has_a_default_codec(rt: HostRuntime) {
     let alloc = rt.alloc();
     let text = "{\"name\":\"zarrs.optional\",\"configuration\":{\"name\":\"uint8\"}}";
     let builder = ArrayBuilder::new(alloc, [4u64], [2u64], text, FillValueMetadata::Null);
     must_say(&rt, alloc, &builder, OPTIONAL)
 }
 
-fn object(alloc: Global, text: &str) -> Result<Map<String, Value>, Fail> {
-    Ok(members::object_of(Value::from_str(alloc, text)?).ok_or("no object")?)
+fn object(rt: &impl Abort, alloc: Global, text: &str) -> Map<String, Value> {
+    members::object_of(Value::from_str(alloc, text).expect(rt, "no refusal")).expect(
+        rt,
+        "no object",
+    )
 }
 
 /// The additional field `key`, which need not be understood.
-fn field(alloc: Global) -> Result<AdditionalFieldsV3, Fail> {
+fn field(rt: &impl Abort, alloc: Global) -> AdditionalFieldsV3 {
     let mut fields = Map::new(alloc);
-    let value = Value::Object(object(alloc, "{\"a\":1}")?);
-    drop(fields.insert(
-        String::from_str(alloc, "key")?,
-        AdditionalFieldV3::new(value, false),
-    )?);
-    Ok(fields)
+    let value = Value::Object(object(rt, alloc, "{\"a\":1}"));
+    drop(
+        fields
+            .insert(
+                String::from_str(alloc, "key").expect(rt, "no refusal"),
+                AdditionalFieldV3::new(value, false),
+            )
+            .expect(rt, "no refusal"),
+    );
+    fields
 }
 
 const NAMES: &[&str] = &["y", "x"];
 
 /// Everything but the shape and the grid is set.
-fn everything(alloc: Global) -> Result<ArrayBuilder, Fail> {
-    let codecs = vec![in alloc; ArrayToArrayCodec::Squeeze(SqueezeCodec)]?;
-    let attributes = object(alloc, "{\"unit\":\"mm\"}")?;
-    let fields = field(alloc)?;
+fn everything(rt: &impl Abort, alloc: Global) -> ArrayBuilder {
+    let codecs = vec![in alloc; ArrayToArrayCodec::Squeeze(SqueezeCodec)].expect(rt, "no refusal");
+    let attributes = object(rt, alloc, "{\"unit\":\"mm\"}");
+    let fields = field(rt, alloc);
     let mut builder = bytes(alloc);
     builder
         .data_type(alloc, DataType::UInt16)
@@ -73,7 +79,7 @@ fn everything(alloc: Global) -> Result<ArrayBuilder, Fail> {
         .additional_fields(fields)
         .dimension_names(alloc, Some(NAMES.iter().copied()))
         .storage_transformers(StorageTransformerChain);
-    Ok(builder)
+    builder
 }
 
 const EVERYTHING: &str = concat!(
@@ -87,13 +93,13 @@ const EVERYTHING: &str = concat!(
 );
 
 #[test]
-fn each_part_is_replaced(rt: HostRuntime) -> Result<(), Fail> {
-    must_say(&rt, rt.alloc(), &everything(rt.alloc())?, EVERYTHING)
+fn each_part_is_replaced(rt: HostRuntime) {
+    must_say(&rt, rt.alloc(), &everything(&rt, rt.alloc()), EVERYTHING)
 }
 
 /// What was set is taken away again, or set to what a new builder has.
-fn taken_back(alloc: Global) -> Result<ArrayBuilder, Fail> {
-    let mut builder = everything(alloc)?;
+fn taken_back(rt: &impl Abort, alloc: Global) -> ArrayBuilder {
+    let mut builder = everything(rt, alloc);
     builder.attributes_mut().clear();
     builder
         .data_type(alloc, "uint8")
@@ -103,27 +109,25 @@ fn taken_back(alloc: Global) -> Result<ArrayBuilder, Fail> {
         .array_to_bytes_codec(ArrayToBytesCodec::Bytes(BytesCodec::little()))
         .additional_fields(Map::new(alloc))
         .dimension_names(alloc, None::<[&str; 0]>);
-    Ok(builder)
+    builder
 }
 
 #[test]
-fn each_part_is_taken_back(rt: HostRuntime) -> Result<(), Fail> {
-    must_say(&rt, rt.alloc(), &taken_back(rt.alloc())?, BYTES)
+fn each_part_is_taken_back(rt: HostRuntime) {
+    must_say(&rt, rt.alloc(), &taken_back(&rt, rt.alloc()), BYTES)
 }
 
 /// The shape and the grid of the metadata that is built.
-fn must_be_cut(
-    rt: &impl Abort,
-    alloc: Global,
-    builder: &ArrayBuilder,
-    shape: &[u64],
-    grid: &str,
-) -> Result<(), Fail> {
-    let metadata = builder.build_metadata(alloc)?;
+fn must_be_cut(rt: &impl Abort, alloc: Global, builder: &ArrayBuilder, shape: &[u64], grid: &str) {
+    let metadata = builder.build_metadata(alloc).expect(rt, "no refusal");
     assert_eq!(rt; metadata.shape.as_slice(), shape);
-    let said = metadata.chunk_grid.to_value(alloc)?.to_string(alloc)?;
+    let said = metadata
+        .chunk_grid
+        .to_value(alloc)
+        .expect(rt, "no refusal")
+        .to_string(alloc)
+        .expect(rt, "no refusal");
     assert_eq!(rt; said.as_str(), grid);
-    Ok(())
 }
 
 const REGULAR: &str = "{\"configuration\":{\"chunk_shape\":[4,4]},\"name\":\"regular\"}";
@@ -131,30 +135,34 @@ const REGULAR: &str = "{\"configuration\":{\"chunk_shape\":[4,4]},\"name\":\"reg
 const BOUNDED: &str = "{\"configuration\":{\"chunk_shape\":[3]},\"name\":\"regular_bounded\"}";
 
 #[test]
-fn a_shape_keeps_the_grid(rt: HostRuntime) -> Result<(), Fail> {
+fn a_shape_keeps_the_grid(rt: HostRuntime) {
     let mut builder = bytes(rt.alloc());
     builder.shape(rt.alloc(), [10u64, 12]);
     must_be_cut(&rt, rt.alloc(), &builder, &[10, 12], REGULAR)
 }
 
-fn bounded(alloc: Global) -> Result<ChunkGrid, Fail> {
-    let size = NonZeroU64::new(3).ok_or("no size")?;
-    let shape = vec![in alloc; 5]?;
-    let grid = RegularBoundedChunkGrid::new(alloc, shape, vec![in alloc; size]?)?;
-    Ok(ChunkGrid::RegularBounded(grid))
+fn bounded(rt: &impl Abort, alloc: Global) -> ChunkGrid {
+    let size = NonZeroU64::new(3).expect(rt, "no size");
+    let shape = vec![in alloc; 5].expect(rt, "no refusal");
+    let grid = RegularBoundedChunkGrid::new(
+        alloc,
+        shape,
+        vec![in alloc; size].expect(rt, "no refusal"),
+    ).expect(rt, "no refusal");
+    ChunkGrid::RegularBounded(grid)
 }
 
 #[test]
-fn a_grid_sets_the_shape(rt: HostRuntime) -> Result<(), Fail> {
-    let grid = bounded(rt.alloc())?;
+fn a_grid_sets_the_shape(rt: HostRuntime) {
+    let grid = bounded(&rt, rt.alloc());
     let mut builder = bytes(rt.alloc());
     builder.chunk_grid(rt.alloc(), grid);
     must_be_cut(&rt, rt.alloc(), &builder, &[5], BOUNDED)
 }
 
 #[test]
-fn a_grid_makes_a_builder(rt: HostRuntime) -> Result<(), Fail> {
-    let grid = bounded(rt.alloc())?;
+fn a_grid_makes_a_builder(rt: HostRuntime) {
+    let grid = bounded(&rt, rt.alloc());
     let mut builder = ArrayBuilder::new_with_chunk_grid(rt.alloc(), grid, "int8", -1i8);
     builder.shape(rt.alloc(), [7u64].as_slice());
     must_be_cut(&rt, rt.alloc(), &builder, &[7], BOUNDED)
@@ -165,43 +173,47 @@ fn must_be_regular<G: IntoField<ArrayBuilderChunkGridMetadata>>(
     rt: &impl Abort,
     alloc: Global,
     grid: G,
-) -> Result<(), Fail> {
+) {
     let mut builder = ArrayBuilder::new(alloc, [8u64, 8], "regular", DataType::UInt8, 0u8);
     builder.chunk_grid_metadata(alloc, grid);
     must_be_cut(rt, alloc, &builder, &[8, 8], REGULAR)
 }
 
 #[test]
-fn grids_by_their_sizes(rt: HostRuntime) -> Result<(), Fail> {
+fn grids_by_their_sizes(rt: HostRuntime) {
     let alloc = rt.alloc();
     let sizes: [u64; 2] = [4, 4];
-    must_be_regular(&rt, alloc, sizes)?;
-    must_be_regular(&rt, alloc, &sizes)?;
-    must_be_regular(&rt, alloc, sizes.as_slice())?;
-    must_be_regular(&rt, alloc, sizes.to_vec(alloc)?)?;
-    Ok(())
+    must_be_regular(&rt, alloc, sizes);
+    must_be_regular(&rt, alloc, &sizes);
+    must_be_regular(&rt, alloc, sizes.as_slice());
+    must_be_regular(&rt, alloc, sizes.to_vec(alloc).expect(&rt, "no refusal"));
 }
 
 #[test]
-fn grids_by_their_sizes_that_are_not_zero(rt: HostRuntime) -> Result<(), Fail> {
+fn grids_by_their_sizes_that_are_not_zero(rt: HostRuntime) {
     let alloc = rt.alloc();
-    let size = NonZeroU64::new(4).ok_or("no size")?;
+    let size = NonZeroU64::new(4).expect(&rt, "no size");
     let sizes = [size, size];
-    must_be_regular(&rt, alloc, sizes)?;
-    must_be_regular(&rt, alloc, &sizes)?;
-    must_be_regular(&rt, alloc, sizes.as_slice())?;
-    must_be_regular(&rt, alloc, sizes.to_vec(alloc)?)?;
-    Ok(())
+    must_be_regular(&rt, alloc, sizes);
+    must_be_regular(&rt, alloc, &sizes);
+    must_be_regular(&rt, alloc, sizes.as_slice());
+    must_be_regular(&rt, alloc, sizes.to_vec(alloc).expect(&rt, "no refusal"));
 }
 
 #[test]
-fn grids_by_texts(rt: HostRuntime) -> Result<(), Fail> {
+fn grids_by_texts(rt: HostRuntime) {
     let alloc = rt.alloc();
-    must_be_regular(&rt, alloc, REGULAR)?;
-    must_be_regular(&rt, alloc, String::from_str(alloc, REGULAR)?)?;
-    let metadata = MetadataV3::from_value(Value::from_str(alloc, REGULAR)?)?;
-    must_be_regular(&rt, alloc, metadata)?;
-    Ok(())
+    must_be_regular(&rt, alloc, REGULAR);
+    must_be_regular(
+        &rt,
+        alloc,
+        String::from_str(alloc, REGULAR).expect(&rt, "no refusal"),
+    );
+    let metadata = MetadataV3::from_value(Value::from_str(alloc, REGULAR).expect(
+        &rt,
+        "no refusal",
+    )).expect(&rt, "no refusal");
+    must_be_regular(&rt, alloc, metadata);
 }
 
 /// The fill value of two raw bytes, as it is written.
@@ -211,73 +223,84 @@ fn must_fill<F: IntoField<ArrayBuilderFillValue>>(
     data_type: &str,
     fill_value: F,
     text: &str,
-) -> Result<(), Fail> {
+) {
     let mut builder = bytes(alloc);
     builder
         .data_type(alloc, data_type)
         .fill_value(alloc, fill_value);
-    let said = builder.build_metadata(alloc)?.fill_value.to_string(alloc)?;
+    let said = builder
+        .build_metadata(alloc)
+        .expect(rt, "no refusal")
+        .fill_value
+        .to_string(alloc)
+        .expect(rt, "no refusal");
     assert_eq!(rt; said.as_str(), text);
-    Ok(())
 }
 
 #[test]
-fn fill_values_by_numbers(rt: HostRuntime) -> Result<(), Fail> {
+fn fill_values_by_numbers(rt: HostRuntime) {
     let alloc = rt.alloc();
-    must_fill(&rt, alloc, "int8", 0i16, "0")?;
-    must_fill(&rt, alloc, "int64", i64::MIN, "-9223372036854775808")?;
-    must_fill(&rt, alloc, "uint64", u64::MAX, "18446744073709551615")?;
-    must_fill(&rt, alloc, "int32", -5i32, "-5")?;
-    must_fill(&rt, alloc, "uint32", 5u32, "5")?;
-    Ok(())
+    must_fill(&rt, alloc, "int8", 0i16, "0");
+    must_fill(&rt, alloc, "int64", i64::MIN, "-9223372036854775808");
+    must_fill(&rt, alloc, "uint64", u64::MAX, "18446744073709551615");
+    must_fill(&rt, alloc, "int32", -5i32, "-5");
+    must_fill(&rt, alloc, "uint32", 5u32, "5");
 }
 
 #[test]
-fn fill_values_by_lists(rt: HostRuntime) -> Result<(), Fail> {
+fn fill_values_by_lists(rt: HostRuntime) {
     let alloc = rt.alloc();
-    must_fill(&rt, alloc, "r16", [1u8, 2], "[1,2]")?;
-    must_fill(&rt, alloc, "r16", [1i64, 2].as_slice(), "[1,2]")?;
-    must_fill(&rt, alloc, "bytes", vec![in alloc; 1u16]?, "[1]")?;
+    must_fill(&rt, alloc, "r16", [1u8, 2], "[1,2]");
+    must_fill(&rt, alloc, "r16", [1i64, 2].as_slice(), "[1,2]");
+    must_fill(
+        &rt,
+        alloc,
+        "bytes",
+        vec![in alloc; 1u16].expect(&rt, "no refusal"),
+        "[1]",
+    );
     must_fill(
         &rt,
         alloc,
         "r16",
-        FillValue::new([1, 2].to_vec(alloc)?),
+        FillValue::new([1, 2].to_vec(alloc).expect(&rt, "no refusal")),
         "[1,2]",
-    )?;
-    Ok(())
+    );
 }
 
 #[test]
-fn fill_values_by_texts(rt: HostRuntime) -> Result<(), Fail> {
+fn fill_values_by_texts(rt: HostRuntime) {
     let alloc = rt.alloc();
-    must_fill(&rt, alloc, "bool", true, "true")?;
-    must_fill(&rt, alloc, "string", "a", "\"a\"")?;
-    must_fill(&rt, alloc, "string", String::from_str(alloc, "")?, "\"\"")?;
+    must_fill(&rt, alloc, "bool", true, "true");
+    must_fill(&rt, alloc, "string", "a", "\"a\"");
+    must_fill(
+        &rt,
+        alloc,
+        "string",
+        String::from_str(alloc, "").expect(&rt, "no refusal"),
+        "\"\"",
+    );
     let metadata = FillValueMetadata::Bool(false);
-    must_fill(&rt, alloc, "bool", metadata, "false")?;
-    Ok(())
+    must_fill(&rt, alloc, "bool", metadata, "false");
 }
 
-fn must_have_names(
-    rt: &impl Abort,
-    alloc: Global,
-    builder: &ArrayBuilder,
-    names: &[Option<&str>],
-) -> Result<(), Fail> {
-    let metadata = builder.build_metadata(alloc)?;
-    let said = metadata.dimension_names.as_deref().ok_or("no names")?;
+fn must_have_names(rt: &impl Abort, alloc: Global, builder: &ArrayBuilder, names: &[Option<&str>]) {
+    let metadata = builder.build_metadata(alloc).expect(rt, "no refusal");
+    let said = metadata.dimension_names.as_deref().expect(rt, "no names");
     assert_eq!(rt; said.len(), names.len());
     for (name, wanted) in said.iter().zip(names.iter()) {
         assert!(rt; name.as_deref() == *wanted);
     }
-    Ok(())
 }
 
 #[test]
-fn a_dimension_may_have_no_name(rt: HostRuntime) -> Result<(), Fail> {
+fn a_dimension_may_have_no_name(rt: HostRuntime) {
     let alloc = rt.alloc();
-    let names = vec![in alloc; Some(String::from_str(alloc, "y")?), None]?;
+    let names = vec![in alloc;
+        Some(String::from_str(alloc, "y").expect(&rt, "no refusal")),
+        None,
+    ]
+    .expect(&rt, "no refusal");
     let mut builder = bytes(alloc);
     builder.dimension_names(alloc, Some(names));
     must_have_names(&rt, alloc, &builder, &[Some("y"), None])

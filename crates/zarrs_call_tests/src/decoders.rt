@@ -2,24 +2,28 @@
 use crate::made::{MemoryArray, array};
 use std::alloc::Global;
 use std::process::Abort;
-use std::test::Fail;
 use zarrs::{
     ArrayBytes, ArrayBytesDecodeIntoTarget, ArrayError, ArrayMetadataOptions, ArraySubset,
     CodecOptions,
 };
 use zarrs_codec::CodecMetadataOptions;
 
-fn region(alloc: Global, start: &[u64], shape: &[u64]) -> Result<ArraySubset, Fail> {
-    let shape = shape.to_vec(alloc)?;
-    Ok(ArraySubset::new_with_start_shape(start.to_vec(alloc)?, shape)?)
+fn region(rt: &impl Abort, alloc: Global, start: &[u64], shape: &[u64]) -> ArraySubset {
+    let shape = shape.to_vec(alloc).expect(rt, "no refusal");
+    ArraySubset::new_with_start_shape(start.to_vec(alloc).expect(rt, "no refusal"), shape).expect(
+        rt,
+        "no refusal",
+    )
 }
 
 /// An array of which chunk [0, 1] has the cells 1 to 16.
-fn numbered(alloc: Global) -> Result<MemoryArray, Fail> {
-    let mut array = array(alloc, "/", &[])?;
-    let cells: Vec<u8> = (1..17u8).collect(alloc)?;
-    array.store_chunk(alloc, &[0, 1], cells)?;
-    Ok(array)
+fn numbered(rt: &impl Abort, alloc: Global) -> MemoryArray {
+    let mut array = array(rt, alloc, "/", &[]);
+    let cells: Vec<u8> = (1..17u8).collect(alloc).expect(rt, "no refusal");
+    array
+        .store_chunk(alloc, &[0, 1], cells)
+        .expect(rt, "no refusal");
+    array
 }
 
 fn holds(data: &ArrayBytes<'_>, bytes: &[u8]) -> bool {
@@ -30,20 +34,35 @@ fn holds(data: &ArrayBytes<'_>, bytes: &[u8]) -> bool {
 }
 
 /// Parts of a chunk that is present, and of one that is absent.
-fn must_decode(rt: &impl Abort, alloc: Global, array: &MemoryArray) -> Result<(), Fail> {
+fn must_decode(rt: &impl Abort, alloc: Global, array: &MemoryArray) {
     let options = CodecOptions::default();
-    let part = region(alloc, &[1, 2], &[2, 2])?;
-    let present = array.partial_decoder(alloc, &[0, 1])?;
+    let part = region(rt, alloc, &[1, 2], &[2, 2]);
+    let present = array
+        .partial_decoder(alloc, &[0, 1])
+        .expect(rt, "no refusal");
     assert!(rt;
         holds(
-            &present.partial_decode(alloc, &part, &options)?,
+            &present
+                .partial_decode(alloc, &part, &options)
+                .expect(rt, "no refusal"),
             &[7, 8, 11, 12]
         )
     );
-    let absent = array.partial_decoder_opt(alloc, &[1, 1], &options)?;
-    assert!(rt; holds(&absent.partial_decode(alloc, &part, &options)?, &[0; 4]));
-    assert!(rt; present.exists(alloc)? && !absent.exists(alloc)?);
-    Ok(())
+    let absent = array
+        .partial_decoder_opt(alloc, &[1, 1], &options)
+        .expect(rt, "no refusal");
+    assert!(rt;
+        holds(
+            &absent
+                .partial_decode(alloc, &part, &options)
+                .expect(rt, "no refusal"),
+            &[0; 4]
+        )
+    );
+    assert!(rt;
+        present.exists(alloc).expect(rt, "no refusal")
+            && !absent.exists(alloc).expect(rt, "no refusal")
+    );
 }
 
 /// An index list without a chunk has no decoder.
@@ -53,78 +72,78 @@ fn must_have_no_decoder(rt: &impl Abort, alloc: Global, array: &MemoryArray, ind
 }
 
 #[test]
-fn parts_of_a_chunk_are_decoded(rt: HostRuntime) -> Result<(), Fail> {
-    let array = numbered(rt.alloc())?;
+fn parts_of_a_chunk_are_decoded(rt: HostRuntime) {
+    let array = numbered(&rt, rt.alloc());
     must_have_no_decoder(&rt, rt.alloc(), &array, &[0]);
     must_decode(&rt, rt.alloc(), &array)
 }
 
 /// Two cells of the array are read into the middle of four bytes.
-fn must_read_into(rt: &impl Abort, alloc: Global, array: &MemoryArray) -> Result<(), Fail> {
+fn must_read_into(rt: &impl Abort, alloc: Global, array: &MemoryArray) {
     let mut bytes = [9u8; 4];
-    let place = region(alloc, &[0, 1], &[1, 2])?;
-    let mut target = ArrayBytesDecodeIntoTarget::new_fixed(&mut bytes, 1, &[1, 4], &place)?;
-    let cells = region(alloc, &[0, 3], &[1, 2])?;
-    array.retrieve_array_subset_into_opt(alloc, &cells, &mut target, &CodecOptions::default())?;
+    let place = region(rt, alloc, &[0, 1], &[1, 2]);
+    let mut target = ArrayBytesDecodeIntoTarget::new_fixed(&mut bytes, 1, &[1, 4], &place).expect(
+        rt,
+        "no refusal",
+    );
+    let cells = region(rt, alloc, &[0, 3], &[1, 2]);
+    array
+        .retrieve_array_subset_into_opt(alloc, &cells, &mut target, &CodecOptions::default())
+        .expect(rt, "no refusal");
     assert!(rt; bytes == [9, 0, 1, 9]);
-    Ok(())
 }
 
 #[test]
-fn a_region_is_read_into_a_box_with_options(rt: HostRuntime) -> Result<(), Fail> {
-    let array = numbered(rt.alloc())?;
+fn a_region_is_read_into_a_box_with_options(rt: HostRuntime) {
+    let array = numbered(&rt, rt.alloc());
     must_read_into(&rt, rt.alloc(), &array)
 }
 
 /// A caller asks both arrays for the number of dimensions before it compares chunks.
 fn are_equal(
+    rt: &impl Abort,
     alloc: Global,
     array: &MemoryArray,
     other: &MemoryArray,
     start: &[u64],
     shape: &[u64],
-) -> Result<bool, Fail> {
-    let chunks = region(alloc, start, shape)?;
+) -> bool {
+    let chunks = region(rt, alloc, start, shape);
     if chunks.dimensionality() != array.dimensionality()
         || chunks.dimensionality() != other.dimensionality()
     {
-        return Err("another number of dimensions".into());
+        return rt.panic("another number of dimensions");
     }
-    Ok(array.chunks_equal(alloc, other, &chunks)?)
+    array
+        .chunks_equal(alloc, other, &chunks)
+        .expect(rt, "no refusal")
 }
 
-fn must_compare(
-    rt: &impl Abort,
-    alloc: Global,
-    array: &MemoryArray,
-    other: &MemoryArray,
-) -> Result<(), Fail> {
-    assert!(rt; are_equal(alloc, array, array, &[0, 0], &[2, 2])?);
-    assert!(rt; are_equal(alloc, array, other, &[1, 0], &[1, 2])?);
-    assert!(rt; !are_equal(alloc, array, other, &[0, 0], &[2, 2])?);
-    assert!(rt; !are_equal(alloc, other, array, &[0, 1], &[1, 1])?);
-    Ok(())
+fn must_compare(rt: &impl Abort, alloc: Global, array: &MemoryArray, other: &MemoryArray) {
+    assert!(rt; are_equal(rt, alloc, array, array, &[0, 0], &[2, 2]));
+    assert!(rt; are_equal(rt, alloc, array, other, &[1, 0], &[1, 2]));
+    assert!(rt; !are_equal(rt, alloc, array, other, &[0, 0], &[2, 2]));
+    assert!(rt; !are_equal(rt, alloc, other, array, &[0, 1], &[1, 1]));
 }
 
 #[test]
-fn arrays_are_compared_by_their_chunks(rt: HostRuntime) -> Result<(), Fail> {
+fn arrays_are_compared_by_their_chunks(rt: HostRuntime) {
     let alloc = rt.alloc();
-    let array = numbered(alloc)?;
-    let other = crate::made::array(alloc, "/b", &[])?;
+    let array = numbered(&rt, alloc);
+    let other = crate::made::array(&rt, alloc, "/b", &[]);
     must_compare(&rt, alloc, &array, &other)
 }
 
 /// What is printed has no store.
-fn must_be_printed(rt: &impl Abort, alloc: Global, array: &MemoryArray) -> Result<(), Fail> {
-    let text = format!(in alloc; "{array:?}")?;
+fn must_be_printed(rt: &impl Abort, alloc: Global, array: &MemoryArray) {
+    let text = format!(in alloc; "{array:?}").expect(rt, "no refusal");
     assert!(rt; text.as_str().starts_with("Array"));
     assert!(rt; !text.as_str().contains("MemoryStore"));
-    Ok(())
 }
 
 #[test]
-fn an_array_is_printed(rt: HostRuntime) -> Result<(), Fail> {
-    let array = numbered(rt.alloc())?;
+fn an_array_is_printed(rt: HostRuntime) {
+    let array = numbered(&rt, rt.alloc());
     must_be_printed(&rt, rt.alloc(), &array)
 }
 

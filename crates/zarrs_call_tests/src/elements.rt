@@ -2,7 +2,6 @@
 use crate::made::{MemoryArray, array};
 use std::alloc::Global;
 use std::process::Abort;
-use std::test::Fail;
 use zarrs::{ArraySubset, CodecOptions};
 
 const NUMBERS: &[(&str, &str)] = &[
@@ -15,78 +14,114 @@ const NUMBERS: &[(&str, &str)] = &[
     ("fill_value", "-1"),
 ];
 
-fn region(alloc: Global, start: u64, extent: u64) -> Result<ArraySubset, Fail> {
-    Ok(ArraySubset::new_with_start_shape(vec![in alloc; start]?, vec![in alloc; extent]?)?)
+fn region(rt: &impl Abort, alloc: Global, start: u64, extent: u64) -> ArraySubset {
+    ArraySubset::new_with_start_shape(
+        vec![in alloc; start].expect(rt, "no refusal"),
+        vec![in alloc; extent].expect(rt, "no refusal"),
+    )
+    .expect(rt, "no refusal")
 }
 
 fn must_be(rt: &impl Abort, held: &[i16], elements: &[i16]) {
     assert!(rt; held == elements);
 }
 
-fn must_store(rt: &impl Abort, alloc: Global, array: &mut MemoryArray) -> Result<(), Fail> {
-    array.store_chunk_elements(alloc, &[0], &[1i16, 2])?;
-    array.store_chunk_subset_elements(alloc, &[1], &[0..1], &[-3i16])?;
-    array.store_array_subset_elements(alloc, &[1..2], &[7i16])?;
+fn must_store(rt: &impl Abort, alloc: Global, array: &mut MemoryArray) {
+    array
+        .store_chunk_elements(alloc, &[0], &[1i16, 2])
+        .expect(rt, "no refusal");
+    array
+        .store_chunk_subset_elements(alloc, &[1], &[0..1], &[-3i16])
+        .expect(rt, "no refusal");
+    array
+        .store_array_subset_elements(alloc, &[1..2], &[7i16])
+        .expect(rt, "no refusal");
     must_be(
         rt,
-        &array.retrieve_chunk_elements::<i16>(alloc, &[0])?,
+        &array
+            .retrieve_chunk_elements::<i16>(alloc, &[0])
+            .expect(rt, "no refusal"),
         &[1, 7],
     );
-    let part = array.retrieve_chunk_subset_elements::<i16, _>(alloc, &[1], &region(alloc, 0, 1)?)?;
+    let part = array
+        .retrieve_chunk_subset_elements::<i16, _>(alloc, &[1], &region(rt, alloc, 0, 1))
+        .expect(rt, "no refusal");
     must_be(rt, &part, &[-3]);
-    array.store_chunks_elements(alloc, &region(alloc, 0, 2)?, &[4i16, 5, 6, 7])?;
-    let range = array.retrieve_chunks_elements::<i16, _>(alloc, &[0..2])?;
+    array
+        .store_chunks_elements(alloc, &region(rt, alloc, 0, 2), &[4i16, 5, 6, 7])
+        .expect(rt, "no refusal");
+    let range = array
+        .retrieve_chunks_elements::<i16, _>(alloc, &[0..2])
+        .expect(rt, "no refusal");
     must_be(rt, &range, &[4, 5, 6, 7]);
-    let all = array.retrieve_array_subset_elements::<i16, _>(alloc, &array.subset_all(alloc)?)?;
+    let all = array
+        .retrieve_array_subset_elements::<i16, _>(
+            alloc,
+            &array.subset_all(alloc).expect(rt, "no refusal"),
+        )
+        .expect(rt, "no refusal");
     must_be(rt, &all, &[4, 5, 6, 7]);
     assert!(rt;
         array
-            .retrieve_chunk_elements_if_exists::<i16>(alloc, &[0])?
+            .retrieve_chunk_elements_if_exists::<i16>(alloc, &[0])
+            .expect(rt, "no refusal")
             .is_some()
     );
-    Ok(())
 }
 
 #[test]
-fn elements_are_stored_and_read(rt: HostRuntime) -> Result<(), Fail> {
+fn elements_are_stored_and_read(rt: HostRuntime) {
     let alloc = rt.alloc();
-    let mut array = array(alloc, "/", NUMBERS)?;
+    let mut array = array(&rt, alloc, "/", NUMBERS);
     must_store(&rt, alloc, &mut array)
 }
 
-fn must_store_by_options(
-    rt: &impl Abort,
-    alloc: Global,
-    array: &mut MemoryArray,
-) -> Result<(), Fail> {
+fn must_store_by_options(rt: &impl Abort, alloc: Global, array: &mut MemoryArray) {
     let options = CodecOptions::default();
-    let (one, two) = (region(alloc, 0, 1)?, region(alloc, 0, 2)?);
-    array.store_chunk_elements_opt(alloc, &[0], &[1i16, 2], &options)?;
-    array.store_chunk_subset_elements_opt(alloc, &[0], &one, &[3i16], &options)?;
+    let (one, two) = (region(rt, alloc, 0, 1), region(rt, alloc, 0, 2));
+    array
+        .store_chunk_elements_opt(alloc, &[0], &[1i16, 2], &options)
+        .expect(rt, "no refusal");
+    array
+        .store_chunk_subset_elements_opt(alloc, &[0], &one, &[3i16], &options)
+        .expect(rt, "no refusal");
     must_be(
         rt,
-        &array.retrieve_chunk_elements_opt::<i16>(alloc, &[0], &options)?,
+        &array
+            .retrieve_chunk_elements_opt::<i16>(alloc, &[0], &options)
+            .expect(rt, "no refusal"),
         &[3, 2],
     );
-    array.store_chunks_elements_opt(alloc, &one, &[4i16, 5], &options)?;
+    array
+        .store_chunks_elements_opt(alloc, &one, &[4i16, 5], &options)
+        .expect(rt, "no refusal");
     must_be(
         rt,
-        &array.retrieve_chunks_elements_opt::<i16, _>(alloc, &one, &options)?,
+        &array
+            .retrieve_chunks_elements_opt::<i16, _>(alloc, &one, &options)
+            .expect(rt, "no refusal"),
         &[4, 5],
     );
-    array.store_array_subset_elements_opt(alloc, &one, &[6i16], &options)?;
-    let all = array.retrieve_array_subset_elements_opt::<i16, _>(alloc, &two, &options)?;
+    array
+        .store_array_subset_elements_opt(alloc, &one, &[6i16], &options)
+        .expect(rt, "no refusal");
+    let all = array
+        .retrieve_array_subset_elements_opt::<i16, _>(alloc, &two, &options)
+        .expect(rt, "no refusal");
     must_be(rt, &all, &[6, 5]);
-    let part = array.retrieve_chunk_subset_elements_opt::<i16, _>(alloc, &[0], &one, &options)?;
+    let part = array
+        .retrieve_chunk_subset_elements_opt::<i16, _>(alloc, &[0], &one, &options)
+        .expect(rt, "no refusal");
     must_be(rt, &part, &[6]);
-    let absent = array.retrieve_chunk_elements_if_exists_opt::<i16>(alloc, &[1], &options)?;
+    let absent = array
+        .retrieve_chunk_elements_if_exists_opt::<i16>(alloc, &[1], &options)
+        .expect(rt, "no refusal");
     assert!(rt; absent.is_none());
-    Ok(())
 }
 
 #[test]
-fn elements_are_stored_and_read_by_options(rt: HostRuntime) -> Result<(), Fail> {
+fn elements_are_stored_and_read_by_options(rt: HostRuntime) {
     let alloc = rt.alloc();
-    let mut array = array(alloc, "/", NUMBERS)?;
+    let mut array = array(&rt, alloc, "/", NUMBERS);
     must_store_by_options(&rt, alloc, &mut array)
 }

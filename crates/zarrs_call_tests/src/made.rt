@@ -1,7 +1,7 @@
 //! The arrays of the tests.
 use serde_json::Value;
 use std::alloc::Global;
-use std::test::Fail;
+use std::process::Abort;
 use zarrs::{Array, ArrayMetadata, ArrayMetadataV3};
 use zarrs_document::members;
 use zarrs_storage::MemoryStore;
@@ -19,15 +19,28 @@ const BYTES: &str = concat!(
 
 /// The array of that document, with these members in place of its own, at the path, over a new store in memory.
 pub(crate) fn array(
+    rt: &impl Abort,
     alloc: Global,
     path: &str,
     changes: &[(&str, &str)],
-) -> Result<MemoryArray, Fail> {
-    let mut object = members::object_of(Value::from_str(alloc, BYTES)?).ok_or("no object")?;
+) -> MemoryArray {
+    let mut object = members::object_of(Value::from_str(alloc, BYTES).expect(
+        rt,
+        "no refusal",
+    )).expect(rt, "no object");
     for (name, text) in changes {
-        serde_json::put(&mut object, alloc, *name, Value::from_str(alloc, *text)?)?;
+        serde_json::put(
+            &mut object,
+            alloc,
+            *name,
+            Value::from_str(alloc, *text).expect(rt, "no refusal"),
+        )
+        .expect(rt, "no refusal");
     }
-    let metadata = ArrayMetadata::V3(ArrayMetadataV3::from_value(alloc, Value::Object(object))?);
+    let metadata = ArrayMetadata::V3(ArrayMetadataV3::from_value(
+        alloc,
+        Value::Object(object),
+    ).expect(rt, "no refusal"));
     let storage = MemoryStore::new(alloc);
-    Ok(Array::new_with_metadata(alloc, storage, path, metadata)?)
+    Array::new_with_metadata(alloc, storage, path, metadata).expect(rt, "no refusal")
 }

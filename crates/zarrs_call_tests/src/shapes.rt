@@ -2,7 +2,6 @@
 use crate::made::{MemoryArray, array};
 use std::alloc::Global;
 use std::process::Abort;
-use std::test::Fail;
 use zarrs::{Array, ArrayCreateError, ArrayMetadata, ArrayMetadataV2};
 use zarrs_storage::MemoryStore;
 
@@ -23,10 +22,13 @@ const SQUARES: &str = concat!(
     "\"compressor\":null,\"fill_value\":0,\"order\":\"C\",\"filters\":null}"
 );
 
-fn v2_array(alloc: Global) -> Result<MemoryArray, Fail> {
-    let document = ArrayMetadataV2::from_slice(alloc, SQUARES.as_bytes())?;
+fn v2_array(rt: &impl Abort, alloc: Global) -> MemoryArray {
+    let document = ArrayMetadataV2::from_slice(alloc, SQUARES.as_bytes()).expect(rt, "no refusal");
     let storage = MemoryStore::new(alloc);
-    Ok(Array::new_with_metadata(alloc, storage, "/", ArrayMetadata::V2(document))?)
+    Array::new_with_metadata(alloc, storage, "/", ArrayMetadata::V2(document)).expect(
+        rt,
+        "no refusal",
+    )
 }
 
 /// The array has this shape, also in its metadata, and so many chunks along each dimension.
@@ -43,26 +45,30 @@ fn must_have_stored_nothing(rt: &impl Abort, array: &MemoryArray) {
     assert_eq!(rt; array.storage().calls(), 0);
 }
 
-fn must_grow(rt: &impl Abort, alloc: Global, array: &mut MemoryArray) -> Result<(), Fail> {
-    let _ = array.set_shape(alloc, vec![in alloc; 9, 4]?)?;
+fn must_grow(rt: &impl Abort, alloc: Global, array: &mut MemoryArray) {
+    let _ = array
+        .set_shape(alloc, vec![in alloc; 9, 4].expect(rt, "no refusal"))
+        .expect(rt, "no refusal");
     must_be(rt, array, &[9, 4], &[3, 1]);
-    must_be_no_grid(rt, array.reshape(alloc, vec![in alloc; 9]?));
+    must_be_no_grid(
+        rt,
+        array.reshape(alloc, vec![in alloc; 9].expect(rt, "no refusal")),
+    );
     must_be(rt, array, &[9, 4], &[3, 1]);
     must_have_stored_nothing(rt, array);
-    Ok(())
 }
 
 #[test]
-fn an_array_has_another_shape(rt: HostRuntime) -> Result<(), Fail> {
+fn an_array_has_another_shape(rt: HostRuntime) {
     let alloc = rt.alloc();
-    let mut array = array(alloc, "/", &[])?;
+    let mut array = array(&rt, alloc, "/", &[]);
     must_grow(&rt, alloc, &mut array)
 }
 
 #[test]
-fn a_v2_array_has_another_shape(rt: HostRuntime) -> Result<(), Fail> {
+fn a_v2_array_has_another_shape(rt: HostRuntime) {
     let alloc = rt.alloc();
-    let mut array = v2_array(alloc)?;
+    let mut array = v2_array(&rt, alloc);
     must_grow(&rt, alloc, &mut array)
 }
 
@@ -76,16 +82,18 @@ fn must_have_other_dimensions<T: Drop>(rt: &impl Abort, set: Result<T, ArrayCrea
 }
 
 /// The listed sizes do not add up to the new extent: shape and grid stay.
-fn must_stay(rt: &impl Abort, alloc: Global, array: &mut MemoryArray) -> Result<(), Fail> {
-    must_be_no_grid(rt, array.set_shape(alloc, vec![in alloc; 6]?));
+fn must_stay(rt: &impl Abort, alloc: Global, array: &mut MemoryArray) {
+    must_be_no_grid(
+        rt,
+        array.set_shape(alloc, vec![in alloc; 6].expect(rt, "no refusal")),
+    );
     must_be(rt, array, &[5], &[2]);
-    Ok(())
 }
 
 #[test]
-fn listed_sizes_keep_their_extent(rt: HostRuntime) -> Result<(), Fail> {
+fn listed_sizes_keep_their_extent(rt: HostRuntime) {
     let alloc = rt.alloc();
-    let mut array = array(alloc, "/", LISTED)?;
+    let mut array = array(&rt, alloc, "/", LISTED);
     must_stay(&rt, alloc, &mut array)
 }
 
@@ -96,10 +104,21 @@ fn must_have_chunk(
     indices: &[u64],
     origin: &[u64],
     shape: &[usize],
-) -> Result<(), Fail> {
-    assert!(rt; array.chunk_shape_usize(alloc, indices)?.as_slice() == shape);
-    assert!(rt; array.chunk_origin(alloc, indices)?.as_slice() == origin);
-    Ok(())
+) {
+    assert!(rt;
+        array
+            .chunk_shape_usize(alloc, indices)
+            .expect(rt, "no refusal")
+            .as_slice()
+            == shape
+    );
+    assert!(rt;
+        array
+            .chunk_origin(alloc, indices)
+            .expect(rt, "no refusal")
+            .as_slice()
+            == origin
+    );
 }
 
 fn must_have_grid_named(rt: &impl Abort, array: &MemoryArray, name: &str) {
@@ -109,66 +128,67 @@ fn must_have_grid_named(rt: &impl Abort, array: &MemoryArray, name: &str) {
     }
 }
 
-fn must_be_rectangular(
-    rt: &impl Abort,
-    alloc: Global,
-    array: &mut MemoryArray,
-) -> Result<(), Fail> {
-    let _ = array.set_shape_and_chunk_grid(alloc, vec![in alloc; 14, 18]?, RECTANGULAR)?;
+fn must_be_rectangular(rt: &impl Abort, alloc: Global, array: &mut MemoryArray) {
+    let _ = array
+        .set_shape_and_chunk_grid(
+            alloc,
+            vec![in alloc; 14, 18].expect(rt, "no refusal"),
+            RECTANGULAR,
+        )
+        .expect(rt, "no refusal");
     must_be(rt, array, &[14, 18], &[3, 6]);
-    must_have_chunk(rt, alloc, array, &[0, 0], &[0, 0], &[4, 4])?;
-    must_have_chunk(rt, alloc, array, &[2, 3], &[8, 12], &[6, 3])?;
+    must_have_chunk(rt, alloc, array, &[0, 0], &[0, 0], &[4, 4]);
+    must_have_chunk(rt, alloc, array, &[2, 3], &[8, 12], &[6, 3]);
     must_have_grid_named(rt, array, "rectangular");
-    Ok(())
 }
 
 #[test]
-fn an_array_has_another_grid(rt: HostRuntime) -> Result<(), Fail> {
+fn an_array_has_another_grid(rt: HostRuntime) {
     let alloc = rt.alloc();
-    let mut array = array(alloc, "/", &[])?;
+    let mut array = array(&rt, alloc, "/", &[]);
     must_be_rectangular(&rt, alloc, &mut array)
 }
 
 /// A text that is no metadata comes before the number of dimensions, and that before the grid.
-fn must_refuse_in_order(
-    rt: &impl Abort,
-    alloc: Global,
-    array: &mut MemoryArray,
-) -> Result<(), Fail> {
-    let line = vec![in alloc; 8]?;
+fn must_refuse_in_order(rt: &impl Abort, alloc: Global, array: &mut MemoryArray) {
+    let line = vec![in alloc; 8].expect(rt, "no refusal");
     must_be_no_grid(rt, array.set_shape_and_chunk_grid(alloc, line, "{"));
-    let line = vec![in alloc; 8]?;
+    let line = vec![in alloc; 8].expect(rt, "no refusal");
     must_have_other_dimensions(rt, array.set_shape_and_chunk_grid(alloc, line, [0u64]));
-    let square = vec![in alloc; 8, 8]?;
+    let square = vec![in alloc; 8, 8].expect(rt, "no refusal");
     must_be_no_grid(rt, array.set_shape_and_chunk_grid(alloc, square, [0u64, 4]));
     must_be(rt, array, &[8, 8], &[2, 2]);
-    Ok(())
 }
 
 #[test]
-fn another_grid_is_refused_in_order(rt: HostRuntime) -> Result<(), Fail> {
+fn another_grid_is_refused_in_order(rt: HostRuntime) {
     let alloc = rt.alloc();
-    let mut array = array(alloc, "/", &[])?;
+    let mut array = array(&rt, alloc, "/", &[]);
     must_refuse_in_order(&rt, alloc, &mut array)
 }
 
 /// A V2 array takes another `regular` grid, and no other one.
-fn must_be_regular(rt: &impl Abort, alloc: Global, array: &mut MemoryArray) -> Result<(), Fail> {
-    let shape = vec![in alloc; 14, 18]?;
+fn must_be_regular(rt: &impl Abort, alloc: Global, array: &mut MemoryArray) {
+    let shape = vec![in alloc; 14, 18].expect(rt, "no refusal");
     must_be_no_grid(
         rt,
         array.set_shape_and_chunk_grid(alloc, shape, RECTANGULAR),
     );
     must_be(rt, array, &[8, 8], &[2, 2]);
-    let _ = array.set_shape_and_chunk_grid(alloc, vec![in alloc; 9, 9]?, [3u64, 2])?;
+    let _ = array
+        .set_shape_and_chunk_grid(
+            alloc,
+            vec![in alloc; 9, 9].expect(rt, "no refusal"),
+            [3u64, 2],
+        )
+        .expect(rt, "no refusal");
     must_be(rt, array, &[9, 9], &[3, 5]);
     must_have_grid_named(rt, array, "regular");
-    Ok(())
 }
 
 #[test]
-fn a_v2_array_has_regular_grids(rt: HostRuntime) -> Result<(), Fail> {
+fn a_v2_array_has_regular_grids(rt: HostRuntime) {
     let alloc = rt.alloc();
-    let mut array = v2_array(alloc)?;
+    let mut array = v2_array(&rt, alloc);
     must_be_regular(&rt, alloc, &mut array)
 }

@@ -1,7 +1,7 @@
 //! Grids as rows of tests name them.
 use std::alloc::Global;
 use std::num::NonZeroU64;
-use std::test::Fail;
+use std::process::Abort;
 use zarrs_chunk_grid::{
     ChunkGrid, ChunkShape, ChunkSizes, RectangularChunkGrid, RegularBoundedChunkGrid,
     RegularChunkGrid, SizeList,
@@ -21,59 +21,75 @@ pub(crate) enum Grid {
     Rectangular(&'static [u64], &'static [AxisSizes]),
 }
 
-pub(crate) fn numbers(alloc: Global, numbers: &[u64]) -> Result<Vec<u64>, Fail> {
-    Ok(Vec::from_slice(alloc, numbers)?)
+pub(crate) fn numbers(rt: &impl Abort, alloc: Global, numbers: &[u64]) -> Vec<u64> {
+    Vec::from_slice(alloc, numbers).expect(rt, "no refusal")
 }
 
-fn size(number: u64) -> Result<NonZeroU64, Fail> {
-    Ok(NonZeroU64::new(number).ok_or("a size is 0")?)
+fn size(rt: &impl Abort, number: u64) -> NonZeroU64 {
+    NonZeroU64::new(number).expect(rt, "a size is 0")
 }
 
-pub(crate) fn sizes(alloc: Global, numbers: &[u64]) -> Result<ChunkShape, Fail> {
+pub(crate) fn sizes(rt: &impl Abort, alloc: Global, numbers: &[u64]) -> ChunkShape {
     let mut sizes = Vec::new(alloc);
     for number in numbers {
-        sizes.push(size(*number)?)?;
+        sizes.push(size(rt, *number)).expect(rt, "no refusal");
     }
-    Ok(sizes)
+    sizes
 }
 
-pub(crate) fn listed(alloc: Global, numbers: &[u64]) -> Result<ChunkSizes, Fail> {
-    Ok(ChunkSizes::Sizes(SizeList::new(alloc, sizes(alloc, numbers)?)?))
+pub(crate) fn listed(rt: &impl Abort, alloc: Global, numbers: &[u64]) -> ChunkSizes {
+    ChunkSizes::Sizes(SizeList::new(alloc, sizes(rt, alloc, numbers)).expect(rt, "no refusal"))
 }
 
-fn sizes_of(alloc: Global, sizes: &AxisSizes) -> Result<ChunkSizes, Fail> {
+fn sizes_of(rt: &impl Abort, alloc: Global, sizes: &AxisSizes) -> ChunkSizes {
     match sizes {
-        AxisSizes::Each(number) => Ok(ChunkSizes::Size(size(*number)?)),
-        AxisSizes::Listed(numbers) => listed(alloc, numbers),
+        AxisSizes::Each(number) => ChunkSizes::Size(size(rt, *number)),
+        AxisSizes::Listed(numbers) => listed(rt, alloc, numbers),
     }
 }
 
-pub(crate) fn region(alloc: Global, start: &[u64], shape: &[u64]) -> Result<ArraySubset, Fail> {
-    Ok(ArraySubset::new_with_start_shape(numbers(alloc, start)?, numbers(alloc, shape)?)?)
+pub(crate) fn region(rt: &impl Abort, alloc: Global, start: &[u64], shape: &[u64]) -> ArraySubset {
+    ArraySubset::new_with_start_shape(numbers(rt, alloc, start), numbers(rt, alloc, shape)).expect(
+        rt,
+        "no refusal",
+    )
 }
 
-fn regular(alloc: Global, array_shape: &[u64], chunk_shape: &[u64]) -> Result<ChunkGrid, Fail> {
-    let array_shape = numbers(alloc, array_shape)?;
-    Ok(RegularChunkGrid::new(alloc, array_shape, sizes(alloc, chunk_shape)?)?.into())
+fn regular(rt: &impl Abort, alloc: Global, array_shape: &[u64], chunk_shape: &[u64]) -> ChunkGrid {
+    let array_shape = numbers(rt, alloc, array_shape);
+    RegularChunkGrid::new(alloc, array_shape, sizes(rt, alloc, chunk_shape))
+        .expect(rt, "no refusal")
+        .into()
 }
 
-fn bounded(alloc: Global, array_shape: &[u64], chunk_shape: &[u64]) -> Result<ChunkGrid, Fail> {
-    let array_shape = numbers(alloc, array_shape)?;
-    Ok(RegularBoundedChunkGrid::new(alloc, array_shape, sizes(alloc, chunk_shape)?)?.into())
+fn bounded(rt: &impl Abort, alloc: Global, array_shape: &[u64], chunk_shape: &[u64]) -> ChunkGrid {
+    let array_shape = numbers(rt, alloc, array_shape);
+    RegularBoundedChunkGrid::new(alloc, array_shape, sizes(rt, alloc, chunk_shape))
+        .expect(rt, "no refusal")
+        .into()
 }
 
-fn rectangular(alloc: Global, array_shape: &[u64], axes: &[AxisSizes]) -> Result<ChunkGrid, Fail> {
+fn rectangular(
+    rt: &impl Abort,
+    alloc: Global,
+    array_shape: &[u64],
+    axes: &[AxisSizes],
+) -> ChunkGrid {
     let mut sizes = Vec::new(alloc);
     for axis in axes {
-        sizes.push(sizes_of(alloc, axis)?)?;
+        sizes
+            .push(sizes_of(rt, alloc, axis))
+            .expect(rt, "no refusal");
     }
-    Ok(RectangularChunkGrid::new(alloc, numbers(alloc, array_shape)?, sizes)?.into())
+    RectangularChunkGrid::new(alloc, numbers(rt, alloc, array_shape), sizes)
+        .expect(rt, "no refusal")
+        .into()
 }
 
-pub(crate) fn grid_of(alloc: Global, grid: &Grid) -> Result<ChunkGrid, Fail> {
+pub(crate) fn grid_of(rt: &impl Abort, alloc: Global, grid: &Grid) -> ChunkGrid {
     match grid {
-        Grid::Regular(array_shape, chunk_shape) => regular(alloc, array_shape, chunk_shape),
-        Grid::Bounded(array_shape, chunk_shape) => bounded(alloc, array_shape, chunk_shape),
-        Grid::Rectangular(array_shape, axes) => rectangular(alloc, array_shape, axes),
+        Grid::Regular(array_shape, chunk_shape) => regular(rt, alloc, array_shape, chunk_shape),
+        Grid::Bounded(array_shape, chunk_shape) => bounded(rt, alloc, array_shape, chunk_shape),
+        Grid::Rectangular(array_shape, axes) => rectangular(rt, alloc, array_shape, axes),
     }
 }

@@ -3,7 +3,6 @@ use crate::checks::{must, must_eq, must_for};
 use crate::grids::{AxisSizes, Grid, grid_of, listed, numbers, region, sizes};
 use std::alloc::Global;
 use std::process::Abort;
-use std::test::Fail;
 use zarrs_chunk_grid::laws::{
     box_of_a_chunk, chunk_of_a_position, chunk_range_fills_a_box, chunks_share_no_position,
     covered_positions,
@@ -59,50 +58,32 @@ pub(crate) fn must_have_shapes(
     must_eq(rt, grid.grid_shape(), grid_shape);
 }
 
-fn must_meet(
-    rt: &impl Abort,
-    alloc: Global,
-    grid: &ChunkGrid,
-    asked: &Corner,
-    met: &Corner,
-) -> Result<(), Fail> {
-    let found = grid.chunks_in_array_subset(alloc, &region(alloc, asked.0, asked.1)?)?;
-    must_be(rt, &found.ok_or("covered")?, met);
-    Ok(())
+fn must_meet(rt: &impl Abort, alloc: Global, grid: &ChunkGrid, asked: &Corner, met: &Corner) {
+    let found = grid
+        .chunks_in_array_subset(alloc, &region(rt, alloc, asked.0, asked.1))
+        .expect(rt, "no refusal");
+    must_be(rt, &found.expect(rt, "covered"), met);
 }
 
-fn must_not_cover(
-    rt: &impl Abort,
-    alloc: Global,
-    grid: &ChunkGrid,
-    asked: &Corner,
-) -> Result<(), Fail> {
-    let found = grid.chunks_in_array_subset(alloc, &region(alloc, asked.0, asked.1)?)?;
+fn must_not_cover(rt: &impl Abort, alloc: Global, grid: &ChunkGrid, asked: &Corner) {
+    let found = grid
+        .chunks_in_array_subset(alloc, &region(rt, alloc, asked.0, asked.1))
+        .expect(rt, "no refusal");
     must(rt, found.is_none());
-    Ok(())
 }
 
-fn must_fill(
-    rt: &impl Abort,
-    alloc: Global,
-    grid: &ChunkGrid,
-    chunks: &Corner,
-    filled: &Corner,
-) -> Result<(), Fail> {
-    let found = grid.chunks_subset(alloc, &region(alloc, chunks.0, chunks.1)?)?;
-    must_be(rt, &found.ok_or("there")?, filled);
-    Ok(())
+fn must_fill(rt: &impl Abort, alloc: Global, grid: &ChunkGrid, chunks: &Corner, filled: &Corner) {
+    let found = grid
+        .chunks_subset(alloc, &region(rt, alloc, chunks.0, chunks.1))
+        .expect(rt, "no refusal");
+    must_be(rt, &found.expect(rt, "there"), filled);
 }
 
-fn must_have_no_range(
-    rt: &impl Abort,
-    alloc: Global,
-    grid: &ChunkGrid,
-    chunks: &Corner,
-) -> Result<(), Fail> {
-    let found = grid.chunks_subset(alloc, &region(alloc, chunks.0, chunks.1)?)?;
+fn must_have_no_range(rt: &impl Abort, alloc: Global, grid: &ChunkGrid, chunks: &Corner) {
+    let found = grid
+        .chunks_subset(alloc, &region(rt, alloc, chunks.0, chunks.1))
+        .expect(rt, "no refusal");
     must(rt, found.is_none());
-    Ok(())
 }
 
 pub(crate) fn must_be_chunk(
@@ -111,9 +92,15 @@ pub(crate) fn must_be_chunk(
     grid: &ChunkGrid,
     indices: &[u64],
     chunk: &Corner,
-) -> Result<(), Fail> {
-    must_be(rt, &grid.subset(alloc, indices)?.ok_or("there")?, chunk);
-    Ok(())
+) {
+    must_be(
+        rt,
+        &grid
+            .subset(alloc, indices)
+            .expect(rt, "no refusal")
+            .expect(rt, "there"),
+        chunk,
+    );
 }
 
 fn must_be_origin_and_shape(
@@ -122,12 +109,17 @@ fn must_be_origin_and_shape(
     grid: &ChunkGrid,
     indices: &[u64],
     chunk: &Corner,
-) -> Result<(), Fail> {
-    let origin = grid.chunk_origin(alloc, indices)?.ok_or("there")?;
+) {
+    let origin = grid
+        .chunk_origin(alloc, indices)
+        .expect(rt, "no refusal")
+        .expect(rt, "there");
     must_eq(rt, origin.as_slice(), chunk.0);
-    let found = grid.chunk_shape(alloc, indices)?.ok_or("there")?;
-    must_eq(rt, found.as_slice(), sizes(alloc, chunk.1)?.as_slice());
-    Ok(())
+    let found = grid
+        .chunk_shape(alloc, indices)
+        .expect(rt, "no refusal")
+        .expect(rt, "there");
+    must_eq(rt, found.as_slice(), sizes(rt, alloc, chunk.1).as_slice());
 }
 
 fn must_have_plain_shape(
@@ -136,23 +128,39 @@ fn must_have_plain_shape(
     grid: &ChunkGrid,
     indices: &[u64],
     shape: &[u64],
-) -> Result<(), Fail> {
-    let plain = grid.chunk_shape_u64(alloc, indices)?.ok_or("there")?;
+) {
+    let plain = grid
+        .chunk_shape_u64(alloc, indices)
+        .expect(rt, "no refusal")
+        .expect(rt, "there");
     must_eq(rt, plain.as_slice(), shape);
-    Ok(())
 }
 
-fn must_have_no_chunk(
-    rt: &impl Abort,
-    alloc: Global,
-    grid: &ChunkGrid,
-    indices: &[u64],
-) -> Result<(), Fail> {
-    must(rt, grid.subset(alloc, indices)?.is_none());
-    must(rt, grid.chunk_origin(alloc, indices)?.is_none());
-    must(rt, grid.chunk_shape(alloc, indices)?.is_none());
-    must(rt, grid.chunk_shape_u64(alloc, indices)?.is_none());
-    Ok(())
+fn must_have_no_chunk(rt: &impl Abort, alloc: Global, grid: &ChunkGrid, indices: &[u64]) {
+    must(
+        rt,
+        grid.subset(alloc, indices)
+            .expect(rt, "no refusal")
+            .is_none(),
+    );
+    must(
+        rt,
+        grid.chunk_origin(alloc, indices)
+            .expect(rt, "no refusal")
+            .is_none(),
+    );
+    must(
+        rt,
+        grid.chunk_shape(alloc, indices)
+            .expect(rt, "no refusal")
+            .is_none(),
+    );
+    must(
+        rt,
+        grid.chunk_shape_u64(alloc, indices)
+            .expect(rt, "no refusal")
+            .is_none(),
+    );
 }
 
 fn must_have_number(rt: &impl Abort, grid: &ChunkGrid, coordinate: u64, number: Option<u64>) {
@@ -160,35 +168,33 @@ fn must_have_number(rt: &impl Abort, grid: &ChunkGrid, coordinate: u64, number: 
     must_for(rt, coordinate, is_number);
 }
 
-fn must_say(rt: &impl Abort, alloc: Global, grid: &ChunkGrid, fact: &Fact) -> Result<(), Fail> {
+fn must_say(rt: &impl Abort, alloc: Global, grid: &ChunkGrid, fact: &Fact) {
     match fact {
         Fact::Shapes(array_shape, grid_shape) => {
             must_have_shapes(rt, grid, array_shape, grid_shape);
         }
-        Fact::Chunk(indices, chunk) => must_be_chunk(rt, alloc, grid, indices, chunk)?,
+        Fact::Chunk(indices, chunk) => must_be_chunk(rt, alloc, grid, indices, chunk),
         Fact::OriginAndShape(indices, chunk) => {
-            must_be_origin_and_shape(rt, alloc, grid, indices, chunk)?;
+            must_be_origin_and_shape(rt, alloc, grid, indices, chunk);
         }
         Fact::PlainShape(indices, shape) => {
-            must_have_plain_shape(rt, alloc, grid, indices, shape)?;
+            must_have_plain_shape(rt, alloc, grid, indices, shape);
         }
-        Fact::NoChunk(indices) => must_have_no_chunk(rt, alloc, grid, indices)?,
-        Fact::Meets(asked, met) => must_meet(rt, alloc, grid, asked, met)?,
-        Fact::Uncovered(asked) => must_not_cover(rt, alloc, grid, asked)?,
-        Fact::Fills(chunks, filled) => must_fill(rt, alloc, grid, chunks, filled)?,
-        Fact::NoRange(chunks) => must_have_no_range(rt, alloc, grid, chunks)?,
+        Fact::NoChunk(indices) => must_have_no_chunk(rt, alloc, grid, indices),
+        Fact::Meets(asked, met) => must_meet(rt, alloc, grid, asked, met),
+        Fact::Uncovered(asked) => must_not_cover(rt, alloc, grid, asked),
+        Fact::Fills(chunks, filled) => must_fill(rt, alloc, grid, chunks, filled),
+        Fact::NoRange(chunks) => must_have_no_range(rt, alloc, grid, chunks),
         Fact::Number(coordinate, number) => must_have_number(rt, grid, *coordinate, *number),
     }
-    Ok(())
 }
 
 /// The grid says each of these.
-fn must_say_each(rt: &impl Abort, alloc: Global, grid: &Grid, facts: &[Fact]) -> Result<(), Fail> {
-    let grid = grid_of(alloc, grid)?;
+fn must_say_each(rt: &impl Abort, alloc: Global, grid: &Grid, facts: &[Fact]) {
+    let grid = grid_of(rt, alloc, grid);
     for fact in facts {
-        must_say(rt, alloc, &grid, fact)?;
+        must_say(rt, alloc, &grid, fact);
     }
-    Ok(())
 }
 
 const FOURS: Grid = Grid::Regular(&[8], &[4]);
@@ -200,7 +206,7 @@ pub(crate) const TWO_AND_THREE_BY_FOUR: Grid = Grid::Rectangular(
 );
 
 #[test]
-fn regular_chunks_that_a_region_meets(rt: HostRuntime) -> Result<(), Fail> {
+fn regular_chunks_that_a_region_meets(rt: HostRuntime) {
     const FACTS: &[Fact] = &[
         Fact::Meets((&[0], &[4]), (&[0], &[1])),
         Fact::Meets((&[0], &[5]), (&[0], &[2])),
@@ -214,27 +220,27 @@ fn must_be_empty(rt: &impl Abort, found: &ArraySubset) {
 }
 
 #[test]
-fn an_empty_region_past_the_array_meets_no_chunk(rt: HostRuntime) -> Result<(), Fail> {
+fn an_empty_region_past_the_array_meets_no_chunk(rt: HostRuntime) {
     let alloc = rt.alloc();
-    let grid = grid_of(alloc, &FOURS)?;
-    let found = grid.chunks_in_array_subset(alloc, &region(alloc, &[9], &[0])?)?;
-    must_be_empty(&rt, &found.ok_or("covered")?);
-    Ok(())
+    let grid = grid_of(&rt, alloc, &FOURS);
+    let found = grid
+        .chunks_in_array_subset(alloc, &region(&rt, alloc, &[9], &[0]))
+        .expect(&rt, "no refusal");
+    must_be_empty(&rt, &found.expect(&rt, "covered"));
 }
 
 #[test]
-fn laws_of_a_grid(rt: HostRuntime) -> Result<(), Fail> {
-    let grid = grid_of(rt.alloc(), &FOURS)?;
+fn laws_of_a_grid(rt: HostRuntime) {
+    let grid = grid_of(&rt, rt.alloc(), &FOURS);
     chunks_share_no_position(&grid);
     chunk_of_a_position(&grid);
     chunk_range_fills_a_box(&grid);
     box_of_a_chunk(&grid);
     covered_positions(&grid);
-    Ok(())
 }
 
 #[test]
-fn bounded_chunks_end_with_the_array(rt: HostRuntime) -> Result<(), Fail> {
+fn bounded_chunks_end_with_the_array(rt: HostRuntime) {
     const FACTS: &[Fact] = &[
         Fact::Shapes(&[5], &[3]),
         Fact::Chunk(&[2], (&[4], &[1])),
@@ -245,7 +251,7 @@ fn bounded_chunks_end_with_the_array(rt: HostRuntime) -> Result<(), Fail> {
 }
 
 #[test]
-fn rectangular_chunks_of_listed_sizes(rt: HostRuntime) -> Result<(), Fail> {
+fn rectangular_chunks_of_listed_sizes(rt: HostRuntime) {
     const FACTS: &[Fact] = &[
         Fact::Shapes(&[5, 8], &[2, 2]),
         Fact::Chunk(&[1, 5], (&[2, 20], &[3, 4])),
@@ -256,15 +262,16 @@ fn rectangular_chunks_of_listed_sizes(rt: HostRuntime) -> Result<(), Fail> {
     must_say_each(&rt, rt.alloc(), &TWO_AND_THREE_BY_FOUR, FACTS)
 }
 
-fn must_meet_ranges(rt: &impl Abort, alloc: Global, grid: &ChunkGrid) -> Result<(), Fail> {
-    let met = grid.chunks_in_array_subset(alloc, &[1..5, 4..9])?;
-    must_be(rt, &met.ok_or("covered")?, &(&[0, 1], &[2, 2]));
-    Ok(())
+fn must_meet_ranges(rt: &impl Abort, alloc: Global, grid: &ChunkGrid) {
+    let met = grid
+        .chunks_in_array_subset(alloc, &[1..5, 4..9])
+        .expect(rt, "no refusal");
+    must_be(rt, &met.expect(rt, "covered"), &(&[0, 1], &[2, 2]));
 }
 
 #[test]
-fn ranges_that_a_rectangular_grid_is_asked_for(rt: HostRuntime) -> Result<(), Fail> {
-    let grid = grid_of(rt.alloc(), &TWO_AND_THREE_BY_FOUR)?;
+fn ranges_that_a_rectangular_grid_is_asked_for(rt: HostRuntime) {
+    let grid = grid_of(&rt, rt.alloc(), &TWO_AND_THREE_BY_FOUR);
     must_meet_ranges(&rt, rt.alloc(), &grid)
 }
 
@@ -273,35 +280,32 @@ fn must_be_unequal<T>(rt: &impl Abort, made: &Result<T, GridError>) {
 }
 
 #[test]
-fn listed_sizes_that_do_not_add_up_to_the_extent(rt: HostRuntime) -> Result<(), Fail> {
+fn listed_sizes_that_do_not_add_up_to_the_extent(rt: HostRuntime) {
     let alloc = rt.alloc();
-    let sizes = vec![in alloc; listed(alloc, &[2, 3])?]?;
-    let grid = RectangularChunkGrid::new(alloc, numbers(alloc, &[6])?, sizes);
+    let sizes = vec![in alloc; listed(&rt, alloc, &[2, 3])].expect(&rt, "no refusal");
+    let grid = RectangularChunkGrid::new(alloc, numbers(&rt, alloc, &[6]), sizes);
     must_be_unequal(&rt, &grid);
-    Ok(())
 }
 
-fn must_pass_a_u64(rt: &impl Abort, alloc: Global) -> Result<(), Fail> {
-    must_be_unequal(rt, &SizeList::new(alloc, sizes(alloc, &[u64::MAX, 1])?));
-    Ok(())
+fn must_pass_a_u64(rt: &impl Abort, alloc: Global) {
+    must_be_unequal(rt, &SizeList::new(alloc, sizes(rt, alloc, &[u64::MAX, 1])));
 }
 
-fn must_end_at_the_last_u64(rt: &impl Abort, alloc: Global) -> Result<(), Fail> {
-    let list = SizeList::new(alloc, sizes(alloc, &[u64::MAX - 1, 1])?)?;
+fn must_end_at_the_last_u64(rt: &impl Abort, alloc: Global) {
+    let list = SizeList::new(alloc, sizes(rt, alloc, &[u64::MAX - 1, 1])).expect(rt, "no refusal");
     must_eq(rt, list.end(), u64::MAX);
-    Ok(())
 }
 
 #[test]
-fn listed_sizes_past_a_u64(rt: HostRuntime) -> Result<(), Fail> {
+fn listed_sizes_past_a_u64(rt: HostRuntime) {
     const GRID: Grid = Grid::Rectangular(&[u64::MAX], &[AxisSizes::Listed(&[u64::MAX - 1, 1])]);
     const FACTS: &[Fact] = &[
         Fact::Meets((&[u64::MAX - 1], &[1]), (&[1], &[1])),
         Fact::Number(u64::MAX - 1, Some(1)),
         Fact::Number(u64::MAX, None),
     ];
-    must_pass_a_u64(&rt, rt.alloc())?;
-    must_end_at_the_last_u64(&rt, rt.alloc())?;
+    must_pass_a_u64(&rt, rt.alloc());
+    must_end_at_the_last_u64(&rt, rt.alloc());
     must_say_each(&rt, rt.alloc(), &GRID, FACTS)
 }
 
@@ -326,54 +330,54 @@ fn must_refuse_two(rt: &impl Abort, alloc: Global, grid: &ChunkGrid) {
     );
 }
 
-fn must_refuse_a_flat_region(rt: &impl Abort, alloc: Global, grid: &ChunkGrid) -> Result<(), Fail> {
+fn must_refuse_a_flat_region(rt: &impl Abort, alloc: Global, grid: &ChunkGrid) {
     let refused = GridError::IncompatibleDimensionality(IncompatibleDimensionalityError::new(2, 1));
-    let flat = region(alloc, &[0, 0], &[1, 1])?;
+    let flat = region(rt, alloc, &[0, 0], &[1, 1]);
     must(
         rt,
         matches!(grid.chunks_in_array_subset(alloc, &flat), Err(e) if e == refused),
     );
-    Ok(())
 }
 
 #[test]
-fn indices_past_the_last_chunk_or_of_another_length(rt: HostRuntime) -> Result<(), Fail> {
+fn indices_past_the_last_chunk_or_of_another_length(rt: HostRuntime) {
     const GRID: Grid = Grid::Rectangular(&[5], &[AxisSizes::Listed(&[2, 3])]);
-    must_say_each(&rt, rt.alloc(), &GRID, &[Fact::NoChunk(&[2])])?;
-    let grid = grid_of(rt.alloc(), &GRID)?;
+    must_say_each(&rt, rt.alloc(), &GRID, &[Fact::NoChunk(&[2])]);
+    let grid = grid_of(&rt, rt.alloc(), &GRID);
     must_refuse_two(&rt, rt.alloc(), &grid);
     must_refuse_a_flat_region(&rt, rt.alloc(), &grid)
 }
 
-fn must_refuse_a_regular_one(rt: &impl Abort, alloc: Global) -> Result<(), Fail> {
+fn must_refuse_a_regular_one(rt: &impl Abort, alloc: Global) {
     let refused = GridError::IncompatibleDimensionality(IncompatibleDimensionalityError::new(2, 1));
-    let grid = RegularChunkGrid::new(alloc, numbers(alloc, &[8])?, sizes(alloc, &[4, 4])?);
+    let grid = RegularChunkGrid::new(alloc, numbers(rt, alloc, &[8]), sizes(rt, alloc, &[4, 4]));
     must(rt, matches!(grid, Err(e) if e == refused));
-    Ok(())
 }
 
-fn must_refuse_a_bounded_one(rt: &impl Abort, alloc: Global) -> Result<(), Fail> {
+fn must_refuse_a_bounded_one(rt: &impl Abort, alloc: Global) {
     let refused = GridError::IncompatibleDimensionality(IncompatibleDimensionalityError::new(2, 1));
-    let grid = RegularBoundedChunkGrid::new(alloc, numbers(alloc, &[8])?, sizes(alloc, &[4, 4])?);
+    let grid = RegularBoundedChunkGrid::new(
+        alloc,
+        numbers(rt, alloc, &[8]),
+        sizes(rt, alloc, &[4, 4]),
+    );
     must(rt, matches!(grid, Err(e) if e == refused));
-    Ok(())
 }
 
 #[test]
-fn chunk_shapes_of_another_length(rt: HostRuntime) -> Result<(), Fail> {
+fn chunk_shapes_of_another_length(rt: HostRuntime) {
     let alloc = rt.alloc();
-    must_refuse_a_regular_one(&rt, alloc)?;
-    must_refuse_a_bounded_one(&rt, alloc)?;
-    let grid = RectangularChunkGrid::new(alloc, numbers(alloc, &[8])?, Vec::new(alloc));
+    must_refuse_a_regular_one(&rt, alloc);
+    must_refuse_a_bounded_one(&rt, alloc);
+    let grid = RectangularChunkGrid::new(alloc, numbers(&rt, alloc, &[8]), Vec::new(alloc));
     must(
         &rt,
         matches!(grid, Err(GridError::IncompatibleDimensionality(_))),
     );
-    Ok(())
 }
 
 #[test]
-fn regular_chunks_end_at_the_last_u64(rt: HostRuntime) -> Result<(), Fail> {
+fn regular_chunks_end_at_the_last_u64(rt: HostRuntime) {
     const FACTS: &[Fact] = &[
         Fact::Shapes(&[u64::MAX], &[2]),
         Fact::PlainShape(&[0], &[HALF]),
@@ -384,7 +388,7 @@ fn regular_chunks_end_at_the_last_u64(rt: HostRuntime) -> Result<(), Fail> {
 }
 
 #[test]
-fn bounded_chunks_reach_the_last_u64(rt: HostRuntime) -> Result<(), Fail> {
+fn bounded_chunks_reach_the_last_u64(rt: HostRuntime) {
     const FACTS: &[Fact] = &[
         Fact::Chunk(&[1], (&[HALF], &[HALF - 1])),
         Fact::Meets((&[u64::MAX - 1], &[1]), (&[1], &[1])),
@@ -393,7 +397,7 @@ fn bounded_chunks_reach_the_last_u64(rt: HostRuntime) -> Result<(), Fail> {
 }
 
 #[test]
-fn a_grid_of_no_dimension_has_one_chunk(rt: HostRuntime) -> Result<(), Fail> {
+fn a_grid_of_no_dimension_has_one_chunk(rt: HostRuntime) {
     const FACTS: &[Fact] = &[
         Fact::Shapes(&[], &[]),
         Fact::Chunk(&[], (&[], &[])),
@@ -403,13 +407,13 @@ fn a_grid_of_no_dimension_has_one_chunk(rt: HostRuntime) -> Result<(), Fail> {
 }
 
 #[test]
-fn arrays_of_extent_0(rt: HostRuntime) -> Result<(), Fail> {
+fn arrays_of_extent_0(rt: HostRuntime) {
     const FACTS: &[Fact] = &[Fact::Shapes(&[0, 4], &[0, 2]), Fact::NoChunk(&[0, 0])];
     must_say_each(&rt, rt.alloc(), &Grid::Bounded(&[0, 4], &[2, 2]), FACTS)
 }
 
 #[test]
-fn an_extent_of_0_in_no_size(rt: HostRuntime) -> Result<(), Fail> {
+fn an_extent_of_0_in_no_size(rt: HostRuntime) {
     const GRID: Grid = Grid::Rectangular(&[0], &[AxisSizes::Listed(&[])]);
     const FACTS: &[Fact] = &[
         Fact::Shapes(&[0], &[0]),
@@ -419,13 +423,13 @@ fn an_extent_of_0_in_no_size(rt: HostRuntime) -> Result<(), Fail> {
     must_say_each(&rt, rt.alloc(), &GRID, FACTS)
 }
 
-fn a_million(alloc: Global) -> Result<SizeList, Fail> {
-    let mut list = Vec::with_capacity(alloc, 1000000)?;
+fn a_million(rt: &impl Abort, alloc: Global) -> SizeList {
+    let mut list = Vec::with_capacity(alloc, 1000000).expect(rt, "no refusal");
     for number in 0..1000000u64 {
-        let size = std::num::NonZeroU64::new(number % 3 + 1).ok_or("a size is 0")?;
-        list.push(size)?;
+        let size = std::num::NonZeroU64::new(number % 3 + 1).expect(rt, "a size is 0");
+        list.push(size).expect(rt, "no refusal");
     }
-    Ok(SizeList::new(alloc, list)?)
+    SizeList::new(alloc, list).expect(rt, "no refusal")
 }
 
 fn must_be_a_million(rt: &impl Abort, list: &SizeList) {
@@ -433,31 +437,30 @@ fn must_be_a_million(rt: &impl Abort, list: &SizeList) {
     must_eq(rt, list.end(), 1999999);
 }
 
-fn must_find_its_chunk(
-    rt: &impl Abort,
-    alloc: Global,
-    grid: &ChunkGrid,
-    first: u64,
-) -> Result<(), Fail> {
+fn must_find_its_chunk(rt: &impl Abort, alloc: Global, grid: &ChunkGrid, first: u64) {
     let met = grid
-        .chunks_in_array_subset(alloc, &region(alloc, &[first], &[2])?)?
-        .ok_or("covered")?;
-    let chunk = grid.subset(alloc, met.start())?.ok_or("there")?;
+        .chunks_in_array_subset(alloc, &region(rt, alloc, &[first], &[2]))
+        .expect(rt, "no refusal")
+        .expect(rt, "covered");
+    let chunk = grid
+        .subset(alloc, met.start())
+        .expect(rt, "no refusal")
+        .expect(rt, "there");
     must(rt, chunk.start().first() <= Some(&first));
-    Ok(())
 }
 
 #[test]
-fn a_million_listed_sizes(rt: HostRuntime) -> Result<(), Fail> {
+fn a_million_listed_sizes(rt: HostRuntime) {
     let alloc = rt.alloc();
-    let list = a_million(alloc)?;
+    let list = a_million(&rt, alloc);
     must_be_a_million(&rt, &list);
-    let sizes = vec![in alloc; ChunkSizes::Sizes(list)]?;
-    let grid = RectangularChunkGrid::new(alloc, numbers(alloc, &[1999999])?, sizes)?.into();
+    let sizes = vec![in alloc; ChunkSizes::Sizes(list)].expect(&rt, "no refusal");
+    let grid = RectangularChunkGrid::new(alloc, numbers(&rt, alloc, &[1999999]), sizes)
+        .expect(&rt, "no refusal")
+        .into();
     for number in 0..100000u64 {
-        must_find_its_chunk(&rt, alloc, &grid, 19 * number)?;
+        must_find_its_chunk(&rt, alloc, &grid, 19 * number);
     }
-    Ok(())
 }
 
 fn must_refuse_one_range(rt: &impl Abort, alloc: Global, grid: &ChunkGrid) {
@@ -469,7 +472,7 @@ fn must_refuse_one_range(rt: &impl Abort, alloc: Global, grid: &ChunkGrid) {
 }
 
 #[test]
-fn boxes_of_ranges_of_chunks(rt: HostRuntime) -> Result<(), Fail> {
+fn boxes_of_ranges_of_chunks(rt: HostRuntime) {
     const FACTS: &[Fact] = &[
         Fact::Fills((&[0, 1], &[2, 3]), (&[0, 4], &[5, 12])),
         Fact::Fills((&[1, 5], &[1, 1]), (&[2, 20], &[3, 4])),
@@ -477,8 +480,7 @@ fn boxes_of_ranges_of_chunks(rt: HostRuntime) -> Result<(), Fail> {
         Fact::NoRange((&[1, 0], &[2, 1])),
         Fact::NoRange((&[2, 0], &[1, 1])),
     ];
-    must_say_each(&rt, rt.alloc(), &TWO_AND_THREE_BY_FOUR, FACTS)?;
-    let grid = grid_of(rt.alloc(), &TWO_AND_THREE_BY_FOUR)?;
+    must_say_each(&rt, rt.alloc(), &TWO_AND_THREE_BY_FOUR, FACTS);
+    let grid = grid_of(&rt, rt.alloc(), &TWO_AND_THREE_BY_FOUR);
     must_refuse_one_range(&rt, rt.alloc(), &grid);
-    Ok(())
 }

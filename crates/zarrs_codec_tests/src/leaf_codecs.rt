@@ -3,7 +3,6 @@ use crate::checks::must;
 use crate::tests::{must_encode, must_not_decode, type_of};
 use std::alloc::Global;
 use std::process::Abort;
-use std::test::Fail;
 use zarrs_codec::{
     ArrayToBytesCodec, BytesCodec, BytesToBytesCodecs, ChainTraits, CodecChain, CodecError,
     CodecOptions, PackBitsCodec,
@@ -18,18 +17,12 @@ fn chain_of(alloc: Global, codec: ArrayToBytesCodec) -> CodecChain {
 }
 
 /// The chain of this codec makes the bytes of each row of its cells, and back.
-fn must_encode_each(
-    rt: &impl Abort,
-    alloc: Global,
-    codec: ArrayToBytesCodec,
-    rows: &[Row],
-) -> Result<(), Fail> {
+fn must_encode_each(rt: &impl Abort, alloc: Global, codec: ArrayToBytesCodec, rows: &[Row]) {
     let chain = chain_of(alloc, codec);
     for (name, shape, cells, encoded) in rows {
-        let data_type = type_of(alloc, name)?;
-        must_encode(rt, alloc, &chain, &data_type, shape, cells, encoded)?;
+        let data_type = type_of(rt, alloc, name);
+        must_encode(rt, alloc, &chain, &data_type, shape, cells, encoded);
     }
-    Ok(())
 }
 
 /// Names of types, shapes and bytes, which the chain of this codec decodes to no cells.
@@ -38,12 +31,11 @@ fn must_decode_none(
     alloc: Global,
     codec: ArrayToBytesCodec,
     rows: &[(&str, &[u64], &[u8])],
-) -> Result<(), Fail> {
+) {
     let chain = chain_of(alloc, codec);
     for (name, shape, encoded) in rows {
-        must_not_decode(rt, alloc, &chain, &type_of(alloc, name)?, shape, encoded)?;
+        must_not_decode(rt, alloc, &chain, &type_of(rt, alloc, name), shape, encoded);
     }
-    Ok(())
 }
 
 /// The chain of this codec does not take the type: it neither encodes these cells nor decodes bytes.
@@ -54,16 +46,21 @@ fn must_not_fit(
     name: &str,
     count: u64,
     cells: &[u8],
-) -> Result<(), Fail> {
-    let (chain, data_type) = (chain_of(alloc, codec), type_of(alloc, name)?);
-    let size = data_type.element_size().ok_or("a size")?;
-    let zero = FillValue::new(vec![in alloc; 0u8; size]?);
+) {
+    let (chain, data_type) = (chain_of(alloc, codec), type_of(rt, alloc, name));
+    let size = data_type.element_size().expect(rt, "a size");
+    let zero = FillValue::new(vec![in alloc; 0u8; size].expect(rt, "no refusal"));
     must(rt, zero.is_value_of(&data_type));
     let (shape, data) = ([count], ArrayBytes::from_flen(cells));
-    let number = zarrs_subset::element_count(&shape).ok_or("a count")?;
+    let number = zarrs_subset::element_count(&shape).expect(rt, "a count");
     must(rt, number < 100 && size < 100);
     must(rt, data.validate(&data_type, number));
-    must(rt, !chain.fits(alloc, &data_type, &shape)?);
+    must(
+        rt,
+        !chain
+            .fits(alloc, &data_type, &shape)
+            .expect(rt, "no refusal"),
+    );
     let options = CodecOptions::default();
     let made = chain.encode(alloc, &data, &data_type, &zero, &shape, &options);
     must(rt, made.is_err_and(|error| error == CodecError::DoesNotFit));
@@ -83,7 +80,7 @@ fn packbits() -> ArrayToBytesCodec {
 }
 
 #[test]
-fn big_endian_writes_the_highest_byte_first(rt: HostRuntime) -> Result<(), Fail> {
+fn big_endian_writes_the_highest_byte_first(rt: HostRuntime) {
     const TWO: &[u8] = &[2, 1, 0xFF, 0];
     const FOUR: &[u8] = &[4, 3, 2, 1, 8, 7, 6, 5];
     const EIGHT: &[u8] = &[8, 7, 6, 5, 4, 3, 2, 1];
@@ -100,7 +97,7 @@ fn big_endian_writes_the_highest_byte_first(rt: HostRuntime) -> Result<(), Fail>
 }
 
 #[test]
-fn big_endian_leaves_single_bytes_and_raw_cells(rt: HostRuntime) -> Result<(), Fail> {
+fn big_endian_leaves_single_bytes_and_raw_cells(rt: HostRuntime) {
     const CELLS: &[u8] = &[1, 0, 1, 1];
     const ROWS: &[Row] = &[
         ("r16", &[2], CELLS, CELLS),
@@ -112,7 +109,7 @@ fn big_endian_leaves_single_bytes_and_raw_cells(rt: HostRuntime) -> Result<(), F
 }
 
 #[test]
-fn bytes_of_big_endian_have_the_exact_length(rt: HostRuntime) -> Result<(), Fail> {
+fn bytes_of_big_endian_have_the_exact_length(rt: HostRuntime) {
     const ROWS: &[(&str, &[u64], &[u8])] = &[
         ("uint16", &[1], &[1]),
         ("uint16", &[1], &[1, 2, 3]),
@@ -128,15 +125,15 @@ fn bytes_of_big_endian_have_the_exact_length(rt: HostRuntime) -> Result<(), Fail
 }
 
 #[test]
-fn without_an_endian_only_single_bytes_and_raw_cells_fit(rt: HostRuntime) -> Result<(), Fail> {
+fn without_an_endian_only_single_bytes_and_raw_cells_fit(rt: HostRuntime) {
     const CELLS: &[u8] = &[1, 0, 1, 1];
     const ROWS: &[Row] = &[
         ("r32", &[1], CELLS, CELLS),
         ("bool", &[4], CELLS, CELLS),
         ("uint8", &[4], CELLS, CELLS),
     ];
-    must_encode_each(&rt, rt.alloc(), without_an_endian(), ROWS)?;
-    must_not_fit(&rt, rt.alloc(), without_an_endian(), "int16", 2, CELLS)?;
+    must_encode_each(&rt, rt.alloc(), without_an_endian(), ROWS);
+    must_not_fit(&rt, rt.alloc(), without_an_endian(), "int16", 2, CELLS);
     must_not_fit(&rt, rt.alloc(), without_an_endian(), "uint32", 1, CELLS)
 }
 
@@ -154,7 +151,7 @@ fn an_endian_is_what_was_given(rt: HostRuntime) {
 }
 
 #[test]
-fn bools_are_packed_eight_to_a_byte(rt: HostRuntime) -> Result<(), Fail> {
+fn bools_are_packed_eight_to_a_byte(rt: HostRuntime) {
     const ROWS: &[Row] = &[
         ("bool", &[9], &[1, 0, 1, 1, 0, 0, 0, 1, 1], &[0x8D, 0x01]),
         ("bool", &[0], &[], &[]),
@@ -179,7 +176,7 @@ fn bools_are_packed_eight_to_a_byte(rt: HostRuntime) -> Result<(), Fail> {
 }
 
 #[test]
-fn packed_bools_have_the_exact_length_and_no_other_bits(rt: HostRuntime) -> Result<(), Fail> {
+fn packed_bools_have_the_exact_length_and_no_other_bits(rt: HostRuntime) {
     const ROWS: &[(&str, &[u64], &[u8])] = &[
         ("bool", &[9], &[0x8D, 0x03]),
         ("bool", &[9], &[0x8D, 0x81]),
@@ -206,6 +203,6 @@ fn packed_bools_have_the_exact_length_and_no_other_bits(rt: HostRuntime) -> Resu
 }
 
 #[test]
-fn other_types_are_not_packed(rt: HostRuntime) -> Result<(), Fail> {
+fn other_types_are_not_packed(rt: HostRuntime) {
     must_not_fit(&rt, rt.alloc(), packbits(), "uint8", 1, &[1])
 }

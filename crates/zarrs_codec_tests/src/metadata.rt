@@ -5,7 +5,6 @@ use crate::tests::{must_encode, type_of};
 use serde_json::Value;
 use std::alloc::Global;
 use std::process::Abort;
-use std::test::Fail;
 use zarrs_codec::{
     ArrayToArrayCodec, ArrayToBytesCodec, BytesToBytesCodecs, CodecChain,
     default_array_to_bytes_codec,
@@ -21,27 +20,30 @@ const LITTLE: &str = "{\"configuration\":{\"endian\":\"little\"},\"name\":\"byte
 
 const BIG: &str = "{\"configuration\":{\"endian\":\"big\"},\"name\":\"bytes\"}";
 
-fn metadata_of(alloc: Global, text: &str) -> Result<MetadataV3, Fail> {
-    Ok(MetadataV3::from_value(Value::from_str(alloc, text)?)?)
+fn metadata_of(rt: &impl Abort, alloc: Global, text: &str) -> MetadataV3 {
+    MetadataV3::from_value(Value::from_str(alloc, text).expect(rt, "no refusal")).expect(
+        rt,
+        "no refusal",
+    )
 }
 
-fn metadatas_of(alloc: Global, texts: &[&str]) -> Result<Vec<MetadataV3>, Fail> {
+fn metadatas_of(rt: &impl Abort, alloc: Global, texts: &[&str]) -> Vec<MetadataV3> {
     let mut metadatas = Vec::new(alloc);
     for text in texts {
-        metadatas.push(metadata_of(alloc, text)?)?;
+        metadatas
+            .push(metadata_of(rt, alloc, text))
+            .expect(rt, "no refusal");
     }
-    Ok(metadatas)
+    metadatas
 }
 
-fn must_be_written(
-    rt: &impl Abort,
-    alloc: Global,
-    metadata: &MetadataV3,
-    text: &str,
-) -> Result<(), Fail> {
-    let written = metadata.to_value(alloc)?.to_string(alloc)?;
+fn must_be_written(rt: &impl Abort, alloc: Global, metadata: &MetadataV3, text: &str) {
+    let written = metadata
+        .to_value(alloc)
+        .expect(rt, "no refusal")
+        .to_string(alloc)
+        .expect(rt, "no refusal");
     must_eq(rt, written.as_str(), text);
-    Ok(())
 }
 
 fn must_be_refused<T>(rt: &impl Abort, read: &Result<T, PluginCreateError>, text: &str) {
@@ -49,20 +51,28 @@ fn must_be_refused<T>(rt: &impl Abort, read: &Result<T, PluginCreateError>, text
 }
 
 /// The first text says an array-to-array codec, whose metadata is the second.
-fn must_be_array_codec(
-    rt: &impl Abort,
-    alloc: Global,
-    text: &str,
-    written: &str,
-) -> Result<(), Fail> {
-    let codec = ArrayToArrayCodec::from_metadata(alloc, &metadata_of(alloc, text)?)?;
-    must_be_written(rt, alloc, &codec.create_metadata(alloc)?, written)?;
-    let copy = codec.try_clone(alloc)?;
-    must_be_written(rt, alloc, &copy.create_metadata(alloc)?, written)
+fn must_be_array_codec(rt: &impl Abort, alloc: Global, text: &str, written: &str) {
+    let codec = ArrayToArrayCodec::from_metadata(alloc, &metadata_of(rt, alloc, text)).expect(
+        rt,
+        "no refusal",
+    );
+    must_be_written(
+        rt,
+        alloc,
+        &codec.create_metadata(alloc).expect(rt, "no refusal"),
+        written,
+    );
+    let copy = codec.try_clone(alloc).expect(rt, "no refusal");
+    must_be_written(
+        rt,
+        alloc,
+        &copy.create_metadata(alloc).expect(rt, "no refusal"),
+        written,
+    )
 }
 
 #[test]
-fn array_codecs_are_read_and_written(rt: HostRuntime) -> Result<(), Fail> {
+fn array_codecs_are_read_and_written(rt: HostRuntime) {
     const ROWS: &[(&str, &str)] = &[
         (SWAP, SWAP),
         (JOINED, JOINED),
@@ -75,23 +85,21 @@ fn array_codecs_are_read_and_written(rt: HostRuntime) -> Result<(), Fail> {
         ("{\"name\":\"squeeze\",\"configuration\":{}}", "\"squeeze\""),
     ];
     for (text, written) in ROWS {
-        must_be_array_codec(&rt, rt.alloc(), text, written)?;
+        must_be_array_codec(&rt, rt.alloc(), text, written);
     }
-    Ok(())
 }
 
-fn must_be_no_array_codec(rt: &impl Abort, alloc: Global, text: &str) -> Result<(), Fail> {
-    let metadata = metadata_of(alloc, text)?;
+fn must_be_no_array_codec(rt: &impl Abort, alloc: Global, text: &str) {
+    let metadata = metadata_of(rt, alloc, text);
     must_be_refused(
         rt,
         &ArrayToArrayCodec::from_metadata(alloc, &metadata),
         text,
     );
-    Ok(())
 }
 
 #[test]
-fn metadata_of_no_array_codec_is_refused(rt: HostRuntime) -> Result<(), Fail> {
+fn metadata_of_no_array_codec_is_refused(rt: HostRuntime) {
     const TEXTS: &[&str] = &[
         "\"gzip\"",
         "\"bytes\"",
@@ -111,26 +119,33 @@ fn metadata_of_no_array_codec_is_refused(rt: HostRuntime) -> Result<(), Fail> {
         "{\"name\":\"squeeze\",\"configuration\":{\"axes\":[0]}}",
     ];
     for text in TEXTS {
-        must_be_no_array_codec(&rt, rt.alloc(), text)?;
+        must_be_no_array_codec(&rt, rt.alloc(), text);
     }
-    Ok(())
 }
 
 /// The first text says an array-to-bytes codec, whose metadata is the second.
-fn must_be_bytes_codec(
-    rt: &impl Abort,
-    alloc: Global,
-    text: &str,
-    written: &str,
-) -> Result<(), Fail> {
-    let codec = ArrayToBytesCodec::from_metadata(alloc, &metadata_of(alloc, text)?)?;
-    must_be_written(rt, alloc, &codec.create_metadata(alloc)?, written)?;
-    let copy = codec.try_clone(alloc)?;
-    must_be_written(rt, alloc, &copy.create_metadata(alloc)?, written)
+fn must_be_bytes_codec(rt: &impl Abort, alloc: Global, text: &str, written: &str) {
+    let codec = ArrayToBytesCodec::from_metadata(alloc, &metadata_of(rt, alloc, text)).expect(
+        rt,
+        "no refusal",
+    );
+    must_be_written(
+        rt,
+        alloc,
+        &codec.create_metadata(alloc).expect(rt, "no refusal"),
+        written,
+    );
+    let copy = codec.try_clone(alloc).expect(rt, "no refusal");
+    must_be_written(
+        rt,
+        alloc,
+        &copy.create_metadata(alloc).expect(rt, "no refusal"),
+        written,
+    )
 }
 
 #[test]
-fn bytes_codecs_are_read_and_written(rt: HostRuntime) -> Result<(), Fail> {
+fn bytes_codecs_are_read_and_written(rt: HostRuntime) {
     const ROWS: &[(&str, &str)] = &[
         (LITTLE, LITTLE),
         (BIG, BIG),
@@ -142,13 +157,12 @@ fn bytes_codecs_are_read_and_written(rt: HostRuntime) -> Result<(), Fail> {
         ),
     ];
     for (text, written) in ROWS {
-        must_be_bytes_codec(&rt, rt.alloc(), text, written)?;
+        must_be_bytes_codec(&rt, rt.alloc(), text, written);
     }
-    Ok(())
 }
 
 #[test]
-fn codecs_of_strings_are_read_and_written(rt: HostRuntime) -> Result<(), Fail> {
+fn codecs_of_strings_are_read_and_written(rt: HostRuntime) {
     const ROWS: &[(&str, &str)] = &[
         ("\"vlen-utf8\"", "\"vlen-utf8\""),
         (
@@ -162,9 +176,8 @@ fn codecs_of_strings_are_read_and_written(rt: HostRuntime) -> Result<(), Fail> {
         ),
     ];
     for (text, written) in ROWS {
-        must_be_bytes_codec(&rt, rt.alloc(), text, written)?;
+        must_be_bytes_codec(&rt, rt.alloc(), text, written);
     }
-    Ok(())
 }
 
 /// `zarrs.vlen` as it is written.
@@ -175,7 +188,7 @@ const VLEN: &str = concat!(
 );
 
 #[test]
-fn the_codec_of_an_index_is_read_and_written(rt: HostRuntime) -> Result<(), Fail> {
+fn the_codec_of_an_index_is_read_and_written(rt: HostRuntime) {
     const ROWS: &[&str] = &[
         VLEN,
         concat!(
@@ -185,14 +198,13 @@ fn the_codec_of_an_index_is_read_and_written(rt: HostRuntime) -> Result<(), Fail
         ),
     ];
     for text in ROWS {
-        must_be_bytes_codec(&rt, rt.alloc(), text, VLEN)?;
+        must_be_bytes_codec(&rt, rt.alloc(), text, VLEN);
     }
-    Ok(())
 }
 
 /// Configurations of `zarrs.vlen` that are not taken: each differs from that of `VLEN` in one member.
 #[test]
-fn other_configurations_of_the_codec_of_an_index_are_refused(rt: HostRuntime) -> Result<(), Fail> {
+fn other_configurations_of_the_codec_of_an_index_are_refused(rt: HostRuntime) {
     const LITTLE_INDEX: &str =
         "\"index_codecs\":[{\"name\":\"bytes\",\"configuration\":{\"endian\":\"little\"}}]";
     const DATA: &str = "\"data_codecs\":[\"bytes\"]";
@@ -226,30 +238,30 @@ fn other_configurations_of_the_codec_of_an_index_are_refused(rt: HostRuntime) ->
         ),
     ];
     for (index_type, index, data, more) in ROWS {
-        let members = format!(in rt.alloc(); "{index_type},{index},{data}{more}")?;
-        must_be_no_bytes_codec(&rt, rt.alloc(), "zarrs.vlen", &members)?;
+        let members = format!(in rt.alloc(); "{index_type},{index},{data}{more}").expect(
+            &rt,
+            "no refusal",
+        );
+        must_be_no_bytes_codec(&rt, rt.alloc(), "zarrs.vlen", &members);
     }
     must_be_no_bytes_codec(&rt, rt.alloc(), "zarrs.vlen", "")
 }
 
-fn must_be_no_bytes_codec(
-    rt: &impl Abort,
-    alloc: Global,
-    name: &str,
-    members: &str,
-) -> Result<(), Fail> {
-    let text = format!(in alloc; "{{\"name\":\"{name}\",\"configuration\":{{{members}}}}}")?;
-    let metadata = metadata_of(alloc, &text)?;
+fn must_be_no_bytes_codec(rt: &impl Abort, alloc: Global, name: &str, members: &str) {
+    let text = format!(in alloc; "{{\"name\":\"{name}\",\"configuration\":{{{members}}}}}").expect(
+        rt,
+        "no refusal",
+    );
+    let metadata = metadata_of(rt, alloc, &text);
     must_be_refused(
         rt,
         &ArrayToBytesCodec::from_metadata(alloc, &metadata),
         &text,
     );
-    Ok(())
 }
 
 #[test]
-fn metadata_of_no_bytes_codec_is_refused(rt: HostRuntime) -> Result<(), Fail> {
+fn metadata_of_no_bytes_codec_is_refused(rt: HostRuntime) {
     const ROWS: &[(&str, &str)] = &[
         ("gzip", ""),
         ("squeeze", ""),
@@ -263,32 +275,28 @@ fn metadata_of_no_bytes_codec_is_refused(rt: HostRuntime) -> Result<(), Fail> {
         ("vlen_utf8", ""),
     ];
     for (name, members) in ROWS {
-        must_be_no_bytes_codec(&rt, rt.alloc(), name, members)?;
+        must_be_no_bytes_codec(&rt, rt.alloc(), name, members);
     }
-    Ok(())
 }
 
-fn must_have_metadatas(
-    rt: &impl Abort,
-    alloc: Global,
-    chain: &CodecChain,
-    texts: &[&str],
-) -> Result<(), Fail> {
-    let metadatas = chain.create_metadatas(alloc)?;
+fn must_have_metadatas(rt: &impl Abort, alloc: Global, chain: &CodecChain, texts: &[&str]) {
+    let metadatas = chain.create_metadatas(alloc).expect(rt, "no refusal");
     must_eq(rt, metadatas.len(), texts.len());
     for (metadata, text) in metadatas.iter().zip(texts) {
-        must_be_written(rt, alloc, metadata, text)?;
+        must_be_written(rt, alloc, metadata, text);
     }
-    Ok(())
 }
 
 /// The texts say a chain, whose metadata they are.
-fn chain_of(rt: &impl Abort, alloc: Global, texts: &[&str]) -> Result<CodecChain, Fail> {
-    let chain = CodecChain::from_metadata(alloc, &metadatas_of(alloc, texts)?)?;
-    must_have_metadatas(rt, alloc, &chain, texts)?;
-    let copy = chain.try_clone(alloc)?;
-    must_have_metadatas(rt, alloc, &copy, texts)?;
-    Ok(copy)
+fn chain_of(rt: &impl Abort, alloc: Global, texts: &[&str]) -> CodecChain {
+    let chain = CodecChain::from_metadata(alloc, &metadatas_of(rt, alloc, texts)).expect(
+        rt,
+        "no refusal",
+    );
+    must_have_metadatas(rt, alloc, &chain, texts);
+    let copy = chain.try_clone(alloc).expect(rt, "no refusal");
+    must_have_metadatas(rt, alloc, &copy, texts);
+    copy
 }
 
 fn must_have_parts(rt: &impl Abort, chain: &CodecChain, array_codecs: usize) {
@@ -301,45 +309,37 @@ fn must_have_parts(rt: &impl Abort, chain: &CodecChain, array_codecs: usize) {
 }
 
 /// The texts say a chain of so many codecs before `bytes`, which swaps the last two dimensions of 2 rows of 3.
-fn must_swap(
-    rt: &impl Abort,
-    alloc: Global,
-    texts: &[&str],
-    array_codecs: usize,
-    shape: &[u64],
-) -> Result<(), Fail> {
-    let chain = chain_of(rt, alloc, texts)?;
+fn must_swap(rt: &impl Abort, alloc: Global, texts: &[&str], array_codecs: usize, shape: &[u64]) {
+    let chain = chain_of(rt, alloc, texts);
     must_have_parts(rt, &chain, array_codecs);
     let (cells, swapped) = ([1, 2, 3, 4, 5, 6], [1, 4, 2, 5, 3, 6]);
     must_encode(rt, alloc, &chain, &DataType::UInt8, shape, &cells, &swapped)
 }
 
 #[test]
-fn a_chain_is_made_of_its_metadata(rt: HostRuntime) -> Result<(), Fail> {
+fn a_chain_is_made_of_its_metadata(rt: HostRuntime) {
     const FOUR: &[&str] = &[JOINED, SWAP, "\"squeeze\"", BIG];
-    must_swap(&rt, rt.alloc(), &[SWAP, LITTLE], 1, &[2, 3])?;
+    must_swap(&rt, rt.alloc(), &[SWAP, LITTLE], 1, &[2, 3]);
     must_swap(&rt, rt.alloc(), FOUR, 3, &[1, 2, 3])
 }
 
 /// The texts say a chain of as many codecs.
-fn must_be_a_chain(rt: &impl Abort, alloc: Global, texts: &[&str]) -> Result<(), Fail> {
-    let chain = chain_of(rt, alloc, texts)?;
+fn must_be_a_chain(rt: &impl Abort, alloc: Global, texts: &[&str]) {
+    let chain = chain_of(rt, alloc, texts);
     must_have_parts(rt, &chain, texts.len().saturating_sub(1));
-    Ok(())
 }
 
 /// Codecs that make an array of an array may stand more than once, in any order.
 #[test]
-fn a_codec_named_twice_stands_twice(rt: HostRuntime) -> Result<(), Fail> {
+fn a_codec_named_twice_stands_twice(rt: HostRuntime) {
     const CHAINS: &[&[&str]] = &[
         &[SWAP, SWAP, LITTLE],
         &["\"squeeze\"", "\"squeeze\"", BIG],
         &[SWAP, JOINED, SWAP, "\"squeeze\"", JOINED, LITTLE],
     ];
     for texts in CHAINS {
-        must_be_a_chain(&rt, rt.alloc(), texts)?;
+        must_be_a_chain(&rt, rt.alloc(), texts);
     }
-    Ok(())
 }
 
 /// The text says a chain, which makes these bytes of cells of one dimension.
@@ -351,18 +351,18 @@ fn must_encode_by(
     shape: &[u64],
     cells: &[u8],
     encoded: &[u8],
-) -> Result<(), Fail> {
-    let chain = chain_of(rt, alloc, &[text])?;
+) {
+    let chain = chain_of(rt, alloc, &[text]);
     must_encode(rt, alloc, &chain, data_type, shape, cells, encoded)
 }
 
 #[test]
-fn a_chain_of_one_codec(rt: HostRuntime) -> Result<(), Fail> {
+fn a_chain_of_one_codec(rt: HostRuntime) {
     let alloc = rt.alloc();
     const FLAGS: &[u8] = &[1, 0, 1, 1, 0, 0, 0, 1, 1];
     const PACKED: &[u8] = &[0x8D, 0x01];
     let (flags, numbers) = (DataType::Bool, DataType::UInt16);
-    must_encode_by(&rt, alloc, "\"packbits\"", &flags, &[9], FLAGS, PACKED)?;
+    must_encode_by(&rt, alloc, "\"packbits\"", &flags, &[9], FLAGS, PACKED);
     must_encode_by(&rt, alloc, BIG, &numbers, &[1], &[2, 1], &[1, 2])
 }
 
@@ -375,8 +375,8 @@ fn must_encode_texts(
     shape: &[u64],
     cells: &ArrayBytes<'_>,
     encoded: &[u8],
-) -> Result<(), Fail> {
-    let chain = chain_of(rt, alloc, texts)?;
+) {
+    let chain = chain_of(rt, alloc, texts);
     must_eq(rt, chain.array_to_array_codecs().len(), array_codecs);
     must(
         rt,
@@ -392,8 +392,8 @@ fn must_encode_byte_strings(
     text: &str,
     cells: &ArrayBytes<'_>,
     encoded: &[u8],
-) -> Result<(), Fail> {
-    let chain = chain_of(rt, alloc, &[text])?;
+) {
+    let chain = chain_of(rt, alloc, &[text]);
     must(
         rt,
         matches!(
@@ -405,7 +405,7 @@ fn must_encode_byte_strings(
 }
 
 #[test]
-fn a_chain_of_texts_is_made_of_its_metadata(rt: HostRuntime) -> Result<(), Fail> {
+fn a_chain_of_texts_is_made_of_its_metadata(rt: HostRuntime) {
     const ENCODED: &[u8] = &[2, 0, 0, 0, 1, 0, 0, 0, 97, 2, 0, 0, 0, 98, 99];
     must_encode_texts(
         &rt,
@@ -413,26 +413,25 @@ fn a_chain_of_texts_is_made_of_its_metadata(rt: HostRuntime) -> Result<(), Fail>
         &[SWAP, "\"vlen-utf8\""],
         1,
         &[2, 1],
-        &strings(b"abc", &[0, 1, 3])?,
+        &strings(&rt, b"abc", &[0, 1, 3]),
         ENCODED,
-    )?;
+    );
     must_encode_byte_strings(
         &rt,
         rt.alloc(),
         "\"vlen-bytes\"",
-        &strings(&[7], &[0, 1])?,
+        &strings(&rt, &[7], &[0, 1]),
         &[1, 0, 0, 0, 1, 0, 0, 0, 7],
     )
 }
 
-fn must_be_no_chain(rt: &impl Abort, alloc: Global, texts: &[&str]) -> Result<(), Fail> {
-    let metadatas = metadatas_of(alloc, texts)?;
+fn must_be_no_chain(rt: &impl Abort, alloc: Global, texts: &[&str]) {
+    let metadatas = metadatas_of(rt, alloc, texts);
     must_be_refused(rt, &CodecChain::from_metadata(alloc, &metadatas), "a chain");
-    Ok(())
 }
 
 #[test]
-fn metadata_of_no_chain_is_refused(rt: HostRuntime) -> Result<(), Fail> {
+fn metadata_of_no_chain_is_refused(rt: HostRuntime) {
     const CHAINS: &[&[&str]] = &[
         &[],
         &[SWAP],
@@ -449,19 +448,26 @@ fn metadata_of_no_chain_is_refused(rt: HostRuntime) -> Result<(), Fail> {
         &["\"transpose\"", LITTLE],
     ];
     for texts in CHAINS {
-        must_be_no_chain(&rt, rt.alloc(), texts)?;
+        must_be_no_chain(&rt, rt.alloc(), texts);
     }
-    Ok(())
 }
 
 /// The codec of a chain that names none has this metadata, for cells of the type of this name.
-fn must_default_to(rt: &impl Abort, alloc: Global, name: &str, text: &str) -> Result<(), Fail> {
-    let codec = default_array_to_bytes_codec(alloc, &type_of(alloc, name)?)?;
-    must_be_written(rt, alloc, &codec.create_metadata(alloc)?, text)
+fn must_default_to(rt: &impl Abort, alloc: Global, name: &str, text: &str) {
+    let codec = default_array_to_bytes_codec(alloc, &type_of(rt, alloc, name)).expect(
+        rt,
+        "no refusal",
+    );
+    must_be_written(
+        rt,
+        alloc,
+        &codec.create_metadata(alloc).expect(rt, "no refusal"),
+        text,
+    )
 }
 
 #[test]
-fn each_type_has_its_default_codec(rt: HostRuntime) -> Result<(), Fail> {
+fn each_type_has_its_default_codec(rt: HostRuntime) {
     const ROWS: &[(&str, &str)] = &[
         ("bool", LITTLE),
         ("int8", LITTLE),
@@ -477,60 +483,66 @@ fn each_type_has_its_default_codec(rt: HostRuntime) -> Result<(), Fail> {
         ("bytes", "\"vlen-bytes\""),
     ];
     for (name, text) in ROWS {
-        must_default_to(&rt, rt.alloc(), name, text)?;
+        must_default_to(&rt, rt.alloc(), name, text);
     }
-    Ok(())
 }
 
 /// The metadata of `zarrs.optional` with these codecs.
-fn optional_text(alloc: Global, mask: &str, data: &str) -> Result<String, Fail> {
-    Ok(format!(in alloc;
+fn optional_text(rt: &impl Abort, alloc: Global, mask: &str, data: &str) -> String {
+    format!(in alloc;
         "{{\"configuration\":{{\"data_codecs\":[{data}],\"mask_codecs\":[{mask}]}},\"name\":\"zarrs.optional\"}}"
-    )?)
+    ).expect(rt, "no refusal")
 }
 
 /// The default codec of an optional type of the type of this name, and of an optional type of that one.
-fn must_default_to_optional(
-    rt: &impl Abort,
-    alloc: Global,
-    name: &str,
-    text: &str,
-) -> Result<(), Fail> {
-    let once = DataType::Optional(Box::new(alloc, type_of(alloc, name)?)?);
-    let written = optional_text(alloc, "\"packbits\"", text)?;
-    let codec = default_array_to_bytes_codec(alloc, &once)?;
-    must_be_written(rt, alloc, &codec.create_metadata(alloc)?, &written)?;
-    let twice = DataType::Optional(Box::new(alloc, once)?);
-    let written = optional_text(alloc, "\"packbits\"", &written)?;
-    let codec = default_array_to_bytes_codec(alloc, &twice)?;
-    must_be_written(rt, alloc, &codec.create_metadata(alloc)?, &written)
+fn must_default_to_optional(rt: &impl Abort, alloc: Global, name: &str, text: &str) {
+    let once = DataType::Optional(Box::new(alloc, type_of(rt, alloc, name)).expect(
+        rt,
+        "no refusal",
+    ));
+    let written = optional_text(rt, alloc, "\"packbits\"", text);
+    let codec = default_array_to_bytes_codec(alloc, &once).expect(rt, "no refusal");
+    must_be_written(
+        rt,
+        alloc,
+        &codec.create_metadata(alloc).expect(rt, "no refusal"),
+        &written,
+    );
+    let twice = DataType::Optional(Box::new(alloc, once).expect(rt, "no refusal"));
+    let written = optional_text(rt, alloc, "\"packbits\"", &written);
+    let codec = default_array_to_bytes_codec(alloc, &twice).expect(rt, "no refusal");
+    must_be_written(
+        rt,
+        alloc,
+        &codec.create_metadata(alloc).expect(rt, "no refusal"),
+        &written,
+    )
 }
 
 #[test]
-fn each_optional_type_has_its_default_codec(rt: HostRuntime) -> Result<(), Fail> {
+fn each_optional_type_has_its_default_codec(rt: HostRuntime) {
     const ROWS: &[(&str, &str)] = &[
         ("uint8", LITTLE),
         ("string", "\"vlen-utf8\""),
         ("bytes", "\"vlen-bytes\""),
     ];
     for (name, text) in ROWS {
-        must_default_to_optional(&rt, rt.alloc(), name, text)?;
+        must_default_to_optional(&rt, rt.alloc(), name, text);
     }
-    Ok(())
 }
 
 /// These codecs say `zarrs.optional`, under both its names.
-fn must_be_optional(rt: &impl Abort, alloc: Global, mask: &str, data: &str) -> Result<(), Fail> {
-    let written = optional_text(alloc, mask, data)?;
-    must_be_bytes_codec(rt, alloc, &written, &written)?;
+fn must_be_optional(rt: &impl Abort, alloc: Global, mask: &str, data: &str) {
+    let written = optional_text(rt, alloc, mask, data);
+    must_be_bytes_codec(rt, alloc, &written, &written);
     let text = format!(in alloc;
         "{{\"name\":\"optional\",\"configuration\":{{\"mask_codecs\":[{mask}],\"data_codecs\":[{data}]}}}}"
-    )?;
+    ).expect(rt, "no refusal");
     must_be_bytes_codec(rt, alloc, &text, &written)
 }
 
 #[test]
-fn optional_codecs_are_read_and_written(rt: HostRuntime) -> Result<(), Fail> {
+fn optional_codecs_are_read_and_written(rt: HostRuntime) {
     const NESTED: &str =
         "{\"configuration\":{\"data_codecs\":[\"packbits\"],\"mask_codecs\":[\"bytes\"]},\"name\":\"zarrs.optional\"}";
     const ROWS: &[(&str, &str)] = &[
@@ -540,13 +552,12 @@ fn optional_codecs_are_read_and_written(rt: HostRuntime) -> Result<(), Fail> {
         ("\"packbits\"", NESTED),
     ];
     for (mask, data) in ROWS {
-        must_be_optional(&rt, rt.alloc(), mask, data)?;
+        must_be_optional(&rt, rt.alloc(), mask, data);
     }
-    Ok(())
 }
 
 #[test]
-fn metadata_of_no_optional_codec_is_refused(rt: HostRuntime) -> Result<(), Fail> {
+fn metadata_of_no_optional_codec_is_refused(rt: HostRuntime) {
     const MEMBERS: &[&str] = &[
         "",
         "\"mask_codecs\":[\"packbits\"]",
@@ -565,7 +576,6 @@ fn metadata_of_no_optional_codec_is_refused(rt: HostRuntime) -> Result<(), Fail>
         "\"mask_codecs\":[\"packbits\"],\"data_codecs\":[\"bytes\"],\"more\":1",
     ];
     for members in MEMBERS {
-        must_be_no_bytes_codec(&rt, rt.alloc(), "zarrs.optional", members)?;
+        must_be_no_bytes_codec(&rt, rt.alloc(), "zarrs.optional", members);
     }
-    Ok(())
 }

@@ -5,7 +5,6 @@ use crate::tests::{transpose, type_of};
 use std::alloc::Global;
 use std::borrow::CowSlice;
 use std::process::Abort;
-use std::test::Fail;
 use zarrs_codec::{
     ArrayToArrayCodec, ArrayToBytesCodec, BytesCodec, BytesToBytesCodecs, ChainTraits, CodecChain,
     CodecError, CodecOptions, MaskCodec, OptionalCodec, PackBitsCodec, ReshapeCodec, ReshapeExtent,
@@ -19,26 +18,30 @@ const PACKED: MaskCodec = MaskCodec::PackBits(PackBitsCodec);
 type Row = (&'static [&'static [u8]], &'static [u8], &'static [u8]);
 
 /// The type of this name, made optional so many times.
-fn optional_type(alloc: Global, name: &str, depth: usize) -> Result<DataType, Fail> {
-    let mut data_type = type_of(alloc, name)?;
+fn optional_type(rt: &impl Abort, alloc: Global, name: &str, depth: usize) -> DataType {
+    let mut data_type = type_of(rt, alloc, name);
     for _ in 0..depth {
-        data_type = DataType::Optional(Box::new(alloc, data_type)?);
+        data_type = DataType::Optional(Box::new(alloc, data_type).expect(rt, "no refusal"));
     }
-    Ok(data_type)
+    data_type
 }
 
 /// The chain of this codec under `zarrs.optional` so many times, each with this codec for its mask.
 fn chain_of(
+    rt: &impl Abort,
     alloc: Global,
     mask: MaskCodec,
     data: ArrayToBytesCodec,
     depth: usize,
-) -> Result<CodecChain, Fail> {
+) -> CodecChain {
     let mut codec = data;
     for _ in 0..depth {
-        codec = ArrayToBytesCodec::Optional(OptionalCodec::new(alloc, mask, codec)?);
+        codec = ArrayToBytesCodec::Optional(OptionalCodec::new(alloc, mask, codec).expect(
+            rt,
+            "no refusal",
+        ));
     }
-    Ok(CodecChain::new(Vec::new(alloc), codec, BytesToBytesCodecs))
+    CodecChain::new(Vec::new(alloc), codec, BytesToBytesCodecs)
 }
 
 fn numbers() -> ArrayToBytesCodec {
@@ -47,22 +50,23 @@ fn numbers() -> ArrayToBytesCodec {
 
 /// The data under this mask.
 fn masked(
+    rt: &impl Abort,
     alloc: Global,
     data: ArrayBytes<'static>,
     mask: &[u8],
-) -> Result<ArrayBytes<'static>, Fail> {
-    let mask = CowSlice::Owned(Vec::from_slice(alloc, mask)?);
-    let optional = ArrayBytesOptional::new(Box::new(alloc, data)?, mask);
-    Ok(ArrayBytes::Optional(optional.ok().ok_or("a mask")?))
+) -> ArrayBytes<'static> {
+    let mask = CowSlice::Owned(Vec::from_slice(alloc, mask).expect(rt, "no refusal"));
+    let optional = ArrayBytesOptional::new(Box::new(alloc, data).expect(rt, "no refusal"), mask);
+    ArrayBytes::Optional(optional.ok().expect(rt, "a mask"))
 }
 
 /// Numbers of one byte under these masks, the outermost first.
-fn data_of(alloc: Global, masks: &[&[u8]], bytes: &[u8]) -> Result<ArrayBytes<'static>, Fail> {
-    let mut data = ArrayBytes::new_flen(Vec::from_slice(alloc, bytes)?);
+fn data_of(rt: &impl Abort, alloc: Global, masks: &[&[u8]], bytes: &[u8]) -> ArrayBytes<'static> {
+    let mut data = ArrayBytes::new_flen(Vec::from_slice(alloc, bytes).expect(rt, "no refusal"));
     for mask in masks.iter().rev() {
-        data = masked(alloc, data, mask)?;
+        data = masked(rt, alloc, data, mask);
     }
-    Ok(data)
+    data
 }
 
 fn must_have_mask(rt: &impl Abort, data: &ArrayBytes<'_>, mask: &[u8]) {
@@ -82,23 +86,37 @@ fn must_encode_in(
     data: &ArrayBytes<'_>,
     mask: &[u8],
     encoded: &[u8],
-) -> Result<(), Fail> {
-    let null = FillValue::new(vec![in alloc; 0u8]?);
+) {
+    let null = FillValue::new(vec![in alloc; 0u8].expect(rt, "no refusal"));
     must(rt, null.is_value_of(data_type));
-    let count = zarrs_subset::element_count(shape).ok_or("a count")?;
+    let count = zarrs_subset::element_count(shape).expect(rt, "a count");
     must(rt, count < 100 && data_type.cell_size() < 100);
     must(rt, data.validate(data_type, count));
     let options = CodecOptions::default();
-    let made = chain.encode(alloc, data, data_type, &null, shape, &options)?;
+    let made = chain
+        .encode(alloc, data, data_type, &null, shape, &options)
+        .expect(rt, "no refusal");
     must_eq(rt, made.as_slice(), encoded);
-    let back = chain.decode(alloc, &made, data_type, &null, shape)?;
+    let back = chain
+        .decode(alloc, &made, data_type, &null, shape)
+        .expect(rt, "no refusal");
     must_have_mask(rt, &back, mask);
     must(rt, back.validate(data_type, count));
-    let again = chain.encode(alloc, &back, data_type, &null, shape, &options)?;
+    let again = chain
+        .encode(alloc, &back, data_type, &null, shape, &options)
+        .expect(rt, "no refusal");
     must_eq(rt, again.as_slice(), encoded);
-    must(rt, chain.compact(alloc, &made, shape)?.is_none());
-    must(rt, chain.fits(alloc, data_type, shape)?);
-    Ok(())
+    must(
+        rt,
+        chain
+            .compact(alloc, &made, shape)
+            .expect(rt, "no refusal")
+            .is_none(),
+    );
+    must(
+        rt,
+        chain.fits(alloc, data_type, shape).expect(rt, "no refusal"),
+    );
 }
 
 /// The same for a chunk of one dimension.
@@ -110,31 +128,24 @@ fn must_encode(
     data: &ArrayBytes<'_>,
     mask: &[u8],
     encoded: &[u8],
-) -> Result<(), Fail> {
+) {
     let shape = [mask.len() as u64];
     must_encode_in(rt, alloc, chain, data_type, &shape, data, mask, encoded)
 }
 
 /// Numbers of one byte, made optional so many times, encode to the bytes of their row, and back.
-fn must_encode_each(
-    rt: &impl Abort,
-    alloc: Global,
-    mask: MaskCodec,
-    depth: usize,
-    rows: &[Row],
-) -> Result<(), Fail> {
-    let data_type = optional_type(alloc, "uint8", depth)?;
-    let chain = chain_of(alloc, mask, numbers(), depth)?;
+fn must_encode_each(rt: &impl Abort, alloc: Global, mask: MaskCodec, depth: usize, rows: &[Row]) {
+    let data_type = optional_type(rt, alloc, "uint8", depth);
+    let chain = chain_of(rt, alloc, mask, numbers(), depth);
     for (masks, bytes, encoded) in rows {
-        let data = data_of(alloc, masks, bytes)?;
-        let outermost = masks.first().ok_or("a mask")?;
-        must_encode(rt, alloc, &chain, &data_type, &data, outermost, encoded)?;
+        let data = data_of(rt, alloc, masks, bytes);
+        let outermost = masks.first().expect(rt, "a mask");
+        must_encode(rt, alloc, &chain, &data_type, &data, outermost, encoded);
     }
-    Ok(())
 }
 
 #[test]
-fn a_packed_mask_stands_before_the_cells_that_are_some(rt: HostRuntime) -> Result<(), Fail> {
+fn a_packed_mask_stands_before_the_cells_that_are_some(rt: HostRuntime) {
     const ONE: &[u8] = &[1, 0, 0, 0, 0, 0, 0, 0, 1, 0, 0, 0, 0, 0, 0, 0, 2, 5];
     const NONE: &[u8] = &[1, 0, 0, 0, 0, 0, 0, 0, 0, 0, 0, 0, 0, 0, 0, 0, 0];
     const ROWS: &[Row] = &[
@@ -147,17 +158,17 @@ fn a_packed_mask_stands_before_the_cells_that_are_some(rt: HostRuntime) -> Resul
 }
 
 #[test]
-fn a_mask_in_bytes_has_any_endian_or_none(rt: HostRuntime) -> Result<(), Fail> {
+fn a_mask_in_bytes_has_any_endian_or_none(rt: HostRuntime) {
     const ONE: &[u8] = &[2, 0, 0, 0, 0, 0, 0, 0, 1, 0, 0, 0, 0, 0, 0, 0, 0, 1, 5];
     const ROWS: &[Row] = &[(&[&[0, 1]], &[9, 5], ONE)];
     let alloc = rt.alloc();
-    must_encode_each(&rt, alloc, MaskCodec::Bytes(BytesCodec::little()), 1, ROWS)?;
-    must_encode_each(&rt, alloc, MaskCodec::Bytes(BytesCodec::big()), 1, ROWS)?;
+    must_encode_each(&rt, alloc, MaskCodec::Bytes(BytesCodec::little()), 1, ROWS);
+    must_encode_each(&rt, alloc, MaskCodec::Bytes(BytesCodec::big()), 1, ROWS);
     must_encode_each(&rt, alloc, MaskCodec::Bytes(BytesCodec::new(None)), 1, ROWS)
 }
 
 #[test]
-fn optionals_of_optionals_nest(rt: HostRuntime) -> Result<(), Fail> {
+fn optionals_of_optionals_nest(rt: HostRuntime) {
     const SEVEN: &[u8] = &[
         1, 0, 0, 0, 0, 0, 0, 0, 0x12, 0, 0, 0, 0, 0, 0, 0, 3, 1, 0, 0, 0, 0, 0, 0, 0, 1, 0, 0, 0,
         0, 0, 0, 0, 1, 7,
@@ -175,45 +186,62 @@ fn optionals_of_optionals_nest(rt: HostRuntime) -> Result<(), Fail> {
 }
 
 #[test]
-fn texts_that_are_some_stand_behind_the_mask(rt: HostRuntime) -> Result<(), Fail> {
+fn texts_that_are_some_stand_behind_the_mask(rt: HostRuntime) {
     const ONE: &[u8] = &[
         1, 0, 0, 0, 0, 0, 0, 0, 9, 0, 0, 0, 0, 0, 0, 0, 1, 1, 0, 0, 0, 1, 0, 0, 0, 97,
     ];
     const NONE: &[u8] = &[1, 0, 0, 0, 0, 0, 0, 0, 0, 0, 0, 0, 0, 0, 0, 0, 0];
     let alloc = rt.alloc();
-    let texts = optional_type(alloc, "string", 1)?;
-    let chain = chain_of(alloc, PACKED, ArrayToBytesCodec::VlenUtf8(VlenUtf8Codec), 1)?;
-    let one = masked(alloc, strings(b"abc", &[0, 1, 3])?, &[1, 0])?;
-    must_encode(&rt, alloc, &chain, &texts, &one, &[1, 0], ONE)?;
-    let none = masked(alloc, strings(b"abc", &[0, 1, 3])?, &[0, 0])?;
+    let texts = optional_type(&rt, alloc, "string", 1);
+    let chain = chain_of(
+        &rt,
+        alloc,
+        PACKED,
+        ArrayToBytesCodec::VlenUtf8(VlenUtf8Codec),
+        1,
+    );
+    let one = masked(&rt, alloc, strings(&rt, b"abc", &[0, 1, 3]), &[1, 0]);
+    must_encode(&rt, alloc, &chain, &texts, &one, &[1, 0], ONE);
+    let none = masked(&rt, alloc, strings(&rt, b"abc", &[0, 1, 3]), &[0, 0]);
     must_encode(&rt, alloc, &chain, &texts, &none, &[0, 0], NONE)
 }
 
 /// Optional numbers of one byte behind a transpose of two dimensions and a reshape to one.
-fn swapped_and_joined(alloc: Global) -> Result<CodecChain, Fail> {
+fn swapped_and_joined(rt: &impl Abort, alloc: Global) -> CodecChain {
     let mut entries = Vec::new(alloc);
-    entries.push(ReshapeExtent::ProductOf([0, 1].to_vec(alloc)?))?;
-    let joined = ReshapeCodec::new(alloc, entries)?.ok_or("entries")?;
+    entries
+        .push(ReshapeExtent::ProductOf([0, 1].to_vec(alloc).expect(rt, "no refusal")))
+        .expect(rt, "no refusal");
+    let joined = ReshapeCodec::new(alloc, entries)
+        .expect(rt, "no refusal")
+        .expect(rt, "entries");
     let mut codecs = Vec::new(alloc);
-    codecs.push(transpose(alloc, &[1, 0])?)?;
-    codecs.push(ArrayToArrayCodec::Reshape(joined))?;
-    let codec = ArrayToBytesCodec::Optional(OptionalCodec::new(alloc, PACKED, numbers())?);
-    Ok(CodecChain::new(codecs, codec, BytesToBytesCodecs))
+    codecs
+        .push(transpose(rt, alloc, &[1, 0]))
+        .expect(rt, "no refusal");
+    codecs
+        .push(ArrayToArrayCodec::Reshape(joined))
+        .expect(rt, "no refusal");
+    let codec = ArrayToBytesCodec::Optional(OptionalCodec::new(alloc, PACKED, numbers()).expect(
+        rt,
+        "no refusal",
+    ));
+    CodecChain::new(codecs, codec, BytesToBytesCodecs)
 }
 
 /// The cells 1, none, 3 above none, 5, 6: their mask and their numbers go column by column.
 #[test]
-fn masks_go_through_a_transpose_and_a_reshape(rt: HostRuntime) -> Result<(), Fail> {
+fn masks_go_through_a_transpose_and_a_reshape(rt: HostRuntime) {
     const MASK: &[u8] = &[1, 0, 1, 0, 1, 1];
     const ENCODED: &[u8] = &[
         1, 0, 0, 0, 0, 0, 0, 0, 4, 0, 0, 0, 0, 0, 0, 0, 0x39, 1, 5, 3, 6,
     ];
     let alloc = rt.alloc();
     let (data_type, chain) = (
-        optional_type(alloc, "uint8", 1)?,
-        swapped_and_joined(alloc)?,
+        optional_type(&rt, alloc, "uint8", 1),
+        swapped_and_joined(&rt, alloc),
     );
-    let data = data_of(alloc, &[MASK], &[1, 2, 3, 4, 5, 6])?;
+    let data = data_of(&rt, alloc, &[MASK], &[1, 2, 3, 4, 5, 6]);
     must_encode_in(
         &rt,
         alloc,
@@ -228,44 +256,46 @@ fn masks_go_through_a_transpose_and_a_reshape(rt: HostRuntime) -> Result<(), Fai
 
 /// The bytes of one cell that is some at each of so many levels: at each a mask of one bit, and what lies below it. The
 /// number at the bottom is 7, or absent if the lowest level is none.
-fn nested(alloc: Global, depth: usize, lowest: u8) -> Result<Vec<u8>, Fail> {
+fn nested(rt: &impl Abort, alloc: Global, depth: usize, lowest: u8) -> Vec<u8> {
     let mut below = Vec::new(alloc);
     if lowest == 1 {
-        below.push(7)?;
+        below.push(7).expect(rt, "no refusal");
     }
     for level in 0..depth {
-        let mut made = Vec::from_slice(alloc, &[1, 0, 0, 0, 0, 0, 0, 0])?;
-        made.extend_from_slice(&(below.len() as u64).to_le_bytes())?;
-        made.push(if level == 0 { lowest } else { 1 })?;
-        made.extend_from_slice(&below)?;
+        let mut made = Vec::from_slice(alloc, &[1, 0, 0, 0, 0, 0, 0, 0]).expect(rt, "no refusal");
+        made.extend_from_slice(&(below.len() as u64).to_le_bytes())
+            .expect(rt, "no refusal");
+        made.push(if level == 0 { lowest } else { 1 })
+            .expect(rt, "no refusal");
+        made.extend_from_slice(&below).expect(rt, "no refusal");
         below = made;
     }
-    Ok(below)
+    below
 }
 
 /// One cell that is some at each of so many levels but the lowest one, whose flag this is.
-fn nested_data(alloc: Global, depth: usize, lowest: u8) -> Result<ArrayBytes<'static>, Fail> {
-    let mut data = ArrayBytes::new_flen(Vec::from_slice(alloc, &[7])?);
+fn nested_data(rt: &impl Abort, alloc: Global, depth: usize, lowest: u8) -> ArrayBytes<'static> {
+    let mut data = ArrayBytes::new_flen(Vec::from_slice(alloc, &[7]).expect(rt, "no refusal"));
     for level in 0..depth {
-        data = masked(alloc, data, &[if level == 0 { lowest } else { 1 }])?;
+        data = masked(rt, alloc, data, &[if level == 0 { lowest } else { 1 }]);
     }
-    Ok(data)
+    data
 }
 
-fn must_nest(rt: &impl Abort, alloc: Global, lowest: u8, len: usize) -> Result<(), Fail> {
+fn must_nest(rt: &impl Abort, alloc: Global, lowest: u8, len: usize) {
     let (data_type, chain) = (
-        optional_type(alloc, "uint8", 64)?,
-        chain_of(alloc, PACKED, numbers(), 64)?,
+        optional_type(rt, alloc, "uint8", 64),
+        chain_of(rt, alloc, PACKED, numbers(), 64),
     );
-    let encoded = nested(alloc, 64, lowest)?;
+    let encoded = nested(rt, alloc, 64, lowest);
     must_eq(rt, encoded.len(), len);
-    let data = nested_data(alloc, 64, lowest)?;
+    let data = nested_data(rt, alloc, 64, lowest);
     must_encode(rt, alloc, &chain, &data_type, &data, &[1], &encoded)
 }
 
 #[test]
-fn optionals_nest_64_deep(rt: HostRuntime) -> Result<(), Fail> {
-    must_nest(&rt, rt.alloc(), 1, 1089)?;
+fn optionals_nest_64_deep(rt: HostRuntime) {
+    must_nest(&rt, rt.alloc(), 1, 1089);
     must_nest(&rt, rt.alloc(), 0, 1088)
 }
 
@@ -276,17 +306,16 @@ fn must_not_decode(
     chain: &CodecChain,
     data_type: &DataType,
     encoded: &[u8],
-) -> Result<(), Fail> {
-    let null = FillValue::new(vec![in alloc; 0u8]?);
+) {
+    let null = FillValue::new(vec![in alloc; 0u8].expect(rt, "no refusal"));
     must(rt, null.is_value_of(data_type));
     must(rt, data_type.cell_size() < 100);
     let made = chain.decode(alloc, encoded, data_type, &null, &[1]);
     must(rt, made.is_err_and(|error| error == CodecError::DoesNotFit));
-    Ok(())
 }
 
 #[test]
-fn foreign_bytes_are_no_optional_cells(rt: HostRuntime) -> Result<(), Fail> {
+fn foreign_bytes_are_no_optional_cells(rt: HostRuntime) {
     const ROWS: &[&[u8]] = &[
         &[],
         &[1, 0, 0, 0, 0, 0, 0, 0, 1, 0, 0, 0, 0, 0, 0],
@@ -303,17 +332,16 @@ fn foreign_bytes_are_no_optional_cells(rt: HostRuntime) -> Result<(), Fail> {
         &[1, 0, 0, 0, 0, 0, 0, 0, 2, 0, 0, 0, 0, 0, 0, 0, 1, 5, 5],
     ];
     let alloc = rt.alloc();
-    let data_type = optional_type(alloc, "uint8", 1)?;
-    let chain = chain_of(alloc, PACKED, numbers(), 1)?;
+    let data_type = optional_type(&rt, alloc, "uint8", 1);
+    let chain = chain_of(&rt, alloc, PACKED, numbers(), 1);
     for encoded in ROWS {
-        must_not_decode(&rt, alloc, &chain, &data_type, encoded)?;
+        must_not_decode(&rt, alloc, &chain, &data_type, encoded);
     }
-    Ok(())
 }
 
 /// The mask is in bytes.
 #[test]
-fn a_mask_in_bytes_is_exact(rt: HostRuntime) -> Result<(), Fail> {
+fn a_mask_in_bytes_is_exact(rt: HostRuntime) {
     const ROWS: &[&[u8]] = &[
         // a byte of the mask is 2
         &[1, 0, 0, 0, 0, 0, 0, 0, 1, 0, 0, 0, 0, 0, 0, 0, 2, 5],
@@ -325,17 +353,22 @@ fn a_mask_in_bytes_is_exact(rt: HostRuntime) -> Result<(), Fail> {
         &[2, 0, 0, 0, 0, 0, 0, 0, 1, 0, 0, 0, 0, 0, 0, 0, 1, 0, 5],
     ];
     let alloc = rt.alloc();
-    let data_type = optional_type(alloc, "uint8", 1)?;
-    let chain = chain_of(alloc, MaskCodec::Bytes(BytesCodec::little()), numbers(), 1)?;
+    let data_type = optional_type(&rt, alloc, "uint8", 1);
+    let chain = chain_of(
+        &rt,
+        alloc,
+        MaskCodec::Bytes(BytesCodec::little()),
+        numbers(),
+        1,
+    );
     for encoded in ROWS {
-        must_not_decode(&rt, alloc, &chain, &data_type, encoded)?;
+        must_not_decode(&rt, alloc, &chain, &data_type, encoded);
     }
-    Ok(())
 }
 
 /// One text that is some.
 #[test]
-fn foreign_bytes_are_no_optional_text(rt: HostRuntime) -> Result<(), Fail> {
+fn foreign_bytes_are_no_optional_text(rt: HostRuntime) {
     const ROWS: &[&[u8]] = &[
         // no text
         &[
@@ -357,22 +390,31 @@ fn foreign_bytes_are_no_optional_text(rt: HostRuntime) -> Result<(), Fail> {
         ],
     ];
     let alloc = rt.alloc();
-    let data_type = optional_type(alloc, "string", 1)?;
-    let chain = chain_of(alloc, PACKED, ArrayToBytesCodec::VlenUtf8(VlenUtf8Codec), 1)?;
+    let data_type = optional_type(&rt, alloc, "string", 1);
+    let chain = chain_of(
+        &rt,
+        alloc,
+        PACKED,
+        ArrayToBytesCodec::VlenUtf8(VlenUtf8Codec),
+        1,
+    );
     for encoded in ROWS {
-        must_not_decode(&rt, alloc, &chain, &data_type, encoded)?;
+        must_not_decode(&rt, alloc, &chain, &data_type, encoded);
     }
-    Ok(())
 }
 
 #[test]
-fn only_optional_types_of_what_the_data_codec_takes_fit(rt: HostRuntime) -> Result<(), Fail> {
+fn only_optional_types_of_what_the_data_codec_takes_fit(rt: HostRuntime) {
     const ROWS: &[(&str, usize)] = &[("uint8", 0), ("string", 1), ("uint8", 2)];
     let alloc = rt.alloc();
-    let chain = chain_of(alloc, PACKED, numbers(), 1)?;
+    let chain = chain_of(&rt, alloc, PACKED, numbers(), 1);
     for (name, depth) in ROWS {
-        let data_type = optional_type(alloc, name, *depth)?;
-        must(&rt, !chain.fits(alloc, &data_type, &[1])?);
+        let data_type = optional_type(&rt, alloc, name, *depth);
+        must(
+            &rt,
+            !chain
+                .fits(alloc, &data_type, &[1])
+                .expect(&rt, "no refusal"),
+        );
     }
-    Ok(())
 }

@@ -4,7 +4,6 @@ use crate::tests::transpose;
 use std::alloc::Global;
 use std::borrow::CowSlice;
 use std::process::Abort;
-use std::test::Fail;
 use zarrs_codec::{
     ArrayToBytesCodec, BytesToBytesCodecs, ChainTraits, CodecChain, CodecError, CodecOptions,
     VlenBytesCodec, VlenUtf8Codec,
@@ -22,16 +21,18 @@ type Row = (
 );
 
 /// The chain of transposes of these orders before `vlen-utf8`.
-pub(crate) fn chain_of_texts(alloc: Global, orders: &[&[u64]]) -> Result<CodecChain, Fail> {
+pub(crate) fn chain_of_texts(rt: &impl Abort, alloc: Global, orders: &[&[u64]]) -> CodecChain {
     let mut codecs = Vec::new(alloc);
     for order in orders {
-        codecs.push(transpose(alloc, order)?)?;
+        codecs
+            .push(transpose(rt, alloc, order))
+            .expect(rt, "no refusal");
     }
-    Ok(CodecChain::new(
+    CodecChain::new(
         codecs,
         ArrayToBytesCodec::VlenUtf8(VlenUtf8Codec),
         BytesToBytesCodecs,
-    ))
+    )
 }
 
 /// The chain of `vlen-bytes` alone.
@@ -44,11 +45,12 @@ fn chain_of_byte_strings(alloc: Global) -> CodecChain {
 }
 
 pub(crate) fn strings(
+    rt: &impl Abort,
     bytes: &'static [u8],
     offsets: &'static [usize],
-) -> Result<ArrayBytes<'static>, Fail> {
-    let offsets = ArrayBytesOffsets::new(CowSlice::Borrowed(offsets))?;
-    Ok(ArrayBytes::new_vlen(CowSlice::Borrowed(bytes), offsets)?)
+) -> ArrayBytes<'static> {
+    let offsets = ArrayBytesOffsets::new(CowSlice::Borrowed(offsets)).expect(rt, "no refusal");
+    ArrayBytes::new_vlen(CowSlice::Borrowed(bytes), offsets).expect(rt, "no refusal")
 }
 
 pub(crate) fn must_be_same(rt: &impl Abort, left: &ArrayBytes<'_>, right: &ArrayBytes<'_>) {
@@ -70,31 +72,46 @@ pub(crate) fn must_encode_strings(
     shape: &[u64],
     cells: &ArrayBytes<'_>,
     encoded: &[u8],
-) -> Result<(), Fail> {
+) {
     let empty = FillValue::new(Vec::new(alloc));
     must(rt, empty.is_value_of(data_type));
-    let count = zarrs_subset::element_count(shape).ok_or("a count")?;
+    let count = zarrs_subset::element_count(shape).expect(rt, "a count");
     must(rt, count < 100);
     must(rt, cells.validate(data_type, count));
     let options = CodecOptions::default();
-    let made = chain.encode(alloc, cells, data_type, &empty, shape, &options)?;
+    let made = chain
+        .encode(alloc, cells, data_type, &empty, shape, &options)
+        .expect(rt, "no refusal");
     must_eq(rt, made.as_slice(), encoded);
-    let back = chain.decode(alloc, &made, data_type, &empty, shape)?;
+    let back = chain
+        .decode(alloc, &made, data_type, &empty, shape)
+        .expect(rt, "no refusal");
     must_be_same(rt, &back, cells);
-    must(rt, chain.compact(alloc, &made, shape)?.is_none());
-    must(rt, chain.fits(alloc, data_type, shape)?);
-    Ok(())
+    must(
+        rt,
+        chain
+            .compact(alloc, &made, shape)
+            .expect(rt, "no refusal")
+            .is_none(),
+    );
+    must(
+        rt,
+        chain.fits(alloc, data_type, shape).expect(rt, "no refusal"),
+    );
 }
 
 /// The texts of the row encode to its bytes, and back.
-fn must_encode_texts(rt: &impl Abort, alloc: Global, row: &Row) -> Result<(), Fail> {
+fn must_encode_texts(rt: &impl Abort, alloc: Global, row: &Row) {
     let (orders, shape, bytes, offsets, encoded) = row;
-    let (chain, cells) = (chain_of_texts(alloc, orders)?, strings(bytes, offsets)?);
+    let (chain, cells) = (
+        chain_of_texts(rt, alloc, orders),
+        strings(rt, bytes, offsets),
+    );
     must_encode_strings(rt, alloc, &chain, &DataType::String, shape, &cells, encoded)
 }
 
 #[test]
-fn texts_stand_behind_their_lengths(rt: HostRuntime) -> Result<(), Fail> {
+fn texts_stand_behind_their_lengths(rt: HostRuntime) {
     const ROW: Row = (
         &[],
         &[2],
@@ -106,7 +123,7 @@ fn texts_stand_behind_their_lengths(rt: HostRuntime) -> Result<(), Fail> {
 }
 
 #[test]
-fn byte_strings_stand_behind_their_lengths(rt: HostRuntime) -> Result<(), Fail> {
+fn byte_strings_stand_behind_their_lengths(rt: HostRuntime) {
     let alloc = rt.alloc();
     must_encode_strings(
         &rt,
@@ -114,20 +131,20 @@ fn byte_strings_stand_behind_their_lengths(rt: HostRuntime) -> Result<(), Fail> 
         &chain_of_byte_strings(alloc),
         &DataType::Bytes,
         &[2],
-        &strings(&[0, 255], &[0, 2, 2])?,
+        &strings(&rt, &[0, 255], &[0, 2, 2]),
         &[2, 0, 0, 0, 2, 0, 0, 0, 0, 255, 0, 0, 0, 0],
     )
 }
 
 #[test]
-fn a_chunk_without_a_cell_is_its_number_alone(rt: HostRuntime) -> Result<(), Fail> {
+fn a_chunk_without_a_cell_is_its_number_alone(rt: HostRuntime) {
     const ROW: Row = (&[], &[2, 0], b"", &[0], &[0, 0, 0, 0]);
     must_encode_texts(&rt, rt.alloc(), &ROW)
 }
 
 /// The texts "a", "bb" and "" above "c", "dd" and "e", column by column.
 #[test]
-fn a_transpose_moves_texts_whole(rt: HostRuntime) -> Result<(), Fail> {
+fn a_transpose_moves_texts_whole(rt: HostRuntime) {
     const ROW: Row = (
         &[&[1, 0]],
         &[2, 3],
@@ -174,7 +191,7 @@ fn must_be_no_cells(
 }
 
 #[test]
-fn foreign_bytes_are_no_text(rt: HostRuntime) -> Result<(), Fail> {
+fn foreign_bytes_are_no_text(rt: HostRuntime) {
     const FOREIGN: &[&[u8]] = &[
         &[1, 0, 0, 0, 1, 0, 0, 0, 0xFF],
         &[2, 0, 0, 0, 0, 0, 0, 0, 0, 0, 0, 0],
@@ -182,9 +199,8 @@ fn foreign_bytes_are_no_text(rt: HostRuntime) -> Result<(), Fail> {
         &[1, 0, 0, 0, 0xFF, 0xFF, 0xFF, 0xFF],
         &[],
     ];
-    let chain = chain_of_texts(rt.alloc(), &[])?;
+    let chain = chain_of_texts(&rt, rt.alloc(), &[]);
     must_be_no_cells(&rt, rt.alloc(), &chain, &DataType::String, FOREIGN);
-    Ok(())
 }
 
 #[test]
@@ -207,30 +223,32 @@ fn must_not_take(
     data_type: &DataType,
     fill: &'static [u8],
     cells: &ArrayBytes<'_>,
-) -> Result<(), Fail> {
-    let fill = FillValue::new(Vec::from_slice(alloc, fill)?);
+) {
+    let fill = FillValue::new(Vec::from_slice(alloc, fill).expect(rt, "no refusal"));
     must(rt, fill.is_value_of(data_type));
     must(rt, cells.validate(data_type, 2));
-    must(rt, !chain.fits(alloc, data_type, &[2])?);
+    must(
+        rt,
+        !chain.fits(alloc, data_type, &[2]).expect(rt, "no refusal"),
+    );
     let options = CodecOptions::default();
     let made = chain.encode(alloc, cells, data_type, &fill, &[2], &options);
     must(rt, made.is_err_and(|error| error == CodecError::DoesNotFit));
-    Ok(())
 }
 
 /// `vlen-utf8` takes neither byte strings nor numbers.
-fn must_take_texts_alone(rt: &impl Abort, alloc: Global) -> Result<(), Fail> {
-    let chain = chain_of_texts(alloc, &[])?;
-    let cells = strings(b"ab", &[0, 1, 2])?;
-    must_not_take(rt, alloc, &chain, &DataType::Bytes, &[], &cells)?;
+fn must_take_texts_alone(rt: &impl Abort, alloc: Global) {
+    let chain = chain_of_texts(rt, alloc, &[]);
+    let cells = strings(rt, b"ab", &[0, 1, 2]);
+    must_not_take(rt, alloc, &chain, &DataType::Bytes, &[], &cells);
     let numbers = ArrayBytes::from_flen(&[1, 2]);
     must_not_take(rt, alloc, &chain, &DataType::UInt8, &[0], &numbers)
 }
 
 #[test]
-fn each_chain_takes_its_type_alone(rt: HostRuntime) -> Result<(), Fail> {
-    must_take_texts_alone(&rt, rt.alloc())?;
+fn each_chain_takes_its_type_alone(rt: HostRuntime) {
+    must_take_texts_alone(&rt, rt.alloc());
     let chain = chain_of_byte_strings(rt.alloc());
-    let cells = strings(b"ab", &[0, 1, 2])?;
+    let cells = strings(&rt, b"ab", &[0, 1, 2]);
     must_not_take(&rt, rt.alloc(), &chain, &DataType::String, &[], &cells)
 }

@@ -2,7 +2,6 @@
 use crate::checks::{must, must_eq};
 use std::alloc::Global;
 use std::process::Abort;
-use std::test::Fail;
 use zarrs_codec::{
     ArrayToArrayCodec, ArrayToBytesCodec, BytesCodec, BytesToBytesCodecs, ChainTraits, CodecChain,
     CodecError, CodecOptions, CodecSpecificOptions, SqueezeCodec, TransposeCodec,
@@ -29,35 +28,41 @@ type Row = (
 );
 
 /// The codec `transpose` of this order.
-pub(crate) fn transpose(alloc: Global, order: &[u64]) -> Result<ArrayToArrayCodec, Fail> {
-    let codec = TransposeCodec::new(alloc, Vec::from_slice(alloc, order)?)?;
-    Ok(ArrayToArrayCodec::Transpose(codec.ok_or("an order")?))
+pub(crate) fn transpose(rt: &impl Abort, alloc: Global, order: &[u64]) -> ArrayToArrayCodec {
+    let codec = TransposeCodec::new(
+        alloc,
+        Vec::from_slice(alloc, order).expect(rt, "no refusal"),
+    )
+    .expect(rt, "no refusal");
+    ArrayToArrayCodec::Transpose(codec.expect(rt, "an order"))
 }
 
-fn codec_of(alloc: Global, stage: &Stage) -> Result<ArrayToArrayCodec, Fail> {
+fn codec_of(rt: &impl Abort, alloc: Global, stage: &Stage) -> ArrayToArrayCodec {
     match stage {
-        Stage::Transpose(order) => transpose(alloc, order),
-        Stage::Squeeze => Ok(ArrayToArrayCodec::Squeeze(SqueezeCodec)),
+        Stage::Transpose(order) => transpose(rt, alloc, order),
+        Stage::Squeeze => ArrayToArrayCodec::Squeeze(SqueezeCodec),
     }
 }
 
 /// The chain of these codecs before `bytes`.
-fn chain_of(alloc: Global, stages: &[Stage]) -> Result<CodecChain, Fail> {
+fn chain_of(rt: &impl Abort, alloc: Global, stages: &[Stage]) -> CodecChain {
     let mut codecs = Vec::new(alloc);
     for stage in stages {
-        codecs.push(codec_of(alloc, stage)?)?;
+        codecs
+            .push(codec_of(rt, alloc, stage))
+            .expect(rt, "no refusal");
     }
-    Ok(CodecChain::new(
+    CodecChain::new(
         codecs,
         ArrayToBytesCodec::Bytes(BytesCodec::little()),
         BytesToBytesCodecs,
-    ))
+    )
 }
 
 /// The type of this name.
-pub(crate) fn type_of(alloc: Global, name: &str) -> Result<DataType, Fail> {
-    let metadata = MetadataV3::new(String::from_str(alloc, name)?);
-    Ok(DataType::from_metadata(alloc, &metadata)?)
+pub(crate) fn type_of(rt: &impl Abort, alloc: Global, name: &str) -> DataType {
+    let metadata = MetadataV3::new(String::from_str(alloc, name).expect(rt, "no refusal"));
+    DataType::from_metadata(alloc, &metadata).expect(rt, "no refusal")
 }
 
 fn must_hold(rt: &impl Abort, data: &ArrayBytes<'_>, bytes: &[u8]) {
@@ -76,49 +81,60 @@ pub(crate) fn must_encode(
     shape: &[u64],
     cells: &[u8],
     encoded: &[u8],
-) -> Result<(), Fail> {
-    let size = data_type.element_size().ok_or("a size")?;
-    let zero = FillValue::new(vec![in alloc; 0u8; size]?);
+) {
+    let size = data_type.element_size().expect(rt, "a size");
+    let zero = FillValue::new(vec![in alloc; 0u8; size].expect(rt, "no refusal"));
     must(rt, zero.is_value_of(data_type));
     let data = ArrayBytes::from_flen(cells);
-    let count = zarrs_subset::element_count(shape).ok_or("a count")?;
+    let count = zarrs_subset::element_count(shape).expect(rt, "a count");
     must(rt, count < 100 && size < 100);
     must(rt, data.validate(data_type, count));
     let options = CodecOptions::default();
-    let made = chain.encode(alloc, &data, data_type, &zero, shape, &options)?;
+    let made = chain
+        .encode(alloc, &data, data_type, &zero, shape, &options)
+        .expect(rt, "no refusal");
     must_eq(rt, made.as_slice(), encoded);
-    let back = chain.decode(alloc, &made, data_type, &zero, shape)?;
+    let back = chain
+        .decode(alloc, &made, data_type, &zero, shape)
+        .expect(rt, "no refusal");
     must_hold(rt, &back, cells);
-    must(rt, chain.compact(alloc, &made, shape)?.is_none());
-    must(rt, chain.fits(alloc, data_type, shape)?);
-    Ok(())
+    must(
+        rt,
+        chain
+            .compact(alloc, &made, shape)
+            .expect(rt, "no refusal")
+            .is_none(),
+    );
+    must(
+        rt,
+        chain.fits(alloc, data_type, shape).expect(rt, "no refusal"),
+    );
 }
 
 /// The cells of each row encode to its bytes, and back.
-fn must_encode_each(rt: &impl Abort, alloc: Global, rows: &[Row]) -> Result<(), Fail> {
+fn must_encode_each(rt: &impl Abort, alloc: Global, rows: &[Row]) {
     for (stages, name, shape, cells, encoded) in rows {
-        let (chain, data_type) = (chain_of(alloc, stages)?, type_of(alloc, name)?);
-        must_encode(rt, alloc, &chain, &data_type, shape, cells, encoded)?;
+        let (chain, data_type) = (chain_of(rt, alloc, stages), type_of(rt, alloc, name));
+        must_encode(rt, alloc, &chain, &data_type, shape, cells, encoded);
     }
-    Ok(())
 }
 
 #[test]
-fn numbers_are_little_endian(rt: HostRuntime) -> Result<(), Fail> {
+fn numbers_are_little_endian(rt: HostRuntime) {
     const NUMBERS: &[u8] = &[0xFE, 0xFF, 0x02, 0x01];
     const ROWS: &[Row] = &[(&[], "int16", &[2], NUMBERS, NUMBERS)];
     must_encode_each(&rt, rt.alloc(), ROWS)
 }
 
 #[test]
-fn raw_bytes_stay_as_they_are(rt: HostRuntime) -> Result<(), Fail> {
+fn raw_bytes_stay_as_they_are(rt: HostRuntime) {
     const CELLS: &[u8] = &[1, 2, 3, 4, 5, 6];
     const ROWS: &[Row] = &[(&[], "r24", &[2], CELLS, CELLS)];
     must_encode_each(&rt, rt.alloc(), ROWS)
 }
 
 #[test]
-fn a_transpose_of_two_dimensions_swaps_them(rt: HostRuntime) -> Result<(), Fail> {
+fn a_transpose_of_two_dimensions_swaps_them(rt: HostRuntime) {
     const CELLS: &[u8] = &[1, 2, 3, 4, 5, 6];
     const ROWS: &[Row] = &[
         (&[SWAP], "uint8", &[2, 3], CELLS, &[1, 4, 2, 5, 3, 6]),
@@ -128,7 +144,7 @@ fn a_transpose_of_two_dimensions_swaps_them(rt: HostRuntime) -> Result<(), Fail>
 }
 
 #[test]
-fn transposes_of_no_one_and_three_dimensions(rt: HostRuntime) -> Result<(), Fail> {
+fn transposes_of_no_one_and_three_dimensions(rt: HostRuntime) {
     const ROWS: &[Row] = &[
         (&[Stage::Transpose(&[])], "uint8", &[], &[7], &[7]),
         (
@@ -166,7 +182,7 @@ fn transposes_of_no_one_and_three_dimensions(rt: HostRuntime) -> Result<(), Fail
 }
 
 #[test]
-fn a_transpose_of_five_dimensions_moves_each(rt: HostRuntime) -> Result<(), Fail> {
+fn a_transpose_of_five_dimensions_moves_each(rt: HostRuntime) {
     const ROWS: &[Row] = &[
         (
             &[Stage::Transpose(&[4, 1, 2, 3, 0])],
@@ -209,7 +225,7 @@ const PARTED: &[u8] = &[
 ];
 
 #[test]
-fn a_transpose_to_long_rows_moves_each_cell(rt: HostRuntime) -> Result<(), Fail> {
+fn a_transpose_to_long_rows_moves_each_cell(rt: HostRuntime) {
     const ROWS: &[Row] = &[
         (&[SWAP], "uint8", &[40, 2], COUNTED, PARTED),
         (&[SWAP], "uint8", &[2, 40], PARTED, COUNTED),
@@ -232,7 +248,7 @@ fn a_transpose_to_long_rows_moves_each_cell(rt: HostRuntime) -> Result<(), Fail>
 }
 
 #[test]
-fn cells_of_two_and_three_bytes_move_whole(rt: HostRuntime) -> Result<(), Fail> {
+fn cells_of_two_and_three_bytes_move_whole(rt: HostRuntime) {
     const ROWS: &[Row] = &[
         (
             &[SWAP],
@@ -253,7 +269,7 @@ fn cells_of_two_and_three_bytes_move_whole(rt: HostRuntime) -> Result<(), Fail> 
 }
 
 #[test]
-fn two_transposes_and_a_squeeze_go_in_order(rt: HostRuntime) -> Result<(), Fail> {
+fn two_transposes_and_a_squeeze_go_in_order(rt: HostRuntime) {
     const CELLS: &[u8] = &[1, 2, 3, 4, 5, 6];
     const ROWS: &[Row] = &[(
         &[Stage::Transpose(&[2, 0, 1]), Stage::Squeeze, SWAP],
@@ -272,41 +288,37 @@ fn must_not_fit(
     stages: &[Stage],
     data_type: &DataType,
     shape: &[u64],
-) -> Result<(), Fail> {
-    let chain = chain_of(alloc, stages)?;
-    must(rt, !chain.fits(alloc, data_type, shape)?);
-    Ok(())
+) {
+    let chain = chain_of(rt, alloc, stages);
+    must(
+        rt,
+        !chain.fits(alloc, data_type, shape).expect(rt, "no refusal"),
+    );
 }
 
-fn must_not_fit_optional_cells(rt: &impl Abort, alloc: Global) -> Result<(), Fail> {
-    let optional = DataType::Optional(Box::new(alloc, DataType::UInt8)?);
+fn must_not_fit_optional_cells(rt: &impl Abort, alloc: Global) {
+    let optional = DataType::Optional(Box::new(alloc, DataType::UInt8).expect(rt, "no refusal"));
     must_not_fit(rt, alloc, &[], &optional, &[2])
 }
 
 /// The chain of these codecs compacts no chunk of this shape.
-fn must_not_compact(
-    rt: &impl Abort,
-    alloc: Global,
-    stages: &[Stage],
-    shape: &[u64],
-) -> Result<(), Fail> {
-    let chain = chain_of(alloc, stages)?;
+fn must_not_compact(rt: &impl Abort, alloc: Global, stages: &[Stage], shape: &[u64]) {
+    let chain = chain_of(rt, alloc, stages);
     let made = chain.compact(alloc, &[1], shape);
     must(rt, made.is_err_and(|error| error == CodecError::DoesNotFit));
-    Ok(())
 }
 
 #[test]
-fn what_does_not_fit_is_refused(rt: HostRuntime) -> Result<(), Fail> {
+fn what_does_not_fit_is_refused(rt: HostRuntime) {
     const SWAPS: &[Stage] = &[SWAP];
-    must_not_fit(&rt, rt.alloc(), SWAPS, &DataType::UInt8, &[2])?;
-    must_not_fit(&rt, rt.alloc(), SWAPS, &DataType::String, &[2, 2])?;
-    must_not_fit_optional_cells(&rt, rt.alloc())?;
+    must_not_fit(&rt, rt.alloc(), SWAPS, &DataType::UInt8, &[2]);
+    must_not_fit(&rt, rt.alloc(), SWAPS, &DataType::String, &[2, 2]);
+    must_not_fit_optional_cells(&rt, rt.alloc());
     must_not_compact(&rt, rt.alloc(), SWAPS, &[1])
 }
 
 #[test]
-fn a_list_that_is_no_order_is_not_taken(rt: HostRuntime) -> Result<(), Fail> {
+fn a_list_that_is_no_order_is_not_taken(rt: HostRuntime) {
     let alloc = rt.alloc();
     const LISTS: &[&[u64]] = &[
         &[1],
@@ -319,10 +331,14 @@ fn a_list_that_is_no_order_is_not_taken(rt: HostRuntime) -> Result<(), Fail> {
         &[0, 1, 2, 3, 3],
     ];
     for order in LISTS {
-        let order = Vec::from_slice(alloc, order)?;
-        must(&rt, TransposeCodec::new(alloc, order)?.is_none());
+        let order = Vec::from_slice(alloc, order).expect(&rt, "no refusal");
+        must(
+            &rt,
+            TransposeCodec::new(alloc, order)
+                .expect(&rt, "no refusal")
+                .is_none(),
+        );
     }
-    Ok(())
 }
 
 /// The chain decodes these bytes to no cells of the type.
@@ -333,32 +349,26 @@ pub(crate) fn must_not_decode(
     data_type: &DataType,
     shape: &[u64],
     encoded: &[u8],
-) -> Result<(), Fail> {
-    let size = data_type.element_size().ok_or("a size")?;
-    let zero = FillValue::new(vec![in alloc; 0u8; size]?);
+) {
+    let size = data_type.element_size().expect(rt, "a size");
+    let zero = FillValue::new(vec![in alloc; 0u8; size].expect(rt, "no refusal"));
     must(rt, zero.is_value_of(data_type));
-    let count = zarrs_subset::element_count(shape).ok_or("a count")?;
+    let count = zarrs_subset::element_count(shape).expect(rt, "a count");
     must(rt, count < 100 && size < 100);
     let made = chain.decode(alloc, encoded, data_type, &zero, shape);
     must(rt, made.is_err_and(|error| error == CodecError::DoesNotFit));
-    Ok(())
 }
 
 /// Names of types and bytes, which `bytes` decodes to no two cells.
-fn must_be_no_two_cells(
-    rt: &impl Abort,
-    alloc: Global,
-    rows: &[(&str, &[u8])],
-) -> Result<(), Fail> {
-    let chain = chain_of(alloc, &[])?;
+fn must_be_no_two_cells(rt: &impl Abort, alloc: Global, rows: &[(&str, &[u8])]) {
+    let chain = chain_of(rt, alloc, &[]);
     for (name, encoded) in rows {
-        must_not_decode(rt, alloc, &chain, &type_of(alloc, name)?, &[2], encoded)?;
+        must_not_decode(rt, alloc, &chain, &type_of(rt, alloc, name), &[2], encoded);
     }
-    Ok(())
 }
 
 #[test]
-fn bytes_of_another_length_and_bools_above_one_do_not_decode(rt: HostRuntime) -> Result<(), Fail> {
+fn bytes_of_another_length_and_bools_above_one_do_not_decode(rt: HostRuntime) {
     const ROWS: &[(&str, &[u8])] = &[
         ("uint8", &[1, 2, 3]),
         ("uint8", &[1]),
@@ -397,21 +407,26 @@ fn options_are_what_was_set(rt: HostRuntime) {
     must_eq(&rt, CodecSpecificOptions::default(), CodecSpecificOptions);
 }
 
-fn must_read(rt: &impl Abort, alloc: Global, error: &CodecError, text: &str) -> Result<(), Fail> {
-    must_eq(rt, format!(in alloc; "{error}")?.as_str(), text);
-    Ok(())
+fn must_read(rt: &impl Abort, alloc: Global, error: &CodecError, text: &str) {
+    must_eq(
+        rt,
+        format!(in alloc; "{error}")
+            .expect(rt, "no refusal")
+            .as_str(),
+        text,
+    );
 }
 
 #[test]
-fn errors_say_what_is_wrong(rt: HostRuntime) -> Result<(), Fail> {
+fn errors_say_what_is_wrong(rt: HostRuntime) {
     let alloc = rt.alloc();
-    must_read(&rt, alloc, &CodecError::OutOfMemory, "out of memory")?;
+    must_read(&rt, alloc, &CodecError::OutOfMemory, "out of memory");
     must_read(
         &rt,
         alloc,
         &CodecError::SizeOverflow,
         "size exceeds the number types",
-    )?;
+    );
     must_read(
         &rt,
         alloc,

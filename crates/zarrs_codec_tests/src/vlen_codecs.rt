@@ -3,7 +3,6 @@ use crate::checks::{must, must_eq, must_for};
 use crate::strings::{must_be_same, strings};
 use std::alloc::Global;
 use std::process::Abort;
-use std::test::Fail;
 use zarrs_codec_leaf::{CodecError, VlenBytesCodec, VlenUtf8Codec};
 use zarrs_data_type::{ArrayBytes, DataType};
 
@@ -18,15 +17,18 @@ fn must_encode_texts(
     texts: &ArrayBytes<'_>,
     count: u64,
     encoded: &[u8],
-) -> Result<(), Fail> {
+) {
     if !texts.validate(&DataType::String, count) {
-        return Err("no texts".into());
+        return rt.panic("no texts");
     }
-    let made = VlenUtf8Codec.encode(alloc, texts, &DataType::String)?;
+    let made = VlenUtf8Codec
+        .encode(alloc, texts, &DataType::String)
+        .expect(rt, "no refusal");
     must_be_bytes(rt, &made, encoded);
-    let back = VlenUtf8Codec.decode(alloc, encoded, &DataType::String, count)?;
+    let back = VlenUtf8Codec
+        .decode(alloc, encoded, &DataType::String, count)
+        .expect(rt, "no refusal");
     must_be_same(rt, &back, texts);
-    Ok(())
 }
 
 /// The byte strings encode to these bytes, which decode to the byte strings.
@@ -36,22 +38,25 @@ fn must_encode_bytes(
     lists: &ArrayBytes<'_>,
     count: u64,
     encoded: &[u8],
-) -> Result<(), Fail> {
+) {
     if !lists.validate(&DataType::Bytes, count) {
-        return Err("no byte strings".into());
+        return rt.panic("no byte strings");
     }
-    let made = VlenBytesCodec.encode(alloc, lists, &DataType::Bytes)?;
+    let made = VlenBytesCodec
+        .encode(alloc, lists, &DataType::Bytes)
+        .expect(rt, "no refusal");
     must_be_bytes(rt, &made, encoded);
-    let back = VlenBytesCodec.decode(alloc, encoded, &DataType::Bytes, count)?;
+    let back = VlenBytesCodec
+        .decode(alloc, encoded, &DataType::Bytes, count)
+        .expect(rt, "no refusal");
     must_be_same(rt, &back, lists);
-    Ok(())
 }
 
 /// The bytes of some strings, where each begins and the last one ends, their number and the bytes that they encode to.
 type Row = (&'static [u8], &'static [usize], u64, &'static [u8]);
 
 #[test]
-fn texts_stand_behind_their_lengths(rt: HostRuntime) -> Result<(), Fail> {
+fn texts_stand_behind_their_lengths(rt: HostRuntime) {
     const ROWS: &[Row] = &[
         (
             b"abcd",
@@ -70,13 +75,18 @@ fn texts_stand_behind_their_lengths(rt: HostRuntime) -> Result<(), Fail> {
         (b"", &[0], 0, &[0, 0, 0, 0]),
     ];
     for (bytes, offsets, count, encoded) in ROWS {
-        must_encode_texts(&rt, rt.alloc(), &strings(bytes, offsets)?, *count, encoded)?;
+        must_encode_texts(
+            &rt,
+            rt.alloc(),
+            &strings(&rt, bytes, offsets),
+            *count,
+            encoded,
+        );
     }
-    Ok(())
 }
 
 #[test]
-fn byte_strings_stand_behind_their_lengths(rt: HostRuntime) -> Result<(), Fail> {
+fn byte_strings_stand_behind_their_lengths(rt: HostRuntime) {
     const ROWS: &[Row] = &[
         (
             &[0, 255],
@@ -87,19 +97,26 @@ fn byte_strings_stand_behind_their_lengths(rt: HostRuntime) -> Result<(), Fail> 
         (b"", &[0], 0, &[0, 0, 0, 0]),
     ];
     for (bytes, offsets, count, encoded) in ROWS {
-        must_encode_bytes(&rt, rt.alloc(), &strings(bytes, offsets)?, *count, encoded)?;
+        must_encode_bytes(
+            &rt,
+            rt.alloc(),
+            &strings(&rt, bytes, offsets),
+            *count,
+            encoded,
+        );
     }
-    Ok(())
 }
 
 /// A list of 256 texts of 1 byte, and one text of 256 bytes: the second byte of a number counts.
 #[test]
-fn numbers_are_little_endian(rt: HostRuntime) -> Result<(), Fail> {
+fn numbers_are_little_endian(rt: HostRuntime) {
     let alloc = rt.alloc();
-    let mut encoded = Vec::from_slice(alloc, &[1, 0, 0, 0, 0, 1, 0, 0])?;
-    encoded.extend_from_slice(&[65; 256])?;
-    let text = strings(&[65; 256], &[0, 256])?;
-    must_encode_texts(&rt, alloc, &text, 1, &encoded)?;
+    let mut encoded = Vec::from_slice(alloc, &[1, 0, 0, 0, 0, 1, 0, 0]).expect(&rt, "no refusal");
+    encoded
+        .extend_from_slice(&[65; 256])
+        .expect(&rt, "no refusal");
+    let text = strings(&rt, &[65; 256], &[0, 256]);
+    must_encode_texts(&rt, alloc, &text, 1, &encoded);
     must_encode_bytes(&rt, alloc, &text, 1, &encoded)
 }
 
@@ -172,18 +189,12 @@ fn must_not_fit(rt: &impl Abort, made: &Result<Vec<u8>, CodecError>) {
 }
 
 /// Neither codec takes the data, which is one cell of the type.
-fn must_take_neither(
-    rt: &impl Abort,
-    alloc: Global,
-    data_type: &DataType,
-    data: &ArrayBytes<'_>,
-) -> Result<(), Fail> {
+fn must_take_neither(rt: &impl Abort, alloc: Global, data_type: &DataType, data: &ArrayBytes<'_>) {
     if !data.validate(data_type, 1) {
-        return Err("no cell".into());
+        return rt.panic("no cell");
     }
     must_not_fit(rt, &VlenUtf8Codec.encode(alloc, data, data_type));
     must_not_fit(rt, &VlenBytesCodec.encode(alloc, data, data_type));
-    Ok(())
 }
 
 fn must_take(rt: &impl Abort, data_type: &DataType, texts: bool, byte_strings: bool) {
@@ -192,18 +203,17 @@ fn must_take(rt: &impl Abort, data_type: &DataType, texts: bool, byte_strings: b
 }
 
 #[test]
-fn each_codec_takes_its_type_alone(rt: HostRuntime) -> Result<(), Fail> {
+fn each_codec_takes_its_type_alone(rt: HostRuntime) {
     let alloc = rt.alloc();
     must_take(&rt, &DataType::String, true, false);
     must_take(&rt, &DataType::Bytes, false, true);
     must_take(&rt, &DataType::UInt8, false, false);
-    must_take_neither(&rt, alloc, &DataType::UInt8, &ArrayBytes::from_flen(&[7]))?;
-    let optional = DataType::Optional(Box::new(alloc, DataType::String)?);
+    must_take_neither(&rt, alloc, &DataType::UInt8, &ArrayBytes::from_flen(&[7]));
+    let optional = DataType::Optional(Box::new(alloc, DataType::String).expect(&rt, "no refusal"));
     must_take(&rt, &optional, false, false);
     let made = VlenUtf8Codec.decode(alloc, &[0, 0, 0, 0], &DataType::Bytes, 0);
     must(
         &rt,
         made.is_err_and(|error| error == CodecError::DoesNotFit),
     );
-    Ok(())
 }

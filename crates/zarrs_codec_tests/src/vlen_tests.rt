@@ -3,7 +3,6 @@ use crate::checks::{must, must_eq, must_for};
 use crate::strings::{must_be_same, strings};
 use std::alloc::Global;
 use std::process::Abort;
-use std::test::Fail;
 use zarrs_codec_leaf::{CodecError, VlenCodec};
 use zarrs_data_type::{ArrayBytes, DataType};
 
@@ -19,15 +18,18 @@ fn must_encode(
     strings: &ArrayBytes<'_>,
     count: u64,
     encoded: &[u8],
-) -> Result<(), Fail> {
+) {
     if !strings.validate(data_type, count) {
-        return Err("no strings".into());
+        return rt.panic("no strings");
     }
-    let made = VlenCodec.encode(alloc, strings, data_type)?;
+    let made = VlenCodec
+        .encode(alloc, strings, data_type)
+        .expect(rt, "no refusal");
     must_be_bytes(rt, &made, encoded);
-    let back = VlenCodec.decode(alloc, encoded, data_type, count)?;
+    let back = VlenCodec
+        .decode(alloc, encoded, data_type, count)
+        .expect(rt, "no refusal");
     must_be_same(rt, &back, strings);
-    Ok(())
 }
 
 /// The bytes of some strings, where each begins and the last one ends, their number and the bytes that they encode to.
@@ -60,31 +62,33 @@ const ROWS: &[Row] = &[
 ];
 
 #[test]
-fn texts_stand_behind_their_index(rt: HostRuntime) -> Result<(), Fail> {
+fn texts_stand_behind_their_index(rt: HostRuntime) {
     for (bytes, offsets, count, encoded) in ROWS {
-        let texts = strings(bytes, offsets)?;
-        must_encode(&rt, rt.alloc(), &DataType::String, &texts, *count, encoded)?;
+        let texts = strings(&rt, bytes, offsets);
+        must_encode(&rt, rt.alloc(), &DataType::String, &texts, *count, encoded);
     }
-    Ok(())
 }
 
 #[test]
-fn byte_strings_stand_behind_their_index(rt: HostRuntime) -> Result<(), Fail> {
+fn byte_strings_stand_behind_their_index(rt: HostRuntime) {
     for (bytes, offsets, count, encoded) in ROWS {
-        let lists = strings(bytes, offsets)?;
-        must_encode(&rt, rt.alloc(), &DataType::Bytes, &lists, *count, encoded)?;
+        let lists = strings(&rt, bytes, offsets);
+        must_encode(&rt, rt.alloc(), &DataType::Bytes, &lists, *count, encoded);
     }
-    Ok(())
 }
 
 /// A text of 256 bytes: the second byte of an offset counts.
 #[test]
-fn offsets_are_little_endian(rt: HostRuntime) -> Result<(), Fail> {
+fn offsets_are_little_endian(rt: HostRuntime) {
     let alloc = rt.alloc();
-    let mut encoded = Vec::from_slice(alloc, &[16, 0, 0, 0, 0, 0, 0, 0])?;
-    encoded.extend_from_slice(&[0, 0, 0, 0, 0, 0, 0, 0, 0, 1, 0, 0, 0, 0, 0, 0])?;
-    encoded.extend_from_slice(&[65; 256])?;
-    let text = strings(&[65; 256], &[0, 256])?;
+    let mut encoded = Vec::from_slice(alloc, &[16, 0, 0, 0, 0, 0, 0, 0]).expect(&rt, "no refusal");
+    encoded
+        .extend_from_slice(&[0, 0, 0, 0, 0, 0, 0, 0, 0, 1, 0, 0, 0, 0, 0, 0])
+        .expect(&rt, "no refusal");
+    encoded
+        .extend_from_slice(&[65; 256])
+        .expect(&rt, "no refusal");
+    let text = strings(&rt, &[65; 256], &[0, 256]);
     must_encode(&rt, alloc, &DataType::String, &text, 1, &encoded)
 }
 
@@ -187,14 +191,13 @@ fn foreign_bytes_do_not_decode(rt: HostRuntime) {
 
 /// The byte 0xFF is a byte string, and no text.
 #[test]
-fn texts_are_utf_8(rt: HostRuntime) -> Result<(), Fail> {
+fn texts_are_utf_8(rt: HostRuntime) {
     const ENCODED: &[u8] = &[
         16, 0, 0, 0, 0, 0, 0, 0, 0, 0, 0, 0, 0, 0, 0, 0, 1, 0, 0, 0, 0, 0, 0, 0, 0xFF,
     ];
-    let byte_string = strings(&[0xFF], &[0, 1])?;
-    must_encode(&rt, rt.alloc(), &DataType::Bytes, &byte_string, 1, ENCODED)?;
+    let byte_string = strings(&rt, &[0xFF], &[0, 1]);
+    must_encode(&rt, rt.alloc(), &DataType::Bytes, &byte_string, 1, ENCODED);
     must_not_decode(&rt, rt.alloc(), &DataType::String, 1, ENCODED);
-    Ok(())
 }
 
 fn must_not_fit(rt: &impl Abort, made: &Result<Vec<u8>, CodecError>) {
@@ -206,14 +209,14 @@ fn must_take(rt: &impl Abort, data_type: &DataType, takes: bool) {
 }
 
 #[test]
-fn texts_and_byte_strings_are_taken(rt: HostRuntime) -> Result<(), Fail> {
+fn texts_and_byte_strings_are_taken(rt: HostRuntime) {
     let alloc = rt.alloc();
     must_take(&rt, &DataType::String, true);
     must_take(&rt, &DataType::Bytes, true);
     must_take(&rt, &DataType::UInt8, false);
     let number = ArrayBytes::from_flen(&[7]);
     if !number.validate(&DataType::UInt8, 1) {
-        return Err("no number".into());
+        return rt.panic("no number");
     }
     must_not_fit(&rt, &VlenCodec.encode(alloc, &number, &DataType::UInt8));
     must_not_decode(
@@ -223,7 +226,6 @@ fn texts_and_byte_strings_are_taken(rt: HostRuntime) -> Result<(), Fail> {
         0,
         &[8, 0, 0, 0, 0, 0, 0, 0, 0, 0, 0, 0, 0, 0, 0, 0],
     );
-    let optional = DataType::Optional(Box::new(alloc, DataType::String)?);
+    let optional = DataType::Optional(Box::new(alloc, DataType::String).expect(&rt, "no refusal"));
     must_take(&rt, &optional, false);
-    Ok(())
 }

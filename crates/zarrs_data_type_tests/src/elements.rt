@@ -4,15 +4,18 @@ use std::alloc::{AllocError, Global};
 use std::borrow::CowSlice;
 use std::num::NonZeroUsize;
 use std::process::Abort;
-use std::test::Fail;
 use zarrs_data_type::{
     ArrayBytes, ArrayBytesOffsets, DataType, Element, ElementError, ElementOwned, FromArrayBytes,
     IntoArrayBytes,
 };
 
-fn strings(bytes: &'static [u8], offsets: &'static [usize]) -> Result<ArrayBytes<'static>, Fail> {
-    let offsets = ArrayBytesOffsets::new(CowSlice::Borrowed(offsets))?;
-    Ok(ArrayBytes::new_vlen(CowSlice::Borrowed(bytes), offsets)?)
+fn strings(
+    rt: &impl Abort,
+    bytes: &'static [u8],
+    offsets: &'static [usize],
+) -> ArrayBytes<'static> {
+    let offsets = ArrayBytesOffsets::new(CowSlice::Borrowed(offsets)).expect(rt, "no refusal");
+    ArrayBytes::new_vlen(CowSlice::Borrowed(bytes), offsets).expect(rt, "no refusal")
 }
 
 fn must_be_same(rt: &impl Abort, left: &ArrayBytes<'_>, right: &ArrayBytes<'_>) {
@@ -39,12 +42,14 @@ fn must_be_listed<T: ElementOwned + PartialEq>(
     data_type: &DataType,
     elements: &[T],
     expected: &ArrayBytes<'_>,
-) -> Result<(), Fail> {
-    let made = T::to_array_bytes(alloc, data_type, elements)?;
+) {
+    let made = T::to_array_bytes(alloc, data_type, elements).expect(rt, "no refusal");
     must_be_same(rt, &made, expected);
-    let read = <T as ElementOwned>::from_array_bytes(alloc, data_type, expected)?;
+    let read = <T as ElementOwned>::from_array_bytes(alloc, data_type, expected).expect(
+        rt,
+        "no refusal",
+    );
     must_be_the_list(rt, &read, elements);
-    Ok(())
 }
 
 fn must_be_refused<T: Element>(
@@ -74,10 +79,10 @@ fn must_not_be_read<T: ElementOwned>(
 }
 
 #[test]
-fn bools_are_bytes_of_zero_and_one(rt: HostRuntime) -> Result<(), Fail> {
+fn bools_are_bytes_of_zero_and_one(rt: HostRuntime) {
     let alloc = rt.alloc();
     let cells = ArrayBytes::from_flen(&[1, 0, 1]);
-    must_be_listed(&rt, alloc, &DataType::Bool, &[true, false, true], &cells)?;
+    must_be_listed(&rt, alloc, &DataType::Bool, &[true, false, true], &cells);
     let none = ArrayBytes::from_flen(&[]);
     must_be_listed::<bool>(&rt, alloc, &DataType::Bool, &[], &none)
 }
@@ -105,17 +110,17 @@ fn must_be_texts(
     of: &[&str],
     bytes: &'static [u8],
     offsets: &'static [usize],
-) -> Result<(), Fail> {
-    let texts = texts(alloc, of)?;
-    let cells = strings(bytes, offsets)?;
+) {
+    let texts = texts(alloc, of).expect(rt, "no refusal");
+    let cells = strings(rt, bytes, offsets);
     must_be_listed(rt, alloc, &DataType::String, &texts, &cells)
 }
 
 #[test]
-fn texts_are_byte_strings_of_utf8(rt: HostRuntime) -> Result<(), Fail> {
+fn texts_are_byte_strings_of_utf8(rt: HostRuntime) {
     let alloc = rt.alloc();
-    must_be_texts(&rt, alloc, &["a", "", "bcd"], b"abcd", &[0, 1, 1, 4])?;
-    must_be_texts(&rt, alloc, &["\u{e4}"], &[0xC3, 0xA4], &[0, 2])?;
+    must_be_texts(&rt, alloc, &["a", "", "bcd"], b"abcd", &[0, 1, 1, 4]);
+    must_be_texts(&rt, alloc, &["\u{e4}"], &[0xC3, 0xA4], &[0, 2]);
     must_be_texts(&rt, alloc, &[], b"", &[0])
 }
 
@@ -131,12 +136,14 @@ fn must_hold_strings(rt: &impl Abort, data: &ArrayBytes<'_>, count: usize, len: 
 }
 
 #[test]
-fn a_million_texts_become_cells(rt: HostRuntime) -> Result<(), Fail> {
-    let texts = vec![in rt.alloc(); "ab"; 1_000_000]?;
-    let made = <&str>::to_array_bytes(rt.alloc(), &DataType::String, &texts)?;
+fn a_million_texts_become_cells(rt: HostRuntime) {
+    let texts = vec![in rt.alloc(); "ab"; 1_000_000].expect(&rt, "no refusal");
+    let made = <&str>::to_array_bytes(rt.alloc(), &DataType::String, &texts).expect(
+        &rt,
+        "no refusal",
+    );
     must_hold_strings(&rt, &made, 1_000_000, 2_000_000);
     must(&rt, made.validate(&DataType::String, 1_000_000));
-    Ok(())
 }
 
 /// The lists of bytes are these cells, and are read from them.
@@ -146,42 +153,40 @@ fn must_be_byte_strings(
     of: &[&[u8]],
     bytes: &'static [u8],
     offsets: &'static [usize],
-) -> Result<(), Fail> {
-    let lists = byte_strings(alloc, of)?;
-    let cells = strings(bytes, offsets)?;
+) {
+    let lists = byte_strings(alloc, of).expect(rt, "no refusal");
+    let cells = strings(rt, bytes, offsets);
     must_be_listed(rt, alloc, &DataType::Bytes, &lists, &cells)
 }
 
 #[test]
-fn lists_of_bytes_are_byte_strings(rt: HostRuntime) -> Result<(), Fail> {
+fn lists_of_bytes_are_byte_strings(rt: HostRuntime) {
     let alloc = rt.alloc();
     let three: [&[u8]; 3] = [&[0, 255], &[], &[7]];
-    must_be_byte_strings(&rt, alloc, &three, &[0, 255, 7], &[0, 2, 2, 3])?;
+    must_be_byte_strings(&rt, alloc, &three, &[0, 255, 7], &[0, 2, 2, 3]);
     must_be_byte_strings(&rt, alloc, &[], b"", &[0])
 }
 
 /// A text is no cell of the type.
-fn must_be_no_texts(rt: &impl Abort, alloc: Global, data_type: &DataType) -> Result<(), Fail> {
-    let texts = texts(alloc, &["a"])?;
+fn must_be_no_texts(rt: &impl Abort, alloc: Global, data_type: &DataType) {
+    let texts = texts(alloc, &["a"]).expect(rt, "no refusal");
     must_be_refused(rt, alloc, data_type, &texts);
-    Ok(())
 }
 
 /// A list of bytes is no cell of the type.
-fn must_be_no_lists(rt: &impl Abort, alloc: Global, data_type: &DataType) -> Result<(), Fail> {
-    let lists = byte_strings(alloc, &[&[1]])?;
+fn must_be_no_lists(rt: &impl Abort, alloc: Global, data_type: &DataType) {
+    let lists = byte_strings(alloc, &[&[1]]).expect(rt, "no refusal");
     must_be_refused(rt, alloc, data_type, &lists);
-    Ok(())
 }
 
 #[test]
-fn values_of_another_type_are_refused(rt: HostRuntime) -> Result<(), Fail> {
+fn values_of_another_type_are_refused(rt: HostRuntime) {
     let alloc = rt.alloc();
     must_be_refused(&rt, alloc, &DataType::UInt8, &[true]);
-    must_be_no_texts(&rt, alloc, &DataType::Bytes)?;
-    must_be_no_texts(&rt, alloc, &DataType::UInt8)?;
-    must_be_no_lists(&rt, alloc, &DataType::String)?;
-    let raw = DataType::Raw(NonZeroUsize::new(1).ok_or("zero")?);
+    must_be_no_texts(&rt, alloc, &DataType::Bytes);
+    must_be_no_texts(&rt, alloc, &DataType::UInt8);
+    must_be_no_lists(&rt, alloc, &DataType::String);
+    let raw = DataType::Raw(NonZeroUsize::new(1).expect(&rt, "zero"));
     must_be_no_lists(&rt, alloc, &raw)
 }
 
@@ -192,18 +197,17 @@ fn must_not_read_strings<T: ElementOwned>(
     data_type: &DataType,
     bytes: &'static [u8],
     offsets: &'static [usize],
-) -> Result<(), Fail> {
-    let data = strings(bytes, offsets)?;
+) {
+    let data = strings(rt, bytes, offsets);
     must_not_be_read::<T>(rt, alloc, data_type, &data);
-    Ok(())
 }
 
 #[test]
-fn byte_strings_of_another_type_are_refused(rt: HostRuntime) -> Result<(), Fail> {
+fn byte_strings_of_another_type_are_refused(rt: HostRuntime) {
     let alloc = rt.alloc();
-    must_not_read_strings::<String>(&rt, alloc, &DataType::Bytes, b"a", &[0, 1])?;
-    must_not_read_strings::<Vec<u8>>(&rt, alloc, &DataType::String, b"a", &[0, 1])?;
-    must_not_read_strings::<bool>(&rt, alloc, &DataType::Bool, b"a", &[0, 1])?;
+    must_not_read_strings::<String>(&rt, alloc, &DataType::Bytes, b"a", &[0, 1]);
+    must_not_read_strings::<Vec<u8>>(&rt, alloc, &DataType::String, b"a", &[0, 1]);
+    must_not_read_strings::<bool>(&rt, alloc, &DataType::Bool, b"a", &[0, 1]);
     let cut = &[0xC3, 0xA4, 0xC3];
     must_not_read_strings::<String>(&rt, alloc, &DataType::String, cut, &[0, 2, 3])
 }
@@ -225,10 +229,12 @@ fn must_answer<T: ElementOwned + PartialEq>(
     data: ArrayBytes<'static>,
     data_type: &DataType,
     elements: &[T],
-) -> Result<(), Fail> {
-    let read = <Vec<T> as FromArrayBytes>::from_array_bytes(alloc, data, data_type)?;
+) {
+    let read = <Vec<T> as FromArrayBytes>::from_array_bytes(alloc, data, data_type).expect(
+        rt,
+        "no refusal",
+    );
     must_be_the_list(rt, &read, elements);
-    Ok(())
 }
 
 fn must_not_answer<T: FromArrayBytes>(rt: &impl Abort, read: &Result<T, ElementError>) {
@@ -239,43 +245,39 @@ fn must_not_answer<T: FromArrayBytes>(rt: &impl Abort, read: &Result<T, ElementE
 }
 
 /// The texts of these cells are read as they are.
-fn must_answer_texts(rt: &impl Abort, alloc: Global) -> Result<(), Fail> {
-    let texts = texts(alloc, &["a", "b"])?;
+fn must_answer_texts(rt: &impl Abort, alloc: Global) {
+    let texts = texts(alloc, &["a", "b"]).expect(rt, "no refusal");
     must_answer(
         rt,
         alloc,
-        strings(b"ab", &[0, 1, 2])?,
+        strings(rt, b"ab", &[0, 1, 2]),
         &DataType::String,
         &texts,
     )
 }
 
 /// The data is answered as it is.
-fn must_stay(
-    rt: &impl Abort,
-    alloc: Global,
-    bytes: &'static [u8],
-    offsets: &'static [usize],
-) -> Result<(), Fail> {
-    let data = strings(bytes, offsets)?;
-    let taken = data.into_array_bytes(alloc, &DataType::String)?;
+fn must_stay(rt: &impl Abort, alloc: Global, bytes: &'static [u8], offsets: &'static [usize]) {
+    let data = strings(rt, bytes, offsets);
+    let taken = data
+        .into_array_bytes(alloc, &DataType::String)
+        .expect(rt, "no refusal");
     let kept = <ArrayBytes<'static> as FromArrayBytes>::from_array_bytes(
         alloc,
         taken,
         &DataType::String,
-    )?;
-    must_be_same(rt, &kept, &strings(bytes, offsets)?);
-    Ok(())
+    ).expect(rt, "no refusal");
+    must_be_same(rt, &kept, &strings(rt, bytes, offsets));
 }
 
 #[test]
-fn a_read_answers_values_or_array_bytes(rt: HostRuntime) -> Result<(), Fail> {
+fn a_read_answers_values_or_array_bytes(rt: HostRuntime) {
     let alloc = rt.alloc();
     let cells = ArrayBytes::from_flen(&[2, 1, 254, 255]);
-    must_answer(&rt, alloc, cells, &DataType::Int16, &[258i16, -2])?;
+    must_answer(&rt, alloc, cells, &DataType::Int16, &[258i16, -2]);
     let cells = ArrayBytes::from_flen(&[1, 0]);
-    must_answer(&rt, alloc, cells, &DataType::Bool, &[true, false])?;
-    must_answer_texts(&rt, alloc)?;
+    must_answer(&rt, alloc, cells, &DataType::Bool, &[true, false]);
+    must_answer_texts(&rt, alloc);
     must_stay(&rt, alloc, b"ab", &[0, 1, 2])
 }
 

@@ -3,33 +3,37 @@ use crate::checks::{must_eq, must_for};
 use crate::metadata::{fill_metadata, type_of};
 use std::alloc::Global;
 use std::process::Abort;
-use std::test::Fail;
 use zarrs_metadata::{DataTypeMetadataV2, PluginCreateError};
 use zarrs_types::laws::written_fill_value_is_read;
 use zarrs_types::{DataType, DataTypeFillValueMetadataError, FillValue};
 
-fn dtype_of(alloc: Global, text: &str) -> Result<DataTypeMetadataV2, Fail> {
-    Ok(DataTypeMetadataV2::new(String::from_str(alloc, text)?))
+fn dtype_of(rt: &impl Abort, alloc: Global, text: &str) -> DataTypeMetadataV2 {
+    DataTypeMetadataV2::new(String::from_str(alloc, text).expect(rt, "no refusal"))
 }
 
-fn must_read(rt: &impl Abort, alloc: Global, dtype: &str, name: &str) -> Result<(), Fail> {
-    let read = DataType::from_metadata_v2(alloc, &dtype_of(alloc, dtype)?)?;
-    must_eq(rt, read.name_v3(alloc)?.as_str(), name);
-    Ok(())
+fn must_read(rt: &impl Abort, alloc: Global, dtype: &str, name: &str) {
+    let read = DataType::from_metadata_v2(alloc, &dtype_of(rt, alloc, dtype)).expect(
+        rt,
+        "no refusal",
+    );
+    must_eq(
+        rt,
+        read.name_v3(alloc).expect(rt, "no refusal").as_str(),
+        name,
+    );
 }
 
-fn must_refuse_type(rt: &impl Abort, alloc: Global, dtype: &str) -> Result<(), Fail> {
-    let refused = DataType::from_metadata_v2(alloc, &dtype_of(alloc, dtype)?);
+fn must_refuse_type(rt: &impl Abort, alloc: Global, dtype: &str) {
+    let refused = DataType::from_metadata_v2(alloc, &dtype_of(rt, alloc, dtype));
     must_for(
         rt,
         dtype,
         matches!(&refused, Err(PluginCreateError::Other(_))),
     );
-    Ok(())
 }
 
 #[test]
-fn types_of_zarr_v2_are_read(rt: HostRuntime) -> Result<(), Fail> {
+fn types_of_zarr_v2_are_read(rt: HostRuntime) {
     const ROWS: &[(&str, &str)] = &[
         ("|b1", "bool"),
         ("|i1", "int8"),
@@ -49,48 +53,35 @@ fn types_of_zarr_v2_are_read(rt: HostRuntime) -> Result<(), Fail> {
         ("|O", "string"),
     ];
     for (dtype, name) in ROWS {
-        must_read(&rt, rt.alloc(), dtype, name)?;
+        must_read(&rt, rt.alloc(), dtype, name);
     }
-    Ok(())
 }
 
 #[test]
-fn types_of_zarr_v2_without_a_v3_name_are_refused(rt: HostRuntime) -> Result<(), Fail> {
+fn types_of_zarr_v2_without_a_v3_name_are_refused(rt: HostRuntime) {
     const DTYPES: &[&str] = &[
         "", "|", "b1", "<b1", "<i1", ">u1", "|i2", "|u8", "=i2", "<i3", "<i16", "<f4", ">c8",
         "|S3", "<U2", "<M8[ns]", "|V4", "<O", "|O8", "|b1 ", "uint8", "bool",
     ];
     for dtype in DTYPES {
-        must_refuse_type(&rt, rt.alloc(), dtype)?;
+        must_refuse_type(&rt, rt.alloc(), dtype);
     }
-    Ok(())
 }
 
-fn must_fill(
-    rt: &impl Abort,
-    alloc: Global,
-    data_type: &DataType,
-    text: &str,
-    bytes: &[u8],
-) -> Result<(), Fail> {
-    let fill_value = data_type.fill_value_v2(alloc, &fill_metadata(alloc, text)?)?;
+fn must_fill(rt: &impl Abort, alloc: Global, data_type: &DataType, text: &str, bytes: &[u8]) {
+    let fill_value = data_type
+        .fill_value_v2(alloc, &fill_metadata(rt, alloc, text))
+        .expect(rt, "no refusal");
     must_eq(rt, fill_value.as_bytes(), bytes);
-    Ok(())
 }
 
-fn must_refuse_fill(
-    rt: &impl Abort,
-    alloc: Global,
-    data_type: &DataType,
-    text: &str,
-) -> Result<(), Fail> {
-    let refused = data_type.fill_value_v2(alloc, &fill_metadata(alloc, text)?);
+fn must_refuse_fill(rt: &impl Abort, alloc: Global, data_type: &DataType, text: &str) {
+    let refused = data_type.fill_value_v2(alloc, &fill_metadata(rt, alloc, text));
     must_for(
         rt,
         text,
         matches!(&refused, Err(DataTypeFillValueMetadataError::Invalid)),
     );
-    Ok(())
 }
 
 /// The text of a type, that of a fill value, and its bytes, if it is one of the type.
@@ -102,23 +93,25 @@ fn must_fill_or_refuse(
     data_type: &DataType,
     text: &str,
     bytes: &Option<&'static [u8]>,
-) -> Result<(), Fail> {
+) {
     match bytes {
         Some(bytes) => must_fill(rt, alloc, data_type, text, bytes),
         None => must_refuse_fill(rt, alloc, data_type, text),
     }
 }
 
-fn must_fill_each(rt: &impl Abort, alloc: Global, rows: &[Fill]) -> Result<(), Fail> {
+fn must_fill_each(rt: &impl Abort, alloc: Global, rows: &[Fill]) {
     for (dtype, text, bytes) in rows {
-        let data_type = DataType::from_metadata_v2(alloc, &dtype_of(alloc, dtype)?)?;
-        must_fill_or_refuse(rt, alloc, &data_type, text, bytes)?;
+        let data_type = DataType::from_metadata_v2(alloc, &dtype_of(rt, alloc, dtype)).expect(
+            rt,
+            "no refusal",
+        );
+        must_fill_or_refuse(rt, alloc, &data_type, text, bytes);
     }
-    Ok(())
 }
 
 #[test]
-fn fill_values_of_zarr_v2_numbers(rt: HostRuntime) -> Result<(), Fail> {
+fn fill_values_of_zarr_v2_numbers(rt: HostRuntime) {
     const ROWS: &[Fill] = &[
         (">u2", "258", Some(&[2, 1])),
         ("<u2", "258", Some(&[2, 1])),
@@ -154,7 +147,7 @@ fn fill_values_of_zarr_v2_numbers(rt: HostRuntime) -> Result<(), Fail> {
 }
 
 #[test]
-fn fill_values_of_zarr_v2_bools_and_texts(rt: HostRuntime) -> Result<(), Fail> {
+fn fill_values_of_zarr_v2_bools_and_texts(rt: HostRuntime) {
     const ROWS: &[Fill] = &[
         ("|b1", "null", Some(&[0])),
         ("|b1", "false", Some(&[0])),
@@ -177,7 +170,7 @@ fn fill_values_of_zarr_v2_bools_and_texts(rt: HostRuntime) -> Result<(), Fail> {
 
 /// Types that Zarr V2 has no name for.
 #[test]
-fn other_fill_values_of_zarr_v2_are_those_of_v3(rt: HostRuntime) -> Result<(), Fail> {
+fn other_fill_values_of_zarr_v2_are_those_of_v3(rt: HostRuntime) {
     const ROWS: &[Fill] = &[
         ("r16", "[1,255]", Some(&[1, 255])),
         ("r16", "null", None),
@@ -189,27 +182,35 @@ fn other_fill_values_of_zarr_v2_are_those_of_v3(rt: HostRuntime) -> Result<(), F
         ("uint8??", "[[7]]", Some(&[7, 1, 1])),
     ];
     for (name, text, bytes) in ROWS {
-        must_fill_or_refuse(&rt, rt.alloc(), &type_of(rt.alloc(), name)?, text, bytes)?;
+        must_fill_or_refuse(
+            &rt,
+            rt.alloc(),
+            &type_of(&rt, rt.alloc(), name),
+            text,
+            bytes,
+        );
     }
-    Ok(())
 }
 
 /// The fill value of these bytes is what is read from its metadata.
-fn must_be_read(rt: &impl Abort, alloc: Global, name: &str, bytes: &[u8]) -> Result<(), Fail> {
-    let data_type = type_of(alloc, name)?;
-    let fill_value = FillValue::new(Vec::from_slice(alloc, bytes)?);
+fn must_be_read(rt: &impl Abort, alloc: Global, name: &str, bytes: &[u8]) {
+    let data_type = type_of(rt, alloc, name);
+    let fill_value = FillValue::new(Vec::from_slice(alloc, bytes).expect(rt, "no refusal"));
     if !fill_value.is_value_of(&data_type) {
-        return Err("no value of the type".into());
+        return rt.panic("no value of the type");
     }
     written_fill_value_is_read(&data_type, &fill_value);
-    let metadata = data_type.metadata_fill_value(alloc, &fill_value)?;
-    let read = data_type.fill_value_v3(alloc, &metadata)?;
+    let metadata = data_type
+        .metadata_fill_value(alloc, &fill_value)
+        .expect(rt, "no refusal");
+    let read = data_type
+        .fill_value_v3(alloc, &metadata)
+        .expect(rt, "no refusal");
     must_for(rt, name, read == fill_value);
-    Ok(())
 }
 
 #[test]
-fn fill_values_are_read_as_they_are_written(rt: HostRuntime) -> Result<(), Fail> {
+fn fill_values_are_read_as_they_are_written(rt: HostRuntime) {
     const ROWS: &[(&str, &[u8])] = &[
         ("bool", &[1]),
         ("int8", &[128]),
@@ -222,7 +223,6 @@ fn fill_values_are_read_as_they_are_written(rt: HostRuntime) -> Result<(), Fail>
         ("string??", &[1, 1, 1]),
     ];
     for (name, bytes) in ROWS {
-        must_be_read(&rt, rt.alloc(), name, bytes)?;
+        must_be_read(&rt, rt.alloc(), name, bytes);
     }
-    Ok(())
 }

@@ -2,11 +2,10 @@
 use crate::checks::{must, must_eq, must_for};
 use std::alloc::Global;
 use std::process::Abort;
-use std::test::Fail;
 use zarrs_data_type::{ArrayBytes, DataType, Element, ElementError, ElementOwned};
 
-fn optional(alloc: Global, inner: DataType) -> Result<DataType, Fail> {
-    Ok(DataType::Optional(Box::new(alloc, inner)?))
+fn optional(rt: &impl Abort, alloc: Global, inner: DataType) -> DataType {
+    DataType::Optional(Box::new(alloc, inner).expect(rt, "no refusal"))
 }
 
 /// The masks, the outermost first, and the bytes of the cells under them.
@@ -36,10 +35,9 @@ fn must_become<T: Element>(
     elements: &[T],
     masks: &[&[u8]],
     bytes: &[u8],
-) -> Result<(), Fail> {
-    let made = T::to_array_bytes(alloc, data_type, elements)?;
+) {
+    let made = T::to_array_bytes(alloc, data_type, elements).expect(rt, "no refusal");
     must_hold(rt, &made, masks, bytes);
-    Ok(())
 }
 
 fn must_be_the_list<T: PartialEq>(rt: &impl Abort, read: &[T], elements: &[T]) {
@@ -52,11 +50,13 @@ fn must_return<T: ElementOwned + PartialEq>(
     alloc: Global,
     data_type: &DataType,
     elements: &[T],
-) -> Result<(), Fail> {
-    let made = T::to_array_bytes(alloc, data_type, elements)?;
-    let read = <T as ElementOwned>::from_array_bytes(alloc, data_type, &made)?;
+) {
+    let made = T::to_array_bytes(alloc, data_type, elements).expect(rt, "no refusal");
+    let read = <T as ElementOwned>::from_array_bytes(alloc, data_type, &made).expect(
+        rt,
+        "no refusal",
+    );
     must_be_the_list(rt, &read, elements);
-    Ok(())
 }
 
 fn must_be_refused<T: Element>(
@@ -86,50 +86,50 @@ fn must_not_be_read<T: ElementOwned>(
 }
 
 #[test]
-fn optional_numbers_lie_under_a_mask(rt: HostRuntime) -> Result<(), Fail> {
+fn optional_numbers_lie_under_a_mask(rt: HostRuntime) {
     let alloc = rt.alloc();
-    let data_type = optional(alloc, DataType::UInt8)?;
+    let data_type = optional(&rt, alloc, DataType::UInt8);
     let elements = [Some(5u8), None, Some(0)];
-    must_become(&rt, alloc, &data_type, &elements, &[&[1, 0, 1]], &[5, 5, 0])?;
-    must_return(&rt, alloc, &data_type, &elements)?;
-    must_become::<Option<u8>>(&rt, alloc, &data_type, &[], &[&[]], &[])?;
+    must_become(&rt, alloc, &data_type, &elements, &[&[1, 0, 1]], &[5, 5, 0]);
+    must_return(&rt, alloc, &data_type, &elements);
+    must_become::<Option<u8>>(&rt, alloc, &data_type, &[], &[&[]], &[]);
     must_return::<Option<u8>>(&rt, alloc, &data_type, &[])
 }
 
 /// What lies under a none is any cell, here zero.
 #[test]
-fn nones_alone_hold_no_value(rt: HostRuntime) -> Result<(), Fail> {
+fn nones_alone_hold_no_value(rt: HostRuntime) {
     let alloc = rt.alloc();
-    let data_type = optional(alloc, DataType::UInt16)?;
+    let data_type = optional(&rt, alloc, DataType::UInt16);
     let elements = [None::<u16>, None];
-    must_become(&rt, alloc, &data_type, &elements, &[&[0, 0]], &[0, 0, 0, 0])?;
+    must_become(&rt, alloc, &data_type, &elements, &[&[0, 0]], &[0, 0, 0, 0]);
     must_return(&rt, alloc, &data_type, &elements)
 }
 
 #[test]
-fn optionals_of_optionals_have_two_masks(rt: HostRuntime) -> Result<(), Fail> {
+fn optionals_of_optionals_have_two_masks(rt: HostRuntime) {
     let alloc = rt.alloc();
-    let data_type = optional(alloc, optional(alloc, DataType::UInt8)?)?;
+    let data_type = optional(&rt, alloc, optional(&rt, alloc, DataType::UInt8));
     let elements = [Some(Some(5u8)), None, Some(None), Some(Some(6))];
     let masks: [&[u8]; 2] = [&[1, 0, 1, 1], &[1, 1, 0, 1]];
-    must_become(&rt, alloc, &data_type, &elements, &masks, &[5, 5, 5, 6])?;
+    must_become(&rt, alloc, &data_type, &elements, &masks, &[5, 5, 5, 6]);
     must_return(&rt, alloc, &data_type, &elements)
 }
 
 /// A text, none and another text.
-fn must_return_texts(rt: &impl Abort, alloc: Global, data_type: &DataType) -> Result<(), Fail> {
+fn must_return_texts(rt: &impl Abort, alloc: Global, data_type: &DataType) {
     let texts = [
-        Some(String::from_str(alloc, "ab")?),
+        Some(String::from_str(alloc, "ab").expect(rt, "no refusal")),
         None,
-        Some(String::from_str(alloc, "c")?),
+        Some(String::from_str(alloc, "c").expect(rt, "no refusal")),
     ];
     must_return(rt, alloc, data_type, &texts)
 }
 
 #[test]
-fn optional_texts_are_written_and_read(rt: HostRuntime) -> Result<(), Fail> {
+fn optional_texts_are_written_and_read(rt: HostRuntime) {
     let alloc = rt.alloc();
-    let data_type = optional(alloc, DataType::String)?;
+    let data_type = optional(&rt, alloc, DataType::String);
     must_become(
         &rt,
         alloc,
@@ -137,14 +137,14 @@ fn optional_texts_are_written_and_read(rt: HostRuntime) -> Result<(), Fail> {
         &[None, Some("ab")],
         &[&[0, 1]],
         b"abab",
-    )?;
+    );
     must_return_texts(&rt, alloc, &data_type)
 }
 
 #[test]
-fn optional_values_of_another_type_are_refused(rt: HostRuntime) -> Result<(), Fail> {
+fn optional_values_of_another_type_are_refused(rt: HostRuntime) {
     let alloc = rt.alloc();
-    let data_type = optional(alloc, DataType::UInt8)?;
+    let data_type = optional(&rt, alloc, DataType::UInt8);
     must_be_refused(&rt, alloc, &DataType::UInt8, &[Some(5u8)]);
     must_be_refused(&rt, alloc, &data_type, &[Some(5u16)]);
     must_be_refused(&rt, alloc, &data_type, &[Some(Some(5u8))]);
@@ -152,5 +152,4 @@ fn optional_values_of_another_type_are_refused(rt: HostRuntime) -> Result<(), Fa
     let cells = ArrayBytes::from_flen(&[5]);
     must_not_be_read::<Option<u8>>(&rt, alloc, &data_type, &cells);
     must_not_be_read::<Option<u8>>(&rt, alloc, &DataType::UInt8, &cells);
-    Ok(())
 }

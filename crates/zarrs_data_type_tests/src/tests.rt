@@ -12,7 +12,6 @@ use std::alloc::{AllocError, Global};
 use std::borrow::CowSlice;
 use std::num::NonZeroUsize;
 use std::process::Abort;
-use std::test::Fail;
 use zarrs_data_type::{
     ArrayBytes, ArrayBytesFixedDisjointViewCreateError, ArrayBytesOffsets, ArrayBytesOptional,
     ArrayBytesVariableLength, DataType, Element, ElementError, ElementOwned,
@@ -41,26 +40,37 @@ fn optional(alloc: Global, inner: DataType) -> Result<DataType, AllocError> {
     Ok(DataType::Optional(Box::new(alloc, inner)?))
 }
 
-fn raw(size: usize) -> Result<DataType, Fail> {
-    Ok(DataType::Raw(NonZeroUsize::new(size).ok_or("zero")?))
+fn raw(rt: &impl Abort, size: usize) -> DataType {
+    DataType::Raw(NonZeroUsize::new(size).expect(rt, "zero"))
 }
 
 #[test]
-fn types_have_sizes(rt: HostRuntime) -> Result<(), Fail> {
+fn types_have_sizes(rt: HostRuntime) {
     let alloc = rt.alloc();
     must_have_size(&rt, &DataType::Bool, Some(1), Some(1));
     must_have_size(&rt, &DataType::Int16, Some(2), Some(2));
     must_have_size(&rt, &DataType::UInt64, Some(8), Some(8));
-    must_have_size(&rt, &raw(3)?, Some(3), Some(3));
-    must_have_size(&rt, &optional(alloc, DataType::UInt32)?, None, Some(4));
-    must_have_size(&rt, &optional(alloc, DataType::String)?, None, None);
+    must_have_size(&rt, &raw(&rt, 3), Some(3), Some(3));
+    must_have_size(
+        &rt,
+        &optional(alloc, DataType::UInt32).expect(&rt, "no refusal"),
+        None,
+        Some(4),
+    );
+    must_have_size(
+        &rt,
+        &optional(alloc, DataType::String).expect(&rt, "no refusal"),
+        None,
+        None,
+    );
     must_have_size(&rt, &DataType::Bytes, None, None);
-    Ok(())
 }
 
-fn must_copy(rt: &impl Abort, alloc: Global, data_type: &DataType) -> Result<(), Fail> {
-    must(rt, data_type.try_clone(alloc)? == *data_type);
-    Ok(())
+fn must_copy(rt: &impl Abort, alloc: Global, data_type: &DataType) {
+    must(
+        rt,
+        data_type.try_clone(alloc).expect(rt, "no refusal") == *data_type,
+    );
 }
 
 fn must_differ(rt: &impl Abort, one: &DataType, other: &DataType) {
@@ -68,14 +78,18 @@ fn must_differ(rt: &impl Abort, one: &DataType, other: &DataType) {
 }
 
 #[test]
-fn types_are_compared_with_their_parts(rt: HostRuntime) -> Result<(), Fail> {
+fn types_are_compared_with_their_parts(rt: HostRuntime) {
     let alloc = rt.alloc();
-    let numbers = optional(alloc, DataType::UInt32)?;
-    must_copy(&rt, alloc, &numbers)?;
-    must_copy(&rt, alloc, &raw(3)?)?;
-    must_differ(&rt, &numbers, &optional(alloc, DataType::Int32)?);
+    let numbers = optional(alloc, DataType::UInt32).expect(&rt, "no refusal");
+    must_copy(&rt, alloc, &numbers);
+    must_copy(&rt, alloc, &raw(&rt, 3));
+    must_differ(
+        &rt,
+        &numbers,
+        &optional(alloc, DataType::Int32).expect(&rt, "no refusal"),
+    );
     must_differ(&rt, &DataType::UInt8, &DataType::Bool);
-    must_differ(&rt, &raw(3)?, &raw(4)?);
+    must_differ(&rt, &raw(&rt, 3), &raw(&rt, 4));
     must_be(
         &rt,
         numbers.optional_inner() == Some(&DataType::UInt32),
@@ -90,7 +104,6 @@ fn types_are_compared_with_their_parts(rt: HostRuntime) -> Result<(), Fail> {
     must_be(&rt, !numbers.is_variable(), "optional");
     must_be(&rt, numbers.takes_any_bytes(), "numbers");
     must_be(&rt, !DataType::Bool.takes_any_bytes(), "bool");
-    Ok(())
 }
 
 fn must_fill(rt: &impl Abort, data_type: &DataType, fill: &[u8], is: bool) {
@@ -98,15 +111,14 @@ fn must_fill(rt: &impl Abort, data_type: &DataType, fill: &[u8], is: bool) {
 }
 
 /// The bytes are those of a fill value, and are lent again.
-fn must_be_value(rt: &impl Abort, alloc: Global, name: &str, bytes: &[u8]) -> Result<(), Fail> {
-    let value = FillValue::new(Vec::from_slice(alloc, bytes)?);
-    must(rt, value.is_value_of(&type_of(alloc, name)?));
+fn must_be_value(rt: &impl Abort, alloc: Global, name: &str, bytes: &[u8]) {
+    let value = FillValue::new(Vec::from_slice(alloc, bytes).expect(rt, "no refusal"));
+    must(rt, value.is_value_of(&type_of(rt, alloc, name)));
     must_eq(rt, value.as_bytes(), bytes);
-    Ok(())
 }
 
 #[test]
-fn a_fill_value_is_one_cell(rt: HostRuntime) -> Result<(), Fail> {
+fn a_fill_value_is_one_cell(rt: HostRuntime) {
     const ROWS: &[(&str, &[u8], bool)] = &[
         ("uint16", &[2, 1], true),
         ("uint8", &[2, 1], false),
@@ -123,7 +135,7 @@ fn a_fill_value_is_one_cell(rt: HostRuntime) -> Result<(), Fail> {
         ("uint8??", &[2, 1], false),
     ];
     for (name, fill, is) in ROWS {
-        must_fill(&rt, &type_of(rt.alloc(), name)?, fill, *is);
+        must_fill(&rt, &type_of(&rt, rt.alloc(), name), fill, *is);
     }
     must_be(&rt, inner_fill(&[7, 1]) == Some([7].as_slice()), "front");
     must_be(&rt, inner_fill(&[0]).is_none(), "none");
@@ -195,9 +207,13 @@ fn offsets_start_at_zero_and_do_not_fall(rt: HostRuntime) {
     must_cut(&rt, &[0, 2, 1], false);
 }
 
-fn strings(bytes: &'static [u8], offsets: &'static [usize]) -> Result<ArrayBytes<'static>, Fail> {
-    let offsets = ArrayBytesOffsets::new(CowSlice::Borrowed(offsets))?;
-    Ok(ArrayBytes::new_vlen(CowSlice::Borrowed(bytes), offsets)?)
+fn strings(
+    rt: &impl Abort,
+    bytes: &'static [u8],
+    offsets: &'static [usize],
+) -> ArrayBytes<'static> {
+    let offsets = ArrayBytesOffsets::new(CowSlice::Borrowed(offsets)).expect(rt, "no refusal");
+    ArrayBytes::new_vlen(CowSlice::Borrowed(bytes), offsets).expect(rt, "no refusal")
 }
 
 fn must_hold(rt: &impl Abort, strings: &ArrayBytesVariableLength<'_>, expected: &[&[u8]]) {
@@ -211,13 +227,17 @@ fn must_hold(rt: &impl Abort, strings: &ArrayBytesVariableLength<'_>, expected: 
 }
 
 #[test]
-fn byte_strings_lie_between_offsets(rt: HostRuntime) -> Result<(), Fail> {
+fn byte_strings_lie_between_offsets(rt: HostRuntime) {
     let alloc = rt.alloc();
-    let data = strings(b"abbccc", &[0, 1, 3, 3, 6])?;
+    let data = strings(&rt, b"abbccc", &[0, 1, 3, 3, 6]);
     must_validate(&rt, &data, &DataType::String, 4, true);
     must_validate(&rt, &data, &DataType::String, 3, false);
     must_validate(&rt, &data, &DataType::UInt8, 6, false);
-    let held = data.into_variable()?.into_owned(alloc)?;
+    let held = data
+        .into_variable()
+        .expect(&rt, "no refusal")
+        .into_owned(alloc)
+        .expect(&rt, "no refusal");
     must_hold(&rt, &held, &[b"a", b"bb", b"", b"ccc"]);
     must_be(&rt, held.bytes() == b"abbccc".as_slice(), "bytes");
     must_be(
@@ -226,87 +246,96 @@ fn byte_strings_lie_between_offsets(rt: HostRuntime) -> Result<(), Fail> {
         "offsets",
     );
     must_be(&rt, !held.is_empty(), "not empty");
-    let late = ArrayBytesOffsets::new(CowSlice::Borrowed(&[0, 9]))?;
+    let late = ArrayBytesOffsets::new(CowSlice::Borrowed(&[0, 9])).expect(&rt, "no refusal");
     let refused = ArrayBytesVariableLength::new(CowSlice::Borrowed(b"a"), late);
     must_be(
         &rt,
         refused.is_err_and(|e| e == ExpectedVariableLengthBytesError),
         "end",
     );
-    Ok(())
 }
 
 #[test]
-fn text_is_utf8(rt: HostRuntime) -> Result<(), Fail> {
-    let data = strings(&[0xC3, 0xA4, 0xC3], &[0, 2, 3])?;
+fn text_is_utf8(rt: HostRuntime) {
+    let data = strings(&rt, &[0xC3, 0xA4, 0xC3], &[0, 2, 3]);
     must_validate(&rt, &data, &DataType::Bytes, 2, true);
     must_validate(&rt, &data, &DataType::String, 2, false);
-    Ok(())
 }
 
 #[test]
-fn byte_strings_may_all_be_empty(rt: HostRuntime) -> Result<(), Fail> {
+fn byte_strings_may_all_be_empty(rt: HostRuntime) {
     let alloc = rt.alloc();
-    let data = strings(b"", &[0, 0, 0])?;
+    let data = strings(&rt, b"", &[0, 0, 0]);
     must_validate(&rt, &data, &DataType::String, 2, true);
     must_validate(&rt, &data, &DataType::Bytes, 2, true);
     must_validate(&rt, &data, &DataType::String, 0, false);
-    must_hold(&rt, &data.into_variable()?.into_owned(alloc)?, &[b"", b""]);
-    let none = strings(b"", &[0])?;
+    must_hold(
+        &rt,
+        &data
+            .into_variable()
+            .expect(&rt, "no refusal")
+            .into_owned(alloc)
+            .expect(&rt, "no refusal"),
+        &[b"", b""],
+    );
+    let none = strings(&rt, b"", &[0]);
     must_validate(&rt, &none, &DataType::String, 0, true);
     must_validate(&rt, &none, &DataType::String, 1, false);
-    Ok(())
 }
 
 #[test]
-fn byte_strings_are_put_behind_others(rt: HostRuntime) -> Result<(), Fail> {
+fn byte_strings_are_put_behind_others(rt: HostRuntime) {
     let alloc = rt.alloc();
-    let mut builder = VariableLengthBuilder::new(alloc)?;
-    builder.push(b"a")?;
-    builder.push(b"")?;
-    builder.push(b"bcd")?;
+    let mut builder = VariableLengthBuilder::new(alloc).expect(&rt, "no refusal");
+    builder.push(b"a").expect(&rt, "no refusal");
+    builder.push(b"").expect(&rt, "no refusal");
+    builder.push(b"bcd").expect(&rt, "no refusal");
     must_hold(&rt, &builder.finish(), &[b"a", b"", b"bcd"]);
-    Ok(())
 }
 
 fn masked(
+    rt: &impl Abort,
     alloc: Global,
     data: ArrayBytes<'static>,
     mask: &'static [u8],
-) -> Result<ArrayBytes<'static>, Fail> {
-    let held = ArrayBytesOptional::new(Box::new(alloc, data)?, CowSlice::Borrowed(mask))?;
-    Ok(ArrayBytes::Optional(held))
+) -> ArrayBytes<'static> {
+    let held = ArrayBytesOptional::new(
+        Box::new(alloc, data).expect(rt, "no refusal"),
+        CowSlice::Borrowed(mask),
+    )
+    .expect(rt, "no refusal");
+    ArrayBytes::Optional(held)
 }
 
 #[test]
-fn a_mask_has_zeros_and_ones(rt: HostRuntime) -> Result<(), Fail> {
+fn a_mask_has_zeros_and_ones(rt: HostRuntime) {
     let alloc = rt.alloc();
-    let data = Box::new(alloc, ArrayBytes::from_flen(&[7]))?;
+    let data = Box::new(alloc, ArrayBytes::from_flen(&[7])).expect(&rt, "no refusal");
     let refused = ArrayBytesOptional::new(data, CowSlice::Borrowed(&[2]));
     must_be(
         &rt,
         refused.is_err_and(|e| e == ExpectedOptionalBytesError),
         "mask byte 2",
     );
-    let held = masked(alloc, ArrayBytes::from_flen(&[7, 8]), &[1, 0])?.into_optional()?;
+    let held = masked(&rt, alloc, ArrayBytes::from_flen(&[7, 8]), &[1, 0])
+        .into_optional()
+        .expect(&rt, "no refusal");
     must_be(&rt, held.mask() == [1, 0].as_slice(), "mask");
     must_validate(&rt, held.data(), &DataType::UInt8, 2, true);
-    Ok(())
 }
 
 #[test]
-fn bytes_under_a_none_belong_to_no_cell(rt: HostRuntime) -> Result<(), Fail> {
+fn bytes_under_a_none_belong_to_no_cell(rt: HostRuntime) {
     let alloc = rt.alloc();
-    let bools = optional(alloc, DataType::Bool)?;
-    let data = masked(alloc, ArrayBytes::from_flen(&[9, 1]), &[0, 1])?;
+    let bools = optional(alloc, DataType::Bool).expect(&rt, "no refusal");
+    let data = masked(&rt, alloc, ArrayBytes::from_flen(&[9, 1]), &[0, 1]);
     must_validate(&rt, &data, &bools, 2, true);
     must_validate(&rt, &data, &bools, 1, false);
-    let bad = masked(alloc, ArrayBytes::from_flen(&[9, 1]), &[1, 1])?;
+    let bad = masked(&rt, alloc, ArrayBytes::from_flen(&[9, 1]), &[1, 1]);
     must_validate(&rt, &bad, &bools, 2, false);
-    let short = masked(alloc, ArrayBytes::from_flen(&[9, 1]), &[1])?;
+    let short = masked(&rt, alloc, ArrayBytes::from_flen(&[9, 1]), &[1]);
     must_validate(&rt, &short, &bools, 2, false);
     must_validate(&rt, &short, &bools, 1, false);
-    Ok(())
 }
 
 fn must_repeat(
@@ -315,21 +344,20 @@ fn must_repeat(
     data_type: &DataType,
     fill: &FillValue,
     other: &FillValue,
-) -> Result<(), Fail>
+)
     requires filled { IsSome (fill_cell (kind data_type.now) fill.now) }
     requires other { IsSome (fill_cell (kind data_type.now) other.now) }
     requires size { 3 * held_size (kind data_type.now) (fill_of
         (kind data_type.now) fill.now) < 2 ^ 64 }
 {
-    let made = ArrayBytes::new_fill_value(alloc, data_type, 3, fill)?;
+    let made = ArrayBytes::new_fill_value(alloc, data_type, 3, fill).expect(rt, "no refusal");
     must(rt, made.validate(data_type, 3));
     if made.validate(data_type, 3) {
         must(rt, made.is_fill_value(data_type, fill));
         must(rt, !made.is_fill_value(data_type, other));
     }
-    let owned = made.into_owned(alloc)?;
+    let owned = made.into_owned(alloc).expect(rt, "no refusal");
     must(rt, owned.validate(data_type, 3));
-    Ok(())
 }
 
 /// Each of the two values of the type is told from the other.
@@ -339,19 +367,19 @@ fn must_repeat_tested(
     data_type: &DataType,
     fill: &[u8],
     other: &[u8],
-) -> Result<(), Fail> {
-    let fill = FillValue::new(Vec::from_slice(alloc, fill)?);
-    let other = FillValue::new(Vec::from_slice(alloc, other)?);
+) {
+    let fill = FillValue::new(Vec::from_slice(alloc, fill).expect(rt, "no refusal"));
+    let other = FillValue::new(Vec::from_slice(alloc, other).expect(rt, "no refusal"));
     if fill.is_value_of(data_type) && other.is_value_of(data_type) {
         if data_type.held_size(fill.as_bytes()) < 100 {
             return must_repeat(rt, alloc, data_type, &fill, &other);
         }
     }
-    Err("no value of the type")?
+    Err("no value of the type").expect(rt, "no refusal")
 }
 
 #[test]
-fn fill_values_are_repeated(rt: HostRuntime) -> Result<(), Fail> {
+fn fill_values_are_repeated(rt: HostRuntime) {
     const ROWS: &[(&str, &[u8], &[u8])] = &[
         ("int16", &[0xFE, 0xFF], &[0, 0]),
         ("bool", &[1], &[0]),
@@ -363,9 +391,14 @@ fn fill_values_are_repeated(rt: HostRuntime) -> Result<(), Fail> {
         ("uint8??", &[0, 1], &[0]),
     ];
     for (name, fill, other) in ROWS {
-        must_repeat_tested(&rt, rt.alloc(), &type_of(rt.alloc(), name)?, fill, other)?;
+        must_repeat_tested(
+            &rt,
+            rt.alloc(),
+            &type_of(&rt, rt.alloc(), name),
+            fill,
+            other,
+        );
     }
-    Ok(())
 }
 
 fn must_say(rt: &impl Abort, text: &str, expected: &str) {
@@ -373,21 +406,26 @@ fn must_say(rt: &impl Abort, text: &str, expected: &str) {
 }
 
 #[test]
-fn errors_say_what_is_wrong(rt: HostRuntime) -> Result<(), Fail> {
+fn errors_say_what_is_wrong(rt: HostRuntime) {
     let alloc = rt.alloc();
-    let text = format!(in alloc; "{}", ElementError::from(AllocError))?;
+    let text = format!(in alloc; "{}", ElementError::from(AllocError)).expect(&rt, "no refusal");
     must_say(&rt, &text, "out of memory");
-    let text = format!(in alloc; "{}", ElementError::IncompatibleElementType)?;
+    let text = format!(in alloc; "{}", ElementError::IncompatibleElementType).expect(
+        &rt,
+        "no refusal",
+    );
     must_say(&rt, &text, "the element type does not match the data type");
-    let text = format!(in alloc; "{ExpectedFixedLengthBytesError}")?;
+    let text = format!(in alloc; "{ExpectedFixedLengthBytesError}").expect(&rt, "no refusal");
     must_say(&rt, &text, "expected fixed length array bytes");
-    let text = format!(in alloc; "{ExpectedVariableLengthBytesError}")?;
+    let text = format!(in alloc; "{ExpectedVariableLengthBytesError}").expect(&rt, "no refusal");
     must_say(&rt, &text, "expected variable length array bytes");
-    let text = format!(in alloc; "{ExpectedOptionalBytesError}")?;
+    let text = format!(in alloc; "{ExpectedOptionalBytesError}").expect(&rt, "no refusal");
     must_say(&rt, &text, "expected optional array bytes");
-    let text = format!(in alloc; "{ArrayBytesFixedDisjointViewCreateError}")?;
+    let text = format!(in alloc; "{ArrayBytesFixedDisjointViewCreateError}").expect(
+        &rt,
+        "no refusal",
+    );
     must_say(&rt, &text, "the view does not lie in its array bytes");
-    Ok(())
 }
 
 fn must_have_bytes(rt: &impl Abort, data: &ArrayBytes<'_>, expected: &[u8]) {
@@ -402,13 +440,12 @@ fn must_be_refused<T: Element>(
     alloc: Global,
     data_type: &DataType,
     elements: &[T],
-) -> Result<(), Fail> {
+) {
     let made = T::to_array_bytes(alloc, data_type, elements);
     must(
         rt,
         made.is_err_and(|e| e == ElementError::IncompatibleElementType),
     );
-    Ok(())
 }
 
 fn must_not_be_read<T: ElementOwned>(
@@ -430,102 +467,124 @@ fn must_be_listed<T: ElementOwned + PartialEq>(
     data_type: &DataType,
     elements: &[T],
     bytes: &[u8],
-) -> Result<(), Fail> {
-    let made = T::to_array_bytes(alloc, data_type, elements)?;
+) {
+    let made = T::to_array_bytes(alloc, data_type, elements).expect(rt, "no refusal");
     must_have_bytes(rt, &made, bytes);
     must(rt, made.validate(data_type, elements.len() as u64));
-    let read = T::from_array_bytes(alloc, data_type, &made)?;
+    let read = T::from_array_bytes(alloc, data_type, &made).expect(rt, "no refusal");
     must(rt, read.as_slice() == elements);
-    Ok(())
 }
 
 #[test]
-fn numbers_are_cells(rt: HostRuntime) -> Result<(), Fail> {
+fn numbers_are_cells(rt: HostRuntime) {
     let alloc = rt.alloc();
-    must_be_listed(&rt, alloc, &data_type::uint8(), &[0u8, 255], &[0, 255])?;
-    must_be_listed(&rt, alloc, &data_type::int8(), &[-1i8, 127], &[255, 127])?;
-    must_be_listed(&rt, alloc, &data_type::uint16(), &[258u16], &[2, 1])?;
+    must_be_listed(&rt, alloc, &data_type::uint8(), &[0u8, 255], &[0, 255]);
+    must_be_listed(&rt, alloc, &data_type::int8(), &[-1i8, 127], &[255, 127]);
+    must_be_listed(&rt, alloc, &data_type::uint16(), &[258u16], &[2, 1]);
     must_be_listed(
         &rt,
         alloc,
         &data_type::int16(),
         &[-2i16, 258],
         &[0xFE, 0xFF, 2, 1],
-    )?;
-    must_be_listed(&rt, alloc, &data_type::uint32(), &[1u32], &[1, 0, 0, 0])?;
+    );
+    must_be_listed(&rt, alloc, &data_type::uint32(), &[1u32], &[1, 0, 0, 0]);
     must_be_listed(
         &rt,
         alloc,
         &data_type::int32(),
         &[-1i32],
         &[255, 255, 255, 255],
-    )?;
-    must_be_listed(&rt, alloc, &data_type::uint64(), &[u64::MAX], &[255; 8])?;
+    );
+    must_be_listed(&rt, alloc, &data_type::uint64(), &[u64::MAX], &[255; 8]);
     must_be_listed(
         &rt,
         alloc,
         &data_type::int64(),
         &[i64::MIN],
         &[0, 0, 0, 0, 0, 0, 0, 128],
-    )?;
-    Ok(())
+    );
 }
 
 #[test]
-fn numbers_of_another_type_are_refused(rt: HostRuntime) -> Result<(), Fail> {
+fn numbers_of_another_type_are_refused(rt: HostRuntime) {
     let alloc = rt.alloc();
-    must_be_refused(&rt, alloc, &data_type::int16(), &[1u16])?;
-    must_be_refused(&rt, alloc, &data_type::bool(), &[1u8])?;
-    must_be_refused(&rt, alloc, &data_type::string(), &[1u8])?;
-    must_be_refused(&rt, alloc, &data_type::bytes(), &[1i64])?;
+    must_be_refused(&rt, alloc, &data_type::int16(), &[1u16]);
+    must_be_refused(&rt, alloc, &data_type::bool(), &[1u8]);
+    must_be_refused(&rt, alloc, &data_type::string(), &[1u8]);
+    must_be_refused(&rt, alloc, &data_type::bytes(), &[1i64]);
     let data = ArrayBytes::from_flen(&[1, 2, 3]);
     must_not_be_read::<u16>(&rt, alloc, &data_type::uint16(), &data);
     must_not_be_read::<i8>(&rt, alloc, &data_type::uint8(), &data);
-    must_not_be_read::<u8>(&rt, alloc, &data_type::uint8(), &strings(b"a", &[0, 1])?);
-    Ok(())
+    must_not_be_read::<u8>(
+        &rt,
+        alloc,
+        &data_type::uint8(),
+        &strings(&rt, b"a", &[0, 1]),
+    );
 }
 
-fn must_convert(rt: &impl Abort, alloc: Global, bytes: &[u8], numbers: &[i16]) -> Result<(), Fail>
+fn must_convert(rt: &impl Abort, alloc: Global, bytes: &[u8], numbers: &[i16])
     requires { length bytes.now % 2 ≡ 0 }
 {
     must(
         rt,
-        convert_from_bytes_slice::<i16>(alloc, bytes)?.as_slice() == numbers,
+        convert_from_bytes_slice::<i16>(alloc, bytes)
+            .expect(rt, "no refusal")
+            .as_slice()
+            == numbers,
     );
-    let owned = Vec::from_slice(alloc, bytes)?;
+    let owned = Vec::from_slice(alloc, bytes).expect(rt, "no refusal");
     must(
         rt,
-        transmute_from_bytes_vec::<i16>(alloc, owned)?.as_slice() == numbers,
+        transmute_from_bytes_vec::<i16>(alloc, owned)
+            .expect(rt, "no refusal")
+            .as_slice()
+            == numbers,
     );
     must(
         rt,
-        convert_to_bytes_vec(alloc, numbers)?.as_slice() == bytes,
+        convert_to_bytes_vec(alloc, numbers)
+            .expect(rt, "no refusal")
+            .as_slice()
+            == bytes,
     );
-    must(rt, transmute_to_bytes(alloc, numbers)?.as_slice() == bytes);
-    let owned = Vec::from_slice(alloc, numbers)?;
     must(
         rt,
-        transmute_to_bytes_vec(alloc, owned)?.as_slice() == bytes,
+        transmute_to_bytes(alloc, numbers)
+            .expect(rt, "no refusal")
+            .as_slice()
+            == bytes,
     );
-    Ok(())
+    let owned = Vec::from_slice(alloc, numbers).expect(rt, "no refusal");
+    must(
+        rt,
+        transmute_to_bytes_vec(alloc, owned)
+            .expect(rt, "no refusal")
+            .as_slice()
+            == bytes,
+    );
 }
 
 #[test]
-fn numbers_are_little_endian_bytes(rt: HostRuntime) -> Result<(), Fail> {
+fn numbers_are_little_endian_bytes(rt: HostRuntime) {
     must_convert(&rt, rt.alloc(), &[0xFE, 0xFF, 2, 1], &[-2, 258])
 }
 
 #[test]
-fn fill_values_are_compared_and_copied(rt: HostRuntime) -> Result<(), Fail> {
+fn fill_values_are_compared_and_copied(rt: HostRuntime) {
     let alloc = rt.alloc();
-    let value = FillValue::new(vec![in alloc; 7u8, 1]?);
-    must_be(&rt, value == value.try_clone(alloc)?, "copy");
+    let value = FillValue::new(vec![in alloc; 7u8, 1].expect(&rt, "no refusal"));
     must_be(
         &rt,
-        value != FillValue::new(vec![in alloc; 7u8]?),
+        value == value.try_clone(alloc).expect(&rt, "no refusal"),
+        "copy",
+    );
+    must_be(
+        &rt,
+        value != FillValue::new(vec![in alloc; 7u8].expect(&rt, "no refusal")),
         "shorter",
     );
-    Ok(())
 }
 
 fn must_spread(
@@ -534,30 +593,37 @@ fn must_spread(
     inner: &DataType,
     mask: &[u8],
     present: &ArrayBytes<'_>,
-) -> Result<(), Fail>
+)
     requires flags { All (λ flag. flag < 2) mask.now }
     requires present { HasCells (kind inner.now) (data_of present.now)
         (count_by flag_set mask.now) }
     requires size { length mask.now * cell_size (kind inner.now) < 2 ^ 64 }
 {
-    let made = ArrayBytes::from_present(alloc, inner, Vec::from_slice(alloc, mask)?, present)?;
-    let whole = optional(alloc, inner.try_clone(alloc)?)?;
+    let made = ArrayBytes::from_present(
+        alloc,
+        inner,
+        Vec::from_slice(alloc, mask).expect(rt, "no refusal"),
+        present,
+    )
+    .expect(rt, "no refusal");
+    let whole = optional(alloc, inner.try_clone(alloc).expect(rt, "no refusal")).expect(
+        rt,
+        "no refusal",
+    );
     must(rt, made.validate(&whole, mask.len() as u64));
-    Ok(())
 }
 
 #[test]
-fn present_cells_go_under_a_mask(rt: HostRuntime) -> Result<(), Fail> {
+fn present_cells_go_under_a_mask(rt: HostRuntime) {
     let alloc = rt.alloc();
     let present = ArrayBytes::from_flen(&[7, 8]);
     if present.validate(&DataType::UInt8, 2) {
-        must_spread(&rt, alloc, &DataType::UInt8, &[0, 1, 0, 1], &present)?;
+        must_spread(&rt, alloc, &DataType::UInt8, &[0, 1, 0, 1], &present);
     }
     let none = ArrayBytes::from_flen(&[]);
     if none.validate(&DataType::UInt8, 0) {
-        must_spread(&rt, alloc, &DataType::UInt8, &[0, 0], &none)?;
+        must_spread(&rt, alloc, &DataType::UInt8, &[0, 0], &none);
     }
-    Ok(())
 }
 
 fn must_fill_bytes(rt: &impl Abort, value: &FillValue, expected: &[u8]) {
@@ -565,18 +631,49 @@ fn must_fill_bytes(rt: &impl Abort, value: &FillValue, expected: &[u8]) {
 }
 
 #[test]
-fn numbers_become_fill_values(rt: HostRuntime) -> Result<(), Fail> {
+fn numbers_become_fill_values(rt: HostRuntime) {
     let alloc = rt.alloc();
-    must_fill_bytes(&rt, &true.into_field(alloc)?, &[1]);
-    must_fill_bytes(&rt, &7u8.into_field(alloc)?, &[7]);
-    must_fill_bytes(&rt, &258u16.into_field(alloc)?, &[2, 1]);
-    must_fill_bytes(&rt, &1u32.into_field(alloc)?, &[1, 0, 0, 0]);
-    must_fill_bytes(&rt, &1u64.into_field(alloc)?, &[1, 0, 0, 0, 0, 0, 0, 0]);
-    must_fill_bytes(&rt, &(-1i8).into_field(alloc)?, &[255]);
-    must_fill_bytes(&rt, &(-2i16).into_field(alloc)?, &[0xFE, 0xFF]);
-    must_fill_bytes(&rt, &(-1i32).into_field(alloc)?, &[255; 4]);
-    must_fill_bytes(&rt, &(-1i64).into_field(alloc)?, &[255; 8]);
-    let value = FillValue::new(vec![in alloc; 3u8]?);
-    must_fill_bytes(&rt, &value.into_field(alloc)?, &[3]);
-    Ok(())
+    must_fill_bytes(&rt, &true.into_field(alloc).expect(&rt, "no refusal"), &[1]);
+    must_fill_bytes(&rt, &7u8.into_field(alloc).expect(&rt, "no refusal"), &[7]);
+    must_fill_bytes(
+        &rt,
+        &258u16.into_field(alloc).expect(&rt, "no refusal"),
+        &[2, 1],
+    );
+    must_fill_bytes(
+        &rt,
+        &1u32.into_field(alloc).expect(&rt, "no refusal"),
+        &[1, 0, 0, 0],
+    );
+    must_fill_bytes(
+        &rt,
+        &1u64.into_field(alloc).expect(&rt, "no refusal"),
+        &[1, 0, 0, 0, 0, 0, 0, 0],
+    );
+    must_fill_bytes(
+        &rt,
+        &(-1i8).into_field(alloc).expect(&rt, "no refusal"),
+        &[255],
+    );
+    must_fill_bytes(
+        &rt,
+        &(-2i16).into_field(alloc).expect(&rt, "no refusal"),
+        &[0xFE, 0xFF],
+    );
+    must_fill_bytes(
+        &rt,
+        &(-1i32).into_field(alloc).expect(&rt, "no refusal"),
+        &[255; 4],
+    );
+    must_fill_bytes(
+        &rt,
+        &(-1i64).into_field(alloc).expect(&rt, "no refusal"),
+        &[255; 8],
+    );
+    let value = FillValue::new(vec![in alloc; 3u8].expect(&rt, "no refusal"));
+    must_fill_bytes(
+        &rt,
+        &value.into_field(alloc).expect(&rt, "no refusal"),
+        &[3],
+    );
 }

@@ -2,7 +2,6 @@
 use crate::checks::{must, must_for};
 use std::alloc::Global;
 use std::process::Abort;
-use std::test::Fail;
 use zarrs_data_type::{ArrayBytes, DataType, ElementError, IntoArrayBytes, IntoField};
 
 fn must_hold(rt: &impl Abort, made: &Result<ArrayBytes<'_>, ElementError>, bytes: &[u8]) {
@@ -20,7 +19,7 @@ fn must_be_refused(rt: &impl Abort, made: &Result<ArrayBytes<'_>, ElementError>)
 }
 
 #[test]
-fn lists_become_array_bytes(rt: HostRuntime) -> Result<(), Fail> {
+fn lists_become_array_bytes(rt: HostRuntime) {
     let alloc = rt.alloc();
     let numbers = [258u16, 1];
     must_hold(
@@ -39,11 +38,10 @@ fn lists_become_array_bytes(rt: HostRuntime) -> Result<(), Fail> {
         &(&numbers).into_array_bytes(alloc, &DataType::UInt16),
         &[2, 1, 1, 0],
     );
-    let list = vec![in alloc; true, false]?;
+    let list = vec![in alloc; true, false].expect(&rt, "no refusal");
     must_hold(&rt, &list.into_array_bytes(alloc, &DataType::Bool), &[1, 0]);
     must_be_refused(&rt, &numbers.into_array_bytes(alloc, &DataType::Int16));
     must_be_refused(&rt, &slice.into_array_bytes(alloc, &DataType::UInt8));
-    Ok(())
 }
 
 /// Texts that are lent become the bytes and the offsets of strings.
@@ -74,33 +72,37 @@ fn must_be_the_name(rt: &impl Abort, name: &Option<String>) {
 }
 
 #[test]
-fn lists_become_shapes(rt: HostRuntime) -> Result<(), Fail> {
+fn lists_become_shapes(rt: HostRuntime) {
     let alloc = rt.alloc();
     let extents = [3u64, 4];
-    let shape: Vec<u64> = extents.into_field(alloc)?;
+    let shape: Vec<u64> = extents.into_field(alloc).expect(&rt, "no refusal");
     must_be_the_shape(&rt, &shape);
-    let same: Vec<u64> = shape.into_field(alloc)?;
+    let same: Vec<u64> = shape.into_field(alloc).expect(&rt, "no refusal");
     must_be_the_shape(&rt, &same);
-    let lent: Vec<u64> = (&extents).into_field(alloc)?;
+    let lent: Vec<u64> = (&extents).into_field(alloc).expect(&rt, "no refusal");
     must_be_the_shape(&rt, &lent);
-    let slice: Vec<u64> = extents.as_slice().into_field(alloc)?;
+    let slice: Vec<u64> = extents
+        .as_slice()
+        .into_field(alloc)
+        .expect(&rt, "no refusal");
     must_be_the_shape(&rt, &slice);
-    Ok(())
 }
 
 #[test]
-fn texts_become_names(rt: HostRuntime) -> Result<(), Fail> {
+fn texts_become_names(rt: HostRuntime) {
     let alloc = rt.alloc();
-    let name: Option<String> = "x".into_field(alloc)?;
+    let name: Option<String> = "x".into_field(alloc).expect(&rt, "no refusal");
     must_be_the_name(&rt, &name);
-    let same: Option<String> = name.into_field(alloc)?;
+    let same: Option<String> = name.into_field(alloc).expect(&rt, "no refusal");
     must_be_the_name(&rt, &same);
-    let owned: Option<String> = String::from_str(alloc, "x")?.into_field(alloc)?;
+    let owned: Option<String> = String::from_str(alloc, "x")
+        .expect(&rt, "no refusal")
+        .into_field(alloc)
+        .expect(&rt, "no refusal");
     must_be_the_name(&rt, &owned);
-    let some: Option<String> = Some("x").into_field(alloc)?;
+    let some: Option<String> = Some("x").into_field(alloc).expect(&rt, "no refusal");
     must_be_the_name(&rt, &some);
     let none: Option<&str> = None;
-    let unnamed: Option<String> = none.into_field(alloc)?;
+    let unnamed: Option<String> = none.into_field(alloc).expect(&rt, "no refusal");
     must(&rt, unnamed.is_none());
-    Ok(())
 }

@@ -5,7 +5,6 @@ use serde_json::{Map, Value, json};
 use std::alloc::{AllocError, Global};
 use std::num::NonZeroU64;
 use std::process::Abort;
-use std::test::Fail;
 use zarrs_document::{ArrayMetadataV3, members};
 use zarrs_document_v2::{
     ArrayMetadata, ArrayMetadataV2, ArrayMetadataV2Order, ArrayMetadataV2ToV3Error,
@@ -36,55 +35,75 @@ const WRITTEN: &str = concat!(
     "\"fill_value\":0,\"filters\":null,\"order\":\"C\",\"shape\":[4,2],\"zarr_format\":2}"
 );
 
-fn read(alloc: Global, text: &str) -> Result<ArrayMetadataV2, Fail> {
-    Ok(ArrayMetadataV2::from_slice(alloc, text.as_bytes())?)
+fn read(rt: &impl Abort, alloc: Global, text: &str) -> ArrayMetadataV2 {
+    ArrayMetadataV2::from_slice(alloc, text.as_bytes()).expect(rt, "no refusal")
 }
 
-fn must_write(
-    rt: &impl Abort,
-    alloc: Global,
-    document: &ArrayMetadataV2,
-    text: &str,
-) -> Result<(), Fail> {
-    let written = document.to_value(alloc)?.to_string(alloc)?;
+fn must_write(rt: &impl Abort, alloc: Global, document: &ArrayMetadataV2, text: &str) {
+    let written = document
+        .to_value(alloc)
+        .expect(rt, "no refusal")
+        .to_string(alloc)
+        .expect(rt, "no refusal");
     must_eq(rt, written.as_str(), text);
-    Ok(())
 }
 
 /// The bytes of `.zarray` and of `.zattrs` are read again as the same document.
-fn must_read_again(rt: &impl Abort, alloc: Global, document: &ArrayMetadataV2) -> Result<(), Fail> {
-    let bytes = document.to_vec_pretty(alloc)?;
-    let again = ArrayMetadataV2::from_slice(alloc, bytes.as_slice())?;
+fn must_read_again(rt: &impl Abort, alloc: Global, document: &ArrayMetadataV2) {
+    let bytes = document.to_vec_pretty(alloc).expect(rt, "no refusal");
+    let again = ArrayMetadataV2::from_slice(alloc, bytes.as_slice()).expect(rt, "no refusal");
     must(rt, again.attributes.is_empty());
-    let bytes = document.attributes_to_vec_pretty(alloc)?;
-    let attributes = attributes_from_slice(alloc, bytes.as_slice())?;
+    let bytes = document
+        .attributes_to_vec_pretty(alloc)
+        .expect(rt, "no refusal");
+    let attributes = attributes_from_slice(alloc, bytes.as_slice()).expect(rt, "no refusal");
     let again = again.with_attributes(attributes);
-    let written = document.to_value(alloc)?.to_string(alloc)?;
+    let written = document
+        .to_value(alloc)
+        .expect(rt, "no refusal")
+        .to_string(alloc)
+        .expect(rt, "no refusal");
     must_write(rt, alloc, &again, written.as_str())
 }
 
 /// The members of the small array.
-fn small(alloc: Global) -> Result<Map<String, Value>, Fail> {
-    Ok(members::object_of(Value::from_str(alloc, PYTHON)?).ok_or("no object")?)
+fn small(rt: &impl Abort, alloc: Global) -> Map<String, Value> {
+    members::object_of(Value::from_str(alloc, PYTHON).expect(rt, "no refusal")).expect(
+        rt,
+        "no object",
+    )
 }
 
 /// The small array with this member.
-fn changed(alloc: Global, name: &str, text: &str) -> Result<Value, Fail> {
-    let mut members = small(alloc)?;
-    serde_json::put(&mut members, alloc, name, Value::from_str(alloc, text)?)?;
-    Ok(Value::Object(members))
+fn changed(rt: &impl Abort, alloc: Global, name: &str, text: &str) -> Value {
+    let mut members = small(rt, alloc);
+    serde_json::put(
+        &mut members,
+        alloc,
+        name,
+        Value::from_str(alloc, text).expect(rt, "no refusal"),
+    )
+    .expect(rt, "no refusal");
+    Value::Object(members)
 }
 
 /// The small array with these members in place of its own.
 fn with_members(
+    rt: &impl Abort,
     alloc: Global,
     changes: &[(&'static str, &'static str)],
-) -> Result<ArrayMetadataV2, Fail> {
-    let mut members = small(alloc)?;
+) -> ArrayMetadataV2 {
+    let mut members = small(rt, alloc);
     for (name, text) in changes {
-        serde_json::put(&mut members, alloc, name, Value::from_str(alloc, text)?)?;
+        serde_json::put(
+            &mut members,
+            alloc,
+            name,
+            Value::from_str(alloc, text).expect(rt, "no refusal"),
+        )
+        .expect(rt, "no refusal");
     }
-    Ok(ArrayMetadataV2::from_value(alloc, Value::Object(members))?)
+    ArrayMetadataV2::from_value(alloc, Value::Object(members)).expect(rt, "no refusal")
 }
 
 fn must_be_small(rt: &impl Abort, document: &ArrayMetadataV2) {
@@ -99,19 +118,25 @@ fn must_be_small(rt: &impl Abort, document: &ArrayMetadataV2) {
 }
 
 #[test]
-fn an_array_of_zarr_python(rt: HostRuntime) -> Result<(), Fail> {
+fn an_array_of_zarr_python(rt: HostRuntime) {
     let alloc = rt.alloc();
-    let document = read(alloc, PYTHON)?;
+    let document = read(&rt, alloc, PYTHON);
     must_be_small(&rt, &document);
-    must_write(&rt, alloc, &document, WRITTEN)?;
-    must_read_again(&rt, alloc, &document)?;
-    must_write(&rt, alloc, &document.try_clone(alloc)?, WRITTEN)
+    must_write(&rt, alloc, &document, WRITTEN);
+    must_read_again(&rt, alloc, &document);
+    must_write(
+        &rt,
+        alloc,
+        &document.try_clone(alloc).expect(&rt, "no refusal"),
+        WRITTEN,
+    )
 }
 
 #[test]
-fn attributes_and_other_members(rt: HostRuntime) -> Result<(), Fail> {
+fn attributes_and_other_members(rt: HostRuntime) {
     let alloc = rt.alloc();
     let document = with_members(
+        &rt,
         alloc,
         &[
             ("attributes", "{\"a\":1}"),
@@ -119,13 +144,13 @@ fn attributes_and_other_members(rt: HostRuntime) -> Result<(), Fail> {
             ("order", "\"F\""),
             ("consolidated", "true"),
         ],
-    )?;
+    );
     let written = concat!(
         "{\"attributes\":{\"a\":1},\"chunks\":[2,2],\"compressor\":null,",
         "\"dimension_separator\":\"/\",\"dtype\":\"<u2\",\"fill_value\":0,\"filters\":null,",
         "\"order\":\"F\",\"shape\":[4,2],\"zarr_format\":2}"
     );
-    must_write(&rt, alloc, &document, written)?;
+    must_write(&rt, alloc, &document, written);
     must_read_again(&rt, alloc, &document)
 }
 
@@ -139,7 +164,7 @@ fn must_refuse_value(rt: &impl Abort, alloc: Global, value: Value, name: &str) {
 }
 
 #[test]
-fn members_of_another_shape(rt: HostRuntime) -> Result<(), Fail> {
+fn members_of_another_shape(rt: HostRuntime) {
     let alloc = rt.alloc();
     const ROWS: &[(&str, &str)] = &[
         ("zarr_format", "3"),
@@ -155,19 +180,18 @@ fn members_of_another_shape(rt: HostRuntime) -> Result<(), Fail> {
         ("consolidated", "[1e2]"),
     ];
     for (name, text) in ROWS {
-        must_refuse_value(&rt, alloc, changed(alloc, name, text)?, name);
+        must_refuse_value(&rt, alloc, changed(&rt, alloc, name, text), name);
     }
-    Ok(())
 }
 
-fn without(alloc: Global, name: &str) -> Result<Value, Fail> {
-    let mut members = small(alloc)?;
+fn without(rt: &impl Abort, alloc: Global, name: &str) -> Value {
+    let mut members = small(rt, alloc);
     drop(members::take_member(&mut members, name));
-    Ok(Value::Object(members))
+    Value::Object(members)
 }
 
 #[test]
-fn members_that_are_missing(rt: HostRuntime) -> Result<(), Fail> {
+fn members_that_are_missing(rt: HostRuntime) {
     let alloc = rt.alloc();
     const NAMES: &[&str] = &[
         "zarr_format",
@@ -180,9 +204,8 @@ fn members_that_are_missing(rt: HostRuntime) -> Result<(), Fail> {
         "filters",
     ];
     for name in NAMES {
-        must_refuse_value(&rt, alloc, without(alloc, name)?, name);
+        must_refuse_value(&rt, alloc, without(&rt, alloc, name), name);
     }
-    Ok(())
 }
 
 fn must_refuse_bytes(rt: &impl Abort, alloc: Global, bytes: &[u8]) {
@@ -201,24 +224,26 @@ fn bytes_that_are_no_object(rt: HostRuntime) {
     must_refuse_bytes(&rt, alloc, &[0x22, 0xff, 0x22]);
 }
 
-fn size(number: u64) -> Result<NonZeroU64, Fail> {
-    Ok(NonZeroU64::new(number).ok_or("a size is 0")?)
+fn size(rt: &impl Abort, number: u64) -> NonZeroU64 {
+    NonZeroU64::new(number).expect(rt, "a size is 0")
 }
 
 /// The small array, made of its parts.
-fn made(alloc: Global) -> Result<ArrayMetadataV2, Fail> {
-    let shape = [4, 2].to_vec(alloc)?;
-    let chunks = [size(2)?, size(2)?].to_vec(alloc)?;
-    let dtype = DataTypeMetadataV2::new(String::from_str(alloc, "<u2")?);
+fn made(rt: &impl Abort, alloc: Global) -> ArrayMetadataV2 {
+    let shape = [4, 2].to_vec(alloc).expect(rt, "no refusal");
+    let chunks = [size(rt, 2), size(rt, 2)]
+        .to_vec(alloc)
+        .expect(rt, "no refusal");
+    let dtype = DataTypeMetadataV2::new(String::from_str(alloc, "<u2").expect(rt, "no refusal"));
     let zero = FillValueMetadata::from_value(Value::from(0u64));
-    Ok(ArrayMetadataV2::new(shape, chunks, dtype, zero, Value::Null, Value::Null))
+    ArrayMetadataV2::new(shape, chunks, dtype, zero, Value::Null, Value::Null)
 }
 
 #[test]
-fn documents_made_of_their_parts(rt: HostRuntime) -> Result<(), Fail> {
+fn documents_made_of_their_parts(rt: HostRuntime) {
     let alloc = rt.alloc();
-    must_write(&rt, alloc, &made(alloc)?, WRITTEN)?;
-    let document = made(alloc)?
+    must_write(&rt, alloc, &made(&rt, alloc), WRITTEN);
+    let document = made(&rt, alloc)
         .with_order(ArrayMetadataV2Order::F)
         .with_dimension_separator(ChunkKeySeparator::Slash);
     let written = concat!(
@@ -228,22 +253,20 @@ fn documents_made_of_their_parts(rt: HostRuntime) -> Result<(), Fail> {
     must_write(&rt, alloc, &document, written)
 }
 
-fn must_convert(
-    rt: &impl Abort,
-    alloc: Global,
-    document: &ArrayMetadataV2,
-    text: &str,
-) -> Result<(), Fail> {
-    let converted = array_metadata_v2_to_v3(alloc, document)?;
-    let written = converted.to_value(alloc)?.to_string(alloc)?;
+fn must_convert(rt: &impl Abort, alloc: Global, document: &ArrayMetadataV2, text: &str) {
+    let converted = array_metadata_v2_to_v3(alloc, document).expect(rt, "no refusal");
+    let written = converted
+        .to_value(alloc)
+        .expect(rt, "no refusal")
+        .to_string(alloc)
+        .expect(rt, "no refusal");
     must_eq(rt, written.as_str(), text);
-    Ok(())
 }
 
 #[test]
-fn order_f_becomes_a_transposition(rt: HostRuntime) -> Result<(), Fail> {
+fn order_f_becomes_a_transposition(rt: HostRuntime) {
     let alloc = rt.alloc();
-    let document = with_members(alloc, &[("shape", "[2,2]"), ("order", "\"F\"")])?;
+    let document = with_members(&rt, alloc, &[("shape", "[2,2]"), ("order", "\"F\"")]);
     let written = concat!(
         "{\"chunk_grid\":{\"configuration\":{\"chunk_shape\":[2,2]},\"name\":\"regular\"},",
         "\"chunk_key_encoding\":{\"configuration\":{\"separator\":\".\"},\"name\":\"v2\"},",
@@ -256,9 +279,10 @@ fn order_f_becomes_a_transposition(rt: HostRuntime) -> Result<(), Fail> {
 }
 
 #[test]
-fn a_foreign_array_is_converted(rt: HostRuntime) -> Result<(), Fail> {
+fn a_foreign_array_is_converted(rt: HostRuntime) {
     let alloc = rt.alloc();
     let document = with_members(
+        &rt,
         alloc,
         &[
             ("attributes", "{\"units\":\"m\"}"),
@@ -267,7 +291,7 @@ fn a_foreign_array_is_converted(rt: HostRuntime) -> Result<(), Fail> {
             ("fill_value", "null"),
             ("filters", "[]"),
         ],
-    )?;
+    );
     let written = concat!(
         "{\"attributes\":{\"units\":\"m\"},",
         "\"chunk_grid\":{\"configuration\":{\"chunk_shape\":[2,2]},\"name\":\"regular\"},",
@@ -280,10 +304,11 @@ fn a_foreign_array_is_converted(rt: HostRuntime) -> Result<(), Fail> {
 }
 
 fn converted(
+    rt: &impl Abort,
     alloc: Global,
     changes: &[(&'static str, &'static str)],
-) -> Result<ArrayMetadataV3, Fail> {
-    Ok(array_metadata_v2_to_v3(alloc, &with_members(alloc, changes)?)?)
+) -> ArrayMetadataV3 {
+    array_metadata_v2_to_v3(alloc, &with_members(rt, alloc, changes)).expect(rt, "no refusal")
 }
 
 fn must_have_type(
@@ -293,29 +318,35 @@ fn must_have_type(
     name: &str,
     fill_value: &str,
     codec: &str,
-) -> Result<(), Fail> {
+) {
     must_eq(rt, document.data_type.name(), name);
     must_eq(
         rt,
         document
             .fill_value
-            .to_value(alloc)?
-            .to_string(alloc)?
+            .to_value(alloc)
+            .expect(rt, "no refusal")
+            .to_string(alloc)
+            .expect(rt, "no refusal")
             .as_str(),
         fill_value,
     );
     must_eq(rt, document.codecs.len(), 1);
-    let written = document.codecs.first().ok_or("no codec")?;
+    let written = document.codecs.first().expect(rt, "no codec");
     must_eq(
         rt,
-        written.to_value(alloc)?.to_string(alloc)?.as_str(),
+        written
+            .to_value(alloc)
+            .expect(rt, "no refusal")
+            .to_string(alloc)
+            .expect(rt, "no refusal")
+            .as_str(),
         codec,
     );
-    Ok(())
 }
 
 #[test]
-fn numbers_keep_their_fill_values(rt: HostRuntime) -> Result<(), Fail> {
+fn numbers_keep_their_fill_values(rt: HostRuntime) {
     let alloc = rt.alloc();
     const LITTLE: &str = "{\"configuration\":{\"endian\":\"little\"},\"name\":\"bytes\"}";
     const BIG: &str = "{\"configuration\":{\"endian\":\"big\"},\"name\":\"bytes\"}";
@@ -332,14 +363,13 @@ fn numbers_keep_their_fill_values(rt: HostRuntime) -> Result<(), Fail> {
         ("\"<u8\"", "18446744073709551615", "uint64", LITTLE),
     ];
     for (dtype, fill, name, codec) in ROWS {
-        let document = converted(alloc, &[("dtype", dtype), ("fill_value", fill)])?;
-        must_have_type(&rt, alloc, &document, name, fill, codec)?;
+        let document = converted(&rt, alloc, &[("dtype", dtype), ("fill_value", fill)]);
+        must_have_type(&rt, alloc, &document, name, fill, codec);
     }
-    Ok(())
 }
 
 #[test]
-fn fill_values_of_other_kinds(rt: HostRuntime) -> Result<(), Fail> {
+fn fill_values_of_other_kinds(rt: HostRuntime) {
     let alloc = rt.alloc();
     const BOOLS: &[(&str, &str)] = &[
         ("true", "true"),
@@ -349,8 +379,8 @@ fn fill_values_of_other_kinds(rt: HostRuntime) -> Result<(), Fail> {
         ("null", "false"),
     ];
     for (fill, shown) in BOOLS {
-        let document = converted(alloc, &[("dtype", "\"|b1\""), ("fill_value", fill)])?;
-        must_have_type(&rt, alloc, &document, "bool", shown, "\"bytes\"")?;
+        let document = converted(&rt, alloc, &[("dtype", "\"|b1\""), ("fill_value", fill)]);
+        must_have_type(&rt, alloc, &document, "bool", shown, "\"bytes\"");
     }
     let filters = ("filters", "[{\"id\":\"vlen-utf8\"}]");
     const TEXTS: &[(&str, &str)] = &[
@@ -360,38 +390,42 @@ fn fill_values_of_other_kinds(rt: HostRuntime) -> Result<(), Fail> {
         ("null", "\"\""),
     ];
     for (fill, shown) in TEXTS {
-        let document = converted(alloc, &[("dtype", "\"|O\""), ("fill_value", fill), filters])?;
-        must_have_type(&rt, alloc, &document, "string", shown, "\"vlen-utf8\"")?;
+        let document = converted(
+            &rt,
+            alloc,
+            &[("dtype", "\"|O\""), ("fill_value", fill), filters],
+        );
+        must_have_type(&rt, alloc, &document, "string", shown, "\"vlen-utf8\"");
     }
-    Ok(())
 }
 
 fn refusal(
+    rt: &impl Abort,
     alloc: Global,
     changes: &[(&'static str, &'static str)],
-) -> Result<Option<ArrayMetadataV2ToV3Error>, Fail> {
-    Ok(array_metadata_v2_to_v3(alloc, &with_members(alloc, changes)?).err())
+) -> Option<ArrayMetadataV2ToV3Error> {
+    array_metadata_v2_to_v3(alloc, &with_members(rt, alloc, changes)).err()
 }
 
-fn must_have_no_type(rt: &impl Abort, alloc: Global, dtype: &'static str) -> Result<(), Fail> {
+fn must_have_no_type(rt: &impl Abort, alloc: Global, dtype: &'static str) {
     let refused = refusal(
+        rt,
         alloc,
         &[
             ("dtype", dtype),
             ("fill_value", "\"a\""),
             ("compressor", "{}"),
         ],
-    )?;
+    );
     let is_type = matches!(
         refused,
         Some(ArrayMetadataV2ToV3Error::UnsupportedDataType(_))
     );
     must_for(rt, dtype, is_type);
-    Ok(())
 }
 
 #[test]
-fn data_types_without_a_v3_name(rt: HostRuntime) -> Result<(), Fail> {
+fn data_types_without_a_v3_name(rt: HostRuntime) {
     let alloc = rt.alloc();
     const TYPES: &[&str] = &[
         "\"<f4\"",
@@ -410,31 +444,25 @@ fn data_types_without_a_v3_name(rt: HostRuntime) -> Result<(), Fail> {
         "\"|\"",
     ];
     for dtype in TYPES {
-        must_have_no_type(&rt, alloc, dtype)?;
+        must_have_no_type(&rt, alloc, dtype);
     }
-    Ok(())
 }
 
-fn must_have_no_fill(
-    rt: &impl Abort,
-    alloc: Global,
-    dtype: &'static str,
-    fill: &'static str,
-) -> Result<(), Fail> {
+fn must_have_no_fill(rt: &impl Abort, alloc: Global, dtype: &'static str, fill: &'static str) {
     let refused = refusal(
+        rt,
         alloc,
         &[("dtype", dtype), ("fill_value", fill), ("compressor", "{}")],
-    )?;
+    );
     let is_fill = matches!(
         refused,
         Some(ArrayMetadataV2ToV3Error::InvalidFillValueMetadata { .. })
     );
     must_for(rt, fill, is_fill);
-    Ok(())
 }
 
 #[test]
-fn fill_values_that_are_none_of_the_type(rt: HostRuntime) -> Result<(), Fail> {
+fn fill_values_that_are_none_of_the_type(rt: HostRuntime) {
     let alloc = rt.alloc();
     const ROWS: &[(&str, &str)] = &[
         ("\"|b1\"", "2"),
@@ -453,27 +481,21 @@ fn fill_values_that_are_none_of_the_type(rt: HostRuntime) -> Result<(), Fail> {
         ("\"|O\"", "true"),
     ];
     for (dtype, fill) in ROWS {
-        must_have_no_fill(&rt, alloc, dtype, fill)?;
+        must_have_no_fill(&rt, alloc, dtype, fill);
     }
-    Ok(())
 }
 
-fn must_have_no_codecs(
-    rt: &impl Abort,
-    alloc: Global,
-    changes: &[(&'static str, &'static str)],
-) -> Result<(), Fail> {
-    let refused = refusal(alloc, changes)?;
+fn must_have_no_codecs(rt: &impl Abort, alloc: Global, changes: &[(&'static str, &'static str)]) {
+    let refused = refusal(rt, alloc, changes);
     let is_codec = matches!(
         refused,
         Some(ArrayMetadataV2ToV3Error::UnsupportedZarrV2Array(_))
     );
     must(rt, is_codec);
-    Ok(())
 }
 
 #[test]
-fn compressors_and_filters_without_a_codec(rt: HostRuntime) -> Result<(), Fail> {
+fn compressors_and_filters_without_a_codec(rt: HostRuntime) {
     let alloc = rt.alloc();
     let text = ("dtype", "\"|O\"");
     let fill = ("fill_value", "null");
@@ -481,20 +503,20 @@ fn compressors_and_filters_without_a_codec(rt: HostRuntime) -> Result<(), Fail> 
         &rt,
         alloc,
         &[("compressor", "{\"id\":\"zlib\",\"level\":1}")],
-    )?;
-    must_have_no_codecs(&rt, alloc, &[("filters", "[{\"id\":\"vlen-utf8\"}]")])?;
-    must_have_no_codecs(&rt, alloc, &[text, fill])?;
-    must_have_no_codecs(&rt, alloc, &[text, fill, ("filters", "[]")])?;
+    );
+    must_have_no_codecs(&rt, alloc, &[("filters", "[{\"id\":\"vlen-utf8\"}]")]);
+    must_have_no_codecs(&rt, alloc, &[text, fill]);
+    must_have_no_codecs(&rt, alloc, &[text, fill, ("filters", "[]")]);
     must_have_no_codecs(
         &rt,
         alloc,
         &[text, fill, ("filters", "[{\"id\":\"vlen-bytes\"}]")],
-    )?;
+    );
     must_have_no_codecs(
         &rt,
         alloc,
         &[text, fill, ("filters", "[{\"id\":\"vlen-utf8\",\"x\":1}]")],
-    )?;
+    );
     let twice = ("filters", "[{\"id\":\"vlen-utf8\"},{\"id\":\"vlen-utf8\"}]");
     must_have_no_codecs(&rt, alloc, &[text, fill, twice])
 }
@@ -504,27 +526,30 @@ fn must_print(
     alloc: Global,
     changes: &[(&'static str, &'static str)],
     text: &str,
-) -> Result<(), Fail> {
-    let refused = refusal(alloc, changes)?.ok_or("it is converted")?;
-    must_eq(rt, refused.to_string(alloc)?.as_str(), text);
-    Ok(())
+) {
+    let refused = refusal(rt, alloc, changes).expect(rt, "it is converted");
+    must_eq(
+        rt,
+        refused.to_string(alloc).expect(rt, "no refusal").as_str(),
+        text,
+    );
 }
 
 #[test]
-fn texts_of_refusals(rt: HostRuntime) -> Result<(), Fail> {
+fn texts_of_refusals(rt: HostRuntime) {
     let alloc = rt.alloc();
     must_print(
         &rt,
         alloc,
         &[("dtype", "\"<i4\""), ("fill_value", "\"invalid\"")],
         "invalid fill value metadata for data type `<i4`: \"invalid\"",
-    )?;
+    );
     must_print(
         &rt,
         alloc,
         &[("dtype", "\"<f4\"")],
         "unsupported Zarr V2 data type: <f4",
-    )?;
+    );
     must_print(
         &rt,
         alloc,
@@ -534,57 +559,59 @@ fn texts_of_refusals(rt: HostRuntime) -> Result<(), Fail> {
 }
 
 #[test]
-fn chunks_of_other_dimensions_are_converted(rt: HostRuntime) -> Result<(), Fail> {
+fn chunks_of_other_dimensions_are_converted(rt: HostRuntime) {
     let alloc = rt.alloc();
-    let document = converted(alloc, &[("chunks", "[2]"), ("order", "\"F\"")])?;
-    let grid = document.chunk_grid.to_value(alloc)?.to_string(alloc)?;
+    let document = converted(&rt, alloc, &[("chunks", "[2]"), ("order", "\"F\"")]);
+    let grid = document
+        .chunk_grid
+        .to_value(alloc)
+        .expect(&rt, "no refusal")
+        .to_string(alloc)
+        .expect(&rt, "no refusal");
     must_eq(
         &rt,
         grid.as_str(),
         "{\"configuration\":{\"chunk_shape\":[2]},\"name\":\"regular\"}",
     );
-    Ok(())
 }
 
-fn must_be_version(
-    rt: &impl Abort,
-    alloc: Global,
-    metadata: &ArrayMetadata,
-    version: u64,
-) -> Result<(), Fail> {
-    let value = metadata.to_value(alloc)?;
+fn must_be_version(rt: &impl Abort, alloc: Global, metadata: &ArrayMetadata, version: u64) {
+    let value = metadata.to_value(alloc).expect(rt, "no refusal");
     let found = value.get("zarr_format").and_then(Value::as_u64);
     must(rt, found == Some(version));
-    Ok(())
 }
 
-fn metadata(alloc: Global, value: Value) -> Result<ArrayMetadata, Fail> {
-    Ok(ArrayMetadata::from_value(alloc, value)?)
+fn metadata(rt: &impl Abort, alloc: Global, value: Value) -> ArrayMetadata {
+    ArrayMetadata::from_value(alloc, value).expect(rt, "no refusal")
 }
 
 /// Metadata of a V3 document, made of it or read, says its version.
-fn must_be_v3(rt: &impl Abort, alloc: Global) -> Result<(), Fail> {
-    let document = converted(alloc, &[])?;
-    must_be_version(rt, alloc, &metadata(alloc, document.to_value(alloc)?)?, 3)?;
+fn must_be_v3(rt: &impl Abort, alloc: Global) {
+    let document = converted(rt, alloc, &[]);
+    must_be_version(
+        rt,
+        alloc,
+        &metadata(rt, alloc, document.to_value(alloc).expect(rt, "no refusal")),
+        3,
+    );
     must_be_version(rt, alloc, &ArrayMetadata::from(document), 3)
 }
 
 /// The same of a V2 document.
-fn must_be_v2(rt: &impl Abort, alloc: Global) -> Result<(), Fail> {
-    let read = metadata(alloc, Value::Object(small(alloc)?))?;
-    must_be_version(rt, alloc, &read, 2)?;
-    must_be_version(rt, alloc, &ArrayMetadata::from(made(alloc)?), 2)
+fn must_be_v2(rt: &impl Abort, alloc: Global) {
+    let read = metadata(rt, alloc, Value::Object(small(rt, alloc)));
+    must_be_version(rt, alloc, &read, 2);
+    must_be_version(rt, alloc, &ArrayMetadata::from(made(rt, alloc)), 2)
 }
 
 #[test]
-fn metadata_of_both_versions(rt: HostRuntime) -> Result<(), Fail> {
+fn metadata_of_both_versions(rt: HostRuntime) {
     let alloc = rt.alloc();
-    must_be_v3(&rt, alloc)?;
-    must_be_v2(&rt, alloc)?;
-    let neither = json!(in alloc; {"zarr_format": 4})?;
+    must_be_v3(&rt, alloc);
+    must_be_v2(&rt, alloc);
+    let neither = json!(in alloc; {"zarr_format": 4}).expect(&rt, "no refusal");
     let refused = ArrayMetadata::from_value(alloc, neither);
     must(&rt, matches!(refused, Err(MetadataError::InvalidShape)));
-    Ok(())
 }
 
 fn must_be_order(
@@ -600,13 +627,12 @@ fn must_be_order(
 }
 
 #[test]
-fn orders(rt: HostRuntime) -> Result<(), Fail> {
+fn orders(rt: HostRuntime) {
     let alloc = rt.alloc();
-    must_be_order(&rt, alloc, ArrayMetadataV2Order::C, "C")?;
-    must_be_order(&rt, alloc, ArrayMetadataV2Order::F, "F")?;
+    must_be_order(&rt, alloc, ArrayMetadataV2Order::C, "C").expect(&rt, "no refusal");
+    must_be_order(&rt, alloc, ArrayMetadataV2Order::F, "F").expect(&rt, "no refusal");
     must(
         &rt,
         ArrayMetadataV2Order::from_value(&Value::Null).is_none(),
     );
-    Ok(())
 }

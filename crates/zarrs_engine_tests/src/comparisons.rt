@@ -3,7 +3,6 @@ use crate::checks::must_for;
 use crate::steps::{EngineOver, MemoryEngine, Value, bytes_engine, no_chunk, region, store_of};
 use std::alloc::Global;
 use std::process::Abort;
-use std::test::Fail;
 use zarrs_engine::{ArrayError, chunks_equal};
 use zarrs_storage::{Bytes, Fault, MemoryStore, StorageError, StoreKey, WritableStorageTraits};
 
@@ -22,19 +21,24 @@ enum Answer {
 type Row = (&'static [u64], &'static [u64], Answer);
 
 /// An array of 4 by 4 bytes in chunks of 2 by 2, with these values.
-fn engine_of(alloc: Global, values: &[Value]) -> Result<MemoryEngine, Fail> {
-    bytes_engine(alloc, store_of(alloc, values)?, &[4, 4], &[2, 2], 0)
+fn engine_of(rt: &impl Abort, alloc: Global, values: &[Value]) -> MemoryEngine {
+    bytes_engine(rt, alloc, store_of(rt, alloc, values), &[4, 4], &[2, 2], 0)
 }
 
 /// The same, over a store that refuses to read one key.
 fn faulty_engine(
+    rt: &impl Abort,
     alloc: Global,
     values: &[Value],
     key: &str,
-) -> Result<EngineOver<Fault<MemoryStore>>, Fail> {
-    let key = StoreKey::new(alloc, key)?;
-    let storage = Fault::new(store_of(alloc, values)?, vec![in alloc; key]?, None);
-    bytes_engine(alloc, storage, &[4, 4], &[2, 2], 0)
+) -> EngineOver<Fault<MemoryStore>> {
+    let key = StoreKey::new(alloc, key).expect(rt, "no refusal");
+    let storage = Fault::new(
+        store_of(rt, alloc, values),
+        vec![in alloc; key].expect(rt, "no refusal"),
+        None,
+    );
+    bytes_engine(rt, alloc, storage, &[4, 4], &[2, 2], 0)
 }
 
 /// A caller asks the engines for the number of dimensions before it compares chunks.
@@ -113,7 +117,7 @@ fn must_answer_faulty(
 
 /// The stores differ in chunk [0, 1] by its bytes, and in chunk [1, 0], which one of them has.
 #[test]
-fn chunks_are_equal_or_both_absent(rt: HostRuntime) -> Result<(), Fail> {
+fn chunks_are_equal_or_both_absent(rt: HostRuntime) {
     const ONE: &[Value] = &[
         ("c/0/0", &[1, 2, 3, 4]),
         ("c/0/1", &[5, 5, 5, 5]),
@@ -129,55 +133,51 @@ fn chunks_are_equal_or_both_absent(rt: HostRuntime) -> Result<(), Fail> {
         (&[0, 0], &[2, 2], Answer::Different),
         (&[0, 2], &[9, 9], Answer::Equal),
     ];
-    let a = engine_of(rt.alloc(), ONE)?;
-    let b = engine_of(rt.alloc(), TWO)?;
+    let a = engine_of(&rt, rt.alloc(), ONE);
+    let b = engine_of(&rt, rt.alloc(), TWO);
     must_answer(&rt, rt.alloc(), &a, &b, ROWS);
-    Ok(())
 }
 
 /// An empty range has no chunk that differs, and one of more chunks than a number counts is not begun.
 #[test]
-fn ranges_without_chunks_and_with_too_many(rt: HostRuntime) -> Result<(), Fail> {
+fn ranges_without_chunks_and_with_too_many(rt: HostRuntime) {
     const ROWS: &[Row] = &[
         (&[0, 0], &[0, 3], Answer::Equal),
         (&[0, 0], &[1 << 32, 1 << 32], Answer::TooMany),
     ];
-    let a = engine_of(rt.alloc(), &[("c/0/0", &[1, 2, 3, 4])])?;
-    let b = engine_of(rt.alloc(), &[])?;
+    let a = engine_of(&rt, rt.alloc(), &[("c/0/0", &[1, 2, 3, 4])]);
+    let b = engine_of(&rt, rt.alloc(), &[]);
     must_answer(&rt, rt.alloc(), &a, &b, ROWS);
-    Ok(())
 }
 
 /// The key of chunk [0, 1] refuses. A difference before it ends the comparison.
 #[test]
-fn a_key_that_refuses_ends_the_comparison(rt: HostRuntime) -> Result<(), Fail> {
+fn a_key_that_refuses_ends_the_comparison(rt: HostRuntime) {
     const ROWS: &[Row] = &[
         (&[0, 1], &[1, 1], Answer::Faulty),
         (&[0, 1], &[2, 1], Answer::Faulty),
         (&[1, 0], &[1, 2], Answer::Equal),
         (&[0, 0], &[1, 2], Answer::Different),
     ];
-    let a = faulty_engine(rt.alloc(), &[("c/0/0", &[1, 2, 3, 4])], "c/0/1")?;
-    let b = engine_of(rt.alloc(), &[])?;
+    let a = faulty_engine(&rt, rt.alloc(), &[("c/0/0", &[1, 2, 3, 4])], "c/0/1");
+    let b = engine_of(&rt, rt.alloc(), &[]);
     must_answer_faulty(&rt, rt.alloc(), &a, &b, ROWS);
-    Ok(())
 }
 
 /// Puts bytes at a key of the store that the engine lends.
-fn put_into_store(alloc: Global, engine: &mut MemoryEngine) -> Result<(), Fail> {
-    let key = StoreKey::new(alloc, "c/1/1")?;
+fn put_into_store(rt: &impl Abort, alloc: Global, engine: &mut MemoryEngine) {
+    let key = StoreKey::new(alloc, "c/1/1").expect(rt, "no refusal");
     engine
         .storage_mut()
-        .set(alloc, &key, Bytes::from_static(&[7; 4]))?;
-    Ok(())
+        .set(alloc, &key, Bytes::from_static(&[7; 4]))
+        .expect(rt, "no refusal");
 }
 
 #[test]
-fn a_store_that_was_lent_has_what_was_put_into_it(rt: HostRuntime) -> Result<(), Fail> {
+fn a_store_that_was_lent_has_what_was_put_into_it(rt: HostRuntime) {
     const ROWS: &[Row] = &[(&[1, 1], &[1, 1], Answer::Equal)];
-    let mut a = engine_of(rt.alloc(), &[])?;
-    let b = engine_of(rt.alloc(), &[("c/1/1", &[7; 4])])?;
-    put_into_store(rt.alloc(), &mut a)?;
+    let mut a = engine_of(&rt, rt.alloc(), &[]);
+    let b = engine_of(&rt, rt.alloc(), &[("c/1/1", &[7; 4])]);
+    put_into_store(&rt, rt.alloc(), &mut a);
     must_answer(&rt, rt.alloc(), &a, &b, ROWS);
-    Ok(())
 }

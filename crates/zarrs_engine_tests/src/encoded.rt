@@ -2,10 +2,9 @@
 use crate::steps::Answer::{Done, Encoded, TooMany};
 use crate::steps::Step::{ReadEncoded, ReadEncodedRange, Store};
 use crate::steps::{Case, must_answer};
-use std::test::Fail;
 
 #[test]
-fn stored_bytes_are_returned_and_absent_chunks_are_none(rt: HostRuntime) -> Result<(), Fail> {
+fn stored_bytes_are_returned_and_absent_chunks_are_none(rt: HostRuntime) {
     const CASE: Case = Case {
         shape: &[4, 4],
         chunk_shape: &[2, 2],
@@ -20,7 +19,7 @@ fn stored_bytes_are_returned_and_absent_chunks_are_none(rt: HostRuntime) -> Resu
 }
 
 #[test]
-fn the_bytes_of_a_range_come_in_row_major_order(rt: HostRuntime) -> Result<(), Fail> {
+fn the_bytes_of_a_range_come_in_row_major_order(rt: HostRuntime) {
     const CASE: Case = Case {
         shape: &[4, 4],
         chunk_shape: &[2, 2],
@@ -42,7 +41,7 @@ fn the_bytes_of_a_range_come_in_row_major_order(rt: HostRuntime) -> Result<(), F
 }
 
 #[test]
-fn more_chunks_than_a_number_counts_are_refused(rt: HostRuntime) -> Result<(), Fail> {
+fn more_chunks_than_a_number_counts_are_refused(rt: HostRuntime) {
     const CASE: Case = Case {
         shape: &[4, 4],
         chunk_shape: &[2, 2],

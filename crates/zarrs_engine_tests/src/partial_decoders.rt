@@ -3,7 +3,6 @@ use crate::checks::{must, must_for};
 use crate::steps::{EngineOver, MemoryEngine, Value, bytes_engine, region, store_of};
 use std::alloc::Global;
 use std::process::Abort;
-use std::test::Fail;
 use zarrs_codec::{CodecError, CodecOptions};
 use zarrs_data_type::ArrayBytes;
 use zarrs_engine::ArrayError;
@@ -29,9 +28,9 @@ enum Answer {
 type Row = (&'static [u64], &'static [u64], &'static [u64], Answer);
 
 /// An array of 8 bytes in chunks of 4, fill 9, of which chunk 1 has the cells 1 to 4 and chunk 2 bytes that are no chunk.
-fn engine_of(alloc: Global) -> Result<MemoryEngine, Fail> {
+fn engine_of(rt: &impl Abort, alloc: Global) -> MemoryEngine {
     const VALUES: &[Value] = &[("c/1", &[1, 2, 3, 4]), ("c/2", &[1, 2, 3])];
-    bytes_engine(alloc, store_of(alloc, VALUES)?, &[8], &[4], 9)
+    bytes_engine(rt, alloc, store_of(rt, alloc, VALUES), &[8], &[4], 9)
 }
 
 fn is_refused(error: &ArrayError, answer: &Answer) -> bool {
@@ -85,7 +84,7 @@ fn must_answer(rt: &impl Abort, alloc: Global, engine: &MemoryEngine, rows: &[Ro
 }
 
 #[test]
-fn parts_of_chunks_are_read(rt: HostRuntime) -> Result<(), Fail> {
+fn parts_of_chunks_are_read(rt: HostRuntime) {
     const ROWS: &[Row] = &[
         (&[1], &[1], &[2], Answer::Cells(&[2, 3])),
         (&[1], &[0], &[4], Answer::Cells(&[1, 2, 3, 4])),
@@ -93,36 +92,33 @@ fn parts_of_chunks_are_read(rt: HostRuntime) -> Result<(), Fail> {
         (&[0], &[2], &[2], Answer::Cells(&[9, 9])),
         (&[5], &[0], &[4], Answer::Cells(&[9, 9, 9, 9])),
     ];
-    let engine = engine_of(rt.alloc())?;
+    let engine = engine_of(&rt, rt.alloc());
     must_answer(&rt, rt.alloc(), &engine, ROWS);
-    Ok(())
 }
 
 #[test]
-fn parts_that_do_not_lie_in_the_chunk_are_refused(rt: HostRuntime) -> Result<(), Fail> {
+fn parts_that_do_not_lie_in_the_chunk_are_refused(rt: HostRuntime) {
     const ROWS: &[Row] = &[
         (&[1], &[3], &[2], Answer::Part(&[1], &[4])),
         (&[1], &[5], &[0], Answer::Part(&[1], &[4])),
         (&[1], &[0, 0], &[1, 1], Answer::Part(&[1], &[4])),
         (&[2], &[3], &[2], Answer::Part(&[2], &[4])),
     ];
-    let engine = engine_of(rt.alloc())?;
+    let engine = engine_of(&rt, rt.alloc());
     must_answer(&rt, rt.alloc(), &engine, ROWS);
-    Ok(())
 }
 
 /// The chunk of the number `1 << 62` would end past the numbers.
 #[test]
-fn chunks_that_are_not_there_and_bytes_that_are_no_chunk(rt: HostRuntime) -> Result<(), Fail> {
+fn chunks_that_are_not_there_and_bytes_that_are_no_chunk(rt: HostRuntime) {
     const ROWS: &[Row] = &[
         (&[0, 1], &[0], &[1], Answer::NoChunk(&[0, 1])),
         (&[], &[0], &[1], Answer::NoChunk(&[])),
         (&[1 << 62], &[0], &[1], Answer::NoChunk(&[1 << 62])),
         (&[2], &[0], &[4], Answer::Unfit),
     ];
-    let engine = engine_of(rt.alloc())?;
+    let engine = engine_of(&rt, rt.alloc());
     must_answer(&rt, rt.alloc(), &engine, ROWS);
-    Ok(())
 }
 
 /// Reads a part of a chunk into the place of two bytes in the middle of four bytes 8.
@@ -166,7 +162,7 @@ fn must_read_into(rt: &impl Abort, alloc: Global, engine: &MemoryEngine, rows: &
 }
 
 #[test]
-fn parts_of_chunks_are_read_into_boxes(rt: HostRuntime) -> Result<(), Fail> {
+fn parts_of_chunks_are_read_into_boxes(rt: HostRuntime) {
     const ROWS: &[Row] = &[
         (&[1], &[1], &[2], Answer::Cells(&[8, 2, 3, 8])),
         (&[0], &[2], &[2], Answer::Cells(&[8, 9, 9, 8])),
@@ -175,9 +171,8 @@ fn parts_of_chunks_are_read_into_boxes(rt: HostRuntime) -> Result<(), Fail> {
         (&[2], &[0], &[2], Answer::Unfit),
         (&[], &[0], &[2], Answer::NoChunk(&[])),
     ];
-    let engine = engine_of(rt.alloc())?;
+    let engine = engine_of(&rt, rt.alloc());
     must_read_into(&rt, rt.alloc(), &engine, ROWS);
-    Ok(())
 }
 
 fn exists(alloc: Global, engine: &MemoryEngine, index: u64) -> Result<bool, ArrayError> {
@@ -185,42 +180,40 @@ fn exists(alloc: Global, engine: &MemoryEngine, index: u64) -> Result<bool, Arra
 }
 
 /// A chunk is present if its key is, whatever its bytes are.
-fn must_exist(rt: &impl Abort, alloc: Global, engine: &MemoryEngine) -> Result<(), Fail> {
-    must(rt, !exists(alloc, engine, 0)?);
-    must(rt, exists(alloc, engine, 1)?);
-    must(rt, exists(alloc, engine, 2)?);
-    Ok(())
+fn must_exist(rt: &impl Abort, alloc: Global, engine: &MemoryEngine) {
+    must(rt, !exists(alloc, engine, 0).expect(rt, "no refusal"));
+    must(rt, exists(alloc, engine, 1).expect(rt, "no refusal"));
+    must(rt, exists(alloc, engine, 2).expect(rt, "no refusal"));
 }
 
 #[test]
-fn chunks_exist_if_their_keys_are_present(rt: HostRuntime) -> Result<(), Fail> {
-    let engine = engine_of(rt.alloc())?;
+fn chunks_exist_if_their_keys_are_present(rt: HostRuntime) {
+    let engine = engine_of(&rt, rt.alloc());
     must_exist(&rt, rt.alloc(), &engine)
 }
 
 /// An array of 8 bytes in chunks of 4, over a store that refuses the key of chunk 1.
-fn faulty_engine(alloc: Global) -> Result<EngineOver<Fault<MemoryStore>>, Fail> {
-    let key = StoreKey::new(alloc, "c/1")?;
-    let storage = Fault::new(MemoryStore::new(alloc), vec![in alloc; key]?, None);
-    bytes_engine(alloc, storage, &[8], &[4], 9)
+fn faulty_engine(rt: &impl Abort, alloc: Global) -> EngineOver<Fault<MemoryStore>> {
+    let key = StoreKey::new(alloc, "c/1").expect(rt, "no refusal");
+    let storage = Fault::new(
+        MemoryStore::new(alloc),
+        vec![in alloc; key].expect(rt, "no refusal"),
+        None,
+    );
+    bytes_engine(rt, alloc, storage, &[8], &[4], 9)
 }
 
 /// No key is asked before a part is read.
-fn must_refuse(
-    rt: &impl Abort,
-    alloc: Global,
-    engine: &EngineOver<Fault<MemoryStore>>,
-) -> Result<(), Fail> {
-    let part = region(alloc, &[1], &[2])?;
-    let decoder = engine.partial_decoder(alloc, &[1])?;
+fn must_refuse(rt: &impl Abort, alloc: Global, engine: &EngineOver<Fault<MemoryStore>>) {
+    let part = region(alloc, &[1], &[2]).expect(rt, "no refusal");
+    let decoder = engine.partial_decoder(alloc, &[1]).expect(rt, "no refusal");
     let got = decoder.partial_decode(alloc, &part, &CodecOptions::default());
     must(rt, refuses(&got, &Answer::Faulty));
     must(rt, refuses(&decoder.exists(alloc), &Answer::Faulty));
-    Ok(())
 }
 
 #[test]
-fn a_key_that_refuses_refuses_the_read(rt: HostRuntime) -> Result<(), Fail> {
-    let engine = faulty_engine(rt.alloc())?;
+fn a_key_that_refuses_refuses_the_read(rt: HostRuntime) {
+    let engine = faulty_engine(&rt, rt.alloc());
     must_refuse(&rt, rt.alloc(), &engine)
 }

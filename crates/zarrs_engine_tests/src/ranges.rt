@@ -7,28 +7,27 @@ use crate::steps::{
 };
 use std::alloc::Global;
 use std::process::Abort;
-use std::test::Fail;
 use zarrs_codec::CodecOptions;
 use zarrs_engine::replay;
 use zarrs_storage::{Bytes, Fault, MemoryStore, StoreKey, WritableStorageTraits};
 
 /// An array of 6 by 2 bytes in 3 by 1 chunks of 2 by 2, of which chunks 0 and 2 are present.
-fn two_of_three(rt: &impl Abort, alloc: Global) -> Result<MemoryEngine, Fail> {
-    let mut engine = bytes_engine(alloc, MemoryStore::new(alloc), &[6, 2], &[2, 2], 0)?;
+fn two_of_three(rt: &impl Abort, alloc: Global) -> MemoryEngine {
+    let mut engine = bytes_engine(rt, alloc, MemoryStore::new(alloc), &[6, 2], &[2, 2], 0);
     const ROWS: &[Row] = &[
         (Store(&[0, 0], &[1, 2, 3, 4]), Done),
         (Store(&[2, 0], &[5, 6, 7, 8]), Done),
     ];
     must_go_on(rt, alloc, &mut engine, ROWS);
-    Ok(engine)
+    engine
 }
 
 #[test]
-fn present_and_absent_chunks_are_erased(rt: HostRuntime) -> Result<(), Fail> {
+fn present_and_absent_chunks_are_erased(rt: HostRuntime) {
     let alloc = rt.alloc();
-    let mut engine = two_of_three(&rt, alloc)?;
+    let mut engine = two_of_three(&rt, alloc);
     const ROWS: &[Row] = &[(EraseRange(&[1, 0], &[2, 1]), Done)];
-    must_go_on_in_list(&rt, alloc, &mut engine, ROWS)?;
+    must_go_on_in_list(&rt, alloc, &mut engine, ROWS);
     const NEXT: &[Row] = &[
         (Read(&[0, 0]), Cells(&[1, 2, 3, 4])),
         (ReadIfPresent(&[1, 0]), Absent),
@@ -36,50 +35,50 @@ fn present_and_absent_chunks_are_erased(rt: HostRuntime) -> Result<(), Fail> {
         (Count, Counts(1, 4, 0)),
     ];
     must_go_on(&rt, alloc, &mut engine, NEXT);
-    Ok(())
 }
 
 #[test]
-fn an_empty_range_asks_nothing(rt: HostRuntime) -> Result<(), Fail> {
+fn an_empty_range_asks_nothing(rt: HostRuntime) {
     let alloc = rt.alloc();
-    let mut engine = two_of_three(&rt, alloc)?;
+    let mut engine = two_of_three(&rt, alloc);
     const ROWS: &[Row] = &[
         (EraseRange(&[0, 0], &[3, 0]), Done),
         (EraseRange(&[7, 7], &[0, 0]), Done),
     ];
-    must_go_on_in_list(&rt, alloc, &mut engine, ROWS)?;
+    must_go_on_in_list(&rt, alloc, &mut engine, ROWS);
     const NEXT: &[Row] = &[
         (ReadIfPresent(&[0, 0]), Cells(&[1, 2, 3, 4])),
         (Count, Counts(2, 2, 0)),
     ];
     must_go_on(&rt, alloc, &mut engine, NEXT);
-    Ok(())
 }
 
 /// A range may go past the grid, where no chunk is present.
 #[test]
-fn chunks_past_the_grid_are_absent(rt: HostRuntime) -> Result<(), Fail> {
+fn chunks_past_the_grid_are_absent(rt: HostRuntime) {
     let alloc = rt.alloc();
-    let mut engine = two_of_three(&rt, alloc)?;
+    let mut engine = two_of_three(&rt, alloc);
     const ROWS: &[Row] = &[(EraseRange(&[2, 0], &[2, 2]), Done)];
-    must_go_on_in_list(&rt, alloc, &mut engine, ROWS)?;
+    must_go_on_in_list(&rt, alloc, &mut engine, ROWS);
     const NEXT: &[Row] = &[
         (ReadIfPresent(&[0, 0]), Cells(&[1, 2, 3, 4])),
         (ReadIfPresent(&[2, 0]), Absent),
         (Count, Counts(1, 6, 0)),
     ];
     must_go_on(&rt, alloc, &mut engine, NEXT);
-    Ok(())
 }
 
 /// An array of 6 bytes in 3 chunks of 2, all cells 1, over a store that refuses its second writing call.
-fn faulty_engine(alloc: Global) -> Result<EngineOver<Fault<MemoryStore>>, Fail> {
+fn faulty_engine(rt: &impl Abort, alloc: Global) -> EngineOver<Fault<MemoryStore>> {
     let mut storage = MemoryStore::new(alloc);
     for name in ["c/0", "c/1", "c/2"] {
-        let key = StoreKey::new(alloc, name)?;
-        storage.set(alloc, &key, Bytes::from_static(&[1, 1]))?;
+        let key = StoreKey::new(alloc, name).expect(rt, "no refusal");
+        storage
+            .set(alloc, &key, Bytes::from_static(&[1, 1]))
+            .expect(rt, "no refusal");
     }
     bytes_engine(
+        rt,
         alloc,
         Fault::new(storage, Vec::new(alloc), Some(2)),
         &[6],
@@ -98,18 +97,23 @@ fn must_hold_two_keys(rt: &impl Abort, keys: &[StoreKey]) {
 }
 
 #[test]
-fn a_range_is_erased_up_to_a_refusal(rt: HostRuntime) -> Result<(), Fail> {
+fn a_range_is_erased_up_to_a_refusal(rt: HostRuntime) {
     let alloc = rt.alloc();
-    let mut engine = faulty_engine(alloc)?;
+    let mut engine = faulty_engine(&rt, alloc);
     const ROWS: &[Row] = &[
         (EraseRange(&[0], &[3]), Faulty),
         (EraseRange(&[1, 0], &[2, 1]), NoChunk(&[1, 0])),
     ];
-    let calls = list_of(alloc, ROWS)?;
-    let replies = replay(alloc, &mut engine, &calls, &CodecOptions::default())?;
+    let calls = list_of(&rt, alloc, ROWS);
+    let replies = replay(alloc, &mut engine, &calls, &CodecOptions::default()).expect(
+        &rt,
+        "no refusal",
+    );
     must_be(&rt, &replies, ROWS);
     let storage = engine.into_storage();
     must_eq(&rt, storage.calls(), 2);
-    must_hold_two_keys(&rt, &storage.into_inner().keys(alloc)?);
-    Ok(())
+    must_hold_two_keys(
+        &rt,
+        &storage.into_inner().keys(alloc).expect(&rt, "no refusal"),
+    );
 }

@@ -3,7 +3,6 @@ use crate::checks::{must_eq, must_for};
 use std::alloc::Global;
 use std::num::NonZeroU64;
 use std::process::Abort;
-use std::test::Fail;
 use zarrs_chunk_grid::RegularChunkGrid;
 use zarrs_codec::{
     ArrayToBytesCodec, BytesCodec, BytesToBytesCodecs, CodecChain, CodecError, CodecOptions,
@@ -22,52 +21,63 @@ pub(crate) type MemoryEngine = EngineOver<MemoryStore>;
 pub(crate) type Value = (&'static str, &'static [u8]);
 
 /// A store with these values.
-pub(crate) fn store_of(alloc: Global, values: &[Value]) -> Result<MemoryStore, Fail> {
+pub(crate) fn store_of(rt: &impl Abort, alloc: Global, values: &[Value]) -> MemoryStore {
     let mut storage = MemoryStore::new(alloc);
     for (key, bytes) in values {
-        let key = StoreKey::new(alloc, key)?;
-        storage.set(alloc, &key, Bytes::from_static(bytes))?;
+        let key = StoreKey::new(alloc, key).expect(rt, "no refusal");
+        storage
+            .set(alloc, &key, Bytes::from_static(bytes))
+            .expect(rt, "no refusal");
     }
-    Ok(storage)
+    storage
 }
 
 /// An array of bytes at `/` of this shape, in chunks of that shape, over the store.
 pub(crate) fn bytes_engine<S: Drop>(
+    rt: &impl Abort,
     alloc: Global,
     storage: S,
     shape: &[u64],
     chunk: &[u64],
     fill: u8,
-) -> Result<EngineOver<S>, Fail> {
-    engine_over(alloc, storage, shape, chunk, DataType::UInt8, &[fill])
+) -> EngineOver<S> {
+    engine_over(rt, alloc, storage, shape, chunk, DataType::UInt8, &[fill])
 }
 
 /// An array of the type at `/` of this shape, in chunks of that shape, over the store. Its chain is `bytes` alone.
 pub(crate) fn engine_over<S: Drop>(
+    rt: &impl Abort,
     alloc: Global,
     storage: S,
     shape: &[u64],
     chunk: &[u64],
     data_type: DataType,
     fill: &[u8],
-) -> Result<EngineOver<S>, Fail> {
+) -> EngineOver<S> {
     let mut chunk_shape = Vec::new(alloc);
     for extent in chunk {
-        chunk_shape.push(NonZeroU64::new(*extent).ok_or("an extent is 0")?)?;
+        chunk_shape
+            .push(NonZeroU64::new(*extent).expect(rt, "an extent is 0"))
+            .expect(rt, "no refusal");
     }
-    let grid = RegularChunkGrid::new(alloc, shape.to_vec(alloc)?, chunk_shape)?;
-    let path = NodePath::new(alloc, "/")?;
+    let grid = RegularChunkGrid::new(
+        alloc,
+        shape.to_vec(alloc).expect(rt, "no refusal"),
+        chunk_shape,
+    )
+    .expect(rt, "no refusal");
+    let path = NodePath::new(alloc, "/").expect(rt, "no refusal");
     let keys = ChunkKeyEncoding::Default(ChunkKeySeparator::Slash);
     let chain = CodecChain::new(
         Vec::new(alloc),
         ArrayToBytesCodec::Bytes(BytesCodec::little()),
         BytesToBytesCodecs,
     );
-    let fill_value = FillValue::new(fill.to_vec(alloc)?);
+    let fill_value = FillValue::new(fill.to_vec(alloc).expect(rt, "no refusal"));
     if !data_type.is_fill(fill_value.as_bytes()) {
-        return Err("no fill value of the type".into());
+        return rt.panic("no fill value of the type");
     }
-    Ok(Engine::new(storage, path, grid, keys, chain, data_type, fill_value))
+    Engine::new(storage, path, grid, keys, chain, data_type, fill_value)
 }
 
 /// A call of an engine. A chunk is named by its indices, a range of chunks by its start and its shape.
@@ -246,14 +256,19 @@ fn make(alloc: Global, engine: &mut MemoryEngine, step: &Step) -> Result<Got, Ar
 }
 
 /// The call of a list of calls, if it can stand there.
-fn call_of(alloc: Global, step: &Step) -> Result<Call, Fail> {
-    Ok(match step {
-        Step::Erase(indices) => Call::EraseChunk(indices.to_vec(alloc)?),
-        Step::EraseRange(start, shape) => Call::EraseChunks(region(alloc, start, shape)?),
-        Step::Read(indices) => Call::RetrieveChunk(indices.to_vec(alloc)?),
-        Step::ReadIfPresent(indices) => Call::RetrieveChunkIfExists(indices.to_vec(alloc)?),
-        _ => return Err("no call of a list".into()),
-    })
+fn call_of(rt: &impl Abort, alloc: Global, step: &Step) -> Call {
+    match step {
+        Step::Erase(indices) => Call::EraseChunk(indices.to_vec(alloc).expect(rt, "no refusal")),
+        Step::EraseRange(start, shape) => Call::EraseChunks(region(alloc, start, shape).expect(
+            rt,
+            "no refusal",
+        )),
+        Step::Read(indices) => Call::RetrieveChunk(indices.to_vec(alloc).expect(rt, "no refusal")),
+        Step::ReadIfPresent(indices) => Call::RetrieveChunkIfExists(
+            indices.to_vec(alloc).expect(rt, "no refusal"),
+        ),
+        _ => return rt.panic("no call of a list"),
+    }
 }
 
 fn are_encoded(held: &[Option<Vec<u8>>], wanted: &[Option<&[u8]>]) -> bool {
@@ -311,11 +326,10 @@ pub(crate) struct Case {
 }
 
 /// Makes the calls of the case in turn. Each must give its answer.
-pub(crate) fn must_answer(rt: &impl Abort, alloc: Global, case: &Case) -> Result<(), Fail> {
+pub(crate) fn must_answer(rt: &impl Abort, alloc: Global, case: &Case) {
     let storage = MemoryStore::new(alloc);
-    let mut engine = bytes_engine(alloc, storage, case.shape, case.chunk_shape, case.fill)?;
+    let mut engine = bytes_engine(rt, alloc, storage, case.shape, case.chunk_shape, case.fill);
     must_go_on(rt, alloc, &mut engine, case.rows);
-    Ok(())
 }
 
 /// Makes the calls in turn. Each must give its answer.
@@ -330,12 +344,14 @@ pub(crate) fn must_go_on(rt: &impl Abort, alloc: Global, engine: &mut MemoryEngi
 }
 
 /// The calls of the rows, as a list.
-pub(crate) fn list_of(alloc: Global, rows: &[Row]) -> Result<Vec<Call>, Fail> {
+pub(crate) fn list_of(rt: &impl Abort, alloc: Global, rows: &[Row]) -> Vec<Call> {
     let mut calls = Vec::new(alloc);
     for (step, _) in rows {
-        calls.push(call_of(alloc, step)?)?;
+        calls
+            .push(call_of(rt, alloc, step))
+            .expect(rt, "no refusal");
     }
-    Ok(calls)
+    calls
 }
 
 /// Makes the calls as one list. Each must give its answer.
@@ -344,11 +360,10 @@ pub(crate) fn must_go_on_in_list(
     alloc: Global,
     engine: &mut MemoryEngine,
     rows: &[Row],
-) -> Result<(), Fail> {
-    let calls = list_of(alloc, rows)?;
-    let replies = replay(alloc, engine, &calls, &CodecOptions::default())?;
+) {
+    let calls = list_of(rt, alloc, rows);
+    let replies = replay(alloc, engine, &calls, &CodecOptions::default()).expect(rt, "no refusal");
     must_be(rt, &replies, rows);
-    Ok(())
 }
 
 /// The replies are the answers of the rows.

@@ -8,7 +8,6 @@ use crate::steps::{
 };
 use std::alloc::Global;
 use std::process::Abort;
-use std::test::Fail;
 use zarrs_codec::CodecError;
 use zarrs_data_type::{DataType, ElementError};
 use zarrs_engine::{ArrayError, layouts_are_lawful};
@@ -16,7 +15,7 @@ use zarrs_keys::{ChunkKeyEncoding, ChunkKeySeparator};
 use zarrs_storage::{MemoryStore, StorageError};
 
 #[test]
-fn a_chunk_is_stored_and_read(rt: HostRuntime) -> Result<(), Fail> {
+fn a_chunk_is_stored_and_read(rt: HostRuntime) {
     const CASE: Case = Case {
         shape: &[4, 4],
         chunk_shape: &[2, 2],
@@ -34,7 +33,7 @@ fn a_chunk_is_stored_and_read(rt: HostRuntime) -> Result<(), Fail> {
 }
 
 #[test]
-fn empty_chunks_are_kept_by_choice(rt: HostRuntime) -> Result<(), Fail> {
+fn empty_chunks_are_kept_by_choice(rt: HostRuntime) {
     const CASE: Case = Case {
         shape: &[4],
         chunk_shape: &[2],
@@ -50,7 +49,7 @@ fn empty_chunks_are_kept_by_choice(rt: HostRuntime) -> Result<(), Fail> {
 }
 
 #[test]
-fn foreign_bytes_are_refused_and_replaced(rt: HostRuntime) -> Result<(), Fail> {
+fn foreign_bytes_are_refused_and_replaced(rt: HostRuntime) {
     const CASE: Case = Case {
         shape: &[4],
         chunk_shape: &[4],
@@ -67,7 +66,7 @@ fn foreign_bytes_are_refused_and_replaced(rt: HostRuntime) -> Result<(), Fail> {
 }
 
 #[test]
-fn foreign_bytes_are_erased(rt: HostRuntime) -> Result<(), Fail> {
+fn foreign_bytes_are_erased(rt: HostRuntime) {
     const CASE: Case = Case {
         shape: &[4],
         chunk_shape: &[4],
@@ -83,7 +82,7 @@ fn foreign_bytes_are_erased(rt: HostRuntime) -> Result<(), Fail> {
 }
 
 #[test]
-fn data_that_is_no_chunk_is_refused(rt: HostRuntime) -> Result<(), Fail> {
+fn data_that_is_no_chunk_is_refused(rt: HostRuntime) {
     const CASE: Case = Case {
         shape: &[4],
         chunk_shape: &[2],
@@ -98,7 +97,7 @@ fn data_that_is_no_chunk_is_refused(rt: HostRuntime) -> Result<(), Fail> {
 }
 
 #[test]
-fn a_range_of_chunks_is_erased(rt: HostRuntime) -> Result<(), Fail> {
+fn a_range_of_chunks_is_erased(rt: HostRuntime) {
     const CASE: Case = Case {
         shape: &[6, 2],
         chunk_shape: &[2, 2],
@@ -119,9 +118,9 @@ fn a_range_of_chunks_is_erased(rt: HostRuntime) -> Result<(), Fail> {
 }
 
 #[test]
-fn a_list_goes_on_after_a_refusal(rt: HostRuntime) -> Result<(), Fail> {
+fn a_list_goes_on_after_a_refusal(rt: HostRuntime) {
     let alloc = rt.alloc();
-    let mut engine = bytes_engine(alloc, MemoryStore::new(alloc), &[4], &[4], 0)?;
+    let mut engine = bytes_engine(&rt, alloc, MemoryStore::new(alloc), &[4], &[4], 0);
     const ROWS: &[Row] = &[(Put("c/0", Some(&[1, 2, 3])), Done)];
     must_go_on(&rt, alloc, &mut engine, ROWS);
     const NEXT: &[Row] = &[
@@ -134,7 +133,7 @@ fn a_list_goes_on_after_a_refusal(rt: HostRuntime) -> Result<(), Fail> {
 }
 
 #[test]
-fn cells_past_the_shape_are_kept(rt: HostRuntime) -> Result<(), Fail> {
+fn cells_past_the_shape_are_kept(rt: HostRuntime) {
     const CASE: Case = Case {
         shape: &[3],
         chunk_shape: &[2],
@@ -145,7 +144,7 @@ fn cells_past_the_shape_are_kept(rt: HostRuntime) -> Result<(), Fail> {
 }
 
 #[test]
-fn a_chunk_past_the_numbers_is_refused(rt: HostRuntime) -> Result<(), Fail> {
+fn a_chunk_past_the_numbers_is_refused(rt: HostRuntime) {
     const CASE: Case = Case {
         shape: &[u64::MAX],
         chunk_shape: &[1 << 63],
@@ -156,7 +155,7 @@ fn a_chunk_past_the_numbers_is_refused(rt: HostRuntime) -> Result<(), Fail> {
 }
 
 #[test]
-fn another_number_of_indices_is_refused(rt: HostRuntime) -> Result<(), Fail> {
+fn another_number_of_indices_is_refused(rt: HostRuntime) {
     const CASE: Case = Case {
         shape: &[4],
         chunk_shape: &[2],
@@ -185,24 +184,23 @@ fn must_lend(rt: &impl Abort, engine: &MemoryEngine) {
 }
 
 /// The store has no key, and saw no writing call.
-fn must_be_new(rt: &impl Abort, alloc: Global, store: &MemoryStore) -> Result<(), Fail> {
-    must_eq(rt, store.keys(alloc)?.len(), 0);
+fn must_be_new(rt: &impl Abort, alloc: Global, store: &MemoryStore) {
+    must_eq(rt, store.keys(alloc).expect(rt, "no refusal").len(), 0);
     must_eq(rt, store.calls(), 0);
     must_eq(rt, store.failures(), 0);
-    Ok(())
 }
 
 #[test]
-fn the_parts_are_lent(rt: HostRuntime) -> Result<(), Fail> {
+fn the_parts_are_lent(rt: HostRuntime) {
     let alloc = rt.alloc();
-    let engine = bytes_engine(alloc, MemoryStore::new(alloc), &[4, 4], &[2, 2], 7)?;
+    let engine = bytes_engine(&rt, alloc, MemoryStore::new(alloc), &[4, 4], &[2, 2], 7);
     must_lend(&rt, &engine);
-    must_be_new(&rt, alloc, engine.storage())?;
+    must_be_new(&rt, alloc, engine.storage());
     must_be_new(&rt, alloc, &engine.into_storage())
 }
 
 #[test]
-fn a_value_is_put_at_one_key(rt: HostRuntime) -> Result<(), Fail> {
+fn a_value_is_put_at_one_key(rt: HostRuntime) {
     const CASE: Case = Case {
         shape: &[4],
         chunk_shape: &[2],
@@ -218,10 +216,10 @@ fn a_value_is_put_at_one_key(rt: HostRuntime) -> Result<(), Fail> {
 }
 
 #[test]
-fn a_store_with_no_call_left_refuses_writes(rt: HostRuntime) -> Result<(), Fail> {
+fn a_store_with_no_call_left_refuses_writes(rt: HostRuntime) {
     let alloc = rt.alloc();
     let last = MemoryStore::with_calls(alloc, u64::MAX - 1);
-    let mut engine = bytes_engine(alloc, last, &[4], &[2], 9)?;
+    let mut engine = bytes_engine(&rt, alloc, last, &[4], &[2], 9);
     const ROWS: &[Row] = &[
         (Store(&[0], &[1, 2]), Done),
         (Store(&[1], &[3, 4]), Exhausted),
@@ -229,13 +227,12 @@ fn a_store_with_no_call_left_refuses_writes(rt: HostRuntime) -> Result<(), Fail>
     ];
     must_go_on(&rt, alloc, &mut engine, ROWS);
     const IN_LIST: &[Row] = &[(Erase(&[0]), Exhausted)];
-    must_go_on_in_list(&rt, alloc, &mut engine, IN_LIST)?;
+    must_go_on_in_list(&rt, alloc, &mut engine, IN_LIST);
     const NEXT: &[Row] = &[
         (Read(&[0]), Cells(&[1, 2])),
         (Count, Counts(1, u64::MAX, 0)),
     ];
     must_go_on(&rt, alloc, &mut engine, NEXT);
-    Ok(())
 }
 
 #[test]
@@ -256,25 +253,34 @@ fn laws_can_be_called(_rt: HostRuntime) {
     zarrs_engine::laws::reads_agree();
 }
 
-fn must_print(rt: &impl Abort, alloc: Global, error: &ArrayError, text: &str) -> Result<(), Fail> {
-    must_eq(rt, error.to_string(alloc)?.as_str(), text);
-    Ok(())
+fn must_print(rt: &impl Abort, alloc: Global, error: &ArrayError, text: &str) {
+    must_eq(
+        rt,
+        error.to_string(alloc).expect(rt, "no refusal").as_str(),
+        text,
+    );
 }
 
 #[test]
-fn errors_say_what_was_refused(rt: HostRuntime) -> Result<(), Fail> {
+fn errors_say_what_was_refused(rt: HostRuntime) {
     let alloc = rt.alloc();
-    let indices = ArrayError::InvalidChunkGridIndicesError(vec![in alloc; 1u64, 2u64]?);
-    must_print(&rt, alloc, &indices, "invalid chunk grid indices: [1, 2]")?;
+    let indices = ArrayError::InvalidChunkGridIndicesError(vec![in alloc; 1u64, 2u64].expect(
+        &rt,
+        "no refusal",
+    ));
+    must_print(&rt, alloc, &indices, "invalid chunk grid indices: [1, 2]");
     must_print(
         &rt,
         alloc,
         &ArrayError::SizeOverflow,
         "size exceeds the number types",
-    )?;
-    must_print(&rt, alloc, &ArrayError::OutOfMemory, "out of memory")?;
-    let shape = ArrayError::InvalidDataShape(vec![in alloc; 1u64]?, vec![in alloc; 2u64]?);
-    must_print(&rt, alloc, &shape, "data has shape [1], expected [2]")?;
+    );
+    must_print(&rt, alloc, &ArrayError::OutOfMemory, "out of memory");
+    let shape = ArrayError::InvalidDataShape(
+        vec![in alloc; 1u64].expect(&rt, "no refusal"),
+        vec![in alloc; 2u64].expect(&rt, "no refusal"),
+    );
+    must_print(&rt, alloc, &shape, "data has shape [1], expected [2]");
     must_print(
         &rt,
         alloc,

@@ -3,27 +3,28 @@ use crate::checks::{must, must_eq};
 use serde_json::{Map, Value, json};
 use std::alloc::Global;
 use std::process::Abort;
-use std::test::Fail;
 use zarrs_metadata::{
     ChunkKeySeparator, MetadataError, MetadataV3, PluginCreateError, numbers, numbers_value,
 };
 
-fn must_be_written(
-    rt: &impl Abort,
-    alloc: Global,
-    metadata: &MetadataV3,
-    text: &str,
-) -> Result<(), Fail> {
+fn must_be_written(rt: &impl Abort, alloc: Global, metadata: &MetadataV3, text: &str) {
     must_eq(
         rt,
-        metadata.to_value(alloc)?.to_string(alloc)?.as_str(),
+        metadata
+            .to_value(alloc)
+            .expect(rt, "no refusal")
+            .to_string(alloc)
+            .expect(rt, "no refusal")
+            .as_str(),
         text,
     );
-    Ok(())
 }
 
-fn read(alloc: Global, text: &str) -> Result<MetadataV3, Fail> {
-    Ok(MetadataV3::from_value(Value::from_str(alloc, text)?)?)
+fn read(rt: &impl Abort, alloc: Global, text: &str) -> MetadataV3 {
+    MetadataV3::from_value(Value::from_str(alloc, text).expect(rt, "no refusal")).expect(
+        rt,
+        "no refusal",
+    )
 }
 
 fn must_be_plain(rt: &impl Abort, metadata: &MetadataV3, name: &str) {
@@ -34,34 +35,40 @@ fn must_be_plain(rt: &impl Abort, metadata: &MetadataV3, name: &str) {
 }
 
 #[test]
-fn a_name_alone_is_a_text(rt: HostRuntime) -> Result<(), Fail> {
+fn a_name_alone_is_a_text(rt: HostRuntime) {
     let alloc = rt.alloc();
-    let mut metadata = MetadataV3::new(String::from_str(alloc, "squeeze")?);
+    let mut metadata = MetadataV3::new(String::from_str(alloc, "squeeze").expect(
+        &rt,
+        "no refusal",
+    ));
     must_be_plain(&rt, &metadata, "squeeze");
-    must_be_written(&rt, alloc, &metadata, "\"squeeze\"")?;
-    metadata.set_name(String::from_str(alloc, "zarrs.squeeze")?);
+    must_be_written(&rt, alloc, &metadata, "\"squeeze\"");
+    metadata.set_name(String::from_str(alloc, "zarrs.squeeze").expect(&rt, "no refusal"));
     must_be_written(&rt, alloc, &metadata, "\"zarrs.squeeze\"")
 }
 
 #[test]
-fn an_empty_configuration_counts_as_none(rt: HostRuntime) -> Result<(), Fail> {
+fn an_empty_configuration_counts_as_none(rt: HostRuntime) {
     let alloc = rt.alloc();
-    let name = String::from_str(alloc, "bytes")?;
+    let name = String::from_str(alloc, "bytes").expect(&rt, "no refusal");
     let empty = MetadataV3::new_with_configuration(name, Map::new(alloc));
-    must_be_written(&rt, alloc, &empty, "\"bytes\"")?;
-    let read = MetadataV3::from_value(json!(in alloc; {"name": "bytes", "configuration": {}})?)?;
+    must_be_written(&rt, alloc, &empty, "\"bytes\"");
+    let read = MetadataV3::from_value(
+        json!(in alloc; {"name": "bytes", "configuration": {}}).expect(&rt, "no refusal"),
+    ).expect(&rt, "no refusal");
     must_be_plain(&rt, &read, "bytes");
-    Ok(())
 }
 
-fn tiles(alloc: Global) -> Result<MetadataV3, Fail> {
-    let suffix = Value::try_from_str(alloc, ".tiff")?;
-    let separator = ChunkKeySeparator::Slash.to_value(alloc)?;
-    Ok(
-        MetadataV3::new(String::from_str(alloc, "default_suffix")?)
-            .with_member(alloc, "suffix", suffix)?
-            .with_member(alloc, "separator", separator)?,
-    )
+fn tiles(rt: &impl Abort, alloc: Global) -> MetadataV3 {
+    let suffix = Value::try_from_str(alloc, ".tiff").expect(rt, "no refusal");
+    let separator = ChunkKeySeparator::Slash
+        .to_value(alloc)
+        .expect(rt, "no refusal");
+    MetadataV3::new(String::from_str(alloc, "default_suffix").expect(rt, "no refusal"))
+        .with_member(alloc, "suffix", suffix)
+        .expect(rt, "no refusal")
+        .with_member(alloc, "separator", separator)
+        .expect(rt, "no refusal")
 }
 
 fn must_have_tiles(rt: &impl Abort, metadata: &MetadataV3) {
@@ -77,34 +84,37 @@ fn must_have_tiles(rt: &impl Abort, metadata: &MetadataV3) {
 }
 
 #[test]
-fn an_object_is_written_in_order_of_its_names(rt: HostRuntime) -> Result<(), Fail> {
+fn an_object_is_written_in_order_of_its_names(rt: HostRuntime) {
     let alloc = rt.alloc();
-    let metadata = tiles(alloc)?;
+    let metadata = tiles(&rt, alloc);
     let written =
         "{\"configuration\":{\"separator\":\"/\",\"suffix\":\".tiff\"},\"name\":\"default_suffix\"}";
-    must_be_written(&rt, alloc, &metadata, written)?;
-    let read = MetadataV3::from_value(metadata.to_value(alloc)?)?;
+    must_be_written(&rt, alloc, &metadata, written);
+    let read = MetadataV3::from_value(metadata.to_value(alloc).expect(&rt, "no refusal")).expect(
+        &rt,
+        "no refusal",
+    );
     must_have_tiles(&rt, &read);
     must_be_written(&rt, alloc, &read, written)
 }
 
 #[test]
-fn an_extension_that_need_not_be_understood(rt: HostRuntime) -> Result<(), Fail> {
+fn an_extension_that_need_not_be_understood(rt: HostRuntime) {
     let alloc = rt.alloc();
-    let flagged = read(alloc, "{\"must_understand\":false,\"name\":\"proj\"}")?;
+    let flagged = read(&rt, alloc, "{\"must_understand\":false,\"name\":\"proj\"}");
     must(&rt, !flagged.must_understand());
     must_be_written(
         &rt,
         alloc,
         &flagged,
         "{\"must_understand\":false,\"name\":\"proj\"}",
-    )?;
-    let needed = read(alloc, "{\"must_understand\":true,\"name\":\"proj\"}")?;
+    );
+    let needed = read(&rt, alloc, "{\"must_understand\":true,\"name\":\"proj\"}");
     must_be_written(&rt, alloc, &needed, "\"proj\"")
 }
 
 #[test]
-fn another_shape_is_refused(rt: HostRuntime) -> Result<(), Fail> {
+fn another_shape_is_refused(rt: HostRuntime) {
     let alloc = rt.alloc();
     const TEXTS: &[&str] = &[
         "null",
@@ -119,33 +129,39 @@ fn another_shape_is_refused(rt: HostRuntime) -> Result<(), Fail> {
         "{\"name\":\"a\",\"more\":1}",
     ];
     for text in TEXTS {
-        let refused = MetadataV3::from_value(Value::from_str(alloc, text)?);
+        let refused = MetadataV3::from_value(Value::from_str(alloc, text).expect(
+            &rt,
+            "no refusal",
+        ));
         must(&rt, matches!(&refused, Err(MetadataError::InvalidShape)));
     }
-    Ok(())
 }
 
-fn must_list(rt: &impl Abort, alloc: Global, value: &Value, list: &[u64]) -> Result<(), Fail> {
-    let read = numbers(alloc, value)?;
+fn must_list(rt: &impl Abort, alloc: Global, value: &Value, list: &[u64]) {
+    let read = numbers(alloc, value).expect(rt, "no refusal");
     must(rt, read.is_some_and(|numbers| numbers.as_slice() == list));
-    Ok(())
 }
 
 #[test]
-fn lists_of_numbers(rt: HostRuntime) -> Result<(), Fail> {
+fn lists_of_numbers(rt: HostRuntime) {
     let alloc = rt.alloc();
-    let written = numbers_value(alloc, &[0, 18446744073709551615])?;
+    let written = numbers_value(alloc, &[0, 18446744073709551615]).expect(&rt, "no refusal");
     must_eq(
         &rt,
-        written.to_string(alloc)?.as_str(),
+        written.to_string(alloc).expect(&rt, "no refusal").as_str(),
         "[0,18446744073709551615]",
     );
-    must_list(&rt, alloc, &written, &[0, 18446744073709551615])?;
-    must_list(&rt, alloc, &Value::from_str(alloc, "[]")?, &[])
+    must_list(&rt, alloc, &written, &[0, 18446744073709551615]);
+    must_list(
+        &rt,
+        alloc,
+        &Value::from_str(alloc, "[]").expect(&rt, "no refusal"),
+        &[],
+    )
 }
 
 #[test]
-fn lists_that_are_refused(rt: HostRuntime) -> Result<(), Fail> {
+fn lists_that_are_refused(rt: HostRuntime) {
     let alloc = rt.alloc();
     const TEXTS: &[&str] = &[
         "7",
@@ -158,61 +174,75 @@ fn lists_that_are_refused(rt: HostRuntime) -> Result<(), Fail> {
     for text in TEXTS {
         must(
             &rt,
-            numbers(alloc, &Value::from_str(alloc, text)?)?.is_none(),
+            numbers(
+                alloc,
+                &Value::from_str(alloc, text).expect(&rt, "no refusal"),
+            )
+            .expect(&rt, "no refusal")
+            .is_none(),
         );
     }
-    Ok(())
 }
 
 #[test]
-fn separators(rt: HostRuntime) -> Result<(), Fail> {
+fn separators(rt: HostRuntime) {
     let alloc = rt.alloc();
     for (separator, text) in [
         (ChunkKeySeparator::Slash, "/"),
         (ChunkKeySeparator::Dot, "."),
     ] {
         must_eq(&rt, separator.as_str(), text);
-        let written = separator.to_value(alloc)?;
+        let written = separator.to_value(alloc).expect(&rt, "no refusal");
         must(
             &rt,
             ChunkKeySeparator::from_value(&written) == Some(separator),
         );
     }
-    Ok(())
 }
 
 #[test]
-fn separators_that_are_refused(rt: HostRuntime) -> Result<(), Fail> {
+fn separators_that_are_refused(rt: HostRuntime) {
     let alloc = rt.alloc();
     for text in ["7", "null", "\"\"", "\"-\"", "\"//\""] {
-        let value = Value::from_str(alloc, text)?;
+        let value = Value::from_str(alloc, text).expect(&rt, "no refusal");
         must(&rt, ChunkKeySeparator::from_value(&value).is_none());
     }
-    Ok(())
 }
 
 #[test]
-fn texts_of_creation_refusals(rt: HostRuntime) -> Result<(), Fail> {
+fn texts_of_creation_refusals(rt: HostRuntime) {
     let alloc = rt.alloc();
     let other = PluginCreateError::other(alloc, "a chunk size is 0");
-    must_eq(&rt, other.to_string(alloc)?.as_str(), "a chunk size is 0");
+    must_eq(
+        &rt,
+        other.to_string(alloc).expect(&rt, "no refusal").as_str(),
+        "a chunk size is 0",
+    );
     let memory = PluginCreateError::OutOfMemory;
-    must_eq(&rt, memory.to_string(alloc)?.as_str(), "out of memory");
-    Ok(())
+    must_eq(
+        &rt,
+        memory.to_string(alloc).expect(&rt, "no refusal").as_str(),
+        "out of memory",
+    );
 }
 
 #[test]
-fn texts_of_metadata_refusals(rt: HostRuntime) -> Result<(), Fail> {
+fn texts_of_metadata_refusals(rt: HostRuntime) {
     let alloc = rt.alloc();
     must_eq(
         &rt,
-        MetadataError::InvalidShape.to_string(alloc)?.as_str(),
+        MetadataError::InvalidShape
+            .to_string(alloc)
+            .expect(&rt, "no refusal")
+            .as_str(),
         "the metadata has another shape",
     );
     must_eq(
         &rt,
-        MetadataError::OutOfMemory.to_string(alloc)?.as_str(),
+        MetadataError::OutOfMemory
+            .to_string(alloc)
+            .expect(&rt, "no refusal")
+            .as_str(),
         "out of memory",
     );
-    Ok(())
 }

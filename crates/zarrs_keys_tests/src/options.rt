@@ -4,7 +4,6 @@ use serde_json::Value;
 use std::alloc::{AllocError, Global};
 use std::num::NonZeroU64;
 use std::process::Abort;
-use std::test::Fail;
 use zarrs_data_type::FillValue;
 use zarrs_keys::{NodePath, NodePathError};
 use zarrs_metadata::{FillValueMetadata, MetadataV3, PluginCreateError};
@@ -73,38 +72,40 @@ fn versions_by_default(rt: HostRuntime) {
 }
 
 #[test]
-fn storage_transformers_are_refused(rt: HostRuntime) -> Result<(), Fail> {
+fn storage_transformers_are_refused(rt: HostRuntime) {
     let alloc = rt.alloc();
-    let none = StorageTransformerChain::from_metadata(alloc, &[])?;
+    let none = StorageTransformerChain::from_metadata(alloc, &[]).expect(&rt, "no refusal");
     must(&rt, none == StorageTransformerChain::default());
     let mut some = Vec::new(alloc);
-    some.push(MetadataV3::new(String::from_str(alloc, "indirect")?))?;
+    some.push(MetadataV3::new(String::from_str(alloc, "indirect").expect(&rt, "no refusal")))
+        .expect(&rt, "no refusal");
     let refused = StorageTransformerChain::from_metadata(alloc, some.as_slice());
     must(&rt, matches!(refused, Err(PluginCreateError::Other(_))));
-    Ok(())
 }
 
 #[test]
-fn chunk_shapes_as_array_shapes(rt: HostRuntime) -> Result<(), Fail> {
+fn chunk_shapes_as_array_shapes(rt: HostRuntime) {
     let alloc = rt.alloc();
     let sizes = [NonZeroU64::MIN, NonZeroU64::MAX];
-    let shape = chunk_shape_to_array_shape(alloc, &sizes)?;
+    let shape = chunk_shape_to_array_shape(alloc, &sizes).expect(&rt, "no refusal");
     must(
         &rt,
         shape.as_slice() == [1, 18446744073709551615].as_slice(),
     );
-    must(&rt, chunk_shape_to_array_shape(alloc, &[])?.is_empty());
-    Ok(())
+    must(
+        &rt,
+        chunk_shape_to_array_shape(alloc, &[])
+            .expect(&rt, "no refusal")
+            .is_empty(),
+    );
 }
 
-fn must_print(
-    rt: &impl Abort,
-    alloc: Global,
-    error: &ArrayCreateError,
-    text: &str,
-) -> Result<(), Fail> {
-    must_eq(rt, error.to_string(alloc)?.as_str(), text);
-    Ok(())
+fn must_print(rt: &impl Abort, alloc: Global, error: &ArrayCreateError, text: &str) {
+    must_eq(
+        rt,
+        error.to_string(alloc).expect(rt, "no refusal").as_str(),
+        text,
+    );
 }
 
 fn other(alloc: Global, text: &str) -> PluginCreateError {
@@ -112,10 +113,10 @@ fn other(alloc: Global, text: &str) -> PluginCreateError {
 }
 
 #[test]
-fn texts_of_refusals(rt: HostRuntime) -> Result<(), Fail> {
+fn texts_of_refusals(rt: HostRuntime) {
     let alloc = rt.alloc();
-    let shape = [2, 0].to_vec(alloc)?;
-    let text = String::from_str(alloc, "a compressor")?;
+    let shape = [2, 0].to_vec(alloc).expect(&rt, "no refusal");
+    let text = String::from_str(alloc, "a compressor").expect(&rt, "no refusal");
     for (error, text) in [
         (
             ArrayCreateError::InvalidChunkGridDimensionality(3, 2),
@@ -139,25 +140,23 @@ fn texts_of_refusals(rt: HostRuntime) -> Result<(), Fail> {
         ),
         (ArrayCreateError::OutOfMemory, "out of memory"),
     ] {
-        must_print(&rt, alloc, &error, text)?;
+        must_print(&rt, alloc, &error, text);
     }
-    Ok(())
 }
 
 #[test]
-fn texts_of_fill_values(rt: HostRuntime) -> Result<(), Fail> {
+fn texts_of_fill_values(rt: HostRuntime) {
     let alloc = rt.alloc();
     let bytes = ArrayCreateError::InvalidFillValue {
-        data_type_name: String::from_str(alloc, "int16")?,
-        fill_value: FillValue::new([7].to_vec(alloc)?),
+        data_type_name: String::from_str(alloc, "int16").expect(&rt, "no refusal"),
+        fill_value: FillValue::new([7].to_vec(alloc).expect(&rt, "no refusal")),
     };
     must_print(
         &rt,
         alloc,
         &bytes,
         "invalid fill value for data type `int16`: [7]",
-    )?;
-    Ok(())
+    );
 }
 
 /// Fill values of each kind, as JSON writes them.
@@ -174,25 +173,28 @@ const FILL_VALUES: [&str; 9] = [
 ];
 
 #[test]
-fn texts_of_fill_values_in_metadata(rt: HostRuntime) -> Result<(), Fail> {
+fn texts_of_fill_values_in_metadata(rt: HostRuntime) {
     let alloc = rt.alloc();
     for text in FILL_VALUES {
         let error = ArrayCreateError::InvalidFillValueMetadata {
-            data_type_name: String::from_str(alloc, "string")?,
-            fill_value_metadata: FillValueMetadata::from_value(Value::from_str(alloc, text)?),
+            data_type_name: String::from_str(alloc, "string").expect(&rt, "no refusal"),
+            fill_value_metadata: FillValueMetadata::from_value(Value::from_str(alloc, text).expect(
+                &rt,
+                "no refusal",
+            )),
         };
         let mut wanted = String::from_str(
             alloc,
             "invalid fill value metadata for data type `string`: ",
-        )?;
-        wanted.push_str(text)?;
-        must_print(&rt, alloc, &error, wanted.as_str())?;
+        )
+        .expect(&rt, "no refusal");
+        wanted.push_str(text).expect(&rt, "no refusal");
+        must_print(&rt, alloc, &error, wanted.as_str());
     }
-    Ok(())
 }
 
 #[test]
-fn refusals_pass_on_their_texts(rt: HostRuntime) -> Result<(), Fail> {
+fn refusals_pass_on_their_texts(rt: HostRuntime) {
     let alloc = rt.alloc();
     for error in [
         ArrayCreateError::DataTypeCreateError(other(alloc, "why")),
@@ -202,9 +204,8 @@ fn refusals_pass_on_their_texts(rt: HostRuntime) -> Result<(), Fail> {
         ArrayCreateError::ChunkKeyEncodingCreateError(other(alloc, "why")),
         ArrayCreateError::from(StorageError::other(alloc, "why")),
     ] {
-        must_print(&rt, alloc, &error, "why")?;
+        must_print(&rt, alloc, &error, "why");
     }
-    Ok(())
 }
 
 fn must_be_field(rt: &impl Abort, error: &AdditionalFieldUnsupportedError) {
@@ -213,9 +214,12 @@ fn must_be_field(rt: &impl Abort, error: &AdditionalFieldUnsupportedError) {
 }
 
 #[test]
-fn fields_that_must_be_understood(rt: HostRuntime) -> Result<(), Fail> {
+fn fields_that_must_be_understood(rt: HostRuntime) {
     let alloc = rt.alloc();
-    let field = AdditionalFieldUnsupportedError::new(String::from_str(alloc, "key")?, Value::Null);
+    let field = AdditionalFieldUnsupportedError::new(
+        String::from_str(alloc, "key").expect(&rt, "no refusal"),
+        Value::Null,
+    );
     must_be_field(&rt, &field);
     let error = ArrayCreateError::from(field);
     must_print(

@@ -5,11 +5,10 @@ use crate::steps::Step::{Put, ReadChunks, ReadPart, Store, StorePart};
 use crate::steps::{
     ReadCase, Row, TOO_LARGE, UNFIT, WriteCase, must_answer, must_answer_of, must_leave,
 };
-use std::test::Fail;
 use zarrs_data_type::DataType;
 
 #[test]
-fn a_range_over_four_chunks(rt: HostRuntime) -> Result<(), Fail> {
+fn a_range_over_four_chunks(rt: HostRuntime) {
     const ROWS: &[Row] = &[
         (
             ReadChunks(&[0, 0], &[2, 2]),
@@ -42,7 +41,7 @@ fn a_range_over_four_chunks(rt: HostRuntime) -> Result<(), Fail> {
 }
 
 #[test]
-fn absent_chunks_of_a_range_are_the_fill_value(rt: HostRuntime) -> Result<(), Fail> {
+fn absent_chunks_of_a_range_are_the_fill_value(rt: HostRuntime) {
     const CASE: ReadCase = ReadCase {
         shape: &[4, 4],
         chunk_shape: &[2, 2],
@@ -59,7 +58,7 @@ fn absent_chunks_of_a_range_are_the_fill_value(rt: HostRuntime) -> Result<(), Fa
 
 /// The array has five cells; its second chunk has three more.
 #[test]
-fn parts_of_a_chunk_that_crosses_the_shape(rt: HostRuntime) -> Result<(), Fail> {
+fn parts_of_a_chunk_that_crosses_the_shape(rt: HostRuntime) {
     const CASE: ReadCase = ReadCase {
         shape: &[5],
         chunk_shape: &[4],
@@ -86,7 +85,7 @@ fn parts_of_a_chunk_that_crosses_the_shape(rt: HostRuntime) -> Result<(), Fail> 
 }
 
 #[test]
-fn an_empty_range_has_no_cell(rt: HostRuntime) -> Result<(), Fail> {
+fn an_empty_range_has_no_cell(rt: HostRuntime) {
     const ROWS: &[Row] = &[
         (ReadChunks(&[0, 0], &[0, 2]), Cells(&[])),
         (ReadChunks(&[u64::MAX, 9], &[0, 1]), Cells(&[])),
@@ -96,7 +95,7 @@ fn an_empty_range_has_no_cell(rt: HostRuntime) -> Result<(), Fail> {
 
 /// The store refuses to read the first chunk: what asks for it is refused, and what does not is not.
 #[test]
-fn an_empty_range_asks_nothing(rt: HostRuntime) -> Result<(), Fail> {
+fn an_empty_range_asks_nothing(rt: HostRuntime) {
     const CASE: WriteCase = WriteCase {
         unread: &["c/0"],
         shape: &[4],
@@ -115,7 +114,7 @@ fn an_empty_range_asks_nothing(rt: HostRuntime) -> Result<(), Fail> {
 }
 
 #[test]
-fn a_range_of_other_dimensions_is_refused(rt: HostRuntime) -> Result<(), Fail> {
+fn a_range_of_other_dimensions_is_refused(rt: HostRuntime) {
     const ROWS: &[Row] = &[
         (
             ReadChunks(&[0], &[1]),
@@ -130,7 +129,7 @@ fn a_range_of_other_dimensions_is_refused(rt: HostRuntime) -> Result<(), Fail> {
 }
 
 #[test]
-fn an_index_without_a_chunk_is_refused(rt: HostRuntime) -> Result<(), Fail> {
+fn an_index_without_a_chunk_is_refused(rt: HostRuntime) {
     const CASE: ReadCase = ReadCase {
         shape: &[u64::MAX],
         chunk_shape: &[1 << 63],
@@ -157,7 +156,7 @@ fn an_index_without_a_chunk_is_refused(rt: HostRuntime) -> Result<(), Fail> {
 }
 
 #[test]
-fn parts_of_present_and_absent_chunks(rt: HostRuntime) -> Result<(), Fail> {
+fn parts_of_present_and_absent_chunks(rt: HostRuntime) {
     const ROWS: &[Row] = &[
         (
             ReadPart(&[1, 1], &[0, 0], &[2, 2]),
@@ -177,7 +176,7 @@ fn parts_of_present_and_absent_chunks(rt: HostRuntime) -> Result<(), Fail> {
 }
 
 #[test]
-fn a_part_that_is_the_whole_chunk(rt: HostRuntime) -> Result<(), Fail> {
+fn a_part_that_is_the_whole_chunk(rt: HostRuntime) {
     const ROWS: &[Row] = &[
         (
             ReadPart(&[1, 1], &[0, 0], &[4, 4]),
@@ -192,7 +191,7 @@ fn a_part_that_is_the_whole_chunk(rt: HostRuntime) -> Result<(), Fail> {
 }
 
 #[test]
-fn an_empty_part_has_no_cell(rt: HostRuntime) -> Result<(), Fail> {
+fn an_empty_part_has_no_cell(rt: HostRuntime) {
     const ROWS: &[Row] = &[
         (ReadPart(&[1, 1], &[4, 0], &[0, 4]), Cells(&[])),
         (ReadPart(&[0, 0], &[0, 0], &[0, 0]), Cells(&[])),
@@ -201,7 +200,7 @@ fn an_empty_part_has_no_cell(rt: HostRuntime) -> Result<(), Fail> {
 }
 
 #[test]
-fn a_part_that_passes_its_chunk_is_refused(rt: HostRuntime) -> Result<(), Fail> {
+fn a_part_that_passes_its_chunk_is_refused(rt: HostRuntime) {
     const ROWS: &[Row] = &[
         (
             ReadPart(&[1, 1], &[3, 3], &[2, 1]),
@@ -224,7 +223,7 @@ fn a_part_that_passes_its_chunk_is_refused(rt: HostRuntime) -> Result<(), Fail> 
 }
 
 #[test]
-fn parts_of_a_chunk_that_does_not_decode(rt: HostRuntime) -> Result<(), Fail> {
+fn parts_of_a_chunk_that_does_not_decode(rt: HostRuntime) {
     const CASE: ReadCase = ReadCase {
         shape: &[6],
         chunk_shape: &[2],
@@ -241,7 +240,7 @@ fn parts_of_a_chunk_that_does_not_decode(rt: HostRuntime) -> Result<(), Fail> {
 }
 
 #[test]
-fn a_part_of_a_chunk_past_the_numbers(rt: HostRuntime) -> Result<(), Fail> {
+fn a_part_of_a_chunk_past_the_numbers(rt: HostRuntime) {
     const CASE: ReadCase = ReadCase {
         shape: &[1 << 62],
         chunk_shape: &[1 << 61],
@@ -255,7 +254,7 @@ fn a_part_of_a_chunk_past_the_numbers(rt: HostRuntime) -> Result<(), Fail> {
 }
 
 #[test]
-fn without_dimensions_there_is_one_chunk_of_one_cell(rt: HostRuntime) -> Result<(), Fail> {
+fn without_dimensions_there_is_one_chunk_of_one_cell(rt: HostRuntime) {
     const CASE: ReadCase = ReadCase {
         shape: &[],
         chunk_shape: &[],
@@ -270,7 +269,7 @@ fn without_dimensions_there_is_one_chunk_of_one_cell(rt: HostRuntime) -> Result<
 
 /// The calls read the first chunk, the last of the nine cells, and a part that passes its chunk.
 #[test]
-fn ranges_and_parts_are_read_in_a_list_of_calls(rt: HostRuntime) -> Result<(), Fail> {
+fn ranges_and_parts_are_read_in_a_list_of_calls(rt: HostRuntime) {
     const ROWS: &[Row] = &[
         (
             ReadChunks(&[0, 0], &[1, 1]),

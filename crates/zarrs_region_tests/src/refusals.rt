@@ -4,12 +4,11 @@ use crate::steps::Step::{Put, ReadRegion, StoreChunks, StorePart, StoreRegion};
 use crate::steps::{
     Row, TOO_LARGE, UNFIT, WriteCase, engine_over, must_leave, must_leave_of, must_leave_over,
 };
-use std::test::Fail;
 use zarrs_data_type::DataType;
 use zarrs_storage::{Fault, MemoryStore};
 
 #[test]
-fn a_region_of_other_dimensions_is_refused(rt: HostRuntime) -> Result<(), Fail> {
+fn a_region_of_other_dimensions_is_refused(rt: HostRuntime) {
     const CASE: WriteCase = WriteCase {
         unread: &[],
         shape: &[4, 4],
@@ -34,7 +33,7 @@ fn a_region_of_other_dimensions_is_refused(rt: HostRuntime) -> Result<(), Fail> 
 
 /// The last chunk would pass the numbers, so there is none.
 #[test]
-fn what_no_chunk_covers_is_refused(rt: HostRuntime) -> Result<(), Fail> {
+fn what_no_chunk_covers_is_refused(rt: HostRuntime) {
     const CASE: WriteCase = WriteCase {
         unread: &[],
         shape: &[u64::MAX],
@@ -67,7 +66,7 @@ fn what_no_chunk_covers_is_refused(rt: HostRuntime) -> Result<(), Fail> {
 }
 
 #[test]
-fn another_number_of_cells_of_a_region_is_refused(rt: HostRuntime) -> Result<(), Fail> {
+fn another_number_of_cells_of_a_region_is_refused(rt: HostRuntime) {
     const CASE: WriteCase = WriteCase {
         unread: &[],
         shape: &[6],
@@ -83,7 +82,7 @@ fn another_number_of_cells_of_a_region_is_refused(rt: HostRuntime) -> Result<(),
 }
 
 #[test]
-fn another_number_of_cells_of_chunks_is_refused(rt: HostRuntime) -> Result<(), Fail> {
+fn another_number_of_cells_of_chunks_is_refused(rt: HostRuntime) {
     const CASE: WriteCase = WriteCase {
         unread: &[],
         shape: &[6],
@@ -100,7 +99,7 @@ fn another_number_of_cells_of_chunks_is_refused(rt: HostRuntime) -> Result<(), F
 }
 
 #[test]
-fn indices_of_other_dimensions_are_refused(rt: HostRuntime) -> Result<(), Fail> {
+fn indices_of_other_dimensions_are_refused(rt: HostRuntime) {
     const CASE: WriteCase = WriteCase {
         unread: &[],
         shape: &[4, 4],
@@ -126,7 +125,7 @@ fn indices_of_other_dimensions_are_refused(rt: HostRuntime) -> Result<(), Fail> 
 }
 
 #[test]
-fn a_part_that_passes_its_chunk_is_refused(rt: HostRuntime) -> Result<(), Fail> {
+fn a_part_that_passes_its_chunk_is_refused(rt: HostRuntime) {
     const CASE: WriteCase = WriteCase {
         unread: &[],
         shape: &[4, 6],
@@ -158,7 +157,7 @@ fn a_part_that_passes_its_chunk_is_refused(rt: HostRuntime) -> Result<(), Fail> 
 }
 
 #[test]
-fn sizes_past_the_numbers_are_refused(rt: HostRuntime) -> Result<(), Fail> {
+fn sizes_past_the_numbers_are_refused(rt: HostRuntime) {
     const CASE: WriteCase = WriteCase {
         unread: &[],
         shape: &[1 << 61],
@@ -178,10 +177,10 @@ fn sizes_past_the_numbers_are_refused(rt: HostRuntime) -> Result<(), Fail> {
 }
 
 #[test]
-fn a_region_is_stored_up_to_a_refused_write(rt: HostRuntime) -> Result<(), Fail> {
+fn a_region_is_stored_up_to_a_refused_write(rt: HostRuntime) {
     let alloc = rt.alloc();
     let storage = Fault::new(MemoryStore::new(alloc), Vec::new(alloc), Some(3));
-    let engine = engine_over(alloc, storage, &[8], &[2], DataType::UInt8, &[0])?;
+    let engine = engine_over(&rt, alloc, storage, &[8], &[2], DataType::UInt8, &[0]);
     const ROWS: &[Row] = &[
         (
             StoreRegion(&[1], &[7], &[&[1, 2, 3, 4, 5, 6, 7]]),
@@ -194,11 +193,11 @@ fn a_region_is_stored_up_to_a_refused_write(rt: HostRuntime) -> Result<(), Fail>
 
 /// The store counts two writing calls more, and no third one.
 #[test]
-fn a_range_is_stored_up_to_the_last_call(rt: HostRuntime) -> Result<(), Fail> {
+fn a_range_is_stored_up_to_the_last_call(rt: HostRuntime) {
     let alloc = rt.alloc();
     let last = MemoryStore::with_calls(alloc, u64::MAX - 2);
     let storage = Fault::new(last, Vec::new(alloc), None);
-    let engine = engine_over(alloc, storage, &[8], &[2], DataType::UInt8, &[0])?;
+    let engine = engine_over(&rt, alloc, storage, &[8], &[2], DataType::UInt8, &[0]);
     const ROWS: &[Row] = &[(
         StoreChunks(&[0], &[4], &[&[1, 2, 3, 4, 5, 6, 7, 8]]),
         Refused("the store has no writing call left"),
@@ -208,7 +207,7 @@ fn a_range_is_stored_up_to_the_last_call(rt: HostRuntime) -> Result<(), Fail> {
 
 /// The first region covers the second chunk, which is not read, and the second region a part of it.
 #[test]
-fn a_region_is_stored_up_to_a_refused_read(rt: HostRuntime) -> Result<(), Fail> {
+fn a_region_is_stored_up_to_a_refused_read(rt: HostRuntime) {
     const CASE: WriteCase = WriteCase {
         unread: &["c/1"],
         shape: &[6],
@@ -226,7 +225,7 @@ fn a_region_is_stored_up_to_a_refused_read(rt: HostRuntime) -> Result<(), Fail> 
 
 /// The second chunk holds three bytes where two are wanted. A part of it is refused, and the whole is replaced.
 #[test]
-fn a_chunk_that_does_not_decode(rt: HostRuntime) -> Result<(), Fail> {
+fn a_chunk_that_does_not_decode(rt: HostRuntime) {
     const CASE: WriteCase = WriteCase {
         unread: &[],
         shape: &[6],

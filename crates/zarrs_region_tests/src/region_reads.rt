@@ -8,14 +8,13 @@ use crate::steps::{
 use std::alloc::Global;
 use std::borrow::CowSlice;
 use std::process::Abort;
-use std::test::Fail;
 use zarrs_codec::CodecOptions;
 use zarrs_data_type::{ArrayBytes, ArrayBytesOffsets, DataType};
 use zarrs_storage::{Bytes, ReadableStorageTraits, StoreKey};
 
 /// The array of the nine cells: 1 to 9 at [3..6, 3..6], and fill 1.
-fn nine_cells(rt: &impl Abort, alloc: Global) -> Result<TestEngine, Fail> {
-    let mut engine = engine_of(alloc, &[8, 8], &[4, 4], DataType::UInt8, &[1])?;
+fn nine_cells(rt: &impl Abort, alloc: Global) -> TestEngine {
+    let mut engine = engine_of(rt, alloc, &[8, 8], &[4, 4], DataType::UInt8, &[1]);
     const ROWS: &[Row] = &[
         (
             Store(
@@ -39,32 +38,24 @@ fn nine_cells(rt: &impl Abort, alloc: Global) -> Result<TestEngine, Fail> {
             Done,
         ),
     ];
-    must_go_on(rt, alloc, &mut engine, ROWS)?;
-    Ok(engine)
+    must_go_on(rt, alloc, &mut engine, ROWS);
+    engine
 }
 
 /// The calls of the nine cells must give their answers.
-pub(crate) fn nine_cells_must_answer(
-    rt: &impl Abort,
-    alloc: Global,
-    rows: &[Row],
-) -> Result<(), Fail> {
-    let mut engine = nine_cells(rt, alloc)?;
+pub(crate) fn nine_cells_must_answer(rt: &impl Abort, alloc: Global, rows: &[Row]) {
+    let mut engine = nine_cells(rt, alloc);
     must_go_on(rt, alloc, &mut engine, rows)
 }
 
 /// The calls of the nine cells must give their answers as one list.
-pub(crate) fn nine_cells_must_answer_in_list(
-    rt: &impl Abort,
-    alloc: Global,
-    rows: &[Row],
-) -> Result<(), Fail> {
-    let mut engine = nine_cells(rt, alloc)?;
+pub(crate) fn nine_cells_must_answer_in_list(rt: &impl Abort, alloc: Global, rows: &[Row]) {
+    let mut engine = nine_cells(rt, alloc);
     must_go_on_in_list(rt, alloc, &mut engine, rows)
 }
 
 #[test]
-fn nine_cells_over_four_chunks(rt: HostRuntime) -> Result<(), Fail> {
+fn nine_cells_over_four_chunks(rt: HostRuntime) {
     const ROWS: &[Row] = &[
         (
             ReadRegion(&[3, 2], &[3, 5]),
@@ -77,7 +68,7 @@ fn nine_cells_over_four_chunks(rt: HostRuntime) -> Result<(), Fail> {
 }
 
 #[test]
-fn a_region_that_is_one_chunk(rt: HostRuntime) -> Result<(), Fail> {
+fn a_region_that_is_one_chunk(rt: HostRuntime) {
     const ROWS: &[Row] = &[
         (
             ReadRegion(&[4, 4], &[4, 4]),
@@ -92,7 +83,7 @@ fn a_region_that_is_one_chunk(rt: HostRuntime) -> Result<(), Fail> {
 }
 
 #[test]
-fn no_cell_outside_the_array(rt: HostRuntime) -> Result<(), Fail> {
+fn no_cell_outside_the_array(rt: HostRuntime) {
     const ROWS: &[Row] = &[
         (ReadRegion(&[100, 0], &[0, 4]), Cells(&[])),
         (ReadRegion(&[0, 0], &[0, 4]), Cells(&[])),
@@ -102,7 +93,7 @@ fn no_cell_outside_the_array(rt: HostRuntime) -> Result<(), Fail> {
 }
 
 #[test]
-fn other_dimensions_are_refused(rt: HostRuntime) -> Result<(), Fail> {
+fn other_dimensions_are_refused(rt: HostRuntime) {
     const ROWS: &[Row] = &[
         (
             ReadRegion(&[0], &[1]),
@@ -118,7 +109,7 @@ fn other_dimensions_are_refused(rt: HostRuntime) -> Result<(), Fail> {
 
 /// The array has 2^64 - 1 cells, and one chunk of 2^63: a second one would pass the numbers.
 #[test]
-fn a_cell_that_no_chunk_covers_is_refused(rt: HostRuntime) -> Result<(), Fail> {
+fn a_cell_that_no_chunk_covers_is_refused(rt: HostRuntime) {
     const CASE: ReadCase = ReadCase {
         shape: &[u64::MAX],
         chunk_shape: &[1 << 63],
@@ -137,7 +128,7 @@ fn a_cell_that_no_chunk_covers_is_refused(rt: HostRuntime) -> Result<(), Fail> {
 }
 
 #[test]
-fn absent_chunks_read_as_the_fill_value(rt: HostRuntime) -> Result<(), Fail> {
+fn absent_chunks_read_as_the_fill_value(rt: HostRuntime) {
     const CASE: ReadCase = ReadCase {
         shape: &[4, 4],
         chunk_shape: &[2, 2],
@@ -153,7 +144,7 @@ fn absent_chunks_read_as_the_fill_value(rt: HostRuntime) -> Result<(), Fail> {
 }
 
 #[test]
-fn cells_past_the_shape_are_read(rt: HostRuntime) -> Result<(), Fail> {
+fn cells_past_the_shape_are_read(rt: HostRuntime) {
     const CASE: ReadCase = ReadCase {
         shape: &[5],
         chunk_shape: &[4],
@@ -167,7 +158,7 @@ fn cells_past_the_shape_are_read(rt: HostRuntime) -> Result<(), Fail> {
 }
 
 #[test]
-fn a_region_without_dimensions_is_one_cell(rt: HostRuntime) -> Result<(), Fail> {
+fn a_region_without_dimensions_is_one_cell(rt: HostRuntime) {
     const CASE: ReadCase = ReadCase {
         shape: &[],
         chunk_shape: &[],
@@ -197,43 +188,55 @@ fn must_be_stored(
     engine: &TestEngine,
     key: &str,
     bytes: &'static [u8],
-) -> Result<(), Fail> {
-    let found = engine.storage().get(alloc, &StoreKey::new(alloc, key)?)?;
+) {
+    let found = engine
+        .storage()
+        .get(alloc, &StoreKey::new(alloc, key).expect(rt, "no refusal"))
+        .expect(rt, "no refusal");
     assert!(rt; found == Some(Bytes::from_static(bytes)));
-    Ok(())
 }
 
 /// Stores the texts "a" and "" above "bcd" and "ä" in the first chunk.
-fn store_texts(alloc: Global, engine: &mut TestEngine) -> Result<(), Fail> {
-    let places = ArrayBytesOffsets::new(CowSlice::Borrowed(&[0, 1, 1, 4, 6]))?;
-    let texts = ArrayBytes::new_vlen(CowSlice::Borrowed(b"abcd\xC3\xA4"), places)?;
-    engine.store_chunk(alloc, &[0, 0], &texts, &CodecOptions::default())?;
-    Ok(())
+fn store_texts(rt: &impl Abort, alloc: Global, engine: &mut TestEngine) {
+    let places = ArrayBytesOffsets::new(CowSlice::Borrowed(&[0, 1, 1, 4, 6])).expect(
+        rt,
+        "no refusal",
+    );
+    let texts = ArrayBytes::new_vlen(CowSlice::Borrowed(b"abcd\xC3\xA4"), places).expect(
+        rt,
+        "no refusal",
+    );
+    engine
+        .store_chunk(alloc, &[0, 0], &texts, &CodecOptions::default())
+        .expect(rt, "no refusal");
 }
 
 /// The first chunk reads as these texts, and its right column beside the second chunk as the texts there.
-fn must_read_texts(rt: &impl Abort, alloc: Global, engine: &TestEngine) -> Result<(), Fail> {
-    let whole = engine.retrieve_chunk(alloc, &[0, 0])?;
+fn must_read_texts(rt: &impl Abort, alloc: Global, engine: &TestEngine) {
+    let whole = engine
+        .retrieve_chunk(alloc, &[0, 0])
+        .expect(rt, "no refusal");
     must_be_texts(rt, &whole, b"abcd\xC3\xA4", &[0, 1, 1, 4, 6]);
-    let asked = subset(alloc, &[0, 1], &[2, 2])?;
-    let across = engine.retrieve_array_subset(alloc, &asked)?;
+    let asked = subset(alloc, &[0, 1], &[2, 2]).expect(rt, "no refusal");
+    let across = engine
+        .retrieve_array_subset(alloc, &asked)
+        .expect(rt, "no refusal");
     must_be_texts(rt, &across, b"bb\xC3\xA4bb", &[0, 0, 2, 4, 6]);
-    Ok(())
 }
 
 /// The second chunk is absent, and its fill value is "bb".
 #[test]
-fn texts_over_two_chunks(rt: HostRuntime) -> Result<(), Fail> {
+fn texts_over_two_chunks(rt: HostRuntime) {
     let alloc = rt.alloc();
-    let mut engine = engine_of(alloc, &[2, 3], &[2, 2], DataType::String, b"bb")?;
-    store_texts(alloc, &mut engine)?;
+    let mut engine = engine_of(&rt, alloc, &[2, 3], &[2, 2], DataType::String, b"bb");
+    store_texts(&rt, alloc, &mut engine);
     let encoded = b"\x04\0\0\0\x01\0\0\0a\0\0\0\0\x03\0\0\0bcd\x02\0\0\0\xC3\xA4";
-    must_be_stored(&rt, alloc, &engine, "c/0/0", encoded)?;
+    must_be_stored(&rt, alloc, &engine, "c/0/0", encoded);
     must_read_texts(&rt, alloc, &engine)
 }
 
 #[test]
-fn a_chunk_that_is_no_text_is_refused(rt: HostRuntime) -> Result<(), Fail> {
+fn a_chunk_that_is_no_text_is_refused(rt: HostRuntime) {
     const CASE: ReadCase = ReadCase {
         shape: &[2],
         chunk_shape: &[1],
@@ -246,7 +249,7 @@ fn a_chunk_that_is_no_text_is_refused(rt: HostRuntime) -> Result<(), Fail> {
 }
 
 #[test]
-fn a_chunk_that_does_not_decode_beside_one_that_does(rt: HostRuntime) -> Result<(), Fail> {
+fn a_chunk_that_does_not_decode_beside_one_that_does(rt: HostRuntime) {
     const CASE: ReadCase = ReadCase {
         shape: &[6],
         chunk_shape: &[2],
@@ -263,7 +266,7 @@ fn a_chunk_that_does_not_decode_beside_one_that_does(rt: HostRuntime) -> Result<
 }
 
 #[test]
-fn a_region_past_the_numbers_is_refused(rt: HostRuntime) -> Result<(), Fail> {
+fn a_region_past_the_numbers_is_refused(rt: HostRuntime) {
     const CASE: ReadCase = ReadCase {
         shape: &[1 << 62],
         chunk_shape: &[1 << 61],
@@ -273,7 +276,7 @@ fn a_region_past_the_numbers_is_refused(rt: HostRuntime) -> Result<(), Fail> {
 }
 
 #[test]
-fn regions_are_read_in_a_list_of_calls(rt: HostRuntime) -> Result<(), Fail> {
+fn regions_are_read_in_a_list_of_calls(rt: HostRuntime) {
     const ROWS: &[Row] = &[
         (ReadRegion(&[5, 5], &[1, 1]), Cells(&[&[9]])),
         (

@@ -2,7 +2,6 @@
 use std::alloc::{AllocError, Global};
 use std::num::NonZeroU64;
 use std::process::Abort;
-use std::test::Fail;
 use zarrs_chunk_grid::RegularChunkGrid;
 use zarrs_codec::{BytesToBytesCodecs, CodecChain, CodecOptions, default_array_to_bytes_codec};
 use zarrs_data_type::{ArrayBytes, DataType, FillValue};
@@ -21,53 +20,63 @@ pub(crate) type TestEngine = EngineOver<Fault<MemoryStore>>;
 
 /// An array at `/` of this shape, in chunks of that shape, over the store. Its chain is the default codec of the type.
 pub(crate) fn engine_over<S: Drop>(
+    rt: &impl Abort,
     alloc: Global,
     storage: S,
     shape: &[u64],
     chunk: &[u64],
     data_type: DataType,
     fill: &[u8],
-) -> Result<EngineOver<S>, Fail> {
+) -> EngineOver<S> {
     let mut chunk_shape = Vec::new(alloc);
     for extent in chunk {
-        chunk_shape.push(NonZeroU64::new(*extent).ok_or("an extent is 0")?)?;
+        chunk_shape
+            .push(NonZeroU64::new(*extent).expect(rt, "an extent is 0"))
+            .expect(rt, "no refusal");
     }
-    let grid = RegularChunkGrid::new(alloc, shape.to_vec(alloc)?, chunk_shape)?;
-    let fill_value = FillValue::new(fill.to_vec(alloc)?);
+    let grid = RegularChunkGrid::new(
+        alloc,
+        shape.to_vec(alloc).expect(rt, "no refusal"),
+        chunk_shape,
+    )
+    .expect(rt, "no refusal");
+    let fill_value = FillValue::new(fill.to_vec(alloc).expect(rt, "no refusal"));
     if !data_type.is_fill(fill_value.as_bytes()) {
-        return Err("no fill value of the type".into());
+        return rt.panic("no fill value of the type");
     }
-    let codec = default_array_to_bytes_codec(alloc, &data_type)?;
-    Ok(Engine::new(
+    let codec = default_array_to_bytes_codec(alloc, &data_type).expect(rt, "no refusal");
+    Engine::new(
         storage,
-        NodePath::new(alloc, "/")?,
+        NodePath::new(alloc, "/").expect(rt, "no refusal"),
         grid,
         ChunkKeyEncoding::Default(ChunkKeySeparator::Slash),
         CodecChain::new(Vec::new(alloc), codec, BytesToBytesCodecs),
         data_type,
         fill_value,
-    ))
+    )
 }
 
 /// A store without values that refuses to read these keys.
-pub(crate) fn unread(alloc: Global, names: &[&str]) -> Result<Fault<MemoryStore>, Fail> {
+pub(crate) fn unread(rt: &impl Abort, alloc: Global, names: &[&str]) -> Fault<MemoryStore> {
     let mut keys = Vec::new(alloc);
     for name in names {
-        keys.push(StoreKey::new(alloc, name)?)?;
+        keys.push(StoreKey::new(alloc, name).expect(rt, "no refusal"))
+            .expect(rt, "no refusal");
     }
-    Ok(Fault::new(MemoryStore::new(alloc), keys, None))
+    Fault::new(MemoryStore::new(alloc), keys, None)
 }
 
 /// Such an array without a chunk.
 pub(crate) fn engine_of(
+    rt: &impl Abort,
     alloc: Global,
     shape: &[u64],
     chunk: &[u64],
     data_type: DataType,
     fill: &[u8],
-) -> Result<TestEngine, Fail> {
-    let storage = unread(alloc, &[])?;
-    engine_over(alloc, storage, shape, chunk, data_type, fill)
+) -> TestEngine {
+    let storage = unread(rt, alloc, &[]);
+    engine_over(rt, alloc, storage, shape, chunk, data_type, fill)
 }
 
 /// A call of an engine. A region, a range of chunks and a part of a chunk are given by their start and their shape,
@@ -225,25 +234,43 @@ fn make(alloc: Global, engine: &mut TestEngine, step: &Step) -> Reply {
 }
 
 /// The call of a list of calls, if it can stand there.
-fn call_of(alloc: Global, step: &Step) -> Result<Call, Fail> {
-    Ok(match step {
+fn call_of(rt: &impl Abort, alloc: Global, step: &Step) -> Call {
+    match step {
         Step::StoreRegion(start, shape, rows) => {
-            Call::StoreArraySubset(subset(alloc, start, shape)?, cells(alloc, rows)?)
+            Call::StoreArraySubset(
+                subset(alloc, start, shape).expect(rt, "no refusal"),
+                cells(alloc, rows).expect(rt, "no refusal"),
+            )
         }
         Step::StoreChunks(start, shape, rows) => {
-            Call::StoreChunks(subset(alloc, start, shape)?, cells(alloc, rows)?)
+            Call::StoreChunks(
+                subset(alloc, start, shape).expect(rt, "no refusal"),
+                cells(alloc, rows).expect(rt, "no refusal"),
+            )
         }
         Step::StorePart(indices, start, shape, rows) => {
-            let part = subset(alloc, start, shape)?;
-            Call::StoreChunkSubset(indices.to_vec(alloc)?, part, cells(alloc, rows)?)
+            let part = subset(alloc, start, shape).expect(rt, "no refusal");
+            Call::StoreChunkSubset(
+                indices.to_vec(alloc).expect(rt, "no refusal"),
+                part,
+                cells(alloc, rows).expect(rt, "no refusal"),
+            )
         }
-        Step::ReadRegion(start, shape) => Call::RetrieveArraySubset(subset(alloc, start, shape)?),
-        Step::ReadChunks(start, shape) => Call::RetrieveChunks(subset(alloc, start, shape)?),
+        Step::ReadRegion(start, shape) => Call::RetrieveArraySubset(subset(
+            alloc, start, shape,
+        ).expect(rt, "no refusal")),
+        Step::ReadChunks(start, shape) => Call::RetrieveChunks(subset(alloc, start, shape).expect(
+            rt,
+            "no refusal",
+        )),
         Step::ReadPart(indices, start, shape) => {
-            Call::RetrieveChunkSubset(indices.to_vec(alloc)?, subset(alloc, start, shape)?)
+            Call::RetrieveChunkSubset(
+                indices.to_vec(alloc).expect(rt, "no refusal"),
+                subset(alloc, start, shape).expect(rt, "no refusal"),
+            )
         }
-        Step::Store(_, _) | Step::Put(_, _) => return Err("no call of a list".into()),
-    })
+        Step::Store(_, _) | Step::Put(_, _) => return rt.panic("no call of a list"),
+    }
 }
 
 /// Whether the cells are these rows, one after another.
@@ -258,59 +285,46 @@ fn are_rows(cells: &[u8], rows: &[&[u8]]) -> bool {
     rest.is_empty()
 }
 
-fn must_be(
-    rt: &impl Abort,
-    alloc: Global,
-    reply: &Reply,
-    answer: &Answer,
-    row: usize,
-) -> Result<(), Fail> {
+fn must_be(rt: &impl Abort, alloc: Global, reply: &Reply, answer: &Answer, row: usize) {
     match (reply, answer) {
         (Reply::Done, Answer::Done) => {}
         (Reply::Cells(ArrayBytes::Fixed(held)), Answer::Cells(rows)) => {
             assert!(rt; are_rows(held.as_slice(), rows), "row {row}");
         }
         (Reply::Refused(error), Answer::Refused(text)) => {
-            assert_eq!(rt; error.to_string(alloc)?.as_str(), *text, "row {row}");
+            assert_eq!(rt;
+                error.to_string(alloc).expect(rt, "no refusal").as_str(),
+                *text,
+                "row {row}"
+            );
         }
         _ => assert!(rt; false, "another answer at row {row}"),
     }
-    Ok(())
 }
 
 /// Makes the calls in turn. Each must give its answer.
-pub(crate) fn must_go_on(
-    rt: &impl Abort,
-    alloc: Global,
-    engine: &mut TestEngine,
-    rows: &[Row],
-) -> Result<(), Fail> {
+pub(crate) fn must_go_on(rt: &impl Abort, alloc: Global, engine: &mut TestEngine, rows: &[Row]) {
     for (row, (step, answer)) in rows.iter().enumerate() {
         let reply = make(alloc, engine, step);
-        must_be(rt, alloc, &reply, answer, row)?;
+        must_be(rt, alloc, &reply, answer, row);
     }
-    Ok(())
 }
 
-fn list_of(alloc: Global, rows: &[Row]) -> Result<Vec<Call>, Fail> {
+fn list_of(rt: &impl Abort, alloc: Global, rows: &[Row]) -> Vec<Call> {
     let mut calls = Vec::new(alloc);
     for (step, _) in rows {
-        calls.push(call_of(alloc, step)?)?;
+        calls
+            .push(call_of(rt, alloc, step))
+            .expect(rt, "no refusal");
     }
-    Ok(calls)
+    calls
 }
 
-fn must_be_answers(
-    rt: &impl Abort,
-    alloc: Global,
-    replies: &[Reply],
-    rows: &[Row],
-) -> Result<(), Fail> {
+fn must_be_answers(rt: &impl Abort, alloc: Global, replies: &[Reply], rows: &[Row]) {
     assert_eq!(rt; replies.len(), rows.len());
     for (row, (reply, (_, answer))) in replies.iter().zip(rows).enumerate() {
-        must_be(rt, alloc, reply, answer, row)?;
+        must_be(rt, alloc, reply, answer, row);
     }
-    Ok(())
 }
 
 /// Makes the calls as one list. Each must give its answer.
@@ -319,9 +333,9 @@ pub(crate) fn must_go_on_in_list(
     alloc: Global,
     engine: &mut TestEngine,
     rows: &[Row],
-) -> Result<(), Fail> {
-    let calls = list_of(alloc, rows)?;
-    let replies = replay(alloc, engine, &calls, &CodecOptions::default())?;
+) {
+    let calls = list_of(rt, alloc, rows);
+    let replies = replay(alloc, engine, &calls, &CodecOptions::default()).expect(rt, "no refusal");
     must_be_answers(rt, alloc, &replies, rows)
 }
 
@@ -333,7 +347,7 @@ pub(crate) struct ReadCase {
 }
 
 /// Makes the calls of the case over bytes with fill 0, in turn. Each must give its answer.
-pub(crate) fn must_answer(rt: &impl Abort, alloc: Global, case: &ReadCase) -> Result<(), Fail> {
+pub(crate) fn must_answer(rt: &impl Abort, alloc: Global, case: &ReadCase) {
     must_answer_of(rt, alloc, DataType::UInt8, &[0], case)
 }
 
@@ -344,8 +358,8 @@ pub(crate) fn must_answer_of(
     data_type: DataType,
     fill: &[u8],
     case: &ReadCase,
-) -> Result<(), Fail> {
-    let mut engine = engine_of(alloc, case.shape, case.chunk_shape, data_type, fill)?;
+) {
+    let mut engine = engine_of(rt, alloc, case.shape, case.chunk_shape, data_type, fill);
     must_go_on(rt, alloc, &mut engine, case.rows)
 }
 
@@ -364,7 +378,7 @@ pub(crate) struct WriteCase {
 
 /// Makes the calls of the case over bytes with fill 0, in turn. Each must give its answer, and they must leave what the
 /// case says.
-pub(crate) fn must_leave(rt: &impl Abort, alloc: Global, case: &WriteCase) -> Result<(), Fail> {
+pub(crate) fn must_leave(rt: &impl Abort, alloc: Global, case: &WriteCase) {
     must_leave_of(rt, alloc, DataType::UInt8, &[0], case)
 }
 
@@ -375,16 +389,17 @@ pub(crate) fn must_leave_of(
     data_type: DataType,
     fill: &[u8],
     case: &WriteCase,
-) -> Result<(), Fail> {
-    let storage = unread(alloc, case.unread)?;
+) {
+    let storage = unread(rt, alloc, case.unread);
     let engine = engine_over(
+        rt,
         alloc,
         storage,
         case.shape,
         case.chunk_shape,
         data_type,
         fill,
-    )?;
+    );
     must_leave_over(rt, alloc, engine, case.rows, case.calls, case.left)
 }
 
@@ -397,8 +412,8 @@ pub(crate) fn must_leave_over(
     rows: &[Row],
     calls: u64,
     values: &str,
-) -> Result<(), Fail> {
-    must_go_on(rt, alloc, &mut engine, rows)?;
+) {
+    must_go_on(rt, alloc, &mut engine, rows);
     must_be_left(rt, alloc, engine.into_storage(), calls, values)
 }
 
@@ -409,41 +424,39 @@ pub(crate) fn must_be_left(
     storage: Fault<MemoryStore>,
     calls: u64,
     values: &str,
-) -> Result<(), Fail> {
+) {
     assert_eq!(rt; storage.calls(), calls);
     must_have(rt, alloc, &storage.into_inner(), values)
 }
 
 /// The store has these values.
-pub(crate) fn must_have(
-    rt: &impl Abort,
-    alloc: Global,
-    store: &MemoryStore,
-    values: &str,
-) -> Result<(), Fail> {
-    assert_eq!(rt; printed(alloc, store)?.as_str(), values);
-    Ok(())
+pub(crate) fn must_have(rt: &impl Abort, alloc: Global, store: &MemoryStore, values: &str) {
+    assert_eq!(rt; printed(rt, alloc, store).as_str(), values);
 }
 
 /// The keys and values of the store, as "c/0: 1 2; c/1: 3 4".
-fn printed(alloc: Global, store: &MemoryStore) -> Result<String, Fail> {
+fn printed(rt: &impl Abort, alloc: Global, store: &MemoryStore) -> String {
     let mut text = String::new(alloc);
-    for key in &store.keys(alloc)? {
+    for key in &store.keys(alloc).expect(rt, "no refusal") {
         if !text.is_empty() {
-            text.push_str("; ")?;
+            text.push_str("; ").expect(rt, "no refusal");
         }
-        text.push_str(key.as_str())?;
-        text.push_str(":")?;
-        if let Some(value) = store.get(alloc, key)? {
-            push_bytes(alloc, &mut text, value.as_slice())?;
+        text.push_str(key.as_str()).expect(rt, "no refusal");
+        text.push_str(":").expect(rt, "no refusal");
+        if let Some(value) = store.get(alloc, key).expect(rt, "no refusal") {
+            push_bytes(rt, alloc, &mut text, value.as_slice());
         }
     }
-    Ok(text)
+    text
 }
 
-fn push_bytes(alloc: Global, text: &mut String, bytes: &[u8]) -> Result<(), Fail> {
+fn push_bytes(rt: &impl Abort, alloc: Global, text: &mut String, bytes: &[u8]) {
     for byte in bytes {
-        text.push_str(format!(in alloc; " {byte}")?.as_str())?;
+        text.push_str(
+            format!(in alloc; " {byte}")
+                .expect(rt, "no refusal")
+                .as_str(),
+        )
+        .expect(rt, "no refusal");
     }
-    Ok(())
 }

@@ -2,7 +2,6 @@
 use std::alloc::{AllocError, Global};
 use std::io::{self, ErrorKind, Read, Write};
 use std::process::Abort;
-use std::test::Fail;
 use zarrs_script::run_script;
 
 /// The script must print this text, and end with this status.
@@ -335,10 +334,9 @@ fn must_end(rt: &impl Abort, alloc: Global, script: &[u8], pieces: usize, last: 
 }
 
 #[test]
-fn a_hundred_thousand_lines(rt: HostRuntime) -> Result<(), Fail> {
-    let script = long_script(rt.alloc(), 50_000)?;
+fn a_hundred_thousand_lines(rt: HostRuntime) {
+    let script = long_script(rt.alloc(), 50_000).expect(&rt, "no refusal");
     must_end(&rt, rt.alloc(), &script, 100_002, b"\nok\n1,2,3,79\n");
-    Ok(())
 }
 
 #[test]
@@ -464,14 +462,18 @@ fn long_list(alloc: Global, cells: u32) -> Result<Vec<u8>, AllocError> {
 }
 
 #[test]
-fn a_long_chunk_is_printed_whole(rt: HostRuntime) -> Result<(), Fail> {
-    let list = long_list(rt.alloc(), 20_000)?;
-    let mut script = Vec::from_slice(rt.alloc(), b"array 20000 20000 int16 0\nchunk 0 ")?;
-    script.extend_from_slice(&list)?;
-    script.extend_from_slice(b"\nread 0\n")?;
-    let mut prints = Vec::from_slice(rt.alloc(), b"ok\nok\n")?;
-    prints.extend_from_slice(&list)?;
-    prints.extend_from_slice(b"\n")?;
+fn a_long_chunk_is_printed_whole(rt: HostRuntime) {
+    let list = long_list(rt.alloc(), 20_000).expect(&rt, "no refusal");
+    let mut script = Vec::from_slice(rt.alloc(), b"array 20000 20000 int16 0\nchunk 0 ").expect(
+        &rt,
+        "no refusal",
+    );
+    script.extend_from_slice(&list).expect(&rt, "no refusal");
+    script
+        .extend_from_slice(b"\nread 0\n")
+        .expect(&rt, "no refusal");
+    let mut prints = Vec::from_slice(rt.alloc(), b"ok\nok\n").expect(&rt, "no refusal");
+    prints.extend_from_slice(&list).expect(&rt, "no refusal");
+    prints.extend_from_slice(b"\n").expect(&rt, "no refusal");
     must_print(&rt, rt.alloc(), &script, &prints, 0);
-    Ok(())
 }

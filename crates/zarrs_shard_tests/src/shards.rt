@@ -6,7 +6,6 @@ ghost use Rattle.zarrs_subset.specs.Boxes.{position_count};
 
 use std::alloc::Global;
 use std::process::Abort;
-use std::test::Fail;
 use zarrs_cells::{ArrayBytes, DataType};
 use zarrs_shard::laws::{
     parts_follow_one_another, shards_are_lawful, shards_compact_to_their_encoding,
@@ -73,31 +72,33 @@ fn must_compact(
     count: u64,
     at_start: bool,
     expected: Option<Option<&[u8]>>,
-) -> Result<(), Fail> {
-    match (compact_shard(alloc, encoded, count, at_start)?, expected) {
+) {
+    match (
+        compact_shard(alloc, encoded, count, at_start).expect(rt, "no refusal"),
+        expected,
+    ) {
         (None, None) | (Some(None), Some(None)) => {}
         (Some(Some(made)), Some(Some(expected))) => assert_eq!(rt; made.as_slice(), expected),
         _ => assert!(rt; false),
     }
-    Ok(())
 }
 
 #[test]
-fn shards_are_compacted(rt: HostRuntime) -> Result<(), Fail> {
+fn shards_are_compacted(rt: HostRuntime) {
     let alloc = rt.alloc();
-    must_compact(&rt, alloc, &AT_END, 2, false, Some(None))?;
-    must_compact(&rt, alloc, &AT_START, 2, true, Some(None))?;
-    must_compact(&rt, alloc, &WITH_GAP, 2, false, Some(Some(&AT_END)))?;
+    must_compact(&rt, alloc, &AT_END, 2, false, Some(None));
+    must_compact(&rt, alloc, &AT_START, 2, true, Some(None));
+    must_compact(&rt, alloc, &WITH_GAP, 2, false, Some(Some(&AT_END)));
     must_compact(&rt, alloc, &OVERLAPPING, 2, false, Some(Some(&APART)))
 }
 
 #[test]
-fn other_bytes_are_no_shard(rt: HostRuntime) -> Result<(), Fail> {
+fn other_bytes_are_no_shard(rt: HostRuntime) {
     let alloc = rt.alloc();
-    must_compact(&rt, alloc, &PAST_DATA, 2, false, None)?;
-    must_compact(&rt, alloc, &PAST_U64, 2, false, None)?;
-    must_compact(&rt, alloc, &HALF_ABSENT, 2, false, None)?;
-    must_compact(&rt, alloc, &AT_END[..31], 2, false, None)?;
+    must_compact(&rt, alloc, &PAST_DATA, 2, false, None);
+    must_compact(&rt, alloc, &PAST_U64, 2, false, None);
+    must_compact(&rt, alloc, &HALF_ABSENT, 2, false, None);
+    must_compact(&rt, alloc, &AT_END[..31], 2, false, None);
     must_compact(&rt, alloc, &AT_END, 2, true, None)
 }
 
@@ -113,7 +114,7 @@ fn must_have(
     counted: (&[u8], u64),
     number: u64,
     expected: &[u8],
-) -> Result<(), Fail>
+)
     requires number { number < subchunk_count (chunk_shape subchunks.now)
         (subchunk_shape subchunks.now) }
     requires cells { counted.1 ≡ position_count (chunk_shape subchunks.now) }
@@ -121,34 +122,40 @@ fn must_have(
     let (cells, cell_count) = counted;
     let chunk = ArrayBytes::from_flen(cells);
     if !chunk.validate(&DataType::UInt8, cell_count) {
-        return Err("no cells of this shape".into());
+        return rt.panic("no cells of this shape");
     }
-    let part = subchunks.extract(alloc, &chunk, &DataType::UInt8, number)?;
+    let part = subchunks
+        .extract(alloc, &chunk, &DataType::UInt8, number)
+        .expect(rt, "no refusal");
     must_be(rt, &part, expected);
-    Ok(())
 }
 
 /// The chunk with the part in the subchunk of this number, or `None` if it has another number of bytes.
 fn with_part(
+    rt: &impl Abort,
     alloc: Global,
     subchunks: &Subchunks,
     chunk: ArrayBytes<'static>,
     part: &ArrayBytes<'_>,
     number: u64,
     cell_count: u64,
-) -> Result<Option<ArrayBytes<'static>>, Fail>
+) -> Option<ArrayBytes<'static>>
     requires number { number < subchunk_count (chunk_shape subchunks.now)
         (subchunk_shape subchunks.now) }
     requires cells { cell_count ≡ position_count (chunk_shape subchunks.now) }
 {
     let data_type = DataType::UInt8;
     let Some(count) = element_count(subchunks.shape()) else {
-        return Ok(None);
+        return None;
     };
     if !part.validate(&data_type, count) || !chunk.validate(&data_type, cell_count) {
-        return Ok(None);
+        return None;
     }
-    Ok(Some(subchunks.put(alloc, chunk, part, &data_type, number)?))
+    Some(
+        subchunks
+            .put(alloc, chunk, part, &data_type, number)
+            .expect(rt, "no refusal"),
+    )
 }
 
 /// The chunk of zeros with these cells in the subchunk of this number.
@@ -159,19 +166,21 @@ fn must_put(
     counted: (&[u8], u64),
     number: u64,
     expected: &[u8],
-) -> Result<(), Fail>
+)
     requires number { number < subchunk_count (chunk_shape subchunks.now)
         (subchunk_shape subchunks.now) }
     requires cells { counted.1 ≡ position_count (chunk_shape subchunks.now) }
 {
     let (cells, cell_count) = counted;
-    let zeros = ArrayBytes::new_flen(vec![in alloc; 0; cell_count as usize]?);
+    let zeros = ArrayBytes::new_flen(vec![in alloc; 0; cell_count as usize].expect(
+        rt,
+        "no refusal",
+    ));
     let part = ArrayBytes::from_flen(cells);
-    let Some(made) = with_part(alloc, subchunks, zeros, &part, number, cell_count)? else {
-        return Err("no cells of this shape".into());
+    let Some(made) = with_part(rt, alloc, subchunks, zeros, &part, number, cell_count) else {
+        return rt.panic("no cells of this shape");
     };
     must_be(rt, &made, expected);
-    Ok(())
 }
 
 /// The cells of the last subchunk of a chunk of bytes, and the chunk of zeros with these cells in it.
@@ -182,20 +191,20 @@ fn must_be_last(
     (shape, sub): (&[u64], &[u64]),
     part: &[u8],
     expected: &[u8],
-) -> Result<(), Fail> {
+) {
     let (Some(subchunks), Some(cell_count)) = (
-        Subchunks::new(alloc, shape, sub)?,
+        Subchunks::new(alloc, shape, sub).expect(rt, "no refusal"),
         element_count(shape),
     ) else {
-        return Err("no such subchunks".into());
+        return rt.panic("no such subchunks");
     };
     let Some(count) = subchunks.count() else {
-        return Err("too many subchunks".into());
+        return rt.panic("too many subchunks");
     };
     if count == 0 {
-        return Err("no subchunk".into());
+        return rt.panic("no subchunk");
     }
-    must_have(rt, alloc, &subchunks, (cells, cell_count), count - 1, part)?;
+    must_have(rt, alloc, &subchunks, (cells, cell_count), count - 1, part);
     must_put(
         rt,
         alloc,
@@ -207,7 +216,7 @@ fn must_be_last(
 }
 
 #[test]
-fn subchunks_are_taken_out_and_put_in(rt: HostRuntime) -> Result<(), Fail> {
+fn subchunks_are_taken_out_and_put_in(rt: HostRuntime) {
     let alloc = rt.alloc();
     must_be_last(
         &rt,
@@ -216,7 +225,7 @@ fn subchunks_are_taken_out_and_put_in(rt: HostRuntime) -> Result<(), Fail> {
         (&[4], &[2]),
         &[5, 6],
         &[0, 0, 5, 6],
-    )?;
+    );
     must_be_last(
         &rt,
         alloc,
@@ -228,12 +237,23 @@ fn subchunks_are_taken_out_and_put_in(rt: HostRuntime) -> Result<(), Fail> {
 }
 
 #[test]
-fn subchunks_divide_their_chunk(rt: HostRuntime) -> Result<(), Fail> {
+fn subchunks_divide_their_chunk(rt: HostRuntime) {
     let alloc = rt.alloc();
-    assert!(rt; Subchunks::new(alloc, &[4], &[3])?.is_none());
-    assert!(rt; Subchunks::new(alloc, &[4], &[0])?.is_none());
-    assert!(rt; Subchunks::new(alloc, &[4], &[2, 1])?.is_none());
-    Ok(())
+    assert!(rt;
+        Subchunks::new(alloc, &[4], &[3])
+            .expect(&rt, "no refusal")
+            .is_none()
+    );
+    assert!(rt;
+        Subchunks::new(alloc, &[4], &[0])
+            .expect(&rt, "no refusal")
+            .is_none()
+    );
+    assert!(rt;
+        Subchunks::new(alloc, &[4], &[2, 1])
+            .expect(&rt, "no refusal")
+            .is_none()
+    );
 }
 
 #[test]

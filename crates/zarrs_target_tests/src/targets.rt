@@ -6,7 +6,6 @@ ghost use Rattle.zarrs_target.specs.States.{IsTarget, SameBox};
 use std::alloc::Global;
 use std::borrow::CowSlice;
 use std::process::Abort;
-use std::test::Fail;
 use zarrs_data_type::{
     ArrayBytes, ArrayBytesFixedDisjointViewCreateError, ArrayBytesOptional, DataType, FillValue,
     lies_in_box,
@@ -14,22 +13,30 @@ use zarrs_data_type::{
 use zarrs_subset::ArraySubset;
 use zarrs_target::{ArrayBytesDecodeIntoTarget, copy_fill_value_into};
 
-fn box_at(alloc: Global, start: &[u64], shape: &[u64]) -> Result<ArraySubset, Fail> {
-    Ok(ArraySubset::new_with_start_shape(start.to_vec(alloc)?, shape.to_vec(alloc)?)?)
+fn box_at(rt: &impl Abort, alloc: Global, start: &[u64], shape: &[u64]) -> ArraySubset {
+    ArraySubset::new_with_start_shape(
+        start.to_vec(alloc).expect(rt, "no refusal"),
+        shape.to_vec(alloc).expect(rt, "no refusal"),
+    )
+    .expect(rt, "no refusal")
 }
 
 /// These cells of one size under these masks, the outermost first.
 fn masked(
+    rt: &impl Abort,
     alloc: Global,
     masks: &[&'static [u8]],
     cells: &'static [u8],
-) -> Result<ArrayBytes<'static>, Fail> {
+) -> ArrayBytes<'static> {
     let mut data = ArrayBytes::from_flen(cells);
     for mask in masks.iter().rev() {
-        let inner = Box::new(alloc, data)?;
-        data = ArrayBytes::Optional(ArrayBytesOptional::new(inner, CowSlice::Borrowed(mask))?);
+        let inner = Box::new(alloc, data).expect(rt, "no refusal");
+        data = ArrayBytes::Optional(ArrayBytesOptional::new(inner, CowSlice::Borrowed(mask)).expect(
+            rt,
+            "no refusal",
+        ));
     }
-    Ok(data)
+    data
 }
 
 fn must_take(
@@ -54,62 +61,66 @@ fn must_write(
     region: &ArraySubset,
     cells: &'static [u8],
     expected: &[u8],
-) -> Result<(), Fail> {
+) {
     let mut bytes = [9u8; 9];
     let data = ArrayBytes::from_flen(cells);
-    let mut target = ArrayBytesDecodeIntoTarget::new_fixed(&mut bytes, 1, &[3, 3], region)?;
+    let mut target = ArrayBytesDecodeIntoTarget::new_fixed(&mut bytes, 1, &[3, 3], region).expect(
+        rt,
+        "no refusal",
+    );
     if !target.takes_data(&data) {
-        return Err("cells of another number".into());
+        return rt.panic("cells of another number");
     }
-    target.write_cells(alloc, &data)?;
+    target.write_cells(alloc, &data).expect(rt, "no refusal");
     drop(target);
     must_be(rt, bytes.as_slice(), expected);
-    Ok(())
 }
 
 #[test]
-fn a_row_is_written(rt: HostRuntime) -> Result<(), Fail> {
+fn a_row_is_written(rt: HostRuntime) {
     let alloc = rt.alloc();
-    let row = box_at(alloc, &[1, 1], &[1, 2])?;
+    let row = box_at(&rt, alloc, &[1, 1], &[1, 2]);
     must_write(&rt, alloc, &row, &[5, 6], &[9, 9, 9, 9, 5, 6, 9, 9, 9])
 }
 
 #[test]
-fn a_column_is_written(rt: HostRuntime) -> Result<(), Fail> {
+fn a_column_is_written(rt: HostRuntime) {
     let alloc = rt.alloc();
-    let column = box_at(alloc, &[1, 2], &[2, 1])?;
+    let column = box_at(&rt, alloc, &[1, 2], &[2, 1]);
     must_write(&rt, alloc, &column, &[5, 6], &[9, 9, 9, 9, 9, 5, 9, 9, 6])
 }
 
 #[test]
-fn an_empty_box_changes_nothing(rt: HostRuntime) -> Result<(), Fail> {
+fn an_empty_box_changes_nothing(rt: HostRuntime) {
     let alloc = rt.alloc();
-    let empty = box_at(alloc, &[3, 0], &[0, 3])?;
+    let empty = box_at(&rt, alloc, &[3, 0], &[0, 3]);
     must_write(&rt, alloc, &empty, &[], &[9, 9, 9, 9, 9, 9, 9, 9, 9])
 }
 
 /// Without a dimension there is one position.
 #[test]
-fn no_dimension_is_one_cell(rt: HostRuntime) -> Result<(), Fail> {
+fn no_dimension_is_one_cell(rt: HostRuntime) {
     let alloc = rt.alloc();
-    let region = box_at(alloc, &[], &[])?;
+    let region = box_at(&rt, alloc, &[], &[]);
     let mut bytes = [9u8, 9];
     let data = ArrayBytes::from_flen(&[5, 6]);
-    let mut target = ArrayBytesDecodeIntoTarget::new_fixed(&mut bytes, 2, &[], &region)?;
+    let mut target = ArrayBytesDecodeIntoTarget::new_fixed(&mut bytes, 2, &[], &region).expect(
+        &rt,
+        "no refusal",
+    );
     if !target.takes_data(&data) {
-        return Err("cells of another number".into());
+        return rt.panic("cells of another number");
     }
-    target.write_cells(alloc, &data)?;
+    target.write_cells(alloc, &data).expect(&rt, "no refusal");
     drop(target);
     must_be(&rt, bytes.as_slice(), &[5, 6]);
-    Ok(())
 }
 
 /// Two masks, the outermost first, and cells of two bytes.
 #[test]
-fn masks_are_written(rt: HostRuntime) -> Result<(), Fail> {
+fn masks_are_written(rt: HostRuntime) {
     let alloc = rt.alloc();
-    let region = box_at(alloc, &[1], &[2])?;
+    let region = box_at(&rt, alloc, &[1], &[2]);
     let mut bytes = [9u8; 6];
     let mut masks = [7u8, 7, 7, 8, 8, 8];
     let mut target = ArrayBytesDecodeIntoTarget::new_optional(
@@ -119,25 +130,25 @@ fn masks_are_written(rt: HostRuntime) -> Result<(), Fail> {
         2,
         &[3],
         &region,
-    )?;
-    let data = masked(alloc, &[&[1, 1], &[0, 1]], &[1, 2, 3, 4])?;
+    ).expect(&rt, "no refusal");
+    let data = masked(&rt, alloc, &[&[1, 1], &[0, 1]], &[1, 2, 3, 4]);
     if !target.takes_data(&data) {
-        return Err("cells of another number".into());
+        return rt.panic("cells of another number");
     }
-    target.write_cells(alloc, &data)?;
+    target.write_cells(alloc, &data).expect(&rt, "no refusal");
     drop(target);
     must_be(&rt, masks.as_slice(), &[7, 1, 1, 8, 0, 1]);
     must_be(&rt, &bytes[..2], &[9, 9]);
     must_be(&rt, &bytes[4..], &[3, 4]);
-    Ok(())
 }
 
 /// Writes the cells of the target's box.
 fn write(
+    rt: &impl Abort,
     alloc: Global,
     target: &mut ArrayBytesDecodeIntoTarget<'_, '_, '_>,
     data: &ArrayBytes<'_>,
-) -> Result<(), Fail>
+)
     requires { IsTarget target.old }
     ensures target { IsTarget target.new }
     ensures same_bytes { target.new.bytes.ghost_name ≡ target.old.bytes.ghost_name }
@@ -145,19 +156,19 @@ fn write(
     ensures same_box { SameBox target.old target.new }
 {
     if !target.takes_data(data) {
-        return Err("cells of another number".into());
+        return rt.panic("cells of another number");
     }
-    target.write_cells(alloc, data)?;
-    Ok(())
+    target.write_cells(alloc, data).expect(rt, "no refusal");
 }
 
 /// Writes the cells of a smaller box.
 fn write_part(
+    rt: &impl Abort,
     alloc: Global,
     target: &mut ArrayBytesDecodeIntoTarget<'_, '_, '_>,
     region: &ArraySubset,
     data: &ArrayBytes<'_>,
-) -> Result<(), Fail>
+)
     requires { IsTarget target.old }
     ensures target { IsTarget target.new }
     ensures same_bytes { target.new.bytes.ghost_name ≡ target.old.bytes.ghost_name }
@@ -165,20 +176,20 @@ fn write_part(
     ensures same_box { SameBox target.old target.new }
 {
     if !lies_in_box(region, target.region) {
-        return Err("a box outside the target's".into());
+        return rt.panic("a box outside the target's");
     }
     let mut part = target.subdivide(region);
-    let written = write(alloc, &mut part.target, data);
+    let written = write(rt, alloc, &mut part.target, data);
     target.rejoin(part);
     written
 }
 
 #[test]
-fn a_box_is_written_by_two_halves(rt: HostRuntime) -> Result<(), Fail> {
+fn a_box_is_written_by_two_halves(rt: HostRuntime) {
     let alloc = rt.alloc();
-    let region = box_at(alloc, &[0, 1], &[2, 2])?;
-    let left = box_at(alloc, &[0, 1], &[2, 1])?;
-    let right = box_at(alloc, &[0, 2], &[2, 1])?;
+    let region = box_at(&rt, alloc, &[0, 1], &[2, 2]);
+    let left = box_at(&rt, alloc, &[0, 1], &[2, 1]);
+    let right = box_at(&rt, alloc, &[0, 2], &[2, 1]);
     let mut bytes = [9u8; 6];
     let mut masks = [7u8; 6];
     let mut target = ArrayBytesDecodeIntoTarget::new_optional(
@@ -188,30 +199,31 @@ fn a_box_is_written_by_two_halves(rt: HostRuntime) -> Result<(), Fail> {
         1,
         &[2, 3],
         &region,
-    )?;
+    ).expect(&rt, "no refusal");
     write_part(
+        &rt,
         alloc,
         &mut target,
         &left,
-        &masked(alloc, &[&[1, 0]], &[1, 2])?,
-    )?;
+        &masked(&rt, alloc, &[&[1, 0]], &[1, 2]),
+    );
     write_part(
+        &rt,
         alloc,
         &mut target,
         &right,
-        &masked(alloc, &[&[0, 1]], &[3, 4])?,
-    )?;
+        &masked(&rt, alloc, &[&[0, 1]], &[3, 4]),
+    );
     drop(target);
     must_be(&rt, masks.as_slice(), &[7, 1, 0, 7, 0, 1]);
     must_be(&rt, bytes.as_slice(), &[9, 1, 3, 9, 2, 4]);
-    Ok(())
 }
 
 /// One number of masks, one number of cells and one size of a cell alone are taken.
 #[test]
-fn other_data_is_not_taken(rt: HostRuntime) -> Result<(), Fail> {
+fn other_data_is_not_taken(rt: HostRuntime) {
     let alloc = rt.alloc();
-    let region = box_at(alloc, &[1], &[2])?;
+    let region = box_at(&rt, alloc, &[1], &[2]);
     let mut bytes = [9u8; 6];
     let mut masks = [7u8; 3];
     let target = ArrayBytesDecodeIntoTarget::new_optional(
@@ -221,23 +233,32 @@ fn other_data_is_not_taken(rt: HostRuntime) -> Result<(), Fail> {
         1,
         &[3],
         &region,
-    )?;
+    ).expect(&rt, "no refusal");
     must_take(
         &rt,
         &target,
-        &masked(alloc, &[&[1, 1]], &[1, 2, 3, 4])?,
+        &masked(&rt, alloc, &[&[1, 1]], &[1, 2, 3, 4]),
         true,
     );
-    must_take(&rt, &target, &masked(alloc, &[], &[1, 2, 3, 4])?, false);
+    must_take(&rt, &target, &masked(&rt, alloc, &[], &[1, 2, 3, 4]), false);
     must_take(
         &rt,
         &target,
-        &masked(alloc, &[&[1, 1], &[1, 1]], &[1, 2, 3, 4])?,
+        &masked(&rt, alloc, &[&[1, 1], &[1, 1]], &[1, 2, 3, 4]),
         false,
     );
-    must_take(&rt, &target, &masked(alloc, &[&[1]], &[1, 2, 3, 4])?, false);
-    must_take(&rt, &target, &masked(alloc, &[&[1, 1]], &[1, 2])?, false);
-    Ok(())
+    must_take(
+        &rt,
+        &target,
+        &masked(&rt, alloc, &[&[1]], &[1, 2, 3, 4]),
+        false,
+    );
+    must_take(
+        &rt,
+        &target,
+        &masked(&rt, alloc, &[&[1, 1]], &[1, 2]),
+        false,
+    );
 }
 
 /// These are no parts of a target.
@@ -258,9 +279,9 @@ fn must_refuse(
 }
 
 #[test]
-fn other_lengths_and_boxes_are_refused(rt: HostRuntime) -> Result<(), Fail> {
+fn other_lengths_and_boxes_are_refused(rt: HostRuntime) {
     let alloc = rt.alloc();
-    let row = box_at(alloc, &[1, 1], &[1, 2])?;
+    let row = box_at(&rt, alloc, &[1, 1], &[1, 2]);
     let mut bytes = [9u8; 9];
     must_refuse(&rt, &mut bytes, 2, &[3, 3], &row);
     must_refuse(&rt, &mut bytes, 1, &[3, 4], &row);
@@ -270,24 +291,23 @@ fn other_lengths_and_boxes_are_refused(rt: HostRuntime) -> Result<(), Fail> {
         &mut bytes,
         1,
         &[3, 3],
-        &box_at(alloc, &[1, 2], &[1, 2])?,
+        &box_at(&rt, alloc, &[1, 2], &[1, 2]),
     );
     must_refuse(
         &rt,
         &mut bytes,
         1,
         &[3, 3],
-        &box_at(alloc, &[4, 0], &[0, 0])?,
+        &box_at(&rt, alloc, &[4, 0], &[0, 0]),
     );
     must_refuse(&rt, &mut bytes[..0], 0, &[1 << 32, 1 << 32], &row);
     must_be(&rt, bytes.as_slice(), &[9; 9]);
-    Ok(())
 }
 
 #[test]
-fn masks_of_other_lengths_are_refused(rt: HostRuntime) -> Result<(), Fail> {
+fn masks_of_other_lengths_are_refused(rt: HostRuntime) {
     let alloc = rt.alloc();
-    let region = box_at(alloc, &[1], &[2])?;
+    let region = box_at(&rt, alloc, &[1], &[2]);
     for depth in [1usize, 3] {
         let mut bytes = [9u8; 3];
         let mut masks = [7u8; 6];
@@ -302,26 +322,30 @@ fn masks_of_other_lengths_are_refused(rt: HostRuntime) -> Result<(), Fail> {
         let refused = made.err();
         assert!(&rt; refused == Some(ArrayBytesFixedDisjointViewCreateError));
     }
-    Ok(())
 }
 
 #[test]
-fn a_fill_value_fills_the_box(rt: HostRuntime) -> Result<(), Fail> {
+fn a_fill_value_fills_the_box(rt: HostRuntime) {
     let alloc = rt.alloc();
-    let row = box_at(alloc, &[1, 1], &[1, 2])?;
+    let row = box_at(&rt, alloc, &[1, 1], &[1, 2]);
     let mut bytes = [9u8; 9];
-    let mut target = ArrayBytesDecodeIntoTarget::new_fixed(&mut bytes, 1, &[3, 3], &row)?;
-    let fill_value = FillValue::new([4].to_vec(alloc)?);
-    copy_fill_value_into(alloc, &DataType::UInt8, &fill_value, &mut target)?;
+    let mut target = ArrayBytesDecodeIntoTarget::new_fixed(&mut bytes, 1, &[3, 3], &row).expect(
+        &rt,
+        "no refusal",
+    );
+    let fill_value = FillValue::new([4].to_vec(alloc).expect(&rt, "no refusal"));
+    copy_fill_value_into(alloc, &DataType::UInt8, &fill_value, &mut target).expect(
+        &rt,
+        "no refusal",
+    );
     drop(target);
     must_be(&rt, bytes.as_slice(), &[9, 9, 9, 9, 4, 4, 9, 9, 9]);
-    Ok(())
 }
 
 #[test]
-fn a_fill_of_none_fills_the_masks(rt: HostRuntime) -> Result<(), Fail> {
+fn a_fill_of_none_fills_the_masks(rt: HostRuntime) {
     let alloc = rt.alloc();
-    let region = box_at(alloc, &[1], &[2])?;
+    let region = box_at(&rt, alloc, &[1], &[2]);
     let mut bytes = [9u8; 3];
     let mut masks = [7u8; 3];
     let mut target = ArrayBytesDecodeIntoTarget::new_optional(
@@ -331,12 +355,11 @@ fn a_fill_of_none_fills_the_masks(rt: HostRuntime) -> Result<(), Fail> {
         1,
         &[3],
         &region,
-    )?;
-    let fill_value = FillValue::new([0].to_vec(alloc)?);
-    let data_type = DataType::Optional(Box::new(alloc, DataType::UInt8)?);
-    copy_fill_value_into(alloc, &data_type, &fill_value, &mut target)?;
+    ).expect(&rt, "no refusal");
+    let fill_value = FillValue::new([0].to_vec(alloc).expect(&rt, "no refusal"));
+    let data_type = DataType::Optional(Box::new(alloc, DataType::UInt8).expect(&rt, "no refusal"));
+    copy_fill_value_into(alloc, &data_type, &fill_value, &mut target).expect(&rt, "no refusal");
     drop(target);
     must_be(&rt, masks.as_slice(), &[7, 0, 0]);
     must_be(&rt, &bytes[..1], &[9]);
-    Ok(())
 }
