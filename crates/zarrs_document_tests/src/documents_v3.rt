@@ -448,27 +448,13 @@ fn in_metres(alloc: Global) -> Result<Map<String, Value>, AllocError> {
 }
 
 /// A field, and another one under the name of a member, which is not written.
-fn two_fields(rt: &impl Abort, alloc: Global) -> AdditionalFieldsV3 {
+fn two_fields(alloc: Global) -> Result<AdditionalFieldsV3, AllocError> {
     let mut fields: AdditionalFieldsV3 = Map::new(alloc);
     let version = AdditionalFieldV3::new(Value::from(7u64), true);
-    drop(
-        fields
-            .insert(
-                String::from_str(alloc, "version").expect(rt, "no refusal"),
-                version,
-            )
-            .expect(rt, "no refusal"),
-    );
+    drop(fields.insert(String::from_str(alloc, "version")?, version)?);
     let shadowed = AdditionalFieldV3::new(Value::Null, true);
-    drop(
-        fields
-            .insert(
-                String::from_str(alloc, "codecs").expect(rt, "no refusal"),
-                shadowed,
-            )
-            .expect(rt, "no refusal"),
-    );
-    fields
+    drop(fields.insert(String::from_str(alloc, "codecs")?, shadowed)?);
+    Ok(fields)
 }
 
 /// The smallest document with each other part.
@@ -481,7 +467,7 @@ fn with_more_parts(rt: &impl Abort, alloc: Global) -> ArrayMetadataV3 {
         .with_dimension_names(Some(names))
         .with_attributes(in_metres(alloc).expect(rt, "no refusal"))
         .with_storage_transformers(listed(alloc, "indirect").expect(rt, "no refusal"))
-        .with_additional_fields(two_fields(rt, alloc))
+        .with_additional_fields(two_fields(alloc).expect(rt, "no refusal"))
         .with_chunk_key_encoding(named(alloc, "v2").expect(rt, "no refusal"))
 }
 
