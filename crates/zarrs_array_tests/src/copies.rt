@@ -33,7 +33,7 @@ fn must_be_over(rt: &impl Abort, alloc: Global, array: &mut MemoryArray) {
 fn an_array_is_over_another_store(rt: HostRuntime) {
     let alloc = rt.alloc();
     let mut array = array(&rt, alloc, "/a", &[]);
-    must_be_over(&rt, alloc, &mut array)
+    must_be_over(&rt, alloc, &mut array);
 }
 
 fn must_read(rt: &impl Abort, alloc: Global, array: &Array<ReadOnly<'_, MemoryStore>>) {
@@ -47,19 +47,19 @@ fn must_be_readable(rt: &impl Abort, alloc: Global, array: &mut MemoryArray) {
     array
         .store_chunk(alloc, &[0, 0], &[7u8; 16])
         .expect(rt, "no refusal");
-    must_read(rt, alloc, &array.readable(alloc).expect(rt, "no refusal"))
+    must_read(rt, alloc, &array.readable(alloc).expect(rt, "no refusal"));
 }
 
 #[test]
 fn an_array_is_read_over_its_own_store(rt: HostRuntime) {
     let alloc = rt.alloc();
     let mut array = array(&rt, alloc, "/a", &[]);
-    must_be_readable(&rt, alloc, &mut array)
+    must_be_readable(&rt, alloc, &mut array);
 }
 
 fn put_attribute(rt: &impl Abort, alloc: Global, array: &mut MemoryArray) {
     let one = Value::from_str(alloc, "1").expect(rt, "no refusal");
-    serde_json::put(array.attributes_mut(), alloc, "a", one).expect(rt, "no refusal")
+    serde_json::put(array.attributes_mut(), alloc, "a", one).expect(rt, "no refusal");
 }
 
 /// What is put into the lent attributes stands in the metadata, and the array still reads.
@@ -77,5 +77,5 @@ fn must_have_attribute(rt: &impl Abort, alloc: Global, array: &mut MemoryArray) 
 fn attributes_are_lent(rt: HostRuntime) {
     let alloc = rt.alloc();
     let mut array = array(&rt, alloc, "/", &[]);
-    must_have_attribute(&rt, alloc, &mut array)
+    must_have_attribute(&rt, alloc, &mut array);
 }

@@ -60,7 +60,7 @@ fn an_array_has_the_parts_of_its_document(rt: HostRuntime) {
         ("fill_value", "7"),
     ];
     let array = array(&rt, alloc, "/array", &changes);
-    must_have_its_parts(&rt, alloc, &array)
+    must_have_its_parts(&rt, alloc, &array);
 }
 
 fn refusal(

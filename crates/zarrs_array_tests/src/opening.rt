@@ -83,7 +83,7 @@ fn must_go_on(rt: &impl Abort, alloc: Global, array: &mut MemoryArray) {
         alloc,
         array.storage(),
         &["array/c/0/1", "array/zarr.json"],
-    )
+    );
 }
 
 #[test]
@@ -92,14 +92,14 @@ fn an_array_is_stored_and_opened(rt: HostRuntime) {
     let mut array = array(&rt, alloc, "/array", &[]);
     must_store(&rt, alloc, &mut array);
     let mut opened = Array::open(alloc, array.into_storage(), "/array").expect(&rt, "no refusal");
-    must_go_on(&rt, alloc, &mut opened)
+    must_go_on(&rt, alloc, &mut opened);
 }
 
 fn must_lie_at(rt: &impl Abort, alloc: Global, array: &MemoryArray) {
     assert_eq!(rt; array.path().as_str(), "/a/b");
     assert_eq!(rt; array.storage().calls(), 1);
     must_be_of_the_text(rt, alloc, array, BYTES);
-    must_hold_its_text(rt, alloc, array, "a/b/zarr.json")
+    must_hold_its_text(rt, alloc, array, "a/b/zarr.json");
 }
 
 #[test]
@@ -109,7 +109,7 @@ fn an_array_is_written_and_opened(rt: HostRuntime) {
         &rt,
         "no refusal",
     );
-    must_lie_at(&rt, alloc, &opened)
+    must_lie_at(&rt, alloc, &opened);
 }
 
 fn must_store_and_erase(rt: &impl Abort, alloc: Global, array: &mut MemoryArray) {
@@ -117,14 +117,14 @@ fn must_store_and_erase(rt: &impl Abort, alloc: Global, array: &mut MemoryArray)
     must_hold_its_text(rt, alloc, array, "zarr.json");
     array.erase_metadata(alloc).expect(rt, "no refusal");
     assert_eq!(rt; array.storage().calls(), 2);
-    must_have_keys(rt, alloc, array.storage(), &[])
+    must_have_keys(rt, alloc, array.storage(), &[]);
 }
 
 #[test]
 fn the_root_has_the_key_alone(rt: HostRuntime) {
     let alloc = rt.alloc();
     let mut array = array(&rt, alloc, "/", &[("attributes", "{\"a\":[1,null]}")]);
-    must_store_and_erase(&rt, alloc, &mut array)
+    must_store_and_erase(&rt, alloc, &mut array);
 }
 
 /// A store that holds these bytes at `zarr.json`.
@@ -262,7 +262,7 @@ fn e12_names_the_first_field(rt: HostRuntime) {
         ("codecs", "[]"),
     ];
     let error = refusal(&rt, alloc, holding_document(&rt, alloc, &changes), "/");
-    must_name_the_field(&rt, alloc, &error)
+    must_name_the_field(&rt, alloc, &error);
 }
 
 fn must_have_a_field(rt: &impl Abort, array: &MemoryArray) {
@@ -277,7 +277,7 @@ fn a_field_that_need_not_be_understood(rt: HostRuntime) {
         &rt,
         "no refusal",
     );
-    must_have_a_field(&rt, &array)
+    must_have_a_field(&rt, &array);
 }
 
 fn must_be_no_chain(rt: &impl Abort, error: &ArrayCreateError) {
@@ -299,5 +299,5 @@ fn a_store_that_refuses_keeps_its_document(rt: HostRuntime) {
     assert!(rt; matches!(array.erase_metadata(alloc), Err(StorageError::Other(_))));
     let storage = array.into_storage();
     assert_eq!(rt; storage.failures(), 1);
-    must_have_keys(&rt, alloc, &storage.into_inner(), &["zarr.json"])
+    must_have_keys(&rt, alloc, &storage.into_inner(), &["zarr.json"]);
 }

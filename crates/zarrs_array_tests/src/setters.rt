@@ -36,5 +36,5 @@ fn must_name(rt: &impl Abort, alloc: Global, array: &mut MemoryArray) {
 fn dimensions_are_named(rt: HostRuntime) {
     let alloc = rt.alloc();
     let mut array = array(&rt, alloc, "/", &[]);
-    must_name(&rt, alloc, &mut array)
+    must_name(&rt, alloc, &mut array);
 }

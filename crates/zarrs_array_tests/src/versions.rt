@@ -124,7 +124,7 @@ fn order_f_stores_columns(rt: HostRuntime) {
         "0.0",
         &[1, 0, 3, 0, 2, 0, 4, 0],
     );
-    must_read_back(&rt, alloc, &array, &[1, 0, 2, 0, 3, 0, 4, 0])
+    must_read_back(&rt, alloc, &array, &[1, 0, 2, 0, 3, 0, 4, 0]);
 }
 
 /// The options that show metadata in V3, without the attribute of this library.
@@ -157,7 +157,7 @@ pub(crate) fn must_show(
 fn v2_metadata_is_shown_in_v3(rt: HostRuntime) {
     let alloc = rt.alloc();
     let array = open(&rt, alloc, &[(".zarray", COLUMNS)]);
-    must_show(&rt, alloc, &array, &plain_v3(), CONVERTED)
+    must_show(&rt, alloc, &array, &plain_v3(), CONVERTED);
 }
 
 /// The array has V3 metadata of this text, and its store has the V2 document alone.
@@ -169,7 +169,7 @@ fn must_be_converted(rt: &impl Abort, alloc: Global, array: &MemoryArray) {
         .to_string(alloc)
         .expect(rt, "no refusal");
     assert_eq!(rt; text.as_str(), CONVERTED);
-    must_have_keys(rt, alloc, array.storage(), &[".zarray"])
+    must_have_keys(rt, alloc, array.storage(), &[".zarray"]);
 }
 
 #[test]
@@ -177,7 +177,7 @@ fn a_v2_array_becomes_a_v3_array(rt: HostRuntime) {
     let alloc = rt.alloc();
     let array = open(&rt, alloc, &[(".zarray", COLUMNS)]);
     let array = array.to_v3(alloc).expect(&rt, "no refusal");
-    must_be_converted(&rt, alloc, &array)
+    must_be_converted(&rt, alloc, &array);
 }
 
 fn must_have_members(rt: &impl Abort, alloc: Global, attributes: &Map<String, Value>, text: &str) {
@@ -194,7 +194,7 @@ fn must_have_members(rt: &impl Abort, alloc: Global, attributes: &Map<String, Va
 /// The attributes of the array that opens, as compact text.
 fn must_have_attributes(rt: &impl Abort, alloc: Global, entries: &[(&str, &str)], text: &str) {
     let array = open(rt, alloc, entries);
-    must_have_members(rt, alloc, array.attributes(), text)
+    must_have_members(rt, alloc, array.attributes(), text);
 }
 
 #[test]
@@ -202,7 +202,7 @@ fn attributes_at_their_own_key_come_first(rt: HostRuntime) {
     let alloc = rt.alloc();
     let array = (".zarray", WITH_ATTRIBUTES);
     must_have_attributes(&rt, alloc, &[array], "{\"a\":1}");
-    must_have_attributes(&rt, alloc, &[array, (".zattrs", "{\"b\":2}")], "{\"b\":2}")
+    must_have_attributes(&rt, alloc, &[array, (".zattrs", "{\"b\":2}")], "{\"b\":2}");
 }
 
 const MADE_BY: &str = concat!(
@@ -219,7 +219,7 @@ fn must_hold_text(rt: &impl Abort, alloc: Global, storage: &MemoryStore, name: &
         storage,
         name,
         &value.to_vec_pretty(alloc).expect(rt, "no refusal"),
-    )
+    );
 }
 
 /// What is stored has the attribute of this library, and the array has its own.
@@ -234,14 +234,14 @@ fn must_store_what_it_shows(rt: &impl Abort, alloc: Global, array: &mut MemoryAr
         .to_string(alloc)
         .expect(rt, "no refusal");
     must_hold_text(rt, alloc, array.storage(), "zarr.json", &text);
-    must_have_members(rt, alloc, array.attributes(), "{\"_zarrs\":1}")
+    must_have_members(rt, alloc, array.attributes(), "{\"_zarrs\":1}");
 }
 
 #[test]
 fn the_attribute_of_this_library_is_stored_and_not_kept(rt: HostRuntime) {
     let alloc = rt.alloc();
     let mut array = array(&rt, alloc, "/", &[("attributes", "{\"_zarrs\":1}")]);
-    must_store_what_it_shows(&rt, alloc, &mut array)
+    must_store_what_it_shows(&rt, alloc, &mut array);
 }
 
 /// The attributes are stored at their key, which is erased if there is none.
@@ -260,7 +260,7 @@ fn must_store_two_parts(rt: &impl Abort, alloc: Global, array: &mut MemoryArray)
 fn v2_metadata_is_stored_in_two_parts(rt: HostRuntime) {
     let alloc = rt.alloc();
     let mut array = open(&rt, alloc, &[(".zarray", COLUMNS), (".zattrs", "{}")]);
-    must_store_two_parts(&rt, alloc, &mut array)
+    must_store_two_parts(&rt, alloc, &mut array);
 }
 
 fn must_refuse_to_store(rt: &impl Abort, alloc: Global, array: &mut Array<Fault<MemoryStore>>) {
@@ -271,7 +271,7 @@ fn must_refuse_to_store(rt: &impl Abort, alloc: Global, array: &mut Array<Fault<
 /// The attributes were stored, and the document is what it was.
 fn must_have_a_front(rt: &impl Abort, alloc: Global, storage: &MemoryStore) {
     must_have_keys(rt, alloc, storage, &[".zarray", ".zattrs"]);
-    must_hold(rt, alloc, storage, ".zarray", WITH_ATTRIBUTES.as_bytes())
+    must_hold(rt, alloc, storage, ".zarray", WITH_ATTRIBUTES.as_bytes());
 }
 
 #[test]
@@ -282,7 +282,7 @@ fn a_refused_store_of_v2_metadata_keeps_its_document(rt: HostRuntime) {
     let mut array = Array::open(&rt, alloc, storage, "/");
     must_refuse_to_store(&rt, alloc, &mut array);
     let storage = array.into_storage().into_inner();
-    must_have_a_front(&rt, alloc, &storage)
+    must_have_a_front(&rt, alloc, &storage);
 }
 
 fn must_erase(
@@ -295,7 +295,7 @@ fn must_erase(
     array
         .erase_metadata_opt(alloc, version)
         .expect(rt, "no refusal");
-    must_have_keys(rt, alloc, array.storage(), names)
+    must_have_keys(rt, alloc, array.storage(), names);
 }
 
 /// What is left of the metadata of both versions.
@@ -310,7 +310,7 @@ fn must_leave(rt: &impl Abort, alloc: Global, version: MetadataEraseVersion, nam
         rt,
         "no refusal",
     );
-    must_erase(rt, alloc, &mut array, version, names)
+    must_erase(rt, alloc, &mut array, version, names);
 }
 
 #[test]
@@ -324,7 +324,7 @@ fn metadata_of_each_version_is_erased(rt: HostRuntime) {
         MetadataEraseVersion::V3,
         &[".zarray", ".zattrs"],
     );
-    must_leave(&rt, alloc, MetadataEraseVersion::All, &[])
+    must_leave(&rt, alloc, MetadataEraseVersion::All, &[]);
 }
 
 fn must_be_of_version_3(rt: &impl Abort, metadata: &ArrayMetadata) {
@@ -379,5 +379,5 @@ fn must_have_no_names(rt: &impl Abort, alloc: Global, array: &mut MemoryArray) {
 fn a_v2_array_has_no_names(rt: HostRuntime) {
     let alloc = rt.alloc();
     let mut array = open(&rt, alloc, &[(".zarray", COLUMNS)]);
-    must_have_no_names(&rt, alloc, &mut array)
+    must_have_no_names(&rt, alloc, &mut array);
 }

@@ -43,7 +43,7 @@ fn an_array_is_built(rt: HostRuntime) {
         .build(alloc, MemoryStore::new(alloc), "/array")
         .expect(&rt, "no refusal");
     must_be_cut(&rt, &array);
-    must_be_named(&rt, &array, &["y", "x"])
+    must_be_named(&rt, &array, &["y", "x"]);
 }
 
 #[test]
@@ -82,7 +82,7 @@ fn a_built_array_is_stored_and_read(rt: HostRuntime) {
     let mut array = builder
         .build(alloc, MemoryStore::new(alloc), "/")
         .expect(&rt, "no refusal");
-    must_keep_cells(&rt, alloc, &mut array)
+    must_keep_cells(&rt, alloc, &mut array);
 }
 
 /// The builder of the array says this metadata.
@@ -92,7 +92,7 @@ fn must_build(rt: &impl Abort, alloc: Global, array: &MemoryArray, text: &str) {
         alloc,
         &array.builder(alloc).expect(rt, "no refusal"),
         text,
-    )
+    );
 }
 
 /// A V3 document with everything that a builder takes, by other names.
@@ -125,7 +125,7 @@ fn v3_array(rt: &impl Abort, alloc: Global) -> MemoryArray {
 
 #[test]
 fn a_builder_of_a_v3_array(rt: HostRuntime) {
-    must_build(&rt, rt.alloc(), &v3_array(&rt, rt.alloc()), BUILT)
+    must_build(&rt, rt.alloc(), &v3_array(&rt, rt.alloc()), BUILT);
 }
 
 /// The V3 metadata of a V2 array of numbers whose fill value is null.
@@ -154,7 +154,7 @@ fn v2_array(rt: &impl Abort, alloc: Global) -> MemoryArray {
 
 #[test]
 fn a_builder_of_a_v2_array(rt: HostRuntime) {
-    must_build(&rt, rt.alloc(), &v2_array(&rt, rt.alloc()), CONVERTED)
+    must_build(&rt, rt.alloc(), &v2_array(&rt, rt.alloc()), CONVERTED);
 }
 
 #[test]
@@ -166,5 +166,5 @@ fn a_builder_is_used_again(rt: HostRuntime) {
             .build(alloc, MemoryStore::new(alloc), "/")
             .expect(&rt, "no refusal"),
     );
-    must_say(&rt, alloc, &builder, BYTES)
+    must_say(&rt, alloc, &builder, BYTES);
 }

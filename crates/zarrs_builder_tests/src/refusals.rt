@@ -100,7 +100,7 @@ fn fill_values_that_are_none(rt: HostRuntime) {
     let number = of_cells(&rt, alloc, DataType::String, 123u8);
     must_be_of_fill_metadata(&rt, &number);
     let text = "invalid fill value metadata for data type `string`: 123";
-    must_print(&rt, alloc, &number, text)
+    must_print(&rt, alloc, &number, text);
 }
 
 fn must_be_of_the_fill_value(rt: &impl Abort, error: &ArrayCreateError) {
@@ -118,7 +118,7 @@ fn bytes_that_are_no_fill_value(rt: HostRuntime) {
         alloc,
         &error,
         "invalid fill value for data type `int8`: [0, 0]",
-    )
+    );
 }
 
 fn must_be_of_the_names(rt: &impl Abort, error: &ArrayCreateError) {

@@ -17,7 +17,7 @@ use zarrs_options::StorageTransformerChain;
 
 #[test]
 fn a_builder_says_what_it_was_given(rt: HostRuntime) {
-    must_say(&rt, rt.alloc(), &bytes(rt.alloc()), BYTES)
+    must_say(&rt, rt.alloc(), &bytes(rt.alloc()), BYTES);
 }
 
 /// The metadata of four bytes, each of which may be none.
@@ -35,7 +35,7 @@ fn an_optional_type_has_a_default_codec(rt: HostRuntime) {
     let alloc = rt.alloc();
     let text = "{\"name\":\"zarrs.optional\",\"configuration\":{\"name\":\"uint8\"}}";
     let builder = ArrayBuilder::new(alloc, [4u64], [2u64], text, FillValueMetadata::Null);
-    must_say(&rt, alloc, &builder, OPTIONAL)
+    must_say(&rt, alloc, &builder, OPTIONAL);
 }
 
 fn object(rt: &impl Abort, alloc: Global, text: &str) -> Map<String, Value> {
@@ -94,7 +94,7 @@ const EVERYTHING: &str = concat!(
 
 #[test]
 fn each_part_is_replaced(rt: HostRuntime) {
-    must_say(&rt, rt.alloc(), &everything(&rt, rt.alloc()), EVERYTHING)
+    must_say(&rt, rt.alloc(), &everything(&rt, rt.alloc()), EVERYTHING);
 }
 
 /// What was set is taken away again, or set to what a new builder has.
@@ -114,7 +114,7 @@ fn taken_back(rt: &impl Abort, alloc: Global) -> ArrayBuilder {
 
 #[test]
 fn each_part_is_taken_back(rt: HostRuntime) {
-    must_say(&rt, rt.alloc(), &taken_back(&rt, rt.alloc()), BYTES)
+    must_say(&rt, rt.alloc(), &taken_back(&rt, rt.alloc()), BYTES);
 }
 
 /// The shape and the grid of the metadata that is built.
@@ -138,7 +138,7 @@ const BOUNDED: &str = "{\"configuration\":{\"chunk_shape\":[3]},\"name\":\"regul
 fn a_shape_keeps_the_grid(rt: HostRuntime) {
     let mut builder = bytes(rt.alloc());
     builder.shape(rt.alloc(), [10u64, 12]);
-    must_be_cut(&rt, rt.alloc(), &builder, &[10, 12], REGULAR)
+    must_be_cut(&rt, rt.alloc(), &builder, &[10, 12], REGULAR);
 }
 
 fn bounded(rt: &impl Abort, alloc: Global) -> ChunkGrid {
@@ -157,7 +157,7 @@ fn a_grid_sets_the_shape(rt: HostRuntime) {
     let grid = bounded(&rt, rt.alloc());
     let mut builder = bytes(rt.alloc());
     builder.chunk_grid(rt.alloc(), grid);
-    must_be_cut(&rt, rt.alloc(), &builder, &[5], BOUNDED)
+    must_be_cut(&rt, rt.alloc(), &builder, &[5], BOUNDED);
 }
 
 #[test]
@@ -165,7 +165,7 @@ fn a_grid_makes_a_builder(rt: HostRuntime) {
     let grid = bounded(&rt, rt.alloc());
     let mut builder = ArrayBuilder::new_with_chunk_grid(rt.alloc(), grid, "int8", -1i8);
     builder.shape(rt.alloc(), [7u64].as_slice());
-    must_be_cut(&rt, rt.alloc(), &builder, &[7], BOUNDED)
+    must_be_cut(&rt, rt.alloc(), &builder, &[7], BOUNDED);
 }
 
 /// What is given for a grid of chunks of 4 by 4 keeps the shape.
@@ -176,7 +176,7 @@ fn must_be_regular<G: IntoField<ArrayBuilderChunkGridMetadata>>(
 ) {
     let mut builder = ArrayBuilder::new(alloc, [8u64, 8], "regular", DataType::UInt8, 0u8);
     builder.chunk_grid_metadata(alloc, grid);
-    must_be_cut(rt, alloc, &builder, &[8, 8], REGULAR)
+    must_be_cut(rt, alloc, &builder, &[8, 8], REGULAR);
 }
 
 #[test]
@@ -303,5 +303,5 @@ fn a_dimension_may_have_no_name(rt: HostRuntime) {
     .expect(&rt, "no refusal");
     let mut builder = bytes(alloc);
     builder.dimension_names(alloc, Some(names));
-    must_have_names(&rt, alloc, &builder, &[Some("y"), None])
+    must_have_names(&rt, alloc, &builder, &[Some("y"), None]);
 }

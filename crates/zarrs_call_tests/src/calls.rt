@@ -56,14 +56,14 @@ const WRITTEN: &[u8] = &[
 
 fn must_write(rt: &impl Abort, alloc: Global, array: &mut MemoryArray) {
     write(rt, alloc, array);
-    must_hold(rt, alloc, array, WRITTEN)
+    must_hold(rt, alloc, array, WRITTEN);
 }
 
 #[test]
 fn what_is_written_is_in_its_region(rt: HostRuntime) {
     let alloc = rt.alloc();
     let mut array = small_array(&rt, alloc);
-    must_write(&rt, alloc, &mut array)
+    must_write(&rt, alloc, &mut array);
 }
 
 /// The same with options that keep empty chunks, and erasures of a chunk and of a range.
@@ -161,14 +161,14 @@ fn must_keep_and_erase(rt: &impl Abort, alloc: Global, array: &mut MemoryArray) 
     must_have_keys(rt, alloc, array, 4);
     erase(rt, alloc, array, &[0, 0]);
     erase_range(rt, alloc, array, &region(rt, alloc, &[1, 0], &[1, 2]));
-    must_have_keys(rt, alloc, array, 1)
+    must_have_keys(rt, alloc, array, 1);
 }
 
 #[test]
 fn empty_chunks_are_kept_and_erased(rt: HostRuntime) {
     let alloc = rt.alloc();
     let mut array = small_array(&rt, alloc);
-    must_keep_and_erase(&rt, alloc, &mut array)
+    must_keep_and_erase(&rt, alloc, &mut array);
 }
 
 /// Reads of a chunk, of a part of one and of a range, and of the stored bytes.
@@ -188,7 +188,7 @@ fn must_read(rt: &impl Abort, alloc: Global, array: &MemoryArray) {
         .expect(rt, "no refusal");
     must_be(rt, &found.expect(rt, "an absent chunk"), &[0, 0, 9, 6]);
     must_be_stored(rt, alloc, array, &[1, 0], &[7, 9, 7, 7]);
-    must_store_so_many(rt, alloc, array, &chunks, 2)
+    must_store_so_many(rt, alloc, array, &chunks, 2);
 }
 
 /// Reads two cells into a lent box, and one column into a box of another shape, which is refused.
@@ -212,14 +212,14 @@ fn must_read_into(rt: &impl Abort, alloc: Global, array: &MemoryArray) {
 fn must_read_back(rt: &impl Abort, alloc: Global, array: &mut MemoryArray) {
     write(rt, alloc, array);
     must_read(rt, alloc, array);
-    must_read_into(rt, alloc, array)
+    must_read_into(rt, alloc, array);
 }
 
 #[test]
 fn what_is_read_is_what_was_written(rt: HostRuntime) {
     let alloc = rt.alloc();
     let mut array = small_array(&rt, alloc);
-    must_read_back(&rt, alloc, &mut array)
+    must_read_back(&rt, alloc, &mut array);
 }
 
 /// A list of calls: a store, and a read of indices without a chunk key.
@@ -234,14 +234,14 @@ fn must_replay(rt: &impl Abort, alloc: Global, array: &mut MemoryArray) {
         .replay(alloc, &calls, &CodecOptions::default())
         .expect(rt, "no refusal");
     assert!(rt; matches!(replies.as_slice(), [Reply::Done, Reply::Refused(_)]));
-    must_have_keys(rt, alloc, array, 1)
+    must_have_keys(rt, alloc, array, 1);
 }
 
 #[test]
 fn a_list_of_calls_has_a_reply_each(rt: HostRuntime) {
     let alloc = rt.alloc();
     let mut array = small_array(&rt, alloc);
-    must_replay(&rt, alloc, &mut array)
+    must_replay(&rt, alloc, &mut array);
 }
 
 fn must_lie(rt: &impl Abort, alloc: Global, array: &MemoryArray) {
@@ -343,5 +343,5 @@ fn queries_say_where_chunks_lie(rt: HostRuntime) {
     let array = small_array(&rt, alloc);
     must_lie(&rt, alloc, &array);
     must_fill(&rt, alloc, &array);
-    must_meet(&rt, alloc, &array)
+    must_meet(&rt, alloc, &array);
 }

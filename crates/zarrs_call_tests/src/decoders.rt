@@ -75,7 +75,7 @@ fn must_have_no_decoder(rt: &impl Abort, alloc: Global, array: &MemoryArray, ind
 fn parts_of_a_chunk_are_decoded(rt: HostRuntime) {
     let array = numbered(&rt, rt.alloc());
     must_have_no_decoder(&rt, rt.alloc(), &array, &[0]);
-    must_decode(&rt, rt.alloc(), &array)
+    must_decode(&rt, rt.alloc(), &array);
 }
 
 /// Two cells of the array are read into the middle of four bytes.
@@ -96,7 +96,7 @@ fn must_read_into(rt: &impl Abort, alloc: Global, array: &MemoryArray) {
 #[test]
 fn a_region_is_read_into_a_box_with_options(rt: HostRuntime) {
     let array = numbered(&rt, rt.alloc());
-    must_read_into(&rt, rt.alloc(), &array)
+    must_read_into(&rt, rt.alloc(), &array);
 }
 
 /// A caller asks both arrays for the number of dimensions before it compares chunks.
@@ -131,7 +131,7 @@ fn arrays_are_compared_by_their_chunks(rt: HostRuntime) {
     let alloc = rt.alloc();
     let array = numbered(&rt, alloc);
     let other = crate::made::array(&rt, alloc, "/b", &[]);
-    must_compare(&rt, alloc, &array, &other)
+    must_compare(&rt, alloc, &array, &other);
 }
 
 /// What is printed has no store.
@@ -144,7 +144,7 @@ fn must_be_printed(rt: &impl Abort, alloc: Global, array: &MemoryArray) {
 #[test]
 fn an_array_is_printed(rt: HostRuntime) {
     let array = numbered(&rt, rt.alloc());
-    must_be_printed(&rt, rt.alloc(), &array)
+    must_be_printed(&rt, rt.alloc(), &array);
 }
 
 #[test]

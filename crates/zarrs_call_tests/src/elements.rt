@@ -73,7 +73,7 @@ fn must_store(rt: &impl Abort, alloc: Global, array: &mut MemoryArray) {
 fn elements_are_stored_and_read(rt: HostRuntime) {
     let alloc = rt.alloc();
     let mut array = array(&rt, alloc, "/", NUMBERS);
-    must_store(&rt, alloc, &mut array)
+    must_store(&rt, alloc, &mut array);
 }
 
 fn must_store_by_options(rt: &impl Abort, alloc: Global, array: &mut MemoryArray) {
@@ -123,5 +123,5 @@ fn must_store_by_options(rt: &impl Abort, alloc: Global, array: &mut MemoryArray
 fn elements_are_stored_and_read_by_options(rt: HostRuntime) {
     let alloc = rt.alloc();
     let mut array = array(&rt, alloc, "/", NUMBERS);
-    must_store_by_options(&rt, alloc, &mut array)
+    must_store_by_options(&rt, alloc, &mut array);
 }

@@ -62,14 +62,14 @@ fn must_grow(rt: &impl Abort, alloc: Global, array: &mut MemoryArray) {
 fn an_array_has_another_shape(rt: HostRuntime) {
     let alloc = rt.alloc();
     let mut array = array(&rt, alloc, "/", &[]);
-    must_grow(&rt, alloc, &mut array)
+    must_grow(&rt, alloc, &mut array);
 }
 
 #[test]
 fn a_v2_array_has_another_shape(rt: HostRuntime) {
     let alloc = rt.alloc();
     let mut array = v2_array(&rt, alloc);
-    must_grow(&rt, alloc, &mut array)
+    must_grow(&rt, alloc, &mut array);
 }
 
 fn must_have_other_dimensions<T: Drop>(rt: &impl Abort, set: Result<T, ArrayCreateError>) {
@@ -94,7 +94,7 @@ fn must_stay(rt: &impl Abort, alloc: Global, array: &mut MemoryArray) {
 fn listed_sizes_keep_their_extent(rt: HostRuntime) {
     let alloc = rt.alloc();
     let mut array = array(&rt, alloc, "/", LISTED);
-    must_stay(&rt, alloc, &mut array)
+    must_stay(&rt, alloc, &mut array);
 }
 
 fn must_have_chunk(
@@ -146,7 +146,7 @@ fn must_be_rectangular(rt: &impl Abort, alloc: Global, array: &mut MemoryArray) 
 fn an_array_has_another_grid(rt: HostRuntime) {
     let alloc = rt.alloc();
     let mut array = array(&rt, alloc, "/", &[]);
-    must_be_rectangular(&rt, alloc, &mut array)
+    must_be_rectangular(&rt, alloc, &mut array);
 }
 
 /// A text that is no metadata comes before the number of dimensions, and that before the grid.
@@ -164,7 +164,7 @@ fn must_refuse_in_order(rt: &impl Abort, alloc: Global, array: &mut MemoryArray)
 fn another_grid_is_refused_in_order(rt: HostRuntime) {
     let alloc = rt.alloc();
     let mut array = array(&rt, alloc, "/", &[]);
-    must_refuse_in_order(&rt, alloc, &mut array)
+    must_refuse_in_order(&rt, alloc, &mut array);
 }
 
 /// A V2 array takes another `regular` grid, and no other one.
@@ -190,5 +190,5 @@ fn must_be_regular(rt: &impl Abort, alloc: Global, array: &mut MemoryArray) {
 fn a_v2_array_has_regular_grids(rt: HostRuntime) {
     let alloc = rt.alloc();
     let mut array = v2_array(&rt, alloc);
-    must_be_regular(&rt, alloc, &mut array)
+    must_be_regular(&rt, alloc, &mut array);
 }

@@ -68,7 +68,7 @@ fn must_store_lists(rt: &impl Abort, alloc: Global, array: &mut MemoryArray) {
 fn lists_are_stored_and_read(rt: HostRuntime) {
     let alloc = rt.alloc();
     let mut array = array(&rt, alloc, "/", WORDS);
-    must_store_lists(&rt, alloc, &mut array)
+    must_store_lists(&rt, alloc, &mut array);
 }
 
 /// A present chunk is read as values of another type, and an absent one.
@@ -100,7 +100,7 @@ fn must_refuse_other_lists(rt: &impl Abort, alloc: Global, array: &mut MemoryArr
 fn lists_of_another_type_are_refused_last_by_reads(rt: HostRuntime) {
     let alloc = rt.alloc();
     let mut array = array(&rt, alloc, "/", WORDS);
-    must_refuse_other_lists(&rt, alloc, &mut array)
+    must_refuse_other_lists(&rt, alloc, &mut array);
 }
 
 /// A store of another type is refused after the place of the part, the region or the number of chunks, and before the
@@ -129,7 +129,7 @@ fn must_refuse_in_order(rt: &impl Abort, alloc: Global, array: &mut MemoryArray)
 fn lists_of_another_type_are_refused_in_their_place_by_stores(rt: HostRuntime) {
     let alloc = rt.alloc();
     let mut array = array(&rt, alloc, "/", WORDS);
-    must_refuse_in_order(&rt, alloc, &mut array)
+    must_refuse_in_order(&rt, alloc, &mut array);
 }
 
 /// Texts that are lent are stored, and read as texts that are owned; the other way of each call takes options.
@@ -166,5 +166,5 @@ fn must_store_texts(rt: &impl Abort, alloc: Global, array: &mut MemoryArray) {
 fn texts_are_stored_and_read(rt: HostRuntime) {
     let alloc = rt.alloc();
     let mut array = array(&rt, alloc, "/", TEXTS);
-    must_store_texts(&rt, alloc, &mut array)
+    must_store_texts(&rt, alloc, &mut array);
 }

@@ -44,7 +44,7 @@ fn must_be_copied(rt: &impl Abort, alloc: Global, grid: &Grid) {
 fn copies_of_grids(rt: HostRuntime) {
     must_be_copied(&rt, rt.alloc(), &Grid::Regular(&[5], &[2]));
     must_be_copied(&rt, rt.alloc(), &FIVE_BY_TWOS);
-    must_be_copied(&rt, rt.alloc(), &TWO_AND_THREE_BY_FOUR)
+    must_be_copied(&rt, rt.alloc(), &TWO_AND_THREE_BY_FOUR);
 }
 
 /// The grid's metadata over another shape.
@@ -58,7 +58,7 @@ fn anew(rt: &impl Abort, alloc: Global, grid: &Grid, array_shape: &[u64]) -> Chu
 fn must_lengthen(rt: &impl Abort, alloc: Global) {
     let longer = anew(rt, alloc, &FIVE_BY_TWOS, &[8]);
     must_have_shapes(rt, &longer, &[8], &[4]);
-    must_be_chunk(rt, alloc, &longer, &[2], &(&[4], &[2]))
+    must_be_chunk(rt, alloc, &longer, &[2], &(&[4], &[2]));
 }
 
 fn must_widen(rt: &impl Abort, alloc: Global) {
@@ -86,7 +86,7 @@ fn regular_grids_read_from_metadata_and_written_again(rt: HostRuntime) {
     grid_of_its_configuration(&grid);
     must(&rt, matches!(&grid, ChunkGrid::Regular(_)));
     must_have_shapes(&rt, &grid, &[8, 8], &[2, 3]);
-    must_be_written(&rt, rt.alloc(), &grid, TEXT)
+    must_be_written(&rt, rt.alloc(), &grid, TEXT);
 }
 
 /// The text says a bounded grid of 3 chunks, whose metadata is the second.
@@ -94,7 +94,7 @@ fn must_be_bounded(rt: &impl Abort, alloc: Global, text: &str, written: &str) {
     let grid = read_grid(rt, alloc, text, &[5]);
     must(rt, matches!(&grid, ChunkGrid::RegularBounded(_)));
     must_have_shapes(rt, &grid, &[5], &[3]);
-    must_be_written(rt, alloc, &grid, written)
+    must_be_written(rt, alloc, &grid, written);
 }
 
 #[test]
@@ -103,7 +103,7 @@ fn bounded_grids_read_from_metadata_and_written_again(rt: HostRuntime) {
         "{\"configuration\":{\"chunk_shape\":[2]},\"name\":\"zarrs.regular_bounded\"}";
     const MAIN: &str = "{\"configuration\":{\"chunk_shape\":[2]},\"name\":\"regular_bounded\"}";
     must_be_bounded(&rt, rt.alloc(), ALIAS, MAIN);
-    must_be_bounded(&rt, rt.alloc(), MAIN, MAIN)
+    must_be_bounded(&rt, rt.alloc(), MAIN, MAIN);
 }
 
 #[test]
@@ -112,7 +112,7 @@ fn rectangular_grids_read_from_metadata_and_written_again(rt: HostRuntime) {
     let grid = read_grid(&rt, rt.alloc(), TEXT, &[5, 8]);
     must(&rt, matches!(&grid, ChunkGrid::Rectangular(_)));
     must_have_shapes(&rt, &grid, &[5, 8], &[2, 2]);
-    must_be_written(&rt, rt.alloc(), &grid, TEXT)
+    must_be_written(&rt, rt.alloc(), &grid, TEXT);
 }
 
 fn must_say_no_grid(rt: &impl Abort, alloc: Global, text: &str) {

@@ -211,7 +211,7 @@ fn regular_chunks_that_a_region_meets(rt: HostRuntime) {
         Fact::Meets((&[0], &[4]), (&[0], &[1])),
         Fact::Meets((&[0], &[5]), (&[0], &[2])),
     ];
-    must_say_each(&rt, rt.alloc(), &FOURS, FACTS)
+    must_say_each(&rt, rt.alloc(), &FOURS, FACTS);
 }
 
 fn must_be_empty(rt: &impl Abort, found: &ArraySubset) {
@@ -247,7 +247,7 @@ fn bounded_chunks_end_with_the_array(rt: HostRuntime) {
         Fact::NoChunk(&[3]),
         Fact::Uncovered((&[4], &[2])),
     ];
-    must_say_each(&rt, rt.alloc(), &Grid::Bounded(&[5], &[2]), FACTS)
+    must_say_each(&rt, rt.alloc(), &Grid::Bounded(&[5], &[2]), FACTS);
 }
 
 #[test]
@@ -259,7 +259,7 @@ fn rectangular_chunks_of_listed_sizes(rt: HostRuntime) {
         Fact::PlainShape(&[1, 5], &[3, 4]),
         Fact::NoChunk(&[2, 0]),
     ];
-    must_say_each(&rt, rt.alloc(), &TWO_AND_THREE_BY_FOUR, FACTS)
+    must_say_each(&rt, rt.alloc(), &TWO_AND_THREE_BY_FOUR, FACTS);
 }
 
 fn must_meet_ranges(rt: &impl Abort, alloc: Global, grid: &ChunkGrid) {
@@ -272,7 +272,7 @@ fn must_meet_ranges(rt: &impl Abort, alloc: Global, grid: &ChunkGrid) {
 #[test]
 fn ranges_that_a_rectangular_grid_is_asked_for(rt: HostRuntime) {
     let grid = grid_of(&rt, rt.alloc(), &TWO_AND_THREE_BY_FOUR);
-    must_meet_ranges(&rt, rt.alloc(), &grid)
+    must_meet_ranges(&rt, rt.alloc(), &grid);
 }
 
 fn must_be_unequal<T>(rt: &impl Abort, made: &Result<T, GridError>) {
@@ -306,7 +306,7 @@ fn listed_sizes_past_a_u64(rt: HostRuntime) {
     ];
     must_pass_a_u64(&rt, rt.alloc());
     must_end_at_the_last_u64(&rt, rt.alloc());
-    must_say_each(&rt, rt.alloc(), &GRID, FACTS)
+    must_say_each(&rt, rt.alloc(), &GRID, FACTS);
 }
 
 /// Two indices where the grid has one dimension.
@@ -345,7 +345,7 @@ fn indices_past_the_last_chunk_or_of_another_length(rt: HostRuntime) {
     must_say_each(&rt, rt.alloc(), &GRID, &[Fact::NoChunk(&[2])]);
     let grid = grid_of(&rt, rt.alloc(), &GRID);
     must_refuse_two(&rt, rt.alloc(), &grid);
-    must_refuse_a_flat_region(&rt, rt.alloc(), &grid)
+    must_refuse_a_flat_region(&rt, rt.alloc(), &grid);
 }
 
 fn must_refuse_a_regular_one(rt: &impl Abort, alloc: Global) {
@@ -384,7 +384,7 @@ fn regular_chunks_end_at_the_last_u64(rt: HostRuntime) {
         Fact::NoChunk(&[1]),
         Fact::Uncovered((&[u64::MAX - 1], &[1])),
     ];
-    must_say_each(&rt, rt.alloc(), &Grid::Regular(&[u64::MAX], &[HALF]), FACTS)
+    must_say_each(&rt, rt.alloc(), &Grid::Regular(&[u64::MAX], &[HALF]), FACTS);
 }
 
 #[test]
@@ -393,7 +393,7 @@ fn bounded_chunks_reach_the_last_u64(rt: HostRuntime) {
         Fact::Chunk(&[1], (&[HALF], &[HALF - 1])),
         Fact::Meets((&[u64::MAX - 1], &[1]), (&[1], &[1])),
     ];
-    must_say_each(&rt, rt.alloc(), &Grid::Bounded(&[u64::MAX], &[HALF]), FACTS)
+    must_say_each(&rt, rt.alloc(), &Grid::Bounded(&[u64::MAX], &[HALF]), FACTS);
 }
 
 #[test]
@@ -403,13 +403,13 @@ fn a_grid_of_no_dimension_has_one_chunk(rt: HostRuntime) {
         Fact::Chunk(&[], (&[], &[])),
         Fact::Meets((&[], &[]), (&[], &[])),
     ];
-    must_say_each(&rt, rt.alloc(), &Grid::Regular(&[], &[]), FACTS)
+    must_say_each(&rt, rt.alloc(), &Grid::Regular(&[], &[]), FACTS);
 }
 
 #[test]
 fn arrays_of_extent_0(rt: HostRuntime) {
     const FACTS: &[Fact] = &[Fact::Shapes(&[0, 4], &[0, 2]), Fact::NoChunk(&[0, 0])];
-    must_say_each(&rt, rt.alloc(), &Grid::Bounded(&[0, 4], &[2, 2]), FACTS)
+    must_say_each(&rt, rt.alloc(), &Grid::Bounded(&[0, 4], &[2, 2]), FACTS);
 }
 
 #[test]
@@ -420,7 +420,7 @@ fn an_extent_of_0_in_no_size(rt: HostRuntime) {
         Fact::NoChunk(&[0]),
         Fact::Uncovered((&[0], &[1])),
     ];
-    must_say_each(&rt, rt.alloc(), &GRID, FACTS)
+    must_say_each(&rt, rt.alloc(), &GRID, FACTS);
 }
 
 fn a_million(rt: &impl Abort, alloc: Global) -> SizeList {

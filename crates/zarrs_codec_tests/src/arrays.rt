@@ -182,12 +182,12 @@ fn transpose(rt: &impl Abort, alloc: Global, order: &[u64]) -> ArrayToArrayCodec
 
 fn must_transpose_shapes(rt: &impl Abort, alloc: Global, transpose: &ArrayToArrayCodec) {
     must_have_shape(rt, alloc, transpose, &[1, 2, 3], &[3, 1, 2]);
-    must_not_take(rt, alloc, transpose, &[1, 2])
+    must_not_take(rt, alloc, transpose, &[1, 2]);
 }
 
 fn must_squeeze_shapes(rt: &impl Abort, alloc: Global, squeeze: &ArrayToArrayCodec) {
     must_have_shape(rt, alloc, squeeze, &[1, 2, 1, 0], &[2, 0]);
-    must_have_shape(rt, alloc, squeeze, &[1], &[])
+    must_have_shape(rt, alloc, squeeze, &[1], &[]);
 }
 
 fn must_go_through(
@@ -210,5 +210,5 @@ fn shapes_go_through_each_codec(rt: HostRuntime) {
     let both = [transpose(&rt, alloc, &[2, 0, 1]), squeeze];
     must_transpose_shapes(&rt, alloc, &both[0]);
     must_squeeze_shapes(&rt, alloc, &both[1]);
-    must_go_through(&rt, alloc, &both, &[1, 2, 3], &[3, 2])
+    must_go_through(&rt, alloc, &both, &[1, 2, 3], &[3, 2]);
 }

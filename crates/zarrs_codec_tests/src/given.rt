@@ -54,7 +54,7 @@ fn must_encode_numbers(
         rt,
         "no refusal",
     ));
-    must_encode_alike(rt, alloc, &chain, &data_type, &zero, &[2, 2], data, encoded)
+    must_encode_alike(rt, alloc, &chain, &data_type, &zero, &[2, 2], data, encoded);
 }
 
 #[test]
@@ -63,7 +63,7 @@ fn owned_numbers_are_put_down_in_the_order_of_the_endian(rt: HostRuntime) {
     const BIG: &[u8] = &[1, 2, 3, 4, 5, 6, 7, 8];
     let alloc = rt.alloc();
     must_encode_numbers(&rt, alloc, Vec::new(alloc), BytesCodec::little(), LITTLE);
-    must_encode_numbers(&rt, alloc, Vec::new(alloc), BytesCodec::big(), BIG)
+    must_encode_numbers(&rt, alloc, Vec::new(alloc), BytesCodec::big(), BIG);
 }
 
 #[test]
@@ -71,7 +71,7 @@ fn owned_numbers_are_transposed_first(rt: HostRuntime) {
     const SWAPPED: &[u8] = &[2, 1, 6, 5, 4, 3, 8, 7];
     let alloc = rt.alloc();
     let codecs = vec![in alloc; transpose(&rt, alloc, &[1, 0])].expect(&rt, "no refusal");
-    must_encode_numbers(&rt, alloc, codecs, BytesCodec::little(), SWAPPED)
+    must_encode_numbers(&rt, alloc, codecs, BytesCodec::little(), SWAPPED);
 }
 
 #[test]
@@ -92,7 +92,7 @@ fn owned_texts_stand_behind_their_lengths(rt: HostRuntime) {
         &[2],
         texts,
         ENCODED,
-    )
+    );
 }
 
 #[test]

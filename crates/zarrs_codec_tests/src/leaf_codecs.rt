@@ -64,7 +64,7 @@ fn must_not_fit(
     let options = CodecOptions::default();
     let made = chain.encode(alloc, &data, &data_type, &zero, &shape, &options);
     must(rt, made.is_err_and(|error| error == CodecError::DoesNotFit));
-    must_not_decode(rt, alloc, &chain, &data_type, &shape, &[])
+    must_not_decode(rt, alloc, &chain, &data_type, &shape, &[]);
 }
 
 fn big() -> ArrayToBytesCodec {
@@ -93,7 +93,7 @@ fn big_endian_writes_the_highest_byte_first(rt: HostRuntime) {
         ("uint64", &[1], EIGHT, TURNED),
         ("int64", &[1], EIGHT, TURNED),
     ];
-    must_encode_each(&rt, rt.alloc(), big(), ROWS)
+    must_encode_each(&rt, rt.alloc(), big(), ROWS);
 }
 
 #[test]
@@ -105,7 +105,7 @@ fn big_endian_leaves_single_bytes_and_raw_cells(rt: HostRuntime) {
         ("int8", &[4], CELLS, CELLS),
         ("uint8", &[4], CELLS, CELLS),
     ];
-    must_encode_each(&rt, rt.alloc(), big(), ROWS)
+    must_encode_each(&rt, rt.alloc(), big(), ROWS);
 }
 
 #[test]
@@ -121,7 +121,7 @@ fn bytes_of_big_endian_have_the_exact_length(rt: HostRuntime) {
         ("r16", &[1], &[1, 2, 3]),
         ("bool", &[1], &[2]),
     ];
-    must_decode_none(&rt, rt.alloc(), big(), ROWS)
+    must_decode_none(&rt, rt.alloc(), big(), ROWS);
 }
 
 #[test]
@@ -134,7 +134,7 @@ fn without_an_endian_only_single_bytes_and_raw_cells_fit(rt: HostRuntime) {
     ];
     must_encode_each(&rt, rt.alloc(), without_an_endian(), ROWS);
     must_not_fit(&rt, rt.alloc(), without_an_endian(), "int16", 2, CELLS);
-    must_not_fit(&rt, rt.alloc(), without_an_endian(), "uint32", 1, CELLS)
+    must_not_fit(&rt, rt.alloc(), without_an_endian(), "uint32", 1, CELLS);
 }
 
 #[test]
@@ -172,7 +172,7 @@ fn bools_are_packed_eight_to_a_byte(rt: HostRuntime) {
             &[0xFD, 0xFF, 0x01],
         ),
     ];
-    must_encode_each(&rt, rt.alloc(), packbits(), ROWS)
+    must_encode_each(&rt, rt.alloc(), packbits(), ROWS);
 }
 
 #[test]
@@ -199,10 +199,10 @@ fn packed_bools_have_the_exact_length_and_no_other_bits(rt: HostRuntime) {
         ("bool", &[17], &[0xFD, 0xFF, 0x81]),
         ("bool", &[17], &[0xFD, 0xFF, 0x01, 0x00]),
     ];
-    must_decode_none(&rt, rt.alloc(), packbits(), ROWS)
+    must_decode_none(&rt, rt.alloc(), packbits(), ROWS);
 }
 
 #[test]
 fn other_types_are_not_packed(rt: HostRuntime) {
-    must_not_fit(&rt, rt.alloc(), packbits(), "uint8", 1, &[1])
+    must_not_fit(&rt, rt.alloc(), packbits(), "uint8", 1, &[1]);
 }

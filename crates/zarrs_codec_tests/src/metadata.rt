@@ -68,7 +68,7 @@ fn must_be_array_codec(rt: &impl Abort, alloc: Global, text: &str, written: &str
         alloc,
         &copy.create_metadata(alloc).expect(rt, "no refusal"),
         written,
-    )
+    );
 }
 
 #[test]
@@ -141,7 +141,7 @@ fn must_be_bytes_codec(rt: &impl Abort, alloc: Global, text: &str, written: &str
         alloc,
         &copy.create_metadata(alloc).expect(rt, "no refusal"),
         written,
-    )
+    );
 }
 
 #[test]
@@ -244,7 +244,7 @@ fn other_configurations_of_the_codec_of_an_index_are_refused(rt: HostRuntime) {
         );
         must_be_no_bytes_codec(&rt, rt.alloc(), "zarrs.vlen", &members);
     }
-    must_be_no_bytes_codec(&rt, rt.alloc(), "zarrs.vlen", "")
+    must_be_no_bytes_codec(&rt, rt.alloc(), "zarrs.vlen", "");
 }
 
 fn must_be_no_bytes_codec(rt: &impl Abort, alloc: Global, name: &str, members: &str) {
@@ -313,14 +313,14 @@ fn must_swap(rt: &impl Abort, alloc: Global, texts: &[&str], array_codecs: usize
     let chain = chain_of(rt, alloc, texts);
     must_have_parts(rt, &chain, array_codecs);
     let (cells, swapped) = ([1, 2, 3, 4, 5, 6], [1, 4, 2, 5, 3, 6]);
-    must_encode(rt, alloc, &chain, &DataType::UInt8, shape, &cells, &swapped)
+    must_encode(rt, alloc, &chain, &DataType::UInt8, shape, &cells, &swapped);
 }
 
 #[test]
 fn a_chain_is_made_of_its_metadata(rt: HostRuntime) {
     const FOUR: &[&str] = &[JOINED, SWAP, "\"squeeze\"", BIG];
     must_swap(&rt, rt.alloc(), &[SWAP, LITTLE], 1, &[2, 3]);
-    must_swap(&rt, rt.alloc(), FOUR, 3, &[1, 2, 3])
+    must_swap(&rt, rt.alloc(), FOUR, 3, &[1, 2, 3]);
 }
 
 /// The texts say a chain of as many codecs.
@@ -353,7 +353,7 @@ fn must_encode_by(
     encoded: &[u8],
 ) {
     let chain = chain_of(rt, alloc, &[text]);
-    must_encode(rt, alloc, &chain, data_type, shape, cells, encoded)
+    must_encode(rt, alloc, &chain, data_type, shape, cells, encoded);
 }
 
 #[test]
@@ -363,7 +363,7 @@ fn a_chain_of_one_codec(rt: HostRuntime) {
     const PACKED: &[u8] = &[0x8D, 0x01];
     let (flags, numbers) = (DataType::Bool, DataType::UInt16);
     must_encode_by(&rt, alloc, "\"packbits\"", &flags, &[9], FLAGS, PACKED);
-    must_encode_by(&rt, alloc, BIG, &numbers, &[1], &[2, 1], &[1, 2])
+    must_encode_by(&rt, alloc, BIG, &numbers, &[1], &[2, 1], &[1, 2]);
 }
 
 /// The texts say a chain of so many codecs before the codec of texts, which makes these bytes of texts.
@@ -382,7 +382,7 @@ fn must_encode_texts(
         rt,
         matches!(chain.array_to_bytes_codec(), ArrayToBytesCodec::VlenUtf8(_)),
     );
-    must_encode_strings(rt, alloc, &chain, &DataType::String, shape, cells, encoded)
+    must_encode_strings(rt, alloc, &chain, &DataType::String, shape, cells, encoded);
 }
 
 /// The text says the chain of `vlen-bytes` alone, which makes these bytes of byte strings.
@@ -401,7 +401,7 @@ fn must_encode_byte_strings(
             ArrayToBytesCodec::VlenBytes(_)
         ),
     );
-    must_encode_strings(rt, alloc, &chain, &DataType::Bytes, &[1], cells, encoded)
+    must_encode_strings(rt, alloc, &chain, &DataType::Bytes, &[1], cells, encoded);
 }
 
 #[test]
@@ -422,7 +422,7 @@ fn a_chain_of_texts_is_made_of_its_metadata(rt: HostRuntime) {
         "\"vlen-bytes\"",
         &strings(&rt, &[7], &[0, 1]),
         &[1, 0, 0, 0, 1, 0, 0, 0, 7],
-    )
+    );
 }
 
 fn must_be_no_chain(rt: &impl Abort, alloc: Global, texts: &[&str]) {
@@ -463,7 +463,7 @@ fn must_default_to(rt: &impl Abort, alloc: Global, name: &str, text: &str) {
         alloc,
         &codec.create_metadata(alloc).expect(rt, "no refusal"),
         text,
-    )
+    );
 }
 
 #[test]
@@ -516,7 +516,7 @@ fn must_default_to_optional(rt: &impl Abort, alloc: Global, name: &str, text: &s
         alloc,
         &codec.create_metadata(alloc).expect(rt, "no refusal"),
         &written,
-    )
+    );
 }
 
 #[test]
@@ -538,7 +538,7 @@ fn must_be_optional(rt: &impl Abort, alloc: Global, mask: &str, data: &str) {
     let text = format!(in alloc;
         "{{\"name\":\"optional\",\"configuration\":{{\"mask_codecs\":[{mask}],\"data_codecs\":[{data}]}}}}"
     ).expect(rt, "no refusal");
-    must_be_bytes_codec(rt, alloc, &text, &written)
+    must_be_bytes_codec(rt, alloc, &text, &written);
 }
 
 #[test]

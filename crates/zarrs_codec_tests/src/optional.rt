@@ -130,7 +130,7 @@ fn must_encode(
     encoded: &[u8],
 ) {
     let shape = [mask.len() as u64];
-    must_encode_in(rt, alloc, chain, data_type, &shape, data, mask, encoded)
+    must_encode_in(rt, alloc, chain, data_type, &shape, data, mask, encoded);
 }
 
 /// Numbers of one byte, made optional so many times, encode to the bytes of their row, and back.
@@ -154,7 +154,7 @@ fn a_packed_mask_stands_before_the_cells_that_are_some(rt: HostRuntime) {
         (&[&[0, 0]], &[9, 5], NONE),
         (&[&[]], &[], &[0; 16]),
     ];
-    must_encode_each(&rt, rt.alloc(), PACKED, 1, ROWS)
+    must_encode_each(&rt, rt.alloc(), PACKED, 1, ROWS);
 }
 
 #[test]
@@ -164,7 +164,7 @@ fn a_mask_in_bytes_has_any_endian_or_none(rt: HostRuntime) {
     let alloc = rt.alloc();
     must_encode_each(&rt, alloc, MaskCodec::Bytes(BytesCodec::little()), 1, ROWS);
     must_encode_each(&rt, alloc, MaskCodec::Bytes(BytesCodec::big()), 1, ROWS);
-    must_encode_each(&rt, alloc, MaskCodec::Bytes(BytesCodec::new(None)), 1, ROWS)
+    must_encode_each(&rt, alloc, MaskCodec::Bytes(BytesCodec::new(None)), 1, ROWS);
 }
 
 #[test]
@@ -182,7 +182,7 @@ fn optionals_of_optionals_nest(rt: HostRuntime) {
         (&[&[1, 1, 0], &[1, 0, 1]], &[7, 8, 9], SEVEN),
         (&[&[1, 1], &[1, 0]], &[1, 2], ONE),
     ];
-    must_encode_each(&rt, rt.alloc(), PACKED, 2, ROWS)
+    must_encode_each(&rt, rt.alloc(), PACKED, 2, ROWS);
 }
 
 #[test]
@@ -203,7 +203,7 @@ fn texts_that_are_some_stand_behind_the_mask(rt: HostRuntime) {
     let one = masked(&rt, alloc, strings(&rt, b"abc", &[0, 1, 3]), &[1, 0]);
     must_encode(&rt, alloc, &chain, &texts, &one, &[1, 0], ONE);
     let none = masked(&rt, alloc, strings(&rt, b"abc", &[0, 1, 3]), &[0, 0]);
-    must_encode(&rt, alloc, &chain, &texts, &none, &[0, 0], NONE)
+    must_encode(&rt, alloc, &chain, &texts, &none, &[0, 0], NONE);
 }
 
 /// Optional numbers of one byte behind a transpose of two dimensions and a reshape to one.
@@ -251,7 +251,7 @@ fn masks_go_through_a_transpose_and_a_reshape(rt: HostRuntime) {
         &data,
         MASK,
         ENCODED,
-    )
+    );
 }
 
 /// The bytes of one cell that is some at each of so many levels: at each a mask of one bit, and what lies below it. The
@@ -290,13 +290,13 @@ fn must_nest(rt: &impl Abort, alloc: Global, lowest: u8, len: usize) {
     let encoded = nested(rt, alloc, 64, lowest);
     must_eq(rt, encoded.len(), len);
     let data = nested_data(rt, alloc, 64, lowest);
-    must_encode(rt, alloc, &chain, &data_type, &data, &[1], &encoded)
+    must_encode(rt, alloc, &chain, &data_type, &data, &[1], &encoded);
 }
 
 #[test]
 fn optionals_nest_64_deep(rt: HostRuntime) {
     must_nest(&rt, rt.alloc(), 1, 1089);
-    must_nest(&rt, rt.alloc(), 0, 1088)
+    must_nest(&rt, rt.alloc(), 0, 1088);
 }
 
 /// The chain decodes the bytes to no single cell of the type.

@@ -107,7 +107,7 @@ fn must_encode_texts(rt: &impl Abort, alloc: Global, row: &Row) {
         chain_of_texts(rt, alloc, orders),
         strings(rt, bytes, offsets),
     );
-    must_encode_strings(rt, alloc, &chain, &DataType::String, shape, &cells, encoded)
+    must_encode_strings(rt, alloc, &chain, &DataType::String, shape, &cells, encoded);
 }
 
 #[test]
@@ -119,7 +119,7 @@ fn texts_stand_behind_their_lengths(rt: HostRuntime) {
         &[0, 1, 4],
         &[2, 0, 0, 0, 1, 0, 0, 0, 97, 3, 0, 0, 0, 98, 99, 100],
     );
-    must_encode_texts(&rt, rt.alloc(), &ROW)
+    must_encode_texts(&rt, rt.alloc(), &ROW);
 }
 
 #[test]
@@ -133,13 +133,13 @@ fn byte_strings_stand_behind_their_lengths(rt: HostRuntime) {
         &[2],
         &strings(&rt, &[0, 255], &[0, 2, 2]),
         &[2, 0, 0, 0, 2, 0, 0, 0, 0, 255, 0, 0, 0, 0],
-    )
+    );
 }
 
 #[test]
 fn a_chunk_without_a_cell_is_its_number_alone(rt: HostRuntime) {
     const ROW: Row = (&[], &[2, 0], b"", &[0], &[0, 0, 0, 0]);
-    must_encode_texts(&rt, rt.alloc(), &ROW)
+    must_encode_texts(&rt, rt.alloc(), &ROW);
 }
 
 /// The texts "a", "bb" and "" above "c", "dd" and "e", column by column.
@@ -155,7 +155,7 @@ fn a_transpose_moves_texts_whole(rt: HostRuntime) {
             0, 0, 0, 0, 1, 0, 0, 0, 101,
         ],
     );
-    must_encode_texts(&rt, rt.alloc(), &ROW)
+    must_encode_texts(&rt, rt.alloc(), &ROW);
 }
 
 /// The bytes are those of no cell.
@@ -242,7 +242,7 @@ fn must_take_texts_alone(rt: &impl Abort, alloc: Global) {
     let cells = strings(rt, b"ab", &[0, 1, 2]);
     must_not_take(rt, alloc, &chain, &DataType::Bytes, &[], &cells);
     let numbers = ArrayBytes::from_flen(&[1, 2]);
-    must_not_take(rt, alloc, &chain, &DataType::UInt8, &[0], &numbers)
+    must_not_take(rt, alloc, &chain, &DataType::UInt8, &[0], &numbers);
 }
 
 #[test]
@@ -250,5 +250,5 @@ fn each_chain_takes_its_type_alone(rt: HostRuntime) {
     must_take_texts_alone(&rt, rt.alloc());
     let chain = chain_of_byte_strings(rt.alloc());
     let cells = strings(&rt, b"ab", &[0, 1, 2]);
-    must_not_take(&rt, rt.alloc(), &chain, &DataType::String, &[], &cells)
+    must_not_take(&rt, rt.alloc(), &chain, &DataType::String, &[], &cells);
 }

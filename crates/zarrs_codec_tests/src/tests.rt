@@ -123,14 +123,14 @@ fn must_encode_each(rt: &impl Abort, alloc: Global, rows: &[Row]) {
 fn numbers_are_little_endian(rt: HostRuntime) {
     const NUMBERS: &[u8] = &[0xFE, 0xFF, 0x02, 0x01];
     const ROWS: &[Row] = &[(&[], "int16", &[2], NUMBERS, NUMBERS)];
-    must_encode_each(&rt, rt.alloc(), ROWS)
+    must_encode_each(&rt, rt.alloc(), ROWS);
 }
 
 #[test]
 fn raw_bytes_stay_as_they_are(rt: HostRuntime) {
     const CELLS: &[u8] = &[1, 2, 3, 4, 5, 6];
     const ROWS: &[Row] = &[(&[], "r24", &[2], CELLS, CELLS)];
-    must_encode_each(&rt, rt.alloc(), ROWS)
+    must_encode_each(&rt, rt.alloc(), ROWS);
 }
 
 #[test]
@@ -140,7 +140,7 @@ fn a_transpose_of_two_dimensions_swaps_them(rt: HostRuntime) {
         (&[SWAP], "uint8", &[2, 3], CELLS, &[1, 4, 2, 5, 3, 6]),
         (&[Stage::Transpose(&[0, 1])], "uint8", &[2, 3], CELLS, CELLS),
     ];
-    must_encode_each(&rt, rt.alloc(), ROWS)
+    must_encode_each(&rt, rt.alloc(), ROWS);
 }
 
 #[test]
@@ -178,7 +178,7 @@ fn transposes_of_no_one_and_three_dimensions(rt: HostRuntime) {
             &[7],
         ),
     ];
-    must_encode_each(&rt, rt.alloc(), ROWS)
+    must_encode_each(&rt, rt.alloc(), ROWS);
 }
 
 #[test]
@@ -206,7 +206,7 @@ fn a_transpose_of_five_dimensions_moves_each(rt: HostRuntime) {
             &[],
         ),
     ];
-    must_encode_each(&rt, rt.alloc(), ROWS)
+    must_encode_each(&rt, rt.alloc(), ROWS);
 }
 
 /// The numbers from 0 on, and the even ones before the odd ones.
@@ -244,7 +244,7 @@ fn a_transpose_to_long_rows_moves_each_cell(rt: HostRuntime) {
             PARTED,
         ),
     ];
-    must_encode_each(&rt, rt.alloc(), ROWS)
+    must_encode_each(&rt, rt.alloc(), ROWS);
 }
 
 #[test]
@@ -265,7 +265,7 @@ fn cells_of_two_and_three_bytes_move_whole(rt: HostRuntime) {
             &[1, 1, 1, 3, 3, 3, 2, 2, 2, 4, 4, 4],
         ),
     ];
-    must_encode_each(&rt, rt.alloc(), ROWS)
+    must_encode_each(&rt, rt.alloc(), ROWS);
 }
 
 #[test]
@@ -278,7 +278,7 @@ fn two_transposes_and_a_squeeze_go_in_order(rt: HostRuntime) {
         CELLS,
         CELLS,
     )];
-    must_encode_each(&rt, rt.alloc(), ROWS)
+    must_encode_each(&rt, rt.alloc(), ROWS);
 }
 
 /// The chain of these codecs takes no chunk of this shape.
@@ -298,7 +298,7 @@ fn must_not_fit(
 
 fn must_not_fit_optional_cells(rt: &impl Abort, alloc: Global) {
     let optional = DataType::Optional(Box::new(alloc, DataType::UInt8).expect(rt, "no refusal"));
-    must_not_fit(rt, alloc, &[], &optional, &[2])
+    must_not_fit(rt, alloc, &[], &optional, &[2]);
 }
 
 /// The chain of these codecs compacts no chunk of this shape.
@@ -314,7 +314,7 @@ fn what_does_not_fit_is_refused(rt: HostRuntime) {
     must_not_fit(&rt, rt.alloc(), SWAPS, &DataType::UInt8, &[2]);
     must_not_fit(&rt, rt.alloc(), SWAPS, &DataType::String, &[2, 2]);
     must_not_fit_optional_cells(&rt, rt.alloc());
-    must_not_compact(&rt, rt.alloc(), SWAPS, &[1])
+    must_not_compact(&rt, rt.alloc(), SWAPS, &[1]);
 }
 
 #[test]
@@ -385,7 +385,7 @@ fn bytes_of_another_length_and_bools_above_one_do_not_decode(rt: HostRuntime) {
         ("bool", &[2, 0]),
         ("bool", &[255, 1]),
     ];
-    must_be_no_two_cells(&rt, rt.alloc(), ROWS)
+    must_be_no_two_cells(&rt, rt.alloc(), ROWS);
 }
 
 #[test]
@@ -432,5 +432,5 @@ fn errors_say_what_is_wrong(rt: HostRuntime) {
         alloc,
         &CodecError::DoesNotFit,
         "the codec does not take this type, shape or these bytes",
-    )
+    );
 }

@@ -117,7 +117,7 @@ fn numbers_are_little_endian(rt: HostRuntime) {
         .expect(&rt, "no refusal");
     let text = strings(&rt, &[65; 256], &[0, 256]);
     must_encode_texts(&rt, alloc, &text, 1, &encoded);
-    must_encode_bytes(&rt, alloc, &text, 1, &encoded)
+    must_encode_bytes(&rt, alloc, &text, 1, &encoded);
 }
 
 fn must_not_be_texts(rt: &impl Abort, alloc: Global, count: u64, encoded: &[u8]) {

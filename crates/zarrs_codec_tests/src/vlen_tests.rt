@@ -89,7 +89,7 @@ fn offsets_are_little_endian(rt: HostRuntime) {
         .extend_from_slice(&[65; 256])
         .expect(&rt, "no refusal");
     let text = strings(&rt, &[65; 256], &[0, 256]);
-    must_encode(&rt, alloc, &DataType::String, &text, 1, &encoded)
+    must_encode(&rt, alloc, &DataType::String, &text, 1, &encoded);
 }
 
 fn must_not_decode(

@@ -84,7 +84,7 @@ fn bools_are_bytes_of_zero_and_one(rt: HostRuntime) {
     let cells = ArrayBytes::from_flen(&[1, 0, 1]);
     must_be_listed(&rt, alloc, &DataType::Bool, &[true, false, true], &cells);
     let none = ArrayBytes::from_flen(&[]);
-    must_be_listed::<bool>(&rt, alloc, &DataType::Bool, &[], &none)
+    must_be_listed::<bool>(&rt, alloc, &DataType::Bool, &[], &none);
 }
 
 fn texts(alloc: Global, of: &[&str]) -> Result<Vec<String>, AllocError> {
@@ -113,7 +113,7 @@ fn must_be_texts(
 ) {
     let texts = texts(alloc, of).expect(rt, "no refusal");
     let cells = strings(rt, bytes, offsets);
-    must_be_listed(rt, alloc, &DataType::String, &texts, &cells)
+    must_be_listed(rt, alloc, &DataType::String, &texts, &cells);
 }
 
 #[test]
@@ -121,7 +121,7 @@ fn texts_are_byte_strings_of_utf8(rt: HostRuntime) {
     let alloc = rt.alloc();
     must_be_texts(&rt, alloc, &["a", "", "bcd"], b"abcd", &[0, 1, 1, 4]);
     must_be_texts(&rt, alloc, &["\u{e4}"], &[0xC3, 0xA4], &[0, 2]);
-    must_be_texts(&rt, alloc, &[], b"", &[0])
+    must_be_texts(&rt, alloc, &[], b"", &[0]);
 }
 
 /// The data is so many byte strings, of so many bytes in all.
@@ -156,7 +156,7 @@ fn must_be_byte_strings(
 ) {
     let lists = byte_strings(alloc, of).expect(rt, "no refusal");
     let cells = strings(rt, bytes, offsets);
-    must_be_listed(rt, alloc, &DataType::Bytes, &lists, &cells)
+    must_be_listed(rt, alloc, &DataType::Bytes, &lists, &cells);
 }
 
 #[test]
@@ -164,7 +164,7 @@ fn lists_of_bytes_are_byte_strings(rt: HostRuntime) {
     let alloc = rt.alloc();
     let three: [&[u8]; 3] = [&[0, 255], &[], &[7]];
     must_be_byte_strings(&rt, alloc, &three, &[0, 255, 7], &[0, 2, 2, 3]);
-    must_be_byte_strings(&rt, alloc, &[], b"", &[0])
+    must_be_byte_strings(&rt, alloc, &[], b"", &[0]);
 }
 
 /// A text is no cell of the type.
@@ -187,7 +187,7 @@ fn values_of_another_type_are_refused(rt: HostRuntime) {
     must_be_no_texts(&rt, alloc, &DataType::UInt8);
     must_be_no_lists(&rt, alloc, &DataType::String);
     let raw = DataType::Raw(NonZeroUsize::new(1).expect(&rt, "zero"));
-    must_be_no_lists(&rt, alloc, &raw)
+    must_be_no_lists(&rt, alloc, &raw);
 }
 
 /// The byte strings are read as no values of this type of Rust.
@@ -209,7 +209,7 @@ fn byte_strings_of_another_type_are_refused(rt: HostRuntime) {
     must_not_read_strings::<Vec<u8>>(&rt, alloc, &DataType::String, b"a", &[0, 1]);
     must_not_read_strings::<bool>(&rt, alloc, &DataType::Bool, b"a", &[0, 1]);
     let cut = &[0xC3, 0xA4, 0xC3];
-    must_not_read_strings::<String>(&rt, alloc, &DataType::String, cut, &[0, 2, 3])
+    must_not_read_strings::<String>(&rt, alloc, &DataType::String, cut, &[0, 2, 3]);
 }
 
 #[test]
@@ -253,7 +253,7 @@ fn must_answer_texts(rt: &impl Abort, alloc: Global) {
         strings(rt, b"ab", &[0, 1, 2]),
         &DataType::String,
         &texts,
-    )
+    );
 }
 
 /// The data is answered as it is.
@@ -278,7 +278,7 @@ fn a_read_answers_values_or_array_bytes(rt: HostRuntime) {
     let cells = ArrayBytes::from_flen(&[1, 0]);
     must_answer(&rt, alloc, cells, &DataType::Bool, &[true, false]);
     must_answer_texts(&rt, alloc);
-    must_stay(&rt, alloc, b"ab", &[0, 1, 2])
+    must_stay(&rt, alloc, b"ab", &[0, 1, 2]);
 }
 
 #[test]

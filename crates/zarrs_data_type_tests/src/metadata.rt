@@ -39,7 +39,7 @@ fn must_write(rt: &impl Abort, alloc: Global, data_type: &DataType, text: &str) 
         .to_string(alloc)
         .expect(rt, "no refusal");
     must_eq(rt, written.as_str(), text);
-    must_read(rt, alloc, text, data_type)
+    must_read(rt, alloc, text, data_type);
 }
 
 fn must_refuse_type(rt: &impl Abort, alloc: Global, text: &str) {
@@ -72,7 +72,7 @@ fn types_of_numbers_are_read_as_they_are_written(rt: HostRuntime) {
     must_write(&rt, alloc, &DataType::UInt8, "\"uint8\"");
     must_write(&rt, alloc, &DataType::UInt16, "\"uint16\"");
     must_write(&rt, alloc, &DataType::UInt32, "\"uint32\"");
-    must_write(&rt, alloc, &DataType::UInt64, "\"uint64\"")
+    must_write(&rt, alloc, &DataType::UInt64, "\"uint64\"");
 }
 
 #[test]
@@ -104,7 +104,7 @@ fn types_are_read_as_they_are_written(rt: HostRuntime) {
         alloc,
         "{\"name\":\"optional\",\"configuration\":{\"name\":\"string\"}}",
         &optional(alloc, DataType::String).expect(&rt, "no refusal"),
-    )
+    );
 }
 
 #[test]
@@ -179,7 +179,7 @@ fn fill_values_of_optionals_in_optionals(rt: HostRuntime) {
         ("uint8??", "[]", None),
         ("uint8??", "[null,null]", None),
     ];
-    must_fill_each(&rt, rt.alloc(), ROWS)
+    must_fill_each(&rt, rt.alloc(), ROWS);
 }
 
 #[test]
@@ -222,7 +222,7 @@ fn fill_values_of_numbers(rt: HostRuntime) {
         ("int64", "0.0", None),
         ("int64", "1e3", None),
     ];
-    must_fill_each(&rt, rt.alloc(), ROWS)
+    must_fill_each(&rt, rt.alloc(), ROWS);
 }
 
 #[test]
@@ -242,7 +242,7 @@ fn fill_values_of_other_types(rt: HostRuntime) {
         ("bytes", "[0,255]", Some(&[0, 255])),
         ("bytes", "\"AP8=\"", None),
     ];
-    must_fill_each(&rt, rt.alloc(), ROWS)
+    must_fill_each(&rt, rt.alloc(), ROWS);
 }
 
 fn must_have_no_metadata(

@@ -143,7 +143,7 @@ fn fill_values_of_zarr_v2_numbers(rt: HostRuntime) {
         (">u8", "18446744073709551616", None),
         ("<u8", "null", Some(&[0; 8])),
     ];
-    must_fill_each(&rt, rt.alloc(), ROWS)
+    must_fill_each(&rt, rt.alloc(), ROWS);
 }
 
 #[test]
@@ -165,7 +165,7 @@ fn fill_values_of_zarr_v2_bools_and_texts(rt: HostRuntime) {
         ("|O", "false", None),
         ("|O", "[]", None),
     ];
-    must_fill_each(&rt, rt.alloc(), ROWS)
+    must_fill_each(&rt, rt.alloc(), ROWS);
 }
 
 /// Types that Zarr V2 has no name for.

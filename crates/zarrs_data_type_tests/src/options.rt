@@ -93,7 +93,7 @@ fn optional_numbers_lie_under_a_mask(rt: HostRuntime) {
     must_become(&rt, alloc, &data_type, &elements, &[&[1, 0, 1]], &[5, 5, 0]);
     must_return(&rt, alloc, &data_type, &elements);
     must_become::<Option<u8>>(&rt, alloc, &data_type, &[], &[&[]], &[]);
-    must_return::<Option<u8>>(&rt, alloc, &data_type, &[])
+    must_return::<Option<u8>>(&rt, alloc, &data_type, &[]);
 }
 
 /// What lies under a none is any cell, here zero.
@@ -103,7 +103,7 @@ fn nones_alone_hold_no_value(rt: HostRuntime) {
     let data_type = optional(&rt, alloc, DataType::UInt16);
     let elements = [None::<u16>, None];
     must_become(&rt, alloc, &data_type, &elements, &[&[0, 0]], &[0, 0, 0, 0]);
-    must_return(&rt, alloc, &data_type, &elements)
+    must_return(&rt, alloc, &data_type, &elements);
 }
 
 #[test]
@@ -113,7 +113,7 @@ fn optionals_of_optionals_have_two_masks(rt: HostRuntime) {
     let elements = [Some(Some(5u8)), None, Some(None), Some(Some(6))];
     let masks: [&[u8]; 2] = [&[1, 0, 1, 1], &[1, 1, 0, 1]];
     must_become(&rt, alloc, &data_type, &elements, &masks, &[5, 5, 5, 6]);
-    must_return(&rt, alloc, &data_type, &elements)
+    must_return(&rt, alloc, &data_type, &elements);
 }
 
 /// A text, none and another text.
@@ -123,7 +123,7 @@ fn must_return_texts(rt: &impl Abort, alloc: Global, data_type: &DataType) {
         None,
         Some(String::from_str(alloc, "c").expect(rt, "no refusal")),
     ];
-    must_return(rt, alloc, data_type, &texts)
+    must_return(rt, alloc, data_type, &texts);
 }
 
 #[test]
@@ -138,7 +138,7 @@ fn optional_texts_are_written_and_read(rt: HostRuntime) {
         &[&[0, 1]],
         b"abab",
     );
-    must_return_texts(&rt, alloc, &data_type)
+    must_return_texts(&rt, alloc, &data_type);
 }
 
 #[test]

@@ -114,7 +114,7 @@ fn must_take(
     let part_box = box_at(rt, alloc, part.0);
     let part = data_of(rt, alloc, part.1);
     let made = taken(rt, alloc, data_type, &held_box, held.1, &part_box, &part);
-    must_be_cells(rt, alloc, &made, expected)
+    must_be_cells(rt, alloc, &made, expected);
 }
 
 /// The cells over a box with the part over the other.
@@ -155,7 +155,7 @@ fn must_extract(
     let subset = box_at(rt, alloc, corner);
     let held = data_of(rt, alloc, held.1);
     let made = extracted(rt, alloc, data_type, &held_box, &held, &subset);
-    must_be_cells(rt, alloc, &made, expected)
+    must_be_cells(rt, alloc, &made, expected);
 }
 
 fn extracted(
@@ -200,7 +200,7 @@ fn boxes_lie_in_others(rt: HostRuntime) {
     must_lie(&rt, alloc, &Corner(&[3], &[2]), &outer, false);
     must_lie(&rt, alloc, &Corner(&[], &[]), &Corner(&[], &[]), true);
     let last = Corner(&[u64::MAX], &[0]);
-    must_lie(&rt, alloc, &last, &Corner(&[0], &[u64::MAX]), true)
+    must_lie(&rt, alloc, &last, &Corner(&[0], &[u64::MAX]), true);
 }
 
 #[test]
@@ -210,7 +210,7 @@ fn empty_boxes_lie_up_to_the_end(rt: HostRuntime) {
     must_lie(&rt, alloc, &Corner(&[4, 5], &[0, 2]), &outer, true);
     must_lie(&rt, alloc, &Corner(&[5, 7], &[0, 0]), &outer, true);
     must_lie(&rt, alloc, &Corner(&[6, 4], &[0, 0]), &outer, false);
-    must_lie(&rt, alloc, &Corner(&[2, 4], &[0, 0]), &outer, false)
+    must_lie(&rt, alloc, &Corner(&[2, 4], &[0, 0]), &outer, false);
 }
 
 #[test]
@@ -225,7 +225,7 @@ fn cells_of_a_part_go_to_its_positions(rt: HostRuntime) {
         &Cells::Numbers(&[10, 20, 30, 40]),
     );
     let made = Cells::Numbers(&[1, 2, 3, 4, 10, 20]);
-    must_take(&rt, alloc, &DataType::UInt8, held, part, &made)
+    must_take(&rt, alloc, &DataType::UInt8, held, part, &made);
 }
 
 #[test]
@@ -238,7 +238,7 @@ fn cells_of_four_bytes_stay_whole(rt: HostRuntime) {
     must_extract(&rt, alloc, &DataType::UInt32, held, &corner, &second);
     let part = (&corner, &Cells::Numbers(&[9, 8, 7, 6]));
     let made = Cells::Numbers(&[1, 0, 0, 1, 9, 8, 7, 6, 3, 0, 0, 3]);
-    must_take(&rt, alloc, &DataType::UInt32, held, part, &made)
+    must_take(&rt, alloc, &DataType::UInt32, held, part, &made);
 }
 
 #[test]
@@ -256,7 +256,7 @@ fn strings_of_a_part_have_their_own_lengths(rt: HostRuntime) {
         held,
         &Corner(&[1], &[2]),
         &behind,
-    )
+    );
 }
 
 #[test]
@@ -284,7 +284,7 @@ fn parts_of_optional_data_have_their_flags(rt: HostRuntime) {
         held,
         part,
         &Cells::Optional(&[1, 1, 0], &[7, 4, 0]),
-    )
+    );
 }
 
 #[test]
@@ -312,7 +312,7 @@ fn a_box_of_data_is_extracted(rt: HostRuntime) {
         held,
         &Corner(&[4, 5], &[0, 2]),
         &none,
-    )
+    );
 }
 
 #[test]
@@ -324,7 +324,7 @@ fn a_box_without_common_positions_changes_nothing(rt: HostRuntime) {
     must_take(&rt, alloc, &DataType::UInt8, held, part, held.1);
     let held = (&near, &Cells::Strings(b"ab", &[0, 1, 2]));
     let part = (&far, &Cells::Strings(b"x", &[0, 1]));
-    must_take(&rt, alloc, &DataType::String, held, part, held.1)
+    must_take(&rt, alloc, &DataType::String, held, part, held.1);
 }
 
 #[test]
@@ -343,7 +343,7 @@ fn empty_boxes_take_and_give_nothing(rt: HostRuntime) {
     let strings = (&some, &Cells::Strings(b"ab", &[0, 1, 2]));
     let none = (&empty, &Cells::Strings(b"", &[0]));
     must_take(&rt, alloc, &DataType::String, none, strings, none.1);
-    must_extract(&rt, alloc, &DataType::String, strings, &empty, none.1)
+    must_extract(&rt, alloc, &DataType::String, strings, &empty, none.1);
 }
 
 #[test]
@@ -356,7 +356,7 @@ fn strings_over_rows_are_extracted_and_updated(rt: HostRuntime) {
     must_extract(&rt, alloc, &DataType::String, held, &corner, &right);
     let part = (&corner, &Cells::Strings(b"xyyz", &[0, 1, 1, 3, 4]));
     let made = Cells::Strings(b"axdyyz", &[0, 1, 2, 2, 3, 5, 6]);
-    must_take(&rt, alloc, &DataType::String, held, part, &made)
+    must_take(&rt, alloc, &DataType::String, held, part, &made);
 }
 
 #[test]
@@ -374,7 +374,7 @@ fn an_empty_part_of_strings_over_rows_is_nothing(rt: HostRuntime) {
         held,
         (&corner, &none),
         &cells,
-    )
+    );
 }
 
 #[test]
@@ -400,5 +400,5 @@ fn an_array_of_no_dimension_is_one_cell(rt: HostRuntime) {
         (&all, &text),
         (&all, &empty),
         &empty,
-    )
+    );
 }

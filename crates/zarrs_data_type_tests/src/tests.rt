@@ -139,7 +139,7 @@ fn a_fill_value_is_one_cell(rt: HostRuntime) {
     }
     must_be(&rt, inner_fill(&[7, 1]) == Some([7].as_slice()), "front");
     must_be(&rt, inner_fill(&[0]).is_none(), "none");
-    must_be_value(&rt, rt.alloc(), "uint8??", &[7, 1, 1])
+    must_be_value(&rt, rt.alloc(), "uint8??", &[7, 1, 1]);
 }
 
 fn must_validate(
@@ -375,7 +375,7 @@ fn must_repeat_tested(
             return must_repeat(rt, alloc, data_type, &fill, &other);
         }
     }
-    Err("no value of the type").expect(rt, "no refusal")
+    Err("no value of the type").expect(rt, "no refusal");
 }
 
 #[test]
@@ -568,7 +568,7 @@ fn must_convert(rt: &impl Abort, alloc: Global, bytes: &[u8], numbers: &[i16])
 
 #[test]
 fn numbers_are_little_endian_bytes(rt: HostRuntime) {
-    must_convert(&rt, rt.alloc(), &[0xFE, 0xFF, 2, 1], &[-2, 258])
+    must_convert(&rt, rt.alloc(), &[0xFE, 0xFF, 2, 1], &[-2, 258]);
 }
 
 #[test]

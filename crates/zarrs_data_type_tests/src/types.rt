@@ -34,7 +34,7 @@ fn types_have_the_names_of_the_standard(rt: HostRuntime) {
     must_have_name(&rt, alloc, &raw(&rt, 1), "r8");
     must_have_name(&rt, alloc, &raw(&rt, 2), "r16");
     let optional = DataType::Optional(Box::new(alloc, DataType::String).expect(&rt, "no refusal"));
-    must_have_name(&rt, alloc, &optional, "zarrs.optional")
+    must_have_name(&rt, alloc, &optional, "zarrs.optional");
 }
 
 fn must_be_element(rt: &impl Abort, data_type: &DataType, bytes: &[u8], is: bool) {

@@ -63,7 +63,7 @@ fn must_read_again(rt: &impl Abort, alloc: Global, document: &ArrayMetadataV2) {
         .expect(rt, "no refusal")
         .to_string(alloc)
         .expect(rt, "no refusal");
-    must_write(rt, alloc, &again, written.as_str())
+    must_write(rt, alloc, &again, written.as_str());
 }
 
 /// The members of the small array.
@@ -129,7 +129,7 @@ fn an_array_of_zarr_python(rt: HostRuntime) {
         alloc,
         &document.try_clone(alloc).expect(&rt, "no refusal"),
         WRITTEN,
-    )
+    );
 }
 
 #[test]
@@ -151,7 +151,7 @@ fn attributes_and_other_members(rt: HostRuntime) {
         "\"order\":\"F\",\"shape\":[4,2],\"zarr_format\":2}"
     );
     must_write(&rt, alloc, &document, written);
-    must_read_again(&rt, alloc, &document)
+    must_read_again(&rt, alloc, &document);
 }
 
 fn must_refuse_value(rt: &impl Abort, alloc: Global, value: Value, name: &str) {
@@ -250,7 +250,7 @@ fn documents_made_of_their_parts(rt: HostRuntime) {
         "{\"chunks\":[2,2],\"compressor\":null,\"dimension_separator\":\"/\",\"dtype\":\"<u2\",",
         "\"fill_value\":0,\"filters\":null,\"order\":\"F\",\"shape\":[4,2],\"zarr_format\":2}"
     );
-    must_write(&rt, alloc, &document, written)
+    must_write(&rt, alloc, &document, written);
 }
 
 fn must_convert(rt: &impl Abort, alloc: Global, document: &ArrayMetadataV2, text: &str) {
@@ -275,7 +275,7 @@ fn order_f_becomes_a_transposition(rt: HostRuntime) {
         "\"data_type\":\"uint16\",\"fill_value\":0,\"node_type\":\"array\",\"shape\":[2,2],",
         "\"zarr_format\":3}"
     );
-    must_convert(&rt, alloc, &document, written)
+    must_convert(&rt, alloc, &document, written);
 }
 
 #[test]
@@ -300,7 +300,7 @@ fn a_foreign_array_is_converted(rt: HostRuntime) {
         "\"data_type\":\"int64\",\"fill_value\":0,\"node_type\":\"array\",\"shape\":[4,2],",
         "\"zarr_format\":3}"
     );
-    must_convert(&rt, alloc, &document, written)
+    must_convert(&rt, alloc, &document, written);
 }
 
 fn converted(
@@ -518,7 +518,7 @@ fn compressors_and_filters_without_a_codec(rt: HostRuntime) {
         &[text, fill, ("filters", "[{\"id\":\"vlen-utf8\",\"x\":1}]")],
     );
     let twice = ("filters", "[{\"id\":\"vlen-utf8\"},{\"id\":\"vlen-utf8\"}]");
-    must_have_no_codecs(&rt, alloc, &[text, fill, twice])
+    must_have_no_codecs(&rt, alloc, &[text, fill, twice]);
 }
 
 fn must_print(
@@ -555,7 +555,7 @@ fn texts_of_refusals(rt: HostRuntime) {
         alloc,
         &[("compressor", "{}")],
         "unsupported Zarr V2 array: a compressor, or filters that are not supported",
-    )
+    );
 }
 
 #[test]
@@ -594,14 +594,14 @@ fn must_be_v3(rt: &impl Abort, alloc: Global) {
         &metadata(rt, alloc, document.to_value(alloc).expect(rt, "no refusal")),
         3,
     );
-    must_be_version(rt, alloc, &ArrayMetadata::from(document), 3)
+    must_be_version(rt, alloc, &ArrayMetadata::from(document), 3);
 }
 
 /// The same of a V2 document.
 fn must_be_v2(rt: &impl Abort, alloc: Global) {
     let read = metadata(rt, alloc, Value::Object(small(rt, alloc)));
     must_be_version(rt, alloc, &read, 2);
-    must_be_version(rt, alloc, &ArrayMetadata::from(made(rt, alloc)), 2)
+    must_be_version(rt, alloc, &ArrayMetadata::from(made(rt, alloc)), 2);
 }
 
 #[test]

@@ -39,13 +39,13 @@ fn must_read_again(rt: &impl Abort, alloc: Global, document: &ArrayMetadataV3) {
         .expect(rt, "no refusal")
         .to_string(alloc)
         .expect(rt, "no refusal");
-    must_write(rt, alloc, &again, written.as_str())
+    must_write(rt, alloc, &again, written.as_str());
 }
 
 fn must_read_as(rt: &impl Abort, alloc: Global, text: &str, written: &str) {
     let document = read(rt, alloc, text);
     must_write(rt, alloc, &document, written);
-    must_read_again(rt, alloc, &document)
+    must_read_again(rt, alloc, &document);
 }
 
 fn must_refuse(rt: &impl Abort, alloc: Global, bytes: &[u8]) {
@@ -135,7 +135,7 @@ fn the_example_of_the_core_specification(rt: HostRuntime) {
         "\"data_type\":\"float64\",\"dimension_names\":[\"rows\",\"columns\"],",
         "\"fill_value\":\"NaN\",\"node_type\":\"array\",\"shape\":[10000,1000],\"zarr_format\":3}"
     );
-    must_read_as(&rt, rt.alloc(), text, written)
+    must_read_as(&rt, rt.alloc(), text, written);
 }
 
 fn must_have_members(rt: &impl Abort, document: &ArrayMetadataV3) {
@@ -272,7 +272,7 @@ fn names_of_dimensions(rt: HostRuntime) {
         "\"fill_value\":false,\"node_type\":\"array\",\"shape\":[8],\"zarr_format\":3}"
     );
     must_write(&rt, alloc, &document, written);
-    must_read_again(&rt, alloc, &document)
+    must_read_again(&rt, alloc, &document);
 }
 
 #[test]
@@ -358,7 +358,7 @@ fn fields_that_need_not_be_understood(rt: HostRuntime) {
         );
     }
     let number = AdditionalFieldV3::new(Value::from(7u64), false);
-    must_be_field(&rt, alloc, &number, false, "7", "7")
+    must_be_field(&rt, alloc, &number, false, "7", "7");
 }
 
 fn must_have_fields(rt: &impl Abort, document: &ArrayMetadataV3) {
@@ -392,7 +392,7 @@ fn additional_fields_of_a_document(rt: HostRuntime) {
         "\"shape\":[8],\"version\":7,\"zarr_format\":3}"
     );
     must_write(&rt, alloc, &document, written);
-    must_read_again(&rt, alloc, &document)
+    must_read_again(&rt, alloc, &document);
 }
 
 fn named(alloc: Global, name: &str) -> Result<MetadataV3, AllocError> {
@@ -483,7 +483,7 @@ fn documents_with_more_parts(rt: HostRuntime) {
         "\"storage_transformers\":[\"indirect\"],\"version\":7,\"zarr_format\":3}"
     );
     must_write(&rt, alloc, &document, written);
-    must_read_again(&rt, alloc, &document)
+    must_read_again(&rt, alloc, &document);
 }
 
 #[test]
@@ -507,7 +507,7 @@ fn copies(rt: HostRuntime) {
         alloc,
         &document.try_clone(alloc).expect(&rt, "no refusal"),
         written.as_str(),
-    )
+    );
 }
 
 fn must_hold(rt: &impl Abort, alloc: Global, text: &str, float: bool) {

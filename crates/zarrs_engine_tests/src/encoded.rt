@@ -15,7 +15,7 @@ fn stored_bytes_are_returned_and_absent_chunks_are_none(rt: HostRuntime) {
             (ReadEncoded(&[0, 1]), Encoded(&[None])),
         ],
     };
-    must_answer(&rt, rt.alloc(), &CASE)
+    must_answer(&rt, rt.alloc(), &CASE);
 }
 
 #[test]
@@ -37,7 +37,7 @@ fn the_bytes_of_a_range_come_in_row_major_order(rt: HostRuntime) {
             (ReadEncodedRange(&[9, 9], &[0, 3]), Encoded(&[])),
         ],
     };
-    must_answer(&rt, rt.alloc(), &CASE)
+    must_answer(&rt, rt.alloc(), &CASE);
 }
 
 #[test]
@@ -51,5 +51,5 @@ fn more_chunks_than_a_number_counts_are_refused(rt: HostRuntime) {
             (ReadEncodedRange(&[0, 0], &[1 << 32, 1 << 32]), TooMany),
         ],
     };
-    must_answer(&rt, rt.alloc(), &CASE)
+    must_answer(&rt, rt.alloc(), &CASE);
 }

@@ -189,7 +189,7 @@ fn must_exist(rt: &impl Abort, alloc: Global, engine: &MemoryEngine) {
 #[test]
 fn chunks_exist_if_their_keys_are_present(rt: HostRuntime) {
     let engine = engine_of(&rt, rt.alloc());
-    must_exist(&rt, rt.alloc(), &engine)
+    must_exist(&rt, rt.alloc(), &engine);
 }
 
 /// An array of 8 bytes in chunks of 4, over a store that refuses the key of chunk 1.
@@ -215,5 +215,5 @@ fn must_refuse(rt: &impl Abort, alloc: Global, engine: &EngineOver<Fault<MemoryS
 #[test]
 fn a_key_that_refuses_refuses_the_read(rt: HostRuntime) {
     let engine = faulty_engine(&rt, rt.alloc());
-    must_refuse(&rt, rt.alloc(), &engine)
+    must_refuse(&rt, rt.alloc(), &engine);
 }

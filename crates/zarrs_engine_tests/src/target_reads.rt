@@ -132,7 +132,7 @@ fn must_answer_each(rt: &impl Abort, alloc: Global, engine: &MemoryEngine, rows:
 fn two_cells_must_answer(rt: &impl Abort, alloc: Global, rows: &[Row]) {
     let mut engine = engine_of(rt, alloc, &[4, 4], &[2, 2], DataType::UInt8, &[1]);
     store_two_cells(rt, alloc, &mut engine);
-    must_answer_each(rt, alloc, &engine, rows)
+    must_answer_each(rt, alloc, &engine, rows);
 }
 
 /// Reads such an array of the type, without a chunk.
@@ -144,7 +144,7 @@ fn fill_must_answer(
     rows: &[Row],
 ) {
     let engine = engine_of(rt, alloc, &[4, 4], &[2, 2], data_type, fill);
-    must_answer_each(rt, alloc, &engine, rows)
+    must_answer_each(rt, alloc, &engine, rows);
 }
 
 #[test]
@@ -154,7 +154,7 @@ fn a_region_is_read_into_a_box(rt: HostRuntime) {
         (&[1, 1], &[1, 2]),
         Answer::Parent(&[9, 9, 9, 9, 5, 6, 9, 9, 9]),
     )];
-    two_cells_must_answer(&rt, rt.alloc(), ROWS)
+    two_cells_must_answer(&rt, rt.alloc(), ROWS);
 }
 
 /// A region of four chunks, two of them absent.
@@ -165,7 +165,7 @@ fn a_region_over_chunks_is_read_into_a_box(rt: HostRuntime) {
         (&[1, 0], &[2, 3]),
         Answer::Parent(&[9, 9, 9, 5, 6, 1, 1, 1, 1]),
     )];
-    two_cells_must_answer(&rt, rt.alloc(), ROWS)
+    two_cells_must_answer(&rt, rt.alloc(), ROWS);
 }
 
 #[test]
@@ -175,7 +175,7 @@ fn an_empty_region_reads_nothing(rt: HostRuntime) {
         (&[1, 3], &[2, 0]),
         Answer::Parent(&[9; 9]),
     )];
-    two_cells_must_answer(&rt, rt.alloc(), ROWS)
+    two_cells_must_answer(&rt, rt.alloc(), ROWS);
 }
 
 /// The region is `[1..2, 1..3]`, one that no chunk covers, or one of another number of dimensions.
@@ -190,7 +190,7 @@ fn refused_reads_leave_the_parent(rt: HostRuntime) {
         (PAST, COLUMN, Answer::Shape(&[2, 1], &[1, 2])),
         ((&[1], &[2]), ROW, Answer::Region),
     ];
-    two_cells_must_answer(&rt, rt.alloc(), ROWS)
+    two_cells_must_answer(&rt, rt.alloc(), ROWS);
 }
 
 /// The shapes differ too, and the type comes first.
@@ -198,7 +198,7 @@ fn refused_reads_leave_the_parent(rt: HostRuntime) {
 fn a_cell_size_or_a_variable_type_is_refused(rt: HostRuntime) {
     const ROWS: &[Row] = &[((&[1, 1], &[1, 2]), (&[1, 1], &[2, 1]), Answer::Target)];
     fill_must_answer(&rt, rt.alloc(), DataType::UInt16, &[1, 0], ROWS);
-    fill_must_answer(&rt, rt.alloc(), DataType::String, &[65], ROWS)
+    fill_must_answer(&rt, rt.alloc(), DataType::String, &[65], ROWS);
 }
 
 /// Two cells of the fill value stand in front of a third byte and its mask.
@@ -226,7 +226,7 @@ fn must_read_masks(rt: &impl Abort, alloc: Global, engine: &MemoryEngine) {
 #[test]
 fn optional_cells_are_read_with_their_masks(rt: HostRuntime) {
     let engine = optional_cells(&rt, rt.alloc());
-    must_read_masks(&rt, rt.alloc(), &engine)
+    must_read_masks(&rt, rt.alloc(), &engine);
 }
 
 /// A target of these bytes and masks of a parent of shape [3] takes no cells of the optional type.
@@ -268,7 +268,7 @@ fn must_refuse_each(rt: &impl Abort, alloc: Global, engine: &MemoryEngine) {
 #[test]
 fn another_depth_or_cell_size_is_refused(rt: HostRuntime) {
     let engine = optional_cells(&rt, rt.alloc());
-    must_refuse_each(&rt, rt.alloc(), &engine)
+    must_refuse_each(&rt, rt.alloc(), &engine);
 }
 
 /// The one cell of an array without a dimension is fill 1.
@@ -289,5 +289,5 @@ fn must_read_one_cell(rt: &impl Abort, alloc: Global, engine: &MemoryEngine) {
 #[test]
 fn an_array_without_a_dimension_is_read(rt: HostRuntime) {
     let engine = engine_of(&rt, rt.alloc(), &[], &[], DataType::UInt8, &[1]);
-    must_read_one_cell(&rt, rt.alloc(), &engine)
+    must_read_one_cell(&rt, rt.alloc(), &engine);
 }

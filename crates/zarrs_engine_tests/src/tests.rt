@@ -29,7 +29,7 @@ fn a_chunk_is_stored_and_read(rt: HostRuntime) {
             (Count, Counts(1, 1, 0)),
         ],
     };
-    must_answer(&rt, rt.alloc(), &CASE)
+    must_answer(&rt, rt.alloc(), &CASE);
 }
 
 #[test]
@@ -45,7 +45,7 @@ fn empty_chunks_are_kept_by_choice(rt: HostRuntime) {
             (Count, Counts(1, 2, 0)),
         ],
     };
-    must_answer(&rt, rt.alloc(), &CASE)
+    must_answer(&rt, rt.alloc(), &CASE);
 }
 
 #[test]
@@ -62,7 +62,7 @@ fn foreign_bytes_are_refused_and_replaced(rt: HostRuntime) {
             (Read(&[0]), Cells(&[5, 6, 7, 8])),
         ],
     };
-    must_answer(&rt, rt.alloc(), &CASE)
+    must_answer(&rt, rt.alloc(), &CASE);
 }
 
 #[test]
@@ -78,7 +78,7 @@ fn foreign_bytes_are_erased(rt: HostRuntime) {
             (Count, Counts(0, 2, 0)),
         ],
     };
-    must_answer(&rt, rt.alloc(), &CASE)
+    must_answer(&rt, rt.alloc(), &CASE);
 }
 
 #[test]
@@ -93,7 +93,7 @@ fn data_that_is_no_chunk_is_refused(rt: HostRuntime) {
             (Count, Counts(0, 0, 0)),
         ],
     };
-    must_answer(&rt, rt.alloc(), &CASE)
+    must_answer(&rt, rt.alloc(), &CASE);
 }
 
 #[test]
@@ -114,7 +114,7 @@ fn a_range_of_chunks_is_erased(rt: HostRuntime) {
             (Count, Counts(1, 5, 0)),
         ],
     };
-    must_answer(&rt, rt.alloc(), &CASE)
+    must_answer(&rt, rt.alloc(), &CASE);
 }
 
 #[test]
@@ -129,7 +129,7 @@ fn a_list_goes_on_after_a_refusal(rt: HostRuntime) {
         (Erase(&[0]), Done),
         (ReadIfPresent(&[0]), Absent),
     ];
-    must_go_on_in_list(&rt, alloc, &mut engine, NEXT)
+    must_go_on_in_list(&rt, alloc, &mut engine, NEXT);
 }
 
 #[test]
@@ -140,7 +140,7 @@ fn cells_past_the_shape_are_kept(rt: HostRuntime) {
         fill: 0,
         rows: &[(Store(&[1], &[7, 8]), Done), (Read(&[1]), Cells(&[7, 8]))],
     };
-    must_answer(&rt, rt.alloc(), &CASE)
+    must_answer(&rt, rt.alloc(), &CASE);
 }
 
 #[test]
@@ -151,7 +151,7 @@ fn a_chunk_past_the_numbers_is_refused(rt: HostRuntime) {
         fill: 0,
         rows: &[(ReadIfPresent(&[1]), Absent), (Read(&[1]), NoChunk(&[1]))],
     };
-    must_answer(&rt, rt.alloc(), &CASE)
+    must_answer(&rt, rt.alloc(), &CASE);
 }
 
 #[test]
@@ -162,7 +162,7 @@ fn another_number_of_indices_is_refused(rt: HostRuntime) {
         fill: 0,
         rows: &[(Read(&[0, 1]), NoChunk(&[0, 1])), (Read(&[]), NoChunk(&[]))],
     };
-    must_answer(&rt, rt.alloc(), &CASE)
+    must_answer(&rt, rt.alloc(), &CASE);
 }
 
 /// The parts are lent as they were given.
@@ -196,7 +196,7 @@ fn the_parts_are_lent(rt: HostRuntime) {
     let engine = bytes_engine(&rt, alloc, MemoryStore::new(alloc), &[4, 4], &[2, 2], 7);
     must_lend(&rt, &engine);
     must_be_new(&rt, alloc, engine.storage());
-    must_be_new(&rt, alloc, &engine.into_storage())
+    must_be_new(&rt, alloc, &engine.into_storage());
 }
 
 #[test]
@@ -212,7 +212,7 @@ fn a_value_is_put_at_one_key(rt: HostRuntime) {
             (Count, Counts(0, 2, 0)),
         ],
     };
-    must_answer(&rt, rt.alloc(), &CASE)
+    must_answer(&rt, rt.alloc(), &CASE);
 }
 
 #[test]
@@ -286,7 +286,7 @@ fn errors_say_what_was_refused(rt: HostRuntime) {
         alloc,
         &ArrayError::from(StorageError::ReadOnly),
         "the store is read only",
-    )
+    );
 }
 
 #[test]

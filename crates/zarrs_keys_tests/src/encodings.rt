@@ -124,7 +124,7 @@ fn metadata_that_is_written(rt: HostRuntime) {
         alloc,
         &suffixed(&rt, alloc, ChunkKeySeparator::Slash),
         r#"{"configuration":{"separator":"/","suffix":".tiff"},"name":"default_suffix"}"#,
-    )
+    );
 }
 
 fn must_be_read_again(rt: &impl Abort, alloc: Global, encoding: &ChunkKeyEncoding) {

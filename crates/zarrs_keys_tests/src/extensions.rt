@@ -44,7 +44,7 @@ fn a_name_alone_is_a_text(rt: HostRuntime) {
     must_be_plain(&rt, &metadata, "squeeze");
     must_be_written(&rt, alloc, &metadata, "\"squeeze\"");
     metadata.set_name(String::from_str(alloc, "zarrs.squeeze").expect(&rt, "no refusal"));
-    must_be_written(&rt, alloc, &metadata, "\"zarrs.squeeze\"")
+    must_be_written(&rt, alloc, &metadata, "\"zarrs.squeeze\"");
 }
 
 #[test]
@@ -95,7 +95,7 @@ fn an_object_is_written_in_order_of_its_names(rt: HostRuntime) {
         "no refusal",
     );
     must_have_tiles(&rt, &read);
-    must_be_written(&rt, alloc, &read, written)
+    must_be_written(&rt, alloc, &read, written);
 }
 
 #[test]
@@ -110,7 +110,7 @@ fn an_extension_that_need_not_be_understood(rt: HostRuntime) {
         "{\"must_understand\":false,\"name\":\"proj\"}",
     );
     let needed = read(&rt, alloc, "{\"must_understand\":true,\"name\":\"proj\"}");
-    must_be_written(&rt, alloc, &needed, "\"proj\"")
+    must_be_written(&rt, alloc, &needed, "\"proj\"");
 }
 
 #[test]
@@ -157,7 +157,7 @@ fn lists_of_numbers(rt: HostRuntime) {
         alloc,
         &Value::from_str(alloc, "[]").expect(&rt, "no refusal"),
         &[],
-    )
+    );
 }
 
 #[test]

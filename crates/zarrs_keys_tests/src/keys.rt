@@ -41,7 +41,7 @@ fn default_keys(rt: HostRuntime) {
     must_encode(&rt, alloc, &slashes, &[], "c");
     let dots = ChunkKeyEncoding::Default(ChunkKeySeparator::Dot);
     must_encode(&rt, alloc, &dots, &indices, "c.1.23.45");
-    must_encode(&rt, alloc, &dots, &[], "c")
+    must_encode(&rt, alloc, &dots, &[], "c");
 }
 
 #[test]
@@ -53,7 +53,7 @@ fn v2_keys(rt: HostRuntime) {
     must_encode(&rt, alloc, &dots, &[], "0");
     let slashes = ChunkKeyEncoding::V2(ChunkKeySeparator::Slash);
     must_encode(&rt, alloc, &slashes, &indices, "1/23/45");
-    must_encode(&rt, alloc, &slashes, &[], "0")
+    must_encode(&rt, alloc, &slashes, &[], "0");
 }
 
 #[test]
@@ -61,7 +61,7 @@ fn default_suffix_keys(rt: HostRuntime) {
     let alloc = rt.alloc();
     let tiles = suffixed(&rt, alloc, ".tiff");
     must_encode(&rt, alloc, &tiles, &[1, 23, 45], "c/1/23/45.tiff");
-    must_encode(&rt, alloc, &tiles, &[], "c.tiff")
+    must_encode(&rt, alloc, &tiles, &[], "c.tiff");
 }
 
 #[test]
@@ -69,7 +69,7 @@ fn suffix_that_begins_with_a_digit(rt: HostRuntime) {
     let alloc = rt.alloc();
     let levels = suffixed(&rt, alloc, "0_x");
     must_encode(&rt, alloc, &levels, &[1, 2], "c/1/20_x");
-    must_encode(&rt, alloc, &levels, &[], "c0_x")
+    must_encode(&rt, alloc, &levels, &[], "c0_x");
 }
 
 #[test]
@@ -79,7 +79,7 @@ fn largest_indices(rt: HostRuntime) {
     let indices = [u64::MAX, 0];
     must_encode(&rt, alloc, &slashes, &indices, "c/18446744073709551615/0");
     let dots = ChunkKeyEncoding::V2(ChunkKeySeparator::Dot);
-    must_encode(&rt, alloc, &dots, &[u64::MAX], "18446744073709551615")
+    must_encode(&rt, alloc, &dots, &[u64::MAX], "18446744073709551615");
 }
 
 #[test]
@@ -161,7 +161,7 @@ fn keys_at_a_path(rt: HostRuntime) {
     let keys = ("a/b/c/0", "a/b/zarr.json", "a/b/.zarray", "a/b/.zattrs");
     must_have_keys(&rt, alloc, &path, keys);
     let slashes = ChunkKeyEncoding::Default(ChunkKeySeparator::Slash);
-    must_have_chunk_key(&rt, alloc, &path, &slashes, &[0], "a/b/c/0")
+    must_have_chunk_key(&rt, alloc, &path, &slashes, &[0], "a/b/c/0");
 }
 
 #[test]
@@ -175,7 +175,7 @@ fn keys_at_the_root(rt: HostRuntime) {
         ("c/0", "zarr.json", ".zarray", ".zattrs"),
     );
     let dots = ChunkKeyEncoding::V2(ChunkKeySeparator::Dot);
-    must_have_chunk_key(&rt, alloc, &root, &dots, &[], "0")
+    must_have_chunk_key(&rt, alloc, &root, &dots, &[], "0");
 }
 
 #[test]
@@ -190,7 +190,7 @@ fn long_keys(rt: HostRuntime) {
         &dots,
         &[u64::MAX, u64::MAX, u64::MAX],
         "a/18446744073709551615.18446744073709551615.18446744073709551615",
-    )
+    );
 }
 
 fn must_refuse_key(rt: &impl Abort, alloc: Global, path: &NodePath, encoded: &str) {
@@ -259,7 +259,7 @@ fn paths_that_begin_alike(rt: HostRuntime) {
         NodePath::new(alloc, "/ab").expect(&rt, "no refusal"),
     );
     must_have_chunk_key(&rt, alloc, &short, &slashes, &[0], "a/0");
-    must_have_chunk_key(&rt, alloc, &long, &slashes, &[0], "ab/0")
+    must_have_chunk_key(&rt, alloc, &long, &slashes, &[0], "ab/0");
 }
 
 #[test]
@@ -286,7 +286,7 @@ fn copies_are_equal(rt: HostRuntime) {
         KeySuffix::new(alloc, ".tiff").expect(&rt, "no refusal"),
         KeySuffix::new(alloc, ".tif").expect(&rt, "no refusal"),
     );
-    must_differ(&rt, &tiff, &tif)
+    must_differ(&rt, &tiff, &tif);
 }
 
 #[test]
@@ -298,7 +298,7 @@ fn encodings_are_compared(rt: HostRuntime) {
         &rt,
         &tiles,
         &ChunkKeyEncoding::Default(ChunkKeySeparator::Slash),
-    )
+    );
 }
 
 #[test]

@@ -227,7 +227,7 @@ fn fields_that_must_be_understood(rt: HostRuntime) {
         alloc,
         &error,
         "unsupported additional field key with value null",
-    )
+    );
 }
 
 fn must_be_memory(rt: &impl Abort, error: &ArrayCreateError) {

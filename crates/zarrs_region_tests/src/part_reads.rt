@@ -37,7 +37,7 @@ fn a_range_over_four_chunks(rt: HostRuntime) {
             Cells(&[&[1, 1, 1, 1], &[1, 1, 1, 1], &[1, 1, 1, 1], &[1, 1, 1, 1]]),
         ),
     ];
-    nine_cells_must_answer(&rt, rt.alloc(), ROWS)
+    nine_cells_must_answer(&rt, rt.alloc(), ROWS);
 }
 
 #[test]
@@ -53,7 +53,7 @@ fn absent_chunks_of_a_range_are_the_fill_value(rt: HostRuntime) {
             ),
         ],
     };
-    must_answer_of(&rt, rt.alloc(), DataType::Int8, &[255], &CASE)
+    must_answer_of(&rt, rt.alloc(), DataType::Int8, &[255], &CASE);
 }
 
 /// The array has five cells; its second chunk has three more.
@@ -81,7 +81,7 @@ fn parts_of_a_chunk_that_crosses_the_shape(rt: HostRuntime) {
             ),
         ],
     };
-    must_answer(&rt, rt.alloc(), &CASE)
+    must_answer(&rt, rt.alloc(), &CASE);
 }
 
 #[test]
@@ -90,7 +90,7 @@ fn an_empty_range_has_no_cell(rt: HostRuntime) {
         (ReadChunks(&[0, 0], &[0, 2]), Cells(&[])),
         (ReadChunks(&[u64::MAX, 9], &[0, 1]), Cells(&[])),
     ];
-    nine_cells_must_answer(&rt, rt.alloc(), ROWS)
+    nine_cells_must_answer(&rt, rt.alloc(), ROWS);
 }
 
 /// The store refuses to read the first chunk: what asks for it is refused, and what does not is not.
@@ -110,7 +110,7 @@ fn an_empty_range_asks_nothing(rt: HostRuntime) {
         calls: 0,
         left: "",
     };
-    must_leave(&rt, rt.alloc(), &CASE)
+    must_leave(&rt, rt.alloc(), &CASE);
 }
 
 #[test]
@@ -125,7 +125,7 @@ fn a_range_of_other_dimensions_is_refused(rt: HostRuntime) {
             Refused("array subset [0..0, 0..0, 0..0] is not compatible with array shape [8, 8]"),
         ),
     ];
-    nine_cells_must_answer(&rt, rt.alloc(), ROWS)
+    nine_cells_must_answer(&rt, rt.alloc(), ROWS);
 }
 
 #[test]
@@ -152,7 +152,7 @@ fn an_index_without_a_chunk_is_refused(rt: HostRuntime) {
             ),
         ],
     };
-    must_answer(&rt, rt.alloc(), &CASE)
+    must_answer(&rt, rt.alloc(), &CASE);
 }
 
 #[test]
@@ -172,7 +172,7 @@ fn parts_of_present_and_absent_chunks(rt: HostRuntime) {
             Cells(&[&[4], &[7], &[1], &[1]]),
         ),
     ];
-    nine_cells_must_answer(&rt, rt.alloc(), ROWS)
+    nine_cells_must_answer(&rt, rt.alloc(), ROWS);
 }
 
 #[test]
@@ -187,7 +187,7 @@ fn a_part_that_is_the_whole_chunk(rt: HostRuntime) {
             Cells(&[&[1, 1, 1, 1], &[1, 1, 1, 1], &[1, 1, 1, 1], &[1, 1, 1, 1]]),
         ),
     ];
-    nine_cells_must_answer(&rt, rt.alloc(), ROWS)
+    nine_cells_must_answer(&rt, rt.alloc(), ROWS);
 }
 
 #[test]
@@ -196,7 +196,7 @@ fn an_empty_part_has_no_cell(rt: HostRuntime) {
         (ReadPart(&[1, 1], &[4, 0], &[0, 4]), Cells(&[])),
         (ReadPart(&[0, 0], &[0, 0], &[0, 0]), Cells(&[])),
     ];
-    nine_cells_must_answer(&rt, rt.alloc(), ROWS)
+    nine_cells_must_answer(&rt, rt.alloc(), ROWS);
 }
 
 #[test]
@@ -219,7 +219,7 @@ fn a_part_that_passes_its_chunk_is_refused(rt: HostRuntime) {
             Refused("chunk subset [0..1] is not compatible with chunk [1, 1] with shape [4, 4]"),
         ),
     ];
-    nine_cells_must_answer(&rt, rt.alloc(), ROWS)
+    nine_cells_must_answer(&rt, rt.alloc(), ROWS);
 }
 
 #[test]
@@ -236,7 +236,7 @@ fn parts_of_a_chunk_that_does_not_decode(rt: HostRuntime) {
             (ReadChunks(&[2], &[1]), Cells(&[&[0, 0]])),
         ],
     };
-    must_answer(&rt, rt.alloc(), &CASE)
+    must_answer(&rt, rt.alloc(), &CASE);
 }
 
 #[test]
@@ -250,7 +250,7 @@ fn a_part_of_a_chunk_past_the_numbers(rt: HostRuntime) {
             (ReadChunks(&[0], &[2]), Refused(TOO_LARGE)),
         ],
     };
-    must_answer_of(&rt, rt.alloc(), DataType::Int64, &[0; 8], &CASE)
+    must_answer_of(&rt, rt.alloc(), DataType::Int64, &[0; 8], &CASE);
 }
 
 #[test]
@@ -264,7 +264,7 @@ fn without_dimensions_there_is_one_chunk_of_one_cell(rt: HostRuntime) {
             (ReadPart(&[], &[], &[]), Cells(&[&[7]])),
         ],
     };
-    must_answer(&rt, rt.alloc(), &CASE)
+    must_answer(&rt, rt.alloc(), &CASE);
 }
 
 /// The calls read the first chunk, the last of the nine cells, and a part that passes its chunk.
@@ -283,5 +283,5 @@ fn ranges_and_parts_are_read_in_a_list_of_calls(rt: HostRuntime) {
             ),
         ),
     ];
-    nine_cells_must_answer_in_list(&rt, rt.alloc(), ROWS)
+    nine_cells_must_answer_in_list(&rt, rt.alloc(), ROWS);
 }

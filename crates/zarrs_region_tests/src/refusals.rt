@@ -28,7 +28,7 @@ fn a_region_of_other_dimensions_is_refused(rt: HostRuntime) {
         calls: 0,
         left: "",
     };
-    must_leave(&rt, rt.alloc(), &CASE)
+    must_leave(&rt, rt.alloc(), &CASE);
 }
 
 /// The last chunk would pass the numbers, so there is none.
@@ -62,7 +62,7 @@ fn what_no_chunk_covers_is_refused(rt: HostRuntime) {
         calls: 0,
         left: "",
     };
-    must_leave(&rt, rt.alloc(), &CASE)
+    must_leave(&rt, rt.alloc(), &CASE);
 }
 
 #[test]
@@ -78,7 +78,7 @@ fn another_number_of_cells_of_a_region_is_refused(rt: HostRuntime) {
         calls: 0,
         left: "",
     };
-    must_leave(&rt, rt.alloc(), &CASE)
+    must_leave(&rt, rt.alloc(), &CASE);
 }
 
 #[test]
@@ -95,7 +95,7 @@ fn another_number_of_cells_of_chunks_is_refused(rt: HostRuntime) {
         calls: 0,
         left: "",
     };
-    must_leave(&rt, rt.alloc(), &CASE)
+    must_leave(&rt, rt.alloc(), &CASE);
 }
 
 #[test]
@@ -121,7 +121,7 @@ fn indices_of_other_dimensions_are_refused(rt: HostRuntime) {
         calls: 0,
         left: "",
     };
-    must_leave(&rt, rt.alloc(), &CASE)
+    must_leave(&rt, rt.alloc(), &CASE);
 }
 
 #[test]
@@ -153,7 +153,7 @@ fn a_part_that_passes_its_chunk_is_refused(rt: HostRuntime) {
         calls: 0,
         left: "",
     };
-    must_leave(&rt, rt.alloc(), &CASE)
+    must_leave(&rt, rt.alloc(), &CASE);
 }
 
 #[test]
@@ -173,7 +173,7 @@ fn sizes_past_the_numbers_are_refused(rt: HostRuntime) {
         calls: 0,
         left: "",
     };
-    must_leave_of(&rt, rt.alloc(), DataType::Int64, &[0; 8], &CASE)
+    must_leave_of(&rt, rt.alloc(), DataType::Int64, &[0; 8], &CASE);
 }
 
 #[test]
@@ -188,7 +188,7 @@ fn a_region_is_stored_up_to_a_refused_write(rt: HostRuntime) {
         ),
         (ReadRegion(&[0], &[8]), Cells(&[&[0, 1, 2, 3, 0, 0, 0, 0]])),
     ];
-    must_leave_over(&rt, alloc, engine, ROWS, 3, "c/0: 0 1; c/1: 2 3")
+    must_leave_over(&rt, alloc, engine, ROWS, 3, "c/0: 0 1; c/1: 2 3");
 }
 
 /// The store counts two writing calls more, and no third one.
@@ -202,7 +202,7 @@ fn a_range_is_stored_up_to_the_last_call(rt: HostRuntime) {
         StoreChunks(&[0], &[4], &[&[1, 2, 3, 4, 5, 6, 7, 8]]),
         Refused("the store has no writing call left"),
     )];
-    must_leave_over(&rt, alloc, engine, ROWS, 3, "c/0: 1 2; c/1: 3 4")
+    must_leave_over(&rt, alloc, engine, ROWS, 3, "c/0: 1 2; c/1: 3 4");
 }
 
 /// The first region covers the second chunk, which is not read, and the second region a part of it.
@@ -220,7 +220,7 @@ fn a_region_is_stored_up_to_a_refused_read(rt: HostRuntime) {
         calls: 3,
         left: "c/0: 4 5; c/1: 1 2; c/2: 3 0",
     };
-    must_leave(&rt, rt.alloc(), &CASE)
+    must_leave(&rt, rt.alloc(), &CASE);
 }
 
 /// The second chunk holds three bytes where two are wanted. A part of it is refused, and the whole is replaced.
@@ -240,5 +240,5 @@ fn a_chunk_that_does_not_decode(rt: HostRuntime) {
         calls: 5,
         left: "c/0: 1 3; c/1: 4 5; c/2: 6 0",
     };
-    must_leave(&rt, rt.alloc(), &CASE)
+    must_leave(&rt, rt.alloc(), &CASE);
 }

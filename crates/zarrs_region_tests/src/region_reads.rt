@@ -45,13 +45,13 @@ fn nine_cells(rt: &impl Abort, alloc: Global) -> TestEngine {
 /// The calls of the nine cells must give their answers.
 pub(crate) fn nine_cells_must_answer(rt: &impl Abort, alloc: Global, rows: &[Row]) {
     let mut engine = nine_cells(rt, alloc);
-    must_go_on(rt, alloc, &mut engine, rows)
+    must_go_on(rt, alloc, &mut engine, rows);
 }
 
 /// The calls of the nine cells must give their answers as one list.
 pub(crate) fn nine_cells_must_answer_in_list(rt: &impl Abort, alloc: Global, rows: &[Row]) {
     let mut engine = nine_cells(rt, alloc);
-    must_go_on_in_list(rt, alloc, &mut engine, rows)
+    must_go_on_in_list(rt, alloc, &mut engine, rows);
 }
 
 #[test]
@@ -64,7 +64,7 @@ fn nine_cells_over_four_chunks(rt: HostRuntime) {
         (ReadRegion(&[4, 4], &[2, 2]), Cells(&[&[5, 6], &[8, 9]])),
         (ReadRegion(&[5, 5], &[1, 1]), Cells(&[&[9]])),
     ];
-    nine_cells_must_answer(&rt, rt.alloc(), ROWS)
+    nine_cells_must_answer(&rt, rt.alloc(), ROWS);
 }
 
 #[test]
@@ -79,7 +79,7 @@ fn a_region_that_is_one_chunk(rt: HostRuntime) {
             Cells(&[&[1, 1, 1, 1], &[1, 1, 1, 1], &[1, 1, 1, 1], &[1, 1, 1, 1]]),
         ),
     ];
-    nine_cells_must_answer(&rt, rt.alloc(), ROWS)
+    nine_cells_must_answer(&rt, rt.alloc(), ROWS);
 }
 
 #[test]
@@ -89,7 +89,7 @@ fn no_cell_outside_the_array(rt: HostRuntime) {
         (ReadRegion(&[0, 0], &[0, 4]), Cells(&[])),
         (ReadRegion(&[u64::MAX, 9], &[0, 1]), Cells(&[])),
     ];
-    nine_cells_must_answer(&rt, rt.alloc(), ROWS)
+    nine_cells_must_answer(&rt, rt.alloc(), ROWS);
 }
 
 #[test]
@@ -104,7 +104,7 @@ fn other_dimensions_are_refused(rt: HostRuntime) {
             Refused("array subset [0..0, 0..0, 0..0] is not compatible with array shape [8, 8]"),
         ),
     ];
-    nine_cells_must_answer(&rt, rt.alloc(), ROWS)
+    nine_cells_must_answer(&rt, rt.alloc(), ROWS);
 }
 
 /// The array has 2^64 - 1 cells, and one chunk of 2^63: a second one would pass the numbers.
@@ -124,7 +124,7 @@ fn a_cell_that_no_chunk_covers_is_refused(rt: HostRuntime) {
             ),
         ],
     };
-    must_answer(&rt, rt.alloc(), &CASE)
+    must_answer(&rt, rt.alloc(), &CASE);
 }
 
 #[test]
@@ -140,7 +140,7 @@ fn absent_chunks_read_as_the_fill_value(rt: HostRuntime) {
             ),
         ],
     };
-    must_answer_of(&rt, rt.alloc(), DataType::Int8, &[255], &CASE)
+    must_answer_of(&rt, rt.alloc(), DataType::Int8, &[255], &CASE);
 }
 
 #[test]
@@ -154,7 +154,7 @@ fn cells_past_the_shape_are_read(rt: HostRuntime) {
             (ReadRegion(&[3], &[4]), Cells(&[&[0, 1, 2, 3]])),
         ],
     };
-    must_answer(&rt, rt.alloc(), &CASE)
+    must_answer(&rt, rt.alloc(), &CASE);
 }
 
 #[test]
@@ -167,7 +167,7 @@ fn a_region_without_dimensions_is_one_cell(rt: HostRuntime) {
             (ReadRegion(&[], &[]), Cells(&[&[7]])),
         ],
     };
-    must_answer(&rt, rt.alloc(), &CASE)
+    must_answer(&rt, rt.alloc(), &CASE);
 }
 
 /// The data is these texts, put together, with the place where each begins and the last one ends.
@@ -232,7 +232,7 @@ fn texts_over_two_chunks(rt: HostRuntime) {
     store_texts(&rt, alloc, &mut engine);
     let encoded = b"\x04\0\0\0\x01\0\0\0a\0\0\0\0\x03\0\0\0bcd\x02\0\0\0\xC3\xA4";
     must_be_stored(&rt, alloc, &engine, "c/0/0", encoded);
-    must_read_texts(&rt, alloc, &engine)
+    must_read_texts(&rt, alloc, &engine);
 }
 
 #[test]
@@ -245,7 +245,7 @@ fn a_chunk_that_is_no_text_is_refused(rt: HostRuntime) {
             (ReadRegion(&[0], &[2]), Refused(UNFIT)),
         ],
     };
-    must_answer_of(&rt, rt.alloc(), DataType::String, b"", &CASE)
+    must_answer_of(&rt, rt.alloc(), DataType::String, b"", &CASE);
 }
 
 #[test]
@@ -262,7 +262,7 @@ fn a_chunk_that_does_not_decode_beside_one_that_does(rt: HostRuntime) {
             (ReadRegion(&[4], &[2]), Cells(&[&[0, 0]])),
         ],
     };
-    must_answer(&rt, rt.alloc(), &CASE)
+    must_answer(&rt, rt.alloc(), &CASE);
 }
 
 #[test]
@@ -272,7 +272,7 @@ fn a_region_past_the_numbers_is_refused(rt: HostRuntime) {
         chunk_shape: &[1 << 61],
         rows: &[(ReadRegion(&[0], &[1 << 61]), Refused(TOO_LARGE))],
     };
-    must_answer_of(&rt, rt.alloc(), DataType::Int64, &[0; 8], &CASE)
+    must_answer_of(&rt, rt.alloc(), DataType::Int64, &[0; 8], &CASE);
 }
 
 #[test]
@@ -284,5 +284,5 @@ fn regions_are_read_in_a_list_of_calls(rt: HostRuntime) {
             Refused("array subset [5..6] is not compatible with array shape [8, 8]"),
         ),
     ];
-    nine_cells_must_answer_in_list(&rt, rt.alloc(), ROWS)
+    nine_cells_must_answer_in_list(&rt, rt.alloc(), ROWS);
 }

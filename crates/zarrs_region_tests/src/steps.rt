@@ -336,7 +336,7 @@ pub(crate) fn must_go_on_in_list(
 ) {
     let calls = list_of(rt, alloc, rows);
     let replies = replay(alloc, engine, &calls, &CodecOptions::default()).expect(rt, "no refusal");
-    must_be_answers(rt, alloc, &replies, rows)
+    must_be_answers(rt, alloc, &replies, rows);
 }
 
 /// Reads of a new array, and what is put there for them.
@@ -348,7 +348,7 @@ pub(crate) struct ReadCase {
 
 /// Makes the calls of the case over bytes with fill 0, in turn. Each must give its answer.
 pub(crate) fn must_answer(rt: &impl Abort, alloc: Global, case: &ReadCase) {
-    must_answer_of(rt, alloc, DataType::UInt8, &[0], case)
+    must_answer_of(rt, alloc, DataType::UInt8, &[0], case);
 }
 
 /// Makes the calls of the case over cells of the type with this fill value, in turn. Each must give its answer.
@@ -360,7 +360,7 @@ pub(crate) fn must_answer_of(
     case: &ReadCase,
 ) {
     let mut engine = engine_of(rt, alloc, case.shape, case.chunk_shape, data_type, fill);
-    must_go_on(rt, alloc, &mut engine, case.rows)
+    must_go_on(rt, alloc, &mut engine, case.rows);
 }
 
 /// Calls of an engine over a new array, and what they leave.
@@ -379,7 +379,7 @@ pub(crate) struct WriteCase {
 /// Makes the calls of the case over bytes with fill 0, in turn. Each must give its answer, and they must leave what the
 /// case says.
 pub(crate) fn must_leave(rt: &impl Abort, alloc: Global, case: &WriteCase) {
-    must_leave_of(rt, alloc, DataType::UInt8, &[0], case)
+    must_leave_of(rt, alloc, DataType::UInt8, &[0], case);
 }
 
 /// The same over cells of the type with this fill value.
@@ -400,7 +400,7 @@ pub(crate) fn must_leave_of(
         data_type,
         fill,
     );
-    must_leave_over(rt, alloc, engine, case.rows, case.calls, case.left)
+    must_leave_over(rt, alloc, engine, case.rows, case.calls, case.left);
 }
 
 /// Makes the calls in turn. Each must give its answer, and they must leave a store that saw this many writing calls
@@ -414,7 +414,7 @@ pub(crate) fn must_leave_over(
     values: &str,
 ) {
     must_go_on(rt, alloc, &mut engine, rows);
-    must_be_left(rt, alloc, engine.into_storage(), calls, values)
+    must_be_left(rt, alloc, engine.into_storage(), calls, values);
 }
 
 /// The store saw this many writing calls, and has these values.
@@ -426,7 +426,7 @@ pub(crate) fn must_be_left(
     values: &str,
 ) {
     assert_eq!(rt; storage.calls(), calls);
-    must_have(rt, alloc, &storage.into_inner(), values)
+    must_have(rt, alloc, &storage.into_inner(), values);
 }
 
 /// The store has these values.

@@ -28,7 +28,7 @@ fn a_region_over_four_chunks(rt: HostRuntime) {
         calls: 4,
         left: "c/0/0: 0 0 0 1; c/0/1: 0 0 2 0; c/1/0: 0 3 0 0; c/1/1: 4 0 0 0",
     };
-    must_leave(&rt, rt.alloc(), &CASE)
+    must_leave(&rt, rt.alloc(), &CASE);
 }
 
 /// Three of four chunks are not all fill, which is 1.
@@ -52,7 +52,7 @@ fn nine_cells_over_four_chunks(rt: HostRuntime) {
         left: "c/0/1: 1 1 1 1 1 1 1 1 1 1 1 1 2 3 1 1; c/1/0: 1 1 1 4 1 1 1 7 1 1 1 1 1 1 1 1; \
             c/1/1: 5 6 1 1 8 9 1 1 1 1 1 1 1 1 1 1",
     };
-    must_leave_of(&rt, rt.alloc(), DataType::UInt8, &[1], &CASE)
+    must_leave_of(&rt, rt.alloc(), DataType::UInt8, &[1], &CASE);
 }
 
 #[test]
@@ -75,7 +75,7 @@ fn cells_beside_the_region_stay(rt: HostRuntime) {
         calls: 4,
         left: "c/0/0: 1 2 3 7 8 20; c/0/1: 4 5 6 30 11 12",
     };
-    must_leave(&rt, rt.alloc(), &CASE)
+    must_leave(&rt, rt.alloc(), &CASE);
 }
 
 #[test]
@@ -98,7 +98,7 @@ fn writes_of_whole_chunks_read_nothing(rt: HostRuntime) {
         calls: 4,
         left: "c/0/0: 1 2 5 6; c/0/1: 3 4 7 8; c/0/2: 9 8 7 6; c/0/3: 4 3 2 1",
     };
-    must_leave(&rt, rt.alloc(), &CASE)
+    must_leave(&rt, rt.alloc(), &CASE);
 }
 
 #[test]
@@ -114,7 +114,7 @@ fn fill_that_is_not_zero_stays_beside_a_write(rt: HostRuntime) {
         calls: 2,
         left: "c/0: 255 5 255; c/1: 255 6 7",
     };
-    must_leave_of(&rt, rt.alloc(), DataType::Int8, &[255], &CASE)
+    must_leave_of(&rt, rt.alloc(), DataType::Int8, &[255], &CASE);
 }
 
 /// The array has three cells; its second chunk has a fourth one.
@@ -131,7 +131,7 @@ fn cells_past_the_shape_are_written(rt: HostRuntime) {
         calls: 2,
         left: "c/0: 0 1; c/1: 2 3",
     };
-    must_leave(&rt, rt.alloc(), &CASE)
+    must_leave(&rt, rt.alloc(), &CASE);
 }
 
 #[test]
@@ -149,7 +149,7 @@ fn an_empty_region_asks_nothing(rt: HostRuntime) {
         calls: 0,
         left: "",
     };
-    must_leave(&rt, rt.alloc(), &CASE)
+    must_leave(&rt, rt.alloc(), &CASE);
 }
 
 /// Stores the texts "abc" and "ä", one in each chunk.
@@ -173,7 +173,7 @@ fn texts_over_two_chunks(rt: HostRuntime) {
     store_texts(&rt, alloc, &mut engine);
     let left =
         "c/0: 2 0 0 0 2 0 0 0 122 122 3 0 0 0 97 98 99; c/1: 2 0 0 0 2 0 0 0 195 164 2 0 0 0 122 122";
-    must_be_left(&rt, alloc, engine.into_storage(), 2, left)
+    must_be_left(&rt, alloc, engine.into_storage(), 2, left);
 }
 
 /// Stores the texts "a", "bb" and "ccc" above "d", "" and "f".
@@ -200,7 +200,7 @@ fn texts_over_a_chunk_that_crosses_the_shape(rt: HostRuntime) {
     store_six_texts(&rt, alloc, &mut engine);
     let left = "c/0/0: 4 0 0 0 1 0 0 0 97 2 0 0 0 98 98 1 0 0 0 100 0 0 0 0; \
         c/0/1: 4 0 0 0 3 0 0 0 99 99 99 0 0 0 0 1 0 0 0 102 0 0 0 0";
-    must_be_left(&rt, alloc, engine.into_storage(), 2, left)
+    must_be_left(&rt, alloc, engine.into_storage(), 2, left);
 }
 
 fn nested_type(rt: &impl Abort, alloc: Global) -> DataType {
@@ -237,7 +237,7 @@ fn optional_cells_of_an_optional_type(rt: HostRuntime) {
     let mut engine = engine_of(&rt, alloc, &[3], &[2], nested_type(&rt, alloc), &[0]);
     must_read_nested(&rt, alloc, &mut engine, &data_type);
     let left = "c/0: 1 0 0 0 0 0 0 0 18 0 0 0 0 0 0 0 3 1 0 0 0 0 0 0 0 1 0 0 0 0 0 0 0 1 1";
-    must_be_left(&rt, alloc, engine.into_storage(), 2, left)
+    must_be_left(&rt, alloc, engine.into_storage(), 2, left);
 }
 
 fn store_and_keep(rt: &impl Abort, alloc: Global, engine: &mut TestEngine) {
@@ -256,7 +256,7 @@ fn a_chunk_of_fill_is_kept_by_choice(rt: HostRuntime) {
     let alloc = rt.alloc();
     let mut engine = engine_of(&rt, alloc, &[4], &[2], DataType::UInt8, &[0]);
     store_and_keep(&rt, alloc, &mut engine);
-    must_be_left(&rt, alloc, engine.into_storage(), 1, "c/0: 0 0")
+    must_be_left(&rt, alloc, engine.into_storage(), 1, "c/0: 0 0");
 }
 
 #[test]
@@ -282,7 +282,7 @@ fn a_part_of_a_present_chunk(rt: HostRuntime) {
         calls: 2,
         left: "c/0/1: 1 7 8 4 9 10",
     };
-    must_leave(&rt, rt.alloc(), &CASE)
+    must_leave(&rt, rt.alloc(), &CASE);
 }
 
 /// A present chunk is written as it was, and an absent one is erased.
@@ -300,7 +300,7 @@ fn an_empty_part_is_one_writing_call(rt: HostRuntime) {
         calls: 3,
         left: "c/0/1: 1 2 3 4",
     };
-    must_leave(&rt, rt.alloc(), &CASE)
+    must_leave(&rt, rt.alloc(), &CASE);
 }
 
 /// Stores 1 to 16 over four chunks, then nothing over no chunk.
@@ -325,7 +325,7 @@ fn store_sixteen(rt: &impl Abort, alloc: Global, engine: &mut EngineOver<Fence<'
 fn store_through_a_fence(rt: &impl Abort, alloc: Global, store: &mut MemoryStore) {
     let fence = Fence::new(store, Vec::new(alloc));
     let mut engine = engine_over(rt, alloc, fence, &[4, 4], &[2, 2], DataType::UInt8, &[0]);
-    store_sixteen(rt, alloc, &mut engine)
+    store_sixteen(rt, alloc, &mut engine);
 }
 
 #[test]
@@ -335,7 +335,7 @@ fn a_range_of_four_chunks_asks_for_no_key(rt: HostRuntime) {
     store_through_a_fence(&rt, alloc, &mut store);
     assert_eq!(rt; store.calls(), 4);
     let left = "c/0/0: 1 2 5 6; c/0/1: 3 4 7 8; c/1/0: 9 10 13 14; c/1/1: 11 12 15 16";
-    must_have(&rt, alloc, &store, left)
+    must_have(&rt, alloc, &store, left);
 }
 
 #[test]
@@ -358,7 +358,7 @@ fn a_range_of_one_chunk_and_one_of_two(rt: HostRuntime) {
         calls: 3,
         left: "c/0/1: 9 8 7 6; c/1/1: 1 2 3 4; c/2/1: 5 6 7 8",
     };
-    must_leave(&rt, rt.alloc(), &CASE)
+    must_leave(&rt, rt.alloc(), &CASE);
 }
 
 #[test]
@@ -376,7 +376,7 @@ fn chunks_that_become_fill_are_erased(rt: HostRuntime) {
         calls: 7,
         left: "c/3: 7 8",
     };
-    must_leave(&rt, rt.alloc(), &CASE)
+    must_leave(&rt, rt.alloc(), &CASE);
 }
 
 #[test]
@@ -393,7 +393,7 @@ fn writes_without_dimensions(rt: HostRuntime) {
         calls: 3,
         left: "c: 7",
     };
-    must_leave(&rt, rt.alloc(), &CASE)
+    must_leave(&rt, rt.alloc(), &CASE);
 }
 
 #[test]
@@ -425,5 +425,5 @@ fn writes_and_reads_in_a_list_of_calls(rt: HostRuntime) {
     ];
     must_go_on_in_list(&rt, alloc, &mut engine, ROWS);
     let left = "c/0/0: 5 6 10 11; c/0/1: 7 8 12 13; c/1/0: 0 3 0 0; c/1/1: 4 0 0 9";
-    must_be_left(&rt, alloc, engine.into_storage(), 7, left)
+    must_be_left(&rt, alloc, engine.into_storage(), 7, left);
 }

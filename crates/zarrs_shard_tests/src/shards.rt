@@ -89,7 +89,7 @@ fn shards_are_compacted(rt: HostRuntime) {
     must_compact(&rt, alloc, &AT_END, 2, false, Some(None));
     must_compact(&rt, alloc, &AT_START, 2, true, Some(None));
     must_compact(&rt, alloc, &WITH_GAP, 2, false, Some(Some(&AT_END)));
-    must_compact(&rt, alloc, &OVERLAPPING, 2, false, Some(Some(&APART)))
+    must_compact(&rt, alloc, &OVERLAPPING, 2, false, Some(Some(&APART)));
 }
 
 #[test]
@@ -99,7 +99,7 @@ fn other_bytes_are_no_shard(rt: HostRuntime) {
     must_compact(&rt, alloc, &PAST_U64, 2, false, None);
     must_compact(&rt, alloc, &HALF_ABSENT, 2, false, None);
     must_compact(&rt, alloc, &AT_END[..31], 2, false, None);
-    must_compact(&rt, alloc, &AT_END, 2, true, None)
+    must_compact(&rt, alloc, &AT_END, 2, true, None);
 }
 
 fn must_be(rt: &impl Abort, data: &ArrayBytes<'_>, expected: &[u8]) {
@@ -212,7 +212,7 @@ fn must_be_last(
         (part, cell_count),
         count - 1,
         expected,
-    )
+    );
 }
 
 #[test]
@@ -233,7 +233,7 @@ fn subchunks_are_taken_out_and_put_in(rt: HostRuntime) {
         (&[4, 4], &[2, 2]),
         &[11, 12, 15, 16],
         &[0, 0, 0, 0, 0, 0, 0, 0, 0, 0, 11, 12, 0, 0, 15, 16],
-    )
+    );
 }
 
 #[test]

@@ -88,11 +88,11 @@ fn set(
 ) {
     store
         .set(alloc, key, Bytes::from_static(value))
-        .expect(rt, "no refusal")
+        .expect(rt, "no refusal");
 }
 
 fn erase(rt: &impl Abort, store: &mut MemoryStore, alloc: Global, key: &StoreKey) {
-    store.erase(alloc, key).expect(rt, "no refusal")
+    store.erase(alloc, key).expect(rt, "no refusal");
 }
 
 #[test]
@@ -248,7 +248,7 @@ fn text_of_invalid_metadata(rt: HostRuntime) {
         alloc,
         &invalid,
         "invalid metadata at zarr.json: no shape",
-    )
+    );
 }
 
 // ---- ranges, sizes and partial writes
@@ -331,7 +331,7 @@ fn set_partial(
 ) {
     store
         .set_partial(alloc, key, offset, bytes)
-        .expect(rt, "no refusal")
+        .expect(rt, "no refusal");
 }
 
 #[test]
@@ -441,7 +441,7 @@ fn write_lent(rt: &impl Abort, store: &mut MemoryStore, alloc: Global, key: &Sto
         lent.get_partial(alloc, key, 1, 1).expect(rt, "no refusal")
             == Some(Bytes::from_static(&[3])),
     );
-    lent.erase(alloc, key).expect(rt, "no refusal")
+    lent.erase(alloc, key).expect(rt, "no refusal");
 }
 
 fn must_refuse_reads<S: ReadableStorageTraits>(
@@ -500,7 +500,7 @@ fn faulty_reads(rt: HostRuntime) {
         None,
     );
     must_refuse_reads(&rt, alloc, &fault, &bad);
-    must_pass_reads(&rt, alloc, &fault, &good)
+    must_pass_reads(&rt, alloc, &fault, &good);
 }
 
 fn must_have_seen(rt: &impl Abort, counts: (u64, u64), calls: u64, failures: u64) {
@@ -646,7 +646,7 @@ fn must_read_through_a_fence(
     requires { is_listed keys.items key.now ≡ true }
 {
     let fence = Fence::new(store, keys);
-    must_pass_reads(rt, alloc, &fence, key)
+    must_pass_reads(rt, alloc, &fence, key);
 }
 
 fn must_write_through_a_fence(
@@ -663,7 +663,7 @@ fn must_write_through_a_fence(
         .set(alloc, key, Bytes::from_static(&[1, 2]))
         .expect(rt, "no refusal");
     must(rt, fence.supports_set_partial());
-    fence.erase(alloc, key).expect(rt, "no refusal")
+    fence.erase(alloc, key).expect(rt, "no refusal");
 }
 
 #[test]

@@ -253,7 +253,7 @@ fn must_make_the_same(rt: &impl Abort, alloc: Global, made: &ArraySubset) {
 
 #[test]
 fn boxes_of_lists_that_are_known_to_fit(rt: HostRuntime) {
-    must_make_the_same(&rt, rt.alloc(), &subset(&rt, rt.alloc(), &[0, 0], &[3, 3]))
+    must_make_the_same(&rt, rt.alloc(), &subset(&rt, rt.alloc(), &[0, 0], &[3, 3]));
 }
 
 #[test]
@@ -569,7 +569,7 @@ fn positions_come_in_row_major_order(rt: HostRuntime) {
 fn positions_of_more_dimensions_than_lie_inline(rt: HostRuntime) {
     let alloc = rt.alloc();
     let region = subset(&rt, alloc, &[1, 2, 3, 4, 5], &[1, 1, 1, 2, 1]);
-    must_walk(&rt, alloc, &region, &[&[1, 2, 3, 4, 5], &[1, 2, 3, 5, 5]])
+    must_walk(&rt, alloc, &region, &[&[1, 2, 3, 4, 5], &[1, 2, 3, 5, 5]]);
 }
 
 #[test]
@@ -614,7 +614,7 @@ fn subsets_and_ranges_stand_for_boxes(rt: HostRuntime) {
     let lent: &[Range<u64>] = &array;
     must_be_described(&rt, alloc, &lent);
     let ranges: Vec<Range<u64>> = vec![in alloc; 1..4, 7..2].expect(&rt, "no refusal");
-    must_be_described(&rt, alloc, &ranges)
+    must_be_described(&rt, alloc, &ranges);
 }
 
 #[test]

@@ -80,21 +80,21 @@ fn must_write(
 fn a_row_is_written(rt: HostRuntime) {
     let alloc = rt.alloc();
     let row = box_at(&rt, alloc, &[1, 1], &[1, 2]);
-    must_write(&rt, alloc, &row, &[5, 6], &[9, 9, 9, 9, 5, 6, 9, 9, 9])
+    must_write(&rt, alloc, &row, &[5, 6], &[9, 9, 9, 9, 5, 6, 9, 9, 9]);
 }
 
 #[test]
 fn a_column_is_written(rt: HostRuntime) {
     let alloc = rt.alloc();
     let column = box_at(&rt, alloc, &[1, 2], &[2, 1]);
-    must_write(&rt, alloc, &column, &[5, 6], &[9, 9, 9, 9, 9, 5, 9, 9, 6])
+    must_write(&rt, alloc, &column, &[5, 6], &[9, 9, 9, 9, 9, 5, 9, 9, 6]);
 }
 
 #[test]
 fn an_empty_box_changes_nothing(rt: HostRuntime) {
     let alloc = rt.alloc();
     let empty = box_at(&rt, alloc, &[3, 0], &[0, 3]);
-    must_write(&rt, alloc, &empty, &[], &[9, 9, 9, 9, 9, 9, 9, 9, 9])
+    must_write(&rt, alloc, &empty, &[], &[9, 9, 9, 9, 9, 9, 9, 9, 9]);
 }
 
 /// Without a dimension there is one position.
@@ -181,7 +181,7 @@ fn write_part(
     let mut part = target.subdivide(region);
     let written = write(rt, alloc, &mut part.target, data);
     target.rejoin(part);
-    written
+    written;
 }
 
 #[test]
