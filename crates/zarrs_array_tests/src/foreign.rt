@@ -245,7 +245,7 @@ fn stored_and_opened(rt: &impl Abort, alloc: Global, array: MemoryArray) -> Memo
     array
         .store_metadata_opt(alloc, &options)
         .expect(rt, "no refusal");
-    Array::open(rt, alloc, array.into_storage(), "/")
+    Array::open(alloc, array.into_storage(), "/").expect(rt, "no refusal")
 }
 
 #[test]

@@ -62,7 +62,7 @@ pub(crate) fn array(
 }
 
 /// The V3 document of the array.
-pub(crate) fn document_of(rt: &impl Abort, array: &MemoryArray) -> &ArrayMetadataV3 {
+pub(crate) fn document_of<'a>(rt: &impl Abort, array: &'a MemoryArray) -> &'a ArrayMetadataV3 {
     match array.metadata() {
         ArrayMetadata::V3(document) => document,
         ArrayMetadata::V2(_) => rt.panic("the metadata is of V2"),

@@ -47,7 +47,7 @@ pub(crate) fn holding(rt: &impl Abort, alloc: Global, entries: &[(&str, &str)]) 
 }
 
 pub(crate) fn open(rt: &impl Abort, alloc: Global, entries: &[(&str, &str)]) -> MemoryArray {
-    Array::open(rt, alloc, holding(rt, alloc, entries), "/")
+    Array::open(alloc, holding(rt, alloc, entries), "/").expect(rt, "no refusal")
 }
 
 /// The refusal of opening the array at the root.
@@ -279,7 +279,7 @@ fn a_refused_store_of_v2_metadata_keeps_its_document(rt: HostRuntime) {
     let alloc = rt.alloc();
     let storage = holding(&rt, alloc, &[(".zarray", WITH_ATTRIBUTES)]);
     let storage = Fault::new(storage, Vec::new(alloc), Some(2));
-    let mut array = Array::open(&rt, alloc, storage, "/");
+    let mut array = Array::open(alloc, storage, "/").expect(&rt, "no refusal");
     must_refuse_to_store(&rt, alloc, &mut array);
     let storage = array.into_storage().into_inner();
     must_have_a_front(&rt, alloc, &storage);

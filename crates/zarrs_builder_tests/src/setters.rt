@@ -49,14 +49,10 @@ fn object(rt: &impl Abort, alloc: Global, text: &str) -> Map<String, Value> {
 fn field(rt: &impl Abort, alloc: Global) -> AdditionalFieldsV3 {
     let mut fields = Map::new(alloc);
     let value = Value::Object(object(rt, alloc, "{\"a\":1}"));
-    drop(
-        fields
-            .insert(
-                String::from_str(alloc, "key").expect(rt, "no refusal"),
-                AdditionalFieldV3::new(value, false),
-            )
-            .expect(rt, "no refusal"),
-    );
+    let field = AdditionalFieldV3::new(value, false);
+    let name = String::from_str(alloc, "key").expect(rt, "no refusal");
+    let replaced: Result<_, _> = fields.insert(name, field);
+    drop(replaced.expect(rt, "no refusal"));
     fields
 }
 
