@@ -116,8 +116,29 @@ impl ArrayToBytesCodec {
         }
     }
 
-    /// The bytes of the cells, which are given away.
+    /// The bytes of the cells of `made`, or of `bytes` if nothing was made. Both are given away.
     fn encode_owned(
+        &self,
+        alloc: Global,
+        made: Option<ArrayBytes<'static>>,
+        bytes: ArrayBytes<'_>,
+        data_type: &DataType,
+    ) -> Result<Vec<u8>, CodecError>
+        requires { IsSome (cells (kind data_type.now) (data_or made (data_of bytes))) }
+        ensures encoded { IfOk result (λ encoded.
+            encoding_of (leaf_meaning self.now) (kind data_type.now)
+            (data_or made.entry (data_of bytes.entry)) ≡ Some encoded.items) }
+        ensures refused { IfErr result (RefusesEncoding (leaf_meaning self.now) (kind data_type.now)
+            (data_or made.entry (data_of bytes.entry))) }
+    {
+        match made {
+            Some(made) => self.encode_owned_data(alloc, made, data_type),
+            None => self.encode_owned_data(alloc, bytes, data_type),
+        }
+    }
+
+    /// The bytes of the cells, which are given away.
+    fn encode_owned_data(
         &self,
         alloc: Global,
         bytes: ArrayBytes<'_>,
@@ -255,10 +276,9 @@ impl ChainTraits for CodecChain {
         if !self.takes_shape(alloc, shape)? {
             return Err(CodecError::DoesNotFit);
         }
-        match encode_array(alloc, &self.array_to_array, &bytes, data_type, shape)? {
-            Some(made) => self.array_to_bytes.encode_owned(alloc, made, data_type),
-            None => self.array_to_bytes.encode_owned(alloc, bytes, data_type),
-        }
+        let made = encode_array(alloc, &self.array_to_array, &bytes, data_type, shape)?;
+        self.array_to_bytes
+            .encode_owned(alloc, made, bytes, data_type)
     }
 
     fn decode<'a>(
