@@ -372,10 +372,11 @@ fn must_repeat_tested(
     let other = FillValue::new(Vec::from_slice(alloc, other).expect(rt, "no refusal"));
     if fill.is_value_of(data_type) && other.is_value_of(data_type) {
         if data_type.held_size(fill.as_bytes()) < 100 {
-            return must_repeat(rt, alloc, data_type, &fill, &other);
+            must_repeat(rt, alloc, data_type, &fill, &other);
+            return;
         }
     }
-    Err("no value of the type").expect(rt, "no refusal");
+    rt.panic("no value of the type");
 }
 
 #[test]
