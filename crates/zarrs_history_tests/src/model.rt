@@ -1,6 +1,6 @@
 //! The plain model: a list of cells, one for each position, and what each call does to it.
 use std::alloc::Global;
-use std::test::Fail;
+use std::process::Abort;
 
 /// What a cell is that was never written.
 pub(crate) const FILL: u8 = 2;
@@ -99,32 +99,33 @@ impl Faults {
 
 /// The index lists, each followed by each of `extent` indices from `start` on.
 fn lengthened(
+    rt: &impl Abort,
     alloc: Global,
     lists: &[Vec<u64>],
     start: u64,
     extent: u64,
-) -> Result<Vec<Vec<u64>>, Fail> {
+) -> Vec<Vec<u64>> {
     let mut longer = Vec::new(alloc);
-    let end = start.checked_add(extent).ok_or("no such box")?;
+    let end = start.checked_add(extent).expect(rt, "no such box");
     for list in lists {
         for index in start..end {
-            let mut next = list.as_slice().to_vec(alloc)?;
-            next.push(index)?;
-            longer.push(next)?;
+            let mut next = list.as_slice().to_vec(alloc).expect(rt, "no refusal");
+            next.push(index).expect(rt, "no refusal");
+            longer.push(next).expect(rt, "no refusal");
         }
     }
-    Ok(longer)
+    longer
 }
 
 impl Region {
     /// The positions of the box, the last index running fastest.
-    pub(crate) fn positions(&self, alloc: Global) -> Result<Vec<Vec<u64>>, Fail> {
+    pub(crate) fn positions(&self, rt: &impl Abort, alloc: Global) -> Vec<Vec<u64>> {
         let mut lists = Vec::new(alloc);
-        lists.push(Vec::new(alloc))?;
+        lists.push(Vec::new(alloc)).expect(rt, "no refusal");
         for (start, extent) in self.start.iter().zip(&self.shape) {
-            lists = lengthened(alloc, &lists, *start, *extent)?;
+            lists = lengthened(rt, alloc, &lists, *start, *extent);
         }
-        Ok(lists)
+        lists
     }
 
     pub(crate) fn is_empty(&self) -> bool {
@@ -151,15 +152,17 @@ impl Region {
     }
 
     /// The box, moved by these offsets.
-    fn moved(&self, alloc: Global, offsets: &[u64]) -> Result<Region, Fail> {
+    fn moved(&self, rt: &impl Abort, alloc: Global, offsets: &[u64]) -> Region {
         let mut start = Vec::new(alloc);
         for (index, offset) in self.start.iter().zip(offsets) {
-            start.push(index.checked_add(*offset).ok_or("no such box")?)?;
+            start
+                .push(index.checked_add(*offset).expect(rt, "no such box"))
+                .expect(rt, "no refusal");
         }
-        Ok(Region {
+        Region {
             start,
-            shape: self.shape.as_slice().to_vec(alloc)?,
-        })
+            shape: self.shape.as_slice().to_vec(alloc).expect(rt, "no refusal"),
+        }
     }
 }
 
@@ -183,20 +186,21 @@ fn end_of(edges: &[u64]) -> u64 {
 
 impl<'a> Model<'a> {
     pub(crate) fn new(
+        rt: &impl Abort,
         alloc: Global,
         edges: &'a [&'a [u64]],
         is_open: bool,
-    ) -> Result<Model<'a>, Fail> {
+    ) -> Model<'a> {
         let mut model = Model {
             edges,
             is_open,
             faults: Faults::none(alloc),
             cells: Vec::new(alloc),
         };
-        for _ in model.whole(alloc)?.positions(alloc)? {
-            model.cells.push(FILL)?;
+        for _ in model.whole(rt, alloc).positions(rt, alloc) {
+            model.cells.push(FILL).expect(rt, "no refusal");
         }
-        Ok(model)
+        model
     }
 
     pub(crate) fn dimensions(&self) -> usize {
@@ -204,37 +208,39 @@ impl<'a> Model<'a> {
     }
 
     /// The number of positions along each dimension.
-    pub(crate) fn extents(&self, alloc: Global) -> Result<Vec<u64>, Fail> {
+    pub(crate) fn extents(&self, rt: &impl Abort, alloc: Global) -> Vec<u64> {
         let mut extents = Vec::new(alloc);
         for edges in self.edges {
-            extents.push(end_of(edges))?;
+            extents.push(end_of(edges)).expect(rt, "no refusal");
         }
-        Ok(extents)
+        extents
     }
 
     /// The number of chunks along each dimension.
-    pub(crate) fn counts(&self, alloc: Global) -> Result<Vec<u64>, Fail> {
+    pub(crate) fn counts(&self, rt: &impl Abort, alloc: Global) -> Vec<u64> {
         let mut counts = Vec::new(alloc);
         for edges in self.edges {
-            counts.push((edges.len() as u64).saturating_sub(1))?;
+            counts
+                .push((edges.len() as u64).saturating_sub(1))
+                .expect(rt, "no refusal");
         }
-        Ok(counts)
+        counts
     }
 
     /// The box of all positions.
-    pub(crate) fn whole(&self, alloc: Global) -> Result<Region, Fail> {
-        Ok(Region {
-            start: vec![in alloc; 0u64; self.dimensions()]?,
-            shape: self.extents(alloc)?,
-        })
+    pub(crate) fn whole(&self, rt: &impl Abort, alloc: Global) -> Region {
+        Region {
+            start: vec![in alloc; 0u64; self.dimensions()].expect(rt, "no refusal"),
+            shape: self.extents(rt, alloc),
+        }
     }
 
     /// The range of all chunks.
-    pub(crate) fn chunks(&self, alloc: Global) -> Result<Region, Fail> {
-        Ok(Region {
-            start: vec![in alloc; 0u64; self.dimensions()]?,
-            shape: self.counts(alloc)?,
-        })
+    pub(crate) fn chunks(&self, rt: &impl Abort, alloc: Global) -> Region {
+        Region {
+            start: vec![in alloc; 0u64; self.dimensions()].expect(rt, "no refusal"),
+            shape: self.counts(rt, alloc),
+        }
     }
 
     /// Where the cell at the position stands in the list.
@@ -251,184 +257,209 @@ impl<'a> Model<'a> {
     }
 
     /// Where the cells of the box stand in the list, or `None` if it has a position that no chunk covers.
-    fn places(&self, alloc: Global, region: &Region) -> Result<Option<Vec<usize>>, Fail> {
+    fn places(&self, rt: &impl Abort, alloc: Global, region: &Region) -> Option<Vec<usize>> {
         let mut places = Vec::new(alloc);
-        for position in &region.positions(alloc)? {
+        for position in &region.positions(rt, alloc) {
             let Some(place) = self.place(position) else {
-                return Ok(None);
+                return None;
             };
-            places.push(place)?;
+            places.push(place).expect(rt, "no refusal");
         }
-        Ok(Some(places))
+        Some(places)
     }
 
     /// The box from where the first chunk of a range begins to where the last one ends.
-    fn box_of_chunks(&self, alloc: Global, range: &Region) -> Result<Option<Region>, Fail> {
+    fn box_of_chunks(&self, rt: &impl Abort, alloc: Global, range: &Region) -> Option<Region> {
         let mut start = Vec::new(alloc);
         let mut shape = Vec::new(alloc);
         for ((first, count), edges) in range.start.iter().zip(&range.shape).zip(self.edges) {
-            let end = first.checked_add(*count).ok_or("no such range")?;
+            let end = first.checked_add(*count).expect(rt, "no such range");
             let (Some(low), Some(high)) = (edges.get(*first as usize), edges.get(end as usize))
             else {
-                return Ok(None);
+                return None;
             };
-            start.push(*low)?;
-            shape.push(high.saturating_sub(*low))?;
+            start.push(*low).expect(rt, "no refusal");
+            shape
+                .push(high.saturating_sub(*low))
+                .expect(rt, "no refusal");
         }
-        Ok(Some(Region { start, shape }))
+        Some(Region { start, shape })
     }
 
     /// The box of a chunk.
-    pub(crate) fn chunk_box(&self, alloc: Global, indices: &[u64]) -> Result<Option<Region>, Fail> {
+    pub(crate) fn chunk_box(
+        &self,
+        rt: &impl Abort,
+        alloc: Global,
+        indices: &[u64],
+    ) -> Option<Region> {
         if indices.len() != self.dimensions() {
-            return Ok(None);
+            return None;
         }
         for (index, edges) in indices.iter().zip(self.edges) {
             if *index >= edges.len() as u64 {
-                return Ok(None);
+                return None;
             }
         }
         let range = Region {
-            start: indices.to_vec(alloc)?,
-            shape: vec![in alloc; 1u64; indices.len()]?,
+            start: indices.to_vec(alloc).expect(rt, "no refusal"),
+            shape: vec![in alloc; 1u64; indices.len()].expect(rt, "no refusal"),
         };
-        self.box_of_chunks(alloc, &range)
+        self.box_of_chunks(rt, alloc, &range)
     }
 
     /// Where the cells of a chunk stand in the list, of which there are none without a chunk.
-    fn chunk_places(&self, alloc: Global, indices: &[u64]) -> Result<Vec<usize>, Fail> {
-        let Some(chunk) = self.chunk_box(alloc, indices)? else {
-            return Ok(Vec::new(alloc));
+    fn chunk_places(&self, rt: &impl Abort, alloc: Global, indices: &[u64]) -> Vec<usize> {
+        let Some(chunk) = self.chunk_box(rt, alloc, indices) else {
+            return Vec::new(alloc);
         };
-        match self.places(alloc, &chunk)? {
-            Some(places) => Ok(places),
-            None => Ok(Vec::new(alloc)),
+        match self.places(rt, alloc, &chunk) {
+            Some(places) => places,
+            None => Vec::new(alloc),
         }
     }
 
     /// The chunks that have a cell at one of these places, in row-major order.
-    fn chunks_at(&self, alloc: Global, places: &[usize]) -> Result<Vec<Vec<u64>>, Fail> {
+    fn chunks_at(&self, rt: &impl Abort, alloc: Global, places: &[usize]) -> Vec<Vec<u64>> {
         let mut chunks = Vec::new(alloc);
-        for indices in self.chunks(alloc)?.positions(alloc)? {
-            if has_one_of(&self.chunk_places(alloc, &indices)?, places) {
-                chunks.push(indices)?;
+        for indices in self.chunks(rt, alloc).positions(rt, alloc) {
+            if has_one_of(&self.chunk_places(rt, alloc, &indices), places) {
+                chunks.push(indices).expect(rt, "no refusal");
             }
         }
-        Ok(chunks)
+        chunks
     }
 
     /// The cells of a box, which these chunks cover.
     fn spot(
         &self,
+        rt: &impl Abort,
         alloc: Global,
         region: &Region,
         chunks: Vec<Vec<u64>>,
         otherwise: Refusal,
-    ) -> Result<Found, Fail> {
-        match self.places(alloc, region)? {
-            Some(places) => Ok(Ok(Spot { places, chunks })),
-            None => Ok(Err(otherwise)),
+    ) -> Found {
+        match self.places(rt, alloc, region) {
+            Some(places) => Ok(Spot { places, chunks }),
+            None => Err(otherwise),
         }
     }
 
     /// The cells of a region.
-    pub(crate) fn find_region(&self, alloc: Global, region: &Region) -> Result<Found, Fail> {
+    pub(crate) fn find_region(&self, rt: &impl Abort, alloc: Global, region: &Region) -> Found {
         if region.start.len() != self.dimensions() {
-            return Ok(Err(Refusal::Region));
+            return Err(Refusal::Region);
         }
-        let Some(places) = self.places(alloc, region)? else {
-            return Ok(Err(Refusal::Region));
+        let Some(places) = self.places(rt, alloc, region) else {
+            return Err(Refusal::Region);
         };
-        let chunks = self.chunks_at(alloc, &places)?;
-        Ok(Ok(Spot { places, chunks }))
+        let chunks = self.chunks_at(rt, alloc, &places);
+        Ok(Spot { places, chunks })
     }
 
     /// The cells of a chunk.
-    pub(crate) fn find_chunk(&self, alloc: Global, indices: &[u64]) -> Result<Found, Fail> {
-        let Some(region) = self.chunk_box(alloc, indices)? else {
-            return Ok(Err(Refusal::Indices));
+    pub(crate) fn find_chunk(&self, rt: &impl Abort, alloc: Global, indices: &[u64]) -> Found {
+        let Some(region) = self.chunk_box(rt, alloc, indices) else {
+            return Err(Refusal::Indices);
         };
-        let chunks = vec![in alloc; indices.to_vec(alloc)?]?;
-        self.spot(alloc, &region, chunks, Refusal::Indices)
+        let chunks = vec![in alloc; indices.to_vec(alloc).expect(rt, "no refusal")].expect(
+            rt,
+            "no refusal",
+        );
+        self.spot(rt, alloc, &region, chunks, Refusal::Indices)
     }
 
     /// The cells of a part of a chunk.
     pub(crate) fn find_part(
         &self,
+        rt: &impl Abort,
         alloc: Global,
         indices: &[u64],
         part: &Region,
-    ) -> Result<Found, Fail> {
-        let Some(chunk) = self.chunk_box(alloc, indices)? else {
-            return Ok(Err(Refusal::Indices));
+    ) -> Found {
+        let Some(chunk) = self.chunk_box(rt, alloc, indices) else {
+            return Err(Refusal::Indices);
         };
         if !part.fits(&chunk.shape) {
-            return Ok(Err(Refusal::Part));
+            return Err(Refusal::Part);
         }
-        let chunks = vec![in alloc; indices.to_vec(alloc)?]?;
+        let chunks = vec![in alloc; indices.to_vec(alloc).expect(rt, "no refusal")].expect(
+            rt,
+            "no refusal",
+        );
         self.spot(
+            rt,
             alloc,
-            &part.moved(alloc, &chunk.start)?,
+            &part.moved(rt, alloc, &chunk.start),
             chunks,
             Refusal::Part,
         )
     }
 
     /// The cells of the chunks in a range of as many dimensions as the array has.
-    pub(crate) fn find_chunks(&self, alloc: Global, range: &Region) -> Result<Found, Fail> {
+    pub(crate) fn find_chunks(&self, rt: &impl Abort, alloc: Global, range: &Region) -> Found {
         let (places, chunks) = (Vec::new(alloc), Vec::new(alloc));
         if range.is_empty() {
-            return Ok(Ok(Spot { places, chunks }));
+            return Ok(Spot { places, chunks });
         }
-        let Some(region) = self.box_of_chunks(alloc, range)? else {
-            return Ok(Err(Refusal::Indices));
+        let Some(region) = self.box_of_chunks(rt, alloc, range) else {
+            return Err(Refusal::Indices);
         };
-        self.spot(alloc, &region, range.positions(alloc)?, Refusal::Indices)
+        self.spot(
+            rt,
+            alloc,
+            &region,
+            range.positions(rt, alloc),
+            Refusal::Indices,
+        )
     }
 
     /// The cells at these places.
-    pub(crate) fn cells_at(&self, alloc: Global, places: &[usize]) -> Result<Vec<u8>, Fail> {
+    pub(crate) fn cells_at(&self, rt: &impl Abort, alloc: Global, places: &[usize]) -> Vec<u8> {
         let mut cells = Vec::new(alloc);
         for place in places {
-            cells.push(*self.cells.get(*place).ok_or("no such cell")?)?;
+            cells
+                .push(*self.cells.get(*place).expect(rt, "no such cell"))
+                .expect(rt, "no refusal");
         }
-        Ok(cells)
+        cells
     }
 
     /// Reads each of the chunks.
-    pub(crate) fn read(&self, alloc: Global, found: &Found) -> Result<Answer, Fail> {
+    pub(crate) fn read(&self, rt: &impl Abort, alloc: Global, found: &Found) -> Answer {
         match found {
             Ok(spot) if self.faults.refuses_one_of(&spot.chunks) => {
-                Ok(Answer::Refused(Refusal::Storage))
+                Answer::Refused(Refusal::Storage)
             }
-            Ok(spot) => Ok(Answer::Cells(self.cells_at(alloc, &spot.places)?)),
-            Err(refusal) => Ok(Answer::Refused(*refusal)),
+            Ok(spot) => Answer::Cells(self.cells_at(rt, alloc, &spot.places)),
+            Err(refusal) => Answer::Refused(*refusal),
         }
     }
 
     /// Stores the data in one chunk after another. One that is not covered is read first.
     pub(crate) fn store(
         &mut self,
+        rt: &impl Abort,
         alloc: Global,
         found: &Found,
         data: &[u8],
-    ) -> Result<Answer, Fail> {
+    ) -> Answer {
         let spot = match found {
             Ok(spot) => spot,
-            Err(refusal) => return Ok(Answer::Refused(*refusal)),
+            Err(refusal) => return Answer::Refused(*refusal),
         };
         if spot.places.len() != data.len() {
-            return Ok(Answer::Refused(Refusal::Data));
+            return Answer::Refused(Refusal::Data);
         }
         for indices in &spot.chunks {
-            let chunk = self.chunk_places(alloc, indices)?;
+            let chunk = self.chunk_places(rt, alloc, indices);
             let is_part = !has_all(&spot.places, &chunk);
             if is_part && self.faults.refuses(indices) || self.faults.refuses_next() {
-                return Ok(Answer::Refused(Refusal::Storage));
+                return Answer::Refused(Refusal::Storage);
             }
             self.put(&chunk, &spot.places, data);
         }
-        Ok(Answer::Done)
+        Answer::Done
     }
 
     /// Gives the cells of the chunk that stand at these places those of the data.
@@ -443,18 +474,18 @@ impl<'a> Model<'a> {
     }
 
     /// Erases one chunk after another: its cells become fill. Where there is no chunk nothing changes.
-    pub(crate) fn erase(&mut self, alloc: Global, chunks: &[Vec<u64>]) -> Result<Answer, Fail> {
+    pub(crate) fn erase(&mut self, rt: &impl Abort, alloc: Global, chunks: &[Vec<u64>]) -> Answer {
         for indices in chunks {
             if self.faults.refuses_next() {
-                return Ok(Answer::Refused(Refusal::Storage));
+                return Answer::Refused(Refusal::Storage);
             }
-            for place in &self.chunk_places(alloc, indices)? {
+            for place in &self.chunk_places(rt, alloc, indices) {
                 if let Some(held) = self.cells.get_mut(*place) {
                     *held = FILL;
                 }
             }
         }
-        Ok(Answer::Done)
+        Answer::Done
     }
 }
 
