@@ -436,6 +436,11 @@ fn print_transposes(rt: &(impl Clock + Print), alloc: Global) -> Result<()> {
     print_squares::<2>(rt, alloc, "transpose, cells of 2 bytes")?;
     print_squares::<4>(rt, alloc, "transpose, cells of 4 bytes")?;
     print_squares::<8>(rt, alloc, "transpose, cells of 8 bytes")?;
+    print_transposed_rows(rt, alloc)
+}
+
+/// The row of whole rows in another order.
+fn print_transposed_rows(rt: &(impl Clock + Print), alloc: Global) -> Result<()> {
     let mut product = transpose_of(alloc, &[1, 0, 2], &[64, 64, ROW as u64], 1)?;
     let mut plain = PlainRows(bytes_of(alloc, BYTES)?);
     let name = "transpose of 64 x 64 rows of 256 bytes";
@@ -470,29 +475,42 @@ fn print_big(rt: &(impl Clock + Print), alloc: Global) -> Result<()> {
     row(rt, alloc, name, BYTES, &mut decode, &mut plain)
 }
 
-/// The rows of flags.
+/// The row of flags that are encoded.
 fn print_flags(rt: &(impl Clock + Print), alloc: Global) -> Result<()> {
     let mut pack = Pack(flags_of(alloc)?);
     let mut plain = PlainPack(flags_of(alloc)?);
     let name = "packbits, test and encode 1 Mi bools";
-    row(rt, alloc, name, BYTES, &mut pack, &mut plain)?;
+    row(rt, alloc, name, BYTES, &mut pack, &mut plain)
+}
+
+/// The row of flags that are decoded.
+fn print_bits(rt: &(impl Clock + Print), alloc: Global) -> Result<()> {
     let mut unpack = Unpack(bytes_of(alloc, BYTES / 8)?);
     let mut plain = PlainUnpack(bytes_of(alloc, BYTES / 8)?);
     let name = "packbits, decode the same";
     row(rt, alloc, name, BYTES, &mut unpack, &mut plain)
 }
 
-/// The rows of byte strings.
+/// The row of byte strings behind their lengths.
 fn print_strings(rt: &(impl Clock + Print), alloc: Global) -> Result<()> {
     let mut encode = EncodeStrings(strings_of(alloc)?);
     let mut plain = PlainEncodeStrings(bytes_of(alloc, BYTES)?);
     let name = "vlen-bytes, encode 65,536 byte strings of 16 bytes";
-    row(rt, alloc, name, BYTES, &mut encode, &mut plain)?;
+    row(rt, alloc, name, BYTES, &mut encode, &mut plain)
+}
+
+/// The row of byte strings that are decoded.
+fn print_encoded_strings(rt: &(impl Clock + Print), alloc: Global) -> Result<()> {
+    let plain = PlainEncodeStrings(bytes_of(alloc, BYTES)?);
     let mut decode = DecodeStrings(plain.encoded(alloc)?);
     let mut plain = PlainDecodeStrings(plain.encoded(alloc)?);
     let name = "vlen-bytes, decode the same";
-    row(rt, alloc, name, BYTES, &mut decode, &mut plain)?;
-    let mut encode = EncodeIndex(encode.0);
+    row(rt, alloc, name, BYTES, &mut decode, &mut plain)
+}
+
+/// The row of byte strings behind their index.
+fn print_indexed_strings(rt: &(impl Clock + Print), alloc: Global) -> Result<()> {
+    let mut encode = EncodeIndex(strings_of(alloc)?);
     let mut plain = PlainEncodeIndex(bytes_of(alloc, BYTES)?);
     let name = "zarrs.vlen, encode the same";
     row(rt, alloc, name, BYTES, &mut encode, &mut plain)
@@ -508,5 +526,8 @@ pub fn print_rows<R: Clock + Print + Alloc<A = Global>>(rt: &R) -> Result<()> {
     print_little(rt, alloc)?;
     print_big(rt, alloc)?;
     print_flags(rt, alloc)?;
-    print_strings(rt, alloc)
+    print_bits(rt, alloc)?;
+    print_strings(rt, alloc)?;
+    print_encoded_strings(rt, alloc)?;
+    print_indexed_strings(rt, alloc)
 }

@@ -259,32 +259,43 @@ fn plain_texts(alloc: Global) -> Result<PlainToTexts> {
     Ok(PlainToTexts { bytes, offsets })
 }
 
-/// The rows of numbers and options.
-fn numbers(rt: &(impl Clock + Print), alloc: Global) -> Result<()> {
-    let len = 4 * NUMBERS;
+/// The row of numbers that become cells.
+fn print_numbers(rt: &(impl Clock + Print), alloc: Global) -> Result<()> {
     let mut to_bytes = ToBytes(numbers_of(alloc)?);
     let mut plain = PlainToBytes(numbers_of(alloc)?);
     let name = "262,144 numbers of 4 bytes to cells";
-    row(rt, alloc, name, len, &mut to_bytes, &mut plain)?;
+    row(rt, alloc, name, 4 * NUMBERS, &mut to_bytes, &mut plain)
+}
+
+/// The row of cells that become numbers.
+fn print_cells(rt: &(impl Clock + Print), alloc: Global) -> Result<()> {
     let mut from_bytes = FromBytes(number_bytes(alloc)?);
     let mut plain = PlainFromBytes(number_bytes(alloc)?);
     let name = "262,144 cells to numbers of 4 bytes";
-    row(rt, alloc, name, len, &mut from_bytes, &mut plain)?;
+    row(rt, alloc, name, 4 * NUMBERS, &mut from_bytes, &mut plain)
+}
+
+/// The row of options.
+fn print_options(rt: &(impl Clock + Print), alloc: Global) -> Result<()> {
     let mut from_options = FromOptions {
         data_type: optional_type(alloc)?,
         options: options_of(alloc)?,
     };
     let mut plain = PlainFromOptions(options_of(alloc)?);
     let name = "262,144 options of numbers to cells";
-    row(rt, alloc, name, len, &mut from_options, &mut plain)
+    row(rt, alloc, name, 4 * NUMBERS, &mut from_options, &mut plain)
 }
 
-/// The rows of texts.
-fn texts(rt: &(impl Clock + Print), alloc: Global) -> Result<()> {
+/// The row of texts that become cells.
+fn print_texts(rt: &(impl Clock + Print), alloc: Global) -> Result<()> {
     let mut from_texts = FromTexts(texts_of(alloc)?);
     let mut plain = PlainFromTexts(texts_of(alloc)?);
     let name = "100,000 texts to cells";
-    row(rt, alloc, name, 0, &mut from_texts, &mut plain)?;
+    row(rt, alloc, name, 0, &mut from_texts, &mut plain)
+}
+
+/// The row of cells that become texts.
+fn print_text_cells(rt: &(impl Clock + Print), alloc: Global) -> Result<()> {
     let cells = <String as Element>::to_array_bytes(alloc, &DataType::String, &texts_of(alloc)?)?;
     let mut plain = plain_texts(alloc)?;
     let name = "100,000 cells to texts";
@@ -297,6 +308,9 @@ fn texts(rt: &(impl Clock + Print), alloc: Global) -> Result<()> {
 /// The clock or the output fails, or out of memory.
 pub fn print_rows<R: Clock + Print + Alloc<A = Global>>(rt: &R) -> Result<()> {
     let alloc = rt.alloc();
-    numbers(rt, alloc)?;
-    texts(rt, alloc)
+    print_numbers(rt, alloc)?;
+    print_cells(rt, alloc)?;
+    print_options(rt, alloc)?;
+    print_texts(rt, alloc)?;
+    print_text_cells(rt, alloc)
 }

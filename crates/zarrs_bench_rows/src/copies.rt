@@ -171,6 +171,11 @@ pub fn print_rows<R: Clock + Print + Alloc<A = Global>>(rt: &R) -> Result<()> {
     pair::<8>(rt, alloc, "copy_box, rows of 8 bytes")?;
     pair::<64>(rt, alloc, "copy_box, rows of 64 bytes")?;
     pair::<4096>(rt, alloc, "copy_box, rows of 4096 bytes")?;
+    print_whole(rt, alloc)
+}
+
+/// The rows of copies of a whole array.
+fn print_whole(rt: &(impl Clock + Print), alloc: Global) -> Result<()> {
     let mut plain = PlainWhole(rows_of(alloc, 1024, 1)?);
     let mut whole = CopyBox(rows_of(alloc, 1024, 1)?);
     let name = "copy_box of a whole array of 1 MiB";

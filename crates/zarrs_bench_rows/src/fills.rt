@@ -168,11 +168,12 @@ pub fn print_rows<R: Clock + Print + Alloc<A = Global>>(rt: &R) -> Result<()> {
             &mut PlainFill(width),
         )?;
     }
-    tests(rt, alloc)
+    print_all_fill(rt, alloc)?;
+    print_bools(rt, alloc)
 }
 
-/// The rows of the tests of cells.
-fn tests(rt: &(impl Clock + Print), alloc: Global) -> Result<()> {
+/// The row of the test that all is fill.
+fn print_all_fill(rt: &(impl Clock + Print), alloc: Global) -> Result<()> {
     let mut all_fill = AllFill {
         data_type: DataType::UInt32,
         fill_value: FillValue::new(vec![in alloc; 1; 4]?),
@@ -180,7 +181,11 @@ fn tests(rt: &(impl Clock + Print), alloc: Global) -> Result<()> {
     };
     let mut plain = PlainAllFill(vec![in alloc; 1; BYTES]?);
     let name = "all-fill test of 1 MiB";
-    row(rt, alloc, name, BYTES, &mut all_fill, &mut plain)?;
+    row(rt, alloc, name, BYTES, &mut all_fill, &mut plain)
+}
+
+/// The row of the test of bools.
+fn print_bools(rt: &(impl Clock + Print), alloc: Global) -> Result<()> {
     let mut bools = Bools(vec![in alloc; 1; BYTES]?);
     let mut plain = PlainBools(vec![in alloc; 1; BYTES]?);
     let name = "test of 1 MiB of bools";

@@ -116,19 +116,19 @@ impl Work for PlainUpdate {
     }
 }
 
-/// The rows of this file.
-///
-/// # Errors
-/// The clock or the output fails, or out of memory.
-pub fn print_rows<R: Clock + Print + Alloc<A = Global>>(rt: &R) -> Result<()> {
-    let alloc = rt.alloc();
+/// The row of a part that is extracted.
+fn print_extract(rt: &(impl Clock + Print), alloc: Global) -> Result<()> {
     let mut extract = Extract {
         boxes: make_boxes(alloc)?,
         cells: bytes_of(alloc, LEN)?,
     };
     let mut plain = PlainExtract(bytes_of(alloc, LEN)?);
     let name = "extract all of 1 MiB but the cells at its edge";
-    row(rt, alloc, name, LEN, &mut extract, &mut plain)?;
+    row(rt, alloc, name, LEN, &mut extract, &mut plain)
+}
+
+/// The row of a part that is put in.
+fn print_update(rt: &(impl Clock + Print), alloc: Global) -> Result<()> {
     let mut update = Update {
         boxes: make_boxes(alloc)?,
         cells: bytes_of(alloc, LEN)?,
@@ -140,4 +140,14 @@ pub fn print_rows<R: Clock + Print + Alloc<A = Global>>(rt: &R) -> Result<()> {
     };
     let name = "copy 1 MiB, and put all but the cells at its edge";
     row(rt, alloc, name, LEN, &mut update, &mut plain)
+}
+
+/// The rows of this file.
+///
+/// # Errors
+/// The clock or the output fails, or out of memory.
+pub fn print_rows<R: Clock + Print + Alloc<A = Global>>(rt: &R) -> Result<()> {
+    let alloc = rt.alloc();
+    print_extract(rt, alloc)?;
+    print_update(rt, alloc)
 }

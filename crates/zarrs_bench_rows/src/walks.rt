@@ -214,24 +214,39 @@ impl Work for PlainKeys {
     }
 }
 
+/// The rows of positions.
+fn print_positions(rt: &(impl Clock + Print), alloc: Global) -> Result<()> {
+    let name = "indices over 10,000,000 positions";
+    row(rt, alloc, name, 0, &mut Positions, &mut PlainPositions)?;
+    let name = "walk over 10,000,000 positions";
+    row(rt, alloc, name, 0, &mut LentPositions, &mut PlainPositions)
+}
+
+/// The row of positions that are looked for in a grid.
+fn print_queries(rt: &(impl Clock + Print), alloc: Global) -> Result<()> {
+    let mut queries = Queries(thousands(alloc)?);
+    let mut plain = PlainQueries(vec![in alloc; 10; 3]?);
+    let name = "100,000 grid queries of 3 dimensions";
+    row(rt, alloc, name, 0, &mut queries, &mut plain)
+}
+
+/// The row of boxes of chunks.
+fn print_boxes(rt: &(impl Clock + Print), alloc: Global) -> Result<()> {
+    let mut boxes = Boxes(thousands(alloc)?);
+    let mut plain = PlainBoxes(vec![in alloc; 10; 3]?);
+    let name = "100,000 chunk boxes of 3 dimensions";
+    row(rt, alloc, name, 0, &mut boxes, &mut plain)
+}
+
 /// The rows of this file.
 ///
 /// # Errors
 /// The clock or the output fails, or out of memory.
 pub fn print_rows<R: Clock + Print + Alloc<A = Global>>(rt: &R) -> Result<()> {
     let alloc = rt.alloc();
-    let name = "indices over 10,000,000 positions";
-    row(rt, alloc, name, 0, &mut Positions, &mut PlainPositions)?;
-    let name = "walk over 10,000,000 positions";
-    row(rt, alloc, name, 0, &mut LentPositions, &mut PlainPositions)?;
-    let tens = vec![in alloc; 10; 3]?;
-    let mut queries = Queries(thousands(alloc)?);
-    let mut plain = PlainQueries(tens.clone()?);
-    let name = "100,000 grid queries of 3 dimensions";
-    row(rt, alloc, name, 0, &mut queries, &mut plain)?;
-    let mut boxes = Boxes(thousands(alloc)?);
-    let name = "100,000 chunk boxes of 3 dimensions";
-    row(rt, alloc, name, 0, &mut boxes, &mut PlainBoxes(tens))?;
+    print_positions(rt, alloc)?;
+    print_queries(rt, alloc)?;
+    print_boxes(rt, alloc)?;
     let mut keys = Keys(ChunkKeyEncoding::Default(ChunkKeySeparator::Slash));
     let name = "100,000 keys of 3 dimensions";
     row(rt, alloc, name, 0, &mut keys, &mut PlainKeys)
