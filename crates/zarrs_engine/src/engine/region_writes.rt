@@ -101,7 +101,7 @@ impl<
             → HasUpdated (layout_of self.old) region held chunk_indices.now
             (store_of S.state self.old) made
             → HasValue (layout_of self.old) keep (box_at (layout_of self.old).grid
-            chunk_indices.now) made (option_map (λ v. v.items) value.entry)
+            chunk_indices.now) made (option_map (λ v. v.items) value)
             → OnOk result (StoresOneMore (layout_of self.old) keep region held chunk_indices.now
             (store_of S.state self.old) (store_of S.state self.new)) }
         ensures refused { (keep : Bool) (region : Box) (held made : ArrayData)

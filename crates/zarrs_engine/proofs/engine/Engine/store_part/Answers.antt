@@ -1,10 +1,10 @@
 use Rattle.std.proofs.Common.{◌≡◌, ◌∙◌, None, option_map, rules, subst, sym}
 use Rattle.zarrs_subset.specs.Regions.{Box, box_of}
-use Rattle.zarrs_chunk_grid.specs.Grids.{box_at}
 use Rattle.zarrs_data_type.specs.ArrayData.{data_of}
 use Rattle.zarrs_data_type.specs.Cells.{cells}
 use Rattle.zarrs_codec.specs.Options.{stores_empty_chunks}
 use Rattle.zarrs_steps.specs.Refusals.{RefusesBy, data_refusal, refusal_of}
+use Rattle.zarrs_steps.proofs.RefusalLemmas.{box_accepted}
 use Rattle.zarrs_layout.specs.Parts.{HasValue}
 use Rattle.zarrs_engine.specs.Engine.{layout_of}
 use Rattle.zarrs_engine.proofs.PartWrites.{updated_same}
@@ -24,3 +24,64 @@ returns-in_err-data-clause-refused g c =
     let why = leaves_state layout keep (box_of c.args.region.now) (data_of c.args.region_data.now) c.args.chunk_indices.now
     (refusal_of c.in_err-data.field-0.0) (g.S.ReadableStorageTraits.state c.args.self.now.storage) (c.in_err-data.ensures.refused keep) in
     search (rules, why)
+
+pub returns-in_err-value-clause-refused : goal.returns-in_err-value-clause-refused
+returns-in_err-value-clause-refused g c =
+    let layout = layout_of c.args.self.now in
+    let keep = stores_empty_chunks c.args.options.now in
+    let region = box_of c.args.region.now in
+    let held = data_of c.args.region_data.now in
+    let index = c.args.chunk_indices.now in
+    let state = g.S.ReadableStorageTraits.state c.args.self.now.storage in
+    let fit = (box_accepted layout index c.in_ok-chunk.ensures.accepted).1 in
+    let is = sym (c.eq.ensures.0 c.if-eq.true) ∙ c.in_ok-chunk.ensures.region in
+    let u = updated_same layout region held index state is c.requires.given in
+    let r = refusal_of c.in_err-value.field-0.0 in
+    let said = subst (λ (b : Box). RefusesBy (data_refusal layout keep b.shape (cells layout.kind held)) r) c.in_ok-chunk.ensures.region c.in_err-value.ensures.refused in
+    let why = chain_leaves layout keep region held index fit held state u r said in
+    search (rules, why)
+
+pub returns-then-eq-clause-done : goal.returns-then-eq-clause-done
+returns-then-eq-clause-done g c =
+    let layout = layout_of c.args.self.now in
+    let keep = stores_empty_chunks c.args.options.now in
+    let region = box_of c.args.region.now in
+    let held = data_of c.args.region_data.now in
+    let index = c.args.chunk_indices.now in
+    let is = sym (c.eq.ensures.0 c.if-eq.true) ∙ c.in_ok-chunk.ensures.region in
+    let u = updated_same layout region held index (g.S.ReadableStorageTraits.state c.args.self.now.storage) is c.requires.given in
+    let value = option_map (λ v. v.items) c.in_ok-value.value in
+    let h = subst (λ (b : Box). HasValue layout keep b held value) c.in_ok-chunk.ensures.region c.in_ok-value.ensures.value in
+    c.put_value.ensures.done keep region held held c.requires.covered c.requires.given u h
+
+pub returns-then-eq-clause-refused : goal.returns-then-eq-clause-refused
+returns-then-eq-clause-refused g c =
+    let layout = layout_of c.args.self.now in
+    let keep = stores_empty_chunks c.args.options.now in
+    let region = box_of c.args.region.now in
+    let held = data_of c.args.region_data.now in
+    let index = c.args.chunk_indices.now in
+    let is = sym (c.eq.ensures.0 c.if-eq.true) ∙ c.in_ok-chunk.ensures.region in
+    let u = updated_same layout region held index (g.S.ReadableStorageTraits.state c.args.self.now.storage) is c.requires.given in
+    let none = subst (λ (b : Box). data_refusal layout keep b.shape (cells layout.kind held) ≡ None) c.in_ok-chunk.ensures.region c.in_ok-value.ensures.accepted in
+    c.put_value.ensures.refused keep region held held u none
+
+pub returns-in_err-value-2-clause-refused : goal.returns-in_err-value-2-clause-refused
+returns-in_err-value-2-clause-refused g c =
+    let layout = layout_of c.args.self.now in
+    let keep = stores_empty_chunks c.args.options.now in
+    let made = data_of c.in_ok-data.data in
+    let index = c.args.chunk_indices.now in
+    let fit = (box_accepted layout index c.in_ok-chunk.ensures.accepted).1 in
+    let r = refusal_of c.in_err-value-2.field-0.0 in
+    let said = subst (λ (b : Box). RefusesBy (data_refusal layout keep b.shape (cells layout.kind made)) r) c.in_ok-chunk.ensures.region c.in_err-value-2.ensures.refused in
+    let why = chain_leaves layout keep (box_of c.args.region.now) (data_of c.args.region_data.now) index fit made (g.S.ReadableStorageTraits.state c.args.self.now.storage) c.in_ok-data.ensures.updated r said in
+    search (rules, why)
+
+pub returns-clause-refused : goal.returns-clause-refused
+returns-clause-refused g c =
+    let layout = layout_of c.args.self.now in
+    let keep = stores_empty_chunks c.args.options.now in
+    let made = data_of c.in_ok-data.data in
+    let none = subst (λ (b : Box). data_refusal layout keep b.shape (cells layout.kind made) ≡ None) c.in_ok-chunk.ensures.region c.in_ok-value-2.ensures.accepted in
+    c.put_value-2.ensures.refused keep (box_of c.args.region.now) (data_of c.args.region_data.now) made c.in_ok-data.ensures.updated none
