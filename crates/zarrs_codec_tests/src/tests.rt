@@ -82,11 +82,15 @@ pub(crate) fn must_encode(
     cells: &[u8],
     encoded: &[u8],
 ) {
-    let size = data_type.element_size().expect(rt, "a size");
+    let Some(size) = data_type.element_size() else {
+        rt.panic("no size");
+    };
     let zero = FillValue::new(vec![in alloc; 0u8; size].expect(rt, "no refusal"));
     must(rt, zero.is_value_of(data_type));
     let data = ArrayBytes::from_flen(cells);
-    let count = zarrs_subset::element_count(shape).expect(rt, "a count");
+    let Some(count) = zarrs_subset::element_count(shape) else {
+        rt.panic("no count");
+    };
     must(rt, count < 100 && size < 100);
     must(rt, data.validate(data_type, count));
     let options = CodecOptions::default();
@@ -350,10 +354,14 @@ pub(crate) fn must_not_decode(
     shape: &[u64],
     encoded: &[u8],
 ) {
-    let size = data_type.element_size().expect(rt, "a size");
+    let Some(size) = data_type.element_size() else {
+        rt.panic("no size");
+    };
     let zero = FillValue::new(vec![in alloc; 0u8; size].expect(rt, "no refusal"));
     must(rt, zero.is_value_of(data_type));
-    let count = zarrs_subset::element_count(shape).expect(rt, "a count");
+    let Some(count) = zarrs_subset::element_count(shape) else {
+        rt.panic("no count");
+    };
     must(rt, count < 100 && size < 100);
     let made = chain.decode(alloc, encoded, data_type, &zero, shape);
     must(rt, made.is_err_and(|error| error == CodecError::DoesNotFit));
