@@ -82,37 +82,43 @@ pub(crate) fn must_encode(
     cells: &[u8],
     encoded: &[u8],
 ) {
+    let size = data_type.element_size().expect(rt, "a size");
+    let zero = FillValue::new(vec![in alloc; 0u8; size].expect(rt, "no refusal"));
+    must(rt, zero.is_value_of(data_type));
+    let data = ArrayBytes::from_flen(cells);
+    let count = zarrs_subset::element_count(shape).expect(rt, "a count");
+    must(rt, data.validate(data_type, count));
+    let options = CodecOptions::default();
+    let made = chain.encode(alloc, &data, data_type, &zero, shape, &options);
+    must_eq(rt, made.expect(rt, "no refusal").as_slice(), encoded);
+    must_decode(rt, alloc, chain, data_type, shape, encoded, cells);
+}
+
+/// The bytes decode to these cells, and are compact.
+fn must_decode(
+    rt: &impl Abort,
+    alloc: Global,
+    chain: &CodecChain,
+    data_type: &DataType,
+    shape: &[u64],
+    encoded: &[u8],
+    cells: &[u8],
+) {
     let Some(size) = data_type.element_size() else {
         rt.panic("no size");
     };
     let zero = FillValue::new(vec![in alloc; 0u8; size].expect(rt, "no refusal"));
     must(rt, zero.is_value_of(data_type));
-    let data = ArrayBytes::from_flen(cells);
     let Some(count) = zarrs_subset::element_count(shape) else {
         rt.panic("no count");
     };
     must(rt, count < 100 && size < 100);
-    must(rt, data.validate(data_type, count));
-    let options = CodecOptions::default();
-    let made = chain
-        .encode(alloc, &data, data_type, &zero, shape, &options)
-        .expect(rt, "no refusal");
-    must_eq(rt, made.as_slice(), encoded);
-    let back = chain
-        .decode(alloc, &made, data_type, &zero, shape)
-        .expect(rt, "no refusal");
-    must_hold(rt, &back, cells);
-    must(
-        rt,
-        chain
-            .compact(alloc, &made, shape)
-            .expect(rt, "no refusal")
-            .is_none(),
-    );
-    must(
-        rt,
-        chain.fits(alloc, data_type, shape).expect(rt, "no refusal"),
-    );
+    let back = chain.decode(alloc, encoded, data_type, &zero, shape);
+    must_hold(rt, &back.expect(rt, "no refusal"), cells);
+    let less = chain.compact(alloc, encoded, shape);
+    must(rt, less.expect(rt, "no refusal").is_none());
+    let fits = chain.fits(alloc, data_type, shape);
+    must(rt, fits.expect(rt, "no refusal"));
 }
 
 /// The cells of each row encode to its bytes, and back.
