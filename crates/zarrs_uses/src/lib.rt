@@ -8,6 +8,4 @@ pub mod histories;
 pub mod make;
 pub mod refusals;
 pub mod regions;
-#[cfg(test)]
-mod tests;
 pub mod walk;

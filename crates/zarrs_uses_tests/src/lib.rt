@@ -1,0 +1,5 @@
+//! Tests of the uses: each of them, run.
+#![tactic(auto)]
+
+#[cfg(test)]
+mod tests;
