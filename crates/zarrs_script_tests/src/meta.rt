@@ -118,12 +118,8 @@ fn metadata_says_what_the_line_says(rt: HostRuntime) {
 
 /// A `meta` line behind an `array` line with these words must show these values.
 fn must_show(rt: &impl Abort, alloc: Global, words: &str, values: [&str; 4]) {
-    let Ok(script) = format!(in alloc; "array {words}\nmeta\n") else {
-        return;
-    };
-    let Ok(prints) = shown(alloc, values) else {
-        return;
-    };
+    let script = format!(in alloc; "array {words}\nmeta\n").expect(rt, "no refusal");
+    let prints = shown(alloc, values).expect(rt, "no refusal");
     must_print(rt, alloc, script.as_bytes(), prints.as_bytes(), 0);
 }
 

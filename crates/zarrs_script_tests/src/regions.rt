@@ -104,13 +104,9 @@ fn the_words_of_no_region_are_no_command(rt: HostRuntime) {
 /// The line must be named as no command behind an array of two dimensions, and as the first line of a script.
 fn must_not_be_a_line(rt: &impl Abort, alloc: Global, line: &str) {
     must_print(rt, alloc, line.as_bytes(), b"line 1: not a command\n", 2);
-    let mut script = Vec::new(alloc);
-    if script
-        .extend_from_slice(b"array 4,4 2,2 uint8 0\n")
-        .is_err()
-        || script.extend_from_slice(line.as_bytes()).is_err()
-    {
-        return;
-    }
+    let mut script = Vec::from_slice(alloc, b"array 4,4 2,2 uint8 0\n").expect(rt, "no refusal");
+    script
+        .extend_from_slice(line.as_bytes())
+        .expect(rt, "no refusal");
     must_print(rt, alloc, &script, b"line 2: not a command\n", 2);
 }

@@ -441,12 +441,10 @@ fn a_cell_outside_its_type_is_not_a_command(rt: HostRuntime) {
 
 /// An `array` line with this type and fill value must be named as not a command.
 fn must_not_be_a_command(rt: &impl Abort, alloc: Global, cell: &str) {
-    let mut script = Vec::new(alloc);
-    if script.extend_from_slice(b"array 2 2 ").is_err()
-        || script.extend_from_slice(cell.as_bytes()).is_err()
-    {
-        return;
-    }
+    let mut script = Vec::from_slice(alloc, b"array 2 2 ").expect(rt, "no refusal");
+    script
+        .extend_from_slice(cell.as_bytes())
+        .expect(rt, "no refusal");
     must_print(rt, alloc, &script, b"line 1: not a command\n", 2);
 }
 
