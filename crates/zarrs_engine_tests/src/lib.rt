@@ -1,4 +1,5 @@
-//! Tests of the engine, of its reads into targets, of partial decoders, of comparisons and of the laws of calls.
+//! Tests of the engine: its reads and writes of chunks, parts and regions, reads into targets, partial decoders,
+//! comparisons, the laws of calls, and random histories of calls.
 #![tactic(auto)]
 
 #[cfg(test)]
@@ -8,9 +9,13 @@ mod comparisons;
 #[cfg(test)]
 mod encoded;
 #[cfg(test)]
+mod histories;
+#[cfg(test)]
 mod partial_decoders;
 #[cfg(test)]
 mod ranges;
+#[cfg(test)]
+mod regions;
 #[cfg(test)]
 mod steps;
 #[cfg(test)]

@@ -1,5 +1,5 @@
 //! The types of cells, and the values that stand for the bytes of the model.
-use crate::model::FILL;
+use super::model::FILL;
 use std::alloc::Global;
 use std::num::NonZeroUsize;
 use std::process::Abort;

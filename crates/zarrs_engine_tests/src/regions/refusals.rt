@@ -1,7 +1,7 @@
 //! Writes that are refused: by their arguments, by the store, by the bytes that are present.
-use crate::steps::Answer::{Cells, Done, Refused};
-use crate::steps::Step::{Put, ReadRegion, StoreChunks, StorePart, StoreRegion};
-use crate::steps::{
+use super::steps::Answer::{Cells, Done, Refused};
+use super::steps::Step::{Put, ReadRegion, StoreChunks, StorePart, StoreRegion};
+use super::steps::{
     Row, TOO_LARGE, UNFIT, WriteCase, engine_over, must_leave, must_leave_of, must_leave_over,
 };
 use zarrs_data_type::DataType;

@@ -1,7 +1,7 @@
 //! Reads of regions, over chunks that are present, absent, cut by the array's shape, or no chunk at all.
-use crate::steps::Answer::{Cells, Done, Refused};
-use crate::steps::Step::{Put, ReadRegion, Store};
-use crate::steps::{
+use super::steps::Answer::{Cells, Done, Refused};
+use super::steps::Step::{Put, ReadRegion, Store};
+use super::steps::{
     ReadCase, Row, TOO_LARGE, TestEngine, UNFIT, engine_of, must_answer, must_answer_of,
     must_go_on, must_go_on_in_list, subset,
 };

@@ -1,8 +1,8 @@
 //! Reads of ranges of chunks and of parts of chunks.
-use crate::region_reads::{nine_cells_must_answer, nine_cells_must_answer_in_list};
-use crate::steps::Answer::{Cells, Done, Refused};
-use crate::steps::Step::{Put, ReadChunks, ReadPart, Store, StorePart};
-use crate::steps::{
+use super::region_reads::{nine_cells_must_answer, nine_cells_must_answer_in_list};
+use super::steps::Answer::{Cells, Done, Refused};
+use super::steps::Step::{Put, ReadChunks, ReadPart, Store, StorePart};
+use super::steps::{
     ReadCase, Row, TOO_LARGE, UNFIT, WriteCase, must_answer, must_answer_of, must_leave,
 };
 use zarrs_data_type::DataType;

@@ -1,7 +1,7 @@
 //! Random calls, with what the model answers them.
-use crate::cells::CellType;
-use crate::model::{Answer, FILL, Faults, Found, Model, Refusal, Region};
-use crate::random::Random;
+use super::cells::CellType;
+use super::model::{Answer, FILL, Faults, Found, Model, Refusal, Region};
+use super::random::Random;
 use std::alloc::Global;
 use std::process::Abort;
 use zarrs_data_type::{ArrayBytes, DataType};

@@ -1,8 +1,14 @@
-//! Histories of calls of one engine and one model, from the same start.
-use crate::cells::{CELL_TYPES, CellType};
-use crate::draws::{Drawn, Draws, is_all_fill};
-use crate::model::{Answer, Faults, Model, Refusal};
-use crate::random::Random;
+//! Random histories of calls of one engine and one model, from the same start. Each reply is compared with that of a
+//! plain list of cells.
+mod cells;
+mod draws;
+mod model;
+mod random;
+
+use cells::{CELL_TYPES, CellType};
+use draws::{Drawn, Draws, is_all_fill};
+use model::{Answer, Faults, Model, Refusal};
+use random::Random;
 use std::alloc::Global;
 use std::num::NonZeroU64;
 use std::process::Abort;

@@ -1,7 +1,7 @@
 //! Writes that are accepted, and what they leave.
-use crate::steps::Answer::{Cells, Done, Refused};
-use crate::steps::Step::{ReadChunks, ReadPart, ReadRegion, StoreChunks, StorePart, StoreRegion};
-use crate::steps::{
+use super::steps::Answer::{Cells, Done, Refused};
+use super::steps::Step::{ReadChunks, ReadPart, ReadRegion, StoreChunks, StorePart, StoreRegion};
+use super::steps::{
     EngineOver, Row, TestEngine, UNFIT, WriteCase, engine_of, engine_over, must_be_left,
     must_go_on_in_list, must_have, must_leave, must_leave_of, subset,
 };

@@ -1,5 +1,0 @@
-//! Tests of shards.
-#![tactic(auto)]
-
-#[cfg(test)]
-mod shards;
