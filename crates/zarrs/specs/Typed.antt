@@ -83,11 +83,15 @@ RefusesStoreAs served earlier gives refuses old new r =
 abbrev pub number_refusal : Box → Option Refusal
 number_refusal range = refuse_if (nat_le (2 ^ 64) (position_count range.shape)) size_overflow
 
+-- E3, E2: the chunk, the part
+abbrev pub chunk_part_refusal : Layout → List ℕ → Box → Option Refusal
+chunk_part_refusal layout index part = option_or (chunk_refusal layout index) (part_refusal layout index part)
+
 -- E10, E3, E2, tested before the data of a part: the index list's length, the chunk, the part
 abbrev pub place_refusal : Layout → List ℕ → Box → Option Refusal
 place_refusal layout index part =
     option_or (refuse_if (not (length index == layout.grid.dimensions)) (dimensionality (length index) layout.grid.dimensions))
-    (option_or (chunk_refusal layout index) (part_refusal layout index part))
+    (chunk_part_refusal layout index part)
 
 -- a chunk
 abbrev pub StoresChunkAs : Layout → Bool → (Kind → ArrayData → Type 0) → List ℕ → StoreState → StoreState → Type 0

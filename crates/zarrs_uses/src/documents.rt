@@ -32,6 +32,12 @@ pub fn read_region_at(
     Ok(numbers)
 }
 
+/// The metadata as compact text.
+fn text_of(alloc: Global, metadata: &ArrayMetadata) -> Result<String> {
+    let document = metadata.to_value(alloc)?;
+    Ok(document.to_string(alloc)?)
+}
+
 /// The V3 document of the array in the store, of whichever version its metadata is, as compact text.
 pub fn v3_text(alloc: Global, storage: MemoryStore, path: &str) -> Result<String> {
     let array = Array::open(alloc, storage, path)?;
@@ -39,6 +45,5 @@ pub fn v3_text(alloc: Global, storage: MemoryStore, path: &str) -> Result<String
         MetadataConvertVersion::V3,
     );
     let metadata = array.metadata_opt(alloc, &options)?;
-    let text = metadata.to_value(alloc)?.to_string(alloc)?;
-    Ok(text)
+    text_of(alloc, &metadata)
 }

@@ -31,7 +31,7 @@ impl<TStorage> Array<TStorage> {
     ghost use Rattle.zarrs_subset.specs.Regions.{box_of};
     ghost use Rattle.zarrs_steps.specs.Refusals.{RefusesBy, refusal_of};
     ghost use Rattle.zarrs.specs.Arrays.{layout_of_array};
-    ghost use Rattle.zarrs.specs.Typed.{place_refusal};
+    ghost use Rattle.zarrs.specs.Typed.{place_refusal, chunk_part_refusal};
 
     /// Tests whether a part lies in the chunk with these indices.
     ///
@@ -54,6 +54,21 @@ impl<TStorage> Array<TStorage> {
             let error = IncompatibleDimensionalityError::new(chunk_indices.len(), dimensions);
             return Err(error.into());
         }
+        self.check_part_of_chunk(alloc, chunk_indices, part)
+    }
+
+    /// Tests whether a part lies in the chunk with these indices, of which there are as many as dimensions.
+    fn check_part_of_chunk(
+        &self,
+        alloc: Global,
+        chunk_indices: &[u64],
+        part: &ArraySubset,
+    ) -> Result<(), ArrayError>
+        ensures accepted { OnOk result (chunk_part_refusal (layout_of_array self.now)
+            chunk_indices.now (box_of part.now) ≡ None) }
+        ensures refused { IfErr result (λ e. RefusesBy (chunk_part_refusal
+            (layout_of_array self.now) chunk_indices.now (box_of part.now)) (refusal_of e)) }
+    {
         let parts = self.engine.parts();
         let chunk = parts.chunk_box(alloc, chunk_indices)?;
         let _ = parts.part_of(alloc, chunk_indices, &chunk, part)?;
