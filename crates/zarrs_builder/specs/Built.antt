@@ -54,7 +54,7 @@ chosen b f = do
 -- the metadata of what was chosen, with `default` chunk keys and without the other parts
 abbrev pub plain_with : BuilderData → FieldsData → ChosenData → DocumentData
 plain_with b f c = plain_document f.shape (extension_of_grid c.grid) (kind_extension c.kind) c.fill_value
-  (extensions_of_chain (record { array_to_array = b.array_to_array; array_to_bytes = c.codec }))
+    (extensions_of_chain (record { array_to_array = b.array_to_array; array_to_bytes = c.codec }))
 
 -- the metadata of these parts, by main names
 abbrev pub document_with : BuilderData → FieldsData → ChosenData → DocumentData

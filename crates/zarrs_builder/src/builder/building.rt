@@ -223,11 +223,12 @@ impl ArrayBuilder {
         let attributes = copied(&self.attributes)?;
         let dimension_names = copied_dimension_names(alloc, fields.dimension_names)?;
         let additional_fields = copied_fields(&self.additional_fields)?;
-        Ok(document
+        let document = document
             .with_chunk_key_encoding(chunk_key_encoding)
             .with_attributes(attributes)
             .with_dimension_names(dimension_names)
-            .with_additional_fields(additional_fields))
+            .with_additional_fields(additional_fields);
+        Ok(document)
     }
 }
 
