@@ -1,6 +1,6 @@
 //! Codecs: cells in another order, and cells to bytes and back.
 use crate::measure::{Work, row};
-use crate::samples::{bytes_of, tested, touch};
+use crate::samples::{bytes_of, tested, tested_cells, touch};
 use anyhow::{Result, anyhow};
 use std::alloc::Global;
 use std::borrow::CowSlice;
@@ -66,24 +66,36 @@ fn transpose_of(alloc: Global, order: &[u64], shape: &[u64], width: usize) -> Re
     })
 }
 
+/// Encodes these cells, an array of this shape.
+fn transpose_cells(
+    alloc: Global,
+    codec: &ArrayToArrayCodec,
+    data_type: &DataType,
+    shape: &[u64],
+    cells: &[u8],
+) -> Result<u8> {
+    let Some(count) = element_count(shape) else {
+        return Err(anyhow!("too many cells"));
+    };
+    let data = ArrayBytes::from_flen(cells);
+    let fitting = codec.encoded_shape(alloc, shape)?;
+    if fitting.is_none() || !data.validate(data_type, count) {
+        return Err(anyhow!("no such array"));
+    }
+    let made = codec.encode(alloc, &data, data_type, shape)?;
+    Ok(made.as_ref().map_or(0, tested_cells))
+}
+
 impl Work for Transpose {
     fn run(&mut self, alloc: Global, turn: u8) -> Result<u8> {
         touch(&mut self.cells, turn);
-        let data = ArrayBytes::from_flen(&self.cells);
-        let Some(count) = element_count(&self.shape) else {
-            return Err(anyhow!("too many cells"));
-        };
-        let fitting = self.codec.encoded_shape(alloc, &self.shape)?;
-        if fitting.is_none() || !data.validate(&self.data_type, count) {
-            return Err(anyhow!("no such array"));
-        }
-        let made = self
-            .codec
-            .encode(alloc, &data, &self.data_type, &self.shape)?;
-        let Some(made) = made else {
-            return Err(anyhow!("no cell"));
-        };
-        Ok(tested(made.into_fixed()?.as_slice()))
+        transpose_cells(
+            alloc,
+            &self.codec,
+            &self.data_type,
+            &self.shape,
+            &self.cells,
+        )
     }
 }
 
@@ -177,7 +189,7 @@ impl Work for DecodeNumbers {
             .codec
             .decode(alloc, &self.encoded, &DataType::UInt32, count)?
             .into_owned(alloc)?;
-        Ok(tested(made.into_fixed()?.as_slice()))
+        Ok(tested_cells(&made))
     }
 }
 
@@ -258,7 +270,7 @@ impl Work for Unpack {
     fn run(&mut self, alloc: Global, turn: u8) -> Result<u8> {
         touch(&mut self.0, turn);
         let made = PackBitsCodec.decode(alloc, &self.0, &DataType::Bool, BYTES as u64)?;
-        Ok(tested(made.into_fixed()?.as_slice()))
+        Ok(tested_cells(&made))
     }
 }
 

@@ -1,6 +1,6 @@
 //! Values of Rust turned into cells, and read from them.
 use crate::measure::{Work, row};
-use crate::samples::tested;
+use crate::samples::{tested, tested_cells};
 use anyhow::{Result, anyhow};
 use std::alloc::Global;
 use std::time::Clock;
@@ -47,7 +47,7 @@ impl Work for ToBytes {
     fn run(&mut self, alloc: Global, turn: u8) -> Result<u8> {
         touch(&mut self.0, turn);
         let made = <u32 as Element>::to_array_bytes(alloc, &DataType::UInt32, &self.0)?;
-        Ok(tested(made.into_fixed()?.as_slice()))
+        Ok(tested_cells(&made))
     }
 }
 

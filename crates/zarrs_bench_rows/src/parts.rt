@@ -1,6 +1,6 @@
 //! Parts of arrays in memory: cells of a box extracted, and cells put in.
 use crate::measure::{Work, row};
-use crate::samples::{bytes_of, tested, touch};
+use crate::samples::{bytes_of, tested, tested_cells, touch};
 use anyhow::{Result, anyhow};
 use std::alloc::Global;
 use std::time::Clock;
@@ -38,16 +38,22 @@ struct Extract {
     cells: Vec<u8>,
 }
 
+/// Extracts the inner box of these cells.
+fn extract_part(alloc: Global, boxes: &Boxes, cells: &[u8]) -> Result<u8> {
+    let Boxes { whole, inner } = boxes;
+    let count = whole.num_elements()?;
+    let data = ArrayBytes::from_flen(cells);
+    if !data.validate(&DataType::UInt8, count) || !lies_in_box(inner, whole) {
+        return Err(anyhow!("no cells"));
+    }
+    let made = data.extract_array_subset(alloc, &DataType::UInt8, whole, inner)?;
+    Ok(tested_cells(&made))
+}
+
 impl Work for Extract {
     fn run(&mut self, alloc: Global, turn: u8) -> Result<u8> {
         touch(&mut self.cells, turn);
-        let Boxes { whole, inner } = &self.boxes;
-        let data = ArrayBytes::from_flen(&self.cells);
-        if !data.validate(&DataType::UInt8, whole.num_elements()?) || !lies_in_box(inner, whole) {
-            return Err(anyhow!("no cells"));
-        }
-        let made = data.extract_array_subset(alloc, &DataType::UInt8, whole, inner)?;
-        Ok(tested(made.into_fixed()?.as_slice()))
+        extract_part(alloc, &self.boxes, &self.cells)
     }
 }
 
@@ -75,20 +81,26 @@ struct Update {
     part: Vec<u8>,
 }
 
+/// Copies the cells, and puts the part into the inner box of the copy.
+fn put_part(alloc: Global, boxes: &Boxes, cells: &[u8], part: &[u8]) -> Result<u8> {
+    let Boxes { whole, inner } = boxes;
+    let (count, part_count) = (whole.num_elements()?, inner.num_elements()?);
+    let part = ArrayBytes::from_flen(part);
+    if whole.dimensionality() != inner.dimensionality()
+        || !ArrayBytes::from_flen(cells).validate(&DataType::UInt8, count)
+        || !part.validate(&DataType::UInt8, part_count)
+    {
+        return Err(anyhow!("no cells"));
+    }
+    let held = ArrayBytes::new_flen(cells.to_vec(alloc)?);
+    let made = held.update_array_bytes(alloc, &DataType::UInt8, whole, &part, inner)?;
+    Ok(tested_cells(&made))
+}
+
 impl Work for Update {
     fn run(&mut self, alloc: Global, turn: u8) -> Result<u8> {
         touch(&mut self.part, turn);
-        let Boxes { whole, inner } = &self.boxes;
-        let held = ArrayBytes::new_flen(self.cells.to_vec(alloc)?);
-        let part = ArrayBytes::from_flen(&self.part);
-        if whole.dimensionality() != inner.dimensionality()
-            || !held.validate(&DataType::UInt8, whole.num_elements()?)
-            || !part.validate(&DataType::UInt8, inner.num_elements()?)
-        {
-            return Err(anyhow!("no cells"));
-        }
-        let made = held.update_array_bytes(alloc, &DataType::UInt8, whole, &part, inner)?;
-        Ok(tested(made.into_fixed()?.as_slice()))
+        put_part(alloc, &self.boxes, &self.cells, &self.part)
     }
 }
 

@@ -1,6 +1,7 @@
 //! Bytes that are worked on.
 use anyhow::Result;
 use std::alloc::Global;
+use zarrs_data_type::ArrayBytes;
 
 /// So many bytes, which differ from place to place.
 ///
@@ -26,4 +27,12 @@ pub fn tested(bytes: &[u8]) -> u8 {
     let first = bytes.first().copied().unwrap_or(0);
     let middle = bytes.get(bytes.len() / 2).copied().unwrap_or(0);
     first ^ middle ^ bytes.last().copied().unwrap_or(0)
+}
+
+/// What three of the bytes of fixed data say; of other data 0.
+pub fn tested_cells(data: &ArrayBytes<'_>) -> u8 {
+    match data {
+        ArrayBytes::Fixed(bytes) => tested(bytes.as_slice()),
+        _ => 0,
+    }
 }
