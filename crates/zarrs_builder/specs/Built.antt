@@ -10,7 +10,7 @@ use Rattle.zarrs_types.specs.FillMetadata.{fill_said, fill_written}
 use Rattle.zarrs_types.specs.Kind.{Kind}
 use Rattle.zarrs_types.specs.TypeMetadata.{kind_name, kind_extension}
 use Rattle.zarrs_codec.specs.Metadata.{BytesCodecData, default_codec, extensions_of_chain}
-use Rattle.zarrs_document.specs.Document.{DocumentData, plain_document}
+use Rattle.zarrs_document.specs.Document.{DocumentData}
 use Rattle.zarrs_document_v2.specs.View.{MetadataData, v3}
 use Rattle.zarrs_options.specs.Refusals.{CreateRefusal, data_type, chunk_grid, fill_value, fill_value_metadata, out_of_memory, said_or}
 use Rattle.zarrs_array_metadata.specs.Meanings.{Meaning, creation_v3, path_said, names_said, ◌>>=◌}
@@ -50,11 +50,6 @@ chosen b f = do
   named ← names_said (length f.shape) f.dimension_names
   stated ← fill_stated kind fill
   Ok (record { kind = kind; codec = codec_chosen b.array_to_bytes kind; grid = grid; fill_value = stated })
-
--- the metadata of what was chosen, with `default` chunk keys and without the other parts
-abbrev pub plain_with : BuilderData → FieldsData → ChosenData → DocumentData
-plain_with b f c = plain_document f.shape (extension_of_grid c.grid) (kind_extension c.kind) c.fill_value
-    (extensions_of_chain (record { array_to_array = b.array_to_array; array_to_bytes = c.codec }))
 
 -- the metadata of these parts, by main names
 abbrev pub document_with : BuilderData → FieldsData → ChosenData → DocumentData

@@ -57,7 +57,10 @@ impl<TStorage> Array<TStorage> {
         self.check_part_of_chunk(alloc, chunk_indices, part)
     }
 
-    /// Tests whether a part lies in the chunk with these indices, of which there are as many as dimensions.
+    /// Does the rest of what `check_part` does, once the number of indices was tested.
+    ///
+    /// # Errors
+    /// In this order: E3, then E2, as `check_part`. E9 may come at any time.
     fn check_part_of_chunk(
         &self,
         alloc: Global,

@@ -56,8 +56,7 @@ impl ArrayBuilder {
     ghost use Rattle.zarrs.specs.Arrays.{metadata_of_array, path_of_array, storage_of_array};
     ghost use Rattle.zarrs.specs.Arrays.{HasDefaultOptions};
     ghost use Rattle.zarrs_builder.specs.Builders.{builder_view, fields_of};
-    ghost use Rattle.zarrs_builder.specs.Built.{chosen, plain_with, document_with};
-    ghost use Rattle.zarrs_builder.specs.Built.{document_of_fields};
+    ghost use Rattle.zarrs_builder.specs.Built.{chosen, document_with, document_of_fields};
     ghost use Rattle.zarrs_builder.specs.Built.{built, built_at, built_metadata};
     ghost use Rattle.zarrs_builder.specs.Parts.{found_fields, chosen_view};
 
@@ -184,30 +183,6 @@ impl ArrayBuilder {
         })
     }
 
-    /// Returns the metadata of what was chosen, with `default` chunk keys and without the other parts.
-    fn plain_document(
-        &self,
-        alloc: Global,
-        fields: &Fields<'_>,
-        chosen: Chosen,
-    ) -> Result<ArrayMetadataV3, AllocError>
-        ensures { IfOk result (λ m. document_view m ≡ plain_with (builder_view self.now)
-            (found_fields fields.now) (chosen_view chosen)) }
-    {
-        let shape = Vec::from_slice(alloc, fields.shape)?;
-        let chunk_grid = chosen.grid.metadata(alloc)?;
-        let data_type = chosen.data_type.metadata(alloc)?;
-        let codecs = chain_metadatas(alloc, &self.array_to_array_codecs, &chosen.codec)?;
-        ArrayMetadataV3::new(
-            alloc,
-            shape,
-            chunk_grid,
-            data_type,
-            chosen.fill_value,
-            codecs,
-        )
-    }
-
     /// Returns the metadata of what was chosen, and of the other parts.
     fn document(
         &self,
@@ -218,17 +193,26 @@ impl ArrayBuilder {
         ensures { IfOk result (λ m. document_view m ≡ document_with (builder_view self.now)
             (found_fields fields.now) (chosen_view chosen)) }
     {
-        let document = self.plain_document(alloc, fields, chosen)?;
+        let shape = Vec::from_slice(alloc, fields.shape)?;
+        let data_type = chosen.data_type.metadata(alloc)?;
+        let chunk_grid = chosen.grid.metadata(alloc)?;
         let chunk_key_encoding = self.chunk_key_encoding.metadata(alloc)?;
+        let codecs = chain_metadatas(alloc, &self.array_to_array_codecs, &chosen.codec)?;
         let attributes = copied(&self.attributes)?;
         let dimension_names = copied_dimension_names(alloc, fields.dimension_names)?;
         let additional_fields = copied_fields(&self.additional_fields)?;
-        let document = document
-            .with_chunk_key_encoding(chunk_key_encoding)
-            .with_attributes(attributes)
-            .with_dimension_names(dimension_names)
-            .with_additional_fields(additional_fields);
-        Ok(document)
+        Ok(ArrayMetadataV3 {
+            shape,
+            data_type,
+            chunk_grid,
+            chunk_key_encoding,
+            fill_value: chosen.fill_value,
+            codecs,
+            attributes,
+            storage_transformers: Vec::new(alloc),
+            dimension_names,
+            additional_fields,
+        })
     }
 }
 
