@@ -5,7 +5,7 @@ use std::num::NonZeroU64;
 use std::process::Abort;
 use zarrs_chunk_grid::RegularChunkGrid;
 use zarrs_codec::{
-    ArrayToBytesCodec, BytesCodec, BytesToBytesCodecs, CodecChain, CodecError, CodecOptions,
+    BytesToBytesCodecs, CodecChain, CodecError, CodecOptions, default_array_to_bytes_codec,
 };
 use zarrs_data_type::{ArrayBytes, DataType, FillValue};
 use zarrs_engine::{ArrayError, Call, Engine, Reply, replay};
@@ -44,7 +44,8 @@ pub(crate) fn bytes_engine<S: Drop>(
     engine_over(rt, alloc, storage, shape, chunk, DataType::UInt8, &[fill])
 }
 
-/// An array of the type at `/` of this shape, in chunks of that shape, over the store. Its chain is `bytes` alone.
+/// An array of the type at `/` of this shape, in chunks of that shape, over the store. Its chain is the default codec of
+/// the type.
 pub(crate) fn engine_over<S: Drop>(
     rt: &impl Abort,
     alloc: Global,
@@ -66,18 +67,20 @@ pub(crate) fn engine_over<S: Drop>(
         chunk_shape,
     )
     .expect(rt, "no refusal");
-    let path = NodePath::new(alloc, "/").expect(rt, "no refusal");
-    let keys = ChunkKeyEncoding::Default(ChunkKeySeparator::Slash);
-    let chain = CodecChain::new(
-        Vec::new(alloc),
-        ArrayToBytesCodec::Bytes(BytesCodec::little()),
-        BytesToBytesCodecs,
-    );
     let fill_value = FillValue::new(fill.to_vec(alloc).expect(rt, "no refusal"));
     if !data_type.is_fill(fill_value.as_bytes()) {
         return rt.panic("no fill value of the type");
     }
-    Engine::new(storage, path, grid, keys, chain, data_type, fill_value)
+    let codec = default_array_to_bytes_codec(alloc, &data_type).expect(rt, "no refusal");
+    Engine::new(
+        storage,
+        NodePath::new(alloc, "/").expect(rt, "no refusal"),
+        grid,
+        ChunkKeyEncoding::Default(ChunkKeySeparator::Slash),
+        CodecChain::new(Vec::new(alloc), codec, BytesToBytesCodecs),
+        data_type,
+        fill_value,
+    )
 }
 
 /// A call of an engine. A chunk is named by its indices, a range of chunks by its start and its shape.

@@ -1,9 +1,8 @@
 //! Writes that are refused: by their arguments, by the store, by the bytes that are present.
 use super::steps::Answer::{Cells, Done, Refused};
 use super::steps::Step::{Put, ReadRegion, StoreChunks, StorePart, StoreRegion};
-use super::steps::{
-    Row, TOO_LARGE, UNFIT, WriteCase, engine_over, must_leave, must_leave_of, must_leave_over,
-};
+use super::steps::{Row, TOO_LARGE, UNFIT, WriteCase, must_leave, must_leave_of, must_leave_over};
+use crate::steps::engine_over;
 use zarrs_data_type::DataType;
 use zarrs_storage::{Fault, MemoryStore};
 

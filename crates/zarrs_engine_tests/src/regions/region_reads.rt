@@ -3,8 +3,9 @@ use super::steps::Answer::{Cells, Done, Refused};
 use super::steps::Step::{Put, ReadRegion, Store};
 use super::steps::{
     ReadCase, Row, TOO_LARGE, TestEngine, UNFIT, engine_of, must_answer, must_answer_of,
-    must_go_on, must_go_on_in_list, subset,
+    must_go_on, must_go_on_in_list,
 };
+use crate::steps::region;
 use std::alloc::Global;
 use std::borrow::CowSlice;
 use std::process::Abort;
@@ -217,7 +218,7 @@ fn must_read_texts(rt: &impl Abort, alloc: Global, engine: &TestEngine) {
         .retrieve_chunk(alloc, &[0, 0])
         .expect(rt, "no refusal");
     must_be_texts(rt, &whole, b"abcd\xC3\xA4", &[0, 1, 1, 4, 6]);
-    let asked = subset(alloc, &[0, 1], &[2, 2]).expect(rt, "no refusal");
+    let asked = region(alloc, &[0, 1], &[2, 2]).expect(rt, "no refusal");
     let across = engine
         .retrieve_array_subset(alloc, &asked)
         .expect(rt, "no refusal");

@@ -1,60 +1,17 @@
 //! Tests as tables: each row is a call of an engine, and the answer that it must give.
+use crate::steps::{EngineOver, engine_over, region};
 use std::alloc::{AllocError, Global};
-use std::num::NonZeroU64;
 use std::process::Abort;
-use zarrs_chunk_grid::RegularChunkGrid;
-use zarrs_codec::{BytesToBytesCodecs, CodecChain, CodecOptions, default_array_to_bytes_codec};
-use zarrs_data_type::{ArrayBytes, DataType, FillValue};
-use zarrs_engine::{ArrayError, Call, Engine, Reply, replay};
-use zarrs_keys::{ChunkKeyEncoding, ChunkKeySeparator, NodePath};
+use zarrs_codec::CodecOptions;
+use zarrs_data_type::{ArrayBytes, DataType};
+use zarrs_engine::{ArrayError, Call, Reply, replay};
 use zarrs_storage::{Fault, MemoryStore, ReadableStorageTraits, StoreKey};
-use zarrs_subset::{ArraySubset, ArraySubsetError};
 
 pub(crate) const UNFIT: &str = "the codec does not take this type, shape or these bytes";
 
 pub(crate) const TOO_LARGE: &str = "size exceeds the number types";
 
-pub(crate) type EngineOver<S> = Engine<S, RegularChunkGrid, ChunkKeyEncoding, CodecChain>;
-
 pub(crate) type TestEngine = EngineOver<Fault<MemoryStore>>;
-
-/// An array at `/` of this shape, in chunks of that shape, over the store. Its chain is the default codec of the type.
-pub(crate) fn engine_over<S: Drop>(
-    rt: &impl Abort,
-    alloc: Global,
-    storage: S,
-    shape: &[u64],
-    chunk: &[u64],
-    data_type: DataType,
-    fill: &[u8],
-) -> EngineOver<S> {
-    let mut chunk_shape = Vec::new(alloc);
-    for extent in chunk {
-        chunk_shape
-            .push(NonZeroU64::new(*extent).expect(rt, "an extent is 0"))
-            .expect(rt, "no refusal");
-    }
-    let grid = RegularChunkGrid::new(
-        alloc,
-        shape.to_vec(alloc).expect(rt, "no refusal"),
-        chunk_shape,
-    )
-    .expect(rt, "no refusal");
-    let fill_value = FillValue::new(fill.to_vec(alloc).expect(rt, "no refusal"));
-    if !data_type.is_fill(fill_value.as_bytes()) {
-        return rt.panic("no fill value of the type");
-    }
-    let codec = default_array_to_bytes_codec(alloc, &data_type).expect(rt, "no refusal");
-    Engine::new(
-        storage,
-        NodePath::new(alloc, "/").expect(rt, "no refusal"),
-        grid,
-        ChunkKeyEncoding::Default(ChunkKeySeparator::Slash),
-        CodecChain::new(Vec::new(alloc), codec, BytesToBytesCodecs),
-        data_type,
-        fill_value,
-    )
-}
 
 /// A store without values that refuses to read these keys.
 pub(crate) fn unread(rt: &impl Abort, alloc: Global, names: &[&str]) -> Fault<MemoryStore> {
@@ -107,14 +64,6 @@ pub(crate) enum Answer {
 /// A call, and what it must answer.
 pub(crate) type Row = (Step, Answer);
 
-pub(crate) fn subset(
-    alloc: Global,
-    start: &[u64],
-    shape: &[u64],
-) -> Result<ArraySubset, ArraySubsetError> {
-    ArraySubset::new_with_start_shape(start.to_vec(alloc)?, shape.to_vec(alloc)?)
-}
-
 fn cells(alloc: Global, rows: &[&[u8]]) -> Result<ArrayBytes<'static>, AllocError> {
     let mut cells = Vec::new(alloc);
     for row in rows {
@@ -141,7 +90,7 @@ fn store_region(
     shape: &[u64],
     rows: &[&[u8]],
 ) -> Result<Reply, ArrayError> {
-    let (asked, data) = (subset(alloc, start, shape)?, cells(alloc, rows)?);
+    let (asked, data) = (region(alloc, start, shape)?, cells(alloc, rows)?);
     engine.store_array_subset(alloc, &asked, &data, &CodecOptions::default())?;
     Ok(Reply::Done)
 }
@@ -153,7 +102,7 @@ fn store_chunks(
     shape: &[u64],
     rows: &[&[u8]],
 ) -> Result<Reply, ArrayError> {
-    let (asked, data) = (subset(alloc, start, shape)?, cells(alloc, rows)?);
+    let (asked, data) = (region(alloc, start, shape)?, cells(alloc, rows)?);
     engine.store_chunks(alloc, &asked, &data, &CodecOptions::default())?;
     Ok(Reply::Done)
 }
@@ -166,7 +115,7 @@ fn store_part(
     shape: &[u64],
     rows: &[&[u8]],
 ) -> Result<Reply, ArrayError> {
-    let (asked, data) = (subset(alloc, start, shape)?, cells(alloc, rows)?);
+    let (asked, data) = (region(alloc, start, shape)?, cells(alloc, rows)?);
     engine.store_chunk_subset(alloc, indices, &asked, &data, &CodecOptions::default())?;
     Ok(Reply::Done)
 }
@@ -188,7 +137,7 @@ fn read_region(
     start: &[u64],
     shape: &[u64],
 ) -> Result<Reply, ArrayError> {
-    let asked = subset(alloc, start, shape)?;
+    let asked = region(alloc, start, shape)?;
     Ok(Reply::Cells(engine.retrieve_array_subset(alloc, &asked)?))
 }
 
@@ -198,7 +147,7 @@ fn read_chunks(
     start: &[u64],
     shape: &[u64],
 ) -> Result<Reply, ArrayError> {
-    let asked = subset(alloc, start, shape)?;
+    let asked = region(alloc, start, shape)?;
     Ok(Reply::Cells(engine.retrieve_chunks(alloc, &asked)?))
 }
 
@@ -209,7 +158,7 @@ fn read_part(
     start: &[u64],
     shape: &[u64],
 ) -> Result<Reply, ArrayError> {
-    let asked = subset(alloc, start, shape)?;
+    let asked = region(alloc, start, shape)?;
     Ok(Reply::Cells(engine.retrieve_chunk_subset(alloc, indices, &asked)?))
 }
 
@@ -238,35 +187,35 @@ fn call_of(rt: &impl Abort, alloc: Global, step: &Step) -> Call {
     match step {
         Step::StoreRegion(start, shape, rows) => {
             Call::StoreArraySubset(
-                subset(alloc, start, shape).expect(rt, "no refusal"),
+                region(alloc, start, shape).expect(rt, "no refusal"),
                 cells(alloc, rows).expect(rt, "no refusal"),
             )
         }
         Step::StoreChunks(start, shape, rows) => {
             Call::StoreChunks(
-                subset(alloc, start, shape).expect(rt, "no refusal"),
+                region(alloc, start, shape).expect(rt, "no refusal"),
                 cells(alloc, rows).expect(rt, "no refusal"),
             )
         }
         Step::StorePart(indices, start, shape, rows) => {
-            let part = subset(alloc, start, shape).expect(rt, "no refusal");
+            let part = region(alloc, start, shape).expect(rt, "no refusal");
             Call::StoreChunkSubset(
                 indices.to_vec(alloc).expect(rt, "no refusal"),
                 part,
                 cells(alloc, rows).expect(rt, "no refusal"),
             )
         }
-        Step::ReadRegion(start, shape) => Call::RetrieveArraySubset(subset(
+        Step::ReadRegion(start, shape) => Call::RetrieveArraySubset(region(
             alloc, start, shape,
         ).expect(rt, "no refusal")),
-        Step::ReadChunks(start, shape) => Call::RetrieveChunks(subset(alloc, start, shape).expect(
+        Step::ReadChunks(start, shape) => Call::RetrieveChunks(region(alloc, start, shape).expect(
             rt,
             "no refusal",
         )),
         Step::ReadPart(indices, start, shape) => {
             Call::RetrieveChunkSubset(
                 indices.to_vec(alloc).expect(rt, "no refusal"),
-                subset(alloc, start, shape).expect(rt, "no refusal"),
+                region(alloc, start, shape).expect(rt, "no refusal"),
             )
         }
         Step::Store(_, _) | Step::Put(_, _) => return rt.panic("no call of a list"),

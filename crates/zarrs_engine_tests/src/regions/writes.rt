@@ -2,9 +2,10 @@
 use super::steps::Answer::{Cells, Done, Refused};
 use super::steps::Step::{ReadChunks, ReadPart, ReadRegion, StoreChunks, StorePart, StoreRegion};
 use super::steps::{
-    EngineOver, Row, TestEngine, UNFIT, WriteCase, engine_of, engine_over, must_be_left,
-    must_go_on_in_list, must_have, must_leave, must_leave_of, subset,
+    Row, TestEngine, UNFIT, WriteCase, engine_of, must_be_left, must_go_on_in_list, must_have,
+    must_leave, must_leave_of,
 };
+use crate::steps::{EngineOver, engine_over, region};
 use std::alloc::Global;
 use std::borrow::CowSlice;
 use std::process::Abort;
@@ -159,7 +160,7 @@ fn store_texts(rt: &impl Abort, alloc: Global, engine: &mut TestEngine) {
         rt,
         "no refusal",
     );
-    let region = subset(alloc, &[1], &[2]).expect(rt, "no refusal");
+    let region = region(alloc, &[1], &[2]).expect(rt, "no refusal");
     engine
         .store_array_subset(alloc, &region, &texts, &CodecOptions::default())
         .expect(rt, "no refusal");
@@ -186,7 +187,7 @@ fn store_six_texts(rt: &impl Abort, alloc: Global, engine: &mut TestEngine) {
         rt,
         "no refusal",
     );
-    let region = subset(alloc, &[0, 0], &[2, 3]).expect(rt, "no refusal");
+    let region = region(alloc, &[0, 0], &[2, 3]).expect(rt, "no refusal");
     engine
         .store_array_subset(alloc, &region, &texts, &CodecOptions::default())
         .expect(rt, "no refusal");
@@ -215,12 +216,12 @@ fn must_read_nested(rt: &impl Abort, alloc: Global, engine: &mut TestEngine, dat
         rt,
         "no refusal",
     );
-    let region = subset(alloc, &[0], &[3]).expect(rt, "no refusal");
+    let written = region(alloc, &[0], &[3]).expect(rt, "no refusal");
     engine
-        .store_array_subset(alloc, &region, &data, &CodecOptions::default())
+        .store_array_subset(alloc, &written, &data, &CodecOptions::default())
         .expect(rt, "no refusal");
     let read = engine
-        .retrieve_array_subset(alloc, &subset(alloc, &[1], &[2]).expect(rt, "no refusal"))
+        .retrieve_array_subset(alloc, &region(alloc, &[1], &[2]).expect(rt, "no refusal"))
         .expect(rt, "no refusal");
     let cells = <Option<Option<u8>>>::from_array_bytes(alloc, data_type, &read).expect(
         rt,
@@ -243,7 +244,7 @@ fn optional_cells_of_an_optional_type(rt: HostRuntime) {
 fn store_and_keep(rt: &impl Abort, alloc: Global, engine: &mut TestEngine) {
     let keeping = CodecOptions::default().with_store_empty_chunks(true);
     let (region, cell) = (
-        subset(alloc, &[1], &[1]).expect(rt, "no refusal"),
+        region(alloc, &[1], &[1]).expect(rt, "no refusal"),
         ArrayBytes::from_flen(&[0]),
     );
     engine
@@ -310,12 +311,12 @@ fn store_sixteen(rt: &impl Abort, alloc: Global, engine: &mut EngineOver<Fence<'
     engine
         .store_chunks(
             alloc,
-            &subset(alloc, &[0, 0], &[2, 2]).expect(rt, "no refusal"),
+            &region(alloc, &[0, 0], &[2, 2]).expect(rt, "no refusal"),
             &rows,
             &options,
         )
         .expect(rt, "no refusal");
-    let none = subset(alloc, &[7, 7, 7], &[1, 0, 1]).expect(rt, "no refusal");
+    let none = region(alloc, &[7, 7, 7], &[1, 0, 1]).expect(rt, "no refusal");
     engine
         .store_chunks(alloc, &none, &ArrayBytes::from_flen(&[]), &options)
         .expect(rt, "no refusal");
