@@ -1,4 +1,5 @@
 //! The same array over another store, and lent attributes.
+use crate::checks::{must, must_eq};
 use crate::made::{MemoryArray, array};
 use serde_json::Value;
 use std::alloc::Global;
@@ -7,9 +8,9 @@ use zarrs::{Array, ArrayMetadata, ReadOnly};
 use zarrs_storage::MemoryStore;
 
 fn must_hold<S>(rt: &impl Abort, array: &Array<S>, held: &[u8], bytes: &[u8]) {
-    assert!(rt; array.shape() == [8, 8].as_slice());
-    assert!(rt; array.path().as_str() == "/a");
-    assert!(rt; held == bytes);
+    must(rt, array.shape() == [8, 8].as_slice());
+    must(rt, array.path().as_str() == "/a");
+    must(rt, held == bytes);
 }
 
 fn chunk_of(rt: &impl Abort, alloc: Global, array: &MemoryArray) -> Vec<u8> {
@@ -65,12 +66,15 @@ fn put_attribute(rt: &impl Abort, alloc: Global, array: &mut MemoryArray) {
 /// What is put into the lent attributes stands in the metadata, and the array still reads.
 fn must_have_attribute(rt: &impl Abort, alloc: Global, array: &mut MemoryArray) {
     put_attribute(rt, alloc, array);
-    assert_eq!(rt; array.attributes().len(), 1);
+    must_eq(rt, array.attributes().len(), 1);
     match array.metadata() {
-        ArrayMetadata::V3(document) => assert_eq!(rt; document.attributes.len(), 1),
+        ArrayMetadata::V3(document) => must_eq(rt, document.attributes.len(), 1),
         ArrayMetadata::V2(_) => return rt.panic("the metadata is of V2"),
     }
-    assert!(rt; chunk_of(rt, alloc, array).as_slice() == [0; 16].as_slice());
+    must(
+        rt,
+        chunk_of(rt, alloc, array).as_slice() == [0; 16].as_slice(),
+    );
 }
 
 #[test]

@@ -1,4 +1,5 @@
 //! Arrays that are made of documents, and the refusals in their order.
+use crate::checks::{must, must_eq};
 use crate::made::{MemoryArray, array, create, document_of};
 use std::alloc::Global;
 use std::process::Abort;
@@ -9,45 +10,50 @@ use zarrs::{
 use zarrs_codec::ArrayToBytesCodec;
 
 fn must_have_a_shape(rt: &impl Abort, array: &MemoryArray) {
-    assert_eq!(rt; array.path().as_str(), "/array");
-    assert_eq!(rt; array.shape(), [8, 8].as_slice());
-    assert_eq!(rt; array.dimensionality(), 2);
-    assert_eq!(rt; array.chunk_grid_shape(), [2, 2].as_slice());
-    assert!(rt; matches!(array.chunk_grid(), ChunkGrid::Regular(_)));
+    must_eq(rt, array.path().as_str(), "/array");
+    must_eq(rt, array.shape(), [8, 8].as_slice());
+    must_eq(rt, array.dimensionality(), 2);
+    must_eq(rt, array.chunk_grid_shape(), [2, 2].as_slice());
+    must(rt, matches!(array.chunk_grid(), ChunkGrid::Regular(_)));
 }
 
 fn must_have_cells(rt: &impl Abort, array: &MemoryArray) {
-    assert!(rt; matches!(array.data_type(), DataType::UInt8));
-    assert_eq!(rt; array.fill_value().as_bytes(), [7].as_slice());
-    assert!(rt; array.codecs().array_to_array_codecs().is_empty());
-    assert!(rt;
+    must(rt, matches!(array.data_type(), DataType::UInt8));
+    must_eq(rt, array.fill_value().as_bytes(), [7].as_slice());
+    must(rt, array.codecs().array_to_array_codecs().is_empty());
+    must(
+        rt,
         matches!(
             array.codecs().array_to_bytes_codec(),
             ArrayToBytesCodec::Bytes(_)
-        )
+        ),
     );
     let keys = array.chunk_key_encoding();
-    assert!(rt; matches!(keys, ChunkKeyEncoding::Default(ChunkKeySeparator::Slash)));
+    must(
+        rt,
+        matches!(keys, ChunkKeyEncoding::Default(ChunkKeySeparator::Slash)),
+    );
 }
 
 fn must_have_texts(rt: &impl Abort, array: &MemoryArray) {
-    assert_eq!(rt; array.attributes().len(), 1);
-    assert_eq!(rt; document_of(rt, array).data_type.name(), "uint8");
+    must_eq(rt, array.attributes().len(), 1);
+    must_eq(rt, document_of(rt, array).data_type.name(), "uint8");
     let names = array.dimension_names().expect(rt, "no names");
-    assert_eq!(rt; names.len(), 2);
+    must_eq(rt, names.len(), 2);
 }
 
 fn must_have_its_parts(rt: &impl Abort, alloc: Global, array: &MemoryArray) {
     must_have_a_shape(rt, array);
     must_have_cells(rt, array);
     must_have_texts(rt, array);
-    assert_eq!(rt; array.storage().calls(), 0);
-    assert!(rt;
+    must_eq(rt, array.storage().calls(), 0);
+    must(
+        rt,
         array
             .storage()
             .keys(alloc)
             .expect(rt, "no refusal")
-            .is_empty()
+            .is_empty(),
     );
 }
 
@@ -76,11 +82,12 @@ fn refusal(
 }
 
 fn must_be_a_path(rt: &impl Abort, error: &ArrayCreateError) {
-    assert!(rt;
+    must(
+        rt,
         matches!(
             error,
             ArrayCreateError::NodePathError(NodePathError::Invalid)
-        )
+        ),
     );
 }
 
@@ -93,11 +100,12 @@ fn paths_of_no_node_are_refused(rt: HostRuntime) {
 }
 
 fn must_print(rt: &impl Abort, alloc: Global, error: &ArrayCreateError, text: &str) {
-    assert_eq!(rt;
+    must_eq(
+        rt,
         format!(in alloc; "{error}")
             .expect(rt, "no refusal")
             .as_str(),
-        text
+        text,
     );
 }
 
@@ -129,7 +137,10 @@ fn refusals_name_what_they_refuse(rt: HostRuntime) {
 }
 
 fn must_be_grids(rt: &impl Abort, error: &ArrayCreateError) {
-    assert!(rt; matches!(error, ArrayCreateError::ChunkGridCreateError(_)));
+    must(
+        rt,
+        matches!(error, ArrayCreateError::ChunkGridCreateError(_)),
+    );
 }
 
 #[test]
@@ -149,5 +160,5 @@ fn grids_that_do_not_take_the_shape(rt: HostRuntime) {
 fn a_field_that_must_be_understood_is_not_looked_at(rt: HostRuntime) {
     let alloc = rt.alloc();
     let array = array(&rt, alloc, "/", &[("key", "{\"a\":1}")]);
-    assert_eq!(rt; document_of(&rt, &array).additional_fields.len(), 1);
+    must_eq(&rt, document_of(&rt, &array).additional_fields.len(), 1);
 }

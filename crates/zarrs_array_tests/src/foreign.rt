@@ -1,4 +1,5 @@
 //! Arrays as other programs store them: each opens, and what is stored of it opens in turn.
+use crate::checks::must;
 use crate::made::MemoryArray;
 use crate::versions::{holding, must_show, open, plain_v3};
 use std::alloc::Global;
@@ -218,7 +219,7 @@ fn must_have_cells(rt: &impl Abort, alloc: Global, array: &MemoryArray, cells: &
     let held: ArrayBytes<'static> = array
         .retrieve_array_subset(alloc, &all)
         .expect(rt, "no refusal");
-    assert!(rt; bytes_of(&held) == Some(cells));
+    must(rt, bytes_of(&held) == Some(cells));
 }
 
 /// The array is that of the row.

@@ -1,4 +1,5 @@
 //! Arrays that are stored, opened and erased, and the refusals of an opening in their order.
+use crate::checks::{must, must_eq};
 use crate::made::{BYTES, MemoryArray, array, document, document_of};
 use serde_json::Map;
 use std::alloc::Global;
@@ -13,9 +14,9 @@ use zarrs_storage::{
 
 fn must_have_keys(rt: &impl Abort, alloc: Global, storage: &MemoryStore, names: &[&str]) {
     let keys = storage.keys(alloc).expect(rt, "no refusal");
-    assert_eq!(rt; keys.len(), names.len());
+    must_eq(rt, keys.len(), names.len());
     for (key, name) in keys.iter().zip(names.iter()) {
-        assert_eq!(rt; key.as_str(), *name);
+        must_eq(rt, key.as_str(), *name);
     }
 }
 
@@ -34,25 +35,26 @@ fn must_hold_its_text(rt: &impl Abort, alloc: Global, array: &MemoryArray, name:
         return rt.panic("the metadata is of V2");
     };
     let text = shown.to_vec_pretty(alloc).expect(rt, "no refusal");
-    assert!(rt; *held == *text);
+    must(rt, *held == *text);
 }
 
 /// The metadata has this compact text, except for the attribute of this library.
 fn must_be_of_the_text(rt: &impl Abort, alloc: Global, array: &MemoryArray, text: &str) {
     let made_by = array.attributes().get("_zarrs");
-    assert!(rt; made_by.is_some());
+    must(rt, made_by.is_some());
     let document = document_of(rt, array)
         .try_clone(alloc)
         .expect(rt, "no refusal");
     let written = document.with_attributes(Map::new(alloc));
-    assert_eq!(rt;
+    must_eq(
+        rt,
         written
             .to_value(alloc)
             .expect(rt, "no refusal")
             .to_string(alloc)
             .expect(rt, "no refusal")
             .as_str(),
-        text
+        text,
     );
 }
 
@@ -60,14 +62,14 @@ fn must_read(rt: &impl Abort, alloc: Global, array: &MemoryArray, indices: &[u64
     let cells: Vec<u8> = array
         .retrieve_chunk(alloc, indices)
         .expect(rt, "no refusal");
-    assert!(rt; cells.as_slice() == bytes);
+    must(rt, cells.as_slice() == bytes);
 }
 
 fn must_store(rt: &impl Abort, alloc: Global, array: &mut MemoryArray) {
     array.store_metadata(alloc).expect(rt, "no refusal");
     must_hold_its_text(rt, alloc, array, "array/zarr.json");
     must_have_keys(rt, alloc, array.storage(), &["array/zarr.json"]);
-    assert_eq!(rt; array.storage().calls(), 1);
+    must_eq(rt, array.storage().calls(), 1);
 }
 
 /// The array is that of the document, and a chunk of it is stored.
@@ -96,8 +98,8 @@ fn an_array_is_stored_and_opened(rt: HostRuntime) {
 }
 
 fn must_lie_at(rt: &impl Abort, alloc: Global, array: &MemoryArray) {
-    assert_eq!(rt; array.path().as_str(), "/a/b");
-    assert_eq!(rt; array.storage().calls(), 1);
+    must_eq(rt, array.path().as_str(), "/a/b");
+    must_eq(rt, array.storage().calls(), 1);
     must_be_of_the_text(rt, alloc, array, BYTES);
     must_hold_its_text(rt, alloc, array, "a/b/zarr.json");
 }
@@ -116,7 +118,7 @@ fn must_store_and_erase(rt: &impl Abort, alloc: Global, array: &mut MemoryArray)
     array.store_metadata(alloc).expect(rt, "no refusal");
     must_hold_its_text(rt, alloc, array, "zarr.json");
     array.erase_metadata(alloc).expect(rt, "no refusal");
-    assert_eq!(rt; array.storage().calls(), 2);
+    must_eq(rt, array.storage().calls(), 2);
     must_have_keys(rt, alloc, array.storage(), &[]);
 }
 
@@ -165,24 +167,24 @@ fn refusal(rt: &impl Abort, alloc: Global, storage: MemoryStore, path: &str) -> 
 }
 
 fn must_be_a_path(rt: &impl Abort, error: &ArrayCreateError) {
-    assert!(rt;
+    must(
+        rt,
         matches!(
             error,
             ArrayCreateError::NodePathError(NodePathError::Invalid)
-        )
+        ),
     );
 }
 
 fn must_be_missing(rt: &impl Abort, error: &ArrayCreateError) {
-    assert!(rt; matches!(error, ArrayCreateError::MissingMetadata));
+    must(rt, matches!(error, ArrayCreateError::MissingMetadata));
 }
 
 fn must_be_no_document(rt: &impl Abort, error: &ArrayCreateError) {
     let ArrayCreateError::StorageError(StorageError::InvalidMetadata(key, _)) = error else {
-        assert!(rt; false, "no E23");
-        return;
+        return rt.panic("no E23");
     };
-    assert_eq!(rt; key.as_str(), "zarr.json");
+    must_eq(rt, key.as_str(), "zarr.json");
 }
 
 #[test]
@@ -212,11 +214,12 @@ fn e11_e24_e23(rt: HostRuntime) {
 }
 
 fn must_be_refused_by_the_store(rt: &impl Abort, error: &ArrayCreateError) {
-    assert!(rt;
+    must(
+        rt,
         matches!(
             error,
             ArrayCreateError::StorageError(StorageError::Other(_))
-        )
+        ),
     );
 }
 
@@ -238,17 +241,17 @@ fn e23_of_a_key_that_refuses(rt: HostRuntime) {
 
 fn must_name_the_field(rt: &impl Abort, alloc: Global, error: &ArrayCreateError) {
     let ArrayCreateError::AdditionalFieldUnsupportedError(field) = error else {
-        assert!(rt; false, "no E12");
-        return;
+        return rt.panic("no E12");
     };
-    assert_eq!(rt; field.name(), "b");
-    assert_eq!(rt;
+    must_eq(rt, field.name(), "b");
+    must_eq(
+        rt,
         field
             .value()
             .to_string(alloc)
             .expect(rt, "no refusal")
             .as_str(),
-        "[2]"
+        "[2]",
     );
 }
 
@@ -266,7 +269,7 @@ fn e12_names_the_first_field(rt: HostRuntime) {
 }
 
 fn must_have_a_field(rt: &impl Abort, array: &MemoryArray) {
-    assert_eq!(rt; document_of(rt, array).additional_fields.len(), 1);
+    must_eq(rt, document_of(rt, array).additional_fields.len(), 1);
 }
 
 #[test]
@@ -281,7 +284,7 @@ fn a_field_that_need_not_be_understood(rt: HostRuntime) {
 }
 
 fn must_be_no_chain(rt: &impl Abort, error: &ArrayCreateError) {
-    assert!(rt; matches!(error, ArrayCreateError::CodecsCreateError(_)));
+    must(rt, matches!(error, ArrayCreateError::CodecsCreateError(_)));
 }
 
 #[test]
@@ -296,8 +299,11 @@ fn a_store_that_refuses_keeps_its_document(rt: HostRuntime) {
     let alloc = rt.alloc();
     let storage = Fault::new(holding_text(&rt, alloc, BYTES), Vec::new(alloc), Some(1));
     let mut array = Array::open(alloc, storage, "/").expect(&rt, "no refusal");
-    assert!(rt; matches!(array.erase_metadata(alloc), Err(StorageError::Other(_))));
+    must(
+        &rt,
+        matches!(array.erase_metadata(alloc), Err(StorageError::Other(_))),
+    );
     let storage = array.into_storage();
-    assert_eq!(rt; storage.failures(), 1);
+    must_eq(&rt, storage.failures(), 1);
     must_have_keys(&rt, alloc, &storage.into_inner(), &["zarr.json"]);
 }

@@ -1,4 +1,5 @@
 //! Which refusal an array has of a document, and which of two comes first.
+use crate::checks::must_eq;
 use crate::made::{MemoryArray, create};
 use serde_json::Value;
 use std::alloc::Global;
@@ -67,10 +68,10 @@ fn of_two(rt: &impl Abort, alloc: Global, path: &str, first: &Fault, second: &Fa
 /// The fault is refused alone, and before each of these.
 fn must_come_first(rt: &impl Abort, alloc: Global, fault: &Fault, others: &[Fault]) {
     for other in others {
-        assert_eq!(rt; of_two(rt, alloc, "/", fault, other), fault.2);
+        must_eq(rt, of_two(rt, alloc, "/", fault, other), fault.2);
     }
-    assert_eq!(rt; of_two(rt, alloc, "/", fault, fault), fault.2);
-    assert_eq!(rt; of_two(rt, alloc, "array", fault, fault), 11);
+    must_eq(rt, of_two(rt, alloc, "/", fault, fault), fault.2);
+    must_eq(rt, of_two(rt, alloc, "array", fault, fault), 11);
 }
 
 #[test]
@@ -127,10 +128,10 @@ fn of_two_v2(rt: &impl Abort, alloc: Global, path: &str, first: &Fault, second: 
 /// The fault is refused alone, and before each of these.
 fn must_come_first_v2(rt: &impl Abort, alloc: Global, fault: &Fault, others: &[Fault]) {
     for other in others {
-        assert_eq!(rt; of_two_v2(rt, alloc, "/", fault, other), fault.2);
+        must_eq(rt, of_two_v2(rt, alloc, "/", fault, other), fault.2);
     }
-    assert_eq!(rt; of_two_v2(rt, alloc, "/", fault, fault), fault.2);
-    assert_eq!(rt; of_two_v2(rt, alloc, "array", fault, fault), 11);
+    must_eq(rt, of_two_v2(rt, alloc, "/", fault, fault), fault.2);
+    must_eq(rt, of_two_v2(rt, alloc, "array", fault, fault), 11);
 }
 
 #[test]
@@ -156,7 +157,7 @@ const NOT_STORED: &[&[(&str, &str)]] = &[
 ];
 
 fn must_be_refused(rt: &impl Abort, alloc: Global, changes: &[(&str, &str)], wanted: u8) {
-    assert_eq!(rt; refusal(rt, create_v2(rt, alloc, "/", changes)), wanted);
+    must_eq(rt, refusal(rt, create_v2(rt, alloc, "/", changes)), wanted);
 }
 
 #[test]
@@ -183,11 +184,12 @@ const TEXTS: &[(&str, &str, &str)] = &[
 fn must_print(rt: &impl Abort, alloc: Global, changes: &[(&str, &str)], text: &str) {
     match create_v2(rt, alloc, "/", changes) {
         Ok(_) => return rt.panic("the array is made"),
-        Err(error) => assert_eq!(rt;
+        Err(error) => must_eq(
+            rt,
             format!(in alloc; "{error}")
                 .expect(rt, "no refusal")
                 .as_str(),
-            text
+            text,
         ),
     }
 }

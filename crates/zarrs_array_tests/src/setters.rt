@@ -1,4 +1,5 @@
 //! Setters of arrays.
+use crate::checks::must;
 use crate::made::{MemoryArray, array, document_of};
 use std::alloc::Global;
 use std::process::Abort;
@@ -15,7 +16,10 @@ fn names(rt: &impl Abort, alloc: Global, texts: &[&str]) -> Option<Vec<Dimension
 }
 
 fn must_have_names(rt: &impl Abort, array: &MemoryArray, count: Option<usize>) {
-    assert!(rt; array.dimension_names().map(|names| names.len()) == count);
+    must(
+        rt,
+        array.dimension_names().map(|names| names.len()) == count,
+    );
 }
 
 /// Two names are taken, and three are refused; then they are taken away.
@@ -25,9 +29,12 @@ fn must_name(rt: &impl Abort, alloc: Global, array: &mut MemoryArray) {
         .expect(rt, "no refusal");
     must_have_names(rt, array, Some(2));
     let three = array.name_dimensions(alloc, names(rt, alloc, &["z", "y", "x"]));
-    assert!(rt; matches!(three, Err(ArrayCreateError::InvalidDimensionNames(3, 2))));
+    must(
+        rt,
+        matches!(three, Err(ArrayCreateError::InvalidDimensionNames(3, 2))),
+    );
     must_have_names(rt, array, Some(2));
-    assert!(rt; document_of(rt, array).dimension_names.is_some());
+    must(rt, document_of(rt, array).dimension_names.is_some());
     array.name_dimensions(alloc, None).expect(rt, "no refusal");
     must_have_names(rt, array, None);
 }

@@ -1,4 +1,5 @@
 //! V2 arrays, and metadata in the other version.
+use crate::checks::{must, must_eq};
 use crate::made::{MemoryArray, array};
 use serde_json::{Map, Value};
 use std::alloc::Global;
@@ -66,9 +67,9 @@ fn refusal(
 /// Which keys the store holds.
 fn must_have_keys(rt: &impl Abort, alloc: Global, storage: &MemoryStore, names: &[&str]) {
     let keys = storage.keys(alloc).expect(rt, "no refusal");
-    assert_eq!(rt; keys.len(), names.len());
+    must_eq(rt, keys.len(), names.len());
     for (key, name) in keys.iter().zip(names.iter()) {
-        assert_eq!(rt; key.as_str(), *name);
+        must_eq(rt, key.as_str(), *name);
     }
 }
 
@@ -78,7 +79,7 @@ fn must_hold(rt: &impl Abort, alloc: Global, storage: &MemoryStore, name: &str, 
         .get(alloc, &key)
         .expect(rt, "no refusal")
         .expect(rt, "an absent key");
-    assert!(rt; *held == *bytes);
+    must(rt, *held == *bytes);
 }
 
 fn holds(data: &ArrayBytes<'_>, bytes: &[u8]) -> bool {
@@ -97,7 +98,7 @@ fn must_read_back(rt: &impl Abort, alloc: Global, array: &MemoryArray, bytes: &[
     let cells: ArrayBytes<'static> = array
         .retrieve_array_subset(alloc, &region)
         .expect(rt, "no refusal");
-    assert!(rt; holds(&cells, bytes));
+    must(rt, holds(&cells, bytes));
 }
 
 fn store_all(rt: &impl Abort, alloc: Global, array: &mut MemoryArray, bytes: &[u8]) {
@@ -142,14 +143,15 @@ pub(crate) fn must_show(
     text: &str,
 ) {
     let shown = array.metadata_opt(alloc, options).expect(rt, "no refusal");
-    assert_eq!(rt;
+    must_eq(
+        rt,
         shown
             .to_value(alloc)
             .expect(rt, "no refusal")
             .to_string(alloc)
             .expect(rt, "no refusal")
             .as_str(),
-        text
+        text,
     );
 }
 
@@ -168,7 +170,7 @@ fn must_be_converted(rt: &impl Abort, alloc: Global, array: &MemoryArray) {
         .expect(rt, "no refusal")
         .to_string(alloc)
         .expect(rt, "no refusal");
-    assert_eq!(rt; text.as_str(), CONVERTED);
+    must_eq(rt, text.as_str(), CONVERTED);
     must_have_keys(rt, alloc, array.storage(), &[".zarray"]);
 }
 
@@ -182,12 +184,13 @@ fn a_v2_array_becomes_a_v3_array(rt: HostRuntime) {
 
 fn must_have_members(rt: &impl Abort, alloc: Global, attributes: &Map<String, Value>, text: &str) {
     let attributes = Value::Object(attributes.clone().expect(rt, "no refusal"));
-    assert_eq!(rt;
+    must_eq(
+        rt,
         attributes
             .to_string(alloc)
             .expect(rt, "no refusal")
             .as_str(),
-        text
+        text,
     );
 }
 
@@ -253,7 +256,7 @@ fn must_store_two_parts(rt: &impl Abort, alloc: Global, array: &mut MemoryArray)
         .store_metadata_opt(alloc, &options)
         .expect(rt, "no refusal");
     must_have_keys(rt, alloc, array.storage(), &[".zarray"]);
-    assert_eq!(rt; array.storage().calls(), 6);
+    must_eq(rt, array.storage().calls(), 6);
 }
 
 #[test]
@@ -265,7 +268,7 @@ fn v2_metadata_is_stored_in_two_parts(rt: HostRuntime) {
 
 fn must_refuse_to_store(rt: &impl Abort, alloc: Global, array: &mut Array<Fault<MemoryStore>>) {
     let refused = array.store_metadata(alloc);
-    assert!(rt; matches!(refused, Err(StorageError::Other(_))));
+    must(rt, matches!(refused, Err(StorageError::Other(_))));
 }
 
 /// The attributes were stored, and the document is what it was.
@@ -328,19 +331,18 @@ fn metadata_of_each_version_is_erased(rt: HostRuntime) {
 }
 
 fn must_be_of_version_3(rt: &impl Abort, metadata: &ArrayMetadata) {
-    assert!(rt; matches!(metadata, ArrayMetadata::V3(_)));
+    must(rt, matches!(metadata, ArrayMetadata::V3(_)));
 }
 
 fn must_be_missing(rt: &impl Abort, error: &ArrayCreateError) {
-    assert!(rt; matches!(error, ArrayCreateError::MissingMetadata));
+    must(rt, matches!(error, ArrayCreateError::MissingMetadata));
 }
 
 fn must_be_no_document(rt: &impl Abort, error: &ArrayCreateError, name: &str) {
     let ArrayCreateError::StorageError(StorageError::InvalidMetadata(key, _)) = error else {
-        assert!(rt; false, "no E23");
-        return;
+        return rt.panic("no E23");
     };
-    assert_eq!(rt; key.as_str(), name);
+    must_eq(rt, key.as_str(), name);
 }
 
 #[test]
@@ -371,8 +373,11 @@ fn must_have_no_names(rt: &impl Abort, alloc: Global, array: &mut MemoryArray) {
         alloc,
         Some(vec![in alloc; None, None].expect(rt, "no refusal")),
     );
-    assert!(rt; matches!(named, Err(ArrayCreateError::UnsupportedZarrV2Array(_))));
-    assert!(rt; array.dimension_names().is_none());
+    must(
+        rt,
+        matches!(named, Err(ArrayCreateError::UnsupportedZarrV2Array(_))),
+    );
+    must(rt, array.dimension_names().is_none());
 }
 
 #[test]

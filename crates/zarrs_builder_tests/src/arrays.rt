@@ -1,4 +1,5 @@
 //! Arrays that are built, and builders of arrays.
+use crate::checks::{must, must_eq};
 use crate::made::{BYTES, bytes, must_say};
 use serde_json::Value;
 use std::alloc::Global;
@@ -13,17 +14,17 @@ use zarrs_storage::MemoryStore;
 type MemoryArray = Array<MemoryStore>;
 
 fn must_be_cut(rt: &impl Abort, array: &MemoryArray) {
-    assert_eq!(rt; array.path().as_str(), "/array");
-    assert_eq!(rt; array.shape(), [8, 8].as_slice());
-    assert_eq!(rt; array.chunk_grid_shape(), [4, 4].as_slice());
-    assert_eq!(rt; array.storage().calls(), 0);
+    must_eq(rt, array.path().as_str(), "/array");
+    must_eq(rt, array.shape(), [8, 8].as_slice());
+    must_eq(rt, array.chunk_grid_shape(), [4, 4].as_slice());
+    must_eq(rt, array.storage().calls(), 0);
 }
 
 fn must_be_named(rt: &impl Abort, array: &MemoryArray, names: &[&str]) {
     let said = array.dimension_names().expect(rt, "no names");
-    assert_eq!(rt; said.len(), names.len());
+    must_eq(rt, said.len(), names.len());
     for (name, wanted) in said.iter().zip(names.iter()) {
-        assert!(rt; name.as_deref() == Some(*wanted));
+        must(rt, name.as_deref() == Some(*wanted));
     }
 }
 
@@ -56,7 +57,7 @@ fn an_array_is_built_by_the_other_name(rt: HostRuntime) {
 }
 
 fn must_be(rt: &impl Abort, numbers: &[i8], wanted: &[i8]) {
-    assert!(rt; numbers == wanted);
+    must(rt, numbers == wanted);
 }
 
 /// A chunk is stored and read, and another one is fill.

@@ -4,8 +4,12 @@
 #[cfg(test)]
 mod arrays;
 #[cfg(test)]
+mod checks;
+#[cfg(test)]
 mod made;
 #[cfg(test)]
 mod refusals;
 #[cfg(test)]
 mod setters;
+#[cfg(test)]
+mod uses;

@@ -1,4 +1,5 @@
 //! The builders of the tests.
+use crate::checks::must_eq;
 use std::alloc::Global;
 use std::process::Abort;
 use zarrs_builder::ArrayBuilder;
@@ -26,5 +27,5 @@ pub(crate) fn must_say(rt: &impl Abort, alloc: Global, builder: &ArrayBuilder, t
         .expect(rt, "no refusal")
         .to_string(alloc)
         .expect(rt, "no refusal");
-    assert_eq!(rt; said.as_str(), text);
+    must_eq(rt, said.as_str(), text);
 }

@@ -1,4 +1,5 @@
 //! The refusals of building, and their order.
+use crate::checks::{must, must_eq};
 use crate::made::bytes;
 use std::alloc::Global;
 use std::num::NonZeroUsize;
@@ -41,11 +42,12 @@ fn of_cells<D: IntoField<ArrayBuilderDataType>, F: IntoField<ArrayBuilderFillVal
 }
 
 fn must_be_of_the_grid(rt: &impl Abort, error: &ArrayCreateError) {
-    assert!(rt;
+    must(
+        rt,
         matches!(
             error,
             ArrayCreateError::ChunkGridCreateError(PluginCreateError::Other(_))
-        )
+        ),
     );
 }
 
@@ -59,11 +61,12 @@ fn grids_that_are_none(rt: HostRuntime) {
 }
 
 fn must_be_of_the_data_type(rt: &impl Abort, error: &ArrayCreateError) {
-    assert!(rt;
+    must(
+        rt,
         matches!(
             error,
             ArrayCreateError::DataTypeCreateError(PluginCreateError::Other(_))
-        )
+        ),
     );
 }
 
@@ -76,14 +79,18 @@ fn data_types_that_are_none(rt: HostRuntime) {
 }
 
 fn must_print(rt: &impl Abort, alloc: Global, error: &ArrayCreateError, text: &str) {
-    assert_eq!(rt;
+    must_eq(
+        rt,
         error.to_string(alloc).expect(rt, "no refusal").as_str(),
-        text
+        text,
     );
 }
 
 fn must_be_of_fill_metadata(rt: &impl Abort, error: &ArrayCreateError) {
-    assert!(rt; matches!(error, ArrayCreateError::InvalidFillValueMetadata { .. }));
+    must(
+        rt,
+        matches!(error, ArrayCreateError::InvalidFillValueMetadata { .. }),
+    );
 }
 
 #[test]
@@ -104,7 +111,10 @@ fn fill_values_that_are_none(rt: HostRuntime) {
 }
 
 fn must_be_of_the_fill_value(rt: &impl Abort, error: &ArrayCreateError) {
-    assert!(rt; matches!(error, ArrayCreateError::InvalidFillValue { .. }));
+    must(
+        rt,
+        matches!(error, ArrayCreateError::InvalidFillValue { .. }),
+    );
 }
 
 #[test]
@@ -122,7 +132,10 @@ fn bytes_that_are_no_fill_value(rt: HostRuntime) {
 }
 
 fn must_be_of_the_names(rt: &impl Abort, error: &ArrayCreateError) {
-    assert!(rt; matches!(error, ArrayCreateError::InvalidDimensionNames(3, 2)));
+    must(
+        rt,
+        matches!(error, ArrayCreateError::InvalidDimensionNames(3, 2)),
+    );
 }
 
 fn of_names(rt: &impl Abort, alloc: Global, names: &[&'static str]) -> ArrayCreateError {
@@ -184,11 +197,12 @@ fn of_path(rt: &impl Abort, alloc: Global, builder: &ArrayBuilder, path: &str) -
 }
 
 fn must_be_of_the_path(rt: &impl Abort, error: &ArrayCreateError) {
-    assert!(rt;
+    must(
+        rt,
         matches!(
             error,
             ArrayCreateError::NodePathError(NodePathError::Invalid)
-        )
+        ),
     );
 }
 

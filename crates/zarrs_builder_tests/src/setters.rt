@@ -1,4 +1,5 @@
 //! Setters: each replaces its part and keeps the others.
+use crate::checks::{must, must_eq};
 use crate::made::{BYTES, bytes, must_say};
 use serde_json::{Map, Value};
 use std::alloc::Global;
@@ -116,14 +117,14 @@ fn each_part_is_taken_back(rt: HostRuntime) {
 /// The shape and the grid of the metadata that is built.
 fn must_be_cut(rt: &impl Abort, alloc: Global, builder: &ArrayBuilder, shape: &[u64], grid: &str) {
     let metadata = builder.build_metadata(alloc).expect(rt, "no refusal");
-    assert_eq!(rt; metadata.shape.as_slice(), shape);
+    must_eq(rt, metadata.shape.as_slice(), shape);
     let said = metadata
         .chunk_grid
         .to_value(alloc)
         .expect(rt, "no refusal")
         .to_string(alloc)
         .expect(rt, "no refusal");
-    assert_eq!(rt; said.as_str(), grid);
+    must_eq(rt, said.as_str(), grid);
 }
 
 const REGULAR: &str = "{\"configuration\":{\"chunk_shape\":[4,4]},\"name\":\"regular\"}";
@@ -230,7 +231,7 @@ fn must_fill<F: IntoField<ArrayBuilderFillValue>>(
         .fill_value
         .to_string(alloc)
         .expect(rt, "no refusal");
-    assert_eq!(rt; said.as_str(), text);
+    must_eq(rt, said.as_str(), text);
 }
 
 #[test]
@@ -283,9 +284,9 @@ fn fill_values_by_texts(rt: HostRuntime) {
 fn must_have_names(rt: &impl Abort, alloc: Global, builder: &ArrayBuilder, names: &[Option<&str>]) {
     let metadata = builder.build_metadata(alloc).expect(rt, "no refusal");
     let said = metadata.dimension_names.as_deref().expect(rt, "no names");
-    assert_eq!(rt; said.len(), names.len());
+    must_eq(rt, said.len(), names.len());
     for (name, wanted) in said.iter().zip(names.iter()) {
-        assert!(rt; name.as_deref() == *wanted);
+        must(rt, name.as_deref() == *wanted);
     }
 }
 

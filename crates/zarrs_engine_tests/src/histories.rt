@@ -5,6 +5,7 @@ mod draws;
 mod model;
 mod random;
 
+use crate::checks::{must, must_eq, must_for};
 use cells::{CELL_TYPES, CellType};
 use draws::{Drawn, Draws, is_all_fill};
 use model::{Answer, Faults, Model, Refusal};
@@ -179,7 +180,7 @@ fn must_answer(
 ) {
     let reply = engine.answer(draws.alloc, &drawn.call, &CodecOptions::default());
     let is_right = is_answer(rt, draws, &reply, &drawn.answer);
-    assert!(rt; is_right, "call {number}");
+    must_for(rt, number, is_right);
 }
 
 /// Makes this many random calls over the store, which refuses some of them. Returns the store.
@@ -199,7 +200,7 @@ fn must_go_on(
         must_answer(rt, &mut engine, draws, &drawn, number);
     }
     let storage = engine.into_storage();
-    assert_eq!(rt; storage.calls(), model.faults.calls);
+    must_eq(rt, storage.calls(), model.faults.calls);
     storage.into_inner()
 }
 
@@ -214,7 +215,7 @@ fn must_read_all(rt: &impl Abort, engine: &GridEngine, model: &Model<'_>, draws:
     let data = engine
         .retrieve_array_subset(draws.alloc, &region)
         .expect(rt, "no refusal");
-    assert!(rt; are_cells(rt, draws, &data, &cells));
+    must(rt, are_cells(rt, draws, &data, &cells));
 }
 
 /// The key of a chunk.
@@ -238,11 +239,14 @@ fn must_be_stored(
         .get(draws.alloc, &key_of(rt, draws.alloc, indices))
         .expect(rt, "no refusal");
     if is_all_fill(cells) {
-        assert!(rt; found.is_none());
+        must(rt, found.is_none());
         return false;
     }
     let encoded = draws.cell_type.encoded(rt, draws.alloc, cells);
-    assert!(rt; found == Some(Bytes::from_vec(encoded).expect(rt, "no refusal")));
+    must(
+        rt,
+        found == Some(Bytes::from_vec(encoded).expect(rt, "no refusal")),
+    );
     true
 }
 
@@ -258,9 +262,10 @@ fn must_store_chunks(rt: &impl Abort, storage: &MemoryStore, model: &Model<'_>, 
             count = count.saturating_add(1);
         }
     }
-    assert_eq!(rt;
+    must_eq(
+        rt,
         storage.keys(draws.alloc).expect(rt, "no refusal").len(),
-        count
+        count,
     );
 }
 

@@ -22,3 +22,5 @@ mod steps;
 mod target_reads;
 #[cfg(test)]
 mod tests;
+#[cfg(test)]
+mod uses;

@@ -1,4 +1,4 @@
-//! The tests of `zarrs_metadata`, `zarrs_keys` and `zarrs_options`, over their public calls alone.
+//! The tests of `zarrs_storage`, `zarrs_metadata`, `zarrs_keys` and `zarrs_options`, over their public calls alone.
 #![tactic(auto)]
 
 #[cfg(test)]
@@ -11,3 +11,5 @@ mod extensions;
 mod keys;
 #[cfg(test)]
 mod options;
+#[cfg(test)]
+mod stores;

@@ -1,4 +1,5 @@
 //! Scripts, what they print, and how they end.
+use crate::checks::{must, must_eq, must_for};
 use std::alloc::{AllocError, Global};
 use std::io::{self, ErrorKind, Read, Write};
 use std::process::Abort;
@@ -9,8 +10,8 @@ pub fn must_print(rt: &impl Abort, alloc: Global, script: &[u8], prints: &[u8], 
     let mut reader = script;
     let mut text = Vec::new(alloc);
     let ended = run_script(alloc, &mut reader, &mut text);
-    assert_eq!(rt; text.as_slice(), prints, "of {script:?}");
-    assert_eq!(rt; ended, status, "of {script:?}");
+    must_for(rt, script, text.as_slice() == prints);
+    must_for(rt, script, ended == status);
 }
 
 /// Each script must print its text, and end with its status.
@@ -213,8 +214,8 @@ impl Read for BrokenReader {
 /// The reader must end the script with status 3, and nothing is printed.
 fn must_not_read(rt: &impl Abort, alloc: Global, reader: &mut BrokenReader) {
     let mut text = Vec::new(alloc);
-    assert_eq!(rt; run_script(alloc, reader, &mut text), 3);
-    assert!(rt; text.is_empty());
+    must_eq(rt, run_script(alloc, reader, &mut text), 3);
+    must(rt, text.is_empty());
 }
 
 #[test]
@@ -258,9 +259,9 @@ fn must_not_write(
     alloc: Global,
 ) {
     let mut reader = script;
-    assert_eq!(rt; run_script(alloc, &mut reader, writer), 3);
-    assert!(rt; writer.text.len() <= writer.room);
-    assert!(rt; prints.starts_with(writer.text.as_slice()));
+    must_eq(rt, run_script(alloc, &mut reader, writer), 3);
+    must(rt, writer.text.len() <= writer.room);
+    must(rt, prints.starts_with(writer.text.as_slice()));
 }
 
 #[test]
@@ -297,7 +298,7 @@ impl Write for LateWriter {
 
 fn must_not_flush(rt: &impl Abort, alloc: Global, writer: &mut LateWriter) {
     let mut reader = b"array 4 2 uint8 0\n".as_slice();
-    assert_eq!(rt; run_script(alloc, &mut reader, writer), 3);
+    must_eq(rt, run_script(alloc, &mut reader, writer), 3);
 }
 
 #[test]
@@ -325,12 +326,13 @@ fn long_script(alloc: Global, pairs: u32) -> Result<Vec<u8>, AllocError> {
 fn must_end(rt: &impl Abort, alloc: Global, script: &[u8], pieces: usize, last: &[u8]) {
     let mut reader = script;
     let mut text = Vec::new(alloc);
-    assert_eq!(rt; run_script(alloc, &mut reader, &mut text), 0);
-    assert_eq!(rt;
+    must_eq(rt, run_script(alloc, &mut reader, &mut text), 0);
+    must_eq(
+        rt,
         text.as_slice().split(|byte| *byte == b'\n').count(),
-        pieces
+        pieces,
     );
-    assert!(rt; text.as_slice().ends_with(last));
+    must(rt, text.as_slice().ends_with(last));
 }
 
 #[test]

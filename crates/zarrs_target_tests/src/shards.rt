@@ -4,6 +4,7 @@ ghost use Rattle.zarrs_shard.specs.SubchunkData.{chunk_shape, subchunk_shape};
 ghost use Rattle.zarrs_shard.specs.Subchunks.{subchunk_count};
 ghost use Rattle.zarrs_subset.specs.Boxes.{position_count};
 
+use crate::checks::{must, must_eq};
 use std::alloc::Global;
 use std::process::Abort;
 use zarrs_cells::{ArrayBytes, DataType};
@@ -78,8 +79,8 @@ fn must_compact(
         expected,
     ) {
         (None, None) | (Some(None), Some(None)) => {}
-        (Some(Some(made)), Some(Some(expected))) => assert_eq!(rt; made.as_slice(), expected),
-        _ => assert!(rt; false),
+        (Some(Some(made)), Some(Some(expected))) => must_eq(rt, made.as_slice(), expected),
+        _ => must(rt, false),
     }
 }
 
@@ -103,7 +104,10 @@ fn other_bytes_are_no_shard(rt: HostRuntime) {
 }
 
 fn must_be(rt: &impl Abort, data: &ArrayBytes<'_>, expected: &[u8]) {
-    assert!(rt; matches!(data, ArrayBytes::Fixed(bytes) if bytes.as_slice() == expected));
+    must(
+        rt,
+        matches!(data, ArrayBytes::Fixed(bytes) if bytes.as_slice() == expected),
+    );
 }
 
 /// The subchunk of this number of a chunk of bytes has these cells.
@@ -239,20 +243,23 @@ fn subchunks_are_taken_out_and_put_in(rt: HostRuntime) {
 #[test]
 fn subchunks_divide_their_chunk(rt: HostRuntime) {
     let alloc = rt.alloc();
-    assert!(rt;
+    must(
+        &rt,
         Subchunks::new(alloc, &[4], &[3])
             .expect(&rt, "no refusal")
-            .is_none()
+            .is_none(),
     );
-    assert!(rt;
+    must(
+        &rt,
         Subchunks::new(alloc, &[4], &[0])
             .expect(&rt, "no refusal")
-            .is_none()
+            .is_none(),
     );
-    assert!(rt;
+    must(
+        &rt,
         Subchunks::new(alloc, &[4], &[2, 1])
             .expect(&rt, "no refusal")
-            .is_none()
+            .is_none(),
     );
 }
 

@@ -3,6 +3,7 @@
 ghost use Rattle.std.specs.Prelude.{◌≡◌};
 ghost use Rattle.zarrs_target.specs.States.{IsTarget, SameBox};
 
+use crate::checks::{must, must_eq};
 use std::alloc::Global;
 use std::borrow::CowSlice;
 use std::process::Abort;
@@ -47,11 +48,11 @@ fn must_take(
 )
     requires { IsTarget target.now }
 {
-    assert_eq!(rt; target.takes_data(data), expected);
+    must_eq(rt, target.takes_data(data), expected);
 }
 
 fn must_be(rt: &impl Abort, got: &[u8], expected: &[u8]) {
-    assert_eq!(rt; got, expected);
+    must_eq(rt, got, expected);
 }
 
 /// A parent of nine bytes 9 becomes these, once the cells stand in its box.
@@ -275,7 +276,7 @@ fn must_refuse(
         parent_shape,
         region,
     ).err();
-    assert!(rt; refused == Some(ArrayBytesFixedDisjointViewCreateError));
+    must(rt, refused == Some(ArrayBytesFixedDisjointViewCreateError));
 }
 
 #[test]
@@ -320,7 +321,7 @@ fn masks_of_other_lengths_are_refused(rt: HostRuntime) {
             &region,
         );
         let refused = made.err();
-        assert!(&rt; refused == Some(ArrayBytesFixedDisjointViewCreateError));
+        must(&rt, refused == Some(ArrayBytesFixedDisjointViewCreateError));
     }
 }
 

@@ -1,9 +1,7 @@
-//! Short uses of the crates, as a caller writes them. `README.md` and `docs/CALLING.md` quote them.
+//! Short uses of the engine, as a caller writes them. `README.md` and `docs/CALLING.md` quote them.
 #![tactic(auto)]
 
-pub mod built;
 pub mod chunks;
-pub mod documents;
 pub mod histories;
 pub mod make;
 pub mod refusals;

@@ -5,6 +5,7 @@ use super::steps::{
     ReadCase, Row, TOO_LARGE, TestEngine, UNFIT, engine_of, must_answer, must_answer_of,
     must_go_on, must_go_on_in_list,
 };
+use crate::checks::{must, must_eq};
 use crate::steps::region;
 use std::alloc::Global;
 use std::borrow::CowSlice;
@@ -175,10 +176,10 @@ fn a_region_without_dimensions_is_one_cell(rt: HostRuntime) {
 fn must_be_texts(rt: &impl Abort, data: &ArrayBytes<'_>, texts: &[u8], places: &[usize]) {
     match data {
         ArrayBytes::Variable(held) => {
-            assert_eq!(rt; held.bytes(), texts);
-            assert_eq!(rt; held.offsets().as_slice(), places);
+            must_eq(rt, held.bytes(), texts);
+            must_eq(rt, held.offsets().as_slice(), places);
         }
-        _ => assert!(rt; false, "texts"),
+        _ => rt.panic("no texts"),
     }
 }
 
@@ -194,7 +195,7 @@ fn must_be_stored(
         .storage()
         .get(alloc, &StoreKey::new(alloc, key).expect(rt, "no refusal"))
         .expect(rt, "no refusal");
-    assert!(rt; found == Some(Bytes::from_static(bytes)));
+    must(rt, found == Some(Bytes::from_static(bytes)));
 }
 
 /// Stores the texts "a" and "" above "bcd" and "ä" in the first chunk.

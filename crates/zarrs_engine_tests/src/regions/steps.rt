@@ -1,4 +1,5 @@
 //! Tests as tables: each row is a call of an engine, and the answer that it must give.
+use crate::checks::{must_eq, must_for};
 use crate::steps::{EngineOver, engine_over, region};
 use std::alloc::{AllocError, Global};
 use std::process::Abort;
@@ -238,16 +239,13 @@ fn must_be(rt: &impl Abort, alloc: Global, reply: &Reply, answer: &Answer, row: 
     match (reply, answer) {
         (Reply::Done, Answer::Done) => {}
         (Reply::Cells(ArrayBytes::Fixed(held)), Answer::Cells(rows)) => {
-            assert!(rt; are_rows(held.as_slice(), rows), "row {row}");
+            must_for(rt, row, are_rows(held.as_slice(), rows));
         }
         (Reply::Refused(error), Answer::Refused(text)) => {
-            assert_eq!(rt;
-                error.to_string(alloc).expect(rt, "no refusal").as_str(),
-                *text,
-                "row {row}"
-            );
+            let said = error.to_string(alloc).expect(rt, "no refusal");
+            must_for(rt, row, said.as_str() == *text);
         }
-        _ => assert!(rt; false, "another answer at row {row}"),
+        _ => must_for(rt, row, false),
     }
 }
 
@@ -270,7 +268,7 @@ fn list_of(rt: &impl Abort, alloc: Global, rows: &[Row]) -> Vec<Call> {
 }
 
 fn must_be_answers(rt: &impl Abort, alloc: Global, replies: &[Reply], rows: &[Row]) {
-    assert_eq!(rt; replies.len(), rows.len());
+    must_eq(rt, replies.len(), rows.len());
     for (row, (reply, (_, answer))) in replies.iter().zip(rows).enumerate() {
         must_be(rt, alloc, reply, answer, row);
     }
@@ -374,13 +372,13 @@ pub(crate) fn must_be_left(
     calls: u64,
     values: &str,
 ) {
-    assert_eq!(rt; storage.calls(), calls);
+    must_eq(rt, storage.calls(), calls);
     must_have(rt, alloc, &storage.into_inner(), values);
 }
 
 /// The store has these values.
 pub(crate) fn must_have(rt: &impl Abort, alloc: Global, store: &MemoryStore, values: &str) {
-    assert_eq!(rt; printed(rt, alloc, store).as_str(), values);
+    must_eq(rt, printed(rt, alloc, store).as_str(), values);
 }
 
 /// The keys and values of the store, as "c/0: 1 2; c/1: 3 4".

@@ -5,6 +5,7 @@ use super::steps::{
     Row, TestEngine, UNFIT, WriteCase, engine_of, must_be_left, must_go_on_in_list, must_have,
     must_leave, must_leave_of,
 };
+use crate::checks::{must, must_eq};
 use crate::steps::{EngineOver, engine_over, region};
 use std::alloc::Global;
 use std::borrow::CowSlice;
@@ -227,7 +228,7 @@ fn must_read_nested(rt: &impl Abort, alloc: Global, engine: &mut TestEngine, dat
         rt,
         "no refusal",
     );
-    assert!(rt; cells.as_slice() == [Some(None), None].as_slice());
+    must(rt, cells.as_slice() == [Some(None), None].as_slice());
 }
 
 /// The second chunk is all none, which is the fill value.
@@ -334,7 +335,7 @@ fn a_range_of_four_chunks_asks_for_no_key(rt: HostRuntime) {
     let alloc = rt.alloc();
     let mut store = MemoryStore::new(alloc);
     store_through_a_fence(&rt, alloc, &mut store);
-    assert_eq!(rt; store.calls(), 4);
+    must_eq(&rt, store.calls(), 4);
     let left = "c/0/0: 1 2 5 6; c/0/1: 3 4 7 8; c/1/0: 9 10 13 14; c/1/1: 11 12 15 16";
     must_have(&rt, alloc, &store, left);
 }

@@ -1,4 +1,5 @@
 //! Reads and stores of elements, under their older names.
+use crate::checks::must;
 use crate::made::{MemoryArray, array};
 use std::alloc::Global;
 use std::process::Abort;
@@ -23,7 +24,7 @@ fn region(rt: &impl Abort, alloc: Global, start: u64, extent: u64) -> ArraySubse
 }
 
 fn must_be(rt: &impl Abort, held: &[i16], elements: &[i16]) {
-    assert!(rt; held == elements);
+    must(rt, held == elements);
 }
 
 fn must_store(rt: &impl Abort, alloc: Global, array: &mut MemoryArray) {
@@ -61,11 +62,12 @@ fn must_store(rt: &impl Abort, alloc: Global, array: &mut MemoryArray) {
         )
         .expect(rt, "no refusal");
     must_be(rt, &all, &[4, 5, 6, 7]);
-    assert!(rt;
+    must(
+        rt,
         array
             .retrieve_chunk_elements_if_exists::<i16>(alloc, &[0])
             .expect(rt, "no refusal")
-            .is_some()
+            .is_some(),
     );
 }
 
@@ -116,7 +118,7 @@ fn must_store_by_options(rt: &impl Abort, alloc: Global, array: &mut MemoryArray
     let absent = array
         .retrieve_chunk_elements_if_exists_opt::<i16>(alloc, &[1], &options)
         .expect(rt, "no refusal");
-    assert!(rt; absent.is_none());
+    must(rt, absent.is_none());
 }
 
 #[test]

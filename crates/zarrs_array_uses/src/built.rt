@@ -19,13 +19,18 @@ fn in_unit(alloc: Global, unit: &str) -> Result<Map<String, Value>> {
     Ok(attributes)
 }
 
-/// Rainfall in millimetres over 8 by 8 places, in chunks of 4 by 4, where -1 means that nobody measured. Its metadata
-/// is in its store.
-pub fn rainfall(alloc: Global, storage: MemoryStore, path: &str) -> Result<Array<MemoryStore>> {
+/// A builder of 8 by 8 numbers in chunks of 4 by 4, where -1 means that nobody measured.
+fn measured_places(alloc: Global, attributes: Map<String, Value>) -> ArrayBuilder {
     let names = ["y", "x"];
     let mut builder = ArrayBuilder::new(alloc, [8u64, 8], [4u64, 4], DataType::Int16, -1i16);
     builder.dimension_names(alloc, Some(names.iter().copied()));
-    builder.attributes(in_unit(alloc, "mm")?);
+    builder.attributes(attributes);
+    builder
+}
+
+/// Rainfall in millimetres at these places. Its metadata is in its store.
+pub fn rainfall(alloc: Global, storage: MemoryStore, path: &str) -> Result<Array<MemoryStore>> {
+    let builder = measured_places(alloc, in_unit(alloc, "mm")?);
     let mut array = builder.build(alloc, storage, path)?;
     array.store_metadata(alloc)?;
     Ok(array)

@@ -1,4 +1,5 @@
 //! Reads of parts of one chunk, arrays compared by their chunks, and what is printed: 8 by 8 bytes in chunks of 4 by 4.
+use crate::checks::must;
 use crate::made::{MemoryArray, array};
 use std::alloc::Global;
 use std::process::Abort;
@@ -40,35 +41,41 @@ fn must_decode(rt: &impl Abort, alloc: Global, array: &MemoryArray) {
     let present = array
         .partial_decoder(alloc, &[0, 1])
         .expect(rt, "no refusal");
-    assert!(rt;
+    must(
+        rt,
         holds(
             &present
                 .partial_decode(alloc, &part, &options)
                 .expect(rt, "no refusal"),
-            &[7, 8, 11, 12]
-        )
+            &[7, 8, 11, 12],
+        ),
     );
     let absent = array
         .partial_decoder_opt(alloc, &[1, 1], &options)
         .expect(rt, "no refusal");
-    assert!(rt;
+    must(
+        rt,
         holds(
             &absent
                 .partial_decode(alloc, &part, &options)
                 .expect(rt, "no refusal"),
-            &[0; 4]
-        )
+            &[0; 4],
+        ),
     );
-    assert!(rt;
+    must(
+        rt,
         present.exists(alloc).expect(rt, "no refusal")
-            && !absent.exists(alloc).expect(rt, "no refusal")
+            && !absent.exists(alloc).expect(rt, "no refusal"),
     );
 }
 
 /// An index list without a chunk has no decoder.
 fn must_have_no_decoder(rt: &impl Abort, alloc: Global, array: &MemoryArray, indices: &[u64]) {
     let refused = array.partial_decoder(alloc, indices);
-    assert!(rt; matches!(refused, Err(ArrayError::InvalidChunkGridIndicesError(_))));
+    must(
+        rt,
+        matches!(refused, Err(ArrayError::InvalidChunkGridIndicesError(_))),
+    );
 }
 
 #[test]
@@ -90,7 +97,7 @@ fn must_read_into(rt: &impl Abort, alloc: Global, array: &MemoryArray) {
     array
         .retrieve_array_subset_into_opt(alloc, &cells, &mut target, &CodecOptions::default())
         .expect(rt, "no refusal");
-    assert!(rt; bytes == [9, 0, 1, 9]);
+    must(rt, bytes == [9, 0, 1, 9]);
 }
 
 #[test]
@@ -120,10 +127,10 @@ fn are_equal(
 }
 
 fn must_compare(rt: &impl Abort, alloc: Global, array: &MemoryArray, other: &MemoryArray) {
-    assert!(rt; are_equal(rt, alloc, array, array, &[0, 0], &[2, 2]));
-    assert!(rt; are_equal(rt, alloc, array, other, &[1, 0], &[1, 2]));
-    assert!(rt; !are_equal(rt, alloc, array, other, &[0, 0], &[2, 2]));
-    assert!(rt; !are_equal(rt, alloc, other, array, &[0, 1], &[1, 1]));
+    must(rt, are_equal(rt, alloc, array, array, &[0, 0], &[2, 2]));
+    must(rt, are_equal(rt, alloc, array, other, &[1, 0], &[1, 2]));
+    must(rt, !are_equal(rt, alloc, array, other, &[0, 0], &[2, 2]));
+    must(rt, !are_equal(rt, alloc, other, array, &[0, 1], &[1, 1]));
 }
 
 #[test]
@@ -137,8 +144,8 @@ fn arrays_are_compared_by_their_chunks(rt: HostRuntime) {
 /// What is printed has no store.
 fn must_be_printed(rt: &impl Abort, alloc: Global, array: &MemoryArray) {
     let text = format!(in alloc; "{array:?}").expect(rt, "no refusal");
-    assert!(rt; text.as_str().starts_with("Array"));
-    assert!(rt; !text.as_str().contains("MemoryStore"));
+    must(rt, text.as_str().starts_with("Array"));
+    must(rt, !text.as_str().contains("MemoryStore"));
 }
 
 #[test]
@@ -154,6 +161,9 @@ fn options_of_the_metadata_of_codecs(rt: HostRuntime) {
     );
     let _ = options.set_codec_metadata_options(CodecMetadataOptions);
     *options.codec_metadata_options_mut() = CodecMetadataOptions;
-    assert!(rt; *options.codec_metadata_options() == CodecMetadataOptions);
-    assert!(rt; options == ArrayMetadataOptions::default());
+    must(
+        &rt,
+        *options.codec_metadata_options() == CodecMetadataOptions,
+    );
+    must(&rt, options == ArrayMetadataOptions::default());
 }

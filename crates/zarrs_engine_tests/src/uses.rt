@@ -1,16 +1,13 @@
-//! Each use, run.
+//! The uses of the engine, run.
+use crate::checks::{must, must_eq};
 use std::alloc::Global;
 use std::num::NonZeroU64;
 use std::process::Abort;
-use zarrs::Array;
 use zarrs_chunk_grid::ChunkShape;
 use zarrs_data_type::ArrayBytes;
 use zarrs_engine::{ArrayError, Call};
-use zarrs_storage::{Bytes, MemoryStore, StoreKey, WritableStorageTraits};
 use zarrs_subset::ArraySubset;
-use zarrs_uses::built::{measure, rainfall, unit_of};
 use zarrs_uses::chunks::{erase, is_present, store_and_read};
-use zarrs_uses::documents::{create_array, read_region_at, v3_text};
 use zarrs_uses::histories::{count_refused, have_equal_bytes};
 use zarrs_uses::make::{MemoryEngine, bytes_array};
 use zarrs_uses::refusals::advice;
@@ -30,13 +27,17 @@ fn small_array(rt: &impl Abort, alloc: Global) -> MemoryEngine {
 }
 
 fn must_hold(rt: &impl Abort, data: &ArrayBytes<'_>, cells: &[u8]) {
-    assert!(rt; matches!(data, ArrayBytes::Fixed(held) if held.as_slice() == cells));
+    must(
+        rt,
+        matches!(data, ArrayBytes::Fixed(held) if held.as_slice() == cells),
+    );
 }
 
 fn must_be_present(rt: &impl Abort, alloc: Global, engine: &MemoryEngine, is: bool) {
-    assert_eq!(rt;
+    must_eq(
+        rt,
         is_present(alloc, engine, &[1, 0]).expect(rt, "no refusal"),
-        is
+        is,
     );
 }
 
@@ -57,9 +58,10 @@ fn a_chunk_is_stored_read_and_erased(rt: HostRuntime) {
 }
 
 fn must_sum(rt: &impl Abort, alloc: Global, engine: &MemoryEngine, sum: Option<u64>, end: u64) {
-    assert_eq!(rt;
+    must_eq(
+        rt,
         sum_of_chunks(alloc, engine, &[0..2, 1..end]).expect(rt, "no refusal"),
-        sum
+        sum,
     );
 }
 
@@ -133,7 +135,7 @@ fn a_region_is_stored_across_chunks(rt: HostRuntime) {
 }
 
 fn must_advise<T>(rt: &impl Abort, got: &Result<T, ArrayError>, text: &str) {
-    assert!(rt; matches!(got, Err(error) if advice(error) == text));
+    must(rt, matches!(got, Err(error) if advice(error) == text));
 }
 
 fn must_refuse_chunks(rt: &impl Abort, alloc: Global, engine: &mut MemoryEngine) {
@@ -185,9 +187,10 @@ fn must_refuse(
     calls: &[Call],
     refused: usize,
 ) {
-    assert_eq!(rt;
+    must_eq(
+        rt,
         count_refused(alloc, engine, calls).expect(rt, "no refusal"),
-        refused
+        refused,
     );
 }
 
@@ -206,7 +209,7 @@ fn must_be_equal(
     equal: bool,
 ) {
     let found = have_equal_bytes(alloc, first.storage(), second.storage()).expect(rt, "no refusal");
-    assert_eq!(rt; found, equal);
+    must_eq(rt, found, equal);
 }
 
 fn must_leave_equal_bytes(
@@ -248,115 +251,4 @@ fn refused_calls_are_counted(rt: HostRuntime) {
     .expect(&rt, "no refusal");
     let mut engine = small_array(&rt, alloc);
     must_refuse(&rt, alloc, &mut engine, &calls, 2)
-}
-
-/// The document of an array of 4 by 4 bytes in chunks of 2 by 2, whose cells are 7 where none was written.
-const DOCUMENT: &[u8] = br#"{
-    "zarr_format": 3,
-    "node_type": "array",
-    "shape": [4, 4],
-    "data_type": "uint8",
-    "chunk_grid": {"name": "regular", "configuration": {"chunk_shape": [2, 2]}},
-    "chunk_key_encoding": {"name": "default", "configuration": {"separator": "/"}},
-    "fill_value": 7,
-    "codecs": ["bytes"]
-}"#;
-
-fn must_be(rt: &impl Abort, numbers: &[u8], wanted: &[u8]) {
-    assert!(rt; numbers == wanted);
-}
-
-#[test]
-fn an_array_is_created_and_opened_again(rt: HostRuntime) {
-    let alloc = rt.alloc();
-    let array = create_array(alloc, MemoryStore::new(alloc), "/climate/rain", DOCUMENT).expect(
-        &rt,
-        "no refusal",
-    );
-    let row = region(&rt, alloc, &[1, 0], &[1, 4]);
-    let numbers = read_region_at(alloc, array.into_storage(), "/climate/rain", &row).expect(
-        &rt,
-        "no refusal",
-    );
-    must_be(&rt, &numbers, &[7, 7, 7, 7]);
-}
-
-/// The V2 document of an array of 6 texts, as zarr-python writes it, and the V3 document that it becomes.
-const V2_DOCUMENT: &[u8] = br#"{
-    "shape": [6],
-    "chunks": [2],
-    "dtype": "|O",
-    "fill_value": "",
-    "order": "C",
-    "filters": [{"id": "vlen-utf8"}],
-    "dimension_separator": "/",
-    "compressor": null,
-    "zarr_format": 2
-}"#;
-
-const CONVERTED: &str = concat!(
-    "{\"attributes\":{\"_zarrs\":{\"description\":\"This array was created with zarrs\",",
-    "\"repository\":\"https://github.com/zarrs/zarrs\",\"version\":\"0.23.13\"}},",
-    "\"chunk_grid\":{\"configuration\":{\"chunk_shape\":[2]},\"name\":\"regular\"},",
-    "\"chunk_key_encoding\":{\"configuration\":{\"separator\":\"/\"},\"name\":\"v2\"},",
-    "\"codecs\":[\"vlen-utf8\"],\"data_type\":\"string\",\"fill_value\":\"\",",
-    "\"node_type\":\"array\",\"shape\":[6],\"zarr_format\":3}"
-);
-
-#[test]
-fn a_v2_array_is_shown_in_v3(rt: HostRuntime) {
-    let alloc = rt.alloc();
-    let mut storage = MemoryStore::new(alloc);
-    let key = StoreKey::new(alloc, "names/.zarray").expect(&rt, "no refusal");
-    storage
-        .set(alloc, &key, Bytes::from_static(V2_DOCUMENT))
-        .expect(&rt, "no refusal");
-    assert_eq!(rt;
-        v3_text(alloc, storage, "/names")
-            .expect(&rt, "no refusal")
-            .as_str(),
-        CONVERTED
-    );
-}
-
-/// What is known of the first two rows of places after four of them were measured.
-const MEASURED: &[i16] = &[
-    -1, -1, -1, -1, -1, -1, -1, -1, //
-    -1, -1, -1, 12, 0, 7, 31, -1,
-];
-
-fn must_be_measured(rt: &impl Abort, millimetres: &[i16]) {
-    assert_eq!(rt; millimetres.len(), 64);
-    assert!(rt;
-        millimetres
-            .iter()
-            .zip(MEASURED)
-            .all(|(read, wanted)| read == wanted)
-    );
-}
-
-/// The array has the names and the unit that it was built with.
-fn must_be_rainfall(rt: &impl Abort, array: &Array<MemoryStore>) {
-    assert!(rt; unit_of(array) == Some("mm"));
-    let names = array.dimension_names().unwrap_or(&[]);
-    assert_eq!(rt; names.len(), 2);
-    for (name, wanted) in names.iter().zip(["y", "x"]) {
-        assert!(rt; name.as_ref().is_some_and(|name| name.as_str() == wanted));
-    }
-}
-
-#[test]
-fn an_array_is_built_and_measured(rt: HostRuntime) {
-    let alloc = rt.alloc();
-    let mut array = rainfall(alloc, MemoryStore::new(alloc), "/climate/rain").expect(
-        &rt,
-        "no refusal",
-    );
-    must_be_rainfall(&rt, &array);
-    let places = region(&rt, alloc, &[1, 3], &[1, 4]);
-    let millimetres = measure(alloc, &mut array, &places, &[12, 0, 7, 31]).expect(
-        &rt,
-        "no refusal",
-    );
-    must_be_measured(&rt, &millimetres);
 }

@@ -1,4 +1,5 @@
 //! The calls of an array, each at concrete types with ample memory: 4 by 4 bytes in chunks of 2 by 2.
+use crate::checks::{must, must_eq};
 use crate::made::{MemoryArray, array};
 use std::alloc::Global;
 use std::process::Abort;
@@ -16,7 +17,7 @@ fn region(rt: &impl Abort, alloc: Global, start: &[u64], shape: &[u64]) -> Array
 }
 
 fn must_be(rt: &impl Abort, held: &[u8], bytes: &[u8]) {
-    assert!(rt; held == bytes);
+    must(rt, held == bytes);
 }
 
 fn must_hold(rt: &impl Abort, alloc: Global, array: &MemoryArray, cells: &[u8]) {
@@ -87,9 +88,10 @@ fn write_with_options(rt: &impl Abort, alloc: Global, array: &mut MemoryArray) {
 }
 
 fn must_have_keys(rt: &impl Abort, alloc: Global, array: &MemoryArray, count: usize) {
-    assert_eq!(rt;
+    must_eq(
+        rt,
         array.storage().keys(alloc).expect(rt, "no refusal").len(),
-        count
+        count,
     );
 }
 
@@ -112,12 +114,13 @@ fn must_have_key(rt: &impl Abort, alloc: Global, array: &MemoryArray, indices: &
     if indices.len() != array.dimensionality() {
         return rt.panic("another number of dimensions");
     }
-    assert_eq!(rt;
+    must_eq(
+        rt,
         array
             .chunk_key(alloc, indices)
             .expect(rt, "no refusal")
             .as_str(),
-        key
+        key,
     );
 }
 
@@ -134,7 +137,7 @@ fn must_be_stored(
     let stored = array
         .retrieve_encoded_chunk(alloc, indices)
         .expect(rt, "no refusal");
-    assert!(rt; stored.expect(rt, "an absent chunk").as_slice() == bytes);
+    must(rt, stored.expect(rt, "an absent chunk").as_slice() == bytes);
 }
 
 fn must_store_so_many(
@@ -147,12 +150,13 @@ fn must_store_so_many(
     if chunks.dimensionality() != array.dimensionality() {
         return rt.panic("another number of dimensions");
     }
-    assert_eq!(rt;
+    must_eq(
+        rt,
         array
             .retrieve_encoded_chunks(alloc, chunks)
             .expect(rt, "no refusal")
             .len(),
-        count
+        count,
     );
 }
 
@@ -205,8 +209,11 @@ fn must_read_into(rt: &impl Abort, alloc: Global, array: &MemoryArray) {
         .expect(rt, "no refusal");
     let column = region(rt, alloc, &[1, 2], &[2, 1]);
     let refused = array.retrieve_array_subset_into(alloc, &column, &mut target);
-    assert!(rt; matches!(refused, Err(zarrs::ArrayError::InvalidDataShape(_, _))));
-    assert!(rt; lent == [8, 8, 8, 8, 9, 6, 8, 8, 8]);
+    must(
+        rt,
+        matches!(refused, Err(zarrs::ArrayError::InvalidDataShape(_, _))),
+    );
+    must(rt, lent == [8, 8, 8, 8, 9, 6, 8, 8, 8]);
 }
 
 fn must_read_back(rt: &impl Abort, alloc: Global, array: &mut MemoryArray) {
@@ -233,7 +240,10 @@ fn must_replay(rt: &impl Abort, alloc: Global, array: &mut MemoryArray) {
     let replies = array
         .replay(alloc, &calls, &CodecOptions::default())
         .expect(rt, "no refusal");
-    assert!(rt; matches!(replies.as_slice(), [Reply::Done, Reply::Refused(_)]));
+    must(
+        rt,
+        matches!(replies.as_slice(), [Reply::Done, Reply::Refused(_)]),
+    );
     must_have_keys(rt, alloc, array, 1);
 }
 
@@ -246,73 +256,81 @@ fn a_list_of_calls_has_a_reply_each(rt: HostRuntime) {
 
 fn must_lie(rt: &impl Abort, alloc: Global, array: &MemoryArray) {
     must_have_key(rt, alloc, array, &[1, 0], "c/1/0");
-    assert_eq!(rt;
+    must_eq(
+        rt,
         array
             .chunk_origin(alloc, &[1, 0])
             .expect(rt, "no refusal")
             .as_slice(),
-        [2, 0].as_slice()
+        [2, 0].as_slice(),
     );
-    assert_eq!(rt;
+    must_eq(
+        rt,
         array
             .chunk_shape_usize(alloc, &[1, 0])
             .expect(rt, "no refusal")
             .as_slice(),
-        [2, 2].as_slice()
+        [2, 2].as_slice(),
     );
-    assert_eq!(rt;
+    must_eq(
+        rt,
         array
             .chunk_shape(alloc, &[1, 0])
             .expect(rt, "no refusal")
             .len(),
-        2
+        2,
     );
     let past = array.chunk_subset(alloc, &[1, 2]).expect(rt, "no refusal");
-    assert_eq!(rt; past.start(), [2, 4].as_slice());
+    must_eq(rt, past.start(), [2, 4].as_slice());
     let cut = array
         .chunk_subset_bounded(alloc, &[1, 2])
         .expect(rt, "no refusal");
-    assert_eq!(rt; cut.shape(), [2, 0].as_slice());
+    must_eq(rt, cut.shape(), [2, 0].as_slice());
 }
 
 /// The boxes of ranges of chunks, and the refusals of a range.
 fn must_fill(rt: &impl Abort, alloc: Global, array: &MemoryArray) {
     let right = region(rt, alloc, &[0, 1], &[2, 2]);
-    assert_eq!(rt;
+    must_eq(
+        rt,
         array
             .chunks_subset(alloc, &right)
             .expect(rt, "no refusal")
             .shape(),
-        [4, 4].as_slice()
+        [4, 4].as_slice(),
     );
-    assert_eq!(rt;
+    must_eq(
+        rt,
         array
             .chunks_subset_bounded(alloc, &right)
             .expect(rt, "no refusal")
             .shape(),
-        [4, 2].as_slice()
+        [4, 2].as_slice(),
     );
     let empty = region(rt, alloc, &[9], &[0]);
-    assert_eq!(rt;
+    must_eq(
+        rt,
         array
             .chunks_subset(alloc, &empty)
             .expect(rt, "no refusal")
             .start(),
-        [0].as_slice()
+        [0].as_slice(),
     );
     let cut = array.chunks_subset_bounded(alloc, &empty);
-    assert!(rt;
+    must(
+        rt,
         matches!(
             cut,
             Err(zarrs::ArrayError::IncompatibleDimensionalityError(_))
-        )
+        ),
     );
     let line = array.chunks_subset(alloc, &region(rt, alloc, &[1], &[1]));
-    assert!(rt;
+    must(
+        rt,
         matches!(
             line,
             Err(zarrs::ArrayError::InvalidChunkGridIndicesError(_))
-        )
+        ),
     );
 }
 
@@ -320,20 +338,22 @@ fn must_meet(rt: &impl Abort, alloc: Global, array: &MemoryArray) {
     let met = array
         .chunks_in_array_subset(alloc, &region(rt, alloc, &[1, 1], &[1, 2]))
         .expect(rt, "no refusal");
-    assert_eq!(rt; met.expect(rt, "no chunks").shape(), [1, 2].as_slice());
+    must_eq(rt, met.expect(rt, "no chunks").shape(), [1, 2].as_slice());
     let line = array.chunks_in_array_subset(alloc, &region(rt, alloc, &[1], &[1]));
-    assert!(rt;
+    must(
+        rt,
         matches!(
             line,
             Err(zarrs::ArrayError::IncompatibleDimensionalityError(_))
-        )
+        ),
     );
     let none = array.chunk_subset(alloc, &[1]);
-    assert!(rt;
+    must(
+        rt,
         matches!(
             none,
             Err(zarrs::ArrayError::InvalidChunkGridIndicesError(_))
-        )
+        ),
     );
 }
 

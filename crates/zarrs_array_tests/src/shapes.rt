@@ -1,4 +1,5 @@
 //! Setters of the shape and the chunk grid.
+use crate::checks::{must, must_eq};
 use crate::made::{MemoryArray, array};
 use std::alloc::Global;
 use std::process::Abort;
@@ -33,16 +34,19 @@ fn v2_array(rt: &impl Abort, alloc: Global) -> MemoryArray {
 
 /// The array has this shape, also in its metadata, and so many chunks along each dimension.
 fn must_be(rt: &impl Abort, array: &MemoryArray, shape: &[u64], counts: &[u64]) {
-    assert!(rt; array.shape() == shape);
-    assert!(rt; array.chunk_grid_shape() == counts);
+    must(rt, array.shape() == shape);
+    must(rt, array.chunk_grid_shape() == counts);
 }
 
 fn must_be_no_grid<T: Drop>(rt: &impl Abort, refused: Result<T, ArrayCreateError>) {
-    assert!(rt; matches!(refused, Err(ArrayCreateError::ChunkGridCreateError(_))));
+    must(
+        rt,
+        matches!(refused, Err(ArrayCreateError::ChunkGridCreateError(_))),
+    );
 }
 
 fn must_have_stored_nothing(rt: &impl Abort, array: &MemoryArray) {
-    assert_eq!(rt; array.storage().calls(), 0);
+    must_eq(rt, array.storage().calls(), 0);
 }
 
 fn must_grow(rt: &impl Abort, alloc: Global, array: &mut MemoryArray) {
@@ -73,11 +77,12 @@ fn a_v2_array_has_another_shape(rt: HostRuntime) {
 }
 
 fn must_have_other_dimensions<T: Drop>(rt: &impl Abort, set: Result<T, ArrayCreateError>) {
-    assert!(rt;
+    must(
+        rt,
         matches!(
             set,
             Err(ArrayCreateError::InvalidChunkGridDimensionality(1, 2))
-        )
+        ),
     );
 }
 
@@ -105,26 +110,28 @@ fn must_have_chunk(
     origin: &[u64],
     shape: &[usize],
 ) {
-    assert!(rt;
+    must(
+        rt,
         array
             .chunk_shape_usize(alloc, indices)
             .expect(rt, "no refusal")
             .as_slice()
-            == shape
+            == shape,
     );
-    assert!(rt;
+    must(
+        rt,
         array
             .chunk_origin(alloc, indices)
             .expect(rt, "no refusal")
             .as_slice()
-            == origin
+            == origin,
     );
 }
 
 fn must_have_grid_named(rt: &impl Abort, array: &MemoryArray, name: &str) {
     match array.metadata() {
-        ArrayMetadata::V3(document) => assert_eq!(rt; document.chunk_grid.name(), name),
-        ArrayMetadata::V2(_) => assert_eq!(rt; "regular", name),
+        ArrayMetadata::V3(document) => must_eq(rt, document.chunk_grid.name(), name),
+        ArrayMetadata::V2(_) => must_eq(rt, "regular", name),
     }
 }
 

@@ -1,4 +1,5 @@
 //! Reads that return lists of values, and stores that take them.
+use crate::checks::{must, must_eq};
 use crate::made::{MemoryArray, array};
 use std::alloc::Global;
 use std::process::Abort;
@@ -35,11 +36,12 @@ fn region(rt: &impl Abort, alloc: Global, start: &[u64], shape: &[u64]) -> Array
 }
 
 fn must_be_an_element_error<T: Drop>(rt: &impl Abort, read: Result<T, ArrayError>) {
-    assert!(rt;
+    must(
+        rt,
         matches!(
             read,
             Err(ArrayError::ElementError(ElementError::IncompatibleElementType))
-        )
+        ),
     );
 }
 
@@ -61,7 +63,7 @@ fn must_store_lists(rt: &impl Abort, alloc: Global, array: &mut MemoryArray) {
     let held: Vec<i16> = array
         .retrieve_array_subset(alloc, &array.subset_all(alloc).expect(rt, "no refusal"))
         .expect(rt, "no refusal");
-    assert!(rt; held.as_slice() == [1, 7, -3, -1].as_slice());
+    must(rt, held.as_slice() == [1, 7, -3, -1].as_slice());
 }
 
 #[test]
@@ -81,7 +83,7 @@ fn must_refuse_other_lists(rt: &impl Abort, alloc: Global, array: &mut MemoryArr
     let absent: Option<Vec<u16>> = array
         .retrieve_chunk_if_exists(alloc, &[1])
         .expect(rt, "no refusal");
-    assert!(rt; absent.is_none());
+    must(rt, absent.is_none());
     let all = array.subset_all(alloc).expect(rt, "no refusal");
     must_be_an_element_error(rt, array.retrieve_array_subset::<Vec<bool>, _>(alloc, &all));
     must_be_an_element_error(
@@ -93,7 +95,10 @@ fn must_refuse_other_lists(rt: &impl Abort, alloc: Global, array: &mut MemoryArr
         array.retrieve_chunk_subset::<Vec<u8>, _>(alloc, &[0], &region(rt, alloc, &[1], &[1])),
     );
     let far = array.retrieve_chunk::<Vec<u16>>(alloc, &[0, 0]);
-    assert!(rt; matches!(far, Err(ArrayError::InvalidChunkGridIndicesError(_))));
+    must(
+        rt,
+        matches!(far, Err(ArrayError::InvalidChunkGridIndicesError(_))),
+    );
 }
 
 #[test]
@@ -113,16 +118,25 @@ fn must_refuse_in_order(rt: &impl Abort, alloc: Global, array: &mut MemoryArray)
     must_be_an_element_error(rt, array.store_chunks(alloc, &one, &[1u8; 3]));
     let past = region(rt, alloc, &[1], &[2]);
     let part = array.store_chunk_subset(alloc, &[0], &past, &[1u8; 2]);
-    assert!(rt; matches!(part, Err(ArrayError::InvalidChunkSubset(_, _, _))));
+    must(
+        rt,
+        matches!(part, Err(ArrayError::InvalidChunkSubset(_, _, _))),
+    );
     let index = array.store_chunk_subset(alloc, &[0, 0], &one, &[1u8]);
-    assert!(rt; matches!(index, Err(ArrayError::IncompatibleDimensionalityError(_))));
+    must(
+        rt,
+        matches!(index, Err(ArrayError::IncompatibleDimensionalityError(_))),
+    );
     let square = region(rt, alloc, &[0, 0], &[1, 1]);
     let other = array.store_array_subset(alloc, &square, &[1u8]);
-    assert!(rt; matches!(other, Err(ArrayError::InvalidArraySubset(_, _))));
+    must(
+        rt,
+        matches!(other, Err(ArrayError::InvalidArraySubset(_, _))),
+    );
     let many = region(rt, alloc, &[0, 0], &[u64::MAX, 2]);
     let number = array.store_chunks(alloc, &many, &[1u8]);
-    assert!(rt; matches!(number, Err(ArrayError::SizeOverflow)));
-    assert_eq!(rt; array.storage().calls(), 0);
+    must(rt, matches!(number, Err(ArrayError::SizeOverflow)));
+    must_eq(rt, array.storage().calls(), 0);
 }
 
 #[test]
@@ -141,25 +155,28 @@ fn must_store_texts(rt: &impl Abort, alloc: Global, array: &mut MemoryArray) {
     let held: Vec<String> = array
         .retrieve_chunk_opt(alloc, &[0], &options)
         .expect(rt, "no refusal");
-    assert!(rt; held.len() == 2 && held[0].as_str() == "ab" && held[1].is_empty());
+    must(
+        rt,
+        held.len() == 2 && held[0].as_str() == "ab" && held[1].is_empty(),
+    );
     let all = array.subset_all(alloc).expect(rt, "no refusal");
     let same: Vec<String> = array
         .retrieve_array_subset_opt(alloc, &all, &options)
         .expect(rt, "no refusal");
-    assert_eq!(rt; same.len(), 2);
+    must_eq(rt, same.len(), 2);
     let part: Vec<String> = array
         .retrieve_chunk_subset_opt(alloc, &[0], &all, &options)
         .expect(rt, "no refusal");
-    assert_eq!(rt; part.len(), 2);
+    must_eq(rt, part.len(), 2);
     let chunks = region(rt, alloc, &[0], &[1]);
     let range: Vec<String> = array
         .retrieve_chunks_opt(alloc, &chunks, &options)
         .expect(rt, "no refusal");
-    assert_eq!(rt; range.len(), 2);
+    must_eq(rt, range.len(), 2);
     let found: Option<Vec<String>> = array
         .retrieve_chunk_if_exists_opt(alloc, &[0], &options)
         .expect(rt, "no refusal");
-    assert!(rt; found.is_some());
+    must(rt, found.is_some());
 }
 
 #[test]

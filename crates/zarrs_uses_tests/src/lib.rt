@@ -1,5 +1,0 @@
-//! Tests of the uses: each of them, run.
-#![tactic(auto)]
-
-#[cfg(test)]
-mod tests;
