@@ -1,12 +1,11 @@
 //! The program `zarrs_bench`: with the argument `run` it measures the crates against plain loops over slices.
 #![tactic(auto)]
 
-mod chunks;
-mod regions;
 mod scripts;
 
 use anyhow::Result;
 use std::env;
+use zarrs_bench_engine::{chunks, regions};
 use zarrs_bench_rows::{codecs, conversions, copies, fills, measure, parts, walks};
 
 fn main(rt: HostRuntime) -> Result<()> {
