@@ -37,7 +37,7 @@ pub(crate) struct Parts {
     others: Map<String, Value>,
 }
 
-/// The members of a document, each read: `None` for a member that is missing or of another
+/// The members of a document, each read: `None` for a member that is absent or of another
 /// shape.
 #[derive(Drop)]
 pub(crate) struct Draft {

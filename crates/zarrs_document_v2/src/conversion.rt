@@ -30,7 +30,8 @@ use zarrs_metadata::{EndianV2, FillValueMetadata, KindV2, MetadataV3, TypeV2, nu
 ///
 /// # Errors
 /// In this order: `UnsupportedDataType`, `InvalidFillValueMetadata`, and `UnsupportedZarrV2Array`
-/// for a compressor, and for filters that are not those of the data type.
+/// for a compressor, and for filters that are not those of the data type. `OutOfMemory` may come at
+/// any time.
 pub fn array_metadata_v2_to_v3(
     alloc: Global,
     metadata: &ArrayMetadataV2,

@@ -76,7 +76,7 @@ impl ArrayMetadataV2 {
     /// Returns a copy.
     ///
     /// # Errors
-    /// If memory runs out.
+    /// `AllocError`: out of memory.
     pub fn try_clone(&self, alloc: Global) -> Result<ArrayMetadataV2, AllocError>
         ensures { IfOk result (λ copy. document_v2_view copy ≡ document_v2_view self.now) }
     {
@@ -131,7 +131,7 @@ impl ArrayMetadataV2 {
     ///
     /// # Errors
     /// `InvalidShape` for any other value, and for one that holds a number that is not an integer
-    /// of 64 bits.
+    /// of 64 bits. `OutOfMemory` may come at any time.
     pub fn from_value(alloc: Global, value: Value) -> Result<ArrayMetadataV2, MetadataError>
         ensures read { IfOk result (λ m. plain_document_v2_of (view value)
             ≡ Some (document_v2_view m)) }
@@ -150,7 +150,7 @@ impl ArrayMetadataV2 {
     /// Returns the JSON value of this document. Empty attributes are not written.
     ///
     /// # Errors
-    /// If memory runs out.
+    /// `AllocError`: out of memory.
     pub fn to_value(&self, alloc: Global) -> Result<Value, AllocError>
         ensures written { IfOk result (λ v. view v ≡ data_of_v2 (document_v2_view self.now)) }
         ensures reads_back { IfOk result (λ v. document_v2_of (view v)
@@ -163,7 +163,7 @@ impl ArrayMetadataV2 {
     /// without a number that is not an integer of 64 bits, and a document.
     ///
     /// # Errors
-    /// `InvalidShape` for any other bytes.
+    /// `InvalidShape` for any other bytes. `OutOfMemory` may come at any time.
     pub fn from_slice(alloc: Global, bytes: &[u8]) -> Result<ArrayMetadataV2, MetadataError>
         ensures read { IfOk result (λ m. document_v2_said bytes.now ≡ Some (document_v2_view m)) }
         ensures refused { IfErr result (RefusesReading (document_v2_said bytes.now)) }
@@ -176,7 +176,7 @@ impl ArrayMetadataV2 {
     /// indented.
     ///
     /// # Errors
-    /// If memory runs out.
+    /// `AllocError`: out of memory.
     pub fn to_vec_pretty(&self, alloc: Global) -> Result<Vec<u8>, AllocError>
         ensures { IfOk result (λ bytes.
             IsDocumentV2Text (without_attributes (document_v2_view self.now)) bytes.items) }
@@ -189,7 +189,7 @@ impl ArrayMetadataV2 {
     /// Returns the bytes that are stored as `.zattrs`: the attributes, indented.
     ///
     /// # Errors
-    /// If memory runs out.
+    /// `AllocError`: out of memory.
     pub fn attributes_to_vec_pretty(&self, alloc: Global) -> Result<Vec<u8>, AllocError>
         ensures { IfOk result (λ bytes.
             IsAttributesText (members_view self.now.attributes.entries) bytes.items) }

@@ -23,7 +23,7 @@ pub enum ArrayMetadataV2ToV3Error {
     /// The compressor or the filters have no V3 codec.
     #[error("unsupported Zarr V2 array: {0}")]
     UnsupportedZarrV2Array(String),
-    /// Memory ran out.
+    /// Out of memory.
     #[error("out of memory")]
     OutOfMemory,
 }

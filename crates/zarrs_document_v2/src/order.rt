@@ -28,6 +28,9 @@ impl ArrayMetadataV2Order {
     }
 
     /// Returns the JSON value of the order.
+    ///
+    /// # Errors
+    /// `AllocError`: out of memory.
     pub fn to_value(self, alloc: Global) -> Result<Value, AllocError>
         ensures { IfOk result (λ value. view value ≡ order_data self) }
     {

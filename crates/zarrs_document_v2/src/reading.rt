@@ -35,7 +35,7 @@ pub(crate) struct Parts {
     attributes: Option<Value>,
 }
 
-/// The members of a document, each read: `None` for a member that is missing or of another
+/// The members of a document, each read: `None` for a member that is absent or of another
 /// shape.
 #[derive(Drop)]
 pub(crate) struct Draft {

@@ -37,7 +37,7 @@ fn plain_members(value: Value) -> Option<Map<String, Value>>
 ///
 /// # Errors
 /// `InvalidShape` for bytes that are not a JSON object, for one that nests deeper than 127, and for
-/// one with a number that is not an integer of 64 bits.
+/// one with a number that is not an integer of 64 bits. `OutOfMemory` may come at any time.
 pub fn attributes_from_slice(
     alloc: Global,
     bytes: &[u8],

@@ -43,7 +43,7 @@ impl ArrayMetadata {
     ///
     /// # Errors
     /// `InvalidShape` for any other value, and for one that holds a number that is not an integer
-    /// of 64 bits.
+    /// of 64 bits. `OutOfMemory` may come at any time.
     pub fn from_value(alloc: Global, value: Value) -> Result<ArrayMetadata, MetadataError>
         ensures read { IfOk result (λ m. metadata_of (view value) ≡ Some (metadata_view m)) }
         ensures refused { IfErr result (RefusesReading (metadata_of (view value))) }
@@ -64,7 +64,7 @@ impl ArrayMetadata {
     /// Returns the JSON value of the metadata, as `to_value` of its version gives it.
     ///
     /// # Errors
-    /// If memory runs out.
+    /// `AllocError`: out of memory.
     pub fn to_value(&self, alloc: Global) -> Result<Value, AllocError>
         ensures { IfOk result (λ v. view v ≡ data_of_metadata (metadata_view self.now)) }
     {

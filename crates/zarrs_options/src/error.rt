@@ -48,16 +48,16 @@ impl AdditionalFieldUnsupportedError {
 /// Why no array is created.
 #[derive(Debug, Drop, Error)]
 pub enum ArrayCreateError {
-    /// The path is no path of a node.
+    /// E11: the path is no path of a node.
     #[error(transparent)]
     NodePathError(NodePathError),
-    /// An additional field must be understood.
+    /// E12: an additional field must be understood.
     #[error(transparent)]
     AdditionalFieldUnsupportedError(AdditionalFieldUnsupportedError),
-    /// The metadata names no data type.
+    /// E13: the metadata names no data type.
     #[error(transparent)]
     DataTypeCreateError(PluginCreateError),
-    /// The fill value is no value of the data type.
+    /// E14: the fill value is no value of the data type.
     #[error("invalid fill value for data type `{data_type_name}`: {:?}", .fill_value.as_bytes())]
     InvalidFillValue {
         /// The data type.
@@ -65,7 +65,7 @@ pub enum ArrayCreateError {
         /// The fill value.
         fill_value: FillValue,
     },
-    /// The metadata has no fill value of the data type.
+    /// E15: the metadata has no fill value of the data type.
     #[error("invalid fill value metadata for data type `{data_type_name}`: {fill_value_metadata}")]
     InvalidFillValueMetadata {
         /// The data type.
@@ -73,37 +73,37 @@ pub enum ArrayCreateError {
         /// What was to be its fill value.
         fill_value_metadata: FillValueMetadata,
     },
-    /// The metadata names no chain of codecs.
+    /// E16: the metadata names no chain of codecs.
     #[error(transparent)]
     CodecsCreateError(PluginCreateError),
-    /// The metadata has storage transformers.
+    /// E17: the metadata has storage transformers.
     #[error(transparent)]
     StorageTransformersCreateError(PluginCreateError),
-    /// The metadata names no chunk grid of the shape.
+    /// E18: the metadata names no chunk grid of the shape.
     #[error(transparent)]
     ChunkGridCreateError(PluginCreateError),
-    /// The metadata names no chunk key encoding.
+    /// E19: the metadata names no chunk key encoding.
     #[error(transparent)]
     ChunkKeyEncodingCreateError(PluginCreateError),
-    /// The grid has another number of dimensions than the array.
+    /// E20: the grid has another number of dimensions than the array.
     #[error("chunk grid dimensionality {0} does not match array dimensionality {1}")]
     InvalidChunkGridDimensionality(usize, usize),
-    /// There are more or fewer names than dimensions.
+    /// E21: there are more or fewer names than dimensions.
     #[error("the number of dimension names {0} does not match array dimensionality {1}")]
     InvalidDimensionNames(usize, usize),
-    /// A subchunk has an extent 0.
+    /// E22: a subchunk has an extent 0. No call returns it.
     #[error("invalid subchunk shape {0:?}: all elements must be non-zero")]
     InvalidSubchunkShape(Vec<u64>),
-    /// The store refused a call, or its metadata reads as none.
+    /// E23: the store refused a call, or its metadata reads as none.
     #[error(transparent)]
     StorageError(StorageError),
-    /// The path has no metadata.
+    /// E24: the path has no metadata.
     #[error("array metadata is missing")]
     MissingMetadata,
-    /// The V2 metadata has a compressor, or filters that are not those of its data type.
+    /// E25: the V2 metadata has a compressor, or filters that are not those of its data type.
     #[error("unsupported Zarr V2 array: {0}")]
     UnsupportedZarrV2Array(String),
-    /// Memory ran out.
+    /// E26: out of memory.
     #[error("out of memory")]
     OutOfMemory,
 }

@@ -8,7 +8,7 @@ use std::num::NonZeroU64;
 /// Returns the extents of a chunk as the shape of an array.
 ///
 /// # Errors
-/// If memory runs out.
+/// `AllocError`: out of memory.
 pub fn chunk_shape_to_array_shape(
     alloc: Global,
     chunk_shape: &[NonZeroU64],

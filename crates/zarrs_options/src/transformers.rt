@@ -15,7 +15,7 @@ impl StorageTransformerChain {
     /// Returns the chain of these transformers.
     ///
     /// # Errors
-    /// `Other` if there is one.
+    /// `Other` if there is one. `OutOfMemory` may come at any time.
     pub fn from_metadata(
         alloc: Global,
         transformers: &[MetadataV3],

@@ -45,7 +45,7 @@ impl Default for MetadataEraseVersion {
 /// Which metadata an array is opened with.
 #[derive(Clone, Copy, Debug, Drop, PartialEq, Eq)]
 pub enum MetadataRetrieveVersion {
-    /// V3, and V2 if that is missing.
+    /// V3, and V2 if that is absent.
     Default,
     /// V3 alone.
     V3,

@@ -20,34 +20,34 @@ use zarrs_subset::{
 #[derive(Debug, Drop, Error)]
 #[non_exhaustive]
 pub enum ArrayError {
-    /// A region of another number of dimensions, or with a position that no chunk covers.
+    /// E1: a region of another number of dimensions, or with a position that no chunk covers.
     #[error("array subset {0} is not compatible with array shape {1:?}")]
     InvalidArraySubset(ArraySubset, ArrayShape),
-    /// A part of a chunk that has another number of dimensions, or passes the chunk.
+    /// E2: a part of a chunk that has another number of dimensions, or passes the chunk.
     #[error("chunk subset {0} is not compatible with chunk {1:?} with shape {2:?}")]
     InvalidChunkSubset(ArraySubset, ArrayIndices, ArrayShape),
-    /// Chunk indices of another length than the array has dimensions, or without a chunk.
+    /// E3: chunk indices of another length than the array has dimensions, or without a chunk.
     #[error("invalid chunk grid indices: {0:?}")]
     InvalidChunkGridIndicesError(Vec<u64>),
-    /// Data or bytes that the chain of codecs does not take.
+    /// E4: data or bytes that the chain of codecs does not take.
     #[error(transparent)]
     CodecError(CodecError),
-    /// Values of another type than the array's data type.
+    /// E5: values of another type than the array's data type.
     #[error(transparent)]
     ElementError(ElementError),
-    /// A target of another shape than the region.
+    /// E6: a target of another shape than the region.
     #[error("data has shape {0:?}, expected {1:?}")]
     InvalidDataShape(Vec<u64>, Vec<u64>),
-    /// The store refused.
+    /// E7: the store refused.
     #[error(transparent)]
     StorageError(StorageError),
-    /// A number of cells, bytes or chunks that no `usize` or `u64` counts.
+    /// E8: a number of cells, bytes or chunks that no `usize` or `u64` counts.
     #[error("size exceeds the number types")]
     SizeOverflow,
-    /// Out of memory.
+    /// E9: out of memory.
     #[error("out of memory")]
     OutOfMemory,
-    /// Lists that should have one entry for each dimension differ in length.
+    /// E10: lists that should have one entry for each dimension differ in length.
     #[error(transparent)]
     IncompatibleDimensionalityError(IncompatibleDimensionalityError),
     /// A decode target that does not lie in its bytes. No call returns it.

@@ -159,6 +159,7 @@ impl<'a, 'm, 'r> ArrayBytesDecodeIntoTarget<'a, 'm, 'r> {
 }
 
 /// A smaller box of a target, with the target's slices. `rejoin` takes it back: it cannot be dropped.
+#[derive(Debug)]
 pub struct SubdividedTarget<'a, 'm, 'r> {
     /// The target whose box is the smaller one.
     pub target: ArrayBytesDecodeIntoTarget<'a, 'm, 'r>,
@@ -253,7 +254,7 @@ impl<'a, 'm, 'r> ArrayBytesDecodeIntoTarget<'a, 'm, 'r> {
     /// Every byte outside the box stays.
     ///
     /// # Errors
-    /// If memory runs out; then every byte stays.
+    /// If out of memory; then every byte stays.
     pub fn write_cells(
         &mut self,
         alloc: Global,
@@ -407,7 +408,7 @@ ghost use Rattle.zarrs_target.specs.States.{parent_box, target_box};
 /// Fills the box with the fill value. Every byte outside the box stays.
 ///
 /// # Errors
-/// If memory runs out; then every byte stays.
+/// If out of memory; then every byte stays.
 pub fn copy_fill_value_into(
     alloc: Global,
     data_type: &DataType,

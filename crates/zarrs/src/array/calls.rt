@@ -155,7 +155,7 @@ impl<TStorage: WritableStorageTraits> Array<TStorage> {
     /// Makes the calls in turn, whether earlier ones were refused or not, and returns the reply to each.
     ///
     /// # Errors
-    /// If the list of replies finds no memory. Nothing was called then.
+    /// If the list of replies is out of memory. Nothing was called then.
     pub fn replay(
         &mut self,
         alloc: Global,

@@ -85,8 +85,8 @@ impl<
         Ok(())
     }
 
-    /// Stores these bytes as those of the chunk with these indices, by one writing call of the store. They are the
-    /// encoding of its cells.
+    /// Stores these bytes as those of the chunk with these indices, by one writing call of the store. The chunk has a
+    /// box, and the bytes decode: both are conditions, and are not tested.
     ///
     /// # Errors
     /// E7 if the store refuses. E9 may come at any time. Nothing is changed then.
