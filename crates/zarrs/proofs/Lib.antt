@@ -5,3 +5,5 @@ pub mod Named
 pub mod Trips
 pub mod Regridded
 mod Short
+mod Apart
+mod Reopened

@@ -1,21 +1,29 @@
 -- Laws of metadata and of what a store holds of it.
-use Rattle.std.specs.Prelude.{◌≡◌, ◌≤◌, ℕ, true, false, List, Ok}
+use Rattle.std.specs.Prelude.{◌≡◌, ◌≤◌, ◌⊎◌, ℕ, Bool, true, false, List, Contains, Ok}
 use Rattle.serde_json.specs.Data.{depth, object}
 use Rattle.serde_json.specs.Read.{max_depth}
 use Rattle.serde_json.specs.Written.{has_float}
 use Rattle.zarrs_storage.specs.Store.{StoreState}
 use Rattle.zarrs_keys.specs.Paths.{is_node_path}
+use Rattle.zarrs_steps.specs.Layout.{Layout, IsLawful, ArrayState, metadata_keys_at}
+use Rattle.zarrs_steps.specs.Content.{value_at}
+use Rattle.zarrs_steps.specs.Refusals.{Refusal}
+use Rattle.zarrs_steps.specs.Step.{Run}
+use Rattle.zarrs_steps.specs.Laws.{HaveEqualContent}
+use Rattle.zarrs_steps.specs.declared.call.Call.{Call}
+use Rattle.zarrs_steps.specs.declared.call.Reply.{Reply}
 use Rattle.zarrs_document.specs.Document.{DocumentData, data_of_document, normal_document}
 use Rattle.zarrs_document_v2.specs.Document.{DocumentV2Data, data_of_v2, without_attributes}
 use Rattle.zarrs_document_v2.specs.View.{MetadataData, v3, v2}
 use Rattle.zarrs_options.specs.Options.{MetadataOptionsData}
+use Rattle.zarrs_options.specs.declared.versions.MetadataEraseVersion.{MetadataEraseVersion}
 use Rattle.zarrs_options.specs.declared.versions.MetadataRetrieveVersion.{MetadataRetrieveVersion}
 use Rattle.zarrs_options.specs.declared.versions.MetadataRetrieveVersion.TheVariants as retrieve
 use Rattle.zarrs_array_metadata.specs.Meanings.{Meaning, creation, as_v3}
 use Rattle.zarrs_array_metadata.specs.Opening.{v3_key, v2_array_key, attributes_key, fields_understood, opened}
 use Rattle.zarrs_array_metadata.specs.Shown.{shown}
-use Rattle.zarrs_array_metadata.specs.Writing.{Put, IsWrittenBy}
-use Rattle.zarrs.specs.Puts.{ArePut}
+use Rattle.zarrs_array_metadata.specs.Writing.{Put, IsWrittenBy, erasures}
+use Rattle.zarrs.specs.Puts.{ArePut, RefusesPuts, StoresMetadata, RefusesStoreMetadata}
 
 -- what is written for the document reads as it: its tree nests at most as deep as JSON that is read, has no left-out
 -- number, and has no field that must be understood
@@ -70,3 +78,26 @@ ConvertedMetadataSaysTheSame = (m n : MetadataData) → as_v3 m ≡ Ok n → cre
 abbrev pub ShownMetadataSaysTheSame : Type 0
 ShownMetadataSaysTheSame =
     (options : MetadataOptionsData) (m n : MetadataData) (parts : Meaning) → shown options m ≡ Ok n → creation m ≡ Ok parts → creation n ≡ Ok parts
+
+-- the metadata of an array at the path was stored or not, accepted or refused
+abbrev pub StoresMetadataOrRefuses : MetadataOptionsData → List ℕ → MetadataData → Refusal → StoreState → StoreState → Type 0
+StoresMetadataOrRefuses o path m r old new = StoresMetadata o path m old new ⊎ RefusesStoreMetadata o path m r old new
+
+-- it was erased or not
+abbrev pub ErasesMetadataOrRefuses : MetadataEraseVersion → List ℕ → MetadataData → Refusal → StoreState → StoreState → Type 0
+ErasesMetadataOrRefuses version path m r old new = ArePut (erasures version path m) old new ⊎ RefusesPuts (erasures version path m) r old new
+
+-- calls on the metadata of an array, accepted or refused, leave its content
+abbrev pub MetadataCallsLeaveContent : Type 0
+MetadataCallsLeaveContent =
+    (layout : Layout) (path : List ℕ) → IsLawful layout → layout.metadata_keys ≡ metadata_keys_at path
+    → (o : MetadataOptionsData) (version : MetadataEraseVersion) (m : MetadataData) (r : Refusal) (old new : StoreState)
+    → StoresMetadataOrRefuses o path m r old new ⊎ ErasesMetadataOrRefuses version path m r old new
+    → HaveEqualContent layout old new
+
+-- calls on chunks and regions, accepted or refused, leave the values at the keys of the metadata
+abbrev pub CallsLeaveMetadata : Type 0
+CallsLeaveMetadata =
+    (layout : Layout) → IsLawful layout → (keep : Bool) (calls : List Call) (replies : List Reply) (old new : ArrayState)
+    → Run layout keep calls replies old new
+    → (key : List ℕ) → Contains layout.metadata_keys key → value_at new.store key ≡ value_at old.store key

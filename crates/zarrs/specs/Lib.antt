@@ -8,3 +8,4 @@ pub mod Typed
 pub mod Setters
 pub mod Lending
 pub mod Elements
+pub mod Reopening

@@ -256,8 +256,10 @@ impl<TStorage: ReadableStorageTraits + Drop> Array<TStorage> {
     ghost use Rattle.zarrs_options.specs.Refusals.{create_refusal_of, RefusesCreation};
     ghost use Rattle.zarrs_array_metadata.specs.Opening.{opened, MayAskMetadata};
     ghost use Rattle.zarrs.specs.Arrays.{metadata_of_array, path_of_array, storage_of_array};
+    ghost use Rattle.zarrs.specs.Arrays.{HasDefaultOptions};
 
-    /// Opens the array at the path by its V3 metadata, or by its V2 metadata if there is no `zarr.json`.
+    /// Opens the array at the path by its V3 metadata, or by its V2 metadata if there is no `zarr.json`, with the default
+    /// options.
     ///
     /// # Errors
     /// As `open_opt`.
@@ -271,13 +273,15 @@ impl<TStorage: ReadableStorageTraits + Drop> Array<TStorage> {
             opened retrieve.Default (TStorage.state storage) path.now ≡ Ok (metadata_of_array a)) }
         ensures path { IfOk result (λ a. path_of_array a ≡ path.now) }
         ensures storage { IfOk result (λ a. storage_of_array a ≡ storage) }
+        ensures options { IfOk result HasDefaultOptions }
         ensures refused { IfErr result (λ e. RefusesCreation
             (opened retrieve.Default (TStorage.state storage) path.now) (create_refusal_of e)) }
     {
         Array::open_opt(alloc, storage, path, &MetadataRetrieveVersion::Default)
     }
 
-    /// Opens the array at the path: makes it of the metadata that the store holds there, of this version.
+    /// Opens the array at the path: makes it of the metadata that the store holds there, of this version, with the
+    /// default options.
     ///
     /// The document is that at the key `zarr.json` of the path, or at `.zarray`, whose attributes are those at
     /// `.zattrs` if that is present.
@@ -297,6 +301,7 @@ impl<TStorage: ReadableStorageTraits + Drop> Array<TStorage> {
             opened version.now (TStorage.state storage) path.now ≡ Ok (metadata_of_array a)) }
         ensures path { IfOk result (λ a. path_of_array a ≡ path.now) }
         ensures storage { IfOk result (λ a. storage_of_array a ≡ storage) }
+        ensures options { IfOk result HasDefaultOptions }
         ensures refused { IfErr result (λ e. RefusesCreation
             (opened version.now (TStorage.state storage) path.now) (create_refusal_of e)) }
     {

@@ -1,19 +1,23 @@
 //! Laws of arrays and of their metadata. These functions do nothing: their contracts are the facts.
 ghost use Rattle.std.specs.Prelude.{◌≡◌, Ok};
+ghost use Rattle.zarrs_steps.specs.Layout.{IsLawful};
 ghost use Rattle.zarrs_array_metadata.specs.Meanings.{creation};
 ghost use Rattle.zarrs.specs.Layouts.{layout_meant};
 ghost use Rattle.zarrs.specs.Laws.{WrittenMetadataOpens, NormalMetadataSaysTheSame};
 ghost use Rattle.zarrs.specs.Laws.{ConvertedMetadataSaysTheSame, ShownMetadataSaysTheSame};
+ghost use Rattle.zarrs.specs.Laws.{MetadataCallsLeaveContent, CallsLeaveMetadata};
 ghost use Rattle.zarrs.specs.Arrays.{metadata_of_array, meaning_of_array, layout_of_array, path_of_array};
 
 use crate::array::Array;
 
 /// The parts of an array are those that its metadata says, and it lies in its store as they mean at its path. So two
-/// arrays at one path whose metadata says the same parts lie in the same way.
+/// arrays at one path whose metadata says the same parts lie in the same way. Its layout is lawful, as the laws of steps
+/// and of runs ask.
 pub fn an_array_is_its_metadata<TStorage>(_array: &Array<TStorage>)
     ensures parts { creation (metadata_of_array _array.now) ≡ Ok (meaning_of_array _array.now) }
     ensures layout { layout_of_array _array.now
         ≡ layout_meant (path_of_array _array.now) (meaning_of_array _array.now) }
+    ensures lawful { IsLawful (layout_of_array _array.now) }
 {}
 
 /// What was written for an array opens again, by the version that was written.
@@ -35,4 +39,14 @@ pub fn converted_metadata_says_the_same()
 /// opens in its layout, by `written_metadata_opens`.
 pub fn shown_metadata_says_the_same()
     ensures { ShownMetadataSaysTheSame }
+{}
+
+/// Storing and erasing the metadata of an array, accepted or refused, leaves its content.
+pub fn metadata_calls_leave_content()
+    ensures { MetadataCallsLeaveContent }
+{}
+
+/// Calls on chunks and regions, accepted or refused, leave the values at the keys of the metadata.
+pub fn calls_leave_metadata()
+    ensures { CallsLeaveMetadata }
 {}

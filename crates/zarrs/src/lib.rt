@@ -2,22 +2,25 @@
 #![tactic(auto)]
 
 mod array;
+pub mod codec;
 pub mod laws;
 mod reopening;
 
 pub use array::{Array, ArrayPartialDecoder};
 pub use reopening::written_and_opened;
 pub use zarrs_chunk_grid::{
-    ChunkGrid, ChunkGridTraits, ChunkShape, RectangularChunkGrid, RegularBoundedChunkGrid,
-    RegularChunkGrid,
+    ChunkGrid, ChunkGridTraits, ChunkShape, ChunkSizes, GridError, RectangularChunkGrid,
+    RegularBoundedChunkGrid, RegularChunkGrid, SizeList,
 };
 pub use zarrs_codec::{
     ArrayToArrayCodec, ArrayToBytesCodec, BytesToBytesCodecs, ChainTraits, CodecChain, CodecError,
-    CodecMetadataOptions, CodecOptions,
+    CodecMetadataOptions, CodecOptions, CodecSpecificOptions,
 };
 pub use zarrs_data_type::{
-    ArrayBytes, DataType, Element, ElementError, ElementOwned, FillValue, FromArrayBytes,
-    IntoArrayBytes, IntoField,
+    ArrayBytes, ArrayBytesFixedDisjointViewCreateError, ArrayBytesOffsets, ArrayBytesOptional,
+    ArrayBytesVariableLength, DataType, Element, ElementError, ElementOwned,
+    ExpectedFixedLengthBytesError, ExpectedOptionalBytesError, ExpectedVariableLengthBytesError,
+    FillValue, FromArrayBytes, IntoArrayBytes, IntoField,
 };
 pub use zarrs_document::{
     AdditionalFieldV3, AdditionalFieldsV3, ArrayMetadataV3, DimensionName, FillValueMetadata,
@@ -26,11 +29,12 @@ pub use zarrs_document_v2::{
     ArrayMetadata, ArrayMetadataV2, ArrayMetadataV2Order, ArrayMetadataV2ToV3Error,
     DataTypeMetadataV2, array_metadata_v2_to_v3,
 };
-pub use zarrs_engine::{ArrayError, Call, Reply};
+pub use zarrs_engine::{ArrayError, Call, Engine, Reply};
 pub use zarrs_keys::{
-    ChunkKeyEncoding, ChunkKeyEncodingTraits, ChunkKeySeparator, NodePath, NodePathError,
+    ChunkKeyEncoding, ChunkKeyEncodingTraits, ChunkKeySeparator, KeySuffix, KeySuffixError,
+    NodePath, NodePathError,
 };
-pub use zarrs_metadata::{MetadataV3, PluginCreateError};
+pub use zarrs_metadata::{MetadataError, MetadataV3, PluginCreateError};
 pub use zarrs_options::{
     AdditionalFieldUnsupportedError, ArrayBuilderChunkGridMetadata, ArrayCreateError,
     ArrayMetadataOptions, MetadataConvertVersion, MetadataEraseVersion, MetadataRetrieveVersion,
@@ -42,6 +46,6 @@ pub use zarrs_storage::{
 };
 pub use zarrs_subset::{
     ArrayIndices, ArrayIndicesTinyVec, ArrayShape, ArraySubset, ArraySubsetError,
-    ArraySubsetTraits, IncompatibleDimensionalityError,
+    ArraySubsetTraits, IncompatibleDimensionalityError, SizeOverflow,
 };
 pub use zarrs_target::ArrayBytesDecodeIntoTarget;

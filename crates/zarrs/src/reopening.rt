@@ -1,12 +1,15 @@
 //! An array that is stored and opened again.
-ghost use Rattle.std.specs.Prelude.{◌≡◌, Ok, IfOk};
+ghost use Rattle.std.specs.Prelude.{◌≡◌, Ok, IfOk, IfErr};
 ghost use Rattle.zarrs_document_v2.specs.View.{MetadataData, metadata_view};
 ghost use Rattle.zarrs_array_metadata.specs.Opening.{MayAskEachMetadata};
 ghost use Rattle.zarrs_array_metadata.specs.Shown.{shown};
+ghost use Rattle.zarrs_options.specs.Refusals.{create_refusal_of, out_of_memory};
 ghost use Rattle.zarrs.specs.Laws.{IsReadAgain, normal_metadata, version_of};
 ghost use Rattle.zarrs.specs.Arrays.{metadata_of_array, metadata_options_of_array};
 ghost use Rattle.zarrs.specs.Arrays.{path_of_array, layout_of_array, store_of_array};
+ghost use Rattle.zarrs.specs.Arrays.{HasDefaultOptions};
 ghost use Rattle.zarrs.specs.Puts.{StoresMetadata};
+ghost use Rattle.zarrs.specs.Reopening.{RefusesToStore, RefusesReopening};
 
 use crate::array::Array;
 use std::alloc::Global;
@@ -34,6 +37,7 @@ fn path_and_version<S>(
     ensures version { (m : MetadataData)
         → shown (metadata_options_of_array array.now) (metadata_of_array array.now) ≡ Ok m
         → IfOk result (λ found. found.1 ≡ version_of m) }
+    ensures refused { IfErr result (λ e. create_refusal_of e ≡ out_of_memory) }
 {
     let path = array.path().clone()?;
     match array.metadata_opt(alloc, array.metadata_options()) {
@@ -47,9 +51,12 @@ fn stored<S: WritableStorageTraits + Drop>(
     alloc: Global,
     array: Array<S>,
 ) -> Result<S, ArrayCreateError>
-    ensures { IfOk result (λ storage. StoresMetadata (metadata_options_of_array array)
+    ensures stored { IfOk result (λ storage. StoresMetadata (metadata_options_of_array array)
         (path_of_array array) (metadata_of_array array) (store_of_array S.state array)
         (S.state storage)) }
+    ensures refused { IfErr result (λ e. RefusesToStore (metadata_options_of_array array)
+        (path_of_array array) (metadata_of_array array) (create_refusal_of e)
+        (store_of_array S.state array)) }
 {
     let mut array = array;
     array.store_metadata(alloc)?;
@@ -58,7 +65,7 @@ fn stored<S: WritableStorageTraits + Drop>(
 
 /// Stores the metadata of the array, takes the store out and opens the array there again, by the version that was
 /// written. If what is written for the metadata reads as it, the array that opens has the metadata that was shown up to
-/// its normal form, and lies in its store in the same way.
+/// its normal form, and lies in its store in the same way. It has the default options.
 ///
 /// # Errors
 /// E23 if the store refuses, and E26; for metadata that is not read again also E23 and E12. The store is dropped then.
@@ -74,6 +81,13 @@ pub fn written_and_opened<S: WritableStorageTraits + Drop>(
     ensures layout { (m : MetadataData)
         → shown (metadata_options_of_array array) (metadata_of_array array) ≡ Ok m
         → IsReadAgain m → IfOk result (λ a. layout_of_array a ≡ layout_of_array array) }
+    ensures stored { IfOk result (λ a. StoresMetadata (metadata_options_of_array array)
+        (path_of_array array) (metadata_of_array array) (store_of_array S.state array)
+        (store_of_array S.state a)) }
+    ensures options { IfOk result HasDefaultOptions }
+    ensures refused { IfErr result (λ e. RefusesReopening (metadata_options_of_array array)
+        (path_of_array array) (metadata_of_array array) (create_refusal_of e)
+        (store_of_array S.state array)) }
 {
     let (path, version) = path_and_version(alloc, &array)?;
     let storage = stored(alloc, array)?;

@@ -16,7 +16,8 @@ impl<TStorage: ReadableStorageTraits> Array<TStorage> {
     ghost use Rattle.zarrs_engine.specs.Encoded.{RefusesEncoded, stored_values};
     ghost use Rattle.zarrs.specs.Arrays.{layout_of_array, store_of_array};
 
-    /// Returns the bytes that are stored for the chunk with these indices, or `None` if it is absent.
+    /// Returns the bytes that are stored for the chunk with these indices, of which there is one for each dimension, or
+    /// `None` if it is absent.
     ///
     /// # Errors
     /// E7 if the store refuses the key. E9 may come at any time.
@@ -42,7 +43,7 @@ impl<TStorage: ReadableStorageTraits> Array<TStorage> {
     }
 
     /// Returns the bytes that are stored for each chunk of the range, in row-major order, `None` for a chunk that is
-    /// absent.
+    /// absent. The range has as many dimensions as the array. The options choose nothing here.
     ///
     /// # Errors
     /// E8 for more chunks than a `u64` counts; E7 if the store refuses the key of one of them. E9 may come at any time.
@@ -50,6 +51,7 @@ impl<TStorage: ReadableStorageTraits> Array<TStorage> {
         &self,
         alloc: Global,
         chunks: &R,
+        _options: &CodecOptions,
     ) -> Result<Vec<Option<Vec<u8>>>, ArrayError>
         requires dimensions { length (R.region chunks.now).start
             ≡ (layout_of_array self.now).grid.dimensions }
@@ -85,8 +87,8 @@ impl<TStorage: WritableStorageTraits> Array<TStorage> {
     ghost use Rattle.zarrs.specs.Arrays.{layout_of_array, storage_of_array, store_of_array};
     ghost use Rattle.zarrs.specs.Arrays.{state_of_array, KeepsArray};
 
-    /// Stores these bytes as those of the chunk with these indices, by one writing call of the store. They are the
-    /// encoding of its cells.
+    /// Stores these bytes as those of the chunk with these indices, by one writing call of the store. The chunk has a
+    /// box, and the bytes decode: both are conditions, and are not tested.
     ///
     /// # Errors
     /// E7 if the store refuses. E9 may come at any time. Nothing is changed then.

@@ -1,10 +1,12 @@
-use Rattle.std.proofs.Common.{◌≡◌, ◌∙◌, ap, subst, ℕ, List, Ok}
+use Rattle.std.proofs.Common.{◌≡◌, ◌∙◌, ap, subst, ℕ, List, Ok, inr, rules}
 use Rattle.zarrs_options.specs.declared.versions.MetadataRetrieveVersion.{MetadataRetrieveVersion}
+use Rattle.zarrs_options.specs.Refusals.{create_refusal_of, RefusesCreation}
 use Rattle.zarrs_array_metadata.specs.Meanings.{creation}
 use Rattle.zarrs_array_metadata.specs.Opening.{opened}
 use Rattle.zarrs_array_metadata.proofs.Names.{shown_says_the_same}
 use Rattle.zarrs.specs.Arrays.{metadata_of_array, metadata_options_of_array, meaning_of_array, path_of_array, store_of_array}
 use Rattle.zarrs.specs.Laws.{version_of}
+use Rattle.zarrs.specs.Reopening.{RefusesReopening}
 use Rattle.zarrs.proofs.Layouts.{parts_are, one_layout}
 use Rattle.zarrs.proofs.Puts.{reach_after, may_ask_after}
 use Rattle.zarrs.proofs.Trips.{normal_metadata_says, stored_opens}
@@ -16,7 +18,7 @@ open_opt-requires g c =
     let array = c.args.array in
     let old = store_of_array state array in
     let new = state c.in_ok-storage.storage in
-    let done = c.in_ok-storage.ensures in
+    let done = c.in_ok-storage.ensures.stored in
     let path : c.as_str.result.now ≡ path_of_array array = c.as_str.ensures.text ∙ c.in_ok-path.ensures.path in
     let may = may_ask_after c.in_ok-path.version (path_of_array array) old new c.requires (reach_after done.puts old new done.put) in
     rw path may
@@ -31,7 +33,7 @@ returns-clause-metadata g c = λ m is again.
     let version : c.in_ok-path.version ≡ version_of m = c.in_ok-path.ensures.version m is in
     let there = subst (λ (p : List ℕ). opened c.in_ok-path.version new p ≡ Ok (metadata_of_array made)) path c.in_ok-opened.ensures.metadata in
     let by_version = subst (λ (v : MetadataRetrieveVersion). opened v new (path_of_array array) ≡ Ok (metadata_of_array made)) version there in
-    stored_opens (metadata_options_of_array array) (path_of_array array) (metadata_of_array array) m (metadata_of_array made) (meaning_of_array array) (store_of_array state array) new (parts_are array) is again c.in_ok-storage.ensures by_version
+    stored_opens (metadata_options_of_array array) (path_of_array array) (metadata_of_array array) m (metadata_of_array made) (meaning_of_array array) (store_of_array state array) new (parts_are array) is again c.in_ok-storage.ensures.stored by_version
 
 pub returns-clause-layout : goal.returns-clause-layout
 returns-clause-layout g c = λ m is again.
@@ -39,3 +41,17 @@ returns-clause-layout g c = λ m is again.
     let path : c.as_str.result.now ≡ path_of_array array = c.as_str.ensures.text ∙ c.in_ok-path.ensures.path in
     let made = shown_says_the_same (metadata_options_of_array array) (metadata_of_array array) m (meaning_of_array array) is (parts_are array) in
     one_layout array c.in_ok-opened.opened (ap creation (returns-clause-metadata g c m is again) ∙ normal_metadata_says m ∙ made) (c.in_ok-opened.ensures.path ∙ path)
+
+pub returns-in_err-opened-clause-refused : goal.returns-in_err-opened-clause-refused
+returns-in_err-opened-clause-refused g c =
+    let state = g.S.ReadableStorageTraits.state in
+    let array = c.args.array in
+    let new = state c.in_ok-storage.storage in
+    let done = c.in_ok-storage.ensures.stored in
+    let e = create_refusal_of c.in_err-opened.field-0.0 in
+    let path : c.as_str.result.now ≡ path_of_array array = c.as_str.ensures.text ∙ c.in_ok-path.ensures.path in
+    let version : c.in_ok-path.version ≡ version_of done.shows = c.in_ok-path.ensures.version done.shows done.is_shown in
+    let there = subst (λ (p : List ℕ). RefusesCreation (opened c.in_ok-path.version new p) e) path c.in_err-opened.ensures.refused in
+    let by_version = subst (λ (v : MetadataRetrieveVersion). RefusesCreation (opened v new (path_of_array array)) e) version there in
+    let why : RefusesReopening (metadata_options_of_array array) (path_of_array array) (metadata_of_array array) e (store_of_array state array) = inr (record { new = new; stored = done; refused = by_version }) in
+    search (rules, why)

@@ -1,0 +1,21 @@
+-- An array whose metadata is not stored, as what opens it again says.
+use Rattle.std.proofs.Common.{inl, inr, ℕ, List, refl}
+use Rattle.zarrs_storage.specs.Store.{StoreState}
+use Rattle.zarrs_storage.specs.declared.error.StorageError.{StorageError}
+use Rattle.zarrs_storage.specs.declared.error.StorageError.TheVariants as error
+use Rattle.zarrs_steps.specs.Refusals.{refusal_of_storage}
+use Rattle.zarrs_document_v2.specs.View.{MetadataData}
+use Rattle.zarrs_options.specs.Errors.{create_error_of_storage}
+use Rattle.zarrs_options.specs.Options.{MetadataOptionsData}
+use Rattle.zarrs_options.specs.Refusals.{create_refusal_of}
+use Rattle.zarrs.specs.Puts.{RefusesStoreMetadata}
+use Rattle.zarrs.specs.Reopening.{RefusesToStore}
+
+module _ (o : MetadataOptionsData) (path : List ℕ) (m : MetadataData) (old new : StoreState) where
+  pub not_stored : (e : StorageError) → RefusesStoreMetadata o path m (refusal_of_storage e) old new → RefusesToStore o path m (create_refusal_of (create_error_of_storage e)) old
+  not_stored (error.InvalidMetadata key text) refused = inr (record { refusal = refusal_of_storage (error.InvalidMetadata key text); new = new; refused = refused; is = refl })
+  not_stored error.ReadOnly refused = inr (record { refusal = refusal_of_storage error.ReadOnly; new = new; refused = refused; is = refl })
+  not_stored error.InvalidByteRange refused = inr (record { refusal = refusal_of_storage error.InvalidByteRange; new = new; refused = refused; is = refl })
+  not_stored error.Exhausted refused = inr (record { refusal = refusal_of_storage error.Exhausted; new = new; refused = refused; is = refl })
+  not_stored (error.Other text) refused = inr (record { refusal = refusal_of_storage (error.Other text); new = new; refused = refused; is = refl })
+  not_stored error.OutOfMemory refused = inl refl

@@ -1,0 +1,31 @@
+-- Why an array that is stored is not opened again.
+use Rattle.std.specs.Prelude.{◌≡◌, ◌⊎◌, ℕ, List}
+use Rattle.zarrs_storage.specs.Store.{StoreState}
+use Rattle.zarrs_steps.specs.Refusals.{Refusal}
+use Rattle.zarrs_document_v2.specs.View.{MetadataData}
+use Rattle.zarrs_options.specs.Options.{MetadataOptionsData}
+use Rattle.zarrs_options.specs.Refusals.{CreateRefusal, storage, out_of_memory, RefusesCreation}
+use Rattle.zarrs_array_metadata.specs.Opening.{opened}
+use Rattle.zarrs.specs.Laws.{version_of}
+use Rattle.zarrs.specs.Puts.{StoresMetadata, RefusesStoreMetadata}
+
+-- the store refused what writes its metadata
+pub record IsNotStored (o : MetadataOptionsData) (path : List ℕ) (m : MetadataData) (r : CreateRefusal) (old : StoreState) : Type 0 where
+  pub refusal : Refusal
+  pub new : StoreState
+  pub refused : RefusesStoreMetadata o path m refusal old new
+  pub is : r ≡ storage
+
+-- its metadata is not stored
+abbrev pub RefusesToStore : MetadataOptionsData → List ℕ → MetadataData → CreateRefusal → StoreState → Type 0
+RefusesToStore o path m r old = (r ≡ out_of_memory) ⊎ IsNotStored o path m r old
+
+-- what was written does not open by its version
+pub record DoesNotOpen (o : MetadataOptionsData) (path : List ℕ) (m : MetadataData) (r : CreateRefusal) (old : StoreState) : Type 0 where
+  pub new : StoreState
+  pub stored : StoresMetadata o path m old new
+  pub refused : RefusesCreation (opened (version_of stored.shows) new path) r
+
+-- an array with these options, at this path, of this metadata is not stored, or does not open again
+abbrev pub RefusesReopening : MetadataOptionsData → List ℕ → MetadataData → CreateRefusal → StoreState → Type 0
+RefusesReopening o path m r old = RefusesToStore o path m r old ⊎ DoesNotOpen o path m r old
