@@ -4,3 +4,4 @@
 
 pub mod built;
 pub mod documents;
+pub mod encoded;
