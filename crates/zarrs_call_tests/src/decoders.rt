@@ -1,29 +1,23 @@
 //! Reads of parts of one chunk, arrays compared by their chunks, and what is printed: 8 by 8 bytes in chunks of 4 by 4.
-use crate::checks::must;
-use crate::made::{MemoryArray, array};
+use crate::checks::{must, must_be_done, must_be_refused, must_eq};
+use crate::made::{MemoryArray, array, region};
 use std::alloc::Global;
 use std::process::Abort;
 use zarrs::{
-    ArrayBytes, ArrayBytesDecodeIntoTarget, ArrayError, ArrayMetadataOptions, ArraySubset,
-    CodecOptions,
+    ArrayBytes, ArrayBytesDecodeIntoTarget, ArrayError, ArrayMetadataOptions, ArrayPartialDecoder,
+    CodecMetadataOptions, CodecOptions, MemoryStore,
 };
-use zarrs_codec::CodecMetadataOptions;
 
-fn region(rt: &impl Abort, alloc: Global, start: &[u64], shape: &[u64]) -> ArraySubset {
-    let shape = shape.to_vec(alloc).expect(rt, "no refusal");
-    ArraySubset::new_with_start_shape(start.to_vec(alloc).expect(rt, "no refusal"), shape).expect(
-        rt,
-        "no refusal",
-    )
+/// Stores the cells 1 to 16 as the chunk [0, 1].
+fn store_numbers(rt: &impl Abort, alloc: Global, array: &mut MemoryArray) {
+    let cells: Vec<u8> = (1..17u8).collect(alloc).expect(rt, "no refusal");
+    must_be_done(rt, array.store_chunk(alloc, &[0, 1], cells));
 }
 
 /// An array of which chunk [0, 1] has the cells 1 to 16.
 fn numbered(rt: &impl Abort, alloc: Global) -> MemoryArray {
     let mut array = array(rt, alloc, "/", &[]);
-    let cells: Vec<u8> = (1..17u8).collect(alloc).expect(rt, "no refusal");
-    array
-        .store_chunk(alloc, &[0, 1], cells)
-        .expect(rt, "no refusal");
+    store_numbers(rt, alloc, &mut array);
     array
 }
 
@@ -34,69 +28,80 @@ fn holds(data: &ArrayBytes<'_>, bytes: &[u8]) -> bool {
     }
 }
 
-/// Parts of a chunk that is present, and of one that is absent.
-fn must_decode(rt: &impl Abort, alloc: Global, array: &MemoryArray) {
-    let options = CodecOptions::default();
+fn must_be(rt: &impl Abort, read: Result<ArrayBytes<'static>, ArrayError>, bytes: &[u8]) {
+    let held = read.expect(rt, "no refusal");
+    must(rt, holds(&held, bytes));
+}
+
+/// The middle of the chunk has these cells.
+fn must_decode(
+    rt: &impl Abort,
+    alloc: Global,
+    chunk: &ArrayPartialDecoder<'_, MemoryStore>,
+    cells: &[u8],
+) {
     let part = region(rt, alloc, &[1, 2], &[2, 2]);
-    let present = array
-        .partial_decoder(alloc, &[0, 1])
-        .expect(rt, "no refusal");
-    must(
+    must_be(
         rt,
-        holds(
-            &present
-                .partial_decode(alloc, &part, &options)
-                .expect(rt, "no refusal"),
-            &[7, 8, 11, 12],
-        ),
+        chunk.partial_decode(alloc, &part, &CodecOptions::default()),
+        cells,
     );
-    let absent = array
-        .partial_decoder_opt(alloc, &[1, 1], &options)
-        .expect(rt, "no refusal");
-    must(
-        rt,
-        holds(
-            &absent
-                .partial_decode(alloc, &part, &options)
-                .expect(rt, "no refusal"),
-            &[0; 4],
-        ),
-    );
-    must(
-        rt,
-        present.exists(alloc).expect(rt, "no refusal")
-            && !absent.exists(alloc).expect(rt, "no refusal"),
-    );
+}
+
+fn must_exist(
+    rt: &impl Abort,
+    alloc: Global,
+    chunk: &ArrayPartialDecoder<'_, MemoryStore>,
+    exists: bool,
+) {
+    must_eq(rt, chunk.exists(alloc).expect(rt, "no refusal"), exists);
+}
+
+fn must_decode_present(rt: &impl Abort, alloc: Global, array: &MemoryArray) {
+    let chunk = array.partial_decoder(alloc, &[0, 1]);
+    let chunk = chunk.expect(rt, "no refusal");
+    must_decode(rt, alloc, &chunk, &[7, 8, 11, 12]);
+    must_exist(rt, alloc, &chunk, true);
+}
+
+fn must_decode_absent(rt: &impl Abort, alloc: Global, array: &MemoryArray) {
+    let chunk = array.partial_decoder_opt(alloc, &[1, 1], &CodecOptions::default());
+    let chunk = chunk.expect(rt, "no refusal");
+    must_decode(rt, alloc, &chunk, &[0; 4]);
+    must_exist(rt, alloc, &chunk, false);
 }
 
 /// An index list without a chunk has no decoder.
 fn must_have_no_decoder(rt: &impl Abort, alloc: Global, array: &MemoryArray, indices: &[u64]) {
-    let refused = array.partial_decoder(alloc, indices);
-    must(
-        rt,
-        matches!(refused, Err(ArrayError::InvalidChunkGridIndicesError(_))),
-    );
+    must_be_refused(rt, array.partial_decoder(alloc, indices), 3);
 }
 
 #[test]
 fn parts_of_a_chunk_are_decoded(rt: HostRuntime) {
-    let array = numbered(&rt, rt.alloc());
-    must_have_no_decoder(&rt, rt.alloc(), &array, &[0]);
-    must_decode(&rt, rt.alloc(), &array);
+    let alloc = rt.alloc();
+    let array = numbered(&rt, alloc);
+    must_have_no_decoder(&rt, alloc, &array, &[0]);
+    must_decode_present(&rt, alloc, &array);
+    must_decode_absent(&rt, alloc, &array);
 }
 
-/// Two cells of the array are read into the middle of four bytes.
+/// Reads two cells of the array into the middle of four bytes.
+fn read_into(
+    rt: &impl Abort,
+    alloc: Global,
+    array: &MemoryArray,
+    bytes: &mut [u8],
+) -> Result<(), ArrayError> {
+    let place = region(rt, alloc, &[0, 1], &[1, 2]);
+    let target = ArrayBytesDecodeIntoTarget::new_fixed(bytes, 1, &[1, 4], &place);
+    let mut target = target.expect(rt, "no refusal");
+    let cells = region(rt, alloc, &[0, 3], &[1, 2]);
+    array.retrieve_array_subset_into_opt(alloc, &cells, &mut target, &CodecOptions::default())
+}
+
 fn must_read_into(rt: &impl Abort, alloc: Global, array: &MemoryArray) {
     let mut bytes = [9u8; 4];
-    let place = region(rt, alloc, &[0, 1], &[1, 2]);
-    let mut target = ArrayBytesDecodeIntoTarget::new_fixed(&mut bytes, 1, &[1, 4], &place).expect(
-        rt,
-        "no refusal",
-    );
-    let cells = region(rt, alloc, &[0, 3], &[1, 2]);
-    array
-        .retrieve_array_subset_into_opt(alloc, &cells, &mut target, &CodecOptions::default())
-        .expect(rt, "no refusal");
+    must_be_done(rt, read_into(rt, alloc, array, &mut bytes));
     must(rt, bytes == [9, 0, 1, 9]);
 }
 
@@ -107,38 +112,38 @@ fn a_region_is_read_into_a_box_with_options(rt: HostRuntime) {
 }
 
 /// A caller asks both arrays for the number of dimensions before it compares chunks.
-fn are_equal(
+fn must_compare(
     rt: &impl Abort,
     alloc: Global,
     array: &MemoryArray,
     other: &MemoryArray,
     start: &[u64],
     shape: &[u64],
-) -> bool {
+    equal: bool,
+) {
     let chunks = region(rt, alloc, start, shape);
-    if chunks.dimensionality() != array.dimensionality()
-        || chunks.dimensionality() != other.dimensionality()
-    {
+    let dimensions = chunks.dimensionality();
+    if dimensions != array.dimensionality() || dimensions != other.dimensionality() {
         return rt.panic("another number of dimensions");
     }
-    array
-        .chunks_equal(alloc, other, &chunks)
-        .expect(rt, "no refusal")
+    let found = array.chunks_equal(alloc, other, &chunks);
+    must_eq(rt, found.expect(rt, "no refusal"), equal);
 }
 
-fn must_compare(rt: &impl Abort, alloc: Global, array: &MemoryArray, other: &MemoryArray) {
-    must(rt, are_equal(rt, alloc, array, array, &[0, 0], &[2, 2]));
-    must(rt, are_equal(rt, alloc, array, other, &[1, 0], &[1, 2]));
-    must(rt, !are_equal(rt, alloc, array, other, &[0, 0], &[2, 2]));
-    must(rt, !are_equal(rt, alloc, other, array, &[0, 1], &[1, 1]));
+/// The array is equal to itself, and to the other one in its lower chunks alone.
+fn must_be_equal_below(rt: &impl Abort, alloc: Global, array: &MemoryArray, other: &MemoryArray) {
+    must_compare(rt, alloc, array, array, &[0, 0], &[2, 2], true);
+    must_compare(rt, alloc, array, other, &[1, 0], &[1, 2], true);
+    must_compare(rt, alloc, array, other, &[0, 0], &[2, 2], false);
+    must_compare(rt, alloc, other, array, &[0, 1], &[1, 1], false);
 }
 
 #[test]
 fn arrays_are_compared_by_their_chunks(rt: HostRuntime) {
     let alloc = rt.alloc();
+    let other = array(&rt, alloc, "/b", &[]);
     let array = numbered(&rt, alloc);
-    let other = crate::made::array(&rt, alloc, "/b", &[]);
-    must_compare(&rt, alloc, &array, &other);
+    must_be_equal_below(&rt, alloc, &array, &other);
 }
 
 /// What is printed has no store.

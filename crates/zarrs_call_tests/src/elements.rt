@@ -1,129 +1,289 @@
 //! Reads and stores of elements, under their older names.
-use crate::checks::must;
-use crate::made::{MemoryArray, array};
+use crate::checks::{must_be_absent, must_be_done, must_be_present, must_be_values};
+use crate::made::{MemoryArray, NUMBERS, all_of, array};
 use std::alloc::Global;
+use std::ops::Range;
 use std::process::Abort;
 use zarrs::{ArraySubset, CodecOptions};
 
-const NUMBERS: &[(&str, &str)] = &[
-    ("shape", "[4]"),
-    (
-        "chunk_grid",
-        "{\"name\":\"regular\",\"configuration\":{\"chunk_shape\":[2]}}",
-    ),
-    ("data_type", "\"int16\""),
-    ("fill_value", "-1"),
-];
-
-fn region(rt: &impl Abort, alloc: Global, start: u64, extent: u64) -> ArraySubset {
-    ArraySubset::new_with_start_shape(
-        vec![in alloc; start].expect(rt, "no refusal"),
-        vec![in alloc; extent].expect(rt, "no refusal"),
-    )
-    .expect(rt, "no refusal")
+fn line(rt: &impl Abort, alloc: Global, range: Range<u64>) -> ArraySubset {
+    ArraySubset::new_with_ranges(alloc, &[range]).expect(rt, "no refusal")
 }
 
-fn must_be(rt: &impl Abort, held: &[i16], elements: &[i16]) {
-    must(rt, held == elements);
+fn store_chunk(
+    rt: &impl Abort,
+    alloc: Global,
+    array: &mut MemoryArray,
+    index: u64,
+    elements: &[i16],
+) {
+    must_be_done(rt, array.store_chunk_elements(alloc, &[index], elements));
 }
 
-fn must_store(rt: &impl Abort, alloc: Global, array: &mut MemoryArray) {
-    array
-        .store_chunk_elements(alloc, &[0], &[1i16, 2])
-        .expect(rt, "no refusal");
-    array
-        .store_chunk_subset_elements(alloc, &[1], &[0..1], &[-3i16])
-        .expect(rt, "no refusal");
-    array
-        .store_array_subset_elements(alloc, &[1..2], &[7i16])
-        .expect(rt, "no refusal");
-    must_be(
+fn store_part(
+    rt: &impl Abort,
+    alloc: Global,
+    array: &mut MemoryArray,
+    index: u64,
+    part: Range<u64>,
+    elements: &[i16],
+) {
+    must_be_done(
         rt,
-        &array
-            .retrieve_chunk_elements::<i16>(alloc, &[0])
-            .expect(rt, "no refusal"),
-        &[1, 7],
+        array.store_chunk_subset_elements(alloc, &[index], &[part], elements),
     );
-    let part = array
-        .retrieve_chunk_subset_elements::<i16, _>(alloc, &[1], &region(rt, alloc, 0, 1))
-        .expect(rt, "no refusal");
-    must_be(rt, &part, &[-3]);
-    array
-        .store_chunks_elements(alloc, &region(rt, alloc, 0, 2), &[4i16, 5, 6, 7])
-        .expect(rt, "no refusal");
-    let range = array
-        .retrieve_chunks_elements::<i16, _>(alloc, &[0..2])
-        .expect(rt, "no refusal");
-    must_be(rt, &range, &[4, 5, 6, 7]);
-    let all = array
-        .retrieve_array_subset_elements::<i16, _>(
-            alloc,
-            &array.subset_all(alloc).expect(rt, "no refusal"),
-        )
-        .expect(rt, "no refusal");
-    must_be(rt, &all, &[4, 5, 6, 7]);
-    must(
+}
+
+fn store_chunks(
+    rt: &impl Abort,
+    alloc: Global,
+    array: &mut MemoryArray,
+    chunks: Range<u64>,
+    elements: &[i16],
+) {
+    let chunks = line(rt, alloc, chunks);
+    must_be_done(rt, array.store_chunks_elements(alloc, &chunks, elements));
+}
+
+fn store_region(
+    rt: &impl Abort,
+    alloc: Global,
+    array: &mut MemoryArray,
+    region: Range<u64>,
+    elements: &[i16],
+) {
+    must_be_done(
         rt,
-        array
-            .retrieve_chunk_elements_if_exists::<i16>(alloc, &[0])
-            .expect(rt, "no refusal")
-            .is_some(),
+        array.store_array_subset_elements(alloc, &[region], elements),
     );
+}
+
+fn must_read_chunk(
+    rt: &impl Abort,
+    alloc: Global,
+    array: &MemoryArray,
+    index: u64,
+    elements: &[i16],
+) {
+    must_be_values(rt, array.retrieve_chunk_elements(alloc, &[index]), elements);
+}
+
+fn must_read_part(
+    rt: &impl Abort,
+    alloc: Global,
+    array: &MemoryArray,
+    index: u64,
+    part: Range<u64>,
+    elements: &[i16],
+) {
+    let part = line(rt, alloc, part);
+    must_be_values(
+        rt,
+        array.retrieve_chunk_subset_elements(alloc, &[index], &part),
+        elements,
+    );
+}
+
+fn must_read_chunks(
+    rt: &impl Abort,
+    alloc: Global,
+    array: &MemoryArray,
+    chunks: Range<u64>,
+    elements: &[i16],
+) {
+    must_be_values(
+        rt,
+        array.retrieve_chunks_elements(alloc, &[chunks]),
+        elements,
+    );
+}
+
+fn must_read_all(rt: &impl Abort, alloc: Global, array: &MemoryArray, elements: &[i16]) {
+    let all = all_of(rt, alloc, array);
+    must_be_values(
+        rt,
+        array.retrieve_array_subset_elements(alloc, &all),
+        elements,
+    );
+}
+
+fn must_read_if_present(
+    rt: &impl Abort,
+    alloc: Global,
+    array: &MemoryArray,
+    index: u64,
+    elements: &[i16],
+) {
+    must_be_present(
+        rt,
+        array.retrieve_chunk_elements_if_exists(alloc, &[index]),
+        elements,
+    );
+}
+
+fn must_store_and_read(rt: &impl Abort, alloc: Global, array: &mut MemoryArray) {
+    store_chunk(rt, alloc, array, 0, &[1, 2]);
+    store_part(rt, alloc, array, 1, 0..1, &[-3]);
+    store_region(rt, alloc, array, 1..2, &[7]);
+    must_read_chunk(rt, alloc, array, 0, &[1, 7]);
+    must_read_part(rt, alloc, array, 1, 0..1, &[-3]);
+    store_chunks(rt, alloc, array, 0..2, &[4, 5, 6, 7]);
+    must_read_chunks(rt, alloc, array, 0..2, &[4, 5, 6, 7]);
+    must_read_all(rt, alloc, array, &[4, 5, 6, 7]);
+    must_read_if_present(rt, alloc, array, 0, &[4, 5]);
 }
 
 #[test]
 fn elements_are_stored_and_read(rt: HostRuntime) {
     let alloc = rt.alloc();
     let mut array = array(&rt, alloc, "/", NUMBERS);
-    must_store(&rt, alloc, &mut array);
+    must_store_and_read(&rt, alloc, &mut array);
 }
 
-fn must_store_by_options(rt: &impl Abort, alloc: Global, array: &mut MemoryArray) {
-    let options = CodecOptions::default();
-    let (one, two) = (region(rt, alloc, 0, 1), region(rt, alloc, 0, 2));
-    array
-        .store_chunk_elements_opt(alloc, &[0], &[1i16, 2], &options)
-        .expect(rt, "no refusal");
-    array
-        .store_chunk_subset_elements_opt(alloc, &[0], &one, &[3i16], &options)
-        .expect(rt, "no refusal");
-    must_be(
+fn store_chunk_by_options(
+    rt: &impl Abort,
+    alloc: Global,
+    array: &mut MemoryArray,
+    index: u64,
+    elements: &[i16],
+) {
+    must_be_done(
         rt,
-        &array
-            .retrieve_chunk_elements_opt::<i16>(alloc, &[0], &options)
-            .expect(rt, "no refusal"),
-        &[3, 2],
+        array.store_chunk_elements_opt(alloc, &[index], elements, &CodecOptions::default()),
     );
-    array
-        .store_chunks_elements_opt(alloc, &one, &[4i16, 5], &options)
-        .expect(rt, "no refusal");
-    must_be(
+}
+
+fn store_part_by_options(
+    rt: &impl Abort,
+    alloc: Global,
+    array: &mut MemoryArray,
+    index: u64,
+    part: Range<u64>,
+    elements: &[i16],
+) {
+    let part = line(rt, alloc, part);
+    must_be_done(
         rt,
-        &array
-            .retrieve_chunks_elements_opt::<i16, _>(alloc, &one, &options)
-            .expect(rt, "no refusal"),
-        &[4, 5],
+        array.store_chunk_subset_elements_opt(
+            alloc,
+            &[index],
+            &part,
+            elements,
+            &CodecOptions::default(),
+        ),
     );
-    array
-        .store_array_subset_elements_opt(alloc, &one, &[6i16], &options)
-        .expect(rt, "no refusal");
-    let all = array
-        .retrieve_array_subset_elements_opt::<i16, _>(alloc, &two, &options)
-        .expect(rt, "no refusal");
-    must_be(rt, &all, &[6, 5]);
-    let part = array
-        .retrieve_chunk_subset_elements_opt::<i16, _>(alloc, &[0], &one, &options)
-        .expect(rt, "no refusal");
-    must_be(rt, &part, &[6]);
-    let absent = array
-        .retrieve_chunk_elements_if_exists_opt::<i16>(alloc, &[1], &options)
-        .expect(rt, "no refusal");
-    must(rt, absent.is_none());
+}
+
+fn store_chunks_by_options(
+    rt: &impl Abort,
+    alloc: Global,
+    array: &mut MemoryArray,
+    chunks: Range<u64>,
+    elements: &[i16],
+) {
+    let chunks = line(rt, alloc, chunks);
+    must_be_done(
+        rt,
+        array.store_chunks_elements_opt(alloc, &chunks, elements, &CodecOptions::default()),
+    );
+}
+
+fn store_region_by_options(
+    rt: &impl Abort,
+    alloc: Global,
+    array: &mut MemoryArray,
+    region: Range<u64>,
+    elements: &[i16],
+) {
+    let region = line(rt, alloc, region);
+    must_be_done(
+        rt,
+        array.store_array_subset_elements_opt(alloc, &region, elements, &CodecOptions::default()),
+    );
+}
+
+fn must_read_chunk_by_options(
+    rt: &impl Abort,
+    alloc: Global,
+    array: &MemoryArray,
+    index: u64,
+    elements: &[i16],
+) {
+    must_be_values(
+        rt,
+        array.retrieve_chunk_elements_opt(alloc, &[index], &CodecOptions::default()),
+        elements,
+    );
+}
+
+fn must_read_part_by_options(
+    rt: &impl Abort,
+    alloc: Global,
+    array: &MemoryArray,
+    index: u64,
+    part: Range<u64>,
+    elements: &[i16],
+) {
+    let part = line(rt, alloc, part);
+    must_be_values(
+        rt,
+        array.retrieve_chunk_subset_elements_opt(alloc, &[index], &part, &CodecOptions::default()),
+        elements,
+    );
+}
+
+fn must_read_chunks_by_options(
+    rt: &impl Abort,
+    alloc: Global,
+    array: &MemoryArray,
+    chunks: Range<u64>,
+    elements: &[i16],
+) {
+    let chunks = line(rt, alloc, chunks);
+    must_be_values(
+        rt,
+        array.retrieve_chunks_elements_opt(alloc, &chunks, &CodecOptions::default()),
+        elements,
+    );
+}
+
+fn must_read_region_by_options(
+    rt: &impl Abort,
+    alloc: Global,
+    array: &MemoryArray,
+    region: Range<u64>,
+    elements: &[i16],
+) {
+    let region = line(rt, alloc, region);
+    must_be_values(
+        rt,
+        array.retrieve_array_subset_elements_opt(alloc, &region, &CodecOptions::default()),
+        elements,
+    );
+}
+
+fn must_be_absent_by_options(rt: &impl Abort, alloc: Global, array: &MemoryArray, index: u64) {
+    must_be_absent::<Vec<i16>>(
+        rt,
+        array.retrieve_chunk_elements_if_exists_opt(alloc, &[index], &CodecOptions::default()),
+    );
+}
+
+fn must_store_and_read_by_options(rt: &impl Abort, alloc: Global, array: &mut MemoryArray) {
+    store_chunk_by_options(rt, alloc, array, 0, &[1, 2]);
+    store_part_by_options(rt, alloc, array, 0, 0..1, &[3]);
+    must_read_chunk_by_options(rt, alloc, array, 0, &[3, 2]);
+    store_chunks_by_options(rt, alloc, array, 0..1, &[4, 5]);
+    must_read_chunks_by_options(rt, alloc, array, 0..1, &[4, 5]);
+    store_region_by_options(rt, alloc, array, 0..1, &[6]);
+    must_read_region_by_options(rt, alloc, array, 0..2, &[6, 5]);
+    must_read_part_by_options(rt, alloc, array, 0, 0..1, &[6]);
+    must_be_absent_by_options(rt, alloc, array, 1);
 }
 
 #[test]
 fn elements_are_stored_and_read_by_options(rt: HostRuntime) {
     let alloc = rt.alloc();
     let mut array = array(&rt, alloc, "/", NUMBERS);
-    must_store_by_options(&rt, alloc, &mut array);
+    must_store_and_read_by_options(&rt, alloc, &mut array);
 }

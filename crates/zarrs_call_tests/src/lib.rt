@@ -12,6 +12,10 @@ mod elements;
 #[cfg(test)]
 mod made;
 #[cfg(test)]
+mod queries;
+#[cfg(test)]
+mod setters;
+#[cfg(test)]
 mod shapes;
 #[cfg(test)]
 mod typed;

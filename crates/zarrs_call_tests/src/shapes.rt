@@ -1,12 +1,12 @@
 //! Setters of the shape and the chunk grid.
-use crate::checks::{must, must_eq};
-use crate::made::{MemoryArray, array};
+use crate::checks::{must, must_eq, must_not_set};
+use crate::made::{Members, MemoryArray, array, array_of, list};
+use crate::queries::{must_begin_at, must_have_sizes, must_have_sizes_in_memory};
 use std::alloc::Global;
 use std::process::Abort;
-use zarrs::{Array, ArrayCreateError, ArrayMetadata, ArrayMetadataV2};
-use zarrs_storage::MemoryStore;
+use zarrs::{ArrayBuilderChunkGridMetadata, ArrayMetadata, ArrayMetadataV2, IntoField};
 
-const LISTED: &[(&str, &str)] = &[
+const LISTED: Members = &[
     ("shape", "[5]"),
     (
         "chunk_grid",
@@ -25,11 +25,7 @@ const SQUARES: &str = concat!(
 
 fn v2_array(rt: &impl Abort, alloc: Global) -> MemoryArray {
     let document = ArrayMetadataV2::from_slice(alloc, SQUARES.as_bytes()).expect(rt, "no refusal");
-    let storage = MemoryStore::new(alloc);
-    Array::new_with_metadata(alloc, storage, "/", ArrayMetadata::V2(document)).expect(
-        rt,
-        "no refusal",
-    )
+    array_of(rt, alloc, "/", ArrayMetadata::V2(document))
 }
 
 /// The array has this shape, also in its metadata, and so many chunks along each dimension.
@@ -38,26 +34,29 @@ fn must_be(rt: &impl Abort, array: &MemoryArray, shape: &[u64], counts: &[u64]) 
     must(rt, array.chunk_grid_shape() == counts);
 }
 
-fn must_be_no_grid<T: Drop>(rt: &impl Abort, refused: Result<T, ArrayCreateError>) {
-    must(
-        rt,
-        matches!(refused, Err(ArrayCreateError::ChunkGridCreateError(_))),
-    );
-}
-
 fn must_have_stored_nothing(rt: &impl Abort, array: &MemoryArray) {
     must_eq(rt, array.storage().calls(), 0);
 }
 
+fn set_shape(rt: &impl Abort, alloc: Global, array: &mut MemoryArray, shape: &[u64]) {
+    let shape = list(rt, alloc, shape);
+    let _ = array.set_shape(alloc, shape).expect(rt, "no refusal");
+}
+
+fn must_not_set_shape(rt: &impl Abort, alloc: Global, array: &mut MemoryArray, shape: &[u64]) {
+    let shape = list(rt, alloc, shape);
+    must_not_set(rt, array.set_shape(alloc, shape), 18);
+}
+
+fn must_not_reshape(rt: &impl Abort, alloc: Global, array: &mut MemoryArray, shape: &[u64]) {
+    let shape = list(rt, alloc, shape);
+    must_not_set(rt, array.reshape(alloc, shape), 18);
+}
+
 fn must_grow(rt: &impl Abort, alloc: Global, array: &mut MemoryArray) {
-    let _ = array
-        .set_shape(alloc, vec![in alloc; 9, 4].expect(rt, "no refusal"))
-        .expect(rt, "no refusal");
+    set_shape(rt, alloc, array, &[9, 4]);
     must_be(rt, array, &[9, 4], &[3, 1]);
-    must_be_no_grid(
-        rt,
-        array.reshape(alloc, vec![in alloc; 9].expect(rt, "no refusal")),
-    );
+    must_not_reshape(rt, alloc, array, &[9]);
     must_be(rt, array, &[9, 4], &[3, 1]);
     must_have_stored_nothing(rt, array);
 }
@@ -76,55 +75,40 @@ fn a_v2_array_has_another_shape(rt: HostRuntime) {
     must_grow(&rt, alloc, &mut array);
 }
 
-fn must_have_other_dimensions<T: Drop>(rt: &impl Abort, set: Result<T, ArrayCreateError>) {
-    must(
-        rt,
-        matches!(
-            set,
-            Err(ArrayCreateError::InvalidChunkGridDimensionality(1, 2))
-        ),
-    );
-}
-
 /// The listed sizes do not add up to the new extent: shape and grid stay.
-fn must_stay(rt: &impl Abort, alloc: Global, array: &mut MemoryArray) {
-    must_be_no_grid(
-        rt,
-        array.set_shape(alloc, vec![in alloc; 6].expect(rt, "no refusal")),
-    );
-    must_be(rt, array, &[5], &[2]);
-}
-
 #[test]
 fn listed_sizes_keep_their_extent(rt: HostRuntime) {
     let alloc = rt.alloc();
     let mut array = array(&rt, alloc, "/", LISTED);
-    must_stay(&rt, alloc, &mut array);
+    must_not_set_shape(&rt, alloc, &mut array, &[6]);
+    must_be(&rt, &array, &[5], &[2]);
 }
 
-fn must_have_chunk(
+fn set_grid<G: IntoField<ArrayBuilderChunkGridMetadata>>(
     rt: &impl Abort,
     alloc: Global,
-    array: &MemoryArray,
-    indices: &[u64],
-    origin: &[u64],
-    shape: &[usize],
+    array: &mut MemoryArray,
+    shape: &[u64],
+    grid: G,
 ) {
-    must(
+    let shape = list(rt, alloc, shape);
+    let set = array.set_shape_and_chunk_grid(alloc, shape, grid);
+    let _ = set.expect(rt, "no refusal");
+}
+
+fn must_not_set_grid<G: IntoField<ArrayBuilderChunkGridMetadata>>(
+    rt: &impl Abort,
+    alloc: Global,
+    array: &mut MemoryArray,
+    shape: &[u64],
+    grid: G,
+    number: u8,
+) {
+    let shape = list(rt, alloc, shape);
+    must_not_set(
         rt,
-        array
-            .chunk_shape_usize(alloc, indices)
-            .expect(rt, "no refusal")
-            .as_slice()
-            == shape,
-    );
-    must(
-        rt,
-        array
-            .chunk_origin(alloc, indices)
-            .expect(rt, "no refusal")
-            .as_slice()
-            == origin,
+        array.set_shape_and_chunk_grid(alloc, shape, grid),
+        number,
     );
 }
 
@@ -136,17 +120,16 @@ fn must_have_grid_named(rt: &impl Abort, array: &MemoryArray, name: &str) {
 }
 
 fn must_be_rectangular(rt: &impl Abort, alloc: Global, array: &mut MemoryArray) {
-    let _ = array
-        .set_shape_and_chunk_grid(
-            alloc,
-            vec![in alloc; 14, 18].expect(rt, "no refusal"),
-            RECTANGULAR,
-        )
-        .expect(rt, "no refusal");
+    set_grid(rt, alloc, array, &[14, 18], RECTANGULAR);
     must_be(rt, array, &[14, 18], &[3, 6]);
-    must_have_chunk(rt, alloc, array, &[0, 0], &[0, 0], &[4, 4]);
-    must_have_chunk(rt, alloc, array, &[2, 3], &[8, 12], &[6, 3]);
+    must_begin_at(rt, alloc, array, &[0, 0], &[0, 0]);
+    must_have_sizes(rt, alloc, array, &[0, 0], &[4, 4]);
+    must_have_sizes_in_memory(rt, alloc, array, &[0, 0], &[4, 4]);
+    must_begin_at(rt, alloc, array, &[2, 3], &[8, 12]);
+    must_have_sizes(rt, alloc, array, &[2, 3], &[6, 3]);
+    must_have_sizes_in_memory(rt, alloc, array, &[2, 3], &[6, 3]);
     must_have_grid_named(rt, array, "rectangular");
+    must_have_stored_nothing(rt, array);
 }
 
 #[test]
@@ -158,12 +141,9 @@ fn an_array_has_another_grid(rt: HostRuntime) {
 
 /// A text that is no metadata comes before the number of dimensions, and that before the grid.
 fn must_refuse_in_order(rt: &impl Abort, alloc: Global, array: &mut MemoryArray) {
-    let line = vec![in alloc; 8].expect(rt, "no refusal");
-    must_be_no_grid(rt, array.set_shape_and_chunk_grid(alloc, line, "{"));
-    let line = vec![in alloc; 8].expect(rt, "no refusal");
-    must_have_other_dimensions(rt, array.set_shape_and_chunk_grid(alloc, line, [0u64]));
-    let square = vec![in alloc; 8, 8].expect(rt, "no refusal");
-    must_be_no_grid(rt, array.set_shape_and_chunk_grid(alloc, square, [0u64, 4]));
+    must_not_set_grid(rt, alloc, array, &[8], "{", 18);
+    must_not_set_grid(rt, alloc, array, &[8], [0u64], 20);
+    must_not_set_grid(rt, alloc, array, &[8, 8], [0u64, 4], 18);
     must_be(rt, array, &[8, 8], &[2, 2]);
 }
 
@@ -176,19 +156,9 @@ fn another_grid_is_refused_in_order(rt: HostRuntime) {
 
 /// A V2 array takes another `regular` grid, and no other one.
 fn must_be_regular(rt: &impl Abort, alloc: Global, array: &mut MemoryArray) {
-    let shape = vec![in alloc; 14, 18].expect(rt, "no refusal");
-    must_be_no_grid(
-        rt,
-        array.set_shape_and_chunk_grid(alloc, shape, RECTANGULAR),
-    );
+    must_not_set_grid(rt, alloc, array, &[14, 18], RECTANGULAR, 18);
     must_be(rt, array, &[8, 8], &[2, 2]);
-    let _ = array
-        .set_shape_and_chunk_grid(
-            alloc,
-            vec![in alloc; 9, 9].expect(rt, "no refusal"),
-            [3u64, 2],
-        )
-        .expect(rt, "no refusal");
+    set_grid(rt, alloc, array, &[9, 9], [3u64, 2]);
     must_be(rt, array, &[9, 9], &[3, 5]);
     must_have_grid_named(rt, array, "regular");
 }

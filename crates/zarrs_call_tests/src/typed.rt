@@ -1,22 +1,11 @@
 //! Reads that return lists of values, and stores that take them.
-use crate::checks::{must, must_eq};
-use crate::made::{MemoryArray, array};
+use crate::checks::{must_be_absent, must_be_done, must_be_refused, must_be_values, must_eq};
+use crate::made::{Members, MemoryArray, NUMBERS, all_of, array, region};
 use std::alloc::Global;
 use std::process::Abort;
-use zarrs::{ArrayError, ArraySubset, CodecOptions, ElementError};
-use zarrs_subset::ArrayShape;
+use zarrs::{ArrayError, CodecOptions};
 
-const WORDS: &[(&str, &str)] = &[
-    ("shape", "[4]"),
-    (
-        "chunk_grid",
-        "{\"name\":\"regular\",\"configuration\":{\"chunk_shape\":[2]}}",
-    ),
-    ("data_type", "\"int16\""),
-    ("fill_value", "-1"),
-];
-
-const TEXTS: &[(&str, &str)] = &[
+const TEXTS: Members = &[
     ("shape", "[2]"),
     (
         "chunk_grid",
@@ -27,156 +16,268 @@ const TEXTS: &[(&str, &str)] = &[
     ("codecs", "[{\"name\":\"vlen-utf8\"}]"),
 ];
 
-fn region(rt: &impl Abort, alloc: Global, start: &[u64], shape: &[u64]) -> ArraySubset {
-    let shape: ArrayShape = shape.to_vec(alloc).expect(rt, "no refusal");
-    ArraySubset::new_with_start_shape(start.to_vec(alloc).expect(rt, "no refusal"), shape).expect(
-        rt,
-        "no refusal",
-    )
+/// Stores a list.
+fn store_chunk(rt: &impl Abort, alloc: Global, array: &mut MemoryArray, numbers: &[i16]) {
+    let numbers = numbers.to_vec(alloc).expect(rt, "no refusal");
+    must_be_done(rt, array.store_chunk(alloc, &[0], numbers));
 }
 
-fn must_be_an_element_error<T: Drop>(rt: &impl Abort, read: Result<T, ArrayError>) {
-    must(
-        rt,
-        matches!(
-            read,
-            Err(ArrayError::ElementError(ElementError::IncompatibleElementType))
-        ),
-    );
+/// Stores an array of one number.
+fn store_part(rt: &impl Abort, alloc: Global, array: &mut MemoryArray, number: i16) {
+    let first = region(rt, alloc, &[0], &[1]);
+    must_be_done(rt, array.store_chunk_subset(alloc, &[1], &first, [number]));
+}
+
+/// Stores a slice.
+fn store_region(rt: &impl Abort, alloc: Global, array: &mut MemoryArray, numbers: &[i16]) {
+    let second = region(rt, alloc, &[1], &[1]);
+    must_be_done(rt, array.store_array_subset(alloc, &second, numbers));
+}
+
+fn must_hold(rt: &impl Abort, alloc: Global, array: &MemoryArray, numbers: &[i16]) {
+    let all = all_of(rt, alloc, array);
+    must_be_values(rt, array.retrieve_array_subset(alloc, &all), numbers);
 }
 
 /// Lists, arrays and slices are stored, and read as lists.
 fn must_store_lists(rt: &impl Abort, alloc: Global, array: &mut MemoryArray) {
-    array
-        .store_chunk(
-            alloc,
-            &[0],
-            vec![in alloc; 1i16, 2].expect(rt, "no refusal"),
-        )
-        .expect(rt, "no refusal");
-    array
-        .store_chunk_subset(alloc, &[1], &region(rt, alloc, &[0], &[1]), [-3i16])
-        .expect(rt, "no refusal");
-    array
-        .store_array_subset(alloc, &region(rt, alloc, &[1], &[1]), [7i16].as_slice())
-        .expect(rt, "no refusal");
-    let held: Vec<i16> = array
-        .retrieve_array_subset(alloc, &array.subset_all(alloc).expect(rt, "no refusal"))
-        .expect(rt, "no refusal");
-    must(rt, held.as_slice() == [1, 7, -3, -1].as_slice());
+    store_chunk(rt, alloc, array, &[1, 2]);
+    store_part(rt, alloc, array, -3);
+    store_region(rt, alloc, array, &[7]);
+    must_hold(rt, alloc, array, &[1, 7, -3, -1]);
 }
 
 #[test]
 fn lists_are_stored_and_read(rt: HostRuntime) {
     let alloc = rt.alloc();
-    let mut array = array(&rt, alloc, "/", WORDS);
+    let mut array = array(&rt, alloc, "/", NUMBERS);
     must_store_lists(&rt, alloc, &mut array);
+}
+
+/// Stores an array that is lent.
+fn store_lent(rt: &impl Abort, alloc: Global, array: &mut MemoryArray) {
+    must_be_done(rt, array.store_chunk(alloc, &[0], &[1i16, 2]));
+}
+
+/// The chunk is not read as values of another type.
+fn must_refuse_chunk(
+    rt: &impl Abort,
+    alloc: Global,
+    array: &MemoryArray,
+    indices: &[u64],
+    number: u8,
+) {
+    must_be_refused(rt, array.retrieve_chunk::<Vec<u16>>(alloc, indices), number);
+}
+
+/// The present chunk is not read as values of another type, and an absent one is found absent.
+fn must_refuse_present(rt: &impl Abort, alloc: Global, array: &MemoryArray, number: u8) {
+    must_be_refused(
+        rt,
+        array.retrieve_chunk_if_exists::<Vec<u16>>(alloc, &[0]),
+        number,
+    );
+}
+
+fn must_find_absent(rt: &impl Abort, alloc: Global, array: &MemoryArray) {
+    must_be_absent(rt, array.retrieve_chunk_if_exists::<Vec<u16>>(alloc, &[1]));
+}
+
+fn must_refuse_all(rt: &impl Abort, alloc: Global, array: &MemoryArray, number: u8) {
+    let all = all_of(rt, alloc, array);
+    must_be_refused(
+        rt,
+        array.retrieve_array_subset::<Vec<bool>, _>(alloc, &all),
+        number,
+    );
+}
+
+fn must_refuse_chunks(rt: &impl Abort, alloc: Global, array: &MemoryArray, number: u8) {
+    let both = region(rt, alloc, &[0], &[2]);
+    must_be_refused(
+        rt,
+        array.retrieve_chunks::<Vec<u8>, _>(alloc, &both),
+        number,
+    );
+}
+
+fn must_refuse_part(rt: &impl Abort, alloc: Global, array: &MemoryArray, number: u8) {
+    let second = region(rt, alloc, &[1], &[1]);
+    must_be_refused(
+        rt,
+        array.retrieve_chunk_subset::<Vec<u8>, _>(alloc, &[0], &second),
+        number,
+    );
 }
 
 /// A present chunk is read as values of another type, and an absent one.
 fn must_refuse_other_lists(rt: &impl Abort, alloc: Global, array: &mut MemoryArray) {
-    array
-        .store_chunk(alloc, &[0], &[1i16, 2])
-        .expect(rt, "no refusal");
-    must_be_an_element_error(rt, array.retrieve_chunk::<Vec<u16>>(alloc, &[0]));
-    must_be_an_element_error(rt, array.retrieve_chunk_if_exists::<Vec<u16>>(alloc, &[0]));
-    let absent: Option<Vec<u16>> = array
-        .retrieve_chunk_if_exists(alloc, &[1])
-        .expect(rt, "no refusal");
-    must(rt, absent.is_none());
-    let all = array.subset_all(alloc).expect(rt, "no refusal");
-    must_be_an_element_error(rt, array.retrieve_array_subset::<Vec<bool>, _>(alloc, &all));
-    must_be_an_element_error(
-        rt,
-        array.retrieve_chunks::<Vec<u8>, _>(alloc, &region(rt, alloc, &[0], &[2])),
-    );
-    must_be_an_element_error(
-        rt,
-        array.retrieve_chunk_subset::<Vec<u8>, _>(alloc, &[0], &region(rt, alloc, &[1], &[1])),
-    );
-    let far = array.retrieve_chunk::<Vec<u16>>(alloc, &[0, 0]);
-    must(
-        rt,
-        matches!(far, Err(ArrayError::InvalidChunkGridIndicesError(_))),
-    );
+    store_lent(rt, alloc, array);
+    must_refuse_chunk(rt, alloc, array, &[0], 5);
+    must_refuse_present(rt, alloc, array, 5);
+    must_find_absent(rt, alloc, array);
+    must_refuse_all(rt, alloc, array, 5);
+    must_refuse_chunks(rt, alloc, array, 5);
+    must_refuse_part(rt, alloc, array, 5);
+    must_refuse_chunk(rt, alloc, array, &[0, 0], 3);
 }
 
 #[test]
 fn lists_of_another_type_are_refused_last_by_reads(rt: HostRuntime) {
     let alloc = rt.alloc();
-    let mut array = array(&rt, alloc, "/", WORDS);
+    let mut array = array(&rt, alloc, "/", NUMBERS);
     must_refuse_other_lists(&rt, alloc, &mut array);
+}
+
+fn must_not_store_chunk(
+    rt: &impl Abort,
+    alloc: Global,
+    array: &mut MemoryArray,
+    indices: &[u64],
+    bytes: &[u8],
+    number: u8,
+) {
+    must_be_refused(rt, array.store_chunk(alloc, indices, bytes), number);
+}
+
+fn must_not_store_part(
+    rt: &impl Abort,
+    alloc: Global,
+    array: &mut MemoryArray,
+    indices: &[u64],
+    start: &[u64],
+    shape: &[u64],
+    bytes: &[u8],
+    number: u8,
+) {
+    let part = region(rt, alloc, start, shape);
+    must_be_refused(
+        rt,
+        array.store_chunk_subset(alloc, indices, &part, bytes),
+        number,
+    );
+}
+
+fn must_not_store_region(
+    rt: &impl Abort,
+    alloc: Global,
+    array: &mut MemoryArray,
+    start: &[u64],
+    shape: &[u64],
+    bytes: &[u8],
+    number: u8,
+) {
+    let place = region(rt, alloc, start, shape);
+    must_be_refused(rt, array.store_array_subset(alloc, &place, bytes), number);
+}
+
+fn must_not_store_chunks(
+    rt: &impl Abort,
+    alloc: Global,
+    array: &mut MemoryArray,
+    start: &[u64],
+    shape: &[u64],
+    bytes: &[u8],
+    number: u8,
+) {
+    let chunks = region(rt, alloc, start, shape);
+    must_be_refused(rt, array.store_chunks(alloc, &chunks, bytes), number);
 }
 
 /// A store of another type is refused after the place of the part, the region or the number of chunks, and before the
 /// number of values; that of a chunk comes first.
 fn must_refuse_in_order(rt: &impl Abort, alloc: Global, array: &mut MemoryArray) {
-    must_be_an_element_error(rt, array.store_chunk(alloc, &[0, 0], &[1u8]));
-    let one = region(rt, alloc, &[0], &[1]);
-    must_be_an_element_error(rt, array.store_chunk_subset(alloc, &[0], &one, &[1u8; 3]));
-    must_be_an_element_error(rt, array.store_array_subset(alloc, &one, &[1u8; 3]));
-    must_be_an_element_error(rt, array.store_chunks(alloc, &one, &[1u8; 3]));
-    let past = region(rt, alloc, &[1], &[2]);
-    let part = array.store_chunk_subset(alloc, &[0], &past, &[1u8; 2]);
-    must(
-        rt,
-        matches!(part, Err(ArrayError::InvalidChunkSubset(_, _, _))),
-    );
-    let index = array.store_chunk_subset(alloc, &[0, 0], &one, &[1u8]);
-    must(
-        rt,
-        matches!(index, Err(ArrayError::IncompatibleDimensionalityError(_))),
-    );
-    let square = region(rt, alloc, &[0, 0], &[1, 1]);
-    let other = array.store_array_subset(alloc, &square, &[1u8]);
-    must(
-        rt,
-        matches!(other, Err(ArrayError::InvalidArraySubset(_, _))),
-    );
-    let many = region(rt, alloc, &[0, 0], &[u64::MAX, 2]);
-    let number = array.store_chunks(alloc, &many, &[1u8]);
-    must(rt, matches!(number, Err(ArrayError::SizeOverflow)));
+    must_not_store_chunk(rt, alloc, array, &[0, 0], &[1], 5);
+    must_not_store_part(rt, alloc, array, &[0], &[0], &[1], &[1; 3], 5);
+    must_not_store_region(rt, alloc, array, &[0], &[1], &[1; 3], 5);
+    must_not_store_chunks(rt, alloc, array, &[0], &[1], &[1; 3], 5);
+    must_not_store_part(rt, alloc, array, &[0], &[1], &[2], &[1; 2], 2);
+    must_not_store_part(rt, alloc, array, &[0, 0], &[0], &[1], &[1], 10);
+    must_not_store_region(rt, alloc, array, &[0, 0], &[1, 1], &[1], 1);
+    must_not_store_chunks(rt, alloc, array, &[0, 0], &[u64::MAX, 2], &[1], 8);
     must_eq(rt, array.storage().calls(), 0);
 }
 
 #[test]
 fn lists_of_another_type_are_refused_in_their_place_by_stores(rt: HostRuntime) {
     let alloc = rt.alloc();
-    let mut array = array(&rt, alloc, "/", WORDS);
+    let mut array = array(&rt, alloc, "/", NUMBERS);
     must_refuse_in_order(&rt, alloc, &mut array);
+}
+
+/// These texts were read.
+fn must_be_texts(rt: &impl Abort, read: Result<Vec<String>, ArrayError>, texts: &[&str]) {
+    let held = read.expect(rt, "no refusal");
+    must_be_equal_texts(rt, &held, texts);
+}
+
+fn must_be_equal_texts(rt: &impl Abort, held: &[String], texts: &[&str]) {
+    must_eq(rt, held.len(), texts.len());
+    for (text, wanted) in held.iter().zip(texts.iter()) {
+        must_eq(rt, text.as_str(), *wanted);
+    }
+}
+
+fn store_texts(rt: &impl Abort, alloc: Global, array: &mut MemoryArray) {
+    let options = CodecOptions::default();
+    must_be_done(
+        rt,
+        array.store_chunk_opt(alloc, &[0], &["ab", ""], &options),
+    );
+}
+
+fn must_read_chunk(rt: &impl Abort, alloc: Global, array: &MemoryArray, texts: &[&str]) {
+    let options = CodecOptions::default();
+    must_be_texts(rt, array.retrieve_chunk_opt(alloc, &[0], &options), texts);
+}
+
+fn must_read_all(rt: &impl Abort, alloc: Global, array: &MemoryArray, texts: &[&str]) {
+    let (all, options) = (all_of(rt, alloc, array), CodecOptions::default());
+    must_be_texts(
+        rt,
+        array.retrieve_array_subset_opt(alloc, &all, &options),
+        texts,
+    );
+}
+
+fn must_read_part(rt: &impl Abort, alloc: Global, array: &MemoryArray, texts: &[&str]) {
+    let (part, options) = (region(rt, alloc, &[0], &[2]), CodecOptions::default());
+    must_be_texts(
+        rt,
+        array.retrieve_chunk_subset_opt(alloc, &[0], &part, &options),
+        texts,
+    );
+}
+
+fn must_read_chunks(rt: &impl Abort, alloc: Global, array: &MemoryArray, texts: &[&str]) {
+    let (chunks, options) = (region(rt, alloc, &[0], &[1]), CodecOptions::default());
+    must_be_texts(
+        rt,
+        array.retrieve_chunks_opt(alloc, &chunks, &options),
+        texts,
+    );
+}
+
+fn must_read_if_present(rt: &impl Abort, alloc: Global, array: &MemoryArray, texts: &[&str]) {
+    let options = CodecOptions::default();
+    let found = array.retrieve_chunk_if_exists_opt(alloc, &[0], &options);
+    must_be_found(rt, found, texts);
+}
+
+/// These texts were found.
+fn must_be_found(rt: &impl Abort, found: Result<Option<Vec<String>>, ArrayError>, texts: &[&str]) {
+    let held = found.expect(rt, "no refusal").expect(rt, "a present chunk");
+    must_be_equal_texts(rt, &held, texts);
 }
 
 /// Texts that are lent are stored, and read as texts that are owned; the other way of each call takes options.
 fn must_store_texts(rt: &impl Abort, alloc: Global, array: &mut MemoryArray) {
-    let options = CodecOptions::default();
-    array
-        .store_chunk_opt(alloc, &[0], &["ab", ""], &options)
-        .expect(rt, "no refusal");
-    let held: Vec<String> = array
-        .retrieve_chunk_opt(alloc, &[0], &options)
-        .expect(rt, "no refusal");
-    must(
-        rt,
-        held.len() == 2 && held[0].as_str() == "ab" && held[1].is_empty(),
-    );
-    let all = array.subset_all(alloc).expect(rt, "no refusal");
-    let same: Vec<String> = array
-        .retrieve_array_subset_opt(alloc, &all, &options)
-        .expect(rt, "no refusal");
-    must_eq(rt, same.len(), 2);
-    let part: Vec<String> = array
-        .retrieve_chunk_subset_opt(alloc, &[0], &all, &options)
-        .expect(rt, "no refusal");
-    must_eq(rt, part.len(), 2);
-    let chunks = region(rt, alloc, &[0], &[1]);
-    let range: Vec<String> = array
-        .retrieve_chunks_opt(alloc, &chunks, &options)
-        .expect(rt, "no refusal");
-    must_eq(rt, range.len(), 2);
-    let found: Option<Vec<String>> = array
-        .retrieve_chunk_if_exists_opt(alloc, &[0], &options)
-        .expect(rt, "no refusal");
-    must(rt, found.is_some());
+    store_texts(rt, alloc, array);
+    must_read_chunk(rt, alloc, array, &["ab", ""]);
+    must_read_all(rt, alloc, array, &["ab", ""]);
+    must_read_part(rt, alloc, array, &["ab", ""]);
+    must_read_chunks(rt, alloc, array, &["ab", ""]);
+    must_read_if_present(rt, alloc, array, &["ab", ""]);
 }
 
 #[test]
