@@ -4,6 +4,7 @@ use crate::checks::{
 };
 use crate::made::{MemoryArray, SMALL, all_of, array, list, region};
 use std::alloc::Global;
+use std::ops::Range;
 use std::process::Abort;
 use zarrs::{ArrayBytes, ArrayBytesDecodeIntoTarget, ArrayError, Call, CodecOptions, Reply};
 
@@ -22,11 +23,10 @@ fn store_part(
     alloc: Global,
     array: &mut MemoryArray,
     indices: &[u64],
-    start: &[u64],
-    shape: &[u64],
+    part: &[Range<u64>],
     cells: &[u8],
 ) {
-    let part = region(rt, alloc, start, shape);
+    let part = region(rt, alloc, part);
     must_be_done(rt, array.store_chunk_subset(alloc, indices, &part, cells));
 }
 
@@ -34,11 +34,10 @@ fn store_chunks(
     rt: &impl Abort,
     alloc: Global,
     array: &mut MemoryArray,
-    start: &[u64],
-    shape: &[u64],
+    chunks: &[Range<u64>],
     cells: &[u8],
 ) {
-    let chunks = region(rt, alloc, start, shape);
+    let chunks = region(rt, alloc, chunks);
     must_be_done(rt, array.store_chunks(alloc, &chunks, cells));
 }
 
@@ -46,11 +45,10 @@ fn store_region(
     rt: &impl Abort,
     alloc: Global,
     array: &mut MemoryArray,
-    start: &[u64],
-    shape: &[u64],
+    middle: &[Range<u64>],
     cells: &[u8],
 ) {
-    let middle = region(rt, alloc, start, shape);
+    let middle = region(rt, alloc, middle);
     must_be_done(rt, array.store_array_subset(alloc, &middle, cells));
 }
 
@@ -63,9 +61,9 @@ fn must_hold(rt: &impl Abort, alloc: Global, array: &MemoryArray, cells: &[u8]) 
 /// Writes of a chunk, of a part of one, of a range of chunks and of a region.
 fn write(rt: &impl Abort, alloc: Global, array: &mut MemoryArray) {
     store_chunk(rt, alloc, array, &[0, 0], &[1, 2, 3, 4]);
-    store_part(rt, alloc, array, &[0, 1], &[1, 0], &[1, 2], &[5, 6]);
-    store_chunks(rt, alloc, array, &[1, 0], &[1, 2], &[7; 8]);
-    store_region(rt, alloc, array, &[1, 1], &[2, 2], &[9; 4]);
+    store_part(rt, alloc, array, &[0, 1], &[1..2, 0..2], &[5, 6]);
+    store_chunks(rt, alloc, array, &[1..2, 0..2], &[7; 8]);
+    store_region(rt, alloc, array, &[1..3, 1..3], &[9; 4]);
 }
 
 /// What these writes leave, a row of the array a line.
@@ -104,11 +102,10 @@ fn keep_part(
     alloc: Global,
     array: &mut MemoryArray,
     indices: &[u64],
-    start: &[u64],
-    shape: &[u64],
+    part: &[Range<u64>],
     cells: &[u8],
 ) {
-    let part = region(rt, alloc, start, shape);
+    let part = region(rt, alloc, part);
     must_be_done(
         rt,
         array.store_chunk_subset_opt(alloc, indices, &part, cells, &keeping()),
@@ -119,11 +116,10 @@ fn keep_chunks(
     rt: &impl Abort,
     alloc: Global,
     array: &mut MemoryArray,
-    start: &[u64],
-    shape: &[u64],
+    chunks: &[Range<u64>],
     cells: &[u8],
 ) {
-    let chunks = region(rt, alloc, start, shape);
+    let chunks = region(rt, alloc, chunks);
     must_be_done(
         rt,
         array.store_chunks_opt(alloc, &chunks, cells, &keeping()),
@@ -141,8 +137,8 @@ fn keep_all(rt: &impl Abort, alloc: Global, array: &mut MemoryArray, cells: &[u8
 /// Writes of fill value with options that keep empty chunks.
 fn keep(rt: &impl Abort, alloc: Global, array: &mut MemoryArray) {
     keep_chunk(rt, alloc, array, &[0, 0], &[0; 4]);
-    keep_part(rt, alloc, array, &[0, 1], &[0, 0], &[1, 1], &[0]);
-    keep_chunks(rt, alloc, array, &[1, 0], &[1, 2], &[0; 8]);
+    keep_part(rt, alloc, array, &[0, 1], &[0..1, 0..1], &[0]);
+    keep_chunks(rt, alloc, array, &[1..2, 0..2], &[0; 8]);
     keep_all(rt, alloc, array, &[0; 16]);
 }
 
@@ -154,14 +150,8 @@ fn erase_chunk(rt: &impl Abort, alloc: Global, array: &mut MemoryArray, indices:
     array.erase_chunk(alloc, indices).expect(rt, "no refusal");
 }
 
-fn erase_chunks(
-    rt: &impl Abort,
-    alloc: Global,
-    array: &mut MemoryArray,
-    start: &[u64],
-    shape: &[u64],
-) {
-    let chunks = region(rt, alloc, start, shape);
+fn erase_chunks(rt: &impl Abort, alloc: Global, array: &mut MemoryArray, chunks: &[Range<u64>]) {
+    let chunks = region(rt, alloc, chunks);
     if chunks.dimensionality() != array.dimensionality() {
         return rt.panic("another number of dimensions");
     }
@@ -172,7 +162,7 @@ fn must_keep_and_erase(rt: &impl Abort, alloc: Global, array: &mut MemoryArray) 
     keep(rt, alloc, array);
     must_have_keys(rt, alloc, array, 4);
     erase_chunk(rt, alloc, array, &[0, 0]);
-    erase_chunks(rt, alloc, array, &[1, 0], &[1, 2]);
+    erase_chunks(rt, alloc, array, &[1..2, 0..2]);
     must_have_keys(rt, alloc, array, 1);
 }
 
@@ -188,11 +178,10 @@ fn must_read_part(
     alloc: Global,
     array: &MemoryArray,
     indices: &[u64],
-    start: &[u64],
-    shape: &[u64],
+    part: &[Range<u64>],
     cells: &[u8],
 ) {
-    let part = region(rt, alloc, start, shape);
+    let part = region(rt, alloc, part);
     must_be_values(
         rt,
         array.retrieve_chunk_subset(alloc, indices, &part),
@@ -204,11 +193,10 @@ fn must_read_chunks(
     rt: &impl Abort,
     alloc: Global,
     array: &MemoryArray,
-    start: &[u64],
-    shape: &[u64],
+    chunks: &[Range<u64>],
     cells: &[u8],
 ) {
-    let chunks = region(rt, alloc, start, shape);
+    let chunks = region(rt, alloc, chunks);
     must_be_values(rt, array.retrieve_chunks(alloc, &chunks), cells);
 }
 
@@ -240,11 +228,10 @@ fn must_find(
     rt: &impl Abort,
     alloc: Global,
     array: &MemoryArray,
-    start: &[u64],
-    shape: &[u64],
+    chunks: &[Range<u64>],
     count: usize,
 ) {
-    let chunks = region(rt, alloc, start, shape);
+    let chunks = region(rt, alloc, chunks);
     if chunks.dimensionality() != array.dimensionality() {
         return rt.panic("another number of dimensions");
     }
@@ -254,18 +241,11 @@ fn must_find(
 
 /// Reads of a part of a chunk and of a range, and of the stored bytes.
 fn must_read(rt: &impl Abort, alloc: Global, array: &MemoryArray) {
-    must_read_part(rt, alloc, array, &[0, 0], &[0, 1], &[2, 1], &[2, 9]);
-    must_read_chunks(
-        rt,
-        alloc,
-        array,
-        &[1, 0],
-        &[1, 2],
-        &[7, 9, 9, 7, 7, 7, 7, 7],
-    );
+    must_read_part(rt, alloc, array, &[0, 0], &[0..2, 1..2], &[2, 9]);
+    must_read_chunks(rt, alloc, array, &[1..2, 0..2], &[7, 9, 9, 7, 7, 7, 7, 7]);
     must_read_if_present(rt, alloc, array, &[0, 1], &[0, 0, 9, 6]);
     must_be_stored(rt, alloc, array, &[1, 0], &[7, 9, 7, 7]);
-    must_find(rt, alloc, array, &[1, 0], &[1, 2], 2);
+    must_find(rt, alloc, array, &[1..2, 0..2], 2);
 }
 
 /// Reads the region into the second and the third byte of the middle row of three.
@@ -274,25 +254,20 @@ fn read_into(
     alloc: Global,
     array: &MemoryArray,
     bytes: &mut [u8],
-    start: &[u64],
-    shape: &[u64],
+    cells: &[Range<u64>],
 ) -> Result<(), ArrayError> {
-    let inside = region(rt, alloc, &[1, 1], &[1, 2]);
+    let inside = region(rt, alloc, &[1..2, 1..3]);
     let target = ArrayBytesDecodeIntoTarget::new_fixed(bytes, 1, &[3, 3], &inside);
     let mut target = target.expect(rt, "no refusal");
-    let cells = region(rt, alloc, start, shape);
+    let cells = region(rt, alloc, cells);
     array.retrieve_array_subset_into(alloc, &cells, &mut target)
 }
 
 /// Reads two cells into a lent box, and one column into a box of another shape, which is refused.
 fn must_read_into(rt: &impl Abort, alloc: Global, array: &MemoryArray) {
     let mut lent = [8u8; 9];
-    must_be_done(rt, read_into(rt, alloc, array, &mut lent, &[1, 2], &[1, 2]));
-    must_be_refused(
-        rt,
-        read_into(rt, alloc, array, &mut lent, &[1, 2], &[2, 1]),
-        6,
-    );
+    must_be_done(rt, read_into(rt, alloc, array, &mut lent, &[1..2, 2..4]));
+    must_be_refused(rt, read_into(rt, alloc, array, &mut lent, &[1..3, 2..3]), 6);
     must(rt, lent == [8, 8, 8, 8, 9, 6, 8, 8, 8]);
 }
 

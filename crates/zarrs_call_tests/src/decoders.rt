@@ -2,6 +2,7 @@
 use crate::checks::{must, must_be_done, must_be_refused, must_eq};
 use crate::made::{MemoryArray, array, region};
 use std::alloc::Global;
+use std::ops::Range;
 use std::process::Abort;
 use zarrs::{
     ArrayBytes, ArrayBytesDecodeIntoTarget, ArrayError, ArrayMetadataOptions, ArrayPartialDecoder,
@@ -40,7 +41,7 @@ fn must_decode(
     chunk: &ArrayPartialDecoder<'_, MemoryStore>,
     cells: &[u8],
 ) {
-    let part = region(rt, alloc, &[1, 2], &[2, 2]);
+    let part = region(rt, alloc, &[1..3, 2..4]);
     must_be(
         rt,
         chunk.partial_decode(alloc, &part, &CodecOptions::default()),
@@ -92,10 +93,10 @@ fn read_into(
     array: &MemoryArray,
     bytes: &mut [u8],
 ) -> Result<(), ArrayError> {
-    let place = region(rt, alloc, &[0, 1], &[1, 2]);
+    let place = region(rt, alloc, &[0..1, 1..3]);
     let target = ArrayBytesDecodeIntoTarget::new_fixed(bytes, 1, &[1, 4], &place);
     let mut target = target.expect(rt, "no refusal");
-    let cells = region(rt, alloc, &[0, 3], &[1, 2]);
+    let cells = region(rt, alloc, &[0..1, 3..5]);
     array.retrieve_array_subset_into_opt(alloc, &cells, &mut target, &CodecOptions::default())
 }
 
@@ -117,11 +118,10 @@ fn must_compare(
     alloc: Global,
     array: &MemoryArray,
     other: &MemoryArray,
-    start: &[u64],
-    shape: &[u64],
+    chunks: &[Range<u64>],
     equal: bool,
 ) {
-    let chunks = region(rt, alloc, start, shape);
+    let chunks = region(rt, alloc, chunks);
     let dimensions = chunks.dimensionality();
     if dimensions != array.dimensionality() || dimensions != other.dimensionality() {
         return rt.panic("another number of dimensions");
@@ -132,10 +132,10 @@ fn must_compare(
 
 /// The array is equal to itself, and to the other one in its lower chunks alone.
 fn must_be_equal_below(rt: &impl Abort, alloc: Global, array: &MemoryArray, other: &MemoryArray) {
-    must_compare(rt, alloc, array, array, &[0, 0], &[2, 2], true);
-    must_compare(rt, alloc, array, other, &[1, 0], &[1, 2], true);
-    must_compare(rt, alloc, array, other, &[0, 0], &[2, 2], false);
-    must_compare(rt, alloc, other, array, &[0, 1], &[1, 1], false);
+    must_compare(rt, alloc, array, array, &[0..2, 0..2], true);
+    must_compare(rt, alloc, array, other, &[1..2, 0..2], true);
+    must_compare(rt, alloc, array, other, &[0..2, 0..2], false);
+    must_compare(rt, alloc, other, array, &[0..1, 1..2], false);
 }
 
 #[test]

@@ -1,36 +1,32 @@
 //! Reads and stores of elements, under their older names.
 use crate::checks::{must_be_absent, must_be_done, must_be_present, must_be_values};
-use crate::made::{MemoryArray, NUMBERS, all_of, array};
+use crate::made::{MemoryArray, NUMBERS, all_of, array, region};
 use std::alloc::Global;
 use std::ops::Range;
 use std::process::Abort;
-use zarrs::{ArraySubset, CodecOptions};
-
-fn line(rt: &impl Abort, alloc: Global, range: Range<u64>) -> ArraySubset {
-    ArraySubset::new_with_ranges(alloc, &[range]).expect(rt, "no refusal")
-}
+use zarrs::CodecOptions;
 
 fn store_chunk(
     rt: &impl Abort,
     alloc: Global,
     array: &mut MemoryArray,
-    index: u64,
+    indices: &[u64],
     elements: &[i16],
 ) {
-    must_be_done(rt, array.store_chunk_elements(alloc, &[index], elements));
+    must_be_done(rt, array.store_chunk_elements(alloc, indices, elements));
 }
 
 fn store_part(
     rt: &impl Abort,
     alloc: Global,
     array: &mut MemoryArray,
-    index: u64,
-    part: Range<u64>,
+    indices: &[u64],
+    part: &[Range<u64>; 1],
     elements: &[i16],
 ) {
     must_be_done(
         rt,
-        array.store_chunk_subset_elements(alloc, &[index], &[part], elements),
+        array.store_chunk_subset_elements(alloc, indices, part, elements),
     );
 }
 
@@ -38,10 +34,10 @@ fn store_chunks(
     rt: &impl Abort,
     alloc: Global,
     array: &mut MemoryArray,
-    chunks: Range<u64>,
+    chunks: &[Range<u64>],
     elements: &[i16],
 ) {
-    let chunks = line(rt, alloc, chunks);
+    let chunks = region(rt, alloc, chunks);
     must_be_done(rt, array.store_chunks_elements(alloc, &chunks, elements));
 }
 
@@ -49,12 +45,12 @@ fn store_region(
     rt: &impl Abort,
     alloc: Global,
     array: &mut MemoryArray,
-    region: Range<u64>,
+    place: &[Range<u64>; 1],
     elements: &[i16],
 ) {
     must_be_done(
         rt,
-        array.store_array_subset_elements(alloc, &[region], elements),
+        array.store_array_subset_elements(alloc, place, elements),
     );
 }
 
@@ -62,24 +58,24 @@ fn must_read_chunk(
     rt: &impl Abort,
     alloc: Global,
     array: &MemoryArray,
-    index: u64,
+    indices: &[u64],
     elements: &[i16],
 ) {
-    must_be_values(rt, array.retrieve_chunk_elements(alloc, &[index]), elements);
+    must_be_values(rt, array.retrieve_chunk_elements(alloc, indices), elements);
 }
 
 fn must_read_part(
     rt: &impl Abort,
     alloc: Global,
     array: &MemoryArray,
-    index: u64,
-    part: Range<u64>,
+    indices: &[u64],
+    part: &[Range<u64>],
     elements: &[i16],
 ) {
-    let part = line(rt, alloc, part);
+    let part = region(rt, alloc, part);
     must_be_values(
         rt,
-        array.retrieve_chunk_subset_elements(alloc, &[index], &part),
+        array.retrieve_chunk_subset_elements(alloc, indices, &part),
         elements,
     );
 }
@@ -88,14 +84,10 @@ fn must_read_chunks(
     rt: &impl Abort,
     alloc: Global,
     array: &MemoryArray,
-    chunks: Range<u64>,
+    chunks: &[Range<u64>; 1],
     elements: &[i16],
 ) {
-    must_be_values(
-        rt,
-        array.retrieve_chunks_elements(alloc, &[chunks]),
-        elements,
-    );
+    must_be_values(rt, array.retrieve_chunks_elements(alloc, chunks), elements);
 }
 
 fn must_read_all(rt: &impl Abort, alloc: Global, array: &MemoryArray, elements: &[i16]) {
@@ -111,26 +103,26 @@ fn must_read_if_present(
     rt: &impl Abort,
     alloc: Global,
     array: &MemoryArray,
-    index: u64,
+    indices: &[u64],
     elements: &[i16],
 ) {
     must_be_present(
         rt,
-        array.retrieve_chunk_elements_if_exists(alloc, &[index]),
+        array.retrieve_chunk_elements_if_exists(alloc, indices),
         elements,
     );
 }
 
 fn must_store_and_read(rt: &impl Abort, alloc: Global, array: &mut MemoryArray) {
-    store_chunk(rt, alloc, array, 0, &[1, 2]);
-    store_part(rt, alloc, array, 1, 0..1, &[-3]);
-    store_region(rt, alloc, array, 1..2, &[7]);
-    must_read_chunk(rt, alloc, array, 0, &[1, 7]);
-    must_read_part(rt, alloc, array, 1, 0..1, &[-3]);
-    store_chunks(rt, alloc, array, 0..2, &[4, 5, 6, 7]);
-    must_read_chunks(rt, alloc, array, 0..2, &[4, 5, 6, 7]);
+    store_chunk(rt, alloc, array, &[0], &[1, 2]);
+    store_part(rt, alloc, array, &[1], &[0..1], &[-3]);
+    store_region(rt, alloc, array, &[1..2], &[7]);
+    must_read_chunk(rt, alloc, array, &[0], &[1, 7]);
+    must_read_part(rt, alloc, array, &[1], &[0..1], &[-3]);
+    store_chunks(rt, alloc, array, &[0..2], &[4, 5, 6, 7]);
+    must_read_chunks(rt, alloc, array, &[0..2], &[4, 5, 6, 7]);
     must_read_all(rt, alloc, array, &[4, 5, 6, 7]);
-    must_read_if_present(rt, alloc, array, 0, &[4, 5]);
+    must_read_if_present(rt, alloc, array, &[0], &[4, 5]);
 }
 
 #[test]
@@ -144,12 +136,12 @@ fn store_chunk_by_options(
     rt: &impl Abort,
     alloc: Global,
     array: &mut MemoryArray,
-    index: u64,
+    indices: &[u64],
     elements: &[i16],
 ) {
     must_be_done(
         rt,
-        array.store_chunk_elements_opt(alloc, &[index], elements, &CodecOptions::default()),
+        array.store_chunk_elements_opt(alloc, indices, elements, &CodecOptions::default()),
     );
 }
 
@@ -157,16 +149,16 @@ fn store_part_by_options(
     rt: &impl Abort,
     alloc: Global,
     array: &mut MemoryArray,
-    index: u64,
-    part: Range<u64>,
+    indices: &[u64],
+    part: &[Range<u64>],
     elements: &[i16],
 ) {
-    let part = line(rt, alloc, part);
+    let part = region(rt, alloc, part);
     must_be_done(
         rt,
         array.store_chunk_subset_elements_opt(
             alloc,
-            &[index],
+            indices,
             &part,
             elements,
             &CodecOptions::default(),
@@ -178,10 +170,10 @@ fn store_chunks_by_options(
     rt: &impl Abort,
     alloc: Global,
     array: &mut MemoryArray,
-    chunks: Range<u64>,
+    chunks: &[Range<u64>],
     elements: &[i16],
 ) {
-    let chunks = line(rt, alloc, chunks);
+    let chunks = region(rt, alloc, chunks);
     must_be_done(
         rt,
         array.store_chunks_elements_opt(alloc, &chunks, elements, &CodecOptions::default()),
@@ -192,13 +184,13 @@ fn store_region_by_options(
     rt: &impl Abort,
     alloc: Global,
     array: &mut MemoryArray,
-    region: Range<u64>,
+    place: &[Range<u64>],
     elements: &[i16],
 ) {
-    let region = line(rt, alloc, region);
+    let place = region(rt, alloc, place);
     must_be_done(
         rt,
-        array.store_array_subset_elements_opt(alloc, &region, elements, &CodecOptions::default()),
+        array.store_array_subset_elements_opt(alloc, &place, elements, &CodecOptions::default()),
     );
 }
 
@@ -206,12 +198,12 @@ fn must_read_chunk_by_options(
     rt: &impl Abort,
     alloc: Global,
     array: &MemoryArray,
-    index: u64,
+    indices: &[u64],
     elements: &[i16],
 ) {
     must_be_values(
         rt,
-        array.retrieve_chunk_elements_opt(alloc, &[index], &CodecOptions::default()),
+        array.retrieve_chunk_elements_opt(alloc, indices, &CodecOptions::default()),
         elements,
     );
 }
@@ -220,14 +212,14 @@ fn must_read_part_by_options(
     rt: &impl Abort,
     alloc: Global,
     array: &MemoryArray,
-    index: u64,
-    part: Range<u64>,
+    indices: &[u64],
+    part: &[Range<u64>],
     elements: &[i16],
 ) {
-    let part = line(rt, alloc, part);
+    let part = region(rt, alloc, part);
     must_be_values(
         rt,
-        array.retrieve_chunk_subset_elements_opt(alloc, &[index], &part, &CodecOptions::default()),
+        array.retrieve_chunk_subset_elements_opt(alloc, indices, &part, &CodecOptions::default()),
         elements,
     );
 }
@@ -236,10 +228,10 @@ fn must_read_chunks_by_options(
     rt: &impl Abort,
     alloc: Global,
     array: &MemoryArray,
-    chunks: Range<u64>,
+    chunks: &[Range<u64>],
     elements: &[i16],
 ) {
-    let chunks = line(rt, alloc, chunks);
+    let chunks = region(rt, alloc, chunks);
     must_be_values(
         rt,
         array.retrieve_chunks_elements_opt(alloc, &chunks, &CodecOptions::default()),
@@ -251,34 +243,34 @@ fn must_read_region_by_options(
     rt: &impl Abort,
     alloc: Global,
     array: &MemoryArray,
-    region: Range<u64>,
+    place: &[Range<u64>],
     elements: &[i16],
 ) {
-    let region = line(rt, alloc, region);
+    let place = region(rt, alloc, place);
     must_be_values(
         rt,
-        array.retrieve_array_subset_elements_opt(alloc, &region, &CodecOptions::default()),
+        array.retrieve_array_subset_elements_opt(alloc, &place, &CodecOptions::default()),
         elements,
     );
 }
 
-fn must_be_absent_by_options(rt: &impl Abort, alloc: Global, array: &MemoryArray, index: u64) {
+fn must_be_absent_by_options(rt: &impl Abort, alloc: Global, array: &MemoryArray, indices: &[u64]) {
     must_be_absent::<Vec<i16>>(
         rt,
-        array.retrieve_chunk_elements_if_exists_opt(alloc, &[index], &CodecOptions::default()),
+        array.retrieve_chunk_elements_if_exists_opt(alloc, indices, &CodecOptions::default()),
     );
 }
 
 fn must_store_and_read_by_options(rt: &impl Abort, alloc: Global, array: &mut MemoryArray) {
-    store_chunk_by_options(rt, alloc, array, 0, &[1, 2]);
-    store_part_by_options(rt, alloc, array, 0, 0..1, &[3]);
-    must_read_chunk_by_options(rt, alloc, array, 0, &[3, 2]);
-    store_chunks_by_options(rt, alloc, array, 0..1, &[4, 5]);
-    must_read_chunks_by_options(rt, alloc, array, 0..1, &[4, 5]);
-    store_region_by_options(rt, alloc, array, 0..1, &[6]);
-    must_read_region_by_options(rt, alloc, array, 0..2, &[6, 5]);
-    must_read_part_by_options(rt, alloc, array, 0, 0..1, &[6]);
-    must_be_absent_by_options(rt, alloc, array, 1);
+    store_chunk_by_options(rt, alloc, array, &[0], &[1, 2]);
+    store_part_by_options(rt, alloc, array, &[0], &[0..1], &[3]);
+    must_read_chunk_by_options(rt, alloc, array, &[0], &[3, 2]);
+    store_chunks_by_options(rt, alloc, array, &[0..1], &[4, 5]);
+    must_read_chunks_by_options(rt, alloc, array, &[0..1], &[4, 5]);
+    store_region_by_options(rt, alloc, array, &[0..1], &[6]);
+    must_read_region_by_options(rt, alloc, array, &[0..2], &[6, 5]);
+    must_read_part_by_options(rt, alloc, array, &[0], &[0..1], &[6]);
+    must_be_absent_by_options(rt, alloc, array, &[1]);
 }
 
 #[test]

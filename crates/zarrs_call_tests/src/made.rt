@@ -1,6 +1,7 @@
 //! The documents, arrays and boxes of the tests.
 use serde_json::{Map, Value};
 use std::alloc::Global;
+use std::ops::Range;
 use std::process::Abort;
 use zarrs::{Array, ArrayMetadata, ArrayMetadataV3, ArraySubset, MemoryStore};
 use zarrs_document::members;
@@ -86,10 +87,9 @@ pub(crate) fn list(rt: &impl Abort, alloc: Global, numbers: &[u64]) -> Vec<u64> 
     numbers.to_vec(alloc).expect(rt, "no refusal")
 }
 
-/// The box of this start and this shape.
-pub(crate) fn region(rt: &impl Abort, alloc: Global, start: &[u64], shape: &[u64]) -> ArraySubset {
-    let (start, shape) = (list(rt, alloc, start), list(rt, alloc, shape));
-    ArraySubset::new_with_start_shape(start, shape).expect(rt, "no refusal")
+/// The box of these ranges.
+pub(crate) fn region(rt: &impl Abort, alloc: Global, ranges: &[Range<u64>]) -> ArraySubset {
+    ArraySubset::new_with_ranges(alloc, ranges).expect(rt, "no refusal")
 }
 
 /// The box of all positions of the array.

@@ -3,6 +3,7 @@ use crate::checks::{must_be_refused, must_eq};
 use crate::made::{MemoryArray, SMALL, array, region};
 use std::alloc::Global;
 use std::num::NonZeroU64;
+use std::ops::Range;
 use std::process::Abort;
 use zarrs::{ArrayError, ArraySubset};
 
@@ -102,11 +103,10 @@ fn must_fill(
     rt: &impl Abort,
     alloc: Global,
     array: &MemoryArray,
-    start: &[u64],
-    shape: &[u64],
+    chunks: &[Range<u64>],
     answer: Answer<'_>,
 ) {
-    let chunks = region(rt, alloc, start, shape);
+    let chunks = region(rt, alloc, chunks);
     must_answer(rt, array.chunks_subset(alloc, &chunks), answer);
 }
 
@@ -115,11 +115,10 @@ fn must_fill_when_cut(
     rt: &impl Abort,
     alloc: Global,
     array: &MemoryArray,
-    start: &[u64],
-    shape: &[u64],
+    chunks: &[Range<u64>],
     answer: Answer<'_>,
 ) {
-    let chunks = region(rt, alloc, start, shape);
+    let chunks = region(rt, alloc, chunks);
     must_answer(rt, array.chunks_subset_bounded(alloc, &chunks), answer);
 }
 
@@ -138,11 +137,10 @@ fn must_meet(
     rt: &impl Abort,
     alloc: Global,
     array: &MemoryArray,
-    start: &[u64],
-    shape: &[u64],
+    place: &[Range<u64>],
     answer: Answer<'_>,
 ) {
-    let place = region(rt, alloc, start, shape);
+    let place = region(rt, alloc, place);
     let chunks = array.chunks_in_array_subset(alloc, &place);
     must_answer(rt, met(rt, chunks), answer);
 }
@@ -163,16 +161,16 @@ fn must_lie(rt: &impl Abort, alloc: Global, array: &MemoryArray) {
 /// Queries of a range of chunks, also of one that is empty and of one of another number of dimensions.
 fn must_lie_together(rt: &impl Abort, alloc: Global, array: &MemoryArray) {
     let right = Answer::Region(&[0, 2], &[4, 4]);
-    must_fill(rt, alloc, array, &[0, 1], &[2, 2], right);
+    must_fill(rt, alloc, array, &[0..2, 1..3], right);
     let cut = Answer::Region(&[0, 2], &[4, 2]);
-    must_fill_when_cut(rt, alloc, array, &[0, 1], &[2, 2], cut);
+    must_fill_when_cut(rt, alloc, array, &[0..2, 1..3], cut);
     let none = Answer::Region(&[0], &[0]);
-    must_fill(rt, alloc, array, &[9], &[0], none);
-    must_fill_when_cut(rt, alloc, array, &[9], &[0], Answer::Refusal(10));
-    must_fill(rt, alloc, array, &[1], &[1], Answer::Refusal(3));
+    must_fill(rt, alloc, array, &[9..9], none);
+    must_fill_when_cut(rt, alloc, array, &[9..9], Answer::Refusal(10));
+    must_fill(rt, alloc, array, &[1..2], Answer::Refusal(3));
     let upper = Answer::Region(&[0, 0], &[1, 2]);
-    must_meet(rt, alloc, array, &[1, 1], &[1, 2], upper);
-    must_meet(rt, alloc, array, &[1], &[1], Answer::Refusal(10));
+    must_meet(rt, alloc, array, &[1..2, 1..3], upper);
+    must_meet(rt, alloc, array, &[1..2], Answer::Refusal(10));
 }
 
 #[test]

@@ -2,6 +2,7 @@
 use crate::checks::{must_be_absent, must_be_done, must_be_refused, must_be_values, must_eq};
 use crate::made::{Members, MemoryArray, NUMBERS, all_of, array, region};
 use std::alloc::Global;
+use std::ops::Range;
 use std::process::Abort;
 use zarrs::{ArrayError, CodecOptions};
 
@@ -24,13 +25,13 @@ fn store_chunk(rt: &impl Abort, alloc: Global, array: &mut MemoryArray, numbers:
 
 /// Stores an array of one number.
 fn store_part(rt: &impl Abort, alloc: Global, array: &mut MemoryArray, number: i16) {
-    let first = region(rt, alloc, &[0], &[1]);
+    let first = region(rt, alloc, &[0..1]);
     must_be_done(rt, array.store_chunk_subset(alloc, &[1], &first, [number]));
 }
 
 /// Stores a slice.
 fn store_region(rt: &impl Abort, alloc: Global, array: &mut MemoryArray, numbers: &[i16]) {
-    let second = region(rt, alloc, &[1], &[1]);
+    let second = region(rt, alloc, &[1..2]);
     must_be_done(rt, array.store_array_subset(alloc, &second, numbers));
 }
 
@@ -93,7 +94,7 @@ fn must_refuse_all(rt: &impl Abort, alloc: Global, array: &MemoryArray, number: 
 }
 
 fn must_refuse_chunks(rt: &impl Abort, alloc: Global, array: &MemoryArray, number: u8) {
-    let both = region(rt, alloc, &[0], &[2]);
+    let both = region(rt, alloc, &[0..2]);
     must_be_refused(
         rt,
         array.retrieve_chunks::<Vec<u8>, _>(alloc, &both),
@@ -102,7 +103,7 @@ fn must_refuse_chunks(rt: &impl Abort, alloc: Global, array: &MemoryArray, numbe
 }
 
 fn must_refuse_part(rt: &impl Abort, alloc: Global, array: &MemoryArray, number: u8) {
-    let second = region(rt, alloc, &[1], &[1]);
+    let second = region(rt, alloc, &[1..2]);
     must_be_refused(
         rt,
         array.retrieve_chunk_subset::<Vec<u8>, _>(alloc, &[0], &second),
@@ -145,12 +146,11 @@ fn must_not_store_part(
     alloc: Global,
     array: &mut MemoryArray,
     indices: &[u64],
-    start: &[u64],
-    shape: &[u64],
+    part: &[Range<u64>],
     bytes: &[u8],
     number: u8,
 ) {
-    let part = region(rt, alloc, start, shape);
+    let part = region(rt, alloc, part);
     must_be_refused(
         rt,
         array.store_chunk_subset(alloc, indices, &part, bytes),
@@ -162,12 +162,11 @@ fn must_not_store_region(
     rt: &impl Abort,
     alloc: Global,
     array: &mut MemoryArray,
-    start: &[u64],
-    shape: &[u64],
+    place: &[Range<u64>],
     bytes: &[u8],
     number: u8,
 ) {
-    let place = region(rt, alloc, start, shape);
+    let place = region(rt, alloc, place);
     must_be_refused(rt, array.store_array_subset(alloc, &place, bytes), number);
 }
 
@@ -175,12 +174,11 @@ fn must_not_store_chunks(
     rt: &impl Abort,
     alloc: Global,
     array: &mut MemoryArray,
-    start: &[u64],
-    shape: &[u64],
+    chunks: &[Range<u64>],
     bytes: &[u8],
     number: u8,
 ) {
-    let chunks = region(rt, alloc, start, shape);
+    let chunks = region(rt, alloc, chunks);
     must_be_refused(rt, array.store_chunks(alloc, &chunks, bytes), number);
 }
 
@@ -188,13 +186,13 @@ fn must_not_store_chunks(
 /// number of values; that of a chunk comes first.
 fn must_refuse_in_order(rt: &impl Abort, alloc: Global, array: &mut MemoryArray) {
     must_not_store_chunk(rt, alloc, array, &[0, 0], &[1], 5);
-    must_not_store_part(rt, alloc, array, &[0], &[0], &[1], &[1; 3], 5);
-    must_not_store_region(rt, alloc, array, &[0], &[1], &[1; 3], 5);
-    must_not_store_chunks(rt, alloc, array, &[0], &[1], &[1; 3], 5);
-    must_not_store_part(rt, alloc, array, &[0], &[1], &[2], &[1; 2], 2);
-    must_not_store_part(rt, alloc, array, &[0, 0], &[0], &[1], &[1], 10);
-    must_not_store_region(rt, alloc, array, &[0, 0], &[1, 1], &[1], 1);
-    must_not_store_chunks(rt, alloc, array, &[0, 0], &[u64::MAX, 2], &[1], 8);
+    must_not_store_part(rt, alloc, array, &[0], &[0..1], &[1; 3], 5);
+    must_not_store_region(rt, alloc, array, &[0..1], &[1; 3], 5);
+    must_not_store_chunks(rt, alloc, array, &[0..1], &[1; 3], 5);
+    must_not_store_part(rt, alloc, array, &[0], &[1..3], &[1; 2], 2);
+    must_not_store_part(rt, alloc, array, &[0, 0], &[0..1], &[1], 10);
+    must_not_store_region(rt, alloc, array, &[0..1, 0..1], &[1], 1);
+    must_not_store_chunks(rt, alloc, array, &[0..u64::MAX, 0..2], &[1], 8);
     must_eq(rt, array.storage().calls(), 0);
 }
 
@@ -241,7 +239,7 @@ fn must_read_all(rt: &impl Abort, alloc: Global, array: &MemoryArray, texts: &[&
 }
 
 fn must_read_part(rt: &impl Abort, alloc: Global, array: &MemoryArray, texts: &[&str]) {
-    let (part, options) = (region(rt, alloc, &[0], &[2]), CodecOptions::default());
+    let (part, options) = (region(rt, alloc, &[0..2]), CodecOptions::default());
     must_be_texts(
         rt,
         array.retrieve_chunk_subset_opt(alloc, &[0], &part, &options),
@@ -250,7 +248,7 @@ fn must_read_part(rt: &impl Abort, alloc: Global, array: &MemoryArray, texts: &[
 }
 
 fn must_read_chunks(rt: &impl Abort, alloc: Global, array: &MemoryArray, texts: &[&str]) {
-    let (chunks, options) = (region(rt, alloc, &[0], &[1]), CodecOptions::default());
+    let (chunks, options) = (region(rt, alloc, &[0..1]), CodecOptions::default());
     must_be_texts(
         rt,
         array.retrieve_chunks_opt(alloc, &chunks, &options),
