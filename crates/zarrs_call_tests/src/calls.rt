@@ -235,7 +235,7 @@ fn must_find(
     if chunks.dimensionality() != array.dimensionality() {
         return rt.panic("another number of dimensions");
     }
-    let found = array.retrieve_encoded_chunks(alloc, &chunks);
+    let found = array.retrieve_encoded_chunks(alloc, &chunks, &CodecOptions::default());
     must_eq(rt, found.expect(rt, "no refusal").len(), count);
 }
 

@@ -10,6 +10,8 @@ mod decoders;
 #[cfg(test)]
 mod elements;
 #[cfg(test)]
+mod errors;
+#[cfg(test)]
 mod made;
 #[cfg(test)]
 mod queries;
