@@ -1,15 +1,14 @@
 //! Arrays as other programs store them: each opens, and what is stored of it opens in turn.
-use crate::checks::must;
-use crate::made::MemoryArray;
-use crate::versions::{holding, must_show, open, plain_v3};
+use crate::calls::{in_v3, open, opened, plain_v3, store_plainly};
+use crate::made::{MemoryArray, Texts};
+use crate::seen::{must_have_cells, must_show};
 use std::alloc::Global;
 use std::process::Abort;
-use zarrs::{Array, ArrayBytes, ArrayMetadataOptions};
 
 /// What a store holds, the V3 document that says the same, and the cells of the whole array, if they are few. Texts
 /// stand one after another.
 struct Row {
-    entries: &'static [(&'static str, &'static str)],
+    entries: Texts<'static>,
     converted: &'static str,
     cells: Option<&'static [u8]>,
 }
@@ -40,12 +39,12 @@ const COLUMNS: Row = Row {
         ("0/0", "\0\x01\0\x03\0\x02\0\x04"),
     ],
     converted: concat!(
-        "{\"chunk_grid\":{\"configuration\":{\"chunk_shape\":[2,2]},\"name\":\"regular\"},",
-        "\"chunk_key_encoding\":{\"configuration\":{\"separator\":\"/\"},\"name\":\"v2\"},",
-        "\"codecs\":[{\"configuration\":{\"order\":[1,0]},\"name\":\"transpose\"},",
-        "{\"configuration\":{\"endian\":\"big\"},\"name\":\"bytes\"}],",
-        "\"data_type\":\"int16\",\"fill_value\":0,\"node_type\":\"array\",\"shape\":[2,3],",
-        "\"zarr_format\":3}"
+        r#"{"chunk_grid":{"configuration":{"chunk_shape":[2,2]},"name":"regular"},"#,
+        r#""chunk_key_encoding":{"configuration":{"separator":"/"},"name":"v2"},"#,
+        r#""codecs":[{"configuration":{"order":[1,0]},"name":"transpose"},"#,
+        r#"{"configuration":{"endian":"big"},"name":"bytes"}],"#,
+        r#""data_type":"int16","fill_value":0,"node_type":"array","shape":[2,3],"#,
+        r#""zarr_format":3}"#
     ),
     cells: Some(&[1, 0, 2, 0, 0, 0, 3, 0, 4, 0, 0, 0]),
 };
@@ -75,12 +74,12 @@ const FLAGS: Row = Row {
         ("0", "\0\x01"),
     ],
     converted: concat!(
-        "{\"attributes\":{\"unit\":\"m\"},",
-        "\"chunk_grid\":{\"configuration\":{\"chunk_shape\":[2]},\"name\":\"regular\"},",
-        "\"chunk_key_encoding\":{\"configuration\":{\"separator\":\".\"},\"name\":\"v2\"},",
-        "\"codecs\":[\"bytes\"],",
-        "\"data_type\":\"bool\",\"fill_value\":true,\"node_type\":\"array\",\"shape\":[3],",
-        "\"zarr_format\":3}"
+        r#"{"attributes":{"unit":"m"},"#,
+        r#""chunk_grid":{"configuration":{"chunk_shape":[2]},"name":"regular"},"#,
+        r#""chunk_key_encoding":{"configuration":{"separator":"."},"name":"v2"},"#,
+        r#""codecs":["bytes"],"#,
+        r#""data_type":"bool","fill_value":true,"node_type":"array","shape":[3],"#,
+        r#""zarr_format":3}"#
     ),
     cells: Some(&[0, 1, 1]),
 };
@@ -91,19 +90,19 @@ const TEXTS: Row = Row {
         (
             ".zarray",
             concat!(
-                "{\"chunks\":[2],\"compressor\":null,\"dtype\":\"|O\",\"fill_value\":0,",
-                "\"filters\":[{\"id\":\"vlen-utf8\"}],\"order\":\"C\",\"shape\":[4],",
-                "\"zarr_format\":2}"
+                r#"{"chunks":[2],"compressor":null,"dtype":"|O","fill_value":0,"#,
+                r#""filters":[{"id":"vlen-utf8"}],"order":"C","shape":[4],"#,
+                r#""zarr_format":2}"#
             ),
         ),
         ("1", "\x02\0\0\0\x01\0\0\0a\x02\0\0\0bc"),
     ],
     converted: concat!(
-        "{\"chunk_grid\":{\"configuration\":{\"chunk_shape\":[2]},\"name\":\"regular\"},",
-        "\"chunk_key_encoding\":{\"configuration\":{\"separator\":\".\"},\"name\":\"v2\"},",
-        "\"codecs\":[\"vlen-utf8\"],",
-        "\"data_type\":\"string\",\"fill_value\":\"\",\"node_type\":\"array\",\"shape\":[4],",
-        "\"zarr_format\":3}"
+        r#"{"chunk_grid":{"configuration":{"chunk_shape":[2]},"name":"regular"},"#,
+        r#""chunk_key_encoding":{"configuration":{"separator":"."},"name":"v2"},"#,
+        r#""codecs":["vlen-utf8"],"#,
+        r#""data_type":"string","fill_value":"","node_type":"array","shape":[4],"#,
+        r#""zarr_format":3}"#
     ),
     cells: Some(b"abc"),
 };
@@ -114,19 +113,19 @@ const SCALAR: Row = Row {
         (
             ".zarray",
             concat!(
-                "{\"chunks\":[],\"compressor\":null,\"dtype\":\"<u4\",\"fill_value\":42,",
-                "\"filters\":[],\"order\":\"C\",\"shape\":[],\"zarr_format\":2}"
+                r#"{"chunks":[],"compressor":null,"dtype":"<u4","fill_value":42,"#,
+                r#""filters":[],"order":"C","shape":[],"zarr_format":2}"#
             ),
         ),
         (".zattrs", "{}"),
         ("0", "\x07\0\0\0"),
     ],
     converted: concat!(
-        "{\"chunk_grid\":{\"configuration\":{\"chunk_shape\":[]},\"name\":\"regular\"},",
-        "\"chunk_key_encoding\":{\"configuration\":{\"separator\":\".\"},\"name\":\"v2\"},",
-        "\"codecs\":[{\"configuration\":{\"endian\":\"little\"},\"name\":\"bytes\"}],",
-        "\"data_type\":\"uint32\",\"fill_value\":42,\"node_type\":\"array\",\"shape\":[],",
-        "\"zarr_format\":3}"
+        r#"{"chunk_grid":{"configuration":{"chunk_shape":[]},"name":"regular"},"#,
+        r#""chunk_key_encoding":{"configuration":{"separator":"."},"name":"v2"},"#,
+        r#""codecs":[{"configuration":{"endian":"little"},"name":"bytes"}],"#,
+        r#""data_type":"uint32","fill_value":42,"node_type":"array","shape":[],"#,
+        r#""zarr_format":3}"#
     ),
     cells: Some(&[7, 0, 0, 0]),
 };
@@ -168,12 +167,12 @@ const SPECIFIED: Row = Row {
 }"#,
     )],
     converted: concat!(
-        "{\"attributes\":{\"bar\":\"apples\",\"baz\":[1,2,3,4],\"foo\":42},",
-        "\"chunk_grid\":{\"configuration\":{\"chunk_shape\":[1000,100]},\"name\":\"regular\"},",
-        "\"chunk_key_encoding\":{\"configuration\":{\"separator\":\"/\"},\"name\":\"default\"},",
-        "\"codecs\":[{\"configuration\":{\"endian\":\"little\"},\"name\":\"bytes\"}],",
-        "\"data_type\":\"int64\",\"dimension_names\":[\"rows\",\"columns\"],",
-        "\"fill_value\":0,\"node_type\":\"array\",\"shape\":[10000,1000],\"zarr_format\":3}"
+        r#"{"attributes":{"bar":"apples","baz":[1,2,3,4],"foo":42},"#,
+        r#""chunk_grid":{"configuration":{"chunk_shape":[1000,100]},"name":"regular"},"#,
+        r#""chunk_key_encoding":{"configuration":{"separator":"/"},"name":"default"},"#,
+        r#""codecs":[{"configuration":{"endian":"little"},"name":"bytes"}],"#,
+        r#""data_type":"int64","dimension_names":["rows","columns"],"#,
+        r#""fill_value":0,"node_type":"array","shape":[10000,1000],"zarr_format":3}"#
     ),
     cells: None,
 };
@@ -184,86 +183,131 @@ const EMPTY_MEMBERS: Row = Row {
         (
             "zarr.json",
             concat!(
-                "{\"shape\":[3],\"data_type\":\"uint8\",\"chunk_grid\":{\"name\":\"regular\",",
-                "\"configuration\":{\"chunk_shape\":[2]}},\"chunk_key_encoding\":{\"name\":",
-                "\"default\",\"configuration\":{\"separator\":\".\"}},\"fill_value\":9,",
-                "\"codecs\":[{\"name\":\"bytes\",\"configuration\":{}}],\"attributes\":{},",
-                "\"dimension_names\":null,\"zarr_format\":3,\"node_type\":\"array\",",
-                "\"storage_transformers\":[]}"
+                r#"{"shape":[3],"data_type":"uint8","chunk_grid":{"name":"regular","#,
+                r#""configuration":{"chunk_shape":[2]}},"chunk_key_encoding":{"name":"#,
+                r#""default","configuration":{"separator":"."}},"fill_value":9,"#,
+                r#""codecs":[{"name":"bytes","configuration":{}}],"attributes":{},"#,
+                r#""dimension_names":null,"zarr_format":3,"node_type":"array","#,
+                r#""storage_transformers":[]}"#
             ),
         ),
         ("c.1", "\x05\x09"),
     ],
     converted: concat!(
-        "{\"chunk_grid\":{\"configuration\":{\"chunk_shape\":[2]},\"name\":\"regular\"},",
-        "\"chunk_key_encoding\":{\"configuration\":{\"separator\":\".\"},\"name\":\"default\"},",
-        "\"codecs\":[\"bytes\"],",
-        "\"data_type\":\"uint8\",\"fill_value\":9,\"node_type\":\"array\",\"shape\":[3],",
-        "\"zarr_format\":3}"
+        r#"{"chunk_grid":{"configuration":{"chunk_shape":[2]},"name":"regular"},"#,
+        r#""chunk_key_encoding":{"configuration":{"separator":"."},"name":"default"},"#,
+        r#""codecs":["bytes"],"#,
+        r#""data_type":"uint8","fill_value":9,"node_type":"array","shape":[3],"#,
+        r#""zarr_format":3}"#
     ),
     cells: Some(&[9, 9, 5]),
 };
 
-const ROWS: &[Row] = &[COLUMNS, FLAGS, TEXTS, SCALAR, SPECIFIED, EMPTY_MEMBERS];
+/// One number without dimensions, in order F.
+const SCALAR_IN_ORDER_F: Row = Row {
+    entries: &[
+        (
+            ".zarray",
+            concat!(
+                r#"{"chunks":[],"compressor":null,"dtype":"<i2","fill_value":-1,"#,
+                r#""filters":null,"order":"F","shape":[],"zarr_format":2}"#
+            ),
+        ),
+        ("0", "\x07\0"),
+    ],
+    converted: concat!(
+        r#"{"chunk_grid":{"configuration":{"chunk_shape":[]},"name":"regular"},"#,
+        r#""chunk_key_encoding":{"configuration":{"separator":"."},"name":"v2"},"#,
+        r#""codecs":[{"configuration":{"order":[]},"name":"transpose"},"#,
+        r#"{"configuration":{"endian":"little"},"name":"bytes"}],"#,
+        r#""data_type":"int16","fill_value":-1,"node_type":"array","shape":[],"#,
+        r#""zarr_format":3}"#
+    ),
+    cells: Some(&[7, 0]),
+};
 
-fn bytes_of<'a>(data: &'a ArrayBytes<'_>) -> Option<&'a [u8]> {
-    match data {
-        ArrayBytes::Fixed(held) => Some(held.as_slice()),
-        ArrayBytes::Variable(texts) => Some(texts.bytes()),
-        ArrayBytes::Optional(_) => None,
-    }
-}
+/// Numbers along one dimension, in order F.
+const LINE_IN_ORDER_F: Row = Row {
+    entries: &[
+        (
+            ".zarray",
+            concat!(
+                r#"{"chunks":[2],"compressor":null,"dtype":"<i2","fill_value":-1,"#,
+                r#""filters":null,"order":"F","shape":[3],"zarr_format":2}"#
+            ),
+        ),
+        ("0", "\x07\0\x08\0"),
+    ],
+    converted: concat!(
+        r#"{"chunk_grid":{"configuration":{"chunk_shape":[2]},"name":"regular"},"#,
+        r#""chunk_key_encoding":{"configuration":{"separator":"."},"name":"v2"},"#,
+        r#""codecs":[{"configuration":{"order":[0]},"name":"transpose"},"#,
+        r#"{"configuration":{"endian":"little"},"name":"bytes"}],"#,
+        r#""data_type":"int16","fill_value":-1,"node_type":"array","shape":[3],"#,
+        r#""zarr_format":3}"#
+    ),
+    cells: Some(&[7, 0, 8, 0, 255, 255]),
+};
 
-fn must_have_cells(rt: &impl Abort, alloc: Global, array: &MemoryArray, cells: &[u8]) {
-    let all = array.subset_all(alloc).expect(rt, "no refusal");
-    let held: ArrayBytes<'static> = array
-        .retrieve_array_subset(alloc, &all)
-        .expect(rt, "no refusal");
-    must(rt, bytes_of(&held) == Some(cells));
-}
+const ROWS: &[Row] = &[
+    COLUMNS,
+    FLAGS,
+    TEXTS,
+    SCALAR,
+    SCALAR_IN_ORDER_F,
+    LINE_IN_ORDER_F,
+    SPECIFIED,
+    EMPTY_MEMBERS,
+];
 
 /// The array is that of the row.
 fn must_be(rt: &impl Abort, alloc: Global, array: &MemoryArray, row: &Row) {
     must_show(rt, alloc, array, &plain_v3(), row.converted);
-    match row.cells {
-        Some(cells) => must_have_cells(rt, alloc, array, cells),
-        None => {},
+    if let Some(cells) = row.cells {
+        must_have_cells(rt, alloc, array, cells);
     }
+}
+
+fn must_open(rt: &impl Abort, alloc: Global, row: &Row) {
+    let array = open(rt, alloc, row.entries);
+    must_be(rt, alloc, &array, row);
 }
 
 #[test]
 fn arrays_of_other_programs_open(rt: HostRuntime) {
     for row in ROWS {
-        let array = open(&rt, rt.alloc(), row.entries);
-        must_be(&rt, rt.alloc(), &array, row);
+        must_open(&rt, rt.alloc(), row);
     }
 }
 
 /// Stores the metadata of the array, and opens what was stored.
 fn stored_and_opened(rt: &impl Abort, alloc: Global, array: MemoryArray) -> MemoryArray {
     let mut array = array;
-    let options = ArrayMetadataOptions::default().with_include_zarrs_metadata(false);
-    array
-        .store_metadata_opt(alloc, &options)
-        .expect(rt, "no refusal");
-    Array::open(alloc, array.into_storage(), "/").expect(rt, "no refusal")
+    store_plainly(rt, alloc, &mut array);
+    opened(rt, alloc, array.into_storage(), "/")
+}
+
+fn must_open_again(rt: &impl Abort, alloc: Global, row: &Row) {
+    let array = stored_and_opened(rt, alloc, open(rt, alloc, row.entries));
+    must_be(rt, alloc, &array, row);
 }
 
 #[test]
 fn what_is_stored_of_them_opens(rt: HostRuntime) {
     for row in ROWS {
-        let array = stored_and_opened(&rt, rt.alloc(), open(&rt, rt.alloc(), row.entries));
-        must_be(&rt, rt.alloc(), &array, row);
+        must_open_again(&rt, rt.alloc(), row);
     }
+}
+
+fn must_open_again_in_v3(rt: &impl Abort, alloc: Global, row: &Row) {
+    let array = in_v3(rt, alloc, open(rt, alloc, row.entries));
+    let array = stored_and_opened(rt, alloc, array);
+    must_be(rt, alloc, &array, row);
 }
 
 #[test]
 fn what_is_stored_of_them_in_v3_opens(rt: HostRuntime) {
     for row in ROWS {
-        let array = open(&rt, rt.alloc(), row.entries)
-            .to_v3(rt.alloc())
-            .expect(&rt, "no refusal");
-        let array = stored_and_opened(&rt, rt.alloc(), array);
-        must_be(&rt, rt.alloc(), &array, row);
+        must_open_again_in_v3(&rt, rt.alloc(), row);
     }
 }

@@ -2,11 +2,17 @@
 #![tactic(auto)]
 
 #[cfg(test)]
+mod aliases;
+#[cfg(test)]
+mod calls;
+#[cfg(test)]
 mod checks;
 #[cfg(test)]
 mod copies;
 #[cfg(test)]
 mod creation;
+#[cfg(test)]
+mod faults;
 #[cfg(test)]
 mod foreign;
 #[cfg(test)]
@@ -15,6 +21,10 @@ mod made;
 mod opening;
 #[cfg(test)]
 mod refusals;
+#[cfg(test)]
+mod refused;
+#[cfg(test)]
+mod seen;
 #[cfg(test)]
 mod setters;
 #[cfg(test)]
