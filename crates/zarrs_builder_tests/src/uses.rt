@@ -1,17 +1,19 @@
 //! The uses of arrays, run.
 use crate::checks::{must, must_eq};
+use crate::made::{MemoryArray, must_be_y_and_x};
 use std::alloc::Global;
+use std::ops::Range;
 use std::process::Abort;
-use zarrs::Array;
 use zarrs_array_uses::built::{measure, rainfall, unit_of};
 use zarrs_array_uses::documents::{create_array, read_region_at, v3_text};
+use zarrs_array_uses::encoded::read_while;
 use zarrs_storage::{Bytes, MemoryStore, StoreKey, WritableStorageTraits};
 use zarrs_subset::ArraySubset;
 
-fn region(rt: &impl Abort, alloc: Global, start: &[u64], shape: &[u64]) -> ArraySubset {
-    let start = start.to_vec(alloc).expect(rt, "no refusal");
-    let shape = shape.to_vec(alloc).expect(rt, "no refusal");
-    ArraySubset::new_with_start_shape(start, shape).expect(rt, "no refusal")
+const PATH: &str = "/climate/rain";
+
+fn region(rt: &impl Abort, alloc: Global, ranges: &[Range<u64>]) -> ArraySubset {
+    ArraySubset::new_with_ranges(alloc, ranges).expect(rt, "no refusal")
 }
 
 /// The document of an array of 4 by 4 bytes in chunks of 2 by 2, whose cells are 7 where none was written.
@@ -26,23 +28,72 @@ const DOCUMENT: &[u8] = br#"{
     "codecs": ["bytes"]
 }"#;
 
-fn must_be(rt: &impl Abort, numbers: &[u8], wanted: &[u8]) {
-    must(rt, numbers == wanted);
+/// The store in which that array was created.
+fn created(rt: &impl Abort, alloc: Global) -> MemoryStore {
+    let created = create_array(alloc, MemoryStore::new(alloc), PATH, DOCUMENT);
+    created.expect(rt, "no refusal").into_storage()
+}
+
+/// The array in the store has these cells in the region.
+fn must_read(
+    rt: &impl Abort,
+    alloc: Global,
+    storage: MemoryStore,
+    region: ArraySubset,
+    wanted: &[u8],
+) {
+    let read = read_region_at(alloc, storage, PATH, &region);
+    drop(region);
+    must_eq(rt, read.expect(rt, "no refusal").as_slice(), wanted);
 }
 
 #[test]
 fn an_array_is_created_and_opened_again(rt: HostRuntime) {
     let alloc = rt.alloc();
-    let array = create_array(alloc, MemoryStore::new(alloc), "/climate/rain", DOCUMENT).expect(
-        &rt,
-        "no refusal",
-    );
-    let row = region(&rt, alloc, &[1, 0], &[1, 4]);
-    let numbers = read_region_at(alloc, array.into_storage(), "/climate/rain", &row).expect(
-        &rt,
-        "no refusal",
-    );
-    must_be(&rt, &numbers, &[7, 7, 7, 7]);
+    let row = region(&rt, alloc, &[1..2, 0..4]);
+    must_read(&rt, alloc, created(&rt, alloc), row, &[7, 7, 7, 7]);
+}
+
+fn store_chunk(rt: &impl Abort, alloc: Global, array: &mut MemoryArray, cells: &[u8]) {
+    let stored = array.store_chunk(alloc, &[0, 0], cells);
+    stored.expect(rt, "no refusal");
+}
+
+/// The region reads these numbers while the first chunk has other cells.
+fn must_read_while(
+    rt: &impl Abort,
+    alloc: Global,
+    array: &mut MemoryArray,
+    region: &ArraySubset,
+    wanted: &[u8],
+) {
+    let read = read_while(alloc, array, &[0, 0], &[1, 2, 3, 4], region);
+    must_eq(rt, read.expect(rt, "no refusal").as_slice(), wanted);
+}
+
+/// Which bytes are stored for the first chunk, if it is present.
+fn must_be_stored(rt: &impl Abort, alloc: Global, array: &MemoryArray, wanted: Option<&[u8]>) {
+    if array.dimensionality() != 2 {
+        return rt.panic("another number of dimensions");
+    }
+    let stored = array.retrieve_encoded_chunk(alloc, &[0, 0]);
+    must(rt, stored.expect(rt, "no refusal").as_deref() == wanted);
+}
+
+fn must_be_put_back(rt: &impl Abort, alloc: Global, array: &mut MemoryArray, row: &ArraySubset) {
+    must_read_while(rt, alloc, array, row, &[1, 2, 7, 7]);
+    must_be_stored(rt, alloc, array, None);
+    store_chunk(rt, alloc, array, &[5, 6, 7, 8]);
+    must_read_while(rt, alloc, array, row, &[1, 2, 7, 7]);
+    must_be_stored(rt, alloc, array, Some(&[5, 6, 7, 8]));
+}
+
+#[test]
+fn a_chunk_is_left_with_the_bytes_that_it_had(rt: HostRuntime) {
+    let alloc = rt.alloc();
+    let created = create_array(alloc, MemoryStore::new(alloc), PATH, DOCUMENT);
+    let mut array = created.expect(&rt, "no refusal");
+    must_be_put_back(&rt, alloc, &mut array, &region(&rt, alloc, &[0..1, 0..4]));
 }
 
 /// The V2 document of an array of 6 texts, as zarr-python writes it, and the V3 document that it becomes.
@@ -67,21 +118,41 @@ const CONVERTED: &str = concat!(
     "\"node_type\":\"array\",\"shape\":[6],\"zarr_format\":3}"
 );
 
+fn key_of(rt: &impl Abort, alloc: Global, text: &str) -> StoreKey {
+    StoreKey::new(alloc, text).expect(rt, "no refusal")
+}
+
+/// The store that holds the V2 document.
+fn holding(rt: &impl Abort, alloc: Global) -> MemoryStore {
+    let mut storage = MemoryStore::new(alloc);
+    let key = key_of(rt, alloc, "names/.zarray");
+    let set = storage.set(alloc, &key, Bytes::from_static(V2_DOCUMENT));
+    drop(key);
+    set.expect(rt, "no refusal");
+    storage
+}
+
+fn must_convert(rt: &impl Abort, alloc: Global, storage: MemoryStore, wanted: &str) {
+    let text = v3_text(alloc, storage, "/names").expect(rt, "no refusal");
+    must_eq(rt, text.as_str(), wanted);
+}
+
 #[test]
 fn a_v2_array_is_shown_in_v3(rt: HostRuntime) {
     let alloc = rt.alloc();
-    let mut storage = MemoryStore::new(alloc);
-    let key = StoreKey::new(alloc, "names/.zarray").expect(&rt, "no refusal");
-    storage
-        .set(alloc, &key, Bytes::from_static(V2_DOCUMENT))
-        .expect(&rt, "no refusal");
-    must_eq(
-        &rt,
-        v3_text(alloc, storage, "/names")
-            .expect(&rt, "no refusal")
-            .as_str(),
-        CONVERTED,
-    );
+    must_convert(&rt, alloc, holding(&rt, alloc), CONVERTED);
+}
+
+/// The array of the rainfall at 8 by 8 places, where nobody measured.
+fn unmeasured(rt: &impl Abort, alloc: Global) -> MemoryArray {
+    let built = rainfall(alloc, MemoryStore::new(alloc), PATH);
+    built.expect(rt, "no refusal")
+}
+
+/// The array has the names and the unit that it was built with.
+fn must_be_rainfall(rt: &impl Abort, array: &MemoryArray) {
+    must(rt, unit_of(array) == Some("mm"));
+    must_be_y_and_x(rt, array.dimension_names());
 }
 
 /// What is known of the first two rows of places after four of them were measured.
@@ -92,40 +163,20 @@ const MEASURED: &[i16] = &[
 
 fn must_be_measured(rt: &impl Abort, millimetres: &[i16]) {
     must_eq(rt, millimetres.len(), 64);
-    must(
-        rt,
-        millimetres
-            .iter()
-            .zip(MEASURED)
-            .all(|(read, wanted)| read == wanted),
-    );
+    must(rt, millimetres.starts_with(MEASURED));
 }
 
-/// The array has the names and the unit that it was built with.
-fn must_be_rainfall(rt: &impl Abort, array: &Array<MemoryStore>) {
-    must(rt, unit_of(array) == Some("mm"));
-    let names = array.dimension_names().unwrap_or(&[]);
-    must_eq(rt, names.len(), 2);
-    for (name, wanted) in names.iter().zip(["y", "x"]) {
-        must(
-            rt,
-            name.as_ref().is_some_and(|name| name.as_str() == wanted),
-        );
-    }
+fn must_measure(rt: &impl Abort, alloc: Global, array: &mut MemoryArray, places: ArraySubset) {
+    let measured = measure(alloc, array, &places, &[12, 0, 7, 31]);
+    drop(places);
+    must_be_measured(rt, &measured.expect(rt, "no refusal"));
 }
 
 #[test]
 fn an_array_is_built_and_measured(rt: HostRuntime) {
     let alloc = rt.alloc();
-    let mut array = rainfall(alloc, MemoryStore::new(alloc), "/climate/rain").expect(
-        &rt,
-        "no refusal",
-    );
+    let mut array = unmeasured(&rt, alloc);
     must_be_rainfall(&rt, &array);
-    let places = region(&rt, alloc, &[1, 3], &[1, 4]);
-    let millimetres = measure(alloc, &mut array, &places, &[12, 0, 7, 31]).expect(
-        &rt,
-        "no refusal",
-    );
-    must_be_measured(&rt, &millimetres);
+    must_measure(&rt, alloc, &mut array, region(&rt, alloc, &[1..2, 3..7]));
+    drop(array);
 }
