@@ -177,18 +177,18 @@ fn read_and_answer<R: Read, W: Write>(
 
 /// Runs the script that the reader holds, prints into the writer, and returns the status.
 ///
-/// Each line is a command, empty, or begins with `#`. A command is `array SHAPE CHUNKS TYPE FILL`,
+/// Each line is a command, empty, or begins with `#`. Words are separated by one space. A command is `array SHAPE CHUNKS TYPE FILL`,
 /// `chunk INDICES CELLS`, `read INDICES`, `erase INDICES`, `put START SHAPE CELLS`, `get START SHAPE`, `keys` or `meta`.
-/// A list is numbers joined by `,`, or `-`. A region's START and SHAPE have one entry for each dimension, and each end,
-/// their sum, is below 2^64. A type is `bool`, `int8` to `int64` or `uint8` to `uint64`. Its cells are numbers, of a
+/// A list is numbers joined by `,`, or `-`. A region's START and SHAPE have the same length, and each end, their sum, is
+/// below 2^64. A type is `bool`, `int8` to `int64` or `uint8` to `uint64`. Its cells are numbers, of a
 /// signed type also with `-` before them; of `bool` they are 0 and 1.
 ///
 /// | Status | Meaning |
 /// |---|---|
 /// | 0 | nothing was refused |
 /// | 1 | something was refused, and the script went on |
-/// | 2 | a line is not a command: its number alone is printed |
-/// | 3 | input, output or memory outside a call failed, and nothing more was printed |
+/// | 2 | a line is not a command: `line N: not a command` is printed for the first one, and nothing else |
+/// | 3 | input, output or memory outside a call failed, and nothing more is printed; the contract says nothing here |
 pub fn run_script<R: Read, W: Write>(alloc: Global, reader: &mut R, writer: &mut W) -> u8
     ensures { ReadsAll (R.remaining reader.old) (R.remaining reader.new)
         (λ script. WritesText (W.contents writer.old) (W.contents writer.new)
