@@ -32,7 +32,7 @@ const PENDING: usize = 8192;
 ///
 /// # Errors
 /// `Stopped` if the output fails.
-pub fn spill<W: Write>(writer: &mut W, out: &mut Vec<u8>) -> Result<(), Stopped>
+pub fn write_pending<W: Write>(writer: &mut W, out: &mut Vec<u8>) -> Result<(), Stopped>
     ensures { OnOk result (Puts (W.contents writer.old) (W.contents writer.new)
         out.old.items out.new.items (λ text. text ≡ [])) }
 {
@@ -144,7 +144,7 @@ fn put_cells<W: Write>(
     for index in 1..bytes.len() / size {
         out.push(b',')?;
         put_number(out, cell_type, &bytes[index * size..index * size + size])?;
-        spill(writer, out)?;
+        write_pending(writer, out)?;
     }
     out.push(b'\n')?;
     Ok(())
@@ -267,7 +267,7 @@ pub fn put_keys<W: Write>(
     }
     for key in &keys {
         put_key(alloc, out, store, key)?;
-        spill(writer, out)?;
+        write_pending(writer, out)?;
     }
     Ok(())
 }

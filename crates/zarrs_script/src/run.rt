@@ -10,7 +10,7 @@ use crate::command::{Command, Creation};
 use crate::error::{CreationError, ScriptError, Stopped};
 use crate::parse::commands_of;
 use crate::print::{
-    complaint, put_keys, put_line, put_metadata, put_refusal, put_reply, put_skipped, spill,
+    complaint, put_keys, put_line, put_metadata, put_refusal, put_reply, put_skipped, write_pending,
 };
 use std::alloc::{AllocError, Global};
 use std::io::{Read, Write};
@@ -48,7 +48,7 @@ fn open(
 }
 
 /// Makes the call, prints its reply, and tells whether that is a refusal.
-fn serve<W: Write>(
+fn make_call<W: Write>(
     alloc: Global,
     writer: &mut W,
     out: &mut Vec<u8>,
@@ -94,7 +94,7 @@ fn run_command<W: Write>(
             *array = opening;
             Ok(refused)
         }
-        (Command::Call(call), Some(array)) => serve(alloc, writer, out, array, call),
+        (Command::Call(call), Some(array)) => make_call(alloc, writer, out, array, call),
         (Command::Keys, Some(array)) => {
             put_keys(alloc, writer, out, array.array.storage())?;
             Ok(false)
@@ -133,7 +133,7 @@ fn run_commands<W: Write>(
     let mut out = Vec::new(alloc);
     for command in commands {
         refused |= run_command(alloc, writer, &mut out, &mut array, command)?;
-        spill(writer, &mut out)?;
+        write_pending(writer, &mut out)?;
     }
     writer.write_all(&out)?;
     Ok(refused)
@@ -177,11 +177,11 @@ fn read_and_answer<R: Read, W: Write>(
 
 /// Runs the script that the reader holds, prints into the writer, and returns the status.
 ///
-/// Each line is a command, empty, or begins with `#`. Words are separated by one space. A command is `array SHAPE CHUNKS TYPE FILL`,
-/// `chunk INDICES CELLS`, `read INDICES`, `erase INDICES`, `put START SHAPE CELLS`, `get START SHAPE`, `keys` or `meta`.
-/// A list is numbers joined by `,`, or `-`. A region's START and SHAPE have the same length, and each end, their sum, is
-/// below 2^64. A type is `bool`, `int8` to `int64` or `uint8` to `uint64`. Its cells are numbers, of a
-/// signed type also with `-` before them; of `bool` they are 0 and 1.
+/// Each line is a command, empty, or begins with `#`. The words of a command are separated by one space. It is
+/// `array SHAPE CHUNKS TYPE FILL`, `chunk INDICES CELLS`, `read INDICES`, `erase INDICES`, `put START SHAPE CELLS`,
+/// `get START SHAPE`, `keys` or `meta`. A list is numbers joined by `,`, or `-`. A region's START and SHAPE have the
+/// same length, and each end, their sum, is below 2^64. A type is `bool`, `int8` to `int64` or `uint8` to `uint64`. Its
+/// cells are numbers, of a signed type also with `-` before them; of `bool` they are 0 and 1.
 ///
 /// | Status | Meaning |
 /// |---|---|

@@ -24,11 +24,11 @@ loop-index-preserved g c =
     c.in_ok-put_number-2.ensures ∙ ap (λ (xs : List ℕ). xs ++ number_text c.args.cell_type (slice_range held (l.index * c.size-size.result) (l.index * c.size-size.result + c.size-size.result))) c.in_ok-push.ensures.items
     ∙ append_assoc l.out.items (44 ∷ []) _ ∙ ap (λ (n : ℕ). l.out.items ++ 44 ∷ number_text c.args.cell_type (slice_range held (l.index * n) (l.index * n + n))) c.size-size.ensures in
     let from = l.auto.index in
-    puts_spilled {P = λ text. text ≡ join_with_byte 44 (texts c.args.cell_type held (l.index + 1))} old mid (g.W.Write.contents c.spill.new.writer) out printed c.spill.new.out.items
+    puts_spilled {P = λ text. text ≡ join_with_byte 44 (texts c.args.cell_type held (l.index + 1))} old mid (g.W.Write.contents c.write_pending.new.writer) out printed c.write_pending.new.out.items
     (puts_more old mid mid out l.out.items printed l.invariant
     (puts_pending {P = λ text. text ≡ 44 ∷ text_at c.args.cell_type held l.index} mid l.out.items printed (44 ∷ text_at c.args.cell_type held l.index) is refl)
     (λ first second p q. ap (λ (xs : List ℕ). xs ++ second) p ∙ ap (λ (ys : List ℕ). join_with_byte 44 (texts c.args.cell_type held l.index) ++ ys) q ∙ sym (one_text c.args.cell_type held l.index (omega arith))))
-    c.in_ok-spill.ensures
+    c.in_ok-write_pending.ensures
 
 pub returns : goal.returns
 returns g c =

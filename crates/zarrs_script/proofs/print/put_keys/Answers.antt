@@ -17,8 +17,8 @@ loop-key-preserved g c =
     let keys = c.deref-key-items.result.now in
     let text = key_text c.args.store.now.values in
     let key = c.key-item.result in
-    puts_spilled {P = λ printed. printed ≡ flat_map text (take (l.key-index + 1) keys)} old mid (g.W.Write.contents c.spill.new.writer) out c.put_key.new.out.items c.spill.new.out.items
+    puts_spilled {P = λ printed. printed ≡ flat_map text (take (l.key-index + 1) keys)} old mid (g.W.Write.contents c.write_pending.new.writer) out c.put_key.new.out.items c.write_pending.new.out.items
     (puts_more old mid mid out l.out.items c.put_key.new.out.items l.invariant
     (puts_pending {P = λ printed. printed ≡ text key} mid l.out.items c.put_key.new.out.items (text key) c.in_ok-put_key.ensures refl)
     (λ first second p q. ap (λ (xs : List ℕ). xs ++ second) p ∙ ap (λ (ys : List ℕ). flat_map text (take l.key-index keys) ++ ys) q ∙ one_key text keys l.key-index key c.loop-key-test.true c.key-item.is))
-    c.in_ok-spill.ensures
+    c.in_ok-write_pending.ensures

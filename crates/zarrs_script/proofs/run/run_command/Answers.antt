@@ -41,4 +41,4 @@ returns-in_ok-put_skipped-in-Keys-None g c =
     (keys_skipped c.args.array.now c.args.command (line (codes "skipped")) c.in-Keys-None.ensures.value c.in-Keys-None.is-0 refl)
 
 pub returns-in-Call-Some : goal.returns-in-Call-Some
-returns-in-Call-Some g c = rw (← c.in-Call-Some.ensures.value, c.in-Call-Some.is-0) c.serve.ensures
+returns-in-Call-Some g c = rw (← c.in-Call-Some.ensures.value, c.in-Call-Some.is-0) c.make_call.ensures

@@ -17,7 +17,7 @@ loop-command-preserved g c =
     let l = c.loop-command in
     let done = puts_more (g.W.Write.contents c.args.writer.now) (g.W.Write.contents l.writer) (g.W.Write.contents c.run_command.new.writer) [] l.out.items c.run_command.new.out.items l.invariant c.in_ok-refused.ensures
     (λ first second p q. one_command None (session_of l.array) (session_of c.run_command.new.array) l.yielded c.in-Some.command first second l.refused c.in_ok-refused.field-0 p q) in
-    puts_spilled (g.W.Write.contents c.args.writer.now) (g.W.Write.contents c.run_command.new.writer) (g.W.Write.contents c.spill.new.writer) [] c.run_command.new.out.items c.spill.new.out.items done c.in_ok-spill.ensures
+    puts_spilled (g.W.Write.contents c.args.writer.now) (g.W.Write.contents c.run_command.new.writer) (g.W.Write.contents c.write_pending.new.writer) [] c.run_command.new.out.items c.write_pending.new.out.items done c.in_ok-write_pending.ensures
 
 pub returns : goal.returns
 returns g c =

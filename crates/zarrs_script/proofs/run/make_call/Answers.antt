@@ -10,7 +10,7 @@ use Rattle.zarrs.specs.Arrays.{layout_of_array, metadata_of_array, state_of_arra
 use Rattle.zarrs_script_metadata.specs.CellTypes.{kind_of_cells}
 use Rattle.zarrs_script.proofs.Printing.{puts_as}
 use Rattle.zarrs_script.proofs.Transcripts.{one_reply, some_reply, reply_said, call_served}
-use Rattle.zarrs_script.proofs.run.serve.Goals as goal
+use Rattle.zarrs_script.proofs.run.make_call.Goals as goal
 
 pub replay-requires : goal.replay-requires
 replay-requires g c call listed index reached long = record { key = refl; places = λ place. refl }
