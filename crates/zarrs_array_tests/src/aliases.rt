@@ -106,6 +106,7 @@ fn must_show_names(rt: &impl Abort, alloc: Global, row: &Row) {
     let array = array(rt, alloc, "/", row.changes);
     must_show(rt, alloc, &array, &plain(), row.given);
     must_show(rt, alloc, &array, &plain_with_main_names(), row.main);
+    drop(array);
 }
 
 #[test]

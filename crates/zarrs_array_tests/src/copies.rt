@@ -21,6 +21,7 @@ fn must_be_over_another_store(rt: &impl Abort, alloc: Global, array: &MemoryArra
     let copy = copy_of(rt, alloc, array);
     must_lie_at_a(rt, &copy);
     must_read(rt, alloc, &copy, &[0, 0], &[0; 16]);
+    drop(copy);
 }
 
 #[test]
@@ -30,6 +31,7 @@ fn an_array_is_over_another_store(rt: HostRuntime) {
     store_chunk(&rt, alloc, &mut array, &[0, 0], &[7; 16]);
     must_be_over_another_store(&rt, alloc, &array);
     must_read(&rt, alloc, &array, &[0, 0], &[7; 16]);
+    drop(array);
 }
 
 fn must_read_sevens(rt: &impl Abort, alloc: Global, array: &Array<ReadOnly<'_, MemoryStore>>) {
@@ -43,6 +45,7 @@ fn must_be_readable(rt: &impl Abort, alloc: Global, array: &MemoryArray) {
     let readable = array.readable(alloc).expect(rt, "no refusal");
     must_lie_at_a(rt, &readable);
     must_read_sevens(rt, alloc, &readable);
+    drop(readable);
 }
 
 #[test]
@@ -51,6 +54,7 @@ fn an_array_is_read_over_its_own_store(rt: HostRuntime) {
     let mut array = array(&rt, alloc, "/a", &[]);
     store_chunk(&rt, alloc, &mut array, &[0, 0], &[7; 16]);
     must_be_readable(&rt, alloc, &array);
+    drop(array);
 }
 
 /// `BYTES` with the attribute that is put in.
@@ -71,4 +75,5 @@ fn attributes_are_lent(rt: HostRuntime) {
     must_have_attributes(&rt, alloc, &array, r#"{"a":1}"#);
     must_have_metadata(&rt, alloc, &array, WITH_ATTRIBUTE);
     must_read(&rt, alloc, &array, &[0, 0], &[0; 16]);
+    drop(array);
 }

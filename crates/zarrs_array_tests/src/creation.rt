@@ -50,6 +50,7 @@ fn an_array_has_the_parts_of_its_document(rt: HostRuntime) {
     must_have_texts(&rt, &array);
     must_have_calls(&rt, &array, 0);
     must_have_keys(&rt, alloc, array.storage(), &[]);
+    drop(array);
 }
 
 fn must_be_no_path(rt: &impl Abort, alloc: Global, path: &str) {
@@ -135,4 +136,5 @@ fn a_field_that_must_be_understood_is_not_looked_at(rt: HostRuntime) {
     let alloc = rt.alloc();
     let array = array(&rt, alloc, "/", &[("key", r#"{"a":1}"#)]);
     must_have_metadata(&rt, alloc, &array, WITH_FIELD);
+    drop(array);
 }

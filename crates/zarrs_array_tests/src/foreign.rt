@@ -271,6 +271,7 @@ fn must_be(rt: &impl Abort, alloc: Global, array: &MemoryArray, row: &Row) {
 fn must_open(rt: &impl Abort, alloc: Global, row: &Row) {
     let array = open(rt, alloc, row.entries);
     must_be(rt, alloc, &array, row);
+    drop(array);
 }
 
 #[test]
@@ -290,6 +291,7 @@ fn stored_and_opened(rt: &impl Abort, alloc: Global, array: MemoryArray) -> Memo
 fn must_open_again(rt: &impl Abort, alloc: Global, row: &Row) {
     let array = stored_and_opened(rt, alloc, open(rt, alloc, row.entries));
     must_be(rt, alloc, &array, row);
+    drop(array);
 }
 
 #[test]
@@ -303,6 +305,7 @@ fn must_open_again_in_v3(rt: &impl Abort, alloc: Global, row: &Row) {
     let array = in_v3(rt, alloc, open(rt, alloc, row.entries));
     let array = stored_and_opened(rt, alloc, array);
     must_be(rt, alloc, &array, row);
+    drop(array);
 }
 
 #[test]

@@ -41,6 +41,7 @@ fn an_array_is_stored_and_opened(rt: HostRuntime) {
     let alloc = rt.alloc();
     let mut opened = opened(&rt, alloc, stored(&rt, alloc), "/array");
     must_go_on(&rt, alloc, &mut opened);
+    drop(opened);
 }
 
 fn written(rt: &impl Abort, alloc: Global) -> MemoryArray {
@@ -56,6 +57,7 @@ fn an_array_is_written_and_opened(rt: HostRuntime) {
     must_have_calls(&rt, &array, 1);
     must_have_metadata(&rt, alloc, &array, MARKED);
     must_hold_text(&rt, alloc, array.storage(), "a/b/zarr.json", MARKED);
+    drop(array);
 }
 
 /// `BYTES` with an attribute of the user and that of this library.
@@ -77,6 +79,7 @@ fn the_root_has_the_key_alone(rt: HostRuntime) {
     erase(&rt, alloc, &mut array);
     must_have_calls(&rt, &array, 2);
     must_have_keys(&rt, alloc, array.storage(), &[]);
+    drop(array);
 }
 
 const MISSING: &str = "array metadata is missing";

@@ -104,6 +104,7 @@ fn dimensions_are_named(rt: HostRuntime) {
     must(&rt, document_of(&rt, &array).dimension_names.is_some());
     take_names(&rt, alloc, &mut array);
     must_have_names(&rt, &array, None);
+    drop(array);
 }
 
 /// Lists of names, of which a V2 array takes none.
@@ -130,4 +131,5 @@ fn a_v2_array_has_no_names(rt: HostRuntime) {
     must_take_no_names(&rt, alloc, &mut array);
     must_have_names(&rt, &array, None);
     must_have_metadata(&rt, alloc, &array, WRITTEN);
+    drop(array);
 }

@@ -22,6 +22,7 @@ fn order_f_stores_columns(rt: HostRuntime) {
     store_cells(&rt, alloc, &mut array, &rows);
     must_hold(&rt, alloc, array.storage(), "0.0", &columns);
     must_have_cells(&rt, alloc, &array, &rows);
+    drop(array);
 }
 
 #[test]
@@ -30,6 +31,7 @@ fn v2_metadata_is_shown_in_v3(rt: HostRuntime) {
     let array = open(&rt, alloc, &[(".zarray", COLUMNS)]);
     must_show(&rt, alloc, &array, &plain_v3(), CONVERTED);
     must_have_metadata(&rt, alloc, &array, WRITTEN);
+    drop(array);
 }
 
 /// The array has V3 metadata, and its store has the V2 document alone.
@@ -39,11 +41,13 @@ fn a_v2_array_becomes_a_v3_array(rt: HostRuntime) {
     let array = in_v3(&rt, alloc, open(&rt, alloc, &[(".zarray", COLUMNS)]));
     must_have_metadata(&rt, alloc, &array, CONVERTED);
     must_have_keys(&rt, alloc, array.storage(), &[".zarray"]);
+    drop(array);
 }
 
 fn must_open_with_attributes(rt: &impl Abort, alloc: Global, entries: Texts<'_>, text: &str) {
     let array = open(rt, alloc, entries);
     must_have_attributes(rt, alloc, &array, text);
+    drop(array);
 }
 
 /// What a store holds, and the attributes of the array there.
@@ -71,6 +75,7 @@ fn the_attribute_of_this_library_is_stored_and_not_kept(rt: HostRuntime) {
     store(&rt, alloc, &mut array);
     must_hold_text(&rt, alloc, array.storage(), "zarr.json", MARKED);
     must_have_attributes(&rt, alloc, &array, r#"{"_zarrs":1}"#);
+    drop(array);
 }
 
 const MADE_BY: &str = concat!(
@@ -89,6 +94,7 @@ fn v2_metadata_is_stored_in_two_parts(rt: HostRuntime) {
     store_plainly(&rt, alloc, &mut array);
     must_have_keys(&rt, alloc, array.storage(), &[".zarray"]);
     must_have_calls(&rt, &array, 6);
+    drop(array);
 }
 
 #[test]
@@ -102,6 +108,7 @@ fn v2_attributes_that_are_taken_away_are_erased(rt: HostRuntime) {
     store(&rt, alloc, &mut array);
     must_have_keys(&rt, alloc, array.storage(), &[".zarray"]);
     must_hold_text(&rt, alloc, array.storage(), ".zarray", WRITTEN);
+    drop(array);
 }
 
 /// What is left of the metadata of both versions.
@@ -114,6 +121,7 @@ fn must_leave(rt: &impl Abort, alloc: Global, version: MetadataEraseVersion, nam
     let mut array = open_v2(rt, alloc, &entries);
     erase_version(rt, alloc, &mut array, version);
     must_have_keys(rt, alloc, array.storage(), names);
+    drop(array);
 }
 
 /// A version that is erased, and the keys that are left.

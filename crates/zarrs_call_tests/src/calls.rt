@@ -80,6 +80,7 @@ fn what_is_written_is_in_its_region(rt: HostRuntime) {
     let mut array = array(&rt, alloc, "/", SMALL);
     write(&rt, alloc, &mut array);
     must_hold(&rt, alloc, &array, WRITTEN);
+    drop(array);
 }
 
 /// The options that keep empty chunks.
@@ -171,6 +172,7 @@ fn empty_chunks_are_kept_and_erased(rt: HostRuntime) {
     let alloc = rt.alloc();
     let mut array = array(&rt, alloc, "/", SMALL);
     must_keep_and_erase(&rt, alloc, &mut array);
+    drop(array);
 }
 
 fn must_read_part(
@@ -278,6 +280,7 @@ fn what_is_read_is_what_was_written(rt: HostRuntime) {
     write(&rt, alloc, &mut array);
     must_read(&rt, alloc, &array);
     must_read_into(&rt, alloc, &array);
+    drop(array);
 }
 
 /// The call that stores four cells 1 as the chunk with these indices.
@@ -313,4 +316,5 @@ fn a_list_of_calls_has_a_reply_each(rt: HostRuntime) {
     let mut array = array(&rt, alloc, "/", SMALL);
     must_replay(&rt, alloc, &mut array, &store_and_read(&rt, alloc));
     must_have_keys(&rt, alloc, &array, 1);
+    drop(array);
 }

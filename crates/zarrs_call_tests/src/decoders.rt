@@ -84,6 +84,7 @@ fn parts_of_a_chunk_are_decoded(rt: HostRuntime) {
     must_have_no_decoder(&rt, alloc, &array, &[0]);
     must_decode_present(&rt, alloc, &array);
     must_decode_absent(&rt, alloc, &array);
+    drop(array);
 }
 
 /// Reads two cells of the array into the middle of four bytes.
@@ -110,6 +111,7 @@ fn must_read_into(rt: &impl Abort, alloc: Global, array: &MemoryArray) {
 fn a_region_is_read_into_a_box_with_options(rt: HostRuntime) {
     let array = numbered(&rt, rt.alloc());
     must_read_into(&rt, rt.alloc(), &array);
+    drop(array);
 }
 
 /// A caller asks both arrays for the number of dimensions before it compares chunks.
@@ -144,6 +146,8 @@ fn arrays_are_compared_by_their_chunks(rt: HostRuntime) {
     let other = array(&rt, alloc, "/b", &[]);
     let array = numbered(&rt, alloc);
     must_be_equal_below(&rt, alloc, &array, &other);
+    drop(array);
+    drop(other);
 }
 
 /// What is printed has no store.
@@ -157,6 +161,7 @@ fn must_be_printed(rt: &impl Abort, alloc: Global, array: &MemoryArray) {
 fn an_array_is_printed(rt: HostRuntime) {
     let array = numbered(&rt, rt.alloc());
     must_be_printed(&rt, rt.alloc(), &array);
+    drop(array);
 }
 
 #[test]

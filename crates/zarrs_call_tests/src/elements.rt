@@ -130,6 +130,7 @@ fn elements_are_stored_and_read(rt: HostRuntime) {
     let alloc = rt.alloc();
     let mut array = array(&rt, alloc, "/", NUMBERS);
     must_store_and_read(&rt, alloc, &mut array);
+    drop(array);
 }
 
 fn store_chunk_by_options(
@@ -278,4 +279,5 @@ fn elements_are_stored_and_read_by_options(rt: HostRuntime) {
     let alloc = rt.alloc();
     let mut array = array(&rt, alloc, "/", NUMBERS);
     must_store_and_read_by_options(&rt, alloc, &mut array);
+    drop(array);
 }

@@ -179,4 +179,5 @@ fn queries_say_where_chunks_lie(rt: HostRuntime) {
     let array = array(&rt, alloc, "/", SMALL);
     must_lie(&rt, alloc, &array);
     must_lie_together(&rt, alloc, &array);
+    drop(array);
 }

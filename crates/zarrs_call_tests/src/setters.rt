@@ -84,6 +84,7 @@ fn calls_without_options_take_the_default_ones(rt: HostRuntime) {
     let alloc = rt.alloc();
     let mut array = keeping_array(&rt, alloc);
     must_take_options_of_calls(&rt, alloc, &mut array);
+    drop(array);
 }
 
 fn store_metadata(rt: &impl Abort, alloc: Global, array: &mut MemoryArray) {
@@ -135,6 +136,7 @@ fn metadata_is_stored_by_the_options_of_the_array(rt: HostRuntime) {
     let alloc = rt.alloc();
     let mut array = plain_array(&rt, alloc);
     must_store_what_options_show(&rt, alloc, &mut array);
+    drop(array);
 }
 
 fn name(rt: &impl Abort, alloc: Global, text: &str) -> DimensionName {
@@ -201,4 +203,5 @@ fn names_of_dimensions_are_those_that_were_set(rt: HostRuntime) {
     let alloc = rt.alloc();
     let mut array = plain_array(&rt, alloc);
     must_take_two_names(&rt, alloc, &mut array);
+    drop(array);
 }

@@ -66,6 +66,7 @@ fn an_array_has_another_shape(rt: HostRuntime) {
     let alloc = rt.alloc();
     let mut array = array(&rt, alloc, "/", &[]);
     must_grow(&rt, alloc, &mut array);
+    drop(array);
 }
 
 #[test]
@@ -73,6 +74,7 @@ fn a_v2_array_has_another_shape(rt: HostRuntime) {
     let alloc = rt.alloc();
     let mut array = v2_array(&rt, alloc);
     must_grow(&rt, alloc, &mut array);
+    drop(array);
 }
 
 /// The listed sizes do not add up to the new extent: shape and grid stay.
@@ -82,6 +84,7 @@ fn listed_sizes_keep_their_extent(rt: HostRuntime) {
     let mut array = array(&rt, alloc, "/", LISTED);
     must_not_set_shape(&rt, alloc, &mut array, &[6]);
     must_be(&rt, &array, &[5], &[2]);
+    drop(array);
 }
 
 fn set_grid<G: IntoField<ArrayBuilderChunkGridMetadata>>(
@@ -137,6 +140,7 @@ fn an_array_has_another_grid(rt: HostRuntime) {
     let alloc = rt.alloc();
     let mut array = array(&rt, alloc, "/", &[]);
     must_be_rectangular(&rt, alloc, &mut array);
+    drop(array);
 }
 
 /// A text that is no metadata comes before the number of dimensions, and that before the grid.
@@ -152,6 +156,7 @@ fn another_grid_is_refused_in_order(rt: HostRuntime) {
     let alloc = rt.alloc();
     let mut array = array(&rt, alloc, "/", &[]);
     must_refuse_in_order(&rt, alloc, &mut array);
+    drop(array);
 }
 
 /// A V2 array takes another `regular` grid, and no other one.
@@ -168,4 +173,5 @@ fn a_v2_array_has_regular_grids(rt: HostRuntime) {
     let alloc = rt.alloc();
     let mut array = v2_array(&rt, alloc);
     must_be_regular(&rt, alloc, &mut array);
+    drop(array);
 }

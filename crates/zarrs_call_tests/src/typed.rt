@@ -53,6 +53,7 @@ fn lists_are_stored_and_read(rt: HostRuntime) {
     let alloc = rt.alloc();
     let mut array = array(&rt, alloc, "/", NUMBERS);
     must_store_lists(&rt, alloc, &mut array);
+    drop(array);
 }
 
 /// Stores an array that is lent.
@@ -128,6 +129,7 @@ fn lists_of_another_type_are_refused_last_by_reads(rt: HostRuntime) {
     let alloc = rt.alloc();
     let mut array = array(&rt, alloc, "/", NUMBERS);
     must_refuse_other_lists(&rt, alloc, &mut array);
+    drop(array);
 }
 
 fn must_not_store_chunk(
@@ -201,6 +203,7 @@ fn lists_of_another_type_are_refused_in_their_place_by_stores(rt: HostRuntime) {
     let alloc = rt.alloc();
     let mut array = array(&rt, alloc, "/", NUMBERS);
     must_refuse_in_order(&rt, alloc, &mut array);
+    drop(array);
 }
 
 /// These texts were read.
@@ -283,4 +286,5 @@ fn texts_are_stored_and_read(rt: HostRuntime) {
     let alloc = rt.alloc();
     let mut array = array(&rt, alloc, "/", TEXTS);
     must_store_texts(&rt, alloc, &mut array);
+    drop(array);
 }
