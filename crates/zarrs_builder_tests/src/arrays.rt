@@ -52,7 +52,7 @@ fn an_array_is_filled_with_a_wider_number(rt: HostRuntime) {
     drop(array);
 }
 
-/// The array of those numbers with 7 in place of 0, which is not yet written.
+/// An array of such numbers, which are 7 where nothing is stored.
 fn sevens(rt: &impl Abort, alloc: Global) -> MemoryArray {
     let mut builder = numbers(alloc);
     builder.fill_value(alloc, 7u8);
@@ -114,7 +114,7 @@ fn builder_of(rt: &impl Abort, alloc: Global, array: MemoryArray) -> ArrayBuilde
     builder.expect(rt, "no refusal")
 }
 
-/// The builder of an array of this metadata says that one.
+/// The builder of an array of the metadata says the other text.
 fn must_have_builder(rt: &impl Abort, alloc: Global, metadata: &str, said: &str) {
     let builder = builder_of(rt, alloc, array_of(rt, alloc, metadata));
     must_say(rt, alloc, builder, said);

@@ -1,7 +1,7 @@
 //! What the tests are made of: small values, builders, and the arrays and the metadata that they build.
 //!
-//! A builder, an array, a document or a refusal is dropped by a call of `drop`, which is one step of a proof. At the end of
-//! a scope it is many, one for each of its parts.
+//! A call of `drop` is one step of a proof. At the end of a scope, a builder, an array, a document, a JSON value or a
+//! refusal is dropped in many, so each is given to `drop` or to a function that does so.
 use crate::checks::{must, must_eq};
 use serde_json::Value;
 use std::alloc::Global;
@@ -63,7 +63,7 @@ pub(crate) fn name_dimensions(alloc: Global, builder: &mut ArrayBuilder, names: 
     builder.dimension_names(alloc, Some(names.iter().copied()));
 }
 
-/// The names of the dimensions are these.
+/// The dimensions have the names `y` and `x`.
 pub(crate) fn must_be_y_and_x(rt: &impl Abort, names: Option<&[DimensionName]>) {
     let are_y_and_x = match names {
         Some([Some(first), Some(second)]) => first.as_str() == "y" && second.as_str() == "x",

@@ -136,7 +136,7 @@ fn must_be_no_cells_by<D: IntoField<ArrayBuilderDataType>, F: IntoField<ArrayBui
 /// The text of the refusal of 123 as a text.
 const NO_TEXT: &str = "invalid fill value metadata for data type `string`: 123";
 
-/// The text of the refusal of 123 and of null as bytes.
+/// The texts of the refusals of 123 and of null as bytes.
 const NO_BYTES: &str = "invalid fill value metadata for data type `bytes`: 123";
 
 const NULL_BYTES: &str = "invalid fill value metadata for data type `bytes`: null";
@@ -191,7 +191,7 @@ fn mend_grid(alloc: Global, builder: &mut ArrayBuilder) {
     builder.chunk_grid_metadata(alloc, [4u64, 4]);
 }
 
-/// Sets bytes as the fill value, which are none of the data type.
+/// Sets a byte as the fill value, which is none of two bytes.
 fn set_bytes(rt: &impl Abort, alloc: Global, builder: &mut ArrayBuilder) {
     builder.fill_value(alloc, fill_value_of(rt, alloc, &[7]));
 }
