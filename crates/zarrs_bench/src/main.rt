@@ -4,9 +4,9 @@
 mod scripts;
 
 use anyhow::Result;
+use scripts::{PlainScript, RunScript};
 use std::env;
-use zarrs_bench_engine::{chunks, regions};
-use zarrs_bench_rows::{codecs, conversions, copies, fills, measure, parts, walks};
+use zarrs_bench_rows::table::Table;
 
 fn main(rt: HostRuntime) -> Result<()> {
     match env::args(&rt)?.nth(1) {
@@ -18,14 +18,9 @@ fn main(rt: HostRuntime) -> Result<()> {
 
 /// Measures everything.
 fn run(rt: &HostRuntime) -> Result<()> {
-    measure::heading(rt)?;
-    fills::print_rows(rt)?;
-    copies::print_rows(rt)?;
-    conversions::print_rows(rt)?;
-    parts::print_rows(rt)?;
-    walks::print_rows(rt)?;
-    codecs::print_rows(rt)?;
-    chunks::print_rows(rt)?;
-    regions::print_rows(rt)?;
-    scripts::print_rows(rt)
+    let mut table = Table::new(rt);
+    zarrs_bench_rows::rows::print_rows(&mut table);
+    zarrs_bench_engine::rows::print_rows(&mut table);
+    table.row::<RunScript, PlainScript>("a script of 200,001 lines", 0);
+    table.finish()
 }

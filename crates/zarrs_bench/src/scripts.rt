@@ -3,8 +3,7 @@ use anyhow::{Result, anyhow};
 use itoa::Buffer;
 use std::alloc::Global;
 use std::collections::BTreeMap;
-use std::time::Clock;
-use zarrs_bench_rows::measure::{Work, row};
+use zarrs_bench_rows::measure::{Sample, Work};
 use zarrs_script::run_script;
 
 /// How many pairs of a `chunk` and a `read` a script has.
@@ -31,13 +30,33 @@ fn low_len(text: &[u8]) -> u8 {
     (text.len() & 0xff) as u8
 }
 
-/// `run_script`.
+/// A script, and the chunks that the plain loop keeps.
 #[derive(Drop)]
-struct Script(Vec<u8>);
+pub struct Script {
+    text: Vec<u8>,
+    values: BTreeMap<String, Vec<u8>>,
+}
 
-impl Work for Script {
-    fn run(&mut self, alloc: Global, _turn: u8) -> Result<u8> {
-        let mut reader = self.0.as_slice();
+impl Sample for Script {
+    fn make(alloc: Global, _len: usize) -> Result<Script> {
+        Ok(Script {
+            text: long_script(alloc)?,
+            values: BTreeMap::new(alloc),
+        })
+    }
+
+    /// Nothing: what a script prints is made anew by each run.
+    fn touch(&mut self, _turn: u8) {}
+}
+
+/// `run_script`.
+pub struct RunScript;
+
+impl Work for RunScript {
+    type Sample = Script;
+
+    fn run(alloc: Global, script: &mut Script) -> Result<u8> {
+        let mut reader = script.text.as_slice();
         let mut text = Vec::new(alloc);
         let status = run_script(alloc, &mut reader, &mut text);
         Ok(status ^ low_len(&text))
@@ -124,58 +143,43 @@ fn key_of(alloc: Global, index: u64) -> Result<String> {
     Ok(key)
 }
 
-/// The same steps over a map from keys to bytes: all lines are read, then each is done.
-#[derive(Drop)]
-struct PlainScript {
-    script: Vec<u8>,
-    values: BTreeMap<String, Vec<u8>>,
+/// Does what a line asks, over a map from keys to bytes.
+fn run_line(
+    alloc: Global,
+    values: &mut BTreeMap<String, Vec<u8>>,
+    line: &Line,
+    text: &mut Vec<u8>,
+) -> Result<()> {
+    match line {
+        Line::Chunk(index, cells) => {
+            let key = key_of(alloc, *index)?;
+            if cells.iter().any(|cell| *cell != 0) {
+                values.insert(key, cells.clone()?)?;
+            } else {
+                values.remove(&key);
+            }
+            text.extend_from_slice(b"ok\n")?;
+        }
+        Line::Read(index) => match values.get(&key_of(alloc, *index)?) {
+            Some(cells) => put_cells(text, &cells.clone()?)?,
+            None => put_cells(text, &[0, 0, 0, 0])?,
+        },
+        Line::Array => text.extend_from_slice(b"ok\n")?,
+    }
+    Ok(())
 }
 
-impl PlainScript {
-    /// Does what a line asks.
-    fn run_line(&mut self, alloc: Global, line: &Line, text: &mut Vec<u8>) -> Result<()> {
-        match line {
-            Line::Chunk(index, cells) => {
-                let key = key_of(alloc, *index)?;
-                if cells.iter().any(|cell| *cell != 0) {
-                    self.values.insert(key, cells.clone()?)?;
-                } else {
-                    self.values.remove(&key);
-                }
-                text.extend_from_slice(b"ok\n")?;
-            }
-            Line::Read(index) => match self.values.get(&key_of(alloc, *index)?) {
-                Some(cells) => put_cells(text, &cells.clone()?)?,
-                None => put_cells(text, &[0, 0, 0, 0])?,
-            },
-            Line::Array => text.extend_from_slice(b"ok\n")?,
-        }
-        Ok(())
-    }
-}
+/// The same steps: all lines are read, then each is done.
+pub struct PlainScript;
 
 impl Work for PlainScript {
-    fn run(&mut self, alloc: Global, _turn: u8) -> Result<u8> {
+    type Sample = Script;
+
+    fn run(alloc: Global, script: &mut Script) -> Result<u8> {
         let mut text = Vec::new(alloc);
-        let lines = lines_of(alloc, &self.script.clone()?)?;
-        for line in &lines {
-            self.run_line(alloc, line, &mut text)?;
+        for line in &lines_of(alloc, &script.text)? {
+            run_line(alloc, &mut script.values, line, &mut text)?;
         }
         Ok(low_len(&text))
     }
-}
-
-/// The rows of this file.
-///
-/// # Errors
-/// The clock or the output fails, or out of memory.
-pub fn print_rows<R: Clock + Print + Alloc<A = Global>>(rt: &R) -> Result<()> {
-    let alloc = rt.alloc();
-    let mut script = Script(long_script(alloc)?);
-    let mut plain = PlainScript {
-        script: long_script(alloc)?,
-        values: BTreeMap::new(alloc),
-    };
-    let name = "a script of 200,001 lines";
-    row(rt, alloc, name, 0, &mut script, &mut plain)
 }

@@ -1,5 +1,7 @@
 //! The benchmark's rows over an engine: chunks and regions, stored and read.
 #![tactic(auto)]
 
-pub mod chunks;
-pub mod regions;
+mod arrays;
+mod chunks;
+mod regions;
+pub mod rows;

@@ -1,16 +1,15 @@
 //! Regions stored and read, of an array of 32 MiB in chunks of 64 KiB.
+use crate::arrays::absent_array;
 use anyhow::{Result, anyhow};
 use itoa::Buffer;
 use std::alloc::Global;
-use std::num::NonZeroU64;
-use std::time::Clock;
-use zarrs_bench_rows::measure::{Work, row};
-use zarrs_bench_rows::samples::{bytes_of, tested, touch};
+use zarrs_bench_rows::measure::{Sample, Work};
+use zarrs_bench_rows::samples::{bytes_in, tested};
 use zarrs_codec::CodecOptions;
 use zarrs_data_type::ArrayBytes;
 use zarrs_storage::{Bytes, MemoryStore, ReadableStorageTraits, StoreKey, WritableStorageTraits};
 use zarrs_subset::ArraySubset;
-use zarrs_uses::make::{MemoryEngine, bytes_array};
+use zarrs_uses::make::MemoryEngine;
 
 /// The extents of the array.
 const ROWS: u64 = 8192;
@@ -91,37 +90,130 @@ fn chunk_of(row: u64, column: u64) -> Region {
     region_of([0, ROWS], [0, COLUMNS]).within(row, column)
 }
 
-/// `Engine::store_array_subset`.
-#[derive(Drop)]
-struct Store {
-    engine: MemoryEngine,
-    subset: ArraySubset,
-    cells: Vec<u8>,
+/// The whole array, as `CASE` of `Regions`.
+pub const ALL: u64 = 0;
+
+/// All cells but those at its edge.
+pub const INNER: u64 = 1;
+
+/// One column.
+pub const COLUMN: u64 = 2;
+
+/// One row.
+pub const ROW: u64 = 3;
+
+/// One cell.
+pub const CELL: u64 = 4;
+
+/// The region of this case.
+fn region_of_case(case: u64) -> Region {
+    match case {
+        ALL => region_of([0, ROWS], [0, COLUMNS]),
+        INNER => region_of([1, ROWS - 1], [1, COLUMNS - 1]),
+        COLUMN => region_of([0, ROWS], [2176, 2177]),
+        ROW => region_of([4224, 4225], [0, COLUMNS]),
+        _ => region_of([4224, 4225], [2176, 2177]),
+    }
 }
 
-impl Work for Store {
-    fn run(&mut self, alloc: Global, turn: u8) -> Result<u8> {
-        touch(&mut self.cells, turn);
-        let options = CodecOptions::default();
-        let data = ArrayBytes::from_flen(&self.cells);
-        self.engine
-            .store_array_subset(alloc, &self.subset, &data, &options)?;
-        Ok(turn)
+/// The array over a store, the same chunks in a store alone, and a region and what is stored there.
+#[derive(Drop)]
+pub struct Regions<const CASE: u64> {
+    engine: MemoryEngine,
+    store: MemoryStore,
+    region: Region,
+    subset: ArraySubset,
+    cells: ArrayBytes<'static>,
+}
+
+/// Stores these cells as each chunk of the array.
+fn fill_array(alloc: Global, engine: &mut MemoryEngine, cells: &ArrayBytes<'_>) -> Result<()> {
+    let options = CodecOptions::default();
+    for row in 0..ROWS / EXTENT {
+        for column in 0..COLUMNS / EXTENT {
+            engine.store_chunk(alloc, &[row, column], cells, &options)?;
+        }
+    }
+    Ok(())
+}
+
+/// The array, all chunks of which are stored.
+fn stored_array(alloc: Global) -> Result<MemoryEngine> {
+    let cells = ArrayBytes::make(alloc, (EXTENT * EXTENT) as usize)?;
+    let mut engine = absent_array(alloc, &[ROWS, COLUMNS], EXTENT)?;
+    fill_array(alloc, &mut engine, &cells)?;
+    Ok(engine)
+}
+
+/// The same chunks in a store.
+fn stored_chunks(alloc: Global) -> Result<MemoryStore> {
+    let mut store = MemoryStore::new(alloc);
+    for row in 0..ROWS / EXTENT {
+        for column in 0..COLUMNS / EXTENT {
+            let cells = vec![in alloc; 1; (EXTENT * EXTENT) as usize]?;
+            store.set(alloc, &key_of(alloc, row, column)?, Bytes::from_vec(cells)?)?;
+        }
+    }
+    Ok(store)
+}
+
+/// The positions of the region.
+fn subset_of(alloc: Global, region: Region) -> Result<ArraySubset> {
+    let Region { rows, columns } = region;
+    let ranges = [rows.start..rows.end, columns.start..columns.end];
+    Ok(ArraySubset::new_with_ranges(alloc, &ranges)?)
+}
+
+impl<const CASE: u64> Sample for Regions<CASE> {
+    fn make(alloc: Global, len: usize) -> Result<Regions<CASE>> {
+        let region = region_of_case(CASE);
+        let subset = subset_of(alloc, region)?;
+        let cells = ArrayBytes::make(alloc, len)?;
+        let store = stored_chunks(alloc)?;
+        let engine = stored_array(alloc)?;
+        Ok(Regions {
+            engine,
+            store,
+            region,
+            subset,
+            cells,
+        })
+    }
+
+    fn touch(&mut self, turn: u8) {
+        self.cells.touch(turn);
+    }
+}
+
+/// `Engine::store_array_subset`.
+pub struct StoreRegion<const CASE: u64>;
+
+impl<const CASE: u64> Work for StoreRegion<CASE> {
+    type Sample = Regions<CASE>;
+
+    fn run(alloc: Global, regions: &mut Regions<CASE>) -> Result<u8> {
+        let Regions {
+            engine,
+            subset,
+            cells,
+            ..
+        } = regions;
+        engine.store_array_subset(alloc, subset, cells, &CodecOptions::default())?;
+        Ok(0)
     }
 }
 
 /// `Engine::retrieve_array_subset`.
-#[derive(Drop)]
-struct Read {
-    engine: MemoryEngine,
-    subset: ArraySubset,
-}
+pub struct ReadRegion<const CASE: u64>;
 
-impl Work for Read {
-    fn run(&mut self, alloc: Global, _turn: u8) -> Result<u8> {
-        let found = self.engine.retrieve_array_subset(alloc, &self.subset)?;
-        let cells = found.into_fixed()?;
-        Ok(tested(cells.as_slice()))
+impl<const CASE: u64> Work for ReadRegion<CASE> {
+    type Sample = Regions<CASE>;
+
+    fn run(alloc: Global, regions: &mut Regions<CASE>) -> Result<u8> {
+        let found = regions
+            .engine
+            .retrieve_array_subset(alloc, &regions.subset)?;
+        Ok(tested(bytes_in(&found)))
     }
 }
 
@@ -157,211 +249,127 @@ fn copy_rows(
     }
 }
 
-/// The same calls of a store, and copies of rows.
-#[derive(Drop)]
-struct PlainStore {
-    store: MemoryStore,
-    region: Region,
-    cells: Vec<u8>,
+/// The new bytes of a chunk that the region covers.
+fn covered(alloc: Global, region: Region, cells: &[u8], part: Region) -> Result<Vec<u8>> {
+    let width = region.columns.len() as usize;
+    let Some(from) = cells.get(region.offset_of(part)..) else {
+        return Err(anyhow!("no cells"));
+    };
+    let mut made = Vec::with_capacity(alloc, part.len())?;
+    let (count, len) = (part.rows.len() as usize, part.columns.len() as usize);
+    for row in from.chunks(width.max(1)).take(count) {
+        made.extend_from_slice(row.get(..len).unwrap_or(row))?;
+    }
+    Ok(made)
 }
 
-impl PlainStore {
-    /// The new bytes of a chunk that the region covers.
-    fn covered(&self, alloc: Global, part: Region) -> Result<Vec<u8>> {
-        let width = self.region.columns.len() as usize;
-        let Some(from) = self.cells.get(self.region.offset_of(part)..) else {
-            return Err(anyhow!("no cells"));
-        };
-        if width == 0 {
-            return Err(anyhow!("no columns"));
-        }
-        let mut made = Vec::with_capacity(alloc, part.len())?;
-        let (count, len) = (part.rows.len() as usize, part.columns.len() as usize);
-        for row in from.chunks(width).take(count) {
-            made.extend_from_slice(row.get(..len).unwrap_or(row))?;
-        }
-        Ok(made)
-    }
-
-    /// The new bytes of a chunk that had these.
-    fn changed(&self, alloc: Global, held: &[u8], chunk: Region, part: Region) -> Result<Vec<u8>> {
-        let mut made = held.to_vec(alloc)?;
-        let from = self.cells.get(self.region.offset_of(part)..);
-        let to = made.as_mut_slice().get_mut(chunk.offset_of(part)..);
-        let (Some(from), Some(to)) = (from, to) else {
-            return Err(anyhow!("no cells"));
-        };
+/// Copies the cells of a part that two regions have from the bytes of one to those of the other.
+fn copy_part(from: Region, source: &[u8], to: Region, target: &mut [u8], part: Region) {
+    let source = source.get(from.offset_of(part)..);
+    let target = target.get_mut(to.offset_of(part)..);
+    if let (Some(source), Some(target)) = (source, target) {
         copy_rows(
-            from,
-            self.region.columns.len() as usize,
-            to,
-            chunk.columns.len() as usize,
+            source,
+            from.columns.len() as usize,
+            target,
+            to.columns.len() as usize,
             part.rows.len() as usize,
             part.columns.len() as usize,
         );
-        Ok(made)
-    }
-
-    /// Stores what the region has of the chunk with these indices.
-    fn store_chunk(&mut self, alloc: Global, row: u64, column: u64) -> Result<()> {
-        let chunk = chunk_of(row, column);
-        let part = self.region.within(row, column);
-        let key = key_of(alloc, row, column)?;
-        let made = if part.len() == chunk.len() {
-            self.covered(alloc, part)?
-        } else {
-            match self.store.get(alloc, &key)? {
-                Some(held) => self.changed(alloc, held.as_slice(), chunk, part)?,
-                None => return Err(anyhow!("no chunk")),
-            }
-        };
-        if made.iter().any(|cell| *cell != 0) {
-            self.store.set(alloc, &key, Bytes::from_vec(made)?)?;
-        }
-        Ok(())
     }
 }
 
-impl Work for PlainStore {
-    fn run(&mut self, alloc: Global, turn: u8) -> Result<u8> {
-        touch(&mut self.cells, turn);
-        let Region { rows, columns } = self.region;
-        for row in rows.start / EXTENT..rows.end.div_ceil(EXTENT) {
-            for column in columns.start / EXTENT..columns.end.div_ceil(EXTENT) {
-                self.store_chunk(alloc, row, column)?;
-            }
-        }
-        Ok(turn)
+/// The new bytes of the chunk with these indices, whose key this is.
+fn new_chunk(
+    alloc: Global,
+    store: &MemoryStore,
+    key: &StoreKey,
+    region: Region,
+    cells: &[u8],
+    [chunk, part]: [Region; 2],
+) -> Result<Vec<u8>> {
+    if part.len() == chunk.len() {
+        return covered(alloc, region, cells, part);
     }
+    let Some(held) = store.get(alloc, key)? else {
+        return Err(anyhow!("no chunk"));
+    };
+    let mut made = held.as_slice().to_vec(alloc)?;
+    copy_part(region, cells, chunk, &mut made, part);
+    Ok(made)
+}
+
+/// Stores what the region has of the chunk with these indices, by the same calls of a store and copies of rows.
+fn store_part(
+    alloc: Global,
+    store: &mut MemoryStore,
+    region: Region,
+    cells: &[u8],
+    [row, column]: [u64; 2],
+) -> Result<()> {
+    let parts = [chunk_of(row, column), region.within(row, column)];
+    let key = key_of(alloc, row, column)?;
+    let made = new_chunk(alloc, store, &key, region, cells, parts)?;
+    if made.iter().any(|cell| *cell != 0) {
+        store.set(alloc, &key, Bytes::from_vec(made)?)?;
+    }
+    Ok(())
 }
 
 /// The same calls of a store, and copies of rows.
-#[derive(Drop)]
-struct PlainRead {
-    store: MemoryStore,
-    region: Region,
-}
+pub struct PlainStoreRegion<const CASE: u64>;
 
-impl PlainRead {
-    /// Puts what the chunk with these indices has of the region into the region's bytes.
-    fn put_chunk(&self, alloc: Global, row: u64, column: u64, made: &mut [u8]) -> Result<()> {
-        let chunk = chunk_of(row, column);
-        let part = self.region.within(row, column);
-        let Some(held) = self.store.get(alloc, &key_of(alloc, row, column)?)? else {
-            return Ok(());
-        };
-        let from = held.as_slice().get(chunk.offset_of(part)..);
-        let (Some(from), Some(to)) = (from, made.get_mut(self.region.offset_of(part)..)) else {
-            return Err(anyhow!("no cells"));
-        };
-        copy_rows(
-            from,
-            chunk.columns.len() as usize,
-            to,
-            self.region.columns.len() as usize,
-            part.rows.len() as usize,
-            part.columns.len() as usize,
-        );
-        Ok(())
+impl<const CASE: u64> Work for PlainStoreRegion<CASE> {
+    type Sample = Regions<CASE>;
+
+    fn run(alloc: Global, regions: &mut Regions<CASE>) -> Result<u8> {
+        let Region { rows, columns } = regions.region;
+        let cells = bytes_in(&regions.cells);
+        for row in rows.start / EXTENT..rows.end.div_ceil(EXTENT) {
+            for column in columns.start / EXTENT..columns.end.div_ceil(EXTENT) {
+                store_part(
+                    alloc,
+                    &mut regions.store,
+                    regions.region,
+                    cells,
+                    [row, column],
+                )?;
+            }
+        }
+        Ok(0)
     }
 }
 
-impl Work for PlainRead {
-    fn run(&mut self, alloc: Global, _turn: u8) -> Result<u8> {
-        let mut made = vec![in alloc; 0; self.region.len()]?;
-        let Region { rows, columns } = self.region;
+/// Puts what the chunk with these indices has of the region into the region's bytes.
+fn read_part(
+    alloc: Global,
+    store: &MemoryStore,
+    region: Region,
+    [row, column]: [u64; 2],
+    made: &mut [u8],
+) -> Result<()> {
+    if let Some(held) = store.get(alloc, &key_of(alloc, row, column)?)? {
+        let part = region.within(row, column);
+        copy_part(chunk_of(row, column), held.as_slice(), region, made, part);
+    }
+    Ok(())
+}
+
+/// The same calls of a store, and copies of rows.
+pub struct PlainReadRegion<const CASE: u64>;
+
+impl<const CASE: u64> Work for PlainReadRegion<CASE> {
+    type Sample = Regions<CASE>;
+
+    fn run(alloc: Global, regions: &mut Regions<CASE>) -> Result<u8> {
+        let region = regions.region;
+        let Region { rows, columns } = region;
+        let mut made = vec![in alloc; 0; region.len()]?;
         for row in rows.start / EXTENT..rows.end.div_ceil(EXTENT) {
             for column in columns.start / EXTENT..columns.end.div_ceil(EXTENT) {
-                self.put_chunk(alloc, row, column, &mut made)?;
+                read_part(alloc, &regions.store, region, [row, column], &mut made)?;
             }
         }
         Ok(tested(&made))
     }
-}
-
-/// A region, and the names of its rows.
-#[derive(Clone, Copy)]
-struct Case {
-    region: Region,
-    store: &'static str,
-    read: &'static str,
-}
-
-/// The regions that are measured.
-fn cases() -> [Case; 3] {
-    [
-        Case {
-            region: region_of([0, ROWS], [0, COLUMNS]),
-            store: "store 32 MiB over 512 whole chunks of 64 KiB",
-            read: "read 32 MiB of 512 whole chunks of 64 KiB",
-        },
-        Case {
-            region: region_of([1, ROWS - 1], [1, COLUMNS - 1]),
-            store: "store the same but for the cells at its edge",
-            read: "read the same but for the cells at its edge",
-        },
-        Case {
-            region: region_of([0, ROWS], [2176, 2177]),
-            store: "store one column of 8,192 cells, over 32 chunks",
-            read: "read one column of 8,192 cells, of 32 chunks",
-        },
-    ]
-}
-
-/// The array, all chunks of which are absent.
-fn array(alloc: Global) -> Result<MemoryEngine> {
-    let Some(extent) = NonZeroU64::new(EXTENT) else {
-        return Err(anyhow!("an extent is 0"));
-    };
-    let shape = vec![in alloc; ROWS, COLUMNS]?;
-    bytes_array(alloc, shape, vec![in alloc; extent; 2]?)
-}
-
-/// The rows of a case, over stores that have all chunks.
-fn pair(
-    rt: &(impl Clock + Print),
-    alloc: Global,
-    case: Case,
-    engine: MemoryEngine,
-    values: MemoryStore,
-) -> Result<(MemoryEngine, MemoryStore)> {
-    let Region { rows, columns } = case.region;
-    let ranges = [rows.start..rows.end, columns.start..columns.end];
-    let subset = ArraySubset::new_with_ranges(alloc, &ranges)?;
-    let cells = bytes_of(alloc, case.region.len())?;
-    let len = cells.len();
-    let mut store = Store {
-        engine,
-        subset,
-        cells: cells.clone()?,
-    };
-    let mut plain_store = PlainStore {
-        store: values,
-        region: case.region,
-        cells,
-    };
-    row(rt, alloc, case.store, len, &mut store, &mut plain_store)?;
-    let mut read = Read {
-        engine: store.engine,
-        subset: store.subset,
-    };
-    let mut plain_read = PlainRead {
-        store: plain_store.store,
-        region: case.region,
-    };
-    row(rt, alloc, case.read, len, &mut read, &mut plain_read)?;
-    Ok((read.engine, plain_read.store))
-}
-
-/// The rows of this file. The first case stores all chunks.
-///
-/// # Errors
-/// The clock or the output fails, or out of memory.
-pub fn print_rows<R: Clock + Print + Alloc<A = Global>>(rt: &R) -> Result<()> {
-    let alloc = rt.alloc();
-    let mut stores = (array(alloc)?, MemoryStore::new(alloc));
-    for case in cases() {
-        stores = pair(rt, alloc, case, stores.0, stores.1)?;
-    }
-    Ok(())
 }

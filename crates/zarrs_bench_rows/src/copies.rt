@@ -1,37 +1,32 @@
 //! Copies of boxes between arrays of bytes.
 ghost use Rattle.std.specs.Prelude.{◌≡◌, ◌↔◌, ◌*◌, [], ◌∷◌, IsTrue, slice_index};
 
-use crate::measure::{Work, row};
-use crate::samples::{bytes_of, tested, touch};
+use crate::measure::{Sample, Work};
+use crate::samples::{BYTES, tested};
 use anyhow::{Result, anyhow};
 use std::alloc::Global;
-use std::time::Clock;
-use zarrs_subset::{ArraySubset, Corner, copy_box, place_part};
+use zarrs_subset::{Corner, copy_box};
 
-/// How many bytes are copied: 1 MiB.
-const BYTES: usize = 1 << 20;
-
-/// A source of rows, and a target of rows: the first part of each row of the source is copied.
+/// A target, and a source that is twice as long.
 #[derive(Drop)]
-struct Rows {
-    count: u64,
-    source_len: u64,
-    target_len: u64,
+pub struct Pair {
     source: Vec<u8>,
     target: Vec<u8>,
 }
 
-/// A target of rows of this length, and a source of rows that are `times` as long.
-fn rows_of(alloc: Global, len: u64, times: u64) -> Result<Rows> {
-    let count = BYTES as u64 / len.max(1);
-    let source_len = len.saturating_mul(times);
-    Ok(Rows {
-        count,
-        source_len,
-        target_len: len,
-        source: bytes_of(alloc, count.saturating_mul(source_len) as usize)?,
-        target: vec![in alloc; 0; BYTES]?,
-    })
+impl Sample for Pair {
+    fn make(alloc: Global, len: usize) -> Result<Pair> {
+        Ok(Pair {
+            source: vec![in alloc; 1; len.saturating_mul(2)]?,
+            target: vec![in alloc; 0; len]?,
+        })
+    }
+
+    fn touch(&mut self, turn: u8) {
+        if let Some(first) = self.source.first_mut() {
+            *first = turn;
+        }
+    }
 }
 
 /// Whether an array of this shape has so many bytes.
@@ -52,141 +47,71 @@ fn corner_of(shape: &[u64; 2]) -> Corner<'_>
     }
 }
 
-/// `copy_box`.
-#[derive(Drop)]
-struct CopyBox(Rows);
+/// Copies the first bytes of each row of the source, as many as a row of the target has. Returns whether the arrays
+/// have these shapes.
+fn copy_rows(source: &[u8], from: &[u64; 2], target: &mut [u8], to: &[u64; 2]) -> bool {
+    let fits = from[0] >= to[0] && from[1] >= to[1];
+    if !fits || !has_len(from, source.len()) || !has_len(to, target.len()) {
+        return false;
+    }
+    copy_box(source, corner_of(from), target, corner_of(to), to, 1);
+    true
+}
 
-impl Work for CopyBox {
-    fn run(&mut self, _alloc: Global, turn: u8) -> Result<u8> {
-        let rows = &mut self.0;
-        touch(&mut rows.source, turn);
-        let (from, to) = ([rows.count, rows.source_len], [rows.count, rows.target_len]);
-        if rows.source_len < rows.target_len
-            || !has_len(&from, rows.source.len())
-            || !has_len(&to, rows.target.len())
-        {
+/// `copy_box` of rows of `N` bytes, of an array whose rows are `TIMES` as long.
+pub struct CopyBox<const N: usize, const TIMES: usize>;
+
+impl<const N: usize, const TIMES: usize> Work for CopyBox<N, TIMES> {
+    type Sample = Pair;
+
+    fn run(_alloc: Global, pair: &mut Pair) -> Result<u8> {
+        let count = (BYTES / N.max(1)) as u64;
+        let source = pair.source.get(..BYTES * TIMES.min(2)).unwrap_or(&[]);
+        let (from, to) = ([count, (N.saturating_mul(TIMES)) as u64], [count, N as u64]);
+        if !copy_rows(source, &from, &mut pair.target, &to) {
             return Err(anyhow!("arrays of other shapes"));
         }
-        let from = corner_of(&from);
-        copy_box(&rows.source, from, &mut rows.target, corner_of(&to), &to, 1);
-        Ok(tested(&rows.target))
+        Ok(tested(&pair.target))
     }
 }
 
-/// `place_part`.
-#[derive(Drop)]
-struct PlacePart {
-    rows: Rows,
-    target_box: ArraySubset,
-    part_box: ArraySubset,
-}
+/// A loop over rows whose length is known when it is compiled, of an array whose rows are twice as long.
+pub struct PlainRows<const N: usize>;
 
-impl Work for PlacePart {
-    fn run(&mut self, _alloc: Global, turn: u8) -> Result<u8> {
-        let rows = &mut self.rows;
-        touch(&mut rows.source, turn);
-        let (target, part) = (&self.target_box, &self.part_box);
-        if target.dimensionality() != part.dimensionality()
-            || target.num_elements()? != rows.target.len() as u64
-            || part.num_elements()? != rows.source.len() as u64
-        {
-            return Err(anyhow!("arrays of other shapes"));
+/// Copies the first half of each row of the source.
+fn copy_halves<const N: usize>(source: &[[u8; N]], target: &mut [[u8; N]]) {
+    for (row, halves) in target.iter_mut().zip(source.chunks_exact(2)) {
+        if let [left, ..] = halves {
+            *row = *left;
         }
-        place_part(target, &mut rows.target, part, &rows.source, 1);
-        Ok(tested(&rows.target))
     }
 }
-
-/// The rows, and the boxes of both arrays, from the origin on.
-fn place_rows(alloc: Global, rows: Rows) -> Result<PlacePart> {
-    let target_ranges = [0..rows.count, 0..rows.target_len];
-    let part_ranges = [0..rows.count, 0..rows.source_len];
-    Ok(PlacePart {
-        rows,
-        target_box: ArraySubset::new_with_ranges(alloc, &target_ranges)?,
-        part_box: ArraySubset::new_with_ranges(alloc, &part_ranges)?,
-    })
-}
-
-/// A loop over rows whose length is known when it is compiled.
-#[derive(Drop)]
-struct PlainRows<const N: usize>(Rows);
 
 impl<const N: usize> Work for PlainRows<N> {
-    fn run(&mut self, _alloc: Global, turn: u8) -> Result<u8> {
-        touch(&mut self.0.source, turn);
+    type Sample = Pair;
+
+    fn run(_alloc: Global, pair: &mut Pair) -> Result<u8> {
         if N == 0 || N > BYTES {
             return Err(anyhow!("rows of another length"));
         }
-        let from = self.0.source.as_chunks::<N>().0;
-        let to = self.0.target.as_chunks_mut::<N>().0;
-        for (row, pair) in to.iter_mut().zip(from.chunks_exact(2)) {
-            if let [left, ..] = pair {
-                *row = *left;
-            }
-        }
-        Ok(tested(&self.0.target))
+        copy_halves(
+            pair.source.as_chunks::<N>().0,
+            pair.target.as_chunks_mut::<N>().0,
+        );
+        Ok(tested(&pair.target))
     }
 }
 
 /// One copy of all bytes.
-#[derive(Drop)]
-struct PlainWhole(Rows);
+pub struct PlainWhole;
 
 impl Work for PlainWhole {
-    fn run(&mut self, _alloc: Global, turn: u8) -> Result<u8> {
-        touch(&mut self.0.source, turn);
-        if self.0.source.len() != self.0.target.len() {
-            return Err(anyhow!("arrays of other lengths"));
+    type Sample = Pair;
+
+    fn run(_alloc: Global, pair: &mut Pair) -> Result<u8> {
+        if let Some(source) = pair.source.get(..pair.target.len()) {
+            pair.target.copy_from_slice(source);
         }
-        self.0.target.copy_from_slice(&self.0.source);
-        Ok(tested(&self.0.target))
+        Ok(tested(&pair.target))
     }
-}
-
-/// The two rows of the table for rows of `N` bytes, of a source whose rows are twice as long.
-fn pair<const N: usize>(rt: &(impl Clock + Print), alloc: Global, name: &str) -> Result<()> {
-    let len = N as u64;
-    let mut plain = PlainRows::<N>(rows_of(alloc, len, 2)?);
-    let mut product = CopyBox(rows_of(alloc, len, 2)?);
-    row(rt, alloc, name, BYTES, &mut product, &mut plain)?;
-    let mut product = place_rows(alloc, rows_of(alloc, len, 2)?)?;
-    row(
-        rt,
-        alloc,
-        "place_part, the same",
-        BYTES,
-        &mut product,
-        &mut plain,
-    )
-}
-
-/// The rows of this file.
-///
-/// # Errors
-/// The clock or the output fails, or out of memory.
-pub fn print_rows<R: Clock + Print + Alloc<A = Global>>(rt: &R) -> Result<()> {
-    let alloc = rt.alloc();
-    pair::<1>(rt, alloc, "copy_box, 1 MiB in rows of 1 byte")?;
-    pair::<8>(rt, alloc, "copy_box, rows of 8 bytes")?;
-    pair::<64>(rt, alloc, "copy_box, rows of 64 bytes")?;
-    pair::<4096>(rt, alloc, "copy_box, rows of 4096 bytes")?;
-    print_whole(rt, alloc)
-}
-
-/// The rows of copies of a whole array.
-fn print_whole(rt: &(impl Clock + Print), alloc: Global) -> Result<()> {
-    let mut plain = PlainWhole(rows_of(alloc, 1024, 1)?);
-    let mut whole = CopyBox(rows_of(alloc, 1024, 1)?);
-    let name = "copy_box of a whole array of 1 MiB";
-    row(rt, alloc, name, BYTES, &mut whole, &mut plain)?;
-    let mut whole = place_rows(alloc, rows_of(alloc, 1024, 1)?)?;
-    row(
-        rt,
-        alloc,
-        "place_part, the same",
-        BYTES,
-        &mut whole,
-        &mut plain,
-    )
 }

@@ -1,193 +1,87 @@
-//! Fills, and tests of cells.
-use crate::measure::{Work, row};
+//! Fills, and the test that all cells are the fill value.
+use crate::measure::Work;
+use crate::samples::{BYTES, bytes_in, tested, unsigned};
 use anyhow::{Result, anyhow};
 use std::alloc::Global;
-use std::time::Clock;
 use zarrs_data_type::{ArrayBytes, DataType, FillValue};
 
-/// How many bytes are made or tested: 1 MiB.
-const BYTES: usize = 1 << 20;
+/// How many cells a fill has.
+pub const CELLS: usize = 1 << 17;
 
-/// An unsigned type whose cells have this many bytes.
-fn unsigned(width: usize) -> DataType {
-    match width {
-        1 => DataType::UInt8,
-        2 => DataType::UInt16,
-        4 => DataType::UInt32,
-        _ => DataType::UInt64,
+/// `ArrayBytes::new_fill_value`, of cells of `N` bytes.
+pub struct Fill<const N: usize>;
+
+/// Cells of this type that are all this value.
+fn fill_cells(alloc: Global, data_type: &DataType, fill_value: &FillValue) -> Result<u8> {
+    if !fill_value.is_value_of(data_type) {
+        return Err(anyhow!("no fill value"));
+    }
+    let count = CELLS as u64;
+    let size = data_type.held_size(fill_value.as_bytes());
+    if count.checked_mul(size as u64).is_none() {
+        return Err(anyhow!("too many bytes"));
+    }
+    let made = ArrayBytes::new_fill_value(alloc, data_type, count, fill_value)?;
+    Ok(tested(bytes_in(&made)))
+}
+
+impl<const N: usize> Work for Fill<N> {
+    type Sample = u64;
+
+    fn run(alloc: Global, number: &mut u64) -> Result<u8> {
+        let bytes = number.to_le_bytes();
+        let fill_value = FillValue::new(Vec::from_slice(alloc, bytes.get(..N).unwrap_or(&[]))?);
+        fill_cells(alloc, &unsigned(N), &fill_value)
     }
 }
 
-/// The fill value of so many bytes whose first byte is `low`.
-fn fill_of(alloc: Global, width: usize, low: u8) -> Result<FillValue> {
-    let mut bytes = vec![in alloc; 3; width]?;
-    if let Some(first) = bytes.first_mut() {
-        *first = low;
-    }
-    Ok(FillValue::new(bytes))
-}
+/// A vector of one cell of `N` bytes, many times.
+pub struct PlainFill<const N: usize>;
 
-/// `ArrayBytes::new_fill_value`.
-#[derive(Drop)]
-struct Fill(usize);
+impl<const N: usize> Work for PlainFill<N> {
+    type Sample = u64;
 
-impl Work for Fill {
-    fn run(&mut self, alloc: Global, turn: u8) -> Result<u8> {
-        let data_type = unsigned(self.0);
-        let fill_value = fill_of(alloc, self.0, turn)?;
-        let count = (BYTES / 8) as u64;
-        if self.0 == 0 || !fill_value.is_value_of(&data_type) {
-            return Err(anyhow!("no fill value"));
+    fn run(alloc: Global, number: &mut u64) -> Result<u8> {
+        if N == 0 || N > 8 {
+            return Err(anyhow!("cells of another size"));
         }
-        let size = data_type.held_size(fill_value.as_bytes());
-        if count.checked_mul(size as u64).is_none() {
-            return Err(anyhow!("too many bytes"));
-        }
-        let made = ArrayBytes::new_fill_value(alloc, &data_type, count, &fill_value)?;
-        Ok(made.into_fixed()?.as_slice().last().copied().unwrap_or(0))
+        let mut cell = [0; N];
+        cell.copy_from_slice(&number.to_le_bytes()[..N]);
+        let made: Vec<[u8; N]> = vec![in alloc; cell; CELLS]?;
+        Ok(tested(made.as_slice().as_flattened()))
     }
 }
 
-/// A vector of one number, many times.
-#[derive(Drop)]
-struct PlainFill(usize);
+/// `ArrayBytes::is_fill_value`, over cells that are all the fill value, but for the last one in every other turn.
+pub struct AllFill;
 
-impl Work for PlainFill {
-    fn run(&mut self, alloc: Global, turn: u8) -> Result<u8> {
-        let low = u64::from(turn);
-        let last = match self.0 {
-            1 => vec![in alloc; turn; BYTES / 8]?
-                .last()
-                .copied()
-                .map(u64::from),
-            2 => vec![in alloc; 0x0300 | u16::from(turn); BYTES / 8]?
-                .last()
-                .map(|n| u64::from(*n)),
-            4 => vec![in alloc; 0x0303_0300 | u32::from(turn); BYTES / 8]?
-                .last()
-                .map(|n| u64::from(*n)),
-            _ => vec![in alloc; 0x0303_0303_0303_0300 | low; BYTES / 8]?
-                .last()
-                .copied(),
-        };
-        let highest = 8 * (self.0.max(1).min(8) - 1);
-        Ok(((last.unwrap_or(0) >> highest) & 0xff) as u8)
-    }
-}
-
-/// `ArrayBytes::is_fill_value` over data that is all fill.
-#[derive(Drop)]
-struct AllFill {
-    data_type: DataType,
-    fill_value: FillValue,
-    cells: Vec<u8>,
+/// Whether all cells are the fill value.
+fn are_all_fill(cells: &ArrayBytes<'_>, fill_value: &FillValue) -> bool {
+    cells.validate(&DataType::UInt32, (BYTES / 4) as u64)
+        && fill_value.is_value_of(&DataType::UInt32)
+        && cells.is_fill_value(&DataType::UInt32, fill_value)
 }
 
 impl Work for AllFill {
-    fn run(&mut self, _alloc: Global, turn: u8) -> Result<u8> {
-        touch(&mut self.cells, turn);
-        let data = ArrayBytes::from_flen(&self.cells);
-        let count = (self.cells.len() / 4) as u64;
-        if !data.validate(&self.data_type, count) || !self.fill_value.is_value_of(&self.data_type) {
-            return Err(anyhow!("no cells"));
-        }
-        Ok(u8::from(data.is_fill_value(&self.data_type, &self.fill_value)))
+    type Sample = ArrayBytes<'static>;
+
+    fn run(alloc: Global, cells: &mut ArrayBytes<'static>) -> Result<u8> {
+        let fill_value = FillValue::new(vec![in alloc; 1; 4]?);
+        Ok(u8::from(are_all_fill(cells, &fill_value)))
     }
 }
 
-/// Writes a byte again, so that no turn can use the result of the one before.
-fn touch(bytes: &mut [u8], turn: u8) {
-    let Some(byte) = bytes.get_mut(usize::from(turn)) else {
-        return;
-    };
-    *byte = (*byte).min(turn.max(1));
-}
-
 /// Whether each cell of four bytes is the fill value, without an early end.
-#[derive(Drop)]
-struct PlainAllFill(Vec<u8>);
+pub struct PlainAllFill;
 
 impl Work for PlainAllFill {
-    fn run(&mut self, _alloc: Global, turn: u8) -> Result<u8> {
-        touch(&mut self.0, turn);
+    type Sample = ArrayBytes<'static>;
+
+    fn run(_alloc: Global, cells: &mut ArrayBytes<'static>) -> Result<u8> {
         let mut same = true;
-        for cell in self.0.as_chunks::<4>().0 {
+        for cell in bytes_in(cells).as_chunks::<4>().0 {
             same &= u32::from_le_bytes(*cell) == 0x0101_0101;
         }
         Ok(u8::from(same))
     }
-}
-
-/// `ArrayBytes::validate` over bools.
-#[derive(Drop)]
-struct Bools(Vec<u8>);
-
-impl Work for Bools {
-    fn run(&mut self, _alloc: Global, turn: u8) -> Result<u8> {
-        touch(&mut self.0, turn);
-        let count = self.0.len() as u64;
-        let data = ArrayBytes::from_flen(&self.0);
-        Ok(u8::from(data.validate(&DataType::Bool, count)))
-    }
-}
-
-/// Whether each byte is 0 or 1, without an early end.
-#[derive(Drop)]
-struct PlainBools(Vec<u8>);
-
-impl Work for PlainBools {
-    fn run(&mut self, _alloc: Global, turn: u8) -> Result<u8> {
-        touch(&mut self.0, turn);
-        let mut fine = true;
-        for byte in &self.0 {
-            fine &= *byte < 2;
-        }
-        Ok(u8::from(fine))
-    }
-}
-
-/// The rows of this file.
-///
-/// # Errors
-/// The clock or the output fails, or out of memory.
-pub fn print_rows<R: Clock + Print + Alloc<A = Global>>(rt: &R) -> Result<()> {
-    let alloc = rt.alloc();
-    for (width, name) in [
-        (1, "fill of 131,072 cells of 1 byte"),
-        (2, "fill of 131,072 cells of 2 bytes"),
-        (4, "fill of 131,072 cells of 4 bytes"),
-        (8, "fill of 131,072 cells of 8 bytes"),
-    ] {
-        let len = width * BYTES / 8;
-        row(
-            rt,
-            alloc,
-            name,
-            len,
-            &mut Fill(width),
-            &mut PlainFill(width),
-        )?;
-    }
-    print_all_fill(rt, alloc)?;
-    print_bools(rt, alloc)
-}
-
-/// The row of the test that all is fill.
-fn print_all_fill(rt: &(impl Clock + Print), alloc: Global) -> Result<()> {
-    let mut all_fill = AllFill {
-        data_type: DataType::UInt32,
-        fill_value: FillValue::new(vec![in alloc; 1; 4]?),
-        cells: vec![in alloc; 1; BYTES]?,
-    };
-    let mut plain = PlainAllFill(vec![in alloc; 1; BYTES]?);
-    let name = "all-fill test of 1 MiB";
-    row(rt, alloc, name, BYTES, &mut all_fill, &mut plain)
-}
-
-/// The row of the test of bools.
-fn print_bools(rt: &(impl Clock + Print), alloc: Global) -> Result<()> {
-    let mut bools = Bools(vec![in alloc; 1; BYTES]?);
-    let mut plain = PlainBools(vec![in alloc; 1; BYTES]?);
-    let name = "test of 1 MiB of bools";
-    row(rt, alloc, name, BYTES, &mut bools, &mut plain)
 }

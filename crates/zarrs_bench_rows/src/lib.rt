@@ -1,11 +1,14 @@
-//! How the benchmark measures, and its rows without a store: fills, copies, conversions, parts, walks and codecs.
+//! How the benchmark measures, and its rows without a store: fills, copies, conversions, walks and codecs.
 #![tactic(auto)]
 
-pub mod codecs;
-pub mod conversions;
-pub mod copies;
-pub mod fills;
+mod codecs;
+mod conversions;
+mod copies;
+mod fills;
 pub mod measure;
-pub mod parts;
+mod plain;
+pub mod rows;
 pub mod samples;
-pub mod walks;
+pub mod table;
+mod transposes;
+mod walks;

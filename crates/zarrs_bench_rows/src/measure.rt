@@ -1,144 +1,138 @@
-//! Times of pieces of work, and the rows of the table.
+//! Times of pieces of work.
 use anyhow::Result;
 use std::alloc::Global;
 use std::time::{Clock, Instant};
 
+/// What work is done on.
+pub trait Sample: Drop {
+    /// A sample for work over so many bytes.
+    ///
+    /// # Errors
+    /// Out of memory.
+    fn make(alloc: Global, len: usize) -> Result<Self>;
+
+    /// Changes it a little, so that no turn can use the result of the one before. `turn` differs from call to call.
+    fn touch(&mut self, turn: u8);
+}
+
 /// A piece of work that is measured.
 pub trait Work {
-    /// Does it once, and returns a byte that depends on what it made. `turn` differs from call to call.
+    /// What it is done on.
+    type Sample: Sample;
+
+    /// Does it once, and returns a byte that depends on what it made.
     ///
     /// # Errors
     /// What the work refuses.
-    fn run(&mut self, alloc: Global, turn: u8) -> Result<u8>;
+    fn run(alloc: Global, sample: &mut Self::Sample) -> Result<u8>;
+}
+
+/// The best time of each kind of work, in nanoseconds, and whether both made the same.
+#[derive(Clone, Copy)]
+pub struct Times {
+    /// That of the product.
+    pub product: u64,
+    /// That of plain Rust.
+    pub plain: u64,
+    /// That of a copy of the bytes; 0 if the work is none over bytes.
+    pub copy: u64,
+    /// Whether the product and plain Rust made the same.
+    pub are_same: bool,
 }
 
 /// How often each piece of work is done. The best time counts.
 const TURNS: u8 = 25;
 
-/// How long the work takes, in nanoseconds, and the byte that it returned.
-fn nanoseconds<W: Work>(
+/// Measures the work of the product, that of plain Rust on the same sample and a copy of so many bytes, in turns.
+///
+/// # Errors
+/// The work or the clock fails, or out of memory.
+pub fn measured<P: Work, Q: Work<Sample = P::Sample>>(
     rt: &impl Clock,
     alloc: Global,
-    work: &mut W,
-    turn: u8,
-) -> Result<(u64, u8)> {
+    len: usize,
+) -> Result<Times> {
+    let mut sample = P::Sample::make(alloc, len)?;
+    let mut blocks = Blocks::make(alloc, len)?;
+    let mut best = Times {
+        product: u64::MAX,
+        plain: u64::MAX,
+        copy: if len > 0 { u64::MAX } else { 0 },
+        are_same: true,
+    };
+    for turn in 0..TURNS {
+        sample.touch(turn);
+        best = next_times::<P, Q>(rt, alloc, &mut sample, &mut blocks, best)?;
+    }
+    Ok(best)
+}
+
+/// The times after one more turn. A copy comes before each piece of work, so that both find the same in the caches.
+fn next_times<P: Work, Q: Work<Sample = P::Sample>>(
+    rt: &impl Clock,
+    alloc: Global,
+    sample: &mut P::Sample,
+    blocks: &mut Blocks,
+    best: Times,
+) -> Result<Times> {
+    let (first_copy, _) = timed::<Copies>(rt, alloc, blocks)?;
+    let (product, made) = timed::<P>(rt, alloc, sample)?;
+    let (second_copy, _) = timed::<Copies>(rt, alloc, blocks)?;
+    let (plain, wanted) = timed::<Q>(rt, alloc, sample)?;
+    Ok(Times {
+        product: best.product.min(product),
+        plain: best.plain.min(plain),
+        copy: best.copy.min(first_copy).min(second_copy),
+        are_same: best.are_same && made == wanted,
+    })
+}
+
+/// How long the work takes, in nanoseconds, and the byte that it returned.
+fn timed<W: Work>(rt: &impl Clock, alloc: Global, sample: &mut W::Sample) -> Result<(u64, u8)> {
     let start = Instant::now(rt)?;
-    let byte = work.run(alloc, turn)?;
+    let byte = W::run(alloc, sample)?;
     let taken = start.elapsed(rt)?.as_nanos();
     Ok((u64::try_from(taken).unwrap_or(u64::MAX), byte))
 }
 
-/// Copies of bytes, of at most 1 MiB each.
+/// Blocks of at most 1 MiB that are copied, and how often.
 #[derive(Drop)]
-pub struct CopyBytes {
+struct Blocks {
     source: Vec<u8>,
     target: Vec<u8>,
     times: usize,
 }
 
-impl CopyBytes {
-    /// Copies of so many bytes in all.
-    ///
-    /// # Errors
-    /// Out of memory.
-    pub fn new(alloc: Global, len: usize) -> Result<CopyBytes> {
+impl Sample for Blocks {
+    fn make(alloc: Global, len: usize) -> Result<Blocks> {
         let block = len.clamp(1, 1 << 20);
-        Ok(CopyBytes {
+        Ok(Blocks {
             source: vec![in alloc; 1; block]?,
             target: vec![in alloc; 0; block]?,
             times: len / block,
         })
     }
+
+    fn touch(&mut self, turn: u8) {
+        if let Some(byte) = self.source.get_mut(usize::from(turn)) {
+            *byte = turn;
+        }
+    }
 }
 
-impl Work for CopyBytes {
-    fn run(&mut self, _alloc: Global, turn: u8) -> Result<u8> {
-        for time in 0..self.times {
-            if let Some(byte) = self.source.get_mut(time) {
-                *byte = turn;
-            }
-            if self.source.len() == self.target.len() {
-                self.target.copy_from_slice(&self.source);
+/// Copies of bytes.
+struct Copies;
+
+impl Work for Copies {
+    type Sample = Blocks;
+
+    fn run(_alloc: Global, blocks: &mut Blocks) -> Result<u8> {
+        for time in 0..blocks.times {
+            blocks.touch((time % 256) as u8);
+            if blocks.source.len() == blocks.target.len() {
+                blocks.target.copy_from_slice(&blocks.source);
             }
         }
-        Ok(self.target.first().copied().unwrap_or(0))
+        Ok(blocks.target.first().copied().unwrap_or(0))
     }
-}
-
-/// The best time of each kind of work, in nanoseconds.
-#[derive(Clone, Copy)]
-struct Times {
-    product: u64,
-    plain: u64,
-    copy: u64,
-}
-
-/// Prints the head of the table.
-///
-/// # Errors
-/// The output fails.
-pub fn heading(rt: &impl Print) -> Result<()> {
-    println!(rt; "| Work | us | us, plain Rust | Ratio | Ratio to a memory copy |")?;
-    println!(rt; "|---|---|---|---|---|")?;
-    Ok(())
-}
-
-/// Measures the work of the product, that of plain Rust and a copy of so many bytes, in turns, and prints the row of
-/// their best times. No byte is copied if the work is none over bytes.
-///
-/// # Errors
-/// The work, the clock or the output fails, or out of memory.
-pub fn row<P: Work, Q: Work>(
-    rt: &(impl Clock + Print),
-    alloc: Global,
-    name: &str,
-    len: usize,
-    product: &mut P,
-    plain: &mut Q,
-) -> Result<()> {
-    let mut copy = CopyBytes::new(alloc, len)?;
-    let mut best = Times {
-        product: u64::MAX,
-        plain: u64::MAX,
-        copy: u64::MAX,
-    };
-    let mut differing = 0;
-    for turn in 0..TURNS {
-        let (product_time, made) = nanoseconds(rt, alloc, product, turn)?;
-        let (plain_time, wanted) = nanoseconds(rt, alloc, plain, turn)?;
-        let (copy_time, _) = nanoseconds(rt, alloc, &mut copy, turn)?;
-        best = Times {
-            product: best.product.min(product_time),
-            plain: best.plain.min(plain_time),
-            copy: best.copy.min(copy_time),
-        };
-        differing |= made ^ wanted;
-    }
-    let note = if differing == 0 {
-        ""
-    } else {
-        " (results differ)"
-    };
-    print!(rt; "| {name}{note} |")?;
-    print_times(rt, alloc, &best, len > 0)
-}
-
-/// The quotient with two decimals.
-fn ratio(alloc: Global, time: u64, other: u64) -> Result<String> {
-    let percent = time.saturating_mul(100) / other.max(1);
-    let (whole, part) = (percent / 100, percent % 100);
-    Ok(format!(in alloc; "{whole}.{part:02}")?)
-}
-
-/// Prints the rest of a row.
-fn print_times(rt: &impl Print, alloc: Global, best: &Times, is_of_bytes: bool) -> Result<()> {
-    let plain = ratio(alloc, best.product, best.plain)?;
-    let copy = if is_of_bytes {
-        ratio(alloc, best.product, best.copy)?
-    } else {
-        String::from_str(alloc, "-")?
-    };
-    let (product_us, plain_us) = (best.product / 1000, best.plain / 1000);
-    println!(rt; " {product_us} | {plain_us} | {plain} | {copy} |")?;
-    Ok(())
 }

@@ -1,24 +1,44 @@
-//! Bytes that are worked on.
+//! Bytes and numbers that are worked on.
+use crate::measure::Sample;
 use anyhow::Result;
 use std::alloc::Global;
-use zarrs_data_type::ArrayBytes;
+use std::borrow::CowSlice;
+use zarrs_data_type::{ArrayBytes, DataType};
 
-/// So many bytes, which differ from place to place.
-///
-/// # Errors
-/// Out of memory.
-pub fn bytes_of(alloc: Global, len: usize) -> Result<Vec<u8>> {
-    let mut made = vec![in alloc; 0; len]?;
-    for (place, byte) in made.iter_mut().enumerate() {
-        *byte = (place % 251) as u8;
+/// How many bytes most samples have: 1 MiB.
+pub const BYTES: usize = 1 << 20;
+
+/// Cells of one size, of bytes that are 1, but for the last one in every other turn.
+impl Sample for ArrayBytes<'static> {
+    fn make(alloc: Global, len: usize) -> Result<ArrayBytes<'static>> {
+        Ok(ArrayBytes::new_flen(vec![in alloc; 1; len]?))
     }
-    Ok(made)
+
+    fn touch(&mut self, turn: u8) {
+        if let ArrayBytes::Fixed(CowSlice::Owned(bytes)) = self {
+            if let Some(last) = bytes.last_mut() {
+                *last = turn % 2;
+            }
+        }
+    }
 }
 
-/// Writes the first byte, so that no turn can use the result of the one before.
-pub fn touch(bytes: &mut [u8], byte: u8) {
-    if let Some(first) = bytes.first_mut() {
-        *first = byte;
+/// A number, as the first index of a box.
+impl Sample for u64 {
+    fn make(_alloc: Global, _len: usize) -> Result<u64> {
+        Ok(0)
+    }
+
+    fn touch(&mut self, turn: u8) {
+        *self = u64::from(turn);
+    }
+}
+
+/// The bytes of fixed data.
+pub fn bytes_in<'a>(data: &'a ArrayBytes<'_>) -> &'a [u8] {
+    match data {
+        ArrayBytes::Fixed(bytes) => bytes.as_slice(),
+        _ => &[],
     }
 }
 
@@ -29,10 +49,12 @@ pub fn tested(bytes: &[u8]) -> u8 {
     first ^ middle ^ bytes.last().copied().unwrap_or(0)
 }
 
-/// What three of the bytes of fixed data say; of other data 0.
-pub fn tested_cells(data: &ArrayBytes<'_>) -> u8 {
-    match data {
-        ArrayBytes::Fixed(bytes) => tested(bytes.as_slice()),
-        _ => 0,
+/// An unsigned type whose cells have this many bytes.
+pub fn unsigned(width: usize) -> DataType {
+    match width {
+        1 => DataType::UInt8,
+        2 => DataType::UInt16,
+        4 => DataType::UInt32,
+        _ => DataType::UInt64,
     }
 }

@@ -1,0 +1,78 @@
+//! The table that is printed.
+use crate::measure::{Work, measured};
+use anyhow::Result;
+use std::alloc::Global;
+use std::fmt;
+use std::time::Clock;
+
+/// The table, which ends before the first row that fails.
+pub struct Table<'a, R> {
+    rt: &'a R,
+    outcome: Result<()>,
+}
+
+impl<'a, R: Clock + Print + Alloc<A = Global>> Table<'a, R> {
+    /// Prints the head of the table.
+    pub fn new(rt: &'a R) -> Table<'a, R> {
+        let outcome = print_head(rt);
+        Table { rt, outcome }
+    }
+
+    /// Measures the work of the product, that of plain Rust and a copy of so many bytes, and prints the row of their
+    /// best times. The number of bytes is 0 if the work is none over bytes.
+    pub fn row<P: Work, Q: Work<Sample = P::Sample>>(&mut self, name: &str, len: usize) {
+        if self.outcome.is_ok() {
+            self.outcome = print_row::<R, P, Q>(self.rt, name, len);
+        }
+    }
+
+    /// Ends the table.
+    ///
+    /// # Errors
+    /// Why a row failed: the work, the clock or the output, or out of memory.
+    pub fn finish(self) -> Result<()> {
+        let Table { rt: _, outcome } = self;
+        outcome
+    }
+}
+
+/// How many times one time is as long as another; `-` if the other is 0.
+#[derive(Clone, Copy)]
+struct Ratio(u64, u64);
+
+impl fmt::Display for Ratio {
+    fn fmt<W: fmt::Write>(&self, f: &mut fmt::Formatter<W>) -> fmt::Result {
+        match self.0.saturating_mul(100).checked_div(self.1) {
+            Some(percent) => write!(f, "{}.{:02}", percent / 100, percent % 100),
+            None => write!(f, "-"),
+        }
+    }
+}
+
+/// Prints the head of the table.
+fn print_head(rt: &impl Print) -> Result<()> {
+    println!(rt;
+        "| Work | us | us, plain Rust | Ratio | Ratio to a memory copy |\n|---|---|---|---|---|"
+    )?;
+    Ok(())
+}
+
+/// Measures, and prints a row.
+fn print_row<R, P, Q>(rt: &R, name: &str, len: usize) -> Result<()>
+where
+    R: Clock + Print + Alloc<A = Global>,
+    P: Work,
+    Q: Work<Sample = P::Sample>,
+{
+    let times = measured::<P, Q>(rt, rt.alloc(), len)?;
+    let note = if times.are_same {
+        ""
+    } else {
+        " (results differ)"
+    };
+    let (product_us, plain_us) = (times.product / 1000, times.plain / 1000);
+    let to_plain = Ratio(times.product, times.plain.max(1));
+    let to_copy = Ratio(times.product, times.copy);
+    println!(rt; "| {name}{note} | {product_us} | {plain_us} | {to_plain} | {to_copy} |")?;
+    Ok(())
+}
