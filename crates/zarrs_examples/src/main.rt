@@ -8,16 +8,32 @@ use std::rt::Files;
 use zarrs_script::run_script;
 
 /// The scripts, and the status that each ends with.
-const EXAMPLES: [(&str, u8); 10] = [
+const EXAMPLES: [(&str, u8); 26] = [
     ("first", 0),
+    ("few_cells", 0),
+    ("empty", 0),
     ("cells", 0),
+    ("chunks", 0),
     ("types", 0),
+    ("ends_of_types", 0),
     ("no_dimension", 1),
+    ("few_refusals", 1),
     ("refusals", 1),
+    ("chunk_refusals", 1),
+    ("first_refusal", 1),
+    ("last_refusal", 1),
     ("regions", 1),
+    ("get_and_put", 0),
+    ("region_refusals", 1),
     ("metadata", 1),
+    ("metadata_of_types", 0),
+    ("metadata_of_shapes", 0),
+    ("metadata_between_calls", 0),
+    ("metadata_refusals", 1),
     ("skipped", 1),
     ("limits", 1),
+    ("cell_out_of_range", 2),
+    ("missing_word", 2),
     ("not_a_command", 2),
 ];
 
