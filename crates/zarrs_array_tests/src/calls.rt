@@ -1,129 +1,105 @@
-//! Calls of arrays that are not refused.
-use crate::made::{MemoryArray, Texts, holding, put};
+//! Calls of an array that no case file makes, by ranges in place of boxes: 4 by 4 bytes in chunks of 2 by 2, with the fill
+//! value 7.
+use crate::arrays::{MemoryArray, array};
+use crate::checks::{must, must_be_bytes, must_be_done, must_eq};
 use std::alloc::Global;
 use std::process::Abort;
-use zarrs::{
-    Array, ArrayBytes, ArrayMetadataOptions, ArraySubset, MemoryStore, MetadataConvertVersion,
-    MetadataEraseVersion, MetadataRetrieveVersion,
-};
 
-/// Options that leave the attribute of this library out.
-pub(crate) fn plain() -> ArrayMetadataOptions {
-    ArrayMetadataOptions::default().with_include_zarrs_metadata(false)
+/// A chunk, a part of another one, a range of two, and a region.
+fn store_elements(rt: &impl Abort, alloc: Global, array: &mut MemoryArray) {
+    must_be_done(
+        rt,
+        array.store_chunk_elements(alloc, &[0, 0], &[1u8, 2, 3, 4]),
+    );
+    must_be_done(
+        rt,
+        array.store_chunk_subset_elements(alloc, &[0, 1], &[1..2, 0..2], &[5u8, 6]),
+    );
+    must_be_done(
+        rt,
+        array.store_chunks_elements(alloc, &[1..2, 0..2], &[8u8; 8]),
+    );
+    must_be_done(
+        rt,
+        array.store_array_subset_elements(alloc, &[1..3, 1..3], &[9u8; 4]),
+    );
 }
 
-/// The same ones, which show metadata in V3.
-pub(crate) fn plain_v3() -> ArrayMetadataOptions {
-    plain().with_metadata_convert_version(MetadataConvertVersion::V3)
+/// What these stores leave, a row of the array a line.
+const WRITTEN: &[u8] = &[
+    1, 2, 7, 7, //
+    3, 9, 9, 6, //
+    8, 9, 9, 8, //
+    8, 8, 8, 8,
+];
+
+fn must_read_elements(rt: &impl Abort, alloc: Global, array: &MemoryArray) {
+    must_be_bytes(
+        rt,
+        array.retrieve_chunk_elements(alloc, &[0, 0]),
+        &[1, 2, 3, 9],
+    );
+    must_be_bytes(
+        rt,
+        array.retrieve_chunk_subset_elements(alloc, &[0, 0], &[0..2, 1..2]),
+        &[2, 9],
+    );
+    must_be_bytes(
+        rt,
+        array.retrieve_chunks_elements(alloc, &[1..2, 0..1]),
+        &[8, 9, 8, 8],
+    );
+    must_be_bytes(
+        rt,
+        array.retrieve_array_subset_elements(alloc, &[0..4, 0..4]),
+        WRITTEN,
+    );
+    let found = array.retrieve_chunk_elements_if_exists::<u8>(alloc, &[0, 1]);
+    must(rt, found.expect(rt, "no refusal").is_some());
 }
 
-/// The same ones as the first, which show main names.
-pub(crate) fn plain_with_main_names() -> ArrayMetadataOptions {
-    plain().with_convert_aliased_extension_names(true)
-}
-
-/// The array at the path in the store.
-pub(crate) fn opened(
-    rt: &impl Abort,
-    alloc: Global,
-    storage: MemoryStore,
-    path: &str,
-) -> MemoryArray {
-    Array::open(alloc, storage, path).expect(rt, "no refusal")
-}
-
-/// The array at the root of a store that holds these values.
-pub(crate) fn open(rt: &impl Abort, alloc: Global, entries: Texts<'_>) -> MemoryArray {
-    opened(rt, alloc, holding(rt, alloc, entries), "/")
-}
-
-/// The array of V2 metadata at the root of a store that holds these values.
-pub(crate) fn open_v2(rt: &impl Abort, alloc: Global, entries: Texts<'_>) -> MemoryArray {
-    let storage = holding(rt, alloc, entries);
-    Array::open_opt(alloc, storage, "/", &MetadataRetrieveVersion::V2).expect(rt, "no refusal")
-}
-
-/// Drops the array. A function that calls this takes half as long to prove as one that drops the array at its end.
-pub(crate) fn close(array: MemoryArray) {
+#[test]
+fn elements_are_stored_and_read(rt: HostRuntime) {
+    let alloc = rt.alloc();
+    let mut array = array(&rt, alloc);
+    store_elements(&rt, alloc, &mut array);
+    must_read_elements(&rt, alloc, &array);
     drop(array);
 }
 
-/// The array with V3 metadata.
-pub(crate) fn in_v3(rt: &impl Abort, alloc: Global, array: MemoryArray) -> MemoryArray {
-    array.to_v3(alloc).expect(rt, "no refusal")
+fn must_have_extents(rt: &impl Abort, alloc: Global, array: &MemoryArray) {
+    let extents = array.chunk_shape_usize(alloc, &[0, 0]);
+    let extents = extents.expect(rt, "no refusal");
+    must_eq(rt, extents.as_slice(), [2, 2].as_slice());
 }
 
-/// Sets the options of the array's own that leave the attribute of this library out.
-pub(crate) fn show_plainly(array: &mut MemoryArray) {
-    let _ = array.set_metadata_options(plain());
+fn list(rt: &impl Abort, alloc: Global, numbers: &[u64]) -> Vec<u64> {
+    numbers.to_vec(alloc).expect(rt, "no refusal")
 }
 
-pub(crate) fn store(rt: &impl Abort, alloc: Global, array: &mut MemoryArray) {
-    array.store_metadata(alloc).expect(rt, "no refusal");
+fn set_shape(rt: &impl Abort, alloc: Global, array: &mut MemoryArray) {
+    let set = array.set_shape(alloc, list(rt, alloc, &[9, 3]));
+    must_eq(rt, set.expect(rt, "no refusal").shape(), [9, 3].as_slice());
 }
 
-/// Stores the metadata without the attribute of this library.
-pub(crate) fn store_plainly(rt: &impl Abort, alloc: Global, array: &mut MemoryArray) {
-    array
-        .store_metadata_opt(alloc, &plain())
-        .expect(rt, "no refusal");
+fn set_grid(rt: &impl Abort, alloc: Global, array: &mut MemoryArray) {
+    let set = array.set_shape_and_chunk_grid(alloc, list(rt, alloc, &[9, 9]), [3u64, 2]);
+    let counts = set.expect(rt, "no refusal").chunk_grid_shape();
+    must_eq(rt, counts, [3, 5].as_slice());
 }
 
-pub(crate) fn erase(rt: &impl Abort, alloc: Global, array: &mut MemoryArray) {
-    array.erase_metadata(alloc).expect(rt, "no refusal");
+fn take_names(rt: &impl Abort, alloc: Global, array: &mut MemoryArray) {
+    let set = array.set_dimension_names(alloc, None);
+    must(rt, set.expect(rt, "no refusal").dimension_names().is_none());
 }
 
-pub(crate) fn erase_version(
-    rt: &impl Abort,
-    alloc: Global,
-    array: &mut MemoryArray,
-    version: MetadataEraseVersion,
-) {
-    array
-        .erase_metadata_opt(alloc, version)
-        .expect(rt, "no refusal");
-}
-
-pub(crate) fn put_attribute(
-    rt: &impl Abort,
-    alloc: Global,
-    array: &mut MemoryArray,
-    name: &str,
-    text: &str,
-) {
-    put(rt, alloc, array.attributes_mut(), name, text);
-}
-
-pub(crate) fn clear_attributes(array: &mut MemoryArray) {
-    array.attributes_mut().clear();
-}
-
-pub(crate) fn store_chunk(
-    rt: &impl Abort,
-    alloc: Global,
-    array: &mut MemoryArray,
-    indices: &[u64],
-    bytes: &[u8],
-) {
-    array
-        .store_chunk(alloc, indices, bytes)
-        .expect(rt, "no refusal");
-}
-
-/// The region of the whole array.
-pub(crate) fn whole(rt: &impl Abort, alloc: Global, array: &MemoryArray) -> ArraySubset {
-    array.subset_all(alloc).expect(rt, "no refusal")
-}
-
-fn fixed(rt: &impl Abort, alloc: Global, bytes: &[u8]) -> ArrayBytes<'static> {
-    ArrayBytes::new_flen(bytes.to_vec(alloc).expect(rt, "no refusal"))
-}
-
-/// Stores the cells of the whole array.
-pub(crate) fn store_cells(rt: &impl Abort, alloc: Global, array: &mut MemoryArray, cells: &[u8]) {
-    let all = whole(rt, alloc, array);
-    let cells = fixed(rt, alloc, cells);
-    array
-        .store_array_subset(alloc, &all, cells)
-        .expect(rt, "no refusal");
+#[test]
+fn setters_return_the_array(rt: HostRuntime) {
+    let alloc = rt.alloc();
+    let mut array = array(&rt, alloc);
+    must_have_extents(&rt, alloc, &array);
+    set_shape(&rt, alloc, &mut array);
+    set_grid(&rt, alloc, &mut array);
+    take_names(&rt, alloc, &mut array);
+    drop(array);
 }

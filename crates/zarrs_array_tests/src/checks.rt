@@ -2,6 +2,7 @@
 //! that the test owns. A call of these takes one.
 use std::fmt::Debug;
 use std::process::Abort;
+use zarrs::ArrayError;
 
 /// Ends the test, except if this holds.
 pub(crate) fn must(rt: &impl Abort, holds: bool) {
@@ -11,4 +12,15 @@ pub(crate) fn must(rt: &impl Abort, holds: bool) {
 /// Ends the test and prints both values, except if they are equal.
 pub(crate) fn must_eq<T: Copy + PartialEq + Debug>(rt: &impl Abort, found: T, wanted: T) {
     assert_eq!(rt; found, wanted);
+}
+
+/// Ends the test if the call was refused.
+pub(crate) fn must_be_done(rt: &impl Abort, outcome: Result<(), ArrayError>) {
+    outcome.expect(rt, "no refusal");
+}
+
+/// Ends the test, except if these bytes were read.
+pub(crate) fn must_be_bytes(rt: &impl Abort, read: Result<Vec<u8>, ArrayError>, bytes: &[u8]) {
+    let held = read.expect(rt, "no refusal");
+    must(rt, held.as_slice() == bytes);
 }

@@ -1,31 +1,11 @@
-//! Tests of arrays: made from documents, stored, opened and changed.
+//! Tests of arrays: what no line of a case file can show.
 #![tactic(auto)]
 
 #[cfg(test)]
-mod aliases;
+mod arrays;
 #[cfg(test)]
 mod calls;
 #[cfg(test)]
 mod checks;
 #[cfg(test)]
-mod copies;
-#[cfg(test)]
-mod creation;
-#[cfg(test)]
-mod faults;
-#[cfg(test)]
-mod foreign;
-#[cfg(test)]
-mod made;
-#[cfg(test)]
-mod opening;
-#[cfg(test)]
-mod refusals;
-#[cfg(test)]
-mod refused;
-#[cfg(test)]
-mod seen;
-#[cfg(test)]
-mod setters;
-#[cfg(test)]
-mod versions;
+mod errors;

@@ -1,4 +1,5 @@
-//! Tests of builders of arrays: what is built, the refusals in their order, the setters, and builders of arrays.
+//! Tests of builders of arrays: setters by values of other types, builders that are changed and used again, and the uses
+//! of arrays. What builders make and refuse is shown by the case files of `zarrs_cases_run`.
 #![tactic(auto)]
 
 #[cfg(test)]
@@ -7,8 +8,6 @@ mod arrays;
 mod checks;
 #[cfg(test)]
 mod made;
-#[cfg(test)]
-mod refusals;
 #[cfg(test)]
 mod setters;
 #[cfg(test)]

@@ -1,19 +1,13 @@
-//! What the tests are made of: small values, builders, and the arrays and the metadata that they build.
+//! Small values and builders, and the metadata that they build.
 //!
 //! A call of `drop` is one step of a proof. At the end of a scope, a builder, an array, a document, a JSON value or a
 //! refusal is dropped in many, so each is given to `drop` or to a function that does so.
-use crate::checks::{must, must_eq};
+use crate::checks::must_eq;
 use serde_json::Value;
 use std::alloc::Global;
-use std::num::NonZeroU64;
 use std::process::Abort;
-use zarrs::Array;
-use zarrs_builder::{ArrayBuilder, ArrayBuilderDataType, ArrayBuilderFillValue};
-use zarrs_data_type::{DataType, FillValue, IntoField};
-use zarrs_document::{ArrayMetadataV3, DimensionName};
-use zarrs_storage::MemoryStore;
-
-pub(crate) type MemoryArray = Array<MemoryStore>;
+use zarrs::{ArrayMetadataV3, DataType};
+use zarrs_builder::ArrayBuilder;
 
 pub(crate) fn text_of(rt: &impl Abort, alloc: Global, text: &str) -> String {
     String::from_str(alloc, text).expect(rt, "no refusal")
@@ -25,14 +19,6 @@ pub(crate) fn list_of<T: Copy>(rt: &impl Abort, alloc: Global, items: &[T]) -> V
 
 pub(crate) fn json_of(rt: &impl Abort, alloc: Global, text: &str) -> Value {
     Value::from_str(alloc, text).expect(rt, "no refusal")
-}
-
-pub(crate) fn size_of(rt: &impl Abort, size: u64) -> NonZeroU64 {
-    NonZeroU64::new(size).expect(rt, "not zero")
-}
-
-pub(crate) fn fill_value_of(rt: &impl Abort, alloc: Global, bytes: &[u8]) -> FillValue {
-    FillValue::new(list_of(rt, alloc, bytes))
 }
 
 /// A builder of an array of 8 by 8 bytes in chunks of 4 by 4.
@@ -49,41 +35,6 @@ pub(crate) const BYTES: &str = concat!(
     "\"zarr_format\":3}"
 );
 
-/// A builder of an array of 8 by 8 cells of this type in chunks of 2 by 2.
-pub(crate) fn cells<D: IntoField<ArrayBuilderDataType>, F: IntoField<ArrayBuilderFillValue>>(
-    alloc: Global,
-    data_type: D,
-    fill_value: F,
-) -> ArrayBuilder {
-    ArrayBuilder::new(alloc, [8u64, 8], [2u64, 2], data_type, fill_value)
-}
-
-/// Sets these names of dimensions.
-pub(crate) fn name_dimensions(alloc: Global, builder: &mut ArrayBuilder, names: &[&'static str]) {
-    builder.dimension_names(alloc, Some(names.iter().copied()));
-}
-
-/// The dimensions have the names `y` and `x`.
-pub(crate) fn must_be_y_and_x(rt: &impl Abort, names: Option<&[DimensionName]>) {
-    let are_y_and_x = match names {
-        Some([Some(first), Some(second)]) => first.as_str() == "y" && second.as_str() == "x",
-        _ => false,
-    };
-    must(rt, are_y_and_x);
-}
-
-/// The array that is built at the path.
-pub(crate) fn built(
-    rt: &impl Abort,
-    alloc: Global,
-    builder: ArrayBuilder,
-    path: &str,
-) -> MemoryArray {
-    let built = builder.build(alloc, MemoryStore::new(alloc), path);
-    drop(builder);
-    built.expect(rt, "no refusal")
-}
-
 /// The metadata that is built.
 fn metadata_of(rt: &impl Abort, alloc: Global, builder: ArrayBuilder) -> ArrayMetadataV3 {
     let metadata = builder.build_metadata(alloc);
@@ -92,28 +43,32 @@ fn metadata_of(rt: &impl Abort, alloc: Global, builder: ArrayBuilder) -> ArrayMe
 }
 
 /// The metadata that is built, as a JSON value.
-pub(crate) fn said(rt: &impl Abort, alloc: Global, builder: ArrayBuilder) -> Value {
+fn said(rt: &impl Abort, alloc: Global, builder: ArrayBuilder) -> Value {
     let metadata = metadata_of(rt, alloc, builder);
     let value = metadata.to_value(alloc);
     drop(metadata);
     value.expect(rt, "no refusal")
 }
 
-/// The value is this text.
-fn must_be_written(rt: &impl Abort, alloc: Global, value: &Value, text: &str) {
-    let written = value.to_string(alloc).expect(rt, "no refusal");
-    must_eq(rt, written.as_str(), text);
-}
-
-/// The member of the value is this text.
-pub(crate) fn must_have(rt: &impl Abort, alloc: Global, value: &Value, member: &str, text: &str) {
-    let value = value.get(member).expect(rt, "a member");
-    must_be_written(rt, alloc, value, text);
-}
-
 /// The metadata that is built is this text.
 pub(crate) fn must_say(rt: &impl Abort, alloc: Global, builder: ArrayBuilder, text: &str) {
     let value = said(rt, alloc, builder);
-    must_be_written(rt, alloc, &value, text);
+    let written = value.to_string(alloc);
+    drop(value);
+    must_eq(rt, written.expect(rt, "no refusal").as_str(), text);
+}
+
+/// Members of the metadata that is built are these texts.
+pub(crate) fn must_have(
+    rt: &impl Abort,
+    alloc: Global,
+    builder: ArrayBuilder,
+    members: &[(&str, &str)],
+) {
+    let value = said(rt, alloc, builder);
+    for (name, text) in members {
+        let member = value.get(*name).expect(rt, "a member").to_string(alloc);
+        must_eq(rt, member.expect(rt, "no refusal").as_str(), *text);
+    }
     drop(value);
 }

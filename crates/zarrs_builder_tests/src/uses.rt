@@ -1,14 +1,14 @@
 //! The uses of arrays, run.
 use crate::checks::{must, must_eq};
-use crate::made::{MemoryArray, must_be_y_and_x};
 use std::alloc::Global;
 use std::ops::Range;
 use std::process::Abort;
+use zarrs::{
+    Array, ArraySubset, Bytes, DimensionName, MemoryStore, StoreKey, WritableStorageTraits,
+};
 use zarrs_array_uses::built::{measure, rainfall, unit_of};
 use zarrs_array_uses::documents::{create_array, read_region_at, v3_text};
 use zarrs_array_uses::encoded::read_while;
-use zarrs_storage::{Bytes, MemoryStore, StoreKey, WritableStorageTraits};
-use zarrs_subset::ArraySubset;
 
 const PATH: &str = "/climate/rain";
 
@@ -28,72 +28,25 @@ const DOCUMENT: &[u8] = br#"{
     "codecs": ["bytes"]
 }"#;
 
-/// The store in which that array was created.
-fn created(rt: &impl Abort, alloc: Global) -> MemoryStore {
+/// That array, over a store that has its document.
+fn created(rt: &impl Abort, alloc: Global) -> Array<MemoryStore> {
     let created = create_array(alloc, MemoryStore::new(alloc), PATH, DOCUMENT);
-    created.expect(rt, "no refusal").into_storage()
+    created.expect(rt, "no refusal")
 }
 
-/// The array in the store has these cells in the region.
-fn must_read(
-    rt: &impl Abort,
-    alloc: Global,
-    storage: MemoryStore,
-    region: ArraySubset,
-    wanted: &[u8],
-) {
-    let read = read_region_at(alloc, storage, PATH, &region);
-    drop(region);
+/// The array in the store has these cells in its second row.
+fn must_read(rt: &impl Abort, alloc: Global, storage: MemoryStore, wanted: &[u8]) {
+    let row = region(rt, alloc, &[1..2, 0..4]);
+    let read = read_region_at(alloc, storage, PATH, &row);
+    drop(row);
     must_eq(rt, read.expect(rt, "no refusal").as_slice(), wanted);
 }
 
 #[test]
 fn an_array_is_created_and_opened_again(rt: HostRuntime) {
     let alloc = rt.alloc();
-    let row = region(&rt, alloc, &[1..2, 0..4]);
-    must_read(&rt, alloc, created(&rt, alloc), row, &[7, 7, 7, 7]);
-}
-
-fn store_chunk(rt: &impl Abort, alloc: Global, array: &mut MemoryArray, cells: &[u8]) {
-    let stored = array.store_chunk(alloc, &[0, 0], cells);
-    stored.expect(rt, "no refusal");
-}
-
-/// The region reads these numbers while the first chunk has other cells.
-fn must_read_while(
-    rt: &impl Abort,
-    alloc: Global,
-    array: &mut MemoryArray,
-    region: &ArraySubset,
-    wanted: &[u8],
-) {
-    let read = read_while(alloc, array, &[0, 0], &[1, 2, 3, 4], region);
-    must_eq(rt, read.expect(rt, "no refusal").as_slice(), wanted);
-}
-
-/// Which bytes are stored for the first chunk, if it is present.
-fn must_be_stored(rt: &impl Abort, alloc: Global, array: &MemoryArray, wanted: Option<&[u8]>) {
-    if array.dimensionality() != 2 {
-        return rt.panic("another number of dimensions");
-    }
-    let stored = array.retrieve_encoded_chunk(alloc, &[0, 0]);
-    must(rt, stored.expect(rt, "no refusal").as_deref() == wanted);
-}
-
-fn must_be_put_back(rt: &impl Abort, alloc: Global, array: &mut MemoryArray, row: &ArraySubset) {
-    must_read_while(rt, alloc, array, row, &[1, 2, 7, 7]);
-    must_be_stored(rt, alloc, array, None);
-    store_chunk(rt, alloc, array, &[5, 6, 7, 8]);
-    must_read_while(rt, alloc, array, row, &[1, 2, 7, 7]);
-    must_be_stored(rt, alloc, array, Some(&[5, 6, 7, 8]));
-}
-
-#[test]
-fn a_chunk_is_left_with_the_bytes_that_it_had(rt: HostRuntime) {
-    let alloc = rt.alloc();
-    let created = create_array(alloc, MemoryStore::new(alloc), PATH, DOCUMENT);
-    let mut array = created.expect(&rt, "no refusal");
-    must_be_put_back(&rt, alloc, &mut array, &region(&rt, alloc, &[0..1, 0..4]));
+    let storage = created(&rt, alloc).into_storage();
+    must_read(&rt, alloc, storage, &[7, 7, 7, 7]);
 }
 
 /// The V2 document of an array of 6 texts, as zarr-python writes it, and the V3 document that it becomes.
@@ -118,41 +71,72 @@ const CONVERTED: &str = concat!(
     "\"node_type\":\"array\",\"shape\":[6],\"zarr_format\":3}"
 );
 
-fn key_of(rt: &impl Abort, alloc: Global, text: &str) -> StoreKey {
-    StoreKey::new(alloc, text).expect(rt, "no refusal")
-}
-
 /// The store that holds the V2 document.
 fn holding(rt: &impl Abort, alloc: Global) -> MemoryStore {
     let mut storage = MemoryStore::new(alloc);
-    let key = key_of(rt, alloc, "names/.zarray");
+    let key = StoreKey::new(alloc, "names/.zarray").expect(rt, "no refusal");
     let set = storage.set(alloc, &key, Bytes::from_static(V2_DOCUMENT));
-    drop(key);
     set.expect(rt, "no refusal");
     storage
-}
-
-fn must_convert(rt: &impl Abort, alloc: Global, storage: MemoryStore, wanted: &str) {
-    let text = v3_text(alloc, storage, "/names").expect(rt, "no refusal");
-    must_eq(rt, text.as_str(), wanted);
 }
 
 #[test]
 fn a_v2_array_is_shown_in_v3(rt: HostRuntime) {
     let alloc = rt.alloc();
-    must_convert(&rt, alloc, holding(&rt, alloc), CONVERTED);
+    let text = v3_text(alloc, holding(&rt, alloc), "/names").expect(&rt, "no refusal");
+    must_eq(&rt, text.as_str(), CONVERTED);
 }
 
-/// The array of the rainfall at 8 by 8 places, where nobody measured.
-fn unmeasured(rt: &impl Abort, alloc: Global) -> MemoryArray {
-    let built = rainfall(alloc, MemoryStore::new(alloc), PATH);
-    built.expect(rt, "no refusal")
+/// The region reads these numbers while the first chunk has other cells.
+fn must_read_while(
+    rt: &impl Abort,
+    alloc: Global,
+    array: &mut Array<MemoryStore>,
+    region: &ArraySubset,
+    wanted: &[u8],
+) {
+    let read = read_while(alloc, array, &[0, 0], &[1, 2, 3, 4], region);
+    must_eq(rt, read.expect(rt, "no refusal").as_slice(), wanted);
 }
 
-/// The array has the names and the unit that it was built with.
-fn must_be_rainfall(rt: &impl Abort, array: &MemoryArray) {
-    must(rt, unit_of(array) == Some("mm"));
-    must_be_y_and_x(rt, array.dimension_names());
+/// The cells of the first chunk, if it is present.
+fn must_hold(rt: &impl Abort, alloc: Global, array: &Array<MemoryStore>, wanted: Option<&[u8]>) {
+    let held: Result<Option<Vec<u8>>, _> = array.retrieve_chunk_if_exists(alloc, &[0, 0]);
+    must(rt, held.expect(rt, "no refusal").as_deref() == wanted);
+}
+
+fn store_chunk(rt: &impl Abort, alloc: Global, array: &mut Array<MemoryStore>, cells: &[u8]) {
+    let stored = array.store_chunk(alloc, &[0, 0], cells);
+    stored.expect(rt, "no refusal");
+}
+
+fn must_be_put_back(
+    rt: &impl Abort,
+    alloc: Global,
+    array: &mut Array<MemoryStore>,
+    row: &ArraySubset,
+) {
+    must_read_while(rt, alloc, array, row, &[1, 2, 7, 7]);
+    must_hold(rt, alloc, array, None);
+    store_chunk(rt, alloc, array, &[5, 6, 7, 8]);
+    must_read_while(rt, alloc, array, row, &[1, 2, 7, 7]);
+    must_hold(rt, alloc, array, Some(&[5, 6, 7, 8]));
+}
+
+#[test]
+fn a_chunk_is_left_as_it_was(rt: HostRuntime) {
+    let alloc = rt.alloc();
+    let mut array = created(&rt, alloc);
+    must_be_put_back(&rt, alloc, &mut array, &region(&rt, alloc, &[0..1, 0..4]));
+    drop(array);
+}
+
+/// The dimensions have the names `y` and `x`.
+fn are_y_and_x(names: Option<&[DimensionName]>) -> bool {
+    match names {
+        Some([Some(first), Some(second)]) => first.as_str() == "y" && second.as_str() == "x",
+        _ => false,
+    }
 }
 
 /// What is known of the first two rows of places after four of them were measured.
@@ -161,22 +145,22 @@ const MEASURED: &[i16] = &[
     -1, -1, -1, 12, 0, 7, 31, -1,
 ];
 
-fn must_be_measured(rt: &impl Abort, millimetres: &[i16]) {
-    must_eq(rt, millimetres.len(), 64);
-    must(rt, millimetres.starts_with(MEASURED));
-}
-
-fn must_measure(rt: &impl Abort, alloc: Global, array: &mut MemoryArray, places: ArraySubset) {
+fn must_measure(rt: &impl Abort, alloc: Global, array: &mut Array<MemoryStore>) {
+    let places = region(rt, alloc, &[1..2, 3..7]);
     let measured = measure(alloc, array, &places, &[12, 0, 7, 31]);
     drop(places);
-    must_be_measured(rt, &measured.expect(rt, "no refusal"));
+    let millimetres = measured.expect(rt, "no refusal");
+    must_eq(rt, millimetres.len(), 64);
+    must(rt, millimetres.starts_with(MEASURED));
 }
 
 #[test]
 fn an_array_is_built_and_measured(rt: HostRuntime) {
     let alloc = rt.alloc();
-    let mut array = unmeasured(&rt, alloc);
-    must_be_rainfall(&rt, &array);
-    must_measure(&rt, alloc, &mut array, region(&rt, alloc, &[1..2, 3..7]));
+    let built = rainfall(alloc, MemoryStore::new(alloc), PATH);
+    let mut array = built.expect(&rt, "no refusal");
+    must(&rt, unit_of(&array) == Some("mm"));
+    must(&rt, are_y_and_x(array.dimension_names()));
+    must_measure(&rt, alloc, &mut array);
     drop(array);
 }

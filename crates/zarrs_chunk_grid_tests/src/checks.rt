@@ -8,11 +8,6 @@ pub(crate) fn must(rt: &impl Abort, holds: bool) {
     assert!(rt; holds);
 }
 
-/// Ends the test and prints the case, except if this holds of it.
-pub(crate) fn must_for<C: Copy + Debug>(rt: &impl Abort, case: C, holds: bool) {
-    assert!(rt; holds, "{case:?}");
-}
-
 /// Ends the test and prints both values, except if they are equal.
 pub(crate) fn must_eq<T: Copy + PartialEq + Debug>(rt: &impl Abort, found: T, wanted: T) {
     assert_eq!(rt; found, wanted);

@@ -1,24 +1,16 @@
-//! The tests of single codecs, of chains of them and of their metadata, over the public calls of `zarrs_codec_array`,
-//! `zarrs_codec_leaf` and `zarrs_codec` alone.
+//! What no case file can say of codecs and chains, of targets and of shards, over the public calls of `zarrs_codec`,
+//! `zarrs_target` and `zarrs_shard` alone.
 #![tactic(auto)]
 
 #[cfg(test)]
-mod arrays;
+mod chains;
 #[cfg(test)]
 mod checks;
 #[cfg(test)]
-mod given;
+mod codecs;
 #[cfg(test)]
-mod leaf_codecs;
+mod data;
 #[cfg(test)]
-mod metadata;
+mod shards;
 #[cfg(test)]
-mod optional;
-#[cfg(test)]
-mod strings;
-#[cfg(test)]
-mod tests;
-#[cfg(test)]
-mod vlen_codecs;
-#[cfg(test)]
-mod vlen_tests;
+mod targets;

@@ -1,9 +1,10 @@
-//! Tests of `zarrs_document` and `zarrs_document_v2`.
+//! Tests of `zarrs_document` and `zarrs_document_v2`: what no array reads or makes. How documents of arrays are read,
+//! written and converted is shown by the case files of `zarrs_cases_run`.
 #![tactic(auto)]
 
 #[cfg(test)]
 mod checks;
 #[cfg(test)]
-mod documents_v2;
+mod documents;
 #[cfg(test)]
-mod documents_v3;
+mod fields;

@@ -1,5 +1,6 @@
 //! What tests say of what they find. An assertion in the body of a test takes several steps of its proof, each beside all
 //! that the test owns. A call of these takes one.
+use std::alloc::Global;
 use std::fmt::Debug;
 use std::process::Abort;
 
@@ -8,12 +9,13 @@ pub(crate) fn must(rt: &impl Abort, holds: bool) {
     assert!(rt; holds);
 }
 
-/// Ends the test and prints the case, except if this holds of it.
-pub(crate) fn must_for<C: Copy + Debug>(rt: &impl Abort, case: C, holds: bool) {
-    assert!(rt; holds, "{case:?}");
-}
-
 /// Ends the test and prints both values, except if they are equal.
 pub(crate) fn must_eq<T: Copy + PartialEq + Debug>(rt: &impl Abort, found: T, wanted: T) {
     assert_eq!(rt; found, wanted);
+}
+
+/// Ends the test, except if the value is printed so by `{:?}`.
+pub(crate) fn must_print(rt: &impl Abort, alloc: Global, value: &impl Debug, text: &str) {
+    let printed = format!(in alloc; "{value:?}").expect(rt, "no refusal");
+    must_eq(rt, printed.as_str(), text);
 }

@@ -1,26 +1,14 @@
-//! Tests of the engine: its reads and writes of chunks, parts and regions, reads into targets, partial decoders,
-//! comparisons, the laws of calls, and random histories of calls.
+//! Tests of the engine that only code can be: its calls over a grid that no array has, the parts that it lends, its laws,
+//! its errors, and the uses of `zarrs_uses`. What calls answer stands in the case files of `zarrs_cases_run`.
 #![tactic(auto)]
 
 #[cfg(test)]
+mod calls;
+#[cfg(test)]
 mod checks;
 #[cfg(test)]
-mod comparisons;
-#[cfg(test)]
-mod encoded;
-#[cfg(test)]
-mod histories;
-#[cfg(test)]
-mod partial_decoders;
-#[cfg(test)]
-mod ranges;
-#[cfg(test)]
-mod regions;
+mod errors;
 #[cfg(test)]
 mod steps;
-#[cfg(test)]
-mod target_reads;
-#[cfg(test)]
-mod tests;
 #[cfg(test)]
 mod uses;

@@ -1,265 +1,120 @@
-//! Keys that the format's documents publish, what is refused, and that each call succeeds.
+//! Texts that are no path and no key, copies of keys, and what refusals print.
 use crate::checks::{must, must_eq, must_for};
 use std::alloc::Global;
+use std::fmt::Display;
 use std::process::Abort;
 use zarrs_keys::{
     ChunkKeyEncoding, ChunkKeyEncodingTraits, ChunkKeySeparator, KeySuffix, KeySuffixError,
-    NodePath, NodePathError, chunk_key, data_key, meta_key_v2_array, meta_key_v2_attributes,
-    meta_key_v3, paths_are_names, paths_keep_keys_lawful, unrelated_paths_share_no_key,
+    NodePath, NodePathError, data_key, paths_are_names, paths_keep_keys_lawful,
+    unrelated_paths_share_no_key,
 };
-use zarrs_storage::StorageError;
+use zarrs_metadata::{MetadataError, PluginCreateError};
+use zarrs_storage::{StorageError, StoreKey};
 
-fn must_encode<E: ChunkKeyEncodingTraits>(
-    rt: &impl Abort,
-    alloc: Global,
-    encoding: &E,
-    indices: &[u64],
-    key: &str,
-) {
-    must_eq(
-        rt,
-        encoding
-            .encode(alloc, indices)
-            .expect(rt, "no refusal")
-            .as_str(),
-        key,
-    );
+fn path(rt: &impl Abort, alloc: Global, text: &str) -> NodePath {
+    NodePath::new(alloc, text).expect(rt, "no refusal")
 }
 
-/// The `default_suffix` encoding with `/`.
-fn suffixed(rt: &impl Abort, alloc: Global, suffix: &str) -> ChunkKeyEncoding {
-    let suffix = KeySuffix::new(alloc, suffix).expect(rt, "no refusal");
-    ChunkKeyEncoding::DefaultSuffix(ChunkKeySeparator::Slash, suffix)
+fn suffix(rt: &impl Abort, alloc: Global, text: &str) -> KeySuffix {
+    KeySuffix::new(alloc, text).expect(rt, "no refusal")
 }
 
-#[test]
-fn default_keys(rt: HostRuntime) {
-    let alloc = rt.alloc();
-    let indices = [1, 23, 45];
-    let slashes = ChunkKeyEncoding::Default(ChunkKeySeparator::Slash);
-    must_encode(&rt, alloc, &slashes, &indices, "c/1/23/45");
-    must_encode(&rt, alloc, &slashes, &[], "c");
-    let dots = ChunkKeyEncoding::Default(ChunkKeySeparator::Dot);
-    must_encode(&rt, alloc, &dots, &indices, "c.1.23.45");
-    must_encode(&rt, alloc, &dots, &[], "c");
+fn suffixed(rt: &impl Abort, alloc: Global, text: &str) -> ChunkKeyEncoding {
+    ChunkKeyEncoding::DefaultSuffix(ChunkKeySeparator::Slash, suffix(rt, alloc, text))
 }
 
-#[test]
-fn v2_keys(rt: HostRuntime) {
-    let alloc = rt.alloc();
-    let indices = [1, 23, 45];
-    let dots = ChunkKeyEncoding::V2(ChunkKeySeparator::Dot);
-    must_encode(&rt, alloc, &dots, &indices, "1.23.45");
-    must_encode(&rt, alloc, &dots, &[], "0");
-    let slashes = ChunkKeyEncoding::V2(ChunkKeySeparator::Slash);
-    must_encode(&rt, alloc, &slashes, &indices, "1/23/45");
-    must_encode(&rt, alloc, &slashes, &[], "0");
+fn store_key(rt: &impl Abort, alloc: Global, text: &str) -> StoreKey {
+    let key = String::from_str(alloc, text).expect(rt, "no refusal");
+    StoreKey::from_string(alloc, key).expect(rt, "no refusal")
+}
+
+fn must_be_no_path(rt: &impl Abort, alloc: Global, text: &str) {
+    let refused = NodePath::new(alloc, text);
+    must_for(rt, text, matches!(refused, Err(NodePathError::Invalid)));
+}
+
+fn must_be_no_store_key(rt: &impl Abort, alloc: Global, text: &str) {
+    let refused = StoreKey::new(alloc, text);
+    must_for(rt, text, matches!(refused, Err(StorageError::Other(_))));
+}
+
+fn must_be_no_data_key(rt: &impl Abort, alloc: Global, text: &str, encoded: &str) {
+    let refused = data_key(alloc, &path(rt, alloc, text), encoded);
+    must_for(rt, encoded, matches!(refused, Err(StorageError::Other(_))));
 }
 
 #[test]
-fn default_suffix_keys(rt: HostRuntime) {
-    let alloc = rt.alloc();
-    let tiles = suffixed(&rt, alloc, ".tiff");
-    must_encode(&rt, alloc, &tiles, &[1, 23, 45], "c/1/23/45.tiff");
-    must_encode(&rt, alloc, &tiles, &[], "c.tiff");
-}
-
-#[test]
-fn suffix_that_begins_with_a_digit(rt: HostRuntime) {
-    let alloc = rt.alloc();
-    let levels = suffixed(&rt, alloc, "0_x");
-    must_encode(&rt, alloc, &levels, &[1, 2], "c/1/20_x");
-    must_encode(&rt, alloc, &levels, &[], "c0_x");
-}
-
-#[test]
-fn largest_indices(rt: HostRuntime) {
-    let alloc = rt.alloc();
-    let slashes = ChunkKeyEncoding::Default(ChunkKeySeparator::Slash);
-    let indices = [u64::MAX, 0];
-    must_encode(&rt, alloc, &slashes, &indices, "c/18446744073709551615/0");
-    let dots = ChunkKeyEncoding::V2(ChunkKeySeparator::Dot);
-    must_encode(&rt, alloc, &dots, &[u64::MAX], "18446744073709551615");
-}
-
-#[test]
-fn encodes_behind_a_text(rt: HostRuntime) {
-    let alloc = rt.alloc();
-    let mut text = String::from_str(alloc, "a/").expect(&rt, "no refusal");
-    ChunkKeyEncoding::V2(ChunkKeySeparator::Dot)
-        .encode_into(&mut text, &[3, 4])
-        .expect(&rt, "no refusal");
-    must_eq(&rt, text.as_str(), "a/3.4");
-}
-
-#[test]
-fn suffixes_that_are_refused(rt: HostRuntime) {
-    let alloc = rt.alloc();
-    for text in ["", "/x", "x/", " ", "ä", "~"] {
-        let refused = KeySuffix::new(alloc, text);
-        must_for(&rt, text, matches!(&refused, Err(KeySuffixError::Invalid)));
+fn texts_that_are_no_path_and_no_key(rt: HostRuntime) {
+    const STORE_KEYS: &[&str] = &["", "/", "/c", "c/"];
+    for text in STORE_KEYS {
+        must_be_no_store_key(&rt, rt.alloc(), text);
     }
-    must_eq(
-        &rt,
-        KeySuffix::new(alloc, "a-Z_0.9")
-            .expect(&rt, "no refusal")
-            .as_str(),
-        "a-Z_0.9",
-    );
+    must_be_no_path(&rt, rt.alloc(), "");
+    must_be_no_data_key(&rt, rt.alloc(), "/", "");
+    must_be_no_data_key(&rt, rt.alloc(), "/", "/c");
+    must_be_no_data_key(&rt, rt.alloc(), "/a", "");
+    must_be_no_data_key(&rt, rt.alloc(), "/a", "c/");
 }
 
-fn must_have_keys(rt: &impl Abort, alloc: Global, path: &NodePath, keys: (&str, &str, &str, &str)) {
-    must_eq(
-        rt,
-        data_key(alloc, path, "c/0")
-            .expect(rt, "no refusal")
-            .as_str(),
-        keys.0,
-    );
-    must_eq(
-        rt,
-        meta_key_v3(alloc, path).expect(rt, "no refusal").as_str(),
-        keys.1,
-    );
-    must_eq(
-        rt,
-        meta_key_v2_array(alloc, path)
-            .expect(rt, "no refusal")
-            .as_str(),
-        keys.2,
-    );
-    must_eq(
-        rt,
-        meta_key_v2_attributes(alloc, path)
-            .expect(rt, "no refusal")
-            .as_str(),
-        keys.3,
-    );
-}
-
-fn must_have_chunk_key(
-    rt: &impl Abort,
-    alloc: Global,
-    path: &NodePath,
-    encoding: &ChunkKeyEncoding,
-    indices: &[u64],
-    key: &str,
-) {
-    must_eq(
-        rt,
-        chunk_key(alloc, path, encoding, indices)
-            .expect(rt, "no refusal")
-            .as_str(),
-        key,
-    );
+fn must_say<T: Display + Drop>(rt: &impl Abort, alloc: Global, value: T, text: &str) {
+    let said = format!(in alloc; "{value}").expect(rt, "no refusal");
+    must_eq(rt, said.as_str(), text);
 }
 
 #[test]
-fn keys_at_a_path(rt: HostRuntime) {
+fn what_paths_keys_and_refusals_print(rt: HostRuntime) {
     let alloc = rt.alloc();
-    let path = NodePath::new(alloc, "/a/b").expect(&rt, "no refusal");
-    let keys = ("a/b/c/0", "a/b/zarr.json", "a/b/.zarray", "a/b/.zattrs");
-    must_have_keys(&rt, alloc, &path, keys);
-    let slashes = ChunkKeyEncoding::Default(ChunkKeySeparator::Slash);
-    must_have_chunk_key(&rt, alloc, &path, &slashes, &[0], "a/b/c/0");
-}
-
-#[test]
-fn keys_at_the_root(rt: HostRuntime) {
-    let alloc = rt.alloc();
-    let root = NodePath::new(alloc, "/").expect(&rt, "no refusal");
-    must_have_keys(
-        &rt,
-        alloc,
-        &root,
-        ("c/0", "zarr.json", ".zarray", ".zattrs"),
-    );
-    let dots = ChunkKeyEncoding::V2(ChunkKeySeparator::Dot);
-    must_have_chunk_key(&rt, alloc, &root, &dots, &[], "0");
-}
-
-#[test]
-fn long_keys(rt: HostRuntime) {
-    let alloc = rt.alloc();
-    let path = NodePath::new(alloc, "/a").expect(&rt, "no refusal");
-    let dots = ChunkKeyEncoding::V2(ChunkKeySeparator::Dot);
-    must_have_chunk_key(
-        &rt,
-        alloc,
-        &path,
-        &dots,
-        &[u64::MAX, u64::MAX, u64::MAX],
-        "a/18446744073709551615.18446744073709551615.18446744073709551615",
-    );
-}
-
-fn must_refuse_key(rt: &impl Abort, alloc: Global, path: &NodePath, encoded: &str) {
-    let refused = data_key(alloc, path, encoded);
-    must(rt, matches!(&refused, Err(StorageError::Other(_))));
-}
-
-#[test]
-fn encoded_keys_that_are_refused(rt: HostRuntime) {
-    let alloc = rt.alloc();
-    let root = NodePath::new(alloc, "/").expect(&rt, "no refusal");
-    let array = NodePath::new(alloc, "/a").expect(&rt, "no refusal");
-    must_refuse_key(&rt, alloc, &root, "");
-    must_refuse_key(&rt, alloc, &root, "/c");
-    must_refuse_key(&rt, alloc, &array, "");
-    must_refuse_key(&rt, alloc, &array, "c/");
-}
-
-#[test]
-fn paths_that_are_refused(rt: HostRuntime) {
-    let alloc = rt.alloc();
-    for text in ["", "a", "/a/", "//", "/a//b", "//a", "a/b"] {
-        let refused = NodePath::new(alloc, text);
-        must_for(&rt, text, matches!(&refused, Err(NodePathError::Invalid)));
+    const PATHS: &[&str] = &["/", "/a/bc", "/.", "/./..", "/größe/温度", "/ "];
+    for text in PATHS {
+        must_say(&rt, alloc, path(&rt, alloc, text), text);
     }
+    must_say(&rt, alloc, store_key(&rt, alloc, "c/0/1"), "c/0/1");
+    const PATH: &str = "a node path is `/`, or `/` and nonempty names joined by `/`";
+    must_say(&rt, alloc, NodePathError::Invalid, PATH);
+    const SUFFIX: &str = "a suffix is nonempty, of ASCII letters, digits, `.`, `_` and `-`";
+    must_say(&rt, alloc, KeySuffixError::Invalid, SUFFIX);
+    const SHAPE: &str = "the metadata has another shape";
+    must_say(&rt, alloc, MetadataError::InvalidShape, SHAPE);
+    must_say(&rt, alloc, MetadataError::OutOfMemory, "out of memory");
+    must_say(&rt, alloc, PluginCreateError::OutOfMemory, "out of memory");
 }
 
-fn must_show(rt: &impl Abort, alloc: Global, path: &NodePath, text: &str) {
-    must_eq(rt, path.as_str(), text);
-    must_eq(
-        rt,
-        format!(in alloc; "{path}")
-            .expect(rt, "no refusal")
-            .as_str(),
-        text,
-    );
+fn must_differ<T: Clone + PartialEq + Drop>(rt: &impl Abort, value: T, other: T) {
+    must(rt, value.clone().expect(rt, "no refusal") == value);
+    must(rt, value != other);
+}
+
+fn must_ascend(rt: &impl Abort, alloc: Global, text: &str, other: &str) {
+    let key = StoreKey::new(alloc, text).expect(rt, "no refusal");
+    must(rt, key == store_key(rt, alloc, text));
+    must(rt, key < store_key(rt, alloc, other));
+    must_eq(rt, key.as_str(), text);
+}
+
+fn must_encode(rt: &impl Abort, alloc: Global, encoding: ChunkKeyEncoding, key: &str) {
+    let encoded = encoding.encode(alloc, &[3, 4]).expect(rt, "no refusal");
+    must_eq(rt, encoded.as_str(), key);
 }
 
 #[test]
-fn paths_of_any_names(rt: HostRuntime) {
+fn copies_are_equal(rt: HostRuntime) {
     let alloc = rt.alloc();
-    for text in ["/", "/a/bc", "/.", "/./..", "/größe/温度", "/ "] {
-        must_show(
-            &rt,
-            alloc,
-            &NodePath::new(alloc, text).expect(&rt, "no refusal"),
-            text,
-        );
-    }
-    let path = NodePath::new(alloc, "/größe/..").expect(&rt, "no refusal");
-    must_eq(
+    must_differ(&rt, path(&rt, alloc, "/a"), path(&rt, alloc, "/b"));
+    must_differ(&rt, suffix(&rt, alloc, ".tiff"), suffix(&rt, alloc, ".tif"));
+    must_differ(
         &rt,
-        data_key(alloc, &path, "c/0")
-            .expect(&rt, "no refusal")
-            .as_str(),
-        "größe/../c/0",
+        suffixed(&rt, alloc, ".tiff"),
+        suffixed(&rt, alloc, ".tif"),
     );
-}
-
-#[test]
-fn paths_that_begin_alike(rt: HostRuntime) {
-    let alloc = rt.alloc();
-    let slashes = ChunkKeyEncoding::V2(ChunkKeySeparator::Slash);
-    let (short, long) = (
-        NodePath::new(alloc, "/a").expect(&rt, "no refusal"),
-        NodePath::new(alloc, "/ab").expect(&rt, "no refusal"),
+    let plain = ChunkKeyEncoding::Default(ChunkKeySeparator::Slash);
+    must_differ(&rt, suffixed(&rt, alloc, ".tiff"), plain);
+    must_differ(
+        &rt,
+        store_key(&rt, alloc, "c/0/1"),
+        store_key(&rt, alloc, "c/0/10"),
     );
-    must_have_chunk_key(&rt, alloc, &short, &slashes, &[0], "a/0");
-    must_have_chunk_key(&rt, alloc, &long, &slashes, &[0], "ab/0");
+    must_ascend(&rt, alloc, "c/10", "c/2");
+    must_encode(&rt, alloc, suffixed(&rt, alloc, "0.-_Z"), "c/3/40.-_Z");
 }
 
 #[test]
@@ -267,55 +122,4 @@ fn laws_of_paths_and_keys(_rt: HostRuntime) {
     unrelated_paths_share_no_key();
     paths_are_names();
     paths_keep_keys_lawful();
-}
-
-fn must_differ<T: Clone + PartialEq + Drop>(rt: &impl Abort, value: &T, other: &T) {
-    must(rt, value.clone().expect(rt, "no refusal") == *value);
-    must(rt, *value != *other);
-}
-
-#[test]
-fn copies_are_equal(rt: HostRuntime) {
-    let alloc = rt.alloc();
-    let (path, other) = (
-        NodePath::new(alloc, "/a").expect(&rt, "no refusal"),
-        NodePath::new(alloc, "/b").expect(&rt, "no refusal"),
-    );
-    must_differ(&rt, &path, &other);
-    let (tiff, tif) = (
-        KeySuffix::new(alloc, ".tiff").expect(&rt, "no refusal"),
-        KeySuffix::new(alloc, ".tif").expect(&rt, "no refusal"),
-    );
-    must_differ(&rt, &tiff, &tif);
-}
-
-#[test]
-fn encodings_are_compared(rt: HostRuntime) {
-    let alloc = rt.alloc();
-    let tiles = suffixed(&rt, alloc, ".tiff");
-    must_differ(&rt, &tiles, &suffixed(&rt, alloc, ".tif"));
-    must_differ(
-        &rt,
-        &tiles,
-        &ChunkKeyEncoding::Default(ChunkKeySeparator::Slash),
-    );
-}
-
-#[test]
-fn texts_of_errors(rt: HostRuntime) {
-    let alloc = rt.alloc();
-    must_eq(
-        &rt,
-        format!(in alloc; "{}", NodePathError::Invalid)
-            .expect(&rt, "no refusal")
-            .as_str(),
-        "a node path is `/`, or `/` and nonempty names joined by `/`",
-    );
-    must_eq(
-        &rt,
-        format!(in alloc; "{}", KeySuffixError::Invalid)
-            .expect(&rt, "no refusal")
-            .as_str(),
-        "a suffix is nonempty, of ASCII letters, digits, `.`, `_` and `-`",
-    );
 }

@@ -1,12 +1,8 @@
-//! The tests of `zarrs_storage`, `zarrs_metadata`, `zarrs_keys` and `zarrs_options`, over their public calls alone.
+//! The tests of `zarrs_storage`, `zarrs_metadata`, `zarrs_keys` and `zarrs_options`: what case files do not show.
 #![tactic(auto)]
 
 #[cfg(test)]
 mod checks;
-#[cfg(test)]
-mod encodings;
-#[cfg(test)]
-mod extensions;
 #[cfg(test)]
 mod keys;
 #[cfg(test)]

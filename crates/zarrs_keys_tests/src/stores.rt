@@ -1,7 +1,7 @@
-//! Each public call with ample memory, and what no clause says: the texts of errors.
-ghost use Rattle.std.specs.Prelude.{◌≡◌, ℕ, true, OnOk};
+//! Stores: what each call answers over a store that accepts it and over one that refuses it, in tables.
+ghost use Rattle.std.specs.Prelude.{◌≡◌, ℕ, true, List, OnOk};
 ghost use Rattle.std.specs.FinMap as map;
-ghost use Rattle.zarrs_storage.specs.Store.{MayReadWhole, is_listed};
+ghost use Rattle.zarrs_storage.specs.Store.{MayReadWhole};
 
 use crate::checks::{must, must_eq};
 use bytes::Bytes;
@@ -12,162 +12,475 @@ use zarrs_storage::{
     WholeRefused, WritableStorageTraits,
 };
 
-fn must_read(rt: &impl Abort, alloc: Global, key: &StoreKey, text: &str) {
-    must_eq(rt, key.as_str(), text);
-    must_eq(
-        rt,
-        key.to_string(alloc).expect(rt, "no refusal").as_str(),
-        text,
-    );
+/// A call that reads.
+enum Read {
+    Get,
+    GetPartial(u64, u64),
+    Size,
 }
 
-fn must_equal(rt: &impl Abort, alloc: Global, key: &StoreKey, text: &str) {
-    let moved = StoreKey::from_string(
-        alloc,
-        String::from_str(alloc, text).expect(rt, "no refusal"),
-    )
-    .expect(rt, "no refusal");
-    must(rt, *key == moved);
-    must(rt, *key == key.clone().expect(rt, "no refusal"));
+/// A call that writes.
+enum Write {
+    Set(&'static [u8]),
+    SetPartial(u64, &'static [u8]),
+    Erase,
 }
 
-#[test]
-fn a_key_is_its_text(rt: HostRuntime) {
-    let alloc = rt.alloc();
-    let first = StoreKey::new(alloc, "c/0/1").expect(&rt, "no refusal");
-    must_read(&rt, alloc, &first, "c/0/1");
-    must_equal(&rt, alloc, &first, "c/0/1");
-    must(
-        &rt,
-        first != StoreKey::new(alloc, "c/0/10").expect(&rt, "no refusal"),
-    );
-    must(
-        &rt,
-        StoreKey::new(alloc, "c/10").expect(&rt, "no refusal")
-            < StoreKey::new(alloc, "c/2").expect(&rt, "no refusal"),
-    );
+/// What a call answers.
+enum Answer {
+    Done,
+    Absent,
+    Value(&'static [u8]),
+    Size(u64),
+    /// A refusal with this text.
+    Refused(&'static str),
 }
 
-#[test]
-fn a_slash_at_an_end_is_refused(rt: HostRuntime) {
-    let alloc = rt.alloc();
-    for text in ["", "/", "/c", "c/"] {
-        must(
-            &rt,
-            matches!(StoreKey::new(alloc, text), Err(StorageError::Other(_))),
-        );
+/// A call, with its key and its answer.
+enum Row {
+    Read(&'static str, Read, Answer),
+    Write(&'static str, Write, Answer),
+}
+
+/// Whether the refusal is the wanted one, by its text.
+fn is_refused(rt: &impl Abort, alloc: Global, error: &StorageError, answer: &Answer) -> bool {
+    let Answer::Refused(wanted) = answer else {
+        return false;
+    };
+    error.to_string(alloc).expect(rt, "no refusal").as_str() == *wanted
+}
+
+fn must_be_value(
+    rt: &impl Abort,
+    alloc: Global,
+    found: &Result<Option<Bytes>, StorageError>,
+    answer: &Answer,
+) {
+    let holds = match (found, answer) {
+        (Ok(None), Answer::Absent) => true,
+        (Ok(Some(value)), Answer::Value(wanted)) => *value == Bytes::from_static(*wanted),
+        (Ok(_), _) => false,
+        (Err(error), answer) => is_refused(rt, alloc, error, answer),
+    };
+    must(rt, holds);
+}
+
+fn must_be_size(
+    rt: &impl Abort,
+    alloc: Global,
+    found: &Result<Option<u64>, StorageError>,
+    answer: &Answer,
+) {
+    let holds = match (found, answer) {
+        (Ok(None), Answer::Absent) => true,
+        (Ok(Some(size)), Answer::Size(wanted)) => *size == *wanted,
+        (Ok(_), _) => false,
+        (Err(error), answer) => is_refused(rt, alloc, error, answer),
+    };
+    must(rt, holds);
+}
+
+fn must_be_done(rt: &impl Abort, alloc: Global, found: &Result<(), StorageError>, answer: &Answer) {
+    let holds = match found {
+        Ok(()) => matches!(answer, Answer::Done),
+        Err(error) => is_refused(rt, alloc, error, answer),
+    };
+    must(rt, holds);
+}
+
+fn must_read<S: ReadableStorageTraits>(
+    rt: &impl Abort,
+    alloc: Global,
+    store: &S,
+    key: &StoreKey,
+    read: &Read,
+    answer: &Answer,
+)
+    requires may_ask { (S.state store.now).may_ask key.now ≡ true }
+    requires may_read { (place : ℕ) → (S.state store.now).may_read key.now place ≡ true }
+{
+    match read {
+        Read::Get => must_be_value(rt, alloc, &store.get(alloc, key), answer),
+        Read::GetPartial(offset, count) => {
+            must_be_value(
+                rt,
+                alloc,
+                &store.get_partial(alloc, key, *offset, *count),
+                answer,
+            );
+        }
+        Read::Size => must_be_size(rt, alloc, &store.size_key(alloc, key), answer),
     }
 }
 
-fn must_be_absent(rt: &impl Abort, alloc: Global, store: &MemoryStore, key: &StoreKey) {
-    must(rt, store.get(alloc, key).expect(rt, "no refusal").is_none());
-}
-
-fn must_be_present(
+fn must_write<S: WritableStorageTraits>(
     rt: &impl Abort,
     alloc: Global,
-    store: &MemoryStore,
+    store: &mut S,
     key: &StoreKey,
-    value: &'static [u8],
+    write: &Write,
+    answer: &Answer,
 ) {
-    let found = store.get(alloc, key).expect(rt, "no refusal");
-    must(rt, found == Some(Bytes::from_static(value)));
+    let found = match write {
+        Write::Set(value) => store.set(alloc, key, Bytes::from_static(*value)),
+        Write::SetPartial(offset, bytes) => store.set_partial(alloc, key, *offset, *bytes),
+        Write::Erase => store.erase(alloc, key),
+    };
+    must_be_done(rt, alloc, &found, answer);
 }
 
-fn must_have_counted(rt: &impl Abort, store: &MemoryStore, calls: u64) {
-    must_eq(rt, store.calls(), calls);
-    must_eq(rt, store.failures(), 0);
-}
-
-fn set(
-    rt: &impl Abort,
-    store: &mut MemoryStore,
-    alloc: Global,
-    key: &StoreKey,
-    value: &'static [u8],
-) {
-    store
-        .set(alloc, key, Bytes::from_static(value))
-        .expect(rt, "no refusal");
-}
-
-fn erase(rt: &impl Abort, store: &mut MemoryStore, alloc: Global, key: &StoreKey) {
-    store.erase(alloc, key).expect(rt, "no refusal");
-}
-
-#[test]
-fn memory_keeps_values(rt: HostRuntime) {
-    let alloc = rt.alloc();
-    let mut store = MemoryStore::new(alloc);
-    let first = StoreKey::new(alloc, "a").expect(&rt, "no refusal");
-    must_be_absent(&rt, alloc, &store, &first);
-    set(&rt, &mut store, alloc, &first, &[1, 2]);
-    set(&rt, &mut store, alloc, &first, &[3]);
-    must_be_present(&rt, alloc, &store, &first, &[3]);
-    erase(&rt, &mut store, alloc, &first);
-    must_be_absent(&rt, alloc, &store, &first);
-    erase(&rt, &mut store, alloc, &first);
-    must_have_counted(&rt, &store, 4);
-}
-
-fn listed(rt: &impl Abort, alloc: Global, store: &MemoryStore) -> String {
-    let mut listed = String::new(alloc);
-    for key in &store.keys(alloc).expect(rt, "no refusal") {
-        write!(listed, "{key} ").expect(rt, "no refusal");
-    }
-    listed
-}
-
-#[test]
-fn keys_ascend_by_their_bytes(rt: HostRuntime) {
-    let alloc = rt.alloc();
-    let mut store = MemoryStore::new(alloc);
-    for text in ["zarr.json", "c/2", "c", "c/10", "c/1/0", "c/1"] {
-        set(
-            &rt,
-            &mut store,
+/// A store makes this call and gives this answer.
+fn must_answer<S: WritableStorageTraits>(rt: &impl Abort, alloc: Global, store: &mut S, row: &Row)
+    requires may_ask { (key : List ℕ) → (S.ReadableStorageTraits.state store.old).may_ask key ≡ true }
+    requires may_read { (key : List ℕ) (place : ℕ)
+        → (S.ReadableStorageTraits.state store.old).may_read key place ≡ true }
+{
+    match row {
+        Row::Read(key, read, answer) => must_read(
+            rt,
             alloc,
-            &StoreKey::new(alloc, text).expect(&rt, "no refusal"),
-            &[],
-        );
+            store,
+            &key_of(rt, alloc, key),
+            read,
+            answer,
+        ),
+        Row::Write(key, write, answer) => must_write(
+            rt,
+            alloc,
+            store,
+            &key_of(rt, alloc, key),
+            write,
+            answer,
+        ),
     }
-    must_eq(
-        &rt,
-        listed(&rt, alloc, &store).as_str(),
-        "c c/1 c/1/0 c/10 c/2 zarr.json ",
-    );
 }
 
-fn must_be_exhausted(rt: &impl Abort, store: &mut MemoryStore, alloc: Global, key: &StoreKey) {
-    let refused = store.set(alloc, key, Bytes::from_static(&[8]));
-    must(rt, matches!(refused, Err(StorageError::Exhausted)));
-    must(
-        rt,
-        matches!(store.erase(alloc, key), Err(StorageError::Exhausted)),
-    );
-    let refused = store.set_partial(alloc, key, 0, &[8]);
-    must(rt, matches!(refused, Err(StorageError::Exhausted)));
+fn key_of(rt: &impl Abort, alloc: Global, text: &str) -> StoreKey {
+    StoreKey::new(alloc, text).expect(rt, "no refusal")
+}
+
+/// The store below: values in memory, under a fault and a stop.
+type Below = Stop<Fault<MemoryStore>>;
+
+/// How the store below is made, and what the stores over it answer.
+struct Case {
+    /// How many writing calls the store in memory has counted.
+    counted: u64,
+    /// The key that is not read.
+    refused_key: &'static str,
+    /// The writing call that is refused.
+    refused_write: Option<u64>,
+    /// The writing calls after these are refused.
+    passed: u64,
+    rows: &'static [Row],
+    /// The writing calls and the failures that the stop counts, the fault, and the store in memory.
+    counts: [(u64, u64); 3],
+}
+
+/// Nothing is refused.
+const ACCEPTED: Case = Case {
+    counted: 0,
+    refused_key: "other",
+    refused_write: None,
+    passed: u64::MAX,
+    rows: &[
+        Row::Read("a", Read::Get, Answer::Absent),
+        Row::Read("a", Read::GetPartial(3, u64::MAX), Answer::Absent),
+        Row::Read("a", Read::Size, Answer::Absent),
+        Row::Write("a", Write::Set(&[1, 2, 3, 4]), Answer::Done),
+        Row::Read("a", Read::Get, Answer::Value(&[1, 2, 3, 4])),
+        Row::Read("a", Read::Size, Answer::Size(4)),
+        Row::Read("a", Read::GetPartial(0, 4), Answer::Value(&[1, 2, 3, 4])),
+        Row::Read("a", Read::GetPartial(1, 2), Answer::Value(&[2, 3])),
+        Row::Read("a", Read::GetPartial(4, 0), Answer::Value(&[])),
+        Row::Read("a", Read::GetPartial(0, 5), Answer::Refused(PAST)),
+        Row::Read("a", Read::GetPartial(4, 1), Answer::Refused(PAST)),
+        Row::Read("a", Read::GetPartial(5, 0), Answer::Refused(PAST)),
+        Row::Read("a", Read::GetPartial(u64::MAX, 1), Answer::Refused(PAST)),
+        Row::Read("a", Read::GetPartial(1, u64::MAX), Answer::Refused(PAST)),
+        Row::Write("a", Write::Set(&[3]), Answer::Done),
+        Row::Read("a", Read::Get, Answer::Value(&[3])),
+        Row::Write("b", Write::Set(&[]), Answer::Done),
+        Row::Read("b", Read::Get, Answer::Value(&[])),
+        Row::Write("a", Write::Erase, Answer::Done),
+        Row::Read("a", Read::Get, Answer::Absent),
+        Row::Write("a", Write::Erase, Answer::Done),
+    ],
+    counts: [(5, 0), (5, 0), (5, 0)],
+};
+
+/// Parts are written into a value that is absent, behind its end, and over its end.
+const PARTS: Case = Case {
+    counted: 0,
+    refused_key: "other",
+    refused_write: None,
+    passed: u64::MAX,
+    rows: &[
+        Row::Write("a", Write::SetPartial(2, &[7]), Answer::Done),
+        Row::Read("a", Read::Get, Answer::Value(&[0, 0, 7])),
+        Row::Write("a", Write::SetPartial(1, &[8]), Answer::Done),
+        Row::Read("a", Read::Get, Answer::Value(&[0, 8, 7])),
+        Row::Write("a", Write::SetPartial(2, &[5, 6]), Answer::Done),
+        Row::Read("a", Read::Get, Answer::Value(&[0, 8, 5, 6])),
+        Row::Write("a", Write::SetPartial(6, &[]), Answer::Done),
+        Row::Read("a", Read::Get, Answer::Value(&[0, 8, 5, 6, 0, 0])),
+        Row::Write(
+            "b",
+            Write::SetPartial(u64::MAX, &[1]),
+            Answer::Refused(PAST),
+        ),
+        Row::Read("b", Read::Get, Answer::Absent),
+    ],
+    counts: [(5, 1), (5, 1), (5, 1)],
+};
+
+/// Each call is refused, and comes to the store below once.
+const REFUSED: Case = Case {
+    counted: 0,
+    refused_key: "a",
+    refused_write: None,
+    passed: 0,
+    rows: &[
+        Row::Read("a", Read::Get, Answer::Refused("fault")),
+        Row::Read("a", Read::GetPartial(0, 1), Answer::Refused("fault")),
+        Row::Read("a", Read::Size, Answer::Refused("fault")),
+        Row::Write("a", Write::Set(&[1]), Answer::Refused("stop")),
+        Row::Write("a", Write::SetPartial(0, &[1]), Answer::Refused("stop")),
+        Row::Write("a", Write::Erase, Answer::Refused("stop")),
+        Row::Read("b", Read::Get, Answer::Absent),
+    ],
+    counts: [(3, 3), (0, 0), (0, 0)],
+};
+
+/// The second writing call is refused, and those after the fourth.
+const REFUSED_NOW_AND_THEN: Case = Case {
+    counted: 5,
+    refused_key: "b",
+    refused_write: Some(2),
+    passed: 4,
+    rows: &[
+        Row::Write("a", Write::Set(&[1]), Answer::Done),
+        Row::Write("a", Write::Erase, Answer::Refused("fault")),
+        Row::Read("a", Read::Get, Answer::Value(&[1])),
+        Row::Write("a", Write::SetPartial(1, &[2]), Answer::Done),
+        Row::Write("b", Write::Set(&[3]), Answer::Done),
+        Row::Read("b", Read::Get, Answer::Refused("fault")),
+        Row::Write("a", Write::Erase, Answer::Refused("stop")),
+        Row::Read("a", Read::Get, Answer::Value(&[1, 2])),
+    ],
+    counts: [(5, 2), (4, 1), (8, 0)],
+};
+
+/// The first writing call is refused: to put a value, or a part of it.
+const FIRST_SET_REFUSED: Case = Case {
+    counted: 0,
+    refused_key: "other",
+    refused_write: Some(1),
+    passed: u64::MAX,
+    rows: &[
+        Row::Write("a", Write::Set(&[1]), Answer::Refused("fault")),
+        Row::Read("a", Read::Get, Answer::Absent),
+        Row::Write("a", Write::Set(&[1]), Answer::Done),
+    ],
+    counts: [(2, 1), (2, 1), (1, 0)],
+};
+
+const FIRST_PART_REFUSED: Case = Case {
+    counted: 0,
+    refused_key: "other",
+    refused_write: Some(1),
+    passed: u64::MAX,
+    rows: &[
+        Row::Write("a", Write::SetPartial(0, &[1]), Answer::Refused("fault")),
+        Row::Read("a", Read::Get, Answer::Absent),
+        Row::Write("a", Write::SetPartial(0, &[1]), Answer::Done),
+    ],
+    counts: [(2, 1), (2, 1), (1, 0)],
+};
+
+/// One writing call is left.
+const EXHAUSTED: Case = Case {
+    counted: u64::MAX - 1,
+    refused_key: "other",
+    refused_write: None,
+    passed: u64::MAX,
+    rows: &[
+        Row::Write("a", Write::Set(&[7]), Answer::Done),
+        Row::Write("a", Write::Set(&[8]), Answer::Refused(NONE_LEFT)),
+        Row::Write("a", Write::SetPartial(0, &[8]), Answer::Refused(NONE_LEFT)),
+        Row::Write("a", Write::Erase, Answer::Refused(NONE_LEFT)),
+        Row::Read("a", Read::Get, Answer::Value(&[7])),
+    ],
+    counts: [(4, 3), (4, 3), (u64::MAX, 0)],
+};
+
+const PAST: &str = "a byte range passes its value";
+
+const NONE_LEFT: &str = "the store has no writing call left";
+
+const CASES: &[Case] = &[
+    ACCEPTED,
+    PARTS,
+    REFUSED,
+    REFUSED_NOW_AND_THEN,
+    FIRST_SET_REFUSED,
+    FIRST_PART_REFUSED,
+    EXHAUSTED,
+];
+
+fn below(rt: &impl Abort, alloc: Global, case: &Case) -> Below {
+    let keys = vec![in alloc; key_of(rt, alloc, case.refused_key)].expect(rt, "no refusal");
+    let memory = MemoryStore::with_calls(alloc, case.counted);
+    Stop::new(Fault::new(memory, keys, case.refused_write), case.passed)
+}
+
+/// The stores below have counted what the case says, each for itself.
+fn must_have_counted(rt: &impl Abort, store: Below, case: &Case) {
+    must(rt, store.supports_set_partial());
+    let stop = (store.calls(), store.failures());
+    let store = store.into_inner();
+    let fault = (store.calls(), store.failures());
+    let store = store.into_inner();
+    let memory = (store.calls(), store.failures());
+    must_eq(rt, [stop, fault, memory], case.counts);
+}
+
+fn must_hold_directly(rt: &impl Abort, alloc: Global, case: &Case) {
+    let mut store = below(rt, alloc, case);
+    for row in case.rows {
+        must_answer(rt, alloc, &mut store, row);
+    }
+    must_have_counted(rt, store, case);
+}
+
+fn must_hold_over_a_loan(rt: &impl Abort, alloc: Global, case: &Case) {
+    let mut store = below(rt, alloc, case);
+    let mut lent = Lent::new(&mut store);
+    must(rt, lent.supports_set_partial());
+    for row in case.rows {
+        must_answer(rt, alloc, &mut lent, row);
+    }
+    must_have_counted(rt, store, case);
+}
+
+/// What writes goes to the store itself.
+fn must_read_over_a_loan(rt: &impl Abort, alloc: Global, case: &Case) {
+    let mut store = below(rt, alloc, case);
+    for row in case.rows {
+        match row {
+            Row::Read(key, read, answer) => {
+                let key = key_of(rt, alloc, key);
+                must_read(rt, alloc, &ReadOnly::new(&store), &key, read, answer);
+            }
+            Row::Write(..) => must_answer(rt, alloc, &mut store, row),
+        }
+    }
+    must_have_counted(rt, store, case);
+}
+
+fn must_read_over_a_fence(
+    rt: &impl Abort,
+    alloc: Global,
+    store: &mut Below,
+    key: &StoreKey,
+    read: &Read,
+    answer: &Answer,
+) {
+    let keys = vec![in alloc; key.clone().expect(rt, "no refusal")].expect(rt, "no refusal");
+    must_read(rt, alloc, &Fence::new(store, keys), key, read, answer);
+}
+
+/// A fence lets any key be written, though it lets none be read.
+fn must_write_over_a_fence(
+    rt: &impl Abort,
+    alloc: Global,
+    store: &mut Below,
+    key: &StoreKey,
+    write: &Write,
+    answer: &Answer,
+) {
+    let mut fence = Fence::new(store, Vec::new(alloc));
+    must(rt, fence.supports_set_partial());
+    must_write(rt, alloc, &mut fence, key, write, answer);
+}
+
+fn must_answer_over_a_fence(rt: &impl Abort, alloc: Global, store: &mut Below, row: &Row) {
+    match row {
+        Row::Read(key, read, answer) => {
+            must_read_over_a_fence(rt, alloc, store, &key_of(rt, alloc, key), read, answer);
+        }
+        Row::Write(key, write, answer) => {
+            must_write_over_a_fence(rt, alloc, store, &key_of(rt, alloc, key), write, answer);
+        }
+    }
+}
+
+fn must_hold_over_a_fence(rt: &impl Abort, alloc: Global, case: &Case) {
+    let mut store = below(rt, alloc, case);
+    for row in case.rows {
+        must_answer_over_a_fence(rt, alloc, &mut store, row);
+    }
+    must_have_counted(rt, store, case);
+}
+
+fn must_hold_over_a_stop(rt: &impl Abort, alloc: Global, case: &Case) {
+    let mut store = Stop::new(below(rt, alloc, case), u64::MAX);
+    for row in case.rows {
+        must_answer(rt, alloc, &mut store, row);
+    }
+    must_have_counted(rt, store.into_inner(), case);
+}
+
+fn must_hold_over_a_fault(rt: &impl Abort, alloc: Global, case: &Case) {
+    let mut store = Fault::new(below(rt, alloc, case), Vec::new(alloc), None);
+    for row in case.rows {
+        must_answer(rt, alloc, &mut store, row);
+    }
+    must_have_counted(rt, store.into_inner(), case);
+}
+
+fn must_hold_over_refused_values(rt: &impl Abort, alloc: Global, case: &Case) {
+    let mut store = WholeRefused::new(below(rt, alloc, case), Vec::new(alloc));
+    must(rt, store.supports_set_partial());
+    for row in case.rows {
+        must_answer(rt, alloc, &mut store, row);
+    }
+    must_have_counted(rt, store.into_inner(), case);
 }
 
 #[test]
-fn an_exhausted_store_refuses_each_write(rt: HostRuntime) {
-    let alloc = rt.alloc();
-    let mut store = MemoryStore::with_calls(alloc, u64::MAX);
-    let key = StoreKey::new(alloc, "a").expect(&rt, "no refusal");
-    must_be_exhausted(&rt, &mut store, alloc, &key);
-    must_be_absent(&rt, alloc, &store, &key);
-    must_have_counted(&rt, &store, u64::MAX);
+fn each_store_passes_on_what_the_one_below_answers(rt: HostRuntime) {
+    for case in CASES {
+        must_hold_directly(&rt, rt.alloc(), case);
+        must_hold_over_a_loan(&rt, rt.alloc(), case);
+        must_read_over_a_loan(&rt, rt.alloc(), case);
+        must_hold_over_a_fence(&rt, rt.alloc(), case);
+        must_hold_over_a_stop(&rt, rt.alloc(), case);
+        must_hold_over_a_fault(&rt, rt.alloc(), case);
+        must_hold_over_refused_values(&rt, rt.alloc(), case);
+    }
 }
 
 #[test]
-fn the_last_writing_call(rt: HostRuntime) {
+fn values_that_are_not_read_whole(rt: HostRuntime) {
+    const ROWS: &[Row] = &[
+        Row::Write("a", Write::Set(&[1, 2]), Answer::Done),
+        Row::Write("b", Write::SetPartial(0, &[1]), Answer::Done),
+        Row::Read("a", Read::Get, Answer::Refused("get")),
+        Row::Read("a", Read::GetPartial(1, 1), Answer::Value(&[2])),
+        Row::Read("a", Read::Size, Answer::Size(2)),
+        Row::Read("b", Read::Get, Answer::Value(&[1])),
+        Row::Write("a", Write::Erase, Answer::Done),
+        Row::Read("a", Read::Get, Answer::Refused("get")),
+    ];
     let alloc = rt.alloc();
-    let mut store = MemoryStore::with_calls(alloc, u64::MAX - 1);
-    let key = StoreKey::new(alloc, "a").expect(&rt, "no refusal");
-    set(&rt, &mut store, alloc, &key, &[7]);
-    must_be_exhausted(&rt, &mut store, alloc, &key);
-    must_be_present(&rt, alloc, &store, &key, &[7]);
-    must_have_counted(&rt, &store, u64::MAX);
+    let keys = vec![in alloc; key_of(&rt, alloc, "a")].expect(&rt, "no refusal");
+    let mut store = WholeRefused::new(MemoryStore::new(alloc), keys);
+    for row in ROWS {
+        must_answer(&rt, alloc, &mut store, row);
+    }
+    let store = store.into_inner();
+    must_eq(&rt, (store.calls(), store.failures()), (3, 0));
 }
 
 /// Moves a value, through the bounds alone.
@@ -187,214 +500,6 @@ fn rename<S: WritableStorageTraits>(
     Ok(())
 }
 
-#[test]
-fn a_store_behind_its_bound(rt: HostRuntime) {
-    let alloc = rt.alloc();
-    let mut store = MemoryStore::new(alloc);
-    let (old, new) = (
-        StoreKey::new(alloc, "old").expect(&rt, "no refusal"),
-        StoreKey::new(alloc, "new").expect(&rt, "no refusal"),
-    );
-    set(&rt, &mut store, alloc, &old, &[1, 2]);
-    rename(&mut store, alloc, &old, &new).expect(&rt, "no refusal");
-    must_be_present(&rt, alloc, &store, &new, &[1, 2]);
-    must_be_absent(&rt, alloc, &store, &old);
-    must_have_counted(&rt, &store, 3);
-}
-
-fn must_say(rt: &impl Abort, alloc: Global, error: &StorageError, text: &str) {
-    must_eq(
-        rt,
-        error.to_string(alloc).expect(rt, "no refusal").as_str(),
-        text,
-    );
-}
-
-#[test]
-fn texts_of_refusals(rt: HostRuntime) {
-    let alloc = rt.alloc();
-    must_say(&rt, alloc, &StorageError::other(alloc, "fault"), "fault");
-    must_say(
-        &rt,
-        alloc,
-        &StorageError::ReadOnly,
-        "the store is read only",
-    );
-    must_say(
-        &rt,
-        alloc,
-        &StorageError::InvalidByteRange,
-        "a byte range passes its value",
-    );
-    must_say(
-        &rt,
-        alloc,
-        &StorageError::Exhausted,
-        "the store has no writing call left",
-    );
-    must_say(&rt, alloc, &StorageError::OutOfMemory, "out of memory");
-}
-
-#[test]
-fn text_of_invalid_metadata(rt: HostRuntime) {
-    let alloc = rt.alloc();
-    let said = String::from_str(alloc, "no shape").expect(&rt, "no refusal");
-    let invalid = StorageError::InvalidMetadata(
-        StoreKey::new(alloc, "zarr.json").expect(&rt, "no refusal"),
-        said,
-    );
-    must_say(
-        &rt,
-        alloc,
-        &invalid,
-        "invalid metadata at zarr.json: no shape",
-    );
-}
-
-// ---- ranges, sizes and partial writes
-
-fn must_have_range(
-    rt: &impl Abort,
-    alloc: Global,
-    store: &MemoryStore,
-    key: &StoreKey,
-    range: (u64, u64),
-    value: &'static [u8],
-) {
-    let found = store
-        .get_partial(alloc, key, range.0, range.1)
-        .expect(rt, "no refusal");
-    must(rt, found == Some(Bytes::from_static(value)));
-}
-
-fn must_pass_the_value(
-    rt: &impl Abort,
-    alloc: Global,
-    store: &MemoryStore,
-    key: &StoreKey,
-    range: (u64, u64),
-) {
-    let refused = store.get_partial(alloc, key, range.0, range.1);
-    must(rt, matches!(refused, Err(StorageError::InvalidByteRange)));
-}
-
-fn must_have_size(
-    rt: &impl Abort,
-    alloc: Global,
-    store: &MemoryStore,
-    key: &StoreKey,
-    size: Option<u64>,
-) {
-    must(
-        rt,
-        store.size_key(alloc, key).expect(rt, "no refusal") == size,
-    );
-}
-
-#[test]
-fn ranges_and_sizes(rt: HostRuntime) {
-    let alloc = rt.alloc();
-    let mut store = MemoryStore::new(alloc);
-    let key = StoreKey::new(alloc, "a").expect(&rt, "no refusal");
-    must_have_size(&rt, alloc, &store, &key, None);
-    set(&rt, &mut store, alloc, &key, &[1, 2, 3, 4]);
-    must_have_size(&rt, alloc, &store, &key, Some(4));
-    must_have_range(&rt, alloc, &store, &key, (0, 4), &[1, 2, 3, 4]);
-    must_have_range(&rt, alloc, &store, &key, (1, 2), &[2, 3]);
-    must_have_range(&rt, alloc, &store, &key, (4, 0), &[]);
-    for range in [(0, 5), (4, 1), (5, 0), (u64::MAX, 1), (1, u64::MAX)] {
-        must_pass_the_value(&rt, alloc, &store, &key, range);
-    }
-}
-
-#[test]
-fn a_range_of_an_absent_value(rt: HostRuntime) {
-    let alloc = rt.alloc();
-    let store = MemoryStore::new(alloc);
-    let key = StoreKey::new(alloc, "a").expect(&rt, "no refusal");
-    must(
-        &rt,
-        store
-            .get_partial(alloc, &key, 3, u64::MAX)
-            .expect(&rt, "no refusal")
-            .is_none(),
-    );
-}
-
-fn set_partial(
-    rt: &impl Abort,
-    store: &mut MemoryStore,
-    alloc: Global,
-    key: &StoreKey,
-    offset: u64,
-    bytes: &'static [u8],
-) {
-    store
-        .set_partial(alloc, key, offset, bytes)
-        .expect(rt, "no refusal");
-}
-
-#[test]
-fn partial_writes(rt: HostRuntime) {
-    let alloc = rt.alloc();
-    let mut store = MemoryStore::new(alloc);
-    let key = StoreKey::new(alloc, "a").expect(&rt, "no refusal");
-    must(&rt, store.supports_set_partial());
-    set_partial(&rt, &mut store, alloc, &key, 2, &[7]);
-    must_be_present(&rt, alloc, &store, &key, &[0, 0, 7]);
-    set_partial(&rt, &mut store, alloc, &key, 1, &[8]);
-    must_be_present(&rt, alloc, &store, &key, &[0, 8, 7]);
-    set_partial(&rt, &mut store, alloc, &key, 2, &[5, 6]);
-    must_be_present(&rt, alloc, &store, &key, &[0, 8, 5, 6]);
-    set_partial(&rt, &mut store, alloc, &key, 6, &[]);
-    must_be_present(&rt, alloc, &store, &key, &[0, 8, 5, 6, 0, 0]);
-    must_have_counted(&rt, &store, 4);
-}
-
-#[test]
-fn a_partial_write_past_the_last_place(rt: HostRuntime) {
-    let alloc = rt.alloc();
-    let mut store = MemoryStore::new(alloc);
-    let key = StoreKey::new(alloc, "a").expect(&rt, "no refusal");
-    let refused = store.set_partial(alloc, &key, u64::MAX, &[1]);
-    must(&rt, matches!(refused, Err(StorageError::InvalidByteRange)));
-    must_be_absent(&rt, alloc, &store, &key);
-    must_eq(&rt, store.calls(), 1);
-    must_eq(&rt, store.failures(), 1);
-}
-
-// ---- stores over a store
-
-fn must_refuse<T: Drop>(rt: &impl Abort, outcome: &Result<T, StorageError>, text: &'static str) {
-    must(
-        rt,
-        matches!(outcome, Err(StorageError::Other(said)) if said.as_str() == text),
-    );
-}
-
-#[test]
-fn a_store_lent_to_be_read(rt: HostRuntime) {
-    let alloc = rt.alloc();
-    let mut store = MemoryStore::new(alloc);
-    let key = StoreKey::new(alloc, "a").expect(&rt, "no refusal");
-    set(&rt, &mut store, alloc, &key, &[1, 2]);
-    let lent = ReadOnly::new(&store);
-    must(
-        &rt,
-        lent.get(alloc, &key).expect(&rt, "no refusal") == Some(Bytes::from_static(&[1, 2])),
-    );
-    must(
-        &rt,
-        lent.get_partial(alloc, &key, 1, 1)
-            .expect(&rt, "no refusal")
-            == Some(Bytes::from_static(&[2])),
-    );
-    must(
-        &rt,
-        lent.size_key(alloc, &key).expect(&rt, "no refusal") == Some(2),
-    );
-}
-
 /// Writes through a loan. The caller knows what became of the store.
 fn set_lent(
     store: &mut MemoryStore,
@@ -412,272 +517,52 @@ fn set_lent(
 }
 
 #[test]
-fn a_store_lent_to_be_written(rt: HostRuntime) {
+fn a_store_behind_its_bound(rt: HostRuntime) {
     let alloc = rt.alloc();
     let mut store = MemoryStore::new(alloc);
-    let key = StoreKey::new(alloc, "a").expect(&rt, "no refusal");
-    set_lent(&mut store, alloc, &key, Bytes::from_static(&[1, 2])).expect(&rt, "no refusal");
-    must_be_present(&rt, alloc, &store, &key, &[1, 2]);
-    write_lent(&rt, &mut store, alloc, &key);
-    must_be_absent(&rt, alloc, &store, &key);
-    must_have_counted(&rt, &store, 3);
-}
-
-fn write_lent(rt: &impl Abort, store: &mut MemoryStore, alloc: Global, key: &StoreKey) {
-    let mut lent = Lent::new(store);
-    must(rt, lent.supports_set_partial());
-    lent.set_partial(alloc, key, 1, &[3])
-        .expect(rt, "no refusal");
-    must(
-        rt,
-        lent.get(alloc, key).expect(rt, "no refusal") == Some(Bytes::from_static(&[1, 3])),
+    let (old, new) = (key_of(&rt, alloc, "old"), key_of(&rt, alloc, "new"));
+    set_lent(&mut store, alloc, &old, Bytes::from_static(&[1, 2])).expect(&rt, "no refusal");
+    rename(&mut store, alloc, &old, &new).expect(&rt, "no refusal");
+    must_read(
+        &rt,
+        alloc,
+        &store,
+        &new,
+        &Read::Get,
+        &Answer::Value(&[1, 2]),
     );
-    must(
-        rt,
-        lent.size_key(alloc, key).expect(rt, "no refusal") == Some(2),
-    );
-    must(
-        rt,
-        lent.get_partial(alloc, key, 1, 1).expect(rt, "no refusal")
-            == Some(Bytes::from_static(&[3])),
-    );
-    lent.erase(alloc, key).expect(rt, "no refusal");
-}
-
-fn must_refuse_reads<S: ReadableStorageTraits>(
-    rt: &impl Abort,
-    alloc: Global,
-    store: &S,
-    key: &StoreKey,
-)
-    requires may_ask { (S.state store.now).may_ask key.now ≡ true }
-    requires may_read { (place : ℕ) → (S.state store.now).may_read key.now place ≡ true }
-{
-    must_refuse(rt, &store.get(alloc, key), "fault");
-    must_refuse(rt, &store.get_partial(alloc, key, 0, 1), "fault");
-    must_refuse(rt, &store.size_key(alloc, key), "fault");
-}
-
-fn must_pass_reads<S: ReadableStorageTraits>(
-    rt: &impl Abort,
-    alloc: Global,
-    store: &S,
-    key: &StoreKey,
-)
-    requires may_ask { (S.state store.now).may_ask key.now ≡ true }
-    requires may_read { (place : ℕ) → (S.state store.now).may_read key.now place ≡ true }
-{
-    must(rt, store.get(alloc, key).expect(rt, "no refusal").is_some());
-    must(
-        rt,
-        store
-            .get_partial(alloc, key, 0, 1)
-            .expect(rt, "no refusal")
-            .is_some(),
-    );
-    must(
-        rt,
-        store
-            .size_key(alloc, key)
-            .expect(rt, "no refusal")
-            .is_some(),
-    );
+    must_read(&rt, alloc, &store, &old, &Read::Get, &Answer::Absent);
+    must_eq(&rt, (store.calls(), store.failures()), (3, 0));
 }
 
 #[test]
-fn faulty_reads(rt: HostRuntime) {
+fn texts_of_refusals(rt: HostRuntime) {
     let alloc = rt.alloc();
-    let mut store = MemoryStore::new(alloc);
-    let (good, bad) = (
-        StoreKey::new(alloc, "good").expect(&rt, "no refusal"),
-        StoreKey::new(alloc, "bad").expect(&rt, "no refusal"),
-    );
-    set(&rt, &mut store, alloc, &good, &[1]);
-    set(&rt, &mut store, alloc, &bad, &[2]);
-    let fault = Fault::new(
-        store,
-        vec![in alloc; bad.clone().expect(&rt, "no refusal")].expect(&rt, "no refusal"),
-        None,
-    );
-    must_refuse_reads(&rt, alloc, &fault, &bad);
-    must_pass_reads(&rt, alloc, &fault, &good);
-}
-
-fn must_have_seen(rt: &impl Abort, counts: (u64, u64), calls: u64, failures: u64) {
-    must_eq(rt, counts.0, calls);
-    must_eq(rt, counts.1, failures);
-}
-
-fn must_erase<S: WritableStorageTraits>(
-    rt: &impl Abort,
-    alloc: Global,
-    store: &mut S,
-    key: &StoreKey,
-) {
-    must(rt, store.erase(alloc, key).is_ok());
-}
-
-fn must_refuse_erase<S: WritableStorageTraits>(
-    rt: &impl Abort,
-    alloc: Global,
-    store: &mut S,
-    key: &StoreKey,
-    text: &'static str,
-) {
-    must_refuse(rt, &store.erase(alloc, key), text);
-}
-
-#[test]
-fn one_faulty_write(rt: HostRuntime) {
-    let alloc = rt.alloc();
-    let mut store = MemoryStore::with_calls(alloc, 5);
-    let key = StoreKey::new(alloc, "a").expect(&rt, "no refusal");
-    set(&rt, &mut store, alloc, &key, &[1]);
-    let mut fault = Fault::new(store, Vec::new(alloc), Some(2));
-    fault
-        .set(alloc, &key, Bytes::from_static(&[2]))
-        .expect(&rt, "no refusal");
-    must_refuse_erase(&rt, alloc, &mut fault, &key, "fault");
-    must_pass_reads(&rt, alloc, &fault, &key);
-    fault
-        .set_partial(alloc, &key, 1, &[3])
-        .expect(&rt, "no refusal");
-    must_have_seen(&rt, (fault.calls(), fault.failures()), 3, 1);
-    let store = fault.into_inner();
-    must_be_present(&rt, alloc, &store, &key, &[2, 3]);
-    must_have_counted(&rt, &store, 8);
-}
-
-#[test]
-fn each_writing_call_may_be_the_faulty_one(rt: HostRuntime) {
-    let alloc = rt.alloc();
-    let key = StoreKey::new(alloc, "a").expect(&rt, "no refusal");
-    let store = MemoryStore::new(alloc);
-    let mut fault = Fault::new(store, Vec::new(alloc), Some(1));
-    must_refuse(&rt, &fault.set(alloc, &key, Bytes::new()), "fault");
-    let mut fault = Fault::new(fault, Vec::new(alloc), Some(1));
-    must_refuse(&rt, &fault.set_partial(alloc, &key, 0, &[1]), "fault");
-    must_erase(&rt, alloc, &mut fault, &key);
-    must(&rt, fault.supports_set_partial());
-}
-
-fn must_stop(rt: &impl Abort, alloc: Global, stop: &mut Stop<MemoryStore>, key: &StoreKey) {
-    must_refuse(rt, &stop.set(alloc, key, Bytes::new()), "stop");
-    must_refuse(rt, &stop.set_partial(alloc, key, 0, &[1]), "stop");
-    must_refuse_erase(rt, alloc, stop, key, "stop");
-}
-
-#[test]
-fn a_stop_after_two_writes(rt: HostRuntime) {
-    let alloc = rt.alloc();
-    let key = StoreKey::new(alloc, "a").expect(&rt, "no refusal");
-    let mut stop = Stop::new(MemoryStore::new(alloc), 2);
-    stop.set(alloc, &key, Bytes::from_static(&[1]))
-        .expect(&rt, "no refusal");
-    stop.set_partial(alloc, &key, 1, &[2])
-        .expect(&rt, "no refusal");
-    must_stop(&rt, alloc, &mut stop, &key);
-    must_pass_reads(&rt, alloc, &stop, &key);
-    must_have_seen(&rt, (stop.calls(), stop.failures()), 5, 3);
-    let store = stop.into_inner();
-    must_be_present(&rt, alloc, &store, &key, &[1, 2]);
-    must_have_counted(&rt, &store, 2);
-}
-
-#[test]
-fn a_stop_at_once(rt: HostRuntime) {
-    let alloc = rt.alloc();
-    let key = StoreKey::new(alloc, "a").expect(&rt, "no refusal");
-    let mut stop = Stop::new(MemoryStore::new(alloc), 0);
-    must_stop(&rt, alloc, &mut stop, &key);
-    must(&rt, stop.supports_set_partial());
-    must_have_counted(&rt, &stop.into_inner(), 0);
-}
-
-#[test]
-fn whole_values_refused(rt: HostRuntime) {
-    let alloc = rt.alloc();
-    let (key, other) = (
-        StoreKey::new(alloc, "a").expect(&rt, "no refusal"),
-        StoreKey::new(alloc, "b").expect(&rt, "no refusal"),
-    );
-    let mut store = WholeRefused::new(
-        MemoryStore::new(alloc),
-        vec![in alloc; key.clone().expect(&rt, "no refusal")].expect(&rt, "no refusal"),
-    );
-    store
-        .set(alloc, &key, Bytes::from_static(&[1, 2]))
-        .expect(&rt, "no refusal");
-    store
-        .set_partial(alloc, &other, 0, &[1])
-        .expect(&rt, "no refusal");
-    must_pass_parts(&rt, alloc, &store, &key);
-    must_pass_reads(&rt, alloc, &store, &other);
-    must_erase(&rt, alloc, &mut store, &other);
-    must(&rt, store.supports_set_partial());
-    must_have_counted(&rt, &store.into_inner(), 3);
-}
-
-fn must_pass_parts(
-    rt: &impl Abort,
-    alloc: Global,
-    store: &WholeRefused<MemoryStore>,
-    key: &StoreKey,
-) {
-    must_refuse(rt, &store.get(alloc, key), "get");
+    let said = String::from_str(alloc, "no shape").expect(&rt, "no refusal");
+    let invalid = StorageError::InvalidMetadata(key_of(&rt, alloc, "zarr.json"), said);
+    const INVALID: &str = "invalid metadata at zarr.json: no shape";
     must(
-        rt,
-        store.get_partial(alloc, key, 1, 1).expect(rt, "no refusal")
-            == Some(Bytes::from_static(&[2])),
+        &rt,
+        is_refused(&rt, alloc, &invalid, &Answer::Refused(INVALID)),
     );
+    const READ_ONLY: &str = "the store is read only";
     must(
-        rt,
-        store.size_key(alloc, key).expect(rt, "no refusal") == Some(2),
+        &rt,
+        is_refused(
+            &rt,
+            alloc,
+            &StorageError::ReadOnly,
+            &Answer::Refused(READ_ONLY),
+        ),
     );
-}
-
-fn must_read_through_a_fence(
-    rt: &impl Abort,
-    alloc: Global,
-    store: &mut MemoryStore,
-    keys: Vec<StoreKey>,
-    key: &StoreKey,
-)
-    requires { is_listed keys.items key.now ≡ true }
-{
-    let fence = Fence::new(store, keys);
-    must_pass_reads(rt, alloc, &fence, key);
-}
-
-fn must_write_through_a_fence(
-    rt: &impl Abort,
-    alloc: Global,
-    store: &mut MemoryStore,
-    key: &StoreKey,
-) {
-    let mut fence = Fence::new(store, Vec::new(alloc));
-    fence
-        .set_partial(alloc, key, 0, &[1])
-        .expect(rt, "no refusal");
-    fence
-        .set(alloc, key, Bytes::from_static(&[1, 2]))
-        .expect(rt, "no refusal");
-    must(rt, fence.supports_set_partial());
-    fence.erase(alloc, key).expect(rt, "no refusal");
-}
-
-#[test]
-fn a_fenced_store(rt: HostRuntime) {
-    let alloc = rt.alloc();
-    let mut store = MemoryStore::new(alloc);
-    let (key, other) = (
-        StoreKey::new(alloc, "a").expect(&rt, "no refusal"),
-        StoreKey::new(alloc, "b").expect(&rt, "no refusal"),
+    const MEMORY: &str = "out of memory";
+    must(
+        &rt,
+        is_refused(
+            &rt,
+            alloc,
+            &StorageError::OutOfMemory,
+            &Answer::Refused(MEMORY),
+        ),
     );
-    set(&rt, &mut store, alloc, &key, &[1]);
-    let keys = vec![in alloc; key.clone().expect(&rt, "no refusal")].expect(&rt, "no refusal");
-    must_read_through_a_fence(&rt, alloc, &mut store, keys, &key);
-    must_write_through_a_fence(&rt, alloc, &mut store, &other);
-    must_be_absent(&rt, alloc, &store, &other);
-    must_have_counted(&rt, &store, 4);
 }

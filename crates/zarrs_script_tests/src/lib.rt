@@ -4,8 +4,4 @@
 #[cfg(test)]
 mod checks;
 #[cfg(test)]
-mod meta;
-#[cfg(test)]
-mod regions;
-#[cfg(test)]
 mod tests;

@@ -1,0 +1,86 @@
+//! Whether what is found is what a line expects.
+use zarrs_case_lines::call::{Expected, Pattern};
+
+/// Whether one of the alternatives is found. It takes no memory.
+pub fn matches(expected: &Expected<'_>, found: &str) -> bool {
+    expected.patterns.iter().any(|pattern| fits(pattern, found))
+}
+
+fn fits(pattern: &Pattern, found: &str) -> bool {
+    match pattern {
+        Pattern::Any => true,
+        Pattern::Text(text) => text.as_str() == found,
+        Pattern::Cells(pieces) => cells_fit(pieces, found),
+        Pattern::Bytes(digits) => bytes_fit(digits.as_bytes(), found.as_bytes()),
+    }
+}
+
+/// Whether the pieces are found, in their order, with a cell between any two of them.
+fn cells_fit(pieces: &[String], found: &str) -> bool {
+    let [first, others @ ..] = pieces else {
+        return false;
+    };
+    let Some(mut rest) = found.strip_prefix(first.as_str()) else {
+        return false;
+    };
+    for piece in others {
+        let Some(next) = after_cell(rest).strip_prefix(piece.as_str()) else {
+            return false;
+        };
+        rest = next;
+    }
+    rest.is_empty()
+}
+
+/// What stands behind a cell.
+fn after_cell(text: &str) -> &str {
+    let mut reader = CellReader::new();
+    text.trim_start_matches(|letter| reader.takes(letter))
+}
+
+/// Reads a JSON value, letter by letter.
+#[derive(Drop)]
+struct CellReader {
+    depth: u64,
+    in_text: bool,
+    escaped: bool,
+}
+
+impl CellReader {
+    fn new() -> CellReader {
+        CellReader {
+            depth: 0,
+            in_text: false,
+            escaped: false,
+        }
+    }
+
+    /// Whether the letter is the next one of the value.
+    fn takes(&mut self, letter: char) -> bool {
+        if letter == '"' && !self.escaped {
+            self.in_text = !self.in_text;
+        }
+        self.escaped = letter == '\\' && !self.escaped;
+        if self.in_text {
+            return true;
+        }
+        match letter {
+            '[' => self.depth = self.depth.saturating_add(1),
+            ',' | ']' if self.depth == 0 => return false,
+            ']' => self.depth = self.depth.saturating_sub(1),
+            _ => {}
+        }
+        true
+    }
+}
+
+/// Whether these digits are found, where `?` is any digit of a byte.
+fn bytes_fit(digits: &[u8], found: &[u8]) -> bool {
+    digits.len() == found.len()
+        && digits.iter().zip(found).all(|(digit, other)| digit == other
+            || *digit == b'?' && is_digit(*other))
+}
+
+fn is_digit(letter: u8) -> bool {
+    letter.is_ascii_digit() || matches!(letter, b'a'..=b'f')
+}

@@ -1,0 +1,184 @@
+//! Calls of the array over its store, which meets what the case says.
+use crate::session::{Outcome, Session, no_array};
+use std::alloc::{AllocError, Global};
+use std::cell::RefCell;
+use std::mem;
+use zarrs::{Array, ArrayCreateError, Lent, MemoryStore, ReadOnly};
+use zarrs_case_answers::Answer;
+use zarrs_case_calls::{Held, Other, answer_of};
+use zarrs_case_lines::Why;
+use zarrs_case_lines::call::{Case, Options, Through};
+use zarrs_case_stores::{Asks, Below, CaseStore, Refusing, memory_of, refusing};
+
+/// Writing calls, and how many of them were refused.
+#[derive(Clone, Copy)]
+struct Counts {
+    writes: u64,
+    failed: u64,
+}
+
+fn counts(store: &MemoryStore) -> Counts {
+    Counts {
+        writes: store.calls(),
+        failed: store.failures(),
+    }
+}
+
+/// The writing calls that were made: none that the store did not count, since it had none left.
+fn counted(before: Counts, made: Counts, after: Counts) -> Counts {
+    if after.writes < u64::MAX {
+        return made;
+    }
+    Counts {
+        writes: after.writes.saturating_sub(before.writes),
+        failed: after.failed.saturating_sub(before.failed),
+    }
+}
+
+impl<'f> Session<'_, 'f> {
+    /// Puts the conditions before the store, which is taken.
+    fn take_store(&mut self, alloc: Global) -> Result<Refusing, AllocError> {
+        let store = mem::replace(&mut self.store, MemoryStore::new(alloc));
+        refusing(alloc, store, &self.conditions)
+    }
+
+    /// Opens the array at the path.
+    pub(crate) fn open(
+        &mut self,
+        alloc: Global,
+        path: &str,
+        options: &Options<'_>,
+    ) -> Result<Outcome, AllocError> {
+        let store = self.take_store(alloc)?;
+        let asks = RefCell::new(Asks::new(alloc));
+        let opened = opened(alloc, &store, &asks, path, options);
+        drop(mem::replace(&mut self.store, memory_of(store)));
+        let mut outcome = self.keep(alloc, opened)?;
+        outcome.asked = asks.into_inner().keys(alloc)?;
+        Ok(outcome)
+    }
+
+    /// Makes a call of the open array.
+    pub(crate) fn call(&mut self, alloc: Global, case: &Case<'f>) -> Result<Outcome, Why<'f>> {
+        if self.array.is_none() {
+            return Ok(no_array(alloc)?);
+        }
+        let before = counts(&self.store);
+        let mut store = self.take_store(alloc)?;
+        let asks = RefCell::new(Asks::new(alloc));
+        let mut held = Held::new(alloc);
+        let answer = self.answer(alloc, case, &mut store, &asks, &mut held);
+        let made = Counts {
+            writes: store.calls(),
+            failed: store.failures(),
+        };
+        drop(mem::replace(&mut self.store, memory_of(store)));
+        let Counts { writes, failed } = counted(before, made, counts(&self.store));
+        Ok(Outcome {
+            answer: answer?,
+            writes,
+            failed,
+            held,
+            asked: asks.into_inner().keys(alloc)?,
+        })
+    }
+
+    /// Makes the call by an array over the store, or over a loan of it.
+    fn answer(
+        &self,
+        alloc: Global,
+        case: &Case<'f>,
+        store: &mut Refusing,
+        asks: &RefCell<Asks>,
+        held: &mut Held,
+    ) -> Result<Answer, Why<'f>> {
+        let Some(array) = &self.array else {
+            return Err(Why::NoOther);
+        };
+        let other = self.other.as_ref();
+        let below = match case.options.through {
+            Through::Own => Below::Own(store),
+            Through::Lent => Below::Lent(Lent::new(store)),
+            Through::ReadOnly => return read_only(alloc, array, case, store, asks, other, held),
+        };
+        over(alloc, array, case, CaseStore::new(below, asks), other, held)
+    }
+}
+
+/// Makes the call by the array over this store.
+fn over<'f, TStorage>(
+    alloc: Global,
+    array: &Array<TStorage>,
+    case: &Case<'f>,
+    store: CaseStore<'_>,
+    other: Option<&Other>,
+    held: &mut Held,
+) -> Result<Answer, Why<'f>> {
+    let Ok(mut array) = array.with_storage(alloc, store) else {
+        return Err(Why::OutOfMemory);
+    };
+    let answer = answer_of(alloc, &mut array, case, other, held);
+    drop(array);
+    answer
+}
+
+/// Makes the call by `readable` of the array over the store.
+fn read_only<'f>(
+    alloc: Global,
+    array: &Array<()>,
+    case: &Case<'f>,
+    store: &Refusing,
+    asks: &RefCell<Asks>,
+    other: Option<&Other>,
+    held: &mut Held,
+) -> Result<Answer, Why<'f>> {
+    let Ok(array) = array.with_storage(alloc, ReadOnly::new(store)) else {
+        return Err(Why::OutOfMemory);
+    };
+    let answer = readable(alloc, &array, case, store, asks, other, held);
+    drop(array);
+    answer
+}
+
+fn readable<'f>(
+    alloc: Global,
+    array: &Array<ReadOnly<'_, Refusing>>,
+    case: &Case<'f>,
+    store: &Refusing,
+    asks: &RefCell<Asks>,
+    other: Option<&Other>,
+    held: &mut Held,
+) -> Result<Answer, Why<'f>> {
+    let Ok(array) = array.readable(alloc) else {
+        return Err(Why::OutOfMemory);
+    };
+    let below = Below::ReadOnly(ReadOnly::new(store));
+    let answer = over(
+        alloc,
+        &array,
+        case,
+        CaseStore::new(below, asks),
+        other,
+        held,
+    );
+    drop(array);
+    answer
+}
+
+/// The array at the path of the store.
+fn opened(
+    alloc: Global,
+    store: &Refusing,
+    asks: &RefCell<Asks>,
+    path: &str,
+    options: &Options<'_>,
+) -> Result<Array<()>, ArrayCreateError> {
+    let store = CaseStore::new(Below::ReadOnly(ReadOnly::new(store)), asks);
+    let array = Array::open_opt(alloc, store, path, &options.of_opening())?;
+    let outcome = array.with_storage(alloc, ());
+    drop(array);
+    match outcome {
+        Ok(array) => Ok(array),
+        Err(_) => Err(ArrayCreateError::OutOfMemory),
+    }
+}
