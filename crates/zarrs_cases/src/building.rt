@@ -1,17 +1,18 @@
 //! Builders, and conversions of documents.
+use crate::parts::{PartName, Parts};
 use crate::setters::names_in;
 use serde_json::{Map, Value};
 use std::alloc::{AllocError, Global};
 use zarrs::{
     AdditionalFieldV3, AdditionalFieldsV3, Array, ArrayBuilderChunkGridMetadata, ArrayCreateError,
-    ArrayMetadata, ArrayMetadataV2ToV3Error, ArrayToArrayCodec, ChunkKeyEncoding, CodecChain,
-    FillValue, FillValueMetadata, IntoField, MetadataV3, PluginCreateError,
-    array_metadata_v2_to_v3,
+    ArrayMetadata, ArrayMetadataV2, ArrayMetadataV2ToV3Error, ArrayMetadataV3, ArrayToArrayCodec,
+    ChunkKeyEncoding, CodecChain, FillValue, FillValueMetadata, IntoField, MetadataV3,
+    PluginCreateError, array_metadata_v2_to_v3,
 };
 use zarrs_builder::{ArrayBuilder, ToBuilder};
 use zarrs_case_answers::{Answer, refused_creation, said};
 use zarrs_case_lines::Why;
-use zarrs_case_lines::call::{Design, Part};
+use zarrs_case_lines::call::Design;
 use zarrs_case_lines::words::{json, numbers, text};
 use zarrs_document::members;
 use zarrs_metadata::MetadataError;
@@ -42,18 +43,43 @@ fn builder_of<'f>(alloc: Global, design: &Design<'f>) -> Result<ArrayBuilder, Wh
     Ok(ArrayBuilder::new(alloc, shape, grid, design.data_type, fill_value))
 }
 
+/// The builder of this design that is told these parts.
+fn told_builder<'f>(
+    alloc: Global,
+    design: &Design<'f>,
+    parts: &Parts<'f>,
+) -> Result<ArrayBuilder, Why<'f>> {
+    let mut builder = builder_of(alloc, design)?;
+    tell(alloc, &mut builder, parts)?;
+    Ok(builder)
+}
+
 /// The metadata that a builder of this design makes.
 pub(crate) fn build_metadata<'f>(
     alloc: Global,
     design: &Design<'f>,
-    parts: &[&Part<'f>],
+    parts: &Parts<'f>,
 ) -> Result<Answer, Why<'f>> {
-    let mut builder = builder_of(alloc, design)?;
-    tell(alloc, &mut builder, parts)?;
-    match builder.build_metadata(alloc) {
-        Ok(metadata) => Ok(said(alloc, metadata.to_value(alloc)?.to_string(alloc)?)),
-        Err(error) => Ok(refused_creation(alloc, &error)?),
+    let builder = told_builder(alloc, design, parts)?;
+    let outcome = builder.build_metadata(alloc);
+    drop(builder);
+    Ok(metadata_answer(alloc, &outcome)?)
+}
+
+fn metadata_answer(
+    alloc: Global,
+    outcome: &Result<ArrayMetadataV3, ArrayCreateError>,
+) -> Result<Answer, AllocError> {
+    match outcome {
+        Ok(metadata) => document_answer(alloc, metadata),
+        Err(error) => refused_creation(alloc, error),
     }
+}
+
+/// The compact text of the document.
+fn document_answer(alloc: Global, metadata: &ArrayMetadataV3) -> Result<Answer, AllocError> {
+    let value = metadata.to_value(alloc)?;
+    Ok(said(alloc, value.to_string(alloc)?))
 }
 
 /// The array that a builder of this design makes.
@@ -61,11 +87,12 @@ pub(crate) fn built<'f>(
     alloc: Global,
     path: &str,
     design: &Design<'f>,
-    parts: &[&Part<'f>],
+    parts: &Parts<'f>,
 ) -> Result<Result<Array<()>, ArrayCreateError>, Why<'f>> {
-    let mut builder = builder_of(alloc, design)?;
-    tell(alloc, &mut builder, parts)?;
-    Ok(builder.build(alloc, (), path))
+    let builder = told_builder(alloc, design, parts)?;
+    let outcome = builder.build(alloc, (), path);
+    drop(builder);
+    Ok(outcome)
 }
 
 /// The array that a builder of the array makes.
@@ -73,20 +100,34 @@ pub(crate) fn rebuilt<'f>(
     alloc: Global,
     array: &Array<()>,
     path: &str,
-    parts: &[&Part<'f>],
+    parts: &Parts<'f>,
 ) -> Result<Result<Array<()>, ArrayCreateError>, Why<'f>> {
-    let mut builder = match array.builder(alloc) {
-        Ok(builder) => builder,
-        Err(error) => return Ok(Err(error)),
-    };
+    match array.builder(alloc) {
+        Ok(builder) => built_by(alloc, builder, path, parts),
+        Err(error) => Ok(Err(error)),
+    }
+}
+
+/// The array that the builder makes once it is told these parts.
+fn built_by<'f>(
+    alloc: Global,
+    mut builder: ArrayBuilder,
+    path: &str,
+    parts: &Parts<'f>,
+) -> Result<Result<Array<()>, ArrayCreateError>, Why<'f>> {
     tell(alloc, &mut builder, parts)?;
-    Ok(builder.build(alloc, (), path))
+    let outcome = builder.build(alloc, (), path);
+    drop(builder);
+    Ok(outcome)
 }
 
 /// Tells the builder these parts.
-fn tell<'f>(alloc: Global, builder: &mut ArrayBuilder, parts: &[&Part<'f>]) -> Result<(), Why<'f>> {
-    for part in parts {
-        tell_part(alloc, builder, part)?;
+fn tell<'f>(alloc: Global, builder: &mut ArrayBuilder, parts: &Parts<'f>) -> Result<(), Why<'f>> {
+    for told in &parts.told {
+        tell_part(alloc, builder, told.name, told.word)?;
+    }
+    if let Some(bytes) = &parts.fill_value {
+        builder.fill_value(alloc, FillValue::new(bytes.to_vec(alloc)?));
     }
     Ok(())
 }
@@ -94,31 +135,29 @@ fn tell<'f>(alloc: Global, builder: &mut ArrayBuilder, parts: &[&Part<'f>]) -> R
 fn tell_part<'f>(
     alloc: Global,
     builder: &mut ArrayBuilder,
-    part: &Part<'f>,
+    name: PartName,
+    word: &'f str,
 ) -> Result<(), Why<'f>> {
-    match part {
-        Part::ChunkKeyEncoding(word) => {
+    match name {
+        PartName::ChunkKeyEncoding => {
             builder.chunk_key_encoding(encoding_of(alloc, word)?);
         }
-        Part::Codecs(word) => tell_codecs(alloc, builder, word)?,
-        Part::Attributes(word) => {
+        PartName::Codecs => tell_codecs(alloc, builder, word)?,
+        PartName::Attributes => {
             builder.attributes(object(alloc, word)?);
         }
-        Part::AdditionalFields(word) => {
+        PartName::AdditionalFields => {
             builder.additional_fields(fields_of(alloc, word)?);
         }
-        Part::DimensionNames(word) => {
+        PartName::DimensionNames => {
             builder.dimension_names(alloc, names_in(alloc, word)?);
-        }
-        Part::FillValue(bytes) => {
-            builder.fill_value(alloc, FillValue::new(bytes.to_vec(alloc)?));
         }
     }
     Ok(())
 }
 
 /// The members of a JSON object.
-fn object<'f>(alloc: Global, word: &'f str) -> Result<Map<String, Value>, Why<'f>> {
+pub(crate) fn object<'f>(alloc: Global, word: &'f str) -> Result<Map<String, Value>, Why<'f>> {
     match members::object_of(json(alloc, word)?) {
         Some(members) => Ok(members),
         None => Err(Why::Json(word)),
@@ -202,14 +241,28 @@ fn tell_codecs<'f>(
 
 /// The V3 document of a V2 document.
 pub(crate) fn converted<'f>(alloc: Global, word: &'f str) -> Result<Answer, Why<'f>> {
-    let document = match ArrayMetadata::from_value(alloc, json(alloc, word)?) {
-        Ok(ArrayMetadata::V2(document)) => document,
-        Err(MetadataError::OutOfMemory) => return Err(Why::OutOfMemory),
-        _ => return Err(Why::Document(word)),
-    };
-    match array_metadata_v2_to_v3(alloc, &document) {
-        Ok(metadata) => Ok(said(alloc, metadata.to_value(alloc)?.to_string(alloc)?)),
-        Err(ArrayMetadataV2ToV3Error::OutOfMemory) => Err(Why::OutOfMemory),
+    let document = document_of(alloc, word)?;
+    let outcome = array_metadata_v2_to_v3(alloc, &document);
+    drop(document);
+    Ok(conversion_answer(alloc, &outcome)?)
+}
+
+/// The V2 document that a JSON text says.
+fn document_of<'f>(alloc: Global, word: &'f str) -> Result<ArrayMetadataV2, Why<'f>> {
+    match ArrayMetadata::from_value(alloc, json(alloc, word)?) {
+        Ok(ArrayMetadata::V2(document)) => Ok(document),
+        Err(MetadataError::OutOfMemory) => Err(Why::OutOfMemory),
+        _ => Err(Why::Document(word)),
+    }
+}
+
+fn conversion_answer(
+    alloc: Global,
+    outcome: &Result<ArrayMetadataV3, ArrayMetadataV2ToV3Error>,
+) -> Result<Answer, AllocError> {
+    match outcome {
+        Ok(metadata) => document_answer(alloc, metadata),
+        Err(ArrayMetadataV2ToV3Error::OutOfMemory) => Err(AllocError),
         Err(error) => Ok(Answer {
             shown: text(alloc, "E27")?,
             text: error.to_string(alloc)?,

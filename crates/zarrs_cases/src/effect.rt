@@ -10,7 +10,7 @@ use zarrs_case_lines::words::{shown_bytes, shown_numbers, text};
 /// What is found there, as a case file writes it.
 pub(crate) fn found(
     alloc: Global,
-    session: &Session<'_, '_>,
+    session: &Session<'_>,
     outcome: &Outcome,
     place: &Found,
 ) -> Result<String, AllocError> {
@@ -82,7 +82,7 @@ pub(crate) fn shown_store(alloc: Global, store: &MemoryStore) -> Result<String, 
 }
 
 /// The shape of the array.
-pub(crate) fn shape_of(alloc: Global, session: &Session<'_, '_>) -> Result<String, AllocError> {
+pub(crate) fn shape_of(alloc: Global, session: &Session<'_>) -> Result<String, AllocError> {
     match &session.array {
         Some(array) => shown_numbers(alloc, array.shape()),
         None => text(alloc, "no array"),
@@ -90,7 +90,7 @@ pub(crate) fn shape_of(alloc: Global, session: &Session<'_, '_>) -> Result<Strin
 }
 
 /// The metadata of the array.
-pub(crate) fn metadata_of(alloc: Global, session: &Session<'_, '_>) -> Result<String, AllocError> {
+pub(crate) fn metadata_of(alloc: Global, session: &Session<'_>) -> Result<String, AllocError> {
     match &session.array {
         Some(array) => shown_metadata(alloc, array.metadata()),
         None => text(alloc, "no array"),

@@ -5,6 +5,7 @@ mod building;
 mod effect;
 mod making;
 mod memory;
+mod parts;
 mod report;
 mod session;
 mod setters;

@@ -12,30 +12,30 @@ use zarrs_case_stores::{Asks, Below, CaseStore, Refusing, memory_of, refusing};
 
 /// Writing calls, and how many of them were refused.
 #[derive(Clone, Copy)]
-struct Counts {
+struct WritingCalls {
     writes: u64,
     failed: u64,
 }
 
-fn counts(store: &MemoryStore) -> Counts {
-    Counts {
+fn counts(store: &MemoryStore) -> WritingCalls {
+    WritingCalls {
         writes: store.calls(),
         failed: store.failures(),
     }
 }
 
 /// The writing calls that were made: none that the store did not count, since it had none left.
-fn counted(before: Counts, made: Counts, after: Counts) -> Counts {
+fn counted(before: WritingCalls, made: WritingCalls, after: WritingCalls) -> WritingCalls {
     if after.writes < u64::MAX {
         return made;
     }
-    Counts {
+    WritingCalls {
         writes: after.writes.saturating_sub(before.writes),
         failed: after.failed.saturating_sub(before.failed),
     }
 }
 
-impl<'f> Session<'_, 'f> {
+impl<'f> Session<'f> {
     /// Puts the conditions before the store, which is taken.
     fn take_store(&mut self, alloc: Global) -> Result<Refusing, AllocError> {
         let store = mem::replace(&mut self.store, MemoryStore::new(alloc));
@@ -68,12 +68,12 @@ impl<'f> Session<'_, 'f> {
         let asks = RefCell::new(Asks::new(alloc));
         let mut held = Held::new(alloc);
         let answer = self.answer(alloc, case, &mut store, &asks, &mut held);
-        let made = Counts {
+        let made = WritingCalls {
             writes: store.calls(),
             failed: store.failures(),
         };
         drop(mem::replace(&mut self.store, memory_of(store)));
-        let Counts { writes, failed } = counted(before, made, counts(&self.store));
+        let WritingCalls { writes, failed } = counted(before, made, counts(&self.store));
         Ok(Outcome {
             answer: answer?,
             writes,

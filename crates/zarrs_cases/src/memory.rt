@@ -57,7 +57,7 @@ fn copied_array(alloc: Global, array: Option<&Array<()>>) -> Result<Option<Array
     }
 }
 
-impl<'f> Session<'_, 'f> {
+impl<'f> Session<'f> {
     /// A copy of what a call may change.
     pub(crate) fn copied(&self, alloc: Global) -> Result<Before, AllocError> {
         let store = copied_store(alloc, &self.store)?;

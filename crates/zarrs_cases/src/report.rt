@@ -115,11 +115,11 @@ impl Run<'_> {
     }
 
     /// Does what the lines say.
-    fn go<'l, 'f>(
+    fn go<'f>(
         &mut self,
         alloc: Global,
-        session: &mut Session<'l, 'f>,
-        lines: &'l [Line<'f>],
+        session: &mut Session<'f>,
+        lines: &[Line<'f>],
     ) -> Result<(), CaseError<'f>> {
         for line in lines {
             if let Err(why) = self.take_anyway(alloc, session, line) {
@@ -133,11 +133,11 @@ impl Run<'_> {
     }
 
     /// Does what the line says; in a file that may refuse memory, again if there was none.
-    fn take_anyway<'l, 'f>(
+    fn take_anyway<'f>(
         &mut self,
         alloc: Global,
-        session: &mut Session<'l, 'f>,
-        line: &'l Line<'f>,
+        session: &mut Session<'f>,
+        line: &Line<'f>,
     ) -> Result<(), Why<'f>> {
         match self.take(alloc, session, line) {
             Err(Why::OutOfMemory) if self.refusing_memory => self.take(alloc, session, line),
@@ -146,11 +146,11 @@ impl Run<'_> {
     }
 
     /// Does what the line says.
-    fn take<'l, 'f>(
+    fn take<'f>(
         &mut self,
         alloc: Global,
-        session: &mut Session<'l, 'f>,
-        line: &'l Line<'f>,
+        session: &mut Session<'f>,
+        line: &Line<'f>,
     ) -> Result<(), Why<'f>> {
         match &line.step {
             Step::End => {
@@ -167,7 +167,7 @@ impl Run<'_> {
     fn run_case<'f>(
         &mut self,
         alloc: Global,
-        session: &mut Session<'_, 'f>,
+        session: &mut Session<'f>,
         line: u64,
         case: &Case<'f>,
     ) -> Result<(), Why<'f>> {
@@ -186,7 +186,7 @@ impl Run<'_> {
     fn make_anyway<'f>(
         &mut self,
         alloc: Global,
-        session: &mut Session<'_, 'f>,
+        session: &mut Session<'f>,
         line: u64,
         case: &Case<'f>,
     ) -> Result<Outcome, Why<'f>> {
@@ -203,7 +203,7 @@ impl Run<'_> {
     fn make_over<'f>(
         &mut self,
         alloc: Global,
-        session: &mut Session<'_, 'f>,
+        session: &mut Session<'f>,
         line: u64,
         case: &Case<'f>,
         before: &Before,
@@ -225,7 +225,7 @@ impl Run<'_> {
     fn judge(
         &mut self,
         alloc: Global,
-        session: &Session<'_, '_>,
+        session: &Session<'_>,
         line: u64,
         case: &Case<'_>,
         outcome: &Outcome,
@@ -248,7 +248,7 @@ impl Run<'_> {
     fn look(
         &mut self,
         alloc: Global,
-        session: &Session<'_, '_>,
+        session: &Session<'_>,
         line: u64,
         effect: &Effect<'_>,
     ) -> Result<(), AllocError> {

@@ -1,5 +1,7 @@
 //! The array and the store that the lines of a case file meet.
 use crate::building::{build_metadata, built, converted, rebuilt};
+use crate::parts::Parts;
+use crate::setters;
 use std::alloc::{AllocError, Global};
 use std::mem;
 use zarrs::{
@@ -8,7 +10,7 @@ use zarrs::{
 use zarrs_case_answers::{Answer, refused_creation, word};
 use zarrs_case_calls::{Held, Other};
 use zarrs_case_lines::Why;
-use zarrs_case_lines::call::{Call, Case, Design, Part, Setting};
+use zarrs_case_lines::call::{Call, Case, Design, Setting};
 use zarrs_case_lines::words::json;
 use zarrs_case_stores::Conditions;
 use zarrs_metadata::MetadataError;
@@ -29,7 +31,7 @@ pub(crate) struct Outcome {
 
 /// The array that is open, its store, and what the next call meets.
 #[derive(Drop)]
-pub(crate) struct Session<'l, 'f> {
+pub(crate) struct Session<'f> {
     pub(crate) array: Option<Array<()>>,
     pub(crate) store: MemoryStore,
     pub(crate) other: Option<Other>,
@@ -37,7 +39,7 @@ pub(crate) struct Session<'l, 'f> {
     /// The writing calls that the next new store has made.
     calls: u64,
     /// What the next builder is told beside its design.
-    parts: Vec<&'l Part<'f>>,
+    parts: Parts<'f>,
     latest: Option<Outcome>,
 }
 
@@ -72,16 +74,16 @@ fn copied(alloc: Global, keys: &[StoreKey]) -> Result<Vec<StoreKey>, AllocError>
     Ok(copies)
 }
 
-impl<'l, 'f> Session<'l, 'f> {
+impl<'f> Session<'f> {
     /// No array, and an empty store.
-    pub(crate) fn new(alloc: Global) -> Session<'l, 'f> {
+    pub(crate) fn new(alloc: Global) -> Session<'f> {
         Session {
             array: None,
             store: MemoryStore::new(alloc),
             other: None,
             conditions: Conditions::none(alloc),
             calls: 0,
-            parts: Vec::new(alloc),
+            parts: Parts::none(alloc),
             latest: None,
         }
     }
@@ -90,7 +92,7 @@ impl<'l, 'f> Session<'l, 'f> {
     pub(crate) fn prepare(
         &mut self,
         alloc: Global,
-        setting: &'l Setting<'f>,
+        setting: &Setting<'f>,
     ) -> Result<(), AllocError> {
         let conditions = &mut self.conditions;
         match setting {
@@ -102,7 +104,7 @@ impl<'l, 'f> Session<'l, 'f> {
             Setting::Stopping(passed) => conditions.passed = *passed,
             Setting::Allowing(keys) => conditions.allowed = Some(copied(alloc, keys)?),
             Setting::Calls(calls) => self.calls = *calls,
-            Setting::With(part) => self.parts.push(part)?,
+            Setting::With(part) => self.parts.add(alloc, part)?,
             Setting::Aside => self.set_aside(alloc),
         }
         Ok(())
@@ -143,9 +145,9 @@ impl<'l, 'f> Session<'l, 'f> {
             Call::Make(_, _) => self.calls = 0,
             Call::Build(_, _) | Call::Builder(_) => {
                 self.calls = 0;
-                self.parts = Vec::new(alloc);
+                drop(mem::replace(&mut self.parts, Parts::none(alloc)));
             }
-            Call::BuildMetadata(_) => self.parts = Vec::new(alloc),
+            Call::BuildMetadata(_) => drop(mem::replace(&mut self.parts, Parts::none(alloc))),
             _ => {}
         }
         drop(mem::replace(&mut self.latest, Some(outcome)));
@@ -167,13 +169,21 @@ impl<'l, 'f> Session<'l, 'f> {
             Call::Convert(document) => Ok(quiet(alloc, converted(alloc, document)?)),
             Call::ToV3 => Ok(self.convert(alloc)?),
             Call::Open(path) => Ok(self.open(alloc, path, &case.options)?),
-            Call::SetShape(shape) => Ok(self.set_shape(alloc, shape)?),
-            Call::SetShapeAndGrid(shape, grid) => self.set_shape_and_grid(alloc, shape, grid),
-            Call::SetAttributes(attributes) => self.set_attributes(alloc, attributes),
-            Call::SetNames(names) => Ok(self.set_names(alloc, names)?),
-            Call::SetMetadataOptions => Ok(self.set_metadata_options(alloc, &case.options)?),
+            Call::SetShape(_)
+            | Call::SetShapeAndGrid(_, _)
+            | Call::SetAttributes(_)
+            | Call::SetNames(_)
+            | Call::SetMetadataOptions => self.change(alloc, case),
             _ => self.call(alloc, case),
         }
+    }
+
+    /// Changes the array without its store.
+    fn change(&mut self, alloc: Global, case: &Case<'f>) -> Result<Outcome, Why<'f>> {
+        let Some(array) = &mut self.array else {
+            return Ok(no_array(alloc)?);
+        };
+        Ok(quiet(alloc, setters::answer_of(alloc, array, case)?))
     }
 
     /// The store is a new one from now on.

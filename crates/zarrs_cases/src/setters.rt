@@ -1,80 +1,60 @@
-//! Setters of the array, which ask the store for nothing.
-use crate::building::grid_of;
-use crate::session::{Outcome, Session, no_array, quiet};
+//! Setters of an array, which ask the store for nothing.
+use crate::building::{grid_of, object};
 use std::alloc::{AllocError, Global};
-use zarrs::DimensionName;
-use zarrs_case_answers::{set, word};
+use zarrs::{Array, DimensionName};
+use zarrs_case_answers::{Answer, set, word};
 use zarrs_case_lines::Why;
-use zarrs_case_lines::call::Options;
-use zarrs_case_lines::words::{json, text};
-use zarrs_document::members;
+use zarrs_case_lines::call::{Call, Case};
+use zarrs_case_lines::words::text;
 
-impl<'f> Session<'_, 'f> {
-    pub(crate) fn set_shape(
-        &mut self,
-        alloc: Global,
-        shape: &[u64],
-    ) -> Result<Outcome, AllocError> {
-        let Some(array) = &mut self.array else {
-            return no_array(alloc);
-        };
-        let outcome = array.reshape(alloc, shape.to_vec(alloc)?);
-        Ok(quiet(alloc, set(alloc, &outcome)?))
-    }
-
-    pub(crate) fn set_shape_and_grid(
-        &mut self,
-        alloc: Global,
-        shape: &[u64],
-        grid: &'f str,
-    ) -> Result<Outcome, Why<'f>> {
-        let Some(array) = &mut self.array else {
-            return Ok(no_array(alloc)?);
-        };
-        let grid = grid_of(alloc, grid)?;
-        let outcome = array.regrid(alloc, shape.to_vec(alloc)?, &grid);
-        Ok(quiet(alloc, set(alloc, &outcome)?))
-    }
-
-    pub(crate) fn set_attributes(
-        &mut self,
-        alloc: Global,
-        word: &'f str,
-    ) -> Result<Outcome, Why<'f>> {
-        let Some(array) = &mut self.array else {
-            return Ok(no_array(alloc)?);
-        };
-        let Some(attributes) = members::object_of(json(alloc, word)?) else {
-            return Err(Why::Json(word));
-        };
-        *array.attributes_mut() = attributes;
-        Ok(done(alloc)?)
-    }
-
-    pub(crate) fn set_names(&mut self, alloc: Global, names: &str) -> Result<Outcome, AllocError> {
-        let Some(array) = &mut self.array else {
-            return no_array(alloc);
-        };
-        let outcome = array.name_dimensions(alloc, names_in(alloc, names)?);
-        Ok(quiet(alloc, set(alloc, &outcome)?))
-    }
-
-    pub(crate) fn set_metadata_options(
-        &mut self,
-        alloc: Global,
-        options: &Options<'_>,
-    ) -> Result<Outcome, AllocError> {
-        let Some(array) = &mut self.array else {
-            return no_array(alloc);
-        };
-        array.set_metadata_options(options.of_metadata());
-        done(alloc)
+/// Calls the setter.
+pub(crate) fn answer_of<'f>(
+    alloc: Global,
+    array: &mut Array<()>,
+    case: &Case<'f>,
+) -> Result<Answer, Why<'f>> {
+    match &case.call {
+        Call::SetShape(shape) => Ok(set_shape(alloc, array, shape)?),
+        Call::SetShapeAndGrid(shape, grid) => set_shape_and_grid(alloc, array, shape, grid),
+        Call::SetAttributes(attributes) => set_attributes(alloc, array, attributes),
+        Call::SetNames(names) => Ok(set_names(alloc, array, names)?),
+        Call::SetMetadataOptions => {
+            array.set_metadata_options(case.options.of_metadata());
+            Ok(word(alloc, "ok")?)
+        }
+        _ => Err(Why::Call(case.written)),
     }
 }
 
-/// The outcome of a setter that refuses nothing.
-fn done(alloc: Global) -> Result<Outcome, AllocError> {
-    Ok(quiet(alloc, word(alloc, "ok")?))
+fn set_shape(alloc: Global, array: &mut Array<()>, shape: &[u64]) -> Result<Answer, AllocError> {
+    let outcome = array.reshape(alloc, shape.to_vec(alloc)?);
+    set(alloc, &outcome)
+}
+
+fn set_shape_and_grid<'f>(
+    alloc: Global,
+    array: &mut Array<()>,
+    shape: &[u64],
+    grid: &'f str,
+) -> Result<Answer, Why<'f>> {
+    let grid = grid_of(alloc, grid)?;
+    let outcome = array.regrid(alloc, shape.to_vec(alloc)?, &grid);
+    drop(grid);
+    Ok(set(alloc, &outcome)?)
+}
+
+fn set_attributes<'f>(
+    alloc: Global,
+    array: &mut Array<()>,
+    attributes: &'f str,
+) -> Result<Answer, Why<'f>> {
+    *array.attributes_mut() = object(alloc, attributes)?;
+    Ok(word(alloc, "ok")?)
+}
+
+fn set_names(alloc: Global, array: &mut Array<()>, names: &str) -> Result<Answer, AllocError> {
+    let outcome = array.name_dimensions(alloc, names_in(alloc, names)?);
+    set(alloc, &outcome)
 }
 
 /// Names joined by `,`, where `null` is no name; `-` for a list without a name; or `none` for no list.
