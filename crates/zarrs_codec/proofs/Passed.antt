@@ -13,8 +13,8 @@ use Rattle.zarrs_codec_leaf.specs.Leaf.{LeafMeaning, IsLawfulLeaf, encoding_of}
 use Rattle.zarrs_codec_leaf.specs.Refusals.{RefusesEncoding, RefusesDecoding}
 use Rattle.zarrs_codec_leaf.specs.declared.error.CodecError.{CodecError}
 use Rattle.zarrs_codec_leaf.specs.declared.error.CodecError.TheVariants as error
-use Rattle.zarrs_codec.specs.Chain.{chunk_encoding}
-use Rattle.zarrs_codec.specs.Refusals.{RefusesChunkEncoding, RefusesChunkDecoding}
+use Rattle.zarrs_chain.specs.Chain.{chunk_encoding}
+use Rattle.zarrs_chain.specs.Refusals.{RefusesChunkEncoding, RefusesChunkDecoding}
 use Rattle.zarrs_codec.specs.Chains.{whole_chunk}
 use Rattle.zarrs_codec.specs.Through.{through}
 

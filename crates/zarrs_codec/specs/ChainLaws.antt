@@ -12,7 +12,7 @@ use Rattle.zarrs_codec.specs.declared.chain.ArrayToBytesCodec as codec
 use Rattle.zarrs_codec.specs.declared.chain.CodecChain.{CodecChain}
 use Rattle.zarrs_codec.specs.declared.optional.MaskCodec.{MaskCodec}
 use Rattle.zarrs_codec.specs.declared.optional.MaskCodec.TheVariants as mask
-use Rattle.zarrs_codec.specs.Chain.{IsLawfulChain}
+use Rattle.zarrs_chain.specs.Chain.{IsLawfulChain}
 use Rattle.zarrs_codec.specs.Chains.{array_to_array_of, array_to_bytes_of, leaf_meaning, mask_meaning, whole_chunk, chain_meaning}
 use Rattle.zarrs_codec.specs.OptionalLaws.{optional-lawful}
 use Rattle.zarrs_codec.specs.Through.{through-lawful}

@@ -15,7 +15,7 @@ use Rattle.zarrs_codec.specs.declared.chain.CodecChain.{CodecChain}
 use Rattle.zarrs_codec.specs.declared.optional.MaskCodec.{MaskCodec}
 use Rattle.zarrs_codec.specs.declared.optional.MaskCodec.TheVariants as mask
 use Rattle.zarrs_codec.specs.declared.optional.OptionalCodec.{OptionalCodec}
-use Rattle.zarrs_codec.specs.Chain.{ChainMeaning}
+use Rattle.zarrs_chain.specs.Chain.{ChainMeaning}
 use Rattle.zarrs_codec.specs.Optional.{optional_meaning}
 use Rattle.zarrs_codec.specs.Through.{through}
 

@@ -1,11 +1,11 @@
-pub mod Chain
 pub mod ChainLaws
 pub mod Chains
 pub mod Metadata
 pub mod Optional
 pub mod OptionalLaws
-pub mod Options
-pub mod Refusals
 pub mod Sole
 pub mod Through
 pub mod VlenMetadata
+pub use Rattle.zarrs_chain.specs.Chain
+pub use Rattle.zarrs_chain.specs.Options
+pub use Rattle.zarrs_chain.specs.Refusals

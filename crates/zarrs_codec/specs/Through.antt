@@ -5,7 +5,7 @@ use Rattle.zarrs_types.specs.Cell.{Cell, are_values, is_value}
 use Rattle.zarrs_subset.specs.Boxes.{position_count}
 use Rattle.zarrs_codec_array.specs.Arrays.{ArrayMeaning, IsLawfulArray}
 use Rattle.std.specs.Prelude.{option_and_then, if◌then◌else◌}
-use Rattle.zarrs_codec.specs.Chain.{ChainMeaning, IsLawfulChain}
+use Rattle.zarrs_chain.specs.Chain.{ChainMeaning, IsLawfulChain}
 
 -- the value, if the test holds
 abbrev pub only_if : {A : Type 0} → Bool → Option A → Option A

@@ -14,9 +14,8 @@ ghost use Rattle.zarrs_codec.specs.ChainLaws.{chain-lawful};
 ghost use Rattle.zarrs_codec.specs.Through.{through};
 
 use crate::optional::OptionalCodec;
-use crate::options::CodecOptions;
-use crate::traits::ChainTraits;
 use std::alloc::{AllocError, Global};
+use zarrs_chain::{ChainTraits, CodecOptions};
 use zarrs_codec_array::{ArrayToArrayCodec, decode_array, encode_array, encoded_shape};
 use zarrs_codec_leaf::{
     BytesCodec, CodecError, PackBitsCodec, VlenBytesCodec, VlenCodec, VlenUtf8Codec,

@@ -4,16 +4,13 @@
 mod chain;
 mod metadata;
 mod optional;
-mod options;
 mod sole;
-mod traits;
 mod vlen_metadata;
 
 pub use chain::{ArrayToBytesCodec, BytesToBytesCodecs, CodecChain};
 pub use metadata::default_array_to_bytes_codec;
 pub use optional::{MaskCodec, OptionalCodec};
-pub use options::{CodecMetadataOptions, CodecOptions, CodecSpecificOptions};
-pub use traits::ChainTraits;
+pub use zarrs_chain::{ChainTraits, CodecMetadataOptions, CodecOptions, CodecSpecificOptions};
 pub use zarrs_codec_array::{
     ArrayToArrayCodec, ReshapeCodec, ReshapeExtent, SqueezeCodec, TransposeCodec,
 };

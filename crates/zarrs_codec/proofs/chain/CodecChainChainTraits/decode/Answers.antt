@@ -9,7 +9,7 @@ use Rattle.zarrs_codec_array.specs.ArrayCodecs.{arrays_meaning, arrays-lawful}
 use Rattle.zarrs_codec.specs.ChainLaws.{leaf-lawful}
 use Rattle.zarrs_codec_leaf.specs.Refusals.{RefusesDecoding}
 use Rattle.zarrs_codec.specs.Chains.{leaf_meaning, whole_chunk}
-use Rattle.zarrs_codec.specs.Refusals.{RefusesChunkDecoding}
+use Rattle.zarrs_chain.specs.Refusals.{RefusesChunkDecoding}
 use Rattle.zarrs_codec.specs.Through.{through}
 use Rattle.zarrs_codec.proofs.Kept.{err_kept}
 use Rattle.zarrs_codec.proofs.Counts.{count_fits, some_count}

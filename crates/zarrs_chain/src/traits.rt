@@ -5,10 +5,10 @@ ghost use Rattle.zarrs_data_type.specs.Kind.{kind, cell_size};
 ghost use Rattle.zarrs_data_type.specs.Cell.{fill_cell, fill_of};
 ghost use Rattle.zarrs_data_type.specs.ArrayData.{data_of};
 ghost use Rattle.zarrs_data_type.specs.Cells.{cells, HasCells};
-ghost use Rattle.zarrs_codec.specs.Chain.{ChainMeaning, IsLawfulChain, chunk_encoding};
-ghost use Rattle.zarrs_codec.specs.Refusals.{RefusesChunkEncoding, RefusesChunkDecoding};
-ghost use Rattle.zarrs_codec.specs.Refusals.{RefusesCompaction};
-ghost use Rattle.zarrs_codec.specs.Options.{stores_empty_chunks};
+ghost use Rattle.zarrs_chain.specs.Chain.{ChainMeaning, IsLawfulChain, chunk_encoding};
+ghost use Rattle.zarrs_chain.specs.Refusals.{RefusesChunkEncoding, RefusesChunkDecoding};
+ghost use Rattle.zarrs_chain.specs.Refusals.{RefusesCompaction};
+ghost use Rattle.zarrs_chain.specs.Options.{stores_empty_chunks};
 
 use crate::options::CodecOptions;
 use std::alloc::{AllocError, Global};

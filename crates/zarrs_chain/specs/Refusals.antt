@@ -5,7 +5,7 @@ use Rattle.zarrs_codec_leaf.specs.declared.error.CodecError.TheVariants as error
 use Rattle.zarrs_types.specs.Kind.{Kind}
 use Rattle.zarrs_types.specs.Cell.{Cell}
 use Rattle.zarrs_cells.specs.ArrayData.{ArrayData}
-use Rattle.zarrs_codec.specs.Chain.{ChainMeaning, chunk_encoding}
+use Rattle.zarrs_chain.specs.Chain.{ChainMeaning, chunk_encoding}
 
 -- the type and the shape do not fit, or else a size is too large
 abbrev pub RefusesChunkEncoding : ChainMeaning → Bool → Kind → Cell → List ℕ → ArrayData → CodecError → Type 0
