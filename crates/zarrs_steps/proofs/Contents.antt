@@ -4,7 +4,7 @@ use Rattle.std.proofs.lemmas.Bool.{cases_Bool}
 use Rattle.std.proofs.Common.{◌≢◌, ◌⊎◌, bytes_eq, inl, inr, ◌≡◌, ℕ, suc, zero, ◌<◌, Bool, true, false, ◌&&◌, cond, List}
 use Rattle.std.proofs.Common.{[], ◌∷◌, length, Option, Some, None, slice_get, Contains, replicate, refl, sym, ◌∙◌, ap}
 use Rattle.std.proofs.Common.{subst, arith}
-use Rattle.std.specs.Prelude.{IsSome, option_map, unwrap_or, ◌-◌, ◌==◌, nat_lt, slice_index, take}
+use Rattle.std.specs.Prelude.{IsSome}
 use Rattle.std.specs.List.{list_all}
 use Rattle.std.proofs.lemmas.List.{length-replicate}
 use Rattle.zarrs_subset.specs.Boxes.{position_count}
@@ -16,10 +16,9 @@ use Rattle.zarrs_chunk_grid.proofs.Chunks.{covered_holds, covered_chunk, chunk_h
 use Rattle.zarrs_keys.specs.Keys.{IsIndexList, IsLawfulKey, IsMetadataName, v3_name, v2_array_name, v2_attributes_name}
 use Rattle.zarrs_keys.specs.Paths.{path_key}
 use Rattle.zarrs_keys.proofs.PathLemmas.{lawful_at}
-use Rattle.zarrs_codec.specs.Chain.{ChainMeaning, IsLawfulChain}
+use Rattle.zarrs_chain.specs.Chain.{ChainMeaning, IsLawfulChain}
 use Rattle.zarrs_data_type.specs.Kind.{Kind}
-use Rattle.zarrs_data_type.specs.Kind as type
-use Rattle.zarrs_data_type.specs.Cell.{Cell, bytes, none, some, cell_eq, fill_cell, is_element, is_value}
+use Rattle.zarrs_data_type.specs.Cell.{Cell, cell_eq, fill_cell}
 use Rattle.zarrs_types.proofs.Values.{fill-value}
 use Rattle.zarrs_data_type.proofs.Same.{cell_eq-true, eq-cell_eq}
 use Rattle.zarrs_steps.specs.Layout.{Layout, IsLawful, layout_at, metadata_keys_at}

@@ -4,7 +4,7 @@ use Rattle.std.specs.Coded.{Coded, code_by, coded×, coded_ℕ, coded_list, code
 use Rattle.std.proofs.Common.{ap}
 use Rattle.std.proofs.Props.{props}
 use Rattle.zarrs_chunk_grid.specs.Grids.{Grid, IsGrid}
-use Rattle.zarrs_codec.specs.Chain.{ChainMeaning, IsLawfulChain}
+use Rattle.zarrs_chain.specs.Chain.{ChainMeaning, IsLawfulChain}
 use Rattle.zarrs_data_type.specs.Cell.{Cell, bytes, none, some}
 use Rattle.zarrs_steps.specs.Layout.{Layout, IsLawful, IsInjective, AreNoMetadataKeys}
 

@@ -6,7 +6,7 @@ use Rattle.zarrs_keys.specs.Paths.{path_key}
 use Rattle.zarrs_storage.specs.Store.{StoreState}
 use Rattle.zarrs_data_type.specs.Kind.{Kind}
 use Rattle.zarrs_data_type.specs.Cell.{Cell, fill_of, is_value}
-use Rattle.zarrs_codec.specs.Chain.{ChainMeaning, IsLawfulChain}
+use Rattle.zarrs_chain.specs.Chain.{ChainMeaning, IsLawfulChain}
 
 -- How an array lies in a store: its grid, the store key of each chunk, the keys of its metadata, the chain of codecs,
 -- the data type, and the cell of the fill value.
