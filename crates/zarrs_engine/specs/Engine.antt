@@ -3,7 +3,7 @@ use Rattle.std.specs.Prelude.{◌≡◌, ℕ, List}
 use Rattle.zarrs_storage.specs.Store.{StoreState}
 use Rattle.zarrs_chunk_grid.specs.declared.traits.ChunkGridTraits.{Ghosts as GridMeaning}
 use Rattle.zarrs_keys.specs.declared.traits.ChunkKeyEncodingTraits.{Ghosts as KeyMeaning}
-use Rattle.zarrs_codec.specs.declared.traits.ChainTraits.{Ghosts as ChainMeanings}
+use Rattle.zarrs_chain.specs.declared.traits.ChainTraits.{Ghosts as ChainMeanings}
 use Rattle.zarrs_data_type.specs.declared.data_type.DataType.{DataType}
 use Rattle.zarrs_steps.specs.Layout.{Layout, ArrayState}
 use Rattle.zarrs_layout.specs.Layouts.{layout_of_parts}
@@ -51,6 +51,16 @@ module _ {G K C : Type 0} {g : GridMeaning G} {k : KeyMeaning K} {c : ChainMeani
     -- nothing but the store changed
     abbrev pub KeepsParts : Engine S G K C g k c → Engine S G K C g k c → Type 0
     KeepsParts old new = new.parts ≡ old.parts
+
+    -- nothing but the store and the array's shape changed
+    pub record KeepsOthers (old new : Engine S G K C g k c) : Type 0 where
+      pub grid : g.grid (grid_of new) ≡ g.grid (grid_of old)
+      pub extension : g.extension (grid_of new) ≡ g.extension (grid_of old)
+      pub path : path_of new ≡ path_of old
+      pub keys : keys_of new ≡ keys_of old
+      pub chain : chain_of new ≡ chain_of old
+      pub data_type : data_type_of new ≡ data_type_of old
+      pub fill_value : fill_value_of new ≡ fill_value_of old
 
     -- the engine has this grid, and everything else stayed
     pub record GivesGrid (given : G) (old new : Engine S G K C g k c) : Type 0 where

@@ -4,6 +4,8 @@ pub mod Into
 pub mod RegionReads
 pub mod RegionWrites
 pub mod Lending
+pub mod Resizes
 pub mod Comparisons
 pub mod PartialDecoders
 pub mod ReadLaws
+pub mod Outcomes

@@ -10,8 +10,8 @@ ghost use Rattle.zarrs_engine.specs.Engine.{layout_of, store_of};
 
 use crate::engine::Engine;
 use std::alloc::Global;
+use zarrs_chain::ChainTraits;
 use zarrs_chunk_grid::ChunkGridTraits;
-use zarrs_codec::ChainTraits;
 use zarrs_keys::ChunkKeyEncodingTraits;
 use zarrs_steps::ArrayError;
 use zarrs_storage::ReadableStorageTraits;

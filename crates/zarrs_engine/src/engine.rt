@@ -6,11 +6,12 @@ mod part_reads;
 mod reads;
 mod region_reads;
 mod region_writes;
+mod resize;
 mod writes;
 
 pub use calls::replay;
+use zarrs_chain::ChainTraits;
 use zarrs_chunk_grid::ChunkGridTraits;
-use zarrs_codec::ChainTraits;
 use zarrs_data_type::{DataType, FillValue};
 use zarrs_keys::{ChunkKeyEncodingTraits, NodePath};
 use zarrs_layout::Parts;
@@ -149,14 +150,9 @@ impl<S, G: ChunkGridTraits, K: ChunkKeyEncodingTraits, C: ChainTraits> Engine<S,
     }
 }
 
-impl<S, G: ChunkGridTraits + Drop, K: ChunkKeyEncodingTraits + Drop, C: ChainTraits + Drop> Engine<
-    S,
-    G,
-    K,
-    C,
-> {
+impl<S, G: ChunkGridTraits + Drop, K: ChunkKeyEncodingTraits, C: ChainTraits> Engine<S, G, K, C> {
     ghost use Rattle.std.specs.Prelude.{◌≡◌};
-    ghost use Rattle.zarrs_engine.specs.Engine.{the_store, grid_of, GivesGrid};
+    ghost use Rattle.zarrs_engine.specs.Engine.{grid_of, GivesGrid};
 
     /// Replaces how the array is cut into chunks, over as many dimensions. The store is not asked: what it holds is
     /// read by the new grid from now on.
@@ -166,6 +162,16 @@ impl<S, G: ChunkGridTraits + Drop, K: ChunkKeyEncodingTraits + Drop, C: ChainTra
     {
         self.parts.grid = grid;
     }
+}
+
+impl<S, G: ChunkGridTraits + Drop, K: ChunkKeyEncodingTraits + Drop, C: ChainTraits + Drop> Engine<
+    S,
+    G,
+    K,
+    C,
+> {
+    ghost use Rattle.std.specs.Prelude.{◌≡◌};
+    ghost use Rattle.zarrs_engine.specs.Engine.{the_store};
 
     /// The store, which is all that is kept.
     pub fn into_storage(self) -> S

@@ -5,8 +5,8 @@ ghost use Rattle.zarrs_engine.specs.Engine.{layout_of};
 
 use crate::engine::Engine;
 use std::alloc::Global;
+use zarrs_chain::{ChainTraits, CodecOptions};
 use zarrs_chunk_grid::ChunkGridTraits;
-use zarrs_codec::{ChainTraits, CodecOptions};
 use zarrs_data_type::ArrayBytes;
 use zarrs_keys::ChunkKeyEncodingTraits;
 use zarrs_steps::ArrayError;

@@ -6,10 +6,11 @@ use std::alloc::Global;
 use std::process::Abort;
 use zarrs_codec::CodecOptions;
 use zarrs_data_type::DataType;
-use zarrs_engine::{chunks_equal, layouts_are_lawful, replay};
+use zarrs_engine::{chunks_equal, layouts_are_lawful};
 use zarrs_keys::{ChunkKeyEncoding, ChunkKeySeparator};
 use zarrs_storage::{Bytes, MemoryStore, StoreKey, WritableStorageTraits};
 use zarrs_target::ArrayBytesDecodeIntoTarget;
+use zarrs_uses::histories::replayed;
 use zarrs_uses::make::MemoryEngine;
 
 /// Makes the calls as one list. The replies are printed so.
@@ -21,7 +22,7 @@ fn must_reply(
     replies: &str,
 ) {
     let calls = calls(rt, alloc, steps);
-    let got = replay(alloc, engine, &calls, &CodecOptions::default()).expect(rt, "no refusal");
+    let got = replayed(alloc, engine, &calls).expect(rt, "no refusal");
     must_print(rt, alloc, &got, replies);
 }
 

@@ -13,8 +13,8 @@ use Rattle.zarrs_storage.specs.declared.error.StorageError.{StorageError}
 use Rattle.zarrs_storage.specs.declared.error.StorageError.TheVariants as stored
 use Rattle.zarrs_codec_leaf.specs.declared.error.CodecError.{CodecError}
 use Rattle.zarrs_codec_leaf.specs.declared.error.CodecError.TheVariants as coded
-use Rattle.zarrs_codec.specs.Chain.{ChainMeaning, IsLawfulChain, chunk_encoding}
-use Rattle.zarrs_codec.specs.Refusals.{RefusesChunkEncoding, RefusesChunkDecoding}
+use Rattle.zarrs_chain.specs.Chain.{ChainMeaning, IsLawfulChain, chunk_encoding}
+use Rattle.zarrs_chain.specs.Refusals.{RefusesChunkEncoding, RefusesChunkDecoding}
 use Rattle.zarrs_data_type.specs.Kind.{Kind}
 use Rattle.zarrs_data_type.specs.Cell.{Cell}
 use Rattle.zarrs_data_type.specs.ArrayData.{ArrayData}

@@ -1,3 +1,5 @@
 pub mod Covers
+pub mod CutWalks
 pub mod Layouts
 pub mod Parts
+pub mod WholeChunks

@@ -1,8 +1,8 @@
 //! The boxes of chunks, of parts of chunks and of ranges of chunks.
 use crate::parts::{Parts, invalid_indices};
 use std::alloc::{AllocError, Global};
+use zarrs_chain::ChainTraits;
 use zarrs_chunk_grid::{ChunkGridTraits, GridError};
-use zarrs_codec::ChainTraits;
 use zarrs_keys::ChunkKeyEncodingTraits;
 use zarrs_steps::ArrayError;
 use zarrs_subset::{ArraySubset, ArraySubsetTraits};

@@ -2,7 +2,10 @@
 #![tactic(auto)]
 
 mod chunk_parts;
+mod cut_walk;
 mod parts;
 mod regions;
+mod resizing;
 
+pub use cut_walk::CutWalk;
 pub use parts::{Chunk, Parts, invalid_indices};

@@ -9,8 +9,8 @@ ghost use Rattle.zarrs_layout.specs.Parts.{RefusesIndices};
 ghost use Rattle.zarrs_steps.specs.Lawful.{IsLawful-prop};
 
 use std::alloc::Global;
+use zarrs_chain::{ChainTraits, CodecError, CodecOptions};
 use zarrs_chunk_grid::ChunkGridTraits;
-use zarrs_codec::{ChainTraits, CodecError, CodecOptions};
 use zarrs_data_type::{ArrayBytes, DataType, FillValue};
 use zarrs_keys::{ChunkKeyEncodingTraits, NodePath, chunk_key};
 use zarrs_steps::ArrayError;
@@ -56,7 +56,7 @@ impl<G: ChunkGridTraits, K: ChunkKeyEncodingTraits, C: ChainTraits> Parts<G, K, 
     ghost use Rattle.zarrs_data_type.specs.Kind.{cell_size};
     ghost use Rattle.zarrs_data_type.specs.ArrayData.{data_of};
     ghost use Rattle.zarrs_data_type.specs.Cells.{cells, HasCells};
-    ghost use Rattle.zarrs_codec.specs.Options.{stores_empty_chunks};
+    ghost use Rattle.zarrs_chain.specs.Options.{stores_empty_chunks};
     ghost use Rattle.zarrs_layout.specs.Layouts.{layout_of_parts};
     ghost use Rattle.zarrs_steps.specs.Content.{decoded_cells};
     ghost use Rattle.zarrs_steps.specs.Refusals.{RefusesBy, refusal_of, is_too_large};

@@ -1,8 +1,8 @@
 //! Regions of an array: the chunks that they meet, and the data over them.
 use crate::parts::Parts;
 use std::alloc::Global;
+use zarrs_chain::{ChainTraits, CodecError};
 use zarrs_chunk_grid::{ChunkGridTraits, GridError};
-use zarrs_codec::{ChainTraits, CodecError};
 use zarrs_data_type::ArrayBytes;
 use zarrs_keys::ChunkKeyEncodingTraits;
 use zarrs_steps::ArrayError;

@@ -5,16 +5,28 @@ ghost use Rattle.zarrs_steps.specs.Laws.{IsHistory, HaveEqualContent, HaveEqualB
 ghost use Rattle.zarrs_engine.specs.Engine.{layout_of, state_of, store_of};
 
 use crate::make::MemoryEngine;
-use anyhow::Result;
-use std::alloc::Global;
+use std::alloc::{AllocError, Global};
 use zarrs_codec::CodecOptions;
 use zarrs_engine::laws::histories_agree;
 use zarrs_engine::{Call, Reply, layouts_are_lawful, replay};
 use zarrs_storage::{MemoryStore, ReadableStorageTraits};
 
+/// Makes the calls in turn, and returns the reply to each.
+pub fn replayed(
+    alloc: Global,
+    engine: &mut MemoryEngine,
+    calls: &[Call],
+) -> Result<Vec<Reply>, AllocError> {
+    replay(alloc, engine, calls, &CodecOptions::default())
+}
+
 /// Makes the calls in turn, and returns how many were refused.
-pub fn count_refused(alloc: Global, engine: &mut MemoryEngine, calls: &[Call]) -> Result<usize> {
-    let replies = replay(alloc, engine, calls, &CodecOptions::default())?;
+pub fn count_refused(
+    alloc: Global,
+    engine: &mut MemoryEngine,
+    calls: &[Call],
+) -> anyhow::Result<usize> {
+    let replies = replayed(alloc, engine, calls)?;
     let refused = replies
         .iter()
         .filter(|reply| matches!(**reply, Reply::Refused(_)));
@@ -22,7 +34,11 @@ pub fn count_refused(alloc: Global, engine: &mut MemoryEngine, calls: &[Call]) -
 }
 
 /// Whether the two stores have the same keys, and the same bytes at each.
-pub fn have_equal_bytes(alloc: Global, one: &MemoryStore, other: &MemoryStore) -> Result<bool> {
+pub fn have_equal_bytes(
+    alloc: Global,
+    one: &MemoryStore,
+    other: &MemoryStore,
+) -> anyhow::Result<bool> {
     let keys = one.keys(alloc)?;
     if keys != other.keys(alloc)? {
         return Ok(false);

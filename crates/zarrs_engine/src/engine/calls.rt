@@ -1,6 +1,6 @@
 //! Lists of calls.
 ghost use Rattle.std.specs.Prelude.{◌≡◌, false, IfOk, IfErr, OnOk, OnErr};
-ghost use Rattle.zarrs_codec.specs.Options.{stores_empty_chunks};
+ghost use Rattle.zarrs_chain.specs.Options.{stores_empty_chunks};
 ghost use Rattle.zarrs_storage.specs.Store.{KeepsReach};
 ghost use Rattle.zarrs_steps.specs.Content.{value_at};
 ghost use Rattle.zarrs_steps.specs.Reach.{MayAskCalls};
@@ -8,12 +8,12 @@ ghost use Rattle.zarrs_steps.specs.Step.{Run};
 ghost use Rattle.zarrs_steps.specs.Canon.{IsCanonical};
 ghost use Rattle.zarrs_steps.specs.Laws.{EachDecodes};
 ghost use Rattle.zarrs_steps.specs.declared.call.Reply.TheVariants.{Done, Cells, Refused};
-ghost use Rattle.zarrs_engine.specs.Engine.{layout_of, store_of, state_of, KeepsParts};
+ghost use Rattle.zarrs_engine.specs.Engine.{layout_of, store_of, state_of, KeepsOthers};
 
 use super::Engine;
 use std::alloc::{AllocError, Global};
+use zarrs_chain::{ChainTraits, CodecOptions};
 use zarrs_chunk_grid::ChunkGridTraits;
-use zarrs_codec::{ChainTraits, CodecOptions};
 use zarrs_data_type::ArrayBytes;
 use zarrs_keys::ChunkKeyEncodingTraits;
 use zarrs_layout::invalid_indices;
@@ -27,7 +27,7 @@ use zarrs_subset::ArraySubset;
 /// If the list of replies is out of memory. Nothing was called then.
 pub fn replay<
     S: WritableStorageTraits,
-    G: ChunkGridTraits,
+    G: ChunkGridTraits + Drop,
     K: ChunkKeyEncodingTraits,
     C: ChainTraits,
 >(
@@ -42,7 +42,7 @@ pub fn replay<
         (state_of S.state engine.old) (state_of S.state engine.new)) }
     ensures untouched { OnErr result (engine.new ≡ engine.old) }
     ensures layout { layout_of engine.new ≡ layout_of engine.old }
-    ensures parts { KeepsParts engine.old engine.new }
+    ensures others { KeepsOthers engine.old engine.new }
     ensures reach { KeepsReach (store_of S.state engine.old) (store_of S.state engine.new) }
     // If empty chunks are not kept, the bytes of a canonical store stay a function of its content.
     ensures canonical { stores_empty_chunks options.now ≡ false
@@ -83,18 +83,21 @@ fn cells(made: Result<ArrayBytes<'static>, ArrayError>) -> Reply
 
 impl<
     S: WritableStorageTraits,
-    G: ChunkGridTraits,
+    G: ChunkGridTraits + Drop,
     K: ChunkKeyEncodingTraits,
     C: ChainTraits,
 > Engine<S, G, K, C> {
-    ghost use Rattle.std.specs.Prelude.{◌≡◌, [], ◌∷◌, Bool};
+    ghost use Rattle.std.specs.Prelude.{◌≡◌, [], ◌∷◌, Bool, List, ℕ};
     ghost use Rattle.zarrs_subset.specs.Regions.{box_of, positions};
-    ghost use Rattle.zarrs_codec.specs.Options.{stores_empty_chunks};
-    ghost use Rattle.zarrs_steps.specs.Acts.{erase};
-    ghost use Rattle.zarrs_steps.specs.Reach.{MayAskCall};
+    ghost use Rattle.zarrs_chain.specs.Options.{stores_empty_chunks};
+    ghost use Rattle.zarrs_steps.specs.Acts.{erase, resize, shape_after};
+    ghost use Rattle.zarrs_steps.specs.ArgumentRefusals.{resize_refusal};
+    ghost use Rattle.zarrs_steps.specs.Cuts.{cut_chunks};
+    ghost use Rattle.zarrs_steps.specs.Reach.{MayAskCall, MayAskKept};
     ghost use Rattle.zarrs_steps.specs.Refusals.{length_refusal};
     ghost use Rattle.zarrs_steps.specs.Step.{ActStep, Step};
-    ghost use Rattle.zarrs_engine.specs.Engine.{layout_of, state_of, store_of, KeepsParts};
+    ghost use Rattle.zarrs_engine.specs.Engine.{layout_of, state_of, store_of, KeepsOthers};
+    ghost use Rattle.zarrs_engine.specs.Engine.{KeepsParts};
 
     /// Makes one call, and returns the reply: that it was done, what was read, or why it was refused.
     pub fn answer(&mut self, alloc: Global, call: &Call, options: &CodecOptions) -> Reply
@@ -102,7 +105,7 @@ impl<
         ensures step { Step (layout_of self.old) (stores_empty_chunks options.now) call.now result
             (state_of S.state self.old) (state_of S.state self.new) }
         ensures layout { layout_of self.new ≡ layout_of self.old }
-        ensures parts { KeepsParts self.old self.new }
+        ensures others { KeepsOthers self.old self.new }
     {
         match call {
             Call::StoreChunk(chunk_indices, chunk_data) => {
@@ -133,12 +136,32 @@ impl<
             Call::RetrieveArraySubset(array_subset) => {
                 cells(self.retrieve_array_subset(alloc, array_subset))
             }
+            Call::Resize(shape) => self.answer_resize(alloc, shape, options),
         }
+    }
+
+    /// The reply to a change of the shape.
+    fn answer_resize(&mut self, alloc: Global, shape: &[u64], options: &CodecOptions) -> Reply
+        requires { MayAskKept (layout_of self.old) shape.now (cut_chunks
+            (layout_of self.old).grid (state_of S.state self.old).shape shape.now)
+            (store_of S.state self.old) }
+        ensures step { ActStep (layout_of self.old) (stores_empty_chunks options.now)
+            (state_of S.state self.old).shape (resize_refusal (layout_of self.old) shape.now)
+            (resize shape.now) result (store_of S.state self.old) (store_of S.state self.new) }
+        ensures shape { (state_of S.state self.new).shape
+            ≡ shape_after (resize shape.now) result (state_of S.state self.old).shape }
+        ensures layout { layout_of self.new ≡ layout_of self.old }
+        ensures others { KeepsOthers self.old self.new }
+    {
+        let Ok(wanted) = shape.to_vec(alloc) else {
+            return Reply::Refused(ArrayError::OutOfMemory);
+        };
+        done(self.resize(alloc, wanted, options))
     }
 
     /// The reply to an erasure of one chunk.
     fn answer_erase_chunk(&mut self, alloc: Global, chunk_indices: &[u64]) -> Reply
-        ensures step { (keep : Bool) → ActStep (layout_of self.old) keep
+        ensures step { (keep : Bool) (shape : List ℕ) → ActStep (layout_of self.old) keep shape
             (length_refusal (layout_of self.old) chunk_indices.now)
             (erase (chunk_indices.now ∷ [])) result (store_of S.state self.old)
             (store_of S.state self.new) }
@@ -155,7 +178,7 @@ impl<
 
     /// The reply to an erasure of a range of chunks.
     fn answer_erase_chunks(&mut self, alloc: Global, chunks: &ArraySubset) -> Reply
-        ensures step { (keep : Bool) → ActStep (layout_of self.old) keep
+        ensures step { (keep : Bool) (shape : List ℕ) → ActStep (layout_of self.old) keep shape
             (length_refusal (layout_of self.old) (box_of chunks.now).start)
             (erase (positions (box_of chunks.now))) result (store_of S.state self.old)
             (store_of S.state self.new) }

@@ -1,8 +1,8 @@
 //! Chunks as the bytes that are stored, which are not decoded.
 use super::Engine;
 use std::alloc::Global;
+use zarrs_chain::ChainTraits;
 use zarrs_chunk_grid::ChunkGridTraits;
-use zarrs_codec::ChainTraits;
 use zarrs_keys::ChunkKeyEncodingTraits;
 use zarrs_steps::ArrayError;
 use zarrs_storage::ReadableStorageTraits;

@@ -1,8 +1,8 @@
 //! Reads of regions into boxes that callers lend.
 use super::Engine;
 use std::alloc::Global;
+use zarrs_chain::{ChainTraits, CodecError};
 use zarrs_chunk_grid::ChunkGridTraits;
-use zarrs_codec::{ChainTraits, CodecError};
 use zarrs_keys::ChunkKeyEncodingTraits;
 use zarrs_steps::ArrayError;
 use zarrs_storage::ReadableStorageTraits;

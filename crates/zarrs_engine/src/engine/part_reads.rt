@@ -1,8 +1,8 @@
 //! Reads of parts of chunks and of ranges of chunks.
 use super::Engine;
 use std::alloc::Global;
+use zarrs_chain::ChainTraits;
 use zarrs_chunk_grid::ChunkGridTraits;
-use zarrs_codec::ChainTraits;
 use zarrs_data_type::ArrayBytes;
 use zarrs_keys::ChunkKeyEncodingTraits;
 use zarrs_steps::ArrayError;
@@ -15,14 +15,11 @@ impl<
     K: ChunkKeyEncodingTraits,
     C: ChainTraits,
 > Engine<S, G, K, C> {
-    ghost use Rattle.std.specs.Prelude.{IfOk, IfErr};
-    ghost use Rattle.zarrs_subset.specs.Regions.{box_of, positions};
-    ghost use Rattle.zarrs_data_type.specs.ArrayData.{data_of};
-    ghost use Rattle.zarrs_steps.specs.Reach.{MayAskChunk, MayAskChunks};
-    ghost use Rattle.zarrs_steps.specs.Refusals.{refusal_of};
-    ghost use Rattle.zarrs_steps.specs.Step.{RetrievesChunks, RefusesRetrieveChunks};
-    ghost use Rattle.zarrs_steps.specs.Step.{RetrievesPart, RefusesRetrievePart};
-    ghost use Rattle.zarrs_engine.specs.Engine.{layout_of, state_of, store_of};
+    ghost use Rattle.zarrs_subset.specs.Regions.{box_of};
+    ghost use Rattle.zarrs_steps.specs.Reach.{MayAskChunk};
+    ghost use Rattle.zarrs_engine.specs.Engine.{layout_of, store_of};
+    ghost use Rattle.zarrs_engine.specs.Outcomes.{RetrievesChunksOrRefuses, MayRetrieveChunks};
+    ghost use Rattle.zarrs_engine.specs.Outcomes.{RetrievesPartOrRefuses};
 
     /// The cells of the chunks with the indices in the range, in row-major order over all of them. Where a chunk is
     /// absent they are fill. A range without a chunk has no cell, and asks nothing of the store.
@@ -36,14 +33,8 @@ impl<
         alloc: Global,
         chunks: &ArraySubset,
     ) -> Result<ArrayBytes<'static>, ArrayError>
-        requires { MayAskChunks (layout_of self.now) (positions (box_of chunks.now))
-            (store_of S.state self.now) }
-        ensures cells { IfOk result (λ made. RetrievesChunks (layout_of self.now)
-            (state_of S.state self.now).shape (box_of chunks.now) (data_of made)
-            (store_of S.state self.now)) }
-        ensures refused { IfErr result (λ e. RefusesRetrieveChunks (layout_of self.now)
-            (state_of S.state self.now).shape (box_of chunks.now) (refusal_of e)
-            (store_of S.state self.now)) }
+        requires { MayRetrieveChunks S.state (box_of chunks.now) self.now }
+        ensures { RetrievesChunksOrRefuses S.state (box_of chunks.now) self.now result }
     {
         let region = self.parts.chunks_region(alloc, chunks)?;
         self.read_region(alloc, &region, chunks)
@@ -65,11 +56,8 @@ impl<
         chunk_subset: &ArraySubset,
     ) -> Result<ArrayBytes<'static>, ArrayError>
         requires { MayAskChunk (layout_of self.now) chunk_indices.now (store_of S.state self.now) }
-        ensures cells { IfOk result (λ made. RetrievesPart (layout_of self.now) chunk_indices.now
-            (box_of chunk_subset.now) (data_of made) (store_of S.state self.now)) }
-        ensures refused { IfErr result (λ e. RefusesRetrievePart (layout_of self.now)
-            chunk_indices.now (box_of chunk_subset.now) (refusal_of e)
-            (store_of S.state self.now)) }
+        ensures { RetrievesPartOrRefuses S.state chunk_indices.now (box_of chunk_subset.now) self.now
+            result }
     {
         let chunk = self.parts.chunk_box(alloc, chunk_indices)?;
         let region = self

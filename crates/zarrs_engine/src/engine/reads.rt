@@ -1,8 +1,8 @@
 //! Reads of one chunk.
 use super::Engine;
 use std::alloc::Global;
+use zarrs_chain::ChainTraits;
 use zarrs_chunk_grid::ChunkGridTraits;
-use zarrs_codec::ChainTraits;
 use zarrs_data_type::ArrayBytes;
 use zarrs_keys::ChunkKeyEncodingTraits;
 use zarrs_layout::invalid_indices;
@@ -23,6 +23,7 @@ impl<
     ghost use Rattle.zarrs_steps.specs.Changes.{RetrievesChunk, RetrievesIfExists};
     ghost use Rattle.zarrs_steps.specs.StateRefusals.{RefusesChunkRead};
     ghost use Rattle.zarrs_engine.specs.Engine.{layout_of, store_of};
+    ghost use Rattle.zarrs_engine.specs.Outcomes.{RetrievesChunkOrRefuses, RetrievesIfExistsOrRefuses};
     ghost use Rattle.zarrs_layout.specs.Parts.{RefusesValue};
 
     /// The bytes that are present at the key of the chunk with these indices.
@@ -65,15 +66,7 @@ impl<
         chunk_indices: &[u64],
     ) -> Result<Option<ArrayBytes<'static>>, ArrayError>
         requires { MayAskChunk (layout_of self.now) chunk_indices.now (store_of S.state self.now) }
-        ensures cells { IfOk result
-            (λ found. RetrievesIfExists (layout_of self.now) chunk_indices.now
-            (option_map data_of found) (store_of S.state self.now)) }
-        ensures refused { IfErr result
-            (λ e. RefusesChunkRead (layout_of self.now)
-            (length_refusal (layout_of self.now) chunk_indices.now) false chunk_indices.now
-            (store_of S.state self.now) (refusal_of e)) }
-        ensures refusing { (store_of S.state self.now).refuses
-            ((layout_of self.now).key chunk_indices.now) ≡ true → IsErr result }
+        ensures { RetrievesIfExistsOrRefuses S.state chunk_indices.now self.now result }
     {
         match self.stored_bytes(alloc, chunk_indices)? {
             Some(encoded) => {
@@ -96,15 +89,7 @@ impl<
         chunk_indices: &[u64],
     ) -> Result<ArrayBytes<'static>, ArrayError>
         requires { MayAskChunk (layout_of self.now) chunk_indices.now (store_of S.state self.now) }
-        ensures cells { IfOk result
-            (λ made. RetrievesChunk (layout_of self.now) chunk_indices.now (data_of made)
-            (store_of S.state self.now)) }
-        ensures refused { IfErr result
-            (λ e. RefusesChunkRead (layout_of self.now)
-            (length_refusal (layout_of self.now) chunk_indices.now) true chunk_indices.now
-            (store_of S.state self.now) (refusal_of e)) }
-        ensures refusing { (store_of S.state self.now).refuses
-            ((layout_of self.now).key chunk_indices.now) ≡ true → IsErr result }
+        ensures { RetrievesChunkOrRefuses S.state chunk_indices.now self.now result }
     {
         match self.stored_bytes(alloc, chunk_indices)? {
             Some(encoded) => {

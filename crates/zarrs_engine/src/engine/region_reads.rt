@@ -1,8 +1,8 @@
 //! Reads of regions, which may cross many chunks.
 use super::Engine;
 use std::alloc::Global;
+use zarrs_chain::ChainTraits;
 use zarrs_chunk_grid::ChunkGridTraits;
-use zarrs_codec::ChainTraits;
 use zarrs_data_type::ArrayBytes;
 use zarrs_keys::ChunkKeyEncodingTraits;
 use zarrs_steps::ArrayError;
@@ -22,13 +22,12 @@ impl<
     ghost use Rattle.zarrs_data_type.specs.ArrayData.{data_of};
     ghost use Rattle.zarrs_data_type.specs.Cells.{HasCells};
     ghost use Rattle.zarrs_steps.specs.ArgumentRefusals.{read_size_refusal};
-    ghost use Rattle.zarrs_steps.specs.ChunkBoxes.{chunks_met};
     ghost use Rattle.zarrs_steps.specs.Reach.{MayAskChunk, MayAskChunks};
     ghost use Rattle.zarrs_steps.specs.Reads.{ReadsRegion};
     ghost use Rattle.zarrs_steps.specs.Refusals.{refusal_of};
     ghost use Rattle.zarrs_steps.specs.StateRefusals.{RefusesRegionRead, RefusesSomeChunk};
-    ghost use Rattle.zarrs_steps.specs.Step.{RetrievesRegion, RefusesRetrieveRegion};
-    ghost use Rattle.zarrs_engine.specs.Engine.{layout_of, state_of, store_of};
+    ghost use Rattle.zarrs_engine.specs.Engine.{layout_of, store_of};
+    ghost use Rattle.zarrs_engine.specs.Outcomes.{RetrievesRegionOrRefuses, MayRetrieveRegion};
     ghost use Rattle.zarrs_layout.specs.Covers.{CoverRegion};
     ghost use Rattle.zarrs_engine.specs.RegionReads.{HasRead, ReadsOneMore};
 
@@ -136,15 +135,8 @@ impl<
         alloc: Global,
         array_subset: &ArraySubset,
     ) -> Result<ArrayBytes<'static>, ArrayError>
-        requires { MayAskChunks (layout_of self.now)
-            (chunks_met (layout_of self.now).grid (box_of array_subset.now))
-            (store_of S.state self.now) }
-        ensures cells { IfOk result (λ made. RetrievesRegion (layout_of self.now)
-            (state_of S.state self.now).shape (box_of array_subset.now) (data_of made)
-            (store_of S.state self.now)) }
-        ensures refused { IfErr result (λ e. RefusesRetrieveRegion (layout_of self.now)
-            (state_of S.state self.now).shape (box_of array_subset.now) (refusal_of e)
-            (store_of S.state self.now)) }
+        requires { MayRetrieveRegion S.state (box_of array_subset.now) self.now }
+        ensures { RetrievesRegionOrRefuses S.state (box_of array_subset.now) self.now result }
     {
         let chunks = self.parts.chunks_met(alloc, array_subset)?;
         self.read_region(alloc, array_subset, &chunks)

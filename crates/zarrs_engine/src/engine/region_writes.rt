@@ -1,8 +1,8 @@
 //! Writes of parts of chunks, of ranges of chunks and of regions.
 use super::Engine;
 use std::alloc::Global;
+use zarrs_chain::{ChainTraits, CodecOptions};
 use zarrs_chunk_grid::ChunkGridTraits;
-use zarrs_codec::{ChainTraits, CodecOptions};
 use zarrs_data_type::{ArrayBytes, lies_in_box};
 use zarrs_keys::ChunkKeyEncodingTraits;
 use zarrs_layout::invalid_indices;
@@ -23,15 +23,15 @@ impl<
     ghost use Rattle.zarrs_chunk_grid.specs.Grids.{box_at, has_box};
     ghost use Rattle.zarrs_data_type.specs.ArrayData.{ArrayData, data_of};
     ghost use Rattle.zarrs_data_type.specs.Cells.{HasCells, cells};
-    ghost use Rattle.zarrs_codec.specs.Options.{stores_empty_chunks};
-    ghost use Rattle.zarrs_steps.specs.ChunkBoxes.{chunks_met, part_box};
+    ghost use Rattle.zarrs_chain.specs.Options.{stores_empty_chunks};
     ghost use Rattle.zarrs_steps.specs.Fronts.{StoresAll};
     ghost use Rattle.zarrs_steps.specs.Reach.{MayAskParts};
     ghost use Rattle.zarrs_steps.specs.Refusals.{Refusal, data_refusal, is_too_large, refusal_of};
     ghost use Rattle.zarrs_steps.specs.StateRefusals.{RefusesPart};
-    ghost use Rattle.zarrs_steps.specs.Step.{RefusesStore, StoresChunks, RefusesStoreChunks};
-    ghost use Rattle.zarrs_steps.specs.Step.{StoresPart, RefusesStorePart};
-    ghost use Rattle.zarrs_steps.specs.Step.{StoresRegion, RefusesStoreRegion};
+    ghost use Rattle.zarrs_steps.specs.Step.{RefusesStore};
+    ghost use Rattle.zarrs_engine.specs.Outcomes.{StoresRegionOrRefuses, MayStoreRegion};
+    ghost use Rattle.zarrs_engine.specs.Outcomes.{StoresChunksOrRefuses};
+    ghost use Rattle.zarrs_engine.specs.Outcomes.{StoresPartOrRefuses, MayStorePart};
     ghost use Rattle.zarrs_layout.specs.Covers.{CoverRegion};
     ghost use Rattle.zarrs_layout.specs.Parts.{HasValue};
     ghost use Rattle.zarrs_engine.specs.Engine.{layout_of, state_of, store_of, KeepsParts};
@@ -209,15 +209,8 @@ impl<
         chunks_data: &ArrayBytes<'_>,
         options: &CodecOptions,
     ) -> Result<(), ArrayError>
-        ensures done { OnOk result
-            (StoresChunks (layout_of self.old) (stores_empty_chunks options.now)
-            (box_of chunks.now) (data_of chunks_data.now) (store_of S.state self.old)
-            (store_of S.state self.new)) }
-        ensures refused { IfErr result
-            (λ e. RefusesStoreChunks (layout_of self.old) (stores_empty_chunks options.now)
-            (box_of chunks.now) (data_of chunks_data.now) (refusal_of e)
-            (store_of S.state self.old) (store_of S.state self.new)) }
-        ensures parts { KeepsParts self.old self.new }
+        ensures { StoresChunksOrRefuses S.state (stores_empty_chunks options.now)
+            (box_of chunks.now) (data_of chunks_data.now) self.old self.new result }
     {
         let Ok(number) = chunks.num_elements() else {
             return Err(ArrayError::SizeOverflow);
@@ -251,18 +244,9 @@ impl<
         chunk_subset_data: &ArrayBytes<'_>,
         options: &CodecOptions,
     ) -> Result<(), ArrayError>
-        requires { MayAskParts (layout_of self.old)
-            (part_box (box_at (layout_of self.old).grid chunk_indices.now)
-            (box_of chunk_subset.now)) (chunk_indices.now ∷ []) (store_of S.state self.old) }
-        ensures done { OnOk result
-            (StoresPart (layout_of self.old) (stores_empty_chunks options.now) chunk_indices.now
-            (box_of chunk_subset.now) (data_of chunk_subset_data.now) (store_of S.state self.old)
-            (store_of S.state self.new)) }
-        ensures refused { IfErr result
-            (λ e. RefusesStorePart (layout_of self.old) (stores_empty_chunks options.now)
-            chunk_indices.now (box_of chunk_subset.now) (data_of chunk_subset_data.now)
-            (refusal_of e) (store_of S.state self.old) (store_of S.state self.new)) }
-        ensures parts { KeepsParts self.old self.new }
+        requires { MayStorePart S.state chunk_indices.now (box_of chunk_subset.now) self.old }
+        ensures { StoresPartOrRefuses S.state (stores_empty_chunks options.now) chunk_indices.now
+            (box_of chunk_subset.now) (data_of chunk_subset_data.now) self.old self.new result }
     {
         let dimensions = self.parts.grid.dimensionality();
         if chunk_indices.len() != dimensions {
@@ -296,18 +280,9 @@ impl<
         subset_data: &ArrayBytes<'_>,
         options: &CodecOptions,
     ) -> Result<(), ArrayError>
-        requires { MayAskParts (layout_of self.old) (box_of array_subset.now)
-            (chunks_met (layout_of self.old).grid (box_of array_subset.now))
-            (store_of S.state self.old) }
-        ensures done { OnOk result
-            (StoresRegion (layout_of self.old) (stores_empty_chunks options.now)
-            (state_of S.state self.old).shape (box_of array_subset.now) (data_of subset_data.now)
-            (store_of S.state self.old) (store_of S.state self.new)) }
-        ensures refused { IfErr result
-            (λ e. RefusesStoreRegion (layout_of self.old) (stores_empty_chunks options.now)
-            (state_of S.state self.old).shape (box_of array_subset.now) (data_of subset_data.now)
-            (refusal_of e) (store_of S.state self.old) (store_of S.state self.new)) }
-        ensures parts { KeepsParts self.old self.new }
+        requires { MayStoreRegion S.state (box_of array_subset.now) self.old }
+        ensures { StoresRegionOrRefuses S.state (stores_empty_chunks options.now)
+            (box_of array_subset.now) (data_of subset_data.now) self.old self.new result }
     {
         let chunks = self.parts.chunks_met(alloc, array_subset)?;
         let is_chunk = self.parts.is_one_chunk(alloc, array_subset, &chunks)?;

@@ -1,8 +1,8 @@
 //! Writes of chunks.
 use super::Engine;
 use std::alloc::Global;
+use zarrs_chain::{ChainTraits, CodecOptions};
 use zarrs_chunk_grid::ChunkGridTraits;
-use zarrs_codec::{ChainTraits, CodecOptions};
 use zarrs_data_type::ArrayBytes;
 use zarrs_keys::ChunkKeyEncodingTraits;
 use zarrs_steps::ArrayError;
@@ -20,12 +20,12 @@ impl<
     ghost use Rattle.zarrs_steps.specs.Content.{decoded_cells};
     ghost use Rattle.zarrs_subset.specs.Regions.{box_of};
     ghost use Rattle.zarrs_data_type.specs.ArrayData.{data_of};
-    ghost use Rattle.zarrs_codec.specs.Options.{stores_empty_chunks};
+    ghost use Rattle.zarrs_chain.specs.Options.{stores_empty_chunks};
     ghost use Rattle.zarrs_steps.specs.Refusals.{refusal_of, refusal_of_storage};
     ghost use Rattle.zarrs_steps.specs.Changes.{IsPut};
-    ghost use Rattle.zarrs_steps.specs.Step.{StoresChunk, RefusesStoreChunk, ErasesChunk, RefusesEraseChunk};
-    ghost use Rattle.zarrs_steps.specs.Step.{ErasesChunks, RefusesEraseChunks};
     ghost use Rattle.zarrs_engine.specs.Engine.{layout_of, store_of, KeepsParts};
+    ghost use Rattle.zarrs_engine.specs.Outcomes.{StoresChunkOrRefuses};
+    ghost use Rattle.zarrs_engine.specs.Outcomes.{ErasesChunkOrRefuses, ErasesChunksOrRefuses};
     ghost use Rattle.zarrs_layout.specs.Parts.{RefusesPut};
 
     /// Sets the value at one key, or erases the key, by one writing call of the store.
@@ -69,14 +69,8 @@ impl<
         chunk_data: &ArrayBytes<'_>,
         options: &CodecOptions,
     ) -> Result<(), ArrayError>
-        ensures done { OnOk result
-            (StoresChunk (layout_of self.old) (stores_empty_chunks options.now) chunk_indices.now
-            (data_of chunk_data.now) (store_of S.state self.old) (store_of S.state self.new)) }
-        ensures refused { IfErr result
-            (λ e. RefusesStoreChunk (layout_of self.old) (stores_empty_chunks options.now)
-            chunk_indices.now (data_of chunk_data.now) (refusal_of e) (store_of S.state self.old)
-            (store_of S.state self.new)) }
-        ensures parts { KeepsParts self.old self.new }
+        ensures { StoresChunkOrRefuses S.state (stores_empty_chunks options.now) chunk_indices.now
+            (data_of chunk_data.now) self.old self.new result }
     {
         let chunk = self.parts.chunk(alloc, chunk_indices)?;
         let key = self.parts.chunk_key(alloc, chunk_indices)?;
@@ -118,13 +112,7 @@ impl<
     /// If the store refuses, and `OutOfMemory`. Nothing is changed then.
     pub fn erase_chunk(&mut self, alloc: Global, chunk_indices: &[u64]) -> Result<(), StorageError>
         requires { length chunk_indices.now ≡ (layout_of self.old).grid.dimensions }
-        ensures done { OnOk result
-            (ErasesChunk (layout_of self.old) chunk_indices.now (store_of S.state self.old)
-            (store_of S.state self.new)) }
-        ensures refused { IfErr result
-            (λ e. RefusesEraseChunk (layout_of self.old) chunk_indices.now (refusal_of_storage e)
-            (store_of S.state self.old) (store_of S.state self.new)) }
-        ensures parts { KeepsParts self.old self.new }
+        ensures { ErasesChunkOrRefuses S.state chunk_indices.now self.old self.new result }
     {
         let key = self.parts.chunk_key(alloc, chunk_indices)?;
         self.put(alloc, &key, None)
@@ -137,13 +125,7 @@ impl<
     /// If the store refuses, and `OutOfMemory`. The chunks before that one are gone then, and no later one.
     pub fn erase_chunks(&mut self, alloc: Global, chunks: &ArraySubset) -> Result<(), StorageError>
         requires { length (box_of chunks.now).start ≡ (layout_of self.old).grid.dimensions }
-        ensures done { OnOk result
-            (ErasesChunks (layout_of self.old) (box_of chunks.now) (store_of S.state self.old)
-            (store_of S.state self.new)) }
-        ensures refused { IfErr result
-            (λ e. RefusesEraseChunks (layout_of self.old) (box_of chunks.now)
-            (refusal_of_storage e) (store_of S.state self.old) (store_of S.state self.new)) }
-        ensures parts { KeepsParts self.old self.new }
+        ensures { ErasesChunksOrRefuses S.state (box_of chunks.now) self.old self.new result }
     {
         let Some(mut walk) = chunks.walk(alloc)? else {
             return Ok(());

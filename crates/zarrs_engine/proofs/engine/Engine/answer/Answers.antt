@@ -1,11 +1,11 @@
-use Rattle.std.proofs.Common.{List, ℕ, [], ◌∷◌, IfErr, IfOk, OnOk, true, refl, ap, subst, option_map}
+use Rattle.std.proofs.Common.{List, ℕ, [], ◌∷◌, IfErr, IfOk, OnOk, true, ◌≡◌, refl, ap, subst, sym, option_map}
 use Rattle.zarrs_subset.specs.Regions.{box_of, positions}
 use Rattle.zarrs_chunk_grid.specs.Grids.{box_at, chunks_box}
 use Rattle.zarrs_cells.specs.declared.array_bytes.ArrayBytes.{ArrayBytes}
 use Rattle.zarrs_data_type.specs.ArrayData.{data_of}
-use Rattle.zarrs_codec.specs.Options.{stores_empty_chunks}
-use Rattle.zarrs_steps.specs.Acts.{erase, read, read_chunk, read_part_act, store}
-use Rattle.zarrs_steps.specs.ArgumentRefusals.{read_chunks_refusal, read_part_refusal, read_region_refusal}
+use Rattle.zarrs_chain.specs.Options.{stores_empty_chunks}
+use Rattle.zarrs_steps.specs.Acts.{erase, read, read_chunk, read_part_act, resize, shape_after, store}
+use Rattle.zarrs_steps.specs.ArgumentRefusals.{read_chunks_refusal, read_part_refusal, read_region_refusal, resize_refusal}
 use Rattle.zarrs_steps.specs.ArgumentRefusals.{store_chunk_refusal, store_chunks_refusal, store_part_refusal, store_region_refusal}
 use Rattle.zarrs_steps.specs.Changes.{RetrievesChunk, RetrievesIfExists}
 use Rattle.zarrs_steps.specs.ChunkBoxes.{chunks_met, part_box}
@@ -19,14 +19,18 @@ use Rattle.zarrs_steps.specs.declared.call.Call.{Call}
 use Rattle.zarrs_steps.specs.declared.error.ArrayError.{ArrayError}
 use Rattle.zarrs_engine.specs.Engine.{layout_of, state_of}
 use Rattle.zarrs_layout.proofs.Chunks.{retrieved_length, found_length}
-use Rattle.zarrs_engine.proofs.PartSteps.{part_step, part_refused_step}
+use Rattle.zarrs_engine.proofs.PartSteps.{part_shape, part_step, part_refused_step}
 use Rattle.zarrs_engine.proofs.RegionSteps.{may_ask_chunks}
+use Rattle.zarrs_steps.specs.Cuts.{cut_chunks}
+use Rattle.zarrs_steps.specs.Reach.{MayAskKept}
+use Rattle.zarrs_engine.proofs.Cuts.{keeps_others, may_ask_kept}
 use Rattle.zarrs_engine.proofs.Replies.{cells_step, done_step}
 use Rattle.zarrs_engine.proofs.engine.Engine.answer.Goals as goal
 
 pub returns-in-StoreChunk-clause-step : goal.returns-in-StoreChunk-clause-step
 returns-in-StoreChunk-clause-step g c =
     let layout = layout_of c.args.self.now in
+    let shape = g.G.ChunkGridTraits.array_extents c.args.self.now.parts.grid in
     let keep = stores_empty_chunks c.args.options.now in
     let old = g.S.ReadableStorageTraits.state c.args.self.now.storage in
     let new = g.S.ReadableStorageTraits.state c.store_chunk.new.self.storage in
@@ -36,12 +40,13 @@ returns-in-StoreChunk-clause-step g c =
     let at = c.deref.ensures.value in
     rw c.in-StoreChunk.is (
       ap (λ parts. g.G.ChunkGridTraits.array_extents parts.grid) e.parts,
-      done_step layout keep (store_chunk_refusal layout index held) (store (box_at layout.grid index) held (index ∷ [])) old new c.store_chunk.result c.done.result (subst (λ (i : List ℕ). OnOk c.store_chunk.result (StoresChunk layout keep i held old new)) at e.done) (subst (λ (i : List ℕ). IfErr c.store_chunk.result (λ e. RefusesStoreChunk layout keep i held (refusal_of e) old new)) at e.refused) c.done.ensures.done c.done.ensures.refused,
+      done_step layout keep shape (store_chunk_refusal layout index held) (store (box_at layout.grid index) held (index ∷ [])) old new c.store_chunk.result c.done.result (subst (λ (i : List ℕ). OnOk c.store_chunk.result (StoresChunk layout keep i held old new)) at e.done) (subst (λ (i : List ℕ). IfErr c.store_chunk.result (λ e. RefusesStoreChunk layout keep i held (refusal_of e) old new)) at e.refused) c.done.ensures.done c.done.ensures.refused,
     )
 
 pub returns-in-StoreChunks-clause-step : goal.returns-in-StoreChunks-clause-step
 returns-in-StoreChunks-clause-step g c =
     let layout = layout_of c.args.self.now in
+    let shape = g.G.ChunkGridTraits.array_extents c.args.self.now.parts.grid in
     let keep = stores_empty_chunks c.args.options.now in
     let old = g.S.ReadableStorageTraits.state c.args.self.now.storage in
     let new = g.S.ReadableStorageTraits.state c.store_chunks.new.self.storage in
@@ -50,12 +55,13 @@ returns-in-StoreChunks-clause-step g c =
     let e = c.store_chunks.ensures in
     rw c.in-StoreChunks.is (
       ap (λ parts. g.G.ChunkGridTraits.array_extents parts.grid) e.parts,
-      done_step layout keep (store_chunks_refusal layout range held) (store (chunks_box layout.grid range) held (positions range)) old new c.store_chunks.result c.done-in-StoreChunks.result e.done e.refused c.done-in-StoreChunks.ensures.done c.done-in-StoreChunks.ensures.refused,
+      done_step layout keep shape (store_chunks_refusal layout range held) (store (chunks_box layout.grid range) held (positions range)) old new c.store_chunks.result c.done-in-StoreChunks.result e.done e.refused c.done-in-StoreChunks.ensures.done c.done-in-StoreChunks.ensures.refused,
     )
 
 pub returns-in-StoreChunkSubset-clause-step : goal.returns-in-StoreChunkSubset-clause-step
 returns-in-StoreChunkSubset-clause-step g c =
     let layout = layout_of c.args.self.now in
+    let shape = g.G.ChunkGridTraits.array_extents c.args.self.now.parts.grid in
     let keep = stores_empty_chunks c.args.options.now in
     let old = g.S.ReadableStorageTraits.state c.args.self.now.storage in
     let new = g.S.ReadableStorageTraits.state c.store_chunk_subset.new.self.storage in
@@ -66,7 +72,7 @@ returns-in-StoreChunkSubset-clause-step g c =
     let at = c.deref-in-StoreChunkSubset.ensures.value in
     rw c.in-StoreChunkSubset.is (
       ap (λ parts. g.G.ChunkGridTraits.array_extents parts.grid) e.parts,
-      done_step layout keep (store_part_refusal layout index part held) (store (part_box (box_at layout.grid index) part) held (index ∷ [])) old new c.store_chunk_subset.result c.done-in-StoreChunkSubset.result (subst (λ (i : List ℕ). OnOk c.store_chunk_subset.result (StoresPart layout keep i part held old new)) at e.done) (subst (λ (i : List ℕ). IfErr c.store_chunk_subset.result (λ e. RefusesStorePart layout keep i part held (refusal_of e) old new)) at e.refused) c.done-in-StoreChunkSubset.ensures.done c.done-in-StoreChunkSubset.ensures.refused,
+      done_step layout keep shape (store_part_refusal layout index part held) (store (part_box (box_at layout.grid index) part) held (index ∷ [])) old new c.store_chunk_subset.result c.done-in-StoreChunkSubset.result (subst (λ (i : List ℕ). OnOk c.store_chunk_subset.result (StoresPart layout keep i part held old new)) at e.done) (subst (λ (i : List ℕ). IfErr c.store_chunk_subset.result (λ e. RefusesStorePart layout keep i part held (refusal_of e) old new)) at e.refused) c.done-in-StoreChunkSubset.ensures.done c.done-in-StoreChunkSubset.ensures.refused,
     )
 
 pub returns-in-StoreArraySubset-clause-step : goal.returns-in-StoreArraySubset-clause-step
@@ -81,7 +87,7 @@ returns-in-StoreArraySubset-clause-step g c =
     let e = c.store_array_subset.ensures in
     rw c.in-StoreArraySubset.is (
       ap (λ parts. g.G.ChunkGridTraits.array_extents parts.grid) e.parts,
-      done_step layout keep (store_region_refusal layout shape region held) (store region held (chunks_met layout.grid region)) old new c.store_array_subset.result c.done-in-StoreArraySubset.result e.done e.refused c.done-in-StoreArraySubset.ensures.done c.done-in-StoreArraySubset.ensures.refused,
+      done_step layout keep shape (store_region_refusal layout shape region held) (store region held (chunks_met layout.grid region)) old new c.store_array_subset.result c.done-in-StoreArraySubset.result e.done e.refused c.done-in-StoreArraySubset.ensures.done c.done-in-StoreArraySubset.ensures.refused,
     )
 
 pub returns-in-EraseChunk-clause-step : goal.returns-in-EraseChunk-clause-step
@@ -91,13 +97,14 @@ returns-in-EraseChunk-clause-step g c =
     let old = g.S.ReadableStorageTraits.state c.args.self.now.storage in
     let new = g.S.ReadableStorageTraits.state c.answer_erase_chunk.new.self.storage in
     let e = c.answer_erase_chunk.ensures in
-    let step = subst (λ (i : List ℕ). ActStep layout keep (length_refusal layout i) (erase (i ∷ [])) c.answer_erase_chunk.result old new) c.deref-in-EraseChunk.ensures.value (e.step keep) in
+    let shape = g.G.ChunkGridTraits.array_extents c.args.self.now.parts.grid in
+    let step = subst (λ (i : List ℕ). ActStep layout keep shape (length_refusal layout i) (erase (i ∷ [])) c.answer_erase_chunk.result old new) c.deref-in-EraseChunk.ensures.value (e.step keep shape) in
     rw c.in-EraseChunk.is (ap (λ parts. g.G.ChunkGridTraits.array_extents parts.grid) e.parts, step)
 
 pub returns-in-EraseChunks-clause-step : goal.returns-in-EraseChunks-clause-step
 returns-in-EraseChunks-clause-step g c =
     let e = c.answer_erase_chunks.ensures in
-    rw c.in-EraseChunks.is (ap (λ parts. g.G.ChunkGridTraits.array_extents parts.grid) e.parts, e.step (stores_empty_chunks c.args.options.now))
+    rw c.in-EraseChunks.is (ap (λ parts. g.G.ChunkGridTraits.array_extents parts.grid) e.parts, e.step (stores_empty_chunks c.args.options.now) (g.G.ChunkGridTraits.array_extents c.args.self.now.parts.grid))
 
 pub returns-in-Ok-clause-step : goal.returns-in-Ok-clause-step
 returns-in-Ok-clause-step g c =
@@ -118,6 +125,7 @@ retrieve_array_subset-requires g c =
 pub returns-in-RetrieveChunk-clause-step : goal.returns-in-RetrieveChunk-clause-step
 returns-in-RetrieveChunk-clause-step g c =
     let layout = layout_of c.args.self.now in
+    let shape = g.G.ChunkGridTraits.array_extents c.args.self.now.parts.grid in
     let keep = stores_empty_chunks c.args.options.now in
     let state = g.S.ReadableStorageTraits.state c.args.self.now.storage in
     let index = c.in-RetrieveChunk.chunk_indices.items in
@@ -125,7 +133,7 @@ returns-in-RetrieveChunk-clause-step g c =
     let e = c.retrieve_chunk.ensures in
     rw c.in-RetrieveChunk.is (
       refl,
-      cells_step layout keep (length_refusal layout index) (read_chunk true index) state state c.retrieve_chunk.result c.cells.result (λ (held : ArrayBytes). RetrievesChunk layout index (data_of held) state) (λ (x : ArrayError). RefusesChunkRead layout (length_refusal layout index) true index state (refusal_of x))
+      cells_step layout keep shape (length_refusal layout index) (read_chunk true index) state state c.retrieve_chunk.result c.cells.result (λ (held : ArrayBytes). RetrievesChunk layout index (data_of held) state) (λ (x : ArrayError). RefusesChunkRead layout (length_refusal layout index) true index state (refusal_of x))
           (λ held r. (refl, retrieved_length layout index (data_of held) state r, r))
           (λ x why. (refl, why))
           (subst (λ (i : List ℕ). IfOk c.retrieve_chunk.result (λ (held : ArrayBytes). RetrievesChunk layout i (data_of held) state)) at e.cells)
@@ -143,7 +151,7 @@ returns-in-RetrieveChunks-clause-step g c =
     let e = c.retrieve_chunks.ensures in
     rw c.in-RetrieveChunks.is (
       refl,
-      cells_step layout keep (read_chunks_refusal layout shape range) (read (chunks_box layout.grid range) (positions range)) state state c.retrieve_chunks.result c.cells-in-RetrieveChunks.result (λ (held : ArrayBytes). RetrievesChunks layout shape range (data_of held) state) (λ (x : ArrayError). RefusesRetrieveChunks layout shape range (refusal_of x) state)
+      cells_step layout keep shape (read_chunks_refusal layout shape range) (read (chunks_box layout.grid range) (positions range)) state state c.retrieve_chunks.result c.cells-in-RetrieveChunks.result (λ (held : ArrayBytes). RetrievesChunks layout shape range (data_of held) state) (λ (x : ArrayError). RefusesRetrieveChunks layout shape range (refusal_of x) state)
           (λ held r. (refl, r.0, r.1))
           (λ x why. (refl, why))
           e.cells e.refused c.cells-in-RetrieveChunks.ensures.cells c.cells-in-RetrieveChunks.ensures.refused,
@@ -152,6 +160,7 @@ returns-in-RetrieveChunks-clause-step g c =
 pub returns-in-RetrieveChunkSubset-clause-step : goal.returns-in-RetrieveChunkSubset-clause-step
 returns-in-RetrieveChunkSubset-clause-step g c =
     let layout = layout_of c.args.self.now in
+    let shape = g.G.ChunkGridTraits.array_extents c.args.self.now.parts.grid in
     let keep = stores_empty_chunks c.args.options.now in
     let state = g.S.ReadableStorageTraits.state c.args.self.now.storage in
     let index = c.in-RetrieveChunkSubset.chunk_indices.items in
@@ -159,10 +168,10 @@ returns-in-RetrieveChunkSubset-clause-step g c =
     let at = c.deref-in-RetrieveChunkSubset.ensures.value in
     let e = c.retrieve_chunk_subset.ensures in
     rw c.in-RetrieveChunkSubset.is (
-      refl,
-      cells_step layout keep (read_part_refusal layout index part) (read_part_act layout index part) state state c.retrieve_chunk_subset.result c.cells-in-RetrieveChunkSubset.result (λ (held : ArrayBytes). RetrievesPart layout index part (data_of held) state) (λ (x : ArrayError). RefusesRetrievePart layout index part (refusal_of x) state)
-          (λ held r. part_step layout keep index part state held r)
-          (λ x why. part_refused_step layout keep index part state x why)
+      part_shape layout keep shape index part state c.cells-in-RetrieveChunkSubset.result,
+      cells_step layout keep shape (read_part_refusal layout index part) (read_part_act layout index part) state state c.retrieve_chunk_subset.result c.cells-in-RetrieveChunkSubset.result (λ (held : ArrayBytes). RetrievesPart layout index part (data_of held) state) (λ (x : ArrayError). RefusesRetrievePart layout index part (refusal_of x) state)
+          (λ held r. part_step layout keep shape index part state held r)
+          (λ x why. part_refused_step layout keep shape index part state x why)
           (subst (λ (i : List ℕ). IfOk c.retrieve_chunk_subset.result (λ (held : ArrayBytes). RetrievesPart layout i part (data_of held) state)) at e.cells)
           (subst (λ (i : List ℕ). IfErr c.retrieve_chunk_subset.result (λ (x : ArrayError). RefusesRetrievePart layout i part (refusal_of x) state)) at e.refused)
           c.cells-in-RetrieveChunkSubset.ensures.cells c.cells-in-RetrieveChunkSubset.ensures.refused,
@@ -178,8 +187,47 @@ returns-in-RetrieveArraySubset-clause-step g c =
     let e = c.retrieve_array_subset.ensures in
     rw c.in-RetrieveArraySubset.is (
       refl,
-      cells_step layout keep (read_region_refusal layout shape region) (read region (chunks_met layout.grid region)) state state c.retrieve_array_subset.result c.cells-in-RetrieveArraySubset.result (λ (held : ArrayBytes). RetrievesRegion layout shape region (data_of held) state) (λ (x : ArrayError). RefusesRetrieveRegion layout shape region (refusal_of x) state)
+      cells_step layout keep shape (read_region_refusal layout shape region) (read region (chunks_met layout.grid region)) state state c.retrieve_array_subset.result c.cells-in-RetrieveArraySubset.result (λ (held : ArrayBytes). RetrievesRegion layout shape region (data_of held) state) (λ (x : ArrayError). RefusesRetrieveRegion layout shape region (refusal_of x) state)
           (λ held r. (refl, r.0, r.1))
           (λ x why. (refl, why))
           e.cells e.refused c.cells-in-RetrieveArraySubset.ensures.cells c.cells-in-RetrieveArraySubset.ensures.refused,
+    )
+
+pub returns-in-StoreChunk-clause-others : goal.returns-in-StoreChunk-clause-others
+returns-in-StoreChunk-clause-others g c = keeps_others _ _ c.store_chunk.ensures.parts
+
+pub returns-in-StoreChunks-clause-others : goal.returns-in-StoreChunks-clause-others
+returns-in-StoreChunks-clause-others g c = keeps_others _ _ c.store_chunks.ensures.parts
+
+pub returns-in-StoreChunkSubset-clause-others : goal.returns-in-StoreChunkSubset-clause-others
+returns-in-StoreChunkSubset-clause-others g c = keeps_others _ _ c.store_chunk_subset.ensures.parts
+
+pub returns-in-StoreArraySubset-clause-others : goal.returns-in-StoreArraySubset-clause-others
+returns-in-StoreArraySubset-clause-others g c = keeps_others _ _ c.store_array_subset.ensures.parts
+
+pub returns-in-EraseChunk-clause-others : goal.returns-in-EraseChunk-clause-others
+returns-in-EraseChunk-clause-others g c = keeps_others _ _ c.answer_erase_chunk.ensures.parts
+
+pub returns-in-EraseChunks-clause-others : goal.returns-in-EraseChunks-clause-others
+returns-in-EraseChunks-clause-others g c = keeps_others _ _ c.answer_erase_chunks.ensures.parts
+
+pub answer_resize-requires : goal.answer_resize-requires
+answer_resize-requires g c =
+    let layout = layout_of c.args.self.now in
+    let state = state_of g.S.ReadableStorageTraits.state c.args.self.now in
+    let wanted = c.in-Resize.shape.items in
+    let asked = may_ask_kept layout wanted (cut_chunks layout.grid state.shape wanted) state (subst (λ (call : Call). MayAskCall layout call state) c.in-Resize.is c.requires) in
+    subst (λ (i : List ℕ). MayAskKept layout i (cut_chunks layout.grid state.shape i) state.store) (sym c.deref-in-Resize.ensures.value) asked
+
+pub returns-in-Resize-clause-step : goal.returns-in-Resize-clause-step
+returns-in-Resize-clause-step g c =
+    let layout = layout_of c.args.self.now in
+    let keep = stores_empty_chunks c.args.options.now in
+    let old = state_of g.S.ReadableStorageTraits.state c.args.self.now in
+    let new = state_of g.S.ReadableStorageTraits.state c.answer_resize.new.self in
+    let e = c.answer_resize.ensures in
+    let at = c.deref-in-Resize.ensures.value in
+    rw c.in-Resize.is (
+      subst (λ (i : List ℕ). new.shape ≡ shape_after (resize i) c.answer_resize.result old.shape) at e.shape,
+      subst (λ (i : List ℕ). ActStep layout keep old.shape (resize_refusal layout i) (resize i) c.answer_resize.result old.store new.store) at e.step,
     )

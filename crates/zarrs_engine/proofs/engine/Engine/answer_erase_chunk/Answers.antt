@@ -1,4 +1,4 @@
-use Rattle.std.proofs.Common.{arith}
+use Rattle.std.proofs.Common.{arith, rules}
 use Rattle.zarrs_steps.specs.Refusals.{refusal_of}
 use Rattle.zarrs_engine.specs.Engine.{layout_of}
 use Rattle.zarrs_layout.proofs.Chunks.{refuses_length}
@@ -6,9 +6,14 @@ use Rattle.zarrs_engine.proofs.Writes.{erase_refused}
 use Rattle.zarrs_engine.proofs.engine.Engine.answer_erase_chunk.Goals as goal
 
 pub returns-then-chunk_indices-dimensionality-clause-step : goal.returns-then-chunk_indices-dimensionality-clause-step
-returns-then-chunk_indices-dimensionality-clause-step g c = λ keep.
+returns-then-chunk_indices-dimensionality-clause-step g c = λ keep shape.
     let layout = layout_of c.args.self.now in
     let index = c.args.chunk_indices.now in
     let e = c.invalid_indices.result in
     erase_refused layout index (g.S.ReadableStorageTraits.state c.args.self.now.storage) (refusal_of e)
     (refuses_length layout index e (λ long. c.if-chunk_indices-dimensionality.true (omega (arith, long, c.dimensionality.ensures))) c.invalid_indices.ensures)
+
+pub returns-in-Err-clause-step : goal.returns-in-Err-clause-step
+returns-in-Err-clause-step g c = λ keep shape.
+    let why = c.in-Err.ensures.refused in
+    search (rules, why)

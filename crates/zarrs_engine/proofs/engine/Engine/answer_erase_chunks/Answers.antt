@@ -8,7 +8,7 @@ use Rattle.zarrs_engine.proofs.Ranges.{range_refused}
 use Rattle.zarrs_engine.proofs.engine.Engine.answer_erase_chunks.Goals as goal
 
 pub returns-then-dimensionality-clause-step : goal.returns-then-dimensionality-clause-step
-returns-then-dimensionality-clause-step g c = λ keep.
+returns-then-dimensionality-clause-step g c = λ keep shape.
     let layout = layout_of c.args.self.now in
     let range = box_of c.args.chunks.now in
     let e = c.invalid_indices.result in

@@ -2,7 +2,7 @@ use Rattle.std.proofs.Common.{rules, subst, option_map}
 use Rattle.zarrs_subset.specs.Regions.{Box}
 use Rattle.zarrs_data_type.specs.ArrayData.{data_of}
 use Rattle.zarrs_data_type.specs.Cells.{cells}
-use Rattle.zarrs_codec.specs.Options.{stores_empty_chunks}
+use Rattle.zarrs_chain.specs.Options.{stores_empty_chunks}
 use Rattle.zarrs_steps.specs.Refusals.{RefusesBy, refusal_of, data_refusal}
 use Rattle.zarrs_engine.specs.Engine.{layout_of}
 use Rattle.zarrs_layout.specs.Parts.{HasValue}
@@ -16,15 +16,15 @@ use Rattle.zarrs_steps.proofs.RefusalLemmas.{storage_said}
 use Rattle.zarrs_engine.proofs.Writes.{short_of_memory, store_failed}
 use Rattle.zarrs_engine.proofs.engine.Engine.store_chunk.Goals as goal
 
-pub returns-in_err-chunk-clause-refused : goal.returns-in_err-chunk-clause-refused
-returns-in_err-chunk-clause-refused g c =
+pub returns-in_err-chunk : goal.returns-in_err-chunk
+returns-in_err-chunk g c =
     let layout = layout_of c.args.self.now in
     let why = box_refused layout (stores_empty_chunks c.args.options.now) c.args.chunk_indices.now (data_of c.args.chunk_data.now)
     (g.S.ReadableStorageTraits.state c.args.self.now.storage) (refusal_of c.in_err-chunk.field-0.0) c.in_err-chunk.ensures.refused in
     search (rules, why)
 
-pub returns-in_err-value-clause-refused : goal.returns-in_err-value-clause-refused
-returns-in_err-value-clause-refused g c =
+pub returns-in_err-value : goal.returns-in_err-value
+returns-in_err-value g c =
     let layout = layout_of c.args.self.now in
     let keep = stores_empty_chunks c.args.options.now in
     let index = c.args.chunk_indices.now in
@@ -34,8 +34,8 @@ returns-in_err-value-clause-refused g c =
     (subst (λ (box : Box). RefusesBy (data_refusal layout keep box.shape (cells layout.kind held)) refused) c.in_ok-chunk.ensures.region c.in_err-value.ensures.refused) in
     search (rules, why)
 
-pub returns-clause-done : goal.returns-clause-done
-returns-clause-done g c =
+pub returns : goal.returns
+returns g c =
     let layout = layout_of c.args.self.now in
     let lawful = c.args.self.now.parts.lawful in
     let old = g.S.ReadableStorageTraits.state c.args.self.now.storage in
@@ -44,16 +44,17 @@ returns-clause-done g c =
     let index = c.args.chunk_indices.now in
     let held = data_of c.args.chunk_data.now in
     let value = option_map (λ v. v.items) c.in_ok-value.value in
-    stored_chunk layout lawful keep index held c.in_ok-key.key value old new c.in_ok-chunk.ensures.accepted c.in_ok-key.ensures.key
-    (subst (λ (box : Box). HasValue layout keep box held value) c.in_ok-chunk.ensures.region c.in_ok-value.ensures.value) c.in_ok-put.ensures.done
+    let why = stored_chunk layout lawful keep index held c.in_ok-key.key value old new c.in_ok-chunk.ensures.accepted c.in_ok-key.ensures.key
+    (subst (λ (box : Box). HasValue layout keep box held value) c.in_ok-chunk.ensures.region c.in_ok-value.ensures.value) c.in_ok-put.ensures.done in
+    search (rules, why)
 
-pub returns-in_err-key-clause-refused : goal.returns-in_err-key-clause-refused
-returns-in_err-key-clause-refused g c =
+pub returns-in_err-key : goal.returns-in_err-key
+returns-in_err-key g c =
     let why = short_of_memory (layout_of c.args.self.now) (stores_empty_chunks c.args.options.now) c.args.chunk_indices.now (data_of c.args.chunk_data.now) (g.S.ReadableStorageTraits.state c.args.self.now.storage) in
     search (rules, why)
 
-pub returns-in_err-put-clause-refused : goal.returns-in_err-put-clause-refused
-returns-in_err-put-clause-refused g c =
+pub returns-in_err-put : goal.returns-in_err-put
+returns-in_err-put g c =
     let layout = layout_of c.args.self.now in
     let old = g.S.ReadableStorageTraits.state c.args.self.now.storage in
     let new = g.S.ReadableStorageTraits.state c.put.new.self.storage in

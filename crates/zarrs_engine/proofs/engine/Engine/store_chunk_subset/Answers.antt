@@ -2,7 +2,7 @@ use Rattle.std.proofs.Common.{◌∙◌, Some, rules, ap, sym}
 use Rattle.std.proofs.lemmas.Result.{on_ok_weaker}
 use Rattle.zarrs_subset.specs.Regions.{box_of}
 use Rattle.zarrs_data_type.specs.ArrayData.{data_of}
-use Rattle.zarrs_codec.specs.Options.{stores_empty_chunks}
+use Rattle.zarrs_chain.specs.Options.{stores_empty_chunks}
 use Rattle.zarrs_steps.specs.declared.error.ArrayError.{ArrayError}
 use Rattle.zarrs_steps.specs.Refusals.{dimensionality, refusal_of}
 use Rattle.zarrs_steps.specs.Step.{RefusesStorePart}
@@ -14,8 +14,8 @@ use Rattle.zarrs_engine.proofs.PartStores.{data_refuses, part_chunk, part_length
 use Rattle.zarrs_engine.proofs.Puts.{each_error}
 use Rattle.zarrs_engine.proofs.engine.Engine.store_chunk_subset.Goals as goal
 
-pub returns-then-chunk_indices-dimensions-clause-refused : goal.returns-then-chunk_indices-dimensions-clause-refused
-returns-then-chunk_indices-dimensions-clause-refused g c =
+pub returns-then-chunk_indices-dimensions : goal.returns-then-chunk_indices-dimensions
+returns-then-chunk_indices-dimensions g c =
     let layout = layout_of c.args.self.now in
     let keep = stores_empty_chunks c.args.options.now in
     let state = g.S.ReadableStorageTraits.state c.args.self.now.storage in
@@ -24,10 +24,11 @@ returns-then-chunk_indices-dimensions-clause-refused g c =
     let held = data_of c.args.chunk_subset_data.now in
     let e = c.new-error.result in
     let said = ap (λ n. Some (dimensionality n layout.grid.dimensions)) (sym c.new-error.ensures.got) ∙ ap (λ n. Some (dimensionality e.got n)) (sym (c.new-error.ensures.expected ∙ c.dimensionality-dimensions.ensures)) in
-    part_length layout index part held keep state (dimensionality e.got e.expected) (λ is. c.if-chunk_indices-dimensions.true (is ∙ sym c.dimensionality-dimensions.ensures)) said
+    let why = part_length layout index part held keep state (dimensionality e.got e.expected) (λ is. c.if-chunk_indices-dimensions.true (is ∙ sym c.dimensionality-dimensions.ensures)) said in
+    search (rules, why)
 
-pub returns-in_err-chunk-clause-refused : goal.returns-in_err-chunk-clause-refused
-returns-in_err-chunk-clause-refused g c =
+pub returns-in_err-chunk : goal.returns-in_err-chunk
+returns-in_err-chunk g c =
     let layout = layout_of c.args.self.now in
     let keep = stores_empty_chunks c.args.options.now in
     let state = g.S.ReadableStorageTraits.state c.args.self.now.storage in
@@ -38,8 +39,8 @@ returns-in_err-chunk-clause-refused g c =
     let why = part_chunk layout index part held keep state (refusal_of c.in_err-chunk.field-0.0) long c.in_err-chunk.ensures.refused in
     search (rules, why)
 
-pub returns-in_err-region-clause-refused : goal.returns-in_err-region-clause-refused
-returns-in_err-region-clause-refused g c =
+pub returns-in_err-region : goal.returns-in_err-region
+returns-in_err-region g c =
     let layout = layout_of c.args.self.now in
     let keep = stores_empty_chunks c.args.options.now in
     let state = g.S.ReadableStorageTraits.state c.args.self.now.storage in
@@ -50,8 +51,8 @@ returns-in_err-region-clause-refused g c =
     let why = part_passing layout index part held keep state (refusal_of c.in_err-region.field-0.0) long c.in_ok-chunk.ensures.accepted c.in_err-region.ensures.refused in
     search (rules, why)
 
-pub returns-in_err-check_cells-clause-refused : goal.returns-in_err-check_cells-clause-refused
-returns-in_err-check_cells-clause-refused g c =
+pub returns-in_err-check_cells : goal.returns-in_err-check_cells
+returns-in_err-check_cells g c =
     let layout = layout_of c.args.self.now in
     let keep = stores_empty_chunks c.args.options.now in
     let state = g.S.ReadableStorageTraits.state c.args.self.now.storage in
@@ -99,8 +100,8 @@ store_part-requires-clause-ask g c =
     let region = c.in_ok-region.ensures in
     stored_ask_part layout c.args.self.now.parts.lawful index part (box_of c.in_ok-chunk.chunk) (box_of c.in_ok-region.region) c.args.chunk_subset.now.same_length chunk.region region.part chunk.accepted region.accepted held state c.requires
 
-pub returns-clause-done : goal.returns-clause-done
-returns-clause-done g c =
+pub returns : goal.returns
+returns g c =
     let layout = layout_of c.args.self.now in
     let keep = stores_empty_chunks c.args.options.now in
     let state = g.S.ReadableStorageTraits.state c.args.self.now.storage in
@@ -111,21 +112,11 @@ returns-clause-done g c =
     let region = c.in_ok-region.ensures in
     let new = g.S.ReadableStorageTraits.state c.store_part.new.self.storage in
     let fits = c.in_ok-check_cells.ensures in
-    on_ok_weaker c.store_part.result (takes_part layout c.args.self.now.parts.lawful index part (box_of c.in_ok-chunk.chunk) (box_of c.in_ok-region.region) c.args.chunk_subset.now.same_length chunk.region region.part chunk.accepted region.accepted held c.eq.result c.eq.ensures keep fits.accepted fits.given state new) c.store_part.ensures.done
-
-pub returns-clause-refused : goal.returns-clause-refused
-returns-clause-refused g c =
-    let layout = layout_of c.args.self.now in
-    let keep = stores_empty_chunks c.args.options.now in
-    let state = g.S.ReadableStorageTraits.state c.args.self.now.storage in
-    let index = c.args.chunk_indices.now in
-    let part = box_of c.args.chunk_subset.now in
-    let held = data_of c.args.chunk_subset_data.now in
-    let chunk = c.in_ok-chunk.ensures in
-    let region = c.in_ok-region.ensures in
-    let new = g.S.ReadableStorageTraits.state c.store_part.new.self.storage in
-    let fits = c.in_ok-check_cells.ensures in
-    each_error c.store_part.result (λ (e : ArrayError). LeavesPart layout keep (box_of c.in_ok-region.region) held index (refusal_of e) state new)
-    (λ (e : ArrayError). RefusesStorePart layout keep index part held (refusal_of e) state new)
-    (λ e left. takes_none layout c.args.self.now.parts.lawful index part (box_of c.in_ok-chunk.chunk) (box_of c.in_ok-region.region) c.args.chunk_subset.now.same_length chunk.region region.part chunk.accepted region.accepted held c.eq.result c.eq.ensures keep fits.accepted fits.given state new (refusal_of e) left)
-    c.store_part.ensures.refused
+    record {
+      done = on_ok_weaker c.store_part.result (takes_part layout c.args.self.now.parts.lawful index part (box_of c.in_ok-chunk.chunk) (box_of c.in_ok-region.region) c.args.chunk_subset.now.same_length chunk.region region.part chunk.accepted region.accepted held c.eq.result c.eq.ensures keep fits.accepted fits.given state new) c.store_part.ensures.done;
+      refused = each_error c.store_part.result (λ (e : ArrayError). LeavesPart layout keep (box_of c.in_ok-region.region) held index (refusal_of e) state new)
+          (λ (e : ArrayError). RefusesStorePart layout keep index part held (refusal_of e) state new)
+          (λ e left. takes_none layout c.args.self.now.parts.lawful index part (box_of c.in_ok-chunk.chunk) (box_of c.in_ok-region.region) c.args.chunk_subset.now.same_length chunk.region region.part chunk.accepted region.accepted held c.eq.result c.eq.ensures keep fits.accepted fits.given state new (refusal_of e) left)
+          c.store_part.ensures.refused;
+      parts = c.store_part.ensures.parts;
+    }

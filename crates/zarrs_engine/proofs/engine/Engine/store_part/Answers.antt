@@ -2,7 +2,7 @@ use Rattle.std.proofs.Common.{◌≡◌, ◌∙◌, None, option_map, rules, sub
 use Rattle.zarrs_subset.specs.Regions.{Box, box_of}
 use Rattle.zarrs_data_type.specs.ArrayData.{data_of}
 use Rattle.zarrs_data_type.specs.Cells.{cells}
-use Rattle.zarrs_codec.specs.Options.{stores_empty_chunks}
+use Rattle.zarrs_chain.specs.Options.{stores_empty_chunks}
 use Rattle.zarrs_steps.specs.Refusals.{RefusesBy, data_refusal, refusal_of}
 use Rattle.zarrs_steps.proofs.RefusalLemmas.{box_accepted}
 use Rattle.zarrs_layout.specs.Parts.{HasValue}

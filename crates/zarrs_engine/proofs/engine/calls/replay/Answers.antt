@@ -1,11 +1,13 @@
-use Rattle.std.proofs.Common.{◌≡◌, ◌+◌, Bool, [], ◌∷◌, ◌++◌, take, sym, ◌∙◌, ap, subst, arith}
+use Rattle.std.proofs.Common.{◌≡◌, ◌+◌, Bool, List, [], ◌∷◌, ◌++◌, take, drop, sym, ◌∙◌, ap, subst, arith}
 use Rattle.std.proofs.lemmas.List.{take_more}
-use Rattle.zarrs_codec.specs.Options.{stores_empty_chunks}
+use Rattle.zarrs_chain.specs.Options.{stores_empty_chunks}
 use Rattle.zarrs_steps.specs.Layout.{Layout}
-use Rattle.zarrs_steps.specs.Reach.{MayAskCall}
+use Rattle.zarrs_steps.specs.Reach.{MayAskCall, MayAskCalls}
+use Rattle.zarrs_steps.specs.declared.call.Call.{Call}
+use Rattle.zarrs_engine.proofs.Cuts.{drop_first, others_then}
 use Rattle.zarrs_steps.specs.Step.{Step, Run}
 use Rattle.zarrs_steps.proofs.Steps.{run_keeps, run_decodes, step_reach}
-use Rattle.zarrs_steps.proofs.Runs.{run_push, ask_later, reach_then}
+use Rattle.zarrs_steps.proofs.Runs.{run_push, calls_after, reach_then}
 use Rattle.zarrs_engine.specs.Engine.{layout_of, state_of}
 use Rattle.zarrs_engine.proofs.engine.calls.replay.Goals as goal
 
@@ -15,7 +17,8 @@ answer-reply-requires g c =
     let old = state_of g.S.ReadableStorageTraits.state c.args.engine.now in
     let mid = state_of g.S.ReadableStorageTraits.state c.loop-call.engine in
     let call = c.call-item.result in
-    let asked = ask_later (layout_of c.args.engine.now) call old mid i.shape i.reach (c.requires call (c.loop-call.call-index, c.loop-call-test.true, sym c.call-item.is)) in
+    let rest = drop_first c.args.calls.now c.loop-call.call-index call c.loop-call-test.true c.call-item.is in
+    let asked = (subst (λ (calls : List Call). MayAskCalls (layout_of c.args.engine.now) calls mid) rest i.ask).0 in
     subst (λ (layout : Layout). MayAskCall layout call mid) (sym i.layout) asked
 
 pub loop-call-preserved : goal.loop-call-preserved
@@ -36,9 +39,11 @@ loop-call-preserved g c =
     record {
       run = rw (more, p.items) (run_push layout keep _ _ call c.answer-reply.result old mid new i.run step);
       layout = s.layout ∙ i.layout;
-      parts = s.parts ∙ i.parts;
+      others = others_then _ _ _ i.others s.others;
       reach = reach_then old.store mid.store new.store i.reach (step_reach layout keep _ _ mid new step);
-      shape = step.0 ∙ i.shape;
+      ask =
+          let rest = drop_first calls n call c.loop-call-test.true c.call-item.is in
+          calls_after layout keep call (drop (n + 1) calls) c.answer-reply.result mid new step (step_reach layout keep _ _ mid new step) (subst (λ (calls : List Call). MayAskCalls layout calls mid) rest i.ask);
       count = omega arith;
       room = omega arith;
     }

@@ -1,0 +1,82 @@
+use Rattle.std.proofs.Common.{◌∙◌, option_map, rules, subst, sym}
+use Rattle.zarrs_chain.specs.Options.{stores_empty_chunks}
+use Rattle.zarrs_steps.specs.Refusals.{Refusal, refusal_of, refusal_of_storage}
+use Rattle.zarrs_steps.specs.Cuts.{is_cut, keeps_some}
+use Rattle.zarrs_steps.proofs.RefusalLemmas.{storage_said}
+use Rattle.zarrs_engine.specs.Engine.{layout_of}
+use Rattle.zarrs_engine.specs.Resizes.{LeavesCut}
+use Rattle.zarrs_engine.proofs.Cuts.{cut_answer, cut_has_box, leaves_cut, leaves_cut_memory, no_answer, passes_none, put_fails, puts_cut}
+use Rattle.zarrs_engine.proofs.engine.Engine.cut_chunk.Goals as goal
+
+pub returns-in_default-clause-done : goal.returns-in_default-clause-done
+returns-in_default-clause-done g c =
+    let layout = layout_of c.args.self.now in
+    let index = c.args.chunk_indices.now in
+    let shape = c.args.shape.now in
+    let fails_so = no_answer (is_cut layout.grid shape index) (keeps_some layout.grid shape index) (sym c.in_default.is ∙ c.cut.ensures) in
+    passes_none layout (stores_empty_chunks c.args.options.now) shape index (g.S.ReadableStorageTraits.state c.args.self.now.storage) fails_so
+
+pub cut_value-requires-clause-boxed : goal.cut_value-requires-clause-boxed
+cut_value-requires-clause-boxed g c =
+    let layout = layout_of c.args.self.now in
+    let index = c.args.chunk_indices.now in
+    let shape = c.args.shape.now in
+    let holds_so = cut_answer (is_cut layout.grid shape index) (keeps_some layout.grid shape index) c.in-Some.keeps (sym c.in-Some.is ∙ c.cut.ensures) in
+    cut_has_box layout shape index holds_so.0
+
+pub cut_value-requires-clause-kept : goal.cut_value-requires-clause-kept
+cut_value-requires-clause-kept g c =
+    let layout = layout_of c.args.self.now in
+    let index = c.args.chunk_indices.now in
+    let shape = c.args.shape.now in
+    let holds_so = cut_answer (is_cut layout.grid shape index) (keeps_some layout.grid shape index) c.in-Some.keeps (sym c.in-Some.is ∙ c.cut.ensures) in
+    holds_so.1
+
+pub cut_value-requires-clause-ask : goal.cut_value-requires-clause-ask
+cut_value-requires-clause-ask g c =
+    let layout = layout_of c.args.self.now in
+    let index = c.args.chunk_indices.now in
+    let shape = c.args.shape.now in
+    let holds_so = cut_answer (is_cut layout.grid shape index) (keeps_some layout.grid shape index) c.in-Some.keeps (sym c.in-Some.is ∙ c.cut.ensures) in
+    c.requires.ask holds_so.0
+
+pub returns-in_err-value-clause-refused : goal.returns-in_err-value-clause-refused
+returns-in_err-value-clause-refused g c =
+    let layout = layout_of c.args.self.now in
+    let index = c.args.chunk_indices.now in
+    let shape = c.args.shape.now in
+    let holds_so = cut_answer (is_cut layout.grid shape index) (keeps_some layout.grid shape index) c.in-Some.keeps (sym c.in-Some.is ∙ c.cut.ensures) in
+    let why = leaves_cut layout (stores_empty_chunks c.args.options.now) shape index holds_so.0 (refusal_of c.in_err-value.field-0.0) (g.S.ReadableStorageTraits.state c.args.self.now.storage) c.in_err-value.ensures.refused in
+    search (rules, why)
+
+pub returns-in_err-key-clause-refused : goal.returns-in_err-key-clause-refused
+returns-in_err-key-clause-refused g c =
+    let layout = layout_of c.args.self.now in
+    let index = c.args.chunk_indices.now in
+    let shape = c.args.shape.now in
+    let holds_so = cut_answer (is_cut layout.grid shape index) (keeps_some layout.grid shape index) c.in-Some.keeps (sym c.in-Some.is ∙ c.cut.ensures) in
+    let why = leaves_cut_memory layout (stores_empty_chunks c.args.options.now) shape index holds_so.0 (g.S.ReadableStorageTraits.state c.args.self.now.storage) in
+    search (rules, why)
+
+pub returns-in_err-put-clause-refused : goal.returns-in_err-put-clause-refused
+returns-in_err-put-clause-refused g c =
+    let layout = layout_of c.args.self.now in
+    let keep = stores_empty_chunks c.args.options.now in
+    let index = c.args.chunk_indices.now in
+    let shape = c.args.shape.now in
+    let old = g.S.ReadableStorageTraits.state c.args.self.now.storage in
+    let new = g.S.ReadableStorageTraits.state c.put.new.self.storage in
+    let e = c.in_err-put.field-0.0 in
+    let holds_so = cut_answer (is_cut layout.grid shape index) (keeps_some layout.grid shape index) c.in-Some.keeps (sym c.in-Some.is ∙ c.cut.ensures) in
+    let why = put_fails layout keep shape index holds_so.0 (option_map (λ v. v.items) c.in_ok-value.value) old new (refusal_of_storage e) c.in_ok-value.ensures.value c.in_err-put.ensures.refused in
+    let said = subst (λ (r : Refusal). LeavesCut layout keep shape index r old new) (sym (storage_said e)) why in
+    search (rules, said)
+
+pub returns-clause-done : goal.returns-clause-done
+returns-clause-done g c =
+    let layout = layout_of c.args.self.now in
+    let index = c.args.chunk_indices.now in
+    let shape = c.args.shape.now in
+    let holds_so = cut_answer (is_cut layout.grid shape index) (keeps_some layout.grid shape index) c.in-Some.keeps (sym c.in-Some.is ∙ c.cut.ensures) in
+    puts_cut layout (stores_empty_chunks c.args.options.now) shape index holds_so.0 c.args.self.now.parts.lawful (cut_has_box layout shape index holds_so.0)
+    c.in_ok-key.key (option_map (λ v. v.items) c.in_ok-value.value) (g.S.ReadableStorageTraits.state c.args.self.now.storage) (g.S.ReadableStorageTraits.state c.put.new.self.storage) c.in_ok-key.ensures.key c.in_ok-value.ensures.value c.in_ok-put.ensures.done

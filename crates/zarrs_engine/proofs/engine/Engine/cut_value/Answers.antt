@@ -1,0 +1,85 @@
+use Rattle.std.proofs.Common.{◌≡◌, ◌∙◌, false, None, option_map, rules, subst, sym}
+use Rattle.zarrs_subset.specs.Regions.{Box}
+use Rattle.zarrs_data_type.specs.ArrayData.{data_of}
+use Rattle.zarrs_data_type.specs.Cells.{cells}
+use Rattle.zarrs_chain.specs.Options.{stores_empty_chunks}
+use Rattle.zarrs_steps.specs.Refusals.{RefusesBy, data_refusal, is_too_large, refusal_of}
+use Rattle.zarrs_steps.proofs.Contents.{member}
+use Rattle.zarrs_steps.proofs.RefusalLemmas.{box_accepted}
+use Rattle.zarrs_layout.specs.Parts.{HasValue}
+use Rattle.zarrs_engine.specs.Engine.{layout_of}
+use Rattle.zarrs_engine.proofs.Cuts.{chain_fails, chunk_fails, cut_value_is, refuses_kept, value_gone, value_kept}
+use Rattle.zarrs_engine.proofs.engine.Engine.cut_value.Goals as goal
+
+pub returns-then-not-keeps-clause-value : goal.returns-then-not-keeps-clause-value
+returns-then-not-keeps-clause-value g c =
+    value_gone (layout_of c.args.self.now) (stores_empty_chunks c.args.options.now) c.args.shape.now c.args.chunk_indices.now (g.S.ReadableStorageTraits.state c.args.self.now.storage) c.requires.boxed
+    (sym c.requires.kept ∙ c.if-not-keeps.true)
+
+pub returns-in_err-chunk-clause-refused : goal.returns-in_err-chunk-clause-refused
+returns-in_err-chunk-clause-refused g c =
+    let layout = layout_of c.args.self.now in
+    let keep = stores_empty_chunks c.args.options.now in
+    let state = g.S.ReadableStorageTraits.state c.args.self.now.storage in
+    let index = c.args.chunk_indices.now in
+    let shape = c.args.shape.now in
+    let some = sym c.requires.kept ∙ c.if-not-keeps.false in
+    let r = refusal_of c.in_err-chunk.field-0.0 in
+    let why = refuses_kept layout keep shape index state c.requires.boxed some r (chunk_fails layout keep shape index state c.requires.boxed r c.in_err-chunk.ensures.refused) in
+    search (rules, why)
+
+pub cut_cells-requires-clause-fit : goal.cut_cells-requires-clause-fit
+cut_cells-requires-clause-fit g c =
+    let layout = layout_of c.args.self.now in
+    let fit = (box_accepted layout c.args.chunk_indices.now c.in_ok-chunk.ensures.accepted).1 in
+    subst (λ (b : Box). is_too_large layout b.shape ≡ false) (sym c.in_ok-chunk.ensures.region) fit
+
+pub cut_cells-requires-clause-kept : goal.cut_cells-requires-clause-kept
+cut_cells-requires-clause-kept g c = sym c.requires.kept ∙ c.if-not-keeps.false
+
+pub cut_cells-requires-clause-ask : goal.cut_cells-requires-clause-ask
+cut_cells-requires-clause-ask g c =
+    let some = sym c.requires.kept ∙ c.if-not-keeps.false in
+    c.requires.ask c.args.chunk_indices.now (member c.args.chunk_indices.now) some
+
+pub returns-in_err-data-clause-refused : goal.returns-in_err-data-clause-refused
+returns-in_err-data-clause-refused g c =
+    let layout = layout_of c.args.self.now in
+    let keep = stores_empty_chunks c.args.options.now in
+    let state = g.S.ReadableStorageTraits.state c.args.self.now.storage in
+    let index = c.args.chunk_indices.now in
+    let shape = c.args.shape.now in
+    let some = sym c.requires.kept ∙ c.if-not-keeps.false in
+    let r = refusal_of c.in_err-data.field-0.0 in
+    let why = refuses_kept layout keep shape index state c.requires.boxed some r (c.in_err-data.ensures.refused keep) in
+    search (rules, why)
+
+pub returns-in_err-value-clause-refused : goal.returns-in_err-value-clause-refused
+returns-in_err-value-clause-refused g c =
+    let layout = layout_of c.args.self.now in
+    let keep = stores_empty_chunks c.args.options.now in
+    let state = g.S.ReadableStorageTraits.state c.args.self.now.storage in
+    let index = c.args.chunk_indices.now in
+    let shape = c.args.shape.now in
+    let some = sym c.requires.kept ∙ c.if-not-keeps.false in
+    let fit = (box_accepted layout index c.in_ok-chunk.ensures.accepted).1 in
+    let made = data_of c.in_ok-data.data in
+    let r = refusal_of c.in_err-value.field-0.0 in
+    let said = subst (λ (b : Box). RefusesBy (data_refusal layout keep b.shape (cells layout.kind made)) r) c.in_ok-chunk.ensures.region c.in_err-value.ensures.refused in
+    let why = refuses_kept layout keep shape index state c.requires.boxed some r (chain_fails layout keep shape index state c.requires.boxed fit made c.in_ok-data.ensures.cut r said) in
+    search (rules, why)
+
+pub returns-clause-value : goal.returns-clause-value
+returns-clause-value g c =
+    let layout = layout_of c.args.self.now in
+    let keep = stores_empty_chunks c.args.options.now in
+    let state = g.S.ReadableStorageTraits.state c.args.self.now.storage in
+    let index = c.args.chunk_indices.now in
+    let shape = c.args.shape.now in
+    let some = sym c.requires.kept ∙ c.if-not-keeps.false in
+    let fit = (box_accepted layout index c.in_ok-chunk.ensures.accepted).1 in
+    let made = data_of c.in_ok-data.data in
+    let value = option_map (λ v. v.items) c.in_ok-value.value in
+    let taken = subst (λ (b : Box). data_refusal layout keep b.shape (cells layout.kind made) ≡ None) c.in_ok-chunk.ensures.region c.in_ok-value.ensures.accepted in
+    let has = subst (λ (b : Box). HasValue layout keep b made value) c.in_ok-chunk.ensures.region c.in_ok-value.ensures.value in
+    value_kept layout keep shape index state c.requires.boxed some value (cut_value_is layout keep shape index state c.requires.boxed fit made value c.in_ok-data.ensures.cut taken has)

@@ -1,0 +1,107 @@
+-- What the calls of an engine end in: what was asked is done, or refused. Each is of the state before, the state after and
+-- the result.
+use Rattle.std.specs.Prelude.{◌≡◌, ℕ, Bool, true, false, List, [], ◌∷◌, Option, option_map, Result, OnOk, IfOk, IfErr, IsErr}
+use Rattle.zarrs_subset.specs.Regions.{Box, positions}
+use Rattle.zarrs_storage.specs.Store.{StoreState}
+use Rattle.zarrs_storage.specs.declared.error.StorageError.{StorageError}
+use Rattle.zarrs_chunk_grid.specs.declared.traits.ChunkGridTraits.{Ghosts as GridMeaning}
+use Rattle.zarrs_keys.specs.declared.traits.ChunkKeyEncodingTraits.{Ghosts as KeyMeaning}
+use Rattle.zarrs_chain.specs.declared.traits.ChainTraits.{Ghosts as ChainMeanings}
+use Rattle.zarrs_cells.specs.declared.array_bytes.ArrayBytes.{ArrayBytes}
+use Rattle.zarrs_data_type.specs.ArrayData.{ArrayData, data_of}
+use Rattle.zarrs_chunk_grid.specs.Grids.{box_at}
+use Rattle.zarrs_steps.specs.ChunkBoxes.{chunks_met, part_box}
+use Rattle.zarrs_steps.specs.Step.{RetrievesChunks, RefusesRetrieveChunks, RetrievesPart, RefusesRetrievePart, RetrievesRegion, RefusesRetrieveRegion}
+use Rattle.zarrs_steps.specs.Step.{StoresChunks, RefusesStoreChunks, StoresPart, RefusesStorePart, ErasesChunks, RefusesEraseChunks}
+use Rattle.zarrs_steps.specs.Reach.{MayAskChunks, MayAskParts}
+use Rattle.zarrs_steps.specs.Refusals.{Refusal, refusal_of, refusal_of_storage, length_refusal}
+use Rattle.zarrs_steps.specs.Changes.{RetrievesChunk, RetrievesIfExists}
+use Rattle.zarrs_steps.specs.StateRefusals.{RefusesChunkRead}
+use Rattle.zarrs_steps.specs.Step.{StoresChunk, RefusesStoreChunk, ErasesChunk, RefusesEraseChunk, StoresRegion, RefusesStoreRegion}
+use Rattle.zarrs_steps.specs.declared.error.ArrayError.{ArrayError}
+use Rattle.zarrs_engine.specs.Engine.{layout_of, store_of, state_of, KeepsParts}
+use Rattle.zarrs_engine.specs.declared.engine.Engine.{Engine}
+
+-- a read was made: it returns this data, or is refused
+pub record Reads (returns : ArrayData → Type 0) (refuses : Refusal → Type 0) (result : Result ArrayBytes ArrayError) : Type 0 where
+  pub cells : IfOk result (λ made. returns (data_of made))
+  pub refused : IfErr result (λ e. refuses (refusal_of e))
+
+module _ {S G K C : Type 0} {g : GridMeaning G} {k : KeyMeaning K} {c : ChainMeanings C} where
+  -- A writing call was made: its write is done, or refused by this error. Nothing but the store changed.
+  pub record Writes {E : Type 0} (refusal : E → Refusal) (state : S → StoreState) (does : StoreState → StoreState → Type 0) (refuses : Refusal → StoreState → StoreState → Type 0)
+      (old new : Engine S G K C g k c) (result : Result (Unit {0}) E) : Type 0 where
+    pub done : OnOk result (does (store_of state old) (store_of state new))
+    pub refused : IfErr result (λ e. refuses (refusal e) (store_of state old) (store_of state new))
+    pub parts : KeepsParts old new
+
+  -- a store of one chunk
+  abbrev pub StoresChunkOrRefuses : (S → StoreState) → Bool → List ℕ → ArrayData → Engine S G K C g k c → Engine S G K C g k c → Result (Unit {0}) ArrayError → Type 0
+  StoresChunkOrRefuses state keep index held old = Writes refusal_of state (StoresChunk (layout_of old) keep index held) (RefusesStoreChunk (layout_of old) keep index held) old
+
+  -- a store over the chunks of a range
+  abbrev pub StoresChunksOrRefuses : (S → StoreState) → Bool → Box → ArrayData → Engine S G K C g k c → Engine S G K C g k c → Result (Unit {0}) ArrayError → Type 0
+  StoresChunksOrRefuses state keep range held old = Writes refusal_of state (StoresChunks (layout_of old) keep range held) (RefusesStoreChunks (layout_of old) keep range held) old
+
+  -- a store over a part of a chunk, and that it may be asked for
+  abbrev pub StoresPartOrRefuses : (S → StoreState) → Bool → List ℕ → Box → ArrayData → Engine S G K C g k c → Engine S G K C g k c → Result (Unit {0}) ArrayError → Type 0
+  StoresPartOrRefuses state keep index part held old = Writes refusal_of state (StoresPart (layout_of old) keep index part held) (RefusesStorePart (layout_of old) keep index part held) old
+
+  abbrev pub MayStorePart : (S → StoreState) → List ℕ → Box → Engine S G K C g k c → Type 0
+  MayStorePart state index part engine = MayAskParts (layout_of engine) (part_box (box_at (layout_of engine).grid index) part) (index ∷ []) (store_of state engine)
+
+  -- a store over a region, and that it may be asked for
+  abbrev pub StoresRegionOrRefuses : (S → StoreState) → Bool → Box → ArrayData → Engine S G K C g k c → Engine S G K C g k c → Result (Unit {0}) ArrayError → Type 0
+  StoresRegionOrRefuses state keep region held old =
+      let shape = (state_of state old).shape in
+      Writes refusal_of state (StoresRegion (layout_of old) keep shape region held) (RefusesStoreRegion (layout_of old) keep shape region held) old
+
+  abbrev pub MayStoreRegion : (S → StoreState) → Box → Engine S G K C g k c → Type 0
+  MayStoreRegion state region engine = MayAskParts (layout_of engine) region (chunks_met (layout_of engine).grid region) (store_of state engine)
+
+  -- an erasure of one chunk
+  abbrev pub ErasesChunkOrRefuses : (S → StoreState) → List ℕ → Engine S G K C g k c → Engine S G K C g k c → Result (Unit {0}) StorageError → Type 0
+  ErasesChunkOrRefuses state index old = Writes refusal_of_storage state (ErasesChunk (layout_of old) index) (RefusesEraseChunk (layout_of old) index) old
+
+  -- an erasure of the chunks of a range
+  abbrev pub ErasesChunksOrRefuses : (S → StoreState) → Box → Engine S G K C g k c → Engine S G K C g k c → Result (Unit {0}) StorageError → Type 0
+  ErasesChunksOrRefuses state range old = Writes refusal_of_storage state (ErasesChunks (layout_of old) range) (RefusesEraseChunks (layout_of old) range) old
+
+  -- a read of one chunk: its cells are returned, or the read is refused, as it is where the store refuses the key
+  pub record RetrievesChunkOrRefuses (state : S → StoreState) (index : List ℕ) (engine : Engine S G K C g k c) (result : Result ArrayBytes ArrayError) : Type 0 where
+    pub cells : IfOk result (λ made. RetrievesChunk (layout_of engine) index (data_of made) (store_of state engine))
+    pub refused : IfErr result (λ e. RefusesChunkRead (layout_of engine) (length_refusal (layout_of engine) index) true index (store_of state engine) (refusal_of e))
+    pub refusing : (store_of state engine).refuses ((layout_of engine).key index) ≡ true → IsErr result
+
+  -- the same, if the chunk is present
+  pub record RetrievesIfExistsOrRefuses (state : S → StoreState) (index : List ℕ) (engine : Engine S G K C g k c) (result : Result (Option ArrayBytes) ArrayError) : Type 0 where
+    pub cells : IfOk result (λ found. RetrievesIfExists (layout_of engine) index (option_map data_of found) (store_of state engine))
+    pub refused : IfErr result (λ e. RefusesChunkRead (layout_of engine) (length_refusal (layout_of engine) index) false index (store_of state engine) (refusal_of e))
+    pub refusing : (store_of state engine).refuses ((layout_of engine).key index) ≡ true → IsErr result
+
+  -- of the chunks of a range, and that it may be asked for
+  abbrev pub RetrievesChunksOrRefuses : (S → StoreState) → Box → Engine S G K C g k c → Result ArrayBytes ArrayError → Type 0
+  RetrievesChunksOrRefuses state range engine =
+      let layout = layout_of engine in
+      let now = state_of state engine in
+      Reads (λ held. RetrievesChunks layout now.shape range held now.store) (λ r. RefusesRetrieveChunks layout now.shape range r now.store)
+
+  abbrev pub MayRetrieveChunks : (S → StoreState) → Box → Engine S G K C g k c → Type 0
+  MayRetrieveChunks state range engine = MayAskChunks (layout_of engine) (positions range) (store_of state engine)
+
+  -- of a part of a chunk
+  abbrev pub RetrievesPartOrRefuses : (S → StoreState) → List ℕ → Box → Engine S G K C g k c → Result ArrayBytes ArrayError → Type 0
+  RetrievesPartOrRefuses state index part engine =
+      let layout = layout_of engine in
+      let store = store_of state engine in
+      Reads (λ held. RetrievesPart layout index part held store) (λ r. RefusesRetrievePart layout index part r store)
+
+  -- of a region, and that it may be asked for
+  abbrev pub RetrievesRegionOrRefuses : (S → StoreState) → Box → Engine S G K C g k c → Result ArrayBytes ArrayError → Type 0
+  RetrievesRegionOrRefuses state region engine =
+      let layout = layout_of engine in
+      let now = state_of state engine in
+      Reads (λ held. RetrievesRegion layout now.shape region held now.store) (λ r. RefusesRetrieveRegion layout now.shape region r now.store)
+
+  abbrev pub MayRetrieveRegion : (S → StoreState) → Box → Engine S G K C g k c → Type 0
+  MayRetrieveRegion state region engine = MayAskChunks (layout_of engine) (chunks_met (layout_of engine).grid region) (store_of state engine)

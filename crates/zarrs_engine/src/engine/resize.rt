@@ -1,0 +1,224 @@
+//! Changes of the array's shape.
+use super::Engine;
+use std::alloc::Global;
+use zarrs_chain::{ChainTraits, CodecOptions};
+use zarrs_chunk_grid::ChunkGridTraits;
+use zarrs_data_type::ArrayBytes;
+use zarrs_keys::ChunkKeyEncodingTraits;
+use zarrs_steps::ArrayError;
+use zarrs_storage::WritableStorageTraits;
+use zarrs_subset::{ArrayShape, ArraySubset, IncompatibleDimensionalityError};
+
+impl<
+    S: WritableStorageTraits,
+    G: ChunkGridTraits,
+    K: ChunkKeyEncodingTraits,
+    C: ChainTraits,
+> Engine<S, G, K, C> {
+    ghost use Rattle.std.specs.Prelude.{◌≡◌, true, false, Bool, Option, None, [], ◌∷◌, length};
+    ghost use Rattle.std.specs.Prelude.{IfOk, IfErr, OnOk, option_map};
+    ghost use Rattle.zarrs_subset.specs.Regions.{box_of};
+    ghost use Rattle.zarrs_chunk_grid.specs.Grids.{box_at, has_box};
+    ghost use Rattle.zarrs_data_type.specs.ArrayData.{data_of};
+    ghost use Rattle.zarrs_chain.specs.Options.{stores_empty_chunks};
+    ghost use Rattle.zarrs_steps.specs.Cuts.{cut_chunks, is_cut, keeps_some};
+    ghost use Rattle.zarrs_steps.specs.Reach.{MayAskChunk, MayAskKept};
+    ghost use Rattle.zarrs_steps.specs.Refusals.{Refusal, is_too_large, refusal_of};
+    ghost use Rattle.zarrs_steps.specs.StateRefusals.{RefusesCut, RefusesKeptCut};
+    ghost use Rattle.zarrs_engine.specs.Engine.{layout_of, state_of, store_of, KeepsParts};
+    ghost use Rattle.zarrs_engine.specs.Resizes.{HasCut, HasCutCells, IsCutValue, PassesChunk};
+    ghost use Rattle.zarrs_engine.specs.Resizes.{LeavesCut, LeavesFront};
+
+    /// The cells of a chunk that has some below the shape, after the others became fill. The chunk is read.
+    fn cut_cells(
+        &self,
+        alloc: Global,
+        chunk_indices: &[u64],
+        chunk: &ArraySubset,
+        shape: &[u64],
+    ) -> Result<ArrayBytes<'static>, ArrayError>
+        requires boxed { has_box (layout_of self.now).grid chunk_indices.now ≡ true }
+        requires chunk { box_of chunk.now ≡ box_at (layout_of self.now).grid chunk_indices.now }
+        requires fit { is_too_large (layout_of self.now) (box_of chunk.now).shape ≡ false }
+        requires dimensions { length shape.now ≡ (layout_of self.now).grid.dimensions }
+        requires kept { keeps_some (layout_of self.now).grid shape.now chunk_indices.now ≡ true }
+        requires ask { MayAskChunk (layout_of self.now) chunk_indices.now
+            (store_of S.state self.now) }
+        ensures cut { IfOk result (λ made. HasCutCells (layout_of self.now) shape.now
+            chunk_indices.now (store_of S.state self.now) (data_of made)) }
+        ensures refused { (keep : Bool) → IfErr result (λ e. RefusesKeptCut (layout_of self.now)
+            keep shape.now chunk_indices.now 0 (store_of S.state self.now) (refusal_of e)) }
+    {
+        let held = self.retrieve_chunk(alloc, chunk_indices)?;
+        let kept = chunk.bound(alloc, shape)?;
+        let part = held.extract_array_subset(alloc, &self.parts.data_type, chunk, &kept)?;
+        let filled = self.parts.filled(alloc, chunk)?;
+        let data = filled.update_array_bytes(alloc, &self.parts.data_type, chunk, &part, &kept)?;
+        Ok(data)
+    }
+
+    /// What is to be present at the key of a chunk after it was cut to the shape: nothing if it has no cell below it.
+    fn cut_value(
+        &self,
+        alloc: Global,
+        chunk_indices: &[u64],
+        keeps: bool,
+        shape: &[u64],
+        options: &CodecOptions,
+    ) -> Result<Option<Vec<u8>>, ArrayError>
+        requires boxed { has_box (layout_of self.now).grid chunk_indices.now ≡ true }
+        requires dimensions { length shape.now ≡ (layout_of self.now).grid.dimensions }
+        requires kept { keeps ≡ keeps_some (layout_of self.now).grid shape.now chunk_indices.now }
+        requires ask { MayAskKept (layout_of self.now) shape.now (chunk_indices.now ∷ [])
+            (store_of S.state self.now) }
+        ensures value { IfOk result (λ value. IsCutValue (layout_of self.now)
+            (stores_empty_chunks options.now) shape.now chunk_indices.now
+            (store_of S.state self.now) (option_map (λ v. v.items) value)) }
+        ensures refused { IfErr result (λ e. RefusesCut (layout_of self.now)
+            (stores_empty_chunks options.now) shape.now chunk_indices.now 0
+            (store_of S.state self.now) (refusal_of e)) }
+    {
+        if !keeps {
+            return Ok(None);
+        }
+        let chunk = self.parts.chunk(alloc, chunk_indices)?;
+        let data = self.cut_cells(alloc, chunk_indices, &chunk.region, shape)?;
+        let value = self.parts.value_of_owned(alloc, &chunk, data, options)?;
+        Ok(value)
+    }
+
+    /// Cuts a chunk to the shape if it has a cell that is not below it, by one writing call.
+    fn cut_chunk(
+        &mut self,
+        alloc: Global,
+        chunk_indices: &[u64],
+        shape: &[u64],
+        options: &CodecOptions,
+    ) -> Result<(), ArrayError>
+        requires indices { length chunk_indices.now ≡ (layout_of self.old).grid.dimensions }
+        requires dimensions { length shape.now ≡ (layout_of self.old).grid.dimensions }
+        requires ask { is_cut (layout_of self.old).grid shape.now chunk_indices.now ≡ true
+            → MayAskKept (layout_of self.old) shape.now (chunk_indices.now ∷ [])
+            (store_of S.state self.old) }
+        ensures done { OnOk result (PassesChunk (layout_of self.old)
+            (stores_empty_chunks options.now) shape.now chunk_indices.now
+            (store_of S.state self.old) (store_of S.state self.new)) }
+        ensures refused { IfErr result (λ e. LeavesCut (layout_of self.old)
+            (stores_empty_chunks options.now) shape.now chunk_indices.now (refusal_of e)
+            (store_of S.state self.old) (store_of S.state self.new)) }
+        ensures parts { KeepsParts self.old self.new }
+    {
+        let Some(keeps) = self.parts.cut(chunk_indices, shape) else {
+            return Ok(());
+        };
+        let value = self.cut_value(alloc, chunk_indices, keeps, shape, options)?;
+        let key = self.parts.chunk_key(alloc, chunk_indices)?;
+        self.put(alloc, &key, value)?;
+        Ok(())
+    }
+
+    /// Cuts the chunks of the array that a change of its shape to this one cuts, one after another.
+    fn cut_along(
+        &mut self,
+        alloc: Global,
+        shape: &[u64],
+        options: &CodecOptions,
+    ) -> Result<(), ArrayError>
+        requires dimensions { length shape.now ≡ (layout_of self.old).grid.dimensions }
+        requires ask { MayAskKept (layout_of self.old) shape.now (cut_chunks
+            (layout_of self.old).grid (state_of S.state self.old).shape shape.now)
+            (store_of S.state self.old) }
+        ensures done { OnOk result (HasCut (layout_of self.old) (stores_empty_chunks options.now)
+            shape.now (cut_chunks (layout_of self.old).grid (state_of S.state self.old).shape
+            shape.now) (store_of S.state self.old) (store_of S.state self.new)) }
+        ensures refused { (first : Option Refusal) → first ≡ None → IfErr result
+            (λ e. LeavesFront (layout_of self.old) (stores_empty_chunks options.now) shape.now
+            (cut_chunks (layout_of self.old).grid (state_of S.state self.old).shape shape.now)
+            first (refusal_of e) (store_of S.state self.old) (store_of S.state self.new)) }
+        ensures parts { KeepsParts self.old self.new }
+    {
+        let Some(mut walk) = self.parts.cut_walk(alloc, shape)? else {
+            return Ok(());
+        };
+        loop {
+            self.cut_chunk(alloc, walk.current(), shape, options)?;
+            if !walk.advance() {
+                return Ok(());
+            }
+        }
+    }
+}
+
+impl<
+    S: WritableStorageTraits,
+    G: ChunkGridTraits + Drop,
+    K: ChunkKeyEncodingTraits,
+    C: ChainTraits,
+> Engine<S, G, K, C> {
+    ghost use Rattle.std.specs.Prelude.{◌≡◌, IfErr, OnErr, OnOk};
+    ghost use Rattle.zarrs_chain.specs.Options.{stores_empty_chunks};
+    ghost use Rattle.zarrs_steps.specs.Cuts.{cut_chunks};
+    ghost use Rattle.zarrs_steps.specs.Reach.{MayAskKept};
+    ghost use Rattle.zarrs_steps.specs.Refusals.{refusal_of};
+    ghost use Rattle.zarrs_steps.specs.Step.{ResizesArray, RefusesResize};
+    ghost use Rattle.zarrs_engine.specs.Engine.{layout_of, state_of, store_of, KeepsParts};
+    ghost use Rattle.zarrs_engine.specs.Engine.{KeepsOthers};
+
+    /// Makes the array's shape this one. Of the chunks of the array as it was, in row-major order, each that has a cell
+    /// which is not below the new shape is cut, by one writing call: it is erased if it has no cell below it, else it is
+    /// read, and stored with fill in place of what is cut away. Other chunks are not touched. No metadata is written.
+    ///
+    /// # Errors
+    /// In this order: E10 for another number of dimensions; E28 for a grid whose boxes depend on the array's shape. Then,
+    /// at one of the chunks: E8 for a chunk of more bytes than a `usize` counts; E7 if the store refuses its key; E4 if
+    /// its bytes do not decode; E8 if as many fill values have more bytes than a `usize` counts; E4 if the chain does not
+    /// take it; E8 if its bytes pass a size; E7 if the store refuses the write. E9 may come at any time before the last
+    /// chunk is cut. The chunks before that one are cut then, and no later one, and the array has the shape that it had.
+    pub fn resize(
+        &mut self,
+        alloc: Global,
+        shape: ArrayShape,
+        options: &CodecOptions,
+    ) -> Result<(), ArrayError>
+        requires { MayAskKept (layout_of self.old) shape.items (cut_chunks
+            (layout_of self.old).grid (state_of S.state self.old).shape shape.items)
+            (store_of S.state self.old) }
+        ensures done { OnOk result
+            (ResizesArray (layout_of self.old) (stores_empty_chunks options.now)
+            (state_of S.state self.old).shape shape.items (store_of S.state self.old)
+            (store_of S.state self.new)) }
+        ensures shape { OnOk result ((state_of S.state self.new).shape ≡ shape.items) }
+        ensures refused { IfErr result
+            (λ e. RefusesResize (layout_of self.old) (stores_empty_chunks options.now)
+            (state_of S.state self.old).shape shape.items (refusal_of e)
+            (store_of S.state self.old) (store_of S.state self.new)) }
+        ensures layout { layout_of self.new ≡ layout_of self.old }
+        ensures others { KeepsOthers self.old self.new }
+        ensures parts { OnErr result (KeepsParts self.old self.new) }
+    {
+        let dimensions = self.parts.grid.dimensionality();
+        if shape.len() != dimensions {
+            let error = IncompatibleDimensionalityError::new(shape.len(), dimensions);
+            return Err(ArrayError::IncompatibleDimensionalityError(error));
+        }
+        let Some(grid) = self.parts.grid.resized(alloc, shape)? else {
+            return Err(unsupported_resize(alloc));
+        };
+        self.cut_along(alloc, grid.array_shape(), options)?;
+        self.set_chunk_grid(grid);
+        Ok(())
+    }
+}
+
+ghost use Rattle.std.specs.Prelude.{Some};
+ghost use Rattle.zarrs_steps.specs.Refusals.{RefusesBy, refusal_of, unsupported};
+
+/// The refusal of a change of the shape of an array whose grid's boxes depend on it.
+fn unsupported_resize(alloc: Global) -> ArrayError
+    ensures { RefusesBy (Some unsupported) (refusal_of result) }
+{
+    match String::from_str(alloc, "resize") {
+        Ok(method) => ArrayError::UnsupportedMethod(method),
+        Err(_) => ArrayError::OutOfMemory,
+    }
+}
