@@ -7,7 +7,7 @@ use Rattle.zarrs_codec_array.specs.Metadata.{array_codec_data}
 use Rattle.zarrs_codec_array.specs.declared.array.ArrayToArrayCodec.{ArrayToArrayCodec}
 use Rattle.zarrs_codec_array.specs.declared.array.ArrayToArrayCodec.TheVariants as array_codec
 use Rattle.zarrs_codec_leaf.specs.Leaf.{LeafMeaning}
-use Rattle.zarrs_codec.specs.Chain.{ChainMeaning}
+use Rattle.zarrs_chain.specs.Chain.{ChainMeaning}
 use Rattle.zarrs_codec.specs.Chains.{array_to_array_of, array_to_bytes_of, chain_meaning, leaf_meaning, mask_meaning, whole_chunk}
 use Rattle.zarrs_codec.specs.Metadata.{mask_codec_data, bytes_codec_data, chain_data}
 use Rattle.zarrs_codec.specs.Optional.{optional_meaning}

@@ -7,3 +7,6 @@ pub mod Regridded
 mod Short
 mod Apart
 mod Reopened
+mod Upgrade
+mod Counts
+mod Upgraded

@@ -1,9 +1,12 @@
 -- Writing calls one after another.
-use Rattle.std.proofs.Common.{◌≡◌, inl, inr, ℕ, List, [], ◌∷◌, ◌++◌, refl, sym, subst, ◌∙◌, arith}
+use Rattle.std.proofs.Common.{◌≡◌, ◌≢◌, inl, inr, ℕ, List, [], ◌∷◌, ◌++◌, refl, sym, subst, ◌∙◌, arith}
 use Rattle.std.proofs.lemmas.List.{append-nil, append_assoc}
 use Rattle.zarrs_storage.specs.Store.{StoreState, KeepsReach}
 use Rattle.zarrs_keys.specs.Keys.{v3_name, v2_array_name, v2_attributes_name, IsMetadataName}
 use Rattle.zarrs_keys.specs.Paths.{path_key}
+use Rattle.zarrs_document_v2.specs.View.{MetadataData, v3, v2}
+use Rattle.zarrs_options.specs.declared.versions.MetadataEraseVersion.{MetadataEraseVersion}
+use Rattle.zarrs_options.specs.declared.versions.MetadataEraseVersion.TheVariants as erase
 use Rattle.zarrs_options.specs.declared.versions.MetadataRetrieveVersion.{MetadataRetrieveVersion}
 use Rattle.zarrs_options.specs.declared.versions.MetadataRetrieveVersion.TheVariants as retrieve
 use Rattle.zarrs_array_metadata.specs.Opening.{MayAskKey, MayAskV2, MayAskMetadata, MayAskEachMetadata}
@@ -11,7 +14,7 @@ use Rattle.zarrs_steps.specs.Changes.{IsPut}
 use Rattle.zarrs_steps.specs.Refusals.{Refusal, out_of_memory}
 use Rattle.zarrs_steps.proofs.RefusalLemmas.{makes_none}
 use Rattle.zarrs_layout.specs.Parts.{RefusesPut}
-use Rattle.zarrs_array_metadata.specs.Writing.{Put}
+use Rattle.zarrs_array_metadata.specs.Writing.{Put, erasures}
 use Rattle.zarrs.specs.Puts.{ArePut, RefusesPuts}
 
 -- out of memory before any call
@@ -25,12 +28,12 @@ put_short state = record {
   cause = tt;
 }
 
-pub puts_short : (puts : List Put) (state : StoreState) → RefusesPuts puts out_of_memory state state
-puts_short puts state = record {
+pub puts_short : (puts : List Put) (state : StoreState) → puts ≢ [] → RefusesPuts puts out_of_memory state state
+puts_short puts state some = record {
   done = [];
   left = puts;
   all = refl;
-  none_left = λ none. refl;
+  some_left = some;
   middle = state;
   front = refl;
   refused = put_short state;
@@ -62,7 +65,7 @@ put_refused puts left p r old middle new so refused = record {
   done = so.done;
   left = p ∷ left;
   all = so.all;
-  none_left = λ none. absurd (cc none);
+  some_left = λ none. cc;
   middle = middle;
   front = so.front;
   refused = refused;
@@ -70,6 +73,14 @@ put_refused puts left p r old middle new so refused = record {
 
 pub put_last : (puts : List Put) (old new : StoreState) → Putting puts [] old new → ArePut puts old new
 put_last puts old new so = subst (λ (ps : List Put). ArePut ps old new) (sym (so.all ∙ append-nil so.done)) so.front
+
+-- something is erased, whichever the version
+pub some_erased : (version : MetadataEraseVersion) (path : List ℕ) (m : MetadataData) → erasures version path m ≢ []
+some_erased erase.Default path (v3 m) none = cc
+some_erased erase.Default path (v2 m) none = cc
+some_erased erase.All path m none = cc
+some_erased erase.V3 path m none = cc
+some_erased erase.V2 path m none = cc
 
 -- what may be asked stays
 pub reach_after : (puts : List Put) (old new : StoreState) → ArePut puts old new → KeepsReach old new

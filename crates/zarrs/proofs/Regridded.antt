@@ -1,20 +1,34 @@
 -- An array with another grid is one that its new metadata says.
-use Rattle.std.proofs.Common.{◌≡◌, ℕ, List, Ok, ap, sym, ◌∙◌}
+use Rattle.std.proofs.Common.{◌≡◌, ℕ, List, length, Some, Ok, refl, ap, sym, ◌∙◌}
 use Rattle.std.specs.Result.{result_ok}
 use Rattle.zarrs_keys.specs.declared.encodings.ChunkKeyEncoding.{ChunkKeyEncoding}
 use Rattle.zarrs_keys.specs.declared.traits.ChunkKeyEncodingTraits.{Ghosts as KeyMeaning}
 use Rattle.zarrs_chunk_grid.specs.GridView.{configuration_of, array_extents_of}
+use Rattle.zarrs_chunk_grid.specs.Configurations.{GridConfiguration}
+use Rattle.zarrs_chunk_grid.specs.Metadata.{configuration_said, extension_of_grid}
 use Rattle.zarrs_chunk_grid.specs.declared.grid.ChunkGrid.{ChunkGrid}
 use Rattle.zarrs_chunk_grid.specs.declared.traits.ChunkGridTraits.{Ghosts as GridMeaning}
+use Rattle.zarrs_chunk_grid.proofs.MetadataLemmas.{said_back}
 use Rattle.zarrs_codec.specs.declared.chain.CodecChain.{CodecChain}
-use Rattle.zarrs_codec.specs.declared.traits.ChainTraits.{Ghosts as ChainMeanings}
-use Rattle.zarrs_document_v2.specs.View.{MetadataData, metadata_view}
+use Rattle.zarrs_chain.specs.declared.traits.ChainTraits.{Ghosts as ChainMeanings}
+use Rattle.zarrs_document_v2.specs.View.{MetadataData, v3, v2, metadata_view}
 use Rattle.zarrs_document_v2.specs.declared.versions.ArrayMetadata.{ArrayMetadata}
-use Rattle.zarrs_engine.specs.Engine.{keys_of, chain_of, data_type_of, fill_value_of, GivesGrid}
+use Rattle.zarrs_engine.specs.Engine.{grid_of, keys_of, chain_of, data_type_of, fill_value_of, GivesGrid, KeepsOthers, KeepsParts}
 use Rattle.zarrs_engine.specs.declared.engine.Engine.{Engine}
-use Rattle.zarrs_array_metadata.specs.Meanings.{Meaning, meaning_with}
-use Rattle.zarrs_array_metadata.proofs.Grids.{cut_by, IsCutAnew}
+use Rattle.zarrs_array_metadata.specs.Changes.{with_shape}
+use Rattle.zarrs_array_metadata.specs.Meanings.{Meaning, meaning_with, creation, shape_said}
+use Rattle.zarrs_array_metadata.proofs.Grids.{cut_by, IsCutAnew, own_grid, resized_dimensions, is_resized}
 use Rattle.zarrs.specs.Agreement.{meaning_of, Agrees}
+
+-- grids that are written in the same way have the same name and sizes
+pub one_configuration : (a b : ChunkGrid) → extension_of_grid (configuration_of a) ≡ extension_of_grid (configuration_of b) → configuration_of a ≡ configuration_of b
+one_configuration a b same =
+    let both : Some (configuration_of a) ≡ Some (configuration_of b) = sym (said_back a) ∙ ap configuration_said same ∙ said_back b in
+    cc
+
+own_shape : (m : MetadataData) → m ≡ with_shape (shape_said m) m
+own_shape (v3 m) = refl
+own_shape (v2 m) = refl
 
 module _ {g : GridMeaning ChunkGrid} {k : KeyMeaning ChunkKeyEncoding} {c : ChainMeanings CodecChain} {S : Type 0} where
   -- the parts of an engine that was given a grid
@@ -31,3 +45,28 @@ module _ {g : GridMeaning ChunkGrid} {k : KeyMeaning ChunkKeyEncoding} {c : Chai
       → GivesGrid given old new → IsCutAnew m (metadata_view n) (meaning_of old) shape (configuration_of given) → array_extents_of given ≡ shape → Agrees new n
   agrees_after given old new m n shape gives cut over =
       ap result_ok (cut.says ∙ ap (λ (s : List ℕ). Ok (cut_by s (configuration_of given) (meaning_of old))) (sym over) ∙ ap (λ (p : Meaning). Ok p) (sym (meaning_after given old new gives)))
+
+  -- ---- after a change of the shape
+
+  module _ (m : MetadataData) (old new : Engine S ChunkGrid ChunkKeyEncoding CodecChain g k c) (made : creation m ≡ Ok (meaning_of old)) where
+    module _ (others : KeepsOthers old new) (same : configuration_of (grid_of new) ≡ configuration_of (grid_of old)) where
+      meaning_resized : meaning_of new ≡ cut_by (array_extents_of (grid_of new)) (configuration_of (grid_of new)) (meaning_of old)
+      meaning_resized =
+          ap (λ x. meaning_with (grid_of new) x (chain_of new) (data_type_of new) (fill_value_of new)) others.keys
+          ∙ ap (λ x. meaning_with (grid_of new) (keys_of old) x (data_type_of new) (fill_value_of new)) others.chain
+          ∙ ap (λ x. meaning_with (grid_of new) (keys_of old) (chain_of old) x (fill_value_of new)) others.data_type
+          ∙ ap (λ x. meaning_with (grid_of new) (keys_of old) (chain_of old) (data_type_of old) x) others.fill_value
+
+      -- the metadata takes the shape that the grid has
+      pub shape_fits : length (array_extents_of (grid_of new)) ≡ length (shape_said m)
+      shape_fits = resized_dimensions m (meaning_of old) (grid_of new) made same
+
+      -- and says the parts then
+      pub agrees_resized : (n : ArrayMetadata) → metadata_view n ≡ with_shape (array_extents_of (grid_of new)) m → Agrees new n
+      agrees_resized n is =
+          ap result_ok (ap creation is ∙ (is_resized m (meaning_of old) (grid_of new) made same).says ∙ ap (λ (p : Meaning). Ok p) (sym meaning_resized))
+
+    -- a grid that stays has the shape that the metadata has
+    pub shape_kept : KeepsParts old new → m ≡ with_shape (array_extents_of (grid_of new)) m
+    shape_kept kept =
+        own_shape m ∙ ap (λ (s : List ℕ). with_shape s m) (sym (own_grid m (meaning_of old) made).1) ∙ ap (λ x. with_shape (array_extents_of x.grid) m) (sym kept)

@@ -6,7 +6,7 @@ use Rattle.zarrs_keys.specs.declared.traits.ChunkKeyEncodingTraits.{Ghosts as Ke
 use Rattle.zarrs_chunk_grid.specs.declared.grid.ChunkGrid.{ChunkGrid}
 use Rattle.zarrs_chunk_grid.specs.declared.traits.ChunkGridTraits.{Ghosts as GridMeaning}
 use Rattle.zarrs_codec.specs.declared.chain.CodecChain.{CodecChain}
-use Rattle.zarrs_codec.specs.declared.traits.ChainTraits.{Ghosts as ChainMeanings}
+use Rattle.zarrs_chain.specs.declared.traits.ChainTraits.{Ghosts as ChainMeanings}
 use Rattle.zarrs_engine.specs.Engine.{grid_of, keys_of, chain_of, data_type_of, fill_value_of}
 use Rattle.zarrs_engine.specs.declared.engine.Engine.{Engine}
 use Rattle.zarrs_array_metadata.specs.Meanings.{Meaning, meaning_with, Says}

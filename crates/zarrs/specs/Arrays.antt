@@ -2,11 +2,13 @@
 use Rattle.std.specs.Prelude.{◌≡◌, ℕ, List, false}
 use Rattle.zarrs_storage.specs.Store.{StoreState}
 use Rattle.zarrs_document_v2.specs.View.{MetadataData, metadata_view}
-use Rattle.zarrs_codec.specs.Options.{stores_empty_chunks, encodes_partially}
-use Rattle.zarrs_codec.specs.declared.options.CodecOptions.{CodecOptions}
+use Rattle.zarrs_chain.specs.Options.{stores_empty_chunks, encodes_partially}
+use Rattle.zarrs_chain.specs.declared.options.CodecOptions.{CodecOptions}
 use Rattle.zarrs_options.specs.Options.{MetadataOptionsData, options_view, default_options}
 use Rattle.zarrs_steps.specs.Layout.{Layout, ArrayState}
-use Rattle.zarrs_engine.specs.Engine.{layout_of, the_store, store_of, state_of, path_of, grid_of, KeepsParts, GivesGrid}
+use Rattle.zarrs_engine.specs.Engine.{layout_of, the_store, store_of, state_of, path_of, grid_of, KeepsOthers, KeepsParts, GivesGrid}
+use Rattle.zarrs_chunk_grid.specs.GridView.{array_extents_of}
+use Rattle.zarrs_array_metadata.specs.Changes.{with_shape}
 use Rattle.zarrs_array_metadata.specs.Meanings.{Meaning}
 use Rattle.zarrs.specs.Agreement.{meaning_of}
 use Rattle.zarrs.specs.declared.array.Array.{Array}
@@ -51,6 +53,19 @@ module _ {S : Type 0} where
   pub record KeepsArray (old new : Array S) : Type 0 where
     pub parts : KeepsParts old.engine new.engine
     pub metadata : new.metadata ≡ old.metadata
+    pub codec_options : new.codec_options ≡ old.codec_options
+    pub metadata_options : new.metadata_options ≡ old.metadata_options
+
+  -- nothing but the store and the shape changed: the metadata has the shape that the grid has
+  pub record KeepsAllButShape (old new : Array S) : Type 0 where
+    pub others : KeepsOthers old.engine new.engine
+    pub metadata : metadata_of_array new ≡ with_shape (array_extents_of (grid_of new.engine)) (metadata_of_array old)
+    pub codec_options : new.codec_options ≡ old.codec_options
+    pub metadata_options : new.metadata_options ≡ old.metadata_options
+
+  -- nothing but the store and the metadata changed
+  pub record KeepsAllButDocument (old new : Array S) : Type 0 where
+    pub parts : KeepsParts old.engine new.engine
     pub codec_options : new.codec_options ≡ old.codec_options
     pub metadata_options : new.metadata_options ≡ old.metadata_options
 

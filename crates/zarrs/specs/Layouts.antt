@@ -10,7 +10,7 @@ use Rattle.zarrs_codec_leaf.specs.Leaf.{LeafMeaning}
 use Rattle.zarrs_codec_leaf.specs.PackBits.{packbits_meaning}
 use Rattle.zarrs_codec_leaf.specs.Vlen.{vlen_meaning}
 use Rattle.zarrs_codec_leaf.specs.VlenStrings.{vlen_utf8_meaning, vlen_bytes_meaning}
-use Rattle.zarrs_codec.specs.Chain.{ChainMeaning}
+use Rattle.zarrs_chain.specs.Chain.{ChainMeaning}
 use Rattle.zarrs_codec.specs.Chains.{whole_chunk}
 use Rattle.zarrs_codec.specs.Metadata.{ChainData, BytesCodecData, MaskCodecData}
 use Rattle.zarrs_codec.specs.Metadata as coding

@@ -9,3 +9,6 @@ pub mod Setters
 pub mod Lending
 pub mod Elements
 pub mod Reopening
+pub mod Outcomes
+pub mod Upgrade
+pub mod Counts

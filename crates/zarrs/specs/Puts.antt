@@ -1,8 +1,8 @@
 -- What calls on the metadata of an array do in its store.
-use Rattle.std.specs.Prelude.{◌≡◌, ◌⊎◌, ℕ, List, [], ◌∷◌, ◌++◌, Ok}
+use Rattle.std.specs.Prelude.{◌≡◌, ◌≢◌, ◌⊎◌, ℕ, List, [], ◌∷◌, ◌++◌, Ok}
 use Rattle.zarrs_storage.specs.Store.{StoreState}
 use Rattle.zarrs_steps.specs.Changes.{IsPut}
-use Rattle.zarrs_steps.specs.Refusals.{Refusal, out_of_memory}
+use Rattle.zarrs_steps.specs.Refusals.{Refusal}
 use Rattle.zarrs_layout.specs.Parts.{RefusesPut}
 use Rattle.zarrs_document_v2.specs.View.{MetadataData}
 use Rattle.zarrs_options.specs.Options.{MetadataOptionsData}
@@ -20,12 +20,12 @@ abbrev pub ArePut : List Put → StoreState → StoreState → Type 0
 ArePut [] old new = new ≡ old
 ArePut (p ∷ puts) old new = PutsFirst p (λ middle. ArePut puts middle new) old
 
--- a front of these is put, and the next one is refused; if none is left to be put, only memory is short
+-- a front of these is put, and the next one is refused: there is one left to be put
 pub record RefusesPuts (puts : List Put) (refusal : Refusal) (old new : StoreState) : Type 0 where
   pub done : List Put
   pub left : List Put
   pub all : puts ≡ done ++ left
-  pub none_left : left ≡ [] → refusal ≡ out_of_memory
+  pub some_left : left ≢ []
   pub middle : StoreState
   pub front : ArePut done old middle
   pub refused : RefusesPut refusal middle new

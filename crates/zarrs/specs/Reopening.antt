@@ -1,7 +1,7 @@
 -- Why an array that is stored is not opened again.
 use Rattle.std.specs.Prelude.{◌≡◌, ◌⊎◌, ℕ, List}
 use Rattle.zarrs_storage.specs.Store.{StoreState}
-use Rattle.zarrs_steps.specs.Refusals.{Refusal}
+use Rattle.zarrs_steps.specs.Refusals as refusals
 use Rattle.zarrs_document_v2.specs.View.{MetadataData}
 use Rattle.zarrs_options.specs.Options.{MetadataOptionsData}
 use Rattle.zarrs_options.specs.Refusals.{CreateRefusal, storage, out_of_memory, RefusesCreation}
@@ -11,9 +11,8 @@ use Rattle.zarrs.specs.Puts.{StoresMetadata, RefusesStoreMetadata}
 
 -- the store refused what writes its metadata
 pub record IsNotStored (o : MetadataOptionsData) (path : List ℕ) (m : MetadataData) (r : CreateRefusal) (old : StoreState) : Type 0 where
-  pub refusal : Refusal
   pub new : StoreState
-  pub refused : RefusesStoreMetadata o path m refusal old new
+  pub refused : RefusesStoreMetadata o path m refusals.storage old new
   pub is : r ≡ storage
 
 -- its metadata is not stored

@@ -10,7 +10,9 @@ mod options;
 mod part_reads;
 mod queries;
 mod reads;
+mod resize;
 mod setters;
+mod upgrade;
 mod versions;
 mod writes;
 

@@ -6,6 +6,8 @@ ghost use Rattle.zarrs.specs.Layouts.{layout_meant};
 ghost use Rattle.zarrs.specs.Laws.{WrittenMetadataOpens, NormalMetadataSaysTheSame};
 ghost use Rattle.zarrs.specs.Laws.{ConvertedMetadataSaysTheSame, ShownMetadataSaysTheSame};
 ghost use Rattle.zarrs.specs.Laws.{MetadataCallsLeaveContent, CallsLeaveMetadata};
+ghost use Rattle.zarrs.specs.Counts.{StoringCounts, ErasingCounts, UpgradingCounts};
+ghost use Rattle.zarrs.specs.Upgrade.{UpgradesOpen, UpgradesLeaveContent};
 ghost use Rattle.zarrs.specs.Arrays.{metadata_of_array, meaning_of_array, layout_of_array, path_of_array};
 
 use crate::array::Array;
@@ -46,7 +48,26 @@ pub fn metadata_calls_leave_content()
     ensures { MetadataCallsLeaveContent }
 {}
 
+/// If they are accepted, none of their writing calls fails: storing the metadata makes one of V3 and two of V2, erasing it
+/// one to three, by the version, and an upgrade three of V2 and none of V3.
+pub fn metadata_calls_count()
+    ensures stores { StoringCounts }
+    ensures erases { ErasingCounts }
+    ensures upgrades { UpgradingCounts }
+{}
+
 /// Calls on chunks and regions, accepted or refused, leave the values at the keys of the metadata.
 pub fn calls_leave_metadata()
     ensures { CallsLeaveMetadata }
+{}
+
+/// After each front of an upgrade from V2 to V3 an array of the same parts opens at its path, of V2 metadata before the
+/// first writing call, of V3 metadata after it.
+pub fn upgrades_open()
+    ensures { UpgradesOpen }
+{}
+
+/// No front of an upgrade changes a cell of the array.
+pub fn upgrades_leave_content()
+    ensures { UpgradesLeaveContent }
 {}

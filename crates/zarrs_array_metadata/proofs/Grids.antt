@@ -11,7 +11,7 @@ use Rattle.zarrs_chunk_grid.specs.Configurations.{GridConfiguration, regular, bo
 use Rattle.zarrs_chunk_grid.specs.GridView.{configuration_of, array_extents_of}
 use Rattle.zarrs_chunk_grid.specs.Metadata.{configuration_said, over_shape, grid_said, extension_of_grid}
 use Rattle.zarrs_chunk_grid.specs.declared.grid.ChunkGrid.{ChunkGrid}
-use Rattle.zarrs_chunk_grid.proofs.ConfigurationLemmas.{own_taken}
+use Rattle.zarrs_chunk_grid.proofs.ConfigurationLemmas.{own_taken, said_taken}
 use Rattle.zarrs_chunk_grid.proofs.MetadataLemmas.{said_back}
 use Rattle.zarrs_keys.specs.Metadata.{key_encoding_of}
 use Rattle.zarrs_types.specs.FillMetadata.{fill_said}
@@ -20,7 +20,7 @@ use Rattle.zarrs_codec.specs.Metadata.{chain_said}
 use Rattle.zarrs_options.specs.Given.{regular_extension}
 use Rattle.zarrs_options.specs.Options.{transformers_said}
 use Rattle.zarrs_options.specs.Refusals.{CreateRefusal, codecs, data_type, chunk_grid, fill_value_metadata, storage_transformers, chunk_key_encoding, grid_dimensions, said_or}
-use Rattle.zarrs_array_metadata.specs.Changes.{grid_of_metadata, with_shape, reshaping, dimensions_said, chunks_said, with_grid, regridding}
+use Rattle.zarrs_array_metadata.specs.Changes.{grid_metadata_of, grid_of_metadata, with_shape, reshaping, dimensions_said, chunks_said, with_grid, regridding}
 use Rattle.zarrs_array_metadata.specs.Meanings.{Meaning, names_said, shape_said, creation_v3, creation_by, creation_v2, creation}
 use Rattle.zarrs_array_metadata.proofs.Names.{accepted, converts}
 use Rattle.zarrs_array_metadata.proofs.Openings.{goes_on}
@@ -198,6 +198,26 @@ reshaped (v2 m) p shape grid made said =
       says = recut_v2 m p shape m.chunks grid made long said;
       dimensions = said_dimensions e shape grid said ∙ long ∙ sym (said_dimensions e m.shape p.grid own.0);
     }
+
+-- ---- a grid of the same configuration over another shape
+
+over_given : (m : MetadataData) (p : Meaning) (given : ChunkGrid) → grid_of_metadata m ≡ Some p.grid → configuration_of given ≡ p.grid
+    → grid_said (grid_metadata_of m) (array_extents_of given) ≡ Some (configuration_of given)
+over_given m p given own same =
+    let said = (over_taken (configuration_said (grid_metadata_of m)) (shape_said m) p.grid own).0 in
+    said_taken (configuration_said (grid_metadata_of m)) (array_extents_of given) (configuration_of given) (said ∙ ap (λ (g : GridConfiguration). Some g) (sym same)) (own_taken given)
+
+-- the shape has as many dimensions as before
+pub resized_dimensions : (m : MetadataData) (p : Meaning) (given : ChunkGrid) → creation m ≡ Ok p → configuration_of given ≡ p.grid → length (array_extents_of given) ≡ length (shape_said m)
+resized_dimensions m p given made same =
+    let own = (own_grid m p made).0 in
+    one_length (grid_metadata_of m) (shape_said m) (array_extents_of given) p.grid (configuration_of given) own (over_given m p given own same)
+
+-- the metadata with that shape says it, and else the same
+pub is_resized : (m : MetadataData) (p : Meaning) (given : ChunkGrid) → creation m ≡ Ok p → configuration_of given ≡ p.grid
+    → IsCutAnew m (with_shape (array_extents_of given) m) p (array_extents_of given) (configuration_of given)
+is_resized (v3 m) p given made same = reshaped (v3 m) p (array_extents_of given) (configuration_of given) made (over_given (v3 m) p given (own_grid_v3 m p made).0 same)
+is_resized (v2 m) p given made same = reshaped (v2 m) p (array_extents_of given) (configuration_of given) made (over_given (v2 m) p given (own_grid_v2 m p made).0 same)
 
 pub is_reshaped : (m n : MetadataData) (p : Meaning) (shape : List ℕ) (grid : GridConfiguration) → creation m ≡ Ok p → reshaping shape m ≡ Ok n → grid_of_metadata n ≡ Some grid → IsCutAnew m n p shape grid
 is_reshaped m n p shape grid made is said =

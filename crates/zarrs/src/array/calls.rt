@@ -1,6 +1,8 @@
 //! Calls of an array, which pass to its engine.
 use super::Array;
 use std::alloc::{AllocError, Global};
+use zarrs_array_metadata::overwrite_shape;
+use zarrs_chunk_grid::ChunkGridTraits;
 use zarrs_codec::CodecOptions;
 use zarrs_engine::{ArrayError, Call, Reply, replay};
 use zarrs_storage::{Bytes, ReadableStorageTraits, StorageError, WritableStorageTraits};
@@ -73,19 +75,20 @@ impl<TStorage: WritableStorageTraits> Array<TStorage> {
     ghost use Rattle.std.specs.Prelude.{◌≡◌, true, false, Some, IsSome, length};
     ghost use Rattle.std.specs.Prelude.{IfOk, IfErr, OnOk, OnErr};
     ghost use Rattle.zarrs_chunk_grid.specs.Grids.{box_at, has_box};
+    ghost use Rattle.zarrs_storage.specs.Store.{KeepsReach};
     ghost use Rattle.zarrs_steps.specs.Changes.{IsPut};
-    ghost use Rattle.zarrs_codec.specs.Options.{stores_empty_chunks};
+    ghost use Rattle.zarrs_chain.specs.Options.{stores_empty_chunks};
     ghost use Rattle.zarrs_steps.specs.Canon.{IsCanonical};
     ghost use Rattle.zarrs_steps.specs.Content.{decoded_cells, value_at};
     ghost use Rattle.zarrs_layout.specs.Parts.{RefusesPut};
     ghost use Rattle.zarrs_steps.specs.Laws.{EachDecodes};
     ghost use Rattle.zarrs_steps.specs.Reach.{MayAskCalls};
     ghost use Rattle.zarrs_steps.specs.Refusals.{refusal_of, refusal_of_storage};
-    ghost use Rattle.zarrs_steps.specs.Step.{ErasesChunk, RefusesEraseChunk};
+    ghost use Rattle.zarrs.specs.Outcomes.{ErasesChunkOrRefuses};
     ghost use Rattle.zarrs_steps.specs.Step.{ErasesChunks, RefusesEraseChunks};
     ghost use Rattle.zarrs_steps.specs.Step.{Run};
     ghost use Rattle.zarrs.specs.Arrays.{layout_of_array, storage_of_array, store_of_array};
-    ghost use Rattle.zarrs.specs.Arrays.{state_of_array, KeepsArray};
+    ghost use Rattle.zarrs.specs.Arrays.{state_of_array, KeepsAllButShape, KeepsArray};
 
     /// Stores these bytes as those of the chunk with these indices, by one writing call of the store. The chunk has a
     /// box, and the bytes decode: both are conditions, and are not tested.
@@ -118,13 +121,7 @@ impl<TStorage: WritableStorageTraits> Array<TStorage> {
     /// If the store refuses, and `OutOfMemory`. Nothing is changed then.
     pub fn erase_chunk(&mut self, alloc: Global, chunk_indices: &[u64]) -> Result<(), StorageError>
         requires { length chunk_indices.now ≡ (layout_of_array self.old).grid.dimensions }
-        ensures done { OnOk result (ErasesChunk (layout_of_array self.old) chunk_indices.now
-            (store_of_array TStorage.state self.old) (store_of_array TStorage.state self.new)) }
-        ensures refused { IfErr result
-            (λ e. RefusesEraseChunk (layout_of_array self.old) chunk_indices.now
-            (refusal_of_storage e) (store_of_array TStorage.state self.old)
-            (store_of_array TStorage.state self.new)) }
-        ensures kept { KeepsArray self.old self.new }
+        ensures { ErasesChunkOrRefuses TStorage.state chunk_indices.now self.old self.new result }
     {
         self.engine.erase_chunk(alloc, chunk_indices)
     }
@@ -171,7 +168,10 @@ impl<TStorage: WritableStorageTraits> Array<TStorage> {
             (state_of_array TStorage.state self.old) (state_of_array TStorage.state self.new)) }
         ensures untouched { OnErr result
             (storage_of_array self.new ≡ storage_of_array self.old) }
-        ensures kept { KeepsArray self.old self.new }
+        ensures layout { layout_of_array self.new ≡ layout_of_array self.old }
+        ensures kept { KeepsAllButShape self.old self.new }
+        ensures reach { KeepsReach (store_of_array TStorage.state self.old)
+            (store_of_array TStorage.state self.new) }
         // If empty chunks are not kept, the bytes of a canonical store stay a function of its content.
         ensures canonical { stores_empty_chunks options.now ≡ false
             → IsCanonical (layout_of_array self.old)
@@ -182,6 +182,8 @@ impl<TStorage: WritableStorageTraits> Array<TStorage> {
             (store_of_array TStorage.state self.old)
             → EachDecodes (layout_of_array self.old) (store_of_array TStorage.state self.new) }
     {
-        replay(alloc, &mut self.engine, calls, options)
+        let replies = replay(alloc, &mut self.engine, calls, options);
+        overwrite_shape(&mut self.metadata, self.engine.chunk_grid().array_shape());
+        replies
     }
 }

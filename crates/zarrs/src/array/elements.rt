@@ -8,18 +8,11 @@ use zarrs_storage::{ReadableStorageTraits, WritableStorageTraits};
 use zarrs_subset::ArraySubsetTraits;
 
 impl<TStorage: ReadableStorageTraits> Array<TStorage> {
-    ghost use Rattle.std.specs.Prelude.{◌≡◌, true, IfOk, IfErr, OnOk, OnSome, IsErr};
-    ghost use Rattle.zarrs_subset.specs.Regions.{positions};
-    ghost use Rattle.zarrs_steps.specs.ChunkBoxes.{chunks_met};
-    ghost use Rattle.zarrs_steps.specs.Reach.{MayAskChunk, MayAskChunks};
-    ghost use Rattle.zarrs_steps.specs.Refusals.{refusal_of};
-    ghost use Rattle.zarrs.specs.Arrays.{layout_of_array, store_of_array, state_of_array};
     ghost use Rattle.zarrs.specs.Elements.{ReadsElements};
-    ghost use Rattle.zarrs.specs.Typed.{RetrievesChunkAs, RefusesChunkAs};
-    ghost use Rattle.zarrs.specs.Typed.{RetrievesIfExistsAs, RefusesIfExistsAs};
-    ghost use Rattle.zarrs.specs.Typed.{RetrievesChunksAs, RefusesChunksAs};
-    ghost use Rattle.zarrs.specs.Typed.{RetrievesPartAs, RefusesPartAs};
-    ghost use Rattle.zarrs.specs.Typed.{RetrievesRegionAs, RefusesRegionAs};
+    ghost use Rattle.zarrs.specs.Outcomes.{RetrievesChunkOrRefuses, RetrievesIfExistsOrRefuses};
+    ghost use Rattle.zarrs.specs.Outcomes.{MayRetrieveChunk, RetrievesPartOrRefuses};
+    ghost use Rattle.zarrs.specs.Outcomes.{RetrievesChunksOrRefuses, MayRetrieveChunks};
+    ghost use Rattle.zarrs.specs.Outcomes.{RetrievesRegionOrRefuses, MayRetrieveRegion};
 
     /// Reads the elements of the chunk with these indices, or returns `None` if it is absent. It is `retrieve_chunk_if_exists` of a list.
     ///
@@ -30,17 +23,9 @@ impl<TStorage: ReadableStorageTraits> Array<TStorage> {
         alloc: Global,
         chunk_indices: &[u64],
     ) -> Result<Option<Vec<T>>, ArrayError>
-        requires { MayAskChunk (layout_of_array self.now) chunk_indices.now
-            (store_of_array TStorage.state self.now) }
-        ensures cells { IfOk result
-            (RetrievesIfExistsAs (ReadsElements T.cell) (layout_of_array self.now)
-            chunk_indices.now (store_of_array TStorage.state self.now)) }
-        ensures served { IfOk result (λ found. OnSome found
-            (T.serves (layout_of_array self.now).kind ≡ true)) }
-        ensures refused { IfErr result (λ e. RefusesIfExistsAs T.serves (layout_of_array self.now)
-            chunk_indices.now (store_of_array TStorage.state self.now) (refusal_of e)) }
-        ensures refusing { (store_of_array TStorage.state self.now).refuses
-            ((layout_of_array self.now).key chunk_indices.now) ≡ true → IsErr result }
+        requires { MayRetrieveChunk TStorage.state chunk_indices.now self.now }
+        ensures { RetrievesIfExistsOrRefuses T.serves (ReadsElements T.cell) TStorage.state
+            chunk_indices.now self.now result }
     {
         self.retrieve_chunk_if_exists(alloc, chunk_indices)
     }
@@ -55,17 +40,9 @@ impl<TStorage: ReadableStorageTraits> Array<TStorage> {
         chunk_indices: &[u64],
         options: &CodecOptions,
     ) -> Result<Option<Vec<T>>, ArrayError>
-        requires { MayAskChunk (layout_of_array self.now) chunk_indices.now
-            (store_of_array TStorage.state self.now) }
-        ensures cells { IfOk result
-            (RetrievesIfExistsAs (ReadsElements T.cell) (layout_of_array self.now)
-            chunk_indices.now (store_of_array TStorage.state self.now)) }
-        ensures served { IfOk result (λ found. OnSome found
-            (T.serves (layout_of_array self.now).kind ≡ true)) }
-        ensures refused { IfErr result (λ e. RefusesIfExistsAs T.serves (layout_of_array self.now)
-            chunk_indices.now (store_of_array TStorage.state self.now) (refusal_of e)) }
-        ensures refusing { (store_of_array TStorage.state self.now).refuses
-            ((layout_of_array self.now).key chunk_indices.now) ≡ true → IsErr result }
+        requires { MayRetrieveChunk TStorage.state chunk_indices.now self.now }
+        ensures { RetrievesIfExistsOrRefuses T.serves (ReadsElements T.cell) TStorage.state
+            chunk_indices.now self.now result }
     {
         self.retrieve_chunk_if_exists_opt(alloc, chunk_indices, options)
     }
@@ -79,16 +56,9 @@ impl<TStorage: ReadableStorageTraits> Array<TStorage> {
         alloc: Global,
         chunk_indices: &[u64],
     ) -> Result<Vec<T>, ArrayError>
-        requires { MayAskChunk (layout_of_array self.now) chunk_indices.now
-            (store_of_array TStorage.state self.now) }
-        ensures cells { IfOk result
-            (RetrievesChunkAs (ReadsElements T.cell) (layout_of_array self.now)
-            chunk_indices.now (store_of_array TStorage.state self.now)) }
-        ensures served { OnOk result (T.serves (layout_of_array self.now).kind ≡ true) }
-        ensures refused { IfErr result (λ e. RefusesChunkAs T.serves (layout_of_array self.now)
-            chunk_indices.now (store_of_array TStorage.state self.now) (refusal_of e)) }
-        ensures refusing { (store_of_array TStorage.state self.now).refuses
-            ((layout_of_array self.now).key chunk_indices.now) ≡ true → IsErr result }
+        requires { MayRetrieveChunk TStorage.state chunk_indices.now self.now }
+        ensures { RetrievesChunkOrRefuses T.serves (ReadsElements T.cell) TStorage.state
+            chunk_indices.now self.now result }
     {
         self.retrieve_chunk(alloc, chunk_indices)
     }
@@ -103,16 +73,9 @@ impl<TStorage: ReadableStorageTraits> Array<TStorage> {
         chunk_indices: &[u64],
         options: &CodecOptions,
     ) -> Result<Vec<T>, ArrayError>
-        requires { MayAskChunk (layout_of_array self.now) chunk_indices.now
-            (store_of_array TStorage.state self.now) }
-        ensures cells { IfOk result
-            (RetrievesChunkAs (ReadsElements T.cell) (layout_of_array self.now)
-            chunk_indices.now (store_of_array TStorage.state self.now)) }
-        ensures served { OnOk result (T.serves (layout_of_array self.now).kind ≡ true) }
-        ensures refused { IfErr result (λ e. RefusesChunkAs T.serves (layout_of_array self.now)
-            chunk_indices.now (store_of_array TStorage.state self.now) (refusal_of e)) }
-        ensures refusing { (store_of_array TStorage.state self.now).refuses
-            ((layout_of_array self.now).key chunk_indices.now) ≡ true → IsErr result }
+        requires { MayRetrieveChunk TStorage.state chunk_indices.now self.now }
+        ensures { RetrievesChunkOrRefuses T.serves (ReadsElements T.cell) TStorage.state
+            chunk_indices.now self.now result }
     {
         self.retrieve_chunk_opt(alloc, chunk_indices, options)
     }
@@ -126,16 +89,9 @@ impl<TStorage: ReadableStorageTraits> Array<TStorage> {
         alloc: Global,
         chunks: &R,
     ) -> Result<Vec<T>, ArrayError>
-        requires { MayAskChunks (layout_of_array self.now) (positions (R.region chunks.now))
-            (store_of_array TStorage.state self.now) }
-        ensures cells { IfOk result
-            (RetrievesChunksAs (ReadsElements T.cell) (layout_of_array self.now)
-            (state_of_array TStorage.state self.now).shape (R.region chunks.now)
-            (store_of_array TStorage.state self.now)) }
-        ensures served { OnOk result (T.serves (layout_of_array self.now).kind ≡ true) }
-        ensures refused { IfErr result (λ e. RefusesChunksAs T.serves (layout_of_array self.now)
-            (state_of_array TStorage.state self.now).shape (R.region chunks.now)
-            (store_of_array TStorage.state self.now) (refusal_of e)) }
+        requires { MayRetrieveChunks TStorage.state (R.region chunks.now) self.now }
+        ensures { RetrievesChunksOrRefuses T.serves (ReadsElements T.cell) TStorage.state
+            (R.region chunks.now) self.now result }
     {
         self.retrieve_chunks(alloc, chunks)
     }
@@ -150,16 +106,9 @@ impl<TStorage: ReadableStorageTraits> Array<TStorage> {
         chunks: &R,
         options: &CodecOptions,
     ) -> Result<Vec<T>, ArrayError>
-        requires { MayAskChunks (layout_of_array self.now) (positions (R.region chunks.now))
-            (store_of_array TStorage.state self.now) }
-        ensures cells { IfOk result
-            (RetrievesChunksAs (ReadsElements T.cell) (layout_of_array self.now)
-            (state_of_array TStorage.state self.now).shape (R.region chunks.now)
-            (store_of_array TStorage.state self.now)) }
-        ensures served { OnOk result (T.serves (layout_of_array self.now).kind ≡ true) }
-        ensures refused { IfErr result (λ e. RefusesChunksAs T.serves (layout_of_array self.now)
-            (state_of_array TStorage.state self.now).shape (R.region chunks.now)
-            (store_of_array TStorage.state self.now) (refusal_of e)) }
+        requires { MayRetrieveChunks TStorage.state (R.region chunks.now) self.now }
+        ensures { RetrievesChunksOrRefuses T.serves (ReadsElements T.cell) TStorage.state
+            (R.region chunks.now) self.now result }
     {
         self.retrieve_chunks_opt(alloc, chunks, options)
     }
@@ -174,15 +123,9 @@ impl<TStorage: ReadableStorageTraits> Array<TStorage> {
         chunk_indices: &[u64],
         chunk_subset: &R,
     ) -> Result<Vec<T>, ArrayError>
-        requires { MayAskChunk (layout_of_array self.now) chunk_indices.now
-            (store_of_array TStorage.state self.now) }
-        ensures cells { IfOk result
-            (RetrievesPartAs (ReadsElements T.cell) (layout_of_array self.now)
-            chunk_indices.now (R.region chunk_subset.now) (store_of_array TStorage.state self.now)) }
-        ensures served { OnOk result (T.serves (layout_of_array self.now).kind ≡ true) }
-        ensures refused { IfErr result (λ e. RefusesPartAs T.serves (layout_of_array self.now)
-            chunk_indices.now (R.region chunk_subset.now) (store_of_array TStorage.state self.now)
-            (refusal_of e)) }
+        requires { MayRetrieveChunk TStorage.state chunk_indices.now self.now }
+        ensures { RetrievesPartOrRefuses T.serves (ReadsElements T.cell) TStorage.state
+            chunk_indices.now (R.region chunk_subset.now) self.now result }
     {
         self.retrieve_chunk_subset(alloc, chunk_indices, chunk_subset)
     }
@@ -198,15 +141,9 @@ impl<TStorage: ReadableStorageTraits> Array<TStorage> {
         chunk_subset: &R,
         options: &CodecOptions,
     ) -> Result<Vec<T>, ArrayError>
-        requires { MayAskChunk (layout_of_array self.now) chunk_indices.now
-            (store_of_array TStorage.state self.now) }
-        ensures cells { IfOk result
-            (RetrievesPartAs (ReadsElements T.cell) (layout_of_array self.now)
-            chunk_indices.now (R.region chunk_subset.now) (store_of_array TStorage.state self.now)) }
-        ensures served { OnOk result (T.serves (layout_of_array self.now).kind ≡ true) }
-        ensures refused { IfErr result (λ e. RefusesPartAs T.serves (layout_of_array self.now)
-            chunk_indices.now (R.region chunk_subset.now) (store_of_array TStorage.state self.now)
-            (refusal_of e)) }
+        requires { MayRetrieveChunk TStorage.state chunk_indices.now self.now }
+        ensures { RetrievesPartOrRefuses T.serves (ReadsElements T.cell) TStorage.state
+            chunk_indices.now (R.region chunk_subset.now) self.now result }
     {
         self.retrieve_chunk_subset_opt(alloc, chunk_indices, chunk_subset, options)
     }
@@ -220,17 +157,9 @@ impl<TStorage: ReadableStorageTraits> Array<TStorage> {
         alloc: Global,
         array_subset: &R,
     ) -> Result<Vec<T>, ArrayError>
-        requires { MayAskChunks (layout_of_array self.now)
-            (chunks_met (layout_of_array self.now).grid (R.region array_subset.now))
-            (store_of_array TStorage.state self.now) }
-        ensures cells { IfOk result
-            (RetrievesRegionAs (ReadsElements T.cell) (layout_of_array self.now)
-            (state_of_array TStorage.state self.now).shape (R.region array_subset.now)
-            (store_of_array TStorage.state self.now)) }
-        ensures served { OnOk result (T.serves (layout_of_array self.now).kind ≡ true) }
-        ensures refused { IfErr result (λ e. RefusesRegionAs T.serves (layout_of_array self.now)
-            (state_of_array TStorage.state self.now).shape (R.region array_subset.now)
-            (store_of_array TStorage.state self.now) (refusal_of e)) }
+        requires { MayRetrieveRegion TStorage.state (R.region array_subset.now) self.now }
+        ensures { RetrievesRegionOrRefuses T.serves (ReadsElements T.cell) TStorage.state
+            (R.region array_subset.now) self.now result }
     {
         self.retrieve_array_subset(alloc, array_subset)
     }
@@ -245,36 +174,21 @@ impl<TStorage: ReadableStorageTraits> Array<TStorage> {
         array_subset: &R,
         options: &CodecOptions,
     ) -> Result<Vec<T>, ArrayError>
-        requires { MayAskChunks (layout_of_array self.now)
-            (chunks_met (layout_of_array self.now).grid (R.region array_subset.now))
-            (store_of_array TStorage.state self.now) }
-        ensures cells { IfOk result
-            (RetrievesRegionAs (ReadsElements T.cell) (layout_of_array self.now)
-            (state_of_array TStorage.state self.now).shape (R.region array_subset.now)
-            (store_of_array TStorage.state self.now)) }
-        ensures served { OnOk result (T.serves (layout_of_array self.now).kind ≡ true) }
-        ensures refused { IfErr result (λ e. RefusesRegionAs T.serves (layout_of_array self.now)
-            (state_of_array TStorage.state self.now).shape (R.region array_subset.now)
-            (store_of_array TStorage.state self.now) (refusal_of e)) }
+        requires { MayRetrieveRegion TStorage.state (R.region array_subset.now) self.now }
+        ensures { RetrievesRegionOrRefuses T.serves (ReadsElements T.cell) TStorage.state
+            (R.region array_subset.now) self.now result }
     {
         self.retrieve_array_subset_opt(alloc, array_subset, options)
     }
 }
 
 impl<TStorage: WritableStorageTraits> Array<TStorage> {
-    ghost use Rattle.std.specs.Prelude.{◌≡◌, [], ◌∷◌, true, false, IfErr, OnOk};
-    ghost use Rattle.zarrs_chunk_grid.specs.Grids.{box_at};
-    ghost use Rattle.zarrs_codec.specs.Options.{stores_empty_chunks};
-    ghost use Rattle.zarrs_steps.specs.ChunkBoxes.{chunks_met, part_box};
-    ghost use Rattle.zarrs_steps.specs.Reach.{MayAskParts};
-    ghost use Rattle.zarrs_steps.specs.Refusals.{refusal_of};
-    ghost use Rattle.zarrs.specs.Arrays.{layout_of_array, store_of_array, state_of_array};
-    ghost use Rattle.zarrs.specs.Arrays.{KeepsArray};
+    ghost use Rattle.std.specs.Prelude.{false};
+    ghost use Rattle.zarrs_chain.specs.Options.{stores_empty_chunks};
     ghost use Rattle.zarrs.specs.Elements.{GivesElements};
-    ghost use Rattle.zarrs.specs.Typed.{StoresChunkAs, RefusesStoreChunkAs};
-    ghost use Rattle.zarrs.specs.Typed.{StoresChunksAs, RefusesStoreChunksAs};
-    ghost use Rattle.zarrs.specs.Typed.{StoresPartAs, RefusesStorePartAs};
-    ghost use Rattle.zarrs.specs.Typed.{StoresRegionAs, RefusesStoreRegionAs};
+    ghost use Rattle.zarrs.specs.Outcomes.{StoresChunkOrRefuses, StoresChunksOrRefuses};
+    ghost use Rattle.zarrs.specs.Outcomes.{StoresPartOrRefuses, MayStorePart};
+    ghost use Rattle.zarrs.specs.Outcomes.{StoresRegionOrRefuses, MayStoreRegion};
 
     /// Stores the elements as the cells of the chunk with these indices. It is `store_chunk` of a list.
     ///
@@ -286,16 +200,8 @@ impl<TStorage: WritableStorageTraits> Array<TStorage> {
         chunk_indices: &[u64],
         chunk_elements: &[T],
     ) -> Result<(), ArrayError>
-        ensures done { OnOk result (StoresChunkAs (layout_of_array self.old) false
-            (GivesElements T.cell chunk_elements.now) chunk_indices.now
-            (store_of_array TStorage.state self.old) (store_of_array TStorage.state self.new)) }
-        ensures served { OnOk result (T.serves (layout_of_array self.old).kind ≡ true) }
-        ensures refused { IfErr result (λ e. RefusesStoreChunkAs T.serves
-            (layout_of_array self.old) false
-            (GivesElements T.cell chunk_elements.now) chunk_indices.now
-            (store_of_array TStorage.state self.old) (store_of_array TStorage.state self.new)
-            (refusal_of e)) }
-        ensures kept { KeepsArray self.old self.new }
+        ensures { StoresChunkOrRefuses T.serves (GivesElements T.cell chunk_elements.now)
+            TStorage.state false chunk_indices.now self.old self.new result }
     {
         self.store_chunk(alloc, chunk_indices, chunk_elements)
     }
@@ -311,17 +217,9 @@ impl<TStorage: WritableStorageTraits> Array<TStorage> {
         chunk_elements: &[T],
         options: &CodecOptions,
     ) -> Result<(), ArrayError>
-        ensures done { OnOk result
-            (StoresChunkAs (layout_of_array self.old) (stores_empty_chunks options.now)
-            (GivesElements T.cell chunk_elements.now) chunk_indices.now
-            (store_of_array TStorage.state self.old) (store_of_array TStorage.state self.new)) }
-        ensures served { OnOk result (T.serves (layout_of_array self.old).kind ≡ true) }
-        ensures refused { IfErr result (λ e. RefusesStoreChunkAs T.serves
-            (layout_of_array self.old) (stores_empty_chunks options.now)
-            (GivesElements T.cell chunk_elements.now) chunk_indices.now
-            (store_of_array TStorage.state self.old) (store_of_array TStorage.state self.new)
-            (refusal_of e)) }
-        ensures kept { KeepsArray self.old self.new }
+        ensures { StoresChunkOrRefuses T.serves (GivesElements T.cell chunk_elements.now)
+            TStorage.state (stores_empty_chunks options.now) chunk_indices.now self.old self.new
+            result }
     {
         self.store_chunk_opt(alloc, chunk_indices, chunk_elements, options)
     }
@@ -336,16 +234,8 @@ impl<TStorage: WritableStorageTraits> Array<TStorage> {
         chunks: &R,
         chunks_elements: &[T],
     ) -> Result<(), ArrayError>
-        ensures done { OnOk result (StoresChunksAs (layout_of_array self.old) false
-            (GivesElements T.cell chunks_elements.now) (R.region chunks.now)
-            (store_of_array TStorage.state self.old) (store_of_array TStorage.state self.new)) }
-        ensures served { OnOk result (T.serves (layout_of_array self.old).kind ≡ true) }
-        ensures refused { IfErr result (λ e. RefusesStoreChunksAs T.serves
-            (layout_of_array self.old) false
-            (GivesElements T.cell chunks_elements.now) (R.region chunks.now)
-            (store_of_array TStorage.state self.old) (store_of_array TStorage.state self.new)
-            (refusal_of e)) }
-        ensures kept { KeepsArray self.old self.new }
+        ensures { StoresChunksOrRefuses T.serves (GivesElements T.cell chunks_elements.now)
+            TStorage.state false (R.region chunks.now) self.old self.new result }
     {
         self.store_chunks(alloc, chunks, chunks_elements)
     }
@@ -361,17 +251,9 @@ impl<TStorage: WritableStorageTraits> Array<TStorage> {
         chunks_elements: &[T],
         options: &CodecOptions,
     ) -> Result<(), ArrayError>
-        ensures done { OnOk result
-            (StoresChunksAs (layout_of_array self.old) (stores_empty_chunks options.now)
-            (GivesElements T.cell chunks_elements.now) (R.region chunks.now)
-            (store_of_array TStorage.state self.old) (store_of_array TStorage.state self.new)) }
-        ensures served { OnOk result (T.serves (layout_of_array self.old).kind ≡ true) }
-        ensures refused { IfErr result (λ e. RefusesStoreChunksAs T.serves
-            (layout_of_array self.old) (stores_empty_chunks options.now)
-            (GivesElements T.cell chunks_elements.now) (R.region chunks.now)
-            (store_of_array TStorage.state self.old) (store_of_array TStorage.state self.new)
-            (refusal_of e)) }
-        ensures kept { KeepsArray self.old self.new }
+        ensures { StoresChunksOrRefuses T.serves (GivesElements T.cell chunks_elements.now)
+            TStorage.state (stores_empty_chunks options.now) (R.region chunks.now) self.old self.new
+            result }
     {
         self.store_chunks_opt(alloc, chunks, chunks_elements, options)
     }
@@ -387,22 +269,11 @@ impl<TStorage: WritableStorageTraits> Array<TStorage> {
         chunk_subset: &R,
         chunk_subset_elements: &[T],
     ) -> Result<(), ArrayError>
-        requires { MayAskParts (layout_of_array self.old)
-            (part_box (box_at (layout_of_array self.old).grid chunk_indices.now)
-            (R.region chunk_subset.now)) (chunk_indices.now ∷ [])
-            (store_of_array TStorage.state self.old) }
-        ensures done { OnOk result (StoresPartAs (layout_of_array self.old) false
-            (GivesElements T.cell chunk_subset_elements.now) chunk_indices.now
-            (R.region chunk_subset.now)
-            (store_of_array TStorage.state self.old) (store_of_array TStorage.state self.new)) }
-        ensures served { OnOk result (T.serves (layout_of_array self.old).kind ≡ true) }
-        ensures refused { IfErr result (λ e. RefusesStorePartAs T.serves
-            (layout_of_array self.old) false
-            (GivesElements T.cell chunk_subset_elements.now) chunk_indices.now
-            (R.region chunk_subset.now)
-            (store_of_array TStorage.state self.old) (store_of_array TStorage.state self.new)
-            (refusal_of e)) }
-        ensures kept { KeepsArray self.old self.new }
+        requires { MayStorePart TStorage.state chunk_indices.now (R.region chunk_subset.now)
+            self.old }
+        ensures { StoresPartOrRefuses T.serves (GivesElements T.cell chunk_subset_elements.now)
+            TStorage.state false chunk_indices.now (R.region chunk_subset.now) self.old self.new
+            result }
     {
         self.store_chunk_subset(alloc, chunk_indices, chunk_subset, chunk_subset_elements)
     }
@@ -419,23 +290,11 @@ impl<TStorage: WritableStorageTraits> Array<TStorage> {
         chunk_subset_elements: &[T],
         options: &CodecOptions,
     ) -> Result<(), ArrayError>
-        requires { MayAskParts (layout_of_array self.old)
-            (part_box (box_at (layout_of_array self.old).grid chunk_indices.now)
-            (R.region chunk_subset.now)) (chunk_indices.now ∷ [])
-            (store_of_array TStorage.state self.old) }
-        ensures done { OnOk result
-            (StoresPartAs (layout_of_array self.old) (stores_empty_chunks options.now)
-            (GivesElements T.cell chunk_subset_elements.now) chunk_indices.now
-            (R.region chunk_subset.now)
-            (store_of_array TStorage.state self.old) (store_of_array TStorage.state self.new)) }
-        ensures served { OnOk result (T.serves (layout_of_array self.old).kind ≡ true) }
-        ensures refused { IfErr result (λ e. RefusesStorePartAs T.serves
-            (layout_of_array self.old) (stores_empty_chunks options.now)
-            (GivesElements T.cell chunk_subset_elements.now) chunk_indices.now
-            (R.region chunk_subset.now)
-            (store_of_array TStorage.state self.old) (store_of_array TStorage.state self.new)
-            (refusal_of e)) }
-        ensures kept { KeepsArray self.old self.new }
+        requires { MayStorePart TStorage.state chunk_indices.now (R.region chunk_subset.now)
+            self.old }
+        ensures { StoresPartOrRefuses T.serves (GivesElements T.cell chunk_subset_elements.now)
+            TStorage.state (stores_empty_chunks options.now) chunk_indices.now
+            (R.region chunk_subset.now) self.old self.new result }
     {
         self.store_chunk_subset_opt(
             alloc,
@@ -456,21 +315,9 @@ impl<TStorage: WritableStorageTraits> Array<TStorage> {
         array_subset: &R,
         subset_elements: &[T],
     ) -> Result<(), ArrayError>
-        requires { MayAskParts (layout_of_array self.old) (R.region array_subset.now)
-            (chunks_met (layout_of_array self.old).grid (R.region array_subset.now))
-            (store_of_array TStorage.state self.old) }
-        ensures done { OnOk result (StoresRegionAs (layout_of_array self.old) false
-            (state_of_array TStorage.state self.old).shape
-            (GivesElements T.cell subset_elements.now) (R.region array_subset.now)
-            (store_of_array TStorage.state self.old) (store_of_array TStorage.state self.new)) }
-        ensures served { OnOk result (T.serves (layout_of_array self.old).kind ≡ true) }
-        ensures refused { IfErr result (λ e. RefusesStoreRegionAs T.serves
-            (layout_of_array self.old) false
-            (state_of_array TStorage.state self.old).shape
-            (GivesElements T.cell subset_elements.now) (R.region array_subset.now)
-            (store_of_array TStorage.state self.old) (store_of_array TStorage.state self.new)
-            (refusal_of e)) }
-        ensures kept { KeepsArray self.old self.new }
+        requires { MayStoreRegion TStorage.state (R.region array_subset.now) self.old }
+        ensures { StoresRegionOrRefuses T.serves (GivesElements T.cell subset_elements.now)
+            TStorage.state false (R.region array_subset.now) self.old self.new result }
     {
         self.store_array_subset(alloc, array_subset, subset_elements)
     }
@@ -486,22 +333,10 @@ impl<TStorage: WritableStorageTraits> Array<TStorage> {
         subset_elements: &[T],
         options: &CodecOptions,
     ) -> Result<(), ArrayError>
-        requires { MayAskParts (layout_of_array self.old) (R.region array_subset.now)
-            (chunks_met (layout_of_array self.old).grid (R.region array_subset.now))
-            (store_of_array TStorage.state self.old) }
-        ensures done { OnOk result
-            (StoresRegionAs (layout_of_array self.old) (stores_empty_chunks options.now)
-            (state_of_array TStorage.state self.old).shape
-            (GivesElements T.cell subset_elements.now) (R.region array_subset.now)
-            (store_of_array TStorage.state self.old) (store_of_array TStorage.state self.new)) }
-        ensures served { OnOk result (T.serves (layout_of_array self.old).kind ≡ true) }
-        ensures refused { IfErr result (λ e. RefusesStoreRegionAs T.serves
-            (layout_of_array self.old) (stores_empty_chunks options.now)
-            (state_of_array TStorage.state self.old).shape
-            (GivesElements T.cell subset_elements.now) (R.region array_subset.now)
-            (store_of_array TStorage.state self.old) (store_of_array TStorage.state self.new)
-            (refusal_of e)) }
-        ensures kept { KeepsArray self.old self.new }
+        requires { MayStoreRegion TStorage.state (R.region array_subset.now) self.old }
+        ensures { StoresRegionOrRefuses T.serves (GivesElements T.cell subset_elements.now)
+            TStorage.state (stores_empty_chunks options.now) (R.region array_subset.now) self.old
+            self.new result }
     {
         self.store_array_subset_opt(alloc, array_subset, subset_elements, options)
     }

@@ -103,7 +103,11 @@ impl<TStorage: WritableStorageTraits> Array<TStorage> {
     }
 
     /// Puts these values at their keys, one after another.
-    fn put_all(&mut self, alloc: Global, puts: Vec<MetadataPut>) -> Result<(), StorageError>
+    pub(super) fn put_all(
+        &mut self,
+        alloc: Global,
+        puts: Vec<MetadataPut>,
+    ) -> Result<(), StorageError>
         ensures done { OnOk result (ArePut (map put_view puts.items)
             (store_of_array TStorage.state self.old) (store_of_array TStorage.state self.new)) }
         ensures refused { IfErr result (λ e. RefusesPuts (map put_view puts.items)

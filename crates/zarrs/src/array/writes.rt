@@ -96,19 +96,14 @@ impl<TStorage> Array<TStorage> {
 }
 
 impl<TStorage: WritableStorageTraits> Array<TStorage> {
-    ghost use Rattle.std.specs.Prelude.{◌≡◌, [], ◌∷◌, true, false, None, IfErr, OnOk};
-    ghost use Rattle.zarrs_chunk_grid.specs.Grids.{box_at};
-    ghost use Rattle.zarrs_codec.specs.Options.{stores_empty_chunks};
-    ghost use Rattle.zarrs_steps.specs.ChunkBoxes.{chunks_met, part_box};
+    ghost use Rattle.std.specs.Prelude.{◌≡◌, false, None, IfErr, OnOk};
+    ghost use Rattle.zarrs_chain.specs.Options.{stores_empty_chunks};
     ghost use Rattle.zarrs_steps.specs.ArgumentRefusals.{region_refusal};
-    ghost use Rattle.zarrs_steps.specs.Reach.{MayAskParts};
     ghost use Rattle.zarrs_steps.specs.Refusals.{RefusesBy, refusal_of};
-    ghost use Rattle.zarrs.specs.Arrays.{layout_of_array, store_of_array, state_of_array};
-    ghost use Rattle.zarrs.specs.Arrays.{KeepsArray};
-    ghost use Rattle.zarrs.specs.Typed.{StoresChunkAs, RefusesStoreChunkAs};
-    ghost use Rattle.zarrs.specs.Typed.{StoresChunksAs, RefusesStoreChunksAs};
-    ghost use Rattle.zarrs.specs.Typed.{StoresPartAs, RefusesStorePartAs};
-    ghost use Rattle.zarrs.specs.Typed.{StoresRegionAs, RefusesStoreRegionAs};
+    ghost use Rattle.zarrs.specs.Arrays.{layout_of_array, state_of_array};
+    ghost use Rattle.zarrs.specs.Outcomes.{StoresChunkOrRefuses, StoresChunksOrRefuses};
+    ghost use Rattle.zarrs.specs.Outcomes.{StoresPartOrRefuses, MayStorePart};
+    ghost use Rattle.zarrs.specs.Outcomes.{StoresRegionOrRefuses, MayStoreRegion};
 
     /// Tests whether the chunks of the array cover the region.
     ///
@@ -143,15 +138,8 @@ impl<TStorage: WritableStorageTraits> Array<TStorage> {
         chunk_indices: &[u64],
         chunk_data: D,
     ) -> Result<(), ArrayError>
-        ensures done { OnOk result (StoresChunkAs (layout_of_array self.old) false
-            (D.gives chunk_data) chunk_indices.now
-            (store_of_array TStorage.state self.old) (store_of_array TStorage.state self.new)) }
-        ensures served { OnOk result (D.serves (layout_of_array self.old).kind ≡ true) }
-        ensures refused { IfErr result (λ e. RefusesStoreChunkAs D.serves
-            (layout_of_array self.old) false
-            (D.gives chunk_data) chunk_indices.now (store_of_array TStorage.state self.old)
-            (store_of_array TStorage.state self.new) (refusal_of e)) }
-        ensures kept { KeepsArray self.old self.new }
+        ensures { StoresChunkOrRefuses D.serves (D.gives chunk_data) TStorage.state false
+            chunk_indices.now self.old self.new result }
     {
         self.store_chunk_opt(alloc, chunk_indices, chunk_data, &CodecOptions::default())
     }
@@ -167,16 +155,8 @@ impl<TStorage: WritableStorageTraits> Array<TStorage> {
         chunk_data: D,
         options: &CodecOptions,
     ) -> Result<(), ArrayError>
-        ensures done { OnOk result (StoresChunkAs
-            (layout_of_array self.old) (stores_empty_chunks options.now)
-            (D.gives chunk_data) chunk_indices.now
-            (store_of_array TStorage.state self.old) (store_of_array TStorage.state self.new)) }
-        ensures served { OnOk result (D.serves (layout_of_array self.old).kind ≡ true) }
-        ensures refused { IfErr result (λ e. RefusesStoreChunkAs D.serves
-            (layout_of_array self.old) (stores_empty_chunks options.now)
-            (D.gives chunk_data) chunk_indices.now (store_of_array TStorage.state self.old)
-            (store_of_array TStorage.state self.new) (refusal_of e)) }
-        ensures kept { KeepsArray self.old self.new }
+        ensures { StoresChunkOrRefuses D.serves (D.gives chunk_data) TStorage.state
+            (stores_empty_chunks options.now) chunk_indices.now self.old self.new result }
     {
         let chunk_data = chunk_data.into_array_bytes(alloc, self.engine.data_type())?;
         self.engine
@@ -200,15 +180,8 @@ impl<TStorage: WritableStorageTraits> Array<TStorage> {
         chunks: &R,
         chunks_data: D,
     ) -> Result<(), ArrayError>
-        ensures done { OnOk result (StoresChunksAs (layout_of_array self.old) false
-            (D.gives chunks_data) (R.region chunks.now)
-            (store_of_array TStorage.state self.old) (store_of_array TStorage.state self.new)) }
-        ensures served { OnOk result (D.serves (layout_of_array self.old).kind ≡ true) }
-        ensures refused { IfErr result (λ e. RefusesStoreChunksAs D.serves
-            (layout_of_array self.old) false
-            (D.gives chunks_data) (R.region chunks.now) (store_of_array TStorage.state self.old)
-            (store_of_array TStorage.state self.new) (refusal_of e)) }
-        ensures kept { KeepsArray self.old self.new }
+        ensures { StoresChunksOrRefuses D.serves (D.gives chunks_data) TStorage.state false
+            (R.region chunks.now) self.old self.new result }
     {
         self.store_chunks_opt(alloc, chunks, chunks_data, &CodecOptions::default())
     }
@@ -224,16 +197,8 @@ impl<TStorage: WritableStorageTraits> Array<TStorage> {
         chunks_data: D,
         options: &CodecOptions,
     ) -> Result<(), ArrayError>
-        ensures done { OnOk result (StoresChunksAs
-            (layout_of_array self.old) (stores_empty_chunks options.now)
-            (D.gives chunks_data) (R.region chunks.now)
-            (store_of_array TStorage.state self.old) (store_of_array TStorage.state self.new)) }
-        ensures served { OnOk result (D.serves (layout_of_array self.old).kind ≡ true) }
-        ensures refused { IfErr result (λ e. RefusesStoreChunksAs D.serves
-            (layout_of_array self.old) (stores_empty_chunks options.now)
-            (D.gives chunks_data) (R.region chunks.now) (store_of_array TStorage.state self.old)
-            (store_of_array TStorage.state self.new) (refusal_of e)) }
-        ensures kept { KeepsArray self.old self.new }
+        ensures { StoresChunksOrRefuses D.serves (D.gives chunks_data) TStorage.state
+            (stores_empty_chunks options.now) (R.region chunks.now) self.old self.new result }
     {
         let chunks_data = match chunks_data.into_array_bytes(alloc, self.engine.data_type()) {
             Ok(chunks_data) => chunks_data,
@@ -264,20 +229,10 @@ impl<TStorage: WritableStorageTraits> Array<TStorage> {
         chunk_subset: &R,
         chunk_subset_data: D,
     ) -> Result<(), ArrayError>
-        requires { MayAskParts (layout_of_array self.old)
-            (part_box (box_at (layout_of_array self.old).grid chunk_indices.now)
-            (R.region chunk_subset.now)) (chunk_indices.now ∷ [])
-            (store_of_array TStorage.state self.old) }
-        ensures done { OnOk result (StoresPartAs (layout_of_array self.old) false
-            (D.gives chunk_subset_data) chunk_indices.now (R.region chunk_subset.now)
-            (store_of_array TStorage.state self.old) (store_of_array TStorage.state self.new)) }
-        ensures served { OnOk result (D.serves (layout_of_array self.old).kind ≡ true) }
-        ensures refused { IfErr result (λ e. RefusesStorePartAs D.serves
-            (layout_of_array self.old) false
-            (D.gives chunk_subset_data) chunk_indices.now (R.region chunk_subset.now)
-            (store_of_array TStorage.state self.old)
-            (store_of_array TStorage.state self.new) (refusal_of e)) }
-        ensures kept { KeepsArray self.old self.new }
+        requires { MayStorePart TStorage.state chunk_indices.now (R.region chunk_subset.now)
+            self.old }
+        ensures { StoresPartOrRefuses D.serves (D.gives chunk_subset_data) TStorage.state false
+            chunk_indices.now (R.region chunk_subset.now) self.old self.new result }
     {
         self.store_chunk_subset_opt(
             alloc,
@@ -300,21 +255,11 @@ impl<TStorage: WritableStorageTraits> Array<TStorage> {
         chunk_subset_data: D,
         options: &CodecOptions,
     ) -> Result<(), ArrayError>
-        requires { MayAskParts (layout_of_array self.old)
-            (part_box (box_at (layout_of_array self.old).grid chunk_indices.now)
-            (R.region chunk_subset.now)) (chunk_indices.now ∷ [])
-            (store_of_array TStorage.state self.old) }
-        ensures done { OnOk result (StoresPartAs
-            (layout_of_array self.old) (stores_empty_chunks options.now)
-            (D.gives chunk_subset_data) chunk_indices.now (R.region chunk_subset.now)
-            (store_of_array TStorage.state self.old) (store_of_array TStorage.state self.new)) }
-        ensures served { OnOk result (D.serves (layout_of_array self.old).kind ≡ true) }
-        ensures refused { IfErr result (λ e. RefusesStorePartAs D.serves
-            (layout_of_array self.old) (stores_empty_chunks options.now)
-            (D.gives chunk_subset_data) chunk_indices.now (R.region chunk_subset.now)
-            (store_of_array TStorage.state self.old)
-            (store_of_array TStorage.state self.new) (refusal_of e)) }
-        ensures kept { KeepsArray self.old self.new }
+        requires { MayStorePart TStorage.state chunk_indices.now (R.region chunk_subset.now)
+            self.old }
+        ensures { StoresPartOrRefuses D.serves (D.gives chunk_subset_data) TStorage.state
+            (stores_empty_chunks options.now) chunk_indices.now (R.region chunk_subset.now) self.old
+            self.new result }
     {
         let chunk_subset_data = match chunk_subset_data.into_array_bytes(
             alloc,
@@ -353,20 +298,9 @@ impl<TStorage: WritableStorageTraits> Array<TStorage> {
         array_subset: &R,
         subset_data: D,
     ) -> Result<(), ArrayError>
-        requires { MayAskParts (layout_of_array self.old) (R.region array_subset.now)
-            (chunks_met (layout_of_array self.old).grid (R.region array_subset.now))
-            (store_of_array TStorage.state self.old) }
-        ensures done { OnOk result (StoresRegionAs (layout_of_array self.old) false
-            (state_of_array TStorage.state self.old).shape (D.gives subset_data)
-            (R.region array_subset.now)
-            (store_of_array TStorage.state self.old) (store_of_array TStorage.state self.new)) }
-        ensures served { OnOk result (D.serves (layout_of_array self.old).kind ≡ true) }
-        ensures refused { IfErr result (λ e. RefusesStoreRegionAs D.serves
-            (layout_of_array self.old) false
-            (state_of_array TStorage.state self.old).shape (D.gives subset_data)
-            (R.region array_subset.now) (store_of_array TStorage.state self.old)
-            (store_of_array TStorage.state self.new) (refusal_of e)) }
-        ensures kept { KeepsArray self.old self.new }
+        requires { MayStoreRegion TStorage.state (R.region array_subset.now) self.old }
+        ensures { StoresRegionOrRefuses D.serves (D.gives subset_data) TStorage.state false
+            (R.region array_subset.now) self.old self.new result }
     {
         self.store_array_subset_opt(alloc, array_subset, subset_data, &CodecOptions::default())
     }
@@ -382,21 +316,9 @@ impl<TStorage: WritableStorageTraits> Array<TStorage> {
         subset_data: D,
         options: &CodecOptions,
     ) -> Result<(), ArrayError>
-        requires { MayAskParts (layout_of_array self.old) (R.region array_subset.now)
-            (chunks_met (layout_of_array self.old).grid (R.region array_subset.now))
-            (store_of_array TStorage.state self.old) }
-        ensures done { OnOk result (StoresRegionAs
-            (layout_of_array self.old) (stores_empty_chunks options.now)
-            (state_of_array TStorage.state self.old).shape (D.gives subset_data)
-            (R.region array_subset.now)
-            (store_of_array TStorage.state self.old) (store_of_array TStorage.state self.new)) }
-        ensures served { OnOk result (D.serves (layout_of_array self.old).kind ≡ true) }
-        ensures refused { IfErr result (λ e. RefusesStoreRegionAs D.serves
-            (layout_of_array self.old) (stores_empty_chunks options.now)
-            (state_of_array TStorage.state self.old).shape (D.gives subset_data)
-            (R.region array_subset.now) (store_of_array TStorage.state self.old)
-            (store_of_array TStorage.state self.new) (refusal_of e)) }
-        ensures kept { KeepsArray self.old self.new }
+        requires { MayStoreRegion TStorage.state (R.region array_subset.now) self.old }
+        ensures { StoresRegionOrRefuses D.serves (D.gives subset_data) TStorage.state
+            (stores_empty_chunks options.now) (R.region array_subset.now) self.old self.new result }
     {
         let subset_data = match subset_data.into_array_bytes(alloc, self.engine.data_type()) {
             Ok(subset_data) => subset_data,

@@ -1,0 +1,79 @@
+-- V2 metadata that becomes V3 metadata in its store.
+use Rattle.std.specs.Prelude.{◌≡◌, ◌⊎◌, ℕ, true, false, List, [], ◌∷◌, ◌++◌, Option, Some, None, Ok}
+use Rattle.zarrs_storage.specs.Store.{StoreState}
+use Rattle.zarrs_keys.specs.Paths.{is_node_path}
+use Rattle.zarrs_steps.specs.Layout.{Layout, IsLawful, metadata_keys_at}
+use Rattle.zarrs_steps.specs.Content.{value_at}
+use Rattle.zarrs_steps.specs.Refusals.{Refusal, out_of_memory}
+use Rattle.zarrs_steps.specs.Laws.{HaveEqualContent}
+use Rattle.zarrs_document.specs.Document.{DocumentData, IsDocumentText}
+use Rattle.zarrs_document_v2.specs.Document.{DocumentV2Data}
+use Rattle.zarrs_document_v2.specs.View.{MetadataData, v3, v2}
+use Rattle.zarrs_options.specs.Options.{MetadataOptionsData}
+use Rattle.zarrs_options.specs.declared.versions.MetadataConvertVersion.TheVariants as convert
+use Rattle.zarrs_options.specs.declared.versions.MetadataRetrieveVersion.TheVariants as retrieve
+use Rattle.zarrs_array_metadata.specs.Meanings.{Meaning, creation}
+use Rattle.zarrs_array_metadata.specs.Opening.{v3_key, v2_array_key, attributes_key, opened}
+use Rattle.zarrs_array_metadata.specs.Shown.{shown}
+use Rattle.zarrs_array_metadata.specs.Writing.{Put, put_at}
+use Rattle.zarrs.specs.Laws.{IsReadAgainV3}
+use Rattle.zarrs.specs.Puts.{ArePut, RefusesPuts}
+
+-- the V3 document as options show the metadata in V3
+abbrev pub IsUpgradeOf : MetadataOptionsData → MetadataData → DocumentData → Type 0
+IsUpgradeOf o m n = shown (record o { convert_version = convert.V3 }) m ≡ Ok (v3 n)
+
+-- first the text of the V3 document at its key; then the V2 document and its attributes are erased
+pub record IsUpgradedBy (path : List ℕ) (n : DocumentData) (puts : List Put) : Type 0 where
+  pub text : List ℕ
+  pub says : IsDocumentText n text
+  pub is : puts ≡ put_at (v3_key path) (Some text) ∷ put_at (v2_array_key path) None ∷ put_at (attributes_key path) None ∷ []
+
+-- these upgrade V2 metadata of an array at the path, as options show it in V3
+pub record AreUpgrade (o : MetadataOptionsData) (path : List ℕ) (m : DocumentV2Data) (puts : List Put) : Type 0 where
+  pub document : DocumentData
+  pub is_upgrade : IsUpgradeOf o (v2 m) document
+  pub upgraded : IsUpgradedBy path document puts
+
+-- an accepted upgrade: of V3 metadata nothing is done
+pub record Upgrades (o : MetadataOptionsData) (path : List ℕ) (m : DocumentV2Data) (old new : StoreState) : Type 0 where
+  pub puts : List Put
+  pub upgrade : AreUpgrade o path m puts
+  pub put : ArePut puts old new
+
+abbrev pub UpgradesMetadata : MetadataOptionsData → List ℕ → MetadataData → StoreState → StoreState → Type 0
+UpgradesMetadata o path (v3 m) old new = new ≡ old
+UpgradesMetadata o path (v2 m) old new = Upgrades o path m old new
+
+-- a front of it is done, and the next writing call refused
+pub record UpgradesFront (o : MetadataOptionsData) (path : List ℕ) (m : DocumentV2Data) (r : Refusal) (old new : StoreState) : Type 0 where
+  pub puts : List Put
+  pub upgrade : AreUpgrade o path m puts
+  pub refused : RefusesPuts puts r old new
+
+-- A refused upgrade: memory was short before the first writing call, or a front of it is done. Of V3 metadata none is
+-- refused.
+abbrev pub RefusesUpgrade : MetadataOptionsData → List ℕ → MetadataData → Refusal → StoreState → StoreState → Type 0
+RefusesUpgrade o path (v3 m) r old new = ⊥
+RefusesUpgrade o path (v2 m) r old new = ((r ≡ out_of_memory) × (new ≡ old)) ⊎ UpgradesFront o path m r old new
+
+-- some metadata of an array of these parts opens at the path
+abbrev pub OpensAs : StoreState → List ℕ → Meaning → Type 0
+OpensAs state path parts = (found : MetadataData) × (opened retrieve.Default state path ≡ Ok found) × (creation found ≡ Ok parts)
+
+-- After each front of an upgrade an array of the same parts opens, if the store had no V3 document and its V2 documents
+-- open to one of these parts, the V3 document is read again, and its key is not refused.
+abbrev pub UpgradesOpen : Type 0
+UpgradesOpen =
+    (o : MetadataOptionsData) (path : List ℕ) (m found : MetadataData) (n : DocumentData) (parts : Meaning) (puts done left : List Put) (old new : StoreState)
+    → is_node_path path ≡ true → creation m ≡ Ok parts → IsUpgradeOf o m n → IsReadAgainV3 n
+    → value_at old (v3_key path) ≡ None → opened retrieve.V2 old path ≡ Ok found → creation found ≡ Ok parts
+    → IsUpgradedBy path n puts → puts ≡ done ++ left → ArePut done old new → new.refuses (v3_key path) ≡ false
+    → OpensAs new path parts
+
+-- and no cell of the array changes
+abbrev pub UpgradesLeaveContent : Type 0
+UpgradesLeaveContent =
+    (layout : Layout) (path : List ℕ) → IsLawful layout → layout.metadata_keys ≡ metadata_keys_at path
+    → (n : DocumentData) (puts done left : List Put) (old new : StoreState)
+    → IsUpgradedBy path n puts → puts ≡ done ++ left → ArePut done old new → HaveEqualContent layout old new

@@ -1,0 +1,90 @@
+//! The V2 metadata of an array, turned into V3 metadata in its store.
+use super::Array;
+use std::alloc::Global;
+use zarrs_array_metadata::{MetadataPut, puts_of_metadata};
+use zarrs_document_v2::{ArrayMetadata, array_metadata_v2_to_v3};
+use zarrs_keys::{meta_key_v2_array, meta_key_v2_attributes};
+use zarrs_options::MetadataConvertVersion;
+use zarrs_storage::{StorageError, WritableStorageTraits};
+
+impl<TStorage> Array<TStorage> {
+    ghost use Rattle.std.specs.Prelude.{◌≡◌, map, IfOk, IsOkUnless};
+    ghost use Rattle.zarrs_document_v2.specs.Document.{DocumentV2Data};
+    ghost use Rattle.zarrs_document_v2.specs.View.{v2};
+    ghost use Rattle.zarrs_array_metadata.specs.Writing.{put_view};
+    ghost use Rattle.zarrs.specs.Arrays.{metadata_of_array, metadata_options_of_array};
+    ghost use Rattle.zarrs.specs.Arrays.{path_of_array};
+    ghost use Rattle.zarrs.specs.Upgrade.{AreUpgrade};
+
+    /// Returns what is put into the store to turn V2 metadata into V3 metadata.
+    fn upgrade_puts(&self, alloc: Global) -> Result<Vec<MetadataPut>, StorageError>
+        ensures upgrade { (m : DocumentV2Data) → metadata_of_array self.now ≡ v2 m
+            → IfOk result (λ puts. AreUpgrade (metadata_options_of_array self.now)
+            (path_of_array self.now) m (map put_view puts.items)) }
+        ensures accepted { IsOkUnless result StorageError.OutOfMemory }
+    {
+        let options = self
+            .metadata_options
+            .with_metadata_convert_version(MetadataConvertVersion::V3);
+        // The metadata of an array has a V3 document, so that only memory can run out.
+        let Ok(metadata) = self.metadata_opt(alloc, &options) else {
+            return Err(StorageError::OutOfMemory);
+        };
+        let path = self.engine.path();
+        let array = MetadataPut {
+            key: meta_key_v2_array(alloc, path)?,
+            value: None,
+        };
+        let attributes = MetadataPut {
+            key: meta_key_v2_attributes(alloc, path)?,
+            value: None,
+        };
+        let mut puts = puts_of_metadata(alloc, path, &metadata)?;
+        puts.push(array)?;
+        puts.push(attributes)?;
+        Ok(puts)
+    }
+}
+
+impl<TStorage: WritableStorageTraits> Array<TStorage> {
+    ghost use Rattle.std.specs.Prelude.{◌≡◌, Ok, IfErr, OnOk, OnErr};
+    ghost use Rattle.zarrs_steps.specs.Refusals.{refusal_of_storage};
+    ghost use Rattle.zarrs_array_metadata.specs.Meanings.{as_v3};
+    ghost use Rattle.zarrs.specs.Arrays.{metadata_of_array, metadata_options_of_array};
+    ghost use Rattle.zarrs.specs.Arrays.{layout_of_array, path_of_array, store_of_array};
+    ghost use Rattle.zarrs.specs.Arrays.{KeepsArray, KeepsAllButDocument};
+    ghost use Rattle.zarrs.specs.Upgrade.{UpgradesMetadata, RefusesUpgrade};
+
+    /// Turns the metadata of a V2 array into V3 metadata, by three writing calls of the store: the V3 document, as the
+    /// array's own metadata options show it, is stored at the key `zarr.json` of the path; then `.zarray` is erased, and
+    /// then `.zattrs`. The array has V3 metadata afterwards, as after `to_v3`, and lies in its store as before: no chunk
+    /// and no key of a chunk changes. Of a V3 array nothing is done, and the store is not called.
+    ///
+    /// # Errors
+    /// If the store refuses, and `OutOfMemory`. A front of the three calls is done then, and the array has the metadata
+    /// that it had. If the store had no `zarr.json`, an array of the same parts opens at the path after each front.
+    pub fn upgrade_metadata(&mut self, alloc: Global) -> Result<(), StorageError>
+        ensures done { OnOk result (UpgradesMetadata (metadata_options_of_array self.old)
+            (path_of_array self.old) (metadata_of_array self.old)
+            (store_of_array TStorage.state self.old) (store_of_array TStorage.state self.new)) }
+        ensures metadata { OnOk result
+            (as_v3 (metadata_of_array self.old) ≡ Ok (metadata_of_array self.new)) }
+        ensures refused { IfErr result (λ e. RefusesUpgrade (metadata_options_of_array self.old)
+            (path_of_array self.old) (metadata_of_array self.old) (refusal_of_storage e)
+            (store_of_array TStorage.state self.old) (store_of_array TStorage.state self.new)) }
+        ensures untouched { OnErr result (KeepsArray self.old self.new) }
+        ensures layout { layout_of_array self.new ≡ layout_of_array self.old }
+        ensures kept { KeepsAllButDocument self.old self.new }
+    {
+        let ArrayMetadata::V2(document) = &self.metadata else {
+            return Ok(());
+        };
+        let Ok(upgraded) = array_metadata_v2_to_v3(alloc, document) else {
+            return Err(StorageError::OutOfMemory);
+        };
+        let puts = self.upgrade_puts(alloc)?;
+        self.put_all(alloc, puts)?;
+        self.metadata = ArrayMetadata::V3(upgraded);
+        Ok(())
+    }
+}
