@@ -8,7 +8,7 @@ use std::rt::Files;
 use zarrs_script::run_script;
 
 /// The scripts, and the status that each ends with.
-const EXAMPLES: [(&str, u8); 26] = [
+const EXAMPLES: [(&str, u8); 28] = [
     ("first", 0),
     ("few_cells", 0),
     ("empty", 0),
@@ -30,6 +30,8 @@ const EXAMPLES: [(&str, u8); 26] = [
     ("metadata_of_shapes", 0),
     ("metadata_between_calls", 0),
     ("metadata_refusals", 1),
+    ("resize", 0),
+    ("resize_and_metadata", 1),
     ("skipped", 1),
     ("limits", 1),
     ("cell_out_of_range", 2),

@@ -2,6 +2,7 @@ pub mod Numbers
 pub mod Split
 pub mod Lists
 pub mod Regions
+pub mod Reshaped
 pub mod Lines
 pub mod Bytes
 pub mod CellBytes

@@ -1,22 +1,17 @@
 -- What new arrays are.
 use Rattle.std.proofs.Common.{◌≡◌, ◌≢◌, ◌==◌, ℕ, ◌<◌, ◌+◌, true, false, List, [], ◌∷◌, ◌++◌, length, take, get_or}
-use Rattle.std.proofs.Common.{codes, map, Some, Result, Ok, Err, refl, sym, ap, ◌∙◌, subst, arith}
+use Rattle.std.proofs.Common.{codes, map, Some, Result, Ok, refl, sym, ap, ◌∙◌, subst, arith}
 use Rattle.std.specs.List.{list_any}
 use Rattle.std.specs.FinMap as finite
 use Rattle.std.specs.Int.NonZero.{non_zero_u64_get}
 use Rattle.std.specs.declared.num.NonZeroU64.{NonZeroU64}
-use Rattle.std.proofs.lemmas.Bool.{and_parts}
 use Rattle.std.proofs.lemmas.Bool.Decides.{nat_tests}
-use Rattle.std.proofs.lemmas.Map.Views.{exact_unsigned_eq}
 use Rattle.std.proofs.lemmas.List.{take_more, map_push}
 use Rattle.std.proofs.lemmas.List.Folds.{list_any_at}
 use Rattle.zarrs_storage.specs.Memory.{MemoryState, open_state}
 use Rattle.zarrs_metadata.specs.declared.separators.ChunkKeySeparator.TheVariants.{Slash}
 use Rattle.zarrs_chunk_grid.specs.Axes.{sizes_of}
 use Rattle.zarrs_chunk_grid.specs.Configurations.{regular, takes_shape}
-use Rattle.zarrs_chunk_grid.specs.Refusals.{RefusesGrid}
-use Rattle.zarrs_chunk_grid.specs.declared.error.GridError.{GridError}
-use Rattle.zarrs_chunk_grid.specs.declared.error.GridError.TheVariants as grid_error
 use Rattle.zarrs_data_type.specs.Kind.{Kind}
 use Rattle.serde_json.specs.Written.{has_float}
 use Rattle.zarrs_document.specs.Document.{DocumentData, data_of_document}
@@ -42,13 +37,8 @@ use Rattle.zarrs_script_metadata.proofs.Plain.{plain_document_for}
 use Rattle.zarrs_steps.specs.Layout.{Layout}
 use Rattle.zarrs_script_metadata.specs.declared.cell_type.CellType.{CellType}
 use Rattle.zarrs_script_metadata.specs.declared.cell_type.CellType.TheVariants as cell
-use Rattle.zarrs_script.specs.declared.command.Creation.{Creation}
-use Rattle.zarrs_script.specs.declared.error.CreationError.{CreationError}
-use Rattle.zarrs_script.specs.declared.error.CreationError.TheVariants.{NoGrid, OutOfMemory}
 use Rattle.zarrs_script_metadata.specs.CellTypes.{kind_of_cells}
 use Rattle.zarrs_script.specs.Transcript.{Opened, MakesGrid, SaysItsParts, layout_for, parts_of_line, metadata_for, new_array}
-use Rattle.zarrs_script.specs.Sessions.{HasNoArray}
-use Rattle.zarrs_script.specs.Sizes.{HasSizes}
 
 -- one extent more, which is not 0
 pub one_size : (sizes : List NonZeroU64) (size : NonZeroU64) (extents : List ℕ) (k : ℕ) → k < length extents → sizes_of sizes ≡ take k extents → non_zero_u64_get size ≡ get_or extents k 0

@@ -12,11 +12,12 @@ use Rattle.zarrs_steps.specs.declared.call.Call.TheVariants as call
 use Rattle.zarrs_steps.specs.declared.call.Reply.{Reply}
 use Rattle.zarrs_steps.specs.declared.call.Reply.TheVariants.{Done, Cells, MaybeCells, Refused}
 use Rattle.zarrs_steps.specs.Layout.{Layout, ArrayState}
-use Rattle.zarrs_steps.specs.Acts.{Act, store, erase, read, read_chunk, act_of}
+use Rattle.zarrs_steps.specs.Acts.{Act, store, erase, read, read_chunk, resize, act_of}
 use Rattle.zarrs_steps.specs.ArgumentRefusals.{argument_refusal}
 use Rattle.zarrs_steps.specs.Refusals.{Refusal}
 use Rattle.zarrs_steps.specs.Step.{ActStep, Step, Run}
 use Rattle.zarrs_document_v2.specs.View.{MetadataData}
+use Rattle.zarrs_array_metadata.specs.Changes.{with_shape}
 use Rattle.zarrs.specs.Arrays.{metadata_of_array}
 use Rattle.zarrs_script_metadata.specs.Parts.{text_of_metadata}
 use Rattle.zarrs_script_metadata.specs.declared.cell_type.CellType.{CellType}
@@ -43,24 +44,26 @@ some_text cell_type kind held given typed is =
     subst (λ (found : Option (List Cell)). IsSome (option_map (λ given. line (list_text (map (cell_text cell_type) given))) found)) (sym same) refl
 
 -- each reply of an act has a text
-act_said : (cell_type : CellType) (layout : Layout) (keep : Bool) (first : Option Refusal) (act : Act) (reply : Reply) (old new : StoreState) → layout.kind ≡ kind_of_cells cell_type → ActStep layout keep first act reply old new → IsSome (reply_text cell_type reply)
-act_said cell_type layout keep first act Done old new typed s = refl
-act_said cell_type layout keep first act (Refused e) old new typed s = refl
-act_said cell_type layout keep first act (MaybeCells None) old new typed s = refl
-act_said cell_type layout keep first (store region held chunks) (Cells made) old new typed s = absurd s
-act_said cell_type layout keep first (erase chunks) (Cells made) old new typed s = absurd s
-act_said cell_type layout keep first (read region chunks) (Cells made) old new typed s = some_text cell_type layout.kind (data_of made) s.2.given typed s.2.are_cells
-act_said cell_type layout keep first (read_chunk true index) (Cells made) old new typed s = some_text cell_type layout.kind (data_of made) s.2.chunk typed s.2.is_chunk
-act_said cell_type layout keep first (read_chunk false index) (Cells made) old new typed s = absurd s
-act_said cell_type layout keep first (store region held chunks) (MaybeCells (Some made)) old new typed s = absurd s
-act_said cell_type layout keep first (erase chunks) (MaybeCells (Some made)) old new typed s = absurd s
-act_said cell_type layout keep first (read region chunks) (MaybeCells (Some made)) old new typed s = absurd s
-act_said cell_type layout keep first (read_chunk true index) (MaybeCells (Some made)) old new typed s = absurd s
-act_said cell_type layout keep first (read_chunk false index) (MaybeCells (Some made)) old new typed s = some_text cell_type layout.kind (data_of made) s.2.0.chunk typed s.2.0.is_chunk
+act_said : (cell_type : CellType) (layout : Layout) (keep : Bool) (shape : List ℕ) (first : Option Refusal) (act : Act) (reply : Reply) (old new : StoreState) → layout.kind ≡ kind_of_cells cell_type → ActStep layout keep shape first act reply old new → IsSome (reply_text cell_type reply)
+act_said cell_type layout keep shape first act Done old new typed s = refl
+act_said cell_type layout keep shape first act (Refused e) old new typed s = refl
+act_said cell_type layout keep shape first act (MaybeCells None) old new typed s = refl
+act_said cell_type layout keep shape first (store region held chunks) (Cells made) old new typed s = absurd s
+act_said cell_type layout keep shape first (erase chunks) (Cells made) old new typed s = absurd s
+act_said cell_type layout keep shape first (read region chunks) (Cells made) old new typed s = some_text cell_type layout.kind (data_of made) s.2.given typed s.2.are_cells
+act_said cell_type layout keep shape first (read_chunk true index) (Cells made) old new typed s = some_text cell_type layout.kind (data_of made) s.2.chunk typed s.2.is_chunk
+act_said cell_type layout keep shape first (read_chunk false index) (Cells made) old new typed s = absurd s
+act_said cell_type layout keep shape first (store region held chunks) (MaybeCells (Some made)) old new typed s = absurd s
+act_said cell_type layout keep shape first (erase chunks) (MaybeCells (Some made)) old new typed s = absurd s
+act_said cell_type layout keep shape first (read region chunks) (MaybeCells (Some made)) old new typed s = absurd s
+act_said cell_type layout keep shape first (read_chunk true index) (MaybeCells (Some made)) old new typed s = absurd s
+act_said cell_type layout keep shape first (read_chunk false index) (MaybeCells (Some made)) old new typed s = some_text cell_type layout.kind (data_of made) s.2.0.chunk typed s.2.0.is_chunk
+act_said cell_type layout keep shape first (resize wanted) (Cells made) old new typed s = absurd s
+act_said cell_type layout keep shape first (resize wanted) (MaybeCells (Some made)) old new typed s = absurd s
 
 -- each reply of a step has a text
 pub reply_said : (cell_type : CellType) (layout : Layout) (keep : Bool) (asked : Call) (reply : Reply) (old new : ArrayState) → layout.kind ≡ kind_of_cells cell_type → Step layout keep asked reply old new → IsSome (reply_text cell_type reply)
-reply_said cell_type layout keep asked reply old new typed step = act_said cell_type layout keep (argument_refusal layout old.shape asked) (act_of layout asked) reply old.store new.store typed step.1
+reply_said cell_type layout keep asked reply old new typed step = act_said cell_type layout keep old.shape (argument_refusal layout old.shape asked) (act_of layout asked) reply old.store new.store typed step.1
 
 -- the line of a call may do what its call does
 does_call : (asked : Call) (array : Opened) (outcome : Outcome) → Calls (order_of_call asked) array outcome → Does (Some array) (order_of_call asked) outcome
@@ -75,10 +78,11 @@ does_call (call.RetrieveChunk indices) array outcome calls = calls
 does_call (call.RetrieveChunks range) array outcome calls = calls
 does_call (call.RetrieveChunkSubset indices part) array outcome calls = calls
 does_call (call.RetrieveArraySubset region) array outcome calls = calls
+does_call (call.Resize shape) array outcome calls = calls
 
 -- a step of the array is what the line of its call may do
 pub call_served : (cell_type : CellType) (layout after : Layout) (metadata shown : MetadataData) (keep : Bool) (asked : Call) (reply : Reply) (old new : ArrayState) (refused : Bool)
-    → keep ≡ false → after ≡ layout → shown ≡ metadata → refused ≡ is_refusal reply → Step layout keep asked reply old new
+    → keep ≡ false → after ≡ layout → shown ≡ with_shape new.shape metadata → refused ≡ is_refusal reply → Step layout keep asked reply old new
     → (text : List ℕ) → reply_text cell_type reply ≡ Some text → Does (at cell_type layout metadata old) (order_of_call asked) (record { text = text; refused = refused; after = at cell_type after shown new })
 call_served cell_type layout after metadata shown keep asked reply old new refused default lies says told step text said =
     does_call asked (record { cell_type = cell_type; layout = layout; metadata = metadata; state = old }) (record { text = text; refused = refused; after = at cell_type after shown new }) (record {
@@ -116,6 +120,7 @@ skips_call (call.RetrieveChunk indices) = refl
 skips_call (call.RetrieveChunks range) = refl
 skips_call (call.RetrieveChunkSubset indices part) = refl
 skips_call (call.RetrieveArraySubset region) = refl
+skips_call (call.Resize shape) = refl
 
 -- one outcome after another
 abbrev pub joined : Outcome → Outcome → Outcome

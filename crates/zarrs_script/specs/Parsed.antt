@@ -14,7 +14,7 @@ use Rattle.zarrs_script.specs.declared.error.ParseError.TheVariants.{NotACommand
 use Rattle.zarrs_script.specs.declared.error.ScriptError.{ScriptError}
 use Rattle.zarrs_script.specs.declared.error.ScriptError.TheVariants as script
 use Rattle.zarrs_metadata.specs.Extension.{◌>>=◌}
-use Rattle.zarrs_script.specs.Script.{Order, Array, Chunk, Read, Erase, Put, Get, Keys, Meta, Other}
+use Rattle.zarrs_script.specs.Script.{Order, Array, Chunk, Read, Erase, Put, Get, Resize, Keys, Meta, Other}
 
 -- a text that says this is refused with this error: it says nothing, or out of memory
 abbrev pub Fails : {Y : Type 0} → ParseError → Option Y → Type 0
@@ -41,6 +41,7 @@ order_of_call (call.RetrieveChunk indices) = Read indices.items
 order_of_call (call.EraseChunk indices) = Erase indices.items
 order_of_call (call.StoreArraySubset region held) = Put (box_of region) (data_of held)
 order_of_call (call.RetrieveArraySubset region) = Get (box_of region)
+order_of_call (call.Resize shape) = Resize shape.items
 order_of_call _ = Other
 
 abbrev pub order_of_command : Command → Order

@@ -23,6 +23,8 @@ pub data Order : Type 0 where
   -- store cells over this region, and read it
   Put : (region : Box) (cells : ArrayData) → Order
   Get : (region : Box) → Order
+  -- change the array's shape
+  Resize : (shape : List ℕ) → Order
   -- list the keys
   Keys : Order
   -- show the metadata
@@ -38,6 +40,7 @@ verb_of word =
     else if bytes_eq word (codes "erase") then Some verb.Erase
     else if bytes_eq word (codes "put") then Some verb.Put
     else if bytes_eq word (codes "get") then Some verb.Get
+    else if bytes_eq word (codes "resize") then Some verb.Resize
     else if bytes_eq word (codes "keys") then Some verb.Keys
     else if bytes_eq word (codes "meta") then Some verb.Meta
     else None
@@ -69,10 +72,10 @@ abbrev pub get_order : List (List ℕ) → Option Order
 get_order (start ∷ shape ∷ []) = region_of start shape >>= λ region. Some (Get region)
 get_order _ = None
 
--- indices and nothing else
-abbrev pub indices_of : List (List ℕ) → Option (List ℕ)
-indices_of (indices ∷ []) = numbers_in_word indices
-indices_of _ = None
+-- one list and nothing else
+abbrev pub one_list : List (List ℕ) → Option (List ℕ)
+one_list (numbers ∷ []) = numbers_in_word numbers
+one_list _ = None
 
 abbrev pub keys_order : List (List ℕ) → Option Order
 keys_order [] = Some Keys
@@ -87,10 +90,11 @@ meta_order _ = None
 abbrev pub verb_order : Verb → Option CellType → List (List ℕ) → Option Order
 verb_order verb.Array known words = array_order words
 verb_order verb.Chunk known words = known >>= λ cell_type. chunk_order cell_type words
-verb_order verb.Read known words = known >>= λ _. indices_of words >>= λ indices. Some (Read indices)
-verb_order verb.Erase known words = known >>= λ _. indices_of words >>= λ indices. Some (Erase indices)
+verb_order verb.Read known words = known >>= λ _. one_list words >>= λ indices. Some (Read indices)
+verb_order verb.Erase known words = known >>= λ _. one_list words >>= λ indices. Some (Erase indices)
 verb_order verb.Put known words = known >>= λ cell_type. put_order cell_type words
 verb_order verb.Get known words = known >>= λ _. get_order words
+verb_order verb.Resize known words = known >>= λ _. one_list words >>= λ shape. Some (Resize shape)
 verb_order verb.Keys known words = known >>= λ _. keys_order words
 verb_order verb.Meta known words = known >>= λ _. meta_order words
 

@@ -23,6 +23,7 @@ use Rattle.zarrs_steps.specs.declared.call.Reply.TheVariants.{Done, Cells, Maybe
 use Rattle.zarrs_steps.specs.Layout.{Layout, layout_at, ArrayState}
 use Rattle.zarrs_steps.specs.Refusals.{refusal_of, refusal_number}
 use Rattle.zarrs_steps.specs.Step.{Step}
+use Rattle.zarrs_array_metadata.specs.Changes.{with_shape}
 use Rattle.zarrs_array_metadata.specs.Meanings.{Meaning, creation_v3}
 use Rattle.zarrs_script_metadata.specs.Parts.{parts_for, document_for, text_of_metadata}
 use Rattle.zarrs_script_metadata.specs.declared.cell_type.CellType.{CellType}
@@ -135,6 +136,10 @@ Opens shape chunk_shape cell_type fill outcome =
     ⊎ ((MakesGrid shape chunk_shape → ⊥) × (outcome ≡ record { text = refusal 18; refused = true; after = None }))
     ⊎ (outcome ≡ record { text = refusal 26; refused = true; after = None })
 
+-- the array in another state: its metadata has the shape that it has then
+abbrev pub opened_at : ArrayState → Opened → Opened
+opened_at state array = record array { metadata = with_shape state.shape array.metadata; state = state }
+
 -- The call that the line asks for makes a step of the engine, which stores no empty chunks, and its reply is printed.
 pub record Calls (order : Order) (before : Opened) (outcome : Outcome) : Type 0 where
   pub call : Call
@@ -144,7 +149,7 @@ pub record Calls (order : Order) (before : Opened) (outcome : Outcome) : Type 0 
   pub step : Step before.layout false call reply before.state state
   pub prints : reply_text before.cell_type reply ≡ Some outcome.text
   pub refused : outcome.refused ≡ is_refusal reply
-  pub after : outcome.after ≡ Some (record before { state = state })
+  pub after : outcome.after ≡ Some (opened_at state before)
 
 -- what a line may do
 abbrev pub Does : Session → Order → Outcome → Type 0

@@ -21,6 +21,8 @@ pub enum Verb {
     Put,
     /// `get`
     Get,
+    /// `resize`
+    Resize,
     /// `keys`
     Keys,
     /// `meta`

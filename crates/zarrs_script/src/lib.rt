@@ -1,5 +1,5 @@
-//! Scripts: lines that make an array in memory, store, read and erase its cells, list the keys of its store, and show
-//! its metadata.
+//! Scripts: lines that make an array in memory, store, read and erase its cells, change its shape, list the keys of its
+//! store, and show its metadata.
 #![tactic(auto)]
 
 mod array;

@@ -8,7 +8,7 @@ ghost use Rattle.zarrs_script_metadata.specs.CellTypes.{kind_of_cells};
 ghost use Rattle.zarrs_script.specs.CellTexts.{cell_of, joined_cells, cells_of, low_bytes};
 ghost use Rattle.zarrs_script.specs.CellTexts.{positive, negative, unsigned_cell, signed_cell};
 ghost use Rattle.zarrs_script.specs.Script.{verb_of, array_order, chunk_order, put_order};
-ghost use Rattle.zarrs_script.specs.Script.{get_order, indices_of, keys_order, meta_order};
+ghost use Rattle.zarrs_script.specs.Script.{get_order, one_list, keys_order, meta_order};
 ghost use Rattle.zarrs_script.specs.Script.{verb_order};
 ghost use Rattle.zarrs_script.specs.Script.{order_of, type_after, is_skipped, orders_of};
 ghost use Rattle.zarrs_script.specs.Parsed.{Gives, Grows, words_in, TakesWord, TakesLastWord};
@@ -39,6 +39,8 @@ fn verb_of(word: &[u8]) -> Option<Verb>
         Some(Verb::Put)
     } else if word == b"get".as_slice() {
         Some(Verb::Get)
+    } else if word == b"resize".as_slice() {
+        Some(Verb::Resize)
     } else if word == b"keys".as_slice() {
         Some(Verb::Keys)
     } else if word == b"meta".as_slice() {
@@ -296,12 +298,12 @@ fn get_command(alloc: Global, words: Option<&[u8]>) -> Result<Command, ParseErro
     Ok(Command::Call(Call::RetrieveArraySubset(region)))
 }
 
-/// The indices of a line that has nothing else.
-fn indices_of(alloc: Global, words: Option<&[u8]>) -> Result<Vec<u64>, ParseError>
-    ensures { Gives (λ indices. indices.items) result (indices_of (words_in words.entry)) }
+/// The list of a line that has nothing else.
+fn one_list(alloc: Global, words: Option<&[u8]>) -> Result<Vec<u64>, ParseError>
+    ensures { Gives (λ numbers. numbers.items) result (one_list (words_in words.entry)) }
 {
-    let indices = last_word(words)?;
-    numbers_in_word(alloc, indices)
+    let numbers = last_word(words)?;
+    numbers_in_word(alloc, numbers)
 }
 
 fn keys_command(words: Option<&[u8]>) -> Result<Command, ParseError>
@@ -335,12 +337,11 @@ fn verb_command(
         (Verb::Array, _) => array_command(alloc, words),
         (_, None) => Err(ParseError::NotACommand),
         (Verb::Chunk, Some(cell_type)) => chunk_command(alloc, cell_type, words),
-        (Verb::Read, Some(_)) => {
-            Ok(Command::Call(Call::RetrieveChunk(indices_of(alloc, words)?)))
-        }
-        (Verb::Erase, Some(_)) => Ok(Command::Call(Call::EraseChunk(indices_of(alloc, words)?))),
+        (Verb::Read, Some(_)) => Ok(Command::Call(Call::RetrieveChunk(one_list(alloc, words)?))),
+        (Verb::Erase, Some(_)) => Ok(Command::Call(Call::EraseChunk(one_list(alloc, words)?))),
         (Verb::Put, Some(cell_type)) => put_command(alloc, cell_type, words),
         (Verb::Get, Some(_)) => get_command(alloc, words),
+        (Verb::Resize, Some(_)) => Ok(Command::Call(Call::Resize(one_list(alloc, words)?))),
         (Verb::Keys, Some(_)) => keys_command(words),
         (Verb::Meta, Some(_)) => meta_command(words),
     }

@@ -166,6 +166,7 @@ fn refusal_number(error: &ArrayError) -> u8
         ArrayError::SizeOverflow => 8,
         ArrayError::OutOfMemory => 9,
         ArrayError::IncompatibleDimensionalityError(_) => 10,
+        ArrayError::UnsupportedMethod(_) => 28,
         _ => 0,
     }
 }

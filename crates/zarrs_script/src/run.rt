@@ -179,9 +179,9 @@ fn read_and_answer<R: Read, W: Write>(
 ///
 /// Each line is a command, empty, or begins with `#`. The words of a command are separated by one space. It is
 /// `array SHAPE CHUNKS TYPE FILL`, `chunk INDICES CELLS`, `read INDICES`, `erase INDICES`, `put START SHAPE CELLS`,
-/// `get START SHAPE`, `keys` or `meta`. A list is numbers joined by `,`, or `-`. A region's START and SHAPE have the
-/// same length, and each end, their sum, is below 2^64. A type is `bool`, `int8` to `int64` or `uint8` to `uint64`. Its
-/// cells are numbers, of a signed type also with `-` before them; of `bool` they are 0 and 1.
+/// `get START SHAPE`, `resize SHAPE`, `keys` or `meta`. A list is numbers joined by `,`, or `-`. A region's START and
+/// SHAPE have the same length, and each end, their sum, is below 2^64. A type is `bool`, `int8` to `int64` or `uint8` to
+/// `uint64`. Its cells are numbers, of a signed type also with `-` before them; of `bool` they are 0 and 1.
 ///
 /// | Status | Meaning |
 /// |---|---|

@@ -52,6 +52,7 @@ const FIRST: &[&[u8]] = &[
     b"put 0,0 1 1",
     b"put 0,0 1,1 256",
     b"put 0,18446744073709551615 1,1 1",
+    b"resize 4\narray 4 2 uint8 0\n",
     // cells outside their type
     b"array 2 2 bool 2",
     b"array 2 2 bool -1",
@@ -89,6 +90,10 @@ const SECOND: &[&[u8]] = &[
     b"array 4 2 uint8 0\nMeta\n",
     b"array 4 2 uint8 0\nmetadata\n",
     b"array 4 0 uint8 0\nmeta -\n",
+    b"array 4 2 uint8 0\nresize\n",
+    b"array 4 2 uint8 0\nresize 4 4\n",
+    b"array 4 2 uint8 0\nresize -1\n",
+    b"array 4 2 uint8 0\nresize 18446744073709551616\n",
     // words that are no region of two dimensions
     b"array 4,4 2,2 uint8 0\nget",
     b"array 4,4 2,2 uint8 0\nget 0,0",

@@ -1,19 +1,21 @@
-use Rattle.std.proofs.Common.{List, ◌∷◌, [], refl, subst, ap, arith}
+use Rattle.std.proofs.Common.{List, ◌∷◌, [], refl, subst, ap, ◌∙◌, arith}
+use Rattle.serde_json.specs.Written.{has_float}
 use Rattle.zarrs_storage.specs.Memory.{open_state}
-use Rattle.zarrs_document_v2.specs.View.{metadata_view}
-use Rattle.zarrs_data_type.specs.Same.{kind_eq-Decides}
+use Rattle.zarrs_document_v2.specs.View.{MetadataData, data_of_metadata}
+use Rattle.zarrs_data_type.specs.Same.{kind_eq, kind_eq-Decides}
+use Rattle.zarrs_steps.specs.Layout.{Layout}
 use Rattle.zarrs_steps.specs.declared.call.Reply.{Reply}
 use Rattle.zarrs_steps.specs.Step.{Run}
-use Rattle.zarrs_codec.specs.Options.{stores_empty_chunks}
-use Rattle.zarrs_layout.specs.Layouts.{layout_of_parts}
+use Rattle.zarrs_chain.specs.Options.{stores_empty_chunks}
 use Rattle.zarrs.specs.Arrays.{layout_of_array, metadata_of_array, state_of_array}
 use Rattle.zarrs_script_metadata.specs.CellTypes.{kind_of_cells}
 use Rattle.zarrs_script.proofs.Printing.{puts_as}
+use Rattle.zarrs_script.proofs.Reshaped.{floats_kept}
 use Rattle.zarrs_script.proofs.Transcripts.{one_reply, some_reply, reply_said, call_served}
 use Rattle.zarrs_script.proofs.run.make_call.Goals as goal
 
 pub replay-requires : goal.replay-requires
-replay-requires g c call listed index reached long = record { key = refl; places = λ place. refl }
+replay-requires g c = ((λ index reached long. record { key = refl; places = λ place. refl }), λ reply. tt)
 
 pub unreachable-requires : goal.unreachable-requires
 unreachable-requires g c =
@@ -42,7 +44,18 @@ returns g c =
     let after = state_of_array open_state c.replay.new.self in
     puts_as (g.W.Write.contents c.args.writer.now) _ c.args.out.now.items _
     (call_served old.cell_type (layout_of_array old.array) (layout_of_array c.replay.new.self) (metadata_of_array old.array) (metadata_of_array c.replay.new.self) keep c.args.call c.in-Some.reply before after _
-    c.default-options.ensures.0 (ap layout_of_parts kept.parts) (ap metadata_view kept.metadata) c.in_ok-refused.ensures.refused
+    c.default-options.ensures.0 c.replay.ensures.layout kept.metadata c.in_ok-refused.ensures.refused
     (one_reply (layout_of_array old.array) keep c.args.call c.pop.new.self.items c.in-Some.reply before after
     (subst (λ (replies : List Reply). Run (layout_of_array old.array) keep (c.args.call ∷ []) replies before after) c.in-Some.ensures.items c.in_ok-replies.ensures.run)))
     c.in_ok-refused.ensures.text
+
+pub invariant_of-array-clause-typed : goal.invariant_of-array-clause-typed
+invariant_of-array-clause-typed g c =
+    let old = c.args.array.now in
+    ap (λ (layout : Layout). kind_eq layout.kind (kind_of_cells old.cell_type)) c.replay.ensures.layout ∙ old.typed
+
+pub invariant_of-array-clause-plain : goal.invariant_of-array-clause-plain
+invariant_of-array-clause-plain g c =
+    let old = c.args.array.now in
+    let shape = (state_of_array open_state c.replay.new.self).shape in
+    ap (λ (m : MetadataData). has_float (data_of_metadata m)) c.replay.ensures.kept.metadata ∙ floats_kept (metadata_of_array old.array) shape ∙ old.plain
