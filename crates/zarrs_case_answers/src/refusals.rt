@@ -16,6 +16,7 @@ pub fn number_of_call(error: &ArrayError) -> u8 {
         ArrayError::SizeOverflow => 8,
         ArrayError::OutOfMemory => 9,
         ArrayError::IncompatibleDimensionalityError(_) => 10,
+        ArrayError::UnsupportedMethod(_) => 28,
         _ => 0,
     }
 }

@@ -1,1 +1,2 @@
 mod Decodes
+pub mod OpenStores

@@ -71,6 +71,7 @@ fn by_bytes<'a>(
         Call::StoreRegion(write, region, word) => {
             store_region(alloc, array, options, *write, region, word)
         }
+        Call::Resize(shape) => Ok(writes::resize(alloc, array, options, shape)?),
         _ => Err(Why::Call(case.written)),
     }
 }
@@ -87,6 +88,7 @@ fn of_array<'a>(
         ArrayCall::StoreMetadata => Ok(writes::store_metadata(alloc, array)?),
         ArrayCall::StoreMetadataOpt => Ok(writes::store_metadata_opt(alloc, array, options)?),
         ArrayCall::EraseMetadata => Ok(writes::erase_metadata(alloc, array, options)?),
+        ArrayCall::UpgradeMetadata => Ok(writes::upgrade_metadata(alloc, array)?),
         ArrayCall::Shape => Ok(queries::shape(alloc, array)?),
         ArrayCall::GridShape => Ok(queries::grid_shape(alloc, array)?),
         ArrayCall::SubsetAll => Ok(queries::subset_all(alloc, array)?),

@@ -16,6 +16,7 @@ mod writes;
 
 pub use calls::answer_of;
 pub use comparison::Other;
+pub use options::changes_array;
 pub use queries::shown_metadata;
 pub use targets::Held;
 use zarrs::Array;

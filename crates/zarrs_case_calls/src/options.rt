@@ -24,9 +24,10 @@ pub(crate) fn typed_word<'a>(options: &Options<'a>) -> &'a str {
 fn is_read(call: &Call<'_>) -> bool {
     match call {
         Call::OfArray(call) => match call {
-            ArrayCall::StoreMetadata | ArrayCall::StoreMetadataOpt | ArrayCall::EraseMetadata => {
-                false
-            }
+            ArrayCall::StoreMetadata
+            | ArrayCall::StoreMetadataOpt
+            | ArrayCall::EraseMetadata
+            | ArrayCall::UpgradeMetadata => false,
             _ => true,
         },
         Call::OfChunk(ChunkCall::EraseChunk, _) | Call::OfRegion(RegionCall::EraseChunks, _) => {
@@ -38,6 +39,14 @@ fn is_read(call: &Call<'_>) -> bool {
         | Call::ReadInto(_, _)
         | Call::DecodeInto(_, _, _)
         | Call::Compare(_) => true,
+        _ => false,
+    }
+}
+
+/// Whether the call changes the array, beside its store.
+pub fn changes_array(call: &Call<'_>) -> bool {
+    match call {
+        Call::Resize(_) | Call::OfArray(ArrayCall::UpgradeMetadata) => true,
         _ => false,
     }
 }

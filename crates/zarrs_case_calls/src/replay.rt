@@ -98,6 +98,7 @@ fn without_data(alloc: Global, call: &Call<'_>) -> Result<Option<ArrayCall>, All
             Ok(Some(retrieve_part(alloc, indices, part)?))
         }
         Call::OfRegion(kind, region) => Ok(of_region(*kind, region.clone()?)),
+        Call::Resize(shape) => Ok(Some(ArrayCall::Resize(shape.to_vec(alloc)?))),
         _ => Ok(None),
     }
 }

@@ -120,3 +120,21 @@ pub(crate) fn erase_metadata(
     let outcome = array.erase_metadata_opt(alloc, options.of_erasing());
     put(alloc, &outcome)
 }
+
+pub(crate) fn upgrade_metadata(
+    alloc: Global,
+    array: &mut CaseArray<'_>,
+) -> Result<Answer, AllocError> {
+    let outcome = array.upgrade_metadata(alloc);
+    put(alloc, &outcome)
+}
+
+pub(crate) fn resize(
+    alloc: Global,
+    array: &mut CaseArray<'_>,
+    options: &Options<'_>,
+    shape: &[u64],
+) -> Result<Answer, AllocError> {
+    let outcome = array.resize(alloc, shape.to_vec(alloc)?, &options.of_codecs());
+    done(alloc, &outcome)
+}

@@ -240,6 +240,8 @@ pub enum Call<'a> {
     StoreEncoded(Vec<u64>, Vec<u8>),
     /// Compares the chunks of a range with those of the array that was set aside.
     Compare(ArraySubset),
+    /// Changes the array's shape, and cuts its chunks.
+    Resize(Vec<u64>),
     SetShape(Vec<u64>),
     SetShapeAndGrid(Vec<u64>, &'a str),
     SetNames(&'a str),
@@ -265,6 +267,7 @@ pub enum ArrayCall {
     StoreMetadata,
     StoreMetadataOpt,
     EraseMetadata,
+    UpgradeMetadata,
     Shape,
     GridShape,
     SubsetAll,

@@ -43,7 +43,7 @@ fn turn_on(options: &mut Options<'_>, name: &str) -> bool {
 /// Whether the call of this name takes the options of metadata and of chunks that are on.
 pub(crate) fn are_taken(options: &Options<'_>, name: &str) -> bool {
     match name {
-        "store_chunk" | "store_chunks" | "store_chunk_subset" | "store_array_subset" => {
+        "store_chunk" | "store_chunks" | "store_chunk_subset" | "store_array_subset" | "resize" => {
             !has_metadata_options(options)
         }
         "open"

@@ -5,7 +5,7 @@ use std::cell::RefCell;
 use std::mem;
 use zarrs::{Array, ArrayCreateError, Lent, MemoryStore, ReadOnly};
 use zarrs_case_answers::Answer;
-use zarrs_case_calls::{Held, Other, answer_of};
+use zarrs_case_calls::{Held, Other, answer_of, changes_array};
 use zarrs_case_lines::Why;
 use zarrs_case_lines::call::{Case, Options, Through};
 use zarrs_case_stores::{Asks, Below, CaseStore, Refusing, memory_of, refusing};
@@ -85,14 +85,14 @@ impl<'f> Session<'f> {
 
     /// Makes the call by an array over the store, or over a loan of it.
     fn answer(
-        &self,
+        &mut self,
         alloc: Global,
         case: &Case<'f>,
         store: &mut Refusing,
         asks: &RefCell<Asks>,
         held: &mut Held,
     ) -> Result<Answer, Why<'f>> {
-        let Some(array) = &self.array else {
+        let Some(array) = &mut self.array else {
             return Err(Why::NoOther);
         };
         let other = self.other.as_ref();
@@ -101,8 +101,33 @@ impl<'f> Session<'f> {
             Through::Lent => Below::Lent(Lent::new(store)),
             Through::ReadOnly => return read_only(alloc, array, case, store, asks, other, held),
         };
-        over(alloc, array, case, CaseStore::new(below, asks), other, held)
+        let store = CaseStore::new(below, asks);
+        if changes_array(&case.call) {
+            return changed(alloc, array, case, store, held);
+        }
+        over(alloc, array, case, store, other, held)
     }
+}
+
+/// Makes the call by the array over this store. The array is what the call makes of it.
+fn changed<'f>(
+    alloc: Global,
+    array: &mut Array<()>,
+    case: &Case<'f>,
+    store: CaseStore<'_>,
+    held: &mut Held,
+) -> Result<Answer, Why<'f>> {
+    let Ok(mut changing) = array.with_storage(alloc, store) else {
+        return Err(Why::OutOfMemory);
+    };
+    let answer = answer_of(alloc, &mut changing, case, None, held);
+    let after = changing.with_storage(alloc, ());
+    drop(changing);
+    match after {
+        Ok(after) => drop(mem::replace(array, after)),
+        Err(_) => return Err(Why::OutOfMemory),
+    }
+    answer
 }
 
 /// Makes the call by the array over this store.
