@@ -1,5 +1,5 @@
 -- A chunk of fill, into which one subchunk after another is put.
-use Rattle.std.proofs.Common.{◌≡◌, ℕ, ◌+◌, ◌<◌, ◌≤◌, inl, inr, true, List, [], ◌∷◌, ◌++◌, length, replicate, get_or, Some, sym, ap, ◌∙◌, arith}
+use Rattle.std.proofs.Common.{◌≡◌, ℕ, ◌+◌, ◌<◌, ◌≤◌, inl, inr, Bool, true, false, List, [], ◌∷◌, ◌++◌, length, replicate, get_or, Some, refl, sym, ap, subst, ◌∙◌, arith}
 use Rattle.std.proofs.lemmas.List.{length-append, length-replicate, get_or-replicate, get_or_append_left}
 use Rattle.std.proofs.lemmas.Bool.{cases_lt}
 use Rattle.std.proofs.Math.Seq.{get_or-append_seam}
@@ -12,7 +12,7 @@ use Rattle.zarrs_subset.specs.Rearranged.{made_of}
 use Rattle.zarrs_subset.proofs.Kernel.{place_below}
 use Rattle.zarrs_subset.proofs.Positions.{unravel_in}
 use Rattle.zarrs_subset.proofs.RearrangedCells.{made_from}
-use Rattle.zarrs_shard.specs.SubchunkData.{PutsSubchunk, HasSubchunks}
+use Rattle.zarrs_shard.specs.SubchunkData.{PutsSubchunk, FillsChunk, HasSubchunks, StartsChunk}
 use Rattle.zarrs_shard.specs.Subchunks.{is_cut_by, quotients, corner, subchunk_count, subchunk_of, subchunk_at, assembled}
 use Rattle.zarrs_shard.proofs.Cuts.{assembled_again, position_inside}
 use Rattle.zarrs_shard.proofs.Missing.{some_is}
@@ -80,3 +80,23 @@ module _ (k : Kind) (f : Cell) (s sub : List ℕ) where
       let same : subchunks ≡ made_of (subchunk_of s sub h.held) g =
       made_from (subchunk_of s sub h.held) g subchunks [] all (λ j lt. sym (h.first j (omega arith))) in
       h.held_is ∙ ap (λ l. Some l) (sym (ap (assembled s sub) same ∙ assembled_again s sub cut h.held h.count))
+
+module _ (k : Kind) (f : Cell) (s sub : List ℕ) where
+  -- the same of a chunk whose other cells are fill only if a subchunk may be left out
+  pub chunk_started : (is_whole : Bool) (d : ArrayData) → is_cut_by s sub ≡ true → StartsChunk k f s is_whole d → FillsChunk k f s sub is_whole [] d
+  chunk_started is_whole d cut x = record { filler = x.filler; fill_is = x.fill_is; has = filled_start k x.filler s sub d cut x.cells_are }
+
+  pub chunk_put : (is_whole : Bool) (subchunks : List (List Cell)) (cs : List Cell) (part old new : ArrayData) → length subchunks < subchunk_count s sub → FillsChunk k f s sub is_whole subchunks old
+      → PutsSubchunk k s sub (length subchunks) part old new → cells k part ≡ Some cs → FillsChunk k f s sub is_whole (subchunks ++ cs ∷ []) new
+  chunk_put is_whole subchunks cs part old new room h x is =
+      record { filler = h.filler; fill_is = h.fill_is; has = put_next k h.filler s sub subchunks cs part old new room h.has x is }
+
+  pub chunk_left : (subchunks : List (List Cell)) (d : ArrayData) → length subchunks < subchunk_count s sub → FillsChunk k f s sub false subchunks d
+      → FillsChunk k f s sub false (subchunks ++ replicate (position_count sub) f ∷ []) d
+  chunk_left subchunks d room h =
+      let is : h.filler ≡ f = h.fill_is refl in
+      record { filler = f; fill_is = λ no. refl; has = leave_next k f s sub subchunks d room (subst (λ c. HasSubchunks k c s sub subchunks d) is h.has) }
+
+  pub chunk_whole : (is_whole : Bool) (subchunks : List (List Cell)) (d : ArrayData) → is_cut_by s sub ≡ true → length subchunks ≡ subchunk_count s sub → FillsChunk k f s sub is_whole subchunks d
+      → cells k d ≡ Some (assembled s sub subchunks)
+  chunk_whole is_whole subchunks d cut all h = filled_whole k h.filler s sub subchunks d cut all h.has

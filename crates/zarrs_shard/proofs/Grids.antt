@@ -1,8 +1,8 @@
 -- The grid of a chunk's subchunks, dimension by dimension.
-use Rattle.std.proofs.Common.{◌≡◌, ℕ, zero, suc, ◌+◌, ◌*◌, ◌/◌, ◌%◌, ◌≤◌, ◌<◌, true, eqb, ◌&&◌, List, [], ◌∷◌, ◌++◌, length, take, refl, sym, ap, ◌∙◌, arith}
+use Rattle.std.proofs.Common.{◌≡◌, ℕ, zero, suc, ◌+◌, ◌*◌, ◌/◌, ◌%◌, ◌≤◌, ◌<◌, ◌≢◌, Bool, true, false, eqb, ◌&&◌, List, [], ◌∷◌, ◌++◌, length, take, drop, refl, sym, ap, ◌∙◌, arith}
 use Rattle.std.specs.Prelude.{nat_lt, slice_index}
-use Rattle.std.proofs.lemmas.Bool.{ltb-true, and_parts, false≢true}
-use Rattle.std.proofs.lemmas.List.{take_more}
+use Rattle.std.proofs.lemmas.Bool.{ltb-true, lt-ltb, eq-eqb, ne_eqb, and_parts, and_from, and_left, and_right, false≢true}
+use Rattle.std.proofs.lemmas.List.{take_more, drop_more, drop_all}
 use Rattle.std.proofs.Math.Nat.{div-add-mod', mul-le-mul_right, suc-mul}
 use Rattle.zarrs_subset.specs.Boxes.{InShape}
 use Rattle.zarrs_shard.specs.Subchunks.{is_cut_by, quotients, corner}
@@ -21,6 +21,44 @@ cut_at (n ∷ s) (c ∷ sub) zero cut lt =
     let outer = and_parts (nat_lt 0 c && eqb (n % c) 0) (is_cut_by s sub) cut in
     (refl, ltb-true 0 c (and_parts (nat_lt 0 c) (eqb (n % c) 0) outer.0).0)
 cut_at (n ∷ s) (c ∷ sub) (suc j) cut lt = cut_at s sub j (and_parts (nat_lt 0 c && eqb (n % c) 0) (is_cut_by s sub) cut).1 (omega arith)
+
+-- the dimensions from one on, tested one after another
+module _ (s sub : List ℕ) (j : ℕ) (b : Bool) (lt : j < length s) (same : length s ≡ length sub) (is : b ≡ is_cut_by (drop j s) (drop j sub)) where
+  cut_first : b ≡ ((nat_lt 0 (slice_index sub j) && eqb (slice_index s j % slice_index sub j) 0) && is_cut_by (drop (j + 1) s) (drop (j + 1) sub))
+  cut_first =
+      is ∙ ap (λ l. is_cut_by l (drop j sub)) (drop_more s j 0 lt)
+      ∙ ap (is_cut_by (slice_index s j ∷ drop (j + 1) s)) (drop_more sub j 0 (omega arith))
+
+  pub cut_zero : slice_index sub j ≡ 0 → b ≡ false
+  cut_zero zero_is =
+      cut_first
+      ∙ and_left (nat_lt 0 (slice_index sub j) && eqb (slice_index s j % slice_index sub j) 0) _
+      (and_left (nat_lt 0 (slice_index sub j)) _ (ap (nat_lt 0) zero_is))
+
+  pub cut_odd : slice_index s j % slice_index sub j ≢ 0 → b ≡ false
+  cut_odd differs =
+      cut_first
+      ∙ and_left (nat_lt 0 (slice_index sub j) && eqb (slice_index s j % slice_index sub j) 0) _
+      (and_right (nat_lt 0 (slice_index sub j)) _ (ne_eqb (slice_index s j % slice_index sub j) 0 differs))
+
+  pub cut_next : slice_index sub j ≢ 0 → slice_index s j % slice_index sub j ≡ 0 → b ≡ is_cut_by (drop (j + 1) s) (drop (j + 1) sub)
+  cut_next some whole =
+      cut_first
+      ∙ ap (λ x. x && is_cut_by (drop (j + 1) s) (drop (j + 1) sub))
+      (and_from (nat_lt 0 (slice_index sub j)) _ (lt-ltb 0 (slice_index sub j) (omega arith)) (eq-eqb (slice_index s j % slice_index sub j) 0 whole))
+
+-- shapes of different length
+pub cut_other : (s sub : List ℕ) → length s ≢ length sub → is_cut_by s sub ≡ false
+cut_other [] [] differs = absurd (differs refl)
+cut_other [] (c ∷ sub) differs = refl
+cut_other (n ∷ s) [] differs = refl
+cut_other (n ∷ s) (c ∷ sub) differs =
+    and_right (nat_lt 0 c && eqb (n % c) 0) (is_cut_by s sub) (cut_other s sub (λ e. differs (ap suc e)))
+
+-- no dimension is left
+pub cut_done : (s sub : List ℕ) (j : ℕ) (b : Bool) → length s ≤ j → length s ≡ length sub → b ≡ is_cut_by (drop j s) (drop j sub) → b ≡ true
+cut_done s sub j b le same is =
+    is ∙ ap (λ l. is_cut_by l (drop j sub)) (drop_all j s le) ∙ ap (is_cut_by []) (drop_all j sub (omega arith))
 
 -- one more dimension of the grid
 pub grid_more : (s sub : List ℕ) (j q : ℕ) (grid : List ℕ) → is_cut_by s sub ≡ true → j < length s → grid ≡ take j (quotients s sub) → q ≡ slice_index s j / slice_index sub j → grid ++ q ∷ [] ≡ take (j + 1) (quotients s sub)

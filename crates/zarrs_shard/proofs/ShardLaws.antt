@@ -1,5 +1,5 @@
 -- The laws of shards, from the law of the chain of their subchunks.
-use Rattle.std.proofs.Common.{◌≡◌, ℕ, ◌*◌, ◌<◌, Bool, true, false, not, cond, ◌&&◌, List, [], ◌∷◌, length, map, replicate, get_or, Option, None, Some, refl, sym, ap, ◌∙◌, arith}
+use Rattle.std.proofs.Common.{◌≡◌, ℕ, ◌*◌, ◌^◌, ◌<◌, Bool, true, false, not, cond, ◌&&◌, List, [], ◌∷◌, length, map, replicate, get_or, Option, None, Some, refl, sym, ap, subst, ◌∙◌, arith}
 use Rattle.std.specs.Prelude.{nat_le, option_map}
 use Rattle.std.specs.Str.{bytes_eq}
 use Rattle.std.proofs.lemmas.Bool.{and_parts, false≢true}
@@ -15,13 +15,13 @@ use Rattle.zarrs_subset.specs.Rearranged.{made_of}
 use Rattle.zarrs_subset.proofs.Positions.{unravel_in}
 use Rattle.zarrs_subset.proofs.RearrangedCells.{length-made_of, get_or-made_of}
 use Rattle.zarrs_shard.specs.Sharded.{SubchunkMeaning, IsLawfulSubchunk, IsLawfulShard, is_all_fill, part_of, cells_of_part, parts_of, cells_of_parts, sharded_fits, sharded_encoded, sharded_decoded}
-use Rattle.zarrs_shard.specs.Shards.{index_in, data_start, data_end, written_shard, named_part, shard_parts, compaction}
+use Rattle.zarrs_shard.specs.Shards.{index_in, data_start, data_end, shard_bytes, written_shard, named_part, shard_parts, compaction}
 use Rattle.zarrs_metadata.specs.Extension.{◌>>=◌}
 use Rattle.zarrs_shard.specs.Steps.{given_if, all_present}
 use Rattle.zarrs_shard.specs.Subchunks.{is_cut_by, quotients, subchunk_count, subchunk_of, assembled}
 use Rattle.zarrs_shard.proofs.Cuts.{assembled_again, length-assembled, subchunk_len, subchunk_all}
 use Rattle.zarrs_shard.proofs.Missing.{some_is, bind_parts, only_if_parts, only_if_true, only_if_false, values_only_parts, length-all_some, all_some-at, all_some-from}
-use Rattle.zarrs_shard.proofs.ShardBytes.{written_again}
+use Rattle.zarrs_shard.proofs.ShardBytes.{shard_parts-shard_bytes, written_again}
 
 fill_is : (f : Cell) (cs : List Cell) → is_all_fill f cs ≡ true → cs ≡ replicate (length cs) f
 fill_is f [] is = refl
@@ -40,7 +40,7 @@ length-shard_parts at_start n b parts made =
 pub record IsCompacted (at_start : Bool) (n : ℕ) (b made : List ℕ) : Type 0 where
   pub parts : List (Option (List ℕ))
   pub old_is : shard_parts at_start n b ≡ Some parts
-  pub made_is : shard_parts at_start n made ≡ Some parts
+  pub made_is : shard_bytes at_start parts ≡ made
   pub differs : bytes_eq made b ≡ false
 
 other_made : (x : Bool) (a made : List ℕ) → Some (cond x None (Some a)) ≡ Some (Some made) → (x ≡ false) × (a ≡ made)
@@ -50,17 +50,28 @@ other_made false a made is = (refl, cc)
 is_compacted : (at_start : Bool) (n : ℕ) (b made : List ℕ) → compaction at_start n b ≡ Some (Some made) → IsCompacted at_start n b made
 is_compacted at_start n b made is =
     let q = bind_parts (shard_parts at_start n b) _ (Some made) is in
-    let r = bind_parts (written_shard at_start q.0) (λ a. Some (cond (bytes_eq a b) None (Some a))) (Some made) q.2 in
-    let e = other_made (bytes_eq r.0 b) r.0 made r.2 in
-    let w = written_again at_start q.0 n made (length-shard_parts at_start n b q.0 q.1) (r.1 ∙ ap (λ x. Some x) e.1) in
-    record { parts = q.0; old_is = q.1; made_is = w.1; differs = ap (λ x. bytes_eq x b) (sym e.1) ∙ e.0 }
+    let a = shard_bytes at_start q.0 in
+    let e = other_made (bytes_eq a b) a made q.2 in
+    record { parts = q.0; old_is = q.1; made_is = e.1; differs = ap (λ x. bytes_eq x b) (sym e.1) ∙ e.0 }
+
+-- it has the same parts, if a u64 counts its bytes
+compacted_parts : (at_start : Bool) (n : ℕ) (b made : List ℕ) (w : IsCompacted at_start n b made) → length made < 2 ^ 64 → shard_parts at_start n made ≡ Some w.parts
+compacted_parts at_start n b made w small =
+    ap (λ x. shard_parts at_start n x) (sym w.made_is)
+    ∙ ap (λ k. shard_parts at_start k (shard_bytes at_start w.parts)) (sym (length-shard_parts at_start n b w.parts w.old_is))
+    ∙ shard_parts-shard_bytes at_start w.parts (subst (λ x. length x < 2 ^ 64) (sym w.made_is) small)
 
 -- the compaction of a shard of these parts
+pub compaction_from : (at_start : Bool) (n : ℕ) (b made : List ℕ) (parts : List (Option (List ℕ))) → shard_parts at_start n b ≡ Some parts → shard_bytes at_start parts ≡ made
+    → compaction at_start n b ≡ Some (cond (bytes_eq made b) None (Some made))
+compaction_from at_start n b made parts read made_is =
+    ap (λ o. o >>= λ parts. Some (cond (bytes_eq (shard_bytes at_start parts) b) None (Some (shard_bytes at_start parts)))) read
+    ∙ ap (λ x. Some (cond (bytes_eq x b) None (Some x))) made_is
+
 pub compaction_is : (at_start : Bool) (n : ℕ) (b made : List ℕ) (parts : List (Option (List ℕ))) → shard_parts at_start n b ≡ Some parts → written_shard at_start parts ≡ Some made
     → compaction at_start n b ≡ Some (cond (bytes_eq made b) None (Some made))
 compaction_is at_start n b made parts read written =
-    ap (λ o. o >>= λ parts. written_shard at_start parts >>= λ made. Some (cond (bytes_eq made b) None (Some made))) read
-    ∙ ap (λ o. o >>= λ made. Some (cond (bytes_eq made b) None (Some made))) written
+    compaction_from at_start n b made parts read (written_again at_start parts (length parts) made refl written).0
 
 module _ (m : SubchunkMeaning) (at_start empty : Bool) (k : Kind) (f : Cell) (s sub : List ℕ) where
   part_count : (cs : List Cell) (parts : List (Option (List ℕ))) → parts_of m empty f s sub cs ≡ Some parts → length parts ≡ subchunk_count s sub
@@ -92,7 +103,7 @@ module _ (m : SubchunkMeaning) (at_start empty : Bool) (k : Kind) (f : Cell) (s 
 
   module _ (law : IsLawfulSubchunk k (position_count sub) m) where
     -- one subchunk
-    part_again : (cells : List Cell) (o : Option (List ℕ)) → are_values k cells ≡ true → length cells ≡ position_count sub → part_of m empty f cells ≡ Some o → cells_of_part m f sub o ≡ Some cells
+    pub part_again : (cells : List Cell) (o : Option (List ℕ)) → are_values k cells ≡ true → length cells ≡ position_count sub → part_of m empty f cells ≡ Some o → cells_of_part m f sub o ≡ Some cells
     part_again cells o values len made = go (not empty && is_all_fill f cells) refl made
       where
         written : (r : Option (List ℕ)) → m.encoded cells ≡ r → option_map (λ b. Some b) r ≡ Some o → cells_of_part m f sub o ≡ Some cells
@@ -139,10 +150,10 @@ module _ (m : SubchunkMeaning) (at_start empty : Bool) (k : Kind) (f : Cell) (s 
       round_trip = shard_again;
       decoded_len = λ b cs made. (shard_values b cs made).0;
       decoded_values = λ b cs made. (shard_values b cs made).1;
-      compacted_same = λ b less made.
+      compacted_same = λ b less made small.
           let p = only_if_parts (is_cut_by s sub) _ (Some less) made in
           let w = is_compacted at_start (subchunk_count s sub) b less p.1 in
-          ap (λ o. given_if (sharded_fits m s sub) (o >>= cells_of_parts m k f s sub)) (w.made_is ∙ sym w.old_is);
+          ap (λ o. given_if (sharded_fits m s sub) (o >>= cells_of_parts m k f s sub)) (compacted_parts at_start (subchunk_count s sub) b less w small ∙ sym w.old_is);
       compacted_differs = λ b less made. λ same.
           let p = only_if_parts (is_cut_by s sub) _ (Some less) made in
           let w = is_compacted at_start (subchunk_count s sub) b less p.1 in

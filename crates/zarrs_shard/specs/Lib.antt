@@ -1,5 +1,9 @@
+pub mod Blank
+pub mod PartialShards
+pub mod Refusals
 pub mod Sharded
 pub mod ShardIndex
+pub mod ShardPatches
 pub mod Shards
 pub mod Steps
 pub mod SubchunkData

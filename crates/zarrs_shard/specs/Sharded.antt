@@ -1,7 +1,7 @@
 -- Which bytes stand for the cells of a chunk that is sharded (`sharding_indexed`), over any chain of its subchunks.
-use Rattle.std.specs.Prelude.{◌≡◌, ◌≢◌, ◌⊎◌, ℕ, ◌<◌, Bool, true, false, not, Option, None, Some, List, length, map, replicate}
-use Rattle.std.specs.Prelude.{option_map, slice_index_or, ◌&&◌, if◌then◌else◌}
-use Rattle.std.specs.List.{list_all, range_with_len}
+use Rattle.std.specs.Prelude.{◌≡◌, ◌≢◌, ◌⊎◌, ℕ, ◌<◌, ◌^◌, Bool, true, false, not, Option, None, Some, List, length, map, replicate}
+use Rattle.std.specs.Prelude.{[], option_map, unwrap_or, slice_index_or, ◌&&◌, if◌then◌else◌}
+use Rattle.std.specs.List.{list_all, list_any, range_with_len}
 use Rattle.zarrs_types.specs.Kind.{Kind}
 use Rattle.zarrs_types.specs.Cell.{Cell, cell_eq, are_values, values_only}
 use Rattle.zarrs_subset.specs.Boxes.{position_count}
@@ -77,6 +77,16 @@ abbrev pub sharded_compacted : (at_start : Bool) (shape sub : List ℕ) (encoded
 sharded_compacted at_start shape sub encoded =
     given_if (is_cut_by shape sub) (compaction at_start (subchunk_count shape sub) encoded)
 
+-- whether a part is absent, or its bytes leave out cells
+abbrev pub part_leaves_out : (inner : List ℕ → Bool) → Option (List ℕ) → Bool
+part_leaves_out inner None = true
+part_leaves_out inner (Some b) = inner b
+
+-- whether a chunk's bytes leave out cells, where `inner` says so of the bytes of a subchunk
+abbrev pub sharded_leaves_out : (inner : List ℕ → Bool) (at_start : Bool) (shape sub : List ℕ) (encoded : List ℕ) → Bool
+sharded_leaves_out inner at_start shape sub encoded =
+    is_cut_by shape sub && list_any (part_leaves_out inner) (unwrap_or (shard_parts at_start (subchunk_count shape sub) encoded) [])
+
 -- ---- the laws
 
 -- the law of a chain, of shards
@@ -88,13 +98,14 @@ pub record IsLawfulShard (m : SubchunkMeaning) (at_start store_empty : Bool) (k 
   pub decoded_len : (b : List ℕ) (cs : List Cell) → sharded_decoded m at_start k fill shape sub b ≡ Some cs → length cs ≡ position_count shape
   -- what decodes are values
   pub decoded_values : (b : List ℕ) (cs : List Cell) → sharded_decoded m at_start k fill shape sub b ≡ Some cs → are_values k cs ≡ true
-  -- a compaction decodes to the same
-  pub compacted_same : (b less : List ℕ) → sharded_compacted at_start shape sub b ≡ Some (Some less)
+  -- a compaction decodes to the same, if a u64 counts its bytes
+  pub compacted_same : (b less : List ℕ) → sharded_compacted at_start shape sub b ≡ Some (Some less) → length less < 2 ^ 64
       → sharded_decoded m at_start k fill shape sub less ≡ sharded_decoded m at_start k fill shape sub b
   -- and differs from what was compacted
   pub compacted_differs : (b less : List ℕ) → sharded_compacted at_start shape sub b ≡ Some (Some less) → less ≢ b
   -- what was encoded has no compaction
-  pub encoded_compact : (cs : List Cell) (b : List ℕ) → sharded_encoded m at_start store_empty fill shape sub cs ≡ Some b → sharded_compacted at_start shape sub b ≡ Some None
+  pub encoded_compact : (cs : List Cell) (b : List ℕ) → sharded_encoded m at_start store_empty fill shape sub cs ≡ Some b
+      → sharded_compacted at_start shape sub b ≡ Some None
   -- nothing is encoded that does not fit
   pub unfit : (cs : List Cell) → sharded_fits m shape sub ≡ false → sharded_encoded m at_start store_empty fill shape sub cs ≡ None
   -- nor decoded

@@ -76,9 +76,9 @@ shard_parts at_start count shard =
 
 -- ---- compaction
 
--- the shard without gaps, or none if that is the same: nothing if the bytes are no shard
+-- The shard without gaps, or none if that is the same: nothing if the bytes are no shard. It may be longer than the
+-- shard, since subchunks may share bytes, and then also too long for the offsets of its index.
 abbrev pub compaction : (at_start : Bool) (count : ℕ) (shard : List ℕ) → Option (Option (List ℕ))
 compaction at_start count shard =
     shard_parts at_start count shard >>= λ parts.
-    written_shard at_start parts >>= λ made.
-    Some (if bytes_eq made shard then None else Some made)
+    Some (if bytes_eq (shard_bytes at_start parts) shard then None else Some (shard_bytes at_start parts))

@@ -3,9 +3,10 @@ ghost use Rattle.std.specs.Prelude.{◌≡◌, ℕ, ◌+◌, ◌*◌, ◌<◌, �
 ghost use Rattle.std.specs.Prelude.{Option, None, Some, length, replicate};
 ghost use Rattle.zarrs_cells.specs.ArrayData.{ArrayData};
 ghost use Rattle.zarrs_cells.specs.Cells.{cells};
+ghost use Rattle.zarrs_shard.specs.PartialShards.{UpdatesShard};
 ghost use Rattle.zarrs_shard.specs.Sharded.{CompactsTo, HoldsEncodedParts, IsLawfulShard, IsLawfulSubchunk};
 ghost use Rattle.zarrs_shard.specs.Sharded.{SubchunkMeaning, first_parts, part_of, sharded_decoded, sharded_encoded};
-ghost use Rattle.zarrs_shard.specs.SubchunkData.{HasSubchunks, PutsSubchunk};
+ghost use Rattle.zarrs_shard.specs.SubchunkData.{FillsChunk, PutsSubchunk, StartsChunk};
 ghost use Rattle.zarrs_shard.specs.Subchunks.{assembled, is_cut_by, subchunk_at, subchunk_count};
 ghost use Rattle.zarrs_subset.specs.Boxes.{position_count};
 ghost use Rattle.zarrs_types.specs.Cell.{Cell};
@@ -31,8 +32,8 @@ pub fn shards_compact_to_their_encoding()
         → CompactsTo at_start shape sub encoded made }
 {}
 
-/// The parts of a chunk's cells are those of one subchunk after another, if each has one. Nothing is encoded if the index
-/// is too long.
+/// The parts of a chunk's cells are those of one subchunk after another, if each has one. Nothing is encoded if the
+/// index is too long.
 pub fn parts_follow_one_another()
     ensures next { (m : SubchunkMeaning) (store_empty : Bool) (fill : Cell) (shape sub : List ℕ)
         (cells : List Cell) (n : ℕ) (parts : List (Option (List ℕ))) (part : Option (List ℕ))
@@ -48,24 +49,34 @@ pub fn parts_follow_one_another()
         → sharded_encoded m at_start store_empty fill shape sub cells ≡ None }
 {}
 
-/// A chunk of fill, into which one subchunk after another is put or left out, is assembled of their cells.
+/// A new chunk, into which one subchunk after another is put or, if one may be, left out, is assembled of their cells.
 pub fn subchunks_fill_their_chunk()
-    ensures start { (k : Kind) (fill : Cell) (shape sub : List ℕ) (chunk : ArrayData)
-        → is_cut_by shape sub ≡ true → cells k chunk ≡ Some (replicate (position_count shape) fill)
-        → HasSubchunks k fill shape sub [] chunk }
-    ensures put { (k : Kind) (fill : Cell) (shape sub : List ℕ) (subchunks : List (List Cell))
-        (made : List Cell) (part old new : ArrayData) → length subchunks < subchunk_count shape sub
-        → HasSubchunks k fill shape sub subchunks old
+    ensures started { (k : Kind) (fill : Cell) (shape sub : List ℕ) (is_whole : Bool)
+        (chunk : ArrayData)
+        → is_cut_by shape sub ≡ true → StartsChunk k fill shape is_whole chunk
+        → FillsChunk k fill shape sub is_whole [] chunk }
+    ensures put { (k : Kind) (fill : Cell) (shape sub : List ℕ) (is_whole : Bool)
+        (subchunks : List (List Cell)) (made : List Cell) (part old new : ArrayData)
+        → length subchunks < subchunk_count shape sub
+        → FillsChunk k fill shape sub is_whole subchunks old
         → PutsSubchunk k shape sub (length subchunks) part old new → cells k part ≡ Some made
-        → HasSubchunks k fill shape sub (subchunks ++ made ∷ []) new }
+        → FillsChunk k fill shape sub is_whole (subchunks ++ made ∷ []) new }
     ensures left_out { (k : Kind) (fill : Cell) (shape sub : List ℕ) (subchunks : List (List Cell))
         (chunk : ArrayData) → length subchunks < subchunk_count shape sub
-        → HasSubchunks k fill shape sub subchunks chunk
-        → HasSubchunks k fill shape sub (subchunks ++ replicate (position_count sub) fill ∷ [])
-        chunk }
-    ensures whole { (k : Kind) (fill : Cell) (shape sub : List ℕ) (subchunks : List (List Cell))
-        (chunk : ArrayData)
+        → FillsChunk k fill shape sub false subchunks chunk
+        → FillsChunk k fill shape sub false
+        (subchunks ++ replicate (position_count sub) fill ∷ []) chunk }
+    ensures whole { (k : Kind) (fill : Cell) (shape sub : List ℕ) (is_whole : Bool)
+        (subchunks : List (List Cell)) (chunk : ArrayData)
         → is_cut_by shape sub ≡ true → length subchunks ≡ subchunk_count shape sub
-        → HasSubchunks k fill shape sub subchunks chunk → cells k chunk
+        → FillsChunk k fill shape sub is_whole subchunks chunk → cells k chunk
         ≡ Some (assembled shape sub subchunks) }
+{}
+
+/// What is left by a partial encode of a shard, or of the absence of its key, decodes to the updated cells, if what was
+/// there decodes and the chain of the subchunks keeps its law.
+pub fn partial_encodes_update()
+    ensures { (m : SubchunkMeaning) (store_empty : Bool) (k : Kind) (fill : Cell)
+        (shape sub : List ℕ) → IsLawfulSubchunk k (position_count sub) m
+        → UpdatesShard m store_empty k fill shape sub }
 {}

@@ -2,10 +2,14 @@
 #![tactic(auto)]
 
 mod compact;
+mod error;
 pub mod laws;
+mod patch;
 mod shard_index;
 mod subchunks;
 
 pub use compact::compact_shard;
+pub use error::CompactError;
+pub use patch::{PartialWrite, ShardPatch, stored_ranges};
 pub use shard_index::{ShardWriter, SubchunkRange, read_index};
-pub use subchunks::Subchunks;
+pub use subchunks::{Subchunks, is_cut_by};

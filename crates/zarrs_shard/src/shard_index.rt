@@ -1,15 +1,18 @@
 //! The index of a shard, and the writing of shards.
 ghost use Rattle.std.specs.Prelude.{◌≡◌, ℕ, ◌*◌, ◌<◌, ◌≤◌, ◌^◌, ◌++◌, [], Some, None, Bool, List, Option};
-ghost use Rattle.std.specs.Prelude.{All, IfOk, IfSome, length, map, drop, option_map};
+ghost use Rattle.std.specs.Prelude.{All, IfErr, IfOk, IfSome, length, map, drop, option_map};
+ghost use Rattle.std.specs.Int.{w64, from_le_bytes};
+ghost use Rattle.std.specs.List.{flat_map};
 ghost use Rattle.zarrs_subset.specs.Pieces.{pieces};
-ghost use Rattle.zarrs_shard.specs.ShardIndex.{range_part, IsComplete, IsRangeWithin, IsWriting, PushesPart};
-ghost use Rattle.zarrs_shard.specs.Shards.{entry_bytes, named_part, shard_bytes, shard_parts};
+ghost use Rattle.zarrs_shard.specs.ShardIndex.{range_entry, range_part, IsRangeWithin};
+ghost use Rattle.zarrs_shard.specs.ShardIndex.{IsComplete, IsSameWriter, IsWriting, PushesPart};
+ghost use Rattle.zarrs_shard.specs.Shards.{entry_bytes, index_in, named_part, shard_bytes, shard_parts};
 ghost use Rattle.zarrs_shard.specs.Steps.{all_present};
 
 use std::alloc::{AllocError, Global};
 
 /// The bytes of an entry of an index: a `u64` offset and a `u64` length.
-const ENTRY_LEN: usize = 16;
+pub(crate) const ENTRY_LEN: usize = 16;
 
 /// Where the bytes of a subchunk stand in its shard.
 #[derive(Clone, Copy, Debug, Drop)]
@@ -36,6 +39,8 @@ pub fn read_index(
         ≡ option_map (λ ranges. map (range_part encoded.now) ranges.items) read) }
     ensures within { IfOk result (λ read. IfSome read
         (λ ranges. All (IsRangeWithin (length encoded.now)) ranges.items)) }
+    ensures entries { IfOk result (λ read. IfSome read
+        (λ ranges. index_in at_start count encoded.now ≡ flat_map range_entry ranges.items)) }
 {
     if count > (encoded.len() / ENTRY_LEN) as u64 {
         return Ok(None);
@@ -63,6 +68,8 @@ fn read_entries(
         ≡ option_map (λ ranges. map (range_part shard) ranges.items) read) }
     ensures within { IfOk result
         (λ read. IfSome read (λ ranges. All (IsRangeWithin end) ranges.items)) }
+    ensures entries { IfOk result
+        (λ read. IfSome read (λ ranges. index.now ≡ flat_map range_entry ranges.items)) }
 {
     let mut ranges = Vec::with_capacity(alloc, count)?;
     for number in 0..count {
@@ -81,9 +88,10 @@ fn entry_range(entry: &[u8], start: usize, end: usize) -> Option<Option<Subchunk
     ensures part { (shard : List ℕ) → named_part shard start end entry.now
         ≡ option_map (range_part shard) result }
     ensures within { IfSome result (IsRangeWithin end) }
+    ensures entry { IfSome result (λ range. entry.now ≡ range_entry range) }
 {
-    let offset = u64::from_le_bytes(entry[..8].try_into().unwrap());
-    let len = u64::from_le_bytes(entry[8..].try_into().unwrap());
+    let offset = number_of(&entry[..8]);
+    let len = number_of(&entry[8..]);
     if offset == u64::MAX && len == u64::MAX {
         return Some(None);
     }
@@ -95,6 +103,14 @@ fn entry_range(entry: &[u8], start: usize, end: usize) -> Option<Option<Subchunk
         start: offset as usize,
         end: past as usize,
     }))
+}
+
+/// The number that eight bytes are.
+fn number_of(bytes: &[u8]) -> u64
+    requires { length bytes.now ≡ 8 }
+    ensures { result ≡ from_le_bytes w64 bytes.now }
+{
+    u64::from_le_bytes(bytes.try_into().unwrap())
 }
 
 /// A shard that is being written, subchunk by subchunk in row-major order.
@@ -131,9 +147,10 @@ impl ShardWriter {
     /// Leaves out the next subchunk.
     ///
     /// # Errors
-    /// `AllocError`: out of memory.
+    /// `AllocError`: out of memory; the writer is as it was.
     pub fn push_absent(&mut self) -> Result<(), AllocError>
-        ensures { IfOk result (λ _. PushesPart self.old self.new None) }
+        ensures pushed { IfOk result (λ _. PushesPart self.old self.new None) }
+        ensures refused { IfErr result (λ _. IsSameWriter self.old self.new) }
     {
         self.push_entry(u64::MAX, u64::MAX)
     }
@@ -141,25 +158,42 @@ impl ShardWriter {
     /// Writes the next subchunk, which has these bytes.
     ///
     /// # Errors
-    /// `AllocError`: out of memory.
+    /// `AllocError`: out of memory; the writer is as it was.
     pub fn push(&mut self, part: &[u8]) -> Result<(), AllocError>
-        ensures { IfOk result (λ _. PushesPart self.old self.new (Some part.now)) }
+        ensures pushed { IfOk result (λ _. PushesPart self.old self.new (Some part.now)) }
+        ensures refused { IfErr result (λ _. IsSameWriter self.old self.new) }
     {
         let offset = self.encoded.len() as u64;
+        self.encoded.try_reserve(part.len())?;
         self.push_entry(offset, part.len() as u64)?;
         self.encoded.extend_from_slice(part)?;
         Ok(())
     }
 
+    /// Writes the next subchunk, which has these bytes, or leaves it out if there are none.
+    ///
+    /// # Errors
+    /// `AllocError`: out of memory; the writer is as it was.
+    pub fn push_part(&mut self, part: &Option<Vec<u8>>) -> Result<(), AllocError>
+        ensures pushed { IfOk result (λ _. PushesPart self.old self.new
+            (option_map (λ part. part.items) part.now)) }
+        ensures refused { IfErr result (λ _. IsSameWriter self.old self.new) }
+    {
+        match part {
+            Some(part) => self.push(part),
+            None => self.push_absent(),
+        }
+    }
+
+    /// Adds an entry to the index.
     fn push_entry(&mut self, offset: u64, len: u64) -> Result<(), AllocError>
         ensures entries { IfOk result (λ _. self.new.entries.items
             ≡ self.old.entries.items ++ entry_bytes offset len) }
+        ensures refused { IfErr result (λ _. self.new.entries.items ≡ self.old.entries.items) }
         ensures encoded { self.new.encoded ≡ self.old.encoded }
         ensures at_start { self.new.at_start ≡ self.old.at_start }
     {
-        self.entries.extend_from_slice(&offset.to_le_bytes())?;
-        self.entries.extend_from_slice(&len.to_le_bytes())?;
-        Ok(())
+        self.entries.extend_from_slice(&entry_of(offset, len))
     }
 
     /// The bytes of the shard, if each of its subchunks is written or left out.
@@ -185,6 +219,16 @@ impl ShardWriter {
     }
 }
 
+/// An entry of the index.
+pub(crate) fn entry_of(offset: u64, len: u64) -> [u8; ENTRY_LEN]
+    ensures { result ≡ entry_bytes offset len }
+{
+    let mut entry = [0; ENTRY_LEN];
+    entry[..8].copy_from_slice(&offset.to_le_bytes());
+    entry[8..].copy_from_slice(&len.to_le_bytes());
+    entry
+}
+
 /// The bytes, the first of them replaced by others.
 fn with_front(mut bytes: Vec<u8>, front: &[u8]) -> Vec<u8>
     requires { length front.now ≤ length bytes.items }
@@ -194,6 +238,7 @@ fn with_front(mut bytes: Vec<u8>, front: &[u8]) -> Vec<u8>
     bytes
 }
 
+/// Replaces the first of the bytes by others.
 fn put_front(bytes: &mut [u8], front: &[u8])
     requires { length front.now ≤ length bytes.old }
     ensures { bytes.new ≡ front.now ++ drop (length front.now) bytes.old }
@@ -202,7 +247,7 @@ fn put_front(bytes: &mut [u8], front: &[u8])
 }
 
 /// The bytes, and more bytes behind them.
-fn with_end(mut bytes: Vec<u8>, end: &[u8]) -> Result<Vec<u8>, AllocError>
+pub(crate) fn with_end(mut bytes: Vec<u8>, end: &[u8]) -> Result<Vec<u8>, AllocError>
     ensures { IfOk result (λ whole. whole.items ≡ bytes.items ++ end.now) }
 {
     bytes.extend_from_slice(end)?;

@@ -1,14 +1,18 @@
 //! The subchunks of a chunk.
-ghost use Rattle.std.specs.Prelude.{◌≡◌, ◌*◌, ◌/◌, ◌<◌, ◌≤◌, ◌^◌, true, false, IfOk, IfSome, MatchOption};
+ghost use Rattle.std.specs.Prelude.{◌≡◌, ◌*◌, ◌/◌, ◌<◌, ◌≤◌, ◌^◌, true, false, Some};
+ghost use Rattle.std.specs.Prelude.{IfOk, IfSome, IsSome, MatchOption, length, replicate};
 ghost use Rattle.zarrs_cells.specs.ArrayData.{data_of};
-ghost use Rattle.zarrs_cells.specs.Cells.{HasCells};
+ghost use Rattle.zarrs_cells.specs.Cells.{cells, HasCells};
+ghost use Rattle.zarrs_shard.specs.PartialShards.{is_met};
+ghost use Rattle.zarrs_shard.specs.Blank.{blank_bytes};
 ghost use Rattle.zarrs_shard.specs.Subchunks.{corner, is_cut_by, quotients, subchunk_box, subchunk_count};
 ghost use Rattle.zarrs_subset.specs.Boxes.{position_count, unravel, InShape};
-ghost use Rattle.zarrs_subset.specs.Regions.{box_at_origin, box_of};
-ghost use Rattle.zarrs_types.specs.Kind.{kind};
+ghost use Rattle.zarrs_subset.specs.Regions.{box_at_origin, box_of, overlap_of};
+ghost use Rattle.zarrs_types.specs.Cell.{Cell, fill_cell, fill_of, held_size};
+ghost use Rattle.zarrs_types.specs.Kind.{kind, cell_size};
 
 use std::alloc::{AllocError, Global};
-use zarrs_cells::{ArrayBytes, DataType};
+use zarrs_cells::{ArrayBytes, DataType, FillValue};
 use zarrs_subset::{ArrayIndices, ArrayShape, ArraySubset, element_count, unravel_index};
 
 /// How a chunk is cut into subchunks of one shape, which divides the chunk's. They are numbered in row-major order.
@@ -24,7 +28,8 @@ pub struct Subchunks {
 }
 
 impl Subchunks {
-    ghost use Rattle.zarrs_shard.specs.SubchunkData.{chunk_shape, subchunk_shape, ExtractsSubchunk, PutsSubchunk};
+    ghost use Rattle.zarrs_shard.specs.SubchunkData.{chunk_shape, subchunk_shape, ExtractsSubchunk};
+    ghost use Rattle.zarrs_shard.specs.SubchunkData.{PutsSubchunk, StartsChunk, UpdatesSubchunk};
 
     /// A chunk of the first shape, cut into subchunks of the second, or `None` if that does not divide it.
     ///
@@ -56,6 +61,72 @@ impl Subchunks {
             (λ n. n ≡ subchunk_count (chunk_shape self.now) (subchunk_shape self.now)) }
     {
         element_count(&self.grid)
+    }
+
+    /// The number of subchunks, if the length of their index fits `u64`.
+    pub fn indexed_count(&self) -> Option<u64>
+        ensures none { MatchOption result
+            (2 ^ 64 ≤ subchunk_count (chunk_shape self.now) (subchunk_shape self.now) * 16)
+            (λ n. n ≡ subchunk_count (chunk_shape self.now) (subchunk_shape self.now)) }
+        ensures few { IfSome result (λ n. n * 16 < 2 ^ 64) }
+    {
+        let count = self.count()?;
+        if count > u64::MAX / 16 {
+            return None;
+        }
+        Some(count)
+    }
+
+    /// A chunk into which subchunks are put. Its cells are all fill, or, if `is_whole` says that none of them is left
+    /// out, blank ones of the type.
+    ///
+    /// `None` if one may be left out, and the bytes of a chunk of fill pass `u64`.
+    ///
+    /// # Errors
+    /// `AllocError`: out of memory.
+    pub fn new_chunk(
+        &self,
+        alloc: Global,
+        data_type: &DataType,
+        fill_value: &FillValue,
+        is_whole: bool,
+    ) -> Result<Option<ArrayBytes<'static>>, AllocError>
+        requires filled { IsSome (fill_cell (kind data_type.now) fill_value.now) }
+        requires size { position_count (chunk_shape self.now) * cell_size (kind data_type.now)
+            < 2 ^ 64 }
+        ensures { IfOk result (λ made. MatchOption made
+            ((is_whole ≡ false) × (2 ^ 64 ≤ position_count (chunk_shape self.now)
+            * held_size (kind data_type.now) (fill_of (kind data_type.now) fill_value.now)))
+            (λ chunk. StartsChunk (kind data_type.now)
+            (fill_of (kind data_type.now) fill_value.now) (chunk_shape self.now) is_whole
+            (data_of chunk))) }
+    {
+        if is_whole {
+            let chunk = new_blank(alloc, self.chunk_box.shape(), data_type)?;
+            return Ok(Some(chunk));
+        }
+        new_fill_value(alloc, self.chunk_box.shape(), data_type, fill_value)
+    }
+
+    /// A subchunk whose cells are all fill, or `None` if its bytes pass `u64`.
+    ///
+    /// # Errors
+    /// `AllocError`: out of memory.
+    pub fn new_fill_part(
+        &self,
+        alloc: Global,
+        data_type: &DataType,
+        fill_value: &FillValue,
+    ) -> Result<Option<ArrayBytes<'static>>, AllocError>
+        requires { IsSome (fill_cell (kind data_type.now) fill_value.now) }
+        ensures { IfOk result (λ made. MatchOption made
+            (2 ^ 64 ≤ position_count (subchunk_shape self.now)
+            * held_size (kind data_type.now) (fill_of (kind data_type.now) fill_value.now))
+            (λ part. cells (kind data_type.now) (data_of part)
+            ≡ Some (replicate (position_count (subchunk_shape self.now))
+            (fill_of (kind data_type.now) fill_value.now)))) }
+    {
+        new_fill_value(alloc, &self.shape, data_type, fill_value)
     }
 
     /// The extents of each subchunk.
@@ -103,6 +174,48 @@ impl Subchunks {
         chunk.extract_array_subset(alloc, data_type, &self.chunk_box, &subset)
     }
 
+    /// Whether the part has a position of the subchunk of this number.
+    ///
+    /// # Errors
+    /// `AllocError`: out of memory.
+    pub fn meets(&self, alloc: Global, part: &ArraySubset, number: u64) -> Result<bool, AllocError>
+        requires number { number < subchunk_count (chunk_shape self.now) (subchunk_shape self.now) }
+        requires dimensions { length (box_of part.now).start ≡ length (chunk_shape self.now) }
+        ensures { IfOk result (λ meets. meets ≡ is_met (chunk_shape self.now)
+            (subchunk_shape self.now) (box_of part.now) number) }
+    {
+        let subset = self.subset(alloc, number)?;
+        let shared = shared_box(alloc, &subset, part)?;
+        Ok(!shared.is_empty())
+    }
+
+    /// The cells of the subchunk of this number, those of the part where it has the position.
+    ///
+    /// # Errors
+    /// `AllocError`: out of memory.
+    pub fn update(
+        &self,
+        alloc: Global,
+        held: ArrayBytes<'static>,
+        part: &ArraySubset,
+        bytes: &ArrayBytes<'_>,
+        data_type: &DataType,
+        number: u64,
+    ) -> Result<ArrayBytes<'static>, AllocError>
+        requires number { number < subchunk_count (chunk_shape self.now) (subchunk_shape self.now) }
+        requires dimensions { length (box_of part.now).start ≡ length (chunk_shape self.now) }
+        requires held { HasCells (kind data_type.now) (data_of held)
+            (position_count (subchunk_shape self.now)) }
+        requires given { HasCells (kind data_type.now) (data_of bytes.now)
+            (position_count (box_of part.now).shape) }
+        ensures { IfOk result (λ made. UpdatesSubchunk (kind data_type.now) (chunk_shape self.now)
+            (subchunk_shape self.now) (box_of part.now) number (data_of bytes.now)
+            (data_of held.entry) (data_of made)) }
+    {
+        let subset = self.subset(alloc, number)?;
+        held.update_array_bytes(alloc, data_type, &subset, bytes, part)
+    }
+
     /// The cells of a chunk, with these in the subchunk of this number.
     ///
     /// # Errors
@@ -129,17 +242,96 @@ impl Subchunks {
     }
 }
 
+/// An array of this shape whose cells are all fill, or `None` if its bytes pass `u64`.
+fn new_fill_value(
+    alloc: Global,
+    shape: &[u64],
+    data_type: &DataType,
+    fill_value: &FillValue,
+) -> Result<Option<ArrayBytes<'static>>, AllocError>
+    requires { IsSome (fill_cell (kind data_type.now) fill_value.now) }
+    ensures { IfOk result (λ made. MatchOption made
+        (2 ^ 64 ≤ position_count shape.now
+        * held_size (kind data_type.now) (fill_of (kind data_type.now) fill_value.now))
+        (λ array. cells (kind data_type.now) (data_of array)
+        ≡ Some (replicate (position_count shape.now)
+        (fill_of (kind data_type.now) fill_value.now)))) }
+{
+    let Some(count) = element_count(shape) else {
+        return Ok(None);
+    };
+    let cell_size = data_type.held_size(fill_value.as_bytes());
+    if count.checked_mul(cell_size as u64).is_none() {
+        return Ok(None);
+    }
+    let array = ArrayBytes::new_fill_value(alloc, data_type, count, fill_value)?;
+    Ok(Some(array))
+}
+
+/// An array of this shape whose cells are all blank.
+fn new_blank(
+    alloc: Global,
+    shape: &[u64],
+    data_type: &DataType,
+) -> Result<ArrayBytes<'static>, AllocError>
+    requires { position_count shape.now * cell_size (kind data_type.now) < 2 ^ 64 }
+    ensures { IfOk result (λ array. (filler : Cell) × (cells (kind data_type.now) (data_of array)
+        ≡ Some (replicate (position_count shape.now) filler))) }
+{
+    let blank = blank_of(alloc, data_type)?;
+    let Some(array) = new_fill_value(alloc, shape, data_type, &blank)? else {
+        unreachable!();
+    };
+    Ok(array)
+}
+
+/// A blank fill value of the type: zeros, an empty text, or none. No other takes less memory.
+fn blank_of(alloc: Global, data_type: &DataType) -> Result<FillValue, AllocError>
+    ensures { IfOk result (λ blank. blank ≡ blank_bytes (kind data_type.now)) }
+{
+    let len = blank_len(data_type);
+    Ok(FillValue::new(vec![in alloc; 0; len]?))
+}
+
+/// The number of its bytes.
+fn blank_len(data_type: &DataType) -> usize
+    ensures { result ≡ length (blank_bytes (kind data_type.now)) }
+{
+    match data_type.optional_inner() {
+        Some(_) => 1,
+        None => data_type.element_size().unwrap_or(0),
+    }
+}
+
+/// The positions that two boxes of the same number of dimensions share.
+fn shared_box(
+    alloc: Global,
+    one: &ArraySubset,
+    other: &ArraySubset,
+) -> Result<ArraySubset, AllocError>
+    requires { length (box_of one.now).start ≡ length (box_of other.now).start }
+    ensures { IfOk result (λ shared. box_of shared ≡ overlap_of (box_of one.now) (box_of other.now)) }
+{
+    match one.overlap(alloc, other) {
+        Ok(shared) => Ok(shared),
+        // Memory alone: both have the same number of dimensions.
+        Err(_) => Err(AllocError),
+    }
+}
+
 /// Whether a chunk of the first shape is cut into whole subchunks of the second.
-fn is_cut_by(shape: &[u64], sub: &[u64]) -> bool
+pub fn is_cut_by(shape: &[u64], sub: &[u64]) -> bool
     ensures { result ≡ is_cut_by shape.now sub.now }
 {
-    match shape {
-        [] => sub.is_empty(),
-        [extent, shape @ ..] => match sub {
-            [] => false,
-            [part, sub @ ..] => *part > 0 && *extent % *part == 0 && is_cut_by(shape, sub),
-        },
+    if shape.len() != sub.len() {
+        return false;
     }
+    for axis in 0..shape.len() {
+        if sub[axis] == 0 || shape[axis] % sub[axis] != 0 {
+            return false;
+        }
+    }
+    true
 }
 
 /// How many subchunks lie along each dimension.

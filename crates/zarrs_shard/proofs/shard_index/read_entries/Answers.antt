@@ -13,4 +13,4 @@ pub loop-number-preserved : goal.loop-number-preserved
 loop-number-preserved c =
     let i = c.loop-number.number in
     subst (IsRead (i + 1) c.args.start c.args.end c.args.index.now) (sym c.in_ok-push-in-Some.ensures.items)
-    (read_more i c.args.start c.args.end c.args.index.now (slice_range c.args.index.now (i * 16) (i * 16 + 16)) c.loop-number.ranges.items c.in-Some.range c.loop-number.invariant refl c.in-Some.ensures.part c.in-Some.ensures.within)
+    (read_more i c.args.start c.args.end c.args.index.now (slice_range c.args.index.now (i * 16) (i * 16 + 16)) c.loop-number.ranges.items c.in-Some.range c.loop-number.invariant refl c.in-Some.ensures.part c.in-Some.ensures.within c.in-Some.ensures.entry)

@@ -1,4 +1,4 @@
-use Rattle.std.proofs.Common.{refl, ◌∙◌, arith}
+use Rattle.std.proofs.Common.{List, ℕ, refl, ◌∙◌, arith}
 use Rattle.std.proofs.lemmas.List.{take_all}
 use Rattle.zarrs_shard.specs.Subchunks.{corner}
 use Rattle.zarrs_shard.proofs.Grids.{cut_len, corner_at, corner_long, corner_more}
@@ -23,8 +23,8 @@ loop-axis-preserved c =
     let s = c.args.shape.now in
     let sub = c.args.sub.now in
     let j = c.loop-axis.axis in
-    c.in_ok-push.ensures.items
-    ∙ corner_more s sub c.args.index.now j _ c.loop-axis.start.items c.requires.cut c.requires.index (omega (arith, c.loop-axis-test.true, (cut_len s sub c.requires.cut).0)) c.loop-axis.invariant refl
+    ◌∙◌ {A = List ℕ} c.in_ok-push.ensures.items
+    (corner_more s sub c.args.index.now j _ c.loop-axis.start.items c.requires.cut c.requires.index (omega (arith, c.loop-axis-test.true, (cut_len s sub c.requires.cut).0)) c.loop-axis.invariant refl)
 
 pub returns : goal.returns
 returns c =

@@ -1,4 +1,4 @@
-use Rattle.std.proofs.Common.{refl, ◌∙◌, arith}
+use Rattle.std.proofs.Common.{List, ℕ, refl, ◌∙◌, arith}
 use Rattle.std.proofs.lemmas.List.{take_all}
 use Rattle.zarrs_shard.specs.Subchunks.{quotients}
 use Rattle.zarrs_shard.proofs.Grids.{cut_len, cut_at, grid_more}
@@ -13,7 +13,8 @@ nonzero_div-shape c = (cut_at c.args.shape.now c.args.sub.now c.loop-axis.axis c
 pub loop-axis-preserved : goal.loop-axis-preserved
 loop-axis-preserved c =
     let i = c.loop-axis.axis in
-    c.in_ok-push.ensures.items ∙ grid_more c.args.shape.now c.args.sub.now i _ c.loop-axis.grid.items c.requires c.loop-axis-test.true c.loop-axis.invariant refl
+    ◌∙◌ {A = List ℕ} c.in_ok-push.ensures.items
+    (grid_more c.args.shape.now c.args.sub.now i _ c.loop-axis.grid.items c.requires c.loop-axis-test.true c.loop-axis.invariant refl)
 
 pub returns : goal.returns
 returns c =
