@@ -4,6 +4,9 @@
 mod options;
 mod traits;
 
-pub use options::{CodecMetadataOptions, CodecOptions, CodecSpecificOptions};
+pub use options::{
+    CodecMetadataOptions, CodecOptions, CodecSpecificOptions, ShardingCodecOptions,
+    SubchunkWriteOrder,
+};
 pub use traits::ChainTraits;
 pub use zarrs_codec_leaf::CodecError;

@@ -84,7 +84,8 @@ pub trait ChainTraits {
     /// that part alone.
     ///
     /// # Errors
-    /// `DoesNotFit` if the bytes do not decode. `OutOfMemory` may come at any time.
+    /// `DoesNotFit` if the bytes do not decode; `SizeOverflow` if they leave out cells, and a chunk of fill is too large.
+    /// Which comes if both hold is open. `OutOfMemory` may come at any time.
     fn decode<'a>(
         &self,
         alloc: Global,
@@ -105,7 +106,8 @@ pub trait ChainTraits {
     /// The bytes of the same cells without what no cell needs, or `None` if those are the same bytes.
     ///
     /// # Errors
-    /// `DoesNotFit` if the bytes do not decode. `OutOfMemory` may come at any time.
+    /// `DoesNotFit` if the bytes do not decode; `SizeOverflow` if those bytes are too many. `OutOfMemory` may come at any
+    /// time.
     fn compact(
         &self,
         alloc: Global,

@@ -1,7 +1,7 @@
 -- The metadata of a chain, codec by codec.
-use Rattle.std.proofs.Common.{◌≡◌, ℕ, ◌+◌, ◌-◌, ◌<◌, List, [], ◌∷◌, ◌++◌, length, map, take, drop, get_or, Option, Some}
+use Rattle.std.proofs.Common.{Bool, true, false, ◌≡◌, ℕ, ◌+◌, ◌-◌, ◌<◌, List, [], ◌∷◌, ◌++◌, length, map, take, drop, get_or, Option, Some}
 use Rattle.std.proofs.Common.{None, option_map, option_and_then, refl, sym, ap, ◌∙◌, arith}
-use Rattle.std.specs.Prelude.{slice_get}
+use Rattle.std.specs.Prelude.{slice_get, codes}
 use Rattle.std.proofs.Math.Seq.{take-append_seam}
 use Rattle.std.proofs.lemmas.List.{drop_more, length-append}
 use Rattle.zarrs_metadata.specs.Extension.{ExtensionData, extension_view}
@@ -12,10 +12,30 @@ use Rattle.zarrs_metadata.specs.declared.extension.MetadataV3.{MetadataV3}
 use Rattle.zarrs_codec_array.specs.Metadata.{ArrayCodecData, array_codec_data, array_codec_said, extension_of_array_codec}
 use Rattle.zarrs_codec_array.specs.declared.array.ArrayToArrayCodec.{ArrayToArrayCodec}
 use Rattle.zarrs_codec_array.proofs.MetadataLaws.{array_codec_back}
-use Rattle.zarrs_codec.specs.Metadata.{BytesCodecData, bytes_codec_said}
-use Rattle.zarrs_codec.specs.Metadata.{array_codecs_said, chain_of_parts, chain_said, extension_of_bytes_codec}
+use Rattle.std.specs.Int.NonZero.{non_zero_u64_get}
+use Rattle.std.specs.Str.{bytes_eq}
+use Rattle.std.specs.declared.num.NonZeroU64.{NonZeroU64}
+use Rattle.std.proofs.lemmas.Bool.{ne_eqb}
+use Rattle.std.proofs.lemmas.Simd.{map-map}
+use Rattle.serde_json.specs.Data.{Data}
+use Rattle.serde_json.specs.View.{items_of}
+use Rattle.zarrs_metadata.specs.Extension.{extension_of, extension_data, settings}
+use Rattle.zarrs_metadata.specs.Lists.{all_of, list_of, list_data, number_data}
+use Rattle.zarrs_metadata.proofs.ListLemmas.{all_of-items_of}
+use Rattle.zarrs_codec_array.specs.Metadata.{transpose, reshape, squeeze}
+use Rattle.zarrs_codec_leaf.specs.Bytes.{endian_of}
+use Rattle.zarrs_codec_leaf.specs.declared.bytes.Endianness.TheVariants.{Little, Big}
+use Rattle.zarrs_codec_cells.specs.Metadata.{CellsCodecData, bytes, packbits, vlen_utf8, vlen_bytes, vlen, optional, optional_codec_data, extension_of_cells_codec}
+use Rattle.zarrs_codec_cells.proofs.OptionalMetadata.{codec_again, cells_codec_back}
+use Rattle.zarrs_codec.specs.Chains.{is_at_start}
+use Rattle.zarrs_codec_cells.specs.ShardingMetadata.{sizes_of}
+use Rattle.zarrs_codec.specs.declared.codec.ArrayToBytesCodec.{ArrayToBytesCodec}
+use Rattle.zarrs_codec.specs.declared.codec.ArrayToBytesCodec as code
+use Rattle.zarrs_codec.specs.Metadata.{BytesCodecData, cells, sharding, bytes_codec_data, bytes_codec_said, sharding_with}
+use Rattle.zarrs_codec.specs.Metadata.{array_codecs_said, chain_of_parts, chain_said, last_of, extension_of_bytes_codec}
 use Rattle.zarrs_codec.specs.Metadata.{extensions_of_chain}
-use Rattle.zarrs_codec.proofs.OptionalMetadata.{bytes_codec_back}
+use Rattle.zarrs_codec_cells.specs.ShardingMetadata.{ShardingData, sharding_data, sharding_from, sharding_extension, size_said}
+use Rattle.zarrs_codec.proofs.ShardingMetadata.{said-cells, said-sharding}
 
 -- the last of the extension points, and those before it
 rest_count : (n m : ℕ) → n ≡ m + 1 → n - 1 ≡ m
@@ -43,11 +63,81 @@ array_codecs_back : (cs : List ArrayToArrayCodec) → array_codecs_said (map ext
 array_codecs_back [] = refl
 array_codecs_back (c ∷ cs) = rw (array_codec_back c, array_codecs_back cs) refl
 
--- what is written for a chain reads as that chain
-pub chain_back : (cs : List ArrayToArrayCodec) (c : BytesCodecData) → chain_said (extensions_of_chain (record { array_to_array = map array_codec_data cs; array_to_bytes = c })) ≡ Some (record { array_to_array = map array_codec_data cs; array_to_bytes = c })
-chain_back cs c =
+-- what is written for a chain reads as that chain, if what is written for its last codec reads as that codec
+chain_with_back : (cs : List ArrayToArrayCodec) (c : BytesCodecData) → bytes_codec_said (extension_of_bytes_codec c) ≡ Some c
+    → chain_said (extensions_of_chain (record { array_to_array = map array_codec_data cs; array_to_bytes = c })) ≡ Some (record { array_to_array = map array_codec_data cs; array_to_bytes = c })
+chain_with_back cs c back =
     chain_said-parts (map extension_of_array_codec (map array_codec_data cs)) (extension_of_bytes_codec c)
-    ∙ rw (array_codecs_back cs, bytes_codec_back c) refl
+    ∙ rw (array_codecs_back cs, back) refl
+
+-- ---- what is written for a codec
+
+array_again : (c : ArrayCodecData) → extension_of (extension_data (extension_of_array_codec c)) ≡ Some (extension_of_array_codec c)
+array_again (transpose order) = refl
+array_again (reshape entries) = refl
+array_again squeeze = refl
+
+bytes_again : (c : BytesCodecData) → extension_of (extension_data (extension_of_bytes_codec c)) ≡ Some (extension_of_bytes_codec c)
+bytes_again (cells c) = codec_again c
+bytes_again (sharding chunk_shape at_start front last) = refl
+
+all_again : (cs : List ArrayCodecData) (c : BytesCodecData)
+    → all_of extension_of (items_of (map extension_data (map extension_of_array_codec cs ++ extension_of_bytes_codec c ∷ []))) ≡ Some (map extension_of_array_codec cs ++ extension_of_bytes_codec c ∷ [])
+all_again [] c = ap (option_and_then (λ a. option_map (λ more. a ∷ more) (Some []))) (bytes_again c)
+all_again (x ∷ cs) c =
+    ap (option_and_then (λ a. option_map (λ more. a ∷ more) (all_of extension_of (items_of (map extension_data (map extension_of_array_codec cs ++ extension_of_bytes_codec c ∷ [])))))) (array_again x)
+    ∙ ap (option_map (λ more. extension_of_array_codec x ∷ more)) (all_again cs c)
+
+size_back : (size : NonZeroU64) → size_said (number_data size.value) ≡ Some size.value
+size_back size = let some = size.ok in rw (ne_eqb size.value 0 (λ z. absurd (omega arith))) refl
+
+sizes_back : (sizes : List NonZeroU64) → list_of size_said (list_data number_data (sizes_of sizes)) ≡ Some (sizes_of sizes)
+sizes_back sizes =
+    ap (λ (ds : List Data). all_of size_said (items_of ds)) (map-map number_data non_zero_u64_get sizes)
+    ∙ all_of-items_of size_said (λ (size : NonZeroU64). number_data size.value) non_zero_u64_get size_back sizes
+
+data_again : (sizes : List NonZeroU64) (at_start : Bool) (codecs : List ExtensionData) → list_of extension_of (list_data extension_data codecs) ≡ Some codecs
+    → sharding_data (settings (sharding_extension (record { chunk_shape = sizes_of sizes; at_start = at_start; codecs = codecs }))) ≡ Some (record { chunk_shape = sizes_of sizes; at_start = at_start; codecs = codecs })
+data_again sizes true codecs again =
+    ap (λ s. sharding_from (Some true) s (list_of extension_of (list_data extension_data codecs))) (sizes_back sizes) ∙ ap (sharding_from (Some true) (Some (sizes_of sizes))) again
+data_again sizes false codecs again =
+    ap (λ s. sharding_from (Some false) s (list_of extension_of (list_data extension_data codecs))) (sizes_back sizes) ∙ ap (sharding_from (Some false) (Some (sizes_of sizes))) again
+
+other_name : (c : CellsCodecData) → bytes_eq (extension_of_cells_codec c).name (codes "sharding_indexed") ≡ false
+other_name (bytes None) = refl
+other_name (bytes (Some Little)) = refl
+other_name (bytes (Some Big)) = refl
+other_name packbits = refl
+other_name vlen_utf8 = refl
+other_name vlen_bytes = refl
+other_name vlen = refl
+other_name (optional mask inner) = refl
+
+cells_back : (c : CellsCodecData) → bytes_codec_said (extension_of_bytes_codec (cells c)) ≡ Some (cells c)
+cells_back c = said-cells (extension_of_cells_codec c) (other_name c) ∙ ap (option_map cells) (cells_codec_back c)
+
+sharding_back : (sizes : List NonZeroU64) (at_start : Bool) (cs : List ArrayToArrayCodec) (c : BytesCodecData) → bytes_codec_said (extension_of_bytes_codec c) ≡ Some c
+    → bytes_codec_said (extension_of_bytes_codec (sharding (sizes_of sizes) at_start (map array_codec_data cs) c)) ≡ Some (sharding (sizes_of sizes) at_start (map array_codec_data cs) c)
+sharding_back sizes at_start cs c back =
+    let codecs = map extension_of_array_codec (map array_codec_data cs) ++ extension_of_bytes_codec c ∷ [] in
+    let d : ShardingData = record { chunk_shape = sizes_of sizes; at_start = at_start; codecs = codecs } in
+    said-sharding (sharding_extension d) d refl (data_again sizes at_start codecs (all_again (map array_codec_data cs) c))
+    ∙ ap (sharding_with d) (chain_with_back cs c back)
+
+-- what is written for a codec of the code reads as that codec
+pub bytes_codec_back : (c : ArrayToBytesCodec) → bytes_codec_said (extension_of_bytes_codec (bytes_codec_data c)) ≡ Some (bytes_codec_data c)
+bytes_codec_back (code.Bytes codec) = cells_back (bytes (endian_of codec))
+bytes_codec_back (code.PackBits codec) = cells_back packbits
+bytes_codec_back (code.VlenUtf8 codec) = cells_back vlen_utf8
+bytes_codec_back (code.VlenBytes codec) = cells_back vlen_bytes
+bytes_codec_back (code.Vlen codec) = cells_back vlen
+bytes_codec_back (code.Optional codec) = cells_back (optional_codec_data codec)
+bytes_codec_back (code.Sharding' p sub at before last after) = sharding_back sub.items (is_at_start at) before.items (bytes_codec_data last) (bytes_codec_back last)
+
+-- what is written for a chain of the code reads as that chain
+pub chain_back : (cs : List ArrayToArrayCodec) (c : ArrayToBytesCodec)
+    → chain_said (extensions_of_chain (record { array_to_array = map array_codec_data cs; array_to_bytes = bytes_codec_data c })) ≡ Some (record { array_to_array = map array_codec_data cs; array_to_bytes = bytes_codec_data c })
+chain_back cs c = chain_with_back cs (bytes_codec_data c) (bytes_codec_back c)
 
 -- a part that says nothing
 pub no_front : (last : Option BytesCodecData) (front : Option (List ArrayCodecData)) → front ≡ None → chain_of_parts front last ≡ None
@@ -71,6 +161,25 @@ pub made_parts : (ms front : List MetadataV3) (last : MetadataV3) (codecs : List
     → chain_said (map extension_view ms) ≡ Some (record { array_to_array = codecs; array_to_bytes = codec })
 made_parts ms front last codecs codec is first second = read_parts ms front last is ∙ rw (first, second) refl
 
+-- no extension point says no chain
+pub no_chain : (ms : List MetadataV3) → length ms ≡ 0 → chain_said (map extension_view ms) ≡ None
+no_chain [] none = refl
+no_chain (m ∷ ms) none = absurd (omega arith)
+
+-- the codecs of a configuration
+pub last_read : (ms front : List MetadataV3) (last : MetadataV3) → ms ≡ front ++ last ∷ [] → last_of (map extension_view ms) ≡ Some (extension_view last)
+last_read ms front last is =
+    ap (λ l. last_of (map extension_view l)) is ∙ ap last_of (map_last extension_view front last) ∙ last_is (map extension_view front) (extension_view last)
+
+pub said-parts : (e : ExtensionData) (d : ShardingData) (ms front : List MetadataV3) (last : MetadataV3) → bytes_eq e.name (codes "sharding_indexed") ≡ true → sharding_data (settings e) ≡ Some d → d.codecs ≡ map extension_view ms
+    → ms ≡ front ++ last ∷ [] → sharding_with d (chain_of_parts (array_codecs_said (map extension_view front)) (bytes_codec_said (extension_view last))) ≡ bytes_codec_said e
+said-parts e d ms front last named is codecs cut =
+    sym (said-sharding e d named is ∙ ap (λ l. sharding_with d (chain_said l)) codecs ∙ ap (sharding_with d) (read_parts ms front last cut))
+
+pub said-nothing : (e : ExtensionData) (d : ShardingData) (ms : List MetadataV3) → bytes_eq e.name (codes "sharding_indexed") ≡ true → sharding_data (settings e) ≡ Some d → d.codecs ≡ map extension_view ms → length ms ≡ 0 → None ≡ bytes_codec_said e
+said-nothing e d ms named is codecs none =
+    sym (said-sharding e d named is ∙ ap (λ l. sharding_with d (chain_said l)) codecs ∙ ap (sharding_with d) (no_chain ms none))
+
 -- a refusal of a part is one of the whole
 pub refuses_through : {A B : Type 0} (o : Option A) (whole : Option B) (e : PluginCreateError) → (o ≡ None → whole ≡ None) → RefusesMeaning o e → RefusesMeaning whole e
 refuses_through o whole (plugin.Other said) none refused = none refused
@@ -83,11 +192,6 @@ written_parts ms front last cs c is first second =
     ap (map extension_view) is ∙ map_last extension_view front last
     ∙ ap (λ l. l ++ extension_view last ∷ []) first
     ∙ ap (λ e. map extension_of_array_codec (map array_codec_data cs) ++ e ∷ []) second
-
--- no extension point says no chain
-pub no_chain : (ms : List MetadataV3) → length ms ≡ 0 → chain_said (map extension_view ms) ≡ None
-no_chain [] none = refl
-no_chain (m ∷ ms) none = absurd (omega arith)
 
 pub refuses_none : {B : Type 0} (whole : Option B) (e : PluginCreateError) → whole ≡ None → RefusesMeaning whole e
 refuses_none whole (plugin.Other said) none = none

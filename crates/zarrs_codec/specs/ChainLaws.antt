@@ -1,25 +1,38 @@
 -- The law of every chain of the code, from those of its codecs.
-use Rattle.std.proofs.Common.{refl, sym, ap, ◌∙◌}
+use Rattle.std.proofs.Common.{ℕ, Bool, false, List, refl, sym, ap, ◌∙◌}
+use Rattle.zarrs_types.specs.Kind.{Kind}
+use Rattle.zarrs_types.specs.Kind as type
+use Rattle.zarrs_types.specs.Cell.{Cell, none}
+use Rattle.zarrs_subset.specs.Boxes.{position_count}
 use Rattle.zarrs_codec_array.specs.ArrayCodecs.{arrays_meaning, arrays-lawful}
+use Rattle.zarrs_codec_array.specs.declared.array.ArrayToArrayCodec.{ArrayToArrayCodec}
 use Rattle.zarrs_codec_leaf.specs.Bytes.{endian_of}
 use Rattle.zarrs_codec_leaf.specs.BytesLaws.{bytes-lawful}
 use Rattle.zarrs_codec_leaf.specs.Leaf.{LeafMeaning, IsLawfulLeaf}
 use Rattle.zarrs_codec_leaf.specs.PackBitsLaws.{packbits-lawful}
 use Rattle.zarrs_codec_leaf.specs.VlenLaws.{vlen-lawful}
 use Rattle.zarrs_codec_leaf.specs.VlenStringsLaws.{vlen_utf8-lawful, vlen_bytes-lawful}
-use Rattle.zarrs_codec.specs.declared.chain.ArrayToBytesCodec.{ArrayToBytesCodec}
-use Rattle.zarrs_codec.specs.declared.chain.ArrayToBytesCodec as codec
+use Rattle.zarrs_codec_cells.specs.CellsCodecLaws.{optional_codec-lawful}
+use Rattle.zarrs_shard.specs.Sharded.{IsLawfulSubchunk, IsLawfulShard}
+use Rattle.zarrs_shard.proofs.ShardLaws.{shard-lawful}
+use Rattle.zarrs_codec.specs.declared.codec.ArrayToBytesCodec.{ArrayToBytesCodec}
+use Rattle.zarrs_codec.specs.declared.codec.ArrayToBytesCodec as codec
 use Rattle.zarrs_codec.specs.declared.chain.CodecChain.{CodecChain}
-use Rattle.zarrs_codec.specs.declared.optional.MaskCodec.{MaskCodec}
-use Rattle.zarrs_codec.specs.declared.optional.MaskCodec.TheVariants as mask
-use Rattle.zarrs_chain.specs.Chain.{IsLawfulChain}
-use Rattle.zarrs_codec.specs.Chains.{array_to_array_of, array_to_bytes_of, leaf_meaning, mask_meaning, whole_chunk, chain_meaning}
-use Rattle.zarrs_codec.specs.OptionalLaws.{optional-lawful}
+use Rattle.zarrs_chain.specs.Chain.{ChainMeaning, IsLawfulChain}
+use Rattle.zarrs_codec_cells.specs.ShardingMetadata.{sizes_of}
+use Rattle.zarrs_codec.specs.Chains.{array_to_array_of, array_to_bytes_of, behind, codec_meaning, is_at_start, leaf_meaning, no_cells, whole_chunk}
+use Rattle.zarrs_codec.specs.Chains.{chain_meaning}
+use Rattle.zarrs_codec.specs.Shardings.{sharded, subchunk_meaning}
 use Rattle.zarrs_codec.specs.Through.{through-lawful}
 
-pub mask-lawful : (m : MaskCodec) → IsLawfulLeaf (mask_meaning m)
-mask-lawful (mask.PackBits packbits) = packbits-lawful
-mask-lawful (mask.Bytes bytes) = bytes-lawful (endian_of bytes)
+no_cells-lawful : IsLawfulLeaf no_cells
+no_cells-lawful = record {
+  round_trip = λ k cs b values made. cc;
+  decoded_len = λ k n b cs made. cc;
+  decoded_values = λ k n b cs made. cc;
+  untaken = λ k cs not. refl;
+  untaken_decoded = λ k n b not. refl;
+}
 
 pub leaf-lawful : (c : ArrayToBytesCodec) → IsLawfulLeaf (leaf_meaning c)
 leaf-lawful (codec.Bytes bytes) = bytes-lawful (endian_of bytes)
@@ -27,23 +40,54 @@ leaf-lawful (codec.PackBits packbits) = packbits-lawful
 leaf-lawful (codec.VlenUtf8 texts) = vlen_utf8-lawful
 leaf-lawful (codec.VlenBytes strings) = vlen_bytes-lawful
 leaf-lawful (codec.Vlen strings) = vlen-lawful
-leaf-lawful (codec.Optional' flags p inner) = optional-lawful (mask_meaning flags) (leaf_meaning inner) (mask-lawful flags) (leaf-lawful inner)
+leaf-lawful (codec.Optional optional) = optional_codec-lawful optional
+leaf-lawful (codec.Sharding' p sub at before last after) = no_cells-lawful
 
-whole_chunk-lawful : (leaf : LeafMeaning) → IsLawfulLeaf leaf → IsLawfulChain (whole_chunk leaf)
+pub whole_chunk-lawful : (leaf : LeafMeaning) → IsLawfulLeaf leaf → IsLawfulChain (whole_chunk leaf)
 whole_chunk-lawful leaf law = record {
   round_trip = λ empty k f s cs b values len made. ap (λ n. leaf.decoded k n b) (sym len) ∙ law.round_trip k cs b values made;
   decoded_len = λ k f s b cs made. law.decoded_len k _ b cs made;
   decoded_values = λ k f s b cs made. law.decoded_values k _ b cs made;
-  compacted_same = λ k f s b less made. cc;
+  compacted_same = λ k f s b less made short. cc;
   compacted_differs = λ s b less made. cc;
   encoded_compact = λ empty k f s cs b len made. refl;
   unfit = λ empty k f s cs not. law.untaken k cs not;
   unfit_decoded = λ k f s b not. law.untaken_decoded k _ b not;
 }
 
+-- the law of a chain behind array-to-array codecs
+pub behind-lawful : (m : ChainMeaning) → IsLawfulChain m → (codecs : List ArrayToArrayCodec) → IsLawfulChain (behind codecs m)
+behind-lawful m law codecs = through-lawful (arrays_meaning codecs) m (arrays-lawful codecs) law
+
+module _ (sub : List ℕ) (m : ChainMeaning) (law : IsLawfulChain m) where
+  -- the law of the chain of subchunks of one shape
+  pub subchunk-lawful : (empty : Bool) (k : Kind) (f : Cell) → IsLawfulSubchunk k (position_count sub) (subchunk_meaning m empty k f sub)
+  subchunk-lawful empty k f = record {
+    round_trip = λ cs b values len made. law.round_trip empty k f sub cs b values len made;
+    decoded_len = λ b cs made. law.decoded_len k f sub b cs made;
+  }
+
+module _ (at_start : Bool) (sub : List ℕ) (m : ChainMeaning) (law : IsLawfulChain m) where
+  shard : (empty : Bool) (k : Kind) (f : Cell) (s : List ℕ) → IsLawfulShard (subchunk_meaning m empty k f sub) at_start empty k f s sub
+  shard empty k f s = shard-lawful (subchunk_meaning m empty k f sub) at_start empty k f s sub (subchunk-lawful sub m law empty k f)
+
+  pub sharded-lawful : IsLawfulChain (sharded at_start sub m)
+  sharded-lawful = record {
+    round_trip = λ empty k f s cs b values len made. (shard empty k f s).round_trip cs b values len made;
+    decoded_len = λ k f s b cs made. (shard false k f s).decoded_len b cs made;
+    decoded_values = λ k f s b cs made. (shard false k f s).decoded_values b cs made;
+    compacted_same = λ k f s b less made short. (shard false k f s).compacted_same b less made short;
+    compacted_differs = λ s b less made. (shard false type.bool none s).compacted_differs b less made;
+    encoded_compact = λ empty k f s cs b len made. (shard empty k f s).encoded_compact cs b made;
+    unfit = λ empty k f s cs not. (shard empty k f s).unfit cs not;
+    unfit_decoded = λ k f s b not. (shard false k f s).unfit_decoded b not;
+  }
+
+pub codec-lawful : (c : ArrayToBytesCodec) → IsLawfulChain (codec_meaning c)
+codec-lawful (codec.Sharding' p sub at before last after) =
+    sharded-lawful (is_at_start at) (sizes_of sub.items) (behind before.items (codec_meaning last))
+    (behind-lawful (codec_meaning last) (codec-lawful last) before.items)
+codec-lawful c = whole_chunk-lawful (leaf_meaning c) (leaf-lawful c)
+
 pub chain-lawful : (chain : CodecChain) → IsLawfulChain (chain_meaning chain)
-chain-lawful chain =
-    let arrays = array_to_array_of chain in
-    let last = array_to_bytes_of chain in
-    through-lawful (arrays_meaning arrays) (whole_chunk (leaf_meaning last)) (arrays-lawful arrays)
-    (whole_chunk-lawful (leaf_meaning last) (leaf-lawful last))
+chain-lawful chain = behind-lawful (codec_meaning (array_to_bytes_of chain)) (codec-lawful (array_to_bytes_of chain)) (array_to_array_of chain)

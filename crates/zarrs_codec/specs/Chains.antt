@@ -1,5 +1,6 @@
 -- What the chains of the code mean.
-use Rattle.std.specs.Prelude.{Some, None, List}
+use Rattle.std.specs.Prelude.{ℕ, Bool, true, false, Some, None, List, map}
+use Rattle.std.specs.declared.num.NonZeroU64.{NonZeroU64}
 use Rattle.zarrs_codec_array.specs.ArrayCodecs.{arrays_meaning}
 use Rattle.zarrs_codec_array.specs.declared.array.ArrayToArrayCodec.{ArrayToArrayCodec}
 use Rattle.zarrs_codec_leaf.specs.Bytes.{bytes_meaning_of, endian_of}
@@ -7,16 +8,18 @@ use Rattle.zarrs_codec_leaf.specs.Leaf.{LeafMeaning}
 use Rattle.zarrs_codec_leaf.specs.PackBits.{packbits_meaning}
 use Rattle.zarrs_codec_leaf.specs.Vlen.{vlen_meaning}
 use Rattle.zarrs_codec_leaf.specs.VlenStrings.{vlen_utf8_meaning, vlen_bytes_meaning}
+use Rattle.zarrs_codec_cells.specs.ShardingMetadata.{sizes_of}
+use Rattle.zarrs_codec_cells.specs.CellsCodecs.{optional_meaning_of}
 use Rattle.zarrs_subset.specs.Boxes.{position_count}
-use Rattle.zarrs_codec.specs.declared.chain.ArrayToBytesCodec.{ArrayToBytesCodec}
-use Rattle.zarrs_codec.specs.declared.chain.ArrayToBytesCodec as codec
+use Rattle.zarrs_codec.specs.declared.codec.ArrayToBytesCodec.{ArrayToBytesCodec}
+use Rattle.zarrs_codec.specs.declared.codec.ArrayToBytesCodec as codec
 use Rattle.zarrs_codec.specs.declared.chain.BytesToBytesCodecs.{BytesToBytesCodecs}
 use Rattle.zarrs_codec.specs.declared.chain.CodecChain.{CodecChain}
-use Rattle.zarrs_codec.specs.declared.optional.MaskCodec.{MaskCodec}
-use Rattle.zarrs_codec.specs.declared.optional.MaskCodec.TheVariants as mask
-use Rattle.zarrs_codec.specs.declared.optional.OptionalCodec.{OptionalCodec}
+use Rattle.zarrs_codec.specs.declared.sharding.ShardingCodec.{ShardingCodec}
+use Rattle.zarrs_codec.specs.declared.sharding.ShardingIndexLocation.{ShardingIndexLocation}
+use Rattle.zarrs_codec.specs.declared.sharding.ShardingIndexLocation.TheVariants as location
 use Rattle.zarrs_chain.specs.Chain.{ChainMeaning}
-use Rattle.zarrs_codec.specs.Optional.{optional_meaning}
+use Rattle.zarrs_codec.specs.Shardings.{sharded}
 use Rattle.zarrs_codec.specs.Through.{through}
 
 -- the parts of a chain
@@ -29,40 +32,64 @@ array_to_bytes_of chain = chain.array_to_bytes
 abbrev pub bytes_to_bytes_of : CodecChain → BytesToBytesCodecs
 bytes_to_bytes_of chain = chain.bytes_to_bytes
 
--- the parts of an optional codec
-abbrev pub mask_codec_of : OptionalCodec → MaskCodec
-mask_codec_of codec = codec.mask
+-- the parts of a codec of shards
+abbrev pub subchunk_sizes_of : ShardingCodec → List NonZeroU64
+subchunk_sizes_of codec = codec.subchunk_shape.items
 
-abbrev pub data_codec_of : OptionalCodec → ArrayToBytesCodec
-data_codec_of codec = codec.data.value
+abbrev pub location_of : ShardingCodec → ShardingIndexLocation
+location_of codec = codec.index_location
 
--- the codec of a mask
-abbrev pub mask_meaning : MaskCodec → LeafMeaning
-mask_meaning (mask.PackBits packbits) = packbits_meaning
-mask_meaning (mask.Bytes bytes) = bytes_meaning_of (endian_of bytes)
+abbrev pub inner_chain_of : ShardingCodec → CodecChain
+inner_chain_of codec = codec.inner
 
--- a codec of plain cells
+abbrev pub is_at_start : ShardingIndexLocation → Bool
+is_at_start location.Start = true
+is_at_start location.End = false
+
+-- a codec that takes no cells
+abbrev pub no_cells : LeafMeaning
+no_cells = record { takes = λ k. false; encoded = λ k cs. None; decoded = λ k n b. None }
+
+-- what a codec means to cells alone, whatever the shape of their array: a codec of shards takes none
 abbrev pub leaf_meaning : ArrayToBytesCodec → LeafMeaning
 leaf_meaning (codec.Bytes bytes) = bytes_meaning_of (endian_of bytes)
 leaf_meaning (codec.PackBits packbits) = packbits_meaning
 leaf_meaning (codec.VlenUtf8 texts) = vlen_utf8_meaning
 leaf_meaning (codec.VlenBytes strings) = vlen_bytes_meaning
 leaf_meaning (codec.Vlen strings) = vlen_meaning
-leaf_meaning (codec.Optional' flags p inner) = optional_meaning (mask_meaning flags) (leaf_meaning inner)
+leaf_meaning (codec.Optional optional) = optional_meaning_of optional
+leaf_meaning (codec.Sharding' p sub at before last after) = no_cells
 
--- a codec of optional cells
-abbrev pub optional_meaning_of : OptionalCodec → LeafMeaning
-optional_meaning_of codec = optional_meaning (mask_meaning (mask_codec_of codec)) (leaf_meaning (data_codec_of codec))
-
--- a codec of plain cells as a chain: the cells are those of the whole chunk, and its bytes are compact
+-- a codec of cells as a chain: the cells are those of the whole chunk, and its bytes are compact
 abbrev pub whole_chunk : LeafMeaning → ChainMeaning
 whole_chunk leaf = record {
   fits = λ k s. leaf.takes k;
   encoded = λ empty k f s cs. leaf.encoded k cs;
   decoded = λ k f s b. leaf.decoded k (position_count s) b;
   compacted = λ s b. Some None;
+  leaves_out = λ s b. false;
 }
+
+-- the chain `m` behind array-to-array codecs
+abbrev pub behind : List ArrayToArrayCodec → ChainMeaning → ChainMeaning
+behind codecs m = through (arrays_meaning codecs) m
+
+-- what a codec means
+abbrev pub codec_meaning : ArrayToBytesCodec → ChainMeaning
+codec_meaning (codec.Sharding' p sub at before last after) =
+    sharded (is_at_start at) (sizes_of sub.items) (behind before.items (codec_meaning last))
+codec_meaning c = whole_chunk (leaf_meaning c)
 
 -- what a chain means
 abbrev pub chain_meaning : CodecChain → ChainMeaning
-chain_meaning chain = through (arrays_meaning (array_to_array_of chain)) (whole_chunk (leaf_meaning (array_to_bytes_of chain)))
+chain_meaning chain = behind (array_to_array_of chain) (codec_meaning (array_to_bytes_of chain))
+
+-- what a chain means whose last codec looks at cells alone
+abbrev pub cells_chain_meaning : CodecChain → ChainMeaning
+cells_chain_meaning chain =
+    through (arrays_meaning (array_to_array_of chain)) (whole_chunk (leaf_meaning (array_to_bytes_of chain)))
+
+-- what a codec of shards means
+abbrev pub sharding_meaning : ShardingCodec → ChainMeaning
+sharding_meaning codec =
+    sharded (is_at_start (location_of codec)) (sizes_of (subchunk_sizes_of codec)) (chain_meaning (inner_chain_of codec))

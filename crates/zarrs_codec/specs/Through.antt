@@ -18,6 +18,7 @@ through a m = record {
   encoded = λ empty k f s cs. only_if (a.fits s) (m.encoded empty k f (a.shape s) (a.forward s cs));
   decoded = λ k f s b. only_if (a.fits s) (option_and_then (λ cs. Some (a.back s cs)) (m.decoded k f (a.shape s) b));
   compacted = λ s b. only_if (a.fits s) (m.compacted (a.shape s) b);
+  leaves_out = λ s b. a.fits s && m.leaves_out (a.shape s) b;
 }
 
 some_is : {A : Type 0} {x y : A} → Some x ≡ Some y → x ≡ y
@@ -35,13 +36,16 @@ only_if_true : {A : Type 0} (b : Bool) (o : Option A) → b ≡ true → only_if
 only_if_true b o is = ap (λ x. only_if x o) is
 
 module _ (a : ArrayMeaning) (m : ChainMeaning) (array_law : IsLawfulArray a) (law : IsLawfulChain m) where
-  again : (empty : Bool) (k : Kind) (f : Cell) (s : List ℕ) (cs : List Cell) (b : List ℕ) → are_values k cs ≡ true → length cs ≡ position_count s → (through a m).encoded empty k f s cs ≡ Some b → (through a m).decoded k f s b ≡ Some cs
+  again : (empty : Bool) (k : Kind) (f : Cell) (s : List ℕ) (cs : List Cell) (b : List ℕ) → are_values k cs ≡ true → length cs ≡ position_count s
+      → (through a m).encoded empty k f s cs ≡ Some b → (through a m).decoded k f s b ≡ Some cs
   again empty k f s cs b values len made =
       let p = only_if_parts (a.fits s) _ b made in
-      let read = law.round_trip empty k f (a.shape s) (a.forward s cs) b (array_law.forward_all (λ c. is_value k c) s cs p.0 len values) (array_law.forward_len s cs p.0 len ∙ sym (array_law.count s p.0)) p.1 in
+      let count = array_law.forward_len s cs p.0 len ∙ sym (array_law.count s p.0) in
+      let read = law.round_trip empty k f (a.shape s) (a.forward s cs) b (array_law.forward_all (λ c. is_value k c) s cs p.0 len values) count p.1 in
       only_if_true (a.fits s) _ p.0 ∙ ap (option_and_then (λ x. Some (a.back s x))) read ∙ ap Some (array_law.round_trip s cs p.0 len)
 
-  parts : (k : Kind) (f : Cell) (s b : List ℕ) (cs : List Cell) → (through a m).decoded k f s b ≡ Some cs → (length cs ≡ position_count s) × (are_values k cs ≡ true)
+  parts : (k : Kind) (f : Cell) (s b : List ℕ) (cs : List Cell) → (through a m).decoded k f s b ≡ Some cs
+      → (length cs ≡ position_count s) × (are_values k cs ≡ true)
   parts k f s b cs made =
       let p = only_if_parts (a.fits s) _ cs made in
       let q = bind_parts (m.decoded k f (a.shape s) b) (λ x. Some (a.back s x)) cs p.1 in
@@ -60,9 +64,9 @@ module _ (a : ArrayMeaning) (m : ChainMeaning) (array_law : IsLawfulArray a) (la
     round_trip = again;
     decoded_len = λ k f s b cs made. (parts k f s b cs made).0;
     decoded_values = λ k f s b cs made. (parts k f s b cs made).1;
-    compacted_same = λ k f s b less made.
+    compacted_same = λ k f s b less made short.
         let p = only_if_parts (a.fits s) _ (Some less) made in
-        ap (λ o. only_if (a.fits s) (option_and_then (λ x. Some (a.back s x)) o)) (law.compacted_same k f (a.shape s) b less p.1);
+        ap (λ o. only_if (a.fits s) (option_and_then (λ x. Some (a.back s x)) o)) (law.compacted_same k f (a.shape s) b less p.1 short);
     compacted_differs = λ s b less made.
         law.compacted_differs (a.shape s) b less (only_if_parts (a.fits s) _ (Some less) made).1;
     encoded_compact = λ empty k f s cs b len made.

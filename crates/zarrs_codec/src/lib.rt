@@ -2,18 +2,28 @@
 #![tactic(auto)]
 
 mod chain;
+mod codec;
+mod compact;
+mod decode;
+mod encode;
+mod fits;
 mod metadata;
-mod optional;
-mod sole;
-mod vlen_metadata;
+mod sharding;
+mod sharding_builder;
 
-pub use chain::{ArrayToBytesCodec, BytesToBytesCodecs, CodecChain};
+pub use chain::{BytesToBytesCodecs, CodecChain};
+pub use codec::ArrayToBytesCodec;
 pub use metadata::default_array_to_bytes_codec;
-pub use optional::{MaskCodec, OptionalCodec};
-pub use zarrs_chain::{ChainTraits, CodecMetadataOptions, CodecOptions, CodecSpecificOptions};
+pub use sharding::{ShardingCodec, ShardingIndexLocation};
+pub use sharding_builder::ShardingCodecBuilder;
+pub use zarrs_chain::{
+    ChainTraits, CodecMetadataOptions, CodecOptions, CodecSpecificOptions, ShardingCodecOptions,
+    SubchunkWriteOrder,
+};
 pub use zarrs_codec_array::{
     ArrayToArrayCodec, ReshapeCodec, ReshapeExtent, SqueezeCodec, TransposeCodec,
 };
+pub use zarrs_codec_cells::{CellsCodec, MaskCodec, OptionalCodec};
 pub use zarrs_codec_leaf::{
     BytesCodec, CodecError, Endianness, PackBitsCodec, VlenBytesCodec, VlenCodec, VlenUtf8Codec,
 };

@@ -1,42 +1,50 @@
 //! The metadata of chains of codecs, both ways.
 ghost use Rattle.std.specs.Prelude.{◌≡◌, Some, codes, map, option_map, IfOk, IfErr};
-ghost use Rattle.serde_json.specs.Data.{string, put};
-ghost use Rattle.serde_json.specs.View.{view, items_view};
-ghost use Rattle.zarrs_metadata.specs.Extension.{extension_view, extension_of, extension_data};
-ghost use Rattle.zarrs_metadata.specs.Extension.{named, settings};
+ghost use Rattle.std.specs.Str.{bytes_eq};
+ghost use Rattle.zarrs_metadata.specs.Extension.{extension_view, settings};
 ghost use Rattle.zarrs_metadata.specs.Refusals.{RefusesMeaning};
 ghost use Rattle.zarrs_data_type.specs.Kind.{kind};
 ghost use Rattle.zarrs_codec_array.specs.Metadata.{array_codec_data, extension_of_array_codec};
-ghost use Rattle.zarrs_types.specs.TypeMetadata.{is_optional_name};
-ghost use Rattle.zarrs_codec.specs.Metadata.{mask_codec_data, bytes_codec_data, chain_data};
-ghost use Rattle.zarrs_codec.specs.Metadata.{endian_said, bytes_with, packbits_said, plain_said};
-ghost use Rattle.zarrs_codec.specs.Metadata.{bytes_codec_named, mask_codec_said, as_mask, vlen_codec_said};
-ghost use Rattle.zarrs_codec.specs.Metadata.{optional_parts, optional_said, bytes_codec_said};
-ghost use Rattle.zarrs_codec.specs.Metadata.{array_codecs_said, chain_of_parts, chain_said};
-ghost use Rattle.zarrs_codec.specs.Metadata.{default_codec, extension_of_bytes};
-ghost use Rattle.zarrs_codec.specs.Metadata.{optional_extension, extension_of_bytes_codec};
-ghost use Rattle.zarrs_codec.specs.Metadata.{extensions_of_chain};
+ghost use Rattle.zarrs_codec_cells.specs.Metadata.{cells_codec_data, cells_codec_said};
+ghost use Rattle.zarrs_codec.specs.Metadata.{bytes_codec_data, chain_data, sharding_data_of, cells};
+ghost use Rattle.zarrs_codec.specs.Metadata.{array_codecs_said, bytes_codec_said, chain_of_parts, chain_said};
+ghost use Rattle.zarrs_codec.specs.Metadata.{default_codec, sharding_with};
+ghost use Rattle.zarrs_codec.specs.Metadata.{extension_of_bytes_codec, extensions_of_chain};
+ghost use Rattle.zarrs_codec_cells.specs.ShardingViews.{sharding_view};
 
-use crate::chain::{ArrayToBytesCodec, BytesToBytesCodecs, CodecChain};
-use crate::optional::{MaskCodec, OptionalCodec};
-use crate::sole::{list_of_one, sole_codec};
-use crate::vlen_metadata::{says_vlen, vlen_metadata};
-use serde_json::Value;
+use crate::chain::{BytesToBytesCodecs, CodecChain};
+use crate::codec::ArrayToBytesCodec;
+use crate::sharding::{ShardingCodec, ShardingIndexLocation};
 use std::alloc::{AllocError, Global};
 use zarrs_codec_array::ArrayToArrayCodec;
-use zarrs_codec_leaf::{
-    BytesCodec, Endianness, PackBitsCodec, VlenBytesCodec, VlenCodec, VlenUtf8Codec,
+use zarrs_codec_cells::{
+    CellsCodec, ShardingParts, codec_of, default_cells_codec, named, sharding_metadata,
+    sharding_parts,
 };
 use zarrs_data_type::DataType;
 use zarrs_metadata::{MetadataV3, PluginCreateError};
 
+impl From<CellsCodec> for ArrayToBytesCodec {
+    ghost from_gives = { λ codec made. bytes_codec_data made ≡ cells (cells_codec_data codec) };
+
+    fn from(codec: CellsCodec) -> ArrayToBytesCodec {
+        match codec {
+            CellsCodec::Bytes(codec) => ArrayToBytesCodec::Bytes(codec),
+            CellsCodec::PackBits(codec) => ArrayToBytesCodec::PackBits(codec),
+            CellsCodec::VlenUtf8(codec) => ArrayToBytesCodec::VlenUtf8(codec),
+            CellsCodec::VlenBytes(codec) => ArrayToBytesCodec::VlenBytes(codec),
+            CellsCodec::Vlen(codec) => ArrayToBytesCodec::Vlen(codec),
+            CellsCodec::Optional(codec) => ArrayToBytesCodec::Optional(codec),
+        }
+    }
+}
+
 impl ArrayToBytesCodec {
-    /// Reads the codec that metadata says: `bytes` with its `endian`, which may be absent; `packbits` with no
-    /// `padding_encoding` or the text `none`; `vlen-utf8` or `vlen-bytes` without configuration; `zarrs.vlen`, by its
-    /// other name `vlen`, with an index of `uint64` at the start, by the codec `bytes`, little endian, and data by the
-    /// codec `bytes` without configuration; or `zarrs.optional`, by its other name `optional`, with `mask_codecs`, a
-    /// list of one of `packbits` and `bytes`, and `data_codecs`, a list of one codec that makes bytes of cells (Zarr V3
-    /// core specification, "Codecs").
+    /// Reads the codec that metadata says: `sharding_indexed` with the `chunk_shape` of its subchunks, a list of whole
+    /// numbers that are not 0, their chain `codecs`, `index_codecs` of `bytes`, little endian, alone, and the
+    /// `index_location` `start` or `end`, which may be absent for the end; or a codec that looks at cells alone:
+    /// `bytes`, `packbits`, `vlen-utf8`, `vlen-bytes`, `zarrs.vlen` or `zarrs.optional` (Zarr V3 core specification,
+    /// "Codecs").
     ///
     /// # Errors
     /// `Other` if the metadata says none of them: for another name, a member of another shape, and a configuration
@@ -50,7 +58,7 @@ impl ArrayToBytesCodec {
         ensures refused { IfErr result
             (RefusesMeaning (bytes_codec_said (extension_view metadata.now))) }
     {
-        let Some(codec) = codec_of(alloc, metadata)? else {
+        let Some(codec) = codec_from(alloc, metadata)? else {
             let name = metadata.name();
             let text = format!(in alloc;
                 "no array-to-bytes codec `{name}` has this configuration"
@@ -75,17 +83,18 @@ impl ArrayToBytesCodec {
     }
 
     #[cycle(written)]
-    pub(crate) fn written(&self, alloc: Global) -> Result<MetadataV3, AllocError>
+    fn written(&self, alloc: Global) -> Result<MetadataV3, AllocError>
         ensures { IfOk result (λ m.
             extension_view m ≡ extension_of_bytes_codec (bytes_codec_data self.now)) }
     {
         match self {
-            ArrayToBytesCodec::Bytes(codec) => bytes_metadata(alloc, codec.endian()),
+            ArrayToBytesCodec::Bytes(codec) => CellsCodec::Bytes(*codec).written(alloc),
             ArrayToBytesCodec::PackBits(_) => named(alloc, "packbits"),
             ArrayToBytesCodec::VlenUtf8(_) => named(alloc, "vlen-utf8"),
             ArrayToBytesCodec::VlenBytes(_) => named(alloc, "vlen-bytes"),
-            ArrayToBytesCodec::Vlen(_) => vlen_metadata(alloc),
+            ArrayToBytesCodec::Vlen(codec) => CellsCodec::Vlen(*codec).written(alloc),
             ArrayToBytesCodec::Optional(codec) => codec.written(alloc),
+            ArrayToBytesCodec::Sharding(codec) => codec.written(alloc),
         }
     }
 
@@ -106,7 +115,38 @@ impl ArrayToBytesCodec {
             ArrayToBytesCodec::Optional(codec) => {
                 Ok(ArrayToBytesCodec::Optional(codec.try_clone(alloc)?))
             }
+            ArrayToBytesCodec::Sharding(codec) => {
+                let copy = codec.try_clone(alloc)?;
+                Ok(ArrayToBytesCodec::Sharding(Box::new(alloc, copy)?))
+            }
         }
+    }
+}
+
+impl ShardingCodec {
+    #[cycle(written)]
+    fn written(&self, alloc: Global) -> Result<MetadataV3, AllocError>
+        ensures { IfOk result (λ m.
+            extension_view m ≡ extension_of_bytes_codec (sharding_data_of self.now)) }
+    {
+        let inner = self.inner_codecs();
+        let mut codecs = array_codec_metadatas(alloc, inner.array_to_array_codecs())?;
+        codecs.push(inner.array_to_bytes_codec().written(alloc)?)?;
+        let at_start = self.index_location().is_at_start();
+        sharding_metadata(alloc, self.subchunk_shape(), at_start, &codecs)
+    }
+
+    /// The same codec.
+    ///
+    /// # Errors
+    /// `AllocError`: out of memory.
+    #[cycle(copied)]
+    pub fn try_clone(&self, alloc: Global) -> Result<ShardingCodec, AllocError>
+        ensures { IfOk result (λ copy. sharding_data_of copy ≡ sharding_data_of self.now) }
+    {
+        let shape = Vec::from_slice(alloc, self.subchunk_shape())?;
+        let inner = self.inner_codecs().try_clone(alloc)?;
+        Ok(ShardingCodec::new(shape, self.index_location(), inner))
     }
 }
 
@@ -154,6 +194,7 @@ impl CodecChain {
     ///
     /// # Errors
     /// `AllocError`: out of memory.
+    #[cycle(copied)]
     pub fn try_clone(&self, alloc: Global) -> Result<CodecChain, AllocError>
         ensures { IfOk result (λ copy. chain_data copy ≡ chain_data self.now) }
     {
@@ -175,214 +216,91 @@ pub fn default_array_to_bytes_codec(
 ) -> Result<ArrayToBytesCodec, AllocError>
     ensures { IfOk result (λ codec. bytes_codec_data codec ≡ default_codec (kind data_type.now)) }
 {
-    match data_type {
-        DataType::String => Ok(ArrayToBytesCodec::VlenUtf8(VlenUtf8Codec)),
-        DataType::Bytes => Ok(ArrayToBytesCodec::VlenBytes(VlenBytesCodec)),
-        DataType::Optional(inner) => {
-            let data = default_array_to_bytes_codec(alloc, inner)?;
-            let mask = MaskCodec::PackBits(PackBitsCodec);
-            Ok(ArrayToBytesCodec::Optional(OptionalCodec::new(alloc, mask, data)?))
-        }
-        _ => Ok(ArrayToBytesCodec::Bytes(BytesCodec::little())),
-    }
+    let codec = default_cells_codec(alloc, data_type)?;
+    Ok(ArrayToBytesCodec::from(codec))
 }
 
 /// Returns the codec that metadata says, if it says one.
-fn codec_of(alloc: Global, metadata: &MetadataV3) -> Result<Option<ArrayToBytesCodec>, AllocError>
+fn codec_from(alloc: Global, metadata: &MetadataV3) -> Result<Option<ArrayToBytesCodec>, AllocError>
     ensures { IfOk result (λ found. option_map bytes_codec_data found
         ≡ bytes_codec_said (extension_view metadata.now)) }
 {
-    if !is_optional_name(metadata.name()) {
-        return codec_named(metadata);
+    if !is_sharding_name(metadata.name()) {
+        return cells_codec_from(alloc, metadata);
     }
-    let Some((mask, inner)) = optional_parts(metadata)? else {
+    let Some(parts) = sharding_parts(alloc, metadata)? else {
         return Ok(None);
     };
-    let found = codec_of(alloc, &inner)?;
-    let flags = mask_from(&mask)?;
-    optional_of(alloc, flags, found)
+    let Some((last, front)) = parts.codecs.split_last() else {
+        return Ok(None);
+    };
+    let last = codec_from(alloc, last)?;
+    let front = array_codecs_found(alloc, front)?;
+    sharding_of(alloc, parts, front, last)
 }
 
-/// Returns the codec of codecs for the mask and for the data, if both are there.
-fn optional_of(
+fn is_sharding_name(name: &str) -> bool
+    ensures { result ≡ bytes_eq name.now (codes "sharding_indexed") }
+{
+    matches!(name, "sharding_indexed")
+}
+
+fn cells_codec_from(
     alloc: Global,
-    mask: Option<MaskCodec>,
-    inner: Option<ArrayToBytesCodec>,
+    metadata: &MetadataV3,
 ) -> Result<Option<ArrayToBytesCodec>, AllocError>
-    ensures { IfOk result (λ made. option_map bytes_codec_data made
-        ≡ optional_said (option_map mask_codec_data mask) (option_map bytes_codec_data inner)) }
+    ensures { IfOk result (λ found. option_map bytes_codec_data found
+        ≡ option_map cells (cells_codec_said (extension_view metadata.now))) }
 {
-    match (mask, inner) {
-        (Some(mask), Some(inner)) => {
-            let codec = OptionalCodec::new(alloc, mask, inner)?;
-            Ok(Some(ArrayToBytesCodec::Optional(codec)))
-        }
-        _ => Ok(None),
-    }
-}
-
-/// Returns the metadata of the codecs for the mask and for the data.
-fn optional_parts(metadata: &MetadataV3) -> Result<Option<(MetadataV3, MetadataV3)>, AllocError>
-    ensures { IfOk result (λ parts. option_map (λ p. (extension_view p.0, extension_view p.1)) parts
-        ≡ optional_parts (settings (extension_view metadata.now))) }
-{
-    if !metadata.has_only(&["data_codecs", "mask_codecs"]) {
-        return Ok(None);
-    }
-    let Some(mask) = sole_codec(metadata.member("mask_codecs"))? else {
-        return Ok(None);
-    };
-    let Some(inner) = sole_codec(metadata.member("data_codecs"))? else {
-        return Ok(None);
-    };
-    Ok(Some((mask, inner)))
-}
-
-fn is_optional_name(name: &str) -> bool
-    ensures { result ≡ is_optional_name name.now }
-{
-    matches!(name, "zarrs.optional" | "optional")
-}
-
-/// Returns the codec that metadata says, if it says one of a mask.
-fn mask_from(metadata: &MetadataV3) -> Result<Option<MaskCodec>, AllocError>
-    ensures { IfOk result (λ mask. option_map mask_codec_data mask
-        ≡ mask_codec_said (extension_view metadata.now)) }
-{
-    match codec_named(metadata)? {
-        Some(codec) => Ok(as_mask(codec)),
+    match codec_of(alloc, metadata)? {
+        Some(codec) => Ok(Some(ArrayToBytesCodec::from(codec))),
         None => Ok(None),
     }
 }
 
-fn as_mask(codec: ArrayToBytesCodec) -> Option<MaskCodec>
-    ensures { option_map mask_codec_data result ≡ as_mask (bytes_codec_data codec) }
+/// Returns the codec of shards of this configuration, around the chain of these codecs, if they are there.
+fn sharding_of(
+    alloc: Global,
+    parts: ShardingParts,
+    front: Option<Vec<ArrayToArrayCodec>>,
+    last: Option<ArrayToBytesCodec>,
+) -> Result<Option<ArrayToBytesCodec>, AllocError>
+    ensures { IfOk result (λ made. option_map bytes_codec_data made
+        ≡ sharding_with (sharding_view parts)
+        (chain_of_parts (option_map (λ codecs. map array_codec_data codecs.items) front)
+        (option_map bytes_codec_data last))) }
 {
-    match codec {
-        ArrayToBytesCodec::PackBits(codec) => Some(MaskCodec::PackBits(codec)),
-        ArrayToBytesCodec::Bytes(codec) => Some(MaskCodec::Bytes(codec)),
-        _ => None,
-    }
-}
-
-/// Returns the codec that metadata says, if it says one that holds no other codecs.
-fn codec_named(metadata: &MetadataV3) -> Result<Option<ArrayToBytesCodec>, AllocError>
-    ensures { IfOk result (λ codec. option_map bytes_codec_data codec ≡ bytes_codec_named
-        (extension_view metadata.now).name (settings (extension_view metadata.now))) }
-{
-    match metadata.name() {
-        "bytes" => Ok(bytes_from(metadata)),
-        "packbits" => Ok(packbits_from(metadata)),
-        "vlen-utf8" => Ok(plain_from(metadata, ArrayToBytesCodec::VlenUtf8(VlenUtf8Codec))),
-        "vlen-bytes" => Ok(plain_from(metadata, ArrayToBytesCodec::VlenBytes(VlenBytesCodec))),
-        "zarrs.vlen" | "vlen" => vlen_from(metadata),
-        _ => Ok(None),
-    }
-}
-
-fn bytes_from(metadata: &MetadataV3) -> Option<ArrayToBytesCodec>
-    ensures { option_map bytes_codec_data result
-        ≡ bytes_with (settings (extension_view metadata.now)) }
-{
-    if !metadata.has_only(&["endian"]) {
-        return None;
-    }
-    let endian = endian_from(metadata.member("endian"))?;
-    Some(ArrayToBytesCodec::Bytes(BytesCodec::new(endian)))
-}
-
-fn endian_from(member: Option<&Value>) -> Option<Option<Endianness>>
-    ensures { result ≡ endian_said (option_map (λ value. view value.now) member.entry) }
-{
-    let Some(value) = member else {
-        return Some(None);
-    };
-    match value.as_str()? {
-        "little" => Some(Some(Endianness::Little)),
-        "big" => Some(Some(Endianness::Big)),
-        _ => None,
-    }
-}
-
-fn packbits_from(metadata: &MetadataV3) -> Option<ArrayToBytesCodec>
-    ensures { option_map bytes_codec_data result
-        ≡ packbits_said (settings (extension_view metadata.now)) }
-{
-    if !metadata.has_only(&["padding_encoding"]) {
-        return None;
-    }
-    let Some(value) = metadata.member("padding_encoding") else {
-        return Some(ArrayToBytesCodec::PackBits(PackBitsCodec));
-    };
-    match value.as_str()? {
-        "none" => Some(ArrayToBytesCodec::PackBits(PackBitsCodec)),
-        _ => None,
-    }
-}
-
-/// Returns the codec, if the metadata has no configuration or an empty one.
-fn plain_from(metadata: &MetadataV3, codec: ArrayToBytesCodec) -> Option<ArrayToBytesCodec>
-    ensures { option_map bytes_codec_data result
-        ≡ plain_said (bytes_codec_data codec) (settings (extension_view metadata.now)) }
-{
-    if metadata.has_only(&[]) {
-        Some(codec)
-    } else {
-        None
-    }
-}
-
-fn vlen_from(metadata: &MetadataV3) -> Result<Option<ArrayToBytesCodec>, AllocError>
-    ensures { IfOk result (λ codec. option_map bytes_codec_data codec
-        ≡ vlen_codec_said (settings (extension_view metadata.now))) }
-{
-    if !says_vlen(metadata)? {
+    let (Some(front), Some(last)) = (front, last) else {
         return Ok(None);
-    }
-    Ok(Some(ArrayToBytesCodec::Vlen(VlenCodec)))
+    };
+    let ShardingParts {
+        subchunk_shape,
+        at_start,
+        codecs: _,
+    } = parts;
+    let location = if at_start {
+        ShardingIndexLocation::Start
+    } else {
+        ShardingIndexLocation::End
+    };
+    let inner = CodecChain::new(front, last, BytesToBytesCodecs);
+    let codec = ShardingCodec::new(subchunk_shape, location, inner);
+    Ok(Some(ArrayToBytesCodec::Sharding(Box::new(alloc, codec)?)))
 }
 
-/// Returns the metadata of a codec without configuration.
-pub(crate) fn named(alloc: Global, name: &str) -> Result<MetadataV3, AllocError>
-    ensures { IfOk result (λ m. extension_view m ≡ named name.now) }
-{
-    Ok(MetadataV3::new(String::from_str(alloc, name)?))
-}
-
-/// Returns the metadata of the codec of codecs with this metadata, one for the mask and one for the data.
-pub(crate) fn optional_metadata(
+/// Returns the array-to-array codecs that these say, if each says one.
+fn array_codecs_found(
     alloc: Global,
-    mask: &MetadataV3,
-    inner: &MetadataV3,
-) -> Result<MetadataV3, AllocError>
-    ensures { IfOk result (λ m. extension_view m
-        ≡ optional_extension (extension_view mask.now) (extension_view inner.now)) }
+    metadatas: &[MetadataV3],
+) -> Result<Option<Vec<ArrayToArrayCodec>>, AllocError>
+    ensures { IfOk result (λ found. option_map (λ codecs. map array_codec_data codecs.items) found
+        ≡ array_codecs_said (map extension_view metadatas.now)) }
 {
-    let metadata = named(alloc, "zarrs.optional")?;
-    let metadata = metadata.with_member(alloc, "data_codecs", list_of_one(alloc, inner)?)?;
-    metadata.with_member(alloc, "mask_codecs", list_of_one(alloc, mask)?)
-}
-
-pub(crate) fn bytes_metadata(
-    alloc: Global,
-    endian: Option<Endianness>,
-) -> Result<MetadataV3, AllocError>
-    ensures { IfOk result (λ m. extension_view m ≡ extension_of_bytes endian) }
-{
-    let metadata = named(alloc, "bytes")?;
-    match endian {
-        None => Ok(metadata),
-        Some(Endianness::Little) => with_endian(alloc, metadata, "little"),
-        Some(Endianness::Big) => with_endian(alloc, metadata, "big"),
+    match array_codecs_from(alloc, metadatas) {
+        Ok(codecs) => Ok(Some(codecs)),
+        Err(PluginCreateError::Other(_)) => Ok(None),
+        Err(PluginCreateError::OutOfMemory) => Err(AllocError),
     }
-}
-
-fn with_endian(alloc: Global, metadata: MetadataV3, endian: &str) -> Result<MetadataV3, AllocError>
-    ensures { IfOk result (λ m. extension_view m ≡ record (extension_view metadata) {
-      configuration = Some (put (codes "endian") (string endian.now) (settings (extension_view metadata)));
-    }) }
-{
-    metadata.with_member(alloc, "endian", Value::try_from_str(alloc, endian)?)
 }
 
 /// Returns the chain of the codecs that these say, the last one that of the array-to-bytes codec.
@@ -434,7 +352,7 @@ fn array_codec_metadatas(
     Ok(made)
 }
 
-fn copied_array_codecs(
+pub(crate) fn copied_array_codecs(
     alloc: Global,
     codecs: &[ArrayToArrayCodec],
 ) -> Result<Vec<ArrayToArrayCodec>, AllocError>

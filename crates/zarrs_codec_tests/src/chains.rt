@@ -28,11 +28,16 @@ const TEXTS: &str = r#"["vlen-utf8"]"#;
 
 const LISTS: &str = r#"["vlen-bytes"]"#;
 
-const INDEX: &str =
-    r#"[{"name":"zarrs.vlen","configuration":{"index_data_type":"uint64","index_codecs":[{"name":"bytes","configuration":{"endian":"little"}}],"data_codecs":["bytes"]}}]"#;
+const INDEX: &str = r#"[{"name":"zarrs.vlen","configuration":{"index_data_type":"uint64",
+        "index_codecs":[{"name":"bytes","configuration":{"endian":"little"}}],"data_codecs":["bytes"]}}]"#;
 
 const OPTIONAL: &str =
     r#"[{"name":"zarrs.optional","configuration":{"mask_codecs":["packbits"],"data_codecs":["bytes"]}}]"#;
+
+/// Subchunks of two, the index at the end.
+const SHARDS: &str = r#"[{"name":"sharding_indexed","configuration":{"chunk_shape":[2],
+        "codecs":[{"name":"bytes","configuration":{"endian":"little"}}],
+        "index_codecs":[{"name":"bytes","configuration":{"endian":"little"}}]}}]"#;
 
 /// The chain of a list of codecs.
 fn chain_of(rt: &impl Abort, alloc: Global, text: &str) -> CodecChain {
@@ -146,6 +151,32 @@ fn chains_encode_chunks_with_and_without_cells(rt: HostRuntime) {
     for row in ROWS {
         must_encode(&rt, rt.alloc(), row);
     }
+}
+
+/// The cells 0, 0, 5 and 6: the subchunk of fill is absent.
+const SHARD: [u8; 36] = [
+    5, 0, 6, 0, 255, 255, 255, 255, 255, 255, 255, 255, 255, 255, 255, 255, 255, 255, 255, 255, 0,
+    0, 0, 0, 0, 0, 0, 0, 4, 0, 0, 0, 0, 0, 0, 0,
+];
+
+/// The same, with a gap before the data.
+const SHARD_WITH_GAP: [u8; 37] = [
+    238, 5, 0, 6, 0, 255, 255, 255, 255, 255, 255, 255, 255, 255, 255, 255, 255, 255, 255, 255,
+    255, 1, 0, 0, 0, 0, 0, 0, 0, 4, 0, 0, 0, 0, 0, 0, 0,
+];
+
+#[test]
+fn shards_leave_out_subchunks_of_fill_and_compact(rt: HostRuntime) {
+    const CELLS: Cells = Cells::Numbers(&[0, 0, 0, 0, 5, 0, 6, 0]);
+    must_encode(&rt, rt.alloc(), &(SHARDS, "uint16", &[4], CELLS, &SHARD));
+    let chain = chain_of(&rt, rt.alloc(), SHARDS);
+    let less = chain.compact(rt.alloc(), &SHARD_WITH_GAP, &[4]);
+    must(
+        &rt,
+        less.is_ok_and(|less| less.is_some_and(|less| less.as_slice() == SHARD.as_slice())),
+    );
+    must_not_fit(&rt, rt.alloc(), SHARDS, "uint16", &[3]);
+    must_not_compact(&rt, rt.alloc(), SHARDS, &[4]);
 }
 
 fn must_not_fit(rt: &impl Abort, alloc: Global, codecs: &str, name: &str, shape: &[u64]) {

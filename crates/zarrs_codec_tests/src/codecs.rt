@@ -3,9 +3,12 @@ use crate::checks::{must, must_eq, must_for};
 use std::alloc::Global;
 use std::num::NonZeroU64;
 use std::process::Abort;
+use zarrs_cells::DataType;
 use zarrs_codec::{
-    ArrayToBytesCodec, BytesCodec, CodecError, CodecOptions, CodecSpecificOptions, Endianness,
-    MaskCodec, OptionalCodec, PackBitsCodec, ReshapeCodec, ReshapeExtent, TransposeCodec,
+    ArrayToBytesCodec, BytesCodec, CellsCodec, CodecError, CodecOptions, CodecSpecificOptions,
+    Endianness, MaskCodec, OptionalCodec, PackBitsCodec, ReshapeCodec, ReshapeExtent,
+    ShardingCodec, ShardingCodecBuilder, ShardingCodecOptions, ShardingIndexLocation,
+    SubchunkWriteOrder, TransposeCodec,
 };
 
 /// Entries of the size 5, the product of two dimensions, and what is left.
@@ -72,13 +75,39 @@ fn codecs_of_bytes_have_the_parts_that_they_are_given(rt: HostRuntime) {
     );
     must(&rt, BytesCodec::new(None).endian().is_none());
     let mask = MaskCodec::PackBits(PackBitsCodec);
-    let inner = ArrayToBytesCodec::Bytes(BytesCodec::big());
+    let inner = CellsCodec::Bytes(BytesCodec::big());
     let codec = OptionalCodec::new(rt.alloc(), mask, inner).expect(&rt, "no refusal");
     must_eq(&rt, codec.mask_codec(), mask);
-    must(
-        &rt,
-        matches!(codec.data_codec(), ArrayToBytesCodec::Bytes(_)),
-    );
+    must(&rt, matches!(codec.data_codec(), CellsCodec::Bytes(_)));
+}
+
+/// Subchunks of two cells, with a codec of their bytes alone.
+fn must_have_parts(rt: &impl Abort, codec: &ShardingCodec, location: ShardingIndexLocation) {
+    let [size] = codec.subchunk_shape() else {
+        return rt.panic("other subchunks");
+    };
+    must_eq(rt, size.get(), 2);
+    must_eq(rt, codec.index_location(), location);
+    must(rt, codec.inner_codecs().array_to_array_codecs().is_empty());
+}
+
+#[test]
+fn a_codec_of_shards_has_the_parts_that_its_builder_is_told(rt: HostRuntime) {
+    let alloc = rt.alloc();
+    let two = NonZeroU64::new(2).expect(&rt, "not zero");
+    let sizes = vec![in alloc; two].expect(&rt, "no refusal");
+    let made = ShardingCodecBuilder::new(alloc, sizes, &DataType::UInt8);
+    let mut builder = made.expect(&rt, "no refusal");
+    let codec = builder.build(alloc).expect(&rt, "no refusal");
+    must_have_parts(&rt, &codec, ShardingIndexLocation::End);
+    let last = codec.inner_codecs().array_to_bytes_codec();
+    must(&rt, matches!(last, ArrayToBytesCodec::Bytes(_)));
+    builder.index_location(ShardingIndexLocation::Start);
+    builder.array_to_bytes_codec(ArrayToBytesCodec::PackBits(PackBitsCodec));
+    let codec = builder.build(alloc).expect(&rt, "no refusal");
+    must_have_parts(&rt, &codec, ShardingIndexLocation::Start);
+    let last = codec.inner_codecs().array_to_bytes_codec();
+    must(&rt, matches!(last, ArrayToBytesCodec::PackBits(_)));
 }
 
 #[test]
@@ -100,7 +129,15 @@ fn options_are_what_was_set(rt: HostRuntime) {
         chosen,
         options.with_experimental_partial_encoding(true),
     );
-    must_eq(&rt, CodecSpecificOptions::default(), CodecSpecificOptions);
+}
+
+#[test]
+fn subchunks_are_written_in_row_major_order(rt: HostRuntime) {
+    let sharding = ShardingCodecOptions::default().with_subchunk_write_order(SubchunkWriteOrder::C);
+    must_eq(&rt, sharding.subchunk_write_order(), SubchunkWriteOrder::C);
+    let options = CodecSpecificOptions::default().with_option(sharding);
+    must_eq(&rt, options.sharding(), ShardingCodecOptions::default());
+    must_eq(&rt, options, CodecSpecificOptions::default());
 }
 
 fn must_say(rt: &impl Abort, alloc: Global, error: &CodecError, text: &str) {

@@ -12,7 +12,7 @@ use zarrs_shard::laws::{
     parts_follow_one_another, shards_are_lawful, shards_compact_to_their_encoding,
     subchunks_fill_their_chunk,
 };
-use zarrs_shard::{Subchunks, compact_shard};
+use zarrs_shard::{CompactError, Subchunks, compact_shard};
 use zarrs_subset::element_count;
 
 /// The cells 0, 0, 5 and 6 in subchunks of two, the index at the end.
@@ -66,20 +66,19 @@ const HALF_ABSENT: [u8; 34] = [
 /// The cells of a chunk.
 const SQUARE: [u8; 16] = [1, 2, 3, 4, 5, 6, 7, 8, 9, 10, 11, 12, 13, 14, 15, 16];
 
+/// A shard of so many subchunks is compacted to other bytes, or is compact.
 fn must_compact(
     rt: &impl Abort,
     alloc: Global,
     encoded: &[u8],
     count: u64,
     at_start: bool,
-    expected: Option<Option<&[u8]>>,
+    expected: Option<&[u8]>,
 ) {
-    match (
-        compact_shard(alloc, encoded, count, at_start).expect(rt, "no refusal"),
-        expected,
-    ) {
-        (None, None) | (Some(None), Some(None)) => {}
-        (Some(Some(made)), Some(Some(expected))) => must_eq(rt, made.as_slice(), expected),
+    let less = compact_shard(alloc, encoded, count, at_start).expect(rt, "no refusal");
+    match (less, expected) {
+        (None, None) => {}
+        (Some(made), Some(expected)) => must_eq(rt, made.as_slice(), expected),
         _ => must(rt, false),
     }
 }
@@ -87,15 +86,25 @@ fn must_compact(
 #[test]
 fn shards_are_compacted(rt: HostRuntime) {
     let alloc = rt.alloc();
-    must_compact(&rt, alloc, &AT_END, 2, false, Some(None));
-    must_compact(&rt, alloc, &AT_START, 2, true, Some(None));
-    must_compact(&rt, alloc, &WITH_GAP, 2, false, Some(Some(&AT_END)));
-    must_compact(&rt, alloc, &OVERLAPPING, 2, false, Some(Some(&APART)));
-    must_compact(&rt, alloc, &PAST_DATA, 2, false, None);
-    must_compact(&rt, alloc, &PAST_U64, 2, false, None);
-    must_compact(&rt, alloc, &HALF_ABSENT, 2, false, None);
-    must_compact(&rt, alloc, &AT_END[..31], 2, false, None);
-    must_compact(&rt, alloc, &AT_END, 2, true, None);
+    must_compact(&rt, alloc, &AT_END, 2, false, None);
+    must_compact(&rt, alloc, &AT_START, 2, true, None);
+    must_compact(&rt, alloc, &WITH_GAP, 2, false, Some(&AT_END));
+    must_compact(&rt, alloc, &OVERLAPPING, 2, false, Some(&APART));
+}
+
+fn must_be_no_shard(rt: &impl Abort, alloc: Global, encoded: &[u8], at_start: bool) {
+    let refused = compact_shard(alloc, encoded, 2, at_start);
+    must(rt, matches!(&refused, Err(CompactError::NoShard)));
+}
+
+#[test]
+fn bytes_that_are_no_shard_are_not_compacted(rt: HostRuntime) {
+    let alloc = rt.alloc();
+    must_be_no_shard(&rt, alloc, &PAST_DATA, false);
+    must_be_no_shard(&rt, alloc, &PAST_U64, false);
+    must_be_no_shard(&rt, alloc, &HALF_ABSENT, false);
+    must_be_no_shard(&rt, alloc, &AT_END[..31], false);
+    must_be_no_shard(&rt, alloc, &AT_END, true);
 }
 
 fn must_be(rt: &impl Abort, data: &ArrayBytes<'_>, expected: &[u8]) {

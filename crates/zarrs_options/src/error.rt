@@ -91,7 +91,7 @@ pub enum ArrayCreateError {
     /// E21: there are more or fewer names than dimensions.
     #[error("the number of dimension names {0} does not match array dimensionality {1}")]
     InvalidDimensionNames(usize, usize),
-    /// E22: a subchunk has an extent 0. No call returns it.
+    /// E22: a subchunk has an extent 0.
     #[error("invalid subchunk shape {0:?}: all elements must be non-zero")]
     InvalidSubchunkShape(Vec<u64>),
     /// E23: the store refused a call, or its metadata reads as none.

@@ -1,68 +1,286 @@
-use Rattle.std.proofs.Common.{◌≡◌, Some, option_map, sym, ap, subst, ◌∙◌}
+use Rattle.std.proofs.Common.{rules, arith, ◌≡◌, ◌∙◌, ◌<◌, ◌*◌, ◌≤◌, ◌^◌, true, false, List, map, length, get_or, Some, None, Option, sym, ap, subst}
+use Rattle.std.specs.Prelude.{is_some, slice_range, option_map}
+use Rattle.std.specs.List.{list_all, All}
+use Rattle.std.specs.Result.{IfOk}
+use Rattle.std.proofs.lemmas.List.{length-map}
+use Rattle.std.proofs.lemmas.Result.{IfErr-weaker}
+use Rattle.zarrs_data_type.specs.Kind.{kind, cell_size}
+use Rattle.zarrs_data_type.specs.Cell.{Cell, fill_of, held_size}
 use Rattle.zarrs_data_type.specs.ArrayData.{data_of}
-use Rattle.zarrs_data_type.specs.Cells.{cells}
-use Rattle.zarrs_data_type.specs.Kind.{kind, inner_of}
-use Rattle.zarrs_codec_leaf.specs.Refusals.{RefusesDecoding}
-use Rattle.zarrs_codec.specs.ChainLaws.{leaf-lawful}
-use Rattle.zarrs_codec.specs.Chains.{leaf_meaning, mask_meaning, mask_codec_of, data_codec_of, optional_meaning_of}
-use Rattle.zarrs_codec.specs.Optional.{if_any, mask_and_data}
-use Rattle.zarrs_codec.proofs.Kept.{err_kept}
-use Rattle.zarrs_codec.proofs.OptionalData.{body-refused, present-has, decoded-optional}
+use Rattle.zarrs_data_type.specs.Cells.{cells, HasCells}
+use Rattle.zarrs_subset.specs.Boxes.{position_count}
+use Rattle.zarrs_codec_array.specs.ArrayCodecs.{arrays_meaning, arrays-lawful}
+use Rattle.zarrs_codec_array.specs.Gathered.{encoded_shape}
+use Rattle.zarrs_codec_cells.proofs.Kept.{err_kept}
+use Rattle.zarrs_shard.specs.ShardIndex.{range_part, IsRangeWithin}
+use Rattle.zarrs_shard.specs.Shards.{shard_parts}
+use Rattle.zarrs_shard.specs.SubchunkData.{chunk_shape, subchunk_shape, StartsChunk}
+use Rattle.zarrs_shard.specs.Subchunks.{subchunk_count}
+use Rattle.zarrs_shard.proofs.Sizes.{part_size}
+use Rattle.zarrs_chain.specs.Chain.{ChainMeaning}
+use Rattle.zarrs_chain.specs.Refusals.{RefusesChunkDecoding}
+use Rattle.zarrs_codec.specs.Chains.{behind, chain_meaning, codec_meaning, inner_chain_of, is_at_start, location_of, sharding_meaning, subchunk_sizes_of}
+use Rattle.zarrs_codec_cells.specs.ShardingMetadata.{sizes_of}
+use Rattle.zarrs_codec.specs.ChainLaws.{chain-lawful, sharded-lawful}
+use Rattle.zarrs_codec.specs.Shardings.{HasFirstCells, RefusesCells}
+use Rattle.zarrs_codec.proofs.Behind.{count_behind, decoded-has_cells, held_behind, refused_behind}
+use Rattle.zarrs_codec.proofs.PartCells.{cells_all, cells_left, cells_more, cells_refused, cells_started, fill_refused, part_at, present_parts, puts_part, held_cells, is_read, IsRead}
 use Rattle.zarrs_codec.proofs.+decode.Goals as goal
 
-pub optional::OptionalCodec::decode-returns-in_err-present-clause-refused :
-    goal.optional::OptionalCodec::decode-returns-in_err-present-clause-refused
-optional::OptionalCodec::decode-returns-in_err-present-clause-refused t c =
-    let codec = c.args.self.now in
-    let k = kind c.args.data_type.now in
-    let u = kind c.in-Some.inner.now in
-    let n = c.args.count in
-    let b = c.args.encoded.now in
-    let flags = c.in_ok-flags.field-0.flags.items in
-    let set = c.in_ok-flags.field-0.set in
-    let is : inner_of k ≡ Some u = sym c.optional_inner.ensures ∙ ap (option_map (λ i. kind i.now)) c.in-Some.is in
-    let parts : mask_and_data b ≡ Some (c.in-Some-mask_and_data.mask.now, c.in-Some-mask_and_data.body.now) =
-    sym c.mask_and_data.ensures ∙ ap (option_map (λ p. (p.0.now, p.1.now))) c.in-Some-mask_and_data.is in
-    let e = c.in_err-present.field-0.0 in
-    err_kept c.from_residual-in_err-present.result e (RefusesDecoding (optional_meaning_of codec) k n b) c.from_residual-in_err-present.ensures.1
-    (body-refused (mask_meaning (mask_codec_of codec)) (leaf_meaning (data_codec_of codec)) k u is n b c.in-Some-mask_and_data.mask.now c.in-Some-mask_and_data.body.now parts flags set
-    c.in_ok-flags.ensures.read c.in_ok-flags.ensures.set e
-    (subst (λ x. RefusesDecoding (if_any (leaf_meaning x)) u set c.in-Some-mask_and_data.body.now e) c.deref.ensures c.in_err-present.ensures.refused))
+-- ---- subchunk by subchunk
 
-pub optional::OptionalCodec::decode-from_present-requires-clause-present :
-    goal.optional::OptionalCodec::decode-from_present-requires-clause-present
-optional::OptionalCodec::decode-from_present-requires-clause-present t c =
-    let codec = c.args.self.now in
+pub sharding::ShardingCodec::decode_part-put-requires-clause-part :
+    goal.sharding::ShardingCodec::decode_part-put-requires-clause-part
+sharding::ShardingCodec::decode_part-put-requires-clause-part t c =
     let k = kind c.args.data_type.now in
-    let u = kind c.in-Some.inner.now in
-    let n = c.args.count in
-    let b = c.args.encoded.now in
-    let flags = c.in_ok-flags.field-0.flags.items in
-    let set = c.in_ok-flags.field-0.set in
-    let d = leaf_meaning (data_codec_of codec) in
-    let is : inner_of k ≡ Some u = sym c.optional_inner.ensures ∙ ap (option_map (λ i. kind i.now)) c.in-Some.is in
-    let parts : mask_and_data b ≡ Some (c.in-Some-mask_and_data.mask.now, c.in-Some-mask_and_data.body.now) =
-    sym c.mask_and_data.ensures ∙ ap (option_map (λ p. (p.0.now, p.1.now))) c.in-Some-mask_and_data.is in
-    let read = subst (λ x. cells u (data_of c.in_ok-present.present) ≡ (if_any (leaf_meaning x)).decoded u set c.in-Some-mask_and_data.body.now) c.deref.ensures c.in_ok-present.ensures.cells in
-    present-has (mask_meaning (mask_codec_of codec)) d k u is n b c.in-Some-mask_and_data.mask.now c.in-Some-mask_and_data.body.now parts flags set
-    c.in_ok-flags.ensures.read c.in_ok-flags.ensures.set (data_of c.in_ok-present.present) read c.in_ok-present.ensures.some (leaf-lawful (data_codec_of codec))
+    let f = fill_of k c.args.fill_value.now in
+    let m : ChainMeaning = chain_meaning (inner_chain_of c.args.self.now) in
+    let d = data_of c.in_ok-part.part in
+    let is : cells k d ≡ m.decoded k f (subchunk_shape c.args.subchunks.now) c.args.encoded.now = subst (λ x. cells k d ≡ m.decoded k f x c.args.encoded.now) c.shape-sub.ensures
+    (subst (λ x. cells k d ≡ (chain_meaning x).decoded k f c.shape-sub.result.now c.args.encoded.now) c.inner_codecs.ensures c.in_ok-part.ensures.cells) in
+    decoded-has_cells m (chain-lawful (inner_chain_of c.args.self.now)) k f (subchunk_shape c.args.subchunks.now) c.args.encoded.now d is c.in_ok-part.ensures.some
 
-pub optional::OptionalCodec::decode-returns-clause-cells :
-    goal.optional::OptionalCodec::decode-returns-clause-cells
-optional::OptionalCodec::decode-returns-clause-cells t c =
-    let codec = c.args.self.now in
+pub sharding::ShardingCodec::decode_part-returns-clause-put :
+    goal.sharding::ShardingCodec::decode_part-returns-clause-put
+sharding::ShardingCodec::decode_part-returns-clause-put t c =
     let k = kind c.args.data_type.now in
-    let u = kind c.in-Some.inner.now in
-    let n = c.args.count in
+    let f = fill_of k c.args.fill_value.now in
+    let m : ChainMeaning = chain_meaning (inner_chain_of c.args.self.now) in
+    let sub = subchunk_shape c.args.subchunks.now in
     let b = c.args.encoded.now in
-    let flags = c.in_ok-flags.field-0.flags.items in
-    let set = c.in_ok-flags.field-0.set in
-    let d = leaf_meaning (data_codec_of codec) in
-    let is : inner_of k ≡ Some u = sym c.optional_inner.ensures ∙ ap (option_map (λ i. kind i.now)) c.in-Some.is in
-    let parts : mask_and_data b ≡ Some (c.in-Some-mask_and_data.mask.now, c.in-Some-mask_and_data.body.now) =
-    sym c.mask_and_data.ensures ∙ ap (option_map (λ p. (p.0.now, p.1.now))) c.in-Some-mask_and_data.is in
-    let read = subst (λ x. cells u (data_of c.in_ok-present.present) ≡ (if_any (leaf_meaning x)).decoded u set c.in-Some-mask_and_data.body.now) c.deref.ensures c.in_ok-present.ensures.cells in
-    ap (cells k) c.in_ok-into_owned.ensures
-    ∙ (decoded-optional (mask_meaning (mask_codec_of codec)) d k u is n b c.in-Some-mask_and_data.mask.now c.in-Some-mask_and_data.body.now parts flags set
-    c.in_ok-flags.ensures.read c.in_ok-flags.ensures.set (data_of c.in_ok-present.present) read c.in_ok-present.ensures.some
-    (data_of c.in_ok-made.made) c.in_ok-made.ensures).0
+    let d = data_of c.in_ok-part.part in
+    let is : cells k d ≡ m.decoded k f sub b = subst (λ x. cells k d ≡ m.decoded k f x b) c.shape-sub.ensures
+    (subst (λ x. cells k d ≡ (chain_meaning x).decoded k f c.shape-sub.result.now b) c.inner_codecs.ensures c.in_ok-part.ensures.cells) in
+    puts_part m k f (chunk_shape c.args.subchunks.now) sub c.args.number b d (data_of c.args.chunk) (data_of c.in_ok-put.field-0) c.requires.number is c.in_ok-part.ensures.some c.in_ok-put.ensures
+
+pub sharding::ShardingCodec::decode_parts-returns-in_default-clause-refused :
+    goal.sharding::ShardingCodec::decode_parts-returns-in_default-clause-refused
+sharding::ShardingCodec::decode_parts-returns-in_default-clause-refused t c =
+    let k = kind c.args.data_type.now in
+    let f = fill_of k c.args.fill_value.now in
+    let s = chunk_shape c.args.subchunks.now in
+    let parts = map (range_part c.args.encoded.now) c.args.ranges.now in
+    let why : (c.are_present-is_whole.result ≡ false) × (2 ^ 64 ≤ position_count s * held_size k f) = search rules in
+    let absent : list_all is_some parts ≡ false = present_parts c.args.encoded.now c.args.ranges.now ∙ sym c.are_present-is_whole.ensures ∙ why.0 in
+    fill_refused (chain_meaning (inner_chain_of c.args.self.now)) k f s (subchunk_shape c.args.subchunks.now) parts absent why.1
+
+pub sharding::ShardingCodec::decode_parts-loop-number-init :
+    goal.sharding::ShardingCodec::decode_parts-loop-number-init
+sharding::ShardingCodec::decode_parts-loop-number-init t c =
+    let k = kind c.args.data_type.now in
+    let f = fill_of k c.args.fill_value.now in
+    let s = chunk_shape c.args.subchunks.now in
+    let parts = map (range_part c.args.encoded.now) c.args.ranges.now in
+    let starts : StartsChunk k f s c.are_present-is_whole.result (data_of c.in-Some.chunk) = search rules in
+    cells_started (chain_meaning (inner_chain_of c.args.self.now)) k f s (subchunk_shape c.args.subchunks.now) parts starts.filler (data_of c.in-Some.chunk) c.args.subchunks.now.cut
+    (λ absent. starts.fill_is (c.are_present-is_whole.ensures ∙ sym (present_parts c.args.encoded.now c.args.ranges.now) ∙ absent)) starts.cells_are
+
+pub sharding::ShardingCodec::decode_parts-loop-number-preserved-in_default-range :
+    goal.sharding::ShardingCodec::decode_parts-loop-number-preserved-in_default-range
+sharding::ShardingCodec::decode_parts-loop-number-preserved-in_default-range t c =
+    let k = kind c.args.data_type.now in
+    let f = fill_of k c.args.fill_value.now in
+    let m : ChainMeaning = chain_meaning (inner_chain_of c.args.self.now) in
+    let s = chunk_shape c.args.subchunks.now in
+    let sub = subchunk_shape c.args.subchunks.now in
+    let b = c.args.encoded.now in
+    let ranges = c.args.ranges.now in
+    let parts = map (range_part b) ranges in
+    let number = c.loop-number.number in
+    let count : length parts ≡ subchunk_count s sub = length-map ranges (range_part b) ∙ c.requires.count in
+    let lt : number < length ranges = omega arith in
+    let below : number < length parts = omega (arith, length-map ranges (range_part b)) in
+    let at : get_or ranges number None ≡ None = search rules in
+    cells_left m k f s sub parts number (data_of c.loop-number.chunk) below count (part_at b ranges number None lt at) c.loop-number.invariant
+
+pub sharding::ShardingCodec::decode_parts-decode_part-requires :
+    goal.sharding::ShardingCodec::decode_parts-decode_part-requires
+sharding::ShardingCodec::decode_parts-decode_part-requires t c =
+    let k = kind c.args.data_type.now in
+    let f = fill_of k c.args.fill_value.now in
+    let m : ChainMeaning = chain_meaning (inner_chain_of c.args.self.now) in
+    let s = chunk_shape c.args.subchunks.now in
+    let sub = subchunk_shape c.args.subchunks.now in
+    let parts = map (range_part c.args.encoded.now) c.args.ranges.now in
+    let number = c.loop-number.number in
+    let below : number < subchunk_count s sub = omega (arith, c.requires.count) in
+    let size = part_size s sub number (cell_size k) c.args.subchunks.now.cut below c.requires.size in
+    let held = held_cells m k f s sub parts number (data_of c.loop-number.chunk) c.loop-number.invariant in
+    (first_of (omega (arith, c.decreases), search rules), (c.requires.filled, (size, (below, held))))
+
+pub sharding::ShardingCodec::decode_parts-returns-in_err-chunk-2-clause-refused :
+    goal.sharding::ShardingCodec::decode_parts-returns-in_err-chunk-2-clause-refused
+sharding::ShardingCodec::decode_parts-returns-in_err-chunk-2-clause-refused t c =
+    let k = kind c.args.data_type.now in
+    let f = fill_of k c.args.fill_value.now in
+    let m : ChainMeaning = chain_meaning (inner_chain_of c.args.self.now) in
+    let s = chunk_shape c.args.subchunks.now in
+    let sub = subchunk_shape c.args.subchunks.now in
+    let b = c.args.encoded.now in
+    let ranges = c.args.ranges.now in
+    let parts = map (range_part b) ranges in
+    let number = c.loop-number.number in
+    let count : length parts ≡ subchunk_count s sub = length-map ranges (range_part b) ∙ c.requires.count in
+    let lt : number < length ranges = omega arith in
+    let below : number < length parts = omega (arith, length-map ranges (range_part b)) in
+    let range = c.in-Some-range.range in
+    let at : get_or ranges number None ≡ Some range = search rules in
+    let e = c.in_err-chunk-2.field-0.0 in
+    err_kept c.from_residual-in_err-chunk-2.result e (RefusesCells m k f s sub parts) c.from_residual-in_err-chunk-2.ensures.1
+    (cells_refused m k f s sub parts number (slice_range b range.start range.end) e c.args.subchunks.now.cut count below (part_at b ranges number (Some range) lt at) c.in_err-chunk-2.ensures.refused)
+
+pub sharding::ShardingCodec::decode_parts-loop-number-preserved :
+    goal.sharding::ShardingCodec::decode_parts-loop-number-preserved
+sharding::ShardingCodec::decode_parts-loop-number-preserved t c =
+    let k = kind c.args.data_type.now in
+    let f = fill_of k c.args.fill_value.now in
+    let m : ChainMeaning = chain_meaning (inner_chain_of c.args.self.now) in
+    let s = chunk_shape c.args.subchunks.now in
+    let sub = subchunk_shape c.args.subchunks.now in
+    let b = c.args.encoded.now in
+    let ranges = c.args.ranges.now in
+    let parts = map (range_part b) ranges in
+    let number = c.loop-number.number in
+    let lt : number < length ranges = omega arith in
+    let below : number < length parts = omega (arith, length-map ranges (range_part b)) in
+    let range = c.in-Some-range.range in
+    let at : get_or ranges number None ≡ Some range = search rules in
+    cells_more m k f s sub parts number (slice_range b range.start range.end) (data_of c.loop-number.chunk) (data_of c.in_ok-chunk-2.chunk) below (part_at b ranges number (Some range) lt at)
+    c.loop-number.invariant c.in_ok-chunk-2.ensures.put
+
+pub sharding::ShardingCodec::decode_parts-returns-clause-cells :
+    goal.sharding::ShardingCodec::decode_parts-returns-clause-cells
+sharding::ShardingCodec::decode_parts-returns-clause-cells t c =
+    let k = kind c.args.data_type.now in
+    let f = fill_of k c.args.fill_value.now in
+    let m : ChainMeaning = chain_meaning (inner_chain_of c.args.self.now) in
+    let s = chunk_shape c.args.subchunks.now in
+    let sub = subchunk_shape c.args.subchunks.now in
+    let b = c.args.encoded.now in
+    let ranges = c.args.ranges.now in
+    let parts = map (range_part b) ranges in
+    let count : length parts ≡ subchunk_count s sub = length-map ranges (range_part b) ∙ c.requires.count in
+    let done : c.loop-number.number ≡ length parts = omega (arith, length-map ranges (range_part b)) in
+    let chunk = data_of c.loop-number.chunk in
+    cells_all m k f s sub parts chunk c.args.subchunks.now.cut count (subst (λ n. HasFirstCells m k f s sub parts n chunk) done c.loop-number.invariant)
+
+pub sharding::ShardingCodec::decode_shard-decode_parts-requires :
+    goal.sharding::ShardingCodec::decode_shard-decode_parts-requires
+sharding::ShardingCodec::decode_shard-decode_parts-requires t c =
+    let k = kind c.args.data_type.now in
+    let f = fill_of k c.args.fill_value.now in
+    let s = c.args.shape.now in
+    let sub = sizes_of (subchunk_sizes_of c.args.self.now) in
+    let b = c.args.encoded.now in
+    let subchunks = c.in-Some.subchunks in
+    let ranges = c.deref-3.result.now in
+    let m : ChainMeaning = chain_meaning (inner_chain_of c.args.self.now) in
+    let at = is_at_start (location_of c.args.self.now) in
+    let at_is : c.is_at_start-at_start.result ≡ at = c.is_at_start-at_start.ensures ∙ ap is_at_start c.index_location.ensures in
+    let sub_is : c.in_ok-sub.sub.items ≡ sub = c.in_ok-sub.ensures in
+    let shape_is : chunk_shape subchunks ≡ s = search rules in
+    let cut_is : subchunk_shape subchunks ≡ c.deref.result.now = search rules in
+    let fit : m.fits k sub ≡ true =
+    subst (λ x. m.fits k x ≡ true) (c.deref-2.ensures.value ∙ sub_is)
+    (subst (λ x. (chain_meaning x).fits k c.deref-2.result.now ≡ true) c.inner_codecs.ensures (sym c.in_ok-fits_chunk.ensures ∙ c.if-not-branch.false)) in
+    let read : shard_parts c.is_at_start-at_start.result c.in-Some-count.count b ≡ Some (map (range_part b) c.in-Some-2.ranges.items) = search rules in
+    let r : IsRead m at k f s sub b (chunk_shape subchunks) (subchunk_shape subchunks) (map (range_part b) ranges) =
+    is_read m at k f s sub b (chunk_shape subchunks) (subchunk_shape subchunks) (map (range_part b) ranges) c.in-Some-count.count shape_is (cut_is ∙ c.deref.ensures.value ∙ sub_is) subchunks.cut fit c.in-Some-count.ensures
+    (subst (λ x. shard_parts x c.in-Some-count.count b ≡ Some (map (range_part b) ranges)) at_is (read ∙ ap (λ l. Some (map (range_part b) l)) (sym c.deref-3.ensures.value))) in
+    let size = subst (λ x. position_count x * cell_size k < 2 ^ 64) (sym shape_is) c.requires.size in
+    let within : All (IsRangeWithin (length b)) c.in-Some-2.ranges.items = search rules in
+    (first_of (omega (arith, c.decreases), search rules), (c.requires.filled, (size, (subst (λ l. All (IsRangeWithin (length b)) l) (sym c.deref-3.ensures.value) within, sym (length-map ranges (range_part b)) ∙ r.long))))
+
+pub sharding::ShardingCodec::decode_shard-returns :
+    goal.sharding::ShardingCodec::decode_shard-returns
+sharding::ShardingCodec::decode_shard-returns t c =
+    let k = kind c.args.data_type.now in
+    let f = fill_of k c.args.fill_value.now in
+    let s = c.args.shape.now in
+    let sub = sizes_of (subchunk_sizes_of c.args.self.now) in
+    let b = c.args.encoded.now in
+    let subchunks = c.in-Some.subchunks in
+    let ranges = c.deref-3.result.now in
+    let m : ChainMeaning = chain_meaning (inner_chain_of c.args.self.now) in
+    let at = is_at_start (location_of c.args.self.now) in
+    let at_is : c.is_at_start-at_start.result ≡ at = c.is_at_start-at_start.ensures ∙ ap is_at_start c.index_location.ensures in
+    let sub_is : c.in_ok-sub.sub.items ≡ sub = c.in_ok-sub.ensures in
+    let shape_is : chunk_shape subchunks ≡ s = search rules in
+    let cut_is : subchunk_shape subchunks ≡ c.deref.result.now = search rules in
+    let fit : m.fits k sub ≡ true =
+    subst (λ x. m.fits k x ≡ true) (c.deref-2.ensures.value ∙ sub_is)
+    (subst (λ x. (chain_meaning x).fits k c.deref-2.result.now ≡ true) c.inner_codecs.ensures (sym c.in_ok-fits_chunk.ensures ∙ c.if-not-branch.false)) in
+    let read : shard_parts c.is_at_start-at_start.result c.in-Some-count.count b ≡ Some (map (range_part b) c.in-Some-2.ranges.items) = search rules in
+    let r : IsRead m at k f s sub b (chunk_shape subchunks) (subchunk_shape subchunks) (map (range_part b) ranges) =
+    is_read m at k f s sub b (chunk_shape subchunks) (subchunk_shape subchunks) (map (range_part b) ranges) c.in-Some-count.count shape_is (cut_is ∙ c.deref.ensures.value ∙ sub_is) subchunks.cut fit c.in-Some-count.ensures
+    (subst (λ x. shard_parts x c.in-Some-count.count b ≡ Some (map (range_part b) ranges)) at_is (read ∙ ap (λ l. Some (map (range_part b) l)) (sym c.deref-3.ensures.value))) in
+    record {
+      cells = subst (λ (x : Option (List Cell)). IfOk c.decode_parts.result (λ made. cells k (data_of made) ≡ x)) (sym r.cells_are) c.decode_parts.ensures.cells;
+      some = c.decode_parts.ensures.some;
+      refused = IfErr-weaker c.decode_parts.result _ _ r.refusal c.decode_parts.ensures.refused;
+    }
+
+-- ---- behind codecs that make an array of an array
+
+pub sharding::ShardingCodec::decode_behind-decode_shard-requires :
+    goal.sharding::ShardingCodec::decode_behind-decode_shard-requires
+sharding::ShardingCodec::decode_behind-decode_shard-requires t c =
+    let k = kind c.args.data_type.now in
+    let f = fill_of k c.args.fill_value.now in
+    let s = c.args.shape.now in
+    let b = c.args.encoded.now in
+    let a = arrays_meaning c.args.codecs.now in
+    let m : ChainMeaning = sharding_meaning c.args.self.now in
+    let inner = c.in-Some.inner.items in
+    let shape : encoded_shape a s ≡ Some inner = sym c.in_ok-inner.ensures ∙ ap (option_map (λ v. v.items)) c.in-Some.is in
+    let size : position_count inner * cell_size k < 2 ^ 64 = subst (λ n. n * cell_size k < 2 ^ 64) (sym (count_behind a m (arrays-lawful c.args.codecs.now) k f s inner b shape)) c.requires.size in
+    (first_of (omega (arith, c.decreases), search rules), (c.requires.filled, subst (λ x. position_count x * cell_size k < 2 ^ 64) (sym c.deref.ensures.value) size))
+
+pub sharding::ShardingCodec::decode_behind-returns-in_err-array-clause-refused :
+    goal.sharding::ShardingCodec::decode_behind-returns-in_err-array-clause-refused
+sharding::ShardingCodec::decode_behind-returns-in_err-array-clause-refused t c =
+    let k = kind c.args.data_type.now in
+    let f = fill_of k c.args.fill_value.now in
+    let s = c.args.shape.now in
+    let b = c.args.encoded.now in
+    let a = arrays_meaning c.args.codecs.now in
+    let m : ChainMeaning = sharding_meaning c.args.self.now in
+    let inner = c.in-Some.inner.items in
+    let shape : encoded_shape a s ≡ Some inner = sym c.in_ok-inner.ensures ∙ ap (option_map (λ v. v.items)) c.in-Some.is in
+    let e = c.in_err-array.field-0.0 in
+    err_kept c.from_residual-in_err-array.result e (RefusesChunkDecoding (behind c.args.codecs.now m) k f s b) c.from_residual-in_err-array.ensures.1
+    (refused_behind a m (arrays-lawful c.args.codecs.now) k f s inner b shape e
+    (subst (λ x. RefusesChunkDecoding m k f x b e) c.deref.ensures.value c.in_err-array.ensures.refused))
+
+pub sharding::ShardingCodec::decode_behind-decode_array-requires-clause-cells :
+    goal.sharding::ShardingCodec::decode_behind-decode_array-requires-clause-cells
+sharding::ShardingCodec::decode_behind-decode_array-requires-clause-cells t c =
+    let k = kind c.args.data_type.now in
+    let f = fill_of k c.args.fill_value.now in
+    let s = c.args.shape.now in
+    let b = c.args.encoded.now in
+    let a = arrays_meaning c.args.codecs.now in
+    let m : ChainMeaning = sharding_meaning c.args.self.now in
+    let inner = c.in-Some.inner.items in
+    let shape : encoded_shape a s ≡ Some inner = sym c.in_ok-inner.ensures ∙ ap (option_map (λ v. v.items)) c.in-Some.is in
+    let x = c.args.self.now in
+    let law = sharded-lawful (is_at_start (location_of x)) (sizes_of (subchunk_sizes_of x)) (chain_meaning (inner_chain_of x)) (chain-lawful (inner_chain_of x)) in
+    let d = data_of c.in_ok-array.array in
+    let is : cells k d ≡ m.decoded k f inner b = subst (λ x. cells k d ≡ m.decoded k f x b) c.deref.ensures.value c.in_ok-array.ensures.cells in
+    subst (λ x. HasCells k x (position_count s)) (sym c.in_ok-array-2.ensures)
+    (held_behind a m (arrays-lawful c.args.codecs.now) k f s inner b shape law d is c.in_ok-array.ensures.some)
+
+pub chain::CodecChain::decode_chunk-returns-in-Sharding-clause-refused :
+    goal.chain::CodecChain::decode_chunk-returns-in-Sharding-clause-refused
+chain::CodecChain::decode_chunk-returns-in-Sharding-clause-refused t c =
+    let k = kind c.args.data_type.now in
+    let f = fill_of k c.args.fill_value.now in
+    let s = c.args.shape.now in
+    let b = c.args.encoded.now in
+    let codec = c.in-Sharding.codec.value in
+    IfErr-weaker c.decode_behind.result _ _
+    (λ e why.
+    subst (λ x. RefusesChunkDecoding (behind c.args.self.now.array_to_array.items (codec_meaning x)) k f s b e) (sym c.in-Sharding.is)
+    (subst (λ x. RefusesChunkDecoding (behind x (sharding_meaning codec)) k f s b e) c.deref-in-Sharding.ensures.value
+    (subst (λ x. RefusesChunkDecoding (behind c.deref-in-Sharding.result.now (sharding_meaning x)) k f s b e) c.deref.ensures why)))
+    c.decode_behind.ensures.refused

@@ -1,31 +1,227 @@
-use Rattle.std.specs.Prelude.{All}
-use Rattle.std.proofs.Common.{◌≡◌, ◌<◌, Some, IsSome, map, option_map, sym, ap, subst, ◌∙◌}
-use Rattle.zarrs_data_type.specs.ArrayData.{data_of, mask_of, inner_data}
-use Rattle.zarrs_data_type.specs.Cells.{cells}
-use Rattle.zarrs_data_type.specs.Kind.{kind, inner_of}
-use Rattle.zarrs_data_type.specs.Kind as type
-use Rattle.zarrs_codec_leaf.specs.Leaf.{encoding_of}
-use Rattle.zarrs_codec_leaf.specs.PackBits.{flag_cell}
-use Rattle.zarrs_codec.specs.Chains.{leaf_meaning, mask_meaning, mask_codec_of, data_codec_of, optional_meaning_of}
-use Rattle.zarrs_codec.specs.Optional.{if_any, behind_lengths}
-use Rattle.zarrs_codec.proofs.OptionalData.{encoding-optional}
+use Rattle.std.proofs.Common.{rules, arith, ◌≡◌, ℕ, ◌<◌, ◌^◌, true, List, length, Option, Some, IfOk, option_map, sym, ap, subst, ◌∙◌}
+use Rattle.std.specs.Prelude.{IfSome}
+use Rattle.std.proofs.lemmas.Bool.{and_from}
+use Rattle.std.proofs.lemmas.Result.{IfErr-weaker}
+use Rattle.zarrs_subset.specs.Boxes.{position_count}
+use Rattle.zarrs_data_type.specs.ArrayData.{data_of}
+use Rattle.zarrs_data_type.specs.Cell.{fill_of}
+use Rattle.zarrs_data_type.specs.Cells.{cells, HasCells}
+use Rattle.zarrs_data_type.specs.Kind.{kind}
+use Rattle.zarrs_codec_array.specs.ArrayCodecs.{arrays_meaning, arrays-lawful}
+use Rattle.zarrs_codec_array.specs.Gathered.{encoded_shape, IsEncodedArray}
+use Rattle.zarrs_shard.specs.SubchunkData.{chunk_shape, subchunk_shape}
+use Rattle.zarrs_shard.specs.Subchunks.{subchunk_at, subchunk_count}
+use Rattle.zarrs_shard.specs.Sharded.{first_parts, part_of, sharded_fits}
+use Rattle.zarrs_shard.specs.ShardIndex.{IsWriting}
+use Rattle.zarrs_shard.proofs.Encoding.{too_many}
+use Rattle.zarrs_chain.specs.Chain.{ChainMeaning, chunk_encoding}
+use Rattle.zarrs_codec.specs.Chains.{behind, chain_meaning, inner_chain_of, is_at_start, location_of, sharding_meaning}
+use Rattle.zarrs_chain.specs.Options.{stores_empty_chunks}
+use Rattle.zarrs_chain.specs.Refusals.{RefusesChunkEncoding}
+use Rattle.zarrs_codec.specs.Shardings.{cells_of, subchunk_meaning, HasFirstParts, RefusesPart, RefusesParts}
+use Rattle.zarrs_codec.proofs.Behind.{is_behind}
+use Rattle.zarrs_codec_cells.proofs.Kept.{err_kept}
+use Rattle.zarrs_codec.proofs.Parts.{all_written, extracted, first_count, next_written, part_refused}
 use Rattle.zarrs_codec.proofs.+encode.Goals as goal
 
-pub optional::OptionalCodec::encode-returns-clause-encoded :
-    goal.optional::OptionalCodec::encode-returns-clause-encoded
-optional::OptionalCodec::encode-returns-clause-encoded t c =
-    let codec = c.args.self.now in
-    let m = mask_meaning (mask_codec_of codec) in
-    let d = leaf_meaning (data_codec_of codec) in
+-- ---- subchunk by subchunk
+
+pub sharding::ShardingCodec::encode_parts-returns-in_default-clause-refused :
+    goal.sharding::ShardingCodec::encode_parts-returns-in_default-clause-refused
+sharding::ShardingCodec::encode_parts-returns-in_default-clause-refused t c =
     let k = kind c.args.data_type.now in
-    let u = kind c.in-Some.inner.now in
-    let held = c.in-Optional.held in
-    let present = data_of c.in_ok-present.present in
-    let is : inner_of k ≡ Some u = sym c.optional_inner.ensures ∙ ap (option_map (λ i. kind i.now)) c.in-Some.is in
-    let there = subst (λ x. IsSome (cells k (data_of x))) c.in-Optional.is c.requires in
-    let flags = ap (λ l. m.encoded type.bool (map flag_cell l)) (sym c.mask.ensures.mask) ∙ c.in_ok-mask.ensures.encoded in
-    let body = ap (λ x. encoding_of (if_any (leaf_meaning x)) u present) (sym c.deref.ensures) ∙ c.in_ok-body.ensures.encoded in
-    let made = ap (λ x. behind_lengths x c.in_ok-body.body.items) (sym c.as_slice.ensures.value) ∙ ap (behind_lengths c.as_slice.result.now) (sym c.as_slice-2.ensures.value) ∙ c.in_ok-behind_lengths.ensures in
-    ap (λ x. encoding_of (optional_meaning_of codec) k (data_of x)) c.in-Optional.is
-    ∙ encoding-optional m d k u is (mask_of held) (inner_data held) present there c.in_ok-present.ensures c.in_ok-mask.mask.items c.in_ok-body.body.items c.in_ok-behind_lengths.field-0.items
-    (subst (λ l. All (λ x. x < 2) l) c.mask.ensures.mask c.mask.ensures.flags) flags body made
+    let f = fill_of k c.args.fill_value.now in
+    let empty = stores_empty_chunks c.args.options.now in
+    let s = chunk_shape c.args.subchunks.now in
+    let sub = subchunk_shape c.args.subchunks.now in
+    too_many (subchunk_meaning (chain_meaning (inner_chain_of c.args.self.now)) empty k f sub) empty f s sub (cells_of k (data_of c.args.bytes.now)) (is_at_start (location_of c.args.self.now)) c.in_default.ensures.none
+
+pub sharding::ShardingCodec::encode_parts-encode_part-requires :
+    goal.sharding::ShardingCodec::encode_parts-encode_part-requires
+sharding::ShardingCodec::encode_parts-encode_part-requires t c =
+    let k = kind c.args.data_type.now in
+    let s = chunk_shape c.args.subchunks.now in
+    let sub = subchunk_shape c.args.subchunks.now in
+    let part = data_of c.in_ok-part.part in
+    let x = extracted k s sub c.loop-number.number (data_of c.args.bytes.now) part c.in_ok-part.ensures in
+    (first_of (omega (arith, c.decreases), search rules), (c.requires.filled, subst (λ y. HasCells k part (position_count y)) (sym c.shape-sub.ensures) x.1))
+
+pub sharding::ShardingCodec::encode_parts-returns-in_err-encoded-clause-refused :
+    goal.sharding::ShardingCodec::encode_parts-returns-in_err-encoded-clause-refused
+sharding::ShardingCodec::encode_parts-returns-in_err-encoded-clause-refused t c =
+    let k = kind c.args.data_type.now in
+    let f = fill_of k c.args.fill_value.now in
+    let empty = stores_empty_chunks c.args.options.now in
+    let s = chunk_shape c.args.subchunks.now in
+    let sub = subchunk_shape c.args.subchunks.now in
+    let m : ChainMeaning = chain_meaning (inner_chain_of c.args.self.now) in
+    let at = is_at_start (location_of c.args.self.now) in
+    let cs = cells_of k (data_of c.args.bytes.now) in
+    let part = data_of c.in_ok-part.part in
+    let number = c.loop-number.number in
+    let x = extracted k s sub number (data_of c.args.bytes.now) part c.in_ok-part.ensures in
+    let fit : sharded_fits (subchunk_meaning m empty k f sub) s sub ≡ true = and_from _ _ c.args.subchunks.now.cut c.requires.fits in
+    let below : number < subchunk_count s sub = omega (arith, c.loop-number-test.true, c.in-Some.ensures.none) in
+    let e = c.in_err-encoded.field-0.0 in
+    let here : RefusesPart (subchunk_meaning m empty k f sub) empty f (cells_of k part) e =
+    subst (λ y. RefusesPart (subchunk_meaning m empty k f y) empty f (cells_of k part) e) c.shape-sub.ensures c.in_err-encoded.ensures.refused in
+    err_kept c.from_residual-in_err-encoded.result e (RefusesParts (subchunk_meaning m empty k f sub) at empty f s sub cs) c.from_residual-in_err-encoded.ensures.1
+    (part_refused (subchunk_meaning m empty k f sub) at empty f s sub cs number e fit below
+    (subst (λ y. RefusesPart (subchunk_meaning m empty k f sub) empty f y e) x.0 here))
+
+pub sharding::ShardingCodec::encode_parts-loop-number-preserved :
+    goal.sharding::ShardingCodec::encode_parts-loop-number-preserved
+sharding::ShardingCodec::encode_parts-loop-number-preserved t c =
+    let k = kind c.args.data_type.now in
+    let f = fill_of k c.args.fill_value.now in
+    let empty = stores_empty_chunks c.args.options.now in
+    let s = chunk_shape c.args.subchunks.now in
+    let sub = subchunk_shape c.args.subchunks.now in
+    let m : ChainMeaning = chain_meaning (inner_chain_of c.args.self.now) in
+    let at = is_at_start (location_of c.args.self.now) in
+    let cs = cells_of k (data_of c.args.bytes.now) in
+    let part = data_of c.in_ok-part.part in
+    let number = c.loop-number.number in
+    let x = extracted k s sub number (data_of c.args.bytes.now) part c.in_ok-part.ensures in
+    let made = option_map (λ encoded. encoded.items) c.in_ok-encoded.encoded in
+    let here : part_of (subchunk_meaning m empty k f sub) empty f (subchunk_at s sub cs number) ≡ Some made =
+    ap (part_of (subchunk_meaning m empty k f sub) empty f) (sym x.0)
+    ∙ ap (λ y. part_of (subchunk_meaning m empty k f y) empty f (cells_of k part)) (sym c.shape-sub.ensures) ∙ c.in_ok-encoded.ensures.part in
+    next_written (subchunk_meaning m empty k f sub) at empty f s sub cs c.in-Some.count number c.loop-number.writer _ made c.loop-number.invariant here c.in_ok-push_part.ensures.pushed
+
+pub sharding::ShardingCodec::encode_parts-finish-requires :
+    goal.sharding::ShardingCodec::encode_parts-finish-requires
+sharding::ShardingCodec::encode_parts-finish-requires t c =
+    let k = kind c.args.data_type.now in
+    let f = fill_of k c.args.fill_value.now in
+    let empty = stores_empty_chunks c.args.options.now in
+    let s = chunk_shape c.args.subchunks.now in
+    let sub = subchunk_shape c.args.subchunks.now in
+    let m : ChainMeaning = chain_meaning (inner_chain_of c.args.self.now) in
+    let at = is_at_start (location_of c.args.self.now) in
+    let inv = c.loop-number.invariant in
+    let done : c.loop-number.number ≡ c.in-Some.count = omega (arith, c.loop-number-test.false) in
+    let long = first_count (subchunk_meaning m empty k f sub) at empty f s sub (cells_of k (data_of c.args.bytes.now)) c.in-Some.count c.loop-number.number c.loop-number.writer inv in
+    (at, inv.parts, subst (λ n. IsWriting at n c.loop-number.writer inv.parts) (sym (long ∙ done)) inv.writing)
+
+pub sharding::ShardingCodec::encode_parts-returns-clause-encoded :
+    goal.sharding::ShardingCodec::encode_parts-returns-clause-encoded
+sharding::ShardingCodec::encode_parts-returns-clause-encoded t c =
+    let k = kind c.args.data_type.now in
+    let f = fill_of k c.args.fill_value.now in
+    let empty = stores_empty_chunks c.args.options.now in
+    let s = chunk_shape c.args.subchunks.now in
+    let sub = subchunk_shape c.args.subchunks.now in
+    let m : ChainMeaning = chain_meaning (inner_chain_of c.args.self.now) in
+    let at = is_at_start (location_of c.args.self.now) in
+    let cs = cells_of k (data_of c.args.bytes.now) in
+    let inv = c.loop-number.invariant in
+    let w = c.loop-number.writer in
+    let done : c.loop-number.number ≡ c.in-Some.count = omega (arith, c.loop-number-test.false) in
+    let long = first_count (subchunk_meaning m empty k f sub) at empty f s sub cs c.in-Some.count c.loop-number.number w inv in
+    let writing = subst (λ n. IsWriting at n w inv.parts) (sym (long ∙ done)) inv.writing in
+    let fit : sharded_fits (subchunk_meaning m empty k f sub) s sub ≡ true = and_from _ _ c.args.subchunks.now.cut c.requires.fits in
+    let whole : HasFirstParts (subchunk_meaning m empty k f sub) at empty f s sub cs (subchunk_count s sub) (subchunk_count s sub) w = record {
+      parts = inv.parts;
+      parts_are = ap (first_parts (subchunk_meaning m empty k f sub) empty f s sub cs) (sym (done ∙ c.in-Some.ensures.none)) ∙ inv.parts_are;
+      writing = subst (λ n. IsWriting at n w inv.parts) c.in-Some.ensures.none inv.writing;
+    } in
+    let encoded = c.in_ok-finish.field-0.items in
+    let small : length encoded < 2 ^ 64 = search rules in
+    all_written (subchunk_meaning m empty k f sub) at empty f s sub cs w encoded fit whole (c.in_ok-finish.ensures at inv.parts writing) small
+
+-- ---- behind codecs that make an array of an array
+
+pub sharding::ShardingCodec::encode_behind-encode_shard-requires :
+    goal.sharding::ShardingCodec::encode_behind-encode_shard-requires
+sharding::ShardingCodec::encode_behind-encode_shard-requires t c =
+    let k = kind c.args.data_type.now in
+    let f = fill_of k c.args.fill_value.now in
+    let empty = stores_empty_chunks c.args.options.now in
+    let s = c.args.shape.now in
+    let d = data_of c.args.bytes.now in
+    let codecs = c.args.codecs.now in
+    let a = arrays_meaning codecs in
+    let inner = c.in-Some.inner.items in
+    let shape : encoded_shape a s ≡ Some inner = sym c.in_ok-inner.ensures ∙ ap (option_map (λ v. v.items)) c.in-Some.is in
+    let e = data_of c.in-Some-2.made in
+    let is : IfSome (cells k d) (λ cs. cells k e ≡ Some (a.forward s cs)) = subst (λ o. IsEncodedArray a k s d o) c.in-Some-2.is c.in_ok-made.ensures in
+    let b = is_behind a (sharding_meaning c.args.self.now) (arrays-lawful codecs) empty k f s inner d e shape c.requires.cells is in
+    (first_of (omega (arith, c.decreases), search rules), (c.requires.filled, subst (λ x. HasCells k e (position_count x)) (sym c.deref.ensures.value) b.has))
+
+pub sharding::ShardingCodec::encode_behind-encode_shard-requires-in-None :
+    goal.sharding::ShardingCodec::encode_behind-encode_shard-requires-in-None
+sharding::ShardingCodec::encode_behind-encode_shard-requires-in-None t c =
+    let k = kind c.args.data_type.now in
+    let f = fill_of k c.args.fill_value.now in
+    let empty = stores_empty_chunks c.args.options.now in
+    let s = c.args.shape.now in
+    let d = data_of c.args.bytes.now in
+    let codecs = c.args.codecs.now in
+    let a = arrays_meaning codecs in
+    let inner = c.in-Some.inner.items in
+    let shape : encoded_shape a s ≡ Some inner = sym c.in_ok-inner.ensures ∙ ap (option_map (λ v. v.items)) c.in-Some.is in
+    let e = d in
+    let is : IfSome (cells k d) (λ cs. cells k e ≡ Some (a.forward s cs)) = subst (λ o. IsEncodedArray a k s d o) c.in-None.is c.in_ok-made.ensures in
+    let b = is_behind a (sharding_meaning c.args.self.now) (arrays-lawful codecs) empty k f s inner d e shape c.requires.cells is in
+    (first_of (omega (arith, c.decreases), search rules), (c.requires.filled, subst (λ x. HasCells k e (position_count x)) (sym c.deref-in-None.ensures.value) b.has))
+
+pub sharding::ShardingCodec::encode_behind-returns-in-Some-2-clause-encoded :
+    goal.sharding::ShardingCodec::encode_behind-returns-in-Some-2-clause-encoded
+sharding::ShardingCodec::encode_behind-returns-in-Some-2-clause-encoded t c =
+    let k = kind c.args.data_type.now in
+    let f = fill_of k c.args.fill_value.now in
+    let empty = stores_empty_chunks c.args.options.now in
+    let s = c.args.shape.now in
+    let d = data_of c.args.bytes.now in
+    let codecs = c.args.codecs.now in
+    let a = arrays_meaning codecs in
+    let m : ChainMeaning = sharding_meaning c.args.self.now in
+    let inner = c.in-Some.inner.items in
+    let shape : encoded_shape a s ≡ Some inner = sym c.in_ok-inner.ensures ∙ ap (option_map (λ v. v.items)) c.in-Some.is in
+    let e = data_of c.in-Some-2.made in
+    let is : IfSome (cells k d) (λ cs. cells k e ≡ Some (a.forward s cs)) = subst (λ o. IsEncodedArray a k s d o) c.in-Some-2.is c.in_ok-made.ensures in
+    let b = is_behind a m (arrays-lawful codecs) empty k f s inner d e shape c.requires.cells is in
+    let whole : chunk_encoding (behind codecs m) empty k f s d ≡ chunk_encoding m empty k f c.deref.result.now e =
+    b.encoding ∙ ap (λ x. chunk_encoding m empty k f x e) (sym c.deref.ensures.value) in
+    subst (λ (x : Option (List ℕ)). IfOk c.encode_shard.result (λ encoded. x ≡ Some encoded.items)) (sym whole) c.encode_shard.ensures.encoded
+
+pub sharding::ShardingCodec::encode_behind-returns-in-Some-2-clause-refused :
+    goal.sharding::ShardingCodec::encode_behind-returns-in-Some-2-clause-refused
+sharding::ShardingCodec::encode_behind-returns-in-Some-2-clause-refused t c =
+    let k = kind c.args.data_type.now in
+    let f = fill_of k c.args.fill_value.now in
+    let empty = stores_empty_chunks c.args.options.now in
+    let s = c.args.shape.now in
+    let d = data_of c.args.bytes.now in
+    let codecs = c.args.codecs.now in
+    let a = arrays_meaning codecs in
+    let m : ChainMeaning = sharding_meaning c.args.self.now in
+    let inner = c.in-Some.inner.items in
+    let shape : encoded_shape a s ≡ Some inner = sym c.in_ok-inner.ensures ∙ ap (option_map (λ v. v.items)) c.in-Some.is in
+    let e = data_of c.in-Some-2.made in
+    let is : IfSome (cells k d) (λ cs. cells k e ≡ Some (a.forward s cs)) = subst (λ o. IsEncodedArray a k s d o) c.in-Some-2.is c.in_ok-made.ensures in
+    let b = is_behind a m (arrays-lawful codecs) empty k f s inner d e shape c.requires.cells is in
+    IfErr-weaker c.encode_shard.result _ _
+    (λ err why. b.refusal err (subst (λ x. RefusesChunkEncoding m empty k f x e err) c.deref.ensures.value why))
+    c.encode_shard.ensures.refused
+
+pub sharding::ShardingCodec::encode_behind-returns-clause-refused :
+    goal.sharding::ShardingCodec::encode_behind-returns-clause-refused
+sharding::ShardingCodec::encode_behind-returns-clause-refused t c =
+    let k = kind c.args.data_type.now in
+    let f = fill_of k c.args.fill_value.now in
+    let empty = stores_empty_chunks c.args.options.now in
+    let s = c.args.shape.now in
+    let d = data_of c.args.bytes.now in
+    let codecs = c.args.codecs.now in
+    let a = arrays_meaning codecs in
+    let m : ChainMeaning = sharding_meaning c.args.self.now in
+    let inner = c.in-Some.inner.items in
+    let shape : encoded_shape a s ≡ Some inner = sym c.in_ok-inner.ensures ∙ ap (option_map (λ v. v.items)) c.in-Some.is in
+    let e = d in
+    let is : IfSome (cells k d) (λ cs. cells k e ≡ Some (a.forward s cs)) = subst (λ o. IsEncodedArray a k s d o) c.in-None.is c.in_ok-made.ensures in
+    let b = is_behind a m (arrays-lawful codecs) empty k f s inner d e shape c.requires.cells is in
+    IfErr-weaker c.encode_shard-in-None.result _ _
+    (λ err why. b.refusal err (subst (λ x. RefusesChunkEncoding m empty k f x e err) c.deref-in-None.ensures.value why))
+    c.encode_shard-in-None.ensures.refused

@@ -4,7 +4,7 @@ use Rattle.zarrs_metadata.specs.Refusals.{RefusesMeaning}
 use Rattle.zarrs_codec_array.specs.Metadata.{array_codec_data, array_codec_said}
 use Rattle.zarrs_codec.specs.Metadata.{array_codecs_said}
 use Rattle.zarrs_codec.proofs.ChainMetadata.{codec_refused, refuses_through}
-use Rattle.zarrs_codec.proofs.Kept.{err_kept}
+use Rattle.zarrs_codec_cells.proofs.Kept.{err_kept}
 use Rattle.zarrs_codec.proofs.metadata.array_codecs_from.Goals as goal
 
 pub returns-in_err-codec-clause-refused : goal.returns-in_err-codec-clause-refused

@@ -1,0 +1,101 @@
+-- Chains whose last codec is `sharding_indexed`, over the chain of their subchunks.
+use Rattle.std.specs.Prelude.{◌≡◌, ℕ, ◌*◌, ◌≤◌, ◌^◌, Bool, true, false, Option, None, Some, List, [], ◌∷◌, ◌++◌, length, map, take, is_some, unwrap_or, ◌&&◌}
+use Rattle.std.specs.List.{list_all, list_any}
+use Rattle.zarrs_types.specs.Kind.{Kind}
+use Rattle.zarrs_types.specs.Cell.{Cell, held_size}
+use Rattle.zarrs_cells.specs.ArrayData.{ArrayData}
+use Rattle.zarrs_cells.specs.Cells.{cells}
+use Rattle.zarrs_codec_leaf.specs.declared.error.CodecError.{CodecError}
+use Rattle.zarrs_codec_leaf.specs.declared.error.CodecError.TheVariants as error
+use Rattle.zarrs_shard.specs.Steps.{all_present}
+use Rattle.zarrs_shard.specs.ShardIndex.{IsWriting}
+use Rattle.zarrs_shard.specs.declared.shard_index.ShardWriter.{ShardWriter}
+use Rattle.zarrs_shard.specs.Sharded.{SubchunkMeaning, part_of, part_leaves_out, first_parts, cells_of_part, cells_of_parts}
+use Rattle.zarrs_shard.specs.Sharded.{sharded_fits, sharded_encoded, sharded_decoded, sharded_compacted, sharded_leaves_out}
+use Rattle.zarrs_shard.specs.SubchunkData.{HasSubchunks}
+use Rattle.zarrs_shard.specs.Subchunks.{is_cut_by}
+use Rattle.zarrs_subset.specs.Boxes.{position_count}
+use Rattle.zarrs_chain.specs.Chain.{ChainMeaning}
+
+-- what a chain means to subchunks of one shape
+abbrev pub subchunk_meaning : ChainMeaning → (store_empty : Bool) → Kind → (fill : Cell) (sub : List ℕ) → SubchunkMeaning
+subchunk_meaning m store_empty k fill sub = record {
+  fits = m.fits k sub;
+  encoded = m.encoded store_empty k fill sub;
+  decoded = m.decoded k fill sub;
+}
+
+-- `sharding_indexed` with subchunks of this shape, which the chain `m` encodes
+abbrev pub sharded : (at_start : Bool) (sub : List ℕ) → ChainMeaning → ChainMeaning
+sharded at_start sub m = record {
+  fits = λ k s. is_cut_by s sub && m.fits k sub;
+  encoded = λ store_empty k fill s cs. sharded_encoded (subchunk_meaning m store_empty k fill sub) at_start store_empty fill s sub cs;
+  decoded = λ k fill s b. sharded_decoded (subchunk_meaning m false k fill sub) at_start k fill s sub b;
+  compacted = λ s b. sharded_compacted at_start s sub b;
+  leaves_out = λ s b. sharded_leaves_out (m.leaves_out sub) at_start s sub b;
+}
+
+-- the cells of data that has some
+abbrev pub cells_of : Kind → ArrayData → List Cell
+cells_of k d = unwrap_or (cells k d) []
+
+-- ---- why the encoding of subchunks refuses. Out of memory may come at any time
+
+-- the inner chain does not take them, or else a size is too large
+abbrev pub RefusesPart : SubchunkMeaning → Bool → Cell → List Cell → CodecError → Type 0
+RefusesPart m empty f cs error.DoesNotFit = m.fits ≡ false
+RefusesPart m empty f cs error.SizeOverflow = (m.fits ≡ true) × (part_of m empty f cs ≡ None)
+RefusesPart m empty f cs error.OutOfMemory = Unit {0}
+
+-- the chunk is not cut into subchunks that fit, or else a size is too large
+abbrev pub RefusesParts : SubchunkMeaning → (at_start empty : Bool) → Cell → (shape sub : List ℕ) → List Cell → CodecError → Type 0
+RefusesParts m at_start empty f s sub cs error.DoesNotFit = sharded_fits m s sub ≡ false
+RefusesParts m at_start empty f s sub cs error.SizeOverflow = sharded_encoded m at_start empty f s sub cs ≡ None
+RefusesParts m at_start empty f s sub cs error.OutOfMemory = Unit {0}
+
+-- the writer of a shard has the parts of the first n subchunks of a chunk's cells
+pub record HasFirstParts (m : SubchunkMeaning) (at_start empty : Bool) (f : Cell) (s sub : List ℕ) (cs : List Cell)
+    (count n : ℕ) (writer : ShardWriter) : Type 0 where
+  pub parts : List (Option (List ℕ))
+  pub parts_are : first_parts m empty f s sub cs n ≡ Some parts
+  pub writing : IsWriting at_start count writer parts
+
+-- ---- decoding
+
+-- the cells of the part of a subchunk
+abbrev pub decoded_part : ChainMeaning → Kind → Cell → (sub : List ℕ) → Option (List ℕ) → Option (List Cell)
+decoded_part m k f sub part = cells_of_part (subchunk_meaning m false k f sub) f sub part
+
+-- and of the parts of a chunk
+abbrev pub decoded_parts : ChainMeaning → Kind → Cell → (shape sub : List ℕ) → List (Option (List ℕ)) → Option (List Cell)
+decoded_parts m k f s sub parts = cells_of_parts (subchunk_meaning m false k f sub) k f s sub parts
+
+-- The chunk holds the cells of the first n parts, and its other subchunks are all one filler, which is the fill value's
+-- if some part is absent.
+pub record HasFirstCells (m : ChainMeaning) (k : Kind) (f : Cell) (s sub : List ℕ) (parts : List (Option (List ℕ))) (n : ℕ)
+    (chunk : ArrayData) : Type 0 where
+  pub filler : Cell
+  pub filler_is : list_all is_some parts ≡ false → filler ≡ f
+  pub held : List (List Cell)
+  pub held_is : all_present (map (decoded_part m k f sub) (take n parts)) ≡ Some held
+  pub has : HasSubchunks k filler s sub held chunk
+
+-- the subchunks that the chunk holds, with the cells of these bytes
+pub record HasNextSubchunk (m : ChainMeaning) (k : Kind) (f filler : Cell) (s sub : List ℕ) (held : List (List Cell)) (encoded : List ℕ)
+    (chunk : ArrayData) : Type 0 where
+  pub next : List Cell
+  pub next_is : m.decoded k f sub encoded ≡ Some next
+  pub has : HasSubchunks k filler s sub (held ++ next ∷ []) chunk
+
+-- the cells of these bytes are put into the chunk as the subchunk of this number, if it holds those before
+abbrev pub PutsPart : ChainMeaning → Kind → Cell → (shape sub : List ℕ) → (number : ℕ) → (encoded : List ℕ) → (old new : ArrayData) → Type 0
+PutsPart m k f s sub number encoded old new =
+    (filler : Cell) (held : List (List Cell)) → length held ≡ number → HasSubchunks k filler s sub held old
+    → HasNextSubchunk m k f filler s sub held encoded new
+
+-- why it refuses: the parts are those of no cells, or some of them leave out cells, and a chunk of fill is too large
+abbrev pub RefusesCells : ChainMeaning → Kind → Cell → (shape sub : List ℕ) → List (Option (List ℕ)) → CodecError → Type 0
+RefusesCells m k f s sub parts error.DoesNotFit = decoded_parts m k f s sub parts ≡ None
+RefusesCells m k f s sub parts error.SizeOverflow =
+    (list_any (part_leaves_out (m.leaves_out sub)) parts ≡ true) × (2 ^ 64 ≤ position_count s * held_size k f)
+RefusesCells m k f s sub parts error.OutOfMemory = Unit {0}

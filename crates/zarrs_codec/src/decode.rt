@@ -1,0 +1,213 @@
+//! Bytes to chunks.
+ghost use Rattle.std.specs.Prelude.{◌≡◌, ◌*◌, ◌<◌, ◌^◌, All, Some, IfOk, IfErr, IsSome, is_some, length, map};
+ghost use Rattle.std.specs.List.{list_all};
+ghost use Rattle.zarrs_subset.specs.Boxes.{position_count};
+ghost use Rattle.zarrs_data_type.specs.Kind.{kind, cell_size};
+ghost use Rattle.zarrs_data_type.specs.Cell.{fill_cell, fill_of};
+ghost use Rattle.zarrs_data_type.specs.ArrayData.{data_of};
+ghost use Rattle.zarrs_data_type.specs.Cells.{cells, HasCells};
+ghost use Rattle.zarrs_shard.specs.ShardIndex.{range_part, IsRangeWithin};
+ghost use Rattle.zarrs_shard.specs.SubchunkData.{chunk_shape, subchunk_shape};
+ghost use Rattle.zarrs_shard.specs.Subchunks.{subchunk_count};
+ghost use Rattle.zarrs_codec.specs.Chains.{behind, chain_meaning, inner_chain_of, sharding_meaning};
+ghost use Rattle.zarrs_codec.specs.Shardings.{decoded_parts, PutsPart, RefusesCells};
+ghost use Rattle.zarrs_chain.specs.Refusals.{RefusesChunkDecoding};
+
+use crate::chain::CodecChain;
+use crate::codec::ArrayToBytesCodec;
+use crate::sharding::ShardingCodec;
+use std::alloc::Global;
+use zarrs_codec_array::{ArrayToArrayCodec, decode_array, encoded_shape};
+use zarrs_codec_leaf::CodecError;
+use zarrs_data_type::{ArrayBytes, DataType, FillValue};
+use zarrs_shard::{SubchunkRange, Subchunks, read_index};
+
+impl CodecChain {
+    /// The cells of a chunk's bytes.
+    #[cycle(decode)]
+    pub(crate) fn decode_chunk<'a>(
+        &self,
+        alloc: Global,
+        encoded: &'a [u8],
+        data_type: &DataType,
+        fill_value: &FillValue,
+        shape: &[u64],
+    ) -> Result<ArrayBytes<'a>, CodecError>
+        requires filled { IsSome (fill_cell (kind data_type.now) fill_value.now) }
+        requires size { position_count shape.now * cell_size (kind data_type.now) < 2 ^ 64 }
+        ensures cells { IfOk result (λ made. cells (kind data_type.now) (data_of made)
+            ≡ (chain_meaning self.now).decoded (kind data_type.now)
+            (fill_of (kind data_type.now) fill_value.now) shape.now encoded.now) }
+        ensures some { IfOk result (λ made. IsSome (cells (kind data_type.now) (data_of made))) }
+        ensures refused { IfErr result (RefusesChunkDecoding (chain_meaning self.now)
+            (kind data_type.now) (fill_of (kind data_type.now) fill_value.now) shape.now
+            encoded.now) }
+    {
+        match &self.array_to_bytes {
+            ArrayToBytesCodec::Sharding(codec) => {
+                let codecs = &self.array_to_array;
+                codec.decode_behind(alloc, codecs, encoded, data_type, fill_value, shape)
+            }
+            _ => self.decode_cells(alloc, encoded, data_type, fill_value, shape),
+        }
+    }
+}
+
+impl ShardingCodec {
+    /// The cells of a chunk, of the shard of what these codecs make of it.
+    #[cycle(decode)]
+    fn decode_behind<'a>(
+        &self,
+        alloc: Global,
+        codecs: &[ArrayToArrayCodec],
+        encoded: &'a [u8],
+        data_type: &DataType,
+        fill_value: &FillValue,
+        shape: &[u64],
+    ) -> Result<ArrayBytes<'a>, CodecError>
+        requires filled { IsSome (fill_cell (kind data_type.now) fill_value.now) }
+        requires size { position_count shape.now * cell_size (kind data_type.now) < 2 ^ 64 }
+        ensures cells { IfOk result (λ made. cells (kind data_type.now) (data_of made)
+            ≡ (behind codecs.now (sharding_meaning self.now)).decoded (kind data_type.now)
+            (fill_of (kind data_type.now) fill_value.now) shape.now encoded.now) }
+        ensures some { IfOk result (λ made. IsSome (cells (kind data_type.now) (data_of made))) }
+        ensures refused { IfErr result (RefusesChunkDecoding
+            (behind codecs.now (sharding_meaning self.now)) (kind data_type.now)
+            (fill_of (kind data_type.now) fill_value.now) shape.now encoded.now) }
+    {
+        let Some(inner) = encoded_shape(alloc, codecs, shape)? else {
+            return Err(CodecError::DoesNotFit);
+        };
+        let array = self.decode_shard(alloc, encoded, data_type, fill_value, &inner)?;
+        // It is owned, and is not copied.
+        let array = array.into_owned(alloc)?;
+        Ok(decode_array(alloc, codecs, array, data_type, shape)?)
+    }
+
+    /// The cells of a shard.
+    #[cycle(decode)]
+    fn decode_shard(
+        &self,
+        alloc: Global,
+        encoded: &[u8],
+        data_type: &DataType,
+        fill_value: &FillValue,
+        shape: &[u64],
+    ) -> Result<ArrayBytes<'static>, CodecError>
+        requires filled { IsSome (fill_cell (kind data_type.now) fill_value.now) }
+        requires size { position_count shape.now * cell_size (kind data_type.now) < 2 ^ 64 }
+        ensures cells { IfOk result (λ made. cells (kind data_type.now) (data_of made)
+            ≡ (sharding_meaning self.now).decoded (kind data_type.now)
+            (fill_of (kind data_type.now) fill_value.now) shape.now encoded.now) }
+        ensures some { IfOk result (λ made. IsSome (cells (kind data_type.now) (data_of made))) }
+        ensures refused { IfErr result (RefusesChunkDecoding (sharding_meaning self.now)
+            (kind data_type.now) (fill_of (kind data_type.now) fill_value.now) shape.now
+            encoded.now) }
+    {
+        let sub = self.extents(alloc)?;
+        let Some(subchunks) = Subchunks::new(alloc, shape, &sub)? else {
+            return Err(CodecError::DoesNotFit);
+        };
+        if !self.inner_codecs().fits_chunk(alloc, data_type, &sub)? {
+            return Err(CodecError::DoesNotFit);
+        }
+        let Some(count) = subchunks.count() else {
+            return Err(CodecError::DoesNotFit);
+        };
+        let at_start = self.index_location().is_at_start();
+        let Some(ranges) = read_index(alloc, encoded, count, at_start)? else {
+            return Err(CodecError::DoesNotFit);
+        };
+        self.decode_parts(alloc, encoded, &ranges, &subchunks, data_type, fill_value)
+    }
+
+    /// The cells of the subchunks of an array, which stand at these ranges of its shard.
+    #[cycle(decode)]
+    fn decode_parts(
+        &self,
+        alloc: Global,
+        encoded: &[u8],
+        ranges: &[Option<SubchunkRange>],
+        subchunks: &Subchunks,
+        data_type: &DataType,
+        fill_value: &FillValue,
+    ) -> Result<ArrayBytes<'static>, CodecError>
+        requires filled { IsSome (fill_cell (kind data_type.now) fill_value.now) }
+        requires size { position_count (chunk_shape subchunks.now)
+            * cell_size (kind data_type.now) < 2 ^ 64 }
+        requires within { All (IsRangeWithin (length encoded.now)) ranges.now }
+        requires count { length ranges.now
+            ≡ subchunk_count (chunk_shape subchunks.now) (subchunk_shape subchunks.now) }
+        ensures cells { IfOk result (λ made. cells (kind data_type.now) (data_of made)
+            ≡ decoded_parts (chain_meaning (inner_chain_of self.now)) (kind data_type.now)
+            (fill_of (kind data_type.now) fill_value.now) (chunk_shape subchunks.now)
+            (subchunk_shape subchunks.now) (map (range_part encoded.now) ranges.now)) }
+        ensures some { IfOk result (λ made. IsSome (cells (kind data_type.now) (data_of made))) }
+        ensures refused { IfErr result (RefusesCells (chain_meaning (inner_chain_of self.now))
+            (kind data_type.now) (fill_of (kind data_type.now) fill_value.now)
+            (chunk_shape subchunks.now) (subchunk_shape subchunks.now)
+            (map (range_part encoded.now) ranges.now)) }
+    {
+        let is_whole = are_present(ranges);
+        let Some(mut chunk) = subchunks.new_chunk(alloc, data_type, fill_value, is_whole)? else {
+            return Err(CodecError::SizeOverflow);
+        };
+        for (number, range) in ranges.iter().enumerate() {
+            let Some(range) = range else {
+                continue;
+            };
+            chunk = self.decode_part(
+                alloc,
+                &encoded[range.start..range.end],
+                subchunks,
+                chunk,
+                data_type,
+                fill_value,
+                number as u64,
+            )?;
+        }
+        Ok(chunk)
+    }
+
+    /// The chunk with the cells of one more subchunk, which has these bytes.
+    #[cycle(decode)]
+    fn decode_part(
+        &self,
+        alloc: Global,
+        encoded: &[u8],
+        subchunks: &Subchunks,
+        chunk: ArrayBytes<'static>,
+        data_type: &DataType,
+        fill_value: &FillValue,
+        number: u64,
+    ) -> Result<ArrayBytes<'static>, CodecError>
+        requires filled { IsSome (fill_cell (kind data_type.now) fill_value.now) }
+        requires size { position_count (subchunk_shape subchunks.now)
+            * cell_size (kind data_type.now) < 2 ^ 64 }
+        requires number { number
+            < subchunk_count (chunk_shape subchunks.now) (subchunk_shape subchunks.now) }
+        requires held { HasCells (kind data_type.now) (data_of chunk)
+            (position_count (chunk_shape subchunks.now)) }
+        ensures put { IfOk result (λ made. PutsPart (chain_meaning (inner_chain_of self.now))
+            (kind data_type.now) (fill_of (kind data_type.now) fill_value.now)
+            (chunk_shape subchunks.now) (subchunk_shape subchunks.now) number encoded.now
+            (data_of chunk.entry) (data_of made)) }
+        ensures refused { IfErr result (RefusesChunkDecoding
+            (chain_meaning (inner_chain_of self.now)) (kind data_type.now)
+            (fill_of (kind data_type.now) fill_value.now) (subchunk_shape subchunks.now)
+            encoded.now) }
+    {
+        let sub = subchunks.shape();
+        let part = self
+            .inner_codecs()
+            .decode_chunk(alloc, encoded, data_type, fill_value, sub)?;
+        Ok(subchunks.put(alloc, chunk, &part, data_type, number)?)
+    }
+}
+
+/// Whether each subchunk is there.
+fn are_present(ranges: &[Option<SubchunkRange>]) -> bool
+    ensures { result ≡ list_all is_some ranges.now }
+{
+    ranges.iter().all(|range| range.is_some())
+}

@@ -1,0 +1,241 @@
+//! Chunks to bytes.
+ghost use Rattle.std.specs.Prelude.{◌≡◌, true, Some, IfOk, IfErr, IsSome, option_map};
+ghost use Rattle.zarrs_subset.specs.Boxes.{position_count};
+ghost use Rattle.zarrs_data_type.specs.Kind.{kind};
+ghost use Rattle.zarrs_data_type.specs.Cell.{fill_cell, fill_of};
+ghost use Rattle.zarrs_data_type.specs.ArrayData.{data_of};
+ghost use Rattle.zarrs_data_type.specs.Cells.{HasCells};
+ghost use Rattle.zarrs_shard.specs.Sharded.{part_of, sharded_encoded};
+ghost use Rattle.zarrs_shard.specs.SubchunkData.{chunk_shape, subchunk_shape};
+ghost use Rattle.zarrs_chain.specs.Chain.{chunk_encoding};
+ghost use Rattle.zarrs_codec.specs.Chains.{behind, chain_meaning, inner_chain_of, is_at_start};
+ghost use Rattle.zarrs_codec.specs.Chains.{location_of, sharding_meaning};
+ghost use Rattle.zarrs_codec.specs.Shardings.{cells_of, subchunk_meaning, RefusesPart, RefusesParts};
+ghost use Rattle.zarrs_chain.specs.Refusals.{RefusesChunkEncoding};
+ghost use Rattle.zarrs_chain.specs.Options.{stores_empty_chunks};
+
+use crate::chain::CodecChain;
+use crate::codec::ArrayToBytesCodec;
+use crate::sharding::ShardingCodec;
+use std::alloc::Global;
+use zarrs_chain::CodecOptions;
+use zarrs_codec_array::{ArrayToArrayCodec, encode_array, encoded_shape};
+use zarrs_codec_leaf::CodecError;
+use zarrs_data_type::{ArrayBytes, DataType, FillValue};
+use zarrs_shard::{ShardWriter, Subchunks};
+
+impl CodecChain {
+    /// The bytes of a chunk's cells.
+    pub(crate) fn encode_chunk(
+        &self,
+        alloc: Global,
+        bytes: &ArrayBytes<'_>,
+        data_type: &DataType,
+        fill_value: &FillValue,
+        shape: &[u64],
+        options: &CodecOptions,
+    ) -> Result<Vec<u8>, CodecError>
+        requires filled { IsSome (fill_cell (kind data_type.now) fill_value.now) }
+        requires cells { HasCells (kind data_type.now) (data_of bytes.now)
+            (position_count shape.now) }
+        ensures encoded { IfOk result (λ encoded.
+            chunk_encoding (chain_meaning self.now) (stores_empty_chunks options.now)
+            (kind data_type.now) (fill_of (kind data_type.now) fill_value.now) shape.now
+            (data_of bytes.now) ≡ Some encoded.items) }
+        ensures refused { IfErr result
+            (RefusesChunkEncoding (chain_meaning self.now) (stores_empty_chunks options.now)
+            (kind data_type.now) (fill_of (kind data_type.now) fill_value.now) shape.now
+            (data_of bytes.now)) }
+    {
+        match &self.array_to_bytes {
+            ArrayToBytesCodec::Sharding(codec) => {
+                let arrays = &self.array_to_array;
+                codec.encode_behind(alloc, arrays, bytes, data_type, fill_value, shape, options)
+            }
+            _ => self.encode_cells(alloc, bytes, data_type, fill_value, shape, options),
+        }
+    }
+
+    /// The bytes of a chunk's cells, which are given away.
+    #[cycle(encode)]
+    pub(crate) fn encode_owned_chunk(
+        &self,
+        alloc: Global,
+        bytes: ArrayBytes<'_>,
+        data_type: &DataType,
+        fill_value: &FillValue,
+        shape: &[u64],
+        options: &CodecOptions,
+    ) -> Result<Vec<u8>, CodecError>
+        requires filled { IsSome (fill_cell (kind data_type.now) fill_value.now) }
+        requires cells { HasCells (kind data_type.now) (data_of bytes) (position_count shape.now) }
+        ensures encoded { IfOk result (λ encoded.
+            chunk_encoding (chain_meaning self.now) (stores_empty_chunks options.now)
+            (kind data_type.now) (fill_of (kind data_type.now) fill_value.now) shape.now
+            (data_of bytes.entry) ≡ Some encoded.items) }
+        ensures refused { IfErr result
+            (RefusesChunkEncoding (chain_meaning self.now) (stores_empty_chunks options.now)
+            (kind data_type.now) (fill_of (kind data_type.now) fill_value.now) shape.now
+            (data_of bytes.entry)) }
+    {
+        match &self.array_to_bytes {
+            ArrayToBytesCodec::Sharding(codec) => {
+                let arrays = &self.array_to_array;
+                codec.encode_behind(alloc, arrays, &bytes, data_type, fill_value, shape, options)
+            }
+            _ => self.encode_owned_cells(alloc, bytes, data_type, fill_value, shape, options),
+        }
+    }
+}
+
+impl ShardingCodec {
+    /// The shard of what the codecs make of a chunk's cells.
+    #[cycle(encode)]
+    fn encode_behind(
+        &self,
+        alloc: Global,
+        codecs: &[ArrayToArrayCodec],
+        bytes: &ArrayBytes<'_>,
+        data_type: &DataType,
+        fill_value: &FillValue,
+        shape: &[u64],
+        options: &CodecOptions,
+    ) -> Result<Vec<u8>, CodecError>
+        requires filled { IsSome (fill_cell (kind data_type.now) fill_value.now) }
+        requires cells { HasCells (kind data_type.now) (data_of bytes.now)
+            (position_count shape.now) }
+        ensures encoded { IfOk result (λ encoded.
+            chunk_encoding (behind codecs.now (sharding_meaning self.now))
+            (stores_empty_chunks options.now) (kind data_type.now)
+            (fill_of (kind data_type.now) fill_value.now) shape.now
+            (data_of bytes.now) ≡ Some encoded.items) }
+        ensures refused { IfErr result
+            (RefusesChunkEncoding (behind codecs.now (sharding_meaning self.now))
+            (stores_empty_chunks options.now) (kind data_type.now)
+            (fill_of (kind data_type.now) fill_value.now) shape.now (data_of bytes.now)) }
+    {
+        let Some(inner) = encoded_shape(alloc, codecs, shape)? else {
+            return Err(CodecError::DoesNotFit);
+        };
+        match encode_array(alloc, codecs, bytes, data_type, shape)? {
+            Some(made) => {
+                self.encode_shard(alloc, &made, data_type, fill_value, &inner, options)
+            }
+            None => self.encode_shard(alloc, bytes, data_type, fill_value, &inner, options),
+        }
+    }
+
+    /// The shard of an array's cells.
+    #[cycle(encode)]
+    fn encode_shard(
+        &self,
+        alloc: Global,
+        bytes: &ArrayBytes<'_>,
+        data_type: &DataType,
+        fill_value: &FillValue,
+        shape: &[u64],
+        options: &CodecOptions,
+    ) -> Result<Vec<u8>, CodecError>
+        requires filled { IsSome (fill_cell (kind data_type.now) fill_value.now) }
+        requires cells { HasCells (kind data_type.now) (data_of bytes.now)
+            (position_count shape.now) }
+        ensures encoded { IfOk result (λ encoded.
+            chunk_encoding (sharding_meaning self.now) (stores_empty_chunks options.now)
+            (kind data_type.now) (fill_of (kind data_type.now) fill_value.now) shape.now
+            (data_of bytes.now) ≡ Some encoded.items) }
+        ensures refused { IfErr result
+            (RefusesChunkEncoding (sharding_meaning self.now) (stores_empty_chunks options.now)
+            (kind data_type.now) (fill_of (kind data_type.now) fill_value.now) shape.now
+            (data_of bytes.now)) }
+    {
+        let sub = self.extents(alloc)?;
+        let Some(subchunks) = Subchunks::new(alloc, shape, &sub)? else {
+            return Err(CodecError::DoesNotFit);
+        };
+        if !self.inner_codecs().fits_chunk(alloc, data_type, &sub)? {
+            return Err(CodecError::DoesNotFit);
+        }
+        self.encode_parts(alloc, bytes, data_type, fill_value, &subchunks, options)
+    }
+
+    /// The shard of the subchunks of an array.
+    #[cycle(encode)]
+    fn encode_parts(
+        &self,
+        alloc: Global,
+        bytes: &ArrayBytes<'_>,
+        data_type: &DataType,
+        fill_value: &FillValue,
+        subchunks: &Subchunks,
+        options: &CodecOptions,
+    ) -> Result<Vec<u8>, CodecError>
+        requires filled { IsSome (fill_cell (kind data_type.now) fill_value.now) }
+        requires cells { HasCells (kind data_type.now) (data_of bytes.now)
+            (position_count (chunk_shape subchunks.now)) }
+        requires fits { (chain_meaning (inner_chain_of self.now)).fits (kind data_type.now)
+            (subchunk_shape subchunks.now) ≡ true }
+        ensures encoded { IfOk result (λ encoded. sharded_encoded
+            (subchunk_meaning (chain_meaning (inner_chain_of self.now))
+            (stores_empty_chunks options.now) (kind data_type.now)
+            (fill_of (kind data_type.now) fill_value.now) (subchunk_shape subchunks.now))
+            (is_at_start (location_of self.now)) (stores_empty_chunks options.now)
+            (fill_of (kind data_type.now) fill_value.now) (chunk_shape subchunks.now)
+            (subchunk_shape subchunks.now) (cells_of (kind data_type.now) (data_of bytes.now))
+            ≡ Some encoded.items) }
+        ensures refused { IfErr result (RefusesParts
+            (subchunk_meaning (chain_meaning (inner_chain_of self.now))
+            (stores_empty_chunks options.now) (kind data_type.now)
+            (fill_of (kind data_type.now) fill_value.now) (subchunk_shape subchunks.now))
+            (is_at_start (location_of self.now)) (stores_empty_chunks options.now)
+            (fill_of (kind data_type.now) fill_value.now) (chunk_shape subchunks.now)
+            (subchunk_shape subchunks.now) (cells_of (kind data_type.now) (data_of bytes.now))) }
+    {
+        let Some(count) = subchunks.indexed_count() else {
+            return Err(CodecError::SizeOverflow);
+        };
+        let at_start = self.index_location().is_at_start();
+        let mut writer = ShardWriter::new(alloc, count as usize, at_start)?;
+        for number in 0..count {
+            let part = subchunks.extract(alloc, bytes, data_type, number)?;
+            let sub = subchunks.shape();
+            let encoded = self.encode_part(alloc, part, data_type, fill_value, sub, options)?;
+            writer.push_part(&encoded)?;
+        }
+        Ok(writer.finish()?)
+    }
+
+    /// The bytes of a subchunk's cells, which are given away, or `None` if it is left out.
+    #[cycle(encode)]
+    fn encode_part(
+        &self,
+        alloc: Global,
+        bytes: ArrayBytes<'static>,
+        data_type: &DataType,
+        fill_value: &FillValue,
+        sub: &[u64],
+        options: &CodecOptions,
+    ) -> Result<Option<Vec<u8>>, CodecError>
+        requires filled { IsSome (fill_cell (kind data_type.now) fill_value.now) }
+        requires cells { HasCells (kind data_type.now) (data_of bytes) (position_count sub.now) }
+        ensures part { IfOk result (λ part. part_of
+            (subchunk_meaning (chain_meaning (inner_chain_of self.now))
+            (stores_empty_chunks options.now) (kind data_type.now)
+            (fill_of (kind data_type.now) fill_value.now) sub.now)
+            (stores_empty_chunks options.now) (fill_of (kind data_type.now) fill_value.now)
+            (cells_of (kind data_type.now) (data_of bytes.entry))
+            ≡ Some (option_map (λ encoded. encoded.items) part)) }
+        ensures refused { IfErr result (RefusesPart
+            (subchunk_meaning (chain_meaning (inner_chain_of self.now))
+            (stores_empty_chunks options.now) (kind data_type.now)
+            (fill_of (kind data_type.now) fill_value.now) sub.now)
+            (stores_empty_chunks options.now) (fill_of (kind data_type.now) fill_value.now)
+            (cells_of (kind data_type.now) (data_of bytes.entry))) }
+    {
+        if !options.store_empty_chunks() && bytes.is_fill_value(data_type, fill_value) {
+            return Ok(None);
+        }
+        let inner = self.inner_codecs();
+        let encoded = inner.encode_owned_chunk(alloc, bytes, data_type, fill_value, sub, options)?;
+        Ok(Some(encoded))
+    }
+}

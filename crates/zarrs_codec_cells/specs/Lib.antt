@@ -1,0 +1,9 @@
+pub mod CellsCodecLaws
+pub mod CellsCodecs
+pub mod Metadata
+pub mod Optional
+pub mod OptionalLaws
+pub mod ShardingMetadata
+pub mod ShardingViews
+pub mod Sole
+pub mod VlenMetadata
