@@ -18,7 +18,8 @@ IsCanonicalValue layout f box (Some encoded) =
 
 -- each chunk key holds what the content over its box is encoded to, and nothing if that is all fill
 pub record IsCanonical (layout : Layout) (stored : List ℕ → Option (List ℕ)) : Type 0 where
-  pub boxed : (index : List ℕ) → has_box layout.grid index ≡ true → IsCanonicalValue layout (content layout stored) (box_at layout.grid index) (stored (layout.key index))
+  pub boxed : (index : List ℕ) → has_box layout.grid index ≡ true
+      → IsCanonicalValue layout (content layout stored) (box_at layout.grid index) (stored (layout.key index))
   pub unboxed : (index : List ℕ) → IsIndexList layout.grid.dimensions index → has_box layout.grid index ≡ false → stored (layout.key index) ≡ None
 
 -- no chunk key is present
