@@ -19,7 +19,7 @@ use Rattle.zarrs_subset.proofs.Overlaps.{length-bound, length-zip_with}
 use Rattle.zarrs_subset.proofs.Parts.{zip_with-at}
 use Rattle.zarrs_subset.proofs.Positions.{length-positions, positions_in, positions_once}
 use Rattle.zarrs_chunk_grid.specs.Grids.{box_at, has_box}
-use Rattle.zarrs_chunk_grid.proofs.Chunks.{box_dimensions, box_is_there, box_long}
+use Rattle.zarrs_chunk_grid.proofs.Chunks.{box_dimensions, box_long}
 use Rattle.zarrs_storage.specs.Store.{StoreState}
 use Rattle.zarrs_data_type.specs.Cell.{Cell}
 use Rattle.zarrs_data_type.specs.ArrayData.{ArrayData}
@@ -34,7 +34,7 @@ use Rattle.zarrs_cells.specs.Parts.{TakesCells, ExtractsCells}
 use Rattle.zarrs_variable.specs.StringParts.{LiesInBox}
 use Rattle.zarrs_keys.specs.Keys.{IsIndexList}
 use Rattle.zarrs_steps.specs.Layout.{ArrayState, Layout, IsLawful}
-use Rattle.zarrs_steps.specs.Content.{value_at, content, decoded_cells}
+use Rattle.zarrs_steps.specs.Content.{value_at, content}
 use Rattle.zarrs_steps.specs.Refusals as refusal
 use Rattle.zarrs_steps.specs.Refusals.{Refusal, RefusesBy, box_refusal, data_refusal, encode_refusal, encoded_cells, fill_refusal}
 use Rattle.zarrs_steps.specs.Refusals.{is_left_out, is_too_large, key_refusal, length_refusal, read_refusal, refusal_of, refuse_if}
@@ -50,12 +50,12 @@ use Rattle.zarrs_steps.proofs.Below.{below_along}
 use Rattle.zarrs_steps.proofs.CutLaws.{and_left}
 use Rattle.zarrs_steps.proofs.Contents.{fill_at, index_list, one_key, only_member, replicated}
 use Rattle.zarrs_steps.proofs.CutLoops.{cut_gone, cut_kept, cuts_all, cuts_none, cuts_push, cuts_same}
-use Rattle.zarrs_steps.proofs.RefusalLemmas.{first_refusal, fit_chunk, large_chunk, makes_none, memory_or_said, second_refusal}
+use Rattle.zarrs_steps.proofs.RefusalLemmas.{fit_chunk, large_chunk, makes_none, memory_or_said, second_refusal}
 use Rattle.zarrs_layout.specs.CutWalks.{walk_box, walk_number, walk_whole}
 use Rattle.zarrs_layout.specs.Parts.{HasValue, RefusesPut}
 use Rattle.zarrs_layout.specs.WholeChunks.{PassesBelow}
 use Rattle.zarrs_layout.specs.declared.cut_walk.CutWalk.{CutWalk}
-use Rattle.zarrs_layout.proofs.Chunks.{right_length}
+use Rattle.zarrs_layout.proofs.Chunks.{unread_why}
 use Rattle.zarrs_engine.specs.Resizes.{HasCut, HasCutCells, HasCutValue, IsCutValue, LeavesCut, LeavesFront, PassesChunk}
 use Rattle.zarrs_chunk_grid.specs.declared.traits.ChunkGridTraits.{Ghosts as GridMeaning}
 use Rattle.zarrs_keys.specs.declared.traits.ChunkKeyEncodingTraits.{Ghosts as KeyMeaning}
@@ -267,36 +267,10 @@ module _ (layout : Layout) (keep : Bool) (shape index : List ℕ) (state : Store
           fill_fails r (sym (second_refusal (size_refusal layout (box_at layout.grid index).shape) _ none) ∙ said)
     ]
 
-    value_fails : (r : Refusal) (value : Option (List ℕ)) → value_at state (layout.key index) ≡ value → read_refusal layout true index value ≡ Some r → RefusesKeptCut layout keep shape index 0 state r
-    value_fails r None absent h = fill_fails r (sym (second_refusal (box_refusal layout index) _ (fit_chunk layout index has fit)) ∙ h)
-    value_fails r (Some encoded) stands h =
-        let box = box_at layout.grid index in
-        let decode : cond (is_some (decoded_cells layout box encoded)) None (Some refusal.codec) ≡ Some r = sym (second_refusal (box_refusal layout index) _ (fit_chunk layout index has fit)) ∙ h in
-        elim (decoded_cells layout box encoded) as (λ o. decoded_cells layout box encoded ≡ o → cond (is_some o) None (Some refusal.codec) ≡ Some r → RefusesKeptCut layout keep shape index 0 state r) [
-          | None ↦ λ at is.
-              let same : refusal.codec ≡ r = cc in
-              subst (RefusesKeptCut layout keep shape index 0 state) same (refl, fit, inl (record { encoded = encoded; stands = stands; undecoded = at }))
-          | Some found ↦ λ at is. absurd (let clash : None ≡ Some r = is in cc)
-        ] refl decode
-
     -- the chunk cannot be read
     pub read_fails : (r : Refusal) → RefusesChunkRead layout (length_refusal layout index) true index state r → RefusesKeptCut layout keep shape index 0 state r
-    read_fails r h = elim (memory_or_said _ r h) [
-      | inl memory ↦ subst (RefusesKeptCut layout keep shape index 0 state) (sym memory) tt
-      | inr said ↦
-          let after : option_or (key_refusal layout index state) (read_refusal layout true index (value_at state (layout.key index))) ≡ Some r =
-          sym (second_refusal (length_refusal layout index) _ (right_length layout index (box_is_there layout.grid index has).long)) ∙ said in
-          elim (cases_Bool (state.refuses (layout.key index))) [
-            | inl refuses ↦
-                let key = ap (λ b. cond b (Some refusal.storage) None) refuses in
-                let is : Some refusal.storage ≡ Some r = sym (first_refusal (key_refusal layout index state) _ refusal.storage key) ∙ after in
-                let same : refusal.storage ≡ r = cc in
-                subst (RefusesKeptCut layout keep shape index 0 state) same (inl (refl, refuses))
-            | inr open_key ↦
-                let bytes = sym (second_refusal (key_refusal layout index state) _ (ap (λ b. cond b (Some refusal.storage) None) open_key)) ∙ after in
-                value_fails r (value_at state (layout.key index)) refl bytes
-          ]
-    ]
+    read_fails =
+        unread_why layout index state has fit (RefusesKeptCut layout keep shape index 0 state) tt (λ broken. (refl, fit, inl broken)) (λ large why. (refl, inr (inl large))) (λ refuses. inl (refl, refuses))
 
     -- the chain takes no such chunk
     pub chain_fails : (made : ArrayData) (h : HasCutCells layout shape index state made) (r : Refusal) → RefusesBy (data_refusal layout keep (box_at layout.grid index).shape (cells layout.kind made)) r → RefusesKeptCut layout keep shape index 0 state r

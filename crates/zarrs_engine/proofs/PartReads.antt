@@ -104,7 +104,7 @@ module _ (layout : Layout) (lawful : IsLawful layout) (index : List ℕ) (has : 
 module _ (layout : Layout) (index : List ℕ) (part : Box) (state : StoreState) where
   parts_refused : (r : Refusal) → RefusesBy (read_part_refusal layout index part) r → RefusesRetrievePart layout index part r state
   parts_refused r h = record {
-    whole = λ is. refused_first (read_part_refusal layout index part) (option_or (key_refusal layout index state) (read_refusal layout true index (value_at state (layout.key index)))) r h;
+    whole = λ is. inl (refused_first (read_part_refusal layout index part) (option_or (key_refusal layout index state) (read_refusal layout true index (value_at state (layout.key index)))) r h);
     proper = λ is. inl h;
   }
 

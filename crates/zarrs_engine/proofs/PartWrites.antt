@@ -1,7 +1,6 @@
 -- A chunk that takes its part of a region's data.
 use Rattle.std.proofs.Common.{◌≡◌, ◌⊎◌, ◌≤◌, ◌*◌, ◌^◌, ℕ, Bool, true, false, cond, nat_le, List, length, replicate}
-use Rattle.std.proofs.Common.{is_some, Option, Some, None, refl, sym, ◌∙◌, ap, subst, inl, inr, arith}
-use Rattle.std.specs.Option.{option_or}
+use Rattle.std.proofs.Common.{Some, None, refl, sym, ◌∙◌, ap, subst, inl, inr, arith}
 use Rattle.std.proofs.lemmas.Bool.{cases_Bool, leb-true, leb-false}
 use Rattle.std.proofs.lemmas.List.{length-replicate}
 use Rattle.std.proofs.lemmas.List.Folds.{sum_by-replicate}
@@ -9,7 +8,7 @@ use Rattle.zarrs_subset.specs.Boxes.{position_count}
 use Rattle.zarrs_subset.specs.Regions.{Box, IsLong, cell_in, in_box, place_in}
 use Rattle.zarrs_subset.proofs.Bytes.{along_holds, holds_along, place_in_below}
 use Rattle.zarrs_chunk_grid.specs.Grids.{box_at, has_box}
-use Rattle.zarrs_chunk_grid.proofs.Chunks.{box_is_there, box_long}
+use Rattle.zarrs_chunk_grid.proofs.Chunks.{box_long}
 use Rattle.zarrs_storage.specs.Store.{StoreState}
 use Rattle.zarrs_data_type.specs.Kind.{Kind, cell_size}
 use Rattle.zarrs_data_type.specs.Cell.{Cell, bytes, none, some, held_size}
@@ -19,17 +18,16 @@ use Rattle.zarrs_cells.proofs.Cells.{HasCells-cells}
 use Rattle.zarrs_cells.specs.Parts.{TakesCells, ExtractsCells}
 use Rattle.zarrs_cells.specs.StringParts.{LiesInBox}
 use Rattle.zarrs_steps.specs.Layout.{Layout, IsLawful}
-use Rattle.zarrs_steps.specs.Content.{value_at, content, decoded_cells}
+use Rattle.zarrs_steps.specs.Content.{value_at, content}
 use Rattle.zarrs_steps.specs.Refusals as refusal
-use Rattle.zarrs_steps.specs.Refusals.{Refusal, RefusesBy, box_refusal, fill_refusal, is_too_large, key_refusal}
-use Rattle.zarrs_steps.specs.Refusals.{length_refusal, read_refusal}
+use Rattle.zarrs_steps.specs.Refusals.{Refusal, fill_refusal, is_too_large, length_refusal, refuse_if}
 use Rattle.zarrs_steps.specs.Changes.{RetrievesChunk}
 use Rattle.zarrs_steps.specs.ChunkBoxes.{CoversBox}
-use Rattle.zarrs_steps.specs.StateRefusals.{IsLargeBox, IsPart, RefusesChunkRead, RefusesPart, cell_length, known_cell}
+use Rattle.zarrs_steps.specs.StateRefusals.{IsLargeBox, IsPart, NeedsLargeFill, RefusesChunkRead, RefusesPart, cell_length, known_cell}
 use Rattle.zarrs_steps.proofs.Contents.{absent_fill, fill_at, replicated}
-use Rattle.zarrs_steps.proofs.RefusalLemmas.{first_refusal, fit_chunk, memory_or_said, second_refusal, not_large}
+use Rattle.zarrs_steps.proofs.RefusalLemmas.{not_large}
 use Rattle.zarrs_engine.specs.RegionWrites.{HasUpdated}
-use Rattle.zarrs_layout.proofs.Chunks.{right_length}
+use Rattle.zarrs_layout.proofs.Chunks.{unread_why}
 
 -- ---- boxes
 
@@ -110,6 +108,14 @@ held_is k (bytes b) = elim (cases_Bool (nat_le (cell_size k) (length b))) [
 held_is k none = inl refl
 held_is k (some c) = held_is k c
 
+-- as many fill values are too large
+fill_count : (layout : Layout) (shape : List ℕ) → fill_refusal layout shape ≡ Some refusal.size_overflow → 2 ^ 64 ≤ position_count shape * held_size layout.kind layout.fill
+fill_count layout shape said =
+    elim (cases_Bool (nat_le (2 ^ 64) (position_count shape * held_size layout.kind layout.fill))) [
+      | inl large ↦ leb-true (2 ^ 64) (position_count shape * held_size layout.kind layout.fill) large
+      | inr small ↦ absurd (let clash : None ≡ Some refusal.size_overflow = sym (ap (λ b. refuse_if b refusal.size_overflow) small) ∙ said in cc)
+    ]
+
 module _ (layout : Layout) (lawful : IsLawful layout) (keep : Bool) (region : Box) (held : ArrayData) (index : List ℕ) (state : StoreState)
     (has : has_box layout.grid index ≡ true) (fit : is_too_large layout (box_at layout.grid index).shape ≡ false) (part : IsPart layout region index) where
   large_fill : value_at state (layout.key index) ≡ None → 2 ^ 64 ≤ position_count (box_at layout.grid index).shape * held_size layout.kind layout.fill → IsLargeBox layout (box_at layout.grid index) state
@@ -134,42 +140,11 @@ module _ (layout : Layout) (lawful : IsLawful layout) (keep : Bool) (region : Bo
         subst (λ s. 2 ^ 64 ≤ s) (sym sums) size,
       )
 
-  bytes_fail : (r : Refusal) (value : Option (List ℕ)) → value_at state (layout.key index) ≡ value → read_refusal layout true index value ≡ Some r → RefusesPart layout keep region held index 0 state r
-  bytes_fail r None absent h =
-      let shape = (box_at layout.grid index).shape in
-      let size : fill_refusal layout shape ≡ Some r = sym (second_refusal (box_refusal layout index) _ (fit_chunk layout index has fit)) ∙ h in
-      elim (cases_Bool (nat_le (2 ^ 64) (position_count shape * held_size layout.kind layout.fill))) [
-        | inl large ↦
-            let is : Some refusal.size_overflow ≡ Some r = sym (ap (λ b. cond b (Some refusal.size_overflow) None) large) ∙ size in
-            let same : refusal.size_overflow ≡ r = cc in
-            subst (RefusesPart layout keep region held index 0 state) same (refl, inr (inl (part, inl (large_fill absent (leb-true (2 ^ 64) _ large)))))
-        | inr small ↦ absurd (let clash : None ≡ Some r = sym (ap (λ b. cond b (Some refusal.size_overflow) None) small) ∙ size in cc)
-      ]
-  bytes_fail r (Some encoded) stands h =
-      let box = box_at layout.grid index in
-      let decode : cond (is_some (decoded_cells layout box encoded)) None (Some refusal.codec) ≡ Some r = sym (second_refusal (box_refusal layout index) _ (fit_chunk layout index has fit)) ∙ h in
-      elim (decoded_cells layout box encoded) as (λ o. decoded_cells layout box encoded ≡ o → cond (is_some o) None (Some refusal.codec) ≡ Some r → RefusesPart layout keep region held index 0 state r) [
-        | None ↦ λ at is.
-            let same : refusal.codec ≡ r = cc in
-            subst (RefusesPart layout keep region held index 0 state) same (refl, fit, inl (part, record { encoded = encoded; stands = stands; undecoded = at }))
-        | Some found ↦ λ at is. absurd (let clash : None ≡ Some r = is in cc)
-      ] refl decode
+  fill_fails : fill_refusal layout (box_at layout.grid index).shape ≡ Some refusal.size_overflow → (value_at state (layout.key index) ≡ None) ⊎ NeedsLargeFill layout index state → RefusesPart layout keep region held index 0 state refusal.size_overflow
+  fill_fails said (inl absent) = (refl, inr (inl (part, inl (large_fill absent (fill_count layout (box_at layout.grid index).shape said)))))
+  fill_fails said (inr needs) = (refl, inr (inl (part, inr (inl needs))))
 
   -- the chunk cannot be read
   pub read_fails : (r : Refusal) → RefusesChunkRead layout (length_refusal layout index) true index state r → RefusesPart layout keep region held index 0 state r
-  read_fails r h = elim (memory_or_said _ r h) [
-    | inl memory ↦ subst (RefusesPart layout keep region held index 0 state) (sym memory) tt
-    | inr said ↦
-        let after : option_or (key_refusal layout index state) (read_refusal layout true index (value_at state (layout.key index))) ≡ Some r =
-        sym (second_refusal (length_refusal layout index) _ (right_length layout index (box_is_there layout.grid index has).long)) ∙ said in
-        elim (cases_Bool (state.refuses (layout.key index))) [
-          | inl refuses ↦
-              let key = ap (λ b. cond b (Some refusal.storage) None) refuses in
-              let is : Some refusal.storage ≡ Some r = sym (first_refusal (key_refusal layout index state) _ refusal.storage key) ∙ after in
-              let same : refusal.storage ≡ r = cc in
-              subst (RefusesPart layout keep region held index 0 state) same (inl (refl, part, refuses))
-          | inr open_key ↦
-              let bytes = sym (second_refusal (key_refusal layout index state) _ (ap (λ b. cond b (Some refusal.storage) None) open_key)) ∙ after in
-              bytes_fail r (value_at state (layout.key index)) refl bytes
-        ]
-  ]
+  read_fails =
+      unread_why layout index state has fit (RefusesPart layout keep region held index 0 state) tt (λ broken. (refl, fit, inl (part, broken))) fill_fails (λ refuses. inl (refl, part, refuses))

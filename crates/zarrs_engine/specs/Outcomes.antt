@@ -16,8 +16,10 @@ use Rattle.zarrs_steps.specs.Step.{StoresChunks, RefusesStoreChunks, StoresPart,
 use Rattle.zarrs_steps.specs.Reach.{MayAskChunks, MayAskParts}
 use Rattle.zarrs_steps.specs.Refusals.{Refusal, refusal_of, refusal_of_storage, length_refusal}
 use Rattle.zarrs_steps.specs.Changes.{RetrievesChunk, RetrievesIfExists}
+use Rattle.zarrs_steps.specs.Compactions.{CompactsChunk}
 use Rattle.zarrs_steps.specs.StateRefusals.{RefusesChunkRead}
-use Rattle.zarrs_steps.specs.Step.{StoresChunk, RefusesStoreChunk, ErasesChunk, RefusesEraseChunk, StoresRegion, RefusesStoreRegion}
+use Rattle.zarrs_steps.specs.Step.{StoresChunk, RefusesStoreChunk, ErasesChunk, RefusesEraseChunk, RefusesCompactChunk}
+use Rattle.zarrs_steps.specs.Step.{StoresRegion, RefusesStoreRegion}
 use Rattle.zarrs_steps.specs.declared.error.ArrayError.{ArrayError}
 use Rattle.zarrs_engine.specs.Engine.{layout_of, store_of, state_of, KeepsParts}
 use Rattle.zarrs_engine.specs.declared.engine.Engine.{Engine}
@@ -29,29 +31,38 @@ pub record Reads (returns : ArrayData → Type 0) (refuses : Refusal → Type 0)
 
 module _ {S G K C : Type 0} {g : GridMeaning G} {k : KeyMeaning K} {c : ChainMeanings C} where
   -- A writing call was made: its write is done, or refused by this error. Nothing but the store changed.
-  pub record Writes {E : Type 0} (refusal : E → Refusal) (state : S → StoreState) (does : StoreState → StoreState → Type 0) (refuses : Refusal → StoreState → StoreState → Type 0)
+  pub record Writes {E : Type 0} (refusal : E → Refusal) (state : S → StoreState)
+      (does : StoreState → StoreState → Type 0) (refuses : Refusal → StoreState → StoreState → Type 0)
       (old new : Engine S G K C g k c) (result : Result (Unit {0}) E) : Type 0 where
     pub done : OnOk result (does (store_of state old) (store_of state new))
     pub refused : IfErr result (λ e. refuses (refusal e) (store_of state old) (store_of state new))
     pub parts : KeepsParts old new
 
   -- a store of one chunk
-  abbrev pub StoresChunkOrRefuses : (S → StoreState) → Bool → List ℕ → ArrayData → Engine S G K C g k c → Engine S G K C g k c → Result (Unit {0}) ArrayError → Type 0
-  StoresChunkOrRefuses state keep index held old = Writes refusal_of state (StoresChunk (layout_of old) keep index held) (RefusesStoreChunk (layout_of old) keep index held) old
+  abbrev pub StoresChunkOrRefuses : (S → StoreState) → Bool → List ℕ → ArrayData
+      → Engine S G K C g k c → Engine S G K C g k c → Result (Unit {0}) ArrayError → Type 0
+  StoresChunkOrRefuses state keep index held old =
+      Writes refusal_of state (StoresChunk (layout_of old) keep index held) (RefusesStoreChunk (layout_of old) keep index held) old
 
   -- a store over the chunks of a range
-  abbrev pub StoresChunksOrRefuses : (S → StoreState) → Bool → Box → ArrayData → Engine S G K C g k c → Engine S G K C g k c → Result (Unit {0}) ArrayError → Type 0
-  StoresChunksOrRefuses state keep range held old = Writes refusal_of state (StoresChunks (layout_of old) keep range held) (RefusesStoreChunks (layout_of old) keep range held) old
+  abbrev pub StoresChunksOrRefuses : (S → StoreState) → Bool → Box → ArrayData
+      → Engine S G K C g k c → Engine S G K C g k c → Result (Unit {0}) ArrayError → Type 0
+  StoresChunksOrRefuses state keep range held old =
+      Writes refusal_of state (StoresChunks (layout_of old) keep range held) (RefusesStoreChunks (layout_of old) keep range held) old
 
   -- a store over a part of a chunk, and that it may be asked for
-  abbrev pub StoresPartOrRefuses : (S → StoreState) → Bool → List ℕ → Box → ArrayData → Engine S G K C g k c → Engine S G K C g k c → Result (Unit {0}) ArrayError → Type 0
-  StoresPartOrRefuses state keep index part held old = Writes refusal_of state (StoresPart (layout_of old) keep index part held) (RefusesStorePart (layout_of old) keep index part held) old
+  abbrev pub StoresPartOrRefuses : (S → StoreState) → Bool → List ℕ → Box → ArrayData
+      → Engine S G K C g k c → Engine S G K C g k c → Result (Unit {0}) ArrayError → Type 0
+  StoresPartOrRefuses state keep index part held old =
+      Writes refusal_of state (StoresPart (layout_of old) keep index part held) (RefusesStorePart (layout_of old) keep index part held) old
 
   abbrev pub MayStorePart : (S → StoreState) → List ℕ → Box → Engine S G K C g k c → Type 0
-  MayStorePart state index part engine = MayAskParts (layout_of engine) (part_box (box_at (layout_of engine).grid index) part) (index ∷ []) (store_of state engine)
+  MayStorePart state index part engine =
+      MayAskParts (layout_of engine) (part_box (box_at (layout_of engine).grid index) part) (index ∷ []) (store_of state engine)
 
   -- a store over a region, and that it may be asked for
-  abbrev pub StoresRegionOrRefuses : (S → StoreState) → Bool → Box → ArrayData → Engine S G K C g k c → Engine S G K C g k c → Result (Unit {0}) ArrayError → Type 0
+  abbrev pub StoresRegionOrRefuses : (S → StoreState) → Bool → Box → ArrayData
+      → Engine S G K C g k c → Engine S G K C g k c → Result (Unit {0}) ArrayError → Type 0
   StoresRegionOrRefuses state keep region held old =
       let shape = (state_of state old).shape in
       Writes refusal_of state (StoresRegion (layout_of old) keep shape region held) (RefusesStoreRegion (layout_of old) keep shape region held) old
@@ -67,16 +78,27 @@ module _ {S G K C : Type 0} {g : GridMeaning G} {k : KeyMeaning K} {c : ChainMea
   abbrev pub ErasesChunksOrRefuses : (S → StoreState) → Box → Engine S G K C g k c → Engine S G K C g k c → Result (Unit {0}) StorageError → Type 0
   ErasesChunksOrRefuses state range old = Writes refusal_of_storage state (ErasesChunks (layout_of old) range) (RefusesEraseChunks (layout_of old) range) old
 
+  -- a compaction of one chunk: it answers whether it wrote, or is refused, as it is where the store refuses the key
+  pub record CompactsChunkOrRefuses (state : S → StoreState) (index : List ℕ) (old new : Engine S G K C g k c) (result : Result Bool ArrayError) : Type 0 where
+    pub done : IfOk result (λ answer. CompactsChunk (layout_of old) index answer (store_of state old) (store_of state new))
+    pub refused : IfErr result (λ e. RefusesCompactChunk (layout_of old) index (refusal_of e) (store_of state old) (store_of state new))
+    pub refusing : (store_of state old).refuses ((layout_of old).key index) ≡ true → IsErr result
+    pub parts : KeepsParts old new
+
   -- a read of one chunk: its cells are returned, or the read is refused, as it is where the store refuses the key
-  pub record RetrievesChunkOrRefuses (state : S → StoreState) (index : List ℕ) (engine : Engine S G K C g k c) (result : Result ArrayBytes ArrayError) : Type 0 where
+  pub record RetrievesChunkOrRefuses (state : S → StoreState) (index : List ℕ)
+      (engine : Engine S G K C g k c) (result : Result ArrayBytes ArrayError) : Type 0 where
     pub cells : IfOk result (λ made. RetrievesChunk (layout_of engine) index (data_of made) (store_of state engine))
-    pub refused : IfErr result (λ e. RefusesChunkRead (layout_of engine) (length_refusal (layout_of engine) index) true index (store_of state engine) (refusal_of e))
+    pub refused : IfErr result (λ e.
+        RefusesChunkRead (layout_of engine) (length_refusal (layout_of engine) index) true index (store_of state engine) (refusal_of e))
     pub refusing : (store_of state engine).refuses ((layout_of engine).key index) ≡ true → IsErr result
 
   -- the same, if the chunk is present
-  pub record RetrievesIfExistsOrRefuses (state : S → StoreState) (index : List ℕ) (engine : Engine S G K C g k c) (result : Result (Option ArrayBytes) ArrayError) : Type 0 where
+  pub record RetrievesIfExistsOrRefuses (state : S → StoreState) (index : List ℕ)
+      (engine : Engine S G K C g k c) (result : Result (Option ArrayBytes) ArrayError) : Type 0 where
     pub cells : IfOk result (λ found. RetrievesIfExists (layout_of engine) index (option_map data_of found) (store_of state engine))
-    pub refused : IfErr result (λ e. RefusesChunkRead (layout_of engine) (length_refusal (layout_of engine) index) false index (store_of state engine) (refusal_of e))
+    pub refused : IfErr result (λ e.
+        RefusesChunkRead (layout_of engine) (length_refusal (layout_of engine) index) false index (store_of state engine) (refusal_of e))
     pub refusing : (store_of state engine).refuses ((layout_of engine).key index) ≡ true → IsErr result
 
   -- of the chunks of a range, and that it may be asked for

@@ -30,7 +30,8 @@ TargetReadsAgree =
 -- a region that is read, and a part of a chunk that is decoded, have the same cells where they have the same positions
 abbrev pub DecodedPartsAgree : Type 0
 DecodedPartsAgree =
-    (layout : Layout) → IsLawful layout → (shape : List ℕ) (region : Box) (held : ArrayData) (index : List ℕ) (part : Box) (cut : ArrayData) (state : StoreState)
+    (layout : Layout) → IsLawful layout → (shape : List ℕ) (region : Box) (held : ArrayData)
+    (index : List ℕ) (part : Box) (cut : ArrayData) (state : StoreState)
     → RetrievesRegion layout shape region held state → RetrievesPart layout index part cut state
     → (given : List Cell) × (found : List Cell) × (cells layout.kind held ≡ Some given) × (cells layout.kind cut ≡ Some found)
     × ((position : List ℕ) → Holds region position → Holds (region_of_part layout index part) position → DecodesAt layout state position

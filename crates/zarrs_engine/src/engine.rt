@@ -1,5 +1,6 @@
 //! An engine: a store, and the parts that say what its values mean.
 mod calls;
+mod compactions;
 mod encoded;
 mod into;
 mod part_reads;

@@ -1,5 +1,5 @@
 -- Calls of one chunk, from what their parts ensure.
-use Rattle.std.proofs.Common.{◌≡◌, ◌≢◌, ℕ, Bool, true, false, not, cond, List, length, Option, Some, None, is_some}
+use Rattle.std.proofs.Common.{◌≡◌, ◌≢◌, ◌⊎◌, ◌*◌, ◌^◌, ℕ, Bool, true, false, not, cond, nat_le, List, length, Option, Some, None, is_some}
 use Rattle.std.proofs.Common.{replicate, ◌==◌, eq-eqb, IfOk, OnOk, Result, Ok, Err, refl, sym, ◌∙◌, ap, subst, inl, inr}
 use Rattle.std.specs.Option.{option_or}
 use Rattle.std.proofs.lemmas.Bool.{cases_Bool}
@@ -14,9 +14,9 @@ use Rattle.zarrs_storage.specs.declared.error.StorageError.TheVariants as stored
 use Rattle.zarrs_codec_leaf.specs.declared.error.CodecError.{CodecError}
 use Rattle.zarrs_codec_leaf.specs.declared.error.CodecError.TheVariants as coded
 use Rattle.zarrs_chain.specs.Chain.{ChainMeaning, IsLawfulChain, chunk_encoding}
-use Rattle.zarrs_chain.specs.Refusals.{RefusesChunkEncoding, RefusesChunkDecoding}
+use Rattle.zarrs_chain.specs.Refusals.{RefusesChunkEncoding}
 use Rattle.zarrs_data_type.specs.Kind.{Kind}
-use Rattle.zarrs_data_type.specs.Cell.{Cell}
+use Rattle.zarrs_data_type.specs.Cell.{Cell, held_size}
 use Rattle.zarrs_data_type.specs.ArrayData.{ArrayData}
 use Rattle.zarrs_data_type.specs.Cells.{cells, HasCells}
 use Rattle.zarrs_data_type.proofs.Cells.{HasCells-some}
@@ -27,12 +27,13 @@ use Rattle.zarrs_steps.specs.Errors.{error_of_storage, error_of_codec}
 use Rattle.zarrs_steps.specs.Refusals as refusal
 use Rattle.zarrs_steps.specs.Refusals.{Refusal, refusal_of, refusal_of_storage, length_refusal, box_refusal}
 use Rattle.zarrs_steps.specs.Refusals.{is_left_out, encoded_cells, encode_refusal, data_refusal, key_refusal}
-use Rattle.zarrs_steps.specs.Refusals.{read_refusal, RefusesBy}
+use Rattle.zarrs_steps.specs.Refusals.{fill_refusal, is_too_large, read_refusal, RefusesBy, refuse_if}
 use Rattle.zarrs_steps.specs.Changes.{RetrievesChunk, RetrievesIfExists}
-use Rattle.zarrs_steps.specs.StateRefusals.{RefusesChunkRead}
-use Rattle.zarrs_layout.specs.Parts.{RefusesIndices, RefusesValue}
+use Rattle.zarrs_steps.specs.Reads.{IsBroken}
+use Rattle.zarrs_steps.specs.StateRefusals.{NeedsLargeFill, RefusesChunkRead}
+use Rattle.zarrs_layout.specs.Parts.{RefusesBytes, RefusesIndices, RefusesValue}
 use Rattle.zarrs_steps.proofs.Contents.{reads_decoded, reads_absent}
-use Rattle.zarrs_steps.proofs.RefusalLemmas.{refusal_moved, first_refusal, refused_first, second_refusal, box_accepted}
+use Rattle.zarrs_steps.proofs.RefusalLemmas.{refusal_moved, first_refusal, refused_first, second_refusal, box_accepted, fit_chunk, memory_or_said}
 
 -- what holds of each answer, by a fact that goes with any
 pub both_ok : {T E : Type 0} (r : Result T E) (P R : T → Type 0) (Q : Type 0) → ((x : T) → Q → P x → R x) → OnOk r Q → IfOk r P → IfOk r R
@@ -110,18 +111,6 @@ encode_refused layout lawful keep shape held cs coded.SizeOverflow at long h =
     ∙ ap (λ b. cond b (Some refusal.size_overflow) (Some refusal.codec)) h.0
 encode_refused layout lawful keep shape held cs coded.OutOfMemory at long h = tt
 
--- what bytes that are present are refused for
-pub value_accepted : (layout : Layout) (needed : Bool) (index encoded : List ℕ) (cs : List Cell) → box_refusal layout index ≡ None → decoded_cells layout (box_at layout.grid index) encoded ≡ Some cs → read_refusal layout needed index (Some encoded) ≡ None
-value_accepted layout needed index encoded cs none at =
-    second_refusal (box_refusal layout index) _ none ∙ ap (λ o. cond (is_some o) None (Some refusal.codec)) at
-
-pub decode_refused : (layout : Layout) (needed : Bool) (index encoded : List ℕ) (e : CodecError) → box_refusal layout index ≡ None
-    → RefusesChunkDecoding layout.chain layout.kind layout.fill (box_at layout.grid index).shape encoded e → RefusesBy (read_refusal layout needed index (Some encoded)) (refusal_of (error_of_codec e))
-decode_refused layout needed index encoded coded.DoesNotFit none undecoded =
-    second_refusal (box_refusal layout index) _ none ∙ ap (λ o. cond (is_some o) None (Some refusal.codec)) undecoded
-decode_refused layout needed index encoded coded.SizeOverflow none h = absurd h
-decode_refused layout needed index encoded coded.OutOfMemory none h = tt
-
 -- the first of two refusals is the first of three
 refusal_more : (a b c : Option Refusal) (x : Refusal) → option_or a b ≡ Some x → option_or a (option_or b c) ≡ Some x
 refusal_more None b c x h = first_refusal b c x h
@@ -161,15 +150,72 @@ value_refused_store layout index key state e long is (inr refuses) =
 pub read_refused_first : (layout : Layout) (needed : Bool) (index : List ℕ) (state : StoreState) (r : Refusal) → RefusesValue layout index state r → RefusesChunkRead layout (length_refusal layout index) needed index state r
 read_refused_first layout needed index state r h =
     let more = refusal_more (length_refusal layout index) (key_refusal layout index state) (read_refusal layout needed index (value_at state (layout.key index))) in
-    refusal_moved (option_or (length_refusal layout index) (key_refusal layout index state)) _ r more h
+    inl (refusal_moved (option_or (length_refusal layout index) (key_refusal layout index state)) _ r more h)
 
 -- and after
 pub read_refused_then : (layout : Layout) (needed : Bool) (index : List ℕ) (found : Option (List ℕ)) (state : StoreState) (r : Refusal) → length index ≡ layout.grid.dimensions → key_refusal layout index state ≡ None → found ≡ value_at state (layout.key index)
     → RefusesBy (read_refusal layout needed index found) r → RefusesChunkRead layout (length_refusal layout index) needed index state r
 read_refused_then layout needed index found state r long open_key at h =
-    refusal_moved (read_refusal layout needed index (value_at state (layout.key index))) _ r
+    inl (refusal_moved (read_refusal layout needed index (value_at state (layout.key index))) _ r
     (λ x is. second_refusal (length_refusal layout index) _ (right_length layout index long) ∙ second_refusal (key_refusal layout index state) _ open_key ∙ is)
-    (subst (λ (o : Option (List ℕ)). RefusesBy (read_refusal layout needed index o) r) at h)
+    (subst (λ (o : Option (List ℕ)). RefusesBy (read_refusal layout needed index o) r) at h))
+
+-- its bytes do not decode, or leave out cells
+pub bytes_refused_then : (layout : Layout) (needed : Bool) (index encoded : List ℕ) (state : StoreState) (r : Refusal) → length index ≡ layout.grid.dimensions → key_refusal layout index state ≡ None → Some encoded ≡ value_at state (layout.key index)
+    → RefusesBytes layout index encoded r → RefusesChunkRead layout (length_refusal layout index) needed index state r
+bytes_refused_then layout needed index encoded state r long open_key at (inl h) = read_refused_then layout needed index (Some encoded) state r long open_key at h
+bytes_refused_then layout needed index encoded state r long open_key at (inr (is, lack)) = inr (
+  is,
+  second_refusal (length_refusal layout index) _ (right_length layout index long) ∙ second_refusal (key_refusal layout index state) _ open_key ∙ lack.boxed,
+  record { encoded = encoded; stands = sym at; left_out = lack.left_out; large = lack.large },
+)
+
+-- Why a chunk that has a box of a size is not read: its bytes do not decode, a chunk of fill is needed and too large, or the
+-- store refuses its key.
+module _ (layout : Layout) (index : List ℕ) (state : StoreState) (has : has_box layout.grid index ≡ true) (fit : is_too_large layout (box_at layout.grid index).shape ≡ false)
+    (P : Refusal → Type 0) (memory : P refusal.out_of_memory) (broken : IsBroken layout index state → P refusal.codec)
+    (large : fill_refusal layout (box_at layout.grid index).shape ≡ Some refusal.size_overflow → (value_at state (layout.key index) ≡ None) ⊎ NeedsLargeFill layout index state → P refusal.size_overflow)
+    (refuses : state.refuses (layout.key index) ≡ true → P refusal.storage) where
+  bytes_why : (r : Refusal) (value : Option (List ℕ)) → value_at state (layout.key index) ≡ value → read_refusal layout true index value ≡ Some r → P r
+  bytes_why r None absent h =
+      let shape = (box_at layout.grid index).shape in
+      let size : fill_refusal layout shape ≡ Some r = sym (second_refusal (box_refusal layout index) _ (fit_chunk layout index has fit)) ∙ h in
+      elim (cases_Bool (nat_le (2 ^ 64) (position_count shape * held_size layout.kind layout.fill))) [
+        | inl much ↦
+            let said : fill_refusal layout shape ≡ Some refusal.size_overflow = ap (λ b. refuse_if b refusal.size_overflow) much in
+            let is : Some refusal.size_overflow ≡ Some r = sym said ∙ size in
+            let same : refusal.size_overflow ≡ r = cc in
+            subst P same (large said (inl absent))
+        | inr small ↦ absurd (let clash : None ≡ Some r = sym (ap (λ b. refuse_if b refusal.size_overflow) small) ∙ size in cc)
+      ]
+  bytes_why r (Some encoded) stands h =
+      let box = box_at layout.grid index in
+      let decode : cond (is_some (decoded_cells layout box encoded)) None (Some refusal.codec) ≡ Some r = sym (second_refusal (box_refusal layout index) _ (fit_chunk layout index has fit)) ∙ h in
+      elim (decoded_cells layout box encoded) as (λ o. decoded_cells layout box encoded ≡ o → cond (is_some o) None (Some refusal.codec) ≡ Some r → P r) [
+        | None ↦ λ at is.
+            let same : refusal.codec ≡ r = cc in
+            subst P same (broken (record { encoded = encoded; stands = stands; undecoded = at }))
+        | Some found ↦ λ at is. absurd (let clash : None ≡ Some r = is in cc)
+      ] refl decode
+
+  said_why : (r : Refusal) → option_or (length_refusal layout index) (option_or (key_refusal layout index state) (read_refusal layout true index (value_at state (layout.key index)))) ≡ Some r → P r
+  said_why r said =
+      let after : option_or (key_refusal layout index state) (read_refusal layout true index (value_at state (layout.key index))) ≡ Some r =
+      sym (second_refusal (length_refusal layout index) _ (right_length layout index (box_is_there layout.grid index has).long)) ∙ said in
+      elim (cases_Bool (state.refuses (layout.key index))) [
+        | inl refused ↦
+            let key = ap (λ b. cond b (Some refusal.storage) None) refused in
+            let is : Some refusal.storage ≡ Some r = sym (first_refusal (key_refusal layout index state) _ refusal.storage key) ∙ after in
+            let same : refusal.storage ≡ r = cc in
+            subst P same (refuses refused)
+        | inr open_key ↦
+            let bytes = sym (second_refusal (key_refusal layout index state) _ (ap (λ b. cond b (Some refusal.storage) None) open_key)) ∙ after in
+            bytes_why r (value_at state (layout.key index)) refl bytes
+      ]
+
+  pub unread_why : (r : Refusal) → RefusesChunkRead layout (length_refusal layout index) true index state r → P r
+  unread_why r (inl h) = elim (memory_or_said _ r h) [ inl out ↦ subst P (sym out) memory | inr said ↦ said_why r said ]
+  unread_why r (inr (is, none, needs)) = subst P (sym is) (large needs.large (inr needs))
 
 first_none : (a b : Option Refusal) → option_or a b ≡ None → a ≡ None
 first_none None b h = refl

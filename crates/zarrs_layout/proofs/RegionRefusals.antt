@@ -17,14 +17,15 @@ use Rattle.zarrs_steps.specs.ArgumentRefusals.{read_size_refusal, region_refusal
 use Rattle.zarrs_steps.specs.Reads.{ReadsRegion}
 use Rattle.zarrs_steps.specs.Refusals as refusal
 use Rattle.std.specs.Option.{option_or}
-use Rattle.zarrs_steps.specs.Refusals.{Refusal, RefusesBy, refuse_if, box_refusal, key_refusal, length_refusal, read_refusal}
-use Rattle.zarrs_steps.specs.StateRefusals.{RefusesRegionRead, RefusesSomeChunk}
+use Rattle.zarrs_steps.specs.Refusals.{Refusal, RefusesBy, refuse_if, box_refusal, key_refusal, length_refusal}
+use Rattle.zarrs_steps.specs.StateRefusals.{NeedsLargeFill, RefusesRegionRead, RefusesSomeChunk}
 use Rattle.zarrs_steps.specs.Step.{RetrievesRegion, RefusesRetrieveRegion}
 use Rattle.zarrs_steps.proofs.Contents.{member, only_member}
 use Rattle.zarrs_steps.proofs.Covers.{covered_box, last_covers}
 use Rattle.zarrs_steps.proofs.RefusalLemmas.{memory_or_said, refused_first, refused_second, second_refusal, fit_chunk, large_chunk}
 use Rattle.zarrs_steps.specs.Refusals.{is_too_large}
 use Rattle.zarrs_layout.specs.Covers.{CoverRegion}
+use Rattle.zarrs_layout.specs.Parts.{RefusesBytes}
 use Rattle.zarrs_layout.proofs.Chunks.{right_length}
 
 -- ---- causes among the chunks
@@ -38,8 +39,9 @@ pub some_wider : (layout : Layout) (region : Box) (chunks : List (List ℕ)) (in
 some_wider layout region chunks index state among refusal.storage (i, only, why) = (i, subst (Contains chunks) (sym (only_member index i only)) among, why)
 some_wider layout region chunks index state among refusal.codec (i, only, why) = (i, subst (Contains chunks) (sym (only_member index i only)) among, why)
 some_wider layout region chunks index state among refusal.size_overflow (inl (i, only, large, there)) = inl (i, subst (Contains chunks) (sym (only_member index i only)) among, large, there)
-some_wider layout region chunks index state among refusal.size_overflow (inr (inl (i, only, large, there))) = inr (inl (i, subst (Contains chunks) (sym (only_member index i only)) among, large, there))
-some_wider layout region chunks index state among refusal.size_overflow (inr (inr why)) = inr (inr why)
+some_wider layout region chunks index state among refusal.size_overflow (inr (inl (i, only, needs))) = inr (inl (i, subst (Contains chunks) (sym (only_member index i only)) among, needs))
+some_wider layout region chunks index state among refusal.size_overflow (inr (inr (inl (i, only, large, there)))) = inr (inr (inl (i, subst (Contains chunks) (sym (only_member index i only)) among, large, there)))
+some_wider layout region chunks index state among refusal.size_overflow (inr (inr (inr why))) = inr (inr (inr why))
 some_wider layout region chunks index state among refusal.out_of_memory why = tt
 some_wider layout region chunks index state among _ why = absurd why
 
@@ -72,9 +74,12 @@ module _ (layout : Layout) (region : Box) (index : List ℕ) (state : StoreState
     ]
   ]
 
-  -- a chunk that is present does not decode
-  pub some_broken : (encoded : List ℕ) → value_at state (layout.key index) ≡ Some encoded → box_refusal layout index ≡ None → (r : Refusal) → RefusesBy (read_refusal layout true index (Some encoded)) r → RefusesSomeChunk layout region (index ∷ []) state r
-  some_broken encoded stands boxed r h = elim (memory_or_said _ r h) [
+  -- a chunk that is present does not decode, or leaves out cells
+  pub some_broken : (encoded : List ℕ) → value_at state (layout.key index) ≡ Some encoded → box_refusal layout index ≡ None → (r : Refusal) → RefusesBytes layout index encoded r → RefusesSomeChunk layout region (index ∷ []) state r
+  some_broken encoded stands boxed r (inr (is, lack)) =
+      let needs : NeedsLargeFill layout index state = record { encoded = encoded; stands = stands; left_out = lack.left_out; large = lack.large } in
+      subst (RefusesSomeChunk layout region (index ∷ []) state) (sym is) (inr (inl (index, member index, needs)))
+  some_broken encoded stands boxed r (inl h) = elim (memory_or_said _ r h) [
     | inl memory ↦ some_memory layout region (index ∷ []) state r memory
     | inr said ↦
         let decode : cond (is_some (decoded_cells layout (box_at layout.grid index) encoded)) None (Some refusal.codec) ≡ Some r = sym (second_refusal (box_refusal layout index) _ boxed) ∙ said in

@@ -33,5 +33,7 @@ pub record IsCutWalk (grid : Grid) (old new : List ℕ) (walk : CutWalk) : Type 
   pub dimensions : length (walk_box walk).shape ≡ grid.dimensions
   -- it leaves out no chunk that is cut, and comes to no other chunk
   pub left_out : (index : List ℕ) → is_below (walk_whole walk) index ≡ true → is_cut grid new index ≡ false
-  pub cut : (index : List ℕ) → is_below (grid.counts old) index ≡ true → has_box grid index ≡ true → is_below (walk_whole walk) index ≡ false → is_cut grid new index ≡ true
+  pub cut : (index : List ℕ)
+      → is_below (grid.counts old) index ≡ true → has_box grid index ≡ true → is_below (walk_whole walk) index ≡ false
+      → is_cut grid new index ≡ true
   pub first : PassesBelow (grid.counts old) (walk_whole walk) 0 (walk_number walk)

@@ -1,15 +1,17 @@
 -- What the steps inside a call leave.
-use Rattle.std.specs.Prelude.{◌≡◌, ◌≢◌, ℕ, ◌+◌, ◌<◌, ◌≤◌, Bool, List, length, Option, Some}
+use Rattle.std.specs.Prelude.{◌≡◌, ◌≢◌, ◌⊎◌, ℕ, ◌+◌, ◌<◌, ◌≤◌, Bool, true, List, length, Option, Some, None}
 use Rattle.std.specs.Option.{option_or}
 use Rattle.zarrs_subset.specs.Boxes.{position_count}
 use Rattle.zarrs_subset.specs.Regions.{Box}
+use Rattle.zarrs_chunk_grid.specs.Grids.{box_at}
 use Rattle.zarrs_storage.specs.Store.{StoreState, last_call}
 use Rattle.zarrs_data_type.specs.Cell.{Cell}
 use Rattle.zarrs_data_type.specs.ArrayData.{ArrayData}
 use Rattle.zarrs_data_type.specs.Cells.{cells}
 use Rattle.zarrs_steps.specs.declared.error.ArrayError.{ArrayError}
 use Rattle.zarrs_steps.specs.Layout.{Layout}
-use Rattle.zarrs_steps.specs.Refusals.{Refusal, indices, refusal_of, RefusesBy, length_refusal, key_refusal}
+use Rattle.zarrs_steps.specs.Refusals.{Refusal, indices, size_overflow, refusal_of, RefusesBy, length_refusal, key_refusal}
+use Rattle.zarrs_steps.specs.Refusals.{box_refusal, fill_refusal, read_refusal}
 use Rattle.zarrs_steps.specs.Changes.{IsValueOf, Makes}
 use Rattle.zarrs_steps.specs.StateRefusals.{RefusesErasure}
 
@@ -20,6 +22,17 @@ RefusesIndices index e = RefusesBy (Some (indices index)) (refusal_of e)
 -- the bytes of a chunk are not returned: an index list of another length, or a key that the store refuses to read
 abbrev pub RefusesValue : Layout → List ℕ → StoreState → Refusal → Type 0
 RefusesValue layout index state = RefusesBy (option_or (length_refusal layout index) (key_refusal layout index state))
+
+-- the chunk has a box, its bytes leave out cells, and a chunk of fill is too large
+pub record LeaveOutCells (layout : Layout) (index encoded : List ℕ) : Type 0 where
+  pub boxed : box_refusal layout index ≡ None
+  pub left_out : layout.chain.leaves_out (box_at layout.grid index).shape encoded ≡ true
+  pub large : fill_refusal layout (box_at layout.grid index).shape ≡ Some size_overflow
+
+-- the bytes of a chunk are not decoded: as a read of them is refused, or they leave out cells
+abbrev pub RefusesBytes : Layout → (index encoded : List ℕ) → Refusal → Type 0
+RefusesBytes layout index encoded r =
+    RefusesBy (read_refusal layout true index (Some encoded)) r ⊎ ((r ≡ size_overflow) × LeaveOutCells layout index encoded)
 
 -- the data is the cells of a chunk of this box, and this is what is to be present at its key
 pub record HasValue (layout : Layout) (keep : Bool) (box : Box) (held : ArrayData) (value : Option (List ℕ)) : Type 0 where

@@ -20,9 +20,9 @@ use zarrs_subset::{ArrayIndices, ArrayShape};
 #[derive(Debug, Drop)]
 pub struct CutWalk {
     shape: ArrayShape,
-    // The positions below this shape are left out.
+    /// The positions below this shape are left out.
     whole: ArrayShape,
-    // The last dimension along which the array reaches past it.
+    /// The last dimension along which the array reaches past it.
     axis: usize,
     current: ArrayIndices,
     ghost inside: { is_below shape.items current.items ≡ true },
@@ -37,7 +37,7 @@ impl CutWalk {
     ghost use Rattle.zarrs_subset.specs.Regions.{positions};
     ghost use Rattle.zarrs_layout.specs.CutWalks.{IsFirst, walk_box, walk_number, walk_whole};
 
-    // A walk at the first position of an array of `shape` that is not below `whole`, if there is one.
+    /// A walk at the first position of an array of `shape` that is not below `whole`, if there is one.
     fn new(
         alloc: Global,
         shape: ArrayShape,
@@ -88,14 +88,14 @@ impl CutWalk {
     }
 }
 
-// Whether some extent is 0.
+/// Whether some extent is 0.
 fn has_zero(extents: &[u64]) -> bool
     ensures { IsTrue result ↔ SomeIndex extents.now (λ k. slice_index extents.now k ≡ 0) }
 {
     extents.iter().any(|extent| *extent == 0)
 }
 
-// The last dimension along which the array of `shape` reaches past `whole`.
+/// The last dimension along which the array of `shape` reaches past `whole`.
 fn last_axis(shape: &[u64], whole: &[u64]) -> Option<usize>
     requires { length whole.now ≡ length shape.now }
     ensures some { IfSome result
@@ -114,7 +114,7 @@ fn last_axis(shape: &[u64], whole: &[u64]) -> Option<usize>
     None
 }
 
-// Whether the position is below the shape.
+/// Whether the position is below the shape.
 fn lies_below(position: &[u64], shape: &[u64]) -> bool
     requires { length shape.now ≡ length position.now }
     ensures { result ≡ is_below shape.now position.now }
@@ -127,7 +127,7 @@ fn lies_below(position: &[u64], shape: &[u64]) -> bool
     true
 }
 
-// Goes to the next position of an array of this shape. From the last one it goes back to the first, and returns `false`.
+/// Goes to the next position of an array of this shape. From the last one it goes back to the first, and returns `false`.
 fn step(position: &mut [u64], shape: &[u64]) -> bool
     requires { is_below shape.now position.old ≡ true }
     ensures inside { is_below shape.now position.new ≡ true }
@@ -148,7 +148,7 @@ fn step(position: &mut [u64], shape: &[u64]) -> bool
     false
 }
 
-// From a position below `whole` goes to the next one that is not: the first one with index `whole[axis]` along `axis`.
+/// From a position below `whole` goes to the next one that is not: the first one with index `whole[axis]` along `axis`.
 fn skip(position: &mut [u64], shape: &[u64], whole: &[u64], axis: usize)
     requires inside { is_below shape.now position.old ≡ true }
     requires same_length { length whole.now ≡ length shape.now }
@@ -169,8 +169,8 @@ fn skip(position: &mut [u64], shape: &[u64], whole: &[u64], axis: usize)
     position[axis] = whole[axis];
 }
 
-// Goes to the next position of an array of `shape` that is not below `whole`. From the last one it goes back to the
-// first, and returns `false`.
+/// Goes to the next position of an array of `shape` that is not below `whole`. From the last one it goes back to the
+/// first, and returns `false`.
 fn advance(position: &mut [u64], shape: &[u64], whole: &[u64], axis: usize) -> bool
     requires inside { is_below shape.now position.old ≡ true }
     requires same_length { length whole.now ≡ length shape.now }
@@ -196,8 +196,8 @@ impl<G: ChunkGridTraits, K: ChunkKeyEncodingTraits, C: ChainTraits> Parts<G, K, 
     ghost use Rattle.zarrs_layout.specs.CutWalks.{HasNoCut, IsCutWalk};
     ghost use Rattle.zarrs_layout.specs.WholeChunks.{AreWhole};
 
-    // How many chunks lie below the shape along each dimension, from the first one on. Where no chunk ends past the
-    // shape, all chunks of the array do.
+    /// How many chunks lie below the shape along each dimension, from the first one on. Where no chunk ends past the
+    /// shape, all chunks of the array do.
     fn whole_chunks(&self, alloc: Global, shape: &[u64]) -> Result<ArrayShape, AllocError>
         requires { length shape.now ≡ (G.grid self.now.grid).dimensions }
         ensures { IfOk result (λ whole. AreWhole (G.grid self.now.grid)

@@ -2,6 +2,7 @@
 #![tactic(auto)]
 
 mod chunk_parts;
+mod compactions;
 mod cut_walk;
 mod parts;
 mod regions;

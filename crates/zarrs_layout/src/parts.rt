@@ -62,7 +62,7 @@ impl<G: ChunkGridTraits, K: ChunkKeyEncodingTraits, C: ChainTraits> Parts<G, K, 
     ghost use Rattle.zarrs_steps.specs.Refusals.{RefusesBy, refusal_of, is_too_large};
     ghost use Rattle.zarrs_steps.specs.Refusals.{box_refusal, data_refusal, read_refusal};
     ghost use Rattle.zarrs_steps.specs.Refusals.{is_left_out};
-    ghost use Rattle.zarrs_layout.specs.Parts.{HasValue};
+    ghost use Rattle.zarrs_layout.specs.Parts.{HasValue, RefusesBytes};
 
     /// The key of the chunk with these indices.
     ///
@@ -226,7 +226,9 @@ impl<G: ChunkGridTraits, K: ChunkKeyEncodingTraits, C: ChainTraits> Parts<G, K, 
     /// The cells of the bytes of the chunk with these indices. They may be lent by these bytes.
     ///
     /// # Errors
-    /// In this order: those of `chunk`; E4 if the bytes do not decode. E9 may come at any time.
+    /// In this order: those of `chunk`; E4 if the bytes do not decode, E8 if they leave out cells and as many fill values
+    /// as the chunk has cells have more bytes than a `usize` counts; which comes if both hold is open. E9 may come at any
+    /// time.
     pub fn decode<'a>(
         &self,
         alloc: Global,
@@ -240,8 +242,8 @@ impl<G: ChunkGridTraits, K: ChunkKeyEncodingTraits, C: ChainTraits> Parts<G, K, 
             (read_refusal (layout_of_parts self.now) true chunk_indices.now (Some encoded.now)
             ≡ None) }
         ensures refused { IfErr result
-            (λ e. RefusesBy (read_refusal (layout_of_parts self.now) true chunk_indices.now
-            (Some encoded.now)) (refusal_of e)) }
+            (λ e. RefusesBytes (layout_of_parts self.now) chunk_indices.now encoded.now
+            (refusal_of e)) }
     {
         let chunk = self.chunk(alloc, chunk_indices)?;
         let shape = chunk.region.shape();

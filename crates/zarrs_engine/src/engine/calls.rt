@@ -90,10 +90,10 @@ impl<
     ghost use Rattle.std.specs.Prelude.{◌≡◌, [], ◌∷◌, Bool, List, ℕ};
     ghost use Rattle.zarrs_subset.specs.Regions.{box_of, positions};
     ghost use Rattle.zarrs_chain.specs.Options.{stores_empty_chunks};
-    ghost use Rattle.zarrs_steps.specs.Acts.{erase, resize, shape_after};
+    ghost use Rattle.zarrs_steps.specs.Acts.{compact, erase, resize, shape_after};
     ghost use Rattle.zarrs_steps.specs.ArgumentRefusals.{resize_refusal};
     ghost use Rattle.zarrs_steps.specs.Cuts.{cut_chunks};
-    ghost use Rattle.zarrs_steps.specs.Reach.{MayAskCall, MayAskKept};
+    ghost use Rattle.zarrs_steps.specs.Reach.{MayAskCall, MayAskChunk, MayAskKept};
     ghost use Rattle.zarrs_steps.specs.Refusals.{length_refusal};
     ghost use Rattle.zarrs_steps.specs.Step.{ActStep, Step};
     ghost use Rattle.zarrs_engine.specs.Engine.{layout_of, state_of, store_of, KeepsOthers};
@@ -122,6 +122,7 @@ impl<
             }
             Call::EraseChunk(chunk_indices) => self.answer_erase_chunk(alloc, chunk_indices),
             Call::EraseChunks(chunks) => self.answer_erase_chunks(alloc, chunks),
+            Call::CompactChunk(chunk_indices) => self.answer_compact_chunk(alloc, chunk_indices),
             Call::RetrieveChunkIfExists(chunk_indices) => {
                 match self.retrieve_chunk_if_exists(alloc, chunk_indices) {
                     Ok(found) => Reply::MaybeCells(found),
@@ -190,6 +191,23 @@ impl<
         match self.erase_chunks(alloc, chunks) {
             Ok(()) => Reply::Done,
             Err(error) => Reply::Refused(error.into()),
+        }
+    }
+
+    /// The reply to a compaction of one chunk.
+    fn answer_compact_chunk(&mut self, alloc: Global, chunk_indices: &[u64]) -> Reply
+        requires { MayAskChunk (layout_of self.old) chunk_indices.now (store_of S.state self.old) }
+        ensures step { (keep : Bool) (shape : List ℕ) → ActStep (layout_of self.old) keep shape
+            (length_refusal (layout_of self.old) chunk_indices.now) (compact chunk_indices.now)
+            result (store_of S.state self.old) (store_of S.state self.new) }
+        ensures parts { KeepsParts self.old self.new }
+    {
+        if chunk_indices.len() != self.parts.grid.dimensionality() {
+            return Reply::Refused(invalid_indices(alloc, chunk_indices));
+        }
+        match self.compact_chunk(alloc, chunk_indices) {
+            Ok(answer) => Reply::Compacted(answer),
+            Err(error) => Reply::Refused(error),
         }
     }
 }

@@ -47,8 +47,8 @@ impl<
     /// In this order: E3 for another number of indices than dimensions, or without a chunk; E2 for a part of another
     /// number of dimensions, or that passes the chunk. Then for the whole chunk the errors of `retrieve_chunk`; for
     /// another part E8 for more cells, or as many fill values, than a `usize` counts bytes, and then one of these: E7
-    /// if the store refuses the key, E8 for a chunk of more bytes than a `usize` counts, E4 if its bytes do not decode.
-    /// E9 may come at any time.
+    /// if the store refuses the key, E8 for a chunk of more bytes than a `usize` counts, or for such a chunk of fill if
+    /// its bytes leave out cells, E4 if its bytes do not decode. E9 may come at any time.
     pub fn retrieve_chunk_subset(
         &self,
         alloc: Global,

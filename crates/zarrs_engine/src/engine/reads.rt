@@ -59,7 +59,7 @@ impl<
     /// # Errors
     /// In this order: E3 for another number of indices than dimensions; E7 if the store refuses the key. Then, if the
     /// chunk is present, E3 for indices without a chunk, E8 for a chunk of more bytes than a `usize` counts, and E4 if
-    /// its bytes do not decode. E9 may come at any time.
+    /// its bytes do not decode, or E8 if they leave out cells and a chunk of fill has more. E9 may come at any time.
     pub fn retrieve_chunk_if_exists(
         &self,
         alloc: Global,
@@ -81,8 +81,9 @@ impl<
     ///
     /// # Errors
     /// In this order: E3 for another number of indices than dimensions; E7 if the store refuses the key; E3 for
-    /// indices without a chunk; E8 for a chunk of more bytes than a `usize` counts; E4 if its bytes do not decode.
-    /// E9 may come at any time.
+    /// indices without a chunk; E8 for a chunk of more bytes than a `usize` counts; E4 if its bytes do not decode, or E8
+    /// if a chunk of fill has more, which is needed where the chunk is absent or its bytes leave out cells. E9 may come
+    /// at any time.
     pub fn retrieve_chunk(
         &self,
         alloc: Global,

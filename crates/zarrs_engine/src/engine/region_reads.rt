@@ -128,8 +128,8 @@ impl<
     /// # Errors
     /// In this order: E1 for another number of dimensions, or a position that no chunk covers; E8 for more cells, or as
     /// many fill values, than a `usize` counts bytes. Then one of these: E7 if the store refuses the key of a chunk that
-    /// the region meets, E8 for such a chunk of more bytes than a `usize` counts, E4 if its bytes do not decode. E9 may
-    /// come at any time.
+    /// the region meets, E8 for such a chunk of more bytes than a `usize` counts, or for a chunk of fill of more if its
+    /// bytes leave out cells, E4 if its bytes do not decode. E9 may come at any time.
     pub fn retrieve_array_subset(
         &self,
         alloc: Global,

@@ -171,8 +171,8 @@ impl<
     /// # Errors
     /// In this order: E10 for another number of dimensions; E28 for a grid whose boxes depend on the array's shape. Then,
     /// at one of the chunks: E8 for a chunk of more bytes than a `usize` counts; E7 if the store refuses its key; E4 if
-    /// its bytes do not decode; E8 if as many fill values have more bytes than a `usize` counts; E4 if the chain does not
-    /// take it; E8 if its bytes pass a size; E7 if the store refuses the write. E9 may come at any time before the last
+    /// its bytes do not decode, or E8 if as many fill values have more bytes than that; E4 if the chain does not take it;
+    /// E8 if its bytes pass a size; E7 if the store refuses the write. E9 may come at any time before the last
     /// chunk is cut. The chunks before that one are cut then, and no later one, and the array has the shape that it had.
     pub fn resize(
         &mut self,

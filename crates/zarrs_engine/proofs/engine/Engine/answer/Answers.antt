@@ -4,7 +4,7 @@ use Rattle.zarrs_chunk_grid.specs.Grids.{box_at, chunks_box}
 use Rattle.zarrs_cells.specs.declared.array_bytes.ArrayBytes.{ArrayBytes}
 use Rattle.zarrs_data_type.specs.ArrayData.{data_of}
 use Rattle.zarrs_chain.specs.Options.{stores_empty_chunks}
-use Rattle.zarrs_steps.specs.Acts.{erase, read, read_chunk, read_part_act, resize, shape_after, store}
+use Rattle.zarrs_steps.specs.Acts.{compact, erase, read, read_chunk, read_part_act, resize, shape_after, store}
 use Rattle.zarrs_steps.specs.ArgumentRefusals.{read_chunks_refusal, read_part_refusal, read_region_refusal, resize_refusal}
 use Rattle.zarrs_steps.specs.ArgumentRefusals.{store_chunk_refusal, store_chunks_refusal, store_part_refusal, store_region_refusal}
 use Rattle.zarrs_steps.specs.Changes.{RetrievesChunk, RetrievesIfExists}
@@ -100,6 +100,17 @@ returns-in-EraseChunk-clause-step g c =
     let shape = g.G.ChunkGridTraits.array_extents c.args.self.now.parts.grid in
     let step = subst (λ (i : List ℕ). ActStep layout keep shape (length_refusal layout i) (erase (i ∷ [])) c.answer_erase_chunk.result old new) c.deref-in-EraseChunk.ensures.value (e.step keep shape) in
     rw c.in-EraseChunk.is (ap (λ parts. g.G.ChunkGridTraits.array_extents parts.grid) e.parts, step)
+
+pub returns-in-CompactChunk-clause-step : goal.returns-in-CompactChunk-clause-step
+returns-in-CompactChunk-clause-step g c =
+    let layout = layout_of c.args.self.now in
+    let keep = stores_empty_chunks c.args.options.now in
+    let old = g.S.ReadableStorageTraits.state c.args.self.now.storage in
+    let new = g.S.ReadableStorageTraits.state c.answer_compact_chunk.new.self.storage in
+    let e = c.answer_compact_chunk.ensures in
+    let shape = g.G.ChunkGridTraits.array_extents c.args.self.now.parts.grid in
+    let step = subst (λ (i : List ℕ). ActStep layout keep shape (length_refusal layout i) (compact i) c.answer_compact_chunk.result old new) c.deref-in-CompactChunk.ensures.value (e.step keep shape) in
+    rw c.in-CompactChunk.is (ap (λ parts. g.G.ChunkGridTraits.array_extents parts.grid) e.parts, step)
 
 pub returns-in-EraseChunks-clause-step : goal.returns-in-EraseChunks-clause-step
 returns-in-EraseChunks-clause-step g c =
@@ -210,6 +221,9 @@ returns-in-EraseChunk-clause-others g c = keeps_others _ _ c.answer_erase_chunk.
 
 pub returns-in-EraseChunks-clause-others : goal.returns-in-EraseChunks-clause-others
 returns-in-EraseChunks-clause-others g c = keeps_others _ _ c.answer_erase_chunks.ensures.parts
+
+pub returns-in-CompactChunk-clause-others : goal.returns-in-CompactChunk-clause-others
+returns-in-CompactChunk-clause-others g c = keeps_others _ _ c.answer_compact_chunk.ensures.parts
 
 pub answer_resize-requires : goal.answer_resize-requires
 answer_resize-requires g c =
