@@ -8,19 +8,25 @@ use Rattle.zarrs_codec_array.specs.declared.array.ArrayToArrayCodec.{ArrayToArra
 use Rattle.zarrs_codec_array.specs.declared.array.ArrayToArrayCodec.TheVariants as array_codec
 use Rattle.zarrs_codec_leaf.specs.Leaf.{LeafMeaning}
 use Rattle.zarrs_chain.specs.Chain.{ChainMeaning}
-use Rattle.zarrs_codec.specs.Chains.{array_to_array_of, array_to_bytes_of, chain_meaning, leaf_meaning, mask_meaning, whole_chunk}
-use Rattle.zarrs_codec.specs.Metadata.{mask_codec_data, bytes_codec_data, chain_data}
-use Rattle.zarrs_codec.specs.Optional.{optional_meaning}
+use Rattle.zarrs_codec_cells.specs.CellsCodecs.{mask_meaning, cells_meaning, mask_codec_of, data_codec_of}
+use Rattle.zarrs_codec_cells.specs.Metadata.{mask_codec_data, cells_codec_data}
+use Rattle.zarrs_codec_cells.specs.Optional.{optional_meaning}
+use Rattle.zarrs_codec_cells.specs.declared.codec.CellsCodec.{CellsCodec}
+use Rattle.zarrs_codec_cells.specs.declared.codec.CellsCodec as cells_codec
+use Rattle.zarrs_codec_cells.specs.declared.optional.MaskCodec.{MaskCodec}
+use Rattle.zarrs_codec_cells.specs.declared.optional.MaskCodec.TheVariants as mask_codec
+use Rattle.zarrs_codec.specs.Chains.{array_to_array_of, array_to_bytes_of, chain_meaning, codec_meaning, is_at_start, whole_chunk}
+use Rattle.zarrs_codec_cells.specs.ShardingMetadata.{sizes_of}
+use Rattle.zarrs_codec.specs.Metadata.{bytes_codec_data, chain_data}
+use Rattle.zarrs_codec.specs.Shardings.{sharded}
 use Rattle.zarrs_codec.specs.Through.{through}
-use Rattle.zarrs_codec.specs.declared.chain.ArrayToBytesCodec.{ArrayToBytesCodec}
-use Rattle.zarrs_codec.specs.declared.chain.ArrayToBytesCodec as bytes_codec
-use Rattle.zarrs_codec.specs.declared.optional.MaskCodec.{MaskCodec}
-use Rattle.zarrs_codec.specs.declared.optional.MaskCodec.TheVariants as mask_codec
+use Rattle.zarrs_codec.specs.declared.codec.ArrayToBytesCodec.{ArrayToBytesCodec}
+use Rattle.zarrs_codec.specs.declared.codec.ArrayToBytesCodec as bytes_codec
 use Rattle.zarrs_codec.specs.declared.chain.CodecChain.{CodecChain}
 use Rattle.zarrs_engine.specs.Engine.{chain_of}
 use Rattle.zarrs_options.specs.Refusals.{CreateRefusal}
 use Rattle.zarrs_array_metadata.specs.Meanings.{Meaning, creation}
-use Rattle.zarrs.specs.Layouts.{array_codec_meant, array_codecs_meant, mask_codec_meant, bytes_codec_meant, chain_meant, layout_meant}
+use Rattle.zarrs.specs.Layouts.{array_codec_meant, array_codecs_meant, mask_codec_meant, cells_codec_meant, bytes_codec_meant, chain_meant, layout_meant}
 use Rattle.zarrs.specs.Arrays.{metadata_of_array, meaning_of_array, layout_of_array, path_of_array}
 use Rattle.zarrs.specs.declared.array.Array.{Array}
 
@@ -39,20 +45,40 @@ mask_is : (c : MaskCodec) → mask_meaning c ≡ mask_codec_meant (mask_codec_da
 mask_is (mask_codec.PackBits codec) = refl
 mask_is (mask_codec.Bytes codec) = refl
 
-leaf_is : (c : ArrayToBytesCodec) → leaf_meaning c ≡ bytes_codec_meant (bytes_codec_data c)
-leaf_is (bytes_codec.Bytes codec) = refl
-leaf_is (bytes_codec.PackBits codec) = refl
-leaf_is (bytes_codec.VlenUtf8 codec) = refl
-leaf_is (bytes_codec.VlenBytes codec) = refl
-leaf_is (bytes_codec.Vlen codec) = refl
-leaf_is (bytes_codec.Optional' mask p inner) =
-    ap (λ (m : LeafMeaning). optional_meaning m (leaf_meaning inner)) (mask_is mask)
-    ∙ ap (λ (l : LeafMeaning). optional_meaning (mask_codec_meant (mask_codec_data mask)) l) (leaf_is inner)
+-- an optional codec by those of its mask and of its data
+optional_is : (mask : MaskCodec) (inner : LeafMeaning) (c : CellsCodec) → inner ≡ cells_codec_meant (cells_codec_data c)
+    → optional_meaning (mask_meaning mask) inner ≡ optional_meaning (mask_codec_meant (mask_codec_data mask)) (cells_codec_meant (cells_codec_data c))
+optional_is mask inner c is =
+    ap (λ (m : LeafMeaning). optional_meaning m inner) (mask_is mask)
+    ∙ ap (λ (l : LeafMeaning). optional_meaning (mask_codec_meant (mask_codec_data mask)) l) is
+
+leaf_is : (c : CellsCodec) → cells_meaning c ≡ cells_codec_meant (cells_codec_data c)
+leaf_is (cells_codec.Bytes codec) = refl
+leaf_is (cells_codec.PackBits codec) = refl
+leaf_is (cells_codec.VlenUtf8 codec) = refl
+leaf_is (cells_codec.VlenBytes codec) = refl
+leaf_is (cells_codec.Vlen codec) = refl
+leaf_is (cells_codec.Optional' mask p inner) = optional_is mask (cells_meaning inner) inner (leaf_is inner)
+
+-- a chain by its array-to-array codecs and its last codec
+through_is : (cs : List ArrayToArrayCodec) (m n : ChainMeaning) → m ≡ n → through (arrays_meaning cs) m ≡ through (array_codecs_meant (map array_codec_data cs)) n
+through_is cs m n is =
+    ap (λ (a : ArrayMeaning). through a m) (arrays_are cs) ∙ ap (λ (c : ChainMeaning). through (array_codecs_meant (map array_codec_data cs)) c) is
+
+codec_is : (c : ArrayToBytesCodec) → codec_meaning c ≡ bytes_codec_meant (bytes_codec_data c)
+codec_is (bytes_codec.Bytes codec) = refl
+codec_is (bytes_codec.PackBits codec) = refl
+codec_is (bytes_codec.VlenUtf8 codec) = refl
+codec_is (bytes_codec.VlenBytes codec) = refl
+codec_is (bytes_codec.Vlen codec) = refl
+codec_is (bytes_codec.Optional codec) =
+    let data_codec = data_codec_of codec in
+    ap whole_chunk (optional_is (mask_codec_of codec) (cells_meaning data_codec) data_codec (leaf_is data_codec))
+codec_is (bytes_codec.Sharding' p sub at before last after) =
+    ap (λ (m : ChainMeaning). sharded (is_at_start at) (sizes_of sub.items) m) (through_is before.items (codec_meaning last) _ (codec_is last))
 
 chain_is : (chain : CodecChain) → chain_meaning chain ≡ chain_meant (chain_data chain)
-chain_is chain =
-    ap (λ (a : ArrayMeaning). through a (whole_chunk (leaf_meaning (array_to_bytes_of chain)))) (arrays_are (array_to_array_of chain))
-    ∙ ap (λ (l : LeafMeaning). through (array_codecs_meant (map array_codec_data (array_to_array_of chain))) (whole_chunk l)) (leaf_is (array_to_bytes_of chain))
+chain_is chain = through_is (array_to_array_of chain) (codec_meaning (array_to_bytes_of chain)) _ (codec_is (array_to_bytes_of chain))
 
 ok_is : {A : Type 0} (r : Result A CreateRefusal) (a : A) → result_ok r ≡ Some a → r ≡ Ok a
 ok_is (Ok x) a is = cc

@@ -4,7 +4,6 @@ use Rattle.std.specs.Result.{result_ok}
 use Rattle.zarrs_keys.specs.declared.encodings.ChunkKeyEncoding.{ChunkKeyEncoding}
 use Rattle.zarrs_keys.specs.declared.traits.ChunkKeyEncodingTraits.{Ghosts as KeyMeaning}
 use Rattle.zarrs_chunk_grid.specs.GridView.{configuration_of, array_extents_of}
-use Rattle.zarrs_chunk_grid.specs.Configurations.{GridConfiguration}
 use Rattle.zarrs_chunk_grid.specs.Metadata.{configuration_said, extension_of_grid}
 use Rattle.zarrs_chunk_grid.specs.declared.grid.ChunkGrid.{ChunkGrid}
 use Rattle.zarrs_chunk_grid.specs.declared.traits.ChunkGridTraits.{Ghosts as GridMeaning}

@@ -11,10 +11,12 @@ use Rattle.zarrs_codec_leaf.specs.PackBits.{packbits_meaning}
 use Rattle.zarrs_codec_leaf.specs.Vlen.{vlen_meaning}
 use Rattle.zarrs_codec_leaf.specs.VlenStrings.{vlen_utf8_meaning, vlen_bytes_meaning}
 use Rattle.zarrs_chain.specs.Chain.{ChainMeaning}
+use Rattle.zarrs_codec_cells.specs.Metadata.{CellsCodecData, MaskCodecData}
+use Rattle.zarrs_codec_cells.specs.Metadata as coding
+use Rattle.zarrs_codec_cells.specs.Optional.{optional_meaning}
 use Rattle.zarrs_codec.specs.Chains.{whole_chunk}
-use Rattle.zarrs_codec.specs.Metadata.{ChainData, BytesCodecData, MaskCodecData}
-use Rattle.zarrs_codec.specs.Metadata as coding
-use Rattle.zarrs_codec.specs.Optional.{optional_meaning}
+use Rattle.zarrs_codec.specs.Metadata.{ChainData, BytesCodecData, cells, sharding}
+use Rattle.zarrs_codec.specs.Shardings.{sharded}
 use Rattle.zarrs_codec.specs.Through.{through}
 use Rattle.zarrs_steps.specs.Layout.{Layout, layout_at}
 use Rattle.zarrs_array_metadata.specs.Meanings.{Meaning}
@@ -33,17 +35,23 @@ abbrev pub mask_codec_meant : MaskCodecData → LeafMeaning
 mask_codec_meant (coding.byte_mask endian) = bytes_meaning_of endian
 mask_codec_meant coding.packed_mask = packbits_meaning
 
-abbrev pub bytes_codec_meant : BytesCodecData → LeafMeaning
-bytes_codec_meant (coding.bytes endian) = bytes_meaning_of endian
-bytes_codec_meant coding.packbits = packbits_meaning
-bytes_codec_meant coding.vlen_utf8 = vlen_utf8_meaning
-bytes_codec_meant coding.vlen_bytes = vlen_bytes_meaning
-bytes_codec_meant coding.vlen = vlen_meaning
-bytes_codec_meant (coding.optional mask inner) = optional_meaning (mask_codec_meant mask) (bytes_codec_meant inner)
+abbrev pub cells_codec_meant : CellsCodecData → LeafMeaning
+cells_codec_meant (coding.bytes endian) = bytes_meaning_of endian
+cells_codec_meant coding.packbits = packbits_meaning
+cells_codec_meant coding.vlen_utf8 = vlen_utf8_meaning
+cells_codec_meant coding.vlen_bytes = vlen_bytes_meaning
+cells_codec_meant coding.vlen = vlen_meaning
+cells_codec_meant (coding.optional mask inner) = optional_meaning (mask_codec_meant mask) (cells_codec_meant inner)
+
+-- a codec of cells takes the cells of the whole chunk; one of shards takes those of each subchunk, by the chain of the
+-- subchunks
+abbrev pub bytes_codec_meant : BytesCodecData → ChainMeaning
+bytes_codec_meant (cells codec) = whole_chunk (cells_codec_meant codec)
+bytes_codec_meant (sharding shape at_start front last) = sharded at_start shape (through (array_codecs_meant front) (bytes_codec_meant last))
 
 -- a chain of codecs
 abbrev pub chain_meant : ChainData → ChainMeaning
-chain_meant chain = through (array_codecs_meant chain.array_to_array) (whole_chunk (bytes_codec_meant chain.array_to_bytes))
+chain_meant chain = through (array_codecs_meant chain.array_to_array) (bytes_codec_meant chain.array_to_bytes)
 
 -- how an array of these parts lies in its store, at a path
 abbrev pub layout_meant : List ℕ → Meaning → Layout

@@ -35,6 +35,7 @@ module _ {S : Type 0} where
     engine = array.engine;
     metadata = with_attributes array.metadata attributes;
     codec_options = array.codec_options;
+    codec_specific_options = array.codec_specific_options;
     metadata_options = array.metadata_options;
     agrees = still_says array.metadata attributes _ array.agrees;
   }

@@ -1,5 +1,5 @@
 -- V2 metadata that becomes V3 metadata in its store.
-use Rattle.std.specs.Prelude.{◌≡◌, ◌⊎◌, ℕ, true, false, List, [], ◌∷◌, ◌++◌, Option, Some, None, Ok}
+use Rattle.std.specs.Prelude.{◌≡◌, ◌⊎◌, ℕ, true, false, List, [], ◌∷◌, ◌++◌, Some, None, Ok}
 use Rattle.zarrs_storage.specs.Store.{StoreState}
 use Rattle.zarrs_keys.specs.Paths.{is_node_path}
 use Rattle.zarrs_steps.specs.Layout.{Layout, IsLawful, metadata_keys_at}

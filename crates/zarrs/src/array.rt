@@ -1,5 +1,6 @@
 //! An array: an engine, and the metadata that says its parts.
 mod calls;
+mod compact;
 mod comparison;
 mod copies;
 mod elements;
@@ -22,7 +23,7 @@ use serde_json::{Map, Value};
 use std::alloc::Global;
 use zarrs_array_metadata::{parts_said, stored_metadata};
 use zarrs_chunk_grid::{ChunkGrid, ChunkGridTraits};
-use zarrs_codec::{CodecChain, CodecOptions};
+use zarrs_codec::{CodecChain, CodecOptions, CodecSpecificOptions};
 use zarrs_data_type::{DataType, FillValue};
 use zarrs_document::DimensionName;
 use zarrs_document_v2::ArrayMetadata;
@@ -42,6 +43,7 @@ pub struct Array<TStorage> {
     engine: Engine<TStorage, ChunkGrid, ChunkKeyEncoding, CodecChain>,
     metadata: ArrayMetadata,
     codec_options: CodecOptions,
+    codec_specific_options: CodecSpecificOptions,
     metadata_options: ArrayMetadataOptions,
     ghost agrees: { Agrees engine metadata } by { Agrees-prop engine metadata },
 }
@@ -247,6 +249,7 @@ impl<TStorage: Drop> Array<TStorage> {
             engine,
             metadata,
             codec_options: CodecOptions::default(),
+            codec_specific_options: CodecSpecificOptions::default(),
             metadata_options: ArrayMetadataOptions::default(),
         })
     }

@@ -1,6 +1,5 @@
 -- Two proofs of one equation of parts are the same, so that the parts of an array agree with its document in one way.
-use Rattle.std.proofs.Common.{◌≡◌, Bool, true, false, ◌&&◌, Option, Some, None, refl, sym, ap, ◌∙◌}
-use Rattle.std.proofs.lemmas.Bool.{and_parts, and_from}
+use Rattle.std.proofs.Common.{◌≡◌, Bool, true, Option, refl, ap, subst}
 use Rattle.std.specs.Coded.{Coded-set}
 use Rattle.std.proofs.Props.{props}
 use mathlib.Core.HLevel.{collapsible→set}
@@ -13,9 +12,8 @@ use Rattle.zarrs_types.specs.Same.{kind_eq, kind_eq-Decides}
 use Rattle.zarrs_codec_array.specs.Arrays.{Extent}
 use Rattle.zarrs_codec_array.specs.Metadata.{ArrayCodecData}
 use Rattle.zarrs_codec_leaf.specs.declared.bytes.Endianness.{Endianness}
-use Rattle.zarrs_codec_leaf.specs.declared.bytes.Endianness.TheVariants.{Little, Big}
-use Rattle.zarrs_codec.specs.Metadata.{MaskCodecData, byte_mask, packed_mask, BytesCodecData, bytes, packbits, vlen_utf8, vlen_bytes, vlen, optional}
-use Rattle.zarrs_codec.specs.Metadata.{ChainData}
+use Rattle.zarrs_codec_cells.specs.Metadata.{MaskCodecData, CellsCodecData, bytes, packbits, vlen_utf8, vlen_bytes, vlen, optional}
+use Rattle.zarrs_codec.specs.Metadata.{BytesCodecData, cells, sharding, ChainData}
 use Rattle.zarrs_array_metadata.specs.Meanings.{Meaning}
 
 Bool-set : IsSet Bool
@@ -39,73 +37,76 @@ Extent-set = hlevel (props, ⊎_set)
 ArrayCodecData-set : IsSet ArrayCodecData
 ArrayCodecData-set = hlevel (props, ⊎_set, Extent-set)
 
--- whether two endians, or their absence, are the same
-abbrev endian_eq : Option Endianness → Option Endianness → Bool
-endian_eq None None = true
-endian_eq (Some Little) (Some Little) = true
-endian_eq (Some Big) (Some Big) = true
-endian_eq _ _ = false
+Endianness-set : IsSet Endianness
+Endianness-set = hlevel (props, ⊎_set)
 
-endian_eq-true : (a b : Option Endianness) → endian_eq a b ≡ true → a ≡ b
-endian_eq-true None None is = refl
-endian_eq-true (Some Little) (Some Little) is = refl
-endian_eq-true (Some Big) (Some Big) is = refl
-endian_eq-true a b is = cc
+MaskCodecData-set : IsSet MaskCodecData
+MaskCodecData-set = hlevel (props, ⊎_set, Endianness-set)
 
-endian_eq-same : (a : Option Endianness) → endian_eq a a ≡ true
-endian_eq-same None = refl
-endian_eq-same (Some Little) = refl
-endian_eq-same (Some Big) = refl
+-- two codecs of cells have the same parts
+abbrev SameCells : CellsCodecData → CellsCodecData → Type 0
+SameCells (bytes a) (bytes b) = a ≡ b
+SameCells packbits packbits = Unit {0}
+SameCells vlen_utf8 vlen_utf8 = Unit {0}
+SameCells vlen_bytes vlen_bytes = Unit {0}
+SameCells vlen vlen = Unit {0}
+SameCells (optional m a) (optional n b) = (m ≡ n) × SameCells a b
+SameCells _ _ = ⊥
 
--- whether two codecs of masks are the same
-abbrev mask_eq : MaskCodecData → MaskCodecData → Bool
-mask_eq (byte_mask a) (byte_mask b) = endian_eq a b
-mask_eq packed_mask packed_mask = true
-mask_eq _ _ = false
+SameCells-prop : (a b : CellsCodecData) → IsProp (SameCells a b)
+SameCells-prop (bytes a) (bytes b) = hlevel (props, Endianness-set)
+SameCells-prop packbits packbits = hlevel
+SameCells-prop vlen_utf8 vlen_utf8 = hlevel
+SameCells-prop vlen_bytes vlen_bytes = hlevel
+SameCells-prop vlen vlen = hlevel
+SameCells-prop (optional m a) (optional n b) = hlevel (MaskCodecData-set, SameCells-prop a b)
+SameCells-prop a b = hlevel
 
-mask_eq-true : (a b : MaskCodecData) → mask_eq a b ≡ true → a ≡ b
-mask_eq-true (byte_mask a) (byte_mask b) is = ap byte_mask (endian_eq-true a b is)
-mask_eq-true packed_mask packed_mask is = refl
-mask_eq-true a b is = cc
+same_cells : (a b : CellsCodecData) → SameCells a b → a ≡ b
+same_cells (bytes a) (bytes b) same = ap bytes same
+same_cells packbits packbits same = refl
+same_cells vlen_utf8 vlen_utf8 same = refl
+same_cells vlen_bytes vlen_bytes same = refl
+same_cells vlen vlen same = refl
+same_cells (optional m a) (optional n b) same = λ i. optional (same.0 i) (same_cells a b same.1 i)
+same_cells a b same = absurd same
 
-mask_eq-same : (a : MaskCodecData) → mask_eq a a ≡ true
-mask_eq-same (byte_mask a) = endian_eq-same a
-mask_eq-same packed_mask = refl
+own_cells : (a : CellsCodecData) → SameCells a a
+own_cells (bytes a) = refl
+own_cells (optional m a) = (refl, own_cells a)
+own_cells a = tt
 
--- whether two codecs that make bytes are the same
-abbrev codec_eq : BytesCodecData → BytesCodecData → Bool
-codec_eq (bytes a) (bytes b) = endian_eq a b
-codec_eq packbits packbits = true
-codec_eq vlen_utf8 vlen_utf8 = true
-codec_eq vlen_bytes vlen_bytes = true
-codec_eq vlen vlen = true
-codec_eq (optional m a) (optional n b) = mask_eq m n && codec_eq a b
-codec_eq _ _ = false
+shared_cells : (a b : CellsCodecData) → a ≡ b → SameCells a b
+shared_cells a b p = subst (SameCells a) p (own_cells a)
 
-codec_eq-true : (a b : BytesCodecData) → codec_eq a b ≡ true → a ≡ b
-codec_eq-true (bytes a) (bytes b) is = ap bytes (endian_eq-true a b is)
-codec_eq-true packbits packbits is = refl
-codec_eq-true vlen_utf8 vlen_utf8 is = refl
-codec_eq-true vlen_bytes vlen_bytes is = refl
-codec_eq-true vlen vlen is = refl
-codec_eq-true (optional m a) (optional n b) is =
-    let both = and_parts (mask_eq m n) (codec_eq a b) is in
-    ap (λ k. optional k a) (mask_eq-true m n both.0) ∙ ap (optional n) (codec_eq-true a b both.1)
-codec_eq-true a b is = cc
+CellsCodecData-set : IsSet CellsCodecData
+CellsCodecData-set = collapsible→set (λ a b p. same_cells a b (shared_cells a b p)) (λ a b p q. ap (same_cells a b) (SameCells-prop a b (shared_cells a b p) (shared_cells a b q)))
 
-codec_eq-same : (a : BytesCodecData) → codec_eq a a ≡ true
-codec_eq-same (bytes a) = endian_eq-same a
-codec_eq-same packbits = refl
-codec_eq-same vlen_utf8 = refl
-codec_eq-same vlen_bytes = refl
-codec_eq-same vlen = refl
-codec_eq-same (optional m a) = and_from (mask_eq m m) (codec_eq a a) (mask_eq-same m) (codec_eq-same a)
+-- two codecs have the same parts
+abbrev Same : BytesCodecData → BytesCodecData → Type 0
+Same (cells a) (cells b) = a ≡ b
+Same (sharding s at f a) (sharding t ends g b) = (s ≡ t) × (at ≡ ends) × (f ≡ g) × Same a b
+Same _ _ = ⊥
 
-codec_same : (a b : BytesCodecData) → a ≡ b → codec_eq a b ≡ true
-codec_same a b p = ap (codec_eq a) (sym p) ∙ codec_eq-same a
+Same-prop : (a b : BytesCodecData) → IsProp (Same a b)
+Same-prop (cells a) (cells b) = CellsCodecData-set a b
+Same-prop (sharding s at f a) (sharding t ends g b) = hlevel (props, ArrayCodecData-set, Same-prop a b)
+Same-prop a b = hlevel
+
+same_codec : (a b : BytesCodecData) → Same a b → a ≡ b
+same_codec (cells a) (cells b) same = ap cells same
+same_codec (sharding s at f a) (sharding t ends g b) same = λ i. sharding (same.0 i) (same.1 i) (same.2 i) (same_codec a b same.3 i)
+same_codec a b same = absurd same
+
+own_parts : (a : BytesCodecData) → Same a a
+own_parts (cells a) = refl
+own_parts (sharding s at f a) = (refl, refl, refl, own_parts a)
+
+shared_parts : (a b : BytesCodecData) → a ≡ b → Same a b
+shared_parts a b p = subst (Same a) p (own_parts a)
 
 BytesCodecData-set : IsSet BytesCodecData
-BytesCodecData-set = collapsible→set (λ a b p. codec_eq-true a b (codec_same a b p)) (λ a b p q. ap (codec_eq-true a b) (Bool-set _ _ (codec_same a b p) (codec_same a b q)))
+BytesCodecData-set = collapsible→set (λ a b p. same_codec a b (shared_parts a b p)) (λ a b p q. ap (same_codec a b) (Same-prop a b (shared_parts a b p) (shared_parts a b q)))
 
 ChainData-set : IsSet ChainData
 ChainData-set = hlevel (props, ArrayCodecData-set, BytesCodecData-set)

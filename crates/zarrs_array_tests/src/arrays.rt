@@ -8,8 +8,8 @@ use zarrs::laws::{
 };
 use zarrs::{
     Array, ArrayMetadata, ArrayMetadataOptions, ArrayMetadataV3, ArrayToBytesCodec, ChunkGrid,
-    ChunkKeyEncoding, ChunkKeySeparator, CodecMetadataOptions, CodecOptions, DataType, MemoryStore,
-    written_and_opened,
+    ChunkKeyEncoding, ChunkKeySeparator, CodecMetadataOptions, CodecOptions, CodecSpecificOptions,
+    DataType, MemoryStore, written_and_opened,
 };
 
 pub(crate) type MemoryArray = Array<MemoryStore>;
@@ -125,6 +125,7 @@ fn store_fill(rt: &impl Abort, alloc: Global, array: &mut MemoryArray) {
 fn set_default_options(array: &mut MemoryArray) {
     let _ = array
         .set_codec_options(CodecOptions::default())
+        .set_codec_specific_options(&CodecSpecificOptions::default())
         .set_metadata_options(ArrayMetadataOptions::default());
 }
 
@@ -133,6 +134,7 @@ fn set_default_options(array: &mut MemoryArray) {
 fn options_are_those_that_were_set(rt: HostRuntime) {
     let alloc = rt.alloc();
     let array = array(&rt, alloc).with_codec_options(keeping());
+    let array = array.with_codec_specific_options(&CodecSpecificOptions::default());
     let mut array = array.with_metadata_options(plain());
     must_have_options(&rt, &array, keeping(), plain());
     store_fill(&rt, alloc, &mut array);

@@ -4,6 +4,7 @@ use crate::arrays::{MemoryArray, array};
 use crate::checks::{must, must_be_bytes, must_be_done, must_eq};
 use std::alloc::Global;
 use std::process::Abort;
+use zarrs::CodecOptions;
 
 /// A chunk, a part of another one, a range of two, and a region.
 fn store_elements(rt: &impl Abort, alloc: Global, array: &mut MemoryArray) {
@@ -64,6 +65,26 @@ fn elements_are_stored_and_read(rt: HostRuntime) {
     let mut array = array(&rt, alloc);
     store_elements(&rt, alloc, &mut array);
     must_read_elements(&rt, alloc, &array);
+    drop(array);
+}
+
+fn must_be_compact(rt: &impl Abort, alloc: Global, array: &mut MemoryArray) {
+    if array.dimensionality() != 2 {
+        return rt.panic("another number of dimensions");
+    }
+    let wrote = array.compact_chunk(alloc, &[0, 0], &CodecOptions::default());
+    must(rt, !wrote.expect(rt, "no refusal"));
+}
+
+/// A chunk without subchunks is compact, whether it is present or not.
+#[test]
+fn chunks_without_subchunks_are_compact(rt: HostRuntime) {
+    let alloc = rt.alloc();
+    let mut array = array(&rt, alloc);
+    must_be_compact(&rt, alloc, &mut array);
+    must_be_done(&rt, array.store_chunk(alloc, &[0, 0], [1u8, 2, 3, 4]));
+    must_be_compact(&rt, alloc, &mut array);
+    must_eq(&rt, array.storage().calls(), 1);
     drop(array);
 }
 

@@ -62,6 +62,7 @@ impl<TStorage> fmt::Debug for Array<TStorage> {
             .field("path", self.engine.path())
             .field("metadata", &self.metadata)
             .field("codec_options", &self.codec_options)
+            .field("codec_specific_options", &self.codec_specific_options)
             .field("metadata_options", &self.metadata_options)
             .finish()
     }

@@ -78,6 +78,7 @@ impl<TStorage> Array<TStorage> {
             engine,
             metadata,
             codec_options: self.codec_options,
+            codec_specific_options: self.codec_specific_options,
             metadata_options: self.metadata_options,
         })
     }

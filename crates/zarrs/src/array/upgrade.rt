@@ -62,7 +62,8 @@ impl<TStorage: WritableStorageTraits> Array<TStorage> {
     ///
     /// # Errors
     /// If the store refuses, and `OutOfMemory`. A front of the three calls is done then, and the array has the metadata
-    /// that it had. If the store had no `zarr.json`, an array of the same parts opens at the path after each front.
+    /// that it had. An array of the same parts opens at the path after each front, if the store had no `zarr.json` and
+    /// its V2 documents open to this array, if the V3 document reads again, and if no key of the metadata refuses.
     pub fn upgrade_metadata(&mut self, alloc: Global) -> Result<(), StorageError>
         ensures done { OnOk result (UpgradesMetadata (metadata_options_of_array self.old)
             (path_of_array self.old) (metadata_of_array self.old)

@@ -54,6 +54,7 @@ impl<TStorage: Drop> Array<TStorage> {
             engine: self.engine,
             metadata: ArrayMetadata::V3(document),
             codec_options: self.codec_options,
+            codec_specific_options: self.codec_specific_options,
             metadata_options: self.metadata_options,
         })
     }

@@ -219,9 +219,10 @@ impl<TStorage: WritableStorageTraits> Array<TStorage> {
     /// In this order: E10 for another number of indices than dimensions; E3 for indices without a chunk; E2 for a part
     /// of another number of dimensions, or that passes the chunk; E5 for values that are not those of the data type; if
     /// it is the whole chunk, E8 if that has more bytes than a `usize` counts; E4 for data that is not one cell for
-    /// each position, each a value of the data type. Then E8 for such a chunk; E7 if the chunk is read and the store
-    /// refuses its key; E4 if its bytes do not decode, or the chain does not take it; E8 if its bytes pass a size; E7
-    /// if the store refuses the write. E9 may come at any time. Nothing is changed then.
+    /// each position, each a value of the data type. Then E8 for such a chunk; of a chunk that is read, E7 if the store
+    /// refuses its key, and E4 if its bytes do not decode, or E8 if a chunk of fill has more bytes than a `usize` counts,
+    /// which is needed where the chunk is absent or its bytes leave out cells; E4 if the chain does not take it; E8 if
+    /// its bytes pass a size; E7 if the store refuses the write. E9 may come at any time. Nothing is changed then.
     pub fn store_chunk_subset<'a, D: IntoArrayBytes<'a>, R: ArraySubsetTraits>(
         &mut self,
         alloc: Global,
@@ -290,8 +291,9 @@ impl<TStorage: WritableStorageTraits> Array<TStorage> {
     /// not those of the data type; for a region that is one chunk E8 if it has more bytes than a `usize` counts; E4 for
     /// data that is not one cell for each position, each a value of the data type. Then, at one of the chunks: E8 for a
     /// chunk of more bytes than a `usize` counts; of a chunk that is read, E7 if the store refuses its key, and E4 if
-    /// its bytes do not decode; E4 if the chain does not take it; E8 if its bytes pass a size; E7 if the store refuses
-    /// the write. E9 may come at any time. The chunks before that one are stored then, and no later one.
+    /// its bytes do not decode, or E8 if a chunk of fill has more bytes than that, which is needed where the chunk is
+    /// absent or its bytes leave out cells; E4 if the chain does not take it; E8 if its bytes pass a size; E7 if the
+    /// store refuses the write. E9 may come at any time. The chunks before that one are stored then, and no later one.
     pub fn store_array_subset<'a, D: IntoArrayBytes<'a>, R: ArraySubsetTraits>(
         &mut self,
         alloc: Global,

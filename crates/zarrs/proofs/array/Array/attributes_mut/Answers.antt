@@ -15,6 +15,7 @@ returns g c =
           engine = array.engine;
           metadata = with_attributes array.metadata w;
           codec_options = array.codec_options;
+          codec_specific_options = array.codec_specific_options;
           metadata_options = array.metadata_options;
           agrees = agrees;
         }) (Agrees-prop array.engine (with_attributes array.metadata w) _ _),

@@ -30,5 +30,6 @@ returns-clause-kept g c = record {
   others = c.replay-replies.ensures.others;
   metadata = c.overwrite_shape.ensures ∙ ap (λ (s : List ℕ). with_shape s (metadata_view c.args.self.now.metadata)) (c.array_shape.ensures.value ∙ ap array_extents_of c.chunk_grid.ensures);
   codec_options = refl;
+  codec_specific_options = refl;
   metadata_options = refl;
 }

@@ -14,6 +14,7 @@ returns-in_err-resize-clause-kept g c =
       others = c.in_err-resize.ensures.others;
       metadata = shape_kept (metadata_view old.metadata) old.engine c.resize.new.self (parts_are old) c.in_err-resize.ensures.parts;
       codec_options = refl;
+      codec_specific_options = refl;
       metadata_options = refl;
     }
 
@@ -44,5 +45,6 @@ returns-clause-kept g c = record {
   others = c.in_ok-resize.ensures.others;
   metadata = c.overwrite_shape.ensures ∙ ap (λ (s : List ℕ). with_shape s (metadata_view c.args.self.now.metadata)) (c.array_shape.ensures.value ∙ ap array_extents_of c.chunk_grid.ensures);
   codec_options = refl;
+  codec_specific_options = refl;
   metadata_options = refl;
 }

@@ -26,7 +26,7 @@ returns g c =
     written_as g.D.IntoArrayBytes.serves (g.D.IntoArrayBytes.gives c.args.subset_data) (region_refusal layout shape region) g.TStorage.ReadableStorageTraits.state
     (λ held. StoresRegion layout keep shape region held) (λ held. RefusesStoreRegion layout keep shape region held) c.args.self.now _ c.store_array_subset.result held
     (rw c.data_type.ensures at c.in-Ok.ensures.given) (rw c.data_type.ensures at c.in-Ok.ensures.served) done refused
-    (record { parts = stored.parts; metadata = refl; codec_options = refl; metadata_options = refl })
+    (record { parts = stored.parts; metadata = refl; codec_options = refl; codec_specific_options = refl; metadata_options = refl })
 
 pub store_array_subset-requires : goal.store_array_subset-requires
 store_array_subset-requires g c =

@@ -15,4 +15,4 @@ returns g c =
     written_as g.D.IntoArrayBytes.serves (g.D.IntoArrayBytes.gives c.args.chunk_data) None g.TStorage.ReadableStorageTraits.state
     (λ held. StoresChunk layout keep index held) (λ held. RefusesStoreChunk layout keep index held) c.args.self.now _ c.store_chunk.result (data_of c.in_ok-chunk_data.chunk_data)
     (rw c.data_type.ensures at c.in_ok-chunk_data.ensures.given) (rw c.data_type.ensures at c.in_ok-chunk_data.ensures.served) stored.done stored.refused
-    (record { parts = stored.parts; metadata = refl; codec_options = refl; metadata_options = refl })
+    (record { parts = stored.parts; metadata = refl; codec_options = refl; codec_specific_options = refl; metadata_options = refl })

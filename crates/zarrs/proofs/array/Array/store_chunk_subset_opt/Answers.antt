@@ -27,7 +27,7 @@ returns g c =
     written_as g.D.IntoArrayBytes.serves (g.D.IntoArrayBytes.gives c.args.chunk_subset_data) (place_refusal layout index region) g.TStorage.ReadableStorageTraits.state
     (λ held. StoresPart layout keep index region held) (λ held. RefusesStorePart layout keep index region held) c.args.self.now _ c.store_chunk_subset.result held
     (rw c.data_type.ensures at c.in-Ok.ensures.given) (rw c.data_type.ensures at c.in-Ok.ensures.served) done refused
-    (record { parts = stored.parts; metadata = refl; codec_options = refl; metadata_options = refl })
+    (record { parts = stored.parts; metadata = refl; codec_options = refl; codec_specific_options = refl; metadata_options = refl })
 
 pub store_chunk_subset-requires : goal.store_chunk_subset-requires
 store_chunk_subset-requires g c =

@@ -23,4 +23,4 @@ returns g c =
     written_as g.D.IntoArrayBytes.serves (g.D.IntoArrayBytes.gives c.args.chunks_data) (number_refusal region) g.TStorage.ReadableStorageTraits.state
     (λ held. StoresChunks layout keep region held) (λ held. RefusesStoreChunks layout keep region held) c.args.self.now _ c.store_chunks.result held
     (rw c.data_type.ensures at c.in-Ok.ensures.given) (rw c.data_type.ensures at c.in-Ok.ensures.served) done refused
-    (record { parts = stored.parts; metadata = refl; codec_options = refl; metadata_options = refl })
+    (record { parts = stored.parts; metadata = refl; codec_options = refl; codec_specific_options = refl; metadata_options = refl })

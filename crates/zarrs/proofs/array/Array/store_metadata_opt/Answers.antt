@@ -1,6 +1,6 @@
 use Rattle.std.proofs.Common.{inr, List, map, ℕ, subst}
 use Rattle.zarrs_document_v2.specs.View.{metadata_view}
-use Rattle.zarrs_codec.proofs.Kept.{err_kept}
+use Rattle.zarrs_codec_cells.proofs.Kept.{err_kept}
 use Rattle.zarrs_options.specs.Options.{options_view}
 use Rattle.zarrs_steps.specs.Refusals.{refusal_of_storage}
 use Rattle.zarrs_array_metadata.specs.Writing.{put_view, IsWrittenBy}

@@ -1,5 +1,5 @@
 use Rattle.std.proofs.Common.{◌≡◌, map, ap, rules}
-use Rattle.zarrs_codec.proofs.Kept.{err_kept}
+use Rattle.zarrs_codec_cells.proofs.Kept.{err_kept}
 use Rattle.zarrs_document.specs.View.{document_view}
 use Rattle.zarrs_document_v2.specs.View.{metadata_view, document_v2_view, v2}
 use Rattle.zarrs_steps.specs.Refusals.{refusal_of_storage}

@@ -19,6 +19,7 @@ returns-clause-copied g c =
       engine = engine;
       metadata = copied;
       codec_options = array.codec_options;
+      codec_specific_options = array.codec_specific_options;
       metadata_options = array.metadata_options;
       agrees = subst (λ (m : MetadataData). Says m (meaning_of engine)) (sym metadata) (subst (λ (p : Meaning). Says (metadata_view array.metadata) p) (sym parts) array.agrees);
     } in
@@ -28,5 +29,6 @@ returns-clause-copied g c =
       parts = parts;
       layout = layout_of_parts array copy path parts;
       codec_options = refl;
+      codec_specific_options = refl;
       metadata_options = refl;
     }
