@@ -10,9 +10,9 @@ use Rattle.zarrs_storage.specs.Store.{StoreState}
 use Rattle.zarrs_steps.specs.declared.call.Call.{Call}
 use Rattle.zarrs_steps.specs.declared.call.Call.TheVariants as call
 use Rattle.zarrs_steps.specs.declared.call.Reply.{Reply}
-use Rattle.zarrs_steps.specs.declared.call.Reply.TheVariants.{Done, Cells, MaybeCells, Refused}
+use Rattle.zarrs_steps.specs.declared.call.Reply.TheVariants.{Done, Compacted, Cells, MaybeCells, Refused}
 use Rattle.zarrs_steps.specs.Layout.{Layout, ArrayState}
-use Rattle.zarrs_steps.specs.Acts.{Act, store, erase, read, read_chunk, resize, act_of}
+use Rattle.zarrs_steps.specs.Acts.{Act, store, erase, compact, read, read_chunk, resize, act_of}
 use Rattle.zarrs_steps.specs.ArgumentRefusals.{argument_refusal}
 use Rattle.zarrs_steps.specs.Refusals.{Refusal}
 use Rattle.zarrs_steps.specs.Step.{ActStep, Step, Run}
@@ -46,15 +46,18 @@ some_text cell_type kind held given typed is =
 -- each reply of an act has a text
 act_said : (cell_type : CellType) (layout : Layout) (keep : Bool) (shape : List ℕ) (first : Option Refusal) (act : Act) (reply : Reply) (old new : StoreState) → layout.kind ≡ kind_of_cells cell_type → ActStep layout keep shape first act reply old new → IsSome (reply_text cell_type reply)
 act_said cell_type layout keep shape first act Done old new typed s = refl
+act_said cell_type layout keep shape first act (Compacted answer) old new typed s = refl
 act_said cell_type layout keep shape first act (Refused e) old new typed s = refl
 act_said cell_type layout keep shape first act (MaybeCells None) old new typed s = refl
 act_said cell_type layout keep shape first (store region held chunks) (Cells made) old new typed s = absurd s
 act_said cell_type layout keep shape first (erase chunks) (Cells made) old new typed s = absurd s
+act_said cell_type layout keep shape first (compact index) (Cells made) old new typed s = absurd s
 act_said cell_type layout keep shape first (read region chunks) (Cells made) old new typed s = some_text cell_type layout.kind (data_of made) s.2.given typed s.2.are_cells
 act_said cell_type layout keep shape first (read_chunk true index) (Cells made) old new typed s = some_text cell_type layout.kind (data_of made) s.2.chunk typed s.2.is_chunk
 act_said cell_type layout keep shape first (read_chunk false index) (Cells made) old new typed s = absurd s
 act_said cell_type layout keep shape first (store region held chunks) (MaybeCells (Some made)) old new typed s = absurd s
 act_said cell_type layout keep shape first (erase chunks) (MaybeCells (Some made)) old new typed s = absurd s
+act_said cell_type layout keep shape first (compact index) (MaybeCells (Some made)) old new typed s = absurd s
 act_said cell_type layout keep shape first (read region chunks) (MaybeCells (Some made)) old new typed s = absurd s
 act_said cell_type layout keep shape first (read_chunk true index) (MaybeCells (Some made)) old new typed s = absurd s
 act_said cell_type layout keep shape first (read_chunk false index) (MaybeCells (Some made)) old new typed s = some_text cell_type layout.kind (data_of made) s.2.0.chunk typed s.2.0.is_chunk
@@ -73,6 +76,7 @@ does_call (call.StoreChunkSubset indices part held) array outcome calls = calls
 does_call (call.StoreArraySubset region held) array outcome calls = calls
 does_call (call.EraseChunk indices) array outcome calls = calls
 does_call (call.EraseChunks range) array outcome calls = calls
+does_call (call.CompactChunk indices) array outcome calls = calls
 does_call (call.RetrieveChunkIfExists indices) array outcome calls = calls
 does_call (call.RetrieveChunk indices) array outcome calls = calls
 does_call (call.RetrieveChunks range) array outcome calls = calls
@@ -115,6 +119,7 @@ skips_call (call.StoreChunkSubset indices part held) = refl
 skips_call (call.StoreArraySubset region held) = refl
 skips_call (call.EraseChunk indices) = refl
 skips_call (call.EraseChunks range) = refl
+skips_call (call.CompactChunk indices) = refl
 skips_call (call.RetrieveChunkIfExists indices) = refl
 skips_call (call.RetrieveChunk indices) = refl
 skips_call (call.RetrieveChunks range) = refl

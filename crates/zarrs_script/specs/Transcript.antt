@@ -19,7 +19,7 @@ use Rattle.zarrs_codec.specs.Chains.{whole_chunk}
 use Rattle.zarrs_codec.specs.Through.{through}
 use Rattle.zarrs_steps.specs.declared.call.Call.{Call}
 use Rattle.zarrs_steps.specs.declared.call.Reply.{Reply}
-use Rattle.zarrs_steps.specs.declared.call.Reply.TheVariants.{Done, Cells, MaybeCells, Refused}
+use Rattle.zarrs_steps.specs.declared.call.Reply.TheVariants.{Done, Compacted, Cells, MaybeCells, Refused}
 use Rattle.zarrs_steps.specs.Layout.{Layout, layout_at, ArrayState}
 use Rattle.zarrs_steps.specs.Refusals.{refusal_of, refusal_number}
 use Rattle.zarrs_steps.specs.Step.{Step}
@@ -58,9 +58,10 @@ list_text (text ∷ texts) = join_with_byte 44 (text ∷ texts)
 abbrev pub data_text : CellType → ArrayData → Option (List ℕ)
 data_text cell_type held = option_map (λ given. line (list_text (map (cell_text cell_type) given))) (cells (kind_of_cells cell_type) held)
 
--- the line of a reply; of data there is one if it stands for cells
+-- the line of a reply; of data there is one if it stands for cells; no line asks for a compaction
 abbrev pub reply_text : CellType → Reply → Option (List ℕ)
 reply_text cell_type Done = Some (line (codes "ok"))
+reply_text cell_type (Compacted answer) = Some (line (codes "ok"))
 reply_text cell_type (Cells held) = data_text cell_type (data_of held)
 reply_text cell_type (MaybeCells (Some held)) = data_text cell_type (data_of held)
 reply_text cell_type (MaybeCells None) = Some (line (codes "none"))

@@ -187,7 +187,7 @@ pub fn put_reply<W: Write>(
     ensures refused { IfOk result (λ refused. refused ≡ is_refusal reply.now) }
 {
     match reply {
-        Reply::Done => {
+        Reply::Done | Reply::Compacted(_) => {
             put_line(out, b"ok")?;
             Ok(false)
         }

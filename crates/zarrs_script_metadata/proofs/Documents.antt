@@ -21,7 +21,7 @@ use Rattle.zarrs_types.specs.Kind as type
 use Rattle.zarrs_types.specs.TypeMetadata.{kind_of, kind_extension}
 use Rattle.zarrs_types.specs.declared.data_type.DataType.{DataType}
 use Rattle.zarrs_codec.specs.Chains.{array_to_array_of, array_to_bytes_of}
-use Rattle.zarrs_codec.specs.Metadata.{ChainData, chain_data, chain_said, extensions_of_chain, bytes_codec_data}
+use Rattle.zarrs_codec.specs.Metadata.{ChainData, chain_data, chain_said, extensions_of_chain}
 use Rattle.zarrs_codec.specs.declared.chain.CodecChain.{CodecChain}
 use Rattle.zarrs_codec.proofs.ChainMetadata.{chain_back}
 use Rattle.zarrs_array_metadata.specs.Meanings.{meaning_with, creation_v3}
@@ -62,4 +62,4 @@ pub document_says : (g : RegularChunkGrid) (chain : CodecChain) (t : DataType) (
 document_says g chain t fill m numeric said is =
     ap creation_v3 is
     ∙ parts_back (array_extents_of (Regular g)) (configuration_of (Regular g)) (chain_data chain) (kind t) fill
-    (chain_back (array_to_array_of chain) (bytes_codec_data (array_to_bytes_of chain))) (type_back (kind t) numeric) (grid_back (Regular g)) said
+    (chain_back (array_to_array_of chain) (array_to_bytes_of chain)) (type_back (kind t) numeric) (grid_back (Regular g)) said

@@ -12,7 +12,8 @@ use Rattle.zarrs_types.specs.Kind.{Kind}
 use Rattle.zarrs_types.specs.Kind as type
 use Rattle.zarrs_types.specs.TypeMetadata.{kind_extension}
 use Rattle.zarrs_codec_leaf.specs.declared.bytes.Endianness.TheVariants.{Little}
-use Rattle.zarrs_codec.specs.Metadata.{bytes, extensions_of_chain}
+use Rattle.zarrs_codec_cells.specs.Metadata.{bytes}
+use Rattle.zarrs_codec.specs.Metadata.{cells, extensions_of_chain}
 use Rattle.zarrs_array_metadata.specs.Meanings.{Meaning}
 
 -- the parts of an array with the `regular` grid, `default` keys with `/` and the codec `bytes`, little endian
@@ -21,7 +22,7 @@ parts_for shape chunk_shape kind fill = record {
   shape = shape;
   grid = regular chunk_shape;
   keys = Default Slash;
-  chain = record { array_to_array = []; array_to_bytes = bytes (Some Little) };
+  chain = record { array_to_array = []; array_to_bytes = cells (bytes (Some Little)) };
   kind = kind;
   fill = fill;
 }
