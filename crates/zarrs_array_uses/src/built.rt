@@ -36,6 +36,21 @@ pub fn rainfall(alloc: Global, storage: MemoryStore, path: &str) -> Result<Array
     Ok(array)
 }
 
+/// The same rainfall in one chunk, which is cut into subchunks of 4 by 4.
+pub fn rainfall_in_a_shard(
+    alloc: Global,
+    storage: MemoryStore,
+    path: &str,
+) -> Result<Array<MemoryStore>> {
+    let mut builder = measured_places(alloc, in_unit(alloc, "mm")?);
+    builder
+        .chunk_grid_metadata(alloc, [8u64, 8])
+        .subchunk_shape(alloc, Some([4u64, 4]));
+    let mut array = builder.build(alloc, storage, path)?;
+    array.store_metadata(alloc)?;
+    Ok(array)
+}
+
 /// The unit of the cells, if the attributes say one.
 pub fn unit_of<S>(array: &Array<S>) -> Option<&str> {
     array.attributes().get("unit").and_then(Value::as_str)

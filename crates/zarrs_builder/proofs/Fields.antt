@@ -7,6 +7,7 @@ use Rattle.zarrs_metadata.specs.Extension.{ExtensionData}
 use Rattle.zarrs_keys.specs.declared.encodings.ChunkKeyEncoding.{ChunkKeyEncoding}
 use Rattle.zarrs_types.specs.Kind.{Kind}
 use Rattle.zarrs_codec_array.specs.Metadata.{ArrayCodecData}
+use Rattle.zarrs_chain.specs.declared.options.CodecSpecificOptions.{CodecSpecificOptions}
 use Rattle.zarrs_codec.specs.Metadata.{BytesCodecData}
 use Rattle.zarrs_document.specs.Fields.{FieldData}
 use Rattle.zarrs_builder.specs.Given.{FillData}
@@ -25,8 +26,9 @@ pub found_ok : {A B E : Type 0} (r : Result A E) (f : A → B) (a : A) → r ≡
 found_ok r f a is = rw is refl
 
 -- two builders of the same parts
-pub same_parts : (s t : Option (List ℕ)) (g h : Option (Option ExtensionData)) (k l : Option (Option Kind)) (f e : Option FillData) (n o : Option (Option (List (Option (List ℕ))))) (keys others : ChunkKeyEncoding) (a b : List ArrayCodecData) (c d : Option BytesCodecData) (attributes more : Members) (fields rest : List (List ℕ × FieldData))
-    → s ≡ t → g ≡ h → k ≡ l → f ≡ e → n ≡ o → keys ≡ others → a ≡ b → c ≡ d → attributes ≡ more → fields ≡ rest
-    → same_type (record { shape = s; chunk_grid = g; data_type = k; fill_value = f; dimension_names = n; chunk_key_encoding = keys; array_to_array = a; array_to_bytes = c; attributes = attributes; additional_fields = fields })
-    (record { shape = t; chunk_grid = h; data_type = l; fill_value = e; dimension_names = o; chunk_key_encoding = others; array_to_array = b; array_to_bytes = d; attributes = more; additional_fields = rest })
-same_parts s t g h k l f e n o keys others a b c d attributes more fields rest e1 e2 e3 e4 e5 e6 e7 e8 e9 e10 = rw (e1, e2, e3, e4, e5, e6, e7, e8, e9, e10) refl
+pub same_parts : (s t : Option (List ℕ)) (g h : Option (Option ExtensionData)) (k l : Option (Option Kind)) (f e : Option FillData) (n o : Option (Option (List (Option (List ℕ))))) (keys others : ChunkKeyEncoding) (a b : List ArrayCodecData) (c d : Option BytesCodecData) (attributes more : Members) (fields rest : List (List ℕ × FieldData)) (sub cut : Option (Option (List ℕ))) (options choices : CodecSpecificOptions)
+    → s ≡ t → g ≡ h → k ≡ l → f ≡ e → n ≡ o → keys ≡ others → a ≡ b → c ≡ d → attributes ≡ more → fields ≡ rest → sub ≡ cut → options ≡ choices
+    → same_type (record { shape = s; chunk_grid = g; data_type = k; fill_value = f; dimension_names = n; subchunk_shape = sub; chunk_key_encoding = keys; array_to_array = a; array_to_bytes = c; attributes = attributes; additional_fields = fields; codec_specific_options = options })
+    (record { shape = t; chunk_grid = h; data_type = l; fill_value = e; dimension_names = o; subchunk_shape = cut; chunk_key_encoding = others; array_to_array = b; array_to_bytes = d; attributes = more; additional_fields = rest; codec_specific_options = choices })
+same_parts s t g h k l f e n o keys others a b c d attributes more fields rest sub cut options choices e1 e2 e3 e4 e5 e6 e7 e8 e9 e10 e11 e12 =
+    rw (e1, e2, e3, e4, e5, e6, e7, e8, e9, e10, e11, e12) refl

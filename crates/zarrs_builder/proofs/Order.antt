@@ -1,10 +1,16 @@
 -- Which refusal of a builder comes first.
-use Rattle.std.proofs.Common.{◌≡◌, ℕ, List, length, Option, Some, Result, Ok, refl}
+use Rattle.std.proofs.Common.{◌≡◌, ◌==◌, ℕ, ◌<◌, false, List, [], ◌∷◌, length, Option, Some, Result, Ok, refl, sym, ap, subst, ◌∙◌, arith}
+use Rattle.std.specs.Int.NonZero.{non_zero_u64_get}
+use Rattle.std.specs.List.{list_any}
+use Rattle.std.specs.declared.num.NonZeroU64.{NonZeroU64}
+use Rattle.std.proofs.lemmas.Bool.Decides.{nat_tests}
 use Rattle.serde_json.specs.Data.{Data}
 use Rattle.zarrs_metadata.specs.Extension.{ExtensionData}
 use Rattle.zarrs_chunk_grid.specs.Configurations.{GridConfiguration}
 use Rattle.zarrs_types.specs.Kind.{Kind}
-use Rattle.zarrs_codec.specs.Metadata.{BytesCodecData}
+use Rattle.zarrs_codec_cells.specs.ShardingMetadata.{sizes_of}
+use Rattle.zarrs_codec_array.specs.Metadata.{ArrayCodecData}
+use Rattle.zarrs_codec.specs.Metadata.{BytesCodecData, ChainData}
 use Rattle.zarrs_document.specs.Document.{DocumentData}
 use Rattle.zarrs_document_v2.specs.View.{v3}
 use Rattle.zarrs_options.specs.Refusals.{CreateRefusal, data_type, chunk_grid, said_or, RefusesCreation}
@@ -12,15 +18,34 @@ use Rattle.zarrs_array_metadata.proofs.Order.{bound}
 use Rattle.zarrs_array_metadata.specs.Meanings.{names_said, path_said, created}
 use Rattle.zarrs_builder.specs.Given.{FillData}
 use Rattle.zarrs_builder.specs.Builders.{BuilderData, FieldsData, fields_of}
-use Rattle.zarrs_builder.specs.Built.{codec_chosen, grid_chosen, fill_chosen, fill_stated, chosen, document_with, document_of_fields, built, built_at, built_metadata}
+use Rattle.zarrs_builder.specs.Built.{codecs_chosen, sizes_said, cut_into, chain_chosen, grid_chosen, fill_chosen, fill_stated, chosen, document_with, document_of_fields, built, built_at, built_metadata}
 
 -- each field found memory
-pub all_found : (b : BuilderData) (s : List ℕ) → b.shape ≡ Some s → (g : Option ExtensionData) → b.chunk_grid ≡ Some g → (k : Option Kind) → b.data_type ≡ Some k → (f : FillData) → b.fill_value ≡ Some f → (n : Option (List (Option (List ℕ)))) → b.dimension_names ≡ Some n
-    → fields_of b ≡ Some (record { shape = s; chunk_grid = g; data_type = k; fill_value = f; dimension_names = n })
+pub all_found : (b : BuilderData) (s : List ℕ) → b.shape ≡ Some s → (g : Option ExtensionData) → b.chunk_grid ≡ Some g → (k : Option Kind) → b.data_type ≡ Some k → (f : FillData) → b.fill_value ≡ Some f → (n : Option (List (Option (List ℕ)))) → b.dimension_names ≡ Some n → (sub : Option (List ℕ)) → b.subchunk_shape ≡ Some sub
+    → fields_of b ≡ Some (record { shape = s; chunk_grid = g; data_type = k; fill_value = f; dimension_names = n; subchunk_shape = sub })
 unfolding fields_of
-all_found b s e1 g e2 k e3 f e4 n e5 = rw (e1, e2, e3, e4, e5) refl
+all_found b s e1 g e2 k e3 f e4 n e5 sub e6 = rw (e1, e2, e3, e4, e5, e6) refl
 
 -- ---- what the fields say
+
+none_zero : (sizes : List NonZeroU64) → list_any (λ extent. extent == 0) (sizes_of sizes) ≡ false
+none_zero [] = refl
+none_zero (size ∷ sizes) =
+    let above : 0 < non_zero_u64_get size = size.ok in
+    let test : (non_zero_u64_get size == 0) ≡ false = grind (arith, nat_tests) in
+    rw test (none_zero sizes)
+
+-- sizes that are not 0
+pub sized : (sizes : List NonZeroU64) (shape : List ℕ) → sizes_of sizes ≡ shape → sizes_said shape ≡ Ok tt
+sized sizes shape is = subst (λ (s : List ℕ). sizes_said s ≡ Ok tt) is (rw (none_zero sizes) refl)
+
+-- subchunks of these sizes, which copies of the codecs encode
+pub chain_cut : (sizes : List NonZeroU64) (shape : List ℕ) (front a : List ArrayCodecData) (last b : BytesCodecData) (chain : ChainData) → sizes_of sizes ≡ shape → front ≡ a → last ≡ b
+    → chain ≡ cut_into (sizes_of sizes) (record { array_to_array = front; array_to_bytes = last }) → chain_chosen (Some shape) (record { array_to_array = a; array_to_bytes = b }) ≡ Ok chain
+chain_cut sizes shape front a last b chain is before after made =
+    let same : cut_into (sizes_of sizes) (record { array_to_array = front; array_to_bytes = last }) ≡ cut_into shape (record { array_to_array = a; array_to_bytes = b }) =
+    λ i. cut_into (is i) (record { array_to_array = before i; array_to_bytes = after i }) in
+    rw (sized sizes shape is) (ap Ok (sym (made ∙ same)))
 
 module _ (b : BuilderData) (f : FieldsData) (r : CreateRefusal) where
   pub at_type : RefusesCreation (said_or data_type f.data_type) r → RefusesCreation (chosen b f) r
@@ -28,30 +53,36 @@ module _ (b : BuilderData) (f : FieldsData) (r : CreateRefusal) where
   at_type is = bound _ _ r is
 
   module _ (k : Kind) (e1 : f.data_type ≡ Some k) where
-    pub at_grid : RefusesCreation (said_or chunk_grid (grid_chosen f.chunk_grid f.shape)) r → RefusesCreation (chosen b f) r
+    pub at_chain : RefusesCreation (chain_chosen f.subchunk_shape (codecs_chosen b k)) r → RefusesCreation (chosen b f) r
     unfolding chosen
-    at_grid is = rw e1 (bound _ _ r is)
+    at_chain is = rw e1 (bound _ _ r is)
 
-    module _ (grid : GridConfiguration) (e3 : grid_chosen f.chunk_grid f.shape ≡ Some grid) where
-      pub at_fill : RefusesCreation (fill_chosen k f.fill_value) r → RefusesCreation (chosen b f) r
+    module _ (chain : ChainData) (e2 : chain_chosen f.subchunk_shape (codecs_chosen b k) ≡ Ok chain) where
+      pub at_grid : RefusesCreation (said_or chunk_grid (grid_chosen f.chunk_grid f.shape)) r → RefusesCreation (chosen b f) r
       unfolding chosen
-      at_fill is = rw (e1, e3) (bound _ _ r is)
+      at_grid is = rw (e1, e2) (bound _ _ r is)
 
-      module _ (fill : List ℕ) (e4 : fill_chosen k f.fill_value ≡ Ok fill) where
-        pub at_names : RefusesCreation (names_said (length f.shape) f.dimension_names) r → RefusesCreation (chosen b f) r
+      module _ (grid : GridConfiguration) (e3 : grid_chosen f.chunk_grid f.shape ≡ Some grid) where
+        pub at_fill : RefusesCreation (fill_chosen k f.fill_value) r → RefusesCreation (chosen b f) r
         unfolding chosen
-        at_names is = rw (e1, e3, e4) (bound _ _ r is)
+        at_fill is = rw (e1, e2, e3) (bound _ _ r is)
 
-        module _ (e5 : names_said (length f.shape) f.dimension_names ≡ Ok tt) where
-          pub at_stated : RefusesCreation (fill_stated k fill) r → RefusesCreation (chosen b f) r
+        module _ (fill : List ℕ) (e4 : fill_chosen k f.fill_value ≡ Ok fill) where
+          pub at_names : RefusesCreation (names_said (length f.shape) f.dimension_names) r → RefusesCreation (chosen b f) r
           unfolding chosen
-          at_stated is = rw (e1, e3, e4, e5) (bound _ _ r is)
+          at_names is = rw (e1, e2, e3, e4) (bound _ _ r is)
 
-pub all_chosen : (b : BuilderData) (f : FieldsData) (k : Kind) → f.data_type ≡ Some k → (codec : BytesCodecData) → codec_chosen b.array_to_bytes k ≡ codec → (grid : GridConfiguration) → grid_chosen f.chunk_grid f.shape ≡ Some grid → (fill : List ℕ) → fill_chosen k f.fill_value ≡ Ok fill
+          module _ (e5 : names_said (length f.shape) f.dimension_names ≡ Ok tt) where
+            pub at_stated : RefusesCreation (fill_stated k fill) r → RefusesCreation (chosen b f) r
+            unfolding chosen
+            at_stated is = rw (e1, e2, e3, e4, e5) (bound _ _ r is)
+
+pub all_chosen : (b : BuilderData) (f : FieldsData) (k : Kind) → f.data_type ≡ Some k → (chain : ChainData) → chain_chosen f.subchunk_shape (codecs_chosen b k) ≡ Ok chain
+    → (grid : GridConfiguration) → grid_chosen f.chunk_grid f.shape ≡ Some grid → (fill : List ℕ) → fill_chosen k f.fill_value ≡ Ok fill
     → names_said (length f.shape) f.dimension_names ≡ Ok tt → (stated : Data) → fill_stated k fill ≡ Ok stated
-    → chosen b f ≡ Ok (record { kind = k; codec = codec; grid = grid; fill_value = stated })
+    → chosen b f ≡ Ok (record { kind = k; chain = chain; grid = grid; fill_value = stated })
 unfolding chosen
-all_chosen b f k e1 codec e2 grid e3 fill e4 e5 stated e6 = rw (e1, e2, e3, e4, e5, e6) refl
+all_chosen b f k e1 chain e2 grid e3 fill e4 e5 stated e6 = rw (e1, e2, e3, e4, e5, e6) refl
 
 -- ---- the array
 

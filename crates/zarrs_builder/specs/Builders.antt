@@ -16,6 +16,7 @@ use Rattle.zarrs_chunk_grid.specs.declared.grid.ChunkGrid.{ChunkGrid}
 use Rattle.zarrs_types.specs.FillMetadata.{fill_written}
 use Rattle.zarrs_types.specs.Kind.{Kind}
 use Rattle.zarrs_codec_array.specs.Metadata.{ArrayCodecData, array_codec_data}
+use Rattle.zarrs_chain.specs.declared.options.CodecSpecificOptions.{CodecSpecificOptions}
 use Rattle.zarrs_codec.specs.Metadata.{BytesCodecData, bytes_codec_data}
 use Rattle.zarrs_document.specs.Fields.{FieldData}
 use Rattle.zarrs_document.specs.View.{name_view, fields_view}
@@ -23,12 +24,13 @@ use Rattle.zarrs_document_v2.specs.View.{MetadataData, v3, v2}
 use Rattle.zarrs_options.specs.Given.{grid_given}
 use Rattle.zarrs_options.specs.declared.chunk_grid_metadata.ArrayBuilderChunkGridMetadata.{ArrayBuilderChunkGridMetadata}
 use Rattle.zarrs_array_metadata.specs.Meanings.{Meaning, shape_said, attributes_of, dimension_names_of}
+use Rattle.zarrs.specs.Arrays.{default_specific_options}
 use Rattle.zarrs_builder.specs.Given.{type_given, FillData, by_metadata, fill_given}
 use Rattle.zarrs_builder.specs.declared.data_type.ArrayBuilderDataType.{ArrayBuilderDataType}
 use Rattle.zarrs_builder.specs.declared.fill_value.ArrayBuilderFillValue.{ArrayBuilderFillValue}
 use Rattle.zarrs_builder.specs.declared.builder.ArrayBuilder.{ArrayBuilder}
 
--- The first five are none if they found no memory. A chunk grid and a data type are what is given for them, if that
+-- The first six are none if they found no memory. A chunk grid and a data type are what is given for them, if that
 -- says one.
 pub record BuilderData : Type 0 where
   pub shape : Option (List ℕ)
@@ -36,12 +38,15 @@ pub record BuilderData : Type 0 where
   pub data_type : Option (Option Kind)
   pub fill_value : Option FillData
   pub dimension_names : Option (Option (List (Option (List ℕ))))
+  -- none for chunks that are not cut
+  pub subchunk_shape : Option (Option (List ℕ))
   pub chunk_key_encoding : ChunkKeyEncoding
   pub array_to_array : List ArrayCodecData
   -- none for the default codec of the data type
   pub array_to_bytes : Option BytesCodecData
   pub attributes : Members
   pub additional_fields : List (List ℕ × FieldData)
+  pub codec_specific_options : CodecSpecificOptions
 
 abbrev pub builder_view : ArrayBuilder → BuilderData
 builder_view b = record {
@@ -50,11 +55,13 @@ builder_view b = record {
   data_type = option_map type_given (result_ok b.data_type);
   fill_value = option_map fill_given (result_ok b.fill_value);
   dimension_names = option_map (option_map (λ names. map name_view names.items)) (result_ok b.dimension_names);
+  subchunk_shape = option_map (option_map (λ v. v.items)) (result_ok b.subchunk_shape);
   chunk_key_encoding = b.chunk_key_encoding;
   array_to_array = map array_codec_data b.array_to_array_codecs.items;
   array_to_bytes = option_map bytes_codec_data b.array_to_bytes_codec;
   attributes = members_view b.attributes.entries;
   additional_fields = fields_view b.additional_fields.entries;
+  codec_specific_options = b.codec_specific_options;
 }
 
 -- the fields that a caller's value becomes, or that found no memory
@@ -73,7 +80,10 @@ fill_value_of b = b.fill_value
 abbrev pub dimension_names_in : ArrayBuilder → Result (Option (Vec (Option (String Global)) Global)) AllocError
 dimension_names_in b = b.dimension_names
 
--- `default` keys with `/`, the default codec, and nothing that may be absent
+abbrev pub subchunk_shape_in : ArrayBuilder → Result (Option (Vec ℕ Global)) AllocError
+subchunk_shape_in b = b.subchunk_shape
+
+-- `default` keys with `/`, the default codec and options, and nothing that may be absent
 abbrev pub plain_builder : Option (List ℕ) → Option (Option ExtensionData) → Option (Option Kind) → Option FillData → BuilderData
 plain_builder shape chunk_grid data_type fill_value = record {
   shape = shape;
@@ -81,11 +91,13 @@ plain_builder shape chunk_grid data_type fill_value = record {
   data_type = data_type;
   fill_value = fill_value;
   dimension_names = Some None;
+  subchunk_shape = Some None;
   chunk_key_encoding = Default Slash;
   array_to_array = [];
   array_to_bytes = None;
   attributes = no_members;
   additional_fields = [];
+  codec_specific_options = default_specific_options;
 }
 
 -- all that a caller chose in `new`, and else what is plain
@@ -104,7 +116,8 @@ abbrev pub additional_fields_of : MetadataData → List (List ℕ × FieldData)
 additional_fields_of (v3 m) = m.additional_fields
 additional_fields_of (v2 m) = []
 
--- the builder of an array with this metadata and these parts
+-- the builder of an array with this metadata and these parts: its codecs are those of the array, also where one of them
+-- cuts the chunks
 abbrev pub builder_of : MetadataData → Meaning → BuilderData
 builder_of m parts = record {
   shape = Some (shape_said m);
@@ -112,11 +125,13 @@ builder_of m parts = record {
   data_type = Some (Some parts.kind);
   fill_value = Some (by_metadata (fill_written parts.kind parts.fill));
   dimension_names = Some (dimension_names_of m);
+  subchunk_shape = Some None;
   chunk_key_encoding = parts.keys;
   array_to_array = parts.chain.array_to_array;
   array_to_bytes = Some parts.chain.array_to_bytes;
   attributes = attributes_of m;
   additional_fields = additional_fields_of m;
+  codec_specific_options = default_specific_options;
 }
 
 -- ---- the fields that found memory
@@ -127,6 +142,7 @@ pub record FieldsData : Type 0 where
   pub data_type : Option Kind
   pub fill_value : FillData
   pub dimension_names : Option (List (Option (List ℕ)))
+  pub subchunk_shape : Option (List ℕ)
 
 -- the fields, if each found memory
 unfoldable pub fields_of : BuilderData → Option FieldsData
@@ -136,4 +152,5 @@ fields_of b = do
   k ← b.data_type
   f ← b.fill_value
   n ← b.dimension_names
-  Some (record { shape = s; chunk_grid = g; data_type = k; fill_value = f; dimension_names = n })
+  sub ← b.subchunk_shape
+  Some (record { shape = s; chunk_grid = g; data_type = k; fill_value = f; dimension_names = n; subchunk_shape = sub })

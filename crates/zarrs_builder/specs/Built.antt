@@ -1,5 +1,6 @@
 -- The metadata that a builder says, or the first refusal.
-use Rattle.std.specs.Prelude.{◌≡◌, ℕ, List, [], length, Option, Some, None, Result, Ok, Err, is_some, if◌then◌else◌, option_and_then}
+use Rattle.std.specs.Prelude.{◌≡◌, ◌==◌, ℕ, List, [], length, false, Option, Some, None, Result, Ok, Err, is_some, if◌then◌else◌, option_and_then}
+use Rattle.std.specs.List.{list_any}
 use Rattle.serde_json.specs.Data.{Data}
 use Rattle.zarrs_metadata.specs.Extension.{ExtensionData}
 use Rattle.zarrs_keys.specs.Metadata.{extension_of_encoding}
@@ -9,10 +10,10 @@ use Rattle.zarrs_types.specs.Cell.{fill_cell}
 use Rattle.zarrs_types.specs.FillMetadata.{fill_said, fill_written}
 use Rattle.zarrs_types.specs.Kind.{Kind}
 use Rattle.zarrs_types.specs.TypeMetadata.{kind_name, kind_extension}
-use Rattle.zarrs_codec.specs.Metadata.{BytesCodecData, default_codec, extensions_of_chain}
+use Rattle.zarrs_codec.specs.Metadata.{BytesCodecData, ChainData, sharding, default_codec, extensions_of_chain}
 use Rattle.zarrs_document.specs.Document.{DocumentData}
 use Rattle.zarrs_document_v2.specs.View.{MetadataData, v3}
-use Rattle.zarrs_options.specs.Refusals.{CreateRefusal, data_type, chunk_grid, fill_value, fill_value_metadata, out_of_memory, said_or}
+use Rattle.zarrs_options.specs.Refusals.{CreateRefusal, data_type, subchunk_shape, chunk_grid, fill_value, fill_value_metadata, out_of_memory, said_or}
 use Rattle.zarrs_array_metadata.specs.Meanings.{Meaning, creation_v3, path_said, names_said, ◌>>=◌}
 use Rattle.zarrs_builder.specs.Given.{FillData, by_bytes, by_metadata}
 use Rattle.zarrs_builder.specs.Builders.{BuilderData, FieldsData, fields_of}
@@ -21,6 +22,24 @@ use Rattle.zarrs_builder.specs.Builders.{BuilderData, FieldsData, fields_of}
 abbrev pub codec_chosen : Option BytesCodecData → Kind → BytesCodecData
 codec_chosen (Some codec) k = codec
 codec_chosen None k = default_codec k
+
+-- the codecs of the cells of a type
+abbrev pub codecs_chosen : BuilderData → Kind → ChainData
+codecs_chosen b k = record { array_to_array = b.array_to_array; array_to_bytes = codec_chosen b.array_to_bytes k }
+
+-- no extent of a subchunk is 0
+abbrev pub sizes_said : List ℕ → Result (Unit {0}) CreateRefusal
+sizes_said shape = if list_any (λ extent. extent == 0) shape then Err (subchunk_shape shape) else Ok tt
+
+-- the chain of one codec, `sharding_indexed` with subchunks of this shape, which these codecs encode, and its index at
+-- the end
+abbrev pub cut_into : List ℕ → ChainData → ChainData
+cut_into shape codecs = record { array_to_array = []; array_to_bytes = sharding shape false codecs.array_to_array codecs.array_to_bytes }
+
+-- the chain: these codecs, or subchunks that they encode
+abbrev pub chain_chosen : Option (List ℕ) → ChainData → Result ChainData CreateRefusal
+chain_chosen None codecs = Ok codecs
+chain_chosen (Some shape) codecs = sizes_said shape >>= (λ sized. Ok (cut_into shape codecs))
 
 -- the grid over an array of that shape that is given, if there is one
 abbrev pub grid_chosen : Option ExtensionData → List ℕ → Option GridConfiguration
@@ -37,7 +56,7 @@ fill_stated k f = if is_some (fill_cell k f) then Ok (fill_written k f) else Err
 
 pub record ChosenData : Type 0 where
   pub kind : Kind
-  pub codec : BytesCodecData
+  pub chain : ChainData
   pub grid : GridConfiguration
   pub fill_value : Data
 
@@ -45,11 +64,12 @@ pub record ChosenData : Type 0 where
 unfoldable pub chosen : BuilderData → FieldsData → Result ChosenData CreateRefusal
 chosen b f = do
   kind ← said_or data_type f.data_type
+  chain ← chain_chosen f.subchunk_shape (codecs_chosen b kind)
   grid ← said_or chunk_grid (grid_chosen f.chunk_grid f.shape)
   fill ← fill_chosen kind f.fill_value
   named ← names_said (length f.shape) f.dimension_names
   stated ← fill_stated kind fill
-  Ok (record { kind = kind; codec = codec_chosen b.array_to_bytes kind; grid = grid; fill_value = stated })
+  Ok (record { kind = kind; chain = chain; grid = grid; fill_value = stated })
 
 -- the metadata of these parts, by main names
 abbrev pub document_with : BuilderData → FieldsData → ChosenData → DocumentData
@@ -59,7 +79,7 @@ document_with b f c = record {
   chunk_grid = extension_of_grid c.grid;
   chunk_key_encoding = extension_of_encoding b.chunk_key_encoding;
   fill_value = c.fill_value;
-  codecs = extensions_of_chain (record { array_to_array = b.array_to_array; array_to_bytes = c.codec });
+  codecs = extensions_of_chain c.chain;
   attributes = b.attributes;
   storage_transformers = [];
   dimension_names = f.dimension_names;

@@ -3,7 +3,7 @@ use Rattle.std.specs.Prelude.{map, option_map}
 use Rattle.zarrs_metadata.specs.FillValue.{fill_data}
 use Rattle.zarrs_types.specs.Kind.{kind}
 use Rattle.zarrs_chunk_grid.specs.GridView.{configuration_of}
-use Rattle.zarrs_codec.specs.Metadata.{bytes_codec_data}
+use Rattle.zarrs_codec.specs.Metadata.{chain_data}
 use Rattle.zarrs_document.specs.View.{name_view}
 use Rattle.zarrs_options.specs.Given.{grid_given}
 use Rattle.zarrs_builder.specs.Given.{type_given, fill_given}
@@ -19,12 +19,13 @@ found_fields f = record {
   data_type = type_given f.data_type.now;
   fill_value = fill_given f.fill_value.now;
   dimension_names = option_map (λ names. map name_view names.now) f.dimension_names;
+  subchunk_shape = option_map (λ shape. shape.now) f.subchunk_shape;
 }
 
 abbrev pub chosen_view : Chosen → ChosenData
 chosen_view c = record {
   kind = kind c.data_type;
-  codec = bytes_codec_data c.codec;
+  chain = chain_data c.chain;
   grid = configuration_of c.grid;
   fill_value = fill_data c.fill_value;
 }

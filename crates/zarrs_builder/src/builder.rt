@@ -9,7 +9,7 @@ pub use arrays::ToBuilder;
 use serde_json::{Map, Value};
 use std::alloc::{AllocError, Global};
 use zarrs_chunk_grid::{ChunkGrid, ChunkGridTraits};
-use zarrs_codec::{ArrayToArrayCodec, ArrayToBytesCodec, BytesToBytesCodecs};
+use zarrs_codec::{ArrayToArrayCodec, ArrayToBytesCodec, BytesToBytesCodecs, CodecSpecificOptions};
 use zarrs_data_type::IntoField;
 use zarrs_document::{AdditionalFieldsV3, DimensionName};
 use zarrs_keys::ChunkKeyEncoding;
@@ -17,8 +17,9 @@ use zarrs_metadata::ChunkKeySeparator;
 use zarrs_options::{ArrayBuilderChunkGridMetadata, StorageTransformerChain};
 use zarrs_subset::ArrayShape;
 
-/// What a new array is to be: its shape, how it is cut into chunks, the type of its cells and their fill value, the
-/// codecs, the keys of its chunks, attributes, names of dimensions and additional fields.
+/// What a new array is to be: its shape, how it is cut into chunks and they into subchunks, the type of its cells and
+/// their fill value, the codecs and their options, the keys of its chunks, attributes, names of dimensions and additional
+/// fields.
 ///
 /// A field for which there was no memory remembers it: `build` and `build_metadata` are out of memory then, until the
 /// field is set again.
@@ -29,6 +30,7 @@ pub struct ArrayBuilder {
     data_type: Result<ArrayBuilderDataType, AllocError>,
     fill_value: Result<ArrayBuilderFillValue, AllocError>,
     dimension_names: Result<Option<Vec<DimensionName>>, AllocError>,
+    subchunk_shape: Result<Option<ArrayShape>, AllocError>,
     chunk_key_encoding: ChunkKeyEncoding,
     array_to_array_codecs: Vec<ArrayToArrayCodec>,
     array_to_bytes_codec: Option<ArrayToBytesCodec>,
@@ -36,6 +38,7 @@ pub struct ArrayBuilder {
     attributes: Map<String, Value>,
     additional_fields: AdditionalFieldsV3,
     storage_transformers: StorageTransformerChain,
+    codec_specific_options: CodecSpecificOptions,
 }
 
 impl ArrayBuilder {
@@ -44,8 +47,8 @@ impl ArrayBuilder {
     ghost use Rattle.zarrs_builder.specs.Builders.{data_type_of, fill_value_of, IsNew, HasGrid};
 
     /// Returns a builder of an array of this shape, chunk grid, data type and fill value, with `default` chunk keys
-    /// separated by `/`, the default codec of the data type, and no attributes, names of dimensions and additional
-    /// fields.
+    /// separated by `/`, the default codec of the data type, the default options, and no subchunks, attributes, names of
+    /// dimensions and additional fields.
     pub fn new<
         S: IntoField<ArrayShape>,
         G: IntoField<ArrayBuilderChunkGridMetadata>,
@@ -64,6 +67,7 @@ impl ArrayBuilder {
             data_type: data_type.into_field(alloc),
             fill_value: fill_value.into_field(alloc),
             dimension_names: Ok(None),
+            subchunk_shape: Ok(None),
             chunk_key_encoding: ChunkKeyEncoding::Default(ChunkKeySeparator::Slash),
             array_to_array_codecs: Vec::new(alloc),
             array_to_bytes_codec: None,
@@ -71,6 +75,7 @@ impl ArrayBuilder {
             attributes: Map::new(alloc),
             additional_fields: Map::new(alloc),
             storage_transformers: StorageTransformerChain,
+            codec_specific_options: CodecSpecificOptions::default(),
         }
     }
 
@@ -92,6 +97,7 @@ impl ArrayBuilder {
             data_type: data_type.into_field(alloc),
             fill_value: fill_value.into_field(alloc),
             dimension_names: Ok(None),
+            subchunk_shape: Ok(None),
             chunk_key_encoding: ChunkKeyEncoding::Default(ChunkKeySeparator::Slash),
             array_to_array_codecs: Vec::new(alloc),
             array_to_bytes_codec: None,
@@ -99,6 +105,7 @@ impl ArrayBuilder {
             attributes: Map::new(alloc),
             additional_fields: Map::new(alloc),
             storage_transformers: StorageTransformerChain,
+            codec_specific_options: CodecSpecificOptions::default(),
         }
     }
 }

@@ -37,17 +37,21 @@ fn number(rt: &impl Abort, alloc: Global, builder: &ArrayBuilder) -> u8 {
         ArrayCreateError::InvalidFillValueMetadata { .. } => 15,
         ArrayCreateError::ChunkGridCreateError(PluginCreateError::Other(_)) => 18,
         ArrayCreateError::InvalidDimensionNames(3, 2) => 21,
+        ArrayCreateError::InvalidSubchunkShape(shape) if shape.as_slice() == [2, 0].as_slice() =>
+            22,
         _ => 0,
     };
     drop(error);
     number
 }
 
-/// A builder with each fault: no data type, no grid, no fill value, and three names.
+/// A builder with each fault: no data type, empty subchunks, no grid, no fill value, and three names.
 fn faulty(alloc: Global) -> ArrayBuilder {
     let mut builder = ArrayBuilder::new(alloc, [8u64, 8], "regular", "float64", "none");
     let names = ["z", "y", "x"];
-    builder.dimension_names(alloc, Some(names.iter().copied()));
+    builder
+        .dimension_names(alloc, Some(names.iter().copied()))
+        .subchunk_shape(alloc, Some([2u64, 0]));
     builder
 }
 
@@ -55,6 +59,8 @@ fn faulty(alloc: Global) -> ArrayBuilder {
 fn must_refuse_in_order(rt: &impl Abort, alloc: Global, builder: &mut ArrayBuilder) {
     must_eq(rt, number(rt, alloc, builder), 13);
     builder.data_type(alloc, "int16");
+    must_eq(rt, number(rt, alloc, builder), 22);
+    builder.subchunk_shape(alloc, None::<[u64; 0]>);
     must_eq(rt, number(rt, alloc, builder), 18);
     builder.chunk_grid_metadata(alloc, [4u64, 4]);
     must_eq(rt, number(rt, alloc, builder), 15);

@@ -7,9 +7,9 @@ use std::process::Abort;
 use zarrs::codec::{BytesCodec, SqueezeCodec};
 use zarrs::{
     AdditionalFieldV3, AdditionalFieldsV3, ArrayToArrayCodec, ArrayToBytesCodec,
-    BytesToBytesCodecs, ChunkGrid, ChunkKeyEncoding, ChunkKeySeparator, DataType, DimensionName,
-    FillValue, FillValueMetadata, IntoField, MetadataV3, RegularBoundedChunkGrid,
-    StorageTransformerChain,
+    BytesToBytesCodecs, ChunkGrid, ChunkKeyEncoding, ChunkKeySeparator, CodecSpecificOptions,
+    DataType, DimensionName, FillValue, FillValueMetadata, IntoField, MetadataV3,
+    RegularBoundedChunkGrid, StorageTransformerChain,
 };
 use zarrs_builder::{ArrayBuilder, ArrayBuilderChunkGridMetadata, ArrayBuilderFillValue};
 
@@ -29,6 +29,8 @@ fn set_codecs(rt: &impl Abort, alloc: Global, builder: &mut ArrayBuilder) {
         .array_to_array_codecs(squeeze(rt, alloc))
         .array_to_bytes_codec(ArrayToBytesCodec::Bytes(BytesCodec::big()))
         .bytes_to_bytes_codecs(BytesToBytesCodecs)
+        .subchunk_shape(alloc, Some([2u64, 2]))
+        .codec_specific_options(CodecSpecificOptions::default())
         .storage_transformers(StorageTransformerChain);
 }
 
@@ -74,7 +76,10 @@ const EVERYTHING: &str = concat!(
     "{\"attributes\":{\"unit\":\"mm\"},",
     "\"chunk_grid\":{\"configuration\":{\"chunk_shape\":[4,4]},\"name\":\"regular\"},",
     "\"chunk_key_encoding\":{\"configuration\":{\"separator\":\".\"},\"name\":\"v2\"},",
+    "\"codecs\":[{\"configuration\":{\"chunk_shape\":[2,2],",
     "\"codecs\":[\"squeeze\",{\"configuration\":{\"endian\":\"big\"},\"name\":\"bytes\"}],",
+    "\"index_codecs\":[{\"configuration\":{\"endian\":\"little\"},\"name\":\"bytes\"}],",
+    "\"index_location\":\"end\"},\"name\":\"sharding_indexed\"}],",
     "\"data_type\":\"uint16\",\"dimension_names\":[\"y\",null],\"fill_value\":258,",
     "\"key\":{\"a\":1,\"must_understand\":false},\"node_type\":\"array\",\"shape\":[8,8],",
     "\"zarr_format\":3}"
@@ -87,7 +92,8 @@ fn taken_back(rt: &impl Abort, alloc: Global) -> ArrayBuilder {
     builder
         .chunk_key_encoding_default_separator(ChunkKeySeparator::Slash)
         .array_to_array_codecs(Vec::new(alloc))
-        .array_to_bytes_codec(ArrayToBytesCodec::Bytes(BytesCodec::little()));
+        .array_to_bytes_codec(ArrayToBytesCodec::Bytes(BytesCodec::little()))
+        .subchunk_shape(alloc, None::<[u64; 0]>);
     builder.attributes_mut().clear();
     builder
         .additional_fields(Map::new(alloc))

@@ -6,7 +6,7 @@ use std::process::Abort;
 use zarrs::{
     Array, ArraySubset, Bytes, DimensionName, MemoryStore, StoreKey, WritableStorageTraits,
 };
-use zarrs_array_uses::built::{measure, rainfall, unit_of};
+use zarrs_array_uses::built::{measure, rainfall, rainfall_in_a_shard, unit_of};
 use zarrs_array_uses::documents::{create_array, read_region_at, v3_text};
 use zarrs_array_uses::encoded::read_while;
 
@@ -161,6 +161,15 @@ fn an_array_is_built_and_measured(rt: HostRuntime) {
     let mut array = built.expect(&rt, "no refusal");
     must(&rt, unit_of(&array) == Some("mm"));
     must(&rt, are_y_and_x(array.dimension_names()));
+    must_measure(&rt, alloc, &mut array);
+    drop(array);
+}
+
+#[test]
+fn an_array_is_cut_into_subchunks_and_measured(rt: HostRuntime) {
+    let alloc = rt.alloc();
+    let built = rainfall_in_a_shard(alloc, MemoryStore::new(alloc), PATH);
+    let mut array = built.expect(&rt, "no refusal");
     must_measure(&rt, alloc, &mut array);
     drop(array);
 }

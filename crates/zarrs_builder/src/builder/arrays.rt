@@ -23,7 +23,7 @@ use crate::fill_value::ArrayBuilderFillValue;
 use serde_json::{Map, Value};
 use std::alloc::{AllocError, Global};
 use zarrs::Array;
-use zarrs_codec::{ArrayToArrayCodec, ArrayToBytesCodec, BytesToBytesCodecs};
+use zarrs_codec::{ArrayToArrayCodec, ArrayToBytesCodec, BytesToBytesCodecs, CodecSpecificOptions};
 use zarrs_data_type::{DataTypeFillValueError, IntoField};
 use zarrs_document::{AdditionalFieldsV3, DimensionName, FillValueMetadata};
 use zarrs_document_v2::ArrayMetadata;
@@ -37,8 +37,9 @@ impl ArrayBuilder {
     ghost use Rattle.zarrs_builder.specs.Builders.{builder_view, builder_of};
 
     /// Returns a builder of an array with the shape, the chunk grid, the data type, the fill value, the codecs, the
-    /// chunk keys, the attributes and the names of dimensions of this one, and of V3 the additional fields. The fill
-    /// value is metadata, so that a data type that is set later reads it.
+    /// chunk keys, the attributes and the names of dimensions of this one, and of V3 the additional fields, and with the
+    /// default options. The fill value is metadata, so that a data type that is set later reads it. Subchunks of the
+    /// array are in its codecs, and not set apart from them.
     ///
     /// # Errors
     /// E26 alone.
@@ -58,6 +59,7 @@ impl ArrayBuilder {
             data_type: Ok(fields.data_type),
             fill_value: Ok(fields.fill_value),
             dimension_names: Ok(fields.dimension_names),
+            subchunk_shape: Ok(None),
             chunk_key_encoding: parts.chunk_key_encoding,
             array_to_array_codecs: parts.array_to_array_codecs,
             array_to_bytes_codec: Some(parts.array_to_bytes_codec),
@@ -65,6 +67,7 @@ impl ArrayBuilder {
             attributes: parts.attributes,
             additional_fields: parts.additional_fields,
             storage_transformers: StorageTransformerChain,
+            codec_specific_options: CodecSpecificOptions::default(),
         })
     }
 }

@@ -1,35 +1,40 @@
 //! Metadata and arrays of a builder.
-ghost use Rattle.std.specs.Prelude.{◌≡◌, map, option_map, length, Some, None, Ok, IfOk, IfErr, OnOk};
-ghost use Rattle.zarrs_metadata.specs.Extension.{extension_view};
+ghost use Rattle.std.specs.Prelude.{◌≡◌, false, map, option_map, length, Some, None, Ok, IfOk, IfErr, OnOk};
 ghost use Rattle.zarrs_metadata.specs.FillValue.{fill_data};
 ghost use Rattle.zarrs_keys.specs.Paths.{is_node_path};
 ghost use Rattle.zarrs_chunk_grid.specs.GridView.{configuration_of};
 ghost use Rattle.zarrs_chunk_grid.specs.Metadata.{grid_said};
 ghost use Rattle.zarrs_types.specs.Kind.{kind};
 ghost use Rattle.zarrs_types.specs.TypeMetadata.{kind_name};
-ghost use Rattle.zarrs_codec_array.specs.Metadata.{array_codec_data, extension_of_array_codec};
-ghost use Rattle.zarrs_codec.specs.Metadata.{bytes_codec_data, extensions_of_chain};
+ghost use Rattle.zarrs_codec_array.specs.Metadata.{array_codec_data};
+ghost use Rattle.zarrs_codec_cells.specs.ShardingMetadata.{sizes_of};
+ghost use Rattle.zarrs_codec.specs.Metadata.{bytes_codec_data, chain_data, sharding};
 ghost use Rattle.zarrs_document.specs.View.{document_view, name_view};
 ghost use Rattle.zarrs_options.specs.Given.{grid_given};
 ghost use Rattle.zarrs_options.specs.Refusals.{RefusesCreation, create_refusal_of, said_or};
 ghost use Rattle.zarrs_options.specs.Refusals as refusal;
 ghost use Rattle.zarrs_array_metadata.specs.Meanings.{names_said, path_said};
-ghost use Rattle.zarrs_builder.specs.Built.{codec_chosen, grid_chosen, fill_stated};
+ghost use Rattle.zarrs_builder.specs.Built.{chain_chosen, codec_chosen, cut_into, grid_chosen};
+ghost use Rattle.zarrs_builder.specs.Built.{fill_stated, sizes_said};
 
 use super::ArrayBuilder;
-use crate::copies::{copied_dimension_names, copied_fields};
+use crate::copies::{copied_codecs, copied_dimension_names, copied_fields};
 use crate::data_type::ArrayBuilderDataType;
 use crate::fill_value::ArrayBuilderFillValue;
 use std::alloc::{AllocError, Global};
+use std::num::NonZeroU64;
 use zarrs::Array;
-use zarrs_chunk_grid::{ChunkGrid, ChunkGridTraits};
-use zarrs_codec::{ArrayToArrayCodec, ArrayToBytesCodec, default_array_to_bytes_codec};
+use zarrs_chunk_grid::{ChunkGrid, ChunkGridTraits, ChunkShape};
+use zarrs_codec::{
+    ArrayToArrayCodec, ArrayToBytesCodec, BytesToBytesCodecs, CodecChain, ShardingCodecBuilder,
+    default_array_to_bytes_codec,
+};
 use zarrs_data_type::{DataType, DataTypeFillValueError, FillValue};
 use zarrs_document::{ArrayMetadataV3, DimensionName, FillValueMetadata};
 use zarrs_document_v2::ArrayMetadata;
 use zarrs_keys::NodePath;
+use zarrs_metadata::PluginCreateError;
 use zarrs_metadata::members::copied;
-use zarrs_metadata::{MetadataV3, PluginCreateError};
 use zarrs_options::{ArrayBuilderChunkGridMetadata, ArrayCreateError};
 
 /// The fields that callers' values became, each of which found memory.
@@ -40,13 +45,14 @@ struct Fields<'a> {
     data_type: &'a ArrayBuilderDataType,
     fill_value: &'a ArrayBuilderFillValue,
     dimension_names: Option<&'a [DimensionName]>,
+    subchunk_shape: Option<&'a [u64]>,
 }
 
 /// What the fields say.
 #[derive(Drop)]
 struct Chosen {
     data_type: DataType,
-    codec: ArrayToBytesCodec,
+    chain: CodecChain,
     grid: ChunkGrid,
     fill_value: FillValueMetadata,
 }
@@ -54,9 +60,10 @@ struct Chosen {
 impl ArrayBuilder {
     ghost use Rattle.zarrs_document_v2.specs.View.{v3};
     ghost use Rattle.zarrs.specs.Arrays.{metadata_of_array, path_of_array, storage_of_array};
-    ghost use Rattle.zarrs.specs.Arrays.{HasDefaultOptions};
+    ghost use Rattle.zarrs.specs.Arrays.{HasSpecificOptions};
     ghost use Rattle.zarrs_builder.specs.Builders.{builder_view, fields_of};
-    ghost use Rattle.zarrs_builder.specs.Built.{chosen, document_with, document_of_fields};
+    ghost use Rattle.zarrs_builder.specs.Built.{chosen, codecs_chosen, document_with};
+    ghost use Rattle.zarrs_builder.specs.Built.{document_of_fields};
     ghost use Rattle.zarrs_builder.specs.Built.{built, built_at, built_metadata};
     ghost use Rattle.zarrs_builder.specs.Parts.{found_fields, chosen_view};
 
@@ -64,9 +71,9 @@ impl ArrayBuilder {
     /// fill value as the data type writes it.
     ///
     /// # Errors
-    /// E26 if a field found no memory. Then in this order: E13 for no data type; E18 for no chunk grid over the shape;
-    /// E15 for metadata that is no fill value of the data type; E21 for more or fewer names than dimensions; E14 for
-    /// bytes that are no fill value of the data type. E26 may come at any time.
+    /// E26 if a field found no memory. Then in this order: E13 for no data type; E22 for subchunks with an extent 0; E18
+    /// for no chunk grid over the shape; E15 for metadata that is no fill value of the data type; E21 for more or fewer
+    /// names than dimensions; E14 for bytes that are no fill value of the data type. E26 may come at any time.
     pub fn build_metadata(&self, alloc: Global) -> Result<ArrayMetadataV3, ArrayCreateError>
         ensures made { IfOk result (λ m. built (builder_view self.now) ≡ Ok (document_view m)) }
         ensures refused { IfErr result (λ e. RefusesCreation
@@ -77,8 +84,8 @@ impl ArrayBuilder {
         Ok(metadata)
     }
 
-    /// Makes the array at the path of the store, with the metadata of `build_metadata` and the default options. The
-    /// store is not asked, and nothing is written.
+    /// Makes the array at the path of the store, with the metadata of `build_metadata`, the builder's options of single
+    /// codecs, and else the default options. The store is not asked, and nothing is written.
     ///
     /// # Errors
     /// E26 if a field found no memory. Then in this order: E11 for a path that is no path of a node; as
@@ -94,7 +101,8 @@ impl ArrayBuilder {
             (λ a. built_metadata (builder_view self.now) ≡ Ok (metadata_of_array a)) }
         ensures path { IfOk result (λ a. path_of_array a ≡ path.now) }
         ensures storage { IfOk result (λ a. storage_of_array a ≡ storage) }
-        ensures options { IfOk result HasDefaultOptions }
+        ensures options { IfOk result
+            (HasSpecificOptions (builder_view self.now).codec_specific_options) }
         ensures refused { IfErr result (λ e. RefusesCreation
             (built_at path.now (builder_view self.now)) (create_refusal_of e)) }
     {
@@ -102,7 +110,7 @@ impl ArrayBuilder {
         check_path(alloc, path)?;
         let metadata = self.metadata_of(alloc, &fields)?;
         let array = Array::new_with_metadata(alloc, storage, path, ArrayMetadata::V3(metadata))?;
-        Ok(array)
+        Ok(array.with_codec_specific_options(&self.codec_specific_options))
     }
 
     /// Makes the array as `build` does. No caller shares it, so it is the plain array.
@@ -119,7 +127,8 @@ impl ArrayBuilder {
             (λ a. built_metadata (builder_view self.now) ≡ Ok (metadata_of_array a)) }
         ensures path { IfOk result (λ a. path_of_array a ≡ path.now) }
         ensures storage { IfOk result (λ a. storage_of_array a ≡ storage) }
-        ensures options { IfOk result HasDefaultOptions }
+        ensures options { IfOk result
+            (HasSpecificOptions (builder_view self.now).codec_specific_options) }
         ensures refused { IfErr result (λ e. RefusesCreation
             (built_at path.now (builder_view self.now)) (create_refusal_of e)) }
     {
@@ -137,12 +146,14 @@ impl ArrayBuilder {
         let data_type = found(&self.data_type)?;
         let fill_value = found(&self.fill_value)?;
         let dimension_names = found(&self.dimension_names)?;
+        let subchunk_shape = found(&self.subchunk_shape)?;
         Ok(Fields {
             shape: shape.as_slice(),
             chunk_grid,
             data_type,
             fill_value,
             dimension_names: names_in(dimension_names),
+            subchunk_shape: shape_in(subchunk_shape),
         })
     }
 
@@ -170,17 +181,41 @@ impl ArrayBuilder {
             (found_fields fields.now)) (create_refusal_of e)) }
     {
         let data_type = fields.data_type.to_data_type(alloc)?;
-        let codec = codec_for(alloc, &self.array_to_bytes_codec, &data_type)?;
+        let chain = self.chain_for(alloc, fields.subchunk_shape, &data_type)?;
         let grid = grid_over(alloc, fields.chunk_grid, fields.shape)?;
         let fill_value = fields.fill_value.to_fill_value(alloc, &data_type)?;
         check_names(fields.shape.len(), fields.dimension_names)?;
         let stated = stated_fill(alloc, &data_type, fill_value)?;
         Ok(Chosen {
             data_type,
-            codec,
+            chain,
             grid,
             fill_value: stated,
         })
+    }
+
+    /// Returns the chain of the codecs that are set, or of the codec of subchunks that they encode.
+    fn chain_for(
+        &self,
+        alloc: Global,
+        subchunk_shape: Option<&[u64]>,
+        data_type: &DataType,
+    ) -> Result<CodecChain, ArrayCreateError>
+        ensures made { IfOk result (λ chain. chain_chosen
+            (option_map (λ shape. shape.now) subchunk_shape.entry)
+            (codecs_chosen (builder_view self.now) (kind data_type.now)) ≡ Ok (chain_data chain)) }
+        ensures refused { IfErr result (λ e. RefusesCreation (chain_chosen
+            (option_map (λ shape. shape.now) subchunk_shape.entry)
+            (codecs_chosen (builder_view self.now) (kind data_type.now))) (create_refusal_of e)) }
+    {
+        let front = copied_codecs(alloc, &self.array_to_array_codecs)?;
+        let last = codec_for(alloc, &self.array_to_bytes_codec, data_type)?;
+        let Some(shape) = subchunk_shape else {
+            return Ok(CodecChain::new(front, last, BytesToBytesCodecs));
+        };
+        let sizes = subchunk_sizes(alloc, shape)?;
+        let chain = cut_chain(alloc, sizes, front, last, data_type)?;
+        Ok(chain)
     }
 
     /// Returns the metadata of what was chosen, and of the other parts.
@@ -197,7 +232,7 @@ impl ArrayBuilder {
         let data_type = chosen.data_type.metadata(alloc)?;
         let chunk_grid = chosen.grid.metadata(alloc)?;
         let chunk_key_encoding = self.chunk_key_encoding.metadata(alloc)?;
-        let codecs = chain_metadatas(alloc, &self.array_to_array_codecs, &chosen.codec)?;
+        let codecs = chosen.chain.create_metadatas(alloc)?;
         let attributes = copied(&self.attributes)?;
         let dimension_names = copied_dimension_names(alloc, fields.dimension_names)?;
         let additional_fields = copied_fields(&self.additional_fields)?;
@@ -237,6 +272,15 @@ fn names_in(names: &Option<Vec<DimensionName>>) -> Option<&[DimensionName]>
     }
 }
 
+fn shape_in(shape: &Option<Vec<u64>>) -> Option<&[u64]>
+    ensures { option_map (λ s. s.now) result ≡ option_map (λ s. s.items) shape.now }
+{
+    match shape {
+        Some(shape) => Some(shape.as_slice()),
+        None => None,
+    }
+}
+
 fn check_path(alloc: Global, path: &str) -> Result<(), ArrayCreateError>
     ensures made { OnOk result (path_said path.now ≡ Ok tt) }
     ensures refused { IfErr result
@@ -259,6 +303,50 @@ fn codec_for(
         return codec.try_clone(alloc);
     }
     default_array_to_bytes_codec(alloc, data_type)
+}
+
+/// Returns the sizes of subchunks of this shape.
+fn subchunk_sizes(alloc: Global, shape: &[u64]) -> Result<ChunkShape, ArrayCreateError>
+    ensures made { IfOk result (λ sizes. sizes_of sizes.items ≡ shape.now) }
+    ensures refused { IfErr result
+        (λ e. RefusesCreation (sizes_said shape.now) (create_refusal_of e)) }
+{
+    let mut sizes = Vec::with_capacity(alloc, shape.len())?;
+    for extent in shape {
+        let Some(size) = NonZeroU64::new(*extent) else {
+            let shape = Vec::from_slice(alloc, shape)?;
+            return Err(ArrayCreateError::InvalidSubchunkShape(shape));
+        };
+        sizes.push(size)?;
+    }
+    Ok(sizes)
+}
+
+/// Returns the chain of the one codec `sharding_indexed`, with subchunks of this shape, which these codecs encode, and
+/// its index at the end.
+fn cut_chain(
+    alloc: Global,
+    subchunk_shape: ChunkShape,
+    array_to_array: Vec<ArrayToArrayCodec>,
+    array_to_bytes: ArrayToBytesCodec,
+    data_type: &DataType,
+) -> Result<CodecChain, AllocError>
+    ensures { IfOk result (λ chain. chain_data chain
+        ≡ cut_into (sizes_of subchunk_shape.items) (record {
+          array_to_array = map array_codec_data array_to_array.items;
+          array_to_bytes = bytes_codec_data array_to_bytes;
+        })) }
+{
+    let mut builder = ShardingCodecBuilder::new(alloc, subchunk_shape, data_type)?;
+    builder
+        .array_to_array_codecs(array_to_array)
+        .array_to_bytes_codec(array_to_bytes);
+    let codec = Box::new(alloc, builder.build(alloc)?)?;
+    Ok(CodecChain::new(
+        Vec::new(alloc),
+        ArrayToBytesCodec::Sharding(codec),
+        BytesToBytesCodecs,
+    ))
 }
 
 /// Returns the grid over an array of this shape.
@@ -322,34 +410,4 @@ fn stated_fill(
         Err(DataTypeFillValueError::OutOfMemory) => Err(ArrayCreateError::OutOfMemory),
         Err(DataTypeFillValueError::Invalid) => unreachable!(),
     }
-}
-
-/// Returns the metadata of these codecs, in their order.
-fn chain_metadatas(
-    alloc: Global,
-    array_to_array: &[ArrayToArrayCodec],
-    array_to_bytes: &ArrayToBytesCodec,
-) -> Result<Vec<MetadataV3>, AllocError>
-    ensures { IfOk result (λ made. map extension_view made.items ≡ extensions_of_chain (record {
-      array_to_array = map array_codec_data array_to_array.now;
-      array_to_bytes = bytes_codec_data array_to_bytes.now;
-    })) }
-{
-    let mut made = array_codec_metadatas(alloc, array_to_array)?;
-    made.push(array_to_bytes.create_metadata(alloc)?)?;
-    Ok(made)
-}
-
-fn array_codec_metadatas(
-    alloc: Global,
-    codecs: &[ArrayToArrayCodec],
-) -> Result<Vec<MetadataV3>, AllocError>
-    ensures { IfOk result (λ made. map extension_view made.items
-        ≡ map extension_of_array_codec (map array_codec_data codecs.now)) }
-{
-    let mut made = Vec::new(alloc);
-    for codec in codecs {
-        made.push(codec.create_metadata(alloc)?)?;
-    }
-    Ok(made)
 }

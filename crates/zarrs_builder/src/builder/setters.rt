@@ -6,7 +6,7 @@ use crate::names::given_names;
 use serde_json::{Map, Value};
 use std::alloc::Global;
 use zarrs_chunk_grid::{ChunkGrid, ChunkGridTraits};
-use zarrs_codec::{ArrayToArrayCodec, ArrayToBytesCodec, BytesToBytesCodecs};
+use zarrs_codec::{ArrayToArrayCodec, ArrayToBytesCodec, BytesToBytesCodecs, CodecSpecificOptions};
 use zarrs_data_type::IntoField;
 use zarrs_document::{AdditionalFieldsV3, DimensionName};
 use zarrs_keys::ChunkKeyEncoding;
@@ -26,7 +26,7 @@ impl ArrayBuilder {
     ghost use Rattle.zarrs_builder.specs.Given.{AreGiven};
     ghost use Rattle.zarrs_builder.specs.Builders.{builder_view, shape_of, chunk_grid_of};
     ghost use Rattle.zarrs_builder.specs.Builders.{data_type_of, fill_value_of, HasGrid};
-    ghost use Rattle.zarrs_builder.specs.Builders.{dimension_names_in};
+    ghost use Rattle.zarrs_builder.specs.Builders.{dimension_names_in, subchunk_shape_in};
     ghost use Rattle.zarrs_builder.specs.Lending.{LendsBuilderAttributes};
 
     /// Sets the shape. The metadata of the chunk grid stays.
@@ -159,6 +159,43 @@ impl ArrayBuilder {
         ensures kept { builder_view result.now ≡ builder_view self.old }
     {
         self.bytes_to_bytes_codecs = bytes_to_bytes_codecs;
+        self
+    }
+
+    /// Sets the shape of the subchunks that each chunk is cut into, or takes it away. The codecs that are set are then
+    /// those of the subchunks, and `sharding_indexed` around them, with its index at the end, is the one codec of the
+    /// chunks.
+    pub fn subchunk_shape<S: IntoField<ArrayShape>>(
+        &mut self,
+        alloc: Global,
+        subchunk_shape: Option<S>,
+    ) -> &mut Self
+        ensures same_loan { result.ghost_name ≡ self.entry.ghost_name }
+        ensures set { IfOk (subchunk_shape_in result.now) (λ field.
+            MatchOption subchunk_shape (field ≡ None) (λ shape. IsSome field
+            × IfSome field (S.gives shape))) }
+        ensures kept { builder_view result.now ≡ record (builder_view self.old) {
+          subchunk_shape = (builder_view result.now).subchunk_shape;
+        } }
+    {
+        self.subchunk_shape = match subchunk_shape {
+            Some(shape) => shape.into_field(alloc).map(Some),
+            None => Ok(None),
+        };
+        self
+    }
+
+    /// Sets the options of single codecs, which the array is built with.
+    pub fn codec_specific_options(
+        &mut self,
+        codec_specific_options: CodecSpecificOptions,
+    ) -> &mut Self
+        ensures same_loan { result.ghost_name ≡ self.entry.ghost_name }
+        ensures set { builder_view result.now ≡ record (builder_view self.old) {
+          codec_specific_options = codec_specific_options;
+        } }
+    {
+        self.codec_specific_options = codec_specific_options;
         self
     }
 

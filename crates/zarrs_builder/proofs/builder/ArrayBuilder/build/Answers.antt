@@ -1,5 +1,6 @@
 use Rattle.std.proofs.Common.{Ok, rules, sym, ap, ◌∙◌}
 use Rattle.zarrs_document.specs.View.{document_view}
+use Rattle.zarrs_document_v2.specs.View.{metadata_view}
 use Rattle.zarrs_options.specs.Refusals.{create_refusal_of}
 use Rattle.zarrs_builder.specs.Builders.{builder_view}
 use Rattle.zarrs_builder.specs.Parts.{found_fields}
@@ -23,4 +24,5 @@ returns-in_err-array-clause-refused g c =
 
 pub returns-clause-metadata : goal.returns-clause-metadata
 returns-clause-metadata g c =
-    metadata_built (builder_view c.args.self.now) (found_fields c.in_ok-fields.fields) c.in_ok-fields.ensures.made (document_view c.in_ok-metadata.metadata) c.in_ok-metadata.ensures.made ∙ ap Ok (sym c.in_ok-array.ensures.metadata)
+    metadata_built (builder_view c.args.self.now) (found_fields c.in_ok-fields.fields) c.in_ok-fields.ensures.made (document_view c.in_ok-metadata.metadata) c.in_ok-metadata.ensures.made
+    ∙ ap Ok (sym (ap metadata_view c.with_codec_specific_options.ensures.metadata ∙ c.in_ok-array.ensures.metadata))

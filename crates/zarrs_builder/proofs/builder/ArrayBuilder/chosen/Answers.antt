@@ -1,11 +1,11 @@
-use Rattle.std.proofs.Common.{rules, sym}
+use Rattle.std.proofs.Common.{rules}
 use Rattle.zarrs_types.specs.Kind.{kind}
 use Rattle.zarrs_chunk_grid.specs.GridView.{configuration_of}
-use Rattle.zarrs_codec.specs.Metadata.{bytes_codec_data}
+use Rattle.zarrs_codec.specs.Metadata.{chain_data}
 use Rattle.zarrs_options.specs.Refusals.{create_refusal_of}
 use Rattle.zarrs_builder.specs.Builders.{builder_view}
 use Rattle.zarrs_builder.specs.Parts.{found_fields}
-use Rattle.zarrs_builder.proofs.Order.{at_type, at_grid, at_fill, at_names, at_stated, all_chosen}
+use Rattle.zarrs_builder.proofs.Order.{at_type, at_chain, at_grid, at_fill, at_names, at_stated, all_chosen}
 use Rattle.zarrs_builder.proofs.builder.ArrayBuilder.chosen.Goals as goal
 
 pub returns-in_err-data_type-clause-refused : goal.returns-in_err-data_type-clause-refused
@@ -13,26 +13,31 @@ returns-in_err-data_type-clause-refused c =
     let why = at_type (builder_view c.args.self.now) (found_fields c.args.fields.now) (create_refusal_of c.in_err-data_type.field-0.0) c.in_err-data_type.ensures.refused in
     search (rules, why)
 
+pub returns-in_err-chain-clause-refused : goal.returns-in_err-chain-clause-refused
+returns-in_err-chain-clause-refused c =
+    let why = at_chain (builder_view c.args.self.now) (found_fields c.args.fields.now) (create_refusal_of c.in_err-chain.field-0.0) (kind c.in_ok-data_type.data_type) c.in_ok-data_type.ensures.made c.in_err-chain.ensures.refused in
+    search (rules, why)
+
 pub returns-in_err-grid-clause-refused : goal.returns-in_err-grid-clause-refused
 returns-in_err-grid-clause-refused c =
-    let why = at_grid (builder_view c.args.self.now) (found_fields c.args.fields.now) (create_refusal_of c.in_err-grid.field-0.0) (kind c.in_ok-data_type.data_type) c.in_ok-data_type.ensures.made c.in_err-grid.ensures.refused in
+    let why = at_grid (builder_view c.args.self.now) (found_fields c.args.fields.now) (create_refusal_of c.in_err-grid.field-0.0) (kind c.in_ok-data_type.data_type) c.in_ok-data_type.ensures.made (chain_data c.in_ok-chain.chain) c.in_ok-chain.ensures.made c.in_err-grid.ensures.refused in
     search (rules, why)
 
 pub returns-in_err-fill_value-clause-refused : goal.returns-in_err-fill_value-clause-refused
 returns-in_err-fill_value-clause-refused c =
-    let why = at_fill (builder_view c.args.self.now) (found_fields c.args.fields.now) (create_refusal_of c.in_err-fill_value.field-0.0) (kind c.in_ok-data_type.data_type) c.in_ok-data_type.ensures.made (configuration_of c.in_ok-grid.grid) c.in_ok-grid.ensures.made c.in_err-fill_value.ensures.refused in
+    let why = at_fill (builder_view c.args.self.now) (found_fields c.args.fields.now) (create_refusal_of c.in_err-fill_value.field-0.0) (kind c.in_ok-data_type.data_type) c.in_ok-data_type.ensures.made (chain_data c.in_ok-chain.chain) c.in_ok-chain.ensures.made (configuration_of c.in_ok-grid.grid) c.in_ok-grid.ensures.made c.in_err-fill_value.ensures.refused in
     search (rules, why)
 
 pub returns-in_err-check_names-clause-refused : goal.returns-in_err-check_names-clause-refused
 returns-in_err-check_names-clause-refused c =
-    let why = at_names (builder_view c.args.self.now) (found_fields c.args.fields.now) (create_refusal_of c.in_err-check_names.field-0.0) (kind c.in_ok-data_type.data_type) c.in_ok-data_type.ensures.made (configuration_of c.in_ok-grid.grid) c.in_ok-grid.ensures.made c.in_ok-fill_value.fill_value c.in_ok-fill_value.ensures.made c.in_err-check_names.ensures.refused in
+    let why = at_names (builder_view c.args.self.now) (found_fields c.args.fields.now) (create_refusal_of c.in_err-check_names.field-0.0) (kind c.in_ok-data_type.data_type) c.in_ok-data_type.ensures.made (chain_data c.in_ok-chain.chain) c.in_ok-chain.ensures.made (configuration_of c.in_ok-grid.grid) c.in_ok-grid.ensures.made c.in_ok-fill_value.fill_value c.in_ok-fill_value.ensures.made c.in_err-check_names.ensures.refused in
     search (rules, why)
 
 pub returns-in_err-stated-clause-refused : goal.returns-in_err-stated-clause-refused
 returns-in_err-stated-clause-refused c =
-    let why = at_stated (builder_view c.args.self.now) (found_fields c.args.fields.now) (create_refusal_of c.in_err-stated.field-0.0) (kind c.in_ok-data_type.data_type) c.in_ok-data_type.ensures.made (configuration_of c.in_ok-grid.grid) c.in_ok-grid.ensures.made c.in_ok-fill_value.fill_value c.in_ok-fill_value.ensures.made c.in_ok-check_names.ensures.made c.in_err-stated.ensures.refused in
+    let why = at_stated (builder_view c.args.self.now) (found_fields c.args.fields.now) (create_refusal_of c.in_err-stated.field-0.0) (kind c.in_ok-data_type.data_type) c.in_ok-data_type.ensures.made (chain_data c.in_ok-chain.chain) c.in_ok-chain.ensures.made (configuration_of c.in_ok-grid.grid) c.in_ok-grid.ensures.made c.in_ok-fill_value.fill_value c.in_ok-fill_value.ensures.made c.in_ok-check_names.ensures.made c.in_err-stated.ensures.refused in
     search (rules, why)
 
 pub returns-clause-made : goal.returns-clause-made
 returns-clause-made c =
-    all_chosen (builder_view c.args.self.now) (found_fields c.args.fields.now) (kind c.in_ok-data_type.data_type) c.in_ok-data_type.ensures.made (bytes_codec_data c.in_ok-codec.codec) (sym c.in_ok-codec.ensures) (configuration_of c.in_ok-grid.grid) c.in_ok-grid.ensures.made c.in_ok-fill_value.fill_value c.in_ok-fill_value.ensures.made c.in_ok-check_names.ensures.made _ c.in_ok-stated.ensures.made
+    all_chosen (builder_view c.args.self.now) (found_fields c.args.fields.now) (kind c.in_ok-data_type.data_type) c.in_ok-data_type.ensures.made (chain_data c.in_ok-chain.chain) c.in_ok-chain.ensures.made (configuration_of c.in_ok-grid.grid) c.in_ok-grid.ensures.made c.in_ok-fill_value.fill_value c.in_ok-fill_value.ensures.made c.in_ok-check_names.ensures.made _ c.in_ok-stated.ensures.made

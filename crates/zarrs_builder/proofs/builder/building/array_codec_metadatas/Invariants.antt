@@ -1,8 +1,0 @@
-use Rattle.std.proofs.Common.{◌≡◌, take, map}
-use Rattle.zarrs_metadata.specs.Extension.{extension_view}
-use Rattle.zarrs_codec_array.specs.Metadata.{array_codec_data, extension_of_array_codec}
-use Rattle.zarrs_builder.proofs.builder.building.array_codec_metadatas.Given as goal
-
--- the metadata so far
-abbrev pub invariant-loop-codec : goal.invariant-loop-codec
-invariant-loop-codec l = map extension_view l.made.items ≡ map extension_of_array_codec (map array_codec_data (take l.codec-index l.codecs))
