@@ -59,6 +59,9 @@ fn by_bytes<'a>(
     let options = &case.options;
     match &case.call {
         Call::OfArray(call) => of_array(alloc, array, options, *call),
+        Call::OfChunk(ChunkCall::CompactChunk, indices) => {
+            writes::compact_chunk(alloc, array, options, indices, case.written)
+        }
         Call::OfChunk(call, indices) => of_chunk(alloc, array, *call, indices, case.written),
         Call::OfPart(call, indices, part) => of_part(alloc, array, *call, indices, part),
         Call::OfRegion(call, region) => of_region(alloc, array, *call, region, case.written),
@@ -117,6 +120,7 @@ fn of_chunk<'a>(
         ChunkCall::ChunkShape => Ok(queries::chunk_shape(alloc, array, indices)?),
         ChunkCall::ChunkSubset => Ok(queries::chunk_subset(alloc, array, indices)?),
         ChunkCall::ChunkSubsetBounded => Ok(queries::chunk_subset_bounded(alloc, array, indices)?),
+        ChunkCall::CompactChunk => Err(Why::Call(written)),
     }
 }
 

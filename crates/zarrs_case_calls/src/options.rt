@@ -30,9 +30,9 @@ fn is_read(call: &Call<'_>) -> bool {
             | ArrayCall::UpgradeMetadata => false,
             _ => true,
         },
-        Call::OfChunk(ChunkCall::EraseChunk, _) | Call::OfRegion(RegionCall::EraseChunks, _) => {
-            false
-        }
+        Call::OfChunk(ChunkCall::EraseChunk, _)
+        | Call::OfChunk(ChunkCall::CompactChunk, _)
+        | Call::OfRegion(RegionCall::EraseChunks, _) => false,
         Call::OfChunk(_, _)
         | Call::OfPart(_, _, _)
         | Call::OfRegion(_, _)

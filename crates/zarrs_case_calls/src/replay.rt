@@ -27,6 +27,8 @@ pub(crate) fn replay<'a>(
 fn shown(alloc: Global, data_type: &DataType, reply: &Reply) -> Result<Answer, AllocError> {
     match reply {
         Reply::Done => word(alloc, "ok"),
+        Reply::Compacted(true) => word(alloc, "true"),
+        Reply::Compacted(false) => word(alloc, "false"),
         Reply::Cells(data) | Reply::MaybeCells(Some(data)) => {
             Ok(said(alloc, shown_data(alloc, data_type, data)?))
         }
@@ -106,6 +108,7 @@ fn without_data(alloc: Global, call: &Call<'_>) -> Result<Option<ArrayCall>, All
 fn of_chunk(kind: ChunkCall, indices: Vec<u64>) -> Option<ArrayCall> {
     match kind {
         ChunkCall::EraseChunk => Some(ArrayCall::EraseChunk(indices)),
+        ChunkCall::CompactChunk => Some(ArrayCall::CompactChunk(indices)),
         ChunkCall::RetrieveChunk => Some(ArrayCall::RetrieveChunk(indices)),
         ChunkCall::RetrieveChunkIfExists => Some(ArrayCall::RetrieveChunkIfExists(indices)),
         _ => None,

@@ -75,6 +75,31 @@ fn by_optional<'a>(
         DataType::UInt64 => by::<Option<u64>>(alloc, array, case, data_type),
         DataType::String => by::<Option<String>>(alloc, array, case, data_type),
         DataType::Bytes => by::<Option<Vec<u8>>>(alloc, array, case, data_type),
+        DataType::Optional(inner) => by_nested(alloc, array, case, data_type, inner),
+        DataType::Raw(_) => Err(Why::NoValues(typed_word(&case.options))),
+    }
+}
+
+/// Makes a call of optional cells of optional cells of the inner type.
+fn by_nested<'a>(
+    alloc: Global,
+    array: &mut CaseArray<'_>,
+    case: &Case<'a>,
+    data_type: &DataType,
+    inner: &DataType,
+) -> Result<Answer, Why<'a>> {
+    match inner {
+        DataType::Bool => by::<Option<Option<bool>>>(alloc, array, case, data_type),
+        DataType::Int8 => by::<Option<Option<i8>>>(alloc, array, case, data_type),
+        DataType::Int16 => by::<Option<Option<i16>>>(alloc, array, case, data_type),
+        DataType::Int32 => by::<Option<Option<i32>>>(alloc, array, case, data_type),
+        DataType::Int64 => by::<Option<Option<i64>>>(alloc, array, case, data_type),
+        DataType::UInt8 => by::<Option<Option<u8>>>(alloc, array, case, data_type),
+        DataType::UInt16 => by::<Option<Option<u16>>>(alloc, array, case, data_type),
+        DataType::UInt32 => by::<Option<Option<u32>>>(alloc, array, case, data_type),
+        DataType::UInt64 => by::<Option<Option<u64>>>(alloc, array, case, data_type),
+        DataType::String => by::<Option<Option<String>>>(alloc, array, case, data_type),
+        DataType::Bytes => by::<Option<Option<Vec<u8>>>>(alloc, array, case, data_type),
         DataType::Raw(_) | DataType::Optional(_) => Err(Why::NoValues(typed_word(&case.options))),
     }
 }

@@ -2,7 +2,7 @@
 use crate::CaseArray;
 use std::alloc::{AllocError, Global};
 use zarrs::ArraySubset;
-use zarrs_case_answers::{Answer, data_of, done, put};
+use zarrs_case_answers::{Answer, data_of, done, flag, put};
 use zarrs_case_lines::Why;
 use zarrs_case_lines::call::{Options, RegionWrite};
 
@@ -93,6 +93,20 @@ pub(crate) fn erase_chunks<'a>(
     }
     let outcome = array.erase_chunks(alloc, chunks);
     Ok(put(alloc, &outcome)?)
+}
+
+pub(crate) fn compact_chunk<'a>(
+    alloc: Global,
+    array: &mut CaseArray<'_>,
+    options: &Options<'_>,
+    indices: &[u64],
+    written: &'a str,
+) -> Result<Answer, Why<'a>> {
+    if indices.len() != array.dimensionality() {
+        return Err(Why::Dimensions(written));
+    }
+    let outcome = array.compact_chunk(alloc, indices, &options.of_codecs());
+    Ok(flag(alloc, &outcome)?)
 }
 
 pub(crate) fn store_metadata(

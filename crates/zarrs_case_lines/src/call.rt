@@ -153,6 +153,8 @@ pub struct Options<'a> {
     pub without_zarrs: bool,
     /// `[main-names]`: metadata has the main names of extensions.
     pub main_names: bool,
+    /// `[subchunks:LIST]`: the builder is told this shape of subchunks.
+    pub subchunks: Option<&'a str>,
 }
 
 impl Options<'_> {
@@ -168,6 +170,7 @@ impl Options<'_> {
         all: false,
         without_zarrs: false,
         main_names: false,
+        subchunks: None,
     };
 
     pub fn of_codecs(&self) -> CodecOptions {
@@ -277,6 +280,7 @@ pub enum ArrayCall {
 #[derive(Clone, Copy)]
 pub enum ChunkCall {
     EraseChunk,
+    CompactChunk,
     RetrieveChunk,
     RetrieveChunkIfExists,
     RetrieveEncodedChunk,

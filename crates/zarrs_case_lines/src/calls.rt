@@ -156,6 +156,7 @@ fn array_call(name: &str) -> Option<ArrayCall> {
 fn chunk_call(name: &str) -> Option<ChunkCall> {
     match name {
         "erase_chunk" => Some(ChunkCall::EraseChunk),
+        "compact_chunk" => Some(ChunkCall::CompactChunk),
         "retrieve_chunk" => Some(ChunkCall::RetrieveChunk),
         "retrieve_chunk_if_exists" => Some(ChunkCall::RetrieveChunkIfExists),
         "retrieve_encoded_chunk" => Some(ChunkCall::RetrieveEncodedChunk),

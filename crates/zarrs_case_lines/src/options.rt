@@ -11,6 +11,10 @@ pub(crate) fn options_of<'a>(word: &'a str) -> Result<Options<'a>, Why<'a>> {
         return Err(Why::Option(word));
     };
     let mut options = Options::NONE;
+    if let Some(sizes) = names.strip_prefix("subchunks:") {
+        options.subchunks = Some(sizes);
+        return Ok(options);
+    }
     for name in names.split(',') {
         if let Some(data_type) = name.strip_prefix("as:") {
             options.form = Form::As(data_type);
@@ -40,9 +44,11 @@ fn turn_on(options: &mut Options<'_>, name: &str) -> bool {
     true
 }
 
-/// Whether the call of this name takes the options of metadata and of chunks that are on.
+/// Whether the call of this name takes the options of metadata, of chunks and of builders that are on.
 pub(crate) fn are_taken(options: &Options<'_>, name: &str) -> bool {
     match name {
+        "build" | "build_metadata" | "builder" if options.subchunks.is_some() => true,
+        _ if options.subchunks.is_some() => false,
         "store_chunk" | "store_chunks" | "store_chunk_subset" | "store_array_subset" | "resize" => {
             !has_metadata_options(options)
         }

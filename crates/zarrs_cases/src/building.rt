@@ -129,6 +129,9 @@ fn tell<'f>(alloc: Global, builder: &mut ArrayBuilder, parts: &Parts<'f>) -> Res
     if let Some(bytes) = &parts.fill_value {
         builder.fill_value(alloc, FillValue::new(bytes.to_vec(alloc)?));
     }
+    if let Some(sizes) = parts.subchunks {
+        builder.subchunk_shape(alloc, Some(numbers(alloc, sizes)?));
+    }
     Ok(())
 }
 

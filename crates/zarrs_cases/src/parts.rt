@@ -25,6 +25,8 @@ pub(crate) struct Parts<'f> {
     pub(crate) told: Vec<Told<'f>>,
     /// The bytes of the fill value.
     pub(crate) fill_value: Option<Vec<u8>>,
+    /// The shape of the subchunks, as the line has it.
+    pub(crate) subchunks: Option<&'f str>,
 }
 
 impl<'f> Parts<'f> {
@@ -33,6 +35,7 @@ impl<'f> Parts<'f> {
         Parts {
             told: Vec::new(alloc),
             fill_value: None,
+            subchunks: None,
         }
     }
 

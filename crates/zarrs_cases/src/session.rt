@@ -159,6 +159,7 @@ impl<'f> Session<'f> {
         alloc: Global,
         case: &Case<'f>,
     ) -> Result<Outcome, Why<'f>> {
+        self.parts.subchunks = case.options.subchunks;
         match &case.call {
             Call::Make(path, document) => self.create(alloc, path, document),
             Call::Build(path, design) => self.build(alloc, path, design),
