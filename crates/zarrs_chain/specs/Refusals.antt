@@ -1,12 +1,13 @@
 -- Why a call of a chain refuses. Out of memory may come at any time.
-use Rattle.std.specs.Prelude.{◌≡◌, ℕ, ◌*◌, ◌≤◌, ◌^◌, Bool, true, false, List, length, None, Some}
+use Rattle.std.specs.Prelude.{◌≡◌, ◌⊎◌, ℕ, ◌*◌, ◌≤◌, ◌^◌, Bool, true, false, List, length, Option, None, Some}
 use Rattle.zarrs_codec_leaf.specs.declared.error.CodecError.{CodecError}
 use Rattle.zarrs_codec_leaf.specs.declared.error.CodecError.TheVariants as error
 use Rattle.zarrs_types.specs.Kind.{Kind}
 use Rattle.zarrs_types.specs.Cell.{Cell, held_size}
 use Rattle.zarrs_cells.specs.ArrayData.{ArrayData}
 use Rattle.zarrs_subset.specs.Boxes.{position_count}
-use Rattle.zarrs_chain.specs.Chain.{ChainMeaning, chunk_encoding}
+use Rattle.zarrs_subset.specs.Regions.{Box}
+use Rattle.zarrs_chain.specs.Chain.{ChainMeaning, chunk_cells, chunk_encoding, chunk_leaves_out, partial_encoding}
 
 -- the type and the shape do not fit, or else a size is too large
 abbrev pub RefusesChunkEncoding : ChainMeaning → Bool → Kind → Cell → List ℕ → ArrayData → CodecError → Type 0
@@ -25,3 +26,12 @@ abbrev pub RefusesCompaction : ChainMeaning → List ℕ → List ℕ → CodecE
 RefusesCompaction chain s b error.DoesNotFit = chain.compacted s b ≡ None
 RefusesCompaction chain s b error.SizeOverflow = (less : List ℕ) × (chain.compacted s b ≡ Some (Some less)) × (2 ^ 64 ≤ length less)
 RefusesCompaction chain s b error.OutOfMemory = Unit {0}
+
+-- the type and the shape do not fit or what is stored does not decode, or a size is too large: of what is written, or of
+-- a chunk of fill, where what is stored leaves out cells
+abbrev pub RefusesPartialEncoding : ChainMeaning → Bool → Kind → Cell → List ℕ → Option (List ℕ) → Box → ArrayData → CodecError → Type 0
+RefusesPartialEncoding chain empty k f s stored part d error.DoesNotFit = (chain.fits k s ≡ false) ⊎ (chunk_cells chain k f s stored ≡ None)
+RefusesPartialEncoding chain empty k f s stored part d error.SizeOverflow =
+    (chain.fits k s ≡ true) × ((partial_encoding chain empty k f s stored part d ≡ None)
+    ⊎ ((chunk_leaves_out chain s stored ≡ true) × (2 ^ 64 ≤ position_count s * held_size k f)))
+RefusesPartialEncoding chain empty k f s stored part d error.OutOfMemory = Unit {0}

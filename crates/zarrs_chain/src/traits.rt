@@ -1,19 +1,25 @@
 //! What a codec chain does.
-ghost use Rattle.std.specs.Prelude.{◌≡◌, ◌*◌, ◌<◌, ◌^◌, Some, IfOk, IfErr, IsSome, option_map};
+ghost use Rattle.std.specs.Prelude.{◌≡◌, ◌*◌, ◌<◌, ◌^◌, true, Some, IfOk, IfErr, IsSome};
+ghost use Rattle.std.specs.Prelude.{length, option_map};
 ghost use Rattle.zarrs_subset.specs.Boxes.{position_count};
+ghost use Rattle.zarrs_subset.specs.Regions.{box_of};
+ghost use Rattle.zarrs_shard.specs.ShardPatches.{change_of};
 ghost use Rattle.zarrs_data_type.specs.Kind.{kind, cell_size};
 ghost use Rattle.zarrs_data_type.specs.Cell.{fill_cell, fill_of};
 ghost use Rattle.zarrs_data_type.specs.ArrayData.{data_of};
 ghost use Rattle.zarrs_data_type.specs.Cells.{cells, HasCells};
 ghost use Rattle.zarrs_chain.specs.Chain.{ChainMeaning, IsLawfulChain, chunk_encoding};
+ghost use Rattle.zarrs_chain.specs.Chain.{partial_encoding};
 ghost use Rattle.zarrs_chain.specs.Refusals.{RefusesChunkEncoding, RefusesChunkDecoding};
-ghost use Rattle.zarrs_chain.specs.Refusals.{RefusesCompaction};
+ghost use Rattle.zarrs_chain.specs.Refusals.{RefusesCompaction, RefusesPartialEncoding};
 ghost use Rattle.zarrs_chain.specs.Options.{stores_empty_chunks};
 
 use crate::options::CodecOptions;
 use std::alloc::{AllocError, Global};
 use zarrs_codec_leaf::CodecError;
 use zarrs_data_type::{ArrayBytes, DataType, FillValue};
+use zarrs_shard::PartialWrite;
+use zarrs_subset::ArraySubset;
 
 /// A chain of codecs, which turns the cells of a chunk into bytes and back (Zarr V3 core specification, "Codecs").
 /// A shape has the chunk's extents, and the fill value is one of the data type.
@@ -119,6 +125,46 @@ pub trait ChainTraits {
         ensures refused { IfErr result (RefusesCompaction (meaning self.now) shape.now
             encoded.now) };
 
-    /// Decoding returns what was encoded, and what was encoded is compact.
+    /// Whether the cells of a part are written into the bytes of their chunk.
+    fn supports_partial_encode(&self) -> bool
+        ensures { result ≡ (meaning self.now).encodes_partly };
+
+    /// What is done with the key of a chunk, so that it has the cells `bytes` at the positions of `part` and its other
+    /// cells stay. `stored` has the bytes of the key, or `None` if it is absent.
+    ///
+    /// # Errors
+    /// `DoesNotFit` if the chain does not take the type and the shape, or if the stored bytes do not decode;
+    /// `SizeOverflow` if a size is too large, be it of a chunk of fill where the stored bytes leave out cells. Which comes
+    /// if both hold is open. `OutOfMemory` may come at any time.
+    fn partial_encode(
+        &self,
+        alloc: Global,
+        stored: Option<&[u8]>,
+        part: &ArraySubset,
+        bytes: &ArrayBytes<'_>,
+        data_type: &DataType,
+        fill_value: &FillValue,
+        shape: &[u64],
+        options: &CodecOptions,
+    ) -> Result<PartialWrite, CodecError>
+        requires supported { (meaning self.now).encodes_partly ≡ true }
+        requires filled { IsSome (fill_cell (kind data_type.now) fill_value.now) }
+        requires size { position_count shape.now * cell_size (kind data_type.now) < 2 ^ 64 }
+        requires dimensions { length (box_of part.now).start ≡ length shape.now }
+        requires cells { HasCells (kind data_type.now) (data_of bytes.now)
+            (position_count (box_of part.now).shape) }
+        ensures written { IfOk result (λ write.
+            partial_encoding (meaning self.now) (stores_empty_chunks options.now)
+            (kind data_type.now) (fill_of (kind data_type.now) fill_value.now) shape.now
+            (option_map (λ encoded. encoded.now) stored.entry) (box_of part.now)
+            (data_of bytes.now) ≡ Some (change_of write)) }
+        ensures refused { IfErr result
+            (RefusesPartialEncoding (meaning self.now) (stores_empty_chunks options.now)
+            (kind data_type.now) (fill_of (kind data_type.now) fill_value.now) shape.now
+            (option_map (λ encoded. encoded.now) stored.entry) (box_of part.now)
+            (data_of bytes.now)) };
+
+    /// Decoding returns what was encoded, what was encoded is compact, and what a partial encode leaves decodes to the
+    /// updated cells.
     ghost lawful: { (chain : Self) → IsLawfulChain (meaning chain) };
 }

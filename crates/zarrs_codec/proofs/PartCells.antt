@@ -40,7 +40,7 @@ not_whole (Some b ∷ parts) (suc n) lt at = not_whole parts n (omega arith) at
 
 module _ (inner : List ℕ → Bool) where
   -- one leaves out cells
-  left_out : (parts : List (Option (List ℕ))) (n : ℕ) → n < length parts → part_leaves_out inner (get_or parts n None) ≡ true → list_any (part_leaves_out inner) parts ≡ true
+  pub left_out : (parts : List (Option (List ℕ))) (n : ℕ) → n < length parts → part_leaves_out inner (get_or parts n None) ≡ true → list_any (part_leaves_out inner) parts ≡ true
   left_out [] n lt at = absurd (omega arith)
   left_out (p ∷ parts) zero lt at = or_left (part_leaves_out inner p) (list_any (part_leaves_out inner) parts) at
   left_out (p ∷ parts) (suc n) lt at = or_right (part_leaves_out inner p) (list_any (part_leaves_out inner) parts) (left_out parts n (omega arith) at)
@@ -165,13 +165,13 @@ module _ (m : ChainMeaning) (k : Kind) (f : Cell) (s sub : List ℕ) where
 
 module _ (m : ChainMeaning) (at_start : Bool) (k : Kind) (f : Cell) (s sub b : List ℕ) (parts : List (Option (List ℕ))) (cut : is_cut_by s sub ≡ true) (fit : m.fits k sub ≡ true)
     (read : shard_parts at_start (subchunk_count s sub) b ≡ Some parts) where
-  shard_cells : (sharded at_start sub m).decoded k f s b ≡ decoded_parts m k f s sub parts
+  pub shard_cells : (sharded at_start sub m).decoded k f s b ≡ decoded_parts m k f s sub parts
   shard_cells =
       let one = subchunk_meaning m false k f sub in
       only_if_true (sharded_fits one s sub) (shard_parts at_start (subchunk_count s sub) b >>= cells_of_parts one k f s sub) (and_from (is_cut_by s sub) (m.fits k sub) cut fit)
       ∙ ap (λ o. o >>= cells_of_parts one k f s sub) read
 
-  shard_refused : (e : CodecError) → RefusesCells m k f s sub parts e → RefusesChunkDecoding (sharded at_start sub m) k f s b e
+  pub shard_refused : (e : CodecError) → RefusesCells m k f s sub parts e → RefusesChunkDecoding (sharded at_start sub m) k f s b e
   shard_refused error.DoesNotFit why = shard_cells ∙ why
   shard_refused error.SizeOverflow why =
       let left = part_leaves_out (m.leaves_out sub) in

@@ -1,9 +1,11 @@
 -- The law of every chain of the code, from those of its codecs.
-use Rattle.std.proofs.Common.{ℕ, Bool, false, List, refl, sym, ap, ◌∙◌}
+use Rattle.std.proofs.Common.{◌≡◌, ℕ, Bool, true, false, List, [], ◌∷◌, length, Option, None, Some, refl, sym, ap, subst, ◌∙◌}
+use Rattle.std.specs.Prelude.{option_and_then}
 use Rattle.zarrs_types.specs.Kind.{Kind}
 use Rattle.zarrs_types.specs.Kind as type
-use Rattle.zarrs_types.specs.Cell.{Cell, none}
+use Rattle.zarrs_types.specs.Cell.{Cell, none, is_value, are_values}
 use Rattle.zarrs_subset.specs.Boxes.{position_count}
+use Rattle.zarrs_subset.specs.Regions.{Box}
 use Rattle.zarrs_codec_array.specs.ArrayCodecs.{arrays_meaning, arrays-lawful}
 use Rattle.zarrs_codec_array.specs.declared.array.ArrayToArrayCodec.{ArrayToArrayCodec}
 use Rattle.zarrs_codec_leaf.specs.Bytes.{endian_of}
@@ -14,11 +16,13 @@ use Rattle.zarrs_codec_leaf.specs.VlenLaws.{vlen-lawful}
 use Rattle.zarrs_codec_leaf.specs.VlenStringsLaws.{vlen_utf8-lawful, vlen_bytes-lawful}
 use Rattle.zarrs_codec_cells.specs.CellsCodecLaws.{optional_codec-lawful}
 use Rattle.zarrs_shard.specs.Sharded.{IsLawfulSubchunk, IsLawfulShard}
+use Rattle.zarrs_shard.specs.PartialShards.{PartialChange, after, stored_cells, IsUpdated}
+use Rattle.zarrs_shard.proofs.PartialCells.{shard-updates}
 use Rattle.zarrs_shard.proofs.ShardLaws.{shard-lawful}
 use Rattle.zarrs_codec.specs.declared.codec.ArrayToBytesCodec.{ArrayToBytesCodec}
 use Rattle.zarrs_codec.specs.declared.codec.ArrayToBytesCodec as codec
 use Rattle.zarrs_codec.specs.declared.chain.CodecChain.{CodecChain}
-use Rattle.zarrs_chain.specs.Chain.{ChainMeaning, IsLawfulChain}
+use Rattle.zarrs_chain.specs.Chain.{ChainMeaning, IsLawfulChain, chunk_cells}
 use Rattle.zarrs_codec_cells.specs.ShardingMetadata.{sizes_of}
 use Rattle.zarrs_codec.specs.Chains.{array_to_array_of, array_to_bytes_of, behind, codec_meaning, is_at_start, leaf_meaning, no_cells, whole_chunk}
 use Rattle.zarrs_codec.specs.Chains.{chain_meaning}
@@ -53,11 +57,43 @@ whole_chunk-lawful leaf law = record {
   encoded_compact = λ empty k f s cs b len made. refl;
   unfit = λ empty k f s cs not. law.untaken k cs not;
   unfit_decoded = λ k f s b not. law.untaken_decoded k _ b not;
+  partly_updates = λ empty k f s stored part given held change filled values count start shape made is. cc;
 }
 
--- the law of a chain behind array-to-array codecs
-pub behind-lawful : (m : ChainMeaning) → IsLawfulChain m → (codecs : List ArrayToArrayCodec) → IsLawfulChain (behind codecs m)
-behind-lawful m law codecs = through-lawful (arrays_meaning codecs) m (arrays-lawful codecs) law
+-- the cells of a chunk behind no codec
+pub same_cells : (m : ChainMeaning) (k : Kind) (f : Cell) (s : List ℕ) (stored : Option (List ℕ)) → chunk_cells (behind [] m) k f s stored ≡ chunk_cells m k f s stored
+same_cells m k f s None = refl
+same_cells m k f s (Some b) = go (m.decoded k f s b)
+  where
+    go : (o : Option (List Cell)) → option_and_then (λ cs. Some cs) o ≡ o
+    go None = refl
+    go (Some cs) = refl
+
+-- parts are written as by the chain `m` alone, if there is no codec before it
+module _ (m : ChainMeaning) (law : IsLawfulChain m) where
+  partly : (codecs : List ArrayToArrayCodec) (empty : Bool) (k : Kind) (f : Cell) (s : List ℕ) (stored : Option (List ℕ)) (part : Box) (given held : List Cell) (change : PartialChange)
+      → is_value k f ≡ true → are_values k given ≡ true → length given ≡ position_count part.shape → length part.start ≡ length s → length part.shape ≡ length s
+      → (behind codecs m).partly_encoded empty k f s stored part given ≡ Some change → chunk_cells (behind codecs m) k f s stored ≡ Some held
+      → IsUpdated s part given held (chunk_cells (behind codecs m) k f s (after change stored))
+  partly [] empty k f s stored part given held change filled values count start shape made is =
+      subst (IsUpdated s part given held) (sym (same_cells m k f s (after change stored)))
+      (law.partly_updates empty k f s stored part given held change filled values count start shape made (sym (same_cells m k f s stored) ∙ is))
+  partly (codec ∷ codecs) empty k f s stored part given held change filled values count start shape made is = cc
+
+  pub behind-lawful : (codecs : List ArrayToArrayCodec) → IsLawfulChain (behind codecs m)
+  behind-lawful codecs =
+      let t = through-lawful (arrays_meaning codecs) m (arrays-lawful codecs) law in
+      record {
+        round_trip = t.round_trip;
+        decoded_len = t.decoded_len;
+        decoded_values = t.decoded_values;
+        compacted_same = t.compacted_same;
+        compacted_differs = t.compacted_differs;
+        encoded_compact = t.encoded_compact;
+        unfit = t.unfit;
+        unfit_decoded = t.unfit_decoded;
+        partly_updates = partly codecs;
+      }
 
 module _ (sub : List ℕ) (m : ChainMeaning) (law : IsLawfulChain m) where
   -- the law of the chain of subchunks of one shape
@@ -66,6 +102,21 @@ module _ (sub : List ℕ) (m : ChainMeaning) (law : IsLawfulChain m) where
     round_trip = λ cs b values len made. law.round_trip empty k f sub cs b values len made;
     decoded_len = λ b cs made. law.decoded_len k f sub b cs made;
   }
+
+-- the cells of a shard whose index stands at the end
+shard_cells : (sub : List ℕ) (m : ChainMeaning) (empty : Bool) (k : Kind) (f : Cell) (s : List ℕ) (stored : Option (List ℕ)) → chunk_cells (sharded false sub m) k f s stored ≡ stored_cells (subchunk_meaning m empty k f sub) k f s sub stored
+shard_cells sub m empty k f s None = refl
+shard_cells sub m empty k f s (Some b) = refl
+
+partly_sharded : (at_start : Bool) (sub : List ℕ) (m : ChainMeaning) (law : IsLawfulChain m) (empty : Bool) (k : Kind) (f : Cell) (s : List ℕ) (stored : Option (List ℕ)) (part : Box) (given held : List Cell) (change : PartialChange)
+    → is_value k f ≡ true → are_values k given ≡ true → length given ≡ position_count part.shape → length part.start ≡ length s → length part.shape ≡ length s
+    → (sharded at_start sub m).partly_encoded empty k f s stored part given ≡ Some change → chunk_cells (sharded at_start sub m) k f s stored ≡ Some held
+    → IsUpdated s part given held (chunk_cells (sharded at_start sub m) k f s (after change stored))
+partly_sharded true sub m law empty k f s stored part given held change filled values count start shape made is = cc
+partly_sharded false sub m law empty k f s stored part given held change filled values count start shape made is =
+    subst (IsUpdated s part given held) (sym (shard_cells sub m empty k f s (after change stored)))
+    (shard-updates (subchunk_meaning m empty k f sub) k f s sub (subchunk-lawful sub m law empty k f) empty stored part given held change filled values count start shape made
+    (sym (shard_cells sub m empty k f s stored) ∙ is))
 
 module _ (at_start : Bool) (sub : List ℕ) (m : ChainMeaning) (law : IsLawfulChain m) where
   shard : (empty : Bool) (k : Kind) (f : Cell) (s : List ℕ) → IsLawfulShard (subchunk_meaning m empty k f sub) at_start empty k f s sub
@@ -81,6 +132,8 @@ module _ (at_start : Bool) (sub : List ℕ) (m : ChainMeaning) (law : IsLawfulCh
     encoded_compact = λ empty k f s cs b len made. (shard empty k f s).encoded_compact cs b made;
     unfit = λ empty k f s cs not. (shard empty k f s).unfit cs not;
     unfit_decoded = λ k f s b not. (shard false k f s).unfit_decoded b not;
+    partly_updates = λ empty k f s stored part given held change filled values count start shape made is.
+        partly_sharded at_start sub m law empty k f s stored part given held change filled values count start shape made is;
   }
 
 pub codec-lawful : (c : ArrayToBytesCodec) → IsLawfulChain (codec_meaning c)

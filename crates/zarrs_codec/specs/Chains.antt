@@ -1,5 +1,5 @@
 -- What the chains of the code mean.
-use Rattle.std.specs.Prelude.{ℕ, Bool, true, false, Some, None, List, map}
+use Rattle.std.specs.Prelude.{ℕ, Bool, true, false, Some, None, List, [], ◌∷◌, map}
 use Rattle.std.specs.declared.num.NonZeroU64.{NonZeroU64}
 use Rattle.zarrs_codec_array.specs.ArrayCodecs.{arrays_meaning}
 use Rattle.zarrs_codec_array.specs.declared.array.ArrayToArrayCodec.{ArrayToArrayCodec}
@@ -20,7 +20,7 @@ use Rattle.zarrs_codec.specs.declared.sharding.ShardingIndexLocation.{ShardingIn
 use Rattle.zarrs_codec.specs.declared.sharding.ShardingIndexLocation.TheVariants as location
 use Rattle.zarrs_chain.specs.Chain.{ChainMeaning}
 use Rattle.zarrs_codec.specs.Shardings.{sharded}
-use Rattle.zarrs_codec.specs.Through.{through}
+use Rattle.zarrs_codec.specs.Through.{through, through_all}
 
 -- the parts of a chain
 abbrev pub array_to_array_of : CodecChain → List ArrayToArrayCodec
@@ -66,13 +66,21 @@ whole_chunk leaf = record {
   fits = λ k s. leaf.takes k;
   encoded = λ empty k f s cs. leaf.encoded k cs;
   decoded = λ k f s b. leaf.decoded k (position_count s) b;
+  compacts = false;
   compacted = λ s b. Some None;
   leaves_out = λ s b. false;
+  encodes_partly = false;
+  partly_encoded = λ empty k f s stored part cs. None;
 }
 
--- the chain `m` behind array-to-array codecs
+-- whether there is no codec
+abbrev pub no_codec : List ArrayToArrayCodec → Bool
+no_codec [] = true
+no_codec (codec ∷ codecs) = false
+
+-- the chain `m` behind array-to-array codecs: parts are written only if there is none
 abbrev pub behind : List ArrayToArrayCodec → ChainMeaning → ChainMeaning
-behind codecs m = through (arrays_meaning codecs) m
+behind codecs m = through_all (no_codec codecs) (arrays_meaning codecs) m
 
 -- what a codec means
 abbrev pub codec_meaning : ArrayToBytesCodec → ChainMeaning

@@ -1,5 +1,5 @@
 -- Chains whose last codec is `sharding_indexed`, over the chain of their subchunks.
-use Rattle.std.specs.Prelude.{◌≡◌, ℕ, ◌*◌, ◌≤◌, ◌^◌, Bool, true, false, Option, None, Some, List, [], ◌∷◌, ◌++◌, length, map, take, is_some, unwrap_or, ◌&&◌}
+use Rattle.std.specs.Prelude.{◌≡◌, ℕ, ◌*◌, ◌≤◌, ◌^◌, Bool, true, false, not, Option, None, Some, List, [], ◌∷◌, ◌++◌, length, map, take, is_some, unwrap_or, ◌&&◌}
 use Rattle.std.specs.List.{list_all, list_any}
 use Rattle.zarrs_types.specs.Kind.{Kind}
 use Rattle.zarrs_types.specs.Cell.{Cell, held_size}
@@ -7,7 +7,8 @@ use Rattle.zarrs_cells.specs.ArrayData.{ArrayData}
 use Rattle.zarrs_cells.specs.Cells.{cells}
 use Rattle.zarrs_codec_leaf.specs.declared.error.CodecError.{CodecError}
 use Rattle.zarrs_codec_leaf.specs.declared.error.CodecError.TheVariants as error
-use Rattle.zarrs_shard.specs.Steps.{all_present}
+use Rattle.zarrs_shard.specs.PartialShards.{sharded_partly}
+use Rattle.zarrs_shard.specs.Steps.{given_if, all_present}
 use Rattle.zarrs_shard.specs.ShardIndex.{IsWriting}
 use Rattle.zarrs_shard.specs.declared.shard_index.ShardWriter.{ShardWriter}
 use Rattle.zarrs_shard.specs.Sharded.{SubchunkMeaning, part_of, part_leaves_out, first_parts, cells_of_part, cells_of_parts}
@@ -31,8 +32,12 @@ sharded at_start sub m = record {
   fits = λ k s. is_cut_by s sub && m.fits k sub;
   encoded = λ store_empty k fill s cs. sharded_encoded (subchunk_meaning m store_empty k fill sub) at_start store_empty fill s sub cs;
   decoded = λ k fill s b. sharded_decoded (subchunk_meaning m false k fill sub) at_start k fill s sub b;
+  compacts = true;
   compacted = λ s b. sharded_compacted at_start s sub b;
   leaves_out = λ s b. sharded_leaves_out (m.leaves_out sub) at_start s sub b;
+  encodes_partly = not at_start;
+  partly_encoded = λ store_empty k fill s stored part cs.
+      given_if (not at_start) (sharded_partly (subchunk_meaning m store_empty k fill sub) store_empty fill s sub stored part cs);
 }
 
 -- the cells of data that has some

@@ -17,8 +17,18 @@ through a m = record {
   fits = λ k s. a.fits s && m.fits k (a.shape s);
   encoded = λ empty k f s cs. only_if (a.fits s) (m.encoded empty k f (a.shape s) (a.forward s cs));
   decoded = λ k f s b. only_if (a.fits s) (option_and_then (λ cs. Some (a.back s cs)) (m.decoded k f (a.shape s) b));
-  compacted = λ s b. only_if (a.fits s) (m.compacted (a.shape s) b);
+  compacts = m.compacts;
+  compacted = λ s b. if m.compacts then only_if (a.fits s) (m.compacted (a.shape s) b) else Some None;
   leaves_out = λ s b. a.fits s && m.leaves_out (a.shape s) b;
+  encodes_partly = false;
+  partly_encoded = λ empty k f s stored part cs. None;
+}
+
+-- the same, where it is said whether there is no such codec: parts are written only then
+abbrev pub through_all : (none : Bool) → ArrayMeaning → ChainMeaning → ChainMeaning
+through_all none a m = record (through a m) {
+  encodes_partly = none && m.encodes_partly;
+  partly_encoded = λ empty k f s stored part cs. only_if none (m.partly_encoded empty k f s stored part cs);
 }
 
 some_is : {A : Type 0} {x y : A} → Some x ≡ Some y → x ≡ y
@@ -31,6 +41,16 @@ bind_parts (Some x) f y is = (x, refl, is)
 only_if_parts : {A : Type 0} (b : Bool) (o : Option A) (y : A) → only_if b o ≡ Some y → (b ≡ true) × (o ≡ Some y)
 only_if_parts true o y is = (refl, is)
 only_if_parts false o y is = cc
+
+compacted_parts : {A : Type 0} (compacts fits : Bool) (o : Option (Option A)) (less : A)
+    → (if compacts then only_if fits o else Some None) ≡ Some (Some less) → (fits ≡ true) × (o ≡ Some (Some less))
+compacted_parts true fits o less is = only_if_parts fits o (Some less) is
+compacted_parts false fits o less is = cc
+
+is_compact : {A : Type 0} (compacts fits : Bool) (o : Option (Option A)) → fits ≡ true → o ≡ Some None → (if compacts then only_if fits o else Some None) ≡ Some None
+is_compact true true o fit is = is
+is_compact true false o fit is = cc
+is_compact false fits o fit is = refl
 
 only_if_true : {A : Type 0} (b : Bool) (o : Option A) → b ≡ true → only_if b o ≡ o
 only_if_true b o is = ap (λ x. only_if x o) is
@@ -65,16 +85,17 @@ module _ (a : ArrayMeaning) (m : ChainMeaning) (array_law : IsLawfulArray a) (la
     decoded_len = λ k f s b cs made. (parts k f s b cs made).0;
     decoded_values = λ k f s b cs made. (parts k f s b cs made).1;
     compacted_same = λ k f s b less made short.
-        let p = only_if_parts (a.fits s) _ (Some less) made in
+        let p = compacted_parts m.compacts (a.fits s) (m.compacted (a.shape s) b) less made in
         ap (λ o. only_if (a.fits s) (option_and_then (λ x. Some (a.back s x)) o)) (law.compacted_same k f (a.shape s) b less p.1 short);
     compacted_differs = λ s b less made.
-        law.compacted_differs (a.shape s) b less (only_if_parts (a.fits s) _ (Some less) made).1;
+        law.compacted_differs (a.shape s) b less (compacted_parts m.compacts (a.fits s) (m.compacted (a.shape s) b) less made).1;
     encoded_compact = λ empty k f s cs b len made.
         let p = only_if_parts (a.fits s) _ b made in
-        only_if_true (a.fits s) _ p.0
-        ∙ law.encoded_compact empty k f (a.shape s) (a.forward s cs) b (array_law.forward_len s cs p.0 len ∙ sym (array_law.count s p.0)) p.1;
+        is_compact m.compacts (a.fits s) (m.compacted (a.shape s) b) p.0
+        (law.encoded_compact empty k f (a.shape s) (a.forward s cs) b (array_law.forward_len s cs p.0 len ∙ sym (array_law.count s p.0)) p.1);
     unfit = λ empty k f s cs not.
         unfit_here (a.fits s) (m.fits k (a.shape s)) _ not (λ n. law.unfit empty k f (a.shape s) (a.forward s cs) n);
     unfit_decoded = λ k f s b not.
         unfit_here (a.fits s) (m.fits k (a.shape s)) _ not (λ n. ap (option_and_then (λ x. Some (a.back s x))) (law.unfit_decoded k f (a.shape s) b n));
+    partly_updates = λ empty k f s stored part given held change filled values count start shape made is. cc;
   }

@@ -19,7 +19,8 @@ use zarrs_chain::{ChainTraits, CodecOptions};
 use zarrs_codec_array::{ArrayToArrayCodec, decode_array, encode_array, encoded_shape};
 use zarrs_codec_leaf::CodecError;
 use zarrs_data_type::{ArrayBytes, DataType, FillValue};
-use zarrs_subset::element_count;
+use zarrs_shard::PartialWrite;
+use zarrs_subset::{ArraySubset, element_count};
 
 /// The codecs that make bytes of bytes: there is none.
 #[derive(Clone, Copy, Debug, Drop, PartialEq, Eq)]
@@ -223,6 +224,26 @@ impl ChainTraits for CodecChain {
         shape: &[u64],
     ) -> Result<Option<Vec<u8>>, CodecError> {
         self.compact_chunk(alloc, encoded, shape)
+    }
+
+    fn supports_partial_encode(&self) -> bool {
+        self.encodes_partly()
+    }
+
+    fn partial_encode(
+        &self,
+        alloc: Global,
+        stored: Option<&[u8]>,
+        part: &ArraySubset,
+        bytes: &ArrayBytes<'_>,
+        data_type: &DataType,
+        fill_value: &FillValue,
+        shape: &[u64],
+        options: &CodecOptions,
+    ) -> Result<PartialWrite, CodecError> {
+        self.partial_encode_chunk(
+            alloc, stored, part, bytes, data_type, fill_value, shape, options,
+        )
     }
 
     ghost lawful = { chain-lawful };

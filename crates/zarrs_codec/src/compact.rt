@@ -31,12 +31,7 @@ impl CodecChain {
                     None => Err(CodecError::DoesNotFit),
                 }
             }
-            _ => {
-                if !self.takes_shape(alloc, shape)? {
-                    return Err(CodecError::DoesNotFit);
-                }
-                Ok(None)
-            }
+            _ => Ok(None),
         }
     }
 }

@@ -206,7 +206,7 @@ impl ShardingCodec {
 
     /// The bytes of a subchunk's cells, which are given away, or `None` if it is left out.
     #[cycle(encode)]
-    fn encode_part(
+    pub(crate) fn encode_part(
         &self,
         alloc: Global,
         bytes: ArrayBytes<'static>,

@@ -8,6 +8,7 @@ mod decode;
 mod encode;
 mod fits;
 mod metadata;
+mod partial_encode;
 mod sharding;
 mod sharding_builder;
 
@@ -27,3 +28,4 @@ pub use zarrs_codec_cells::{CellsCodec, MaskCodec, OptionalCodec};
 pub use zarrs_codec_leaf::{
     BytesCodec, CodecError, Endianness, PackBitsCodec, VlenBytesCodec, VlenCodec, VlenUtf8Codec,
 };
+pub use zarrs_shard::PartialWrite;

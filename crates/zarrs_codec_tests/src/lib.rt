@@ -11,6 +11,8 @@ mod codecs;
 #[cfg(test)]
 mod data;
 #[cfg(test)]
+mod partial;
+#[cfg(test)]
 mod shards;
 #[cfg(test)]
 mod targets;

@@ -1,0 +1,144 @@
+-- A part of a chunk's cells written into its shard, subchunk by subchunk.
+use Rattle.std.proofs.Common.{◌≡◌, ℕ, ◌+◌, ◌*◌, ◌<◌, ◌≤◌, ◌^◌, Bool, true, false, cond, ◌⊎◌, inl, inr, List, [], ◌∷◌, ◌++◌, length, map, get_or, replicate, Option, None, Some, IsSome, refl, sym, ap, subst, ◌∙◌, arith}
+use Rattle.std.specs.Prelude.{is_some, nat_lt, option_and_then, option_map, unwrap_or, if◌then◌else◌}
+use Rattle.std.specs.List.{range_with_len}
+use Rattle.std.proofs.lemmas.Bool.{and_from, false≢true, le-ltb, lt-ltb}
+use Rattle.std.proofs.lemmas.List.{get_or-map, length-map, length-replicate}
+use Rattle.std.proofs.lemmas.List.FromFn.{length-map-range_with_len, get_or-map-range_with_len, map-range_with_len_more}
+use Rattle.zarrs_data_type.specs.ArrayData.{ArrayData}
+use Rattle.zarrs_data_type.specs.Cell.{Cell, held_size, none, values_only}
+use Rattle.zarrs_data_type.specs.Cells.{cells, HasCells}
+use Rattle.zarrs_data_type.specs.Kind.{Kind}
+use Rattle.zarrs_data_type.proofs.Cells.{HasCells-cells, HasCells-some}
+use Rattle.zarrs_subset.specs.Boxes.{offset_by, place, position_count, unravel}
+use Rattle.zarrs_subset.specs.Regions.{Box, in_box, place_in}
+use Rattle.zarrs_subset.proofs.RearrangedCells.{length-made_of}
+use Rattle.zarrs_codec_array.specs.declared.array.ArrayToArrayCodec.{ArrayToArrayCodec}
+use Rattle.zarrs_codec_leaf.specs.declared.error.CodecError.{CodecError}
+use Rattle.zarrs_codec_leaf.specs.declared.error.CodecError.TheVariants as error
+use Rattle.zarrs_metadata.specs.Extension.{◌>>=◌}
+use Rattle.zarrs_shard.specs.PartialShards.{PartialChange, is_met, sharded_partly, stored_parts, updated_subchunk, write_of}
+use Rattle.zarrs_shard.specs.ShardIndex.{range_part}
+use Rattle.zarrs_shard.specs.ShardPatches.{HasRoom, IsPatching, PushesChange}
+use Rattle.zarrs_shard.specs.Sharded.{cells_of_part, part_of, sharded_fits}
+use Rattle.zarrs_shard.specs.Steps.{all_present, given_if}
+use Rattle.zarrs_shard.specs.SubchunkData.{UpdatesSubchunk}
+use Rattle.zarrs_shard.specs.Subchunks.{assembled, corner, is_cut_by, quotients, subchunk_count}
+use Rattle.zarrs_shard.specs.declared.patch.ShardPatch.{ShardPatch}
+use Rattle.zarrs_shard.specs.declared.shard_index.SubchunkRange.{SubchunkRange}
+use Rattle.zarrs_shard.proofs.Missing.{some_is, only_if_false, only_if_true, all_some-more, all_some-none, length-all_some}
+use Rattle.zarrs_shard.proofs.Patching.{index_length}
+use Rattle.zarrs_shard.proofs.Sizes.{part_large}
+use Rattle.zarrs_chain.specs.Chain.{ChainMeaning, IsLawfulChain, chunk_cells, chunk_leaves_out, partial_encoding}
+use Rattle.zarrs_chain.specs.Refusals.{RefusesPartialEncoding}
+use Rattle.zarrs_codec.specs.Chains.{behind, no_codec}
+use Rattle.zarrs_codec.specs.ChainLaws.{same_cells}
+use Rattle.zarrs_codec.specs.PartialShardings.{changed_part, changes_of, write_to, HasFirstChanges, RefusesChange, RefusesChanges, RefusesHeld}
+use Rattle.zarrs_codec.specs.Shardings.{cells_of, decoded_part, decoded_parts, sharded, subchunk_meaning, RefusesPart}
+use Rattle.zarrs_codec.proofs.Behind.{decoded-has_cells}
+use Rattle.zarrs_codec.proofs.PartCells.{left_out, shard_cells, shard_refused}
+
+-- ---- one subchunk
+
+-- its data has its cells
+pub held_data : (m : ChainMeaning) → IsLawfulChain m → (k : Kind) (f : Cell) (sub : List ℕ) (old : Option (List ℕ)) (d : ArrayData) → cells k d ≡ decoded_part m k f sub old → IsSome (cells k d) → HasCells k d (position_count sub)
+held_data m law k f sub None d is there =
+    subst (λ n. HasCells k d n) (length-replicate (position_count sub) f) (HasCells-some k d (replicate (position_count sub) f) is)
+held_data m law k f sub (Some b) d is there = decoded-has_cells m law k f sub b d is there
+
+pub present_part : (b : List ℕ) (range : Option SubchunkRange) → is_some range ≡ is_some (range_part b range)
+present_part b None = refl
+present_part b (Some r) = refl
+
+module _ (m : ChainMeaning) (empty : Bool) (k : Kind) (f : Cell) (s sub : List ℕ) (part : Box) (d : ArrayData) where
+  same_held : (old : Option (List ℕ)) → cells_of_part (subchunk_meaning m empty k f sub) f sub old ≡ decoded_part m k f sub old
+  same_held None = refl
+  same_held (Some b) = refl
+
+  -- one that the part does not meet
+  pub not_met : (number : ℕ) (old : Option (List ℕ)) → is_met s sub part number ≡ false → changed_part m empty k f s sub part d number old ≡ Some None
+  not_met number old apart =
+      let one = subchunk_meaning m empty k f sub in
+      ap (λ b. cond b (cells_of_part one f sub old >>= λ held. option_map Some (part_of one empty f (updated_subchunk s sub part (cells_of k d) number held))) (Some None)) apart
+
+  -- the data of a subchunk that was updated
+  pub updated_data : (number : ℕ) (old new : ArrayData) → UpdatesSubchunk k s sub part number d old new → HasCells k new (position_count sub)
+  updated_data number old new u =
+      let F : List ℕ → Cell = λ q. let p = offset_by (corner sub (unravel (quotients s sub) number)) q in if in_box part p then get_or u.part_cells (place_in part p) none else get_or u.held (place sub q) none in
+      subst (λ n. HasCells k new n) (length-made_of F sub) (HasCells-some k new (updated_subchunk s sub part u.part_cells number u.held) u.new_is)
+
+  -- and what becomes of it
+  pub changed_is : (number : ℕ) (old : Option (List ℕ)) (held new : ArrayData) → is_met s sub part number ≡ true → cells k held ≡ decoded_part m k f sub old
+      → UpdatesSubchunk k s sub part number d held new → changed_part m empty k f s sub part d number old ≡ option_map Some (part_of (subchunk_meaning m empty k f sub) empty f (cells_of k new))
+  changed_is number old held new meets is u =
+      let one = subchunk_meaning m empty k f sub in
+      let R = λ (xs : List Cell). option_map Some (part_of one empty f (updated_subchunk s sub part (cells_of k d) number xs)) in
+      ap (λ b. cond b (cells_of_part one f sub old >>= R) (Some None)) meets
+      ∙ ap (λ o. o >>= R) (same_held old ∙ sym is ∙ u.old_is)
+      ∙ ap (λ g. option_map Some (part_of one empty f (updated_subchunk s sub part g number u.held))) (ap (λ o. unwrap_or o []) u.given_is)
+      ∙ ap (λ cs. option_map Some (part_of one empty f cs)) (sym (ap (λ o. unwrap_or o []) u.new_is))
+
+  pub encode_refused : (number : ℕ) (old : Option (List ℕ)) (held new : ArrayData) (e : CodecError) → m.fits k sub ≡ true → is_met s sub part number ≡ true → cells k held ≡ decoded_part m k f sub old
+      → UpdatesSubchunk k s sub part number d held new → RefusesPart (subchunk_meaning m empty k f sub) empty f (cells_of k new) e → RefusesChange m empty k f s sub part d number old e
+  encode_refused number old held new error.DoesNotFit fit meets is u why = absurd (false≢true (sym why ∙ fit))
+  encode_refused number old held new error.SizeOverflow fit meets is u why =
+      inl (changed_is number old held new meets is u ∙ ap (option_map Some) why.1)
+  encode_refused number old held new error.OutOfMemory fit meets is u why = why
+
+  pub held_refused : (number : ℕ) (old : Option (List ℕ)) (e : CodecError) → RefusesHeld m k f sub old e → RefusesChange m empty k f s sub part d number old e
+  held_refused number old error.DoesNotFit why = why
+  held_refused number old error.SizeOverflow why = inr why
+  held_refused number old error.OutOfMemory why = why
+
+  -- ---- one after another
+
+  module _ (stored : Option (List ℕ)) (parts : List (Option (List ℕ))) where
+    first_count : (n : ℕ) (cs : List (Option (Option (List ℕ)))) → changes_of m empty k f s sub part d parts n ≡ Some cs → length cs ≡ n
+    first_count n cs is =
+        let T = λ (j : ℕ). changed_part m empty k f s sub part d j (get_or parts j None) in
+        length-all_some (map T (range_with_len 0 n)) cs is ∙ length-map-range_with_len T 0 n
+
+    pub changes_started : (count : ℕ) (patch : ShardPatch) → IsPatching count stored parts patch [] → HasFirstChanges m empty k f s sub stored part d parts count 0 patch
+    changes_started count patch is = record { changes = []; changes_are = refl; patching = is }
+
+    pub has_room : (count n : ℕ) (patch : ShardPatch) → stored_parts count stored ≡ Some parts → n < count → HasFirstChanges m empty k f s sub stored part d parts count n patch → HasRoom patch
+    has_room count n patch read lt is =
+        let len = first_count n is.changes is.changes_are in
+        let l = index_length count stored parts patch is.changes read (omega (arith, len)) is.patching in
+        let room : length patch.entries.items + 16 ≤ length patch.index.items = omega (arith, l.0, l.1, len) in
+        room
+
+    pub changes_more : (count n : ℕ) (old new : ShardPatch) (present : Bool) (c : Option (Option (List ℕ))) → stored_parts count stored ≡ Some parts → n < count → present ≡ is_some (get_or parts n None)
+        → changed_part m empty k f s sub part d n (get_or parts n None) ≡ Some c → HasFirstChanges m empty k f s sub stored part d parts count n old → PushesChange old new present c
+        → HasFirstChanges m empty k f s sub stored part d parts count (n + 1) new
+    changes_more count n old new present c read lt present_is here is pushes =
+        let T = λ (j : ℕ). changed_part m empty k f s sub part d j (get_or parts j None) in
+        let len = first_count n is.changes is.changes_are in
+        record {
+          changes = is.changes ++ c ∷ [];
+          changes_are = ap all_present (map-range_with_len_more T 0 n n (omega arith)) ∙ all_some-more (map T (range_with_len 0 n)) is.changes (T n) c is.changes_are here;
+          patching = pushes count stored parts is.changes read (omega (arith, len)) (present_is ∙ ap (λ j. is_some (get_or parts j None)) (sym len)) is.patching;
+        }
+
+    pub change_refused : (n : ℕ) (e : CodecError) → n < length parts → RefusesChange m empty k f s sub part d n (get_or parts n None) e → RefusesChanges m empty k f s sub part d parts e
+    change_refused n error.DoesNotFit lt why = (n, lt, why)
+    change_refused n error.SizeOverflow lt why = (n, lt, why)
+    change_refused n error.OutOfMemory lt why = why
+
+    pub write_is : (count : ℕ) (patch : ShardPatch) (write : PartialChange) → count ≡ subchunk_count s sub → stored_parts count stored ≡ Some parts → HasFirstChanges m empty k f s sub stored part d parts count count patch
+        → ((n : ℕ) (o : Option (List ℕ)) (ps : List (Option (List ℕ))) (cs : List (Option (Option (List ℕ)))) → length cs ≡ n → stored_parts n o ≡ Some ps → IsPatching n o ps patch cs → write_of n o ps cs ≡ Some write)
+        → write_to m empty k f s sub stored part d parts ≡ Some write
+    write_is count patch write count_is read is finished =
+        ap (λ o. o >>= λ cs. write_of (subchunk_count s sub) stored parts cs) (ap (λ n. changes_of m empty k f s sub part d parts n) (sym count_is) ∙ is.changes_are)
+        ∙ ap (λ n. write_of n stored parts is.changes) (sym count_is)
+        ∙ finished count stored parts is.changes (first_count count is.changes is.changes_are) read is.patching
+
+    no_change : (n j : ℕ) → j < n → changed_part m empty k f s sub part d j (get_or parts j None) ≡ None → changes_of m empty k f s sub part d parts n ≡ None
+    no_change n j lt is =
+        let T = λ (i : ℕ). changed_part m empty k f s sub part d i (get_or parts i None) in
+        all_some-none (map T (range_with_len 0 n)) j None (omega (arith, length-map-range_with_len T 0 n))
+        (get_or-map-range_with_len T 0 n j j None lt (omega arith) ∙ is)
+
+    pub no_write : (j : ℕ) → j < subchunk_count s sub → changed_part m empty k f s sub part d j (get_or parts j None) ≡ None → write_to m empty k f s sub stored part d parts ≡ None
+    no_write j lt is =
+        ap (λ o. o >>= λ cs. write_of (subchunk_count s sub) stored parts cs) (no_change (subchunk_count s sub) j lt is)

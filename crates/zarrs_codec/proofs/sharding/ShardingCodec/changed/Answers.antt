@@ -1,0 +1,38 @@
+use Rattle.std.proofs.Common.{rules, ◌≡◌, true, Option, Some, option_map, sym, ap, subst, ◌∙◌}
+use Rattle.zarrs_data_type.specs.ArrayData.{data_of}
+use Rattle.zarrs_data_type.specs.Cell.{fill_of}
+use Rattle.zarrs_data_type.specs.Cells.{HasCells}
+use Rattle.zarrs_data_type.specs.Kind.{kind}
+use Rattle.zarrs_subset.specs.Boxes.{position_count}
+use Rattle.zarrs_subset.specs.Regions.{box_of}
+use Rattle.zarrs_shard.specs.PartialShards.{is_met}
+use Rattle.zarrs_shard.specs.ShardIndex.{range_part}
+use Rattle.zarrs_shard.specs.Sharded.{part_of}
+use Rattle.zarrs_shard.specs.SubchunkData.{chunk_shape, subchunk_shape}
+use Rattle.zarrs_chain.specs.Chain.{ChainMeaning}
+use Rattle.zarrs_chain.specs.Options.{stores_empty_chunks}
+use Rattle.zarrs_codec.specs.Chains.{chain_meaning, inner_chain_of}
+use Rattle.zarrs_codec.specs.ChainLaws.{chain-lawful}
+use Rattle.zarrs_codec.specs.PartialShardings.{RefusesChange}
+use Rattle.zarrs_codec.specs.Shardings.{cells_of, subchunk_meaning, RefusesPart}
+use Rattle.zarrs_codec_cells.proofs.Kept.{err_kept}
+use Rattle.zarrs_codec.proofs.Patches.{changed_is, encode_refused, held_data, held_refused, not_met, updated_data}
+use Rattle.zarrs_codec.proofs.sharding.ShardingCodec.changed.Goals as goal
+
+pub update-requires-clause-held : goal.update-requires-clause-held
+update-requires-clause-held c =
+    let k = kind c.args.data_type.now in
+    let f = fill_of k c.args.fill_value.now in
+    let sub = subchunk_shape c.args.subchunks.now in
+    let inner = inner_chain_of c.args.self.now in
+    held_data (chain_meaning inner) (chain-lawful inner) k f sub (range_part c.args.shard.now c.args.range) (data_of c.in_ok-held.held) c.in_ok-held.ensures.cells c.in_ok-held.ensures.some
+
+pub encode_part-requires-clause-cells : goal.encode_part-requires-clause-cells
+encode_part-requires-clause-cells c =
+    let k = kind c.args.data_type.now in
+    let f = fill_of k c.args.fill_value.now in
+    let s = chunk_shape c.args.subchunks.now in
+    let sub = subchunk_shape c.args.subchunks.now in
+    let made = data_of c.in_ok-updated.updated in
+    subst (λ x. HasCells k made (position_count x)) (sym c.shape-sub.ensures)
+    (updated_data (chain_meaning (inner_chain_of c.args.self.now)) (stores_empty_chunks c.args.options.now) k f s sub (box_of c.args.part.now) (data_of c.args.bytes.now) c.args.number (data_of c.in_ok-held.held) made c.in_ok-updated.ensures)
