@@ -19,7 +19,7 @@ pub trait FromArrayBytes: Sized {
     // Whether this is made of data of the type.
     ghost reads: { Kind → ArrayData → Self → Type 0 };
 
-    /// The value of this data.
+    /// The value of this data, of the cells of a box of this shape.
     ///
     /// # Errors
     /// `IncompatibleElementType`: the values are not those of the data type, or the data is no list of its cells.
@@ -27,6 +27,7 @@ pub trait FromArrayBytes: Sized {
     fn from_array_bytes(
         alloc: Global,
         array_bytes: ArrayBytes<'static>,
+        shape: &[u64],
         data_type: &DataType,
     ) -> Result<Self, ElementError>
         ensures read { IfOk result (reads (kind data_type.now) (data_of array_bytes.entry)) }
@@ -43,8 +44,11 @@ impl FromArrayBytes for ArrayBytes<'static> {
     fn from_array_bytes(
         _alloc: Global,
         array_bytes: ArrayBytes<'static>,
+        _shape: &[u64],
         _data_type: &DataType,
-    ) -> Result<ArrayBytes<'static>, ElementError> {
+    ) -> Result<ArrayBytes<'static>, ElementError>
+        ensures { result ≡ Ok array_bytes.entry }
+    {
         Ok(array_bytes)
     }
 }
@@ -57,9 +61,10 @@ impl<T: ElementOwned> FromArrayBytes for Vec<T> {
     fn from_array_bytes(
         alloc: Global,
         array_bytes: ArrayBytes<'static>,
+        _shape: &[u64],
         data_type: &DataType,
     ) -> Result<Vec<T>, ElementError> {
-        T::from_array_bytes(alloc, data_type, &array_bytes)
+        T::from_array_bytes(alloc, data_type, array_bytes)
     }
 }
 
@@ -94,7 +99,12 @@ impl<'a> IntoArrayBytes<'a> for ArrayBytes<'a> {
         self,
         _alloc: Global,
         _data_type: &DataType,
-    ) -> Result<ArrayBytes<'a>, ElementError> {
+    ) -> Result<ArrayBytes<'a>, ElementError>
+        ensures answered { result ≡ Ok self.entry }
+        ensures given { IfOk result (λ made. data_of made ≡ data_of self.entry) }
+        ensures served { OnOk result (true ≡ true) }
+        ensures refused { IfErr result (RefusesElement true) }
+    {
         Ok(self)
     }
 }

@@ -74,14 +74,14 @@ pub trait ElementOwned: Element {
     fn from_array_bytes(
         alloc: Global,
         data_type: &DataType,
-        array_bytes: &ArrayBytes<'_>,
+        array_bytes: ArrayBytes<'_>,
     ) -> Result<Vec<Self>, ElementError>
         ensures cells { IfOk result
-            (λ elements. cells (kind data_type.now) (data_of array_bytes.now)
+            (λ elements. cells (kind data_type.now) (data_of array_bytes.entry)
             ≡ Some (map Self.cell elements.items)) }
         ensures served { OnOk result (Self.serves (kind data_type.now) ≡ true) }
         ensures refused { IfErr result (RefusesCells (Self.serves (kind data_type.now)) (cells
-            (kind data_type.now) (data_of array_bytes.now))) };
+            (kind data_type.now) (data_of array_bytes.entry))) };
 }
 
 impl Element for u8 {
@@ -118,12 +118,15 @@ impl ElementOwned for u8 {
     fn from_array_bytes(
         alloc: Global,
         data_type: &DataType,
-        array_bytes: &ArrayBytes<'_>,
+        array_bytes: ArrayBytes<'_>,
     ) -> Result<Vec<u8>, ElementError> {
         if !<u8 as Element>::serves(data_type) {
             return Err(ElementError::IncompatibleElementType);
         }
-        number_list(alloc, data_type, array_bytes)
+        match array_bytes {
+            ArrayBytes::Fixed(bytes) => Ok(bytes.into_owned(alloc)?),
+            _ => Err(ElementError::IncompatibleElementType),
+        }
     }
 }
 
@@ -161,12 +164,12 @@ impl ElementOwned for u16 {
     fn from_array_bytes(
         alloc: Global,
         data_type: &DataType,
-        array_bytes: &ArrayBytes<'_>,
+        array_bytes: ArrayBytes<'_>,
     ) -> Result<Vec<u16>, ElementError> {
         if !<u16 as Element>::serves(data_type) {
             return Err(ElementError::IncompatibleElementType);
         }
-        number_list(alloc, data_type, array_bytes)
+        number_list(alloc, data_type, &array_bytes)
     }
 }
 
@@ -204,12 +207,12 @@ impl ElementOwned for u32 {
     fn from_array_bytes(
         alloc: Global,
         data_type: &DataType,
-        array_bytes: &ArrayBytes<'_>,
+        array_bytes: ArrayBytes<'_>,
     ) -> Result<Vec<u32>, ElementError> {
         if !<u32 as Element>::serves(data_type) {
             return Err(ElementError::IncompatibleElementType);
         }
-        number_list(alloc, data_type, array_bytes)
+        number_list(alloc, data_type, &array_bytes)
     }
 }
 
@@ -247,12 +250,12 @@ impl ElementOwned for u64 {
     fn from_array_bytes(
         alloc: Global,
         data_type: &DataType,
-        array_bytes: &ArrayBytes<'_>,
+        array_bytes: ArrayBytes<'_>,
     ) -> Result<Vec<u64>, ElementError> {
         if !<u64 as Element>::serves(data_type) {
             return Err(ElementError::IncompatibleElementType);
         }
-        number_list(alloc, data_type, array_bytes)
+        number_list(alloc, data_type, &array_bytes)
     }
 }
 
@@ -290,12 +293,12 @@ impl ElementOwned for i8 {
     fn from_array_bytes(
         alloc: Global,
         data_type: &DataType,
-        array_bytes: &ArrayBytes<'_>,
+        array_bytes: ArrayBytes<'_>,
     ) -> Result<Vec<i8>, ElementError> {
         if !<i8 as Element>::serves(data_type) {
             return Err(ElementError::IncompatibleElementType);
         }
-        number_list(alloc, data_type, array_bytes)
+        number_list(alloc, data_type, &array_bytes)
     }
 }
 
@@ -333,12 +336,12 @@ impl ElementOwned for i16 {
     fn from_array_bytes(
         alloc: Global,
         data_type: &DataType,
-        array_bytes: &ArrayBytes<'_>,
+        array_bytes: ArrayBytes<'_>,
     ) -> Result<Vec<i16>, ElementError> {
         if !<i16 as Element>::serves(data_type) {
             return Err(ElementError::IncompatibleElementType);
         }
-        number_list(alloc, data_type, array_bytes)
+        number_list(alloc, data_type, &array_bytes)
     }
 }
 
@@ -376,12 +379,12 @@ impl ElementOwned for i32 {
     fn from_array_bytes(
         alloc: Global,
         data_type: &DataType,
-        array_bytes: &ArrayBytes<'_>,
+        array_bytes: ArrayBytes<'_>,
     ) -> Result<Vec<i32>, ElementError> {
         if !<i32 as Element>::serves(data_type) {
             return Err(ElementError::IncompatibleElementType);
         }
-        number_list(alloc, data_type, array_bytes)
+        number_list(alloc, data_type, &array_bytes)
     }
 }
 
@@ -419,11 +422,11 @@ impl ElementOwned for i64 {
     fn from_array_bytes(
         alloc: Global,
         data_type: &DataType,
-        array_bytes: &ArrayBytes<'_>,
+        array_bytes: ArrayBytes<'_>,
     ) -> Result<Vec<i64>, ElementError> {
         if !<i64 as Element>::serves(data_type) {
             return Err(ElementError::IncompatibleElementType);
         }
-        number_list(alloc, data_type, array_bytes)
+        number_list(alloc, data_type, &array_bytes)
     }
 }

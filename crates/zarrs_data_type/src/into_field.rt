@@ -23,7 +23,9 @@ pub trait IntoField<T> {
 impl IntoField<FillValue> for FillValue {
     ghost gives = { λ value field. field ≡ value };
 
-    fn into_field(self, _alloc: Global) -> Result<FillValue, AllocError> {
+    fn into_field(self, _alloc: Global) -> Result<FillValue, AllocError>
+        ensures { result ≡ Ok self }
+    {
         Ok(self)
     }
 }
@@ -103,7 +105,9 @@ impl IntoField<FillValue> for i64 {
 impl IntoField<ArrayShape> for Vec<u64> {
     ghost gives = { λ shape field. field ≡ shape };
 
-    fn into_field(self, _alloc: Global) -> Result<ArrayShape, AllocError> {
+    fn into_field(self, _alloc: Global) -> Result<ArrayShape, AllocError>
+        ensures { result ≡ Ok self }
+    {
         Ok(self)
     }
 }
@@ -135,7 +139,9 @@ impl IntoField<ArrayShape> for &[u64] {
 impl IntoField<Option<String>> for Option<String> {
     ghost gives = { λ name field. field ≡ name };
 
-    fn into_field(self, _alloc: Global) -> Result<Option<String>, AllocError> {
+    fn into_field(self, _alloc: Global) -> Result<Option<String>, AllocError>
+        ensures { result ≡ Ok self }
+    {
         Ok(self)
     }
 }
@@ -143,7 +149,9 @@ impl IntoField<Option<String>> for Option<String> {
 impl IntoField<Option<String>> for String {
     ghost gives = { λ name field. field ≡ Some name };
 
-    fn into_field(self, _alloc: Global) -> Result<Option<String>, AllocError> {
+    fn into_field(self, _alloc: Global) -> Result<Option<String>, AllocError>
+        ensures { result ≡ Ok (Some self) }
+    {
         Ok(Some(self))
     }
 }

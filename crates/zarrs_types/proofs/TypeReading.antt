@@ -2,7 +2,7 @@
 use Rattle.std.proofs.Common.{◌≡◌, ℕ, zero, suc, ◌*◌, ◌<◌, ◌≤◌, Bool, true, false, cond, ltb, leb, max, Ordering, Less}
 use Rattle.std.proofs.Common.{Equal, Greater, nat_cmp, List, [], ◌∷◌, Option, None, Some, refl, sym, ap, ◌∙◌, subst}
 use Rattle.std.proofs.Common.{arith}
-use Rattle.std.specs.Prelude.{codes, option_map, option_and_then, unwrap_or, ◌&&◌}
+use Rattle.std.specs.Prelude.{codes, option_map, option_and_then, unwrap_or, ◌&&◌, if◌then◌else◌}
 use Rattle.std.specs.Fmt.{decimal}
 use Rattle.std.specs.Ordering.{match_ordering}
 use Rattle.std.specs.Cmp.Lexicographic.{slice_cmp}
@@ -107,6 +107,21 @@ kind_of-no_inner e optional is =
     let levels = levels_in (settings e) in
     ap (λ b. cond b (option_map type.optional (option_and_then (λ j. kind_within levels j) (inner_extension (settings e)))) (cond (has_only [] (settings e)) (plain_kind e.name) None)) optional
     ∙ ap (λ o. option_map type.optional (option_and_then (λ j. kind_within levels j) o)) is
+
+-- the type that metadata says, level by level
+pub kind_of-unfolds : (e : ExtensionData)
+    → kind_of e ≡ (if is_optional_name e.name then option_map type.optional (option_and_then kind_of (inner_extension (settings e)))
+    else if has_only [] (settings e) then plain_kind e.name else None)
+kind_of-unfolds e =
+    ap (λ o. cond (is_optional_name e.name) (option_map type.optional o) (cond (has_only [] (settings e)) (plain_kind e.name) None))
+    (go (inner_extension (settings e)) refl)
+  where
+    go : (o : Option ExtensionData) → inner_extension (settings e) ≡ o
+        → option_and_then (λ i. kind_within (levels_in (settings e)) i) o ≡ option_and_then kind_of o
+    go None is = refl
+    go (Some i) is =
+        let fewer = inner_extension-levels (settings e) i is in
+        kind_within-enough (levels_in (settings e)) (suc (levels_in (settings i))) i fewer (omega arith)
 
 -- the configuration that is written for a type reads as it
 inner_of_members : (k : Kind) → inner_extension (inner_members (kind_extension k)) ≡ Some (kind_extension k)

@@ -1,5 +1,5 @@
 //! The types of the cells of an array.
-ghost use Rattle.std.specs.Prelude.{◌≡◌, IfOk, IsSome, is_some, option_map};
+ghost use Rattle.std.specs.Prelude.{◌≡◌, ◌↔◌, IfOk, IsSome, IsTrue, is_some, option_map};
 ghost use Rattle.zarrs_types.specs.Cell.{is_element, fill_cell, fill_of, held_size};
 ghost use Rattle.zarrs_types.specs.Cell.{takes_any_bytes};
 ghost use Rattle.zarrs_types.specs.Kind.{kind, cell_size, element_size, fixed_size, inner_of};
@@ -201,7 +201,10 @@ impl PartialEq for DataType {
 
     ghost laws = { type_eq-laws };
 
-    fn eq(&self, other: &DataType) -> bool {
+    fn eq(&self, other: &DataType) -> bool
+        ensures value { result ≡ type_eq self.now other.now }
+        ensures same_type { IsTrue result ↔ (kind self.now ≡ kind other.now) }
+    {
         self.is_same(other)
     }
 }

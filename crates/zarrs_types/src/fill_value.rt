@@ -1,5 +1,5 @@
 //! The value of a cell that was never written.
-ghost use Rattle.std.specs.Prelude.{◌≡◌, IfOk, is_some, option_map};
+ghost use Rattle.std.specs.Prelude.{◌≡◌, ◌↔◌, IfOk, IsTrue, is_some, option_map};
 ghost use Rattle.std.specs.Str.{bytes_eq};
 ghost use Rattle.zarrs_types.specs.Cell.{fill_cell, inner_fill};
 ghost use Rattle.zarrs_types.specs.Kind.{kind};
@@ -62,7 +62,10 @@ impl PartialEq for FillValue {
 
     ghost laws = { bytes_eq-laws };
 
-    fn eq(&self, other: &FillValue) -> bool {
+    fn eq(&self, other: &FillValue) -> bool
+        ensures value { result ≡ bytes_eq self.now other.now }
+        ensures same_bytes { IsTrue result ↔ (self.now ≡ other.now) }
+    {
         self.as_bytes() == other.as_bytes()
     }
 }

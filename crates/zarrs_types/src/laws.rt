@@ -1,8 +1,12 @@
 //! Laws of fill values, as contracts of functions that do nothing.
-ghost use Rattle.std.specs.Prelude.{◌≡◌, ℕ, ◌<◌, Some, IsSome, slice_index};
+ghost use Rattle.std.specs.Prelude.{◌≡◌, ℕ, ◌<◌, [], Some, None, IsSome, slice_index};
+ghost use Rattle.std.specs.Prelude.{if◌then◌else◌, option_and_then, option_map};
+ghost use Rattle.zarrs_metadata.specs.Extension.{ExtensionData, settings};
+ghost use Rattle.zarrs_metadata.specs.Members.{has_only};
 ghost use Rattle.zarrs_types.specs.Cell.{fill_cell};
 ghost use Rattle.zarrs_types.specs.FillMetadata.{fill_said, fill_written};
-ghost use Rattle.zarrs_types.specs.Kind.{kind};
+ghost use Rattle.zarrs_types.specs.Kind.{kind, optional};
+ghost use Rattle.zarrs_types.specs.TypeMetadata.{inner_extension, is_optional_name, kind_of, plain_kind};
 
 use crate::data_type::DataType;
 use crate::fill_value::FillValue;
@@ -20,3 +24,11 @@ pub fn written_fill_value_is_read(_data_type: &DataType, _fill_value: &FillValue
 {
     are_bytes(_fill_value.as_bytes());
 }
+
+/// Metadata says a type level by level: an optional type is that of the inner type that its configuration says; another
+/// one is said by its name alone.
+pub fn types_are_said_by_levels()
+    ensures { (e : ExtensionData) → kind_of e ≡ (if is_optional_name e.name
+        then option_map optional (option_and_then kind_of (inner_extension (settings e)))
+        else if has_only [] (settings e) then plain_kind e.name else None) }
+{}

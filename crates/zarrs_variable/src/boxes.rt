@@ -64,7 +64,11 @@ pub fn extract_strings(
     ensures { IfOk result (λ made. made
         ≡ map (string_at (box_of held_box.now) strings.now) (positions (box_of subset.now))) }
 {
-    let mut builder = VariableLengthBuilder::with_capacity(alloc, strings.len(), 0)?;
+    let count = match subset.num_elements() {
+        Ok(count) => strings.len().min(count as usize),
+        Err(_) => strings.len(),
+    };
+    let mut builder = VariableLengthBuilder::with_capacity(alloc, count, 0)?;
     let Some(mut walk) = subset.walk(alloc)? else {
         return Ok(builder.finish());
     };

@@ -75,7 +75,7 @@ impl ElementOwned for bool {
     fn from_array_bytes(
         alloc: Global,
         data_type: &DataType,
-        array_bytes: &ArrayBytes<'_>,
+        array_bytes: ArrayBytes<'_>,
     ) -> Result<Vec<bool>, ElementError> {
         if !<bool as Element>::serves(data_type) {
             return Err(ElementError::IncompatibleElementType);

@@ -114,12 +114,12 @@ impl<T: ElementOwned> ElementOwned for Option<T> {
     fn from_array_bytes(
         alloc: Global,
         data_type: &DataType,
-        array_bytes: &ArrayBytes<'_>,
+        array_bytes: ArrayBytes<'_>,
     ) -> Result<Vec<Option<T>>, ElementError> {
         let Some(inner) = data_type.optional_inner() else {
             return Err(ElementError::IncompatibleElementType);
         };
-        let ArrayBytes::Optional(optional) = array_bytes else {
+        let ArrayBytes::Optional(optional) = &array_bytes else {
             return Err(ElementError::IncompatibleElementType);
         };
         let mask = optional.mask();
@@ -127,7 +127,7 @@ impl<T: ElementOwned> ElementOwned for Option<T> {
             return Err(ElementError::IncompatibleElementType);
         }
         let present = optional.present(alloc, inner)?;
-        let values = T::from_array_bytes(alloc, inner, &present)?;
+        let values = T::from_array_bytes(alloc, inner, present)?;
         Ok(spread_values(alloc, mask, values)?)
     }
 }

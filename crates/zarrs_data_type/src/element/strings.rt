@@ -146,7 +146,7 @@ impl ElementOwned for String {
     fn from_array_bytes(
         alloc: Global,
         data_type: &DataType,
-        array_bytes: &ArrayBytes<'_>,
+        array_bytes: ArrayBytes<'_>,
     ) -> Result<Vec<String>, ElementError> {
         if !<String as Element>::serves(data_type) {
             return Err(ElementError::IncompatibleElementType);
@@ -154,7 +154,7 @@ impl ElementOwned for String {
         let ArrayBytes::Variable(strings) = array_bytes else {
             return Err(ElementError::IncompatibleElementType);
         };
-        match texts_of(alloc, strings)? {
+        match texts_of(alloc, &strings)? {
             Some(texts) => Ok(texts),
             None => Err(ElementError::IncompatibleElementType),
         }
@@ -232,7 +232,7 @@ impl ElementOwned for Vec<u8> {
     fn from_array_bytes(
         alloc: Global,
         data_type: &DataType,
-        array_bytes: &ArrayBytes<'_>,
+        array_bytes: ArrayBytes<'_>,
     ) -> Result<Vec<Vec<u8>>, ElementError> {
         if !<Vec<u8> as Element>::serves(data_type) {
             return Err(ElementError::IncompatibleElementType);
@@ -240,6 +240,6 @@ impl ElementOwned for Vec<u8> {
         let ArrayBytes::Variable(strings) = array_bytes else {
             return Err(ElementError::IncompatibleElementType);
         };
-        Ok(lists_of(alloc, strings)?)
+        Ok(lists_of(alloc, &strings)?)
     }
 }

@@ -17,8 +17,8 @@ returns-in-Some-clause-cells c =
     ∙ flags-read k c.in-Some.flags.items c.as_slice.result.now (kind_is k type.bool (sym c.serves.ensures ∙ c.if-not-serves.false))
     (ap (option_map (λ v. map from_bool v.items)) (sym c.in-Some.is) ∙ c.in_ok-flags.ensures)
 
-pub returns-in-None-clause-refused : goal.returns-in-None-clause-refused
-returns-in-None-clause-refused c = λ served.
+pub returns-clause-refused : goal.returns-clause-refused
+returns-clause-refused c = λ served.
     let k = kind c.args.data_type.now in
     ap (λ d. cells k (data_of d)) c.in-Fixed.is
     ∙ ap (λ b. cells k (fixed b)) (sym c.as_slice.ensures.value)

@@ -14,8 +14,8 @@ returns-in-Some-clause-cells c =
     ∙ cells-read string_bytes k type.string c.in-Some.texts.items c.in-Variable.strings (kind_is k type.string (sym c.serves.ensures ∙ c.if-not-serves.false)) refl
     (ap (option_map (λ v. map string_bytes v.items)) (sym c.in-Some.is) ∙ c.in_ok-texts.ensures)
 
-pub returns-in-None-clause-refused : goal.returns-in-None-clause-refused
-returns-in-None-clause-refused c = λ served.
+pub returns-clause-refused : goal.returns-clause-refused
+returns-clause-refused c = λ served.
     let k = kind c.args.data_type.now in
     ap (λ d. cells k (data_of d)) c.in-Variable.is
     ∙ cells-unread k type.string c.in-Variable.strings (kind_is k type.string served) refl
