@@ -61,7 +61,8 @@ whole_chunk-lawful leaf law = record {
 }
 
 -- the cells of a chunk behind no codec
-pub same_cells : (m : ChainMeaning) (k : Kind) (f : Cell) (s : List ℕ) (stored : Option (List ℕ)) → chunk_cells (behind [] m) k f s stored ≡ chunk_cells m k f s stored
+pub same_cells : (m : ChainMeaning) (k : Kind) (f : Cell) (s : List ℕ) (stored : Option (List ℕ))
+    → chunk_cells (behind [] m) k f s stored ≡ chunk_cells m k f s stored
 same_cells m k f s None = refl
 same_cells m k f s (Some b) = go (m.decoded k f s b)
   where
@@ -104,7 +105,8 @@ module _ (sub : List ℕ) (m : ChainMeaning) (law : IsLawfulChain m) where
   }
 
 -- the cells of a shard whose index stands at the end
-shard_cells : (sub : List ℕ) (m : ChainMeaning) (empty : Bool) (k : Kind) (f : Cell) (s : List ℕ) (stored : Option (List ℕ)) → chunk_cells (sharded false sub m) k f s stored ≡ stored_cells (subchunk_meaning m empty k f sub) k f s sub stored
+shard_cells : (sub : List ℕ) (m : ChainMeaning) (empty : Bool) (k : Kind) (f : Cell) (s : List ℕ) (stored : Option (List ℕ))
+    → chunk_cells (sharded false sub m) k f s stored ≡ stored_cells (subchunk_meaning m empty k f sub) k f s sub stored
 shard_cells sub m empty k f s None = refl
 shard_cells sub m empty k f s (Some b) = refl
 

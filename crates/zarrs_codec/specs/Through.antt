@@ -47,7 +47,8 @@ compacted_parts : {A : Type 0} (compacts fits : Bool) (o : Option (Option A)) (l
 compacted_parts true fits o less is = only_if_parts fits o (Some less) is
 compacted_parts false fits o less is = cc
 
-is_compact : {A : Type 0} (compacts fits : Bool) (o : Option (Option A)) → fits ≡ true → o ≡ Some None → (if compacts then only_if fits o else Some None) ≡ Some None
+is_compact : {A : Type 0} (compacts fits : Bool) (o : Option (Option A)) → fits ≡ true → o ≡ Some None
+    → (if compacts then only_if fits o else Some None) ≡ Some None
 is_compact true true o fit is = is
 is_compact true false o fit is = cc
 is_compact false fits o fit is = refl

@@ -56,7 +56,8 @@ and_then-lawful a b la lb = record {
 -- ---- `transpose`
 
 module _ (order s : List ℕ) (is : is_order order ≡ true) (long : length order ≡ length s) where
-  rearranged_again : (cs : List Cell) → length cs ≡ position_count s → rearranged s (permuted order s) order (rearranged (permuted order s) s (inverse order) cs) ≡ cs
+  rearranged_again : (cs : List Cell) → length cs ≡ position_count s
+      → rearranged s (permuted order s) order (rearranged (permuted order s) s (inverse order) cs) ≡ cs
   rearranged_again cs len =
       let t = permuted order s in
       let F : List ℕ → Cell = λ q. get_or cs (place s (permuted (inverse order) q)) none in
@@ -66,7 +67,9 @@ module _ (order s : List ℕ) (is : is_order order ≡ true) (long : length orde
       ∙ ap (λ r. get_or cs (place s r) none) (there_and_back order is s long p within))
       ∙ read_all s cs none len
 
-pub rearranged_values : (v : Cell → Bool) (target source way : List ℕ) (cs : List Cell) → ((q : List ℕ) → InShape target q → InShape source (permuted way q)) → length cs ≡ position_count source → list_all v cs ≡ true → list_all v (rearranged target source way cs) ≡ true
+pub rearranged_values : (v : Cell → Bool) (target source way : List ℕ) (cs : List Cell)
+    → ((q : List ℕ) → InShape target q → InShape source (permuted way q)) → length cs ≡ position_count source → list_all v cs ≡ true
+    → list_all v (rearranged target source way cs) ≡ true
 rearranged_values v target source way cs within len all =
     all-made_of v (λ q. get_or cs (place source (permuted way q)) none) target
     (λ q is. AllPass-from_list_all v cs all (place source (permuted way q)) none (let below = place_below source (permuted way q) (within q is) in omega arith))
@@ -88,7 +91,8 @@ transposed-lawful order is = record {
 
 -- ---- `reshape` and `squeeze`
 
-pub keeping_cells-lawful : (fits : List ℕ → Bool) (shape : List ℕ → List ℕ) → ((s : List ℕ) → fits s ≡ true → position_count (shape s) ≡ position_count s) → IsLawfulArray (keeping_cells fits shape)
+pub keeping_cells-lawful : (fits : List ℕ → Bool) (shape : List ℕ → List ℕ)
+    → ((s : List ℕ) → fits s ≡ true → position_count (shape s) ≡ position_count s) → IsLawfulArray (keeping_cells fits shape)
 keeping_cells-lawful fits shape count = record {
   count = count;
   round_trip = λ s cs fit len. refl;
@@ -105,8 +109,10 @@ reshaped-lawful entries =
     eqb-true (position_count (reshape_shape entries s)) (position_count s)
     (and_parts (list_all (names_within s) entries && list_all (λ n. nat_lt n (2 ^ 64)) (reshape_shape entries s) && nat_lt (position_count s) (2 ^ 64)) _ fit).1)
 
-squeeze_step : (n : ℕ) (s : List ℕ) (b : Bool) → eqb n 1 ≡ b → position_count (squeeze_shape s) ≡ position_count s → position_count (cond b (squeeze_shape s) (n ∷ squeeze_shape s)) ≡ n * position_count s
-squeeze_step n s true is rest = let one : n ≡ 1 = eqb-true n 1 is in rest ∙ (let e : position_count s ≡ 1 * position_count s = omega arith in e) ∙ ap (λ x. x * position_count s) (sym one)
+squeeze_step : (n : ℕ) (s : List ℕ) (b : Bool) → eqb n 1 ≡ b → position_count (squeeze_shape s) ≡ position_count s
+    → position_count (cond b (squeeze_shape s) (n ∷ squeeze_shape s)) ≡ n * position_count s
+squeeze_step n s true is rest = let one : n ≡ 1 = eqb-true n 1 is in rest ∙ (let e : position_count s ≡ 1 * position_count s = omega arith in e)
+    ∙ ap (λ x. x * position_count s) (sym one)
 squeeze_step n s false is rest = ap (λ x. n * x) rest
 
 count-squeeze : (s : List ℕ) → position_count (squeeze_shape s) ≡ position_count s

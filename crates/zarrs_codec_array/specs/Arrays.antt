@@ -29,8 +29,10 @@ pub record IsLawfulArray (m : ArrayMeaning) : Type 0 where
   pub forward_len : (s : List ℕ) (cs : List Cell) → m.fits s ≡ true → length cs ≡ position_count s → length (m.forward s cs) ≡ position_count s
   pub back_len : (s : List ℕ) (cs : List Cell) → m.fits s ≡ true → length cs ≡ position_count s → length (m.back s cs) ≡ position_count s
   -- a fact of all cells holds of all cells afterwards
-  pub forward_all : (v : Cell → Bool) (s : List ℕ) (cs : List Cell) → m.fits s ≡ true → length cs ≡ position_count s → list_all v cs ≡ true → list_all v (m.forward s cs) ≡ true
-  pub back_all : (v : Cell → Bool) (s : List ℕ) (cs : List Cell) → m.fits s ≡ true → length cs ≡ position_count s → list_all v cs ≡ true → list_all v (m.back s cs) ≡ true
+  pub forward_all : (v : Cell → Bool) (s : List ℕ) (cs : List Cell) → m.fits s ≡ true → length cs ≡ position_count s → list_all v cs ≡ true
+      → list_all v (m.forward s cs) ≡ true
+  pub back_all : (v : Cell → Bool) (s : List ℕ) (cs : List Cell) → m.fits s ≡ true → length cs ≡ position_count s → list_all v cs ≡ true
+      → list_all v (m.back s cs) ≡ true
 
 -- no codec: the array stays
 abbrev pub same_array : ArrayMeaning

@@ -23,7 +23,8 @@ abbrev without : ℕ → List ℕ → List ℕ
 without j [] = []
 without j (k ∷ ks) = cond (eqb k j) ks (k ∷ without j ks)
 
-length-without_step : (j k : ℕ) (ks : List ℕ) (b : Bool) → (has j ks ≡ true → suc (length (without j ks)) ≡ length ks) → (b || has j ks) ≡ true → suc (length (cond b ks (k ∷ without j ks))) ≡ suc (length ks)
+length-without_step : (j k : ℕ) (ks : List ℕ) (b : Bool) → (has j ks ≡ true → suc (length (without j ks)) ≡ length ks) → (b || has j ks) ≡ true
+    → suc (length (cond b ks (k ∷ without j ks))) ≡ suc (length ks)
 length-without_step j k ks true rest is = refl
 length-without_step j k ks false rest is = ap suc (rest is)
 
@@ -32,7 +33,8 @@ length-without j [] is = absurd (false≢true is)
 length-without j (k ∷ ks) is = length-without_step j k ks (eqb k j) (length-without j ks) is
 
 -- one that is not i, and whether it is j
-kept_step : (i j k : ℕ) (ks : List ℕ) (b : Bool) → (i ≡ j → ⊥) → eqb k j ≡ b → (has i ks ≡ true → has i (without j ks) ≡ true) → (eqb k i || has i ks) ≡ true → has i (cond b ks (k ∷ without j ks)) ≡ true
+kept_step : (i j k : ℕ) (ks : List ℕ) (b : Bool) → (i ≡ j → ⊥) → eqb k j ≡ b → (has i ks ≡ true → has i (without j ks) ≡ true)
+    → (eqb k i || has i ks) ≡ true → has i (cond b ks (k ∷ without j ks)) ≡ true
 kept_step i j k ks true apart here rest is = other (eqb k i) refl is
   where
     other : (c : Bool) → eqb k i ≡ c → (c || has i ks) ≡ true → has i ks ≡ true
@@ -60,7 +62,8 @@ up_to op unit g zero = unit
 up_to op unit g (suc d) = op (g d) (up_to op unit g d)
 
 module _ (op : ℕ → ℕ → ℕ) (unit : ℕ) (comm : (a b : ℕ) → op a b ≡ op b a) (assoc : (a b c : ℕ) → op (op a b) c ≡ op a (op b c)) (g : ℕ → ℕ) where
-  total_step : (j k : ℕ) (ks : List ℕ) (b : Bool) → eqb k j ≡ b → (has j ks ≡ true → total op unit g ks ≡ op (g j) (total op unit g (without j ks))) → (b || has j ks) ≡ true → op (g k) (total op unit g ks) ≡ op (g j) (total op unit g (cond b ks (k ∷ without j ks)))
+  total_step : (j k : ℕ) (ks : List ℕ) (b : Bool) → eqb k j ≡ b → (has j ks ≡ true → total op unit g ks ≡ op (g j) (total op unit g (without j ks)))
+      → (b || has j ks) ≡ true → op (g k) (total op unit g ks) ≡ op (g j) (total op unit g (cond b ks (k ∷ without j ks)))
   total_step j k ks true here rest is = ap (λ x. op (g x) (total op unit g ks)) (eqb-true k j here)
   total_step j k ks false here rest is =
       ap (op (g k)) (rest is)
@@ -95,7 +98,8 @@ module _ (order : List ℕ) (is : is_order order ≡ true) where
       ap (λ x. list_any (λ k. eqb k x) order) (sym (get_or-range_with_len 0 (length order) j 0 lt ∙ z)) ∙ any
 
   -- over the order as over the numbers below its length
-  reordered : (op : ℕ → ℕ → ℕ) (unit : ℕ) → ((a b : ℕ) → op a b ≡ op b a) → ((a b c : ℕ) → op (op a b) c ≡ op a (op b c)) → (g : ℕ → ℕ) → total op unit g order ≡ total op unit g (range_with_len 0 (length order))
+  reordered : (op : ℕ → ℕ → ℕ) (unit : ℕ) → ((a b : ℕ) → op a b ≡ op b a) → ((a b c : ℕ) → op (op a b) c ≡ op a (op b c)) → (g : ℕ → ℕ)
+      → total op unit g order ≡ total op unit g (range_with_len 0 (length order))
   reordered op unit comm assoc g =
       let d = length order in
       total-all op unit comm assoc g d order refl order_has
@@ -151,7 +155,8 @@ counted (k ∷ ks) zero lt = let here : eqb k k ≡ true = eq-eqb k k refl in rw
 counted (k ∷ ks) (suc i) lt = omega (arith, counted ks i (omega arith))
 
 -- a number that is in a list once is at its index
-first_step : (k j i : ℕ) (ks : List ℕ) (b : Bool) → 1 ≤ count_in j ks → cond b 1 0 + count_in j ks ≡ 1 → (count_in j ks ≡ 1 → index_of j ks ≡ i) → cond b 0 (suc (index_of j ks)) ≡ suc i
+first_step : (k j i : ℕ) (ks : List ℕ) (b : Bool) → 1 ≤ count_in j ks → cond b 1 0 + count_in j ks ≡ 1 → (count_in j ks ≡ 1 → index_of j ks ≡ i)
+    → cond b 0 (suc (index_of j ks)) ≡ suc i
 first_step k j i ks true some once rest = absurd (omega arith)
 first_step k j i ks false some once rest = ap suc (rest (omega arith))
 
@@ -181,7 +186,8 @@ inside d k false is none = absurd (omega arith)
 
 -- ---- what an order does with coordinates
 
-index_step : (j k : ℕ) (ks : List ℕ) (b : Bool) → eqb k j ≡ b → (has j ks ≡ true → (index_of j ks < length ks) × (slice_index ks (index_of j ks) ≡ j)) → (b || has j ks) ≡ true → (cond b 0 (suc (index_of j ks)) < suc (length ks)) × (slice_index (k ∷ ks) (cond b 0 (suc (index_of j ks))) ≡ j)
+index_step : (j k : ℕ) (ks : List ℕ) (b : Bool) → eqb k j ≡ b → (has j ks ≡ true → (index_of j ks < length ks) × (slice_index ks (index_of j ks) ≡ j))
+    → (b || has j ks) ≡ true → (cond b 0 (suc (index_of j ks)) < suc (length ks)) × (slice_index (k ∷ ks) (cond b 0 (suc (index_of j ks))) ≡ j)
 index_step j k ks true is rest any = (omega arith, eqb-true k j is)
 index_step j k ks false is rest any = let r = rest any in (omega (arith, r.0), r.1)
 
@@ -214,7 +220,8 @@ map_all s =
     (λ i lt. get_or-map-range_with_len (λ j. slice_index s j) 0 (length s) i i 0 (omega arith) (omega arith))
 
 -- a sum of products, as a sum over the indices
-dot_total : (steps p : List ℕ) (c : ℕ) (h : ℕ → ℕ) → length steps ≡ length p → ((i : ℕ) → i < length steps → h (c + i) ≡ slice_index p i * slice_index steps i) → total add 0 h (range_with_len c (length steps)) ≡ dot_product steps p
+dot_total : (steps p : List ℕ) (c : ℕ) (h : ℕ → ℕ) → length steps ≡ length p
+    → ((i : ℕ) → i < length steps → h (c + i) ≡ slice_index p i * slice_index steps i) → total add 0 h (range_with_len c (length steps)) ≡ dot_product steps p
 dot_total [] p c h len each = refl
 dot_total (a ∷ steps) [] c h len each = absurd (omega arith)
 dot_total (a ∷ steps) (i ∷ p) c h len each =
@@ -225,7 +232,8 @@ dot_total (a ∷ steps) (i ∷ p) c h len each =
     (λ k lt. (let z : c + 1 + k ≡ c + suc k = omega arith in ap h z) ∙ each (suc k) (omega arith)))
 
 -- a sum over the entries of a list, as a sum over its indices
-total_from : (ks : List ℕ) (c : ℕ) (g h : ℕ → ℕ) → ((i : ℕ) → i < length ks → h (c + i) ≡ g (slice_index ks i)) → total add 0 h (range_with_len c (length ks)) ≡ total add 0 g ks
+total_from : (ks : List ℕ) (c : ℕ) (g h : ℕ → ℕ) → ((i : ℕ) → i < length ks → h (c + i) ≡ g (slice_index ks i))
+    → total add 0 h (range_with_len c (length ks)) ≡ total add 0 g ks
 total_from [] c g h each = refl
 total_from (k ∷ ks) c g h each =
     let here : h c ≡ g k = (let z : c ≡ c + 0 = omega arith in ap h z ∙ each 0 (omega arith)) in
@@ -305,7 +313,8 @@ module _ (order : List ℕ) (is : is_order order ≡ true) where
         ∙ ap position_count (ap (λ n. map (λ j. slice_index s j) (range_with_len 0 n)) long ∙ map_all s)
 
     -- the row-major number of a position, by the steps of the array that has the dimensions in the order
-    pub dot-permuted : (steps q : List ℕ) → length steps ≡ length order → length q ≡ length order → dot_product (permuted order steps) q ≡ dot_product steps (permuted (inverse order) q)
+    pub dot-permuted : (steps q : List ℕ) → length steps ≡ length order → length q ≡ length order
+        → dot_product (permuted order steps) q ≡ dot_product steps (permuted (inverse order) q)
     dot-permuted steps q ls lq =
         let d = length order in
         let g : ℕ → ℕ = λ j. slice_index q (index_of j order) * slice_index steps j in

@@ -100,7 +100,8 @@ module _ (flags : List ℕ) (each : (k d : ℕ) → k < length flags → get_or 
       let width = length-take (j * 8 + 8 - j * 8) (drop (j * 8) flags) in
       let left = length-drop (j * 8) flags in
       let reach : i < 8 = omega arith in
-      let same : get_or piece i e ≡ get_or flags (j * 8 + i) e = get_or-take (j * 8 + 8 - j * 8) (drop (j * 8) flags) i e (omega arith) ∙ get_or-drop (j * 8) flags i e in
+      let same : get_or piece i e ≡ get_or flags (j * 8 + i) e = get_or-take (j * 8 + 8 - j * 8) (drop (j * 8) flags) i e (omega arith)
+      ∙ get_or-drop (j * 8) flags i e in
       subst (λ x. x < 2) (sym same) (each (j * 8 + i) e (omega arith)))
       ∙ piece_element flags j (k % 8) (omega arith)
       ∙ ap (slice_index flags) split
@@ -141,13 +142,15 @@ bool_cell type.bool none is v = absurd (false≢true v)
 bool_cell type.bool (some c) is v = absurd (false≢true v)
 bool_cell k c is v = absurd (false≢true is)
 
-pub flag_values : (k : Kind) (flags : List ℕ) → is_bool k ≡ true → ((i d : ℕ) → i < length flags → get_or flags i d < 2) → are_values k (map flag_cell flags) ≡ true
+pub flag_values : (k : Kind) (flags : List ℕ) → is_bool k ≡ true → ((i d : ℕ) → i < length flags → get_or flags i d < 2)
+    → are_values k (map flag_cell flags) ≡ true
 flag_values k [] is each = refl
 flag_values type.bool (f ∷ flags) is each =
     and_from (is_value type.bool (flag_cell f)) (are_values type.bool (map flag_cell flags)) (lt-ltb f 2 (each 0 0 (omega arith))) (flag_values type.bool flags is (λ i d lt. each (suc i) d (omega arith)))
 flag_values k (f ∷ flags) is each = absurd (false≢true is)
 
-again : (k : Kind) (cs : List Cell) (b : List ℕ) → are_values k cs ≡ true → packbits_meaning.encoded k cs ≡ Some b → packbits_meaning.decoded k (length cs) b ≡ Some cs
+again : (k : Kind) (cs : List Cell) (b : List ℕ) → are_values k cs ≡ true → packbits_meaning.encoded k cs ≡ Some b
+    → packbits_meaning.decoded k (length cs) b ≡ Some cs
 again k cs b values made =
     let p = only_parts (is_bool k) (Some (packed (map flag_of cs))) b made in
     let flags = map flag_of cs in

@@ -37,7 +37,8 @@ module _ (takes : Kind → Bool) (written : List (List ℕ) → Option (List ℕ
   module _ (only : (k : Kind) → takes k ≡ true → is_variable k ≡ true)
       (again : (strings : List (List ℕ)) (b : List ℕ) → written strings ≡ Some b → read (length strings) b ≡ Some strings)
       (count : (n : ℕ) (b : List ℕ) (strings : List (List ℕ)) → read n b ≡ Some strings → length strings ≡ n) where
-    round_trip : (k : Kind) (cs : List Cell) (b : List ℕ) → are_values k cs ≡ true → of_strings.encoded k cs ≡ Some b → of_strings.decoded k (length cs) b ≡ Some cs
+    round_trip : (k : Kind) (cs : List Cell) (b : List ℕ) → are_values k cs ≡ true → of_strings.encoded k cs ≡ Some b
+        → of_strings.decoded k (length cs) b ≡ Some cs
     round_trip k cs b values made =
         let p = only_parts (takes k) (written (map cell_bytes cs)) b made in
         ap (λ x. cond x (option_and_then (λ strings. values_only k (map bytes strings)) (read (length cs) b)) None) p.0

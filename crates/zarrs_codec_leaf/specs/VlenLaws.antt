@@ -115,7 +115,8 @@ module _ (offsets bytes : List ℕ) (some : 0 < length offsets) where
           from_zero = eqb-true (slice_index offsets 0) 0 p.0;
           rising = IsNonDecreasingBy-from_all_adjacent (λ x. x) offsets (λ k d lt.
               let rise : slice_index offsets k ≤ slice_index offsets (k + 1) =
-              leb-true (slice_index offsets k) (slice_index offsets (k + 1)) (ap rises_at (sym (neighbour k 0 lt)) ∙ each k 0 (omega (arith, length-range_with_len 0 (length offsets - 1)))) in
+              leb-true (slice_index offsets k) (slice_index offsets (k + 1)) (ap rises_at (sym (neighbour k 0 lt))
+              ∙ each k 0 (omega (arith, length-range_with_len 0 (length offsets - 1)))) in
               rw (get_or_default offsets k d 0 (omega arith), get_or_default offsets (k + 1) d 0 lt) rise);
         };
         covered = eqb-true (last_offset offsets) (length bytes) q.1;
@@ -138,7 +139,8 @@ length-index [] = refl
 length-index (n ∷ ns) = length-append (to_le_bytes w64 n) (flat_map (to_le_bytes w64) ns) ∙ omega (arith, length-le8 n, length-index ns)
 
 -- the numbers of an index are read again
-numbers-again : (ns : List ℕ) → ((k : ℕ) → k < length ns → get_or ns k 0 < 2 ^ 64) → map (from_le_bytes w64) (first_chunks 8 (length ns) (flat_map (to_le_bytes w64) ns)) ≡ ns
+numbers-again : (ns : List ℕ) → ((k : ℕ) → k < length ns → get_or ns k 0 < 2 ^ 64)
+    → map (from_le_bytes w64) (first_chunks 8 (length ns) (flat_map (to_le_bytes w64) ns)) ≡ ns
 numbers-again [] small = refl
 numbers-again (n ∷ ns) small =
     let rest = flat_map (to_le_bytes w64) ns in
