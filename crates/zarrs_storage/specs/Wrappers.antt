@@ -1,5 +1,6 @@
 -- Stores over a store.
-use Rattle.std.specs.Prelude.{◌≡◌, ℕ, ◌+◌, ◌==◌, ◌&&◌, ◌||◌, Bool, false, not, nat_lt, List, ◌∷◌, Option, Some, None, Result, MatchResult}
+use Rattle.std.specs.Prelude.{◌≡◌, ℕ, ◌+◌, ◌==◌, ◌&&◌, ◌||◌, Bool, false, not, nat_lt, List, ◌∷◌}
+use Rattle.std.specs.Prelude.{Option, Some, None, Result, MatchResult}
 use Rattle.std.specs.Borrow.{MutBor}
 use Rattle.zarrs_storage.specs.Store.{StoreState, Values, Accepts, Refuses, is_listed, last_call}
 use Rattle.zarrs_storage.specs.declared.faults.Fault.{Fault}
@@ -29,6 +30,10 @@ with_refused s keys = record s { refuses = λ key. is_listed keys key || s.refus
 -- the state, if these keys alone may be asked
 abbrev pub fenced : StoreState → List (List ℕ) → StoreState
 fenced s keys = record s { may_ask = λ key. is_listed keys key && s.may_ask key }
+
+-- the store that is fenced
+abbrev pub fence_store : {S : Type 0} → Fence S → MutBor S
+fence_store fence = fence.store
 
 -- the keys that may be asked
 abbrev pub fence_keys : {S : Type 0} → Fence S → List (List ℕ)
