@@ -4,6 +4,7 @@
 mod chunk_parts;
 mod compactions;
 mod cut_walk;
+mod partial_encodes;
 mod parts;
 mod regions;
 mod resizing;
