@@ -1,0 +1,4 @@
+pub mod NumberCells
+pub mod Placed
+pub mod Joins
+pub mod SharedBoxes
