@@ -133,6 +133,9 @@ module _ (layout : Layout) (lawful : IsLawful layout) (index : List ℕ) (part c
         ap (λ b. box_data_refusal layout b region.shape held) (whole_is whole test)
         ∙ ap (λ (b : Box). box_data_refusal layout (is_whole_of (box_at layout.grid index).shape part) b.shape held) stored_at
 
+    pub accepted_part : box_data_refusal layout whole region.shape held ≡ None → store_part_refusal layout index part held ≡ None
+    accepted_part fits = part_first layout index part held index_length there inside ∙ sym data_is ∙ fits
+
     pub data_refuses : (keep : Bool) (r : Refusal) (state : StoreState) → RefusesBy (box_data_refusal layout whole region.shape held) r → RefusesStorePart layout keep index part held r state state
     data_refuses keep r state why = part_data layout index part held keep state r index_length there inside (subst (λ (o : Option Refusal). RefusesBy o r) data_is why)
 

@@ -9,3 +9,5 @@ pub mod Comparisons
 pub mod PartialDecoders
 pub mod ReadLaws
 pub mod Outcomes
+pub mod Patches
+pub mod PartialEncoders

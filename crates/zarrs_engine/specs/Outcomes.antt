@@ -7,6 +7,8 @@ use Rattle.zarrs_storage.specs.declared.error.StorageError.{StorageError}
 use Rattle.zarrs_chunk_grid.specs.declared.traits.ChunkGridTraits.{Ghosts as GridMeaning}
 use Rattle.zarrs_keys.specs.declared.traits.ChunkKeyEncodingTraits.{Ghosts as KeyMeaning}
 use Rattle.zarrs_chain.specs.declared.traits.ChainTraits.{Ghosts as ChainMeanings}
+use Rattle.zarrs_chain.specs.Options.{encodes_partially, stores_empty_chunks}
+use Rattle.zarrs_chain.specs.declared.options.CodecOptions.{CodecOptions}
 use Rattle.zarrs_cells.specs.declared.array_bytes.ArrayBytes.{ArrayBytes}
 use Rattle.zarrs_data_type.specs.ArrayData.{ArrayData, data_of}
 use Rattle.zarrs_chunk_grid.specs.Grids.{box_at}
@@ -20,6 +22,12 @@ use Rattle.zarrs_steps.specs.Compactions.{CompactsChunk}
 use Rattle.zarrs_steps.specs.StateRefusals.{RefusesChunkRead}
 use Rattle.zarrs_steps.specs.Step.{StoresChunk, RefusesStoreChunk, ErasesChunk, RefusesEraseChunk, RefusesCompactChunk}
 use Rattle.zarrs_steps.specs.Step.{StoresRegion, RefusesStoreRegion}
+use Rattle.zarrs_steps.specs.Layout.{ArrayState, Layout}
+use Rattle.zarrs_steps.specs.declared.call.Call.{Call}
+use Rattle.zarrs_steps.specs.declared.call.Reply.{Reply}
+use Rattle.zarrs_steps.specs.Step.{Step}
+use Rattle.zarrs_steps.specs.Patches.{PatchStep}
+use Rattle.zarrs_steps.specs.Patches.{PatchesPart, RefusesPatchPart, PatchesRegion, RefusesPatchRegion}
 use Rattle.zarrs_steps.specs.declared.error.ArrayError.{ArrayError}
 use Rattle.zarrs_engine.specs.Engine.{layout_of, store_of, state_of, KeepsParts}
 use Rattle.zarrs_engine.specs.declared.engine.Engine.{Engine}
@@ -28,6 +36,12 @@ use Rattle.zarrs_engine.specs.declared.engine.Engine.{Engine}
 pub record Reads (returns : ArrayData → Type 0) (refuses : Refusal → Type 0) (result : Result ArrayBytes ArrayError) : Type 0 where
   pub cells : IfOk result (λ made. returns (data_of made))
   pub refused : IfErr result (λ e. refuses (refusal_of e))
+
+-- The engine may return this reply to the call and go from old to new with these options: by a step, and if parts may be
+-- written by themselves by one that says nothing of what the keys of the chunks that were stored hold.
+pub record StepsAs (layout : Layout) (options : CodecOptions) (call : Call) (reply : Reply) (old new : ArrayState) : Type 0 where
+  pub whole : encodes_partially options ≡ false → Step layout (stores_empty_chunks options) call reply old new
+  pub partly : PatchStep layout (stores_empty_chunks options) call reply old new
 
 module _ {S G K C : Type 0} {g : GridMeaning G} {k : KeyMeaning K} {c : ChainMeanings C} where
   -- A writing call was made: its write is done, or refused by this error. Nothing but the store changed.
@@ -73,6 +87,10 @@ module _ {S G K C : Type 0} {g : GridMeaning G} {k : KeyMeaning K} {c : ChainMea
   -- an erasure of one chunk
   abbrev pub ErasesChunkOrRefuses : (S → StoreState) → List ℕ → Engine S G K C g k c → Engine S G K C g k c → Result (Unit {0}) StorageError → Type 0
   ErasesChunkOrRefuses state index old = Writes refusal_of_storage state (ErasesChunk (layout_of old) index) (RefusesEraseChunk (layout_of old) index) old
+
+  -- the same by an encoder of its parts, whose refusals are those of arrays
+  abbrev pub ErasesEncodedOrRefuses : (S → StoreState) → List ℕ → Engine S G K C g k c → Engine S G K C g k c → Result (Unit {0}) ArrayError → Type 0
+  ErasesEncodedOrRefuses state index old = Writes refusal_of state (ErasesChunk (layout_of old) index) (RefusesEraseChunk (layout_of old) index) old
 
   -- an erasure of the chunks of a range
   abbrev pub ErasesChunksOrRefuses : (S → StoreState) → Box → Engine S G K C g k c → Engine S G K C g k c → Result (Unit {0}) StorageError → Type 0
@@ -127,3 +145,27 @@ module _ {S G K C : Type 0} {g : GridMeaning G} {k : KeyMeaning K} {c : ChainMea
 
   abbrev pub MayRetrieveRegion : (S → StoreState) → Box → Engine S G K C g k c → Type 0
   MayRetrieveRegion state region engine = MayAskChunks (layout_of engine) (chunks_met (layout_of engine).grid region) (store_of state engine)
+
+  -- a store over a part of a chunk whose parts may be written by themselves
+  abbrev pub PatchesPartOrRefuses : (S → StoreState) → Bool → List ℕ → Box → ArrayData
+      → Engine S G K C g k c → Engine S G K C g k c → Result (Unit {0}) ArrayError → Type 0
+  PatchesPartOrRefuses state keep index part held old =
+      Writes refusal_of state (PatchesPart (layout_of old) index part held) (RefusesPatchPart (layout_of old) keep index part held) old
+
+  -- a store over a part of a chunk with these options: whole chunks are stored, unless parts may be written by themselves
+  pub record StoresPartAs (state : S → StoreState) (options : CodecOptions) (index : List ℕ) (part : Box) (held : ArrayData)
+      (old new : Engine S G K C g k c) (result : Result (Unit {0}) ArrayError) : Type 0 where
+    pub whole : encodes_partially options ≡ false → StoresPartOrRefuses state (stores_empty_chunks options) index part held old new result
+    pub partly : PatchesPartOrRefuses state (stores_empty_chunks options) index part held old new result
+
+  -- the same over a region
+  abbrev pub PatchesRegionOrRefuses : (S → StoreState) → Bool → Box → ArrayData
+      → Engine S G K C g k c → Engine S G K C g k c → Result (Unit {0}) ArrayError → Type 0
+  PatchesRegionOrRefuses state keep region held old =
+      let shape = (state_of state old).shape in
+      Writes refusal_of state (PatchesRegion (layout_of old) shape region held) (RefusesPatchRegion (layout_of old) keep shape region held) old
+
+  pub record StoresRegionAs (state : S → StoreState) (options : CodecOptions) (region : Box) (held : ArrayData)
+      (old new : Engine S G K C g k c) (result : Result (Unit {0}) ArrayError) : Type 0 where
+    pub whole : encodes_partially options ≡ false → StoresRegionOrRefuses state (stores_empty_chunks options) region held old new result
+    pub partly : PatchesRegionOrRefuses state (stores_empty_chunks options) region held old new result

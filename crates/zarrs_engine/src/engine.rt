@@ -4,6 +4,7 @@ mod compactions;
 mod encoded;
 mod into;
 mod part_reads;
+mod partial_writes;
 mod reads;
 mod region_reads;
 mod region_writes;

@@ -1,10 +1,11 @@
 //! Lists of calls.
 ghost use Rattle.std.specs.Prelude.{◌≡◌, false, IfOk, IfErr, OnOk, OnErr};
-ghost use Rattle.zarrs_chain.specs.Options.{stores_empty_chunks};
+ghost use Rattle.zarrs_chain.specs.Options.{encodes_partially, stores_empty_chunks};
 ghost use Rattle.zarrs_storage.specs.Store.{KeepsReach};
 ghost use Rattle.zarrs_steps.specs.Content.{value_at};
 ghost use Rattle.zarrs_steps.specs.Reach.{MayAskCalls};
 ghost use Rattle.zarrs_steps.specs.Step.{Run};
+ghost use Rattle.zarrs_steps.specs.Patches.{PatchRun};
 ghost use Rattle.zarrs_steps.specs.Canon.{IsCanonical};
 ghost use Rattle.zarrs_steps.specs.Laws.{EachDecodes};
 ghost use Rattle.zarrs_steps.specs.declared.call.Reply.TheVariants.{Done, Cells, Refused};
@@ -37,7 +38,11 @@ pub fn replay<
     options: &CodecOptions,
 ) -> Result<Vec<Reply>, AllocError>
     requires { MayAskCalls (layout_of engine.old) calls.now (state_of S.state engine.old) }
-    ensures run { IfOk result (λ replies.
+    ensures patched { IfOk result (λ replies.
+        PatchRun (layout_of engine.old) (stores_empty_chunks options.now) calls.now replies.items
+        (state_of S.state engine.old) (state_of S.state engine.new)) }
+    // If no part is written by itself, the keys of the chunks that were stored hold what their cells are encoded to.
+    ensures run { encodes_partially options.now ≡ false → IfOk result (λ replies.
         Run (layout_of engine.old) (stores_empty_chunks options.now) calls.now replies.items
         (state_of S.state engine.old) (state_of S.state engine.new)) }
     ensures untouched { OnErr result (engine.new ≡ engine.old) }
@@ -45,10 +50,12 @@ pub fn replay<
     ensures others { KeepsOthers engine.old engine.new }
     ensures reach { KeepsReach (store_of S.state engine.old) (store_of S.state engine.new) }
     // If empty chunks are not kept, the bytes of a canonical store stay a function of its content.
-    ensures canonical { stores_empty_chunks options.now ≡ false
+    ensures canonical { encodes_partially options.now ≡ false
+        → stores_empty_chunks options.now ≡ false
         → IsCanonical (layout_of engine.old) (value_at (store_of S.state engine.old))
         → IsCanonical (layout_of engine.old) (value_at (store_of S.state engine.new)) }
-    ensures decodes { EachDecodes (layout_of engine.old) (store_of S.state engine.old)
+    ensures decodes { encodes_partially options.now ≡ false
+        → EachDecodes (layout_of engine.old) (store_of S.state engine.old)
         → EachDecodes (layout_of engine.old) (store_of S.state engine.new) }
 {
     let mut replies = Vec::with_capacity(alloc, calls.len())?;
@@ -95,14 +102,15 @@ impl<
     ghost use Rattle.zarrs_steps.specs.Cuts.{cut_chunks};
     ghost use Rattle.zarrs_steps.specs.Reach.{MayAskCall, MayAskChunk, MayAskKept};
     ghost use Rattle.zarrs_steps.specs.Refusals.{length_refusal};
-    ghost use Rattle.zarrs_steps.specs.Step.{ActStep, Step};
+    ghost use Rattle.zarrs_steps.specs.Step.{ActStep};
     ghost use Rattle.zarrs_engine.specs.Engine.{layout_of, state_of, store_of, KeepsOthers};
     ghost use Rattle.zarrs_engine.specs.Engine.{KeepsParts};
+    ghost use Rattle.zarrs_engine.specs.Outcomes.{StepsAs};
 
     /// Makes one call, and returns the reply: that it was done, what was read, or why it was refused.
     pub fn answer(&mut self, alloc: Global, call: &Call, options: &CodecOptions) -> Reply
         requires { MayAskCall (layout_of self.old) call.now (state_of S.state self.old) }
-        ensures step { Step (layout_of self.old) (stores_empty_chunks options.now) call.now result
+        ensures step { StepsAs (layout_of self.old) options.now call.now result
             (state_of S.state self.old) (state_of S.state self.new) }
         ensures layout { layout_of self.new ≡ layout_of self.old }
         ensures others { KeepsOthers self.old self.new }

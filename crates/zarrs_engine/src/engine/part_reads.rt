@@ -66,7 +66,9 @@ impl<
         if region == chunk {
             return self.retrieve_chunk(alloc, chunk_indices);
         }
-        let data = self.parts.filled(alloc, &region)?;
-        self.with_chunk(alloc, &region, data, chunk_indices)
+        let filled = self.region_of_fill(alloc, &region)?;
+        let held = self.with_chunk(alloc, &region, filled, chunk_indices)?;
+        let made = held.into_array_bytes(alloc)?;
+        Ok(made)
     }
 }

@@ -29,9 +29,9 @@ impl<
     ghost use Rattle.zarrs_steps.specs.Refusals.{Refusal, data_refusal, is_too_large, refusal_of};
     ghost use Rattle.zarrs_steps.specs.StateRefusals.{RefusesPart};
     ghost use Rattle.zarrs_steps.specs.Step.{RefusesStore};
-    ghost use Rattle.zarrs_engine.specs.Outcomes.{StoresRegionOrRefuses, MayStoreRegion};
+    ghost use Rattle.zarrs_engine.specs.Outcomes.{StoresRegionAs, MayStoreRegion};
     ghost use Rattle.zarrs_engine.specs.Outcomes.{StoresChunksOrRefuses};
-    ghost use Rattle.zarrs_engine.specs.Outcomes.{StoresPartOrRefuses, MayStorePart};
+    ghost use Rattle.zarrs_engine.specs.Outcomes.{StoresPartAs, MayStorePart};
     ghost use Rattle.zarrs_layout.specs.Covers.{CoverRegion};
     ghost use Rattle.zarrs_layout.specs.Parts.{HasValue};
     ghost use Rattle.zarrs_engine.specs.Engine.{layout_of, state_of, store_of, KeepsParts};
@@ -120,7 +120,7 @@ impl<
     }
 
     /// Stores the part of the region's data that one chunk takes.
-    fn store_part(
+    pub(crate) fn store_part(
         &mut self,
         alloc: Global,
         region: &ArraySubset,
@@ -246,8 +246,8 @@ impl<
         options: &CodecOptions,
     ) -> Result<(), ArrayError>
         requires { MayStorePart S.state chunk_indices.now (box_of chunk_subset.now) self.old }
-        ensures { StoresPartOrRefuses S.state (stores_empty_chunks options.now) chunk_indices.now
-            (box_of chunk_subset.now) (data_of chunk_subset_data.now) self.old self.new result }
+        ensures { StoresPartAs S.state options.now chunk_indices.now (box_of chunk_subset.now)
+            (data_of chunk_subset_data.now) self.old self.new result }
     {
         let dimensions = self.parts.grid.dimensionality();
         if chunk_indices.len() != dimensions {
@@ -260,6 +260,15 @@ impl<
             .part_of(alloc, chunk_indices, &chunk, chunk_subset)?;
         self.parts
             .check_cells(region == chunk, &region, chunk_subset_data)?;
+        if self.writes_parts(options) && !lies_in_box(&chunk, &region) {
+            return self.patch_chunk(
+                alloc,
+                chunk_indices,
+                chunk_subset,
+                chunk_subset_data,
+                options,
+            );
+        }
         self.store_part(alloc, &region, chunk_subset_data, chunk_indices, options)
     }
 
@@ -283,12 +292,15 @@ impl<
         options: &CodecOptions,
     ) -> Result<(), ArrayError>
         requires { MayStoreRegion S.state (box_of array_subset.now) self.old }
-        ensures { StoresRegionOrRefuses S.state (stores_empty_chunks options.now)
-            (box_of array_subset.now) (data_of subset_data.now) self.old self.new result }
+        ensures { StoresRegionAs S.state options.now (box_of array_subset.now)
+            (data_of subset_data.now) self.old self.new result }
     {
         let chunks = self.parts.chunks_met(alloc, array_subset)?;
         let is_chunk = self.parts.is_one_chunk(alloc, array_subset, &chunks)?;
         self.parts.check_cells(is_chunk, array_subset, subset_data)?;
+        if self.writes_parts(options) {
+            return self.patch_along(alloc, array_subset, subset_data, &chunks, options);
+        }
         self.store_along(alloc, array_subset, subset_data, &chunks, options)
     }
 }

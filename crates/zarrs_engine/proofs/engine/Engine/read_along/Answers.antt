@@ -2,7 +2,7 @@ use Rattle.std.proofs.Common.{◌≡◌, ◌∙◌, ◌+◌, Some, slice_get, le
 use Rattle.std.proofs.lemmas.Option.{slice_get_within}
 use Rattle.zarrs_subset.specs.Regions.{Box, box_of, positions}
 use Rattle.zarrs_subset.specs.Walks.{walk_number}
-use Rattle.zarrs_data_type.specs.ArrayData.{data_of}
+use Rattle.zarrs_region_cells.specs.RegionData.{region_data}
 use Rattle.zarrs_engine.specs.Engine.{layout_of}
 use Rattle.zarrs_steps.specs.Refusals.{refusal_of}
 use Rattle.zarrs_layout.proofs.RegionRefusals.{some_wider}
@@ -19,7 +19,7 @@ with_chunk-requires-clause-boxed g c =
 
 pub with_chunk-requires-clause-held : goal.with_chunk-requires-clause-held
 with_chunk-requires-clause-held g c =
-    read_cells (layout_of c.args.self.now) (box_of c.args.region.now) _ (g.S.ReadableStorageTraits.state c.args.self.now.storage) (data_of c.loop-walk.made) c.loop-walk.invariant.read
+    read_cells (layout_of c.args.self.now) (box_of c.args.region.now) _ (g.S.ReadableStorageTraits.state c.args.self.now.storage) (region_data c.loop-walk.made) c.loop-walk.invariant.read
 
 pub with_chunk-requires-clause-ask : goal.with_chunk-requires-clause-ask
 with_chunk-requires-clause-ask g c =

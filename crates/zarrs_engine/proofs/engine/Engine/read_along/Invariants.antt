@@ -1,7 +1,7 @@
 use Rattle.std.proofs.Common.{◌≡◌, ◌-◌, take, length}
 use Rattle.zarrs_subset.specs.Regions.{box_of, positions}
 use Rattle.zarrs_subset.specs.Walks.{walk_box, walk_number}
-use Rattle.zarrs_data_type.specs.ArrayData.{data_of}
+use Rattle.zarrs_region_cells.specs.RegionData.{region_data}
 use Rattle.zarrs_engine.specs.Engine.{layout_of, store_of}
 use Rattle.zarrs_engine.specs.RegionReads.{HasRead}
 use Rattle.zarrs_engine.proofs.engine.Engine.read_along.Given as goal
@@ -9,7 +9,7 @@ use Rattle.zarrs_engine.proofs.engine.Engine.read_along.Given as goal
 abbrev pub invariant-loop-walk : goal.invariant-loop-walk
 invariant-loop-walk g l = record {
   same_box : walk_box l.walk ≡ box_of l.chunks;
-  read : HasRead (layout_of l.self) (box_of l.region) (take (walk_number l.walk) (positions (box_of l.chunks))) (store_of g.S.ReadableStorageTraits.state l.self) (data_of l.made);
+  read : HasRead (layout_of l.self) (box_of l.region) (take (walk_number l.walk) (positions (box_of l.chunks))) (store_of g.S.ReadableStorageTraits.state l.self) (region_data l.made);
 }
 
 abbrev pub decreases-loop-walk : goal.decreases-loop-walk

@@ -1,12 +1,20 @@
-use Rattle.std.proofs.Common.{◌≡◌, Some, rules, subst, sym}
+use Rattle.std.proofs.Common.{◌≡◌, ◌∙◌, ◌&&◌, true, false, IfErr, OnOk, Some, None, ap, rules, subst, sym}
+use Rattle.std.proofs.lemmas.Result.{on_ok_weaker}
 use Rattle.zarrs_subset.specs.Regions.{Box, box_of, positions}
 use Rattle.zarrs_data_type.specs.ArrayData.{data_of}
 use Rattle.zarrs_chain.specs.Options.{stores_empty_chunks}
 use Rattle.zarrs_steps.specs.Reach.{MayAskParts}
-use Rattle.zarrs_steps.specs.ArgumentRefusals.{box_data_refusal}
+use Rattle.zarrs_chunk_grid.specs.Grids.{met}
+use Rattle.zarrs_steps.specs.ArgumentRefusals.{box_data_refusal, region_refusal, store_region_refusal}
+use Rattle.zarrs_steps.specs.Fronts.{StoresAll}
+use Rattle.zarrs_steps.specs.Patches.{PatchesAll, RefusesPatches, RefusesPatchRegion}
+use Rattle.zarrs_steps.specs.Step.{RefusesStore, RefusesStoreRegion, StoresRegion}
+use Rattle.zarrs_steps.specs.declared.error.ArrayError.{ArrayError}
+use Rattle.zarrs_engine.proofs.Puts.{each_error}
 use Rattle.zarrs_steps.specs.Refusals.{refusal_of}
-use Rattle.zarrs_steps.proofs.RefusalLemmas.{refuses_said}
+use Rattle.zarrs_steps.proofs.RefusalLemmas.{refuses_said, second_refusal}
 use Rattle.zarrs_engine.specs.Engine.{layout_of}
+use Rattle.zarrs_engine.proofs.PatchedRegions.{region_patched, region_refuses}
 use Rattle.zarrs_engine.proofs.RegionArguments.{no_refusal, region_first, region_second}
 use Rattle.zarrs_engine.proofs.engine.Engine.store_array_subset.Goals as goal
 
@@ -14,13 +22,17 @@ pub returns-in_err-chunks : goal.returns-in_err-chunks
 returns-in_err-chunks g c =
     let why = region_first (layout_of c.args.self.now) (stores_empty_chunks c.args.options.now) (g.G.ChunkGridTraits.array_extents c.args.self.now.parts.grid) (box_of c.args.array_subset.now)
     (data_of c.args.subset_data.now) (g.S.ReadableStorageTraits.state c.args.self.now.storage) (refusal_of c.in_err-chunks.field-0.0) c.in_err-chunks.ensures.refused in
-    search (rules, why)
+    let partly = region_refuses (layout_of c.args.self.now) c.args.self.now.parts.lawful (stores_empty_chunks c.args.options.now) (g.G.ChunkGridTraits.array_extents c.args.self.now.parts.grid) (box_of c.args.array_subset.now)
+    (data_of c.args.subset_data.now) (refusal_of c.in_err-chunks.field-0.0) (g.S.ReadableStorageTraits.state c.args.self.now.storage) (g.S.ReadableStorageTraits.state c.args.self.now.storage) why in
+    search (rules, why, partly)
 
 pub returns-in_err-check_cells : goal.returns-in_err-check_cells
 returns-in_err-check_cells g c =
     let why = region_second (layout_of c.args.self.now) (stores_empty_chunks c.args.options.now) (g.G.ChunkGridTraits.array_extents c.args.self.now.parts.grid) (box_of c.args.array_subset.now)
     (data_of c.args.subset_data.now) (g.S.ReadableStorageTraits.state c.args.self.now.storage) (refusal_of c.in_err-check_cells.field-0.0) c.in_ok-chunks.ensures.accepted (refuses_said _ (refusal_of c.in_err-check_cells.field-0.0) (subst (λ b. box_data_refusal (layout_of c.args.self.now) b (box_of c.args.array_subset.now).shape (data_of c.args.subset_data.now) ≡ Some (refusal_of c.in_err-check_cells.field-0.0)) c.in_ok-is_chunk.ensures.one c.in_err-check_cells.ensures.refused)) in
-    search (rules, why)
+    let partly = region_refuses (layout_of c.args.self.now) c.args.self.now.parts.lawful (stores_empty_chunks c.args.options.now) (g.G.ChunkGridTraits.array_extents c.args.self.now.parts.grid) (box_of c.args.array_subset.now)
+    (data_of c.args.subset_data.now) (refusal_of c.in_err-check_cells.field-0.0) (g.S.ReadableStorageTraits.state c.args.self.now.storage) (g.S.ReadableStorageTraits.state c.args.self.now.storage) why in
+    search (rules, why, partly)
 
 pub store_along-requires-clause-ask : goal.store_along-requires-clause-ask
 store_along-requires-clause-ask g c =
@@ -32,4 +44,76 @@ returns-in_err-is_chunk g c =
     let why = region_second (layout_of c.args.self.now) (stores_empty_chunks c.args.options.now) (g.G.ChunkGridTraits.array_extents c.args.self.now.parts.grid) (box_of c.args.array_subset.now)
     (data_of c.args.subset_data.now) (g.S.ReadableStorageTraits.state c.args.self.now.storage) (refusal_of c.in_err-is_chunk.field-0.0) c.in_ok-chunks.ensures.accepted
     (no_refusal _ (refusal_of c.in_err-is_chunk.field-0.0) c.in_err-is_chunk.ensures.refused) in
-    search (rules, why)
+    let partly = region_refuses (layout_of c.args.self.now) c.args.self.now.parts.lawful (stores_empty_chunks c.args.options.now) (g.G.ChunkGridTraits.array_extents c.args.self.now.parts.grid) (box_of c.args.array_subset.now)
+    (data_of c.args.subset_data.now) (refusal_of c.in_err-is_chunk.field-0.0) (g.S.ReadableStorageTraits.state c.args.self.now.storage) (g.S.ReadableStorageTraits.state c.args.self.now.storage) why in
+    search (rules, why, partly)
+
+pub patch_along-requires-clause-ask : goal.patch_along-requires-clause-ask
+patch_along-requires-clause-ask g c =
+    subst (λ (b : Box). MayAskParts (layout_of c.args.self.now) (box_of c.args.array_subset.now) (positions b) (g.S.ReadableStorageTraits.state c.args.self.now.storage))
+    (sym c.in_ok-chunks.ensures.chunks) c.requires
+
+pub returns-then-writes_parts : goal.returns-then-writes_parts
+returns-then-writes_parts g c =
+    let layout = layout_of c.args.self.now in
+    let lawful = c.args.self.now.parts.lawful in
+    let keep = stores_empty_chunks c.args.options.now in
+    let shape = g.G.ChunkGridTraits.array_extents c.args.self.now.parts.grid in
+    let region = box_of c.args.array_subset.now in
+    let held = data_of c.args.subset_data.now in
+    let old = g.S.ReadableStorageTraits.state c.args.self.now.storage in
+    let range = box_of c.in_ok-chunks.chunks in
+    let at : range ≡ met layout.grid region = c.in_ok-chunks.ensures.chunks in
+    let first = store_region_refusal layout shape region held in
+    let fits = subst (λ b. box_data_refusal layout b region.shape held ≡ None) c.in_ok-is_chunk.ensures.one c.in_ok-check_cells.ensures.accepted in
+    let none : first ≡ None = second_refusal (region_refusal layout shape region) _ c.in_ok-chunks.ensures.accepted ∙ fits in
+    let new = g.S.ReadableStorageTraits.state c.patch_along.new.self.storage in
+    let e = c.patch_along.ensures in
+    record {
+      whole = λ off.
+          let clash : true ≡ false = sym c.if-writes_parts.true ∙ c.writes_parts.ensures ∙ ap (λ b. b && (layout.chain.encodes_partly && old.sets_parts)) off in
+          absurd (cc);
+      partly = record {
+        done = on_ok_weaker c.patch_along.result (λ (p : PatchesAll layout region held (positions range) old new). (none, subst (λ (b : Box). PatchesAll layout region held (positions b) old new) at p)) e.done;
+        refused = each_error c.patch_along.result (λ (e : ArrayError). RefusesPatches layout keep first region held (positions range) (refusal_of e) old new)
+            (λ (e : ArrayError). RefusesPatchRegion layout keep shape region held (refusal_of e) old new)
+            (λ e why. subst (λ (b : Box). RefusesPatches layout keep first region held (positions b) (refusal_of e) old new) at why)
+            (e.refused first none);
+        parts = e.parts;
+      };
+    }
+
+pub returns : goal.returns
+returns g c =
+    let layout = layout_of c.args.self.now in
+    let lawful = c.args.self.now.parts.lawful in
+    let keep = stores_empty_chunks c.args.options.now in
+    let shape = g.G.ChunkGridTraits.array_extents c.args.self.now.parts.grid in
+    let region = box_of c.args.array_subset.now in
+    let held = data_of c.args.subset_data.now in
+    let old = g.S.ReadableStorageTraits.state c.args.self.now.storage in
+    let range = box_of c.in_ok-chunks.chunks in
+    let at : range ≡ met layout.grid region = c.in_ok-chunks.ensures.chunks in
+    let first = store_region_refusal layout shape region held in
+    let fits = subst (λ b. box_data_refusal layout b region.shape held ≡ None) c.in_ok-is_chunk.ensures.one c.in_ok-check_cells.ensures.accepted in
+    let none : first ≡ None = second_refusal (region_refusal layout shape region) _ c.in_ok-chunks.ensures.accepted ∙ fits in
+    let new = g.S.ReadableStorageTraits.state c.store_along.new.self.storage in
+    let e = c.store_along.ensures in
+    let done : OnOk c.store_along.result (StoresRegion layout keep shape region held old new) =
+    on_ok_weaker c.store_along.result (λ (p : StoresAll layout keep region held (positions range) old new). (none, subst (λ (b : Box). StoresAll layout keep region held (positions b) old new) at p)) e.done in
+    let refused : IfErr c.store_along.result (λ (e : ArrayError). RefusesStoreRegion layout keep shape region held (refusal_of e) old new) =
+    each_error c.store_along.result (λ (e : ArrayError). RefusesStore layout keep first region held (positions range) (refusal_of e) old new)
+    (λ (e : ArrayError). RefusesStoreRegion layout keep shape region held (refusal_of e) old new)
+    (λ e why. subst (λ (b : Box). RefusesStore layout keep first region held (positions b) (refusal_of e) old new) at why)
+    (e.refused first none) in
+    record {
+      whole = λ off. record { done = done; refused = refused; parts = e.parts };
+      partly = record {
+        done = on_ok_weaker c.store_along.result (region_patched layout lawful keep shape region held old new) done;
+        refused = each_error c.store_along.result (λ (e : ArrayError). RefusesStoreRegion layout keep shape region held (refusal_of e) old new)
+            (λ (e : ArrayError). RefusesPatchRegion layout keep shape region held (refusal_of e) old new)
+            (λ e why. region_refuses layout lawful keep shape region held (refusal_of e) old new why)
+            refused;
+        parts = e.parts;
+      };
+    }

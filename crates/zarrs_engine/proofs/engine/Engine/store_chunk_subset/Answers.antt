@@ -1,11 +1,22 @@
-use Rattle.std.proofs.Common.{◌∙◌, Some, rules, ap, sym}
+use Rattle.std.proofs.Common.{◌≡◌, ◌∙◌, ◌&&◌, true, false, IfErr, OnOk, Some, rules, ap, subst, sym}
+use Rattle.std.proofs.lemmas.Bool.{false≢true}
 use Rattle.std.proofs.lemmas.Result.{on_ok_weaker}
-use Rattle.zarrs_subset.specs.Regions.{box_of}
+use Rattle.zarrs_subset.specs.Regions.{Box, box_of}
+use Rattle.zarrs_chunk_grid.specs.Grids.{box_at}
+use Rattle.zarrs_cells.specs.StringParts.{LiesInBox}
+use Rattle.zarrs_steps.specs.ChunkBoxes.{part_box}
+use Rattle.zarrs_steps.specs.StateRefusals.{IsPart}
+use Rattle.zarrs_steps.proofs.Contents.{member}
+use Rattle.zarrs_layout.proofs.ChunkParts.{chunk_has, part_lies}
+use Rattle.zarrs_layout.proofs.OneChunk.{covers_lies}
+use Rattle.zarrs_engine.specs.Patches.{LeavesPatch}
 use Rattle.zarrs_data_type.specs.ArrayData.{data_of}
 use Rattle.zarrs_chain.specs.Options.{stores_empty_chunks}
 use Rattle.zarrs_steps.specs.declared.error.ArrayError.{ArrayError}
 use Rattle.zarrs_steps.specs.Refusals.{dimensionality, refusal_of}
-use Rattle.zarrs_steps.specs.Step.{RefusesStorePart}
+use Rattle.zarrs_steps.specs.Step.{RefusesStorePart, StoresPart}
+use Rattle.zarrs_steps.specs.Patches.{RefusesPatchPart}
+use Rattle.zarrs_engine.proofs.PatchedRegions.{part_patched, part_refuses, patched_left, patched_whole}
 use Rattle.zarrs_steps.proofs.RefusalLemmas.{refuses_said}
 use Rattle.zarrs_engine.specs.Engine.{layout_of}
 use Rattle.zarrs_engine.specs.RegionWrites.{LeavesPart}
@@ -25,7 +36,8 @@ returns-then-chunk_indices-dimensions g c =
     let e = c.new-error.result in
     let said = ap (λ n. Some (dimensionality n layout.grid.dimensions)) (sym c.new-error.ensures.got) ∙ ap (λ n. Some (dimensionality e.got n)) (sym (c.new-error.ensures.expected ∙ c.dimensionality-dimensions.ensures)) in
     let why = part_length layout index part held keep state (dimensionality e.got e.expected) (λ is. c.if-chunk_indices-dimensions.true (is ∙ sym c.dimensionality-dimensions.ensures)) said in
-    search (rules, why)
+    let partly = part_refuses layout c.args.self.now.parts.lawful keep index part held (dimensionality e.got e.expected) state state why in
+    search (rules, why, partly)
 
 pub returns-in_err-chunk : goal.returns-in_err-chunk
 returns-in_err-chunk g c =
@@ -37,7 +49,8 @@ returns-in_err-chunk g c =
     let held = data_of c.args.chunk_subset_data.now in
     let long = c.if-chunk_indices-dimensions.false ∙ c.dimensionality-dimensions.ensures in
     let why = part_chunk layout index part held keep state (refusal_of c.in_err-chunk.field-0.0) long c.in_err-chunk.ensures.refused in
-    search (rules, why)
+    let partly = part_refuses layout c.args.self.now.parts.lawful keep index part held (refusal_of c.in_err-chunk.field-0.0) state state why in
+    search (rules, why, partly)
 
 pub returns-in_err-region : goal.returns-in_err-region
 returns-in_err-region g c =
@@ -49,7 +62,8 @@ returns-in_err-region g c =
     let held = data_of c.args.chunk_subset_data.now in
     let long = c.if-chunk_indices-dimensions.false ∙ c.dimensionality-dimensions.ensures in
     let why = part_passing layout index part held keep state (refusal_of c.in_err-region.field-0.0) long c.in_ok-chunk.ensures.accepted c.in_err-region.ensures.refused in
-    search (rules, why)
+    let partly = part_refuses layout c.args.self.now.parts.lawful keep index part held (refusal_of c.in_err-region.field-0.0) state state why in
+    search (rules, why, partly)
 
 pub returns-in_err-check_cells : goal.returns-in_err-check_cells
 returns-in_err-check_cells g c =
@@ -62,7 +76,8 @@ returns-in_err-check_cells g c =
     let chunk = c.in_ok-chunk.ensures in
     let region = c.in_ok-region.ensures in
     let why = data_refuses layout c.args.self.now.parts.lawful index part (box_of c.in_ok-chunk.chunk) (box_of c.in_ok-region.region) c.args.chunk_subset.now.same_length chunk.region region.part chunk.accepted region.accepted held c.eq.result c.eq.ensures keep (refusal_of c.in_err-check_cells.field-0.0) state (refuses_said _ (refusal_of c.in_err-check_cells.field-0.0) c.in_err-check_cells.ensures.refused) in
-    search (rules, why)
+    let partly = part_refuses layout c.args.self.now.parts.lawful keep index part held (refusal_of c.in_err-check_cells.field-0.0) state state why in
+    search (rules, why, partly)
 
 pub store_part-requires-clause-dimensions : goal.store_part-requires-clause-dimensions
 store_part-requires-clause-dimensions g c =
@@ -112,11 +127,73 @@ returns g c =
     let region = c.in_ok-region.ensures in
     let new = g.S.ReadableStorageTraits.state c.store_part.new.self.storage in
     let fits = c.in_ok-check_cells.ensures in
+    let lawful = c.args.self.now.parts.lawful in
+    let done : OnOk c.store_part.result (StoresPart layout keep index part held state new) =
+    on_ok_weaker c.store_part.result (takes_part layout lawful index part (box_of c.in_ok-chunk.chunk) (box_of c.in_ok-region.region) c.args.chunk_subset.now.same_length chunk.region region.part chunk.accepted region.accepted held c.eq.result c.eq.ensures keep fits.accepted fits.given state new) c.store_part.ensures.done in
+    let refused : IfErr c.store_part.result (λ (e : ArrayError). RefusesStorePart layout keep index part held (refusal_of e) state new) =
+    each_error c.store_part.result (λ (e : ArrayError). LeavesPart layout keep (box_of c.in_ok-region.region) held index (refusal_of e) state new)
+    (λ (e : ArrayError). RefusesStorePart layout keep index part held (refusal_of e) state new)
+    (λ e left. takes_none layout lawful index part (box_of c.in_ok-chunk.chunk) (box_of c.in_ok-region.region) c.args.chunk_subset.now.same_length chunk.region region.part chunk.accepted region.accepted held c.eq.result c.eq.ensures keep fits.accepted fits.given state new (refusal_of e) left)
+    c.store_part.ensures.refused in
     record {
-      done = on_ok_weaker c.store_part.result (takes_part layout c.args.self.now.parts.lawful index part (box_of c.in_ok-chunk.chunk) (box_of c.in_ok-region.region) c.args.chunk_subset.now.same_length chunk.region region.part chunk.accepted region.accepted held c.eq.result c.eq.ensures keep fits.accepted fits.given state new) c.store_part.ensures.done;
-      refused = each_error c.store_part.result (λ (e : ArrayError). LeavesPart layout keep (box_of c.in_ok-region.region) held index (refusal_of e) state new)
-          (λ (e : ArrayError). RefusesStorePart layout keep index part held (refusal_of e) state new)
-          (λ e left. takes_none layout c.args.self.now.parts.lawful index part (box_of c.in_ok-chunk.chunk) (box_of c.in_ok-region.region) c.args.chunk_subset.now.same_length chunk.region region.part chunk.accepted region.accepted held c.eq.result c.eq.ensures keep fits.accepted fits.given state new (refusal_of e) left)
-          c.store_part.ensures.refused;
-      parts = c.store_part.ensures.parts;
+      whole = λ off. record { done = done; refused = refused; parts = c.store_part.ensures.parts };
+      partly = record {
+        done = on_ok_weaker c.store_part.result (part_patched layout lawful keep index part held state new) done;
+        refused = each_error c.store_part.result (λ (e : ArrayError). RefusesStorePart layout keep index part held (refusal_of e) state new)
+            (λ (e : ArrayError). RefusesPatchPart layout keep index part held (refusal_of e) state new)
+            (λ e why. part_refuses layout lawful keep index part held (refusal_of e) state new why)
+            refused;
+        parts = c.store_part.ensures.parts;
+      };
+    }
+
+pub patch_chunk-requires-clause-part : goal.patch_chunk-requires-clause-part
+patch_chunk-requires-clause-part g c = part_lies (layout_of c.args.self.now) c.args.chunk_indices.now (box_of c.args.chunk_subset.now) c.in_ok-region.ensures.accepted
+
+pub patch_chunk-requires-clause-ask : goal.patch_chunk-requires-clause-ask
+patch_chunk-requires-clause-ask g c =
+    let layout = layout_of c.args.self.now in
+    let keep = stores_empty_chunks c.args.options.now in
+    let state = g.S.ReadableStorageTraits.state c.args.self.now.storage in
+    let index = c.args.chunk_indices.now in
+    let part = box_of c.args.chunk_subset.now in
+    let held = data_of c.args.chunk_subset_data.now in
+    let lawful = c.args.self.now.parts.lawful in
+    let chunk = c.in_ok-chunk.ensures in
+    let region = c.in_ok-region.ensures in
+    let here = box_of c.in_ok-region.region in
+    let boxed = chunk_has layout index chunk.accepted in
+    let dimensions = (part_cover layout lawful index part (box_of c.in_ok-chunk.chunk) (box_of c.in_ok-region.region) c.args.chunk_subset.now.same_length chunk.region region.part chunk.accepted region.accepted).dimensions in
+    let proper : IsPart layout here index = λ covers.
+    let lies = covers_lies layout.grid lawful.grid index boxed here c.in_ok-region.region.same_length dimensions covers in
+    false≢true (sym c.if-not-lies_in_box.true ∙ c.lies_in_box.ensures.1 (subst (λ (b : Box). LiesInBox b here) (sym chunk.region) lies)) in
+    stored_ask_part layout lawful index part (box_of c.in_ok-chunk.chunk) (box_of c.in_ok-region.region) c.args.chunk_subset.now.same_length chunk.region region.part chunk.accepted region.accepted held state c.requires index (member index) proper
+
+pub returns-then-not-lies_in_box : goal.returns-then-not-lies_in_box
+returns-then-not-lies_in_box g c =
+    let layout = layout_of c.args.self.now in
+    let keep = stores_empty_chunks c.args.options.now in
+    let state = g.S.ReadableStorageTraits.state c.args.self.now.storage in
+    let index = c.args.chunk_indices.now in
+    let part = box_of c.args.chunk_subset.now in
+    let held = data_of c.args.chunk_subset_data.now in
+    let lawful = c.args.self.now.parts.lawful in
+    let chunk = c.in_ok-chunk.ensures in
+    let region = c.in_ok-region.ensures in
+    let new = g.S.ReadableStorageTraits.state c.patch_chunk.new.self.storage in
+    let fits = c.in_ok-check_cells.ensures in
+    let e = c.patch_chunk.ensures in
+    let here = part_box (box_at layout.grid index) part in
+    record {
+      whole = λ off.
+          let clash : true ≡ false = sym c.if-writes_parts.true ∙ c.writes_parts.ensures ∙ ap (λ b. b && (layout.chain.encodes_partly && state.sets_parts)) off in
+          absurd (cc);
+      partly = record {
+        done = on_ok_weaker c.patch_chunk.result (patched_whole layout lawful index part (box_of c.in_ok-chunk.chunk) (box_of c.in_ok-region.region) c.args.chunk_subset.now.same_length chunk.region region.part chunk.accepted region.accepted held c.eq.result c.eq.ensures fits.accepted state new) e.done;
+        refused = each_error c.patch_chunk.result (λ (e : ArrayError). LeavesPatch layout keep here held index (refusal_of e) state new)
+            (λ (e : ArrayError). RefusesPatchPart layout keep index part held (refusal_of e) state new)
+            (λ e left. patched_left layout lawful index part (box_of c.in_ok-chunk.chunk) (box_of c.in_ok-region.region) c.args.chunk_subset.now.same_length chunk.region region.part chunk.accepted region.accepted held c.eq.result c.eq.ensures fits.accepted state new fits.given keep (refusal_of e) left)
+            (e.refused here held);
+        parts = e.parts;
+      };
     }

@@ -7,6 +7,7 @@ use Rattle.zarrs_data_type.specs.Cells.{HasCells}
 use Rattle.zarrs_data_type.proofs.Cells.{HasCells-some}
 use Rattle.zarrs_cells.specs.Parts.{TakesCells}
 use Rattle.zarrs_steps.specs.Refusals.{refusal_of}
+use Rattle.zarrs_region_cells.specs.RegionData.{region_data}
 use Rattle.zarrs_engine.specs.Engine.{layout_of}
 use Rattle.zarrs_layout.proofs.Chunks.{retrieved}
 use Rattle.zarrs_engine.proofs.RegionReads.{read_absent, read_present}
@@ -25,7 +26,7 @@ returns-in_default-clause-read g c =
     let layout = layout_of c.args.self.now in
     let state = g.S.ReadableStorageTraits.state c.args.self.now.storage in
     let absent = sym c.in_ok-encoded.ensures.value ∙ c.in_default.is in
-    read_absent layout c.args.self.now.parts.lawful (box_of c.args.region.now) c.args.chunk_indices.now state (data_of c.args.held) c.requires.boxed absent
+    read_absent layout c.args.self.now.parts.lawful (box_of c.args.region.now) c.args.chunk_indices.now state (region_data c.args.held) c.requires.boxed absent
 
 pub returns-in_err-chunk-clause-refused : goal.returns-in_err-chunk-clause-refused
 returns-in_err-chunk-clause-refused g c =
@@ -43,14 +44,14 @@ returns-in_err-part-clause-refused g c =
     let why = some_broken layout (box_of c.args.region.now) c.args.chunk_indices.now state c.requires.boxed c.deref.result.now stands c.in_ok-chunk.ensures.accepted (refusal_of c.in_err-part.field-0.0) c.in_err-part.ensures.refused in
     search (rules, why)
 
-pub update_array_bytes-requires-clause-dimensions : goal.update_array_bytes-requires-clause-dimensions
-update_array_bytes-requires-clause-dimensions g c =
+pub with_part-requires-clause-dimensions : goal.with_part-requires-clause-dimensions
+with_part-requires-clause-dimensions g c =
     let layout = layout_of c.args.self.now in
     let index = c.args.chunk_indices.now in
     c.requires.dimensions ∙ sym (ap (λ (b : Box). length b.start) c.in_ok-chunk.ensures.region ∙ box_dimensions layout.grid index)
 
-pub update_array_bytes-requires-clause-part : goal.update_array_bytes-requires-clause-part
-update_array_bytes-requires-clause-part g c =
+pub with_part-requires-clause-part : goal.with_part-requires-clause-part
+with_part-requires-clause-part g c =
     let layout = layout_of c.args.self.now in
     let state = g.S.ReadableStorageTraits.state c.args.self.now.storage in
     let index = c.args.chunk_indices.now in
@@ -66,9 +67,9 @@ returns-clause-read g c =
     let state = g.S.ReadableStorageTraits.state c.args.self.now.storage in
     let index = c.args.chunk_indices.now in
     let region = box_of c.args.region.now in
-    let old = data_of c.args.held in
+    let old = region_data c.args.held in
     let part = data_of c.in_ok-part.part in
-    let new = data_of c.in_ok-made.made in
+    let new = region_data c.in_ok-made.made in
     let stands = sym (ap Some c.deref.ensures ∙ sym c.in-Some.is ∙ c.in_ok-encoded.ensures.value) in
     let takes = subst (λ (b : Box). TakesCells layout.kind region b part old new) c.in_ok-chunk.ensures.region c.in_ok-made.ensures in
     read_present layout c.args.self.now.parts.lawful region index state old part new c.deref.result.now c.requires.boxed stands c.in_ok-part.ensures.cells takes

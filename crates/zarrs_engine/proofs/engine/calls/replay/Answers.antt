@@ -5,9 +5,11 @@ use Rattle.zarrs_steps.specs.Layout.{Layout}
 use Rattle.zarrs_steps.specs.Reach.{MayAskCall, MayAskCalls}
 use Rattle.zarrs_steps.specs.declared.call.Call.{Call}
 use Rattle.zarrs_engine.proofs.Cuts.{drop_first, others_then}
-use Rattle.zarrs_steps.specs.Step.{Step, Run}
-use Rattle.zarrs_steps.proofs.Steps.{run_keeps, run_decodes, step_reach}
-use Rattle.zarrs_steps.proofs.Runs.{run_push, calls_after, reach_then}
+use Rattle.zarrs_steps.specs.Step.{Run}
+use Rattle.zarrs_steps.proofs.Steps.{run_keeps, run_decodes}
+use Rattle.zarrs_steps.proofs.Runs.{run_push, reach_then}
+use Rattle.zarrs_engine.specs.Outcomes.{StepsAs}
+use Rattle.zarrs_engine.proofs.PatchedRuns.{patch_asked, patch_push, patch_reach}
 use Rattle.zarrs_engine.specs.Engine.{layout_of, state_of}
 use Rattle.zarrs_engine.proofs.engine.calls.replay.Goals as goal
 
@@ -35,15 +37,17 @@ loop-call-preserved g c =
     let new = state_of g.S.ReadableStorageTraits.state c.answer-reply.new.self in
     let call = c.call-item.result in
     let more : take (n + 1) calls ≡ take n calls ++ call ∷ [] = take_more calls n call c.loop-call-test.true ∙ ap (λ x. take n calls ++ x ∷ []) (sym c.call-item.is) in
-    let step = subst (λ (layout : Layout). Step layout keep call c.answer-reply.result mid new) i.layout s.step in
+    let step = subst (λ (layout : Layout). StepsAs layout c.args.options.now call c.answer-reply.result mid new) i.layout s.step in
+    let kept = patch_reach layout keep call c.answer-reply.result mid new step.partly in
     record {
-      run = rw (more, p.items) (run_push layout keep _ _ call c.answer-reply.result old mid new i.run step);
+      run = λ off. rw (more, p.items) (run_push layout keep _ _ call c.answer-reply.result old mid new (i.run off) (step.whole off));
+      patched = rw (more, p.items) (patch_push layout keep _ _ call c.answer-reply.result old mid new i.patched step.partly);
       layout = s.layout ∙ i.layout;
       others = others_then _ _ _ i.others s.others;
-      reach = reach_then old.store mid.store new.store i.reach (step_reach layout keep _ _ mid new step);
+      reach = reach_then old.store mid.store new.store i.reach kept;
       ask =
           let rest = drop_first calls n call c.loop-call-test.true c.call-item.is in
-          calls_after layout keep call (drop (n + 1) calls) c.answer-reply.result mid new step (step_reach layout keep _ _ mid new step) (subst (λ (calls : List Call). MayAskCalls layout calls mid) rest i.ask);
+          patch_asked layout keep call (drop (n + 1) calls) c.answer-reply.result mid new step.partly (subst (λ (calls : List Call). MayAskCalls layout calls mid) rest i.ask);
       count = omega arith;
       room = omega arith;
     }
@@ -55,12 +59,12 @@ returns-clause-canonical g c =
     let old = state_of g.S.ReadableStorageTraits.state c.args.engine.now in
     let new = state_of g.S.ReadableStorageTraits.state c.loop-call.engine in
     let calls = take c.loop-call.call-index c.args.calls.now in
-    λ off canon. run_keeps layout c.args.engine.now.parts.lawful calls c.loop-call.replies.items old new
-    (subst (λ (keep : Bool). Run layout keep calls c.loop-call.replies.items old new) off i.run) canon
+    λ whole off canon. run_keeps layout c.args.engine.now.parts.lawful calls c.loop-call.replies.items old new
+    (subst (λ (keep : Bool). Run layout keep calls c.loop-call.replies.items old new) off (i.run whole)) canon
 
 pub returns-clause-decodes : goal.returns-clause-decodes
 returns-clause-decodes g c =
     let i = c.loop-call.invariant in
     let old = state_of g.S.ReadableStorageTraits.state c.args.engine.now in
     let new = state_of g.S.ReadableStorageTraits.state c.loop-call.engine in
-    run_decodes (layout_of c.args.engine.now) c.args.engine.now.parts.lawful (stores_empty_chunks c.args.options.now) (take c.loop-call.call-index c.args.calls.now) c.loop-call.replies.items old new i.run
+    λ whole. run_decodes (layout_of c.args.engine.now) c.args.engine.now.parts.lawful (stores_empty_chunks c.args.options.now) (take c.loop-call.call-index c.args.calls.now) c.loop-call.replies.items old new (i.run whole)

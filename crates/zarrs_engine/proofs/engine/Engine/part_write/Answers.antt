@@ -1,0 +1,57 @@
+use Rattle.std.proofs.Common.{◌≡◌, ◌∙◌, ℕ, List, Option, Some, None, rules, ap, subst, sym}
+use Rattle.zarrs_subset.specs.Regions.{Box, box_of}
+use Rattle.zarrs_data_type.specs.ArrayData.{data_of}
+use Rattle.zarrs_chain.specs.Options.{stores_empty_chunks}
+use Rattle.zarrs_steps.specs.Content.{value_at}
+use Rattle.zarrs_steps.specs.declared.error.ArrayError.{ArrayError}
+use Rattle.zarrs_steps.specs.Refusals.{Refusal, RefusesBy, length_refusal, refusal_of}
+use Rattle.zarrs_steps.specs.Patches.{IsNotEncoded, RefusesPartly}
+use Rattle.zarrs_steps.proofs.RefusalLemmas.{second_refusal}
+use Rattle.zarrs_layout.proofs.Chunks.{right_length}
+use Rattle.zarrs_engine.specs.Engine.{layout_of}
+use Rattle.zarrs_engine.proofs.PatchRefusals.{encoded_partly, key_partly}
+use Rattle.zarrs_engine.proofs.Puts.{each_error}
+use Rattle.zarrs_engine.proofs.engine.Engine.part_write.Goals as goal
+
+pub returns-in_err-encoded-clause-refused : goal.returns-in_err-encoded-clause-refused
+returns-in_err-encoded-clause-refused g c =
+    let layout = layout_of c.args.self.now in
+    let keep = stores_empty_chunks c.args.options.now in
+    let state = g.S.ReadableStorageTraits.state c.args.self.now.storage in
+    let index = c.args.chunk_indices.now in
+    let r = refusal_of c.in_err-encoded.field-0.0 in
+    let of_key = subst (λ (o : Option Refusal). RefusesBy o r) (second_refusal (length_refusal layout index) _ (right_length layout index c.requires.long)) c.in_err-encoded.ensures.refused in
+    let why = key_partly layout keep index state r of_key in
+    search (rules, why)
+
+pub returns-in_default-clause-refused : goal.returns-in_default-clause-refused
+returns-in_default-clause-refused g c =
+    let layout = layout_of c.args.self.now in
+    let keep = stores_empty_chunks c.args.options.now in
+    let state = g.S.ReadableStorageTraits.state c.args.self.now.storage in
+    let index = c.args.chunk_indices.now in
+    let part = box_of c.args.part.now in
+    let held = data_of c.args.part_data.now in
+    let at : None ≡ value_at state (layout.key index) = sym c.in_default.is ∙ c.in_ok-encoded.ensures.value in
+    each_error c.partial_encode.result (λ (e : ArrayError). IsNotEncoded layout keep (box_of c.args.chunk.now.region).shape None part held (refusal_of e))
+    (λ (e : ArrayError). RefusesPartly layout keep index 0 state (refusal_of e))
+    (λ e not. encoded_partly layout keep index state part held (refusal_of e)
+    (subst (λ (b : Box). IsNotEncoded layout keep b.shape (value_at state (layout.key index)) part held (refusal_of e)) c.requires.chunk
+    (subst (λ (o : Option (List ℕ)). IsNotEncoded layout keep (box_of c.args.chunk.now.region).shape o part held (refusal_of e)) at not)))
+    c.partial_encode.ensures.refused
+
+pub returns-clause-refused : goal.returns-clause-refused
+returns-clause-refused g c =
+    let layout = layout_of c.args.self.now in
+    let keep = stores_empty_chunks c.args.options.now in
+    let state = g.S.ReadableStorageTraits.state c.args.self.now.storage in
+    let index = c.args.chunk_indices.now in
+    let part = box_of c.args.part.now in
+    let held = data_of c.args.part_data.now in
+    let at : Some c.deref.result.now ≡ value_at state (layout.key index) = ap Some c.deref.ensures ∙ sym c.in-Some.is ∙ c.in_ok-encoded.ensures.value in
+    each_error c.partial_encode-2.result (λ (e : ArrayError). IsNotEncoded layout keep (box_of c.args.chunk.now.region).shape (Some c.deref.result.now) part held (refusal_of e))
+    (λ (e : ArrayError). RefusesPartly layout keep index 0 state (refusal_of e))
+    (λ e not. encoded_partly layout keep index state part held (refusal_of e)
+    (subst (λ (b : Box). IsNotEncoded layout keep b.shape (value_at state (layout.key index)) part held (refusal_of e)) c.requires.chunk
+    (subst (λ (o : Option (List ℕ)). IsNotEncoded layout keep (box_of c.args.chunk.now.region).shape o part held (refusal_of e)) at not)))
+    c.partial_encode-2.ensures.refused

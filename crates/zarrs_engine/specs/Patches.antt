@@ -1,0 +1,30 @@
+-- What the steps inside a store leave that may write the parts of chunks by themselves.
+use Rattle.std.specs.Prelude.{◌≡◌, ◌≢◌, ◌+◌, ◌<◌, ◌≤◌, ℕ, Bool, List, length, take, Some}
+use Rattle.zarrs_subset.specs.Boxes.{position_count}
+use Rattle.zarrs_subset.specs.Regions.{Box}
+use Rattle.zarrs_storage.specs.Store.{StoreState, last_call}
+use Rattle.zarrs_data_type.specs.Cell.{Cell}
+use Rattle.zarrs_data_type.specs.ArrayData.{ArrayData}
+use Rattle.zarrs_data_type.specs.Cells.{cells}
+use Rattle.zarrs_steps.specs.Layout.{Layout}
+use Rattle.zarrs_steps.specs.Refusals.{Refusal}
+use Rattle.zarrs_steps.specs.Changes.{Makes}
+use Rattle.zarrs_steps.specs.Patches.{Patches, RefusesPatch}
+
+-- One chunk did not take its part: no value changed, and at most one failure was counted, none if no call was left.
+pub record LeavesPatch (layout : Layout) (keep : Bool) (region : Box) (held : ArrayData) (index : List ℕ) (r : Refusal) (old new : StoreState) : Type 0 where
+  pub failed : ℕ
+  pub one : failed ≤ 1
+  pub counted : 0 < failed → new.calls ≢ last_call + 1
+  pub values : new.values ≡ old.values
+  pub makes : Makes 0 failed old new
+  pub cause : RefusesPatch layout keep region held index failed new r
+
+-- the first `done` of the chunks took their part, each by one writing call
+pub record HasPatched (layout : Layout) (region : Box) (held : ArrayData) (chunks : List (List ℕ)) (done : ℕ) (old new : StoreState) : Type 0 where
+  pub given : List Cell
+  pub are_cells : cells layout.kind held ≡ Some given
+  pub count : length given ≡ position_count region.shape
+  pub patches : Patches layout region given (take done chunks) old new
+  pub untouched : done ≡ 0 → new.values ≡ old.values
+  pub makes : Makes done 0 old new

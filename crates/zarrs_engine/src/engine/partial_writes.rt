@@ -1,0 +1,304 @@
+//! Writes of parts of chunks by themselves.
+use super::Engine;
+use std::alloc::Global;
+use zarrs_chain::{ChainTraits, CodecOptions};
+use zarrs_chunk_grid::ChunkGridTraits;
+use zarrs_data_type::{ArrayBytes, lies_in_box};
+use zarrs_keys::ChunkKeyEncodingTraits;
+use zarrs_layout::Chunk;
+use zarrs_shard::PartialWrite;
+use zarrs_steps::ArrayError;
+use zarrs_storage::{StorageError, StoreKey, WritableStorageTraits};
+use zarrs_subset::{ArraySubset, ArraySubsetError};
+
+impl<
+    S: WritableStorageTraits,
+    G: ChunkGridTraits,
+    K: ChunkKeyEncodingTraits,
+    C: ChainTraits,
+> Engine<S, G, K, C> {
+    ghost use Rattle.std.specs.Prelude.{◌≡◌, true, false, [], ◌∷◌, ◌&&◌, length, Option, None, Some};
+    ghost use Rattle.std.specs.Prelude.{IfOk, IfErr, OnOk};
+    ghost use Rattle.zarrs_subset.specs.Boxes.{position_count};
+    ghost use Rattle.zarrs_subset.specs.Regions.{Box, LiesInShape, box_of, positions, seen_from};
+    ghost use Rattle.zarrs_subset.specs.Refusals.{RefusesOffset};
+    ghost use Rattle.zarrs_chunk_grid.specs.Grids.{box_at, has_box};
+    ghost use Rattle.zarrs_data_type.specs.ArrayData.{ArrayData, data_of};
+    ghost use Rattle.zarrs_data_type.specs.Cells.{HasCells};
+    ghost use Rattle.zarrs_cells.specs.Parts.{ExtractsCells};
+    ghost use Rattle.zarrs_cells.specs.StringParts.{LiesInBox};
+    ghost use Rattle.zarrs_shard.specs.PartialShards.{after};
+    ghost use Rattle.zarrs_shard.specs.ShardPatches.{change_of};
+    ghost use Rattle.zarrs_chain.specs.Chain.{partial_encoding};
+    ghost use Rattle.zarrs_chain.specs.Options.{encodes_partially, stores_empty_chunks};
+    ghost use Rattle.zarrs_steps.specs.Changes.{IsPut};
+    ghost use Rattle.zarrs_steps.specs.ChunkBoxes.{part_box};
+    ghost use Rattle.zarrs_steps.specs.Content.{value_at};
+    ghost use Rattle.zarrs_steps.specs.Patches.{PatchesAll, RefusesPartly, RefusesPatches};
+    ghost use Rattle.zarrs_steps.specs.Reach.{MayAskChunk, MayAskParts};
+    ghost use Rattle.zarrs_steps.specs.Refusals.{Refusal, is_too_large, refusal_of};
+    ghost use Rattle.zarrs_steps.specs.Refusals.{refusal_of_storage};
+    ghost use Rattle.zarrs_layout.specs.Covers.{CoverRegion};
+    ghost use Rattle.zarrs_engine.specs.RegionWrites.{AreCovered};
+    ghost use Rattle.zarrs_layout.specs.Parts.{RefusesPut};
+    ghost use Rattle.zarrs_engine.specs.Engine.{layout_of, store_of, KeepsParts};
+    ghost use Rattle.zarrs_engine.specs.Outcomes.{PatchesPartOrRefuses};
+    ghost use Rattle.zarrs_engine.specs.Patches.{LeavesPatch};
+
+    /// Whether the parts of chunks are written by themselves: the chain and the store can.
+    pub(crate) fn encodes_partly(&self) -> bool
+        ensures { result ≡ ((layout_of self.now).chain.encodes_partly
+            && (store_of S.state self.now).sets_parts) }
+    {
+        self.parts.encodes_partly() && self.storage.supports_set_partial()
+    }
+
+    /// Whether a store with these options writes the parts of chunks by themselves.
+    pub(crate) fn writes_parts(&self, options: &CodecOptions) -> bool
+        ensures { result ≡ (encodes_partially options.now
+            && ((layout_of self.now).chain.encodes_partly
+            && (store_of S.state self.now).sets_parts)) }
+    {
+        options.experimental_partial_encoding() && self.encodes_partly()
+    }
+
+    /// Does what is to be done with a key, by one writing call of the store.
+    fn put_part(
+        &mut self,
+        alloc: Global,
+        key: &StoreKey,
+        write: PartialWrite,
+    ) -> Result<(), StorageError>
+        ensures done { OnOk result (IsPut key.now (after (change_of write)
+            (value_at (store_of S.state self.old) key.now)) (store_of S.state self.old)
+            (store_of S.state self.new)) }
+        ensures refused { IfErr result (λ e. RefusesPut (refusal_of_storage e)
+            (store_of S.state self.old) (store_of S.state self.new)) }
+        ensures parts { KeepsParts self.old self.new }
+    {
+        match write {
+            PartialWrite::Put(offset, bytes) => {
+                self.storage.set_partial(alloc, key, offset, &bytes)
+            }
+            PartialWrite::Erase => self.storage.erase(alloc, key),
+        }
+    }
+
+    /// What is done with the key of a chunk for the cells of a part, seen from the chunk's origin. What was read of it is
+    /// let go of.
+    fn part_write(
+        &self,
+        alloc: Global,
+        chunk_indices: &[u64],
+        chunk: &Chunk,
+        part: &ArraySubset,
+        part_data: &ArrayBytes<'_>,
+        options: &CodecOptions,
+    ) -> Result<PartialWrite, ArrayError>
+        requires supported { (layout_of self.now).chain.encodes_partly ≡ true }
+        requires long { length chunk_indices.now ≡ (layout_of self.now).grid.dimensions }
+        requires chunk { box_of chunk.now.region ≡ box_at (layout_of self.now).grid
+            chunk_indices.now }
+        requires size { is_too_large (layout_of self.now) (box_of chunk.now.region).shape ≡ false }
+        requires dimensions { length (box_of part.now).start
+            ≡ length (box_of chunk.now.region).shape }
+        requires cells { HasCells (layout_of self.now).kind (data_of part_data.now)
+            (position_count (box_of part.now).shape) }
+        requires ask { MayAskChunk (layout_of self.now) chunk_indices.now
+            (store_of S.state self.now) }
+        ensures written { IfOk result (λ write.
+            partial_encoding (layout_of self.now).chain (stores_empty_chunks options.now)
+            (layout_of self.now).kind (layout_of self.now).fill
+            (box_at (layout_of self.now).grid chunk_indices.now).shape
+            (value_at (store_of S.state self.now) ((layout_of self.now).key chunk_indices.now))
+            (box_of part.now) (data_of part_data.now) ≡ Some (change_of write)) }
+        ensures refused { IfErr result (λ e. RefusesPartly (layout_of self.now)
+            (stores_empty_chunks options.now) chunk_indices.now 0 (store_of S.state self.now)
+            (refusal_of e)) }
+    {
+        let Some(encoded) = self.stored_bytes(alloc, chunk_indices)? else {
+            return self
+                .parts
+                .partial_encode(alloc, chunk, None, part, part_data, options);
+        };
+        self.parts
+            .partial_encode(alloc, chunk, Some(&encoded), part, part_data, options)
+    }
+
+    /// Stores the cells of a part of a chunk, seen from the chunk's origin, by a partial encode and one writing call.
+    pub(crate) fn patch_chunk(
+        &mut self,
+        alloc: Global,
+        chunk_indices: &[u64],
+        part: &ArraySubset,
+        part_data: &ArrayBytes<'_>,
+        options: &CodecOptions,
+    ) -> Result<(), ArrayError>
+        requires supported { (layout_of self.old).chain.encodes_partly ≡ true }
+        requires boxed { has_box (layout_of self.old).grid chunk_indices.now ≡ true }
+        requires part { LiesInShape (box_of part.now)
+            (box_at (layout_of self.old).grid chunk_indices.now).shape }
+        requires cells { HasCells (layout_of self.old).kind (data_of part_data.now)
+            (position_count (box_of part.now).shape) }
+        requires ask { MayAskChunk (layout_of self.old) chunk_indices.now
+            (store_of S.state self.old) }
+        ensures done { OnOk result (PatchesAll (layout_of self.old)
+            (part_box (box_at (layout_of self.old).grid chunk_indices.now) (box_of part.now))
+            (data_of part_data.now) (chunk_indices.now ∷ []) (store_of S.state self.old)
+            (store_of S.state self.new)) }
+        // Whatever region the part is cut from.
+        ensures refused { (region : Box) (held : ArrayData) → IfErr result
+            (λ e. LeavesPatch (layout_of self.old) (stores_empty_chunks options.now) region held
+            chunk_indices.now (refusal_of e) (store_of S.state self.old)
+            (store_of S.state self.new)) }
+        ensures parts { KeepsParts self.old self.new }
+    {
+        let chunk = self.parts.chunk(alloc, chunk_indices)?;
+        let write = self.part_write(alloc, chunk_indices, &chunk, part, part_data, options)?;
+        let key = self.parts.chunk_key(alloc, chunk_indices)?;
+        self.put_part(alloc, &key, write)?;
+        Ok(())
+    }
+
+    /// Stores the cells over a part of the chunk with these indices, which has a box, by one writing call of the store. The
+    /// part is seen from the origin of the chunk. If the chain and the store write parts by themselves, no other cell of the
+    /// chunk is looked at; else the chunk is read, changed and stored. The key of the chunk is asked in either case.
+    ///
+    /// # Errors
+    /// In this order: E2 for a part of another number of dimensions, or that passes the chunk; E8 for a part that is the
+    /// whole chunk and has more bytes than a `usize` counts; E4 for data that is not one cell for each position, each a
+    /// value of the data type. Then E8 for such a chunk; E7 if the store refuses its key; E4 if the chain does not take it,
+    /// or its bytes do not decode, or E8 if a size is too large; E7 if the store refuses the write. E9 may come at any time.
+    /// Nothing is changed then.
+    pub fn partial_encode(
+        &mut self,
+        alloc: Global,
+        chunk_indices: &[u64],
+        chunk_subset: &ArraySubset,
+        chunk_subset_data: &ArrayBytes<'_>,
+        options: &CodecOptions,
+    ) -> Result<(), ArrayError>
+        requires boxed { has_box (layout_of self.old).grid chunk_indices.now ≡ true }
+        requires ask { MayAskChunk (layout_of self.old) chunk_indices.now
+            (store_of S.state self.old) }
+        ensures { PatchesPartOrRefuses S.state (stores_empty_chunks options.now) chunk_indices.now
+            (box_of chunk_subset.now) (data_of chunk_subset_data.now) self.old self.new result }
+    {
+        let chunk = self.parts.chunk_box(alloc, chunk_indices)?;
+        let region = self
+            .parts
+            .part_of(alloc, chunk_indices, &chunk, chunk_subset)?;
+        let whole = region == chunk;
+        self.parts.check_cells(whole, &region, chunk_subset_data)?;
+        if self.encodes_partly() {
+            return self.patch_chunk(
+                alloc,
+                chunk_indices,
+                chunk_subset,
+                chunk_subset_data,
+                options,
+            );
+        }
+        if whole {
+            // No cell of the chunk stays, so its bytes are not decoded.
+            self.stored_bytes(alloc, chunk_indices)?;
+        }
+        self.store_part(alloc, &region, chunk_subset_data, chunk_indices, options)
+    }
+
+    /// A box inside a region, seen from `origin`, and the region's cells in it.
+    fn seen_cells(
+        &self,
+        alloc: Global,
+        region: &ArraySubset,
+        region_data: &ArrayBytes<'_>,
+        inner: &ArraySubset,
+        origin: &[u64],
+    ) -> Result<(ArraySubset, ArrayBytes<'static>), ArraySubsetError>
+        requires inside { LiesInBox (box_of inner.now) (box_of region.now) }
+        requires given { HasCells (layout_of self.now).kind (data_of region_data.now)
+            (position_count (box_of region.now).shape) }
+        ensures seen { IfOk result (λ made. box_of made.0
+            ≡ seen_from (box_of inner.now) origin.now) }
+        ensures cells { IfOk result (λ made. ExtractsCells (layout_of self.now).kind
+            (box_of region.now) (data_of region_data.now) (box_of inner.now) (data_of made.1)) }
+        ensures refused { IfErr result (RefusesOffset (box_of inner.now).start origin.now) }
+    {
+        let seen = inner.relative_to(alloc, origin)?;
+        let data = region_data.extract_array_subset(alloc, &self.parts.data_type, region, inner)?;
+        Ok((seen, data))
+    }
+
+    /// Stores the part of the region's data that one chunk takes: a chunk that the region covers is stored whole, the part
+    /// of another one is written by itself.
+    fn patch_part(
+        &mut self,
+        alloc: Global,
+        region: &ArraySubset,
+        region_data: &ArrayBytes<'_>,
+        chunk_indices: &[u64],
+        options: &CodecOptions,
+    ) -> Result<(), ArrayError>
+        requires supported { (layout_of self.old).chain.encodes_partly ≡ true }
+        requires boxed { has_box (layout_of self.old).grid chunk_indices.now ≡ true }
+        requires dimensions { length (box_of region.now).start
+            ≡ (layout_of self.old).grid.dimensions }
+        requires covered { AreCovered (layout_of self.old).grid (box_of region.now) }
+        requires given { HasCells (layout_of self.old).kind (data_of region_data.now)
+            (position_count (box_of region.now).shape) }
+        requires ask { MayAskParts (layout_of self.old) (box_of region.now)
+            (chunk_indices.now ∷ []) (store_of S.state self.old) }
+        ensures done { OnOk result (PatchesAll (layout_of self.old) (box_of region.now)
+            (data_of region_data.now) (chunk_indices.now ∷ []) (store_of S.state self.old)
+            (store_of S.state self.new)) }
+        ensures refused { IfErr result (λ e. LeavesPatch (layout_of self.old)
+            (stores_empty_chunks options.now) (box_of region.now) (data_of region_data.now)
+            chunk_indices.now (refusal_of e) (store_of S.state self.old)
+            (store_of S.state self.new)) }
+        ensures parts { KeepsParts self.old self.new }
+    {
+        let chunk = self.parts.chunk_box(alloc, chunk_indices)?;
+        let shared = region.overlap(alloc, &chunk)?;
+        if shared.is_empty() || lies_in_box(&chunk, region) {
+            return self.store_part(alloc, region, region_data, chunk_indices, options);
+        }
+        let (part, data) = self.seen_cells(alloc, region, region_data, &shared, chunk.start())?;
+        self.patch_chunk(alloc, chunk_indices, &part, &data, options)
+    }
+
+    /// Stores the region's data in these chunks, one after another, those of which it covers a part by themselves.
+    pub(crate) fn patch_along(
+        &mut self,
+        alloc: Global,
+        region: &ArraySubset,
+        region_data: &ArrayBytes<'_>,
+        chunks: &ArraySubset,
+        options: &CodecOptions,
+    ) -> Result<(), ArrayError>
+        requires supported { (layout_of self.old).chain.encodes_partly ≡ true }
+        requires cover { CoverRegion (layout_of self.old).grid (box_of region.now)
+            (positions (box_of chunks.now)) }
+        requires given { HasCells (layout_of self.old).kind (data_of region_data.now)
+            (position_count (box_of region.now).shape) }
+        requires ask { MayAskParts (layout_of self.old) (box_of region.now)
+            (positions (box_of chunks.now)) (store_of S.state self.old) }
+        ensures done { OnOk result (PatchesAll (layout_of self.old) (box_of region.now)
+            (data_of region_data.now) (positions (box_of chunks.now)) (store_of S.state self.old)
+            (store_of S.state self.new)) }
+        ensures refused { (first : Option Refusal) → first ≡ None → IfErr result
+            (λ e. RefusesPatches (layout_of self.old) (stores_empty_chunks options.now) first
+            (box_of region.now) (data_of region_data.now) (positions (box_of chunks.now))
+            (refusal_of e) (store_of S.state self.old) (store_of S.state self.new)) }
+        ensures parts { KeepsParts self.old self.new }
+    {
+        let Some(mut walk) = chunks.walk(alloc)? else {
+            return Ok(());
+        };
+        loop {
+            self.patch_part(alloc, region, region_data, walk.current(), options)?;
+            if !walk.advance() {
+                return Ok(());
+            }
+        }
+    }
+}
