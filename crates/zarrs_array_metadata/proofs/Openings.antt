@@ -13,7 +13,7 @@ use Rattle.serde_json.specs.Data.{Members}
 use Rattle.zarrs_document_v2.specs.Document.{DocumentV2Data, attributes_said}
 use Rattle.zarrs_document_v2.specs.View.{MetadataData, v3, v2}
 use Rattle.zarrs_options.specs.Errors.{create_error_of_path, create_error_of_storage}
-use Rattle.zarrs_options.specs.Refusals.{CreateRefusal, node_path, storage, missing_metadata, create_refusal_of, RefusesCreation}
+use Rattle.zarrs_options.specs.Refusals.{CreateRefusal, node_path, storage, unread, missing_metadata, create_refusal_of, RefusesCreation}
 use Rattle.zarrs_options.specs.declared.versions.MetadataRetrieveVersion.{MetadataRetrieveVersion}
 use Rattle.zarrs_array_metadata.specs.Meanings.{Meaning, creation, created, ◌>>=◌}
 use Rattle.zarrs_array_metadata.specs.Opening.{v3_key, v2_array_key, attributes_key, value_asked, fields_understood, understood_document, document_v2_read, attributed, stored_v3, stored_v2, stored_default, stored_by, stored_metadata, opened}
@@ -41,17 +41,18 @@ goes_on o f a b is made = rw is made
 
 -- ---- documents
 
-pub unsaid : (bytes : List ℕ) → document_said bytes ≡ None → understood_document bytes ≡ Err storage
+pub unsaid : (key bytes : List ℕ) → document_said bytes ≡ None → understood_document key bytes ≡ Err (unread key)
 unfolding understood_document
-unsaid bytes none = rw none refl
+unsaid key bytes none = rw none refl
 
-pub all_understood : (bytes : List ℕ) (m : DocumentData) → document_said bytes ≡ Some m → fields_understood m.additional_fields ≡ Ok tt → understood_document bytes ≡ Ok m
+pub all_understood : (key bytes : List ℕ) (m : DocumentData) → document_said bytes ≡ Some m → fields_understood m.additional_fields ≡ Ok tt → understood_document key bytes ≡ Ok m
 unfolding understood_document
-all_understood bytes m said known = rw (said, known) refl
+all_understood key bytes m said known = rw (said, known) refl
 
-pub not_understood : (bytes : List ℕ) (m : DocumentData) (r : CreateRefusal) → document_said bytes ≡ Some m → RefusesCreation (fields_understood m.additional_fields) r → RefusesCreation (understood_document bytes) r
+pub not_understood : (key bytes : List ℕ) (m : DocumentData) (r : CreateRefusal) → document_said bytes ≡ Some m → RefusesCreation (fields_understood m.additional_fields) r
+    → RefusesCreation (understood_document key bytes) r
 unfolding understood_document
-not_understood bytes m r said is = rw said (bound _ _ r is)
+not_understood key bytes m r said is = rw said (bound _ _ r is)
 
 -- ---- stores
 
@@ -60,7 +61,7 @@ module _ (state : StoreState) (key : List ℕ) where
   key_refused refuses = rw refuses refl
 
   any_refused : (e : StorageError) → state.refuses key ≡ true → RefusesCreation (value_asked state key) (create_refusal_of (create_error_of_storage e))
-  any_refused (store_error.InvalidMetadata at text) refuses = key_refused refuses
+  any_refused (store_error.InvalidMetadata at text) refuses = inr (key_refused refuses)
   any_refused store_error.ReadOnly refuses = key_refused refuses
   any_refused store_error.InvalidByteRange refuses = key_refused refuses
   any_refused store_error.Exhausted refuses = key_refused refuses
@@ -74,9 +75,9 @@ module _ (state : StoreState) (key : List ℕ) where
   pub is_asked : (state.refuses key ≡ true → ⊥) → value_asked state key ≡ Ok (value_at state key)
   is_asked asked = rw (not_true _ asked) refl
 
--- a refusal by the store is one whatever was wanted
-pub no_value : (A : Type 0) (r : CreateRefusal) → RefusesCreation {A = Unit {0}} (Err storage) r → RefusesCreation {A = A} (Err storage) r
-no_value A r is = bound (Err storage) (λ nothing. Err storage) r is
+-- what does not read is refused whatever was wanted
+pub no_value : (A : Type 0) (key : List ℕ) (r : CreateRefusal) → RefusesCreation {A = Unit {0}} (Err (unread key)) r → RefusesCreation {A = A} (Err (unread key)) r
+no_value A key r is = bound (Err (unread key)) (λ nothing. Err (unread key)) r is
 
 -- ---- V3 and V2
 
@@ -85,7 +86,7 @@ module _ (state : StoreState) (path : List ℕ) (r : CreateRefusal) where
   unfolding stored_v3
   v3_refused is = bound _ _ r is
 
-  pub v3_bad : (bytes : List ℕ) → value_asked state (v3_key path) ≡ Ok (Some bytes) → RefusesCreation (understood_document bytes) r → RefusesCreation (stored_v3 state path) r
+  pub v3_bad : (bytes : List ℕ) → value_asked state (v3_key path) ≡ Ok (Some bytes) → RefusesCreation (understood_document (v3_key path) bytes) r → RefusesCreation (stored_v3 state path) r
   unfolding stored_v3
   v3_bad bytes asked is = after _ _ _ r asked (bound _ _ r is)
 
@@ -93,11 +94,11 @@ module _ (state : StoreState) (path : List ℕ) (r : CreateRefusal) where
   unfolding stored_v2
   v2_refused is = bound _ _ r is
 
-  pub v2_bad : (bytes : List ℕ) → value_asked state (v2_array_key path) ≡ Ok (Some bytes) → RefusesCreation (document_v2_read bytes) r → RefusesCreation (stored_v2 state path) r
+  pub v2_bad : (bytes : List ℕ) → value_asked state (v2_array_key path) ≡ Ok (Some bytes) → RefusesCreation (document_v2_read (v2_array_key path) bytes) r → RefusesCreation (stored_v2 state path) r
   unfolding stored_v2
   v2_bad bytes asked is = after _ _ _ r asked (bound _ _ r is)
 
-  pub v2_unattributed : (bytes : List ℕ) (m : DocumentV2Data) → value_asked state (v2_array_key path) ≡ Ok (Some bytes) → document_v2_read bytes ≡ Ok m → RefusesCreation (attributed state path m) r → RefusesCreation (stored_v2 state path) r
+  pub v2_unattributed : (bytes : List ℕ) (m : DocumentV2Data) → value_asked state (v2_array_key path) ≡ Ok (Some bytes) → document_v2_read (v2_array_key path) bytes ≡ Ok m → RefusesCreation (attributed state path m) r → RefusesCreation (stored_v2 state path) r
   unfolding stored_v2
   v2_unattributed bytes m asked said is = after _ _ _ r asked (after _ _ _ r said (bound _ _ r is))
 
@@ -105,10 +106,10 @@ module _ (state : StoreState) (path : List ℕ) (r : CreateRefusal) where
   unfolding attributed
   attributes_refused m is = bound _ _ r is
 
-  pub attributes_bad : (m : DocumentV2Data) (bytes : List ℕ) → value_asked state (attributes_key path) ≡ Ok (Some bytes) → attributes_said bytes ≡ None → RefusesCreation {A = Unit {0}} (Err storage) r
-      → RefusesCreation (attributed state path m) r
+  pub attributes_bad : (m : DocumentV2Data) (bytes : List ℕ) → value_asked state (attributes_key path) ≡ Ok (Some bytes) → attributes_said bytes ≡ None
+      → RefusesCreation {A = Unit {0}} (Err (unread (attributes_key path))) r → RefusesCreation (attributed state path m) r
   unfolding attributed
-  attributes_bad m bytes asked none is = after _ _ _ r asked (rw none (no_value _ r is))
+  attributes_bad m bytes asked none is = after _ _ _ r asked (rw none (no_value _ _ r is))
 
   pub default_refused : RefusesCreation (stored_v3 state path) r → RefusesCreation (stored_default state path) r
   unfolding stored_default
@@ -123,7 +124,7 @@ module _ (state : StoreState) (path : List ℕ) where
   unfolding stored_v3
   v3_absent asked = goes_on _ _ _ _ asked refl
 
-  pub v3_read : (bytes : List ℕ) (m : DocumentData) → value_asked state (v3_key path) ≡ Ok (Some bytes) → understood_document bytes ≡ Ok m → stored_v3 state path ≡ Ok (Some (v3 m))
+  pub v3_read : (bytes : List ℕ) (m : DocumentData) → value_asked state (v3_key path) ≡ Ok (Some bytes) → understood_document (v3_key path) bytes ≡ Ok m → stored_v3 state path ≡ Ok (Some (v3 m))
   unfolding stored_v3
   v3_read bytes m asked said = goes_on _ _ _ _ asked (goes_on _ _ _ _ said refl)
 
@@ -131,7 +132,7 @@ module _ (state : StoreState) (path : List ℕ) where
   unfolding stored_v2
   v2_absent asked = goes_on _ _ _ _ asked refl
 
-  pub v2_read : (bytes : List ℕ) (m n : DocumentV2Data) → value_asked state (v2_array_key path) ≡ Ok (Some bytes) → document_v2_read bytes ≡ Ok m → attributed state path m ≡ Ok n → stored_v2 state path ≡ Ok (Some (v2 n))
+  pub v2_read : (bytes : List ℕ) (m n : DocumentV2Data) → value_asked state (v2_array_key path) ≡ Ok (Some bytes) → document_v2_read (v2_array_key path) bytes ≡ Ok m → attributed state path m ≡ Ok n → stored_v2 state path ≡ Ok (Some (v2 n))
   unfolding stored_v2
   v2_read bytes m n asked said all = goes_on _ _ _ _ asked (goes_on _ _ _ _ said (goes_on _ _ _ _ all refl))
 

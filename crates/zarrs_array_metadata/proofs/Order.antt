@@ -1,5 +1,5 @@
 -- Which refusal of a creation comes first.
-use Rattle.std.proofs.Common.{◌≡◌, ℕ, List, length, Some, Result, Ok, refl}
+use Rattle.std.proofs.Common.{◌≡◌, inl, inr, ℕ, List, length, Some, Result, Ok, refl}
 use Rattle.zarrs_document.specs.Document.{DocumentData}
 use Rattle.zarrs_keys.specs.Metadata.{key_encoding_of}
 use Rattle.zarrs_keys.specs.declared.encodings.ChunkKeyEncoding.{ChunkKeyEncoding}
@@ -10,7 +10,7 @@ use Rattle.zarrs_types.specs.Kind.{Kind}
 use Rattle.zarrs_types.specs.TypeMetadata.{kind_of}
 use Rattle.zarrs_codec.specs.Metadata.{ChainData, chain_said}
 use Rattle.zarrs_options.specs.Options.{transformers_said}
-use Rattle.zarrs_options.specs.Refusals.{CreateRefusal, node_path, additional_field, data_type, fill_value, fill_value_metadata, codecs, storage_transformers, chunk_grid, chunk_key_encoding, grid_dimensions, dimension_names, subchunk_shape, storage, missing_metadata, unsupported_v2, out_of_memory, said_or, RefusesCreation}
+use Rattle.zarrs_options.specs.Refusals.{CreateRefusal, node_path, additional_field, data_type, fill_value, fill_value_metadata, codecs, storage_transformers, chunk_grid, chunk_key_encoding, grid_dimensions, dimension_names, subchunk_shape, storage, unread, missing_metadata, unsupported_v2, out_of_memory, unused, said_or, RefusesCreation}
 use Rattle.zarrs_array_metadata.specs.Meanings.{names_said, creation_v3, ◌>>=◌}
 
 -- what a step refuses is refused
@@ -28,9 +28,12 @@ bound o f (grid_dimensions n d) is = rw is refl
 bound o f (dimension_names n d) is = rw is refl
 bound o f (subchunk_shape shape) is = rw is refl
 bound o f storage is = rw is refl
+bound o f (unread key) (inl is) = inl (rw is refl)
+bound o f (unread key) (inr is) = inr (rw is refl)
 bound o f missing_metadata is = rw is refl
 bound o f unsupported_v2 is = rw is refl
 bound o f out_of_memory is = tt
+bound o f unused is = rw is refl
 
 module _ (m : DocumentData) (r : CreateRefusal) where
   pub at_codecs : RefusesCreation (said_or codecs (chain_said m.codecs)) r → RefusesCreation (creation_v3 m) r

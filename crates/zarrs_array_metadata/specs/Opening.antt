@@ -8,7 +8,7 @@ use Rattle.zarrs_document.specs.Fields.{FieldData}
 use Rattle.zarrs_document_v2.specs.Document.{DocumentV2Data, document_v2_said, attributes_said}
 use Rattle.zarrs_document_v2.specs.View.{MetadataData, v3, v2}
 use Rattle.zarrs_steps.specs.Content.{value_at}
-use Rattle.zarrs_options.specs.Refusals.{CreateRefusal, storage, missing_metadata, additional_field, said_or}
+use Rattle.zarrs_options.specs.Refusals.{CreateRefusal, storage, unread, missing_metadata, additional_field, said_or}
 use Rattle.zarrs_options.specs.declared.versions.MetadataRetrieveVersion.{MetadataRetrieveVersion}
 use Rattle.zarrs_options.specs.declared.versions.MetadataRetrieveVersion.TheVariants as retrieve
 use Rattle.zarrs_array_metadata.specs.Meanings.{creation, path_said, ◌>>=◌}
@@ -38,44 +38,44 @@ abbrev pub fields_understood : List (List ℕ × FieldData) → Result (Unit {0}
 fields_understood [] = Ok tt
 fields_understood (f ∷ fs) = if f.1.must_understand then Err (additional_field f.0 f.1.value) else fields_understood fs
 
--- the document of bytes that are present, of which each field is understood
-unfoldable pub understood_document : List ℕ → Result DocumentData CreateRefusal
-understood_document bytes = do
-  m ← said_or storage (document_said bytes)
+-- the document of bytes that are present at a key, of which each field is understood
+unfoldable pub understood_document : List ℕ → List ℕ → Result DocumentData CreateRefusal
+understood_document key bytes = do
+  m ← said_or (unread key) (document_said bytes)
   understood ← fields_understood m.additional_fields
   Ok m
 
-abbrev pub v3_of : Option (List ℕ) → Result (Option MetadataData) CreateRefusal
-v3_of None = Ok None
-v3_of (Some bytes) = understood_document bytes >>= (λ m. Ok (Some (v3 m)))
+abbrev pub v3_of : List ℕ → Option (List ℕ) → Result (Option MetadataData) CreateRefusal
+v3_of key None = Ok None
+v3_of key (Some bytes) = understood_document key bytes >>= (λ m. Ok (Some (v3 m)))
 
 -- the V3 document that a store holds, none if it is absent, or the first refusal
 unfoldable pub stored_v3 : StoreState → List ℕ → Result (Option MetadataData) CreateRefusal
 stored_v3 state path = do
   value ← value_asked state (v3_key path)
-  v3_of value
+  v3_of (v3_key path) value
 
 -- ---- V2
 
--- attributes that are present are those of the array
-abbrev pub with_stored_attributes : DocumentV2Data → Option (List ℕ) → Result DocumentV2Data CreateRefusal
-with_stored_attributes m None = Ok m
-with_stored_attributes m (Some bytes) = do
-  attributes ← said_or storage (attributes_said bytes)
+-- attributes that are present at a key are those of the array
+abbrev pub with_stored_attributes : List ℕ → DocumentV2Data → Option (List ℕ) → Result DocumentV2Data CreateRefusal
+with_stored_attributes key m None = Ok m
+with_stored_attributes key m (Some bytes) = do
+  attributes ← said_or (unread key) (attributes_said bytes)
   Ok (record m { attributes = attributes })
 
 -- the document with the attributes at their own key
 unfoldable pub attributed : StoreState → List ℕ → DocumentV2Data → Result DocumentV2Data CreateRefusal
-attributed state path m = value_asked state (attributes_key path) >>= with_stored_attributes m
+attributed state path m = value_asked state (attributes_key path) >>= with_stored_attributes (attributes_key path) m
 
--- the document of bytes that are present
-abbrev pub document_v2_read : List ℕ → Result DocumentV2Data CreateRefusal
-document_v2_read bytes = said_or storage (document_v2_said bytes)
+-- the document of bytes that are present at a key
+abbrev pub document_v2_read : List ℕ → List ℕ → Result DocumentV2Data CreateRefusal
+document_v2_read key bytes = said_or (unread key) (document_v2_said bytes)
 
 abbrev pub v2_metadata_at : StoreState → List ℕ → Option (List ℕ) → Result (Option MetadataData) CreateRefusal
 v2_metadata_at state path None = Ok None
 v2_metadata_at state path (Some bytes) = do
-  m ← document_v2_read bytes
+  m ← document_v2_read (v2_array_key path) bytes
   all ← attributed state path m
   Ok (Some (v2 all))
 

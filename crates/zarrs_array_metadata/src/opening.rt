@@ -2,7 +2,7 @@
 ghost use Rattle.std.specs.Prelude.{◌≡◌, None, Ok, IfOk, IfErr, OnOk, option_map};
 ghost use Rattle.zarrs_document.specs.View.{document_view, fields_view};
 ghost use Rattle.zarrs_document_v2.specs.View.{document_v2_view, metadata_view};
-ghost use Rattle.zarrs_options.specs.Refusals.{create_refusal_of, storage, RefusesCreation, said_or};
+ghost use Rattle.zarrs_options.specs.Refusals.{create_refusal_of, unread, RefusesCreation, said_or};
 ghost use Rattle.zarrs_array_metadata.specs.Opening.{v3_key, attributes_key, value_asked};
 ghost use Rattle.zarrs_array_metadata.specs.Opening.{fields_understood, understood_document};
 ghost use Rattle.zarrs_array_metadata.specs.Opening.{document_v2_read, attributed};
@@ -19,7 +19,7 @@ use zarrs_storage::{Bytes, ReadableStorageTraits, StorageError, StoreKey};
 
 /// Returns the refusal of a value at the key that is not what was wanted.
 fn invalid_metadata(alloc: Global, key: StoreKey, reason: &str) -> ArrayCreateError
-    ensures { RefusesCreation (said_or {A = Unit {0}} storage None) (create_refusal_of result) }
+    ensures { RefusesCreation (said_or {A = Unit {0}} (unread key) None) (create_refusal_of result) }
 {
     match String::from_str(alloc, reason) {
         Ok(reason) => ArrayCreateError::StorageError(StorageError::InvalidMetadata(key, reason)),
@@ -49,9 +49,9 @@ fn document_from(
     key: StoreKey,
     bytes: &[u8],
 ) -> Result<ArrayMetadataV3, ArrayCreateError>
-    ensures read { IfOk result (λ m. understood_document bytes.now ≡ Ok (document_view m)) }
+    ensures read { IfOk result (λ m. understood_document key bytes.now ≡ Ok (document_view m)) }
     ensures refused { IfErr result
-        (λ e. RefusesCreation (understood_document bytes.now) (create_refusal_of e)) }
+        (λ e. RefusesCreation (understood_document key bytes.now) (create_refusal_of e)) }
 {
     let metadata = match ArrayMetadataV3::from_slice(alloc, bytes) {
         Ok(metadata) => metadata,
@@ -71,9 +71,9 @@ fn document_v2_from(
     key: StoreKey,
     bytes: &[u8],
 ) -> Result<ArrayMetadataV2, ArrayCreateError>
-    ensures read { IfOk result (λ m. document_v2_read bytes.now ≡ Ok (document_v2_view m)) }
+    ensures read { IfOk result (λ m. document_v2_read key bytes.now ≡ Ok (document_v2_view m)) }
     ensures refused { IfErr result
-        (λ e. RefusesCreation (document_v2_read bytes.now) (create_refusal_of e)) }
+        (λ e. RefusesCreation (document_v2_read key bytes.now) (create_refusal_of e)) }
 {
     match ArrayMetadataV2::from_slice(alloc, bytes) {
         Ok(metadata) => Ok(metadata),

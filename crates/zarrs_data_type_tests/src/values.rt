@@ -61,6 +61,7 @@ fn must_return<T: ElementOwned + PartialEq>(
     let read = <Vec<T> as FromArrayBytes>::from_array_bytes(
         alloc,
         made.into_owned(alloc).expect(rt, "no refusal"),
+        &[elements.len() as u64],
         data_type,
     );
     must(rt, read.is_ok_and(|read| read.as_slice() == elements));
@@ -93,7 +94,7 @@ fn must_not_be_read<T: ElementOwned>(
     rt: &impl Abort,
     alloc: Global,
     name: &str,
-    data: &ArrayBytes<'_>,
+    data: ArrayBytes<'_>,
 ) {
     let read = <T as ElementOwned>::from_array_bytes(alloc, &type_of(rt, alloc, name), data);
     must_for(
@@ -107,24 +108,21 @@ fn must_not_be_read<T: ElementOwned>(
 #[test]
 fn data_of_another_kind_is_not_read(rt: HostRuntime) {
     let alloc = rt.alloc();
-    let (fixed, text) = (
-        ArrayBytes::from_flen(&[0, 2, 1]),
-        strings(&rt, b"a", &[0, 1]),
-    );
-    must_not_be_read::<bool>(&rt, alloc, "bool", &fixed);
-    must_not_be_read::<bool>(&rt, alloc, "bool", &text);
-    must_not_be_read::<u8>(&rt, alloc, "uint8", &text);
-    must_not_be_read::<u16>(&rt, alloc, "uint16", &fixed);
-    must_not_be_read::<String>(&rt, alloc, "string", &fixed);
+    const FIXED: &[u8] = &[0, 2, 1];
+    must_not_be_read::<bool>(&rt, alloc, "bool", ArrayBytes::from_flen(FIXED));
+    must_not_be_read::<bool>(&rt, alloc, "bool", strings(&rt, b"a", &[0, 1]));
+    must_not_be_read::<u8>(&rt, alloc, "uint8", strings(&rt, b"a", &[0, 1]));
+    must_not_be_read::<u16>(&rt, alloc, "uint16", ArrayBytes::from_flen(FIXED));
+    must_not_be_read::<String>(&rt, alloc, "string", ArrayBytes::from_flen(FIXED));
     must_not_be_read::<String>(
         &rt,
         alloc,
         "string",
-        &strings(&rt, &[0xC3, 0xA4], &[0, 1, 2]),
+        strings(&rt, &[0xC3, 0xA4], &[0, 1, 2]),
     );
-    must_not_be_read::<Vec<u8>>(&rt, alloc, "bytes", &fixed);
-    must_not_be_read::<Option<u8>>(&rt, alloc, "uint8?", &fixed);
-    must_not_be_read::<Option<u8>>(&rt, alloc, "uint8", &fixed);
+    must_not_be_read::<Vec<u8>>(&rt, alloc, "bytes", ArrayBytes::from_flen(FIXED));
+    must_not_be_read::<Option<u8>>(&rt, alloc, "uint8?", ArrayBytes::from_flen(FIXED));
+    must_not_be_read::<Option<u8>>(&rt, alloc, "uint8", ArrayBytes::from_flen(FIXED));
 }
 
 fn must_have_bytes(rt: &impl Abort, data: &ArrayBytes<'_>, bytes: &[u8]) {

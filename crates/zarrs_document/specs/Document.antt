@@ -204,11 +204,12 @@ normal_document m = record (without_empty_configurations m) {
 }
 
 -- the pretty text of a document: its tokens are laid out over indented lines, its members stand in the order of the
--- tree, and it reads as the document, unless its tree nests too deep or has a left-out number
+-- tree, it reads as the tree, unless that nests too deep, and as the document, unless the tree has a left-out number
 pub record IsDocumentText (m : DocumentData) (bytes : List ℕ) : Type 0 where
   -- a line for each item and member, two spaces deeper for each bracket
   pub layout : bytes ≡ pretty (tokens bytes)
   pub utf8 : IsUtf8 bytes
   -- each member and item of the tree once and in order, its integers in decimal
   pub order : IsInOrder bytes (data_of_document m)
+  pub reads_tree : depth (data_of_document m) ≤ max_depth → read bytes ≡ Some (data_of_document m)
   pub reads_back : depth (data_of_document m) ≤ max_depth → has_float (data_of_document m) ≡ false → document_said bytes ≡ Some (normal_document m)

@@ -34,6 +34,7 @@ written_text m bytes layout utf8 order back reads = record {
   layout = layout;
   utf8 = utf8;
   order = order;
+  reads_tree = reads;
   reads_back = λ shallow plain. rw (said_value bytes (data_of_v2 m) utf8 (reads shallow), plain) back;
 }
 
@@ -42,5 +43,6 @@ written_attributes ms bytes layout utf8 order reads = record {
   layout = layout;
   utf8 = utf8;
   order = order;
+  reads_tree = reads;
   reads_back = λ shallow plain. rw (said_value bytes (object ms) utf8 (reads shallow), plain) refl;
 }

@@ -175,21 +175,23 @@ abbrev pub data_of_v2 : DocumentV2Data → Data
 data_of_v2 m = data_v2_with (object_data m.attributes) m
 
 -- the pretty text of a document: its tokens are laid out over indented lines, its members stand in the order of the
--- tree, and it reads as the document, unless its tree nests too deep or has a left-out number
+-- tree, it reads as the tree, unless that nests too deep, and as the document, unless the tree has a left-out number
 pub record IsDocumentV2Text (m : DocumentV2Data) (bytes : List ℕ) : Type 0 where
   -- a line for each item and member, two spaces deeper for each bracket
   pub layout : bytes ≡ pretty (tokens bytes)
   pub utf8 : IsUtf8 bytes
   -- each member and item of the tree once and in order, its integers in decimal
   pub order : IsInOrder bytes (data_of_v2 m)
+  pub reads_tree : depth (data_of_v2 m) ≤ max_depth → read bytes ≡ Some (data_of_v2 m)
   pub reads_back : depth (data_of_v2 m) ≤ max_depth → has_float (data_of_v2 m) ≡ false → document_v2_said bytes ≡ Some m
 
 -- the pretty text of the attributes: its tokens are laid out over indented lines, the attributes stand in their order,
--- and it reads as the attributes, unless they nest too deep or have a left-out number
+-- it reads as their tree, unless that nests too deep, and as the attributes, unless the tree has a left-out number
 pub record IsAttributesText (ms : Members) (bytes : List ℕ) : Type 0 where
   -- a line for each item and member, two spaces deeper for each bracket
   pub layout : bytes ≡ pretty (tokens bytes)
   pub utf8 : IsUtf8 bytes
   -- each attribute once and in order, its integers in decimal
   pub order : IsInOrder bytes (object ms)
+  pub reads_tree : depth (object ms) ≤ max_depth → read bytes ≡ Some (object ms)
   pub reads_back : depth (object ms) ≤ max_depth → has_float (object ms) ≡ false → attributes_said bytes ≡ Some ms

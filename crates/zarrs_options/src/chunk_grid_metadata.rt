@@ -1,5 +1,5 @@
 //! The metadata of a chunk grid, as a caller may give it.
-ghost use Rattle.std.specs.Prelude.{◌≡◌, Some, map, string_bytes};
+ghost use Rattle.std.specs.Prelude.{◌≡◌, Some, IsOk, map, string_bytes};
 ghost use Rattle.std.specs.Int.NonZero.{non_zero_u64_get};
 ghost use Rattle.zarrs_metadata.specs.Extension.{extension_view};
 
@@ -82,7 +82,9 @@ fn regular_metadata(alloc: Global, sizes: &[u64]) -> Result<MetadataV3, AllocErr
 impl IntoField<ArrayBuilderChunkGridMetadata> for ArrayBuilderChunkGridMetadata {
     ghost gives = { λ value field. grid_given field ≡ grid_given value };
 
-    fn into_field(self, _alloc: Global) -> Result<ArrayBuilderChunkGridMetadata, AllocError> {
+    fn into_field(self, _alloc: Global) -> Result<ArrayBuilderChunkGridMetadata, AllocError>
+        ensures { result ≡ Ok self }
+    {
         Ok(self)
     }
 }
@@ -90,7 +92,10 @@ impl IntoField<ArrayBuilderChunkGridMetadata> for ArrayBuilderChunkGridMetadata 
 impl IntoField<ArrayBuilderChunkGridMetadata> for MetadataV3 {
     ghost gives = { λ metadata field. grid_given field ≡ Some (extension_view metadata) };
 
-    fn into_field(self, _alloc: Global) -> Result<ArrayBuilderChunkGridMetadata, AllocError> {
+    fn into_field(self, _alloc: Global) -> Result<ArrayBuilderChunkGridMetadata, AllocError>
+        ensures field { IfOk result (λ field. grid_given field ≡ Some (extension_view self)) }
+        ensures made { IsOk result }
+    {
         Ok(ArrayBuilderChunkGridMetadata {
             given: Given::Metadata(self),
         })
@@ -100,7 +105,11 @@ impl IntoField<ArrayBuilderChunkGridMetadata> for MetadataV3 {
 impl IntoField<ArrayBuilderChunkGridMetadata> for String {
     ghost gives = { λ text field. grid_given field ≡ extension_of_text (string_bytes text) };
 
-    fn into_field(self, _alloc: Global) -> Result<ArrayBuilderChunkGridMetadata, AllocError> {
+    fn into_field(self, _alloc: Global) -> Result<ArrayBuilderChunkGridMetadata, AllocError>
+        ensures field { IfOk result
+            (λ field. grid_given field ≡ extension_of_text (string_bytes self)) }
+        ensures made { IsOk result }
+    {
         Ok(ArrayBuilderChunkGridMetadata {
             given: Given::Text(self),
         })
@@ -120,7 +129,11 @@ impl IntoField<ArrayBuilderChunkGridMetadata> for &str {
 impl IntoField<ArrayBuilderChunkGridMetadata> for Vec<u64> {
     ghost gives = { λ sizes field. grid_given field ≡ Some (regular_extension sizes.items) };
 
-    fn into_field(self, _alloc: Global) -> Result<ArrayBuilderChunkGridMetadata, AllocError> {
+    fn into_field(self, _alloc: Global) -> Result<ArrayBuilderChunkGridMetadata, AllocError>
+        ensures field { IfOk result
+            (λ field. grid_given field ≡ Some (regular_extension self.items)) }
+        ensures made { IsOk result }
+    {
         Ok(ArrayBuilderChunkGridMetadata {
             given: Given::Sizes(self),
         })

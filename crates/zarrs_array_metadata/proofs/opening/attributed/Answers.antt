@@ -31,4 +31,4 @@ returns-in-Err-InvalidShape-clause-refused g c =
     let state = g.S.ReadableStorageTraits.state c.args.storage.now in
     let path = c.args.path.now in
     let asked = subst (λ (k : List ℕ). value_asked state k ≡ Ok (Some c.in-Some.bytes)) c.in_ok-key.ensures.key (c.in_ok-value.ensures.read ∙ ap Ok c.in-Some.is) in
-    attributes_bad state path _ (document_v2_view c.args.metadata) c.in-Some.bytes asked (rw (c.deref.ensures, c.in-Err-InvalidShape.field-0-is) at c.in-Err-InvalidShape.ensures.refused) c.invalid_metadata.ensures
+    attributes_bad state path _ (document_v2_view c.args.metadata) c.in-Some.bytes asked (rw (c.deref.ensures, c.in-Err-InvalidShape.field-0-is) at c.in-Err-InvalidShape.ensures.refused) (rw c.in_ok-key.ensures.key at c.invalid_metadata.ensures)

@@ -6,12 +6,12 @@ use Rattle.zarrs_array_metadata.proofs.opening.document_from.Goals as goal
 
 pub returns-in-Err-InvalidShape-clause-refused : goal.returns-in-Err-InvalidShape-clause-refused
 returns-in-Err-InvalidShape-clause-refused c =
-    rw (unsaid c.args.bytes.now (rw c.in-Err-InvalidShape.field-0-is at c.in-Err-InvalidShape.ensures.refused)) (no_value _ _ c.invalid_metadata.ensures)
+    rw (unsaid c.args.key c.args.bytes.now (rw c.in-Err-InvalidShape.field-0-is at c.in-Err-InvalidShape.ensures.refused)) (no_value _ _ _ c.invalid_metadata.ensures)
 
 pub returns-in_err-check_fields-clause-refused : goal.returns-in_err-check_fields-clause-refused
 returns-in_err-check_fields-clause-refused c =
-    let why = not_understood c.args.bytes.now (document_view c.in-Ok.metadata) (create_refusal_of c.in_err-check_fields.field-0.0) c.in-Ok.ensures.read c.in_err-check_fields.ensures.refused in
+    let why = not_understood c.args.key c.args.bytes.now (document_view c.in-Ok.metadata) (create_refusal_of c.in_err-check_fields.field-0.0) c.in-Ok.ensures.read c.in_err-check_fields.ensures.refused in
     search (rules, why)
 
 pub returns-clause-read : goal.returns-clause-read
-returns-clause-read c = all_understood c.args.bytes.now (document_view c.in-Ok.metadata) c.in-Ok.ensures.read c.in_ok-check_fields.ensures.understood
+returns-clause-read c = all_understood c.args.key c.args.bytes.now (document_view c.in-Ok.metadata) c.in-Ok.ensures.read c.in_ok-check_fields.ensures.understood

@@ -24,7 +24,7 @@ returns-in_err-array-in-Some-clause-refused g c =
     let state = g.S.ReadableStorageTraits.state c.args.storage.now in
     let path = c.args.path.now in
     let asked = subst (λ (k : List ℕ). value_asked state k ≡ Ok (Some c.in-Some.bytes)) c.in_ok-key.ensures.key (c.in_ok-value.ensures.read ∙ ap Ok c.in-Some.is) in
-    let why = v2_bad state path (create_refusal_of c.in_err-array-in-Some.field-0.0) c.in-Some.bytes asked (rw c.deref.ensures at c.in_err-array-in-Some.ensures.refused) in
+    let why = v2_bad state path (create_refusal_of c.in_err-array-in-Some.field-0.0) c.in-Some.bytes asked (rw (c.deref.ensures, c.in_ok-key.ensures.key) at c.in_err-array-in-Some.ensures.refused) in
     search (rules, why)
 
 pub returns-in_err-metadata-in-Some-clause-refused : goal.returns-in_err-metadata-in-Some-clause-refused
@@ -32,7 +32,7 @@ returns-in_err-metadata-in-Some-clause-refused g c =
     let state = g.S.ReadableStorageTraits.state c.args.storage.now in
     let path = c.args.path.now in
     let asked = subst (λ (k : List ℕ). value_asked state k ≡ Ok (Some c.in-Some.bytes)) c.in_ok-key.ensures.key (c.in_ok-value.ensures.read ∙ ap Ok c.in-Some.is) in
-    let why = v2_unattributed state path (create_refusal_of c.in_err-metadata-in-Some.field-0.0) c.in-Some.bytes (document_v2_view c.in_ok-array-in-Some.array) asked (rw c.deref.ensures at c.in_ok-array-in-Some.ensures.read) c.in_err-metadata-in-Some.ensures.refused in
+    let why = v2_unattributed state path (create_refusal_of c.in_err-metadata-in-Some.field-0.0) c.in-Some.bytes (document_v2_view c.in_ok-array-in-Some.array) asked (rw (c.deref.ensures, c.in_ok-key.ensures.key) at c.in_ok-array-in-Some.ensures.read) c.in_err-metadata-in-Some.ensures.refused in
     search (rules, why)
 
 pub returns-in_ok-metadata-in-Some-clause-read : goal.returns-in_ok-metadata-in-Some-clause-read
@@ -40,4 +40,4 @@ returns-in_ok-metadata-in-Some-clause-read g c =
     let state = g.S.ReadableStorageTraits.state c.args.storage.now in
     let path = c.args.path.now in
     let asked = subst (λ (k : List ℕ). value_asked state k ≡ Ok (Some c.in-Some.bytes)) c.in_ok-key.ensures.key (c.in_ok-value.ensures.read ∙ ap Ok c.in-Some.is) in
-    v2_read state path c.in-Some.bytes (document_v2_view c.in_ok-array-in-Some.array) (document_v2_view c.in_ok-metadata-in-Some.metadata) asked (rw c.deref.ensures at c.in_ok-array-in-Some.ensures.read) c.in_ok-metadata-in-Some.ensures.read
+    v2_read state path c.in-Some.bytes (document_v2_view c.in_ok-array-in-Some.array) (document_v2_view c.in_ok-metadata-in-Some.metadata) asked (rw (c.deref.ensures, c.in_ok-key.ensures.key) at c.in_ok-array-in-Some.ensures.read) c.in_ok-metadata-in-Some.ensures.read
