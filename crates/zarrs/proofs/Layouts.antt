@@ -1,5 +1,5 @@
 -- An array lies in its store as its metadata says.
-use Rattle.std.proofs.Common.{◌≡◌, List, [], ◌∷◌, ℕ, map, Some, Result, Ok, Err, refl, ap, sym, ◌∙◌}
+use Rattle.std.proofs.Common.{◌≡◌, Bool, List, [], ◌∷◌, ℕ, map, Some, Result, Ok, Err, refl, ap, sym, ◌∙◌}
 use Rattle.std.specs.Result.{result_ok}
 use Rattle.zarrs_codec_array.specs.ArrayCodecs.{array_meaning, arrays_meaning}
 use Rattle.zarrs_codec_array.specs.Arrays.{ArrayMeaning, and_then}
@@ -15,18 +15,18 @@ use Rattle.zarrs_codec_cells.specs.declared.codec.CellsCodec.{CellsCodec}
 use Rattle.zarrs_codec_cells.specs.declared.codec.CellsCodec as cells_codec
 use Rattle.zarrs_codec_cells.specs.declared.optional.MaskCodec.{MaskCodec}
 use Rattle.zarrs_codec_cells.specs.declared.optional.MaskCodec.TheVariants as mask_codec
-use Rattle.zarrs_codec.specs.Chains.{array_to_array_of, array_to_bytes_of, chain_meaning, codec_meaning, is_at_start, whole_chunk}
+use Rattle.zarrs_codec.specs.Chains.{array_to_array_of, array_to_bytes_of, behind, chain_meaning, codec_meaning, is_at_start, no_codec, whole_chunk}
 use Rattle.zarrs_codec_cells.specs.ShardingMetadata.{sizes_of}
 use Rattle.zarrs_codec.specs.Metadata.{bytes_codec_data, chain_data}
 use Rattle.zarrs_codec.specs.Shardings.{sharded}
-use Rattle.zarrs_codec.specs.Through.{through}
+use Rattle.zarrs_codec.specs.Through.{through_all}
 use Rattle.zarrs_codec.specs.declared.codec.ArrayToBytesCodec.{ArrayToBytesCodec}
 use Rattle.zarrs_codec.specs.declared.codec.ArrayToBytesCodec as bytes_codec
 use Rattle.zarrs_codec.specs.declared.chain.CodecChain.{CodecChain}
 use Rattle.zarrs_engine.specs.Engine.{chain_of}
 use Rattle.zarrs_options.specs.Refusals.{CreateRefusal}
 use Rattle.zarrs_array_metadata.specs.Meanings.{Meaning, creation}
-use Rattle.zarrs.specs.Layouts.{array_codec_meant, array_codecs_meant, mask_codec_meant, cells_codec_meant, bytes_codec_meant, chain_meant, layout_meant}
+use Rattle.zarrs.specs.Layouts.{array_codec_meant, array_codecs_meant, behind_meant, mask_codec_meant, cells_codec_meant, bytes_codec_meant, chain_meant, layout_meant, no_codec_meant}
 use Rattle.zarrs.specs.Arrays.{metadata_of_array, meaning_of_array, layout_of_array, path_of_array}
 use Rattle.zarrs.specs.declared.array.Array.{Array}
 
@@ -60,10 +60,17 @@ leaf_is (cells_codec.VlenBytes codec) = refl
 leaf_is (cells_codec.Vlen codec) = refl
 leaf_is (cells_codec.Optional' mask p inner) = optional_is mask (cells_meaning inner) inner (leaf_is inner)
 
+none_is : (cs : List ArrayToArrayCodec) → no_codec cs ≡ no_codec_meant (map array_codec_data cs)
+none_is [] = refl
+none_is (c ∷ cs) = refl
+
 -- a chain by its array-to-array codecs and its last codec
-through_is : (cs : List ArrayToArrayCodec) (m n : ChainMeaning) → m ≡ n → through (arrays_meaning cs) m ≡ through (array_codecs_meant (map array_codec_data cs)) n
-through_is cs m n is =
-    ap (λ (a : ArrayMeaning). through a m) (arrays_are cs) ∙ ap (λ (c : ChainMeaning). through (array_codecs_meant (map array_codec_data cs)) c) is
+behind_is : (cs : List ArrayToArrayCodec) (m n : ChainMeaning) → m ≡ n → behind cs m ≡ behind_meant (map array_codec_data cs) n
+behind_is cs m n is =
+    let said = map array_codec_data cs in
+    ap (λ (none : Bool). through_all none (arrays_meaning cs) m) (none_is cs)
+    ∙ ap (λ (a : ArrayMeaning). through_all (no_codec_meant said) a m) (arrays_are cs)
+    ∙ ap (λ (c : ChainMeaning). through_all (no_codec_meant said) (array_codecs_meant said) c) is
 
 codec_is : (c : ArrayToBytesCodec) → codec_meaning c ≡ bytes_codec_meant (bytes_codec_data c)
 codec_is (bytes_codec.Bytes codec) = refl
@@ -75,10 +82,10 @@ codec_is (bytes_codec.Optional codec) =
     let data_codec = data_codec_of codec in
     ap whole_chunk (optional_is (mask_codec_of codec) (cells_meaning data_codec) data_codec (leaf_is data_codec))
 codec_is (bytes_codec.Sharding' p sub at before last after) =
-    ap (λ (m : ChainMeaning). sharded (is_at_start at) (sizes_of sub.items) m) (through_is before.items (codec_meaning last) _ (codec_is last))
+    ap (λ (m : ChainMeaning). sharded (is_at_start at) (sizes_of sub.items) m) (behind_is before.items (codec_meaning last) _ (codec_is last))
 
 chain_is : (chain : CodecChain) → chain_meaning chain ≡ chain_meant (chain_data chain)
-chain_is chain = through_is (array_to_array_of chain) (codec_meaning (array_to_bytes_of chain)) _ (codec_is (array_to_bytes_of chain))
+chain_is chain = behind_is (array_to_array_of chain) (codec_meaning (array_to_bytes_of chain)) _ (codec_is (array_to_bytes_of chain))
 
 ok_is : {A : Type 0} (r : Result A CreateRefusal) (a : A) → result_ok r ≡ Some a → r ≡ Ok a
 ok_is (Ok x) a is = cc

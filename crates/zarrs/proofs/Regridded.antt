@@ -1,8 +1,9 @@
 -- An array with another grid is one that its new metadata says.
-use Rattle.std.proofs.Common.{◌≡◌, ℕ, List, length, Some, Ok, refl, ap, sym, ◌∙◌}
+use Rattle.std.proofs.Common.{◌≡◌, ℕ, List, length, Option, Some, Ok, refl, ap, sym, ◌∙◌}
 use Rattle.std.specs.Result.{result_ok}
 use Rattle.zarrs_keys.specs.declared.encodings.ChunkKeyEncoding.{ChunkKeyEncoding}
 use Rattle.zarrs_keys.specs.declared.traits.ChunkKeyEncodingTraits.{Ghosts as KeyMeaning}
+use Rattle.zarrs_chunk_grid.specs.Grids.{Grid}
 use Rattle.zarrs_chunk_grid.specs.GridView.{configuration_of, array_extents_of}
 use Rattle.zarrs_chunk_grid.specs.Metadata.{configuration_said, extension_of_grid}
 use Rattle.zarrs_chunk_grid.specs.declared.grid.ChunkGrid.{ChunkGrid}
@@ -12,12 +13,17 @@ use Rattle.zarrs_codec.specs.declared.chain.CodecChain.{CodecChain}
 use Rattle.zarrs_chain.specs.declared.traits.ChainTraits.{Ghosts as ChainMeanings}
 use Rattle.zarrs_document_v2.specs.View.{MetadataData, v3, v2, metadata_view}
 use Rattle.zarrs_document_v2.specs.declared.versions.ArrayMetadata.{ArrayMetadata}
-use Rattle.zarrs_engine.specs.Engine.{grid_of, keys_of, chain_of, data_type_of, fill_value_of, GivesGrid, KeepsOthers, KeepsParts}
+use Rattle.zarrs_chain.specs.Chain.{ChainMeaning}
+use Rattle.zarrs_types.specs.Kind.{Kind, kind}
+use Rattle.zarrs_steps.specs.Content.{content}
+use Rattle.zarrs_steps.specs.Layout.{Layout, layout_at}
+use Rattle.zarrs_engine.specs.Engine.{layout_of, path_of, grid_of, keys_of, chain_of, data_type_of, fill_value_of, GivesGrid, KeepsOthers, KeepsParts}
 use Rattle.zarrs_engine.specs.declared.engine.Engine.{Engine}
 use Rattle.zarrs_array_metadata.specs.Changes.{with_shape}
 use Rattle.zarrs_array_metadata.specs.Meanings.{Meaning, meaning_with, creation, shape_said}
 use Rattle.zarrs_array_metadata.proofs.Grids.{cut_by, IsCutAnew, own_grid, resized_dimensions, is_resized}
 use Rattle.zarrs.specs.Agreement.{meaning_of, Agrees}
+use Rattle.zarrs.specs.Setters.{HasSameChunk, KeepsCells}
 
 -- grids that are written in the same way have the same name and sizes
 pub one_configuration : (a b : ChunkGrid) → extension_of_grid (configuration_of a) ≡ extension_of_grid (configuration_of b) → configuration_of a ≡ configuration_of b
@@ -28,6 +34,12 @@ one_configuration a b same =
 own_shape : (m : MetadataData) → m ≡ with_shape (shape_said m) m
 own_shape (v3 m) = refl
 own_shape (v2 m) = refl
+
+-- where the chunk's box stays, the cell is read in the same way
+same_cell : (old new : Grid) (path : List ℕ) (key : List ℕ → List ℕ) (chain : ChainMeaning) (k : Kind) (fill : List ℕ) (stored : List ℕ → Option (List ℕ)) (position : List ℕ) → HasSameChunk old new position
+    → content (layout_at new path key chain k fill) stored position ≡ content (layout_at old path key chain k fill) stored position
+unfolding content
+same_cell old new path key chain k fill stored position same = rw (same.covered, same.index, same.box) refl
 
 module _ {g : GridMeaning ChunkGrid} {k : KeyMeaning ChunkKeyEncoding} {c : ChainMeanings CodecChain} {S : Type 0} where
   -- the parts of an engine that was given a grid
@@ -44,6 +56,19 @@ module _ {g : GridMeaning ChunkGrid} {k : KeyMeaning ChunkKeyEncoding} {c : Chai
       → GivesGrid given old new → IsCutAnew m (metadata_view n) (meaning_of old) shape (configuration_of given) → array_extents_of given ≡ shape → Agrees new n
   agrees_after given old new m n shape gives cut over =
       ap result_ok (cut.says ∙ ap (λ (s : List ℕ). Ok (cut_by s (configuration_of given) (meaning_of old))) (sym over) ∙ ap (λ (p : Meaning). Ok p) (sym (meaning_after given old new gives)))
+
+  -- such an engine reads the same cell wherever the chunk's box stays
+  pub cells_after : (given : ChunkGrid) (old new : Engine S ChunkGrid ChunkKeyEncoding CodecChain g k c) → GivesGrid given old new → KeepsCells (layout_of old) (layout_of new)
+  cells_after given old new gives = λ stored position same.
+      let grid = g.grid (grid_of new) in
+      let others : layout_of new ≡ layout_at grid (path_of old) (k.key (keys_of old)) (c.meaning (chain_of old)) (kind (data_type_of old)) (fill_value_of old) =
+      ap (λ x. layout_at grid x (k.key (keys_of new)) (c.meaning (chain_of new)) (kind (data_type_of new)) (fill_value_of new)) gives.path
+      ∙ ap (λ x. layout_at grid (path_of old) (k.key x) (c.meaning (chain_of new)) (kind (data_type_of new)) (fill_value_of new)) gives.keys
+      ∙ ap (λ x. layout_at grid (path_of old) (k.key (keys_of old)) (c.meaning x) (kind (data_type_of new)) (fill_value_of new)) gives.chain
+      ∙ ap (λ x. layout_at grid (path_of old) (k.key (keys_of old)) (c.meaning (chain_of old)) (kind x) (fill_value_of new)) gives.data_type
+      ∙ ap (λ x. layout_at grid (path_of old) (k.key (keys_of old)) (c.meaning (chain_of old)) (kind (data_type_of old)) x) gives.fill_value in
+      ap (λ (l : Layout). content l stored position) others
+      ∙ same_cell (g.grid (grid_of old)) grid (path_of old) (k.key (keys_of old)) (c.meaning (chain_of old)) (kind (data_type_of old)) (fill_value_of old) stored position same
 
   -- ---- after a change of the shape
 

@@ -13,9 +13,9 @@ use Rattle.zarrs.specs.Reopening.{RefusesToStore}
 
 module _ (o : MetadataOptionsData) (path : List ℕ) (m : MetadataData) (old new : StoreState) where
   pub not_stored : (e : StorageError) → RefusesStoreMetadata o path m (refusal_of_storage e) old new → RefusesToStore o path m (create_refusal_of (create_error_of_storage e)) old
-  not_stored (error.InvalidMetadata key text) refused = inr (record { new = new; refused = refused; is = refl })
-  not_stored error.ReadOnly refused = inr (record { new = new; refused = refused; is = refl })
-  not_stored error.InvalidByteRange refused = inr (record { new = new; refused = refused; is = refl })
-  not_stored error.Exhausted refused = inr (record { new = new; refused = refused; is = refl })
-  not_stored (error.Other text) refused = inr (record { new = new; refused = refused; is = refl })
+  not_stored (error.InvalidMetadata key text) refused = inr (record { new = new; refused = refused; said = inr refl })
+  not_stored error.ReadOnly refused = inr (record { new = new; refused = refused; said = refl })
+  not_stored error.InvalidByteRange refused = inr (record { new = new; refused = refused; said = refl })
+  not_stored error.Exhausted refused = inr (record { new = new; refused = refused; said = refl })
+  not_stored (error.Other text) refused = inr (record { new = new; refused = refused; said = refl })
   not_stored error.OutOfMemory refused = inl refl

@@ -1,5 +1,5 @@
 -- How an array of these parts lies in its store.
-use Rattle.std.specs.Prelude.{ℕ, List, [], ◌∷◌}
+use Rattle.std.specs.Prelude.{ℕ, Bool, true, false, List, [], ◌∷◌}
 use Rattle.zarrs_keys.specs.Encodings.{encoding_key}
 use Rattle.zarrs_chunk_grid.specs.Configurations.{grid_of}
 use Rattle.zarrs_codec_array.specs.Arrays.{ArrayMeaning, same_array, and_then, transposed, reshaped, squeezed}
@@ -17,7 +17,7 @@ use Rattle.zarrs_codec_cells.specs.Optional.{optional_meaning}
 use Rattle.zarrs_codec.specs.Chains.{whole_chunk}
 use Rattle.zarrs_codec.specs.Metadata.{ChainData, BytesCodecData, cells, sharding}
 use Rattle.zarrs_codec.specs.Shardings.{sharded}
-use Rattle.zarrs_codec.specs.Through.{through}
+use Rattle.zarrs_codec.specs.Through.{through_all}
 use Rattle.zarrs_steps.specs.Layout.{Layout, layout_at}
 use Rattle.zarrs_array_metadata.specs.Meanings.{Meaning}
 
@@ -43,15 +43,24 @@ cells_codec_meant coding.vlen_bytes = vlen_bytes_meaning
 cells_codec_meant coding.vlen = vlen_meaning
 cells_codec_meant (coding.optional mask inner) = optional_meaning (mask_codec_meant mask) (cells_codec_meant inner)
 
+-- whether there is no codec
+abbrev pub no_codec_meant : List ArrayCodecData → Bool
+no_codec_meant [] = true
+no_codec_meant (codec ∷ more) = false
+
+-- a chain behind codecs that make an array of an array: parts are written by themselves only if there is none
+abbrev pub behind_meant : List ArrayCodecData → ChainMeaning → ChainMeaning
+behind_meant codecs m = through_all (no_codec_meant codecs) (array_codecs_meant codecs) m
+
 -- a codec of cells takes the cells of the whole chunk; one of shards takes those of each subchunk, by the chain of the
 -- subchunks
 abbrev pub bytes_codec_meant : BytesCodecData → ChainMeaning
 bytes_codec_meant (cells codec) = whole_chunk (cells_codec_meant codec)
-bytes_codec_meant (sharding shape at_start front last) = sharded at_start shape (through (array_codecs_meant front) (bytes_codec_meant last))
+bytes_codec_meant (sharding shape at_start front last) = sharded at_start shape (behind_meant front (bytes_codec_meant last))
 
 -- a chain of codecs
 abbrev pub chain_meant : ChainData → ChainMeaning
-chain_meant chain = through (array_codecs_meant chain.array_to_array) (bytes_codec_meant chain.array_to_bytes)
+chain_meant chain = behind_meant chain.array_to_array (bytes_codec_meant chain.array_to_bytes)
 
 -- how an array of these parts lies in its store, at a path
 abbrev pub layout_meant : List ℕ → Meaning → Layout

@@ -10,5 +10,6 @@ pub mod Lending
 pub mod Elements
 pub mod Reopening
 pub mod Outcomes
+pub mod PartialEncoders
 pub mod Upgrade
 pub mod Counts

@@ -2,7 +2,7 @@
 use Rattle.std.specs.Prelude.{◌≡◌, ◌≢◌, ◌⊎◌, ℕ, List, [], ◌∷◌, ◌++◌, Ok}
 use Rattle.zarrs_storage.specs.Store.{StoreState}
 use Rattle.zarrs_steps.specs.Changes.{IsPut}
-use Rattle.zarrs_steps.specs.Refusals.{Refusal}
+use Rattle.zarrs_steps.specs.Refusals.{Refusal, out_of_memory}
 use Rattle.zarrs_layout.specs.Parts.{RefusesPut}
 use Rattle.zarrs_document_v2.specs.View.{MetadataData}
 use Rattle.zarrs_options.specs.Options.{MetadataOptionsData}
@@ -46,6 +46,6 @@ pub record StoresMetadataFront (o : MetadataOptionsData) (path : List ℕ) (m : 
   pub written : IsWrittenBy path shows puts
   pub refused : RefusesPuts puts refusal old new
 
--- it is not written: no value is changed, or a front of what writes it is done
+-- it is not written: memory was short before the first writing call, or a front of what writes it is done
 abbrev pub RefusesStoreMetadata : MetadataOptionsData → List ℕ → MetadataData → Refusal → StoreState → StoreState → Type 0
-RefusesStoreMetadata o path m refusal old new = RefusesPut refusal old new ⊎ StoresMetadataFront o path m refusal old new
+RefusesStoreMetadata o path m refusal old new = ((refusal ≡ out_of_memory) × (new ≡ old)) ⊎ StoresMetadataFront o path m refusal old new

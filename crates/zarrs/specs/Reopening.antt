@@ -1,5 +1,5 @@
 -- Why an array that is stored is not opened again.
-use Rattle.std.specs.Prelude.{◌≡◌, ◌⊎◌, ℕ, List}
+use Rattle.std.specs.Prelude.{◌≡◌, ◌⊎◌, ℕ, List, Err}
 use Rattle.zarrs_storage.specs.Store.{StoreState}
 use Rattle.zarrs_steps.specs.Refusals as refusals
 use Rattle.zarrs_document_v2.specs.View.{MetadataData}
@@ -9,11 +9,11 @@ use Rattle.zarrs_array_metadata.specs.Opening.{opened}
 use Rattle.zarrs.specs.Laws.{version_of}
 use Rattle.zarrs.specs.Puts.{StoresMetadata, RefusesStoreMetadata}
 
--- the store refused what writes its metadata
+-- the store refused a call that writes its metadata, and said this
 pub record IsNotStored (o : MetadataOptionsData) (path : List ℕ) (m : MetadataData) (r : CreateRefusal) (old : StoreState) : Type 0 where
   pub new : StoreState
   pub refused : RefusesStoreMetadata o path m refusals.storage old new
-  pub is : r ≡ storage
+  pub said : RefusesCreation {A = Unit {0}} (Err storage) r
 
 -- its metadata is not stored
 abbrev pub RefusesToStore : MetadataOptionsData → List ℕ → MetadataData → CreateRefusal → StoreState → Type 0

@@ -9,6 +9,7 @@ mod lending;
 mod metadata;
 mod options;
 mod part_reads;
+mod partial_encoder;
 mod queries;
 mod reads;
 mod resize;
@@ -19,6 +20,8 @@ mod writes;
 
 ghost use Rattle.zarrs.specs.Agreement.{Agrees, Agrees-prop};
 
+pub use part_reads::ArrayPartialDecoder;
+pub use partial_encoder::ArrayPartialEncoder;
 use serde_json::{Map, Value};
 use std::alloc::Global;
 use zarrs_array_metadata::{parts_said, stored_metadata};
@@ -47,15 +50,6 @@ pub struct Array<TStorage> {
     metadata_options: ArrayMetadataOptions,
     ghost agrees: { Agrees engine metadata } by { Agrees-prop engine metadata },
 }
-
-/// A chunk of an array, of which parts are read.
-pub type ArrayPartialDecoder<'a, TStorage> = zarrs_engine::ArrayPartialDecoder<
-    'a,
-    TStorage,
-    ChunkGrid,
-    ChunkKeyEncoding,
-    CodecChain,
->;
 
 impl<TStorage> Array<TStorage> {
     ghost use Rattle.std.specs.Prelude.{◌≡◌, map, option_map};

@@ -11,6 +11,25 @@ ghost use Rattle.zarrs.specs.Upgrade.{UpgradesOpen, UpgradesLeaveContent};
 ghost use Rattle.zarrs.specs.Arrays.{metadata_of_array, meaning_of_array, layout_of_array, path_of_array};
 
 use crate::array::Array;
+pub use zarrs_chunk_grid::laws::{
+    box_of_a_chunk, chunk_of_a_position, chunk_range_fills_a_box, chunks_share_no_position,
+    covered_positions, grid_of_its_configuration, metadata_describes_the_configuration,
+};
+pub use zarrs_engine::laws::{
+    accepted_resizes, canonical_chunks_are_compact, canonical_stores_are_compact,
+    canonical_stores_decode, compactions_keep_content, comparison_is_content, content_is_bytes,
+    cuts_are_right, disjoint_writes_agree, empty_stores_are_canonical, equal_counts_agree,
+    histories_agree, parts_make_the_region, read_after_store, reads_agree,
+    reads_of_decoding_chunks, refused_resizes, resizes_keep_outside, same_chunks_have_same_cells,
+    steps_count, steps_keep_canon, steps_keep_decoding, steps_keep_reach, store_after_read,
+    writes_keep_canon, writes_keep_decoding,
+};
+pub use zarrs_keys::{paths_are_names, paths_keep_keys_lawful, unrelated_paths_share_no_key};
+pub use zarrs_subset::laws::{
+    boxes_hold_along_each_dimension, parts_lie_in_their_chunks, positions_are_row_major,
+    shifted_boxes_hold_shifted_positions,
+};
+pub use zarrs_types::laws::{types_are_said_by_levels, written_fill_value_is_read};
 
 /// The parts of an array are those that its metadata says, and it lies in its store as they mean at its path. So two
 /// arrays at one path whose metadata says the same parts lie in the same way. Its layout is lawful, as the laws of steps

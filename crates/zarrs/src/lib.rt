@@ -3,10 +3,13 @@
 
 mod array;
 pub mod codec;
+pub mod convert;
+pub mod keys;
 pub mod laws;
+pub mod parts;
 mod reopening;
 
-pub use array::{Array, ArrayPartialDecoder};
+pub use array::{Array, ArrayPartialDecoder, ArrayPartialEncoder};
 pub use reopening::written_and_opened;
 pub use zarrs_chunk_grid::{
     ChunkGrid, ChunkGridTraits, ChunkShape, ChunkSizes, GridError, RectangularChunkGrid,
@@ -18,9 +21,10 @@ pub use zarrs_codec::{
 };
 pub use zarrs_data_type::{
     ArrayBytes, ArrayBytesFixedDisjointViewCreateError, ArrayBytesOffsets, ArrayBytesOptional,
-    ArrayBytesVariableLength, DataType, Element, ElementError, ElementOwned,
-    ExpectedFixedLengthBytesError, ExpectedOptionalBytesError, ExpectedVariableLengthBytesError,
-    FillValue, FromArrayBytes, IntoArrayBytes, IntoField,
+    ArrayBytesVariableLength, DataType, DataTypeFillValueError, DataTypeFillValueMetadataError,
+    Element, ElementError, ElementOwned, ExpectedFixedLengthBytesError, ExpectedOptionalBytesError,
+    ExpectedVariableLengthBytesError, FillValue, FromArrayBytes, IntoArrayBytes, IntoField,
+    data_type,
 };
 pub use zarrs_document::{
     AdditionalFieldV3, AdditionalFieldsV3, ArrayMetadataV3, DimensionName, FillValueMetadata,
@@ -46,6 +50,6 @@ pub use zarrs_storage::{
 };
 pub use zarrs_subset::{
     ArrayIndices, ArrayIndicesTinyVec, ArrayShape, ArraySubset, ArraySubsetError,
-    ArraySubsetTraits, IncompatibleDimensionalityError, SizeOverflow,
+    ArraySubsetTraits, IncompatibleDimensionalityError, SizeOverflow, ravel_indices, unravel_index,
 };
-pub use zarrs_target::ArrayBytesDecodeIntoTarget;
+pub use zarrs_target::{ArrayBytesDecodeIntoTarget, SubdividedTarget, copy_fill_value_into};

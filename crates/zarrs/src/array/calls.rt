@@ -77,11 +77,12 @@ impl<TStorage: WritableStorageTraits> Array<TStorage> {
     ghost use Rattle.zarrs_chunk_grid.specs.Grids.{box_at, has_box};
     ghost use Rattle.zarrs_storage.specs.Store.{KeepsReach};
     ghost use Rattle.zarrs_steps.specs.Changes.{IsPut};
-    ghost use Rattle.zarrs_chain.specs.Options.{stores_empty_chunks};
+    ghost use Rattle.zarrs_chain.specs.Options.{encodes_partially, stores_empty_chunks};
     ghost use Rattle.zarrs_steps.specs.Canon.{IsCanonical};
     ghost use Rattle.zarrs_steps.specs.Content.{decoded_cells, value_at};
     ghost use Rattle.zarrs_layout.specs.Parts.{RefusesPut};
     ghost use Rattle.zarrs_steps.specs.Laws.{EachDecodes};
+    ghost use Rattle.zarrs_steps.specs.Patches.{PatchRun};
     ghost use Rattle.zarrs_steps.specs.Reach.{MayAskCalls};
     ghost use Rattle.zarrs_steps.specs.Refusals.{refusal_of, refusal_of_storage};
     ghost use Rattle.zarrs.specs.Outcomes.{ErasesChunkOrRefuses};
@@ -163,7 +164,11 @@ impl<TStorage: WritableStorageTraits> Array<TStorage> {
     ) -> Result<Vec<Reply>, AllocError>
         requires { MayAskCalls (layout_of_array self.old) calls.now
             (state_of_array TStorage.state self.old) }
-        ensures run { IfOk result (λ replies.
+        ensures patched { IfOk result (λ replies. PatchRun (layout_of_array self.old)
+            (stores_empty_chunks options.now) calls.now replies.items
+            (state_of_array TStorage.state self.old) (state_of_array TStorage.state self.new)) }
+        // If no part is written by itself, the keys of the chunks that were stored hold what their cells are encoded to.
+        ensures run { encodes_partially options.now ≡ false → IfOk result (λ replies.
             Run (layout_of_array self.old) (stores_empty_chunks options.now) calls.now replies.items
             (state_of_array TStorage.state self.old) (state_of_array TStorage.state self.new)) }
         ensures untouched { OnErr result
@@ -173,13 +178,14 @@ impl<TStorage: WritableStorageTraits> Array<TStorage> {
         ensures reach { KeepsReach (store_of_array TStorage.state self.old)
             (store_of_array TStorage.state self.new) }
         // If empty chunks are not kept, the bytes of a canonical store stay a function of its content.
-        ensures canonical { stores_empty_chunks options.now ≡ false
+        ensures canonical { encodes_partially options.now ≡ false
+            → stores_empty_chunks options.now ≡ false
             → IsCanonical (layout_of_array self.old)
             (value_at (store_of_array TStorage.state self.old))
             → IsCanonical (layout_of_array self.old)
             (value_at (store_of_array TStorage.state self.new)) }
-        ensures decodes { EachDecodes (layout_of_array self.old)
-            (store_of_array TStorage.state self.old)
+        ensures decodes { encodes_partially options.now ≡ false
+            → EachDecodes (layout_of_array self.old) (store_of_array TStorage.state self.old)
             → EachDecodes (layout_of_array self.old) (store_of_array TStorage.state self.new) }
     {
         let replies = replay(alloc, &mut self.engine, calls, options);

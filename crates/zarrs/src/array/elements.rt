@@ -18,6 +18,7 @@ impl<TStorage: ReadableStorageTraits> Array<TStorage> {
     ///
     /// # Errors
     /// Those of `retrieve_chunk_if_exists`.
+    #[deprecated(note = "use `retrieve_chunk_if_exists` of a `Vec`")]
     pub fn retrieve_chunk_elements_if_exists<T: ElementOwned>(
         &self,
         alloc: Global,
@@ -34,6 +35,7 @@ impl<TStorage: ReadableStorageTraits> Array<TStorage> {
     ///
     /// # Errors
     /// Those of `retrieve_chunk_elements_if_exists`.
+    #[deprecated(note = "use `retrieve_chunk_if_exists_opt` of a `Vec`")]
     pub fn retrieve_chunk_elements_if_exists_opt<T: ElementOwned>(
         &self,
         alloc: Global,
@@ -51,6 +53,7 @@ impl<TStorage: ReadableStorageTraits> Array<TStorage> {
     ///
     /// # Errors
     /// Those of `retrieve_chunk`.
+    #[deprecated(note = "use `retrieve_chunk` of a `Vec`")]
     pub fn retrieve_chunk_elements<T: ElementOwned>(
         &self,
         alloc: Global,
@@ -67,6 +70,7 @@ impl<TStorage: ReadableStorageTraits> Array<TStorage> {
     ///
     /// # Errors
     /// Those of `retrieve_chunk_elements`.
+    #[deprecated(note = "use `retrieve_chunk_opt` of a `Vec`")]
     pub fn retrieve_chunk_elements_opt<T: ElementOwned>(
         &self,
         alloc: Global,
@@ -84,6 +88,7 @@ impl<TStorage: ReadableStorageTraits> Array<TStorage> {
     ///
     /// # Errors
     /// Those of `retrieve_chunks`.
+    #[deprecated(note = "use `retrieve_chunks` of a `Vec`")]
     pub fn retrieve_chunks_elements<T: ElementOwned, R: ArraySubsetTraits>(
         &self,
         alloc: Global,
@@ -100,6 +105,7 @@ impl<TStorage: ReadableStorageTraits> Array<TStorage> {
     ///
     /// # Errors
     /// Those of `retrieve_chunks_elements`.
+    #[deprecated(note = "use `retrieve_chunks_opt` of a `Vec`")]
     pub fn retrieve_chunks_elements_opt<T: ElementOwned, R: ArraySubsetTraits>(
         &self,
         alloc: Global,
@@ -117,6 +123,7 @@ impl<TStorage: ReadableStorageTraits> Array<TStorage> {
     ///
     /// # Errors
     /// Those of `retrieve_chunk_subset`.
+    #[deprecated(note = "use `retrieve_chunk_subset` of a `Vec`")]
     pub fn retrieve_chunk_subset_elements<T: ElementOwned, R: ArraySubsetTraits>(
         &self,
         alloc: Global,
@@ -134,6 +141,7 @@ impl<TStorage: ReadableStorageTraits> Array<TStorage> {
     ///
     /// # Errors
     /// Those of `retrieve_chunk_subset_elements`.
+    #[deprecated(note = "use `retrieve_chunk_subset_opt` of a `Vec`")]
     pub fn retrieve_chunk_subset_elements_opt<T: ElementOwned, R: ArraySubsetTraits>(
         &self,
         alloc: Global,
@@ -152,6 +160,7 @@ impl<TStorage: ReadableStorageTraits> Array<TStorage> {
     ///
     /// # Errors
     /// Those of `retrieve_array_subset`.
+    #[deprecated(note = "use `retrieve_array_subset` of a `Vec`")]
     pub fn retrieve_array_subset_elements<T: ElementOwned, R: ArraySubsetTraits>(
         &self,
         alloc: Global,
@@ -168,6 +177,7 @@ impl<TStorage: ReadableStorageTraits> Array<TStorage> {
     ///
     /// # Errors
     /// Those of `retrieve_array_subset_elements`.
+    #[deprecated(note = "use `retrieve_array_subset_opt` of a `Vec`")]
     pub fn retrieve_array_subset_elements_opt<T: ElementOwned, R: ArraySubsetTraits>(
         &self,
         alloc: Global,
@@ -187,13 +197,14 @@ impl<TStorage: WritableStorageTraits> Array<TStorage> {
     ghost use Rattle.zarrs_chain.specs.Options.{stores_empty_chunks};
     ghost use Rattle.zarrs.specs.Elements.{GivesElements};
     ghost use Rattle.zarrs.specs.Outcomes.{StoresChunkOrRefuses, StoresChunksOrRefuses};
-    ghost use Rattle.zarrs.specs.Outcomes.{StoresPartOrRefuses, MayStorePart};
-    ghost use Rattle.zarrs.specs.Outcomes.{StoresRegionOrRefuses, MayStoreRegion};
+    ghost use Rattle.zarrs.specs.Outcomes.{StoresPartAs, StoresPartOrRefuses, MayStorePart};
+    ghost use Rattle.zarrs.specs.Outcomes.{StoresRegionAs, StoresRegionOrRefuses, MayStoreRegion};
 
     /// Stores the elements as the cells of the chunk with these indices. It is `store_chunk` of a list.
     ///
     /// # Errors
     /// Those of `store_chunk`.
+    #[deprecated(note = "use `store_chunk` of a list")]
     pub fn store_chunk_elements<T: Element>(
         &mut self,
         alloc: Global,
@@ -210,6 +221,7 @@ impl<TStorage: WritableStorageTraits> Array<TStorage> {
     ///
     /// # Errors
     /// Those of `store_chunk_elements`.
+    #[deprecated(note = "use `store_chunk_opt` of a list")]
     pub fn store_chunk_elements_opt<T: Element>(
         &mut self,
         alloc: Global,
@@ -228,6 +240,7 @@ impl<TStorage: WritableStorageTraits> Array<TStorage> {
     ///
     /// # Errors
     /// Those of `store_chunks`.
+    #[deprecated(note = "use `store_chunks` of a list")]
     pub fn store_chunks_elements<T: Element, R: ArraySubsetTraits>(
         &mut self,
         alloc: Global,
@@ -244,6 +257,7 @@ impl<TStorage: WritableStorageTraits> Array<TStorage> {
     ///
     /// # Errors
     /// Those of `store_chunks_elements`.
+    #[deprecated(note = "use `store_chunks_opt` of a list")]
     pub fn store_chunks_elements_opt<T: Element, R: ArraySubsetTraits>(
         &mut self,
         alloc: Global,
@@ -262,6 +276,7 @@ impl<TStorage: WritableStorageTraits> Array<TStorage> {
     ///
     /// # Errors
     /// Those of `store_chunk_subset`.
+    #[deprecated(note = "use `store_chunk_subset` of a list")]
     pub fn store_chunk_subset_elements<T: Element, R: ArraySubsetTraits>(
         &mut self,
         alloc: Global,
@@ -282,6 +297,7 @@ impl<TStorage: WritableStorageTraits> Array<TStorage> {
     ///
     /// # Errors
     /// Those of `store_chunk_subset_elements`.
+    #[deprecated(note = "use `store_chunk_subset_opt` of a list")]
     pub fn store_chunk_subset_elements_opt<T: Element, R: ArraySubsetTraits>(
         &mut self,
         alloc: Global,
@@ -292,9 +308,9 @@ impl<TStorage: WritableStorageTraits> Array<TStorage> {
     ) -> Result<(), ArrayError>
         requires { MayStorePart TStorage.state chunk_indices.now (R.region chunk_subset.now)
             self.old }
-        ensures { StoresPartOrRefuses T.serves (GivesElements T.cell chunk_subset_elements.now)
-            TStorage.state (stores_empty_chunks options.now) chunk_indices.now
-            (R.region chunk_subset.now) self.old self.new result }
+        ensures { StoresPartAs T.serves (GivesElements T.cell chunk_subset_elements.now)
+            TStorage.state options.now chunk_indices.now (R.region chunk_subset.now) self.old
+            self.new result }
     {
         self.store_chunk_subset_opt(
             alloc,
@@ -309,6 +325,7 @@ impl<TStorage: WritableStorageTraits> Array<TStorage> {
     ///
     /// # Errors
     /// Those of `store_array_subset`.
+    #[deprecated(note = "use `store_array_subset` of a list")]
     pub fn store_array_subset_elements<T: Element, R: ArraySubsetTraits>(
         &mut self,
         alloc: Global,
@@ -326,6 +343,7 @@ impl<TStorage: WritableStorageTraits> Array<TStorage> {
     ///
     /// # Errors
     /// Those of `store_array_subset_elements`.
+    #[deprecated(note = "use `store_array_subset_opt` of a list")]
     pub fn store_array_subset_elements_opt<T: Element, R: ArraySubsetTraits>(
         &mut self,
         alloc: Global,
@@ -334,9 +352,8 @@ impl<TStorage: WritableStorageTraits> Array<TStorage> {
         options: &CodecOptions,
     ) -> Result<(), ArrayError>
         requires { MayStoreRegion TStorage.state (R.region array_subset.now) self.old }
-        ensures { StoresRegionOrRefuses T.serves (GivesElements T.cell subset_elements.now)
-            TStorage.state (stores_empty_chunks options.now) (R.region array_subset.now) self.old
-            self.new result }
+        ensures { StoresRegionAs T.serves (GivesElements T.cell subset_elements.now)
+            TStorage.state options.now (R.region array_subset.now) self.old self.new result }
     {
         self.store_array_subset_opt(alloc, array_subset, subset_elements, options)
     }

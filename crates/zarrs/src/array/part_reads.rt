@@ -1,19 +1,36 @@
 //! Reads of the parts of one chunk, one after another.
 use super::Array;
-use crate::ArrayPartialDecoder;
 use std::alloc::Global;
-use zarrs_codec::CodecOptions;
+use std::fmt;
+use zarrs_chunk_grid::ChunkGrid;
+use zarrs_codec::{CodecChain, CodecOptions};
+use zarrs_data_type::ArrayBytes;
 use zarrs_engine::ArrayError;
+use zarrs_keys::ChunkKeyEncoding;
 use zarrs_storage::ReadableStorageTraits;
+use zarrs_subset::ArraySubsetTraits;
+use zarrs_target::ArrayBytesDecodeIntoTarget;
+
+/// A chunk of an array, of which parts are read. It keeps nothing of what it read.
+#[derive(Drop)]
+pub struct ArrayPartialDecoder<'a, TStorage> {
+    decoder: zarrs_engine::ArrayPartialDecoder<
+        'a,
+        TStorage,
+        ChunkGrid,
+        ChunkKeyEncoding,
+        CodecChain,
+    >,
+}
 
 impl<TStorage: ReadableStorageTraits> Array<TStorage> {
     ghost use Rattle.std.specs.Prelude.{◌≡◌, true, IfOk, IfErr, OnOk};
     ghost use Rattle.zarrs_chunk_grid.specs.Grids.{has_box};
     ghost use Rattle.zarrs_steps.specs.ArgumentRefusals.{chunk_refusal};
     ghost use Rattle.zarrs_steps.specs.Refusals.{RefusesBy, refusal_of};
-    ghost use Rattle.zarrs_engine.specs.Engine.{layout_of, state_of, store_of};
-    ghost use Rattle.zarrs_engine.specs.PartialDecoders.{engine_of, indices_of};
-    ghost use Rattle.zarrs.specs.Arrays.{layout_of_array, state_of_array, store_of_array};
+    ghost use Rattle.zarrs.specs.Arrays.{layout_of_array, state_of_array};
+    ghost use Rattle.zarrs.specs.PartialEncoders.{layout_of_decoder, state_of_decoder};
+    ghost use Rattle.zarrs.specs.PartialEncoders.{indices_of_decoder};
 
     /// Returns the chunk with these indices, to read parts of it. The store is not asked.
     ///
@@ -25,13 +42,10 @@ impl<TStorage: ReadableStorageTraits> Array<TStorage> {
         chunk_indices: &[u64],
     ) -> Result<ArrayPartialDecoder<'_, TStorage>, ArrayError>
         ensures layout { IfOk result
-            (λ decoder. layout_of (engine_of decoder) ≡ layout_of_array self.now) }
-        ensures store { IfOk result (λ decoder. store_of TStorage.state (engine_of decoder)
-            ≡ store_of_array TStorage.state self.now) }
-        ensures shape { IfOk result (λ decoder.
-            (state_of TStorage.state (engine_of decoder)).shape
-            ≡ (state_of_array TStorage.state self.now).shape) }
-        ensures chunk { IfOk result (λ decoder. indices_of decoder ≡ chunk_indices.now) }
+            (λ decoder. layout_of_decoder decoder ≡ layout_of_array self.now) }
+        ensures state { IfOk result (λ decoder. state_of_decoder TStorage.state decoder
+            ≡ state_of_array TStorage.state self.now) }
+        ensures chunk { IfOk result (λ decoder. indices_of_decoder decoder ≡ chunk_indices.now) }
         ensures accepted { OnOk result
             (has_box (layout_of_array self.now).grid chunk_indices.now ≡ true) }
         ensures refused { IfErr result (λ e. RefusesBy
@@ -51,18 +65,141 @@ impl<TStorage: ReadableStorageTraits> Array<TStorage> {
         _options: &CodecOptions,
     ) -> Result<ArrayPartialDecoder<'_, TStorage>, ArrayError>
         ensures layout { IfOk result
-            (λ decoder. layout_of (engine_of decoder) ≡ layout_of_array self.now) }
-        ensures store { IfOk result (λ decoder. store_of TStorage.state (engine_of decoder)
-            ≡ store_of_array TStorage.state self.now) }
-        ensures shape { IfOk result (λ decoder.
-            (state_of TStorage.state (engine_of decoder)).shape
-            ≡ (state_of_array TStorage.state self.now).shape) }
-        ensures chunk { IfOk result (λ decoder. indices_of decoder ≡ chunk_indices.now) }
+            (λ decoder. layout_of_decoder decoder ≡ layout_of_array self.now) }
+        ensures state { IfOk result (λ decoder. state_of_decoder TStorage.state decoder
+            ≡ state_of_array TStorage.state self.now) }
+        ensures chunk { IfOk result (λ decoder. indices_of_decoder decoder ≡ chunk_indices.now) }
         ensures accepted { OnOk result
             (has_box (layout_of_array self.now).grid chunk_indices.now ≡ true) }
         ensures refused { IfErr result (λ e. RefusesBy
             (chunk_refusal (layout_of_array self.now) chunk_indices.now) (refusal_of e)) }
     {
-        self.engine.partial_decoder(alloc, chunk_indices)
+        let decoder = self.engine.partial_decoder(alloc, chunk_indices)?;
+        Ok(ArrayPartialDecoder { decoder })
+    }
+}
+
+impl<TStorage: ReadableStorageTraits> ArrayPartialDecoder<'_, TStorage> {
+    ghost use Rattle.std.specs.Prelude.{◌≡◌, ◌↔◌, true, None, IfOk, IfErr, IsSome, IsTrue};
+    ghost use Rattle.std.specs.Prelude.{OnErr, OnOk};
+    ghost use Rattle.zarrs_data_type.specs.ArrayData.{data_of};
+    ghost use Rattle.zarrs_steps.specs.ArgumentRefusals.{part_refusal, region_refusal};
+    ghost use Rattle.zarrs_steps.specs.Changes.{IsPresent};
+    ghost use Rattle.zarrs_steps.specs.Reach.{MayAskChunk};
+    ghost use Rattle.zarrs_steps.specs.Refusals.{RefusesBy, key_refusal, refusal_of};
+    ghost use Rattle.zarrs_steps.specs.Step.{RetrievesPart, RefusesRetrievePart};
+    ghost use Rattle.zarrs_target.specs.States.{IsTarget, SameBox, StaysOutside};
+    ghost use Rattle.zarrs_engine.specs.Into.{HasContent, RetrievesInto};
+    ghost use Rattle.zarrs_engine.specs.PartialDecoders.{RefusesPartInto, part_into_refusal};
+    ghost use Rattle.zarrs_engine.specs.PartialDecoders.{region_of_part};
+    ghost use Rattle.zarrs.specs.PartialEncoders.{layout_of_decoder, state_of_decoder};
+    ghost use Rattle.zarrs.specs.PartialEncoders.{store_of_decoder, indices_of_decoder};
+
+    /// Returns the cells of a part of the chunk, in row-major order. The part is seen from the origin of the chunk. If the
+    /// chunk is absent, they are fill. No option changes what is read.
+    ///
+    /// # Errors
+    /// E2 for a part of another number of dimensions, or that passes the chunk. Then as for
+    /// `Array::retrieve_chunk_subset`. E9 may come at any time.
+    pub fn partial_decode<R: ArraySubsetTraits>(
+        &self,
+        alloc: Global,
+        chunk_subset: &R,
+        options: &CodecOptions,
+    ) -> Result<ArrayBytes<'static>, ArrayError>
+        requires { MayAskChunk (layout_of_decoder self.now) (indices_of_decoder self.now)
+            (store_of_decoder TStorage.state self.now) }
+        ensures cells { IfOk result (λ made. RetrievesPart (layout_of_decoder self.now)
+            (indices_of_decoder self.now) (R.region chunk_subset.now) (data_of made)
+            (store_of_decoder TStorage.state self.now)) }
+        ensures refused { IfErr result (λ e. RefusesRetrievePart (layout_of_decoder self.now)
+            (indices_of_decoder self.now) (R.region chunk_subset.now) (refusal_of e)
+            (store_of_decoder TStorage.state self.now)) }
+    {
+        let chunk_subset = chunk_subset.to_array_subset(alloc)?;
+        self.decoder.partial_decode(alloc, &chunk_subset, options)
+    }
+
+    /// Reads a part of the chunk into the target's box, where its cells are in row-major order. The part is seen from the
+    /// origin of the chunk. Every byte outside the box stays. No option changes what is read.
+    ///
+    /// # Errors
+    /// E2 for a part of another number of dimensions, or that passes the chunk. Then as for
+    /// `Array::retrieve_array_subset_into` over the region that the part is in the array: E4 for a target of another
+    /// cell size or depth than the data type's, of which a variable type has none; E6 for a box of another shape than
+    /// the part's; E7, E8 and E4 as the read of a region has them. E9 may come at any time. What the arguments decide is
+    /// refused before a byte is written; after another refusal the inside of the box is open.
+    pub fn partial_decode_into<R: ArraySubsetTraits>(
+        &self,
+        alloc: Global,
+        chunk_subset: &R,
+        target: &mut ArrayBytesDecodeIntoTarget<'_, '_, '_>,
+        options: &CodecOptions,
+    ) -> Result<(), ArrayError>
+        requires ask { MayAskChunk (layout_of_decoder self.now) (indices_of_decoder self.now)
+            (store_of_decoder TStorage.state self.now) }
+        requires target { IsTarget target.old }
+        ensures target { IsTarget target.new }
+        ensures same_bytes { target.new.bytes.ghost_name ≡ target.old.bytes.ghost_name }
+        ensures same_masks { target.new.masks.ghost_name ≡ target.old.masks.ghost_name }
+        ensures same_box { SameBox target.old target.new }
+        ensures accepted { OnOk result (part_refusal (layout_of_decoder self.now)
+            (indices_of_decoder self.now) (R.region chunk_subset.now) ≡ None) }
+        // Chunks cover a part that lies in the chunk, so it is not refused by E1.
+        ensures covered { OnOk result (region_refusal (layout_of_decoder self.now)
+            (state_of_decoder TStorage.state self.now).shape (region_of_part
+            (layout_of_decoder self.now) (indices_of_decoder self.now)
+            (R.region chunk_subset.now)) ≡ None) }
+        ensures cells { OnOk result (RetrievesInto (layout_of_decoder self.now)
+            (state_of_decoder TStorage.state self.now).shape (region_of_part
+            (layout_of_decoder self.now) (indices_of_decoder self.now)
+            (R.region chunk_subset.now)) (store_of_decoder TStorage.state self.now) target.old
+            target.new) }
+        ensures content { OnOk result (HasContent (layout_of_decoder self.now) (region_of_part
+            (layout_of_decoder self.now) (indices_of_decoder self.now)
+            (R.region chunk_subset.now)) (store_of_decoder TStorage.state self.now) target.old
+            target.new) }
+        ensures refused { IfErr result (λ e. RefusesPartInto (layout_of_decoder self.now)
+            (state_of_decoder TStorage.state self.now).shape (indices_of_decoder self.now)
+            (R.region chunk_subset.now) target.old (refusal_of e)
+            (store_of_decoder TStorage.state self.now)) }
+        ensures outside { StaysOutside target.old target.new }
+        ensures kept_bytes { OnErr result (IsSome (part_into_refusal (layout_of_decoder self.now)
+            (state_of_decoder TStorage.state self.now).shape (indices_of_decoder self.now)
+            (R.region chunk_subset.now) target.old)
+            → target.new.bytes.now ≡ target.old.bytes.now) }
+        ensures kept_masks { OnErr result (IsSome (part_into_refusal (layout_of_decoder self.now)
+            (state_of_decoder TStorage.state self.now).shape (indices_of_decoder self.now)
+            (R.region chunk_subset.now) target.old)
+            → target.new.masks.now ≡ target.old.masks.now) }
+    {
+        let chunk_subset = chunk_subset.to_array_subset(alloc)?;
+        self.decoder
+            .partial_decode_into(alloc, &chunk_subset, target, options)
+    }
+
+    /// Returns whether the chunk is present. None of its bytes is read.
+    ///
+    /// # Errors
+    /// E7 if the store refuses the key. E9 may come at any time.
+    pub fn exists(&self, alloc: Global) -> Result<bool, ArrayError>
+        requires { (store_of_decoder TStorage.state self.now).may_ask
+            ((layout_of_decoder self.now).key (indices_of_decoder self.now)) ≡ true }
+        ensures present { IfOk result (λ present. IsTrue present ↔ IsPresent
+            (layout_of_decoder self.now) (indices_of_decoder self.now)
+            (store_of_decoder TStorage.state self.now)) }
+        ensures refused { IfErr result (λ e. RefusesBy (key_refusal (layout_of_decoder self.now)
+            (indices_of_decoder self.now) (store_of_decoder TStorage.state self.now))
+            (refusal_of e)) }
+    {
+        self.decoder.exists(alloc)
+    }
+}
+
+/// Prints its name alone. The store is not printed.
+impl<TStorage> fmt::Debug for ArrayPartialDecoder<'_, TStorage> {
+    fn fmt<W: fmt::Write>(&self, f: &mut fmt::Formatter<W>) -> fmt::Result {
+        f.debug_struct("ArrayPartialDecoder")
+            .finish_non_exhaustive()
     }
 }

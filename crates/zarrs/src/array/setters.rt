@@ -69,8 +69,9 @@ impl<TStorage> Array<TStorage> {
     ghost use Rattle.zarrs_options.specs.Given.{grid_given};
     ghost use Rattle.zarrs_options.specs.Refusals.{create_refusal_of, RefusesCreation};
     ghost use Rattle.zarrs_array_metadata.specs.Changes.{reshaping, regridding};
-    ghost use Rattle.zarrs.specs.Arrays.{metadata_of_array, KeepsArray, KeepsAllButGrid};
-    ghost use Rattle.zarrs.specs.Setters.{Regrids, RefusesRegrid};
+    ghost use Rattle.zarrs.specs.Arrays.{layout_of_array, metadata_of_array};
+    ghost use Rattle.zarrs.specs.Arrays.{KeepsArray, KeepsAllButGrid};
+    ghost use Rattle.zarrs.specs.Setters.{KeepsCells, Regrids, RefusesRegrid};
 
     /// Gives the array this shape, as `set_shape` does.
     ///
@@ -83,6 +84,7 @@ impl<TStorage> Array<TStorage> {
             (reshaping shape.items (metadata_of_array self.old)) (create_refusal_of e)) }
         ensures untouched { OnErr result (KeepsArray self.old self.new) }
         ensures kept { KeepsAllButGrid self.old self.new }
+        ensures content { KeepsCells (layout_of_array self.old) (layout_of_array self.new) }
     {
         let grid = reshape(alloc, &mut self.metadata, shape)?;
         self.engine.set_chunk_grid(grid);
@@ -105,6 +107,8 @@ impl<TStorage> Array<TStorage> {
         ensures refused { IfErr result (λ e. RefusesCreation
             (reshaping shape.items (metadata_of_array self.old)) (create_refusal_of e)) }
         ensures kept { IfOk result (λ array. KeepsAllButGrid self.old array.now) }
+        ensures content { IfOk result
+            (λ array. KeepsCells (layout_of_array self.old) (layout_of_array array.now)) }
     {
         self.reshape(alloc, shape)?;
         Ok(self)
@@ -127,6 +131,7 @@ impl<TStorage> Array<TStorage> {
             (create_refusal_of e)) }
         ensures untouched { OnErr result (KeepsArray self.old self.new) }
         ensures kept { KeepsAllButGrid self.old self.new }
+        ensures content { KeepsCells (layout_of_array self.old) (layout_of_array self.new) }
     {
         let grid = regrid(alloc, &mut self.metadata, shape, chunk_grid_metadata)?;
         self.engine.set_chunk_grid(grid);
@@ -151,6 +156,8 @@ impl<TStorage> Array<TStorage> {
         ensures refused { IfErr result (λ e. RefusesRegrid (G.gives chunk_grid_metadata)
             shape.items (metadata_of_array self.old) (create_refusal_of e)) }
         ensures kept { IfOk result (λ array. KeepsAllButGrid self.old array.now) }
+        ensures content { IfOk result
+            (λ array. KeepsCells (layout_of_array self.old) (layout_of_array array.now)) }
     {
         let chunk_grid_metadata = chunk_grid_metadata.into_field(alloc)?;
         self.regrid(alloc, shape, &chunk_grid_metadata)?;

@@ -102,8 +102,8 @@ impl<TStorage: WritableStorageTraits> Array<TStorage> {
     ghost use Rattle.zarrs_steps.specs.Refusals.{RefusesBy, refusal_of};
     ghost use Rattle.zarrs.specs.Arrays.{layout_of_array, state_of_array};
     ghost use Rattle.zarrs.specs.Outcomes.{StoresChunkOrRefuses, StoresChunksOrRefuses};
-    ghost use Rattle.zarrs.specs.Outcomes.{StoresPartOrRefuses, MayStorePart};
-    ghost use Rattle.zarrs.specs.Outcomes.{StoresRegionOrRefuses, MayStoreRegion};
+    ghost use Rattle.zarrs.specs.Outcomes.{StoresPartAs, StoresPartOrRefuses, MayStorePart};
+    ghost use Rattle.zarrs.specs.Outcomes.{StoresRegionAs, StoresRegionOrRefuses, MayStoreRegion};
 
     /// Tests whether the chunks of the array cover the region.
     ///
@@ -244,7 +244,9 @@ impl<TStorage: WritableStorageTraits> Array<TStorage> {
         )
     }
 
-    /// Does what `store_chunk_subset` does, under these options.
+    /// Does what `store_chunk_subset` does, under these options. If they write parts by themselves, and the chain and the
+    /// store can, a part that is not the whole chunk is: then of the chunk only what that needs is read, and nothing is said
+    /// of the bytes that are stored.
     ///
     /// # Errors
     /// Those of `store_chunk_subset`.
@@ -258,9 +260,8 @@ impl<TStorage: WritableStorageTraits> Array<TStorage> {
     ) -> Result<(), ArrayError>
         requires { MayStorePart TStorage.state chunk_indices.now (R.region chunk_subset.now)
             self.old }
-        ensures { StoresPartOrRefuses D.serves (D.gives chunk_subset_data) TStorage.state
-            (stores_empty_chunks options.now) chunk_indices.now (R.region chunk_subset.now) self.old
-            self.new result }
+        ensures { StoresPartAs D.serves (D.gives chunk_subset_data) TStorage.state options.now
+            chunk_indices.now (R.region chunk_subset.now) self.old self.new result }
     {
         let chunk_subset_data = match chunk_subset_data.into_array_bytes(
             alloc,
@@ -307,7 +308,9 @@ impl<TStorage: WritableStorageTraits> Array<TStorage> {
         self.store_array_subset_opt(alloc, array_subset, subset_data, &CodecOptions::default())
     }
 
-    /// Does what `store_array_subset` does, under these options.
+    /// Does what `store_array_subset` does, under these options. If they write parts by themselves, and the chain and the
+    /// store can, the part of a chunk that the region does not cover is: then of the chunk only what that needs is read, and
+    /// nothing is said of the bytes that are stored.
     ///
     /// # Errors
     /// Those of `store_array_subset`.
@@ -319,8 +322,8 @@ impl<TStorage: WritableStorageTraits> Array<TStorage> {
         options: &CodecOptions,
     ) -> Result<(), ArrayError>
         requires { MayStoreRegion TStorage.state (R.region array_subset.now) self.old }
-        ensures { StoresRegionOrRefuses D.serves (D.gives subset_data) TStorage.state
-            (stores_empty_chunks options.now) (R.region array_subset.now) self.old self.new result }
+        ensures { StoresRegionAs D.serves (D.gives subset_data) TStorage.state options.now
+            (R.region array_subset.now) self.old self.new result }
     {
         let subset_data = match subset_data.into_array_bytes(alloc, self.engine.data_type()) {
             Ok(subset_data) => subset_data,

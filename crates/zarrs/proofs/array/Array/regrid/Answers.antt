@@ -5,7 +5,7 @@ use Rattle.zarrs_options.specs.Given.{grid_given}
 use Rattle.zarrs_array_metadata.proofs.Grids.{is_regridded, grid_dimensions_are}
 use Rattle.zarrs.specs.Agreement.{meaning_of}
 use Rattle.zarrs.proofs.Layouts.{parts_are}
-use Rattle.zarrs.proofs.Regridded.{agrees_after}
+use Rattle.zarrs.proofs.Regridded.{agrees_after, cells_after}
 use Rattle.zarrs.proofs.array.Array.regrid.Goals as goal
 
 pub set_chunk_grid-requires : goal.set_chunk_grid-requires
@@ -24,3 +24,6 @@ invariant_of-self-2 g c =
     record {
       agrees = agrees_after grid old.engine c.set_chunk_grid.new.self (metadata_view old.metadata) c.regrid.new.metadata c.args.shape.items c.set_chunk_grid.ensures cut c.in_ok-grid.ensures.shape;
     }
+
+pub returns-clause-content : goal.returns-clause-content
+returns-clause-content g c = cells_after c.in_ok-grid.grid c.args.self.now.engine c.set_chunk_grid.new.self c.set_chunk_grid.ensures

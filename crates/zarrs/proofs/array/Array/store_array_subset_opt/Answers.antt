@@ -2,6 +2,7 @@ use Rattle.std.proofs.Common.{OnOk, IfErr, refl, subst, sym}
 use Rattle.zarrs_subset.specs.Regions.{Box}
 use Rattle.zarrs_data_type.specs.ArrayData.{data_of}
 use Rattle.zarrs_chain.specs.Options.{stores_empty_chunks}
+use Rattle.zarrs_steps.specs.Patches.{PatchesRegion, RefusesPatchRegion}
 use Rattle.zarrs_steps.specs.Step.{StoresRegion, RefusesStoreRegion}
 use Rattle.zarrs_steps.specs.Refusals.{refusal_of}
 use Rattle.zarrs_steps.specs.ChunkBoxes.{chunks_met}
@@ -20,13 +21,24 @@ returns g c =
     let region = g.R.ArraySubsetTraits.region c.args.array_subset.now in
     let shape = (state_of_array (g.TStorage.ReadableStorageTraits.state) c.args.self.now).shape in
     let held = data_of c.in-Ok.subset_data in
-    let stored = c.store_array_subset.ensures in
-    let done = subst (λ (b : Box). OnOk c.store_array_subset.result (StoresRegion layout keep shape b held old new)) c.in_ok-array_subset.ensures stored.done in
-    let refused = subst (λ (b : Box). IfErr c.store_array_subset.result (λ e. RefusesStoreRegion layout keep shape b held (refusal_of e) old new)) c.in_ok-array_subset.ensures stored.refused in
-    written_as g.D.IntoArrayBytes.serves (g.D.IntoArrayBytes.gives c.args.subset_data) (region_refusal layout shape region) g.TStorage.ReadableStorageTraits.state
-    (λ held. StoresRegion layout keep shape region held) (λ held. RefusesStoreRegion layout keep shape region held) c.args.self.now _ c.store_array_subset.result held
-    (rw c.data_type.ensures at c.in-Ok.ensures.given) (rw c.data_type.ensures at c.in-Ok.ensures.served) done refused
-    (record { parts = stored.parts; metadata = refl; codec_options = refl; codec_specific_options = refl; metadata_options = refl })
+    let serves = g.D.IntoArrayBytes.serves in
+    let gives = g.D.IntoArrayBytes.gives c.args.subset_data in
+    let given = rw c.data_type.ensures at c.in-Ok.ensures.given in
+    let served = rw c.data_type.ensures at c.in-Ok.ensures.served in
+    record {
+      whole = λ off. (
+          let stored = c.store_array_subset.ensures.whole off in
+          let done = subst (λ (b : Box). OnOk c.store_array_subset.result (StoresRegion layout keep shape b held old new)) c.in_ok-array_subset.ensures stored.done in
+          let refused = subst (λ (b : Box). IfErr c.store_array_subset.result (λ e. RefusesStoreRegion layout keep shape b held (refusal_of e) old new)) c.in_ok-array_subset.ensures stored.refused in
+          written_as serves gives (region_refusal layout shape region) g.TStorage.ReadableStorageTraits.state (λ d. StoresRegion layout keep shape region d) (λ d. RefusesStoreRegion layout keep shape region d) c.args.self.now _ c.store_array_subset.result held given served done refused
+          (record { parts = stored.parts; metadata = refl; codec_options = refl; codec_specific_options = refl; metadata_options = refl }));
+      partly = (
+          let stored = c.store_array_subset.ensures.partly in
+          let done = subst (λ (b : Box). OnOk c.store_array_subset.result (PatchesRegion layout shape b held old new)) c.in_ok-array_subset.ensures stored.done in
+          let refused = subst (λ (b : Box). IfErr c.store_array_subset.result (λ e. RefusesPatchRegion layout keep shape b held (refusal_of e) old new)) c.in_ok-array_subset.ensures stored.refused in
+          written_as serves gives (region_refusal layout shape region) g.TStorage.ReadableStorageTraits.state (λ d. PatchesRegion layout shape region d) (λ d. RefusesPatchRegion layout keep shape region d) c.args.self.now _ c.store_array_subset.result held given served done refused
+          (record { parts = stored.parts; metadata = refl; codec_options = refl; codec_specific_options = refl; metadata_options = refl }));
+    }
 
 pub store_array_subset-requires : goal.store_array_subset-requires
 store_array_subset-requires g c =

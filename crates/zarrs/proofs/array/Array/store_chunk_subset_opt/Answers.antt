@@ -4,6 +4,7 @@ use Rattle.zarrs_data_type.specs.ArrayData.{data_of}
 use Rattle.zarrs_chain.specs.Options.{stores_empty_chunks}
 use Rattle.zarrs_chunk_grid.specs.Grids.{box_at}
 use Rattle.zarrs_steps.specs.ChunkBoxes.{part_box}
+use Rattle.zarrs_steps.specs.Patches.{PatchesPart, RefusesPatchPart}
 use Rattle.zarrs_steps.specs.Reach.{MayAskParts}
 use Rattle.zarrs_steps.specs.Step.{StoresPart, RefusesStorePart}
 use Rattle.zarrs_steps.specs.Refusals.{refusal_of}
@@ -21,13 +22,24 @@ returns g c =
     let index = c.args.chunk_indices.now in
     let region = g.R.ArraySubsetTraits.region c.args.chunk_subset.now in
     let held = data_of c.in-Ok.chunk_subset_data in
-    let stored = c.store_chunk_subset.ensures in
-    let done = subst (λ (b : Box). OnOk c.store_chunk_subset.result (StoresPart layout keep index b held old new)) c.in_ok-chunk_subset.ensures stored.done in
-    let refused = subst (λ (b : Box). IfErr c.store_chunk_subset.result (λ e. RefusesStorePart layout keep index b held (refusal_of e) old new)) c.in_ok-chunk_subset.ensures stored.refused in
-    written_as g.D.IntoArrayBytes.serves (g.D.IntoArrayBytes.gives c.args.chunk_subset_data) (place_refusal layout index region) g.TStorage.ReadableStorageTraits.state
-    (λ held. StoresPart layout keep index region held) (λ held. RefusesStorePart layout keep index region held) c.args.self.now _ c.store_chunk_subset.result held
-    (rw c.data_type.ensures at c.in-Ok.ensures.given) (rw c.data_type.ensures at c.in-Ok.ensures.served) done refused
-    (record { parts = stored.parts; metadata = refl; codec_options = refl; codec_specific_options = refl; metadata_options = refl })
+    let serves = g.D.IntoArrayBytes.serves in
+    let gives = g.D.IntoArrayBytes.gives c.args.chunk_subset_data in
+    let given = rw c.data_type.ensures at c.in-Ok.ensures.given in
+    let served = rw c.data_type.ensures at c.in-Ok.ensures.served in
+    record {
+      whole = λ off. (
+          let stored = c.store_chunk_subset.ensures.whole off in
+          let done = subst (λ (b : Box). OnOk c.store_chunk_subset.result (StoresPart layout keep index b held old new)) c.in_ok-chunk_subset.ensures stored.done in
+          let refused = subst (λ (b : Box). IfErr c.store_chunk_subset.result (λ e. RefusesStorePart layout keep index b held (refusal_of e) old new)) c.in_ok-chunk_subset.ensures stored.refused in
+          written_as serves gives (place_refusal layout index region) g.TStorage.ReadableStorageTraits.state (λ d. StoresPart layout keep index region d) (λ d. RefusesStorePart layout keep index region d) c.args.self.now _ c.store_chunk_subset.result held given served done refused
+          (record { parts = stored.parts; metadata = refl; codec_options = refl; codec_specific_options = refl; metadata_options = refl }));
+      partly = (
+          let stored = c.store_chunk_subset.ensures.partly in
+          let done = subst (λ (b : Box). OnOk c.store_chunk_subset.result (PatchesPart layout index b held old new)) c.in_ok-chunk_subset.ensures stored.done in
+          let refused = subst (λ (b : Box). IfErr c.store_chunk_subset.result (λ e. RefusesPatchPart layout keep index b held (refusal_of e) old new)) c.in_ok-chunk_subset.ensures stored.refused in
+          written_as serves gives (place_refusal layout index region) g.TStorage.ReadableStorageTraits.state (λ d. PatchesPart layout index region d) (λ d. RefusesPatchPart layout keep index region d) c.args.self.now _ c.store_chunk_subset.result held given served done refused
+          (record { parts = stored.parts; metadata = refl; codec_options = refl; codec_specific_options = refl; metadata_options = refl }));
+    }
 
 pub store_chunk_subset-requires : goal.store_chunk_subset-requires
 store_chunk_subset-requires g c =

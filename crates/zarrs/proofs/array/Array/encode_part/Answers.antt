@@ -1,0 +1,33 @@
+use Rattle.std.proofs.Common.{refl, rules, subst}
+use Rattle.std.specs.Prelude.{OnOk, IfErr}
+use Rattle.zarrs_subset.specs.Regions.{Box}
+use Rattle.zarrs_data_type.specs.ArrayData.{data_of}
+use Rattle.zarrs_chain.specs.Options.{stores_empty_chunks}
+use Rattle.zarrs_steps.specs.Patches.{PatchesPart, RefusesPatchPart}
+use Rattle.zarrs_steps.specs.Refusals.{refusal_of}
+use Rattle.zarrs.specs.Arrays.{layout_of_array}
+use Rattle.zarrs.proofs.Short.{patch_short}
+use Rattle.zarrs.proofs.array.Array.encode_part.Goals as goal
+
+pub returns : goal.returns
+returns g c =
+    let layout = layout_of_array c.args.self.now in
+    let keep = stores_empty_chunks c.args.options.now in
+    let old = g.TStorage.ReadableStorageTraits.state c.args.self.now.engine.storage in
+    let new = g.TStorage.ReadableStorageTraits.state c.partial_encode.new.self.storage in
+    let index = c.args.chunk_indices.now in
+    let held = data_of c.args.bytes.now in
+    let written = c.partial_encode in
+    record {
+      done = subst (λ (b : Box). OnOk written.result (PatchesPart layout index b held old new)) c.in_ok-chunk_subset.ensures written.ensures.done;
+      refused = subst (λ (b : Box). IfErr written.result (λ e. RefusesPatchPart layout keep index b held (refusal_of e) old new)) c.in_ok-chunk_subset.ensures written.ensures.refused;
+      kept = record { parts = written.ensures.parts; metadata = refl; codec_options = refl; codec_specific_options = refl; metadata_options = refl };
+    }
+
+pub returns-in_err-chunk_subset : goal.returns-in_err-chunk_subset
+returns-in_err-chunk_subset g c =
+    let layout = layout_of_array c.args.self.now in
+    let keep = stores_empty_chunks c.args.options.now in
+    let old = g.TStorage.ReadableStorageTraits.state c.args.self.now.engine.storage in
+    let why = patch_short layout keep c.args.chunk_indices.now (g.R.ArraySubsetTraits.region c.args.chunk_subset.now) (data_of c.args.bytes.now) old in
+    search (rules, why)

@@ -1,0 +1,41 @@
+-- Reads and writes of the parts of one chunk of an array.
+use Rattle.std.specs.Prelude.{◌≡◌, ℕ, List, Result}
+use Rattle.std.specs.Borrow.{Fml, MutBor, RattleType, RestsIfErr}
+use Rattle.zarrs_storage.specs.Store.{StoreState}
+use Rattle.zarrs_steps.specs.Layout.{Layout, ArrayState}
+use Rattle.zarrs_steps.specs.declared.error.ArrayError.{ArrayError}
+use Rattle.zarrs_engine.specs.Engine.{layout_of, state_of, store_of}
+use Rattle.zarrs_engine.specs.PartialDecoders.{engine_of, indices_of}
+use Rattle.zarrs.specs.declared.array.Array.{Array}
+use Rattle.zarrs.specs.declared.array.part_reads.ArrayPartialDecoder.{ArrayPartialDecoder}
+use Rattle.zarrs.specs.declared.array.partial_encoder.ArrayPartialEncoder.{ArrayPartialEncoder}
+use Rattle.zarrs.specs.contracts.array.Array.{the_row}
+
+module _ {S : Type 0} where
+  -- the array that an encoder writes, the name of its loan, and the indices of its chunk
+  abbrev pub array_of_encoder : ArrayPartialEncoder S → Array S
+  array_of_encoder encoder = encoder.array.now
+
+  abbrev pub loan_of_encoder : ArrayPartialEncoder S → ℕ
+  loan_of_encoder encoder = encoder.array.ghost_name
+
+  abbrev pub indices_of_encoder : ArrayPartialEncoder S → List ℕ
+  indices_of_encoder encoder = encoder.chunk_indices.items
+
+  -- how the array of a decoder lies in its store, what that is now, also with the array's shape, and the indices of its
+  -- chunk
+  abbrev pub layout_of_decoder : ArrayPartialDecoder S → Layout
+  layout_of_decoder decoder = layout_of (engine_of decoder.decoder)
+
+  abbrev pub store_of_decoder : (S → StoreState) → ArrayPartialDecoder S → StoreState
+  store_of_decoder state decoder = store_of state (engine_of decoder.decoder)
+
+  abbrev pub state_of_decoder : (S → StoreState) → ArrayPartialDecoder S → ArrayState
+  state_of_decoder state decoder = state_of state (engine_of decoder.decoder)
+
+  abbrev pub indices_of_decoder : ArrayPartialDecoder S → List ℕ
+  indices_of_decoder decoder = indices_of decoder.decoder
+
+-- once the borrow ends, the array is what the encoder left, and if none was made what it had been
+abbrev pub RestsUnlessEncoded : (S : RattleType) → MutBor (Array S.Denot) → Result (ArrayPartialEncoder S.Denot) ArrayError → Fml
+RestsUnlessEncoded S array r = RestsIfErr (the_row S) array loan_of_encoder r (λ last. last ≡ array.now)
