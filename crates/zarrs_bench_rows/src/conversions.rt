@@ -78,6 +78,7 @@ impl Work for FromCells {
     type Sample = ArrayBytes<'static>;
 
     fn run(alloc: Global, cells: &mut ArrayBytes<'static>) -> Result<u8> {
+        let cells = ArrayBytes::from_flen(bytes_in(cells));
         let made = <u32 as ElementOwned>::from_array_bytes(alloc, &DataType::UInt32, cells)?;
         Ok(tested_numbers(&made))
     }

@@ -1,24 +1,34 @@
 -- Which refusal of a builder comes first.
-use Rattle.std.proofs.Common.{◌≡◌, ◌==◌, ℕ, ◌<◌, false, List, [], ◌∷◌, length, Option, Some, Result, Ok, refl, sym, ap, subst, ◌∙◌, arith}
+use Rattle.std.proofs.Common.{◌≡◌, ◌==◌, ℕ, ◌<◌, Bool, true, false, List, [], ◌∷◌, length, Option, Some, None, Result, Ok, Err, refl, sym, ap, subst, ◌∙◌, cond, arith}
+use Rattle.std.specs.Prelude.{option_and_then}
 use Rattle.std.specs.Int.NonZero.{non_zero_u64_get}
 use Rattle.std.specs.List.{list_any}
 use Rattle.std.specs.declared.num.NonZeroU64.{NonZeroU64}
 use Rattle.std.proofs.lemmas.Bool.Decides.{nat_tests}
 use Rattle.serde_json.specs.Data.{Data}
 use Rattle.zarrs_metadata.specs.Extension.{ExtensionData}
+use Rattle.zarrs_keys.specs.Metadata.{key_encoding_of, extension_of_encoding}
 use Rattle.zarrs_chunk_grid.specs.Configurations.{GridConfiguration}
+use Rattle.zarrs_chunk_grid.specs.GridView.{configuration_of, array_extents_of}
+use Rattle.zarrs_chunk_grid.specs.Metadata.{grid_said, over_shape, extension_of_grid}
+use Rattle.zarrs_chunk_grid.specs.declared.grid.ChunkGrid.{ChunkGrid}
+use Rattle.zarrs_chunk_grid.proofs.ConfigurationLemmas.{own_taken}
+use Rattle.zarrs_chunk_grid.proofs.MetadataLemmas.{said_back}
+use Rattle.zarrs_types.specs.FillMetadata.{fill_said}
+use Rattle.zarrs_types.specs.TypeMetadata.{kind_of, is_readable}
+use Rattle.zarrs_types.proofs.TypeReading.{kind_of-extension}
 use Rattle.zarrs_types.specs.Kind.{Kind}
 use Rattle.zarrs_codec_cells.specs.ShardingMetadata.{sizes_of}
 use Rattle.zarrs_codec_array.specs.Metadata.{ArrayCodecData}
-use Rattle.zarrs_codec.specs.Metadata.{BytesCodecData, ChainData}
+use Rattle.zarrs_codec.specs.Metadata.{BytesCodecData, ChainData, chain_said, extensions_of_chain}
 use Rattle.zarrs_document.specs.Document.{DocumentData}
 use Rattle.zarrs_document_v2.specs.View.{v3}
 use Rattle.zarrs_options.specs.Refusals.{CreateRefusal, data_type, chunk_grid, said_or, RefusesCreation}
-use Rattle.zarrs_array_metadata.proofs.Order.{bound}
-use Rattle.zarrs_array_metadata.specs.Meanings.{names_said, path_said, created}
+use Rattle.zarrs_array_metadata.proofs.Order.{bound, all_said}
+use Rattle.zarrs_array_metadata.specs.Meanings.{Meaning, creation_v3, names_said, path_said, created}
 use Rattle.zarrs_builder.specs.Given.{FillData}
 use Rattle.zarrs_builder.specs.Builders.{BuilderData, FieldsData, fields_of}
-use Rattle.zarrs_builder.specs.Built.{codecs_chosen, sizes_said, cut_into, chain_chosen, grid_chosen, fill_chosen, fill_stated, chosen, document_with, document_of_fields, built, built_at, built_metadata}
+use Rattle.zarrs_builder.specs.Built.{codecs_chosen, sizes_said, cut_into, chain_chosen, grid_chosen, fill_chosen, fill_stated, ChosenData, chosen, document_with, document_of_fields, parts_of_fields, built, built_at, built_metadata}
 
 -- each field found memory
 pub all_found : (b : BuilderData) (s : List ℕ) → b.shape ≡ Some s → (g : Option ExtensionData) → b.chunk_grid ≡ Some g → (k : Option Kind) → b.data_type ≡ Some k → (f : FillData) → b.fill_value ≡ Some f → (n : Option (List (Option (List ℕ)))) → b.dimension_names ≡ Some n → (sub : Option (List ℕ)) → b.subchunk_shape ≡ Some sub
@@ -80,7 +90,7 @@ module _ (b : BuilderData) (f : FieldsData) (r : CreateRefusal) where
 pub all_chosen : (b : BuilderData) (f : FieldsData) (k : Kind) → f.data_type ≡ Some k → (chain : ChainData) → chain_chosen f.subchunk_shape (codecs_chosen b k) ≡ Ok chain
     → (grid : GridConfiguration) → grid_chosen f.chunk_grid f.shape ≡ Some grid → (fill : List ℕ) → fill_chosen k f.fill_value ≡ Ok fill
     → names_said (length f.shape) f.dimension_names ≡ Ok tt → (stated : Data) → fill_stated k fill ≡ Ok stated
-    → chosen b f ≡ Ok (record { kind = k; chain = chain; grid = grid; fill_value = stated })
+    → chosen b f ≡ Ok (record { kind = k; chain = chain; grid = grid; fill = fill; fill_value = stated })
 unfolding chosen
 all_chosen b f k e1 chain e2 grid e3 fill e4 e5 stated e6 = rw (e1, e2, e3, e4, e5, e6) refl
 
@@ -101,8 +111,36 @@ module _ (b : BuilderData) (f : FieldsData) (e : fields_of b ≡ Some f) where
     at_path is = rw e (bound _ _ r is)
 
     module _ (valid : path_said path ≡ Ok tt) where
-      pub at_document : RefusesCreation (document_of_fields b f) r → RefusesCreation (built_at path b) r
-      at_document is = rw (e, valid) (bound _ _ r is)
+      pub at_chosen : RefusesCreation (chosen b f) r → RefusesCreation (built_at path b) r
+      at_chosen is = rw (e, valid) (bound _ _ r is)
 
-      pub at_creation : (m : DocumentData) → document_of_fields b f ≡ Ok m → RefusesCreation (created path (v3 m)) r → RefusesCreation (built_at path b) r
-      at_creation m made is = rw (e, valid, made) (rw valid at is)
+      module _ (c : ChosenData) (made : chosen b f ≡ Ok c) where
+        pub at_creation : (m : DocumentData) → creation_v3 m ≡ parts_of_fields b f c → RefusesCreation (created path (v3 m)) r → RefusesCreation (built_at path b) r
+        at_creation m says is =
+            let refused : RefusesCreation (creation_v3 m) r = rw valid at is in
+            rw (e, valid, made) (subst (λ (x : Result Meaning CreateRefusal). RefusesCreation x r) says refused)
+
+  -- what creation makes of the document
+  pub parts_built : (path : List ℕ) (c : ChosenData) (m : DocumentData) (parts : Meaning) → path_said path ≡ Ok tt → chosen b f ≡ Ok c → creation_v3 m ≡ parts_of_fields b f c → creation_v3 m ≡ Ok parts → built_at path b ≡ Ok parts
+  parts_built path c m parts valid made says is = rw (e, valid, made) (sym says ∙ is)
+
+-- what is chosen is refused, and so is its document
+pub document_refused : (b : BuilderData) (f : FieldsData) (r : CreateRefusal) → RefusesCreation (chosen b f) r → RefusesCreation (document_of_fields b f) r
+document_refused b f r is = bound _ _ r is
+
+-- ---- what creation makes of the document of a builder
+
+-- what is written for a grid reads as that grid over its own shape
+pub grid_back : (g : ChunkGrid) (shape : List ℕ) → array_extents_of g ≡ shape → grid_said (extension_of_grid (configuration_of g)) shape ≡ Some (configuration_of g)
+grid_back g shape over =
+    subst (λ (s : List ℕ). grid_said (extension_of_grid (configuration_of g)) s ≡ Some (configuration_of g)) over
+    (ap (option_and_then (over_shape (array_extents_of g))) (said_back g) ∙ ap (λ (t : Bool). cond t (Some (configuration_of g)) None) (own_taken g))
+
+pub document_creates : (b : BuilderData) (f : FieldsData) (c : ChosenData) → chain_said (extensions_of_chain c.chain) ≡ Some c.chain → grid_said (extension_of_grid c.grid) f.shape ≡ Some c.grid
+    → fill_said c.kind c.fill_value ≡ Some c.fill → key_encoding_of (extension_of_encoding b.chunk_key_encoding) ≡ Some b.chunk_key_encoding → names_said (length f.shape) f.dimension_names ≡ Ok tt
+    → creation_v3 (document_with b f c) ≡ parts_of_fields b f c
+document_creates b f c chain grid fill keys named = go (is_readable c.kind) refl
+  where
+    go : (r : Bool) → is_readable c.kind ≡ r → creation_v3 (document_with b f c) ≡ parts_of_fields b f c
+    go true is = all_said (document_with b f c) c.chain chain c.kind (kind_of-extension c.kind is) c.grid grid c.fill fill refl b.chunk_key_encoding keys named ∙ rw is refl
+    go false is = rw is refl

@@ -9,7 +9,7 @@ use Rattle.zarrs_chunk_grid.specs.Metadata.{grid_said, extension_of_grid}
 use Rattle.zarrs_types.specs.Cell.{fill_cell}
 use Rattle.zarrs_types.specs.FillMetadata.{fill_said, fill_written}
 use Rattle.zarrs_types.specs.Kind.{Kind}
-use Rattle.zarrs_types.specs.TypeMetadata.{kind_name, kind_extension}
+use Rattle.zarrs_types.specs.TypeMetadata.{kind_name, kind_extension, is_readable}
 use Rattle.zarrs_codec.specs.Metadata.{BytesCodecData, ChainData, sharding, default_codec, extensions_of_chain}
 use Rattle.zarrs_document.specs.Document.{DocumentData}
 use Rattle.zarrs_document_v2.specs.View.{MetadataData, v3}
@@ -58,6 +58,8 @@ pub record ChosenData : Type 0 where
   pub kind : Kind
   pub chain : ChainData
   pub grid : GridConfiguration
+  -- the bytes of the fill value, and its metadata
+  pub fill : List ℕ
   pub fill_value : Data
 
 -- what fields say, or the first refusal
@@ -69,7 +71,7 @@ chosen b f = do
   fill ← fill_chosen kind f.fill_value
   named ← names_said (length f.shape) f.dimension_names
   stated ← fill_stated kind fill
-  Ok (record { kind = kind; chain = chain; grid = grid; fill_value = stated })
+  Ok (record { kind = kind; chain = chain; grid = grid; fill = fill; fill_value = stated })
 
 -- the metadata of these parts, by main names
 abbrev pub document_with : BuilderData → FieldsData → ChosenData → DocumentData
@@ -97,9 +99,20 @@ found b = said_or out_of_memory (fields_of b)
 abbrev pub built : BuilderData → Result DocumentData CreateRefusal
 built b = found b >>= document_of_fields b
 
+-- the parts that were chosen; of a type that metadata cannot say, a raw one of more than 65,536 bytes, what creation makes
+-- of the document
+abbrev pub parts_of_fields : BuilderData → FieldsData → ChosenData → Result Meaning CreateRefusal
+parts_of_fields b f c =
+    if is_readable c.kind then Ok (record { shape = f.shape; grid = c.grid; keys = b.chunk_key_encoding; chain = c.chain; kind = c.kind; fill = c.fill })
+    else creation_v3 (document_with b f c)
+
+-- the document is that of what was chosen, and creation makes these parts of it
+abbrev pub SaysChosen : BuilderData → FieldsData → DocumentData → Type 0
+SaysChosen b f m = (c : ChosenData) × (chosen b f ≡ Ok c) × (creation_v3 m ≡ parts_of_fields b f c)
+
 -- the parts of the array of a builder at a path, or the first refusal
 abbrev pub built_at : List ℕ → BuilderData → Result Meaning CreateRefusal
-built_at path b = found b >>= (λ f. path_said path >>= (λ valid. document_of_fields b f >>= creation_v3))
+built_at path b = found b >>= (λ f. path_said path >>= (λ valid. chosen b f >>= parts_of_fields b f))
 
 -- the metadata of the array of a builder
 abbrev pub built_metadata : BuilderData → Result MetadataData CreateRefusal

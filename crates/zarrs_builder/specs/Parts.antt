@@ -27,5 +27,6 @@ chosen_view c = record {
   kind = kind c.data_type;
   chain = chain_data c.chain;
   grid = configuration_of c.grid;
-  fill_value = fill_data c.fill_value;
+  fill = c.fill_value;
+  fill_value = fill_data c.stated;
 }

@@ -1,5 +1,6 @@
 //! The data type of a builder, as a caller may give it.
-ghost use Rattle.std.specs.Prelude.{◌≡◌, Some, None, IfOk, IfErr, option_and_then, string_bytes};
+ghost use Rattle.std.specs.Prelude.{◌≡◌, Some, None, Ok, IfOk, IfErr, IsOk};
+ghost use Rattle.std.specs.Prelude.{option_and_then, string_bytes};
 ghost use Rattle.zarrs_metadata.specs.Extension.{extension_view};
 ghost use Rattle.zarrs_types.specs.Kind.{kind};
 ghost use Rattle.zarrs_types.specs.TypeMetadata.{kind_of};
@@ -86,7 +87,9 @@ fn no_metadata(alloc: Global) -> ArrayCreateError
 impl IntoField<ArrayBuilderDataType> for ArrayBuilderDataType {
     ghost gives = { λ value field. type_given field ≡ type_given value };
 
-    fn into_field(self, _alloc: Global) -> Result<ArrayBuilderDataType, AllocError> {
+    fn into_field(self, _alloc: Global) -> Result<ArrayBuilderDataType, AllocError>
+        ensures { result ≡ Ok self }
+    {
         Ok(self)
     }
 }
@@ -94,7 +97,10 @@ impl IntoField<ArrayBuilderDataType> for ArrayBuilderDataType {
 impl IntoField<ArrayBuilderDataType> for DataType {
     ghost gives = { λ data_type field. type_given field ≡ Some (kind data_type) };
 
-    fn into_field(self, _alloc: Global) -> Result<ArrayBuilderDataType, AllocError> {
+    fn into_field(self, _alloc: Global) -> Result<ArrayBuilderDataType, AllocError>
+        ensures field { IfOk result (λ field. type_given field ≡ Some (kind self)) }
+        ensures made { IsOk result }
+    {
         Ok(ArrayBuilderDataType {
             given: GivenType::DataType(self),
         })
@@ -104,7 +110,10 @@ impl IntoField<ArrayBuilderDataType> for DataType {
 impl IntoField<ArrayBuilderDataType> for MetadataV3 {
     ghost gives = { λ metadata field. type_given field ≡ kind_of (extension_view metadata) };
 
-    fn into_field(self, _alloc: Global) -> Result<ArrayBuilderDataType, AllocError> {
+    fn into_field(self, _alloc: Global) -> Result<ArrayBuilderDataType, AllocError>
+        ensures field { IfOk result (λ field. type_given field ≡ kind_of (extension_view self)) }
+        ensures made { IsOk result }
+    {
         Ok(ArrayBuilderDataType {
             given: GivenType::Metadata(self),
         })
@@ -115,7 +124,11 @@ impl IntoField<ArrayBuilderDataType> for String {
     ghost gives = { λ text field. type_given field
         ≡ option_and_then kind_of (extension_of_text (string_bytes text)) };
 
-    fn into_field(self, _alloc: Global) -> Result<ArrayBuilderDataType, AllocError> {
+    fn into_field(self, _alloc: Global) -> Result<ArrayBuilderDataType, AllocError>
+        ensures field { IfOk result (λ field. type_given field
+            ≡ option_and_then kind_of (extension_of_text (string_bytes self))) }
+        ensures made { IsOk result }
+    {
         Ok(ArrayBuilderDataType {
             given: GivenType::Text(self),
         })

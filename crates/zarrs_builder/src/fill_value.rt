@@ -1,5 +1,5 @@
 //! The fill value of a builder, as a caller may give it.
-ghost use Rattle.std.specs.Prelude.{◌≡◌, None, Ok, IfOk, IfErr, string_bytes};
+ghost use Rattle.std.specs.Prelude.{◌≡◌, None, Ok, IfOk, IfErr, IsOk, string_bytes};
 ghost use Rattle.serde_json.specs.Data.{boolean, number, string, unsigned};
 ghost use Rattle.serde_json.specs.Find.{of_integer};
 ghost use Rattle.serde_json.specs.View.{view};
@@ -109,7 +109,9 @@ fn invalid_metadata(
 impl IntoField<ArrayBuilderFillValue> for ArrayBuilderFillValue {
     ghost gives = { λ value field. fill_given field ≡ fill_given value };
 
-    fn into_field(self, _alloc: Global) -> Result<ArrayBuilderFillValue, AllocError> {
+    fn into_field(self, _alloc: Global) -> Result<ArrayBuilderFillValue, AllocError>
+        ensures { result ≡ Ok self }
+    {
         Ok(self)
     }
 }
@@ -117,7 +119,10 @@ impl IntoField<ArrayBuilderFillValue> for ArrayBuilderFillValue {
 impl IntoField<ArrayBuilderFillValue> for FillValue {
     ghost gives = { λ value field. fill_given field ≡ by_bytes value };
 
-    fn into_field(self, _alloc: Global) -> Result<ArrayBuilderFillValue, AllocError> {
+    fn into_field(self, _alloc: Global) -> Result<ArrayBuilderFillValue, AllocError>
+        ensures field { IfOk result (λ field. fill_given field ≡ by_bytes self) }
+        ensures made { IsOk result }
+    {
         Ok(ArrayBuilderFillValue {
             given: GivenFill::FillValue(self),
         })
@@ -127,7 +132,10 @@ impl IntoField<ArrayBuilderFillValue> for FillValue {
 impl IntoField<ArrayBuilderFillValue> for FillValueMetadata {
     ghost gives = { λ value field. fill_given field ≡ by_metadata (fill_data value) };
 
-    fn into_field(self, _alloc: Global) -> Result<ArrayBuilderFillValue, AllocError> {
+    fn into_field(self, _alloc: Global) -> Result<ArrayBuilderFillValue, AllocError>
+        ensures field { IfOk result (λ field. fill_given field ≡ by_metadata (fill_data self)) }
+        ensures made { IsOk result }
+    {
         Ok(ArrayBuilderFillValue {
             given: GivenFill::Metadata(self),
         })
@@ -137,7 +145,10 @@ impl IntoField<ArrayBuilderFillValue> for FillValueMetadata {
 impl IntoField<ArrayBuilderFillValue> for bool {
     ghost gives = { λ value field. fill_given field ≡ by_metadata (boolean value) };
 
-    fn into_field(self, _alloc: Global) -> Result<ArrayBuilderFillValue, AllocError> {
+    fn into_field(self, _alloc: Global) -> Result<ArrayBuilderFillValue, AllocError>
+        ensures field { IfOk result (λ field. fill_given field ≡ by_metadata (boolean self)) }
+        ensures made { IsOk result }
+    {
         Ok(ArrayBuilderFillValue::of_value(Value::Bool(self)))
     }
 }
@@ -145,7 +156,11 @@ impl IntoField<ArrayBuilderFillValue> for bool {
 impl IntoField<ArrayBuilderFillValue> for String {
     ghost gives = { λ text field. fill_given field ≡ by_metadata (string (string_bytes text)) };
 
-    fn into_field(self, _alloc: Global) -> Result<ArrayBuilderFillValue, AllocError> {
+    fn into_field(self, _alloc: Global) -> Result<ArrayBuilderFillValue, AllocError>
+        ensures field { IfOk result (λ field. fill_given field
+            ≡ by_metadata (string (string_bytes self))) }
+        ensures made { IsOk result }
+    {
         Ok(ArrayBuilderFillValue::of_value(Value::String(self)))
     }
 }
@@ -161,7 +176,11 @@ impl IntoField<ArrayBuilderFillValue> for &str {
 impl IntoField<ArrayBuilderFillValue> for u8 {
     ghost gives = { λ value field. fill_given field ≡ by_metadata (number (unsigned value)) };
 
-    fn into_field(self, _alloc: Global) -> Result<ArrayBuilderFillValue, AllocError> {
+    fn into_field(self, _alloc: Global) -> Result<ArrayBuilderFillValue, AllocError>
+        ensures field { IfOk result (λ field. fill_given field
+            ≡ by_metadata (number (unsigned self))) }
+        ensures made { IsOk result }
+    {
         Ok(ArrayBuilderFillValue::of_value(self.to_json()))
     }
 }
@@ -169,7 +188,11 @@ impl IntoField<ArrayBuilderFillValue> for u8 {
 impl IntoField<ArrayBuilderFillValue> for u16 {
     ghost gives = { λ value field. fill_given field ≡ by_metadata (number (unsigned value)) };
 
-    fn into_field(self, _alloc: Global) -> Result<ArrayBuilderFillValue, AllocError> {
+    fn into_field(self, _alloc: Global) -> Result<ArrayBuilderFillValue, AllocError>
+        ensures field { IfOk result (λ field. fill_given field
+            ≡ by_metadata (number (unsigned self))) }
+        ensures made { IsOk result }
+    {
         Ok(ArrayBuilderFillValue::of_value(self.to_json()))
     }
 }
@@ -177,7 +200,11 @@ impl IntoField<ArrayBuilderFillValue> for u16 {
 impl IntoField<ArrayBuilderFillValue> for u32 {
     ghost gives = { λ value field. fill_given field ≡ by_metadata (number (unsigned value)) };
 
-    fn into_field(self, _alloc: Global) -> Result<ArrayBuilderFillValue, AllocError> {
+    fn into_field(self, _alloc: Global) -> Result<ArrayBuilderFillValue, AllocError>
+        ensures field { IfOk result (λ field. fill_given field
+            ≡ by_metadata (number (unsigned self))) }
+        ensures made { IsOk result }
+    {
         Ok(ArrayBuilderFillValue::of_value(self.to_json()))
     }
 }
@@ -185,7 +212,11 @@ impl IntoField<ArrayBuilderFillValue> for u32 {
 impl IntoField<ArrayBuilderFillValue> for u64 {
     ghost gives = { λ value field. fill_given field ≡ by_metadata (number (unsigned value)) };
 
-    fn into_field(self, _alloc: Global) -> Result<ArrayBuilderFillValue, AllocError> {
+    fn into_field(self, _alloc: Global) -> Result<ArrayBuilderFillValue, AllocError>
+        ensures field { IfOk result (λ field. fill_given field
+            ≡ by_metadata (number (unsigned self))) }
+        ensures made { IsOk result }
+    {
         Ok(ArrayBuilderFillValue::of_value(self.to_json()))
     }
 }
@@ -193,7 +224,11 @@ impl IntoField<ArrayBuilderFillValue> for u64 {
 impl IntoField<ArrayBuilderFillValue> for i8 {
     ghost gives = { λ value field. fill_given field ≡ by_metadata (number (of_integer value)) };
 
-    fn into_field(self, _alloc: Global) -> Result<ArrayBuilderFillValue, AllocError> {
+    fn into_field(self, _alloc: Global) -> Result<ArrayBuilderFillValue, AllocError>
+        ensures field { IfOk result (λ field. fill_given field
+            ≡ by_metadata (number (of_integer self))) }
+        ensures made { IsOk result }
+    {
         Ok(ArrayBuilderFillValue::of_value(self.to_json()))
     }
 }
@@ -201,7 +236,11 @@ impl IntoField<ArrayBuilderFillValue> for i8 {
 impl IntoField<ArrayBuilderFillValue> for i16 {
     ghost gives = { λ value field. fill_given field ≡ by_metadata (number (of_integer value)) };
 
-    fn into_field(self, _alloc: Global) -> Result<ArrayBuilderFillValue, AllocError> {
+    fn into_field(self, _alloc: Global) -> Result<ArrayBuilderFillValue, AllocError>
+        ensures field { IfOk result (λ field. fill_given field
+            ≡ by_metadata (number (of_integer self))) }
+        ensures made { IsOk result }
+    {
         Ok(ArrayBuilderFillValue::of_value(self.to_json()))
     }
 }
@@ -209,7 +248,11 @@ impl IntoField<ArrayBuilderFillValue> for i16 {
 impl IntoField<ArrayBuilderFillValue> for i32 {
     ghost gives = { λ value field. fill_given field ≡ by_metadata (number (of_integer value)) };
 
-    fn into_field(self, _alloc: Global) -> Result<ArrayBuilderFillValue, AllocError> {
+    fn into_field(self, _alloc: Global) -> Result<ArrayBuilderFillValue, AllocError>
+        ensures field { IfOk result (λ field. fill_given field
+            ≡ by_metadata (number (of_integer self))) }
+        ensures made { IsOk result }
+    {
         Ok(ArrayBuilderFillValue::of_value(self.to_json()))
     }
 }
@@ -217,7 +260,11 @@ impl IntoField<ArrayBuilderFillValue> for i32 {
 impl IntoField<ArrayBuilderFillValue> for i64 {
     ghost gives = { λ value field. fill_given field ≡ by_metadata (number (of_integer value)) };
 
-    fn into_field(self, _alloc: Global) -> Result<ArrayBuilderFillValue, AllocError> {
+    fn into_field(self, _alloc: Global) -> Result<ArrayBuilderFillValue, AllocError>
+        ensures field { IfOk result (λ field. fill_given field
+            ≡ by_metadata (number (of_integer self))) }
+        ensures made { IsOk result }
+    {
         Ok(ArrayBuilderFillValue::of_value(self.to_json()))
     }
 }

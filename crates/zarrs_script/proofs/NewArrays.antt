@@ -1,6 +1,6 @@
 -- What new arrays are.
 use Rattle.std.proofs.Common.{◌≡◌, ◌≢◌, ◌==◌, ℕ, ◌<◌, ◌+◌, true, false, List, [], ◌∷◌, ◌++◌, length, take, get_or}
-use Rattle.std.proofs.Common.{codes, map, Option, Some, Result, Ok, refl, sym, ap, ◌∙◌, subst, arith}
+use Rattle.std.proofs.Common.{inl, inr, codes, map, Option, Some, Result, Ok, refl, sym, ap, ◌∙◌, subst, arith}
 use Rattle.std.specs.List.{list_any}
 use Rattle.std.specs.FinMap as finite
 use Rattle.std.specs.Int.NonZero.{non_zero_u64_get}
@@ -29,6 +29,9 @@ use Rattle.zarrs_codec.specs.Metadata.{ChainData, chain_data, bytes_codec_data, 
 use Rattle.zarrs_codec.specs.declared.codec.ArrayToBytesCodec as code
 use Rattle.zarrs_codec.specs.declared.chain.CodecChain.{CodecChain}
 use Rattle.zarrs_document_v2.specs.View.{MetadataData, v3}
+use Rattle.zarrs_keys.specs.declared.error.NodePathError.TheVariants as path_error
+use Rattle.zarrs_metadata.specs.declared.error.PluginCreateError.TheVariants as plugin
+use Rattle.zarrs_storage.specs.declared.error.StorageError.TheVariants as stored
 use Rattle.zarrs_options.specs.Refusals.{CreateRefusal, create_refusal_of, RefusesCreation}
 use Rattle.zarrs_options.specs.declared.error.ArrayCreateError.{ArrayCreateError}
 use Rattle.zarrs_options.specs.declared.error.ArrayCreateError.TheVariants as create_error
@@ -88,19 +91,31 @@ same_parts document metadata parts own is says has =
 -- nothing but memory refuses metadata that says parts
 pub only_memory : {A : Type 0} (made : Result A CreateRefusal) (a : A) (e : ArrayCreateError) → made ≡ Ok a → RefusesCreation made (create_refusal_of e) → e ≢ create_error.OutOfMemory → ⊥
 only_memory made a create_error.OutOfMemory is refused other = other refl
-only_memory made a (create_error.NodePathError e) is refused other = absurd (cc (is, refused))
+only_memory made a (create_error.NodePathError path_error.Invalid) is refused other = absurd (cc (is, refused))
+only_memory made a (create_error.NodePathError path_error.OutOfMemory) is refused other = absurd (cc (is, refused))
 only_memory made a (create_error.AdditionalFieldUnsupportedError e) is refused other = absurd (cc (is, refused))
-only_memory made a (create_error.DataTypeCreateError e) is refused other = absurd (cc (is, refused))
+only_memory made a (create_error.DataTypeCreateError (plugin.Other text)) is refused other = absurd (cc (is, refused))
+only_memory made a (create_error.DataTypeCreateError plugin.OutOfMemory) is refused other = absurd (cc (is, refused))
 only_memory made a (create_error.InvalidFillValue name held) is refused other = absurd (cc (is, refused))
 only_memory made a (create_error.InvalidFillValueMetadata name value) is refused other = absurd (cc (is, refused))
-only_memory made a (create_error.CodecsCreateError e) is refused other = absurd (cc (is, refused))
-only_memory made a (create_error.StorageTransformersCreateError e) is refused other = absurd (cc (is, refused))
-only_memory made a (create_error.ChunkGridCreateError e) is refused other = absurd (cc (is, refused))
-only_memory made a (create_error.ChunkKeyEncodingCreateError e) is refused other = absurd (cc (is, refused))
+only_memory made a (create_error.CodecsCreateError (plugin.Other text)) is refused other = absurd (cc (is, refused))
+only_memory made a (create_error.CodecsCreateError plugin.OutOfMemory) is refused other = absurd (cc (is, refused))
+only_memory made a (create_error.StorageTransformersCreateError (plugin.Other text)) is refused other = absurd (cc (is, refused))
+only_memory made a (create_error.StorageTransformersCreateError plugin.OutOfMemory) is refused other = absurd (cc (is, refused))
+only_memory made a (create_error.ChunkGridCreateError (plugin.Other text)) is refused other = absurd (cc (is, refused))
+only_memory made a (create_error.ChunkGridCreateError plugin.OutOfMemory) is refused other = absurd (cc (is, refused))
+only_memory made a (create_error.ChunkKeyEncodingCreateError (plugin.Other text)) is refused other = absurd (cc (is, refused))
+only_memory made a (create_error.ChunkKeyEncodingCreateError plugin.OutOfMemory) is refused other = absurd (cc (is, refused))
 only_memory made a (create_error.InvalidChunkGridDimensionality grid dimensions) is refused other = absurd (cc (is, refused))
 only_memory made a (create_error.InvalidDimensionNames names dimensions) is refused other = absurd (cc (is, refused))
 only_memory made a (create_error.InvalidSubchunkShape shape) is refused other = absurd (cc (is, refused))
-only_memory made a (create_error.StorageError e) is refused other = absurd (cc (is, refused))
+only_memory made a (create_error.StorageError (stored.InvalidMetadata key text)) is (inl unread) other = absurd (cc (is, unread))
+only_memory made a (create_error.StorageError (stored.InvalidMetadata key text)) is (inr refused) other = absurd (cc (is, refused))
+only_memory made a (create_error.StorageError stored.ReadOnly) is refused other = absurd (cc (is, refused))
+only_memory made a (create_error.StorageError stored.InvalidByteRange) is refused other = absurd (cc (is, refused))
+only_memory made a (create_error.StorageError stored.Exhausted) is refused other = absurd (cc (is, refused))
+only_memory made a (create_error.StorageError (stored.Other text)) is refused other = absurd (cc (is, refused))
+only_memory made a (create_error.StorageError stored.OutOfMemory) is refused other = absurd (cc (is, refused))
 only_memory made a create_error.MissingMetadata is refused other = absurd (cc (is, refused))
 only_memory made a (create_error.UnsupportedZarrV2Array text) is refused other = absurd (cc (is, refused))
 

@@ -16,7 +16,7 @@ use Rattle.zarrs_data_type.specs.Cells.{cells}
 use Rattle.zarrs_codec_leaf.specs.Bytes.{bytes_meaning}
 use Rattle.zarrs_codec_array.specs.Arrays.{same_array}
 use Rattle.zarrs_codec.specs.Chains.{whole_chunk}
-use Rattle.zarrs_codec.specs.Through.{through}
+use Rattle.zarrs_codec.specs.Through.{through_all}
 use Rattle.zarrs_steps.specs.declared.call.Call.{Call}
 use Rattle.zarrs_steps.specs.declared.call.Reply.{Reply}
 use Rattle.zarrs_steps.specs.declared.call.Reply.TheVariants.{Done, Compacted, Cells, MaybeCells, Refused}
@@ -102,7 +102,8 @@ pub record MakesGrid (shape chunk_shape : List ℕ) : Type 0 where
 -- what the parts of a new array mean: the `regular` grid, `default` keys with `/` at the path `/`, the codec `bytes`
 abbrev pub layout_for : List ℕ → List ℕ → CellType → List ℕ → Layout
 layout_for shape chunk_shape cell_type fill =
-    layout_at (grid_of (regular chunk_shape) shape) (codes "/") (default_key Slash) (through same_array (whole_chunk bytes_meaning)) (kind_of_cells cell_type) fill
+    layout_at (grid_of (regular chunk_shape) shape) (codes "/") (default_key Slash)
+    (through_all true same_array (whole_chunk bytes_meaning)) (kind_of_cells cell_type) fill
 
 -- the parts of a new array
 abbrev pub parts_of_line : List ℕ → List ℕ → CellType → List ℕ → Meaning

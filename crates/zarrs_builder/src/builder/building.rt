@@ -2,8 +2,9 @@
 ghost use Rattle.std.specs.Prelude.{◌≡◌, false, map, option_map, length, Some, None, Ok, IfOk, IfErr, OnOk};
 ghost use Rattle.zarrs_metadata.specs.FillValue.{fill_data};
 ghost use Rattle.zarrs_keys.specs.Paths.{is_node_path};
-ghost use Rattle.zarrs_chunk_grid.specs.GridView.{configuration_of};
+ghost use Rattle.zarrs_chunk_grid.specs.GridView.{array_extents_of, configuration_of};
 ghost use Rattle.zarrs_chunk_grid.specs.Metadata.{grid_said};
+ghost use Rattle.zarrs_types.specs.FillMetadata.{fill_said};
 ghost use Rattle.zarrs_types.specs.Kind.{kind};
 ghost use Rattle.zarrs_types.specs.TypeMetadata.{kind_name};
 ghost use Rattle.zarrs_codec_array.specs.Metadata.{array_codec_data};
@@ -13,7 +14,7 @@ ghost use Rattle.zarrs_document.specs.View.{document_view, name_view};
 ghost use Rattle.zarrs_options.specs.Given.{grid_given};
 ghost use Rattle.zarrs_options.specs.Refusals.{RefusesCreation, create_refusal_of, said_or};
 ghost use Rattle.zarrs_options.specs.Refusals as refusal;
-ghost use Rattle.zarrs_array_metadata.specs.Meanings.{names_said, path_said};
+ghost use Rattle.zarrs_array_metadata.specs.Meanings.{creation_v3, names_said, path_said};
 ghost use Rattle.zarrs_builder.specs.Built.{chain_chosen, codec_chosen, cut_into, grid_chosen};
 ghost use Rattle.zarrs_builder.specs.Built.{fill_stated, sizes_said};
 
@@ -36,6 +37,7 @@ use zarrs_keys::NodePath;
 use zarrs_metadata::PluginCreateError;
 use zarrs_metadata::members::copied;
 use zarrs_options::{ArrayBuilderChunkGridMetadata, ArrayCreateError};
+use zarrs_types::laws::written_fill_value_is_read;
 
 /// The fields that callers' values became, each of which found memory.
 #[derive(Drop)]
@@ -54,16 +56,18 @@ struct Chosen {
     data_type: DataType,
     chain: CodecChain,
     grid: ChunkGrid,
-    fill_value: FillValueMetadata,
+    fill_value: FillValue,
+    /// The metadata of the fill value.
+    stated: FillValueMetadata,
 }
 
 impl ArrayBuilder {
     ghost use Rattle.zarrs_document_v2.specs.View.{v3};
-    ghost use Rattle.zarrs.specs.Arrays.{metadata_of_array, path_of_array, storage_of_array};
-    ghost use Rattle.zarrs.specs.Arrays.{HasSpecificOptions};
+    ghost use Rattle.zarrs.specs.Arrays.{meaning_of_array, metadata_of_array, path_of_array};
+    ghost use Rattle.zarrs.specs.Arrays.{storage_of_array, HasSpecificOptions};
     ghost use Rattle.zarrs_builder.specs.Builders.{builder_view, fields_of};
     ghost use Rattle.zarrs_builder.specs.Built.{chosen, codecs_chosen, document_with};
-    ghost use Rattle.zarrs_builder.specs.Built.{document_of_fields};
+    ghost use Rattle.zarrs_builder.specs.Built.{document_of_fields, parts_of_fields, SaysChosen};
     ghost use Rattle.zarrs_builder.specs.Built.{built, built_at, built_metadata};
     ghost use Rattle.zarrs_builder.specs.Parts.{found_fields, chosen_view};
 
@@ -89,8 +93,8 @@ impl ArrayBuilder {
     ///
     /// # Errors
     /// E26 if a field found no memory. Then in this order: E11 for a path that is no path of a node; as
-    /// `build_metadata`; E13 for a raw type of more than 65,536 bytes. E26 may come at any time. The store is dropped
-    /// then.
+    /// `build_metadata`; E13 for a raw type of more than 65,536 bytes, which metadata cannot say. E26 may come at any time.
+    /// The store is dropped then.
     pub fn build<TStorage: Drop>(
         &self,
         alloc: Global,
@@ -99,6 +103,9 @@ impl ArrayBuilder {
     ) -> Result<Array<TStorage>, ArrayCreateError>
         ensures metadata { IfOk result
             (λ a. built_metadata (builder_view self.now) ≡ Ok (metadata_of_array a)) }
+        // Its grid, its keys, its chain, its type and its fill value are the builder's own.
+        ensures parts { IfOk result
+            (λ a. built_at path.now (builder_view self.now) ≡ Ok (meaning_of_array a)) }
         ensures path { IfOk result (λ a. path_of_array a ≡ path.now) }
         ensures storage { IfOk result (λ a. storage_of_array a ≡ storage) }
         ensures options { IfOk result
@@ -125,6 +132,9 @@ impl ArrayBuilder {
     ) -> Result<Array<TStorage>, ArrayCreateError>
         ensures metadata { IfOk result
             (λ a. built_metadata (builder_view self.now) ≡ Ok (metadata_of_array a)) }
+        // Its grid, its keys, its chain, its type and its fill value are the builder's own.
+        ensures parts { IfOk result
+            (λ a. built_at path.now (builder_view self.now) ≡ Ok (meaning_of_array a)) }
         ensures path { IfOk result (λ a. path_of_array a ≡ path.now) }
         ensures storage { IfOk result (λ a. storage_of_array a ≡ storage) }
         ensures options { IfOk result
@@ -165,8 +175,10 @@ impl ArrayBuilder {
     ) -> Result<ArrayMetadataV3, ArrayCreateError>
         ensures made { IfOk result (λ m. document_of_fields (builder_view self.now)
             (found_fields fields.now) ≡ Ok (document_view m)) }
-        ensures refused { IfErr result (λ e. RefusesCreation (document_of_fields
-            (builder_view self.now) (found_fields fields.now)) (create_refusal_of e)) }
+        ensures says { IfOk result (λ m. SaysChosen (builder_view self.now)
+            (found_fields fields.now) (document_view m)) }
+        ensures refused { IfErr result (λ e. RefusesCreation (chosen (builder_view self.now)
+            (found_fields fields.now)) (create_refusal_of e)) }
     {
         let chosen = self.chosen(alloc, fields)?;
         let metadata = self.document(alloc, fields, chosen)?;
@@ -177,6 +189,11 @@ impl ArrayBuilder {
     fn chosen(&self, alloc: Global, fields: &Fields<'_>) -> Result<Chosen, ArrayCreateError>
         ensures made { IfOk result (λ c. chosen (builder_view self.now)
             (found_fields fields.now) ≡ Ok (chosen_view c)) }
+        ensures over { IfOk result (λ c. array_extents_of c.grid ≡ (found_fields fields.now).shape) }
+        ensures named { OnOk result (names_said (length (found_fields fields.now).shape)
+            (found_fields fields.now).dimension_names ≡ Ok tt) }
+        ensures read { IfOk result
+            (λ c. fill_said (kind c.data_type) (fill_data c.stated) ≡ Some c.fill_value) }
         ensures refused { IfErr result (λ e. RefusesCreation (chosen (builder_view self.now)
             (found_fields fields.now)) (create_refusal_of e)) }
     {
@@ -185,12 +202,13 @@ impl ArrayBuilder {
         let grid = grid_over(alloc, fields.chunk_grid, fields.shape)?;
         let fill_value = fields.fill_value.to_fill_value(alloc, &data_type)?;
         check_names(fields.shape.len(), fields.dimension_names)?;
-        let stated = stated_fill(alloc, &data_type, fill_value)?;
+        let stated = stated_fill(alloc, &data_type, &fill_value)?;
         Ok(Chosen {
             data_type,
             chain,
             grid,
-            fill_value: stated,
+            fill_value,
+            stated,
         })
     }
 
@@ -225,8 +243,15 @@ impl ArrayBuilder {
         fields: &Fields<'_>,
         chosen: Chosen,
     ) -> Result<ArrayMetadataV3, AllocError>
-        ensures { IfOk result (λ m. document_view m ≡ document_with (builder_view self.now)
+        requires over { array_extents_of chosen.grid ≡ (found_fields fields.now).shape }
+        requires named { names_said (length (found_fields fields.now).shape)
+            (found_fields fields.now).dimension_names ≡ Ok tt }
+        requires read { fill_said (kind chosen.data_type) (fill_data chosen.stated)
+            ≡ Some chosen.fill_value }
+        ensures written { IfOk result (λ m. document_view m ≡ document_with (builder_view self.now)
             (found_fields fields.now) (chosen_view chosen)) }
+        ensures says { IfOk result (λ m. creation_v3 (document_view m) ≡ parts_of_fields
+            (builder_view self.now) (found_fields fields.now) (chosen_view chosen)) }
     {
         let shape = Vec::from_slice(alloc, fields.shape)?;
         let data_type = chosen.data_type.metadata(alloc)?;
@@ -241,7 +266,7 @@ impl ArrayBuilder {
             data_type,
             chunk_grid,
             chunk_key_encoding,
-            fill_value: chosen.fill_value,
+            fill_value: chosen.stated,
             codecs,
             attributes,
             storage_transformers: Vec::new(alloc),
@@ -357,6 +382,7 @@ fn grid_over(
 ) -> Result<ChunkGrid, ArrayCreateError>
     ensures made { IfOk result
         (λ g. grid_chosen (grid_given given.now) shape.now ≡ Some (configuration_of g)) }
+    ensures over { IfOk result (λ g. array_extents_of g ≡ shape.now) }
     ensures refused { IfErr result (λ e. RefusesCreation (said_or refusal.chunk_grid
         (grid_chosen (grid_given given.now) shape.now)) (create_refusal_of e)) }
 {
@@ -389,25 +415,39 @@ fn check_names(dimensions: usize, names: Option<&[DimensionName]>) -> Result<(),
 fn stated_fill(
     alloc: Global,
     data_type: &DataType,
-    fill_value: FillValue,
+    fill_value: &FillValue,
 ) -> Result<FillValueMetadata, ArrayCreateError>
     ensures made { IfOk result
-        (λ m. fill_stated (kind data_type.now) fill_value ≡ Ok (fill_data m)) }
+        (λ m. fill_stated (kind data_type.now) fill_value.now ≡ Ok (fill_data m)) }
+    ensures read { IfOk result
+        (λ m. fill_said (kind data_type.now) (fill_data m) ≡ Some fill_value.now) }
     ensures refused { IfErr result (λ e. RefusesCreation
-        (fill_stated (kind data_type.now) fill_value) (create_refusal_of e)) }
+        (fill_stated (kind data_type.now) fill_value.now) (create_refusal_of e)) }
 {
     if !fill_value.is_value_of(data_type) {
-        return match data_type.name_v3(alloc) {
-            Ok(data_type_name) => Err(ArrayCreateError::InvalidFillValue {
-                data_type_name,
-                fill_value,
-            }),
-            Err(_) => Err(ArrayCreateError::OutOfMemory),
-        };
+        return Err(invalid_fill(alloc, data_type, fill_value));
     }
-    match data_type.metadata_fill_value(alloc, &fill_value) {
+    written_fill_value_is_read(data_type, fill_value);
+    match data_type.metadata_fill_value(alloc, fill_value) {
         Ok(metadata) => Ok(metadata),
         Err(DataTypeFillValueError::OutOfMemory) => Err(ArrayCreateError::OutOfMemory),
         Err(DataTypeFillValueError::Invalid) => unreachable!(),
+    }
+}
+
+/// Makes the refusal of these bytes as a fill value of the data type.
+fn invalid_fill(alloc: Global, data_type: &DataType, fill_value: &FillValue) -> ArrayCreateError
+    ensures { RefusesCreation (said_or {A = Unit {0}} (refusal.fill_value
+        (kind_name (kind data_type.now)) fill_value.now) None) (create_refusal_of result) }
+{
+    let Ok(data_type_name) = data_type.name_v3(alloc) else {
+        return ArrayCreateError::OutOfMemory;
+    };
+    let Ok(fill_value) = fill_value.try_clone(alloc) else {
+        return ArrayCreateError::OutOfMemory;
+    };
+    ArrayCreateError::InvalidFillValue {
+        data_type_name,
+        fill_value,
     }
 }

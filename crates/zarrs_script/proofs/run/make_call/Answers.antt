@@ -22,7 +22,7 @@ unreachable-requires g c =
     let old = c.args.array.now in
     let replies = c.in_ok-replies.replies.items in
     some_reply (layout_of_array old.array) (stores_empty_chunks c.default-options.result) c.args.call replies (state_of_array open_state old.array) (state_of_array open_state c.replay.new.self)
-    (omega (arith, c.in_default.ensures.cases.0)) c.in_ok-replies.ensures.run
+    (omega (arith, c.in_default.ensures.cases.0)) (c.in_ok-replies.ensures.run c.default-options.ensures.1)
 
 pub put_reply-requires : goal.put_reply-requires
 put_reply-requires g c =
@@ -33,7 +33,7 @@ put_reply-requires g c =
     let typed = (kind_eq-Decides (layout_of_array old.array).kind (kind_of_cells old.cell_type)).0 old.typed in
     reply_said old.cell_type (layout_of_array old.array) keep c.args.call c.in-Some.reply before after typed
     (one_reply (layout_of_array old.array) keep c.args.call c.pop.new.self.items c.in-Some.reply before after
-    (subst (λ (replies : List Reply). Run (layout_of_array old.array) keep (c.args.call ∷ []) replies before after) c.in-Some.ensures.items c.in_ok-replies.ensures.run))
+    (subst (λ (replies : List Reply). Run (layout_of_array old.array) keep (c.args.call ∷ []) replies before after) c.in-Some.ensures.items (c.in_ok-replies.ensures.run c.default-options.ensures.1)))
 
 pub returns : goal.returns
 returns g c =
@@ -46,7 +46,7 @@ returns g c =
     (call_served old.cell_type (layout_of_array old.array) (layout_of_array c.replay.new.self) (metadata_of_array old.array) (metadata_of_array c.replay.new.self) keep c.args.call c.in-Some.reply before after _
     c.default-options.ensures.0 c.replay.ensures.layout kept.metadata c.in_ok-refused.ensures.refused
     (one_reply (layout_of_array old.array) keep c.args.call c.pop.new.self.items c.in-Some.reply before after
-    (subst (λ (replies : List Reply). Run (layout_of_array old.array) keep (c.args.call ∷ []) replies before after) c.in-Some.ensures.items c.in_ok-replies.ensures.run)))
+    (subst (λ (replies : List Reply). Run (layout_of_array old.array) keep (c.args.call ∷ []) replies before after) c.in-Some.ensures.items (c.in_ok-replies.ensures.run c.default-options.ensures.1))))
     c.in_ok-refused.ensures.text
 
 pub invariant_of-array-clause-typed : goal.invariant_of-array-clause-typed
