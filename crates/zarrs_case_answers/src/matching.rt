@@ -24,7 +24,11 @@ fn cells_fit(pieces: &[String], found: &str) -> bool {
         return false;
     };
     for piece in others {
-        let Some(next) = after_cell(rest).strip_prefix(piece.as_str()) else {
+        let behind = after_cell(rest);
+        if behind.len() == rest.len() {
+            return false;
+        }
+        let Some(next) = behind.strip_prefix(piece.as_str()) else {
             return false;
         };
         rest = next;

@@ -5,7 +5,7 @@ use crate::options::{is_typed, refused_option};
 use crate::targets::{Held, Source, read_into_place};
 use crate::typed::by_values;
 use crate::writes::store_region;
-use crate::{CaseArray, queries, reads, replay, writes};
+use crate::{CaseArray, encoders, queries, reads, replay, writes};
 use std::alloc::Global;
 use zarrs::ArraySubset;
 use zarrs_case_answers::Answer;
@@ -62,6 +62,12 @@ fn by_bytes<'a>(
         Call::OfChunk(ChunkCall::CompactChunk, indices) => {
             writes::compact_chunk(alloc, array, options, indices, case.written)
         }
+        Call::OfChunk(ChunkCall::PartialErase, indices) => {
+            Ok(encoders::partial_erase(alloc, array, indices)?)
+        }
+        Call::OfChunk(ChunkCall::SupportsPartialEncode, indices) => {
+            Ok(encoders::supports_partial_encode(alloc, array, indices)?)
+        }
         Call::OfChunk(call, indices) => of_chunk(alloc, array, *call, indices, case.written),
         Call::OfPart(call, indices, part) => of_part(alloc, array, *call, indices, part),
         Call::OfRegion(call, region) => of_region(alloc, array, *call, region, case.written),
@@ -70,6 +76,9 @@ fn by_bytes<'a>(
         }
         Call::StorePart(indices, part, word) => {
             writes::store_chunk_subset(alloc, array, options, indices, part, word)
+        }
+        Call::EncodePart(indices, part, word) => {
+            encoders::partial_encode(alloc, array, options, indices, part, word)
         }
         Call::StoreRegion(write, region, word) => {
             store_region(alloc, array, options, *write, region, word)
@@ -120,7 +129,9 @@ fn of_chunk<'a>(
         ChunkCall::ChunkShape => Ok(queries::chunk_shape(alloc, array, indices)?),
         ChunkCall::ChunkSubset => Ok(queries::chunk_subset(alloc, array, indices)?),
         ChunkCall::ChunkSubsetBounded => Ok(queries::chunk_subset_bounded(alloc, array, indices)?),
-        ChunkCall::CompactChunk => Err(Why::Call(written)),
+        ChunkCall::CompactChunk | ChunkCall::PartialErase | ChunkCall::SupportsPartialEncode => Err(
+            Why::Call(written),
+        ),
     }
 }
 

@@ -4,6 +4,7 @@
 mod calls;
 mod comparison;
 mod encoded;
+mod encoders;
 mod options;
 mod queries;
 mod reads;

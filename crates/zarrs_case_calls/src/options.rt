@@ -32,6 +32,8 @@ fn is_read(call: &Call<'_>) -> bool {
         },
         Call::OfChunk(ChunkCall::EraseChunk, _)
         | Call::OfChunk(ChunkCall::CompactChunk, _)
+        | Call::OfChunk(ChunkCall::PartialErase, _)
+        | Call::OfChunk(ChunkCall::SupportsPartialEncode, _)
         | Call::OfRegion(RegionCall::EraseChunks, _) => false,
         Call::OfChunk(_, _)
         | Call::OfPart(_, _, _)

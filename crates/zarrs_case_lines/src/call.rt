@@ -143,6 +143,8 @@ pub struct Options<'a> {
     pub through: Through,
     /// `[keep-empty]`: chunks of fill value alone are stored.
     pub keep_empty: bool,
+    /// `[partial]`: the parts of chunks are written by themselves, if the store and the codecs can.
+    pub partial: bool,
     /// `[v3]`
     pub v3: bool,
     /// `[v2]`
@@ -165,6 +167,7 @@ impl Options<'_> {
         replay: false,
         through: Through::Own,
         keep_empty: false,
+        partial: false,
         v3: false,
         v2: false,
         all: false,
@@ -174,7 +177,9 @@ impl Options<'_> {
     };
 
     pub fn of_codecs(&self) -> CodecOptions {
-        CodecOptions::default().with_store_empty_chunks(self.keep_empty)
+        CodecOptions::default()
+            .with_store_empty_chunks(self.keep_empty)
+            .with_experimental_partial_encoding(self.partial)
     }
 
     pub fn of_metadata(&self) -> ArrayMetadataOptions {
@@ -235,6 +240,8 @@ pub enum Call<'a> {
     OfRegion(RegionCall, ArraySubset),
     StoreChunk(Vec<u64>, &'a str),
     StorePart(Vec<u64>, ArraySubset, &'a str),
+    /// Stores a part of a chunk by the chunk's encoder.
+    EncodePart(Vec<u64>, ArraySubset, &'a str),
     StoreRegion(RegionWrite, ArraySubset, &'a str),
     ReadInto(ArraySubset, Place),
     /// Puts a part of a chunk into a place, by the chunk's decoder.
@@ -285,6 +292,9 @@ pub enum ChunkCall {
     RetrieveChunkIfExists,
     RetrieveEncodedChunk,
     Exists,
+    /// The erasure by the chunk's encoder.
+    PartialErase,
+    SupportsPartialEncode,
     ChunkKey,
     ChunkOrigin,
     ChunkShape,

@@ -11,6 +11,7 @@ pub(crate) fn call_of<'a>(alloc: Global, words: &[&'a str]) -> Result<Call<'a>, 
         [name, word] => call_of_one(alloc, name, word),
         [name, first, second] => call_of_two(alloc, name, first, second),
         ["store_chunk_subset", indices, part, data] => store_part(alloc, indices, part, data),
+        ["partial_encode", indices, part, data] => encode_part(alloc, indices, part, data),
         ["build", path, design @ ..] => build(alloc, path, design),
         ["build_metadata", _path, design @ ..] => {
             design_of(alloc, "build_metadata", design).map(Call::BuildMetadata)
@@ -101,6 +102,16 @@ fn store_part<'a>(
     Ok(Call::StorePart(indices, region(alloc, part)?, data))
 }
 
+fn encode_part<'a>(
+    alloc: Global,
+    indices: &'a str,
+    part: &'a str,
+    data: &'a str,
+) -> Result<Call<'a>, Why<'a>> {
+    let indices = numbers(alloc, indices)?;
+    Ok(Call::EncodePart(indices, region(alloc, part)?, data))
+}
+
 fn store_encoded<'a>(
     alloc: Global,
     indices: &'a str,
@@ -161,6 +172,8 @@ fn chunk_call(name: &str) -> Option<ChunkCall> {
         "retrieve_chunk_if_exists" => Some(ChunkCall::RetrieveChunkIfExists),
         "retrieve_encoded_chunk" => Some(ChunkCall::RetrieveEncodedChunk),
         "exists" => Some(ChunkCall::Exists),
+        "partial_erase" => Some(ChunkCall::PartialErase),
+        "supports_partial_encode" => Some(ChunkCall::SupportsPartialEncode),
         "chunk_key" => Some(ChunkCall::ChunkKey),
         "chunk_origin" => Some(ChunkCall::ChunkOrigin),
         "chunk_shape" => Some(ChunkCall::ChunkShape),

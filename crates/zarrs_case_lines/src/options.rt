@@ -34,6 +34,7 @@ fn turn_on(options: &mut Options<'_>, name: &str) -> bool {
         "read-only" => options.through = Through::ReadOnly,
         "lent" => options.through = Through::Lent,
         "keep-empty" => options.keep_empty = true,
+        "partial" => options.partial = true,
         "v3" => options.v3 = true,
         "v2" => options.v2 = true,
         "all" => options.all = true,
@@ -49,16 +50,23 @@ pub(crate) fn are_taken(options: &Options<'_>, name: &str) -> bool {
     match name {
         "build" | "build_metadata" | "builder" if options.subchunks.is_some() => true,
         _ if options.subchunks.is_some() => false,
-        "store_chunk" | "store_chunks" | "store_chunk_subset" | "store_array_subset" | "resize" => {
-            !has_metadata_options(options)
-        }
+        "store_chunk"
+        | "store_chunks"
+        | "store_chunk_subset"
+        | "store_array_subset"
+        | "partial_encode"
+        | "resize" => !has_metadata_options(options),
         "open"
         | "metadata_opt"
         | "store_metadata_opt"
         | "erase_metadata"
-        | "set_metadata_options" => !options.keep_empty,
-        _ => !options.keep_empty && !has_metadata_options(options),
+        | "set_metadata_options" => !has_codec_options(options),
+        _ => !has_codec_options(options) && !has_metadata_options(options),
     }
+}
+
+fn has_codec_options(options: &Options<'_>) -> bool {
+    options.keep_empty || options.partial
 }
 
 fn has_metadata_options(options: &Options<'_>) -> bool {
