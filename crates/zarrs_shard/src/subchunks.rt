@@ -63,6 +63,13 @@ impl Subchunks {
         element_count(&self.grid)
     }
 
+    /// How many subchunks lie along each dimension.
+    pub fn grid(&self) -> &[u64]
+        ensures { result.now ≡ quotients (chunk_shape self.now) (subchunk_shape self.now) }
+    {
+        self.grid.as_slice()
+    }
+
     /// The number of subchunks, if the length of their index fits `u64`.
     pub fn indexed_count(&self) -> Option<u64>
         ensures none { MatchOption result
