@@ -1,4 +1,4 @@
-use Rattle.std.proofs.Common.{◌≡◌, ◌-◌, length, map, take}
+use Rattle.std.proofs.Common.{◌-◌, length, map, take}
 use Rattle.zarrs_cells.specs.ArrayData.{data_of}
 use Rattle.zarrs_shard.specs.ShardIndex.{range_part}
 use Rattle.zarrs_source.specs.Sources.{window_bytes}
@@ -6,17 +6,17 @@ use Rattle.zarrs_subset.specs.Regions.{box_of, positions}
 use Rattle.zarrs_subset.specs.Walks.{walk_box, walk_number}
 use Rattle.zarrs_types.specs.Cell.{fill_of}
 use Rattle.zarrs_types.specs.Kind.{kind}
-use Rattle.zarrs_parts.specs.ShardParts.{HasSubchunkParts}
+use Rattle.zarrs_parts.specs.ShardParts.{HasSubchunkParts, MeetsPart}
 use Rattle.zarrs_parts.proofs.shard_parts.read_subchunks.Given as goal
 
--- the data has the cells of the subchunks before the one that the walk is at
+-- the walk goes over the subchunks that the part meets, and the data has the cells of those before the one that it is at
 abbrev pub invariant-loop-walk : goal.invariant-loop-walk
 invariant-loop-walk g l = record {
-  same_box : walk_box l.walk ≡ box_of l.met;
+  meets : MeetsPart l.sub (box_of l.part) (walk_box l.walk);
   read :
       HasSubchunkParts (kind l.data_type) (g.D.ChunkDecoder.decoded l.inner (kind l.data_type) (fill_of (kind l.data_type) l.fill_value) l.sub) (fill_of (kind l.data_type) l.fill_value) l.shape l.sub (box_of l.part)
-      (map (range_part (window_bytes l.window (g.B.ByteSource.bytes l.source))) l.index.ranges.items) (take (walk_number l.walk) (positions (box_of l.met))) (data_of l.made);
+      (map (range_part (window_bytes l.window (g.B.ByteSource.bytes l.source))) l.index.ranges.items) (take (walk_number l.walk) (positions (walk_box l.walk))) (data_of l.made);
 }
 
 abbrev pub decreases-loop-walk : goal.decreases-loop-walk
-decreases-loop-walk g l = length (positions (box_of l.met)) - walk_number l.walk
+decreases-loop-walk g l = length (positions (walk_box l.walk)) - walk_number l.walk

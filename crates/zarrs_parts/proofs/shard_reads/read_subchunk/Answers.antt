@@ -1,24 +1,24 @@
-use Rattle.std.proofs.Common.{◌≡◌, ◌∙◌, ◌+◌, ◌-◌, ◌*◌, ◌<◌, ◌≤◌, ◌^◌, ap, sym, subst, arith, rules, length, map, List, ℕ, None, Some}
+use Rattle.std.proofs.Common.{◌≡◌, ◌∙◌, ◌+◌, ◌-◌, ◌*◌, ◌<◌, ◌≤◌, ◌^◌, ◌&&◌, ap, sym, subst, arith, refl, length, map, List, ℕ, None, Some}
+use Rattle.std.proofs.lemmas.List.{get_or-map, get_or_read, length-map}
 use Rattle.std.specs.Prelude.{slice_index, slice_index_or}
 use Rattle.std.proofs.Math.Nat.{mul-le-mul_right}
 use Rattle.std.proofs.lemmas.Bool.{false≢true}
 use Rattle.zarrs_cells.specs.ArrayData.{data_of}
-use Rattle.zarrs_shard.specs.ShardIndex.{range_part}
+use Rattle.zarrs_shard.specs.ShardIndex.{range_part, IsRangeWithin}
 use Rattle.zarrs_shard.specs.SubchunkData.{chunk_shape, subchunk_shape}
 use Rattle.zarrs_shard.specs.Subchunks.{corner, quotients, subchunk_count}
 use Rattle.zarrs_shard.proofs.Sizes.{part_size}
 use Rattle.zarrs_source.specs.Sources.{IsWindow, MayRead, window_bytes}
 use Rattle.zarrs_source.specs.declared.source.Window.{Window}
 use Rattle.zarrs_subset.specs.Boxes.{position_count}
-use Rattle.zarrs_subset.specs.Regions.{Box, LiesInShape, box_of, seen_from}
+use Rattle.zarrs_subset.specs.Regions.{Box, LiesInShape, box_of, in_box}
 use Rattle.zarrs_types.specs.Cell.{fill_of, held_size}
 use Rattle.zarrs_types.specs.Kind.{cell_size, kind}
+use Rattle.zarrs_parts.specs.Parts.{DecodesPart}
 use Rattle.zarrs_parts.specs.ShardParts.{RefusesStep}
-use Rattle.zarrs_parts.specs.declared.error.PartError.TheVariants as part_error
 use Rattle.zarrs_parts.proofs.BytesParts.{window_len}
 use Rattle.zarrs_parts.proofs.Kept.{err_kept}
-use Rattle.zarrs_parts.proofs.ReadSteps.{IsFound, IsMet, found, index_fits, met, own_of, skip_absent, skip_empty, skip_unfound, window_of}
-use Rattle.zarrs_parts.proofs.SubchunkPieces.{IsOwnWindow}
+use Rattle.zarrs_parts.proofs.ReadSteps.{box_is, found, index_fits, met, own_of, skip_absent, skip_empty, skip_unfound, window_of}
 use Rattle.zarrs_parts.proofs.SubchunkSteps.{inner_refused, put_more}
 use Rattle.zarrs_parts.proofs.shard_reads.read_subchunk.Goals as goal
 
@@ -96,7 +96,10 @@ returns-in_default-index-clause-read g c =
     let shard = c.requires.shard in
     let n = c.in-Some.number in
     let here = found index c.args.at_start s sub whole c.grid.result.now i n shard c.grid.ensures c.in-Some.ensures.0 c.in-Some.ensures.1 in
-    let absent : slice_index_or parts n None ≡ None = ? in
+    let lt : n < length index.ranges.items = omega (arith, here.below, here.counted) in
+    let absent : slice_index_or parts n None ≡ None =
+    get_or-map (range_part whole) index.ranges.items n None None lt
+    ∙ ap (range_part whole) (sym (get_or_read index.ranges.items n c.index.result.now lt c.index.ensures None) ∙ c.in_default-index.is) in
     skip_absent k dec f s sub part parts i _ shard.cut c.args.part.now.same_length c.requires.part n here.at_n absent
 
 pub returns-then-is_empty-clause-read : goal.returns-then-is_empty-clause-read
@@ -117,7 +120,9 @@ returns-then-is_empty-clause-read g c =
     let here = found index c.args.at_start s sub whole c.grid.result.now i n shard c.grid.ensures c.in-Some.ensures.0 c.in-Some.ensures.1 in
     let shared = box_of c.in_ok-shared.shared in
     let none = c.is_empty.ensures.0 c.if-is_empty.true in
-    skip_empty k dec f s sub part parts i _ shard.cut c.args.part.now.same_length c.requires.part n shared none.0 here.in_grid here.at_n c.in_ok-shared.shared.same_length none.1 none.2 ?
+    skip_empty k dec f s sub part parts i _ shard.cut c.args.part.now.same_length c.requires.part n shared none.0 here.in_grid here.at_n c.in_ok-shared.shared.same_length none.1 none.2
+    (subst (λ (b : Box). (p : List ℕ) → in_box shared p ≡ (in_box part p && in_box b p)) (box_is index c.args.at_start s sub whole n (box_of c.in_ok-subset.subset) shard c.in_ok-subset.ensures)
+    c.in_ok-shared.ensures.common)
 
 pub seen_from_corner-requires-clause-dimensions : goal.seen_from_corner-requires-clause-dimensions
 seen_from_corner-requires-clause-dimensions g c =
@@ -179,7 +184,11 @@ overflow_add-own_window g c =
     let shard = c.requires.shard in
     let n = c.in-Some.number in
     let here = found index c.args.at_start s sub whole c.grid.result.now i n shard c.grid.ensures c.in-Some.ensures.0 c.in-Some.ensures.1 in
-    ?
+    let range = c.in-Some-index.range in
+    let lt : n < length index.ranges.items = omega (arith, here.below, here.counted) in
+    let ranged : slice_index_or index.ranges.items n None ≡ Some range = sym (get_or_read index.ranges.items n c.index.result.now lt c.index.ensures None) ∙ c.in-Some-index.is in
+    let fits = subst (IsRangeWithin (length whole)) ranged (shard.within n None lt) in
+    omega (arith, fits.0, fits.1, window_len c.args.window source c.requires.window, c.requires.window)
 
 pub overflow_sub-own_window : goal.overflow_sub-own_window
 overflow_sub-own_window g c =
@@ -197,7 +206,11 @@ overflow_sub-own_window g c =
     let shard = c.requires.shard in
     let n = c.in-Some.number in
     let here = found index c.args.at_start s sub whole c.grid.result.now i n shard c.grid.ensures c.in-Some.ensures.0 c.in-Some.ensures.1 in
-    ?
+    let range = c.in-Some-index.range in
+    let lt : n < length index.ranges.items = omega (arith, here.below, here.counted) in
+    let ranged : slice_index_or index.ranges.items n None ≡ Some range = sym (get_or_read index.ranges.items n c.index.result.now lt c.index.ensures None) ∙ c.in-Some-index.is in
+    let fits = subst (IsRangeWithin (length whole)) ranged (shard.within n None lt) in
+    fits.0
 
 pub partial_decode-requires-clause-size : goal.partial_decode-requires-clause-size
 partial_decode-requires-clause-size g c =
@@ -289,7 +302,8 @@ partial_decode-requires-clause-window g c =
     (λ j below none. false≢true (sym c.if-is_empty.false ∙ c.is_empty.ensures.1 (j, below, none))) in
     let range = c.in-Some-index.range in
     let own_window : Window = record { offset = c.args.window.offset + range.start; len = range.end - range.start } in
-    let ranged : slice_index_or index.ranges.items n None ≡ Some range = search rules in
+    let lt : n < length index.ranges.items = omega (arith, here.below, here.counted) in
+    let ranged : slice_index_or index.ranges.items n None ≡ Some range = sym (get_or_read index.ranges.items n c.index.result.now lt c.index.ensures None) ∙ c.in-Some-index.is in
     let at = window_of (g.B.ByteSource.may_read c.args.source.now) c.args.window own_window source index c.args.at_start k s sub i part n range subset shared shard here there c.requires.window (omega arith) ranged refl refl c.requires.may_read in
     at.inside
 
@@ -317,9 +331,10 @@ partial_decode-requires-clause-may_read g c =
     let own_is = own_of s sub i part subset shared own c.start.result.now there.piece c.start.ensures c.in_ok-own.ensures in
     let range = c.in-Some-index.range in
     let own_window : Window = record { offset = c.args.window.offset + range.start; len = range.end - range.start } in
-    let ranged : slice_index_or index.ranges.items n None ≡ Some range = search rules in
+    let lt : n < length index.ranges.items = omega (arith, here.below, here.counted) in
+    let ranged : slice_index_or index.ranges.items n None ≡ Some range = sym (get_or_read index.ranges.items n c.index.result.now lt c.index.ensures None) ∙ c.in-Some-index.is in
     let at = window_of (g.B.ByteSource.may_read c.args.source.now) c.args.window own_window source index c.args.at_start k s sub i part n range subset shared shard here there c.requires.window (omega arith) ranged refl refl c.requires.may_read in
-    at.allowed (g.D.ChunkDecoder.places c.args.inner.now k sub own (window_bytes own_window source)) ?
+    at.allowed (g.D.ChunkDecoder.places c.args.inner.now k sub own (window_bytes own_window source)) (g.met.D.ChunkDecoder.inside c.args.inner.now k sub own (window_bytes own_window source))
 
 pub update_array_bytes-requires-clause-dimensions : goal.update_array_bytes-requires-clause-dimensions
 update_array_bytes-requires-clause-dimensions g c =
@@ -341,7 +356,7 @@ update_array_bytes-requires-clause-dimensions g c =
     let subset = box_of c.in_ok-subset.subset in
     let there = met index c.args.at_start s sub whole i part n subset shared shard here c.args.part.now.same_length c.requires.part c.in_ok-subset.ensures c.in_ok-shared.ensures.value
     (λ j below none. false≢true (sym c.if-is_empty.false ∙ c.is_empty.ensures.1 (j, below, none))) in
-    ?
+    sym there.piece.dimensions ∙ ap length there.piece.corner_is ∙ there.piece.corner_len
 
 pub returns-in_err-cells-clause-refused : goal.returns-in_err-cells-clause-refused
 returns-in_err-cells-clause-refused g c =
@@ -365,9 +380,16 @@ returns-in_err-cells-clause-refused g c =
     (λ j below none. false≢true (sym c.if-is_empty.false ∙ c.is_empty.ensures.1 (j, below, none))) in
     let range = c.in-Some-index.range in
     let own_window : Window = record { offset = c.args.window.offset + range.start; len = range.end - range.start } in
-    let ranged : slice_index_or index.ranges.items n None ≡ Some range = search rules in
+    let lt : n < length index.ranges.items = omega (arith, here.below, here.counted) in
+    let ranged : slice_index_or index.ranges.items n None ≡ Some range = sym (get_or_read index.ranges.items n c.index.result.now lt c.index.ensures None) ∙ c.in-Some-index.is in
     let at = window_of (g.B.ByteSource.may_read c.args.source.now) c.args.window own_window source index c.args.at_start k s sub i part n range subset shared shard here there c.requires.window (omega arith) ranged refl refl c.requires.may_read in
-    ?
+    let lt : n < length parts = omega (arith, here.below, here.counted, length-map index.ranges.items (range_part whole)) in
+    let count : length parts ≡ subchunk_count s sub = length-map index.ranges.items (range_part whole) ∙ here.counted in
+    let left = g.D.ChunkDecoder.leaves_out c.args.inner.now sub in
+    let size = held_size k f in
+    let refuses = g.B.ByteSource.refuses c.args.source.now in
+    err_kept c.from_residual-in_err-cells.result c.in_err-cells.field-0.0 (RefusesStep dec left (position_count s * size) parts refuses) c.from_residual-in_err-cells.ensures.1
+    (inner_refused dec left s sub size parts n (window_bytes own_window source) refuses c.in_err-cells.field-0.0 shard.cut count lt at.bytes_are c.in_err-cells.ensures.refused)
 
 pub returns-clause-read : goal.returns-clause-read
 returns-clause-read g c =
@@ -393,6 +415,11 @@ returns-clause-read g c =
     let own_is = own_of s sub i part subset shared own c.start.result.now there.piece c.start.ensures c.in_ok-own.ensures in
     let range = c.in-Some-index.range in
     let own_window : Window = record { offset = c.args.window.offset + range.start; len = range.end - range.start } in
-    let ranged : slice_index_or index.ranges.items n None ≡ Some range = search rules in
+    let lt : n < length index.ranges.items = omega (arith, here.below, here.counted) in
+    let ranged : slice_index_or index.ranges.items n None ≡ Some range = sym (get_or_read index.ranges.items n c.index.result.now lt c.index.ensures None) ∙ c.in-Some-index.is in
     let at = window_of (g.B.ByteSource.may_read c.args.source.now) c.args.window own_window source index c.args.at_start k s sub i part n range subset shared shard here there c.requires.window (omega arith) ranged refl refl c.requires.may_read in
-    ?
+    put_more k dec f s sub part parts i n (window_bytes own_window source) shared (data_of c.in_ok-cells.cells) _ _ shard.cut c.args.part.now.same_length c.requires.part c.in_ok-shared.shared.same_length
+    here.in_grid here.at_n at.bytes_are
+    (subst (λ (b : Box). (p : List ℕ) → in_box shared p ≡ (in_box part p && in_box b p)) there.box_of_number c.in_ok-shared.ensures.common)
+    there.piece.corner_len there.piece.above
+    (subst (λ (b : Box). DecodesPart k sub b (dec (window_bytes own_window source)) (data_of c.in_ok-cells.cells)) own_is c.in_ok-cells.ensures.cells) c.in_ok-made.ensures
