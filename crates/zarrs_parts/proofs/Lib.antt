@@ -1,7 +1,9 @@
 pub mod BytesParts
+pub mod IntoSteps
 pub mod Kept
 pub mod PartBoxes
 pub mod ReadSteps
+pub mod Stays
 pub mod SubchunkPieces
 pub mod SubchunkSteps
 pub mod SubchunkWalks

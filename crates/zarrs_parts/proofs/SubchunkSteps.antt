@@ -88,7 +88,7 @@ own_holds s sub i p cut inside is =
     let here : Holds (box_from (corner sub (quotients p sub)) sub) (offset_by (corner sub (quotients p sub)) (remainders p sub)) = holds_own s sub (quotients p sub) (remainders p sub) cut d.in_grid d.in_part in
     subst (λ j. Holds (box_from (corner sub j) sub) p) is (subst (λ x. Holds (box_from (corner sub (quotients p sub)) sub) x) d.again here)
 
-own_place : (s sub i p : List ℕ) → is_cut_by s sub ≡ true → InShape s p → quotients p sub ≡ i → offset_from (corner sub i) p ≡ remainders p sub
+pub own_place : (s sub i p : List ℕ) → is_cut_by s sub ≡ true → InShape s p → quotients p sub ≡ i → offset_from (corner sub i) p ≡ remainders p sub
 own_place s sub i p cut inside is =
     let d = position_divided s sub p cut inside in
     let q = quotients p sub in
@@ -98,7 +98,7 @@ own_place s sub i p cut inside is =
 
 -- ---- a box that is seen from a corner
 
-length-offset_from : (C p : List ℕ) → length C ≡ length p → length (offset_from C p) ≡ length p
+pub length-offset_from : (C p : List ℕ) → length C ≡ length p → length (offset_from C p) ≡ length p
 length-offset_from [] [] same = refl
 length-offset_from [] (i ∷ p) same = absurd (omega arith)
 length-offset_from (c ∷ C) [] same = absurd (omega arith)
@@ -262,7 +262,7 @@ shard_assembled m at_start k fill s sub encoded parts whole parts_are decoded =
     }
 
 -- the cells of one part
-part_at : (m : SubchunkMeaning) (fill : Cell) (sub : List ℕ) (parts : List (Option (List ℕ))) (subchunks : List (List Cell)) (j : ℕ) → all_present (map (cells_of_part m fill sub) parts) ≡ Some subchunks
+pub part_at : (m : SubchunkMeaning) (fill : Cell) (sub : List ℕ) (parts : List (Option (List ℕ))) (subchunks : List (List Cell)) (j : ℕ) → all_present (map (cells_of_part m fill sub) parts) ≡ Some subchunks
     → j < length parts → cells_of_part m fill sub (get_or parts j None) ≡ Some (get_or subchunks j [])
 part_at m fill sub parts subchunks j read lt =
     sym (get_or-map (cells_of_part m fill sub) parts j None None lt)
@@ -271,6 +271,29 @@ part_at m fill sub parts subchunks j read lt =
 module _ (k : Kind) (decoded : List ℕ → Option (List Cell)) (fill : Cell) (s sub : List ℕ) where
   module _ (m : SubchunkMeaning) (at_start : Bool) (encoded : List ℕ) (parts : List (Option (List ℕ))) (decodes_as : DecodesAs m decoded)
       (parts_are : shard_parts at_start (subchunk_count s sub) encoded ≡ Some parts) where
+    -- the cell of the parts at a position is the chunk's
+    pub cell_of_whole : (whole : List Cell) → sharded_decoded m at_start k fill s sub encoded ≡ Some whole → (p : List ℕ) → InShape s p → is_cut_by s sub ≡ true
+        → ((b : List ℕ) (cs : List Cell) → decoded b ≡ Some cs → length cs ≡ position_count sub)
+        → (cell : Option Cell) → IsPartCell decoded fill s sub parts p cell → cell ≡ slice_get whole (place s p)
+    cell_of_whole whole is p inside cut counted cell at =
+        let a = shard_assembled m at_start k fill s sub encoded parts whole parts_are is in
+        let d = position_divided s sub p cut inside in
+        let j = place (quotients s sub) (quotients p sub) in
+        let r = place sub (remainders p sub) in
+        let below : j < length parts = omega (arith, place_below (quotients s sub) (quotients p sub) d.in_grid, length-shard_parts at_start (subchunk_count s sub) encoded parts parts_are) in
+        let within = place_below sub (remainders p sub) d.in_part in
+        let F : List ℕ → Cell = λ x. get_or (get_or a.subchunks (place (quotients s sub) (quotients x sub)) []) (place sub (remainders x sub)) none in
+        cell_is (get_or parts j None) (get_or a.subchunks j []) r cell within (part_at m fill sub parts a.subchunks j a.read below) at
+        ∙ ap Some (sym (made_at F s p none inside))
+        ∙ sym (slice_get-get_or (assembled s sub a.subchunks) (place s p) none (omega (arith, place_below s p inside, length-assembled s sub a.subchunks)))
+        ∙ ap (λ l. slice_get l (place s p)) (sym a.whole_is)
+      where
+        cell_is : (o : Option (List ℕ)) (cs : List Cell) (r : ℕ) (cell : Option Cell) → r < position_count sub → cells_of_part m fill sub o ≡ Some cs → IsCellOf decoded fill r o cell → cell ≡ Some (get_or cs r none)
+        cell_is None cs r cell lt is read = read ∙ ap Some (sym (ap (λ l. get_or l r none) (some_is (sym is)) ∙ get_or-replicate (position_count sub) r fill none lt))
+        cell_is (Some b) cs r cell lt is read =
+            let decodes = sym (decodes_as b) ∙ is in
+            read cs decodes ∙ slice_get-get_or cs r none (omega (arith, counted b cs decodes))
+
     -- data with all parts has the cells of the chunk
     pub all_parts_decode : (part : Box) (held : ArrayData) → is_cut_by s sub ≡ true → IsLong part → LiesInShape part s
         → ((b : List ℕ) (cs : List Cell) → decoded b ≡ Some cs → length cs ≡ position_count sub)
@@ -280,26 +303,9 @@ module _ (k : Kind) (decoded : List ℕ → Option (List Cell)) (fill : Cell) (s
       are_cells = h.are_cells;
       count = h.count;
       same = λ whole is p holds.
-          let a = shard_assembled m at_start k fill s sub encoded parts whole parts_are is in
           let inside = within_shape part.start part.shape s p (part_fits part s long lies) holds in
-          let d = position_divided s sub p cut inside in
-          let j = place (quotients s sub) (quotients p sub) in
-          let r = place sub (remainders p sub) in
-          let below : j < length parts = omega (arith, place_below (quotients s sub) (quotients p sub) d.in_grid, length-shard_parts at_start (subchunk_count s sub) encoded parts parts_are) in
-          let within = place_below sub (remainders p sub) d.in_part in
-          let F : List ℕ → Cell = λ x. get_or (get_or a.subchunks (place (quotients s sub) (quotients x sub)) []) (place sub (remainders x sub)) none in
-          cell_is (get_or parts j None) (get_or a.subchunks j []) r (cell_in part h.given p) within (part_at m fill sub parts a.subchunks j a.read below) (h.each p holds)
-          ∙ ap Some (sym (made_at F s p none inside))
-          ∙ sym (slice_get-get_or (assembled s sub a.subchunks) (place s p) none (omega (arith, place_below s p inside, length-assembled s sub a.subchunks)))
-          ∙ ap (λ l. slice_get l (place s p)) (sym a.whole_is)
-          ∙ ap (slice_get whole) (sym (place_in_chunk s p inside));
+          cell_of_whole whole is p inside cut counted (cell_in part h.given p) (h.each p holds) ∙ ap (slice_get whole) (sym (place_in_chunk s p inside));
     }
-      where
-        cell_is : (o : Option (List ℕ)) (cs : List Cell) (r : ℕ) (cell : Option Cell) → r < position_count sub → cells_of_part m fill sub o ≡ Some cs → IsCellOf decoded fill r o cell → cell ≡ Some (get_or cs r none)
-        cell_is None cs r cell lt is read = read ∙ ap Some (sym (ap (λ l. get_or l r none) (some_is (sym is)) ∙ get_or-replicate (position_count sub) r fill none lt))
-        cell_is (Some b) cs r cell lt is read =
-            let decodes = sym (decodes_as b) ∙ is in
-            read cs decodes ∙ slice_get-get_or cs r none (omega (arith, counted b cs decodes))
 
     -- if one of them does not decode, the chunk does not
     pub broken_shard : IsBrokenShard decoded parts → sharded_decoded m at_start k fill s sub encoded ≡ None
