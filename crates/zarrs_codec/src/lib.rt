@@ -8,6 +8,7 @@ mod decode;
 mod encode;
 mod fits;
 mod metadata;
+mod partial_decode;
 mod partial_encode;
 mod sharding;
 mod sharding_builder;
