@@ -13,7 +13,7 @@ use Rattle.zarrs_subset.specs.Boxes.{position_count}
 use Rattle.zarrs_subset.specs.Regions.{Box}
 use Rattle.zarrs_types.specs.Cell.{Cell, held_size}
 use Rattle.zarrs_types.specs.Kind.{Kind}
-use Rattle.zarrs_parts.specs.Parts.{DecodesPart}
+use Rattle.zarrs_parts.specs.Parts.{DecodesInto, DecodesPart}
 use Rattle.zarrs_parts.specs.Places.{all_places}
 use Rattle.zarrs_parts.specs.Refusals.{RefusesIntoDecoding, RefusesPartDecoding}
 use Rattle.zarrs_parts.specs.declared.error.PartError.{PartError}
@@ -97,3 +97,14 @@ pub into_refused : (m : ChainMeaning) (k : Kind) (f : Cell) (s b : List ℕ) (e 
 into_refused m k f s b error.DoesNotFit small why = why
 into_refused m k f s b error.SizeOverflow small why = let large : 2 ^ 64 ≤ position_count s * held_size k f = why.1 in absurd (omega arith)
 into_refused m k f s b error.OutOfMemory small why = why
+
+-- the same, of a chunk that is decoded into a target
+pub alone_into : (codecs : List ArrayToArrayCodec) (m : ChainMeaning) (k : Kind) (f : Cell) (s b : List ℕ) (box other : Box) (held : ArrayData) → no_codec codecs ≡ true
+    → DecodesInto k box other (m.decoded k f s b) held → DecodesInto k box other ((behind codecs m).decoded k f s b) held
+alone_into [] m k f s b box other held alone h = subst (λ o. DecodesInto k box other o held) (sym (same_cells m k f s (Some b))) h
+alone_into (c ∷ codecs) m k f s b box other held alone h = absurd (false≢true alone)
+
+pub alone_into_refused : (codecs : List ArrayToArrayCodec) (m : ChainMeaning) (k : Kind) (f : Cell) (s b : List ℕ) (e : CodecError) → no_codec codecs ≡ true
+    → RefusesIntoDecoding (m.decoded k f s b) e → RefusesIntoDecoding ((behind codecs m).decoded k f s b) e
+alone_into_refused [] m k f s b e alone why = subst (λ o. RefusesIntoDecoding o e) (sym (same_cells m k f s (Some b))) why
+alone_into_refused (c ∷ codecs) m k f s b e alone why = absurd (false≢true alone)

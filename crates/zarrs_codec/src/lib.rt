@@ -5,6 +5,7 @@ mod chain;
 mod codec;
 mod compact;
 mod decode;
+mod decode_into;
 mod encode;
 mod fits;
 mod metadata;

@@ -1,5 +1,5 @@
-//! Parts of chunks, of ranges of their bytes, and chunks that are decoded into a box that a caller lends.
-ghost use Rattle.std.specs.Prelude.{◌≡◌, ◌*◌, ◌<◌, ◌^◌, Some, IfOk, IfErr, IsSome, OnOk, map, replicate, true};
+//! Parts of chunks, of ranges of their bytes.
+ghost use Rattle.std.specs.Prelude.{◌≡◌, ◌*◌, ◌<◌, ◌^◌, Some, IfOk, IfErr, IsSome, map, replicate};
 ghost use Rattle.zarrs_subset.specs.Boxes.{position_count};
 ghost use Rattle.zarrs_subset.specs.Regions.{LiesInShape, box_of};
 ghost use Rattle.zarrs_data_type.specs.Kind.{kind, cell_size};
@@ -8,12 +8,9 @@ ghost use Rattle.zarrs_data_type.specs.ArrayData.{data_of};
 ghost use Rattle.zarrs_data_type.specs.Cells.{cells, HasCells};
 ghost use Rattle.zarrs_shard.specs.ShardIndex.{range_part};
 ghost use Rattle.zarrs_source.specs.Sources.{IsWindow, MayRead, window_bytes};
-ghost use Rattle.zarrs_target.specs.States.{IsTarget, SameBox, StaysOutside, data_of_target};
-ghost use Rattle.zarrs_target.specs.States.{parent_box, target_box};
-ghost use Rattle.zarrs_target.specs.Targets.{takes_type};
-ghost use Rattle.zarrs_parts.specs.Parts.{DecodesInto, DecodesPart};
+ghost use Rattle.zarrs_parts.specs.Parts.{DecodesPart};
 ghost use Rattle.zarrs_parts.specs.Places.{all_places, shard_places};
-ghost use Rattle.zarrs_parts.specs.Refusals.{RefusesIntoDecoding, RefusesPartDecoding};
+ghost use Rattle.zarrs_parts.specs.Refusals.{RefusesPartDecoding};
 ghost use Rattle.zarrs_parts.specs.ShardParts.{DecodesAs, HasAllParts, IsShard, ReadsSubchunk};
 ghost use Rattle.zarrs_parts.specs.ShardParts.{RefusesStep};
 ghost use Rattle.zarrs_shard.specs.Sharded.{SubchunkMeaning, sharded_decoded, sharded_leaves_out};
@@ -27,11 +24,10 @@ use zarrs_codec_leaf::CodecError;
 use zarrs_data_type::{ArrayBytes, DataType, FillValue};
 use zarrs_parts::{
     PartError, ShardIndex, common_part, met_subchunks, open_shard, part_of_whole, partial_decode_bytes,
-    seen_from_corner, write_whole,
+    seen_from_corner,
 };
 use zarrs_source::{ByteSource, Window};
 use zarrs_subset::{ArraySubset, ravel_indices};
-use zarrs_target::ArrayBytesDecodeIntoTarget;
 
 impl CodecChain {
     /// The cells of a part of a chunk whose bytes are those of a window.
@@ -116,37 +112,6 @@ impl CodecChain {
         let whole = self.decode_chunk(alloc, encoded.as_slice(), data_type, fill_value, shape)?;
         let made = part_of_whole(alloc, &whole, data_type, shape, part)?;
         Ok(made)
-    }
-
-    /// Decodes a chunk, which has the shape of the target's box, into the box.
-    pub(crate) fn decode_chunk_into(
-        &self,
-        alloc: Global,
-        encoded: &[u8],
-        data_type: &DataType,
-        fill_value: &FillValue,
-        target: &mut ArrayBytesDecodeIntoTarget<'_, '_, '_>,
-    ) -> Result<(), CodecError>
-        requires filled { IsSome (fill_cell (kind data_type.now) fill_value.now) }
-        requires target { IsTarget target.old }
-        requires takes { takes_type target.old.cell_size target.old.depth (kind data_type.now)
-            ≡ true }
-        ensures target { IsTarget target.new }
-        ensures same_bytes { target.new.bytes.ghost_name ≡ target.old.bytes.ghost_name }
-        ensures same_masks { target.new.masks.ghost_name ≡ target.old.masks.ghost_name }
-        ensures same_box { SameBox target.old target.new }
-        ensures cells { OnOk result (DecodesInto (kind data_type.now) (parent_box target.old)
-            (target_box target.old) ((chain_meaning self.now).decoded (kind data_type.now)
-            (fill_of (kind data_type.now) fill_value.now) (target_box target.old).shape encoded.now)
-            (data_of_target target.new)) }
-        ensures outside { StaysOutside target.old target.new }
-        ensures refused { IfErr result (RefusesIntoDecoding ((chain_meaning self.now).decoded
-            (kind data_type.now) (fill_of (kind data_type.now) fill_value.now)
-            (target_box target.old).shape encoded.now)) }
-    {
-        let region = target.region;
-        let whole = self.decode_chunk(alloc, encoded, data_type, fill_value, region.shape())?;
-        Ok(write_whole(alloc, &whole, data_type, target)?)
     }
 }
 

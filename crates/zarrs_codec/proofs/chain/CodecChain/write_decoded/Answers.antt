@@ -19,7 +19,7 @@ use Rattle.zarrs_codec.specs.ChainLaws.{chain-lawful}
 use Rattle.zarrs_codec.specs.Chains.{chain_meaning}
 use Rattle.zarrs_codec.proofs.Behind.{decoded-has_cells}
 use Rattle.zarrs_codec.proofs.PartReads.{into_refused}
-use Rattle.zarrs_codec.proofs.chain.CodecChain.decode_chunk_into.Goals as goal
+use Rattle.zarrs_codec.proofs.chain.CodecChain.write_decoded.Goals as goal
 
 pub decode_chunk-requires-clause-size : goal.decode_chunk-requires-clause-size
 decode_chunk-requires-clause-size c =
