@@ -131,7 +131,9 @@ impl ShardingCodec {
             return Err(CodecError::DoesNotFit);
         }
         let at_start = self.index_location().is_at_start();
-        self.decode_cut_into(at_start, &sub, alloc, encoded, data_type, fill_value, target)
+        self.decode_cut_into(
+            at_start, &sub, alloc, encoded, data_type, fill_value, target,
+        )
     }
 
     /// The same, of a shard that is cut into subchunks of this shape.
@@ -277,11 +279,7 @@ impl ShardingCodec {
 }
 
 /// The box, shifted by the start of another, in whose array it lies.
-fn shifted(
-    alloc: Global,
-    subset: &ArraySubset,
-    offset: &[u64],
-) -> Result<ArraySubset, AllocError>
+fn shifted(alloc: Global, subset: &ArraySubset, offset: &[u64]) -> Result<ArraySubset, AllocError>
     requires dimensions { length offset.now ≡ length (box_of subset.now).start }
     requires ends { (k : ℕ) → k < length offset.now → slice_index (box_of subset.now).start k
         + slice_index (box_of subset.now).shape k + slice_index offset.now k < 2 ^ 64 }

@@ -23,8 +23,8 @@ use std::alloc::Global;
 use zarrs_codec_leaf::CodecError;
 use zarrs_data_type::{ArrayBytes, DataType, FillValue};
 use zarrs_parts::{
-    PartError, ShardIndex, common_part, met_subchunks, open_shard, part_of_whole, partial_decode_bytes,
-    seen_from_corner,
+    PartError, ShardIndex, common_part, met_subchunks, open_shard, part_of_whole,
+    partial_decode_bytes, seen_from_corner,
 };
 use zarrs_source::{ByteSource, Window};
 use zarrs_subset::{ArraySubset, ravel_indices};
@@ -63,9 +63,7 @@ impl CodecChain {
             (fill_of (kind data_type.now) fill_value.now)) (B.refuses source.now)) }
     {
         if !self.array_to_array.is_empty() {
-            return self.part_of_decoded(
-                alloc, source, window, part, data_type, fill_value, shape,
-            );
+            return self.part_of_decoded(alloc, source, window, part, data_type, fill_value, shape);
         }
         match &self.array_to_bytes {
             ArrayToBytesCodec::Bytes(codec) => {
@@ -74,9 +72,7 @@ impl CodecChain {
             ArrayToBytesCodec::Sharding(codec) => codec.partial_decode_shard(
                 alloc, source, window, part, data_type, fill_value, shape,
             ),
-            _ => self.part_of_decoded(
-                alloc, source, window, part, data_type, fill_value, shape,
-            ),
+            _ => self.part_of_decoded(alloc, source, window, part, data_type, fill_value, shape),
         }
     }
 

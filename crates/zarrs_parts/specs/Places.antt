@@ -22,7 +22,7 @@ all_places k shape part encoded place = nat_lt place (length encoded)
 -- of cells that stand one after another, the places of those of the part
 abbrev pub cell_places : (k : Kind) (shape : List ℕ) (part : Box) (encoded : List ℕ) (place : ℕ) → Bool
 cell_places k shape part encoded place = nat_lt place (length encoded) && elim (element_size k) [
-  None ↦ false
+  | None ↦ false
   | Some size ↦ nat_lt (place / size) (position_count shape) && in_box part (unravel shape (place / size))
 ]
 

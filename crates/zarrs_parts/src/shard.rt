@@ -86,8 +86,13 @@ fn read_index_of<B: ByteSource>(
     let _counted = source.size();
     let place = index_place(window, count * 16, at_start);
     let entries = source.read(alloc, place.index)?;
-    let ranges =
-        read_entries(alloc, entries.as_slice(), count as usize, place.start, place.end)?;
+    let ranges = read_entries(
+        alloc,
+        entries.as_slice(),
+        count as usize,
+        place.start,
+        place.end,
+    )?;
     Ok(ranges)
 }
 

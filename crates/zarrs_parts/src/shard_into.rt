@@ -71,7 +71,9 @@ pub fn decode_shard_into<D: ChunkDecoder>(
         let subset = subchunks.subset(alloc, number)?;
         let own = shifted(alloc, &subset, region.start())?;
         let range = ranges[number as usize];
-        decode_part_into(inner, alloc, encoded, range, &own, data_type, fill_value, target)?;
+        decode_part_into(
+            inner, alloc, encoded, range, &own, data_type, fill_value, target,
+        )?;
     }
     Ok(())
 }
@@ -157,11 +159,7 @@ pub fn decode_subchunk_into<D: ChunkDecoder>(
 }
 
 /// The box, shifted by the start of another, in whose array it lies.
-fn shifted(
-    alloc: Global,
-    subset: &ArraySubset,
-    offset: &[u64],
-) -> Result<ArraySubset, AllocError>
+fn shifted(alloc: Global, subset: &ArraySubset, offset: &[u64]) -> Result<ArraySubset, AllocError>
     requires dimensions { length offset.now ≡ length (box_of subset.now).start }
     requires ends { (k : ℕ) → k < length offset.now → slice_index (box_of subset.now).start k
         + slice_index (box_of subset.now).shape k + slice_index offset.now k < 2 ^ 64 }

@@ -126,8 +126,19 @@ pub fn read_subchunks<D: ChunkDecoder, B: ByteSource>(
     let mut made = held;
     loop {
         made = read_subchunk(
-            inner, at_start, sub, alloc, source, window, index, part, data_type, fill_value, shape,
-            made, walk.current(),
+            inner,
+            at_start,
+            sub,
+            alloc,
+            source,
+            window,
+            index,
+            part,
+            data_type,
+            fill_value,
+            shape,
+            made,
+            walk.current(),
         )?;
         if !walk.advance() {
             return Ok(made);
