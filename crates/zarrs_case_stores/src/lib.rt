@@ -5,6 +5,6 @@ mod asks;
 mod conditions;
 mod store;
 
-pub use asks::{Ask, Asks, Span};
-pub use conditions::Conditions;
+pub use asks::{Ask, Asks, key_beyond, keys_of, place_beyond};
+pub use conditions::{Conditions, Places};
 pub use store::{Below, CaseStore, Refusing, memory_of, refusing};

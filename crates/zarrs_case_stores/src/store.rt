@@ -1,10 +1,11 @@
 //! The store of a call, which may be lent.
 ghost use Rattle.zarrs_case_stores.specs.State.{opened, state_below};
 
-use crate::asks::{Asks, Span};
+use crate::asks::Asks;
 use crate::conditions::{Conditions, copied};
 use std::alloc::{AllocError, Global};
 use std::cell::RefCell;
+use std::ops::Range;
 use zarrs_storage::{
     Bytes, Fault, Lent, MemoryStore, ReadOnly, ReadableStorageTraits, Stop, StorageError, StoreKey,
     WholeRefused, WritableStorageTraits,
@@ -53,10 +54,19 @@ impl<'a> CaseStore<'a> {
         CaseStore { below, asks }
     }
 
-    fn note(&self, key: &StoreKey, span: Span) {
+    fn note(&self, key: &StoreKey, places: Range<u64>) {
         if let Ok(mut asks) = self.asks.try_borrow_mut() {
-            asks.note(key, span);
+            asks.note(key, places);
         }
+    }
+}
+
+/// The end of the places that a read of a whole value asks for, of which this came.
+fn end_of(outcome: &Result<Option<Bytes>, StorageError>) -> u64 {
+    match outcome {
+        Ok(Some(value)) => value.len() as u64,
+        Ok(None) => 0,
+        Err(_) => u64::MAX,
     }
 }
 
@@ -66,12 +76,13 @@ impl<'a> ReadableStorageTraits for CaseStore<'a> {
         ⟦<Lent<'a, Refusing> as ReadableStorageTraits>⟧.state s.below) };
 
     fn get(&self, alloc: Global, key: &StoreKey) -> Result<Option<Bytes>, StorageError> {
-        self.note(key, Span::Whole);
-        match &self.below {
+        let outcome = match &self.below {
             Below::Own(store) => store.get(alloc, key),
             Below::ReadOnly(store) => store.get(alloc, key),
             Below::Lent(store) => store.get(alloc, key),
-        }
+        };
+        self.note(key, 0..end_of(&outcome));
+        outcome
     }
 
     fn get_partial(
@@ -81,7 +92,7 @@ impl<'a> ReadableStorageTraits for CaseStore<'a> {
         offset: u64,
         count: u64,
     ) -> Result<Option<Bytes>, StorageError> {
-        self.note(key, Span::Range(offset, count));
+        self.note(key, offset..offset.saturating_add(count));
         match &self.below {
             Below::Own(store) => store.get_partial(alloc, key, offset, count),
             Below::ReadOnly(store) => store.get_partial(alloc, key, offset, count),
@@ -90,7 +101,7 @@ impl<'a> ReadableStorageTraits for CaseStore<'a> {
     }
 
     fn size_key(&self, alloc: Global, key: &StoreKey) -> Result<Option<u64>, StorageError> {
-        self.note(key, Span::Size);
+        self.note(key, 0..0);
         match &self.below {
             Below::Own(store) => store.size_key(alloc, key),
             Below::ReadOnly(store) => store.size_key(alloc, key),

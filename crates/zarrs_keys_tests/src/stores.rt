@@ -483,6 +483,38 @@ fn values_that_are_not_read_whole(rt: HostRuntime) {
     must_eq(&rt, (store.calls(), store.failures()), (3, 0));
 }
 
+/// Tests what a store lends at the key.
+fn must_lend<S: ReadableStorageTraits>(
+    rt: &impl Abort,
+    store: &S,
+    key: &StoreKey,
+    wanted: Option<&[u8]>,
+)
+    requires { (S.state store.now).may_ask key.now ≡ true }
+{
+    must(rt, store.lend_value(key) == wanted);
+}
+
+#[test]
+fn values_that_are_lent(rt: HostRuntime) {
+    let alloc = rt.alloc();
+    let (present, absent) = (key_of(&rt, alloc, "a"), key_of(&rt, alloc, "b"));
+    let mut store = MemoryStore::new(alloc);
+    store
+        .set(alloc, &present, Bytes::from_static(&[1, 2]))
+        .expect(&rt, "no refusal");
+    must_lend(&rt, &store, &present, Some(&[1, 2]));
+    must_lend(&rt, &store, &absent, None);
+    must_lend(&rt, &ReadOnly::new(&store), &present, Some(&[1, 2]));
+    must_lend(&rt, &Lent::new(&mut store), &present, Some(&[1, 2]));
+    must_lend(
+        &rt,
+        &WholeRefused::new(store, Vec::new(alloc)),
+        &present,
+        None,
+    );
+}
+
 /// Moves a value, through the bounds alone.
 fn rename<S: WritableStorageTraits>(
     store: &mut S,

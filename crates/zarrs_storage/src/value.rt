@@ -50,7 +50,7 @@ impl StoredValue {
         self.as_slice().len()
     }
 
-    fn as_slice(&self) -> &[u8]
+    pub(crate) fn as_slice(&self) -> &[u8]
         ensures { result.now ≡ self.now }
     {
         match &self.held {

@@ -1,0 +1,12 @@
+use Rattle.std.proofs.Common.{rules, ◌≡◌, Some, refl, sym, ap, ◌∙◌}
+use Rattle.std.specs.Option.{option_copied}
+use Rattle.std.specs.FinMap as map
+use Rattle.zarrs_storage.proofs.MemoryLemmas.{get_stored}
+use Rattle.zarrs_storage.proofs.memory.MemoryStoreReadableStorageTraits.lend_value.Goals as goal
+
+pub returns-in-Some : goal.returns-in-Some
+returns-in-Some c =
+    let found : option_copied c.get.result ≡ map.get c.args.self.now.values c.args.key.now =
+    c.get.ensures.value ∙ sym (get_stored c.self.inside.values c.args.key.now) ∙ ap (λ m. map.get m.values c.args.key.now) c.self.view_is in
+    let present : map.get c.args.self.now.values c.args.key.now ≡ Some c.as_slice.result.now = search (rules, found) in
+    record { lends = record { present = present; allowed = λ value place at below. refl; served = refl } }
