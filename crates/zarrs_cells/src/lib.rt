@@ -8,6 +8,7 @@ mod mask;
 
 pub use array_bytes::{ArrayBytes, ArrayBytesOptional};
 pub use error::{ExpectedFixedLengthBytesError, ExpectedOptionalBytesError};
+pub use mask::are_flags;
 pub use zarrs_types::{DataType, FillValue};
 pub use zarrs_variable::{
     ArrayBytesOffsets, ArrayBytesVariableLength, ExpectedVariableLengthBytesError,

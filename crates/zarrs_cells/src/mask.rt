@@ -96,7 +96,7 @@ impl<'a> Mask<'a> {
 }
 
 /// Whether each byte is 0 or 1. It stops at no byte, so that many are tested at a time.
-pub(crate) fn are_flags(bytes: &[u8]) -> bool
+pub fn are_flags(bytes: &[u8]) -> bool
     ensures { result ≡ list_all (λ byte. nat_lt byte 2) bytes.now }
 {
     let mut fine = true;

@@ -119,7 +119,8 @@ impl<'a, T: Element> IntoArrayBytes<'a> for Vec<T> {
         alloc: Global,
         data_type: &DataType,
     ) -> Result<ArrayBytes<'a>, ElementError> {
-        let made = T::to_array_bytes(alloc, data_type, &self)?;
+        let mut elements = self;
+        let made = T::take_array_bytes(alloc, data_type, &mut elements)?;
         Ok(made.into_owned(alloc)?)
     }
 }
@@ -139,7 +140,7 @@ impl<'a, T: Element, const N: usize> IntoArrayBytes<'a> for [T; N] {
     }
 }
 
-impl<'a, T: Element, const N: usize> IntoArrayBytes<'a> for &[T; N] {
+impl<'a, T: Element, const N: usize> IntoArrayBytes<'a> for &'a [T; N] {
     ghost serves = { T.serves };
 
     ghost gives = { λ list k d. cells k d ≡ Some (map T.cell list.now) };
@@ -149,12 +150,11 @@ impl<'a, T: Element, const N: usize> IntoArrayBytes<'a> for &[T; N] {
         alloc: Global,
         data_type: &DataType,
     ) -> Result<ArrayBytes<'a>, ElementError> {
-        let made = T::to_array_bytes(alloc, data_type, self)?;
-        Ok(made.into_owned(alloc)?)
+        T::to_array_bytes(alloc, data_type, self)
     }
 }
 
-impl<'a, T: Element> IntoArrayBytes<'a> for &[T] {
+impl<'a, T: Element> IntoArrayBytes<'a> for &'a [T] {
     ghost serves = { T.serves };
 
     ghost gives = { λ list k d. cells k d ≡ Some (map T.cell list.now) };
@@ -164,7 +164,6 @@ impl<'a, T: Element> IntoArrayBytes<'a> for &[T] {
         alloc: Global,
         data_type: &DataType,
     ) -> Result<ArrayBytes<'a>, ElementError> {
-        let made = T::to_array_bytes(alloc, data_type, self)?;
-        Ok(made.into_owned(alloc)?)
+        T::to_array_bytes(alloc, data_type, self)
     }
 }

@@ -11,6 +11,7 @@ ghost use Rattle.zarrs_data_type.specs.Elements.{RefusesElement, RefusesCells};
 
 use crate::error::ElementError;
 use std::alloc::Global;
+use std::mem;
 use zarrs_cells::ArrayBytes;
 use zarrs_types::DataType;
 
@@ -35,19 +36,38 @@ pub trait Element: Drop {
     fn serves(data_type: &DataType) -> bool
         ensures { result ≡ serves (kind data_type.now) };
 
-    /// Data whose cells are these values.
+    /// Data whose cells are these values. Values that are bytes are lent, not copied.
     ///
     /// # Errors
     /// `IncompatibleElementType`: the values are not those of the data type. `OutOfMemory` may come at any time.
-    fn to_array_bytes(
+    fn to_array_bytes<'a>(
         alloc: Global,
         data_type: &DataType,
-        elements: &[Self],
-    ) -> Result<ArrayBytes<'static>, ElementError>
+        elements: &'a [Self],
+    ) -> Result<ArrayBytes<'a>, ElementError>
         ensures cells { IfOk result (λ made. cells (kind data_type.now) (data_of made)
             ≡ Some (map cell elements.now)) }
         ensures served { OnOk result (serves (kind data_type.now) ≡ true) }
         ensures refused { IfErr result (RefusesElement (serves (kind data_type.now))) };
+
+    /// Data whose cells are these values. A list of bytes becomes the data and is not copied: what is left of it is no
+    /// list of the values.
+    ///
+    /// # Errors
+    /// `IncompatibleElementType`: the values are not those of the data type. `OutOfMemory` may come at any time.
+    fn take_array_bytes(
+        alloc: Global,
+        data_type: &DataType,
+        elements: &mut Vec<Self>,
+    ) -> Result<ArrayBytes<'static>, ElementError>
+        ensures cells { IfOk result (λ made. cells (kind data_type.now) (data_of made)
+            ≡ Some (map cell elements.old.items)) }
+        ensures served { OnOk result (serves (kind data_type.now) ≡ true) }
+        ensures refused { IfErr result (RefusesElement (serves (kind data_type.now))) }
+    {
+        let made = Self::to_array_bytes(alloc, data_type, elements)?;
+        Ok(made.into_owned(alloc)?)
+    }
 
     /// Data whose cells are these values, which are lent one by one.
     ///
@@ -93,15 +113,26 @@ impl Element for u8 {
         *data_type == DataType::UInt8
     }
 
-    fn to_array_bytes(
+    fn to_array_bytes<'a>(
+        _alloc: Global,
+        data_type: &DataType,
+        elements: &'a [u8],
+    ) -> Result<ArrayBytes<'a>, ElementError> {
+        if !<u8 as Element>::serves(data_type) {
+            return Err(ElementError::IncompatibleElementType);
+        }
+        Ok(ArrayBytes::from_flen(elements))
+    }
+
+    fn take_array_bytes(
         alloc: Global,
         data_type: &DataType,
-        elements: &[u8],
+        elements: &mut Vec<u8>,
     ) -> Result<ArrayBytes<'static>, ElementError> {
         if !<u8 as Element>::serves(data_type) {
             return Err(ElementError::IncompatibleElementType);
         }
-        Ok(number_data(alloc, data_type, elements)?)
+        Ok(ArrayBytes::new_flen(mem::replace(elements, Vec::new(alloc))))
     }
 
     fn lent_to_array_bytes(
@@ -109,8 +140,8 @@ impl Element for u8 {
         data_type: &DataType,
         elements: &[&u8],
     ) -> Result<ArrayBytes<'static>, ElementError> {
-        let numbers = copied(alloc, elements)?;
-        <u8 as Element>::to_array_bytes(alloc, data_type, &numbers)
+        let mut numbers = copied(alloc, elements)?;
+        <u8 as Element>::take_array_bytes(alloc, data_type, &mut numbers)
     }
 }
 
@@ -139,11 +170,11 @@ impl Element for u16 {
         *data_type == DataType::UInt16
     }
 
-    fn to_array_bytes(
+    fn to_array_bytes<'a>(
         alloc: Global,
         data_type: &DataType,
-        elements: &[u16],
-    ) -> Result<ArrayBytes<'static>, ElementError> {
+        elements: &'a [u16],
+    ) -> Result<ArrayBytes<'a>, ElementError> {
         if !<u16 as Element>::serves(data_type) {
             return Err(ElementError::IncompatibleElementType);
         }
@@ -155,8 +186,8 @@ impl Element for u16 {
         data_type: &DataType,
         elements: &[&u16],
     ) -> Result<ArrayBytes<'static>, ElementError> {
-        let numbers = copied(alloc, elements)?;
-        <u16 as Element>::to_array_bytes(alloc, data_type, &numbers)
+        let mut numbers = copied(alloc, elements)?;
+        <u16 as Element>::take_array_bytes(alloc, data_type, &mut numbers)
     }
 }
 
@@ -182,11 +213,11 @@ impl Element for u32 {
         *data_type == DataType::UInt32
     }
 
-    fn to_array_bytes(
+    fn to_array_bytes<'a>(
         alloc: Global,
         data_type: &DataType,
-        elements: &[u32],
-    ) -> Result<ArrayBytes<'static>, ElementError> {
+        elements: &'a [u32],
+    ) -> Result<ArrayBytes<'a>, ElementError> {
         if !<u32 as Element>::serves(data_type) {
             return Err(ElementError::IncompatibleElementType);
         }
@@ -198,8 +229,8 @@ impl Element for u32 {
         data_type: &DataType,
         elements: &[&u32],
     ) -> Result<ArrayBytes<'static>, ElementError> {
-        let numbers = copied(alloc, elements)?;
-        <u32 as Element>::to_array_bytes(alloc, data_type, &numbers)
+        let mut numbers = copied(alloc, elements)?;
+        <u32 as Element>::take_array_bytes(alloc, data_type, &mut numbers)
     }
 }
 
@@ -225,11 +256,11 @@ impl Element for u64 {
         *data_type == DataType::UInt64
     }
 
-    fn to_array_bytes(
+    fn to_array_bytes<'a>(
         alloc: Global,
         data_type: &DataType,
-        elements: &[u64],
-    ) -> Result<ArrayBytes<'static>, ElementError> {
+        elements: &'a [u64],
+    ) -> Result<ArrayBytes<'a>, ElementError> {
         if !<u64 as Element>::serves(data_type) {
             return Err(ElementError::IncompatibleElementType);
         }
@@ -241,8 +272,8 @@ impl Element for u64 {
         data_type: &DataType,
         elements: &[&u64],
     ) -> Result<ArrayBytes<'static>, ElementError> {
-        let numbers = copied(alloc, elements)?;
-        <u64 as Element>::to_array_bytes(alloc, data_type, &numbers)
+        let mut numbers = copied(alloc, elements)?;
+        <u64 as Element>::take_array_bytes(alloc, data_type, &mut numbers)
     }
 }
 
@@ -268,11 +299,11 @@ impl Element for i8 {
         *data_type == DataType::Int8
     }
 
-    fn to_array_bytes(
+    fn to_array_bytes<'a>(
         alloc: Global,
         data_type: &DataType,
-        elements: &[i8],
-    ) -> Result<ArrayBytes<'static>, ElementError> {
+        elements: &'a [i8],
+    ) -> Result<ArrayBytes<'a>, ElementError> {
         if !<i8 as Element>::serves(data_type) {
             return Err(ElementError::IncompatibleElementType);
         }
@@ -284,8 +315,8 @@ impl Element for i8 {
         data_type: &DataType,
         elements: &[&i8],
     ) -> Result<ArrayBytes<'static>, ElementError> {
-        let numbers = copied(alloc, elements)?;
-        <i8 as Element>::to_array_bytes(alloc, data_type, &numbers)
+        let mut numbers = copied(alloc, elements)?;
+        <i8 as Element>::take_array_bytes(alloc, data_type, &mut numbers)
     }
 }
 
@@ -311,11 +342,11 @@ impl Element for i16 {
         *data_type == DataType::Int16
     }
 
-    fn to_array_bytes(
+    fn to_array_bytes<'a>(
         alloc: Global,
         data_type: &DataType,
-        elements: &[i16],
-    ) -> Result<ArrayBytes<'static>, ElementError> {
+        elements: &'a [i16],
+    ) -> Result<ArrayBytes<'a>, ElementError> {
         if !<i16 as Element>::serves(data_type) {
             return Err(ElementError::IncompatibleElementType);
         }
@@ -327,8 +358,8 @@ impl Element for i16 {
         data_type: &DataType,
         elements: &[&i16],
     ) -> Result<ArrayBytes<'static>, ElementError> {
-        let numbers = copied(alloc, elements)?;
-        <i16 as Element>::to_array_bytes(alloc, data_type, &numbers)
+        let mut numbers = copied(alloc, elements)?;
+        <i16 as Element>::take_array_bytes(alloc, data_type, &mut numbers)
     }
 }
 
@@ -354,11 +385,11 @@ impl Element for i32 {
         *data_type == DataType::Int32
     }
 
-    fn to_array_bytes(
+    fn to_array_bytes<'a>(
         alloc: Global,
         data_type: &DataType,
-        elements: &[i32],
-    ) -> Result<ArrayBytes<'static>, ElementError> {
+        elements: &'a [i32],
+    ) -> Result<ArrayBytes<'a>, ElementError> {
         if !<i32 as Element>::serves(data_type) {
             return Err(ElementError::IncompatibleElementType);
         }
@@ -370,8 +401,8 @@ impl Element for i32 {
         data_type: &DataType,
         elements: &[&i32],
     ) -> Result<ArrayBytes<'static>, ElementError> {
-        let numbers = copied(alloc, elements)?;
-        <i32 as Element>::to_array_bytes(alloc, data_type, &numbers)
+        let mut numbers = copied(alloc, elements)?;
+        <i32 as Element>::take_array_bytes(alloc, data_type, &mut numbers)
     }
 }
 
@@ -397,11 +428,11 @@ impl Element for i64 {
         *data_type == DataType::Int64
     }
 
-    fn to_array_bytes(
+    fn to_array_bytes<'a>(
         alloc: Global,
         data_type: &DataType,
-        elements: &[i64],
-    ) -> Result<ArrayBytes<'static>, ElementError> {
+        elements: &'a [i64],
+    ) -> Result<ArrayBytes<'a>, ElementError> {
         if !<i64 as Element>::serves(data_type) {
             return Err(ElementError::IncompatibleElementType);
         }
@@ -413,8 +444,8 @@ impl Element for i64 {
         data_type: &DataType,
         elements: &[&i64],
     ) -> Result<ArrayBytes<'static>, ElementError> {
-        let numbers = copied(alloc, elements)?;
-        <i64 as Element>::to_array_bytes(alloc, data_type, &numbers)
+        let mut numbers = copied(alloc, elements)?;
+        <i64 as Element>::take_array_bytes(alloc, data_type, &mut numbers)
     }
 }
 

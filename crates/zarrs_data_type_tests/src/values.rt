@@ -157,7 +157,23 @@ fn lists_become_array_bytes(rt: HostRuntime) {
     must_become(&rt, alloc, &NUMBERS, &DataType::UInt16, PAIR);
     must_become(&rt, alloc, NUMBERS.as_slice(), &DataType::UInt16, PAIR);
     must_become(&rt, alloc, ["ab", ""], &DataType::String, b"ab");
+    must_become(&rt, alloc, [true, false], &DataType::Bool, &[1, 0]);
     must_not_become(&rt, alloc, "bytes", &["ab"]);
+}
+
+/// A list of bytes that is lent is lent on as data, and one that is given becomes the data.
+#[test]
+fn lists_of_bytes_become_array_bytes(rt: HostRuntime) {
+    const BYTES: [u8; 2] = [7, 7];
+    let alloc = rt.alloc();
+    must_become(&rt, alloc, BYTES, &DataType::UInt8, &BYTES);
+    must_become(&rt, alloc, &BYTES, &DataType::UInt8, &BYTES);
+    must_become(&rt, alloc, BYTES.as_slice(), &DataType::UInt8, &BYTES);
+    let given = vec![in alloc; 7u8; 2].expect(&rt, "no refusal");
+    must_become(&rt, alloc, given, &DataType::UInt8, &BYTES);
+    must_return(&rt, alloc, &DataType::UInt8, &BYTES);
+    must_not_become(&rt, alloc, "int8", &BYTES);
+    must_not_become(&rt, alloc, "bool", &BYTES);
 }
 
 fn must_be_texts(rt: &impl Abort, made: &ArrayBytes<'_>, count: u64) {

@@ -1,5 +1,5 @@
 -- Byte strings that offsets cut from bytes.
-use Rattle.std.proofs.Common.{◌≡◌, ℕ, zero, suc, ◌+◌, ◌-◌, ◌*◌, ◌<◌, ◌≤◌, Bool, true, false, List, [], ◌∷◌, ◌++◌}
+use Rattle.std.proofs.Common.{◌≡◌, ℕ, zero, suc, ◌+◌, ◌-◌, ◌<◌, ◌≤◌, Bool, true, false, List, [], ◌∷◌, ◌++◌}
 use Rattle.std.proofs.Common.{length, map, take, drop, get_or, refl, sym, ap, ◌∙◌, arith, IsTrue, ◌↔◌, append-nil}
 use Rattle.std.specs.Prelude.{slice_index, slice_index_or, slice_range, MatchBool, sum_by}
 use Rattle.std.specs.List.{range_with_len, flat_map}
@@ -9,9 +9,8 @@ use Rattle.std.proofs.lemmas.Grind.{flat_map-append}
 use Rattle.std.proofs.lemmas.List.{ext_get_or, length_push, get_or_push, get_or_append_left, length-append, take_all}
 use Rattle.std.proofs.lemmas.List.{take-append-le, drop-append-le, length-drop, length-take-le}
 use Rattle.std.proofs.lemmas.List.FromFn.{length-map-range_with_len, get_or-map-range_with_len, map-range_with_len_more}
-use Rattle.std.proofs.lemmas.List.Sums.{sum_by_more}
+use Rattle.std.proofs.lemmas.List.Sums.{sum_by_more, sum_by-append}
 use Rattle.std.proofs.Math.Seq.{take-add, drop-append_seam}
-use Rattle.std.proofs.Math.Nat.{mul-le-mul_right}
 use borrow.Author.Count.{below_more}
 use Rattle.zarrs_variable.specs.Offsets.{AreOffsets, AreCuts, byte_strings, joined, offsets_of}
 
@@ -109,7 +108,7 @@ joined-strings offsets bytes cuts =
     ∙ take_all (length bytes) bytes (omega arith)
 
 -- the number of bytes of the first n byte strings
-sum_front : (offsets bytes : List ℕ) → AreCuts offsets bytes → (n : ℕ) → n + 1 ≤ length offsets → sum_by length (take n (byte_strings offsets bytes)) ≡ slice_index offsets n
+pub sum_front : (offsets bytes : List ℕ) → AreCuts offsets bytes → (n : ℕ) → n + 1 ≤ length offsets → sum_by length (take n (byte_strings offsets bytes)) ≡ slice_index offsets n
 sum_front offsets bytes cuts zero le = sym cuts.are_offsets.from_zero
 sum_front offsets bytes cuts (suc n) le =
     let strings = byte_strings offsets bytes in
@@ -151,3 +150,16 @@ offsets_test numbers false some zero_first falls = (
       let rise = are.rising falls.0 (falls.0 + 1) 0 (omega arith) falls.1 in
       absurd (omega arith),
 )
+
+-- the number of bytes of a run of byte strings
+pub sum_run : (offsets bytes : List ℕ) → AreCuts offsets bytes → (from count : ℕ) → from + count + 1 ≤ length offsets
+    → slice_index offsets (from + count) - slice_index offsets from ≡ sum_by length (slice_range (byte_strings offsets bytes) from (from + count))
+sum_run offsets bytes cuts from count le =
+    let strings = byte_strings offsets bytes in
+    let n : count ≡ from + count - from = omega arith in
+    let whole = sum_front offsets bytes cuts (from + count) le in
+    let front = sum_front offsets bytes cuts from (omega arith) in
+    let parts : sum_by length (take (from + count) strings) ≡ sum_by length (take from strings) + sum_by length (take count (drop from strings)) =
+    ap (sum_by length) (take-add from count strings) ∙ sum_by-append length (take from strings) (take count (drop from strings)) in
+    let run : slice_index offsets (from + count) - slice_index offsets from ≡ sum_by length (take count (drop from strings)) = omega (arith, whole, front, parts) in
+    run ∙ ap (λ k. sum_by length (take k (drop from strings))) n

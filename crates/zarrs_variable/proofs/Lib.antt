@@ -1,3 +1,5 @@
 pub mod ByteStrings
 pub mod Inside
 mod Numbers
+mod Rows
+mod BoxRows

@@ -1,6 +1,6 @@
 -- The row-major number of a position of a box, one dimension after another.
 use Rattle.std.proofs.Common.{◌≡◌, ℕ, zero, suc, ◌+◌, ◌-◌, ◌*◌, ◌<◌, ◌≤◌, Bool, true, false, cond, ◌&&◌, List, [], ◌∷◌}
-use Rattle.std.proofs.Common.{◌++◌, length, map, take, drop, get_or, slice_get, Option, None, Some, refl, sym, ap, ◌∙◌}
+use Rattle.std.proofs.Common.{◌++◌, length, map, take, drop, get_or, slice_get, None, Some, refl, sym, ap, ◌∙◌}
 use Rattle.std.proofs.Common.{arith}
 use Rattle.std.specs.Prelude.{slice_index, slice_index_or}
 use Rattle.std.proofs.Math.Nat.{mul-le-mul_left, mul-le-mul_right, mul_assoc, add-mul}
@@ -9,10 +9,10 @@ use Rattle.std.proofs.lemmas.List.{drop_more, take_more, take_all, map-append}
 use Rattle.std.proofs.lemmas.Option.{slice_get-get_or, get_or_from_slice_get, slice_get_within}
 use Rattle.zarrs_subset.specs.Boxes.{position_count, place, in_range, is_within, offset_from}
 use Rattle.zarrs_subset.specs.Regions.{Box, IsLong, Holds, in_box, place_in, cell_in, positions}
-use Rattle.zarrs_subset.proofs.Bytes.{place_in_below, holds_along}
+use Rattle.zarrs_subset.proofs.Bytes.{place_in_below}
 use Rattle.zarrs_subset.proofs.CellLists.{cells_are}
 use Rattle.zarrs_subset.proofs.Joined.{count_split}
-use Rattle.zarrs_subset.proofs.Positions.{length-positions, positions_all, positions_once}
+use Rattle.zarrs_subset.proofs.Positions.{positions_once}
 use Rattle.zarrs_variable.specs.StringParts.{string_at, string_taken}
 
 in_range-true : (s e i : ℕ) → s ≤ i → i - s < e → in_range s e i ≡ true

@@ -1,9 +1,9 @@
 //! Boxes that lie in others, and parts of byte strings that are arrays over boxes.
-ghost use Rattle.std.specs.Prelude.{◌≡◌, ◌<◌, ◌^◌, ◌↔◌, ◌∷◌, ◌++◌, [], IfOk, IsTrue, OnOk};
-ghost use Rattle.std.specs.Prelude.{length, map, slice_index_or, Some, None, if◌then◌else◌};
-ghost use Rattle.zarrs_variable.specs.StringParts.{LiesInBox, string_at, string_taken};
-ghost use Rattle.zarrs_subset.specs.Boxes.{position_count};
-ghost use Rattle.zarrs_subset.specs.Regions.{Holds, box_of, in_box, place_in, positions};
+ghost use Rattle.std.specs.Prelude.{◌≡◌, ◌<◌, ◌≤◌, ◌+◌, ◌^◌, ◌↔◌, ◌∷◌, ◌++◌, [], IfOk, IsTrue, OnOk};
+ghost use Rattle.std.specs.Prelude.{drop, length, map, slice_index_or, Some, None, if◌then◌else◌};
+ghost use Rattle.zarrs_variable.specs.StringParts.{LiesInBox, string_at, string_from, string_taken};
+ghost use Rattle.zarrs_subset.specs.Boxes.{position_count, positions_from};
+ghost use Rattle.zarrs_subset.specs.Regions.{box_from, box_of, in_box, place_in, positions};
 
 use crate::variable::{ArrayBytesVariableLength, VariableLengthBuilder};
 use std::alloc::{AllocError, Global};
@@ -64,40 +64,131 @@ pub fn extract_strings(
     ensures { IfOk result (λ made. made
         ≡ map (string_at (box_of held_box.now) strings.now) (positions (box_of subset.now))) }
 {
-    let count = match subset.num_elements() {
-        Ok(count) => strings.len().min(count as usize),
-        Err(_) => strings.len(),
+    if subset.is_empty() {
+        return Ok(VariableLengthBuilder::new(alloc)?.finish());
+    }
+    let held = Extents::of(held_box);
+    let part = Extents::of(subset);
+    let count = strings.len();
+    let room = match subset.num_elements() {
+        Ok(room) => count.min(room as usize),
+        Err(_) => count,
     };
-    let mut builder = VariableLengthBuilder::with_capacity(alloc, count, 0)?;
-    let Some(mut walk) = subset.walk(alloc)? else {
-        return Ok(builder.finish());
-    };
-    loop {
-        push_at(&mut builder, strings, held_box, walk.current())?;
-        if !walk.advance() {
-            return Ok(builder.finish());
+    let len = box_len(strings, held, part, 0, count);
+    let mut builder = VariableLengthBuilder::with_capacity(alloc, room, len)?;
+    push_box(&mut builder, strings, held, part, 0, count)?;
+    Ok(builder.finish())
+}
+
+/// A box: its first index and its extent in each dimension.
+#[derive(Clone, Copy)]
+struct Extents<'b> {
+    start: &'b [u64],
+    shape: &'b [u64],
+}
+
+impl<'b> Extents<'b> {
+    fn of(subset: &'b ArraySubset) -> Extents<'b>
+        ensures start { result.start.now ≡ (box_of subset.now).start }
+        ensures shape { result.shape.now ≡ (box_of subset.now).shape }
+        ensures long { length result.start.now ≡ length result.shape.now }
+    {
+        Extents {
+            start: subset.start(),
+            shape: subset.shape(),
+        }
+    }
+
+    /// The dimensions behind the first one.
+    fn rest(&self) -> Extents<'b>
+        requires start { 0 < length self.now.start.now }
+        requires shape { 0 < length self.now.shape.now }
+        ensures start { result.start.now ≡ drop 1 self.now.start.now }
+        ensures shape { result.shape.now ≡ drop 1 self.now.shape.now }
+    {
+        Extents {
+            start: &self.start[1..],
+            shape: &self.shape[1..],
         }
     }
 }
 
-/// Puts the byte string at a position of the box behind the others.
-#[inline]
-fn push_at(
+/// How many bytes the byte strings of a box have, for which room is made. The arguments are those of `push_box`.
+fn box_len(
+    strings: &ArrayBytesVariableLength<'_>,
+    held: Extents<'_>,
+    part: Extents<'_>,
+    from: usize,
+    count: usize,
+) -> usize
+    requires held_long { length held.start.now ≡ length held.shape.now }
+    requires part_long { length part.start.now ≡ length part.shape.now }
+    requires inside { LiesInBox (box_from part.start.now part.shape.now)
+        (box_from held.start.now held.shape.now) }
+    requires count { count ≡ position_count held.shape.now }
+    requires room { from + count ≤ length strings.now }
+    requires fits { length strings.now < 2 ^ 64 }
+{
+    if part.shape.is_empty() {
+        return strings.range_len(from, 1);
+    }
+    let extent = part.shape[0] as usize;
+    if extent == 0 {
+        return 0;
+    }
+    let first = (part.start[0] - held.start[0]) as usize;
+    if part.shape.len() == 1 {
+        return strings.range_len(from + first, extent);
+    }
+    let block = count / held.shape[0] as usize;
+    let (inner_held, inner_part) = (held.rest(), part.rest());
+    let mut len = 0usize;
+    for index in 0..extent {
+        let inner_from = from + (first + index) * block;
+        len = len.saturating_add(box_len(strings, inner_held, inner_part, inner_from, block));
+    }
+    len
+}
+
+/// Puts the byte strings of a box behind the others, row by row. `held`, in which it lies, has `count` positions, and
+/// the byte string at the first of them has the number `from`.
+fn push_box(
     builder: &mut VariableLengthBuilder,
     strings: &ArrayBytesVariableLength<'_>,
-    held_box: &ArraySubset,
-    position: &[u64],
+    held: Extents<'_>,
+    part: Extents<'_>,
+    from: usize,
+    count: usize,
 ) -> Result<(), AllocError>
-    requires held_len { length strings.now ≡ position_count (box_of held_box.now).shape }
+    requires held_long { length held.start.now ≡ length held.shape.now }
+    requires part_long { length part.start.now ≡ length part.shape.now }
+    requires inside { LiesInBox (box_from part.start.now part.shape.now)
+        (box_from held.start.now held.shape.now) }
+    requires count { count ≡ position_count held.shape.now }
+    requires room { from + count ≤ length strings.now }
     requires fits { length strings.now < 2 ^ 64 }
-    requires holds { Holds (box_of held_box.now) position.now }
-    ensures { OnOk result (builder.new
-        ≡ builder.old ++ string_at (box_of held_box.now) strings.now position.now ∷ []) }
+    ensures { OnOk result (builder.new ≡ builder.old
+        ++ map (string_from strings.now from held.entry.start.now held.entry.shape.now)
+        (positions_from part.entry.start.now part.entry.shape.now)) }
 {
-    match number_in(held_box, position) {
-        Some(number) => builder.push(strings.get(number as usize)),
-        None => unreachable!(),
+    if part.shape.is_empty() {
+        return builder.push_range(strings, from, 1);
     }
+    let extent = part.shape[0] as usize;
+    if extent == 0 {
+        return Ok(());
+    }
+    let first = (part.start[0] - held.start[0]) as usize;
+    if part.shape.len() == 1 {
+        return builder.push_range(strings, from + first, extent);
+    }
+    let block = count / held.shape[0] as usize;
+    let (inner_held, inner_part) = (held.rest(), part.rest());
+    for index in 0..extent {
+        let inner_from = from + (first + index) * block;
+        push_box(builder, strings, inner_held, inner_part, inner_from, block)?;
+    }
+    Ok(())
 }
 
 /// These byte strings, an array over `held_box`, with those of `part` at the positions that both boxes have.

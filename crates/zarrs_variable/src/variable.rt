@@ -1,6 +1,7 @@
 //! Byte strings of any length.
-ghost use Rattle.std.specs.Prelude.{◌≡◌, ◌↔◌, ◌==◌, ◌<◌, ◌+◌, [], ◌∷◌, ◌++◌, IfOk, OnOk, OnErr};
-ghost use Rattle.std.specs.Prelude.{IsOk, length, slice_index, slice_index_or, slice_range};
+ghost use Rattle.std.specs.Prelude.{◌≡◌, ◌↔◌, ◌==◌, ◌<◌, ◌≤◌, ◌+◌, ◌-◌, ◌^◌, [], ◌∷◌, ◌++◌, All};
+ghost use Rattle.std.specs.Prelude.{IfOk, OnOk, OnErr, IsOk, length, map, slice_index};
+ghost use Rattle.std.specs.Prelude.{slice_index_or, slice_range, sum_by, vec_capacity};
 ghost use Rattle.std.specs.Cow.{cow_slice_items};
 ghost use Rattle.zarrs_variable.specs.Offsets.{AreCuts, byte_strings, joined, last_offset};
 ghost use Rattle.zarrs_variable.specs.Offsets.{offsets_of};
@@ -90,6 +91,16 @@ impl<'a> ArrayBytesVariableLength<'a> {
         cut(self.offsets.as_slice(), self.bytes.as_slice(), index)
     }
 
+    /// How many bytes `count` byte strings from number `from` on have.
+    #[tactic(auto, using(crate::proofs::ByteStrings::length_strings))]
+    pub(crate) fn range_len(&self, from: usize, count: usize) -> usize
+        requires { from + count ≤ length self.now }
+        ensures { result ≡ sum_by length (slice_range self.now from (from + count)) }
+    {
+        let cuts = self.offsets.as_slice();
+        cuts[from + count] - cuts[from]
+    }
+
     /// The same byte strings, owned.
     ///
     /// # Errors
@@ -176,6 +187,37 @@ impl VariableLengthBuilder {
         Ok(())
     }
 
+    /// Puts `count` byte strings of others, from number `from` on, behind these.
+    ///
+    /// # Errors
+    /// `AllocError`: out of memory. The builder is then as it was.
+    #[tactic(auto, using(crate::proofs::ByteStrings::length_strings))]
+    pub fn push_range(
+        &mut self,
+        strings: &ArrayBytesVariableLength<'_>,
+        from: usize,
+        count: usize,
+    ) -> Result<(), AllocError>
+        requires { from + count ≤ length strings.now }
+        ensures pushed { OnOk result (self.new ≡ self.old
+            ++ slice_range strings.now from (from + count)) }
+        ensures kept { OnErr result (self.new ≡ self.old) }
+    {
+        let cuts = strings.offsets.as_slice();
+        let (first, last) = (cuts[from], cuts[from + count]);
+        self.offsets.reserve(count)?;
+        let base = self.bytes.len();
+        self.bytes
+            .extend_from_slice(&strings.bytes.as_slice()[first..last])?;
+        push_moved(
+            &mut self.offsets,
+            &cuts[from + 1..from + count + 1],
+            first,
+            base,
+        );
+        Ok(())
+    }
+
     /// The byte strings.
     pub fn finish(self) -> ArrayBytesVariableLength<'static>
         ensures { result ≡ self }
@@ -185,5 +227,17 @@ impl VariableLengthBuilder {
             bytes: CowSlice::Owned(bytes),
             offsets: ArrayBytesOffsets::from_checked(offsets),
         }
+    }
+}
+
+/// Puts the numbers, moved so that `from` becomes `to`, behind the others.
+fn push_moved(numbers: &mut Vec<usize>, more: &[usize], from: usize, to: usize)
+    requires above { All (λ number. from ≤ number) more.now }
+    requires fits { All (λ number. to + (number - from) < 2 ^ 64) more.now }
+    requires room { length numbers.old.items + length more.now ≤ vec_capacity numbers.old }
+    ensures { numbers.new.items ≡ numbers.old.items ++ map (λ number. to + (number - from)) more.now }
+{
+    for number in more {
+        numbers.push_reserved(to + (*number - from));
     }
 }

@@ -9,7 +9,7 @@ pub(super) fn copied<T: Copy + Drop>(alloc: Global, lent: &[&T]) -> Result<Vec<T
 {
     let mut copies = Vec::with_capacity(alloc, lent.len())?;
     for value in lent {
-        copies.push(**value)?;
+        copies.push_reserved(**value);
     }
     Ok(copies)
 }

@@ -11,7 +11,8 @@ use super::copies::copied;
 use super::{Element, ElementOwned};
 use crate::error::ElementError;
 use std::alloc::{AllocError, Global};
-use zarrs_cells::ArrayBytes;
+use std::borrow::CowSlice;
+use zarrs_cells::{ArrayBytes, are_flags};
 use zarrs_types::DataType;
 
 /// A byte for each flag: 0 for false and 1 for true.
@@ -20,7 +21,7 @@ fn flag_bytes(alloc: Global, flags: &[bool]) -> Result<Vec<u8>, AllocError>
 {
     let mut bytes = Vec::with_capacity(alloc, flags.len())?;
     for flag in flags {
-        bytes.push(*flag as u8)?;
+        bytes.push_reserved(*flag as u8);
     }
     Ok(bytes)
 }
@@ -30,12 +31,12 @@ fn flags_of(alloc: Global, bytes: &[u8]) -> Result<Option<Vec<bool>>, AllocError
     ensures { IfOk result (λ flags. option_map (λ v. map from_bool v.items) flags
         ≡ (if list_all (λ x. nat_lt x 2) bytes.now then Some bytes.now else None)) }
 {
+    if !are_flags(bytes) {
+        return Ok(None);
+    }
     let mut flags = Vec::with_capacity(alloc, bytes.len())?;
     for byte in bytes {
-        if *byte > 1 {
-            return Ok(None);
-        }
-        flags.push(*byte == 1)?;
+        flags.push_reserved(*byte == 1);
     }
     Ok(Some(flags))
 }
@@ -49,16 +50,16 @@ impl Element for bool {
         *data_type == DataType::Bool
     }
 
-    fn to_array_bytes(
+    fn to_array_bytes<'a>(
         alloc: Global,
         data_type: &DataType,
-        elements: &[bool],
-    ) -> Result<ArrayBytes<'static>, ElementError> {
+        elements: &'a [bool],
+    ) -> Result<ArrayBytes<'a>, ElementError> {
         if !<bool as Element>::serves(data_type) {
             return Err(ElementError::IncompatibleElementType);
         }
         let bytes = flag_bytes(alloc, elements)?;
-        Ok(ArrayBytes::new_flen(bytes))
+        Ok(ArrayBytes::Fixed(CowSlice::Owned(bytes)))
     }
 
     fn lent_to_array_bytes(
@@ -66,8 +67,8 @@ impl Element for bool {
         data_type: &DataType,
         elements: &[&bool],
     ) -> Result<ArrayBytes<'static>, ElementError> {
-        let flags = copied(alloc, elements)?;
-        <bool as Element>::to_array_bytes(alloc, data_type, &flags)
+        let mut flags = copied(alloc, elements)?;
+        <bool as Element>::take_array_bytes(alloc, data_type, &mut flags)
     }
 }
 

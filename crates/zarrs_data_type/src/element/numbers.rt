@@ -8,23 +8,25 @@ ghost use Rattle.zarrs_data_type.specs.Elements.{RefusesCells};
 
 use crate::error::ElementError;
 use std::alloc::{AllocError, Global};
+use std::borrow::CowSlice;
 use zarrs_cells::ArrayBytes;
 use zarrs_numbers::WholeNumber;
 use zarrs_types::DataType;
 
 /// Data whose cells are these numbers, of a type of their size.
-pub(super) fn number_data<T: WholeNumber>(
+pub(super) fn number_data<'a, T: WholeNumber>(
     alloc: Global,
     data_type: &DataType,
     numbers: &[T],
-) -> Result<ArrayBytes<'static>, AllocError>
+) -> Result<ArrayBytes<'a>, AllocError>
     requires size { element_size (kind data_type.now) ≡ Some T.size }
     requires any { takes_any_bytes (kind data_type.now) ≡ true }
     ensures { IfOk result (λ made. cells (kind data_type.now) (data_of made)
         ≡ Some (map (λ x. bytes (T.le_bytes x)) numbers.now)) }
 {
     let _ = data_type;
-    Ok(ArrayBytes::new_flen(T::to_bytes(alloc, numbers)?))
+    let bytes = T::to_bytes(alloc, numbers)?;
+    Ok(ArrayBytes::Fixed(CowSlice::Owned(bytes)))
 }
 
 /// The numbers of the cells of the data, of a type of their size.

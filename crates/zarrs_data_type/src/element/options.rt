@@ -82,13 +82,14 @@ impl<T: Element> Element for Option<T> {
         }
     }
 
-    fn to_array_bytes(
+    fn to_array_bytes<'a>(
         alloc: Global,
         data_type: &DataType,
-        elements: &[Option<T>],
-    ) -> Result<ArrayBytes<'static>, ElementError> {
+        elements: &'a [Option<T>],
+    ) -> Result<ArrayBytes<'a>, ElementError> {
         let lent = lent(alloc, elements)?;
-        <Option<T> as Element>::lent_to_array_bytes(alloc, data_type, &lent)
+        let made = <Option<T> as Element>::lent_to_array_bytes(alloc, data_type, &lent)?;
+        Ok(made.into_owned(alloc)?)
     }
 
     fn lent_to_array_bytes(

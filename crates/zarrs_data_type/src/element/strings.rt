@@ -117,11 +117,11 @@ impl Element for String {
         *data_type == DataType::String
     }
 
-    fn to_array_bytes(
+    fn to_array_bytes<'a>(
         alloc: Global,
         data_type: &DataType,
-        elements: &[String],
-    ) -> Result<ArrayBytes<'static>, ElementError> {
+        elements: &'a [String],
+    ) -> Result<ArrayBytes<'a>, ElementError> {
         if !<String as Element>::serves(data_type) {
             return Err(ElementError::IncompatibleElementType);
         }
@@ -172,11 +172,11 @@ impl Element for &str {
         *data_type == DataType::String
     }
 
-    fn to_array_bytes(
+    fn to_array_bytes<'a>(
         alloc: Global,
         data_type: &DataType,
-        elements: &[&str],
-    ) -> Result<ArrayBytes<'static>, ElementError> {
+        elements: &'a [&str],
+    ) -> Result<ArrayBytes<'a>, ElementError> {
         if !<&str as Element>::serves(data_type) {
             return Err(ElementError::IncompatibleElementType);
         }
@@ -189,8 +189,8 @@ impl Element for &str {
         data_type: &DataType,
         elements: &[&&str],
     ) -> Result<ArrayBytes<'static>, ElementError> {
-        let texts = copied(alloc, elements)?;
-        <&str as Element>::to_array_bytes(alloc, data_type, &texts)
+        let mut texts = copied(alloc, elements)?;
+        <&str as Element>::take_array_bytes(alloc, data_type, &mut texts)
     }
 }
 
@@ -203,11 +203,11 @@ impl Element for Vec<u8> {
         *data_type == DataType::Bytes
     }
 
-    fn to_array_bytes(
+    fn to_array_bytes<'a>(
         alloc: Global,
         data_type: &DataType,
-        elements: &[Vec<u8>],
-    ) -> Result<ArrayBytes<'static>, ElementError> {
+        elements: &'a [Vec<u8>],
+    ) -> Result<ArrayBytes<'a>, ElementError> {
         if !<Vec<u8> as Element>::serves(data_type) {
             return Err(ElementError::IncompatibleElementType);
         }

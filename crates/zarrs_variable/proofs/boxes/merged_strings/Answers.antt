@@ -1,9 +1,9 @@
-use Rattle.std.proofs.Common.{◌≡◌, ◌∙◌, ◌+◌, ◌<◌, ◌++◌, ◌∷◌, [], List, ℕ, Some, slice_get, length, map, take, refl, sym, ap, subst, arith}
+use Rattle.std.proofs.Common.{◌≡◌, ◌∙◌, ◌+◌, ◌++◌, ◌∷◌, [], Some, slice_get, length, map, take, sym, ap, subst, arith}
 use Rattle.std.proofs.lemmas.Option.{slice_get_within}
-use Rattle.zarrs_subset.specs.Regions.{Box, Holds, box_of, positions, place_in}
-use Rattle.zarrs_subset.specs.Walks.{walk_box, walk_number}
+use Rattle.zarrs_subset.specs.Regions.{Box, Holds, box_of, positions}
+use Rattle.zarrs_subset.specs.Walks.{walk_number}
 use Rattle.zarrs_subset.proofs.Bytes.{holds_along}
-use Rattle.zarrs_subset.proofs.Positions.{positions_in, positions_once, length-positions}
+use Rattle.zarrs_subset.proofs.Positions.{positions_in, length-positions}
 use Rattle.zarrs_variable.specs.StringParts.{string_taken}
 use Rattle.zarrs_variable.proofs.Numbers.{push_next, take_whole, taken_next}
 use Rattle.zarrs_variable.proofs.boxes.merged_strings.Goals as goal

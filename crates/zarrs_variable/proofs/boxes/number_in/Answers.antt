@@ -1,4 +1,4 @@
-use Rattle.std.proofs.Common.{◌≡◌, ◌+◌, ◌-◌, ◌*◌, ◌^◌, ◌<◌, ◌≤◌, ◌∙◌, length, get_or, rules, arith, sym}
+use Rattle.std.proofs.Common.{◌≡◌, ◌+◌, ◌-◌, ◌*◌, ◌^◌, ◌<◌, ◌∙◌, length, rules, arith}
 use Rattle.std.specs.Prelude.{slice_index}
 use Rattle.zarrs_subset.specs.Boxes.{position_count, place, offset_from}
 use Rattle.zarrs_variable.proofs.Numbers.{number_within, number_sum, number_room, number_fits}

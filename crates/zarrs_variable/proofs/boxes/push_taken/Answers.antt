@@ -1,4 +1,4 @@
-use Rattle.std.proofs.Common.{◌≡◌, ◌∙◌, ◌<◌, arith, sym}
+use Rattle.std.proofs.Common.{◌∙◌, arith, sym}
 use Rattle.zarrs_subset.specs.Regions.{box_of}
 use Rattle.zarrs_subset.proofs.Bytes.{place_in_below}
 use Rattle.zarrs_variable.proofs.Numbers.{found_place}

@@ -1,4 +1,4 @@
-use Rattle.std.proofs.Common.{◌≡◌, ◌∙◌, sym}
+use Rattle.std.proofs.Common.{◌∙◌, sym}
 use Rattle.zarrs_subset.specs.Regions.{box_of}
 use Rattle.zarrs_variable.proofs.Numbers.{strings_kept}
 use Rattle.zarrs_variable.proofs.boxes.strings_with_part.Goals as goal

@@ -1,8 +1,10 @@
-use Rattle.std.proofs.Common.{sym, ◌∙◌, refl}
+use Rattle.std.proofs.Common.{sym, ap, ◌∙◌}
 use Rattle.zarrs_types.specs.Kind.{kind}
-use Rattle.zarrs_types.specs.Kind as type
-use Rattle.zarrs_data_type.proofs.ElementCells.{same_any}
+use Rattle.zarrs_cells.specs.Cells.{cells}
+use Rattle.zarrs_data_type.proofs.ElementCells.{cells-bytes}
 use Rattle.zarrs_data_type.proofs.element.U8Element.to_array_bytes.Goals as goal
 
-pub number_data-requires-clause-any : goal.number_data-requires-clause-any
-number_data-requires-clause-any c = same_any (kind c.args.data_type.now) type.uint8 (sym c.serves.ensures ∙ c.if-not-serves.false) refl
+pub returns-clause-cells : goal.returns-clause-cells
+returns-clause-cells c =
+    ap (cells (kind c.args.data_type.now)) c.from_flen.ensures
+    ∙ cells-bytes c.args.data_type.now c.args.elements.now (sym c.serves.ensures ∙ c.if-not-serves.false)

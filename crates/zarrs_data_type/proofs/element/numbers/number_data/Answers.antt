@@ -8,6 +8,5 @@ use Rattle.zarrs_data_type.proofs.element.numbers.number_data.Goals as goal
 pub returns : goal.returns
 returns g c =
     let k = kind c.args.data_type.now in
-    ap (cells k) c.new_flen.ensures
-    ∙ ap (λ b. cells k (fixed b)) c.in_ok-to_bytes.ensures
+    ap (λ b. cells k (fixed b)) c.in_ok-bytes.ensures
     ∙ cells-numbers g.T.WholeNumber.le_bytes c.args.data_type.now g.T.WholeNumber.size c.args.numbers.now c.requires.size c.requires.any g.T.WholeNumber.sized

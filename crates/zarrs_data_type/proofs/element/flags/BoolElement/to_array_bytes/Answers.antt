@@ -9,5 +9,4 @@ use Rattle.zarrs_data_type.proofs.element.flags.BoolElement.to_array_bytes.Goals
 pub returns-clause-cells : goal.returns-clause-cells
 returns-clause-cells c =
     let k = kind c.args.data_type.now in
-    ap (cells k) c.new_flen.ensures
-    ∙ flags-made k c.args.elements.now c.in_ok-bytes.bytes.items (kind_is k type.bool (sym c.serves.ensures ∙ c.if-not-serves.false)) c.in_ok-bytes.ensures
+    flags-made k c.args.elements.now c.in_ok-bytes.bytes.items (kind_is k type.bool (sym c.serves.ensures ∙ c.if-not-serves.false)) c.in_ok-bytes.ensures
