@@ -1,0 +1,62 @@
+use Rattle.std.proofs.Common.{arith, ◌≡◌, ◌*◌, length, sym, ap, ◌∙◌}
+use Rattle.std.proofs.lemmas.Bool.{false≢true}
+use Rattle.zarrs_subset.proofs.Overlaps.{AllSome}
+use Rattle.zarrs_source.specs.BoxReads.{without_ones}
+use Rattle.zarrs_source.proofs.Ones.{length-shape, can_read_kept, bytes_kept}
+use Rattle.zarrs_source.proofs.RowReads.{bytes_fit, can_read, no_bytes}
+use Rattle.zarrs_source.proofs.rows.read_box.Goals as goal
+
+pub returns-then-is_empty-clause-bytes : goal.returns-then-is_empty-clause-bytes
+returns-then-is_empty-clause-bytes g c =
+    let empty = c.is_empty.ensures.0 c.if-is_empty.true in
+    c.new.ensures.items ∙ sym (no_bytes c.args.size c.args.shape.now c.args.part.now.start.items c.args.part.now.shape.items (g.B.ByteSource.bytes c.args.source.now) c.args.window.offset empty.0 c.requires.part empty.1 empty.2)
+
+pub unreachable-requires : goal.unreachable-requires
+unreachable-requires g c =
+    let room = bytes_fit _ _ _ _ _ c.requires.part c.requires.size c.requires.len in
+    let less = room.1 in
+    let past = c.in_default.ensures.refused in
+    omega (arith, c.requires.window, past)
+
+pub overflow_mul-count : goal.overflow_mul-count
+overflow_mul-count g c =
+    let room = bytes_fit _ _ _ _ _ c.requires.part c.requires.size c.requires.len in
+    let less = room.0 in
+    let is : c.in-Ok.count ≡ _ = c.in-Ok.ensures.ok in
+    omega (arith, ap (λ n. n * c.args.size) is, c.requires.window)
+
+pub without_ones-requires : goal.without_ones-requires
+without_ones-requires g c =
+    (length-shape c.args.part.now.start.items c.args.part.now.shape.items c.args.shape.now c.requires.part).1 ∙ sym (ap length c.shape.ensures)
+
+pub without_ones-requires-2 : goal.without_ones-requires-2
+without_ones-requires-2 g c =
+    (length-shape c.args.part.now.start.items c.args.part.now.shape.items c.args.shape.now c.requires.part).0 ∙ sym (ap length c.start.ensures)
+
+pub read_rows-requires : goal.read_rows-requires
+read_rows-requires g c =
+    let shape = c.args.shape.now in
+    let start = c.args.part.now.start.items in
+    let extents = c.args.part.now.shape.items in
+    let some : AllSome extents = λ k below none. false≢true (sym c.if-is_empty.false ∙ c.is_empty.ensures.1 (k, below, none)) in
+    can_read_kept (g.B.ByteSource.bytes c.args.source.now) (g.B.ByteSource.may_read c.args.source.now) c.args.size c.args.window.offset c.args.window.len
+    shape start extents c.deref.result.now c.deref-2.result.now c.deref-3.result.now
+    (c.deref.ensures.value ∙ c.in_ok-kept_shape.ensures)
+    (c.deref-2.ensures.value ∙ c.in_ok-kept_start.ensures ∙ ap (without_ones shape) c.start.ensures)
+    (c.deref-3.ensures.value ∙ c.in_ok-kept_extents.ensures ∙ ap (without_ones shape) c.shape.ensures)
+    some
+    (can_read (g.B.ByteSource.bytes c.args.source.now) (g.B.ByteSource.may_read c.args.source.now) c.args.size c.args.window.offset c.args.window.len
+    shape start extents (omega arith) c.requires.window c.requires.size c.requires.len c.requires.part c.requires.may_read some)
+
+pub returns-clause-bytes : goal.returns-clause-bytes
+returns-clause-bytes g c =
+    let shape = c.args.shape.now in
+    let start = c.args.part.now.start.items in
+    let extents = c.args.part.now.shape.items in
+    let some : AllSome extents = λ k below none. false≢true (sym c.if-is_empty.false ∙ c.is_empty.ensures.1 (k, below, none)) in
+    bytes_kept c.args.size c.args.window.offset shape start extents c.deref.result.now c.deref-2.result.now c.deref-3.result.now
+    (g.B.ByteSource.bytes c.args.source.now) c.in_ok-made.made.items c.read_rows.new.made.items
+    (c.deref.ensures.value ∙ c.in_ok-kept_shape.ensures)
+    (c.deref-2.ensures.value ∙ c.in_ok-kept_start.ensures ∙ ap (without_ones shape) c.start.ensures)
+    (c.deref-3.ensures.value ∙ c.in_ok-kept_extents.ensures ∙ ap (without_ones shape) c.shape.ensures)
+    c.requires.part some c.in_ok-made.ensures.items c.in_ok-read_rows.ensures.bytes

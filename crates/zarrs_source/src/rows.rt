@@ -1,0 +1,149 @@
+//! The cells of a box of an array that stands in a source.
+ghost use Rattle.std.specs.Prelude.{◌≡◌, ◌+◌, ◌*◌, ◌<◌, ◌≤◌, ◌^◌, ◌++◌, IfOk, IfErr, OnOk, length};
+ghost use Rattle.zarrs_subset.specs.Boxes.{position_count, BoxFits};
+ghost use Rattle.zarrs_subset.specs.Regions.{LiesInShape, box_of};
+ghost use Rattle.zarrs_source.specs.BoxReads.{CanReadBox, MayReadBox, box_bytes, without_ones};
+ghost use Rattle.zarrs_source.specs.Sources.{IsWindow, MayReadPlaces, RefusesSource, window_bytes};
+
+use crate::source::{ByteSource, Window};
+use std::alloc::{AllocError, Global};
+use zarrs_storage::StorageError;
+use zarrs_subset::ArraySubset;
+
+/// The cells of a box of an array of this shape whose bytes are those of a window, row-major. A cell has `size` bytes.
+///
+/// Cells that stand together are one read: one for each row of the box, and fewer if its last dimensions are whole.
+/// Nothing is read of a box without cells. The result is made once.
+///
+/// # Errors
+/// What the source says if it refuses; `OutOfMemory`.
+pub fn read_box<B: ByteSource>(
+    alloc: Global,
+    source: &B,
+    window: Window,
+    shape: &[u64],
+    part: &ArraySubset,
+    size: u64,
+) -> Result<Vec<u8>, StorageError>
+    requires window { IsWindow window (B.bytes source.now) }
+    requires size { 0 < size }
+    requires len { window.len ≡ position_count shape.now * size }
+    requires part { BoxFits (box_of part.now).start (box_of part.now).shape shape.now }
+    requires may_read { MayReadBox (B.may_read source.now) size shape.now (box_of part.now).start
+        (box_of part.now).shape window.offset }
+    ensures bytes { IfOk result (λ made. made.items ≡ box_bytes size shape.now
+        (box_of part.now).start (box_of part.now).shape (B.bytes source.now) window.offset) }
+    ensures refused { IfErr result (RefusesSource (B.refuses source.now)) }
+{
+    // The bytes of the source are counted, so that no place passes `u64`.
+    let _counted = source.size();
+    if part.is_empty() {
+        return Ok(Vec::new(alloc));
+    }
+    let Ok(count) = part.num_elements() else {
+        unreachable!()
+    };
+    let kept_extents = without_ones(alloc, shape, part.shape())?;
+    let kept_start = without_ones(alloc, shape, part.start())?;
+    let kept_shape = without_ones(alloc, shape, shape)?;
+    let mut made = Vec::with_capacity(alloc, (count * size) as usize)?;
+    read_rows(
+        alloc,
+        source,
+        window,
+        &kept_shape,
+        &kept_start,
+        &kept_extents,
+        size,
+        &mut made,
+    )?;
+    Ok(made)
+}
+
+/// The numbers, one for each dimension of the shape, except those of dimensions of extent 1.
+///
+/// A walk over an array calls itself once for each dimension that is left. There are fewer than 64 of them if the
+/// array has a cell, and its cells can be counted.
+fn without_ones(alloc: Global, shape: &[u64], numbers: &[u64]) -> Result<Vec<u64>, AllocError>
+    requires { length shape.now ≡ length numbers.now }
+    ensures { IfOk result (λ made. made.items ≡ without_ones shape.now numbers.now) }
+{
+    let mut made = Vec::new(alloc);
+    for axis in 0..shape.len() {
+        if shape[axis] != 1 {
+            made.push(numbers[axis])?;
+        }
+    }
+    Ok(made)
+}
+
+/// Puts the cells of a box of the array in the window behind the bytes.
+fn read_rows<B: ByteSource>(
+    alloc: Global,
+    source: &B,
+    window: Window,
+    shape: &[u64],
+    start: &[u64],
+    extents: &[u64],
+    size: u64,
+    made: &mut Vec<u8>,
+) -> Result<(), StorageError>
+    requires { CanReadBox (B.bytes source.now) (B.may_read source.now) size window.offset window.len
+        shape.now start.now extents.now }
+    ensures bytes { OnOk result (made.new.items ≡ made.old.items
+        ++ box_bytes size shape.now start.now extents.now (B.bytes source.now) window.offset) }
+    ensures refused { IfErr result (RefusesSource (B.refuses source.now)) }
+{
+    let Some((extent, inner)) = shape.split_first() else {
+        return read_run(alloc, source, window, made);
+    };
+    let Some((first, inner_start)) = start.split_first() else {
+        unreachable!()
+    };
+    let Some((count, inner_extents)) = extents.split_first() else {
+        unreachable!()
+    };
+    let block = window.len / *extent;
+    if inner_extents == inner {
+        let run = Window {
+            offset: window.offset + *first * block,
+            len: *count * block,
+        };
+        return read_run(alloc, source, run, made);
+    }
+    for number in 0..*count {
+        let row = Window {
+            offset: window.offset + (*first + number) * block,
+            len: block,
+        };
+        read_rows(
+            alloc,
+            source,
+            row,
+            inner,
+            inner_start,
+            inner_extents,
+            size,
+            made,
+        )?;
+    }
+    Ok(())
+}
+
+/// Puts the bytes of the window behind the bytes.
+fn read_run<B: ByteSource>(
+    alloc: Global,
+    source: &B,
+    window: Window,
+    made: &mut Vec<u8>,
+) -> Result<(), StorageError>
+    requires window { IsWindow window (B.bytes source.now) }
+    requires may_read { MayReadPlaces (B.may_read source.now) window.offset window.len }
+    ensures bytes { OnOk result (made.new.items ≡ made.old.items
+        ++ window_bytes window (B.bytes source.now)) }
+    ensures refused { IfErr result (RefusesSource (B.refuses source.now)) }
+{
+    let run = source.read(alloc, window)?;
+    made.extend_from_slice(run.as_slice())?;
+    Ok(())
+}
