@@ -4,6 +4,7 @@ pub mod Depth
 pub mod Gathering
 pub mod Marks
 pub mod MetadataLaws
+pub mod Ones
 pub mod Reshaping
 pub mod Squeezed
 pub mod Taken

@@ -1,16 +1,16 @@
 -- What is written for a codec reads as that codec.
-use Rattle.std.proofs.Common.{◌≡◌, ℕ, true, List, [], ◌∷◌, map, Option, Some, None, option_map, option_and_then, refl, sym, ap, ◌∙◌, arith}
+use Rattle.std.proofs.Common.{◌≡◌, List, Some, option_map, option_and_then, refl, sym, ap, ◌∙◌, arith}
 use Rattle.std.specs.Prelude.{codes}
 use Rattle.std.proofs.lemmas.Bool.{ne_eqb}
 use Rattle.std.proofs.lemmas.Simd.{map-map}
 use Rattle.serde_json.specs.Data.{Data}
 use Rattle.serde_json.specs.View.{items_of}
-use Rattle.zarrs_metadata.specs.Lists.{all_of, list_of, list_data, numbers_data, numbers_of}
+use Rattle.zarrs_metadata.specs.Lists.{all_of, list_of, list_data}
 use Rattle.zarrs_metadata.specs.Extension.{ExtensionData}
 use Rattle.zarrs_metadata.proofs.ListLemmas.{all_of-items_of, numbers_of-numbers_data}
-use Rattle.zarrs_codec_array.specs.Arrays.{Extent, size, product_of, rest}
+use Rattle.zarrs_codec_array.specs.Arrays.{product_of}
 use Rattle.zarrs_codec_array.specs.Extents.{extent_view, extents_view}
-use Rattle.zarrs_codec_array.specs.Metadata.{ArrayCodecData, array_codec_data, extent_said, extent_data, transpose_of}
+use Rattle.zarrs_codec_array.specs.Metadata.{array_codec_data, extent_said, extent_data, transpose_of}
 use Rattle.zarrs_codec_array.specs.Metadata.{reshape_of, array_codec_said, with_one_member, extension_of_array_codec}
 use Rattle.zarrs_codec_array.specs.Reshape.{entries_of}
 use Rattle.zarrs_codec_array.specs.declared.array.ArrayToArrayCodec.{ArrayToArrayCodec}

@@ -1,6 +1,6 @@
 -- The shape that `reshape` makes.
-use Rattle.std.proofs.Common.{◌≡◌, ℕ, ◌+◌, ◌/◌, ◌^◌, ◌<◌, ◌≤◌, Bool, true, false, cond, eqb, ◌&&◌, ◌||◌, List, [], ◌∷◌}
-use Rattle.std.proofs.Common.{◌++◌, length, map, take, drop, get_or, Option, None, Some, refl, sym, ap, ◌∙◌, arith}
+use Rattle.std.proofs.Common.{◌≡◌, ℕ, ◌+◌, ◌/◌, ◌^◌, ◌<◌, Bool, true, false, cond, eqb, ◌&&◌, ◌||◌, List, [], ◌∷◌}
+use Rattle.std.proofs.Common.{◌++◌, length, take, drop, get_or, Option, None, Some, refl, sym, ap, ◌∙◌, arith}
 use Rattle.std.specs.Prelude.{nat_lt, not, option_map, option_and_then}
 use Rattle.std.specs.List.{list_all, list_any}
 use Rattle.std.proofs.lemmas.Bool.{eqb-true, eq-eqb, ne_eqb, lt-ltb, and_parts, and_from, or_parts, false≢true}
@@ -11,7 +11,7 @@ use Rattle.zarrs_subset.specs.Boxes.{position_count}
 use Rattle.zarrs_codec_array.specs.Arrays.{Extent, size, product_of, rest, named_extent, named_shape, extent_left}
 use Rattle.zarrs_codec_array.specs.Arrays.{reshape_shape, names_within, reshaped}
 use Rattle.zarrs_codec_array.specs.Gathered.{encoded_shape}
-use Rattle.zarrs_codec_array.specs.Extents.{are_distinct, fitting_extent, all_some, fitting_shape}
+use Rattle.zarrs_codec_array.specs.Extents.{are_distinct, fitting_extent, fitting_shape}
 
 -- the extents are below 2^64
 abbrev pub are_small : List ℕ → Bool

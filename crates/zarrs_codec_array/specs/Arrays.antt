@@ -92,7 +92,8 @@ abbrev pub names_within : List ℕ → Extent → Bool
 names_within s (product_of dimensions) = list_all (λ j. nat_lt j (length s)) dimensions
 names_within s _ = true
 
--- `reshape`: fits if the shape has its dimensions, its extents fit u64 and their product is that of the array's
+-- `reshape`: fits if the shape has the dimensions that it names, its extents fit u64, the array has fewer than 2^64
+-- cells, and the encoded array has as many
 abbrev pub reshaped : List Extent → ArrayMeaning
 reshaped entries =
     keeping_cells

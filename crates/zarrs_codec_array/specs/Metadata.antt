@@ -9,7 +9,7 @@ use Rattle.serde_json.specs.Find.{get_member, as_number, as_i64}
 use Rattle.zarrs_metadata.specs.Extension.{ExtensionData, settings, named}
 use Rattle.zarrs_metadata.specs.Lists.{list_of, list_data, number_of, number_data, numbers_of, numbers_data}
 use Rattle.zarrs_metadata.specs.Members.{has_only}
-use Rattle.zarrs_codec_array.specs.Arrays.{ArrayMeaning, transposed, reshaped, squeezed, Extent, size, product_of, rest}
+use Rattle.zarrs_codec_array.specs.Arrays.{Extent, size, product_of, rest}
 use Rattle.zarrs_codec_array.specs.Extents.{is_reshape}
 use Rattle.zarrs_codec_array.specs.Orders.{is_order}
 use Rattle.zarrs_codec_array.specs.Reshape.{entries_of}

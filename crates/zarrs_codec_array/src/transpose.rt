@@ -1,5 +1,5 @@
 //! The codec `transpose` (Zarr V3 core specification, "Transpose codec").
-ghost use Rattle.std.specs.Prelude.{◌≡◌, ◌*◌, true, None, Some, [], length, map, slice_index_or};
+ghost use Rattle.std.specs.Prelude.{◌≡◌, ◌*◌, ◌<◌, ◌^◌, true, None, Some, [], length, map, slice_index_or};
 ghost use Rattle.std.specs.Prelude.{IfOk, option_map, if◌then◌else◌};
 ghost use Rattle.zarrs_subset.specs.Boxes.{position_count};
 ghost use Rattle.zarrs_data_type.specs.ArrayData.{data_of};
@@ -9,6 +9,7 @@ ghost use Rattle.zarrs_codec_array.specs.Arrays.{transposed};
 ghost use Rattle.zarrs_codec_array.specs.Gathered.{IsGathered, IsTaken, IsWay, walked};
 ghost use Rattle.zarrs_codec_array.specs.Gathered.{IsEncodedArray, IsDecodedArray, encoded_shape};
 ghost use Rattle.zarrs_codec_array.specs.Orders.{is_order, permuted, strides, scaled};
+ghost use Rattle.zarrs_codec_array.specs.Orders.{without_ones};
 
 use crate::gather::{gather, push_strings};
 use crate::lists;
@@ -155,7 +156,38 @@ fn rearranged(
     }
 }
 
-// The same for cells of `size` bytes.
+// The dimensions of the target whose extent is not 1: what walks over an array calls itself once for each of them, and
+// an array whose cells can be counted has fewer than 64.
+#[derive(Drop)]
+struct Walk {
+    extents: Vec<u64>,
+    // how far apart in the source two positions are that differ by one in the dimension
+    steps: Vec<u64>,
+}
+
+// The walk over the target, of cells of `size` bytes.
+fn walk_over(
+    alloc: Global,
+    target: &[u64],
+    source: &[u64],
+    way: &[u64],
+    size: usize,
+) -> Result<Walk, AllocError>
+    requires fits { position_count source.now * size < 2 ^ 64 }
+    requires ways { IsWay target.now source.now way.now }
+    ensures extents { IfOk result (λ walk. walk.extents.items
+        ≡ without_ones target.now target.now) }
+    ensures steps { IfOk result (λ walk. walk.steps.items
+        ≡ without_ones target.now (scaled size (permuted way.now (strides source.now)))) }
+{
+    let strides = lists::strides(alloc, source, size)?;
+    let steps = lists::permuted(alloc, way, &strides)?;
+    let extents = lists::without_ones(alloc, target, target)?;
+    let steps = lists::without_ones(alloc, target, &steps)?;
+    Ok(Walk { extents, steps })
+}
+
+// What `rearranged` says, for cells of `size` bytes.
 fn rearranged_bytes(
     alloc: Global,
     bytes: &[u8],
@@ -170,10 +202,9 @@ fn rearranged_bytes(
     ensures cells { IfOk result (λ made. IsGathered size target.now
         (scaled size (permuted way.now (strides source.now))) 0 bytes.now made.items) }
 {
-    let strides = lists::strides(alloc, source, size)?;
-    let steps = lists::permuted(alloc, way, &strides)?;
+    let walk = walk_over(alloc, target, source, way, size)?;
     let mut made = vec![in alloc; 0u8; bytes.len()]?;
-    gather(&mut made, bytes, size, target, &steps, 0);
+    gather(&mut made, bytes, size, &walk.extents, &walk.steps, 0);
     Ok(made)
 }
 
@@ -191,9 +222,8 @@ fn rearranged_strings(
         (walked target.now (permuted way.now (strides source.now)) 0)) }
 {
     let count = strings.len();
-    let strides = lists::strides(alloc, source, 1)?;
-    let steps = lists::permuted(alloc, way, &strides)?;
+    let walk = walk_over(alloc, target, source, way, 1)?;
     let mut made = VariableLengthBuilder::with_capacity(alloc, count, strings.bytes().len())?;
-    push_strings(&mut made, strings, target, &steps, 0)?;
+    push_strings(&mut made, strings, &walk.extents, &walk.steps, 0)?;
     Ok(made.finish())
 }

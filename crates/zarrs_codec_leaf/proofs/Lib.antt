@@ -1,4 +1,5 @@
 pub mod Encodings
 pub mod PackedData
+pub mod PackedWords
 pub mod StringData
 pub mod VlenData

@@ -107,13 +107,15 @@ fn packed(alloc: Global, flags: &[u8]) -> Result<Vec<u8>, AllocError>
     Ok(bytes)
 }
 
+/// Eight flags, one to a byte of a word, times this have their byte as the highest one.
+const GATHERING: u64 = 0x0102_0408_1020_4080;
+
 /// The byte of eight flags.
 fn packed_eight(flags: &[u8; 8]) -> u8
     requires { All (λ flag. flag < 2) flags.now }
     ensures { result ≡ packed_byte flags.now }
 {
-    let [a, b, c, d, e, f, g, h] = *flags;
-    a + 2 * b + 4 * c + 8 * d + 16 * (e + 2 * f + 4 * g + 8 * h)
+    (u64::from_le_bytes(*flags).wrapping_mul(GATHERING) >> 56) as u8
 }
 
 /// The byte of at most eight flags.
@@ -129,6 +131,12 @@ fn packed_byte(flags: &[u8]) -> u8
     }
 }
 
+/// Seven bits times this are copied to each seventh bit, so that bit `i` is bit `8 * i` too.
+const SPREADING: u64 = 0x0002_0408_1020_4081;
+
+/// The lowest bit of each byte.
+const LOWEST_BITS: u64 = 0x0101_0101_0101_0101;
+
 /// The bits of a byte, the lowest first.
 struct Bits;
 
@@ -136,17 +144,9 @@ impl Writing<u8, 8> for Bits {
     ghost written = { byte_bits };
 
     fn write(byte: &u8) -> [u8; 8] {
-        let byte = *byte;
-        [
-            byte % 2,
-            byte / 2 % 2,
-            byte / 4 % 2,
-            byte / 8 % 2,
-            byte / 16 % 2,
-            byte / 32 % 2,
-            byte / 64 % 2,
-            byte / 128 % 2,
-        ]
+        let byte = *byte as u64;
+        let low = byte % 128 * SPREADING & LOWEST_BITS;
+        (low | byte / 128 << 56).to_le_bytes()
     }
 }
 

@@ -19,20 +19,25 @@ length-le8 n = refl
 pub length-entry_bytes : (o l : ℕ) → length (entry_bytes o l) ≡ 16
 length-entry_bytes o l = refl
 
--- both numbers of an entry
+-- the numbers of an entry
+pub entry_offset : (o l : ℕ) → o < 2 ^ 64 → from_le_bytes w64 (take 8 (entry_bytes o l)) ≡ o
+entry_offset o l small = ap (from_le_bytes w64) (take_at (to_le_bytes w64 o) (to_le_bytes w64 l) 8 (length-le8 o)) ∙ from_le_bytes-to_le_bytes_8 o small
+
+pub entry_len : (o l : ℕ) → l < 2 ^ 64 → from_le_bytes w64 (drop 8 (entry_bytes o l)) ≡ l
+entry_len o l small = ap (from_le_bytes w64) (drop_at (to_le_bytes w64 o) (to_le_bytes w64 l) 8 (length-le8 o)) ∙ from_le_bytes-to_le_bytes_8 l small
+
+-- both, read
 pub entry_read : (shard : List ℕ) (start end o l : ℕ) → o < 2 ^ 64 → l < 2 ^ 64 → named_part shard start end (entry_bytes o l) ≡ cond (eqb o absent && eqb l absent) (Some None) (given_if (nat_le start o && nat_le (o + l) end) (Some (Some (slice_range shard o (o + l)))))
 entry_read shard start end o l o_lt l_lt =
-    let a = to_le_bytes w64 o in
-    let b = to_le_bytes w64 l in
-    let first : from_le_bytes w64 (take 8 (a ++ b)) ≡ o = ap (from_le_bytes w64) (take_at a b 8 (length-le8 o)) ∙ from_le_bytes-to_le_bytes_8 o o_lt in
-    let second : from_le_bytes w64 (drop 8 (a ++ b)) ≡ l = ap (from_le_bytes w64) (drop_at a b 8 (length-le8 o)) ∙ from_le_bytes-to_le_bytes_8 l l_lt in
-    ap (λ x. cond (eqb x absent && eqb (from_le_bytes w64 (drop 8 (a ++ b))) absent) (Some None) (given_if (nat_le start x && nat_le (x + from_le_bytes w64 (drop 8 (a ++ b))) end) (Some (Some (slice_range shard x (x + from_le_bytes w64 (drop 8 (a ++ b)))))))) first
-    ∙ ap (λ x. cond (eqb o absent && eqb x absent) (Some None) (given_if (nat_le start o && nat_le (o + x) end) (Some (Some (slice_range shard o (o + x)))))) second
+    let e = entry_bytes o l in
+    ap (λ x. cond (eqb x absent && eqb (from_le_bytes w64 (drop 8 e)) absent) (Some None) (given_if (nat_le start x && nat_le (x + from_le_bytes w64 (drop 8 e)) end) (Some (Some (slice_range shard x (x + from_le_bytes w64 (drop 8 e))))))) (entry_offset o l o_lt)
+    ∙ ap (λ x. cond (eqb o absent && eqb x absent) (Some None) (given_if (nat_le start o && nat_le (o + x) end) (Some (Some (slice_range shard o (o + x)))))) (entry_len o l l_lt)
 
 pub entry_absent : (shard : List ℕ) (start end : ℕ) → named_part shard start end (entry_bytes absent absent) ≡ Some None
 entry_absent shard start end = entry_read shard start end absent absent (omega arith) (omega arith)
 
-not_absent : (o l : ℕ) → o + l < 2 ^ 64 → (eqb o absent && eqb l absent) ≡ false
+-- an entry whose range ends below 2^64 is that of a present subchunk
+pub not_absent : (o l : ℕ) → o + l < 2 ^ 64 → (eqb o absent && eqb l absent) ≡ false
 not_absent o l lt =
     elim (cases_eq o absent) [
       | inl is ↦ and_right (eqb o absent) (eqb l absent) (ne_eqb l absent (λ e. omega arith))

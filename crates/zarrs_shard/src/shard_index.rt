@@ -54,8 +54,11 @@ pub fn read_index(
     read_entries(alloc, &encoded[end..], count as usize, 0, end)
 }
 
-/// The ranges that so many entries of an index name, if they lie from `start` to `end`.
-fn read_entries(
+/// The ranges that so many entries of an index name, or `None` if a present one does not lie from `start` to `end`.
+///
+/// # Errors
+/// `AllocError`: out of memory.
+pub fn read_entries(
     alloc: Global,
     index: &[u8],
     count: usize,

@@ -3,17 +3,24 @@ ghost use Rattle.std.specs.Prelude.{◌≡◌, ◌*◌, ◌/◌, ◌<◌, ◌≤
 ghost use Rattle.std.specs.Prelude.{IfOk, IfSome, IsSome, MatchOption, length, replicate};
 ghost use Rattle.zarrs_cells.specs.ArrayData.{data_of};
 ghost use Rattle.zarrs_cells.specs.Cells.{cells, HasCells};
+ghost use Rattle.zarrs_cells.specs.Parts.{ExtractsAt};
 ghost use Rattle.zarrs_shard.specs.PartialShards.{is_met};
 ghost use Rattle.zarrs_shard.specs.Blank.{blank_bytes};
+ghost use Rattle.zarrs_region_cells.specs.RegionData.{region_data};
 ghost use Rattle.zarrs_shard.specs.Subchunks.{corner, is_cut_by, quotients, subchunk_box, subchunk_count};
 ghost use Rattle.zarrs_subset.specs.Boxes.{position_count, unravel, InShape};
+ghost use Rattle.zarrs_subset.specs.Pieces.{piece_at};
 ghost use Rattle.zarrs_subset.specs.Regions.{box_at_origin, box_of, overlap_of};
 ghost use Rattle.zarrs_types.specs.Cell.{Cell, fill_cell, fill_of, held_size};
 ghost use Rattle.zarrs_types.specs.Kind.{kind, cell_size};
+ghost use Rattle.zarrs_variable.specs.StringParts.{LiesInBox};
 
 use std::alloc::{AllocError, Global};
 use zarrs_cells::{ArrayBytes, DataType, FillValue};
-use zarrs_subset::{ArrayIndices, ArrayShape, ArraySubset, element_count, unravel_index};
+use zarrs_region_cells::RegionCells;
+use zarrs_subset::{
+    ArrayIndices, ArrayShape, ArraySubset, element_count, place_part, unravel_index,
+};
 
 /// How a chunk is cut into subchunks of one shape, which divides the chunk's. They are numbered in row-major order.
 #[derive(Debug, Drop)]
@@ -63,6 +70,13 @@ impl Subchunks {
         element_count(&self.grid)
     }
 
+    /// How many subchunks lie along each dimension.
+    pub fn grid(&self) -> &[u64]
+        ensures { result.now ≡ quotients (chunk_shape self.now) (subchunk_shape self.now) }
+    {
+        self.grid.as_slice()
+    }
+
     /// The number of subchunks, if the length of their index fits `u64`.
     pub fn indexed_count(&self) -> Option<u64>
         ensures none { MatchOption result
@@ -90,7 +104,7 @@ impl Subchunks {
         data_type: &DataType,
         fill_value: &FillValue,
         is_whole: bool,
-    ) -> Result<Option<ArrayBytes<'static>>, AllocError>
+    ) -> Result<Option<RegionCells>, AllocError>
         requires filled { IsSome (fill_cell (kind data_type.now) fill_value.now) }
         requires size { position_count (chunk_shape self.now) * cell_size (kind data_type.now)
             < 2 ^ 64 }
@@ -99,13 +113,17 @@ impl Subchunks {
             * held_size (kind data_type.now) (fill_of (kind data_type.now) fill_value.now)))
             (λ chunk. StartsChunk (kind data_type.now)
             (fill_of (kind data_type.now) fill_value.now) (chunk_shape self.now) is_whole
-            (data_of chunk))) }
+            (region_data chunk))) }
     {
         if is_whole {
             let chunk = new_blank(alloc, self.chunk_box.shape(), data_type)?;
             return Ok(Some(chunk));
         }
-        new_fill_value(alloc, self.chunk_box.shape(), data_type, fill_value)
+        let Some(count) = fill_count(self.chunk_box.shape(), data_type, fill_value) else {
+            return Ok(None);
+        };
+        let chunk = RegionCells::new_fill_value(alloc, data_type, count, fill_value)?;
+        Ok(Some(chunk))
     }
 
     /// A subchunk whose cells are all fill, or `None` if its bytes pass `u64`.
@@ -126,7 +144,11 @@ impl Subchunks {
             ≡ Some (replicate (position_count (subchunk_shape self.now))
             (fill_of (kind data_type.now) fill_value.now)))) }
     {
-        new_fill_value(alloc, &self.shape, data_type, fill_value)
+        let Some(count) = fill_count(&self.shape, data_type, fill_value) else {
+            return Ok(None);
+        };
+        let part = ArrayBytes::new_fill_value(alloc, data_type, count, fill_value)?;
+        Ok(Some(part))
     }
 
     /// The extents of each subchunk.
@@ -153,7 +175,7 @@ impl Subchunks {
         Ok(ArraySubset::new(start, shape))
     }
 
-    /// The cells of the subchunk of this number, of those of its chunk.
+    /// The cells of the subchunk of this number, of those of its chunk. The memory of `room` is used again.
     ///
     /// # Errors
     /// `AllocError`: out of memory.
@@ -163,6 +185,7 @@ impl Subchunks {
         chunk: &ArrayBytes<'_>,
         data_type: &DataType,
         number: u64,
+        room: Vec<u8>,
     ) -> Result<ArrayBytes<'static>, AllocError>
         requires number { number < subchunk_count (chunk_shape self.now) (subchunk_shape self.now) }
         requires held { HasCells (kind data_type.now) (data_of chunk.now)
@@ -171,7 +194,13 @@ impl Subchunks {
             (subchunk_shape self.now) number (data_of chunk.now) (data_of made)) }
     {
         let subset = self.subset(alloc, number)?;
-        chunk.extract_array_subset(alloc, data_type, &self.chunk_box, &subset)
+        match (chunk, data_type.element_size()) {
+            (ArrayBytes::Fixed(bytes), Some(size)) => {
+                let made = extract_bytes(bytes.as_slice(), size, &self.chunk_box, &subset, room)?;
+                Ok(ArrayBytes::new_flen(made))
+            }
+            _ => chunk.extract_array_subset(alloc, data_type, &self.chunk_box, &subset),
+        }
     }
 
     /// Whether the part has a position of the subchunk of this number.
@@ -223,66 +252,79 @@ impl Subchunks {
     pub fn put(
         &self,
         alloc: Global,
-        chunk: ArrayBytes<'static>,
+        chunk: RegionCells,
         part: &ArrayBytes<'_>,
         data_type: &DataType,
         number: u64,
-    ) -> Result<ArrayBytes<'static>, AllocError>
+    ) -> Result<RegionCells, AllocError>
         requires number { number < subchunk_count (chunk_shape self.now) (subchunk_shape self.now) }
-        requires held { HasCells (kind data_type.now) (data_of chunk)
+        requires held { HasCells (kind data_type.now) (region_data chunk)
             (position_count (chunk_shape self.now)) }
         requires part { HasCells (kind data_type.now) (data_of part.now)
             (position_count (subchunk_shape self.now)) }
         ensures { IfOk result (λ made. PutsSubchunk (kind data_type.now) (chunk_shape self.now)
-            (subchunk_shape self.now) number (data_of part.now) (data_of chunk.entry)
-            (data_of made)) }
+            (subchunk_shape self.now) number (data_of part.now) (region_data chunk)
+            (region_data made)) }
     {
         let subset = self.subset(alloc, number)?;
-        chunk.update_array_bytes(alloc, data_type, &self.chunk_box, part, &subset)
+        chunk.with_part(alloc, data_type, &self.chunk_box, part, &subset)
     }
 }
 
-/// An array of this shape whose cells are all fill, or `None` if its bytes pass `u64`.
-fn new_fill_value(
-    alloc: Global,
-    shape: &[u64],
-    data_type: &DataType,
-    fill_value: &FillValue,
-) -> Result<Option<ArrayBytes<'static>>, AllocError>
+/// The cells of one size at the positions of `subset`, of an array over `held_box`, in the memory of `room`.
+fn extract_bytes(
+    bytes: &[u8],
+    size: usize,
+    held_box: &ArraySubset,
+    subset: &ArraySubset,
+    room: Vec<u8>,
+) -> Result<Vec<u8>, AllocError>
+    requires positive { 0 < size }
+    requires held_len { length bytes.now ≡ position_count (box_of held_box.now).shape * size }
+    requires inside { LiesInBox (box_of subset.now) (box_of held_box.now) }
+    ensures len { IfOk result (λ made. length made.items
+        ≡ position_count (box_of subset.now).shape * size) }
+    ensures cells { IfOk result (λ made. ExtractsAt (box_of held_box.now) (piece_at size bytes.now)
+        (box_of subset.now) (piece_at size made.items)) }
+{
+    let Ok(count) = subset.num_elements() else {
+        unreachable!()
+    };
+    let mut made = room;
+    made.resize(count as usize * size, 0)?;
+    place_part(subset, &mut made, held_box, bytes, size);
+    Ok(made)
+}
+
+/// The number of the cells of this shape, or `None` if the bytes of as many fill values pass `u64`.
+fn fill_count(shape: &[u64], data_type: &DataType, fill_value: &FillValue) -> Option<u64>
     requires { IsSome (fill_cell (kind data_type.now) fill_value.now) }
-    ensures { IfOk result (λ made. MatchOption made
+    ensures count { MatchOption result
         (2 ^ 64 ≤ position_count shape.now
         * held_size (kind data_type.now) (fill_of (kind data_type.now) fill_value.now))
-        (λ array. cells (kind data_type.now) (data_of array)
-        ≡ Some (replicate (position_count shape.now)
-        (fill_of (kind data_type.now) fill_value.now)))) }
+        (λ count. count ≡ position_count shape.now) }
+    ensures size { IfSome result (λ count. count
+        * held_size (kind data_type.now) (fill_of (kind data_type.now) fill_value.now) < 2 ^ 64) }
 {
     let Some(count) = element_count(shape) else {
-        return Ok(None);
+        return None;
     };
     let cell_size = data_type.held_size(fill_value.as_bytes());
-    if count.checked_mul(cell_size as u64).is_none() {
-        return Ok(None);
-    }
-    let array = ArrayBytes::new_fill_value(alloc, data_type, count, fill_value)?;
-    Ok(Some(array))
+    count.checked_mul(cell_size as u64)?;
+    Some(count)
 }
 
-/// An array of this shape whose cells are all blank.
-fn new_blank(
-    alloc: Global,
-    shape: &[u64],
-    data_type: &DataType,
-) -> Result<ArrayBytes<'static>, AllocError>
+/// A chunk of this shape whose cells are all blank.
+fn new_blank(alloc: Global, shape: &[u64], data_type: &DataType) -> Result<RegionCells, AllocError>
     requires { position_count shape.now * cell_size (kind data_type.now) < 2 ^ 64 }
-    ensures { IfOk result (λ array. (filler : Cell) × (cells (kind data_type.now) (data_of array)
-        ≡ Some (replicate (position_count shape.now) filler))) }
+    ensures { IfOk result (λ chunk. (filler : Cell) × (cells (kind data_type.now)
+        (region_data chunk) ≡ Some (replicate (position_count shape.now) filler))) }
 {
     let blank = blank_of(alloc, data_type)?;
-    let Some(array) = new_fill_value(alloc, shape, data_type, &blank)? else {
+    let Some(count) = fill_count(shape, data_type, &blank) else {
         unreachable!();
     };
-    Ok(array)
+    RegionCells::new_fill_value(alloc, data_type, count, &blank)
 }
 
 /// A blank fill value of the type: zeros, an empty text, or none. No other takes less memory.

@@ -1,4 +1,4 @@
-use Rattle.std.proofs.Common.{refl, ◌-◌, arith, ◌≡◌, ◌+◌, ◌*◌, ◌<◌, ◌≤◌, length, ap, sym, subst, ◌∙◌}
+use Rattle.std.proofs.Common.{refl, ◌-◌, arith, ◌≡◌, ◌+◌, ◌*◌, ◌≤◌, length, sym, subst, ◌∙◌}
 use Rattle.zarrs_subset.proofs.Kernel.{length_part}
 use Rattle.zarrs_codec_array.proofs.Columns.{table_read, part_room, part-within, stairs-more, stairs-first}
 use Rattle.zarrs_codec_array.proofs.gather.gather_columns.Goals as goal

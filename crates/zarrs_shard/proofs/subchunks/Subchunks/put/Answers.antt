@@ -2,6 +2,7 @@ use Rattle.std.proofs.Common.{subst}
 use Rattle.std.proofs.lemmas.Result.{IfOk-weaker}
 use Rattle.zarrs_cells.specs.ArrayData.{data_of}
 use Rattle.zarrs_cells.specs.Parts.{TakesCells}
+use Rattle.zarrs_region_cells.specs.RegionData.{region_data}
 use Rattle.zarrs_subset.specs.Regions.{box_of}
 use Rattle.zarrs_types.specs.Kind.{kind}
 use Rattle.zarrs_shard.specs.SubchunkData.{chunk_shape, subchunk_shape}
@@ -16,10 +17,10 @@ returns c =
     let sub = subchunk_shape self in
     let k = kind c.args.data_type.now in
     let part = data_of c.args.part.now in
-    let old = data_of c.args.chunk in
-    IfOk-weaker c.update_array_bytes.result _ _
-    (λ made x. puts_subchunk k s sub c.args.number self.cut c.requires.number part old (data_of made)
-    (subst (λ box. TakesCells k box (subchunk_box s sub c.args.number) part old (data_of made)) self.at_origin
-    (subst (λ box. TakesCells k (box_of self.chunk_box) box part old (data_of made)) c.in_ok-subset.ensures x))
+    let old = region_data c.args.chunk in
+    IfOk-weaker c.with_part.result _ _
+    (λ made x. puts_subchunk k s sub c.args.number self.cut c.requires.number part old (region_data made)
+    (subst (λ box. TakesCells k box (subchunk_box s sub c.args.number) part old (region_data made)) self.at_origin
+    (subst (λ box. TakesCells k (box_of self.chunk_box) box part old (region_data made)) c.in_ok-subset.ensures x))
     c.requires.held c.requires.part)
-    c.update_array_bytes.ensures
+    c.with_part.ensures
