@@ -1,11 +1,17 @@
 //! What a codec chain does.
 ghost use Rattle.std.specs.Prelude.{◌≡◌, ◌*◌, ◌<◌, ◌^◌, true, Some, IfOk, IfErr, IsSome};
-ghost use Rattle.std.specs.Prelude.{length, option_map};
+ghost use Rattle.std.specs.Prelude.{length, option_map, OnOk};
 ghost use Rattle.zarrs_subset.specs.Boxes.{position_count};
-ghost use Rattle.zarrs_subset.specs.Regions.{box_of};
+ghost use Rattle.zarrs_subset.specs.Regions.{box_of, LiesInShape};
+ghost use Rattle.zarrs_source.specs.Sources.{IsWindow, MayRead, window_bytes};
+ghost use Rattle.zarrs_target.specs.States.{IsTarget, SameBox, StaysOutside, data_of_target};
+ghost use Rattle.zarrs_target.specs.States.{parent_box, target_box};
+ghost use Rattle.zarrs_target.specs.Targets.{takes_type};
+ghost use Rattle.zarrs_parts.specs.Parts.{DecodesInto, DecodesPart};
+ghost use Rattle.zarrs_parts.specs.Refusals.{RefusesIntoDecoding, RefusesPartDecoding};
 ghost use Rattle.zarrs_shard.specs.ShardPatches.{change_of};
 ghost use Rattle.zarrs_data_type.specs.Kind.{kind, cell_size};
-ghost use Rattle.zarrs_data_type.specs.Cell.{fill_cell, fill_of};
+ghost use Rattle.zarrs_data_type.specs.Cell.{fill_cell, fill_of, held_size};
 ghost use Rattle.zarrs_data_type.specs.ArrayData.{data_of};
 ghost use Rattle.zarrs_data_type.specs.Cells.{cells, HasCells};
 ghost use Rattle.zarrs_chain.specs.Chain.{ChainMeaning, IsLawfulChain, chunk_encoding};
@@ -18,8 +24,11 @@ use crate::options::CodecOptions;
 use std::alloc::{AllocError, Global};
 use zarrs_codec_leaf::CodecError;
 use zarrs_data_type::{ArrayBytes, DataType, FillValue};
+use zarrs_parts::PartError;
 use zarrs_shard::PartialWrite;
+use zarrs_source::{ByteSource, Window};
 use zarrs_subset::ArraySubset;
+use zarrs_target::ArrayBytesDecodeIntoTarget;
 
 /// A chain of codecs, which turns the cells of a chunk into bytes and back (Zarr V3 core specification, "Codecs").
 /// A shape has the chunk's extents, and the fill value is one of the data type.
@@ -108,6 +117,72 @@ pub trait ChainTraits {
         ensures some { IfOk result (λ made. IsSome (cells (kind data_type.now) (data_of made))) }
         ensures refused { IfErr result (RefusesChunkDecoding (meaning self.now) (kind data_type.now)
             (fill_of (kind data_type.now) fill_value.now) shape.now encoded.now) };
+
+    /// The cells of a part of a chunk whose bytes are those of a window of a source. No other bytes are read than those
+    /// that the part needs.
+    ///
+    /// # Errors
+    /// `Codec(DoesNotFit)` if the bytes do not decode, though a part of them may; `Codec(SizeOverflow)` if they leave out
+    /// cells, and a chunk of fill is too large; `Source` if the source refuses. `Codec(OutOfMemory)` may come at any time.
+    fn partial_decode<B: ByteSource>(
+        &self,
+        alloc: Global,
+        source: &B,
+        window: Window,
+        part: &ArraySubset,
+        data_type: &DataType,
+        fill_value: &FillValue,
+        shape: &[u64],
+    ) -> Result<ArrayBytes<'static>, PartError>
+        requires filled { IsSome (fill_cell (kind data_type.now) fill_value.now) }
+        requires size { position_count shape.now * cell_size (kind data_type.now) < 2 ^ 64 }
+        requires fill_size { position_count (box_of part.now).shape * held_size (kind data_type.now)
+            (fill_of (kind data_type.now) fill_value.now) < 2 ^ 64 }
+        requires part { LiesInShape (box_of part.now) shape.now }
+        requires window { IsWindow window (B.bytes source.now) }
+        requires may_read { MayRead (B.may_read source.now) window ((meaning self.now).places
+            (kind data_type.now) shape.now (box_of part.now)
+            (window_bytes window (B.bytes source.now))) }
+        ensures cells { IfOk result (λ made. DecodesPart (kind data_type.now) shape.now
+            (box_of part.now) ((meaning self.now).decoded (kind data_type.now)
+            (fill_of (kind data_type.now) fill_value.now) shape.now
+            (window_bytes window (B.bytes source.now))) (data_of made)) }
+        ensures refused { IfErr result (RefusesPartDecoding ((meaning self.now).decoded
+            (kind data_type.now) (fill_of (kind data_type.now) fill_value.now) shape.now
+            (window_bytes window (B.bytes source.now)))
+            ((meaning self.now).leaves_out shape.now (window_bytes window (B.bytes source.now)))
+            (position_count shape.now * held_size (kind data_type.now)
+            (fill_of (kind data_type.now) fill_value.now)) (B.refuses source.now)) };
+
+    /// Decodes a chunk, which has the shape of the target's box, into the box. Every byte outside the box stays; after a
+    /// refusal the inside is open.
+    ///
+    /// # Errors
+    /// `DoesNotFit` if the bytes do not decode. `OutOfMemory` may come at any time.
+    fn decode_into(
+        &self,
+        alloc: Global,
+        encoded: &[u8],
+        data_type: &DataType,
+        fill_value: &FillValue,
+        target: &mut ArrayBytesDecodeIntoTarget<'_, '_, '_>,
+    ) -> Result<(), CodecError>
+        requires filled { IsSome (fill_cell (kind data_type.now) fill_value.now) }
+        requires target { IsTarget target.old }
+        requires takes { takes_type target.old.cell_size target.old.depth (kind data_type.now)
+            ≡ true }
+        ensures target { IsTarget target.new }
+        ensures same_bytes { target.new.bytes.ghost_name ≡ target.old.bytes.ghost_name }
+        ensures same_masks { target.new.masks.ghost_name ≡ target.old.masks.ghost_name }
+        ensures same_box { SameBox target.old target.new }
+        ensures cells { OnOk result (DecodesInto (kind data_type.now) (parent_box target.old)
+            (target_box target.old) ((meaning self.now).decoded (kind data_type.now)
+            (fill_of (kind data_type.now) fill_value.now) (target_box target.old).shape encoded.now)
+            (data_of_target target.new)) }
+        ensures outside { StaysOutside target.old target.new }
+        ensures refused { IfErr result (RefusesIntoDecoding ((meaning self.now).decoded
+            (kind data_type.now) (fill_of (kind data_type.now) fill_value.now)
+            (target_box target.old).shape encoded.now)) };
 
     /// The bytes of the same cells without what no cell needs, or `None` if those are the same bytes.
     ///

@@ -1,0 +1,10 @@
+pub mod BytesParts
+pub mod IntoSteps
+pub mod Kept
+pub mod PartBoxes
+pub mod ReadSteps
+pub mod Stays
+pub mod SubchunkPieces
+pub mod SubchunkSteps
+pub mod SubchunkWalks
+pub mod WholeParts
