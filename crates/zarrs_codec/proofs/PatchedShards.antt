@@ -17,7 +17,7 @@ use Rattle.zarrs_codec_leaf.specs.declared.error.CodecError.TheVariants as error
 use Rattle.zarrs_metadata.specs.Extension.{◌>>=◌}
 use Rattle.zarrs_shard.specs.PartialShards.{sharded_partly, stored_parts, write_of}
 use Rattle.zarrs_shard.specs.Sharded.{SubchunkMeaning, cells_of_parts, part_leaves_out, sharded_fits}
-use Rattle.zarrs_shard.specs.Steps.{all_present, given_if}
+use Rattle.zarrs_shard.specs.Steps.{given_if}
 use Rattle.zarrs_shard.specs.Subchunks.{assembled, is_cut_by, subchunk_count}
 use Rattle.zarrs_shard.proofs.Missing.{some_is, only_if_false, only_if_true, all_some-none}
 use Rattle.zarrs_shard.proofs.ShardLaws.{length-shard_parts}
@@ -27,7 +27,7 @@ use Rattle.zarrs_chain.specs.Refusals.{RefusesPartialEncoding}
 use Rattle.zarrs_codec.specs.Chains.{behind, no_codec}
 use Rattle.zarrs_codec.specs.ChainLaws.{same_cells}
 use Rattle.zarrs_codec.specs.PartialShardings.{changed_part, changes_of, write_to, RefusesChanges, RefusesHeld}
-use Rattle.zarrs_codec.specs.Shardings.{cells_of, decoded_part, sharded, subchunk_meaning}
+use Rattle.zarrs_codec.specs.Shardings.{decoded_part, sharded, subchunk_meaning}
 use Rattle.zarrs_codec.proofs.PartCells.{left_out, shard_cells}
 use Rattle.zarrs_codec.proofs.Patches.{no_write}
 

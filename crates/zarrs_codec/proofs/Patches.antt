@@ -1,42 +1,36 @@
 -- A part of a chunk's cells written into its shard, subchunk by subchunk.
-use Rattle.std.proofs.Common.{◌≡◌, ℕ, ◌+◌, ◌*◌, ◌<◌, ◌≤◌, ◌^◌, Bool, true, false, cond, ◌⊎◌, inl, inr, List, [], ◌∷◌, ◌++◌, length, map, get_or, replicate, Option, None, Some, IsSome, refl, sym, ap, subst, ◌∙◌, arith}
-use Rattle.std.specs.Prelude.{is_some, nat_lt, option_and_then, option_map, unwrap_or, if◌then◌else◌}
+use Rattle.std.proofs.Common.{◌≡◌, ℕ, ◌+◌, ◌<◌, ◌≤◌, Bool, true, false, cond, inl, inr, List, [], ◌∷◌, ◌++◌, length, map, get_or, replicate, Option, None, Some, IsSome, refl, sym, ap, subst, ◌∙◌, arith}
+use Rattle.std.specs.Prelude.{is_some, option_map, unwrap_or, if◌then◌else◌}
 use Rattle.std.specs.List.{range_with_len}
-use Rattle.std.proofs.lemmas.Bool.{and_from, false≢true, le-ltb, lt-ltb}
-use Rattle.std.proofs.lemmas.List.{get_or-map, length-map, length-replicate}
+use Rattle.std.proofs.lemmas.Bool.{false≢true}
+use Rattle.std.proofs.lemmas.List.{length-replicate}
 use Rattle.std.proofs.lemmas.List.FromFn.{length-map-range_with_len, get_or-map-range_with_len, map-range_with_len_more}
 use Rattle.zarrs_data_type.specs.ArrayData.{ArrayData}
-use Rattle.zarrs_data_type.specs.Cell.{Cell, held_size, none, values_only}
+use Rattle.zarrs_data_type.specs.Cell.{Cell, none}
 use Rattle.zarrs_data_type.specs.Cells.{cells, HasCells}
 use Rattle.zarrs_data_type.specs.Kind.{Kind}
-use Rattle.zarrs_data_type.proofs.Cells.{HasCells-cells, HasCells-some}
+use Rattle.zarrs_data_type.proofs.Cells.{HasCells-some}
 use Rattle.zarrs_subset.specs.Boxes.{offset_by, place, position_count, unravel}
 use Rattle.zarrs_subset.specs.Regions.{Box, in_box, place_in}
 use Rattle.zarrs_subset.proofs.RearrangedCells.{length-made_of}
-use Rattle.zarrs_codec_array.specs.declared.array.ArrayToArrayCodec.{ArrayToArrayCodec}
 use Rattle.zarrs_codec_leaf.specs.declared.error.CodecError.{CodecError}
 use Rattle.zarrs_codec_leaf.specs.declared.error.CodecError.TheVariants as error
 use Rattle.zarrs_metadata.specs.Extension.{◌>>=◌}
-use Rattle.zarrs_shard.specs.PartialShards.{PartialChange, is_met, sharded_partly, stored_parts, updated_subchunk, write_of}
+use Rattle.zarrs_shard.specs.PartialShards.{PartialChange, is_met, stored_parts, updated_subchunk, write_of}
 use Rattle.zarrs_shard.specs.ShardIndex.{range_part}
 use Rattle.zarrs_shard.specs.ShardPatches.{HasRoom, IsPatching, PushesChange}
-use Rattle.zarrs_shard.specs.Sharded.{cells_of_part, part_of, sharded_fits}
-use Rattle.zarrs_shard.specs.Steps.{all_present, given_if}
+use Rattle.zarrs_shard.specs.Sharded.{cells_of_part, part_of}
+use Rattle.zarrs_shard.specs.Steps.{all_present}
 use Rattle.zarrs_shard.specs.SubchunkData.{UpdatesSubchunk}
-use Rattle.zarrs_shard.specs.Subchunks.{assembled, corner, is_cut_by, quotients, subchunk_count}
+use Rattle.zarrs_shard.specs.Subchunks.{corner, quotients, subchunk_count}
 use Rattle.zarrs_shard.specs.declared.patch.ShardPatch.{ShardPatch}
 use Rattle.zarrs_shard.specs.declared.shard_index.SubchunkRange.{SubchunkRange}
-use Rattle.zarrs_shard.proofs.Missing.{some_is, only_if_false, only_if_true, all_some-more, all_some-none, length-all_some}
+use Rattle.zarrs_shard.proofs.Missing.{all_some-more, all_some-none, length-all_some}
 use Rattle.zarrs_shard.proofs.Patching.{index_length}
-use Rattle.zarrs_shard.proofs.Sizes.{part_large}
-use Rattle.zarrs_chain.specs.Chain.{ChainMeaning, IsLawfulChain, chunk_cells, chunk_leaves_out, partial_encoding}
-use Rattle.zarrs_chain.specs.Refusals.{RefusesPartialEncoding}
-use Rattle.zarrs_codec.specs.Chains.{behind, no_codec}
-use Rattle.zarrs_codec.specs.ChainLaws.{same_cells}
+use Rattle.zarrs_chain.specs.Chain.{ChainMeaning, IsLawfulChain}
 use Rattle.zarrs_codec.specs.PartialShardings.{changed_part, changes_of, write_to, HasFirstChanges, RefusesChange, RefusesChanges, RefusesHeld}
-use Rattle.zarrs_codec.specs.Shardings.{cells_of, decoded_part, decoded_parts, sharded, subchunk_meaning, RefusesPart}
+use Rattle.zarrs_codec.specs.Shardings.{cells_of, decoded_part, subchunk_meaning, RefusesPart}
 use Rattle.zarrs_codec.proofs.Behind.{decoded-has_cells}
-use Rattle.zarrs_codec.proofs.PartCells.{left_out, shard_cells, shard_refused}
 
 -- ---- one subchunk
 

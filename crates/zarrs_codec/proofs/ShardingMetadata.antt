@@ -101,3 +101,19 @@ said-sharding e d named is =
     last (Some x) at =
         let fewer = sharding-levels (settings e) d x is at in
         within-enough (levels_in (settings e)) (suc (levels_in (settings x))) x fewer (omega arith)
+
+-- what an extension point says, level by level
+pub said-unfolds : (e : ExtensionData) → bytes_codec_said e
+    ≡ cond (bytes_eq e.name (codes "sharding_indexed")) (option_and_then (λ (d : ShardingData). sharding_with d (chain_said d.codecs)) (sharding_data (settings e))) (option_map cells (cells_codec_said e))
+said-unfolds e = named (bytes_eq e.name (codes "sharding_indexed")) refl
+  where
+    around : Option ShardingData → Option BytesCodecData
+    around parts = option_and_then (λ (d : ShardingData). sharding_with d (chain_said d.codecs)) parts
+
+    shards : (o : Option ShardingData) → bytes_eq e.name (codes "sharding_indexed") ≡ true → sharding_data (settings e) ≡ o → bytes_codec_said e ≡ around o
+    shards None is at = said-no_parts e is at
+    shards (Some d) is at = said-sharding e d is at
+
+    named : (b : Bool) → bytes_eq e.name (codes "sharding_indexed") ≡ b → bytes_codec_said e ≡ cond b (around (sharding_data (settings e))) (option_map cells (cells_codec_said e))
+    named true is = shards (sharding_data (settings e)) is refl
+    named false is = said-cells e is

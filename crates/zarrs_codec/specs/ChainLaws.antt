@@ -1,5 +1,5 @@
 -- The law of every chain of the code, from those of its codecs.
-use Rattle.std.proofs.Common.{◌≡◌, ℕ, Bool, true, false, List, [], ◌∷◌, length, Option, None, Some, refl, sym, ap, subst, ◌∙◌}
+use Rattle.std.proofs.Common.{◌≡◌, ◌<◌, ℕ, Bool, true, false, List, [], ◌∷◌, length, Option, None, Some, refl, sym, ap, subst, ◌∙◌}
 use Rattle.std.specs.Prelude.{option_and_then}
 use Rattle.zarrs_types.specs.Kind.{Kind}
 use Rattle.zarrs_types.specs.Kind as type
@@ -25,7 +25,8 @@ use Rattle.zarrs_codec.specs.declared.chain.CodecChain.{CodecChain}
 use Rattle.zarrs_chain.specs.Chain.{ChainMeaning, IsLawfulChain, chunk_cells}
 use Rattle.zarrs_codec_cells.specs.ShardingMetadata.{sizes_of}
 use Rattle.zarrs_codec.specs.Chains.{array_to_array_of, array_to_bytes_of, behind, codec_meaning, is_at_start, leaf_meaning, no_cells, whole_chunk}
-use Rattle.zarrs_codec.specs.Chains.{chain_meaning}
+use Rattle.zarrs_codec.specs.Chains.{chain_meaning, no_codec, with_places}
+use Rattle.zarrs_parts.specs.Places.{Places, all_places-inside, cell_places, cell_places-inside, places_behind-inside, shard_places-inside}
 use Rattle.zarrs_codec.specs.Shardings.{sharded, subchunk_meaning}
 use Rattle.zarrs_codec.specs.Through.{through-lawful}
 
@@ -58,7 +59,36 @@ whole_chunk-lawful leaf law = record {
   unfit = λ empty k f s cs not. law.untaken k cs not;
   unfit_decoded = λ k f s b not. law.untaken_decoded k _ b not;
   partly_updates = λ empty k f s stored part given held change filled values count start shape made is. cc;
+  places_inside = all_places-inside;
 }
+
+-- the law does not depend on which of its bytes a read of a part needs
+pub with_places-lawful : (places : Places) (m : ChainMeaning) → IsLawfulChain m
+    → ((k : Kind) (s : List ℕ) (part : Box) (b : List ℕ) (place : ℕ) → places k s part b place ≡ true → place < length b) → IsLawfulChain (with_places places m)
+with_places-lawful places m law inside = record {
+  round_trip = law.round_trip;
+  decoded_len = law.decoded_len;
+  decoded_values = law.decoded_values;
+  compacted_same = law.compacted_same;
+  compacted_differs = law.compacted_differs;
+  encoded_compact = law.encoded_compact;
+  unfit = law.unfit;
+  unfit_decoded = law.unfit_decoded;
+  partly_updates = λ empty k f s stored part given held change filled values count start shape made is.
+      updates empty k f s stored part given held change filled values count start shape made (sym (same stored k f s) ∙ is);
+  places_inside = inside;
+}
+  where
+    same : (stored : Option (List ℕ)) (k : Kind) (f : Cell) (s : List ℕ) → chunk_cells (with_places places m) k f s stored ≡ chunk_cells m k f s stored
+    same None k f s = refl
+    same (Some b) k f s = refl
+
+    updates : (empty : Bool) (k : Kind) (f : Cell) (s : List ℕ) (stored : Option (List ℕ)) (part : Box) (given held : List Cell) (change : PartialChange)
+        → is_value k f ≡ true → are_values k given ≡ true → length given ≡ position_count part.shape → length part.start ≡ length s → length part.shape ≡ length s
+        → m.partly_encoded empty k f s stored part given ≡ Some change → chunk_cells m k f s stored ≡ Some held
+        → IsUpdated s part given held (chunk_cells (with_places places m) k f s (after change stored))
+    updates empty k f s stored part given held change filled values count start shape made is =
+        subst (IsUpdated s part given held) (sym (same (after change stored) k f s)) (law.partly_updates empty k f s stored part given held change filled values count start shape made is)
 
 -- the cells of a chunk behind no codec
 pub same_cells : (m : ChainMeaning) (k : Kind) (f : Cell) (s : List ℕ) (stored : Option (List ℕ))
@@ -94,6 +124,7 @@ module _ (m : ChainMeaning) (law : IsLawfulChain m) where
         unfit = t.unfit;
         unfit_decoded = t.unfit_decoded;
         partly_updates = partly codecs;
+        places_inside = places_behind-inside (no_codec codecs) m.places law.places_inside;
       }
 
 module _ (sub : List ℕ) (m : ChainMeaning) (law : IsLawfulChain m) where
@@ -136,12 +167,15 @@ module _ (at_start : Bool) (sub : List ℕ) (m : ChainMeaning) (law : IsLawfulCh
     unfit_decoded = λ k f s b not. (shard false k f s).unfit_decoded b not;
     partly_updates = λ empty k f s stored part given held change filled values count start shape made is.
         partly_sharded at_start sub m law empty k f s stored part given held change filled values count start shape made is;
+    places_inside = shard_places-inside at_start sub;
   }
 
 pub codec-lawful : (c : ArrayToBytesCodec) → IsLawfulChain (codec_meaning c)
 codec-lawful (codec.Sharding' p sub at before last after) =
     sharded-lawful (is_at_start at) (sizes_of sub.items) (behind before.items (codec_meaning last))
     (behind-lawful (codec_meaning last) (codec-lawful last) before.items)
+codec-lawful (codec.Bytes bytes) =
+    with_places-lawful cell_places (whole_chunk (leaf_meaning (codec.Bytes bytes))) (whole_chunk-lawful (leaf_meaning (codec.Bytes bytes)) (leaf-lawful (codec.Bytes bytes))) cell_places-inside
 codec-lawful c = whole_chunk-lawful (leaf_meaning c) (leaf-lawful c)
 
 pub chain-lawful : (chain : CodecChain) → IsLawfulChain (chain_meaning chain)

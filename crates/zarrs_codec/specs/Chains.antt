@@ -1,5 +1,5 @@
 -- What the chains of the code mean.
-use Rattle.std.specs.Prelude.{ℕ, Bool, true, false, Some, None, List, [], ◌∷◌, map}
+use Rattle.std.specs.Prelude.{Bool, true, false, Some, None, List, [], ◌∷◌}
 use Rattle.std.specs.declared.num.NonZeroU64.{NonZeroU64}
 use Rattle.zarrs_codec_array.specs.ArrayCodecs.{arrays_meaning}
 use Rattle.zarrs_codec_array.specs.declared.array.ArrayToArrayCodec.{ArrayToArrayCodec}
@@ -18,6 +18,7 @@ use Rattle.zarrs_codec.specs.declared.chain.CodecChain.{CodecChain}
 use Rattle.zarrs_codec.specs.declared.sharding.ShardingCodec.{ShardingCodec}
 use Rattle.zarrs_codec.specs.declared.sharding.ShardingIndexLocation.{ShardingIndexLocation}
 use Rattle.zarrs_codec.specs.declared.sharding.ShardingIndexLocation.TheVariants as location
+use Rattle.zarrs_parts.specs.Places.{Places, all_places, cell_places}
 use Rattle.zarrs_chain.specs.Chain.{ChainMeaning}
 use Rattle.zarrs_codec.specs.Shardings.{sharded}
 use Rattle.zarrs_codec.specs.Through.{through, through_all}
@@ -71,14 +72,19 @@ whole_chunk leaf = record {
   leaves_out = λ s b. false;
   encodes_partly = false;
   partly_encoded = λ empty k f s stored part cs. None;
+  places = all_places;
 }
+
+-- a chain whose reads of parts need these places
+abbrev pub with_places : Places → ChainMeaning → ChainMeaning
+with_places places m = record m { places = places }
 
 -- whether there is no codec
 abbrev pub no_codec : List ArrayToArrayCodec → Bool
 no_codec [] = true
 no_codec (codec ∷ codecs) = false
 
--- the chain `m` behind array-to-array codecs: parts are written only if there is none
+-- the chain `m` behind array-to-array codecs: parts are written, and read by themselves, only if there is none
 abbrev pub behind : List ArrayToArrayCodec → ChainMeaning → ChainMeaning
 behind codecs m = through_all (no_codec codecs) (arrays_meaning codecs) m
 
@@ -86,6 +92,7 @@ behind codecs m = through_all (no_codec codecs) (arrays_meaning codecs) m
 abbrev pub codec_meaning : ArrayToBytesCodec → ChainMeaning
 codec_meaning (codec.Sharding' p sub at before last after) =
     sharded (is_at_start at) (sizes_of sub.items) (behind before.items (codec_meaning last))
+codec_meaning (codec.Bytes bytes) = with_places cell_places (whole_chunk (leaf_meaning (codec.Bytes bytes)))
 codec_meaning c = whole_chunk (leaf_meaning c)
 
 -- what a chain means

@@ -16,6 +16,7 @@ use Rattle.zarrs_shard.specs.Sharded.{sharded_fits, sharded_encoded, sharded_dec
 use Rattle.zarrs_shard.specs.SubchunkData.{HasSubchunks}
 use Rattle.zarrs_shard.specs.Subchunks.{is_cut_by}
 use Rattle.zarrs_subset.specs.Boxes.{position_count}
+use Rattle.zarrs_parts.specs.Places.{shard_places}
 use Rattle.zarrs_chain.specs.Chain.{ChainMeaning}
 
 -- what a chain means to subchunks of one shape
@@ -38,6 +39,7 @@ sharded at_start sub m = record {
   encodes_partly = not at_start;
   partly_encoded = λ store_empty k fill s stored part cs.
       given_if (not at_start) (sharded_partly (subchunk_meaning m store_empty k fill sub) store_empty fill s sub stored part cs);
+  places = shard_places at_start sub;
 }
 
 -- the cells of data that has some

@@ -5,6 +5,7 @@ use Rattle.zarrs_types.specs.Cell.{Cell, are_values, is_value}
 use Rattle.zarrs_subset.specs.Boxes.{position_count}
 use Rattle.zarrs_codec_array.specs.Arrays.{ArrayMeaning, IsLawfulArray}
 use Rattle.std.specs.Prelude.{option_and_then, if◌then◌else◌}
+use Rattle.zarrs_parts.specs.Places.{all_places, all_places-inside, places_behind}
 use Rattle.zarrs_chain.specs.Chain.{ChainMeaning, IsLawfulChain}
 
 -- the value, if the test holds
@@ -22,13 +23,15 @@ through a m = record {
   leaves_out = λ s b. a.fits s && m.leaves_out (a.shape s) b;
   encodes_partly = false;
   partly_encoded = λ empty k f s stored part cs. None;
+  places = all_places;
 }
 
--- the same, where it is said whether there is no such codec: parts are written only then
+-- the same, where it is said whether there is no such codec: parts are written, and read by themselves, only then
 abbrev pub through_all : (none : Bool) → ArrayMeaning → ChainMeaning → ChainMeaning
 through_all none a m = record (through a m) {
   encodes_partly = none && m.encodes_partly;
   partly_encoded = λ empty k f s stored part cs. only_if none (m.partly_encoded empty k f s stored part cs);
+  places = places_behind none m.places;
 }
 
 some_is : {A : Type 0} {x y : A} → Some x ≡ Some y → x ≡ y
@@ -99,4 +102,5 @@ module _ (a : ArrayMeaning) (m : ChainMeaning) (array_law : IsLawfulArray a) (la
     unfit_decoded = λ k f s b not.
         unfit_here (a.fits s) (m.fits k (a.shape s)) _ not (λ n. ap (option_and_then (λ x. Some (a.back s x))) (law.unfit_decoded k f (a.shape s) b n));
     partly_updates = λ empty k f s stored part given held change filled values count start shape made is. cc;
+    places_inside = all_places-inside;
   }

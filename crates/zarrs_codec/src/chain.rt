@@ -19,8 +19,11 @@ use zarrs_chain::{ChainTraits, CodecOptions};
 use zarrs_codec_array::{ArrayToArrayCodec, decode_array, encode_array, encoded_shape};
 use zarrs_codec_leaf::CodecError;
 use zarrs_data_type::{ArrayBytes, DataType, FillValue};
+use zarrs_parts::PartError;
 use zarrs_shard::PartialWrite;
+use zarrs_source::{ByteSource, Window};
 use zarrs_subset::{ArraySubset, element_count};
+use zarrs_target::ArrayBytesDecodeIntoTarget;
 
 /// The codecs that make bytes of bytes: there is none.
 #[derive(Clone, Copy, Debug, Drop, PartialEq, Eq)]
@@ -215,6 +218,30 @@ impl ChainTraits for CodecChain {
         shape: &[u64],
     ) -> Result<ArrayBytes<'a>, CodecError> {
         self.decode_chunk(alloc, encoded, data_type, fill_value, shape)
+    }
+
+    fn partial_decode<B: ByteSource>(
+        &self,
+        alloc: Global,
+        source: &B,
+        window: Window,
+        part: &ArraySubset,
+        data_type: &DataType,
+        fill_value: &FillValue,
+        shape: &[u64],
+    ) -> Result<ArrayBytes<'static>, PartError> {
+        self.partial_decode_chunk(alloc, source, window, part, data_type, fill_value, shape)
+    }
+
+    fn decode_into(
+        &self,
+        alloc: Global,
+        encoded: &[u8],
+        data_type: &DataType,
+        fill_value: &FillValue,
+        target: &mut ArrayBytesDecodeIntoTarget<'_, '_, '_>,
+    ) -> Result<(), CodecError> {
+        self.decode_chunk_into(alloc, encoded, data_type, fill_value, target)
     }
 
     fn compact(

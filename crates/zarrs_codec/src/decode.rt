@@ -6,6 +6,7 @@ ghost use Rattle.zarrs_data_type.specs.Kind.{kind, cell_size};
 ghost use Rattle.zarrs_data_type.specs.Cell.{fill_cell, fill_of};
 ghost use Rattle.zarrs_data_type.specs.ArrayData.{data_of};
 ghost use Rattle.zarrs_data_type.specs.Cells.{cells, HasCells};
+ghost use Rattle.zarrs_region_cells.specs.RegionData.{region_data};
 ghost use Rattle.zarrs_shard.specs.ShardIndex.{range_part, IsRangeWithin};
 ghost use Rattle.zarrs_shard.specs.SubchunkData.{chunk_shape, subchunk_shape};
 ghost use Rattle.zarrs_shard.specs.Subchunks.{subchunk_count};
@@ -20,6 +21,7 @@ use std::alloc::Global;
 use zarrs_codec_array::{ArrayToArrayCodec, decode_array, encoded_shape};
 use zarrs_codec_leaf::CodecError;
 use zarrs_data_type::{ArrayBytes, DataType, FillValue};
+use zarrs_region_cells::RegionCells;
 use zarrs_shard::{SubchunkRange, Subchunks, read_index};
 
 impl CodecChain {
@@ -166,7 +168,7 @@ impl ShardingCodec {
                 number as u64,
             )?;
         }
-        Ok(chunk)
+        Ok(chunk.into_array_bytes(alloc)?)
     }
 
     /// The chunk with the cells of one more subchunk, which has these bytes.
@@ -176,22 +178,22 @@ impl ShardingCodec {
         alloc: Global,
         encoded: &[u8],
         subchunks: &Subchunks,
-        chunk: ArrayBytes<'static>,
+        chunk: RegionCells,
         data_type: &DataType,
         fill_value: &FillValue,
         number: u64,
-    ) -> Result<ArrayBytes<'static>, CodecError>
+    ) -> Result<RegionCells, CodecError>
         requires filled { IsSome (fill_cell (kind data_type.now) fill_value.now) }
         requires size { position_count (subchunk_shape subchunks.now)
             * cell_size (kind data_type.now) < 2 ^ 64 }
         requires number { number
             < subchunk_count (chunk_shape subchunks.now) (subchunk_shape subchunks.now) }
-        requires held { HasCells (kind data_type.now) (data_of chunk)
+        requires held { HasCells (kind data_type.now) (region_data chunk)
             (position_count (chunk_shape subchunks.now)) }
         ensures put { IfOk result (λ made. PutsPart (chain_meaning (inner_chain_of self.now))
             (kind data_type.now) (fill_of (kind data_type.now) fill_value.now)
             (chunk_shape subchunks.now) (subchunk_shape subchunks.now) number encoded.now
-            (data_of chunk.entry) (data_of made)) }
+            (region_data chunk) (region_data made)) }
         ensures refused { IfErr result (RefusesChunkDecoding
             (chain_meaning (inner_chain_of self.now)) (kind data_type.now)
             (fill_of (kind data_type.now) fill_value.now) (subchunk_shape subchunks.now)

@@ -195,11 +195,13 @@ impl ShardingCodec {
         };
         let at_start = self.index_location().is_at_start();
         let mut writer = ShardWriter::new(alloc, count as usize, at_start)?;
+        let mut room = Vec::new(alloc);
         for number in 0..count {
-            let part = subchunks.extract(alloc, bytes, data_type, number)?;
+            let part = subchunks.extract(alloc, bytes, data_type, number, room)?;
             let sub = subchunks.shape();
             let encoded = self.encode_part(alloc, part, data_type, fill_value, sub, options)?;
             writer.push_part(&encoded)?;
+            room = encoded.unwrap_or(Vec::new(alloc));
         }
         Ok(writer.finish()?)
     }

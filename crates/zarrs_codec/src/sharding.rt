@@ -23,7 +23,7 @@ pub enum ShardingIndexLocation {
 pub struct ShardingCodec {
     subchunk_shape: Vec<NonZeroU64>,
     index_location: ShardingIndexLocation,
-    inner: CodecChain,
+    pub(crate) inner: CodecChain,
 }
 
 impl ShardingIndexLocation {

@@ -6,7 +6,8 @@ use std::alloc::Global;
 use std::process::Abort;
 use zarrs_cells::{DataType, FillValue};
 use zarrs_codec::{
-    ArrayToBytesCodec, BytesToBytesCodecs, ChainTraits, CodecChain, CodecError, CodecOptions,
+    ArrayToArrayCodec, ArrayToBytesCodec, BytesCodec, BytesToBytesCodecs, ChainTraits, CodecChain,
+    CodecError, CodecOptions, TransposeCodec, VlenUtf8Codec,
 };
 use zarrs_codec_array::encoded_shape;
 use zarrs_metadata::MetadataV3;
@@ -302,4 +303,101 @@ fn a_chain_has_its_parts(rt: HostRuntime) {
         rt.alloc(),
         &chain.try_clone(rt.alloc()).expect(&rt, "no refusal"),
     );
+}
+
+/// How many dimensions the widest arrays of these tests have.
+const DIMENSIONS: u64 = 100_000;
+
+/// The codec that turns the dimensions around.
+fn turning(rt: &impl Abort, alloc: Global) -> ArrayToArrayCodec {
+    let mut order = Vec::new(alloc);
+    for axis in 0..DIMENSIONS {
+        order.push(DIMENSIONS - 1 - axis).expect(rt, "no refusal");
+    }
+    let made = TransposeCodec::new(alloc, order).expect(rt, "no refusal");
+    ArrayToArrayCodec::Transpose(made.expect(rt, "an order"))
+}
+
+/// A shape of two rows, of three columns, and of extents of 1 between them.
+fn wide_shape(rt: &impl Abort, alloc: Global) -> Vec<u64> {
+    let mut shape = Vec::new(alloc);
+    shape.push(2).expect(rt, "no refusal");
+    for _ in 2..DIMENSIONS {
+        shape.push(1).expect(rt, "no refusal");
+    }
+    shape.push(3).expect(rt, "no refusal");
+    shape
+}
+
+/// The cells of a wide array encode to the bytes, turned around, and back.
+fn must_turn(
+    rt: &impl Abort,
+    alloc: Global,
+    last: ArrayToBytesCodec,
+    name: &str,
+    cells: &Cells,
+    encoded: &[u8],
+) {
+    let mut codecs = Vec::new(alloc);
+    codecs.push(turning(rt, alloc)).expect(rt, "no refusal");
+    let chain = CodecChain::new(codecs, last, BytesToBytesCodecs);
+    let (data_type, shape) = (type_of(rt, alloc, name), wide_shape(rt, alloc));
+    let (fill_value, data) = (zero_of(rt, alloc, &data_type), data_of(rt, alloc, cells));
+    must(rt, fill_value.is_value_of(&data_type));
+    let count = zarrs_subset::element_count(&shape).expect(rt, "a count");
+    must(rt, data.validate(&data_type, count));
+    must(
+        rt,
+        chain
+            .fits(alloc, &data_type, &shape)
+            .expect(rt, "no refusal"),
+    );
+    let options = CodecOptions::default();
+    let made = chain.encode(alloc, &data, &data_type, &fill_value, &shape, &options);
+    must_eq(rt, made.expect(rt, "no refusal").as_slice(), encoded);
+    must_turn_back(
+        rt,
+        alloc,
+        &chain,
+        (&data_type, &fill_value),
+        &shape,
+        (cells, encoded),
+    );
+}
+
+/// The bytes of a wide array decode to the cells.
+fn must_turn_back<C: ChainTraits>(
+    rt: &impl Abort,
+    alloc: Global,
+    chain: &C,
+    (data_type, fill_value): (&DataType, &FillValue),
+    shape: &[u64],
+    (cells, encoded): (&Cells, &[u8]),
+) {
+    must(rt, fill_value.is_value_of(data_type));
+    let count = zarrs_subset::element_count(shape).expect(rt, "a count");
+    must(rt, count < 100 && data_type.cell_size() < 100);
+    let back = chain.decode(alloc, encoded, data_type, fill_value, shape);
+    must_be(rt, &back.expect(rt, "no refusal"), cells);
+}
+
+#[test]
+fn a_transpose_takes_arrays_of_many_dimensions(rt: HostRuntime) {
+    const NUMBERS: &Cells = &Cells::Numbers(&[1, 2, 3, 4, 5, 6]);
+    const SIX: &Cells = &Cells::Strings(b"abc", &[0, 1, 1, 1, 2, 2, 3]);
+    const ENCODED: &[u8] = &[
+        6, 0, 0, 0, 1, 0, 0, 0, 97, 1, 0, 0, 0, 98, 0, 0, 0, 0, 0, 0, 0, 0, 0, 0, 0, 0, 1, 0, 0, 0,
+        99,
+    ];
+    let bytes = ArrayToBytesCodec::Bytes(BytesCodec::little());
+    let texts = ArrayToBytesCodec::VlenUtf8(VlenUtf8Codec);
+    must_turn(
+        &rt,
+        rt.alloc(),
+        bytes,
+        "uint8",
+        NUMBERS,
+        &[1, 4, 2, 5, 3, 6],
+    );
+    must_turn(&rt, rt.alloc(), texts, "string", SIX, ENCODED);
 }

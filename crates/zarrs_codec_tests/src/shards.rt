@@ -129,40 +129,17 @@ fn must_have(
 {
     let chunk = ArrayBytes::from_flen(counted.0);
     must(rt, chunk.validate(&DataType::UInt8, counted.1));
-    let part = subchunks.extract(alloc, &chunk, &DataType::UInt8, number);
+    let room = vec![in alloc; 7u8; 3].expect(rt, "no refusal");
+    let part = subchunks.extract(alloc, &chunk, &DataType::UInt8, number, room);
     must_be(rt, &part.expect(rt, "no refusal"), expected);
 }
 
-/// The chunk of zeros with these cells in the subchunk of this number.
-fn must_put(
-    rt: &impl Abort,
-    alloc: Global,
-    subchunks: &Subchunks,
-    counted: (&[u8], u64),
-    number: u64,
-    expected: &[u8],
-)
-    requires number { number < subchunk_count (chunk_shape subchunks.now)
-        (subchunk_shape subchunks.now) }
-    requires cells { counted.1 ≡ position_count (chunk_shape subchunks.now) }
-{
-    let (cells, cell_count) = counted;
-    let zeros = vec![in alloc; 0u8; cell_count as usize].expect(rt, "no refusal");
-    let (chunk, part) = (ArrayBytes::new_flen(zeros), ArrayBytes::from_flen(cells));
-    let count = element_count(subchunks.shape()).expect(rt, "a count");
-    must(rt, part.validate(&DataType::UInt8, count));
-    must(rt, chunk.validate(&DataType::UInt8, cell_count));
-    let made = subchunks.put(alloc, chunk, &part, &DataType::UInt8, number);
-    must_be(rt, &made.expect(rt, "no refusal"), expected);
-}
-
-/// The cells of the last subchunk of a chunk of bytes, and the chunk of zeros with these cells in it.
+/// The cells of the last subchunk of a chunk of bytes.
 fn must_be_last(
     rt: &impl Abort,
     alloc: Global,
     cells: &[u8],
     (shape, sub): (&[u64], &[u64]),
-    part: &[u8],
     expected: &[u8],
 ) {
     let made = Subchunks::new(alloc, shape, sub).expect(rt, "no refusal");
@@ -170,36 +147,21 @@ fn must_be_last(
     let cell_count = element_count(shape).expect(rt, "a count");
     let count = subchunks.count().expect(rt, "a count");
     must(rt, count > 0);
-    must_have(rt, alloc, &subchunks, (cells, cell_count), count - 1, part);
-    must_put(
+    must_have(
         rt,
         alloc,
         &subchunks,
-        (part, cell_count),
+        (cells, cell_count),
         count - 1,
         expected,
     );
 }
 
 #[test]
-fn subchunks_are_taken_out_and_put_in(rt: HostRuntime) {
+fn subchunks_are_taken_out(rt: HostRuntime) {
     let alloc = rt.alloc();
-    must_be_last(
-        &rt,
-        alloc,
-        &[0, 0, 5, 6],
-        (&[4], &[2]),
-        &[5, 6],
-        &[0, 0, 5, 6],
-    );
-    must_be_last(
-        &rt,
-        alloc,
-        &SQUARE,
-        (&[4, 4], &[2, 2]),
-        &[11, 12, 15, 16],
-        &[0, 0, 0, 0, 0, 0, 0, 0, 0, 0, 11, 12, 0, 0, 15, 16],
-    );
+    must_be_last(&rt, alloc, &[0, 0, 5, 6], (&[4], &[2]), &[5, 6]);
+    must_be_last(&rt, alloc, &SQUARE, (&[4, 4], &[2, 2]), &[11, 12, 15, 16]);
 }
 
 fn must_not_divide(rt: &impl Abort, alloc: Global, sub: &[u64]) {

@@ -12,6 +12,7 @@ use Rattle.zarrs_subset.specs.Boxes.{position_count}
 use Rattle.zarrs_codec_array.specs.ArrayCodecs.{arrays_meaning, arrays-lawful}
 use Rattle.zarrs_codec_array.specs.Gathered.{encoded_shape}
 use Rattle.zarrs_codec_cells.proofs.Kept.{err_kept}
+use Rattle.zarrs_region_cells.specs.RegionData.{region_data}
 use Rattle.zarrs_shard.specs.ShardIndex.{range_part, IsRangeWithin}
 use Rattle.zarrs_shard.specs.Shards.{shard_parts}
 use Rattle.zarrs_shard.specs.SubchunkData.{chunk_shape, subchunk_shape, StartsChunk}
@@ -51,7 +52,7 @@ sharding::ShardingCodec::decode_part-returns-clause-put t c =
     let d = data_of c.in_ok-part.part in
     let is : cells k d ≡ m.decoded k f sub b = subst (λ x. cells k d ≡ m.decoded k f x b) c.shape-sub.ensures
     (subst (λ x. cells k d ≡ (chain_meaning x).decoded k f c.shape-sub.result.now b) c.inner_codecs.ensures c.in_ok-part.ensures.cells) in
-    puts_part m k f (chunk_shape c.args.subchunks.now) sub c.args.number b d (data_of c.args.chunk) (data_of c.in_ok-put.field-0) c.requires.number is c.in_ok-part.ensures.some c.in_ok-put.ensures
+    puts_part m k f (chunk_shape c.args.subchunks.now) sub c.args.number b d (region_data c.args.chunk) (region_data c.in_ok-put.field-0) c.requires.number is c.in_ok-part.ensures.some c.in_ok-put.ensures
 
 pub sharding::ShardingCodec::decode_parts-returns-in_default-clause-refused :
     goal.sharding::ShardingCodec::decode_parts-returns-in_default-clause-refused
@@ -71,8 +72,8 @@ sharding::ShardingCodec::decode_parts-loop-number-init t c =
     let f = fill_of k c.args.fill_value.now in
     let s = chunk_shape c.args.subchunks.now in
     let parts = map (range_part c.args.encoded.now) c.args.ranges.now in
-    let starts : StartsChunk k f s c.are_present-is_whole.result (data_of c.in-Some.chunk) = search rules in
-    cells_started (chain_meaning (inner_chain_of c.args.self.now)) k f s (subchunk_shape c.args.subchunks.now) parts starts.filler (data_of c.in-Some.chunk) c.args.subchunks.now.cut
+    let starts : StartsChunk k f s c.are_present-is_whole.result (region_data c.in-Some.chunk) = search rules in
+    cells_started (chain_meaning (inner_chain_of c.args.self.now)) k f s (subchunk_shape c.args.subchunks.now) parts starts.filler (region_data c.in-Some.chunk) c.args.subchunks.now.cut
     (λ absent. starts.fill_is (c.are_present-is_whole.ensures ∙ sym (present_parts c.args.encoded.now c.args.ranges.now) ∙ absent)) starts.cells_are
 
 pub sharding::ShardingCodec::decode_parts-loop-number-preserved-in_default-range :
@@ -91,7 +92,7 @@ sharding::ShardingCodec::decode_parts-loop-number-preserved-in_default-range t c
     let lt : number < length ranges = omega arith in
     let below : number < length parts = omega (arith, length-map ranges (range_part b)) in
     let at : get_or ranges number None ≡ None = search rules in
-    cells_left m k f s sub parts number (data_of c.loop-number.chunk) below count (part_at b ranges number None lt at) c.loop-number.invariant
+    cells_left m k f s sub parts number (region_data c.loop-number.chunk) below count (part_at b ranges number None lt at) c.loop-number.invariant
 
 pub sharding::ShardingCodec::decode_parts-decode_part-requires :
     goal.sharding::ShardingCodec::decode_parts-decode_part-requires
@@ -105,7 +106,7 @@ sharding::ShardingCodec::decode_parts-decode_part-requires t c =
     let number = c.loop-number.number in
     let below : number < subchunk_count s sub = omega (arith, c.requires.count) in
     let size = part_size s sub number (cell_size k) c.args.subchunks.now.cut below c.requires.size in
-    let held = held_cells m k f s sub parts number (data_of c.loop-number.chunk) c.loop-number.invariant in
+    let held = held_cells m k f s sub parts number (region_data c.loop-number.chunk) c.loop-number.invariant in
     (first_of (omega (arith, c.decreases), search rules), (c.requires.filled, (size, (below, held))))
 
 pub sharding::ShardingCodec::decode_parts-returns-in_err-chunk-2-clause-refused :
@@ -145,7 +146,7 @@ sharding::ShardingCodec::decode_parts-loop-number-preserved t c =
     let below : number < length parts = omega (arith, length-map ranges (range_part b)) in
     let range = c.in-Some-range.range in
     let at : get_or ranges number None ≡ Some range = search rules in
-    cells_more m k f s sub parts number (slice_range b range.start range.end) (data_of c.loop-number.chunk) (data_of c.in_ok-chunk-2.chunk) below (part_at b ranges number (Some range) lt at)
+    cells_more m k f s sub parts number (slice_range b range.start range.end) (region_data c.loop-number.chunk) (region_data c.in_ok-chunk-2.chunk) below (part_at b ranges number (Some range) lt at)
     c.loop-number.invariant c.in_ok-chunk-2.ensures.put
 
 pub sharding::ShardingCodec::decode_parts-returns-clause-cells :
@@ -161,8 +162,8 @@ sharding::ShardingCodec::decode_parts-returns-clause-cells t c =
     let parts = map (range_part b) ranges in
     let count : length parts ≡ subchunk_count s sub = length-map ranges (range_part b) ∙ c.requires.count in
     let done : c.loop-number.number ≡ length parts = omega (arith, length-map ranges (range_part b)) in
-    let chunk = data_of c.loop-number.chunk in
-    cells_all m k f s sub parts chunk c.args.subchunks.now.cut count (subst (λ n. HasFirstCells m k f s sub parts n chunk) done c.loop-number.invariant)
+    let chunk = region_data c.loop-number.chunk in
+    ap (cells k) c.in_ok-into_array_bytes.ensures ∙ cells_all m k f s sub parts chunk c.args.subchunks.now.cut count (subst (λ n. HasFirstCells m k f s sub parts n chunk) done c.loop-number.invariant)
 
 pub sharding::ShardingCodec::decode_shard-decode_parts-requires :
     goal.sharding::ShardingCodec::decode_shard-decode_parts-requires

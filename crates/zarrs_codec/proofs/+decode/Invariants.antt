@@ -1,7 +1,7 @@
 use Rattle.std.proofs.Common.{map}
-use Rattle.zarrs_data_type.specs.ArrayData.{data_of}
 use Rattle.zarrs_data_type.specs.Cell.{fill_of}
 use Rattle.zarrs_data_type.specs.Kind.{kind}
+use Rattle.zarrs_region_cells.specs.RegionData.{region_data}
 use Rattle.zarrs_shard.specs.ShardIndex.{range_part}
 use Rattle.zarrs_shard.specs.SubchunkData.{chunk_shape, subchunk_shape}
 use Rattle.zarrs_codec.specs.Chains.{chain_meaning, inner_chain_of}
@@ -12,4 +12,4 @@ abbrev pub invariant-sharding::ShardingCodec::decode_parts-loop-number : goal.in
 invariant-sharding::ShardingCodec::decode_parts-loop-number l =
     let k = kind l.data_type in
     HasFirstCells (chain_meaning (inner_chain_of l.self)) k (fill_of k l.fill_value) (chunk_shape l.subchunks) (subchunk_shape l.subchunks)
-    (map (range_part l.encoded) l.ranges) l.number (data_of l.chunk)
+    (map (range_part l.encoded) l.ranges) l.number (region_data l.chunk)

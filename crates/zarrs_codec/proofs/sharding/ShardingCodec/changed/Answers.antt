@@ -1,22 +1,16 @@
-use Rattle.std.proofs.Common.{rules, ◌≡◌, true, Option, Some, option_map, sym, ap, subst, ◌∙◌}
+use Rattle.std.proofs.Common.{sym, subst}
 use Rattle.zarrs_data_type.specs.ArrayData.{data_of}
 use Rattle.zarrs_data_type.specs.Cell.{fill_of}
 use Rattle.zarrs_data_type.specs.Cells.{HasCells}
 use Rattle.zarrs_data_type.specs.Kind.{kind}
 use Rattle.zarrs_subset.specs.Boxes.{position_count}
 use Rattle.zarrs_subset.specs.Regions.{box_of}
-use Rattle.zarrs_shard.specs.PartialShards.{is_met}
 use Rattle.zarrs_shard.specs.ShardIndex.{range_part}
-use Rattle.zarrs_shard.specs.Sharded.{part_of}
 use Rattle.zarrs_shard.specs.SubchunkData.{chunk_shape, subchunk_shape}
-use Rattle.zarrs_chain.specs.Chain.{ChainMeaning}
 use Rattle.zarrs_chain.specs.Options.{stores_empty_chunks}
 use Rattle.zarrs_codec.specs.Chains.{chain_meaning, inner_chain_of}
 use Rattle.zarrs_codec.specs.ChainLaws.{chain-lawful}
-use Rattle.zarrs_codec.specs.PartialShardings.{RefusesChange}
-use Rattle.zarrs_codec.specs.Shardings.{cells_of, subchunk_meaning, RefusesPart}
-use Rattle.zarrs_codec_cells.proofs.Kept.{err_kept}
-use Rattle.zarrs_codec.proofs.Patches.{changed_is, encode_refused, held_data, held_refused, not_met, updated_data}
+use Rattle.zarrs_codec.proofs.Patches.{held_data, updated_data}
 use Rattle.zarrs_codec.proofs.sharding.ShardingCodec.changed.Goals as goal
 
 pub update-requires-clause-held : goal.update-requires-clause-held

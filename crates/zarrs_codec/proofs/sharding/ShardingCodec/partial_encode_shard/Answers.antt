@@ -1,4 +1,4 @@
-use Rattle.std.proofs.Common.{rules, ◌≡◌, ◌*◌, ◌<◌, ◌^◌, true, false, Option, Some, IfOk, length, map, option_map, sym, ap, subst, ◌∙◌}
+use Rattle.std.proofs.Common.{rules, ◌≡◌, true, Option, Some, IfOk, map, option_map, sym, ap, subst, ◌∙◌}
 use Rattle.std.proofs.lemmas.List.{length-map}
 use Rattle.std.proofs.lemmas.Result.{IfErr-weaker}
 use Rattle.zarrs_data_type.specs.ArrayData.{data_of}
@@ -15,7 +15,7 @@ use Rattle.zarrs_chain.specs.Options.{stores_empty_chunks}
 use Rattle.zarrs_codec.specs.Chains.{chain_meaning, inner_chain_of, is_at_start, location_of, subchunk_sizes_of}
 use Rattle.zarrs_codec_cells.specs.ShardingMetadata.{sizes_of}
 use Rattle.zarrs_codec.specs.PartialShardings.{stored_bytes}
-use Rattle.zarrs_codec.proofs.PatchedShards.{at_end, is_opened, not_counted, not_read, IsOpened}
+use Rattle.zarrs_codec.proofs.PatchedShards.{at_end, is_opened, IsOpened}
 use Rattle.zarrs_codec.proofs.sharding.ShardingCodec.partial_encode_shard.Goals as goal
 
 pub patched-requires-clause-count : goal.patched-requires-clause-count

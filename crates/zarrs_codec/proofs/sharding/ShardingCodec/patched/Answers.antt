@@ -1,4 +1,4 @@
-use Rattle.std.proofs.Common.{rules, arith, ◌≡◌, ◌<◌, Option, None, Some, List, is_some, get_or, length, map, option_map, refl, sym, ap, subst, ◌∙◌}
+use Rattle.std.proofs.Common.{rules, arith, ◌≡◌, ◌<◌, None, Some, is_some, get_or, length, map, option_map, refl, sym, ap, subst, ◌∙◌}
 use Rattle.zarrs_data_type.specs.ArrayData.{data_of}
 use Rattle.zarrs_data_type.specs.Cell.{fill_of}
 use Rattle.zarrs_data_type.specs.Kind.{kind, cell_size}
@@ -13,7 +13,7 @@ use Rattle.zarrs_chain.specs.Options.{stores_empty_chunks}
 use Rattle.zarrs_codec.specs.Chains.{chain_meaning, inner_chain_of}
 use Rattle.zarrs_codec.specs.PartialShardings.{changed_part, stored_bytes, HasFirstChanges}
 use Rattle.zarrs_codec.proofs.PartCells.{part_at}
-use Rattle.zarrs_codec.proofs.Patches.{change_refused, changes_more, changes_started, has_room, present_part, write_is}
+use Rattle.zarrs_codec.proofs.Patches.{changes_more, changes_started, has_room, present_part, write_is}
 use Rattle.zarrs_codec.proofs.sharding.ShardingCodec.patched.Goals as goal
 
 pub loop-number-init : goal.loop-number-init

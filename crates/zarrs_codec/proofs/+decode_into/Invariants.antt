@@ -1,0 +1,26 @@
+use Rattle.std.proofs.Common.{◌≡◌, ◌<◌, ℕ, None, map}
+use Rattle.std.specs.Prelude.{slice_index_or}
+use Rattle.zarrs_shard.specs.ShardIndex.{range_part}
+use Rattle.zarrs_shard.specs.Subchunks.{subchunk_box}
+use Rattle.zarrs_subset.specs.Regions.{shifted_box}
+use Rattle.zarrs_target.specs.States.{IsTarget, SameBox, StaysOutside, data_of_target, parent_box, target_box}
+use Rattle.zarrs_types.specs.Cell.{fill_of}
+use Rattle.zarrs_types.specs.Kind.{kind}
+use Rattle.zarrs_parts.specs.ShardInto.{DecodesPartInto}
+use Rattle.zarrs_codec.specs.Chains.{chain_meaning, inner_chain_of}
+use Rattle.zarrs_codec.proofs.+decode_into.Given as goal
+
+-- the first subchunks are in the target, and nothing outside its box changed
+abbrev pub invariant-sharding::ShardingCodec::decode_cut_into-loop-number : goal.invariant-sharding::ShardingCodec::decode_cut_into-loop-number
+invariant-sharding::ShardingCodec::decode_cut_into-loop-number l = record {
+  is_target : IsTarget l.target;
+  same_bytes : l.target.bytes.ghost_name ≡ l.initial.target.bytes.ghost_name;
+  same_masks : l.target.masks.ghost_name ≡ l.initial.target.masks.ghost_name;
+  same_box : SameBox l.initial.target l.target;
+  stays : StaysOutside l.initial.target l.target;
+  parts :
+      (j : ℕ) → j < l.number
+      → DecodesPartInto (kind l.data_type) ((chain_meaning (inner_chain_of l.self)).decoded (kind l.data_type) (fill_of (kind l.data_type) l.fill_value) l.sub) (fill_of (kind l.data_type) l.fill_value)
+      (parent_box l.initial.target) (shifted_box (subchunk_box (target_box l.initial.target).shape l.sub j) (target_box l.initial.target).start)
+      (slice_index_or (map (range_part l.encoded) l.ranges.items) j None) (data_of_target l.target);
+}

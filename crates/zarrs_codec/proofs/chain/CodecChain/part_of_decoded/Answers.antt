@@ -1,0 +1,53 @@
+use Rattle.std.proofs.Common.{◌≡◌, ◌∙◌, ◌*◌, Option, List, ℕ, ap, subst}
+use Rattle.zarrs_data_type.specs.ArrayData.{data_of}
+use Rattle.zarrs_data_type.specs.Cell.{Cell, fill_of, held_size}
+use Rattle.zarrs_data_type.specs.Cells.{cells}
+use Rattle.zarrs_data_type.specs.Kind.{kind}
+use Rattle.zarrs_source.specs.Sources.{window_bytes}
+use Rattle.zarrs_subset.specs.Boxes.{position_count}
+use Rattle.zarrs_subset.specs.Regions.{box_of}
+use Rattle.zarrs_parts.specs.Parts.{DecodesPart}
+use Rattle.zarrs_parts.specs.Refusals.{RefusesPartDecoding}
+use Rattle.zarrs_parts.specs.declared.error.PartError.TheVariants as part_error
+use Rattle.zarrs_parts.proofs.Kept.{err_kept}
+use Rattle.zarrs_chain.specs.Chain.{ChainMeaning}
+use Rattle.zarrs_codec.specs.ChainLaws.{chain-lawful}
+use Rattle.zarrs_codec.specs.Chains.{chain_meaning}
+use Rattle.zarrs_codec.proofs.Behind.{decoded-has_cells}
+use Rattle.zarrs_codec.proofs.PartReads.{chunk_refused, whole_read}
+use Rattle.zarrs_codec.proofs.chain.CodecChain.part_of_decoded.Goals as goal
+
+pub read-requires-clause-may_read : goal.read-requires-clause-may_read
+read-requires-clause-may_read g c =
+    whole_read (g.B.ByteSource.may_read c.args.source.now) c.args.window (g.B.ByteSource.bytes c.args.source.now) (kind c.args.data_type.now) c.args.shape.now (box_of c.args.part.now) c.requires.window c.requires.may_read
+
+pub returns-in_err-whole-clause-refused : goal.returns-in_err-whole-clause-refused
+returns-in_err-whole-clause-refused g c =
+    let k = kind c.args.data_type.now in
+    let f = fill_of k c.args.fill_value.now in
+    let s = c.args.shape.now in
+    let m : ChainMeaning = chain_meaning c.args.self.now in
+    let b = window_bytes c.args.window (g.B.ByteSource.bytes c.args.source.now) in
+    let refuses = g.B.ByteSource.refuses c.args.source.now in
+    let e = c.in_err-whole.field-0.0 in
+    let read : c.as_slice.result.now ≡ b = c.as_slice.ensures ∙ c.in_ok-encoded.ensures.bytes in
+    err_kept c.from_residual-in_err-whole.result (part_error.Codec e) (RefusesPartDecoding (m.decoded k f s b) (m.leaves_out s b) (position_count s * held_size k f) refuses) c.from_residual-in_err-whole.ensures.1
+    (subst (λ (x : List ℕ). RefusesPartDecoding (m.decoded k f s x) (m.leaves_out s x) (position_count s * held_size k f) refuses (part_error.Codec e)) read
+    (chunk_refused m k f s c.as_slice.result.now refuses e c.in_err-whole.ensures.refused))
+
+pub part_of_whole-requires-clause-held : goal.part_of_whole-requires-clause-held
+part_of_whole-requires-clause-held g c =
+    let k = kind c.args.data_type.now in
+    let f = fill_of k c.args.fill_value.now in
+    decoded-has_cells (chain_meaning c.args.self.now) (chain-lawful c.args.self.now) k f c.args.shape.now c.as_slice.result.now (data_of c.in_ok-whole.whole) c.in_ok-whole.ensures.cells c.in_ok-whole.ensures.some
+
+pub returns-clause-cells : goal.returns-clause-cells
+returns-clause-cells g c =
+    let k = kind c.args.data_type.now in
+    let f = fill_of k c.args.fill_value.now in
+    let s = c.args.shape.now in
+    let m : ChainMeaning = chain_meaning c.args.self.now in
+    let b = window_bytes c.args.window (g.B.ByteSource.bytes c.args.source.now) in
+    let read : c.as_slice.result.now ≡ b = c.as_slice.ensures ∙ c.in_ok-encoded.ensures.bytes in
+    let is : cells k (data_of c.in_ok-whole.whole) ≡ m.decoded k f s b = c.in_ok-whole.ensures.cells ∙ ap (m.decoded k f s) read in
+    subst (λ (o : Option (List Cell)). DecodesPart k s (box_of c.args.part.now) o (data_of c.in_ok-made.made)) is c.in_ok-made.ensures

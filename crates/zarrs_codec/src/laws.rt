@@ -1,0 +1,17 @@
+//! Laws of the metadata of codecs, as contracts of functions that do nothing.
+ghost use Rattle.std.specs.Prelude.{◌≡◌, codes, if◌then◌else◌, option_and_then, option_map};
+ghost use Rattle.std.specs.Str.{bytes_eq};
+ghost use Rattle.zarrs_metadata.specs.Extension.{ExtensionData, settings};
+ghost use Rattle.zarrs_codec_cells.specs.Metadata.{cells_codec_said};
+ghost use Rattle.zarrs_codec_cells.specs.ShardingMetadata.{sharding_data};
+ghost use Rattle.zarrs_codec.specs.Metadata.{bytes_codec_said, cells, chain_said, sharding_with};
+
+/// Metadata says an array-to-bytes codec level by level: `sharding_indexed` is a codec of shards around the chain that
+/// the codecs of its configuration say; another one is said by its name and its own configuration alone.
+pub fn codecs_are_said_by_levels()
+    ensures { (e : ExtensionData) → bytes_codec_said e
+        ≡ (if bytes_eq e.name (codes "sharding_indexed")
+        then option_and_then (λ d. sharding_with d (chain_said d.codecs))
+        (sharding_data (settings e))
+        else option_map cells (cells_codec_said e)) }
+{}

@@ -1,0 +1,385 @@
+//! Parts of chunks, of ranges of their bytes.
+ghost use Rattle.std.specs.Prelude.{◌≡◌, ◌*◌, ◌<◌, ◌^◌, Some, IfOk, IfErr, IsSome, map, replicate};
+ghost use Rattle.zarrs_subset.specs.Boxes.{position_count};
+ghost use Rattle.zarrs_subset.specs.Regions.{LiesInShape, box_of};
+ghost use Rattle.zarrs_data_type.specs.Kind.{kind, cell_size};
+ghost use Rattle.zarrs_data_type.specs.Cell.{fill_cell, fill_of, held_size};
+ghost use Rattle.zarrs_data_type.specs.ArrayData.{data_of};
+ghost use Rattle.zarrs_data_type.specs.Cells.{cells, HasCells};
+ghost use Rattle.zarrs_region_cells.specs.RegionData.{region_data};
+ghost use Rattle.zarrs_shard.specs.ShardIndex.{range_part};
+ghost use Rattle.zarrs_source.specs.Sources.{IsWindow, MayRead, window_bytes};
+ghost use Rattle.zarrs_parts.specs.Parts.{DecodesPart};
+ghost use Rattle.zarrs_parts.specs.Places.{all_places, shard_places};
+ghost use Rattle.zarrs_parts.specs.Refusals.{RefusesPartDecoding};
+ghost use Rattle.zarrs_parts.specs.ShardParts.{DecodesAs, HasAllParts, IsShard, ReadsSubchunk};
+ghost use Rattle.zarrs_parts.specs.ShardParts.{RefusesStep};
+ghost use Rattle.zarrs_shard.specs.Sharded.{SubchunkMeaning, sharded_decoded, sharded_leaves_out};
+ghost use Rattle.zarrs_codec.specs.Chains.{chain_meaning, inner_chain_of, sharding_meaning};
+
+use crate::chain::CodecChain;
+use crate::codec::ArrayToBytesCodec;
+use crate::sharding::ShardingCodec;
+use std::alloc::Global;
+use zarrs_codec_leaf::CodecError;
+use zarrs_data_type::{ArrayBytes, DataType, FillValue};
+use zarrs_parts::{
+    PartError, ShardIndex, common_part, met_subchunks, open_shard, part_of_whole,
+    partial_decode_bytes, seen_from_corner,
+};
+use zarrs_region_cells::RegionCells;
+use zarrs_source::{ByteSource, Window};
+use zarrs_subset::{ArraySubset, ravel_indices};
+
+impl CodecChain {
+    /// The cells of a part of a chunk whose bytes are those of a window.
+    #[cycle(partial_decode)]
+    pub(crate) fn partial_decode_chunk<B: ByteSource>(
+        &self,
+        alloc: Global,
+        source: &B,
+        window: Window,
+        part: &ArraySubset,
+        data_type: &DataType,
+        fill_value: &FillValue,
+        shape: &[u64],
+    ) -> Result<ArrayBytes<'static>, PartError>
+        requires filled { IsSome (fill_cell (kind data_type.now) fill_value.now) }
+        requires size { position_count shape.now * cell_size (kind data_type.now) < 2 ^ 64 }
+        requires fill_size { position_count (box_of part.now).shape * held_size (kind data_type.now)
+            (fill_of (kind data_type.now) fill_value.now) < 2 ^ 64 }
+        requires part { LiesInShape (box_of part.now) shape.now }
+        requires window { IsWindow window (B.bytes source.now) }
+        requires may_read { MayRead (B.may_read source.now) window ((chain_meaning self.now).places
+            (kind data_type.now) shape.now (box_of part.now)
+            (window_bytes window (B.bytes source.now))) }
+        ensures cells { IfOk result (λ made. DecodesPart (kind data_type.now) shape.now
+            (box_of part.now) ((chain_meaning self.now).decoded (kind data_type.now)
+            (fill_of (kind data_type.now) fill_value.now) shape.now
+            (window_bytes window (B.bytes source.now))) (data_of made)) }
+        ensures refused { IfErr result (RefusesPartDecoding ((chain_meaning self.now).decoded
+            (kind data_type.now) (fill_of (kind data_type.now) fill_value.now) shape.now
+            (window_bytes window (B.bytes source.now))) ((chain_meaning self.now).leaves_out
+            shape.now (window_bytes window (B.bytes source.now)))
+            (position_count shape.now * held_size (kind data_type.now)
+            (fill_of (kind data_type.now) fill_value.now)) (B.refuses source.now)) }
+    {
+        if !self.array_to_array.is_empty() {
+            return self.part_of_decoded(alloc, source, window, part, data_type, fill_value, shape);
+        }
+        match &self.array_to_bytes {
+            ArrayToBytesCodec::Bytes(codec) => {
+                partial_decode_bytes(codec, alloc, source, window, part, data_type, shape)
+            }
+            ArrayToBytesCodec::Sharding(codec) => codec.partial_decode_shard(
+                alloc, source, window, part, data_type, fill_value, shape,
+            ),
+            _ => self.part_of_decoded(alloc, source, window, part, data_type, fill_value, shape),
+        }
+    }
+
+    /// The same, of the cells of the whole chunk.
+    fn part_of_decoded<B: ByteSource>(
+        &self,
+        alloc: Global,
+        source: &B,
+        window: Window,
+        part: &ArraySubset,
+        data_type: &DataType,
+        fill_value: &FillValue,
+        shape: &[u64],
+    ) -> Result<ArrayBytes<'static>, PartError>
+        requires filled { IsSome (fill_cell (kind data_type.now) fill_value.now) }
+        requires size { position_count shape.now * cell_size (kind data_type.now) < 2 ^ 64 }
+        requires part { LiesInShape (box_of part.now) shape.now }
+        requires window { IsWindow window (B.bytes source.now) }
+        requires may_read { MayRead (B.may_read source.now) window (all_places (kind data_type.now)
+            shape.now (box_of part.now) (window_bytes window (B.bytes source.now))) }
+        ensures cells { IfOk result (λ made. DecodesPart (kind data_type.now) shape.now
+            (box_of part.now) ((chain_meaning self.now).decoded (kind data_type.now)
+            (fill_of (kind data_type.now) fill_value.now) shape.now
+            (window_bytes window (B.bytes source.now))) (data_of made)) }
+        ensures refused { IfErr result (RefusesPartDecoding ((chain_meaning self.now).decoded
+            (kind data_type.now) (fill_of (kind data_type.now) fill_value.now) shape.now
+            (window_bytes window (B.bytes source.now))) ((chain_meaning self.now).leaves_out
+            shape.now (window_bytes window (B.bytes source.now)))
+            (position_count shape.now * held_size (kind data_type.now)
+            (fill_of (kind data_type.now) fill_value.now)) (B.refuses source.now)) }
+    {
+        let encoded = source.read(alloc, window)?;
+        let whole = self.decode_chunk(alloc, encoded.as_slice(), data_type, fill_value, shape)?;
+        let made = part_of_whole(alloc, &whole, data_type, shape, part)?;
+        Ok(made)
+    }
+}
+
+impl ShardingCodec {
+    /// The cells of a part of a shard whose bytes are those of a window. The index is read first, then each present
+    /// subchunk that the part meets, in a window of its own.
+    #[cycle(partial_decode)]
+    fn partial_decode_shard<B: ByteSource>(
+        &self,
+        alloc: Global,
+        source: &B,
+        window: Window,
+        part: &ArraySubset,
+        data_type: &DataType,
+        fill_value: &FillValue,
+        shape: &[u64],
+    ) -> Result<ArrayBytes<'static>, PartError>
+        requires filled { IsSome (fill_cell (kind data_type.now) fill_value.now) }
+        requires size { position_count shape.now * cell_size (kind data_type.now) < 2 ^ 64 }
+        requires fill_size { position_count (box_of part.now).shape * held_size (kind data_type.now)
+            (fill_of (kind data_type.now) fill_value.now) < 2 ^ 64 }
+        requires part { LiesInShape (box_of part.now) shape.now }
+        requires window { IsWindow window (B.bytes source.now) }
+        requires may_read { MayRead (B.may_read source.now) window
+            ((sharding_meaning self.now).places (kind data_type.now) shape.now (box_of part.now)
+            (window_bytes window (B.bytes source.now))) }
+        ensures cells { IfOk result (λ made. DecodesPart (kind data_type.now) shape.now
+            (box_of part.now) ((sharding_meaning self.now).decoded (kind data_type.now)
+            (fill_of (kind data_type.now) fill_value.now) shape.now
+            (window_bytes window (B.bytes source.now))) (data_of made)) }
+        ensures refused { IfErr result (RefusesPartDecoding ((sharding_meaning self.now).decoded
+            (kind data_type.now) (fill_of (kind data_type.now) fill_value.now) shape.now
+            (window_bytes window (B.bytes source.now))) ((sharding_meaning self.now).leaves_out
+            shape.now (window_bytes window (B.bytes source.now)))
+            (position_count shape.now * held_size (kind data_type.now)
+            (fill_of (kind data_type.now) fill_value.now)) (B.refuses source.now)) }
+    {
+        let sub = self.extents(alloc)?;
+        let at_start = self.index_location().is_at_start();
+        self.partial_decode_cut(
+            at_start, &sub, alloc, source, window, part, data_type, fill_value, shape,
+        )
+    }
+
+    /// The same, of a shard that is cut into subchunks of this shape.
+    #[cycle(partial_decode)]
+    fn partial_decode_cut<B: ByteSource>(
+        &self,
+        at_start: bool,
+        sub: &[u64],
+        alloc: Global,
+        source: &B,
+        window: Window,
+        part: &ArraySubset,
+        data_type: &DataType,
+        fill_value: &FillValue,
+        shape: &[u64],
+    ) -> Result<ArrayBytes<'static>, PartError>
+        requires filled { IsSome (fill_cell (kind data_type.now) fill_value.now) }
+        requires size { position_count shape.now * cell_size (kind data_type.now) < 2 ^ 64 }
+        requires fill_size { position_count (box_of part.now).shape * held_size (kind data_type.now)
+            (fill_of (kind data_type.now) fill_value.now) < 2 ^ 64 }
+        requires part { LiesInShape (box_of part.now) shape.now }
+        requires window { IsWindow window (B.bytes source.now) }
+        requires may_read { MayRead (B.may_read source.now) window (shard_places at_start sub.now
+            (kind data_type.now) shape.now (box_of part.now)
+            (window_bytes window (B.bytes source.now))) }
+        ensures cells { IfOk result (λ made. (m : SubchunkMeaning) → DecodesAs m
+            ((chain_meaning (inner_chain_of self.now)).decoded (kind data_type.now)
+            (fill_of (kind data_type.now) fill_value.now) sub.now)
+            → DecodesPart (kind data_type.now) shape.now (box_of part.now) (sharded_decoded m
+            at_start (kind data_type.now) (fill_of (kind data_type.now) fill_value.now) shape.now
+            sub.now (window_bytes window (B.bytes source.now))) (data_of made)) }
+        ensures refused { IfErr result (λ e. (m : SubchunkMeaning) → DecodesAs m
+            ((chain_meaning (inner_chain_of self.now)).decoded (kind data_type.now)
+            (fill_of (kind data_type.now) fill_value.now) sub.now)
+            → RefusesPartDecoding (sharded_decoded m at_start (kind data_type.now)
+            (fill_of (kind data_type.now) fill_value.now) shape.now sub.now
+            (window_bytes window (B.bytes source.now)))
+            (sharded_leaves_out ((chain_meaning (inner_chain_of self.now)).leaves_out sub.now)
+            at_start shape.now sub.now (window_bytes window (B.bytes source.now)))
+            (position_count shape.now * held_size (kind data_type.now)
+            (fill_of (kind data_type.now) fill_value.now)) (B.refuses source.now) e) }
+    {
+        let Ok(count) = part.num_elements() else {
+            unreachable!()
+        };
+        let held = RegionCells::new_fill_value(alloc, data_type, count, fill_value)?;
+        let Some(index) = open_shard(alloc, source, window, shape, sub, at_start)? else {
+            return Err(PartError::Codec(CodecError::DoesNotFit));
+        };
+        self.read_subchunks(
+            at_start, sub, alloc, source, window, &index, part, data_type, fill_value, shape, held,
+        )
+    }
+
+    /// The cells of the subchunks that a part of a shard meets, put into data of the part that is all fill.
+    #[cycle(partial_decode)]
+    fn read_subchunks<B: ByteSource>(
+        &self,
+        at_start: bool,
+        sub: &[u64],
+        alloc: Global,
+        source: &B,
+        window: Window,
+        index: &ShardIndex,
+        part: &ArraySubset,
+        data_type: &DataType,
+        fill_value: &FillValue,
+        shape: &[u64],
+        held: RegionCells,
+    ) -> Result<ArrayBytes<'static>, PartError>
+        requires filled { IsSome (fill_cell (kind data_type.now) fill_value.now) }
+        requires size { position_count shape.now * cell_size (kind data_type.now) < 2 ^ 64 }
+        requires fill_size { position_count (box_of part.now).shape * held_size (kind data_type.now)
+            (fill_of (kind data_type.now) fill_value.now) < 2 ^ 64 }
+        requires part { LiesInShape (box_of part.now) shape.now }
+        requires window { IsWindow window (B.bytes source.now) }
+        requires may_read { MayRead (B.may_read source.now) window (shard_places at_start sub.now
+            (kind data_type.now) shape.now (box_of part.now)
+            (window_bytes window (B.bytes source.now))) }
+        requires shard { IsShard index.now at_start shape.now sub.now
+            (window_bytes window (B.bytes source.now)) }
+        requires fill { cells (kind data_type.now) (region_data held) ≡ Some (replicate
+            (position_count (box_of part.now).shape) (fill_of (kind data_type.now) fill_value.now)) }
+        ensures all { IfOk result (λ made. HasAllParts (kind data_type.now)
+            ((chain_meaning (inner_chain_of self.now)).decoded (kind data_type.now)
+            (fill_of (kind data_type.now) fill_value.now) sub.now)
+            (fill_of (kind data_type.now) fill_value.now) shape.now sub.now (box_of part.now)
+            (map (range_part (window_bytes window (B.bytes source.now))) index.now.ranges.items)
+            (data_of made)) }
+        ensures refused { IfErr result (RefusesStep
+            ((chain_meaning (inner_chain_of self.now)).decoded (kind data_type.now)
+            (fill_of (kind data_type.now) fill_value.now) sub.now)
+            ((chain_meaning (inner_chain_of self.now)).leaves_out sub.now)
+            (position_count shape.now * held_size (kind data_type.now)
+            (fill_of (kind data_type.now) fill_value.now))
+            (map (range_part (window_bytes window (B.bytes source.now))) index.now.ranges.items)
+            (B.refuses source.now)) }
+    {
+        let met = met_subchunks(alloc, part, shape, sub)?;
+        let Some(mut walk) = met.walk(alloc)? else {
+            return Ok(held.into_array_bytes(alloc)?);
+        };
+        let mut made = held;
+        loop {
+            made = self.read_subchunk(
+                at_start,
+                sub,
+                alloc,
+                source,
+                window,
+                index,
+                part,
+                data_type,
+                fill_value,
+                shape,
+                made,
+                walk.current(),
+            )?;
+            if !walk.advance() {
+                return Ok(made.into_array_bytes(alloc)?);
+            }
+        }
+    }
+
+    /// The data of a part of a shard with the cells that the subchunk with these indices has of it. An absent subchunk
+    /// changes nothing.
+    #[cycle(partial_decode)]
+    fn read_subchunk<B: ByteSource>(
+        &self,
+        at_start: bool,
+        sub: &[u64],
+        alloc: Global,
+        source: &B,
+        window: Window,
+        index: &ShardIndex,
+        part: &ArraySubset,
+        data_type: &DataType,
+        fill_value: &FillValue,
+        shape: &[u64],
+        held: RegionCells,
+        indices: &[u64],
+    ) -> Result<RegionCells, PartError>
+        requires filled { IsSome (fill_cell (kind data_type.now) fill_value.now) }
+        requires size { position_count shape.now * cell_size (kind data_type.now) < 2 ^ 64 }
+        requires fill_size { position_count (box_of part.now).shape * held_size (kind data_type.now)
+            (fill_of (kind data_type.now) fill_value.now) < 2 ^ 64 }
+        requires part { LiesInShape (box_of part.now) shape.now }
+        requires window { IsWindow window (B.bytes source.now) }
+        requires may_read { MayRead (B.may_read source.now) window (shard_places at_start sub.now
+            (kind data_type.now) shape.now (box_of part.now)
+            (window_bytes window (B.bytes source.now))) }
+        requires shard { IsShard index.now at_start shape.now sub.now
+            (window_bytes window (B.bytes source.now)) }
+        requires held { HasCells (kind data_type.now) (region_data held)
+            (position_count (box_of part.now).shape) }
+        ensures read { IfOk result (λ made. ReadsSubchunk (kind data_type.now)
+            ((chain_meaning (inner_chain_of self.now)).decoded (kind data_type.now)
+            (fill_of (kind data_type.now) fill_value.now) sub.now)
+            (fill_of (kind data_type.now) fill_value.now) shape.now sub.now (box_of part.now)
+            (map (range_part (window_bytes window (B.bytes source.now))) index.now.ranges.items)
+            indices.now (region_data held) (region_data made)) }
+        ensures refused { IfErr result (RefusesStep
+            ((chain_meaning (inner_chain_of self.now)).decoded (kind data_type.now)
+            (fill_of (kind data_type.now) fill_value.now) sub.now)
+            ((chain_meaning (inner_chain_of self.now)).leaves_out sub.now)
+            (position_count shape.now * held_size (kind data_type.now)
+            (fill_of (kind data_type.now) fill_value.now))
+            (map (range_part (window_bytes window (B.bytes source.now))) index.now.ranges.items)
+            (B.refuses source.now)) }
+    {
+        // The bytes of the source are counted, so that no place passes `u64`.
+        let _counted = source.size();
+        let Some(number) = ravel_indices(indices, index.subchunks.grid()) else {
+            return Ok(held);
+        };
+        let Some(range) = index.ranges[number as usize] else {
+            return Ok(held);
+        };
+        let subset = index.subchunks.subset(alloc, number)?;
+        let shared = common_part(alloc, part, &subset)?;
+        if shared.is_empty() {
+            return Ok(held);
+        }
+        let own = seen_from_corner(alloc, &shared, subset.start())?;
+        let own_window = Window {
+            offset: window.offset + range.start as u64,
+            len: (range.end - range.start) as u64,
+        };
+        let cells = self.partial_decode_inner(
+            alloc, source, own_window, &own, data_type, fill_value, sub,
+        )?;
+        let made = held.with_part(alloc, data_type, part, &cells, &shared)?;
+        Ok(made)
+    }
+
+    /// The cells of a part of a subchunk of this shape whose bytes are those of a window.
+    #[cycle(partial_decode)]
+    fn partial_decode_inner<B: ByteSource>(
+        &self,
+        alloc: Global,
+        source: &B,
+        window: Window,
+        part: &ArraySubset,
+        data_type: &DataType,
+        fill_value: &FillValue,
+        shape: &[u64],
+    ) -> Result<ArrayBytes<'static>, PartError>
+        requires filled { IsSome (fill_cell (kind data_type.now) fill_value.now) }
+        requires size { position_count shape.now * cell_size (kind data_type.now) < 2 ^ 64 }
+        requires fill_size { position_count (box_of part.now).shape * held_size (kind data_type.now)
+            (fill_of (kind data_type.now) fill_value.now) < 2 ^ 64 }
+        requires part { LiesInShape (box_of part.now) shape.now }
+        requires window { IsWindow window (B.bytes source.now) }
+        requires may_read { MayRead (B.may_read source.now) window ((chain_meaning (inner_chain_of self.now)).places
+            (kind data_type.now) shape.now (box_of part.now)
+            (window_bytes window (B.bytes source.now))) }
+        ensures cells { IfOk result (λ made. DecodesPart (kind data_type.now) shape.now
+            (box_of part.now) ((chain_meaning (inner_chain_of self.now)).decoded (kind data_type.now)
+            (fill_of (kind data_type.now) fill_value.now) shape.now
+            (window_bytes window (B.bytes source.now))) (data_of made)) }
+        ensures refused { IfErr result (RefusesPartDecoding ((chain_meaning (inner_chain_of self.now)).decoded
+            (kind data_type.now) (fill_of (kind data_type.now) fill_value.now) shape.now
+            (window_bytes window (B.bytes source.now))) ((chain_meaning (inner_chain_of self.now)).leaves_out
+            shape.now (window_bytes window (B.bytes source.now)))
+            (position_count shape.now * held_size (kind data_type.now)
+            (fill_of (kind data_type.now) fill_value.now)) (B.refuses source.now)) }
+    {
+        self.inner
+            .partial_decode_chunk(alloc, source, window, part, data_type, fill_value, shape)
+    }
+}
