@@ -5,3 +5,5 @@ pub mod ChunkRanges
 pub mod Cuts
 pub mod CutWalks
 pub mod OneChunk
+pub mod PartDecodes
+pub mod SharedBoxes

@@ -10,7 +10,8 @@ use Rattle.zarrs_data_type.specs.ArrayData.{ArrayData}
 use Rattle.zarrs_data_type.specs.Cells.{cells}
 use Rattle.zarrs_steps.specs.declared.error.ArrayError.{ArrayError}
 use Rattle.zarrs_steps.specs.Layout.{Layout}
-use Rattle.zarrs_steps.specs.Refusals.{Refusal, indices, size_overflow, refusal_of, RefusesBy, length_refusal, key_refusal}
+use Rattle.zarrs_steps.specs.Content.{decoded_cells}
+use Rattle.zarrs_steps.specs.Refusals.{Refusal, codec, indices, storage, size_overflow, out_of_memory, refusal_of, RefusesBy, length_refusal, key_refusal}
 use Rattle.zarrs_steps.specs.Refusals.{box_refusal, fill_refusal, read_refusal}
 use Rattle.zarrs_steps.specs.Changes.{IsValueOf, Makes}
 use Rattle.zarrs_steps.specs.StateRefusals.{RefusesErasure}
@@ -33,6 +34,16 @@ pub record LeaveOutCells (layout : Layout) (index encoded : List ℕ) : Type 0 w
 abbrev pub RefusesBytes : Layout → (index encoded : List ℕ) → Refusal → Type 0
 RefusesBytes layout index encoded r =
     RefusesBy (read_refusal layout true index (Some encoded)) r ⊎ ((r ≡ size_overflow) × LeaveOutCells layout index encoded)
+
+-- A part of a chunk of this box is not decoded: the source of its bytes refuses (E7), they do not decode (E4), or they leave
+-- out cells, and a chunk of fill is too large (E8). Out of memory may come at any time.
+abbrev pub RefusesPartBytes : Layout → (box : Box) (encoded : List ℕ) (refuses : Bool) → Refusal → Type 0
+RefusesPartBytes layout box encoded refuses storage = refuses ≡ true
+RefusesPartBytes layout box encoded refuses codec = decoded_cells layout box encoded ≡ None
+RefusesPartBytes layout box encoded refuses size_overflow =
+    (layout.chain.leaves_out box.shape encoded ≡ true) × (fill_refusal layout box.shape ≡ Some size_overflow)
+RefusesPartBytes layout box encoded refuses out_of_memory = Unit {0}
+RefusesPartBytes layout box encoded refuses _ = ⊥
 
 -- the data is the cells of a chunk of this box, and this is what is to be present at its key
 pub record HasValue (layout : Layout) (keep : Bool) (box : Box) (held : ArrayData) (value : Option (List ℕ)) : Type 0 where

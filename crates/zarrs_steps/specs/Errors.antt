@@ -3,6 +3,8 @@ use Rattle.zarrs_storage.specs.declared.error.StorageError.{StorageError}
 use Rattle.zarrs_storage.specs.declared.error.StorageError.TheVariants as storage
 use Rattle.zarrs_codec_leaf.specs.declared.error.CodecError.{CodecError}
 use Rattle.zarrs_codec_leaf.specs.declared.error.CodecError.TheVariants as codec
+use Rattle.zarrs_parts.specs.declared.error.PartError.{PartError}
+use Rattle.zarrs_parts.specs.declared.error.PartError.TheVariants as part
 use Rattle.zarrs_data_type.specs.declared.error.ElementError.{ElementError}
 use Rattle.zarrs_data_type.specs.declared.error.ElementError.TheVariants as element
 use Rattle.zarrs_subset.specs.declared.error.ArraySubsetError.{ArraySubsetError}
@@ -24,6 +26,11 @@ abbrev pub error_of_codec : CodecError → ArrayError
 error_of_codec codec.DoesNotFit = unfit
 error_of_codec codec.SizeOverflow = array.SizeOverflow
 error_of_codec codec.OutOfMemory = array.OutOfMemory
+
+-- a refusal of a part of a chunk: that of the codec or of the store
+abbrev pub error_of_part : PartError → ArrayError
+error_of_part (part.Codec error) = error_of_codec error
+error_of_part (part.Source error) = error_of_storage error
 
 -- a refusal of values, except out of memory
 abbrev pub error_of_element : ElementError → ArrayError

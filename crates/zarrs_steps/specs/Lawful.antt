@@ -33,7 +33,9 @@ cell_back none = refl
 cell_back (some c) = ap some (cell_back c)
 
 abbrev pub coded_cell : Coded Cell
-coded_cell = code_by (ℕ × Option (List ℕ)) (coded× coded_ℕ (coded_option (coded_list coded_ℕ))) (λ c. (depth_of c, core_of c)) (λ p. cell_of p.0 p.1) cell_back
+coded_cell =
+    code_by (ℕ × Option (List ℕ)) (coded× coded_ℕ (coded_option (coded_list coded_ℕ)))
+    (λ c. (depth_of c, core_of c)) (λ p. cell_of p.0 p.1) cell_back
 
 -- a chunk is updated in one way: it has one list of cells
 module _ (s : List ℕ) (part : Box) (given held : List Cell) (now : Option (List Cell)) where

@@ -1,6 +1,7 @@
 -- What a store leaves that may write the parts of chunks by themselves: the cells of a chunk whose cells were known, and
 -- the keys that changed. Of what a key holds nothing is said.
-use Rattle.std.specs.Prelude.{◌≡◌, ◌⊎◌, ℕ, Bool, true, false, List, [], ◌∷◌, length, Option, None, Some, Contains, IsSome, if◌then◌else◌}
+use Rattle.std.specs.Prelude.{◌≡◌, ◌⊎◌, ℕ, Bool, true, List, [], ◌∷◌, length, Option, None, Some, Contains}
+use Rattle.std.specs.Prelude.{IsSome, if◌then◌else◌}
 use Rattle.zarrs_subset.specs.Boxes.{position_count}
 use Rattle.zarrs_subset.specs.Regions.{Box, Holds, cell_in, in_box}
 use Rattle.zarrs_chunk_grid.specs.Grids.{box_at, has_box}
@@ -52,7 +53,8 @@ pub record PatchesAll (layout : Layout) (region : Box) (held : ArrayData) (chunk
   pub makes : Makes (length chunks) 0 old new
 
 -- the cells of a part are not encoded into what is present at the key of a chunk of this shape
-pub record IsNotEncoded (layout : Layout) (keep : Bool) (shape : List ℕ) (stored : Option (List ℕ)) (part : Box) (held : ArrayData) (r : Refusal) : Type 0 where
+pub record IsNotEncoded (layout : Layout) (keep : Bool) (shape : List ℕ) (stored : Option (List ℕ))
+    (part : Box) (held : ArrayData) (r : Refusal) : Type 0 where
   pub error : CodecError
   pub is : r ≡ refusal_of_codec error
   pub cause : RefusesPartialEncoding layout.chain keep layout.kind layout.fill shape stored part held error
@@ -71,7 +73,8 @@ RefusesPartly layout keep index failed new r = (failed ≡ 0) × RefusesPatching
 
 -- why a chunk does not take its part: it is not stored whole, or its part is not written by itself
 abbrev pub RefusesPatch : Layout → Bool → Box → ArrayData → List ℕ → ℕ → StoreState → Refusal → Type 0
-RefusesPatch layout keep region held index failed new r = RefusesPart layout keep region held index failed new r ⊎ RefusesPartly layout keep index failed new r
+RefusesPatch layout keep region held index failed new r =
+    RefusesPart layout keep region held index failed new r ⊎ RefusesPartly layout keep index failed new r
 
 -- a refused store: a front of its chunks took their part
 abbrev pub RefusesPatches : Layout → Bool → Option Refusal → Box → ArrayData → List (List ℕ) → Refusal → StoreState → StoreState → Type 0
