@@ -1,12 +1,22 @@
 -- The chunks of a list, compared one after another.
-use Rattle.std.proofs.Common.{◌≡◌, ◌∙◌, ◌+◌, ◌⊎◌, ℕ, List, length, take, slice_get, Some, Contains, inl, inr, ap, subst, arith}
-use Rattle.std.proofs.lemmas.List.{take_all}
+use Rattle.std.proofs.Common.{◌≡◌, ◌∙◌, ◌+◌, ◌⊎◌, ℕ, Bool, true, false, List, length, take, get_or, slice_get, Some}
+use Rattle.std.proofs.Common.{Contains, inl, inr, refl, ap, subst, arith}
+use Rattle.std.specs.Bool.{OnFalse, OnTrue}
+use Rattle.std.proofs.lemmas.Bool.{cases_lt, false≢true}
+use Rattle.std.proofs.lemmas.Option.{slice_get-get_or}
+use Rattle.std.proofs.lemmas.List.{get_or_past, take_all}
 use Rattle.std.proofs.lemmas.List.Elements.{Contains-push_cases}
+use Rattle.zarrs_subset.specs.Boxes.{EndsFit}
+use Rattle.zarrs_subset.specs.Regions.{Box, IsLong, positions}
+use Rattle.zarrs_subset.proofs.Bytes.{holds_along}
+use Rattle.zarrs_subset.proofs.Positions.{positions_in}
+use Rattle.zarrs_keys.specs.Keys.{IsIndexList}
 use Rattle.zarrs_storage.specs.Store.{StoreState}
-use Rattle.zarrs_steps.specs.Layout.{Layout}
+use Rattle.zarrs_steps.specs.Layout.{Layout, IsLawful}
 use Rattle.zarrs_steps.specs.Content.{value_at}
 use Rattle.zarrs_steps.specs.Refusals.{Refusal, RefusesBy, key_refusal}
-use Rattle.zarrs_engine.specs.Comparisons.{HoldSameChunks, RefusesComparison}
+use Rattle.zarrs_steps.proofs.Comparisons.{comparison_is_content}
+use Rattle.zarrs_engine.specs.Comparisons.{ComparesContent, DifferInChunk, HoldSameChunks, RefusesComparison}
 use Rattle.zarrs_engine.proofs.Encoded.{value_refused}
 use Rattle.zarrs_engine.proofs.Ranges.{next_front}
 
@@ -33,3 +43,27 @@ module _ (a b : Layout) (one two : StoreState) (chunks : List (List ℕ)) where
     | inl first ↦ inl (value_refused a one chunks index r among first)
     | inr second ↦ inr (value_refused b two chunks index r among second)
   ]
+
+  -- of canonical arrays the answer is that of their cells
+  pub compares_content : IsLawful a → IsLawful b → ((index : List ℕ) → Contains chunks index → IsIndexList a.grid.dimensions index)
+      → (equal : Bool) → OnTrue equal (HoldSameChunks a b one two chunks) → OnFalse equal (DifferInChunk a b one two chunks)
+      → ComparesContent a b one two chunks equal
+  compares_content p q long true same differ keys canon other =
+      let both = comparison_is_content a b p q keys one two canon other chunks long in
+      (λ is. both.0 same, λ agree. refl)
+  compares_content p q long false same differ keys canon other =
+      let both = comparison_is_content a b p q keys one two canon other chunks long in
+      (λ is. absurd (false≢true is), λ agree. absurd (differ.2 (both.1 agree differ.0 differ.1)))
+
+-- the positions of a range are index lists
+pub range_indices : (range : Box) → IsLong range → EndsFit range.start range.shape → (dimensions : ℕ) → length range.start ≡ dimensions
+    → (index : List ℕ) → Contains (positions range) index → IsIndexList dimensions index
+range_indices range long fits dimensions count index (n, below, at) =
+    let inside = holds_along range index long (positions_in range.start range.shape n index long (slice_get-get_or (positions range) n index below ∙ ap Some at)) in
+    record {
+      long = inside.same_length ∙ count;
+      words = λ k. elim (cases_lt k (length range.start)) [
+        | inl along ↦ (let last = inside.below k along in let fit = fits k in omega arith)
+        | inr past ↦ (let none : get_or index k 0 ≡ 0 = get_or_past index k 0 (let same = inside.same_length in omega arith) in omega arith)
+      ];
+    }

@@ -91,6 +91,12 @@ module _ (layout : Layout) (lawful : IsLawful layout) (region : Box) (t : ArrayB
       (read_size layout region.shape t.cell_size (size_is layout.kind t.cell_size size) (held_fixed layout.kind t.cell_size layout.fill size lawful.filled)
       (subst (λ s. position_count s * t.cell_size < 2 ^ 64) same lt))
 
+  -- the arguments decide no more than of the region
+  pub target_region : (shape : List ℕ) → length region.start ≡ layout.grid.dimensions → takes_type t.cell_size t.depth layout.kind ≡ true → (target_box t).shape ≡ region.shape
+      → target_refusal layout shape region t ≡ region_refusal layout shape region
+  target_region shape dimensions takes same =
+      into_region layout shape region (takes_type t.cell_size t.depth layout.kind) (target_box t).shape dimensions takes (taken_fixed t.cell_size t.depth layout.kind takes) same
+
   -- what was read fits the target's box
   pub read_fits : (chunks : List (List ℕ)) (held : ArrayData) (state : StoreState) → (target_box t).shape ≡ region.shape → ReadsRegion layout region chunks held state
       → fits layout.kind held (position_count (target_box t).shape) ≡ true

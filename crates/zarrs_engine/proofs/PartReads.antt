@@ -1,5 +1,5 @@
 -- Reads of parts of chunks.
-use Rattle.std.proofs.Common.{◌≡◌, ◌+◌, ◌<◌, ℕ, zero, suc, true, false, cond, List, [], ◌∷◌, length, replicate}
+use Rattle.std.proofs.Common.{◌≡◌, ◌+◌, ◌-◌, ◌<◌, ◌≤◌, max, min, ℕ, zero, suc, true, false, cond, List, [], ◌∷◌, length, replicate}
 use Rattle.std.proofs.Common.{slice_index, Option, Some, None, Contains, refl, sym, ◌∙◌, ap, subst, inl, inr, arith}
 use Rattle.std.specs.Option.{option_or}
 use Rattle.std.specs.Str.{bytes_eq}
@@ -7,9 +7,11 @@ use Rattle.std.proofs.lemmas.Bool.{cases_Bool, and_from, and_parts, false≢true
 use Rattle.std.proofs.lemmas.Grind.{same_number_lists}
 use Rattle.std.proofs.lemmas.List.{get_or-replicate, length-replicate}
 use Rattle.std.proofs.lemmas.Slice.Eq.{bytes_eq-Decides}
-use Rattle.zarrs_subset.specs.Boxes.{offset_by, position_count}
-use Rattle.zarrs_subset.specs.Regions.{Box, IsLong, Holds, LiesInShape, box_from, shifted_box}
+use Rattle.zarrs_subset.specs.Boxes.{offset_by, overlap_extents, overlap_start, position_count, zip_with}
+use Rattle.zarrs_subset.specs.Regions.{Box, IsLong, Holds, LiesInShape, box_from, overlap_of, shifted_box}
 use Rattle.zarrs_subset.proofs.Overlaps.{length-zip_with}
+use Rattle.zarrs_subset.proofs.Parts.{zip_with-at}
+use Rattle.zarrs_variable.specs.StringParts.{LiesInBox}
 use Rattle.zarrs_subset.proofs.Shifts.{part_in_chunk}
 use Rattle.zarrs_chunk_grid.specs.Grids.{box_at, has_box}
 use Rattle.zarrs_chunk_grid.proofs.Chunks.{box_covered, box_dimensions, box_index, box_is_there, box_long}
@@ -23,15 +25,17 @@ use Rattle.zarrs_steps.specs.Changes.{RetrievesChunk}
 use Rattle.zarrs_steps.specs.ChunkBoxes.{is_whole_of, part_box}
 use Rattle.zarrs_steps.specs.Reads.{ReadsRegion}
 use Rattle.zarrs_steps.specs.Refusals.{Refusal, RefusesBy, length_refusal, key_refusal, read_refusal}
-use Rattle.zarrs_steps.specs.StateRefusals.{RefusesChunkRead, RefusesRegionRead}
+use Rattle.zarrs_steps.specs.StateRefusals.{IsPart, RefusesChunkRead, RefusesRegionRead}
 use Rattle.zarrs_steps.specs.Step.{RetrievesPart, RefusesRetrievePart}
 use Rattle.zarrs_steps.specs.Content.{value_at}
 use Rattle.zarrs_steps.proofs.Contents.{member, only_member}
 use Rattle.zarrs_steps.proofs.RefusalLemmas.{refused_first, refused_second, second_refusal}
 use Rattle.zarrs_layout.specs.Covers.{CoverRegion}
-use Rattle.zarrs_engine.specs.RegionReads.{ReadsOneMore}
+use Rattle.zarrs_engine.specs.RegionReads.{HasRead, ReadsOneMore}
 use Rattle.zarrs_layout.proofs.ChunkParts.{chunk_has, part_lies, shifted_part}
 use Rattle.zarrs_layout.proofs.Chunks.{right_length}
+use Rattle.zarrs_layout.proofs.OneChunk.{covers_lies}
+use Rattle.zarrs_engine.proofs.MovedBoxes.{overlap_inside}
 use Rattle.zarrs_engine.proofs.RegionReads.{read_all, read_none}
 
 -- ---- which part is the whole chunk
@@ -98,6 +102,53 @@ module _ (layout : Layout) (lawful : IsLawful layout) (index : List ℕ) (has : 
         covered = λ position holds. box_covered layout.grid lawful.grid index position there (inside position holds);
         listed = λ position holds. subst (λ (i : List ℕ). Contains (index ∷ []) i) (sym (box_index layout.grid lawful.grid index position there (inside position holds))) (member index);
       })
+
+-- ---- where a part lies
+
+start_within : (R C : List ℕ) → length R ≡ length C → ((k : ℕ) → k < length R → slice_index C k ≤ slice_index R k) → overlap_start R C ≡ R
+start_within [] [] same below = refl
+start_within [] (c ∷ C) same below = absurd (omega arith)
+start_within (r ∷ R) [] same below = absurd (omega arith)
+start_within (r ∷ R) (c ∷ C) same below =
+    let low : c ≤ r = below 0 (omega arith) in
+    let first : max r c ≡ r = omega arith in
+    ap (λ x. x ∷ overlap_start R C) first ∙ ap (λ l. r ∷ l) (start_within R C (omega arith) (λ k lt. below (suc k) (omega arith)))
+
+extents_within : (R X C Y : List ℕ) → length X ≡ length R → length C ≡ length R → length Y ≡ length R → ((k : ℕ) → k < length R → slice_index C k ≤ slice_index R k)
+    → ((k : ℕ) → k < length R → slice_index R k + slice_index X k ≤ slice_index C k + slice_index Y k) → overlap_extents R X C Y ≡ X
+extents_within [] [] C Y extents same other below ends = refl
+extents_within [] (x ∷ X) C Y extents same other below ends = absurd (omega arith)
+extents_within (r ∷ R) [] C Y extents same other below ends = absurd (omega arith)
+extents_within (r ∷ R) (x ∷ X) [] Y extents same other below ends = absurd (omega arith)
+extents_within (r ∷ R) (x ∷ X) (c ∷ C) [] extents same other below ends = absurd (omega arith)
+extents_within (r ∷ R) (x ∷ X) (c ∷ C) (y ∷ Y) extents same other below ends =
+    let low : c ≤ r = below 0 (omega arith) in
+    let high : r + x ≤ c + y = ends 0 (omega arith) in
+    let first : min (r + x) (c + y) - max r c ≡ x = omega arith in
+    ap (λ n. n ∷ overlap_extents R X C Y) first
+    ∙ ap (λ l. x ∷ l) (extents_within R X C Y (omega arith) (omega arith) (omega arith) (λ k lt. below (suc k) (omega arith)) (λ k lt. ends (suc k) (omega arith)))
+
+-- a region that lies in a chunk is all that they share
+pub overlap_within : (region chunk : Box) → IsLong region → IsLong chunk → LiesInBox region chunk → overlap_of region chunk ≡ region
+overlap_within region chunk long chunk_long lies =
+    let below : (k : ℕ) → k < length region.start → slice_index chunk.start k ≤ slice_index region.start k = λ k lt. lies.starts k (omega (arith, lies.same_length)) in
+    let start = start_within region.start chunk.start lies.same_length below in
+    let extents = extents_within region.start region.shape chunk.start chunk.shape (sym long) (sym lies.same_length) (sym chunk_long ∙ sym lies.same_length) below
+    (λ k lt. lies.ends k (omega (arith, lies.same_length))) in
+    ap (λ s. record { start = s; shape = overlap_extents region.start region.shape chunk.start chunk.shape }) start ∙ ap (λ x. record { start = region.start; shape = x }) extents
+
+-- a part lies in its chunk
+part_within : (chunk part : Box) → IsLong chunk → LiesInShape part chunk.shape → LiesInBox (part_box chunk part) chunk
+part_within chunk part long lies =
+    let same : length part.start ≡ length chunk.start = lies.same_length ∙ sym long in
+    let starts = length-zip_with (λ s t. s + t) part.start chunk.start same in
+    let at : (k : ℕ) → k < length chunk.start → slice_index (zip_with (λ s t. s + t) part.start chunk.start) k ≡ slice_index part.start k + slice_index chunk.start k =
+    λ k below. zip_with-at (λ s t. s + t) part.start chunk.start k (omega arith) below in
+    subst (λ (b : Box). LiesInBox b chunk) (shifted_part chunk part) (record {
+      same_length = starts ∙ same;
+      starts = λ k below. omega (arith, at k below);
+      ends = λ k below. omega (arith, at k below, lies.ends k (omega (arith, long)));
+    })
 
 -- ---- the read of a part
 
@@ -179,15 +230,35 @@ module _ (layout : Layout) (lawful : IsLawful layout) (index : List ℕ) (part c
       subst (λ (b : Box). CoverRegion layout.grid b (index ∷ [])) (sym region_at)
       (cover_part layout lawful index (chunk_has layout index there) part part_long (part_lies layout index part inside))
 
+  pub lies_within : LiesInBox region chunk
+  lies_within =
+      let at = box_at layout.grid index in
+      subst (λ (b : Box). LiesInBox b chunk) (sym region_is) (part_within chunk part (subst IsLong (sym chunk_is) (box_long layout.grid index))
+      (subst (λ (b : Box). LiesInShape part b.shape) (sym chunk_is) (part_lies layout index part inside)))
+
+  -- a part that is not the whole chunk does not cover it
+  pub is_part : (region ≡ chunk → ⊥) → IsPart layout region index
+  is_part apart covers =
+      let box = box_at layout.grid index in
+      let long = box_long layout.grid index in
+      let inner = subst (LiesInBox region) chunk_is lies_within in
+      let outer = covers_lies layout.grid lawful.grid index (chunk_has layout index there) region part_cover.long part_cover.dimensions covers in
+      apart (sym (overlap_within region box part_cover.long long inner) ∙ overlap_inside region box part_cover.long long outer ∙ sym chunk_is)
+
   module _ (state : StoreState) (apart : region ≡ chunk → ⊥) where
+    -- the cells that were decoded
+    pub part_alone : (made : ArrayData) → read_size_refusal layout region.shape ≡ None → HasRead layout region (index ∷ []) state made → RetrievesPart layout index part made state
+    part_alone made fits r =
+        let reads = read_all layout lawful region (index ∷ []) state made part_cover r in
+        proper_read layout index part state there inside (is_proper apart) made (ap (λ (b : Box). read_size_refusal layout b.shape) (sym region_is) ∙ fits)
+        (subst (λ (b : Box). ReadsRegion layout b (index ∷ []) made state) region_at reads)
+
     -- fill, and the cells that the chunk has of the part
     pub part_read : (old new : ArrayData) → cells layout.kind old ≡ Some (replicate (position_count region.shape) layout.fill) → read_size_refusal layout region.shape ≡ None
         → ReadsOneMore layout region index state old new → RetrievesPart layout index part new state
     part_read old new fill fits one =
         let none = read_none layout lawful region state old part_cover.long fill (length-replicate {A = Cell} (position_count region.shape) layout.fill) in
-        let reads = read_all layout lawful region (index ∷ []) state new part_cover (one [] none) in
-        proper_read layout index part state there inside (is_proper apart) new (ap (λ (b : Box). read_size_refusal layout b.shape) (sym region_is) ∙ fits)
-        (subst (λ (b : Box). ReadsRegion layout b (index ∷ []) new state) region_at reads)
+        part_alone new fits (one [] none)
 
     pub part_not_read : (r : Refusal) → RefusesRegionRead layout (read_size_refusal layout region.shape) region (index ∷ []) state r → RefusesRetrievePart layout index part r state
     part_not_read r why =

@@ -16,7 +16,7 @@ use Rattle.zarrs_storage.specs.Store.{StoreState}
 use Rattle.zarrs_steps.specs.Layout.{Layout, IsLawful}
 use Rattle.zarrs_steps.specs.ArgumentRefusals.{part_refusal, region_refusal}
 use Rattle.zarrs_steps.specs.ChunkBoxes.{chunks_met, is_covered_box, is_empty, last_of}
-use Rattle.zarrs_steps.specs.Reach.{MayAskChunk, MayAskChunks}
+use Rattle.zarrs_steps.specs.Reach.{MayReadPart, MayReadParts}
 use Rattle.zarrs_steps.specs.Refusals as refusal
 use Rattle.zarrs_steps.specs.Refusals.{refuse_if}
 use Rattle.zarrs_steps.proofs.Contents.{only_member}
@@ -130,10 +130,10 @@ module _ (layout : Layout) (lawful : IsLawful layout) (index : List ℕ) (has : 
   part_region shape = cover_accepted layout lawful shape (region_of_part layout index part) (index ∷ []) part_covered
 
   -- the one key may be asked, and no other one is
-  pub part_ask : (region : Box) → region ≡ region_of_part layout index part → (state : StoreState) → MayAskChunk layout index state → MayAskChunks layout (chunks_met layout.grid region) state
+  pub part_ask : (region : Box) → region ≡ region_of_part layout index part → (state : StoreState) → MayReadPart layout (region_of_part layout index part) index state → MayReadParts layout region (chunks_met layout.grid region) state
   part_ask region is state ask i among =
       let one = met_only layout.grid lawful.grid index (region_of_part layout index part) part_covered i (subst (λ (b : Box). Contains (chunks_met layout.grid b) i) is among) in
-      subst (λ (j : List ℕ). MayAskChunk layout j state) (sym one) ask
+      subst (λ (j : List ℕ). MayReadPart layout region j state) (sym one) (subst (λ (b : Box). MayReadPart layout b index state) (sym is) ask)
 
 -- ---- whether a chunk is present
 

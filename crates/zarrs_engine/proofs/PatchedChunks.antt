@@ -1,15 +1,15 @@
 -- A chunk of which a part was written by itself.
-use Rattle.std.proofs.Common.{◌≡◌, ◌⊎◌, ℕ, ◌+◌, ◌-◌, ◌<◌, ◌≤◌, ◌^◌, Bool, true, false, cond, ◌&&◌, List, [], ◌∷◌, length, map, replicate, Option, Some, None, Contains, refl, sym, ap, subst, ◌∙◌, inl, inr, arith}
+use Rattle.std.proofs.Common.{◌≡◌, ℕ, ◌+◌, ◌-◌, ◌<◌, Bool, true, cond, ◌&&◌, List, [], ◌∷◌, length, replicate, Option, Some, None, refl, sym, ap, subst, ◌∙◌, arith}
 use Rattle.std.specs.Prelude.{IsSome, option_and_then, slice_get}
-use Rattle.std.proofs.lemmas.Bool.{and_parts, leb-true, ltb-true}
+use Rattle.std.proofs.lemmas.Bool.{and_parts, leb-true}
 use Rattle.std.proofs.lemmas.Bool.Decides.{nat_tests}
 use Rattle.zarrs_subset.specs.Boxes.{position_count, InShape, in_range, is_within, offset_by, offset_from, place}
 use Rattle.zarrs_subset.specs.Regions.{Box, Holds, box_at_origin, cell_in, in_box, place_in}
 use Rattle.zarrs_subset.proofs.Positions.{offset_from-in}
 use Rattle.zarrs_chunk_grid.specs.Grids.{box_at, has_box}
-use Rattle.zarrs_chunk_grid.proofs.Chunks.{box_is_there, box_long}
+use Rattle.zarrs_chunk_grid.proofs.Chunks.{box_long}
 use Rattle.zarrs_storage.specs.Store.{StoreState}
-use Rattle.zarrs_data_type.specs.Cell.{Cell, are_values}
+use Rattle.zarrs_data_type.specs.Cell.{Cell}
 use Rattle.zarrs_data_type.specs.ArrayData.{ArrayData}
 use Rattle.zarrs_data_type.specs.Cells.{HasCells, cells}
 use Rattle.zarrs_data_type.proofs.Cells.{cells-values}
@@ -19,9 +19,9 @@ use Rattle.zarrs_chain.specs.Chain.{chunk_cells, partial_encoding}
 use Rattle.zarrs_steps.specs.Layout.{Layout, IsLawful}
 use Rattle.zarrs_steps.specs.Content.{value_at, content, Reads}
 use Rattle.zarrs_steps.specs.Changes.{IsPut}
-use Rattle.zarrs_steps.specs.ChunkBoxes.{is_part_of, part_box}
-use Rattle.zarrs_steps.specs.Patches.{Patches, PatchesAll, TakesPatches, known_cells}
-use Rattle.zarrs_steps.proofs.Contents.{index_list, member, only_member, reads_absent, reads_decoded}
+use Rattle.zarrs_steps.specs.ChunkBoxes.{part_box}
+use Rattle.zarrs_steps.specs.Patches.{PatchesAll, known_cells}
+use Rattle.zarrs_steps.proofs.Contents.{only_member, reads_absent, reads_decoded}
 use Rattle.zarrs_steps.proofs.Loops.{put_changes}
 use Rattle.zarrs_layout.proofs.CutWalks.{number_is}
 

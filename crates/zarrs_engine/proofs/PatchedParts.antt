@@ -1,15 +1,14 @@
 -- The part of a region that lies in one chunk, written by itself.
-use Rattle.std.proofs.Common.{◌≡◌, ℕ, zero, suc, ◌+◌, ◌-◌, ◌<◌, ◌≤◌, Bool, true, false, cond, ◌&&◌, List, [], ◌∷◌, length, slice_index, min, max, Option, Some, Contains, refl, sym, ap, subst, ◌∙◌, arith}
+use Rattle.std.proofs.Common.{◌≡◌, ℕ, zero, suc, ◌+◌, ◌-◌, ◌<◌, ◌≤◌, Bool, true, false, cond, ◌&&◌, List, [], ◌∷◌, length, slice_index, min, max, Some, refl, sym, ap, subst, ◌∙◌, arith}
 use Rattle.std.specs.Prelude.{SomeIndex, IsSomeAnd}
 use Rattle.zarrs_subset.specs.Boxes.{position_count, offset_by, overlap_extents, overlap_start, zip_with}
-use Rattle.zarrs_subset.specs.Regions.{Box, Holds, IsLong, LiesInShape, cell_in, in_box, overlap_of, seen_from}
+use Rattle.zarrs_subset.specs.Regions.{Box, IsLong, LiesInShape, cell_in, in_box, overlap_of, seen_from}
 use Rattle.zarrs_subset.specs.Refusals.{RefusesOffset}
 use Rattle.zarrs_subset.specs.declared.error.ArraySubsetError.{ArraySubsetError}
 use Rattle.zarrs_subset.specs.declared.error.ArraySubsetError.TheVariants as subset
 use Rattle.zarrs_subset.proofs.Overlaps.{in_box-overlap, length-overlap_extents, length-zip_with}
 use Rattle.zarrs_subset.proofs.Parts.{overlap_extents-at, zip_with-at}
 use Rattle.zarrs_chunk_grid.specs.Grids.{box_at}
-use Rattle.zarrs_chunk_grid.proofs.Chunks.{box_long}
 use Rattle.zarrs_storage.specs.Store.{StoreState}
 use Rattle.zarrs_data_type.specs.Cell.{Cell}
 use Rattle.zarrs_data_type.specs.ArrayData.{ArrayData}

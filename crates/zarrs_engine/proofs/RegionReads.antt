@@ -1,6 +1,6 @@
 -- Reads of regions, one chunk after another.
-use Rattle.std.proofs.Common.{◌≡◌, ◌≢◌, ◌||◌, ◌&&◌, ℕ, Bool, true, false, cond, List, [], ◌∷◌, ◌++◌, length, replicate}
-use Rattle.std.proofs.Common.{get_or, Some, None, Contains, refl, sym, ◌∙◌, ap, subst, inl, inr, arith}
+use Rattle.std.proofs.Common.{◌≡◌, ◌≢◌, ◌<◌, ◌≤◌, ◌||◌, ◌&&◌, ℕ, Bool, true, false, cond, List, [], ◌∷◌, ◌++◌, length, replicate, slice_get, slice_index}
+use Rattle.std.proofs.Common.{get_or, Option, Some, None, IfNone, Contains, refl, sym, ◌∙◌, ap, subst, inl, inr, arith}
 use Rattle.std.specs.List.{list_any}
 use Rattle.std.specs.Str.{bytes_eq}
 use Rattle.std.proofs.lemmas.Bool.{cases_Bool, false≢true}
@@ -8,10 +8,16 @@ use Rattle.std.proofs.lemmas.List.Elements.{Contains-push_cases}
 use Rattle.std.proofs.lemmas.List.Folds.{list_any-append, list_any_at}
 use Rattle.std.proofs.lemmas.Slice.Eq.{bytes_eq-Decides}
 use Rattle.zarrs_subset.specs.Boxes.{position_count}
-use Rattle.zarrs_subset.specs.Regions.{Box, IsLong, in_box, place_in, cell_in}
-use Rattle.zarrs_subset.proofs.Bytes.{place_in_below}
+use Rattle.zarrs_subset.specs.Boxes.{offset_from, place}
+use Rattle.zarrs_subset.specs.Regions.{Box, Holds, IsLong, cell_in, in_box, place_in}
+use Rattle.zarrs_subset.proofs.Bytes.{holds_along, place_in_below}
+use Rattle.zarrs_subset.proofs.Overlaps.{in_box-overlap}
+use Rattle.zarrs_subset.proofs.Positions.{offset_from-in}
+use Rattle.zarrs_shard.proofs.SubchunkBoxes.{place_in_chunk}
+use Rattle.zarrs_parts.proofs.SubchunkSteps.{holds_seen, seen_again}
 use Rattle.zarrs_chunk_grid.specs.Grids.{box_at, index_at, is_covered, has_box}
-use Rattle.zarrs_chunk_grid.proofs.Chunks.{box_is_there, box_index, box_covered}
+use Rattle.zarrs_chunk_grid.proofs.Chunks.{box_is_there, box_index, box_covered, box_long}
+use Rattle.zarrs_variable.proofs.Inside.{holds_inside}
 use Rattle.zarrs_storage.specs.Store.{StoreState}
 use Rattle.zarrs_data_type.specs.Cell.{Cell}
 use Rattle.zarrs_data_type.specs.ArrayData.{ArrayData}
@@ -19,11 +25,19 @@ use Rattle.zarrs_data_type.specs.Cells.{cells}
 use Rattle.zarrs_cells.specs.Parts.{TakesCells}
 use Rattle.zarrs_steps.specs.Layout.{Layout, IsLawful}
 use Rattle.zarrs_steps.specs.Content.{value_at, content, decoded_cells}
+use Rattle.zarrs_steps.specs.ChunkBoxes.{CoversBox}
 use Rattle.zarrs_steps.specs.Fronts.{is_in_chunks}
 use Rattle.zarrs_steps.specs.Reads.{IsBroken, ReadsRegion}
-use Rattle.zarrs_steps.proofs.Contents.{absent_fill, fill_at, in_chunk, reads_decoded, replicated, same_or_not}
+use Rattle.zarrs_steps.specs.StateRefusals.{IsPart}
+use Rattle.zarrs_steps.proofs.Contents.{absent_fill, fill_at, in_chunk, only_member, reads_decoded, replicated, same_or_not}
+use Rattle.zarrs_steps.proofs.Shapes.{known_decodes}
 use Rattle.zarrs_layout.specs.Covers.{CoverRegion}
-use Rattle.zarrs_engine.specs.RegionReads.{HasRead, ReadsOneMore}
+use Rattle.zarrs_layout.specs.Shared.{AreApart, AreShared}
+use Rattle.zarrs_engine.specs.RegionReads.{DecodesStored, HasRead, ReadsOneMore}
+
+or_all : (b : Bool) → b || true ≡ true
+or_all true = refl
+or_all false = refl
 
 or_none : (b : Bool) → b || false ≡ b
 or_none true = refl
@@ -43,8 +57,13 @@ apart_bytes a b apart = elim (cases_Bool (bytes_eq a b)) [
   | inr not_is ↦ not_is
 ]
 
+-- what follows if there is no value
+pub none_then : {X P Q : Type 0} (found : Option X) → (P → Q) → IfNone found P → IfNone found Q
+none_then None f holds = f holds
+none_then (Some x) f holds = holds
+
 -- a chunk of the list is found in it
-any_of : (indices : List (List ℕ)) (i : List ℕ) → Contains indices i → list_any (bytes_eq i) indices ≡ true
+pub any_of : (indices : List (List ℕ)) (i : List ℕ) → Contains indices i → list_any (bytes_eq i) indices ≡ true
 any_of indices i among = list_any_at (bytes_eq i) indices among.0 i among.1 ((bytes_eq-Decides i (get_or indices among.0 i)).1 (sym among.2))
 
 module _ (layout : Layout) (lawful : IsLawful layout) where
@@ -69,7 +88,7 @@ module _ (layout : Layout) (lawful : IsLawful layout) where
         ]
       ]
 
-  in_more : (chunks : List (List ℕ)) (index : List ℕ) → has_box layout.grid index ≡ true → (position : List ℕ)
+  pub in_more : (chunks : List (List ℕ)) (index : List ℕ) → has_box layout.grid index ≡ true → (position : List ℕ)
       → is_in_chunks layout (chunks ++ index ∷ []) position ≡ is_in_chunks layout chunks position || in_box (box_at layout.grid index) position
   in_more chunks index has position =
       let f = bytes_eq (index_at layout.grid position) in
@@ -85,82 +104,169 @@ module _ (layout : Layout) (lawful : IsLawful layout) where
     given = replicate (position_count region.shape) layout.fill;
     are_cells = is;
     count = count;
-    each = λ position holds.
+    each = λ position cell holds known.
         let below = place_in_below region position long holds in
         fill_at layout.fill (replicate (position_count region.shape) layout.fill) (place_in region position) (replicated layout.fill (position_count region.shape)) (omega (arith, count))
-        ∙ sym (ap (λ b. cond b (content layout (value_at state) position) (Some layout.fill)) (and_none (is_covered layout.grid position)));
+        ∙ sym (ap (λ b. cond b (content layout (value_at state) position) (Some layout.fill)) (and_none (is_covered layout.grid position)))
+        ∙ known;
     whole = λ index among. let b = among.1 in absurd (omega arith);
   }
 
-  not_broken : (region : Box) (chunks : List (List ℕ)) (index : List ℕ) (state : StoreState) (held : ArrayData) → HasRead layout region chunks state held → (IsBroken layout index state → ⊥)
-      → (i : List ℕ) → Contains (chunks ++ index ∷ []) i → IsBroken layout i state → ⊥
-  not_broken region chunks index state held r sound i among = elim (Contains-push_cases chunks index i among) [
-    | inl early ↦ r.whole i early
-    | inr is ↦ λ broken. sound (subst (λ j. IsBroken layout j state) (sym is) broken)
-  ]
+  module _ (region : Box) (index : List ℕ) (state : StoreState) (has : has_box layout.grid index ≡ true) where
+    abbrev chunk : Box
+    chunk = box_at layout.grid index
 
-  -- an absent chunk was read: its cells are fill already
-  pub read_absent : (region : Box) (index : List ℕ) (state : StoreState) (held : ArrayData) → has_box layout.grid index ≡ true → value_at state (layout.key index) ≡ None → ReadsOneMore layout region index state held held
-  read_absent region index state held has absent = λ chunks r. record {
-    given = r.given;
-    are_cells = r.are_cells;
-    count = r.count;
-    each = λ position holds.
-        let now = content layout (value_at state) position in
-        let box = in_box (box_at layout.grid index) position in
+    more_whole : (chunks : List (List ℕ)) (held : ArrayData) → HasRead layout region chunks state held → (CoversBox region chunk → IsBroken layout index state → ⊥)
+        → (i : List ℕ) → Contains (chunks ++ index ∷ []) i → CoversBox region (box_at layout.grid i) → IsBroken layout i state → ⊥
+    more_whole chunks held r sound i among = elim (Contains-push_cases chunks index i among) [
+      | inl early ↦ r.whole i early
+      | inr is ↦ λ covers broken.
+          sound (subst (λ j. CoversBox region (box_at layout.grid j)) (sym is) covers) (subst (λ j. IsBroken layout j state) (sym is) broken)
+    ]
+
+    -- what is known of a position of the chunk, and of one beside it
+    known_in : (chunks : List (List ℕ)) (position : List ℕ) (cell : Cell) → in_box chunk position ≡ true
+        → cond (is_in_chunks layout (chunks ++ index ∷ []) position) (content layout (value_at state) position) (Some layout.fill) ≡ Some cell
+        → content layout (value_at state) position ≡ Some cell
+    known_in chunks position cell here known =
         let before = is_in_chunks layout chunks position in
-        r.each position holds
-        ∙ elim (cases_Bool box) [
-          | inl here ↦
-              let fill : now ≡ Some layout.fill = absent_fill layout (value_at state) lawful index has absent position here in
-              ap (λ o. cond before now o) (sym fill) ∙ elim (cases_Bool before) [
-                | inl is ↦ ap (λ b. cond b now now) is ∙ sym (ap (λ b. cond (b || box) now (Some layout.fill)) is)
-                | inr is_not ↦ ap (λ b. cond b now now) is_not ∙ sym (ap (λ b. cond (b || box) now (Some layout.fill)) is_not ∙ ap (λ b. cond b now (Some layout.fill)) here)
-              ]
-          | inr out ↦ sym (ap (λ b. cond (before || b) now (Some layout.fill)) out ∙ ap (λ b. cond b now (Some layout.fill)) (or_none before))
-        ]
-        ∙ sym (ap (λ b. cond b now (Some layout.fill)) (in_more chunks index has position));
-    whole = not_broken region chunks index state held r (λ broken. let clash : None ≡ Some broken.encoded = sym absent ∙ broken.stands in cc);
-  }
+        let all : is_in_chunks layout (chunks ++ index ∷ []) position ≡ true = in_more chunks index has position ∙ ap (λ b. before || b) here ∙ or_all before in
+        sym (ap (λ b. cond b (content layout (value_at state) position) (Some layout.fill)) all) ∙ known
 
-  -- a chunk that is present was read: its cells were put into the data
-  pub read_present : (region : Box) (index : List ℕ) (state : StoreState) (old part new : ArrayData) (encoded : List ℕ) → has_box layout.grid index ≡ true
-      → value_at state (layout.key index) ≡ Some encoded → cells layout.kind part ≡ decoded_cells layout (box_at layout.grid index) encoded
-      → TakesCells layout.kind region (box_at layout.grid index) part old new → ReadsOneMore layout region index state old new
-  read_present region index state old part new encoded has stands decodes t = λ chunks r.
-      let found : decoded_cells layout (box_at layout.grid index) encoded ≡ Some t.given = sym decodes ∙ t.part_is in
-      let read = reads_decoded layout (value_at state) lawful index has encoded t.given stands found in
-      let one : Some t.held ≡ Some r.given = sym t.old_is ∙ r.are_cells in
-      let same : t.held ≡ r.given = cc in
-      record {
-        given = t.made;
-        are_cells = t.new_is;
-        count = t.count ∙ ap (λ (cs : List Cell). length cs) same ∙ r.count;
-        each = λ position holds.
-            let now = content layout (value_at state) position in
-            let box = in_box (box_at layout.grid index) position in
-            let before = is_in_chunks layout chunks position in
-            t.takes position holds
-            ∙ elim (cases_Bool box) [
-              | inl here ↦
-                  ap (λ b. cond b (cell_in (box_at layout.grid index) t.given position) (cell_in region t.held position)) here
-                  ∙ sym (read.each position here)
-                  ∙ sym (elim (cases_Bool before) [
-                    | inl is ↦ ap (λ b. cond (b || box) now (Some layout.fill)) is
-                    | inr is_not ↦ ap (λ b. cond (b || box) now (Some layout.fill)) is_not ∙ ap (λ b. cond b now (Some layout.fill)) here
-                  ])
-              | inr out ↦
-                  ap (λ b. cond b (cell_in (box_at layout.grid index) t.given position) (cell_in region t.held position)) out
-                  ∙ ap (λ (cs : List Cell). cell_in region cs position) same
-                  ∙ r.each position holds
-                  ∙ sym (ap (λ b. cond (before || b) now (Some layout.fill)) out ∙ ap (λ b. cond b now (Some layout.fill)) (or_none before))
-            ]
-            ∙ sym (ap (λ b. cond b now (Some layout.fill)) (in_more chunks index has position));
-        whole = not_broken region chunks index state old r (λ broken.
-            let other : Some encoded ≡ Some broken.encoded = sym stands ∙ broken.stands in
-            let is : encoded ≡ broken.encoded = cc in
-            let clash : Some t.given ≡ None = sym found ∙ ap (decoded_cells layout (box_at layout.grid index)) is ∙ broken.undecoded in
-            cc);
+    known_out : (chunks : List (List ℕ)) (position : List ℕ) (cell : Cell) → in_box chunk position ≡ false
+        → cond (is_in_chunks layout (chunks ++ index ∷ []) position) (content layout (value_at state) position) (Some layout.fill) ≡ Some cell
+        → cond (is_in_chunks layout chunks position) (content layout (value_at state) position) (Some layout.fill) ≡ Some cell
+    known_out chunks position cell out known =
+        let before = is_in_chunks layout chunks position in
+        let same : is_in_chunks layout (chunks ++ index ∷ []) position ≡ before = in_more chunks index has position ∙ ap (λ b. before || b) out ∙ or_none before in
+        sym (ap (λ b. cond b (content layout (value_at state) position) (Some layout.fill)) same) ∙ known
+
+    -- One more chunk was read: what is known of it is in the new data, and the old data beside it.
+    read_piece : (old new : ArrayData) (made : List Cell) → cells layout.kind new ≡ Some made
+        → ((given : List Cell) → cells layout.kind old ≡ Some given → length made ≡ length given)
+        → ((position : List ℕ) (cell : Cell) → Holds region position → Holds chunk position → content layout (value_at state) position ≡ Some cell → cell_in region made position ≡ Some cell)
+        → ((given : List Cell) → cells layout.kind old ≡ Some given → (position : List ℕ) → Holds region position → in_box chunk position ≡ false → cell_in region made position ≡ cell_in region given position)
+        → (CoversBox region chunk → IsBroken layout index state → ⊥) → ReadsOneMore layout region index state old new
+    read_piece old new made is count here there sound = λ chunks r. record {
+      given = made;
+      are_cells = is;
+      count = count r.given r.are_cells ∙ r.count;
+      each = λ position cell holds known. elim (cases_Bool (in_box chunk position)) [
+        | inl inside ↦ here position cell holds inside (known_in chunks position cell inside known)
+        | inr out ↦ there r.given r.are_cells position holds out ∙ r.each position cell holds (known_out chunks position cell out known)
+      ];
+      whole = more_whole chunks old r sound;
+    }
+
+    same_cells : (held : ArrayData) (a b : List Cell) → cells layout.kind held ≡ Some a → cells layout.kind held ≡ Some b → a ≡ b
+    same_cells held a b is other = let both : Some a ≡ Some b = sym is ∙ other in cc
+
+    -- an absent chunk was read: its cells are fill already
+    pub read_absent : (held : ArrayData) → value_at state (layout.key index) ≡ None → ReadsOneMore layout region index state held held
+    read_absent held absent = λ chunks r.
+        read_piece held held r.given r.are_cells
+        (λ given is. ap (λ (cs : List Cell). length cs) (same_cells held r.given given r.are_cells is))
+        (λ position cell holds inside known.
+        let fill : content layout (value_at state) position ≡ Some layout.fill = absent_fill layout (value_at state) lawful index has absent position inside in
+        r.each position cell holds (elim (cases_Bool (is_in_chunks layout chunks position)) [
+          | inl is ↦ ap (λ b. cond b (content layout (value_at state) position) (Some layout.fill)) is ∙ known
+          | inr is_not ↦ ap (λ b. cond b (content layout (value_at state) position) (Some layout.fill)) is_not ∙ sym fill ∙ known
+        ]))
+        (λ given is position holds out. ap (λ (cs : List Cell). cell_in region cs position) (same_cells held r.given given r.are_cells is))
+        (λ covers broken. let clash : None ≡ Some broken.encoded = sym absent ∙ broken.stands in cc)
+        chunks r
+
+    -- a chunk without a position of the region was passed
+    pub read_apart : (held : ArrayData) → AreApart region chunk → IsPart layout region index → ReadsOneMore layout region index state held held
+    read_apart held apart part = λ chunks r.
+        read_piece held held r.given r.are_cells
+        (λ given is. ap (λ (cs : List Cell). length cs) (same_cells held r.given given r.are_cells is))
+        (λ position cell holds inside known. absurd (false≢true (sym (apart position holds) ∙ inside)))
+        (λ given is position holds out. ap (λ (cs : List Cell). cell_in region cs position) (same_cells held r.given given r.are_cells is))
+        (λ covers broken. part covers)
+        chunks r
+
+    -- a chunk that is present was read: its cells were put into the data
+    pub read_present : (old part new : ArrayData) (encoded : List ℕ) → value_at state (layout.key index) ≡ Some encoded → cells layout.kind part ≡ decoded_cells layout chunk encoded
+        → TakesCells layout.kind region chunk part old new → ReadsOneMore layout region index state old new
+    read_present old part new encoded stands decodes t =
+        let found : decoded_cells layout chunk encoded ≡ Some t.given = sym decodes ∙ t.part_is in
+        let read = reads_decoded layout (value_at state) lawful index has encoded t.given stands found in
+        read_piece old new t.made t.new_is
+        (λ given is. t.count ∙ ap (λ (cs : List Cell). length cs) (same_cells old t.held given t.old_is is))
+        (λ position cell holds inside known.
+        t.takes position holds
+        ∙ ap (λ b. cond b (cell_in chunk t.given position) (cell_in region t.held position)) inside
+        ∙ sym (read.each position inside) ∙ known)
+        (λ given is position holds out.
+        t.takes position holds
+        ∙ ap (λ b. cond b (cell_in chunk t.given position) (cell_in region t.held position)) out
+        ∙ ap (λ (cs : List Cell). cell_in region cs position) (same_cells old t.held given t.old_is is))
+        (λ covers broken.
+        let other : Some encoded ≡ Some broken.encoded = sym stands ∙ broken.stands in
+        let is : encoded ≡ broken.encoded = cc in
+        let clash : Some t.given ≡ None = sym found ∙ ap (decoded_cells layout chunk) is ∙ broken.undecoded in
+        cc)
+
+    module _ (long : IsLong region) (same : length region.start ≡ length chunk.start) (shared part : Box) (shared_long : IsLong shared) (s : AreShared region chunk shared part) where
+      chunk_long : IsLong chunk
+      chunk_long = box_long layout.grid index
+
+      in_shared : (position : List ℕ) → in_box shared position ≡ in_box region position && in_box chunk position
+      in_shared position =
+          ap (λ b. in_box b position) s.shared_is ∙ in_box-overlap region.start region.shape chunk.start chunk.shape position long chunk_long same
+
+      -- the cells of a part that was decoded are those that are known of the chunk
+      pub part_known : (made : ArrayData) (d : DecodesStored layout index part state made) (position : List ℕ) (cell : Cell) → Holds shared position
+          → content layout (value_at state) position ≡ Some cell → cell_in shared d.decodes.given position ≡ Some cell
+      part_known made d position cell here known =
+          let given = d.decodes.given in
+          let corner = chunk.start in
+          let p = offset_from corner position in
+          let inside = holds_inside shared chunk position shared_long chunk_long s.in_chunk here in
+          let found = known_decodes layout lawful (value_at state) index d.encoded position cell has d.stands inside known in
+          let read = reads_decoded layout (value_at state) lawful index has d.encoded found.0 d.stands found.1 in
+          let corner_len : length corner ≡ length shared.start = sym s.in_chunk.same_length in
+          let above : (k : ℕ) → k < length shared.start → slice_index corner k ≤ slice_index shared.start k = λ k lt. s.in_chunk.starts k (omega (arith, corner_len)) in
+          let long_p : length position ≡ length shared.start = (holds_along shared position shared_long here).same_length in
+          let seen : Holds part p = subst (λ b. Holds b p) (sym s.part_is) (holds_seen shared corner position shared_long corner_len above here) in
+          ap (λ q. slice_get given (place shared.shape q)) (sym (seen_again shared.start corner position corner_len long_p above))
+          ∙ ap (λ b. cell_in b given p) (sym s.part_is)
+          ∙ d.decodes.same found.0 found.1 p seen
+          ∙ ap (slice_get found.0) (place_in_chunk chunk.shape p (offset_from-in chunk.start chunk.shape position chunk_long inside))
+          ∙ sym (read.each position inside)
+          ∙ known
+
+      -- a part of a chunk was read: its cells were put into the data
+      pub read_part : IsPart layout region index → (old made new : ArrayData) → DecodesStored layout index part state made
+          → TakesCells layout.kind region shared made old new → ReadsOneMore layout region index state old new
+      read_part proper old made new d t =
+          read_piece old new t.made t.new_is
+          (λ given is. t.count ∙ ap (λ (cs : List Cell). length cs) (same_cells old t.held given t.old_is is))
+          (λ position cell holds inside known.
+          let here : in_box shared position ≡ true = in_shared position ∙ ap (λ b. b && in_box chunk position) holds ∙ inside in
+          t.takes position holds
+          ∙ ap (λ b. cond b (cell_in shared t.given position) (cell_in region t.held position)) here
+          ∙ ap (λ (cs : List Cell). cell_in shared cs position) (same_cells made t.given d.decodes.given t.part_is d.decodes.are_cells)
+          ∙ part_known made d position cell here known)
+          (λ given is position holds out.
+          let apart : in_box shared position ≡ false = in_shared position ∙ ap (λ b. b && in_box chunk position) holds ∙ out in
+          t.takes position holds
+          ∙ ap (λ b. cond b (cell_in shared t.given position) (cell_in region t.held position)) apart
+          ∙ ap (λ (cs : List Cell). cell_in region cs position) (same_cells old t.held given t.old_is is))
+          (λ covers broken. proper covers)
+
+      -- a part of a chunk was read that is all of the region
+      pub read_alone : shared ≡ region → IsPart layout region index → (made : ArrayData) → DecodesStored layout index part state made → HasRead layout region (index ∷ []) state made
+      read_alone all proper made d = record {
+        given = d.decodes.given;
+        are_cells = d.decodes.are_cells;
+        count = d.decodes.count ∙ ap (λ (b : Box). position_count b.shape) s.part_is ∙ ap (λ (b : Box). position_count b.shape) all;
+        each = λ position cell holds known.
+            let here : in_box shared position ≡ true = ap (λ (b : Box). in_box b position) all ∙ holds in
+            let inside = holds_inside shared chunk position shared_long chunk_long s.in_chunk here in
+            ap (λ (b : Box). cell_in b d.decodes.given position) (sym all) ∙ part_known made d position cell here (known_in [] position cell inside known);
+        whole = λ i among covers broken. proper (subst (λ (j : List ℕ). CoversBox region (box_at layout.grid j)) (only_member index i among) covers);
       }
 
   -- all chunks of the region were read
@@ -173,9 +279,9 @@ module _ (layout : Layout) (lawful : IsLawful layout) where
       each = λ position cell holds is.
           let among : is_in_chunks layout chunks position ≡ true =
           ap (λ b. b && list_any (bytes_eq (index_at layout.grid position)) chunks) (c.covered position holds) ∙ any_of chunks (index_at layout.grid position) (c.listed position holds) in
-          r.each position holds ∙ ap (λ b. cond b (content layout (value_at state) position) (Some layout.fill)) among ∙ is;
+          r.each position cell holds (ap (λ b. cond b (content layout (value_at state) position) (Some layout.fill)) among ∙ is);
     };
     long = c.long;
     covered = c.covered;
-    whole = λ index among covers. r.whole index among;
+    whole = r.whole;
   }

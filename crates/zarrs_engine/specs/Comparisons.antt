@@ -1,8 +1,10 @@
 -- Chunks of two arrays, compared by the bytes that are stored.
-use Rattle.std.specs.Prelude.{◌≡◌, ◌≢◌, ◌⊎◌, ℕ, List, Contains}
+use Rattle.std.specs.Prelude.{◌≡◌, ◌≢◌, ◌⊎◌, ◌↔◌, ℕ, Bool, IsTrue, List, Contains}
 use Rattle.zarrs_storage.specs.Store.{StoreState}
 use Rattle.zarrs_steps.specs.Layout.{Layout}
-use Rattle.zarrs_steps.specs.Content.{value_at}
+use Rattle.zarrs_steps.specs.Canon.{IsCanonical}
+use Rattle.zarrs_steps.specs.Content.{content, value_at}
+use Rattle.zarrs_steps.specs.Laws.{AgreeOver, DifferInKeys}
 use Rattle.zarrs_steps.specs.Refusals.{Refusal}
 use Rattle.zarrs_engine.specs.Encoded.{RefusesEncoded}
 
@@ -19,3 +21,8 @@ module _ (a b : Layout) (one two : StoreState) (chunks : List (List ℕ)) where
   -- these chunks are not compared: their bytes are not returned by one of the stores
   abbrev pub RefusesComparison : Refusal → Type 0
   RefusesComparison r = RefusesEncoded a chunks one r ⊎ RefusesEncoded b chunks two r
+
+  -- of two canonical arrays of one grid, data type, fill value and chain it is answered whether they agree over these chunks
+  abbrev pub ComparesContent : Bool → Type 0
+  ComparesContent equal = DifferInKeys a b → IsCanonical a (value_at one) → IsCanonical b (value_at two)
+      → IsTrue equal ↔ AgreeOver a.grid chunks (content a (value_at one)) (content b (value_at two))

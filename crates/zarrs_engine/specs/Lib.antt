@@ -2,6 +2,7 @@ pub mod Engine
 pub mod Encoded
 pub mod Into
 pub mod RegionReads
+pub mod TargetReads
 pub mod RegionWrites
 pub mod Lending
 pub mod Resizes

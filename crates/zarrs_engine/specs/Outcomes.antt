@@ -15,10 +15,12 @@ use Rattle.zarrs_chunk_grid.specs.Grids.{box_at}
 use Rattle.zarrs_steps.specs.ChunkBoxes.{chunks_met, part_box}
 use Rattle.zarrs_steps.specs.Step.{RetrievesChunks, RefusesRetrieveChunks, RetrievesPart, RefusesRetrievePart, RetrievesRegion, RefusesRetrieveRegion}
 use Rattle.zarrs_steps.specs.Step.{StoresChunks, RefusesStoreChunks, StoresPart, RefusesStorePart, ErasesChunks, RefusesEraseChunks}
-use Rattle.zarrs_steps.specs.Reach.{MayAskChunks, MayAskParts}
+use Rattle.zarrs_steps.specs.Reach.{MayAskChunks, MayAskParts, MayReadPart, MayReadParts}
 use Rattle.zarrs_steps.specs.Refusals.{Refusal, refusal_of, refusal_of_storage, length_refusal}
+use Rattle.zarrs_steps.specs.Canon.{IsCanonical, KeepsCanon}
 use Rattle.zarrs_steps.specs.Changes.{RetrievesChunk, RetrievesIfExists}
 use Rattle.zarrs_steps.specs.Compactions.{CompactsChunk}
+use Rattle.zarrs_steps.specs.Content.{value_at}
 use Rattle.zarrs_steps.specs.StateRefusals.{RefusesChunkRead}
 use Rattle.zarrs_steps.specs.Step.{StoresChunk, RefusesStoreChunk, ErasesChunk, RefusesEraseChunk, RefusesCompactChunk}
 use Rattle.zarrs_steps.specs.Step.{StoresRegion, RefusesStoreRegion}
@@ -52,23 +54,32 @@ module _ {S G K C : Type 0} {g : GridMeaning G} {k : KeyMeaning K} {c : ChainMea
     pub refused : IfErr result (λ e. refuses (refusal e) (store_of state old) (store_of state new))
     pub parts : KeepsParts old new
 
+  -- The same of whole chunks: besides, a canonical store stays one, done or refused, if empty chunks are not kept.
+  pub record WritesChunks {E : Type 0} (refusal : E → Refusal) (state : S → StoreState) (keep : Bool)
+      (does : StoreState → StoreState → Type 0) (refuses : Refusal → StoreState → StoreState → Type 0)
+      (old new : Engine S G K C g k c) (result : Result (Unit {0}) E) : Type 0 where
+    pub done : OnOk result (does (store_of state old) (store_of state new))
+    pub refused : IfErr result (λ e. refuses (refusal e) (store_of state old) (store_of state new))
+    pub canonical : KeepsCanon (layout_of old) keep (store_of state old) (store_of state new)
+    pub parts : KeepsParts old new
+
   -- a store of one chunk
   abbrev pub StoresChunkOrRefuses : (S → StoreState) → Bool → List ℕ → ArrayData
       → Engine S G K C g k c → Engine S G K C g k c → Result (Unit {0}) ArrayError → Type 0
   StoresChunkOrRefuses state keep index held old =
-      Writes refusal_of state (StoresChunk (layout_of old) keep index held) (RefusesStoreChunk (layout_of old) keep index held) old
+      WritesChunks refusal_of state keep (StoresChunk (layout_of old) keep index held) (RefusesStoreChunk (layout_of old) keep index held) old
 
   -- a store over the chunks of a range
   abbrev pub StoresChunksOrRefuses : (S → StoreState) → Bool → Box → ArrayData
       → Engine S G K C g k c → Engine S G K C g k c → Result (Unit {0}) ArrayError → Type 0
   StoresChunksOrRefuses state keep range held old =
-      Writes refusal_of state (StoresChunks (layout_of old) keep range held) (RefusesStoreChunks (layout_of old) keep range held) old
+      WritesChunks refusal_of state keep (StoresChunks (layout_of old) keep range held) (RefusesStoreChunks (layout_of old) keep range held) old
 
   -- a store over a part of a chunk, and that it may be asked for
   abbrev pub StoresPartOrRefuses : (S → StoreState) → Bool → List ℕ → Box → ArrayData
       → Engine S G K C g k c → Engine S G K C g k c → Result (Unit {0}) ArrayError → Type 0
   StoresPartOrRefuses state keep index part held old =
-      Writes refusal_of state (StoresPart (layout_of old) keep index part held) (RefusesStorePart (layout_of old) keep index part held) old
+      WritesChunks refusal_of state keep (StoresPart (layout_of old) keep index part held) (RefusesStorePart (layout_of old) keep index part held) old
 
   abbrev pub MayStorePart : (S → StoreState) → List ℕ → Box → Engine S G K C g k c → Type 0
   MayStorePart state index part engine =
@@ -79,27 +90,31 @@ module _ {S G K C : Type 0} {g : GridMeaning G} {k : KeyMeaning K} {c : ChainMea
       → Engine S G K C g k c → Engine S G K C g k c → Result (Unit {0}) ArrayError → Type 0
   StoresRegionOrRefuses state keep region held old =
       let shape = (state_of state old).shape in
-      Writes refusal_of state (StoresRegion (layout_of old) keep shape region held) (RefusesStoreRegion (layout_of old) keep shape region held) old
+      WritesChunks refusal_of state keep (StoresRegion (layout_of old) keep shape region held) (RefusesStoreRegion (layout_of old) keep shape region held) old
 
   abbrev pub MayStoreRegion : (S → StoreState) → Box → Engine S G K C g k c → Type 0
   MayStoreRegion state region engine = MayAskParts (layout_of engine) region (chunks_met (layout_of engine).grid region) (store_of state engine)
 
   -- an erasure of one chunk
   abbrev pub ErasesChunkOrRefuses : (S → StoreState) → List ℕ → Engine S G K C g k c → Engine S G K C g k c → Result (Unit {0}) StorageError → Type 0
-  ErasesChunkOrRefuses state index old = Writes refusal_of_storage state (ErasesChunk (layout_of old) index) (RefusesEraseChunk (layout_of old) index) old
+  ErasesChunkOrRefuses state index old = WritesChunks refusal_of_storage state false (ErasesChunk (layout_of old) index) (RefusesEraseChunk (layout_of old) index) old
 
   -- the same by an encoder of its parts, whose refusals are those of arrays
   abbrev pub ErasesEncodedOrRefuses : (S → StoreState) → List ℕ → Engine S G K C g k c → Engine S G K C g k c → Result (Unit {0}) ArrayError → Type 0
-  ErasesEncodedOrRefuses state index old = Writes refusal_of state (ErasesChunk (layout_of old) index) (RefusesEraseChunk (layout_of old) index) old
+  ErasesEncodedOrRefuses state index old = WritesChunks refusal_of state false (ErasesChunk (layout_of old) index) (RefusesEraseChunk (layout_of old) index) old
 
   -- an erasure of the chunks of a range
   abbrev pub ErasesChunksOrRefuses : (S → StoreState) → Box → Engine S G K C g k c → Engine S G K C g k c → Result (Unit {0}) StorageError → Type 0
-  ErasesChunksOrRefuses state range old = Writes refusal_of_storage state (ErasesChunks (layout_of old) range) (RefusesEraseChunks (layout_of old) range) old
+  ErasesChunksOrRefuses state range old = WritesChunks refusal_of_storage state false (ErasesChunks (layout_of old) range) (RefusesEraseChunks (layout_of old) range) old
 
-  -- a compaction of one chunk: it answers whether it wrote, or is refused, as it is where the store refuses the key
+  -- A compaction of one chunk: it answers whether it wrote, or is refused, as it is where the store refuses the key. On a
+  -- canonical store it writes nothing.
   pub record CompactsChunkOrRefuses (state : S → StoreState) (index : List ℕ) (old new : Engine S G K C g k c) (result : Result Bool ArrayError) : Type 0 where
     pub done : IfOk result (λ answer. CompactsChunk (layout_of old) index answer (store_of state old) (store_of state new))
     pub refused : IfErr result (λ e. RefusesCompactChunk (layout_of old) index (refusal_of e) (store_of state old) (store_of state new))
+    pub compact : IsCanonical (layout_of old) (value_at (store_of state old))
+        → IfOk result (λ answer. (answer ≡ false) × (store_of state new ≡ store_of state old))
+    pub canonical : KeepsCanon (layout_of old) false (store_of state old) (store_of state new)
     pub refusing : (store_of state old).refuses ((layout_of old).key index) ≡ true → IsErr result
     pub parts : KeepsParts old new
 
@@ -129,12 +144,17 @@ module _ {S G K C : Type 0} {g : GridMeaning G} {k : KeyMeaning K} {c : ChainMea
   abbrev pub MayRetrieveChunks : (S → StoreState) → Box → Engine S G K C g k c → Type 0
   MayRetrieveChunks state range engine = MayAskChunks (layout_of engine) (positions range) (store_of state engine)
 
-  -- of a part of a chunk
+  -- of a part of a chunk, and that it may be asked for
   abbrev pub RetrievesPartOrRefuses : (S → StoreState) → List ℕ → Box → Engine S G K C g k c → Result ArrayBytes ArrayError → Type 0
   RetrievesPartOrRefuses state index part engine =
       let layout = layout_of engine in
       let store = store_of state engine in
       Reads (λ held. RetrievesPart layout index part held store) (λ r. RefusesRetrievePart layout index part r store)
+
+  abbrev pub MayRetrievePart : (S → StoreState) → List ℕ → Box → Engine S G K C g k c → Type 0
+  MayRetrievePart state index part engine =
+      let layout = layout_of engine in
+      MayReadPart layout (part_box (box_at layout.grid index) part) index (store_of state engine)
 
   -- of a region, and that it may be asked for
   abbrev pub RetrievesRegionOrRefuses : (S → StoreState) → Box → Engine S G K C g k c → Result ArrayBytes ArrayError → Type 0
@@ -144,7 +164,7 @@ module _ {S G K C : Type 0} {g : GridMeaning G} {k : KeyMeaning K} {c : ChainMea
       Reads (λ held. RetrievesRegion layout now.shape region held now.store) (λ r. RefusesRetrieveRegion layout now.shape region r now.store)
 
   abbrev pub MayRetrieveRegion : (S → StoreState) → Box → Engine S G K C g k c → Type 0
-  MayRetrieveRegion state region engine = MayAskChunks (layout_of engine) (chunks_met (layout_of engine).grid region) (store_of state engine)
+  MayRetrieveRegion state region engine = MayReadParts (layout_of engine) region (chunks_met (layout_of engine).grid region) (store_of state engine)
 
   -- a store over a part of a chunk whose parts may be written by themselves
   abbrev pub PatchesPartOrRefuses : (S → StoreState) → Bool → List ℕ → Box → ArrayData

@@ -5,7 +5,8 @@ ghost use Rattle.zarrs_subset.specs.Regions.{box_of, positions};
 ghost use Rattle.zarrs_steps.specs.Content.{value_at};
 ghost use Rattle.zarrs_steps.specs.Reach.{MayAskChunk, MayAskChunks};
 ghost use Rattle.zarrs_steps.specs.Refusals.{RefusesBy, key_refusal, refusal_of};
-ghost use Rattle.zarrs_engine.specs.Comparisons.{DifferInChunk, HoldSameChunks, RefusesComparison};
+ghost use Rattle.zarrs_engine.specs.Comparisons.{ComparesContent, DifferInChunk, HoldSameChunks};
+ghost use Rattle.zarrs_engine.specs.Comparisons.{RefusesComparison};
 ghost use Rattle.zarrs_engine.specs.Engine.{layout_of, store_of};
 
 use crate::engine::Engine;
@@ -19,6 +20,8 @@ use zarrs_subset::ArraySubset;
 
 /// Whether of each chunk with indices in the range the same bytes are stored in both arrays, or none in both. No chunk
 /// is decoded. The chunks are asked in row-major order, up to the first one that differs; an empty range asks nothing.
+/// Of two canonical arrays of one grid, data type, fill value and chain it is whether they have equal cells over the
+/// chunks.
 ///
 /// # Errors
 /// E8 for more chunks than a `u64` counts; E7 if one of the stores refuses the key of one of them. E9 may come at any
@@ -50,6 +53,9 @@ pub fn chunks_equal<
     ensures different { IfOk result (λ equal. OnFalse equal (DifferInChunk (layout_of a.now)
         (layout_of b.now) (store_of S1.state a.now) (store_of S2.state b.now)
         (positions (box_of chunks.now)))) }
+    ensures content { IfOk result (λ equal. ComparesContent (layout_of a.now) (layout_of b.now)
+        (store_of S1.state a.now) (store_of S2.state b.now) (positions (box_of chunks.now))
+        equal) }
     ensures refused { IfErr result (λ e. RefusesComparison (layout_of a.now) (layout_of b.now)
         (store_of S1.state a.now) (store_of S2.state b.now) (positions (box_of chunks.now))
         (refusal_of e)) }

@@ -12,6 +12,7 @@ mod resize;
 mod writes;
 
 pub use calls::replay;
+use std::fmt;
 use zarrs_chain::ChainTraits;
 use zarrs_chunk_grid::ChunkGridTraits;
 use zarrs_data_type::{DataType, FillValue};
@@ -23,7 +24,7 @@ use zarrs_layout::Parts;
 /// An array is a function from the positions that its chunks cover to cells: the fill value if a chunk is absent, else
 /// what the bytes at its key decode to (Zarr V3 core specification, "Fill value", "Chunk encoding"). Each call says in
 /// its contract what it does to that function and to the store.
-#[derive(Debug, Drop)]
+#[derive(Drop)]
 pub struct Engine<S, G: ChunkGridTraits, K: ChunkKeyEncodingTraits, C: ChainTraits> {
     storage: S,
     parts: Parts<G, K, C>,
@@ -180,6 +181,18 @@ impl<S, G: ChunkGridTraits + Drop, K: ChunkKeyEncodingTraits + Drop, C: ChainTra
         ensures { result ≡ the_store self }
     {
         self.storage
+    }
+}
+
+/// Prints where the array lies, its data type and its fill value. The store is not printed.
+impl<S, G: ChunkGridTraits, K: ChunkKeyEncodingTraits, C: ChainTraits> fmt::Debug
+    for Engine<S, G, K, C> {
+    fn fmt<W: fmt::Write>(&self, f: &mut fmt::Formatter<W>) -> fmt::Result {
+        f.debug_struct("Engine")
+            .field("path", &self.parts.path)
+            .field("data_type", &self.parts.data_type)
+            .field("fill_value", &self.parts.fill_value)
+            .finish_non_exhaustive()
     }
 }
 

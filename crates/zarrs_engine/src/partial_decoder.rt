@@ -71,12 +71,12 @@ impl<
     ghost use Rattle.zarrs_data_type.specs.ArrayData.{data_of};
     ghost use Rattle.zarrs_steps.specs.ArgumentRefusals.{part_refusal, region_refusal};
     ghost use Rattle.zarrs_steps.specs.Changes.{IsPresent};
-    ghost use Rattle.zarrs_steps.specs.Reach.{MayAskChunk};
     ghost use Rattle.zarrs_steps.specs.Refusals.{RefusesBy, key_refusal, refusal_of};
     ghost use Rattle.zarrs_steps.specs.Step.{RetrievesPart, RefusesRetrievePart};
     ghost use Rattle.zarrs_target.specs.States.{IsTarget, SameBox, StaysOutside};
     ghost use Rattle.zarrs_engine.specs.Engine.{layout_of, state_of, store_of};
     ghost use Rattle.zarrs_engine.specs.Into.{HasContent, RetrievesInto};
+    ghost use Rattle.zarrs_engine.specs.Outcomes.{MayRetrievePart};
     ghost use Rattle.zarrs_engine.specs.PartialDecoders.{engine_of, indices_of};
     ghost use Rattle.zarrs_engine.specs.PartialDecoders.{RefusesPartInto, part_into_refusal};
     ghost use Rattle.zarrs_engine.specs.PartialDecoders.{region_of_part};
@@ -93,8 +93,8 @@ impl<
         chunk_subset: &ArraySubset,
         _options: &CodecOptions,
     ) -> Result<ArrayBytes<'static>, ArrayError>
-        requires { MayAskChunk (layout_of (engine_of self.now)) (indices_of self.now)
-            (store_of S.state (engine_of self.now)) }
+        requires { MayRetrievePart S.state (indices_of self.now) (box_of chunk_subset.now)
+            (engine_of self.now) }
         ensures cells { IfOk result (λ made. RetrievesPart (layout_of (engine_of self.now))
             (indices_of self.now) (box_of chunk_subset.now) (data_of made)
             (store_of S.state (engine_of self.now))) }
@@ -122,8 +122,8 @@ impl<
         target: &mut ArrayBytesDecodeIntoTarget<'_, '_, '_>,
         _options: &CodecOptions,
     ) -> Result<(), ArrayError>
-        requires ask { MayAskChunk (layout_of (engine_of self.now)) (indices_of self.now)
-            (store_of S.state (engine_of self.now)) }
+        requires ask { MayRetrievePart S.state (indices_of self.now) (box_of chunk_subset.now)
+            (engine_of self.now) }
         requires target { IsTarget target.old }
         ensures target { IsTarget target.new }
         ensures same_bytes { target.new.bytes.ghost_name ≡ target.old.bytes.ghost_name }

@@ -5,6 +5,7 @@ ghost use Rattle.zarrs_engine.specs.Engine.{layout_of};
 
 use crate::engine::Engine;
 use std::alloc::Global;
+use std::fmt;
 use zarrs_chain::{ChainTraits, CodecOptions};
 use zarrs_chunk_grid::ChunkGridTraits;
 use zarrs_data_type::ArrayBytes;
@@ -14,7 +15,7 @@ use zarrs_storage::WritableStorageTraits;
 use zarrs_subset::{ArrayIndices, ArraySubset};
 
 /// A chunk of an array, of which parts are written. It keeps nothing of what it wrote.
-#[derive(Debug, Drop)]
+#[derive(Drop)]
 pub struct ArrayPartialEncoder<
     'a,
     S,
@@ -119,5 +120,16 @@ impl<
             && (store_of S.state (engine_of self.now)).sets_parts) }
     {
         self.engine.encodes_partly()
+    }
+}
+
+/// Prints the engine and the indices. The store is not printed.
+impl<S, G: ChunkGridTraits, K: ChunkKeyEncodingTraits, C: ChainTraits> fmt::Debug
+    for ArrayPartialEncoder<'_, S, G, K, C> {
+    fn fmt<W: fmt::Write>(&self, f: &mut fmt::Formatter<W>) -> fmt::Result {
+        f.debug_struct("ArrayPartialEncoder")
+            .field("engine", &*self.engine)
+            .field("chunk_indices", &self.chunk_indices)
+            .finish()
     }
 }

@@ -1,13 +1,16 @@
 //! Reads of regions into boxes that callers lend.
 use super::Engine;
-use std::alloc::Global;
+use std::alloc::{AllocError, Global};
 use zarrs_chain::{ChainTraits, CodecError};
 use zarrs_chunk_grid::ChunkGridTraits;
+use zarrs_data_type::lies_in_box;
 use zarrs_keys::ChunkKeyEncodingTraits;
+use zarrs_layout::{Shared, shared_positions};
+use zarrs_parts::seen_from_corner;
 use zarrs_steps::ArrayError;
 use zarrs_storage::ReadableStorageTraits;
-use zarrs_subset::ArraySubset;
-use zarrs_target::ArrayBytesDecodeIntoTarget;
+use zarrs_subset::{ArraySubset, ArraySubsetError};
+use zarrs_target::{ArrayBytesDecodeIntoTarget, copy_fill_value_into};
 
 impl<
     S: ReadableStorageTraits,
@@ -15,15 +18,25 @@ impl<
     K: ChunkKeyEncodingTraits,
     C: ChainTraits,
 > Engine<S, G, K, C> {
-    ghost use Rattle.std.specs.Prelude.{◌≡◌, true, IfErr, IsSome, OnErr, OnOk, length};
-    ghost use Rattle.zarrs_subset.specs.Regions.{box_of};
-    ghost use Rattle.zarrs_steps.specs.ChunkBoxes.{chunks_met};
-    ghost use Rattle.zarrs_steps.specs.Reach.{MayAskChunks};
+    ghost use Rattle.std.specs.Prelude.{◌≡◌, ◌∷◌, [], true, IfErr, IsSome, OnErr, OnOk, length};
+    ghost use Rattle.zarrs_chunk_grid.specs.Grids.{box_at, has_box};
+    ghost use Rattle.zarrs_layout.specs.Covers.{CoverRegion};
+    ghost use Rattle.zarrs_layout.specs.Shared.{AreShared};
+    ghost use Rattle.zarrs_subset.specs.Regions.{box_of, positions};
+    ghost use Rattle.zarrs_steps.specs.ChunkBoxes.{CoversBox};
+    ghost use Rattle.zarrs_steps.specs.Reach.{MayAskChunk, MayDecodePart, MayReadPart};
+    ghost use Rattle.zarrs_steps.specs.Reach.{MayReadParts};
+    ghost use Rattle.zarrs_steps.specs.Reads.{IsBroken};
     ghost use Rattle.zarrs_steps.specs.Refusals.{RefusesBy, refusal_of};
-    ghost use Rattle.zarrs_target.specs.States.{IsTarget, SameBox, StaysOutside, target_box};
+    ghost use Rattle.zarrs_steps.specs.StateRefusals.{RefusesSomeChunk};
+    ghost use Rattle.zarrs_target.specs.States.{IsTarget, SameBox, StaysOutside, data_of_target};
+    ghost use Rattle.zarrs_target.specs.States.{parent_box, target_box};
     ghost use Rattle.zarrs_target.specs.Targets.{takes_type};
     ghost use Rattle.zarrs_engine.specs.Engine.{layout_of, state_of, store_of};
-    ghost use Rattle.zarrs_engine.specs.Into.{HasContent, RefusesRetrieveInto, RetrievesInto, target_refusal};
+    ghost use Rattle.zarrs_engine.specs.Outcomes.{MayRetrieveRegion};
+    ghost use Rattle.zarrs_engine.specs.Into.{HasContent, RefusesRetrieveInto, RetrievesInto};
+    ghost use Rattle.zarrs_engine.specs.Into.{target_refusal};
+    ghost use Rattle.zarrs_engine.specs.TargetReads.{HasPositions, HasReadInto, ReadsOneMoreInto};
 
     /// Reads the region into the target's box, where its cells stand in row-major order. Every byte outside the box
     /// stays.
@@ -39,9 +52,7 @@ impl<
         array_subset: &ArraySubset,
         target: &mut ArrayBytesDecodeIntoTarget<'_, '_, '_>,
     ) -> Result<(), ArrayError>
-        requires ask { MayAskChunks (layout_of self.now)
-            (chunks_met (layout_of self.now).grid (box_of array_subset.now))
-            (store_of S.state self.now) }
+        requires ask { MayRetrieveRegion S.state (box_of array_subset.now) self.now }
         requires target { IsTarget target.old }
         ensures target { IsTarget target.new }
         ensures same_bytes { target.new.bytes.ghost_name ≡ target.old.bytes.ghost_name }
@@ -64,9 +75,8 @@ impl<
             → target.new.masks.now ≡ target.old.masks.now) }
     {
         self.check_target(alloc, array_subset, target)?;
-        let data = self.retrieve_array_subset(alloc, array_subset)?;
-        target.write_cells(alloc, &data)?;
-        Ok(())
+        let chunks = self.parts.chunks_met(alloc, array_subset)?;
+        self.read_into(alloc, array_subset, &chunks, target)
     }
 
     /// Refuses a region of another number of dimensions, and a target that takes no cells of it.
@@ -100,5 +110,249 @@ impl<
             return Err(ArrayError::InvalidDataShape(got, expected));
         }
         Ok(())
+    }
+
+    /// Reads what these chunks have of the region into the target's box. Every byte outside the box stays.
+    fn read_into(
+        &self,
+        alloc: Global,
+        region: &ArraySubset,
+        chunks: &ArraySubset,
+        target: &mut ArrayBytesDecodeIntoTarget<'_, '_, '_>,
+    ) -> Result<(), ArrayError>
+        requires cover { CoverRegion (layout_of self.now).grid (box_of region.now)
+            (positions (box_of chunks.now)) }
+        requires ask { MayReadParts (layout_of self.now) (box_of region.now)
+            (positions (box_of chunks.now)) (store_of S.state self.now) }
+        requires target { IsTarget target.old }
+        requires takes { takes_type target.old.cell_size target.old.depth (layout_of self.now).kind
+            ≡ true }
+        requires same_shape { (target_box target.old).shape ≡ (box_of region.now).shape }
+        ensures target { IsTarget target.new }
+        ensures same_bytes { target.new.bytes.ghost_name ≡ target.old.bytes.ghost_name }
+        ensures same_masks { target.new.masks.ghost_name ≡ target.old.masks.ghost_name }
+        ensures same_box { SameBox target.old target.new }
+        ensures read { OnOk result (HasReadInto (layout_of self.now) (box_of region.now)
+            (positions (box_of chunks.now)) (store_of S.state self.now) (parent_box target.old)
+            (target_box target.old) (data_of_target target.new)) }
+        ensures refused { IfErr result (λ e. RefusesSomeChunk (layout_of self.now)
+            (box_of region.now) (positions (box_of chunks.now)) (store_of S.state self.now)
+            (refusal_of e)) }
+        ensures outside { StaysOutside target.old target.new }
+    {
+        let Some(mut walk) = chunks.walk(alloc)? else {
+            return Ok(());
+        };
+        loop {
+            self.read_chunk_into(alloc, region, walk.current(), target)?;
+            if !walk.advance() {
+                return Ok(());
+            }
+        }
+    }
+
+    /// Reads what one chunk has of the region into its part of the target's box. Every other byte of the box stays too.
+    fn read_chunk_into(
+        &self,
+        alloc: Global,
+        region: &ArraySubset,
+        chunk_indices: &[u64],
+        target: &mut ArrayBytesDecodeIntoTarget<'_, '_, '_>,
+    ) -> Result<(), ArrayError>
+        requires boxed { has_box (layout_of self.now).grid chunk_indices.now ≡ true }
+        requires dimensions { length (box_of region.now).start
+            ≡ (layout_of self.now).grid.dimensions }
+        requires ask { MayReadPart (layout_of self.now) (box_of region.now) chunk_indices.now
+            (store_of S.state self.now) }
+        requires target { IsTarget target.old }
+        requires takes { takes_type target.old.cell_size target.old.depth (layout_of self.now).kind
+            ≡ true }
+        requires same_shape { (target_box target.old).shape ≡ (box_of region.now).shape }
+        ensures target { IsTarget target.new }
+        ensures same_bytes { target.new.bytes.ghost_name ≡ target.old.bytes.ghost_name }
+        ensures same_masks { target.new.masks.ghost_name ≡ target.old.masks.ghost_name }
+        ensures same_box { SameBox target.old target.new }
+        ensures read { OnOk result (ReadsOneMoreInto (layout_of self.now) (box_of region.now)
+            chunk_indices.now (store_of S.state self.now) (parent_box target.old)
+            (target_box target.old) (data_of_target target.old) (data_of_target target.new)) }
+        ensures refused { IfErr result (λ e. RefusesSomeChunk (layout_of self.now)
+            (box_of region.now) (chunk_indices.now ∷ []) (store_of S.state self.now)
+            (refusal_of e)) }
+        ensures outside { StaysOutside target.old target.new }
+    {
+        let chunk = self.parts.chunk_box(alloc, chunk_indices)?;
+        let Some(shared) = shared_positions(alloc, region, &chunk)? else {
+            return Ok(());
+        };
+        let own = moved_box(alloc, &shared.region, region, target.region)?;
+        let mut part = target.subdivide(&own);
+        let done = self.read_shared_into(
+            alloc,
+            region,
+            chunk_indices,
+            &chunk,
+            &shared,
+            &mut part.target,
+        );
+        target.rejoin(part);
+        done
+    }
+
+    /// Reads the positions that the region and the chunk share into the target's box, which has their shape.
+    fn read_shared_into(
+        &self,
+        alloc: Global,
+        region: &ArraySubset,
+        chunk_indices: &[u64],
+        chunk: &ArraySubset,
+        shared: &Shared,
+        target: &mut ArrayBytesDecodeIntoTarget<'_, '_, '_>,
+    ) -> Result<(), ArrayError>
+        requires boxed { has_box (layout_of self.now).grid chunk_indices.now ≡ true }
+        requires chunk { box_of chunk.now ≡ box_at (layout_of self.now).grid chunk_indices.now }
+        requires shared { AreShared (box_of region.now) (box_of chunk.now)
+            (box_of shared.now.region) (box_of shared.now.part) }
+        requires ask { MayReadPart (layout_of self.now) (box_of region.now) chunk_indices.now
+            (store_of S.state self.now) }
+        requires target { IsTarget target.old }
+        requires takes { takes_type target.old.cell_size target.old.depth (layout_of self.now).kind
+            ≡ true }
+        requires same_shape { (target_box target.old).shape ≡ (box_of shared.now.region).shape }
+        ensures target { IsTarget target.new }
+        ensures same_bytes { target.new.bytes.ghost_name ≡ target.old.bytes.ghost_name }
+        ensures same_masks { target.new.masks.ghost_name ≡ target.old.masks.ghost_name }
+        ensures same_box { SameBox target.old target.new }
+        ensures read { OnOk result (HasPositions (layout_of self.now) (box_of shared.now.region)
+            (store_of S.state self.now) (parent_box target.old) (target_box target.old)
+            (data_of_target target.new)) }
+        ensures whole { OnOk result (CoversBox (box_of region.now)
+            (box_at (layout_of self.now).grid chunk_indices.now)
+            → IsBroken (layout_of self.now) chunk_indices.now (store_of S.state self.now) → ⊥) }
+        ensures refused { IfErr result (λ e. RefusesSomeChunk (layout_of self.now)
+            (box_of region.now) (chunk_indices.now ∷ []) (store_of S.state self.now)
+            (refusal_of e)) }
+        ensures outside { StaysOutside target.old target.new }
+    {
+        if lies_in_box(chunk, region) {
+            return self.read_whole_into(alloc, region, chunk_indices, target);
+        }
+        self.read_part_into(alloc, region, chunk_indices, chunk, shared, target)
+    }
+
+    /// Reads a chunk into the target's box, which has its shape.
+    fn read_whole_into(
+        &self,
+        alloc: Global,
+        region: &ArraySubset,
+        chunk_indices: &[u64],
+        target: &mut ArrayBytesDecodeIntoTarget<'_, '_, '_>,
+    ) -> Result<(), ArrayError>
+        requires boxed { has_box (layout_of self.now).grid chunk_indices.now ≡ true }
+        requires ask { MayAskChunk (layout_of self.now) chunk_indices.now
+            (store_of S.state self.now) }
+        requires target { IsTarget target.old }
+        requires takes { takes_type target.old.cell_size target.old.depth (layout_of self.now).kind
+            ≡ true }
+        requires same_shape { (target_box target.old).shape
+            ≡ (box_at (layout_of self.now).grid chunk_indices.now).shape }
+        ensures target { IsTarget target.new }
+        ensures same_bytes { target.new.bytes.ghost_name ≡ target.old.bytes.ghost_name }
+        ensures same_masks { target.new.masks.ghost_name ≡ target.old.masks.ghost_name }
+        ensures same_box { SameBox target.old target.new }
+        ensures read { OnOk result (HasPositions (layout_of self.now)
+            (box_at (layout_of self.now).grid chunk_indices.now) (store_of S.state self.now)
+            (parent_box target.old) (target_box target.old) (data_of_target target.new)) }
+        ensures whole { OnOk result (IsBroken (layout_of self.now) chunk_indices.now
+            (store_of S.state self.now) → ⊥) }
+        ensures refused { IfErr result (λ e. RefusesSomeChunk (layout_of self.now)
+            (box_of region.now) (chunk_indices.now ∷ []) (store_of S.state self.now)
+            (refusal_of e)) }
+        ensures outside { StaysOutside target.old target.new }
+    {
+        let data_type = &self.parts.data_type;
+        let fill_value = &self.parts.fill_value;
+        let Some(encoded) = self.stored_bytes(alloc, chunk_indices)? else {
+            copy_fill_value_into(alloc, data_type, fill_value, target)?;
+            return Ok(());
+        };
+        let chain = &self.parts.chain;
+        chain.decode_into(alloc, &encoded, data_type, fill_value, target)?;
+        Ok(())
+    }
+
+    /// Reads a part of a chunk into the target's box, which has its shape. No other bytes of the chunk are read than
+    /// those that the part needs.
+    fn read_part_into(
+        &self,
+        alloc: Global,
+        region: &ArraySubset,
+        chunk_indices: &[u64],
+        chunk: &ArraySubset,
+        shared: &Shared,
+        target: &mut ArrayBytesDecodeIntoTarget<'_, '_, '_>,
+    ) -> Result<(), ArrayError>
+        requires boxed { has_box (layout_of self.now).grid chunk_indices.now ≡ true }
+        requires chunk { box_of chunk.now ≡ box_at (layout_of self.now).grid chunk_indices.now }
+        requires shared { AreShared (box_of region.now) (box_of chunk.now)
+            (box_of shared.now.region) (box_of shared.now.part) }
+        requires ask { MayDecodePart (layout_of self.now) (box_of shared.now.part)
+            chunk_indices.now (store_of S.state self.now) }
+        requires target { IsTarget target.old }
+        requires takes { takes_type target.old.cell_size target.old.depth (layout_of self.now).kind
+            ≡ true }
+        requires same_shape { (target_box target.old).shape ≡ (box_of shared.now.region).shape }
+        ensures target { IsTarget target.new }
+        ensures same_bytes { target.new.bytes.ghost_name ≡ target.old.bytes.ghost_name }
+        ensures same_masks { target.new.masks.ghost_name ≡ target.old.masks.ghost_name }
+        ensures same_box { SameBox target.old target.new }
+        ensures read { OnOk result (HasPositions (layout_of self.now) (box_of shared.now.region)
+            (store_of S.state self.now) (parent_box target.old) (target_box target.old)
+            (data_of_target target.new)) }
+        ensures refused { IfErr result (λ e. RefusesSomeChunk (layout_of self.now)
+            (box_of region.now) (chunk_indices.now ∷ []) (store_of S.state self.now)
+            (refusal_of e)) }
+        ensures outside { StaysOutside target.old target.new }
+    {
+        let Some(part) = self.part_of_chunk(alloc, chunk_indices, chunk, &shared.part)? else {
+            let data_type = &self.parts.data_type;
+            copy_fill_value_into(alloc, data_type, &self.parts.fill_value, target)?;
+            return Ok(());
+        };
+        target.write_cells(alloc, &part)?;
+        Ok(())
+    }
+}
+
+ghost use Rattle.std.specs.Prelude.{◌≡◌, ◌+◌, ◌<◌, ◌^◌, ℕ, IfOk, length, slice_index};
+ghost use Rattle.zarrs_subset.specs.Regions.{box_of, seen_from, shifted_box};
+ghost use Rattle.zarrs_variable.specs.StringParts.{LiesInBox};
+
+/// A box that lies in a region, as it lies in a box of the same shape.
+fn moved_box(
+    alloc: Global,
+    subset: &ArraySubset,
+    region: &ArraySubset,
+    own: &ArraySubset,
+) -> Result<ArraySubset, AllocError>
+    requires inside { LiesInBox (box_of subset.now) (box_of region.now) }
+    requires same_shape { (box_of own.now).shape ≡ (box_of region.now).shape }
+    ensures { IfOk result (λ moved. box_of moved ≡ shifted_box
+        (seen_from (box_of subset.now) (box_of region.now).start) (box_of own.now).start) }
+{
+    let seen = seen_from_corner(alloc, subset, region.start())?;
+    shifted(alloc, &seen, own.start())
+}
+
+/// The box, shifted by the start of another.
+fn shifted(alloc: Global, subset: &ArraySubset, offset: &[u64]) -> Result<ArraySubset, AllocError>
+    requires dimensions { length offset.now ≡ length (box_of subset.now).start }
+    requires ends { (k : ℕ) → k < length offset.now → slice_index (box_of subset.now).start k
+        + slice_index (box_of subset.now).shape k + slice_index offset.now k < 2 ^ 64 }
+    ensures { IfOk result (λ own. box_of own ≡ shifted_box (box_of subset.now) offset.now) }
+{
+    match subset.shifted_by(alloc, offset) {
+        Ok(own) => Ok(own),
+        Err(ArraySubsetError::OutOfMemory) => Err(AllocError),
+        Err(_) => unreachable!(),
     }
 }

@@ -16,10 +16,8 @@ impl<
     C: ChainTraits,
 > Engine<S, G, K, C> {
     ghost use Rattle.zarrs_subset.specs.Regions.{box_of};
-    ghost use Rattle.zarrs_steps.specs.Reach.{MayAskChunk};
-    ghost use Rattle.zarrs_engine.specs.Engine.{layout_of, store_of};
     ghost use Rattle.zarrs_engine.specs.Outcomes.{RetrievesChunksOrRefuses, MayRetrieveChunks};
-    ghost use Rattle.zarrs_engine.specs.Outcomes.{RetrievesPartOrRefuses};
+    ghost use Rattle.zarrs_engine.specs.Outcomes.{MayRetrievePart, RetrievesPartOrRefuses};
 
     /// The cells of the chunks with the indices in the range, in row-major order over all of them. Where a chunk is
     /// absent they are fill. A range without a chunk has no cell, and asks nothing of the store.
@@ -55,7 +53,7 @@ impl<
         chunk_indices: &[u64],
         chunk_subset: &ArraySubset,
     ) -> Result<ArrayBytes<'static>, ArrayError>
-        requires { MayAskChunk (layout_of self.now) chunk_indices.now (store_of S.state self.now) }
+        requires { MayRetrievePart S.state chunk_indices.now (box_of chunk_subset.now) self.now }
         ensures { RetrievesPartOrRefuses S.state chunk_indices.now (box_of chunk_subset.now) self.now
             result }
     {
@@ -66,9 +64,12 @@ impl<
         if region == chunk {
             return self.retrieve_chunk(alloc, chunk_indices);
         }
+        self.count_to_read(&region)?;
+        if let Some(made) = self.region_in_chunk(alloc, &region, chunk_indices, &chunk)? {
+            return Ok(made);
+        }
         let filled = self.region_of_fill(alloc, &region)?;
-        let held = self.with_chunk(alloc, &region, filled, chunk_indices)?;
-        let made = held.into_array_bytes(alloc)?;
+        let made = filled.into_array_bytes(alloc)?;
         Ok(made)
     }
 }

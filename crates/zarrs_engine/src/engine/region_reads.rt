@@ -3,9 +3,11 @@ use super::Engine;
 use std::alloc::Global;
 use zarrs_chain::ChainTraits;
 use zarrs_chunk_grid::ChunkGridTraits;
-use zarrs_data_type::ArrayBytes;
+use zarrs_data_type::{ArrayBytes, lies_in_box};
 use zarrs_keys::ChunkKeyEncodingTraits;
+use zarrs_layout::{Parts, shared_positions};
 use zarrs_region_cells::RegionCells;
+use zarrs_source::StoredValue;
 use zarrs_steps::ArrayError;
 use zarrs_storage::ReadableStorageTraits;
 use zarrs_subset::ArraySubset;
@@ -16,23 +18,53 @@ impl<
     K: ChunkKeyEncodingTraits,
     C: ChainTraits,
 > Engine<S, G, K, C> {
-    ghost use Rattle.std.specs.Prelude.{◌≡◌, true, [], ◌∷◌, Some, None, IfOk, IfErr, OnOk, length};
-    ghost use Rattle.std.specs.Prelude.{replicate};
+    ghost use Rattle.std.specs.Prelude.{◌≡◌, ◌<◌, ◌*◌, ◌^◌, true, [], ◌∷◌, Some, None, IfOk, IfErr, IfSome};
+    ghost use Rattle.std.specs.Prelude.{IfNone, OnOk, length, replicate};
     ghost use Rattle.zarrs_subset.specs.Boxes.{position_count};
-    ghost use Rattle.zarrs_subset.specs.Regions.{box_of, positions};
-    ghost use Rattle.zarrs_chunk_grid.specs.Grids.{has_box};
-    ghost use Rattle.zarrs_data_type.specs.ArrayData.{data_of};
+    ghost use Rattle.zarrs_subset.specs.Regions.{Box, LiesInShape, box_of, positions};
+    ghost use Rattle.zarrs_chunk_grid.specs.Grids.{box_at, has_box};
+    ghost use Rattle.zarrs_data_type.specs.Cell.{held_size};
+    ghost use Rattle.zarrs_data_type.specs.ArrayData.{ArrayData, data_of};
     ghost use Rattle.zarrs_data_type.specs.Cells.{cells, HasCells};
     ghost use Rattle.zarrs_region_cells.specs.RegionData.{region_data};
+    ghost use Rattle.zarrs_variable.specs.StringParts.{LiesInBox};
     ghost use Rattle.zarrs_steps.specs.ArgumentRefusals.{read_size_refusal};
-    ghost use Rattle.zarrs_steps.specs.Reach.{MayAskChunk, MayAskChunks};
+    ghost use Rattle.zarrs_steps.specs.Content.{value_at};
+    ghost use Rattle.zarrs_steps.specs.Reach.{MayAskChunk, MayDecodePart, MayReadPart};
+    ghost use Rattle.zarrs_steps.specs.Reach.{MayReadParts, chunk_part};
     ghost use Rattle.zarrs_steps.specs.Reads.{ReadsRegion};
     ghost use Rattle.zarrs_steps.specs.Refusals.{RefusesBy, refusal_of};
-    ghost use Rattle.zarrs_steps.specs.StateRefusals.{RefusesRegionRead, RefusesSomeChunk};
+    ghost use Rattle.zarrs_steps.specs.StateRefusals.{IsPart, RefusesRegionRead, RefusesSomeChunk};
     ghost use Rattle.zarrs_engine.specs.Engine.{layout_of, store_of};
     ghost use Rattle.zarrs_engine.specs.Outcomes.{RetrievesRegionOrRefuses, MayRetrieveRegion};
     ghost use Rattle.zarrs_layout.specs.Covers.{CoverRegion};
-    ghost use Rattle.zarrs_engine.specs.RegionReads.{HasRead, ReadsOneMore};
+    ghost use Rattle.zarrs_engine.specs.RegionReads.{DecodesStored, HasRead, ReadsOneMore};
+
+    /// How many cells a region has.
+    ///
+    /// # Errors
+    /// E8 for more of them, or as many fill values, than a `usize` counts bytes.
+    pub(super) fn count_to_read(&self, region: &ArraySubset) -> Result<u64, ArrayError>
+        ensures count { IfOk result (λ count. count ≡ position_count (box_of region.now).shape) }
+        ensures fits { IfOk result (λ count. count * held_size (layout_of self.now).kind
+            (layout_of self.now).fill < 2 ^ 64) }
+        ensures accepted { OnOk result
+            (read_size_refusal (layout_of self.now) (box_of region.now).shape ≡ None) }
+        ensures refused { IfErr result (λ e. RefusesBy (read_size_refusal (layout_of self.now)
+            (box_of region.now).shape) (refusal_of e)) }
+    {
+        let Some(count) = self.parts.cell_count(region) else {
+            return Err(ArrayError::SizeOverflow);
+        };
+        let cell_size = self
+            .parts
+            .data_type
+            .held_size(self.parts.fill_value.as_bytes());
+        if count.checked_mul(cell_size as u64).is_none() {
+            return Err(ArrayError::SizeOverflow);
+        }
+        Ok(count)
+    }
 
     /// The cells of a region if each is the fill value's.
     pub(super) fn region_of_fill(
@@ -48,19 +80,86 @@ impl<
         ensures refused { IfErr result (λ e. RefusesBy (read_size_refusal (layout_of self.now)
             (box_of region.now).shape) (refusal_of e)) }
     {
-        let Some(count) = self.parts.cell_count(region) else {
-            return Err(ArrayError::SizeOverflow);
-        };
-        let fill_value = &self.parts.fill_value;
-        let cell_size = self.parts.data_type.held_size(fill_value.as_bytes());
-        if count.checked_mul(cell_size as u64).is_none() {
-            return Err(ArrayError::SizeOverflow);
-        }
-        let made = RegionCells::new_fill_value(alloc, &self.parts.data_type, count, fill_value)?;
+        let count = self.count_to_read(region)?;
+        let Parts {
+            data_type,
+            fill_value,
+            ..
+        } = &self.parts;
+        let made = RegionCells::new_fill_value(alloc, data_type, count, fill_value)?;
         Ok(made)
     }
 
-    /// The cells of a region with those that one chunk has of it. An absent chunk changes nothing.
+    /// The cells that a chunk of this box has of a part, seen from the corner of the chunk, or `None` if the chunk is
+    /// absent. No other bytes of it are read than those that the part needs.
+    pub(super) fn part_of_chunk(
+        &self,
+        alloc: Global,
+        chunk_indices: &[u64],
+        chunk: &ArraySubset,
+        part: &ArraySubset,
+    ) -> Result<Option<ArrayBytes<'static>>, ArrayError>
+        requires boxed { has_box (layout_of self.now).grid chunk_indices.now ≡ true }
+        requires chunk { box_of chunk.now ≡ box_at (layout_of self.now).grid chunk_indices.now }
+        requires part { LiesInShape (box_of part.now) (box_of chunk.now).shape }
+        requires size { position_count (box_of part.now).shape * held_size (layout_of self.now).kind
+            (layout_of self.now).fill < 2 ^ 64 }
+        requires ask { MayDecodePart (layout_of self.now) (box_of part.now) chunk_indices.now
+            (store_of S.state self.now) }
+        ensures absent { IfOk result (λ found. IfNone found (value_at (store_of S.state self.now)
+            ((layout_of self.now).key chunk_indices.now) ≡ None)) }
+        ensures part { IfOk result (λ found. IfSome found (λ made. DecodesStored
+            (layout_of self.now) chunk_indices.now (box_of part.now) (store_of S.state self.now)
+            (data_of made))) }
+        ensures refused { IfErr result (λ e. (region : Box) → RefusesSomeChunk (layout_of self.now)
+            region (chunk_indices.now ∷ []) (store_of S.state self.now) (refusal_of e)) }
+    {
+        let key = self.parts.chunk_key(alloc, chunk_indices)?;
+        let Some(source) = StoredValue::open(alloc, &self.storage, &key)? else {
+            return Ok(None);
+        };
+        if self.parts.cell_count(chunk).is_none() {
+            return Err(ArrayError::SizeOverflow);
+        }
+        let made = self.parts.decode_part(alloc, chunk, &source, part)?;
+        Ok(Some(made))
+    }
+
+    /// The cells of a region that lies in the chunk of this box, just as they are decoded. They are fill if there are none:
+    /// the region has no position, or the chunk is absent.
+    pub(super) fn region_in_chunk(
+        &self,
+        alloc: Global,
+        region: &ArraySubset,
+        chunk_indices: &[u64],
+        chunk: &ArraySubset,
+    ) -> Result<Option<ArrayBytes<'static>>, ArrayError>
+        requires boxed { has_box (layout_of self.now).grid chunk_indices.now ≡ true }
+        requires chunk { box_of chunk.now ≡ box_at (layout_of self.now).grid chunk_indices.now }
+        requires part { IsPart (layout_of self.now) (box_of region.now) chunk_indices.now }
+        requires lies { LiesInBox (box_of region.now) (box_of chunk.now) }
+        requires size { read_size_refusal (layout_of self.now) (box_of region.now).shape ≡ None }
+        requires ask { MayDecodePart (layout_of self.now) (chunk_part (box_of region.now)
+            (box_of chunk.now)) chunk_indices.now (store_of S.state self.now) }
+        ensures none { IfOk result (λ found. IfNone found ((held : ArrayData) → ReadsOneMore
+            (layout_of self.now) (box_of region.now) chunk_indices.now (store_of S.state self.now)
+            held held)) }
+        ensures some { IfOk result (λ found. IfSome found (λ made. HasRead (layout_of self.now)
+            (box_of region.now) (chunk_indices.now ∷ []) (store_of S.state self.now)
+            (data_of made))) }
+        ensures refused { IfErr result
+            (λ e. RefusesSomeChunk (layout_of self.now) (box_of region.now)
+            (chunk_indices.now ∷ []) (store_of S.state self.now) (refusal_of e)) }
+    {
+        let Some(shared) = shared_positions(alloc, region, chunk)? else {
+            return Ok(None);
+        };
+        let found = self.part_of_chunk(alloc, chunk_indices, chunk, &shared.part)?;
+        Ok(found)
+    }
+
+    /// The cells of a region with those that one chunk has of it. An absent chunk changes nothing. Of a chunk that the
+    /// region does not cover, no other bytes are read than those that its part needs.
     pub(super) fn with_chunk(
         &self,
         alloc: Global,
@@ -69,6 +168,37 @@ impl<
         chunk_indices: &[u64],
     ) -> Result<RegionCells, ArrayError>
         requires boxed { has_box (layout_of self.now).grid chunk_indices.now ≡ true }
+        requires dimensions { length (box_of region.now).start
+            ≡ (layout_of self.now).grid.dimensions }
+        requires size { read_size_refusal (layout_of self.now) (box_of region.now).shape ≡ None }
+        requires held { HasCells (layout_of self.now).kind (region_data held)
+            (position_count (box_of region.now).shape) }
+        requires ask { MayReadPart (layout_of self.now) (box_of region.now) chunk_indices.now
+            (store_of S.state self.now) }
+        ensures read { IfOk result (λ made. ReadsOneMore (layout_of self.now) (box_of region.now)
+            chunk_indices.now (store_of S.state self.now) (region_data held) (region_data made)) }
+        ensures refused { IfErr result
+            (λ e. RefusesSomeChunk (layout_of self.now) (box_of region.now)
+            (chunk_indices.now ∷ []) (store_of S.state self.now) (refusal_of e)) }
+    {
+        let chunk = self.parts.chunk_box(alloc, chunk_indices)?;
+        if lies_in_box(&chunk, region) {
+            return self.with_whole_chunk(alloc, region, held, chunk_indices, &chunk);
+        }
+        self.with_chunk_part(alloc, region, held, chunk_indices, &chunk)
+    }
+
+    /// The same, of a chunk that the region covers.
+    fn with_whole_chunk(
+        &self,
+        alloc: Global,
+        region: &ArraySubset,
+        held: RegionCells,
+        chunk_indices: &[u64],
+        chunk: &ArraySubset,
+    ) -> Result<RegionCells, ArrayError>
+        requires boxed { has_box (layout_of self.now).grid chunk_indices.now ≡ true }
+        requires chunk { box_of chunk.now ≡ box_at (layout_of self.now).grid chunk_indices.now }
         requires dimensions { length (box_of region.now).start
             ≡ (layout_of self.now).grid.dimensions }
         requires held { HasCells (layout_of self.now).kind (region_data held)
@@ -84,9 +214,44 @@ impl<
         let Some(encoded) = self.stored_bytes(alloc, chunk_indices)? else {
             return Ok(held);
         };
-        let chunk = self.parts.chunk(alloc, chunk_indices)?;
         let part = self.parts.decode(alloc, chunk_indices, &encoded)?;
-        let made = held.with_part(alloc, &self.parts.data_type, region, &part, &chunk.region)?;
+        let made = held.with_part(alloc, &self.parts.data_type, region, &part, chunk)?;
+        Ok(made)
+    }
+
+    /// The same, of a chunk of which the region covers a part alone.
+    fn with_chunk_part(
+        &self,
+        alloc: Global,
+        region: &ArraySubset,
+        held: RegionCells,
+        chunk_indices: &[u64],
+        chunk: &ArraySubset,
+    ) -> Result<RegionCells, ArrayError>
+        requires boxed { has_box (layout_of self.now).grid chunk_indices.now ≡ true }
+        requires chunk { box_of chunk.now ≡ box_at (layout_of self.now).grid chunk_indices.now }
+        requires part { IsPart (layout_of self.now) (box_of region.now) chunk_indices.now }
+        requires dimensions { length (box_of region.now).start
+            ≡ (layout_of self.now).grid.dimensions }
+        requires size { read_size_refusal (layout_of self.now) (box_of region.now).shape ≡ None }
+        requires held { HasCells (layout_of self.now).kind (region_data held)
+            (position_count (box_of region.now).shape) }
+        requires ask { MayDecodePart (layout_of self.now) (chunk_part (box_of region.now)
+            (box_of chunk.now)) chunk_indices.now (store_of S.state self.now) }
+        ensures read { IfOk result (λ made. ReadsOneMore (layout_of self.now) (box_of region.now)
+            chunk_indices.now (store_of S.state self.now) (region_data held) (region_data made)) }
+        ensures refused { IfErr result
+            (λ e. RefusesSomeChunk (layout_of self.now) (box_of region.now)
+            (chunk_indices.now ∷ []) (store_of S.state self.now) (refusal_of e)) }
+    {
+        let Some(shared) = shared_positions(alloc, region, chunk)? else {
+            return Ok(held);
+        };
+        let found = self.part_of_chunk(alloc, chunk_indices, chunk, &shared.part)?;
+        let Some(part) = found else {
+            return Ok(held);
+        };
+        let made = held.with_part(alloc, &self.parts.data_type, region, &part, &shared.region)?;
         Ok(made)
     }
 
@@ -100,8 +265,9 @@ impl<
     ) -> Result<RegionCells, ArrayError>
         requires cover { CoverRegion (layout_of self.now).grid (box_of region.now)
             (positions (box_of chunks.now)) }
-        requires ask { MayAskChunks (layout_of self.now) (positions (box_of chunks.now))
-            (store_of S.state self.now) }
+        requires size { read_size_refusal (layout_of self.now) (box_of region.now).shape ≡ None }
+        requires ask { MayReadParts (layout_of self.now) (box_of region.now)
+            (positions (box_of chunks.now)) (store_of S.state self.now) }
         requires none { HasRead (layout_of self.now) (box_of region.now) []
             (store_of S.state self.now) (region_data held) }
         ensures all { IfOk result (λ made. HasRead (layout_of self.now) (box_of region.now)
@@ -131,8 +297,8 @@ impl<
     ) -> Result<ArrayBytes<'static>, ArrayError>
         requires cover { CoverRegion (layout_of self.now).grid (box_of region.now)
             (positions (box_of chunks.now)) }
-        requires ask { MayAskChunks (layout_of self.now) (positions (box_of chunks.now))
-            (store_of S.state self.now) }
+        requires ask { MayReadParts (layout_of self.now) (box_of region.now)
+            (positions (box_of chunks.now)) (store_of S.state self.now) }
         ensures read { IfOk result (λ made. ReadsRegion (layout_of self.now) (box_of region.now)
             (positions (box_of chunks.now)) (data_of made) (store_of S.state self.now)) }
         ensures accepted { OnOk result

@@ -157,6 +157,7 @@ impl<
 > Engine<S, G, K, C> {
     ghost use Rattle.std.specs.Prelude.{◌≡◌, IfErr, OnErr, OnOk};
     ghost use Rattle.zarrs_chain.specs.Options.{stores_empty_chunks};
+    ghost use Rattle.zarrs_steps.specs.Canon.{KeepsCanon};
     ghost use Rattle.zarrs_steps.specs.Cuts.{cut_chunks};
     ghost use Rattle.zarrs_steps.specs.Reach.{MayAskKept};
     ghost use Rattle.zarrs_steps.specs.Refusals.{refusal_of};
@@ -192,6 +193,8 @@ impl<
             (λ e. RefusesResize (layout_of self.old) (stores_empty_chunks options.now)
             (state_of S.state self.old).shape shape.items (refusal_of e)
             (store_of S.state self.old) (store_of S.state self.new)) }
+        ensures canonical { KeepsCanon (layout_of self.old) (stores_empty_chunks options.now)
+            (store_of S.state self.old) (store_of S.state self.new) }
         ensures layout { layout_of self.new ≡ layout_of self.old }
         ensures others { KeepsOthers self.old self.new }
         ensures parts { OnErr result (KeepsParts self.old self.new) }

@@ -1,4 +1,4 @@
-use Rattle.std.proofs.Common.{◌≡◌, ◌∙◌, ◌+◌, Some, slice_get, length, rules, refl, subst, sym, inl, arith}
+use Rattle.std.proofs.Common.{◌≡◌, ◌∙◌, ◌+◌, true, false, Some, slice_get, length, rules, refl, subst, sym, inl, arith}
 use Rattle.std.proofs.lemmas.Bool.{false≢true}
 use Rattle.std.proofs.lemmas.Option.{slice_get_within}
 use Rattle.zarrs_subset.specs.Regions.{Box, box_of, positions}
@@ -6,7 +6,7 @@ use Rattle.zarrs_subset.specs.Walks.{walk_number}
 use Rattle.zarrs_subset.proofs.Positions.{length-positions}
 use Rattle.zarrs_steps.specs.Refusals.{refusal_of}
 use Rattle.zarrs_engine.specs.Engine.{layout_of}
-use Rattle.zarrs_engine.proofs.Comparisons.{comparison_refused, same_all, same_more}
+use Rattle.zarrs_engine.proofs.Comparisons.{compares_content, comparison_refused, range_indices, same_all, same_more}
 use Rattle.zarrs_engine.proofs.Encoded.{on_error}
 use Rattle.zarrs_engine.proofs.Ranges.{range_length}
 use Rattle.zarrs_engine.proofs.RegionSteps.{at_among}
@@ -82,6 +82,30 @@ returns-then-not-advance-clause-equal g c =
     let last = subst (λ (b : Box). n + 1 ≡ length (positions b)) i.same_box c.if-not-advance.ensures.last in
     same_all (layout_of c.args.a.now) (layout_of c.args.b.now) one two chunks (n + 1) last
     (same_more (layout_of c.args.a.now) (layout_of c.args.b.now) one two chunks n (n + 1) index refl at i.same (c.in_ok-chunk_equal.ensures.equal.0 c.if-not-branch.false))
+
+pub returns-in_default-clause-content : goal.returns-in_default-clause-content
+returns-in_default-clause-content g c =
+    let range = box_of c.args.chunks.now in
+    let a = c.args.a.now in
+    let b = c.args.b.now in
+    let long = range_indices range c.args.chunks.now.same_length c.args.chunks.now.ends_fit (layout_of a).grid.dimensions c.requires.dimensions_a in
+    compares_content (layout_of a) (layout_of b) (g.S1.ReadableStorageTraits.state a.storage) (g.S2.ReadableStorageTraits.state b.storage) (positions range) a.parts.lawful b.parts.lawful long true (search rules) tt
+
+pub returns-then-not-branch-clause-content : goal.returns-then-not-branch-clause-content
+returns-then-not-branch-clause-content g c =
+    let range = box_of c.args.chunks.now in
+    let a = c.args.a.now in
+    let b = c.args.b.now in
+    let long = range_indices range c.args.chunks.now.same_length c.args.chunks.now.ends_fit (layout_of a).grid.dimensions c.requires.dimensions_a in
+    compares_content (layout_of a) (layout_of b) (g.S1.ReadableStorageTraits.state a.storage) (g.S2.ReadableStorageTraits.state b.storage) (positions range) a.parts.lawful b.parts.lawful long false tt (returns-then-not-branch-clause-different g c)
+
+pub returns-then-not-advance-clause-content : goal.returns-then-not-advance-clause-content
+returns-then-not-advance-clause-content g c =
+    let range = box_of c.args.chunks.now in
+    let a = c.args.a.now in
+    let b = c.args.b.now in
+    let long = range_indices range c.args.chunks.now.same_length c.args.chunks.now.ends_fit (layout_of a).grid.dimensions c.requires.dimensions_a in
+    compares_content (layout_of a) (layout_of b) (g.S1.ReadableStorageTraits.state a.storage) (g.S2.ReadableStorageTraits.state b.storage) (positions range) a.parts.lawful b.parts.lawful long true (returns-then-not-advance-clause-equal g c) tt
 
 pub loop-walk-smaller : goal.loop-walk-smaller
 loop-walk-smaller g c =

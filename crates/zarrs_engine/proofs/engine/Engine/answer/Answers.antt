@@ -21,6 +21,7 @@ use Rattle.zarrs_steps.specs.declared.error.ArrayError.{ArrayError}
 use Rattle.zarrs_engine.specs.Engine.{layout_of, state_of}
 use Rattle.zarrs_layout.proofs.Chunks.{retrieved_length, found_length}
 use Rattle.zarrs_engine.proofs.PartSteps.{part_shape, part_step, part_refused_step}
+use Rattle.zarrs_steps.proofs.Reaches.{may_read_all}
 use Rattle.zarrs_engine.proofs.RegionSteps.{may_ask_chunks}
 use Rattle.zarrs_steps.specs.Cuts.{cut_chunks}
 use Rattle.zarrs_steps.specs.Reach.{MayAskKept}
@@ -157,7 +158,8 @@ retrieve_array_subset-requires g c =
     let layout = layout_of c.args.self.now in
     let state = state_of g.S.ReadableStorageTraits.state c.args.self.now in
     let region = box_of c.in-RetrieveArraySubset.array_subset in
-    may_ask_chunks layout (chunks_met layout.grid region) state (subst (λ (call : Call). MayAskCall layout call state) c.in-RetrieveArraySubset.is c.requires)
+    let ask = may_ask_chunks layout (chunks_met layout.grid region) state (subst (λ (call : Call). MayAskCall layout call state) c.in-RetrieveArraySubset.is c.requires) in
+    may_read_all layout c.args.self.now.parts.lawful.chain region (chunks_met layout.grid region) state.store ask
 
 pub returns-in-RetrieveChunk-clause-step : goal.returns-in-RetrieveChunk-clause-step
 returns-in-RetrieveChunk-clause-step g c =

@@ -1,5 +1,8 @@
-use Rattle.std.proofs.Common.{arith, rules}
-use Rattle.zarrs_steps.specs.Refusals.{refusal_of}
+use Rattle.std.proofs.Common.{arith, ap, sym, subst, ◌∙◌, Result, IfErr}
+use Rattle.zarrs_storage.specs.declared.error.StorageError.{StorageError}
+use Rattle.zarrs_steps.specs.Refusals.{Refusal, refusal_of, refusal_of_storage}
+use Rattle.zarrs_steps.specs.Step.{RefusesEraseChunk}
+use Rattle.zarrs_steps.proofs.RefusalLemmas.{storage_said}
 use Rattle.zarrs_engine.specs.Engine.{layout_of}
 use Rattle.zarrs_layout.proofs.Chunks.{refuses_length}
 use Rattle.zarrs_engine.proofs.Writes.{erase_refused}
@@ -15,5 +18,10 @@ returns-then-chunk_indices-dimensionality-clause-step g c = λ keep shape.
 
 pub returns-in-Err-clause-step : goal.returns-in-Err-clause-step
 returns-in-Err-clause-step g c = λ keep shape.
-    let why = c.in-Err.ensures.refused in
-    search (rules, why)
+    let layout = layout_of c.args.self.now in
+    let index = c.args.chunk_indices.now in
+    let old = g.S.ReadableStorageTraits.state c.args.self.now.storage in
+    let new = g.S.ReadableStorageTraits.state c.erase_chunk.new.self.storage in
+    let e = c.in-Err.error in
+    let why = subst (λ (r : Result (Unit {0}) StorageError). IfErr r (λ e. RefusesEraseChunk layout index (refusal_of_storage e) old new)) c.in-Err.is c.erase_chunk.ensures.refused in
+    subst (λ (r : Refusal). RefusesEraseChunk layout index r old new) (sym (storage_said e) ∙ ap refusal_of (sym c.into.ensures)) why

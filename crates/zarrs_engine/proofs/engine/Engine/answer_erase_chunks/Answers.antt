@@ -1,6 +1,9 @@
-use Rattle.std.proofs.Common.{List, ℕ, sym, ◌∙◌, subst}
+use Rattle.std.proofs.Common.{List, ℕ, ap, sym, ◌∙◌, subst, Result, IfErr}
 use Rattle.zarrs_subset.specs.Regions.{box_of}
-use Rattle.zarrs_steps.specs.Refusals.{refusal_of}
+use Rattle.zarrs_storage.specs.declared.error.StorageError.{StorageError}
+use Rattle.zarrs_steps.specs.Refusals.{Refusal, refusal_of, refusal_of_storage}
+use Rattle.zarrs_steps.specs.Step.{RefusesEraseChunks}
+use Rattle.zarrs_steps.proofs.RefusalLemmas.{storage_said}
 use Rattle.zarrs_engine.specs.Engine.{layout_of}
 use Rattle.zarrs_layout.specs.Parts.{RefusesIndices}
 use Rattle.zarrs_layout.proofs.Chunks.{refuses_length}
@@ -16,3 +19,13 @@ returns-then-dimensionality-clause-step g c = λ keep shape.
     (refuses_length layout range.start e
     (λ long. c.if-dimensionality.true (c.dimensionality.ensures.count ∙ long ∙ sym c.dimensionality-2.ensures))
     (subst (λ (i : List ℕ). RefusesIndices i e) c.start.ensures c.invalid_indices.ensures))
+
+pub returns-in-Err-clause-step : goal.returns-in-Err-clause-step
+returns-in-Err-clause-step g c = λ keep shape.
+    let layout = layout_of c.args.self.now in
+    let range = box_of c.args.chunks.now in
+    let old = g.S.ReadableStorageTraits.state c.args.self.now.storage in
+    let new = g.S.ReadableStorageTraits.state c.erase_chunks.new.self.storage in
+    let e = c.in-Err.error in
+    let why = subst (λ (r : Result (Unit {0}) StorageError). IfErr r (λ e. RefusesEraseChunks layout range (refusal_of_storage e) old new)) c.in-Err.is c.erase_chunks.ensures.refused in
+    subst (λ (r : Refusal). RefusesEraseChunks layout range r old new) (sym (storage_said e) ∙ ap refusal_of (sym c.into.ensures)) why

@@ -51,7 +51,8 @@ returns-in_err-region g c =
     let long = (box_is_there layout.grid index c.requires.boxed).long in
     let r = refusal_of c.in_err-region.field-0.0 in
     let partly = part_refuses layout lawful keep index part held r state state (part_passing layout index part held keep state r long c.in_ok-chunk.ensures.accepted c.in_err-region.ensures.refused) in
-    search (rules, partly)
+    let p = err_from_is_err_and c.from_residual-in_err-region.result c.from_residual-in_err-region.ensures.1 in
+    rw (p.1, p.2) (record { done = tt; refused = partly; parts = refl })
 
 pub returns-in_err-check_cells : goal.returns-in_err-check_cells
 returns-in_err-check_cells g c =

@@ -1,4 +1,4 @@
-use Rattle.std.proofs.Common.{◌≡◌, ◌≢◌, ◌∙◌, false, true, is_some, IfSome, Some, List, ℕ, length, rules, ap, subst, sym, arith}
+use Rattle.std.proofs.Common.{◌≡◌, ◌≢◌, ◌∙◌, false, true, is_some, IfSome, Some, None, List, ℕ, length, refl, rules, ap, subst, sym, arith}
 use Rattle.zarrs_chain.specs.Options.{stores_empty_chunks}
 use Rattle.zarrs_steps.specs.Cuts.{cut_chunks}
 use Rattle.zarrs_chunk_grid.specs.Grids.{Grid}
@@ -8,6 +8,8 @@ use Rattle.zarrs_steps.specs.Reach.{MayAskKept}
 use Rattle.zarrs_steps.specs.Refusals.{RefusesBy, dimensionality, refusal_of}
 use Rattle.zarrs_engine.specs.Engine.{layout_of}
 use Rattle.zarrs_engine.specs.Resizes.{HasCut, LeavesFront}
+use Rattle.zarrs_steps.specs.Step.{ResizesArray}
+use Rattle.zarrs_engine.proofs.Canon.{cut_canon, cut_refused_canon}
 use Rattle.zarrs_engine.proofs.Cuts.{keeps_others, layout_same, others_given, resize_early, resize_length, resize_memory, resize_none, resize_unsupported, resized_all}
 use Rattle.zarrs_engine.proofs.engine.Engine.resize.Goals as goal
 
@@ -112,3 +114,23 @@ returns-clause-layout g c =
 
 pub returns-in_err-cut_along-clause-others : goal.returns-in_err-cut_along-clause-others
 returns-in_err-cut_along-clause-others g c = keeps_others c.args.self.now c.cut_along.new.self c.in_err-cut_along.ensures.parts
+
+pub returns-clause-canonical : goal.returns-clause-canonical
+returns-clause-canonical g c =
+    let layout = layout_of c.args.self.now in
+    let keep = stores_empty_chunks c.args.options.now in
+    let extents = g.G.ChunkGridTraits.array_extents c.args.self.now.parts.grid in
+    let old = g.S.ReadableStorageTraits.state c.args.self.now.storage in
+    let new = g.S.ReadableStorageTraits.state c.set_chunk_grid.new.self.storage in
+    let done : ResizesArray layout keep extents c.args.shape.items old new = returns-clause-done g c in
+    cut_canon layout c.args.self.now.parts.lawful keep old new extents c.args.shape.items done.1
+
+pub returns-in_err-cut_along-clause-canonical : goal.returns-in_err-cut_along-clause-canonical
+returns-in_err-cut_along-clause-canonical g c =
+    let layout = layout_of c.args.self.now in
+    let keep = stores_empty_chunks c.args.options.now in
+    let extents = g.G.ChunkGridTraits.array_extents c.args.self.now.parts.grid in
+    let old = g.S.ReadableStorageTraits.state c.args.self.now.storage in
+    let new = g.S.ReadableStorageTraits.state c.cut_along.new.self.storage in
+    cut_refused_canon layout c.args.self.now.parts.lawful keep old new extents None c.array_shape.result.now
+    (refusal_of c.in_err-cut_along.field-0.0) (c.in_err-cut_along.ensures.refused None refl)

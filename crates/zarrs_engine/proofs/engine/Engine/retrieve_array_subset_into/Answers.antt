@@ -1,15 +1,23 @@
-use Rattle.std.proofs.Common.{◌∙◌, rules}
+use Rattle.std.proofs.Common.{◌≡◌, ◌∙◌, Option, None, OnErr, Result, Ok, Err, inl, inr, sym, subst, rules}
+use Rattle.std.specs.Prelude.{IsSome}
+use Rattle.std.proofs.lemmas.Bool.{false≢true}
+use Rattle.std.proofs.lemmas.Result.{on_ok_weaker}
 use Rattle.zarrs_subset.specs.Boxes.{position_count}
-use Rattle.zarrs_subset.specs.Regions.{box_of}
-use Rattle.zarrs_data_type.specs.ArrayData.{data_of}
-use Rattle.zarrs_target.specs.States.{parent_box, target_box}
-use Rattle.zarrs_target.proofs.TypeSizes.{levels_of}
+use Rattle.zarrs_subset.specs.Regions.{Box, box_of, positions}
+use Rattle.zarrs_types.proofs.Sizes.{element_size-positive}
+use Rattle.zarrs_target.specs.States.{data_of_target, parent_box, target_box}
 use Rattle.zarrs_target.proofs.Levels.{masked_keeps}
-use Rattle.zarrs_steps.specs.ChunkBoxes.{chunks_met}
-use Rattle.zarrs_steps.specs.Refusals.{refusal_of}
+use Rattle.zarrs_steps.specs.declared.error.ArrayError.{ArrayError}
+use Rattle.zarrs_steps.specs.Reach.{MayReadParts}
+use Rattle.zarrs_steps.specs.Refusals.{Refusal, RefusesBy, refusal_of}
+use Rattle.zarrs_steps.specs.StateRefusals.{RefusesSomeChunk}
+use Rattle.zarrs_layout.specs.Covers.{CoverRegion}
 use Rattle.zarrs_engine.specs.Engine.{layout_of}
-use Rattle.zarrs_engine.specs.Into.{target_refusal}
-use Rattle.zarrs_engine.proofs.Into.{has_content, read_fits, refused_into, target_read}
+use Rattle.zarrs_engine.specs.TargetReads.{HasReadInto}
+use Rattle.zarrs_engine.specs.Into.{RefusesRetrieveInto, target_refusal}
+use Rattle.zarrs_engine.proofs.Into.{target_region}
+use Rattle.zarrs_engine.proofs.IntoReads.{content_read, retrieves_into}
+use Rattle.zarrs_engine.proofs.Puts.{each_error}
 use Rattle.zarrs_engine.proofs.engine.Engine.retrieve_array_subset_into.Goals as goal
 
 pub returns-in_err-check_target-clause-outside : goal.returns-in_err-check_target-clause-outside
@@ -17,60 +25,100 @@ returns-in_err-check_target-clause-outside g c =
     let t = c.args.target.now in
     masked_keeps t.cell_size (parent_box t) (target_box t) t.depth (position_count t.parent_shape.now) t.masks.now t.bytes.now
 
-pub returns-in_err-data-clause-refused : goal.returns-in_err-data-clause-refused
-returns-in_err-data-clause-refused g c =
+pub returns-in_err-chunks-clause-refused : goal.returns-in_err-chunks-clause-refused
+returns-in_err-chunks-clause-refused g c =
     let t = c.args.target.now in
     let layout = layout_of c.args.self.now in
     let state = g.S.ReadableStorageTraits.state c.args.self.now.storage in
     let shape = g.G.ChunkGridTraits.array_extents c.args.self.now.parts.grid in
     let region = box_of c.args.array_subset.now in
     let e = c.in_ok-check_target.ensures in
-    let same = target_read layout c.args.self.now.parts.lawful region t shape c.requires.target t.region.now.same_length e.dimensions e.takes e.same_shape in
-    let why = refused_into layout shape region (target_refusal layout shape region t) (refusal_of c.in_err-data.field-0.0) state same c.in_err-data.ensures.refused in
+    let r = refusal_of c.in_err-chunks.field-0.0 in
+    let same = target_region layout c.args.self.now.parts.lawful region t shape e.dimensions e.takes e.same_shape in
+    let why : RefusesRetrieveInto layout shape region t r state = inl (subst (λ (o : Option Refusal). RefusesBy o r) (sym same) c.in_err-chunks.ensures.refused) in
     search (rules, why)
 
-pub returns-in_err-data-clause-outside : goal.returns-in_err-data-clause-outside
-returns-in_err-data-clause-outside g c =
+pub returns-in_err-chunks-clause-outside : goal.returns-in_err-chunks-clause-outside
+returns-in_err-chunks-clause-outside g c =
     let t = c.args.target.now in
     masked_keeps t.cell_size (parent_box t) (target_box t) t.depth (position_count t.parent_shape.now) t.masks.now t.bytes.now
 
-pub write_cells-requires-clause-data : goal.write_cells-requires-clause-data
-write_cells-requires-clause-data g c =
-    let t = c.args.target.now in
+pub read_into-requires-clause-ask : goal.read_into-requires-clause-ask
+read_into-requires-clause-ask g c =
     let layout = layout_of c.args.self.now in
-    let region = box_of c.args.array_subset.now in
-    let e = c.in_ok-check_target.ensures in
-    levels_of layout.kind t.cell_size t.depth (position_count t.region.now.shape.items) (data_of c.in_ok-data.data) e.takes
-    (read_fits layout c.args.self.now.parts.lawful region t (chunks_met layout.grid region) (data_of c.in_ok-data.data)
-    (g.S.ReadableStorageTraits.state c.args.self.now.storage) e.same_shape c.in_ok-data.ensures.cells.1)
+    let state = g.S.ReadableStorageTraits.state c.args.self.now.storage in
+    subst (λ (b : Box). MayReadParts layout (box_of c.args.array_subset.now) (positions b) state) (sym c.in_ok-chunks.ensures.chunks) c.requires.ask
 
 pub returns-clause-cells : goal.returns-clause-cells
 returns-clause-cells g c =
     let t = c.args.target.now in
+    let new = c.read_into.new.target in
     let layout = layout_of c.args.self.now in
     let state = g.S.ReadableStorageTraits.state c.args.self.now.storage in
     let shape = g.G.ChunkGridTraits.array_extents c.args.self.now.parts.grid in
     let region = box_of c.args.array_subset.now in
     let e = c.in_ok-check_target.ensures in
-    let read = c.in_ok-data.ensures.cells in
-    let fit = read_fits layout c.args.self.now.parts.lawful region t (chunks_met layout.grid region) (data_of c.in_ok-data.data) state e.same_shape read.1 in
-    let same = target_read layout c.args.self.now.parts.lawful region t shape c.requires.target t.region.now.same_length e.dimensions e.takes e.same_shape in
-    record {
-      held = data_of c.in_ok-data.data;
-      accepted = same ∙ read.0;
-      reads = read.1;
-      written = c.in_ok-write_cells.ensures.cells layout.kind e.takes fit;
-    }
+    let is = c.in_ok-chunks.ensures.chunks in
+    let cover = subst (λ (b : Box). CoverRegion layout.grid region (positions b)) is c.in_ok-chunks.ensures.cover in
+    let accepted = target_region layout c.args.self.now.parts.lawful region t shape e.dimensions e.takes e.same_shape ∙ c.in_ok-chunks.ensures.accepted in
+    on_ok_weaker c.read_into.result
+    (λ read.
+    retrieves_into layout region state t new c.requires.target t.region.now.same_length e.same_shape cover
+    (subst (λ (b : Box). HasReadInto layout region (positions b) state (parent_box t) (target_box t) (data_of_target new)) is read)
+    shape c.read_into.ensures.target c.read_into.ensures.same_box e.takes (element_size-positive c.args.self.now.parts.data_type) accepted c.read_into.ensures.outside)
+    c.read_into.ensures.read
 
 pub returns-clause-content : goal.returns-clause-content
 returns-clause-content g c =
     let t = c.args.target.now in
+    let new = c.read_into.new.target in
     let layout = layout_of c.args.self.now in
     let state = g.S.ReadableStorageTraits.state c.args.self.now.storage in
     let region = box_of c.args.array_subset.now in
     let e = c.in_ok-check_target.ensures in
-    let read = c.in_ok-data.ensures.cells in
-    let held = data_of c.in_ok-data.data in
-    let fit = read_fits layout c.args.self.now.parts.lawful region t (chunks_met layout.grid region) held state e.same_shape read.1 in
-    has_content layout region (chunks_met layout.grid region) held state t c.write_cells.new.self c.requires.target t.region.now.same_length e.same_shape read.1
-    (c.in_ok-write_cells.ensures.cells layout.kind e.takes fit)
+    let is = c.in_ok-chunks.ensures.chunks in
+    let cover = subst (λ (b : Box). CoverRegion layout.grid region (positions b)) is c.in_ok-chunks.ensures.cover in
+    on_ok_weaker c.read_into.result
+    (λ read.
+    content_read layout region state t new c.requires.target t.region.now.same_length e.same_shape cover
+    (subst (λ (b : Box). HasReadInto layout region (positions b) state (parent_box t) (target_box t) (data_of_target new)) is read))
+    c.read_into.ensures.read
+
+pub returns-clause-refused : goal.returns-clause-refused
+returns-clause-refused g c =
+    let t = c.args.target.now in
+    let layout = layout_of c.args.self.now in
+    let state = g.S.ReadableStorageTraits.state c.args.self.now.storage in
+    let shape = g.G.ChunkGridTraits.array_extents c.args.self.now.parts.grid in
+    let region = box_of c.args.array_subset.now in
+    let e = c.in_ok-check_target.ensures in
+    let chunks = box_of c.in_ok-chunks.chunks in
+    let accepted = target_region layout c.args.self.now.parts.lawful region t shape e.dimensions e.takes e.same_shape ∙ c.in_ok-chunks.ensures.accepted in
+    each_error c.read_into.result (λ (e : ArrayError). RefusesSomeChunk layout region (positions chunks) state (refusal_of e)) (λ (e : ArrayError). RefusesRetrieveInto layout shape region t (refusal_of e) state)
+    (λ e why. inr (accepted, subst (λ (b : Box). RefusesSomeChunk layout region (positions b) state (refusal_of e)) c.in_ok-chunks.ensures.chunks why))
+    c.read_into.ensures.refused
+
+-- nothing is refused by the arguments any more
+kept : {A E : Type 0} (result : Result A E) (first : Option Refusal) (P : Type 0) → first ≡ None → OnErr result (IsSome first → P)
+kept (Ok x) first P none = tt
+kept (Err e) first P none = λ some. absurd (false≢true (subst (λ (o : Option Refusal). IsSome o) none some))
+
+pub returns-clause-kept_bytes : goal.returns-clause-kept_bytes
+returns-clause-kept_bytes g c =
+    let t = c.args.target.now in
+    let layout = layout_of c.args.self.now in
+    let shape = g.G.ChunkGridTraits.array_extents c.args.self.now.parts.grid in
+    let region = box_of c.args.array_subset.now in
+    let e = c.in_ok-check_target.ensures in
+    let accepted = target_region layout c.args.self.now.parts.lawful region t shape e.dimensions e.takes e.same_shape ∙ c.in_ok-chunks.ensures.accepted in
+    kept c.read_into.result (target_refusal layout shape region t) _ accepted
+
+pub returns-clause-kept_masks : goal.returns-clause-kept_masks
+returns-clause-kept_masks g c =
+    let t = c.args.target.now in
+    let layout = layout_of c.args.self.now in
+    let shape = g.G.ChunkGridTraits.array_extents c.args.self.now.parts.grid in
+    let region = box_of c.args.array_subset.now in
+    let e = c.in_ok-check_target.ensures in
+    let accepted = target_region layout c.args.self.now.parts.lawful region t shape e.dimensions e.takes e.same_shape ∙ c.in_ok-chunks.ensures.accepted in
+    kept c.read_into.result (target_refusal layout shape region t) _ accepted

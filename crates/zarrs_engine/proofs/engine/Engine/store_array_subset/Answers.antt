@@ -5,11 +5,13 @@ use Rattle.zarrs_data_type.specs.ArrayData.{data_of}
 use Rattle.zarrs_chain.specs.Options.{stores_empty_chunks}
 use Rattle.zarrs_steps.specs.Reach.{MayAskParts}
 use Rattle.zarrs_chunk_grid.specs.Grids.{met}
+use Rattle.zarrs_steps.specs.ChunkBoxes.{chunks_met}
 use Rattle.zarrs_steps.specs.ArgumentRefusals.{box_data_refusal, region_refusal, store_region_refusal}
 use Rattle.zarrs_steps.specs.Fronts.{StoresAll}
 use Rattle.zarrs_steps.specs.Patches.{PatchesAll, RefusesPatches, RefusesPatchRegion}
 use Rattle.zarrs_steps.specs.Step.{RefusesStore, RefusesStoreRegion, StoresRegion}
 use Rattle.zarrs_steps.specs.declared.error.ArrayError.{ArrayError}
+use Rattle.zarrs_engine.proofs.Canon.{store_canon}
 use Rattle.zarrs_engine.proofs.Puts.{each_error}
 use Rattle.zarrs_steps.specs.Refusals.{refusal_of}
 use Rattle.zarrs_steps.proofs.RefusalLemmas.{refuses_said, second_refusal}
@@ -107,7 +109,12 @@ returns g c =
     (λ e why. subst (λ (b : Box). RefusesStore layout keep first region held (positions b) (refusal_of e) old new) at why)
     (e.refused first none) in
     record {
-      whole = λ off. record { done = done; refused = refused; parts = e.parts };
+      whole = λ off. record {
+        done = done;
+        refused = refused;
+        canonical = store_canon layout lawful keep old new first region held (chunks_met layout.grid region) c.store_along.result done refused;
+        parts = e.parts;
+      };
       partly = record {
         done = on_ok_weaker c.store_along.result (region_patched layout lawful keep shape region held old new) done;
         refused = each_error c.store_along.result (λ (e : ArrayError). RefusesStoreRegion layout keep shape region held (refusal_of e) old new)

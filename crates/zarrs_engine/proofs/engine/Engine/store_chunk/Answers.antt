@@ -7,12 +7,14 @@ use Rattle.zarrs_steps.specs.Refusals.{RefusesBy, refusal_of, data_refusal}
 use Rattle.zarrs_engine.specs.Engine.{layout_of}
 use Rattle.zarrs_layout.specs.Parts.{HasValue}
 use Rattle.zarrs_engine.proofs.Writes.{box_refused, data_refused, stored_chunk}
-use Rattle.std.proofs.Common.{◌≡◌, None, Option, List, sym}
+use Rattle.std.proofs.Common.{◌≡◌, None, Option, List, [], ◌∷◌, sym}
 use Rattle.zarrs_chunk_grid.specs.Grids.{box_at}
 use Rattle.zarrs_data_type.specs.Cell.{Cell}
 use Rattle.zarrs_steps.specs.Refusals.{Refusal, refusal_of_storage}
+use Rattle.zarrs_steps.specs.ArgumentRefusals.{store_chunk_refusal}
 use Rattle.zarrs_steps.specs.Step.{RefusesStoreChunk}
 use Rattle.zarrs_steps.proofs.RefusalLemmas.{storage_said}
+use Rattle.zarrs_engine.proofs.Canon.{store_refused_canon, stored_canon}
 use Rattle.zarrs_engine.proofs.Writes.{short_of_memory, store_failed}
 use Rattle.zarrs_engine.proofs.engine.Engine.store_chunk.Goals as goal
 
@@ -46,7 +48,8 @@ returns g c =
     let value = option_map (λ v. v.items) c.in_ok-value.value in
     let why = stored_chunk layout lawful keep index held c.in_ok-key.key value old new c.in_ok-chunk.ensures.accepted c.in_ok-key.ensures.key
     (subst (λ (box : Box). HasValue layout keep box held value) c.in_ok-chunk.ensures.region c.in_ok-value.ensures.value) c.in_ok-put.ensures.done in
-    search (rules, why)
+    let canonical = stored_canon layout lawful keep old new (box_at layout.grid index) held (index ∷ []) why.1 in
+    search (rules, why, canonical)
 
 pub returns-in_err-key : goal.returns-in_err-key
 returns-in_err-key g c =
@@ -68,4 +71,5 @@ returns-in_err-put g c =
     let e = c.in_err-put.field-0.0 in
     let why = store_failed layout keep index held c.in_ok-chunk.ensures.accepted h.chunk h.is_chunk h.count old new (refusal_of_storage e) none_of_chunk c.in_err-put.ensures.refused in
     let said = subst (λ (r : Refusal). RefusesStoreChunk layout keep index held r old new) (sym (storage_said e)) why in
-    search (rules, said)
+    let canonical = store_refused_canon layout c.args.self.now.parts.lawful keep old new (store_chunk_refusal layout index held) (box_at layout.grid index) held (index ∷ []) _ said in
+    search (rules, said, canonical)

@@ -1,9 +1,10 @@
-use Rattle.std.proofs.Common.{◌≡◌, ◌∙◌, ◌&&◌, true, false, IfErr, OnOk, Some, rules, ap, subst, sym}
+use Rattle.std.proofs.Common.{◌≡◌, ◌∙◌, ◌&&◌, true, false, IfErr, [], ◌∷◌, OnOk, Some, rules, ap, subst, sym}
 use Rattle.std.proofs.lemmas.Bool.{false≢true}
 use Rattle.std.proofs.lemmas.Result.{on_ok_weaker}
 use Rattle.zarrs_subset.specs.Regions.{Box, box_of}
 use Rattle.zarrs_chunk_grid.specs.Grids.{box_at}
 use Rattle.zarrs_cells.specs.StringParts.{LiesInBox}
+use Rattle.zarrs_steps.specs.ArgumentRefusals.{store_part_refusal}
 use Rattle.zarrs_steps.specs.ChunkBoxes.{part_box}
 use Rattle.zarrs_steps.specs.StateRefusals.{IsPart}
 use Rattle.zarrs_steps.proofs.Contents.{member}
@@ -22,6 +23,7 @@ use Rattle.zarrs_engine.specs.Engine.{layout_of}
 use Rattle.zarrs_engine.specs.RegionWrites.{LeavesPart}
 use Rattle.zarrs_engine.proofs.PartReads.{part_cover}
 use Rattle.zarrs_engine.proofs.PartStores.{data_refuses, part_chunk, part_length, part_passing, stored_ask_part, takes_none, takes_part}
+use Rattle.zarrs_engine.proofs.Canon.{store_canon}
 use Rattle.zarrs_engine.proofs.Puts.{each_error}
 use Rattle.zarrs_engine.proofs.engine.Engine.store_chunk_subset.Goals as goal
 
@@ -136,7 +138,12 @@ returns g c =
     (λ e left. takes_none layout lawful index part (box_of c.in_ok-chunk.chunk) (box_of c.in_ok-region.region) c.args.chunk_subset.now.same_length chunk.region region.part chunk.accepted region.accepted held c.eq.result c.eq.ensures keep fits.accepted fits.given state new (refusal_of e) left)
     c.store_part.ensures.refused in
     record {
-      whole = λ off. record { done = done; refused = refused; parts = c.store_part.ensures.parts };
+      whole = λ off. record {
+        done = done;
+        refused = refused;
+        canonical = store_canon layout lawful keep state new (store_part_refusal layout index part held) (part_box (box_at layout.grid index) part) held (index ∷ []) c.store_part.result done refused;
+        parts = c.store_part.ensures.parts;
+      };
       partly = record {
         done = on_ok_weaker c.store_part.result (part_patched layout lawful keep index part held state new) done;
         refused = each_error c.store_part.result (λ (e : ArrayError). RefusesStorePart layout keep index part held (refusal_of e) state new)

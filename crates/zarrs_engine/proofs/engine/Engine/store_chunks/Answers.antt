@@ -1,13 +1,14 @@
-use Rattle.std.proofs.Common.{◌≡◌, ◌≢◌, ◌∙◌, ◌==◌, ◌<◌, ◌^◌, false, ℕ, List, Option, Some, refl, rules, ap, subst, sym, arith}
+use Rattle.std.proofs.Common.{◌≡◌, ◌≢◌, ◌∙◌, ◌==◌, ◌<◌, ◌^◌, false, ℕ, IfErr, List, OnOk, Option, Some, refl, rules, ap, subst, sym, arith}
 use Rattle.std.proofs.lemmas.Result.{on_ok_weaker}
 use Rattle.zarrs_subset.specs.Boxes.{position_count}
 use Rattle.zarrs_subset.specs.Regions.{box_of, positions}
+use Rattle.zarrs_chunk_grid.specs.Grids.{chunks_box}
 use Rattle.zarrs_data_type.specs.ArrayData.{data_of}
 use Rattle.zarrs_chain.specs.Options.{stores_empty_chunks}
 use Rattle.zarrs_steps.specs.declared.error.ArrayError.{ArrayError}
 use Rattle.zarrs_steps.specs.ArgumentRefusals.{box_data_refusal, store_chunks_refusal}
 use Rattle.zarrs_steps.specs.Refusals.{Refusal, RefusesBy, refusal_of, size_overflow}
-use Rattle.zarrs_steps.specs.Step.{RefusesStore, RefusesStoreChunks}
+use Rattle.zarrs_steps.specs.Step.{RefusesStore, RefusesStoreChunks, StoresChunks}
 use Rattle.zarrs_steps.proofs.RefusalLemmas.{refuses_said}
 use Rattle.zarrs_engine.specs.Engine.{layout_of}
 use Rattle.zarrs_layout.specs.Parts.{RefusesIndices}
@@ -15,6 +16,7 @@ use Rattle.zarrs_layout.proofs.Chunks.{wrong_length}
 use Rattle.zarrs_engine.proofs.PartStores.{chunks_early, chunks_none, none_empty, range_ask, range_data}
 use Rattle.zarrs_engine.proofs.PartStores.{range_first_none, range_left, range_many, range_missing, range_none}
 use Rattle.zarrs_engine.proofs.PartStores.{range_refuses, range_stored, two_ok}
+use Rattle.zarrs_engine.proofs.Canon.{store_canon}
 use Rattle.zarrs_engine.proofs.Puts.{each_error}
 use Rattle.zarrs_engine.proofs.engine.Engine.store_chunks.Goals as goal
 
@@ -44,6 +46,7 @@ returns-then-number-eq0 g c =
       refused = each_error c.check_cells.result (λ (e : ArrayError). box_data_refusal layout false range.shape held ≡ Some (refusal_of e)) (λ (e : ArrayError). RefusesStoreChunks layout keep range held (refusal_of e) state state)
           (λ e why. chunks_early layout keep range held state (refusal_of e) (refuses_said _ (refusal_of e) (range_none layout range held small none ∙ why)))
           c.check_cells.ensures.refused;
+      canonical = λ off canon. canon;
       parts = refl;
     }
 
@@ -123,11 +126,16 @@ returns g c =
     let new = g.S.ReadableStorageTraits.state c.store_along.new.self.storage in
     let first = store_chunks_refusal layout range held in
     let none = range_first_none layout c.args.self.now.parts.lawful keep range (box_of c.in_ok-region.region) held (c.args.chunks.now.same_length) dimensions small some shape region.region region.cover region.accepted (c.in-Ok.number == 1) one c.in_ok-check_cells.ensures.accepted state new in
+    let done : OnOk c.store_along.result (StoresChunks layout keep range held state new) =
+    on_ok_weaker c.store_along.result (range_stored layout c.args.self.now.parts.lawful keep range (box_of c.in_ok-region.region) held (c.args.chunks.now.same_length) dimensions small some shape region.region region.cover region.accepted (c.in-Ok.number == 1) one c.in_ok-check_cells.ensures.accepted state new) c.store_along.ensures.done in
+    let refused : IfErr c.store_along.result (λ (e : ArrayError). RefusesStoreChunks layout keep range held (refusal_of e) state new) =
+    each_error c.store_along.result (λ (e : ArrayError). RefusesStore layout keep first (box_of c.in_ok-region.region) held (positions range) (refusal_of e) state new)
+    (λ (e : ArrayError). RefusesStoreChunks layout keep range held (refusal_of e) state new)
+    (λ e left. range_left layout c.args.self.now.parts.lawful keep range (box_of c.in_ok-region.region) held (c.args.chunks.now.same_length) dimensions small some shape region.region region.cover region.accepted (c.in-Ok.number == 1) one c.in_ok-check_cells.ensures.accepted state new (refusal_of e) left)
+    (c.store_along.ensures.refused first none) in
     record {
-      done = on_ok_weaker c.store_along.result (range_stored layout c.args.self.now.parts.lawful keep range (box_of c.in_ok-region.region) held (c.args.chunks.now.same_length) dimensions small some shape region.region region.cover region.accepted (c.in-Ok.number == 1) one c.in_ok-check_cells.ensures.accepted state new) c.store_along.ensures.done;
-      refused = each_error c.store_along.result (λ (e : ArrayError). RefusesStore layout keep first (box_of c.in_ok-region.region) held (positions range) (refusal_of e) state new)
-          (λ (e : ArrayError). RefusesStoreChunks layout keep range held (refusal_of e) state new)
-          (λ e left. range_left layout c.args.self.now.parts.lawful keep range (box_of c.in_ok-region.region) held (c.args.chunks.now.same_length) dimensions small some shape region.region region.cover region.accepted (c.in-Ok.number == 1) one c.in_ok-check_cells.ensures.accepted state new (refusal_of e) left)
-          (c.store_along.ensures.refused first none);
+      done = done;
+      refused = refused;
+      canonical = store_canon layout c.args.self.now.parts.lawful keep state new first (chunks_box layout.grid range) held (positions range) c.store_along.result done refused;
       parts = c.store_along.ensures.parts;
     }

@@ -1,75 +1,34 @@
-use Rattle.std.proofs.Common.{◌∙◌, Some, length, rules, sym, ap, subst}
-use Rattle.zarrs_subset.specs.Boxes.{position_count}
+use Rattle.std.proofs.Common.{◌∙◌, rules, sym, subst}
+use Rattle.std.proofs.lemmas.Bool.{false≢true}
 use Rattle.zarrs_subset.specs.Regions.{Box, box_of}
-use Rattle.zarrs_chunk_grid.proofs.Chunks.{box_dimensions}
-use Rattle.zarrs_data_type.specs.ArrayData.{data_of}
-use Rattle.zarrs_data_type.specs.Cells.{HasCells}
-use Rattle.zarrs_data_type.proofs.Cells.{HasCells-some}
-use Rattle.zarrs_cells.specs.Parts.{TakesCells}
+use Rattle.zarrs_chunk_grid.specs.Grids.{box_at}
+use Rattle.zarrs_chunk_grid.proofs.Chunks.{box_long}
+use Rattle.zarrs_cells.specs.StringParts.{LiesInBox}
 use Rattle.zarrs_steps.specs.Refusals.{refusal_of}
-use Rattle.zarrs_region_cells.specs.RegionData.{region_data}
+use Rattle.zarrs_layout.proofs.OneChunk.{covers_lies}
 use Rattle.zarrs_engine.specs.Engine.{layout_of}
-use Rattle.zarrs_layout.proofs.Chunks.{retrieved}
-use Rattle.zarrs_engine.proofs.RegionReads.{read_absent, read_present}
-use Rattle.zarrs_layout.proofs.RegionRefusals.{some_key, some_size, some_broken}
+use Rattle.zarrs_engine.proofs.PartBytes.{box_why}
+use Rattle.zarrs_engine.proofs.PartWrites.{lies_covers}
 use Rattle.zarrs_engine.proofs.engine.Engine.with_chunk.Goals as goal
-
-pub returns-in_err-encoded-clause-refused : goal.returns-in_err-encoded-clause-refused
-returns-in_err-encoded-clause-refused g c =
-    let layout = layout_of c.args.self.now in
-    let state = g.S.ReadableStorageTraits.state c.args.self.now.storage in
-    let why = some_key layout (box_of c.args.region.now) c.args.chunk_indices.now state c.requires.boxed (refusal_of c.in_err-encoded.field-0.0) c.in_err-encoded.ensures.refused in
-    search (rules, why)
-
-pub returns-in_default-clause-read : goal.returns-in_default-clause-read
-returns-in_default-clause-read g c =
-    let layout = layout_of c.args.self.now in
-    let state = g.S.ReadableStorageTraits.state c.args.self.now.storage in
-    let absent = sym c.in_ok-encoded.ensures.value ∙ c.in_default.is in
-    read_absent layout c.args.self.now.parts.lawful (box_of c.args.region.now) c.args.chunk_indices.now state (region_data c.args.held) c.requires.boxed absent
 
 pub returns-in_err-chunk-clause-refused : goal.returns-in_err-chunk-clause-refused
 returns-in_err-chunk-clause-refused g c =
     let layout = layout_of c.args.self.now in
     let state = g.S.ReadableStorageTraits.state c.args.self.now.storage in
-    let stands = sym c.in_ok-encoded.ensures.value ∙ c.in-Some.is in
-    let why = some_size layout (box_of c.args.region.now) c.args.chunk_indices.now state c.requires.boxed c.in-Some.encoded stands (refusal_of c.in_err-chunk.field-0.0) c.in_err-chunk.ensures.refused in
+    let why = box_why layout (box_of c.args.region.now) c.args.chunk_indices.now state c.requires.boxed (refusal_of c.in_err-chunk.field-0.0) c.in_err-chunk.ensures.refused in
     search (rules, why)
 
-pub returns-in_err-part-clause-refused : goal.returns-in_err-part-clause-refused
-returns-in_err-part-clause-refused g c =
+pub with_whole_chunk-requires-clause-ask : goal.with_whole_chunk-requires-clause-ask
+with_whole_chunk-requires-clause-ask g c =
     let layout = layout_of c.args.self.now in
-    let state = g.S.ReadableStorageTraits.state c.args.self.now.storage in
-    let stands = sym (ap Some c.deref.ensures ∙ sym c.in-Some.is ∙ c.in_ok-encoded.ensures.value) in
-    let why = some_broken layout (box_of c.args.region.now) c.args.chunk_indices.now state c.requires.boxed c.deref.result.now stands c.in_ok-chunk.ensures.accepted (refusal_of c.in_err-part.field-0.0) c.in_err-part.ensures.refused in
-    search (rules, why)
-
-pub with_part-requires-clause-dimensions : goal.with_part-requires-clause-dimensions
-with_part-requires-clause-dimensions g c =
-    let layout = layout_of c.args.self.now in
-    let index = c.args.chunk_indices.now in
-    c.requires.dimensions ∙ sym (ap (λ (b : Box). length b.start) c.in_ok-chunk.ensures.region ∙ box_dimensions layout.grid index)
-
-pub with_part-requires-clause-part : goal.with_part-requires-clause-part
-with_part-requires-clause-part g c =
-    let layout = layout_of c.args.self.now in
-    let state = g.S.ReadableStorageTraits.state c.args.self.now.storage in
-    let index = c.args.chunk_indices.now in
-    let part = data_of c.in_ok-part.part in
-    let at = ap Some c.deref.ensures ∙ sym c.in-Some.is ∙ c.in_ok-encoded.ensures.value in
-    let r = retrieved layout c.args.self.now.parts.lawful index part state c.deref.result.now at c.in_ok-part.ensures.accepted c.in_ok-part.ensures.cells in
-    let has = subst (HasCells layout.kind part) r.reads.count (HasCells-some layout.kind part r.chunk r.is_chunk) in
-    subst (λ (b : Box). HasCells layout.kind part (position_count b.shape)) (sym c.in_ok-chunk.ensures.region) has
-
-pub returns-clause-read : goal.returns-clause-read
-returns-clause-read g c =
-    let layout = layout_of c.args.self.now in
-    let state = g.S.ReadableStorageTraits.state c.args.self.now.storage in
-    let index = c.args.chunk_indices.now in
     let region = box_of c.args.region.now in
-    let old = region_data c.args.held in
-    let part = data_of c.in_ok-part.part in
-    let new = region_data c.in_ok-made.made in
-    let stands = sym (ap Some c.deref.ensures ∙ sym c.in-Some.is ∙ c.in_ok-encoded.ensures.value) in
-    let takes = subst (λ (b : Box). TakesCells layout.kind region b part old new) c.in_ok-chunk.ensures.region c.in_ok-made.ensures in
-    read_present layout c.args.self.now.parts.lawful region index state old part new c.deref.result.now c.requires.boxed stands c.in_ok-part.ensures.cells takes
+    let index = c.args.chunk_indices.now in
+    let lies = subst (λ (b : Box). LiesInBox b region) c.in_ok-chunk.ensures.region (c.lies_in_box.ensures.0 c.if-lies_in_box.true) in
+    c.requires.ask.whole (lies_covers (box_at layout.grid index) region (box_long layout.grid index) c.args.region.now.same_length lies)
+
+pub with_chunk_part-requires-clause-part : goal.with_chunk_part-requires-clause-part
+with_chunk_part-requires-clause-part g c = λ covers.
+    let layout = layout_of c.args.self.now in
+    let region = box_of c.args.region.now in
+    let lies = covers_lies layout.grid c.args.self.now.parts.lawful.grid c.args.chunk_indices.now c.requires.boxed region c.args.region.now.same_length c.requires.dimensions covers in
+    false≢true (sym c.if-lies_in_box.false ∙ c.lies_in_box.ensures.1 (subst (λ (b : Box). LiesInBox b region) (sym c.in_ok-chunk.ensures.region) lies))

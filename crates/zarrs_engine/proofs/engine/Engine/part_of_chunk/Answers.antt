@@ -1,0 +1,85 @@
+use Rattle.std.proofs.Common.{◌≡◌, ◌∙◌, ℕ, true, List, [], ◌∷◌, Some, sym, ap, subst}
+use Rattle.zarrs_subset.specs.Regions.{Box, box_of}
+use Rattle.zarrs_storage.specs.Store.{StoreState}
+use Rattle.zarrs_data_type.specs.ArrayData.{data_of}
+use Rattle.zarrs_parts.proofs.Kept.{err_kept}
+use Rattle.zarrs_parts.specs.Parts.{DecodesPart}
+use Rattle.zarrs_source.specs.Stored.{key_of_source, state_of_source, value_or_empty}
+use Rattle.zarrs_steps.specs.Content.{decoded_cells}
+use Rattle.zarrs_steps.specs.Refusals.{is_too_large, refusal_of}
+use Rattle.zarrs_steps.specs.StateRefusals.{RefusesSomeChunk}
+use Rattle.zarrs_steps.proofs.Contents.{index_list}
+use Rattle.zarrs_engine.specs.Engine.{layout_of}
+use Rattle.zarrs_engine.proofs.PartBytes.{none_of, part_why, size_why, source_value}
+use Rattle.zarrs_engine.proofs.engine.Engine.part_of_chunk.Goals as goal
+
+pub open-requires : goal.open-requires
+open-requires g c =
+    let layout = layout_of c.args.self.now in
+    let state = g.S.ReadableStorageTraits.state c.args.self.now.storage in
+    let words = index_list layout c.args.self.now.parts.lawful c.args.chunk_indices.now c.requires.boxed in
+    subst (λ (key : List ℕ). state.may_ask key ≡ true) (sym c.in_ok-key.ensures.key) (c.requires.ask.key words)
+
+pub returns-then-is_none-clause-refused : goal.returns-then-is_none-clause-refused
+returns-then-is_none-clause-refused g c = λ region.
+    let layout = layout_of c.args.self.now in
+    let index = c.args.chunk_indices.now in
+    let state = g.S.ReadableStorageTraits.state c.args.self.now.storage in
+    let source = c.in-Some.source in
+    let state_is : state_of_source source ≡ state = rw c.in-Some.is at c.in_ok-source.ensures.state in
+    let key_is : key_of_source source ≡ layout.key index = (rw c.in-Some.is at c.in_ok-source.ensures.key) ∙ c.in_ok-key.ensures.key in
+    let found = source_value (state_of_source source) state (key_of_source source) (layout.key index) source.size state_is key_is source.sized in
+    let large = none_of c.cell_count.result c.is_none.result _ c.is_none.ensures c.if-is_none.true c.cell_count.ensures.large in
+    size_why layout region index state c.requires.boxed found.0 found.1 (subst (λ (b : Box). is_too_large layout b.shape ≡ true) c.requires.chunk large)
+
+pub decode_part-requires-clause-may_read : goal.decode_part-requires-clause-may_read
+decode_part-requires-clause-may_read g c = λ place needed.
+    let layout = layout_of c.args.self.now in
+    let index = c.args.chunk_indices.now in
+    let part = box_of c.args.part.now in
+    let state = g.S.ReadableStorageTraits.state c.args.self.now.storage in
+    let source = c.in-Some.source in
+    let state_is : state_of_source source ≡ state = rw c.in-Some.is at c.in_ok-source.ensures.state in
+    let key_is : key_of_source source ≡ layout.key index = (rw c.in-Some.is at c.in_ok-source.ensures.key) ∙ c.in_ok-key.ensures.key in
+    let found = source_value (state_of_source source) state (key_of_source source) (layout.key index) source.size state_is key_is source.sized in
+    let words = index_list layout c.args.self.now.parts.lawful index c.requires.boxed in
+    let there = subst (λ (b : Box). layout.chain.places layout.kind b.shape part found.0 place ≡ true) c.requires.chunk
+    (subst (λ (v : List ℕ). layout.chain.places layout.kind (box_of c.args.chunk.now).shape part v place ≡ true) found.2 needed) in
+    let may = c.requires.ask.places words found.0 place found.1 there in
+    subst (λ (s : StoreState). s.may_read (key_of_source source) place ≡ true) (sym state_is)
+    (subst (λ (key : List ℕ). state.may_read key place ≡ true) (sym key_is) may)
+
+pub returns-in_err-made-clause-refused : goal.returns-in_err-made-clause-refused
+returns-in_err-made-clause-refused g c =
+    let layout = layout_of c.args.self.now in
+    let index = c.args.chunk_indices.now in
+    let state = g.S.ReadableStorageTraits.state c.args.self.now.storage in
+    let source = c.in-Some.source in
+    let state_is : state_of_source source ≡ state = rw c.in-Some.is at c.in_ok-source.ensures.state in
+    let key_is : key_of_source source ≡ layout.key index = (rw c.in-Some.is at c.in_ok-source.ensures.key) ∙ c.in_ok-key.ensures.key in
+    let found = source_value (state_of_source source) state (key_of_source source) (layout.key index) source.size state_is key_is source.sized in
+    let bytes = value_or_empty (state_of_source source) (key_of_source source) in
+    let same : (state_of_source source).refuses (key_of_source source) ≡ state.refuses (layout.key index) =
+    ap (λ (s : StoreState). s.refuses (key_of_source source)) state_is ∙ ap state.refuses key_is in
+    let r = refusal_of c.in_err-made.field-0.0 in
+    let why : (region : Box) → RefusesSomeChunk layout region (index ∷ []) state r = λ region.
+    part_why layout region index state c.requires.boxed bytes ((state_of_source source).refuses (key_of_source source)) (box_of c.args.chunk.now) c.requires.chunk same (found.1 ∙ ap Some (sym found.2)) r
+    c.in_err-made.ensures.refused in
+    err_kept c.from_residual-in_err-made.result c.in_err-made.field-0.0 (λ e. (region : Box) → RefusesSomeChunk layout region (index ∷ []) state (refusal_of e)) c.from_residual-in_err-made.ensures.1 why
+
+pub returns-clause-part : goal.returns-clause-part
+returns-clause-part g c =
+    let layout = layout_of c.args.self.now in
+    let index = c.args.chunk_indices.now in
+    let part = box_of c.args.part.now in
+    let state = g.S.ReadableStorageTraits.state c.args.self.now.storage in
+    let source = c.in-Some.source in
+    let state_is : state_of_source source ≡ state = rw c.in-Some.is at c.in_ok-source.ensures.state in
+    let key_is : key_of_source source ≡ layout.key index = (rw c.in-Some.is at c.in_ok-source.ensures.key) ∙ c.in_ok-key.ensures.key in
+    let found = source_value (state_of_source source) state (key_of_source source) (layout.key index) source.size state_is key_is source.sized in
+    let bytes = value_or_empty (state_of_source source) (key_of_source source) in
+    record {
+      encoded = bytes;
+      stands = found.1 ∙ ap Some (sym found.2);
+      decodes = subst (λ (b : Box). DecodesPart layout.kind b.shape part (decoded_cells layout b bytes) (data_of c.in_ok-made.made)) c.requires.chunk c.in_ok-made.ensures.cells;
+    }

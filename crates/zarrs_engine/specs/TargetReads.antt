@@ -1,0 +1,39 @@
+-- What reads of regions leave in data over a larger box.
+use Rattle.std.specs.Prelude.{◌≡◌, ◌++◌, List, [], ◌∷◌, ℕ, true, Some, Contains}
+use Rattle.zarrs_subset.specs.Boxes.{offset_by, offset_from}
+use Rattle.zarrs_subset.specs.Regions.{Box, Holds, place_in}
+use Rattle.zarrs_chunk_grid.specs.Grids.{box_at}
+use Rattle.zarrs_storage.specs.Store.{StoreState}
+use Rattle.zarrs_data_type.specs.Cell.{Cell, is_value}
+use Rattle.zarrs_data_type.specs.ArrayData.{ArrayData}
+use Rattle.zarrs_data_type.specs.Cells.{cell_at}
+use Rattle.zarrs_steps.specs.ChunkBoxes.{CoversBox}
+use Rattle.zarrs_steps.specs.Content.{value_at, content}
+use Rattle.zarrs_steps.specs.Fronts.{is_in_chunks}
+use Rattle.zarrs_steps.specs.Layout.{Layout}
+use Rattle.zarrs_steps.specs.Reads.{IsBroken}
+
+-- the cell is a value of the type, and the content at the position, wherever there is one
+pub record IsRead (layout : Layout) (state : StoreState) (position : List ℕ) (cell : Cell) : Type 0 where
+  pub value : is_value layout.kind cell ≡ true
+  pub same : (found : Cell) → content layout (value_at state) position ≡ Some found → cell ≡ found
+
+-- where in an array over `box` a position of a region lies, if the region's first position lies at the corner
+abbrev pub place_from : (box : Box) (corner : List ℕ) (region : Box) (position : List ℕ) → ℕ
+place_from box corner region position = place_in box (offset_by corner (offset_from region.start position))
+
+-- data over `box` has a cell that was read for each position of the region, which lies at `own`
+abbrev pub HasPositions : Layout → (region : Box) → StoreState → (box own : Box) → ArrayData → Type 0
+HasPositions layout region state box own held =
+    (position : List ℕ) → Holds region position → IsRead layout state position (cell_at layout.kind held (place_from box own.start region position))
+
+-- The same for each position of the region that these chunks have. A chunk that the region covers decodes.
+pub record HasReadInto (layout : Layout) (region : Box) (chunks : List (List ℕ)) (state : StoreState) (box own : Box) (held : ArrayData) : Type 0 where
+  pub each : (position : List ℕ) → Holds region position → is_in_chunks layout chunks position ≡ true
+      → IsRead layout state position (cell_at layout.kind held (place_from box own.start region position))
+  pub whole : (index : List ℕ) → Contains chunks index → CoversBox region (box_at layout.grid index) → IsBroken layout index state → ⊥
+
+-- one more chunk was read
+abbrev pub ReadsOneMoreInto : Layout → Box → List ℕ → StoreState → (box own : Box) → ArrayData → ArrayData → Type 0
+ReadsOneMoreInto layout region index state box own old new =
+    (chunks : List (List ℕ)) → HasReadInto layout region chunks state box own old → HasReadInto layout region (chunks ++ index ∷ []) state box own new
