@@ -1,13 +1,15 @@
 -- How many writing calls the calls on the metadata of an array make.
-use Rattle.std.proofs.Common.{◌≡◌, ℕ, List, [], ◌∷◌, length, ap, sym, subst, arith}
+use Rattle.std.proofs.Common.{◌≡◌, ◌∙◌, ℕ, List, [], ◌∷◌, length, Ok, ap, sym, subst, arith}
 use Rattle.zarrs_storage.specs.Store.{StoreState}
 use Rattle.zarrs_steps.specs.Changes.{Makes}
 use Rattle.zarrs_steps.proofs.RefusalLemmas.{makes_none}
 use Rattle.zarrs_document_v2.specs.View.{MetadataData, v3, v2}
 use Rattle.zarrs_options.specs.declared.versions.MetadataEraseVersion.TheVariants as erase
 use Rattle.zarrs_array_metadata.specs.Writing.{Put, IsWrittenBy, erasures}
-use Rattle.zarrs.specs.Counts.{documents_of, StoringCounts, ErasingCounts, UpgradingCounts}
-use Rattle.zarrs.specs.Puts.{ArePut}
+use Rattle.zarrs_options.specs.Options.{MetadataOptionsData}
+use Rattle.zarrs_array_metadata.specs.Shown.{shown}
+use Rattle.zarrs.specs.Counts.{documents_of, Writes, StoringCounts, ErasingCounts, UpgradingCounts}
+use Rattle.zarrs.specs.Puts.{ArePut, StoresMetadata}
 use Rattle.zarrs.proofs.Puts.{reach_after}
 
 -- one call for each of the puts
@@ -32,6 +34,13 @@ module _ (old new : StoreState) where
 
 pub storing : StoringCounts
 storing o path m old new stored = written old new path stored.shows stored.puts stored.written stored.put
+
+-- what options show is one
+pub stored_count : (o : MetadataOptionsData) (path : List ℕ) (kept m : MetadataData) (old new : StoreState) → shown o kept ≡ Ok m → StoresMetadata o path kept old new → Writes (documents_of m) old new
+stored_count o path kept m old new is stored =
+    let both : Ok stored.shows ≡ Ok m = sym stored.is_shown ∙ is in
+    let same : stored.shows ≡ m = cc in
+    subst (λ (x : MetadataData). Writes (documents_of x) old new) same (storing o path kept old new stored)
 
 pub erasing : ErasingCounts
 erasing erase.Default path (v3 m) old new put = counted (erasures erase.Default path (v3 m)) old new put

@@ -1,5 +1,5 @@
 -- An array with another grid is one that its new metadata says.
-use Rattle.std.proofs.Common.{◌≡◌, ℕ, List, length, Option, Some, Ok, refl, ap, sym, ◌∙◌}
+use Rattle.std.proofs.Common.{◌≡◌, ℕ, List, length, Option, Some, Ok, refl, ap, subst, sym, ◌∙◌}
 use Rattle.std.specs.Result.{result_ok}
 use Rattle.zarrs_keys.specs.declared.encodings.ChunkKeyEncoding.{ChunkKeyEncoding}
 use Rattle.zarrs_keys.specs.declared.traits.ChunkKeyEncodingTraits.{Ghosts as KeyMeaning}
@@ -16,6 +16,7 @@ use Rattle.zarrs_document_v2.specs.declared.versions.ArrayMetadata.{ArrayMetadat
 use Rattle.zarrs_chain.specs.Chain.{ChainMeaning}
 use Rattle.zarrs_types.specs.Kind.{Kind, kind}
 use Rattle.zarrs_steps.specs.Content.{content}
+use Rattle.zarrs_steps.specs.Laws.{EachDecodes, over_grid}
 use Rattle.zarrs_steps.specs.Layout.{Layout, layout_at}
 use Rattle.zarrs_engine.specs.Engine.{layout_of, path_of, grid_of, keys_of, chain_of, data_type_of, fill_value_of, GivesGrid, KeepsOthers, KeepsParts}
 use Rattle.zarrs_engine.specs.declared.engine.Engine.{Engine}
@@ -23,7 +24,7 @@ use Rattle.zarrs_array_metadata.specs.Changes.{with_shape}
 use Rattle.zarrs_array_metadata.specs.Meanings.{Meaning, meaning_with, creation, shape_said}
 use Rattle.zarrs_array_metadata.proofs.Grids.{cut_by, IsCutAnew, own_grid, resized_dimensions, is_resized}
 use Rattle.zarrs.specs.Agreement.{meaning_of, Agrees}
-use Rattle.zarrs.specs.Setters.{HasSameChunk, KeepsCells}
+use Rattle.zarrs.specs.Setters.{HasSameChunk, KeepsCells, KeepsDecoding}
 
 -- grids that are written in the same way have the same name and sizes
 pub one_configuration : (a b : ChunkGrid) → extension_of_grid (configuration_of a) ≡ extension_of_grid (configuration_of b) → configuration_of a ≡ configuration_of b
@@ -57,18 +58,26 @@ module _ {g : GridMeaning ChunkGrid} {k : KeyMeaning ChunkKeyEncoding} {c : Chai
   agrees_after given old new m n shape gives cut over =
       ap result_ok (cut.says ∙ ap (λ (s : List ℕ). Ok (cut_by s (configuration_of given) (meaning_of old))) (sym over) ∙ ap (λ (p : Meaning). Ok p) (sym (meaning_after given old new gives)))
 
-  -- such an engine reads the same cell wherever the chunk's box stays
-  pub cells_after : (given : ChunkGrid) (old new : Engine S ChunkGrid ChunkKeyEncoding CodecChain g k c) → GivesGrid given old new → KeepsCells (layout_of old) (layout_of new)
-  cells_after given old new gives = λ stored position same.
+  -- such an engine lies in its store as before, but over the grid
+  layout_after : (given : ChunkGrid) (old new : Engine S ChunkGrid ChunkKeyEncoding CodecChain g k c) → GivesGrid given old new → layout_of new ≡ over_grid (layout_of new).grid (layout_of old)
+  layout_after given old new gives =
       let grid = g.grid (grid_of new) in
-      let others : layout_of new ≡ layout_at grid (path_of old) (k.key (keys_of old)) (c.meaning (chain_of old)) (kind (data_type_of old)) (fill_value_of old) =
       ap (λ x. layout_at grid x (k.key (keys_of new)) (c.meaning (chain_of new)) (kind (data_type_of new)) (fill_value_of new)) gives.path
       ∙ ap (λ x. layout_at grid (path_of old) (k.key x) (c.meaning (chain_of new)) (kind (data_type_of new)) (fill_value_of new)) gives.keys
       ∙ ap (λ x. layout_at grid (path_of old) (k.key (keys_of old)) (c.meaning x) (kind (data_type_of new)) (fill_value_of new)) gives.chain
       ∙ ap (λ x. layout_at grid (path_of old) (k.key (keys_of old)) (c.meaning (chain_of old)) (kind x) (fill_value_of new)) gives.data_type
-      ∙ ap (λ x. layout_at grid (path_of old) (k.key (keys_of old)) (c.meaning (chain_of old)) (kind (data_type_of old)) x) gives.fill_value in
-      ap (λ (l : Layout). content l stored position) others
+      ∙ ap (λ x. layout_at grid (path_of old) (k.key (keys_of old)) (c.meaning (chain_of old)) (kind (data_type_of old)) x) gives.fill_value
+
+  -- it reads the same cell wherever the chunk's box stays
+  pub cells_after : (given : ChunkGrid) (old new : Engine S ChunkGrid ChunkKeyEncoding CodecChain g k c) → GivesGrid given old new → KeepsCells (layout_of old) (layout_of new)
+  cells_after given old new gives = λ stored position same.
+      let grid = g.grid (grid_of new) in
+      ap (λ (l : Layout). content l stored position) (layout_after given old new gives)
       ∙ same_cell (g.grid (grid_of old)) grid (path_of old) (k.key (keys_of old)) (c.meaning (chain_of old)) (kind (data_type_of old)) (fill_value_of old) stored position same
+
+  -- and each chunk decodes that decodes for its box in the grid
+  pub decodes_after : (given : ChunkGrid) (old new : Engine S ChunkGrid ChunkKeyEncoding CodecChain g k c) → GivesGrid given old new → KeepsDecoding (layout_of old) (layout_of new)
+  decodes_after given old new gives = λ state each. subst (λ (l : Layout). EachDecodes l state) (sym (layout_after given old new gives)) each
 
   -- ---- after a change of the shape
 

@@ -1,8 +1,9 @@
 -- What turns V2 metadata into V3 metadata, and what stands if that is refused.
-use Rattle.std.proofs.Common.{◌≡◌, inl, inr, ℕ, List, [], ◌∷◌, ◌++◌, map, None, Result, Ok, Err, refl, sym, ap, subst, ◌∙◌}
+use Rattle.std.proofs.Common.{◌≡◌, inl, inr, ℕ, List, [], ◌∷◌, ◌++◌, map, None, Result, Ok, Err, IfErr, OnOk, refl, sym, ap, subst, ◌∙◌}
 use Rattle.std.proofs.lemmas.List.{append_assoc, map-append}
 use Rattle.zarrs_storage.specs.Store.{StoreState}
-use Rattle.zarrs_steps.specs.Refusals.{Refusal, out_of_memory}
+use Rattle.zarrs_storage.specs.declared.error.StorageError.{StorageError}
+use Rattle.zarrs_steps.specs.Refusals.{Refusal, out_of_memory, refusal_of_storage}
 use Rattle.zarrs_document.specs.Document.{DocumentData}
 use Rattle.zarrs_document_v2.specs.Conversion.{ConversionRefusal, to_v3}
 use Rattle.zarrs_document_v2.specs.Document.{DocumentV2Data}
@@ -15,7 +16,7 @@ use Rattle.zarrs_array_metadata.specs.Shown.{shown, shown_as_v3}
 use Rattle.zarrs_array_metadata.specs.Writing.{Put, put_at, put_view, IsWrittenBy}
 use Rattle.zarrs_array_metadata.specs.declared.writing.MetadataPut.{MetadataPut}
 use Rattle.zarrs.specs.Puts.{ArePut, RefusesPuts}
-use Rattle.zarrs.specs.Upgrade.{AreUpgrade, UpgradesMetadata, RefusesUpgrade}
+use Rattle.zarrs.specs.Upgrade.{AreUpgrade, UpgradesMetadata, UpgradesOrRefuses, RefusesUpgrade}
 
 -- what is shown in V3 is no V2 document
 no_v2 : (o : MetadataOptionsData) (r : Result DocumentData ConversionRefusal) (d : DocumentV2Data) → shown_as_v3 o r ≡ Ok (v2 d) → ⊥
@@ -55,3 +56,9 @@ module _ (o : MetadataOptionsData) (path : List ℕ) (m : MetadataData) (d : Doc
 -- the V3 metadata that it becomes
 pub upgrade_converts : (m : MetadataData) (d : DocumentV2Data) (n : DocumentData) → m ≡ v2 d → to_v3 d ≡ Ok n → as_v3 m ≡ Ok (v3 n)
 upgrade_converts m d n is made = ap as_v3 is ∙ ap v3_metadata made
+
+-- it is upgraded or not, with some refusal
+pub upgraded_or_not : (r : Result (Unit {0}) StorageError) (o : MetadataOptionsData) (path : List ℕ) (m : MetadataData) (old new : StoreState)
+    → OnOk r (UpgradesMetadata o path m old new) → IfErr r (λ e. RefusesUpgrade o path m (refusal_of_storage e) old new) → (x : Refusal) × UpgradesOrRefuses o path m x old new
+upgraded_or_not (Ok done) o path m old new upgraded refused = (out_of_memory, inl upgraded)
+upgraded_or_not (Err e) o path m old new upgraded refused = (refusal_of_storage e, inr refused)

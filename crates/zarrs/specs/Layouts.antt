@@ -14,7 +14,8 @@ use Rattle.zarrs_chain.specs.Chain.{ChainMeaning}
 use Rattle.zarrs_codec_cells.specs.Metadata.{CellsCodecData, MaskCodecData}
 use Rattle.zarrs_codec_cells.specs.Metadata as coding
 use Rattle.zarrs_codec_cells.specs.Optional.{optional_meaning}
-use Rattle.zarrs_codec.specs.Chains.{whole_chunk}
+use Rattle.zarrs_parts.specs.Places.{cell_places}
+use Rattle.zarrs_codec.specs.Chains.{whole_chunk, with_places}
 use Rattle.zarrs_codec.specs.Metadata.{ChainData, BytesCodecData, cells, sharding}
 use Rattle.zarrs_codec.specs.Shardings.{sharded}
 use Rattle.zarrs_codec.specs.Through.{through_all}
@@ -48,14 +49,18 @@ abbrev pub no_codec_meant : List ArrayCodecData → Bool
 no_codec_meant [] = true
 no_codec_meant (codec ∷ more) = false
 
--- a chain behind codecs that make an array of an array: parts are written by themselves only if there is none
+-- a chain behind codecs that make an array of an array: parts are written, and read by themselves, only if there is none
 abbrev pub behind_meant : List ArrayCodecData → ChainMeaning → ChainMeaning
 behind_meant codecs m = through_all (no_codec_meant codecs) (array_codecs_meant codecs) m
 
--- a codec of cells takes the cells of the whole chunk; one of shards takes those of each subchunk, by the chain of the
--- subchunks
+-- a codec of cells takes the cells of the whole chunk; a part under `bytes` is read by the places of its cells
+abbrev pub whole_codec_meant : CellsCodecData → ChainMeaning
+whole_codec_meant (coding.bytes endian) = with_places cell_places (whole_chunk (bytes_meaning_of endian))
+whole_codec_meant codec = whole_chunk (cells_codec_meant codec)
+
+-- a codec of shards takes the cells of each subchunk, by the chain of the subchunks
 abbrev pub bytes_codec_meant : BytesCodecData → ChainMeaning
-bytes_codec_meant (cells codec) = whole_chunk (cells_codec_meant codec)
+bytes_codec_meant (cells codec) = whole_codec_meant codec
 bytes_codec_meant (sharding shape at_start front last) = sharded at_start shape (behind_meant front (bytes_codec_meant last))
 
 -- a chain of codecs

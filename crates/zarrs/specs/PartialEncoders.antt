@@ -2,10 +2,12 @@
 use Rattle.std.specs.Prelude.{◌≡◌, ℕ, List, Result}
 use Rattle.std.specs.Borrow.{Fml, MutBor, RattleType, RestsIfErr}
 use Rattle.zarrs_storage.specs.Store.{StoreState}
+use Rattle.zarrs_subset.specs.Regions.{Box}
+use Rattle.zarrs_steps.specs.Reach.{MayReadPart}
 use Rattle.zarrs_steps.specs.Layout.{Layout, ArrayState}
 use Rattle.zarrs_steps.specs.declared.error.ArrayError.{ArrayError}
 use Rattle.zarrs_engine.specs.Engine.{layout_of, state_of, store_of}
-use Rattle.zarrs_engine.specs.PartialDecoders.{engine_of, indices_of}
+use Rattle.zarrs_engine.specs.PartialDecoders.{engine_of, indices_of, region_of_part}
 use Rattle.zarrs.specs.declared.array.Array.{Array}
 use Rattle.zarrs.specs.declared.array.part_reads.ArrayPartialDecoder.{ArrayPartialDecoder}
 use Rattle.zarrs.specs.declared.array.partial_encoder.ArrayPartialEncoder.{ArrayPartialEncoder}
@@ -35,6 +37,13 @@ module _ {S : Type 0} where
 
   abbrev pub indices_of_decoder : ArrayPartialDecoder S → List ℕ
   indices_of_decoder decoder = indices_of decoder.decoder
+
+  -- a part of its chunk may be asked for
+  abbrev pub MayDecodeAt : (S → StoreState) → Box → ArrayPartialDecoder S → Type 0
+  MayDecodeAt state part decoder =
+      let layout = layout_of_decoder decoder in
+      let index = indices_of_decoder decoder in
+      MayReadPart layout (region_of_part layout index part) index (store_of_decoder state decoder)
 
 -- once the borrow ends, the array is what the encoder left, and if none was made what it had been
 abbrev pub RestsUnlessEncoded : (S : RattleType) → MutBor (Array S.Denot) → Result (ArrayPartialEncoder S.Denot) ArrayError → Fml

@@ -1,12 +1,14 @@
 -- What the setters of an array do that take what becomes a field.
 use Rattle.std.specs.Prelude.{◌≡◌, ◌⊎◌, ℕ, List, Option, Ok}
 use Rattle.zarrs_chunk_grid.specs.Grids.{Grid, box_at, index_at, is_covered}
+use Rattle.zarrs_storage.specs.Store.{StoreState}
 use Rattle.zarrs_document_v2.specs.View.{MetadataData}
 use Rattle.zarrs_options.specs.Given.{grid_given}
 use Rattle.zarrs_options.specs.Refusals.{CreateRefusal, out_of_memory, RefusesCreation}
 use Rattle.zarrs_options.specs.declared.chunk_grid_metadata.ArrayBuilderChunkGridMetadata.{ArrayBuilderChunkGridMetadata}
 use Rattle.zarrs_array_metadata.specs.Changes.{regridding}
 use Rattle.zarrs_steps.specs.Content.{content}
+use Rattle.zarrs_steps.specs.Laws.{EachDecodes, over_grid}
 use Rattle.zarrs_steps.specs.Layout.{Layout}
 
 -- the metadata gets this shape and such a grid
@@ -30,3 +32,7 @@ abbrev pub KeepsCells : Layout → Layout → Type 0
 KeepsCells old new =
     (stored : List ℕ → Option (List ℕ)) (position : List ℕ) → HasSameChunk old.grid new.grid position
     → content new stored position ≡ content old stored position
+
+-- whatever the store: if each chunk that is present decodes for its box in the new grid, each decodes afterwards
+abbrev pub KeepsDecoding : Layout → Layout → Type 0
+KeepsDecoding old new = (state : StoreState) → EachDecodes (over_grid new.grid old) state → EachDecodes new state

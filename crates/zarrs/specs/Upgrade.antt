@@ -71,9 +71,40 @@ UpgradesOpen =
     → IsUpgradedBy path n puts → puts ≡ done ++ left → ArePut done old new → new.refuses (v3_key path) ≡ false
     → OpensAs new path parts
 
--- and no cell of the array changes
+-- the store refuses no key of metadata at the path
+pub record RefusesNoMetadata (path : List ℕ) (state : StoreState) : Type 0 where
+  pub document : state.refuses (v3_key path) ≡ false
+  pub v2_document : state.refuses (v2_array_key path) ≡ false
+  pub v2_attributes : state.refuses (attributes_key path) ≡ false
+
+-- An array of these parts and this metadata opens afterwards, if the store had no V3 document and its V2 documents open to
+-- one of these parts, the V3 document is read again, and the store then refuses no key of metadata.
+abbrev pub StaysOpen : MetadataOptionsData → List ℕ → MetadataData → Meaning → StoreState → StoreState → Type 0
+StaysOpen o path m parts old new =
+    (n : DocumentData) (found : MetadataData) → IsUpgradeOf o m n → IsReadAgainV3 n
+    → value_at old (v3_key path) ≡ None → opened retrieve.V2 old path ≡ Ok found → creation found ≡ Ok parts
+    → RefusesNoMetadata path new → OpensAs new path parts
+
+-- the metadata of an array at the path was upgraded or not, accepted or refused
+abbrev pub UpgradesOrRefuses : MetadataOptionsData → List ℕ → MetadataData → Refusal → StoreState → StoreState → Type 0
+UpgradesOrRefuses o path m r old new = UpgradesMetadata o path m old new ⊎ RefusesUpgrade o path m r old new
+
+-- so it opens in the state that the upgrade leaves
+abbrev pub UpgradeCallsOpen : Type 0
+UpgradeCallsOpen =
+    (o : MetadataOptionsData) (path : List ℕ) (m : MetadataData) (parts : Meaning) (r : Refusal) (old new : StoreState)
+    → creation m ≡ Ok parts → UpgradesOrRefuses o path m r old new → StaysOpen o path m parts old new
+
+-- after each front no cell of the array has changed
 abbrev pub UpgradesLeaveContent : Type 0
 UpgradesLeaveContent =
     (layout : Layout) (path : List ℕ) → IsLawful layout → layout.metadata_keys ≡ metadata_keys_at path
     → (n : DocumentData) (puts done left : List Put) (old new : StoreState)
     → IsUpgradedBy path n puts → puts ≡ done ++ left → ArePut done old new → HaveEqualContent layout old new
+
+-- nor has one in the state that the upgrade leaves
+abbrev pub UpgradeCallsLeaveContent : Type 0
+UpgradeCallsLeaveContent =
+    (layout : Layout) (path : List ℕ) → IsLawful layout → layout.metadata_keys ≡ metadata_keys_at path
+    → (o : MetadataOptionsData) (m : MetadataData) (r : Refusal) (old new : StoreState)
+    → UpgradesOrRefuses o path m r old new → HaveEqualContent layout old new

@@ -10,6 +10,7 @@ mod metadata;
 mod options;
 mod part_reads;
 mod partial_encoder;
+mod printing;
 mod queries;
 mod reads;
 mod resize;

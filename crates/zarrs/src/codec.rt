@@ -1,4 +1,4 @@
-//! The codecs that a chain is made of.
+//! The codecs that a chain is made of, and the sources of bytes that chains read parts of chunks from.
 
 pub use zarrs_codec::{
     BytesCodec, CellsCodec, Endianness, MaskCodec, OptionalCodec, PackBitsCodec, ReshapeCodec,
@@ -6,3 +6,4 @@ pub use zarrs_codec::{
     ShardingIndexLocation, SqueezeCodec, SubchunkWriteOrder, TransposeCodec, VlenBytesCodec,
     VlenCodec, VlenUtf8Codec, default_array_to_bytes_codec,
 };
+pub use zarrs_source::{ByteSource, SliceSource, SourceBytes, Window};

@@ -7,7 +7,8 @@ ghost use Rattle.zarrs.specs.Laws.{WrittenMetadataOpens, NormalMetadataSaysTheSa
 ghost use Rattle.zarrs.specs.Laws.{ConvertedMetadataSaysTheSame, ShownMetadataSaysTheSame};
 ghost use Rattle.zarrs.specs.Laws.{MetadataCallsLeaveContent, CallsLeaveMetadata};
 ghost use Rattle.zarrs.specs.Counts.{StoringCounts, ErasingCounts, UpgradingCounts};
-ghost use Rattle.zarrs.specs.Upgrade.{UpgradesOpen, UpgradesLeaveContent};
+ghost use Rattle.zarrs.specs.Upgrade.{UpgradesOpen, UpgradeCallsOpen};
+ghost use Rattle.zarrs.specs.Upgrade.{UpgradesLeaveContent, UpgradeCallsLeaveContent};
 ghost use Rattle.zarrs.specs.Arrays.{metadata_of_array, meaning_of_array, layout_of_array, path_of_array};
 
 use crate::array::Array;
@@ -15,14 +16,21 @@ pub use zarrs_chunk_grid::laws::{
     box_of_a_chunk, chunk_of_a_position, chunk_range_fills_a_box, chunks_share_no_position,
     covered_positions, grid_of_its_configuration, metadata_describes_the_configuration,
 };
+pub use zarrs_codec::laws::codecs_are_said_by_levels;
 pub use zarrs_engine::laws::{
-    accepted_resizes, canonical_chunks_are_compact, canonical_stores_are_compact,
+    accepted_resizes, accepted_shape_changes, canonical_chunks_are_compact, canonical_maps_are_one,
+    canonical_parts_are_maps, canonical_stores_are_compact, canonical_stores_are_their_map,
     canonical_stores_decode, compactions_keep_content, comparison_is_content, content_is_bytes,
-    cuts_are_right, disjoint_writes_agree, empty_stores_are_canonical, equal_counts_agree,
-    histories_agree, parts_make_the_region, read_after_store, reads_agree,
-    reads_of_decoding_chunks, refused_resizes, resizes_keep_outside, same_chunks_have_same_cells,
-    steps_count, steps_keep_canon, steps_keep_decoding, steps_keep_reach, store_after_read,
-    writes_keep_canon, writes_keep_decoding,
+    course_counts_agree, course_read_after_store, course_store_after_read, courses_agree,
+    courses_keep_canon, courses_keep_decoding, courses_keep_other_keys, courses_keep_reach,
+    cuts_are_right, disjoint_events_agree, disjoint_writes_agree, empty_stores_are_canonical,
+    empty_stores_are_fill, equal_counts_agree, event_parts_make_the_region,
+    event_reads_of_decoding_chunks, events_count, histories_agree, parts_make_the_region,
+    read_after_store, reads_agree, reads_of_decoding_chunks, refused_resizes,
+    refused_shape_changes, resizes_keep_outside, runs_are_courses, same_chunks_have_same_cells,
+    shape_changes_keep_outside, steps_count, steps_keep_canon, steps_keep_decoding,
+    steps_keep_other_keys, steps_keep_reach, store_after_read, writes_keep_canon,
+    writes_keep_decoding,
 };
 pub use zarrs_keys::{paths_are_names, paths_keep_keys_lawful, unrelated_paths_share_no_key};
 pub use zarrs_subset::laws::{
@@ -81,12 +89,14 @@ pub fn calls_leave_metadata()
 {}
 
 /// After each front of an upgrade from V2 to V3 an array of the same parts opens at its path, of V2 metadata before the
-/// first writing call, of V3 metadata after it.
+/// first writing call, of V3 metadata after it. So one opens in the state that an upgrade leaves, accepted or refused.
 pub fn upgrades_open()
-    ensures { UpgradesOpen }
+    ensures fronts { UpgradesOpen }
+    ensures calls { UpgradeCallsOpen }
 {}
 
-/// No front of an upgrade changes a cell of the array.
+/// No front of an upgrade changes a cell of the array, and no upgrade does, accepted or refused.
 pub fn upgrades_leave_content()
-    ensures { UpgradesLeaveContent }
+    ensures fronts { UpgradesLeaveContent }
+    ensures calls { UpgradeCallsLeaveContent }
 {}

@@ -1,1 +1,2 @@
 mod Decodes
+mod DirectCalls

@@ -3,5 +3,6 @@
 #![tactic(auto)]
 
 pub mod built;
+pub mod courses;
 pub mod documents;
 pub mod encoded;

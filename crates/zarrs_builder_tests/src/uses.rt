@@ -7,6 +7,7 @@ use zarrs::{
     Array, ArraySubset, Bytes, DimensionName, MemoryStore, StoreKey, WritableStorageTraits,
 };
 use zarrs_array_uses::built::{measure, rainfall, rainfall_in_a_shard, unit_of};
+use zarrs_array_uses::courses::stored_and_read_twice;
 use zarrs_array_uses::documents::{create_array, read_region_at, v3_text};
 use zarrs_array_uses::encoded::read_while;
 
@@ -47,6 +48,21 @@ fn an_array_is_created_and_opened_again(rt: HostRuntime) {
     let alloc = rt.alloc();
     let storage = created(&rt, alloc).into_storage();
     must_read(&rt, alloc, storage, &[7, 7, 7, 7]);
+}
+
+#[test]
+fn values_are_stored_and_read_twice(rt: HostRuntime) {
+    let alloc = rt.alloc();
+    let mut array = created(&rt, alloc);
+    let row = region(&rt, alloc, &[1..2, 0..4]);
+    let read = stored_and_read_twice(alloc, &mut array, &row, &[1u8, 2, 3, 4]);
+    drop(row);
+    must_eq(
+        &rt,
+        read.expect(&rt, "no refusal").as_slice(),
+        &[1, 2, 3, 4],
+    );
+    drop(array);
 }
 
 /// The V2 document of an array of 6 texts, as zarr-python writes it, and the V3 document that it becomes.

@@ -78,7 +78,7 @@ impl<TStorage: WritableStorageTraits> Array<TStorage> {
     ghost use Rattle.zarrs_storage.specs.Store.{KeepsReach};
     ghost use Rattle.zarrs_steps.specs.Changes.{IsPut};
     ghost use Rattle.zarrs_chain.specs.Options.{encodes_partially, stores_empty_chunks};
-    ghost use Rattle.zarrs_steps.specs.Canon.{IsCanonical};
+    ghost use Rattle.zarrs_steps.specs.Canon.{IsCanonical, KeepsCanon};
     ghost use Rattle.zarrs_steps.specs.Content.{decoded_cells, value_at};
     ghost use Rattle.zarrs_layout.specs.Parts.{RefusesPut};
     ghost use Rattle.zarrs_steps.specs.Laws.{EachDecodes};
@@ -144,6 +144,8 @@ impl<TStorage: WritableStorageTraits> Array<TStorage> {
             (λ e. RefusesEraseChunks (layout_of_array self.old) (R.region chunks.now)
             (refusal_of_storage e) (store_of_array TStorage.state self.old)
             (store_of_array TStorage.state self.new)) }
+        ensures canonical { KeepsCanon (layout_of_array self.old) false
+            (store_of_array TStorage.state self.old) (store_of_array TStorage.state self.new) }
         ensures kept { KeepsArray self.old self.new }
     {
         let Ok(chunks) = chunks.to_array_subset(alloc) else {

@@ -1,7 +1,6 @@
-//! Arrays that are compared by the bytes of their chunks, and arrays as they are printed.
+//! Arrays that are compared by the bytes of their chunks.
 use super::Array;
 use std::alloc::Global;
-use std::fmt;
 use zarrs_engine::{ArrayError, chunks_equal};
 use zarrs_storage::ReadableStorageTraits;
 use zarrs_subset::ArraySubsetTraits;
@@ -12,13 +11,14 @@ impl<TStorage: ReadableStorageTraits> Array<TStorage> {
     ghost use Rattle.zarrs_subset.specs.Regions.{positions};
     ghost use Rattle.zarrs_steps.specs.Reach.{MayAskChunks};
     ghost use Rattle.zarrs_steps.specs.Refusals.{refusal_of};
-    ghost use Rattle.zarrs_engine.specs.Comparisons.{DifferInChunk, HoldSameChunks};
-    ghost use Rattle.zarrs_engine.specs.Comparisons.{RefusesComparison};
+    ghost use Rattle.zarrs_engine.specs.Comparisons.{ComparesContent, DifferInChunk};
+    ghost use Rattle.zarrs_engine.specs.Comparisons.{HoldSameChunks, RefusesComparison};
     ghost use Rattle.zarrs.specs.Arrays.{layout_of_array, store_of_array};
 
     /// Returns whether of each chunk with indices in the range the same bytes are stored in both arrays, or none in
     /// both. No chunk is decoded. The chunks are asked in row-major order, up to the first one that differs; an empty
-    /// range asks nothing.
+    /// range asks nothing. Of two canonical arrays of one grid, data type, fill value and chain it is whether they have
+    /// equal cells over the chunks.
     ///
     /// # Errors
     /// E8 for more chunks than a `u64` counts; E7 if one of the stores refuses the key of one of them. E9 may come at
@@ -45,6 +45,9 @@ impl<TStorage: ReadableStorageTraits> Array<TStorage> {
             (layout_of_array self.now) (layout_of_array other.now)
             (store_of_array TStorage.state self.now) (store_of_array TStorage2.state other.now)
             (positions (R.region chunks.now)))) }
+        ensures content { IfOk result (λ equal. ComparesContent (layout_of_array self.now)
+            (layout_of_array other.now) (store_of_array TStorage.state self.now)
+            (store_of_array TStorage2.state other.now) (positions (R.region chunks.now)) equal) }
         ensures refused { IfErr result (λ e. RefusesComparison (layout_of_array self.now)
             (layout_of_array other.now) (store_of_array TStorage.state self.now)
             (store_of_array TStorage2.state other.now) (positions (R.region chunks.now))
@@ -52,18 +55,5 @@ impl<TStorage: ReadableStorageTraits> Array<TStorage> {
     {
         let chunks = chunks.to_array_subset(alloc)?;
         chunks_equal(alloc, &self.engine, &other.engine, &chunks)
-    }
-}
-
-/// Prints where the array lies, its metadata and its options. The store is not printed.
-impl<TStorage> fmt::Debug for Array<TStorage> {
-    fn fmt<W: fmt::Write>(&self, f: &mut fmt::Formatter<W>) -> fmt::Result {
-        f.debug_struct("Array")
-            .field("path", self.engine.path())
-            .field("metadata", &self.metadata)
-            .field("codec_options", &self.codec_options)
-            .field("codec_specific_options", &self.codec_specific_options)
-            .field("metadata_options", &self.metadata_options)
-            .finish()
     }
 }

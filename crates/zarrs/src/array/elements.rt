@@ -10,7 +10,7 @@ use zarrs_subset::ArraySubsetTraits;
 impl<TStorage: ReadableStorageTraits> Array<TStorage> {
     ghost use Rattle.zarrs.specs.Elements.{ReadsElements};
     ghost use Rattle.zarrs.specs.Outcomes.{RetrievesChunkOrRefuses, RetrievesIfExistsOrRefuses};
-    ghost use Rattle.zarrs.specs.Outcomes.{MayRetrieveChunk, RetrievesPartOrRefuses};
+    ghost use Rattle.zarrs.specs.Outcomes.{MayRetrieveChunk, MayRetrievePart, RetrievesPartOrRefuses};
     ghost use Rattle.zarrs.specs.Outcomes.{RetrievesChunksOrRefuses, MayRetrieveChunks};
     ghost use Rattle.zarrs.specs.Outcomes.{RetrievesRegionOrRefuses, MayRetrieveRegion};
 
@@ -130,7 +130,8 @@ impl<TStorage: ReadableStorageTraits> Array<TStorage> {
         chunk_indices: &[u64],
         chunk_subset: &R,
     ) -> Result<Vec<T>, ArrayError>
-        requires { MayRetrieveChunk TStorage.state chunk_indices.now self.now }
+        requires { MayRetrievePart TStorage.state chunk_indices.now (R.region chunk_subset.now)
+            self.now }
         ensures { RetrievesPartOrRefuses T.serves (ReadsElements T.cell) TStorage.state
             chunk_indices.now (R.region chunk_subset.now) self.now result }
     {
@@ -149,7 +150,8 @@ impl<TStorage: ReadableStorageTraits> Array<TStorage> {
         chunk_subset: &R,
         options: &CodecOptions,
     ) -> Result<Vec<T>, ArrayError>
-        requires { MayRetrieveChunk TStorage.state chunk_indices.now self.now }
+        requires { MayRetrievePart TStorage.state chunk_indices.now (R.region chunk_subset.now)
+            self.now }
         ensures { RetrievesPartOrRefuses T.serves (ReadsElements T.cell) TStorage.state
             chunk_indices.now (R.region chunk_subset.now) self.now result }
     {

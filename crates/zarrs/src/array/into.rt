@@ -9,13 +9,12 @@ use zarrs_target::ArrayBytesDecodeIntoTarget;
 
 impl<TStorage: ReadableStorageTraits> Array<TStorage> {
     ghost use Rattle.std.specs.Prelude.{◌≡◌, IfErr, IsSome, OnErr, OnOk};
-    ghost use Rattle.zarrs_steps.specs.ChunkBoxes.{chunks_met};
-    ghost use Rattle.zarrs_steps.specs.Reach.{MayAskChunks};
     ghost use Rattle.zarrs_steps.specs.Refusals.{refusal_of};
     ghost use Rattle.zarrs_target.specs.States.{IsTarget, SameBox, StaysOutside};
     ghost use Rattle.zarrs_engine.specs.Into.{HasContent, RefusesRetrieveInto, RetrievesInto};
     ghost use Rattle.zarrs_engine.specs.Into.{target_refusal};
     ghost use Rattle.zarrs.specs.Arrays.{layout_of_array, store_of_array, state_of_array};
+    ghost use Rattle.zarrs.specs.Outcomes.{MayRetrieveRegion};
 
     /// Reads the region into the target's box, where its cells are in row-major order. Every byte outside the box
     /// stays.
@@ -31,9 +30,7 @@ impl<TStorage: ReadableStorageTraits> Array<TStorage> {
         array_subset: &R,
         target: &mut ArrayBytesDecodeIntoTarget<'_, '_, '_>,
     ) -> Result<(), ArrayError>
-        requires ask { MayAskChunks (layout_of_array self.now)
-            (chunks_met (layout_of_array self.now).grid (R.region array_subset.now))
-            (store_of_array TStorage.state self.now) }
+        requires ask { MayRetrieveRegion TStorage.state (R.region array_subset.now) self.now }
         requires target { IsTarget target.old }
         ensures target { IsTarget target.new }
         ensures same_bytes { target.new.bytes.ghost_name ≡ target.old.bytes.ghost_name }
@@ -70,9 +67,7 @@ impl<TStorage: ReadableStorageTraits> Array<TStorage> {
         target: &mut ArrayBytesDecodeIntoTarget<'_, '_, '_>,
         _options: &CodecOptions,
     ) -> Result<(), ArrayError>
-        requires ask { MayAskChunks (layout_of_array self.now)
-            (chunks_met (layout_of_array self.now).grid (R.region array_subset.now))
-            (store_of_array TStorage.state self.now) }
+        requires ask { MayRetrieveRegion TStorage.state (R.region array_subset.now) self.now }
         requires target { IsTarget target.old }
         ensures target { IsTarget target.new }
         ensures same_bytes { target.new.bytes.ghost_name ≡ target.old.bytes.ghost_name }

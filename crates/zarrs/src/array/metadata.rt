@@ -6,11 +6,14 @@ use zarrs_options::{ArrayMetadataOptions, MetadataEraseVersion};
 use zarrs_storage::{StorageError, WritableStorageTraits};
 
 impl<TStorage: WritableStorageTraits> Array<TStorage> {
-    ghost use Rattle.std.specs.Prelude.{◌≡◌, map, IfErr, OnOk};
+    ghost use Rattle.std.specs.Prelude.{◌≡◌, map, IfErr, Ok, OnOk};
+    ghost use Rattle.zarrs_document_v2.specs.View.{MetadataData};
     ghost use Rattle.zarrs_options.specs.Options.{options_view};
     ghost use Rattle.zarrs_options.specs.declared.versions.MetadataEraseVersion.TheVariants as erase;
     ghost use Rattle.zarrs_steps.specs.Refusals.{refusal_of_storage};
+    ghost use Rattle.zarrs_array_metadata.specs.Shown.{shown};
     ghost use Rattle.zarrs_array_metadata.specs.Writing.{put_view, erasures};
+    ghost use Rattle.zarrs.specs.Counts.{Writes, documents_of, erased_documents};
     ghost use Rattle.zarrs.specs.Puts.{ArePut, RefusesPuts, StoresMetadata, RefusesStoreMetadata};
     ghost use Rattle.zarrs.specs.Arrays.{metadata_of_array, metadata_options_of_array};
     ghost use Rattle.zarrs.specs.Arrays.{path_of_array, store_of_array, KeepsArray};
@@ -27,6 +30,10 @@ impl<TStorage: WritableStorageTraits> Array<TStorage> {
             (λ e. RefusesStoreMetadata (metadata_options_of_array self.old)
             (path_of_array self.old) (metadata_of_array self.old) (refusal_of_storage e)
             (store_of_array TStorage.state self.old) (store_of_array TStorage.state self.new)) }
+        ensures count { (m : MetadataData)
+            → shown (metadata_options_of_array self.old) (metadata_of_array self.old) ≡ Ok m
+            → OnOk result (Writes (documents_of m) (store_of_array TStorage.state self.old)
+            (store_of_array TStorage.state self.new)) }
         ensures kept { KeepsArray self.old self.new }
     {
         let options = self.metadata_options;
@@ -51,6 +58,10 @@ impl<TStorage: WritableStorageTraits> Array<TStorage> {
         ensures refused { IfErr result (λ e. RefusesStoreMetadata (options_view options.now)
             (path_of_array self.old) (metadata_of_array self.old) (refusal_of_storage e)
             (store_of_array TStorage.state self.old) (store_of_array TStorage.state self.new)) }
+        ensures count { (m : MetadataData)
+            → shown (options_view options.now) (metadata_of_array self.old) ≡ Ok m
+            → OnOk result (Writes (documents_of m) (store_of_array TStorage.state self.old)
+            (store_of_array TStorage.state self.new)) }
         ensures kept { KeepsArray self.old self.new }
     {
         // The metadata of an array has a V3 document, so that only memory can run out.
@@ -74,6 +85,8 @@ impl<TStorage: WritableStorageTraits> Array<TStorage> {
             (erasures erase.Default (path_of_array self.old) (metadata_of_array self.old))
             (refusal_of_storage e) (store_of_array TStorage.state self.old)
             (store_of_array TStorage.state self.new)) }
+        ensures count { OnOk result (Writes (documents_of (metadata_of_array self.old))
+            (store_of_array TStorage.state self.old) (store_of_array TStorage.state self.new)) }
         ensures kept { KeepsArray self.old self.new }
     {
         self.erase_metadata_opt(alloc, MetadataEraseVersion::Default)
@@ -96,6 +109,9 @@ impl<TStorage: WritableStorageTraits> Array<TStorage> {
             (erasures version (path_of_array self.old) (metadata_of_array self.old))
             (refusal_of_storage e) (store_of_array TStorage.state self.old)
             (store_of_array TStorage.state self.new)) }
+        ensures count { OnOk result
+            (Writes (erased_documents version (metadata_of_array self.old))
+            (store_of_array TStorage.state self.old) (store_of_array TStorage.state self.new)) }
         ensures kept { KeepsArray self.old self.new }
     {
         let puts = erasures_of_metadata(alloc, self.engine.path(), &self.metadata, version)?;

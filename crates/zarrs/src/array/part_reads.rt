@@ -29,7 +29,7 @@ impl<TStorage: ReadableStorageTraits> Array<TStorage> {
     ghost use Rattle.zarrs_steps.specs.ArgumentRefusals.{chunk_refusal};
     ghost use Rattle.zarrs_steps.specs.Refusals.{RefusesBy, refusal_of};
     ghost use Rattle.zarrs.specs.Arrays.{layout_of_array, state_of_array};
-    ghost use Rattle.zarrs.specs.PartialEncoders.{layout_of_decoder, state_of_decoder};
+    ghost use Rattle.zarrs.specs.PartialEncoders.{MayDecodeAt, layout_of_decoder, state_of_decoder};
     ghost use Rattle.zarrs.specs.PartialEncoders.{indices_of_decoder};
 
     /// Returns the chunk with these indices, to read parts of it. The store is not asked.
@@ -85,14 +85,13 @@ impl<TStorage: ReadableStorageTraits> ArrayPartialDecoder<'_, TStorage> {
     ghost use Rattle.zarrs_data_type.specs.ArrayData.{data_of};
     ghost use Rattle.zarrs_steps.specs.ArgumentRefusals.{part_refusal, region_refusal};
     ghost use Rattle.zarrs_steps.specs.Changes.{IsPresent};
-    ghost use Rattle.zarrs_steps.specs.Reach.{MayAskChunk};
     ghost use Rattle.zarrs_steps.specs.Refusals.{RefusesBy, key_refusal, refusal_of};
     ghost use Rattle.zarrs_steps.specs.Step.{RetrievesPart, RefusesRetrievePart};
     ghost use Rattle.zarrs_target.specs.States.{IsTarget, SameBox, StaysOutside};
     ghost use Rattle.zarrs_engine.specs.Into.{HasContent, RetrievesInto};
     ghost use Rattle.zarrs_engine.specs.PartialDecoders.{RefusesPartInto, part_into_refusal};
     ghost use Rattle.zarrs_engine.specs.PartialDecoders.{region_of_part};
-    ghost use Rattle.zarrs.specs.PartialEncoders.{layout_of_decoder, state_of_decoder};
+    ghost use Rattle.zarrs.specs.PartialEncoders.{MayDecodeAt, layout_of_decoder, state_of_decoder};
     ghost use Rattle.zarrs.specs.PartialEncoders.{store_of_decoder, indices_of_decoder};
 
     /// Returns the cells of a part of the chunk, in row-major order. The part is seen from the origin of the chunk. If the
@@ -107,8 +106,7 @@ impl<TStorage: ReadableStorageTraits> ArrayPartialDecoder<'_, TStorage> {
         chunk_subset: &R,
         options: &CodecOptions,
     ) -> Result<ArrayBytes<'static>, ArrayError>
-        requires { MayAskChunk (layout_of_decoder self.now) (indices_of_decoder self.now)
-            (store_of_decoder TStorage.state self.now) }
+        requires { MayDecodeAt TStorage.state (R.region chunk_subset.now) self.now }
         ensures cells { IfOk result (λ made. RetrievesPart (layout_of_decoder self.now)
             (indices_of_decoder self.now) (R.region chunk_subset.now) (data_of made)
             (store_of_decoder TStorage.state self.now)) }
@@ -136,8 +134,7 @@ impl<TStorage: ReadableStorageTraits> ArrayPartialDecoder<'_, TStorage> {
         target: &mut ArrayBytesDecodeIntoTarget<'_, '_, '_>,
         options: &CodecOptions,
     ) -> Result<(), ArrayError>
-        requires ask { MayAskChunk (layout_of_decoder self.now) (indices_of_decoder self.now)
-            (store_of_decoder TStorage.state self.now) }
+        requires ask { MayDecodeAt TStorage.state (R.region chunk_subset.now) self.now }
         requires target { IsTarget target.old }
         ensures target { IsTarget target.new }
         ensures same_bytes { target.new.bytes.ghost_name ≡ target.old.bytes.ghost_name }

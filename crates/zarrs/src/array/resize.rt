@@ -12,6 +12,7 @@ impl<TStorage: WritableStorageTraits> Array<TStorage> {
     ghost use Rattle.std.specs.Prelude.{◌≡◌, IfErr, OnErr, OnOk};
     ghost use Rattle.zarrs_chain.specs.Options.{stores_empty_chunks};
     ghost use Rattle.zarrs_array_metadata.specs.Changes.{with_shape};
+    ghost use Rattle.zarrs_steps.specs.Canon.{KeepsCanon};
     ghost use Rattle.zarrs_steps.specs.Cuts.{cut_chunks};
     ghost use Rattle.zarrs_steps.specs.Reach.{MayAskKept};
     ghost use Rattle.zarrs_steps.specs.Refusals.{refusal_of};
@@ -48,6 +49,8 @@ impl<TStorage: WritableStorageTraits> Array<TStorage> {
             (stores_empty_chunks options.now) (state_of_array TStorage.state self.old).shape
             shape.items (refusal_of e) (store_of_array TStorage.state self.old)
             (store_of_array TStorage.state self.new)) }
+        ensures canonical { KeepsCanon (layout_of_array self.old) (stores_empty_chunks options.now)
+            (store_of_array TStorage.state self.old) (store_of_array TStorage.state self.new) }
         ensures layout { layout_of_array self.new ≡ layout_of_array self.old }
         ensures untouched { OnErr result (KeepsArray self.old self.new) }
         ensures kept { KeepsAllButShape self.old self.new }

@@ -71,7 +71,7 @@ impl<TStorage> Array<TStorage> {
     ghost use Rattle.zarrs_array_metadata.specs.Changes.{reshaping, regridding};
     ghost use Rattle.zarrs.specs.Arrays.{layout_of_array, metadata_of_array};
     ghost use Rattle.zarrs.specs.Arrays.{KeepsArray, KeepsAllButGrid};
-    ghost use Rattle.zarrs.specs.Setters.{KeepsCells, Regrids, RefusesRegrid};
+    ghost use Rattle.zarrs.specs.Setters.{KeepsCells, KeepsDecoding, Regrids, RefusesRegrid};
 
     /// Gives the array this shape, as `set_shape` does.
     ///
@@ -85,6 +85,7 @@ impl<TStorage> Array<TStorage> {
         ensures untouched { OnErr result (KeepsArray self.old self.new) }
         ensures kept { KeepsAllButGrid self.old self.new }
         ensures content { KeepsCells (layout_of_array self.old) (layout_of_array self.new) }
+        ensures decodes { KeepsDecoding (layout_of_array self.old) (layout_of_array self.new) }
     {
         let grid = reshape(alloc, &mut self.metadata, shape)?;
         self.engine.set_chunk_grid(grid);
@@ -109,6 +110,8 @@ impl<TStorage> Array<TStorage> {
         ensures kept { IfOk result (λ array. KeepsAllButGrid self.old array.now) }
         ensures content { IfOk result
             (λ array. KeepsCells (layout_of_array self.old) (layout_of_array array.now)) }
+        ensures decodes { IfOk result
+            (λ array. KeepsDecoding (layout_of_array self.old) (layout_of_array array.now)) }
     {
         self.reshape(alloc, shape)?;
         Ok(self)
@@ -132,6 +135,7 @@ impl<TStorage> Array<TStorage> {
         ensures untouched { OnErr result (KeepsArray self.old self.new) }
         ensures kept { KeepsAllButGrid self.old self.new }
         ensures content { KeepsCells (layout_of_array self.old) (layout_of_array self.new) }
+        ensures decodes { KeepsDecoding (layout_of_array self.old) (layout_of_array self.new) }
     {
         let grid = regrid(alloc, &mut self.metadata, shape, chunk_grid_metadata)?;
         self.engine.set_chunk_grid(grid);
@@ -158,6 +162,8 @@ impl<TStorage> Array<TStorage> {
         ensures kept { IfOk result (λ array. KeepsAllButGrid self.old array.now) }
         ensures content { IfOk result
             (λ array. KeepsCells (layout_of_array self.old) (layout_of_array array.now)) }
+        ensures decodes { IfOk result
+            (λ array. KeepsDecoding (layout_of_array self.old) (layout_of_array array.now)) }
     {
         let chunk_grid_metadata = chunk_grid_metadata.into_field(alloc)?;
         self.regrid(alloc, shape, &chunk_grid_metadata)?;

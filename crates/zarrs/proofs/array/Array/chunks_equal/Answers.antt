@@ -2,7 +2,7 @@ use Rattle.std.proofs.Common.{IfOk, IfErr, subst}
 use Rattle.std.specs.Bool.{OnFalse, OnTrue}
 use Rattle.zarrs_subset.specs.Regions.{Box, positions}
 use Rattle.zarrs_steps.specs.Refusals.{refusal_of}
-use Rattle.zarrs_engine.specs.Comparisons.{DifferInChunk, HoldSameChunks, RefusesComparison}
+use Rattle.zarrs_engine.specs.Comparisons.{ComparesContent, DifferInChunk, HoldSameChunks, RefusesComparison}
 use Rattle.zarrs.specs.Arrays.{layout_of_array, store_of_array}
 use Rattle.zarrs.proofs.array.Array.chunks_equal.Goals as goal
 
@@ -19,6 +19,13 @@ returns-clause-different g c =
     let b = c.args.other.now in
     subst (λ (r : Box). IfOk c.chunks_equal.result (λ equal. OnFalse equal (DifferInChunk (layout_of_array a) (layout_of_array b) (store_of_array g.TStorage.ReadableStorageTraits.state a) (store_of_array g.TStorage2.ReadableStorageTraits.state b) (positions r))))
     c.in_ok-chunks.ensures c.chunks_equal.ensures.different
+
+pub returns-clause-content : goal.returns-clause-content
+returns-clause-content g c =
+    let a = c.args.self.now in
+    let b = c.args.other.now in
+    subst (λ (r : Box). IfOk c.chunks_equal.result (λ equal. ComparesContent (layout_of_array a) (layout_of_array b) (store_of_array g.TStorage.ReadableStorageTraits.state a) (store_of_array g.TStorage2.ReadableStorageTraits.state b) (positions r) equal))
+    c.in_ok-chunks.ensures c.chunks_equal.ensures.content
 
 pub returns-clause-refused : goal.returns-clause-refused
 returns-clause-refused g c =

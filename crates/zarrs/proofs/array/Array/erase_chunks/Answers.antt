@@ -22,3 +22,6 @@ returns-clause-refused g c =
 pub returns-in_default-clause-refused : goal.returns-in_default-clause-refused
 returns-in_default-clause-refused g c =
     erase_short (layout_of_array c.args.self.now) (g.R.ArraySubsetTraits.region c.args.chunks.now) (g.TStorage.ReadableStorageTraits.state c.args.self.now.engine.storage)
+
+pub returns-in_default-clause-canonical : goal.returns-in_default-clause-canonical
+returns-in_default-clause-canonical g c = λ off canonical. canonical

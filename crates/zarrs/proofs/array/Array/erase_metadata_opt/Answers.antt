@@ -1,6 +1,8 @@
 use Rattle.std.proofs.Common.{rules}
 use Rattle.zarrs_array_metadata.specs.Writing.{erasures}
 use Rattle.zarrs.specs.Arrays.{path_of_array, metadata_of_array, store_of_array}
+use Rattle.std.proofs.lemmas.Result.{on_ok_weaker}
+use Rattle.zarrs.proofs.Counts.{erasing}
 use Rattle.zarrs.proofs.Puts.{puts_short, some_erased}
 use Rattle.zarrs.proofs.array.Array.erase_metadata_opt.Goals as goal
 
@@ -8,3 +10,12 @@ pub returns-in_err-puts-clause-refused : goal.returns-in_err-puts-clause-refused
 returns-in_err-puts-clause-refused g c =
     let why = puts_short (erasures c.args.version (path_of_array c.args.self.now) (metadata_of_array c.args.self.now)) (store_of_array g.TStorage.ReadableStorageTraits.state c.args.self.now) (some_erased c.args.version (path_of_array c.args.self.now) (metadata_of_array c.args.self.now)) in
     search (rules, why)
+
+pub returns-clause-done : goal.returns-clause-done
+returns-clause-done g c = search (rules)
+
+pub returns-clause-count : goal.returns-clause-count
+returns-clause-count g c =
+    let state = g.TStorage.ReadableStorageTraits.state in
+    let array = c.args.self.now in
+    on_ok_weaker c.put_all.result (erasing c.args.version (path_of_array array) (metadata_of_array array) (store_of_array state array) (store_of_array state c.put_all.new.self)) (returns-clause-done g c)

@@ -4,7 +4,7 @@ use Rattle.zarrs_chunk_grid.specs.GridView.{configuration_of, array_extents_of}
 use Rattle.zarrs_array_metadata.proofs.Grids.{is_reshaped, grid_dimensions_are}
 use Rattle.zarrs.specs.Agreement.{meaning_of}
 use Rattle.zarrs.proofs.Layouts.{parts_are}
-use Rattle.zarrs.proofs.Regridded.{agrees_after, cells_after}
+use Rattle.zarrs.proofs.Regridded.{agrees_after, cells_after, decodes_after}
 use Rattle.zarrs.proofs.array.Array.reshape.Goals as goal
 
 pub set_chunk_grid-requires : goal.set_chunk_grid-requires
@@ -26,3 +26,9 @@ invariant_of-self-2 g c =
 
 pub returns-clause-content : goal.returns-clause-content
 returns-clause-content g c = cells_after c.in_ok-grid.grid c.args.self.now.engine c.set_chunk_grid.new.self c.set_chunk_grid.ensures
+
+pub returns-clause-decodes : goal.returns-clause-decodes
+returns-clause-decodes g c = decodes_after c.in_ok-grid.grid c.args.self.now.engine c.set_chunk_grid.new.self c.set_chunk_grid.ensures
+
+pub returns-in_err-grid-clause-decodes : goal.returns-in_err-grid-clause-decodes
+returns-in_err-grid-clause-decodes g c = λ state each. each

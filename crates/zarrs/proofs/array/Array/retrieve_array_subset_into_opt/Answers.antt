@@ -2,7 +2,7 @@ use Rattle.std.proofs.Common.{◌≡◌, OnErr, OnOk, IfErr, subst, sym}
 use Rattle.std.specs.Prelude.{IsSome}
 use Rattle.zarrs_subset.specs.Regions.{Box}
 use Rattle.zarrs_steps.specs.ChunkBoxes.{chunks_met}
-use Rattle.zarrs_steps.specs.Reach.{MayAskChunks}
+use Rattle.zarrs_steps.specs.Reach.{MayReadParts}
 use Rattle.zarrs_steps.specs.Refusals.{refusal_of}
 use Rattle.zarrs_engine.specs.Into.{HasContent, RefusesRetrieveInto, target_refusal}
 use Rattle.zarrs_target.proofs.Levels.{masked_keeps}
@@ -15,7 +15,7 @@ returns-in_err-array_subset-clause-outside g c = masked_keeps _ _ _ _ _ _ _
 pub retrieve_array_subset_into-requires-clause-ask : goal.retrieve_array_subset_into-requires-clause-ask
 retrieve_array_subset_into-requires-clause-ask g c =
     let layout = layout_of_array c.args.self.now in
-    subst (λ (b : Box). MayAskChunks layout (chunks_met layout.grid b) (store_of_array g.TStorage.ReadableStorageTraits.state c.args.self.now)) (sym c.in_ok-array_subset.ensures) c.requires.ask
+    subst (λ (b : Box). MayReadParts layout b (chunks_met layout.grid b) (store_of_array g.TStorage.ReadableStorageTraits.state c.args.self.now)) (sym c.in_ok-array_subset.ensures) c.requires.ask
 
 pub returns-clause-content : goal.returns-clause-content
 returns-clause-content g c =

@@ -5,10 +5,12 @@ use Rattle.zarrs_chain.specs.Options.{stores_empty_chunks}
 use Rattle.zarrs_steps.specs.Patches.{PatchesRegion, RefusesPatchRegion}
 use Rattle.zarrs_steps.specs.Step.{StoresRegion, RefusesStoreRegion}
 use Rattle.zarrs_steps.specs.Refusals.{refusal_of}
+use Rattle.zarrs_steps.specs.Canon.{KeepsCanon}
 use Rattle.zarrs_steps.specs.ChunkBoxes.{chunks_met}
 use Rattle.zarrs_steps.specs.Reach.{MayAskParts}
 use Rattle.zarrs_steps.specs.ArgumentRefusals.{region_refusal}
 use Rattle.zarrs.specs.Arrays.{layout_of_array, state_of_array}
+use Rattle.zarrs.specs.Outcomes.{SaysNothing}
 use Rattle.zarrs.proofs.Typed.{written_as}
 use Rattle.zarrs.proofs.array.Array.store_array_subset_opt.Goals as goal
 
@@ -30,13 +32,13 @@ returns g c =
           let stored = c.store_array_subset.ensures.whole off in
           let done = subst (λ (b : Box). OnOk c.store_array_subset.result (StoresRegion layout keep shape b held old new)) c.in_ok-array_subset.ensures stored.done in
           let refused = subst (λ (b : Box). IfErr c.store_array_subset.result (λ e. RefusesStoreRegion layout keep shape b held (refusal_of e) old new)) c.in_ok-array_subset.ensures stored.refused in
-          written_as serves gives (region_refusal layout shape region) g.TStorage.ReadableStorageTraits.state (λ d. StoresRegion layout keep shape region d) (λ d. RefusesStoreRegion layout keep shape region d) c.args.self.now _ c.store_array_subset.result held given served done refused
+          written_as serves gives (region_refusal layout shape region) g.TStorage.ReadableStorageTraits.state (λ d. StoresRegion layout keep shape region d) (λ d. RefusesStoreRegion layout keep shape region d) (KeepsCanon layout keep) c.args.self.now _ c.store_array_subset.result held given served done refused stored.canonical
           (record { parts = stored.parts; metadata = refl; codec_options = refl; codec_specific_options = refl; metadata_options = refl }));
       partly = (
           let stored = c.store_array_subset.ensures.partly in
           let done = subst (λ (b : Box). OnOk c.store_array_subset.result (PatchesRegion layout shape b held old new)) c.in_ok-array_subset.ensures stored.done in
           let refused = subst (λ (b : Box). IfErr c.store_array_subset.result (λ e. RefusesPatchRegion layout keep shape b held (refusal_of e) old new)) c.in_ok-array_subset.ensures stored.refused in
-          written_as serves gives (region_refusal layout shape region) g.TStorage.ReadableStorageTraits.state (λ d. PatchesRegion layout shape region d) (λ d. RefusesPatchRegion layout keep shape region d) c.args.self.now _ c.store_array_subset.result held given served done refused
+          written_as serves gives (region_refusal layout shape region) g.TStorage.ReadableStorageTraits.state (λ d. PatchesRegion layout shape region d) (λ d. RefusesPatchRegion layout keep shape region d) SaysNothing c.args.self.now _ c.store_array_subset.result held given served done refused tt
           (record { parts = stored.parts; metadata = refl; codec_options = refl; codec_specific_options = refl; metadata_options = refl }));
     }
 

@@ -1,6 +1,7 @@
 use Rattle.std.proofs.Common.{None, refl}
 use Rattle.zarrs_data_type.specs.ArrayData.{data_of}
 use Rattle.zarrs_chain.specs.Options.{stores_empty_chunks}
+use Rattle.zarrs_steps.specs.Canon.{KeepsCanon}
 use Rattle.zarrs_steps.specs.Step.{StoresChunk, RefusesStoreChunk}
 use Rattle.zarrs.specs.Arrays.{layout_of_array}
 use Rattle.zarrs.proofs.Typed.{written_as}
@@ -8,11 +9,13 @@ use Rattle.zarrs.proofs.array.Array.store_chunk_opt.Goals as goal
 
 pub returns : goal.returns
 returns g c =
-    let layout = layout_of_array c.args.self.now in
+    let array = c.args.self.now in
+    let layout = layout_of_array array in
     let keep = stores_empty_chunks c.args.options.now in
     let index = c.args.chunk_indices.now in
+    let held = data_of c.in_ok-chunk_data.chunk_data in
     let stored = c.store_chunk.ensures in
     written_as g.D.IntoArrayBytes.serves (g.D.IntoArrayBytes.gives c.args.chunk_data) None g.TStorage.ReadableStorageTraits.state
-    (λ held. StoresChunk layout keep index held) (λ held. RefusesStoreChunk layout keep index held) c.args.self.now _ c.store_chunk.result (data_of c.in_ok-chunk_data.chunk_data)
-    (rw c.data_type.ensures at c.in_ok-chunk_data.ensures.given) (rw c.data_type.ensures at c.in_ok-chunk_data.ensures.served) stored.done stored.refused
+    (λ d. StoresChunk layout keep index d) (λ d. RefusesStoreChunk layout keep index d) (KeepsCanon layout keep) array _ c.store_chunk.result held
+    (rw c.data_type.ensures at c.in_ok-chunk_data.ensures.given) (rw c.data_type.ensures at c.in_ok-chunk_data.ensures.served) stored.done stored.refused stored.canonical
     (record { parts = stored.parts; metadata = refl; codec_options = refl; codec_specific_options = refl; metadata_options = refl })

@@ -3,6 +3,7 @@ use Rattle.zarrs_subset.specs.Regions.{Box}
 use Rattle.zarrs_data_type.specs.ArrayData.{data_of}
 use Rattle.zarrs_chain.specs.Options.{stores_empty_chunks}
 use Rattle.zarrs_chunk_grid.specs.Grids.{box_at}
+use Rattle.zarrs_steps.specs.Canon.{KeepsCanon}
 use Rattle.zarrs_steps.specs.ChunkBoxes.{part_box}
 use Rattle.zarrs_steps.specs.Patches.{PatchesPart, RefusesPatchPart}
 use Rattle.zarrs_steps.specs.Reach.{MayAskParts}
@@ -10,6 +11,7 @@ use Rattle.zarrs_steps.specs.Step.{StoresPart, RefusesStorePart}
 use Rattle.zarrs_steps.specs.Refusals.{refusal_of}
 use Rattle.zarrs.specs.Typed.{place_refusal}
 use Rattle.zarrs.specs.Arrays.{layout_of_array}
+use Rattle.zarrs.specs.Outcomes.{SaysNothing}
 use Rattle.zarrs.proofs.Typed.{written_as}
 use Rattle.zarrs.proofs.array.Array.store_chunk_subset_opt.Goals as goal
 
@@ -31,13 +33,13 @@ returns g c =
           let stored = c.store_chunk_subset.ensures.whole off in
           let done = subst (λ (b : Box). OnOk c.store_chunk_subset.result (StoresPart layout keep index b held old new)) c.in_ok-chunk_subset.ensures stored.done in
           let refused = subst (λ (b : Box). IfErr c.store_chunk_subset.result (λ e. RefusesStorePart layout keep index b held (refusal_of e) old new)) c.in_ok-chunk_subset.ensures stored.refused in
-          written_as serves gives (place_refusal layout index region) g.TStorage.ReadableStorageTraits.state (λ d. StoresPart layout keep index region d) (λ d. RefusesStorePart layout keep index region d) c.args.self.now _ c.store_chunk_subset.result held given served done refused
+          written_as serves gives (place_refusal layout index region) g.TStorage.ReadableStorageTraits.state (λ d. StoresPart layout keep index region d) (λ d. RefusesStorePart layout keep index region d) (KeepsCanon layout keep) c.args.self.now _ c.store_chunk_subset.result held given served done refused stored.canonical
           (record { parts = stored.parts; metadata = refl; codec_options = refl; codec_specific_options = refl; metadata_options = refl }));
       partly = (
           let stored = c.store_chunk_subset.ensures.partly in
           let done = subst (λ (b : Box). OnOk c.store_chunk_subset.result (PatchesPart layout index b held old new)) c.in_ok-chunk_subset.ensures stored.done in
           let refused = subst (λ (b : Box). IfErr c.store_chunk_subset.result (λ e. RefusesPatchPart layout keep index b held (refusal_of e) old new)) c.in_ok-chunk_subset.ensures stored.refused in
-          written_as serves gives (place_refusal layout index region) g.TStorage.ReadableStorageTraits.state (λ d. PatchesPart layout index region d) (λ d. RefusesPatchPart layout keep index region d) c.args.self.now _ c.store_chunk_subset.result held given served done refused
+          written_as serves gives (place_refusal layout index region) g.TStorage.ReadableStorageTraits.state (λ d. PatchesPart layout index region d) (λ d. RefusesPatchPart layout keep index region d) SaysNothing c.args.self.now _ c.store_chunk_subset.result held given served done refused tt
           (record { parts = stored.parts; metadata = refl; codec_options = refl; codec_specific_options = refl; metadata_options = refl }));
     }
 

@@ -2,6 +2,7 @@ use Rattle.std.proofs.Common.{OnOk, IfErr, refl, subst}
 use Rattle.zarrs_subset.specs.Regions.{Box}
 use Rattle.zarrs_data_type.specs.ArrayData.{data_of}
 use Rattle.zarrs_chain.specs.Options.{stores_empty_chunks}
+use Rattle.zarrs_steps.specs.Canon.{KeepsCanon}
 use Rattle.zarrs_steps.specs.Step.{StoresChunks, RefusesStoreChunks}
 use Rattle.zarrs_steps.specs.Refusals.{refusal_of}
 use Rattle.zarrs.specs.Typed.{number_refusal}
@@ -21,6 +22,6 @@ returns g c =
     let done = subst (λ (b : Box). OnOk c.store_chunks.result (StoresChunks layout keep b held old new)) c.in_ok-chunks.ensures stored.done in
     let refused = subst (λ (b : Box). IfErr c.store_chunks.result (λ e. RefusesStoreChunks layout keep b held (refusal_of e) old new)) c.in_ok-chunks.ensures stored.refused in
     written_as g.D.IntoArrayBytes.serves (g.D.IntoArrayBytes.gives c.args.chunks_data) (number_refusal region) g.TStorage.ReadableStorageTraits.state
-    (λ held. StoresChunks layout keep region held) (λ held. RefusesStoreChunks layout keep region held) c.args.self.now _ c.store_chunks.result held
-    (rw c.data_type.ensures at c.in-Ok.ensures.given) (rw c.data_type.ensures at c.in-Ok.ensures.served) done refused
+    (λ d. StoresChunks layout keep region d) (λ d. RefusesStoreChunks layout keep region d) (KeepsCanon layout keep) c.args.self.now _ c.store_chunks.result held
+    (rw c.data_type.ensures at c.in-Ok.ensures.given) (rw c.data_type.ensures at c.in-Ok.ensures.served) done refused stored.canonical
     (record { parts = stored.parts; metadata = refl; codec_options = refl; codec_specific_options = refl; metadata_options = refl })

@@ -1,0 +1,13 @@
+use Rattle.std.proofs.Common.{inl, rules}
+use Rattle.zarrs_steps.specs.Refusals as refusal
+use Rattle.zarrs_steps.specs.Step.{RefusesRetrievePart}
+use Rattle.zarrs.specs.PartialEncoders.{indices_of_decoder, layout_of_decoder, store_of_decoder}
+use Rattle.zarrs.proofs.array.part_reads.ArrayPartialDecoder.partial_decode.Goals as goal
+
+pub returns-in_err-chunk_subset-clause-refused : goal.returns-in_err-chunk_subset-clause-refused
+returns-in_err-chunk_subset-clause-refused g c =
+    let layout = layout_of_decoder c.args.self.now in
+    let index = indices_of_decoder c.args.self.now in
+    let part = g.R.ArraySubsetTraits.region c.args.chunk_subset.now in
+    let why : RefusesRetrievePart layout index part refusal.out_of_memory (store_of_decoder g.TStorage.ReadableStorageTraits.state c.args.self.now) = record { whole = λ _. inl tt; proper = λ _. inl tt } in
+    search (rules, why)
