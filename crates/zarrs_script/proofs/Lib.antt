@@ -3,10 +3,12 @@ pub mod Split
 pub mod Lists
 pub mod Regions
 pub mod Reshaped
-pub mod Lines
+pub mod Checks
 pub mod Bytes
 pub mod CellBytes
 pub mod Printing
 pub mod Texts
 pub mod Transcripts
+pub mod Contents
+pub mod Lines
 pub mod NewArrays

@@ -1,7 +1,7 @@
 -- How transcripts go on.
 use Rattle.std.proofs.Common.{◌≡◌, ℕ, ◌||◌, Bool, true, false, List, [], ◌∷◌, ◌++◌, map, length, codes, Option, Some, None}
 use Rattle.std.proofs.Common.{IsSome, option_map, refl, sym, ap, subst, ◌∙◌, append_assoc}
-use Rattle.std.proofs.lemmas.List.{append-nil, map_push}
+use Rattle.std.proofs.lemmas.List.{append-nil}
 use Rattle.zarrs_data_type.specs.Kind.{Kind}
 use Rattle.zarrs_data_type.specs.Cell.{Cell}
 use Rattle.zarrs_data_type.specs.ArrayData.{ArrayData, data_of}
@@ -30,7 +30,7 @@ use Rattle.zarrs_script.specs.CellTexts.{cell_text}
 use Rattle.zarrs_script.specs.Script.{Order}
 use Rattle.zarrs_script.specs.Parsed.{order_of_call, order_of_command}
 use Rattle.zarrs_script.specs.Transcript.{Opened, Session, Outcome, Opens, Calls, Does, Transcript, line, list_text}
-use Rattle.zarrs_script.specs.Transcript.{keys_text, data_text, reply_text, is_refusal}
+use Rattle.zarrs_script.specs.Transcript.{ListsContent, data_text, reply_text, is_refusal}
 use Rattle.zarrs_script.specs.Sessions.{Follows, session_of, opened}
 
 -- the session of these parts
@@ -157,14 +157,14 @@ or_false false = refl
 one_order : (before : Session) (order : Order) (outcome : Outcome) → Does before order outcome → Transcript before (order ∷ []) outcome
 one_order before order outcome does = (outcome, does, record { text = []; refused = false; after = outcome.after }, refl, rw (append-nil outcome.text, or_false outcome.refused) refl)
 
--- one more command
-pub one_command : (before middle after : Session) (commands : List Command) (command : Command) (out text : List ℕ) (refused again : Bool)
-    → Follows before (map order_of_command commands) out refused middle → Does middle (order_of_command command) (record { text = text; refused = again; after = after })
-    → Follows before (map order_of_command (commands ++ command ∷ [])) (out ++ text) (refused || again) after
-one_command before middle after commands command out text refused again so_far here =
+-- one more order
+pub one_more : (before middle after : Session) (orders : List Order) (order : Order) (out text : List ℕ) (refused again : Bool)
+    → Follows before orders out refused middle → Does middle order (record { text = text; refused = again; after = after })
+    → Follows before (orders ++ order ∷ []) (out ++ text) (refused || again) after
+one_more before middle after orders order out text refused again so_far here =
     let first : Outcome = record { text = out; refused = refused; after = middle } in
     let second : Outcome = record { text = text; refused = again; after = after } in
-    rw (map_push order_of_command commands command) (transcript_append before (map order_of_command commands) (order_of_command command ∷ []) first second so_far (one_order middle (order_of_command command) second here))
+    transcript_append before orders (order ∷ []) first second so_far (one_order middle order second here)
 
 -- a call without an array
 pub call_skipped : (array : Option OpenArray) (command : Command) (asked : Call) (text : List ℕ) → None ≡ array → command ≡ command_of.Call asked → text ≡ line (codes "skipped")
@@ -177,9 +177,9 @@ pub keys_skipped : (array : Option OpenArray) (command : Command) (text : List �
 keys_skipped array command text absent is prints = rw (← absent, is, prints) refl
 
 -- a `keys` line
-pub keys_listed : (array : OpenArray) (before : Option OpenArray) (command : Command) (text : List ℕ) → Some array ≡ before → command ≡ command_of.Keys → text ≡ keys_text (opened array).state.store.values
+pub keys_listed : (array : OpenArray) (before : Option OpenArray) (command : Command) (text : List ℕ) → Some array ≡ before → command ≡ command_of.Keys → ListsContent (opened array) text
     → Does (session_of before) (order_of_command command) (record { text = text; refused = false; after = Some (opened array) })
-keys_listed array before command text old is prints = rw (← old, is, prints) refl
+keys_listed array before command text old is lists = rw (← old, is) (record { lists = lists; refused = refl; after = refl })
 
 -- a `meta` line without an array
 pub meta_skipped : (array : Option OpenArray) (command : Command) (text : List ℕ) → None ≡ array → command ≡ command_of.Meta → text ≡ line (codes "skipped")

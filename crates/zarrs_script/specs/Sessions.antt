@@ -9,7 +9,7 @@ use Rattle.zarrs_script.specs.declared.command.Creation.{Creation}
 use Rattle.zarrs_script.specs.declared.array.OpenArray.{OpenArray}
 use Rattle.zarrs_script.specs.declared.error.CreationError.{CreationError}
 use Rattle.zarrs_script.specs.declared.error.CreationError.TheVariants.{NoGrid, OutOfMemory}
-use Rattle.zarrs_script.specs.Script.{Order}
+use Rattle.zarrs_script.specs.Script.{Order, orders_of}
 use Rattle.zarrs_script.specs.Transcript.{Opened, Session, Transcript, MakesGrid, SaysItsParts, parts_of_line, metadata_for, new_array}
 
 -- what an open array is
@@ -34,13 +34,17 @@ HasNoArray creation OutOfMemory = Unit {0}
 -- the metadata of a new array says the parts of the line
 abbrev pub Describes : Creation → Result ArrayMetadataV3 CreationError → Type 0
 Describes creation (Ok m) =
-    MakesGrid creation.shape.items creation.chunk_shape.items × SaysItsParts creation.shape.items creation.chunk_shape.items creation.cell_type creation.fill.items × (document_view m ≡ metadata_for creation.shape.items creation.chunk_shape.items creation.cell_type creation.fill.items)
+    MakesGrid creation.shape.items creation.chunk_shape.items
+    × SaysItsParts creation.shape.items creation.chunk_shape.items creation.cell_type creation.fill.items
+    × (document_view m ≡ metadata_for creation.shape.items creation.chunk_shape.items creation.cell_type creation.fill.items)
 Describes creation (Err error) = HasNoArray creation error
 
 -- a new array is what the line says
 abbrev pub Creates : Creation → Result OpenArray CreationError → Type 0
 Creates creation (Ok array) =
-    MakesGrid creation.shape.items creation.chunk_shape.items × SaysItsParts creation.shape.items creation.chunk_shape.items creation.cell_type creation.fill.items × (opened array ≡ new_array creation.shape.items creation.chunk_shape.items creation.cell_type creation.fill.items)
+    MakesGrid creation.shape.items creation.chunk_shape.items
+    × SaysItsParts creation.shape.items creation.chunk_shape.items creation.cell_type creation.fill.items
+    × (opened array ≡ new_array creation.shape.items creation.chunk_shape.items creation.cell_type creation.fill.items)
 Creates creation (Err error) = HasNoArray creation error
 
 -- the parts of a new array are those of the line
@@ -58,3 +62,7 @@ Puts old new pending left IsSuch = (text : List ℕ) × (written : List ℕ) × 
 -- the orders were done, from one session to the next
 abbrev pub Follows : Session → List Order → List ℕ → Bool → Session → Type 0
 Follows before orders text refused after = Transcript before orders (record { text = text; refused = refused; after = after })
+
+-- the orders of a script were done, from a session with no array
+abbrev pub HasRun : List ℕ → List ℕ → Bool → Type 0
+HasRun script text refused = (orders : List Order) × (orders_of script ≡ Ok orders) × (after : Session) × Follows None orders text refused after

@@ -15,11 +15,14 @@ use Rattle.zarrs_data_type.specs.ArrayData.{ArrayData, data_of}
 use Rattle.zarrs_data_type.specs.Cells.{cells}
 use Rattle.zarrs_codec_leaf.specs.Bytes.{bytes_meaning}
 use Rattle.zarrs_codec_array.specs.Arrays.{same_array}
-use Rattle.zarrs_codec.specs.Chains.{whole_chunk}
+use Rattle.zarrs_codec.specs.Chains.{whole_chunk, with_places}
 use Rattle.zarrs_codec.specs.Through.{through_all}
+use Rattle.zarrs_parts.specs.Places.{cell_places}
 use Rattle.zarrs_steps.specs.declared.call.Call.{Call}
 use Rattle.zarrs_steps.specs.declared.call.Reply.{Reply}
 use Rattle.zarrs_steps.specs.declared.call.Reply.TheVariants.{Done, Compacted, Cells, MaybeCells, Refused}
+use Rattle.zarrs_steps.specs.Canon.{IsCanonicalMap}
+use Rattle.zarrs_steps.specs.Content.{value_at, content}
 use Rattle.zarrs_steps.specs.Layout.{Layout, layout_at, ArrayState}
 use Rattle.zarrs_steps.specs.Refusals.{refusal_of, refusal_number}
 use Rattle.zarrs_steps.specs.Step.{Step}
@@ -56,7 +59,8 @@ list_text (text ∷ texts) = join_with_byte 44 (text ∷ texts)
 
 -- the line of the cells that the data stands for
 abbrev pub data_text : CellType → ArrayData → Option (List ℕ)
-data_text cell_type held = option_map (λ given. line (list_text (map (cell_text cell_type) given))) (cells (kind_of_cells cell_type) held)
+data_text cell_type held =
+    option_map (λ given. line (list_text (map (cell_text cell_type) given))) (cells (kind_of_cells cell_type) held)
 
 -- the line of a reply; of data there is one if it stands for cells; no line asks for a compaction
 abbrev pub reply_text : CellType → Reply → Option (List ℕ)
@@ -84,9 +88,16 @@ abbrev pub lines_of_keys : Values → List (List ℕ) → List ℕ
 lines_of_keys values [] = line (codes "none")
 lines_of_keys values (key ∷ keys) = flat_map (key_text values) (key ∷ keys)
 
--- the keys that are present, in ascending order of their bytes
+-- the keys of a map, in ascending order of their bytes
 abbrev pub keys_text : Values → List ℕ
 keys_text values = lines_of_keys values (finite.keys values)
+
+-- The text lists what an array holds, a function from positions to cells: a line for each chunk whose box has a cell other
+-- than fill, with its key and the bytes of its cells.
+abbrev pub ListsContent : Opened → List ℕ → Type 0
+ListsContent array text =
+    ∥ ((values : Values) × IsCanonicalMap array.layout (content array.layout (value_at array.state.store)) values
+    × (text ≡ keys_text values)) ∥₁
 
 -- what one line did: its text, whether it holds a refusal, and the session after it
 pub record Outcome : Type 0 where
@@ -103,7 +114,7 @@ pub record MakesGrid (shape chunk_shape : List ℕ) : Type 0 where
 abbrev pub layout_for : List ℕ → List ℕ → CellType → List ℕ → Layout
 layout_for shape chunk_shape cell_type fill =
     layout_at (grid_of (regular chunk_shape) shape) (codes "/") (default_key Slash)
-    (through_all true same_array (whole_chunk bytes_meaning)) (kind_of_cells cell_type) fill
+    (through_all true same_array (with_places cell_places (whole_chunk bytes_meaning))) (kind_of_cells cell_type) fill
 
 -- the parts of a new array
 abbrev pub parts_of_line : List ℕ → List ℕ → CellType → List ℕ → Meaning
@@ -134,7 +145,8 @@ SaysItsParts shape chunk_shape cell_type fill =
 -- A new array is open, or it is refused: E18 if the chunk's extents make no grid of the shape, E26 if out of memory.
 abbrev pub Opens : List ℕ → List ℕ → CellType → List ℕ → Outcome → Type 0
 Opens shape chunk_shape cell_type fill outcome =
-    (MakesGrid shape chunk_shape × SaysItsParts shape chunk_shape cell_type fill × (outcome ≡ record { text = line (codes "ok"); refused = false; after = Some (new_array shape chunk_shape cell_type fill) }))
+    (MakesGrid shape chunk_shape × SaysItsParts shape chunk_shape cell_type fill
+    × (outcome ≡ record { text = line (codes "ok"); refused = false; after = Some (new_array shape chunk_shape cell_type fill) }))
     ⊎ ((MakesGrid shape chunk_shape → ⊥) × (outcome ≡ record { text = refusal 18; refused = true; after = None }))
     ⊎ (outcome ≡ record { text = refusal 26; refused = true; after = None })
 
@@ -153,12 +165,18 @@ pub record Calls (order : Order) (before : Opened) (outcome : Outcome) : Type 0 
   pub refused : outcome.refused ≡ is_refusal reply
   pub after : outcome.after ≡ Some (opened_at state before)
 
+-- A `keys` line lists what the array holds, and leaves it.
+pub record Lists (array : Opened) (outcome : Outcome) : Type 0 where
+  pub lists : ListsContent array outcome.text
+  pub refused : outcome.refused ≡ false
+  pub after : outcome.after ≡ Some array
+
 -- what a line may do
 abbrev pub Does : Session → Order → Outcome → Type 0
 Does before (Array shape chunk_shape cell_type fill) outcome = Opens shape chunk_shape cell_type fill outcome
 -- without an open array nothing is done
 Does None order outcome = outcome ≡ record { text = line (codes "skipped"); refused = false; after = None }
-Does (Some array) Keys outcome = outcome ≡ record { text = keys_text array.state.store.values; refused = false; after = Some array }
+Does (Some array) Keys outcome = Lists array outcome
 Does (Some array) Meta outcome = outcome ≡ record { text = line (text_of_metadata array.metadata); refused = false; after = Some array }
 Does (Some array) order outcome = Calls order array outcome
 

@@ -3,14 +3,17 @@ ghost use Rattle.std.specs.Prelude.{◌≡◌, true, false};
 ghost use Rattle.serde_json.specs.Written.{has_float};
 ghost use Rattle.zarrs_document_v2.specs.View.{data_of_metadata};
 ghost use Rattle.zarrs_data_type.specs.Same.{kind_eq};
-ghost use Rattle.zarrs.specs.Arrays.{layout_of_array, metadata_of_array};
+ghost use Rattle.zarrs_storage.specs.Memory.{open_state};
+ghost use Rattle.zarrs_steps.specs.Canon.{IsCanonical, HasChunksAlone};
+ghost use Rattle.zarrs_steps.specs.Content.{value_at};
+ghost use Rattle.zarrs.specs.Arrays.{layout_of_array, metadata_of_array, store_of_array};
 ghost use Rattle.zarrs_script_metadata.specs.CellTypes.{kind_of_cells};
 
 use zarrs::Array;
 use zarrs_script_metadata::CellType;
 use zarrs_storage::MemoryStore;
 
-/// The open array.
+/// The open array. Its store has what the array holds, and no other key.
 #[derive(Drop)]
 pub struct OpenArray {
     /// The type of its cells.
@@ -19,4 +22,7 @@ pub struct OpenArray {
     pub array: Array<MemoryStore>,
     ghost typed: { kind_eq (layout_of_array array).kind (kind_of_cells cell_type) ≡ true },
     ghost plain: { has_float (data_of_metadata (metadata_of_array array)) ≡ false },
+    ghost canonical: { ∥ IsCanonical (layout_of_array array)
+        (value_at (store_of_array open_state array)) ∥₁ },
+    ghost alone: { HasChunksAlone (layout_of_array array) (store_of_array open_state array) },
 }

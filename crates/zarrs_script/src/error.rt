@@ -1,7 +1,6 @@
 //! What parsing, creating and running refuse.
 ghost use Rattle.std.specs.Prelude.{◌≡◌};
 ghost use Rattle.zarrs_script.specs.declared.error.ParseError.TheVariants as parse;
-ghost use Rattle.zarrs_script.specs.declared.error.ScriptError.TheVariants as script;
 ghost use Rattle.zarrs_script.specs.declared.error.CreationError.TheVariants as creation;
 
 use std::alloc::{AllocError, AllocFailed};
@@ -14,17 +13,6 @@ pub enum ParseError {
     /// The line is not a command.
     #[error("not a command")]
     NotACommand,
-    /// Out of memory.
-    #[error("out of memory")]
-    OutOfMemory,
-}
-
-/// Why a script is not run.
-#[derive(Clone, Copy, Debug, Drop, PartialEq, Eq, Error)]
-pub enum ScriptError {
-    /// The number of the first line that is not a command, from 1.
-    #[error("line {0}: not a command")]
-    NotACommand(u64),
     /// Out of memory.
     #[error("out of memory")]
     OutOfMemory,
@@ -58,22 +46,6 @@ impl<T: Drop> From<AllocFailed<T>> for ParseError {
 
     fn from(_error: AllocFailed<T>) -> ParseError {
         ParseError::OutOfMemory
-    }
-}
-
-impl From<AllocError> for ScriptError {
-    ghost from_gives = { λ _ e. e ≡ script.OutOfMemory };
-
-    fn from(_error: AllocError) -> ScriptError {
-        ScriptError::OutOfMemory
-    }
-}
-
-impl<T: Drop> From<AllocFailed<T>> for ScriptError {
-    ghost from_gives = { λ _ e. e ≡ script.OutOfMemory };
-
-    fn from(_error: AllocFailed<T>) -> ScriptError {
-        ScriptError::OutOfMemory
     }
 }
 

@@ -3,6 +3,7 @@
 #![tactic(auto)]
 
 mod array;
+mod check;
 mod command;
 mod create;
 mod error;

@@ -1,5 +1,5 @@
-//! Reads the commands of a script.
-ghost use Rattle.std.specs.Prelude.{◌≡◌, ◌==◌, ◌++◌, map, position, IfOk, OnOk, IsSome};
+//! Reads the commands of a script, one line at a time.
+ghost use Rattle.std.specs.Prelude.{◌≡◌, ◌==◌, ◌∷◌, ◌++◌, position, IfOk, OnOk, IsSome};
 ghost use Rattle.std.specs.List.{slice_split};
 ghost use Rattle.zarrs_subset.specs.Regions.{box_of};
 ghost use Rattle.zarrs_data_type.specs.Cell.{fill_cell};
@@ -10,12 +10,12 @@ ghost use Rattle.zarrs_script.specs.CellTexts.{positive, negative, unsigned_cell
 ghost use Rattle.zarrs_script.specs.Script.{verb_of, array_order, chunk_order, put_order};
 ghost use Rattle.zarrs_script.specs.Script.{get_order, one_list, keys_order, meta_order};
 ghost use Rattle.zarrs_script.specs.Script.{verb_order};
-ghost use Rattle.zarrs_script.specs.Script.{order_of, type_after, is_skipped, orders_of};
-ghost use Rattle.zarrs_script.specs.Parsed.{Gives, Grows, words_in, TakesWord, TakesLastWord};
-ghost use Rattle.zarrs_script.specs.Parsed.{order_of_command, Parses};
+ghost use Rattle.zarrs_script.specs.Script.{order_of, type_after, is_skipped};
+ghost use Rattle.zarrs_script.specs.Parsed.{Gives, Grows, words_in, lines_in};
+ghost use Rattle.zarrs_script.specs.Parsed.{TakesWord, TakesLastWord, order_of_command};
 
 use crate::command::{Command, Creation, Verb};
-use crate::error::{ParseError, ScriptError};
+use crate::error::ParseError;
 use std::alloc::{AllocError, Global};
 use std::borrow::CowSlice;
 use zarrs_data_type::ArrayBytes;
@@ -23,8 +23,9 @@ use zarrs_engine::Call;
 use zarrs_script_metadata::CellType;
 use zarrs_subset::ArraySubset;
 
+/// The verb of this name.
 #[tactic(auto, unfolding(crate::specs::Script::verb_of))]
-fn verb_of(word: &[u8]) -> Option<Verb>
+pub fn verb_of(word: &[u8]) -> Option<Verb>
     ensures { result ≡ verb_of word.now }
 {
     if word == b"array".as_slice() {
@@ -51,7 +52,7 @@ fn verb_of(word: &[u8]) -> Option<Verb>
 }
 
 /// One decimal digit or more, of a number below 2^64.
-fn number_of(word: &[u8]) -> Option<u64>
+pub fn number_of(word: &[u8]) -> Option<u64>
     ensures { result ≡ number_of word.now }
 {
     if word.is_empty() {
@@ -205,7 +206,10 @@ fn space_in(text: &[u8]) -> Option<usize>
 }
 
 /// The first of the words, which are separated by one space, and the others if there are any.
-fn next_word(words: Option<&[u8]>) -> Result<(&[u8], Option<&[u8]>), ParseError>
+///
+/// # Errors
+/// `NotACommand` if there is no word.
+pub fn next_word(words: Option<&[u8]>) -> Result<(&[u8], Option<&[u8]>), ParseError>
     ensures { TakesWord words.entry result }
 {
     let Some(text) = words else {
@@ -218,7 +222,10 @@ fn next_word(words: Option<&[u8]>) -> Result<(&[u8], Option<&[u8]>), ParseError>
 }
 
 /// The only word that is left.
-fn last_word(words: Option<&[u8]>) -> Result<&[u8], ParseError>
+///
+/// # Errors
+/// `NotACommand` if there is no word, or more than one.
+pub fn last_word(words: Option<&[u8]>) -> Result<&[u8], ParseError>
     ensures { TakesLastWord words.entry result }
 {
     match next_word(words)? {
@@ -348,8 +355,15 @@ fn verb_command(
 }
 
 /// The command of a line, if the latest array before it has the known type.
+///
+/// # Errors
+/// `NotACommand` for a line that is no command. `OutOfMemory` may come at any time.
 #[tactic(auto, unfolding(crate::specs::Script::order_of))]
-fn command_of(alloc: Global, known: Option<CellType>, line: &[u8]) -> Result<Command, ParseError>
+pub fn command_of(
+    alloc: Global,
+    known: Option<CellType>,
+    line: &[u8],
+) -> Result<Command, ParseError>
     ensures { Gives order_of_command result (order_of known line.now) }
 {
     let (first, words) = next_word(Some(line))?;
@@ -357,7 +371,8 @@ fn command_of(alloc: Global, known: Option<CellType>, line: &[u8]) -> Result<Com
     verb_command(alloc, verb, known, words)
 }
 
-fn type_after(known: Option<CellType>, command: &Command) -> Option<CellType>
+/// The type of the latest array after this command.
+pub fn type_after(known: Option<CellType>, command: &Command) -> Option<CellType>
     ensures { result ≡ type_after known (order_of_command command.now) }
 {
     match command {
@@ -366,39 +381,29 @@ fn type_after(known: Option<CellType>, command: &Command) -> Option<CellType>
     }
 }
 
-fn is_skipped(line: &[u8]) -> bool
+/// Where the first line ends.
+fn line_end_in(text: &[u8]) -> Option<usize>
+    ensures { result ≡ position (λ b. b == 10) text.now }
+{
+    text.iter().position(|byte| *byte == b'\n')
+}
+
+/// The first of the lines, and the others if there are any.
+pub fn next_line(text: &[u8]) -> (&[u8], Option<&[u8]>)
+    ensures { slice_split (λ b. b == 10) text.now ≡ result.0.now ∷ lines_in result.1 }
+{
+    match line_end_in(text) {
+        Some(place) => (&text[..place], Some(&text[place + 1..])),
+        None => (text, None),
+    }
+}
+
+/// Whether the line is empty, or begins with `#`.
+pub fn is_skipped(line: &[u8]) -> bool
     ensures { result ≡ is_skipped line.now }
 {
     match line {
         [] => true,
         [first, ..] => *first == b'#',
     }
-}
-
-/// The commands of a script. The whole script is read before any is run.
-///
-/// # Errors
-/// `NotACommand` for the first line that is no command. `OutOfMemory` may come at any time.
-pub fn commands_of(alloc: Global, script: &[u8]) -> Result<Vec<Command>, ScriptError>
-    ensures { Parses (λ commands. map order_of_command commands.items) result
-        (orders_of script.now) }
-{
-    let mut commands = Vec::new(alloc);
-    let mut known = None;
-    let mut number = 0u64;
-    for line in script.split(|byte| *byte == b'\n') {
-        number += 1;
-        if is_skipped(line) {
-            continue;
-        }
-        match command_of(alloc, known, line) {
-            Ok(command) => {
-                known = type_after(known, &command);
-                commands.push(command)?;
-            }
-            Err(ParseError::NotACommand) => return Err(ScriptError::NotACommand(number)),
-            Err(ParseError::OutOfMemory) => return Err(ScriptError::OutOfMemory),
-        }
-    }
-    Ok(commands)
 }

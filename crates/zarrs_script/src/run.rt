@@ -1,19 +1,23 @@
 //! `run_script`: runs a script, and writes what it prints.
-ghost use Rattle.std.specs.Prelude.{◌≡◌, IfOk, ◌⊎◌, None, Some, map};
+ghost use Rattle.std.specs.Prelude.{◌≡◌, IfOk, OnOk, ◌⊎◌, None, Some};
+ghost use Rattle.std.specs.Result.{result_err};
 ghost use Rattle.zarrs_script.specs.Parsed.{order_of_call, order_of_command};
-ghost use Rattle.zarrs_script.specs.Transcript.{Session, Opens, Does};
+ghost use Rattle.zarrs_script.specs.Script.{orders_of};
+ghost use Rattle.zarrs_script.specs.Transcript.{Opens, ListsContent, Does};
 ghost use Rattle.zarrs_script.specs.Answers.{IsAnswer, ReadsAll, WritesText};
-ghost use Rattle.zarrs_script.specs.Sessions.{opened, session_of, Prints, Puts, Follows};
+ghost use Rattle.zarrs_script.specs.Sessions.{opened, session_of, Prints, Puts, HasRun};
 
 use crate::array::OpenArray;
+use crate::check::first_bad_line;
 use crate::command::{Command, Creation};
-use crate::error::{CreationError, ScriptError, Stopped};
-use crate::parse::commands_of;
+use crate::error::{CreationError, ParseError, Stopped};
+use crate::parse::{command_of, is_skipped, next_line, type_after};
 use crate::print::{
     complaint, put_keys, put_line, put_metadata, put_refusal, put_reply, put_skipped, write_pending,
 };
 use std::alloc::{AllocError, Global};
 use std::io::{Read, Write};
+use zarrs::laws::an_array_is_its_metadata;
 use zarrs_codec::CodecOptions;
 use zarrs_engine::Call;
 
@@ -63,6 +67,7 @@ fn make_call<W: Write>(
           after = Some (opened array.new);
         }))) }
 {
+    an_array_is_its_metadata(&array.array);
     let options = CodecOptions::default();
     let mut replies = array.array.replay(alloc, &[call], &options)?;
     let Some(reply) = replies.pop() else {
@@ -70,6 +75,21 @@ fn make_call<W: Write>(
     };
     let refused = put_reply(writer, out, array.cell_type, &reply)?;
     Ok(refused)
+}
+
+/// Prints the key of each chunk that has a cell other than fill, in ascending order, and the bytes of its cells, or that
+/// there is none. These are the keys of the store and their values.
+fn put_content<W: Write>(
+    alloc: Global,
+    writer: &mut W,
+    out: &mut Vec<u8>,
+    array: &OpenArray,
+) -> Result<(), Stopped>
+    ensures { OnOk result (Puts (W.contents writer.old) (W.contents writer.new)
+        out.old.items out.new.items (ListsContent (opened array.now))) }
+{
+    an_array_is_its_metadata(&array.array);
+    put_keys(alloc, writer, out, array.array.storage())
 }
 
 /// Runs a command, and tells whether it was refused.
@@ -96,7 +116,7 @@ fn run_command<W: Write>(
         }
         (Command::Call(call), Some(array)) => make_call(alloc, writer, out, array, call),
         (Command::Keys, Some(array)) => {
-            put_keys(alloc, writer, out, array.array.storage())?;
+            put_content(alloc, writer, out, array)?;
             Ok(false)
         }
         (Command::Meta, Some(array)) => {
@@ -118,20 +138,29 @@ fn run_command<W: Write>(
     }
 }
 
-/// Runs the commands and writes what they print, and tells whether one was refused.
-fn run_commands<W: Write>(
-    alloc: Global,
-    writer: &mut W,
-    commands: Vec<Command>,
-) -> Result<bool, Stopped>
+/// Runs the lines of a script and writes what they print, and tells whether one was refused.
+fn run_lines<W: Write>(alloc: Global, writer: &mut W, script: &[u8]) -> Result<bool, Stopped>
+    requires { result_err (orders_of script.now) ≡ None }
     ensures { IfOk result (λ refused. WritesText (W.contents writer.old) (W.contents writer.new)
-        (λ text. (after : Session)
-        × Follows None (map order_of_command commands.items) text refused after)) }
+        (λ text. HasRun script.now text refused)) }
 {
+    let mut known = None;
     let mut array = None;
     let mut refused = false;
     let mut out = Vec::new(alloc);
-    for command in commands {
+    let mut rest = Some(script);
+    while let Some(text) = rest {
+        let (line, others) = next_line(text);
+        rest = others;
+        if is_skipped(line) {
+            continue;
+        }
+        let command = match command_of(alloc, known, line) {
+            Ok(command) => command,
+            Err(ParseError::NotACommand) => unreachable!(),
+            Err(ParseError::OutOfMemory) => return Err(Stopped),
+        };
+        known = type_after(known, &command);
         refused |= run_command(alloc, writer, &mut out, &mut array, command)?;
         write_pending(writer, &mut out)?;
     }
@@ -144,18 +173,13 @@ fn answer<W: Write>(alloc: Global, writer: &mut W, script: &[u8]) -> Result<u8, 
     ensures { IfOk result (λ status. WritesText (W.contents writer.old) (W.contents writer.new)
         (λ text. IsAnswer script.now text status)) }
 {
-    match commands_of(alloc, script) {
-        Ok(commands) => {
-            let refused = run_commands(alloc, writer, commands)?;
-            Ok(u8::from(refused))
-        }
-        Err(ScriptError::NotACommand(number)) => {
-            let text = complaint(alloc, number)?;
-            writer.write_all(&text)?;
-            Ok(2)
-        }
-        Err(ScriptError::OutOfMemory) => Err(Stopped),
+    if let Some(number) = first_bad_line(script) {
+        let text = complaint(alloc, number)?;
+        writer.write_all(&text)?;
+        return Ok(2);
     }
+    let refused = run_lines(alloc, writer, script)?;
+    Ok(u8::from(refused))
 }
 
 /// Reads the whole script, and writes what it prints.

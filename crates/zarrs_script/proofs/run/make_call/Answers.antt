@@ -1,4 +1,6 @@
-use Rattle.std.proofs.Common.{List, ◌∷◌, [], refl, subst, ap, ◌∙◌, arith}
+use Rattle.std.proofs.Common.{List, ◌∷◌, [], refl, sym, subst, ap, ◌∙◌, arith}
+use Rattle.std.proofs.Math.Logic.{∥∥₁_map}
+use Rattle.std.proofs.lemmas.Result.{on_err_weaker}
 use Rattle.serde_json.specs.Written.{has_float}
 use Rattle.zarrs_storage.specs.Memory.{open_state}
 use Rattle.zarrs_document_v2.specs.View.{MetadataData, data_of_metadata}
@@ -7,8 +9,11 @@ use Rattle.zarrs_steps.specs.Layout.{Layout}
 use Rattle.zarrs_steps.specs.declared.call.Reply.{Reply}
 use Rattle.zarrs_steps.specs.Step.{Run}
 use Rattle.zarrs_chain.specs.Options.{stores_empty_chunks}
-use Rattle.zarrs.specs.Arrays.{layout_of_array, metadata_of_array, state_of_array}
+use Rattle.zarrs_steps.specs.Canon.{IsCanonical}
+use Rattle.zarrs_steps.specs.Content.{value_at}
+use Rattle.zarrs.specs.Arrays.{layout_of_array, metadata_of_array, state_of_array, store_of_array}
 use Rattle.zarrs_script_metadata.specs.CellTypes.{kind_of_cells}
+use Rattle.zarrs_script.proofs.Contents.{chunks_stay_alone}
 use Rattle.zarrs_script.proofs.Printing.{puts_as}
 use Rattle.zarrs_script.proofs.Reshaped.{floats_kept}
 use Rattle.zarrs_script.proofs.Transcripts.{one_reply, some_reply, reply_said, call_served}
@@ -59,3 +64,16 @@ invariant_of-array-clause-plain g c =
     let old = c.args.array.now in
     let shape = (state_of_array open_state c.replay.new.self).shape in
     ap (λ (m : MetadataData). has_float (data_of_metadata m)) c.replay.ensures.kept.metadata ∙ floats_kept (metadata_of_array old.array) shape ∙ old.plain
+
+pub invariant_of-array-clause-canonical : goal.invariant_of-array-clause-canonical
+invariant_of-array-clause-canonical g c =
+    ∥∥₁_map c.args.array.now.canonical
+    (λ canon. subst (λ (layout : Layout). IsCanonical layout (value_at (store_of_array open_state c.replay.new.self))) (sym c.replay.ensures.layout)
+    (c.replay.ensures.canonical c.default-options.ensures.1 c.default-options.ensures.0 canon))
+
+pub invariant_of-array-clause-alone : goal.invariant_of-array-clause-alone
+invariant_of-array-clause-alone g c =
+    let old = c.args.array.now in
+    chunks_stay_alone (λ replies. replies.items) (layout_of_array old.array) (layout_of_array c.replay.new.self) (stores_empty_chunks c.default-options.result) (c.args.call ∷ []) c.replay.result
+    (state_of_array open_state old.array) (state_of_array open_state c.replay.new.self)
+    c.an_array_is_its_metadata.ensures.lawful c.replay.ensures.layout (c.replay.ensures.run c.default-options.ensures.1) (on_err_weaker c.replay.result (ap open_state) c.replay.ensures.untouched) old.alone

@@ -13,11 +13,11 @@ returns-in_ok-opening-in-Array-default g c =
     puts_pending (g.W.Write.contents c.args.writer.now) c.args.out.now.items c.open.new.out.items printed.0 printed.1
     (array_opened c.args.array.now c.args.command c.in-Array-default.creation _ c.in-Array-default.is-0 printed.2)
 
-pub returns-in_ok-put_keys-in-Keys-Some : goal.returns-in_ok-put_keys-in-Keys-Some
-returns-in_ok-put_keys-in-Keys-Some g c =
+pub returns-in_ok-put_content-in-Keys-Some : goal.returns-in_ok-put_content-in-Keys-Some
+returns-in_ok-put_content-in-Keys-Some g c =
     puts_as (g.W.Write.contents c.args.writer.now) _ c.args.out.now.items _
-    (λ text is. keys_listed c.in-Keys-Some.array.now c.args.array.now c.args.command text c.in-Keys-Some.ensures.value c.in-Keys-Some.is-0 is)
-    (rw c.storage.ensures at c.in_ok-put_keys-in-Keys-Some.ensures)
+    (λ text lists. keys_listed c.in-Keys-Some.array.now c.args.array.now c.args.command text c.in-Keys-Some.ensures.value c.in-Keys-Some.is-0 lists)
+    c.in_ok-put_content-in-Keys-Some.ensures
 
 pub returns-in_ok-put_metadata-in-Meta-Some : goal.returns-in_ok-put_metadata-in-Meta-Some
 returns-in_ok-put_metadata-in-Meta-Some g c =

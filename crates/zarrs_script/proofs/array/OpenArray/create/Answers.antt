@@ -1,10 +1,14 @@
 use Rattle.std.proofs.Common.{refl, ap, ◌∙◌}
+use Rattle.std.proofs.lemmas.Grind.{merely}
 use Rattle.serde_json.specs.Written.{has_float}
 use Rattle.zarrs_document_v2.specs.View.{MetadataData, data_of_metadata, v3}
 use Rattle.zarrs_data_type.specs.Same.{kind_eq-Decides}
 use Rattle.zarrs_steps.specs.Layout.{Layout}
 use Rattle.zarrs_array_metadata.specs.Meanings.{Meaning}
+use Rattle.zarrs.specs.Arrays.{layout_of_array}
 use Rattle.zarrs_script_metadata.specs.CellTypes.{kind_of_cells}
+use Rattle.zarrs_storage.specs.Memory.{open_state}
+use Rattle.zarrs_script.proofs.Contents.{new_is_canonical, new_has_none}
 use Rattle.zarrs_script.proofs.NewArrays.{same_parts, made_array, is_plain, only_memory, created_at_root}
 use Rattle.zarrs_script.proofs.array.OpenArray.create.Goals as goal
 
@@ -43,3 +47,10 @@ invariant_of-result-clause-typed c =
     let law = c.an_array_is_its_metadata.ensures in
     let are = same_parts _ _ _ _ (c.in-Ok.ensures.metadata ∙ ap v3 told.2) told.1 law.parts in
     (kind_eq-Decides _ (kind_of_cells c.args.creation.cell_type)).1 (ap (λ (layout : Layout). layout.kind) law.layout ∙ ap (λ (m : Meaning). m.kind) are)
+
+pub invariant_of-result-clause-canonical : goal.invariant_of-result-clause-canonical
+invariant_of-result-clause-canonical c =
+    merely (new_is_canonical _ c.an_array_is_its_metadata.ensures.lawful _ (ap open_state (c.in-Ok.ensures.storage ∙ c.new.ensures)))
+
+pub invariant_of-result-clause-alone : goal.invariant_of-result-clause-alone
+invariant_of-result-clause-alone c = new_has_none (layout_of_array c.in-Ok.array) _ (ap open_state (c.in-Ok.ensures.storage ∙ c.new.ensures))
