@@ -1,4 +1,5 @@
 //! What the lines of a case file say.
+use std::ops::Range;
 use zarrs_codec::CodecOptions;
 use zarrs_options::{
     ArrayMetadataOptions, MetadataConvertVersion, MetadataEraseVersion, MetadataRetrieveVersion,
@@ -53,6 +54,8 @@ pub enum Setting<'a> {
     Stopping(u64),
     /// No other key may be asked for.
     Allowing(Vec<StoreKey>),
+    /// These places of the bytes at the key may be asked for, and no places that no such line names.
+    AllowingPlaces(StoreKey, Vec<Range<u64>>),
     /// The store that the next array begins with has made so many writing calls.
     Calls(u64),
     /// A part of the next builder.

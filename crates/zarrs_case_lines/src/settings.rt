@@ -1,8 +1,9 @@
 //! Lines that say what the next call meets.
 use crate::call::{Part, Setting};
 use crate::why::Why;
-use crate::words::{bytes, key, number};
+use crate::words::{bytes, key, number, ranges};
 use std::alloc::Global;
+use std::ops::Range;
 use zarrs_storage::StoreKey;
 
 /// What a line without an answer says.
@@ -22,6 +23,7 @@ fn setting_named<'a>(alloc: Global, name: &'a str, words: &'a str) -> Result<Set
         "refusing-whole" => Ok(Setting::RefusingWhole(keys(alloc, words)?)),
         "allowing" if words == "none" => Ok(Setting::Allowing(Vec::new(alloc))),
         "allowing" => Ok(Setting::Allowing(keys(alloc, words)?)),
+        "allowing-places" => places_allowed(alloc, words),
         "with" => Ok(Setting::With(part_of(alloc, words)?)),
         _ => counted(name, words),
     }
@@ -44,6 +46,31 @@ fn value_set<'a>(alloc: Global, words: &'a str) -> Result<Setting<'a>, Why<'a>> 
     };
     let key = key(alloc, name)?;
     Ok(Setting::Set(key, bytes(alloc, value)?))
+}
+
+/// KEY RANGES.
+fn places_allowed<'a>(alloc: Global, words: &'a str) -> Result<Setting<'a>, Why<'a>> {
+    let Some((name, word)) = words.split_once(" ") else {
+        return Err(Why::Places(words));
+    };
+    let key = key(alloc, name)?;
+    let places = ranges(alloc, word)?;
+    if !is_ascending(&places) {
+        return Err(Why::Places(word));
+    }
+    Ok(Setting::AllowingPlaces(key, places))
+}
+
+/// Whether no range ends before it starts, or starts before the one in front of it ends.
+fn is_ascending(ranges: &[Range<u64>]) -> bool {
+    let mut end = 0u64;
+    for range in ranges {
+        if range.start < end || range.end < range.start {
+            return false;
+        }
+        end = range.end;
+    }
+    true
 }
 
 /// Keys with a space between them.

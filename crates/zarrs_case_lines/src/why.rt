@@ -20,6 +20,8 @@ pub enum Why<'a> {
     Number(&'a str),
     /// A word is no box, as `3..6,2..7`.
     Region(&'a str),
+    /// A word is no ranges of places in ascending order, as `0..2,18..34`.
+    Places(&'a str),
     /// A word is no bytes, as `00ff,01*7`.
     Bytes(&'a str),
     /// A word is no key of a store.
@@ -61,6 +63,7 @@ impl<'a> Why<'a> {
             Why::Part(word) => ("no part of a builder", word),
             Why::Number(word) => ("no number below 2^64", word),
             Why::Region(word) => ("no box", word),
+            Why::Places(word) => ("no places in ascending order", word),
             Why::Bytes(word) => ("no bytes", word),
             Why::Key(word) => ("no key of a store", word),
             Why::Json(word) => ("no JSON value", word),

@@ -44,7 +44,7 @@ fn range<'a>(word: &'a str) -> Result<Range<u64>, Why<'a>> {
 }
 
 /// Ranges joined by `,`, or none, for `-`.
-fn ranges<'a>(alloc: Global, word: &'a str) -> Result<Vec<Range<u64>>, Why<'a>> {
+pub(crate) fn ranges<'a>(alloc: Global, word: &'a str) -> Result<Vec<Range<u64>>, Why<'a>> {
     let mut found = Vec::new(alloc);
     if word == "-" {
         return Ok(found);

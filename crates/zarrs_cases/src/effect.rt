@@ -6,6 +6,7 @@ use zarrs::{MemoryStore, ReadableStorageTraits, StoreKey};
 use zarrs_case_calls::shown_metadata;
 use zarrs_case_lines::call::Found;
 use zarrs_case_lines::words::{shown_bytes, shown_numbers, text};
+use zarrs_case_stores::keys_of;
 
 /// What is found there, as a case file writes it.
 pub(crate) fn found(
@@ -23,7 +24,7 @@ pub(crate) fn found(
         Found::Text => text(alloc, outcome.answer.text.as_str()),
         Found::Target => shown_bytes(alloc, &outcome.held.bytes),
         Found::Masks => shown_bytes(alloc, &outcome.held.masks),
-        Found::Asked => shown_keys(alloc, &outcome.asked),
+        Found::Asked => shown_keys(alloc, &keys_of(alloc, &outcome.asks)?),
         Found::Shape => shape_of(alloc, session),
         Found::Metadata => metadata_of(alloc, session),
     }

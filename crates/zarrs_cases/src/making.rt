@@ -54,7 +54,7 @@ impl<'f> Session<'f> {
         let opened = opened(alloc, &store, &asks, path, options);
         drop(mem::replace(&mut self.store, memory_of(store)));
         let mut outcome = self.keep(alloc, opened)?;
-        outcome.asked = asks.into_inner().keys(alloc)?;
+        outcome.asks = asks.into_inner().into_list()?;
         Ok(outcome)
     }
 
@@ -79,7 +79,7 @@ impl<'f> Session<'f> {
             writes,
             failed,
             held,
-            asked: asks.into_inner().keys(alloc)?,
+            asks: asks.into_inner().into_list()?,
         })
     }
 

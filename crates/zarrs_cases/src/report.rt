@@ -10,6 +10,7 @@ use std::mem;
 use zarrs_case_answers::matches;
 use zarrs_case_lines::call::{Case, CaseFile, Effect, Expected, Line, Step};
 use zarrs_case_lines::{CaseError, Why, lines_of};
+use zarrs_case_stores::{Conditions, key_beyond, place_beyond};
 
 /// What running a case file found.
 #[derive(Drop)]
@@ -89,6 +90,27 @@ pub fn run_lines<'f>(
     match outcome {
         Ok(()) => Ok(run.report(cases)),
         Err(error) => Err(error),
+    }
+}
+
+/// What the call asked for though the conditions do not allow it: a key, or a place of its bytes.
+fn beyond(
+    alloc: Global,
+    conditions: &Conditions,
+    outcome: &Outcome,
+) -> Result<Option<String>, AllocError> {
+    if let Some(allowed) = &conditions.allowed {
+        if let Some(key) = key_beyond(&outcome.asks, allowed) {
+            return Ok(Some(key.to_string(alloc)?));
+        }
+    }
+    let allowed = &conditions.allowed_places;
+    if allowed.is_empty() {
+        return Ok(None);
+    }
+    match place_beyond(&outcome.asks, allowed) {
+        Some((key, place)) => Ok(Some(format!(in alloc; "place {place} of {key}")?)),
+        None => Ok(None),
     }
 }
 
@@ -221,7 +243,7 @@ impl Run<'_> {
         session.outcome_of(alloc, case)
     }
 
-    /// Compares the answer of a call, and the keys that it asked for.
+    /// Compares the answer of a call, and what it asked for.
     fn judge(
         &mut self,
         alloc: Global,
@@ -231,17 +253,12 @@ impl Run<'_> {
         outcome: &Outcome,
     ) -> Result<(), AllocError> {
         self.compare(alloc, line, &case.answer, outcome.answer.shown.as_str())?;
-        let Some(allowed) = &session.conditions.allowed else {
-            return Ok(());
-        };
-        match outcome.asked.iter().find(|key| !allowed.contains(key)) {
-            Some(key) => {
-                let expected = format!(in alloc; "{key} not asked for")?;
-                let found = format!(in alloc; "{key} asked for")?;
-                self.note(alloc, line, expected.as_str(), found.as_str())
-            }
-            None => Ok(()),
+        if let Some(beyond) = beyond(alloc, &session.conditions, outcome)? {
+            let expected = format!(in alloc; "{beyond} not asked for")?;
+            let found = format!(in alloc; "{beyond} asked for")?;
+            self.note(alloc, line, expected.as_str(), found.as_str())?;
         }
+        Ok(())
     }
 
     /// Compares what is found after the latest call.

@@ -4,6 +4,7 @@ use crate::parts::Parts;
 use crate::setters;
 use std::alloc::{AllocError, Global};
 use std::mem;
+use std::ops::Range;
 use zarrs::{
     Array, ArrayCreateError, ArrayMetadata, Bytes, MemoryStore, StoreKey, WritableStorageTraits,
 };
@@ -12,7 +13,7 @@ use zarrs_case_calls::{Held, Other};
 use zarrs_case_lines::Why;
 use zarrs_case_lines::call::{Call, Case, Design, Setting};
 use zarrs_case_lines::words::json;
-use zarrs_case_stores::Conditions;
+use zarrs_case_stores::{Ask, Conditions, Places};
 use zarrs_metadata::MetadataError;
 
 /// What a call answered and did.
@@ -25,8 +26,8 @@ pub(crate) struct Outcome {
     pub(crate) failed: u64,
     /// What its place then held.
     pub(crate) held: Held,
-    /// The keys that it asked for, each once, in ascending order.
-    pub(crate) asked: Vec<StoreKey>,
+    /// What it asked the store for.
+    pub(crate) asks: Vec<Ask>,
 }
 
 /// The array that is open, its store, and what the next call meets.
@@ -50,7 +51,7 @@ pub(crate) fn quiet(alloc: Global, answer: Answer) -> Outcome {
         writes: 0,
         failed: 0,
         held: Held::new(alloc),
-        asked: Vec::new(alloc),
+        asks: Vec::new(alloc),
     }
 }
 
@@ -72,6 +73,19 @@ fn copied(alloc: Global, keys: &[StoreKey]) -> Result<Vec<StoreKey>, AllocError>
     let mut copies = Vec::new(alloc);
     add_keys(&mut copies, keys)?;
     Ok(copies)
+}
+
+/// These places of the bytes at the key.
+fn places_at(alloc: Global, key: &StoreKey, ranges: &[Range<u64>]) -> Result<Places, AllocError> {
+    let mut copies = Vec::new(alloc);
+    for range in ranges {
+        copies.push(range.start..range.end)?;
+    }
+    let key = key.clone()?;
+    Ok(Places {
+        key,
+        ranges: copies,
+    })
 }
 
 impl<'f> Session<'f> {
@@ -103,6 +117,10 @@ impl<'f> Session<'f> {
             Setting::RefusingWrite(number) => conditions.refused_write = Some(*number),
             Setting::Stopping(passed) => conditions.passed = *passed,
             Setting::Allowing(keys) => conditions.allowed = Some(copied(alloc, keys)?),
+            Setting::AllowingPlaces(key, ranges) => {
+                let places = places_at(alloc, key, ranges)?;
+                conditions.allowed_places.push(places)?;
+            }
             Setting::Calls(calls) => self.calls = *calls,
             Setting::With(part) => self.parts.add(alloc, part)?,
             Setting::Aside => self.set_aside(alloc),
