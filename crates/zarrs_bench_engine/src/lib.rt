@@ -2,6 +2,9 @@
 #![tactic(auto)]
 
 mod arrays;
+pub mod boxes;
 mod chunks;
+mod growths;
+mod parts;
 mod regions;
 pub mod rows;

@@ -1,5 +1,6 @@
 //! Regions stored and read, of an array of 32 MiB in chunks of 64 KiB.
 use crate::arrays::absent_array;
+use crate::boxes::{Region, copy_part, put_part, region_of};
 use anyhow::{Result, anyhow};
 use itoa::Buffer;
 use std::alloc::Global;
@@ -19,75 +20,14 @@ const COLUMNS: u64 = 4096;
 /// The extent of a chunk in each dimension.
 const EXTENT: u64 = 256;
 
-/// The indices of one dimension from `start` on, and before `end`.
-#[derive(Clone, Copy)]
-struct Span {
-    start: u64,
-    end: u64,
-}
-
-impl Span {
-    /// How many indices there are.
-    fn len(self) -> u64 {
-        self.end.saturating_sub(self.start)
-    }
-
-    /// The indices that the chunk with this index has too.
-    fn within(self, index: u64) -> Span {
-        let first = index.saturating_mul(EXTENT);
-        Span {
-            start: self.start.max(first),
-            end: self.end.min(first.saturating_add(EXTENT)),
-        }
-    }
-}
-
-/// A box of two dimensions.
-#[derive(Clone, Copy)]
-struct Region {
-    rows: Span,
-    columns: Span,
-}
-
-/// The box of these rows and columns, of each those from the first number on and before the second one.
-const fn region_of(rows: [u64; 2], columns: [u64; 2]) -> Region {
-    let rows = Span {
-        start: rows[0],
-        end: rows[1],
-    };
-    let columns = Span {
-        start: columns[0],
-        end: columns[1],
-    };
-    Region { rows, columns }
-}
-
-impl Region {
-    /// How many positions there are.
-    fn len(self) -> usize {
-        self.rows.len().saturating_mul(self.columns.len()) as usize
-    }
-
-    /// The rows and columns that the chunk with these indices has too.
-    fn within(self, row: u64, column: u64) -> Region {
-        Region {
-            rows: self.rows.within(row),
-            columns: self.columns.within(column),
-        }
-    }
-
-    /// Where a part of the region begins in bytes that are all of it.
-    fn offset_of(self, part: Region) -> usize {
-        let rows = part.rows.start.saturating_sub(self.rows.start);
-        let before = rows.saturating_mul(self.columns.len());
-        let columns = part.columns.start.saturating_sub(self.columns.start);
-        before.saturating_add(columns) as usize
-    }
+/// The rows and columns of the region that the chunk with these indices has too.
+fn part_of(region: Region, row: u64, column: u64) -> Region {
+    region.within([row, column], [EXTENT, EXTENT])
 }
 
 /// The box of the chunk with these indices.
 fn chunk_of(row: u64, column: u64) -> Region {
-    region_of([0, ROWS], [0, COLUMNS]).within(row, column)
+    part_of(region_of([0, ROWS], [0, COLUMNS]), row, column)
 }
 
 /// The whole array, as `CASE` of `Regions`.
@@ -157,17 +97,10 @@ fn stored_chunks(alloc: Global) -> Result<MemoryStore> {
     Ok(store)
 }
 
-/// The positions of the region.
-fn subset_of(alloc: Global, region: Region) -> Result<ArraySubset> {
-    let Region { rows, columns } = region;
-    let ranges = [rows.start..rows.end, columns.start..columns.end];
-    Ok(ArraySubset::new_with_ranges(alloc, &ranges)?)
-}
-
 impl<const CASE: u64> Sample for Regions<CASE> {
     fn make(alloc: Global, len: usize) -> Result<Regions<CASE>> {
         let region = region_of_case(CASE);
-        let subset = subset_of(alloc, region)?;
+        let subset = region.subset(alloc)?;
         let cells = ArrayBytes::make(alloc, len)?;
         let store = stored_chunks(alloc)?;
         let engine = stored_array(alloc)?;
@@ -228,57 +161,6 @@ fn key_of(alloc: Global, row: u64, column: u64) -> Result<StoreKey> {
     Ok(StoreKey::from_string(alloc, key)?)
 }
 
-/// Copies the first `len` bytes of each of so many rows. In both slices a row begins so many bytes after the one
-/// before.
-fn copy_rows(
-    source: &[u8],
-    source_step: usize,
-    target: &mut [u8],
-    target_step: usize,
-    count: usize,
-    len: usize,
-) {
-    if source_step == 0 || target_step == 0 {
-        return;
-    }
-    let rows = source.chunks(source_step).take(count);
-    for (place, row) in target.chunks_mut(target_step).zip(rows) {
-        if let (Some(to), Some(from)) = (place.get_mut(..len), row.get(..len)) {
-            to.copy_from_slice(from);
-        }
-    }
-}
-
-/// The new bytes of a chunk that the region covers.
-fn covered(alloc: Global, region: Region, cells: &[u8], part: Region) -> Result<Vec<u8>> {
-    let width = region.columns.len() as usize;
-    let Some(from) = cells.get(region.offset_of(part)..) else {
-        return Err(anyhow!("no cells"));
-    };
-    let mut made = Vec::with_capacity(alloc, part.len())?;
-    let (count, len) = (part.rows.len() as usize, part.columns.len() as usize);
-    for row in from.chunks(width.max(1)).take(count) {
-        made.extend_from_slice(row.get(..len).unwrap_or(row))?;
-    }
-    Ok(made)
-}
-
-/// Copies the cells of a part that two regions have from the bytes of one to those of the other.
-fn copy_part(from: Region, source: &[u8], to: Region, target: &mut [u8], part: Region) {
-    let source = source.get(from.offset_of(part)..);
-    let target = target.get_mut(to.offset_of(part)..);
-    if let (Some(source), Some(target)) = (source, target) {
-        copy_rows(
-            source,
-            from.columns.len() as usize,
-            target,
-            to.columns.len() as usize,
-            part.rows.len() as usize,
-            part.columns.len() as usize,
-        );
-    }
-}
-
 /// The new bytes of the chunk with these indices, whose key this is.
 fn new_chunk(
     alloc: Global,
@@ -289,7 +171,9 @@ fn new_chunk(
     [chunk, part]: [Region; 2],
 ) -> Result<Vec<u8>> {
     if part.len() == chunk.len() {
-        return covered(alloc, region, cells, part);
+        let mut made = Vec::with_capacity(alloc, part.len())?;
+        put_part(&mut made, region, cells, part)?;
+        return Ok(made);
     }
     let Some(held) = store.get(alloc, key)? else {
         return Err(anyhow!("no chunk"));
@@ -307,7 +191,7 @@ fn store_part(
     cells: &[u8],
     [row, column]: [u64; 2],
 ) -> Result<()> {
-    let parts = [chunk_of(row, column), region.within(row, column)];
+    let parts = [chunk_of(row, column), part_of(region, row, column)];
     let key = key_of(alloc, row, column)?;
     let made = new_chunk(alloc, store, &key, region, cells, parts)?;
     if made.iter().any(|cell| *cell != 0) {
@@ -325,8 +209,8 @@ impl<const CASE: u64> Work for PlainStoreRegion<CASE> {
     fn run(alloc: Global, regions: &mut Regions<CASE>) -> Result<u8> {
         let Region { rows, columns } = regions.region;
         let cells = bytes_in(&regions.cells);
-        for row in rows.start / EXTENT..rows.end.div_ceil(EXTENT) {
-            for column in columns.start / EXTENT..columns.end.div_ceil(EXTENT) {
+        for row in rows.chunks(EXTENT) {
+            for column in columns.chunks(EXTENT) {
                 store_part(
                     alloc,
                     &mut regions.store,
@@ -349,7 +233,7 @@ fn read_part(
     made: &mut [u8],
 ) -> Result<()> {
     if let Some(held) = store.get(alloc, &key_of(alloc, row, column)?)? {
-        let part = region.within(row, column);
+        let part = part_of(region, row, column);
         copy_part(chunk_of(row, column), held.as_slice(), region, made, part);
     }
     Ok(())
@@ -365,8 +249,8 @@ impl<const CASE: u64> Work for PlainReadRegion<CASE> {
         let region = regions.region;
         let Region { rows, columns } = region;
         let mut made = vec![in alloc; 0; region.len()]?;
-        for row in rows.start / EXTENT..rows.end.div_ceil(EXTENT) {
-            for column in columns.start / EXTENT..columns.end.div_ceil(EXTENT) {
+        for row in rows.chunks(EXTENT) {
+            for column in columns.chunks(EXTENT) {
                 read_part(alloc, &regions.store, region, [row, column], &mut made)?;
             }
         }

@@ -1,5 +1,10 @@
 //! The rows of this crate.
 use crate::chunks::{PlainRead, PlainStore, Read, Store};
+use crate::growths::{ABSENT, BYTES, OPTIONS, ReadAll, ReadCell, SUBCHUNKS, StoreAll, TEXTS};
+use crate::parts::{
+    PlainReadPart, PlainReadRanges, PlainStoreWhole, ReadPart, ReadWhole, SUBCHUNK, StoreWhole,
+    TENTH, WHOLE,
+};
 use crate::regions::{
     ALL, CELL, COLUMN, INNER, PlainReadRegion, PlainStoreRegion, ROW, ReadRegion, StoreRegion,
 };
@@ -11,6 +16,81 @@ use zarrs_bench_rows::table::Table;
 pub fn print_rows<R: Clock + Print + Alloc<A = Global>>(table: &mut Table<'_, R>) {
     print_chunks(table);
     print_regions(table);
+    print_shards(table);
+    print_parts(table);
+}
+
+/// Prints the growths of this crate.
+pub fn print_growths<R: Clock + Print + Alloc<A = Global>>(table: &mut Table<'_, R>) {
+    table.growth::<StoreAll<BYTES, 1>>("store all of an array of bytes");
+    table.growth::<ReadAll<BYTES, 1>>("read it");
+    table.growth::<ReadAll<BYTES, 2>>("read it, in 2 dimensions");
+    table.growth::<ReadAll<BYTES, 3>>("in 3 dimensions");
+    table.growth::<ReadAll<BYTES, 4>>("in 4 dimensions");
+    table.growth::<ReadAll<BYTES, 5>>("in 5 dimensions");
+    table.growth::<ReadAll<BYTES, 6>>("in 6 dimensions");
+    table.growth::<ReadCell<BYTES>>("read one cell of it");
+    table.growth::<ReadAll<ABSENT, 1>>("read absent chunks");
+    table.growth::<StoreAll<SUBCHUNKS, 1>>("store one shard of so many subchunks");
+    table.growth::<ReadAll<SUBCHUNKS, 1>>("read it");
+    table.growth::<ReadCell<SUBCHUNKS>>("read one cell of it");
+    table.growth::<StoreAll<TEXTS, 1>>("store texts");
+    table.growth::<ReadAll<TEXTS, 1>>("read them");
+    table.growth::<StoreAll<OPTIONS, 1>>("store optional numbers");
+    table.growth::<ReadAll<OPTIONS, 1>>("read them");
+}
+
+/// Prints the rows of shards.
+fn print_shards<R: Clock + Print + Alloc<A = Global>>(table: &mut Table<'_, R>) {
+    let name = "store a shard of 1 MiB of uint8, subchunks of 64 KiB";
+    print_shard::<R, 1024, 256, 1>(table, name);
+    let name = "store a shard of 1 MiB of uint8, subchunks of 4 KiB";
+    print_shard::<R, 1024, 64, 1>(table, name);
+    let name = "store a shard of 1 MiB of uint32, subchunks of 64 KiB";
+    print_shard::<R, 512, 128, 4>(table, name);
+    let name = "store a shard of 1 MiB of uint32, subchunks of 4 KiB";
+    print_shard::<R, 512, 32, 4>(table, name);
+    let name = "read one subchunk of a shard of 16 MiB, subchunks of 64 KiB";
+    print_part::<R, 4096, 256, SUBCHUNK>(table, name, 1 << 16);
+    let name = "the same, against a read of the whole shard by the same crates";
+    table.row::<ReadPart<4096, 256, 1, SUBCHUNK>, ReadWhole<4096, 256, 1, SUBCHUNK>>(name, 1 << 16);
+}
+
+/// Prints two rows: the store of a shard of 1 MiB, and the read of it.
+fn print_shard<
+    R: Clock + Print + Alloc<A = Global>,
+    const SIDE: u64,
+    const SUB: u64,
+    const WIDTH: u64,
+>(table: &mut Table<'_, R>, name: &str) {
+    table.row::<StoreWhole<SIDE, SUB, WIDTH>, PlainStoreWhole<SIDE, SUB, WIDTH>>(name, 1 << 20);
+    let name = "read it";
+    table.row::<ReadPart<SIDE, SUB, WIDTH, WHOLE>, PlainReadPart<SIDE, SUB, WIDTH, WHOLE>>(
+        name,
+        1 << 20,
+    );
+}
+
+/// Prints the rows of parts of a chunk under `bytes`.
+fn print_parts<R: Clock + Print + Alloc<A = Global>>(table: &mut Table<'_, R>) {
+    print_part::<R, 1024, 1024, CELL>(table, "read one cell of a chunk of 1 MiB", 1);
+    print_part::<R, 1024, 1024, ROW>(table, "read one row of 1,024 cells of it", 1024);
+    print_part::<R, 1024, 1024, COLUMN>(table, "read one column of 1,024 cells of it", 1024);
+    let name = "read a tenth of it, 320 rows of 320 cells";
+    print_part::<R, 1024, 1024, TENTH>(table, name, 320 * 320);
+}
+
+/// Prints two rows of the read of a part of so many cells of one byte: against calls of the store for the same ranges,
+/// and against copies from the bytes of the chunk.
+fn print_part<
+    R: Clock + Print + Alloc<A = Global>,
+    const SIDE: u64,
+    const SUB: u64,
+    const PART: u64,
+>(table: &mut Table<'_, R>, name: &str, len: usize) {
+    table.row::<ReadPart<SIDE, SUB, 1, PART>, PlainReadRanges<SIDE, SUB, 1, PART>>(name, len);
+    let name = "the same, with the chunk's bytes in hand";
+    table.row::<ReadPart<SIDE, SUB, 1, PART>, PlainReadPart<SIDE, SUB, 1, PART>>(name, len);
 }
 
 /// Prints the rows of chunks.

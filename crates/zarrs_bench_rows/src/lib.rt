@@ -5,6 +5,7 @@ mod codecs;
 mod conversions;
 mod copies;
 mod fills;
+mod growth;
 pub mod measure;
 mod plain;
 pub mod rows;

@@ -41,7 +41,7 @@ pub struct Times {
 }
 
 /// How often each piece of work is done. The best time counts.
-const TURNS: u8 = 25;
+pub const TURNS: u8 = 25;
 
 /// Measures the work of the product, that of plain Rust on the same sample and a copy of so many bytes, in turns.
 ///
@@ -88,7 +88,10 @@ fn next_times<P: Work, Q: Work<Sample = P::Sample>>(
 }
 
 /// How long the work takes, in nanoseconds, and the byte that it returned.
-fn timed<W: Work>(rt: &impl Clock, alloc: Global, sample: &mut W::Sample) -> Result<(u64, u8)> {
+///
+/// # Errors
+/// The work or the clock fails.
+pub fn timed<W: Work>(rt: &impl Clock, alloc: Global, sample: &mut W::Sample) -> Result<(u64, u8)> {
     let start = Instant::now(rt)?;
     let byte = W::run(alloc, sample)?;
     let taken = start.elapsed(rt)?.as_nanos();

@@ -1,4 +1,5 @@
 //! The table that is printed.
+use crate::growth::{self, Growth};
 use crate::measure::{Work, measured};
 use anyhow::Result;
 use std::alloc::Global;
@@ -14,7 +15,7 @@ pub struct Table<'a, R> {
 impl<'a, R: Clock + Print + Alloc<A = Global>> Table<'a, R> {
     /// Prints the head of the table.
     pub fn new(rt: &'a R) -> Table<'a, R> {
-        let outcome = print_head(rt);
+        let outcome = print_line(rt, HEAD);
         Table { rt, outcome }
     }
 
@@ -23,6 +24,20 @@ impl<'a, R: Clock + Print + Alloc<A = Global>> Table<'a, R> {
     pub fn row<P: Work, Q: Work<Sample = P::Sample>>(&mut self, name: &str, len: usize) {
         if self.outcome.is_ok() {
             self.outcome = print_row::<R, P, Q>(self.rt, name, len);
+        }
+    }
+
+    /// Ends the rows of ratios, and prints the head of a table of growths.
+    pub fn begin_growths(&mut self) {
+        if self.outcome.is_ok() {
+            self.outcome = print_line(self.rt, growth::HEAD);
+        }
+    }
+
+    /// Measures the work over 10, 100, 1,000 and 10,000 chunks, and prints the row of its growth.
+    pub fn growth<W: Work>(&mut self, name: &str) {
+        if self.outcome.is_ok() {
+            self.outcome = print_growth::<R, W>(self.rt, name);
         }
     }
 
@@ -49,11 +64,20 @@ impl fmt::Display for Ratio {
     }
 }
 
-/// Prints the head of the table.
-fn print_head(rt: &impl Print) -> Result<()> {
-    println!(rt;
-        "| Work | us | us, plain Rust | Ratio | Ratio to a memory copy |\n|---|---|---|---|---|"
-    )?;
+/// The head of a table of ratios.
+const HEAD: &str =
+    "| Work | us | us, plain Rust | Ratio | Ratio to a memory copy |\n|---|---|---|---|---|";
+
+/// Prints a line.
+fn print_line(rt: &impl Print, line: &str) -> Result<()> {
+    println!(rt; "{line}")?;
+    Ok(())
+}
+
+/// Measures, and prints a row of growths.
+fn print_growth<R: Clock + Print + Alloc<A = Global>, W: Work>(rt: &R, name: &str) -> Result<()> {
+    let growth = Growth::measured::<W>(rt, rt.alloc())?;
+    println!(rt; "| {name} | {growth} |")?;
     Ok(())
 }
 
