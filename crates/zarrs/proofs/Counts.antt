@@ -1,13 +1,13 @@
 -- How many writing calls the calls on the metadata of an array make.
 use Rattle.std.proofs.Common.{◌≡◌, ◌∙◌, ℕ, List, [], ◌∷◌, length, Ok, ap, sym, subst, arith}
 use Rattle.zarrs_storage.specs.Store.{StoreState}
-use Rattle.zarrs_steps.specs.Changes.{Makes}
-use Rattle.zarrs_steps.proofs.RefusalLemmas.{makes_none}
-use Rattle.zarrs_document_v2.specs.View.{MetadataData, v3, v2}
+use Rattle.zarrs_calls.specs.Changes.{Makes}
+use Rattle.zarrs_calls.proofs.RefusalLemmas.{makes_none}
+use Rattle.zarrs_metadata_v2.specs.View.{MetadataData, v3, v2}
 use Rattle.zarrs_options.specs.declared.versions.MetadataEraseVersion.TheVariants as erase
-use Rattle.zarrs_array_metadata.specs.Writing.{Put, IsWrittenBy, erasures}
+use Rattle.zarrs_creation.specs.Writing.{Put, IsWrittenBy, erasures}
 use Rattle.zarrs_options.specs.Options.{MetadataOptionsData}
-use Rattle.zarrs_array_metadata.specs.Shown.{shown}
+use Rattle.zarrs_creation.specs.Shown.{shown}
 use Rattle.zarrs.specs.Counts.{documents_of, Writes, StoringCounts, ErasingCounts, UpgradingCounts}
 use Rattle.zarrs.specs.Puts.{ArePut, StoresMetadata}
 use Rattle.zarrs.proofs.Puts.{reach_after}

@@ -25,7 +25,7 @@ use Rattle.zarrs_codec.specs.declared.codec.ArrayToBytesCodec as bytes_codec
 use Rattle.zarrs_codec.specs.declared.chain.CodecChain.{CodecChain}
 use Rattle.zarrs_engine.specs.Engine.{chain_of}
 use Rattle.zarrs_options.specs.Refusals.{CreateRefusal}
-use Rattle.zarrs_array_metadata.specs.Meanings.{Meaning, creation}
+use Rattle.zarrs_creation.specs.Meanings.{Meaning, creation}
 use Rattle.zarrs.specs.Layouts.{array_codec_meant, array_codecs_meant, behind_meant, mask_codec_meant, cells_codec_meant, bytes_codec_meant, chain_meant, layout_meant, no_codec_meant}
 use Rattle.zarrs.specs.Arrays.{metadata_of_array, meaning_of_array, layout_of_array, path_of_array}
 use Rattle.zarrs.specs.declared.array.Array.{Array}

@@ -11,18 +11,18 @@ use Rattle.zarrs_chunk_grid.specs.declared.traits.ChunkGridTraits.{Ghosts as Gri
 use Rattle.zarrs_chunk_grid.proofs.MetadataLemmas.{said_back}
 use Rattle.zarrs_codec.specs.declared.chain.CodecChain.{CodecChain}
 use Rattle.zarrs_chain.specs.declared.traits.ChainTraits.{Ghosts as ChainMeanings}
-use Rattle.zarrs_document_v2.specs.View.{MetadataData, v3, v2, metadata_view}
-use Rattle.zarrs_document_v2.specs.declared.versions.ArrayMetadata.{ArrayMetadata}
+use Rattle.zarrs_metadata_v2.specs.View.{MetadataData, v3, v2, metadata_view}
+use Rattle.zarrs_metadata_v2.specs.declared.versions.ArrayMetadata.{ArrayMetadata}
 use Rattle.zarrs_chain.specs.Chain.{ChainMeaning}
 use Rattle.zarrs_types.specs.Kind.{Kind, kind}
-use Rattle.zarrs_steps.specs.Content.{content}
-use Rattle.zarrs_steps.specs.Laws.{EachDecodes, over_grid}
-use Rattle.zarrs_steps.specs.Layout.{Layout, layout_at}
+use Rattle.zarrs_calls.specs.Content.{content}
+use Rattle.zarrs_calls.specs.Laws.{EachDecodes, over_grid}
+use Rattle.zarrs_calls.specs.Layout.{Layout, layout_at}
 use Rattle.zarrs_engine.specs.Engine.{layout_of, path_of, grid_of, keys_of, chain_of, data_type_of, fill_value_of, GivesGrid, KeepsOthers, KeepsParts}
 use Rattle.zarrs_engine.specs.declared.engine.Engine.{Engine}
-use Rattle.zarrs_array_metadata.specs.Changes.{with_shape}
-use Rattle.zarrs_array_metadata.specs.Meanings.{Meaning, meaning_with, creation, shape_said}
-use Rattle.zarrs_array_metadata.proofs.Grids.{cut_by, IsCutAnew, own_grid, resized_dimensions, is_resized}
+use Rattle.zarrs_creation.specs.Changes.{with_shape}
+use Rattle.zarrs_creation.specs.Meanings.{Meaning, meaning_with, creation, shape_said}
+use Rattle.zarrs_creation.proofs.Grids.{cut_by, IsCutAnew, own_grid, resized_dimensions, is_resized}
 use Rattle.zarrs.specs.Agreement.{meaning_of, Agrees}
 use Rattle.zarrs.specs.Setters.{HasSameChunk, KeepsCells, KeepsDecoding}
 

@@ -3,18 +3,18 @@ use Rattle.std.proofs.Common.{◌≡◌, inl, inr, ℕ, List, [], ◌∷◌, ◌
 use Rattle.std.proofs.lemmas.List.{append_assoc, map-append}
 use Rattle.zarrs_storage.specs.Store.{StoreState}
 use Rattle.zarrs_storage.specs.declared.error.StorageError.{StorageError}
-use Rattle.zarrs_steps.specs.Refusals.{Refusal, out_of_memory, refusal_of_storage}
-use Rattle.zarrs_document.specs.Document.{DocumentData}
-use Rattle.zarrs_document_v2.specs.Conversion.{ConversionRefusal, to_v3}
-use Rattle.zarrs_document_v2.specs.Document.{DocumentV2Data}
-use Rattle.zarrs_document_v2.specs.View.{MetadataData, v3, v2}
+use Rattle.zarrs_calls.specs.Refusals.{Refusal, out_of_memory, refusal_of_storage}
+use Rattle.zarrs_metadata_v3.specs.Document.{DocumentData}
+use Rattle.zarrs_metadata_v2.specs.Conversion.{ConversionRefusal, to_v3}
+use Rattle.zarrs_metadata_v2.specs.Document.{DocumentV2Data}
+use Rattle.zarrs_metadata_v2.specs.View.{MetadataData, v3, v2}
 use Rattle.zarrs_options.specs.Options.{MetadataOptionsData}
 use Rattle.zarrs_options.specs.declared.versions.MetadataConvertVersion.TheVariants as convert
-use Rattle.zarrs_array_metadata.specs.Meanings.{as_v3, v3_metadata}
-use Rattle.zarrs_array_metadata.specs.Opening.{v2_array_key, attributes_key}
-use Rattle.zarrs_array_metadata.specs.Shown.{shown, shown_as_v3}
-use Rattle.zarrs_array_metadata.specs.Writing.{Put, put_at, put_view, IsWrittenBy}
-use Rattle.zarrs_array_metadata.specs.declared.writing.MetadataPut.{MetadataPut}
+use Rattle.zarrs_creation.specs.Meanings.{as_v3, v3_metadata}
+use Rattle.zarrs_creation.specs.Opening.{v2_array_key, attributes_key}
+use Rattle.zarrs_creation.specs.Shown.{shown, shown_as_v3}
+use Rattle.zarrs_creation.specs.Writing.{Put, put_at, put_view, IsWrittenBy}
+use Rattle.zarrs_creation.specs.declared.writing.MetadataPut.{MetadataPut}
 use Rattle.zarrs.specs.Puts.{ArePut, RefusesPuts}
 use Rattle.zarrs.specs.Upgrade.{AreUpgrade, UpgradesMetadata, UpgradesOrRefuses, RefusesUpgrade}
 

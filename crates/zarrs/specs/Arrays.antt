@@ -1,17 +1,17 @@
 -- What clauses show of an array.
 use Rattle.std.specs.Prelude.{◌≡◌, ℕ, List, false}
 use Rattle.zarrs_storage.specs.Store.{StoreState}
-use Rattle.zarrs_document_v2.specs.View.{MetadataData, metadata_view}
+use Rattle.zarrs_metadata_v2.specs.View.{MetadataData, metadata_view}
 use Rattle.zarrs_chain.specs.Options.{stores_empty_chunks, encodes_partially}
 use Rattle.zarrs_chain.specs.declared.options.CodecOptions.{CodecOptions}
 use Rattle.zarrs_chain.specs.declared.options.CodecSpecificOptions.{CodecSpecificOptions}
 use Rattle.zarrs_chain.specs.declared.options.SubchunkWriteOrder.TheVariants.{C}
 use Rattle.zarrs_options.specs.Options.{MetadataOptionsData, options_view, default_options}
-use Rattle.zarrs_steps.specs.Layout.{Layout, ArrayState}
+use Rattle.zarrs_calls.specs.Layout.{Layout, ArrayState}
 use Rattle.zarrs_engine.specs.Engine.{layout_of, the_store, store_of, state_of, path_of, grid_of, KeepsOthers, KeepsParts, GivesGrid}
 use Rattle.zarrs_chunk_grid.specs.GridView.{array_extents_of}
-use Rattle.zarrs_array_metadata.specs.Changes.{with_shape}
-use Rattle.zarrs_array_metadata.specs.Meanings.{Meaning}
+use Rattle.zarrs_creation.specs.Changes.{with_shape}
+use Rattle.zarrs_creation.specs.Meanings.{Meaning}
 use Rattle.zarrs.specs.Agreement.{meaning_of}
 use Rattle.zarrs.specs.declared.array.Array.{Array}
 

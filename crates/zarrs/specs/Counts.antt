@@ -1,12 +1,12 @@
 -- How many writing calls of the store the calls on the metadata of an array make, if they are accepted.
 use Rattle.std.specs.Prelude.{ℕ, List}
 use Rattle.zarrs_storage.specs.Store.{StoreState}
-use Rattle.zarrs_steps.specs.Changes.{Makes}
-use Rattle.zarrs_document_v2.specs.View.{MetadataData, v3, v2}
+use Rattle.zarrs_calls.specs.Changes.{Makes}
+use Rattle.zarrs_metadata_v2.specs.View.{MetadataData, v3, v2}
 use Rattle.zarrs_options.specs.Options.{MetadataOptionsData}
 use Rattle.zarrs_options.specs.declared.versions.MetadataEraseVersion.{MetadataEraseVersion}
 use Rattle.zarrs_options.specs.declared.versions.MetadataEraseVersion.TheVariants as erase
-use Rattle.zarrs_array_metadata.specs.Writing.{erasures}
+use Rattle.zarrs_creation.specs.Writing.{erasures}
 use Rattle.zarrs.specs.Puts.{ArePut, StoresMetadata}
 use Rattle.zarrs.specs.Upgrade.{UpgradesMetadata}
 

@@ -5,24 +5,24 @@ use Rattle.serde_json.specs.Read.{max_depth}
 use Rattle.serde_json.specs.Written.{has_float}
 use Rattle.zarrs_storage.specs.Store.{StoreState}
 use Rattle.zarrs_keys.specs.Paths.{is_node_path}
-use Rattle.zarrs_steps.specs.Layout.{Layout, IsLawful, ArrayState, metadata_keys_at}
-use Rattle.zarrs_steps.specs.Content.{value_at}
-use Rattle.zarrs_steps.specs.Refusals.{Refusal}
-use Rattle.zarrs_steps.specs.Step.{Run}
-use Rattle.zarrs_steps.specs.Laws.{HaveEqualContent}
-use Rattle.zarrs_steps.specs.declared.call.Call.{Call}
-use Rattle.zarrs_steps.specs.declared.call.Reply.{Reply}
-use Rattle.zarrs_document.specs.Document.{DocumentData, data_of_document, normal_document}
-use Rattle.zarrs_document_v2.specs.Document.{DocumentV2Data, data_of_v2, without_attributes}
-use Rattle.zarrs_document_v2.specs.View.{MetadataData, v3, v2}
+use Rattle.zarrs_calls.specs.Layout.{Layout, IsLawful, ArrayState, metadata_keys_at}
+use Rattle.zarrs_calls.specs.Content.{value_at}
+use Rattle.zarrs_calls.specs.Refusals.{Refusal}
+use Rattle.zarrs_calls.specs.Step.{Run}
+use Rattle.zarrs_calls.specs.Laws.{HaveEqualContent}
+use Rattle.zarrs_calls.specs.declared.call.Call.{Call}
+use Rattle.zarrs_calls.specs.declared.call.Reply.{Reply}
+use Rattle.zarrs_metadata_v3.specs.Document.{DocumentData, data_of_document, normal_document}
+use Rattle.zarrs_metadata_v2.specs.Document.{DocumentV2Data, data_of_v2, without_attributes}
+use Rattle.zarrs_metadata_v2.specs.View.{MetadataData, v3, v2}
 use Rattle.zarrs_options.specs.Options.{MetadataOptionsData}
 use Rattle.zarrs_options.specs.declared.versions.MetadataEraseVersion.{MetadataEraseVersion}
 use Rattle.zarrs_options.specs.declared.versions.MetadataRetrieveVersion.{MetadataRetrieveVersion}
 use Rattle.zarrs_options.specs.declared.versions.MetadataRetrieveVersion.TheVariants as retrieve
-use Rattle.zarrs_array_metadata.specs.Meanings.{Meaning, creation, as_v3}
-use Rattle.zarrs_array_metadata.specs.Opening.{v3_key, v2_array_key, attributes_key, fields_understood, opened}
-use Rattle.zarrs_array_metadata.specs.Shown.{shown}
-use Rattle.zarrs_array_metadata.specs.Writing.{Put, IsWrittenBy, erasures}
+use Rattle.zarrs_creation.specs.Meanings.{Meaning, creation, as_v3}
+use Rattle.zarrs_creation.specs.Opening.{v3_key, v2_array_key, attributes_key, fields_understood, opened}
+use Rattle.zarrs_creation.specs.Shown.{shown}
+use Rattle.zarrs_creation.specs.Writing.{Put, IsWrittenBy, erasures}
 use Rattle.zarrs.specs.Puts.{ArePut, RefusesPuts, StoresMetadata, RefusesStoreMetadata}
 
 -- what is written for the document reads as it: its tree nests at most as deep as JSON that is read, has no left-out

@@ -19,8 +19,8 @@ use Rattle.zarrs_codec.specs.Chains.{whole_chunk, with_places}
 use Rattle.zarrs_codec.specs.Metadata.{ChainData, BytesCodecData, cells, sharding}
 use Rattle.zarrs_codec.specs.Shardings.{sharded}
 use Rattle.zarrs_codec.specs.Through.{through_all}
-use Rattle.zarrs_steps.specs.Layout.{Layout, layout_at}
-use Rattle.zarrs_array_metadata.specs.Meanings.{Meaning}
+use Rattle.zarrs_calls.specs.Layout.{Layout, layout_at}
+use Rattle.zarrs_creation.specs.Meanings.{Meaning}
 
 abbrev pub array_codec_meant : ArrayCodecData → ArrayMeaning
 array_codec_meant (rearranging.transpose order) = transposed order

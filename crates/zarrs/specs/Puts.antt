@@ -1,13 +1,13 @@
 -- What calls on the metadata of an array do in its store.
 use Rattle.std.specs.Prelude.{◌≡◌, ◌≢◌, ◌⊎◌, ℕ, List, [], ◌∷◌, ◌++◌, Ok}
 use Rattle.zarrs_storage.specs.Store.{StoreState}
-use Rattle.zarrs_steps.specs.Changes.{IsPut}
-use Rattle.zarrs_steps.specs.Refusals.{Refusal, out_of_memory}
-use Rattle.zarrs_layout.specs.Parts.{RefusesPut}
-use Rattle.zarrs_document_v2.specs.View.{MetadataData}
+use Rattle.zarrs_calls.specs.Changes.{IsPut}
+use Rattle.zarrs_calls.specs.Refusals.{Refusal, out_of_memory}
+use Rattle.zarrs_array_layout.specs.Parts.{RefusesPut}
+use Rattle.zarrs_metadata_v2.specs.View.{MetadataData}
 use Rattle.zarrs_options.specs.Options.{MetadataOptionsData}
-use Rattle.zarrs_array_metadata.specs.Shown.{shown}
-use Rattle.zarrs_array_metadata.specs.Writing.{Put, IsWrittenBy}
+use Rattle.zarrs_creation.specs.Shown.{shown}
+use Rattle.zarrs_creation.specs.Writing.{Put, IsWrittenBy}
 
 -- this is put by one writing call, and then the rest is done
 pub record PutsFirst (put : Put) (rest : StoreState → Type 0) (old : StoreState) : Type 0 where

@@ -2,20 +2,20 @@
 use Rattle.std.specs.Prelude.{◌≡◌, ◌⊎◌, ℕ, true, false, List, [], ◌∷◌, ◌++◌, Some, None, Ok}
 use Rattle.zarrs_storage.specs.Store.{StoreState}
 use Rattle.zarrs_keys.specs.Paths.{is_node_path}
-use Rattle.zarrs_steps.specs.Layout.{Layout, IsLawful, metadata_keys_at}
-use Rattle.zarrs_steps.specs.Content.{value_at}
-use Rattle.zarrs_steps.specs.Refusals.{Refusal, out_of_memory}
-use Rattle.zarrs_steps.specs.Laws.{HaveEqualContent}
-use Rattle.zarrs_document.specs.Document.{DocumentData, IsDocumentText}
-use Rattle.zarrs_document_v2.specs.Document.{DocumentV2Data}
-use Rattle.zarrs_document_v2.specs.View.{MetadataData, v3, v2}
+use Rattle.zarrs_calls.specs.Layout.{Layout, IsLawful, metadata_keys_at}
+use Rattle.zarrs_calls.specs.Content.{value_at}
+use Rattle.zarrs_calls.specs.Refusals.{Refusal, out_of_memory}
+use Rattle.zarrs_calls.specs.Laws.{HaveEqualContent}
+use Rattle.zarrs_metadata_v3.specs.Document.{DocumentData, IsDocumentText}
+use Rattle.zarrs_metadata_v2.specs.Document.{DocumentV2Data}
+use Rattle.zarrs_metadata_v2.specs.View.{MetadataData, v3, v2}
 use Rattle.zarrs_options.specs.Options.{MetadataOptionsData}
 use Rattle.zarrs_options.specs.declared.versions.MetadataConvertVersion.TheVariants as convert
 use Rattle.zarrs_options.specs.declared.versions.MetadataRetrieveVersion.TheVariants as retrieve
-use Rattle.zarrs_array_metadata.specs.Meanings.{Meaning, creation}
-use Rattle.zarrs_array_metadata.specs.Opening.{v3_key, v2_array_key, attributes_key, opened}
-use Rattle.zarrs_array_metadata.specs.Shown.{shown}
-use Rattle.zarrs_array_metadata.specs.Writing.{Put, put_at}
+use Rattle.zarrs_creation.specs.Meanings.{Meaning, creation}
+use Rattle.zarrs_creation.specs.Opening.{v3_key, v2_array_key, attributes_key, opened}
+use Rattle.zarrs_creation.specs.Shown.{shown}
+use Rattle.zarrs_creation.specs.Writing.{Put, put_at}
 use Rattle.zarrs.specs.Laws.{IsReadAgainV3}
 use Rattle.zarrs.specs.Puts.{ArePut, RefusesPuts}
 

@@ -25,14 +25,14 @@ pub use part_reads::ArrayPartialDecoder;
 pub use partial_encoder::ArrayPartialEncoder;
 use serde_json::{Map, Value};
 use std::alloc::Global;
-use zarrs_array_metadata::{parts_said, stored_metadata};
 use zarrs_chunk_grid::{ChunkGrid, ChunkGridTraits};
 use zarrs_codec::{CodecChain, CodecOptions, CodecSpecificOptions};
+use zarrs_creation::{parts_said, stored_metadata};
 use zarrs_data_type::{DataType, FillValue};
-use zarrs_document::DimensionName;
-use zarrs_document_v2::ArrayMetadata;
 use zarrs_engine::Engine;
 use zarrs_keys::{ChunkKeyEncoding, NodePath};
+use zarrs_metadata_v2::ArrayMetadata;
+use zarrs_metadata_v3::DimensionName;
 use zarrs_options::{
     ArrayCreateError, ArrayMetadataOptions, MetadataRetrieveVersion, StorageTransformerChain,
 };
@@ -55,14 +55,14 @@ pub struct Array<TStorage> {
 impl<TStorage> Array<TStorage> {
     ghost use Rattle.std.specs.Prelude.{◌≡◌, map, option_map};
     ghost use Rattle.serde_json.specs.View.{members_view};
-    ghost use Rattle.zarrs_document.specs.View.{name_view};
-    ghost use Rattle.zarrs_document_v2.specs.View.{metadata_view};
+    ghost use Rattle.zarrs_metadata_v3.specs.View.{name_view};
+    ghost use Rattle.zarrs_metadata_v2.specs.View.{metadata_view};
     ghost use Rattle.zarrs_chunk_grid.specs.Configurations.{counts_of};
     ghost use Rattle.zarrs_chunk_grid.specs.GridView.{configuration_of};
     ghost use Rattle.zarrs_types.specs.Kind.{kind};
     ghost use Rattle.zarrs_codec.specs.Metadata.{chain_data};
-    ghost use Rattle.zarrs_array_metadata.specs.Meanings.{shape_said, attributes_of};
-    ghost use Rattle.zarrs_array_metadata.specs.Meanings.{dimension_names_of};
+    ghost use Rattle.zarrs_creation.specs.Meanings.{shape_said, attributes_of};
+    ghost use Rattle.zarrs_creation.specs.Meanings.{dimension_names_of};
     ghost use Rattle.zarrs.specs.Arrays.{metadata_of_array, meaning_of_array, layout_of_array};
     ghost use Rattle.zarrs.specs.Arrays.{path_of_array, storage_of_array};
 
@@ -183,9 +183,9 @@ impl<TStorage> Array<TStorage> {
 
 impl<TStorage: Drop> Array<TStorage> {
     ghost use Rattle.std.specs.Prelude.{◌≡◌, IfOk, IfErr};
-    ghost use Rattle.zarrs_document_v2.specs.View.{metadata_view};
+    ghost use Rattle.zarrs_metadata_v2.specs.View.{metadata_view};
     ghost use Rattle.zarrs_options.specs.Refusals.{create_refusal_of, RefusesCreation};
-    ghost use Rattle.zarrs_array_metadata.specs.Meanings.{creation, created};
+    ghost use Rattle.zarrs_creation.specs.Meanings.{creation, created};
     ghost use Rattle.zarrs.specs.Arrays.{metadata_of_array, path_of_array, storage_of_array};
     ghost use Rattle.zarrs.specs.Arrays.{HasDefaultOptions};
 
@@ -254,7 +254,7 @@ impl<TStorage: ReadableStorageTraits + Drop> Array<TStorage> {
     ghost use Rattle.std.specs.Prelude.{◌≡◌, Ok, IfOk, IfErr};
     ghost use Rattle.zarrs_options.specs.declared.versions.MetadataRetrieveVersion.TheVariants as retrieve;
     ghost use Rattle.zarrs_options.specs.Refusals.{create_refusal_of, RefusesCreation};
-    ghost use Rattle.zarrs_array_metadata.specs.Opening.{opened, MayAskMetadata};
+    ghost use Rattle.zarrs_creation.specs.Opening.{opened, MayAskMetadata};
     ghost use Rattle.zarrs.specs.Arrays.{metadata_of_array, path_of_array, storage_of_array};
     ghost use Rattle.zarrs.specs.Arrays.{HasDefaultOptions};
 

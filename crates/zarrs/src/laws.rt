@@ -1,7 +1,7 @@
 //! Laws of arrays and of their metadata. These functions do nothing: their contracts are the facts.
 ghost use Rattle.std.specs.Prelude.{◌≡◌, Ok};
-ghost use Rattle.zarrs_steps.specs.Layout.{IsLawful};
-ghost use Rattle.zarrs_array_metadata.specs.Meanings.{creation};
+ghost use Rattle.zarrs_calls.specs.Layout.{IsLawful};
+ghost use Rattle.zarrs_creation.specs.Meanings.{creation};
 ghost use Rattle.zarrs.specs.Layouts.{layout_meant};
 ghost use Rattle.zarrs.specs.Laws.{WrittenMetadataOpens, NormalMetadataSaysTheSame};
 ghost use Rattle.zarrs.specs.Laws.{ConvertedMetadataSaysTheSame, ShownMetadataSaysTheSame};

@@ -26,19 +26,19 @@ pub use zarrs_data_type::{
     ExpectedVariableLengthBytesError, FillValue, FromArrayBytes, IntoArrayBytes, IntoField,
     data_type,
 };
-pub use zarrs_document::{
-    AdditionalFieldV3, AdditionalFieldsV3, ArrayMetadataV3, DimensionName, FillValueMetadata,
-};
-pub use zarrs_document_v2::{
-    ArrayMetadata, ArrayMetadataV2, ArrayMetadataV2Order, ArrayMetadataV2ToV3Error,
-    DataTypeMetadataV2, array_metadata_v2_to_v3,
-};
 pub use zarrs_engine::{ArrayError, Call, Engine, Reply};
 pub use zarrs_keys::{
     ChunkKeyEncoding, ChunkKeyEncodingTraits, ChunkKeySeparator, KeySuffix, KeySuffixError,
     NodePath, NodePathError,
 };
 pub use zarrs_metadata::{MetadataError, MetadataV3, PluginCreateError};
+pub use zarrs_metadata_v2::{
+    ArrayMetadata, ArrayMetadataV2, ArrayMetadataV2Order, ArrayMetadataV2ToV3Error,
+    DataTypeMetadataV2, array_metadata_v2_to_v3,
+};
+pub use zarrs_metadata_v3::{
+    AdditionalFieldV3, AdditionalFieldsV3, ArrayMetadataV3, DimensionName, FillValueMetadata,
+};
 pub use zarrs_options::{
     AdditionalFieldUnsupportedError, ArrayBuilderChunkGridMetadata, ArrayCreateError,
     ArrayMetadataOptions, MetadataConvertVersion, MetadataEraseVersion, MetadataRetrieveVersion,

@@ -8,11 +8,11 @@ use Rattle.zarrs_chunk_grid.proofs.Chunks.{box_long}
 use Rattle.zarrs_storage.specs.Store.{StoreState}
 use Rattle.zarrs_data_type.specs.ArrayData.{ArrayData}
 use Rattle.zarrs_data_type.specs.Cell.{Cell}
-use Rattle.zarrs_steps.specs.Layout.{Layout, IsLawful}
-use Rattle.zarrs_steps.specs.Content.{value_at, decoded_cells, cell_at_place, chunk_cell}
-use Rattle.zarrs_steps.specs.Changes.{RetrievesChunk}
-use Rattle.zarrs_steps.proofs.Contents.{content_in_box}
-use Rattle.zarrs_steps.proofs.Shapes.{first_held, slice_there}
+use Rattle.zarrs_calls.specs.Layout.{Layout, IsLawful}
+use Rattle.zarrs_calls.specs.Content.{value_at, decoded_cells, cell_at_place, chunk_cell}
+use Rattle.zarrs_calls.specs.Changes.{RetrievesChunk}
+use Rattle.zarrs_calls.proofs.Contents.{content_in_box}
+use Rattle.zarrs_calls.proofs.Shapes.{first_held, slice_there}
 
 -- there is a cell at a place of what was found, so something was
 some_found : (found : Option (List Cell)) (k : ℕ) (cell : Cell) → cell_at_place found k ≡ Some cell → IsSome found

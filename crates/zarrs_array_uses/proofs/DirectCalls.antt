@@ -4,14 +4,14 @@ use Rattle.zarrs_subset.specs.Regions.{Box}
 use Rattle.zarrs_data_type.specs.ArrayData.{ArrayData}
 use Rattle.zarrs_data_type.specs.Cell.{Cell}
 use Rattle.zarrs_data_type.specs.Cells.{cells}
-use Rattle.zarrs_steps.specs.Canon.{IsCanonical}
-use Rattle.zarrs_steps.specs.ChunkBoxes.{chunks_met}
-use Rattle.zarrs_steps.specs.Content.{value_at}
-use Rattle.zarrs_steps.specs.Events.{Event, Happens, one_event, read_of_region, region_was_read, region_was_stored, store_of_region}
-use Rattle.zarrs_steps.specs.Laws.{CourseReadAfterStore, CoursesKeepCanon}
-use Rattle.zarrs_steps.specs.Layout.{ArrayState, Layout, IsLawful}
-use Rattle.zarrs_steps.specs.Outcome as outcome
-use Rattle.zarrs_steps.specs.Step.{RetrievesRegion, StoresRegion}
+use Rattle.zarrs_calls.specs.Canon.{IsCanonical}
+use Rattle.zarrs_calls.specs.ChunkBoxes.{chunks_met}
+use Rattle.zarrs_calls.specs.Content.{value_at}
+use Rattle.zarrs_calls.specs.Events.{Event, Happens, one_event, read_of_region, region_was_read, region_was_stored, store_of_region}
+use Rattle.zarrs_calls.specs.Laws.{CourseReadAfterStore, CoursesKeepCanon}
+use Rattle.zarrs_calls.specs.Layout.{ArrayState, Layout, IsLawful}
+use Rattle.zarrs_calls.specs.Outcome as outcome
+use Rattle.zarrs_calls.specs.Step.{RetrievesRegion, StoresRegion}
 
 module _ (layout after : Layout) (lawful : IsLawful layout) (same : after ≡ layout) (region : Box) (held first second : ArrayData) (old new : ArrayState) (shape : new.shape ≡ old.shape)
     (stored : StoresRegion layout false old.shape region held old.store new.store) (read : RetrievesRegion after new.shape region first new.store) (again : RetrievesRegion after new.shape region second new.store) where

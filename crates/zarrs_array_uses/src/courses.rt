@@ -1,8 +1,8 @@
 //! Calls of values, which the laws of calls serve too.
 ghost use Rattle.std.specs.Prelude.{◌≡◌, map, IfOk, OnOk};
 ghost use Rattle.zarrs_storage.specs.Memory.{open_state};
-ghost use Rattle.zarrs_steps.specs.Canon.{IsCanonical};
-ghost use Rattle.zarrs_steps.specs.Content.{value_at};
+ghost use Rattle.zarrs_calls.specs.Canon.{IsCanonical};
+ghost use Rattle.zarrs_calls.specs.Content.{value_at};
 ghost use Rattle.zarrs.specs.Arrays.{layout_of_array, store_of_array};
 
 use anyhow::Result;

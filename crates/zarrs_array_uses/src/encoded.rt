@@ -1,7 +1,7 @@
 //! Chunks as the bytes that are stored.
 ghost use Rattle.std.specs.Prelude.{◌≡◌, true, IfOk, OnOk, IsSome, IfSome};
 ghost use Rattle.zarrs_chunk_grid.specs.Grids.{box_at, has_box};
-ghost use Rattle.zarrs_steps.specs.Content.{decoded_cells};
+ghost use Rattle.zarrs_calls.specs.Content.{decoded_cells};
 ghost use Rattle.zarrs.specs.Arrays.{layout_of_array};
 
 use anyhow::Result;

@@ -21,11 +21,11 @@ use Rattle.zarrs_types.specs.Kind.{Kind}
 use Rattle.zarrs_codec_cells.specs.ShardingMetadata.{sizes_of}
 use Rattle.zarrs_codec_array.specs.Metadata.{ArrayCodecData}
 use Rattle.zarrs_codec.specs.Metadata.{BytesCodecData, ChainData, chain_said, extensions_of_chain}
-use Rattle.zarrs_document.specs.Document.{DocumentData}
-use Rattle.zarrs_document_v2.specs.View.{v3}
+use Rattle.zarrs_metadata_v3.specs.Document.{DocumentData}
+use Rattle.zarrs_metadata_v2.specs.View.{v3}
 use Rattle.zarrs_options.specs.Refusals.{CreateRefusal, data_type, chunk_grid, said_or, RefusesCreation}
-use Rattle.zarrs_array_metadata.proofs.Order.{bound, all_said}
-use Rattle.zarrs_array_metadata.specs.Meanings.{Meaning, creation_v3, names_said, path_said, created}
+use Rattle.zarrs_creation.proofs.Order.{bound, all_said}
+use Rattle.zarrs_creation.specs.Meanings.{Meaning, creation_v3, names_said, path_said, created}
 use Rattle.zarrs_builder.specs.Given.{FillData}
 use Rattle.zarrs_builder.specs.Builders.{BuilderData, FieldsData, fields_of}
 use Rattle.zarrs_builder.specs.Built.{codecs_chosen, sizes_said, cut_into, chain_chosen, grid_chosen, fill_chosen, fill_stated, ChosenData, chosen, document_with, document_of_fields, parts_of_fields, built, built_at, built_metadata}

@@ -18,12 +18,12 @@ use Rattle.zarrs_types.specs.Kind.{Kind}
 use Rattle.zarrs_codec_array.specs.Metadata.{ArrayCodecData, array_codec_data}
 use Rattle.zarrs_chain.specs.declared.options.CodecSpecificOptions.{CodecSpecificOptions}
 use Rattle.zarrs_codec.specs.Metadata.{BytesCodecData, bytes_codec_data}
-use Rattle.zarrs_document.specs.Fields.{FieldData}
-use Rattle.zarrs_document.specs.View.{name_view, fields_view}
-use Rattle.zarrs_document_v2.specs.View.{MetadataData, v3, v2}
+use Rattle.zarrs_metadata_v3.specs.Fields.{FieldData}
+use Rattle.zarrs_metadata_v3.specs.View.{name_view, fields_view}
+use Rattle.zarrs_metadata_v2.specs.View.{MetadataData, v3, v2}
 use Rattle.zarrs_options.specs.Given.{grid_given}
 use Rattle.zarrs_options.specs.declared.chunk_grid_metadata.ArrayBuilderChunkGridMetadata.{ArrayBuilderChunkGridMetadata}
-use Rattle.zarrs_array_metadata.specs.Meanings.{Meaning, shape_said, attributes_of, dimension_names_of}
+use Rattle.zarrs_creation.specs.Meanings.{Meaning, shape_said, attributes_of, dimension_names_of}
 use Rattle.zarrs.specs.Arrays.{default_specific_options}
 use Rattle.zarrs_builder.specs.Given.{type_given, FillData, by_metadata, fill_given}
 use Rattle.zarrs_builder.specs.declared.data_type.ArrayBuilderDataType.{ArrayBuilderDataType}

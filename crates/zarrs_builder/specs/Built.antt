@@ -11,10 +11,10 @@ use Rattle.zarrs_types.specs.FillMetadata.{fill_said, fill_written}
 use Rattle.zarrs_types.specs.Kind.{Kind}
 use Rattle.zarrs_types.specs.TypeMetadata.{kind_name, kind_extension, is_readable}
 use Rattle.zarrs_codec.specs.Metadata.{BytesCodecData, ChainData, sharding, default_codec, extensions_of_chain}
-use Rattle.zarrs_document.specs.Document.{DocumentData}
-use Rattle.zarrs_document_v2.specs.View.{MetadataData, v3}
+use Rattle.zarrs_metadata_v3.specs.Document.{DocumentData}
+use Rattle.zarrs_metadata_v2.specs.View.{MetadataData, v3}
 use Rattle.zarrs_options.specs.Refusals.{CreateRefusal, data_type, subchunk_shape, chunk_grid, fill_value, fill_value_metadata, out_of_memory, said_or}
-use Rattle.zarrs_array_metadata.specs.Meanings.{Meaning, creation_v3, path_said, names_said, ◌>>=◌}
+use Rattle.zarrs_creation.specs.Meanings.{Meaning, creation_v3, path_said, names_said, ◌>>=◌}
 use Rattle.zarrs_builder.specs.Given.{FillData, by_bytes, by_metadata}
 use Rattle.zarrs_builder.specs.Builders.{BuilderData, FieldsData, fields_of}
 

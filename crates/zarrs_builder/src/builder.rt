@@ -11,9 +11,9 @@ use std::alloc::{AllocError, Global};
 use zarrs_chunk_grid::{ChunkGrid, ChunkGridTraits};
 use zarrs_codec::{ArrayToArrayCodec, ArrayToBytesCodec, BytesToBytesCodecs, CodecSpecificOptions};
 use zarrs_data_type::IntoField;
-use zarrs_document::{AdditionalFieldsV3, DimensionName};
 use zarrs_keys::ChunkKeyEncoding;
 use zarrs_metadata::ChunkKeySeparator;
+use zarrs_metadata_v3::{AdditionalFieldsV3, DimensionName};
 use zarrs_options::{ArrayBuilderChunkGridMetadata, StorageTransformerChain};
 use zarrs_subset::ArrayShape;
 

@@ -1,11 +1,11 @@
 //! Copies of the parts of a builder.
 ghost use Rattle.std.specs.Prelude.{◌≡◌, map, option_map, IfOk};
 ghost use Rattle.zarrs_codec_array.specs.Metadata.{array_codec_data};
-ghost use Rattle.zarrs_document.specs.View.{name_view, fields_view};
+ghost use Rattle.zarrs_metadata_v3.specs.View.{name_view, fields_view};
 
 use std::alloc::{AllocError, Global};
 use zarrs_codec::ArrayToArrayCodec;
-use zarrs_document::{AdditionalFieldsV3, DimensionName};
+use zarrs_metadata_v3::{AdditionalFieldsV3, DimensionName};
 
 fn copied_name(name: &DimensionName) -> Result<DimensionName, AllocError>
     ensures { IfOk result (λ copy. name_view copy ≡ name_view name.now) }

@@ -5,7 +5,7 @@ ghost use Rattle.zarrs_builder.specs.Given.{AreGiven};
 
 use std::alloc::{AllocError, Global};
 use zarrs_data_type::IntoField;
-use zarrs_document::DimensionName;
+use zarrs_metadata_v3::DimensionName;
 
 /// Returns the names that these become.
 pub(crate) fn given_names<I: IntoIterator<Item = D>, D: IntoField<DimensionName>>(

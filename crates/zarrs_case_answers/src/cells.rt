@@ -2,12 +2,12 @@
 use serde_json::Value;
 use std::alloc::{AllocError, Global};
 use std::borrow::CowSlice;
+use zarrs_array_bytes::{ArrayBytes, ArrayBytesOptional};
+use zarrs_byte_strings::{ArrayBytesOffsets, ArrayBytesVariableLength};
 use zarrs_case_lines::Why;
 use zarrs_case_lines::words::{bytes, json, numbers, text};
-use zarrs_cells::{ArrayBytes, ArrayBytesOptional};
 use zarrs_metadata::FillValueMetadata;
 use zarrs_types::{DataType, DataTypeFillValueMetadataError, FillValue, inner_fill};
-use zarrs_variable::{ArrayBytesOffsets, ArrayBytesVariableLength};
 
 /// What is shown of data that is no list of values of the type.
 const NO_CELLS: &str = "no cells of the data type";

@@ -1,6 +1,6 @@
 //! The numbers of refusals.
+use zarrs_calls::ArrayError;
 use zarrs_options::ArrayCreateError;
-use zarrs_steps::ArrayError;
 use zarrs_storage::StorageError;
 
 /// The number of the refusal of a call, 0 for one that no call returns.

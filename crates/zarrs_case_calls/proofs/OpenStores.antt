@@ -1,9 +1,9 @@
 -- A store that may be asked anything.
 use Rattle.std.proofs.Common.{◌≡◌, ℕ, true, List, [], ◌∷◌}
-use Rattle.zarrs_steps.specs.Acts.{act_of, shape_after}
-use Rattle.zarrs_steps.specs.Layout.{ArrayState, Layout}
-use Rattle.zarrs_steps.specs.Reach.{MayAskCalls}
-use Rattle.zarrs_steps.specs.declared.call.Call.{Call}
+use Rattle.zarrs_calls.specs.Acts.{act_of, shape_after}
+use Rattle.zarrs_calls.specs.Layout.{ArrayState, Layout}
+use Rattle.zarrs_calls.specs.Reach.{MayAskCalls}
+use Rattle.zarrs_calls.specs.declared.call.Call.{Call}
 
 -- any calls may be made over it
 pub may_ask_calls : (layout : Layout) (calls : List Call) (state : ArrayState) → ((key : List ℕ) → state.store.may_ask key ≡ true) → ((key : List ℕ) (place : ℕ) → state.store.may_read key place ≡ true)

@@ -1,7 +1,7 @@
 //! Stores of bytes that a chunk's codecs decode.
 ghost use Rattle.std.specs.Prelude.{◌≡◌, true, length, IfOk, OnOk, IsSome, IfSome};
 ghost use Rattle.zarrs_chunk_grid.specs.Grids.{box_at, has_box};
-ghost use Rattle.zarrs_steps.specs.Content.{decoded_cells};
+ghost use Rattle.zarrs_calls.specs.Content.{decoded_cells};
 ghost use Rattle.zarrs.specs.Arrays.{layout_of_array};
 
 use crate::CaseArray;

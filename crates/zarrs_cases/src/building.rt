@@ -14,8 +14,8 @@ use zarrs_case_answers::{Answer, refused_creation, said};
 use zarrs_case_lines::Why;
 use zarrs_case_lines::call::Design;
 use zarrs_case_lines::words::{json, numbers, text};
-use zarrs_document::members;
 use zarrs_metadata::MetadataError;
+use zarrs_metadata_v3::members;
 
 /// A grid: numbers are a chunk shape, else it is the text that a builder is given.
 pub(crate) fn grid_of<'f>(

@@ -4,7 +4,7 @@ use Rattle.zarrs_codec_leaf.specs.declared.error.CodecError.{CodecError}
 use Rattle.zarrs_codec_leaf.specs.declared.error.CodecError.TheVariants as error
 use Rattle.zarrs_types.specs.Kind.{Kind}
 use Rattle.zarrs_types.specs.Cell.{Cell, held_size}
-use Rattle.zarrs_cells.specs.ArrayData.{ArrayData}
+use Rattle.zarrs_array_bytes.specs.ArrayData.{ArrayData}
 use Rattle.zarrs_subset.specs.Boxes.{position_count}
 use Rattle.zarrs_subset.specs.Regions.{Box}
 use Rattle.zarrs_chain.specs.Chain.{ChainMeaning, chunk_cells, chunk_encoding, chunk_leaves_out, partial_encoding}

@@ -2,7 +2,7 @@
 use Rattle.std.specs.Prelude.{◌≡◌, ◌⊎◌, ℕ, ◌*◌, ◌<◌, ◌≤◌, ◌^◌, Bool, true, Option, None, Some, List, [], length, option_map, slice_index_or, unwrap_or, if◌then◌else◌}
 use Rattle.zarrs_types.specs.Kind.{Kind}
 use Rattle.zarrs_types.specs.Cell.{Cell, held_size}
-use Rattle.zarrs_cells.specs.ArrayData.{ArrayData}
+use Rattle.zarrs_array_bytes.specs.ArrayData.{ArrayData}
 use Rattle.zarrs_codec_leaf.specs.declared.error.CodecError.{CodecError}
 use Rattle.zarrs_codec_leaf.specs.declared.error.CodecError.TheVariants as error
 use Rattle.zarrs_metadata.specs.Extension.{◌>>=◌}

@@ -8,7 +8,7 @@ ghost use Rattle.zarrs_subset.specs.Regions.{box_of};
 ghost use Rattle.zarrs_target.specs.States.{IsTarget, SameBox, StaysOutside, data_of_target};
 ghost use Rattle.zarrs_target.specs.States.{parent_box, target_box};
 ghost use Rattle.zarrs_target.specs.Targets.{takes_type, KeepsOutside};
-ghost use Rattle.zarrs_variable.specs.StringParts.{LiesInBox};
+ghost use Rattle.zarrs_byte_strings.specs.StringParts.{LiesInBox};
 ghost use Rattle.zarrs_parts.specs.Parts.{DecodesInto};
 ghost use Rattle.zarrs_parts.specs.Refusals.{RefusesIntoDecoding};
 ghost use Rattle.zarrs_parts.specs.ShardInto.{DecodesPartInto, RefusesIntoStep};

@@ -19,7 +19,7 @@ use Rattle.zarrs_types.specs.Kind.{Kind}
 use Rattle.zarrs_types.specs.Kind as type
 use Rattle.zarrs_types.specs.Cell.{Cell, bytes, none, some, is_value, are_values}
 use Rattle.zarrs_subset.specs.Pieces.{pieces, piece_at}
-use Rattle.zarrs_cells.proofs.Pieces.{length-pieces, length-flat_map_same}
+use Rattle.zarrs_array_bytes.proofs.Pieces.{length-pieces, length-flat_map_same}
 use Rattle.zarrs_codec_leaf.specs.Bytes.{cell_bytes}
 use Rattle.zarrs_codec_leaf.specs.PackBits.{is_bool, packed_byte, packed_len, packed, byte_bits, bits, flag_of}
 use Rattle.zarrs_codec_leaf.specs.PackBits.{flag_cell, are_zero, packbits_meaning}

@@ -4,7 +4,7 @@ use crate::data::{Cells, data_of, must_be, type_of, zero_of};
 use serde_json::Value;
 use std::alloc::Global;
 use std::process::Abort;
-use zarrs_cells::{DataType, FillValue};
+use zarrs_array_bytes::{DataType, FillValue};
 use zarrs_codec::{
     ArrayToArrayCodec, ArrayToBytesCodec, BytesCodec, BytesToBytesCodecs, ChainTraits, CodecChain,
     CodecError, CodecOptions, TransposeCodec, VlenUtf8Codec,

@@ -3,7 +3,7 @@ use crate::checks::{must, must_eq, must_for};
 use std::alloc::Global;
 use std::num::NonZeroU64;
 use std::process::Abort;
-use zarrs_cells::DataType;
+use zarrs_array_bytes::DataType;
 use zarrs_codec::{
     ArrayToBytesCodec, BytesCodec, CellsCodec, CodecError, CodecOptions, CodecSpecificOptions,
     Endianness, MaskCodec, OptionalCodec, PackBitsCodec, ReshapeCodec, ReshapeExtent,

@@ -3,7 +3,7 @@ use crate::checks::{must_eq, must_for};
 use std::alloc::Global;
 use std::borrow::CowSlice;
 use std::process::Abort;
-use zarrs_cells::{ArrayBytes, ArrayBytesOffsets, ArrayBytesOptional, DataType, FillValue};
+use zarrs_array_bytes::{ArrayBytes, ArrayBytesOffsets, ArrayBytesOptional, DataType, FillValue};
 use zarrs_metadata::MetadataV3;
 
 /// Data in memory.

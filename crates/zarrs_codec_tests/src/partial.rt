@@ -3,7 +3,7 @@ use crate::checks::{must, must_eq};
 use std::alloc::Global;
 use std::num::NonZeroU64;
 use std::process::Abort;
-use zarrs_cells::{ArrayBytes, DataType, FillValue};
+use zarrs_array_bytes::{ArrayBytes, DataType, FillValue};
 use zarrs_codec::{
     ArrayToBytesCodec, BytesCodec, BytesToBytesCodecs, ChainTraits, CodecChain, CodecError,
     CodecOptions, PartialWrite, ShardingCodec, ShardingIndexLocation,

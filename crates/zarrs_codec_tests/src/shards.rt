@@ -7,7 +7,7 @@ ghost use Rattle.zarrs_subset.specs.Boxes.{position_count};
 use crate::checks::{must, must_eq};
 use std::alloc::Global;
 use std::process::Abort;
-use zarrs_cells::{ArrayBytes, DataType};
+use zarrs_array_bytes::{ArrayBytes, DataType};
 use zarrs_shard::laws::{
     parts_follow_one_another, shards_are_lawful, shards_compact_to_their_encoding,
     subchunks_fill_their_chunk,

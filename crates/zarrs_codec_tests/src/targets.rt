@@ -7,7 +7,7 @@ use crate::checks::{must, must_eq};
 use crate::data::{Cells, data_of};
 use std::alloc::Global;
 use std::process::Abort;
-use zarrs_cells::{ArrayBytes, lies_in_box};
+use zarrs_array_bytes::{ArrayBytes, lies_in_box};
 use zarrs_data_type::ArrayBytesFixedDisjointViewCreateError;
 use zarrs_subset::ArraySubset;
 use zarrs_target::ArrayBytesDecodeIntoTarget;

@@ -8,11 +8,11 @@ use Rattle.zarrs_types.specs.Kind as type
 use Rattle.zarrs_types.specs.Cell.{bytes, takes_any_bytes}
 use Rattle.zarrs_types.specs.Same.{kind_eq, kind_eq-Decides}
 use Rattle.zarrs_types.proofs.Sizes.{element_size-positive}
-use Rattle.zarrs_cells.specs.ArrayData.{fixed}
-use Rattle.zarrs_cells.specs.Cells.{cells}
-use Rattle.zarrs_cells.proofs.Fixed.{cells-held}
-use Rattle.zarrs_cells.proofs.Pieces.{length-flat_map_same, pieces-flat_map}
-use Rattle.zarrs_cells.proofs.Validity.{any_held}
+use Rattle.zarrs_array_bytes.specs.ArrayData.{fixed}
+use Rattle.zarrs_array_bytes.specs.Cells.{cells}
+use Rattle.zarrs_array_bytes.proofs.Fixed.{cells-held}
+use Rattle.zarrs_array_bytes.proofs.Pieces.{length-flat_map_same, pieces-flat_map}
+use Rattle.zarrs_array_bytes.proofs.Validity.{any_held}
 
 -- any bytes are values of a type that is this one
 pub same_any : (k l : Kind) → kind_eq k l ≡ true → takes_any_bytes l ≡ true → takes_any_bytes k ≡ true

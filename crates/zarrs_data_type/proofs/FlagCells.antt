@@ -9,10 +9,10 @@ use Rattle.std.proofs.lemmas.Simd.{map-map}
 use Rattle.zarrs_types.specs.Kind.{Kind}
 use Rattle.zarrs_types.specs.Kind as type
 use Rattle.zarrs_types.specs.Cell.{bytes}
-use Rattle.zarrs_cells.specs.ArrayData.{fixed}
-use Rattle.zarrs_cells.specs.Cells.{cells}
-use Rattle.zarrs_cells.proofs.Fixed.{cells-held, cells-not_held}
-use Rattle.zarrs_cells.proofs.Pieces.{length-flat_map_same, pieces-flat_map}
+use Rattle.zarrs_array_bytes.specs.ArrayData.{fixed}
+use Rattle.zarrs_array_bytes.specs.Cells.{cells}
+use Rattle.zarrs_array_bytes.proofs.Fixed.{cells-held, cells-not_held}
+use Rattle.zarrs_array_bytes.proofs.Pieces.{length-flat_map_same, pieces-flat_map}
 
 abbrev flag : Bool → List ℕ
 flag b = from_bool b ∷ []

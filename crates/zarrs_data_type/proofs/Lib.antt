@@ -1,9 +1,9 @@
-pub use Rattle.zarrs_cells.proofs.ByteStrings
-pub use Rattle.zarrs_cells.proofs.Cells
-pub use Rattle.zarrs_cells.proofs.Filled
-pub use Rattle.zarrs_cells.proofs.Fixed
-pub use Rattle.zarrs_cells.proofs.Pieces
-pub use Rattle.zarrs_cells.proofs.Validity
+pub use Rattle.zarrs_array_bytes.proofs.ByteStrings
+pub use Rattle.zarrs_array_bytes.proofs.Cells
+pub use Rattle.zarrs_array_bytes.proofs.Filled
+pub use Rattle.zarrs_array_bytes.proofs.Fixed
+pub use Rattle.zarrs_array_bytes.proofs.Pieces
+pub use Rattle.zarrs_array_bytes.proofs.Validity
 pub use Rattle.zarrs_types.proofs.Same
 pub use Rattle.zarrs_types.proofs.Sizes
 pub mod ElementCells

@@ -11,11 +11,11 @@ use Rattle.std.proofs.lemmas.List.Sums.{sum_by-cons}
 use Rattle.zarrs_types.specs.Kind.{Kind, inner_of}
 use Rattle.zarrs_types.specs.Kind as type
 use Rattle.zarrs_types.specs.Cell.{Cell, none, some}
-use Rattle.zarrs_cells.specs.ArrayData.{ArrayData, optional}
-use Rattle.zarrs_cells.specs.Cells.{cell_at, cells, HasCells}
-use Rattle.zarrs_cells.specs.Present.{flag_set, present_cells, spread_cells}
-use Rattle.zarrs_cells.proofs.Cells.{cells-parts, HasCells-cells}
-use Rattle.zarrs_cells.proofs.Filled.{fits-optional}
+use Rattle.zarrs_array_bytes.specs.ArrayData.{ArrayData, optional}
+use Rattle.zarrs_array_bytes.specs.Cells.{cell_at, cells, HasCells}
+use Rattle.zarrs_array_bytes.specs.Present.{flag_set, present_cells, spread_cells}
+use Rattle.zarrs_array_bytes.proofs.Cells.{cells-parts, HasCells-cells}
+use Rattle.zarrs_array_bytes.proofs.Filled.{fits-optional}
 use Rattle.zarrs_data_type.specs.Elements.{option_cell}
 
 -- a type with an inner type is the optional type of it

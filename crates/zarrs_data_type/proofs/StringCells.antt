@@ -13,8 +13,8 @@ use Rattle.std.proofs.lemmas.List.FromFn.{length-map-range_with_len, get_or-map-
 use Rattle.zarrs_types.specs.Kind.{Kind, is_variable}
 use Rattle.zarrs_types.specs.Cell.{Cell, bytes, none, is_element, is_value, are_values}
 use Rattle.zarrs_types.specs.Same.{kind_eq, kind_eq-Decides}
-use Rattle.zarrs_cells.specs.ArrayData.{variable}
-use Rattle.zarrs_cells.specs.Cells.{cells}
+use Rattle.zarrs_array_bytes.specs.ArrayData.{variable}
+use Rattle.zarrs_array_bytes.specs.Cells.{cells}
 
 length-map : {X Y : Type 0} (f : X → Y) (xs : List X) → length (map f xs) ≡ length xs
 length-map f [] = refl

@@ -1,7 +1,7 @@
-pub use Rattle.zarrs_cells.specs.ArrayData
-pub use Rattle.zarrs_cells.specs.Cells
-pub use Rattle.zarrs_cells.specs.Offsets
-pub use Rattle.zarrs_cells.specs.Present
+pub use Rattle.zarrs_array_bytes.specs.ArrayData
+pub use Rattle.zarrs_array_bytes.specs.Cells
+pub use Rattle.zarrs_array_bytes.specs.Offsets
+pub use Rattle.zarrs_array_bytes.specs.Present
 pub use Rattle.zarrs_types.specs.Cell
 pub use Rattle.zarrs_types.specs.Kind
 pub use Rattle.zarrs_types.specs.Same

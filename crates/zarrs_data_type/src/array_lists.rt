@@ -1,14 +1,14 @@
 //! Lists of values and array bytes, which stand for the same cells.
 ghost use Rattle.std.specs.Prelude.{◌≡◌, Bool, true, map, Some, IfOk, IfErr, OnOk};
-ghost use Rattle.zarrs_cells.specs.ArrayData.{ArrayData, data_of};
-ghost use Rattle.zarrs_cells.specs.Cells.{cells};
+ghost use Rattle.zarrs_array_bytes.specs.ArrayData.{ArrayData, data_of};
+ghost use Rattle.zarrs_array_bytes.specs.Cells.{cells};
 ghost use Rattle.zarrs_types.specs.Kind.{Kind, kind};
 ghost use Rattle.zarrs_data_type.specs.Elements.{RefusesElement, RefusesCells};
 
 use crate::element::{Element, ElementOwned};
 use crate::error::ElementError;
 use std::alloc::Global;
-use zarrs_cells::ArrayBytes;
+use zarrs_array_bytes::ArrayBytes;
 use zarrs_types::DataType;
 
 /// What a read returns: array bytes as they are, or the values of their cells.

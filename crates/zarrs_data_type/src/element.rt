@@ -1,8 +1,8 @@
 //! Values of Rust that stand for cells.
 ghost use Rattle.std.specs.Prelude.{◌≡◌, [], ◌∷◌, Bool, true, map, Some, IfOk, IfErr, OnOk};
 ghost use Rattle.std.specs.Int.{w8, w16, w32, w64, cast_unsigned, to_le_bytes};
-ghost use Rattle.zarrs_cells.specs.ArrayData.{data_of};
-ghost use Rattle.zarrs_cells.specs.Cells.{cells};
+ghost use Rattle.zarrs_array_bytes.specs.ArrayData.{data_of};
+ghost use Rattle.zarrs_array_bytes.specs.Cells.{cells};
 ghost use Rattle.zarrs_types.specs.Cell.{Cell, bytes};
 ghost use Rattle.zarrs_types.specs.Kind.{Kind, kind};
 ghost use Rattle.zarrs_types.specs.Kind as type;
@@ -12,7 +12,7 @@ ghost use Rattle.zarrs_data_type.specs.Elements.{RefusesElement, RefusesCells};
 use crate::error::ElementError;
 use std::alloc::Global;
 use std::mem;
-use zarrs_cells::ArrayBytes;
+use zarrs_array_bytes::ArrayBytes;
 use zarrs_types::DataType;
 
 mod copies;

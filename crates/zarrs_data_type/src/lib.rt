@@ -10,7 +10,7 @@ pub use array_lists::{FromArrayBytes, IntoArrayBytes};
 pub use element::{Element, ElementOwned};
 pub use error::{ArrayBytesFixedDisjointViewCreateError, ElementError};
 pub use into_field::IntoField;
-pub use zarrs_cells::{
+pub use zarrs_array_bytes::{
     ArrayBytes, ArrayBytesOffsets, ArrayBytesOptional, ArrayBytesVariableLength,
     ExpectedFixedLengthBytesError, ExpectedOptionalBytesError, ExpectedVariableLengthBytesError,
     VariableLengthBuilder, lies_in_box,

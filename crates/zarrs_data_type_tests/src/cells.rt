@@ -3,7 +3,7 @@ use crate::checks::{must, must_eq, must_for};
 use std::alloc::Global;
 use std::borrow::CowSlice;
 use std::process::Abort;
-use zarrs_cells::{
+use zarrs_array_bytes::{
     ArrayBytes, ArrayBytesOffsets, ArrayBytesOptional, ArrayBytesVariableLength, DataType,
     ExpectedOptionalBytesError, ExpectedVariableLengthBytesError, lies_in_box,
 };

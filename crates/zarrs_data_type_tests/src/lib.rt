@@ -1,5 +1,5 @@
 //! What no case file can say of types, of cells and of values of the language, over the public calls of `zarrs_types`,
-//! `zarrs_numbers`, `zarrs_cells` and `zarrs_data_type` alone.
+//! `zarrs_numbers`, `zarrs_array_bytes` and `zarrs_data_type` alone.
 #![tactic(auto)]
 
 #[cfg(test)]

@@ -9,16 +9,16 @@ use Rattle.zarrs_subset.specs.Pieces.{piece_at, pieces}
 use Rattle.zarrs_subset.specs.Regions.{Box, IsLong, in_box, place_in}
 use Rattle.zarrs_subset.proofs.Bytes.{place_in_below}
 use Rattle.zarrs_subset.proofs.Positions.{in_box-offset_by, unravel_in}
-use Rattle.zarrs_variable.specs.StringParts.{LiesInBox}
-use Rattle.zarrs_variable.proofs.Inside.{holds_inside}
+use Rattle.zarrs_byte_strings.specs.StringParts.{LiesInBox}
+use Rattle.zarrs_byte_strings.proofs.Inside.{holds_inside}
 use Rattle.zarrs_types.specs.Kind.{Kind, element_size, fixed_size, inner_of}
 use Rattle.zarrs_types.specs.Kind as type
 use Rattle.zarrs_types.specs.Cell.{Cell, bytes, none, some}
-use Rattle.zarrs_cells.specs.ArrayData.{ArrayData, fixed, variable, optional}
-use Rattle.zarrs_cells.specs.Cells.{cell_at, fits}
-use Rattle.zarrs_cells.specs.Parts.{TakesEach}
-use Rattle.zarrs_cells.proofs.Cells.{fitting-fixed}
-use Rattle.zarrs_cells.proofs.Pieces.{length-fixed_cell, length-flat_map_same, pieces-flat_map}
+use Rattle.zarrs_array_bytes.specs.ArrayData.{ArrayData, fixed, variable, optional}
+use Rattle.zarrs_array_bytes.specs.Cells.{cell_at, fits}
+use Rattle.zarrs_array_bytes.specs.Parts.{TakesEach}
+use Rattle.zarrs_array_bytes.proofs.Cells.{fitting-fixed}
+use Rattle.zarrs_array_bytes.proofs.Pieces.{length-fixed_cell, length-flat_map_same, pieces-flat_map}
 use Rattle.zarrs_target.specs.Targets.{HasLevels, KeepsOutside, depth_of}
 use Rattle.zarrs_target.proofs.TypeSizes.{element_is, optional_is, some_is}
 use Rattle.zarrs_parts.proofs.Stays.{cell_stays}

@@ -10,29 +10,29 @@ use Rattle.std.proofs.lemmas.Option.{slice_get_within, get_or_from_slice_get}
 use Rattle.zarrs_subset.specs.Boxes.{position_count, place, InShape, offset_by, offset_from}
 use Rattle.zarrs_subset.specs.Regions.{Box, Holds, IsLong, place_in}
 use Rattle.zarrs_subset.proofs.Positions.{in_box-offset_by, offset_from-by, offset_from-in}
-use Rattle.zarrs_variable.proofs.Inside.{holds_inside}
+use Rattle.zarrs_byte_strings.proofs.Inside.{holds_inside}
 use Rattle.zarrs_storage.specs.Store.{StoreState}
 use Rattle.zarrs_data_type.specs.Kind.{Kind, cell_size, is_variable}
 use Rattle.zarrs_data_type.specs.Cell.{Cell, none, held_size}
 use Rattle.zarrs_data_type.specs.ArrayData.{ArrayData}
 use Rattle.zarrs_data_type.specs.Cells.{cells, fits, cell_at}
-use Rattle.zarrs_cells.specs.Parts.{TakesEach}
-use Rattle.zarrs_cells.proofs.Cells.{cells-parts}
+use Rattle.zarrs_array_bytes.specs.Parts.{TakesEach}
+use Rattle.zarrs_array_bytes.proofs.Cells.{cells-parts}
 use Rattle.zarrs_target.specs.declared.target.ArrayBytesDecodeIntoTarget.{ArrayBytesDecodeIntoTarget}
 use Rattle.zarrs_target.specs.States.{IsTarget, data_of_target, parent_box, target_box}
 use Rattle.zarrs_target.specs.Targets.{takes_type}
 use Rattle.zarrs_target.proofs.TypeSizes.{type_taken, taken_fixed}
 use Rattle.zarrs_target.proofs.Boxes.{bytes_within, lies_at_origin, origin_long}
 use Rattle.zarrs_target.proofs.Fills.{held_fixed, size_is}
-use Rattle.zarrs_steps.specs.Layout.{Layout, IsLawful}
-use Rattle.zarrs_steps.specs.ArgumentRefusals.{dimensions_refusal, into_refusal, read_region_refusal, read_size_refusal, region_refusal}
-use Rattle.zarrs_steps.specs.ChunkBoxes.{chunks_met}
-use Rattle.zarrs_steps.specs.Refusals as refusal
-use Rattle.zarrs_steps.specs.Refusals.{Refusal, RefusesBy, refuse_if}
-use Rattle.zarrs_steps.specs.Reads.{ReadsRegion}
-use Rattle.zarrs_steps.specs.StateRefusals.{RefusesRegionRead}
-use Rattle.zarrs_steps.specs.Step.{RefusesRetrieveRegion}
-use Rattle.zarrs_steps.proofs.RefusalLemmas.{second_refusal}
+use Rattle.zarrs_calls.specs.Layout.{Layout, IsLawful}
+use Rattle.zarrs_calls.specs.ArgumentRefusals.{dimensions_refusal, into_refusal, read_region_refusal, read_size_refusal, region_refusal}
+use Rattle.zarrs_calls.specs.ChunkBoxes.{chunks_met}
+use Rattle.zarrs_calls.specs.Refusals as refusal
+use Rattle.zarrs_calls.specs.Refusals.{Refusal, RefusesBy, refuse_if}
+use Rattle.zarrs_calls.specs.Reads.{ReadsRegion}
+use Rattle.zarrs_calls.specs.StateRefusals.{RefusesRegionRead}
+use Rattle.zarrs_calls.specs.Step.{RefusesRetrieveRegion}
+use Rattle.zarrs_calls.proofs.RefusalLemmas.{second_refusal}
 use Rattle.zarrs_engine.specs.Into.{HasContent, place_of, target_refusal}
 
 -- ---- what the arguments decide

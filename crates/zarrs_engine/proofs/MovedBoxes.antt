@@ -9,8 +9,8 @@ use Rattle.zarrs_subset.proofs.Bytes.{holds_along}
 use Rattle.zarrs_subset.proofs.Overlaps.{in_box-overlap, length-zip_with}
 use Rattle.zarrs_subset.proofs.Parts.{zip_with-at}
 use Rattle.zarrs_subset.proofs.Positions.{in_box-offset_by, offset_by-from, offset_from-by, offset_from-in, unravel-place}
-use Rattle.zarrs_variable.specs.StringParts.{LiesInBox}
-use Rattle.zarrs_variable.proofs.Inside.{holds_inside}
+use Rattle.zarrs_byte_strings.specs.StringParts.{LiesInBox}
+use Rattle.zarrs_byte_strings.proofs.Inside.{holds_inside}
 
 -- ---- lists of numbers, one for each dimension
 

@@ -17,19 +17,19 @@ use Rattle.zarrs_data_type.specs.Cell.{held_size}
 use Rattle.zarrs_data_type.specs.Cells.{HasCells}
 use Rattle.zarrs_data_type.proofs.Cells.{HasCells-some}
 use Rattle.zarrs_source.specs.Stored.{value_or_empty}
-use Rattle.zarrs_steps.specs.Layout.{Layout}
-use Rattle.zarrs_steps.specs.Content.{decoded_cells, value_at}
-use Rattle.zarrs_steps.specs.ArgumentRefusals.{chunk_refusal, read_size_refusal, size_refusal}
-use Rattle.zarrs_steps.specs.Errors.{error_of_storage}
-use Rattle.zarrs_steps.specs.Refusals as refusal
-use Rattle.zarrs_steps.specs.Refusals.{Refusal, RefusesBy, box_refusal, fill_refusal, is_too_large, refusal_of, refuse_if}
-use Rattle.zarrs_steps.specs.StateRefusals.{RefusesSomeChunk}
-use Rattle.zarrs_steps.proofs.Contents.{member}
-use Rattle.zarrs_steps.proofs.RefusalLemmas.{fit_chunk, large_chunk, memory_or_said, refuses_said}
-use Rattle.zarrs_layout.specs.Parts.{RefusesBytes, RefusesPartBytes}
-use Rattle.zarrs_layout.proofs.ChunkParts.{chunk_accepted}
-use Rattle.zarrs_layout.proofs.Chunks.{value_refused_store}
-use Rattle.zarrs_layout.proofs.RegionRefusals.{some_broken, some_key, some_size}
+use Rattle.zarrs_calls.specs.Layout.{Layout}
+use Rattle.zarrs_calls.specs.Content.{decoded_cells, value_at}
+use Rattle.zarrs_calls.specs.ArgumentRefusals.{chunk_refusal, read_size_refusal, size_refusal}
+use Rattle.zarrs_calls.specs.Errors.{error_of_storage}
+use Rattle.zarrs_calls.specs.Refusals as refusal
+use Rattle.zarrs_calls.specs.Refusals.{Refusal, RefusesBy, box_refusal, fill_refusal, is_too_large, refusal_of, refuse_if}
+use Rattle.zarrs_calls.specs.StateRefusals.{RefusesSomeChunk}
+use Rattle.zarrs_calls.proofs.Contents.{member}
+use Rattle.zarrs_calls.proofs.RefusalLemmas.{fit_chunk, large_chunk, memory_or_said, refuses_said}
+use Rattle.zarrs_array_layout.specs.Parts.{RefusesBytes, RefusesPartBytes}
+use Rattle.zarrs_array_layout.proofs.ChunkParts.{chunk_accepted}
+use Rattle.zarrs_array_layout.proofs.Chunks.{value_refused_store}
+use Rattle.zarrs_array_layout.proofs.RegionRefusals.{some_broken, some_key, some_size}
 use Rattle.zarrs_engine.specs.RegionReads.{DecodesStored}
 
 -- the bytes of a value that has a size

@@ -11,7 +11,7 @@ use Rattle.zarrs_subset.specs.Boxes.{offset_by, overlap_extents, overlap_start, 
 use Rattle.zarrs_subset.specs.Regions.{Box, IsLong, Holds, LiesInShape, box_from, overlap_of, shifted_box}
 use Rattle.zarrs_subset.proofs.Overlaps.{length-zip_with}
 use Rattle.zarrs_subset.proofs.Parts.{zip_with-at}
-use Rattle.zarrs_variable.specs.StringParts.{LiesInBox}
+use Rattle.zarrs_byte_strings.specs.StringParts.{LiesInBox}
 use Rattle.zarrs_subset.proofs.Shifts.{part_in_chunk}
 use Rattle.zarrs_chunk_grid.specs.Grids.{box_at, has_box}
 use Rattle.zarrs_chunk_grid.proofs.Chunks.{box_covered, box_dimensions, box_index, box_is_there, box_long}
@@ -19,22 +19,22 @@ use Rattle.zarrs_storage.specs.Store.{StoreState}
 use Rattle.zarrs_data_type.specs.Cell.{Cell}
 use Rattle.zarrs_data_type.specs.ArrayData.{ArrayData}
 use Rattle.zarrs_data_type.specs.Cells.{cells}
-use Rattle.zarrs_steps.specs.Layout.{Layout, IsLawful}
-use Rattle.zarrs_steps.specs.ArgumentRefusals.{chunk_refusal, part_refusal, read_part_refusal, read_size_refusal}
-use Rattle.zarrs_steps.specs.Changes.{RetrievesChunk}
-use Rattle.zarrs_steps.specs.ChunkBoxes.{is_whole_of, part_box}
-use Rattle.zarrs_steps.specs.Reads.{ReadsRegion}
-use Rattle.zarrs_steps.specs.Refusals.{Refusal, RefusesBy, length_refusal, key_refusal, read_refusal}
-use Rattle.zarrs_steps.specs.StateRefusals.{IsPart, RefusesChunkRead, RefusesRegionRead}
-use Rattle.zarrs_steps.specs.Step.{RetrievesPart, RefusesRetrievePart}
-use Rattle.zarrs_steps.specs.Content.{value_at}
-use Rattle.zarrs_steps.proofs.Contents.{member, only_member}
-use Rattle.zarrs_steps.proofs.RefusalLemmas.{refused_first, refused_second, second_refusal}
-use Rattle.zarrs_layout.specs.Covers.{CoverRegion}
+use Rattle.zarrs_calls.specs.Layout.{Layout, IsLawful}
+use Rattle.zarrs_calls.specs.ArgumentRefusals.{chunk_refusal, part_refusal, read_part_refusal, read_size_refusal}
+use Rattle.zarrs_calls.specs.Changes.{RetrievesChunk}
+use Rattle.zarrs_calls.specs.ChunkBoxes.{is_whole_of, part_box}
+use Rattle.zarrs_calls.specs.Reads.{ReadsRegion}
+use Rattle.zarrs_calls.specs.Refusals.{Refusal, RefusesBy, length_refusal, key_refusal, read_refusal}
+use Rattle.zarrs_calls.specs.StateRefusals.{IsPart, RefusesChunkRead, RefusesRegionRead}
+use Rattle.zarrs_calls.specs.Step.{RetrievesPart, RefusesRetrievePart}
+use Rattle.zarrs_calls.specs.Content.{value_at}
+use Rattle.zarrs_calls.proofs.Contents.{member, only_member}
+use Rattle.zarrs_calls.proofs.RefusalLemmas.{refused_first, refused_second, second_refusal}
+use Rattle.zarrs_array_layout.specs.Covers.{CoverRegion}
 use Rattle.zarrs_engine.specs.RegionReads.{HasRead, ReadsOneMore}
-use Rattle.zarrs_layout.proofs.ChunkParts.{chunk_has, part_lies, shifted_part}
-use Rattle.zarrs_layout.proofs.Chunks.{right_length}
-use Rattle.zarrs_layout.proofs.OneChunk.{covers_lies}
+use Rattle.zarrs_array_layout.proofs.ChunkParts.{chunk_has, part_lies, shifted_part}
+use Rattle.zarrs_array_layout.proofs.Chunks.{right_length}
+use Rattle.zarrs_array_layout.proofs.OneChunk.{covers_lies}
 use Rattle.zarrs_engine.proofs.MovedBoxes.{overlap_inside}
 use Rattle.zarrs_engine.proofs.RegionReads.{read_all, read_none}
 

@@ -23,25 +23,25 @@ use Rattle.zarrs_chunk_grid.proofs.MetChunks.{at_dimension, range_fills}
 use Rattle.zarrs_storage.specs.Store.{StoreState}
 use Rattle.zarrs_data_type.specs.ArrayData.{ArrayData}
 use Rattle.zarrs_data_type.specs.Cells.{HasCells}
-use Rattle.zarrs_cells.proofs.Cells.{HasCells-cells}
-use Rattle.zarrs_steps.specs.Layout.{Layout, IsLawful}
-use Rattle.zarrs_steps.specs.ArgumentRefusals.{box_data_refusal, cells_refusal, chunk_refusal, dimensions_refusal}
-use Rattle.zarrs_steps.specs.ArgumentRefusals.{part_refusal, range_refusal, size_refusal, store_chunk_refusal}
-use Rattle.zarrs_steps.specs.ArgumentRefusals.{store_chunks_refusal, store_part_refusal}
-use Rattle.zarrs_steps.specs.ChunkBoxes.{CoversBox, is_empty, is_whole_of, last_of, part_box}
-use Rattle.zarrs_steps.specs.Fronts.{StoresAll}
-use Rattle.zarrs_steps.specs.Reach.{MayAskParts}
-use Rattle.zarrs_steps.specs.Refusals as refusal
-use Rattle.zarrs_steps.specs.Refusals.{Refusal, RefusesBy, box_refusal, is_too_large, refuse_if}
-use Rattle.zarrs_steps.specs.Step.{RefusesStore, RefusesStoreChunks, RefusesStorePart, StoresChunks, StoresPart}
-use Rattle.zarrs_steps.proofs.Covers.{last_at, some_extent}
-use Rattle.zarrs_steps.proofs.RefusalLemmas.{first_refusal, no_chunk, refused_first, refused_second, second_refusal}
-use Rattle.zarrs_layout.specs.Covers.{CoverRegion}
+use Rattle.zarrs_array_bytes.proofs.Cells.{HasCells-cells}
+use Rattle.zarrs_calls.specs.Layout.{Layout, IsLawful}
+use Rattle.zarrs_calls.specs.ArgumentRefusals.{box_data_refusal, cells_refusal, chunk_refusal, dimensions_refusal}
+use Rattle.zarrs_calls.specs.ArgumentRefusals.{part_refusal, range_refusal, size_refusal, store_chunk_refusal}
+use Rattle.zarrs_calls.specs.ArgumentRefusals.{store_chunks_refusal, store_part_refusal}
+use Rattle.zarrs_calls.specs.ChunkBoxes.{CoversBox, is_empty, is_whole_of, last_of, part_box}
+use Rattle.zarrs_calls.specs.Fronts.{StoresAll}
+use Rattle.zarrs_calls.specs.Reach.{MayAskParts}
+use Rattle.zarrs_calls.specs.Refusals as refusal
+use Rattle.zarrs_calls.specs.Refusals.{Refusal, RefusesBy, box_refusal, is_too_large, refuse_if}
+use Rattle.zarrs_calls.specs.Step.{RefusesStore, RefusesStoreChunks, RefusesStorePart, StoresChunks, StoresPart}
+use Rattle.zarrs_calls.proofs.Covers.{last_at, some_extent}
+use Rattle.zarrs_calls.proofs.RefusalLemmas.{first_refusal, no_chunk, refused_first, refused_second, second_refusal}
+use Rattle.zarrs_array_layout.specs.Covers.{CoverRegion}
 use Rattle.zarrs_engine.specs.RegionWrites.{LeavesPart, StoresOneMore}
-use Rattle.zarrs_layout.proofs.ChunkParts.{chunk_accepted, chunk_has, chunk_missing}
+use Rattle.zarrs_array_layout.proofs.ChunkParts.{chunk_accepted, chunk_has, chunk_missing}
 use Rattle.zarrs_engine.proofs.PartReads.{is_proper, is_whole, part_cover}
-use Rattle.zarrs_layout.proofs.ChunkRanges.{no_position, range_first}
-use Rattle.zarrs_layout.proofs.OneChunk.{not_empty}
+use Rattle.zarrs_array_layout.proofs.ChunkRanges.{no_position, range_first}
+use Rattle.zarrs_array_layout.proofs.OneChunk.{not_empty}
 use Rattle.zarrs_engine.proofs.RegionFronts.{stored_all, stored_fails, stored_more, stored_none}
 use Rattle.zarrs_engine.proofs.Writes.{refused_early}
 

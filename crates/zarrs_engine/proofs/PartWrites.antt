@@ -14,20 +14,20 @@ use Rattle.zarrs_data_type.specs.Kind.{Kind, cell_size}
 use Rattle.zarrs_data_type.specs.Cell.{Cell, bytes, none, some, held_size}
 use Rattle.zarrs_data_type.specs.ArrayData.{ArrayData}
 use Rattle.zarrs_data_type.specs.Cells.{HasCells}
-use Rattle.zarrs_cells.proofs.Cells.{HasCells-cells}
-use Rattle.zarrs_cells.specs.Parts.{TakesCells, ExtractsCells}
-use Rattle.zarrs_cells.specs.StringParts.{LiesInBox}
-use Rattle.zarrs_steps.specs.Layout.{Layout, IsLawful}
-use Rattle.zarrs_steps.specs.Content.{value_at, content}
-use Rattle.zarrs_steps.specs.Refusals as refusal
-use Rattle.zarrs_steps.specs.Refusals.{Refusal, fill_refusal, is_too_large, length_refusal, refuse_if}
-use Rattle.zarrs_steps.specs.Changes.{RetrievesChunk}
-use Rattle.zarrs_steps.specs.ChunkBoxes.{CoversBox}
-use Rattle.zarrs_steps.specs.StateRefusals.{IsLargeBox, IsPart, NeedsLargeFill, RefusesChunkRead, RefusesPart, cell_length, known_cell}
-use Rattle.zarrs_steps.proofs.Contents.{absent_fill, fill_at, replicated}
-use Rattle.zarrs_steps.proofs.RefusalLemmas.{not_large}
+use Rattle.zarrs_array_bytes.proofs.Cells.{HasCells-cells}
+use Rattle.zarrs_array_bytes.specs.Parts.{TakesCells, ExtractsCells}
+use Rattle.zarrs_array_bytes.specs.StringParts.{LiesInBox}
+use Rattle.zarrs_calls.specs.Layout.{Layout, IsLawful}
+use Rattle.zarrs_calls.specs.Content.{value_at, content}
+use Rattle.zarrs_calls.specs.Refusals as refusal
+use Rattle.zarrs_calls.specs.Refusals.{Refusal, fill_refusal, is_too_large, length_refusal, refuse_if}
+use Rattle.zarrs_calls.specs.Changes.{RetrievesChunk}
+use Rattle.zarrs_calls.specs.ChunkBoxes.{CoversBox}
+use Rattle.zarrs_calls.specs.StateRefusals.{IsLargeBox, IsPart, NeedsLargeFill, RefusesChunkRead, RefusesPart, cell_length, known_cell}
+use Rattle.zarrs_calls.proofs.Contents.{absent_fill, fill_at, replicated}
+use Rattle.zarrs_calls.proofs.RefusalLemmas.{not_large}
 use Rattle.zarrs_engine.specs.RegionWrites.{HasUpdated}
-use Rattle.zarrs_layout.proofs.Chunks.{unread_why}
+use Rattle.zarrs_array_layout.proofs.Chunks.{unread_why}
 
 -- ---- boxes
 

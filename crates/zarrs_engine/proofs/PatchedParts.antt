@@ -13,15 +13,15 @@ use Rattle.zarrs_storage.specs.Store.{StoreState}
 use Rattle.zarrs_data_type.specs.Cell.{Cell}
 use Rattle.zarrs_data_type.specs.ArrayData.{ArrayData}
 use Rattle.zarrs_data_type.specs.Cells.{HasCells, cells}
-use Rattle.zarrs_cells.specs.Parts.{ExtractsCells}
-use Rattle.zarrs_cells.specs.StringParts.{LiesInBox}
-use Rattle.zarrs_steps.specs.Layout.{Layout}
-use Rattle.zarrs_steps.specs.Content.{value_at, content}
-use Rattle.zarrs_steps.specs.Errors.{error_of_subset}
-use Rattle.zarrs_steps.specs.Refusals.{refusal_of}
-use Rattle.zarrs_steps.specs.ChunkBoxes.{part_box}
-use Rattle.zarrs_steps.specs.Patches.{PatchesAll, RefusesPartly}
-use Rattle.zarrs_steps.proofs.Contents.{only_member}
+use Rattle.zarrs_array_bytes.specs.Parts.{ExtractsCells}
+use Rattle.zarrs_array_bytes.specs.StringParts.{LiesInBox}
+use Rattle.zarrs_calls.specs.Layout.{Layout}
+use Rattle.zarrs_calls.specs.Content.{value_at, content}
+use Rattle.zarrs_calls.specs.Errors.{error_of_subset}
+use Rattle.zarrs_calls.specs.Refusals.{refusal_of}
+use Rattle.zarrs_calls.specs.ChunkBoxes.{part_box}
+use Rattle.zarrs_calls.specs.Patches.{PatchesAll, RefusesPartly}
+use Rattle.zarrs_calls.proofs.Contents.{only_member}
 
 -- what is seen from a corner and put there again is what it was
 offset_back : (b s : List ℕ) → length s ≡ length b → ((k : ℕ) → k < length b → slice_index b k ≤ slice_index s k) → offset_by b (zip_with (λ s t. s - t) s b) ≡ s

@@ -17,22 +17,22 @@ use Rattle.zarrs_shard.proofs.SubchunkBoxes.{place_in_chunk}
 use Rattle.zarrs_parts.proofs.SubchunkSteps.{holds_seen, seen_again}
 use Rattle.zarrs_chunk_grid.specs.Grids.{box_at, index_at, is_covered, has_box}
 use Rattle.zarrs_chunk_grid.proofs.Chunks.{box_is_there, box_index, box_covered, box_long}
-use Rattle.zarrs_variable.proofs.Inside.{holds_inside}
+use Rattle.zarrs_byte_strings.proofs.Inside.{holds_inside}
 use Rattle.zarrs_storage.specs.Store.{StoreState}
 use Rattle.zarrs_data_type.specs.Cell.{Cell}
 use Rattle.zarrs_data_type.specs.ArrayData.{ArrayData}
 use Rattle.zarrs_data_type.specs.Cells.{cells}
-use Rattle.zarrs_cells.specs.Parts.{TakesCells}
-use Rattle.zarrs_steps.specs.Layout.{Layout, IsLawful}
-use Rattle.zarrs_steps.specs.Content.{value_at, content, decoded_cells}
-use Rattle.zarrs_steps.specs.ChunkBoxes.{CoversBox}
-use Rattle.zarrs_steps.specs.Fronts.{is_in_chunks}
-use Rattle.zarrs_steps.specs.Reads.{IsBroken, ReadsRegion}
-use Rattle.zarrs_steps.specs.StateRefusals.{IsPart}
-use Rattle.zarrs_steps.proofs.Contents.{absent_fill, fill_at, in_chunk, only_member, reads_decoded, replicated, same_or_not}
-use Rattle.zarrs_steps.proofs.Shapes.{known_decodes}
-use Rattle.zarrs_layout.specs.Covers.{CoverRegion}
-use Rattle.zarrs_layout.specs.Shared.{AreApart, AreShared}
+use Rattle.zarrs_array_bytes.specs.Parts.{TakesCells}
+use Rattle.zarrs_calls.specs.Layout.{Layout, IsLawful}
+use Rattle.zarrs_calls.specs.Content.{value_at, content, decoded_cells}
+use Rattle.zarrs_calls.specs.ChunkBoxes.{CoversBox}
+use Rattle.zarrs_calls.specs.Fronts.{is_in_chunks}
+use Rattle.zarrs_calls.specs.Reads.{IsBroken, ReadsRegion}
+use Rattle.zarrs_calls.specs.StateRefusals.{IsPart}
+use Rattle.zarrs_calls.proofs.Contents.{absent_fill, fill_at, in_chunk, only_member, reads_decoded, replicated, same_or_not}
+use Rattle.zarrs_calls.proofs.Shapes.{known_decodes}
+use Rattle.zarrs_array_layout.specs.Covers.{CoverRegion}
+use Rattle.zarrs_array_layout.specs.Shared.{AreApart, AreShared}
 use Rattle.zarrs_engine.specs.RegionReads.{DecodesStored, HasRead, ReadsOneMore}
 
 or_all : (b : Bool) → b || true ≡ true

@@ -12,8 +12,8 @@ use Rattle.std.proofs.lemmas.Option.{get_or_from_slice_get, slice_get-get_or, sl
 use Rattle.zarrs_subset.specs.Boxes.{offset_from, position_count}
 use Rattle.zarrs_subset.specs.Regions.{Box, Holds, IsLong, box_at_origin, in_box, place_in, seen_from}
 use Rattle.zarrs_subset.proofs.Bytes.{along_holds, place_in_below}
-use Rattle.zarrs_variable.specs.StringParts.{LiesInBox}
-use Rattle.zarrs_variable.proofs.Inside.{holds_inside}
+use Rattle.zarrs_byte_strings.specs.StringParts.{LiesInBox}
+use Rattle.zarrs_byte_strings.proofs.Inside.{holds_inside}
 use Rattle.zarrs_chunk_grid.specs.Grids.{IsGrid, Grid, box_at, extent_along, has_box, index_at, is_covered}
 use Rattle.zarrs_chunk_grid.proofs.Chunks.{box_dimensions, box_is_there, box_long}
 use Rattle.zarrs_chunk_grid.proofs.MetChunks.{at_dimension}
@@ -22,21 +22,21 @@ use Rattle.zarrs_data_type.specs.Kind.{fixed_size}
 use Rattle.zarrs_data_type.specs.Cell.{Cell, are_values, is_value, none}
 use Rattle.zarrs_data_type.specs.ArrayData.{ArrayData}
 use Rattle.zarrs_data_type.specs.Cells.{cell_at, fits}
-use Rattle.zarrs_cells.specs.Parts.{TakesEach}
-use Rattle.zarrs_cells.proofs.Cells.{IsSized, cells-from, cells-parts}
-use Rattle.zarrs_cells.proofs.Parts.{at_place}
+use Rattle.zarrs_array_bytes.specs.Parts.{TakesEach}
+use Rattle.zarrs_array_bytes.proofs.Cells.{IsSized, cells-from, cells-parts}
+use Rattle.zarrs_array_bytes.proofs.Parts.{at_place}
 use Rattle.zarrs_target.specs.Targets.{FillsBox, KeepsOutside}
 use Rattle.zarrs_parts.specs.Parts.{DecodesInto}
 use Rattle.zarrs_parts.proofs.Stays.{cell_stays}
-use Rattle.zarrs_steps.specs.Layout.{Layout, IsLawful}
-use Rattle.zarrs_steps.specs.ChunkBoxes.{CoversBox}
-use Rattle.zarrs_steps.specs.Content.{value_at, cell_at_place, chunk_cell, content, decoded_cells}
-use Rattle.zarrs_steps.specs.Fronts.{is_in_chunks}
-use Rattle.zarrs_steps.specs.Reads.{IsBroken, ReadsRegion}
-use Rattle.zarrs_steps.proofs.Contents.{content_in_box, reads_decoded}
-use Rattle.zarrs_layout.specs.Covers.{CoverRegion}
-use Rattle.zarrs_layout.specs.Shared.{AreApart, AreShared}
-use Rattle.zarrs_layout.proofs.SharedBoxes.{shared_long}
+use Rattle.zarrs_calls.specs.Layout.{Layout, IsLawful}
+use Rattle.zarrs_calls.specs.ChunkBoxes.{CoversBox}
+use Rattle.zarrs_calls.specs.Content.{value_at, cell_at_place, chunk_cell, content, decoded_cells}
+use Rattle.zarrs_calls.specs.Fronts.{is_in_chunks}
+use Rattle.zarrs_calls.specs.Reads.{IsBroken, ReadsRegion}
+use Rattle.zarrs_calls.proofs.Contents.{content_in_box, reads_decoded}
+use Rattle.zarrs_array_layout.specs.Covers.{CoverRegion}
+use Rattle.zarrs_array_layout.specs.Shared.{AreApart, AreShared}
+use Rattle.zarrs_array_layout.proofs.SharedBoxes.{shared_long}
 use Rattle.zarrs_engine.specs.TargetReads.{HasPositions, HasReadInto, IsRead, ReadsOneMoreInto}
 use Rattle.zarrs_engine.specs.RegionReads.{DecodesStored}
 use Rattle.zarrs_engine.proofs.MovedBoxes.{in_overlap, moved_box, moved_holds, moved_in, moved_place, moved_same, moved_to, origin_place, part_holds, part_place}

@@ -5,8 +5,8 @@ use Rattle.zarrs_chunk_grid.specs.declared.traits.ChunkGridTraits.{Ghosts as Gri
 use Rattle.zarrs_keys.specs.declared.traits.ChunkKeyEncodingTraits.{Ghosts as KeyMeaning}
 use Rattle.zarrs_chain.specs.declared.traits.ChainTraits.{Ghosts as ChainMeanings}
 use Rattle.zarrs_data_type.specs.declared.data_type.DataType.{DataType}
-use Rattle.zarrs_steps.specs.Layout.{Layout, ArrayState}
-use Rattle.zarrs_layout.specs.Layouts.{layout_of_parts}
+use Rattle.zarrs_calls.specs.Layout.{Layout, ArrayState}
+use Rattle.zarrs_array_layout.specs.Layouts.{layout_of_parts}
 use Rattle.zarrs_engine.specs.declared.engine.Engine.{Engine}
 
 module _ {G K C : Type 0} {g : GridMeaning G} {k : KeyMeaning K} {c : ChainMeanings C} where

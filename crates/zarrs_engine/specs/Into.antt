@@ -6,14 +6,14 @@ use Rattle.zarrs_storage.specs.Store.{StoreState}
 use Rattle.zarrs_data_type.specs.Cell.{Cell}
 use Rattle.zarrs_data_type.specs.ArrayData.{ArrayData}
 use Rattle.zarrs_data_type.specs.Cells.{cell_at}
-use Rattle.zarrs_cells.specs.Parts.{TakesEach}
-use Rattle.zarrs_steps.specs.Layout.{Layout}
-use Rattle.zarrs_steps.specs.Content.{value_at, content}
-use Rattle.zarrs_steps.specs.ArgumentRefusals.{into_refusal}
-use Rattle.zarrs_steps.specs.ChunkBoxes.{chunks_met}
-use Rattle.zarrs_steps.specs.Reads.{ReadsRegion}
-use Rattle.zarrs_steps.specs.Refusals.{Refusal}
-use Rattle.zarrs_steps.specs.StateRefusals.{RefusesRegionRead}
+use Rattle.zarrs_array_bytes.specs.Parts.{TakesEach}
+use Rattle.zarrs_calls.specs.Layout.{Layout}
+use Rattle.zarrs_calls.specs.Content.{value_at, content}
+use Rattle.zarrs_calls.specs.ArgumentRefusals.{into_refusal}
+use Rattle.zarrs_calls.specs.ChunkBoxes.{chunks_met}
+use Rattle.zarrs_calls.specs.Reads.{ReadsRegion}
+use Rattle.zarrs_calls.specs.Refusals.{Refusal}
+use Rattle.zarrs_calls.specs.StateRefusals.{RefusesRegionRead}
 use Rattle.zarrs_target.specs.declared.target.ArrayBytesDecodeIntoTarget.{ArrayBytesDecodeIntoTarget}
 use Rattle.zarrs_target.specs.States.{data_of_target, parent_box, target_box}
 use Rattle.zarrs_target.specs.Targets.{takes_type}

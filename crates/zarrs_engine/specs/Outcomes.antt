@@ -9,28 +9,28 @@ use Rattle.zarrs_keys.specs.declared.traits.ChunkKeyEncodingTraits.{Ghosts as Ke
 use Rattle.zarrs_chain.specs.declared.traits.ChainTraits.{Ghosts as ChainMeanings}
 use Rattle.zarrs_chain.specs.Options.{encodes_partially, stores_empty_chunks}
 use Rattle.zarrs_chain.specs.declared.options.CodecOptions.{CodecOptions}
-use Rattle.zarrs_cells.specs.declared.array_bytes.ArrayBytes.{ArrayBytes}
+use Rattle.zarrs_array_bytes.specs.declared.array_bytes.ArrayBytes.{ArrayBytes}
 use Rattle.zarrs_data_type.specs.ArrayData.{ArrayData, data_of}
 use Rattle.zarrs_chunk_grid.specs.Grids.{box_at}
-use Rattle.zarrs_steps.specs.ChunkBoxes.{chunks_met, part_box}
-use Rattle.zarrs_steps.specs.Step.{RetrievesChunks, RefusesRetrieveChunks, RetrievesPart, RefusesRetrievePart, RetrievesRegion, RefusesRetrieveRegion}
-use Rattle.zarrs_steps.specs.Step.{StoresChunks, RefusesStoreChunks, StoresPart, RefusesStorePart, ErasesChunks, RefusesEraseChunks}
-use Rattle.zarrs_steps.specs.Reach.{MayAskChunks, MayAskParts, MayReadPart, MayReadParts}
-use Rattle.zarrs_steps.specs.Refusals.{Refusal, refusal_of, refusal_of_storage, length_refusal}
-use Rattle.zarrs_steps.specs.Canon.{IsCanonical, KeepsCanon}
-use Rattle.zarrs_steps.specs.Changes.{RetrievesChunk, RetrievesIfExists}
-use Rattle.zarrs_steps.specs.Compactions.{CompactsChunk}
-use Rattle.zarrs_steps.specs.Content.{value_at}
-use Rattle.zarrs_steps.specs.StateRefusals.{RefusesChunkRead}
-use Rattle.zarrs_steps.specs.Step.{StoresChunk, RefusesStoreChunk, ErasesChunk, RefusesEraseChunk, RefusesCompactChunk}
-use Rattle.zarrs_steps.specs.Step.{StoresRegion, RefusesStoreRegion}
-use Rattle.zarrs_steps.specs.Layout.{ArrayState, Layout}
-use Rattle.zarrs_steps.specs.declared.call.Call.{Call}
-use Rattle.zarrs_steps.specs.declared.call.Reply.{Reply}
-use Rattle.zarrs_steps.specs.Step.{Step}
-use Rattle.zarrs_steps.specs.Patches.{PatchStep}
-use Rattle.zarrs_steps.specs.Patches.{PatchesPart, RefusesPatchPart, PatchesRegion, RefusesPatchRegion}
-use Rattle.zarrs_steps.specs.declared.error.ArrayError.{ArrayError}
+use Rattle.zarrs_calls.specs.ChunkBoxes.{chunks_met, part_box}
+use Rattle.zarrs_calls.specs.Step.{RetrievesChunks, RefusesRetrieveChunks, RetrievesPart, RefusesRetrievePart, RetrievesRegion, RefusesRetrieveRegion}
+use Rattle.zarrs_calls.specs.Step.{StoresChunks, RefusesStoreChunks, StoresPart, RefusesStorePart, ErasesChunks, RefusesEraseChunks}
+use Rattle.zarrs_calls.specs.Reach.{MayAskChunks, MayAskParts, MayReadPart, MayReadParts}
+use Rattle.zarrs_calls.specs.Refusals.{Refusal, refusal_of, refusal_of_storage, length_refusal}
+use Rattle.zarrs_calls.specs.Canon.{IsCanonical, KeepsCanon}
+use Rattle.zarrs_calls.specs.Changes.{RetrievesChunk, RetrievesIfExists}
+use Rattle.zarrs_calls.specs.Compactions.{CompactsChunk}
+use Rattle.zarrs_calls.specs.Content.{value_at}
+use Rattle.zarrs_calls.specs.StateRefusals.{RefusesChunkRead}
+use Rattle.zarrs_calls.specs.Step.{StoresChunk, RefusesStoreChunk, ErasesChunk, RefusesEraseChunk, RefusesCompactChunk}
+use Rattle.zarrs_calls.specs.Step.{StoresRegion, RefusesStoreRegion}
+use Rattle.zarrs_calls.specs.Layout.{ArrayState, Layout}
+use Rattle.zarrs_calls.specs.declared.call.Call.{Call}
+use Rattle.zarrs_calls.specs.declared.call.Reply.{Reply}
+use Rattle.zarrs_calls.specs.Step.{Step}
+use Rattle.zarrs_calls.specs.Patches.{PatchStep}
+use Rattle.zarrs_calls.specs.Patches.{PatchesPart, RefusesPatchPart, PatchesRegion, RefusesPatchRegion}
+use Rattle.zarrs_calls.specs.declared.error.ArrayError.{ArrayError}
 use Rattle.zarrs_engine.specs.Engine.{layout_of, store_of, state_of, KeepsParts}
 use Rattle.zarrs_engine.specs.declared.engine.Engine.{Engine}
 

@@ -7,10 +7,10 @@ use Rattle.zarrs_chunk_grid.specs.declared.traits.ChunkGridTraits.{Ghosts as Gri
 use Rattle.zarrs_keys.specs.declared.traits.ChunkKeyEncodingTraits.{Ghosts as KeyMeaning}
 use Rattle.zarrs_chain.specs.declared.traits.ChainTraits.{Ghosts as ChainMeanings}
 use Rattle.zarrs_storage.specs.Store.{StoreState}
-use Rattle.zarrs_steps.specs.ArgumentRefusals.{part_refusal}
-use Rattle.zarrs_steps.specs.ChunkBoxes.{part_box}
-use Rattle.zarrs_steps.specs.Layout.{Layout}
-use Rattle.zarrs_steps.specs.Refusals.{Refusal, RefusesBy}
+use Rattle.zarrs_calls.specs.ArgumentRefusals.{part_refusal}
+use Rattle.zarrs_calls.specs.ChunkBoxes.{part_box}
+use Rattle.zarrs_calls.specs.Layout.{Layout}
+use Rattle.zarrs_calls.specs.Refusals.{Refusal, RefusesBy}
 use Rattle.zarrs_target.specs.declared.target.ArrayBytesDecodeIntoTarget.{ArrayBytesDecodeIntoTarget}
 use Rattle.zarrs_engine.specs.Into.{RefusesRetrieveInto, target_refusal}
 use Rattle.zarrs_engine.specs.declared.engine.Engine.{Engine}

@@ -6,10 +6,10 @@ use Rattle.zarrs_storage.specs.Store.{StoreState, last_call}
 use Rattle.zarrs_data_type.specs.Cell.{Cell}
 use Rattle.zarrs_data_type.specs.ArrayData.{ArrayData}
 use Rattle.zarrs_data_type.specs.Cells.{cells}
-use Rattle.zarrs_steps.specs.Layout.{Layout}
-use Rattle.zarrs_steps.specs.Refusals.{Refusal}
-use Rattle.zarrs_steps.specs.Changes.{Makes}
-use Rattle.zarrs_steps.specs.Patches.{Patches, RefusesPatch}
+use Rattle.zarrs_calls.specs.Layout.{Layout}
+use Rattle.zarrs_calls.specs.Refusals.{Refusal}
+use Rattle.zarrs_calls.specs.Changes.{Makes}
+use Rattle.zarrs_calls.specs.Patches.{Patches, RefusesPatch}
 
 -- One chunk did not take its part: no value changed, and at most one failure was counted, none if no call was left.
 pub record LeavesPatch (layout : Layout) (keep : Bool) (region : Box) (held : ArrayData) (index : List ℕ) (r : Refusal) (old new : StoreState) : Type 0 where

@@ -7,12 +7,12 @@ use Rattle.zarrs_storage.specs.Store.{StoreState}
 use Rattle.zarrs_data_type.specs.Cell.{Cell}
 use Rattle.zarrs_data_type.specs.ArrayData.{ArrayData}
 use Rattle.zarrs_data_type.specs.Cells.{cells}
-use Rattle.zarrs_steps.specs.Layout.{Layout}
+use Rattle.zarrs_calls.specs.Layout.{Layout}
 use Rattle.zarrs_parts.specs.Parts.{DecodesPart}
-use Rattle.zarrs_steps.specs.Content.{value_at, content, decoded_cells}
-use Rattle.zarrs_steps.specs.ChunkBoxes.{CoversBox}
-use Rattle.zarrs_steps.specs.Fronts.{is_in_chunks}
-use Rattle.zarrs_steps.specs.Reads.{IsBroken}
+use Rattle.zarrs_calls.specs.Content.{value_at, content, decoded_cells}
+use Rattle.zarrs_calls.specs.ChunkBoxes.{CoversBox}
+use Rattle.zarrs_calls.specs.Fronts.{is_in_chunks}
+use Rattle.zarrs_calls.specs.Reads.{IsBroken}
 
 -- The data is one cell for each position of the region: in these chunks the content, wherever there is one, and else fill.
 -- A chunk that the region covers decodes.

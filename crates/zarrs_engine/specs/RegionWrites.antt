@@ -7,10 +7,10 @@ use Rattle.zarrs_storage.specs.Store.{StoreState, last_call}
 use Rattle.zarrs_data_type.specs.Cell.{Cell}
 use Rattle.zarrs_data_type.specs.ArrayData.{ArrayData}
 use Rattle.zarrs_data_type.specs.Cells.{cells}
-use Rattle.zarrs_steps.specs.Layout.{Layout}
-use Rattle.zarrs_steps.specs.Refusals.{Refusal}
-use Rattle.zarrs_steps.specs.Changes.{Makes, Stores}
-use Rattle.zarrs_steps.specs.StateRefusals.{AreUpdated, RefusesPart}
+use Rattle.zarrs_calls.specs.Layout.{Layout}
+use Rattle.zarrs_calls.specs.Refusals.{Refusal}
+use Rattle.zarrs_calls.specs.Changes.{Makes, Stores}
+use Rattle.zarrs_calls.specs.StateRefusals.{AreUpdated, RefusesPart}
 
 -- each position of the region lies in a chunk
 abbrev pub AreCovered : Grid → Box → Type 0

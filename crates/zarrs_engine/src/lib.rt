@@ -11,4 +11,4 @@ pub use comparison::chunks_equal;
 pub use engine::{Engine, layouts_are_lawful, replay};
 pub use partial_decoder::ArrayPartialDecoder;
 pub use partial_encoder::ArrayPartialEncoder;
-pub use zarrs_steps::{ArrayError, Call, Reply};
+pub use zarrs_calls::{ArrayError, Call, Reply};

@@ -5,11 +5,11 @@ ghost use Rattle.zarrs_engine.specs.Engine.{layout_of};
 
 use crate::engine::Engine;
 use std::alloc::Global;
+use zarrs_calls::ArrayError;
 use zarrs_chain::{ChainTraits, CodecOptions};
 use zarrs_chunk_grid::ChunkGridTraits;
 use zarrs_data_type::ArrayBytes;
 use zarrs_keys::ChunkKeyEncodingTraits;
-use zarrs_steps::ArrayError;
 use zarrs_storage::ReadableStorageTraits;
 use zarrs_subset::{ArrayIndices, ArraySubset};
 use zarrs_target::ArrayBytesDecodeIntoTarget;
@@ -31,8 +31,8 @@ pub struct ArrayPartialDecoder<
 impl<S, G: ChunkGridTraits, K: ChunkKeyEncodingTraits, C: ChainTraits> Engine<S, G, K, C> {
     ghost use Rattle.std.specs.Prelude.{◌≡◌, true, IfOk, IfErr, OnOk};
     ghost use Rattle.zarrs_chunk_grid.specs.Grids.{has_box};
-    ghost use Rattle.zarrs_steps.specs.ArgumentRefusals.{chunk_refusal};
-    ghost use Rattle.zarrs_steps.specs.Refusals.{RefusesBy, refusal_of};
+    ghost use Rattle.zarrs_calls.specs.ArgumentRefusals.{chunk_refusal};
+    ghost use Rattle.zarrs_calls.specs.Refusals.{RefusesBy, refusal_of};
     ghost use Rattle.zarrs_engine.specs.Engine.{layout_of};
     ghost use Rattle.zarrs_engine.specs.PartialDecoders.{engine_of, indices_of};
 
@@ -69,10 +69,10 @@ impl<
     ghost use Rattle.std.specs.Prelude.{◌≡◌, ◌↔◌, true, None, IfOk, IfErr, IsSome, IsTrue, OnErr, OnOk};
     ghost use Rattle.zarrs_subset.specs.Regions.{box_of};
     ghost use Rattle.zarrs_data_type.specs.ArrayData.{data_of};
-    ghost use Rattle.zarrs_steps.specs.ArgumentRefusals.{part_refusal, region_refusal};
-    ghost use Rattle.zarrs_steps.specs.Changes.{IsPresent};
-    ghost use Rattle.zarrs_steps.specs.Refusals.{RefusesBy, key_refusal, refusal_of};
-    ghost use Rattle.zarrs_steps.specs.Step.{RetrievesPart, RefusesRetrievePart};
+    ghost use Rattle.zarrs_calls.specs.ArgumentRefusals.{part_refusal, region_refusal};
+    ghost use Rattle.zarrs_calls.specs.Changes.{IsPresent};
+    ghost use Rattle.zarrs_calls.specs.Refusals.{RefusesBy, key_refusal, refusal_of};
+    ghost use Rattle.zarrs_calls.specs.Step.{RetrievesPart, RefusesRetrievePart};
     ghost use Rattle.zarrs_target.specs.States.{IsTarget, SameBox, StaysOutside};
     ghost use Rattle.zarrs_engine.specs.Engine.{layout_of, state_of, store_of};
     ghost use Rattle.zarrs_engine.specs.Into.{HasContent, RetrievesInto};

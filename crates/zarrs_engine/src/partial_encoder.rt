@@ -6,11 +6,11 @@ ghost use Rattle.zarrs_engine.specs.Engine.{layout_of};
 use crate::engine::Engine;
 use std::alloc::Global;
 use std::fmt;
+use zarrs_calls::ArrayError;
 use zarrs_chain::{ChainTraits, CodecOptions};
 use zarrs_chunk_grid::ChunkGridTraits;
 use zarrs_data_type::ArrayBytes;
 use zarrs_keys::ChunkKeyEncodingTraits;
-use zarrs_steps::ArrayError;
 use zarrs_storage::WritableStorageTraits;
 use zarrs_subset::{ArrayIndices, ArraySubset};
 
@@ -31,8 +31,8 @@ pub struct ArrayPartialEncoder<
 impl<S, G: ChunkGridTraits, K: ChunkKeyEncodingTraits, C: ChainTraits> Engine<S, G, K, C> {
     ghost use Rattle.std.specs.Prelude.{◌≡◌, true, IfOk, IfErr, OnOk};
     ghost use Rattle.zarrs_chunk_grid.specs.Grids.{has_box};
-    ghost use Rattle.zarrs_steps.specs.ArgumentRefusals.{chunk_refusal};
-    ghost use Rattle.zarrs_steps.specs.Refusals.{RefusesBy, refusal_of};
+    ghost use Rattle.zarrs_calls.specs.ArgumentRefusals.{chunk_refusal};
+    ghost use Rattle.zarrs_calls.specs.Refusals.{RefusesBy, refusal_of};
     ghost use Rattle.zarrs_engine.specs.Engine.{layout_of};
     ghost use Rattle.zarrs_engine.specs.PartialEncoders.{engine_of, indices_of, loan_of};
 
@@ -72,7 +72,7 @@ impl<
     ghost use Rattle.zarrs_subset.specs.Regions.{box_of};
     ghost use Rattle.zarrs_data_type.specs.ArrayData.{data_of};
     ghost use Rattle.zarrs_chain.specs.Options.{stores_empty_chunks};
-    ghost use Rattle.zarrs_steps.specs.Reach.{MayAskChunk};
+    ghost use Rattle.zarrs_calls.specs.Reach.{MayAskChunk};
     ghost use Rattle.zarrs_engine.specs.Engine.{layout_of, store_of};
     ghost use Rattle.zarrs_engine.specs.Outcomes.{ErasesEncodedOrRefuses, PatchesPartOrRefuses};
     ghost use Rattle.zarrs_engine.specs.PartialEncoders.{engine_of, indices_of, loan_of};

@@ -4,8 +4,8 @@ use Rattle.std.specs.Prelude.{All, slice_index, slice_index_or}
 use Rattle.std.proofs.lemmas.Bool.{and_from, cases_lt, false≢true}
 use Rattle.std.proofs.lemmas.List.{get_or-replicate, length-map, length-replicate}
 use Rattle.std.proofs.lemmas.List.Sums.{AllPass-from_list_all, list_all-from_AllPass}
-use Rattle.zarrs_cells.specs.ArrayData.{ArrayData}
-use Rattle.zarrs_cells.specs.Cells.{cell_at}
+use Rattle.zarrs_array_bytes.specs.ArrayData.{ArrayData}
+use Rattle.zarrs_array_bytes.specs.Cells.{cell_at}
 use Rattle.zarrs_codec_leaf.specs.declared.error.CodecError.{CodecError}
 use Rattle.zarrs_codec_leaf.specs.declared.error.CodecError.TheVariants as codec
 use Rattle.zarrs_metadata.specs.Extension.{◌>>=◌}
@@ -35,8 +35,8 @@ use Rattle.zarrs_target.specs.Targets.{FillsBox, KeepsOutside}
 use Rattle.zarrs_target.proofs.Boxes.{lies_at_origin, origin_long}
 use Rattle.zarrs_types.specs.Cell.{Cell, are_values, is_value, none, values_only}
 use Rattle.zarrs_types.specs.Kind.{Kind, fixed_size}
-use Rattle.zarrs_variable.specs.StringParts.{LiesInBox}
-use Rattle.zarrs_variable.proofs.Inside.{holds_inside}
+use Rattle.zarrs_byte_strings.specs.StringParts.{LiesInBox}
+use Rattle.zarrs_byte_strings.proofs.Inside.{holds_inside}
 use Rattle.zarrs_parts.specs.Parts.{DecodesInto}
 use Rattle.zarrs_parts.specs.Refusals.{RefusesIntoDecoding}
 use Rattle.zarrs_parts.specs.ShardInto.{DecodesPartInto, RefusesIntoStep}

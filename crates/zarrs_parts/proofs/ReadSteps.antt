@@ -3,7 +3,7 @@ use Rattle.std.proofs.Common.{◌≡◌, ℕ, ◌+◌, ◌-◌, ◌*◌, ◌^◌
 use Rattle.std.specs.Prelude.{slice_index, slice_index_or, nat_le}
 use Rattle.std.proofs.lemmas.Bool.{and_from, false≢true, leb-true}
 use Rattle.std.proofs.lemmas.List.{length-map}
-use Rattle.zarrs_cells.specs.ArrayData.{ArrayData}
+use Rattle.zarrs_array_bytes.specs.ArrayData.{ArrayData}
 use Rattle.zarrs_shard.specs.declared.shard_index.SubchunkRange.{SubchunkRange}
 use Rattle.zarrs_shard.specs.ShardIndex.{range_part}
 use Rattle.zarrs_shard.specs.Shards.{data_end, data_start, index_in, named_part, shard_parts}

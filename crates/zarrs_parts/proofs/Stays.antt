@@ -1,8 +1,8 @@
 -- Cells that stay where the bytes and the masks of a target do.
 use Rattle.std.proofs.Common.{◌≡◌, ℕ, cond, eqb, false, List, Option, None, Some, refl, sym, ap, ◌∙◌}
 use Rattle.std.specs.Prelude.{slice_index, slice_range, ◌+◌, ◌*◌}
-use Rattle.zarrs_cells.specs.ArrayData.{ArrayData, fixed, variable, optional}
-use Rattle.zarrs_cells.specs.Cells.{cell_at}
+use Rattle.zarrs_array_bytes.specs.ArrayData.{ArrayData, fixed, variable, optional}
+use Rattle.zarrs_array_bytes.specs.Cells.{cell_at}
 use Rattle.zarrs_subset.specs.Pieces.{piece_at}
 use Rattle.zarrs_subset.specs.Regions.{Box, Holds, in_box, place_in}
 use Rattle.zarrs_target.specs.Targets.{KeepsOutside}

@@ -12,7 +12,7 @@ use Rattle.zarrs_shard.specs.declared.shard_index.SubchunkRange.{SubchunkRange}
 use Rattle.zarrs_shard.specs.ShardIndex.{range_entry, range_part, IsRangeWithin}
 use Rattle.zarrs_shard.specs.Shards.{absent, entry_bytes, index_in}
 use Rattle.zarrs_shard.proofs.ShardBytes.{entry_len, entry_offset, length-entry_bytes, not_absent}
-use Rattle.zarrs_cells.proofs.Pieces.{pieces-flat_map}
+use Rattle.zarrs_array_bytes.proofs.Pieces.{pieces-flat_map}
 use Rattle.zarrs_shard.specs.Subchunks.{corner, is_cut_by, quotients, subchunk_box, subchunk_count}
 use Rattle.zarrs_shard.proofs.Grids.{corner_long, cut_at, cut_len}
 use Rattle.zarrs_shard.proofs.SubchunkBoxes.{long_corner}
@@ -27,8 +27,8 @@ use Rattle.zarrs_subset.proofs.Overlaps.{AllSome, length-overlap_extents, length
 use Rattle.zarrs_subset.proofs.Parts.{overlap_extents-at, zip_with-at}
 use Rattle.zarrs_subset.proofs.Positions.{unravel-place}
 use Rattle.zarrs_types.specs.Kind.{Kind}
-use Rattle.zarrs_variable.specs.StringParts.{LiesInBox}
-use Rattle.zarrs_variable.proofs.Inside.{count_inside}
+use Rattle.zarrs_byte_strings.specs.StringParts.{LiesInBox}
+use Rattle.zarrs_byte_strings.proofs.Inside.{count_inside}
 use Rattle.zarrs_parts.specs.ShardParts.{MeetsPart}
 use Rattle.zarrs_parts.specs.Places.{boxes_meet, is_index_place, is_range_place, shard_places}
 

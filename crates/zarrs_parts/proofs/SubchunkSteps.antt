@@ -6,9 +6,9 @@ use Rattle.std.specs.List.{list_any}
 use Rattle.std.proofs.lemmas.Bool.{and_from, eq-eqb, false≢true, lt-ltb, le-leb, or_left, or_right}
 use Rattle.std.proofs.lemmas.List.{drop-drop, drop-take, get_or-map, get_or-replicate, length-drop, length-map, length-replicate, length-take-le, take-take}
 use Rattle.std.proofs.lemmas.Option.{slice_get-get_or}
-use Rattle.zarrs_cells.specs.ArrayData.{ArrayData}
-use Rattle.zarrs_cells.specs.Cells.{cells}
-use Rattle.zarrs_cells.specs.Parts.{TakesCells}
+use Rattle.zarrs_array_bytes.specs.ArrayData.{ArrayData}
+use Rattle.zarrs_array_bytes.specs.Cells.{cells}
+use Rattle.zarrs_array_bytes.specs.Parts.{TakesCells}
 use Rattle.zarrs_subset.specs.Pieces.{pieces}
 use Rattle.zarrs_subset.proofs.Bytes.{place_in_below}
 use Rattle.zarrs_subset.proofs.Overlaps.{length-zip_with}

@@ -2,9 +2,9 @@
 use Rattle.std.proofs.Common.{◌≡◌, ℕ, ◌+◌, List, [], ◌∷◌, ◌++◌, length, take, slice_get, Option, Some, sym, ◌∙◌, ap, subst, arith}
 use Rattle.std.proofs.lemmas.List.{take_more, take_all}
 use Rattle.std.proofs.lemmas.Option.{slice_get_within, get_or_from_slice_get}
-use Rattle.zarrs_cells.specs.ArrayData.{ArrayData}
-use Rattle.zarrs_cells.specs.Cells.{HasCells}
-use Rattle.zarrs_cells.proofs.Cells.{HasCells-some}
+use Rattle.zarrs_array_bytes.specs.ArrayData.{ArrayData}
+use Rattle.zarrs_array_bytes.specs.Cells.{HasCells}
+use Rattle.zarrs_array_bytes.proofs.Cells.{HasCells-some}
 use Rattle.zarrs_subset.specs.Boxes.{position_count}
 use Rattle.zarrs_subset.specs.Regions.{Box, IsLong, positions}
 use Rattle.zarrs_types.specs.Cell.{Cell}

@@ -2,8 +2,8 @@
 use Rattle.std.specs.Prelude.{◌≡◌, ℕ, ◌≤◌, ◌<◌, ◌^◌, Bool, true, false, Option, None, Some, List, ◌∷◌, [], ◌++◌, length, map, slice_get, slice_index_or, nat_eq, All}
 use Rattle.std.specs.Cmp.Lexicographic.{pointwise}
 use Rattle.std.specs.List.{flat_map, list_any}
-use Rattle.zarrs_cells.specs.ArrayData.{ArrayData}
-use Rattle.zarrs_cells.specs.Cells.{cells}
+use Rattle.zarrs_array_bytes.specs.ArrayData.{ArrayData}
+use Rattle.zarrs_array_bytes.specs.Cells.{cells}
 use Rattle.zarrs_shard.specs.Sharded.{SubchunkMeaning, part_leaves_out, sharded_decoded}
 use Rattle.zarrs_shard.specs.ShardIndex.{range_entry, range_part, IsRangeWithin}
 use Rattle.zarrs_shard.specs.Shards.{index_in, shard_parts}

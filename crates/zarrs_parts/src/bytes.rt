@@ -1,6 +1,6 @@
 //! Parts of chunks under the codec `bytes`.
 ghost use Rattle.std.specs.Prelude.{◌≡◌, ◌↔◌, ◌*◌, ◌<◌, ◌^◌, false, Some, IfOk, IfErr, IsTrue, length};
-ghost use Rattle.zarrs_cells.specs.ArrayData.{data_of};
+ghost use Rattle.zarrs_array_bytes.specs.ArrayData.{data_of};
 ghost use Rattle.zarrs_codec_leaf.specs.Bytes.{bytes_meaning_of, endian_of};
 ghost use Rattle.zarrs_source.specs.Sources.{IsWindow, MayRead, window_bytes};
 ghost use Rattle.zarrs_subset.specs.Boxes.{position_count};
@@ -12,7 +12,7 @@ ghost use Rattle.zarrs_parts.specs.Refusals.{RefusesPartDecoding};
 
 use crate::error::PartError;
 use std::alloc::Global;
-use zarrs_cells::{ArrayBytes, DataType};
+use zarrs_array_bytes::{ArrayBytes, DataType};
 use zarrs_codec_leaf::{BytesCodec, CodecError};
 use zarrs_source::{ByteSource, Window, read_box};
 use zarrs_subset::{ArraySubset, element_count};

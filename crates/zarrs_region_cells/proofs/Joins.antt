@@ -7,8 +7,8 @@ use Rattle.std.proofs.lemmas.Grind.{flat_map-append}
 use Rattle.std.proofs.lemmas.List.{drop-drop, ext_get_or, get_or-map, length-drop, length-map, length-take-le, take-map, take-take, take_all, take_more}
 use Rattle.std.proofs.lemmas.List.FromFn.{length-map-range_with_len, get_or-map-range_with_len}
 use Rattle.std.proofs.lemmas.List.Sums.{sum-map, sum_by-take-le, sum_by_more}
-use Rattle.zarrs_variable.specs.Offsets.{AreOffsets, byte_strings, joined, last_offset}
-use Rattle.zarrs_variable.proofs.ByteStrings.{strings_at, length_strings}
+use Rattle.zarrs_byte_strings.specs.Offsets.{AreOffsets, byte_strings, joined, last_offset}
+use Rattle.zarrs_byte_strings.proofs.ByteStrings.{strings_at, length_strings}
 use Rattle.zarrs_region_cells.specs.Places.{ArePlaces, offsets_from, placed_strings, string_of}
 use Rattle.zarrs_region_cells.proofs.Placed.{joined_at, length-joined, length_placed, placed_at}
 

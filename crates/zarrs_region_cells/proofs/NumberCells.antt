@@ -13,8 +13,8 @@ use Rattle.zarrs_subset.specs.Boxes.{position_count}
 use Rattle.zarrs_subset.specs.Pieces.{piece_at, pieces}
 use Rattle.zarrs_subset.specs.Regions.{Box, IsLong, in_box, place_in}
 use Rattle.zarrs_subset.proofs.Bytes.{place_in_below}
-use Rattle.zarrs_cells.specs.Parts.{TakesAt}
-use Rattle.zarrs_cells.proofs.Pieces.{length-flat_map_same, pieces-cons, pieces-flat_map, repeat_same}
+use Rattle.zarrs_array_bytes.specs.Parts.{TakesAt}
+use Rattle.zarrs_array_bytes.proofs.Pieces.{length-flat_map_same, pieces-cons, pieces-flat_map, repeat_same}
 use Rattle.zarrs_region_cells.specs.Places.{numbers_in}
 
 pub length_numbers : (bytes : List ℕ) → length (numbers_in bytes) ≡ length bytes / 8

@@ -11,10 +11,10 @@ use Rattle.std.proofs.lemmas.List.Sums.{sum_by-cons, sum_by_more_le}
 use Rattle.zarrs_subset.specs.Boxes.{position_count}
 use Rattle.zarrs_subset.specs.Regions.{Box, IsLong, Holds, in_box, place_in}
 use Rattle.zarrs_subset.proofs.Bytes.{place_in_below}
-use Rattle.zarrs_cells.specs.Parts.{TakesAt}
-use Rattle.zarrs_cells.proofs.Parts.{at_place}
-use Rattle.zarrs_variable.specs.Offsets.{joined}
-use Rattle.zarrs_variable.proofs.ByteStrings.{slice_range-front}
+use Rattle.zarrs_array_bytes.specs.Parts.{TakesAt}
+use Rattle.zarrs_array_bytes.proofs.Parts.{at_place}
+use Rattle.zarrs_byte_strings.specs.Offsets.{joined}
+use Rattle.zarrs_byte_strings.proofs.ByteStrings.{slice_range-front}
 use Rattle.zarrs_region_cells.specs.Places.{ArePlaces, placed_strings, string_of}
 
 pub length_placed : (bytes starts lens : List ℕ) → length (placed_strings bytes starts lens) ≡ length starts

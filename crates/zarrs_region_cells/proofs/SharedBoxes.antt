@@ -9,8 +9,8 @@ use Rattle.zarrs_subset.specs.Regions.{Box, IsLong, Holds, in_box, overlap_of, p
 use Rattle.zarrs_subset.proofs.Overlaps.{in_box-empty, in_box-overlap, length-zip_with}
 use Rattle.zarrs_subset.proofs.Parts.{overlap_extents-at, zip_with-at}
 use Rattle.zarrs_subset.proofs.Positions.{length-positions, positions_all}
-use Rattle.zarrs_cells.specs.Parts.{TakesAt}
-use Rattle.zarrs_variable.specs.StringParts.{LiesInBox, string_at}
+use Rattle.zarrs_array_bytes.specs.Parts.{TakesAt}
+use Rattle.zarrs_byte_strings.specs.StringParts.{LiesInBox, string_at}
 use Rattle.zarrs_region_cells.specs.Places.{string_of}
 
 module _ (box other shared : Box) (long : IsLong box) (other_long : IsLong other) (shared_long : IsLong shared) (dimensions : length box.start ≡ length other.start)

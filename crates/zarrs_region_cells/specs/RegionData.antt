@@ -1,5 +1,5 @@
 -- The data that the cells of a region are.
-use Rattle.zarrs_cells.specs.ArrayData.{ArrayData, data_of, variable, optional}
+use Rattle.zarrs_array_bytes.specs.ArrayData.{ArrayData, data_of, variable, optional}
 use Rattle.zarrs_region_cells.specs.declared.levels.Level.{Level}
 use Rattle.zarrs_region_cells.specs.declared.levels.Level as level
 use Rattle.zarrs_region_cells.specs.declared.region_cells.Held.{Held}

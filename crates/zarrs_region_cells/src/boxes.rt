@@ -1,6 +1,6 @@
 //! Cells of one size over boxes.
 ghost use Rattle.std.specs.Prelude.{◌≡◌, ◌*◌, length};
-ghost use Rattle.zarrs_cells.specs.Parts.{TakesAt};
+ghost use Rattle.zarrs_array_bytes.specs.Parts.{TakesAt};
 ghost use Rattle.zarrs_subset.specs.Boxes.{position_count};
 ghost use Rattle.zarrs_subset.specs.Pieces.{piece_at};
 ghost use Rattle.zarrs_subset.specs.Regions.{box_of};

@@ -1,6 +1,6 @@
 //! Masks of optional cells.
 ghost use Rattle.std.specs.Prelude.{◌≡◌, ◌<◌, All, IfOk, length, replicate, slice_index};
-ghost use Rattle.zarrs_cells.specs.Parts.{TakesAt};
+ghost use Rattle.zarrs_array_bytes.specs.Parts.{TakesAt};
 ghost use Rattle.zarrs_subset.specs.Boxes.{position_count};
 ghost use Rattle.zarrs_subset.specs.Regions.{box_of};
 

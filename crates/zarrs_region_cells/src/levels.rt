@@ -1,8 +1,8 @@
 //! Byte strings over a region, under the masks of optional types.
 ghost use Rattle.std.specs.Prelude.{◌≡◌, ◌<◌, IfOk, IsSome, IsTrue, None, length, replicate};
-ghost use Rattle.zarrs_cells.specs.ArrayData.{data_of, optional, variable};
-ghost use Rattle.zarrs_cells.specs.Cells.{fits, HasCells, IsFilled};
-ghost use Rattle.zarrs_cells.specs.Parts.{TakesCells, TakesEach};
+ghost use Rattle.zarrs_array_bytes.specs.ArrayData.{data_of, optional, variable};
+ghost use Rattle.zarrs_array_bytes.specs.Cells.{fits, HasCells, IsFilled};
+ghost use Rattle.zarrs_array_bytes.specs.Parts.{TakesCells, TakesEach};
 ghost use Rattle.zarrs_region_cells.specs.RegionData.{level_data};
 ghost use Rattle.zarrs_subset.specs.Boxes.{position_count};
 ghost use Rattle.zarrs_subset.specs.Regions.{box_of};
@@ -13,7 +13,7 @@ use crate::flags::Flags;
 use crate::strings::PlacedStrings;
 use std::alloc::{AllocError, Global};
 use std::borrow::CowSlice;
-use zarrs_cells::ArrayBytes;
+use zarrs_array_bytes::ArrayBytes;
 use zarrs_subset::ArraySubset;
 use zarrs_types::{DataType, inner_fill};
 

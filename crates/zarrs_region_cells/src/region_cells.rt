@@ -1,8 +1,8 @@
 //! `RegionCells`, the cells of a region while those of chunks are put into it.
 ghost use Rattle.std.specs.Prelude.{◌≡◌, ◌*◌, ◌<◌, ◌^◌, IfOk, IsSome, Some, length, replicate};
-ghost use Rattle.zarrs_cells.specs.ArrayData.{data_of};
-ghost use Rattle.zarrs_cells.specs.Cells.{cells, HasCells};
-ghost use Rattle.zarrs_cells.specs.Parts.{TakesCells};
+ghost use Rattle.zarrs_array_bytes.specs.ArrayData.{data_of};
+ghost use Rattle.zarrs_array_bytes.specs.Cells.{cells, HasCells};
+ghost use Rattle.zarrs_array_bytes.specs.Parts.{TakesCells};
 ghost use Rattle.zarrs_region_cells.specs.RegionData.{region_data};
 ghost use Rattle.zarrs_subset.specs.Boxes.{position_count};
 ghost use Rattle.zarrs_subset.specs.Regions.{box_of};
@@ -11,7 +11,7 @@ ghost use Rattle.zarrs_types.specs.Kind.{kind};
 
 use crate::levels::Level;
 use std::alloc::{AllocError, Global};
-use zarrs_cells::ArrayBytes;
+use zarrs_array_bytes::ArrayBytes;
 use zarrs_subset::ArraySubset;
 use zarrs_types::{DataType, FillValue};
 

@@ -1,18 +1,20 @@
 //! Byte strings over a region, which lie among bytes that grow.
 ghost use Rattle.std.specs.Prelude.{◌≡◌, ◌+◌, ◌<◌, ◌^◌, IfOk, length, map, replicate, sum_by, take};
 ghost use Rattle.std.specs.List.{range_with_len};
-ghost use Rattle.zarrs_cells.specs.Parts.{TakesAt};
+ghost use Rattle.zarrs_array_bytes.specs.Parts.{TakesAt};
 ghost use Rattle.zarrs_region_cells.specs.Places.{ArePlaces, offsets_from, placed_strings, string_of};
 ghost use Rattle.zarrs_subset.specs.Boxes.{position_count};
 ghost use Rattle.zarrs_subset.specs.Regions.{box_of, overlap_of};
-ghost use Rattle.zarrs_variable.specs.Offsets.{joined};
+ghost use Rattle.zarrs_byte_strings.specs.Offsets.{joined};
 
 use crate::numbers::Numbers;
 use std::alloc::{AllocError, Global};
 use std::borrow::CowSlice;
 use std::marker::Model;
+use zarrs_byte_strings::{
+    ArrayBytesOffsets, ArrayBytesVariableLength, extract_strings, lies_in_box,
+};
 use zarrs_subset::{ArraySubset, ArraySubsetError};
-use zarrs_variable::{ArrayBytesOffsets, ArrayBytesVariableLength, extract_strings, lies_in_box};
 
 /// A byte string for each position of a region, in row-major order: where it starts among the bytes, and its length.
 /// Those of a part are put behind the bytes, and no byte moves. Contracts see the list of the byte strings.

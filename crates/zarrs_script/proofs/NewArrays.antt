@@ -14,7 +14,7 @@ use Rattle.zarrs_chunk_grid.specs.Axes.{sizes_of}
 use Rattle.zarrs_chunk_grid.specs.Configurations.{regular, takes_shape}
 use Rattle.zarrs_data_type.specs.Kind.{Kind}
 use Rattle.serde_json.specs.Written.{has_float}
-use Rattle.zarrs_document.specs.Document.{DocumentData, data_of_document}
+use Rattle.zarrs_metadata_v3.specs.Document.{DocumentData, data_of_document}
 use Rattle.zarrs_keys.specs.declared.encodings.ChunkKeyEncoding.TheVariants.{Default}
 use Rattle.zarrs_chunk_grid.specs.Configurations.{GridConfiguration}
 use Rattle.zarrs_codec_array.specs.Metadata.{array_codec_data}
@@ -28,18 +28,18 @@ use Rattle.zarrs_codec.specs.Chains.{array_to_array_of, array_to_bytes_of}
 use Rattle.zarrs_codec.specs.Metadata.{ChainData, chain_data, bytes_codec_data, cells}
 use Rattle.zarrs_codec.specs.declared.codec.ArrayToBytesCodec as code
 use Rattle.zarrs_codec.specs.declared.chain.CodecChain.{CodecChain}
-use Rattle.zarrs_document_v2.specs.View.{MetadataData, v3}
+use Rattle.zarrs_metadata_v2.specs.View.{MetadataData, v3}
 use Rattle.zarrs_keys.specs.declared.error.NodePathError.TheVariants as path_error
 use Rattle.zarrs_metadata.specs.declared.error.PluginCreateError.TheVariants as plugin
 use Rattle.zarrs_storage.specs.declared.error.StorageError.TheVariants as stored
 use Rattle.zarrs_options.specs.Refusals.{CreateRefusal, create_refusal_of, RefusesCreation}
 use Rattle.zarrs_options.specs.declared.error.ArrayCreateError.{ArrayCreateError}
 use Rattle.zarrs_options.specs.declared.error.ArrayCreateError.TheVariants as create_error
-use Rattle.zarrs_array_metadata.specs.Meanings.{Meaning, creation, creation_v3, created}
+use Rattle.zarrs_creation.specs.Meanings.{Meaning, creation, creation_v3, created}
 use Rattle.zarrs.specs.Layouts.{layout_meant}
 use Rattle.zarrs_script_metadata.specs.Parts.{is_whole_number, document_for}
 use Rattle.zarrs_script_metadata.proofs.Plain.{plain_document_for}
-use Rattle.zarrs_steps.specs.Layout.{Layout}
+use Rattle.zarrs_calls.specs.Layout.{Layout}
 use Rattle.zarrs_script_metadata.specs.declared.cell_type.CellType.{CellType}
 use Rattle.zarrs_script_metadata.specs.declared.cell_type.CellType.TheVariants as cell
 use Rattle.zarrs_script_metadata.specs.CellTypes.{kind_of_cells}

@@ -7,17 +7,17 @@ use Rattle.zarrs_data_type.specs.Cell.{Cell}
 use Rattle.zarrs_data_type.specs.ArrayData.{ArrayData, data_of}
 use Rattle.zarrs_data_type.specs.Cells.{cells}
 use Rattle.zarrs_storage.specs.Store.{StoreState}
-use Rattle.zarrs_steps.specs.declared.call.Call.{Call}
-use Rattle.zarrs_steps.specs.declared.call.Call.TheVariants as call
-use Rattle.zarrs_steps.specs.declared.call.Reply.{Reply}
-use Rattle.zarrs_steps.specs.declared.call.Reply.TheVariants.{Done, Compacted, Cells, MaybeCells, Refused}
-use Rattle.zarrs_steps.specs.Layout.{Layout, ArrayState}
-use Rattle.zarrs_steps.specs.Acts.{Act, store, erase, compact, read, read_chunk, resize, act_of}
-use Rattle.zarrs_steps.specs.ArgumentRefusals.{argument_refusal}
-use Rattle.zarrs_steps.specs.Refusals.{Refusal}
-use Rattle.zarrs_steps.specs.Step.{ActStep, Step, Run}
-use Rattle.zarrs_document_v2.specs.View.{MetadataData}
-use Rattle.zarrs_array_metadata.specs.Changes.{with_shape}
+use Rattle.zarrs_calls.specs.declared.call.Call.{Call}
+use Rattle.zarrs_calls.specs.declared.call.Call.TheVariants as call
+use Rattle.zarrs_calls.specs.declared.call.Reply.{Reply}
+use Rattle.zarrs_calls.specs.declared.call.Reply.TheVariants.{Done, Compacted, Cells, MaybeCells, Refused}
+use Rattle.zarrs_calls.specs.Layout.{Layout, ArrayState}
+use Rattle.zarrs_calls.specs.Acts.{Act, store, erase, compact, read, read_chunk, resize, act_of}
+use Rattle.zarrs_calls.specs.ArgumentRefusals.{argument_refusal}
+use Rattle.zarrs_calls.specs.Refusals.{Refusal}
+use Rattle.zarrs_calls.specs.Step.{ActStep, Step, Run}
+use Rattle.zarrs_metadata_v2.specs.View.{MetadataData}
+use Rattle.zarrs_creation.specs.Changes.{with_shape}
 use Rattle.zarrs.specs.Arrays.{metadata_of_array}
 use Rattle.zarrs_script_metadata.specs.Parts.{text_of_metadata}
 use Rattle.zarrs_script_metadata.specs.declared.cell_type.CellType.{CellType}

@@ -4,8 +4,8 @@ use Rattle.std.specs.Borrow.{Bor}
 use Rattle.std.specs.List.{slice_split}
 use Rattle.zarrs_subset.specs.Regions.{box_of}
 use Rattle.zarrs_data_type.specs.ArrayData.{data_of}
-use Rattle.zarrs_steps.specs.declared.call.Call.{Call}
-use Rattle.zarrs_steps.specs.declared.call.Call.TheVariants as call
+use Rattle.zarrs_calls.specs.declared.call.Call.{Call}
+use Rattle.zarrs_calls.specs.declared.call.Call.TheVariants as call
 use Rattle.zarrs_script.specs.declared.command.Creation.{Creation}
 use Rattle.zarrs_script.specs.declared.command.Command.{Command}
 use Rattle.zarrs_script.specs.declared.command.Command.TheVariants as command

@@ -2,8 +2,8 @@
 use Rattle.std.specs.Prelude.{◌≡◌, ℕ, Bool, List, ◌++◌, Option, Some, None, Result, Ok, Err}
 use Rattle.std.specs.Io.KnownBytes.{Appends}
 use Rattle.zarrs_storage.specs.Memory.{open_state}
-use Rattle.zarrs_document.specs.View.{document_view}
-use Rattle.zarrs_document.specs.declared.document.ArrayMetadataV3.{ArrayMetadataV3}
+use Rattle.zarrs_metadata_v3.specs.View.{document_view}
+use Rattle.zarrs_metadata_v3.specs.declared.document.ArrayMetadataV3.{ArrayMetadataV3}
 use Rattle.zarrs.specs.Arrays.{layout_of_array, metadata_of_array, meaning_of_array, state_of_array}
 use Rattle.zarrs_script.specs.declared.command.Creation.{Creation}
 use Rattle.zarrs_script.specs.declared.array.OpenArray.{OpenArray}

@@ -2,10 +2,10 @@
 ghost use Rattle.std.specs.Prelude.{◌≡◌, ◌≤◌, ◌++◌, ◌*◌, ◌∷◌, [], codes, decimal, length, IfOk};
 ghost use Rattle.std.specs.Prelude.{OnOk, IsSome, Some, false};
 ghost use Rattle.serde_json.specs.Written.{has_float};
-ghost use Rattle.zarrs_document_v2.specs.View.{metadata_view, data_of_metadata};
+ghost use Rattle.zarrs_metadata_v2.specs.View.{metadata_view, data_of_metadata};
 ghost use Rattle.zarrs_data_type.specs.ArrayData.{fixed};
 ghost use Rattle.zarrs_data_type.specs.Cells.{cells};
-ghost use Rattle.zarrs_steps.specs.Refusals.{refusal_of, refusal_number};
+ghost use Rattle.zarrs_calls.specs.Refusals.{refusal_of, refusal_number};
 ghost use Rattle.zarrs_script_metadata.specs.Parts.{text_of_metadata};
 ghost use Rattle.zarrs_script_metadata.specs.CellTypes.{kind_of_cells, cell_type_size};
 ghost use Rattle.zarrs_script.specs.CellTexts.{value_of, number_text};
@@ -20,8 +20,8 @@ use std::alloc::{AllocError, Global};
 use std::io::Write;
 use zarrs_codec_leaf::CodecError;
 use zarrs_data_type::{ArrayBytes, ElementError};
-use zarrs_document_v2::ArrayMetadata;
 use zarrs_engine::{ArrayError, Reply};
+use zarrs_metadata_v2::ArrayMetadata;
 use zarrs_script_metadata::{CellType, metadata_text};
 use zarrs_storage::{MemoryStore, ReadableStorageTraits, StorageError, StoreKey};
 

@@ -4,7 +4,7 @@ use Rattle.std.specs.Prelude.{IsSome, option_and_then}
 use Rattle.serde_json.specs.Data.{Data}
 use Rattle.zarrs_metadata.specs.Extension.{ExtensionData}
 use Rattle.zarrs_metadata.specs.declared.separators.ChunkKeySeparator.TheVariants.{Slash}
-use Rattle.zarrs_document.specs.Document.{DocumentData, plain_document}
+use Rattle.zarrs_metadata_v3.specs.Document.{DocumentData, plain_document}
 use Rattle.zarrs_keys.specs.declared.encodings.ChunkKeyEncoding.TheVariants.{Default}
 use Rattle.zarrs_chunk_grid.specs.Configurations.{GridConfiguration}
 use Rattle.zarrs_chunk_grid.specs.GridView.{configuration_of, array_extents_of}
@@ -24,8 +24,8 @@ use Rattle.zarrs_codec.specs.Chains.{array_to_array_of, array_to_bytes_of}
 use Rattle.zarrs_codec.specs.Metadata.{ChainData, chain_data, chain_said, extensions_of_chain}
 use Rattle.zarrs_codec.specs.declared.chain.CodecChain.{CodecChain}
 use Rattle.zarrs_codec.proofs.ChainMetadata.{chain_back}
-use Rattle.zarrs_array_metadata.specs.Meanings.{meaning_with, creation_v3}
-use Rattle.zarrs_array_metadata.proofs.Order.{all_said}
+use Rattle.zarrs_creation.specs.Meanings.{meaning_with, creation_v3}
+use Rattle.zarrs_creation.proofs.Order.{all_said}
 use Rattle.zarrs_script_metadata.specs.Parts.{document_for, is_whole_number}
 
 -- documents of equal parts are the same

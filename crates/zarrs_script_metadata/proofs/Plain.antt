@@ -10,8 +10,8 @@ use Rattle.serde_json.specs.View.{items_of}
 use Rattle.serde_json.specs.Written.{has_float, items_have_float, members_have_float}
 use Rattle.zarrs_metadata.specs.Extension.{extension_data}
 use Rattle.zarrs_metadata.specs.Lists.{number_data}
-use Rattle.zarrs_document.specs.Members.{put_some, put_all}
-use Rattle.zarrs_document.specs.Document.{data_of_document, document_members}
+use Rattle.zarrs_metadata_v3.specs.Members.{put_some, put_all}
+use Rattle.zarrs_metadata_v3.specs.Document.{data_of_document, document_members}
 use Rattle.zarrs_chunk_grid.specs.Configurations.{regular}
 use Rattle.zarrs_chunk_grid.specs.Metadata.{extension_of_grid}
 use Rattle.zarrs_types.specs.FillMetadata.{fill_written}

@@ -2,8 +2,8 @@
 use Rattle.std.specs.Prelude.{ℕ, List, [], Bool, true, false, Some}
 use Rattle.serde_json.specs.Written.{compact_text}
 use Rattle.zarrs_metadata.specs.declared.separators.ChunkKeySeparator.TheVariants.{Slash}
-use Rattle.zarrs_document.specs.Document.{DocumentData, plain_document}
-use Rattle.zarrs_document_v2.specs.View.{MetadataData, data_of_metadata}
+use Rattle.zarrs_metadata_v3.specs.Document.{DocumentData, plain_document}
+use Rattle.zarrs_metadata_v2.specs.View.{MetadataData, data_of_metadata}
 use Rattle.zarrs_keys.specs.declared.encodings.ChunkKeyEncoding.TheVariants.{Default}
 use Rattle.zarrs_chunk_grid.specs.Configurations.{regular}
 use Rattle.zarrs_chunk_grid.specs.Metadata.{extension_of_grid}
@@ -14,7 +14,7 @@ use Rattle.zarrs_types.specs.TypeMetadata.{kind_extension}
 use Rattle.zarrs_codec_leaf.specs.declared.bytes.Endianness.TheVariants.{Little}
 use Rattle.zarrs_codec_cells.specs.Metadata.{bytes}
 use Rattle.zarrs_codec.specs.Metadata.{cells, extensions_of_chain}
-use Rattle.zarrs_array_metadata.specs.Meanings.{Meaning}
+use Rattle.zarrs_creation.specs.Meanings.{Meaning}
 
 -- the parts of an array with the `regular` grid, `default` keys with `/` and the codec `bytes`, little endian
 abbrev pub parts_for : List ℕ → List ℕ → Kind → List ℕ → Meaning

@@ -1,20 +1,20 @@
 //! The V3 metadata that says the parts of an array.
 ghost use Rattle.std.specs.Prelude.{◌≡◌, true, Ok, IsSome, IfOk};
 ghost use Rattle.zarrs_metadata.specs.FillValue.{fill_data};
-ghost use Rattle.zarrs_document.specs.View.{document_view};
+ghost use Rattle.zarrs_metadata_v3.specs.View.{document_view};
 ghost use Rattle.zarrs_keys.specs.declared.encodings.ChunkKeyEncoding.TheVariants.{Default};
 ghost use Rattle.zarrs_metadata.specs.declared.separators.ChunkKeySeparator.TheVariants.{Slash};
 ghost use Rattle.zarrs_chunk_grid.specs.declared.grid.ChunkGrid.TheVariants.{Regular};
 ghost use Rattle.zarrs_types.specs.Cell.{fill_cell};
 ghost use Rattle.zarrs_types.specs.FillMetadata.{fill_written};
 ghost use Rattle.zarrs_types.specs.Kind.{kind};
-ghost use Rattle.zarrs_array_metadata.specs.Meanings.{meaning_with, creation_v3};
+ghost use Rattle.zarrs_creation.specs.Meanings.{meaning_with, creation_v3};
 ghost use Rattle.zarrs_script_metadata.specs.Parts.{document_for, is_whole_number};
 
 use std::alloc::{AllocError, Global};
 use zarrs_chunk_grid::{ChunkGridTraits, RegularChunkGrid};
 use zarrs_codec::CodecChain;
-use zarrs_document::{ArrayMetadataV3, FillValueMetadata};
+use zarrs_metadata_v3::{ArrayMetadataV3, FillValueMetadata};
 use zarrs_types::laws::written_fill_value_is_read;
 use zarrs_types::{DataType, DataTypeFillValueError, FillValue};
 

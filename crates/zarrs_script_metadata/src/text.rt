@@ -1,11 +1,11 @@
 //! The text of metadata.
 ghost use Rattle.std.specs.Prelude.{◌≡◌, false, string_bytes, IfOk};
 ghost use Rattle.serde_json.specs.Written.{has_float};
-ghost use Rattle.zarrs_document_v2.specs.View.{metadata_view, data_of_metadata};
+ghost use Rattle.zarrs_metadata_v2.specs.View.{metadata_view, data_of_metadata};
 ghost use Rattle.zarrs_script_metadata.specs.Parts.{text_of_metadata};
 
 use std::alloc::{AllocError, Global};
-use zarrs_document_v2::ArrayMetadata;
+use zarrs_metadata_v2::ArrayMetadata;
 
 /// Returns the compact JSON text of the metadata: its members in ascending order of their names, without spaces.
 ///

@@ -7,9 +7,9 @@ use Rattle.zarrs_subset.specs.Pieces.{piece_at}
 use Rattle.zarrs_subset.specs.Regions.{Box, place_in}
 use Rattle.zarrs_types.specs.Cell.{bytes, none}
 use Rattle.zarrs_types.specs.Kind.{Kind, element_size}
-use Rattle.zarrs_cells.specs.ArrayData.{fixed}
-use Rattle.zarrs_cells.specs.Cells.{cell_at}
-use Rattle.zarrs_cells.specs.Parts.{ExtractsAt, ExtractsEach}
+use Rattle.zarrs_array_bytes.specs.ArrayData.{fixed}
+use Rattle.zarrs_array_bytes.specs.Cells.{cell_at}
+use Rattle.zarrs_array_bytes.specs.Parts.{ExtractsAt, ExtractsEach}
 
 module _ (k : Kind) (size : ℕ) (is : element_size k ≡ Some size) where
   cell_is : (b : List ℕ) (i : ℕ) → cell_at k (fixed b) i ≡ bytes (piece_at size b i)

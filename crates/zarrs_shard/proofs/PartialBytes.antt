@@ -7,8 +7,8 @@ use Rattle.std.proofs.lemmas.Bool.{le-leb, leb-true, and_parts, and_from}
 use Rattle.std.proofs.lemmas.List.{length-append, append_assoc, append-nil, take_at, drop_all, length-drop, length-take-le, length-replicate, take-append-drop, map-id}
 use Rattle.std.proofs.Math.Seq.{drop-append_seam}
 use Rattle.zarrs_subset.specs.Pieces.{pieces}
-use Rattle.zarrs_cells.proofs.Pieces.{length-flat_map_same, length-piece, length-pieces, pieces-flat_map}
-use Rattle.zarrs_variable.proofs.ByteStrings.{slice_range-front}
+use Rattle.zarrs_array_bytes.proofs.Pieces.{length-flat_map_same, length-piece, length-pieces, pieces-flat_map}
+use Rattle.zarrs_byte_strings.proofs.ByteStrings.{slice_range-front}
 use Rattle.zarrs_shard.specs.PartialShards.{written_over, stored_parts, stored_entries, stored_end, changed_parts, changed_entries, changed_bytes, changed_text}
 use Rattle.zarrs_shard.specs.Shards.{absent, entry_bytes, named_part, shard_parts}
 use Rattle.zarrs_shard.specs.Steps.{given_if, all_present}

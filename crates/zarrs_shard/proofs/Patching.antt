@@ -7,7 +7,7 @@ use Rattle.std.proofs.lemmas.List.{length-append, append_assoc, append-nil, leng
 use Rattle.std.proofs.lemmas.List.FromFn.{get_or-map-range_with_len}
 use Rattle.std.proofs.Math.Seq.{take-length}
 use Rattle.zarrs_subset.specs.Pieces.{pieces}
-use Rattle.zarrs_cells.proofs.Pieces.{joined_all, length-flat_map_same, pieces-flat_map, repeat_same}
+use Rattle.zarrs_array_bytes.proofs.Pieces.{joined_all, length-flat_map_same, pieces-flat_map, repeat_same}
 use Rattle.zarrs_shard.specs.PartialShards.{put, erase, all_absent, changed_bytes, changed_entries, changed_parts, changed_text, stored_end, stored_entries, stored_parts, write_of}
 use Rattle.zarrs_shard.specs.ShardIndex.{range_part}
 use Rattle.zarrs_shard.specs.ShardPatches.{IsPatching, PushesChange}

@@ -8,7 +8,7 @@ use Rattle.std.proofs.lemmas.Nat.{from_le_bytes-to_le_bytes_8}
 use Rattle.std.proofs.lemmas.List.{length-append, append_assoc, append-nil, take_at, drop_at, map-id}
 use Rattle.std.proofs.Math.Seq.{drop-append_seam}
 use Rattle.zarrs_subset.specs.Pieces.{pieces}
-use Rattle.zarrs_cells.proofs.Pieces.{length-flat_map_same, pieces-flat_map}
+use Rattle.zarrs_array_bytes.proofs.Pieces.{length-flat_map_same, pieces-flat_map}
 use Rattle.zarrs_shard.specs.Steps.{given_if, all_present}
 use Rattle.zarrs_shard.proofs.Missing.{only_if_true, only_if_parts, some_is, all_some-cons}
 use Rattle.zarrs_shard.specs.Shards.{absent, entry_bytes, entries, data_bytes, index_bytes, shard_bytes, written_shard, named_part, shard_parts}

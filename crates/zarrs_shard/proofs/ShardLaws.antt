@@ -8,7 +8,7 @@ use Rattle.std.proofs.lemmas.Slice.Eq.{bytes_eq-Decides}
 use Rattle.zarrs_types.specs.Kind.{Kind}
 use Rattle.zarrs_types.specs.Cell.{Cell, cell_eq, are_values, is_value, values_only}
 use Rattle.zarrs_types.proofs.Same.{cell_eq-true}
-use Rattle.zarrs_cells.proofs.Pieces.{length-pieces}
+use Rattle.zarrs_array_bytes.proofs.Pieces.{length-pieces}
 use Rattle.zarrs_subset.specs.Boxes.{position_count, unravel}
 use Rattle.zarrs_subset.specs.Pieces.{pieces}
 use Rattle.zarrs_subset.specs.Rearranged.{made_of}

@@ -11,7 +11,7 @@ use Rattle.std.proofs.lemmas.Nat.{le_bytes_8}
 use Rattle.std.proofs.lemmas.List.{append-nil, map-append, get_or-map, get_or-take, get_or-drop, get_or_past, length-drop, length-map, length-take, length-take-le, take-append-drop}
 use Rattle.std.proofs.lemmas.List.FromFn.{get_or-map-range_with_len}
 use Rattle.zarrs_subset.specs.Pieces.{pieces}
-use Rattle.zarrs_cells.proofs.Pieces.{pieces_more, length-pieces}
+use Rattle.zarrs_array_bytes.proofs.Pieces.{pieces_more, length-pieces}
 use Rattle.zarrs_shard.specs.Steps.{all_present}
 use Rattle.zarrs_shard.proofs.Missing.{all_some-more, all_some-none}
 use Rattle.zarrs_shard.specs.declared.shard_index.SubchunkRange.{SubchunkRange}

@@ -1,7 +1,7 @@
 -- The data of subchunks, out of the data of their chunk and into it.
 use Rattle.std.specs.Prelude.{◌≡◌, ◌≢◌, ℕ, ◌<◌, ◌≤◌, Bool, false, Some, List, [], length, replicate, slice_index_or}
-use Rattle.zarrs_cells.specs.ArrayData.{ArrayData}
-use Rattle.zarrs_cells.specs.Cells.{cells}
+use Rattle.zarrs_array_bytes.specs.ArrayData.{ArrayData}
+use Rattle.zarrs_array_bytes.specs.Cells.{cells}
 use Rattle.zarrs_subset.specs.Boxes.{position_count}
 use Rattle.zarrs_subset.specs.Regions.{Box, box_of}
 use Rattle.zarrs_types.specs.Cell.{Cell}

@@ -1,8 +1,8 @@
 //! Laws of shards. Each function does nothing: its contract is the law.
 ghost use Rattle.std.specs.Prelude.{◌≡◌, ℕ, ◌+◌, ◌*◌, ◌<◌, ◌≤◌, ◌^◌, ◌++◌, ◌∷◌, [], Bool, false, true, List};
 ghost use Rattle.std.specs.Prelude.{Option, None, Some, length, replicate};
-ghost use Rattle.zarrs_cells.specs.ArrayData.{ArrayData};
-ghost use Rattle.zarrs_cells.specs.Cells.{cells};
+ghost use Rattle.zarrs_array_bytes.specs.ArrayData.{ArrayData};
+ghost use Rattle.zarrs_array_bytes.specs.Cells.{cells};
 ghost use Rattle.zarrs_shard.specs.PartialShards.{UpdatesShard};
 ghost use Rattle.zarrs_shard.specs.Sharded.{CompactsTo, HoldsEncodedParts, IsLawfulShard, IsLawfulSubchunk};
 ghost use Rattle.zarrs_shard.specs.Sharded.{SubchunkMeaning, first_parts, part_of, sharded_decoded, sharded_encoded};

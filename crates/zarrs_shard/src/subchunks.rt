@@ -1,9 +1,9 @@
 //! The subchunks of a chunk.
 ghost use Rattle.std.specs.Prelude.{◌≡◌, ◌*◌, ◌/◌, ◌<◌, ◌≤◌, ◌^◌, true, false, Some};
 ghost use Rattle.std.specs.Prelude.{IfOk, IfSome, IsSome, MatchOption, length, replicate};
-ghost use Rattle.zarrs_cells.specs.ArrayData.{data_of};
-ghost use Rattle.zarrs_cells.specs.Cells.{cells, HasCells};
-ghost use Rattle.zarrs_cells.specs.Parts.{ExtractsAt};
+ghost use Rattle.zarrs_array_bytes.specs.ArrayData.{data_of};
+ghost use Rattle.zarrs_array_bytes.specs.Cells.{cells, HasCells};
+ghost use Rattle.zarrs_array_bytes.specs.Parts.{ExtractsAt};
 ghost use Rattle.zarrs_shard.specs.PartialShards.{is_met};
 ghost use Rattle.zarrs_shard.specs.Blank.{blank_bytes};
 ghost use Rattle.zarrs_region_cells.specs.RegionData.{region_data};
@@ -13,10 +13,10 @@ ghost use Rattle.zarrs_subset.specs.Pieces.{piece_at};
 ghost use Rattle.zarrs_subset.specs.Regions.{box_at_origin, box_of, overlap_of};
 ghost use Rattle.zarrs_types.specs.Cell.{Cell, fill_cell, fill_of, held_size};
 ghost use Rattle.zarrs_types.specs.Kind.{kind, cell_size};
-ghost use Rattle.zarrs_variable.specs.StringParts.{LiesInBox};
+ghost use Rattle.zarrs_byte_strings.specs.StringParts.{LiesInBox};
 
 use std::alloc::{AllocError, Global};
-use zarrs_cells::{ArrayBytes, DataType, FillValue};
+use zarrs_array_bytes::{ArrayBytes, DataType, FillValue};
 use zarrs_region_cells::RegionCells;
 use zarrs_subset::{
     ArrayIndices, ArrayShape, ArraySubset, element_count, place_part, unravel_index,

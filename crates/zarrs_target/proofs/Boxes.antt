@@ -5,8 +5,8 @@ use Rattle.std.proofs.Math.Nat.{mul-le-mul_right}
 use Rattle.std.proofs.lemmas.List.{length-replicate, get_or-replicate}
 use Rattle.zarrs_subset.specs.Boxes.{position_count}
 use Rattle.zarrs_subset.specs.Regions.{Box, IsLong, LiesInShape, box_at_origin}
-use Rattle.zarrs_variable.specs.StringParts.{LiesInBox}
-use Rattle.zarrs_variable.proofs.Inside.{count_inside}
+use Rattle.zarrs_byte_strings.specs.StringParts.{LiesInBox}
+use Rattle.zarrs_byte_strings.proofs.Inside.{count_inside}
 use Rattle.zarrs_target.specs.Targets.{IsTargetOver}
 
 pub origin_long : (parent : List ℕ) → IsLong (box_at_origin parent)

@@ -11,10 +11,10 @@ use Rattle.zarrs_types.specs.Kind.{Kind, element_size, fixed_size, cell_size, in
 use Rattle.zarrs_types.specs.Kind as type
 use Rattle.zarrs_types.specs.Cell.{Cell, bytes, none, some, is_element, is_value, held_size}
 use Rattle.zarrs_types.proofs.Sizes.{cell_size-fixed, element_len, held_size-inner}
-use Rattle.zarrs_cells.specs.ArrayData.{ArrayData}
-use Rattle.zarrs_cells.specs.Cells.{cells, fits, cell_at}
-use Rattle.zarrs_cells.specs.Parts.{TakesEach}
-use Rattle.zarrs_cells.proofs.Cells.{cells-parts}
+use Rattle.zarrs_array_bytes.specs.ArrayData.{ArrayData}
+use Rattle.zarrs_array_bytes.specs.Cells.{cells, fits, cell_at}
+use Rattle.zarrs_array_bytes.specs.Parts.{TakesEach}
+use Rattle.zarrs_array_bytes.proofs.Cells.{cells-parts}
 use Rattle.zarrs_target.specs.Targets.{FillsBox}
 use Rattle.zarrs_target.proofs.TypeSizes.{optional_is}
 

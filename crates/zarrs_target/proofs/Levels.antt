@@ -13,11 +13,11 @@ use Rattle.zarrs_subset.specs.Regions.{Box, in_box, place_in}
 use Rattle.zarrs_types.specs.Kind.{Kind, fixed_size}
 use Rattle.zarrs_types.specs.Kind as type
 use Rattle.zarrs_types.specs.Cell.{Cell, none, some}
-use Rattle.zarrs_cells.specs.ArrayData.{ArrayData, fixed, variable, optional}
-use Rattle.zarrs_cells.specs.Cells.{fits, cell_at}
-use Rattle.zarrs_cells.specs.Parts.{TakesAt, TakesEach}
-use Rattle.zarrs_cells.proofs.Filled.{fits-fixed, fits-optional}
-use Rattle.zarrs_cells.proofs.Parts.{takes-fixed}
+use Rattle.zarrs_array_bytes.specs.ArrayData.{ArrayData, fixed, variable, optional}
+use Rattle.zarrs_array_bytes.specs.Cells.{fits, cell_at}
+use Rattle.zarrs_array_bytes.specs.Parts.{TakesAt, TakesEach}
+use Rattle.zarrs_array_bytes.proofs.Filled.{fits-fixed, fits-optional}
+use Rattle.zarrs_array_bytes.proofs.Parts.{takes-fixed}
 use Rattle.zarrs_target.specs.Targets.{HasLevels, KeepsAt, KeepsOutside, TakesLevels, masked}
 use Rattle.zarrs_target.proofs.TypeSizes.{some_is, optional_is, element_is}
 

@@ -4,9 +4,9 @@ use Rattle.std.specs.Prelude.{◌==◌}
 use Rattle.std.proofs.lemmas.Bool.{cases_Bool, eqb-true, and_parts, false≢true}
 use Rattle.zarrs_types.specs.Kind.{Kind, element_size, fixed_size, cell_size, inner_of, is_variable}
 use Rattle.zarrs_types.specs.Kind as type
-use Rattle.zarrs_cells.specs.ArrayData.{ArrayData, fixed, variable, optional}
-use Rattle.zarrs_cells.specs.Cells.{fits}
-use Rattle.zarrs_cells.proofs.Filled.{fits-fixed, fits-variable, fits-optional}
+use Rattle.zarrs_array_bytes.specs.ArrayData.{ArrayData, fixed, variable, optional}
+use Rattle.zarrs_array_bytes.specs.Cells.{fits}
+use Rattle.zarrs_array_bytes.proofs.Filled.{fits-fixed, fits-variable, fits-optional}
 use Rattle.zarrs_target.specs.Targets.{HasLevels, depth_of, takes_type}
 
 pub some_is : {A : Type 0} {x y : A} → Some x ≡ Some y → x ≡ y

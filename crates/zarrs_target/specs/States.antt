@@ -2,7 +2,7 @@
 use Rattle.std.specs.Prelude.{◌≡◌, length}
 use Rattle.zarrs_subset.specs.Boxes.{position_count}
 use Rattle.zarrs_subset.specs.Regions.{Box, box_of, box_at_origin}
-use Rattle.zarrs_cells.specs.ArrayData.{ArrayData}
+use Rattle.zarrs_array_bytes.specs.ArrayData.{ArrayData}
 use Rattle.zarrs_target.specs.declared.target.ArrayBytesDecodeIntoTarget.{ArrayBytesDecodeIntoTarget}
 use Rattle.zarrs_target.specs.Targets.{IsTargetOver, masked, KeepsOutside}
 

@@ -5,10 +5,10 @@ use Rattle.zarrs_subset.specs.Pieces.{piece_at}
 use Rattle.zarrs_subset.specs.Regions.{Box, Holds, LiesInShape, in_box, place_in}
 use Rattle.zarrs_types.specs.Kind.{Kind, fixed_size, optional}
 use Rattle.zarrs_types.specs.Cell.{Cell}
-use Rattle.zarrs_cells.specs.ArrayData.{ArrayData, fixed, variable}
-use Rattle.zarrs_cells.specs.ArrayData as held
-use Rattle.zarrs_cells.specs.Cells.{cell_at}
-use Rattle.zarrs_cells.specs.Parts.{TakesAt}
+use Rattle.zarrs_array_bytes.specs.ArrayData.{ArrayData, fixed, variable}
+use Rattle.zarrs_array_bytes.specs.ArrayData as held
+use Rattle.zarrs_array_bytes.specs.Cells.{cell_at}
+use Rattle.zarrs_array_bytes.specs.Parts.{TakesAt}
 
 -- the parts of a target go together: the bytes and the masks are as long as the parent asks, and the box lies in it
 pub record IsTargetOver (bytes_len cell_size masks_len depth : ℕ) (parent : List ℕ) (region : Box) : Type 0 where

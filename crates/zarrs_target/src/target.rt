@@ -1,21 +1,21 @@
 //! A box of an array of cells that a caller lends to be written.
 ghost use Rattle.std.specs.Prelude.{◌≡◌, ◌↔◌, ◌*◌, ◌==◌, true, IfOk, IsOk, IsTrue, IsSome, OnErr, OnOk, length};
 ghost use Rattle.std.specs.Prelude.{◌≤◌, [], drop, slice_index, take};
-ghost use Rattle.zarrs_cells.specs.ArrayData.{data_of};
-ghost use Rattle.zarrs_cells.specs.Cells.{fits};
-ghost use Rattle.zarrs_cells.specs.Parts.{TakesAt, TakesEach};
+ghost use Rattle.zarrs_array_bytes.specs.ArrayData.{data_of};
+ghost use Rattle.zarrs_array_bytes.specs.Cells.{fits};
+ghost use Rattle.zarrs_array_bytes.specs.Parts.{TakesAt, TakesEach};
 ghost use Rattle.zarrs_subset.specs.Boxes.{position_count};
 ghost use Rattle.zarrs_subset.specs.Pieces.{piece_at};
 ghost use Rattle.zarrs_subset.specs.Regions.{LiesInShape, box_of, box_at_origin};
 ghost use Rattle.zarrs_types.specs.Cell.{fill_cell, fill_of};
 ghost use Rattle.zarrs_types.specs.Kind.{Kind, kind};
-ghost use Rattle.zarrs_variable.specs.StringParts.{LiesInBox};
+ghost use Rattle.zarrs_byte_strings.specs.StringParts.{LiesInBox};
 ghost use Rattle.zarrs_target.specs.Targets.{FillsBox, HasLevels, IsTargetOver, TakesLevels};
 ghost use Rattle.zarrs_target.specs.Targets.{depth_of, masked, takes_type};
 
 use std::alloc::{AllocError, Global};
 use std::mem;
-use zarrs_cells::ArrayBytes;
+use zarrs_array_bytes::ArrayBytes;
 use zarrs_data_type::ArrayBytesFixedDisjointViewCreateError;
 use zarrs_subset::{ArraySubset, ArraySubsetTraits, element_count, place_part};
 use zarrs_types::{DataType, FillValue};

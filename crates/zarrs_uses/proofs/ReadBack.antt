@@ -6,11 +6,11 @@ use Rattle.zarrs_chunk_grid.proofs.Chunks.{box_long}
 use Rattle.zarrs_storage.specs.Store.{StoreState}
 use Rattle.zarrs_data_type.specs.ArrayData.{ArrayData}
 use Rattle.zarrs_data_type.specs.Cells.{cells}
-use Rattle.zarrs_steps.specs.Layout.{Layout}
-use Rattle.zarrs_steps.specs.Content.{value_at, content, Reads}
-use Rattle.zarrs_steps.specs.Changes.{RetrievesChunk}
-use Rattle.zarrs_steps.specs.Fronts.{StoresAll}
-use Rattle.zarrs_steps.proofs.LawProofs.{reads_one}
+use Rattle.zarrs_calls.specs.Layout.{Layout}
+use Rattle.zarrs_calls.specs.Content.{value_at, content, Reads}
+use Rattle.zarrs_calls.specs.Changes.{RetrievesChunk}
+use Rattle.zarrs_calls.specs.Fronts.{StoresAll}
+use Rattle.zarrs_calls.proofs.LawProofs.{reads_one}
 
 -- data that a chunk was stored from and data that it is read as have the same cells
 pub read_back : (layout : Layout) (keep : Bool) (index : List ℕ) (held got : ArrayData) (old new : StoreState)

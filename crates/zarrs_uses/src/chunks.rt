@@ -3,7 +3,7 @@ ghost use Rattle.std.specs.Prelude.{◌≡◌, false, IfOk, OnOk};
 ghost use Rattle.zarrs_storage.specs.Memory.{open_state};
 ghost use Rattle.zarrs_data_type.specs.ArrayData.{data_of, fixed};
 ghost use Rattle.zarrs_data_type.specs.Cells.{cells};
-ghost use Rattle.zarrs_steps.specs.Step.{StoresChunk, ErasesChunk};
+ghost use Rattle.zarrs_calls.specs.Step.{StoresChunk, ErasesChunk};
 ghost use Rattle.zarrs_engine.specs.Engine.{layout_of, store_of, KeepsParts};
 
 use crate::make::MemoryEngine;

@@ -1,7 +1,7 @@
 //! Replays histories of calls.
 ghost use Rattle.std.specs.Prelude.{◌≡◌, ◌↔◌};
 ghost use Rattle.zarrs_storage.specs.Memory.{open_state};
-ghost use Rattle.zarrs_steps.specs.Laws.{IsHistory, HaveEqualContent, HaveEqualBytes};
+ghost use Rattle.zarrs_calls.specs.Laws.{IsHistory, HaveEqualContent, HaveEqualBytes};
 ghost use Rattle.zarrs_engine.specs.Engine.{layout_of, state_of, store_of};
 
 use crate::make::MemoryEngine;

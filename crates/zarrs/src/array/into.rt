@@ -9,7 +9,7 @@ use zarrs_target::ArrayBytesDecodeIntoTarget;
 
 impl<TStorage: ReadableStorageTraits> Array<TStorage> {
     ghost use Rattle.std.specs.Prelude.{◌≡◌, IfErr, IsSome, OnErr, OnOk};
-    ghost use Rattle.zarrs_steps.specs.Refusals.{refusal_of};
+    ghost use Rattle.zarrs_calls.specs.Refusals.{refusal_of};
     ghost use Rattle.zarrs_target.specs.States.{IsTarget, SameBox, StaysOutside};
     ghost use Rattle.zarrs_engine.specs.Into.{HasContent, RefusesRetrieveInto, RetrievesInto};
     ghost use Rattle.zarrs_engine.specs.Into.{target_refusal};

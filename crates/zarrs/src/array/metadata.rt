@@ -1,18 +1,18 @@
 //! Metadata calls: the metadata of an array in its store.
 use super::Array;
 use std::alloc::Global;
-use zarrs_array_metadata::{MetadataPut, erasures_of_metadata, puts_of_metadata};
+use zarrs_creation::{MetadataPut, erasures_of_metadata, puts_of_metadata};
 use zarrs_options::{ArrayMetadataOptions, MetadataEraseVersion};
 use zarrs_storage::{StorageError, WritableStorageTraits};
 
 impl<TStorage: WritableStorageTraits> Array<TStorage> {
     ghost use Rattle.std.specs.Prelude.{◌≡◌, map, IfErr, Ok, OnOk};
-    ghost use Rattle.zarrs_document_v2.specs.View.{MetadataData};
+    ghost use Rattle.zarrs_metadata_v2.specs.View.{MetadataData};
     ghost use Rattle.zarrs_options.specs.Options.{options_view};
     ghost use Rattle.zarrs_options.specs.declared.versions.MetadataEraseVersion.TheVariants as erase;
-    ghost use Rattle.zarrs_steps.specs.Refusals.{refusal_of_storage};
-    ghost use Rattle.zarrs_array_metadata.specs.Shown.{shown};
-    ghost use Rattle.zarrs_array_metadata.specs.Writing.{put_view, erasures};
+    ghost use Rattle.zarrs_calls.specs.Refusals.{refusal_of_storage};
+    ghost use Rattle.zarrs_creation.specs.Shown.{shown};
+    ghost use Rattle.zarrs_creation.specs.Writing.{put_view, erasures};
     ghost use Rattle.zarrs.specs.Counts.{Writes, documents_of, erased_documents};
     ghost use Rattle.zarrs.specs.Puts.{ArePut, RefusesPuts, StoresMetadata, RefusesStoreMetadata};
     ghost use Rattle.zarrs.specs.Arrays.{metadata_of_array, metadata_options_of_array};

@@ -26,8 +26,8 @@ pub struct ArrayPartialDecoder<'a, TStorage> {
 impl<TStorage: ReadableStorageTraits> Array<TStorage> {
     ghost use Rattle.std.specs.Prelude.{◌≡◌, true, IfOk, IfErr, OnOk};
     ghost use Rattle.zarrs_chunk_grid.specs.Grids.{has_box};
-    ghost use Rattle.zarrs_steps.specs.ArgumentRefusals.{chunk_refusal};
-    ghost use Rattle.zarrs_steps.specs.Refusals.{RefusesBy, refusal_of};
+    ghost use Rattle.zarrs_calls.specs.ArgumentRefusals.{chunk_refusal};
+    ghost use Rattle.zarrs_calls.specs.Refusals.{RefusesBy, refusal_of};
     ghost use Rattle.zarrs.specs.Arrays.{layout_of_array, state_of_array};
     ghost use Rattle.zarrs.specs.PartialEncoders.{MayDecodeAt, layout_of_decoder, state_of_decoder};
     ghost use Rattle.zarrs.specs.PartialEncoders.{indices_of_decoder};
@@ -83,10 +83,10 @@ impl<TStorage: ReadableStorageTraits> ArrayPartialDecoder<'_, TStorage> {
     ghost use Rattle.std.specs.Prelude.{◌≡◌, ◌↔◌, true, None, IfOk, IfErr, IsSome, IsTrue};
     ghost use Rattle.std.specs.Prelude.{OnErr, OnOk};
     ghost use Rattle.zarrs_data_type.specs.ArrayData.{data_of};
-    ghost use Rattle.zarrs_steps.specs.ArgumentRefusals.{part_refusal, region_refusal};
-    ghost use Rattle.zarrs_steps.specs.Changes.{IsPresent};
-    ghost use Rattle.zarrs_steps.specs.Refusals.{RefusesBy, key_refusal, refusal_of};
-    ghost use Rattle.zarrs_steps.specs.Step.{RetrievesPart, RefusesRetrievePart};
+    ghost use Rattle.zarrs_calls.specs.ArgumentRefusals.{part_refusal, region_refusal};
+    ghost use Rattle.zarrs_calls.specs.Changes.{IsPresent};
+    ghost use Rattle.zarrs_calls.specs.Refusals.{RefusesBy, key_refusal, refusal_of};
+    ghost use Rattle.zarrs_calls.specs.Step.{RetrievesPart, RefusesRetrievePart};
     ghost use Rattle.zarrs_target.specs.States.{IsTarget, SameBox, StaysOutside};
     ghost use Rattle.zarrs_engine.specs.Into.{HasContent, RetrievesInto};
     ghost use Rattle.zarrs_engine.specs.PartialDecoders.{RefusesPartInto, part_into_refusal};

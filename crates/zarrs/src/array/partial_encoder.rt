@@ -24,8 +24,8 @@ impl<TStorage> Array<TStorage> {
     ghost use Rattle.std.specs.Borrow.{sem};
     ghost use Rattle.std.specs.Prelude.{◌≡◌, true, IfOk, IfErr, OnOk};
     ghost use Rattle.zarrs_chunk_grid.specs.Grids.{has_box};
-    ghost use Rattle.zarrs_steps.specs.ArgumentRefusals.{chunk_refusal};
-    ghost use Rattle.zarrs_steps.specs.Refusals.{RefusesBy, refusal_of};
+    ghost use Rattle.zarrs_calls.specs.ArgumentRefusals.{chunk_refusal};
+    ghost use Rattle.zarrs_calls.specs.Refusals.{RefusesBy, refusal_of};
     ghost use Rattle.zarrs.specs.Arrays.{layout_of_array};
     ghost use Rattle.zarrs.specs.PartialEncoders.{array_of_encoder, indices_of_encoder};
     ghost use Rattle.zarrs.specs.PartialEncoders.{loan_of_encoder, RestsUnlessEncoded};

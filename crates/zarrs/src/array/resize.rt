@@ -1,9 +1,9 @@
 //! Changes of an array's shape.
 use super::Array;
 use std::alloc::Global;
-use zarrs_array_metadata::overwrite_shape;
 use zarrs_chunk_grid::ChunkGridTraits;
 use zarrs_codec::CodecOptions;
+use zarrs_creation::overwrite_shape;
 use zarrs_engine::ArrayError;
 use zarrs_storage::WritableStorageTraits;
 use zarrs_subset::ArrayShape;
@@ -11,12 +11,12 @@ use zarrs_subset::ArrayShape;
 impl<TStorage: WritableStorageTraits> Array<TStorage> {
     ghost use Rattle.std.specs.Prelude.{◌≡◌, IfErr, OnErr, OnOk};
     ghost use Rattle.zarrs_chain.specs.Options.{stores_empty_chunks};
-    ghost use Rattle.zarrs_array_metadata.specs.Changes.{with_shape};
-    ghost use Rattle.zarrs_steps.specs.Canon.{KeepsCanon};
-    ghost use Rattle.zarrs_steps.specs.Cuts.{cut_chunks};
-    ghost use Rattle.zarrs_steps.specs.Reach.{MayAskKept};
-    ghost use Rattle.zarrs_steps.specs.Refusals.{refusal_of};
-    ghost use Rattle.zarrs_steps.specs.Step.{ResizesArray, RefusesResize};
+    ghost use Rattle.zarrs_creation.specs.Changes.{with_shape};
+    ghost use Rattle.zarrs_calls.specs.Canon.{KeepsCanon};
+    ghost use Rattle.zarrs_calls.specs.Cuts.{cut_chunks};
+    ghost use Rattle.zarrs_calls.specs.Reach.{MayAskKept};
+    ghost use Rattle.zarrs_calls.specs.Refusals.{refusal_of};
+    ghost use Rattle.zarrs_calls.specs.Step.{ResizesArray, RefusesResize};
     ghost use Rattle.zarrs.specs.Arrays.{layout_of_array, metadata_of_array, state_of_array};
     ghost use Rattle.zarrs.specs.Arrays.{store_of_array, KeepsArray, KeepsAllButShape};
 

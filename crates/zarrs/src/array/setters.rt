@@ -1,17 +1,17 @@
 //! Setters of an array. None of them asks the store.
 use super::Array;
 use std::alloc::Global;
-use zarrs_array_metadata::{name_dimensions, regrid, reshape};
+use zarrs_creation::{name_dimensions, regrid, reshape};
 use zarrs_data_type::IntoField;
-use zarrs_document::DimensionName;
+use zarrs_metadata_v3::DimensionName;
 use zarrs_options::{ArrayBuilderChunkGridMetadata, ArrayCreateError};
 use zarrs_subset::ArrayShape;
 
 impl<TStorage> Array<TStorage> {
     ghost use Rattle.std.specs.Prelude.{◌≡◌, map, Ok, IfOk, IfErr, OnOk, OnErr, option_map};
-    ghost use Rattle.zarrs_document.specs.View.{name_view};
+    ghost use Rattle.zarrs_metadata_v3.specs.View.{name_view};
     ghost use Rattle.zarrs_options.specs.Refusals.{create_refusal_of, RefusesCreation};
-    ghost use Rattle.zarrs_array_metadata.specs.Changes.{naming, with_names};
+    ghost use Rattle.zarrs_creation.specs.Changes.{naming, with_names};
     ghost use Rattle.zarrs.specs.Arrays.{metadata_of_array, KeepsAllButMetadata};
 
     /// Gives the dimensions these names, or takes their names away, as `set_dimension_names` does.
@@ -68,7 +68,7 @@ impl<TStorage> Array<TStorage> {
     ghost use Rattle.std.specs.Prelude.{◌≡◌, Ok, IfOk, IfErr, OnOk, OnErr};
     ghost use Rattle.zarrs_options.specs.Given.{grid_given};
     ghost use Rattle.zarrs_options.specs.Refusals.{create_refusal_of, RefusesCreation};
-    ghost use Rattle.zarrs_array_metadata.specs.Changes.{reshaping, regridding};
+    ghost use Rattle.zarrs_creation.specs.Changes.{reshaping, regridding};
     ghost use Rattle.zarrs.specs.Arrays.{layout_of_array, metadata_of_array};
     ghost use Rattle.zarrs.specs.Arrays.{KeepsArray, KeepsAllButGrid};
     ghost use Rattle.zarrs.specs.Setters.{KeepsCells, KeepsDecoding, Regrids, RefusesRegrid};

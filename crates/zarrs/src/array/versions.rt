@@ -1,15 +1,15 @@
 //! The metadata of an array as options show it, and in V3.
 use super::Array;
 use std::alloc::Global;
-use zarrs_array_metadata::shown_metadata;
-use zarrs_document_v2::{ArrayMetadata, ArrayMetadataV2ToV3Error, array_metadata_v2_to_v3};
+use zarrs_creation::shown_metadata;
+use zarrs_metadata_v2::{ArrayMetadata, ArrayMetadataV2ToV3Error, array_metadata_v2_to_v3};
 use zarrs_options::ArrayMetadataOptions;
 
 impl<TStorage> Array<TStorage> {
     ghost use Rattle.std.specs.Prelude.{◌≡◌, Ok, IfOk, IsOkUnless};
-    ghost use Rattle.zarrs_document_v2.specs.View.{metadata_view};
+    ghost use Rattle.zarrs_metadata_v2.specs.View.{metadata_view};
     ghost use Rattle.zarrs_options.specs.Options.{options_view};
-    ghost use Rattle.zarrs_array_metadata.specs.Shown.{shown};
+    ghost use Rattle.zarrs_creation.specs.Shown.{shown};
     ghost use Rattle.zarrs.specs.Arrays.{metadata_of_array};
 
     /// Returns the metadata as these options show it: in its own version or V3, with or without the attribute `_zarrs`,
@@ -32,7 +32,7 @@ impl<TStorage> Array<TStorage> {
 
 impl<TStorage: Drop> Array<TStorage> {
     ghost use Rattle.std.specs.Prelude.{◌≡◌, Ok, IfOk, IsOkUnless};
-    ghost use Rattle.zarrs_array_metadata.specs.Meanings.{as_v3};
+    ghost use Rattle.zarrs_creation.specs.Meanings.{as_v3};
     ghost use Rattle.zarrs.specs.Arrays.{metadata_of_array, KeepsAllButMetadata};
 
     /// Returns the array with V3 metadata. Nothing else changes, and nothing is written.

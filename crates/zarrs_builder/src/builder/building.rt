@@ -10,11 +10,11 @@ ghost use Rattle.zarrs_types.specs.TypeMetadata.{kind_name};
 ghost use Rattle.zarrs_codec_array.specs.Metadata.{array_codec_data};
 ghost use Rattle.zarrs_codec_cells.specs.ShardingMetadata.{sizes_of};
 ghost use Rattle.zarrs_codec.specs.Metadata.{bytes_codec_data, chain_data, sharding};
-ghost use Rattle.zarrs_document.specs.View.{document_view, name_view};
+ghost use Rattle.zarrs_metadata_v3.specs.View.{document_view, name_view};
 ghost use Rattle.zarrs_options.specs.Given.{grid_given};
 ghost use Rattle.zarrs_options.specs.Refusals.{RefusesCreation, create_refusal_of, said_or};
 ghost use Rattle.zarrs_options.specs.Refusals as refusal;
-ghost use Rattle.zarrs_array_metadata.specs.Meanings.{creation_v3, names_said, path_said};
+ghost use Rattle.zarrs_creation.specs.Meanings.{creation_v3, names_said, path_said};
 ghost use Rattle.zarrs_builder.specs.Built.{chain_chosen, codec_chosen, cut_into, grid_chosen};
 ghost use Rattle.zarrs_builder.specs.Built.{fill_stated, sizes_said};
 
@@ -31,11 +31,11 @@ use zarrs_codec::{
     default_array_to_bytes_codec,
 };
 use zarrs_data_type::{DataType, DataTypeFillValueError, FillValue};
-use zarrs_document::{ArrayMetadataV3, DimensionName, FillValueMetadata};
-use zarrs_document_v2::ArrayMetadata;
 use zarrs_keys::NodePath;
 use zarrs_metadata::PluginCreateError;
 use zarrs_metadata::members::copied;
+use zarrs_metadata_v2::ArrayMetadata;
+use zarrs_metadata_v3::{ArrayMetadataV3, DimensionName, FillValueMetadata};
 use zarrs_options::{ArrayBuilderChunkGridMetadata, ArrayCreateError};
 use zarrs_types::laws::written_fill_value_is_read;
 
@@ -62,7 +62,7 @@ struct Chosen {
 }
 
 impl ArrayBuilder {
-    ghost use Rattle.zarrs_document_v2.specs.View.{v3};
+    ghost use Rattle.zarrs_metadata_v2.specs.View.{v3};
     ghost use Rattle.zarrs.specs.Arrays.{meaning_of_array, metadata_of_array, path_of_array};
     ghost use Rattle.zarrs.specs.Arrays.{storage_of_array, HasSpecificOptions};
     ghost use Rattle.zarrs_builder.specs.Builders.{builder_view, fields_of};

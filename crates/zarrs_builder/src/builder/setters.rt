@@ -8,9 +8,9 @@ use std::alloc::Global;
 use zarrs_chunk_grid::{ChunkGrid, ChunkGridTraits};
 use zarrs_codec::{ArrayToArrayCodec, ArrayToBytesCodec, BytesToBytesCodecs, CodecSpecificOptions};
 use zarrs_data_type::IntoField;
-use zarrs_document::{AdditionalFieldsV3, DimensionName};
 use zarrs_keys::ChunkKeyEncoding;
 use zarrs_metadata::ChunkKeySeparator;
+use zarrs_metadata_v3::{AdditionalFieldsV3, DimensionName};
 use zarrs_options::{ArrayBuilderChunkGridMetadata, StorageTransformerChain};
 use zarrs_subset::ArrayShape;
 
@@ -22,7 +22,7 @@ impl ArrayBuilder {
     ghost use Rattle.zarrs_keys.specs.declared.encodings.ChunkKeyEncoding.TheVariants as keys;
     ghost use Rattle.zarrs_codec_array.specs.Metadata.{array_codec_data};
     ghost use Rattle.zarrs_codec.specs.Metadata.{bytes_codec_data};
-    ghost use Rattle.zarrs_document.specs.View.{fields_view};
+    ghost use Rattle.zarrs_metadata_v3.specs.View.{fields_view};
     ghost use Rattle.zarrs_builder.specs.Given.{AreGiven};
     ghost use Rattle.zarrs_builder.specs.Builders.{builder_view, shape_of, chunk_grid_of};
     ghost use Rattle.zarrs_builder.specs.Builders.{data_type_of, fill_value_of, HasGrid};

@@ -30,7 +30,7 @@ use Rattle.zarrs_target.specs.Targets.{takes_type}
 use Rattle.zarrs_types.proofs.Values.{fill-value}
 use Rattle.zarrs_types.specs.Cell.{fill_of}
 use Rattle.zarrs_types.specs.Kind.{kind}
-use Rattle.zarrs_variable.specs.StringParts.{LiesInBox}
+use Rattle.zarrs_byte_strings.specs.StringParts.{LiesInBox}
 use Rattle.zarrs_codec.proofs.+decode_into.Goals as goal
 
 pub sharding::ShardingCodec::decode_cut_into-returns-in_err-subchunks-clause-outside : goal.sharding::ShardingCodec::decode_cut_into-returns-in_err-subchunks-clause-outside

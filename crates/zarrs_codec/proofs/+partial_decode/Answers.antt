@@ -5,9 +5,9 @@ use Rattle.std.proofs.lemmas.List.{get_or-map, get_or_read, length-map}
 use Rattle.std.proofs.lemmas.Option.{slice_get_within}
 use Rattle.std.proofs.lemmas.Result.{IfErr-weaker, IfOk-weaker}
 use Rattle.std.specs.Prelude.{slice_index, slice_index_or}
-use Rattle.zarrs_cells.specs.ArrayData.{ArrayData, data_of}
+use Rattle.zarrs_array_bytes.specs.ArrayData.{ArrayData, data_of}
 use Rattle.zarrs_region_cells.specs.RegionData.{region_data}
-use Rattle.zarrs_cells.specs.Cells.{cells}
+use Rattle.zarrs_array_bytes.specs.Cells.{cells}
 use Rattle.zarrs_chain.specs.Chain.{ChainMeaning}
 use Rattle.zarrs_codec.specs.ChainLaws.{chain-lawful}
 use Rattle.zarrs_codec.specs.Chains.{codec_meaning, chain_meaning, inner_chain_of, is_at_start, location_of, subchunk_sizes_of, sharding_meaning}

@@ -12,7 +12,7 @@ use super::{Element, ElementOwned};
 use crate::error::ElementError;
 use std::alloc::{AllocError, Global};
 use std::borrow::CowSlice;
-use zarrs_cells::{ArrayBytes, are_flags};
+use zarrs_array_bytes::{ArrayBytes, are_flags};
 use zarrs_types::DataType;
 
 /// A byte for each flag: 0 for false and 1 for true.

@@ -1,7 +1,7 @@
 //! Whole numbers as cells.
 ghost use Rattle.std.specs.Prelude.{◌≡◌, true, map, Some, IfOk, IfErr};
-ghost use Rattle.zarrs_cells.specs.ArrayData.{data_of};
-ghost use Rattle.zarrs_cells.specs.Cells.{cells};
+ghost use Rattle.zarrs_array_bytes.specs.ArrayData.{data_of};
+ghost use Rattle.zarrs_array_bytes.specs.Cells.{cells};
 ghost use Rattle.zarrs_types.specs.Cell.{bytes, takes_any_bytes};
 ghost use Rattle.zarrs_types.specs.Kind.{kind, element_size};
 ghost use Rattle.zarrs_data_type.specs.Elements.{RefusesCells};
@@ -9,7 +9,7 @@ ghost use Rattle.zarrs_data_type.specs.Elements.{RefusesCells};
 use crate::error::ElementError;
 use std::alloc::{AllocError, Global};
 use std::borrow::CowSlice;
-use zarrs_cells::ArrayBytes;
+use zarrs_array_bytes::ArrayBytes;
 use zarrs_numbers::WholeNumber;
 use zarrs_types::DataType;
 

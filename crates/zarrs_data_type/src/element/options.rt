@@ -3,14 +3,14 @@ ghost use Rattle.std.specs.Prelude.{◌≡◌, false, map, is_some, IfOk};
 ghost use Rattle.std.specs.Int.{from_bool};
 ghost use Rattle.std.specs.List.{filter_map};
 ghost use Rattle.std.specs.Option.{option_map_or};
-ghost use Rattle.zarrs_cells.specs.Present.{spread_cells};
+ghost use Rattle.zarrs_array_bytes.specs.Present.{spread_cells};
 ghost use Rattle.zarrs_types.specs.Kind.{inner_of};
 ghost use Rattle.zarrs_data_type.specs.Elements.{option_cell};
 
 use super::{Element, ElementOwned};
 use crate::error::ElementError;
 use std::alloc::{AllocError, Global};
-use zarrs_cells::ArrayBytes;
+use zarrs_array_bytes::ArrayBytes;
 use zarrs_types::DataType;
 
 /// The values, lent one by one.

@@ -12,7 +12,7 @@ use super::copies::copied;
 use super::{Element, ElementOwned};
 use crate::error::ElementError;
 use std::alloc::{AllocError, Global};
-use zarrs_cells::{ArrayBytes, ArrayBytesVariableLength, VariableLengthBuilder};
+use zarrs_array_bytes::{ArrayBytes, ArrayBytesVariableLength, VariableLengthBuilder};
 use zarrs_types::DataType;
 
 /// The texts one after another.

@@ -1,11 +1,11 @@
 //! Reads of parts of chunks and of ranges of chunks.
 use super::Engine;
 use std::alloc::Global;
+use zarrs_calls::ArrayError;
 use zarrs_chain::ChainTraits;
 use zarrs_chunk_grid::ChunkGridTraits;
 use zarrs_data_type::ArrayBytes;
 use zarrs_keys::ChunkKeyEncodingTraits;
-use zarrs_steps::ArrayError;
 use zarrs_storage::ReadableStorageTraits;
 use zarrs_subset::ArraySubset;
 

@@ -1,12 +1,12 @@
 //! Reads of one chunk.
 use super::Engine;
 use std::alloc::Global;
+use zarrs_array_layout::invalid_indices;
+use zarrs_calls::ArrayError;
 use zarrs_chain::ChainTraits;
 use zarrs_chunk_grid::ChunkGridTraits;
 use zarrs_data_type::ArrayBytes;
 use zarrs_keys::ChunkKeyEncodingTraits;
-use zarrs_layout::invalid_indices;
-use zarrs_steps::ArrayError;
 use zarrs_storage::{Bytes, ReadableStorageTraits};
 
 impl<
@@ -17,14 +17,14 @@ impl<
 > Engine<S, G, K, C> {
     ghost use Rattle.std.specs.Prelude.{◌≡◌, true, false, IfOk, IfErr, OnOk, IsErr, None, length, option_map};
     ghost use Rattle.zarrs_data_type.specs.ArrayData.{data_of};
-    ghost use Rattle.zarrs_steps.specs.Content.{value_at};
-    ghost use Rattle.zarrs_steps.specs.Reach.{MayAskChunk};
-    ghost use Rattle.zarrs_steps.specs.Refusals.{refusal_of, key_refusal, length_refusal};
-    ghost use Rattle.zarrs_steps.specs.Changes.{RetrievesChunk, RetrievesIfExists};
-    ghost use Rattle.zarrs_steps.specs.StateRefusals.{RefusesChunkRead};
+    ghost use Rattle.zarrs_calls.specs.Content.{value_at};
+    ghost use Rattle.zarrs_calls.specs.Reach.{MayAskChunk};
+    ghost use Rattle.zarrs_calls.specs.Refusals.{refusal_of, key_refusal, length_refusal};
+    ghost use Rattle.zarrs_calls.specs.Changes.{RetrievesChunk, RetrievesIfExists};
+    ghost use Rattle.zarrs_calls.specs.StateRefusals.{RefusesChunkRead};
     ghost use Rattle.zarrs_engine.specs.Engine.{layout_of, store_of};
     ghost use Rattle.zarrs_engine.specs.Outcomes.{RetrievesChunkOrRefuses, RetrievesIfExistsOrRefuses};
-    ghost use Rattle.zarrs_layout.specs.Parts.{RefusesValue};
+    ghost use Rattle.zarrs_array_layout.specs.Parts.{RefusesValue};
 
     /// The bytes that are present at the key of the chunk with these indices.
     pub(crate) fn stored_bytes(

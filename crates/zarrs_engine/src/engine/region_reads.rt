@@ -1,14 +1,14 @@
 //! Reads of regions, which may cross many chunks.
 use super::Engine;
 use std::alloc::Global;
+use zarrs_array_layout::{Parts, shared_positions};
+use zarrs_calls::ArrayError;
 use zarrs_chain::ChainTraits;
 use zarrs_chunk_grid::ChunkGridTraits;
 use zarrs_data_type::{ArrayBytes, lies_in_box};
 use zarrs_keys::ChunkKeyEncodingTraits;
-use zarrs_layout::{Parts, shared_positions};
 use zarrs_region_cells::RegionCells;
 use zarrs_source::StoredValue;
-use zarrs_steps::ArrayError;
 use zarrs_storage::ReadableStorageTraits;
 use zarrs_subset::ArraySubset;
 
@@ -27,17 +27,17 @@ impl<
     ghost use Rattle.zarrs_data_type.specs.ArrayData.{ArrayData, data_of};
     ghost use Rattle.zarrs_data_type.specs.Cells.{cells, HasCells};
     ghost use Rattle.zarrs_region_cells.specs.RegionData.{region_data};
-    ghost use Rattle.zarrs_variable.specs.StringParts.{LiesInBox};
-    ghost use Rattle.zarrs_steps.specs.ArgumentRefusals.{read_size_refusal};
-    ghost use Rattle.zarrs_steps.specs.Content.{value_at};
-    ghost use Rattle.zarrs_steps.specs.Reach.{MayAskChunk, MayDecodePart, MayReadPart};
-    ghost use Rattle.zarrs_steps.specs.Reach.{MayReadParts, chunk_part};
-    ghost use Rattle.zarrs_steps.specs.Reads.{ReadsRegion};
-    ghost use Rattle.zarrs_steps.specs.Refusals.{RefusesBy, refusal_of};
-    ghost use Rattle.zarrs_steps.specs.StateRefusals.{IsPart, RefusesRegionRead, RefusesSomeChunk};
+    ghost use Rattle.zarrs_byte_strings.specs.StringParts.{LiesInBox};
+    ghost use Rattle.zarrs_calls.specs.ArgumentRefusals.{read_size_refusal};
+    ghost use Rattle.zarrs_calls.specs.Content.{value_at};
+    ghost use Rattle.zarrs_calls.specs.Reach.{MayAskChunk, MayDecodePart, MayReadPart};
+    ghost use Rattle.zarrs_calls.specs.Reach.{MayReadParts, chunk_part};
+    ghost use Rattle.zarrs_calls.specs.Reads.{ReadsRegion};
+    ghost use Rattle.zarrs_calls.specs.Refusals.{RefusesBy, refusal_of};
+    ghost use Rattle.zarrs_calls.specs.StateRefusals.{IsPart, RefusesRegionRead, RefusesSomeChunk};
     ghost use Rattle.zarrs_engine.specs.Engine.{layout_of, store_of};
     ghost use Rattle.zarrs_engine.specs.Outcomes.{RetrievesRegionOrRefuses, MayRetrieveRegion};
-    ghost use Rattle.zarrs_layout.specs.Covers.{CoverRegion};
+    ghost use Rattle.zarrs_array_layout.specs.Covers.{CoverRegion};
     ghost use Rattle.zarrs_engine.specs.RegionReads.{DecodesStored, HasRead, ReadsOneMore};
 
     /// How many cells a region has.

@@ -1,9 +1,9 @@
 use Rattle.std.proofs.Common.{◌≡◌, ◌∙◌, ap, subst, ℕ, List, Ok, inr, rules}
 use Rattle.zarrs_options.specs.declared.versions.MetadataRetrieveVersion.{MetadataRetrieveVersion}
 use Rattle.zarrs_options.specs.Refusals.{create_refusal_of, RefusesCreation}
-use Rattle.zarrs_array_metadata.specs.Meanings.{creation}
-use Rattle.zarrs_array_metadata.specs.Opening.{opened}
-use Rattle.zarrs_array_metadata.proofs.Names.{shown_says_the_same}
+use Rattle.zarrs_creation.specs.Meanings.{creation}
+use Rattle.zarrs_creation.specs.Opening.{opened}
+use Rattle.zarrs_creation.proofs.Names.{shown_says_the_same}
 use Rattle.zarrs.specs.Arrays.{metadata_of_array, metadata_options_of_array, meaning_of_array, path_of_array, store_of_array}
 use Rattle.zarrs.specs.Laws.{version_of}
 use Rattle.zarrs.specs.Reopening.{RefusesReopening}

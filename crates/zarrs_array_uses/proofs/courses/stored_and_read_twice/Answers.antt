@@ -2,7 +2,7 @@ use Rattle.std.proofs.Common.{ap, map}
 use Rattle.zarrs_storage.specs.Memory.{open_state}
 use Rattle.zarrs_subset.specs.Regions.{box_of}
 use Rattle.zarrs_chunk_grid.specs.GridView.{array_extents_of}
-use Rattle.zarrs_layout.specs.Layouts.{layout_of_parts}
+use Rattle.zarrs_array_layout.specs.Layouts.{layout_of_parts}
 use Rattle.zarrs.specs.Arrays.{layout_of_array, state_of_array}
 use Rattle.zarrs_array_uses.proofs.DirectCalls.{same_values, stays_canonical, stored_cells}
 use Rattle.zarrs_array_uses.proofs.courses.stored_and_read_twice.Goals as goal

@@ -1,5 +1,5 @@
 use Rattle.std.proofs.lemmas.Result.{MatchResult-weaker}
-use Rattle.zarrs_document.proofs.FieldLemmas.{fields_view-clone}
+use Rattle.zarrs_metadata_v3.proofs.FieldLemmas.{fields_view-clone}
 use Rattle.zarrs_builder.proofs.copies.copied_fields.Goals as goal
 
 pub returns : goal.returns

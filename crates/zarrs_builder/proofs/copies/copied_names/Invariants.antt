@@ -1,5 +1,5 @@
 use Rattle.std.proofs.Common.{◌≡◌, take, map}
-use Rattle.zarrs_document.specs.View.{name_view}
+use Rattle.zarrs_metadata_v3.specs.View.{name_view}
 use Rattle.zarrs_builder.proofs.copies.copied_names.Given as goal
 
 -- the copies so far

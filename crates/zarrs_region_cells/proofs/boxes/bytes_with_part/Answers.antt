@@ -1,6 +1,6 @@
 use Rattle.std.proofs.Common.{◌≡◌, ◌∙◌, ap, length, take, drop, ◌++◌}
 use Rattle.zarrs_subset.specs.Regions.{box_of}
-use Rattle.zarrs_cells.proofs.Parts.{put_whole, pieces-taken}
+use Rattle.zarrs_array_bytes.proofs.Parts.{put_whole, pieces-taken}
 use Rattle.zarrs_region_cells.proofs.boxes.bytes_with_part.Goals as goal
 
 pub returns-clause-cells : goal.returns-clause-cells

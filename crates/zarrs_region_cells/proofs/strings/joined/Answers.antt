@@ -1,7 +1,7 @@
 use Rattle.std.proofs.Common.{◌≡◌, ◌+◌, ◌<◌, ◌≤◌, ◌++◌, length, ap, ◌∙◌, arith}
 use Rattle.std.specs.Prelude.{slice_range}
 use Rattle.std.proofs.lemmas.List.{take_all}
-use Rattle.zarrs_variable.specs.Offsets.{joined}
+use Rattle.zarrs_byte_strings.specs.Offsets.{joined}
 use Rattle.zarrs_region_cells.specs.Places.{placed_strings}
 use Rattle.zarrs_region_cells.proofs.Joins.{run_longer, run_new}
 use Rattle.zarrs_region_cells.proofs.Placed.{length_placed}

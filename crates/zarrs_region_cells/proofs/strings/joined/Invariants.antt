@@ -1,6 +1,6 @@
 use Rattle.std.proofs.Common.{◌≡◌, ◌≤◌, ◌++◌, length, take}
 use Rattle.std.specs.Prelude.{slice_range}
-use Rattle.zarrs_variable.specs.Offsets.{joined}
+use Rattle.zarrs_byte_strings.specs.Offsets.{joined}
 use Rattle.zarrs_region_cells.specs.Places.{placed_strings}
 use Rattle.zarrs_region_cells.proofs.strings.joined.Given as goal
 

@@ -1,5 +1,5 @@
 use Rattle.std.proofs.Common.{◌∙◌}
-use Rattle.zarrs_document.specs.View.{document_view}
+use Rattle.zarrs_metadata_v3.specs.View.{document_view}
 use Rattle.zarrs_script_metadata.proofs.Documents.{same_document, document_says}
 use Rattle.zarrs_script_metadata.proofs.parts.metadata_of_parts.Goals as goal
 

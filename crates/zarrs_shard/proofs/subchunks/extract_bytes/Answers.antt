@@ -3,8 +3,8 @@ use Rattle.std.proofs.Math.Nat.{mul-le-mul_right, mul-le-mul_left}
 use Rattle.zarrs_subset.specs.Boxes.{position_count}
 use Rattle.zarrs_subset.specs.Pieces.{piece_at}
 use Rattle.zarrs_subset.specs.Regions.{box_of}
-use Rattle.zarrs_variable.proofs.Inside.{count_inside}
-use Rattle.zarrs_cells.proofs.Parts.{put_whole, pieces-taken, taken-extracted, positive_size}
+use Rattle.zarrs_byte_strings.proofs.Inside.{count_inside}
+use Rattle.zarrs_array_bytes.proofs.Parts.{put_whole, pieces-taken, taken-extracted, positive_size}
 use Rattle.zarrs_shard.proofs.subchunks.extract_bytes.Goals as goal
 
 pub unreachable-requires : goal.unreachable-requires

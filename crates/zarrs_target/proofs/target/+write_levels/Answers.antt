@@ -1,7 +1,7 @@
 use Rattle.std.proofs.Common.{◌≡◌, ◌∙◌, ◌-◌, ◌*◌, ap, sym, subst, length, take, drop, arith}
 use Rattle.zarrs_subset.specs.Boxes.{position_count}
 use Rattle.zarrs_subset.specs.Regions.{box_of}
-use Rattle.zarrs_cells.specs.ArrayData.{ArrayData, data_of, fixed, optional}
+use Rattle.zarrs_array_bytes.specs.ArrayData.{ArrayData, data_of, fixed, optional}
 use Rattle.std.proofs.lemmas.List.{length-drop}
 use Rattle.zarrs_target.specs.Targets.{HasLevels}
 use Rattle.zarrs_target.proofs.Levels.{end_is, level_parts, mask_room, fixed_written, optional_written}

@@ -4,8 +4,8 @@ use Rattle.zarrs_subset.specs.Boxes.{position_count}
 use Rattle.zarrs_types.specs.Kind.{kind}
 use Rattle.zarrs_types.specs.Cell.{fill_of, held_size}
 use Rattle.zarrs_types.proofs.Values.{fill-value}
-use Rattle.zarrs_cells.specs.ArrayData.{data_of}
-use Rattle.zarrs_cells.specs.Cells.{cells}
+use Rattle.zarrs_array_bytes.specs.ArrayData.{data_of}
+use Rattle.zarrs_array_bytes.specs.Cells.{cells}
 use Rattle.zarrs_target.specs.States.{parent_box, target_box, data_of_target}
 use Rattle.zarrs_target.proofs.TypeSizes.{type_taken, levels_of}
 use Rattle.zarrs_target.proofs.Levels.{masked_keeps}

@@ -1,5 +1,5 @@
 use Rattle.zarrs_subset.specs.Regions.{box_of}
-use Rattle.zarrs_cells.proofs.Parts.{pieces-taken}
+use Rattle.zarrs_array_bytes.proofs.Parts.{pieces-taken}
 use Rattle.zarrs_target.proofs.target.write_part.Goals as goal
 
 pub returns : goal.returns

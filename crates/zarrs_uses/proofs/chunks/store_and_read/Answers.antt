@@ -2,8 +2,8 @@ use Rattle.std.proofs.Common.{◌∙◌, ap, subst}
 use Rattle.zarrs_storage.specs.Memory.{open_state}
 use Rattle.zarrs_data_type.specs.ArrayData.{data_of}
 use Rattle.zarrs_data_type.specs.Cells.{cells}
-use Rattle.zarrs_steps.specs.Changes.{RetrievesChunk}
-use Rattle.zarrs_layout.specs.Layouts.{layout_of_parts}
+use Rattle.zarrs_calls.specs.Changes.{RetrievesChunk}
+use Rattle.zarrs_array_layout.specs.Layouts.{layout_of_parts}
 use Rattle.zarrs_engine.specs.Engine.{layout_of, store_of}
 use Rattle.zarrs_uses.proofs.ReadBack.{read_back}
 use Rattle.zarrs_uses.proofs.chunks.store_and_read.Goals as goal

@@ -1,7 +1,7 @@
 use Rattle.std.proofs.Common.{refl}
 use Rattle.zarrs_storage.specs.Memory.{open_state}
 use Rattle.zarrs_engine.specs.Engine.{layout_of, state_of}
-use Rattle.zarrs_steps.proofs.OpenStores.{may_ask_calls}
+use Rattle.zarrs_calls.proofs.OpenStores.{may_ask_calls}
 use Rattle.zarrs_uses.proofs.histories.replayed.Goals as goal
 
 pub replay-requires : goal.replay-requires

@@ -1,5 +1,5 @@
 use Rattle.std.proofs.Common.{rules}
-use Rattle.zarrs_array_metadata.specs.Writing.{erasures}
+use Rattle.zarrs_creation.specs.Writing.{erasures}
 use Rattle.zarrs.specs.Arrays.{path_of_array, metadata_of_array, store_of_array}
 use Rattle.std.proofs.lemmas.Result.{on_ok_weaker}
 use Rattle.zarrs.proofs.Counts.{erasing}

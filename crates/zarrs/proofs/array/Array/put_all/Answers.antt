@@ -1,7 +1,7 @@
 use Rattle.std.proofs.Common.{◌∷◌, map, rules}
 use Rattle.std.specs.Vec.Iter.{into_iter_items}
-use Rattle.zarrs_steps.specs.Refusals.{refusal_of_storage}
-use Rattle.zarrs_array_metadata.specs.Writing.{put_view}
+use Rattle.zarrs_calls.specs.Refusals.{refusal_of_storage}
+use Rattle.zarrs_creation.specs.Writing.{put_view}
 use Rattle.zarrs.specs.Arrays.{store_of_array}
 use Rattle.zarrs.specs.Puts.{RefusesPuts}
 use Rattle.zarrs.proofs.Puts.{Putting, put_next, put_refused}

@@ -1,6 +1,6 @@
 use Rattle.std.proofs.Common.{◌≡◌, map, length}
 use Rattle.std.specs.Vec.Iter.{into_iter_items, into_iter_len}
-use Rattle.zarrs_array_metadata.specs.Writing.{put_view}
+use Rattle.zarrs_creation.specs.Writing.{put_view}
 use Rattle.zarrs.specs.Arrays.{store_of_array, KeepsArray}
 use Rattle.zarrs.proofs.Puts.{Putting}
 use Rattle.zarrs.proofs.array.Array.put_all.Given as goal

@@ -1,8 +1,8 @@
 use Rattle.std.proofs.Common.{◌∙◌, sym}
-use Rattle.zarrs_document_v2.specs.View.{metadata_view}
+use Rattle.zarrs_metadata_v2.specs.View.{metadata_view}
 use Rattle.zarrs_chunk_grid.specs.GridView.{configuration_of, array_extents_of}
 use Rattle.zarrs_options.specs.Given.{grid_given}
-use Rattle.zarrs_array_metadata.proofs.Grids.{is_regridded, grid_dimensions_are}
+use Rattle.zarrs_creation.proofs.Grids.{is_regridded, grid_dimensions_are}
 use Rattle.zarrs.specs.Agreement.{meaning_of}
 use Rattle.zarrs.proofs.Layouts.{parts_are}
 use Rattle.zarrs.proofs.Regridded.{agrees_after, cells_after, decodes_after}

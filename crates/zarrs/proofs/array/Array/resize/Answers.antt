@@ -1,8 +1,8 @@
 use Rattle.std.proofs.Common.{List, ℕ, length, refl, ap, ◌∙◌}
-use Rattle.zarrs_document_v2.specs.View.{metadata_view}
+use Rattle.zarrs_metadata_v2.specs.View.{metadata_view}
 use Rattle.zarrs_chunk_grid.specs.GridView.{array_extents_of}
 use Rattle.zarrs_engine.specs.Engine.{grid_of}
-use Rattle.zarrs_array_metadata.specs.Changes.{with_shape}
+use Rattle.zarrs_creation.specs.Changes.{with_shape}
 use Rattle.zarrs.proofs.Layouts.{parts_are}
 use Rattle.zarrs.proofs.Regridded.{one_configuration, shape_fits, shape_kept, agrees_resized}
 use Rattle.zarrs.proofs.array.Array.resize.Goals as goal

@@ -1,9 +1,9 @@
 use Rattle.std.proofs.Common.{◌≡◌, OnErr, OnOk, IfErr, subst, sym}
 use Rattle.std.specs.Prelude.{IsSome}
 use Rattle.zarrs_subset.specs.Regions.{Box}
-use Rattle.zarrs_steps.specs.ChunkBoxes.{chunks_met}
-use Rattle.zarrs_steps.specs.Reach.{MayReadParts}
-use Rattle.zarrs_steps.specs.Refusals.{refusal_of}
+use Rattle.zarrs_calls.specs.ChunkBoxes.{chunks_met}
+use Rattle.zarrs_calls.specs.Reach.{MayReadParts}
+use Rattle.zarrs_calls.specs.Refusals.{refusal_of}
 use Rattle.zarrs_engine.specs.Into.{HasContent, RefusesRetrieveInto, target_refusal}
 use Rattle.zarrs_target.proofs.Levels.{masked_keeps}
 use Rattle.zarrs.specs.Arrays.{layout_of_array, store_of_array, state_of_array}

@@ -3,12 +3,12 @@ use Rattle.zarrs_subset.specs.Regions.{Box}
 use Rattle.zarrs_data_type.specs.ArrayData.{data_of}
 use Rattle.zarrs_chain.specs.Options.{stores_empty_chunks}
 use Rattle.zarrs_chunk_grid.specs.Grids.{box_at}
-use Rattle.zarrs_steps.specs.Canon.{KeepsCanon}
-use Rattle.zarrs_steps.specs.ChunkBoxes.{part_box}
-use Rattle.zarrs_steps.specs.Patches.{PatchesPart, RefusesPatchPart}
-use Rattle.zarrs_steps.specs.Reach.{MayAskParts}
-use Rattle.zarrs_steps.specs.Step.{StoresPart, RefusesStorePart}
-use Rattle.zarrs_steps.specs.Refusals.{refusal_of}
+use Rattle.zarrs_calls.specs.Canon.{KeepsCanon}
+use Rattle.zarrs_calls.specs.ChunkBoxes.{part_box}
+use Rattle.zarrs_calls.specs.Patches.{PatchesPart, RefusesPatchPart}
+use Rattle.zarrs_calls.specs.Reach.{MayAskParts}
+use Rattle.zarrs_calls.specs.Step.{StoresPart, RefusesStorePart}
+use Rattle.zarrs_calls.specs.Refusals.{refusal_of}
 use Rattle.zarrs.specs.Typed.{place_refusal}
 use Rattle.zarrs.specs.Arrays.{layout_of_array}
 use Rattle.zarrs.specs.Outcomes.{SaysNothing}

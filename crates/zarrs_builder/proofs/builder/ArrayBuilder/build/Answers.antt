@@ -1,8 +1,8 @@
 use Rattle.std.proofs.Common.{◌≡◌, Ok, rules, sym, ap, ◌∙◌}
-use Rattle.zarrs_document.specs.View.{document_view}
-use Rattle.zarrs_document_v2.specs.View.{metadata_view, v3}
+use Rattle.zarrs_metadata_v3.specs.View.{document_view}
+use Rattle.zarrs_metadata_v2.specs.View.{metadata_view, v3}
 use Rattle.zarrs_options.specs.Refusals.{create_refusal_of}
-use Rattle.zarrs_array_metadata.specs.Meanings.{creation}
+use Rattle.zarrs_creation.specs.Meanings.{creation}
 use Rattle.zarrs.specs.Arrays.{metadata_of_array, meaning_of_array}
 use Rattle.zarrs.proofs.Layouts.{parts_are}
 use Rattle.zarrs_builder.specs.Builders.{builder_view}

@@ -1,5 +1,5 @@
 use Rattle.std.proofs.Common.{rules}
-use Rattle.zarrs_document.specs.View.{document_view}
+use Rattle.zarrs_metadata_v3.specs.View.{document_view}
 use Rattle.zarrs_options.specs.Refusals.{create_refusal_of}
 use Rattle.zarrs_builder.specs.Builders.{builder_view}
 use Rattle.zarrs_builder.specs.Parts.{found_fields}

@@ -2,7 +2,7 @@ use Rattle.std.proofs.Common.{◌≡◌, List, Some, rules, subst, ap, ◌∙◌
 use Rattle.zarrs_metadata.specs.Extension.{ExtensionData}
 use Rattle.zarrs_keys.specs.Metadata.{key_encoding_of}
 use Rattle.zarrs_codec.specs.Metadata.{chain_said}
-use Rattle.zarrs_array_metadata.specs.Meanings.{creation_v3}
+use Rattle.zarrs_creation.specs.Meanings.{creation_v3}
 use Rattle.zarrs_builder.specs.Builders.{builder_view}
 use Rattle.zarrs_builder.specs.Parts.{found_fields, chosen_view}
 use Rattle.zarrs_builder.proofs.Order.{document_creates, grid_back}

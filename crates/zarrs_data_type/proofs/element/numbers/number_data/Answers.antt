@@ -1,7 +1,7 @@
 use Rattle.std.proofs.Common.{ap, ◌∙◌}
 use Rattle.zarrs_types.specs.Kind.{kind}
-use Rattle.zarrs_cells.specs.ArrayData.{fixed}
-use Rattle.zarrs_cells.specs.Cells.{cells}
+use Rattle.zarrs_array_bytes.specs.ArrayData.{fixed}
+use Rattle.zarrs_array_bytes.specs.Cells.{cells}
 use Rattle.zarrs_data_type.proofs.ElementCells.{cells-numbers}
 use Rattle.zarrs_data_type.proofs.element.numbers.number_data.Goals as goal
 

@@ -1,8 +1,8 @@
 use Rattle.std.proofs.Common.{ap, sym, ◌∙◌}
 use Rattle.zarrs_types.specs.Kind.{kind}
 use Rattle.zarrs_types.proofs.Sizes.{element_size-positive}
-use Rattle.zarrs_cells.specs.ArrayData.{data_of, fixed}
-use Rattle.zarrs_cells.specs.Cells.{cells}
+use Rattle.zarrs_array_bytes.specs.ArrayData.{data_of, fixed}
+use Rattle.zarrs_array_bytes.specs.Cells.{cells}
 use Rattle.zarrs_data_type.proofs.ElementCells.{cells-numbers}
 use Rattle.zarrs_data_type.proofs.element.numbers.number_list.Goals as goal
 

@@ -1,6 +1,6 @@
 use Rattle.std.proofs.Common.{◌≡◌, ◌++◌, drop, map}
 use Rattle.std.specs.Vec.Iter.{into_iter_items}
-use Rattle.zarrs_cells.specs.Present.{spread_cells}
+use Rattle.zarrs_array_bytes.specs.Present.{spread_cells}
 use Rattle.zarrs_data_type.specs.Elements.{option_cell}
 use Rattle.zarrs_data_type.proofs.element.options.spread_values.Given as goal
 

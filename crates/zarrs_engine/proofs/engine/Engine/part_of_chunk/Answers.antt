@@ -5,10 +5,10 @@ use Rattle.zarrs_data_type.specs.ArrayData.{data_of}
 use Rattle.zarrs_parts.proofs.Kept.{err_kept}
 use Rattle.zarrs_parts.specs.Parts.{DecodesPart}
 use Rattle.zarrs_source.specs.Stored.{key_of_source, state_of_source, value_or_empty}
-use Rattle.zarrs_steps.specs.Content.{decoded_cells}
-use Rattle.zarrs_steps.specs.Refusals.{is_too_large, refusal_of}
-use Rattle.zarrs_steps.specs.StateRefusals.{RefusesSomeChunk}
-use Rattle.zarrs_steps.proofs.Contents.{index_list}
+use Rattle.zarrs_calls.specs.Content.{decoded_cells}
+use Rattle.zarrs_calls.specs.Refusals.{is_too_large, refusal_of}
+use Rattle.zarrs_calls.specs.StateRefusals.{RefusesSomeChunk}
+use Rattle.zarrs_calls.proofs.Contents.{index_list}
 use Rattle.zarrs_engine.specs.Engine.{layout_of}
 use Rattle.zarrs_engine.proofs.PartBytes.{none_of, part_why, size_why, source_value}
 use Rattle.zarrs_engine.proofs.engine.Engine.part_of_chunk.Goals as goal

@@ -4,8 +4,8 @@ use Rattle.zarrs_chunk_grid.proofs.Chunks.{box_is_there}
 use Rattle.zarrs_data_type.specs.ArrayData.{data_of}
 use Rattle.zarrs_shard.specs.ShardPatches.{change_of}
 use Rattle.zarrs_chain.specs.Options.{stores_empty_chunks}
-use Rattle.zarrs_steps.specs.Refusals.{Refusal, refusal_of}
-use Rattle.zarrs_steps.proofs.RefusalLemmas.{storage_said}
+use Rattle.zarrs_calls.specs.Refusals.{Refusal, refusal_of}
+use Rattle.zarrs_calls.proofs.RefusalLemmas.{storage_said}
 use Rattle.zarrs_engine.specs.Engine.{layout_of}
 use Rattle.zarrs_engine.specs.Patches.{LeavesPatch}
 use Rattle.zarrs_engine.proofs.PatchRefusals.{partly_leaves, put_leaves_patch}

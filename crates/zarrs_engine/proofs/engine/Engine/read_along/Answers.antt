@@ -4,8 +4,8 @@ use Rattle.zarrs_subset.specs.Regions.{Box, box_of, positions}
 use Rattle.zarrs_subset.specs.Walks.{walk_number}
 use Rattle.zarrs_region_cells.specs.RegionData.{region_data}
 use Rattle.zarrs_engine.specs.Engine.{layout_of}
-use Rattle.zarrs_steps.specs.Refusals.{refusal_of}
-use Rattle.zarrs_layout.proofs.RegionRefusals.{some_wider}
+use Rattle.zarrs_calls.specs.Refusals.{refusal_of}
+use Rattle.zarrs_array_layout.proofs.RegionRefusals.{some_wider}
 use Rattle.zarrs_engine.proofs.RegionSteps.{at_among, read_cells, read_last, read_more, read_next}
 use Rattle.zarrs_engine.proofs.engine.Engine.read_along.Goals as goal
 

@@ -2,7 +2,7 @@ use Rattle.std.proofs.Common.{◌∙◌, length, ap, sym, subst, rules}
 use Rattle.std.proofs.lemmas.Result.{on_ok_weaker}
 use Rattle.zarrs_subset.specs.Boxes.{position_count}
 use Rattle.zarrs_subset.specs.Regions.{Box, box_of}
-use Rattle.zarrs_variable.specs.StringParts.{LiesInBox}
+use Rattle.zarrs_byte_strings.specs.StringParts.{LiesInBox}
 use Rattle.zarrs_chunk_grid.specs.Grids.{box_at}
 use Rattle.zarrs_chunk_grid.proofs.Chunks.{box_dimensions}
 use Rattle.zarrs_target.specs.States.{data_of_target, parent_box, target_box}
@@ -10,10 +10,10 @@ use Rattle.zarrs_target.proofs.Boxes.{lies_at_origin, origin_long}
 use Rattle.zarrs_target.proofs.Levels.{masked_keeps}
 use Rattle.zarrs_target.proofs.TypeSizes.{type_taken}
 use Rattle.zarrs_parts.proofs.Stays.{keeps_more}
-use Rattle.zarrs_steps.specs.ChunkBoxes.{CoversBox}
-use Rattle.zarrs_steps.specs.Reads.{IsBroken}
-use Rattle.zarrs_steps.specs.Refusals.{refusal_of}
-use Rattle.zarrs_layout.specs.Shared.{AreApart, AreShared}
+use Rattle.zarrs_calls.specs.ChunkBoxes.{CoversBox}
+use Rattle.zarrs_calls.specs.Reads.{IsBroken}
+use Rattle.zarrs_calls.specs.Refusals.{refusal_of}
+use Rattle.zarrs_array_layout.specs.Shared.{AreApart, AreShared}
 use Rattle.zarrs_engine.specs.Engine.{layout_of}
 use Rattle.zarrs_engine.specs.TargetReads.{HasPositions}
 use Rattle.zarrs_engine.proofs.TargetReads.{into_apart, into_more}

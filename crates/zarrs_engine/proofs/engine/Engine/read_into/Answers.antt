@@ -5,8 +5,8 @@ use Rattle.zarrs_subset.specs.Regions.{Box, box_of, positions}
 use Rattle.zarrs_subset.specs.Walks.{walk_number}
 use Rattle.zarrs_target.specs.States.{data_of_target, parent_box, target_box}
 use Rattle.zarrs_target.proofs.Levels.{masked_keeps}
-use Rattle.zarrs_steps.specs.Refusals.{refusal_of}
-use Rattle.zarrs_layout.proofs.RegionRefusals.{some_wider}
+use Rattle.zarrs_calls.specs.Refusals.{refusal_of}
+use Rattle.zarrs_array_layout.proofs.RegionRefusals.{some_wider}
 use Rattle.zarrs_engine.specs.Engine.{layout_of}
 use Rattle.zarrs_engine.specs.TargetReads.{HasReadInto}
 use Rattle.zarrs_engine.proofs.TargetReads.{into_last, into_next, into_none}

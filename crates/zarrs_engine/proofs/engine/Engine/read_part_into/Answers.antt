@@ -1,19 +1,19 @@
 use Rattle.std.proofs.Common.{◌≡◌, ◌<◌, ◌*◌, ◌^◌, ◌∙◌, ℕ, List, true, ap, sym, subst, rules, arith}
 use Rattle.zarrs_subset.specs.Boxes.{position_count}
 use Rattle.zarrs_subset.specs.Regions.{Box, Holds, box_of}
-use Rattle.zarrs_variable.proofs.Inside.{holds_inside}
+use Rattle.zarrs_byte_strings.proofs.Inside.{holds_inside}
 use Rattle.zarrs_data_type.specs.ArrayData.{data_of}
 use Rattle.zarrs_data_type.specs.Cell.{held_size}
 use Rattle.zarrs_data_type.specs.Cells.{fits}
-use Rattle.zarrs_cells.proofs.Cells.{cells-parts}
+use Rattle.zarrs_array_bytes.proofs.Cells.{cells-parts}
 use Rattle.zarrs_target.specs.States.{data_of_target, parent_box, target_box}
 use Rattle.zarrs_target.proofs.Boxes.{bytes_within, lies_at_origin, origin_long}
 use Rattle.zarrs_target.proofs.Fills.{held_fixed}
 use Rattle.zarrs_target.proofs.Levels.{masked_keeps}
 use Rattle.zarrs_target.proofs.TypeSizes.{levels_of, type_taken}
-use Rattle.zarrs_steps.specs.Content.{value_at}
-use Rattle.zarrs_steps.proofs.Contents.{absent_fill}
-use Rattle.zarrs_layout.specs.Shared.{AreShared}
+use Rattle.zarrs_calls.specs.Content.{value_at}
+use Rattle.zarrs_calls.proofs.Contents.{absent_fill}
+use Rattle.zarrs_array_layout.specs.Shared.{AreShared}
 use Rattle.zarrs_engine.specs.Engine.{layout_of}
 use Rattle.zarrs_engine.proofs.TargetReads.{filled_positions, part_positions}
 use Rattle.zarrs_engine.proofs.engine.Engine.read_part_into.Goals as goal

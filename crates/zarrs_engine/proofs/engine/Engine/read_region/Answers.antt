@@ -5,10 +5,10 @@ use Rattle.zarrs_subset.specs.Regions.{box_of, positions}
 use Rattle.zarrs_data_type.specs.Cell.{Cell}
 use Rattle.zarrs_data_type.specs.ArrayData.{ArrayData}
 use Rattle.zarrs_region_cells.specs.RegionData.{region_data}
-use Rattle.zarrs_steps.specs.ArgumentRefusals.{read_size_refusal}
-use Rattle.zarrs_steps.specs.Reads.{ReadsRegion}
-use Rattle.zarrs_steps.specs.Refusals.{refusal_of}
-use Rattle.zarrs_steps.specs.StateRefusals.{RefusesRegionRead}
+use Rattle.zarrs_calls.specs.ArgumentRefusals.{read_size_refusal}
+use Rattle.zarrs_calls.specs.Reads.{ReadsRegion}
+use Rattle.zarrs_calls.specs.Refusals.{refusal_of}
+use Rattle.zarrs_calls.specs.StateRefusals.{RefusesRegionRead}
 use Rattle.zarrs_engine.specs.Engine.{layout_of}
 use Rattle.zarrs_engine.proofs.RegionReads.{read_all, read_none}
 use Rattle.zarrs_engine.proofs.engine.Engine.read_region.Goals as goal

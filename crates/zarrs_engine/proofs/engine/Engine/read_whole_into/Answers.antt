@@ -8,10 +8,10 @@ use Rattle.zarrs_target.proofs.Boxes.{lies_at_origin, origin_long}
 use Rattle.zarrs_target.proofs.Levels.{masked_keeps}
 use Rattle.zarrs_parts.specs.Parts.{DecodesInto}
 use Rattle.zarrs_parts.specs.Refusals.{RefusesIntoDecoding}
-use Rattle.zarrs_steps.specs.Content.{value_at}
-use Rattle.zarrs_steps.specs.Refusals.{refusal_of}
-use Rattle.zarrs_steps.proofs.Contents.{absent_fill}
-use Rattle.zarrs_layout.proofs.RegionRefusals.{some_key}
+use Rattle.zarrs_calls.specs.Content.{value_at}
+use Rattle.zarrs_calls.specs.Refusals.{refusal_of}
+use Rattle.zarrs_calls.proofs.Contents.{absent_fill}
+use Rattle.zarrs_array_layout.proofs.RegionRefusals.{some_key}
 use Rattle.zarrs_engine.specs.Engine.{layout_of}
 use Rattle.zarrs_engine.proofs.TargetReads.{decoded_positions, filled_positions}
 use Rattle.zarrs_engine.proofs.IntoReads.{into_why}

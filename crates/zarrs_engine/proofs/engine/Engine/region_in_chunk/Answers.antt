@@ -4,10 +4,10 @@ use Rattle.zarrs_subset.specs.Regions.{Box, box_of}
 use Rattle.zarrs_chunk_grid.specs.Grids.{box_at}
 use Rattle.zarrs_chunk_grid.proofs.Chunks.{box_long}
 use Rattle.zarrs_data_type.specs.ArrayData.{data_of}
-use Rattle.zarrs_steps.specs.Refusals.{refusal_of}
-use Rattle.zarrs_steps.specs.StateRefusals.{RefusesSomeChunk}
-use Rattle.zarrs_variable.specs.StringParts.{LiesInBox}
-use Rattle.zarrs_layout.specs.Shared.{AreApart, AreShared}
+use Rattle.zarrs_calls.specs.Refusals.{refusal_of}
+use Rattle.zarrs_calls.specs.StateRefusals.{RefusesSomeChunk}
+use Rattle.zarrs_byte_strings.specs.StringParts.{LiesInBox}
+use Rattle.zarrs_array_layout.specs.Shared.{AreApart, AreShared}
 use Rattle.zarrs_engine.specs.Engine.{layout_of}
 use Rattle.zarrs_engine.proofs.RegionReads.{none_then, read_absent, read_alone, read_apart}
 use Rattle.zarrs_engine.proofs.PartReads.{overlap_within}

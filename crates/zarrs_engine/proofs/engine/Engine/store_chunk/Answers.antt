@@ -3,17 +3,17 @@ use Rattle.zarrs_subset.specs.Regions.{Box}
 use Rattle.zarrs_data_type.specs.ArrayData.{data_of}
 use Rattle.zarrs_data_type.specs.Cells.{cells}
 use Rattle.zarrs_chain.specs.Options.{stores_empty_chunks}
-use Rattle.zarrs_steps.specs.Refusals.{RefusesBy, refusal_of, data_refusal}
+use Rattle.zarrs_calls.specs.Refusals.{RefusesBy, refusal_of, data_refusal}
 use Rattle.zarrs_engine.specs.Engine.{layout_of}
-use Rattle.zarrs_layout.specs.Parts.{HasValue}
+use Rattle.zarrs_array_layout.specs.Parts.{HasValue}
 use Rattle.zarrs_engine.proofs.Writes.{box_refused, data_refused, stored_chunk}
 use Rattle.std.proofs.Common.{◌≡◌, None, Option, List, [], ◌∷◌, sym}
 use Rattle.zarrs_chunk_grid.specs.Grids.{box_at}
 use Rattle.zarrs_data_type.specs.Cell.{Cell}
-use Rattle.zarrs_steps.specs.Refusals.{Refusal, refusal_of_storage}
-use Rattle.zarrs_steps.specs.ArgumentRefusals.{store_chunk_refusal}
-use Rattle.zarrs_steps.specs.Step.{RefusesStoreChunk}
-use Rattle.zarrs_steps.proofs.RefusalLemmas.{storage_said}
+use Rattle.zarrs_calls.specs.Refusals.{Refusal, refusal_of_storage}
+use Rattle.zarrs_calls.specs.ArgumentRefusals.{store_chunk_refusal}
+use Rattle.zarrs_calls.specs.Step.{RefusesStoreChunk}
+use Rattle.zarrs_calls.proofs.RefusalLemmas.{storage_said}
 use Rattle.zarrs_engine.proofs.Canon.{store_refused_canon, stored_canon}
 use Rattle.zarrs_engine.proofs.Writes.{short_of_memory, store_failed}
 use Rattle.zarrs_engine.proofs.engine.Engine.store_chunk.Goals as goal

@@ -4,13 +4,13 @@ use Rattle.zarrs_subset.specs.Regions.{Box, box_of}
 use Rattle.zarrs_chunk_grid.specs.Grids.{box_at}
 use Rattle.zarrs_chunk_grid.proofs.Chunks.{box_dimensions, box_long}
 use Rattle.zarrs_data_type.specs.ArrayData.{data_of}
-use Rattle.zarrs_cells.specs.Parts.{ExtractsCells, TakesCells}
-use Rattle.zarrs_cells.specs.StringParts.{LiesInBox}
-use Rattle.zarrs_steps.specs.Refusals.{is_too_large, refusal_of}
-use Rattle.zarrs_steps.specs.StateRefusals.{IsPart}
-use Rattle.zarrs_steps.proofs.Contents.{member}
+use Rattle.zarrs_array_bytes.specs.Parts.{ExtractsCells, TakesCells}
+use Rattle.zarrs_array_bytes.specs.StringParts.{LiesInBox}
+use Rattle.zarrs_calls.specs.Refusals.{is_too_large, refusal_of}
+use Rattle.zarrs_calls.specs.StateRefusals.{IsPart}
+use Rattle.zarrs_calls.proofs.Contents.{member}
 use Rattle.zarrs_engine.specs.Engine.{layout_of}
-use Rattle.zarrs_layout.proofs.OneChunk.{covers_lies}
+use Rattle.zarrs_array_layout.proofs.OneChunk.{covers_lies}
 use Rattle.zarrs_engine.proofs.PartWrites.{lies_covers, read_fails, updated_part, updated_whole}
 use Rattle.zarrs_engine.proofs.engine.Engine.updated_chunk.Goals as goal
 

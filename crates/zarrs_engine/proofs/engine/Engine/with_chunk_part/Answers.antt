@@ -3,10 +3,10 @@ use Rattle.zarrs_subset.specs.Regions.{Box, box_of}
 use Rattle.zarrs_chunk_grid.proofs.Chunks.{box_dimensions}
 use Rattle.zarrs_data_type.specs.ArrayData.{data_of}
 use Rattle.zarrs_region_cells.specs.RegionData.{region_data}
-use Rattle.zarrs_steps.specs.Content.{value_at}
-use Rattle.zarrs_steps.specs.Refusals.{refusal_of}
-use Rattle.zarrs_steps.specs.StateRefusals.{RefusesSomeChunk}
-use Rattle.zarrs_layout.specs.Shared.{AreApart, AreShared}
+use Rattle.zarrs_calls.specs.Content.{value_at}
+use Rattle.zarrs_calls.specs.Refusals.{refusal_of}
+use Rattle.zarrs_calls.specs.StateRefusals.{RefusesSomeChunk}
+use Rattle.zarrs_array_layout.specs.Shared.{AreApart, AreShared}
 use Rattle.zarrs_engine.specs.Engine.{layout_of}
 use Rattle.zarrs_engine.specs.RegionReads.{DecodesStored}
 use Rattle.zarrs_engine.proofs.RegionReads.{read_absent, read_apart, read_part}

@@ -1,7 +1,7 @@
 use Rattle.std.proofs.Common.{◌≡◌, ◌∙◌, ap}
 use Rattle.zarrs_storage.specs.Store.{size_at}
-use Rattle.zarrs_steps.specs.Content.{value_at}
-use Rattle.zarrs_steps.specs.Layout.{Layout}
+use Rattle.zarrs_calls.specs.Content.{value_at}
+use Rattle.zarrs_calls.specs.Layout.{Layout}
 use Rattle.zarrs_engine.specs.Engine.{layout_of}
 use Rattle.zarrs_engine.proofs.PartialDecoders.{present_if}
 use Rattle.zarrs_engine.proofs.partial_decoder.ArrayPartialDecoder.exists.Goals as goal

@@ -5,8 +5,8 @@ use Rattle.zarrs_subset.specs.Boxes.{position_count}
 use Rattle.zarrs_subset.specs.Regions.{Box, box_of}
 use Rattle.zarrs_target.specs.States.{parent_box, target_box}
 use Rattle.zarrs_target.proofs.Levels.{masked_keeps}
-use Rattle.zarrs_steps.specs.declared.error.ArrayError.{ArrayError}
-use Rattle.zarrs_steps.specs.Refusals.{Refusal, refusal_of}
+use Rattle.zarrs_calls.specs.declared.error.ArrayError.{ArrayError}
+use Rattle.zarrs_calls.specs.Refusals.{Refusal, refusal_of}
 use Rattle.zarrs_engine.specs.Engine.{layout_of}
 use Rattle.zarrs_engine.specs.Into.{HasContent, RefusesRetrieveInto, target_refusal}
 use Rattle.zarrs_engine.specs.PartialDecoders.{RefusesPartInto}

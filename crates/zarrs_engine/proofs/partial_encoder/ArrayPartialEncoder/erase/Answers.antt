@@ -1,8 +1,8 @@
 use Rattle.std.proofs.Common.{◌≡◌, length, rules, subst, sym}
 use Rattle.zarrs_chunk_grid.proofs.Chunks.{box_is_there}
-use Rattle.zarrs_steps.specs.Refusals.{Refusal, refusal_of_storage}
-use Rattle.zarrs_steps.specs.Step.{RefusesEraseChunk}
-use Rattle.zarrs_steps.proofs.RefusalLemmas.{storage_said}
+use Rattle.zarrs_calls.specs.Refusals.{Refusal, refusal_of_storage}
+use Rattle.zarrs_calls.specs.Step.{RefusesEraseChunk}
+use Rattle.zarrs_calls.proofs.RefusalLemmas.{storage_said}
 use Rattle.zarrs_engine.specs.Engine.{layout_of}
 use Rattle.zarrs_engine.specs.PartialEncoders.{engine_of, indices_of}
 use Rattle.zarrs_engine.proofs.partial_encoder.ArrayPartialEncoder.erase.Goals as goal

@@ -1,8 +1,8 @@
 use Rattle.std.proofs.Common.{◌≡◌, ◌∙◌, length, List, ℕ, ap, subst, arith}
 use Rattle.std.specs.Prelude.{slice_index}
 use Rattle.zarrs_subset.specs.Regions.{box_of}
-use Rattle.zarrs_cells.specs.Parts.{TakesAt}
-use Rattle.zarrs_cells.proofs.Parts.{flags-taken, flags_below-taken}
+use Rattle.zarrs_array_bytes.specs.Parts.{TakesAt}
+use Rattle.zarrs_array_bytes.proofs.Parts.{flags-taken, flags_below-taken}
 use Rattle.zarrs_region_cells.proofs.flags.Flags.with_part.Goals as goal
 
 pub invariant_of-result : goal.invariant_of-result

@@ -2,9 +2,9 @@ use Rattle.std.proofs.lemmas.Result.{IfOk-weaker}
 use Rattle.zarrs_types.specs.Kind.{kind}
 use Rattle.zarrs_subset.specs.Boxes.{position_count}
 use Rattle.zarrs_subset.specs.Regions.{box_of}
-use Rattle.zarrs_cells.specs.ArrayData.{data_of}
-use Rattle.zarrs_cells.proofs.Cells.{HasCells-parts}
-use Rattle.zarrs_cells.proofs.Parts.{takes_cells}
+use Rattle.zarrs_array_bytes.specs.ArrayData.{data_of}
+use Rattle.zarrs_array_bytes.proofs.Cells.{HasCells-parts}
+use Rattle.zarrs_array_bytes.proofs.Parts.{takes_cells}
 use Rattle.zarrs_region_cells.specs.RegionData.{level_data}
 use Rattle.zarrs_region_cells.proofs.levels.Level.with_part.Goals as goal
 

@@ -2,7 +2,7 @@ use Rattle.std.proofs.Common.{◌≡◌, ◌*◌, ◌∙◌, ℕ, List, length, 
 use Rattle.std.specs.Prelude.{slice_index}
 use Rattle.zarrs_subset.specs.Boxes.{position_count}
 use Rattle.zarrs_subset.specs.Regions.{box_of}
-use Rattle.zarrs_cells.specs.Parts.{TakesAt}
+use Rattle.zarrs_array_bytes.specs.Parts.{TakesAt}
 use Rattle.zarrs_region_cells.specs.Places.{numbers_in}
 use Rattle.zarrs_region_cells.proofs.NumberCells.{bytes_len, numbers_len, numbers-taken}
 use Rattle.zarrs_region_cells.proofs.numbers.Numbers.with_part.Goals as goal

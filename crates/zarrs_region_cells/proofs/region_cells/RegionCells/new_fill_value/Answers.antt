@@ -1,5 +1,5 @@
 use Rattle.std.proofs.Common.{sym}
-use Rattle.zarrs_cells.proofs.Made.{cells-filled}
+use Rattle.zarrs_array_bytes.proofs.Made.{cells-filled}
 use Rattle.zarrs_region_cells.specs.RegionData.{level_data}
 use Rattle.zarrs_region_cells.proofs.region_cells.RegionCells.new_fill_value.Goals as goal
 

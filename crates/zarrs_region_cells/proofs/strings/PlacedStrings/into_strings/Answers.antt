@@ -1,6 +1,6 @@
 use Rattle.std.proofs.Common.{◌≡◌, ℕ, List, length, ap, sym, subst, ◌∙◌, arith}
 use Rattle.std.proofs.lemmas.Bool.{false≢true}
-use Rattle.zarrs_variable.specs.Offsets.{AreOffsets, byte_strings, joined, last_offset}
+use Rattle.zarrs_byte_strings.specs.Offsets.{AreOffsets, byte_strings, joined, last_offset}
 use Rattle.zarrs_region_cells.specs.Places.{offsets_from, placed_strings}
 use Rattle.zarrs_region_cells.proofs.Joins.{are_offsets, covers_all, cut_again, length_offsets}
 use Rattle.zarrs_region_cells.proofs.strings.PlacedStrings.into_strings.Goals as goal

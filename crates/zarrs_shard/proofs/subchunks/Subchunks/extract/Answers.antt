@@ -1,16 +1,16 @@
 use Rattle.std.proofs.Common.{◌≡◌, Some, ◌∙◌, ap, sym, subst}
 use Rattle.std.proofs.lemmas.Result.{IfOk-weaker}
-use Rattle.zarrs_cells.specs.ArrayData.{ArrayData, data_of, fixed}
-use Rattle.zarrs_cells.specs.Cells.{HasCells}
-use Rattle.zarrs_cells.specs.Parts.{ExtractsCells, ExtractsEach}
-use Rattle.zarrs_cells.proofs.Fixed.{length-fixed}
-use Rattle.zarrs_cells.proofs.Parts.{extracts_cells}
+use Rattle.zarrs_array_bytes.specs.ArrayData.{ArrayData, data_of, fixed}
+use Rattle.zarrs_array_bytes.specs.Cells.{HasCells}
+use Rattle.zarrs_array_bytes.specs.Parts.{ExtractsCells, ExtractsEach}
+use Rattle.zarrs_array_bytes.proofs.Fixed.{length-fixed}
+use Rattle.zarrs_array_bytes.proofs.Parts.{extracts_cells}
 use Rattle.zarrs_subset.specs.Boxes.{position_count, unravel}
 use Rattle.zarrs_subset.specs.Regions.{box_of}
 use Rattle.zarrs_subset.proofs.Positions.{unravel_in}
 use Rattle.zarrs_types.proofs.Sizes.{element_size-positive}
 use Rattle.zarrs_types.specs.Kind.{kind, element_size}
-use Rattle.zarrs_variable.specs.StringParts.{LiesInBox}
+use Rattle.zarrs_byte_strings.specs.StringParts.{LiesInBox}
 use Rattle.zarrs_shard.specs.SubchunkData.{chunk_shape, subchunk_shape}
 use Rattle.zarrs_shard.specs.Subchunks.{quotients, subchunk_box}
 use Rattle.zarrs_shard.proofs.FixedCells.{extracts_fixed}

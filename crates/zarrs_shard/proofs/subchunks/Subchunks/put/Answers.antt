@@ -1,7 +1,7 @@
 use Rattle.std.proofs.Common.{subst}
 use Rattle.std.proofs.lemmas.Result.{IfOk-weaker}
-use Rattle.zarrs_cells.specs.ArrayData.{data_of}
-use Rattle.zarrs_cells.specs.Parts.{TakesCells}
+use Rattle.zarrs_array_bytes.specs.ArrayData.{data_of}
+use Rattle.zarrs_array_bytes.specs.Parts.{TakesCells}
 use Rattle.zarrs_region_cells.specs.RegionData.{region_data}
 use Rattle.zarrs_subset.specs.Regions.{box_of}
 use Rattle.zarrs_types.specs.Kind.{kind}

@@ -1,6 +1,6 @@
 use Rattle.std.proofs.Common.{◌∙◌, rules}
 use Rattle.zarrs_subset.specs.Boxes.{position_count}
-use Rattle.zarrs_cells.specs.ArrayData.{data_of}
+use Rattle.zarrs_array_bytes.specs.ArrayData.{data_of}
 use Rattle.zarrs_target.specs.Targets.{TakesLevels, masked}
 use Rattle.zarrs_target.specs.States.{data_of_target, parent_box, target_box}
 use Rattle.zarrs_target.proofs.TypeSizes.{type_taken}

@@ -3,8 +3,8 @@ use Rattle.std.proofs.lemmas.Result.{on_ok_weaker}
 use Rattle.std.specs.Prelude.{IsSome}
 use Rattle.zarrs_subset.specs.Regions.{Box}
 use Rattle.zarrs_target.proofs.Levels.{masked_keeps}
-use Rattle.zarrs_steps.specs.ArgumentRefusals.{part_refusal, region_refusal}
-use Rattle.zarrs_steps.specs.Refusals.{refusal_of}
+use Rattle.zarrs_calls.specs.ArgumentRefusals.{part_refusal, region_refusal}
+use Rattle.zarrs_calls.specs.Refusals.{refusal_of}
 use Rattle.zarrs_engine.specs.Into.{HasContent, RetrievesInto}
 use Rattle.zarrs_engine.specs.PartialDecoders.{RefusesPartInto, part_into_refusal, region_of_part}
 use Rattle.zarrs.specs.PartialEncoders.{layout_of_decoder, state_of_decoder, store_of_decoder, indices_of_decoder}

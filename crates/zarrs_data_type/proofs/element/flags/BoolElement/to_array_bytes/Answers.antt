@@ -1,7 +1,7 @@
 use Rattle.std.proofs.Common.{sym, ap, ◌∙◌}
 use Rattle.zarrs_types.specs.Kind.{kind}
 use Rattle.zarrs_types.specs.Kind as type
-use Rattle.zarrs_cells.specs.Cells.{cells}
+use Rattle.zarrs_array_bytes.specs.Cells.{cells}
 use Rattle.zarrs_data_type.proofs.FlagCells.{flags-made}
 use Rattle.zarrs_data_type.proofs.StringCells.{kind_is}
 use Rattle.zarrs_data_type.proofs.element.flags.BoolElement.to_array_bytes.Goals as goal

@@ -3,8 +3,8 @@ use Rattle.std.specs.Prelude.{option_map}
 use Rattle.std.specs.Int.{from_bool}
 use Rattle.zarrs_types.specs.Kind.{kind}
 use Rattle.zarrs_types.specs.Kind as type
-use Rattle.zarrs_cells.specs.ArrayData.{data_of, fixed}
-use Rattle.zarrs_cells.specs.Cells.{cells}
+use Rattle.zarrs_array_bytes.specs.ArrayData.{data_of, fixed}
+use Rattle.zarrs_array_bytes.specs.Cells.{cells}
 use Rattle.zarrs_data_type.proofs.FlagCells.{flags-read, flags-unread}
 use Rattle.zarrs_data_type.proofs.StringCells.{kind_is}
 use Rattle.zarrs_data_type.proofs.element.flags.BoolElementOwned.from_array_bytes.Goals as goal

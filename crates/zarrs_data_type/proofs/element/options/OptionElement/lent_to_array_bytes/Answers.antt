@@ -2,8 +2,8 @@ use Rattle.std.proofs.Common.{◌<◌, ◌≡◌, Some, map, sym, ap, subst, ◌
 use Rattle.std.specs.Prelude.{All, option_map}
 use Rattle.std.specs.List.{filter_map}
 use Rattle.zarrs_types.specs.Kind.{kind, inner_of}
-use Rattle.zarrs_cells.specs.ArrayData.{data_of}
-use Rattle.zarrs_cells.specs.Cells.{cells}
+use Rattle.zarrs_array_bytes.specs.ArrayData.{data_of}
+use Rattle.zarrs_array_bytes.specs.Cells.{cells}
 use Rattle.zarrs_data_type.proofs.OptionCells.{flags-below, values-present, values-written}
 use Rattle.zarrs_data_type.proofs.element.options.OptionElement.lent_to_array_bytes.Goals as goal
 

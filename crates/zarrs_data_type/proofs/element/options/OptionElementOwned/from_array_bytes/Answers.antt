@@ -1,9 +1,9 @@
 use Rattle.std.proofs.Common.{◌≡◌, Some, IsTrue, length, map, sym, ap, subst, ◌∙◌}
 use Rattle.std.specs.Prelude.{option_map}
 use Rattle.zarrs_types.specs.Kind.{kind, inner_of}
-use Rattle.zarrs_cells.specs.ArrayData.{data_of, mask_of, inner_data, optional}
-use Rattle.zarrs_cells.specs.Cells.{cells, HasCells}
-use Rattle.zarrs_cells.specs.Present.{spread_cells}
+use Rattle.zarrs_array_bytes.specs.ArrayData.{data_of, mask_of, inner_data, optional}
+use Rattle.zarrs_array_bytes.specs.Cells.{cells, HasCells}
+use Rattle.zarrs_array_bytes.specs.Present.{spread_cells}
 use Rattle.zarrs_data_type.specs.Elements.{option_cell}
 use Rattle.zarrs_data_type.proofs.OptionCells.{values-read, values-unread}
 use Rattle.zarrs_data_type.proofs.element.options.OptionElementOwned.from_array_bytes.Goals as goal

@@ -1,8 +1,8 @@
 use Rattle.std.proofs.Common.{refl, sym, ap, ◌∙◌}
 use Rattle.zarrs_types.specs.Kind.{kind}
 use Rattle.zarrs_types.specs.Kind as type
-use Rattle.zarrs_cells.specs.ArrayData.{data_of}
-use Rattle.zarrs_cells.specs.Cells.{cells}
+use Rattle.zarrs_array_bytes.specs.ArrayData.{data_of}
+use Rattle.zarrs_array_bytes.specs.Cells.{cells}
 use Rattle.zarrs_data_type.proofs.StringCells.{cells-made, all_true, kind_is}
 use Rattle.zarrs_data_type.proofs.element.strings.VecU8ElementOwned.from_array_bytes.Goals as goal
 

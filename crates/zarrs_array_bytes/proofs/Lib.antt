@@ -1,0 +1,11 @@
+pub use Rattle.zarrs_byte_strings.proofs.ByteStrings
+pub mod Cells
+pub mod Filled
+pub mod Fills
+pub mod Fixed
+pub mod Made
+pub mod Parts
+pub mod Pieces
+pub mod Presence
+pub mod Validity
+mod Periods

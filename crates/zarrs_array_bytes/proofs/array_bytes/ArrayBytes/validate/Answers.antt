@@ -1,0 +1,13 @@
+use Rattle.std.proofs.Common.{sym, ◌∙◌}
+use Rattle.zarrs_array_bytes.specs.ArrayData.{data_of}
+use Rattle.zarrs_types.specs.Kind.{kind}
+use Rattle.zarrs_array_bytes.proofs.Validity.{HasCells-any, HasCells-fits, tested_true, tested_false}
+use Rattle.zarrs_array_bytes.proofs.array_bytes.ArrayBytes.validate.Goals as goal
+
+pub returns-then-not-fits : goal.returns-then-not-fits
+returns-then-not-fits c =
+    tested_false (HasCells-fits (kind c.args.data_type.now) (data_of c.args.self.now) c.args.count (sym c.fits.ensures ∙ c.if-not-fits.true))
+
+pub returns-then-takes_any_bytes : goal.returns-then-takes_any_bytes
+returns-then-takes_any_bytes c =
+    rw c.if-takes_any_bytes.true (tested_true (HasCells-any c.args.data_type.now (data_of c.args.self.now) c.args.count (sym c.takes_any_bytes.ensures ∙ c.if-takes_any_bytes.true) (sym c.fits.ensures ∙ c.if-not-fits.false)))

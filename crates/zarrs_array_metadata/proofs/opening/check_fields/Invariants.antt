@@ -1,8 +1,0 @@
-use Rattle.std.proofs.Common.{◌≡◌}
-use Rattle.zarrs_document.specs.View.{fields_view}
-use Rattle.zarrs_array_metadata.specs.Opening.{fields_understood}
-use Rattle.zarrs_array_metadata.proofs.opening.check_fields.Given as goal
-
--- the fields that are left decide
-abbrev pub invariant-loop-name : goal.invariant-loop-name
-invariant-loop-name l = fields_understood (fields_view l.fields.entries) ≡ fields_understood (fields_view l.name-iterator)

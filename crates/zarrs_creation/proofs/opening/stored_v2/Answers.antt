@@ -1,0 +1,43 @@
+use Rattle.std.proofs.Common.{◌≡◌, ◌∙◌, ap, subst, ℕ, List, Some, None, Ok, rules}
+use Rattle.zarrs_metadata_v2.specs.View.{document_v2_view}
+use Rattle.zarrs_options.specs.Refusals.{create_refusal_of, RefusesCreation}
+use Rattle.zarrs_creation.specs.Opening.{value_asked}
+use Rattle.zarrs_creation.proofs.Openings.{v2_refused, v2_bad, v2_unattributed, v2_absent, v2_read}
+use Rattle.zarrs_creation.proofs.opening.stored_v2.Goals as goal
+
+pub returns-in_err-value-clause-refused : goal.returns-in_err-value-clause-refused
+returns-in_err-value-clause-refused g c =
+    let state = g.S.ReadableStorageTraits.state c.args.storage.now in
+    let path = c.args.path.now in
+    let why = v2_refused state path (create_refusal_of c.in_err-value.field-0.0) (subst (λ (k : List ℕ). RefusesCreation (value_asked state k) (create_refusal_of c.in_err-value.field-0.0)) c.in_ok-key.ensures.key c.in_err-value.ensures.refused) in
+    search (rules, why)
+
+pub returns-in-None-clause-read : goal.returns-in-None-clause-read
+returns-in-None-clause-read g c =
+    let state = g.S.ReadableStorageTraits.state c.args.storage.now in
+    let path = c.args.path.now in
+    let asked = subst (λ (k : List ℕ). value_asked state k ≡ Ok None) c.in_ok-key.ensures.key (c.in_ok-value.ensures.read ∙ ap Ok c.in-None.is) in
+    v2_absent state path asked
+
+pub returns-in_err-array-in-Some-clause-refused : goal.returns-in_err-array-in-Some-clause-refused
+returns-in_err-array-in-Some-clause-refused g c =
+    let state = g.S.ReadableStorageTraits.state c.args.storage.now in
+    let path = c.args.path.now in
+    let asked = subst (λ (k : List ℕ). value_asked state k ≡ Ok (Some c.in-Some.bytes)) c.in_ok-key.ensures.key (c.in_ok-value.ensures.read ∙ ap Ok c.in-Some.is) in
+    let why = v2_bad state path (create_refusal_of c.in_err-array-in-Some.field-0.0) c.in-Some.bytes asked (rw (c.deref.ensures, c.in_ok-key.ensures.key) at c.in_err-array-in-Some.ensures.refused) in
+    search (rules, why)
+
+pub returns-in_err-metadata-in-Some-clause-refused : goal.returns-in_err-metadata-in-Some-clause-refused
+returns-in_err-metadata-in-Some-clause-refused g c =
+    let state = g.S.ReadableStorageTraits.state c.args.storage.now in
+    let path = c.args.path.now in
+    let asked = subst (λ (k : List ℕ). value_asked state k ≡ Ok (Some c.in-Some.bytes)) c.in_ok-key.ensures.key (c.in_ok-value.ensures.read ∙ ap Ok c.in-Some.is) in
+    let why = v2_unattributed state path (create_refusal_of c.in_err-metadata-in-Some.field-0.0) c.in-Some.bytes (document_v2_view c.in_ok-array-in-Some.array) asked (rw (c.deref.ensures, c.in_ok-key.ensures.key) at c.in_ok-array-in-Some.ensures.read) c.in_err-metadata-in-Some.ensures.refused in
+    search (rules, why)
+
+pub returns-in_ok-metadata-in-Some-clause-read : goal.returns-in_ok-metadata-in-Some-clause-read
+returns-in_ok-metadata-in-Some-clause-read g c =
+    let state = g.S.ReadableStorageTraits.state c.args.storage.now in
+    let path = c.args.path.now in
+    let asked = subst (λ (k : List ℕ). value_asked state k ≡ Ok (Some c.in-Some.bytes)) c.in_ok-key.ensures.key (c.in_ok-value.ensures.read ∙ ap Ok c.in-Some.is) in
+    v2_read state path c.in-Some.bytes (document_v2_view c.in_ok-array-in-Some.array) (document_v2_view c.in_ok-metadata-in-Some.metadata) asked (rw (c.deref.ensures, c.in_ok-key.ensures.key) at c.in_ok-array-in-Some.ensures.read) c.in_ok-metadata-in-Some.ensures.read

@@ -1,0 +1,204 @@
+//! The parts of an array that a V3 document says.
+ghost use Rattle.std.specs.Prelude.{◌≡◌, map, length, Some, Ok, IsSome, IfOk, IfErr, OnOk, option_map};
+ghost use Rattle.zarrs_metadata.specs.Extension.{extension_view};
+ghost use Rattle.zarrs_metadata.specs.FillValue.{fill_data};
+ghost use Rattle.zarrs_metadata_v3.specs.View.{document_view, name_view};
+ghost use Rattle.zarrs_chunk_grid.specs.GridView.{configuration_of, array_extents_of};
+ghost use Rattle.zarrs_chunk_grid.specs.Metadata.{grid_said};
+ghost use Rattle.zarrs_keys.specs.Metadata.{key_encoding_of};
+ghost use Rattle.zarrs_types.specs.Cell.{fill_cell};
+ghost use Rattle.zarrs_types.specs.FillMetadata.{fill_said};
+ghost use Rattle.zarrs_types.specs.Kind.{kind};
+ghost use Rattle.zarrs_types.specs.TypeMetadata.{kind_of};
+ghost use Rattle.zarrs_codec.specs.Metadata.{chain_data, chain_said};
+ghost use Rattle.zarrs_options.specs.Options.{transformers_said};
+ghost use Rattle.zarrs_options.specs.Refusals.{create_refusal_of, said_or, RefusesCreation};
+ghost use Rattle.zarrs_options.specs.Refusals.{codecs, data_type, chunk_grid, fill_value_metadata};
+ghost use Rattle.zarrs_options.specs.Refusals.{storage_transformers, chunk_key_encoding};
+ghost use Rattle.zarrs_creation.specs.Meanings.{names_said, meaning_with, creation_v3};
+
+use std::alloc::Global;
+use zarrs_chunk_grid::ChunkGrid;
+use zarrs_codec::CodecChain;
+use zarrs_data_type::{DataType, DataTypeFillValueMetadataError, FillValue};
+use zarrs_keys::ChunkKeyEncoding;
+use zarrs_metadata::{MetadataV3, PluginCreateError};
+use zarrs_metadata_v3::{ArrayMetadataV3, DimensionName, FillValueMetadata};
+use zarrs_options::{ArrayCreateError, StorageTransformerChain};
+
+/// The parts of an array, beside its path and its store.
+#[derive(Debug, Drop)]
+pub struct ArrayParts {
+    /// How the array is cut into chunks.
+    pub grid: ChunkGrid,
+    /// How the keys of the chunks are made.
+    pub keys: ChunkKeyEncoding,
+    /// The codecs that make bytes of the cells of a chunk.
+    pub chain: CodecChain,
+    /// The type of the cells.
+    pub data_type: DataType,
+    /// The value of a cell that was never written.
+    pub fill_value: FillValue,
+}
+
+fn chain_from(alloc: Global, metadatas: &[MetadataV3]) -> Result<CodecChain, ArrayCreateError>
+    ensures made { IfOk result (λ chain.
+        chain_said (map extension_view metadatas.now) ≡ Some (chain_data chain)) }
+    ensures refused { IfErr result (λ e. RefusesCreation
+        (said_or codecs (chain_said (map extension_view metadatas.now))) (create_refusal_of e)) }
+{
+    match CodecChain::from_metadata(alloc, metadatas) {
+        Ok(chain) => Ok(chain),
+        Err(PluginCreateError::OutOfMemory) => Err(ArrayCreateError::OutOfMemory),
+        Err(error) => Err(ArrayCreateError::CodecsCreateError(error)),
+    }
+}
+
+fn data_type_from(alloc: Global, metadata: &MetadataV3) -> Result<DataType, ArrayCreateError>
+    ensures made { IfOk result (λ t. kind_of (extension_view metadata.now) ≡ Some (kind t)) }
+    ensures refused { IfErr result (λ e. RefusesCreation
+        (said_or data_type (kind_of (extension_view metadata.now))) (create_refusal_of e)) }
+{
+    match DataType::from_metadata(alloc, metadata) {
+        Ok(data_type) => Ok(data_type),
+        Err(PluginCreateError::OutOfMemory) => Err(ArrayCreateError::OutOfMemory),
+        Err(error) => Err(ArrayCreateError::DataTypeCreateError(error)),
+    }
+}
+
+pub(crate) fn grid_from(
+    alloc: Global,
+    metadata: &MetadataV3,
+    shape: &[u64],
+) -> Result<ChunkGrid, ArrayCreateError>
+    ensures made { IfOk result (λ g.
+        grid_said (extension_view metadata.now) shape.now ≡ Some (configuration_of g)) }
+    ensures shape { IfOk result (λ g. array_extents_of g ≡ shape.now) }
+    ensures refused { IfErr result (λ e. RefusesCreation
+        (said_or chunk_grid (grid_said (extension_view metadata.now) shape.now))
+        (create_refusal_of e)) }
+{
+    match ChunkGrid::from_metadata(alloc, metadata, shape) {
+        Ok(grid) => Ok(grid),
+        Err(PluginCreateError::OutOfMemory) => Err(ArrayCreateError::OutOfMemory),
+        Err(error) => Err(ArrayCreateError::ChunkGridCreateError(error)),
+    }
+}
+
+/// Makes the refusal of this as the fill value of the data type of this name.
+fn invalid_fill_value(alloc: Global, name: &str, metadata: &FillValueMetadata) -> ArrayCreateError
+    ensures { RefusesCreation (said_or {A = Unit {0}}
+        (fill_value_metadata name.now (fill_data metadata.now)) None) (create_refusal_of result) }
+{
+    let Ok(data_type_name) = String::from_str(alloc, name) else {
+        return ArrayCreateError::OutOfMemory;
+    };
+    let Ok(fill_value_metadata) = metadata.try_clone(alloc) else {
+        return ArrayCreateError::OutOfMemory;
+    };
+    ArrayCreateError::InvalidFillValueMetadata {
+        data_type_name,
+        fill_value_metadata,
+    }
+}
+
+fn fill_value_from(
+    alloc: Global,
+    data_type: &DataType,
+    name: &str,
+    metadata: &FillValueMetadata,
+) -> Result<FillValue, ArrayCreateError>
+    ensures made { IfOk result (λ f.
+        fill_said (kind data_type.now) (fill_data metadata.now) ≡ Some f) }
+    ensures filled { IfOk result (λ f. IsSome (fill_cell (kind data_type.now) f)) }
+    ensures refused { IfErr result (λ e. RefusesCreation
+        (said_or (fill_value_metadata name.now (fill_data metadata.now))
+        (fill_said (kind data_type.now) (fill_data metadata.now))) (create_refusal_of e)) }
+{
+    match data_type.fill_value_v3(alloc, metadata) {
+        Ok(fill_value) => Ok(fill_value),
+        Err(DataTypeFillValueMetadataError::OutOfMemory) => Err(ArrayCreateError::OutOfMemory),
+        Err(DataTypeFillValueMetadataError::Invalid) => {
+            Err(invalid_fill_value(alloc, name, metadata))
+        }
+    }
+}
+
+fn check_transformers(alloc: Global, metadatas: &[MetadataV3]) -> Result<(), ArrayCreateError>
+    ensures made { OnOk result (transformers_said (map extension_view metadatas.now) ≡ Some tt) }
+    ensures refused { IfErr result (λ e. RefusesCreation
+        (said_or storage_transformers (transformers_said (map extension_view metadatas.now)))
+        (create_refusal_of e)) }
+{
+    match StorageTransformerChain::from_metadata(alloc, metadatas) {
+        Ok(_) => Ok(()),
+        Err(PluginCreateError::OutOfMemory) => Err(ArrayCreateError::OutOfMemory),
+        Err(error) => Err(ArrayCreateError::StorageTransformersCreateError(error)),
+    }
+}
+
+fn keys_from(alloc: Global, metadata: &MetadataV3) -> Result<ChunkKeyEncoding, ArrayCreateError>
+    ensures made { IfOk result (λ k. key_encoding_of (extension_view metadata.now) ≡ Some k) }
+    ensures refused { IfErr result (λ e. RefusesCreation
+        (said_or chunk_key_encoding (key_encoding_of (extension_view metadata.now)))
+        (create_refusal_of e)) }
+{
+    match ChunkKeyEncoding::from_metadata(alloc, metadata) {
+        Ok(keys) => Ok(keys),
+        Err(PluginCreateError::OutOfMemory) => Err(ArrayCreateError::OutOfMemory),
+        Err(error) => Err(ArrayCreateError::ChunkKeyEncodingCreateError(error)),
+    }
+}
+
+pub(crate) fn check_names(
+    dimensions: usize,
+    names: &Option<Vec<DimensionName>>,
+) -> Result<(), ArrayCreateError>
+    ensures made { OnOk result
+        (names_said dimensions (option_map (λ n. map name_view n.items) names.now) ≡ Ok tt) }
+    ensures refused { IfErr result (λ e. RefusesCreation
+        (names_said dimensions (option_map (λ n. map name_view n.items) names.now))
+        (create_refusal_of e)) }
+{
+    let Some(names) = names else {
+        return Ok(());
+    };
+    if names.len() == dimensions {
+        return Ok(());
+    }
+    Err(ArrayCreateError::InvalidDimensionNames(names.len(), dimensions))
+}
+
+/// Makes the parts of an array with this V3 document.
+pub(crate) fn parts_of_v3(
+    alloc: Global,
+    metadata: &ArrayMetadataV3,
+) -> Result<ArrayParts, ArrayCreateError>
+    ensures made { IfOk result (λ parts. creation_v3 (document_view metadata.now) ≡ Ok
+        (meaning_with parts.grid parts.keys parts.chain parts.data_type parts.fill_value)) }
+    ensures filled { IfOk result
+        (λ parts. IsSome (fill_cell (kind parts.data_type) parts.fill_value)) }
+    ensures refused { IfErr result
+        (λ e. RefusesCreation (creation_v3 (document_view metadata.now)) (create_refusal_of e)) }
+{
+    let shape = metadata.shape.as_slice();
+    let chain = chain_from(alloc, &metadata.codecs)?;
+    let data_type = data_type_from(alloc, &metadata.data_type)?;
+    let grid = grid_from(alloc, &metadata.chunk_grid, shape)?;
+    let fill_value = fill_value_from(
+        alloc,
+        &data_type,
+        metadata.data_type.name(),
+        &metadata.fill_value,
+    )?;
+    check_transformers(alloc, &metadata.storage_transformers)?;
+    let keys = keys_from(alloc, &metadata.chunk_key_encoding)?;
+    check_names(shape.len(), &metadata.dimension_names)?;
+    Ok(ArrayParts {
+        grid,
+        keys,
+        chain,
+        data_type,
+        fill_value,
+    })
+}

@@ -1,0 +1,102 @@
+-- The document that is written reads as what was written.
+use Rattle.std.proofs.Common.{◌≡◌, ℕ, List, map, Option, Some, None, codes, refl, sym, ap, ◌∙◌, arith}
+use Rattle.std.proofs.lemmas.Bool.{ne_eqb}
+use Rattle.std.specs.Int.NonZero.{non_zero_u64_get}
+use Rattle.std.specs.declared.num.NonZeroU64.{NonZeroU64}
+use Rattle.serde_json.specs.Data.{Data, string, array, object, Members, no_members, member}
+use Rattle.serde_json.specs.Find.{get_member}
+use Rattle.serde_json.specs.View.{items_of}
+use Rattle.zarrs_metadata.specs.Lists.{number_data, numbers_data}
+use Rattle.zarrs_metadata.specs.Separator.{separator_of, separator_data}
+use Rattle.zarrs_metadata.specs.declared.separators.ChunkKeySeparator.{ChunkKeySeparator}
+use Rattle.zarrs_metadata.specs.declared.separators.ChunkKeySeparator.TheVariants.{Slash, Dot}
+use Rattle.zarrs_metadata.proofs.ListLemmas.{all_of-items_of, numbers_of-numbers_data}
+use Rattle.zarrs_metadata_v3.specs.Members.{put_some, put_all, list_in, members_in, object_data}
+use Rattle.zarrs_metadata_v3.proofs.ListLemmas.{map_both}
+use Rattle.zarrs_metadata_v3.proofs.MemberLemmas.{get_member-put_all}
+use Rattle.zarrs_metadata_v2.specs.declared.order.ArrayMetadataV2Order.{ArrayMetadataV2Order}
+use Rattle.zarrs_metadata_v2.specs.declared.order.ArrayMetadataV2Order.TheVariants.{C, F}
+use Rattle.zarrs_metadata_v2.specs.Document.{DocumentV2Data, PartsV2Data, DraftV2Data, non_zero_size, chunk_order_of, parts_of_v2, draft_of_v2, assembled_v2, document_v2_from, document_v2_of, order_data, document_v2_members, data_v2_with, data_of_v2, without_attributes}
+
+-- ---- written one after the other
+
+pub written_in_turn : (attributes : Option Data) (m : DocumentV2Data) (v_zarr_format v_shape v_chunks v_dtype v_compressor v_fill_value v_order v_filters v_dimension_separator v_attributes : Option Data) (m_zarr_format m_shape m_chunks m_dtype m_compressor m_fill_value m_order m_filters m_dimension_separator m_attributes : Members)
+    → v_zarr_format ≡ Some (number_data 2) → m_zarr_format ≡ put_some (codes "zarr_format") v_zarr_format no_members
+    → v_shape ≡ Some (numbers_data m.shape) → m_shape ≡ put_some (codes "shape") v_shape m_zarr_format
+    → v_chunks ≡ Some (numbers_data m.chunks) → m_chunks ≡ put_some (codes "chunks") v_chunks m_shape
+    → v_dtype ≡ Some (string m.dtype) → m_dtype ≡ put_some (codes "dtype") v_dtype m_chunks
+    → v_compressor ≡ Some m.compressor → m_compressor ≡ put_some (codes "compressor") v_compressor m_dtype
+    → v_fill_value ≡ Some m.fill_value → m_fill_value ≡ put_some (codes "fill_value") v_fill_value m_compressor
+    → v_order ≡ Some (order_data m.order) → m_order ≡ put_some (codes "order") v_order m_fill_value
+    → v_filters ≡ Some m.filters → m_filters ≡ put_some (codes "filters") v_filters m_order
+    → v_dimension_separator ≡ Some (separator_data m.dimension_separator) → m_dimension_separator ≡ put_some (codes "dimension_separator") v_dimension_separator m_filters
+    → v_attributes ≡ attributes → m_attributes ≡ put_some (codes "attributes") v_attributes m_dimension_separator
+    → object m_attributes ≡ data_v2_with attributes m
+unfolding data_v2_with
+written_in_turn attributes m v_zarr_format v_shape v_chunks v_dtype v_compressor v_fill_value v_order v_filters v_dimension_separator v_attributes m_zarr_format m_shape m_chunks m_dtype m_compressor m_fill_value m_order m_filters m_dimension_separator m_attributes i_zarr_format e_zarr_format i_shape e_shape i_chunks e_chunks i_dtype e_dtype i_compressor e_compressor i_fill_value e_fill_value i_order e_order i_filters e_filters i_dimension_separator e_dimension_separator i_attributes e_attributes =
+    rw (e_attributes, e_dimension_separator, e_filters, e_order, e_fill_value, e_compressor, e_dtype, e_chunks, e_shape, e_zarr_format, i_zarr_format, i_shape, i_chunks, i_dtype, i_compressor, i_fill_value, i_order, i_filters, i_dimension_separator, i_attributes) refl
+
+-- ---- what the parts of a written document are
+
+same_parts : (ms : Members) (w : PartsV2Data) → get_member (codes "zarr_format") ms ≡ w.zarr_format → get_member (codes "shape") ms ≡ w.shape → get_member (codes "chunks") ms ≡ w.chunks → get_member (codes "dtype") ms ≡ w.dtype → get_member (codes "compressor") ms ≡ w.compressor → get_member (codes "fill_value") ms ≡ w.fill_value → get_member (codes "order") ms ≡ w.order → get_member (codes "filters") ms ≡ w.filters → get_member (codes "dimension_separator") ms ≡ w.dimension_separator → get_member (codes "attributes") ms ≡ w.attributes → parts_of_v2 ms ≡ w
+unfolding parts_of_v2
+same_parts ms w e_zarr_format e_shape e_chunks e_dtype e_compressor e_fill_value e_order e_filters e_dimension_separator e_attributes = rw (e_zarr_format, e_shape, e_chunks, e_dtype, e_compressor, e_fill_value, e_order, e_filters, e_dimension_separator, e_attributes) refl
+
+abbrev written_parts : Option Data → DocumentV2Data → PartsV2Data
+written_parts attributes m = record { zarr_format = Some (number_data 2); shape = Some (numbers_data m.shape); chunks = Some (numbers_data m.chunks); dtype = Some (string m.dtype); compressor = Some m.compressor; fill_value = Some m.fill_value; order = Some (order_data m.order); filters = Some m.filters; dimension_separator = Some (separator_data m.dimension_separator); attributes = attributes }
+
+parts_written : (attributes : Option Data) (m : DocumentV2Data) → parts_of_v2 (put_all (document_v2_members attributes m) no_members) ≡ written_parts attributes m
+parts_written attributes m =
+    let es = document_v2_members attributes m in
+    let found = λ (key : List ℕ). get_member-put_all key es no_members refl in
+    same_parts (put_all es no_members) (written_parts attributes m)
+    (found (codes "zarr_format"))
+    (found (codes "shape"))
+    (found (codes "chunks"))
+    (found (codes "dtype"))
+    (found (codes "compressor"))
+    (found (codes "fill_value"))
+    (found (codes "order"))
+    (found (codes "filters"))
+    (found (codes "dimension_separator"))
+    (found (codes "attributes"))
+
+-- ---- and what they read as
+
+assembled_all : (w : DraftV2Data) (m : DocumentV2Data)
+    → w.shape ≡ Some m.shape → w.chunks ≡ Some m.chunks → w.dtype ≡ Some m.dtype → w.compressor ≡ Some m.compressor → w.fill_value ≡ Some m.fill_value → w.order ≡ Some m.order → w.filters ≡ Some m.filters → w.dimension_separator ≡ Some m.dimension_separator → w.attributes ≡ Some m.attributes
+    → assembled_v2 w ≡ Some m
+unfolding assembled_v2
+assembled_all w m e1 e2 e3 e4 e5 e6 e7 e8 e9 = rw (e1, e2, e3, e4, e5, e6, e7, e8, e9) refl
+
+order_back : (o : ArrayMetadataV2Order) → chunk_order_of (order_data o) ≡ Some o
+order_back C = refl
+order_back F = refl
+
+separator_back : (s : ChunkKeySeparator) → separator_of (separator_data s) ≡ Some s
+separator_back Slash = refl
+separator_back Dot = refl
+
+attributes_back : (ms : Members) → members_in (object_data ms) ≡ Some ms
+attributes_back no_members = refl
+attributes_back (member key d ms) = refl
+
+size_back : (size : NonZeroU64) → non_zero_size (number_data (non_zero_u64_get size)) ≡ Some (non_zero_u64_get size)
+size_back size = let some = size.ok in rw (ne_eqb size.value 0 (λ z. absurd (omega arith))) refl
+
+-- sizes of chunks are read again
+pub sizes_back : (sizes : List NonZeroU64) → list_in non_zero_size (Some (numbers_data (map non_zero_u64_get sizes))) ≡ Some (map non_zero_u64_get sizes)
+sizes_back sizes =
+    ap (λ ds. list_in non_zero_size (Some (array (items_of ds)))) (sym (map_both number_data non_zero_u64_get sizes))
+    ∙ all_of-items_of non_zero_size (λ size. number_data (non_zero_u64_get size)) non_zero_u64_get size_back sizes
+
+pub data_v2_with_back : (m : DocumentV2Data) → list_in non_zero_size (Some (numbers_data m.chunks)) ≡ Some m.chunks → document_v2_of (data_of_v2 m) ≡ Some m
+unfolding data_v2_with draft_of_v2
+data_v2_with_back m sizes =
+    ap document_v2_from (parts_written (object_data m.attributes) m)
+    ∙ assembled_all (draft_of_v2 (written_parts (object_data m.attributes) m)) m (numbers_of-numbers_data m.shape) sizes refl refl refl (order_back m.order) refl (separator_back m.dimension_separator) (attributes_back m.attributes)
+
+-- attributes that are left out are not written
+pub without_same : (m : DocumentV2Data) → data_v2_with None m ≡ data_of_v2 (without_attributes m)
+unfolding data_v2_with
+without_same m = refl

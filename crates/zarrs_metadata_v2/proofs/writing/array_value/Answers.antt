@@ -1,0 +1,14 @@
+use Rattle.std.proofs.Common.{ap, ◌∙◌}
+use Rattle.std.proofs.lemmas.Result.{IfOk-weaker}
+use Rattle.zarrs_metadata_v2.specs.Document.{document_v2_of, without_attributes}
+use Rattle.zarrs_metadata_v2.specs.View.{document_v2_view}
+use Rattle.zarrs_metadata_v2.proofs.DocumentLaws.{sizes_back, data_v2_with_back, without_same}
+use Rattle.zarrs_metadata_v2.proofs.writing.array_value.Goals as goal
+
+pub returns-clause-written : goal.returns-clause-written
+returns-clause-written c = IfOk-weaker c.value_with.result _ _ (λ v h. h ∙ without_same (document_v2_view c.args.document.now)) c.value_with.ensures
+
+pub returns-clause-reads_back : goal.returns-clause-reads_back
+returns-clause-reads_back c =
+    let m = document_v2_view c.args.document.now in
+    IfOk-weaker c.value_with.result _ _ (λ v h. ap document_v2_of (h ∙ without_same m) ∙ data_v2_with_back (without_attributes m) (sizes_back c.args.document.now.chunks.items)) c.value_with.ensures

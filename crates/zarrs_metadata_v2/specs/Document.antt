@@ -1,0 +1,197 @@
+-- The V2 document of an array (Zarr V2 storage specification, arrays and attributes), and the JSON values that read as one.
+use Rattle.std.specs.Prelude.{◌≡◌, ◌≤◌, ℕ, List, [], ◌∷◌, ◌==◌, false, bytes_eq, codes, if◌then◌else◌, Option, Some, None, option_and_then}
+use Rattle.std.specs.Str.{is_utf8, IsUtf8}
+use Rattle.json.specs.Lex.{tokens}
+use Rattle.json.specs.Layout.{pretty}
+use Rattle.serde_json.specs.Data.{Data, depth, string, object, Members, no_members}
+use Rattle.serde_json.specs.Find.{get_member, as_str, as_object}
+use Rattle.serde_json.specs.Written.{has_float, IsInOrder}
+use Rattle.serde_json.specs.Read.{read, max_depth}
+use Rattle.zarrs_metadata.specs.Lists.{number_of, numbers_of, numbers_data, number_data}
+use Rattle.zarrs_metadata.specs.Extension.{◌>>=◌}
+use Rattle.zarrs_metadata.specs.Separator.{separator_of, separator_data}
+use Rattle.zarrs_metadata.specs.declared.separators.ChunkKeySeparator.{ChunkKeySeparator}
+use Rattle.zarrs_metadata.specs.declared.separators.ChunkKeySeparator.TheVariants.{Dot}
+use Rattle.zarrs_metadata_v3.specs.Members.{reads_as_number, list_in, members_in, object_data, put_all}
+use Rattle.zarrs_metadata_v2.specs.declared.order.ArrayMetadataV2Order.{ArrayMetadataV2Order}
+use Rattle.zarrs_metadata_v2.specs.declared.order.ArrayMetadataV2Order.TheVariants.{C, F}
+
+-- the metadata of an array; compressor, fill value and filters are kept as they are
+pub record DocumentV2Data : Type 0 where
+  pub shape : List ℕ
+  pub chunks : List ℕ
+  pub dtype : List ℕ
+  pub compressor : Data
+  pub fill_value : Data
+  pub order : ArrayMetadataV2Order
+  pub filters : Data
+  pub dimension_separator : ChunkKeySeparator
+  pub attributes : Members
+
+-- the metadata of these parts, in order C, with `.` in its keys and without attributes
+abbrev pub plain_document_v2 : List ℕ → List ℕ → List ℕ → Data → Data → Data → DocumentV2Data
+plain_document_v2 shape chunks dtype fill_value compressor filters = record {
+  shape = shape;
+  chunks = chunks;
+  dtype = dtype;
+  compressor = compressor;
+  fill_value = fill_value;
+  order = C;
+  filters = filters;
+  dimension_separator = Dot;
+  attributes = no_members;
+}
+
+abbrev pub without_attributes : DocumentV2Data → DocumentV2Data
+without_attributes m = record m { attributes = no_members }
+
+-- ---- read
+
+-- a size of a chunk is not 0
+abbrev pub non_zero_size : Data → Option ℕ
+non_zero_size d = option_and_then (λ n. if n == 0 then None else Some n) (number_of d)
+
+abbrev pub order_named : List ℕ → Option ArrayMetadataV2Order
+order_named text = if bytes_eq text (codes "C") then Some C else (if bytes_eq text (codes "F") then Some F else None)
+
+abbrev pub chunk_order_of : Data → Option ArrayMetadataV2Order
+chunk_order_of d = option_and_then order_named (as_str d)
+
+-- an absent separator is `.`
+abbrev pub dimension_separator_in : Option Data → Option ChunkKeySeparator
+dimension_separator_in None = Some Dot
+dimension_separator_in (Some d) = separator_of d
+
+-- the members of a document, by name
+pub record PartsV2Data : Type 0 where
+  pub zarr_format : Option Data
+  pub shape : Option Data
+  pub chunks : Option Data
+  pub dtype : Option Data
+  pub compressor : Option Data
+  pub fill_value : Option Data
+  pub order : Option Data
+  pub filters : Option Data
+  pub dimension_separator : Option Data
+  pub attributes : Option Data
+
+unfoldable pub parts_of_v2 : Members → PartsV2Data
+parts_of_v2 ms = record {
+  zarr_format = get_member (codes "zarr_format") ms;
+  shape = get_member (codes "shape") ms;
+  chunks = get_member (codes "chunks") ms;
+  dtype = get_member (codes "dtype") ms;
+  compressor = get_member (codes "compressor") ms;
+  fill_value = get_member (codes "fill_value") ms;
+  order = get_member (codes "order") ms;
+  filters = get_member (codes "filters") ms;
+  dimension_separator = get_member (codes "dimension_separator") ms;
+  attributes = get_member (codes "attributes") ms;
+}
+
+-- each member as it reads, if it does
+pub record DraftV2Data : Type 0 where
+  pub shape : Option (List ℕ)
+  pub chunks : Option (List ℕ)
+  pub dtype : Option (List ℕ)
+  pub compressor : Option Data
+  pub fill_value : Option Data
+  pub order : Option ArrayMetadataV2Order
+  pub filters : Option Data
+  pub dimension_separator : Option ChunkKeySeparator
+  pub attributes : Option Members
+
+unfoldable pub draft_of_v2 : PartsV2Data → DraftV2Data
+draft_of_v2 p = record {
+  shape = option_and_then numbers_of p.shape;
+  chunks = list_in non_zero_size p.chunks;
+  dtype = option_and_then as_str p.dtype;
+  compressor = p.compressor;
+  fill_value = p.fill_value;
+  order = option_and_then chunk_order_of p.order;
+  filters = p.filters;
+  dimension_separator = dimension_separator_in p.dimension_separator;
+  attributes = members_in p.attributes;
+}
+
+-- the document, if each member reads
+unfoldable pub assembled_v2 : DraftV2Data → Option DocumentV2Data
+assembled_v2 w = do
+  s ← w.shape
+  c ← w.chunks
+  d ← w.dtype
+  z ← w.compressor
+  f ← w.fill_value
+  o ← w.order
+  l ← w.filters
+  p ← w.dimension_separator
+  a ← w.attributes
+  Some (record { shape = s; chunks = c; dtype = d; compressor = z; fill_value = f; order = o; filters = l; dimension_separator = p; attributes = a })
+
+-- the document of these members; other members are ignored
+abbrev pub document_v2_from : PartsV2Data → Option DocumentV2Data
+document_v2_from p = if reads_as_number 2 p.zarr_format then assembled_v2 (draft_of_v2 p) else None
+
+-- the document that a JSON value reads as
+abbrev pub document_v2_of : Data → Option DocumentV2Data
+document_v2_of d = option_and_then (λ ms. document_v2_from (parts_of_v2 ms)) (as_object d)
+
+-- the same for a value without left-out numbers: numbers that are not an integer of 64 bits
+abbrev pub plain_document_v2_of : Data → Option DocumentV2Data
+plain_document_v2_of d = if has_float d then None else document_v2_of d
+
+-- the JSON value that bytes read as
+unfoldable pub value_said : List ℕ → Option Data
+value_said bytes = if is_utf8 bytes then read bytes else None
+
+-- the document that the bytes of `.zarray` read as
+abbrev pub document_v2_said : List ℕ → Option DocumentV2Data
+document_v2_said bytes = option_and_then plain_document_v2_of (value_said bytes)
+
+-- the members of an object without left-out numbers
+abbrev pub plain_members_of : Data → Option Members
+plain_members_of d = if has_float d then None else as_object d
+
+-- the attributes that the bytes of `.zattrs` read as
+abbrev pub attributes_said : List ℕ → Option Members
+attributes_said bytes = option_and_then plain_members_of (value_said bytes)
+
+-- ---- written
+
+abbrev pub order_data : ArrayMetadataV2Order → Data
+order_data C = string (codes "C")
+order_data F = string (codes "F")
+
+-- the members of a document
+abbrev pub document_v2_members : Option Data → DocumentV2Data → List (List ℕ × Option Data)
+document_v2_members attributes m =
+    (codes "attributes", attributes) ∷ (codes "dimension_separator", Some (separator_data m.dimension_separator)) ∷ (codes "filters", Some m.filters) ∷ (codes "order", Some (order_data m.order)) ∷ (codes "fill_value", Some m.fill_value) ∷ (codes "compressor", Some m.compressor) ∷ (codes "dtype", Some (string m.dtype)) ∷ (codes "chunks", Some (numbers_data m.chunks)) ∷ (codes "shape", Some (numbers_data m.shape)) ∷ (codes "zarr_format", Some (number_data 2)) ∷ []
+
+unfoldable pub data_v2_with : Option Data → DocumentV2Data → Data
+data_v2_with attributes m = object (put_all (document_v2_members attributes m) no_members)
+
+-- the JSON value of a document; empty attributes are not written
+abbrev pub data_of_v2 : DocumentV2Data → Data
+data_of_v2 m = data_v2_with (object_data m.attributes) m
+
+-- the pretty text of a document: its tokens are laid out over indented lines, its members stand in the order of the
+-- tree, it reads as the tree, unless that nests too deep, and as the document, unless the tree has a left-out number
+pub record IsDocumentV2Text (m : DocumentV2Data) (bytes : List ℕ) : Type 0 where
+  -- a line for each item and member, two spaces deeper for each bracket
+  pub layout : bytes ≡ pretty (tokens bytes)
+  pub utf8 : IsUtf8 bytes
+  -- each member and item of the tree once and in order, its integers in decimal
+  pub order : IsInOrder bytes (data_of_v2 m)
+  pub reads_tree : depth (data_of_v2 m) ≤ max_depth → read bytes ≡ Some (data_of_v2 m)
+  pub reads_back : depth (data_of_v2 m) ≤ max_depth → has_float (data_of_v2 m) ≡ false → document_v2_said bytes ≡ Some m
+
+-- the pretty text of the attributes: its tokens are laid out over indented lines, the attributes stand in their order,
+-- it reads as their tree, unless that nests too deep, and as the attributes, unless the tree has a left-out number
+pub record IsAttributesText (ms : Members) (bytes : List ℕ) : Type 0 where
+  -- a line for each item and member, two spaces deeper for each bracket
+  pub layout : bytes ≡ pretty (tokens bytes)
+  pub utf8 : IsUtf8 bytes
+  -- each attribute once and in order, its integers in decimal
+  pub order : IsInOrder bytes (object ms)
+  pub reads_tree : depth (object ms) ≤ max_depth → read bytes ≡ Some (object ms)
+  pub reads_back : depth (object ms) ≤ max_depth → has_float (object ms) ≡ false → attributes_said bytes ≡ Some ms

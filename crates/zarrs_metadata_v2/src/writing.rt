@@ -1,0 +1,76 @@
+//! Writing a V2 document as a JSON value, member by member.
+ghost use Rattle.std.specs.Prelude.{◌≡◌, map, option_map, IfOk, Some};
+ghost use Rattle.std.specs.Int.NonZero.{non_zero_u64_get};
+ghost use Rattle.serde_json.specs.View.{view};
+ghost use Rattle.zarrs_metadata.specs.Lists.{numbers_data};
+ghost use Rattle.zarrs_metadata_v2.specs.Document.{document_v2_of, without_attributes, data_v2_with, data_of_v2};
+ghost use Rattle.zarrs_metadata_v2.specs.View.{document_v2_view};
+
+use crate::document::ArrayMetadataV2;
+use serde_json::{Map, Value};
+use std::alloc::{AllocError, Global};
+use std::num::NonZeroU64;
+use zarrs_metadata::numbers_value;
+use zarrs_metadata_v3::members::{object_value, put_member};
+
+/// Returns the JSON value of a document.
+pub(crate) fn document_value(alloc: Global, document: &ArrayMetadataV2) -> Result<Value, AllocError>
+    ensures written { IfOk result (λ v. view v ≡ data_of_v2 (document_v2_view document.now)) }
+    ensures reads_back { IfOk result (λ v. document_v2_of (view v)
+        ≡ Some (document_v2_view document.now)) }
+{
+    let attributes = object_value(&document.attributes)?;
+    value_with(alloc, document, attributes)
+}
+
+/// Returns the JSON value of a document without its attributes.
+pub(crate) fn array_value(alloc: Global, document: &ArrayMetadataV2) -> Result<Value, AllocError>
+    ensures written { IfOk result (λ v. view v
+        ≡ data_of_v2 (without_attributes (document_v2_view document.now))) }
+    ensures reads_back { IfOk result (λ v. document_v2_of (view v)
+        ≡ Some (without_attributes (document_v2_view document.now))) }
+{
+    value_with(alloc, document, None)
+}
+
+/// Returns the JSON value of a document with these attributes.
+fn value_with(
+    alloc: Global,
+    document: &ArrayMetadataV2,
+    attributes: Option<Value>,
+) -> Result<Value, AllocError>
+    ensures { IfOk result (λ v. view v
+        ≡ data_v2_with (option_map view attributes) (document_v2_view document.now)) }
+{
+    let mut members = Map::new(alloc);
+    put_member(&mut members, alloc, "zarr_format", Some(Value::from(2u64)))?;
+    let shape = numbers_value(alloc, document.shape.as_slice())?;
+    put_member(&mut members, alloc, "shape", Some(shape))?;
+    let chunks = sizes_value(alloc, &document.chunks)?;
+    put_member(&mut members, alloc, "chunks", Some(chunks))?;
+    let dtype = document.dtype.to_value(alloc)?;
+    put_member(&mut members, alloc, "dtype", Some(dtype))?;
+    let compressor = document.compressor.clone()?;
+    put_member(&mut members, alloc, "compressor", Some(compressor))?;
+    let fill_value = document.fill_value.to_value(alloc)?;
+    put_member(&mut members, alloc, "fill_value", Some(fill_value))?;
+    let order = document.order.to_value(alloc)?;
+    put_member(&mut members, alloc, "order", Some(order))?;
+    let filters = document.filters.clone()?;
+    put_member(&mut members, alloc, "filters", Some(filters))?;
+    let separator = document.dimension_separator.to_value(alloc)?;
+    put_member(&mut members, alloc, "dimension_separator", Some(separator))?;
+    put_member(&mut members, alloc, "attributes", attributes)?;
+    Ok(Value::Object(members))
+}
+
+/// Returns the list of these sizes as a value.
+pub(crate) fn sizes_value(alloc: Global, sizes: &Vec<NonZeroU64>) -> Result<Value, AllocError>
+    ensures { IfOk result (λ v. view v ≡ numbers_data (map non_zero_u64_get sizes.now.items)) }
+{
+    let mut values = Vec::with_capacity(alloc, sizes.len())?;
+    for size in sizes {
+        values.push(Value::from(size.get()))?;
+    }
+    Ok(Value::Array(values))
+}

@@ -1,0 +1,215 @@
+-- The V3 document of an array (Zarr V3 core specification, array metadata), and the JSON values that read as one.
+use Rattle.std.specs.Prelude.{◌≡◌, ◌≤◌, ℕ, List, [], ◌∷◌, ◌&&◌, map, Bool, true, false, codes, if◌then◌else◌, Option}
+use Rattle.std.specs.Prelude.{Some, None, option_map, option_and_then}
+use Rattle.std.specs.Str.{is_utf8, IsUtf8}
+use Rattle.json.specs.Lex.{tokens}
+use Rattle.json.specs.Layout.{pretty}
+use Rattle.serde_json.specs.Data.{Data, depth, null, boolean, number, string, array, object, Members, no_members, member}
+use Rattle.serde_json.specs.Find.{get_member, as_object}
+use Rattle.serde_json.specs.Written.{has_float, IsInOrder}
+use Rattle.serde_json.specs.Read.{read, max_depth}
+use Rattle.zarrs_metadata.specs.Members.{besides}
+use Rattle.zarrs_metadata.specs.Lists.{all_of, list_data, numbers_of, numbers_data, number_data}
+use Rattle.zarrs_metadata.specs.Extension.{◌>>=◌, ExtensionData, normal, extension_of, extension_data}
+use Rattle.zarrs_metadata_v3.specs.Members.{reads_as_text, reads_as_number, list_in, members_in, object_data, put_all}
+use Rattle.zarrs_metadata_v3.specs.Fields.{FieldData, fields_of, fields_data, normal_fields}
+
+-- the metadata of an array; a dimension may have no name
+pub record DocumentData : Type 0 where
+  pub shape : List ℕ
+  pub data_type : ExtensionData
+  pub chunk_grid : ExtensionData
+  pub chunk_key_encoding : ExtensionData
+  pub fill_value : Data
+  pub codecs : List ExtensionData
+  pub attributes : Members
+  pub storage_transformers : List ExtensionData
+  pub dimension_names : Option (List (Option (List ℕ)))
+  pub additional_fields : List (List ℕ × FieldData)
+
+-- the name and the configuration of `default` keys with `/`
+abbrev pub default_keys : ExtensionData
+default_keys =
+    record { name = codes "default"; configuration = Some (member (codes "separator") (string (codes "/")) no_members); must_understand = true }
+
+-- the metadata of these parts with `default` keys, and nothing that may be absent
+abbrev pub plain_document : List ℕ → ExtensionData → ExtensionData → Data → List ExtensionData → DocumentData
+plain_document shape chunk_grid data_type fill_value codecs = record {
+  shape = shape;
+  data_type = data_type;
+  chunk_grid = chunk_grid;
+  chunk_key_encoding = default_keys;
+  fill_value = fill_value;
+  codecs = codecs;
+  attributes = no_members;
+  storage_transformers = [];
+  dimension_names = None;
+  additional_fields = [];
+}
+
+-- ---- read
+
+-- the members of a document, by name, and the others
+pub record PartsData : Type 0 where
+  pub zarr_format : Option Data
+  pub node_type : Option Data
+  pub shape : Option Data
+  pub data_type : Option Data
+  pub chunk_grid : Option Data
+  pub chunk_key_encoding : Option Data
+  pub fill_value : Option Data
+  pub codecs : Option Data
+  pub attributes : Option Data
+  pub storage_transformers : Option Data
+  pub dimension_names : Option Data
+  pub others : Members
+
+abbrev pub document_names : List (List ℕ)
+document_names =
+    codes "dimension_names" ∷ codes "storage_transformers" ∷ codes "attributes" ∷ codes "codecs" ∷ codes "fill_value" ∷ codes "chunk_key_encoding" ∷ codes "chunk_grid" ∷ codes "data_type" ∷ codes "shape" ∷ codes "node_type" ∷ codes "zarr_format" ∷ []
+
+unfoldable pub parts_of : Members → PartsData
+parts_of ms = record {
+  zarr_format = get_member (codes "zarr_format") ms;
+  node_type = get_member (codes "node_type") ms;
+  shape = get_member (codes "shape") ms;
+  data_type = get_member (codes "data_type") ms;
+  chunk_grid = get_member (codes "chunk_grid") ms;
+  chunk_key_encoding = get_member (codes "chunk_key_encoding") ms;
+  fill_value = get_member (codes "fill_value") ms;
+  codecs = get_member (codes "codecs") ms;
+  attributes = get_member (codes "attributes") ms;
+  storage_transformers = get_member (codes "storage_transformers") ms;
+  dimension_names = get_member (codes "dimension_names") ms;
+  others = besides document_names ms;
+}
+
+-- a text, or null for a dimension without a name
+abbrev pub dimension_name_of : Data → Option (Option (List ℕ))
+dimension_name_of null = Some None
+dimension_name_of (string text) = Some (Some text)
+dimension_name_of (boolean b) = None
+dimension_name_of (number n) = None
+dimension_name_of (array ds) = None
+dimension_name_of (object ms) = None
+
+-- absent transformers are none
+abbrev pub transformers_in : Option Data → Option (List ExtensionData)
+transformers_in None = Some []
+transformers_in (Some d) = list_in extension_of (Some d)
+
+-- null counts as absent
+abbrev pub names_in : Option Data → Option (Option (List (Option (List ℕ))))
+names_in None = Some None
+names_in (Some null) = Some None
+names_in (Some (array ds)) = option_map Some (all_of dimension_name_of ds)
+names_in (Some (boolean b)) = None
+names_in (Some (number n)) = None
+names_in (Some (string text)) = None
+names_in (Some (object ms)) = None
+
+-- each member as it reads, if it does
+pub record DraftData : Type 0 where
+  pub shape : Option (List ℕ)
+  pub data_type : Option ExtensionData
+  pub chunk_grid : Option ExtensionData
+  pub chunk_key_encoding : Option ExtensionData
+  pub fill_value : Option Data
+  pub codecs : Option (List ExtensionData)
+  pub attributes : Option Members
+  pub storage_transformers : Option (List ExtensionData)
+  pub dimension_names : Option (Option (List (Option (List ℕ))))
+  pub additional_fields : List (List ℕ × FieldData)
+
+unfoldable pub draft_of : PartsData → DraftData
+draft_of p = record {
+  shape = option_and_then numbers_of p.shape;
+  data_type = option_and_then extension_of p.data_type;
+  chunk_grid = option_and_then extension_of p.chunk_grid;
+  chunk_key_encoding = option_and_then extension_of p.chunk_key_encoding;
+  fill_value = p.fill_value;
+  codecs = list_in extension_of p.codecs;
+  attributes = members_in p.attributes;
+  storage_transformers = transformers_in p.storage_transformers;
+  dimension_names = names_in p.dimension_names;
+  additional_fields = fields_of p.others;
+}
+
+-- the document, if each member reads
+unfoldable pub assembled : DraftData → Option DocumentData
+assembled w = do
+  s ← w.shape
+  d ← w.data_type
+  g ← w.chunk_grid
+  k ← w.chunk_key_encoding
+  f ← w.fill_value
+  c ← w.codecs
+  a ← w.attributes
+  t ← w.storage_transformers
+  n ← w.dimension_names
+  Some (record { shape = s; data_type = d; chunk_grid = g; chunk_key_encoding = k; fill_value = f; codecs = c; attributes = a; storage_transformers = t; dimension_names = n; additional_fields = w.additional_fields })
+
+-- the members are those of a V3 array
+abbrev pub is_array : PartsData → Bool
+is_array p = reads_as_number 3 p.zarr_format && reads_as_text (codes "array") p.node_type
+
+abbrev pub document_from : PartsData → Option DocumentData
+document_from p = if is_array p then assembled (draft_of p) else None
+
+-- the document that a JSON value reads as
+abbrev pub document_of : Data → Option DocumentData
+document_of d = option_and_then (λ ms. document_from (parts_of ms)) (as_object d)
+
+-- the same for a value without left-out numbers: numbers that are not an integer of 64 bits
+abbrev pub plain_document_of : Data → Option DocumentData
+plain_document_of d = if has_float d then None else document_of d
+
+-- the document that bytes read as
+unfoldable pub document_said : List ℕ → Option DocumentData
+document_said bytes = if is_utf8 bytes then option_and_then plain_document_of (read bytes) else None
+
+-- ---- written
+
+abbrev pub dimension_name_data : Option (List ℕ) → Data
+dimension_name_data None = null
+dimension_name_data (Some text) = string text
+
+abbrev pub transformers_data : List ExtensionData → Option Data
+transformers_data [] = None
+transformers_data (e ∷ es) = Some (list_data extension_data (e ∷ es))
+
+-- the members of a document; empty attributes, empty transformers and absent names are not written
+abbrev pub document_members : DocumentData → List (List ℕ × Option Data)
+document_members m =
+    (codes "dimension_names", option_map (list_data dimension_name_data) m.dimension_names) ∷ (codes "storage_transformers", transformers_data m.storage_transformers) ∷ (codes "attributes", object_data m.attributes) ∷ (codes "codecs", Some (list_data extension_data m.codecs)) ∷ (codes "fill_value", Some m.fill_value) ∷ (codes "chunk_key_encoding", Some (extension_data m.chunk_key_encoding)) ∷ (codes "chunk_grid", Some (extension_data m.chunk_grid)) ∷ (codes "data_type", Some (extension_data m.data_type)) ∷ (codes "shape", Some (numbers_data m.shape)) ∷ (codes "node_type", Some (string (codes "array"))) ∷ (codes "zarr_format", Some (number_data 3)) ∷ []
+
+-- the JSON value of a document: a field under one of its own names is not written
+unfoldable pub data_of_document : DocumentData → Data
+data_of_document m = object (put_all (document_members m) (besides document_names (fields_data m.additional_fields)))
+
+-- an empty configuration counts as none
+abbrev pub without_empty_configurations : DocumentData → DocumentData
+without_empty_configurations m = record m {
+  data_type = normal m.data_type;
+  chunk_grid = normal m.chunk_grid;
+  chunk_key_encoding = normal m.chunk_key_encoding;
+  codecs = map normal m.codecs;
+  storage_transformers = map normal m.storage_transformers;
+}
+
+-- a document as it is read again
+abbrev pub normal_document : DocumentData → DocumentData
+normal_document m = record (without_empty_configurations m) {
+  additional_fields = normal_fields document_names m.additional_fields;
+}
+
+-- the pretty text of a document: its tokens are laid out over indented lines, its members stand in the order of the
+-- tree, it reads as the tree, unless that nests too deep, and as the document, unless the tree has a left-out number
+pub record IsDocumentText (m : DocumentData) (bytes : List ℕ) : Type 0 where
+  -- a line for each item and member, two spaces deeper for each bracket
+  pub layout : bytes ≡ pretty (tokens bytes)
+  pub utf8 : IsUtf8 bytes
+  -- each member and item of the tree once and in order, its integers in decimal
+  pub order : IsInOrder bytes (data_of_document m)
+  pub reads_tree : depth (data_of_document m) ≤ max_depth → read bytes ≡ Some (data_of_document m)
+  pub reads_back : depth (data_of_document m) ≤ max_depth → has_float (data_of_document m) ≡ false → document_said bytes ≡ Some (normal_document m)

@@ -1,5 +1,0 @@
-use Rattle.zarrs_steps.proofs.LawProofs.{canonical_decodes}
-use Rattle.zarrs_steps.proofs.laws.canonical_stores_decode.Goals as goal
-
-pub returns : goal.returns
-returns c = canonical_decodes
