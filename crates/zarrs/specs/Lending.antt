@@ -24,7 +24,9 @@ abbrev pub LendsAttributesIn : MutBor ArrayMetadata → MutBor map_row.Denot →
 LendsAttributesIn metadata attributes = Lends metadata_row map_row metadata attributes (with_attributes metadata.now)
 
 -- no part of an array is made of its attributes
-pub still_says : (m : ArrayMetadata) (attributes : map_row.Denot) (parts : Meaning) → Says (metadata_view m) parts → Says (metadata_view (with_attributes m attributes)) parts
+pub still_says : (m : ArrayMetadata) (attributes : map_row.Denot) (parts : Meaning)
+    → Says (metadata_view m) parts
+    → Says (metadata_view (with_attributes m attributes)) parts
 still_says (V3 m) attributes parts says = ap result_ok (attributes_of_v3_say_nothing (document_view m) (members_view attributes.entries)) ∙ says
 still_says (V2 m) attributes parts says = ap result_ok (attributes_say_nothing (document_v2_view m) (members_view attributes.entries)) ∙ says
 

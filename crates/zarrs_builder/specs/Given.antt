@@ -44,7 +44,8 @@ fill_given f = filling_given f.given
 -- ---- names of dimensions
 
 -- a list of fields, one for each item that is drawn of this
-pub record AreGiven {I S D F : Type 0} (starts : I → S → Type 0) (steps : S → Option D → S → Type 0) (gives : D → F → Type 0) (source : I) (fields : List F) : Type 0 where
+pub record AreGiven {I S D F : Type 0} (starts : I → S → Type 0) (steps : S → Option D → S → Type 0) (gives : D → F → Type 0)
+    (source : I) (fields : List F) : Type 0 where
   pub iterator : S
   pub items : List D
   pub started : starts source iterator

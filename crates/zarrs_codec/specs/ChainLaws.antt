@@ -84,11 +84,13 @@ with_places-lawful places m law inside = record {
     same (Some b) k f s = refl
 
     updates : (empty : Bool) (k : Kind) (f : Cell) (s : List ℕ) (stored : Option (List ℕ)) (part : Box) (given held : List Cell) (change : PartialChange)
-        → is_value k f ≡ true → are_values k given ≡ true → length given ≡ position_count part.shape → length part.start ≡ length s → length part.shape ≡ length s
+        → is_value k f ≡ true → are_values k given ≡ true → length given ≡ position_count part.shape
+        → length part.start ≡ length s → length part.shape ≡ length s
         → m.partly_encoded empty k f s stored part given ≡ Some change → chunk_cells m k f s stored ≡ Some held
         → IsUpdated s part given held (chunk_cells (with_places places m) k f s (after change stored))
     updates empty k f s stored part given held change filled values count start shape made is =
-        subst (IsUpdated s part given held) (sym (same (after change stored) k f s)) (law.partly_updates empty k f s stored part given held change filled values count start shape made is)
+        subst (IsUpdated s part given held) (sym (same (after change stored) k f s))
+        (law.partly_updates empty k f s stored part given held change filled values count start shape made is)
 
 -- the cells of a chunk behind no codec
 pub same_cells : (m : ChainMeaning) (k : Kind) (f : Cell) (s : List ℕ) (stored : Option (List ℕ))
@@ -102,7 +104,8 @@ same_cells m k f s (Some b) = go (m.decoded k f s b)
 
 -- parts are written as by the chain `m` alone, if there is no codec before it
 module _ (m : ChainMeaning) (law : IsLawfulChain m) where
-  partly : (codecs : List ArrayToArrayCodec) (empty : Bool) (k : Kind) (f : Cell) (s : List ℕ) (stored : Option (List ℕ)) (part : Box) (given held : List Cell) (change : PartialChange)
+  partly : (codecs : List ArrayToArrayCodec) (empty : Bool) (k : Kind) (f : Cell) (s : List ℕ)
+      (stored : Option (List ℕ)) (part : Box) (given held : List Cell) (change : PartialChange)
       → is_value k f ≡ true → are_values k given ≡ true → length given ≡ position_count part.shape → length part.start ≡ length s → length part.shape ≡ length s
       → (behind codecs m).partly_encoded empty k f s stored part given ≡ Some change → chunk_cells (behind codecs m) k f s stored ≡ Some held
       → IsUpdated s part given held (chunk_cells (behind codecs m) k f s (after change stored))
@@ -141,14 +144,17 @@ shard_cells : (sub : List ℕ) (m : ChainMeaning) (empty : Bool) (k : Kind) (f :
 shard_cells sub m empty k f s None = refl
 shard_cells sub m empty k f s (Some b) = refl
 
-partly_sharded : (at_start : Bool) (sub : List ℕ) (m : ChainMeaning) (law : IsLawfulChain m) (empty : Bool) (k : Kind) (f : Cell) (s : List ℕ) (stored : Option (List ℕ)) (part : Box) (given held : List Cell) (change : PartialChange)
+partly_sharded : (at_start : Bool) (sub : List ℕ) (m : ChainMeaning) (law : IsLawfulChain m)
+    (empty : Bool) (k : Kind) (f : Cell) (s : List ℕ)
+    (stored : Option (List ℕ)) (part : Box) (given held : List Cell) (change : PartialChange)
     → is_value k f ≡ true → are_values k given ≡ true → length given ≡ position_count part.shape → length part.start ≡ length s → length part.shape ≡ length s
     → (sharded at_start sub m).partly_encoded empty k f s stored part given ≡ Some change → chunk_cells (sharded at_start sub m) k f s stored ≡ Some held
     → IsUpdated s part given held (chunk_cells (sharded at_start sub m) k f s (after change stored))
 partly_sharded true sub m law empty k f s stored part given held change filled values count start shape made is = cc
 partly_sharded false sub m law empty k f s stored part given held change filled values count start shape made is =
     subst (IsUpdated s part given held) (sym (shard_cells sub m empty k f s (after change stored)))
-    (shard-updates (subchunk_meaning m empty k f sub) k f s sub (subchunk-lawful sub m law empty k f) empty stored part given held change filled values count start shape made
+    (shard-updates (subchunk_meaning m empty k f sub) k f s sub (subchunk-lawful sub m law empty k f)
+    empty stored part given held change filled values count start shape made
     (sym (shard_cells sub m empty k f s stored) ∙ is))
 
 module _ (at_start : Bool) (sub : List ℕ) (m : ChainMeaning) (law : IsLawfulChain m) where
@@ -175,7 +181,10 @@ codec-lawful (codec.Sharding' p sub at before last after) =
     sharded-lawful (is_at_start at) (sizes_of sub.items) (behind before.items (codec_meaning last))
     (behind-lawful (codec_meaning last) (codec-lawful last) before.items)
 codec-lawful (codec.Bytes bytes) =
-    with_places-lawful cell_places (whole_chunk (leaf_meaning (codec.Bytes bytes))) (whole_chunk-lawful (leaf_meaning (codec.Bytes bytes)) (leaf-lawful (codec.Bytes bytes))) cell_places-inside
+    with_places-lawful cell_places
+    (whole_chunk (leaf_meaning (codec.Bytes bytes)))
+    (whole_chunk-lawful (leaf_meaning (codec.Bytes bytes)) (leaf-lawful (codec.Bytes bytes)))
+    cell_places-inside
 codec-lawful c = whole_chunk-lawful (leaf_meaning c) (leaf-lawful c)
 
 pub chain-lawful : (chain : CodecChain) → IsLawfulChain (chain_meaning chain)

@@ -1,5 +1,6 @@
 -- A part of a chunk's cells written into its shard, over the chain of the subchunks.
-use Rattle.std.specs.Prelude.{◌≡◌, ◌⊎◌, ℕ, ◌*◌, ◌<◌, ◌≤◌, ◌^◌, Bool, true, Option, None, Some, List, [], length, option_map, slice_index_or, unwrap_or, if◌then◌else◌}
+use Rattle.std.specs.Prelude.{◌≡◌, ◌⊎◌, ℕ, ◌*◌, ◌<◌, ◌≤◌, ◌^◌, Bool, true}
+use Rattle.std.specs.Prelude.{Option, None, Some, List, [], length, option_map, slice_index_or, unwrap_or, if◌then◌else◌}
 use Rattle.zarrs_types.specs.Kind.{Kind}
 use Rattle.zarrs_types.specs.Cell.{Cell, held_size}
 use Rattle.zarrs_array_bytes.specs.ArrayData.{ArrayData}

@@ -17,10 +17,3 @@ squeeze_append (n ∷ xs) x =
 
 pub squeeze_more : (s : List ℕ) (i : ℕ) → i < length s → squeeze_shape (take (i + 1) s) ≡ cond (eqb (get_or s i 0) 1) (squeeze_shape (take i s)) (squeeze_shape (take i s) ++ get_or s i 0 ∷ [])
 squeeze_more s i lt = ap squeeze_shape (take_more s i 0 lt) ∙ squeeze_append (take i s) (get_or s i 0)
-
-pub not_one : (x : ℕ) → (x ≡ 1 → ⊥) → eqb x 1 ≡ false
-not_one x differ = go (eqb x 1) refl
-  where
-    go : (b : Bool) → eqb x 1 ≡ b → b ≡ false
-    go true e = absurd (differ (eqb-true x 1 e))
-    go false e = refl

@@ -107,7 +107,8 @@ reshaped-lawful entries =
     keeping_cells-lawful _ (reshape_shape entries)
     (λ s fit.
     eqb-true (position_count (reshape_shape entries s)) (position_count s)
-    (and_parts (list_all (names_within s) entries && list_all (λ n. nat_lt n (2 ^ 64)) (reshape_shape entries s) && nat_lt (position_count s) (2 ^ 64)) _ fit).1)
+    (and_parts (list_all (names_within s) entries && list_all (λ n. nat_lt n (2 ^ 64)) (reshape_shape entries s)
+    && nat_lt (position_count s) (2 ^ 64)) _ fit).1)
 
 squeeze_step : (n : ℕ) (s : List ℕ) (b : Bool) → eqb n 1 ≡ b → position_count (squeeze_shape s) ≡ position_count s
     → position_count (cond b (squeeze_shape s) (n ∷ squeeze_shape s)) ≡ n * position_count s

@@ -93,7 +93,8 @@ range_has d j lt =
 module _ (order : List ℕ) (is : is_order order ≡ true) where
   pub order_has : (j : ℕ) → j < length order → list_any (λ k. eqb k j) order ≡ true
   order_has j lt =
-      let any = AllPass-from_list_all (λ x. list_any (λ k. eqb k x) order) (range_with_len 0 (length order)) is j 0 (omega (arith, length-range_with_len 0 (length order))) in
+      let any = AllPass-from_list_all (λ x. list_any (λ k. eqb k x) order)
+      (range_with_len 0 (length order)) is j 0 (omega (arith, length-range_with_len 0 (length order))) in
       let z : 0 + j ≡ j = omega arith in
       ap (λ x. list_any (λ k. eqb k x) order) (sym (get_or-range_with_len 0 (length order) j 0 lt ∙ z)) ∙ any
 

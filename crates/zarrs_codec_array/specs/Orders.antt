@@ -34,9 +34,3 @@ abbrev pub dot_product : List ℕ → List ℕ → ℕ
 dot_product [] p = 0
 dot_product (a ∷ steps) [] = 0
 dot_product (a ∷ steps) (i ∷ p) = i * a + dot_product steps p
-
--- the numbers, one for each dimension of the shape, except those of dimensions of extent 1
-abbrev pub without_ones : List ℕ → List ℕ → List ℕ
-without_ones [] numbers = []
-without_ones (n ∷ shape) [] = []
-without_ones (n ∷ shape) (a ∷ numbers) = if n == 1 then without_ones shape numbers else a ∷ without_ones shape numbers

@@ -4,7 +4,6 @@ ghost use Rattle.std.specs.Prelude.{true, false, ◌||◌, ◌==◌, ◌↔◌, 
 ghost use Rattle.std.specs.List.{list_all};
 ghost use Rattle.zarrs_subset.specs.Boxes.{position_count};
 ghost use Rattle.zarrs_codec_array.specs.Orders.{is_order, permuted, inverse, strides, scaled};
-ghost use Rattle.zarrs_codec_array.specs.Orders.{without_ones};
 
 use std::alloc::{AllocError, Global};
 
@@ -90,24 +89,6 @@ pub(crate) fn strides(alloc: Global, shape: &[u64], size: usize) -> Result<Vec<u
         axis -= 1;
         made[axis] = stride;
         stride *= shape[axis];
-    }
-    Ok(made)
-}
-
-/// The numbers, one for each dimension of the shape, except those of dimensions of extent 1.
-pub(crate) fn without_ones(
-    alloc: Global,
-    shape: &[u64],
-    numbers: &[u64],
-) -> Result<Vec<u64>, AllocError>
-    requires { length shape.now ≡ length numbers.now }
-    ensures { IfOk result (λ made. made.items ≡ without_ones shape.now numbers.now) }
-{
-    let mut made = Vec::new(alloc);
-    for axis in 0..shape.len() {
-        if shape[axis] != 1 {
-            made.push(numbers[axis])?;
-        }
     }
     Ok(made)
 }

@@ -1,7 +1,7 @@
 //! The codec `transpose` (Zarr V3 core specification, "Transpose codec").
 ghost use Rattle.std.specs.Prelude.{◌≡◌, ◌*◌, ◌<◌, ◌^◌, true, None, Some, [], length, map, slice_index_or};
 ghost use Rattle.std.specs.Prelude.{IfOk, option_map, if◌then◌else◌};
-ghost use Rattle.zarrs_subset.specs.Boxes.{position_count};
+ghost use Rattle.zarrs_subset.specs.Boxes.{position_count, without_ones};
 ghost use Rattle.zarrs_data_type.specs.ArrayData.{data_of};
 ghost use Rattle.zarrs_data_type.specs.Cells.{HasCells, fits};
 ghost use Rattle.zarrs_data_type.specs.Kind.{kind};
@@ -9,13 +9,13 @@ ghost use Rattle.zarrs_codec_array.specs.Arrays.{transposed};
 ghost use Rattle.zarrs_codec_array.specs.Gathered.{IsGathered, IsTaken, IsWay, walked};
 ghost use Rattle.zarrs_codec_array.specs.Gathered.{IsEncodedArray, IsDecodedArray, encoded_shape};
 ghost use Rattle.zarrs_codec_array.specs.Orders.{is_order, permuted, strides, scaled};
-ghost use Rattle.zarrs_codec_array.specs.Orders.{without_ones};
 
 use crate::gather::{gather, push_strings};
 use crate::lists;
 use std::alloc::{AllocError, Global};
 use std::borrow::CowSlice;
 use zarrs_data_type::{ArrayBytes, ArrayBytesVariableLength, DataType, VariableLengthBuilder};
+use zarrs_subset::without_ones;
 
 /// The codec `transpose`: dimension i of the encoded array is dimension `order[i]` of the decoded one.
 #[derive(Debug, Drop)]
@@ -182,8 +182,8 @@ fn walk_over(
 {
     let strides = lists::strides(alloc, source, size)?;
     let steps = lists::permuted(alloc, way, &strides)?;
-    let extents = lists::without_ones(alloc, target, target)?;
-    let steps = lists::without_ones(alloc, target, &steps)?;
+    let extents = without_ones(alloc, target, target)?;
+    let steps = without_ones(alloc, target, &steps)?;
     Ok(Walk { extents, steps })
 }
 

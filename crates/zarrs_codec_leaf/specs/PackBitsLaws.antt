@@ -146,7 +146,9 @@ pub flag_values : (k : Kind) (flags : List ℕ) → is_bool k ≡ true → ((i d
     → are_values k (map flag_cell flags) ≡ true
 flag_values k [] is each = refl
 flag_values type.bool (f ∷ flags) is each =
-    and_from (is_value type.bool (flag_cell f)) (are_values type.bool (map flag_cell flags)) (lt-ltb f 2 (each 0 0 (omega arith))) (flag_values type.bool flags is (λ i d lt. each (suc i) d (omega arith)))
+    and_from (is_value type.bool (flag_cell f)) (are_values type.bool (map flag_cell flags))
+    (lt-ltb f 2 (each 0 0 (omega arith)))
+    (flag_values type.bool flags is (λ i d lt. each (suc i) d (omega arith)))
 flag_values k (f ∷ flags) is each = absurd (false≢true is)
 
 again : (k : Kind) (cs : List Cell) (b : List ℕ) → are_values k cs ≡ true → packbits_meaning.encoded k cs ≡ Some b

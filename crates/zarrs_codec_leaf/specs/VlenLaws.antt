@@ -144,8 +144,10 @@ numbers-again : (ns : List ℕ) → ((k : ℕ) → k < length ns → get_or ns k
 numbers-again [] small = refl
 numbers-again (n ∷ ns) small =
     let rest = flat_map (to_le_bytes w64) ns in
-    ap (λ x. from_le_bytes w64 x ∷ map (from_le_bytes w64) (first_chunks 8 (length ns) (drop 8 (to_le_bytes w64 n ++ rest)))) (take_at (to_le_bytes w64 n) rest 8 (length-le8 n))
-    ∙ ap (λ x. x ∷ map (from_le_bytes w64) (first_chunks 8 (length ns) (drop 8 (to_le_bytes w64 n ++ rest)))) (from_le_bytes-to_le_bytes_8 n (small 0 (omega arith)))
+    ap (λ x. from_le_bytes w64 x ∷ map (from_le_bytes w64) (first_chunks 8 (length ns) (drop 8 (to_le_bytes w64 n ++ rest))))
+    (take_at (to_le_bytes w64 n) rest 8 (length-le8 n))
+    ∙ ap (λ x. x ∷ map (from_le_bytes w64) (first_chunks 8 (length ns) (drop 8 (to_le_bytes w64 n ++ rest))))
+    (from_le_bytes-to_le_bytes_8 n (small 0 (omega arith)))
     ∙ ap (λ l. n ∷ map (from_le_bytes w64) (first_chunks 8 (length ns) l)) (drop_at (to_le_bytes w64 n) rest 8 (length-le8 n))
     ∙ ap (λ l. n ∷ l) (numbers-again ns (λ k lt. small (suc k) (omega arith)))
 

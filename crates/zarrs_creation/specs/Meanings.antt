@@ -20,7 +20,8 @@ use Rattle.zarrs_types.specs.declared.data_type.DataType.{DataType}
 use Rattle.zarrs_codec.specs.Metadata.{ChainData, chain_data, chain_said}
 use Rattle.zarrs_codec.specs.declared.chain.CodecChain.{CodecChain}
 use Rattle.zarrs_options.specs.Options.{transformers_said}
-use Rattle.zarrs_options.specs.Refusals.{CreateRefusal, node_path, codecs, data_type, chunk_grid, fill_value_metadata, storage_transformers, chunk_key_encoding, dimension_names, unsupported_v2, said_or}
+use Rattle.zarrs_options.specs.Refusals.{CreateRefusal, node_path, codecs, data_type, chunk_grid, fill_value_metadata}
+use Rattle.zarrs_options.specs.Refusals.{storage_transformers, chunk_key_encoding, dimension_names, unsupported_v2, said_or}
 
 -- the value, passed on to the next step unless a step is refused
 infixl 10 ◌>>=◌

@@ -23,7 +23,9 @@ kind_same : (a b : Kind) → a ≡ b → kind_eq a b ≡ true
 kind_same a b p = (kind_eq-Decides a b).1 p
 
 Kind-set : IsSet Kind
-Kind-set = collapsible→set (λ a b p. (kind_eq-Decides a b).0 (kind_same a b p)) (λ a b p q. ap (kind_eq-Decides a b).0 (Bool-set _ _ (kind_same a b p) (kind_same a b q)))
+Kind-set = collapsible→set
+    (λ a b p. (kind_eq-Decides a b).0 (kind_same a b p))
+    (λ a b p q. ap (kind_eq-Decides a b).0 (Bool-set _ _ (kind_same a b p) (kind_same a b q)))
 
 DimensionSizes-set : IsSet DimensionSizes
 DimensionSizes-set = hlevel (props, ⊎_set)
@@ -80,7 +82,9 @@ shared_cells : (a b : CellsCodecData) → a ≡ b → SameCells a b
 shared_cells a b p = subst (SameCells a) p (own_cells a)
 
 CellsCodecData-set : IsSet CellsCodecData
-CellsCodecData-set = collapsible→set (λ a b p. same_cells a b (shared_cells a b p)) (λ a b p q. ap (same_cells a b) (SameCells-prop a b (shared_cells a b p) (shared_cells a b q)))
+CellsCodecData-set = collapsible→set
+    (λ a b p. same_cells a b (shared_cells a b p))
+    (λ a b p q. ap (same_cells a b) (SameCells-prop a b (shared_cells a b p) (shared_cells a b q)))
 
 -- two codecs have the same parts
 abbrev Same : BytesCodecData → BytesCodecData → Type 0
@@ -106,7 +110,9 @@ shared_parts : (a b : BytesCodecData) → a ≡ b → Same a b
 shared_parts a b p = subst (Same a) p (own_parts a)
 
 BytesCodecData-set : IsSet BytesCodecData
-BytesCodecData-set = collapsible→set (λ a b p. same_codec a b (shared_parts a b p)) (λ a b p q. ap (same_codec a b) (Same-prop a b (shared_parts a b p) (shared_parts a b q)))
+BytesCodecData-set = collapsible→set
+    (λ a b p. same_codec a b (shared_parts a b p))
+    (λ a b p q. ap (same_codec a b) (Same-prop a b (shared_parts a b p) (shared_parts a b q)))
 
 ChainData-set : IsSet ChainData
 ChainData-set = hlevel (props, ArrayCodecData-set, BytesCodecData-set)

@@ -42,7 +42,11 @@ main_encoding_name name = if bytes_eq name (codes "zarrs.default_suffix") then c
 -- of a codec
 abbrev pub main_codec_name : List ℕ → List ℕ
 main_codec_name name =
-    if bytes_eq name (codes "zarrs.reshape") then codes "reshape" else (if bytes_eq name (codes "zarrs.squeeze") then codes "squeeze" else (if bytes_eq name (codes "vlen") then codes "zarrs.vlen" else (if bytes_eq name (codes "optional") then codes "zarrs.optional" else name)))
+    if bytes_eq name (codes "zarrs.reshape") then codes "reshape"
+    else (if bytes_eq name (codes "zarrs.squeeze") then codes "squeeze"
+    else (if bytes_eq name (codes "vlen") then codes "zarrs.vlen"
+    else (if bytes_eq name (codes "optional") then codes "zarrs.optional"
+    else name)))
 
 abbrev pub renamed : (List ℕ → List ℕ) → ExtensionData → ExtensionData
 renamed main e = record e { name = main e.name }

@@ -97,7 +97,8 @@ module _ {S G K C : Type 0} {g : GridMeaning G} {k : KeyMeaning K} {c : ChainMea
 
   -- an erasure of one chunk
   abbrev pub ErasesChunkOrRefuses : (S → StoreState) → List ℕ → Engine S G K C g k c → Engine S G K C g k c → Result (Unit {0}) StorageError → Type 0
-  ErasesChunkOrRefuses state index old = WritesChunks refusal_of_storage state false (ErasesChunk (layout_of old) index) (RefusesEraseChunk (layout_of old) index) old
+  ErasesChunkOrRefuses state index old =
+      WritesChunks refusal_of_storage state false (ErasesChunk (layout_of old) index) (RefusesEraseChunk (layout_of old) index) old
 
   -- the same by an encoder of its parts, whose refusals are those of arrays
   abbrev pub ErasesEncodedOrRefuses : (S → StoreState) → List ℕ → Engine S G K C g k c → Engine S G K C g k c → Result (Unit {0}) ArrayError → Type 0
@@ -105,7 +106,8 @@ module _ {S G K C : Type 0} {g : GridMeaning G} {k : KeyMeaning K} {c : ChainMea
 
   -- an erasure of the chunks of a range
   abbrev pub ErasesChunksOrRefuses : (S → StoreState) → Box → Engine S G K C g k c → Engine S G K C g k c → Result (Unit {0}) StorageError → Type 0
-  ErasesChunksOrRefuses state range old = WritesChunks refusal_of_storage state false (ErasesChunks (layout_of old) range) (RefusesEraseChunks (layout_of old) range) old
+  ErasesChunksOrRefuses state range old =
+      WritesChunks refusal_of_storage state false (ErasesChunks (layout_of old) range) (RefusesEraseChunks (layout_of old) range) old
 
   -- A compaction of one chunk: it answers whether it wrote, or is refused, as it is where the store refuses the key. On a
   -- canonical store it writes nothing.

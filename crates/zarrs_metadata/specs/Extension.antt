@@ -58,7 +58,9 @@ extension_from text configuration flag is_all = do
 -- the extension point that an object of these members says
 abbrev pub extension_of_members : Members → Option ExtensionData
 extension_of_members ms =
-    extension_from (get_member (codes "name") ms) (get_member (codes "configuration") ms) (get_member (codes "must_understand") ms) (has_only extension_names ms)
+    extension_from (get_member (codes "name") ms)
+    (get_member (codes "configuration") ms) (get_member (codes "must_understand") ms)
+    (has_only extension_names ms)
 
 -- the extension point that a JSON value says
 abbrev pub extension_of : Data → Option ExtensionData

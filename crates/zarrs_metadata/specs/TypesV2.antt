@@ -18,18 +18,31 @@ type_with k e = record { kind = k; endian = e }
 -- numbers of two bytes and more
 abbrev pub wide_kind : List ℕ → Option KindV2
 wide_kind text =
-    if bytes_eq text (codes "i2") then Some kind.Int16 else (if bytes_eq text (codes "i4") then Some kind.Int32 else (if bytes_eq text (codes "i8") then Some kind.Int64 else (if bytes_eq text (codes "u2") then Some kind.Uint16 else (if bytes_eq text (codes "u4") then Some kind.Uint32 else (if bytes_eq text (codes "u8") then Some kind.Uint64 else None)))))
+    if bytes_eq text (codes "i2") then Some kind.Int16
+    else (if bytes_eq text (codes "i4") then Some kind.Int32
+    else (if bytes_eq text (codes "i8") then Some kind.Int64
+    else (if bytes_eq text (codes "u2") then Some kind.Uint16
+    else (if bytes_eq text (codes "u4") then Some kind.Uint32
+    else (if bytes_eq text (codes "u8") then Some kind.Uint64
+    else None)))))
 
 -- cells without an order of bytes
 abbrev pub narrow_kind : List ℕ → Option KindV2
 narrow_kind text =
-    if bytes_eq text (codes "b1") then Some kind.Bool else (if bytes_eq text (codes "i1") then Some kind.Int8 else (if bytes_eq text (codes "u1") then Some kind.Uint8 else (if bytes_eq text (codes "O") then Some kind.Text else None)))
+    if bytes_eq text (codes "b1") then Some kind.Bool
+    else (if bytes_eq text (codes "i1") then Some kind.Int8
+    else (if bytes_eq text (codes "u1") then Some kind.Uint8
+    else (if bytes_eq text (codes "O") then Some kind.Text
+    else None)))
 
 -- the type of a text: `<`, `>` or `|`, then the kind and the number of bytes
 abbrev pub type_v2 : List ℕ → Option TypeV2
 type_v2 [] = None
 type_v2 (order ∷ rest) =
-    if bytes_eq (order ∷ []) (codes "<") then option_map (λ k. type_with k (Some Little)) (wide_kind rest) else (if bytes_eq (order ∷ []) (codes ">") then option_map (λ k. type_with k (Some Big)) (wide_kind rest) else (if bytes_eq (order ∷ []) (codes "|") then option_map (λ k. type_with k None) (narrow_kind rest) else None))
+    if bytes_eq (order ∷ []) (codes "<") then option_map (λ k. type_with k (Some Little)) (wide_kind rest)
+    else (if bytes_eq (order ∷ []) (codes ">") then option_map (λ k. type_with k (Some Big)) (wide_kind rest)
+    else (if bytes_eq (order ∷ []) (codes "|") then option_map (λ k. type_with k None) (narrow_kind rest)
+    else None))
 
 -- the name of the type in Zarr V3
 abbrev pub type_name_v3 : KindV2 → List ℕ

@@ -1,5 +1,6 @@
 -- A V2 document as a V3 document, and why one has none.
-use Rattle.std.specs.Prelude.{ℕ, zero, suc, length, List, [], ◌∷◌, ◌&&◌, Bool, true, false, codes, if◌then◌else◌, Option, Some, None, option_map, unwrap_or, is_some, Result, Ok, Err}
+use Rattle.std.specs.Prelude.{ℕ, zero, suc, length, List, [], ◌∷◌, ◌&&◌, Bool, true, false, codes, if◌then◌else◌}
+use Rattle.std.specs.Prelude.{Option, Some, None, option_map, unwrap_or, is_some, Result, Ok, Err}
 use Rattle.serde_json.specs.Data.{Data, null, boolean, number, string, array, object, no_items, item, no_members, member}
 use Rattle.serde_json.specs.Find.{get_member, as_null, as_object}
 use Rattle.zarrs_metadata.specs.Members.{has_only}

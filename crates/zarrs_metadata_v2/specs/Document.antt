@@ -165,7 +165,17 @@ order_data F = string (codes "F")
 -- the members of a document
 abbrev pub document_v2_members : Option Data → DocumentV2Data → List (List ℕ × Option Data)
 document_v2_members attributes m =
-    (codes "attributes", attributes) ∷ (codes "dimension_separator", Some (separator_data m.dimension_separator)) ∷ (codes "filters", Some m.filters) ∷ (codes "order", Some (order_data m.order)) ∷ (codes "fill_value", Some m.fill_value) ∷ (codes "compressor", Some m.compressor) ∷ (codes "dtype", Some (string m.dtype)) ∷ (codes "chunks", Some (numbers_data m.chunks)) ∷ (codes "shape", Some (numbers_data m.shape)) ∷ (codes "zarr_format", Some (number_data 2)) ∷ []
+    (codes "attributes", attributes)
+    ∷ (codes "dimension_separator", Some (separator_data m.dimension_separator))
+    ∷ (codes "filters", Some m.filters)
+    ∷ (codes "order", Some (order_data m.order))
+    ∷ (codes "fill_value", Some m.fill_value)
+    ∷ (codes "compressor", Some m.compressor)
+    ∷ (codes "dtype", Some (string m.dtype))
+    ∷ (codes "chunks", Some (numbers_data m.chunks))
+    ∷ (codes "shape", Some (numbers_data m.shape))
+    ∷ (codes "zarr_format", Some (number_data 2))
+    ∷ []
 
 unfoldable pub data_v2_with : Option Data → DocumentV2Data → Data
 data_v2_with attributes m = object (put_all (document_v2_members attributes m) no_members)

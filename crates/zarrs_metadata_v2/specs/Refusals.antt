@@ -3,7 +3,8 @@ use Rattle.std.specs.Prelude.{◌≡◌, Result, Err, string_bytes}
 use Rattle.zarrs_metadata.specs.FillValue.{fill_data}
 use Rattle.zarrs_metadata_v2.specs.Conversion.{ConversionRefusal, no_type, no_fill_value, no_codecs}
 use Rattle.zarrs_metadata_v2.specs.declared.error.ArrayMetadataV2ToV3Error.{ArrayMetadataV2ToV3Error}
-use Rattle.zarrs_metadata_v2.specs.declared.error.ArrayMetadataV2ToV3Error.TheVariants.{UnsupportedDataType, InvalidFillValueMetadata, UnsupportedZarrV2Array, OutOfMemory}
+use Rattle.zarrs_metadata_v2.specs.declared.error.ArrayMetadataV2ToV3Error.TheVariants.{UnsupportedDataType, InvalidFillValueMetadata}
+use Rattle.zarrs_metadata_v2.specs.declared.error.ArrayMetadataV2ToV3Error.TheVariants.{UnsupportedZarrV2Array, OutOfMemory}
 
 -- by the first refusal, or memory ran out
 abbrev pub RefusesConversion : {A : Type 0} → Result A ConversionRefusal → ArrayMetadataV2ToV3Error → Type 0

@@ -66,7 +66,8 @@ pub record PartsData : Type 0 where
 
 abbrev pub document_names : List (List ℕ)
 document_names =
-    codes "dimension_names" ∷ codes "storage_transformers" ∷ codes "attributes" ∷ codes "codecs" ∷ codes "fill_value" ∷ codes "chunk_key_encoding" ∷ codes "chunk_grid" ∷ codes "data_type" ∷ codes "shape" ∷ codes "node_type" ∷ codes "zarr_format" ∷ []
+    codes "dimension_names" ∷ codes "storage_transformers" ∷ codes "attributes" ∷ codes "codecs" ∷ codes "fill_value"
+    ∷ codes "chunk_key_encoding" ∷ codes "chunk_grid" ∷ codes "data_type" ∷ codes "shape" ∷ codes "node_type" ∷ codes "zarr_format" ∷ []
 
 unfoldable pub parts_of : Members → PartsData
 parts_of ms = record {
@@ -147,7 +148,18 @@ assembled w = do
   a ← w.attributes
   t ← w.storage_transformers
   n ← w.dimension_names
-  Some (record { shape = s; data_type = d; chunk_grid = g; chunk_key_encoding = k; fill_value = f; codecs = c; attributes = a; storage_transformers = t; dimension_names = n; additional_fields = w.additional_fields })
+  Some (record {
+    shape = s;
+    data_type = d;
+    chunk_grid = g;
+    chunk_key_encoding = k;
+    fill_value = f;
+    codecs = c;
+    attributes = a;
+    storage_transformers = t;
+    dimension_names = n;
+    additional_fields = w.additional_fields;
+  })
 
 -- the members are those of a V3 array
 abbrev pub is_array : PartsData → Bool
@@ -181,7 +193,18 @@ transformers_data (e ∷ es) = Some (list_data extension_data (e ∷ es))
 -- the members of a document; empty attributes, empty transformers and absent names are not written
 abbrev pub document_members : DocumentData → List (List ℕ × Option Data)
 document_members m =
-    (codes "dimension_names", option_map (list_data dimension_name_data) m.dimension_names) ∷ (codes "storage_transformers", transformers_data m.storage_transformers) ∷ (codes "attributes", object_data m.attributes) ∷ (codes "codecs", Some (list_data extension_data m.codecs)) ∷ (codes "fill_value", Some m.fill_value) ∷ (codes "chunk_key_encoding", Some (extension_data m.chunk_key_encoding)) ∷ (codes "chunk_grid", Some (extension_data m.chunk_grid)) ∷ (codes "data_type", Some (extension_data m.data_type)) ∷ (codes "shape", Some (numbers_data m.shape)) ∷ (codes "node_type", Some (string (codes "array"))) ∷ (codes "zarr_format", Some (number_data 3)) ∷ []
+    (codes "dimension_names", option_map (list_data dimension_name_data) m.dimension_names)
+    ∷ (codes "storage_transformers", transformers_data m.storage_transformers)
+    ∷ (codes "attributes", object_data m.attributes)
+    ∷ (codes "codecs", Some (list_data extension_data m.codecs))
+    ∷ (codes "fill_value", Some m.fill_value)
+    ∷ (codes "chunk_key_encoding", Some (extension_data m.chunk_key_encoding))
+    ∷ (codes "chunk_grid", Some (extension_data m.chunk_grid))
+    ∷ (codes "data_type", Some (extension_data m.data_type))
+    ∷ (codes "shape", Some (numbers_data m.shape))
+    ∷ (codes "node_type", Some (string (codes "array")))
+    ∷ (codes "zarr_format", Some (number_data 3))
+    ∷ []
 
 -- the JSON value of a document: a field under one of its own names is not written
 unfoldable pub data_of_document : DocumentData → Data

@@ -62,16 +62,25 @@ places_behind none places k shape part encoded place =
 
 -- ---- no place past the bytes
 
-pub all_places-inside : (k : Kind) (shape : List ℕ) (part : Box) (encoded : List ℕ) (place : ℕ) → all_places k shape part encoded place ≡ true → place < length encoded
+pub all_places-inside : (k : Kind) (shape : List ℕ) (part : Box) (encoded : List ℕ) (place : ℕ)
+    → all_places k shape part encoded place ≡ true
+    → place < length encoded
 all_places-inside k shape part encoded place is = ltb-true place (length encoded) is
 
-pub cell_places-inside : (k : Kind) (shape : List ℕ) (part : Box) (encoded : List ℕ) (place : ℕ) → cell_places k shape part encoded place ≡ true → place < length encoded
+pub cell_places-inside : (k : Kind) (shape : List ℕ) (part : Box) (encoded : List ℕ) (place : ℕ)
+    → cell_places k shape part encoded place ≡ true
+    → place < length encoded
 cell_places-inside k shape part encoded place is = ltb-true place (length encoded) (and_parts (nat_lt place (length encoded)) _ is).0
 
-pub shard_places-inside : (at_start : Bool) (sub : List ℕ) (k : Kind) (shape : List ℕ) (part : Box) (encoded : List ℕ) (place : ℕ) → shard_places at_start sub k shape part encoded place ≡ true → place < length encoded
+pub shard_places-inside : (at_start : Bool) (sub : List ℕ) (k : Kind) (shape : List ℕ) (part : Box) (encoded : List ℕ) (place : ℕ)
+    → shard_places at_start sub k shape part encoded place ≡ true
+    → place < length encoded
 shard_places-inside at_start sub k shape part encoded place is = ltb-true place (length encoded) (and_parts (nat_lt place (length encoded)) _ is).0
 
-pub places_behind-inside : (none : Bool) (places : Places) → ((k : Kind) (shape : List ℕ) (part : Box) (encoded : List ℕ) (place : ℕ) → places k shape part encoded place ≡ true → place < length encoded)
-    → (k : Kind) (shape : List ℕ) (part : Box) (encoded : List ℕ) (place : ℕ) → places_behind none places k shape part encoded place ≡ true → place < length encoded
+pub places_behind-inside : (none : Bool) (places : Places)
+    → ((k : Kind) (shape : List ℕ) (part : Box) (encoded : List ℕ) (place : ℕ) → places k shape part encoded place ≡ true → place < length encoded)
+    → (k : Kind) (shape : List ℕ) (part : Box) (encoded : List ℕ) (place : ℕ)
+    → places_behind none places k shape part encoded place ≡ true
+    → place < length encoded
 places_behind-inside true places inside k shape part encoded place is = inside k shape part encoded place is
 places_behind-inside false places inside k shape part encoded place is = all_places-inside k shape part encoded place is

@@ -1,5 +1,6 @@
 -- What a read of a part of a shard has after some of its subchunks.
-use Rattle.std.specs.Prelude.{◌≡◌, ℕ, ◌≤◌, ◌<◌, ◌^◌, Bool, true, false, Option, None, Some, List, ◌∷◌, [], ◌++◌, length, map, slice_get, slice_index_or, nat_eq, All}
+use Rattle.std.specs.Prelude.{◌≡◌, ℕ, ◌≤◌, ◌<◌, ◌^◌, Bool, true, false, Option, None, Some}
+use Rattle.std.specs.Prelude.{List, ◌∷◌, [], ◌++◌, length, map, slice_get, slice_index_or, nat_eq, All}
 use Rattle.std.specs.Cmp.Lexicographic.{pointwise}
 use Rattle.std.specs.List.{flat_map, list_any}
 use Rattle.zarrs_array_bytes.specs.ArrayData.{ArrayData}
@@ -52,12 +53,14 @@ IsPartCell decoded fill shape sub parts position cell =
     IsCellOf decoded fill (place sub (remainders position sub)) (slice_index_or parts (place (quotients shape sub) (quotients position sub)) None) cell
 
 -- the cell is the one of the parts, or fill if its subchunk was not read
-abbrev pub IsReadOrFill : Bool → (List ℕ → Option (List Cell)) → (fill : Cell) (shape sub : List ℕ) → List (Option (List ℕ)) → (position : List ℕ) → Option Cell → Type 0
+abbrev pub IsReadOrFill : Bool → (List ℕ → Option (List Cell)) → (fill : Cell) (shape sub : List ℕ)
+    → List (Option (List ℕ)) → (position : List ℕ) → Option Cell → Type 0
 IsReadOrFill true decoded fill shape sub parts position cell = IsPartCell decoded fill shape sub parts position cell
 IsReadOrFill false decoded fill shape sub parts position cell = cell ≡ Some fill
 
 -- the data has the cells of these subchunks at the positions of the part, and fill at its other positions
-pub record HasSubchunkParts (k : Kind) (decoded : List ℕ → Option (List Cell)) (fill : Cell) (shape sub : List ℕ) (part : Box) (parts : List (Option (List ℕ))) (done : List (List ℕ)) (held : ArrayData) : Type 0 where
+pub record HasSubchunkParts (k : Kind) (decoded : List ℕ → Option (List Cell)) (fill : Cell) (shape sub : List ℕ)
+    (part : Box) (parts : List (Option (List ℕ))) (done : List (List ℕ)) (held : ArrayData) : Type 0 where
   pub given : List Cell
   pub are_cells : cells k held ≡ Some given
   pub count : length given ≡ position_count part.shape
@@ -65,16 +68,21 @@ pub record HasSubchunkParts (k : Kind) (decoded : List ℕ → Option (List Cell
       → IsReadOrFill (is_among done (quotients position sub)) decoded fill shape sub parts position (cell_in part given position)
 
 -- one more subchunk was read
-abbrev pub ReadsSubchunk : Kind → (List ℕ → Option (List Cell)) → (fill : Cell) (shape sub : List ℕ) → Box → List (Option (List ℕ)) → (index : List ℕ) → ArrayData → ArrayData → Type 0
+abbrev pub ReadsSubchunk : Kind → (List ℕ → Option (List Cell)) → (fill : Cell) (shape sub : List ℕ)
+    → Box → List (Option (List ℕ)) → (index : List ℕ)
+    → ArrayData → ArrayData → Type 0
 ReadsSubchunk k decoded fill shape sub part parts index old new =
-    (done : List (List ℕ)) → HasSubchunkParts k decoded fill shape sub part parts done old → HasSubchunkParts k decoded fill shape sub part parts (done ++ index ∷ []) new
+    (done : List (List ℕ))
+    → HasSubchunkParts k decoded fill shape sub part parts done old
+    → HasSubchunkParts k decoded fill shape sub part parts (done ++ index ∷ []) new
 
 -- a subchunk that is present does not decode
 abbrev pub IsBrokenShard : (List ℕ → Option (List Cell)) → List (Option (List ℕ)) → Type 0
 IsBrokenShard decoded parts = (j : ℕ) × (encoded : List ℕ) × (j < length parts) × (slice_index_or parts j None ≡ Some encoded) × (decoded encoded ≡ None)
 
 -- the data has the cells of the parts at each position of the part
-pub record HasAllParts (k : Kind) (decoded : List ℕ → Option (List Cell)) (fill : Cell) (shape sub : List ℕ) (part : Box) (parts : List (Option (List ℕ))) (held : ArrayData) : Type 0 where
+pub record HasAllParts (k : Kind) (decoded : List ℕ → Option (List Cell)) (fill : Cell) (shape sub : List ℕ)
+    (part : Box) (parts : List (Option (List ℕ))) (held : ArrayData) : Type 0 where
   pub given : List Cell
   pub are_cells : cells k held ≡ Some given
   pub count : length given ≡ position_count part.shape
@@ -86,7 +94,8 @@ MeetsPart sub part met = (position : List ℕ) → Holds part position → Holds
 
 -- why a subchunk is not read: one that is present does not decode, some leave out cells and so many bytes of fill are too
 -- many, or the source refuses
-abbrev pub RefusesStep : (List ℕ → Option (List Cell)) → (leaves_out : List ℕ → Bool) (fill_len : ℕ) → List (Option (List ℕ)) → (refuses : Bool) → PartError → Type 0
+abbrev pub RefusesStep : (List ℕ → Option (List Cell)) → (leaves_out : List ℕ → Bool) (fill_len : ℕ)
+    → List (Option (List ℕ)) → (refuses : Bool) → PartError → Type 0
 RefusesStep decoded leaves_out fill_len parts refuses (Codec codec.DoesNotFit) = IsBrokenShard decoded parts
 RefusesStep decoded leaves_out fill_len parts refuses (Codec codec.SizeOverflow) = (list_any (part_leaves_out leaves_out) parts ≡ true) × (2 ^ 64 ≤ fill_len)
 RefusesStep decoded leaves_out fill_len parts refuses (Codec codec.OutOfMemory) = Unit {0}

@@ -5,50 +5,13 @@ use Rattle.std.specs.Prelude.{nat_le, nat_lt}
 use Rattle.std.specs.List.{flat_map, range_with_len}
 use Rattle.std.proofs.lemmas.List.{append-nil}
 use Rattle.std.proofs.lemmas.Bool.{eqb-true, and_parts, leb-true, ltb-true, false≢true}
-use Rattle.zarrs_subset.specs.Boxes.{position_count, place, BoxFits, in_range, is_within}
+use Rattle.zarrs_subset.specs.Boxes.{position_count, place, BoxFits, in_range, is_within, without_ones}
+use Rattle.zarrs_subset.proofs.Ones.{count-without_ones}
 use Rattle.zarrs_subset.proofs.Overlaps.{AllSome}
-use Rattle.zarrs_source.specs.BoxReads.{box_bytes, MayReadBox, CanReadBox, without_ones}
+use Rattle.zarrs_source.specs.BoxReads.{box_bytes, MayReadBox, CanReadBox}
 use Rattle.zarrs_source.proofs.RowReads.{flat_map-same, first_place, box_first, may_read_inner}
 
--- ---- one dimension more, behind
-
-inner : (y x : ℕ) (s : List ℕ) (b c : Bool) → cond b (cond c s (s ++ x ∷ [])) (y ∷ cond c s (s ++ x ∷ [])) ≡ cond c (cond b s (y ∷ s)) (cond b s (y ∷ s) ++ x ∷ [])
-inner y x s true true = refl
-inner y x s true false = refl
-inner y x s false true = refl
-inner y x s false false = refl
-
-one_more : (shape ys : List ℕ) (i : ℕ) → i < length shape → length shape ≡ length ys
-    → without_ones (take (suc i) shape) ys ≡ cond (eqb (get_or shape i 0) 1) (without_ones (take i shape) ys) (without_ones (take i shape) ys ++ get_or ys i 0 ∷ [])
-one_more [] ys i lt len = absurd (omega arith)
-one_more (n ∷ shape) [] i lt len = absurd (omega arith)
-one_more (n ∷ shape) (y ∷ ys) zero lt len = refl
-one_more (n ∷ shape) (y ∷ ys) (suc i) lt len =
-    ap (λ l. cond (eqb n 1) l (y ∷ l)) (one_more shape ys i (omega arith) (omega arith))
-    ∙ inner y (get_or ys i 0) (without_ones (take i shape) ys) (eqb n 1) (eqb (get_or shape i 0) 1)
-
-pub without_ones_more : (shape ys : List ℕ) (i : ℕ) → i < length shape → length shape ≡ length ys
-    → without_ones (take (i + 1) shape) ys ≡ cond (eqb (get_or shape i 0) 1) (without_ones (take i shape) ys) (without_ones (take i shape) ys ++ get_or ys i 0 ∷ [])
-without_ones_more shape ys i lt len =
-    let next : i + 1 ≡ suc i = omega arith in
-    ap (λ k. without_ones (take k shape) ys) next ∙ one_more shape ys i lt len
-
-pub not_one : (x : ℕ) → (x ≡ 1 → ⊥) → eqb x 1 ≡ false
-not_one x differ = go (eqb x 1) refl
-  where
-    go : (b : Bool) → eqb x 1 ≡ b → b ≡ false
-    go true e = absurd (differ (eqb-true x 1 e))
-    go false e = refl
-
 -- ---- the array without them
-
-count_step : (n : ℕ) (xs : List ℕ) (b : Bool) → eqb n 1 ≡ b → position_count (cond b xs (n ∷ xs)) ≡ n * position_count xs
-count_step n xs true is = let one = eqb-true n 1 is in let same : n * position_count xs ≡ 1 * position_count xs = ap (λ m. m * position_count xs) one in omega arith
-count_step n xs false is = refl
-
-pub count-without_ones : (shape : List ℕ) → position_count (without_ones shape shape) ≡ position_count shape
-count-without_ones [] = refl
-count-without_ones (n ∷ shape) = count_step n (without_ones shape shape) (eqb n 1) refl ∙ ap (λ m. n * m) (count-without_ones shape)
 
 pub length-shape : (start extents shape : List ℕ) → BoxFits start extents shape → (length shape ≡ length start) × (length shape ≡ length extents)
 length-shape [] [] [] fits = (refl, refl)

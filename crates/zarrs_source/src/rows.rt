@@ -2,13 +2,13 @@
 ghost use Rattle.std.specs.Prelude.{◌≡◌, ◌+◌, ◌*◌, ◌<◌, ◌≤◌, ◌^◌, ◌++◌, IfOk, IfErr, OnOk, length};
 ghost use Rattle.zarrs_subset.specs.Boxes.{position_count, BoxFits};
 ghost use Rattle.zarrs_subset.specs.Regions.{LiesInShape, box_of};
-ghost use Rattle.zarrs_source.specs.BoxReads.{CanReadBox, MayReadBox, box_bytes, without_ones};
+ghost use Rattle.zarrs_source.specs.BoxReads.{CanReadBox, MayReadBox, box_bytes};
 ghost use Rattle.zarrs_source.specs.Sources.{IsWindow, MayReadPlaces, RefusesSource, window_bytes};
 
 use crate::source::{ByteSource, Window};
-use std::alloc::{AllocError, Global};
+use std::alloc::Global;
 use zarrs_storage::StorageError;
-use zarrs_subset::ArraySubset;
+use zarrs_subset::{ArraySubset, without_ones};
 
 /// The cells of a box of an array of this shape whose bytes are those of a window, row-major. A cell has `size` bytes.
 ///
@@ -57,23 +57,6 @@ pub fn read_box<B: ByteSource>(
         size,
         &mut made,
     )?;
-    Ok(made)
-}
-
-/// The numbers, one for each dimension of the shape, except those of dimensions of extent 1.
-///
-/// A walk over an array calls itself once for each dimension that is left. There are fewer than 64 of them if the
-/// array has a cell, and its cells can be counted.
-fn without_ones(alloc: Global, shape: &[u64], numbers: &[u64]) -> Result<Vec<u64>, AllocError>
-    requires { length shape.now ≡ length numbers.now }
-    ensures { IfOk result (λ made. made.items ≡ without_ones shape.now numbers.now) }
-{
-    let mut made = Vec::new(alloc);
-    for axis in 0..shape.len() {
-        if shape[axis] != 1 {
-            made.push(numbers[axis])?;
-        }
-    }
     Ok(made)
 }
 

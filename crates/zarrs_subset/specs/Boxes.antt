@@ -1,7 +1,7 @@
 -- Positions, boxes and their row-major order. A position is a list of numbers, one for each dimension;
 -- a box is its start and its extents, both of that length.
 use Rattle.std.specs.Prelude.{ℕ, ◌+◌, ◌-◌, ◌*◌, ◌/◌, ◌%◌, ◌<◌, ◌≤◌, Bool, true, false, ◌&&◌, List, [], ◌∷◌, map, nat_le}
-use Rattle.std.specs.Prelude.{nat_lt, max, min, slice_index, ◌^◌, length}
+use Rattle.std.specs.Prelude.{nat_lt, max, min, slice_index, ◌^◌, length, ◌==◌, if◌then◌else◌}
 use Rattle.std.specs.List.{flat_map, range_with_len, zip}
 
 -- how many positions an array or a box has: the product of its extents
@@ -30,6 +30,12 @@ BoxFits [] (e ∷ extents) shape = ⊥
 BoxFits (s ∷ start) [] shape = ⊥
 BoxFits (s ∷ start) (e ∷ extents) [] = ⊥
 BoxFits (s ∷ start) (e ∷ extents) (n ∷ shape) = (s + e ≤ n) × BoxFits start extents shape
+
+-- the numbers, one for each dimension of the shape, except those of dimensions of extent 1
+abbrev pub without_ones : List ℕ → List ℕ → List ℕ
+without_ones [] numbers = []
+without_ones (n ∷ shape) [] = []
+without_ones (n ∷ shape) (a ∷ numbers) = if n == 1 then without_ones shape numbers else a ∷ without_ones shape numbers
 
 -- i is one of the e numbers from s on
 abbrev pub in_range : ℕ → ℕ → ℕ → Bool

@@ -2,7 +2,7 @@
 
 ghost use Rattle.std.specs.Prelude.{◌≡◌, ℕ, ◌+◌, ◌-◌, ◌^◌, ◌<◌, ◌≤◌, ◌↔◌, length, max, min};
 ghost use Rattle.std.specs.Prelude.{slice_index, IfOk, IsTrue, SomeIndex};
-ghost use Rattle.zarrs_subset.specs.Boxes.{zip_with, ends, EndsFit};
+ghost use Rattle.zarrs_subset.specs.Boxes.{zip_with, ends, EndsFit, without_ones};
 
 use crate::{ArrayIndices, ArrayShape};
 use std::alloc::{AllocError, Global};
@@ -72,4 +72,24 @@ pub(crate) fn extents(end: ArrayIndices, start: &[u64]) -> ArrayShape
         shape[k] -= start[k];
     }
     shape
+}
+
+/// The numbers, one for each dimension of the shape, except those of dimensions of extent 1.
+///
+/// A walk over an array calls itself once for each dimension that is left. There are fewer than 64 of them if the
+/// array has a cell, and its cells can be counted.
+///
+/// # Errors
+/// `AllocError`: out of memory.
+pub fn without_ones(alloc: Global, shape: &[u64], numbers: &[u64]) -> Result<Vec<u64>, AllocError>
+    requires { length shape.now ≡ length numbers.now }
+    ensures { IfOk result (λ made. made.items ≡ without_ones shape.now numbers.now) }
+{
+    let mut made = Vec::new(alloc);
+    for axis in 0..shape.len() {
+        if shape[axis] != 1 {
+            made.push(numbers[axis])?;
+        }
+    }
+    Ok(made)
 }

@@ -1,9 +1,11 @@
 use Rattle.std.proofs.Common.{arith, rules, ◌≡◌, ◌*◌, length, ap, sym, subst, ◌∙◌}
 use Rattle.zarrs_subset.specs.Boxes.{position_count}
 use Rattle.zarrs_codec_array.specs.Gathered.{IsGathered, AreWithin}
-use Rattle.zarrs_codec_array.specs.Orders.{scaled, permuted, strides, without_ones}
+use Rattle.zarrs_codec_array.specs.Orders.{scaled, permuted, strides}
+use Rattle.zarrs_subset.specs.Boxes.{without_ones}
 use Rattle.zarrs_codec_array.specs.OrderLaws.{length-permuted}
-use Rattle.zarrs_codec_array.proofs.Ones.{length-without_ones, count-without_ones, within-without_ones, gathered-without_ones}
+use Rattle.zarrs_codec_array.proofs.Ones.{within-without_ones, gathered-without_ones}
+use Rattle.zarrs_subset.proofs.Ones.{length-without_ones, count-without_ones}
 use Rattle.zarrs_codec_array.proofs.Transposing.{within-scaled, lent_back, length-scaled}
 use Rattle.zarrs_codec_array.proofs.transpose.rearranged_bytes.Goals as goal
 

@@ -1,5 +1,6 @@
 use Rattle.std.proofs.Common.{arith, ◌≡◌, length, ap, ◌∙◌}
-use Rattle.zarrs_codec_array.specs.Orders.{scaled, permuted, strides, without_ones}
+use Rattle.zarrs_codec_array.specs.Orders.{scaled, permuted, strides}
+use Rattle.zarrs_subset.specs.Boxes.{without_ones}
 use Rattle.zarrs_codec_array.specs.OrderLaws.{length-strides}
 use Rattle.zarrs_codec_array.proofs.Transposing.{permuted-scaled, length-scaled}
 use Rattle.zarrs_codec_array.proofs.transpose.walk_over.Goals as goal

@@ -1,7 +1,7 @@
 use Rattle.std.proofs.Common.{arith, ◌≡◌, ◌*◌, length, sym, ap, ◌∙◌}
 use Rattle.std.proofs.lemmas.Bool.{false≢true}
 use Rattle.zarrs_subset.proofs.Overlaps.{AllSome}
-use Rattle.zarrs_source.specs.BoxReads.{without_ones}
+use Rattle.zarrs_subset.specs.Boxes.{without_ones}
 use Rattle.zarrs_source.proofs.Ones.{length-shape, can_read_kept, bytes_kept}
 use Rattle.zarrs_source.proofs.RowReads.{bytes_fit, can_read, no_bytes}
 use Rattle.zarrs_source.proofs.rows.read_box.Goals as goal

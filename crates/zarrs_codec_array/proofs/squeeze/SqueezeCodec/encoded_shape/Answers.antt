@@ -1,7 +1,8 @@
 use Rattle.std.proofs.Common.{◌++◌, ◌∷◌, [], cond, take, get_or, sym, ap, ◌∙◌}
 use Rattle.std.proofs.lemmas.Bool.{eq-eqb}
 use Rattle.zarrs_codec_array.specs.Arrays.{squeeze_shape}
-use Rattle.zarrs_codec_array.proofs.Squeezed.{squeeze_more, not_one}
+use Rattle.zarrs_codec_array.proofs.Squeezed.{squeeze_more}
+use Rattle.zarrs_subset.proofs.Ones.{not_one}
 use Rattle.zarrs_codec_array.proofs.squeeze.SqueezeCodec.encoded_shape.Goals.{then-extent-ne1+in_ok-push, else-extent-ne1}
 use Rattle.zarrs_codec_array.proofs.squeeze.SqueezeCodec.encoded_shape.Goals as goal
 

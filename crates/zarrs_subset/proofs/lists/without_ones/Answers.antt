@@ -1,9 +1,9 @@
 use Rattle.std.proofs.Common.{◌++◌, ◌∷◌, [], cond, take, get_or, sym, ap, ◌∙◌}
 use Rattle.std.proofs.lemmas.Bool.{eq-eqb}
-use Rattle.zarrs_source.specs.BoxReads.{without_ones}
-use Rattle.zarrs_source.proofs.Ones.{without_ones_more, not_one}
-use Rattle.zarrs_source.proofs.rows.without_ones.Goals.{then-shape-axis-ne1+in_ok-push, else-shape-axis-ne1}
-use Rattle.zarrs_source.proofs.rows.without_ones.Goals as goal
+use Rattle.zarrs_subset.specs.Boxes.{without_ones}
+use Rattle.zarrs_subset.proofs.Ones.{without_ones_more, not_one}
+use Rattle.zarrs_subset.proofs.lists.without_ones.Goals.{then-shape-axis-ne1+in_ok-push, else-shape-axis-ne1}
+use Rattle.zarrs_subset.proofs.lists.without_ones.Goals as goal
 
 pub loop-axis-preserved : goal.loop-axis-preserved
 loop-axis-preserved c =
