@@ -96,6 +96,35 @@ impl RegionCells {
         }
     }
 
+    /// The same, with a part that is given away. It is not copied if both boxes are one.
+    ///
+    /// # Errors
+    /// `AllocError`: out of memory.
+    pub fn with_owned_part(
+        self,
+        alloc: Global,
+        data_type: &DataType,
+        held_box: &ArraySubset,
+        part: ArrayBytes<'static>,
+        part_box: &ArraySubset,
+    ) -> Result<RegionCells, AllocError>
+        requires dimensions { length (box_of held_box.now).start
+            ≡ length (box_of part_box.now).start }
+        requires held { HasCells (kind data_type.now) (region_data self)
+            (position_count (box_of held_box.now).shape) }
+        requires part { HasCells (kind data_type.now) (data_of part)
+            (position_count (box_of part_box.now).shape) }
+        ensures { IfOk result (λ made. TakesCells (kind data_type.now) (box_of held_box.now)
+            (box_of part_box.now) (data_of part.entry) (region_data self) (region_data made)) }
+    {
+        if data_type.is_fixed() && held_box == part_box {
+            return Ok(RegionCells {
+                held: Held::Fixed(part),
+            });
+        }
+        self.with_part(alloc, data_type, held_box, &part, part_box)
+    }
+
     /// The cells as array bytes.
     ///
     /// # Errors

@@ -10,6 +10,8 @@ pub mod PartialBytes
 pub mod PartialCells
 pub mod Patching
 mod Packed
+mod PushedCells
+mod RowBlocks
 mod Rewriting
 pub mod ShardBytes
 pub mod ShardLaws

@@ -34,11 +34,11 @@ data_present [] b = append-nil b
 data_present (None ∷ parts) b = data_present parts b
 data_present (Some a ∷ parts) b = ap (λ l. a ++ l) (data_present parts b) ∙ sym (append_assoc a (data_bytes parts) b)
 
-pub writing_absent : (old new : ShardWriter) → new.at_start ≡ old.at_start → new.entries.items ≡ old.entries.items ++ entry_bytes absent absent → new.encoded ≡ old.encoded → PushesPart old new None
+pub writing_absent : (old new : ShardWriter) → new.at_start ≡ old.at_start → new.entries.items ≡ old.entries.items ++ entry_bytes absent absent → new.encoded.items ≡ old.encoded.items → PushesPart old new None
 writing_absent old new place_is entries_are encoded_is = λ at_start count parts is.
     record {
       place_is = place_is ∙ is.place_is;
-      encoded_is = ap (λ v. v.items) encoded_is ∙ is.encoded_is ∙ ap (λ l. replicate (data_start at_start count) 0 ++ l) (sym (data_absent parts));
+      encoded_is = encoded_is ∙ is.encoded_is ∙ ap (λ l. replicate (data_start at_start count) 0 ++ l) (sym (data_absent parts));
       entries_are = entries_are ∙ ap (λ l. l ++ entry_bytes absent absent) is.entries_are ∙ sym (entries_absent (data_start at_start count) parts);
     }
 

@@ -1,4 +1,6 @@
 pub mod Blank
+pub mod Blocks
+pub mod CellParts
 pub mod PartialShards
 pub mod Refusals
 pub mod Sharded

@@ -1,6 +1,7 @@
 //! Shards (`sharding_indexed`): the bytes of a chunk that is cut into subchunks, over any chain of the subchunks.
 #![tactic(auto)]
 
+mod blocks;
 mod compact;
 mod error;
 pub mod laws;

@@ -1,15 +1,28 @@
 //! The index of a shard, and the writing of shards.
 ghost use Rattle.std.specs.Prelude.{◌≡◌, ℕ, ◌*◌, ◌<◌, ◌≤◌, ◌^◌, ◌++◌, [], Some, None, Bool, List, Option};
-ghost use Rattle.std.specs.Prelude.{All, IfErr, IfOk, IfSome, length, map, drop, option_map};
+ghost use Rattle.std.specs.Prelude.{All, IfErr, IfOk, IfSome, IsSome, length, map, drop, not, option_map, ◌&&◌};
 ghost use Rattle.std.specs.Int.{w64, from_le_bytes};
 ghost use Rattle.std.specs.List.{flat_map};
+ghost use Rattle.zarrs_array_bytes.specs.ArrayData.{fixed};
+ghost use Rattle.zarrs_array_bytes.specs.Cells.{cells, HasCells};
+ghost use Rattle.zarrs_byte_strings.specs.StringParts.{LiesInBox};
+ghost use Rattle.zarrs_subset.specs.Boxes.{position_count};
 ghost use Rattle.zarrs_subset.specs.Pieces.{pieces};
+ghost use Rattle.zarrs_subset.specs.Regions.{box_of};
+ghost use Rattle.zarrs_types.specs.Cell.{fill_cell, fill_of};
+ghost use Rattle.zarrs_types.specs.Kind.{kind};
+ghost use Rattle.zarrs_shard.specs.Blocks.{AddsCells};
+ghost use Rattle.zarrs_shard.specs.Sharded.{is_all_fill};
 ghost use Rattle.zarrs_shard.specs.ShardIndex.{range_entry, range_part, IsRangeWithin};
 ghost use Rattle.zarrs_shard.specs.ShardIndex.{IsComplete, IsSameWriter, IsWriting, PushesPart};
+ghost use Rattle.zarrs_shard.specs.CellParts.{PushesExtract};
 ghost use Rattle.zarrs_shard.specs.Shards.{entry_bytes, index_in, named_part, shard_bytes, shard_parts};
 ghost use Rattle.zarrs_shard.specs.Steps.{all_present};
 
+use crate::blocks::append_cells;
 use std::alloc::{AllocError, Global};
+use zarrs_array_bytes::{ArrayBytes, DataType, FillValue};
+use zarrs_subset::ArraySubset;
 
 /// The bytes of an entry of an index: a `u64` offset and a `u64` length.
 pub(crate) const ENTRY_LEN: usize = 16;
@@ -120,6 +133,8 @@ fn number_of(bytes: &[u8]) -> u64
 #[derive(Debug, Drop)]
 pub struct ShardWriter {
     at_start: bool,
+    // How many subchunks the shard has.
+    count: usize,
     // The room for an index at the start, and the subchunks.
     encoded: Vec<u8>,
     // The entries of the index.
@@ -142,8 +157,9 @@ impl ShardWriter {
         };
         Ok(ShardWriter {
             at_start,
+            count,
             encoded,
-            entries: Vec::new(alloc),
+            entries: Vec::with_capacity(alloc, count * ENTRY_LEN)?,
         })
     }
 
@@ -167,6 +183,7 @@ impl ShardWriter {
         ensures refused { IfErr result (λ _. IsSameWriter self.old self.new) }
     {
         let offset = self.encoded.len() as u64;
+        self.make_room(part.len());
         self.encoded.try_reserve(part.len())?;
         self.push_entry(offset, part.len() as u64)?;
         self.encoded.extend_from_slice(part)?;
@@ -186,6 +203,85 @@ impl ShardWriter {
             Some(part) => self.push(part),
             None => self.push_absent(),
         }
+    }
+
+    /// Writes the next subchunk: the cells at the positions of `subset`, as they stand in memory, of an array over
+    /// `held_box`. It is left out if each is the fill value's, unless `store_empty` says that it is kept.
+    pub(crate) fn push_cells(
+        &mut self,
+        alloc: Global,
+        bytes: &[u8],
+        held_box: &ArraySubset,
+        subset: &ArraySubset,
+        data_type: &DataType,
+        fill_value: &FillValue,
+        store_empty: bool,
+    ) -> Result<(), AllocError>
+        requires inside { LiesInBox (box_of subset.now) (box_of held_box.now) }
+        requires held { HasCells (kind data_type.now) (fixed bytes.now)
+            (position_count (box_of held_box.now).shape) }
+        requires filled { IsSome (fill_cell (kind data_type.now) fill_value.now) }
+        ensures pushed { IfOk result (λ _. PushesExtract (kind data_type.now) store_empty
+            (fill_of (kind data_type.now) fill_value.now) (box_of held_box.now) bytes.now
+            (box_of subset.now) self.old self.new) }
+        ensures refused { IfErr result (λ _. IsSameWriter self.old self.new) }
+    {
+        let start = self.encoded.len();
+        let size = data_type.element_size().unwrap();
+        self.add_cells(alloc, bytes, size, held_box, subset)?;
+        if is_left_out(&self.encoded[start..], data_type, fill_value, store_empty) {
+            self.encoded.truncate(start);
+            return self.push_absent();
+        }
+        let len = self.encoded.len() - start;
+        let pushed = self.push_entry(start as u64, len as u64);
+        if pushed.is_err() {
+            self.encoded.truncate(start);
+        }
+        pushed
+    }
+
+    /// Puts the cells of one size at the positions of `subset`, of an array over `held_box`, behind the subchunks.
+    fn add_cells(
+        &mut self,
+        alloc: Global,
+        bytes: &[u8],
+        size: usize,
+        held_box: &ArraySubset,
+        subset: &ArraySubset,
+    ) -> Result<(), AllocError>
+        requires positive { 0 < size }
+        requires held_len { length bytes.now ≡ position_count (box_of held_box.now).shape * size }
+        requires inside { LiesInBox (box_of subset.now) (box_of held_box.now) }
+        ensures added { IfOk result (λ _. AddsCells size (box_of held_box.now) bytes.now
+            (box_of subset.now) self.old.encoded.items self.new.encoded.items) }
+        ensures refused { IfErr result (λ _. self.new.encoded.items ≡ self.old.encoded.items) }
+        ensures entries { self.new.entries ≡ self.old.entries }
+        ensures at_start { self.new.at_start ≡ self.old.at_start }
+    {
+        let count = subset.num_elements().unwrap_or(u64::MAX);
+        self.make_room((count as usize).saturating_mul(size));
+        append_cells(alloc, &mut self.encoded, bytes, size, held_box, subset)
+    }
+
+    /// Makes room for each subchunk that is left, as if all had this length, and for the index behind them. It does
+    /// nothing if the next one has room, or if there is not as much memory.
+    fn make_room(&mut self, len: usize)
+        ensures encoded { self.new.encoded.items ≡ self.old.encoded.items }
+        ensures entries { self.new.entries ≡ self.old.entries }
+        ensures at_start { self.new.at_start ≡ self.old.at_start }
+    {
+        if len <= self.encoded.capacity() - self.encoded.len() {
+            return;
+        }
+        let left = self.count.saturating_sub(self.entries.len() / ENTRY_LEN);
+        let index_len = if self.at_start {
+            0
+        } else {
+            self.count.saturating_mul(ENTRY_LEN)
+        };
+        let room = left.saturating_mul(len).saturating_add(index_len);
+        let _refused = self.encoded.try_reserve(room);
     }
 
     /// Adds an entry to the index.
@@ -211,15 +307,31 @@ impl ShardWriter {
     {
         let ShardWriter {
             at_start,
+            count: _,
             encoded,
             entries,
         } = self;
         if at_start {
-            Ok(with_front(encoded, &entries))
-        } else {
-            with_end(encoded, &entries)
+            return Ok(trimmed(with_front(encoded, &entries)));
         }
+        let whole = with_end(encoded, &entries)?;
+        Ok(trimmed(whole))
     }
+}
+
+/// Whether a subchunk of these cells of one size is left out: each is the fill value's, and empty ones are not stored.
+fn is_left_out(
+    bytes: &[u8],
+    data_type: &DataType,
+    fill_value: &FillValue,
+    store_empty: bool,
+) -> bool
+    requires has_cells { IsSome (cells (kind data_type.now) (fixed bytes.now)) }
+    requires filled { IsSome (fill_cell (kind data_type.now) fill_value.now) }
+    ensures { IfSome (cells (kind data_type.now) (fixed bytes.now)) (λ cs. result
+        ≡ (not store_empty && is_all_fill (fill_of (kind data_type.now) fill_value.now) cs)) }
+{
+    !store_empty && ArrayBytes::from_flen(bytes).is_fill_value(data_type, fill_value)
 }
 
 /// An entry of the index.
@@ -247,6 +359,17 @@ fn put_front(bytes: &mut [u8], front: &[u8])
     ensures { bytes.new ≡ front.now ++ drop (length front.now) bytes.old }
 {
     bytes[..front.len()].copy_from_slice(front);
+}
+
+/// The bytes, without the room behind them if they fill less than half of it all: a list that grows by doubling leaves
+/// no more.
+fn trimmed(mut bytes: Vec<u8>) -> Vec<u8>
+    ensures { result.items ≡ bytes.items }
+{
+    if bytes.len() < bytes.capacity() / 2 {
+        bytes.shrink_to_fit();
+    }
+    bytes
 }
 
 /// The bytes, and more bytes behind them.

@@ -1,11 +1,12 @@
 //! The subchunks of a chunk.
 ghost use Rattle.std.specs.Prelude.{◌≡◌, ◌*◌, ◌/◌, ◌<◌, ◌≤◌, ◌^◌, true, false, Some};
-ghost use Rattle.std.specs.Prelude.{IfOk, IfSome, IsSome, MatchOption, length, replicate};
-ghost use Rattle.zarrs_array_bytes.specs.ArrayData.{data_of};
+ghost use Rattle.std.specs.Prelude.{IfErr, IfOk, IfSome, IsSome, MatchOption, length, replicate};
+ghost use Rattle.zarrs_array_bytes.specs.ArrayData.{data_of, fixed};
 ghost use Rattle.zarrs_array_bytes.specs.Cells.{cells, HasCells};
 ghost use Rattle.zarrs_array_bytes.specs.Parts.{ExtractsAt};
 ghost use Rattle.zarrs_shard.specs.PartialShards.{is_met};
 ghost use Rattle.zarrs_shard.specs.Blank.{blank_bytes};
+ghost use Rattle.zarrs_shard.specs.ShardIndex.{IsSameWriter};
 ghost use Rattle.zarrs_region_cells.specs.RegionData.{region_data};
 ghost use Rattle.zarrs_shard.specs.Subchunks.{corner, is_cut_by, quotients, subchunk_box, subchunk_count};
 ghost use Rattle.zarrs_subset.specs.Boxes.{position_count, unravel, InShape};
@@ -15,6 +16,7 @@ ghost use Rattle.zarrs_types.specs.Cell.{Cell, fill_cell, fill_of, held_size};
 ghost use Rattle.zarrs_types.specs.Kind.{kind, cell_size};
 ghost use Rattle.zarrs_byte_strings.specs.StringParts.{LiesInBox};
 
+use crate::shard_index::ShardWriter;
 use std::alloc::{AllocError, Global};
 use zarrs_array_bytes::{ArrayBytes, DataType, FillValue};
 use zarrs_region_cells::RegionCells;
@@ -35,6 +37,7 @@ pub struct Subchunks {
 }
 
 impl Subchunks {
+    ghost use Rattle.zarrs_shard.specs.CellParts.{PushesSubchunk};
     ghost use Rattle.zarrs_shard.specs.SubchunkData.{chunk_shape, subchunk_shape, ExtractsSubchunk};
     ghost use Rattle.zarrs_shard.specs.SubchunkData.{PutsSubchunk, StartsChunk, UpdatesSubchunk};
 
@@ -201,6 +204,42 @@ impl Subchunks {
             }
             _ => chunk.extract_array_subset(alloc, data_type, &self.chunk_box, &subset),
         }
+    }
+
+    /// Writes the cells of the subchunk of this number, of those of its chunk, into a shard, as they stand in memory.
+    /// The subchunk is left out if each is the fill value's, unless `store_empty` says that it is kept.
+    ///
+    /// # Errors
+    /// `AllocError`: out of memory; the writer is as it was.
+    pub fn push_cells(
+        &self,
+        alloc: Global,
+        bytes: &[u8],
+        data_type: &DataType,
+        fill_value: &FillValue,
+        store_empty: bool,
+        number: u64,
+        writer: &mut ShardWriter,
+    ) -> Result<(), AllocError>
+        requires number { number < subchunk_count (chunk_shape self.now) (subchunk_shape self.now) }
+        requires held { HasCells (kind data_type.now) (fixed bytes.now)
+            (position_count (chunk_shape self.now)) }
+        requires filled { IsSome (fill_cell (kind data_type.now) fill_value.now) }
+        ensures pushed { IfOk result (λ _. PushesSubchunk (kind data_type.now) store_empty
+            (fill_of (kind data_type.now) fill_value.now) (chunk_shape self.now)
+            (subchunk_shape self.now) number bytes.now writer.old writer.new) }
+        ensures refused { IfErr result (λ _. IsSameWriter writer.old writer.new) }
+    {
+        let own = self.subset(alloc, number)?;
+        writer.push_cells(
+            alloc,
+            bytes,
+            &self.chunk_box,
+            &own,
+            data_type,
+            fill_value,
+            store_empty,
+        )
     }
 
     /// Whether the part has a position of the subchunk of this number.

@@ -14,7 +14,8 @@ with_front-requires c =
 pub returns-then-at_start : goal.returns-then-at_start
 returns-then-at_start c = λ at_start parts is.
     let same = sym is.place_is ∙ c.if-at_start.true in
-    c.with_front.ensures
+    c.trimmed.ensures
+    ∙ c.with_front.ensures
     ∙ ap (λ l. l ++ drop (length l) c.args.self.encoded.items) c.deref.ensures.value
     ∙ written_at_start c.args.self parts (subst (λ b. IsWriting b (length parts) c.args.self parts) same is)
     ∙ ap (λ b. shard_bytes b parts) (sym same)

@@ -6,7 +6,7 @@ use Rattle.zarrs_shard.proofs.shard_index.ShardWriter.push_absent.Goals as goal
 pub returns-clause-pushed : goal.returns-clause-pushed
 returns-clause-pushed c =
     IfOk-weaker c.push_entry.result _ _
-    (λ done entries_are. writing_absent c.args.self.now c.push_entry.new.self c.push_entry.ensures.at_start entries_are c.push_entry.ensures.encoded)
+    (λ done entries_are. writing_absent c.args.self.now c.push_entry.new.self c.push_entry.ensures.at_start entries_are (ap (λ v. v.items) c.push_entry.ensures.encoded))
     c.push_entry.ensures.entries
 
 pub returns-clause-refused : goal.returns-clause-refused
