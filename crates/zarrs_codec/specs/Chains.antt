@@ -1,9 +1,11 @@
 -- What the chains of the code mean.
-use Rattle.std.specs.Prelude.{Bool, true, false, Some, None, List, [], ◌∷◌}
+use Rattle.std.specs.Prelude.{Bool, true, false, Option, Some, None, List, [], ◌∷◌, ◌&&◌}
 use Rattle.std.specs.declared.num.NonZeroU64.{NonZeroU64}
 use Rattle.zarrs_codec_array.specs.ArrayCodecs.{arrays_meaning}
 use Rattle.zarrs_codec_array.specs.declared.array.ArrayToArrayCodec.{ArrayToArrayCodec}
 use Rattle.zarrs_codec_leaf.specs.Bytes.{bytes_meaning_of, endian_of}
+use Rattle.zarrs_codec_leaf.specs.declared.bytes.Endianness.{Endianness}
+use Rattle.zarrs_codec_leaf.specs.declared.bytes.Endianness.TheVariants as endian
 use Rattle.zarrs_codec_leaf.specs.Leaf.{LeafMeaning}
 use Rattle.zarrs_codec_leaf.specs.PackBits.{packbits_meaning}
 use Rattle.zarrs_codec_leaf.specs.Vlen.{vlen_meaning}
@@ -108,3 +110,18 @@ cells_chain_meaning chain =
 abbrev pub sharding_meaning : ShardingCodec → ChainMeaning
 sharding_meaning codec =
     sharded (is_at_start (location_of codec)) (sizes_of (subchunk_sizes_of codec)) (chain_meaning (inner_chain_of codec))
+
+-- whether an endian leaves the bytes of each cell as they stand in memory, which is little endian
+abbrev pub keeps_order : Option Endianness → Bool
+keeps_order (Some endian.Big) = false
+keeps_order (Some endian.Little) = true
+keeps_order None = true
+
+-- whether a codec makes bytes that are the cells as they stand in memory
+abbrev pub codec_keeps_cells : ArrayToBytesCodec → Bool
+codec_keeps_cells (codec.Bytes bytes) = keeps_order (endian_of bytes)
+codec_keeps_cells c = false
+
+-- the same, of a chain
+abbrev pub keeps_cells : CodecChain → Bool
+keeps_cells chain = no_codec (array_to_array_of chain) && codec_keeps_cells (array_to_bytes_of chain)

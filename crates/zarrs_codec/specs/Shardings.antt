@@ -10,7 +10,7 @@ use Rattle.zarrs_codec_leaf.specs.declared.error.CodecError.{CodecError}
 use Rattle.zarrs_codec_leaf.specs.declared.error.CodecError.TheVariants as error
 use Rattle.zarrs_shard.specs.PartialShards.{sharded_partly}
 use Rattle.zarrs_shard.specs.Steps.{given_if, all_present}
-use Rattle.zarrs_shard.specs.ShardIndex.{IsWriting}
+use Rattle.zarrs_shard.specs.ShardIndex.{IsWriting, PushesPart}
 use Rattle.zarrs_shard.specs.declared.shard_index.ShardWriter.{ShardWriter}
 use Rattle.zarrs_shard.specs.Sharded.{SubchunkMeaning, part_of, part_leaves_out, first_parts, cells_of_part, cells_of_parts}
 use Rattle.zarrs_shard.specs.Sharded.{sharded_fits, sharded_encoded, sharded_decoded, sharded_compacted, sharded_leaves_out}
@@ -60,6 +60,12 @@ abbrev pub RefusesParts : SubchunkMeaning → (at_start empty : Bool) → Cell �
 RefusesParts m at_start empty f s sub cs error.DoesNotFit = sharded_fits m s sub ≡ false
 RefusesParts m at_start empty f s sub cs error.SizeOverflow = sharded_encoded m at_start empty f s sub cs ≡ None
 RefusesParts m at_start empty f s sub cs error.OutOfMemory = Unit {0}
+
+-- the writer of a shard got the part of a subchunk of these cells
+pub record PushesCells (m : SubchunkMeaning) (empty : Bool) (f : Cell) (cs : List Cell) (old new : ShardWriter) : Type 0 where
+  pub part : Option (List ℕ)
+  pub part_is : part_of m empty f cs ≡ Some part
+  pub pushes : PushesPart old new part
 
 -- the writer of a shard has the parts of the first n subchunks of a chunk's cells
 pub record HasFirstParts (m : SubchunkMeaning) (at_start empty : Bool) (f : Cell) (s sub : List ℕ) (cs : List Cell)

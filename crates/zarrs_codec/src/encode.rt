@@ -1,5 +1,5 @@
 //! Chunks to bytes.
-ghost use Rattle.std.specs.Prelude.{◌≡◌, true, Some, IfOk, IfErr, IsSome, option_map};
+ghost use Rattle.std.specs.Prelude.{◌≡◌, ◌<◌, true, Some, IfOk, IfErr, IsSome, option_map};
 ghost use Rattle.zarrs_subset.specs.Boxes.{position_count};
 ghost use Rattle.zarrs_data_type.specs.Kind.{kind};
 ghost use Rattle.zarrs_data_type.specs.Cell.{fill_cell, fill_of};
@@ -7,10 +7,12 @@ ghost use Rattle.zarrs_data_type.specs.ArrayData.{data_of};
 ghost use Rattle.zarrs_data_type.specs.Cells.{HasCells};
 ghost use Rattle.zarrs_shard.specs.Sharded.{part_of, sharded_encoded};
 ghost use Rattle.zarrs_shard.specs.SubchunkData.{chunk_shape, subchunk_shape};
+ghost use Rattle.zarrs_shard.specs.Subchunks.{subchunk_at, subchunk_count};
 ghost use Rattle.zarrs_chain.specs.Chain.{chunk_encoding};
 ghost use Rattle.zarrs_codec.specs.Chains.{behind, chain_meaning, inner_chain_of, is_at_start};
-ghost use Rattle.zarrs_codec.specs.Chains.{location_of, sharding_meaning};
-ghost use Rattle.zarrs_codec.specs.Shardings.{cells_of, subchunk_meaning, RefusesPart, RefusesParts};
+ghost use Rattle.zarrs_codec.specs.Chains.{keeps_cells, location_of, sharding_meaning};
+ghost use Rattle.zarrs_codec.specs.Shardings.{cells_of, subchunk_meaning};
+ghost use Rattle.zarrs_codec.specs.Shardings.{PushesCells, RefusesPart, RefusesParts};
 ghost use Rattle.zarrs_chain.specs.Refusals.{RefusesChunkEncoding};
 ghost use Rattle.zarrs_chain.specs.Options.{stores_empty_chunks};
 
@@ -20,11 +22,23 @@ use crate::sharding::ShardingCodec;
 use std::alloc::Global;
 use zarrs_chain::CodecOptions;
 use zarrs_codec_array::{ArrayToArrayCodec, encode_array, encoded_shape};
-use zarrs_codec_leaf::CodecError;
+use zarrs_codec_leaf::{CodecError, Endianness};
 use zarrs_data_type::{ArrayBytes, DataType, FillValue};
 use zarrs_shard::{ShardWriter, Subchunks};
 
 impl CodecChain {
+    /// Whether the bytes of a chunk are its cells as they stand in memory.
+    fn keeps_cells(&self) -> bool
+        ensures { result ≡ keeps_cells self.now }
+    {
+        match &self.array_to_bytes {
+            ArrayToBytesCodec::Bytes(codec) => {
+                self.array_to_array.is_empty() && !matches!(codec.endian(), Some(Endianness::Big))
+            }
+            _ => false,
+        }
+    }
+
     /// The bytes of a chunk's cells.
     pub(crate) fn encode_chunk(
         &self,
@@ -197,13 +211,73 @@ impl ShardingCodec {
         let mut writer = ShardWriter::new(alloc, count as usize, at_start)?;
         let mut room = Vec::new(alloc);
         for number in 0..count {
-            let part = subchunks.extract(alloc, bytes, data_type, number, room)?;
-            let sub = subchunks.shape();
-            let encoded = self.encode_part(alloc, part, data_type, fill_value, sub, options)?;
-            writer.push_part(&encoded)?;
-            room = encoded.unwrap_or(Vec::new(alloc));
+            room = self.push_subchunk(
+                alloc,
+                bytes,
+                data_type,
+                fill_value,
+                subchunks,
+                number,
+                options,
+                room,
+                &mut writer,
+            )?;
         }
         Ok(writer.finish()?)
+    }
+
+    /// Writes the subchunk of this number of an array into its shard, or leaves it out. The memory of `room` may be used,
+    /// and memory for the next subchunk is given back.
+    #[cycle(encode)]
+    fn push_subchunk(
+        &self,
+        alloc: Global,
+        bytes: &ArrayBytes<'_>,
+        data_type: &DataType,
+        fill_value: &FillValue,
+        subchunks: &Subchunks,
+        number: u64,
+        options: &CodecOptions,
+        room: Vec<u8>,
+        writer: &mut ShardWriter,
+    ) -> Result<Vec<u8>, CodecError>
+        requires filled { IsSome (fill_cell (kind data_type.now) fill_value.now) }
+        requires cells { HasCells (kind data_type.now) (data_of bytes.now)
+            (position_count (chunk_shape subchunks.now)) }
+        requires fits { (chain_meaning (inner_chain_of self.now)).fits (kind data_type.now)
+            (subchunk_shape subchunks.now) ≡ true }
+        requires number { number
+            < subchunk_count (chunk_shape subchunks.now) (subchunk_shape subchunks.now) }
+        ensures pushed { IfOk result (λ _. PushesCells
+            (subchunk_meaning (chain_meaning (inner_chain_of self.now))
+            (stores_empty_chunks options.now) (kind data_type.now)
+            (fill_of (kind data_type.now) fill_value.now) (subchunk_shape subchunks.now))
+            (stores_empty_chunks options.now) (fill_of (kind data_type.now) fill_value.now)
+            (subchunk_at (chunk_shape subchunks.now) (subchunk_shape subchunks.now)
+            (cells_of (kind data_type.now) (data_of bytes.now)) number) writer.old writer.new) }
+        ensures refused { IfErr result (RefusesPart
+            (subchunk_meaning (chain_meaning (inner_chain_of self.now))
+            (stores_empty_chunks options.now) (kind data_type.now)
+            (fill_of (kind data_type.now) fill_value.now) (subchunk_shape subchunks.now))
+            (stores_empty_chunks options.now) (fill_of (kind data_type.now) fill_value.now)
+            (subchunk_at (chunk_shape subchunks.now) (subchunk_shape subchunks.now)
+            (cells_of (kind data_type.now) (data_of bytes.now)) number)) }
+    {
+        match (bytes, self.inner.keeps_cells()) {
+            (ArrayBytes::Fixed(cells), true) => {
+                let empty = options.store_empty_chunks();
+                let cells = cells.as_slice();
+                subchunks.push_cells(alloc, cells, data_type, fill_value, empty, number, writer)?;
+                Ok(room)
+            }
+            _ => {
+                let part = subchunks.extract(alloc, bytes, data_type, number, room)?;
+                let sub = subchunks.shape();
+                let encoded = self.encode_part(alloc, part, data_type, fill_value, sub, options)?;
+                writer.push_part(&encoded)?;
+                Ok(encoded.unwrap_or(Vec::new(alloc)))
+            }
+        }
     }
 
     /// The bytes of a subchunk's cells, which are given away, or `None` if it is left out.

@@ -343,7 +343,7 @@ impl ShardingCodec {
         let cells = self.partial_decode_inner(
             alloc, source, own_window, &own, data_type, fill_value, sub,
         )?;
-        let made = held.with_part(alloc, data_type, part, &cells, &shared)?;
+        let made = held.with_owned_part(alloc, data_type, part, cells, &shared)?;
         Ok(made)
     }
 

@@ -1,26 +1,28 @@
-use Rattle.std.proofs.Common.{rules, arith, ◌≡◌, ℕ, ◌<◌, ◌^◌, true, List, length, Option, Some, IfOk, option_map, sym, ap, subst, ◌∙◌}
+use Rattle.std.proofs.Common.{rules, arith, ◌≡◌, ℕ, ◌<◌, ◌^◌, Bool, true, List, length, Option, Some, IfOk, option_map, sym, ap, subst, ◌∙◌}
 use Rattle.std.specs.Prelude.{IfSome}
 use Rattle.std.proofs.lemmas.Bool.{and_from}
 use Rattle.std.proofs.lemmas.Result.{IfErr-weaker}
 use Rattle.zarrs_subset.specs.Boxes.{position_count}
-use Rattle.zarrs_data_type.specs.ArrayData.{data_of}
+use Rattle.zarrs_data_type.specs.ArrayData.{ArrayData, data_of, fixed}
 use Rattle.zarrs_data_type.specs.Cell.{fill_of}
 use Rattle.zarrs_data_type.specs.Cells.{cells, HasCells}
 use Rattle.zarrs_data_type.specs.Kind.{kind}
 use Rattle.zarrs_codec_array.specs.ArrayCodecs.{arrays_meaning, arrays-lawful}
 use Rattle.zarrs_codec_array.specs.Gathered.{encoded_shape, IsEncodedArray}
+use Rattle.zarrs_shard.specs.CellParts.{PushesSubchunk}
 use Rattle.zarrs_shard.specs.SubchunkData.{chunk_shape, subchunk_shape}
 use Rattle.zarrs_shard.specs.Subchunks.{subchunk_at, subchunk_count}
 use Rattle.zarrs_shard.specs.Sharded.{first_parts, part_of, sharded_fits}
 use Rattle.zarrs_shard.specs.ShardIndex.{IsWriting}
 use Rattle.zarrs_shard.proofs.Encoding.{too_many}
 use Rattle.zarrs_chain.specs.Chain.{ChainMeaning, chunk_encoding}
-use Rattle.zarrs_codec.specs.Chains.{behind, chain_meaning, inner_chain_of, is_at_start, location_of, sharding_meaning}
+use Rattle.zarrs_codec.specs.Chains.{behind, chain_meaning, inner_chain_of, is_at_start, keeps_cells, location_of, sharding_meaning}
 use Rattle.zarrs_chain.specs.Options.{stores_empty_chunks}
 use Rattle.zarrs_chain.specs.Refusals.{RefusesChunkEncoding}
-use Rattle.zarrs_codec.specs.Shardings.{cells_of, subchunk_meaning, HasFirstParts, RefusesPart, RefusesParts}
+use Rattle.zarrs_codec.specs.Shardings.{cells_of, subchunk_meaning, HasFirstParts, PushesCells, RefusesPart, RefusesParts}
 use Rattle.zarrs_codec.proofs.Behind.{is_behind}
 use Rattle.zarrs_codec_cells.proofs.Kept.{err_kept}
+use Rattle.zarrs_codec.proofs.KeptCells.{pushes_kept}
 use Rattle.zarrs_codec.proofs.Parts.{all_written, extracted, first_count, next_written, part_refused}
 use Rattle.zarrs_codec.proofs.+encode.Goals as goal
 
@@ -36,19 +38,14 @@ sharding::ShardingCodec::encode_parts-returns-in_default-clause-refused t c =
     let sub = subchunk_shape c.args.subchunks.now in
     too_many (subchunk_meaning (chain_meaning (inner_chain_of c.args.self.now)) empty k f sub) empty f s sub (cells_of k (data_of c.args.bytes.now)) (is_at_start (location_of c.args.self.now)) c.in_default.ensures.none
 
-pub sharding::ShardingCodec::encode_parts-encode_part-requires :
-    goal.sharding::ShardingCodec::encode_parts-encode_part-requires
-sharding::ShardingCodec::encode_parts-encode_part-requires t c =
-    let k = kind c.args.data_type.now in
-    let s = chunk_shape c.args.subchunks.now in
-    let sub = subchunk_shape c.args.subchunks.now in
-    let part = data_of c.in_ok-part.part in
-    let x = extracted k s sub c.loop-number.number (data_of c.args.bytes.now) part c.in_ok-part.ensures in
-    (first_of (omega (arith, c.decreases), search rules), (c.requires.filled, subst (λ y. HasCells k part (position_count y)) (sym c.shape-sub.ensures) x.1))
+pub sharding::ShardingCodec::encode_parts-push_subchunk-requires :
+    goal.sharding::ShardingCodec::encode_parts-push_subchunk-requires
+sharding::ShardingCodec::encode_parts-push_subchunk-requires t c =
+    (first_of (omega (arith, c.decreases), search rules), (c.requires.filled, (c.requires.cells, (c.requires.fits, omega (arith, c.loop-number-test.true, c.in-Some.ensures.none)))))
 
-pub sharding::ShardingCodec::encode_parts-returns-in_err-encoded-clause-refused :
-    goal.sharding::ShardingCodec::encode_parts-returns-in_err-encoded-clause-refused
-sharding::ShardingCodec::encode_parts-returns-in_err-encoded-clause-refused t c =
+pub sharding::ShardingCodec::encode_parts-returns-in_err-room-clause-refused :
+    goal.sharding::ShardingCodec::encode_parts-returns-in_err-room-clause-refused
+sharding::ShardingCodec::encode_parts-returns-in_err-room-clause-refused t c =
     let k = kind c.args.data_type.now in
     let f = fill_of k c.args.fill_value.now in
     let empty = stores_empty_chunks c.args.options.now in
@@ -57,17 +54,12 @@ sharding::ShardingCodec::encode_parts-returns-in_err-encoded-clause-refused t c 
     let m : ChainMeaning = chain_meaning (inner_chain_of c.args.self.now) in
     let at = is_at_start (location_of c.args.self.now) in
     let cs = cells_of k (data_of c.args.bytes.now) in
-    let part = data_of c.in_ok-part.part in
     let number = c.loop-number.number in
-    let x = extracted k s sub number (data_of c.args.bytes.now) part c.in_ok-part.ensures in
     let fit : sharded_fits (subchunk_meaning m empty k f sub) s sub ≡ true = and_from _ _ c.args.subchunks.now.cut c.requires.fits in
     let below : number < subchunk_count s sub = omega (arith, c.loop-number-test.true, c.in-Some.ensures.none) in
-    let e = c.in_err-encoded.field-0.0 in
-    let here : RefusesPart (subchunk_meaning m empty k f sub) empty f (cells_of k part) e =
-    subst (λ y. RefusesPart (subchunk_meaning m empty k f y) empty f (cells_of k part) e) c.shape-sub.ensures c.in_err-encoded.ensures.refused in
-    err_kept c.from_residual-in_err-encoded.result e (RefusesParts (subchunk_meaning m empty k f sub) at empty f s sub cs) c.from_residual-in_err-encoded.ensures.1
-    (part_refused (subchunk_meaning m empty k f sub) at empty f s sub cs number e fit below
-    (subst (λ y. RefusesPart (subchunk_meaning m empty k f sub) empty f y e) x.0 here))
+    let e = c.in_err-room.field-0.0 in
+    err_kept c.from_residual-in_err-room.result e (RefusesParts (subchunk_meaning m empty k f sub) at empty f s sub cs) c.from_residual-in_err-room.ensures.1
+    (part_refused (subchunk_meaning m empty k f sub) at empty f s sub cs number e fit below c.in_err-room.ensures.refused)
 
 pub sharding::ShardingCodec::encode_parts-loop-number-preserved :
     goal.sharding::ShardingCodec::encode_parts-loop-number-preserved
@@ -80,14 +72,9 @@ sharding::ShardingCodec::encode_parts-loop-number-preserved t c =
     let m : ChainMeaning = chain_meaning (inner_chain_of c.args.self.now) in
     let at = is_at_start (location_of c.args.self.now) in
     let cs = cells_of k (data_of c.args.bytes.now) in
-    let part = data_of c.in_ok-part.part in
     let number = c.loop-number.number in
-    let x = extracted k s sub number (data_of c.args.bytes.now) part c.in_ok-part.ensures in
-    let made = option_map (λ encoded. encoded.items) c.in_ok-encoded.encoded in
-    let here : part_of (subchunk_meaning m empty k f sub) empty f (subchunk_at s sub cs number) ≡ Some made =
-    ap (part_of (subchunk_meaning m empty k f sub) empty f) (sym x.0)
-    ∙ ap (λ y. part_of (subchunk_meaning m empty k f y) empty f (cells_of k part)) (sym c.shape-sub.ensures) ∙ c.in_ok-encoded.ensures.part in
-    next_written (subchunk_meaning m empty k f sub) at empty f s sub cs c.in-Some.count number c.loop-number.writer _ made c.loop-number.invariant here c.in_ok-push_part.ensures.pushed
+    let x = c.in_ok-room.ensures.pushed in
+    next_written (subchunk_meaning m empty k f sub) at empty f s sub cs c.in-Some.count number c.loop-number.writer _ x.part c.loop-number.invariant x.part_is x.pushes
 
 pub sharding::ShardingCodec::encode_parts-finish-requires :
     goal.sharding::ShardingCodec::encode_parts-finish-requires
@@ -129,6 +116,85 @@ sharding::ShardingCodec::encode_parts-returns-clause-encoded t c =
     let encoded = c.in_ok-finish.field-0.items in
     let small : length encoded < 2 ^ 64 = search rules in
     all_written (subchunk_meaning m empty k f sub) at empty f s sub cs w encoded fit whole (c.in_ok-finish.ensures at inv.parts writing) small
+
+-- ---- one subchunk
+
+pub sharding::ShardingCodec::push_subchunk-push_cells-requires-clause-held :
+    goal.sharding::ShardingCodec::push_subchunk-push_cells-requires-clause-held
+sharding::ShardingCodec::push_subchunk-push_cells-requires-clause-held t c =
+    let k = kind c.args.data_type.now in
+    let s = chunk_shape c.args.subchunks.now in
+    let same : data_of c.args.bytes.now ≡ fixed c.as_slice-cells.result.now = ap data_of c.in-Fixed-true.is-0 ∙ ap fixed (sym c.as_slice-cells.ensures.value) in
+    subst (λ (d : ArrayData). HasCells k d (position_count s)) same c.requires.cells
+
+pub sharding::ShardingCodec::push_subchunk-returns-in_ok-push_cells-in-Fixed-true-clause-pushed :
+    goal.sharding::ShardingCodec::push_subchunk-returns-in_ok-push_cells-in-Fixed-true-clause-pushed
+sharding::ShardingCodec::push_subchunk-returns-in_ok-push_cells-in-Fixed-true-clause-pushed t c =
+    let t = c.args.data_type.now in
+    let k = kind t in
+    let f = fill_of k c.args.fill_value.now in
+    let empty = stores_empty_chunks c.args.options.now in
+    let s = chunk_shape c.args.subchunks.now in
+    let sub = subchunk_shape c.args.subchunks.now in
+    let chain = inner_chain_of c.args.self.now in
+    let m : ChainMeaning = chain_meaning chain in
+    let n = c.args.number in
+    let b = c.as_slice-cells.result.now in
+    let old = c.args.writer.now in
+    let new = c.push_cells.new.writer in
+    let same : data_of c.args.bytes.now ≡ fixed b = ap data_of c.in-Fixed-true.is-0 ∙ ap fixed (sym c.as_slice-cells.ensures.value) in
+    let kept : c.keeps_cells.result ≡ true = search rules in
+    let keeps : keeps_cells chain ≡ true = sym c.keeps_cells.ensures ∙ kept in
+    let x : PushesSubchunk k empty f s sub n b old new = subst (λ (y : Bool). PushesSubchunk k y f s sub n b old new) c.store_empty_chunks-empty.ensures c.in_ok-push_cells-in-Fixed-true.ensures.pushed in
+    subst (λ (d : ArrayData). PushesCells (subchunk_meaning m empty k f sub) empty f (subchunk_at s sub (cells_of k d) n) old new) (sym same)
+    (pushes_kept chain t empty f s sub n b old new keeps c.requires.fits x)
+
+pub sharding::ShardingCodec::push_subchunk-encode_part-requires :
+    goal.sharding::ShardingCodec::push_subchunk-encode_part-requires
+sharding::ShardingCodec::push_subchunk-encode_part-requires t c =
+    let k = kind c.args.data_type.now in
+    let s = chunk_shape c.args.subchunks.now in
+    let sub = subchunk_shape c.args.subchunks.now in
+    let part = data_of c.in_ok-part-in_default.part in
+    let x = extracted k s sub c.args.number (data_of c.args.bytes.now) part c.in_ok-part-in_default.ensures in
+    (first_of (omega (arith, c.decreases), search rules), (c.requires.filled, subst (λ y. HasCells k part (position_count y)) (sym c.shape-sub.ensures) x.1))
+
+pub sharding::ShardingCodec::push_subchunk-returns-in_err-encoded-in_default-clause-refused :
+    goal.sharding::ShardingCodec::push_subchunk-returns-in_err-encoded-in_default-clause-refused
+sharding::ShardingCodec::push_subchunk-returns-in_err-encoded-in_default-clause-refused t c =
+    let k = kind c.args.data_type.now in
+    let f = fill_of k c.args.fill_value.now in
+    let empty = stores_empty_chunks c.args.options.now in
+    let s = chunk_shape c.args.subchunks.now in
+    let sub = subchunk_shape c.args.subchunks.now in
+    let m : ChainMeaning = chain_meaning (inner_chain_of c.args.self.now) in
+    let part = data_of c.in_ok-part-in_default.part in
+    let x = extracted k s sub c.args.number (data_of c.args.bytes.now) part c.in_ok-part-in_default.ensures in
+    let e = c.in_err-encoded-in_default.field-0.0 in
+    let here : RefusesPart (subchunk_meaning m empty k f sub) empty f (cells_of k part) e =
+    subst (λ y. RefusesPart (subchunk_meaning m empty k f y) empty f (cells_of k part) e) c.shape-sub.ensures c.in_err-encoded-in_default.ensures.refused in
+    err_kept c.from_residual-in_err-encoded-in_default.result e (RefusesPart (subchunk_meaning m empty k f sub) empty f (subchunk_at s sub (cells_of k (data_of c.args.bytes.now)) c.args.number)) c.from_residual-in_err-encoded-in_default.ensures.1
+    (subst (λ y. RefusesPart (subchunk_meaning m empty k f sub) empty f y e) x.0 here)
+
+pub sharding::ShardingCodec::push_subchunk-returns-in_ok-push_part-in_default-clause-pushed :
+    goal.sharding::ShardingCodec::push_subchunk-returns-in_ok-push_part-in_default-clause-pushed
+sharding::ShardingCodec::push_subchunk-returns-in_ok-push_part-in_default-clause-pushed t c =
+    let k = kind c.args.data_type.now in
+    let f = fill_of k c.args.fill_value.now in
+    let empty = stores_empty_chunks c.args.options.now in
+    let s = chunk_shape c.args.subchunks.now in
+    let sub = subchunk_shape c.args.subchunks.now in
+    let m : ChainMeaning = chain_meaning (inner_chain_of c.args.self.now) in
+    let part = data_of c.in_ok-part-in_default.part in
+    let x = extracted k s sub c.args.number (data_of c.args.bytes.now) part c.in_ok-part-in_default.ensures in
+    let made = option_map (λ encoded. encoded.items) c.in_ok-encoded-in_default.encoded in
+    record {
+      part = made;
+      part_is =
+          ap (part_of (subchunk_meaning m empty k f sub) empty f) (sym x.0)
+          ∙ ap (λ y. part_of (subchunk_meaning m empty k f y) empty f (cells_of k part)) (sym c.shape-sub.ensures) ∙ c.in_ok-encoded-in_default.ensures.part;
+      pushes = c.in_ok-push_part-in_default.ensures.pushed;
+    }
 
 -- ---- behind codecs that make an array of an array
 

@@ -239,8 +239,8 @@ sharding::ShardingCodec::read_subchunk-overflow_sub-own_window g t c =
     let fits = subst (IsRangeWithin (length whole)) ranged (shard.within n None lt) in
     fits.0
 
-pub sharding::ShardingCodec::read_subchunk-with_part-requires-clause-dimensions : goal.sharding::ShardingCodec::read_subchunk-with_part-requires-clause-dimensions
-sharding::ShardingCodec::read_subchunk-with_part-requires-clause-dimensions g t c =
+pub sharding::ShardingCodec::read_subchunk-with_owned_part-requires-clause-dimensions : goal.sharding::ShardingCodec::read_subchunk-with_owned_part-requires-clause-dimensions
+sharding::ShardingCodec::read_subchunk-with_owned_part-requires-clause-dimensions g t c =
     let k = kind c.args.data_type.now in
     let f = fill_of k c.args.fill_value.now in
     let s = c.args.shape.now in
