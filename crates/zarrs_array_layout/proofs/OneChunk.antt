@@ -1,15 +1,17 @@
 -- Regions that are one chunk, and the cells of a region's data.
-use Rattle.std.proofs.Common.{◌≡◌, ◌↔◌, ◌==◌, ◌&&◌, ◌<◌, not, ℕ, Bool, true, false, cond, List, length, slice_index}
-use Rattle.std.proofs.Common.{IsTrue, refl, sym, ◌∙◌, ap, inl, inr, arith}
-use Rattle.std.specs.List.{SomeIndex}
+use Rattle.std.proofs.Common.{◌≡◌, ◌↔◌, ◌==◌, ◌&&◌, ◌<◌, ◌*◌, not, ℕ, zero, suc, Bool, true, false, cond, List, [], ◌∷◌, length, map, slice_index}
+use Rattle.std.proofs.Common.{IsTrue, refl, sym, ◌∙◌, ap, subst, inl, inr, arith}
+use Rattle.std.specs.List.{SomeIndex, flat_map, range_with_len}
+use Rattle.std.proofs.lemmas.List.{append-nil}
 use Rattle.std.specs.Str.{bytes_eq}
 use Rattle.std.proofs.lemmas.Bool.{and_from, and_parts, cases_Bool, eq-eqb, false≢true}
 use Rattle.std.proofs.lemmas.Slice.Eq.{bytes_eq-Decides}
 use Rattle.std.proofs.lemmas.List.Folds.{list_any_at}
-use Rattle.zarrs_subset.specs.Regions.{Box, IsLong, box_eq, box_from, empty_box}
+use Rattle.zarrs_subset.specs.Boxes.{position_count, positions_from}
+use Rattle.zarrs_subset.specs.Regions.{Box, Holds, IsLong, box_eq, box_from, empty_box}
 use Rattle.zarrs_subset.proofs.Bytes.{along_holds, holds_along}
 use Rattle.zarrs_chunk_grid.specs.Grids.{Grid, IsGrid, box_at, each_dimension, extent_along, first_met, amount_met, has_box, index_at, met}
-use Rattle.zarrs_chunk_grid.proofs.Chunks.{box_is_there, box_long, box_dimensions}
+use Rattle.zarrs_chunk_grid.proofs.Chunks.{box_is_there, box_long, box_dimensions, covered_holds}
 use Rattle.zarrs_chunk_grid.proofs.MetChunks.{at_dimension}
 use Rattle.zarrs_data_type.specs.Kind.{kind}
 use Rattle.zarrs_data_type.specs.ArrayData.{ArrayData}
@@ -19,6 +21,7 @@ use Rattle.zarrs_types.proofs.Sizes.{element_size-positive}
 use Rattle.zarrs_array_bytes.proofs.Cells.{HasCells-parts, count_of-fits}
 use Rattle.zarrs_array_bytes.specs.StringParts.{LiesInBox}
 use Rattle.zarrs_calls.specs.ChunkBoxes.{CoversBox, is_empty, is_one_chunk, last_of}
+use Rattle.zarrs_calls.proofs.Contents.{only_member}
 use Rattle.zarrs_calls.proofs.Covers.{last_at, last_held, some_extent}
 use Rattle.zarrs_array_layout.specs.Covers.{CoverRegion}
 use Rattle.zarrs_array_layout.proofs.RegionRefusals.{no_extent}
@@ -42,13 +45,16 @@ unfolding met index_at
 first_chunk grid region some =
     ap (λ b. (cond b (empty_box grid.dimensions) (record { start = each_dimension grid.dimensions (first_met grid region); shape = each_dimension grid.dimensions (amount_met grid region) })).start) some
 
+region_first : (region : Box) → IsLong region → is_empty region ≡ false → Holds region region.start
+region_first region long some = along_holds region region.start long (record {
+  same_length = refl;
+  from = λ k below. omega arith;
+  below = λ k below. let e = some_extent region.shape k some (omega (arith, long)) in omega arith;
+})
+
 pub first_boxed : (grid : Grid) (region : Box) (chunks : List (List ℕ)) → CoverRegion grid region chunks → is_empty region ≡ false → has_box grid (index_at grid region.start) ≡ true
 first_boxed grid region chunks cover some =
-    let holds = along_holds region region.start cover.long (record {
-      same_length = refl;
-      from = λ k below. omega arith;
-      below = λ k below. let e = some_extent region.shape k some (let long = cover.long in omega arith) in omega arith;
-    }) in
+    let holds = region_first region cover.long some in
     cover.boxed (index_at grid region.start) (cover.listed region.start holds)
 
 -- the region is that chunk's box, or not
@@ -92,23 +98,31 @@ module _ (grid : Grid) (lawful : IsGrid grid) (index : List ℕ) (has : has_box 
       let at = at_dimension grid.dimensions (extent_along grid index) k below in
       omega arith
 
+  chunk_some : is_empty (box_at grid index) ≡ false
+  chunk_some = not_empty (box_at grid index) (λ zero_at.
+      let below = zero_at.1 in
+      let none = zero_at.2 in
+      let positive = extent_some zero_at.0 (omega (arith, box_long grid index, box_dimensions grid index)) in
+      omega arith)
+
+  -- a chunk has a first position
+  pub first_held : Holds (box_at grid index) (box_at grid index).start
+  first_held =
+      let box = box_at grid index in
+      along_holds box box.start (box_long grid index) (record {
+        same_length = refl;
+        from = λ k below. omega arith;
+        below = λ k below. let e = extent_some k (omega (arith, box_dimensions grid index)) in omega arith;
+      })
+
   -- a region that has each position of a chunk has its start and its end
   pub covers_lies : (region : Box) → IsLong region → length region.start ≡ grid.dimensions → CoversBox region (box_at grid index) → LiesInBox (box_at grid index) region
   covers_lies region long dimensions covers =
       let box = box_at grid index in
       let box_is_long = box_long grid index in
       let count = box_dimensions grid index in
-      let some : is_empty box ≡ false = not_empty box (λ zero_at.
-      let below = zero_at.1 in
-      let none = zero_at.2 in
-      let positive = extent_some zero_at.0 (omega (arith, box_is_long, count)) in
-      omega arith) in
-      let first = holds_along region box.start long (covers box.start (along_holds box box.start box_is_long (record {
-        same_length = refl;
-        from = λ k below. omega arith;
-        below = λ k below. let e = extent_some k (omega (arith, count)) in omega arith;
-      }))) in
-      let last = holds_along region (last_of box) long (covers (last_of box) (last_held grid lawful box box_is_long some)) in
+      let first = holds_along region box.start long (covers box.start first_held) in
+      let last = holds_along region (last_of box) long (covers (last_of box) (last_held grid lawful box box_is_long chunk_some)) in
       record {
         same_length = count ∙ sym dimensions;
         starts = λ k below. first.from k below;
@@ -118,6 +132,45 @@ module _ (grid : Grid) (lawful : IsGrid grid) (index : List ℕ) (has : has_box 
             let b = last.below k below in
             omega arith;
       }
+
+  -- a region that no other chunk has a position of lies in the chunk
+  pub region_lies : (region : Box) → CoverRegion grid region (index ∷ []) → is_empty region ≡ false → LiesInBox region (box_at grid index)
+  region_lies region cover some =
+      let box = box_at grid index in
+      let box_is_long = box_long grid index in
+      let in_box : (position : List ℕ) → Holds region position → Holds box position =
+      (λ position holds. subst (λ i. Holds (box_at grid i) position) (only_member index (index_at grid position) (cover.listed position holds))
+      (covered_holds grid lawful position (cover.covered position holds))) in
+      let first = holds_along box region.start box_is_long (in_box region.start (region_first region cover.long some)) in
+      let last = holds_along box (last_of region) box_is_long (in_box (last_of region) (last_held grid lawful region cover.long some)) in
+      record {
+        same_length = cover.dimensions ∙ sym (box_dimensions grid index);
+        starts = λ k below. first.from k below;
+        ends = λ k below.
+            let e = some_extent region.shape k some (omega (arith, cover.long, cover.dimensions, box_dimensions grid index)) in
+            let at = last_at region.start region.shape k cover.long (omega (arith, cover.dimensions, box_dimensions grid index)) in
+            let b = last.below k below in
+            omega arith;
+      }
+
+-- ---- ranges of one chunk
+
+product_one : (e m : ℕ) → e * m ≡ 1 → (e ≡ 1) × (m ≡ 1)
+product_one zero m is = absurd (omega arith)
+product_one (suc zero) m is = (refl, omega arith)
+product_one (suc (suc e)) zero is = let none : e * 0 ≡ 0 = omega arith in absurd (omega arith)
+product_one (suc (suc e)) (suc m) is = absurd (omega arith)
+
+-- a box of one position has its start alone
+pub only_position : (start shape : List ℕ) → length start ≡ length shape → position_count shape ≡ 1 → positions_from start shape ≡ start ∷ []
+only_position [] [] long one = refl
+only_position [] (e ∷ shape) long one = absurd (omega arith)
+only_position (s ∷ start) [] long one = absurd (omega arith)
+only_position (s ∷ start) (e ∷ shape) long one =
+    let parts = product_one e (position_count shape) one in
+    ap (λ n. flat_map (λ i. map (λ p. i ∷ p) (positions_from start shape)) (range_with_len s n)) parts.0
+    ∙ append-nil (map (λ p. s ∷ p) (positions_from start shape))
+    ∙ ap (map (λ p. s ∷ p)) (only_position start shape (omega arith) parts.1)
 
 -- ---- the cells of data
 

@@ -41,7 +41,7 @@ use Rattle.zarrs_calls.proofs.Shapes.{front_keeps, slice_there}
 use Rattle.zarrs_calls.proofs.Steps.{runs_are_courses, step_event}
 
 -- a box's list has a cell at each position
-cell_there : (box : Box) (cells : List Cell) (position : List ℕ) → IsLong box → length cells ≡ position_count box.shape → Holds box position → (cell : Cell) × (cell_in box cells position ≡ Some cell)
+pub cell_there : (box : Box) (cells : List Cell) (position : List ℕ) → IsLong box → length cells ≡ position_count box.shape → Holds box position → (cell : Cell) × (cell_in box cells position ≡ Some cell)
 cell_there box cells position long count holds =
     let below = place_in_below box position long holds in
     slice_there cells (place_in box position) (omega (arith, count))

@@ -16,9 +16,7 @@ use Rattle.zarrs_subset.proofs.Shifts.{part_in_chunk}
 use Rattle.zarrs_chunk_grid.specs.Grids.{box_at, has_box}
 use Rattle.zarrs_chunk_grid.proofs.Chunks.{box_covered, box_dimensions, box_index, box_is_there, box_long}
 use Rattle.zarrs_storage.specs.Store.{StoreState}
-use Rattle.zarrs_data_type.specs.Cell.{Cell}
 use Rattle.zarrs_data_type.specs.ArrayData.{ArrayData}
-use Rattle.zarrs_data_type.specs.Cells.{cells}
 use Rattle.zarrs_calls.specs.Layout.{Layout, IsLawful}
 use Rattle.zarrs_calls.specs.ArgumentRefusals.{chunk_refusal, part_refusal, read_part_refusal, read_size_refusal}
 use Rattle.zarrs_calls.specs.Changes.{RetrievesChunk}
@@ -31,12 +29,12 @@ use Rattle.zarrs_calls.specs.Content.{value_at}
 use Rattle.zarrs_calls.proofs.Contents.{member, only_member}
 use Rattle.zarrs_calls.proofs.RefusalLemmas.{refused_first, refused_second, second_refusal}
 use Rattle.zarrs_array_layout.specs.Covers.{CoverRegion}
-use Rattle.zarrs_engine.specs.RegionReads.{HasRead, ReadsOneMore}
+use Rattle.zarrs_engine.specs.RegionReads.{HasRead}
 use Rattle.zarrs_array_layout.proofs.ChunkParts.{chunk_has, part_lies, shifted_part}
 use Rattle.zarrs_array_layout.proofs.Chunks.{right_length}
 use Rattle.zarrs_array_layout.proofs.OneChunk.{covers_lies}
 use Rattle.zarrs_engine.proofs.MovedBoxes.{overlap_inside}
-use Rattle.zarrs_engine.proofs.RegionReads.{read_all, read_none}
+use Rattle.zarrs_engine.proofs.RegionReads.{read_all}
 
 -- ---- which part is the whole chunk
 
@@ -252,13 +250,6 @@ module _ (layout : Layout) (lawful : IsLawful layout) (index : List ℕ) (part c
         let reads = read_all layout lawful region (index ∷ []) state made part_cover r in
         proper_read layout index part state there inside (is_proper apart) made (ap (λ (b : Box). read_size_refusal layout b.shape) (sym region_is) ∙ fits)
         (subst (λ (b : Box). ReadsRegion layout b (index ∷ []) made state) region_at reads)
-
-    -- fill, and the cells that the chunk has of the part
-    pub part_read : (old new : ArrayData) → cells layout.kind old ≡ Some (replicate (position_count region.shape) layout.fill) → read_size_refusal layout region.shape ≡ None
-        → ReadsOneMore layout region index state old new → RetrievesPart layout index part new state
-    part_read old new fill fits one =
-        let none = read_none layout lawful region state old part_cover.long fill (length-replicate {A = Cell} (position_count region.shape) layout.fill) in
-        part_alone new fits (one [] none)
 
     pub part_not_read : (r : Refusal) → RefusesRegionRead layout (read_size_refusal layout region.shape) region (index ∷ []) state r → RefusesRetrievePart layout index part r state
     part_not_read r why =

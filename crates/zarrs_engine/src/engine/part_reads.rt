@@ -65,11 +65,6 @@ impl<
             return self.retrieve_chunk(alloc, chunk_indices);
         }
         self.count_to_read(&region)?;
-        if let Some(made) = self.region_in_chunk(alloc, &region, chunk_indices, &chunk)? {
-            return Ok(made);
-        }
-        let filled = self.region_of_fill(alloc, &region)?;
-        let made = filled.into_array_bytes(alloc)?;
-        Ok(made)
+        self.read_part(alloc, &region, chunk_indices, &chunk)
     }
 }

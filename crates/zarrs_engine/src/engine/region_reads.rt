@@ -18,7 +18,7 @@ impl<
     K: ChunkKeyEncodingTraits,
     C: ChainTraits,
 > Engine<S, G, K, C> {
-    ghost use Rattle.std.specs.Prelude.{◌≡◌, ◌<◌, ◌*◌, ◌^◌, true, [], ◌∷◌, Some, None, IfOk, IfErr, IfSome};
+    ghost use Rattle.std.specs.Prelude.{◌≡◌, ◌<◌, ◌*◌, ◌^◌, true, false, [], ◌∷◌, Some, None, IfOk, IfErr, IfSome};
     ghost use Rattle.std.specs.Prelude.{IfNone, OnOk, length, replicate};
     ghost use Rattle.zarrs_subset.specs.Boxes.{position_count};
     ghost use Rattle.zarrs_subset.specs.Regions.{Box, LiesInShape, box_of, positions};
@@ -29,6 +29,7 @@ impl<
     ghost use Rattle.zarrs_region_cells.specs.RegionData.{region_data};
     ghost use Rattle.zarrs_byte_strings.specs.StringParts.{LiesInBox};
     ghost use Rattle.zarrs_calls.specs.ArgumentRefusals.{read_size_refusal};
+    ghost use Rattle.zarrs_calls.specs.ChunkBoxes.{is_empty};
     ghost use Rattle.zarrs_calls.specs.Content.{value_at};
     ghost use Rattle.zarrs_calls.specs.Reach.{MayAskChunk, MayDecodePart, MayReadPart};
     ghost use Rattle.zarrs_calls.specs.Reach.{MayReadParts, chunk_part};
@@ -125,9 +126,9 @@ impl<
         Ok(Some(made))
     }
 
-    /// The cells of a region that lies in the chunk of this box, just as they are decoded. They are fill if there are none:
-    /// the region has no position, or the chunk is absent.
-    pub(super) fn region_in_chunk(
+    /// The cells of a region that is a part of the chunk of this box, just as they are decoded. They are fill if there are
+    /// none: the region has no position, or the chunk is absent.
+    fn region_in_chunk(
         &self,
         alloc: Global,
         region: &ArraySubset,
@@ -307,10 +308,72 @@ impl<
             (read_size_refusal (layout_of self.now) (box_of region.now).shape) (box_of region.now)
             (positions (box_of chunks.now)) (store_of S.state self.now) (refusal_of e)) }
     {
+        if !region.is_empty() {
+            if let Ok(1) = chunks.num_elements() {
+                return self.read_in_chunk(alloc, region, chunks.start());
+            }
+        }
         let filled = self.region_of_fill(alloc, region)?;
         let held = self.read_along(alloc, region, chunks, filled)?;
         let made = held.into_array_bytes(alloc)?;
         Ok(made)
+    }
+
+    /// The cells of a region that lies in the chunk with these indices, just as they are decoded. They are fill if the
+    /// chunk is absent.
+    fn read_in_chunk(
+        &self,
+        alloc: Global,
+        region: &ArraySubset,
+        chunk_indices: &[u64],
+    ) -> Result<ArrayBytes<'static>, ArrayError>
+        requires cover { CoverRegion (layout_of self.now).grid (box_of region.now)
+            (chunk_indices.now ∷ []) }
+        requires some { is_empty (box_of region.now) ≡ false }
+        requires ask { MayReadPart (layout_of self.now) (box_of region.now) chunk_indices.now
+            (store_of S.state self.now) }
+        ensures read { IfOk result (λ made. ReadsRegion (layout_of self.now) (box_of region.now)
+            (chunk_indices.now ∷ []) (data_of made) (store_of S.state self.now)) }
+        ensures accepted { OnOk result
+            (read_size_refusal (layout_of self.now) (box_of region.now).shape ≡ None) }
+        ensures refused { IfErr result (λ e. RefusesRegionRead (layout_of self.now)
+            (read_size_refusal (layout_of self.now) (box_of region.now).shape) (box_of region.now)
+            (chunk_indices.now ∷ []) (store_of S.state self.now) (refusal_of e)) }
+    {
+        self.count_to_read(region)?;
+        let chunk = self.parts.chunk_box(alloc, chunk_indices)?;
+        if *region == chunk {
+            return self.retrieve_chunk(alloc, chunk_indices);
+        }
+        self.read_part(alloc, region, chunk_indices, &chunk)
+    }
+
+    /// The same, of a region that is a part of the chunk of this box. No other bytes of the chunk are read than those that
+    /// the part needs.
+    pub(super) fn read_part(
+        &self,
+        alloc: Global,
+        region: &ArraySubset,
+        chunk_indices: &[u64],
+        chunk: &ArraySubset,
+    ) -> Result<ArrayBytes<'static>, ArrayError>
+        requires boxed { has_box (layout_of self.now).grid chunk_indices.now ≡ true }
+        requires chunk { box_of chunk.now ≡ box_at (layout_of self.now).grid chunk_indices.now }
+        requires part { IsPart (layout_of self.now) (box_of region.now) chunk_indices.now }
+        requires lies { LiesInBox (box_of region.now) (box_of chunk.now) }
+        requires size { read_size_refusal (layout_of self.now) (box_of region.now).shape ≡ None }
+        requires ask { MayDecodePart (layout_of self.now) (chunk_part (box_of region.now)
+            (box_of chunk.now)) chunk_indices.now (store_of S.state self.now) }
+        ensures read { IfOk result (λ made. HasRead (layout_of self.now) (box_of region.now)
+            (chunk_indices.now ∷ []) (store_of S.state self.now) (data_of made)) }
+        ensures refused { IfErr result (λ e. RefusesSomeChunk (layout_of self.now)
+            (box_of region.now) (chunk_indices.now ∷ []) (store_of S.state self.now)
+            (refusal_of e)) }
+    {
+        if let Some(made) = self.region_in_chunk(alloc, region, chunk_indices, chunk)? {
+            return Ok(made);
+        }
+        self.parts.filled(alloc, region)
     }
 
     /// The cells of the region, in row-major order. Where a chunk is absent they are fill. The chunks that the region

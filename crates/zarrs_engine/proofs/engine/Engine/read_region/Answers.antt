@@ -1,17 +1,65 @@
-use Rattle.std.proofs.Common.{inl, inr, rules, subst, sym}
+use Rattle.std.proofs.Common.{◌∙◌, ℕ, List, [], ◌∷◌, IfOk, IfErr, ap, inl, inr, rules, subst, sym}
 use Rattle.std.proofs.lemmas.List.{length-replicate}
 use Rattle.zarrs_subset.specs.Boxes.{position_count}
 use Rattle.zarrs_subset.specs.Regions.{box_of, positions}
 use Rattle.zarrs_data_type.specs.Cell.{Cell}
-use Rattle.zarrs_data_type.specs.ArrayData.{ArrayData}
+use Rattle.zarrs_array_bytes.specs.declared.array_bytes.ArrayBytes.{ArrayBytes}
+use Rattle.zarrs_data_type.specs.ArrayData.{ArrayData, data_of}
 use Rattle.zarrs_region_cells.specs.RegionData.{region_data}
+use Rattle.zarrs_calls.specs.declared.error.ArrayError.{ArrayError}
 use Rattle.zarrs_calls.specs.ArgumentRefusals.{read_size_refusal}
 use Rattle.zarrs_calls.specs.Reads.{ReadsRegion}
 use Rattle.zarrs_calls.specs.Refusals.{refusal_of}
 use Rattle.zarrs_calls.specs.StateRefusals.{RefusesRegionRead}
 use Rattle.zarrs_engine.specs.Engine.{layout_of}
+use Rattle.zarrs_array_layout.specs.Covers.{CoverRegion}
+use Rattle.zarrs_array_layout.proofs.OneChunk.{not_empty, only_position}
+use Rattle.zarrs_calls.specs.Reach.{MayReadParts}
+use Rattle.zarrs_calls.proofs.Contents.{member}
 use Rattle.zarrs_engine.proofs.RegionReads.{read_all, read_none}
 use Rattle.zarrs_engine.proofs.engine.Engine.read_region.Goals as goal
+
+pub read_in_chunk-requires-clause-cover : goal.read_in_chunk-requires-clause-cover
+read_in_chunk-requires-clause-cover g c =
+    let layout = layout_of c.args.self.now in
+    let chunks = c.args.chunks.now in
+    let count = sym c.in-Ok-eq1.ensures.ok ∙ c.in-Ok-eq1.field-0-test in
+    let only = only_position (box_of chunks).start (box_of chunks).shape chunks.same_length count ∙ ap (λ l. l ∷ []) (sym c.start.ensures) in
+    subst (λ (l : List (List ℕ)). CoverRegion layout.grid (box_of c.args.region.now) l) only c.requires.cover
+
+pub read_in_chunk-requires-clause-some : goal.read_in_chunk-requires-clause-some
+read_in_chunk-requires-clause-some g c =
+    not_empty (box_of c.args.region.now) (λ none. let empty = c.is_empty.ensures.1 none in let some = c.if-not-is_empty.true in cc)
+
+pub read_in_chunk-requires-clause-ask : goal.read_in_chunk-requires-clause-ask
+read_in_chunk-requires-clause-ask g c =
+    let layout = layout_of c.args.self.now in
+    let state = g.S.ReadableStorageTraits.state c.args.self.now.storage in
+    let chunks = c.args.chunks.now in
+    let count = sym c.in-Ok-eq1.ensures.ok ∙ c.in-Ok-eq1.field-0-test in
+    let only = only_position (box_of chunks).start (box_of chunks).shape chunks.same_length count ∙ ap (λ l. l ∷ []) (sym c.start.ensures) in
+    let ask = subst (λ (l : List (List ℕ)). MayReadParts layout (box_of c.args.region.now) l state) only c.requires.ask in
+    ask c.start.result.now (member c.start.result.now)
+
+pub returns-in-Ok-eq1-clause-read : goal.returns-in-Ok-eq1-clause-read
+returns-in-Ok-eq1-clause-read g c =
+    let layout = layout_of c.args.self.now in
+    let state = g.S.ReadableStorageTraits.state c.args.self.now.storage in
+    let region = box_of c.args.region.now in
+    let chunks = c.args.chunks.now in
+    let count = sym c.in-Ok-eq1.ensures.ok ∙ c.in-Ok-eq1.field-0-test in
+    let only = only_position (box_of chunks).start (box_of chunks).shape chunks.same_length count ∙ ap (λ l. l ∷ []) (sym c.start.ensures) in
+    subst (λ (l : List (List ℕ)). IfOk c.read_in_chunk.result (λ (made : ArrayBytes). ReadsRegion layout region l (data_of made) state)) (sym only) c.read_in_chunk.ensures.read
+
+pub returns-in-Ok-eq1-clause-refused : goal.returns-in-Ok-eq1-clause-refused
+returns-in-Ok-eq1-clause-refused g c =
+    let layout = layout_of c.args.self.now in
+    let state = g.S.ReadableStorageTraits.state c.args.self.now.storage in
+    let region = box_of c.args.region.now in
+    let chunks = c.args.chunks.now in
+    let count = sym c.in-Ok-eq1.ensures.ok ∙ c.in-Ok-eq1.field-0-test in
+    let only = only_position (box_of chunks).start (box_of chunks).shape chunks.same_length count ∙ ap (λ l. l ∷ []) (sym c.start.ensures) in
+    subst (λ (l : List (List ℕ)). IfErr c.read_in_chunk.result (λ (e : ArrayError). RefusesRegionRead layout (read_size_refusal layout region.shape) region l state (refusal_of e))) (sym only) c.read_in_chunk.ensures.refused
 
 pub returns-in_err-filled-clause-refused : goal.returns-in_err-filled-clause-refused
 returns-in_err-filled-clause-refused g c =

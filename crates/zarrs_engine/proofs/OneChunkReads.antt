@@ -1,0 +1,90 @@
+-- Reads of regions that lie in one chunk.
+use Rattle.std.proofs.Common.{◌≡◌, ◌∙◌, ℕ, true, false, List, [], ◌∷◌, Option, Some, None, Contains, refl, sym, ap, subst, inl, inr}
+use Rattle.std.specs.Option.{option_or}
+use Rattle.std.proofs.lemmas.Bool.{cases_Bool}
+use Rattle.zarrs_subset.specs.Boxes.{position_count}
+use Rattle.zarrs_subset.specs.Regions.{Box, Holds, cell_in}
+use Rattle.zarrs_chunk_grid.specs.Grids.{box_at, has_box}
+use Rattle.zarrs_chunk_grid.proofs.Chunks.{box_long}
+use Rattle.zarrs_storage.specs.Store.{StoreState}
+use Rattle.zarrs_data_type.specs.ArrayData.{ArrayData}
+use Rattle.zarrs_byte_strings.specs.StringParts.{LiesInBox}
+use Rattle.zarrs_calls.specs.Layout.{Layout, IsLawful}
+use Rattle.zarrs_calls.specs.ArgumentRefusals.{read_size_refusal, size_refusal}
+use Rattle.zarrs_calls.specs.Changes.{RetrievesChunk}
+use Rattle.zarrs_calls.specs.ChunkBoxes.{CoversBox, is_empty}
+use Rattle.zarrs_calls.specs.Content.{value_at}
+use Rattle.zarrs_calls.specs.Reads.{IsBroken, ReadsRegion}
+use Rattle.zarrs_calls.specs.Refusals as refusal
+use Rattle.zarrs_calls.specs.Refusals.{Refusal, fill_refusal, is_too_large, length_refusal, refuse_if}
+use Rattle.zarrs_calls.specs.StateRefusals.{IsPart, NeedsLargeFill, RefusesChunkRead, RefusesRegionRead}
+use Rattle.zarrs_calls.proofs.Contents.{member, only_member}
+use Rattle.zarrs_calls.proofs.RefusalLemmas.{second_refusal}
+use Rattle.zarrs_calls.proofs.Regions.{cell_there}
+use Rattle.zarrs_calls.proofs.Shapes.{known_decodes}
+use Rattle.zarrs_array_layout.specs.Covers.{CoverRegion}
+use Rattle.zarrs_array_layout.proofs.Chunks.{unread_why}
+use Rattle.zarrs_array_layout.proofs.OneChunk.{covers_lies, first_held, region_lies}
+use Rattle.zarrs_engine.proofs.MovedBoxes.{overlap_inside}
+use Rattle.zarrs_engine.proofs.PartReads.{overlap_within}
+
+none_first : (a b : Option Refusal) → option_or a b ≡ None → a ≡ None
+none_first None b h = refl
+none_first (Some x) b h = absurd (cc)
+
+module _ (layout : Layout) (lawful : IsLawful layout) (region : Box) (index : List ℕ) (cover : CoverRegion layout.grid region (index ∷ [])) where
+  abbrev box : Box
+  box = box_at layout.grid index
+
+  pub has : has_box layout.grid index ≡ true
+  has = cover.boxed index (member index)
+
+  -- a region that is not the chunk does not cover it
+  pub only_part : is_empty region ≡ false → (region ≡ box → ⊥) → IsPart layout region index
+  only_part some apart covers =
+      let long = box_long layout.grid index in
+      let inner = region_lies layout.grid lawful.grid index has region cover some in
+      let outer = covers_lies layout.grid lawful.grid index has region cover.long cover.dimensions covers in
+      apart (sym (overlap_within region box cover.long long inner) ∙ overlap_inside region box cover.long long outer)
+
+  module _ (state : StoreState) where
+    -- a chunk that was read decodes
+    not_broken : (held : ArrayData) → RetrievesChunk layout index held state → IsBroken layout index state → ⊥
+    not_broken held r broken =
+        let first = first_held layout.grid lawful.grid index has in
+        let cell = cell_there box r.chunk box.start (box_long layout.grid index) r.reads.count first in
+        let found = known_decodes layout lawful (value_at state) index broken.encoded box.start cell.0 has broken.stands first (r.reads.each box.start first ∙ cell.1) in
+        let clash : None ≡ Some found.0 = sym broken.undecoded ∙ found.1 in
+        cc
+
+    -- the region is the chunk, which was read
+    pub chunk_read : region ≡ box → (held : ArrayData) → RetrievesChunk layout index held state → ReadsRegion layout region (index ∷ []) held state
+    chunk_read same held r = record {
+      given = r.chunk;
+      are_cells = r.is_chunk;
+      reads = record {
+        count = r.reads.count ∙ ap (λ (b : Box). position_count b.shape) (sym same);
+        each = λ position cell holds known.
+            ap (λ (b : Box). cell_in b r.chunk position) same ∙ sym (r.reads.each position (subst (λ (b : Box). Holds b position) same holds)) ∙ known;
+      };
+      long = cover.long;
+      covered = cover.covered;
+      whole = λ i among covers broken. not_broken held r (subst (λ (j : List ℕ). IsBroken layout j state) (only_member index i among) broken);
+    }
+
+    -- or it is refused
+    pub chunk_refused : region ≡ box → read_size_refusal layout region.shape ≡ None → (r : Refusal) → RefusesChunkRead layout (length_refusal layout index) true index state r
+        → RefusesRegionRead layout (read_size_refusal layout region.shape) region (index ∷ []) state r
+    chunk_refused same fits =
+        let fits_box : read_size_refusal layout box.shape ≡ None = ap (λ (b : Box). read_size_refusal layout b.shape) (sym same) ∙ fits in
+        let size = none_first (size_refusal layout box.shape) (fill_refusal layout box.shape) fits_box in
+        let filled : fill_refusal layout box.shape ≡ None = sym (second_refusal (size_refusal layout box.shape) (fill_refusal layout box.shape) size) ∙ fits_box in
+        let fit : is_too_large layout box.shape ≡ false = elim (cases_Bool (is_too_large layout box.shape)) [
+          | inr small ↦ small
+          | inl large ↦ absurd (let clash : Some refusal.size_overflow ≡ None = sym (ap (λ b. refuse_if b refusal.size_overflow) large) ∙ size in cc)
+        ] in
+        unread_why layout index state has fit (RefusesRegionRead layout (read_size_refusal layout region.shape) region (index ∷ []) state)
+        (inr (fits, tt))
+        (λ broken. inr (fits, (index, member index, broken)))
+        (λ large where_is. absurd (let clash : Some refusal.size_overflow ≡ None = sym large ∙ filled in cc))
+        (λ refuses. inr (fits, (index, member index, refuses)))

@@ -1,0 +1,101 @@
+use Rattle.std.proofs.Common.{◌≡◌, ◌∙◌, true, [], ◌∷◌, rules, refl, sym, ap, subst, inl, inr}
+use Rattle.std.proofs.lemmas.Bool.{false≢true}
+use Rattle.std.proofs.lemmas.Result.{IfOk-weaker}
+use Rattle.zarrs_subset.specs.Regions.{Box, Holds, box_of}
+use Rattle.zarrs_array_bytes.specs.declared.array_bytes.ArrayBytes.{ArrayBytes}
+use Rattle.zarrs_byte_strings.specs.StringParts.{LiesInBox}
+use Rattle.zarrs_data_type.specs.ArrayData.{data_of}
+use Rattle.zarrs_calls.specs.declared.error.ArrayError.{ArrayError}
+use Rattle.zarrs_calls.specs.ArgumentRefusals.{read_size_refusal}
+use Rattle.zarrs_calls.specs.Changes.{RetrievesChunk}
+use Rattle.zarrs_calls.specs.Reads.{ReadsRegion}
+use Rattle.zarrs_calls.specs.Refusals.{length_refusal, refusal_of}
+use Rattle.zarrs_calls.specs.StateRefusals.{RefusesChunkRead, RefusesRegionRead, RefusesSomeChunk}
+use Rattle.zarrs_array_layout.proofs.OneChunk.{region_lies}
+use Rattle.zarrs_engine.specs.Engine.{layout_of}
+use Rattle.zarrs_engine.specs.RegionReads.{HasRead}
+use Rattle.zarrs_engine.proofs.OneChunkReads.{chunk_read, chunk_refused, has, only_part}
+use Rattle.zarrs_engine.proofs.PartBytes.{box_why}
+use Rattle.zarrs_engine.proofs.Puts.{each_error}
+use Rattle.zarrs_engine.proofs.RegionReads.{read_all}
+use Rattle.zarrs_engine.proofs.engine.Engine.read_in_chunk.Goals as goal
+
+pub returns-in_err-count_to_read-clause-refused : goal.returns-in_err-count_to_read-clause-refused
+returns-in_err-count_to_read-clause-refused g c =
+    let layout = layout_of c.args.self.now in
+    let state = g.S.ReadableStorageTraits.state c.args.self.now.storage in
+    let region = box_of c.args.region.now in
+    let why : RefusesRegionRead layout (read_size_refusal layout region.shape) region (c.args.chunk_indices.now ∷ []) state (refusal_of c.in_err-count_to_read.field-0.0) =
+    inl c.in_err-count_to_read.ensures.refused in
+    search (rules, why)
+
+pub returns-in_err-chunk-clause-refused : goal.returns-in_err-chunk-clause-refused
+returns-in_err-chunk-clause-refused g c =
+    let layout = layout_of c.args.self.now in
+    let state = g.S.ReadableStorageTraits.state c.args.self.now.storage in
+    let region = box_of c.args.region.now in
+    let index = c.args.chunk_indices.now in
+    let has = has layout c.args.self.now.parts.lawful region index c.requires.cover in
+    let why : RefusesRegionRead layout (read_size_refusal layout region.shape) region (index ∷ []) state (refusal_of c.in_err-chunk.field-0.0) =
+    inr (c.in_ok-count_to_read.ensures.accepted, box_why layout region index state has (refusal_of c.in_err-chunk.field-0.0) c.in_err-chunk.ensures.refused) in
+    search (rules, why)
+
+pub retrieve_chunk-requires : goal.retrieve_chunk-requires
+retrieve_chunk-requires g c =
+    let same = c.eq.ensures.0 c.if-eq.true ∙ c.in_ok-chunk.ensures.region in
+    c.requires.ask.whole (λ position holds. subst (λ (b : Box). Holds b position) (sym same) holds)
+
+pub returns-then-eq-clause-read : goal.returns-then-eq-clause-read
+returns-then-eq-clause-read g c =
+    let layout = layout_of c.args.self.now in
+    let state = g.S.ReadableStorageTraits.state c.args.self.now.storage in
+    let region = box_of c.args.region.now in
+    let index = c.args.chunk_indices.now in
+    let same = c.eq.ensures.0 c.if-eq.true ∙ c.in_ok-chunk.ensures.region in
+    IfOk-weaker c.retrieve_chunk.result (λ (made : ArrayBytes). RetrievesChunk layout index (data_of made) state) (λ (made : ArrayBytes). ReadsRegion layout region (index ∷ []) (data_of made) state)
+    (λ made r. chunk_read layout c.args.self.now.parts.lawful region index c.requires.cover state same (data_of made) r) c.retrieve_chunk.ensures.cells
+
+pub returns-then-eq-clause-refused : goal.returns-then-eq-clause-refused
+returns-then-eq-clause-refused g c =
+    let layout = layout_of c.args.self.now in
+    let state = g.S.ReadableStorageTraits.state c.args.self.now.storage in
+    let region = box_of c.args.region.now in
+    let index = c.args.chunk_indices.now in
+    let same = c.eq.ensures.0 c.if-eq.true ∙ c.in_ok-chunk.ensures.region in
+    each_error c.retrieve_chunk.result (λ (e : ArrayError). RefusesChunkRead layout (length_refusal layout index) true index state (refusal_of e))
+    (λ (e : ArrayError). RefusesRegionRead layout (read_size_refusal layout region.shape) region (index ∷ []) state (refusal_of e))
+    (λ e why. chunk_refused layout c.args.self.now.parts.lawful region index c.requires.cover state same c.in_ok-count_to_read.ensures.accepted (refusal_of e) why) c.retrieve_chunk.ensures.refused
+
+pub read_part-requires-clause-part : goal.read_part-requires-clause-part
+read_part-requires-clause-part g c =
+    let layout = layout_of c.args.self.now in
+    only_part layout c.args.self.now.parts.lawful (box_of c.args.region.now) c.args.chunk_indices.now c.requires.cover c.requires.some
+    (λ same. false≢true (sym c.if-eq.false ∙ c.eq.ensures.1 (same ∙ sym c.in_ok-chunk.ensures.region)))
+
+pub read_part-requires-clause-lies : goal.read_part-requires-clause-lies
+read_part-requires-clause-lies g c =
+    let layout = layout_of c.args.self.now in
+    let region = box_of c.args.region.now in
+    let index = c.args.chunk_indices.now in
+    let has = has layout c.args.self.now.parts.lawful region index c.requires.cover in
+    subst (λ (b : Box). LiesInBox region b) (sym c.in_ok-chunk.ensures.region)
+    (region_lies layout.grid c.args.self.now.parts.lawful.grid index has region c.requires.cover c.requires.some)
+
+pub returns-clause-read : goal.returns-clause-read
+returns-clause-read g c =
+    let layout = layout_of c.args.self.now in
+    let state = g.S.ReadableStorageTraits.state c.args.self.now.storage in
+    let region = box_of c.args.region.now in
+    let index = c.args.chunk_indices.now in
+    IfOk-weaker c.read_part.result (λ (made : ArrayBytes). HasRead layout region (index ∷ []) state (data_of made)) (λ (made : ArrayBytes). ReadsRegion layout region (index ∷ []) (data_of made) state)
+    (λ made r. read_all layout c.args.self.now.parts.lawful region (index ∷ []) state (data_of made) c.requires.cover r) c.read_part.ensures.read
+
+pub returns-clause-refused : goal.returns-clause-refused
+returns-clause-refused g c =
+    let layout = layout_of c.args.self.now in
+    let state = g.S.ReadableStorageTraits.state c.args.self.now.storage in
+    let region = box_of c.args.region.now in
+    let index = c.args.chunk_indices.now in
+    each_error c.read_part.result (λ (e : ArrayError). RefusesSomeChunk layout region (index ∷ []) state (refusal_of e))
+    (λ (e : ArrayError). RefusesRegionRead layout (read_size_refusal layout region.shape) region (index ∷ []) state (refusal_of e))
+    (λ e why. inr (c.in_ok-count_to_read.ensures.accepted, why)) c.read_part.ensures.refused
