@@ -1,6 +1,7 @@
 //! One chunk stored and read, and parts of it read: under `bytes`, and as a shard.
 use crate::arrays::typed_array;
 use crate::boxes::{Region, copy_part, put_part, region_of};
+use crate::plain::{hold_same, numbers_of};
 use crate::regions::{CELL, COLUMN, ROW};
 use anyhow::{Result, anyhow};
 use std::alloc::Global;
@@ -120,15 +121,6 @@ struct Piece {
     cells: Region,
 }
 
-/// The two numbers of an entry of an index.
-fn numbers_of(entry: &[u8; 16]) -> [u64; 2] {
-    let mut numbers = [0; 2];
-    for (number, bytes) in numbers.iter_mut().zip(entry.as_chunks::<8>().0) {
-        *number = u64::from_le_bytes(*bytes);
-    }
-    numbers
-}
-
 /// An array of one chunk of `SIDE` by `SIDE` cells of `WIDTH` bytes, in subchunks of `SUBCHUNK` by `SUBCHUNK` cells
 /// unless these are as large; the same chunk in a store alone; a part of it; and what is stored as the chunk.
 #[derive(Drop)]
@@ -199,6 +191,10 @@ impl<const SIDE: u64, const SUB: u64, const WIDTH: u64, const PART: u64> Sample
 
     fn touch(&mut self, turn: u8) {
         self.cells.touch(turn);
+    }
+
+    fn is_left_same(&self, alloc: Global) -> Result<bool> {
+        hold_same(alloc, self.engine.storage(), &self.store)
     }
 }
 

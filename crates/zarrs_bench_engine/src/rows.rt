@@ -1,12 +1,12 @@
 //! The rows of this crate.
 use crate::chunks::{PlainRead, PlainStore, Read, Store};
-use crate::growths::{ABSENT, BYTES, OPTIONS, ReadAll, ReadCell, SUBCHUNKS, StoreAll, TEXTS};
 use crate::parts::{
     PlainReadPart, PlainReadRanges, PlainStoreWhole, ReadPart, ReadWhole, SUBCHUNK, StoreWhole,
     TENTH, WHOLE,
 };
 use crate::regions::{
-    ALL, CELL, COLUMN, INNER, PlainReadRegion, PlainStoreRegion, ROW, ReadRegion, StoreRegion,
+    ALL, CELL, COLUMN, INNER, NO_CHUNK, PlainReadRegion, PlainStoreRegion, ROW, ReadRegion,
+    SMALL_CHUNKS, StoreRegion,
 };
 use std::alloc::Global;
 use std::time::Clock;
@@ -18,26 +18,6 @@ pub fn print_rows<R: Clock + Print + Alloc<A = Global>>(table: &mut Table<'_, R>
     print_regions(table);
     print_shards(table);
     print_parts(table);
-}
-
-/// Prints the growths of this crate.
-pub fn print_growths<R: Clock + Print + Alloc<A = Global>>(table: &mut Table<'_, R>) {
-    table.growth::<StoreAll<BYTES, 1>>("store all of an array of bytes");
-    table.growth::<ReadAll<BYTES, 1>>("read it");
-    table.growth::<ReadAll<BYTES, 2>>("read it, in 2 dimensions");
-    table.growth::<ReadAll<BYTES, 3>>("in 3 dimensions");
-    table.growth::<ReadAll<BYTES, 4>>("in 4 dimensions");
-    table.growth::<ReadAll<BYTES, 5>>("in 5 dimensions");
-    table.growth::<ReadAll<BYTES, 6>>("in 6 dimensions");
-    table.growth::<ReadCell<BYTES>>("read one cell of it");
-    table.growth::<ReadAll<ABSENT, 1>>("read absent chunks");
-    table.growth::<StoreAll<SUBCHUNKS, 1>>("store one shard of so many subchunks");
-    table.growth::<ReadAll<SUBCHUNKS, 1>>("read it");
-    table.growth::<ReadCell<SUBCHUNKS>>("read one cell of it");
-    table.growth::<StoreAll<TEXTS, 1>>("store texts");
-    table.growth::<ReadAll<TEXTS, 1>>("read them");
-    table.growth::<StoreAll<OPTIONS, 1>>("store optional numbers");
-    table.growth::<ReadAll<OPTIONS, 1>>("read them");
 }
 
 /// Prints the rows of shards.
@@ -129,4 +109,10 @@ fn print_regions<R: Clock + Print + Alloc<A = Global>>(table: &mut Table<'_, R>)
     table.row::<ReadRegion<ROW>, PlainReadRegion<ROW>>(name, 4096);
     table.row::<StoreRegion<CELL>, PlainStoreRegion<CELL>>("store one cell", 1);
     table.row::<ReadRegion<CELL>, PlainReadRegion<CELL>>("read one cell", 1);
+    let name = "read 32 MiB of 512 absent chunks";
+    table.row::<ReadRegion<NO_CHUNK>, PlainReadRegion<NO_CHUNK>>(name, 1 << 25);
+    let name = "store 1 MiB over 1,024 whole chunks of 1 KiB";
+    table.row::<StoreRegion<SMALL_CHUNKS>, PlainStoreRegion<SMALL_CHUNKS>>(name, 1 << 20);
+    let name = "read 1 MiB of 1,024 whole chunks of 1 KiB";
+    table.row::<ReadRegion<SMALL_CHUNKS>, PlainReadRegion<SMALL_CHUNKS>>(name, 1 << 20);
 }

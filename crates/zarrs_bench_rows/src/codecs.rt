@@ -1,6 +1,6 @@
 //! Cells to bytes and back.
 use crate::measure::Work;
-use crate::plain::mapped;
+use crate::plain::{mapped, packed, unpacked};
 use crate::samples::{BYTES, bytes_in, tested};
 use anyhow::{Result, anyhow};
 use std::alloc::Global;
@@ -92,12 +92,6 @@ impl Work for Pack {
     }
 }
 
-/// The byte of eight flags.
-fn packed(flags: &[u8; 8]) -> u8 {
-    let [a, b, c, d, e, f, g, h] = *flags;
-    a | b << 1 | c << 2 | d << 3 | e << 4 | f << 5 | g << 6 | h << 7
-}
-
 /// The same test, and eight flags at a time.
 pub struct PlainPack;
 
@@ -133,20 +127,6 @@ impl Work for Unpack {
         let made = PackBitsCodec.decode(alloc, eighth(cells), &DataType::Bool, BYTES as u64)?;
         Ok(tested(bytes_in(&made)))
     }
-}
-
-/// The eight flags of a byte.
-fn unpacked(byte: u8) -> [u8; 8] {
-    [
-        byte & 1,
-        byte >> 1 & 1,
-        byte >> 2 & 1,
-        byte >> 3 & 1,
-        byte >> 4 & 1,
-        byte >> 5 & 1,
-        byte >> 6 & 1,
-        byte >> 7,
-    ]
 }
 
 /// The flags of one byte after another.

@@ -13,6 +13,14 @@ pub trait Sample: Drop {
 
     /// Changes it a little, so that no turn can use the result of the one before. `turn` differs from call to call.
     fn touch(&mut self, turn: u8);
+
+    /// Whether the product and plain Rust left the same in it, where it keeps what both made.
+    ///
+    /// # Errors
+    /// Out of memory.
+    fn is_left_same(&self, _alloc: Global) -> Result<bool> {
+        Ok(true)
+    }
 }
 
 /// A piece of work that is measured.
@@ -43,7 +51,8 @@ pub struct Times {
 /// How often each piece of work is done. The best time counts.
 pub const TURNS: u8 = 25;
 
-/// Measures the work of the product, that of plain Rust on the same sample and a copy of so many bytes, in turns.
+/// Measures the work of the product, that of plain Rust on the same sample and a copy of so many bytes, in turns. What
+/// both left is compared once, after the last turn.
 ///
 /// # Errors
 /// The work or the clock fails, or out of memory.
@@ -64,6 +73,7 @@ pub fn measured<P: Work, Q: Work<Sample = P::Sample>>(
         sample.touch(turn);
         best = next_times::<P, Q>(rt, alloc, &mut sample, &mut blocks, best)?;
     }
+    best.are_same = best.are_same && sample.is_left_same(alloc)?;
     Ok(best)
 }
 

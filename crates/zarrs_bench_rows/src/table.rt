@@ -1,5 +1,5 @@
 //! The table that is printed.
-use crate::growth::{self, Growth};
+use crate::growth::{Growth, Scale};
 use crate::measure::{Work, measured};
 use anyhow::Result;
 use std::alloc::Global;
@@ -27,17 +27,17 @@ impl<'a, R: Clock + Print + Alloc<A = Global>> Table<'a, R> {
         }
     }
 
-    /// Ends the rows of ratios, and prints the head of a table of growths.
-    pub fn begin_growths(&mut self) {
+    /// Ends the rows before, and prints the head of a table of growths.
+    pub fn begin_growths(&mut self, scale: Scale) {
         if self.outcome.is_ok() {
-            self.outcome = print_line(self.rt, growth::HEAD);
+            self.outcome = print_line(self.rt, scale.head());
         }
     }
 
-    /// Measures the work over 10, 100, 1,000 and 10,000 chunks, and prints the row of its growth.
-    pub fn growth<W: Work>(&mut self, name: &str) {
+    /// Measures the work over samples of each size, and prints the row of its growth.
+    pub fn growth<W: Work>(&mut self, scale: Scale, name: &str) {
         if self.outcome.is_ok() {
-            self.outcome = print_growth::<R, W>(self.rt, name);
+            self.outcome = print_growth::<R, W>(self.rt, scale, name);
         }
     }
 
@@ -75,8 +75,12 @@ fn print_line(rt: &impl Print, line: &str) -> Result<()> {
 }
 
 /// Measures, and prints a row of growths.
-fn print_growth<R: Clock + Print + Alloc<A = Global>, W: Work>(rt: &R, name: &str) -> Result<()> {
-    let growth = Growth::measured::<W>(rt, rt.alloc())?;
+fn print_growth<R: Clock + Print + Alloc<A = Global>, W: Work>(
+    rt: &R,
+    scale: Scale,
+    name: &str,
+) -> Result<()> {
+    let growth = Growth::measured::<W>(rt, rt.alloc(), scale)?;
     println!(rt; "| {name} | {growth} |")?;
     Ok(())
 }

@@ -1,7 +1,7 @@
 //! Arrays of any number of chunks, stored and read.
-use crate::arrays::typed_array;
 use anyhow::Result;
 use std::alloc::Global;
+use zarrs_bench_engine::arrays::typed_array;
 use zarrs_bench_rows::measure::{Sample, Work};
 use zarrs_bench_rows::samples::{bytes_in, tested};
 use zarrs_codec::CodecOptions;
@@ -18,7 +18,7 @@ pub const ABSENT: u64 = 1;
 /// The same, in subchunks of one chunk.
 pub const SUBCHUNKS: u64 = 2;
 
-/// Texts of 12 bytes.
+/// Texts of 12 bytes on average.
 pub const TEXTS: u64 = 3;
 
 /// Optional numbers of 4 bytes, of which every other one is none.
@@ -48,7 +48,7 @@ fn extent_of(kind: u64, dimensions: usize) -> u64 {
 }
 
 /// The type of the cells.
-fn type_of(alloc: Global, kind: u64) -> Result<DataType> {
+pub fn type_of(alloc: Global, kind: u64) -> Result<DataType> {
     Ok(match kind {
         TEXTS => DataType::String,
         OPTIONS => DataType::Optional(Box::new(alloc, DataType::UInt32)?),
@@ -66,12 +66,25 @@ fn owned_data<T: Element>(
     Ok(data.into_owned(alloc)?)
 }
 
+/// So many texts of 12 bytes on average.
+fn texts_of(alloc: Global, count: usize) -> Result<Vec<&'static str>> {
+    let mut texts = vec![in alloc; "rain"; count]?;
+    for (place, text) in texts.iter_mut().enumerate() {
+        *text = match place % 4 {
+            0 => "rain",
+            1 => "rainfall",
+            2 => "rain at noon",
+            _ => "rain at noon, then sunny",
+        };
+    }
+    Ok(texts)
+}
+
 /// So many cells.
-fn cells_of(alloc: Global, kind: u64, count: usize) -> Result<ArrayBytes<'static>> {
+pub fn cells_of(alloc: Global, kind: u64, count: usize) -> Result<ArrayBytes<'static>> {
     let data_type = type_of(alloc, kind)?;
     if kind == TEXTS {
-        let texts = vec![in alloc; "rain at noon"; count]?;
-        return owned_data(alloc, &data_type, &texts);
+        return owned_data(alloc, &data_type, &texts_of(alloc, count)?);
     }
     if kind == OPTIONS {
         let numbers = <Vec<Option<u32>> as Sample>::make(alloc, count.saturating_mul(4))?;
