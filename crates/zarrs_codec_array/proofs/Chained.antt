@@ -1,9 +1,11 @@
 -- Codecs that make an array of an array, one after another.
-use Rattle.std.proofs.Common.{◌≡◌, ℕ, zero, suc, ◌+◌, ◌<◌, ◌≤◌, Bool, true, false, cond, ◌&&◌, List, [], ◌∷◌, ◌++◌}
-use Rattle.std.proofs.Common.{length, take, drop, get_or, None, Some, refl, sym, ap, ◌∙◌, subst}
-use Rattle.std.specs.Prelude.{IfSome, option_and_then}
+use Rattle.std.proofs.Common.{◌≡◌, ℕ, zero, suc, ◌+◌, ◌-◌, ◌<◌, ◌≤◌, Bool, true, false, cond, ◌&&◌, List, [], ◌∷◌, ◌++◌}
+use Rattle.std.proofs.Common.{length, take, drop, get_or, None, Some, refl, sym, ap, ◌∙◌, subst, arith, below_more}
+use Rattle.std.specs.Prelude.{IfSome, option_and_then, Vec}
+use Rattle.std.specs.List.{HoldsAt}
+use Rattle.std.specs.declared.alloc.Global.{Global}
 use Rattle.std.proofs.lemmas.Bool.{and_parts, and_from}
-use Rattle.std.proofs.lemmas.List.{take_more, take_all}
+use Rattle.std.proofs.lemmas.List.{take_more, take_all, get_or_append_left, get_or_push, length_push}
 use Rattle.zarrs_data_type.specs.ArrayData.{ArrayData}
 use Rattle.zarrs_data_type.specs.Cell.{Cell}
 use Rattle.zarrs_data_type.specs.Cells.{cells, HasCells}
@@ -11,7 +13,7 @@ use Rattle.zarrs_data_type.specs.Kind.{Kind}
 use Rattle.zarrs_data_type.proofs.Cells.{HasCells-cells, HasCells-some}
 use Rattle.zarrs_subset.specs.Boxes.{position_count}
 use Rattle.zarrs_codec_array.specs.Arrays.{ArrayMeaning, and_then}
-use Rattle.zarrs_codec_array.specs.ArrayCodecs.{array_meaning, arrays_meaning, arrays-lawful, array-lawful}
+use Rattle.zarrs_codec_array.specs.ArrayCodecs.{array_meaning, arrays_meaning, AreMadeShapes, arrays-lawful, array-lawful}
 use Rattle.zarrs_codec_array.specs.Gathered.{encoded_shape}
 use Rattle.zarrs_codec_array.specs.declared.array.ArrayToArrayCodec.{ArrayToArrayCodec}
 
@@ -44,6 +46,10 @@ pub back-snoc : (cs : List ArrayToArrayCodec) (c : ArrayToArrayCodec) (s : List 
 back-snoc [] c s xs = refl
 back-snoc (x ∷ cs) c s xs = ap ((array_meaning x).back s) (back-snoc cs c ((array_meaning x).shape s) xs)
 
+pub shape-snoc : (cs : List ArrayToArrayCodec) (c : ArrayToArrayCodec) (s : List ℕ) → (arrays_meaning (cs ++ c ∷ [])).shape s ≡ (array_meaning c).shape ((arrays_meaning cs).shape s)
+shape-snoc [] c s = refl
+shape-snoc (x ∷ cs) c s = shape-snoc cs c ((array_meaning x).shape s)
+
 pub shape-fits : (m : ArrayMeaning) (s : List ℕ) → m.fits s ≡ true → encoded_shape m s ≡ Some (m.shape s)
 shape-fits m s fit = ap (λ b. cond b (Some (m.shape s)) None) fit
 
@@ -62,6 +68,9 @@ module _ (cs : List ArrayToArrayCodec) (k : ℕ) (c : ArrayToArrayCodec) (s : Li
 
   pub fits-at : (array_meaning c).fits ((arrays_meaning (take k cs)).shape s) ≡ true
   fits-at = (fits-snoc (take k cs) c s (ap (λ l. (arrays_meaning l).fits s) (sym one_more) ∙ fits-take cs (k + 1) s fit)).1
+
+  pub shape-more : (arrays_meaning (take (k + 1) cs)).shape s ≡ (array_meaning c).shape ((arrays_meaning (take k cs)).shape s)
+  shape-more = ap (λ l. (arrays_meaning l).shape s) one_more ∙ shape-snoc (take k cs) c s
 
   module _ (t : Kind) (d : ArrayData) (has : HasCells t d (position_count s)) where
     -- the array that comes to it
@@ -85,6 +94,29 @@ module _ (cs : List ArrayToArrayCodec) (k : ℕ) (c : ArrayToArrayCodec) (s : Li
         subst (λ o. IfSome o (λ xs. cells t f ≡ Some ((array_meaning c).forward (m.shape s) xs))) here next in
         subst (λ o. IfSome o (λ xs. cells t f ≡ Some ((arrays_meaning (take (k + 1) cs)).forward s xs))) (sym held.1)
         (there ∙ ap Some (sym (forward-snoc (take k cs) c s held.0) ∙ ap (λ l. (arrays_meaning l).forward s held.0) (sym one_more)))
+
+-- the shape that comes to the codec of number k, of those that were made
+at-made : (cs : List ArrayToArrayCodec) (s : List ℕ) (made : List (Vec ℕ Global)) (k : ℕ) (now : List ℕ) → AreMadeShapes cs s made → k ≤ length made
+    → (k ≡ 0 → now ≡ s) → (0 < k → HoldsAt (λ before. now ≡ before.items) made (k - 1)) → now ≡ (arrays_meaning (take k cs)).shape s
+at-made cs s made zero now are le first later = first refl
+at-made cs s [] (suc k) now are le first later = absurd (omega (arith, le))
+at-made cs s (v ∷ vs) (suc k) now are le first later =
+    let back : suc k - 1 ≡ k = omega arith in
+    let next : k + 1 ≡ suc k = omega arith in
+    later (omega arith) v ∙ ap (λ n. (get_or (v ∷ vs) n v).items) back ∙ are k v (omega (arith, le)) ∙ ap (λ n. (arrays_meaning (take n cs)).shape s) next
+
+pub made-before : (cs : List ArrayToArrayCodec) (s : List ℕ) (made lent : List (Vec ℕ Global)) (k : ℕ) (now : List ℕ) → lent ≡ made → AreMadeShapes cs s made
+    → k ≤ length made → (k ≡ 0 → now ≡ s) → (0 < k → HoldsAt (λ before. now ≡ before.items) lent (k - 1)) → now ≡ (arrays_meaning (take k cs)).shape s
+made-before cs s made lent k now same are le first later =
+    at-made cs s made k now are le first (subst (λ l. 0 < k → HoldsAt (λ before. now ≡ before.items) l (k - 1)) same later)
+
+-- one shape more
+pub made-more : (cs : List ArrayToArrayCodec) (s : List ℕ) (made : List (Vec ℕ Global)) (v : Vec ℕ Global) (k : ℕ) → length made ≡ k → AreMadeShapes cs s made
+    → v.items ≡ (arrays_meaning (take (k + 1) cs)).shape s → AreMadeShapes cs s (made ++ v ∷ [])
+made-more cs s made v k long are is i d lt =
+    below_more (λ j. (get_or (made ++ v ∷ []) j d).items ≡ (arrays_meaning (take (j + 1) cs)).shape s) k
+    (λ j below. ap (λ x. x.items) (get_or_append_left made (v ∷ []) d j (omega (arith, below, long))) ∙ are j d (omega (arith, below, long)))
+    (ap (λ x. x.items) (get_or_push made v d k long) ∙ is) i (omega (arith, lt, length_push made v, long))
 
 -- the codecs from number k on are undone: what is left of the others makes the decoded array
 pub record IsUndone (cs : List ArrayToArrayCodec) (k : ℕ) (s : List ℕ) (t : Kind) (d e : ArrayData) : Type 0 where

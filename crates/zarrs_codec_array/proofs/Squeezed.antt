@@ -1,7 +1,6 @@
 -- The shape that `squeeze` makes.
 use Rattle.std.proofs.Common.{◌≡◌, ℕ, ◌+◌, ◌<◌, Bool, true, false, cond, eqb, List, [], ◌∷◌, ◌++◌, length, take, get_or, refl, ap, ◌∙◌}
 use Rattle.std.proofs.lemmas.List.{take_more}
-use Rattle.std.proofs.lemmas.Bool.{eqb-true}
 use Rattle.zarrs_codec_array.specs.Arrays.{squeeze_shape}
 
 inner : (n x : ℕ) (s : List ℕ) (b c : Bool) → cond b (cond c (squeeze_shape s) (squeeze_shape s ++ x ∷ [])) (n ∷ cond c (squeeze_shape s) (squeeze_shape s ++ x ∷ [])) ≡ cond c (cond b (squeeze_shape s) (n ∷ squeeze_shape s)) (cond b (squeeze_shape s) (n ∷ squeeze_shape s) ++ x ∷ [])

@@ -1,5 +1,6 @@
 -- What the codecs that make an array of an array mean.
-use Rattle.std.specs.Prelude.{List, [], ◌∷◌}
+use Rattle.std.specs.Prelude.{◌≡◌, ℕ, ◌+◌, ◌<◌, List, [], ◌∷◌, length, take, slice_index_or, Vec}
+use Rattle.std.specs.declared.alloc.Global.{Global}
 use Rattle.zarrs_codec_array.specs.declared.array.ArrayToArrayCodec.{ArrayToArrayCodec}
 use Rattle.zarrs_codec_array.specs.declared.array.ArrayToArrayCodec.TheVariants as codec
 use Rattle.zarrs_codec_array.specs.Arrays.{ArrayMeaning, IsLawfulArray, same_array, and_then, transposed, reshaped, squeezed}
@@ -17,6 +18,10 @@ array_meaning (codec.Squeeze s) = squeezed
 abbrev pub arrays_meaning : List ArrayToArrayCodec → ArrayMeaning
 arrays_meaning [] = same_array
 arrays_meaning (c ∷ cs) = and_then (array_meaning c) (arrays_meaning cs)
+
+-- these are the shapes of the arrays that the first codecs make of one of this shape, one after another
+abbrev pub AreMadeShapes : List ArrayToArrayCodec → List ℕ → List (Vec ℕ Global) → Type 0
+AreMadeShapes cs s made = (k : ℕ) (d : Vec ℕ Global) → k < length made → (slice_index_or made k d).items ≡ (arrays_meaning (take (k + 1) cs)).shape s
 
 pub array-lawful : (c : ArrayToArrayCodec) → IsLawfulArray (array_meaning c)
 array-lawful (codec.Transpose t) = transposed-lawful t.order.items t.in_order

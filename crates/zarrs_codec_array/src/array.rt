@@ -1,10 +1,11 @@
 //! The codecs that make an array of an array, one after another.
-ghost use Rattle.std.specs.Prelude.{◌≡◌, ◌<◌, true, IfOk, IfSome, option_map, Some, length, take};
+ghost use Rattle.std.specs.Prelude.{◌≡◌, ◌-◌, ◌<◌, ◌≤◌, true, IfOk, IfSome, option_map, Some, length, take};
+ghost use Rattle.std.specs.List.{HoldsAt};
 ghost use Rattle.zarrs_subset.specs.Boxes.{position_count};
 ghost use Rattle.zarrs_data_type.specs.ArrayData.{ArrayData, data_of};
 ghost use Rattle.zarrs_data_type.specs.Cells.{cells, HasCells};
 ghost use Rattle.zarrs_data_type.specs.Kind.{kind};
-ghost use Rattle.zarrs_codec_array.specs.ArrayCodecs.{array_meaning, arrays_meaning};
+ghost use Rattle.zarrs_codec_array.specs.ArrayCodecs.{array_meaning, arrays_meaning, AreMadeShapes};
 ghost use Rattle.zarrs_codec_array.specs.Metadata.{array_codec_data};
 ghost use Rattle.zarrs_codec_array.specs.Gathered.{IsEncodedArray, IsDecodedArray, data_or};
 ghost use Rattle.zarrs_codec_array.specs.Gathered.{encoded_shape};
@@ -133,22 +134,70 @@ pub fn encoded_shape(
     Ok(Some(current))
 }
 
-/// The shape of the array that comes to the codec of number `k`.
-fn shape_before(
+/// The shape of the array that the codec makes.
+fn made_shape(
+    alloc: Global,
+    codec: &ArrayToArrayCodec,
+    shape: &[u64],
+) -> Result<Vec<u64>, AllocError>
+    requires fits { (array_meaning codec.now).fits shape.now ≡ true }
+    ensures { IfOk result (λ made. made.items ≡ (array_meaning codec.now).shape shape.now) }
+{
+    match codec.encoded_shape(alloc, shape)? {
+        Some(made) => Ok(made),
+        None => unreachable!(),
+    }
+}
+
+/// The shape of the array that comes to the codec of number `k`. That of the array before it, if there is one, is
+/// `last`.
+fn next_shape(
     alloc: Global,
     codecs: &[ArrayToArrayCodec],
     k: usize,
+    last: &[u64],
     shape: &[u64],
 ) -> Result<Vec<u64>, AllocError>
     requires below { k < length codecs.now }
     requires fits { (arrays_meaning codecs.now).fits shape.now ≡ true }
-    ensures { IfOk result (λ before. before.items ≡ (arrays_meaning (take k codecs.now)).shape
+    requires last { 0 < k
+        → last.now ≡ (arrays_meaning (take (k - 1) codecs.now)).shape shape.now }
+    ensures { IfOk result (λ next. next.items ≡ (arrays_meaning (take k codecs.now)).shape
         shape.now) }
 {
-    match encoded_shape(alloc, &codecs[..k], shape)? {
-        Some(before) => Ok(before),
-        None => unreachable!(),
+    if k == 0 {
+        Vec::from_slice(alloc, shape)
+    } else {
+        made_shape(alloc, &codecs[k - 1], last)
     }
+}
+
+/// The shapes of the arrays that the codecs make, except the last one: each codec takes one step, so that a chain of
+/// any length costs what its codecs cost.
+fn made_shapes(
+    alloc: Global,
+    codecs: &[ArrayToArrayCodec],
+    shape: &[u64],
+) -> Result<Vec<Vec<u64>>, AllocError>
+    requires fits { (arrays_meaning codecs.now).fits shape.now ≡ true }
+    ensures count { IfOk result (λ made. length made.items ≡ length codecs.now - 1) }
+    ensures shapes { IfOk result (λ made. AreMadeShapes codecs.now shape.now made.items) }
+{
+    let mut made = Vec::new(alloc);
+    for k in 1..codecs.len() {
+        let next = made_shape(alloc, &codecs[k - 1], shape_before(&made, shape, k - 1))?;
+        made.push(next)?;
+    }
+    Ok(made)
+}
+
+/// The shape of the array that comes to the codec of number `k`, of those that the codecs before it made.
+fn shape_before<'s>(made: &'s [Vec<u64>], shape: &'s [u64], k: usize) -> &'s [u64]
+    requires within { k ≤ length made.now }
+    ensures first { k ≡ 0 → result.now ≡ shape.now }
+    ensures later { 0 < k → HoldsAt (λ before. result.now ≡ before.items) made.now (k - 1) }
+{
+    if k == 0 { shape } else { &made[k - 1] }
 }
 
 /// What the codec makes of the current array, which is `bytes` if none was made yet.
@@ -222,8 +271,9 @@ pub fn encode_array(
         shape.now (data_of bytes.now)) }
 {
     let mut current = None;
+    let mut before = Vec::new(alloc);
     for k in 0..codecs.len() {
-        let before = shape_before(alloc, codecs, k, shape)?;
+        before = next_shape(alloc, codecs, k, &before, shape)?;
         let next = encode_next(alloc, &codecs[k], &current, bytes, data_type, &before)?;
         current = later(current, next);
     }
@@ -247,12 +297,13 @@ pub fn decode_array<'a>(
         (λ cs. cells (kind data_type.now) (data_of made)
         ≡ Some ((arrays_meaning codecs.now).back shape.now cs))) }
 {
+    let made = made_shapes(alloc, codecs, shape)?;
     let mut current = bytes;
     let mut k = codecs.len();
     while k > 0 {
         k -= 1;
-        let before = shape_before(alloc, codecs, k, shape)?;
-        current = decode_next(alloc, &codecs[k], current, data_type, &before)?;
+        let before = shape_before(&made, shape, k);
+        current = decode_next(alloc, &codecs[k], current, data_type, before)?;
     }
     Ok(current)
 }
