@@ -1,6 +1,7 @@
 -- What the calls of an engine end in: what was asked is done, or refused. Each is of the state before, the state after and
--- the result.
-use Rattle.std.specs.Prelude.{◌≡◌, ℕ, Bool, true, false, List, [], ◌∷◌, Option, option_map, Result, OnOk, IfOk, IfErr, IsErr}
+-- the result. And what the store may be asked for a call: nothing where its indices, range, part or region is refused.
+use Rattle.std.specs.Prelude.{◌≡◌, ℕ, Bool, true, false, if◌then◌else◌, List, [], ◌∷◌, Option, None, option_map, Result, OnOk, IfOk, IfErr, IsErr}
+use Rattle.std.specs.Option.{option_or}
 use Rattle.zarrs_subset.specs.Regions.{Box, positions}
 use Rattle.zarrs_storage.specs.Store.{StoreState}
 use Rattle.zarrs_storage.specs.declared.error.StorageError.{StorageError}
@@ -12,7 +13,8 @@ use Rattle.zarrs_chain.specs.declared.options.CodecOptions.{CodecOptions}
 use Rattle.zarrs_array_bytes.specs.declared.array_bytes.ArrayBytes.{ArrayBytes}
 use Rattle.zarrs_data_type.specs.ArrayData.{ArrayData, data_of}
 use Rattle.zarrs_chunk_grid.specs.Grids.{box_at}
-use Rattle.zarrs_calls.specs.ChunkBoxes.{chunks_met, part_box}
+use Rattle.zarrs_calls.specs.ArgumentRefusals.{chunk_refusal, dimensions_refusal, part_refusal, range_refusal, region_refusal}
+use Rattle.zarrs_calls.specs.ChunkBoxes.{chunks_met, is_empty, part_box}
 use Rattle.zarrs_calls.specs.Step.{RetrievesChunks, RefusesRetrieveChunks, RetrievesPart, RefusesRetrievePart, RetrievesRegion, RefusesRetrieveRegion}
 use Rattle.zarrs_calls.specs.Step.{StoresChunks, RefusesStoreChunks, StoresPart, RefusesStorePart, ErasesChunks, RefusesEraseChunks}
 use Rattle.zarrs_calls.specs.Reach.{MayAskChunks, MayAskParts, MayReadPart, MayReadParts}
@@ -75,7 +77,7 @@ module _ {S G K C : Type 0} {g : GridMeaning G} {k : KeyMeaning K} {c : ChainMea
   StoresChunksOrRefuses state keep range held old =
       WritesChunks refusal_of state keep (StoresChunks (layout_of old) keep range held) (RefusesStoreChunks (layout_of old) keep range held) old
 
-  -- a store over a part of a chunk, and that it may be asked for
+  -- a store over a part of a chunk, and that it may be asked for, if there is such a chunk and the part lies in it
   abbrev pub StoresPartOrRefuses : (S → StoreState) → Bool → List ℕ → Box → ArrayData
       → Engine S G K C g k c → Engine S G K C g k c → Result (Unit {0}) ArrayError → Type 0
   StoresPartOrRefuses state keep index part held old =
@@ -83,9 +85,11 @@ module _ {S G K C : Type 0} {g : GridMeaning G} {k : KeyMeaning K} {c : ChainMea
 
   abbrev pub MayStorePart : (S → StoreState) → List ℕ → Box → Engine S G K C g k c → Type 0
   MayStorePart state index part engine =
-      MayAskParts (layout_of engine) (part_box (box_at (layout_of engine).grid index) part) (index ∷ []) (store_of state engine)
+      let layout = layout_of engine in
+      chunk_refusal layout index ≡ None → part_refusal layout index part ≡ None
+      → MayAskParts layout (part_box (box_at layout.grid index) part) (index ∷ []) (store_of state engine)
 
-  -- a store over a region, and that it may be asked for
+  -- a store over a region, and that it may be asked for, if chunks cover the region
   abbrev pub StoresRegionOrRefuses : (S → StoreState) → Bool → Box → ArrayData
       → Engine S G K C g k c → Engine S G K C g k c → Result (Unit {0}) ArrayError → Type 0
   StoresRegionOrRefuses state keep region held old =
@@ -93,7 +97,10 @@ module _ {S G K C : Type 0} {g : GridMeaning G} {k : KeyMeaning K} {c : ChainMea
       WritesChunks refusal_of state keep (StoresRegion (layout_of old) keep shape region held) (RefusesStoreRegion (layout_of old) keep shape region held) old
 
   abbrev pub MayStoreRegion : (S → StoreState) → Box → Engine S G K C g k c → Type 0
-  MayStoreRegion state region engine = MayAskParts (layout_of engine) region (chunks_met (layout_of engine).grid region) (store_of state engine)
+  MayStoreRegion state region engine =
+      let layout = layout_of engine in
+      let now = state_of state engine in
+      region_refusal layout now.shape region ≡ None → MayAskParts layout region (chunks_met layout.grid region) now.store
 
   -- an erasure of one chunk
   abbrev pub ErasesChunkOrRefuses : (S → StoreState) → List ℕ → Engine S G K C g k c → Engine S G K C g k c → Result (Unit {0}) StorageError → Type 0
@@ -136,7 +143,7 @@ module _ {S G K C : Type 0} {g : GridMeaning G} {k : KeyMeaning K} {c : ChainMea
         RefusesChunkRead (layout_of engine) (length_refusal (layout_of engine) index) false index (store_of state engine) (refusal_of e))
     pub refusing : (store_of state engine).refuses ((layout_of engine).key index) ≡ true → IsErr result
 
-  -- of the chunks of a range, and that it may be asked for
+  -- of the chunks of a range, and that it may be asked for, if there are such chunks
   abbrev pub RetrievesChunksOrRefuses : (S → StoreState) → Box → Engine S G K C g k c → Result ArrayBytes ArrayError → Type 0
   RetrievesChunksOrRefuses state range engine =
       let layout = layout_of engine in
@@ -144,9 +151,13 @@ module _ {S G K C : Type 0} {g : GridMeaning G} {k : KeyMeaning K} {c : ChainMea
       Reads (λ held. RetrievesChunks layout now.shape range held now.store) (λ r. RefusesRetrieveChunks layout now.shape range r now.store)
 
   abbrev pub MayRetrieveChunks : (S → StoreState) → Box → Engine S G K C g k c → Type 0
-  MayRetrieveChunks state range engine = MayAskChunks (layout_of engine) (positions range) (store_of state engine)
+  MayRetrieveChunks state range engine =
+      let layout = layout_of engine in
+      let now = state_of state engine in
+      option_or (dimensions_refusal layout now.shape range) (if is_empty range then None else range_refusal layout range) ≡ None
+      → MayAskChunks layout (positions range) now.store
 
-  -- of a part of a chunk, and that it may be asked for
+  -- of a part of a chunk, and that it may be asked for, if there is such a chunk and the part lies in it
   abbrev pub RetrievesPartOrRefuses : (S → StoreState) → List ℕ → Box → Engine S G K C g k c → Result ArrayBytes ArrayError → Type 0
   RetrievesPartOrRefuses state index part engine =
       let layout = layout_of engine in
@@ -156,9 +167,10 @@ module _ {S G K C : Type 0} {g : GridMeaning G} {k : KeyMeaning K} {c : ChainMea
   abbrev pub MayRetrievePart : (S → StoreState) → List ℕ → Box → Engine S G K C g k c → Type 0
   MayRetrievePart state index part engine =
       let layout = layout_of engine in
-      MayReadPart layout (part_box (box_at layout.grid index) part) index (store_of state engine)
+      chunk_refusal layout index ≡ None → part_refusal layout index part ≡ None
+      → MayReadPart layout (part_box (box_at layout.grid index) part) index (store_of state engine)
 
-  -- of a region, and that it may be asked for
+  -- of a region, and that it may be asked for, if chunks cover the region
   abbrev pub RetrievesRegionOrRefuses : (S → StoreState) → Box → Engine S G K C g k c → Result ArrayBytes ArrayError → Type 0
   RetrievesRegionOrRefuses state region engine =
       let layout = layout_of engine in
@@ -166,7 +178,10 @@ module _ {S G K C : Type 0} {g : GridMeaning G} {k : KeyMeaning K} {c : ChainMea
       Reads (λ held. RetrievesRegion layout now.shape region held now.store) (λ r. RefusesRetrieveRegion layout now.shape region r now.store)
 
   abbrev pub MayRetrieveRegion : (S → StoreState) → Box → Engine S G K C g k c → Type 0
-  MayRetrieveRegion state region engine = MayReadParts (layout_of engine) region (chunks_met (layout_of engine).grid region) (store_of state engine)
+  MayRetrieveRegion state region engine =
+      let layout = layout_of engine in
+      let now = state_of state engine in
+      region_refusal layout now.shape region ≡ None → MayReadParts layout region (chunks_met layout.grid region) now.store
 
   -- a store over a part of a chunk whose parts may be written by themselves
   abbrev pub PatchesPartOrRefuses : (S → StoreState) → Bool → List ℕ → Box → ArrayData

@@ -6,6 +6,7 @@ mod into;
 mod part_reads;
 mod partial_writes;
 mod reads;
+mod region_lists;
 mod region_reads;
 mod region_writes;
 mod resize;

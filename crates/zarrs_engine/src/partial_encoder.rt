@@ -68,10 +68,11 @@ impl<
     K: ChunkKeyEncodingTraits,
     C: ChainTraits,
 > ArrayPartialEncoder<'_, S, G, K, C> {
-    ghost use Rattle.std.specs.Prelude.{◌≡◌, ◌&&◌};
+    ghost use Rattle.std.specs.Prelude.{◌≡◌, ◌&&◌, None};
     ghost use Rattle.zarrs_subset.specs.Regions.{box_of};
     ghost use Rattle.zarrs_data_type.specs.ArrayData.{data_of};
     ghost use Rattle.zarrs_chain.specs.Options.{stores_empty_chunks};
+    ghost use Rattle.zarrs_calls.specs.ArgumentRefusals.{part_refusal};
     ghost use Rattle.zarrs_calls.specs.Reach.{MayAskChunk};
     ghost use Rattle.zarrs_engine.specs.Engine.{layout_of, store_of};
     ghost use Rattle.zarrs_engine.specs.Outcomes.{ErasesEncodedOrRefuses, PatchesPartOrRefuses};
@@ -88,7 +89,9 @@ impl<
         bytes: &ArrayBytes<'_>,
         options: &CodecOptions,
     ) -> Result<(), ArrayError>
-        requires { MayAskChunk (layout_of (engine_of self.old)) (indices_of self.old)
+        requires { part_refusal (layout_of (engine_of self.old)) (indices_of self.old)
+            (box_of chunk_subset.now) ≡ None
+            → MayAskChunk (layout_of (engine_of self.old)) (indices_of self.old)
             (store_of S.state (engine_of self.old)) }
         ensures encodes { PatchesPartOrRefuses S.state (stores_empty_chunks options.now)
             (indices_of self.old) (box_of chunk_subset.now) (data_of bytes.now)

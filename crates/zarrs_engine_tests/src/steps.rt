@@ -2,10 +2,14 @@
 use std::alloc::Global;
 use std::num::NonZeroU64;
 use std::process::Abort;
+use zarrs_chunk_grid::RegularChunkGrid;
+use zarrs_codec::CodecChain;
 use zarrs_data_type::ArrayBytes;
-use zarrs_engine::Call;
+use zarrs_engine::{Call, Engine};
+use zarrs_keys::ChunkKeyEncoding;
+use zarrs_storage::{Fence, MemoryStore};
 use zarrs_subset::ArraySubset;
-use zarrs_uses::make::{MemoryEngine, bytes_array};
+use zarrs_uses::make::{MemoryEngine, bytes_array, bytes_array_over};
 
 /// A call of an engine of bytes. A region, a range of chunks and a part of a chunk are given by their start and their shape.
 pub(crate) enum Step {
@@ -83,4 +87,23 @@ fn two_by_two(rt: &impl Abort, alloc: Global) -> Vec<NonZeroU64> {
 pub(crate) fn small_array(rt: &impl Abort, alloc: Global) -> MemoryEngine {
     let shape = indices(rt, alloc, &[4, 4]);
     bytes_array(alloc, shape, two_by_two(rt, alloc)).expect(rt, "no refusal")
+}
+
+/// An array over a store of which no key may be asked.
+pub(crate) type FencedEngine<'a> = Engine<
+    Fence<'a, MemoryStore>,
+    RegularChunkGrid,
+    ChunkKeyEncoding,
+    CodecChain,
+>;
+
+/// The same over this store, of which no key may be asked.
+pub(crate) fn fenced_array<'a>(
+    rt: &impl Abort,
+    alloc: Global,
+    store: &'a mut MemoryStore,
+) -> FencedEngine<'a> {
+    let fence = Fence::new(store, Vec::new(alloc));
+    let shape = indices(rt, alloc, &[4, 4]);
+    bytes_array_over(alloc, fence, shape, two_by_two(rt, alloc)).expect(rt, "no refusal")
 }

@@ -1,14 +1,15 @@
 //! The uses of the engine, run.
 use crate::checks::{must, must_eq};
-use crate::steps::{Step, calls, region, small_array};
+use crate::steps::{Step, calls, fenced_array, region, small_array};
 use std::alloc::Global;
 use std::process::Abort;
 use zarrs_data_type::ArrayBytes;
 use zarrs_engine::ArrayError;
+use zarrs_storage::MemoryStore;
 use zarrs_uses::chunks::{erase, is_present, store_and_read};
 use zarrs_uses::histories::{count_refused, have_equal_bytes};
 use zarrs_uses::make::MemoryEngine;
-use zarrs_uses::refusals::advice;
+use zarrs_uses::refusals::{advice, other_dimensions};
 use zarrs_uses::regions::{part_of_chunk, store_region};
 use zarrs_uses::walk::sum_of_chunks;
 
@@ -120,6 +121,21 @@ fn refusals_are_told_apart(rt: HostRuntime) {
     must_advise_on_chunk(&rt, rt.alloc(), &mut engine, &[0, 0], &[1, 2, 3], UNFIT);
     must_advise_on_part(&rt, rt.alloc(), &engine, PART);
     must_advise_on_region(&rt, rt.alloc(), &mut engine, REGION);
+    drop(engine);
+}
+
+/// A region of one dimension is refused over a store of which no key may be asked.
+#[test]
+fn a_region_of_other_dimensions_asks_nothing(rt: HostRuntime) {
+    let mut store = MemoryStore::new(rt.alloc());
+    let engine = fenced_array(&rt, rt.alloc(), &mut store);
+    let line = region(&rt, rt.alloc(), &[0], &[1]);
+    let refused = other_dimensions(rt.alloc(), &engine, &line);
+    must(
+        &rt,
+        matches!(refused, Some(ArrayError::InvalidArraySubset(_, _))),
+    );
+    drop(refused);
     drop(engine);
 }
 

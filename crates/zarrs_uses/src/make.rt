@@ -18,6 +18,16 @@ pub fn bytes_array(
     shape: Vec<u64>,
     chunk_shape: Vec<NonZeroU64>,
 ) -> Result<MemoryEngine> {
+    bytes_array_over(alloc, MemoryStore::new(alloc), shape, chunk_shape)
+}
+
+/// The same over this store.
+pub fn bytes_array_over<S: Drop>(
+    alloc: Global,
+    storage: S,
+    shape: Vec<u64>,
+    chunk_shape: Vec<NonZeroU64>,
+) -> Result<Engine<S, RegularChunkGrid, ChunkKeyEncoding, CodecChain>> {
     let grid = RegularChunkGrid::new(alloc, shape, chunk_shape)?;
     let path = NodePath::new(alloc, "/climate/rain")?;
     let keys = ChunkKeyEncoding::Default(ChunkKeySeparator::Slash);
@@ -28,7 +38,7 @@ pub fn bytes_array(
     );
     let fill_value = FillValue::new(vec![in alloc; 0]?);
     Ok(Engine::new(
-        MemoryStore::new(alloc),
+        storage,
         path,
         grid,
         keys,

@@ -113,7 +113,7 @@ impl<
     }
 
     /// Reads what these chunks have of the region into the target's box. Every byte outside the box stays.
-    fn read_into(
+    pub(super) fn read_into(
         &self,
         alloc: Global,
         region: &ArraySubset,

@@ -31,6 +31,7 @@ impl<
     ghost use Rattle.zarrs_shard.specs.ShardPatches.{change_of};
     ghost use Rattle.zarrs_chain.specs.Chain.{partial_encoding};
     ghost use Rattle.zarrs_chain.specs.Options.{encodes_partially, stores_empty_chunks};
+    ghost use Rattle.zarrs_calls.specs.ArgumentRefusals.{part_refusal};
     ghost use Rattle.zarrs_calls.specs.Changes.{IsPut};
     ghost use Rattle.zarrs_calls.specs.ChunkBoxes.{part_box};
     ghost use Rattle.zarrs_calls.specs.Content.{value_at};
@@ -179,8 +180,9 @@ impl<
         options: &CodecOptions,
     ) -> Result<(), ArrayError>
         requires boxed { has_box (layout_of self.old).grid chunk_indices.now ≡ true }
-        requires ask { MayAskChunk (layout_of self.old) chunk_indices.now
-            (store_of S.state self.old) }
+        requires ask { part_refusal (layout_of self.old) chunk_indices.now
+            (box_of chunk_subset.now) ≡ None
+            → MayAskChunk (layout_of self.old) chunk_indices.now (store_of S.state self.old) }
         ensures { PatchesPartOrRefuses S.state (stores_empty_chunks options.now) chunk_indices.now
             (box_of chunk_subset.now) (data_of chunk_subset_data.now) self.old self.new result }
     {

@@ -1,5 +1,6 @@
 //! Reads of regions, which may cross many chunks.
 use super::Engine;
+use super::region_lists::form_of;
 use std::alloc::Global;
 use zarrs_array_layout::{Parts, shared_positions};
 use zarrs_calls::ArrayError;
@@ -312,6 +313,9 @@ impl<
             if let Ok(1) = chunks.num_elements() {
                 return self.read_in_chunk(alloc, region, chunks.start());
             }
+        }
+        if let Some(form) = form_of(&self.parts.data_type) {
+            return self.read_in_list(alloc, region, chunks, form);
         }
         let filled = self.region_of_fill(alloc, region)?;
         let held = self.read_along(alloc, region, chunks, filled)?;

@@ -155,8 +155,9 @@ impl<
     K: ChunkKeyEncodingTraits,
     C: ChainTraits,
 > Engine<S, G, K, C> {
-    ghost use Rattle.std.specs.Prelude.{◌≡◌, IfErr, OnErr, OnOk};
+    ghost use Rattle.std.specs.Prelude.{◌≡◌, None, IfErr, OnErr, OnOk};
     ghost use Rattle.zarrs_chain.specs.Options.{stores_empty_chunks};
+    ghost use Rattle.zarrs_calls.specs.ArgumentRefusals.{resize_refusal};
     ghost use Rattle.zarrs_calls.specs.Canon.{KeepsCanon};
     ghost use Rattle.zarrs_calls.specs.Cuts.{cut_chunks};
     ghost use Rattle.zarrs_calls.specs.Reach.{MayAskKept};
@@ -181,7 +182,8 @@ impl<
         shape: ArrayShape,
         options: &CodecOptions,
     ) -> Result<(), ArrayError>
-        requires { MayAskKept (layout_of self.old) shape.items (cut_chunks
+        requires { resize_refusal (layout_of self.old) shape.items ≡ None
+            → MayAskKept (layout_of self.old) shape.items (cut_chunks
             (layout_of self.old).grid (state_of S.state self.old).shape shape.items)
             (store_of S.state self.old) }
         ensures done { OnOk result

@@ -159,7 +159,7 @@ retrieve_array_subset-requires g c =
     let state = state_of g.S.ReadableStorageTraits.state c.args.self.now in
     let region = box_of c.in-RetrieveArraySubset.array_subset in
     let ask = may_ask_chunks layout (chunks_met layout.grid region) state (subst (λ (call : Call). MayAskCall layout call state) c.in-RetrieveArraySubset.is c.requires) in
-    may_read_all layout c.args.self.now.parts.lawful.chain region (chunks_met layout.grid region) state.store ask
+    λ accepted. may_read_all layout c.args.self.now.parts.lawful.chain region (chunks_met layout.grid region) state.store ask
 
 pub returns-in-RetrieveChunk-clause-step : goal.returns-in-RetrieveChunk-clause-step
 returns-in-RetrieveChunk-clause-step g c =

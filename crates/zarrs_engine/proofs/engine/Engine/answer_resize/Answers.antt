@@ -20,7 +20,7 @@ pub returns-in_default-clause-others : goal.returns-in_default-clause-others
 returns-in_default-clause-others g c = keeps_others _ _ refl
 
 pub resize-requires : goal.resize-requires
-resize-requires g c =
+resize-requires g c accepted =
     let layout = layout_of c.args.self.now in
     let state = state_of g.S.ReadableStorageTraits.state c.args.self.now in
     subst (λ (i : List ℕ). MayAskKept layout i (cut_chunks layout.grid state.shape i) state.store) (sym (c.in-Ok.ensures.items_if_clones_equal (λ x y same. same))) c.requires

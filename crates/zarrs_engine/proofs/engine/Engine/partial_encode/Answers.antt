@@ -102,7 +102,8 @@ store_part-requires-clause-covered g c =
 pub store_part-requires-clause-ask : goal.store_part-requires-clause-ask
 store_part-requires-clause-ask g c = λ i among proper.
     let state = g.S.ReadableStorageTraits.state c.args.self.now.storage in
-    subst (λ (j : List ℕ). MayAskChunk (layout_of c.args.self.now) j state) (sym (only_member c.args.chunk_indices.now i among)) c.requires.ask
+    subst (λ (j : List ℕ). MayAskChunk (layout_of c.args.self.now) j state) (sym (only_member c.args.chunk_indices.now i among))
+    (c.requires.ask c.in_ok-region.ensures.accepted)
 
 pub returns-then-encodes_partly : goal.returns-then-encodes_partly
 returns-then-encodes_partly g c =

@@ -55,7 +55,10 @@ cut_along-requires-clause-ask g c =
     let given = subst (λ o. IfSome o (λ grid. g.G.ChunkGridTraits.array_extents grid ≡ c.args.shape.items)) c.in-Some.is c.in_ok-grid.ensures.shape in
     let extents = g.G.ChunkGridTraits.array_extents c.args.self.now.parts.grid in
     let state = g.S.ReadableStorageTraits.state c.args.self.now.storage in
-    subst (λ (s : List ℕ). MayAskKept layout s (cut_chunks layout.grid extents s) state) (sym (c.array_shape.ensures.value ∙ given)) c.requires
+    let long : length c.args.shape.items ≡ layout.grid.dimensions = omega arith in
+    let resizes : layout.grid.resizes ≡ true = sym c.in_ok-grid.ensures.resizes ∙ ap is_some c.in-Some.is in
+    subst (λ (s : List ℕ). MayAskKept layout s (cut_chunks layout.grid extents s) state) (sym (c.array_shape.ensures.value ∙ given))
+    (c.requires (resize_none layout c.args.shape.items long resizes))
 
 pub returns-in_err-cut_along-clause-refused : goal.returns-in_err-cut_along-clause-refused
 returns-in_err-cut_along-clause-refused g c =

@@ -47,7 +47,8 @@ pub read_into-requires-clause-ask : goal.read_into-requires-clause-ask
 read_into-requires-clause-ask g c =
     let layout = layout_of c.args.self.now in
     let state = g.S.ReadableStorageTraits.state c.args.self.now.storage in
-    subst (λ (b : Box). MayReadParts layout (box_of c.args.array_subset.now) (positions b) state) (sym c.in_ok-chunks.ensures.chunks) c.requires.ask
+    subst (λ (b : Box). MayReadParts layout (box_of c.args.array_subset.now) (positions b) state) (sym c.in_ok-chunks.ensures.chunks)
+    (c.requires.ask c.in_ok-chunks.ensures.accepted)
 
 pub returns-clause-cells : goal.returns-clause-cells
 returns-clause-cells g c =

@@ -39,7 +39,7 @@ returns-in_err-check_cells g c =
 pub store_along-requires-clause-ask : goal.store_along-requires-clause-ask
 store_along-requires-clause-ask g c =
     subst (λ (b : Box). MayAskParts (layout_of c.args.self.now) (box_of c.args.array_subset.now) (positions b) (g.S.ReadableStorageTraits.state c.args.self.now.storage))
-    (sym c.in_ok-chunks.ensures.chunks) c.requires
+    (sym c.in_ok-chunks.ensures.chunks) (c.requires c.in_ok-chunks.ensures.accepted)
 
 pub returns-in_err-is_chunk : goal.returns-in_err-is_chunk
 returns-in_err-is_chunk g c =
@@ -53,7 +53,7 @@ returns-in_err-is_chunk g c =
 pub patch_along-requires-clause-ask : goal.patch_along-requires-clause-ask
 patch_along-requires-clause-ask g c =
     subst (λ (b : Box). MayAskParts (layout_of c.args.self.now) (box_of c.args.array_subset.now) (positions b) (g.S.ReadableStorageTraits.state c.args.self.now.storage))
-    (sym c.in_ok-chunks.ensures.chunks) c.requires
+    (sym c.in_ok-chunks.ensures.chunks) (c.requires c.in_ok-chunks.ensures.accepted)
 
 pub returns-then-writes_parts : goal.returns-then-writes_parts
 returns-then-writes_parts g c =

@@ -115,7 +115,8 @@ store_part-requires-clause-ask g c =
     let held = data_of c.args.chunk_subset_data.now in
     let chunk = c.in_ok-chunk.ensures in
     let region = c.in_ok-region.ensures in
-    stored_ask_part layout c.args.self.now.parts.lawful index part (box_of c.in_ok-chunk.chunk) (box_of c.in_ok-region.region) c.args.chunk_subset.now.same_length chunk.region region.part chunk.accepted region.accepted held state c.requires
+    stored_ask_part layout c.args.self.now.parts.lawful index part (box_of c.in_ok-chunk.chunk) (box_of c.in_ok-region.region) c.args.chunk_subset.now.same_length chunk.region region.part chunk.accepted region.accepted held state
+    (c.requires chunk.accepted region.accepted)
 
 pub returns : goal.returns
 returns g c =
@@ -174,7 +175,7 @@ patch_chunk-requires-clause-ask g c =
     let proper : IsPart layout here index = λ covers.
     let lies = covers_lies layout.grid lawful.grid index boxed here c.in_ok-region.region.same_length dimensions covers in
     false≢true (sym c.if-not-lies_in_box.true ∙ c.lies_in_box.ensures.1 (subst (λ (b : Box). LiesInBox b here) (sym chunk.region) lies)) in
-    stored_ask_part layout lawful index part (box_of c.in_ok-chunk.chunk) (box_of c.in_ok-region.region) c.args.chunk_subset.now.same_length chunk.region region.part chunk.accepted region.accepted held state c.requires index (member index) proper
+    stored_ask_part layout lawful index part (box_of c.in_ok-chunk.chunk) (box_of c.in_ok-region.region) c.args.chunk_subset.now.same_length chunk.region region.part chunk.accepted region.accepted held state (c.requires chunk.accepted region.accepted) index (member index) proper
 
 pub returns-then-not-lies_in_box : goal.returns-then-not-lies_in_box
 returns-then-not-lies_in_box g c =

@@ -7,6 +7,7 @@ use Rattle.zarrs_target.specs.States.{parent_box, target_box}
 use Rattle.zarrs_target.proofs.Levels.{masked_keeps}
 use Rattle.zarrs_calls.specs.declared.error.ArrayError.{ArrayError}
 use Rattle.zarrs_calls.specs.Refusals.{Refusal, refusal_of}
+use Rattle.zarrs_array_layout.proofs.ChunkParts.{chunk_accepted}
 use Rattle.zarrs_engine.specs.Engine.{layout_of}
 use Rattle.zarrs_engine.specs.Into.{HasContent, RefusesRetrieveInto, target_refusal}
 use Rattle.zarrs_engine.specs.PartialDecoders.{RefusesPartInto}
@@ -27,12 +28,13 @@ returns-in_err-region-clause-outside g c =
     masked_keeps t.cell_size (parent_box t) (target_box t) t.depth (position_count t.parent_shape.now) t.masks.now t.bytes.now
 
 pub retrieve_array_subset_into-requires-clause-ask : goal.retrieve_array_subset_into-requires-clause-ask
-retrieve_array_subset_into-requires-clause-ask g c =
+retrieve_array_subset_into-requires-clause-ask g c covered =
     let decoder = c.args.self.now in
     let part = c.args.chunk_subset.now in
     let region = c.in_ok-region.ensures in
     part_ask (layout_of decoder.engine.now) decoder.engine.now.parts.lawful decoder.chunk_indices.items decoder.boxed (box_of part) part.same_length region.accepted
-    (box_of c.in_ok-region.region) region.region (g.S.ReadableStorageTraits.state decoder.engine.now.storage) c.requires.ask
+    (box_of c.in_ok-region.region) region.region (g.S.ReadableStorageTraits.state decoder.engine.now.storage)
+    (c.requires.ask (chunk_accepted (layout_of decoder.engine.now) decoder.chunk_indices.items decoder.boxed) region.accepted)
 
 pub returns-clause-covered : goal.returns-clause-covered
 returns-clause-covered g c lies =

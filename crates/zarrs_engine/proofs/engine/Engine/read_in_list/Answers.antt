@@ -1,0 +1,51 @@
+use Rattle.std.proofs.Common.{◌≡◌, ◌∙◌, ◌*◌, ◌<◌, ◌^◌, ℕ, List, length, replicate, rules, ap, sym, subst}
+use Rattle.std.specs.Vec.{with_items}
+use Rattle.std.proofs.lemmas.List.{length-replicate}
+use Rattle.std.proofs.lemmas.List.{with_items_is}
+use Rattle.zarrs_subset.specs.Boxes.{position_count}
+use Rattle.zarrs_subset.specs.Regions.{box_of, positions}
+use Rattle.zarrs_types.proofs.Sizes.{element_size-positive}
+use Rattle.zarrs_data_type.specs.ArrayData.{ArrayData, data_of}
+use Rattle.zarrs_data_type.specs.Cell.{held_size}
+use Rattle.zarrs_target.specs.Targets.{masked}
+use Rattle.zarrs_target.proofs.Fills.{held_fixed}
+use Rattle.zarrs_target.proofs.TypeSizes.{type_taken}
+use Rattle.zarrs_calls.specs.Reads.{ReadsRegion}
+use Rattle.zarrs_engine.specs.Engine.{layout_of}
+use Rattle.zarrs_engine.proofs.RegionLists.{AreFlags, lists_read}
+use Rattle.zarrs_engine.proofs.engine.Engine.read_in_list.Goals as goal
+
+pub overflow_mul-count : goal.overflow_mul-count
+overflow_mul-count g c =
+    let layout = layout_of c.args.self.now in
+    let form = c.args.form in
+    let held : held_size layout.kind layout.fill ≡ form.size = held_fixed layout.kind form.size layout.fill (type_taken form.size form.depth layout.kind c.requires.takes).0 c.args.self.now.parts.lawful.filled in
+    let fit : c.in_ok-count.count * form.size < 2 ^ 64 = subst (λ n. c.in_ok-count.count * n < 2 ^ 64) held c.in_ok-count.ensures.fits in
+    search (rules, fit)
+
+pub returns-clause-read : goal.returns-clause-read
+returns-clause-read g c =
+    let layout = layout_of c.args.self.now in
+    let state = g.S.ReadableStorageTraits.state c.args.self.now.storage in
+    let region = box_of c.args.region.now in
+    let chunks = positions (box_of c.args.chunks.now) in
+    let form = c.args.form in
+    let n = position_count region.shape in
+    let bytes = c.read_into_list.new.bytes in
+    let masks = c.read_into_list.new.masks in
+    let flags = c.into_flags.result.items in
+    let count : c.in_ok-count.count ≡ n = c.in_ok-count.ensures.count in
+    let bytes_are : (with_items c.in_ok-bytes.bytes bytes).items ≡ bytes = with_items_is c.in_ok-bytes.bytes bytes (c.read_into_list.auto.bytes ∙ c.deref_mut.ensures.len) in
+    let masks_are : (with_items c.in_ok-masks.masks masks).items ≡ masks = with_items_is c.in_ok-masks.masks masks (c.read_into_list.auto.masks ∙ c.deref_mut-2.ensures.len) in
+    let made : data_of c.in_ok-made.made ≡ masked form.depth c.in_ok-count.count flags (with_items c.in_ok-bytes.bytes bytes).items = c.in_ok-made.ensures in
+    let made_is = made ∙ ap (masked form.depth c.in_ok-count.count flags) bytes_are ∙ ap (λ m. masked form.depth m flags bytes) count in
+    let zeros : c.deref_mut.result.now ≡ replicate (c.in_ok-count.count * form.size) 0 = c.deref_mut.ensures.value ∙ c.in_ok-bytes.ensures.items_if_clones_equal (λ y h. h) in
+    let bytes_len : length bytes ≡ n * form.size =
+    c.read_into_list.auto.bytes ∙ ap length zeros ∙ length-replicate {A = ℕ} (c.in_ok-count.count * form.size) 0 ∙ ap (λ m. m * form.size) count in
+    let masks_len : length masks ≡ n * form.depth =
+    c.read_into_list.auto.masks ∙ ap length c.deref_mut-2.ensures.value ∙ c.in_ok-masks.ensures ∙ ap (λ m. m * form.depth) count in
+    let are = subst (λ (m : List ℕ). AreFlags m flags) masks_are (c.into_flags.ensures.len, c.into_flags.ensures.same) in
+    let read =
+    lists_read layout region chunks state form.size form.depth masks flags bytes c.requires.cover c.requires.takes (element_size-positive c.args.self.now.parts.data_type) bytes_len masks_len are
+    c.in_ok-read_into_list.ensures.read in
+    subst (λ (d : ArrayData). ReadsRegion layout region chunks d state) (sym made_is) read
