@@ -10,3 +10,4 @@ mod Reopened
 mod Upgrade
 mod Counts
 mod Upgraded
+mod Loans

@@ -7,6 +7,7 @@ pub mod Laws
 pub mod Typed
 pub mod Setters
 pub mod Lending
+pub mod Loans
 pub mod Elements
 pub mod Reopening
 pub mod Outcomes

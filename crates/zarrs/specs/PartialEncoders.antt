@@ -1,8 +1,9 @@
 -- Reads and writes of the parts of one chunk of an array.
-use Rattle.std.specs.Prelude.{◌≡◌, ℕ, List, Result}
+use Rattle.std.specs.Prelude.{◌≡◌, ℕ, List, None, Result}
 use Rattle.std.specs.Borrow.{Fml, MutBor, RattleType, RestsIfErr}
 use Rattle.zarrs_storage.specs.Store.{StoreState}
 use Rattle.zarrs_subset.specs.Regions.{Box}
+use Rattle.zarrs_calls.specs.ArgumentRefusals.{chunk_refusal, part_refusal}
 use Rattle.zarrs_calls.specs.Reach.{MayReadPart}
 use Rattle.zarrs_calls.specs.Layout.{Layout, ArrayState}
 use Rattle.zarrs_calls.specs.declared.error.ArrayError.{ArrayError}
@@ -38,12 +39,13 @@ module _ {S : Type 0} where
   abbrev pub indices_of_decoder : ArrayPartialDecoder S → List ℕ
   indices_of_decoder decoder = indices_of decoder.decoder
 
-  -- a part of its chunk may be asked for
+  -- a part of its chunk may be asked for, if there is such a chunk and the part lies in it
   abbrev pub MayDecodeAt : (S → StoreState) → Box → ArrayPartialDecoder S → Type 0
   MayDecodeAt state part decoder =
       let layout = layout_of_decoder decoder in
       let index = indices_of_decoder decoder in
-      MayReadPart layout (region_of_part layout index part) index (store_of_decoder state decoder)
+      chunk_refusal layout index ≡ None → part_refusal layout index part ≡ None
+      → MayReadPart layout (region_of_part layout index part) index (store_of_decoder state decoder)
 
 -- once the borrow ends, the array is what the encoder left, and if none was made what it had been
 abbrev pub RestsUnlessEncoded : (S : RattleType) → MutBor (Array S.Denot) → Result (ArrayPartialEncoder S.Denot) ArrayError → Fml

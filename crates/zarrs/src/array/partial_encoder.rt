@@ -61,9 +61,10 @@ impl<TStorage> Array<TStorage> {
 }
 
 impl<TStorage: WritableStorageTraits> Array<TStorage> {
-    ghost use Rattle.std.specs.Prelude.{◌≡◌, ◌&&◌, true};
+    ghost use Rattle.std.specs.Prelude.{◌≡◌, ◌&&◌, true, None};
     ghost use Rattle.zarrs_chain.specs.Options.{stores_empty_chunks};
     ghost use Rattle.zarrs_chunk_grid.specs.Grids.{has_box};
+    ghost use Rattle.zarrs_calls.specs.ArgumentRefusals.{part_refusal};
     ghost use Rattle.zarrs_data_type.specs.ArrayData.{data_of};
     ghost use Rattle.zarrs.specs.Arrays.{layout_of_array, store_of_array};
     ghost use Rattle.zarrs.specs.Outcomes.{EncodesPartOrRefuses, ErasesEncodedOrRefuses};
@@ -82,7 +83,9 @@ impl<TStorage: WritableStorageTraits> Array<TStorage> {
         options: &CodecOptions,
     ) -> Result<(), ArrayError>
         requires boxed { has_box (layout_of_array self.old).grid chunk_indices.now ≡ true }
-        requires ask { MayRetrieveChunk TStorage.state chunk_indices.now self.old }
+        requires ask { part_refusal (layout_of_array self.old) chunk_indices.now
+            (R.region chunk_subset.now) ≡ None
+            → MayRetrieveChunk TStorage.state chunk_indices.now self.old }
         ensures { EncodesPartOrRefuses TStorage.state (stores_empty_chunks options.now)
             chunk_indices.now (R.region chunk_subset.now) (data_of bytes.now) self.old self.new
             result }
@@ -115,8 +118,9 @@ impl<TStorage: WritableStorageTraits> Array<TStorage> {
 }
 
 impl<TStorage: WritableStorageTraits> ArrayPartialEncoder<'_, TStorage> {
-    ghost use Rattle.std.specs.Prelude.{◌≡◌, ◌&&◌};
+    ghost use Rattle.std.specs.Prelude.{◌≡◌, ◌&&◌, None};
     ghost use Rattle.zarrs_chain.specs.Options.{stores_empty_chunks};
+    ghost use Rattle.zarrs_calls.specs.ArgumentRefusals.{part_refusal};
     ghost use Rattle.zarrs_data_type.specs.ArrayData.{data_of};
     ghost use Rattle.zarrs.specs.Arrays.{layout_of_array, store_of_array};
     ghost use Rattle.zarrs.specs.Outcomes.{EncodesPartOrRefuses, ErasesEncodedOrRefuses};
@@ -141,7 +145,9 @@ impl<TStorage: WritableStorageTraits> ArrayPartialEncoder<'_, TStorage> {
         bytes: &ArrayBytes<'_>,
         options: &CodecOptions,
     ) -> Result<(), ArrayError>
-        requires { MayRetrieveChunk TStorage.state (indices_of_encoder self.old)
+        requires { part_refusal (layout_of_array (array_of_encoder self.old))
+            (indices_of_encoder self.old) (R.region chunk_subset.now) ≡ None
+            → MayRetrieveChunk TStorage.state (indices_of_encoder self.old)
             (array_of_encoder self.old) }
         ensures encodes { EncodesPartOrRefuses TStorage.state (stores_empty_chunks options.now)
             (indices_of_encoder self.old) (R.region chunk_subset.now) (data_of bytes.now)

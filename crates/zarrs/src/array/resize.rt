@@ -9,9 +9,10 @@ use zarrs_storage::WritableStorageTraits;
 use zarrs_subset::ArrayShape;
 
 impl<TStorage: WritableStorageTraits> Array<TStorage> {
-    ghost use Rattle.std.specs.Prelude.{◌≡◌, IfErr, OnErr, OnOk};
+    ghost use Rattle.std.specs.Prelude.{◌≡◌, None, IfErr, OnErr, OnOk};
     ghost use Rattle.zarrs_chain.specs.Options.{stores_empty_chunks};
     ghost use Rattle.zarrs_creation.specs.Changes.{with_shape};
+    ghost use Rattle.zarrs_calls.specs.ArgumentRefusals.{resize_refusal};
     ghost use Rattle.zarrs_calls.specs.Canon.{KeepsCanon};
     ghost use Rattle.zarrs_calls.specs.Cuts.{cut_chunks};
     ghost use Rattle.zarrs_calls.specs.Reach.{MayAskKept};
@@ -35,7 +36,8 @@ impl<TStorage: WritableStorageTraits> Array<TStorage> {
         shape: ArrayShape,
         options: &CodecOptions,
     ) -> Result<(), ArrayError>
-        requires { MayAskKept (layout_of_array self.old) shape.items (cut_chunks
+        requires { resize_refusal (layout_of_array self.old) shape.items ≡ None
+            → MayAskKept (layout_of_array self.old) shape.items (cut_chunks
             (layout_of_array self.old).grid (state_of_array TStorage.state self.old).shape
             shape.items) (store_of_array TStorage.state self.old) }
         ensures done { OnOk result (ResizesArray (layout_of_array self.old)

@@ -1,12 +1,11 @@
 use Rattle.std.proofs.Common.{◌≡◌, OnErr, OnOk, IfErr, subst, sym}
 use Rattle.std.specs.Prelude.{IsSome}
 use Rattle.zarrs_subset.specs.Regions.{Box}
-use Rattle.zarrs_calls.specs.ChunkBoxes.{chunks_met}
-use Rattle.zarrs_calls.specs.Reach.{MayReadParts}
 use Rattle.zarrs_calls.specs.Refusals.{refusal_of}
 use Rattle.zarrs_engine.specs.Into.{HasContent, RefusesRetrieveInto, target_refusal}
 use Rattle.zarrs_target.proofs.Levels.{masked_keeps}
 use Rattle.zarrs.specs.Arrays.{layout_of_array, store_of_array, state_of_array}
+use Rattle.zarrs.specs.Outcomes.{MayRetrieveRegion}
 use Rattle.zarrs.proofs.array.Array.retrieve_array_subset_into_opt.Goals as goal
 
 pub returns-in_err-array_subset-clause-outside : goal.returns-in_err-array_subset-clause-outside
@@ -14,8 +13,7 @@ returns-in_err-array_subset-clause-outside g c = masked_keeps _ _ _ _ _ _ _
 
 pub retrieve_array_subset_into-requires-clause-ask : goal.retrieve_array_subset_into-requires-clause-ask
 retrieve_array_subset_into-requires-clause-ask g c =
-    let layout = layout_of_array c.args.self.now in
-    subst (λ (b : Box). MayReadParts layout b (chunks_met layout.grid b) (store_of_array g.TStorage.ReadableStorageTraits.state c.args.self.now)) (sym c.in_ok-array_subset.ensures) c.requires.ask
+    subst (λ (b : Box). MayRetrieveRegion g.TStorage.ReadableStorageTraits.state b c.args.self.now) (sym c.in_ok-array_subset.ensures) c.requires.ask
 
 pub returns-clause-content : goal.returns-clause-content
 returns-clause-content g c =

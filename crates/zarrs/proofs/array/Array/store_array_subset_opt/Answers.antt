@@ -6,11 +6,9 @@ use Rattle.zarrs_calls.specs.Patches.{PatchesRegion, RefusesPatchRegion}
 use Rattle.zarrs_calls.specs.Step.{StoresRegion, RefusesStoreRegion}
 use Rattle.zarrs_calls.specs.Refusals.{refusal_of}
 use Rattle.zarrs_calls.specs.Canon.{KeepsCanon}
-use Rattle.zarrs_calls.specs.ChunkBoxes.{chunks_met}
-use Rattle.zarrs_calls.specs.Reach.{MayAskParts}
 use Rattle.zarrs_calls.specs.ArgumentRefusals.{region_refusal}
 use Rattle.zarrs.specs.Arrays.{layout_of_array, state_of_array}
-use Rattle.zarrs.specs.Outcomes.{SaysNothing}
+use Rattle.zarrs.specs.Outcomes.{MayStoreRegion, SaysNothing}
 use Rattle.zarrs.proofs.Typed.{written_as}
 use Rattle.zarrs.proofs.array.Array.store_array_subset_opt.Goals as goal
 
@@ -44,5 +42,4 @@ returns g c =
 
 pub store_array_subset-requires : goal.store_array_subset-requires
 store_array_subset-requires g c =
-    let layout = layout_of_array c.args.self.now in
-    subst (λ (b : Box). MayAskParts layout b (chunks_met layout.grid b) (g.TStorage.ReadableStorageTraits.state c.args.self.now.engine.storage)) (sym c.in_ok-array_subset.ensures) c.requires
+    subst (λ (b : Box). MayStoreRegion g.TStorage.ReadableStorageTraits.state b c.args.self.now) (sym c.in_ok-array_subset.ensures) c.requires

@@ -1,17 +1,14 @@
-use Rattle.std.proofs.Common.{◌∷◌, [], OnOk, IfErr, refl, subst, sym}
+use Rattle.std.proofs.Common.{OnOk, IfErr, refl, subst, sym}
 use Rattle.zarrs_subset.specs.Regions.{Box}
 use Rattle.zarrs_data_type.specs.ArrayData.{data_of}
 use Rattle.zarrs_chain.specs.Options.{stores_empty_chunks}
-use Rattle.zarrs_chunk_grid.specs.Grids.{box_at}
 use Rattle.zarrs_calls.specs.Canon.{KeepsCanon}
-use Rattle.zarrs_calls.specs.ChunkBoxes.{part_box}
 use Rattle.zarrs_calls.specs.Patches.{PatchesPart, RefusesPatchPart}
-use Rattle.zarrs_calls.specs.Reach.{MayAskParts}
 use Rattle.zarrs_calls.specs.Step.{StoresPart, RefusesStorePart}
 use Rattle.zarrs_calls.specs.Refusals.{refusal_of}
 use Rattle.zarrs.specs.Typed.{place_refusal}
 use Rattle.zarrs.specs.Arrays.{layout_of_array}
-use Rattle.zarrs.specs.Outcomes.{SaysNothing}
+use Rattle.zarrs.specs.Outcomes.{MayStorePart, SaysNothing}
 use Rattle.zarrs.proofs.Typed.{written_as}
 use Rattle.zarrs.proofs.array.Array.store_chunk_subset_opt.Goals as goal
 
@@ -45,6 +42,4 @@ returns g c =
 
 pub store_chunk_subset-requires : goal.store_chunk_subset-requires
 store_chunk_subset-requires g c =
-    let layout = layout_of_array c.args.self.now in
-    let index = c.args.chunk_indices.now in
-    subst (λ (b : Box). MayAskParts layout (part_box (box_at layout.grid index) b) (index ∷ []) (g.TStorage.ReadableStorageTraits.state c.args.self.now.engine.storage)) (sym c.in_ok-chunk_subset.ensures) c.requires
+    subst (λ (b : Box). MayStorePart g.TStorage.ReadableStorageTraits.state c.args.chunk_indices.now b c.args.self.now) (sym c.in_ok-chunk_subset.ensures) c.requires
