@@ -6,14 +6,11 @@ use std::collections::BTreeMap;
 use zarrs_bench_rows::measure::{Sample, Work};
 use zarrs_script::run_script;
 
-/// How many pairs of a `chunk` and a `read` a script has.
-const PAIRS: u32 = 100_000;
-
-/// An array of 100 chunks of four cells, and pairs of a `chunk` and a `read`.
-fn long_script(alloc: Global) -> Result<Vec<u8>> {
+/// An array of 100 chunks of four cells, and so many pairs of a `chunk` and a `read`.
+fn long_script(alloc: Global, pairs: usize) -> Result<Vec<u8>> {
     let mut script = Vec::from_slice(alloc, b"array 400 4 uint8 0\n")?;
     let mut buffer = Buffer::new();
-    for pair in 0..PAIRS {
+    for pair in 0..pairs {
         script.extend_from_slice(b"chunk ")?;
         script.extend_from_slice(buffer.format(pair % 100).as_bytes())?;
         script.extend_from_slice(b" 1,2,3,")?;
@@ -38,9 +35,9 @@ pub struct Script {
 }
 
 impl Sample for Script {
-    fn make(alloc: Global, _len: usize) -> Result<Script> {
+    fn make(alloc: Global, lines: usize) -> Result<Script> {
         Ok(Script {
-            text: long_script(alloc)?,
+            text: long_script(alloc, lines / 2)?,
             values: BTreeMap::new(alloc),
         })
     }

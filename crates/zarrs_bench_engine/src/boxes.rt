@@ -1,11 +1,9 @@
 //! Boxes of two dimensions, and plain copies of their rows.
 use anyhow::{Result, anyhow};
-use std::alloc::Global;
 use std::ops::Range;
-use zarrs_subset::ArraySubset;
 
 /// The indices of one dimension from `start` on, and before `end`.
-#[derive(Clone, Copy)]
+#[derive(Clone, Copy, PartialEq, Eq)]
 pub struct Span {
     /// The first one.
     pub start: u64,
@@ -20,7 +18,7 @@ impl Span {
     }
 
     /// The indices that the chunk with this index has too, if chunks have this extent.
-    fn within(self, index: u64, extent: u64) -> Span {
+    pub fn within(self, index: u64, extent: u64) -> Span {
         let first = index.saturating_mul(extent);
         Span {
             start: self.start.max(first),
@@ -35,8 +33,8 @@ impl Span {
     }
 }
 
-/// A box of two dimensions.
-#[derive(Clone, Copy)]
+/// A box of two dimensions. Its columns are counted in bytes.
+#[derive(Clone, Copy, PartialEq, Eq)]
 pub struct Region {
     /// Its indices of the first dimension.
     pub rows: Span,
@@ -45,7 +43,7 @@ pub struct Region {
 }
 
 /// The box of these rows and columns, of each those from the first number on and before the second one.
-pub const fn region_of(rows: [u64; 2], columns: [u64; 2]) -> Region {
+pub fn region_of(rows: [u64; 2], columns: [u64; 2]) -> Region {
     let rows = Span {
         start: rows[0],
         end: rows[1],
@@ -58,7 +56,7 @@ pub const fn region_of(rows: [u64; 2], columns: [u64; 2]) -> Region {
 }
 
 impl Region {
-    /// How many positions there are.
+    /// How many bytes there are.
     pub fn len(self) -> usize {
         self.rows.len().saturating_mul(self.columns.len()) as usize
     }
@@ -71,25 +69,6 @@ impl Region {
         }
     }
 
-    /// The positions of the region, as an engine takes them.
-    ///
-    /// # Errors
-    /// Out of memory, or a row or column ends before it starts.
-    pub fn subset(self, alloc: Global) -> Result<ArraySubset> {
-        let Region { rows, columns } = self;
-        let ranges = [rows.start..rows.end, columns.start..columns.end];
-        Ok(ArraySubset::new_with_ranges(alloc, &ranges)?)
-    }
-
-    /// What the region has of this row.
-    pub fn row(self, row: u64) -> Region {
-        let rows = Span {
-            start: row,
-            end: row.saturating_add(1),
-        };
-        Region { rows, ..self }
-    }
-
     /// Where a part of the region begins in a list of all of it.
     pub fn offset_of(self, part: Region) -> usize {
         let rows = part.rows.start.saturating_sub(self.rows.start);
@@ -99,48 +78,82 @@ impl Region {
     }
 }
 
-/// Copies the first `len` bytes of each of so many rows. In both slices a row begins so many bytes after the one
-/// before.
-fn copy_rows(
-    source: &[u8],
-    source_step: usize,
-    target: &mut [u8],
-    target_step: usize,
+/// Turns the bytes of each number of four bytes.
+pub fn turn(bytes: &mut [u8]) {
+    for number in bytes.as_chunks_mut::<4>().0 {
+        *number = u32::from_be_bytes(*number).to_le_bytes();
+    }
+}
+
+/// Copies a row of as many bytes, and turns those of each number if that is asked for.
+fn copy_row(to: &mut [u8], from: &[u8], are_turned: bool) {
+    if are_turned {
+        let numbers = to.as_chunks_mut::<4>().0.iter_mut();
+        for (number, bytes) in numbers.zip(from.as_chunks::<4>().0) {
+            *number = u32::from_be_bytes(*bytes).to_le_bytes();
+        }
+    } else if to.len() == from.len() {
+        to.copy_from_slice(from);
+    }
+}
+
+/// Rows of one length, each of which begins so many bytes after the one before.
+#[derive(Clone, Copy)]
+struct Rows {
     count: usize,
     len: usize,
-) {
-    if source_step == 0 || target_step == 0 {
+    source_step: usize,
+    target_step: usize,
+    are_turned: bool,
+}
+
+/// Copies so many rows.
+fn copy_rows(source: &[u8], target: &mut [u8], rows: Rows) {
+    if rows.source_step == 0 || rows.target_step == 0 {
         return;
     }
-    let rows = source.chunks(source_step).take(count);
-    for (place, row) in target.chunks_mut(target_step).zip(rows) {
-        if let (Some(to), Some(from)) = (place.get_mut(..len), row.get(..len)) {
-            to.copy_from_slice(from);
+    let sources = source.chunks(rows.source_step).take(rows.count);
+    for (place, row) in target.chunks_mut(rows.target_step).zip(sources) {
+        if let (Some(to), Some(from)) = (place.get_mut(..rows.len), row.get(..rows.len)) {
+            copy_row(to, from, rows.are_turned);
         }
     }
 }
 
 /// Copies the cells of a part that two regions have from the bytes of one to those of the other: in one piece, if they
-/// stand together in both.
-pub fn copy_part(from: Region, source: &[u8], to: Region, target: &mut [u8], part: Region) {
+/// stand together in both. The bytes of numbers are turned, if that is asked for.
+pub fn copy_part(
+    from: Region,
+    source: &[u8],
+    to: Region,
+    target: &mut [u8],
+    part: Region,
+    are_turned: bool,
+) {
     let source = source.get(from.offset_of(part)..);
     let target = target.get_mut(to.offset_of(part)..);
     let (Some(source), Some(target)) = (source, target) else {
         return;
     };
-    let len = part.columns.len();
-    if from.columns.len() == len && to.columns.len() == len {
-        copy_rows(source, part.len(), target, part.len(), 1, part.len());
-        return;
-    }
-    copy_rows(
-        source,
-        from.columns.len() as usize,
-        target,
-        to.columns.len() as usize,
-        part.rows.len() as usize,
-        len as usize,
-    );
+    let stand_together = from.columns == part.columns && to.columns == part.columns;
+    let rows = if stand_together {
+        Rows {
+            count: 1,
+            len: part.len(),
+            source_step: part.len(),
+            target_step: part.len(),
+            are_turned,
+        }
+    } else {
+        Rows {
+            count: part.rows.len() as usize,
+            len: part.columns.len() as usize,
+            source_step: from.columns.len() as usize,
+            target_step: to.columns.len() as usize,
+            are_turned,
+        }
+    };
+    copy_rows(source, target, rows);
 }
 
 /// Appends the cells of a part of the region, whose bytes these are.

@@ -1,5 +1,6 @@
-//! Chunks stored and read.
-use crate::arrays::absent_array;
+//! Chunks of 1 KiB stored and read one by one, by an engine and over a map from keys to bytes.
+use crate::arrays::{MemoryEngine, absent_array};
+use crate::kinds::Kind;
 use anyhow::Result;
 use itoa::Buffer;
 use std::alloc::Global;
@@ -8,49 +9,48 @@ use zarrs_bench_rows::measure::{Sample, Work};
 use zarrs_bench_rows::samples::{bytes_in, tested};
 use zarrs_codec::CodecOptions;
 use zarrs_data_type::ArrayBytes;
-use zarrs_uses::make::MemoryEngine;
 
 /// How many chunks there are.
 const CHUNKS: u64 = 64;
 
-/// Chunks of `LEN` bytes in an array and in a map from keys to bytes, stored or absent, and what is stored as a chunk.
+/// How many cells a chunk has.
+const LEN: u64 = 1024;
+
+/// How many calls are made at once.
+const CALLS: u64 = 1024;
+
+/// Chunks in an array and in a map from keys to bytes, stored or absent, and what is stored as a chunk.
 #[derive(Drop)]
-pub struct Chunks<const LEN: u64, const ARE_STORED: bool> {
+pub struct Chunks<const ARE_STORED: bool> {
     engine: MemoryEngine,
     values: BTreeMap<String, Vec<u8>>,
     cells: ArrayBytes<'static>,
-    calls: u64,
 }
 
-impl<const LEN: u64, const ARE_STORED: bool> Sample for Chunks<LEN, ARE_STORED> {
-    fn make(alloc: Global, len: usize) -> Result<Chunks<LEN, ARE_STORED>> {
+impl<const ARE_STORED: bool> Sample for Chunks<ARE_STORED> {
+    fn make(alloc: Global, _size: usize) -> Result<Chunks<ARE_STORED>> {
         let stored = if ARE_STORED { CHUNKS } else { 0 };
         let cells = ArrayBytes::make(alloc, LEN as usize)?;
-        let values = made_map(alloc, bytes_in(&cells), stored)?;
-        let engine = made_array(alloc, LEN, &cells, stored)?;
+        let mut values = BTreeMap::new(alloc);
+        put_chunks(alloc, &mut values, bytes_in(&cells), stored)?;
+        let shapes: [&[u64]; 2] = [&[LEN * CHUNKS], &[LEN]];
+        let mut engine = absent_array(alloc, Kind::Bytes, shapes, None)?;
+        store_chunks(alloc, &mut engine, &cells, stored)?;
         Ok(Chunks {
             engine,
             values,
             cells,
-            calls: len as u64 / LEN.max(1),
         })
     }
 
     fn touch(&mut self, turn: u8) {
         self.cells.touch(turn);
     }
-}
 
-/// An array of chunks of this length, the first of which are stored.
-fn made_array(
-    alloc: Global,
-    len: u64,
-    cells: &ArrayBytes<'_>,
-    stored: u64,
-) -> Result<MemoryEngine> {
-    let mut engine = absent_array(alloc, &[len.saturating_mul(CHUNKS)], len)?;
-    store_chunks(alloc, &mut engine, cells, stored)?;
-    Ok(engine)
+    fn is_left_same(&self, alloc: Global) -> Result<bool> {
+        let held = self.engine.retrieve_chunk(alloc, &[7])?;
+        Ok(bytes_in(&held) == take_chunk(alloc, &self.values, 7)?.as_slice())
+    }
 }
 
 /// `Engine::store_chunk`, so many times.
@@ -68,13 +68,13 @@ fn store_chunks(
 }
 
 /// `Engine::store_chunk`.
-pub struct Store<const LEN: u64>;
+pub struct StoreChunks;
 
-impl<const LEN: u64> Work for Store<LEN> {
-    type Sample = Chunks<LEN, true>;
+impl Work for StoreChunks {
+    type Sample = Chunks<true>;
 
-    fn run(alloc: Global, chunks: &mut Chunks<LEN, true>) -> Result<u8> {
-        store_chunks(alloc, &mut chunks.engine, &chunks.cells, chunks.calls)?;
+    fn run(alloc: Global, chunks: &mut Chunks<true>) -> Result<u8> {
+        store_chunks(alloc, &mut chunks.engine, &chunks.cells, CALLS)?;
         Ok(0)
     }
 }
@@ -104,39 +104,27 @@ fn put_chunks(
     Ok(())
 }
 
-/// A map that has the first chunks.
-fn made_map(alloc: Global, cells: &[u8], stored: u64) -> Result<BTreeMap<String, Vec<u8>>> {
-    let mut values = BTreeMap::new(alloc);
-    put_chunks(alloc, &mut values, cells, stored)?;
-    Ok(values)
-}
-
 /// A copy in a map.
-pub struct PlainStore<const LEN: u64>;
+pub struct PlainStoreChunks;
 
-impl<const LEN: u64> Work for PlainStore<LEN> {
-    type Sample = Chunks<LEN, true>;
+impl Work for PlainStoreChunks {
+    type Sample = Chunks<true>;
 
-    fn run(alloc: Global, chunks: &mut Chunks<LEN, true>) -> Result<u8> {
-        put_chunks(
-            alloc,
-            &mut chunks.values,
-            bytes_in(&chunks.cells),
-            chunks.calls,
-        )?;
+    fn run(alloc: Global, chunks: &mut Chunks<true>) -> Result<u8> {
+        put_chunks(alloc, &mut chunks.values, bytes_in(&chunks.cells), CALLS)?;
         Ok(0)
     }
 }
 
 /// `Engine::retrieve_chunk`.
-pub struct Read<const LEN: u64, const ARE_STORED: bool>;
+pub struct ReadChunks<const ARE_STORED: bool>;
 
-impl<const LEN: u64, const ARE_STORED: bool> Work for Read<LEN, ARE_STORED> {
-    type Sample = Chunks<LEN, ARE_STORED>;
+impl<const ARE_STORED: bool> Work for ReadChunks<ARE_STORED> {
+    type Sample = Chunks<ARE_STORED>;
 
-    fn run(alloc: Global, chunks: &mut Chunks<LEN, ARE_STORED>) -> Result<u8> {
+    fn run(alloc: Global, chunks: &mut Chunks<ARE_STORED>) -> Result<u8> {
         let mut seen = 0;
-        for number in 0..chunks.calls {
+        for number in 0..CALLS {
             let found = chunks.engine.retrieve_chunk(alloc, &[number % CHUNKS])?;
             seen ^= tested(bytes_in(&found));
         }
@@ -145,28 +133,23 @@ impl<const LEN: u64, const ARE_STORED: bool> Work for Read<LEN, ARE_STORED> {
 }
 
 /// A copy out of the map, or a vector of zeros.
-fn take_chunk(
-    alloc: Global,
-    values: &BTreeMap<String, Vec<u8>>,
-    len: u64,
-    number: u64,
-) -> Result<Vec<u8>> {
+fn take_chunk(alloc: Global, values: &BTreeMap<String, Vec<u8>>, number: u64) -> Result<Vec<u8>> {
     match values.get(&key_of(alloc, number)?) {
         Some(cells) => Ok(cells.to_vec(alloc)?),
-        None => Ok(vec![in alloc; 0; len as usize]?),
+        None => Ok(vec![in alloc; 0; LEN as usize]?),
     }
 }
 
 /// A copy out of a map.
-pub struct PlainRead<const LEN: u64, const ARE_STORED: bool>;
+pub struct PlainReadChunks<const ARE_STORED: bool>;
 
-impl<const LEN: u64, const ARE_STORED: bool> Work for PlainRead<LEN, ARE_STORED> {
-    type Sample = Chunks<LEN, ARE_STORED>;
+impl<const ARE_STORED: bool> Work for PlainReadChunks<ARE_STORED> {
+    type Sample = Chunks<ARE_STORED>;
 
-    fn run(alloc: Global, chunks: &mut Chunks<LEN, ARE_STORED>) -> Result<u8> {
+    fn run(alloc: Global, chunks: &mut Chunks<ARE_STORED>) -> Result<u8> {
         let mut seen = 0;
-        for number in 0..chunks.calls {
-            seen ^= tested(&take_chunk(alloc, &chunks.values, LEN, number)?);
+        for number in 0..CALLS {
+            seen ^= tested(&take_chunk(alloc, &chunks.values, number)?);
         }
         Ok(seen)
     }

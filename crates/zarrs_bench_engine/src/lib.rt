@@ -1,10 +1,14 @@
-//! The benchmark's rows over an engine: chunks and regions, stored and read.
+//! The benchmark's rows over an engine: chunks, regions, shards, parts of chunks, texts and optional numbers, stored and
+//! read; and how their times grow.
 #![tactic(auto)]
 
 mod arrays;
 pub mod boxes;
+mod cases;
+mod cells;
 mod chunks;
-mod growths;
-mod parts;
-mod regions;
+mod kinds;
+mod lists;
+pub mod plain;
 pub mod rows;
+mod works;

@@ -1,68 +1,102 @@
-//! How the time of a piece of work grows with the number of chunks that it is done over.
-use crate::measure::{Sample, TURNS, Work, timed};
+//! How the time of a piece of work grows with the size of what it is done on.
+use crate::measure::{Work, best_time};
 use anyhow::Result;
 use std::alloc::Global;
 use std::fmt;
 use std::time::Clock;
 
-/// The head of a table of growths.
-pub const HEAD: &str =
-    "\n| Path | us, 10 chunks | 100 | 1,000 | 10,000 | Exponent |\n|---|---|---|---|---|---|";
-
-/// The numbers of chunks.
-const COUNTS: [usize; 4] = [10, 100, 1000, 10_000];
-
-/// The powers of 10 whose exponents are 0.1, 0.2, 0.3 and so on, times 1,000.
-const TENTHS: [u64; 30] = [
-    1259, 1585, 1995, 2512, 3162, 3981, 5012, 6310, 7943, 10_000, 12_589, 15_849, 19_953, 25_119,
-    31_623, 39_811, 50_119, 63_096, 79_433, 100_000, 125_893, 158_489, 199_526, 251_189, 316_228,
-    398_107, 501_187, 630_957, 794_328, 1_000_000,
-];
-
-/// The best times over each number of chunks, in nanoseconds.
+/// The sizes of samples, each larger than the one before, and the head of a table of the growths over them.
 #[derive(Clone, Copy)]
-pub struct Growth([u64; 4]);
+pub struct Scale {
+    /// The head.
+    pub head: &'static str,
+    /// The sizes.
+    pub sizes: &'static [usize],
+}
+
+/// Samples of more and more chunks or subchunks.
+pub const CHUNKS: Scale = Scale {
+    head: "\n| Path | us, 10 chunks | 100 | 1,000 | 10,000 | Exponent |\n|---|---|---|---|---|---|",
+    sizes: &[10, 100, 1000, 10_000],
+};
+
+/// Samples of more and more dimensions, while the number of cells stays.
+pub const DIMENSIONS: Scale = Scale {
+    head: "\n| Path | us, 1 dimension | 2 | 3 | 4 | 5 | 6 | Exponent |\n|---|---|---|---|---|---|---|---|",
+    sizes: &[1, 2, 3, 4, 5, 6],
+};
+
+/// Scripts of more and more lines.
+pub const LINES: Scale = Scale {
+    head: "\n| Path | us, 10,000 lines | 100,000 | 1,000,000 | Exponent |\n|---|---|---|---|---|",
+    sizes: &[10_000, 100_000, 1_000_000],
+};
+
+/// A size, and the best time of the work over it, in nanoseconds.
+#[derive(Clone, Copy)]
+struct Point {
+    size: u64,
+    time: u64,
+}
+
+/// The best times over each size.
+#[derive(Drop)]
+pub struct Growth(Vec<Point>);
 
 impl Growth {
-    /// Measures the work over samples of so many chunks.
+    /// Measures the work over samples of these sizes.
     ///
     /// # Errors
     /// The work or the clock fails, or out of memory.
-    pub fn measured<W: Work>(rt: &impl Clock, alloc: Global) -> Result<Growth> {
-        let mut times = [0; 4];
-        for (time, count) in times.iter_mut().zip(&COUNTS) {
-            *time = best_time::<W>(rt, alloc, *count)?;
+    pub fn measured<W: Work>(rt: &impl Clock, alloc: Global, sizes: &[usize]) -> Result<Growth> {
+        let mut points = Vec::new(alloc);
+        for size in sizes {
+            let time = best_time::<W>(rt, alloc, *size)?;
+            let size = *size as u64;
+            points.push(Point { size, time })?;
         }
-        Ok(Growth(times))
+        Ok(Growth(points))
     }
 
-    /// The exponent of the growth from 1,000 to 10,000 chunks, in tenths, rounded down: 10 if the time is linear, 20
-    /// if it is quadratic.
-    fn tenths(self) -> usize {
-        let [_, _, shorter, longer] = self.0;
-        let ratio = longer.saturating_mul(1000) / shorter.max(1);
-        TENTHS.iter().filter(|power| **power <= ratio).count()
+    /// The exponent of the growth to the largest size, from the largest one that is at most half of it, in hundredths:
+    /// 100 if the time is linear, 200 if it is quadratic, 0 if it does not grow.
+    fn hundredths(&self) -> u64 {
+        let Some(longest) = self.0.last() else {
+            return 0;
+        };
+        let mut shorter = *longest;
+        for point in &self.0 {
+            if point.size <= longest.size / 2 {
+                shorter = *point;
+            }
+        }
+        let grown = log2_of(longest.time).saturating_sub(log2_of(shorter.time));
+        let larger = log2_of(longest.size).saturating_sub(log2_of(shorter.size));
+        grown.saturating_mul(100) / larger.max(1)
     }
+}
+
+/// 1,024 times the logarithm to base 2, rounded down; 0 of 0.
+fn log2_of(number: u64) -> u64 {
+    let zeros = number.leading_zeros();
+    let mut log = u64::from(63u32.saturating_sub(zeros));
+    // From 2^31 on and below 2^32, as its square over 2^31 is after a carry.
+    let mut scaled = number.checked_shl(zeros).unwrap_or(1 << 63) >> 32;
+    for _ in 0..10 {
+        let square = scaled.wrapping_mul(scaled) >> 31;
+        let carry = square >> 32;
+        log = log.saturating_mul(2).saturating_add(carry);
+        scaled = if carry > 0 { square / 2 } else { square };
+    }
+    log
 }
 
 impl fmt::Display for Growth {
     fn fmt<W: fmt::Write>(&self, f: &mut fmt::Formatter<W>) -> fmt::Result {
-        for time in &self.0 {
-            write!(f, "{} | ", time / 1000)?;
+        for point in &self.0 {
+            write!(f, "{} | ", point.time / 1000)?;
         }
-        let tenths = self.tenths();
-        write!(f, "{}.{}", tenths / 10, tenths % 10)
+        let hundredths = self.hundredths();
+        write!(f, "{}.{:02}", hundredths / 100, hundredths % 100)
     }
-}
-
-/// The best time of the work over a sample of so many chunks, in nanoseconds.
-fn best_time<W: Work>(rt: &impl Clock, alloc: Global, count: usize) -> Result<u64> {
-    let mut sample = W::Sample::make(alloc, count)?;
-    let mut best = u64::MAX;
-    for turn in 0..TURNS {
-        sample.touch(turn);
-        let (time, _) = timed::<W>(rt, alloc, &mut sample)?;
-        best = best.min(time);
-    }
-    Ok(best)
 }

@@ -1,15 +1,12 @@
-//! How the benchmark measures, and its rows without a store: fills, copies, conversions, walks and codecs.
+//! How the benchmark measures, and its rows without a store: options of numbers, positions, and the codec `packbits`.
 #![tactic(auto)]
 
-mod codecs;
-mod conversions;
-mod copies;
-mod fills;
-mod growth;
+pub mod growth;
+mod indices;
 pub mod measure;
-mod plain;
+mod options;
+mod packbits;
+pub mod plain;
 pub mod rows;
 pub mod samples;
 pub mod table;
-mod transposes;
-mod walks;

@@ -5,14 +5,22 @@ use std::time::{Clock, Instant};
 
 /// What work is done on.
 pub trait Sample: Drop {
-    /// A sample for work over so many bytes.
+    /// A sample of this size, which is a number of bytes, of chunks, of dimensions or of lines.
     ///
     /// # Errors
     /// Out of memory.
-    fn make(alloc: Global, len: usize) -> Result<Self>;
+    fn make(alloc: Global, size: usize) -> Result<Self>;
 
     /// Changes it a little, so that no turn can use the result of the one before. `turn` differs from call to call.
     fn touch(&mut self, turn: u8);
+
+    /// Whether the product and plain Rust left the same in it, where it keeps what both made.
+    ///
+    /// # Errors
+    /// Out of memory.
+    fn is_left_same(&self, _alloc: Global) -> Result<bool> {
+        Ok(true)
+    }
 }
 
 /// A piece of work that is measured.
@@ -25,6 +33,22 @@ pub trait Work {
     /// # Errors
     /// What the work refuses.
     fn run(alloc: Global, sample: &mut Self::Sample) -> Result<u8>;
+}
+
+/// How much work is done on.
+#[derive(Clone, Copy)]
+pub struct Extent {
+    /// The size of the sample.
+    pub size: usize,
+    /// How many bytes a copy of the same cells has; 0 if the work is none over bytes.
+    pub len: usize,
+}
+
+impl Extent {
+    /// So many bytes, of a sample of one size.
+    pub const fn bytes(len: usize) -> Extent {
+        Extent { size: 0, len }
+    }
 }
 
 /// The best time of each kind of work, in nanoseconds, and whether both made the same.
@@ -41,29 +65,34 @@ pub struct Times {
 }
 
 /// How often each piece of work is done. The best time counts.
-pub const TURNS: u8 = 25;
+const TURNS: u8 = 25;
 
-/// Measures the work of the product, that of plain Rust on the same sample and a copy of so many bytes, in turns.
+/// How long a piece of work is repeated at most before its last turn, in nanoseconds: 2 s.
+const LIMIT: u64 = 2_000_000_000;
+
+/// Measures the work of the product, that of plain Rust on the same sample and a copy of so many bytes, in turns. What
+/// both left is compared once, after the last turn.
 ///
 /// # Errors
 /// The work or the clock fails, or out of memory.
 pub fn measured<P: Work, Q: Work<Sample = P::Sample>>(
     rt: &impl Clock,
     alloc: Global,
-    len: usize,
+    extent: Extent,
 ) -> Result<Times> {
-    let mut sample = P::Sample::make(alloc, len)?;
-    let mut blocks = Blocks::make(alloc, len)?;
+    let mut sample = P::Sample::make(alloc, extent.size)?;
+    let mut blocks = Blocks::make(alloc, extent.len)?;
     let mut best = Times {
         product: u64::MAX,
         plain: u64::MAX,
-        copy: if len > 0 { u64::MAX } else { 0 },
+        copy: if extent.len > 0 { u64::MAX } else { 0 },
         are_same: true,
     };
     for turn in 0..TURNS {
         sample.touch(turn);
         best = next_times::<P, Q>(rt, alloc, &mut sample, &mut blocks, best)?;
     }
+    best.are_same = best.are_same && sample.is_left_same(alloc)?;
     Ok(best)
 }
 
@@ -87,11 +116,27 @@ fn next_times<P: Work, Q: Work<Sample = P::Sample>>(
     })
 }
 
-/// How long the work takes, in nanoseconds, and the byte that it returned.
+/// The best time of the work alone over a sample of this size, in nanoseconds.
 ///
 /// # Errors
-/// The work or the clock fails.
-pub fn timed<W: Work>(rt: &impl Clock, alloc: Global, sample: &mut W::Sample) -> Result<(u64, u8)> {
+/// The work or the clock fails, or out of memory.
+pub fn best_time<W: Work>(rt: &impl Clock, alloc: Global, size: usize) -> Result<u64> {
+    let mut sample = W::Sample::make(alloc, size)?;
+    let mut best = u64::MAX;
+    let mut all = 0u64;
+    for turn in 0..TURNS {
+        if all < LIMIT {
+            sample.touch(turn);
+            let (time, _) = timed::<W>(rt, alloc, &mut sample)?;
+            best = best.min(time);
+            all = all.saturating_add(time);
+        }
+    }
+    Ok(best)
+}
+
+/// How long the work takes, in nanoseconds, and the byte that it returned.
+fn timed<W: Work>(rt: &impl Clock, alloc: Global, sample: &mut W::Sample) -> Result<(u64, u8)> {
     let start = Instant::now(rt)?;
     let byte = W::run(alloc, sample)?;
     let taken = start.elapsed(rt)?.as_nanos();

@@ -20,3 +20,23 @@ pub fn mapped<A, B: Copy, F: Fn(&A) -> B>(
     }
     Ok(made)
 }
+
+/// The byte of eight flags.
+pub fn packed(flags: &[u8; 8]) -> u8 {
+    let [a, b, c, d, e, f, g, h] = *flags;
+    a | b << 1 | c << 2 | d << 3 | e << 4 | f << 5 | g << 6 | h << 7
+}
+
+/// The eight flags of a byte.
+pub fn unpacked(byte: u8) -> [u8; 8] {
+    [
+        byte & 1,
+        byte >> 1 & 1,
+        byte >> 2 & 1,
+        byte >> 3 & 1,
+        byte >> 4 & 1,
+        byte >> 5 & 1,
+        byte >> 6 & 1,
+        byte >> 7,
+    ]
+}

@@ -3,7 +3,7 @@ use crate::measure::Sample;
 use anyhow::Result;
 use std::alloc::Global;
 use std::borrow::CowSlice;
-use zarrs_data_type::{ArrayBytes, DataType};
+use zarrs_data_type::ArrayBytes;
 
 /// How many bytes most samples have: 1 MiB.
 pub const BYTES: usize = 1 << 20;
@@ -25,7 +25,7 @@ impl Sample for ArrayBytes<'static> {
 
 /// A number, as the first index of a box.
 impl Sample for u64 {
-    fn make(_alloc: Global, _len: usize) -> Result<u64> {
+    fn make(_alloc: Global, _size: usize) -> Result<u64> {
         Ok(0)
     }
 
@@ -49,12 +49,14 @@ pub fn tested(bytes: &[u8]) -> u8 {
     first ^ middle ^ bytes.last().copied().unwrap_or(0)
 }
 
-/// An unsigned type whose cells have this many bytes.
-pub fn unsigned(width: usize) -> DataType {
-    match width {
-        1 => DataType::UInt8,
-        2 => DataType::UInt16,
-        4 => DataType::UInt32,
-        _ => DataType::UInt64,
+/// So many numbers of four bytes, of which every other one is none.
+///
+/// # Errors
+/// Out of memory.
+pub fn options_of(alloc: Global, count: usize) -> Result<Vec<Option<u32>>> {
+    let mut options = vec![in alloc; None; count]?;
+    for (place, option) in options.iter_mut().enumerate() {
+        *option = (place % 2 == 1).then_some((place % BYTES) as u32);
     }
+    Ok(options)
 }

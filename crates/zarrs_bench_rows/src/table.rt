@@ -1,47 +1,54 @@
-//! The table that is printed.
-use crate::growth::{self, Growth};
-use crate::measure::{Work, measured};
+//! The tables that are printed.
+use crate::growth::{Growth, Scale};
+use crate::measure::{Extent, Work, best_time, measured};
 use anyhow::Result;
 use std::alloc::Global;
 use std::fmt;
 use std::time::Clock;
 
-/// The table, which ends before the first row that fails.
+/// The tables, which end before the first row that fails.
 pub struct Table<'a, R> {
     rt: &'a R,
     outcome: Result<()>,
 }
 
 impl<'a, R: Clock + Print + Alloc<A = Global>> Table<'a, R> {
-    /// Prints the head of the table.
+    /// Prints the head of the first table.
     pub fn new(rt: &'a R) -> Table<'a, R> {
         let outcome = print_line(rt, HEAD);
         Table { rt, outcome }
     }
 
     /// Measures the work of the product, that of plain Rust and a copy of so many bytes, and prints the row of their
-    /// best times. The number of bytes is 0 if the work is none over bytes.
-    pub fn row<P: Work, Q: Work<Sample = P::Sample>>(&mut self, name: &str, len: usize) {
+    /// best times.
+    pub fn row<P: Work, Q: Work<Sample = P::Sample>>(&mut self, name: &str, extent: Extent) {
         if self.outcome.is_ok() {
-            self.outcome = print_row::<R, P, Q>(self.rt, name, len);
+            self.outcome = print_row::<R, P, Q>(self.rt, name, extent);
         }
     }
 
-    /// Ends the rows of ratios, and prints the head of a table of growths.
-    pub fn begin_growths(&mut self) {
+    /// Measures the work alone, and prints the row of its best time.
+    pub fn time<W: Work>(&mut self, name: &str, size: usize) {
         if self.outcome.is_ok() {
-            self.outcome = print_line(self.rt, growth::HEAD);
+            self.outcome = print_time::<R, W>(self.rt, name, size);
         }
     }
 
-    /// Measures the work over 10, 100, 1,000 and 10,000 chunks, and prints the row of its growth.
-    pub fn growth<W: Work>(&mut self, name: &str) {
+    /// Ends the rows before, and prints the head of a table of growths.
+    pub fn begin_growths(&mut self, scale: Scale) {
         if self.outcome.is_ok() {
-            self.outcome = print_growth::<R, W>(self.rt, name);
+            self.outcome = print_line(self.rt, scale.head);
         }
     }
 
-    /// Ends the table.
+    /// Measures the work over samples of each size, and prints the row of its growth.
+    pub fn growth<W: Work>(&mut self, scale: Scale, name: &str) {
+        if self.outcome.is_ok() {
+            self.outcome = print_growth::<R, W>(self.rt, scale, name);
+        }
+    }
+
+    /// Ends the tables.
     ///
     /// # Errors
     /// Why a row failed: the work, the clock or the output, or out of memory.
@@ -64,7 +71,7 @@ impl fmt::Display for Ratio {
     }
 }
 
-/// The head of a table of ratios.
+/// The head of the table of ratios.
 const HEAD: &str =
     "| Work | us | us, plain Rust | Ratio | Ratio to a memory copy |\n|---|---|---|---|---|";
 
@@ -75,20 +82,35 @@ fn print_line(rt: &impl Print, line: &str) -> Result<()> {
 }
 
 /// Measures, and prints a row of growths.
-fn print_growth<R: Clock + Print + Alloc<A = Global>, W: Work>(rt: &R, name: &str) -> Result<()> {
-    let growth = Growth::measured::<W>(rt, rt.alloc())?;
+fn print_growth<R: Clock + Print + Alloc<A = Global>, W: Work>(
+    rt: &R,
+    scale: Scale,
+    name: &str,
+) -> Result<()> {
+    let growth = Growth::measured::<W>(rt, rt.alloc(), scale.sizes)?;
     println!(rt; "| {name} | {growth} |")?;
     Ok(())
 }
 
+/// Measures, and prints a row of one time.
+fn print_time<R: Clock + Print + Alloc<A = Global>, W: Work>(
+    rt: &R,
+    name: &str,
+    size: usize,
+) -> Result<()> {
+    let time = best_time::<W>(rt, rt.alloc(), size)? / 1000;
+    println!(rt; "| {name} | {time} | - | - | - |")?;
+    Ok(())
+}
+
 /// Measures, and prints a row.
-fn print_row<R, P, Q>(rt: &R, name: &str, len: usize) -> Result<()>
+fn print_row<R, P, Q>(rt: &R, name: &str, extent: Extent) -> Result<()>
 where
     R: Clock + Print + Alloc<A = Global>,
     P: Work,
     Q: Work<Sample = P::Sample>,
 {
-    let times = measured::<P, Q>(rt, rt.alloc(), len)?;
+    let times = measured::<P, Q>(rt, rt.alloc(), extent)?;
     let note = if times.are_same {
         ""
     } else {

@@ -1,0 +1,55 @@
+//! Arrays that are opened and built.
+use crate::arrays::absent_array;
+use anyhow::{Result, anyhow};
+use std::alloc::Global;
+use std::mem;
+use zarrs::{Array, DataType};
+use zarrs_bench_rows::measure::{Sample, Work};
+use zarrs_builder::ArrayBuilder;
+use zarrs_storage::MemoryStore;
+
+/// A store that holds the metadata of an array.
+#[derive(Drop)]
+pub struct Written(Option<MemoryStore>);
+
+impl Sample for Written {
+    fn make(alloc: Global, _size: usize) -> Result<Written> {
+        let mut array = absent_array(alloc, "uint8", [8192, 4096], [256, 256])?;
+        array.store_metadata(alloc)?;
+        Ok(Written(Some(array.into_storage())))
+    }
+
+    /// Nothing: an array is opened anew by each run.
+    fn touch(&mut self, _turn: u8) {}
+}
+
+/// `Array::open`.
+pub struct Open;
+
+impl Work for Open {
+    type Sample = Written;
+
+    fn run(alloc: Global, written: &mut Written) -> Result<u8> {
+        let Some(storage) = written.0.take() else {
+            return Err(anyhow!("no store"));
+        };
+        let array = Array::open(alloc, storage, "/climate/rain")?;
+        drop(mem::replace(&mut written.0, Some(array.into_storage())));
+        Ok(0)
+    }
+}
+
+/// `ArrayBuilder::build`.
+pub struct Build;
+
+impl Work for Build {
+    type Sample = u64;
+
+    fn run(alloc: Global, _number: &mut u64) -> Result<u8> {
+        let shapes = ([8192u64, 4096], [256u64, 256]);
+        let builder = ArrayBuilder::new(alloc, shapes.0, shapes.1, DataType::UInt8, 0u8);
+        let array = builder.build(alloc, MemoryStore::new(alloc), "/climate/rain")?;
+        drop(array);
+        Ok(0)
+    }
+}
