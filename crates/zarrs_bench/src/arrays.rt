@@ -11,9 +11,10 @@ use zarrs_storage::MemoryStore;
 
 /// An array of numbers over a store, the same chunks in a store alone, and what is stored there as a list and as bytes.
 #[derive(Drop)]
-pub struct Numbers<T: Number, const IS_CHUNK: bool> {
+pub struct Numbers<T: Number> {
     array: Array<MemoryStore>,
     store: MemoryStore,
+    is_chunk: bool,
     grid: Grid,
     all: ArraySubset,
     list: Vec<T>,
@@ -83,21 +84,35 @@ fn store_data<'a, D: IntoArrayBytes<'a>>(
     Ok(())
 }
 
-impl<T: Number, const IS_CHUNK: bool> Sample for Numbers<T, IS_CHUNK> {
-    fn make(alloc: Global, len: usize) -> Result<Numbers<T, IS_CHUNK>> {
-        let grid = grid_of(IS_CHUNK);
+/// Stores these numbers as all of the array, and returns the same chunks in a store alone.
+fn store_all<T: Number>(
+    alloc: Global,
+    array: &mut Array<MemoryStore>,
+    all: &ArraySubset,
+    list: &[T],
+) -> Result<MemoryStore> {
+    store_data(alloc, array, Some(all), list)?;
+    same_values(alloc, array.storage())
+}
+
+impl<T: Number> Sample for Numbers<T> {
+    /// Whether the array is one chunk, which is stored by its own call.
+    type Form = bool;
+
+    fn make(alloc: Global, is_chunk: bool, len: usize) -> Result<Numbers<T>> {
+        let grid = grid_of(is_chunk);
         let width = T::WIDTH.max(1);
         let shape = in_numbers(grid.shape, width);
         let chunk = in_numbers(grid.chunk, width);
         let all = ArraySubset::new_with_shape(alloc, shape.to_vec(alloc)?)?;
         let list = numbers_of(alloc, len / width)?;
-        let cells = ArrayBytes::make(alloc, len)?;
+        let cells = ArrayBytes::make(alloc, (), len)?;
         let mut array = absent_array(alloc, T::NAME, shape, chunk)?;
-        store_data(alloc, &mut array, Some(&all), list.as_slice())?;
-        let store = same_values(alloc, array.storage())?;
+        let store = store_all(alloc, &mut array, &all, &list)?;
         Ok(Numbers {
             array,
             store,
+            is_chunk,
             grid,
             all,
             list,
@@ -118,37 +133,49 @@ impl<T: Number, const IS_CHUNK: bool> Sample for Numbers<T, IS_CHUNK> {
 }
 
 /// `Array::store_chunk` or `Array::store_array_subset`, of `&[T]` or of `ArrayBytes` that are lent.
-pub struct Store<T, const IS_CHUNK: bool, const IS_LIST: bool>(PhantomData<T>);
+pub struct Store<T, const IS_LIST: bool>(PhantomData<T>);
 
-impl<T: Number, const IS_CHUNK: bool, const IS_LIST: bool> Work for Store<T, IS_CHUNK, IS_LIST> {
-    type Sample = Numbers<T, IS_CHUNK>;
+impl<T: Number, const IS_LIST: bool> Work for Store<T, IS_LIST> {
+    type Sample = Numbers<T>;
 
-    fn run(alloc: Global, sample: &mut Numbers<T, IS_CHUNK>) -> Result<u8> {
+    fn run(alloc: Global, sample: &mut Numbers<T>) -> Result<u8> {
         let Numbers {
             array,
+            is_chunk,
             all,
             list,
             cells,
             ..
         } = sample;
-        let all = (!IS_CHUNK).then_some(&*all);
-        if IS_LIST {
-            store_data(alloc, array, all, list.as_slice())?;
+        let all = (!*is_chunk).then_some(&*all);
+        let outcome = if IS_LIST {
+            store_data(alloc, array, all, list.as_slice())
         } else {
-            store_data(alloc, array, all, ArrayBytes::from_flen(bytes_in(cells)))?;
-        }
+            store_data(alloc, array, all, ArrayBytes::from_flen(bytes_in(cells)))
+        };
+        outcome?;
         Ok(0)
     }
 }
 
+/// Stores the bytes of a list, by the calls of a store that an array makes, and copies of rows.
+fn store_list<T: Number>(
+    alloc: Global,
+    store: &mut MemoryStore,
+    grid: Grid,
+    list: &[T],
+) -> Result<()> {
+    let bytes = T::to_bytes(alloc, list)?;
+    store_region(alloc, store, grid, grid.all(), bytes.as_slice())
+}
+
 /// The bytes of a list, if that is stored, the same calls of a store, and copies of rows.
-pub struct PlainStore<T, const IS_CHUNK: bool, const IS_LIST: bool>(PhantomData<T>);
+pub struct PlainStore<T, const IS_LIST: bool>(PhantomData<T>);
 
-impl<T: Number, const IS_CHUNK: bool, const IS_LIST: bool> Work
-    for PlainStore<T, IS_CHUNK, IS_LIST> {
-    type Sample = Numbers<T, IS_CHUNK>;
+impl<T: Number, const IS_LIST: bool> Work for PlainStore<T, IS_LIST> {
+    type Sample = Numbers<T>;
 
-    fn run(alloc: Global, sample: &mut Numbers<T, IS_CHUNK>) -> Result<u8> {
+    fn run(alloc: Global, sample: &mut Numbers<T>) -> Result<u8> {
         let Numbers {
             store,
             grid,
@@ -156,12 +183,12 @@ impl<T: Number, const IS_CHUNK: bool, const IS_LIST: bool> Work
             cells,
             ..
         } = sample;
-        if IS_LIST {
-            let bytes = T::to_bytes(alloc, list)?;
-            store_region(alloc, store, *grid, grid.all(), bytes.as_slice())?;
+        let outcome = if IS_LIST {
+            store_list(alloc, store, *grid, list)
         } else {
-            store_region(alloc, store, *grid, grid.all(), bytes_in(cells))?;
-        }
+            store_region(alloc, store, *grid, grid.all(), bytes_in(cells))
+        };
+        outcome?;
         Ok(0)
     }
 }
@@ -170,9 +197,9 @@ impl<T: Number, const IS_CHUNK: bool, const IS_LIST: bool> Work
 pub struct Read<T, const IS_LIST: bool>(PhantomData<T>);
 
 impl<T: Number, const IS_LIST: bool> Work for Read<T, IS_LIST> {
-    type Sample = Numbers<T, false>;
+    type Sample = Numbers<T>;
 
-    fn run(alloc: Global, sample: &mut Numbers<T, false>) -> Result<u8> {
+    fn run(alloc: Global, sample: &mut Numbers<T>) -> Result<u8> {
         if IS_LIST {
             let found: Vec<T> = sample.array.retrieve_array_subset(alloc, &sample.all)?;
             return Ok(tested_numbers(&found));
@@ -186,9 +213,9 @@ impl<T: Number, const IS_LIST: bool> Work for Read<T, IS_LIST> {
 pub struct PlainRead<T, const IS_LIST: bool>(PhantomData<T>);
 
 impl<T: Number, const IS_LIST: bool> Work for PlainRead<T, IS_LIST> {
-    type Sample = Numbers<T, false>;
+    type Sample = Numbers<T>;
 
-    fn run(alloc: Global, sample: &mut Numbers<T, false>) -> Result<u8> {
+    fn run(alloc: Global, sample: &mut Numbers<T>) -> Result<u8> {
         let grid = sample.grid;
         let found = read_region(alloc, &sample.store, grid, grid.all())?;
         if IS_LIST {

@@ -13,7 +13,9 @@ use zarrs_storage::MemoryStore;
 pub struct Written(Option<MemoryStore>);
 
 impl Sample for Written {
-    fn make(alloc: Global, _size: usize) -> Result<Written> {
+    type Form = ();
+
+    fn make(alloc: Global, _form: (), _size: usize) -> Result<Written> {
         let mut array = absent_array(alloc, "uint8", [8192, 4096], [256, 256])?;
         array.store_metadata(alloc)?;
         Ok(Written(Some(array.into_storage())))

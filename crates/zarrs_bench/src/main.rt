@@ -45,12 +45,12 @@ fn run(rt: &HostRuntime) -> Result<()> {
         size: 200_000,
         len: 0,
     };
-    table.row::<RunScript, PlainScript>("a script of 200,001 lines", lines);
-    table.time::<Open>("open an array", 0);
-    table.time::<Build>("build an array", 0);
+    table.row::<RunScript, PlainScript>("a script of 200,001 lines", (), lines);
+    table.time::<Open>("open an array", ());
+    table.time::<Build>("build an array", ());
     zarrs_bench_engine::rows::print_growths(&mut table);
     table.begin_growths(LINES);
-    table.growth::<RunScript>(LINES, "a script");
+    table.growth::<RunScript>(LINES, "a script", ());
     table.finish()
 }
 
@@ -60,15 +60,15 @@ fn print_numbers<T: Number>(table: &mut Table<'_, HostRuntime>, name: &str, chun
         size: 1 << 25,
         len: 1 << 25,
     };
-    table.row::<Store<T, false, true>, PlainStore<T, false, true>>(name, all);
+    table.row::<Store<T, true>, PlainStore<T, true>>(name, false, all);
     let name = "the same, by array bytes";
-    table.row::<Store<T, false, false>, PlainStore<T, false, false>>(name, all);
-    table.row::<Read<T, true>, PlainRead<T, true>>("read it, by a list", all);
-    table.row::<Read<T, false>, PlainRead<T, false>>(name, all);
+    table.row::<Store<T, false>, PlainStore<T, false>>(name, false, all);
+    table.row::<Read<T, true>, PlainRead<T, true>>("read it, by a list", false, all);
+    table.row::<Read<T, false>, PlainRead<T, false>>(name, false, all);
     let chunk = Extent {
         size: 1 << 15,
         len: 1 << 15,
     };
-    table.row::<Store<T, true, true>, PlainStore<T, true, true>>(chunk_name, chunk);
-    table.row::<Store<T, true, false>, PlainStore<T, true, false>>(name, chunk);
+    table.row::<Store<T, true>, PlainStore<T, true>>(chunk_name, true, chunk);
+    table.row::<Store<T, false>, PlainStore<T, false>>(name, true, chunk);
 }

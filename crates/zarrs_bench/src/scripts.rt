@@ -35,7 +35,9 @@ pub struct Script {
 }
 
 impl Sample for Script {
-    fn make(alloc: Global, lines: usize) -> Result<Script> {
+    type Form = ();
+
+    fn make(alloc: Global, _form: (), lines: usize) -> Result<Script> {
         Ok(Script {
             text: long_script(alloc, lines / 2)?,
             values: BTreeMap::new(alloc),
@@ -131,6 +133,12 @@ fn lines_of(alloc: Global, script: &[u8]) -> Result<Vec<Line>> {
     Ok(lines)
 }
 
+/// Writes that a line was done.
+fn put_ok(text: &mut Vec<u8>) -> Result<()> {
+    text.extend_from_slice(b"ok\n")?;
+    Ok(())
+}
+
 /// The key of the chunk with this index.
 fn key_of(alloc: Global, index: u64) -> Result<String> {
     let mut buffer = Buffer::new();
@@ -138,6 +146,35 @@ fn key_of(alloc: Global, index: u64) -> Result<String> {
     key.push_str("c/")?;
     key.push_str(buffer.format(index))?;
     Ok(key)
+}
+
+/// Puts the cells of a chunk in the map, unless all are 0.
+fn store_cells(
+    alloc: Global,
+    values: &mut BTreeMap<String, Vec<u8>>,
+    index: u64,
+    cells: &Vec<u8>,
+) -> Result<()> {
+    let key = key_of(alloc, index)?;
+    if cells.iter().any(|cell| *cell != 0) {
+        values.insert(key, cells.clone()?)?;
+    } else {
+        values.remove(&key);
+    }
+    Ok(())
+}
+
+/// Writes a copy of the cells of a chunk, or zeros.
+fn read_cells(
+    alloc: Global,
+    values: &BTreeMap<String, Vec<u8>>,
+    index: u64,
+    text: &mut Vec<u8>,
+) -> Result<()> {
+    match values.get(&key_of(alloc, index)?) {
+        Some(cells) => put_cells(text, &cells.clone()?),
+        None => put_cells(text, &[0, 0, 0, 0]),
+    }
 }
 
 /// Does what a line asks, over a map from keys to bytes.
@@ -149,21 +186,12 @@ fn run_line(
 ) -> Result<()> {
     match line {
         Line::Chunk(index, cells) => {
-            let key = key_of(alloc, *index)?;
-            if cells.iter().any(|cell| *cell != 0) {
-                values.insert(key, cells.clone()?)?;
-            } else {
-                values.remove(&key);
-            }
-            text.extend_from_slice(b"ok\n")?;
+            store_cells(alloc, values, *index, cells)?;
+            put_ok(text)
         }
-        Line::Read(index) => match values.get(&key_of(alloc, *index)?) {
-            Some(cells) => put_cells(text, &cells.clone()?)?,
-            None => put_cells(text, &[0, 0, 0, 0])?,
-        },
-        Line::Array => text.extend_from_slice(b"ok\n")?,
+        Line::Read(index) => read_cells(alloc, values, *index, text),
+        Line::Array => put_ok(text),
     }
-    Ok(())
 }
 
 /// The same steps: all lines are read, then each is done.

@@ -1,6 +1,7 @@
 //! Boxes of two dimensions, and plain copies of their rows.
 use anyhow::{Result, anyhow};
 use std::ops::Range;
+use zarrs_bench_rows::plain::put_mapped;
 
 /// The indices of one dimension from `start` on, and before `end`.
 #[derive(Clone, Copy, PartialEq, Eq)]
@@ -88,10 +89,12 @@ pub fn turn(bytes: &mut [u8]) {
 /// Copies a row of as many bytes, and turns those of each number if that is asked for.
 fn copy_row(to: &mut [u8], from: &[u8], are_turned: bool) {
     if are_turned {
-        let numbers = to.as_chunks_mut::<4>().0.iter_mut();
-        for (number, bytes) in numbers.zip(from.as_chunks::<4>().0) {
-            *number = u32::from_be_bytes(*bytes).to_le_bytes();
-        }
+        let numbers = from.as_chunks::<4>().0;
+        put_mapped(
+            to.as_chunks_mut::<4>().0,
+            numbers,
+            |number| u32::from_be_bytes(*number).to_le_bytes(),
+        );
     } else if to.len() == from.len() {
         to.copy_from_slice(from);
     }

@@ -1,4 +1,4 @@
-//! What is stored and read: arrays, and regions of them.
+//! What is stored and read: arrays, and parts of them.
 use crate::boxes::{Region, region_of};
 use crate::kinds::Kind;
 use crate::lists::Chunks;
@@ -7,147 +7,123 @@ use anyhow::Result;
 use std::alloc::Global;
 use zarrs_subset::ArraySubset;
 
-/// 32 MiB of bytes in chunks of 64 KiB, as `FORM` of `Cells`.
-pub const LARGE: u64 = 0;
+/// An array: what its cells are, and how it is cut.
+#[derive(Clone, Copy)]
+pub enum Form {
+    /// Its shape, that of its chunks, and that of their subchunks, which is theirs if they are no shards.
+    Cut(Kind, [u64; 2], [u64; 2], [u64; 2]),
+    /// As many chunks as the size says, of so many cells.
+    Chunks(Kind, u64),
+    /// So many cells, over as many chunks as the size says.
+    Spread(Kind, u64),
+    /// One shard, of as many subchunks as the size says, of so many cells.
+    Subchunks(Kind, u64),
+    /// 65,536 bytes of as many dimensions as the size says, in 8 chunks.
+    Cube,
+}
+
+/// 32 MiB of bytes in chunks of 64 KiB.
+pub const LARGE: Form = Form::Cut(Kind::Bytes, [8192, 4096], [256, 256], [256, 256]);
 
 /// The same, all chunks of which are absent.
-pub const ABSENT: u64 = 1;
+pub const ABSENT: Form = Form::Cut(Kind::Zeros, [8192, 4096], [256, 256], [256, 256]);
 
 /// 32 MiB of numbers in big endian, in chunks of 64 KiB.
-pub const BIG: u64 = 2;
+pub const BIG: Form = Form::Cut(Kind::BigNumbers, [8192, 4096], [256, 256], [256, 256]);
 
 /// 32 MiB of bytes in shards of 1 MiB, in subchunks of 64 KiB.
-pub const SHARDS: u64 = 3;
+pub const SHARDS: Form = Form::Cut(Kind::Bytes, [8192, 4096], [1024, 1024], [256, 256]);
 
 /// 1 MiB of bytes in chunks of 1 KiB.
-pub const SMALL: u64 = 4;
+pub const SMALL: Form = Form::Cut(Kind::Bytes, [1024, 1024], [32, 32], [32, 32]);
 
 /// One chunk of 1 MiB of bytes.
-pub const CHUNK: u64 = 5;
+pub const CHUNK: Form = Form::Cut(Kind::Bytes, [1024, 1024], [1024, 1024], [1024, 1024]);
 
 /// A shard of 16 MiB of bytes, in subchunks of 64 KiB.
-pub const LARGE_SHARD: u64 = 6;
+pub const LARGE_SHARD: Form = Form::Cut(Kind::Bytes, [4096, 4096], [4096, 4096], [256, 256]);
 
 /// A shard of 1 MiB of bytes, in subchunks of 64 KiB.
-pub const SHARD: u64 = 7;
+pub const SHARD: Form = Form::Cut(Kind::Bytes, [1024, 1024], [1024, 1024], [256, 256]);
 
 /// The same, in subchunks of 4 KiB.
-pub const FINE_SHARD: u64 = 8;
+pub const FINE_SHARD: Form = Form::Cut(Kind::Bytes, [1024, 1024], [1024, 1024], [64, 64]);
 
 /// A shard of 1 MiB of numbers, in subchunks of 64 KiB.
-pub const NUMBER_SHARD: u64 = 9;
+pub const NUMBER_SHARD: Form = Form::Cut(Kind::Numbers, [512, 2048], [512, 2048], [128, 512]);
 
 /// The same, in subchunks of 4 KiB.
-pub const FINE_NUMBER_SHARD: u64 = 10;
+pub const FINE_NUMBER_SHARD: Form = Form::Cut(Kind::Numbers, [512, 2048], [512, 2048], [32, 128]);
 
-/// 100,000 texts over so many chunks.
-pub const TEXTS: u64 = 11;
+/// 100,000 texts over 100 chunks.
+pub const TEXTS: Form = Form::Cut(Kind::Texts, [1, 100_000], [1, 1000], [1, 1000]);
 
-/// 262,144 optional numbers over so many chunks.
-pub const OPTIONS: u64 = 12;
+/// 262,144 optional numbers over 16 chunks.
+pub const OPTIONS: Form = Form::Cut(Kind::Options, [1, 262_144], [1, 16_384], [1, 16_384]);
 
 /// So many chunks of 1 KiB of bytes.
-pub const CHUNKS: u64 = 13;
+pub const CHUNKS: Form = Form::Chunks(Kind::Bytes, 1024);
 
 /// The same, all absent.
-pub const ABSENT_CHUNKS: u64 = 14;
+pub const ABSENT_CHUNKS: Form = Form::Chunks(Kind::Zeros, 1024);
 
 /// One shard of so many subchunks of 1 KiB of bytes.
-pub const SUBCHUNKS: u64 = 15;
+pub const SUBCHUNKS: Form = Form::Subchunks(Kind::Bytes, 1024);
 
 /// So many chunks of 64 texts.
-pub const TEXT_CHUNKS: u64 = 16;
+pub const TEXT_CHUNKS: Form = Form::Chunks(Kind::Texts, 64);
+
+/// 100,000 texts over so many chunks.
+pub const SPREAD_TEXTS: Form = Form::Spread(Kind::Texts, 100_000);
 
 /// So many chunks of 256 optional numbers.
-pub const OPTION_CHUNKS: u64 = 17;
+pub const OPTION_CHUNKS: Form = Form::Chunks(Kind::Options, 256);
 
-/// 65,536 bytes of so many dimensions, in 8 chunks.
-pub const CUBE: u64 = 18;
+/// A part of an array.
+#[derive(Clone, Copy, PartialEq, Eq)]
+pub enum Part {
+    /// The whole array.
+    All,
+    /// All cells but those at its edge.
+    Inner,
+    /// One column in its middle.
+    Column,
+    /// One row in its middle.
+    Row,
+    /// One cell in its middle.
+    Cell,
+    /// A tenth of the cells.
+    Tenth,
+    /// One subchunk, or one chunk if that is no shard.
+    Piece,
+    /// The middle half of each row of the last dimension of a cube.
+    Half,
+}
 
-/// The whole array, as `PART` of `Cells`.
-pub const ALL: u64 = 0;
+/// A row of so many chunks of so many cells: its shape, that of its chunks, and that again.
+fn row_of(chunks: u64, count: u64) -> [[u64; 2]; 3] {
+    [[1, chunks.saturating_mul(count)], [1, count], [1, count]]
+}
 
-/// All cells but those at its edge.
-pub const INNER: u64 = 1;
-
-/// One column in its middle.
-pub const COLUMN: u64 = 2;
-
-/// One row in its middle.
-pub const ROW: u64 = 3;
-
-/// One cell in its middle.
-pub const CELL: u64 = 4;
-
-/// A tenth of the cells.
-pub const TENTH: u64 = 5;
-
-/// One subchunk, or one chunk if that is no shard.
-pub const PIECE: u64 = 6;
-
-/// The middle half of each row of the last dimension.
-pub const HALF: u64 = 7;
-
-/// An array of this shape, in chunks of that one.
-fn in_chunks(shape: [u64; 2], chunk: [u64; 2]) -> Grid {
-    Grid {
+/// The array of this form and size, as plain loops see it, and what its cells are.
+fn grid_of(form: Form, size: u64) -> (Kind, Grid) {
+    let (kind, [shape, chunk, subchunk]) = match form {
+        Form::Cut(kind, shape, chunk, subchunk) => (kind, [shape, chunk, subchunk]),
+        Form::Chunks(kind, count) => (kind, row_of(size, count)),
+        Form::Spread(kind, count) => (kind, row_of(size, count / size.max(1))),
+        Form::Subchunks(kind, count) => {
+            let [all, subchunk, _] = row_of(size, count);
+            (kind, [all, all, subchunk])
+        }
+        Form::Cube => (Kind::Bytes, row_of(8, 8192)),
+    };
+    let grid = Grid {
         shape,
         chunk,
-        subchunk: chunk,
-        is_big: false,
-    }
-}
-
-/// One shard of this shape, in subchunks of that one.
-fn shard(shape: [u64; 2], subchunk: [u64; 2]) -> Grid {
-    Grid {
         subchunk,
-        ..in_chunks(shape, shape)
-    }
-}
-
-/// A row of so many chunks of so many cells.
-fn row_of(chunks: u64, count: u64) -> Grid {
-    in_chunks([1, chunks.saturating_mul(count)], [1, count])
-}
-
-/// The array of this form.
-fn grid_of(form: u64, size: u64) -> (Kind, Grid) {
-    let large = in_chunks([8192, 4096], [256, 256]);
-    match form {
-        BIG => (
-            Kind::BigNumbers,
-            Grid {
-                is_big: true,
-                ..large
-            },
-        ),
-        SHARDS => (
-            Kind::Bytes,
-            Grid {
-                chunk: [1024, 1024],
-                ..large
-            },
-        ),
-        SMALL => (Kind::Bytes, in_chunks([1024, 1024], [32, 32])),
-        CHUNK => (Kind::Bytes, in_chunks([1024, 1024], [1024, 1024])),
-        LARGE_SHARD => (Kind::Bytes, shard([4096, 4096], [256, 256])),
-        SHARD => (Kind::Bytes, shard([1024, 1024], [256, 256])),
-        FINE_SHARD => (Kind::Bytes, shard([1024, 1024], [64, 64])),
-        NUMBER_SHARD => (Kind::Numbers, shard([512, 2048], [128, 512])),
-        FINE_NUMBER_SHARD => (Kind::Numbers, shard([512, 2048], [32, 128])),
-        TEXTS => (Kind::Texts, row_of(size, 100_000 / size.max(1))),
-        OPTIONS => (Kind::Options, row_of(size, 262_144 / size.max(1))),
-        CHUNKS | ABSENT_CHUNKS => (Kind::Bytes, row_of(size, 1024)),
-        SUBCHUNKS => (
-            Kind::Bytes,
-            shard([1, size.saturating_mul(1024)], [1, 1024]),
-        ),
-        TEXT_CHUNKS => (Kind::Texts, row_of(size, 64)),
-        OPTION_CHUNKS => (Kind::Options, row_of(size, 256)),
-        CUBE => (Kind::Bytes, in_chunks([8, 8192], [1, 8192])),
-        _ => (Kind::Bytes, large),
-    }
+        is_big: kind == Kind::BigNumbers,
+    };
+    (kind, grid)
 }
 
 /// The extents of a cube, in rows of 16 if it has more than one dimension. Its first dimension is cut into 8 chunks.
@@ -162,27 +138,27 @@ fn cube_of(dimensions: u64) -> &'static [u64] {
     }
 }
 
+/// So many indices from `start` on: the first one, and the one behind the last one.
+fn span(start: u64, len: u64) -> [u64; 2] {
+    [start, start.saturating_add(len)]
+}
+
 /// The region of this part of an array whose cells have so many bytes.
-fn region_of_part(grid: Grid, width: u64, part: u64) -> Region {
+fn region_of_part(grid: Grid, width: u64, part: Part) -> Region {
     let [rows, columns] = grid.shape;
     let (row, column) = (rows / 2, columns / 2);
     let [height, length] = grid.subchunk;
-    let one_row = [row, row.saturating_add(1)];
-    let one_column = [column, column.saturating_add(width)];
     match part {
-        INNER => region_of(
+        Part::All | Part::Half => grid.all(),
+        Part::Inner => region_of(
             [1, rows.saturating_sub(1)],
             [width, columns.saturating_sub(width)],
         ),
-        COLUMN => region_of([0, rows], one_column),
-        ROW => region_of(one_row, [0, columns]),
-        CELL => region_of(one_row, one_column),
-        TENTH => region_of([rows / 8, rows / 16 * 7], [columns / 8, columns / 16 * 7]),
-        PIECE => region_of(
-            [row, row.saturating_add(height)],
-            [column, column.saturating_add(length)],
-        ),
-        _ => grid.all(),
+        Part::Column => region_of([0, rows], span(column, width)),
+        Part::Row => region_of(span(row, 1), [0, columns]),
+        Part::Cell => region_of(span(row, 1), span(column, width)),
+        Part::Tenth => region_of([rows / 8, rows / 16 * 7], [columns / 8, columns / 16 * 7]),
+        Part::Piece => region_of(span(row, height), span(column, length)),
     }
 }
 
@@ -195,8 +171,6 @@ pub struct Case {
     pub grid: Grid,
     /// The part, as plain loops see it.
     pub region: Region,
-    /// Whether its chunks are present.
-    pub is_stored: bool,
     /// The extents of an array of another number of dimensions than two, which no plain loop sees.
     cube: &'static [u64],
     /// Whether the part of that is half of it.
@@ -204,15 +178,17 @@ pub struct Case {
 }
 
 /// The array of this form and size, and this part of it.
-pub fn case_of(form: u64, part: u64, size: u64) -> Case {
+pub fn case_of((form, part): (Form, Part), size: u64) -> Case {
     let (kind, grid) = grid_of(form, size);
     Case {
         kind,
         grid,
         region: region_of_part(grid, kind.width(), part),
-        is_stored: form != ABSENT && form != ABSENT_CHUNKS,
-        cube: if form == CUBE { cube_of(size) } else { &[] },
-        is_half: part == HALF,
+        cube: match form {
+            Form::Cube => cube_of(size),
+            _ => &[],
+        },
+        is_half: part == Part::Half,
     }
 }
 
@@ -222,21 +198,18 @@ impl Case {
         [rows, columns / self.kind.width().max(1)]
     }
 
-    /// The shape of the array.
-    pub fn shape(self, alloc: Global) -> Result<Vec<u64>> {
+    /// The extents of the cube if it is one, or else these ones, in cells.
+    pub fn extents(self, alloc: Global, extents: [u64; 2]) -> Result<Vec<u64>> {
         if self.cube.is_empty() {
-            return Ok(self.in_cells(self.grid.shape).to_vec(alloc)?);
+            return Ok(self.in_cells(extents).to_vec(alloc)?);
         }
         Ok(self.cube.to_vec(alloc)?)
     }
 
     /// The shape of its chunks.
     pub fn chunk_shape(self, alloc: Global) -> Result<Vec<u64>> {
-        if self.cube.is_empty() {
-            return Ok(self.in_cells(self.grid.chunk).to_vec(alloc)?);
-        }
-        let mut shape = self.cube.to_vec(alloc)?;
-        if let Some(first) = shape.first_mut() {
+        let mut shape = self.extents(alloc, self.grid.chunk)?;
+        if let (false, Some(first)) = (self.cube.is_empty(), shape.first_mut()) {
             *first /= 8;
         }
         Ok(shape)
@@ -258,27 +231,31 @@ impl Case {
         }
     }
 
+    /// Where the part begins.
+    fn start(self, alloc: Global) -> Result<Vec<u64>> {
+        let Region { rows, columns } = self.region;
+        let mut start = self.extents(alloc, [rows.start, columns.start])?;
+        if !self.cube.is_empty() {
+            start.fill(0);
+        }
+        if let (true, Some(first), Some(extent)) = (
+            self.is_half,
+            start.last_mut(),
+            self.cube.last(),
+        ) {
+            *first = *extent / 4;
+        }
+        Ok(start)
+    }
+
     /// The part of the array.
     pub fn subset(self, alloc: Global) -> Result<ArraySubset> {
-        if self.cube.is_empty() {
-            let Region { rows, columns } = self.region;
-            let width = self.kind.width().max(1);
-            let ranges = [
-                rows.start..rows.end,
-                columns.start / width..columns.end / width,
-            ];
-            return Ok(ArraySubset::new_with_ranges(alloc, &ranges)?);
+        let Region { rows, columns } = self.region;
+        let start = self.start(alloc)?;
+        let mut shape = self.extents(alloc, [rows.len(), columns.len()])?;
+        if let (true, Some(last)) = (self.is_half, shape.last_mut()) {
+            *last /= 2;
         }
-        let mut ranges = Vec::with_capacity(alloc, self.cube.len())?;
-        for extent in self.cube {
-            ranges.push(0..*extent)?;
-        }
-        if self.is_half {
-            if let Some(last) = ranges.last_mut() {
-                let quarter = last.end / 4;
-                *last = quarter..quarter.saturating_mul(3);
-            }
-        }
-        Ok(ArraySubset::new_with_ranges(alloc, &ranges)?)
+        Ok(ArraySubset::new_with_start_shape(start, shape)?)
     }
 }

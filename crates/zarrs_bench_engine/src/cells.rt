@@ -1,6 +1,7 @@
 //! Arrays over a store in memory, and the same chunks in a store alone.
 use crate::arrays::{MemoryEngine, absent_array};
-use crate::cases::{Case, case_of};
+use crate::cases::{Case, Form, Part, case_of};
+use crate::kinds::Kind;
 use crate::plain::{hold_same, key_of, same_values};
 use anyhow::Result;
 use std::alloc::Global;
@@ -10,9 +11,9 @@ use zarrs_data_type::ArrayBytes;
 use zarrs_storage::{MemoryStore, StoreKey};
 use zarrs_subset::ArraySubset;
 
-/// An array of this form over a store, the same chunks in a store alone, a part of the array, and what is stored there.
+/// An array over a store, the same chunks in a store alone, a part of the array, and what is stored there.
 #[derive(Drop)]
-pub struct Cells<const FORM: u64, const PART: u64> {
+pub struct Cells {
     /// The array.
     pub engine: MemoryEngine,
     /// The store alone.
@@ -27,34 +28,47 @@ pub struct Cells<const FORM: u64, const PART: u64> {
     pub cells: ArrayBytes<'static>,
 }
 
-/// Stores all of the array, if its chunks are to be present.
-fn store_all(alloc: Global, engine: &mut MemoryEngine, case: Case) -> Result<()> {
-    if case.is_stored {
-        let all = ArraySubset::new_with_shape(alloc, case.shape(alloc)?)?;
-        let cells = case.kind.cells(alloc, all.num_elements()? as usize)?;
-        engine.store_array_subset(alloc, &all, &cells, &CodecOptions::default())?;
-    }
-    Ok(())
+/// What is stored there, one cell for each position.
+fn cells_in(alloc: Global, kind: Kind, subset: &ArraySubset) -> Result<ArrayBytes<'static>> {
+    kind.cells(alloc, subset.num_elements()? as usize)
 }
 
-/// The array.
+/// Stores all of the array, and returns the same chunks in a store alone.
+fn store_all(alloc: Global, engine: &mut MemoryEngine, case: Case) -> Result<MemoryStore> {
+    let all = ArraySubset::new_with_shape(alloc, case.extents(alloc, case.grid.shape)?)?;
+    let cells = cells_in(alloc, case.kind, &all)?;
+    engine.store_array_subset(alloc, &all, &cells, &CodecOptions::default())?;
+    same_values(alloc, engine.storage())
+}
+
+/// The array, all chunks of which are absent.
 fn array_of(alloc: Global, case: Case) -> Result<MemoryEngine> {
-    let shape = case.shape(alloc)?;
+    let shape = case.extents(alloc, case.grid.shape)?;
     let chunk_shape = case.chunk_shape(alloc)?;
-    let subchunk_shape = case.subchunk_shape();
-    let subchunk_shape = subchunk_shape.as_ref().map(|shape| shape.as_slice());
-    absent_array(alloc, case.kind, [&shape, &chunk_shape], subchunk_shape)
+    absent_array(
+        alloc,
+        case.kind,
+        [&shape, &chunk_shape],
+        case.subchunk_shape(),
+    )
 }
 
-impl<const FORM: u64, const PART: u64> Sample for Cells<FORM, PART> {
-    fn make(alloc: Global, size: usize) -> Result<Cells<FORM, PART>> {
-        let case = case_of(FORM, PART, size as u64);
+/// The array, and the same chunks in a store alone.
+fn stored(alloc: Global, case: Case) -> Result<(MemoryEngine, MemoryStore)> {
+    let mut engine = array_of(alloc, case)?;
+    let store = store_all(alloc, &mut engine, case)?;
+    Ok((engine, store))
+}
+
+impl Sample for Cells {
+    type Form = (Form, Part);
+
+    fn make(alloc: Global, form: (Form, Part), size: usize) -> Result<Cells> {
+        let case = case_of(form, size as u64);
         let key = key_of(alloc, [0, 0])?;
         let subset = case.subset(alloc)?;
-        let cells = case.kind.cells(alloc, subset.num_elements()? as usize)?;
-        let mut engine = array_of(alloc, case)?;
-        store_all(alloc, &mut engine, case)?;
-        let store = same_values(alloc, engine.storage())?;
+        let cells = cells_in(alloc, case.kind, &subset)?;
+        let (engine, store) = stored(alloc, case)?;
         Ok(Cells {
             engine,
             store,

@@ -21,21 +21,36 @@ const CALLS: u64 = 1024;
 
 /// Chunks in an array and in a map from keys to bytes, stored or absent, and what is stored as a chunk.
 #[derive(Drop)]
-pub struct Chunks<const ARE_STORED: bool> {
+pub struct Chunks {
     engine: MemoryEngine,
     values: BTreeMap<String, Vec<u8>>,
     cells: ArrayBytes<'static>,
 }
 
-impl<const ARE_STORED: bool> Sample for Chunks<ARE_STORED> {
-    fn make(alloc: Global, _size: usize) -> Result<Chunks<ARE_STORED>> {
-        let stored = if ARE_STORED { CHUNKS } else { 0 };
-        let cells = ArrayBytes::make(alloc, LEN as usize)?;
-        let mut values = BTreeMap::new(alloc);
-        put_chunks(alloc, &mut values, bytes_in(&cells), stored)?;
-        let shapes: [&[u64]; 2] = [&[LEN * CHUNKS], &[LEN]];
-        let mut engine = absent_array(alloc, Kind::Bytes, shapes, None)?;
-        store_chunks(alloc, &mut engine, &cells, stored)?;
+/// A map with so many chunks of these cells.
+fn values_of(alloc: Global, cells: &[u8], stored: u64) -> Result<BTreeMap<String, Vec<u8>>> {
+    let mut values = BTreeMap::new(alloc);
+    put_chunks(alloc, &mut values, cells, stored)?;
+    Ok(values)
+}
+
+/// An array with so many chunks of these cells.
+fn array_of(alloc: Global, cells: &ArrayBytes<'_>, stored: u64) -> Result<MemoryEngine> {
+    let shapes: [&[u64]; 2] = [&[LEN * CHUNKS], &[LEN]];
+    let mut engine = absent_array(alloc, Kind::Bytes, shapes, None)?;
+    store_chunks(alloc, &mut engine, cells, stored)?;
+    Ok(engine)
+}
+
+impl Sample for Chunks {
+    /// Whether the chunks are stored.
+    type Form = bool;
+
+    fn make(alloc: Global, are_stored: bool, _size: usize) -> Result<Chunks> {
+        let stored = if are_stored { CHUNKS } else { 0 };
+        let cells = ArrayBytes::make(alloc, (), LEN as usize)?;
+        let values = values_of(alloc, bytes_in(&cells), stored)?;
+        let engine = array_of(alloc, &cells, stored)?;
         Ok(Chunks {
             engine,
             values,
@@ -71,9 +86,9 @@ fn store_chunks(
 pub struct StoreChunks;
 
 impl Work for StoreChunks {
-    type Sample = Chunks<true>;
+    type Sample = Chunks;
 
-    fn run(alloc: Global, chunks: &mut Chunks<true>) -> Result<u8> {
+    fn run(alloc: Global, chunks: &mut Chunks) -> Result<u8> {
         store_chunks(alloc, &mut chunks.engine, &chunks.cells, CALLS)?;
         Ok(0)
     }
@@ -108,21 +123,21 @@ fn put_chunks(
 pub struct PlainStoreChunks;
 
 impl Work for PlainStoreChunks {
-    type Sample = Chunks<true>;
+    type Sample = Chunks;
 
-    fn run(alloc: Global, chunks: &mut Chunks<true>) -> Result<u8> {
+    fn run(alloc: Global, chunks: &mut Chunks) -> Result<u8> {
         put_chunks(alloc, &mut chunks.values, bytes_in(&chunks.cells), CALLS)?;
         Ok(0)
     }
 }
 
 /// `Engine::retrieve_chunk`.
-pub struct ReadChunks<const ARE_STORED: bool>;
+pub struct ReadChunks;
 
-impl<const ARE_STORED: bool> Work for ReadChunks<ARE_STORED> {
-    type Sample = Chunks<ARE_STORED>;
+impl Work for ReadChunks {
+    type Sample = Chunks;
 
-    fn run(alloc: Global, chunks: &mut Chunks<ARE_STORED>) -> Result<u8> {
+    fn run(alloc: Global, chunks: &mut Chunks) -> Result<u8> {
         let mut seen = 0;
         for number in 0..CALLS {
             let found = chunks.engine.retrieve_chunk(alloc, &[number % CHUNKS])?;
@@ -141,12 +156,12 @@ fn take_chunk(alloc: Global, values: &BTreeMap<String, Vec<u8>>, number: u64) ->
 }
 
 /// A copy out of a map.
-pub struct PlainReadChunks<const ARE_STORED: bool>;
+pub struct PlainReadChunks;
 
-impl<const ARE_STORED: bool> Work for PlainReadChunks<ARE_STORED> {
-    type Sample = Chunks<ARE_STORED>;
+impl Work for PlainReadChunks {
+    type Sample = Chunks;
 
-    fn run(alloc: Global, chunks: &mut Chunks<ARE_STORED>) -> Result<u8> {
+    fn run(alloc: Global, chunks: &mut Chunks) -> Result<u8> {
         let mut seen = 0;
         for number in 0..CALLS {
             seen ^= tested(&take_chunk(alloc, &chunks.values, number)?);

@@ -1,7 +1,7 @@
 //! Kinds of cells.
 use anyhow::Result;
 use std::alloc::Global;
-use zarrs_bench_rows::samples::options_of;
+use zarrs_bench_rows::samples::{bytes_of, options_of, texts_of};
 use zarrs_data_type::{ArrayBytes, DataType, Element};
 
 /// What the cells of an array are.
@@ -9,6 +9,8 @@ use zarrs_data_type::{ArrayBytes, DataType, Element};
 pub enum Kind {
     /// Bytes.
     Bytes,
+    /// Bytes that are all 0, so that no chunk of them is present.
+    Zeros,
     /// Numbers of four bytes.
     Numbers,
     /// The same, stored in big endian.
@@ -19,37 +21,11 @@ pub enum Kind {
     Options,
 }
 
-/// The values as cells of the type.
-fn owned_cells<T: Element>(
-    alloc: Global,
-    data_type: &DataType,
-    values: &[T],
-) -> Result<ArrayBytes<'static>> {
-    let cells = T::to_array_bytes(alloc, data_type, values)?;
+/// The values as cells of this kind.
+fn owned_cells<T: Element>(alloc: Global, kind: Kind, values: &[T]) -> Result<ArrayBytes<'static>> {
+    let data_type = kind.data_type(alloc)?;
+    let cells = T::to_array_bytes(alloc, &data_type, values)?;
     Ok(cells.into_owned(alloc)?)
-}
-
-/// So many texts of 12 bytes on average.
-fn texts_of(alloc: Global, count: usize) -> Result<Vec<&'static str>> {
-    let mut texts = vec![in alloc; "rain"; count]?;
-    for (place, text) in texts.iter_mut().enumerate() {
-        *text = match place % 4 {
-            0 => "rain",
-            1 => "rainfall",
-            2 => "rain at noon",
-            _ => "rain at noon, then sunny",
-        };
-    }
-    Ok(texts)
-}
-
-/// So many bytes, which tell places from one another.
-fn bytes_of(alloc: Global, count: usize) -> Result<Vec<u8>> {
-    let mut bytes = vec![in alloc; 0; count]?;
-    for (place, byte) in bytes.iter_mut().enumerate() {
-        *byte = (place % 251) as u8;
-    }
-    Ok(bytes)
 }
 
 impl Kind {
@@ -64,7 +40,7 @@ impl Kind {
     /// The data type.
     pub fn data_type(self, alloc: Global) -> Result<DataType> {
         Ok(match self {
-            Kind::Bytes => DataType::UInt8,
+            Kind::Bytes | Kind::Zeros => DataType::UInt8,
             Kind::Numbers | Kind::BigNumbers => DataType::UInt32,
             Kind::Texts => DataType::String,
             Kind::Options => DataType::Optional(Box::new(alloc, DataType::UInt32)?),
@@ -73,10 +49,10 @@ impl Kind {
 
     /// So many cells.
     pub fn cells(self, alloc: Global, count: usize) -> Result<ArrayBytes<'static>> {
-        let data_type = self.data_type(alloc)?;
         match self {
-            Kind::Texts => owned_cells(alloc, &data_type, &texts_of(alloc, count)?),
-            Kind::Options => owned_cells(alloc, &data_type, &options_of(alloc, count)?),
+            Kind::Texts => owned_cells(alloc, self, &texts_of(alloc, count)?),
+            Kind::Options => owned_cells(alloc, self, &options_of(alloc, count)?),
+            Kind::Zeros => Ok(ArrayBytes::new_flen(vec![in alloc; 0; count]?)),
             _ => {
                 let len = count.saturating_mul(self.width() as usize);
                 Ok(ArrayBytes::new_flen(bytes_of(alloc, len)?))

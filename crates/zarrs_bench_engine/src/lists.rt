@@ -2,7 +2,7 @@
 use crate::plain::{key_of, numbers_of, value_at};
 use anyhow::{Result, anyhow};
 use std::alloc::Global;
-use zarrs_bench_rows::plain::{mapped, packed, unpacked};
+use zarrs_bench_rows::plain::{mapped, packed, put_mapped, unpacked};
 use zarrs_bench_rows::samples::{bytes_in, tested};
 use zarrs_data_type::ArrayBytes;
 use zarrs_storage::{Bytes, MemoryStore, WritableStorageTraits};
@@ -188,9 +188,7 @@ fn put_options(flags: &mut [u8], numbers: &mut [u8], encoded: &[u8]) -> Result<(
     let Some((mask, some)) = rest.split_at_checked(len as usize) else {
         return Err(anyhow!("no mask"));
     };
-    for (eight, byte) in flags.as_chunks_mut::<8>().0.iter_mut().zip(mask) {
-        *eight = unpacked(*byte);
-    }
+    put_mapped(flags.as_chunks_mut::<8>().0, mask, |byte| unpacked(*byte));
     put_numbers(numbers, flags, some);
     Ok(())
 }

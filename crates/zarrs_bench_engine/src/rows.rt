@@ -1,8 +1,8 @@
 //! The rows and the growths of this crate.
 use crate::cases::{
-    ABSENT, ABSENT_CHUNKS, ALL, BIG, CELL, CHUNK, CHUNKS, COLUMN, CUBE, FINE_NUMBER_SHARD,
-    FINE_SHARD, HALF, INNER, LARGE, LARGE_SHARD, NUMBER_SHARD, OPTION_CHUNKS, OPTIONS, PIECE, ROW,
-    SHARD, SHARDS, SMALL, SUBCHUNKS, TENTH, TEXT_CHUNKS, TEXTS,
+    ABSENT, ABSENT_CHUNKS, BIG, CHUNK, CHUNKS, FINE_NUMBER_SHARD, FINE_SHARD, Form, LARGE,
+    LARGE_SHARD, NUMBER_SHARD, OPTION_CHUNKS, OPTIONS, Part, SHARD, SHARDS, SMALL, SPREAD_TEXTS,
+    SUBCHUNKS, TEXT_CHUNKS, TEXTS,
 };
 use crate::chunks::{PlainReadChunks, PlainStoreChunks, ReadChunks, StoreChunks};
 use crate::works::{
@@ -10,184 +10,281 @@ use crate::works::{
 };
 use std::alloc::Global;
 use std::time::Clock;
-use zarrs_bench_rows::growth::{CHUNKS as BY_CHUNKS, DIMENSIONS};
+use zarrs_bench_rows::growth::{CHUNKS as BY_CHUNKS, DIMENSIONS, Scale};
 use zarrs_bench_rows::measure::Extent;
 use zarrs_bench_rows::table::Table;
 
+/// What is measured, and against what.
+#[derive(Clone, Copy)]
+enum Works {
+    /// The store of a region, against copies of rows.
+    Store,
+    /// The read of a region, against copies of rows over zeros.
+    Read,
+    /// The same, against copies of lines into memory that is not filled before.
+    ReadByLines,
+    /// The same, against the read of the chunk that the region meets.
+    ReadOfChunk,
+    /// The read of a part of a chunk, against copies of rows over zeros.
+    Part,
+    /// The same, against the read of the chunk.
+    PartOfChunk,
+}
+
+/// A row of the table: its name, the works, the array and the part of it, and how many bytes a copy of the part has.
+#[derive(Clone, Copy)]
+struct Row(&'static str, (Works, Form, Part, usize));
+
 /// 1 MiB.
-const MEGABYTE: Extent = Extent {
-    size: 0,
-    len: 1 << 20,
-};
+const MEGABYTE: usize = 1 << 20;
 
 /// 32 MiB.
-const WHOLE: Extent = Extent {
-    size: 0,
-    len: 1 << 25,
-};
+const WHOLE: usize = 1 << 25;
 
 /// The same but for the cells at its edge.
-const UNALIGNED: Extent = Extent {
-    size: 0,
-    len: 8190 * 4094,
-};
+const UNALIGNED: usize = 8190 * 4094;
+
+/// 64 KiB.
+const PIECE: usize = 1 << 16;
+
+/// The name of a row of a read by lines.
+const BY_LINES: &str = "the same, against lines in memory that is not filled before";
+
+/// The name of a row of a read of most cells.
+const READ_INNER: &str = "read the same but for the cells at its edge";
+
+/// The rows of regions, of parts of chunks, and of texts and optional numbers.
+const ROWS: &[Row] = &[
+    Row(
+        "store 1 MiB over 1,024 whole chunks of 1 KiB",
+        (Works::Store, SMALL, Part::All, MEGABYTE),
+    ),
+    Row(
+        "read 1 MiB of 1,024 whole chunks of 1 KiB",
+        (Works::Read, SMALL, Part::All, MEGABYTE),
+    ),
+    Row(
+        "read 32 MiB of 512 whole chunks of 64 KiB",
+        (Works::Read, LARGE, Part::All, WHOLE),
+    ),
+    Row(BY_LINES, (Works::ReadByLines, LARGE, Part::All, WHOLE)),
+    Row(READ_INNER, (Works::Read, LARGE, Part::Inner, UNALIGNED)),
+    Row(
+        BY_LINES,
+        (Works::ReadByLines, LARGE, Part::Inner, UNALIGNED),
+    ),
+    Row(
+        "read 32 MiB of uint32 in big endian, 512 whole chunks",
+        (Works::Read, BIG, Part::All, WHOLE),
+    ),
+    Row(BY_LINES, (Works::ReadByLines, BIG, Part::All, WHOLE)),
+    Row(READ_INNER, (Works::Read, BIG, Part::Inner, UNALIGNED)),
+    Row(BY_LINES, (Works::ReadByLines, BIG, Part::Inner, UNALIGNED)),
+    Row(
+        "read 32 MiB of 512 absent chunks",
+        (Works::Read, ABSENT, Part::All, WHOLE),
+    ),
+    Row(
+        "read 32 MiB of 32 whole shards, subchunks of 64 KiB",
+        (Works::Read, SHARDS, Part::All, WHOLE),
+    ),
+    Row(READ_INNER, (Works::Read, SHARDS, Part::Inner, UNALIGNED)),
+    Row(
+        "store 32 MiB over 512 whole chunks of 64 KiB",
+        (Works::Store, LARGE, Part::All, WHOLE),
+    ),
+    Row(
+        "store the same but for the cells at its edge",
+        (Works::Store, LARGE, Part::Inner, UNALIGNED),
+    ),
+    Row(
+        "read a tenth of it, 2,560 rows of 1,280 cells",
+        (Works::Read, LARGE, Part::Tenth, 2560 * 1280),
+    ),
+    Row("store it", (Works::Store, LARGE, Part::Tenth, 2560 * 1280)),
+    Row(
+        "read one column of 8,192 cells, of 32 chunks",
+        (Works::Read, LARGE, Part::Column, 8192),
+    ),
+    Row("store it", (Works::Store, LARGE, Part::Column, 8192)),
+    Row(
+        "read one row of 4,096 cells, of 16 chunks",
+        (Works::Read, LARGE, Part::Row, 4096),
+    ),
+    Row("store it", (Works::Store, LARGE, Part::Row, 4096)),
+    Row("read one cell", (Works::Read, LARGE, Part::Cell, 1)),
+    Row("store it", (Works::Store, LARGE, Part::Cell, 1)),
+    Row(
+        "read a region that is one chunk, against that chunk's own call",
+        (Works::ReadOfChunk, LARGE, Part::Piece, PIECE),
+    ),
+    Row(
+        "store a shard of 1 MiB of uint8, subchunks of 64 KiB",
+        (Works::Store, SHARD, Part::All, MEGABYTE),
+    ),
+    Row("read it", (Works::Part, SHARD, Part::All, MEGABYTE)),
+    Row(
+        "store a shard of 1 MiB of uint8, subchunks of 4 KiB",
+        (Works::Store, FINE_SHARD, Part::All, MEGABYTE),
+    ),
+    Row("read it", (Works::Part, FINE_SHARD, Part::All, MEGABYTE)),
+    Row(
+        "store a shard of 1 MiB of uint32, subchunks of 64 KiB",
+        (Works::Store, NUMBER_SHARD, Part::All, MEGABYTE),
+    ),
+    Row("read it", (Works::Part, NUMBER_SHARD, Part::All, MEGABYTE)),
+    Row(
+        "store a shard of 1 MiB of uint32, subchunks of 4 KiB",
+        (Works::Store, FINE_NUMBER_SHARD, Part::All, MEGABYTE),
+    ),
+    Row(
+        "read it",
+        (Works::Part, FINE_NUMBER_SHARD, Part::All, MEGABYTE),
+    ),
+    Row(
+        "read one subchunk of a shard of 16 MiB, subchunks of 64 KiB",
+        (Works::Part, LARGE_SHARD, Part::Piece, PIECE),
+    ),
+    Row(
+        "the same, against a read of the whole shard by the same crates",
+        (Works::PartOfChunk, LARGE_SHARD, Part::Piece, PIECE),
+    ),
+    Row(
+        "read one cell of a chunk of 1 MiB",
+        (Works::Part, CHUNK, Part::Cell, 1),
+    ),
+    Row(
+        "read one row of 1,024 cells of it",
+        (Works::Part, CHUNK, Part::Row, 1024),
+    ),
+    Row(
+        "read one column of 1,024 cells of it",
+        (Works::Part, CHUNK, Part::Column, 1024),
+    ),
+    Row(
+        "read a tenth of it, 320 rows of 320 cells",
+        (Works::Part, CHUNK, Part::Tenth, 320 * 320),
+    ),
+    Row(
+        "store 100,000 texts over 100 chunks",
+        (Works::Store, TEXTS, Part::All, 1_200_000),
+    ),
+    Row("read them", (Works::Read, TEXTS, Part::All, 1_200_000)),
+    Row(
+        "store 262,144 optional numbers over 16 chunks",
+        (Works::Store, OPTIONS, Part::All, MEGABYTE),
+    ),
+    Row("read them", (Works::Read, OPTIONS, Part::All, MEGABYTE)),
+];
 
 /// Prints the rows of this crate.
 pub fn print_rows<R: Clock + Print + Alloc<A = Global>>(table: &mut Table<'_, R>) {
-    print_chunks(table);
-    print_reads(table);
-    print_regions(table);
-    print_shards(table);
-    print_parts(table);
-    print_lists(table);
+    let copied = Extent::bytes(MEGABYTE);
+    let name = "store 1,024 chunks of 1 KiB";
+    table.row::<StoreChunks, PlainStoreChunks>(name, true, copied);
+    table.row::<ReadChunks, PlainReadChunks>("read 1,024 chunks of 1 KiB", true, copied);
+    let name = "read 1,024 absent chunks of 1 KiB";
+    table.row::<ReadChunks, PlainReadChunks>(name, false, copied);
+    for row in ROWS {
+        print_row(table, *row);
+    }
 }
 
-/// Prints the rows of chunks.
-fn print_chunks<R: Clock + Print + Alloc<A = Global>>(table: &mut Table<'_, R>) {
-    table.row::<StoreChunks, PlainStoreChunks>("store 1,024 chunks of 1 KiB", MEGABYTE);
-    table.row::<ReadChunks<true>, PlainReadChunks<true>>("read 1,024 chunks of 1 KiB", MEGABYTE);
-    table.row::<ReadChunks<false>, PlainReadChunks<false>>(
-        "read 1,024 absent chunks of 1 KiB",
-        MEGABYTE,
-    );
-    let name = "store 1 MiB over 1,024 whole chunks of 1 KiB";
-    table.row::<Store<SMALL, ALL>, PlainStore<SMALL, ALL>>(name, MEGABYTE);
-    let name = "read 1 MiB of 1,024 whole chunks of 1 KiB";
-    table.row::<Read<SMALL, ALL>, PlainRead<SMALL, ALL>>(name, MEGABYTE);
+/// Prints a row.
+fn print_row<R: Clock + Print + Alloc<A = Global>>(table: &mut Table<'_, R>, row: Row) {
+    let Row(name, (works, form, part, len)) = row;
+    let (form, copied) = ((form, part), Extent::bytes(len));
+    match works {
+        Works::Store => table.row::<Store, PlainStore>(name, form, copied),
+        Works::Read => table.row::<Read, PlainRead>(name, form, copied),
+        Works::ReadByLines => table.row::<Read, PlainLines>(name, form, copied),
+        Works::ReadOfChunk => table.row::<Read, ReadChunk>(name, form, copied),
+        Works::Part => table.row::<ReadPart, PlainPart>(name, form, copied),
+        Works::PartOfChunk => table.row::<ReadPart, ReadChunk>(name, form, copied),
+    }
 }
 
-/// Prints the rows of reads of 32 MiB.
-fn print_reads<R: Clock + Print + Alloc<A = Global>>(table: &mut Table<'_, R>) {
-    let name = "read 32 MiB of 512 whole chunks of 64 KiB";
-    table.row::<Read<LARGE, ALL>, PlainRead<LARGE, ALL>>(name, WHOLE);
-    let name = "the same, against lines in memory that is not filled before";
-    table.row::<Read<LARGE, ALL>, PlainLines<LARGE, ALL>>(name, WHOLE);
-    let name = "read the same but for the cells at its edge";
-    table.row::<Read<LARGE, INNER>, PlainRead<LARGE, INNER>>(name, UNALIGNED);
-    let name = "the same, against lines in memory that is not filled before";
-    table.row::<Read<LARGE, INNER>, PlainLines<LARGE, INNER>>(name, UNALIGNED);
-    let name = "read 32 MiB of uint32 in big endian, 512 whole chunks";
-    table.row::<Read<BIG, ALL>, PlainRead<BIG, ALL>>(name, WHOLE);
-    let name = "the same, against lines in memory that is not filled before";
-    table.row::<Read<BIG, ALL>, PlainLines<BIG, ALL>>(name, WHOLE);
-    let name = "read the same but for the cells at its edge";
-    table.row::<Read<BIG, INNER>, PlainRead<BIG, INNER>>(name, UNALIGNED);
-    let name = "the same, against lines in memory that is not filled before";
-    table.row::<Read<BIG, INNER>, PlainLines<BIG, INNER>>(name, UNALIGNED);
-    let name = "read 32 MiB of 512 absent chunks";
-    table.row::<Read<ABSENT, ALL>, PlainRead<ABSENT, ALL>>(name, WHOLE);
-    let name = "read 32 MiB of 32 whole shards, subchunks of 64 KiB";
-    table.row::<Read<SHARDS, ALL>, PlainRead<SHARDS, ALL>>(name, WHOLE);
-    let name = "read the same but for the cells at its edge";
-    table.row::<Read<SHARDS, INNER>, PlainRead<SHARDS, INNER>>(name, UNALIGNED);
-}
+/// A row of a table of growths: its name, whether the store is measured and not the read, and the array and the part of it.
+#[derive(Clone, Copy)]
+struct Growing(&'static str, bool, (Form, Part));
 
-/// Prints the rows of other regions of that array.
-fn print_regions<R: Clock + Print + Alloc<A = Global>>(table: &mut Table<'_, R>) {
-    let name = "store 32 MiB over 512 whole chunks of 64 KiB";
-    table.row::<Store<LARGE, ALL>, PlainStore<LARGE, ALL>>(name, WHOLE);
-    let name = "store the same but for the cells at its edge";
-    table.row::<Store<LARGE, INNER>, PlainStore<LARGE, INNER>>(name, UNALIGNED);
-    let name = "read a tenth of it, 2,560 rows of 1,280 cells";
-    print_region::<R, TENTH>(table, name, 2560 * 1280);
-    print_region::<R, COLUMN>(table, "read one column of 8,192 cells, of 32 chunks", 8192);
-    print_region::<R, ROW>(table, "read one row of 4,096 cells, of 16 chunks", 4096);
-    print_region::<R, CELL>(table, "read one cell", 1);
-    let name = "read a region that is one chunk, against that chunk's own call";
-    table.row::<Read<LARGE, PIECE>, ReadChunk<LARGE, PIECE>>(name, Extent::bytes(1 << 16));
-}
+/// The growths over samples of more and more chunks or subchunks.
+const CHUNK_GROWTHS: &[Growing] = &[
+    Growing(
+        "store all of an array of bytes, chunks of 1 KiB",
+        true,
+        (CHUNKS, Part::All),
+    ),
+    Growing("read it", false, (CHUNKS, Part::All)),
+    Growing("read one cell of it", false, (CHUNKS, Part::Cell)),
+    Growing("read absent chunks", false, (ABSENT_CHUNKS, Part::All)),
+    Growing(
+        "store one shard of so many subchunks of 1 KiB",
+        true,
+        (SUBCHUNKS, Part::All),
+    ),
+    Growing("read it", false, (SUBCHUNKS, Part::All)),
+    Growing("read one cell of it", false, (SUBCHUNKS, Part::Cell)),
+    Growing("store texts, 64 a chunk", true, (TEXT_CHUNKS, Part::All)),
+    Growing("read them", false, (TEXT_CHUNKS, Part::All)),
+    Growing(
+        "store 100,000 texts, over more and more chunks",
+        true,
+        (SPREAD_TEXTS, Part::All),
+    ),
+    Growing("read them", false, (SPREAD_TEXTS, Part::All)),
+    Growing(
+        "store optional numbers, 256 a chunk",
+        true,
+        (OPTION_CHUNKS, Part::All),
+    ),
+    Growing("read them", false, (OPTION_CHUNKS, Part::All)),
+];
 
-/// Prints two rows of a region of so many bytes: the read of it, and the store.
-fn print_region<R: Clock + Print + Alloc<A = Global>, const PART: u64>(
-    table: &mut Table<'_, R>,
-    name: &str,
-    len: usize,
-) {
-    table.row::<Read<LARGE, PART>, PlainRead<LARGE, PART>>(name, Extent::bytes(len));
-    let name = "store it";
-    table.row::<Store<LARGE, PART>, PlainStore<LARGE, PART>>(name, Extent::bytes(len));
-}
-
-/// Prints the rows of shards.
-fn print_shards<R: Clock + Print + Alloc<A = Global>>(table: &mut Table<'_, R>) {
-    print_shard::<R, SHARD>(
-        table,
-        "store a shard of 1 MiB of uint8, subchunks of 64 KiB",
-    );
-    print_shard::<R, FINE_SHARD>(table, "store a shard of 1 MiB of uint8, subchunks of 4 KiB");
-    let name = "store a shard of 1 MiB of uint32, subchunks of 64 KiB";
-    print_shard::<R, NUMBER_SHARD>(table, name);
-    let name = "store a shard of 1 MiB of uint32, subchunks of 4 KiB";
-    print_shard::<R, FINE_NUMBER_SHARD>(table, name);
-    let name = "read one subchunk of a shard of 16 MiB, subchunks of 64 KiB";
-    let len = Extent::bytes(1 << 16);
-    table.row::<ReadPart<LARGE_SHARD, PIECE>, PlainPart<LARGE_SHARD, PIECE>>(name, len);
-    let name = "the same, against a read of the whole shard by the same crates";
-    table.row::<ReadPart<LARGE_SHARD, PIECE>, ReadChunk<LARGE_SHARD, PIECE>>(name, len);
-}
-
-/// Prints two rows: the store of a shard of 1 MiB, and the read of it.
-fn print_shard<R: Clock + Print + Alloc<A = Global>, const FORM: u64>(
-    table: &mut Table<'_, R>,
-    name: &str,
-) {
-    table.row::<Store<FORM, ALL>, PlainStore<FORM, ALL>>(name, MEGABYTE);
-    table.row::<ReadPart<FORM, ALL>, PlainPart<FORM, ALL>>("read it", MEGABYTE);
-}
-
-/// Prints the rows of parts of a chunk under `bytes`.
-fn print_parts<R: Clock + Print + Alloc<A = Global>>(table: &mut Table<'_, R>) {
-    let name = "read one cell of a chunk of 1 MiB";
-    table.row::<ReadPart<CHUNK, CELL>, PlainPart<CHUNK, CELL>>(name, Extent::bytes(1));
-    let (name, len) = ("read one row of 1,024 cells of it", Extent::bytes(1024));
-    table.row::<ReadPart<CHUNK, ROW>, PlainPart<CHUNK, ROW>>(name, len);
-    let name = "read one column of 1,024 cells of it";
-    table.row::<ReadPart<CHUNK, COLUMN>, PlainPart<CHUNK, COLUMN>>(name, len);
-    let name = "read a tenth of it, 320 rows of 320 cells";
-    table.row::<ReadPart<CHUNK, TENTH>, PlainPart<CHUNK, TENTH>>(name, Extent::bytes(320 * 320));
-}
-
-/// Prints the rows of texts and of optional numbers.
-fn print_lists<R: Clock + Print + Alloc<A = Global>>(table: &mut Table<'_, R>) {
-    let texts = Extent {
-        size: 100,
-        len: 1_200_000,
-    };
-    let name = "store 100,000 texts over 100 chunks";
-    table.row::<Store<TEXTS, ALL>, PlainStore<TEXTS, ALL>>(name, texts);
-    table.row::<Read<TEXTS, ALL>, PlainRead<TEXTS, ALL>>("read them", texts);
-    let options = Extent {
-        size: 16,
-        len: 1 << 20,
-    };
-    let name = "store 262,144 optional numbers over 16 chunks";
-    table.row::<Store<OPTIONS, ALL>, PlainStore<OPTIONS, ALL>>(name, options);
-    table.row::<Read<OPTIONS, ALL>, PlainRead<OPTIONS, ALL>>("read them", options);
-}
+/// The growths over samples of more and more dimensions.
+const CUBE_GROWTHS: &[Growing] = &[
+    Growing(
+        "store 65,536 bytes over 8 chunks",
+        true,
+        (Form::Cube, Part::All),
+    ),
+    Growing("read them", false, (Form::Cube, Part::All)),
+    Growing(
+        "store half of them: of each row of 16 the middle 8",
+        true,
+        (Form::Cube, Part::Half),
+    ),
+    Growing("read the same half", false, (Form::Cube, Part::Half)),
+];
 
 /// Prints the growths of this crate, in two tables.
 pub fn print_growths<R: Clock + Print + Alloc<A = Global>>(table: &mut Table<'_, R>) {
-    table.begin_growths(BY_CHUNKS);
-    let name = "store all of an array of bytes, chunks of 1 KiB";
-    table.growth::<Store<CHUNKS, ALL>>(BY_CHUNKS, name);
-    table.growth::<Read<CHUNKS, ALL>>(BY_CHUNKS, "read it");
-    table.growth::<Read<CHUNKS, CELL>>(BY_CHUNKS, "read one cell of it");
-    table.growth::<Read<ABSENT_CHUNKS, ALL>>(BY_CHUNKS, "read absent chunks");
-    let name = "store one shard of so many subchunks of 1 KiB";
-    table.growth::<Store<SUBCHUNKS, ALL>>(BY_CHUNKS, name);
-    table.growth::<Read<SUBCHUNKS, ALL>>(BY_CHUNKS, "read it");
-    table.growth::<Read<SUBCHUNKS, CELL>>(BY_CHUNKS, "read one cell of it");
-    table.growth::<Store<TEXT_CHUNKS, ALL>>(BY_CHUNKS, "store texts, 64 a chunk");
-    table.growth::<Read<TEXT_CHUNKS, ALL>>(BY_CHUNKS, "read them");
-    table.growth::<Store<TEXTS, ALL>>(BY_CHUNKS, "store 100,000 texts, over more and more chunks");
-    table.growth::<Read<TEXTS, ALL>>(BY_CHUNKS, "read them");
-    let name = "store optional numbers, 256 a chunk";
-    table.growth::<Store<OPTION_CHUNKS, ALL>>(BY_CHUNKS, name);
-    table.growth::<Read<OPTION_CHUNKS, ALL>>(BY_CHUNKS, "read them");
-    table.begin_growths(DIMENSIONS);
-    table.growth::<Store<CUBE, ALL>>(DIMENSIONS, "store 65,536 bytes over 8 chunks");
-    table.growth::<Read<CUBE, ALL>>(DIMENSIONS, "read them");
-    let name = "store half of them: of each row of 16 the middle 8";
-    table.growth::<Store<CUBE, HALF>>(DIMENSIONS, name);
-    table.growth::<Read<CUBE, HALF>>(DIMENSIONS, "read the same half");
+    print_scale(table, BY_CHUNKS, CHUNK_GROWTHS);
+    print_scale(table, DIMENSIONS, CUBE_GROWTHS);
+}
+
+/// Prints a table of these growths.
+fn print_scale<R: Clock + Print + Alloc<A = Global>>(
+    table: &mut Table<'_, R>,
+    scale: Scale,
+    growths: &[Growing],
+) {
+    table.begin_growths(scale);
+    for growth in growths {
+        print_growth(table, scale, *growth);
+    }
+}
+
+/// Prints a growth.
+fn print_growth<R: Clock + Print + Alloc<A = Global>>(
+    table: &mut Table<'_, R>,
+    scale: Scale,
+    growth: Growing,
+) {
+    let Growing(name, is_store, form) = growth;
+    if is_store {
+        table.growth::<Store>(scale, name, form);
+    } else {
+        table.growth::<Read>(scale, name, form);
+    }
 }

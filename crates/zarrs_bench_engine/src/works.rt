@@ -11,12 +11,12 @@ use zarrs_bench_rows::samples::{bytes_in, tested};
 use zarrs_codec::CodecOptions;
 
 /// `Engine::store_array_subset`.
-pub struct Store<const FORM: u64, const PART: u64>;
+pub struct Store;
 
-impl<const FORM: u64, const PART: u64> Work for Store<FORM, PART> {
-    type Sample = Cells<FORM, PART>;
+impl Work for Store {
+    type Sample = Cells;
 
-    fn run(alloc: Global, sample: &mut Cells<FORM, PART>) -> Result<u8> {
+    fn run(alloc: Global, sample: &mut Cells) -> Result<u8> {
         let Cells {
             engine,
             subset,
@@ -29,12 +29,12 @@ impl<const FORM: u64, const PART: u64> Work for Store<FORM, PART> {
 }
 
 /// The same calls of a store, the same encodings, and copies of rows.
-pub struct PlainStore<const FORM: u64, const PART: u64>;
+pub struct PlainStore;
 
-impl<const FORM: u64, const PART: u64> Work for PlainStore<FORM, PART> {
-    type Sample = Cells<FORM, PART>;
+impl Work for PlainStore {
+    type Sample = Cells;
 
-    fn run(alloc: Global, sample: &mut Cells<FORM, PART>) -> Result<u8> {
+    fn run(alloc: Global, sample: &mut Cells) -> Result<u8> {
         let Cells {
             store,
             case,
@@ -50,24 +50,24 @@ impl<const FORM: u64, const PART: u64> Work for PlainStore<FORM, PART> {
 }
 
 /// `Engine::retrieve_array_subset`.
-pub struct Read<const FORM: u64, const PART: u64>;
+pub struct Read;
 
-impl<const FORM: u64, const PART: u64> Work for Read<FORM, PART> {
-    type Sample = Cells<FORM, PART>;
+impl Work for Read {
+    type Sample = Cells;
 
-    fn run(alloc: Global, sample: &mut Cells<FORM, PART>) -> Result<u8> {
+    fn run(alloc: Global, sample: &mut Cells) -> Result<u8> {
         let found = sample.engine.retrieve_array_subset(alloc, &sample.subset)?;
         Ok(tested_cells(&found))
     }
 }
 
 /// The same calls of a store, the same decodings, and copies of rows over zeros.
-pub struct PlainRead<const FORM: u64, const PART: u64>;
+pub struct PlainRead;
 
-impl<const FORM: u64, const PART: u64> Work for PlainRead<FORM, PART> {
-    type Sample = Cells<FORM, PART>;
+impl Work for PlainRead {
+    type Sample = Cells;
 
-    fn run(alloc: Global, sample: &mut Cells<FORM, PART>) -> Result<u8> {
+    fn run(alloc: Global, sample: &mut Cells) -> Result<u8> {
         let (store, case) = (&sample.store, sample.case);
         match case.kind {
             Kind::Texts => read_texts(alloc, store, case.chunks()),
@@ -78,12 +78,12 @@ impl<const FORM: u64, const PART: u64> Work for PlainRead<FORM, PART> {
 }
 
 /// The same calls of a store, and copies of lines into memory that is not filled before.
-pub struct PlainLines<const FORM: u64, const PART: u64>;
+pub struct PlainLines;
 
-impl<const FORM: u64, const PART: u64> Work for PlainLines<FORM, PART> {
-    type Sample = Cells<FORM, PART>;
+impl Work for PlainLines {
+    type Sample = Cells;
 
-    fn run(alloc: Global, sample: &mut Cells<FORM, PART>) -> Result<u8> {
+    fn run(alloc: Global, sample: &mut Cells) -> Result<u8> {
         let case = sample.case;
         let made = read_lines(alloc, &sample.store, case.grid, case.region)?;
         Ok(tested(&made))
@@ -91,12 +91,12 @@ impl<const FORM: u64, const PART: u64> Work for PlainLines<FORM, PART> {
 }
 
 /// `Engine::retrieve_chunk_subset` of the first chunk.
-pub struct ReadPart<const FORM: u64, const PART: u64>;
+pub struct ReadPart;
 
-impl<const FORM: u64, const PART: u64> Work for ReadPart<FORM, PART> {
-    type Sample = Cells<FORM, PART>;
+impl Work for ReadPart {
+    type Sample = Cells;
 
-    fn run(alloc: Global, sample: &mut Cells<FORM, PART>) -> Result<u8> {
+    fn run(alloc: Global, sample: &mut Cells) -> Result<u8> {
         let Cells { engine, subset, .. } = sample;
         let found = engine.retrieve_chunk_subset(alloc, &[0, 0], subset)?;
         Ok(tested(bytes_in(&found)))
@@ -104,12 +104,12 @@ impl<const FORM: u64, const PART: u64> Work for ReadPart<FORM, PART> {
 }
 
 /// A call of the store whose key is at hand, and copies of rows over zeros.
-pub struct PlainPart<const FORM: u64, const PART: u64>;
+pub struct PlainPart;
 
-impl<const FORM: u64, const PART: u64> Work for PlainPart<FORM, PART> {
-    type Sample = Cells<FORM, PART>;
+impl Work for PlainPart {
+    type Sample = Cells;
 
-    fn run(alloc: Global, sample: &mut Cells<FORM, PART>) -> Result<u8> {
+    fn run(alloc: Global, sample: &mut Cells) -> Result<u8> {
         let case = sample.case;
         let held = value_at(alloc, &sample.store, &sample.key)?;
         let mut made = vec![in alloc; 0; case.region.len()]?;
@@ -119,12 +119,12 @@ impl<const FORM: u64, const PART: u64> Work for PlainPart<FORM, PART> {
 }
 
 /// `Engine::retrieve_chunk` of the chunk that the part meets, and a copy of the part unless that is all of it.
-pub struct ReadChunk<const FORM: u64, const PART: u64>;
+pub struct ReadChunk;
 
-impl<const FORM: u64, const PART: u64> Work for ReadChunk<FORM, PART> {
-    type Sample = Cells<FORM, PART>;
+impl Work for ReadChunk {
+    type Sample = Cells;
 
-    fn run(alloc: Global, sample: &mut Cells<FORM, PART>) -> Result<u8> {
+    fn run(alloc: Global, sample: &mut Cells) -> Result<u8> {
         let (grid, region) = (sample.case.grid, sample.case.region);
         let [height, width] = grid.chunk;
         let indices = [

@@ -1,5 +1,5 @@
 //! How the time of a piece of work grows with the size of what it is done on.
-use crate::measure::{Work, best_time};
+use crate::measure::{Sample, Work, best_time};
 use anyhow::Result;
 use std::alloc::Global;
 use std::fmt;
@@ -44,14 +44,19 @@ struct Point {
 pub struct Growth(Vec<Point>);
 
 impl Growth {
-    /// Measures the work over samples of these sizes.
+    /// Measures the work over samples of this form and these sizes.
     ///
     /// # Errors
     /// The work or the clock fails, or out of memory.
-    pub fn measured<W: Work>(rt: &impl Clock, alloc: Global, sizes: &[usize]) -> Result<Growth> {
+    pub fn measured<W: Work>(
+        rt: &impl Clock,
+        alloc: Global,
+        form: <W::Sample as Sample>::Form,
+        sizes: &[usize],
+    ) -> Result<Growth> {
         let mut points = Vec::new(alloc);
         for size in sizes {
-            let time = best_time::<W>(rt, alloc, *size)?;
+            let time = best_time::<W>(rt, alloc, form, *size)?;
             let size = *size as u64;
             points.push(Point { size, time })?;
         }

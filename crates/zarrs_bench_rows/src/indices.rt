@@ -20,6 +20,13 @@ fn seen_in(alloc: Global, subset: &ArraySubset) -> Result<u64> {
     Ok(seen)
 }
 
+/// The box of 1000 x 100 x 100 positions that begins at this index.
+fn box_from(alloc: Global, first: u64) -> Result<ArraySubset> {
+    let start = [first, 0, 0].to_vec(alloc)?;
+    let shape = [1000, 100, 100].to_vec(alloc)?;
+    Ok(ArraySubset::new_with_start_shape(start, shape)?)
+}
+
 /// `ArraySubset::indices` over a box of 1000 x 100 x 100 positions, which begins at the number.
 pub struct Indices;
 
@@ -27,8 +34,7 @@ impl Work for Indices {
     type Sample = u64;
 
     fn run(alloc: Global, first: &mut u64) -> Result<u8> {
-        let ranges = [*first..first.saturating_add(1000), 0..100, 0..100];
-        let subset = ArraySubset::new_with_ranges(alloc, &ranges)?;
+        let subset = box_from(alloc, *first)?;
         Ok((seen_in(alloc, &subset)? & 0xff) as u8)
     }
 }

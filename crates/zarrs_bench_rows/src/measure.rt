@@ -5,11 +5,14 @@ use std::time::{Clock, Instant};
 
 /// What work is done on.
 pub trait Sample: Drop {
-    /// A sample of this size, which is a number of bytes, of chunks, of dimensions or of lines.
+    /// What a sample is like, beside its size; `()` if all are alike.
+    type Form: Copy;
+
+    /// A sample of this form and size, which is a number of bytes, of chunks, of dimensions or of lines.
     ///
     /// # Errors
     /// Out of memory.
-    fn make(alloc: Global, size: usize) -> Result<Self>;
+    fn make(alloc: Global, form: Self::Form, size: usize) -> Result<Self>;
 
     /// Changes it a little, so that no turn can use the result of the one before. `turn` differs from call to call.
     fn touch(&mut self, turn: u8);
@@ -78,10 +81,11 @@ const LIMIT: u64 = 2_000_000_000;
 pub fn measured<P: Work, Q: Work<Sample = P::Sample>>(
     rt: &impl Clock,
     alloc: Global,
+    form: <P::Sample as Sample>::Form,
     extent: Extent,
 ) -> Result<Times> {
-    let mut sample = P::Sample::make(alloc, extent.size)?;
-    let mut blocks = Blocks::make(alloc, extent.len)?;
+    let mut blocks = Blocks::make(alloc, (), extent.len)?;
+    let mut sample = P::Sample::make(alloc, form, extent.size)?;
     let mut best = Times {
         product: u64::MAX,
         plain: u64::MAX,
@@ -116,12 +120,17 @@ fn next_times<P: Work, Q: Work<Sample = P::Sample>>(
     })
 }
 
-/// The best time of the work alone over a sample of this size, in nanoseconds.
+/// The best time of the work alone over a sample of this form and size, in nanoseconds.
 ///
 /// # Errors
 /// The work or the clock fails, or out of memory.
-pub fn best_time<W: Work>(rt: &impl Clock, alloc: Global, size: usize) -> Result<u64> {
-    let mut sample = W::Sample::make(alloc, size)?;
+pub fn best_time<W: Work>(
+    rt: &impl Clock,
+    alloc: Global,
+    form: <W::Sample as Sample>::Form,
+    size: usize,
+) -> Result<u64> {
+    let mut sample = W::Sample::make(alloc, form, size)?;
     let mut best = u64::MAX;
     let mut all = 0u64;
     for turn in 0..TURNS {
@@ -152,7 +161,9 @@ struct Blocks {
 }
 
 impl Sample for Blocks {
-    fn make(alloc: Global, len: usize) -> Result<Blocks> {
+    type Form = ();
+
+    fn make(alloc: Global, _form: (), len: usize) -> Result<Blocks> {
         let block = len.clamp(1, 1 << 20);
         Ok(Blocks {
             source: vec![in alloc; 1; block]?,

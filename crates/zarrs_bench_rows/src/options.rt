@@ -7,9 +7,10 @@ use std::alloc::Global;
 use std::borrow::CowSlice;
 use zarrs_data_type::{ArrayBytes, DataType, Element, ElementOwned};
 
-/// Numbers, four bytes each, of which every other one is none: a list of them, and their cells.
+/// Numbers, four bytes each, of which every other one is none: their type, a list of them, and their cells.
 #[derive(Drop)]
 pub struct Options {
+    data_type: DataType,
     list: Vec<Option<u32>>,
     cells: ArrayBytes<'static>,
 }
@@ -20,22 +21,54 @@ fn data_type_of(alloc: Global) -> Result<DataType> {
 }
 
 /// The cells of a list.
-fn cells_of<'a>(alloc: Global, list: &'a [Option<u32>]) -> Result<ArrayBytes<'a>> {
-    let data_type = data_type_of(alloc)?;
-    Ok(<Option<u32> as Element>::to_array_bytes(alloc, &data_type, list)?)
+fn cells_of<'a>(
+    alloc: Global,
+    data_type: &DataType,
+    list: &'a [Option<u32>],
+) -> Result<ArrayBytes<'a>> {
+    Ok(<Option<u32> as Element>::to_array_bytes(alloc, data_type, list)?)
+}
+
+/// The list of cells.
+fn list_of(alloc: Global, data_type: &DataType, cells: ArrayBytes<'_>) -> Result<Vec<Option<u32>>> {
+    Ok(<Option<u32> as ElementOwned>::from_array_bytes(alloc, data_type, cells)?)
+}
+
+/// The cells of a list, which no longer borrow from it.
+fn owned_cells_of(
+    alloc: Global,
+    data_type: &DataType,
+    list: &[Option<u32>],
+) -> Result<ArrayBytes<'static>> {
+    Ok(cells_of(alloc, data_type, list)?.into_owned(alloc)?)
 }
 
 impl Sample for Options {
-    fn make(alloc: Global, count: usize) -> Result<Options> {
+    type Form = ();
+
+    fn make(alloc: Global, _form: (), count: usize) -> Result<Options> {
+        let data_type = data_type_of(alloc)?;
         let list = options_of(alloc, count)?;
-        let cells = cells_of(alloc, &list)?.into_owned(alloc)?;
-        Ok(Options { list, cells })
+        let cells = owned_cells_of(alloc, &data_type, &list)?;
+        Ok(Options {
+            data_type,
+            list,
+            cells,
+        })
     }
 
     fn touch(&mut self, turn: u8) {
         if let Some(last) = self.list.last_mut() {
             *last = (turn % 2 == 0).then_some(u32::from(turn));
         }
+    }
+}
+
+/// What the flags of optional cells say, and the numbers.
+fn tested_cells(cells: &ArrayBytes<'_>) -> u8 {
+    match cells {
+        ArrayBytes::Optional(cells) => tested(cells.mask()) ^ tested(bytes_in(cells.data())),
+        _ => 0,
     }
 }
 
@@ -46,11 +79,8 @@ impl Work for ToCells {
     type Sample = Options;
 
     fn run(alloc: Global, options: &mut Options) -> Result<u8> {
-        let made = cells_of(alloc, &options.list)?;
-        Ok(match &made {
-            ArrayBytes::Optional(made) => tested(made.mask()) ^ tested(bytes_in(made.data())),
-            _ => 0,
-        })
+        let made = cells_of(alloc, &options.data_type, &options.list)?;
+        Ok(tested_cells(&made))
     }
 }
 
@@ -91,6 +121,15 @@ fn parts_of<'a>(cells: &'a ArrayBytes<'_>) -> Result<(&'a [u8], &'a [u8])> {
     }
 }
 
+/// The same cells, lent.
+fn lent<'a>(alloc: Global, cells: &'a ArrayBytes<'_>) -> Result<ArrayBytes<'a>> {
+    let ArrayBytes::Optional(cells) = cells else {
+        return Err(anyhow!("no options"));
+    };
+    let mask = CowSlice::Borrowed(cells.mask());
+    Ok(ArrayBytes::from_flen(bytes_in(cells.data())).with_optional_mask(alloc, mask)?)
+}
+
 /// `ElementOwned::from_array_bytes`, of cells that are lent.
 pub struct FromCells;
 
@@ -98,15 +137,8 @@ impl Work for FromCells {
     type Sample = Options;
 
     fn run(alloc: Global, options: &mut Options) -> Result<u8> {
-        let ArrayBytes::Optional(cells) = &options.cells else {
-            return Err(anyhow!("no options"));
-        };
-        let lent = ArrayBytes::from_flen(bytes_in(cells.data())).with_optional_mask(
-            alloc,
-            CowSlice::Borrowed(cells.mask()),
-        )?;
-        let data_type = data_type_of(alloc)?;
-        let made = <Option<u32> as ElementOwned>::from_array_bytes(alloc, &data_type, lent)?;
+        let lent = lent(alloc, &options.cells)?;
+        let made = list_of(alloc, &options.data_type, lent)?;
         Ok(tested_list(&made))
     }
 }

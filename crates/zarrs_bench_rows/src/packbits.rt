@@ -1,6 +1,6 @@
 //! Flags to bytes and back.
 use crate::measure::Work;
-use crate::plain::{mapped, packed, unpacked};
+use crate::plain::{mapped, packed, put_mapped, unpacked};
 use crate::samples::{BYTES, bytes_in, tested};
 use anyhow::{Result, anyhow};
 use std::alloc::Global;
@@ -46,6 +46,11 @@ fn eighth<'a>(cells: &'a ArrayBytes<'_>) -> &'a [u8] {
     bytes.split_at(bytes.len() / 8).0
 }
 
+/// Flags of these bytes.
+fn decoded<'a>(alloc: Global, bytes: &'a [u8]) -> Result<ArrayBytes<'a>> {
+    Ok(PackBitsCodec.decode(alloc, bytes, &DataType::Bool, BYTES as u64)?)
+}
+
 /// `PackBitsCodec::decode`.
 pub struct Unpack;
 
@@ -53,7 +58,7 @@ impl Work for Unpack {
     type Sample = ArrayBytes<'static>;
 
     fn run(alloc: Global, cells: &mut ArrayBytes<'static>) -> Result<u8> {
-        let made = PackBitsCodec.decode(alloc, eighth(cells), &DataType::Bool, BYTES as u64)?;
+        let made = decoded(alloc, eighth(cells))?;
         Ok(tested(bytes_in(&made)))
     }
 }
@@ -66,10 +71,8 @@ impl Work for PlainUnpack {
 
     fn run(alloc: Global, cells: &mut ArrayBytes<'static>) -> Result<u8> {
         let mut made = vec![in alloc; 0; BYTES]?;
-        let (eights, _) = made.as_mut_slice().as_chunks_mut::<8>();
-        for (eight, byte) in eights.iter_mut().zip(eighth(cells)) {
-            *eight = unpacked(*byte);
-        }
+        let eights = made.as_mut_slice().as_chunks_mut::<8>().0;
+        put_mapped(eights, eighth(cells), |byte| unpacked(*byte));
         Ok(tested(&made))
     }
 }

@@ -15,10 +15,17 @@ pub fn mapped<A, B: Copy, F: Fn(&A) -> B>(
     requires { F.IsAlwaysCallable make }
 {
     let mut made = vec![in alloc; first; items.len()]?;
-    for (place, item) in made.iter_mut().zip(items) {
+    put_mapped(&mut made, items, make);
+    Ok(made)
+}
+
+/// Puts what a plain loop makes of each item in the place beside it.
+pub fn put_mapped<A, B: Copy, F: Fn(&A) -> B>(places: &mut [B], items: &[A], make: F)
+    requires { F.IsAlwaysCallable make }
+{
+    for (place, item) in places.iter_mut().zip(items) {
         *place = make(item);
     }
-    Ok(made)
 }
 
 /// The byte of eight flags.

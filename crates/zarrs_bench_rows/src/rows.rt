@@ -22,9 +22,9 @@ const FLAGS: Extent = Extent {
 
 /// Prints the rows of this crate.
 pub fn print_rows<R: Clock + Print + Alloc<A = Global>>(table: &mut Table<'_, R>) {
-    table.row::<ToCells, PlainToCells>("262,144 options of numbers to cells", OPTIONS);
-    table.row::<FromCells, PlainFromCells>("262,144 cells to options of numbers", OPTIONS);
-    table.row::<Indices, PlainLoops>("indices over 10,000,000 positions", Extent::bytes(0));
-    table.row::<Pack, PlainPack>("packbits, test and encode 1 Mi bools", FLAGS);
-    table.row::<Unpack, PlainUnpack>("packbits, decode the same", FLAGS);
+    table.row::<ToCells, PlainToCells>("262,144 options of numbers to cells", (), OPTIONS);
+    table.row::<FromCells, PlainFromCells>("262,144 cells to options of numbers", (), OPTIONS);
+    table.row::<Indices, PlainLoops>("indices over 10,000,000 positions", (), Extent::bytes(0));
+    table.row::<Pack, PlainPack>("packbits, test and encode 1 Mi bools", (), FLAGS);
+    table.row::<Unpack, PlainUnpack>("packbits, decode the same", (), FLAGS);
 }

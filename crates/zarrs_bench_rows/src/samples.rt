@@ -10,7 +10,9 @@ pub const BYTES: usize = 1 << 20;
 
 /// Cells of one size, of bytes that are 1, but for the last one in every other turn.
 impl Sample for ArrayBytes<'static> {
-    fn make(alloc: Global, len: usize) -> Result<ArrayBytes<'static>> {
+    type Form = ();
+
+    fn make(alloc: Global, _form: (), len: usize) -> Result<ArrayBytes<'static>> {
         Ok(ArrayBytes::new_flen(vec![in alloc; 1; len]?))
     }
 
@@ -25,7 +27,9 @@ impl Sample for ArrayBytes<'static> {
 
 /// A number, as the first index of a box.
 impl Sample for u64 {
-    fn make(_alloc: Global, _size: usize) -> Result<u64> {
+    type Form = ();
+
+    fn make(_alloc: Global, _form: (), _size: usize) -> Result<u64> {
         Ok(0)
     }
 
@@ -59,4 +63,33 @@ pub fn options_of(alloc: Global, count: usize) -> Result<Vec<Option<u32>>> {
         *option = (place % 2 == 1).then_some((place % BYTES) as u32);
     }
     Ok(options)
+}
+
+/// So many texts of 12 bytes on average.
+///
+/// # Errors
+/// Out of memory.
+pub fn texts_of(alloc: Global, count: usize) -> Result<Vec<&'static str>> {
+    let mut texts = vec![in alloc; "rain"; count]?;
+    for (place, text) in texts.iter_mut().enumerate() {
+        *text = match place % 4 {
+            0 => "rain",
+            1 => "rainfall",
+            2 => "rain at noon",
+            _ => "rain at noon, then sunny",
+        };
+    }
+    Ok(texts)
+}
+
+/// So many bytes, which tell places from one another.
+///
+/// # Errors
+/// Out of memory.
+pub fn bytes_of(alloc: Global, count: usize) -> Result<Vec<u8>> {
+    let mut bytes = vec![in alloc; 0; count]?;
+    for (place, byte) in bytes.iter_mut().enumerate() {
+        *byte = (place % 251) as u8;
+    }
+    Ok(bytes)
 }

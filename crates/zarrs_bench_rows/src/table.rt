@@ -1,6 +1,6 @@
 //! The tables that are printed.
 use crate::growth::{Growth, Scale};
-use crate::measure::{Extent, Work, best_time, measured};
+use crate::measure::{Extent, Sample, Times, Work, best_time, measured};
 use anyhow::Result;
 use std::alloc::Global;
 use std::fmt;
@@ -21,16 +21,21 @@ impl<'a, R: Clock + Print + Alloc<A = Global>> Table<'a, R> {
 
     /// Measures the work of the product, that of plain Rust and a copy of so many bytes, and prints the row of their
     /// best times.
-    pub fn row<P: Work, Q: Work<Sample = P::Sample>>(&mut self, name: &str, extent: Extent) {
+    pub fn row<P: Work, Q: Work<Sample = P::Sample>>(
+        &mut self,
+        name: &str,
+        form: <P::Sample as Sample>::Form,
+        extent: Extent,
+    ) {
         if self.outcome.is_ok() {
-            self.outcome = print_row::<R, P, Q>(self.rt, name, extent);
+            self.outcome = print_row::<R, P, Q>(self.rt, name, form, extent);
         }
     }
 
     /// Measures the work alone, and prints the row of its best time.
-    pub fn time<W: Work>(&mut self, name: &str, size: usize) {
+    pub fn time<W: Work>(&mut self, name: &str, form: <W::Sample as Sample>::Form) {
         if self.outcome.is_ok() {
-            self.outcome = print_time::<R, W>(self.rt, name, size);
+            self.outcome = print_time::<R, W>(self.rt, name, form);
         }
     }
 
@@ -42,9 +47,9 @@ impl<'a, R: Clock + Print + Alloc<A = Global>> Table<'a, R> {
     }
 
     /// Measures the work over samples of each size, and prints the row of its growth.
-    pub fn growth<W: Work>(&mut self, scale: Scale, name: &str) {
+    pub fn growth<W: Work>(&mut self, scale: Scale, name: &str, form: <W::Sample as Sample>::Form) {
         if self.outcome.is_ok() {
-            self.outcome = print_growth::<R, W>(self.rt, scale, name);
+            self.outcome = print_growth::<R, W>(self.rt, scale, name, form);
         }
     }
 
@@ -71,6 +76,15 @@ impl fmt::Display for Ratio {
     }
 }
 
+impl fmt::Display for Times {
+    fn fmt<W: fmt::Write>(&self, f: &mut fmt::Formatter<W>) -> fmt::Result {
+        let (product_us, plain_us) = (self.product / 1000, self.plain / 1000);
+        let to_plain = Ratio(self.product, self.plain.max(1));
+        let to_copy = Ratio(self.product, self.copy);
+        write!(f, "{product_us} | {plain_us} | {to_plain} | {to_copy}")
+    }
+}
+
 /// The head of the table of ratios.
 const HEAD: &str =
     "| Work | us | us, plain Rust | Ratio | Ratio to a memory copy |\n|---|---|---|---|---|";
@@ -86,8 +100,9 @@ fn print_growth<R: Clock + Print + Alloc<A = Global>, W: Work>(
     rt: &R,
     scale: Scale,
     name: &str,
+    form: <W::Sample as Sample>::Form,
 ) -> Result<()> {
-    let growth = Growth::measured::<W>(rt, rt.alloc(), scale.sizes)?;
+    let growth = Growth::measured::<W>(rt, rt.alloc(), form, scale.sizes)?;
     println!(rt; "| {name} | {growth} |")?;
     Ok(())
 }
@@ -96,29 +111,31 @@ fn print_growth<R: Clock + Print + Alloc<A = Global>, W: Work>(
 fn print_time<R: Clock + Print + Alloc<A = Global>, W: Work>(
     rt: &R,
     name: &str,
-    size: usize,
+    form: <W::Sample as Sample>::Form,
 ) -> Result<()> {
-    let time = best_time::<W>(rt, rt.alloc(), size)? / 1000;
+    let time = best_time::<W>(rt, rt.alloc(), form, 0)? / 1000;
     println!(rt; "| {name} | {time} | - | - | - |")?;
     Ok(())
 }
 
 /// Measures, and prints a row.
-fn print_row<R, P, Q>(rt: &R, name: &str, extent: Extent) -> Result<()>
+fn print_row<R, P, Q>(
+    rt: &R,
+    name: &str,
+    form: <P::Sample as Sample>::Form,
+    extent: Extent,
+) -> Result<()>
 where
     R: Clock + Print + Alloc<A = Global>,
     P: Work,
     Q: Work<Sample = P::Sample>,
 {
-    let times = measured::<P, Q>(rt, rt.alloc(), extent)?;
+    let times = measured::<P, Q>(rt, rt.alloc(), form, extent)?;
     let note = if times.are_same {
         ""
     } else {
         " (results differ)"
     };
-    let (product_us, plain_us) = (times.product / 1000, times.plain / 1000);
-    let to_plain = Ratio(times.product, times.plain.max(1));
-    let to_copy = Ratio(times.product, times.copy);
-    println!(rt; "| {name}{note} | {product_us} | {plain_us} | {to_plain} | {to_copy} |")?;
+    println!(rt; "| {name}{note} | {times} |")?;
     Ok(())
 }
