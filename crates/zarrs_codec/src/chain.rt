@@ -233,6 +233,22 @@ impl ChainTraits for CodecChain {
         self.partial_decode_chunk(alloc, source, window, part, data_type, fill_value, shape)
     }
 
+    fn partial_decode_into<B: ByteSource>(
+        &self,
+        alloc: Global,
+        source: &B,
+        window: Window,
+        part: &ArraySubset,
+        data_type: &DataType,
+        fill_value: &FillValue,
+        shape: &[u64],
+        target: &mut ArrayBytesDecodeIntoTarget<'_, '_, '_>,
+    ) -> Result<(), PartError> {
+        self.partial_decode_chunk_into(
+            alloc, source, window, part, data_type, fill_value, shape, target,
+        )
+    }
+
     fn decode_into(
         &self,
         alloc: Global,

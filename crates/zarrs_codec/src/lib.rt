@@ -11,6 +11,7 @@ mod fits;
 pub mod laws;
 mod metadata;
 mod partial_decode;
+mod partial_decode_into;
 mod partial_encode;
 mod sharding;
 mod sharding_builder;
