@@ -3,3 +3,4 @@ pub mod Inside
 mod Numbers
 mod Rows
 mod BoxRows
+mod AsciiTexts

@@ -4,6 +4,7 @@
 mod boxes;
 mod error;
 mod offsets;
+mod texts;
 mod variable;
 
 pub use boxes::{extract_strings, lies_in_box, strings_with_part};

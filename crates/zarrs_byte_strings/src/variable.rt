@@ -3,11 +3,14 @@ ghost use Rattle.std.specs.Prelude.{◌≡◌, ◌↔◌, ◌==◌, ◌<◌, ◌
 ghost use Rattle.std.specs.Prelude.{IfOk, OnOk, OnErr, IsOk, length, map, slice_index};
 ghost use Rattle.std.specs.Prelude.{slice_index_or, slice_range, sum_by, vec_capacity};
 ghost use Rattle.std.specs.Cow.{cow_slice_items};
+ghost use Rattle.std.specs.List.{list_all};
+ghost use Rattle.std.specs.Str.{is_utf8};
 ghost use Rattle.zarrs_byte_strings.specs.Offsets.{AreCuts, byte_strings, joined, last_offset};
 ghost use Rattle.zarrs_byte_strings.specs.Offsets.{offsets_of};
 
 use crate::error::ExpectedVariableLengthBytesError;
 use crate::offsets::ArrayBytesOffsets;
+use crate::texts::{are_ascii, is_text};
 use std::alloc::{AllocError, Global};
 use std::borrow::CowSlice;
 use std::marker::Model;
@@ -89,6 +92,21 @@ impl<'a> ArrayBytesVariableLength<'a> {
         ensures { result.now ≡ slice_index_or self.now index [] }
     {
         cut(self.offsets.as_slice(), self.bytes.as_slice(), index)
+    }
+
+    /// Whether each byte string is UTF-8. If all bytes are ASCII, no byte string is tested by itself.
+    pub fn are_utf8(&self) -> bool
+        ensures { result ≡ list_all is_utf8 self.now }
+    {
+        if are_ascii(self.bytes()) {
+            return true;
+        }
+        for index in 0..self.len() {
+            if !is_text(self.get(index)) {
+                return false;
+            }
+        }
+        true
     }
 
     /// How many bytes `count` byte strings from number `from` on have.

@@ -3,6 +3,7 @@
 
 mod convert;
 mod little_endian;
+mod options;
 mod whole_number;
 mod writing;
 

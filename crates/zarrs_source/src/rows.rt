@@ -2,18 +2,18 @@
 ghost use Rattle.std.specs.Prelude.{◌≡◌, ◌+◌, ◌*◌, ◌<◌, ◌≤◌, ◌^◌, ◌++◌, IfOk, IfErr, OnOk, length};
 ghost use Rattle.zarrs_subset.specs.Boxes.{position_count, BoxFits};
 ghost use Rattle.zarrs_subset.specs.Regions.{LiesInShape, box_of};
-ghost use Rattle.zarrs_source.specs.BoxReads.{CanReadBox, MayReadBox, box_bytes};
+ghost use Rattle.zarrs_source.specs.BoxReads.{CanReadBox, MayReadBox, box_bytes, cells_in};
 ghost use Rattle.zarrs_source.specs.Sources.{IsWindow, MayReadPlaces, RefusesSource, window_bytes};
 
 use crate::source::{ByteSource, Window};
-use std::alloc::Global;
+use std::alloc::{AllocError, Global};
 use zarrs_storage::StorageError;
-use zarrs_subset::{ArraySubset, without_ones};
+use zarrs_subset::{ArraySubset, Corner, copy_box, without_ones};
 
 /// The cells of a box of an array of this shape whose bytes are those of a window, row-major. A cell has `size` bytes.
 ///
-/// Cells that stand together are one read: one for each row of the box, and fewer if its last dimensions are whole.
-/// Nothing is read of a box without cells. The result is made once.
+/// What the source lends is copied once, in runs of cells that stand together. Otherwise each run is one read: one for
+/// each row of the box, and fewer if its last dimensions are whole. Nothing is read of a box without cells.
 ///
 /// # Errors
 /// What the source says if it refuses; `OutOfMemory`.
@@ -43,10 +43,14 @@ pub fn read_box<B: ByteSource>(
     let Ok(count) = part.num_elements() else {
         unreachable!()
     };
+    let len = (count * size) as usize;
+    if let Some(bytes) = source.lent() {
+        return Ok(gathered(alloc, window.slice(bytes), shape, part, size as usize, len)?);
+    }
     let kept_extents = without_ones(alloc, shape, part.shape())?;
     let kept_start = without_ones(alloc, shape, part.start())?;
     let kept_shape = without_ones(alloc, shape, shape)?;
-    let mut made = Vec::with_capacity(alloc, (count * size) as usize)?;
+    let mut made = Vec::with_capacity(alloc, len)?;
     read_rows(
         alloc,
         source,
@@ -57,6 +61,36 @@ pub fn read_box<B: ByteSource>(
         size,
         &mut made,
     )?;
+    Ok(made)
+}
+
+/// The cells of a box of an array of this shape, row-major: `len` bytes.
+fn gathered(
+    alloc: Global,
+    array: &[u8],
+    shape: &[u64],
+    part: &ArraySubset,
+    size: usize,
+    len: usize,
+) -> Result<Vec<u8>, AllocError>
+    requires array_len { length array.now ≡ position_count shape.now * size }
+    requires part { BoxFits (box_of part.now).start (box_of part.now).shape shape.now }
+    requires len { len ≡ position_count (box_of part.now).shape * size }
+    ensures { IfOk result (λ made. made.items ≡ cells_in size shape.now (box_of part.now)
+        array.now) }
+{
+    let extents = part.shape();
+    let origin = vec![in alloc; 0; extents.len()]?;
+    let mut made = vec![in alloc; 0; len]?;
+    let from = Corner {
+        shape,
+        start: part.start(),
+    };
+    let to = Corner {
+        shape: extents,
+        start: &origin,
+    };
+    copy_box(array, from, &mut made, to, extents, size);
     Ok(made)
 }
 

@@ -1,6 +1,6 @@
 //! Lists of numbers of two arrays' coordinates, dimension by dimension.
 
-ghost use Rattle.std.specs.Prelude.{◌≡◌, ℕ, ◌+◌, ◌-◌, ◌^◌, ◌<◌, ◌≤◌, ◌↔◌, length, max, min};
+ghost use Rattle.std.specs.Prelude.{◌≡◌, ℕ, ◌+◌, ◌-◌, ◌^◌, ◌<◌, ◌≤◌, ◌↔◌, length, min};
 ghost use Rattle.std.specs.Prelude.{slice_index, IfOk, IsTrue, SomeIndex};
 ghost use Rattle.zarrs_subset.specs.Boxes.{zip_with, ends, EndsFit, without_ones};
 
@@ -12,13 +12,6 @@ pub(crate) fn has_zero(extents: &[u64]) -> bool
     ensures { IsTrue result ↔ SomeIndex extents.now (λ k. slice_index extents.now k ≡ 0) }
 {
     extents.iter().any(|extent| *extent == 0)
-}
-
-/// The greater number of each dimension.
-pub(crate) fn later(alloc: Global, a: &[u64], b: &[u64]) -> Result<ArrayIndices, AllocError>
-    ensures { IfOk result (λ v. v.items ≡ zip_with (λ s t. max s t) a.now b.now) }
-{
-    a.iter().zip(b).map(|(x, y)| (*x).max(*y)).collect(alloc)
 }
 
 /// The lesser number of each dimension.

@@ -9,7 +9,7 @@ ghost use Rattle.zarrs_subset.specs.Refusals.{IsMismatch, RefusesStartShape, Ref
 ghost use Rattle.zarrs_subset.specs.Refusals.{RefusesLength, RefusesOffset, RefusesShift};
 
 use crate::error::{ArraySubsetError, IncompatibleDimensionalityError, SizeOverflow};
-use crate::lists::{distances, earlier, ends_of, extents, has_zero, later, sums};
+use crate::lists::{distances, earlier, ends_of, extents, has_zero, sums};
 use crate::ravel::{element_count, unravel_index};
 use crate::traits::ArraySubsetTraits;
 use crate::{ArrayIndices, ArrayShape};
@@ -242,12 +242,16 @@ impl ArraySubset {
             (RefusesLength (length (B.region other.now).start) (length (box_of self.now).start)) }
     {
         self.check_length(other.dimensionality())?;
-        let other = other.to_array_subset(alloc)?;
-        let own_end = self.end_exc(alloc)?;
-        let other_end = other.end_exc(alloc)?;
-        let start = later(alloc, &self.start, &other.start)?;
-        let end = earlier(alloc, &own_end, &other_end)?;
-        let shape = distances(alloc, &end, &start)?;
+        let dimensions = self.start.len();
+        let mut start = Vec::with_capacity(alloc, dimensions)?;
+        let mut shape = Vec::with_capacity(alloc, dimensions)?;
+        for k in 0..dimensions {
+            let range = other.range(k);
+            let first = self.start[k].max(range.start);
+            let end = (self.start[k] + self.shape[k]).min(range.end);
+            start.push_reserved(first);
+            shape.push_reserved(end.saturating_sub(first));
+        }
         Ok(ArraySubset { start, shape })
     }
 

@@ -2,6 +2,8 @@ use Rattle.std.proofs.Common.{arith, ◌≡◌, ◌*◌, length, sym, ap, ◌∙
 use Rattle.std.proofs.lemmas.Bool.{false≢true}
 use Rattle.zarrs_subset.proofs.Overlaps.{AllSome}
 use Rattle.zarrs_subset.specs.Boxes.{without_ones}
+use Rattle.zarrs_subset.specs.Regions.{box_of}
+use Rattle.zarrs_source.proofs.Gathered.{lent_box}
 use Rattle.zarrs_source.proofs.Ones.{length-shape, can_read_kept, bytes_kept}
 use Rattle.zarrs_source.proofs.RowReads.{bytes_fit, can_read, no_bytes}
 use Rattle.zarrs_source.proofs.rows.read_box.Goals as goal
@@ -18,12 +20,17 @@ unreachable-requires g c =
     let past = c.in_default.ensures.refused in
     omega (arith, c.requires.window, past)
 
-pub overflow_mul-count : goal.overflow_mul-count
-overflow_mul-count g c =
+pub overflow_mul-len : goal.overflow_mul-len
+overflow_mul-len g c =
     let room = bytes_fit _ _ _ _ _ c.requires.part c.requires.size c.requires.len in
     let less = room.0 in
     let is : c.in-Ok.count ≡ _ = c.in-Ok.ensures.ok in
     omega (arith, ap (λ n. n * c.args.size) is, c.requires.window)
+
+pub returns-in-Some-clause-bytes : goal.returns-in-Some-clause-bytes
+returns-in-Some-clause-bytes g c =
+    lent_box c.args.size c.args.window c.args.shape.now (box_of c.args.part.now) (g.B.ByteSource.bytes c.args.source.now) c.in-Some.bytes.now c.slice.result.now
+    c.in_ok-gathered.field-0.items c.requires.part c.requires.len c.in-Some.ensures.lends.all c.slice.ensures c.in_ok-gathered.ensures
 
 pub without_ones-requires : goal.without_ones-requires
 without_ones-requires g c =
