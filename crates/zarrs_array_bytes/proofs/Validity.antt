@@ -3,8 +3,9 @@ use Rattle.std.proofs.Common.{◌≡◌, ◌==◌, ℕ, ◌<◌, Bool, true, fal
 use Rattle.std.proofs.Common.{◌↔◌, refl, sym, ap, ◌∙◌, subst, arith}
 use Rattle.std.specs.Prelude.{All, nat_lt, slice_index, is_some, slice_index_or}
 use Rattle.std.specs.List.{list_all}
+use Rattle.std.specs.Str.{is_utf8}
 use Rattle.std.proofs.lemmas.Bool.{false≢true, lt-ltb}
-use Rattle.std.proofs.lemmas.List.{length-map, get_or-map}
+use Rattle.std.proofs.lemmas.List.{length-map, get_or-map, get_or_default}
 use Rattle.std.proofs.lemmas.List.FromFn.{get_or-map-range_with_len}
 use Rattle.std.proofs.lemmas.List.Sums.{AllPass-from_list_all, list_all-from_AllPass}
 use Rattle.zarrs_types.specs.declared.data_type.DataType.{DataType}
@@ -89,3 +90,25 @@ tested_false fails = (λ is. absurd (false≢true is), λ p. absurd (fails p))
 pub no_flags : (mask : List ℕ) → list_all (λ byte. nat_lt byte 2) mask ≡ false → All (λ byte. byte < 2) mask → ⊥
 no_flags mask differs flags =
     false≢true (sym differs ∙ list_all-from_AllPass (λ byte. nat_lt byte 2) mask (λ i d lt. lt-ltb (get_or mask i d) 2 (flags i d lt)))
+
+-- a byte string of a type that does not take any bytes is a value if it is a text
+text_value : (k : Kind) (string : List ℕ) → is_variable k ≡ true → takes_any_bytes k ≡ false → is_element k string ≡ is_utf8 string
+text_value type.string string is any = refl
+text_value type.bytes string is any = absurd (false≢true (sym any))
+text_value k string is any = absurd (false≢true is)
+
+-- byte strings of such a type are values if all of them are texts
+pub HasCells-texts : (t : DataType) (strings : List (List ℕ)) (n : ℕ) (test : Bool) → takes_any_bytes (kind t) ≡ false → fits (kind t) (variable strings) n ≡ true
+    → test ≡ list_all is_utf8 strings → IsTrue test ↔ HasCells (kind t) (variable strings) n
+HasCells-texts t strings n true any is tested =
+    let k = kind t in
+    let at = fits-variable k strings n is in
+    tested_true (HasCells-from k (variable strings) n (element_size-positive t) is
+    (λ i lt. text_value k (slice_index_or strings i []) at.0 any ∙ AllPass-from_list_all is_utf8 strings (sym tested) i [] (omega (arith, at.1))))
+HasCells-texts t strings n false any is tested =
+    let k = kind t in
+    let at = fits-variable k strings n is in
+    tested_false (λ has. false≢true (tested ∙ list_all-from_AllPass is_utf8 strings (λ i d lt.
+    ap is_utf8 (get_or_default strings i d [] lt)
+    ∙ sym (text_value k (slice_index_or strings i []) at.0 any)
+    ∙ (HasCells-parts k (variable strings) n has).1 i (omega (arith, at.1)))))

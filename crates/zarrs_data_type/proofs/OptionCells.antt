@@ -19,7 +19,7 @@ use Rattle.zarrs_array_bytes.proofs.Filled.{fits-optional}
 use Rattle.zarrs_data_type.specs.Elements.{option_cell}
 
 -- a type with an inner type is the optional type of it
-inner_is : (k u : Kind) → inner_of k ≡ Some u → k ≡ type.optional u
+pub inner_is : (k u : Kind) → inner_of k ≡ Some u → k ≡ type.optional u
 inner_is (type.optional inner) u is = cc
 inner_is type.bool u is = cc
 inner_is type.int8 u is = cc

@@ -1,6 +1,7 @@
 -- Why values of Rust and cells are refused.
-use Rattle.std.specs.Prelude.{◌≡◌, Bool, true, false, List, Option, None, Some}
-use Rattle.zarrs_types.specs.Cell.{Cell, none, some}
+use Rattle.std.specs.Prelude.{◌≡◌, ℕ, Bool, true, false, List, Option, None, Some}
+use Rattle.zarrs_types.specs.Cell.{Cell, none, some, takes_any_bytes}
+use Rattle.zarrs_types.specs.Kind.{Kind, element_size, inner_of}
 use Rattle.zarrs_data_type.specs.declared.error.ElementError.{ElementError}
 use Rattle.zarrs_data_type.specs.declared.error.ElementError.TheVariants.{IncompatibleElementType, OutOfMemory}
 
@@ -18,3 +19,7 @@ RefusesCells served cs OutOfMemory = Unit {0}
 abbrev pub option_cell : {T : Type 0} → (T → Cell) → Option T → Cell
 option_cell cell None = none
 option_cell cell (Some x) = some (cell x)
+
+-- the type is optional, and any bytes of this size are a value of its inner type
+abbrev pub HoldsOptions : Kind → ℕ → Type 0
+HoldsOptions k size = (u : Kind) × (inner_of k ≡ Some u) × (element_size u ≡ Some size) × (takes_any_bytes u ≡ true)

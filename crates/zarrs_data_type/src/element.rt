@@ -1,13 +1,14 @@
 //! Values of Rust that stand for cells.
-ghost use Rattle.std.specs.Prelude.{◌≡◌, [], ◌∷◌, Bool, true, map, Some, IfOk, IfErr, OnOk};
+ghost use Rattle.std.specs.Prelude.{◌≡◌, [], ◌∷◌, Bool, true, false, map, Some, IfOk, IfErr, OnOk};
 ghost use Rattle.std.specs.Int.{w8, w16, w32, w64, cast_unsigned, to_le_bytes};
+ghost use Rattle.std.specs.Option.{option_map_or};
 ghost use Rattle.zarrs_array_bytes.specs.ArrayData.{data_of};
 ghost use Rattle.zarrs_array_bytes.specs.Cells.{cells};
 ghost use Rattle.zarrs_types.specs.Cell.{Cell, bytes};
-ghost use Rattle.zarrs_types.specs.Kind.{Kind, kind};
+ghost use Rattle.zarrs_types.specs.Kind.{Kind, kind, inner_of};
 ghost use Rattle.zarrs_types.specs.Kind as type;
 ghost use Rattle.zarrs_types.specs.Same.{kind_eq};
-ghost use Rattle.zarrs_data_type.specs.Elements.{RefusesElement, RefusesCells};
+ghost use Rattle.zarrs_data_type.specs.Elements.{RefusesElement, RefusesCells, option_cell};
 
 use crate::error::ElementError;
 use std::alloc::Global;
@@ -22,7 +23,8 @@ mod options;
 mod strings;
 
 use copies::copied;
-use numbers::{number_data, number_list};
+use numbers::{number_data, number_list, number_option_data, number_options};
+use options::{flags, lent, present_values, spread_values, under_flags};
 
 /// A value of Rust that stands for a cell.
 pub trait Element: Drop {
@@ -82,6 +84,34 @@ pub trait Element: Drop {
             ≡ Some (map cell (map (λ element. element.now) elements.now))) }
         ensures served { OnOk result (serves (kind data_type.now) ≡ true) }
         ensures refused { IfErr result (RefusesElement (serves (kind data_type.now))) };
+
+    /// Data whose cells are these options of values, of an optional type.
+    ///
+    /// # Errors
+    /// `IncompatibleElementType`: the values are not those of the type's inner type. `OutOfMemory` may come at any
+    /// time.
+    fn options_to_array_bytes(
+        alloc: Global,
+        data_type: &DataType,
+        options: &[Option<Self>],
+    ) -> Result<ArrayBytes<'static>, ElementError>
+        ensures cells { IfOk result (λ made. cells (kind data_type.now) (data_of made)
+            ≡ Some (map (option_cell cell) options.now)) }
+        ensures served { OnOk result (option_map_or serves (inner_of (kind data_type.now)) false
+            ≡ true) }
+        ensures refused { IfErr result (RefusesElement
+            (option_map_or serves (inner_of (kind data_type.now)) false)) }
+    {
+        let Some(inner) = data_type.optional_inner() else {
+            return Err(ElementError::IncompatibleElementType);
+        };
+        let lent = lent(alloc, options)?;
+        let elements = lent.as_slice();
+        let values = present_values(alloc, elements)?;
+        let present = Self::lent_to_array_bytes(alloc, inner, &values)?;
+        let mask = flags(alloc, elements)?;
+        Ok(under_flags(alloc, inner, mask, &present)?)
+    }
 }
 
 /// A value of Rust that is read from a cell.
@@ -102,6 +132,40 @@ pub trait ElementOwned: Element {
         ensures served { OnOk result (Self.serves (kind data_type.now) ≡ true) }
         ensures refused { IfErr result (RefusesCells (Self.serves (kind data_type.now)) (cells
             (kind data_type.now) (data_of array_bytes.entry))) };
+
+    /// The options of values of the cells of the data, of an optional type.
+    ///
+    /// # Errors
+    /// `IncompatibleElementType`: the values are not those of the type's inner type, or the data is no list of its
+    /// cells. `OutOfMemory` may come at any time.
+    fn options_from_array_bytes(
+        alloc: Global,
+        data_type: &DataType,
+        array_bytes: ArrayBytes<'_>,
+    ) -> Result<Vec<Option<Self>>, ElementError>
+        ensures cells { IfOk result
+            (λ options. cells (kind data_type.now) (data_of array_bytes.entry)
+            ≡ Some (map (option_cell Self.cell) options.items)) }
+        ensures served { OnOk result (option_map_or Self.serves (inner_of (kind data_type.now)) false
+            ≡ true) }
+        ensures refused { IfErr result (RefusesCells
+            (option_map_or Self.serves (inner_of (kind data_type.now)) false) (cells
+            (kind data_type.now) (data_of array_bytes.entry))) }
+    {
+        let Some(inner) = data_type.optional_inner() else {
+            return Err(ElementError::IncompatibleElementType);
+        };
+        let ArrayBytes::Optional(optional) = &array_bytes else {
+            return Err(ElementError::IncompatibleElementType);
+        };
+        let mask = optional.mask();
+        if !array_bytes.validate(data_type, mask.len() as u64) {
+            return Err(ElementError::IncompatibleElementType);
+        }
+        let present = optional.present(alloc, inner)?;
+        let values = Self::from_array_bytes(alloc, inner, present)?;
+        Ok(spread_values(alloc, mask, values)?)
+    }
 }
 
 impl Element for u8 {
@@ -143,6 +207,20 @@ impl Element for u8 {
         let mut numbers = copied(alloc, elements)?;
         <u8 as Element>::take_array_bytes(alloc, data_type, &mut numbers)
     }
+
+    fn options_to_array_bytes(
+        alloc: Global,
+        data_type: &DataType,
+        options: &[Option<u8>],
+    ) -> Result<ArrayBytes<'static>, ElementError> {
+        let Some(inner) = data_type.optional_inner() else {
+            return Err(ElementError::IncompatibleElementType);
+        };
+        if !<u8 as Element>::serves(inner) {
+            return Err(ElementError::IncompatibleElementType);
+        }
+        Ok(number_option_data(alloc, data_type, options)?)
+    }
 }
 
 impl ElementOwned for u8 {
@@ -158,6 +236,20 @@ impl ElementOwned for u8 {
             ArrayBytes::Fixed(bytes) => Ok(bytes.into_owned(alloc)?),
             _ => Err(ElementError::IncompatibleElementType),
         }
+    }
+
+    fn options_from_array_bytes(
+        alloc: Global,
+        data_type: &DataType,
+        array_bytes: ArrayBytes<'_>,
+    ) -> Result<Vec<Option<u8>>, ElementError> {
+        let Some(inner) = data_type.optional_inner() else {
+            return Err(ElementError::IncompatibleElementType);
+        };
+        if !<u8 as Element>::serves(inner) {
+            return Err(ElementError::IncompatibleElementType);
+        }
+        number_options(alloc, data_type, &array_bytes)
     }
 }
 
@@ -189,6 +281,20 @@ impl Element for u16 {
         let mut numbers = copied(alloc, elements)?;
         <u16 as Element>::take_array_bytes(alloc, data_type, &mut numbers)
     }
+
+    fn options_to_array_bytes(
+        alloc: Global,
+        data_type: &DataType,
+        options: &[Option<u16>],
+    ) -> Result<ArrayBytes<'static>, ElementError> {
+        let Some(inner) = data_type.optional_inner() else {
+            return Err(ElementError::IncompatibleElementType);
+        };
+        if !<u16 as Element>::serves(inner) {
+            return Err(ElementError::IncompatibleElementType);
+        }
+        Ok(number_option_data(alloc, data_type, options)?)
+    }
 }
 
 impl ElementOwned for u16 {
@@ -201,6 +307,20 @@ impl ElementOwned for u16 {
             return Err(ElementError::IncompatibleElementType);
         }
         number_list(alloc, data_type, &array_bytes)
+    }
+
+    fn options_from_array_bytes(
+        alloc: Global,
+        data_type: &DataType,
+        array_bytes: ArrayBytes<'_>,
+    ) -> Result<Vec<Option<u16>>, ElementError> {
+        let Some(inner) = data_type.optional_inner() else {
+            return Err(ElementError::IncompatibleElementType);
+        };
+        if !<u16 as Element>::serves(inner) {
+            return Err(ElementError::IncompatibleElementType);
+        }
+        number_options(alloc, data_type, &array_bytes)
     }
 }
 
@@ -232,6 +352,20 @@ impl Element for u32 {
         let mut numbers = copied(alloc, elements)?;
         <u32 as Element>::take_array_bytes(alloc, data_type, &mut numbers)
     }
+
+    fn options_to_array_bytes(
+        alloc: Global,
+        data_type: &DataType,
+        options: &[Option<u32>],
+    ) -> Result<ArrayBytes<'static>, ElementError> {
+        let Some(inner) = data_type.optional_inner() else {
+            return Err(ElementError::IncompatibleElementType);
+        };
+        if !<u32 as Element>::serves(inner) {
+            return Err(ElementError::IncompatibleElementType);
+        }
+        Ok(number_option_data(alloc, data_type, options)?)
+    }
 }
 
 impl ElementOwned for u32 {
@@ -244,6 +378,20 @@ impl ElementOwned for u32 {
             return Err(ElementError::IncompatibleElementType);
         }
         number_list(alloc, data_type, &array_bytes)
+    }
+
+    fn options_from_array_bytes(
+        alloc: Global,
+        data_type: &DataType,
+        array_bytes: ArrayBytes<'_>,
+    ) -> Result<Vec<Option<u32>>, ElementError> {
+        let Some(inner) = data_type.optional_inner() else {
+            return Err(ElementError::IncompatibleElementType);
+        };
+        if !<u32 as Element>::serves(inner) {
+            return Err(ElementError::IncompatibleElementType);
+        }
+        number_options(alloc, data_type, &array_bytes)
     }
 }
 
@@ -275,6 +423,20 @@ impl Element for u64 {
         let mut numbers = copied(alloc, elements)?;
         <u64 as Element>::take_array_bytes(alloc, data_type, &mut numbers)
     }
+
+    fn options_to_array_bytes(
+        alloc: Global,
+        data_type: &DataType,
+        options: &[Option<u64>],
+    ) -> Result<ArrayBytes<'static>, ElementError> {
+        let Some(inner) = data_type.optional_inner() else {
+            return Err(ElementError::IncompatibleElementType);
+        };
+        if !<u64 as Element>::serves(inner) {
+            return Err(ElementError::IncompatibleElementType);
+        }
+        Ok(number_option_data(alloc, data_type, options)?)
+    }
 }
 
 impl ElementOwned for u64 {
@@ -287,6 +449,20 @@ impl ElementOwned for u64 {
             return Err(ElementError::IncompatibleElementType);
         }
         number_list(alloc, data_type, &array_bytes)
+    }
+
+    fn options_from_array_bytes(
+        alloc: Global,
+        data_type: &DataType,
+        array_bytes: ArrayBytes<'_>,
+    ) -> Result<Vec<Option<u64>>, ElementError> {
+        let Some(inner) = data_type.optional_inner() else {
+            return Err(ElementError::IncompatibleElementType);
+        };
+        if !<u64 as Element>::serves(inner) {
+            return Err(ElementError::IncompatibleElementType);
+        }
+        number_options(alloc, data_type, &array_bytes)
     }
 }
 
@@ -318,6 +494,20 @@ impl Element for i8 {
         let mut numbers = copied(alloc, elements)?;
         <i8 as Element>::take_array_bytes(alloc, data_type, &mut numbers)
     }
+
+    fn options_to_array_bytes(
+        alloc: Global,
+        data_type: &DataType,
+        options: &[Option<i8>],
+    ) -> Result<ArrayBytes<'static>, ElementError> {
+        let Some(inner) = data_type.optional_inner() else {
+            return Err(ElementError::IncompatibleElementType);
+        };
+        if !<i8 as Element>::serves(inner) {
+            return Err(ElementError::IncompatibleElementType);
+        }
+        Ok(number_option_data(alloc, data_type, options)?)
+    }
 }
 
 impl ElementOwned for i8 {
@@ -330,6 +520,20 @@ impl ElementOwned for i8 {
             return Err(ElementError::IncompatibleElementType);
         }
         number_list(alloc, data_type, &array_bytes)
+    }
+
+    fn options_from_array_bytes(
+        alloc: Global,
+        data_type: &DataType,
+        array_bytes: ArrayBytes<'_>,
+    ) -> Result<Vec<Option<i8>>, ElementError> {
+        let Some(inner) = data_type.optional_inner() else {
+            return Err(ElementError::IncompatibleElementType);
+        };
+        if !<i8 as Element>::serves(inner) {
+            return Err(ElementError::IncompatibleElementType);
+        }
+        number_options(alloc, data_type, &array_bytes)
     }
 }
 
@@ -361,6 +565,20 @@ impl Element for i16 {
         let mut numbers = copied(alloc, elements)?;
         <i16 as Element>::take_array_bytes(alloc, data_type, &mut numbers)
     }
+
+    fn options_to_array_bytes(
+        alloc: Global,
+        data_type: &DataType,
+        options: &[Option<i16>],
+    ) -> Result<ArrayBytes<'static>, ElementError> {
+        let Some(inner) = data_type.optional_inner() else {
+            return Err(ElementError::IncompatibleElementType);
+        };
+        if !<i16 as Element>::serves(inner) {
+            return Err(ElementError::IncompatibleElementType);
+        }
+        Ok(number_option_data(alloc, data_type, options)?)
+    }
 }
 
 impl ElementOwned for i16 {
@@ -373,6 +591,20 @@ impl ElementOwned for i16 {
             return Err(ElementError::IncompatibleElementType);
         }
         number_list(alloc, data_type, &array_bytes)
+    }
+
+    fn options_from_array_bytes(
+        alloc: Global,
+        data_type: &DataType,
+        array_bytes: ArrayBytes<'_>,
+    ) -> Result<Vec<Option<i16>>, ElementError> {
+        let Some(inner) = data_type.optional_inner() else {
+            return Err(ElementError::IncompatibleElementType);
+        };
+        if !<i16 as Element>::serves(inner) {
+            return Err(ElementError::IncompatibleElementType);
+        }
+        number_options(alloc, data_type, &array_bytes)
     }
 }
 
@@ -404,6 +636,20 @@ impl Element for i32 {
         let mut numbers = copied(alloc, elements)?;
         <i32 as Element>::take_array_bytes(alloc, data_type, &mut numbers)
     }
+
+    fn options_to_array_bytes(
+        alloc: Global,
+        data_type: &DataType,
+        options: &[Option<i32>],
+    ) -> Result<ArrayBytes<'static>, ElementError> {
+        let Some(inner) = data_type.optional_inner() else {
+            return Err(ElementError::IncompatibleElementType);
+        };
+        if !<i32 as Element>::serves(inner) {
+            return Err(ElementError::IncompatibleElementType);
+        }
+        Ok(number_option_data(alloc, data_type, options)?)
+    }
 }
 
 impl ElementOwned for i32 {
@@ -416,6 +662,20 @@ impl ElementOwned for i32 {
             return Err(ElementError::IncompatibleElementType);
         }
         number_list(alloc, data_type, &array_bytes)
+    }
+
+    fn options_from_array_bytes(
+        alloc: Global,
+        data_type: &DataType,
+        array_bytes: ArrayBytes<'_>,
+    ) -> Result<Vec<Option<i32>>, ElementError> {
+        let Some(inner) = data_type.optional_inner() else {
+            return Err(ElementError::IncompatibleElementType);
+        };
+        if !<i32 as Element>::serves(inner) {
+            return Err(ElementError::IncompatibleElementType);
+        }
+        number_options(alloc, data_type, &array_bytes)
     }
 }
 
@@ -447,6 +707,20 @@ impl Element for i64 {
         let mut numbers = copied(alloc, elements)?;
         <i64 as Element>::take_array_bytes(alloc, data_type, &mut numbers)
     }
+
+    fn options_to_array_bytes(
+        alloc: Global,
+        data_type: &DataType,
+        options: &[Option<i64>],
+    ) -> Result<ArrayBytes<'static>, ElementError> {
+        let Some(inner) = data_type.optional_inner() else {
+            return Err(ElementError::IncompatibleElementType);
+        };
+        if !<i64 as Element>::serves(inner) {
+            return Err(ElementError::IncompatibleElementType);
+        }
+        Ok(number_option_data(alloc, data_type, options)?)
+    }
 }
 
 impl ElementOwned for i64 {
@@ -459,5 +733,19 @@ impl ElementOwned for i64 {
             return Err(ElementError::IncompatibleElementType);
         }
         number_list(alloc, data_type, &array_bytes)
+    }
+
+    fn options_from_array_bytes(
+        alloc: Global,
+        data_type: &DataType,
+        array_bytes: ArrayBytes<'_>,
+    ) -> Result<Vec<Option<i64>>, ElementError> {
+        let Some(inner) = data_type.optional_inner() else {
+            return Err(ElementError::IncompatibleElementType);
+        };
+        if !<i64 as Element>::serves(inner) {
+            return Err(ElementError::IncompatibleElementType);
+        }
+        number_options(alloc, data_type, &array_bytes)
     }
 }

@@ -202,11 +202,11 @@ fn starts_from(
         ≡ map (λ k. from + sum_by length (take k strings.now))
         (range_with_len 0 (length strings.now))) }
 {
-    let mut starts = Vec::with_capacity(alloc, strings.len())?;
-    let mut start = from;
-    for index in 0..strings.len() {
-        starts.push(start as u64)?;
-        start += strings.get(index).len();
+    let cuts = strings.offsets().as_slice();
+    let count = strings.len();
+    let mut starts = Vec::with_capacity(alloc, count)?;
+    for index in 0..count {
+        starts.push_reserved((from + cuts[index]) as u64);
     }
     Numbers::new(alloc, starts.as_slice())
 }
@@ -215,9 +215,11 @@ fn starts_from(
 fn lens_of(alloc: Global, strings: &ArrayBytesVariableLength<'_>) -> Result<Numbers, AllocError>
     ensures { IfOk result (λ made. made ≡ map length strings.now) }
 {
-    let mut lens = Vec::with_capacity(alloc, strings.len())?;
-    for index in 0..strings.len() {
-        lens.push(strings.get(index).len() as u64)?;
+    let cuts = strings.offsets().as_slice();
+    let count = strings.len();
+    let mut lens = Vec::with_capacity(alloc, count)?;
+    for index in 0..count {
+        lens.push_reserved((cuts[index + 1] - cuts[index]) as u64);
     }
     Numbers::new(alloc, lens.as_slice())
 }

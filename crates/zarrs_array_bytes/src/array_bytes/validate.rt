@@ -28,7 +28,13 @@ impl<'a> ArrayBytes<'a> {
         if !self.fits(data_type, count) {
             return false;
         }
-        data_type.takes_any_bytes() || self.are_values(data_type, count)
+        if data_type.takes_any_bytes() {
+            return true;
+        }
+        match self {
+            ArrayBytes::Variable(strings) => strings.are_utf8(),
+            _ => self.are_values(data_type, count),
+        }
     }
 
     /// Whether this is data of the type's kind with `count` cells, at each level.

@@ -1,10 +1,12 @@
 //! Optional values as cells.
-ghost use Rattle.std.specs.Prelude.{◌≡◌, false, map, is_some, IfOk};
+ghost use Rattle.std.specs.Prelude.{◌≡◌, ◌<◌, false, map, is_some, count_by, Some, All, IfOk, IfSome};
 ghost use Rattle.std.specs.Int.{from_bool};
 ghost use Rattle.std.specs.List.{filter_map};
 ghost use Rattle.std.specs.Option.{option_map_or};
-ghost use Rattle.zarrs_array_bytes.specs.Present.{spread_cells};
-ghost use Rattle.zarrs_types.specs.Kind.{inner_of};
+ghost use Rattle.zarrs_array_bytes.specs.ArrayData.{data_of};
+ghost use Rattle.zarrs_array_bytes.specs.Cells.{cells, HasCells};
+ghost use Rattle.zarrs_array_bytes.specs.Present.{flag_set, spread_cells};
+ghost use Rattle.zarrs_types.specs.Kind.{kind, inner_of, optional};
 ghost use Rattle.zarrs_data_type.specs.Elements.{option_cell};
 
 use super::{Element, ElementOwned};
@@ -14,7 +16,7 @@ use zarrs_array_bytes::ArrayBytes;
 use zarrs_types::DataType;
 
 /// The values, lent one by one.
-fn lent<T>(alloc: Global, elements: &[T]) -> Result<Vec<&T>, AllocError>
+pub(super) fn lent<T>(alloc: Global, elements: &[T]) -> Result<Vec<&T>, AllocError>
     ensures { IfOk result (λ lent. map (λ element. element.now) lent.items ≡ elements.now) }
 {
     let mut lent = Vec::with_capacity(alloc, elements.len())?;
@@ -25,7 +27,7 @@ fn lent<T>(alloc: Global, elements: &[T]) -> Result<Vec<&T>, AllocError>
 }
 
 /// A flag for each: 1 for a value and 0 for none.
-fn flags<T>(alloc: Global, elements: &[&Option<T>]) -> Result<Vec<u8>, AllocError>
+pub(super) fn flags<T>(alloc: Global, elements: &[&Option<T>]) -> Result<Vec<u8>, AllocError>
     ensures { IfOk result (λ mask. mask.items
         ≡ map (λ element. from_bool (is_some element.now)) elements.now) }
 {
@@ -37,7 +39,7 @@ fn flags<T>(alloc: Global, elements: &[&Option<T>]) -> Result<Vec<u8>, AllocErro
 }
 
 /// The values without the nones.
-fn present_values<'e, T>(
+pub(super) fn present_values<'e, T>(
     alloc: Global,
     elements: &[&'e Option<T>],
 ) -> Result<Vec<&'e T>, AllocError>
@@ -54,7 +56,7 @@ fn present_values<'e, T>(
 }
 
 /// None for each flag that is 0, and for another one the next value.
-fn spread_values<T: Element>(
+pub(super) fn spread_values<T: Element>(
     alloc: Global,
     mask: &[u8],
     values: Vec<T>,
@@ -68,6 +70,27 @@ fn spread_values<T: Element>(
         elements.push(if *flag == 0 { None } else { rest.next() })?;
     }
     Ok(elements)
+}
+
+/// The present values under a mask of these flags.
+pub(super) fn under_flags(
+    alloc: Global,
+    inner: &DataType,
+    mask: Vec<u8>,
+    present: &ArrayBytes<'_>,
+) -> Result<ArrayBytes<'static>, AllocError>
+    requires flags { All (λ flag. flag < 2) mask.items }
+    requires present { HasCells (kind inner.now) (data_of present.now)
+        (count_by flag_set mask.items) }
+    ensures { IfOk result (λ made. IfSome (cells (kind inner.now) (data_of present.now))
+        (λ ds. cells (optional (kind inner.now)) (data_of made)
+        ≡ Some (spread_cells mask.items ds))) }
+{
+    // Data of more bytes than a `u64` counts is in no memory.
+    if mask.len().checked_mul(inner.cell_size()).is_none() {
+        return Err(AllocError);
+    }
+    ArrayBytes::from_present(alloc, inner, mask, present)
 }
 
 impl<T: Element> Element for Option<T> {
@@ -87,8 +110,7 @@ impl<T: Element> Element for Option<T> {
         data_type: &DataType,
         elements: &'a [Option<T>],
     ) -> Result<ArrayBytes<'a>, ElementError> {
-        let lent = lent(alloc, elements)?;
-        let made = <Option<T> as Element>::lent_to_array_bytes(alloc, data_type, &lent)?;
+        let made = T::options_to_array_bytes(alloc, data_type, elements)?;
         Ok(made.into_owned(alloc)?)
     }
 
@@ -102,12 +124,8 @@ impl<T: Element> Element for Option<T> {
         };
         let values = present_values(alloc, elements)?;
         let present = T::lent_to_array_bytes(alloc, inner, &values)?;
-        // Data of more bytes than a `u64` counts is in no memory.
-        if elements.len().checked_mul(inner.cell_size()).is_none() {
-            return Err(ElementError::OutOfMemory);
-        }
         let mask = flags(alloc, elements)?;
-        Ok(ArrayBytes::from_present(alloc, inner, mask, &present)?)
+        Ok(under_flags(alloc, inner, mask, &present)?)
     }
 }
 
@@ -117,18 +135,6 @@ impl<T: ElementOwned> ElementOwned for Option<T> {
         data_type: &DataType,
         array_bytes: ArrayBytes<'_>,
     ) -> Result<Vec<Option<T>>, ElementError> {
-        let Some(inner) = data_type.optional_inner() else {
-            return Err(ElementError::IncompatibleElementType);
-        };
-        let ArrayBytes::Optional(optional) = &array_bytes else {
-            return Err(ElementError::IncompatibleElementType);
-        };
-        let mask = optional.mask();
-        if !array_bytes.validate(data_type, mask.len() as u64) {
-            return Err(ElementError::IncompatibleElementType);
-        }
-        let present = optional.present(alloc, inner)?;
-        let values = T::from_array_bytes(alloc, inner, present)?;
-        Ok(spread_values(alloc, mask, values)?)
+        T::options_from_array_bytes(alloc, data_type, array_bytes)
     }
 }

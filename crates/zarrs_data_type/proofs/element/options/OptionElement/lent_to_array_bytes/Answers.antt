@@ -7,12 +7,12 @@ use Rattle.zarrs_array_bytes.specs.Cells.{cells}
 use Rattle.zarrs_data_type.proofs.OptionCells.{flags-below, values-present, values-written}
 use Rattle.zarrs_data_type.proofs.element.options.OptionElement.lent_to_array_bytes.Goals as goal
 
-pub from_present-requires-clause-flags : goal.from_present-requires-clause-flags
-from_present-requires-clause-flags g c =
+pub under_flags-requires-clause-flags : goal.under_flags-requires-clause-flags
+under_flags-requires-clause-flags g c =
     subst (λ l. All (λ flag. flag < 2) l) (sym c.in_ok-mask.ensures) (flags-below (λ e. e.now) c.args.elements.now)
 
-pub from_present-requires-clause-present : goal.from_present-requires-clause-present
-from_present-requires-clause-present g c =
+pub under_flags-requires-clause-present : goal.under_flags-requires-clause-present
+under_flags-requires-clause-present g c =
     let u = kind c.in-Some.inner.now in
     let lent = c.args.elements.now in
     let held : cells u (data_of c.in_ok-present.present) ≡ Some (map g.T.Element.cell (filter_map (λ e. e.now) lent)) =
@@ -27,5 +27,5 @@ returns-clause-cells g c =
     let held : cells u (data_of c.in_ok-present.present) ≡ Some (map g.T.Element.cell (filter_map (λ e. e.now) lent)) =
     c.in_ok-present.ensures.cells ∙ ap (λ l. Some (map g.T.Element.cell (map (λ v. v.now) l))) c.deref.ensures.value ∙ ap (λ l. Some (map g.T.Element.cell l)) c.in_ok-values.ensures in
     let inner : inner_of k ≡ Some u = sym c.optional_inner.ensures ∙ ap (option_map (λ i. kind i.now)) c.in-Some.is in
-    values-written (λ e. e.now) g.T.Element.cell k u lent c.in_ok-mask.mask.items (data_of c.in_ok-present.present) (data_of c.in_ok-from_present.field-0)
-    inner c.in_ok-mask.ensures held c.in_ok-from_present.ensures
+    values-written (λ e. e.now) g.T.Element.cell k u lent c.in_ok-mask.mask.items (data_of c.in_ok-present.present) (data_of c.in_ok-under_flags.field-0)
+    inner c.in_ok-mask.ensures held c.in_ok-under_flags.ensures

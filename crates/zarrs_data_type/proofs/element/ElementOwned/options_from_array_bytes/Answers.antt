@@ -6,7 +6,7 @@ use Rattle.zarrs_array_bytes.specs.Cells.{cells, HasCells}
 use Rattle.zarrs_array_bytes.specs.Present.{spread_cells}
 use Rattle.zarrs_data_type.specs.Elements.{option_cell}
 use Rattle.zarrs_data_type.proofs.OptionCells.{values-read, values-unread}
-use Rattle.zarrs_data_type.proofs.element.options.OptionElementOwned.from_array_bytes.Goals as goal
+use Rattle.zarrs_data_type.proofs.element.ElementOwned.options_from_array_bytes.Goals as goal
 
 pub returns-then-not-validate-clause-refused : goal.returns-then-not-validate-clause-refused
 returns-then-not-validate-clause-refused g c = λ served.
@@ -26,8 +26,8 @@ returns-clause-cells g c =
     let valid : HasCells k (data_of c.args.array_bytes) (length c.mask-mask.result.now) = c.validate.ensures.0 c.if-not-validate.false in
     let has : HasCells k (optional (mask_of held) (inner_data held)) (length (mask_of held)) =
     subst (λ d. HasCells k (data_of d) (length (mask_of held))) c.in-Optional.is (subst (λ n. HasCells k (data_of c.args.array_bytes) (length n)) c.mask-mask.ensures.mask valid) in
-    let spread : map (option_cell g.T.Element.cell) c.in_ok-spread_values.field-0.items ≡ spread_cells (mask_of held) (map g.T.Element.cell c.in_ok-values.values.items) =
-    c.in_ok-spread_values.ensures ∙ ap (λ m. spread_cells m (map g.T.Element.cell c.in_ok-values.values.items)) c.mask-mask.ensures.mask in
+    let spread : map (option_cell g.Self.Element.cell) c.in_ok-spread_values.field-0.items ≡ spread_cells (mask_of held) (map g.Self.Element.cell c.in_ok-values.values.items) =
+    c.in_ok-spread_values.ensures ∙ ap (λ m. spread_cells m (map g.Self.Element.cell c.in_ok-values.values.items)) c.mask-mask.ensures.mask in
     ap (λ d. cells k (data_of d)) c.in-Optional.is
-    ∙ values-read k u (mask_of held) (inner_data held) (data_of c.in_ok-present.present) (map g.T.Element.cell c.in_ok-values.values.items)
-    (map (option_cell g.T.Element.cell) c.in_ok-spread_values.field-0.items) inner has c.in_ok-present.ensures c.in_ok-values.ensures.cells spread
+    ∙ values-read k u (mask_of held) (inner_data held) (data_of c.in_ok-present.present) (map g.Self.Element.cell c.in_ok-values.values.items)
+    (map (option_cell g.Self.Element.cell) c.in_ok-spread_values.field-0.items) inner has c.in_ok-present.ensures c.in_ok-values.ensures.cells spread
