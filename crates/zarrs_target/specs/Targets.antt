@@ -1,6 +1,7 @@
 -- Targets as boxes and lists, and writes to a box of data.
 use Rattle.std.specs.Prelude.{◌≡◌, ℕ, zero, suc, ◌*◌, ◌<◌, ◌^◌, ◌==◌, ◌&&◌, Bool, false, List, length, take, drop, slice_index, None, Some, if◌then◌else◌}
-use Rattle.zarrs_subset.specs.Boxes.{position_count}
+use Rattle.std.specs.List.{repeat}
+use Rattle.zarrs_subset.specs.Boxes.{InShape, is_within, place, position_count}
 use Rattle.zarrs_subset.specs.Pieces.{piece_at}
 use Rattle.zarrs_subset.specs.Regions.{Box, Holds, LiesInShape, in_box, place_in}
 use Rattle.zarrs_types.specs.Kind.{Kind, fixed_size, optional}
@@ -66,3 +67,15 @@ abbrev pub FillsBox : Kind → Box → Box → Cell → ArrayData → ArrayData 
 FillsBox k box other cell old new =
     (position : List ℕ) → Holds box position
     → cell_at k new (place_in box position) ≡ (if in_box other position then cell else cell_at k old (place_in box position))
+
+-- the data of one cell, so many times, level by level
+abbrev pub repeated : ℕ → ArrayData → ArrayData
+repeated n (fixed bytes) = fixed (repeat n bytes)
+repeated n (variable strings) = variable strings
+repeated n (held.optional mask inner) = held.optional (repeat n mask) (repeated n inner)
+
+-- the new pieces of an array of this shape are the old ones, except those of the box, each of which is this one
+abbrev pub IsFilledBox : ℕ → List ℕ → List ℕ → List ℕ → List ℕ → List ℕ → List ℕ → Type 0
+IsFilledBox size shape start extents piece old new =
+    (position : List ℕ) → InShape shape position
+    → piece_at size new (place shape position) ≡ (if is_within start extents position then piece else piece_at size old (place shape position))

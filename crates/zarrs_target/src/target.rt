@@ -1,24 +1,30 @@
 //! A box of an array of cells that a caller lends to be written.
 ghost use Rattle.std.specs.Prelude.{◌≡◌, ◌↔◌, ◌*◌, ◌==◌, true, IfOk, IsOk, IsTrue, IsSome, OnErr, OnOk, length};
-ghost use Rattle.std.specs.Prelude.{◌≤◌, [], drop, slice_index, take};
+ghost use Rattle.std.specs.Prelude.{◌≤◌, ◌<◌, ◌+◌, ◌^◌, [], drop, slice_index, take};
+ghost use Rattle.std.specs.List.{repeat};
 ghost use Rattle.zarrs_array_bytes.specs.ArrayData.{data_of};
 ghost use Rattle.zarrs_array_bytes.specs.Cells.{fits};
 ghost use Rattle.zarrs_array_bytes.specs.Parts.{TakesAt, TakesEach};
-ghost use Rattle.zarrs_subset.specs.Boxes.{position_count};
+ghost use Rattle.zarrs_subset.specs.Boxes.{BoxFits, InShape, offset_by, place, position_count, unravel};
 ghost use Rattle.zarrs_subset.specs.Pieces.{piece_at};
 ghost use Rattle.zarrs_subset.specs.Regions.{LiesInShape, box_of, box_at_origin};
 ghost use Rattle.zarrs_types.specs.Cell.{fill_cell, fill_of};
 ghost use Rattle.zarrs_types.specs.Kind.{Kind, kind};
 ghost use Rattle.zarrs_byte_strings.specs.StringParts.{LiesInBox};
 ghost use Rattle.zarrs_target.specs.Targets.{FillsBox, HasLevels, IsTargetOver, TakesLevels};
-ghost use Rattle.zarrs_target.specs.Targets.{depth_of, masked, takes_type};
+ghost use Rattle.zarrs_target.specs.Targets.{IsFilledBox, depth_of, masked, repeated, takes_type};
 
 use std::alloc::{AllocError, Global};
 use std::mem;
 use zarrs_array_bytes::ArrayBytes;
 use zarrs_data_type::ArrayBytesFixedDisjointViewCreateError;
-use zarrs_subset::{ArraySubset, ArraySubsetTraits, element_count, place_part};
+use zarrs_subset::{
+    ArraySubset, ArraySubsetTraits, Corner, copy_box, element_count, ravel_indices,
+};
 use zarrs_types::{DataType, FillValue};
+
+/// What a fill copies at a time grows to this length, so that it stays in the nearest cache while it is copied.
+const BLOCK_LEN: usize = 16384;
 
 /// The box `region` of an array of `parent_shape`, which a caller lends to be written.
 ///
@@ -282,9 +288,10 @@ impl<'a, 'm, 'r> ArrayBytesDecodeIntoTarget<'a, 'm, 'r> {
         let Some(count) = element_count(self.parent_shape) else {
             unreachable!()
         };
-        let parent = ArraySubset::new_with_shape(alloc, self.parent_shape.to_vec(alloc)?)?;
+        let origin = vec![in alloc; 0u64; self.parent_shape.len()]?;
         let place = Place {
-            parent: &parent,
+            shape: self.parent_shape,
+            origin: origin.as_slice(),
             region: self.region,
             count: count as usize,
             cell_size: self.cell_size,
@@ -329,8 +336,10 @@ fn has_levels(region_data: &ArrayBytes<'_>, depth: usize, size: usize, count: u6
 /// Where a target's box lies.
 #[derive(Clone, Copy)]
 struct Place<'r> {
-    /// All positions of the parent.
-    parent: &'r ArraySubset,
+    /// The shape of the parent.
+    shape: &'r [u64],
+    /// The first position of the parent, or nothing for a fill, which does not read it.
+    origin: &'r [u64],
     /// The box.
     region: &'r ArraySubset,
     /// The number of positions of the parent.
@@ -347,14 +356,14 @@ fn write_levels(
     masks: &mut [u8],
     bytes: &mut [u8],
 )
-    requires dimensions { length (box_of place.now.parent.now).start
-        ≡ length (box_of place.now.region.now).start }
-    requires count { place.now.count ≡ position_count (box_of place.now.parent.now).shape }
+    requires origin { place.now.origin.now ≡ (box_at_origin place.now.shape.now).start }
+    requires inside { LiesInShape (box_of place.now.region.now) place.now.shape.now }
+    requires count { place.now.count ≡ position_count place.now.shape.now }
     requires data { HasLevels depth place.now.cell_size
         (position_count (box_of place.now.region.now).shape) (data_of region_data.now) }
     requires bytes_len { length bytes.old ≡ place.now.count * place.now.cell_size }
     requires masks_len { length masks.old ≡ place.now.count * depth }
-    ensures { TakesLevels place.now.cell_size (box_of place.now.parent.now)
+    ensures { TakesLevels place.now.cell_size (box_at_origin place.now.shape.now)
         (box_of place.now.region.now) (data_of region_data.now)
         (masked depth place.now.count masks.old bytes.old)
         (masked depth place.now.count masks.new bytes.new) }
@@ -374,12 +383,12 @@ fn write_levels(
 
 /// Writes the outermost mask. The others stay.
 fn write_mask(place: &Place<'_>, masks: &mut [u8], mask: &[u8])
-    requires dimensions { length (box_of place.now.parent.now).start
-        ≡ length (box_of place.now.region.now).start }
-    requires count { place.now.count ≡ position_count (box_of place.now.parent.now).shape }
+    requires origin { place.now.origin.now ≡ (box_at_origin place.now.shape.now).start }
+    requires inside { LiesInShape (box_of place.now.region.now) place.now.shape.now }
+    requires count { place.now.count ≡ position_count place.now.shape.now }
     requires masks_len { place.now.count ≤ length masks.old }
     requires mask_len { length mask.now ≡ position_count (box_of place.now.region.now).shape }
-    ensures written { TakesAt (box_of place.now.parent.now) (box_of place.now.region.now)
+    ensures written { TakesAt (box_at_origin place.now.shape.now) (box_of place.now.region.now)
         (slice_index mask.now) (slice_index (take place.now.count masks.old))
         (slice_index (take place.now.count masks.new)) }
     ensures room { place.now.count ≤ length masks.new }
@@ -390,16 +399,24 @@ fn write_mask(place: &Place<'_>, masks: &mut [u8], mask: &[u8])
 
 /// Writes the bytes of one level, so many for each position of the box.
 fn write_part(place: &Place<'_>, target: &mut [u8], part: &[u8], size: usize)
-    requires dimensions { length (box_of place.now.parent.now).start
-        ≡ length (box_of place.now.region.now).start }
-    requires target_len { length target.old
-        ≡ position_count (box_of place.now.parent.now).shape * size }
+    requires origin { place.now.origin.now ≡ (box_at_origin place.now.shape.now).start }
+    requires inside { LiesInShape (box_of place.now.region.now) place.now.shape.now }
+    requires target_len { length target.old ≡ position_count place.now.shape.now * size }
     requires part_len { length part.now
         ≡ position_count (box_of place.now.region.now).shape * size }
-    ensures { TakesAt (box_of place.now.parent.now) (box_of place.now.region.now)
+    ensures { TakesAt (box_at_origin place.now.shape.now) (box_of place.now.region.now)
         (piece_at size part.now) (piece_at size target.old) (piece_at size target.new) }
 {
-    place_part(place.parent, target, place.region, part, size);
+    let extents = place.region.shape();
+    let from = Corner {
+        shape: extents,
+        start: place.origin,
+    };
+    let to = Corner {
+        shape: place.shape,
+        start: place.region.start(),
+    };
+    copy_box(part, from, target, to, extents, size);
 }
 
 ghost use Rattle.zarrs_target.specs.States.{IsTarget, SameBox, StaysOutside, data_of_target};
@@ -429,9 +446,195 @@ pub fn copy_fill_value_into(
     ensures kept_bytes { OnErr result (target.new.bytes.now ≡ target.old.bytes.now) }
     ensures kept_masks { OnErr result (target.new.masks.now ≡ target.old.masks.now) }
 {
-    let Ok(count) = target.region.num_elements() else {
-        unreachable!()
+    let place = Place {
+        shape: target.parent_shape,
+        origin: &[],
+        region: target.region,
+        count: positions(target.parent_shape),
+        cell_size: target.cell_size,
     };
-    let data = ArrayBytes::new_fill_value(alloc, data_type, count, fill_value)?;
-    target.write_cells(alloc, &data)
+    let cell = ArrayBytes::new_fill_value(alloc, data_type, 1, fill_value)?;
+    fill_levels(&cell, target.depth, &place, target.masks, target.bytes);
+    Ok(())
+}
+
+/// Fills the box level by level with the one cell of `cell`.
+fn fill_levels(
+    cell: &ArrayBytes<'_>,
+    depth: usize,
+    place: &Place<'_>,
+    masks: &mut [u8],
+    bytes: &mut [u8],
+)
+    requires inside { LiesInShape (box_of place.now.region.now) place.now.shape.now }
+    requires count { place.now.count ≡ position_count place.now.shape.now }
+    requires counted { position_count place.now.shape.now < 2 ^ 64 }
+    requires data { HasLevels depth place.now.cell_size 1 (data_of cell.now) }
+    requires bytes_len { length bytes.old ≡ place.now.count * place.now.cell_size }
+    requires masks_len { length masks.old ≡ place.now.count * depth }
+    ensures { TakesLevels place.now.cell_size (box_at_origin place.now.shape.now)
+        (box_of place.now.region.now)
+        (repeated (position_count (box_of place.now.region.now).shape) (data_of cell.now))
+        (masked depth place.now.count masks.old bytes.old)
+        (masked depth place.now.count masks.new bytes.new) }
+{
+    match cell {
+        ArrayBytes::Fixed(piece) => fill_part(place, bytes, piece.as_slice()),
+        ArrayBytes::Optional(optional) => {
+            fill_mask(place, masks, optional.mask());
+            let rest = &mut masks[place.count..];
+            fill_levels(optional.data(), depth - 1, place, rest, bytes);
+        }
+        ArrayBytes::Variable(_) => unreachable!(),
+    }
+}
+
+/// Fills the box of the outermost mask with the one flag of `flag`. The others stay.
+fn fill_mask(place: &Place<'_>, masks: &mut [u8], flag: &[u8])
+    requires inside { LiesInShape (box_of place.now.region.now) place.now.shape.now }
+    requires count { place.now.count ≡ position_count place.now.shape.now }
+    requires counted { position_count place.now.shape.now < 2 ^ 64 }
+    requires masks_len { place.now.count ≤ length masks.old }
+    requires flag_len { length flag.now ≡ 1 }
+    ensures filled { TakesAt (box_at_origin place.now.shape.now) (box_of place.now.region.now)
+        (slice_index (repeat (position_count (box_of place.now.region.now).shape) flag.now))
+        (slice_index (take place.now.count masks.old))
+        (slice_index (take place.now.count masks.new)) }
+    ensures room { place.now.count ≤ length masks.new }
+    ensures others { drop place.now.count masks.new ≡ drop place.now.count masks.old }
+{
+    fill_part(place, &mut masks[..place.count], flag);
+}
+
+/// Writes the piece to each position of the box, in rows that lie together in the parent.
+fn fill_part(place: &Place<'_>, target: &mut [u8], piece: &[u8])
+    requires inside { LiesInShape (box_of place.now.region.now) place.now.shape.now }
+    requires count { place.now.count ≡ position_count place.now.shape.now }
+    requires counted { position_count place.now.shape.now < 2 ^ 64 }
+    requires target_len { length target.old ≡ place.now.count * length piece.now }
+    ensures { TakesAt (box_at_origin place.now.shape.now) (box_of place.now.region.now)
+        (piece_at (length piece.now)
+        (repeat (position_count (box_of place.now.region.now).shape) piece.now))
+        (piece_at (length piece.now) target.old) (piece_at (length piece.now) target.new) }
+{
+    if place.region.is_empty() {
+        return;
+    }
+    fill_rows(
+        place.shape,
+        place.region.start(),
+        place.region.shape(),
+        target,
+        piece,
+    );
+}
+
+/// The same, for a box that has positions: the parent's shape, and where the box lies in it.
+fn fill_rows(shape: &[u64], start: &[u64], extents: &[u64], target: &mut [u8], piece: &[u8])
+    requires long { length start.now ≡ length shape.now }
+    requires dimensions { length shape.now ≡ length extents.now }
+    requires fits { BoxFits start.now extents.now shape.now }
+    requires counted { position_count shape.now < 2 ^ 64 }
+    requires some { 0 < position_count extents.now }
+    requires target_len { length target.old ≡ position_count shape.now * length piece.now }
+    ensures { IsFilledBox (length piece.now) shape.now start.now extents.now piece.now
+        target.old target.new }
+{
+    let axis = row_axis(shape, extents);
+    let stride = positions(&shape[axis..]);
+    let first = number_of(&start[axis..], &shape[axis..]);
+    let len = positions(&extents[axis..]);
+    let size = piece.len();
+    for row in 0..positions(&extents[..axis]) {
+        let block = row_block(
+            row as u64,
+            &shape[..axis],
+            &start[..axis],
+            &extents[..axis],
+        ) as usize;
+        let from = (block * stride + first) * size;
+        fill_run(&mut target[from..from + len * size], piece, len);
+    }
+}
+
+/// The dimension from which on a row of the box lies together: the last one that is not whole, or the first.
+fn row_axis(shape: &[u64], extents: &[u64]) -> usize
+    requires long { length shape.now ≡ length extents.now }
+    ensures within { result ≤ length shape.now }
+    ensures whole { drop (result + 1) shape.now ≡ drop (result + 1) extents.now }
+{
+    let mut axis = shape.len();
+    while axis > 0 {
+        axis -= 1;
+        if shape[axis] != extents[axis] {
+            return axis;
+        }
+    }
+    axis
+}
+
+/// The row-major number, in an array of this shape, of the position of number `row` of the box.
+fn row_block(row: u64, shape: &[u64], start: &[u64], extents: &[u64]) -> u64
+    requires fits { BoxFits start.now extents.now shape.now }
+    requires counted { position_count shape.now < 2 ^ 64 }
+    requires row { row < position_count extents.now }
+    ensures { result ≡ place shape.now (offset_by start.now (unravel extents.now row)) }
+{
+    let mut rest = row;
+    let mut count: u64 = 1;
+    let mut number: u64 = 0;
+    let mut axis = extents.len();
+    while axis > 0 {
+        axis -= 1;
+        number += (start[axis] + rest % extents[axis]) * count;
+        rest /= extents[axis];
+        count *= shape[axis];
+    }
+    number
+}
+
+/// Writes the piece `count` times, one behind the other. Each copy is as long as what stands there already, up to a
+/// length that stays in the nearest cache.
+fn fill_run(target: &mut [u8], piece: &[u8], count: usize)
+    requires { length target.old ≡ count * length piece.now }
+    ensures { target.new ≡ repeat count piece.now }
+{
+    if target.is_empty() {
+        return;
+    }
+    target[..piece.len()].copy_from_slice(piece);
+    let mut done = piece.len();
+    let mut block = done;
+    while done < target.len() {
+        let (front, rest) = target.split_at_mut(done);
+        let some = block.min(rest.len());
+        rest[..some].copy_from_slice(&front[..some]);
+        done += some;
+        if block < BLOCK_LEN {
+            block = done;
+        }
+    }
+}
+
+/// The number of positions of an array of this shape.
+fn positions(shape: &[u64]) -> usize
+    requires { position_count shape.now < 2 ^ 64 }
+    ensures { result ≡ position_count shape.now }
+{
+    match element_count(shape) {
+        Some(count) => count as usize,
+        None => unreachable!(),
+    }
+}
+
+/// The row-major number of a position of an array of this shape.
+fn number_of(position: &[u64], shape: &[u64]) -> usize
+    requires inside { InShape shape.now position.now }
+    requires counted { position_count shape.now < 2 ^ 64 }
+    ensures { result ≡ place shape.now position.now }
+{
+    match ravel_indices(position, shape) {
+        Some(number) => number as usize,
+        None => unreachable!(),
+    }
 }

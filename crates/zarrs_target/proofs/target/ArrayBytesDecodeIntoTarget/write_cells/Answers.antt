@@ -7,13 +7,8 @@ use Rattle.zarrs_target.proofs.TypeSizes.{type_taken}
 use Rattle.zarrs_target.proofs.Levels.{levels_cells, levels_keep, masked_keeps, masked_levels}
 use Rattle.zarrs_target.proofs.target.ArrayBytesDecodeIntoTarget.write_cells.Goals as goal
 
-pub returns-in_err-to_vec-clause-outside : goal.returns-in_err-to_vec-clause-outside
-returns-in_err-to_vec-clause-outside c =
-    let t = c.args.self.now in
-    masked_keeps t.cell_size (parent_box t) (target_box t) t.depth (position_count t.parent_shape.now) t.masks.now t.bytes.now
-
-pub returns-in_err-parent-clause-outside : goal.returns-in_err-parent-clause-outside
-returns-in_err-parent-clause-outside c =
+pub returns-in_err-origin-clause-outside : goal.returns-in_err-origin-clause-outside
+returns-in_err-origin-clause-outside c =
     let t = c.args.self.now in
     masked_keeps t.cell_size (parent_box t) (target_box t) t.depth (position_count t.parent_shape.now) t.masks.now t.bytes.now
 
