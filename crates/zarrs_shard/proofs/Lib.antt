@@ -10,6 +10,7 @@ pub mod PartialBytes
 pub mod PartialCells
 pub mod Patching
 mod Packed
+mod PlaneRows
 mod PushedCells
 mod RowBlocks
 mod Rewriting

@@ -15,10 +15,10 @@ use Rattle.zarrs_shard.specs.Blocks.{rows_of, AddsCells}
 
 -- ---- the pieces of two lists, one behind the other
 
-piece_front : (size n : ℕ) (a b : List ℕ) (j : ℕ) → length a ≡ n * size → j < n → piece_at size (a ++ b) j ≡ piece_at size a j
+pub piece_front : (size n : ℕ) (a b : List ℕ) (j : ℕ) → length a ≡ n * size → j < n → piece_at size (a ++ b) j ≡ piece_at size a j
 piece_front size n a b j len lt = slice_range-front a b (j * size) (j * size + size) (omega arith) (piece_within a size n j len lt)
 
-piece_past : (size n : ℕ) (a b : List ℕ) (m : ℕ) → length a ≡ n * size → piece_at size (a ++ b) (n + m) ≡ piece_at size b m
+pub piece_past : (size n : ℕ) (a b : List ℕ) (m : ℕ) → length a ≡ n * size → piece_at size (a ++ b) (n + m) ≡ piece_at size b m
 piece_past size n a b m len =
     let at : (n + m) * size ≡ length a + m * size = omega (arith, add-mul n m size) in
     let width : (n + m) * size + size - (n + m) * size ≡ m * size + size - m * size = omega arith in

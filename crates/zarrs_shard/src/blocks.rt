@@ -31,12 +31,73 @@ pub(crate) fn append_cells(
         (box_of subset.now) made.old.items made.new.items) }
     ensures refused { IfErr result (λ _. made.new.items ≡ made.old.items) }
 {
+    if subset.dimensionality() != 2 && is_one_block(subset.shape(), size) {
+        return append_block(made, bytes, size, held_box, subset);
+    }
     let start = made.len();
-    let appended = append_blocks(alloc, made, bytes, size, held_box, subset);
+    let appended = if subset.dimensionality() == 2 {
+        append_rows(made, bytes, size, held_box, subset)
+    } else {
+        append_blocks(alloc, made, bytes, size, held_box, subset)
+    };
     if appended.is_err() {
         made.truncate(start);
     }
     appended
+}
+
+/// The same of a box of two dimensions, row after row, but after a refusal some of the cells may stand behind the bytes.
+fn append_rows(
+    made: &mut Vec<u8>,
+    bytes: &[u8],
+    size: usize,
+    held_box: &ArraySubset,
+    subset: &ArraySubset,
+) -> Result<(), AllocError>
+    requires positive { 0 < size }
+    requires held_len { length bytes.now ≡ position_count (box_of held_box.now).shape * size }
+    requires inside { LiesInBox (box_of subset.now) (box_of held_box.now) }
+    requires plane { length (box_of subset.now).start ≡ 2 }
+    ensures added { IfOk result (λ _. AddsCells size (box_of held_box.now) bytes.now
+        (box_of subset.now) made.old.items made.new.items) }
+    ensures refused { IfErr result
+        (λ _. (more : List ℕ) × (made.new.items ≡ made.old.items ++ more)) }
+{
+    let rows = subset.shape()[0];
+    let mut row = 0;
+    while row < rows {
+        append_row(made, bytes, size, held_box, subset, row)?;
+        row += 1;
+    }
+    Ok(())
+}
+
+/// Puts the cells of a row of the box behind the bytes: they lie together in the array.
+#[inline(always)]
+fn append_row(
+    made: &mut Vec<u8>,
+    bytes: &[u8],
+    size: usize,
+    held_box: &ArraySubset,
+    subset: &ArraySubset,
+    row: u64,
+) -> Result<(), AllocError>
+    requires positive { 0 < size }
+    requires held_len { length bytes.now ≡ position_count (box_of held_box.now).shape * size }
+    requires inside { LiesInBox (box_of subset.now) (box_of held_box.now) }
+    requires plane { length (box_of subset.now).start ≡ 2 }
+    requires row { row < slice_index (box_of subset.now).shape 0 }
+    ensures added { IfOk result (λ _. AddsCells size (box_of held_box.now) bytes.now
+        (rows_of (box_of subset.now) row 1) made.old.items made.new.items) }
+    ensures refused { IfErr result (λ _. made.new.items ≡ made.old.items) }
+{
+    let (start, held_start) = (subset.start(), held_box.start());
+    let above = start[0] - held_start[0] + row;
+    let cell = above * held_box.shape()[1] + (start[1] - held_start[1]);
+    let from = cell as usize * size;
+    let len = subset.shape()[1] as usize * size;
+    made.extend_from_slice(&bytes[from..from + len])?;
+    Ok(())
 }
 
 /// The same, but after a refusal some of the cells may stand behind the bytes.
@@ -95,6 +156,12 @@ fn append_block(
     made.resize(start + len, 0)?;
     place_part(subset, &mut made[start..], held_box, bytes, size);
     Ok(())
+}
+
+/// Whether all cells of a box of this shape are a block.
+fn is_one_block(shape: &[u64], size: usize) -> bool {
+    let count = element_count(shape).unwrap_or(u64::MAX);
+    count.saturating_mul(size as u64) <= BLOCK_LEN
 }
 
 /// How many rows a block has, of a box of this shape: one at least.

@@ -173,7 +173,7 @@ impl Subchunks {
         let Some(index) = unravel_index(alloc, number, &self.grid)? else {
             unreachable!();
         };
-        let start = corner_of(alloc, self.chunk_box.shape(), &self.shape, &index)?;
+        let start = corner_of(self.chunk_box.shape(), &self.shape, index);
         let shape = Vec::from_slice(alloc, &self.shape)?;
         Ok(ArraySubset::new(start, shape))
     }
@@ -427,20 +427,15 @@ fn grid_of(alloc: Global, shape: &[u64], sub: &[u64]) -> Result<ArrayShape, Allo
     Ok(grid)
 }
 
-/// Where the subchunk of these indices starts.
-fn corner_of(
-    alloc: Global,
-    shape: &[u64],
-    sub: &[u64],
-    index: &[u64],
-) -> Result<ArrayIndices, AllocError>
+/// Where the subchunk of these indices starts, in their memory.
+fn corner_of(shape: &[u64], sub: &[u64], index: ArrayIndices) -> ArrayIndices
     requires cut { is_cut_by shape.now sub.now ≡ true }
-    requires index { InShape (quotients shape.now sub.now) index.now }
-    ensures { IfOk result (λ start. start.items ≡ corner sub.now index.now) }
+    requires index { InShape (quotients shape.now sub.now) index.items }
+    ensures { result.items ≡ corner sub.now index.items }
 {
-    let mut start = Vec::with_capacity(alloc, sub.len())?;
+    let mut start = index;
     for axis in 0..sub.len() {
-        start.push(index[axis] * sub[axis])?;
+        start[axis] *= sub[axis];
     }
-    Ok(start)
+    start
 }

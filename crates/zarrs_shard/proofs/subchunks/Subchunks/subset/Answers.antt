@@ -15,9 +15,9 @@ new-requires-clause-same_length c =
     let grid = c.deref.result.now in
     let found = index_found (quotients s sub) grid c.in-Some.index.items c.args.number (c.deref.ensures.value ∙ self.grid_is)
     (subst (λ o. MatchOption o (position_count grid ≤ c.args.number) (λ p. InShape grid p.items × (place grid p.items ≡ c.args.number))) c.in-Some.is c.in_ok-index.ensures) in
-    ap length (c.in_ok-start.ensures ∙ ap (λ x. corner x c.deref-3.result.now) c.deref-2.ensures.value ∙ ap (corner sub) c.deref-3.ensures.value)
+    ap length (c.corner_of-start.ensures ∙ ap (λ x. corner x c.in-Some.index.items) c.deref-2.ensures.value)
     ∙ long_corner s sub c.in-Some.index.items self.cut found.0
-    ∙ ap length (sym (c.in_ok-shape.ensures.items ∙ c.deref-4.ensures.value))
+    ∙ ap length (sym (c.in_ok-shape.ensures.items ∙ c.deref-3.ensures.value))
 
 pub new-requires-clause-ends_fit : goal.new-requires-clause-ends_fit
 new-requires-clause-ends_fit c =
@@ -29,8 +29,8 @@ new-requires-clause-ends_fit c =
     (subst (λ o. MatchOption o (position_count grid ≤ c.args.number) (λ p. InShape grid p.items × (place grid p.items ≡ c.args.number))) c.in-Some.is c.in_ok-index.ensures) in
     let small : (k : ℕ) → slice_index s k < 2 ^ 64 = λ k. omega (arith, self.chunk_box.ends_fit k) in
     subst (λ x. EndsFit x c.in_ok-shape.shape.items)
-    (sym (c.in_ok-start.ensures ∙ ap (λ x. corner x c.deref-3.result.now) c.deref-2.ensures.value ∙ ap (corner sub) c.deref-3.ensures.value))
-    (subst (EndsFit (corner sub c.in-Some.index.items)) (sym (c.in_ok-shape.ensures.items ∙ c.deref-4.ensures.value))
+    (sym (c.corner_of-start.ensures ∙ ap (λ x. corner x c.in-Some.index.items) c.deref-2.ensures.value))
+    (subst (EndsFit (corner sub c.in-Some.index.items)) (sym (c.in_ok-shape.ensures.items ∙ c.deref-3.ensures.value))
     (ends_fit s sub c.in-Some.index.items self.cut found.0 small))
 
 pub returns : goal.returns
@@ -43,5 +43,5 @@ returns c =
     (subst (λ o. MatchOption o (position_count grid ≤ c.args.number) (λ p. InShape grid p.items × (place grid p.items ≡ c.args.number))) c.in-Some.is c.in_ok-index.ensures) in
     c.new.ensures
     ∙ ap (λ x. box_from x c.in_ok-shape.shape.items)
-    (c.in_ok-start.ensures ∙ ap (λ x. corner x c.deref-3.result.now) c.deref-2.ensures.value ∙ ap (corner sub) (c.deref-3.ensures.value ∙ found.1))
-    ∙ ap (box_from (corner sub (unravel (quotients s sub) c.args.number))) (c.in_ok-shape.ensures.items ∙ c.deref-4.ensures.value)
+    (c.corner_of-start.ensures ∙ ap (λ x. corner x c.in-Some.index.items) c.deref-2.ensures.value ∙ ap (corner sub) found.1)
+    ∙ ap (box_from (corner sub (unravel (quotients s sub) c.args.number))) (c.in_ok-shape.ensures.items ∙ c.deref-3.ensures.value)
