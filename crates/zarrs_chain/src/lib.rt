@@ -9,4 +9,4 @@ pub use options::{
     SubchunkWriteOrder,
 };
 pub use traits::ChainTraits;
-pub use zarrs_codec_leaf::CodecError;
+pub use zarrs_codec_leaf::{CodecError, Misfit};

@@ -7,7 +7,7 @@ ghost use Rattle.zarrs_source.specs.Sources.{IsWindow, MayRead, window_bytes};
 ghost use Rattle.zarrs_target.specs.States.{IsTarget, SameBox, StaysOutside, data_of_target};
 ghost use Rattle.zarrs_target.specs.States.{parent_box, target_box};
 ghost use Rattle.zarrs_target.specs.Targets.{takes_type};
-ghost use Rattle.zarrs_parts.specs.Parts.{DecodesInto, DecodesPart};
+ghost use Rattle.zarrs_parts.specs.Parts.{DecodesInto, DecodesPart, DecodesPartAt};
 ghost use Rattle.zarrs_parts.specs.Refusals.{RefusesIntoDecoding, RefusesPartDecoding};
 ghost use Rattle.zarrs_shard.specs.ShardPatches.{change_of};
 ghost use Rattle.zarrs_data_type.specs.Kind.{kind, cell_size};
@@ -147,6 +147,51 @@ pub trait ChainTraits {
             (box_of part.now) ((meaning self.now).decoded (kind data_type.now)
             (fill_of (kind data_type.now) fill_value.now) shape.now
             (window_bytes window (B.bytes source.now))) (data_of made)) }
+        ensures refused { IfErr result (RefusesPartDecoding ((meaning self.now).decoded
+            (kind data_type.now) (fill_of (kind data_type.now) fill_value.now) shape.now
+            (window_bytes window (B.bytes source.now)))
+            ((meaning self.now).leaves_out shape.now (window_bytes window (B.bytes source.now)))
+            (position_count shape.now * held_size (kind data_type.now)
+            (fill_of (kind data_type.now) fill_value.now)) (B.refuses source.now)) };
+
+    /// Decodes a part of a chunk, which has the shape of the target's box, into the box. The chunk's bytes are those of a
+    /// window of a source. No other bytes are read than those that the part needs. Every byte outside the box stays; after
+    /// a refusal the inside is open.
+    ///
+    /// # Errors
+    /// Those of `partial_decode`.
+    fn partial_decode_into<B: ByteSource>(
+        &self,
+        alloc: Global,
+        source: &B,
+        window: Window,
+        part: &ArraySubset,
+        data_type: &DataType,
+        fill_value: &FillValue,
+        shape: &[u64],
+        target: &mut ArrayBytesDecodeIntoTarget<'_, '_, '_>,
+    ) -> Result<(), PartError>
+        requires filled { IsSome (fill_cell (kind data_type.now) fill_value.now) }
+        requires size { position_count shape.now * cell_size (kind data_type.now) < 2 ^ 64 }
+        requires part { LiesInShape (box_of part.now) shape.now }
+        requires window { IsWindow window (B.bytes source.now) }
+        requires may_read { MayRead (B.may_read source.now) window ((meaning self.now).places
+            (kind data_type.now) shape.now (box_of part.now)
+            (window_bytes window (B.bytes source.now))) }
+        requires target { IsTarget target.old }
+        requires takes { takes_type target.old.cell_size target.old.depth (kind data_type.now)
+            ≡ true }
+        requires same_shape { (target_box target.old).shape ≡ (box_of part.now).shape }
+        ensures target { IsTarget target.new }
+        ensures same_bytes { target.new.bytes.ghost_name ≡ target.old.bytes.ghost_name }
+        ensures same_masks { target.new.masks.ghost_name ≡ target.old.masks.ghost_name }
+        ensures same_box { SameBox target.old target.new }
+        ensures cells { OnOk result (DecodesPartAt (kind data_type.now) shape.now (box_of part.now)
+            ((meaning self.now).decoded (kind data_type.now)
+            (fill_of (kind data_type.now) fill_value.now) shape.now
+            (window_bytes window (B.bytes source.now))) (parent_box target.old)
+            (target_box target.old) (data_of_target target.new)) }
+        ensures outside { StaysOutside target.old target.new }
         ensures refused { IfErr result (RefusesPartDecoding ((meaning self.now).decoded
             (kind data_type.now) (fill_of (kind data_type.now) fill_value.now) shape.now
             (window_bytes window (B.bytes source.now)))

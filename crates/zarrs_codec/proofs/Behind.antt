@@ -51,7 +51,7 @@ module _ (a : ArrayMeaning) (m : ChainMeaning) (k : Kind) (s : List ℕ) (fit : 
 
   pub encoding_refusal-behind : (empty : Bool) (f : Cell) (d e : ArrayData) (err : CodecError) → HasCells k d (position_count s) → IfSome (cells k d) (λ cs. cells k e ≡ Some (a.forward s cs))
       → RefusesChunkEncoding m empty k f (a.shape s) e err → RefusesChunkEncoding (through a m) empty k f s d err
-  encoding_refusal-behind empty f d e error.DoesNotFit has made none = ap (λ x. x && m.fits k (a.shape s)) fit ∙ none
+  encoding_refusal-behind empty f d e (error.DoesNotFit _) has made none = ap (λ x. x && m.fits k (a.shape s)) fit ∙ none
   encoding_refusal-behind empty f d e error.SizeOverflow has made none =
       (ap (λ x. x && m.fits k (a.shape s)) fit ∙ none.0, encoding-behind empty f d e has made ∙ none.1)
   encoding_refusal-behind empty f d e error.OutOfMemory has made none = none
@@ -61,7 +61,7 @@ module _ (a : ArrayMeaning) (m : ChainMeaning) (k : Kind) (s : List ℕ) (fit : 
     decoded_at = ap (λ x. cond x (option_and_then (λ cs. Some (a.back s cs)) (m.decoded k f (a.shape s) b)) None) fit
 
     pub decoding_refusal-behind : (err : CodecError) → RefusesChunkDecoding m k f (a.shape s) b err → RefusesChunkDecoding (through a m) k f s b err
-    decoding_refusal-behind error.DoesNotFit none = decoded_at ∙ ap (option_and_then (λ cs. Some (a.back s cs))) none
+    decoding_refusal-behind (error.DoesNotFit _) none = decoded_at ∙ ap (option_and_then (λ cs. Some (a.back s cs))) none
     decoding_refusal-behind error.SizeOverflow large =
         (ap (λ x. x && m.leaves_out (a.shape s) b) fit ∙ large.0, subst (λ n. 2 ^ 64 ≤ n * held_size k f) (law.count s fit) large.1)
     decoding_refusal-behind error.OutOfMemory none = none

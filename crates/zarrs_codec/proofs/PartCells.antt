@@ -147,7 +147,7 @@ module _ (m : ChainMeaning) (k : Kind) (f : Cell) (s sub : List ℕ) where
 
     pub cells_refused : (n : ℕ) (b : List ℕ) (e : CodecError) → is_cut_by s sub ≡ true → length parts ≡ subchunk_count s sub → n < length parts → get_or parts n None ≡ Some b
         → RefusesChunkDecoding m k f sub b e → RefusesCells m k f s sub parts e
-    cells_refused n b error.DoesNotFit cut count lt at why =
+    cells_refused n b (error.DoesNotFit _) cut count lt at why =
         let P = decoded_part m k f sub in
         ap (λ o. o >>= λ xs. values_only k (assembled s sub xs))
         (all_some-none (map P parts) n None (omega (arith, length-map parts P)) (get_or-map P parts n None None lt ∙ ap P at ∙ why))
@@ -172,7 +172,7 @@ module _ (m : ChainMeaning) (at_start : Bool) (k : Kind) (f : Cell) (s sub b : L
       ∙ ap (λ o. o >>= cells_of_parts one k f s sub) read
 
   pub shard_refused : (e : CodecError) → RefusesCells m k f s sub parts e → RefusesChunkDecoding (sharded at_start sub m) k f s b e
-  shard_refused error.DoesNotFit why = shard_cells ∙ why
+  shard_refused (error.DoesNotFit _) why = shard_cells ∙ why
   shard_refused error.SizeOverflow why =
       let left = part_leaves_out (m.leaves_out sub) in
       (and_from (is_cut_by s sub) _ cut (ap (λ o. list_any left (unwrap_or o [])) read ∙ why.0), why.1)

@@ -68,13 +68,13 @@ whole_read may_read window source k s part inside may place from below =
 
 pub chunk_refused : (m : ChainMeaning) (k : Kind) (f : Cell) (s b : List ℕ) (refuses : Bool) (e : CodecError) → RefusesChunkDecoding m k f s b e
     → RefusesPartDecoding (m.decoded k f s b) (m.leaves_out s b) (position_count s * held_size k f) refuses (Codec e)
-chunk_refused m k f s b refuses error.DoesNotFit why = why
+chunk_refused m k f s b refuses (error.DoesNotFit _) why = why
 chunk_refused m k f s b refuses error.SizeOverflow why = why
 chunk_refused m k f s b refuses error.OutOfMemory why = why
 
 -- bytes that leave out no cell
 pub leaf_refused : (dec : Option (List Cell)) (leaves : Bool) (n : ℕ) (refuses : Bool) (e : PartError) → RefusesPartDecoding dec false 0 refuses e → RefusesPartDecoding dec leaves n refuses e
-leaf_refused dec leaves n refuses (Codec error.DoesNotFit) why = why
+leaf_refused dec leaves n refuses (Codec (error.DoesNotFit _)) why = why
 leaf_refused dec leaves n refuses (Codec error.SizeOverflow) why = absurd (false≢true why.0)
 leaf_refused dec leaves n refuses (Codec error.OutOfMemory) why = why
 leaf_refused dec leaves n refuses (Source e) why = why
@@ -93,7 +93,7 @@ other_places (codec.Optional x) may_read window k s part b not_bytes not_shard m
 
 -- a chunk whose cells are in memory is not too large
 pub into_refused : (m : ChainMeaning) (k : Kind) (f : Cell) (s b : List ℕ) (e : CodecError) → position_count s * held_size k f < 2 ^ 64 → RefusesChunkDecoding m k f s b e → RefusesIntoDecoding (m.decoded k f s b) e
-into_refused m k f s b error.DoesNotFit small why = why
+into_refused m k f s b (error.DoesNotFit _) small why = why
 into_refused m k f s b error.SizeOverflow small why = let large : 2 ^ 64 ≤ position_count s * held_size k f = why.1 in absurd (omega arith)
 into_refused m k f s b error.OutOfMemory small why = why
 

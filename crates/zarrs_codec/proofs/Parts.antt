@@ -59,7 +59,7 @@ module _ (m : SubchunkMeaning) (at_start empty : Bool) (f : Cell) (s sub : List 
       ∙ only_if_true (nat_lt (length encoded) (2 ^ 64)) (Some encoded) (lt-ltb (length encoded) (2 ^ 64) small)
 
   pub part_refused : (n : ℕ) (e : CodecError) → sharded_fits m s sub ≡ true → n < subchunk_count s sub → RefusesPart m empty f (subchunk_at s sub cs n) e → RefusesParts m at_start empty f s sub cs e
-  part_refused n error.DoesNotFit fit lt refused = and_right (is_cut_by s sub) m.fits refused
+  part_refused n (error.DoesNotFit _) fit lt refused = and_right (is_cut_by s sub) m.fits refused
   part_refused n error.SizeOverflow fit lt refused =
       only_if_true (sharded_fits m s sub) _ fit ∙ ap (λ o. o >>= written_shard at_start) (no_part m empty f s sub cs (subchunk_count s sub) n lt refused.1)
   part_refused n error.OutOfMemory fit lt refused = refused

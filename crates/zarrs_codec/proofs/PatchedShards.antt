@@ -108,7 +108,7 @@ module _ (m : ChainMeaning) (empty : Bool) (k : Kind) (f : Cell) (s sub : List �
       and_from (is_cut_by s sub) _ cut (ap (λ o. list_any (part_leaves_out (m.leaves_out sub)) (unwrap_or o [])) made ∙ any)
 
   refusal_at : (e : CodecError) → RefusesChanges m empty k f s sub part d parts e → RefusesPartialEncoding (sharded false sub m) empty k f s stored part d e
-  refusal_at error.DoesNotFit why = inr (undecoded stored read why.0 why.1 why.2)
+  refusal_at (error.DoesNotFit _) why = inr (undecoded stored read why.0 why.1 why.2)
   refusal_at error.SizeOverflow why = (and_from (is_cut_by s sub) _ cut fit, go why.0 why.1 why.2)
     where
       go : (j : ℕ) → j < length parts → (changed_part m empty k f s sub part d j (get_or parts j None) ≡ None) ⊎ RefusesHeld m k f sub (get_or parts j None) error.SizeOverflow
@@ -158,7 +158,7 @@ not_counted m at_start empty k f s sub part d stored shape subshape shape_is sub
 -- what is stored is no shard
 pub not_read : (m : ChainMeaning) (at_start : Bool) (empty : Bool) (k : Kind) (f : Cell) (s sub : List ℕ) (part : Box) (d : ArrayData) (stored : Option (List ℕ)) (shape subshape : List ℕ) (count : ℕ)
     → shape ≡ s → subshape ≡ sub → at_start ≡ false → count ≡ subchunk_count shape subshape → stored_parts count stored ≡ None
-    → RefusesPartialEncoding (sharded at_start sub m) empty k f s stored part d error.DoesNotFit
+    → ((sharded at_start sub m).fits k s ≡ false) ⊎ (chunk_cells (sharded at_start sub m) k f s stored ≡ None)
 not_read m at_start empty k f s sub part d stored shape subshape count shape_is sub_is end count_is read =
     let count_here : count ≡ subchunk_count s sub = count_is ∙ ap (λ x. subchunk_count x subshape) shape_is ∙ ap (subchunk_count s) sub_is in
     inr (subst (λ b. chunk_cells (sharded b sub m) k f s stored ≡ None) (sym end) (unread m k f s sub stored (subst (λ j. stored_parts j stored ≡ None) count_here read)))
@@ -177,8 +177,8 @@ alone_leaves m s (Some b) = refl
 pub alone_refusal : (codecs : List ArrayToArrayCodec) (m : ChainMeaning) (empty : Bool) (k : Kind) (f : Cell) (s : List ℕ) (stored : Option (List ℕ)) (part : Box) (d : ArrayData) (e : CodecError) → no_codec codecs ≡ true
     → RefusesPartialEncoding m empty k f s stored part d e → RefusesPartialEncoding (behind codecs m) empty k f s stored part d e
 alone_refusal (c ∷ codecs) m empty k f s stored part d e alone why = absurd (false≢true alone)
-alone_refusal [] m empty k f s stored part d error.DoesNotFit alone (inl apart) = inl apart
-alone_refusal [] m empty k f s stored part d error.DoesNotFit alone (inr none) = inr (same_cells m k f s stored ∙ none)
+alone_refusal [] m empty k f s stored part d (error.DoesNotFit _) alone (inl apart) = inl apart
+alone_refusal [] m empty k f s stored part d (error.DoesNotFit _) alone (inr none) = inr (same_cells m k f s stored ∙ none)
 alone_refusal [] m empty k f s stored part d error.SizeOverflow alone why = (why.0, go why.1)
   where
     go : (partial_encoding m empty k f s stored part d ≡ None) ⊎ ((chunk_leaves_out m s stored ≡ true) × (2 ^ 64 ≤ position_count s * held_size k f))

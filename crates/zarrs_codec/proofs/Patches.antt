@@ -74,13 +74,13 @@ module _ (m : ChainMeaning) (empty : Bool) (k : Kind) (f : Cell) (s sub : List �
 
   pub encode_refused : (number : ℕ) (old : Option (List ℕ)) (held new : ArrayData) (e : CodecError) → m.fits k sub ≡ true → is_met s sub part number ≡ true → cells k held ≡ decoded_part m k f sub old
       → UpdatesSubchunk k s sub part number d held new → RefusesPart (subchunk_meaning m empty k f sub) empty f (cells_of k new) e → RefusesChange m empty k f s sub part d number old e
-  encode_refused number old held new error.DoesNotFit fit meets is u why = absurd (false≢true (sym why ∙ fit))
+  encode_refused number old held new (error.DoesNotFit _) fit meets is u why = absurd (false≢true (sym why ∙ fit))
   encode_refused number old held new error.SizeOverflow fit meets is u why =
       inl (changed_is number old held new meets is u ∙ ap (option_map Some) why.1)
   encode_refused number old held new error.OutOfMemory fit meets is u why = why
 
   pub held_refused : (number : ℕ) (old : Option (List ℕ)) (e : CodecError) → RefusesHeld m k f sub old e → RefusesChange m empty k f s sub part d number old e
-  held_refused number old error.DoesNotFit why = why
+  held_refused number old (error.DoesNotFit _) why = why
   held_refused number old error.SizeOverflow why = inr why
   held_refused number old error.OutOfMemory why = why
 
@@ -115,7 +115,7 @@ module _ (m : ChainMeaning) (empty : Bool) (k : Kind) (f : Cell) (s sub : List �
         }
 
     pub change_refused : (n : ℕ) (e : CodecError) → n < length parts → RefusesChange m empty k f s sub part d n (get_or parts n None) e → RefusesChanges m empty k f s sub part d parts e
-    change_refused n error.DoesNotFit lt why = (n, lt, why)
+    change_refused n (error.DoesNotFit _) lt why = (n, lt, why)
     change_refused n error.SizeOverflow lt why = (n, lt, why)
     change_refused n error.OutOfMemory lt why = why
 

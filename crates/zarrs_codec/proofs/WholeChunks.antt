@@ -13,6 +13,6 @@ use Rattle.zarrs_codec.specs.Chains.{whole_chunk}
 -- its refusal is one of the chain
 pub whole_chunk-refusal : (leaf : LeafMeaning) (k : Kind) (f : Cell) (s b : List ℕ) (e : CodecError)
     → RefusesDecoding leaf k (position_count s) b e → RefusesChunkDecoding (whole_chunk leaf) k f s b e
-whole_chunk-refusal leaf k f s b error.DoesNotFit why = why
+whole_chunk-refusal leaf k f s b (error.DoesNotFit _) why = why
 whole_chunk-refusal leaf k f s b error.SizeOverflow why = absurd why
 whole_chunk-refusal leaf k f s b error.OutOfMemory why = why

@@ -2,6 +2,7 @@ pub mod ChainLaws
 pub mod Chains
 pub mod Metadata
 pub mod PartialShardings
+pub mod ShardPartsInto
 pub mod ShardingBuilders
 pub mod Shardings
 pub mod Through

@@ -53,14 +53,14 @@ pub record HasFirstChanges (m : ChainMeaning) (store_empty : Bool) (k : Kind) (f
 
 -- a subchunk does not decode, or it leaves out cells and one of fill is too large
 abbrev pub RefusesHeld : ChainMeaning → Kind → Cell → (sub : List ℕ) → (old : Option (List ℕ)) → CodecError → Type 0
-RefusesHeld m k f sub old error.DoesNotFit = decoded_part m k f sub old ≡ None
+RefusesHeld m k f sub old (error.DoesNotFit _) = decoded_part m k f sub old ≡ None
 RefusesHeld m k f sub old error.SizeOverflow = (part_leaves_out (m.leaves_out sub) old ≡ true) × (2 ^ 64 ≤ position_count sub * held_size k f)
 RefusesHeld m k f sub old error.OutOfMemory = Unit {0}
 
 -- or what becomes of it is too large
 abbrev pub RefusesChange : ChainMeaning → (store_empty : Bool) → Kind → Cell → (shape sub : List ℕ) → Box → ArrayData → (number : ℕ)
     → (old : Option (List ℕ)) → CodecError → Type 0
-RefusesChange m store_empty k f s sub part d number old error.DoesNotFit = decoded_part m k f sub old ≡ None
+RefusesChange m store_empty k f s sub part d number old (error.DoesNotFit _) = decoded_part m k f sub old ≡ None
 RefusesChange m store_empty k f s sub part d number old error.SizeOverflow =
     (changed_part m store_empty k f s sub part d number old ≡ None) ⊎ (RefusesHeld m k f sub old error.SizeOverflow)
 RefusesChange m store_empty k f s sub part d number old error.OutOfMemory = Unit {0}
@@ -68,7 +68,7 @@ RefusesChange m store_empty k f s sub part d number old error.OutOfMemory = Unit
 -- so of one of the subchunks
 abbrev pub RefusesChanges : ChainMeaning → (store_empty : Bool) → Kind → Cell → (shape sub : List ℕ) → Box → ArrayData
     → (parts : List (Option (List ℕ))) → CodecError → Type 0
-RefusesChanges m store_empty k f s sub part d parts error.DoesNotFit =
+RefusesChanges m store_empty k f s sub part d parts (error.DoesNotFit _) =
     (j : ℕ) × (j < length parts) × (decoded_part m k f sub (slice_index_or parts j None) ≡ None)
 RefusesChanges m store_empty k f s sub part d parts error.SizeOverflow =
     (j : ℕ) × (j < length parts) × RefusesChange m store_empty k f s sub part d j (slice_index_or parts j None) error.SizeOverflow

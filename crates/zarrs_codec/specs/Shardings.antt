@@ -51,13 +51,13 @@ cells_of k d = unwrap_or (cells k d) []
 
 -- the inner chain does not take them, or else a size is too large
 abbrev pub RefusesPart : SubchunkMeaning → Bool → Cell → List Cell → CodecError → Type 0
-RefusesPart m empty f cs error.DoesNotFit = m.fits ≡ false
+RefusesPart m empty f cs (error.DoesNotFit _) = m.fits ≡ false
 RefusesPart m empty f cs error.SizeOverflow = (m.fits ≡ true) × (part_of m empty f cs ≡ None)
 RefusesPart m empty f cs error.OutOfMemory = Unit {0}
 
 -- the chunk is not cut into subchunks that fit, or else a size is too large
 abbrev pub RefusesParts : SubchunkMeaning → (at_start empty : Bool) → Cell → (shape sub : List ℕ) → List Cell → CodecError → Type 0
-RefusesParts m at_start empty f s sub cs error.DoesNotFit = sharded_fits m s sub ≡ false
+RefusesParts m at_start empty f s sub cs (error.DoesNotFit _) = sharded_fits m s sub ≡ false
 RefusesParts m at_start empty f s sub cs error.SizeOverflow = sharded_encoded m at_start empty f s sub cs ≡ None
 RefusesParts m at_start empty f s sub cs error.OutOfMemory = Unit {0}
 
@@ -109,7 +109,7 @@ PutsPart m k f s sub number encoded old new =
 
 -- why it refuses: the parts are those of no cells, or some of them leave out cells, and a chunk of fill is too large
 abbrev pub RefusesCells : ChainMeaning → Kind → Cell → (shape sub : List ℕ) → List (Option (List ℕ)) → CodecError → Type 0
-RefusesCells m k f s sub parts error.DoesNotFit = decoded_parts m k f s sub parts ≡ None
+RefusesCells m k f s sub parts (error.DoesNotFit _) = decoded_parts m k f s sub parts ≡ None
 RefusesCells m k f s sub parts error.SizeOverflow =
     (list_any (part_leaves_out (m.leaves_out sub)) parts ≡ true) × (2 ^ 64 ≤ position_count s * held_size k f)
 RefusesCells m k f s sub parts error.OutOfMemory = Unit {0}

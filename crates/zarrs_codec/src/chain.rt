@@ -17,7 +17,7 @@ use crate::codec::ArrayToBytesCodec;
 use std::alloc::{AllocError, Global};
 use zarrs_chain::{ChainTraits, CodecOptions};
 use zarrs_codec_array::{ArrayToArrayCodec, decode_array, encode_array, encoded_shape};
-use zarrs_codec_leaf::CodecError;
+use zarrs_codec_leaf::{CodecError, Misfit};
 use zarrs_data_type::{ArrayBytes, DataType, FillValue};
 use zarrs_parts::PartError;
 use zarrs_shard::PartialWrite;
@@ -115,7 +115,7 @@ impl CodecChain {
             (data_of bytes.now)) }
     {
         if !self.takes_shape(alloc, shape)? {
-            return Err(CodecError::DoesNotFit);
+            return Err(CodecError::DoesNotFit(Misfit::TypeOrShape));
         }
         let made = encode_array(alloc, &self.array_to_array, bytes, data_type, shape)?;
         self.array_to_bytes.encode(alloc, &made, bytes, data_type)
@@ -142,7 +142,7 @@ impl CodecChain {
             (data_of bytes.entry)) }
     {
         if !self.takes_shape(alloc, shape)? {
-            return Err(CodecError::DoesNotFit);
+            return Err(CodecError::DoesNotFit(Misfit::TypeOrShape));
         }
         let made = encode_array(alloc, &self.array_to_array, &bytes, data_type, shape)?;
         self.array_to_bytes
@@ -168,7 +168,7 @@ impl CodecChain {
             encoded.now) }
     {
         if !self.takes_shape(alloc, shape)? {
-            return Err(CodecError::DoesNotFit);
+            return Err(CodecError::DoesNotFit(Misfit::TypeOrShape));
         }
         let count = element_count(shape).unwrap();
         let array = self
@@ -231,6 +231,22 @@ impl ChainTraits for CodecChain {
         shape: &[u64],
     ) -> Result<ArrayBytes<'static>, PartError> {
         self.partial_decode_chunk(alloc, source, window, part, data_type, fill_value, shape)
+    }
+
+    fn partial_decode_into<B: ByteSource>(
+        &self,
+        alloc: Global,
+        source: &B,
+        window: Window,
+        part: &ArraySubset,
+        data_type: &DataType,
+        fill_value: &FillValue,
+        shape: &[u64],
+        target: &mut ArrayBytesDecodeIntoTarget<'_, '_, '_>,
+    ) -> Result<(), PartError> {
+        self.partial_decode_chunk_into(
+            alloc, source, window, part, data_type, fill_value, shape, target,
+        )
     }
 
     fn decode_into(

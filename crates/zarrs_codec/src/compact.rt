@@ -8,7 +8,7 @@ use crate::codec::ArrayToBytesCodec;
 use crate::sharding::ShardingCodec;
 use std::alloc::Global;
 use zarrs_codec_array::encoded_shape;
-use zarrs_codec_leaf::CodecError;
+use zarrs_codec_leaf::{CodecError, Misfit};
 use zarrs_shard::{CompactError, Subchunks, compact_shard};
 
 impl CodecChain {
@@ -28,7 +28,7 @@ impl CodecChain {
             ArrayToBytesCodec::Sharding(codec) => {
                 match encoded_shape(alloc, &self.array_to_array, shape)? {
                     Some(shape) => codec.compact_chunk(alloc, encoded, &shape),
-                    None => Err(CodecError::DoesNotFit),
+                    None => Err(CodecError::DoesNotFit(Misfit::TypeOrShape)),
                 }
             }
             _ => Ok(None),
@@ -50,16 +50,16 @@ impl ShardingCodec {
     {
         let sub = self.extents(alloc)?;
         let Some(subchunks) = Subchunks::new(alloc, shape, &sub)? else {
-            return Err(CodecError::DoesNotFit);
+            return Err(CodecError::DoesNotFit(Misfit::TypeOrShape));
         };
         let Some(count) = subchunks.count() else {
-            return Err(CodecError::DoesNotFit);
+            return Err(CodecError::DoesNotFit(Misfit::Bytes));
         };
         let at_start = self.index_location().is_at_start();
         match compact_shard(alloc, encoded, count, at_start) {
             Ok(less) => Ok(less),
             Err(CompactError::OutOfMemory) => Err(CodecError::OutOfMemory),
-            Err(CompactError::NoShard) => Err(CodecError::DoesNotFit),
+            Err(CompactError::NoShard) => Err(CodecError::DoesNotFit(Misfit::Bytes)),
             Err(CompactError::TooLong) => Err(CodecError::SizeOverflow),
         }
     }

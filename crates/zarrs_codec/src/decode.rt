@@ -19,7 +19,7 @@ use crate::codec::ArrayToBytesCodec;
 use crate::sharding::ShardingCodec;
 use std::alloc::Global;
 use zarrs_codec_array::{ArrayToArrayCodec, decode_array, encoded_shape};
-use zarrs_codec_leaf::CodecError;
+use zarrs_codec_leaf::{CodecError, Misfit};
 use zarrs_data_type::{ArrayBytes, DataType, FillValue};
 use zarrs_region_cells::RegionCells;
 use zarrs_shard::{SubchunkRange, Subchunks, read_index};
@@ -78,7 +78,7 @@ impl ShardingCodec {
             (fill_of (kind data_type.now) fill_value.now) shape.now encoded.now) }
     {
         let Some(inner) = encoded_shape(alloc, codecs, shape)? else {
-            return Err(CodecError::DoesNotFit);
+            return Err(CodecError::DoesNotFit(Misfit::TypeOrShape));
         };
         let array = self.decode_shard(alloc, encoded, data_type, fill_value, &inner)?;
         // It is owned, and is not copied.
@@ -108,17 +108,17 @@ impl ShardingCodec {
     {
         let sub = self.extents(alloc)?;
         let Some(subchunks) = Subchunks::new(alloc, shape, &sub)? else {
-            return Err(CodecError::DoesNotFit);
+            return Err(CodecError::DoesNotFit(Misfit::TypeOrShape));
         };
         if !self.inner_codecs().fits_chunk(alloc, data_type, &sub)? {
-            return Err(CodecError::DoesNotFit);
+            return Err(CodecError::DoesNotFit(Misfit::TypeOrShape));
         }
         let Some(count) = subchunks.count() else {
-            return Err(CodecError::DoesNotFit);
+            return Err(CodecError::DoesNotFit(Misfit::Bytes));
         };
         let at_start = self.index_location().is_at_start();
         let Some(ranges) = read_index(alloc, encoded, count, at_start)? else {
-            return Err(CodecError::DoesNotFit);
+            return Err(CodecError::DoesNotFit(Misfit::Bytes));
         };
         self.decode_parts(alloc, encoded, &ranges, &subchunks, data_type, fill_value)
     }

@@ -19,7 +19,7 @@ use crate::chain::CodecChain;
 use crate::codec::ArrayToBytesCodec;
 use crate::sharding::ShardingCodec;
 use std::alloc::Global;
-use zarrs_codec_leaf::CodecError;
+use zarrs_codec_leaf::{CodecError, Misfit};
 use zarrs_data_type::{DataType, FillValue};
 use zarrs_parts::{shifted_to, write_whole};
 use zarrs_shard::{SubchunkRange, Subchunks, read_index};
@@ -128,7 +128,7 @@ impl ShardingCodec {
     {
         let sub = self.extents(alloc)?;
         if !self.inner.fits_chunk(alloc, data_type, &sub)? {
-            return Err(CodecError::DoesNotFit);
+            return Err(CodecError::DoesNotFit(Misfit::TypeOrShape));
         }
         let at_start = self.index_location().is_at_start();
         self.decode_cut_into(
@@ -173,13 +173,13 @@ impl ShardingCodec {
     {
         let region = target.region;
         let Some(subchunks) = Subchunks::new(alloc, region.shape(), sub)? else {
-            return Err(CodecError::DoesNotFit);
+            return Err(CodecError::DoesNotFit(Misfit::TypeOrShape));
         };
         let Some(count) = subchunks.count() else {
-            return Err(CodecError::DoesNotFit);
+            return Err(CodecError::DoesNotFit(Misfit::Bytes));
         };
         let Some(ranges) = read_index(alloc, encoded, count, at_start)? else {
-            return Err(CodecError::DoesNotFit);
+            return Err(CodecError::DoesNotFit(Misfit::Bytes));
         };
         for number in 0..count {
             let subset = subchunks.subset(alloc, number)?;

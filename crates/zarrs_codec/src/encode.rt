@@ -22,7 +22,7 @@ use crate::sharding::ShardingCodec;
 use std::alloc::Global;
 use zarrs_chain::CodecOptions;
 use zarrs_codec_array::{ArrayToArrayCodec, encode_array, encoded_shape};
-use zarrs_codec_leaf::{CodecError, Endianness};
+use zarrs_codec_leaf::{CodecError, Endianness, Misfit};
 use zarrs_data_type::{ArrayBytes, DataType, FillValue};
 use zarrs_shard::{ShardWriter, Subchunks};
 
@@ -129,7 +129,7 @@ impl ShardingCodec {
             (fill_of (kind data_type.now) fill_value.now) shape.now (data_of bytes.now)) }
     {
         let Some(inner) = encoded_shape(alloc, codecs, shape)? else {
-            return Err(CodecError::DoesNotFit);
+            return Err(CodecError::DoesNotFit(Misfit::TypeOrShape));
         };
         match encode_array(alloc, codecs, bytes, data_type, shape)? {
             Some(made) => {
@@ -164,10 +164,10 @@ impl ShardingCodec {
     {
         let sub = self.extents(alloc)?;
         let Some(subchunks) = Subchunks::new(alloc, shape, &sub)? else {
-            return Err(CodecError::DoesNotFit);
+            return Err(CodecError::DoesNotFit(Misfit::TypeOrShape));
         };
         if !self.inner_codecs().fits_chunk(alloc, data_type, &sub)? {
-            return Err(CodecError::DoesNotFit);
+            return Err(CodecError::DoesNotFit(Misfit::TypeOrShape));
         }
         self.encode_parts(alloc, bytes, data_type, fill_value, &subchunks, options)
     }

@@ -11,6 +11,7 @@ mod fits;
 pub mod laws;
 mod metadata;
 mod partial_decode;
+mod partial_decode_into;
 mod partial_encode;
 mod sharding;
 mod sharding_builder;
@@ -29,6 +30,7 @@ pub use zarrs_codec_array::{
 };
 pub use zarrs_codec_cells::{CellsCodec, MaskCodec, OptionalCodec};
 pub use zarrs_codec_leaf::{
-    BytesCodec, CodecError, Endianness, PackBitsCodec, VlenBytesCodec, VlenCodec, VlenUtf8Codec,
+    BytesCodec, CodecError, Endianness, Misfit, PackBitsCodec, VlenBytesCodec, VlenCodec,
+    VlenUtf8Codec,
 };
 pub use zarrs_shard::PartialWrite;

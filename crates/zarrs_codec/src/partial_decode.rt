@@ -21,7 +21,7 @@ use crate::chain::CodecChain;
 use crate::codec::ArrayToBytesCodec;
 use crate::sharding::ShardingCodec;
 use std::alloc::Global;
-use zarrs_codec_leaf::CodecError;
+use zarrs_codec_leaf::{CodecError, Misfit};
 use zarrs_data_type::{ArrayBytes, DataType, FillValue};
 use zarrs_parts::{
     PartError, ShardIndex, common_part, met_subchunks, open_shard, part_of_whole,
@@ -199,7 +199,7 @@ impl ShardingCodec {
         };
         let held = RegionCells::new_fill_value(alloc, data_type, count, fill_value)?;
         let Some(index) = open_shard(alloc, source, window, shape, sub, at_start)? else {
-            return Err(PartError::Codec(CodecError::DoesNotFit));
+            return Err(PartError::Codec(CodecError::DoesNotFit(Misfit::Bytes)));
         };
         self.read_subchunks(
             at_start, sub, alloc, source, window, &index, part, data_type, fill_value, shape, held,

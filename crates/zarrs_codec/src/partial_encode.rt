@@ -25,7 +25,7 @@ use crate::codec::ArrayToBytesCodec;
 use crate::sharding::ShardingCodec;
 use std::alloc::Global;
 use zarrs_chain::CodecOptions;
-use zarrs_codec_leaf::CodecError;
+use zarrs_codec_leaf::{CodecError, Misfit};
 use zarrs_data_type::{ArrayBytes, DataType, FillValue};
 use zarrs_shard::{PartialWrite, ShardPatch, SubchunkRange, Subchunks, stored_ranges};
 use zarrs_subset::ArraySubset;
@@ -114,16 +114,16 @@ impl ShardingCodec {
     {
         let sub = self.extents(alloc)?;
         let Some(subchunks) = Subchunks::new(alloc, shape, &sub)? else {
-            return Err(CodecError::DoesNotFit);
+            return Err(CodecError::DoesNotFit(Misfit::TypeOrShape));
         };
         if !self.inner_codecs().fits_chunk(alloc, data_type, &sub)? {
-            return Err(CodecError::DoesNotFit);
+            return Err(CodecError::DoesNotFit(Misfit::TypeOrShape));
         }
         let Some(count) = subchunks.indexed_count() else {
             return Err(CodecError::SizeOverflow);
         };
         let Some(ranges) = stored_ranges(alloc, stored, count)? else {
-            return Err(CodecError::DoesNotFit);
+            return Err(CodecError::DoesNotFit(Misfit::Bytes));
         };
         self.patched(
             alloc, stored, &ranges, &subchunks, part, bytes, data_type, fill_value, options,

@@ -8,7 +8,7 @@ mod vlen;
 mod vlen_strings;
 
 pub use bytes::{BytesCodec, Endianness};
-pub use error::CodecError;
+pub use error::{CodecError, Misfit};
 pub use packbits::PackBitsCodec;
 pub use vlen::VlenCodec;
 pub use vlen_strings::{VlenBytesCodec, VlenUtf8Codec};

@@ -8,7 +8,7 @@ ghost use Rattle.zarrs_codec_leaf.specs.PackBits.{packed_byte};
 ghost use Rattle.zarrs_codec_leaf.specs.Refusals.{RefusesEncoding, RefusesDecoding};
 ghost use Rattle.zarrs_codec_leaf.specs.Leaf.{encoding_of};
 
-use crate::error::CodecError;
+use crate::error::{CodecError, Misfit};
 use std::alloc::{AllocError, Global};
 use std::borrow::CowSlice;
 use zarrs_data_type::{ArrayBytes, DataType};
@@ -46,12 +46,12 @@ impl PackBitsCodec {
             (data_of bytes.now)) }
     {
         if !self.takes(data_type) {
-            return Err(CodecError::DoesNotFit);
+            return Err(CodecError::DoesNotFit(Misfit::TypeOrShape));
         }
         match bytes {
             ArrayBytes::Fixed(bytes) => Ok(packed(alloc, bytes.as_slice())?),
-            ArrayBytes::Variable(_) => Err(CodecError::DoesNotFit),
-            ArrayBytes::Optional(_) => Err(CodecError::DoesNotFit),
+            ArrayBytes::Variable(_) => Err(CodecError::DoesNotFit(Misfit::NoValue)),
+            ArrayBytes::Optional(_) => Err(CodecError::DoesNotFit(Misfit::NoValue)),
         }
     }
 
@@ -75,15 +75,15 @@ impl PackBitsCodec {
             encoded.now) }
     {
         if !self.takes(data_type) {
-            return Err(CodecError::DoesNotFit);
+            return Err(CodecError::DoesNotFit(Misfit::TypeOrShape));
         }
         if encoded.len() as u64 != count.div_ceil(8) {
-            return Err(CodecError::DoesNotFit);
+            return Err(CodecError::DoesNotFit(Misfit::Bytes));
         }
         let mut flags = written::<Bits, u8, 8>(alloc, encoded)?;
         let (_, padding) = flags.as_slice().split_at(count as usize);
         if !are_zero(padding) {
-            return Err(CodecError::DoesNotFit);
+            return Err(CodecError::DoesNotFit(Misfit::Bytes));
         }
         flags.truncate(count as usize);
         Ok(ArrayBytes::Fixed(CowSlice::Owned(flags)))

@@ -11,7 +11,7 @@ ghost use Rattle.zarrs_codec_leaf.specs.Vlen.{cut, indexed, split_index, unindex
 ghost use Rattle.zarrs_codec_leaf.specs.Refusals.{RefusesEncoding, RefusesDecoding};
 ghost use Rattle.zarrs_codec_leaf.specs.Leaf.{encoding_of};
 
-use crate::error::CodecError;
+use crate::error::{CodecError, Misfit};
 use std::alloc::{AllocError, Global};
 use std::borrow::CowSlice;
 use zarrs_data_type::{ArrayBytes, ArrayBytesOffsets, ArrayBytesVariableLength, DataType};
@@ -47,7 +47,7 @@ impl VlenCodec {
             (data_of bytes.now)) }
     {
         if !self.takes(data_type) {
-            return Err(CodecError::DoesNotFit);
+            return Err(CodecError::DoesNotFit(Misfit::TypeOrShape));
         }
         match bytes {
             ArrayBytes::Variable(strings) => {
@@ -57,8 +57,8 @@ impl VlenCodec {
                     None => Err(CodecError::SizeOverflow),
                 }
             }
-            ArrayBytes::Fixed(_) => Err(CodecError::DoesNotFit),
-            ArrayBytes::Optional(_) => Err(CodecError::DoesNotFit),
+            ArrayBytes::Fixed(_) => Err(CodecError::DoesNotFit(Misfit::NoValue)),
+            ArrayBytes::Optional(_) => Err(CodecError::DoesNotFit(Misfit::NoValue)),
         }
     }
 
@@ -81,18 +81,18 @@ impl VlenCodec {
             encoded.now) }
     {
         if !self.takes(data_type) {
-            return Err(CodecError::DoesNotFit);
+            return Err(CodecError::DoesNotFit(Misfit::TypeOrShape));
         }
         let read = unindexed(alloc, encoded, count)?;
         match read {
             Some(strings) => {
                 let data = ArrayBytes::Variable(strings);
                 if !data.validate(data_type, count) {
-                    return Err(CodecError::DoesNotFit);
+                    return Err(CodecError::DoesNotFit(Misfit::Bytes));
                 }
                 Ok(data)
             }
-            None => Err(CodecError::DoesNotFit),
+            None => Err(CodecError::DoesNotFit(Misfit::Bytes)),
         }
     }
 }

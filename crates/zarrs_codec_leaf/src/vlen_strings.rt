@@ -10,7 +10,7 @@ ghost use Rattle.zarrs_codec_leaf.specs.VlenStrings.{vlen_bytes_meaning, vlen_ut
 ghost use Rattle.zarrs_codec_leaf.specs.Refusals.{RefusesEncoding, RefusesDecoding};
 ghost use Rattle.zarrs_codec_leaf.specs.Leaf.{encoding_of};
 
-use crate::error::CodecError;
+use crate::error::{CodecError, Misfit};
 use std::alloc::{AllocError, Global};
 use zarrs_data_type::{ArrayBytes, ArrayBytesVariableLength, DataType, VariableLengthBuilder};
 
@@ -52,7 +52,7 @@ impl VlenUtf8Codec {
             (data_of bytes.now)) }
     {
         if !self.takes(data_type) {
-            return Err(CodecError::DoesNotFit);
+            return Err(CodecError::DoesNotFit(Misfit::TypeOrShape));
         }
         match bytes {
             ArrayBytes::Variable(strings) => {
@@ -62,8 +62,8 @@ impl VlenUtf8Codec {
                     None => Err(CodecError::SizeOverflow),
                 }
             }
-            ArrayBytes::Fixed(_) => Err(CodecError::DoesNotFit),
-            ArrayBytes::Optional(_) => Err(CodecError::DoesNotFit),
+            ArrayBytes::Fixed(_) => Err(CodecError::DoesNotFit(Misfit::NoValue)),
+            ArrayBytes::Optional(_) => Err(CodecError::DoesNotFit(Misfit::NoValue)),
         }
     }
 
@@ -86,18 +86,18 @@ impl VlenUtf8Codec {
             encoded.now) }
     {
         if !self.takes(data_type) {
-            return Err(CodecError::DoesNotFit);
+            return Err(CodecError::DoesNotFit(Misfit::TypeOrShape));
         }
         let read = uncounted(alloc, encoded, count)?;
         match read {
             Some(strings) => {
                 let data = ArrayBytes::Variable(strings);
                 if !data.validate(data_type, count) {
-                    return Err(CodecError::DoesNotFit);
+                    return Err(CodecError::DoesNotFit(Misfit::Bytes));
                 }
                 Ok(data)
             }
-            None => Err(CodecError::DoesNotFit),
+            None => Err(CodecError::DoesNotFit(Misfit::Bytes)),
         }
     }
 }
@@ -132,7 +132,7 @@ impl VlenBytesCodec {
             (data_of bytes.now)) }
     {
         if !self.takes(data_type) {
-            return Err(CodecError::DoesNotFit);
+            return Err(CodecError::DoesNotFit(Misfit::TypeOrShape));
         }
         match bytes {
             ArrayBytes::Variable(strings) => {
@@ -142,8 +142,8 @@ impl VlenBytesCodec {
                     None => Err(CodecError::SizeOverflow),
                 }
             }
-            ArrayBytes::Fixed(_) => Err(CodecError::DoesNotFit),
-            ArrayBytes::Optional(_) => Err(CodecError::DoesNotFit),
+            ArrayBytes::Fixed(_) => Err(CodecError::DoesNotFit(Misfit::NoValue)),
+            ArrayBytes::Optional(_) => Err(CodecError::DoesNotFit(Misfit::NoValue)),
         }
     }
 
@@ -166,18 +166,18 @@ impl VlenBytesCodec {
             count encoded.now) }
     {
         if !self.takes(data_type) {
-            return Err(CodecError::DoesNotFit);
+            return Err(CodecError::DoesNotFit(Misfit::TypeOrShape));
         }
         let read = uncounted(alloc, encoded, count)?;
         match read {
             Some(strings) => {
                 let data = ArrayBytes::Variable(strings);
                 if !data.validate(data_type, count) {
-                    return Err(CodecError::DoesNotFit);
+                    return Err(CodecError::DoesNotFit(Misfit::Bytes));
                 }
                 Ok(data)
             }
-            None => Err(CodecError::DoesNotFit),
+            None => Err(CodecError::DoesNotFit(Misfit::Bytes)),
         }
     }
 }

@@ -7,7 +7,7 @@ use std::process::Abort;
 use zarrs_array_bytes::{DataType, FillValue};
 use zarrs_codec::{
     ArrayToArrayCodec, ArrayToBytesCodec, BytesCodec, BytesToBytesCodecs, ChainTraits, CodecChain,
-    CodecError, CodecOptions, TransposeCodec, VlenUtf8Codec,
+    CodecError, CodecOptions, Misfit, TransposeCodec, VlenUtf8Codec,
 };
 use zarrs_codec_array::encoded_shape;
 use zarrs_metadata::MetadataV3;
@@ -191,7 +191,7 @@ fn must_not_compact(rt: &impl Abort, alloc: Global, codecs: &str, shape: &[u64])
     must_for(
         rt,
         codecs,
-        made.is_err_and(|error| error == CodecError::DoesNotFit),
+        made.is_err_and(|error| error == CodecError::DoesNotFit(Misfit::Bytes)),
     );
 }
 
@@ -223,7 +223,7 @@ fn must_not_decode(rt: &impl Abort, alloc: Global, codecs: &str, name: &str, enc
     must_for(
         rt,
         codecs,
-        made.is_err_and(|error| error == CodecError::DoesNotFit),
+        made.is_err_and(|error| error == CodecError::DoesNotFit(Misfit::Bytes)),
     );
 }
 

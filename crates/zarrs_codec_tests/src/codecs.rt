@@ -6,7 +6,7 @@ use std::process::Abort;
 use zarrs_array_bytes::DataType;
 use zarrs_codec::{
     ArrayToBytesCodec, BytesCodec, CellsCodec, CodecError, CodecOptions, CodecSpecificOptions,
-    Endianness, MaskCodec, OptionalCodec, PackBitsCodec, ReshapeCodec, ReshapeExtent,
+    Endianness, MaskCodec, Misfit, OptionalCodec, PackBitsCodec, ReshapeCodec, ReshapeExtent,
     ShardingCodec, ShardingCodecBuilder, ShardingCodecOptions, ShardingIndexLocation,
     SubchunkWriteOrder, TransposeCodec,
 };
@@ -147,7 +147,6 @@ fn must_say(rt: &impl Abort, alloc: Global, error: &CodecError, text: &str) {
 
 #[test]
 fn refusals_say_what_is_wrong(rt: HostRuntime) {
-    const FIT: &str = "the codec does not take this type, shape or these bytes";
     must_say(&rt, rt.alloc(), &CodecError::OutOfMemory, "out of memory");
     must_say(
         &rt,
@@ -155,5 +154,31 @@ fn refusals_say_what_is_wrong(rt: HostRuntime) {
         &CodecError::SizeOverflow,
         "size exceeds the number types",
     );
-    must_say(&rt, rt.alloc(), &CodecError::DoesNotFit, FIT);
+}
+
+#[test]
+fn misfits_say_what_does_not_fit(rt: HostRuntime) {
+    const COUNT: Misfit = Misfit::CellCount {
+        got: 5,
+        expected: 6,
+    };
+    const ROWS: &[(Misfit, &str)] = &[
+        (COUNT, "the number of cells is 5, expected 6"),
+        (
+            Misfit::NoValue,
+            "the data is not made of values of the data type",
+        ),
+        (
+            Misfit::TypeOrShape,
+            "the codecs do not take this data type or chunk shape",
+        ),
+        (
+            Misfit::Target,
+            "the target has cells of another size or depth",
+        ),
+        (Misfit::Bytes, "the bytes do not decode"),
+    ];
+    for (misfit, text) in ROWS {
+        must_say(&rt, rt.alloc(), &CodecError::DoesNotFit(*misfit), text);
+    }
 }

@@ -6,7 +6,7 @@ use std::process::Abort;
 use zarrs_array_bytes::{ArrayBytes, DataType, FillValue};
 use zarrs_codec::{
     ArrayToBytesCodec, BytesCodec, BytesToBytesCodecs, ChainTraits, CodecChain, CodecError,
-    CodecOptions, PartialWrite, ShardingCodec, ShardingIndexLocation,
+    CodecOptions, Misfit, PartialWrite, ShardingCodec, ShardingIndexLocation,
 };
 use zarrs_subset::ArraySubset;
 
@@ -133,7 +133,10 @@ fn a_key_without_subchunks_goes(rt: HostRuntime) {
 fn what_is_no_shard_is_refused(rt: HostRuntime) {
     let alloc = rt.alloc();
     let short = partial(&rt, alloc, Some(&STORED[..31]), 0, &[9]);
-    must(&rt, matches!(short, Err(CodecError::DoesNotFit)));
+    must(
+        &rt,
+        matches!(short, Err(CodecError::DoesNotFit(Misfit::Bytes))),
+    );
     let start = chain_of(&rt, alloc, ShardingIndexLocation::Start);
     must(&rt, !start.supports_partial_encode());
 }

@@ -309,8 +309,8 @@ module _ (parent : List ℕ) (region : Box) (sub : List ℕ) (cut : is_cut_by re
 pub into_refused : (k : Kind) (decoded : List ℕ → Option (List Cell)) (fill : Cell) (s sub : List ℕ) (m : SubchunkMeaning) (at_start : Bool) (encoded : List ℕ) (parts : List (Option (List ℕ))) (o : Option (List ℕ)) (n : ℕ) (e : CodecError)
     → DecodesAs m decoded → shard_parts at_start (subchunk_count s sub) encoded ≡ Some parts → n < length parts → slice_index_or parts n None ≡ o → RefusesIntoStep decoded o e
     → RefusesIntoDecoding (sharded_decoded m at_start k fill s sub encoded) e
-into_refused k decoded fill s sub m at_start encoded parts None n codec.DoesNotFit as_is are lt is why = absurd why
-into_refused k decoded fill s sub m at_start encoded parts (Some b) n codec.DoesNotFit as_is are lt is why = broken_shard k decoded fill s sub m at_start encoded parts as_is are (n, b, lt, is, why)
+into_refused k decoded fill s sub m at_start encoded parts None n (codec.DoesNotFit _) as_is are lt is why = absurd why
+into_refused k decoded fill s sub m at_start encoded parts (Some b) n (codec.DoesNotFit _) as_is are lt is why = broken_shard k decoded fill s sub m at_start encoded parts as_is are (n, b, lt, is, why)
 into_refused k decoded fill s sub m at_start encoded parts None n codec.SizeOverflow as_is are lt is why = why
 into_refused k decoded fill s sub m at_start encoded parts (Some b) n codec.SizeOverflow as_is are lt is why = why
 into_refused k decoded fill s sub m at_start encoded parts None n codec.OutOfMemory as_is are lt is why = why

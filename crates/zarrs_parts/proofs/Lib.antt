@@ -1,7 +1,9 @@
 pub mod BytesParts
 pub mod IntoSteps
 pub mod Kept
+pub mod MovedBoxes
 pub mod PartBoxes
+pub mod PartsInto
 pub mod ReadSteps
 pub mod Stays
 pub mod SubchunkPieces

@@ -446,7 +446,7 @@ parts_placed at_start count may_read window index source start end read at named
 pub step_refused : (dec : Option (List Cell)) (leaves : Bool) (fill_len : ℕ) (decoded : List ℕ → Option (List Cell)) (leaves_out : List ℕ → Bool) (parts : List (Option (List ℕ))) (refuses : Bool) (e : PartError)
     → (IsBrokenShard decoded parts → dec ≡ None) → (list_any (part_leaves_out leaves_out) parts ≡ true → leaves ≡ true)
     → RefusesStep decoded leaves_out fill_len parts refuses e → RefusesPartDecoding dec leaves fill_len refuses e
-step_refused dec leaves fill_len decoded leaves_out parts refuses (Codec codec.DoesNotFit) broken left why = broken why
+step_refused dec leaves fill_len decoded leaves_out parts refuses (Codec (codec.DoesNotFit _)) broken left why = broken why
 step_refused dec leaves fill_len decoded leaves_out parts refuses (Codec codec.SizeOverflow) broken left why = (left why.0, why.1)
 step_refused dec leaves fill_len decoded leaves_out parts refuses (Codec codec.OutOfMemory) broken left why = why
 step_refused dec leaves fill_len decoded leaves_out parts refuses (Source e) broken left why = why
@@ -468,7 +468,7 @@ left_out leaves_out (p ∷ parts) (suc n) lt at = or_right (part_leaves_out leav
 pub inner_refused : (decoded : List ℕ → Option (List Cell)) (leaves_out : List ℕ → Bool) (s sub : List ℕ) (size : ℕ) (parts : List (Option (List ℕ))) (n : ℕ) (encoded : List ℕ) (refuses : Bool) (e : PartError)
     → is_cut_by s sub ≡ true → length parts ≡ subchunk_count s sub → n < length parts → slice_index_or parts n None ≡ Some encoded
     → RefusesPartDecoding (decoded encoded) (leaves_out encoded) (position_count sub * size) refuses e → RefusesStep decoded leaves_out (position_count s * size) parts refuses e
-inner_refused decoded leaves_out s sub size parts n encoded refuses (Codec codec.DoesNotFit) cut count lt is why = (n, encoded, lt, is, why)
+inner_refused decoded leaves_out s sub size parts n encoded refuses (Codec (codec.DoesNotFit _)) cut count lt is why = (n, encoded, lt, is, why)
 inner_refused decoded leaves_out s sub size parts n encoded refuses (Codec codec.SizeOverflow) cut count lt is why =
     (left_out leaves_out parts n lt (ap (part_leaves_out leaves_out) is ∙ why.0), part_large s sub n size cut (omega arith) why.1)
 inner_refused decoded leaves_out s sub size parts n encoded refuses (Codec codec.OutOfMemory) cut count lt is why = why
@@ -490,6 +490,6 @@ ranges_wider end len ranges le within = λ k d lt. range_wider end len (get_or r
 -- what the bytes of a part that was read refuse
 pub refused_decoding : (dec : Option (List Cell)) (refuses : Bool) (leaf : LeafMeaning) (k : Kind) (n : ℕ) (b : List ℕ) (e : CodecError) → RefusesDecoding leaf k n b e → (leaf.decoded k n b ≡ None → dec ≡ None)
     → RefusesPartDecoding dec false 0 refuses (Codec e)
-refused_decoding dec refuses leaf k n b codec.DoesNotFit why next = next why
+refused_decoding dec refuses leaf k n b (codec.DoesNotFit _) why next = next why
 refused_decoding dec refuses leaf k n b codec.SizeOverflow why next = absurd why
 refused_decoding dec refuses leaf k n b codec.OutOfMemory why next = why

@@ -96,7 +96,7 @@ MeetsPart sub part met = (position : List ℕ) → Holds part position → Holds
 -- many, or the source refuses
 abbrev pub RefusesStep : (List ℕ → Option (List Cell)) → (leaves_out : List ℕ → Bool) (fill_len : ℕ)
     → List (Option (List ℕ)) → (refuses : Bool) → PartError → Type 0
-RefusesStep decoded leaves_out fill_len parts refuses (Codec codec.DoesNotFit) = IsBrokenShard decoded parts
+RefusesStep decoded leaves_out fill_len parts refuses (Codec (codec.DoesNotFit _)) = IsBrokenShard decoded parts
 RefusesStep decoded leaves_out fill_len parts refuses (Codec codec.SizeOverflow) = (list_any (part_leaves_out leaves_out) parts ≡ true) × (2 ^ 64 ≤ fill_len)
 RefusesStep decoded leaves_out fill_len parts refuses (Codec codec.OutOfMemory) = Unit {0}
 RefusesStep decoded leaves_out fill_len parts refuses (Source e) = RefusesSource refuses e

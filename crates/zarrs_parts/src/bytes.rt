@@ -13,14 +13,14 @@ ghost use Rattle.zarrs_parts.specs.Refusals.{RefusesPartDecoding};
 use crate::error::PartError;
 use std::alloc::Global;
 use zarrs_array_bytes::{ArrayBytes, DataType};
-use zarrs_codec_leaf::{BytesCodec, CodecError};
+use zarrs_codec_leaf::{BytesCodec, CodecError, Misfit};
 use zarrs_source::{ByteSource, Window, read_box};
 use zarrs_subset::{ArraySubset, element_count};
 
 /// The cells of a part of a chunk whose bytes are those of a window.
 ///
-/// One range is read for each run of cells that stand together: a row of the part, or more if its last dimensions are
-/// whole. Their bytes are copied once, and turned round after that if the codec has the other byte order.
+/// If the source does not lend its bytes, one range is read for each run of cells that stand together: a row of the
+/// part, or more if its last dimensions are whole. They are copied once, and then turned round if the codec asks it.
 ///
 /// # Errors
 /// `DoesNotFit` if the codec does not take the type, if the window is not as long as the cells of the chunk, or if the
@@ -49,13 +49,13 @@ pub fn partial_decode_bytes<B: ByteSource>(
         (B.refuses source.now)) }
 {
     if !codec.takes(data_type) {
-        return Err(PartError::Codec(CodecError::DoesNotFit));
+        return Err(PartError::Codec(CodecError::DoesNotFit(Misfit::TypeOrShape)));
     }
     let Some(size) = data_type.element_size() else {
         unreachable!()
     };
     if !is_length_of(window.len, shape, data_type, size) {
-        return Err(PartError::Codec(CodecError::DoesNotFit));
+        return Err(PartError::Codec(CodecError::DoesNotFit(Misfit::Bytes)));
     }
     let Ok(count) = part.num_elements() else {
         unreachable!()

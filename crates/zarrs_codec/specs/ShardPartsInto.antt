@@ -1,0 +1,60 @@
+-- What a read of a part of a shard into a target has there after some of its subchunks.
+use Rattle.std.specs.Prelude.{◌≡◌, ◌+◌, ◌-◌, ℕ, Bool, true, Option, None, Some, List, ◌∷◌, [], ◌++◌}
+use Rattle.zarrs_array_bytes.specs.ArrayData.{ArrayData}
+use Rattle.zarrs_array_bytes.specs.Cells.{cell_at}
+use Rattle.zarrs_codec_leaf.specs.declared.error.CodecError.TheVariants as codec
+use Rattle.zarrs_shard.specs.declared.shard_index.SubchunkRange.{SubchunkRange}
+use Rattle.zarrs_shard.specs.Subchunks.{quotients}
+use Rattle.zarrs_source.specs.declared.source.Window.{Window}
+use Rattle.zarrs_subset.specs.Regions.{Box, Holds, place_in}
+use Rattle.zarrs_types.specs.Cell.{Cell, is_value}
+use Rattle.zarrs_types.specs.Kind.{Kind}
+use Rattle.zarrs_parts.specs.declared.error.PartError.{PartError}
+use Rattle.zarrs_parts.specs.declared.error.PartError.TheVariants.{Codec}
+use Rattle.zarrs_parts.specs.Parts.{DecodesPartAt, place_at}
+use Rattle.zarrs_parts.specs.Refusals.{RefusesPartDecoding}
+use Rattle.zarrs_parts.specs.ShardParts.{IsPartCell, is_among}
+
+-- the window of a range of a window
+abbrev pub range_window : Window → SubchunkRange → Window
+range_window window range = record { offset = window.offset + range.start; len = range.end - range.start }
+
+-- the cell is a value of the type, and the one that the parts of a shard have at a position
+pub record IsPartValue (k : Kind) (decoded : List ℕ → Option (List Cell)) (fill : Cell) (shape sub : List ℕ)
+    (parts : List (Option (List ℕ))) (position : List ℕ) (cell : Cell) : Type 0 where
+  pub value : is_value k cell ≡ true
+  pub same : IsPartCell decoded fill shape sub parts position (Some cell)
+
+-- data over `box` has in the box `own` the cells that these subchunks have of the part
+abbrev pub HasSubchunksAt : Kind → (List ℕ → Option (List Cell)) → (fill : Cell) (shape sub : List ℕ) (part : Box)
+    → List (Option (List ℕ)) → (done : List (List ℕ)) (box own : Box) → ArrayData → Type 0
+HasSubchunksAt k decoded fill shape sub part parts done box own held =
+    (position : List ℕ) → Holds part position → is_among done (quotients position sub) ≡ true
+    → IsPartValue k decoded fill shape sub parts position (cell_at k held (place_at box own part position))
+
+-- the same of all of them
+abbrev pub HasAllPartsAt : Kind → (List ℕ → Option (List Cell)) → (fill : Cell) (shape sub : List ℕ) (part : Box)
+    → List (Option (List ℕ)) → (box own : Box) → ArrayData → Type 0
+HasAllPartsAt k decoded fill shape sub part parts box own held =
+    (position : List ℕ) → Holds part position
+    → IsPartValue k decoded fill shape sub parts position (cell_at k held (place_at box own part position))
+
+-- one more subchunk was read
+abbrev pub ReadsSubchunkAt : Kind → (List ℕ → Option (List Cell)) → (fill : Cell) (shape sub : List ℕ) (part : Box)
+    → List (Option (List ℕ)) → (index : List ℕ) (box own : Box) → ArrayData → ArrayData → Type 0
+ReadsSubchunkAt k decoded fill shape sub part parts index box own old new =
+    (done : List (List ℕ))
+    → HasSubchunksAt k decoded fill shape sub part parts done box own old
+    → HasSubchunksAt k decoded fill shape sub part parts (done ++ index ∷ []) box own new
+
+-- data over `box` has a piece of a subchunk in the box `own`: an absent subchunk is all fill
+abbrev pub DecodesPieceAt : Kind → (List ℕ → Option (List Cell)) → (fill : Cell) (sub : List ℕ) (piece : Box)
+    → Option (List ℕ) → (box own : Box) → ArrayData → Type 0
+DecodesPieceAt k decoded fill sub piece None box own held = (position : List ℕ) → Holds own position → cell_at k held (place_in box position) ≡ fill
+DecodesPieceAt k decoded fill sub piece (Some encoded) box own held = DecodesPartAt k sub piece (decoded encoded) box own held
+
+-- why a piece of a subchunk is not read
+abbrev pub RefusesPiece : (List ℕ → Option (List Cell)) → (leaves_out : List ℕ → Bool) (fill_len : ℕ)
+    → Option (List ℕ) → (refuses : Bool) → PartError → Type 0
+RefusesPiece decoded leaves_out fill_len None refuses e = e ≡ Codec codec.OutOfMemory
+RefusesPiece decoded leaves_out fill_len (Some encoded) refuses e = RefusesPartDecoding (decoded encoded) (leaves_out encoded) fill_len refuses e
