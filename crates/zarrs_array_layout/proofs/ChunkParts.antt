@@ -16,7 +16,7 @@ use Rattle.zarrs_calls.specs.Errors.{error_of_subset}
 use Rattle.zarrs_calls.specs.Refusals as refusal
 use Rattle.zarrs_calls.specs.Refusals.{Refusal, RefusesBy, box_refusal, refusal_of, refuse_if}
 use Rattle.zarrs_calls.proofs.RefusalLemmas.{no_chunk, refusal_moved}
-use Rattle.zarrs_array_layout.specs.Parts.{RefusesIndices}
+use Rattle.zarrs_array_layout.specs.Steps.{RefusesIndices}
 
 -- ---- the chunk
 

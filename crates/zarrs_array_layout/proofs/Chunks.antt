@@ -5,6 +5,7 @@ use Rattle.std.specs.Option.{option_or}
 use Rattle.std.proofs.lemmas.Bool.{cases_Bool}
 use Rattle.std.proofs.lemmas.Map.Views.{exact_unsigned_eq}
 use Rattle.zarrs_subset.specs.Boxes.{position_count}
+use Rattle.zarrs_subset.specs.Regions.{Box}
 use Rattle.zarrs_chunk_grid.specs.Grids.{box_at, has_box}
 use Rattle.zarrs_chunk_grid.proofs.Chunks.{box_is_there}
 use Rattle.zarrs_storage.specs.Store.{StoreState}
@@ -28,10 +29,10 @@ use Rattle.zarrs_calls.specs.Refusals as refusal
 use Rattle.zarrs_calls.specs.Refusals.{Refusal, refusal_of, refusal_of_storage, length_refusal, box_refusal}
 use Rattle.zarrs_calls.specs.Refusals.{is_left_out, encoded_cells, encode_refusal, data_refusal, key_refusal}
 use Rattle.zarrs_calls.specs.Refusals.{fill_refusal, is_too_large, read_refusal, RefusesBy, refuse_if}
-use Rattle.zarrs_calls.specs.Changes.{RetrievesChunk, RetrievesIfExists}
+use Rattle.zarrs_calls.specs.Changes.{IsValueOf, RetrievesChunk, RetrievesIfExists}
 use Rattle.zarrs_calls.specs.Reads.{IsBroken}
 use Rattle.zarrs_calls.specs.StateRefusals.{NeedsLargeFill, RefusesChunkRead}
-use Rattle.zarrs_array_layout.specs.Parts.{RefusesBytes, RefusesIndices, RefusesValue}
+use Rattle.zarrs_array_layout.specs.Steps.{HasValue, RefusesBytes, RefusesIndices, RefusesValue}
 use Rattle.zarrs_calls.proofs.Contents.{reads_decoded, reads_absent}
 use Rattle.zarrs_calls.proofs.RefusalLemmas.{refusal_moved, first_refusal, refused_first, second_refusal, box_accepted, fit_chunk, memory_or_said}
 
@@ -103,13 +104,31 @@ encode_none layout keep shape cs at =
 -- what the chain refuses
 pub encode_refused : (layout : Layout) → IsLawfulChain layout.chain → (keep : Bool) (shape : List ℕ) (held : ArrayData) (cs : List Cell) (e : CodecError) → cells layout.kind held ≡ Some cs → length cs ≡ position_count shape
     → RefusesChunkEncoding layout.chain keep layout.kind layout.fill shape held e → RefusesBy (encode_refusal layout keep shape cs) (refusal_of (error_of_codec e))
-encode_refused layout lawful keep shape held cs coded.DoesNotFit at long unfit =
+encode_refused layout lawful keep shape held cs (coded.DoesNotFit _) at long unfit =
     encode_none layout keep shape cs (lawful.unfit keep layout.kind layout.fill shape cs unfit)
     ∙ ap (λ b. cond b (Some refusal.size_overflow) (Some refusal.codec)) unfit
 encode_refused layout lawful keep shape held cs coded.SizeOverflow at long h =
     encode_none layout keep shape cs (sym (chunk_encoding_is layout.chain keep layout.kind layout.fill shape held cs at long) ∙ h.1)
     ∙ ap (λ b. cond b (Some refusal.size_overflow) (Some refusal.codec)) h.0
 encode_refused layout lawful keep shape held cs coded.OutOfMemory at long h = tt
+
+-- which of two refusals comes
+pub refused_either : (a b : Option Refusal) (r : Refusal) → RefusesBy (option_or a b) r → RefusesBy a r ⊎ ((a ≡ None) × RefusesBy b r)
+refused_either None b r h = inr (refl, h)
+refused_either (Some x) b r h = inl h
+
+-- what is to be present at a key goes by the shape of the chunk
+pub value_moved : (layout : Layout) (keep : Bool) (a b : Box) (held : ArrayData) (value : Option (List ℕ)) → a.shape ≡ b.shape → HasValue layout keep a held value → HasValue layout keep b held value
+value_moved layout keep a b held value same h = record {
+  chunk = h.chunk;
+  is_chunk = h.is_chunk;
+  count = h.count ∙ ap position_count same;
+  is_value = moved value h.is_value;
+}
+  where
+    moved : (v : Option (List ℕ)) → IsValueOf layout keep a h.chunk v → IsValueOf layout keep b h.chunk v
+    moved None is = is
+    moved (Some encoded) is = (is.0, ap (λ s. encoded_cells layout keep s h.chunk) (sym same) ∙ is.1)
 
 -- the first of two refusals is the first of three
 refusal_more : (a b c : Option Refusal) (x : Refusal) → option_or a b ≡ Some x → option_or a (option_or b c) ≡ Some x

@@ -25,7 +25,7 @@ use Rattle.zarrs_calls.proofs.Covers.{covered_box, last_covers}
 use Rattle.zarrs_calls.proofs.RefusalLemmas.{memory_or_said, refused_first, refused_second, second_refusal, fit_chunk, large_chunk}
 use Rattle.zarrs_calls.specs.Refusals.{is_too_large}
 use Rattle.zarrs_array_layout.specs.Covers.{CoverRegion}
-use Rattle.zarrs_array_layout.specs.Parts.{RefusesBytes}
+use Rattle.zarrs_array_layout.specs.Steps.{RefusesBytes}
 use Rattle.zarrs_array_layout.proofs.Chunks.{right_length}
 
 -- ---- causes among the chunks

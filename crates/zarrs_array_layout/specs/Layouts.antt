@@ -1,12 +1,12 @@
--- What the parts of an array mean, taken together.
+-- What the layout of an array means.
 use Rattle.zarrs_chunk_grid.specs.declared.traits.ChunkGridTraits.{Ghosts as GridMeaning}
 use Rattle.zarrs_keys.specs.declared.traits.ChunkKeyEncodingTraits.{Ghosts as KeyMeaning}
 use Rattle.zarrs_chain.specs.declared.traits.ChainTraits.{Ghosts as ChainMeanings}
 use Rattle.zarrs_data_type.specs.Kind.{kind}
 use Rattle.zarrs_calls.specs.Layout.{Layout, layout_at}
-use Rattle.zarrs_array_layout.specs.declared.parts.Parts.{Parts}
+use Rattle.zarrs_array_layout.specs.declared.array_layout.ArrayLayout.{ArrayLayout}
 
 module _ {G K C : Type 0} {g : GridMeaning G} {k : KeyMeaning K} {c : ChainMeanings C} where
-  -- where the parts lie, and what their grid, keys, chain, type and fill value mean
-  abbrev pub layout_of_parts : Parts G K C g k c → Layout
-  layout_of_parts parts = layout_at (g.grid parts.grid) parts.path (k.key parts.keys) (c.meaning parts.chain) (kind parts.data_type) parts.fill_value
+  -- where an array lies, and what its grid, keys, chain, type and fill value mean
+  abbrev pub layout_meaning : ArrayLayout G K C g k c → Layout
+  layout_meaning layout = layout_at (g.grid layout.grid) layout.path (k.key layout.keys) (c.meaning layout.chain) (kind layout.data_type) layout.fill_value

@@ -1,6 +1,6 @@
 pub mod Covers
 pub mod CutWalks
 pub mod Layouts
-pub mod Parts
 pub mod Shared
+pub mod Steps
 pub mod WholeChunks

@@ -1,5 +1,5 @@
 //! The boxes of chunks, of parts of chunks and of ranges of chunks.
-use crate::parts::{Parts, invalid_indices};
+use crate::array_layout::{ArrayLayout, invalid_indices};
 use std::alloc::{AllocError, Global};
 use zarrs_calls::ArrayError;
 use zarrs_chain::ChainTraits;
@@ -7,7 +7,7 @@ use zarrs_chunk_grid::{ChunkGridTraits, GridError};
 use zarrs_keys::ChunkKeyEncodingTraits;
 use zarrs_subset::{ArraySubset, ArraySubsetTraits};
 
-impl<G: ChunkGridTraits, K: ChunkKeyEncodingTraits, C: ChainTraits> Parts<G, K, C> {
+impl<G: ChunkGridTraits, K: ChunkKeyEncodingTraits, C: ChainTraits> ArrayLayout<G, K, C> {
     ghost use Rattle.std.specs.Prelude.{◌≡◌, if◌then◌else◌, false, None, IfOk, IfErr, OnOk};
     ghost use Rattle.std.specs.Option.{option_or};
     ghost use Rattle.zarrs_subset.specs.Regions.{box_of, positions};
@@ -16,7 +16,7 @@ impl<G: ChunkGridTraits, K: ChunkKeyEncodingTraits, C: ChainTraits> Parts<G, K, 
     ghost use Rattle.zarrs_calls.specs.ArgumentRefusals.{part_refusal, range_refusal};
     ghost use Rattle.zarrs_calls.specs.ChunkBoxes.{is_empty, last_of, part_box};
     ghost use Rattle.zarrs_calls.specs.Refusals.{RefusesBy, refusal_of};
-    ghost use Rattle.zarrs_array_layout.specs.Layouts.{layout_of_parts};
+    ghost use Rattle.zarrs_array_layout.specs.Layouts.{layout_meaning};
     ghost use Rattle.zarrs_array_layout.specs.Covers.{CoverRegion};
 
     /// The box of the chunk with these indices.
@@ -27,9 +27,9 @@ impl<G: ChunkGridTraits, K: ChunkKeyEncodingTraits, C: ChainTraits> Parts<G, K, 
         ensures region { IfOk result
             (λ b. box_of b ≡ box_at (G.grid self.now.grid) chunk_indices.now) }
         ensures accepted { OnOk result
-            (chunk_refusal (layout_of_parts self.now) chunk_indices.now ≡ None) }
+            (chunk_refusal (layout_meaning self.now) chunk_indices.now ≡ None) }
         ensures refused { IfErr result
-            (λ e. RefusesBy (chunk_refusal (layout_of_parts self.now) chunk_indices.now)
+            (λ e. RefusesBy (chunk_refusal (layout_meaning self.now) chunk_indices.now)
             (refusal_of e)) }
     {
         match self.grid.subset(alloc, chunk_indices) {
@@ -57,8 +57,8 @@ impl<G: ChunkGridTraits, K: ChunkKeyEncodingTraits, C: ChainTraits> Parts<G, K, 
         requires { box_of chunk.now ≡ box_at (G.grid self.now.grid) chunk_indices.now }
         ensures part { IfOk result (λ b. box_of b ≡ part_box (box_of chunk.now) (box_of part.now)) }
         ensures accepted { OnOk result
-            (part_refusal (layout_of_parts self.now) chunk_indices.now (box_of part.now) ≡ None) }
-        ensures refused { IfErr result (λ e. RefusesBy (part_refusal (layout_of_parts self.now)
+            (part_refusal (layout_meaning self.now) chunk_indices.now (box_of part.now) ≡ None) }
+        ensures refused { IfErr result (λ e. RefusesBy (part_refusal (layout_meaning self.now)
             chunk_indices.now (box_of part.now)) (refusal_of e)) }
     {
         if !part.inbounds_shape(chunk.shape()) {
@@ -82,14 +82,14 @@ impl<G: ChunkGridTraits, K: ChunkKeyEncodingTraits, C: ChainTraits> Parts<G, K, 
             (λ b. box_of b ≡ chunks_box (G.grid self.now.grid) (box_of chunks.now)) }
         ensures cover { IfOk result (λ b. CoverRegion (G.grid self.now.grid) (box_of b)
             (positions (box_of chunks.now))) }
-        ensures accepted { OnOk result (option_or (dimensions_refusal (layout_of_parts self.now)
+        ensures accepted { OnOk result (option_or (dimensions_refusal (layout_meaning self.now)
             (G.array_extents self.now.grid) (box_of chunks.now))
             (if is_empty (box_of chunks.now) then None
-            else range_refusal (layout_of_parts self.now) (box_of chunks.now)) ≡ None) }
+            else range_refusal (layout_meaning self.now) (box_of chunks.now)) ≡ None) }
         ensures refused { IfErr result (λ e. RefusesBy (option_or
-            (dimensions_refusal (layout_of_parts self.now) (G.array_extents self.now.grid)
+            (dimensions_refusal (layout_meaning self.now) (G.array_extents self.now.grid)
             (box_of chunks.now)) (if is_empty (box_of chunks.now) then None
-            else range_refusal (layout_of_parts self.now) (box_of chunks.now))) (refusal_of e)) }
+            else range_refusal (layout_meaning self.now) (box_of chunks.now))) (refusal_of e)) }
     {
         if chunks.dimensionality() != self.grid.dimensionality() {
             return Err(self.invalid_region(alloc, chunks));
@@ -109,7 +109,7 @@ impl<G: ChunkGridTraits, K: ChunkKeyEncodingTraits, C: ChainTraits> Parts<G, K, 
     /// The refusal of a range of which the last index has no chunk: the first one is named if that has none either.
     fn invalid_range(&self, alloc: Global, chunks: &ArraySubset) -> ArrayError
         requires { has_box (G.grid self.now.grid) (last_of (box_of chunks.now)) ≡ false }
-        ensures { RefusesBy (range_refusal (layout_of_parts self.now) (box_of chunks.now))
+        ensures { RefusesBy (range_refusal (layout_meaning self.now) (box_of chunks.now))
             (refusal_of result) }
     {
         if let Err(error) = self.chunk_box(alloc, chunks.start()) {

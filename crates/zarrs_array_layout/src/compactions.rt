@@ -1,16 +1,16 @@
 //! Compactions of the bytes of chunks.
-use crate::parts::Parts;
+use crate::array_layout::ArrayLayout;
 use std::alloc::Global;
 use zarrs_calls::ArrayError;
 use zarrs_chain::ChainTraits;
 use zarrs_chunk_grid::ChunkGridTraits;
 use zarrs_keys::ChunkKeyEncodingTraits;
 
-impl<G: ChunkGridTraits, K: ChunkKeyEncodingTraits, C: ChainTraits> Parts<G, K, C> {
+impl<G: ChunkGridTraits, K: ChunkKeyEncodingTraits, C: ChainTraits> ArrayLayout<G, K, C> {
     ghost use Rattle.std.specs.Prelude.{◌≡◌, Some, None, IfOk, IfErr, OnOk, option_map};
     ghost use Rattle.zarrs_calls.specs.Compactions.{compacted_bytes, compaction_refusal};
     ghost use Rattle.zarrs_calls.specs.Refusals.{RefusesBy, refusal_of};
-    ghost use Rattle.zarrs_array_layout.specs.Layouts.{layout_of_parts};
+    ghost use Rattle.zarrs_array_layout.specs.Layouts.{layout_meaning};
 
     /// The compaction of the bytes of the chunk with these indices, or `None` if they are compact.
     ///
@@ -24,12 +24,12 @@ impl<G: ChunkGridTraits, K: ChunkKeyEncodingTraits, C: ChainTraits> Parts<G, K, 
         encoded: &[u8],
     ) -> Result<Option<Vec<u8>>, ArrayError>
         ensures less { IfOk result (λ less.
-            compacted_bytes (layout_of_parts self.now) chunk_indices.now encoded.now
+            compacted_bytes (layout_meaning self.now) chunk_indices.now encoded.now
             ≡ Some (option_map (λ v. v.items) less)) }
-        ensures accepted { OnOk result (compaction_refusal (layout_of_parts self.now)
+        ensures accepted { OnOk result (compaction_refusal (layout_meaning self.now)
             chunk_indices.now (Some encoded.now) ≡ None) }
         ensures refused { IfErr result (λ e. RefusesBy (compaction_refusal
-            (layout_of_parts self.now) chunk_indices.now (Some encoded.now)) (refusal_of e)) }
+            (layout_meaning self.now) chunk_indices.now (Some encoded.now)) (refusal_of e)) }
     {
         let chunk = self.chunk_box(alloc, chunk_indices)?;
         let less = self.chain.compact(alloc, encoded, chunk.shape())?;

@@ -7,7 +7,7 @@ ghost use Rattle.zarrs_subset.specs.Regions.{box_at_origin, place_in};
 ghost use Rattle.zarrs_calls.specs.Cuts.{is_below};
 ghost use Rattle.zarrs_array_layout.specs.WholeChunks.{PassesBelow};
 
-use crate::parts::Parts;
+use crate::array_layout::ArrayLayout;
 use std::alloc::{AllocError, Global};
 use zarrs_chain::ChainTraits;
 use zarrs_chunk_grid::ChunkGridTraits;
@@ -191,7 +191,7 @@ fn advance(position: &mut [u64], shape: &[u64], whole: &[u64], axis: usize) -> b
     found
 }
 
-impl<G: ChunkGridTraits, K: ChunkKeyEncodingTraits, C: ChainTraits> Parts<G, K, C> {
+impl<G: ChunkGridTraits, K: ChunkKeyEncodingTraits, C: ChainTraits> ArrayLayout<G, K, C> {
     ghost use Rattle.std.specs.Prelude.{IfOk};
     ghost use Rattle.zarrs_array_layout.specs.CutWalks.{HasNoCut, IsCutWalk};
     ghost use Rattle.zarrs_array_layout.specs.WholeChunks.{AreWhole};

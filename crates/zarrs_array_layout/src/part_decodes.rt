@@ -1,5 +1,5 @@
 //! Parts of chunks, decoded from sources of bytes.
-use crate::parts::Parts;
+use crate::array_layout::ArrayLayout;
 use std::alloc::Global;
 use zarrs_calls::ArrayError;
 use zarrs_chain::ChainTraits;
@@ -8,18 +8,22 @@ use zarrs_data_type::ArrayBytes;
 use zarrs_keys::ChunkKeyEncodingTraits;
 use zarrs_source::{ByteSource, Window};
 use zarrs_subset::ArraySubset;
+use zarrs_target::ArrayBytesDecodeIntoTarget;
 
-impl<G: ChunkGridTraits, K: ChunkKeyEncodingTraits, C: ChainTraits> Parts<G, K, C> {
-    ghost use Rattle.std.specs.Prelude.{◌≡◌, ◌<◌, ◌*◌, ◌^◌, ℕ, true, false, IfOk, IfErr};
+impl<G: ChunkGridTraits, K: ChunkKeyEncodingTraits, C: ChainTraits> ArrayLayout<G, K, C> {
+    ghost use Rattle.std.specs.Prelude.{◌≡◌, ◌<◌, ◌*◌, ◌^◌, ℕ, true, false, IfOk, IfErr, OnOk};
     ghost use Rattle.zarrs_subset.specs.Boxes.{position_count};
     ghost use Rattle.zarrs_subset.specs.Regions.{box_of, LiesInShape};
     ghost use Rattle.zarrs_data_type.specs.ArrayData.{data_of};
     ghost use Rattle.zarrs_data_type.specs.Cell.{held_size};
-    ghost use Rattle.zarrs_parts.specs.Parts.{DecodesPart};
+    ghost use Rattle.zarrs_target.specs.States.{IsTarget, SameBox, StaysOutside, data_of_target};
+    ghost use Rattle.zarrs_target.specs.States.{parent_box, target_box};
+    ghost use Rattle.zarrs_target.specs.Targets.{takes_type};
+    ghost use Rattle.zarrs_parts.specs.Parts.{DecodesPart, DecodesPartAt};
     ghost use Rattle.zarrs_calls.specs.Content.{decoded_cells};
     ghost use Rattle.zarrs_calls.specs.Refusals.{is_too_large, refusal_of};
-    ghost use Rattle.zarrs_array_layout.specs.Layouts.{layout_of_parts};
-    ghost use Rattle.zarrs_array_layout.specs.Parts.{RefusesPartBytes};
+    ghost use Rattle.zarrs_array_layout.specs.Layouts.{layout_meaning};
+    ghost use Rattle.zarrs_array_layout.specs.Steps.{RefusesPartBytes};
 
     /// The cells of a part of a chunk of this box, whose bytes are those of the source. The part is seen from the corner
     /// of the chunk. No other bytes are read than those that the part needs.
@@ -34,17 +38,17 @@ impl<G: ChunkGridTraits, K: ChunkKeyEncodingTraits, C: ChainTraits> Parts<G, K, 
         source: &B,
         part: &ArraySubset,
     ) -> Result<ArrayBytes<'static>, ArrayError>
-        requires fit { is_too_large (layout_of_parts self.now) (box_of chunk.now).shape ≡ false }
+        requires fit { is_too_large (layout_meaning self.now) (box_of chunk.now).shape ≡ false }
         requires fill_size { position_count (box_of part.now).shape
-            * held_size (layout_of_parts self.now).kind (layout_of_parts self.now).fill < 2 ^ 64 }
+            * held_size (layout_meaning self.now).kind (layout_meaning self.now).fill < 2 ^ 64 }
         requires part { LiesInShape (box_of part.now) (box_of chunk.now).shape }
-        requires may_read { (place : ℕ) → (layout_of_parts self.now).chain.places
-            (layout_of_parts self.now).kind (box_of chunk.now).shape (box_of part.now)
+        requires may_read { (place : ℕ) → (layout_meaning self.now).chain.places
+            (layout_meaning self.now).kind (box_of chunk.now).shape (box_of part.now)
             (B.bytes source.now) place ≡ true → B.may_read source.now place ≡ true }
-        ensures cells { IfOk result (λ made. DecodesPart (layout_of_parts self.now).kind
-            (box_of chunk.now).shape (box_of part.now) (decoded_cells (layout_of_parts self.now)
+        ensures cells { IfOk result (λ made. DecodesPart (layout_meaning self.now).kind
+            (box_of chunk.now).shape (box_of part.now) (decoded_cells (layout_meaning self.now)
             (box_of chunk.now) (B.bytes source.now)) (data_of made)) }
-        ensures refused { IfErr result (λ e. RefusesPartBytes (layout_of_parts self.now)
+        ensures refused { IfErr result (λ e. RefusesPartBytes (layout_meaning self.now)
             (box_of chunk.now) (B.bytes source.now) (B.refuses source.now) (refusal_of e)) }
     {
         let whole = Window {
@@ -61,5 +65,57 @@ impl<G: ChunkGridTraits, K: ChunkKeyEncodingTraits, C: ChainTraits> Parts<G, K, 
             chunk.shape(),
         )?;
         Ok(data)
+    }
+
+    /// Decodes a part of a chunk of this box, whose bytes are those of the source, into the target's box, which has the
+    /// part's shape. The part is seen from the corner of the chunk. No other bytes are read than those that the part needs.
+    /// Every byte outside the target's box stays; after a refusal the inside is open.
+    ///
+    /// # Errors
+    /// Those of `decode_part`.
+    pub fn decode_part_into<B: ByteSource>(
+        &self,
+        alloc: Global,
+        chunk: &ArraySubset,
+        source: &B,
+        part: &ArraySubset,
+        target: &mut ArrayBytesDecodeIntoTarget<'_, '_, '_>,
+    ) -> Result<(), ArrayError>
+        requires fit { is_too_large (layout_meaning self.now) (box_of chunk.now).shape ≡ false }
+        requires part { LiesInShape (box_of part.now) (box_of chunk.now).shape }
+        requires may_read { (place : ℕ) → (layout_meaning self.now).chain.places
+            (layout_meaning self.now).kind (box_of chunk.now).shape (box_of part.now)
+            (B.bytes source.now) place ≡ true → B.may_read source.now place ≡ true }
+        requires target { IsTarget target.old }
+        requires takes { takes_type target.old.cell_size target.old.depth
+            (layout_meaning self.now).kind ≡ true }
+        requires same_shape { (target_box target.old).shape ≡ (box_of part.now).shape }
+        ensures target { IsTarget target.new }
+        ensures same_bytes { target.new.bytes.ghost_name ≡ target.old.bytes.ghost_name }
+        ensures same_masks { target.new.masks.ghost_name ≡ target.old.masks.ghost_name }
+        ensures same_box { SameBox target.old target.new }
+        ensures cells { OnOk result (DecodesPartAt (layout_meaning self.now).kind
+            (box_of chunk.now).shape (box_of part.now) (decoded_cells (layout_meaning self.now)
+            (box_of chunk.now) (B.bytes source.now)) (parent_box target.old)
+            (target_box target.old) (data_of_target target.new)) }
+        ensures outside { StaysOutside target.old target.new }
+        ensures refused { IfErr result (λ e. RefusesPartBytes (layout_meaning self.now)
+            (box_of chunk.now) (B.bytes source.now) (B.refuses source.now) (refusal_of e)) }
+    {
+        let whole = Window {
+            offset: 0,
+            len: source.size(),
+        };
+        self.chain.partial_decode_into(
+            alloc,
+            source,
+            whole,
+            part,
+            &self.data_type,
+            &self.fill_value,
+            chunk.shape(),
+            target,
+        )?;
+        Ok(())
     }
 }

@@ -1,5 +1,5 @@
 //! What becomes of the bytes of a chunk of which a part is written by itself.
-use crate::parts::{Chunk, Parts};
+use crate::array_layout::{ArrayLayout, Chunk};
 use std::alloc::Global;
 use zarrs_calls::ArrayError;
 use zarrs_chain::{ChainTraits, CodecOptions};
@@ -9,7 +9,7 @@ use zarrs_keys::ChunkKeyEncodingTraits;
 use zarrs_shard::PartialWrite;
 use zarrs_subset::ArraySubset;
 
-impl<G: ChunkGridTraits, K: ChunkKeyEncodingTraits, C: ChainTraits> Parts<G, K, C> {
+impl<G: ChunkGridTraits, K: ChunkKeyEncodingTraits, C: ChainTraits> ArrayLayout<G, K, C> {
     ghost use Rattle.std.specs.Prelude.{◌≡◌, true, false, length, Some, IfOk, IfErr, option_map};
     ghost use Rattle.zarrs_subset.specs.Boxes.{position_count};
     ghost use Rattle.zarrs_subset.specs.Regions.{box_of};
@@ -21,11 +21,11 @@ impl<G: ChunkGridTraits, K: ChunkKeyEncodingTraits, C: ChainTraits> Parts<G, K, 
     ghost use Rattle.zarrs_chain.specs.Options.{stores_empty_chunks};
     ghost use Rattle.zarrs_calls.specs.Patches.{IsNotEncoded};
     ghost use Rattle.zarrs_calls.specs.Refusals.{is_too_large, refusal_of};
-    ghost use Rattle.zarrs_array_layout.specs.Layouts.{layout_of_parts};
+    ghost use Rattle.zarrs_array_layout.specs.Layouts.{layout_meaning};
 
     /// Whether the cells of a part are written into the bytes of their chunk.
     pub fn encodes_partly(&self) -> bool
-        ensures { result ≡ (layout_of_parts self.now).chain.encodes_partly }
+        ensures { result ≡ (layout_meaning self.now).chain.encodes_partly }
     {
         self.chain.supports_partial_encode()
     }
@@ -45,19 +45,19 @@ impl<G: ChunkGridTraits, K: ChunkKeyEncodingTraits, C: ChainTraits> Parts<G, K, 
         part_data: &ArrayBytes<'_>,
         options: &CodecOptions,
     ) -> Result<PartialWrite, ArrayError>
-        requires supported { (layout_of_parts self.now).chain.encodes_partly ≡ true }
-        requires size { is_too_large (layout_of_parts self.now) (box_of chunk.now.region).shape
+        requires supported { (layout_meaning self.now).chain.encodes_partly ≡ true }
+        requires size { is_too_large (layout_meaning self.now) (box_of chunk.now.region).shape
             ≡ false }
         requires dimensions { length (box_of part.now).start
             ≡ length (box_of chunk.now.region).shape }
         requires cells { HasCells (kind self.now.data_type) (data_of part_data.now)
             (position_count (box_of part.now).shape) }
         ensures written { IfOk result (λ write.
-            partial_encoding (layout_of_parts self.now).chain (stores_empty_chunks options.now)
-            (layout_of_parts self.now).kind (layout_of_parts self.now).fill
+            partial_encoding (layout_meaning self.now).chain (stores_empty_chunks options.now)
+            (layout_meaning self.now).kind (layout_meaning self.now).fill
             (box_of chunk.now.region).shape (option_map (λ encoded. encoded.now) stored.entry)
             (box_of part.now) (data_of part_data.now) ≡ Some (change_of write)) }
-        ensures refused { IfErr result (λ e. IsNotEncoded (layout_of_parts self.now)
+        ensures refused { IfErr result (λ e. IsNotEncoded (layout_meaning self.now)
             (stores_empty_chunks options.now) (box_of chunk.now.region).shape
             (option_map (λ encoded. encoded.now) stored.entry) (box_of part.now)
             (data_of part_data.now) (refusal_of e)) }

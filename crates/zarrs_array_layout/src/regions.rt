@@ -1,14 +1,14 @@
 //! Regions of an array: the chunks that they meet, and the data over them.
-use crate::parts::Parts;
+use crate::array_layout::ArrayLayout;
 use std::alloc::Global;
 use zarrs_calls::ArrayError;
-use zarrs_chain::{ChainTraits, CodecError};
+use zarrs_chain::{ChainTraits, CodecError, Misfit};
 use zarrs_chunk_grid::{ChunkGridTraits, GridError};
 use zarrs_data_type::ArrayBytes;
 use zarrs_keys::ChunkKeyEncodingTraits;
 use zarrs_subset::ArraySubset;
 
-impl<G: ChunkGridTraits, K: ChunkKeyEncodingTraits, C: ChainTraits> Parts<G, K, C> {
+impl<G: ChunkGridTraits, K: ChunkKeyEncodingTraits, C: ChainTraits> ArrayLayout<G, K, C> {
     ghost use Rattle.std.specs.Prelude.{◌≡◌, ◌↔◌, Some, None, IfOk, IfErr, IsTrue, OnOk, replicate};
     ghost use Rattle.zarrs_subset.specs.Boxes.{position_count};
     ghost use Rattle.zarrs_subset.specs.Regions.{box_of, positions};
@@ -20,8 +20,9 @@ impl<G: ChunkGridTraits, K: ChunkKeyEncodingTraits, C: ChainTraits> Parts<G, K, 
     ghost use Rattle.zarrs_calls.specs.ArgumentRefusals.{region_refusal};
     ghost use Rattle.zarrs_calls.specs.ChunkBoxes.{is_one_chunk};
     ghost use Rattle.zarrs_calls.specs.Refusals.{RefusesBy, array_subset, refusal_of};
-    ghost use Rattle.zarrs_array_layout.specs.Layouts.{layout_of_parts};
+    ghost use Rattle.zarrs_array_layout.specs.Layouts.{layout_meaning};
     ghost use Rattle.zarrs_array_layout.specs.Covers.{CoverRegion};
+    ghost use Rattle.zarrs_array_layout.specs.Steps.{fills_refusal};
 
     /// The refusal of this region: E1, or out of memory.
     pub fn invalid_region(&self, alloc: Global, region: &ArraySubset) -> ArrayError
@@ -46,9 +47,9 @@ impl<G: ChunkGridTraits, K: ChunkKeyEncodingTraits, C: ChainTraits> Parts<G, K, 
             (λ chunks. box_of chunks ≡ met (G.grid self.now.grid) (box_of region.now)) }
         ensures cover { IfOk result (λ chunks. CoverRegion (G.grid self.now.grid)
             (box_of region.now) (positions (box_of chunks))) }
-        ensures accepted { OnOk result (region_refusal (layout_of_parts self.now)
+        ensures accepted { OnOk result (region_refusal (layout_meaning self.now)
             (G.array_extents self.now.grid) (box_of region.now) ≡ None) }
-        ensures refused { IfErr result (λ e. RefusesBy (region_refusal (layout_of_parts self.now)
+        ensures refused { IfErr result (λ e. RefusesBy (region_refusal (layout_meaning self.now)
             (G.array_extents self.now.grid) (box_of region.now)) (refusal_of e)) }
     {
         match self.grid.chunks_in_array_subset(alloc, region) {
@@ -73,15 +74,33 @@ impl<G: ChunkGridTraits, K: ChunkKeyEncodingTraits, C: ChainTraits> Parts<G, K, 
     ) -> Result<ArrayBytes<'static>, ArrayError>
         ensures cells { IfOk result (λ made. cells (kind self.now.data_type) (data_of made)
             ≡ Some (replicate (position_count (box_of region.now).shape)
-            (layout_of_parts self.now).fill)) }
+            (layout_meaning self.now).fill)) }
         ensures accepted { OnOk result
-            (read_size_refusal (layout_of_parts self.now) (box_of region.now).shape ≡ None) }
+            (read_size_refusal (layout_meaning self.now) (box_of region.now).shape ≡ None) }
         ensures refused { IfErr result (λ e. RefusesBy (read_size_refusal
-            (layout_of_parts self.now) (box_of region.now).shape) (refusal_of e)) }
+            (layout_meaning self.now) (box_of region.now).shape) (refusal_of e)) }
     {
-        let Some(count) = self.cell_count(region) else {
-            return Err(ArrayError::SizeOverflow);
-        };
+        match self.cell_count(region) {
+            Some(count) => self.fill_cells(alloc, count),
+            None => Err(ArrayError::SizeOverflow),
+        }
+    }
+
+    /// So many fill values.
+    ///
+    /// # Errors
+    /// E8 if they have more bytes than a `usize` counts. E9 may come at any time.
+    pub(crate) fn fill_cells(
+        &self,
+        alloc: Global,
+        count: u64,
+    ) -> Result<ArrayBytes<'static>, ArrayError>
+        ensures cells { IfOk result (λ made. cells (kind self.now.data_type) (data_of made)
+            ≡ Some (replicate count (layout_meaning self.now).fill)) }
+        ensures accepted { OnOk result (fills_refusal (layout_meaning self.now) count ≡ None) }
+        ensures refused { IfErr result
+            (λ e. RefusesBy (fills_refusal (layout_meaning self.now) count) (refusal_of e)) }
+    {
         let cell_size = self.data_type.held_size(self.fill_value.as_bytes());
         if count.checked_mul(cell_size as u64).is_none() {
             return Err(ArrayError::SizeOverflow);
@@ -153,9 +172,9 @@ impl<G: ChunkGridTraits, K: ChunkKeyEncodingTraits, C: ChainTraits> Parts<G, K, 
     ) -> Result<(), ArrayError>
         ensures given { OnOk result (HasCells (kind self.now.data_type) (data_of region_data.now)
             (position_count (box_of region.now).shape)) }
-        ensures accepted { OnOk result (box_data_refusal (layout_of_parts self.now) is_whole
+        ensures accepted { OnOk result (box_data_refusal (layout_meaning self.now) is_whole
             (box_of region.now).shape (data_of region_data.now) ≡ None) }
-        ensures refused { IfErr result (λ e. box_data_refusal (layout_of_parts self.now) is_whole
+        ensures refused { IfErr result (λ e. box_data_refusal (layout_meaning self.now) is_whole
             (box_of region.now).shape (data_of region_data.now) ≡ Some (refusal_of e)) }
     {
         if is_whole && self.cell_count(region).is_none() {
@@ -164,6 +183,17 @@ impl<G: ChunkGridTraits, K: ChunkKeyEncodingTraits, C: ChainTraits> Parts<G, K, 
         if self.has_cells(region, region_data) {
             return Ok(());
         }
-        Err(ArrayError::CodecError(CodecError::DoesNotFit))
+        let expected = region.num_elements().unwrap_or(u64::MAX);
+        let misfit = self.misfit_of(region_data, expected);
+        Err(ArrayError::CodecError(CodecError::DoesNotFit(misfit)))
+    }
+
+    /// Why this data is not the expected number of cells, each a value of the data type.
+    pub(crate) fn misfit_of(&self, data: &ArrayBytes<'_>, expected: u64) -> Misfit {
+        let got = self.count_of(data);
+        if got != expected && data.validate(&self.data_type, got) {
+            return Misfit::CellCount { got, expected };
+        }
+        Misfit::NoValue
     }
 }

@@ -1,10 +1,10 @@
 //! Chunks that a change of the array's shape cuts. Nothing here takes memory.
-use crate::parts::Parts;
+use crate::array_layout::ArrayLayout;
 use zarrs_chain::ChainTraits;
 use zarrs_chunk_grid::ChunkGridTraits;
 use zarrs_keys::ChunkKeyEncodingTraits;
 
-impl<G: ChunkGridTraits, K: ChunkKeyEncodingTraits, C: ChainTraits> Parts<G, K, C> {
+impl<G: ChunkGridTraits, K: ChunkKeyEncodingTraits, C: ChainTraits> ArrayLayout<G, K, C> {
     ghost use Rattle.std.specs.Prelude.{◌≡◌, if◌then◌else◌, length, true, Some, None};
     ghost use Rattle.zarrs_chunk_grid.specs.Grids.{box_at, has_box};
     ghost use Rattle.zarrs_calls.specs.ChunkBoxes.{last_of};

@@ -92,7 +92,7 @@ storage_said (stored.Other encoded) = refl
 storage_said stored.OutOfMemory = refl
 
 pub codec_said : (e : CodecError) → refusal_of (error_of_codec e) ≡ refusal_of_codec e
-codec_said coded.DoesNotFit = refl
+codec_said (coded.DoesNotFit _) = refl
 codec_said coded.SizeOverflow = refl
 codec_said coded.OutOfMemory = refl
 

@@ -3,6 +3,7 @@ use Rattle.zarrs_storage.specs.declared.error.StorageError.{StorageError}
 use Rattle.zarrs_storage.specs.declared.error.StorageError.TheVariants as storage
 use Rattle.zarrs_codec_leaf.specs.declared.error.CodecError.{CodecError}
 use Rattle.zarrs_codec_leaf.specs.declared.error.CodecError.TheVariants as codec
+use Rattle.zarrs_codec_leaf.specs.declared.error.Misfit.TheVariants as misfit
 use Rattle.zarrs_parts.specs.declared.error.PartError.{PartError}
 use Rattle.zarrs_parts.specs.declared.error.PartError.TheVariants as part
 use Rattle.zarrs_data_type.specs.declared.error.ElementError.{ElementError}
@@ -12,9 +13,9 @@ use Rattle.zarrs_subset.specs.declared.error.ArraySubsetError.TheVariants as sub
 use Rattle.zarrs_calls.specs.declared.error.ArrayError.{ArrayError}
 use Rattle.zarrs_calls.specs.declared.error.ArrayError.TheVariants as array
 
--- data or bytes that do not fit
+-- data of another kind
 abbrev pub unfit : ArrayError
-unfit = array.CodecError codec.DoesNotFit
+unfit = array.CodecError (codec.DoesNotFit misfit.NoValue)
 
 -- a store's refusal, except out of memory
 abbrev pub error_of_storage : StorageError → ArrayError
@@ -23,7 +24,7 @@ error_of_storage error = array.StorageError error
 
 -- a codec's refusal, except a size and out of memory
 abbrev pub error_of_codec : CodecError → ArrayError
-error_of_codec codec.DoesNotFit = unfit
+error_of_codec (codec.DoesNotFit why) = array.CodecError (codec.DoesNotFit why)
 error_of_codec codec.SizeOverflow = array.SizeOverflow
 error_of_codec codec.OutOfMemory = array.OutOfMemory
 

@@ -52,7 +52,7 @@ abbrev pub refusal_of : ArrayError → Refusal
 refusal_of (error.InvalidArraySubset region shape) = array_subset (box_of region) shape.items
 refusal_of (error.InvalidChunkSubset part index shape) = chunk_subset (box_of part) index.items shape.items
 refusal_of (error.InvalidChunkGridIndicesError index) = indices index.items
-refusal_of (error.CodecError coded.DoesNotFit) = codec
+refusal_of (error.CodecError (coded.DoesNotFit _)) = codec
 refusal_of (error.CodecError coded.SizeOverflow) = unused
 refusal_of (error.CodecError coded.OutOfMemory) = unused
 refusal_of (error.ElementError elements.IncompatibleElementType) = element
@@ -101,7 +101,7 @@ refusal_of_storage (stored.Other said) = storage
 
 -- the refusal that a codec's refusal becomes
 abbrev pub refusal_of_codec : CodecError → Refusal
-refusal_of_codec coded.DoesNotFit = codec
+refusal_of_codec (coded.DoesNotFit _) = codec
 refusal_of_codec coded.SizeOverflow = size_overflow
 refusal_of_codec coded.OutOfMemory = out_of_memory
 

@@ -6,7 +6,7 @@ ghost use Rattle.zarrs_calls.specs.Errors.{error_of_part, error_of_subset, unfit
 
 use std::alloc::{AllocError, AllocFailed};
 use thiserror::Error;
-use zarrs_codec_leaf::CodecError;
+use zarrs_codec_leaf::{CodecError, Misfit};
 use zarrs_data_type::{
     ArrayBytesFixedDisjointViewCreateError, ElementError, ExpectedFixedLengthBytesError,
     ExpectedOptionalBytesError, ExpectedVariableLengthBytesError,
@@ -106,7 +106,9 @@ impl From<CodecError> for ArrayError {
 
     fn from(error: CodecError) -> ArrayError {
         match error {
-            CodecError::DoesNotFit => ArrayError::CodecError(CodecError::DoesNotFit),
+            CodecError::DoesNotFit(misfit) => {
+                ArrayError::CodecError(CodecError::DoesNotFit(misfit))
+            }
             CodecError::SizeOverflow => ArrayError::SizeOverflow,
             CodecError::OutOfMemory => ArrayError::OutOfMemory,
         }
@@ -166,7 +168,7 @@ impl From<ExpectedFixedLengthBytesError> for ArrayError {
     ghost from_gives = { λ _ e. e ≡ unfit };
 
     fn from(_error: ExpectedFixedLengthBytesError) -> ArrayError {
-        ArrayError::CodecError(CodecError::DoesNotFit)
+        ArrayError::CodecError(CodecError::DoesNotFit(Misfit::NoValue))
     }
 }
 
@@ -174,7 +176,7 @@ impl From<ExpectedVariableLengthBytesError> for ArrayError {
     ghost from_gives = { λ _ e. e ≡ unfit };
 
     fn from(_error: ExpectedVariableLengthBytesError) -> ArrayError {
-        ArrayError::CodecError(CodecError::DoesNotFit)
+        ArrayError::CodecError(CodecError::DoesNotFit(Misfit::NoValue))
     }
 }
 
@@ -182,6 +184,6 @@ impl From<ExpectedOptionalBytesError> for ArrayError {
     ghost from_gives = { λ _ e. e ≡ unfit };
 
     fn from(_error: ExpectedOptionalBytesError) -> ArrayError {
-        ArrayError::CodecError(CodecError::DoesNotFit)
+        ArrayError::CodecError(CodecError::DoesNotFit(Misfit::NoValue))
     }
 }

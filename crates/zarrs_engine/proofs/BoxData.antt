@@ -22,7 +22,7 @@ use Rattle.zarrs_array_bytes.proofs.Pieces.{length-fixed_cell, length-flat_map_s
 use Rattle.zarrs_target.specs.Targets.{HasLevels, KeepsOutside, depth_of}
 use Rattle.zarrs_target.proofs.TypeSizes.{element_is, optional_is, some_is}
 use Rattle.zarrs_parts.proofs.Stays.{cell_stays}
-use Rattle.zarrs_engine.proofs.MovedBoxes.{own_unravel}
+use Rattle.zarrs_parts.proofs.MovedBoxes.{own_unravel}
 
 -- ---- data of so many levels fits the type
 

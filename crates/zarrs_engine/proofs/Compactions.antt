@@ -8,7 +8,7 @@ use Rattle.zarrs_calls.specs.Compactions.{HasCompaction, RefusesCompactionOf, co
 use Rattle.zarrs_calls.specs.Refusals.{Refusal, RefusesBy, key_refusal, length_refusal}
 use Rattle.zarrs_calls.specs.Step.{RefusesCompactChunk}
 use Rattle.zarrs_calls.proofs.RefusalLemmas.{makes_none, refused_first, refused_second, second_refusal}
-use Rattle.zarrs_array_layout.specs.Parts.{RefusesPut, RefusesValue}
+use Rattle.zarrs_array_layout.specs.Steps.{RefusesPut, RefusesValue}
 use Rattle.zarrs_array_layout.proofs.Chunks.{right_length}
 use Rattle.zarrs_engine.proofs.Writes.{refused_late}
 

@@ -52,7 +52,7 @@ use Rattle.zarrs_calls.proofs.Contents.{fill_at, index_list, one_key, only_membe
 use Rattle.zarrs_calls.proofs.CutLoops.{cut_gone, cut_kept, cuts_all, cuts_none, cuts_push, cuts_same}
 use Rattle.zarrs_calls.proofs.RefusalLemmas.{fit_chunk, large_chunk, makes_none, memory_or_said, second_refusal}
 use Rattle.zarrs_array_layout.specs.CutWalks.{walk_box, walk_number, walk_whole}
-use Rattle.zarrs_array_layout.specs.Parts.{HasValue, RefusesPut}
+use Rattle.zarrs_array_layout.specs.Steps.{HasValue, RefusesPut}
 use Rattle.zarrs_array_layout.specs.WholeChunks.{PassesBelow}
 use Rattle.zarrs_array_layout.specs.declared.cut_walk.CutWalk.{CutWalk}
 use Rattle.zarrs_array_layout.proofs.Chunks.{unread_why}
@@ -60,9 +60,9 @@ use Rattle.zarrs_engine.specs.Resizes.{HasCut, HasCutCells, HasCutValue, IsCutVa
 use Rattle.zarrs_chunk_grid.specs.declared.traits.ChunkGridTraits.{Ghosts as GridMeaning}
 use Rattle.zarrs_keys.specs.declared.traits.ChunkKeyEncodingTraits.{Ghosts as KeyMeaning}
 use Rattle.zarrs_chain.specs.declared.traits.ChainTraits.{Ghosts as ChainMeanings}
-use Rattle.zarrs_array_layout.specs.declared.parts.Parts.{Parts}
+use Rattle.zarrs_array_layout.specs.declared.array_layout.ArrayLayout.{ArrayLayout}
 use Rattle.zarrs_engine.specs.declared.engine.Engine.{Engine}
-use Rattle.zarrs_engine.specs.Engine.{KeepsOthers, KeepsParts, GivesGrid, grid_of, layout_of}
+use Rattle.zarrs_engine.specs.Engine.{KeepsOthers, KeepsLayout, GivesGrid, grid_of, layout_of}
 use Rattle.zarrs_data_type.specs.Kind.{kind}
 use Rattle.zarrs_calls.specs.Layout.{layout_at}
 use Rattle.zarrs_engine.proofs.Ranges.{makes_then, range_length}
@@ -668,15 +668,15 @@ module _ (layout : Layout) (wanted : List ℕ) where
 
 module _ {G K C : Type 0} {g : GridMeaning G} {k : KeyMeaning K} {c : ChainMeanings C} {S : Type 0} where
   -- what changes the store alone
-  pub keeps_others : (old new : Engine S G K C g k c) → KeepsParts old new → KeepsOthers old new
+  pub keeps_others : (old new : Engine S G K C g k c) → KeepsLayout old new → KeepsOthers old new
   keeps_others old new parts = record {
-    grid = ap (λ (p : Parts G K C g k c). g.grid p.grid) parts;
-    extension = ap (λ (p : Parts G K C g k c). g.extension p.grid) parts;
-    path = ap (λ (p : Parts G K C g k c). p.path) parts;
-    keys = ap (λ (p : Parts G K C g k c). p.keys) parts;
-    chain = ap (λ (p : Parts G K C g k c). p.chain) parts;
-    data_type = ap (λ (p : Parts G K C g k c). p.data_type) parts;
-    fill_value = ap (λ (p : Parts G K C g k c). p.fill_value) parts;
+    grid = ap (λ (p : ArrayLayout G K C g k c). g.grid p.grid) parts;
+    extension = ap (λ (p : ArrayLayout G K C g k c). g.extension p.grid) parts;
+    path = ap (λ (p : ArrayLayout G K C g k c). p.path) parts;
+    keys = ap (λ (p : ArrayLayout G K C g k c). p.keys) parts;
+    chain = ap (λ (p : ArrayLayout G K C g k c). p.chain) parts;
+    data_type = ap (λ (p : ArrayLayout G K C g k c). p.data_type) parts;
+    fill_value = ap (λ (p : ArrayLayout G K C g k c). p.fill_value) parts;
   }
 
   -- the parts that a change of the shape keeps lie as before
@@ -684,15 +684,15 @@ module _ {G K C : Type 0} {g : GridMeaning G} {k : KeyMeaning K} {c : ChainMeani
   layout_same old new o = λ t. layout_at (o.grid t) (o.path t) (k.key (o.keys t)) (c.meaning (o.chain t)) (kind (o.data_type t)) (o.fill_value t)
 
   -- a grid of the same boxes was set
-  pub others_given : (given : G) (old mid new : Engine S G K C g k c) → KeepsParts old mid → GivesGrid given mid new → g.grid given ≡ g.grid (grid_of old) → g.extension given ≡ g.extension (grid_of old) → KeepsOthers old new
+  pub others_given : (given : G) (old mid new : Engine S G K C g k c) → KeepsLayout old mid → GivesGrid given mid new → g.grid given ≡ g.grid (grid_of old) → g.extension given ≡ g.extension (grid_of old) → KeepsOthers old new
   others_given given old mid new parts gives same extension = record {
     grid = ap g.grid gives.grid ∙ same;
     extension = ap g.extension gives.grid ∙ extension;
-    path = gives.path ∙ ap (λ (p : Parts G K C g k c). p.path) parts;
-    keys = gives.keys ∙ ap (λ (p : Parts G K C g k c). p.keys) parts;
-    chain = gives.chain ∙ ap (λ (p : Parts G K C g k c). p.chain) parts;
-    data_type = gives.data_type ∙ ap (λ (p : Parts G K C g k c). p.data_type) parts;
-    fill_value = gives.fill_value ∙ ap (λ (p : Parts G K C g k c). p.fill_value) parts;
+    path = gives.path ∙ ap (λ (p : ArrayLayout G K C g k c). p.path) parts;
+    keys = gives.keys ∙ ap (λ (p : ArrayLayout G K C g k c). p.keys) parts;
+    chain = gives.chain ∙ ap (λ (p : ArrayLayout G K C g k c). p.chain) parts;
+    data_type = gives.data_type ∙ ap (λ (p : ArrayLayout G K C g k c). p.data_type) parts;
+    fill_value = gives.fill_value ∙ ap (λ (p : ArrayLayout G K C g k c). p.fill_value) parts;
   }
 
   pub others_then : (old mid new : Engine S G K C g k c) → KeepsOthers old mid → KeepsOthers mid new → KeepsOthers old new

@@ -32,7 +32,7 @@ use Rattle.zarrs_engine.specs.TargetReads.{HasPositions, HasReadInto, IsRead, Re
 use Rattle.zarrs_engine.specs.Into.{HasContent, RetrievesInto, target_refusal}
 use Rattle.zarrs_engine.proofs.BoxData.{box_cell, box_data, box_levels, box_taken, levels_fit}
 use Rattle.zarrs_engine.proofs.TargetReads.{each_read, reads_from}
-use Rattle.zarrs_engine.proofs.MovedBoxes.{moved_unravel, origin_moved}
+use Rattle.zarrs_parts.proofs.MovedBoxes.{moved_unravel, origin_moved}
 
 -- the data of a target has its levels
 pub target_levels : (old new : ArrayBytesDecodeIntoTarget) → IsTarget new → SameBox old new → HasLevels old.depth old.cell_size (position_count old.parent_shape.now) (data_of_target new)
@@ -156,7 +156,7 @@ same_takes t l k sizes depths takes = subst (λ n. takes_type n l.depth k ≡ tr
 -- a chunk that is present does not decode
 pub into_why : (layout : Layout) (region : Box) (index : List ℕ) (state : StoreState) (encoded : List ℕ) (e : CodecError) → value_at state (layout.key index) ≡ Some encoded
     → RefusesIntoDecoding (decoded_cells layout (box_at layout.grid index) encoded) e → RefusesSomeChunk layout region (index ∷ []) state (refusal_of (error_of_codec e))
-into_why layout region index state encoded codec.DoesNotFit stands why = (index, member index, record { encoded = encoded; stands = stands; undecoded = why })
+into_why layout region index state encoded (codec.DoesNotFit _) stands why = (index, member index, record { encoded = encoded; stands = stands; undecoded = why })
 into_why layout region index state encoded codec.SizeOverflow stands why = absurd why
 into_why layout region index state encoded codec.OutOfMemory stands why = tt
 

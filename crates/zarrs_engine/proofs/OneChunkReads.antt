@@ -25,7 +25,7 @@ use Rattle.zarrs_calls.proofs.Shapes.{known_decodes}
 use Rattle.zarrs_array_layout.specs.Covers.{CoverRegion}
 use Rattle.zarrs_array_layout.proofs.Chunks.{unread_why}
 use Rattle.zarrs_array_layout.proofs.OneChunk.{covers_lies, first_held, region_lies}
-use Rattle.zarrs_engine.proofs.MovedBoxes.{overlap_inside}
+use Rattle.zarrs_parts.proofs.MovedBoxes.{overlap_inside}
 use Rattle.zarrs_engine.proofs.PartReads.{overlap_within}
 
 none_first : (a b : Option Refusal) → option_or a b ≡ None → a ≡ None

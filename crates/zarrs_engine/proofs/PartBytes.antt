@@ -26,7 +26,7 @@ use Rattle.zarrs_calls.specs.Refusals.{Refusal, RefusesBy, box_refusal, fill_ref
 use Rattle.zarrs_calls.specs.StateRefusals.{RefusesSomeChunk}
 use Rattle.zarrs_calls.proofs.Contents.{member}
 use Rattle.zarrs_calls.proofs.RefusalLemmas.{fit_chunk, large_chunk, memory_or_said, refuses_said}
-use Rattle.zarrs_array_layout.specs.Parts.{RefusesBytes, RefusesPartBytes}
+use Rattle.zarrs_array_layout.specs.Steps.{RefusesBytes, RefusesPartBytes}
 use Rattle.zarrs_array_layout.proofs.ChunkParts.{chunk_accepted}
 use Rattle.zarrs_array_layout.proofs.Chunks.{value_refused_store}
 use Rattle.zarrs_array_layout.proofs.RegionRefusals.{some_broken, some_key, some_size}

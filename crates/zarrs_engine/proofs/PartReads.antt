@@ -1,6 +1,7 @@
 -- Reads of parts of chunks.
 use Rattle.std.proofs.Common.{◌≡◌, ◌+◌, ◌-◌, ◌<◌, ◌≤◌, max, min, ℕ, zero, suc, true, false, cond, List, [], ◌∷◌, length, replicate}
 use Rattle.std.proofs.Common.{slice_index, Option, Some, None, Contains, refl, sym, ◌∙◌, ap, subst, inl, inr, arith}
+use Rattle.std.specs.List.{SomeIndex}
 use Rattle.std.specs.Option.{option_or}
 use Rattle.std.specs.Str.{bytes_eq}
 use Rattle.std.proofs.lemmas.Bool.{cases_Bool, and_from, and_parts, false≢true}
@@ -8,8 +9,8 @@ use Rattle.std.proofs.lemmas.Grind.{same_number_lists}
 use Rattle.std.proofs.lemmas.List.{get_or-replicate, length-replicate}
 use Rattle.std.proofs.lemmas.Slice.Eq.{bytes_eq-Decides}
 use Rattle.zarrs_subset.specs.Boxes.{offset_by, overlap_extents, overlap_start, position_count, zip_with}
-use Rattle.zarrs_subset.specs.Regions.{Box, IsLong, Holds, LiesInShape, box_from, overlap_of, shifted_box}
-use Rattle.zarrs_subset.proofs.Overlaps.{length-zip_with}
+use Rattle.zarrs_subset.specs.Regions.{Box, IsLong, Holds, LiesInShape, box_from, overlap_of, seen_from, shifted_box}
+use Rattle.zarrs_subset.proofs.Overlaps.{in_box-empty, length-zip_with}
 use Rattle.zarrs_subset.proofs.Parts.{zip_with-at}
 use Rattle.zarrs_byte_strings.specs.StringParts.{LiesInBox}
 use Rattle.zarrs_subset.proofs.Shifts.{part_in_chunk}
@@ -29,11 +30,12 @@ use Rattle.zarrs_calls.specs.Content.{value_at}
 use Rattle.zarrs_calls.proofs.Contents.{member, only_member}
 use Rattle.zarrs_calls.proofs.RefusalLemmas.{refused_first, refused_second, second_refusal}
 use Rattle.zarrs_array_layout.specs.Covers.{CoverRegion}
+use Rattle.zarrs_array_layout.specs.Shared.{AreApart, AreShared}
 use Rattle.zarrs_engine.specs.RegionReads.{HasRead}
 use Rattle.zarrs_array_layout.proofs.ChunkParts.{chunk_has, part_lies, shifted_part}
 use Rattle.zarrs_array_layout.proofs.Chunks.{right_length}
 use Rattle.zarrs_array_layout.proofs.OneChunk.{covers_lies}
-use Rattle.zarrs_engine.proofs.MovedBoxes.{overlap_inside}
+use Rattle.zarrs_parts.proofs.MovedBoxes.{overlap_inside}
 use Rattle.zarrs_engine.proofs.RegionReads.{read_all}
 
 -- ---- which part is the whole chunk
@@ -135,6 +137,49 @@ overlap_within region chunk long chunk_long lies =
     (λ k lt. lies.ends k (omega (arith, lies.same_length))) in
     ap (λ s. record { start = s; shape = overlap_extents region.start region.shape chunk.start chunk.shape }) start ∙ ap (λ x. record { start = region.start; shape = x }) extents
 
+-- such a region is all of what is shared, and its part is the region, seen from the corner of the chunk
+pub alone_shared : (region chunk part : Box) → IsLong region → IsLong chunk → LiesInBox region chunk → part ≡ seen_from region chunk.start → AreShared region chunk region part
+alone_shared region chunk part long chunk_long lies seen =
+    subst (λ (b : Box). AreShared region chunk region b) (sym seen) (record {
+      shared_is = sym (overlap_within region chunk long chunk_long lies);
+      part_is = refl;
+      in_region = record {
+        same_length = refl;
+        starts = λ k below. omega arith;
+        ends = λ k below. omega arith;
+      };
+      in_chunk = lies;
+      lies = record {
+        same_length = length-zip_with (λ s t. s - t) region.start chunk.start lies.same_length ∙ lies.same_length ∙ chunk_long;
+        ends = λ k below.
+            let inside : k < length chunk.start = omega (arith, chunk_long) in
+            let at : slice_index (zip_with (λ s t. s - t) region.start chunk.start) k ≡ slice_index region.start k - slice_index chunk.start k =
+            zip_with-at (λ s t. s - t) region.start chunk.start k (omega (arith, lies.same_length)) inside in
+            let first = lies.starts k inside in
+            let last = lies.ends k inside in
+            omega (arith, at);
+      };
+      few = omega arith;
+    })
+
+-- no position of an empty region lies in a chunk
+pub empty_apart : (region chunk : Box) → IsLong region → SomeIndex region.shape (λ k. slice_index region.shape k ≡ 0) → AreApart region chunk
+empty_apart region chunk long none = λ position holds.
+    absurd (false≢true (sym (in_box-empty region.start region.shape position none.0 long none.1 none.2) ∙ holds))
+
+shifted_back : (start corner : List ℕ) → length start ≡ length corner → zip_with (λ s t. s - t) (offset_by corner start) corner ≡ start
+shifted_back [] [] same = refl
+shifted_back [] (c ∷ corner) same = absurd (omega arith)
+shifted_back (s ∷ start) [] same = absurd (omega arith)
+shifted_back (s ∷ start) (c ∷ corner) same =
+    let here : c + s - c ≡ s = omega arith in
+    ap (λ x. x ∷ zip_with (λ s t. s - t) (offset_by corner start) corner) here ∙ ap (λ xs. s ∷ xs) (shifted_back start corner (omega arith))
+
+-- a part, seen from the corner of its chunk once more
+pub part_seen : (chunk part region : Box) → length part.start ≡ length chunk.start → region ≡ part_box chunk part → part ≡ seen_from region chunk.start
+part_seen chunk part region same is =
+    ap (λ start. box_from start part.shape) (sym (shifted_back part.start chunk.start same)) ∙ ap (λ (b : Box). seen_from b chunk.start) (sym is)
+
 -- a part lies in its chunk
 part_within : (chunk part : Box) → IsLong chunk → LiesInShape part chunk.shape → LiesInBox (part_box chunk part) chunk
 part_within chunk part long lies =
@@ -233,6 +278,11 @@ module _ (layout : Layout) (lawful : IsLawful layout) (index : List ℕ) (part c
       let at = box_at layout.grid index in
       subst (λ (b : Box). LiesInBox b chunk) (sym region_is) (part_within chunk part (subst IsLong (sym chunk_is) (box_long layout.grid index))
       (subst (λ (b : Box). LiesInShape part b.shape) (sym chunk_is) (part_lies layout index part inside)))
+
+  pub seen_part : part ≡ seen_from region chunk.start
+  seen_part =
+      let lies = part_lies layout index part inside in
+      part_seen chunk part region (lies.same_length ∙ sym (box_long layout.grid index) ∙ ap (λ (b : Box). length b.start) (sym chunk_is)) region_is
 
   -- a part that is not the whole chunk does not cover it
   pub is_part : (region ≡ chunk → ⊥) → IsPart layout region index

@@ -21,7 +21,7 @@ use Rattle.zarrs_calls.specs.Refusals.{Refusal, RefusesBy, key_refusal, refusal_
 use Rattle.zarrs_calls.specs.StateRefusals.{RefusesErasure}
 use Rattle.zarrs_calls.specs.Patches.{IsNotEncoded, RefusesPartly}
 use Rattle.zarrs_calls.proofs.RefusalLemmas.{makes_none, memory_or_said}
-use Rattle.zarrs_array_layout.specs.Parts.{RefusesPut}
+use Rattle.zarrs_array_layout.specs.Steps.{RefusesPut}
 use Rattle.zarrs_engine.specs.Patches.{LeavesPatch}
 
 module _ (layout : Layout) (keep : Bool) (index : List ℕ) where
@@ -60,7 +60,7 @@ module _ (layout : Layout) (keep : Bool) (index : List ℕ) where
     where
       go : (e : CodecError) → RefusesPartialEncoding layout.chain keep layout.kind layout.fill (box_at layout.grid index).shape (value_at state (layout.key index)) part held e
           → RefusesPartly layout keep index 0 state (refusal_of_codec e)
-      go coded.DoesNotFit cause = (refl, (part, held, record { error = coded.DoesNotFit; is = refl; cause = cause }))
+      go (coded.DoesNotFit misfit) cause = (refl, (part, held, record { error = coded.DoesNotFit misfit; is = refl; cause = cause }))
       go coded.SizeOverflow cause = (refl, (part, held, record { error = coded.SizeOverflow; is = refl; cause = cause }))
       go coded.OutOfMemory cause = tt
 

@@ -13,7 +13,7 @@ use Rattle.zarrs_calls.specs.Refusals as refusal
 use Rattle.zarrs_calls.specs.Refusals.{Refusal, refusal_of_storage}
 use Rattle.zarrs_calls.specs.StateRefusals.{RefusesErasure, CallFails}
 use Rattle.zarrs_calls.proofs.RefusalLemmas.{makes_none}
-use Rattle.zarrs_array_layout.specs.Parts.{RefusesPut}
+use Rattle.zarrs_array_layout.specs.Steps.{RefusesPut}
 
 apart_test : (a b : List ℕ) → a ≢ b → bytes_eq a b ≡ false
 apart_test a b apart = elim (cases_Bool (bytes_eq a b)) [

@@ -1,5 +1,5 @@
 -- Reads of regions into data over a larger box, one chunk after another.
-use Rattle.std.proofs.Common.{◌≡◌, ◌||◌, ◌&&◌, ℕ, ◌+◌, ◌<◌, Bool, true, false, cond, List, [], ◌∷◌, ◌++◌, length, map, take, get_or, slice_get, Option, None, Some, Contains, refl, sym, ap, ◌∙◌, subst, inl, inr, arith}
+use Rattle.std.proofs.Common.{◌≡◌, ◌||◌, ◌&&◌, ℕ, ◌+◌, ◌<◌, Bool, true, false, cond, List, [], ◌∷◌, ◌++◌, length, map, take, slice_get, Option, None, Some, Contains, refl, sym, ap, ◌∙◌, subst, inl, inr, arith}
 use Rattle.std.specs.Prelude.{slice_index}
 use Rattle.std.specs.List.{list_any, range_with_len}
 use Rattle.std.specs.Str.{bytes_eq}
@@ -9,9 +9,9 @@ use Rattle.std.proofs.lemmas.List.Elements.{Contains-push_cases}
 use Rattle.std.proofs.lemmas.List.FromFn.{get_or-map-range_with_len, length-map-range_with_len}
 use Rattle.std.proofs.lemmas.List.Sums.{AllPass-from_list_all}
 use Rattle.std.proofs.lemmas.Option.{get_or_from_slice_get, slice_get-get_or, slice_get_within}
-use Rattle.zarrs_subset.specs.Boxes.{offset_from, position_count}
-use Rattle.zarrs_subset.specs.Regions.{Box, Holds, IsLong, box_at_origin, in_box, place_in, seen_from}
-use Rattle.zarrs_subset.proofs.Bytes.{along_holds, place_in_below}
+use Rattle.zarrs_subset.specs.Boxes.{offset_by, offset_from, position_count}
+use Rattle.zarrs_subset.specs.Regions.{Box, Holds, IsLong, in_box, place_in, seen_from}
+use Rattle.zarrs_subset.proofs.Bytes.{along_holds, holds_along, place_in_below}
 use Rattle.zarrs_byte_strings.specs.StringParts.{LiesInBox}
 use Rattle.zarrs_byte_strings.proofs.Inside.{holds_inside}
 use Rattle.zarrs_chunk_grid.specs.Grids.{IsGrid, Grid, box_at, extent_along, has_box, index_at, is_covered}
@@ -22,12 +22,12 @@ use Rattle.zarrs_data_type.specs.Kind.{fixed_size}
 use Rattle.zarrs_data_type.specs.Cell.{Cell, are_values, is_value, none}
 use Rattle.zarrs_data_type.specs.ArrayData.{ArrayData}
 use Rattle.zarrs_data_type.specs.Cells.{cell_at, fits}
-use Rattle.zarrs_array_bytes.specs.Parts.{TakesEach}
-use Rattle.zarrs_array_bytes.proofs.Cells.{IsSized, cells-from, cells-parts}
+use Rattle.zarrs_array_bytes.proofs.Cells.{IsSized, cells-from}
 use Rattle.zarrs_array_bytes.proofs.Parts.{at_place}
 use Rattle.zarrs_target.specs.Targets.{FillsBox, KeepsOutside}
-use Rattle.zarrs_parts.specs.Parts.{DecodesInto}
+use Rattle.zarrs_parts.specs.Parts.{DecodesInto, DecodesPartAt, place_at}
 use Rattle.zarrs_parts.proofs.Stays.{cell_stays}
+use Rattle.zarrs_parts.proofs.SubchunkSteps.{seen_again}
 use Rattle.zarrs_calls.specs.Layout.{Layout, IsLawful}
 use Rattle.zarrs_calls.specs.ChunkBoxes.{CoversBox}
 use Rattle.zarrs_calls.specs.Content.{value_at, cell_at_place, chunk_cell, content, decoded_cells}
@@ -38,8 +38,7 @@ use Rattle.zarrs_array_layout.specs.Covers.{CoverRegion}
 use Rattle.zarrs_array_layout.specs.Shared.{AreApart, AreShared}
 use Rattle.zarrs_array_layout.proofs.SharedBoxes.{shared_long}
 use Rattle.zarrs_engine.specs.TargetReads.{HasPositions, HasReadInto, IsRead, ReadsOneMoreInto}
-use Rattle.zarrs_engine.specs.RegionReads.{DecodesStored}
-use Rattle.zarrs_engine.proofs.MovedBoxes.{in_overlap, moved_box, moved_holds, moved_in, moved_place, moved_same, moved_to, origin_place, part_holds, part_place}
+use Rattle.zarrs_parts.proofs.MovedBoxes.{in_overlap, moved_box, moved_holds, moved_in, moved_place, moved_same, moved_to, origin_place, part_holds}
 use Rattle.zarrs_engine.proofs.RegionReads.{any_of, in_more}
 
 some_is : {A : Type 0} {x y : A} → Some x ≡ Some y → x ≡ y
@@ -95,39 +94,30 @@ module _ (layout : Layout) (lawful : IsLawful layout) (state : StoreState) where
           }
 
       -- a part of a chunk that was decoded
-      pub part_positions : (region shared part : Box) (made old new : ArrayData) → IsLong region → AreShared region chunk shared part → own.shape ≡ shared.shape → DecodesStored layout index part state made
-          → TakesEach layout.kind box own made old new → HasPositions layout shared state box own new
-      part_positions region shared part made old new region_long are same d takes = λ position holds.
+      pub part_positions : (region shared part : Box) (encoded : List ℕ) (new : ArrayData) → IsLong region → AreShared region chunk shared part → own.shape ≡ shared.shape → value_at state (layout.key index) ≡ Some encoded
+          → DecodesPartAt layout.kind chunk.shape part (decoded_cells layout chunk encoded) box own new → HasPositions layout shared state box own new
+      part_positions region shared part encoded new region_long are same stands d = λ position holds.
           let k = layout.kind in
           let chunk_long = box_long layout.grid index in
           let shared_long = is_long region chunk shared part region_long chunk_long are in
-          let q = moved_to own shared position in
-          let there = moved_holds own shared own_long shared_long same position holds in
-          let i = place_in shared position in
           let here : Holds chunk position = holds_inside shared chunk position shared_long chunk_long are.in_chunk holds in
-          let taken : cell_at k new (place_in box q) ≡ cell_at k made i =
-          takes.each_cell q (in_parent q there)
-          ∙ ap (λ b. cond b (cell_at k made (place_in own q)) (cell_at k old (place_in box q))) there
-          ∙ ap (cell_at k made) (moved_place own shared own_long shared_long same position holds) in
-          let given = d.decodes.given in
-          let parts = cells-parts k made given d.decodes.are_cells in
           let part_is : part ≡ seen_from shared chunk.start = are.part_is in
-          let count : length given ≡ position_count shared.shape = d.decodes.count ∙ ap (λ (b : Box). position_count b.shape) part_is in
-          let below : i < length given = subst (λ n. i < n) (sym count) (place_in_below shared position shared_long holds) in
-          let cell_is : slice_get given i ≡ Some (cell_at k made i) =
-          slice_get-get_or given i none below ∙ ap (λ l. Some (get_or l i none)) parts.2
-          ∙ ap Some (get_or-map-range_with_len (λ j. cell_at k made j) 0 (length given) i i none below (omega arith)) in
+          let seen = offset_from chunk.start position in
+          let in_part : Holds part seen = subst (λ (b : Box). Holds b seen) (sym part_is) (part_holds chunk shared chunk_long shared_long are.in_chunk position holds) in
+          let got = d seen in_part in
+          let at : place_at box own part seen ≡ place_in box (moved_to own shared position) =
+          ap (λ (b : Box). place_at box own b seen) part_is
+          ∙ ap (λ q. place_in box (offset_by own.start q))
+          (seen_again shared.start chunk.start position (sym are.in_chunk.same_length) (holds_along shared position shared_long holds).same_length
+          (λ j lt. are.in_chunk.starts j (omega (arith, are.in_chunk.same_length)))) in
+          let cell_is : cell_at k new (place_in box (moved_to own shared position)) ≡ cell_at k new (place_at box own part seen) = ap (cell_at k new) (sym at) in
           record {
-            value = ap (is_value k) taken ∙ parts.1 i below;
+            value = ap (is_value k) cell_is ∙ got.value;
             same = λ cell is.
-                let seen = offset_from chunk.start position in
-                let in_part : Holds part seen = subst (λ (b : Box). Holds b seen) (sym part_is) (part_holds chunk shared chunk_long shared_long are.in_chunk position holds) in
-                let at_part : place_in part seen ≡ i = ap (λ (b : Box). place_in b seen) part_is ∙ part_place chunk shared chunk_long shared_long are.in_chunk position holds in
-                let chunk_is : content layout (value_at state) position ≡ cell_at_place (decoded_cells layout chunk d.encoded) (place_in chunk position) =
-                content_in_box layout (value_at state) lawful index has position here ∙ ap (λ t. chunk_cell layout t chunk position) d.stands in
-                let whole = whole_of (decoded_cells layout chunk d.encoded) (place_in chunk position) cell (sym chunk_is ∙ is) in
-                let found : slice_get given i ≡ slice_get whole.0 (place_in (box_at_origin chunk.shape) seen) = ap (slice_get given) (sym at_part) ∙ d.decodes.same whole.0 whole.1 seen in_part in
-                taken ∙ some_is (sym cell_is ∙ found ∙ ap (slice_get whole.0) (origin_place chunk position chunk_long here) ∙ whole.2);
+                let chunk_is : content layout (value_at state) position ≡ cell_at_place (decoded_cells layout chunk encoded) (place_in chunk position) =
+                content_in_box layout (value_at state) lawful index has position here ∙ ap (λ t. chunk_cell layout t chunk position) stands in
+                let whole = whole_of (decoded_cells layout chunk encoded) (place_in chunk position) cell (sym chunk_is ∙ is) in
+                cell_is ∙ some_is (got.same whole.0 whole.1 ∙ ap (slice_get whole.0) (origin_place chunk position chunk_long here) ∙ whole.2);
           }
         where
           whole_of : (o : Option (List Cell)) (i : ℕ) (cell : Cell) → cell_at_place o i ≡ Some cell → (cs : List Cell) × (o ≡ Some cs) × (slice_get cs i ≡ Some cell)

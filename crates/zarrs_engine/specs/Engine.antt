@@ -6,14 +6,14 @@ use Rattle.zarrs_keys.specs.declared.traits.ChunkKeyEncodingTraits.{Ghosts as Ke
 use Rattle.zarrs_chain.specs.declared.traits.ChainTraits.{Ghosts as ChainMeanings}
 use Rattle.zarrs_data_type.specs.declared.data_type.DataType.{DataType}
 use Rattle.zarrs_calls.specs.Layout.{Layout, ArrayState}
-use Rattle.zarrs_array_layout.specs.Layouts.{layout_of_parts}
+use Rattle.zarrs_array_layout.specs.Layouts.{layout_meaning}
 use Rattle.zarrs_engine.specs.declared.engine.Engine.{Engine}
 
 module _ {G K C : Type 0} {g : GridMeaning G} {k : KeyMeaning K} {c : ChainMeanings C} where
   module _ {S : Type 0} where
     -- what an engine means
     abbrev pub layout_of : Engine S G K C g k c → Layout
-    layout_of engine = layout_of_parts engine.parts
+    layout_of engine = layout_meaning engine.layout
 
     -- an engine's store
     abbrev pub the_store : Engine S G K C g k c → S
@@ -25,32 +25,32 @@ module _ {G K C : Type 0} {g : GridMeaning G} {k : KeyMeaning K} {c : ChainMeani
 
     -- the same, and the array's shape
     abbrev pub state_of : (S → StoreState) → Engine S G K C g k c → ArrayState
-    state_of state engine = record { store = state engine.storage; shape = g.array_extents engine.parts.grid }
+    state_of state engine = record { store = state engine.storage; shape = g.array_extents engine.layout.grid }
 
     -- where an engine's array lies
     abbrev pub path_of : Engine S G K C g k c → List ℕ
-    path_of engine = engine.parts.path
+    path_of engine = engine.layout.path
 
     -- the grid, the key encoding, the chain of codecs and the data type that an engine was made of
     abbrev pub grid_of : Engine S G K C g k c → G
-    grid_of engine = engine.parts.grid
+    grid_of engine = engine.layout.grid
 
     abbrev pub keys_of : Engine S G K C g k c → K
-    keys_of engine = engine.parts.keys
+    keys_of engine = engine.layout.keys
 
     abbrev pub chain_of : Engine S G K C g k c → C
-    chain_of engine = engine.parts.chain
+    chain_of engine = engine.layout.chain
 
     abbrev pub data_type_of : Engine S G K C g k c → DataType
-    data_type_of engine = engine.parts.data_type
+    data_type_of engine = engine.layout.data_type
 
     -- the bytes of the fill value
     abbrev pub fill_value_of : Engine S G K C g k c → List ℕ
-    fill_value_of engine = engine.parts.fill_value
+    fill_value_of engine = engine.layout.fill_value
 
     -- nothing but the store changed
-    abbrev pub KeepsParts : Engine S G K C g k c → Engine S G K C g k c → Type 0
-    KeepsParts old new = new.parts ≡ old.parts
+    abbrev pub KeepsLayout : Engine S G K C g k c → Engine S G K C g k c → Type 0
+    KeepsLayout old new = new.layout ≡ old.layout
 
     -- nothing but the store and the array's shape changed
     pub record KeepsOthers (old new : Engine S G K C g k c) : Type 0 where

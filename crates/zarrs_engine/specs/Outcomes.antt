@@ -33,7 +33,7 @@ use Rattle.zarrs_calls.specs.Step.{Step}
 use Rattle.zarrs_calls.specs.Patches.{PatchStep}
 use Rattle.zarrs_calls.specs.Patches.{PatchesPart, RefusesPatchPart, PatchesRegion, RefusesPatchRegion}
 use Rattle.zarrs_calls.specs.declared.error.ArrayError.{ArrayError}
-use Rattle.zarrs_engine.specs.Engine.{layout_of, store_of, state_of, KeepsParts}
+use Rattle.zarrs_engine.specs.Engine.{layout_of, store_of, state_of, KeepsLayout}
 use Rattle.zarrs_engine.specs.declared.engine.Engine.{Engine}
 
 -- a read was made: it returns this data, or is refused
@@ -54,7 +54,7 @@ module _ {S G K C : Type 0} {g : GridMeaning G} {k : KeyMeaning K} {c : ChainMea
       (old new : Engine S G K C g k c) (result : Result (Unit {0}) E) : Type 0 where
     pub done : OnOk result (does (store_of state old) (store_of state new))
     pub refused : IfErr result (λ e. refuses (refusal e) (store_of state old) (store_of state new))
-    pub parts : KeepsParts old new
+    pub layout_kept : KeepsLayout old new
 
   -- The same of whole chunks: besides, a canonical store stays one, done or refused, if empty chunks are not kept.
   pub record WritesChunks {E : Type 0} (refusal : E → Refusal) (state : S → StoreState) (keep : Bool)
@@ -63,7 +63,7 @@ module _ {S G K C : Type 0} {g : GridMeaning G} {k : KeyMeaning K} {c : ChainMea
     pub done : OnOk result (does (store_of state old) (store_of state new))
     pub refused : IfErr result (λ e. refuses (refusal e) (store_of state old) (store_of state new))
     pub canonical : KeepsCanon (layout_of old) keep (store_of state old) (store_of state new)
-    pub parts : KeepsParts old new
+    pub layout_kept : KeepsLayout old new
 
   -- a store of one chunk
   abbrev pub StoresChunkOrRefuses : (S → StoreState) → Bool → List ℕ → ArrayData
@@ -125,7 +125,7 @@ module _ {S G K C : Type 0} {g : GridMeaning G} {k : KeyMeaning K} {c : ChainMea
         → IfOk result (λ answer. (answer ≡ false) × (store_of state new ≡ store_of state old))
     pub canonical : KeepsCanon (layout_of old) false (store_of state old) (store_of state new)
     pub refusing : (store_of state old).refuses ((layout_of old).key index) ≡ true → IsErr result
-    pub parts : KeepsParts old new
+    pub layout_kept : KeepsLayout old new
 
   -- a read of one chunk: its cells are returned, or the read is refused, as it is where the store refuses the key
   pub record RetrievesChunkOrRefuses (state : S → StoreState) (index : List ℕ)

@@ -1,4 +1,4 @@
-//! An engine: a store, and the parts that say what its values mean.
+//! An engine: a store, and the layout that says what its values mean.
 mod calls;
 mod compactions;
 mod encoded;
@@ -14,7 +14,7 @@ mod writes;
 
 pub use calls::replay;
 use std::fmt;
-use zarrs_array_layout::Parts;
+use zarrs_array_layout::ArrayLayout;
 use zarrs_chain::ChainTraits;
 use zarrs_chunk_grid::ChunkGridTraits;
 use zarrs_data_type::{DataType, FillValue};
@@ -28,7 +28,7 @@ use zarrs_keys::{ChunkKeyEncodingTraits, NodePath};
 #[derive(Drop)]
 pub struct Engine<S, G: ChunkGridTraits, K: ChunkKeyEncodingTraits, C: ChainTraits> {
     storage: S,
-    parts: Parts<G, K, C>,
+    layout: ArrayLayout<G, K, C>,
 }
 
 impl<S, G: ChunkGridTraits, K: ChunkKeyEncodingTraits, C: ChainTraits> Engine<S, G, K, C> {
@@ -37,7 +37,7 @@ impl<S, G: ChunkGridTraits, K: ChunkKeyEncodingTraits, C: ChainTraits> Engine<S,
     ghost use Rattle.zarrs_data_type.specs.Kind.{kind};
     ghost use Rattle.zarrs_data_type.specs.Cell.{fill_cell};
     ghost use Rattle.zarrs_calls.specs.Layout.{layout_at};
-    ghost use Rattle.zarrs_array_layout.specs.Layouts.{layout_of_parts};
+    ghost use Rattle.zarrs_array_layout.specs.Layouts.{layout_meaning};
     ghost use Rattle.zarrs_engine.specs.Engine.{layout_of, the_store, path_of, grid_of, keys_of};
     ghost use Rattle.zarrs_engine.specs.Engine.{chain_of, data_type_of, fill_value_of};
     ghost use Rattle.zarrs_engine.specs.Lending.{LendsStore};
@@ -64,7 +64,7 @@ impl<S, G: ChunkGridTraits, K: ChunkKeyEncodingTraits, C: ChainTraits> Engine<S,
         ensures data_type { data_type_of result ≡ data_type }
         ensures fill_value { fill_value_of result ≡ fill_value }
     {
-        let parts = Parts {
+        let layout = ArrayLayout {
             path,
             grid,
             keys,
@@ -72,7 +72,7 @@ impl<S, G: ChunkGridTraits, K: ChunkKeyEncodingTraits, C: ChainTraits> Engine<S,
             data_type,
             fill_value,
         };
-        Engine { storage, parts }
+        Engine { storage, layout }
     }
 
     /// The store.
@@ -82,7 +82,7 @@ impl<S, G: ChunkGridTraits, K: ChunkKeyEncodingTraits, C: ChainTraits> Engine<S,
         &self.storage
     }
 
-    /// Lends the store, for a caller that changes it. The parts of the engine stay.
+    /// Lends the store, for a caller that changes it. The layout stays.
     pub fn storage_mut(&mut self) -> &mut S
         ensures* writes_back { sem 𝓛 (LendsStore S.row G.row K.row C.row G.ChunkGridTraits
             K.ChunkKeyEncodingTraits C.ChainTraits self.entry result) }
@@ -92,8 +92,8 @@ impl<S, G: ChunkGridTraits, K: ChunkKeyEncodingTraits, C: ChainTraits> Engine<S,
     }
 
     /// What an engine is beside its store.
-    pub fn parts(&self) -> &Parts<G, K, C>
-        ensures layout { layout_of_parts result.now ≡ layout_of self.now }
+    pub fn layout(&self) -> &ArrayLayout<G, K, C>
+        ensures layout { layout_meaning result.now ≡ layout_of self.now }
         ensures path { result.now.path ≡ path_of self.now }
         ensures grid { result.now.grid ≡ grid_of self.now }
         ensures keys { result.now.keys ≡ keys_of self.now }
@@ -101,56 +101,56 @@ impl<S, G: ChunkGridTraits, K: ChunkKeyEncodingTraits, C: ChainTraits> Engine<S,
         ensures data_type { result.now.data_type ≡ data_type_of self.now }
         ensures fill_value { result.now.fill_value ≡ fill_value_of self.now }
     {
-        &self.parts
+        &self.layout
     }
 
     /// Where the array lies.
     pub fn path(&self) -> &NodePath
         ensures { result.now ≡ path_of self.now }
     {
-        &self.parts.path
+        &self.layout.path
     }
 
     /// How the array is cut into chunks.
     pub fn chunk_grid(&self) -> &G
         ensures { result.now ≡ grid_of self.now }
     {
-        &self.parts.grid
+        &self.layout.grid
     }
 
     /// The number of dimensions, which is the length of an index list.
     pub fn dimensionality(&self) -> usize
         ensures { result ≡ (layout_of self.now).grid.dimensions }
     {
-        self.parts.grid.dimensionality()
+        self.layout.grid.dimensionality()
     }
 
     /// How the keys of chunks are made.
     pub fn keys(&self) -> &K
         ensures { result.now ≡ keys_of self.now }
     {
-        &self.parts.keys
+        &self.layout.keys
     }
 
     /// How the cells of a chunk become bytes.
     pub fn chain(&self) -> &C
         ensures { result.now ≡ chain_of self.now }
     {
-        &self.parts.chain
+        &self.layout.chain
     }
 
     /// The type of the cells.
     pub fn data_type(&self) -> &DataType
         ensures { result.now ≡ data_type_of self.now }
     {
-        &self.parts.data_type
+        &self.layout.data_type
     }
 
     /// The value of a cell that was never written.
     pub fn fill_value(&self) -> &FillValue
         ensures { result.now ≡ fill_value_of self.now }
     {
-        &self.parts.fill_value
+        &self.layout.fill_value
     }
 }
 
@@ -164,7 +164,7 @@ impl<S, G: ChunkGridTraits + Drop, K: ChunkKeyEncodingTraits, C: ChainTraits> En
         requires { (G.grid grid).dimensions ≡ (G.grid (grid_of self.old)).dimensions }
         ensures { GivesGrid grid self.old self.new }
     {
-        self.parts.grid = grid;
+        self.layout.grid = grid;
     }
 }
 
@@ -190,9 +190,9 @@ impl<S, G: ChunkGridTraits, K: ChunkKeyEncodingTraits, C: ChainTraits> fmt::Debu
     for Engine<S, G, K, C> {
     fn fmt<W: fmt::Write>(&self, f: &mut fmt::Formatter<W>) -> fmt::Result {
         f.debug_struct("Engine")
-            .field("path", &self.parts.path)
-            .field("data_type", &self.parts.data_type)
-            .field("fill_value", &self.parts.fill_value)
+            .field("path", &self.layout.path)
+            .field("data_type", &self.layout.data_type)
+            .field("fill_value", &self.layout.fill_value)
             .finish_non_exhaustive()
     }
 }

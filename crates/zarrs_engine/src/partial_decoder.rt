@@ -52,7 +52,7 @@ impl<S, G: ChunkGridTraits, K: ChunkKeyEncodingTraits, C: ChainTraits> Engine<S,
         ensures refused { IfErr result (λ e. RefusesBy
             (chunk_refusal (layout_of self.now) chunk_indices.now) (refusal_of e)) }
     {
-        self.parts().chunk_box(alloc, chunk_indices)?;
+        self.layout().chunk_box(alloc, chunk_indices)?;
         Ok(ArrayPartialDecoder {
             engine: self,
             chunk_indices: chunk_indices.to_vec(alloc)?,
@@ -181,9 +181,9 @@ impl<
             (layout_of (engine_of self.now)) (indices_of self.now) (box_of chunk_subset.now))
             (refusal_of e)) }
     {
-        let parts = self.engine.parts();
-        let chunk = parts.chunk_box(alloc, &self.chunk_indices)?;
-        parts.part_of(alloc, &self.chunk_indices, &chunk, chunk_subset)
+        let layout = self.engine.layout();
+        let chunk = layout.chunk_box(alloc, &self.chunk_indices)?;
+        layout.part_of(alloc, &self.chunk_indices, &chunk, chunk_subset)
     }
 
     /// Whether the chunk is present. None of its bytes is read.
@@ -200,7 +200,7 @@ impl<
             (layout_of (engine_of self.now)) (indices_of self.now)
             (store_of S.state (engine_of self.now))) (refusal_of e)) }
     {
-        let key = self.engine.parts().chunk_key(alloc, &self.chunk_indices)?;
+        let key = self.engine.layout().chunk_key(alloc, &self.chunk_indices)?;
         let size = self.engine.storage().size_key(alloc, &key)?;
         Ok(size.is_some())
     }

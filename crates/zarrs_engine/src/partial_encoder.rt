@@ -53,7 +53,7 @@ impl<S, G: ChunkGridTraits, K: ChunkKeyEncodingTraits, C: ChainTraits> Engine<S,
         ensures refused { IfErr result (λ e. RefusesBy
             (chunk_refusal (layout_of self.old) chunk_indices.now) (refusal_of e)) }
     {
-        self.parts().chunk_box(alloc, chunk_indices)?;
+        self.layout().chunk_box(alloc, chunk_indices)?;
         let chunk_indices = chunk_indices.to_vec(alloc)?;
         Ok(ArrayPartialEncoder {
             engine: self,

@@ -57,7 +57,8 @@ fn a_list_of_calls_goes_on_after_refusals(rt: HostRuntime) {
         Step::Read(&[1, 1]),
     ];
     const ERASED: &str = "[Refused(InvalidChunkGridIndicesError([0])), Done, MaybeCells(None), \
-        Refused(InvalidChunkGridIndicesError([1])), Done, Refused(CodecError(DoesNotFit)), \
+        Refused(InvalidChunkGridIndicesError([1])), Done, \
+        Refused(CodecError(DoesNotFit(CellCount { got: 3, expected: 4 }))), \
         MaybeCells(Some(Fixed([0, 3, 0, 0]))), Cells(Fixed([0, 0, 0, 0]))]";
     let mut engine = small_array(&rt, rt.alloc());
     must_reply(&rt, rt.alloc(), &mut engine, WRITES, WRITTEN);

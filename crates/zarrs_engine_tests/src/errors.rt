@@ -2,7 +2,7 @@
 use crate::checks::{must_eq, must_print};
 use std::alloc::Global;
 use std::process::Abort;
-use zarrs_codec::CodecError;
+use zarrs_codec::{CodecError, Misfit};
 use zarrs_data_type::ElementError;
 use zarrs_engine::ArrayError;
 use zarrs_storage::StorageError;
@@ -27,8 +27,8 @@ fn errors_keep_their_meaning_and_say_what_was_refused(rt: HostRuntime) {
     must_be(
         &rt,
         alloc,
-        CodecError::DoesNotFit.into(),
-        "CodecError(DoesNotFit)",
+        CodecError::DoesNotFit(Misfit::Bytes).into(),
+        "CodecError(DoesNotFit(Bytes))",
     );
     must_be(
         &rt,
@@ -37,6 +37,12 @@ fn errors_keep_their_meaning_and_say_what_was_refused(rt: HostRuntime) {
         "ElementError(IncompatibleElementType)",
     );
     must_say(&rt, alloc, ArrayError::OutOfMemory, "out of memory");
+    must_say(
+        &rt,
+        alloc,
+        CodecError::DoesNotFit(Misfit::Bytes).into(),
+        "the bytes do not decode",
+    );
     must_say(
         &rt,
         alloc,

@@ -4,7 +4,7 @@ ghost use Rattle.zarrs_storage.specs.Memory.{open_state};
 ghost use Rattle.zarrs_data_type.specs.ArrayData.{data_of, fixed};
 ghost use Rattle.zarrs_data_type.specs.Cells.{cells};
 ghost use Rattle.zarrs_calls.specs.Step.{StoresChunk, ErasesChunk};
-ghost use Rattle.zarrs_engine.specs.Engine.{layout_of, store_of, KeepsParts};
+ghost use Rattle.zarrs_engine.specs.Engine.{layout_of, store_of, KeepsLayout};
 
 use crate::make::MemoryEngine;
 use std::alloc::Global;
@@ -23,7 +23,7 @@ pub fn store_and_read(
         (fixed chunk_bytes.now) (store_of open_state engine.old) (store_of open_state engine.new)) }
     ensures same { IfOk result (λ read. cells (layout_of engine.old).kind (data_of read)
         ≡ cells (layout_of engine.old).kind (fixed chunk_bytes.now)) }
-    ensures parts { KeepsParts engine.old engine.new }
+    ensures layout_kept { KeepsLayout engine.old engine.new }
 {
     let chunk_data = ArrayBytes::from_flen(chunk_bytes);
     let options = CodecOptions::default();
@@ -40,7 +40,7 @@ pub fn erase(
 ) -> Result<(), ArrayError>
     ensures erased { OnOk result (ErasesChunk (layout_of engine.old) chunk_indices.now
         (store_of open_state engine.old) (store_of open_state engine.new)) }
-    ensures parts { KeepsParts engine.old engine.new }
+    ensures layout_kept { KeepsLayout engine.old engine.new }
 {
     if chunk_indices.len() != engine.dimensionality() {
         let indices = chunk_indices.to_vec(alloc)?;

@@ -104,7 +104,7 @@ impl<
     ghost use Rattle.zarrs_calls.specs.Refusals.{length_refusal};
     ghost use Rattle.zarrs_calls.specs.Step.{ActStep};
     ghost use Rattle.zarrs_engine.specs.Engine.{layout_of, state_of, store_of, KeepsOthers};
-    ghost use Rattle.zarrs_engine.specs.Engine.{KeepsParts};
+    ghost use Rattle.zarrs_engine.specs.Engine.{KeepsLayout};
     ghost use Rattle.zarrs_engine.specs.Outcomes.{StepsAs};
 
     /// Makes one call, and returns the reply: that it was done, what was read, or why it was refused.
@@ -174,9 +174,9 @@ impl<
             (length_refusal (layout_of self.old) chunk_indices.now)
             (erase (chunk_indices.now ∷ [])) result (store_of S.state self.old)
             (store_of S.state self.new) }
-        ensures parts { KeepsParts self.old self.new }
+        ensures layout_kept { KeepsLayout self.old self.new }
     {
-        if chunk_indices.len() != self.parts.grid.dimensionality() {
+        if chunk_indices.len() != self.layout.grid.dimensionality() {
             return Reply::Refused(invalid_indices(alloc, chunk_indices));
         }
         match self.erase_chunk(alloc, chunk_indices) {
@@ -191,9 +191,9 @@ impl<
             (length_refusal (layout_of self.old) (box_of chunks.now).start)
             (erase (positions (box_of chunks.now))) result (store_of S.state self.old)
             (store_of S.state self.new) }
-        ensures parts { KeepsParts self.old self.new }
+        ensures layout_kept { KeepsLayout self.old self.new }
     {
-        if chunks.dimensionality() != self.parts.grid.dimensionality() {
+        if chunks.dimensionality() != self.layout.grid.dimensionality() {
             return Reply::Refused(invalid_indices(alloc, chunks.start()));
         }
         match self.erase_chunks(alloc, chunks) {
@@ -208,9 +208,9 @@ impl<
         ensures step { (keep : Bool) (shape : List ℕ) → ActStep (layout_of self.old) keep shape
             (length_refusal (layout_of self.old) chunk_indices.now) (compact chunk_indices.now)
             result (store_of S.state self.old) (store_of S.state self.new) }
-        ensures parts { KeepsParts self.old self.new }
+        ensures layout_kept { KeepsLayout self.old self.new }
     {
-        if chunk_indices.len() != self.parts.grid.dimensionality() {
+        if chunk_indices.len() != self.layout.grid.dimensionality() {
             return Reply::Refused(invalid_indices(alloc, chunk_indices));
         }
         match self.compact_chunk(alloc, chunk_indices) {

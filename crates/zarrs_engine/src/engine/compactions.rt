@@ -39,10 +39,10 @@ impl<
         let Some(encoded) = self.stored_bytes(alloc, chunk_indices)? else {
             return Ok(false);
         };
-        let Some(less) = self.parts.compact(alloc, chunk_indices, &encoded)? else {
+        let Some(less) = self.layout.compact(alloc, chunk_indices, &encoded)? else {
             return Ok(false);
         };
-        let key = self.parts.chunk_key(alloc, chunk_indices)?;
+        let key = self.layout.chunk_key(alloc, chunk_indices)?;
         self.put(alloc, &key, Some(less))?;
         Ok(true)
     }

@@ -3,11 +3,12 @@ use super::Engine;
 use std::alloc::{AllocError, Global};
 use zarrs_array_layout::{Shared, shared_positions};
 use zarrs_calls::ArrayError;
-use zarrs_chain::{ChainTraits, CodecError};
+use zarrs_chain::{ChainTraits, CodecError, Misfit};
 use zarrs_chunk_grid::ChunkGridTraits;
 use zarrs_data_type::lies_in_box;
 use zarrs_keys::ChunkKeyEncodingTraits;
 use zarrs_parts::seen_from_corner;
+use zarrs_source::StoredValue;
 use zarrs_storage::ReadableStorageTraits;
 use zarrs_subset::{ArraySubset, ArraySubsetError};
 use zarrs_target::{ArrayBytesDecodeIntoTarget, copy_fill_value_into};
@@ -75,7 +76,7 @@ impl<
             → target.new.masks.now ≡ target.old.masks.now) }
     {
         self.check_target(alloc, array_subset, target)?;
-        let chunks = self.parts.chunks_met(alloc, array_subset)?;
+        let chunks = self.layout.chunks_met(alloc, array_subset)?;
         self.read_into(alloc, array_subset, &chunks, target)
     }
 
@@ -96,13 +97,13 @@ impl<
         ensures same_shape { OnOk result
             ((target_box target.now).shape ≡ (box_of region.now).shape) }
         ensures refused { IfErr result (λ e. RefusesBy (target_refusal (layout_of self.now)
-            (G.array_extents self.now.parts.grid) (box_of region.now) target.now) (refusal_of e)) }
+            (G.array_extents self.now.layout.grid) (box_of region.now) target.now) (refusal_of e)) }
     {
         if region.dimensionality() != self.dimensionality() {
-            return Err(self.parts.invalid_region(alloc, region));
+            return Err(self.layout.invalid_region(alloc, region));
         }
-        if !target.takes_type(&self.parts.data_type) {
-            return Err(ArrayError::CodecError(CodecError::DoesNotFit));
+        if !target.takes_type(&self.layout.data_type) {
+            return Err(ArrayError::CodecError(CodecError::DoesNotFit(Misfit::Target)));
         }
         if target.region.shape() != region.shape() {
             let got = target.region.shape().to_vec(alloc)?;
@@ -180,7 +181,7 @@ impl<
             (refusal_of e)) }
         ensures outside { StaysOutside target.old target.new }
     {
-        let chunk = self.parts.chunk_box(alloc, chunk_indices)?;
+        let chunk = self.layout.chunk_box(alloc, chunk_indices)?;
         let Some(shared) = shared_positions(alloc, region, &chunk)? else {
             return Ok(());
         };
@@ -269,13 +270,13 @@ impl<
             (refusal_of e)) }
         ensures outside { StaysOutside target.old target.new }
     {
-        let data_type = &self.parts.data_type;
-        let fill_value = &self.parts.fill_value;
+        let data_type = &self.layout.data_type;
+        let fill_value = &self.layout.fill_value;
         let Some(encoded) = self.stored_bytes(alloc, chunk_indices)? else {
             copy_fill_value_into(alloc, data_type, fill_value, target)?;
             return Ok(());
         };
-        let chain = &self.parts.chain;
+        let chain = &self.layout.chain;
         chain.decode_into(alloc, &encoded, data_type, fill_value, target)?;
         Ok(())
     }
@@ -313,13 +314,17 @@ impl<
             (refusal_of e)) }
         ensures outside { StaysOutside target.old target.new }
     {
-        let Some(part) = self.part_of_chunk(alloc, chunk_indices, chunk, &shared.part)? else {
-            let data_type = &self.parts.data_type;
-            copy_fill_value_into(alloc, data_type, &self.parts.fill_value, target)?;
+        let key = self.layout.chunk_key(alloc, chunk_indices)?;
+        let Some(source) = StoredValue::open(alloc, &self.storage, &key)? else {
+            let data_type = &self.layout.data_type;
+            copy_fill_value_into(alloc, data_type, &self.layout.fill_value, target)?;
             return Ok(());
         };
-        target.write_cells(alloc, &part)?;
-        Ok(())
+        if self.layout.cell_count(chunk).is_none() {
+            return Err(ArrayError::SizeOverflow);
+        }
+        self.layout
+            .decode_part_into(alloc, chunk, &source, &shared.part, target)
     }
 }
 

@@ -34,7 +34,7 @@ impl<
         requires { MayRetrieveChunks S.state (box_of chunks.now) self.now }
         ensures { RetrievesChunksOrRefuses S.state (box_of chunks.now) self.now result }
     {
-        let region = self.parts.chunks_region(alloc, chunks)?;
+        let region = self.layout.chunks_region(alloc, chunks)?;
         self.read_region(alloc, &region, chunks)
     }
 
@@ -57,14 +57,14 @@ impl<
         ensures { RetrievesPartOrRefuses S.state chunk_indices.now (box_of chunk_subset.now) self.now
             result }
     {
-        let chunk = self.parts.chunk_box(alloc, chunk_indices)?;
+        let chunk = self.layout.chunk_box(alloc, chunk_indices)?;
         let region = self
-            .parts
+            .layout
             .part_of(alloc, chunk_indices, &chunk, chunk_subset)?;
         if region == chunk {
             return self.retrieve_chunk(alloc, chunk_indices);
         }
         self.count_to_read(&region)?;
-        self.read_part(alloc, &region, chunk_indices, &chunk)
+        self.read_part(alloc, &region, chunk_indices, &chunk, chunk_subset)
     }
 }

@@ -41,8 +41,8 @@ impl<
     ghost use Rattle.zarrs_calls.specs.Refusals.{refusal_of_storage};
     ghost use Rattle.zarrs_array_layout.specs.Covers.{CoverRegion};
     ghost use Rattle.zarrs_engine.specs.RegionWrites.{AreCovered};
-    ghost use Rattle.zarrs_array_layout.specs.Parts.{RefusesPut};
-    ghost use Rattle.zarrs_engine.specs.Engine.{layout_of, store_of, KeepsParts};
+    ghost use Rattle.zarrs_array_layout.specs.Steps.{RefusesPut};
+    ghost use Rattle.zarrs_engine.specs.Engine.{layout_of, store_of, KeepsLayout};
     ghost use Rattle.zarrs_engine.specs.Outcomes.{PatchesPartOrRefuses};
     ghost use Rattle.zarrs_engine.specs.Patches.{LeavesPatch};
 
@@ -51,7 +51,7 @@ impl<
         ensures { result ≡ ((layout_of self.now).chain.encodes_partly
             && (store_of S.state self.now).sets_parts) }
     {
-        self.parts.encodes_partly() && self.storage.supports_set_partial()
+        self.layout.encodes_partly() && self.storage.supports_set_partial()
     }
 
     /// Whether a store with these options writes the parts of chunks by themselves.
@@ -75,7 +75,7 @@ impl<
             (store_of S.state self.new)) }
         ensures refused { IfErr result (λ e. RefusesPut (refusal_of_storage e)
             (store_of S.state self.old) (store_of S.state self.new)) }
-        ensures parts { KeepsParts self.old self.new }
+        ensures layout_kept { KeepsLayout self.old self.new }
     {
         match write {
             PartialWrite::Put(offset, bytes) => {
@@ -119,10 +119,10 @@ impl<
     {
         let Some(encoded) = self.stored_bytes(alloc, chunk_indices)? else {
             return self
-                .parts
+                .layout
                 .partial_encode(alloc, chunk, None, part, part_data, options);
         };
-        self.parts
+        self.layout
             .partial_encode(alloc, chunk, Some(&encoded), part, part_data, options)
     }
 
@@ -152,11 +152,11 @@ impl<
             (λ e. LeavesPatch (layout_of self.old) (stores_empty_chunks options.now) region held
             chunk_indices.now (refusal_of e) (store_of S.state self.old)
             (store_of S.state self.new)) }
-        ensures parts { KeepsParts self.old self.new }
+        ensures layout_kept { KeepsLayout self.old self.new }
     {
-        let chunk = self.parts.chunk(alloc, chunk_indices)?;
+        let chunk = self.layout.chunk(alloc, chunk_indices)?;
         let write = self.part_write(alloc, chunk_indices, &chunk, part, part_data, options)?;
-        let key = self.parts.chunk_key(alloc, chunk_indices)?;
+        let key = self.layout.chunk_key(alloc, chunk_indices)?;
         self.put_part(alloc, &key, write)?;
         Ok(())
     }
@@ -186,12 +186,12 @@ impl<
         ensures { PatchesPartOrRefuses S.state (stores_empty_chunks options.now) chunk_indices.now
             (box_of chunk_subset.now) (data_of chunk_subset_data.now) self.old self.new result }
     {
-        let chunk = self.parts.chunk_box(alloc, chunk_indices)?;
+        let chunk = self.layout.chunk_box(alloc, chunk_indices)?;
         let region = self
-            .parts
+            .layout
             .part_of(alloc, chunk_indices, &chunk, chunk_subset)?;
         let whole = region == chunk;
-        self.parts.check_cells(whole, &region, chunk_subset_data)?;
+        self.layout.check_cells(whole, &region, chunk_subset_data)?;
         if self.encodes_partly() {
             return self.patch_chunk(
                 alloc,
@@ -227,7 +227,7 @@ impl<
         ensures refused { IfErr result (RefusesOffset (box_of inner.now).start origin.now) }
     {
         let seen = inner.relative_to(alloc, origin)?;
-        let data = region_data.extract_array_subset(alloc, &self.parts.data_type, region, inner)?;
+        let data = region_data.extract_array_subset(alloc, &self.layout.data_type, region, inner)?;
         Ok((seen, data))
     }
 
@@ -257,9 +257,9 @@ impl<
             (stores_empty_chunks options.now) (box_of region.now) (data_of region_data.now)
             chunk_indices.now (refusal_of e) (store_of S.state self.old)
             (store_of S.state self.new)) }
-        ensures parts { KeepsParts self.old self.new }
+        ensures layout_kept { KeepsLayout self.old self.new }
     {
-        let chunk = self.parts.chunk_box(alloc, chunk_indices)?;
+        let chunk = self.layout.chunk_box(alloc, chunk_indices)?;
         let shared = region.overlap(alloc, &chunk)?;
         if shared.is_empty() || lies_in_box(&chunk, region) {
             return self.store_part(alloc, region, region_data, chunk_indices, options);
@@ -291,7 +291,7 @@ impl<
             (λ e. RefusesPatches (layout_of self.old) (stores_empty_chunks options.now) first
             (box_of region.now) (data_of region_data.now) (positions (box_of chunks.now))
             (refusal_of e) (store_of S.state self.old) (store_of S.state self.new)) }
-        ensures parts { KeepsParts self.old self.new }
+        ensures layout_kept { KeepsLayout self.old self.new }
     {
         let Some(mut walk) = chunks.walk(alloc)? else {
             return Ok(());

@@ -24,7 +24,7 @@ impl<
     ghost use Rattle.zarrs_calls.specs.StateRefusals.{RefusesChunkRead};
     ghost use Rattle.zarrs_engine.specs.Engine.{layout_of, store_of};
     ghost use Rattle.zarrs_engine.specs.Outcomes.{RetrievesChunkOrRefuses, RetrievesIfExistsOrRefuses};
-    ghost use Rattle.zarrs_array_layout.specs.Parts.{RefusesValue};
+    ghost use Rattle.zarrs_array_layout.specs.Steps.{RefusesValue};
 
     /// The bytes that are present at the key of the chunk with these indices.
     pub(crate) fn stored_bytes(
@@ -46,10 +46,10 @@ impl<
         ensures refusing { (store_of S.state self.now).refuses
             ((layout_of self.now).key chunk_indices.now) ≡ true → IsErr result }
     {
-        if chunk_indices.len() != self.parts.grid.dimensionality() {
+        if chunk_indices.len() != self.layout.grid.dimensionality() {
             return Err(invalid_indices(alloc, chunk_indices));
         }
-        let key = self.parts.chunk_key(alloc, chunk_indices)?;
+        let key = self.layout.chunk_key(alloc, chunk_indices)?;
         let value = self.storage.get(alloc, &key)?;
         Ok(value)
     }
@@ -70,7 +70,7 @@ impl<
     {
         match self.stored_bytes(alloc, chunk_indices)? {
             Some(encoded) => {
-                let data = self.parts.decode(alloc, chunk_indices, &encoded)?;
+                let data = self.layout.decode(alloc, chunk_indices, &encoded)?;
                 Ok(Some(data.into_owned(alloc)?))
             }
             None => Ok(None),
@@ -94,10 +94,10 @@ impl<
     {
         match self.stored_bytes(alloc, chunk_indices)? {
             Some(encoded) => {
-                let data = self.parts.decode(alloc, chunk_indices, &encoded)?;
+                let data = self.layout.decode(alloc, chunk_indices, &encoded)?;
                 Ok(data.into_owned(alloc)?)
             }
-            None => self.parts.fill(alloc, chunk_indices),
+            None => self.layout.fill(alloc, chunk_indices),
         }
     }
 }

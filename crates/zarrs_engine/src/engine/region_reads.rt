@@ -2,12 +2,13 @@
 use super::Engine;
 use super::region_lists::form_of;
 use std::alloc::Global;
-use zarrs_array_layout::{Parts, shared_positions};
+use zarrs_array_layout::{ArrayLayout, shared_positions};
 use zarrs_calls::ArrayError;
 use zarrs_chain::ChainTraits;
 use zarrs_chunk_grid::ChunkGridTraits;
 use zarrs_data_type::{ArrayBytes, lies_in_box};
 use zarrs_keys::ChunkKeyEncodingTraits;
+use zarrs_parts::seen_from_corner;
 use zarrs_region_cells::RegionCells;
 use zarrs_source::StoredValue;
 use zarrs_storage::ReadableStorageTraits;
@@ -22,7 +23,7 @@ impl<
     ghost use Rattle.std.specs.Prelude.{◌≡◌, ◌<◌, ◌*◌, ◌^◌, true, false, [], ◌∷◌, Some, None, IfOk, IfErr, IfSome};
     ghost use Rattle.std.specs.Prelude.{IfNone, OnOk, length, replicate};
     ghost use Rattle.zarrs_subset.specs.Boxes.{position_count};
-    ghost use Rattle.zarrs_subset.specs.Regions.{Box, LiesInShape, box_of, positions};
+    ghost use Rattle.zarrs_subset.specs.Regions.{Box, LiesInShape, box_of, positions, seen_from};
     ghost use Rattle.zarrs_chunk_grid.specs.Grids.{box_at, has_box};
     ghost use Rattle.zarrs_data_type.specs.Cell.{held_size};
     ghost use Rattle.zarrs_data_type.specs.ArrayData.{ArrayData, data_of};
@@ -55,13 +56,13 @@ impl<
         ensures refused { IfErr result (λ e. RefusesBy (read_size_refusal (layout_of self.now)
             (box_of region.now).shape) (refusal_of e)) }
     {
-        let Some(count) = self.parts.cell_count(region) else {
+        let Some(count) = self.layout.cell_count(region) else {
             return Err(ArrayError::SizeOverflow);
         };
         let cell_size = self
-            .parts
+            .layout
             .data_type
-            .held_size(self.parts.fill_value.as_bytes());
+            .held_size(self.layout.fill_value.as_bytes());
         if count.checked_mul(cell_size as u64).is_none() {
             return Err(ArrayError::SizeOverflow);
         }
@@ -83,11 +84,11 @@ impl<
             (box_of region.now).shape) (refusal_of e)) }
     {
         let count = self.count_to_read(region)?;
-        let Parts {
+        let ArrayLayout {
             data_type,
             fill_value,
             ..
-        } = &self.parts;
+        } = &self.layout;
         let made = RegionCells::new_fill_value(alloc, data_type, count, fill_value)?;
         Ok(made)
     }
@@ -116,30 +117,32 @@ impl<
         ensures refused { IfErr result (λ e. (region : Box) → RefusesSomeChunk (layout_of self.now)
             region (chunk_indices.now ∷ []) (store_of S.state self.now) (refusal_of e)) }
     {
-        let key = self.parts.chunk_key(alloc, chunk_indices)?;
+        let key = self.layout.chunk_key(alloc, chunk_indices)?;
         let Some(source) = StoredValue::open(alloc, &self.storage, &key)? else {
             return Ok(None);
         };
-        if self.parts.cell_count(chunk).is_none() {
+        if self.layout.cell_count(chunk).is_none() {
             return Err(ArrayError::SizeOverflow);
         }
-        let made = self.parts.decode_part(alloc, chunk, &source, part)?;
+        let made = self.layout.decode_part(alloc, chunk, &source, part)?;
         Ok(Some(made))
     }
 
     /// The cells of a region that is a part of the chunk of this box, just as they are decoded. They are fill if there are
-    /// none: the region has no position, or the chunk is absent.
+    /// none: the region has no position, or the chunk is absent. `part` is the region, seen from the corner of the chunk.
     fn region_in_chunk(
         &self,
         alloc: Global,
         region: &ArraySubset,
         chunk_indices: &[u64],
         chunk: &ArraySubset,
+        part: &ArraySubset,
     ) -> Result<Option<ArrayBytes<'static>>, ArrayError>
         requires boxed { has_box (layout_of self.now).grid chunk_indices.now ≡ true }
         requires chunk { box_of chunk.now ≡ box_at (layout_of self.now).grid chunk_indices.now }
         requires part { IsPart (layout_of self.now) (box_of region.now) chunk_indices.now }
         requires lies { LiesInBox (box_of region.now) (box_of chunk.now) }
+        requires seen { box_of part.now ≡ seen_from (box_of region.now) (box_of chunk.now).start }
         requires size { read_size_refusal (layout_of self.now) (box_of region.now).shape ≡ None }
         requires ask { MayDecodePart (layout_of self.now) (chunk_part (box_of region.now)
             (box_of chunk.now)) chunk_indices.now (store_of S.state self.now) }
@@ -153,10 +156,10 @@ impl<
             (λ e. RefusesSomeChunk (layout_of self.now) (box_of region.now)
             (chunk_indices.now ∷ []) (store_of S.state self.now) (refusal_of e)) }
     {
-        let Some(shared) = shared_positions(alloc, region, chunk)? else {
+        if region.is_empty() {
             return Ok(None);
-        };
-        let found = self.part_of_chunk(alloc, chunk_indices, chunk, &shared.part)?;
+        }
+        let found = self.part_of_chunk(alloc, chunk_indices, chunk, part)?;
         Ok(found)
     }
 
@@ -183,7 +186,7 @@ impl<
             (λ e. RefusesSomeChunk (layout_of self.now) (box_of region.now)
             (chunk_indices.now ∷ []) (store_of S.state self.now) (refusal_of e)) }
     {
-        let chunk = self.parts.chunk_box(alloc, chunk_indices)?;
+        let chunk = self.layout.chunk_box(alloc, chunk_indices)?;
         if lies_in_box(&chunk, region) {
             return self.with_whole_chunk(alloc, region, held, chunk_indices, &chunk);
         }
@@ -216,8 +219,8 @@ impl<
         let Some(encoded) = self.stored_bytes(alloc, chunk_indices)? else {
             return Ok(held);
         };
-        let part = self.parts.decode(alloc, chunk_indices, &encoded)?;
-        let made = held.with_part(alloc, &self.parts.data_type, region, &part, chunk)?;
+        let part = self.layout.decode(alloc, chunk_indices, &encoded)?;
+        let made = held.with_part(alloc, &self.layout.data_type, region, &part, chunk)?;
         Ok(made)
     }
 
@@ -253,7 +256,7 @@ impl<
         let Some(part) = found else {
             return Ok(held);
         };
-        let made = held.with_part(alloc, &self.parts.data_type, region, &part, &shared.region)?;
+        let made = held.with_part(alloc, &self.layout.data_type, region, &part, &shared.region)?;
         Ok(made)
     }
 
@@ -314,7 +317,7 @@ impl<
                 return self.read_in_chunk(alloc, region, chunks.start());
             }
         }
-        if let Some(form) = form_of(&self.parts.data_type) {
+        if let Some(form) = form_of(&self.layout.data_type) {
             return self.read_in_list(alloc, region, chunks, form);
         }
         let filled = self.region_of_fill(alloc, region)?;
@@ -345,26 +348,29 @@ impl<
             (chunk_indices.now ∷ []) (store_of S.state self.now) (refusal_of e)) }
     {
         self.count_to_read(region)?;
-        let chunk = self.parts.chunk_box(alloc, chunk_indices)?;
+        let chunk = self.layout.chunk_box(alloc, chunk_indices)?;
         if *region == chunk {
             return self.retrieve_chunk(alloc, chunk_indices);
         }
-        self.read_part(alloc, region, chunk_indices, &chunk)
+        let part = seen_from_corner(alloc, region, chunk.start())?;
+        self.read_part(alloc, region, chunk_indices, &chunk, &part)
     }
 
-    /// The same, of a region that is a part of the chunk of this box. No other bytes of the chunk are read than those that
-    /// the part needs.
+    /// The same, of a region that is a part of the chunk of this box: `part` is the region, seen from the corner of the
+    /// chunk. No other bytes of the chunk are read than those that the part needs.
     pub(super) fn read_part(
         &self,
         alloc: Global,
         region: &ArraySubset,
         chunk_indices: &[u64],
         chunk: &ArraySubset,
+        part: &ArraySubset,
     ) -> Result<ArrayBytes<'static>, ArrayError>
         requires boxed { has_box (layout_of self.now).grid chunk_indices.now ≡ true }
         requires chunk { box_of chunk.now ≡ box_at (layout_of self.now).grid chunk_indices.now }
         requires part { IsPart (layout_of self.now) (box_of region.now) chunk_indices.now }
         requires lies { LiesInBox (box_of region.now) (box_of chunk.now) }
+        requires seen { box_of part.now ≡ seen_from (box_of region.now) (box_of chunk.now).start }
         requires size { read_size_refusal (layout_of self.now) (box_of region.now).shape ≡ None }
         requires ask { MayDecodePart (layout_of self.now) (chunk_part (box_of region.now)
             (box_of chunk.now)) chunk_indices.now (store_of S.state self.now) }
@@ -374,10 +380,10 @@ impl<
             (box_of region.now) (chunk_indices.now ∷ []) (store_of S.state self.now)
             (refusal_of e)) }
     {
-        if let Some(made) = self.region_in_chunk(alloc, region, chunk_indices, chunk)? {
+        if let Some(made) = self.region_in_chunk(alloc, region, chunk_indices, chunk, part)? {
             return Ok(made);
         }
-        self.parts.filled(alloc, region)
+        self.layout.filled(alloc, region)
     }
 
     /// The cells of the region, in row-major order. Where a chunk is absent they are fill. The chunks that the region
@@ -396,7 +402,7 @@ impl<
         requires { MayRetrieveRegion S.state (box_of array_subset.now) self.now }
         ensures { RetrievesRegionOrRefuses S.state (box_of array_subset.now) self.now result }
     {
-        let chunks = self.parts.chunks_met(alloc, array_subset)?;
+        let chunks = self.layout.chunks_met(alloc, array_subset)?;
         self.read_region(alloc, array_subset, &chunks)
     }
 }

@@ -33,8 +33,8 @@ impl<
     ghost use Rattle.zarrs_engine.specs.Outcomes.{StoresChunksOrRefuses};
     ghost use Rattle.zarrs_engine.specs.Outcomes.{StoresPartAs, MayStorePart};
     ghost use Rattle.zarrs_array_layout.specs.Covers.{CoverRegion};
-    ghost use Rattle.zarrs_array_layout.specs.Parts.{HasValue};
-    ghost use Rattle.zarrs_engine.specs.Engine.{layout_of, state_of, store_of, KeepsParts};
+    ghost use Rattle.zarrs_array_layout.specs.Steps.{HasValue};
+    ghost use Rattle.zarrs_engine.specs.Engine.{layout_of, state_of, store_of, KeepsLayout};
     ghost use Rattle.zarrs_engine.specs.RegionWrites.{AreCovered, HasUpdated, LeavesPart};
     ghost use Rattle.zarrs_engine.specs.RegionWrites.{StoresOneMore};
 
@@ -68,7 +68,7 @@ impl<
         if lies_in_box(chunk, region) {
             let data = region_data.extract_array_subset(
                 alloc,
-                &self.parts.data_type,
+                &self.layout.data_type,
                 region,
                 chunk,
             )?;
@@ -77,7 +77,7 @@ impl<
         let held = self.retrieve_chunk(alloc, chunk_indices)?;
         let data = held.update_array_bytes(
             alloc,
-            &self.parts.data_type,
+            &self.layout.data_type,
             chunk,
             region_data,
             region,
@@ -112,9 +112,9 @@ impl<
             → IfErr result (λ e. LeavesPart (layout_of self.old) keep region held
             chunk_indices.now (refusal_of e) (store_of S.state self.old)
             (store_of S.state self.new)) }
-        ensures parts { KeepsParts self.old self.new }
+        ensures layout_kept { KeepsLayout self.old self.new }
     {
-        let key = self.parts.chunk_key(alloc, chunk_indices)?;
+        let key = self.layout.chunk_key(alloc, chunk_indices)?;
         self.put(alloc, &key, value)?;
         Ok(())
     }
@@ -144,15 +144,15 @@ impl<
             (λ e. LeavesPart (layout_of self.old) (stores_empty_chunks options.now)
             (box_of region.now) (data_of region_data.now) chunk_indices.now (refusal_of e)
             (store_of S.state self.old) (store_of S.state self.new)) }
-        ensures parts { KeepsParts self.old self.new }
+        ensures layout_kept { KeepsLayout self.old self.new }
     {
-        let chunk = self.parts.chunk(alloc, chunk_indices)?;
+        let chunk = self.layout.chunk(alloc, chunk_indices)?;
         if chunk.region == *region {
-            let value = self.parts.value_of(alloc, &chunk, region_data, options)?;
+            let value = self.layout.value_of(alloc, &chunk, region_data, options)?;
             return self.put_value(alloc, chunk_indices, value);
         }
         let data = self.updated_chunk(alloc, region, region_data, chunk_indices, &chunk.region)?;
-        let value = self.parts.value_of_owned(alloc, &chunk, data, options)?;
+        let value = self.layout.value_of_owned(alloc, &chunk, data, options)?;
         self.put_value(alloc, chunk_indices, value)
     }
 
@@ -179,7 +179,7 @@ impl<
             (λ e. RefusesStore (layout_of self.old) (stores_empty_chunks options.now) first
             (box_of region.now) (data_of region_data.now) (positions (box_of chunks.now))
             (refusal_of e) (store_of S.state self.old) (store_of S.state self.new)) }
-        ensures parts { KeepsParts self.old self.new }
+        ensures layout_kept { KeepsLayout self.old self.new }
     {
         let Some(mut walk) = chunks.walk(alloc)? else {
             return Ok(());
@@ -216,13 +216,13 @@ impl<
             return Err(ArrayError::SizeOverflow);
         };
         if number == 0 {
-            return self.parts.check_cells(false, chunks, chunks_data);
+            return self.layout.check_cells(false, chunks, chunks_data);
         }
-        if chunks.dimensionality() != self.parts.grid.dimensionality() {
+        if chunks.dimensionality() != self.layout.grid.dimensionality() {
             return Err(invalid_indices(alloc, chunks.start()));
         }
-        let region = self.parts.chunks_region(alloc, chunks)?;
-        self.parts.check_cells(number == 1, &region, chunks_data)?;
+        let region = self.layout.chunks_region(alloc, chunks)?;
+        self.layout.check_cells(number == 1, &region, chunks_data)?;
         self.store_along(alloc, &region, chunks_data, chunks, options)
     }
 
@@ -249,16 +249,16 @@ impl<
         ensures { StoresPartAs S.state options.now chunk_indices.now (box_of chunk_subset.now)
             (data_of chunk_subset_data.now) self.old self.new result }
     {
-        let dimensions = self.parts.grid.dimensionality();
+        let dimensions = self.layout.grid.dimensionality();
         if chunk_indices.len() != dimensions {
             let error = IncompatibleDimensionalityError::new(chunk_indices.len(), dimensions);
             return Err(ArrayError::IncompatibleDimensionalityError(error));
         }
-        let chunk = self.parts.chunk_box(alloc, chunk_indices)?;
+        let chunk = self.layout.chunk_box(alloc, chunk_indices)?;
         let region = self
-            .parts
+            .layout
             .part_of(alloc, chunk_indices, &chunk, chunk_subset)?;
-        self.parts
+        self.layout
             .check_cells(region == chunk, &region, chunk_subset_data)?;
         if self.writes_parts(options) && !lies_in_box(&chunk, &region) {
             return self.patch_chunk(
@@ -295,9 +295,10 @@ impl<
         ensures { StoresRegionAs S.state options.now (box_of array_subset.now)
             (data_of subset_data.now) self.old self.new result }
     {
-        let chunks = self.parts.chunks_met(alloc, array_subset)?;
-        let is_chunk = self.parts.is_one_chunk(alloc, array_subset, &chunks)?;
-        self.parts.check_cells(is_chunk, array_subset, subset_data)?;
+        let chunks = self.layout.chunks_met(alloc, array_subset)?;
+        let is_chunk = self.layout.is_one_chunk(alloc, array_subset, &chunks)?;
+        self.layout
+            .check_cells(is_chunk, array_subset, subset_data)?;
         if self.writes_parts(options) {
             return self.patch_along(alloc, array_subset, subset_data, &chunks, options);
         }

@@ -25,7 +25,7 @@ impl<
     ghost use Rattle.zarrs_calls.specs.Reach.{MayAskChunk, MayAskKept};
     ghost use Rattle.zarrs_calls.specs.Refusals.{Refusal, is_too_large, refusal_of};
     ghost use Rattle.zarrs_calls.specs.StateRefusals.{RefusesCut, RefusesKeptCut};
-    ghost use Rattle.zarrs_engine.specs.Engine.{layout_of, state_of, store_of, KeepsParts};
+    ghost use Rattle.zarrs_engine.specs.Engine.{layout_of, state_of, store_of, KeepsLayout};
     ghost use Rattle.zarrs_engine.specs.Resizes.{HasCut, HasCutCells, IsCutValue, PassesChunk};
     ghost use Rattle.zarrs_engine.specs.Resizes.{LeavesCut, LeavesFront};
 
@@ -51,9 +51,9 @@ impl<
     {
         let held = self.retrieve_chunk(alloc, chunk_indices)?;
         let kept = chunk.bound(alloc, shape)?;
-        let part = held.extract_array_subset(alloc, &self.parts.data_type, chunk, &kept)?;
-        let filled = self.parts.filled(alloc, chunk)?;
-        let data = filled.update_array_bytes(alloc, &self.parts.data_type, chunk, &part, &kept)?;
+        let part = held.extract_array_subset(alloc, &self.layout.data_type, chunk, &kept)?;
+        let filled = self.layout.filled(alloc, chunk)?;
+        let data = filled.update_array_bytes(alloc, &self.layout.data_type, chunk, &part, &kept)?;
         Ok(data)
     }
 
@@ -81,9 +81,9 @@ impl<
         if !keeps {
             return Ok(None);
         }
-        let chunk = self.parts.chunk(alloc, chunk_indices)?;
+        let chunk = self.layout.chunk(alloc, chunk_indices)?;
         let data = self.cut_cells(alloc, chunk_indices, &chunk.region, shape)?;
-        let value = self.parts.value_of_owned(alloc, &chunk, data, options)?;
+        let value = self.layout.value_of_owned(alloc, &chunk, data, options)?;
         Ok(value)
     }
 
@@ -106,13 +106,13 @@ impl<
         ensures refused { IfErr result (λ e. LeavesCut (layout_of self.old)
             (stores_empty_chunks options.now) shape.now chunk_indices.now (refusal_of e)
             (store_of S.state self.old) (store_of S.state self.new)) }
-        ensures parts { KeepsParts self.old self.new }
+        ensures layout_kept { KeepsLayout self.old self.new }
     {
-        let Some(keeps) = self.parts.cut(chunk_indices, shape) else {
+        let Some(keeps) = self.layout.cut(chunk_indices, shape) else {
             return Ok(());
         };
         let value = self.cut_value(alloc, chunk_indices, keeps, shape, options)?;
-        let key = self.parts.chunk_key(alloc, chunk_indices)?;
+        let key = self.layout.chunk_key(alloc, chunk_indices)?;
         self.put(alloc, &key, value)?;
         Ok(())
     }
@@ -135,9 +135,9 @@ impl<
             (λ e. LeavesFront (layout_of self.old) (stores_empty_chunks options.now) shape.now
             (cut_chunks (layout_of self.old).grid (state_of S.state self.old).shape shape.now)
             first (refusal_of e) (store_of S.state self.old) (store_of S.state self.new)) }
-        ensures parts { KeepsParts self.old self.new }
+        ensures layout_kept { KeepsLayout self.old self.new }
     {
-        let Some(mut walk) = self.parts.cut_walk(alloc, shape)? else {
+        let Some(mut walk) = self.layout.cut_walk(alloc, shape)? else {
             return Ok(());
         };
         loop {
@@ -163,7 +163,7 @@ impl<
     ghost use Rattle.zarrs_calls.specs.Reach.{MayAskKept};
     ghost use Rattle.zarrs_calls.specs.Refusals.{refusal_of};
     ghost use Rattle.zarrs_calls.specs.Step.{ResizesArray, RefusesResize};
-    ghost use Rattle.zarrs_engine.specs.Engine.{layout_of, state_of, store_of, KeepsParts};
+    ghost use Rattle.zarrs_engine.specs.Engine.{layout_of, state_of, store_of, KeepsLayout};
     ghost use Rattle.zarrs_engine.specs.Engine.{KeepsOthers};
 
     /// Makes the array's shape this one. Of the chunks of the array as it was, in row-major order, each that has a cell
@@ -199,14 +199,14 @@ impl<
             (store_of S.state self.old) (store_of S.state self.new) }
         ensures layout { layout_of self.new ≡ layout_of self.old }
         ensures others { KeepsOthers self.old self.new }
-        ensures parts { OnErr result (KeepsParts self.old self.new) }
+        ensures layout_kept { OnErr result (KeepsLayout self.old self.new) }
     {
-        let dimensions = self.parts.grid.dimensionality();
+        let dimensions = self.layout.grid.dimensionality();
         if shape.len() != dimensions {
             let error = IncompatibleDimensionalityError::new(shape.len(), dimensions);
             return Err(ArrayError::IncompatibleDimensionalityError(error));
         }
-        let Some(grid) = self.parts.grid.resized(alloc, shape)? else {
+        let Some(grid) = self.layout.grid.resized(alloc, shape)? else {
             return Err(unsupported_resize(alloc));
         };
         self.cut_along(alloc, grid.array_shape(), options)?;

@@ -23,10 +23,10 @@ impl<
     ghost use Rattle.zarrs_chain.specs.Options.{stores_empty_chunks};
     ghost use Rattle.zarrs_calls.specs.Refusals.{refusal_of, refusal_of_storage};
     ghost use Rattle.zarrs_calls.specs.Changes.{IsPut};
-    ghost use Rattle.zarrs_engine.specs.Engine.{layout_of, store_of, KeepsParts};
+    ghost use Rattle.zarrs_engine.specs.Engine.{layout_of, store_of, KeepsLayout};
     ghost use Rattle.zarrs_engine.specs.Outcomes.{StoresChunkOrRefuses};
     ghost use Rattle.zarrs_engine.specs.Outcomes.{ErasesChunkOrRefuses, ErasesChunksOrRefuses};
-    ghost use Rattle.zarrs_array_layout.specs.Parts.{RefusesPut};
+    ghost use Rattle.zarrs_array_layout.specs.Steps.{RefusesPut};
 
     /// Sets the value at one key, or erases the key, by one writing call of the store.
     ///
@@ -44,7 +44,7 @@ impl<
         ensures refused { IfErr result
             (λ e. RefusesPut (refusal_of_storage e) (store_of S.state self.old)
             (store_of S.state self.new)) }
-        ensures parts { KeepsParts self.old self.new }
+        ensures layout_kept { KeepsLayout self.old self.new }
     {
         match value {
             Some(value) => {
@@ -72,9 +72,10 @@ impl<
         ensures { StoresChunkOrRefuses S.state (stores_empty_chunks options.now) chunk_indices.now
             (data_of chunk_data.now) self.old self.new result }
     {
-        let chunk = self.parts.chunk(alloc, chunk_indices)?;
-        let key = self.parts.chunk_key(alloc, chunk_indices)?;
-        let value = self.parts.value_of(alloc, &chunk, chunk_data, options)?;
+        let key = self.layout.chunk_key(alloc, chunk_indices)?;
+        let value = self
+            .layout
+            .chunk_value(alloc, chunk_indices, chunk_data, options)?;
         self.put(alloc, &key, value)?;
         Ok(())
     }
@@ -99,9 +100,9 @@ impl<
         ensures refused { IfErr result
             (λ e. RefusesPut (refusal_of e) (store_of S.state self.old)
             (store_of S.state self.new)) }
-        ensures parts { KeepsParts self.old self.new }
+        ensures layout_kept { KeepsLayout self.old self.new }
     {
-        let key = self.parts.chunk_key(alloc, chunk_indices)?;
+        let key = self.layout.chunk_key(alloc, chunk_indices)?;
         self.storage.set(alloc, &key, encoded_chunk_bytes)?;
         Ok(())
     }
@@ -114,7 +115,7 @@ impl<
         requires { length chunk_indices.now ≡ (layout_of self.old).grid.dimensions }
         ensures { ErasesChunkOrRefuses S.state chunk_indices.now self.old self.new result }
     {
-        let key = self.parts.chunk_key(alloc, chunk_indices)?;
+        let key = self.layout.chunk_key(alloc, chunk_indices)?;
         self.put(alloc, &key, None)
     }
 

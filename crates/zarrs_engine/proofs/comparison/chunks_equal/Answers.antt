@@ -89,7 +89,7 @@ returns-in_default-clause-content g c =
     let a = c.args.a.now in
     let b = c.args.b.now in
     let long = range_indices range c.args.chunks.now.same_length c.args.chunks.now.ends_fit (layout_of a).grid.dimensions c.requires.dimensions_a in
-    compares_content (layout_of a) (layout_of b) (g.S1.ReadableStorageTraits.state a.storage) (g.S2.ReadableStorageTraits.state b.storage) (positions range) a.parts.lawful b.parts.lawful long true (search rules) tt
+    compares_content (layout_of a) (layout_of b) (g.S1.ReadableStorageTraits.state a.storage) (g.S2.ReadableStorageTraits.state b.storage) (positions range) a.layout.lawful b.layout.lawful long true (search rules) tt
 
 pub returns-then-not-branch-clause-content : goal.returns-then-not-branch-clause-content
 returns-then-not-branch-clause-content g c =
@@ -97,7 +97,7 @@ returns-then-not-branch-clause-content g c =
     let a = c.args.a.now in
     let b = c.args.b.now in
     let long = range_indices range c.args.chunks.now.same_length c.args.chunks.now.ends_fit (layout_of a).grid.dimensions c.requires.dimensions_a in
-    compares_content (layout_of a) (layout_of b) (g.S1.ReadableStorageTraits.state a.storage) (g.S2.ReadableStorageTraits.state b.storage) (positions range) a.parts.lawful b.parts.lawful long false tt (returns-then-not-branch-clause-different g c)
+    compares_content (layout_of a) (layout_of b) (g.S1.ReadableStorageTraits.state a.storage) (g.S2.ReadableStorageTraits.state b.storage) (positions range) a.layout.lawful b.layout.lawful long false tt (returns-then-not-branch-clause-different g c)
 
 pub returns-then-not-advance-clause-content : goal.returns-then-not-advance-clause-content
 returns-then-not-advance-clause-content g c =
@@ -105,7 +105,7 @@ returns-then-not-advance-clause-content g c =
     let a = c.args.a.now in
     let b = c.args.b.now in
     let long = range_indices range c.args.chunks.now.same_length c.args.chunks.now.ends_fit (layout_of a).grid.dimensions c.requires.dimensions_a in
-    compares_content (layout_of a) (layout_of b) (g.S1.ReadableStorageTraits.state a.storage) (g.S2.ReadableStorageTraits.state b.storage) (positions range) a.parts.lawful b.parts.lawful long true (returns-then-not-advance-clause-equal g c) tt
+    compares_content (layout_of a) (layout_of b) (g.S1.ReadableStorageTraits.state a.storage) (g.S2.ReadableStorageTraits.state b.storage) (positions range) a.layout.lawful b.layout.lawful long true (returns-then-not-advance-clause-equal g c) tt
 
 pub loop-walk-smaller : goal.loop-walk-smaller
 loop-walk-smaller g c =

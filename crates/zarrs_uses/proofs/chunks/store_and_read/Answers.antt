@@ -3,7 +3,7 @@ use Rattle.zarrs_storage.specs.Memory.{open_state}
 use Rattle.zarrs_data_type.specs.ArrayData.{data_of}
 use Rattle.zarrs_data_type.specs.Cells.{cells}
 use Rattle.zarrs_calls.specs.Changes.{RetrievesChunk}
-use Rattle.zarrs_array_layout.specs.Layouts.{layout_of_parts}
+use Rattle.zarrs_array_layout.specs.Layouts.{layout_meaning}
 use Rattle.zarrs_engine.specs.Engine.{layout_of, store_of}
 use Rattle.zarrs_uses.proofs.ReadBack.{read_back}
 use Rattle.zarrs_uses.proofs.chunks.store_and_read.Goals as goal
@@ -11,6 +11,6 @@ use Rattle.zarrs_uses.proofs.chunks.store_and_read.Goals as goal
 pub returns-clause-same : goal.returns-clause-same
 returns-clause-same c =
     let stored = c.in_ok-store_chunk.ensures.done.1 in
-    let read = subst (λ parts. RetrievesChunk (layout_of_parts parts) c.args.chunk_indices.now (data_of c.in_ok-read.read) (store_of open_state c.store_chunk.new.self))
-    c.in_ok-store_chunk.ensures.parts c.in_ok-read.ensures.cells in
+    let read = subst (λ held. RetrievesChunk (layout_meaning held) c.args.chunk_indices.now (data_of c.in_ok-read.read) (store_of open_state c.store_chunk.new.self))
+    c.in_ok-store_chunk.ensures.layout_kept c.in_ok-read.ensures.cells in
     read_back (layout_of c.args.engine.now) _ _ _ _ _ _ stored read ∙ ap (cells (layout_of c.args.engine.now).kind) c.from_flen-chunk_data.ensures

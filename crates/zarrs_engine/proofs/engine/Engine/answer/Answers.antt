@@ -33,7 +33,7 @@ use Rattle.zarrs_engine.proofs.engine.Engine.answer.Goals as goal
 pub returns-in-StoreChunk-clause-step : goal.returns-in-StoreChunk-clause-step
 returns-in-StoreChunk-clause-step g c =
     let layout = layout_of c.args.self.now in
-    let shape = g.G.ChunkGridTraits.array_extents c.args.self.now.parts.grid in
+    let shape = g.G.ChunkGridTraits.array_extents c.args.self.now.layout.grid in
     let keep = stores_empty_chunks c.args.options.now in
     let old = g.S.ReadableStorageTraits.state c.args.self.now.storage in
     let new = g.S.ReadableStorageTraits.state c.store_chunk.new.self.storage in
@@ -41,32 +41,32 @@ returns-in-StoreChunk-clause-step g c =
     let held = data_of c.in-StoreChunk.chunk_data in
     let e = c.store_chunk.ensures in
     let at = c.deref.ensures.value in
-    steps_as (layout_of c.args.self.now) c.args.self.now.parts.lawful c.args.options.now c.args.call.now _ (state_of g.S.ReadableStorageTraits.state c.args.self.now) _
+    steps_as (layout_of c.args.self.now) c.args.self.now.layout.lawful c.args.options.now c.args.call.now _ (state_of g.S.ReadableStorageTraits.state c.args.self.now) _
     (rw c.in-StoreChunk.is (
-      ap (λ parts. g.G.ChunkGridTraits.array_extents parts.grid) e.parts,
+      ap (λ own. g.G.ChunkGridTraits.array_extents own.grid) e.layout_kept,
       done_step layout keep shape (store_chunk_refusal layout index held) (store (box_at layout.grid index) held (index ∷ [])) old new c.store_chunk.result c.done.result (subst (λ (i : List ℕ). OnOk c.store_chunk.result (StoresChunk layout keep i held old new)) at e.done) (subst (λ (i : List ℕ). IfErr c.store_chunk.result (λ e. RefusesStoreChunk layout keep i held (refusal_of e) old new)) at e.refused) c.done.ensures.done c.done.ensures.refused,
     ))
 
 pub returns-in-StoreChunks-clause-step : goal.returns-in-StoreChunks-clause-step
 returns-in-StoreChunks-clause-step g c =
     let layout = layout_of c.args.self.now in
-    let shape = g.G.ChunkGridTraits.array_extents c.args.self.now.parts.grid in
+    let shape = g.G.ChunkGridTraits.array_extents c.args.self.now.layout.grid in
     let keep = stores_empty_chunks c.args.options.now in
     let old = g.S.ReadableStorageTraits.state c.args.self.now.storage in
     let new = g.S.ReadableStorageTraits.state c.store_chunks.new.self.storage in
     let range = box_of c.in-StoreChunks.chunks in
     let held = data_of c.in-StoreChunks.«data» in
     let e = c.store_chunks.ensures in
-    steps_as (layout_of c.args.self.now) c.args.self.now.parts.lawful c.args.options.now c.args.call.now _ (state_of g.S.ReadableStorageTraits.state c.args.self.now) _
+    steps_as (layout_of c.args.self.now) c.args.self.now.layout.lawful c.args.options.now c.args.call.now _ (state_of g.S.ReadableStorageTraits.state c.args.self.now) _
     (rw c.in-StoreChunks.is (
-      ap (λ parts. g.G.ChunkGridTraits.array_extents parts.grid) e.parts,
+      ap (λ own. g.G.ChunkGridTraits.array_extents own.grid) e.layout_kept,
       done_step layout keep shape (store_chunks_refusal layout range held) (store (chunks_box layout.grid range) held (positions range)) old new c.store_chunks.result c.done-in-StoreChunks.result e.done e.refused c.done-in-StoreChunks.ensures.done c.done-in-StoreChunks.ensures.refused,
     ))
 
 pub returns-in-StoreChunkSubset-clause-step : goal.returns-in-StoreChunkSubset-clause-step
 returns-in-StoreChunkSubset-clause-step g c =
     let layout = layout_of c.args.self.now in
-    let shape = g.G.ChunkGridTraits.array_extents c.args.self.now.parts.grid in
+    let shape = g.G.ChunkGridTraits.array_extents c.args.self.now.layout.grid in
     let keep = stores_empty_chunks c.args.options.now in
     let old = g.S.ReadableStorageTraits.state c.args.self.now.storage in
     let new = g.S.ReadableStorageTraits.state c.store_chunk_subset.new.self.storage in
@@ -75,7 +75,7 @@ returns-in-StoreChunkSubset-clause-step g c =
     let held = data_of c.in-StoreChunkSubset.«data» in
     let e = c.store_chunk_subset.ensures in
     let at = c.deref-in-StoreChunkSubset.ensures.value in
-    let shaped = ap (λ parts. g.G.ChunkGridTraits.array_extents parts.grid) e.partly.parts in
+    let shaped = ap (λ own. g.G.ChunkGridTraits.array_extents own.grid) e.partly.layout_kept in
     let act = store (part_box (box_at layout.grid index) part) held (index ∷ []) in
     let first = store_part_refusal layout index part held in
     record {
@@ -95,11 +95,11 @@ returns-in-StoreArraySubset-clause-step g c =
     let keep = stores_empty_chunks c.args.options.now in
     let old = g.S.ReadableStorageTraits.state c.args.self.now.storage in
     let new = g.S.ReadableStorageTraits.state c.store_array_subset.new.self.storage in
-    let shape = g.G.ChunkGridTraits.array_extents c.args.self.now.parts.grid in
+    let shape = g.G.ChunkGridTraits.array_extents c.args.self.now.layout.grid in
     let region = box_of c.in-StoreArraySubset.array_subset in
     let held = data_of c.in-StoreArraySubset.«data» in
     let e = c.store_array_subset.ensures in
-    let shaped = ap (λ parts. g.G.ChunkGridTraits.array_extents parts.grid) e.partly.parts in
+    let shaped = ap (λ own. g.G.ChunkGridTraits.array_extents own.grid) e.partly.layout_kept in
     let act = store region held (chunks_met layout.grid region) in
     let first = store_region_refusal layout shape region held in
     record {
@@ -120,10 +120,10 @@ returns-in-EraseChunk-clause-step g c =
     let old = g.S.ReadableStorageTraits.state c.args.self.now.storage in
     let new = g.S.ReadableStorageTraits.state c.answer_erase_chunk.new.self.storage in
     let e = c.answer_erase_chunk.ensures in
-    let shape = g.G.ChunkGridTraits.array_extents c.args.self.now.parts.grid in
+    let shape = g.G.ChunkGridTraits.array_extents c.args.self.now.layout.grid in
     let step = subst (λ (i : List ℕ). ActStep layout keep shape (length_refusal layout i) (erase (i ∷ [])) c.answer_erase_chunk.result old new) c.deref-in-EraseChunk.ensures.value (e.step keep shape) in
-    steps_as (layout_of c.args.self.now) c.args.self.now.parts.lawful c.args.options.now c.args.call.now _ (state_of g.S.ReadableStorageTraits.state c.args.self.now) _
-    (rw c.in-EraseChunk.is (ap (λ parts. g.G.ChunkGridTraits.array_extents parts.grid) e.parts, step))
+    steps_as (layout_of c.args.self.now) c.args.self.now.layout.lawful c.args.options.now c.args.call.now _ (state_of g.S.ReadableStorageTraits.state c.args.self.now) _
+    (rw c.in-EraseChunk.is (ap (λ own. g.G.ChunkGridTraits.array_extents own.grid) e.layout_kept, step))
 
 pub returns-in-CompactChunk-clause-step : goal.returns-in-CompactChunk-clause-step
 returns-in-CompactChunk-clause-step g c =
@@ -132,16 +132,16 @@ returns-in-CompactChunk-clause-step g c =
     let old = g.S.ReadableStorageTraits.state c.args.self.now.storage in
     let new = g.S.ReadableStorageTraits.state c.answer_compact_chunk.new.self.storage in
     let e = c.answer_compact_chunk.ensures in
-    let shape = g.G.ChunkGridTraits.array_extents c.args.self.now.parts.grid in
+    let shape = g.G.ChunkGridTraits.array_extents c.args.self.now.layout.grid in
     let step = subst (λ (i : List ℕ). ActStep layout keep shape (length_refusal layout i) (compact i) c.answer_compact_chunk.result old new) c.deref-in-CompactChunk.ensures.value (e.step keep shape) in
-    steps_as (layout_of c.args.self.now) c.args.self.now.parts.lawful c.args.options.now c.args.call.now _ (state_of g.S.ReadableStorageTraits.state c.args.self.now) _
-    (rw c.in-CompactChunk.is (ap (λ parts. g.G.ChunkGridTraits.array_extents parts.grid) e.parts, step))
+    steps_as (layout_of c.args.self.now) c.args.self.now.layout.lawful c.args.options.now c.args.call.now _ (state_of g.S.ReadableStorageTraits.state c.args.self.now) _
+    (rw c.in-CompactChunk.is (ap (λ own. g.G.ChunkGridTraits.array_extents own.grid) e.layout_kept, step))
 
 pub returns-in-EraseChunks-clause-step : goal.returns-in-EraseChunks-clause-step
 returns-in-EraseChunks-clause-step g c =
     let e = c.answer_erase_chunks.ensures in
-    steps_as (layout_of c.args.self.now) c.args.self.now.parts.lawful c.args.options.now c.args.call.now _ (state_of g.S.ReadableStorageTraits.state c.args.self.now) _
-    (rw c.in-EraseChunks.is (ap (λ parts. g.G.ChunkGridTraits.array_extents parts.grid) e.parts, e.step (stores_empty_chunks c.args.options.now) (g.G.ChunkGridTraits.array_extents c.args.self.now.parts.grid)))
+    steps_as (layout_of c.args.self.now) c.args.self.now.layout.lawful c.args.options.now c.args.call.now _ (state_of g.S.ReadableStorageTraits.state c.args.self.now) _
+    (rw c.in-EraseChunks.is (ap (λ own. g.G.ChunkGridTraits.array_extents own.grid) e.layout_kept, e.step (stores_empty_chunks c.args.options.now) (g.G.ChunkGridTraits.array_extents c.args.self.now.layout.grid)))
 
 pub returns-in-Ok-clause-step : goal.returns-in-Ok-clause-step
 returns-in-Ok-clause-step g c =
@@ -150,7 +150,7 @@ returns-in-Ok-clause-step g c =
     let index = c.in-RetrieveChunkIfExists.chunk_indices.items in
     let found = option_map data_of c.in-Ok.found in
     let cells = subst (λ (i : List ℕ). RetrievesIfExists layout i found state) c.deref-in-RetrieveChunkIfExists.ensures.value c.in-Ok.ensures.cells in
-    steps_as (layout_of c.args.self.now) c.args.self.now.parts.lawful c.args.options.now c.args.call.now _ (state_of g.S.ReadableStorageTraits.state c.args.self.now) _
+    steps_as (layout_of c.args.self.now) c.args.self.now.layout.lawful c.args.options.now c.args.call.now _ (state_of g.S.ReadableStorageTraits.state c.args.self.now) _
     (rw c.in-RetrieveChunkIfExists.is (refl, (refl, found_length layout index found state cells, cells)))
 
 pub retrieve_array_subset-requires : goal.retrieve_array_subset-requires
@@ -159,18 +159,18 @@ retrieve_array_subset-requires g c =
     let state = state_of g.S.ReadableStorageTraits.state c.args.self.now in
     let region = box_of c.in-RetrieveArraySubset.array_subset in
     let ask = may_ask_chunks layout (chunks_met layout.grid region) state (subst (λ (call : Call). MayAskCall layout call state) c.in-RetrieveArraySubset.is c.requires) in
-    λ accepted. may_read_all layout c.args.self.now.parts.lawful.chain region (chunks_met layout.grid region) state.store ask
+    λ accepted. may_read_all layout c.args.self.now.layout.lawful.chain region (chunks_met layout.grid region) state.store ask
 
 pub returns-in-RetrieveChunk-clause-step : goal.returns-in-RetrieveChunk-clause-step
 returns-in-RetrieveChunk-clause-step g c =
     let layout = layout_of c.args.self.now in
-    let shape = g.G.ChunkGridTraits.array_extents c.args.self.now.parts.grid in
+    let shape = g.G.ChunkGridTraits.array_extents c.args.self.now.layout.grid in
     let keep = stores_empty_chunks c.args.options.now in
     let state = g.S.ReadableStorageTraits.state c.args.self.now.storage in
     let index = c.in-RetrieveChunk.chunk_indices.items in
     let at = c.deref-in-RetrieveChunk.ensures.value in
     let e = c.retrieve_chunk.ensures in
-    steps_as (layout_of c.args.self.now) c.args.self.now.parts.lawful c.args.options.now c.args.call.now _ (state_of g.S.ReadableStorageTraits.state c.args.self.now) _
+    steps_as (layout_of c.args.self.now) c.args.self.now.layout.lawful c.args.options.now c.args.call.now _ (state_of g.S.ReadableStorageTraits.state c.args.self.now) _
     (rw c.in-RetrieveChunk.is (
       refl,
       cells_step layout keep shape (length_refusal layout index) (read_chunk true index) state state c.retrieve_chunk.result c.cells.result (λ (held : ArrayBytes). RetrievesChunk layout index (data_of held) state) (λ (x : ArrayError). RefusesChunkRead layout (length_refusal layout index) true index state (refusal_of x))
@@ -186,10 +186,10 @@ returns-in-RetrieveChunks-clause-step g c =
     let layout = layout_of c.args.self.now in
     let keep = stores_empty_chunks c.args.options.now in
     let state = g.S.ReadableStorageTraits.state c.args.self.now.storage in
-    let shape = g.G.ChunkGridTraits.array_extents c.args.self.now.parts.grid in
+    let shape = g.G.ChunkGridTraits.array_extents c.args.self.now.layout.grid in
     let range = box_of c.in-RetrieveChunks.chunks in
     let e = c.retrieve_chunks.ensures in
-    steps_as (layout_of c.args.self.now) c.args.self.now.parts.lawful c.args.options.now c.args.call.now _ (state_of g.S.ReadableStorageTraits.state c.args.self.now) _
+    steps_as (layout_of c.args.self.now) c.args.self.now.layout.lawful c.args.options.now c.args.call.now _ (state_of g.S.ReadableStorageTraits.state c.args.self.now) _
     (rw c.in-RetrieveChunks.is (
       refl,
       cells_step layout keep shape (read_chunks_refusal layout shape range) (read (chunks_box layout.grid range) (positions range)) state state c.retrieve_chunks.result c.cells-in-RetrieveChunks.result (λ (held : ArrayBytes). RetrievesChunks layout shape range (data_of held) state) (λ (x : ArrayError). RefusesRetrieveChunks layout shape range (refusal_of x) state)
@@ -201,14 +201,14 @@ returns-in-RetrieveChunks-clause-step g c =
 pub returns-in-RetrieveChunkSubset-clause-step : goal.returns-in-RetrieveChunkSubset-clause-step
 returns-in-RetrieveChunkSubset-clause-step g c =
     let layout = layout_of c.args.self.now in
-    let shape = g.G.ChunkGridTraits.array_extents c.args.self.now.parts.grid in
+    let shape = g.G.ChunkGridTraits.array_extents c.args.self.now.layout.grid in
     let keep = stores_empty_chunks c.args.options.now in
     let state = g.S.ReadableStorageTraits.state c.args.self.now.storage in
     let index = c.in-RetrieveChunkSubset.chunk_indices.items in
     let part = box_of c.in-RetrieveChunkSubset.chunk_subset in
     let at = c.deref-in-RetrieveChunkSubset.ensures.value in
     let e = c.retrieve_chunk_subset.ensures in
-    steps_as (layout_of c.args.self.now) c.args.self.now.parts.lawful c.args.options.now c.args.call.now _ (state_of g.S.ReadableStorageTraits.state c.args.self.now) _
+    steps_as (layout_of c.args.self.now) c.args.self.now.layout.lawful c.args.options.now c.args.call.now _ (state_of g.S.ReadableStorageTraits.state c.args.self.now) _
     (rw c.in-RetrieveChunkSubset.is (
       part_shape layout keep shape index part state c.cells-in-RetrieveChunkSubset.result,
       cells_step layout keep shape (read_part_refusal layout index part) (read_part_act layout index part) state state c.retrieve_chunk_subset.result c.cells-in-RetrieveChunkSubset.result (λ (held : ArrayBytes). RetrievesPart layout index part (data_of held) state) (λ (x : ArrayError). RefusesRetrievePart layout index part (refusal_of x) state)
@@ -224,10 +224,10 @@ returns-in-RetrieveArraySubset-clause-step g c =
     let layout = layout_of c.args.self.now in
     let keep = stores_empty_chunks c.args.options.now in
     let state = g.S.ReadableStorageTraits.state c.args.self.now.storage in
-    let shape = g.G.ChunkGridTraits.array_extents c.args.self.now.parts.grid in
+    let shape = g.G.ChunkGridTraits.array_extents c.args.self.now.layout.grid in
     let region = box_of c.in-RetrieveArraySubset.array_subset in
     let e = c.retrieve_array_subset.ensures in
-    steps_as (layout_of c.args.self.now) c.args.self.now.parts.lawful c.args.options.now c.args.call.now _ (state_of g.S.ReadableStorageTraits.state c.args.self.now) _
+    steps_as (layout_of c.args.self.now) c.args.self.now.layout.lawful c.args.options.now c.args.call.now _ (state_of g.S.ReadableStorageTraits.state c.args.self.now) _
     (rw c.in-RetrieveArraySubset.is (
       refl,
       cells_step layout keep shape (read_region_refusal layout shape region) (read region (chunks_met layout.grid region)) state state c.retrieve_array_subset.result c.cells-in-RetrieveArraySubset.result (λ (held : ArrayBytes). RetrievesRegion layout shape region (data_of held) state) (λ (x : ArrayError). RefusesRetrieveRegion layout shape region (refusal_of x) state)
@@ -237,25 +237,25 @@ returns-in-RetrieveArraySubset-clause-step g c =
     ))
 
 pub returns-in-StoreChunk-clause-others : goal.returns-in-StoreChunk-clause-others
-returns-in-StoreChunk-clause-others g c = keeps_others _ _ c.store_chunk.ensures.parts
+returns-in-StoreChunk-clause-others g c = keeps_others _ _ c.store_chunk.ensures.layout_kept
 
 pub returns-in-StoreChunks-clause-others : goal.returns-in-StoreChunks-clause-others
-returns-in-StoreChunks-clause-others g c = keeps_others _ _ c.store_chunks.ensures.parts
+returns-in-StoreChunks-clause-others g c = keeps_others _ _ c.store_chunks.ensures.layout_kept
 
 pub returns-in-StoreChunkSubset-clause-others : goal.returns-in-StoreChunkSubset-clause-others
-returns-in-StoreChunkSubset-clause-others g c = keeps_others _ _ c.store_chunk_subset.ensures.partly.parts
+returns-in-StoreChunkSubset-clause-others g c = keeps_others _ _ c.store_chunk_subset.ensures.partly.layout_kept
 
 pub returns-in-StoreArraySubset-clause-others : goal.returns-in-StoreArraySubset-clause-others
-returns-in-StoreArraySubset-clause-others g c = keeps_others _ _ c.store_array_subset.ensures.partly.parts
+returns-in-StoreArraySubset-clause-others g c = keeps_others _ _ c.store_array_subset.ensures.partly.layout_kept
 
 pub returns-in-EraseChunk-clause-others : goal.returns-in-EraseChunk-clause-others
-returns-in-EraseChunk-clause-others g c = keeps_others _ _ c.answer_erase_chunk.ensures.parts
+returns-in-EraseChunk-clause-others g c = keeps_others _ _ c.answer_erase_chunk.ensures.layout_kept
 
 pub returns-in-EraseChunks-clause-others : goal.returns-in-EraseChunks-clause-others
-returns-in-EraseChunks-clause-others g c = keeps_others _ _ c.answer_erase_chunks.ensures.parts
+returns-in-EraseChunks-clause-others g c = keeps_others _ _ c.answer_erase_chunks.ensures.layout_kept
 
 pub returns-in-CompactChunk-clause-others : goal.returns-in-CompactChunk-clause-others
-returns-in-CompactChunk-clause-others g c = keeps_others _ _ c.answer_compact_chunk.ensures.parts
+returns-in-CompactChunk-clause-others g c = keeps_others _ _ c.answer_compact_chunk.ensures.layout_kept
 
 pub answer_resize-requires : goal.answer_resize-requires
 answer_resize-requires g c =
@@ -273,7 +273,7 @@ returns-in-Resize-clause-step g c =
     let new = state_of g.S.ReadableStorageTraits.state c.answer_resize.new.self in
     let e = c.answer_resize.ensures in
     let at = c.deref-in-Resize.ensures.value in
-    steps_as (layout_of c.args.self.now) c.args.self.now.parts.lawful c.args.options.now c.args.call.now _ (state_of g.S.ReadableStorageTraits.state c.args.self.now) _
+    steps_as (layout_of c.args.self.now) c.args.self.now.layout.lawful c.args.options.now c.args.call.now _ (state_of g.S.ReadableStorageTraits.state c.args.self.now) _
     (rw c.in-Resize.is (
       subst (λ (i : List ℕ). new.shape ≡ shape_after (resize i) c.answer_resize.result old.shape) at e.shape,
       subst (λ (i : List ℕ). ActStep layout keep old.shape (resize_refusal layout i) (resize i) c.answer_resize.result old.store new.store) at e.step,

@@ -14,7 +14,7 @@ use Rattle.zarrs_engine.proofs.engine.Engine.answer_resize.Goals as goal
 
 pub returns-in_default-clause-step : goal.returns-in_default-clause-step
 returns-in_default-clause-step g c =
-    resize_memory (layout_of c.args.self.now) c.args.shape.now (stores_empty_chunks c.args.options.now) (g.G.ChunkGridTraits.array_extents c.args.self.now.parts.grid) (g.S.ReadableStorageTraits.state c.args.self.now.storage)
+    resize_memory (layout_of c.args.self.now) c.args.shape.now (stores_empty_chunks c.args.options.now) (g.G.ChunkGridTraits.array_extents c.args.self.now.layout.grid) (g.S.ReadableStorageTraits.state c.args.self.now.storage)
 
 pub returns-in_default-clause-others : goal.returns-in_default-clause-others
 returns-in_default-clause-others g c = keeps_others _ _ refl
@@ -45,5 +45,5 @@ returns-clause-shape g c =
     let e = c.resize.ensures in
     done_shape c.resize.result c.done.result c.args.shape.now old.shape new.shape
     (subst (λ (i : List ℕ). OnOk c.resize.result (new.shape ≡ i)) (c.in-Ok.ensures.items_if_clones_equal (λ x y same. same)) e.shape)
-    (on_err_weaker c.resize.result (ap (λ parts. g.G.ChunkGridTraits.array_extents parts.grid)) e.parts)
+    (on_err_weaker c.resize.result (ap (λ own. g.G.ChunkGridTraits.array_extents own.grid)) e.layout_kept)
     c.done.ensures.done c.done.ensures.refused

@@ -5,7 +5,7 @@ use Rattle.zarrs_calls.specs.Compactions.{Compacts}
 use Rattle.zarrs_calls.specs.Refusals as refusal
 use Rattle.zarrs_calls.specs.Refusals.{Refusal, refusal_of}
 use Rattle.zarrs_calls.proofs.RefusalLemmas.{storage_said}
-use Rattle.zarrs_array_layout.specs.Parts.{RefusesPut}
+use Rattle.zarrs_array_layout.specs.Steps.{RefusesPut}
 use Rattle.zarrs_engine.specs.Engine.{layout_of}
 use Rattle.zarrs_engine.proofs.Canon.{compact_refused_canon, compacted_canon}
 use Rattle.zarrs_engine.proofs.Compactions.{bytes_refused, key_refused, put_refuses}
@@ -26,7 +26,7 @@ returns-in_err-less g c =
     let at = ap Some c.deref.ensures ∙ sym c.in-Some.is ∙ c.in_ok-encoded.ensures.value in
     let why = bytes_refused layout c.args.chunk_indices.now c.requires.dimensions encoded state at (refusal_of c.in_err-less.field-0.0) c.in_ok-encoded.ensures.asked c.in_err-less.ensures.refused in
     let p = err_from_is_err_and c.from_residual-in_err-less.result c.from_residual-in_err-less.ensures.1 in
-    rw (p.1, p.2) (record { done = tt; refused = why; compact = λ _. tt; canonical = λ _ canon. canon; refusing = λ _. refl; parts = refl })
+    rw (p.1, p.2) (record { done = tt; refused = why; compact = λ _. tt; canonical = λ _ canon. canon; refusing = λ _. refl; layout_kept = refl })
 
 pub returns-in_err-key : goal.returns-in_err-key
 returns-in_err-key g c =
@@ -36,7 +36,7 @@ returns-in_err-key g c =
     let at = ap Some c.deref.ensures ∙ sym c.in-Some.is ∙ c.in_ok-encoded.ensures.value in
     let why = bytes_refused layout c.args.chunk_indices.now c.requires.dimensions encoded state at refusal.out_of_memory c.in_ok-encoded.ensures.asked tt in
     let p = err_from_is_err_and c.from_residual-in_err-key.result c.from_residual-in_err-key.ensures.1 in
-    rw (p.1, p.2, c.in_err-key.ensures.accepted) (record { done = tt; refused = why; compact = λ _. tt; canonical = λ _ canon. canon; refusing = λ _. refl; parts = refl })
+    rw (p.1, p.2, c.in_err-key.ensures.accepted) (record { done = tt; refused = why; compact = λ _. tt; canonical = λ _ canon. canon; refusing = λ _. refl; layout_kept = refl })
 
 pub returns-in_err-put : goal.returns-in_err-put
 returns-in_err-put g c =
@@ -54,9 +54,9 @@ returns-in_err-put g c =
       done = tt;
       refused = why;
       compact = λ _. tt;
-      canonical = compact_refused_canon layout c.args.self.now.parts.lawful old new c.args.chunk_indices.now _ why;
+      canonical = compact_refused_canon layout c.args.self.now.layout.lawful old new c.args.chunk_indices.now _ why;
       refusing = λ _. refl;
-      parts = c.in_err-put.ensures.parts;
+      layout_kept = c.in_err-put.ensures.layout_kept;
     })
 
 pub returns : goal.returns
@@ -69,8 +69,8 @@ returns g c =
     record {
       done = done;
       refused = tt;
-      compact = λ canon. absurd (compacted_canon layout c.args.self.now.parts.lawful old new index done canon);
-      canonical = λ off canon. absurd (compacted_canon layout c.args.self.now.parts.lawful old new index done canon);
+      compact = λ canon. absurd (compacted_canon layout c.args.self.now.layout.lawful old new index done canon);
+      canonical = λ off canon. absurd (compacted_canon layout c.args.self.now.layout.lawful old new index done canon);
       refusing = search (rules);
-      parts = search (rules);
+      layout_kept = search (rules);
     }

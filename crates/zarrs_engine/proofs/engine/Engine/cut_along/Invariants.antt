@@ -9,7 +9,7 @@ use Rattle.zarrs_engine.proofs.engine.Engine.cut_along.Given as goal
 abbrev pub invariant-loop-walk : goal.invariant-loop-walk
 invariant-loop-walk g l = record {
   cut : HasCutTo (layout_of l.fn.self) (stores_empty_chunks l.options) l.shape ((layout_of l.fn.self).grid.counts (state_of g.S.ReadableStorageTraits.state l.fn.self).shape) l.walk (store_of g.S.ReadableStorageTraits.state l.fn.self) (store_of g.S.ReadableStorageTraits.state l.self);
-  parts : l.self.parts ≡ l.fn.self.parts;
+  layout_kept : l.self.layout ≡ l.fn.self.layout;
 }
 
 abbrev pub decreases-loop-walk : goal.decreases-loop-walk

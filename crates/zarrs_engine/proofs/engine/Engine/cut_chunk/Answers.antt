@@ -78,5 +78,5 @@ returns-clause-done g c =
     let index = c.args.chunk_indices.now in
     let shape = c.args.shape.now in
     let holds_so = cut_answer (is_cut layout.grid shape index) (keeps_some layout.grid shape index) c.in-Some.keeps (sym c.in-Some.is ∙ c.cut.ensures) in
-    puts_cut layout (stores_empty_chunks c.args.options.now) shape index holds_so.0 c.args.self.now.parts.lawful (cut_has_box layout shape index holds_so.0)
+    puts_cut layout (stores_empty_chunks c.args.options.now) shape index holds_so.0 c.args.self.now.layout.lawful (cut_has_box layout shape index holds_so.0)
     c.in_ok-key.key (option_map (λ v. v.items) c.in_ok-value.value) (g.S.ReadableStorageTraits.state c.args.self.now.storage) (g.S.ReadableStorageTraits.state c.put.new.self.storage) c.in_ok-key.ensures.key c.in_ok-value.ensures.value c.in_ok-put.ensures.done

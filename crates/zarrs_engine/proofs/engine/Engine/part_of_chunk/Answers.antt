@@ -17,7 +17,7 @@ pub open-requires : goal.open-requires
 open-requires g c =
     let layout = layout_of c.args.self.now in
     let state = g.S.ReadableStorageTraits.state c.args.self.now.storage in
-    let words = index_list layout c.args.self.now.parts.lawful c.args.chunk_indices.now c.requires.boxed in
+    let words = index_list layout c.args.self.now.layout.lawful c.args.chunk_indices.now c.requires.boxed in
     subst (λ (key : List ℕ). state.may_ask key ≡ true) (sym c.in_ok-key.ensures.key) (c.requires.ask.key words)
 
 pub returns-then-is_none-clause-refused : goal.returns-then-is_none-clause-refused
@@ -42,7 +42,7 @@ decode_part-requires-clause-may_read g c = λ place needed.
     let state_is : state_of_source source ≡ state = rw c.in-Some.is at c.in_ok-source.ensures.state in
     let key_is : key_of_source source ≡ layout.key index = (rw c.in-Some.is at c.in_ok-source.ensures.key) ∙ c.in_ok-key.ensures.key in
     let found = source_value (state_of_source source) state (key_of_source source) (layout.key index) source.size state_is key_is source.sized in
-    let words = index_list layout c.args.self.now.parts.lawful index c.requires.boxed in
+    let words = index_list layout c.args.self.now.layout.lawful index c.requires.boxed in
     let there = subst (λ (b : Box). layout.chain.places layout.kind b.shape part found.0 place ≡ true) c.requires.chunk
     (subst (λ (v : List ℕ). layout.chain.places layout.kind (box_of c.args.chunk.now).shape part v place ≡ true) found.2 needed) in
     let may = c.requires.ask.places words found.0 place found.1 there in

@@ -33,7 +33,7 @@ returns-in_err-chunk g c =
     let index = c.args.chunk_indices.now in
     let part = box_of c.args.chunk_subset.now in
     let held = data_of c.args.chunk_subset_data.now in
-    let lawful = c.args.self.now.parts.lawful in
+    let lawful = c.args.self.now.layout.lawful in
     let long = (box_is_there layout.grid index c.requires.boxed).long in
     let r = refusal_of c.in_err-chunk.field-0.0 in
     let partly = part_refuses layout lawful keep index part held r state state (part_chunk layout index part held keep state r long c.in_err-chunk.ensures.refused) in
@@ -47,12 +47,12 @@ returns-in_err-region g c =
     let index = c.args.chunk_indices.now in
     let part = box_of c.args.chunk_subset.now in
     let held = data_of c.args.chunk_subset_data.now in
-    let lawful = c.args.self.now.parts.lawful in
+    let lawful = c.args.self.now.layout.lawful in
     let long = (box_is_there layout.grid index c.requires.boxed).long in
     let r = refusal_of c.in_err-region.field-0.0 in
     let partly = part_refuses layout lawful keep index part held r state state (part_passing layout index part held keep state r long c.in_ok-chunk.ensures.accepted c.in_err-region.ensures.refused) in
     let p = err_from_is_err_and c.from_residual-in_err-region.result c.from_residual-in_err-region.ensures.1 in
-    rw (p.1, p.2) (record { done = tt; refused = partly; parts = refl })
+    rw (p.1, p.2) (record { done = tt; refused = partly; layout_kept = refl })
 
 pub returns-in_err-check_cells : goal.returns-in_err-check_cells
 returns-in_err-check_cells g c =
@@ -62,7 +62,7 @@ returns-in_err-check_cells g c =
     let index = c.args.chunk_indices.now in
     let part = box_of c.args.chunk_subset.now in
     let held = data_of c.args.chunk_subset_data.now in
-    let lawful = c.args.self.now.parts.lawful in
+    let lawful = c.args.self.now.layout.lawful in
     let chunk = c.in_ok-chunk.ensures in
     let region = c.in_ok-region.ensures in
     let r = refusal_of c.in_err-check_cells.field-0.0 in
@@ -81,7 +81,7 @@ store_part-requires-clause-dimensions g c =
     let index = c.args.chunk_indices.now in
     let part = box_of c.args.chunk_subset.now in
     let held = data_of c.args.chunk_subset_data.now in
-    let lawful = c.args.self.now.parts.lawful in
+    let lawful = c.args.self.now.layout.lawful in
     let chunk = c.in_ok-chunk.ensures in
     let region = c.in_ok-region.ensures in
     (part_cover layout lawful index part (box_of c.in_ok-chunk.chunk) (box_of c.in_ok-region.region) c.args.chunk_subset.now.same_length chunk.region region.part chunk.accepted region.accepted).dimensions
@@ -94,7 +94,7 @@ store_part-requires-clause-covered g c =
     let index = c.args.chunk_indices.now in
     let part = box_of c.args.chunk_subset.now in
     let held = data_of c.args.chunk_subset_data.now in
-    let lawful = c.args.self.now.parts.lawful in
+    let lawful = c.args.self.now.layout.lawful in
     let chunk = c.in_ok-chunk.ensures in
     let region = c.in_ok-region.ensures in
     (part_cover layout lawful index part (box_of c.in_ok-chunk.chunk) (box_of c.in_ok-region.region) c.args.chunk_subset.now.same_length chunk.region region.part chunk.accepted region.accepted).covered
@@ -113,7 +113,7 @@ returns-then-encodes_partly g c =
     let index = c.args.chunk_indices.now in
     let part = box_of c.args.chunk_subset.now in
     let held = data_of c.args.chunk_subset_data.now in
-    let lawful = c.args.self.now.parts.lawful in
+    let lawful = c.args.self.now.layout.lawful in
     let chunk = c.in_ok-chunk.ensures in
     let region = c.in_ok-region.ensures in
     let new = g.S.ReadableStorageTraits.state c.patch_chunk.new.self.storage in
@@ -125,7 +125,7 @@ returns-then-encodes_partly g c =
           (λ (e : ArrayError). RefusesPatchPart layout keep index part held (refusal_of e) state new)
           (λ e left. patched_left layout lawful index part (box_of c.in_ok-chunk.chunk) (box_of c.in_ok-region.region) c.args.chunk_subset.now.same_length chunk.region region.part chunk.accepted region.accepted held c.eq-whole.result c.eq-whole.ensures fits.accepted state new fits.given keep (refusal_of e) left)
           (e.refused (part_box (box_at layout.grid index) part) held);
-      parts = e.parts;
+      layout_kept = e.layout_kept;
     }
 
 pub returns-in_err-stored_bytes : goal.returns-in_err-stored_bytes
@@ -136,7 +136,7 @@ returns-in_err-stored_bytes g c =
     let index = c.args.chunk_indices.now in
     let part = box_of c.args.chunk_subset.now in
     let held = data_of c.args.chunk_subset_data.now in
-    let lawful = c.args.self.now.parts.lawful in
+    let lawful = c.args.self.now.layout.lawful in
     let chunk = c.in_ok-chunk.ensures in
     let region = c.in_ok-region.ensures in
     let fits = c.in_ok-check_cells.ensures in
@@ -146,7 +146,7 @@ returns-in_err-stored_bytes g c =
     let left = partly_leaves layout keep index (part_box (box_at layout.grid index) part) held r state (key_partly layout keep index state r of_key) in
     let partly = patched_left layout lawful index part (box_of c.in_ok-chunk.chunk) (box_of c.in_ok-region.region) c.args.chunk_subset.now.same_length chunk.region region.part chunk.accepted region.accepted held c.eq-whole.result c.eq-whole.ensures fits.accepted state state fits.given keep r left in
     let p = err_from_is_err_and c.from_residual-in_err-stored_bytes.result c.from_residual-in_err-stored_bytes.ensures.1 in
-    rw (p.1, p.2) (record { done = tt; refused = partly; parts = refl })
+    rw (p.1, p.2) (record { done = tt; refused = partly; layout_kept = refl })
 
 pub returns : goal.returns
 returns g c =
@@ -156,7 +156,7 @@ returns g c =
     let index = c.args.chunk_indices.now in
     let part = box_of c.args.chunk_subset.now in
     let held = data_of c.args.chunk_subset_data.now in
-    let lawful = c.args.self.now.parts.lawful in
+    let lawful = c.args.self.now.layout.lawful in
     let chunk = c.in_ok-chunk.ensures in
     let region = c.in_ok-region.ensures in
     let new = g.S.ReadableStorageTraits.state c.store_part.new.self.storage in
@@ -174,5 +174,5 @@ returns g c =
           (λ (e : ArrayError). RefusesPatchPart layout keep index part held (refusal_of e) state new)
           (λ e why. part_refuses layout lawful keep index part held (refusal_of e) state new why)
           refused;
-      parts = c.store_part.ensures.parts;
+      layout_kept = c.store_part.ensures.layout_kept;
     }

@@ -10,7 +10,7 @@ abbrev pub invariant-loop-walk : goal.invariant-loop-walk
 invariant-loop-walk g l = record {
   same_box : walk_box l.walk ≡ box_of l.chunks;
   patched : HasPatched (layout_of l.fn.self) (box_of l.region) (data_of l.region_data) (positions (box_of l.chunks)) (walk_number l.walk) (store_of g.S.ReadableStorageTraits.state l.fn.self) (store_of g.S.ReadableStorageTraits.state l.self);
-  parts : l.self.parts ≡ l.fn.self.parts;
+  layout_kept : l.self.layout ≡ l.fn.self.layout;
 }
 
 abbrev pub decreases-loop-walk : goal.decreases-loop-walk

@@ -60,6 +60,6 @@ returns-clause-done g c =
     let keep = stores_empty_chunks c.args.options.now in
     let part = box_of c.args.part.now in
     let lies = c.requires.part in
-    patched layout c.args.self.now.parts.lawful c.args.chunk_indices.now c.requires.boxed keep part (data_of c.args.part_data.now) c.in_ok-key.key (change_of c.in_ok-write.write)
+    patched layout c.args.self.now.layout.lawful c.args.chunk_indices.now c.requires.boxed keep part (data_of c.args.part_data.now) c.in_ok-key.key (change_of c.in_ok-write.write)
     (g.S.ReadableStorageTraits.state c.args.self.now.storage) (g.S.ReadableStorageTraits.state c.put_part.new.self.storage)
     lies.same_length (sym c.args.part.now.same_length ∙ lies.same_length) c.requires.cells c.in_ok-key.ensures.key c.in_ok-write.ensures.written c.in_ok-put_part.ensures.done

@@ -51,7 +51,7 @@ returns-then-is_empty-clause-done g c =
     let keep = stores_empty_chunks c.args.options.now in
     let old = g.S.ReadableStorageTraits.state c.args.self.now.storage in
     let new = g.S.ReadableStorageTraits.state c.store_part.new.self.storage in
-    on_ok_weaker c.store_part.result (stored_patched layout c.args.self.now.parts.lawful keep (box_of c.args.region.now) (data_of c.args.region_data.now) c.args.chunk_indices.now old new) c.store_part.ensures.done
+    on_ok_weaker c.store_part.result (stored_patched layout c.args.self.now.layout.lawful keep (box_of c.args.region.now) (data_of c.args.region_data.now) c.args.chunk_indices.now old new) c.store_part.ensures.done
 
 pub seen_cells-requires-clause-inside : goal.seen_cells-requires-clause-inside
 seen_cells-requires-clause-inside g c =
@@ -92,7 +92,7 @@ patch_chunk-requires-clause-ask g c =
     let index = c.args.chunk_indices.now in
     let region = box_of c.args.region.now in
     let proper : IsPart layout region index = λ covers.
-    let lies = covers_lies layout.grid c.args.self.now.parts.lawful.grid index c.requires.boxed region c.args.region.now.same_length c.requires.dimensions covers in
+    let lies = covers_lies layout.grid c.args.self.now.layout.lawful.grid index c.requires.boxed region c.args.region.now.same_length c.requires.dimensions covers in
     false≢true (sym c.if-lies_in_box.false ∙ c.lies_in_box.ensures.1 (subst (λ (b : Box). LiesInBox b region) (sym c.in_ok-chunk.ensures.region) lies)) in
     c.requires.ask index (member index) proper
 

@@ -7,7 +7,7 @@ use Rattle.std.proofs.Common.{rules}
 use Rattle.zarrs_storage.specs.declared.error.StorageError.{StorageError}
 use Rattle.zarrs_storage.specs.Store.{Refuses}
 use Rattle.zarrs_calls.specs.Refusals.{refusal_of_storage}
-use Rattle.zarrs_array_layout.specs.Parts.{RefusesPut}
+use Rattle.zarrs_array_layout.specs.Steps.{RefusesPut}
 use Rattle.zarrs_engine.proofs.Puts.{put_short, put_refused, any_error}
 use Rattle.zarrs_engine.proofs.engine.Engine.put.Goals as goal
 

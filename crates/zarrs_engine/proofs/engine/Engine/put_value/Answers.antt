@@ -26,4 +26,4 @@ pub returns-clause-done : goal.returns-clause-done
 returns-clause-done g c = λ keep region held made covered given u h.
     let layout = layout_of c.args.self.now in
     puts_part layout keep region held c.args.chunk_indices.now c.requires.fit made (g.S.ReadableStorageTraits.state c.args.self.now.storage) u
-    c.args.self.now.parts.lawful c.requires.boxed covered c.in_ok-key.key (option_map (λ v. v.items) c.args.value) (g.S.ReadableStorageTraits.state c.put.new.self.storage) c.in_ok-key.ensures.key given h c.in_ok-put.ensures.done
+    c.args.self.now.layout.lawful c.requires.boxed covered c.in_ok-key.key (option_map (λ v. v.items) c.args.value) (g.S.ReadableStorageTraits.state c.put.new.self.storage) c.in_ok-key.ensures.key given h c.in_ok-put.ensures.done

@@ -18,7 +18,7 @@ use Rattle.zarrs_engine.specs.Engine.{layout_of}
 use Rattle.zarrs_engine.specs.TargetReads.{HasPositions}
 use Rattle.zarrs_engine.proofs.TargetReads.{into_apart, into_more}
 use Rattle.zarrs_engine.proofs.IntoReads.{on_ok_both, same_data, same_keeps, same_parent, same_positions, same_takes}
-use Rattle.zarrs_engine.proofs.MovedBoxes.{moved_box, moved_lies, moved_outside}
+use Rattle.zarrs_parts.proofs.MovedBoxes.{moved_box, moved_lies, moved_outside}
 use Rattle.zarrs_engine.proofs.PartBytes.{box_why}
 use Rattle.zarrs_engine.proofs.engine.Engine.read_chunk_into.Goals as goal
 
@@ -52,7 +52,7 @@ returns-in_default-clause-read g c =
     let index = c.args.chunk_indices.now in
     let t = c.args.target.now in
     let apart = subst (λ (b : Box). AreApart region b) c.in_ok-chunk.ensures.region (rw c.in_default.is at c.in_ok-shared.ensures.none) in
-    into_apart layout c.args.self.now.parts.lawful region state (parent_box t) (target_box t) index c.requires.boxed (data_of_target t) apart
+    into_apart layout c.args.self.now.layout.lawful region state (parent_box t) (target_box t) index c.requires.boxed (data_of_target t) apart
 
 pub returns-in_default-clause-outside : goal.returns-in_default-clause-outside
 returns-in_default-clause-outside g c =
@@ -119,7 +119,7 @@ returns-clause-read g c =
     on_ok_both (HasPositions layout shared state (parent_box p) (target_box p) (data_of_target q)) (CoversBox region (box_at layout.grid index) → IsBroken layout index state → ⊥) c.read_shared_into-done.result read.read read.whole in
     on_ok_weaker c.read_shared_into-done.result
     (λ done.
-    into_more layout c.args.self.now.parts.lawful region state (parent_box t) own index c.requires.boxed t.cell_size shared (box_of found.part) (data_of_target t) (data_of_target u)
+    into_more layout c.args.self.now.layout.lawful region state (parent_box t) own index c.requires.boxed t.cell_size shared (box_of found.part) (data_of_target t) (data_of_target u)
     (type_taken t.cell_size t.depth layout.kind c.requires.takes).0 c.args.region.now.same_length (origin_long t.parent_shape.now) t.region.now.same_length c.requires.same_shape
     (lies_at_origin own t.parent_shape.now c.requires.target.inside) are
     (same_positions layout shared state (parent_box t) (parent_box p) (moved_box own region shared) (target_box p) (data_of_target u) (data_of_target q) (same_parent t p parts.parent_shape) moved_is (sym news) done.0)

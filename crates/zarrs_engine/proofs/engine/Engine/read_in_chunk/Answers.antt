@@ -1,7 +1,7 @@
-use Rattle.std.proofs.Common.{◌≡◌, ◌∙◌, true, [], ◌∷◌, rules, refl, sym, ap, subst, inl, inr}
+use Rattle.std.proofs.Common.{◌≡◌, ◌<◌, ◌≤◌, ◌∙◌, ℕ, true, List, [], ◌∷◌, length, slice_index, rules, refl, sym, ap, subst, inl, inr, arith}
 use Rattle.std.proofs.lemmas.Bool.{false≢true}
 use Rattle.std.proofs.lemmas.Result.{IfOk-weaker}
-use Rattle.zarrs_subset.specs.Regions.{Box, Holds, box_of}
+use Rattle.zarrs_subset.specs.Regions.{Box, Holds, box_of, seen_from}
 use Rattle.zarrs_array_bytes.specs.declared.array_bytes.ArrayBytes.{ArrayBytes}
 use Rattle.zarrs_byte_strings.specs.StringParts.{LiesInBox}
 use Rattle.zarrs_data_type.specs.ArrayData.{data_of}
@@ -35,7 +35,7 @@ returns-in_err-chunk-clause-refused g c =
     let state = g.S.ReadableStorageTraits.state c.args.self.now.storage in
     let region = box_of c.args.region.now in
     let index = c.args.chunk_indices.now in
-    let has = has layout c.args.self.now.parts.lawful region index c.requires.cover in
+    let has = has layout c.args.self.now.layout.lawful region index c.requires.cover in
     let why : RefusesRegionRead layout (read_size_refusal layout region.shape) region (index ∷ []) state (refusal_of c.in_err-chunk.field-0.0) =
     inr (c.in_ok-count_to_read.ensures.accepted, box_why layout region index state has (refusal_of c.in_err-chunk.field-0.0) c.in_err-chunk.ensures.refused) in
     search (rules, why)
@@ -53,7 +53,7 @@ returns-then-eq-clause-read g c =
     let index = c.args.chunk_indices.now in
     let same = c.eq.ensures.0 c.if-eq.true ∙ c.in_ok-chunk.ensures.region in
     IfOk-weaker c.retrieve_chunk.result (λ (made : ArrayBytes). RetrievesChunk layout index (data_of made) state) (λ (made : ArrayBytes). ReadsRegion layout region (index ∷ []) (data_of made) state)
-    (λ made r. chunk_read layout c.args.self.now.parts.lawful region index c.requires.cover state same (data_of made) r) c.retrieve_chunk.ensures.cells
+    (λ made r. chunk_read layout c.args.self.now.layout.lawful region index c.requires.cover state same (data_of made) r) c.retrieve_chunk.ensures.cells
 
 pub returns-then-eq-clause-refused : goal.returns-then-eq-clause-refused
 returns-then-eq-clause-refused g c =
@@ -64,12 +64,31 @@ returns-then-eq-clause-refused g c =
     let same = c.eq.ensures.0 c.if-eq.true ∙ c.in_ok-chunk.ensures.region in
     each_error c.retrieve_chunk.result (λ (e : ArrayError). RefusesChunkRead layout (length_refusal layout index) true index state (refusal_of e))
     (λ (e : ArrayError). RefusesRegionRead layout (read_size_refusal layout region.shape) region (index ∷ []) state (refusal_of e))
-    (λ e why. chunk_refused layout c.args.self.now.parts.lawful region index c.requires.cover state same c.in_ok-count_to_read.ensures.accepted (refusal_of e) why) c.retrieve_chunk.ensures.refused
+    (λ e why. chunk_refused layout c.args.self.now.layout.lawful region index c.requires.cover state same c.in_ok-count_to_read.ensures.accepted (refusal_of e) why) c.retrieve_chunk.ensures.refused
+
+pub seen_from_corner-requires-clause-dimensions : goal.seen_from_corner-requires-clause-dimensions
+seen_from_corner-requires-clause-dimensions g c =
+    let layout = layout_of c.args.self.now in
+    let region = box_of c.args.region.now in
+    let index = c.args.chunk_indices.now in
+    let has = has layout c.args.self.now.layout.lawful region index c.requires.cover in
+    let lies = region_lies layout.grid c.args.self.now.layout.lawful.grid index has region c.requires.cover c.requires.some in
+    ap (λ (l : List ℕ). length l) c.start.ensures ∙ ap (λ (b : Box). length b.start) c.in_ok-chunk.ensures.region ∙ sym lies.same_length
+
+pub seen_from_corner-requires-clause-above : goal.seen_from_corner-requires-clause-above
+seen_from_corner-requires-clause-above g c =
+    let layout = layout_of c.args.self.now in
+    let region = box_of c.args.region.now in
+    let index = c.args.chunk_indices.now in
+    let has = has layout c.args.self.now.layout.lawful region index c.requires.cover in
+    let lies = region_lies layout.grid c.args.self.now.layout.lawful.grid index has region c.requires.cover c.requires.some in
+    subst (λ (l : List ℕ). (k : ℕ) → k < length region.start → slice_index l k ≤ slice_index region.start k) (sym (c.start.ensures ∙ ap (λ (b : Box). b.start) c.in_ok-chunk.ensures.region))
+    (λ k below. lies.starts k (omega (arith, lies.same_length)))
 
 pub read_part-requires-clause-part : goal.read_part-requires-clause-part
 read_part-requires-clause-part g c =
     let layout = layout_of c.args.self.now in
-    only_part layout c.args.self.now.parts.lawful (box_of c.args.region.now) c.args.chunk_indices.now c.requires.cover c.requires.some
+    only_part layout c.args.self.now.layout.lawful (box_of c.args.region.now) c.args.chunk_indices.now c.requires.cover c.requires.some
     (λ same. false≢true (sym c.if-eq.false ∙ c.eq.ensures.1 (same ∙ sym c.in_ok-chunk.ensures.region)))
 
 pub read_part-requires-clause-lies : goal.read_part-requires-clause-lies
@@ -77,9 +96,12 @@ read_part-requires-clause-lies g c =
     let layout = layout_of c.args.self.now in
     let region = box_of c.args.region.now in
     let index = c.args.chunk_indices.now in
-    let has = has layout c.args.self.now.parts.lawful region index c.requires.cover in
+    let has = has layout c.args.self.now.layout.lawful region index c.requires.cover in
     subst (λ (b : Box). LiesInBox region b) (sym c.in_ok-chunk.ensures.region)
-    (region_lies layout.grid c.args.self.now.parts.lawful.grid index has region c.requires.cover c.requires.some)
+    (region_lies layout.grid c.args.self.now.layout.lawful.grid index has region c.requires.cover c.requires.some)
+
+pub read_part-requires-clause-seen : goal.read_part-requires-clause-seen
+read_part-requires-clause-seen g c = c.in_ok-part.ensures ∙ ap (λ (l : List ℕ). seen_from (box_of c.args.region.now) l) c.start.ensures
 
 pub returns-clause-read : goal.returns-clause-read
 returns-clause-read g c =
@@ -88,7 +110,7 @@ returns-clause-read g c =
     let region = box_of c.args.region.now in
     let index = c.args.chunk_indices.now in
     IfOk-weaker c.read_part.result (λ (made : ArrayBytes). HasRead layout region (index ∷ []) state (data_of made)) (λ (made : ArrayBytes). ReadsRegion layout region (index ∷ []) (data_of made) state)
-    (λ made r. read_all layout c.args.self.now.parts.lawful region (index ∷ []) state (data_of made) c.requires.cover r) c.read_part.ensures.read
+    (λ made r. read_all layout c.args.self.now.layout.lawful region (index ∷ []) state (data_of made) c.requires.cover r) c.read_part.ensures.read
 
 pub returns-clause-refused : goal.returns-clause-refused
 returns-clause-refused g c =

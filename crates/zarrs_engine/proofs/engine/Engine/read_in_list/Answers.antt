@@ -19,7 +19,7 @@ pub overflow_mul-count : goal.overflow_mul-count
 overflow_mul-count g c =
     let layout = layout_of c.args.self.now in
     let form = c.args.form in
-    let held : held_size layout.kind layout.fill ≡ form.size = held_fixed layout.kind form.size layout.fill (type_taken form.size form.depth layout.kind c.requires.takes).0 c.args.self.now.parts.lawful.filled in
+    let held : held_size layout.kind layout.fill ≡ form.size = held_fixed layout.kind form.size layout.fill (type_taken form.size form.depth layout.kind c.requires.takes).0 c.args.self.now.layout.lawful.filled in
     let fit : c.in_ok-count.count * form.size < 2 ^ 64 = subst (λ n. c.in_ok-count.count * n < 2 ^ 64) held c.in_ok-count.ensures.fits in
     search (rules, fit)
 
@@ -46,6 +46,6 @@ returns-clause-read g c =
     c.read_into_list.auto.masks ∙ ap length c.deref_mut-2.ensures.value ∙ c.in_ok-masks.ensures ∙ ap (λ m. m * form.depth) count in
     let are = subst (λ (m : List ℕ). AreFlags m flags) masks_are (c.into_flags.ensures.len, c.into_flags.ensures.same) in
     let read =
-    lists_read layout region chunks state form.size form.depth masks flags bytes c.requires.cover c.requires.takes (element_size-positive c.args.self.now.parts.data_type) bytes_len masks_len are
+    lists_read layout region chunks state form.size form.depth masks flags bytes c.requires.cover c.requires.takes (element_size-positive c.args.self.now.layout.data_type) bytes_len masks_len are
     c.in_ok-read_into_list.ensures.read in
     subst (λ (d : ArrayData). ReadsRegion layout region chunks d state) (sym made_is) read

@@ -27,7 +27,7 @@ returns-in_default-clause-read g c =
     let t = c.args.target.now in
     let none : positions (box_of c.args.chunks.now) ≡ [] = rw c.in_default.is at c.in_ok-walk.ensures.none in
     subst (λ (l : List (List ℕ)). HasReadInto layout region l state (parent_box t) (target_box t) (data_of_target t)) (sym none)
-    (into_none layout c.args.self.now.parts.lawful region state (parent_box t) (target_box t) (data_of_target t))
+    (into_none layout c.args.self.now.layout.lawful region state (parent_box t) (target_box t) (data_of_target t))
 
 pub returns-in_default-clause-outside : goal.returns-in_default-clause-outside
 returns-in_default-clause-outside g c =
@@ -50,7 +50,7 @@ loop-walk-init g c =
       same_target = record { cell_size = refl; depth = refl; parent_shape = refl; region = refl };
       stays = masked_keeps t.cell_size (parent_box t) (target_box t) t.depth (position_count t.parent_shape.now) t.masks.now t.bytes.now;
       read = subst (λ n. HasReadInto layout region (take n chunks) state (parent_box t) (target_box t) (data_of_target t)) (sym first)
-          (into_none layout c.args.self.now.parts.lawful region state (parent_box t) (target_box t) (data_of_target t));
+          (into_none layout c.args.self.now.layout.lawful region state (parent_box t) (target_box t) (data_of_target t));
     }
 
 pub read_chunk_into-requires-clause-boxed : goal.read_chunk_into-requires-clause-boxed
@@ -110,7 +110,7 @@ returns-then-not-advance-clause-same_box g c = same_twice c.args.target.now c.lo
 pub returns-then-not-advance-clause-read : goal.returns-then-not-advance-clause-read
 returns-then-not-advance-clause-read g c =
     let layout = layout_of c.args.self.now in
-    let lawful = c.args.self.now.parts.lawful in
+    let lawful = c.args.self.now.layout.lawful in
     let state = g.S.ReadableStorageTraits.state c.args.self.now.storage in
     let region = box_of c.args.region.now in
     let chunks = positions (box_of c.args.chunks.now) in
@@ -134,7 +134,7 @@ returns-then-not-advance-clause-outside g c =
 pub loop-walk-preserved : goal.loop-walk-preserved
 loop-walk-preserved g c =
     let layout = layout_of c.args.self.now in
-    let lawful = c.args.self.now.parts.lawful in
+    let lawful = c.args.self.now.layout.lawful in
     let state = g.S.ReadableStorageTraits.state c.args.self.now.storage in
     let region = box_of c.args.region.now in
     let chunks = positions (box_of c.args.chunks.now) in

@@ -32,7 +32,7 @@ returns-clause-read g c =
     (λ (made : ArrayBytes). cells layout.kind (data_of made) ≡ Some (replicate (position_count region.shape) layout.fill))
     (λ (made : ArrayBytes). HasRead layout region (index ∷ []) state (data_of made))
     (λ made is. none (data_of made) []
-    (read_none layout c.args.self.now.parts.lawful region state (data_of made) c.args.region.now.same_length is (length-replicate {A = Cell} (position_count region.shape) layout.fill)))
+    (read_none layout c.args.self.now.layout.lawful region state (data_of made) c.args.region.now.same_length is (length-replicate {A = Cell} (position_count region.shape) layout.fill)))
     c.filled.ensures.cells
 
 pub returns-clause-refused : goal.returns-clause-refused

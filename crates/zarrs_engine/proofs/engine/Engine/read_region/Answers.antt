@@ -75,7 +75,7 @@ read_along-requires-clause-none g c =
     let layout = layout_of c.args.self.now in
     let state = g.S.ReadableStorageTraits.state c.args.self.now.storage in
     let region = box_of c.args.region.now in
-    read_none layout c.args.self.now.parts.lawful region state (region_data c.in_ok-filled.filled) c.requires.cover.long c.in_ok-filled.ensures.cells (length-replicate {A = Cell} (position_count region.shape) layout.fill)
+    read_none layout c.args.self.now.layout.lawful region state (region_data c.in_ok-filled.filled) c.requires.cover.long c.in_ok-filled.ensures.cells (length-replicate {A = Cell} (position_count region.shape) layout.fill)
 
 pub returns-in_err-held-clause-refused : goal.returns-in_err-held-clause-refused
 returns-in_err-held-clause-refused g c =
@@ -94,5 +94,5 @@ returns-clause-read g c =
     let region = box_of c.args.region.now in
     let chunks = positions (box_of c.args.chunks.now) in
     let held = region_data c.in_ok-held.held in
-    let read = read_all layout c.args.self.now.parts.lawful region chunks state held c.requires.cover c.in_ok-held.ensures.all in
+    let read = read_all layout c.args.self.now.layout.lawful region chunks state held c.requires.cover c.in_ok-held.ensures.all in
     subst (λ (d : ArrayData). ReadsRegion layout region chunks d state) (sym c.in_ok-made.ensures) read

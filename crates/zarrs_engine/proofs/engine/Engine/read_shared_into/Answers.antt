@@ -10,7 +10,7 @@ use Rattle.zarrs_calls.specs.Reach.{MayDecodePart, chunk_part}
 use Rattle.zarrs_array_layout.proofs.OneChunk.{covers_lies}
 use Rattle.zarrs_engine.specs.Engine.{layout_of}
 use Rattle.zarrs_engine.specs.TargetReads.{HasPositions}
-use Rattle.zarrs_engine.proofs.MovedBoxes.{overlap_inside}
+use Rattle.zarrs_parts.proofs.MovedBoxes.{overlap_inside}
 use Rattle.zarrs_engine.proofs.PartWrites.{lies_covers}
 use Rattle.zarrs_engine.proofs.engine.Engine.read_shared_into.Goals as goal
 
@@ -62,7 +62,7 @@ returns-clause-whole g c =
     let index = c.args.chunk_indices.now in
     on_ok_weaker c.read_part_into.result
     (λ read covers broken.
-    let lies = covers_lies layout.grid c.args.self.now.parts.lawful.grid index c.requires.boxed region c.args.region.now.same_length
+    let lies = covers_lies layout.grid c.args.self.now.layout.lawful.grid index c.requires.boxed region c.args.region.now.same_length
     (sym c.requires.shared.in_region.same_length ∙ c.requires.shared.in_chunk.same_length ∙ ap (λ (b : Box). length b.start) c.requires.chunk ∙ box_dimensions layout.grid index) covers in
     false≢true (sym c.if-lies_in_box.false ∙ c.lies_in_box.ensures.1 (subst (λ (b : Box). LiesInBox b region) (sym c.requires.chunk) lies)))
     c.read_part_into.ensures.read

@@ -32,7 +32,7 @@ returns-in_err-encoded-clause-outside g c =
 pub returns-in_default-clause-read : goal.returns-in_default-clause-read
 returns-in_default-clause-read g c =
     let layout = layout_of c.args.self.now in
-    let lawful = c.args.self.now.parts.lawful in
+    let lawful = c.args.self.now.layout.lawful in
     let state = g.S.ReadableStorageTraits.state c.args.self.now.storage in
     let index = c.args.chunk_indices.now in
     let t = c.args.target.now in
@@ -56,7 +56,7 @@ returns-in_err-decode_into-clause-refused g c =
 pub returns-clause-read : goal.returns-clause-read
 returns-clause-read g c =
     let layout = layout_of c.args.self.now in
-    let lawful = c.args.self.now.parts.lawful in
+    let lawful = c.args.self.now.layout.lawful in
     let state = g.S.ReadableStorageTraits.state c.args.self.now.storage in
     let index = c.args.chunk_indices.now in
     let t = c.args.target.now in

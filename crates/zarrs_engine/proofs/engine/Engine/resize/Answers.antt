@@ -22,14 +22,14 @@ returns-then-len-dimensions-clause-refused g c =
     let got : e.got ≡ length wanted = omega arith in
     let expected : e.expected ≡ layout.grid.dimensions = c.new-error.ensures.expected ∙ c.dimensionality-dimensions.ensures in
     let said = resize_length layout wanted apart ∙ ap (λ n. Some (dimensionality n layout.grid.dimensions)) (sym got) ∙ ap (λ n. Some (dimensionality e.got n)) (sym expected) in
-    resize_early layout wanted (stores_empty_chunks c.args.options.now) (g.G.ChunkGridTraits.array_extents c.args.self.now.parts.grid) (dimensionality e.got e.expected) (g.S.ReadableStorageTraits.state c.args.self.now.storage) said
+    resize_early layout wanted (stores_empty_chunks c.args.options.now) (g.G.ChunkGridTraits.array_extents c.args.self.now.layout.grid) (dimensionality e.got e.expected) (g.S.ReadableStorageTraits.state c.args.self.now.storage) said
 
 pub resized-requires : goal.resized-requires
 resized-requires g c = omega arith
 
 pub returns-in_err-grid-clause-refused : goal.returns-in_err-grid-clause-refused
 returns-in_err-grid-clause-refused g c =
-    let why = resize_memory (layout_of c.args.self.now) c.args.shape.items (stores_empty_chunks c.args.options.now) (g.G.ChunkGridTraits.array_extents c.args.self.now.parts.grid) (g.S.ReadableStorageTraits.state c.args.self.now.storage) in
+    let why = resize_memory (layout_of c.args.self.now) c.args.shape.items (stores_empty_chunks c.args.options.now) (g.G.ChunkGridTraits.array_extents c.args.self.now.layout.grid) (g.S.ReadableStorageTraits.state c.args.self.now.storage) in
     search (rules, why)
 
 pub returns-in_default-clause-refused : goal.returns-in_default-clause-refused
@@ -39,7 +39,7 @@ returns-in_default-clause-refused g c =
     let long : length wanted ≡ layout.grid.dimensions = omega arith in
     let fixed : layout.grid.resizes ≡ false = sym c.in_ok-grid.ensures.resizes ∙ ap is_some c.in_default.is in
     let e = c.unsupported_resize.result in
-    resize_early layout wanted (stores_empty_chunks c.args.options.now) (g.G.ChunkGridTraits.array_extents c.args.self.now.parts.grid) (refusal_of e) (g.S.ReadableStorageTraits.state c.args.self.now.storage)
+    resize_early layout wanted (stores_empty_chunks c.args.options.now) (g.G.ChunkGridTraits.array_extents c.args.self.now.layout.grid) (refusal_of e) (g.S.ReadableStorageTraits.state c.args.self.now.storage)
     (subst (λ o. RefusesBy o (refusal_of e)) (sym (resize_unsupported layout wanted long fixed)) c.unsupported_resize.ensures)
 
 pub cut_along-requires-clause-dimensions : goal.cut_along-requires-clause-dimensions
@@ -53,7 +53,7 @@ pub cut_along-requires-clause-ask : goal.cut_along-requires-clause-ask
 cut_along-requires-clause-ask g c =
     let layout = layout_of c.args.self.now in
     let given = subst (λ o. IfSome o (λ grid. g.G.ChunkGridTraits.array_extents grid ≡ c.args.shape.items)) c.in-Some.is c.in_ok-grid.ensures.shape in
-    let extents = g.G.ChunkGridTraits.array_extents c.args.self.now.parts.grid in
+    let extents = g.G.ChunkGridTraits.array_extents c.args.self.now.layout.grid in
     let state = g.S.ReadableStorageTraits.state c.args.self.now.storage in
     let long : length c.args.shape.items ≡ layout.grid.dimensions = omega arith in
     let resizes : layout.grid.resizes ≡ true = sym c.in_ok-grid.ensures.resizes ∙ ap is_some c.in-Some.is in
@@ -66,7 +66,7 @@ returns-in_err-cut_along-clause-refused g c =
     let keep = stores_empty_chunks c.args.options.now in
     let wanted = c.args.shape.items in
     let given = subst (λ o. IfSome o (λ grid. g.G.ChunkGridTraits.array_extents grid ≡ wanted)) c.in-Some.is c.in_ok-grid.ensures.shape in
-    let extents = g.G.ChunkGridTraits.array_extents c.args.self.now.parts.grid in
+    let extents = g.G.ChunkGridTraits.array_extents c.args.self.now.layout.grid in
     let old = g.S.ReadableStorageTraits.state c.args.self.now.storage in
     let new = g.S.ReadableStorageTraits.state c.cut_along.new.self.storage in
     let long : length wanted ≡ layout.grid.dimensions = omega arith in
@@ -79,8 +79,8 @@ returns-in_err-cut_along-clause-refused g c =
 
 pub set_chunk_grid-requires : goal.set_chunk_grid-requires
 set_chunk_grid-requires g c =
-    let same = subst (λ o. IfSome o (λ grid. g.G.ChunkGridTraits.grid grid ≡ g.G.ChunkGridTraits.grid c.args.self.now.parts.grid)) c.in-Some.is c.in_ok-grid.ensures.grid in
-    ap (λ (grid : Grid). grid.dimensions) same ∙ sym (ap (λ parts. (g.G.ChunkGridTraits.grid parts.grid).dimensions) c.in_ok-cut_along.ensures.parts)
+    let same = subst (λ o. IfSome o (λ grid. g.G.ChunkGridTraits.grid grid ≡ g.G.ChunkGridTraits.grid c.args.self.now.layout.grid)) c.in-Some.is c.in_ok-grid.ensures.grid in
+    ap (λ (grid : Grid). grid.dimensions) same ∙ sym (ap (λ own. (g.G.ChunkGridTraits.grid own.grid).dimensions) c.in_ok-cut_along.ensures.layout_kept)
 
 pub returns-clause-done : goal.returns-clause-done
 returns-clause-done g c =
@@ -88,14 +88,14 @@ returns-clause-done g c =
     let keep = stores_empty_chunks c.args.options.now in
     let wanted = c.args.shape.items in
     let given = subst (λ o. IfSome o (λ grid. g.G.ChunkGridTraits.array_extents grid ≡ wanted)) c.in-Some.is c.in_ok-grid.ensures.shape in
-    let extents = g.G.ChunkGridTraits.array_extents c.args.self.now.parts.grid in
+    let extents = g.G.ChunkGridTraits.array_extents c.args.self.now.layout.grid in
     let old = g.S.ReadableStorageTraits.state c.args.self.now.storage in
     let mid = g.S.ReadableStorageTraits.state c.cut_along.new.self.storage in
     let long : length wanted ≡ layout.grid.dimensions = omega arith in
     let resizes : layout.grid.resizes ≡ true = sym c.in_ok-grid.ensures.resizes ∙ ap is_some c.in-Some.is in
     let none = resize_none layout wanted long resizes in
     let cut = subst (λ (s : List ℕ). HasCut layout keep s (cut_chunks layout.grid extents s) old mid) (c.array_shape.ensures.value ∙ given) c.in_ok-cut_along.ensures.done in
-    let all = resized_all layout c.args.self.now.parts.lawful keep extents wanted old mid cut in
+    let all = resized_all layout c.args.self.now.layout.lawful keep extents wanted old mid cut in
     (none, subst (λ storage. CutsAll layout keep extents wanted old (g.S.ReadableStorageTraits.state storage)) (sym c.set_chunk_grid.ensures.storage) all)
 
 pub returns-clause-shape : goal.returns-clause-shape
@@ -105,35 +105,35 @@ returns-clause-shape g c =
 
 pub returns-clause-others : goal.returns-clause-others
 returns-clause-others g c =
-    let same = subst (λ o. IfSome o (λ grid. g.G.ChunkGridTraits.grid grid ≡ g.G.ChunkGridTraits.grid c.args.self.now.parts.grid)) c.in-Some.is c.in_ok-grid.ensures.grid in
-    let extension = subst (λ o. IfSome o (λ grid. g.G.ChunkGridTraits.extension grid ≡ g.G.ChunkGridTraits.extension c.args.self.now.parts.grid)) c.in-Some.is c.in_ok-grid.ensures.extension in
-    others_given c.in-Some.grid c.args.self.now c.cut_along.new.self c.set_chunk_grid.new.self c.in_ok-cut_along.ensures.parts c.set_chunk_grid.ensures same extension
+    let same = subst (λ o. IfSome o (λ grid. g.G.ChunkGridTraits.grid grid ≡ g.G.ChunkGridTraits.grid c.args.self.now.layout.grid)) c.in-Some.is c.in_ok-grid.ensures.grid in
+    let extension = subst (λ o. IfSome o (λ grid. g.G.ChunkGridTraits.extension grid ≡ g.G.ChunkGridTraits.extension c.args.self.now.layout.grid)) c.in-Some.is c.in_ok-grid.ensures.extension in
+    others_given c.in-Some.grid c.args.self.now c.cut_along.new.self c.set_chunk_grid.new.self c.in_ok-cut_along.ensures.layout_kept c.set_chunk_grid.ensures same extension
 
 pub returns-clause-layout : goal.returns-clause-layout
 returns-clause-layout g c =
-    let same = subst (λ o. IfSome o (λ grid. g.G.ChunkGridTraits.grid grid ≡ g.G.ChunkGridTraits.grid c.args.self.now.parts.grid)) c.in-Some.is c.in_ok-grid.ensures.grid in
-    let extension = subst (λ o. IfSome o (λ grid. g.G.ChunkGridTraits.extension grid ≡ g.G.ChunkGridTraits.extension c.args.self.now.parts.grid)) c.in-Some.is c.in_ok-grid.ensures.extension in
-    layout_same c.args.self.now c.set_chunk_grid.new.self (others_given c.in-Some.grid c.args.self.now c.cut_along.new.self c.set_chunk_grid.new.self c.in_ok-cut_along.ensures.parts c.set_chunk_grid.ensures same extension)
+    let same = subst (λ o. IfSome o (λ grid. g.G.ChunkGridTraits.grid grid ≡ g.G.ChunkGridTraits.grid c.args.self.now.layout.grid)) c.in-Some.is c.in_ok-grid.ensures.grid in
+    let extension = subst (λ o. IfSome o (λ grid. g.G.ChunkGridTraits.extension grid ≡ g.G.ChunkGridTraits.extension c.args.self.now.layout.grid)) c.in-Some.is c.in_ok-grid.ensures.extension in
+    layout_same c.args.self.now c.set_chunk_grid.new.self (others_given c.in-Some.grid c.args.self.now c.cut_along.new.self c.set_chunk_grid.new.self c.in_ok-cut_along.ensures.layout_kept c.set_chunk_grid.ensures same extension)
 
 pub returns-in_err-cut_along-clause-others : goal.returns-in_err-cut_along-clause-others
-returns-in_err-cut_along-clause-others g c = keeps_others c.args.self.now c.cut_along.new.self c.in_err-cut_along.ensures.parts
+returns-in_err-cut_along-clause-others g c = keeps_others c.args.self.now c.cut_along.new.self c.in_err-cut_along.ensures.layout_kept
 
 pub returns-clause-canonical : goal.returns-clause-canonical
 returns-clause-canonical g c =
     let layout = layout_of c.args.self.now in
     let keep = stores_empty_chunks c.args.options.now in
-    let extents = g.G.ChunkGridTraits.array_extents c.args.self.now.parts.grid in
+    let extents = g.G.ChunkGridTraits.array_extents c.args.self.now.layout.grid in
     let old = g.S.ReadableStorageTraits.state c.args.self.now.storage in
     let new = g.S.ReadableStorageTraits.state c.set_chunk_grid.new.self.storage in
     let done : ResizesArray layout keep extents c.args.shape.items old new = returns-clause-done g c in
-    cut_canon layout c.args.self.now.parts.lawful keep old new extents c.args.shape.items done.1
+    cut_canon layout c.args.self.now.layout.lawful keep old new extents c.args.shape.items done.1
 
 pub returns-in_err-cut_along-clause-canonical : goal.returns-in_err-cut_along-clause-canonical
 returns-in_err-cut_along-clause-canonical g c =
     let layout = layout_of c.args.self.now in
     let keep = stores_empty_chunks c.args.options.now in
-    let extents = g.G.ChunkGridTraits.array_extents c.args.self.now.parts.grid in
+    let extents = g.G.ChunkGridTraits.array_extents c.args.self.now.layout.grid in
     let old = g.S.ReadableStorageTraits.state c.args.self.now.storage in
     let new = g.S.ReadableStorageTraits.state c.cut_along.new.self.storage in
-    cut_refused_canon layout c.args.self.now.parts.lawful keep old new extents None c.array_shape.result.now
+    cut_refused_canon layout c.args.self.now.layout.lawful keep old new extents None c.array_shape.result.now
     (refusal_of c.in_err-cut_along.field-0.0) (c.in_err-cut_along.ensures.refused None refl)

@@ -8,7 +8,7 @@ use Rattle.zarrs_chain.specs.Options.{stores_empty_chunks}
 use Rattle.zarrs_calls.specs.Reach.{MayAskParts}
 use Rattle.zarrs_calls.specs.Refusals.{refusal_of}
 use Rattle.zarrs_engine.specs.Engine.{layout_of}
-use Rattle.zarrs_array_layout.specs.Layouts.{layout_of_parts}
+use Rattle.zarrs_array_layout.specs.Layouts.{layout_meaning}
 use Rattle.zarrs_engine.specs.RegionWrites.{HasStored, LeavesPart, StoresOneMore}
 use Rattle.zarrs_engine.proofs.RegionFronts.{stored_all, stored_ask, stored_fails, stored_more, stored_short}
 use Rattle.zarrs_engine.proofs.RegionSteps.{at_among}
@@ -27,7 +27,7 @@ store_part-requires-clause-boxed g c =
     let n = walk_number c.loop-walk.walk in
     let index = c.current.result.now in
     let at = subst (λ (b : Box). slice_get (positions b) n ≡ Some index) i.same_box c.current.ensures in
-    ap (λ parts. has_box (g.G.ChunkGridTraits.grid parts.grid) index) i.parts ∙ c.requires.cover.boxed index (at_among chunks n index at)
+    ap (λ own. has_box (g.G.ChunkGridTraits.grid own.grid) index) i.layout_kept ∙ c.requires.cover.boxed index (at_among chunks n index at)
 
 pub store_part-requires-clause-ask : goal.store_part-requires-clause-ask
 store_part-requires-clause-ask g c =
@@ -40,9 +40,9 @@ store_part-requires-clause-ask g c =
     let at = subst (λ (b : Box). slice_get (positions b) n ≡ Some index) i.same_box c.current.ensures in
     let old = g.S.ReadableStorageTraits.state c.args.self.now.storage in
     let mid = g.S.ReadableStorageTraits.state c.loop-walk.self.storage in
-    let ask = stored_ask layout c.args.self.now.parts.lawful (stores_empty_chunks c.args.options.now) region (data_of c.args.region_data.now) range (c.args.chunks.now.same_length)
+    let ask = stored_ask layout c.args.self.now.layout.lawful (stores_empty_chunks c.args.options.now) region (data_of c.args.region_data.now) range (c.args.chunks.now.same_length)
     c.requires.cover old mid c.requires.ask n index at i.stored in
-    subst (λ parts. MayAskParts (layout_of_parts parts) region (index ∷ []) mid) (sym i.parts) ask
+    subst (λ own. MayAskParts (layout_meaning own) region (index ∷ []) mid) (sym i.layout_kept) ask
 
 pub returns-in_err-store_part-clause-refused : goal.returns-in_err-store_part-clause-refused
 returns-in_err-store_part-clause-refused g c = λ first none.
@@ -59,7 +59,7 @@ returns-in_err-store_part-clause-refused g c = λ first none.
     let mid = g.S.ReadableStorageTraits.state c.loop-walk.self.storage in
     let new = g.S.ReadableStorageTraits.state c.store_part.new.self.storage in
     let r = refusal_of c.in_err-store_part.field-0.0 in
-    let refused = subst (λ parts. LeavesPart (layout_of_parts parts) keep region held index r mid new) i.parts c.in_err-store_part.ensures.refused in
+    let refused = subst (λ own. LeavesPart (layout_meaning own) keep region held index r mid new) i.layout_kept c.in_err-store_part.ensures.refused in
     let why = stored_fails layout keep region held chunks first n index r old mid new none i.stored at refused in
     search (rules, why)
 
@@ -77,8 +77,8 @@ returns-then-not-advance-clause-done g c =
     let old = g.S.ReadableStorageTraits.state c.args.self.now.storage in
     let mid = g.S.ReadableStorageTraits.state c.loop-walk.self.storage in
     let new = g.S.ReadableStorageTraits.state c.store_part.new.self.storage in
-    let one = subst (λ parts. StoresOneMore (layout_of_parts parts) keep region held index mid new) i.parts c.in_ok-store_part.ensures.done in
-    let stored = stored_more layout keep region held chunks c.args.self.now.parts.lawful n index old mid new i.stored at one in
+    let one = subst (λ own. StoresOneMore (layout_meaning own) keep region held index mid new) i.layout_kept c.in_ok-store_part.ensures.done in
+    let stored = stored_more layout keep region held chunks c.args.self.now.layout.lawful n index old mid new i.stored at one in
     let last = subst (λ (b : Box). n + 1 ≡ length (positions b)) i.same_box c.if-not-advance.ensures.last in
     stored_all layout keep region held chunks (n + 1) old new last c.requires.cover.listed stored
 
@@ -107,10 +107,10 @@ loop-walk-preserved g c =
     let old = g.S.ReadableStorageTraits.state c.args.self.now.storage in
     let mid = g.S.ReadableStorageTraits.state c.loop-walk.self.storage in
     let new = g.S.ReadableStorageTraits.state c.store_part.new.self.storage in
-    let one = subst (λ parts. StoresOneMore (layout_of_parts parts) keep region held index mid new) i.parts c.in_ok-store_part.ensures.done in
-    let stored = stored_more layout keep region held chunks c.args.self.now.parts.lawful n index old mid new i.stored at one in
+    let one = subst (λ own. StoresOneMore (layout_meaning own) keep region held index mid new) i.layout_kept c.in_ok-store_part.ensures.done in
+    let stored = stored_more layout keep region held chunks c.args.self.now.layout.lawful n index old mid new i.stored at one in
     record {
       same_box = c.if-not-advance.ensures.same_box ∙ i.same_box;
       stored = subst (λ n. HasStored layout keep region held chunks n old new) (sym c.if-not-advance.ensures.next) stored;
-      parts = c.in_ok-store_part.ensures.parts ∙ i.parts;
+      layout_kept = c.in_ok-store_part.ensures.layout_kept ∙ i.layout_kept;
     }

@@ -22,17 +22,17 @@ use Rattle.zarrs_engine.proofs.engine.Engine.store_array_subset.Goals as goal
 
 pub returns-in_err-chunks : goal.returns-in_err-chunks
 returns-in_err-chunks g c =
-    let why = region_first (layout_of c.args.self.now) (stores_empty_chunks c.args.options.now) (g.G.ChunkGridTraits.array_extents c.args.self.now.parts.grid) (box_of c.args.array_subset.now)
+    let why = region_first (layout_of c.args.self.now) (stores_empty_chunks c.args.options.now) (g.G.ChunkGridTraits.array_extents c.args.self.now.layout.grid) (box_of c.args.array_subset.now)
     (data_of c.args.subset_data.now) (g.S.ReadableStorageTraits.state c.args.self.now.storage) (refusal_of c.in_err-chunks.field-0.0) c.in_err-chunks.ensures.refused in
-    let partly = region_refuses (layout_of c.args.self.now) c.args.self.now.parts.lawful (stores_empty_chunks c.args.options.now) (g.G.ChunkGridTraits.array_extents c.args.self.now.parts.grid) (box_of c.args.array_subset.now)
+    let partly = region_refuses (layout_of c.args.self.now) c.args.self.now.layout.lawful (stores_empty_chunks c.args.options.now) (g.G.ChunkGridTraits.array_extents c.args.self.now.layout.grid) (box_of c.args.array_subset.now)
     (data_of c.args.subset_data.now) (refusal_of c.in_err-chunks.field-0.0) (g.S.ReadableStorageTraits.state c.args.self.now.storage) (g.S.ReadableStorageTraits.state c.args.self.now.storage) why in
     search (rules, why, partly)
 
 pub returns-in_err-check_cells : goal.returns-in_err-check_cells
 returns-in_err-check_cells g c =
-    let why = region_second (layout_of c.args.self.now) (stores_empty_chunks c.args.options.now) (g.G.ChunkGridTraits.array_extents c.args.self.now.parts.grid) (box_of c.args.array_subset.now)
+    let why = region_second (layout_of c.args.self.now) (stores_empty_chunks c.args.options.now) (g.G.ChunkGridTraits.array_extents c.args.self.now.layout.grid) (box_of c.args.array_subset.now)
     (data_of c.args.subset_data.now) (g.S.ReadableStorageTraits.state c.args.self.now.storage) (refusal_of c.in_err-check_cells.field-0.0) c.in_ok-chunks.ensures.accepted (refuses_said _ (refusal_of c.in_err-check_cells.field-0.0) (subst (λ b. box_data_refusal (layout_of c.args.self.now) b (box_of c.args.array_subset.now).shape (data_of c.args.subset_data.now) ≡ Some (refusal_of c.in_err-check_cells.field-0.0)) c.in_ok-is_chunk.ensures.one c.in_err-check_cells.ensures.refused)) in
-    let partly = region_refuses (layout_of c.args.self.now) c.args.self.now.parts.lawful (stores_empty_chunks c.args.options.now) (g.G.ChunkGridTraits.array_extents c.args.self.now.parts.grid) (box_of c.args.array_subset.now)
+    let partly = region_refuses (layout_of c.args.self.now) c.args.self.now.layout.lawful (stores_empty_chunks c.args.options.now) (g.G.ChunkGridTraits.array_extents c.args.self.now.layout.grid) (box_of c.args.array_subset.now)
     (data_of c.args.subset_data.now) (refusal_of c.in_err-check_cells.field-0.0) (g.S.ReadableStorageTraits.state c.args.self.now.storage) (g.S.ReadableStorageTraits.state c.args.self.now.storage) why in
     search (rules, why, partly)
 
@@ -43,10 +43,10 @@ store_along-requires-clause-ask g c =
 
 pub returns-in_err-is_chunk : goal.returns-in_err-is_chunk
 returns-in_err-is_chunk g c =
-    let why = region_second (layout_of c.args.self.now) (stores_empty_chunks c.args.options.now) (g.G.ChunkGridTraits.array_extents c.args.self.now.parts.grid) (box_of c.args.array_subset.now)
+    let why = region_second (layout_of c.args.self.now) (stores_empty_chunks c.args.options.now) (g.G.ChunkGridTraits.array_extents c.args.self.now.layout.grid) (box_of c.args.array_subset.now)
     (data_of c.args.subset_data.now) (g.S.ReadableStorageTraits.state c.args.self.now.storage) (refusal_of c.in_err-is_chunk.field-0.0) c.in_ok-chunks.ensures.accepted
     (no_refusal _ (refusal_of c.in_err-is_chunk.field-0.0) c.in_err-is_chunk.ensures.refused) in
-    let partly = region_refuses (layout_of c.args.self.now) c.args.self.now.parts.lawful (stores_empty_chunks c.args.options.now) (g.G.ChunkGridTraits.array_extents c.args.self.now.parts.grid) (box_of c.args.array_subset.now)
+    let partly = region_refuses (layout_of c.args.self.now) c.args.self.now.layout.lawful (stores_empty_chunks c.args.options.now) (g.G.ChunkGridTraits.array_extents c.args.self.now.layout.grid) (box_of c.args.array_subset.now)
     (data_of c.args.subset_data.now) (refusal_of c.in_err-is_chunk.field-0.0) (g.S.ReadableStorageTraits.state c.args.self.now.storage) (g.S.ReadableStorageTraits.state c.args.self.now.storage) why in
     search (rules, why, partly)
 
@@ -58,9 +58,9 @@ patch_along-requires-clause-ask g c =
 pub returns-then-writes_parts : goal.returns-then-writes_parts
 returns-then-writes_parts g c =
     let layout = layout_of c.args.self.now in
-    let lawful = c.args.self.now.parts.lawful in
+    let lawful = c.args.self.now.layout.lawful in
     let keep = stores_empty_chunks c.args.options.now in
-    let shape = g.G.ChunkGridTraits.array_extents c.args.self.now.parts.grid in
+    let shape = g.G.ChunkGridTraits.array_extents c.args.self.now.layout.grid in
     let region = box_of c.args.array_subset.now in
     let held = data_of c.args.subset_data.now in
     let old = g.S.ReadableStorageTraits.state c.args.self.now.storage in
@@ -81,16 +81,16 @@ returns-then-writes_parts g c =
             (λ (e : ArrayError). RefusesPatchRegion layout keep shape region held (refusal_of e) old new)
             (λ e why. subst (λ (b : Box). RefusesPatches layout keep first region held (positions b) (refusal_of e) old new) at why)
             (e.refused first none);
-        parts = e.parts;
+        layout_kept = e.layout_kept;
       };
     }
 
 pub returns : goal.returns
 returns g c =
     let layout = layout_of c.args.self.now in
-    let lawful = c.args.self.now.parts.lawful in
+    let lawful = c.args.self.now.layout.lawful in
     let keep = stores_empty_chunks c.args.options.now in
-    let shape = g.G.ChunkGridTraits.array_extents c.args.self.now.parts.grid in
+    let shape = g.G.ChunkGridTraits.array_extents c.args.self.now.layout.grid in
     let region = box_of c.args.array_subset.now in
     let held = data_of c.args.subset_data.now in
     let old = g.S.ReadableStorageTraits.state c.args.self.now.storage in
@@ -113,7 +113,7 @@ returns g c =
         done = done;
         refused = refused;
         canonical = store_canon layout lawful keep old new first region held (chunks_met layout.grid region) c.store_along.result done refused;
-        parts = e.parts;
+        layout_kept = e.layout_kept;
       };
       partly = record {
         done = on_ok_weaker c.store_along.result (region_patched layout lawful keep shape region held old new) done;
@@ -121,6 +121,6 @@ returns g c =
             (λ (e : ArrayError). RefusesPatchRegion layout keep shape region held (refusal_of e) old new)
             (λ e why. region_refuses layout lawful keep shape region held (refusal_of e) old new why)
             refused;
-        parts = e.parts;
+        layout_kept = e.layout_kept;
       };
     }

@@ -38,7 +38,7 @@ returns-then-chunk_indices-dimensions g c =
     let e = c.new-error.result in
     let said = ap (λ n. Some (dimensionality n layout.grid.dimensions)) (sym c.new-error.ensures.got) ∙ ap (λ n. Some (dimensionality e.got n)) (sym (c.new-error.ensures.expected ∙ c.dimensionality-dimensions.ensures)) in
     let why = part_length layout index part held keep state (dimensionality e.got e.expected) (λ is. c.if-chunk_indices-dimensions.true (is ∙ sym c.dimensionality-dimensions.ensures)) said in
-    let partly = part_refuses layout c.args.self.now.parts.lawful keep index part held (dimensionality e.got e.expected) state state why in
+    let partly = part_refuses layout c.args.self.now.layout.lawful keep index part held (dimensionality e.got e.expected) state state why in
     search (rules, why, partly)
 
 pub returns-in_err-chunk : goal.returns-in_err-chunk
@@ -51,7 +51,7 @@ returns-in_err-chunk g c =
     let held = data_of c.args.chunk_subset_data.now in
     let long = c.if-chunk_indices-dimensions.false ∙ c.dimensionality-dimensions.ensures in
     let why = part_chunk layout index part held keep state (refusal_of c.in_err-chunk.field-0.0) long c.in_err-chunk.ensures.refused in
-    let partly = part_refuses layout c.args.self.now.parts.lawful keep index part held (refusal_of c.in_err-chunk.field-0.0) state state why in
+    let partly = part_refuses layout c.args.self.now.layout.lawful keep index part held (refusal_of c.in_err-chunk.field-0.0) state state why in
     search (rules, why, partly)
 
 pub returns-in_err-region : goal.returns-in_err-region
@@ -64,7 +64,7 @@ returns-in_err-region g c =
     let held = data_of c.args.chunk_subset_data.now in
     let long = c.if-chunk_indices-dimensions.false ∙ c.dimensionality-dimensions.ensures in
     let why = part_passing layout index part held keep state (refusal_of c.in_err-region.field-0.0) long c.in_ok-chunk.ensures.accepted c.in_err-region.ensures.refused in
-    let partly = part_refuses layout c.args.self.now.parts.lawful keep index part held (refusal_of c.in_err-region.field-0.0) state state why in
+    let partly = part_refuses layout c.args.self.now.layout.lawful keep index part held (refusal_of c.in_err-region.field-0.0) state state why in
     search (rules, why, partly)
 
 pub returns-in_err-check_cells : goal.returns-in_err-check_cells
@@ -77,8 +77,8 @@ returns-in_err-check_cells g c =
     let held = data_of c.args.chunk_subset_data.now in
     let chunk = c.in_ok-chunk.ensures in
     let region = c.in_ok-region.ensures in
-    let why = data_refuses layout c.args.self.now.parts.lawful index part (box_of c.in_ok-chunk.chunk) (box_of c.in_ok-region.region) c.args.chunk_subset.now.same_length chunk.region region.part chunk.accepted region.accepted held c.eq.result c.eq.ensures keep (refusal_of c.in_err-check_cells.field-0.0) state (refuses_said _ (refusal_of c.in_err-check_cells.field-0.0) c.in_err-check_cells.ensures.refused) in
-    let partly = part_refuses layout c.args.self.now.parts.lawful keep index part held (refusal_of c.in_err-check_cells.field-0.0) state state why in
+    let why = data_refuses layout c.args.self.now.layout.lawful index part (box_of c.in_ok-chunk.chunk) (box_of c.in_ok-region.region) c.args.chunk_subset.now.same_length chunk.region region.part chunk.accepted region.accepted held c.eq.result c.eq.ensures keep (refusal_of c.in_err-check_cells.field-0.0) state (refuses_said _ (refusal_of c.in_err-check_cells.field-0.0) c.in_err-check_cells.ensures.refused) in
+    let partly = part_refuses layout c.args.self.now.layout.lawful keep index part held (refusal_of c.in_err-check_cells.field-0.0) state state why in
     search (rules, why, partly)
 
 pub store_part-requires-clause-dimensions : goal.store_part-requires-clause-dimensions
@@ -91,7 +91,7 @@ store_part-requires-clause-dimensions g c =
     let held = data_of c.args.chunk_subset_data.now in
     let chunk = c.in_ok-chunk.ensures in
     let region = c.in_ok-region.ensures in
-    (part_cover layout c.args.self.now.parts.lawful index part (box_of c.in_ok-chunk.chunk) (box_of c.in_ok-region.region) c.args.chunk_subset.now.same_length chunk.region region.part chunk.accepted region.accepted).dimensions
+    (part_cover layout c.args.self.now.layout.lawful index part (box_of c.in_ok-chunk.chunk) (box_of c.in_ok-region.region) c.args.chunk_subset.now.same_length chunk.region region.part chunk.accepted region.accepted).dimensions
 
 pub store_part-requires-clause-covered : goal.store_part-requires-clause-covered
 store_part-requires-clause-covered g c =
@@ -103,7 +103,7 @@ store_part-requires-clause-covered g c =
     let held = data_of c.args.chunk_subset_data.now in
     let chunk = c.in_ok-chunk.ensures in
     let region = c.in_ok-region.ensures in
-    (part_cover layout c.args.self.now.parts.lawful index part (box_of c.in_ok-chunk.chunk) (box_of c.in_ok-region.region) c.args.chunk_subset.now.same_length chunk.region region.part chunk.accepted region.accepted).covered
+    (part_cover layout c.args.self.now.layout.lawful index part (box_of c.in_ok-chunk.chunk) (box_of c.in_ok-region.region) c.args.chunk_subset.now.same_length chunk.region region.part chunk.accepted region.accepted).covered
 
 pub store_part-requires-clause-ask : goal.store_part-requires-clause-ask
 store_part-requires-clause-ask g c =
@@ -115,7 +115,7 @@ store_part-requires-clause-ask g c =
     let held = data_of c.args.chunk_subset_data.now in
     let chunk = c.in_ok-chunk.ensures in
     let region = c.in_ok-region.ensures in
-    stored_ask_part layout c.args.self.now.parts.lawful index part (box_of c.in_ok-chunk.chunk) (box_of c.in_ok-region.region) c.args.chunk_subset.now.same_length chunk.region region.part chunk.accepted region.accepted held state
+    stored_ask_part layout c.args.self.now.layout.lawful index part (box_of c.in_ok-chunk.chunk) (box_of c.in_ok-region.region) c.args.chunk_subset.now.same_length chunk.region region.part chunk.accepted region.accepted held state
     (c.requires chunk.accepted region.accepted)
 
 pub returns : goal.returns
@@ -130,7 +130,7 @@ returns g c =
     let region = c.in_ok-region.ensures in
     let new = g.S.ReadableStorageTraits.state c.store_part.new.self.storage in
     let fits = c.in_ok-check_cells.ensures in
-    let lawful = c.args.self.now.parts.lawful in
+    let lawful = c.args.self.now.layout.lawful in
     let done : OnOk c.store_part.result (StoresPart layout keep index part held state new) =
     on_ok_weaker c.store_part.result (takes_part layout lawful index part (box_of c.in_ok-chunk.chunk) (box_of c.in_ok-region.region) c.args.chunk_subset.now.same_length chunk.region region.part chunk.accepted region.accepted held c.eq.result c.eq.ensures keep fits.accepted fits.given state new) c.store_part.ensures.done in
     let refused : IfErr c.store_part.result (λ (e : ArrayError). RefusesStorePart layout keep index part held (refusal_of e) state new) =
@@ -143,7 +143,7 @@ returns g c =
         done = done;
         refused = refused;
         canonical = store_canon layout lawful keep state new (store_part_refusal layout index part held) (part_box (box_at layout.grid index) part) held (index ∷ []) c.store_part.result done refused;
-        parts = c.store_part.ensures.parts;
+        layout_kept = c.store_part.ensures.layout_kept;
       };
       partly = record {
         done = on_ok_weaker c.store_part.result (part_patched layout lawful keep index part held state new) done;
@@ -151,7 +151,7 @@ returns g c =
             (λ (e : ArrayError). RefusesPatchPart layout keep index part held (refusal_of e) state new)
             (λ e why. part_refuses layout lawful keep index part held (refusal_of e) state new why)
             refused;
-        parts = c.store_part.ensures.parts;
+        layout_kept = c.store_part.ensures.layout_kept;
       };
     }
 
@@ -166,7 +166,7 @@ patch_chunk-requires-clause-ask g c =
     let index = c.args.chunk_indices.now in
     let part = box_of c.args.chunk_subset.now in
     let held = data_of c.args.chunk_subset_data.now in
-    let lawful = c.args.self.now.parts.lawful in
+    let lawful = c.args.self.now.layout.lawful in
     let chunk = c.in_ok-chunk.ensures in
     let region = c.in_ok-region.ensures in
     let here = box_of c.in_ok-region.region in
@@ -185,7 +185,7 @@ returns-then-not-lies_in_box g c =
     let index = c.args.chunk_indices.now in
     let part = box_of c.args.chunk_subset.now in
     let held = data_of c.args.chunk_subset_data.now in
-    let lawful = c.args.self.now.parts.lawful in
+    let lawful = c.args.self.now.layout.lawful in
     let chunk = c.in_ok-chunk.ensures in
     let region = c.in_ok-region.ensures in
     let new = g.S.ReadableStorageTraits.state c.patch_chunk.new.self.storage in
@@ -202,6 +202,6 @@ returns-then-not-lies_in_box g c =
             (λ (e : ArrayError). RefusesPatchPart layout keep index part held (refusal_of e) state new)
             (λ e left. patched_left layout lawful index part (box_of c.in_ok-chunk.chunk) (box_of c.in_ok-region.region) c.args.chunk_subset.now.same_length chunk.region region.part chunk.accepted region.accepted held c.eq.result c.eq.ensures fits.accepted state new fits.given keep (refusal_of e) left)
             (e.refused here held);
-        parts = e.parts;
+        layout_kept = e.layout_kept;
       };
     }

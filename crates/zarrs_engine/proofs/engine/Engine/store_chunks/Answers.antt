@@ -11,7 +11,7 @@ use Rattle.zarrs_calls.specs.Refusals.{Refusal, RefusesBy, refusal_of, size_over
 use Rattle.zarrs_calls.specs.Step.{RefusesStore, RefusesStoreChunks, StoresChunks}
 use Rattle.zarrs_calls.proofs.RefusalLemmas.{refuses_said}
 use Rattle.zarrs_engine.specs.Engine.{layout_of}
-use Rattle.zarrs_array_layout.specs.Parts.{RefusesIndices}
+use Rattle.zarrs_array_layout.specs.Steps.{RefusesIndices}
 use Rattle.zarrs_array_layout.proofs.Chunks.{wrong_length}
 use Rattle.zarrs_engine.proofs.PartStores.{chunks_early, chunks_none, none_empty, range_ask, range_data}
 use Rattle.zarrs_engine.proofs.PartStores.{range_first_none, range_left, range_many, range_missing, range_none}
@@ -47,7 +47,7 @@ returns-then-number-eq0 g c =
           (λ e why. chunks_early layout keep range held state (refusal_of e) (refuses_said _ (refusal_of e) (range_none layout range held small none ∙ why)))
           c.check_cells.ensures.refused;
       canonical = λ off canon. canon;
-      parts = refl;
+      layout_kept = refl;
     }
 
 pub returns-then-dimensionality : goal.returns-then-dimensionality
@@ -75,8 +75,8 @@ returns-in_err-region g c =
     let small : position_count range.shape < 2 ^ 64 = omega (arith, c.in-Ok.ensures.ok) in
     let some : position_count range.shape ≢ 0 = λ none. c.if-number-eq0.false (c.in-Ok.ensures.ok ∙ none) in
     let dimensions = sym c.dimensionality.ensures.count ∙ c.if-dimensionality.false ∙ c.dimensionality-2.ensures in
-    let shape = g.G.ChunkGridTraits.array_extents c.args.self.now.parts.grid in
-    let why = range_refuses layout c.args.self.now.parts.lawful keep range range held (c.args.chunks.now.same_length) dimensions small some shape state (refusal_of c.in_err-region.field-0.0) c.in_err-region.ensures.refused in
+    let shape = g.G.ChunkGridTraits.array_extents c.args.self.now.layout.grid in
+    let why = range_refuses layout c.args.self.now.layout.lawful keep range range held (c.args.chunks.now.same_length) dimensions small some shape state (refusal_of c.in_err-region.field-0.0) c.in_err-region.ensures.refused in
     search (rules, why)
 
 pub returns-in_err-check_cells : goal.returns-in_err-check_cells
@@ -89,10 +89,10 @@ returns-in_err-check_cells g c =
     let small : position_count range.shape < 2 ^ 64 = omega (arith, c.in-Ok.ensures.ok) in
     let some : position_count range.shape ≢ 0 = λ none. c.if-number-eq0.false (c.in-Ok.ensures.ok ∙ none) in
     let dimensions = sym c.dimensionality.ensures.count ∙ c.if-dimensionality.false ∙ c.dimensionality-2.ensures in
-    let shape = g.G.ChunkGridTraits.array_extents c.args.self.now.parts.grid in
+    let shape = g.G.ChunkGridTraits.array_extents c.args.self.now.layout.grid in
     let region = c.in_ok-region.ensures in
     let one = ap (λ n. n == 1) c.in-Ok.ensures.ok in
-    let why = range_data layout c.args.self.now.parts.lawful keep range (box_of c.in_ok-region.region) held (c.args.chunks.now.same_length) dimensions small some shape region.region region.cover region.accepted (c.in-Ok.number == 1) one state (refusal_of c.in_err-check_cells.field-0.0) (refuses_said _ (refusal_of c.in_err-check_cells.field-0.0) c.in_err-check_cells.ensures.refused) in
+    let why = range_data layout c.args.self.now.layout.lawful keep range (box_of c.in_ok-region.region) held (c.args.chunks.now.same_length) dimensions small some shape region.region region.cover region.accepted (c.in-Ok.number == 1) one state (refusal_of c.in_err-check_cells.field-0.0) (refuses_said _ (refusal_of c.in_err-check_cells.field-0.0) c.in_err-check_cells.ensures.refused) in
     search (rules, why)
 
 pub store_along-requires-clause-ask : goal.store_along-requires-clause-ask
@@ -105,10 +105,10 @@ store_along-requires-clause-ask g c =
     let small : position_count range.shape < 2 ^ 64 = omega (arith, c.in-Ok.ensures.ok) in
     let some : position_count range.shape ≢ 0 = λ none. c.if-number-eq0.false (c.in-Ok.ensures.ok ∙ none) in
     let dimensions = sym c.dimensionality.ensures.count ∙ c.if-dimensionality.false ∙ c.dimensionality-2.ensures in
-    let shape = g.G.ChunkGridTraits.array_extents c.args.self.now.parts.grid in
+    let shape = g.G.ChunkGridTraits.array_extents c.args.self.now.layout.grid in
     let region = c.in_ok-region.ensures in
     let one = ap (λ n. n == 1) c.in-Ok.ensures.ok in
-    range_ask layout c.args.self.now.parts.lawful keep range (box_of c.in_ok-region.region) held (c.args.chunks.now.same_length) dimensions small some shape region.region region.cover region.accepted state
+    range_ask layout c.args.self.now.layout.lawful keep range (box_of c.in_ok-region.region) held (c.args.chunks.now.same_length) dimensions small some shape region.region region.cover region.accepted state
 
 pub returns : goal.returns
 returns g c =
@@ -120,22 +120,22 @@ returns g c =
     let small : position_count range.shape < 2 ^ 64 = omega (arith, c.in-Ok.ensures.ok) in
     let some : position_count range.shape ≢ 0 = λ none. c.if-number-eq0.false (c.in-Ok.ensures.ok ∙ none) in
     let dimensions = sym c.dimensionality.ensures.count ∙ c.if-dimensionality.false ∙ c.dimensionality-2.ensures in
-    let shape = g.G.ChunkGridTraits.array_extents c.args.self.now.parts.grid in
+    let shape = g.G.ChunkGridTraits.array_extents c.args.self.now.layout.grid in
     let region = c.in_ok-region.ensures in
     let one = ap (λ n. n == 1) c.in-Ok.ensures.ok in
     let new = g.S.ReadableStorageTraits.state c.store_along.new.self.storage in
     let first = store_chunks_refusal layout range held in
-    let none = range_first_none layout c.args.self.now.parts.lawful keep range (box_of c.in_ok-region.region) held (c.args.chunks.now.same_length) dimensions small some shape region.region region.cover region.accepted (c.in-Ok.number == 1) one c.in_ok-check_cells.ensures.accepted state new in
+    let none = range_first_none layout c.args.self.now.layout.lawful keep range (box_of c.in_ok-region.region) held (c.args.chunks.now.same_length) dimensions small some shape region.region region.cover region.accepted (c.in-Ok.number == 1) one c.in_ok-check_cells.ensures.accepted state new in
     let done : OnOk c.store_along.result (StoresChunks layout keep range held state new) =
-    on_ok_weaker c.store_along.result (range_stored layout c.args.self.now.parts.lawful keep range (box_of c.in_ok-region.region) held (c.args.chunks.now.same_length) dimensions small some shape region.region region.cover region.accepted (c.in-Ok.number == 1) one c.in_ok-check_cells.ensures.accepted state new) c.store_along.ensures.done in
+    on_ok_weaker c.store_along.result (range_stored layout c.args.self.now.layout.lawful keep range (box_of c.in_ok-region.region) held (c.args.chunks.now.same_length) dimensions small some shape region.region region.cover region.accepted (c.in-Ok.number == 1) one c.in_ok-check_cells.ensures.accepted state new) c.store_along.ensures.done in
     let refused : IfErr c.store_along.result (λ (e : ArrayError). RefusesStoreChunks layout keep range held (refusal_of e) state new) =
     each_error c.store_along.result (λ (e : ArrayError). RefusesStore layout keep first (box_of c.in_ok-region.region) held (positions range) (refusal_of e) state new)
     (λ (e : ArrayError). RefusesStoreChunks layout keep range held (refusal_of e) state new)
-    (λ e left. range_left layout c.args.self.now.parts.lawful keep range (box_of c.in_ok-region.region) held (c.args.chunks.now.same_length) dimensions small some shape region.region region.cover region.accepted (c.in-Ok.number == 1) one c.in_ok-check_cells.ensures.accepted state new (refusal_of e) left)
+    (λ e left. range_left layout c.args.self.now.layout.lawful keep range (box_of c.in_ok-region.region) held (c.args.chunks.now.same_length) dimensions small some shape region.region region.cover region.accepted (c.in-Ok.number == 1) one c.in_ok-check_cells.ensures.accepted state new (refusal_of e) left)
     (c.store_along.ensures.refused first none) in
     record {
       done = done;
       refused = refused;
-      canonical = store_canon layout c.args.self.now.parts.lawful keep state new first (chunks_box layout.grid range) held (positions range) c.store_along.result done refused;
-      parts = c.store_along.ensures.parts;
+      canonical = store_canon layout c.args.self.now.layout.lawful keep state new first (chunks_box layout.grid range) held (positions range) c.store_along.result done refused;
+      layout_kept = c.store_along.ensures.layout_kept;
     }

@@ -32,7 +32,7 @@ retrieve_chunk-requires g c =
     let region = box_of c.args.region.now in
     let index = c.args.chunk_indices.now in
     let part : IsPart layout region index = λ covers.
-    let lies = covers_lies layout.grid c.args.self.now.parts.lawful.grid index c.requires.boxed region (c.args.region.now.same_length) c.requires.dimensions covers in
+    let lies = covers_lies layout.grid c.args.self.now.layout.lawful.grid index c.requires.boxed region (c.args.region.now.same_length) c.requires.dimensions covers in
     false≢true (sym c.if-lies_in_box.false ∙ c.lies_in_box.ensures.1 (subst (λ (b : Box). LiesInBox b region) (sym c.requires.chunk) lies)) in
     c.requires.ask index (member index) part
 
@@ -42,10 +42,10 @@ returns-in_err-held-clause-refused g c = λ keep.
     let region = box_of c.args.region.now in
     let index = c.args.chunk_indices.now in
     let part : IsPart layout region index = λ covers.
-    let lies = covers_lies layout.grid c.args.self.now.parts.lawful.grid index c.requires.boxed region (c.args.region.now.same_length) c.requires.dimensions covers in
+    let lies = covers_lies layout.grid c.args.self.now.layout.lawful.grid index c.requires.boxed region (c.args.region.now.same_length) c.requires.dimensions covers in
     false≢true (sym c.if-lies_in_box.false ∙ c.lies_in_box.ensures.1 (subst (λ (b : Box). LiesInBox b region) (sym c.requires.chunk) lies)) in
     let fit = subst (λ (b : Box). is_too_large layout b.shape ≡ false) c.requires.chunk c.requires.fit in
-    let why = read_fails layout c.args.self.now.parts.lawful keep region (data_of c.args.region_data.now) index (g.S.ReadableStorageTraits.state c.args.self.now.storage)
+    let why = read_fails layout c.args.self.now.layout.lawful keep region (data_of c.args.region_data.now) index (g.S.ReadableStorageTraits.state c.args.self.now.storage)
     c.requires.boxed fit part (refusal_of c.in_err-held.field-0.0) c.in_err-held.ensures.refused in
     search (rules, why)
 

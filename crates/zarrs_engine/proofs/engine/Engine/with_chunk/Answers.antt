@@ -30,5 +30,5 @@ pub with_chunk_part-requires-clause-part : goal.with_chunk_part-requires-clause-
 with_chunk_part-requires-clause-part g c = λ covers.
     let layout = layout_of c.args.self.now in
     let region = box_of c.args.region.now in
-    let lies = covers_lies layout.grid c.args.self.now.parts.lawful.grid c.args.chunk_indices.now c.requires.boxed region c.args.region.now.same_length c.requires.dimensions covers in
+    let lies = covers_lies layout.grid c.args.self.now.layout.lawful.grid c.args.chunk_indices.now c.requires.boxed region c.args.region.now.same_length c.requires.dimensions covers in
     false≢true (sym c.if-lies_in_box.false ∙ c.lies_in_box.ensures.1 (subst (λ (b : Box). LiesInBox b region) (sym c.in_ok-chunk.ensures.region) lies))

@@ -24,7 +24,7 @@ returns-in_default-clause-read g c =
     let region = box_of c.args.region.now in
     let none : AreApart region (box_of c.args.chunk.now) = rw c.in_default.is at c.in_ok-shared.ensures.none in
     let apart = subst (λ (b : Box). AreApart region b) c.requires.chunk none in
-    read_apart layout c.args.self.now.parts.lawful region c.args.chunk_indices.now state c.requires.boxed (region_data c.args.held) apart c.requires.part
+    read_apart layout c.args.self.now.layout.lawful region c.args.chunk_indices.now state c.requires.boxed (region_data c.args.held) apart c.requires.part
 
 pub returns-in_err-found-clause-refused : goal.returns-in_err-found-clause-refused
 returns-in_err-found-clause-refused g c =
@@ -40,7 +40,7 @@ returns-in_default-found-clause-read g c =
     let index = c.args.chunk_indices.now in
     let state = g.S.ReadableStorageTraits.state c.args.self.now.storage in
     let absent : value_at state (layout.key index) ≡ None = rw c.in_default-found.is at c.in_ok-found.ensures.absent in
-    read_absent layout c.args.self.now.parts.lawful (box_of c.args.region.now) index state c.requires.boxed (region_data c.args.held) absent
+    read_absent layout c.args.self.now.layout.lawful (box_of c.args.region.now) index state c.requires.boxed (region_data c.args.held) absent
 
 pub returns-clause-read : goal.returns-clause-read
 returns-clause-read g c =
@@ -54,5 +54,5 @@ returns-clause-read g c =
     let are = subst (λ (b : Box). AreShared region b (box_of shared.region) (box_of shared.part)) c.requires.chunk some in
     let decodes : DecodesStored layout index (box_of shared.part) state made = rw c.in-Some-found.is at c.in_ok-found.ensures.part in
     let same = c.requires.dimensions ∙ sym (box_dimensions layout.grid index) in
-    read_part layout c.args.self.now.parts.lawful region index state c.requires.boxed c.args.region.now.same_length same (box_of shared.region) (box_of shared.part) shared.region.same_length are
+    read_part layout c.args.self.now.layout.lawful region index state c.requires.boxed c.args.region.now.same_length same (box_of shared.region) (box_of shared.part) shared.region.same_length are
     c.requires.part (region_data c.args.held) made (region_data c.in_ok-made.made) decodes c.in_ok-made.ensures

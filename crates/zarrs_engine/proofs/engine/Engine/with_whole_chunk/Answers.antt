@@ -27,7 +27,7 @@ returns-in_default-clause-read g c =
     let layout = layout_of c.args.self.now in
     let state = g.S.ReadableStorageTraits.state c.args.self.now.storage in
     let absent = sym c.in_ok-encoded.ensures.value ∙ c.in_default.is in
-    read_absent layout c.args.self.now.parts.lawful (box_of c.args.region.now) c.args.chunk_indices.now state c.requires.boxed (region_data c.args.held) absent
+    read_absent layout c.args.self.now.layout.lawful (box_of c.args.region.now) c.args.chunk_indices.now state c.requires.boxed (region_data c.args.held) absent
 
 pub returns-in_err-part-clause-refused : goal.returns-in_err-part-clause-refused
 returns-in_err-part-clause-refused g c =
@@ -49,7 +49,7 @@ with_part-requires-clause-part g c =
     let index = c.args.chunk_indices.now in
     let part = data_of c.in_ok-part.part in
     let at = ap Some c.deref.ensures ∙ sym c.in-Some.is ∙ c.in_ok-encoded.ensures.value in
-    let r = retrieved layout c.args.self.now.parts.lawful index part state c.deref.result.now at c.in_ok-part.ensures.accepted c.in_ok-part.ensures.cells in
+    let r = retrieved layout c.args.self.now.layout.lawful index part state c.deref.result.now at c.in_ok-part.ensures.accepted c.in_ok-part.ensures.cells in
     let has = subst (HasCells layout.kind part) r.reads.count (HasCells-some layout.kind part r.chunk r.is_chunk) in
     subst (λ (b : Box). HasCells layout.kind part (position_count b.shape)) (sym c.requires.chunk) has
 
@@ -64,4 +64,4 @@ returns-clause-read g c =
     let new = region_data c.in_ok-made.made in
     let stands = sym (ap Some c.deref.ensures ∙ sym c.in-Some.is ∙ c.in_ok-encoded.ensures.value) in
     let takes = subst (λ (b : Box). TakesCells layout.kind region b part old new) c.requires.chunk c.in_ok-made.ensures in
-    read_present layout c.args.self.now.parts.lawful region index state c.requires.boxed old part new c.deref.result.now stands c.in_ok-part.ensures.cells takes
+    read_present layout c.args.self.now.layout.lawful region index state c.requires.boxed old part new c.deref.result.now stands c.in_ok-part.ensures.cells takes

@@ -59,7 +59,7 @@ returns-clause-canonical g c =
     let old = state_of g.S.ReadableStorageTraits.state c.args.engine.now in
     let new = state_of g.S.ReadableStorageTraits.state c.loop-call.engine in
     let calls = take c.loop-call.call-index c.args.calls.now in
-    λ whole off canon. run_keeps layout c.args.engine.now.parts.lawful calls c.loop-call.replies.items old new
+    λ whole off canon. run_keeps layout c.args.engine.now.layout.lawful calls c.loop-call.replies.items old new
     (subst (λ (keep : Bool). Run layout keep calls c.loop-call.replies.items old new) off (i.run whole)) canon
 
 pub returns-clause-decodes : goal.returns-clause-decodes
@@ -67,4 +67,4 @@ returns-clause-decodes g c =
     let i = c.loop-call.invariant in
     let old = state_of g.S.ReadableStorageTraits.state c.args.engine.now in
     let new = state_of g.S.ReadableStorageTraits.state c.loop-call.engine in
-    λ whole. run_decodes (layout_of c.args.engine.now) c.args.engine.now.parts.lawful (stores_empty_chunks c.args.options.now) (take c.loop-call.call-index c.args.calls.now) c.loop-call.replies.items old new (i.run whole)
+    λ whole. run_decodes (layout_of c.args.engine.now) c.args.engine.now.layout.lawful (stores_empty_chunks c.args.options.now) (take c.loop-call.call-index c.args.calls.now) c.loop-call.replies.items old new (i.run whole)

@@ -13,6 +13,6 @@ returns-clause-present g c =
     let index = c.args.self.now.chunk_indices.items in
     let state = g.S.ReadableStorageTraits.state in
     let key_is : c.in_ok-key.key ≡ layout.key index =
-    c.in_ok-key.ensures.key ∙ ap (λ (l : Layout). l.key c.deref.result.now) c.parts.ensures.layout ∙ ap layout.key c.deref.ensures.value in
+    c.in_ok-key.ensures.key ∙ ap (λ (l : Layout). l.key c.deref.result.now) c.layout.ensures.layout ∙ ap layout.key c.deref.ensures.value in
     let size_is = c.in_ok-size.ensures.value ∙ ap (λ s. size_at (state s).values c.in_ok-key.key) c.storage.ensures ∙ ap (size_at (state engine.storage).values) key_is in
     present_if (value_at (state engine.storage) (layout.key index)) c.in_ok-size.size c.is_some.result size_is c.is_some.ensures

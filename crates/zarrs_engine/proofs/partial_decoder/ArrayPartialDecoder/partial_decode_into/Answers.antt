@@ -19,8 +19,8 @@ pub returns-in_err-region-clause-covered : goal.returns-in_err-region-clause-cov
 returns-in_err-region-clause-covered g c lies =
     let decoder = c.args.self.now in
     let part = c.args.chunk_subset.now in
-    part_region (layout_of decoder.engine.now) decoder.engine.now.parts.lawful decoder.chunk_indices.items decoder.boxed (box_of part) part.same_length lies
-    (g.G.ChunkGridTraits.array_extents decoder.engine.now.parts.grid)
+    part_region (layout_of decoder.engine.now) decoder.engine.now.layout.lawful decoder.chunk_indices.items decoder.boxed (box_of part) part.same_length lies
+    (g.G.ChunkGridTraits.array_extents decoder.engine.now.layout.grid)
 
 pub returns-in_err-region-clause-outside : goal.returns-in_err-region-clause-outside
 returns-in_err-region-clause-outside g c =
@@ -32,7 +32,7 @@ retrieve_array_subset_into-requires-clause-ask g c covered =
     let decoder = c.args.self.now in
     let part = c.args.chunk_subset.now in
     let region = c.in_ok-region.ensures in
-    part_ask (layout_of decoder.engine.now) decoder.engine.now.parts.lawful decoder.chunk_indices.items decoder.boxed (box_of part) part.same_length region.accepted
+    part_ask (layout_of decoder.engine.now) decoder.engine.now.layout.lawful decoder.chunk_indices.items decoder.boxed (box_of part) part.same_length region.accepted
     (box_of c.in_ok-region.region) region.region (g.S.ReadableStorageTraits.state decoder.engine.now.storage)
     (c.requires.ask (chunk_accepted (layout_of decoder.engine.now) decoder.chunk_indices.items decoder.boxed) region.accepted)
 
@@ -40,8 +40,8 @@ pub returns-clause-covered : goal.returns-clause-covered
 returns-clause-covered g c lies =
     let decoder = c.args.self.now in
     let part = c.args.chunk_subset.now in
-    part_region (layout_of decoder.engine.now) decoder.engine.now.parts.lawful decoder.chunk_indices.items decoder.boxed (box_of part) part.same_length lies
-    (g.G.ChunkGridTraits.array_extents decoder.engine.now.parts.grid)
+    part_region (layout_of decoder.engine.now) decoder.engine.now.layout.lawful decoder.chunk_indices.items decoder.boxed (box_of part) part.same_length lies
+    (g.G.ChunkGridTraits.array_extents decoder.engine.now.layout.grid)
 
 pub returns-clause-content : goal.returns-clause-content
 returns-clause-content g c =
@@ -55,7 +55,7 @@ returns-clause-refused g c =
     let decoder = c.args.self.now in
     let layout = layout_of decoder.engine.now in
     let state = g.S.ReadableStorageTraits.state decoder.engine.now.storage in
-    let shape = g.G.ChunkGridTraits.array_extents decoder.engine.now.parts.grid in
+    let shape = g.G.ChunkGridTraits.array_extents decoder.engine.now.layout.grid in
     let index = decoder.chunk_indices.items in
     let part = box_of c.args.chunk_subset.now in
     let t = c.args.target.now in
@@ -73,7 +73,7 @@ pub returns-clause-kept_bytes : goal.returns-clause-kept_bytes
 returns-clause-kept_bytes g c =
     let decoder = c.args.self.now in
     let layout = layout_of decoder.engine.now in
-    let shape = g.G.ChunkGridTraits.array_extents decoder.engine.now.parts.grid in
+    let shape = g.G.ChunkGridTraits.array_extents decoder.engine.now.layout.grid in
     let read = c.retrieve_array_subset_into in
     refused_later read.result _ _ _ c.in_ok-region.ensures.accepted
     (subst (λ (b : Box). OnErr read.result (IsSome (target_refusal layout shape b c.args.target.now) → read.new.target.bytes.now ≡ c.args.target.now.bytes.now)) c.in_ok-region.ensures.region read.ensures.kept_bytes)
@@ -82,7 +82,7 @@ pub returns-clause-kept_masks : goal.returns-clause-kept_masks
 returns-clause-kept_masks g c =
     let decoder = c.args.self.now in
     let layout = layout_of decoder.engine.now in
-    let shape = g.G.ChunkGridTraits.array_extents decoder.engine.now.parts.grid in
+    let shape = g.G.ChunkGridTraits.array_extents decoder.engine.now.layout.grid in
     let read = c.retrieve_array_subset_into in
     refused_later read.result _ _ _ c.in_ok-region.ensures.accepted
     (subst (λ (b : Box). OnErr read.result (IsSome (target_refusal layout shape b c.args.target.now) → read.new.target.masks.now ≡ c.args.target.now.masks.now)) c.in_ok-region.ensures.region read.ensures.kept_masks)

@@ -22,5 +22,5 @@ returns-in_err-erase_chunk-clause-erases g c =
     let erased = subst (λ index. RefusesEraseChunk layout index (refusal_of_storage e) old new) c.deref.ensures.value c.in_err-erase_chunk.ensures.refused in
     let why = subst (λ (r : Refusal). RefusesEraseChunk layout (indices_of c.args.self.now) r old new) (sym (storage_said e)) erased in
     let canonical = c.in_err-erase_chunk.ensures.canonical in
-    let parts = c.in_err-erase_chunk.ensures.parts in
+    let parts = c.in_err-erase_chunk.ensures.layout_kept in
     search (rules, why, canonical, parts)
