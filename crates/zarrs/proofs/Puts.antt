@@ -13,7 +13,7 @@ use Rattle.zarrs_creation.specs.Opening.{MayAskKey, MayAskV2, MayAskMetadata, Ma
 use Rattle.zarrs_calls.specs.Changes.{IsPut}
 use Rattle.zarrs_calls.specs.Refusals.{Refusal, out_of_memory}
 use Rattle.zarrs_calls.proofs.RefusalLemmas.{makes_none}
-use Rattle.zarrs_array_layout.specs.Parts.{RefusesPut}
+use Rattle.zarrs_array_layout.specs.Steps.{RefusesPut}
 use Rattle.zarrs_creation.specs.Writing.{Put, erasures}
 use Rattle.zarrs.specs.Puts.{ArePut, RefusesPuts}
 

@@ -18,7 +18,7 @@ use Rattle.zarrs_types.specs.Kind.{Kind, kind}
 use Rattle.zarrs_calls.specs.Content.{content}
 use Rattle.zarrs_calls.specs.Laws.{EachDecodes, over_grid}
 use Rattle.zarrs_calls.specs.Layout.{Layout, layout_at}
-use Rattle.zarrs_engine.specs.Engine.{layout_of, path_of, grid_of, keys_of, chain_of, data_type_of, fill_value_of, GivesGrid, KeepsOthers, KeepsParts}
+use Rattle.zarrs_engine.specs.Engine.{layout_of, path_of, grid_of, keys_of, chain_of, data_type_of, fill_value_of, GivesGrid, KeepsOthers, KeepsLayout}
 use Rattle.zarrs_engine.specs.declared.engine.Engine.{Engine}
 use Rattle.zarrs_creation.specs.Changes.{with_shape}
 use Rattle.zarrs_creation.specs.Meanings.{Meaning, meaning_with, creation, shape_said}
@@ -100,6 +100,6 @@ module _ {g : GridMeaning ChunkGrid} {k : KeyMeaning ChunkKeyEncoding} {c : Chai
           ap result_ok (ap creation is ∙ (is_resized m (meaning_of old) (grid_of new) made same).says ∙ ap (λ (p : Meaning). Ok p) (sym meaning_resized))
 
     -- a grid that stays has the shape that the metadata has
-    pub shape_kept : KeepsParts old new → m ≡ with_shape (array_extents_of (grid_of new)) m
+    pub shape_kept : KeepsLayout old new → m ≡ with_shape (array_extents_of (grid_of new)) m
     shape_kept kept =
         own_shape m ∙ ap (λ (s : List ℕ). with_shape s m) (sym (own_grid m (meaning_of old) made).1) ∙ ap (λ x. with_shape (array_extents_of x.grid) m) (sym kept)

@@ -8,7 +8,7 @@ use Rattle.zarrs_chain.specs.declared.options.CodecSpecificOptions.{CodecSpecifi
 use Rattle.zarrs_chain.specs.declared.options.SubchunkWriteOrder.TheVariants.{C}
 use Rattle.zarrs_options.specs.Options.{MetadataOptionsData, options_view, default_options}
 use Rattle.zarrs_calls.specs.Layout.{Layout, ArrayState}
-use Rattle.zarrs_engine.specs.Engine.{layout_of, the_store, store_of, state_of, path_of, grid_of, KeepsOthers, KeepsParts, GivesGrid}
+use Rattle.zarrs_engine.specs.Engine.{layout_of, the_store, store_of, state_of, path_of, grid_of, KeepsOthers, KeepsLayout, GivesGrid}
 use Rattle.zarrs_chunk_grid.specs.GridView.{array_extents_of}
 use Rattle.zarrs_creation.specs.Changes.{with_shape}
 use Rattle.zarrs_creation.specs.Meanings.{Meaning}
@@ -60,7 +60,7 @@ module _ {S : Type 0} where
 
   -- nothing but the store changed
   pub record KeepsArray (old new : Array S) : Type 0 where
-    pub parts : KeepsParts old.engine new.engine
+    pub layout_kept : KeepsLayout old.engine new.engine
     pub metadata : new.metadata ≡ old.metadata
     pub codec_options : new.codec_options ≡ old.codec_options
     pub codec_specific_options : new.codec_specific_options ≡ old.codec_specific_options
@@ -76,7 +76,7 @@ module _ {S : Type 0} where
 
   -- nothing but the store and the metadata changed
   pub record KeepsAllButDocument (old new : Array S) : Type 0 where
-    pub parts : KeepsParts old.engine new.engine
+    pub layout_kept : KeepsLayout old.engine new.engine
     pub codec_options : new.codec_options ≡ old.codec_options
     pub codec_specific_options : new.codec_specific_options ≡ old.codec_specific_options
     pub metadata_options : new.metadata_options ≡ old.metadata_options

@@ -3,7 +3,7 @@ use Rattle.std.specs.Prelude.{◌≡◌, ◌≢◌, ◌⊎◌, ℕ, List, [], �
 use Rattle.zarrs_storage.specs.Store.{StoreState}
 use Rattle.zarrs_calls.specs.Changes.{IsPut}
 use Rattle.zarrs_calls.specs.Refusals.{Refusal, out_of_memory}
-use Rattle.zarrs_array_layout.specs.Parts.{RefusesPut}
+use Rattle.zarrs_array_layout.specs.Steps.{RefusesPut}
 use Rattle.zarrs_metadata_v2.specs.View.{MetadataData}
 use Rattle.zarrs_options.specs.Options.{MetadataOptionsData}
 use Rattle.zarrs_creation.specs.Shown.{shown}

@@ -2,6 +2,9 @@
 #![tactic(auto)]
 
 mod array;
+
+pub use array::{Array, ArrayPartialDecoder, ArrayPartialEncoder};
+
 pub mod codec;
 pub mod convert;
 pub mod keys;
@@ -9,7 +12,6 @@ pub mod laws;
 pub mod parts;
 mod reopening;
 
-pub use array::{Array, ArrayPartialDecoder, ArrayPartialEncoder};
 pub use reopening::written_and_opened;
 pub use zarrs_chunk_grid::{
     ChunkGrid, ChunkGridTraits, ChunkShape, ChunkSizes, GridError, RectangularChunkGrid,
@@ -17,7 +19,7 @@ pub use zarrs_chunk_grid::{
 };
 pub use zarrs_codec::{
     ArrayToArrayCodec, ArrayToBytesCodec, BytesToBytesCodecs, ChainTraits, CodecChain, CodecError,
-    CodecMetadataOptions, CodecOptions, CodecSpecificOptions,
+    CodecMetadataOptions, CodecOptions, CodecSpecificOptions, Misfit,
 };
 pub use zarrs_data_type::{
     ArrayBytes, ArrayBytesFixedDisjointViewCreateError, ArrayBytesOffsets, ArrayBytesOptional,

@@ -158,7 +158,7 @@ fn refusal_number(error: &ArrayError) -> u8
         ArrayError::InvalidArraySubset(..) => 1,
         ArrayError::InvalidChunkSubset(..) => 2,
         ArrayError::InvalidChunkGridIndicesError(_) => 3,
-        ArrayError::CodecError(CodecError::DoesNotFit) => 4,
+        ArrayError::CodecError(CodecError::DoesNotFit(_)) => 4,
         ArrayError::ElementError(ElementError::IncompatibleElementType) => 5,
         ArrayError::InvalidDataShape(..) => 6,
         ArrayError::StorageError(StorageError::OutOfMemory) => 0,

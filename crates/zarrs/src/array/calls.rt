@@ -80,7 +80,7 @@ impl<TStorage: WritableStorageTraits> Array<TStorage> {
     ghost use Rattle.zarrs_chain.specs.Options.{encodes_partially, stores_empty_chunks};
     ghost use Rattle.zarrs_calls.specs.Canon.{IsCanonical, KeepsCanon};
     ghost use Rattle.zarrs_calls.specs.Content.{decoded_cells, value_at};
-    ghost use Rattle.zarrs_array_layout.specs.Parts.{RefusesPut};
+    ghost use Rattle.zarrs_array_layout.specs.Steps.{RefusesPut};
     ghost use Rattle.zarrs_calls.specs.Laws.{EachDecodes};
     ghost use Rattle.zarrs_calls.specs.Patches.{PatchRun};
     ghost use Rattle.zarrs_calls.specs.Reach.{MayAskCalls};

@@ -33,12 +33,12 @@ impl<TStorage> Array<TStorage> {
         ensures filled { IfOk result
             (λ parts. IsSome (fill_cell (kind parts.data_type) parts.fill_value)) }
     {
-        let parts = self.engine.parts();
-        let grid = parts.grid.try_clone(alloc)?;
-        let keys = parts.keys.clone()?;
-        let chain = parts.chain.try_clone(alloc)?;
-        let data_type = parts.data_type.try_clone(alloc)?;
-        let fill_value = parts.fill_value.try_clone(alloc)?;
+        let layout = self.engine.layout();
+        let grid = layout.grid.try_clone(alloc)?;
+        let keys = layout.keys.clone()?;
+        let chain = layout.chain.try_clone(alloc)?;
+        let data_type = layout.data_type.try_clone(alloc)?;
+        let fill_value = layout.fill_value.try_clone(alloc)?;
         Ok(ArrayParts {
             grid,
             keys,

@@ -51,7 +51,7 @@ impl<TStorage> Array<TStorage> {
         ensures refused { IfErr result (λ e. RefusesBy
             (chunk_refusal (layout_of_array self.old) chunk_indices.now) (refusal_of e)) }
     {
-        self.engine.parts().chunk_box(alloc, chunk_indices)?;
+        self.engine.layout().chunk_box(alloc, chunk_indices)?;
         let chunk_indices = chunk_indices.to_vec(alloc)?;
         Ok(ArrayPartialEncoder {
             array: self,
@@ -113,7 +113,7 @@ impl<TStorage: WritableStorageTraits> Array<TStorage> {
         ensures { result ≡ ((layout_of_array self.now).chain.encodes_partly
             && (store_of_array TStorage.state self.now).sets_parts) }
     {
-        self.engine.parts().encodes_partly() && self.engine.storage().supports_set_partial()
+        self.engine.layout().encodes_partly() && self.engine.storage().supports_set_partial()
     }
 }
 

@@ -60,7 +60,7 @@ impl<TStorage> Array<TStorage> {
         ensures refused { IfErr result (λ e. RefusesBy
             (chunk_refusal (layout_of_array self.now) chunk_indices.now) (refusal_of e)) }
     {
-        self.engine.parts().chunk_box(alloc, chunk_indices)
+        self.engine.layout().chunk_box(alloc, chunk_indices)
     }
 
     /// Returns where the chunk with these indices begins.
@@ -190,7 +190,7 @@ impl<TStorage> Array<TStorage> {
         if chunks.dimensionality() != self.dimensionality() {
             return Err(invalid_indices(alloc, chunks.start()));
         }
-        self.engine.parts().chunks_region(alloc, chunks)
+        self.engine.layout().chunks_region(alloc, chunks)
     }
 
     /// Returns the region that the chunks with the indices in the range fill, cut at the end of the array.

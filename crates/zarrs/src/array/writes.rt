@@ -72,9 +72,9 @@ impl<TStorage> Array<TStorage> {
         ensures refused { IfErr result (λ e. RefusesBy (chunk_part_refusal
             (layout_of_array self.now) chunk_indices.now (box_of part.now)) (refusal_of e)) }
     {
-        let parts = self.engine.parts();
-        let chunk = parts.chunk_box(alloc, chunk_indices)?;
-        let _ = parts.part_of(alloc, chunk_indices, &chunk, part)?;
+        let layout = self.engine.layout();
+        let chunk = layout.chunk_box(alloc, chunk_indices)?;
+        let _ = layout.part_of(alloc, chunk_indices, &chunk, part)?;
         Ok(())
     }
 
@@ -120,7 +120,7 @@ impl<TStorage: WritableStorageTraits> Array<TStorage> {
             (state_of_array TStorage.state self.now).shape (R.region array_subset.now)) (refusal_of e)) }
     {
         let region = array_subset.to_array_subset(alloc)?;
-        let _ = self.engine.parts().chunks_met(alloc, &region)?;
+        let _ = self.engine.layout().chunks_met(alloc, &region)?;
         Ok(())
     }
 

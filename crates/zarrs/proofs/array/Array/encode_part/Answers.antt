@@ -21,7 +21,7 @@ returns g c =
     record {
       done = subst (λ (b : Box). OnOk written.result (PatchesPart layout index b held old new)) c.in_ok-chunk_subset.ensures written.ensures.done;
       refused = subst (λ (b : Box). IfErr written.result (λ e. RefusesPatchPart layout keep index b held (refusal_of e) old new)) c.in_ok-chunk_subset.ensures written.ensures.refused;
-      kept = record { parts = written.ensures.parts; metadata = refl; codec_options = refl; codec_specific_options = refl; metadata_options = refl };
+      kept = record { layout_kept = written.ensures.layout_kept; metadata = refl; codec_options = refl; codec_specific_options = refl; metadata_options = refl };
     }
 
 pub returns-in_err-chunk_subset : goal.returns-in_err-chunk_subset

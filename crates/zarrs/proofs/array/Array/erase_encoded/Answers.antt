@@ -8,7 +8,7 @@ use Rattle.zarrs.specs.Arrays.{layout_of_array}
 use Rattle.zarrs.proofs.array.Array.erase_encoded.Goals as goal
 
 pub erase_chunk-requires : goal.erase_chunk-requires
-erase_chunk-requires g c = (index_list (layout_of_array c.args.self.now) c.args.self.now.engine.parts.lawful c.args.chunk_indices.now c.requires).long
+erase_chunk-requires g c = (index_list (layout_of_array c.args.self.now) c.args.self.now.engine.layout.lawful c.args.chunk_indices.now c.requires).long
 
 pub returns-in_err-erase_chunk : goal.returns-in_err-erase_chunk
 returns-in_err-erase_chunk g c =
@@ -21,5 +21,5 @@ returns-in_err-erase_chunk g c =
     rw (p.1, p.2) (record {
       done = tt;
       refused = why;
-      kept = record { parts = c.erase_chunk.ensures.parts; metadata = refl; codec_options = refl; codec_specific_options = refl; metadata_options = refl };
+      kept = record { layout_kept = c.erase_chunk.ensures.layout_kept; metadata = refl; codec_options = refl; codec_specific_options = refl; metadata_options = refl };
     })

@@ -12,7 +12,7 @@ returns-in_err-resize-clause-kept g c =
     let old = c.args.self.now in
     record {
       others = c.in_err-resize.ensures.others;
-      metadata = shape_kept (metadata_view old.metadata) old.engine c.resize.new.self (parts_are old) c.in_err-resize.ensures.parts;
+      metadata = shape_kept (metadata_view old.metadata) old.engine c.resize.new.self (parts_are old) c.in_err-resize.ensures.layout_kept;
       codec_options = refl;
       codec_specific_options = refl;
       metadata_options = refl;

@@ -31,13 +31,13 @@ returns g c =
           let done = subst (λ (b : Box). OnOk c.store_array_subset.result (StoresRegion layout keep shape b held old new)) c.in_ok-array_subset.ensures stored.done in
           let refused = subst (λ (b : Box). IfErr c.store_array_subset.result (λ e. RefusesStoreRegion layout keep shape b held (refusal_of e) old new)) c.in_ok-array_subset.ensures stored.refused in
           written_as serves gives (region_refusal layout shape region) g.TStorage.ReadableStorageTraits.state (λ d. StoresRegion layout keep shape region d) (λ d. RefusesStoreRegion layout keep shape region d) (KeepsCanon layout keep) c.args.self.now _ c.store_array_subset.result held given served done refused stored.canonical
-          (record { parts = stored.parts; metadata = refl; codec_options = refl; codec_specific_options = refl; metadata_options = refl }));
+          (record { layout_kept = stored.layout_kept; metadata = refl; codec_options = refl; codec_specific_options = refl; metadata_options = refl }));
       partly = (
           let stored = c.store_array_subset.ensures.partly in
           let done = subst (λ (b : Box). OnOk c.store_array_subset.result (PatchesRegion layout shape b held old new)) c.in_ok-array_subset.ensures stored.done in
           let refused = subst (λ (b : Box). IfErr c.store_array_subset.result (λ e. RefusesPatchRegion layout keep shape b held (refusal_of e) old new)) c.in_ok-array_subset.ensures stored.refused in
           written_as serves gives (region_refusal layout shape region) g.TStorage.ReadableStorageTraits.state (λ d. PatchesRegion layout shape region d) (λ d. RefusesPatchRegion layout keep shape region d) SaysNothing c.args.self.now _ c.store_array_subset.result held given served done refused tt
-          (record { parts = stored.parts; metadata = refl; codec_options = refl; codec_specific_options = refl; metadata_options = refl }));
+          (record { layout_kept = stored.layout_kept; metadata = refl; codec_options = refl; codec_specific_options = refl; metadata_options = refl }));
     }
 
 pub store_array_subset-requires : goal.store_array_subset-requires

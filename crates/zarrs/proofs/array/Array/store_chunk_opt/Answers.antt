@@ -18,4 +18,4 @@ returns g c =
     written_as g.D.IntoArrayBytes.serves (g.D.IntoArrayBytes.gives c.args.chunk_data) None g.TStorage.ReadableStorageTraits.state
     (λ d. StoresChunk layout keep index d) (λ d. RefusesStoreChunk layout keep index d) (KeepsCanon layout keep) array _ c.store_chunk.result held
     (rw c.data_type.ensures at c.in_ok-chunk_data.ensures.given) (rw c.data_type.ensures at c.in_ok-chunk_data.ensures.served) stored.done stored.refused stored.canonical
-    (record { parts = stored.parts; metadata = refl; codec_options = refl; codec_specific_options = refl; metadata_options = refl })
+    (record { layout_kept = stored.layout_kept; metadata = refl; codec_options = refl; codec_specific_options = refl; metadata_options = refl })

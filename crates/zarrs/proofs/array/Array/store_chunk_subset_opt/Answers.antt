@@ -31,13 +31,13 @@ returns g c =
           let done = subst (λ (b : Box). OnOk c.store_chunk_subset.result (StoresPart layout keep index b held old new)) c.in_ok-chunk_subset.ensures stored.done in
           let refused = subst (λ (b : Box). IfErr c.store_chunk_subset.result (λ e. RefusesStorePart layout keep index b held (refusal_of e) old new)) c.in_ok-chunk_subset.ensures stored.refused in
           written_as serves gives (place_refusal layout index region) g.TStorage.ReadableStorageTraits.state (λ d. StoresPart layout keep index region d) (λ d. RefusesStorePart layout keep index region d) (KeepsCanon layout keep) c.args.self.now _ c.store_chunk_subset.result held given served done refused stored.canonical
-          (record { parts = stored.parts; metadata = refl; codec_options = refl; codec_specific_options = refl; metadata_options = refl }));
+          (record { layout_kept = stored.layout_kept; metadata = refl; codec_options = refl; codec_specific_options = refl; metadata_options = refl }));
       partly = (
           let stored = c.store_chunk_subset.ensures.partly in
           let done = subst (λ (b : Box). OnOk c.store_chunk_subset.result (PatchesPart layout index b held old new)) c.in_ok-chunk_subset.ensures stored.done in
           let refused = subst (λ (b : Box). IfErr c.store_chunk_subset.result (λ e. RefusesPatchPart layout keep index b held (refusal_of e) old new)) c.in_ok-chunk_subset.ensures stored.refused in
           written_as serves gives (place_refusal layout index region) g.TStorage.ReadableStorageTraits.state (λ d. PatchesPart layout index region d) (λ d. RefusesPatchPart layout keep index region d) SaysNothing c.args.self.now _ c.store_chunk_subset.result held given served done refused tt
-          (record { parts = stored.parts; metadata = refl; codec_options = refl; codec_specific_options = refl; metadata_options = refl }));
+          (record { layout_kept = stored.layout_kept; metadata = refl; codec_options = refl; codec_specific_options = refl; metadata_options = refl }));
     }
 
 pub store_chunk_subset-requires : goal.store_chunk_subset-requires

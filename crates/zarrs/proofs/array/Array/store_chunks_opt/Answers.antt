@@ -24,4 +24,4 @@ returns g c =
     written_as g.D.IntoArrayBytes.serves (g.D.IntoArrayBytes.gives c.args.chunks_data) (number_refusal region) g.TStorage.ReadableStorageTraits.state
     (λ d. StoresChunks layout keep region d) (λ d. RefusesStoreChunks layout keep region d) (KeepsCanon layout keep) c.args.self.now _ c.store_chunks.result held
     (rw c.data_type.ensures at c.in-Ok.ensures.given) (rw c.data_type.ensures at c.in-Ok.ensures.served) done refused stored.canonical
-    (record { parts = stored.parts; metadata = refl; codec_options = refl; codec_specific_options = refl; metadata_options = refl })
+    (record { layout_kept = stored.layout_kept; metadata = refl; codec_options = refl; codec_specific_options = refl; metadata_options = refl })

@@ -35,4 +35,4 @@ returns-clause-content g c =
     let old = store_of_array state array in
     let new = store_of_array state c.upgrade.new.self in
     let called = upgraded_or_not c.upgrade.result o path m old new c.upgrade.ensures.done c.upgrade.ensures.refused in
-    upgrade_calls_leave (layout_of_array array) path array.engine.parts.lawful refl o m called.0 old new called.1
+    upgrade_calls_leave (layout_of_array array) path array.engine.layout.lawful refl o m called.0 old new called.1
