@@ -73,6 +73,20 @@ const TURNS: u8 = 25;
 /// How long a piece of work is repeated at most before its last turn, in nanoseconds: 2 s.
 const LIMIT: u64 = 2_000_000_000;
 
+/// How long a turn of a piece of work took, in nanoseconds, and the byte that it returned.
+#[derive(Clone, Copy)]
+struct Turn {
+    time: u64,
+    byte: u8,
+}
+
+/// How long a copy took, in nanoseconds, and the turn behind it.
+#[derive(Clone, Copy)]
+struct Behind {
+    copy: u64,
+    turn: Turn,
+}
+
 /// Measures the work of the product, that of plain Rust on the same sample and a copy of so many bytes, in turns. What
 /// both left is compared once, after the last turn.
 ///
@@ -86,15 +100,25 @@ pub fn measured<P: Work, Q: Work<Sample = P::Sample>>(
 ) -> Result<Times> {
     let mut blocks = Blocks::make(alloc, (), extent.len)?;
     let mut sample = P::Sample::make(alloc, form, extent.size)?;
+    best_times::<P, Q>(rt, alloc, &mut sample, &mut blocks)
+}
+
+/// The best times of all turns.
+fn best_times<P: Work, Q: Work<Sample = P::Sample>>(
+    rt: &impl Clock,
+    alloc: Global,
+    sample: &mut P::Sample,
+    blocks: &mut Blocks,
+) -> Result<Times> {
     let mut best = Times {
         product: u64::MAX,
         plain: u64::MAX,
-        copy: if extent.len > 0 { u64::MAX } else { 0 },
+        copy: if blocks.times > 0 { u64::MAX } else { 0 },
         are_same: true,
     };
     for turn in 0..TURNS {
         sample.touch(turn);
-        best = next_times::<P, Q>(rt, alloc, &mut sample, &mut blocks, best)?;
+        best = next_times::<P, Q>(rt, alloc, sample, blocks, best)?;
     }
     best.are_same = best.are_same && sample.is_left_same(alloc)?;
     Ok(best)
@@ -108,16 +132,31 @@ fn next_times<P: Work, Q: Work<Sample = P::Sample>>(
     blocks: &mut Blocks,
     best: Times,
 ) -> Result<Times> {
-    let (first_copy, _) = timed::<Copies>(rt, alloc, blocks)?;
-    let (product, made) = timed::<P>(rt, alloc, sample)?;
-    let (second_copy, _) = timed::<Copies>(rt, alloc, blocks)?;
-    let (plain, wanted) = timed::<Q>(rt, alloc, sample)?;
-    Ok(Times {
-        product: best.product.min(product),
-        plain: best.plain.min(plain),
-        copy: best.copy.min(first_copy).min(second_copy),
-        are_same: best.are_same && made == wanted,
-    })
+    let product = timed_behind_copy::<P>(rt, alloc, sample, blocks)?;
+    let plain = timed_behind_copy::<Q>(rt, alloc, sample, blocks)?;
+    Ok(joined(best, product, plain))
+}
+
+/// The better ones of these times and of those of one more turn.
+fn joined(best: Times, product: Behind, plain: Behind) -> Times {
+    Times {
+        product: best.product.min(product.turn.time),
+        plain: best.plain.min(plain.turn.time),
+        copy: best.copy.min(product.copy).min(plain.copy),
+        are_same: best.are_same && product.turn.byte == plain.turn.byte,
+    }
+}
+
+/// A copy, and a turn of the work behind it.
+fn timed_behind_copy<W: Work>(
+    rt: &impl Clock,
+    alloc: Global,
+    sample: &mut W::Sample,
+    blocks: &mut Blocks,
+) -> Result<Behind> {
+    let copy = timed::<Copies>(rt, alloc, blocks)?.time;
+    let turn = timed::<W>(rt, alloc, sample)?;
+    Ok(Behind { copy, turn })
 }
 
 /// The best time of the work alone over a sample of this form and size, in nanoseconds.
@@ -131,12 +170,17 @@ pub fn best_time<W: Work>(
     size: usize,
 ) -> Result<u64> {
     let mut sample = W::Sample::make(alloc, form, size)?;
+    best_of_turns::<W>(rt, alloc, &mut sample)
+}
+
+/// The best time of the turns of the work.
+fn best_of_turns<W: Work>(rt: &impl Clock, alloc: Global, sample: &mut W::Sample) -> Result<u64> {
     let mut best = u64::MAX;
     let mut all = 0u64;
     for turn in 0..TURNS {
         if all < LIMIT {
             sample.touch(turn);
-            let (time, _) = timed::<W>(rt, alloc, &mut sample)?;
+            let time = timed::<W>(rt, alloc, sample)?.time;
             best = best.min(time);
             all = all.saturating_add(time);
         }
@@ -144,12 +188,18 @@ pub fn best_time<W: Work>(
     Ok(best)
 }
 
-/// How long the work takes, in nanoseconds, and the byte that it returned.
-fn timed<W: Work>(rt: &impl Clock, alloc: Global, sample: &mut W::Sample) -> Result<(u64, u8)> {
+/// A turn of the work.
+fn timed<W: Work>(rt: &impl Clock, alloc: Global, sample: &mut W::Sample) -> Result<Turn> {
     let start = Instant::now(rt)?;
     let byte = W::run(alloc, sample)?;
+    let time = nanoseconds_since(rt, start)?;
+    Ok(Turn { time, byte })
+}
+
+/// How long ago this was.
+fn nanoseconds_since(rt: &impl Clock, start: Instant) -> Result<u64> {
     let taken = start.elapsed(rt)?.as_nanos();
-    Ok((u64::try_from(taken).unwrap_or(u64::MAX), byte))
+    Ok(u64::try_from(taken).unwrap_or(u64::MAX))
 }
 
 /// Blocks of at most 1 MiB that are copied, and how often.
@@ -165,10 +215,13 @@ impl Sample for Blocks {
 
     fn make(alloc: Global, _form: (), len: usize) -> Result<Blocks> {
         let block = len.clamp(1, 1 << 20);
+        let times = len / block;
+        let source = vec![in alloc; 1; block]?;
+        let target = vec![in alloc; 0; block]?;
         Ok(Blocks {
-            source: vec![in alloc; 1; block]?,
-            target: vec![in alloc; 0; block]?,
-            times: len / block,
+            source,
+            target,
+            times,
         })
     }
 
@@ -188,10 +241,15 @@ impl Work for Copies {
     fn run(_alloc: Global, blocks: &mut Blocks) -> Result<u8> {
         for time in 0..blocks.times {
             blocks.touch((time % 256) as u8);
-            if blocks.source.len() == blocks.target.len() {
-                blocks.target.copy_from_slice(&blocks.source);
-            }
+            copy_all(&blocks.source, &mut blocks.target);
         }
         Ok(blocks.target.first().copied().unwrap_or(0))
+    }
+}
+
+/// Copies as many bytes.
+fn copy_all(source: &[u8], target: &mut [u8]) {
+    if source.len() == target.len() {
+        target.copy_from_slice(source);
     }
 }

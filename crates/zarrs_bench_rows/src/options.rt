@@ -80,7 +80,9 @@ impl Work for ToCells {
 
     fn run(alloc: Global, options: &mut Options) -> Result<u8> {
         let made = cells_of(alloc, &options.data_type, &options.list)?;
-        Ok(tested_cells(&made))
+        let byte = tested_cells(&made);
+        drop(made);
+        Ok(byte)
     }
 }
 
@@ -143,6 +145,13 @@ impl Work for FromCells {
     }
 }
 
+/// Puts the option of each flag and cell in its place.
+fn put_options(options: &mut [Option<u32>], mask: &[u8], numbers: &[[u8; 4]]) {
+    for ((option, flag), cell) in options.iter_mut().zip(mask).zip(numbers) {
+        *option = (*flag == 1).then_some(u32::from_le_bytes(*cell));
+    }
+}
+
 /// The option of one flag and one cell after another.
 pub struct PlainFromCells;
 
@@ -152,10 +161,7 @@ impl Work for PlainFromCells {
     fn run(alloc: Global, options: &mut Options) -> Result<u8> {
         let (mask, numbers) = parts_of(&options.cells)?;
         let mut made = vec![in alloc; None; mask.len()]?;
-        let cells = mask.iter().zip(numbers.as_chunks::<4>().0);
-        for (option, (flag, cell)) in made.iter_mut().zip(cells) {
-            *option = (*flag == 1).then_some(u32::from_le_bytes(*cell));
-        }
+        put_options(&mut made, mask, numbers.as_chunks::<4>().0);
         Ok(tested_list(&made))
     }
 }

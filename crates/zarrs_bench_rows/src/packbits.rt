@@ -59,7 +59,9 @@ impl Work for Unpack {
 
     fn run(alloc: Global, cells: &mut ArrayBytes<'static>) -> Result<u8> {
         let made = decoded(alloc, eighth(cells))?;
-        Ok(tested(bytes_in(&made)))
+        let byte = tested(bytes_in(&made));
+        drop(made);
+        Ok(byte)
     }
 }
 

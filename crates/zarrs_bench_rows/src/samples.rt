@@ -65,6 +65,14 @@ pub fn options_of(alloc: Global, count: usize) -> Result<Vec<Option<u32>>> {
     Ok(options)
 }
 
+/// Texts of 12 bytes on average.
+const TEXTS: [&str; 4] = [
+    "rain",
+    "rainfall",
+    "rain at noon",
+    "rain at noon, then sunny",
+];
+
 /// So many texts of 12 bytes on average.
 ///
 /// # Errors
@@ -72,12 +80,7 @@ pub fn options_of(alloc: Global, count: usize) -> Result<Vec<Option<u32>>> {
 pub fn texts_of(alloc: Global, count: usize) -> Result<Vec<&'static str>> {
     let mut texts = vec![in alloc; "rain"; count]?;
     for (place, text) in texts.iter_mut().enumerate() {
-        *text = match place % 4 {
-            0 => "rain",
-            1 => "rainfall",
-            2 => "rain at noon",
-            _ => "rain at noon, then sunny",
-        };
+        *text = TEXTS[place % 4];
     }
     Ok(texts)
 }

@@ -1,5 +1,5 @@
 //! The tables that are printed.
-use crate::growth::{Growth, Scale};
+use crate::growth::{Growth, Hundredths, Scale};
 use crate::measure::{Extent, Sample, Times, Work, best_time, measured};
 use anyhow::Result;
 use std::alloc::Global;
@@ -28,14 +28,16 @@ impl<'a, R: Clock + Print + Alloc<A = Global>> Table<'a, R> {
         extent: Extent,
     ) {
         if self.outcome.is_ok() {
-            self.outcome = print_row::<R, P, Q>(self.rt, name, form, extent);
+            let times = measured::<P, Q>(self.rt, self.rt.alloc(), form, extent);
+            self.outcome = print_columns(self.rt, name, times);
         }
     }
 
     /// Measures the work alone, and prints the row of its best time.
     pub fn time<W: Work>(&mut self, name: &str, form: <W::Sample as Sample>::Form) {
         if self.outcome.is_ok() {
-            self.outcome = print_time::<R, W>(self.rt, name, form);
+            let time = best_time::<W>(self.rt, self.rt.alloc(), form, 0);
+            self.outcome = print_columns(self.rt, name, time.map(Alone));
         }
     }
 
@@ -49,7 +51,8 @@ impl<'a, R: Clock + Print + Alloc<A = Global>> Table<'a, R> {
     /// Measures the work over samples of each size, and prints the row of its growth.
     pub fn growth<W: Work>(&mut self, scale: Scale, name: &str, form: <W::Sample as Sample>::Form) {
         if self.outcome.is_ok() {
-            self.outcome = print_growth::<R, W>(self.rt, scale, name, form);
+            let growth = Growth::measured::<W>(self.rt, self.rt.alloc(), form, scale.sizes);
+            self.outcome = print_columns(self.rt, name, growth);
         }
     }
 
@@ -63,25 +66,35 @@ impl<'a, R: Clock + Print + Alloc<A = Global>> Table<'a, R> {
     }
 }
 
-/// How many times one time is as long as another; `-` if the other is 0.
-#[derive(Clone, Copy)]
-struct Ratio(u64, u64);
-
-impl fmt::Display for Ratio {
-    fn fmt<W: fmt::Write>(&self, f: &mut fmt::Formatter<W>) -> fmt::Result {
-        match self.0.saturating_mul(100).checked_div(self.1) {
-            Some(percent) => write!(f, "{}.{:02}", percent / 100, percent % 100),
-            None => write!(f, "-"),
-        }
-    }
+/// How many hundredths one time is of another; `-` if the other is 0.
+fn ratio(time: u64, other: u64) -> Hundredths {
+    Hundredths(time.saturating_mul(100).checked_div(other))
 }
 
 impl fmt::Display for Times {
     fn fmt<W: fmt::Write>(&self, f: &mut fmt::Formatter<W>) -> fmt::Result {
+        let note = if self.are_same {
+            ""
+        } else {
+            " (results differ)"
+        };
         let (product_us, plain_us) = (self.product / 1000, self.plain / 1000);
-        let to_plain = Ratio(self.product, self.plain.max(1));
-        let to_copy = Ratio(self.product, self.copy);
-        write!(f, "{product_us} | {plain_us} | {to_plain} | {to_copy}")
+        let to_plain = ratio(self.product, self.plain.max(1));
+        let to_copy = ratio(self.product, self.copy);
+        write!(
+            f,
+            "{note} | {product_us} | {plain_us} | {to_plain} | {to_copy}"
+        )
+    }
+}
+
+/// The time of a work alone, in nanoseconds.
+#[derive(Clone, Copy)]
+struct Alone(u64);
+
+impl fmt::Display for Alone {
+    fn fmt<W: fmt::Write>(&self, f: &mut fmt::Formatter<W>) -> fmt::Result {
+        write!(f, " | {} | - | - | -", self.0 / 1000)
     }
 }
 
@@ -95,47 +108,13 @@ fn print_line(rt: &impl Print, line: &str) -> Result<()> {
     Ok(())
 }
 
-/// Measures, and prints a row of growths.
-fn print_growth<R: Clock + Print + Alloc<A = Global>, W: Work>(
-    rt: &R,
-    scale: Scale,
+/// Prints a row: its name, and its columns behind that.
+fn print_columns<D: fmt::Display + Drop>(
+    rt: &impl Print,
     name: &str,
-    form: <W::Sample as Sample>::Form,
+    columns: Result<D>,
 ) -> Result<()> {
-    let growth = Growth::measured::<W>(rt, rt.alloc(), form, scale.sizes)?;
-    println!(rt; "| {name} | {growth} |")?;
-    Ok(())
-}
-
-/// Measures, and prints a row of one time.
-fn print_time<R: Clock + Print + Alloc<A = Global>, W: Work>(
-    rt: &R,
-    name: &str,
-    form: <W::Sample as Sample>::Form,
-) -> Result<()> {
-    let time = best_time::<W>(rt, rt.alloc(), form, 0)? / 1000;
-    println!(rt; "| {name} | {time} | - | - | - |")?;
-    Ok(())
-}
-
-/// Measures, and prints a row.
-fn print_row<R, P, Q>(
-    rt: &R,
-    name: &str,
-    form: <P::Sample as Sample>::Form,
-    extent: Extent,
-) -> Result<()>
-where
-    R: Clock + Print + Alloc<A = Global>,
-    P: Work,
-    Q: Work<Sample = P::Sample>,
-{
-    let times = measured::<P, Q>(rt, rt.alloc(), form, extent)?;
-    let note = if times.are_same {
-        ""
-    } else {
-        " (results differ)"
-    };
-    println!(rt; "| {name}{note} | {times} |")?;
+    let columns = columns?;
+    println!(rt; "| {name}{columns} |")?;
     Ok(())
 }
