@@ -2,7 +2,7 @@ use Rattle.std.proofs.Common.{ap, map}
 use Rattle.zarrs_storage.specs.Memory.{open_state}
 use Rattle.zarrs_subset.specs.Regions.{box_of}
 use Rattle.zarrs_chunk_grid.specs.GridView.{array_extents_of}
-use Rattle.zarrs_array_layout.specs.Layouts.{layout_of_parts}
+use Rattle.zarrs_array_layout.specs.Layouts.{layout_meaning}
 use Rattle.zarrs.specs.Arrays.{layout_of_array, state_of_array}
 use Rattle.zarrs_array_uses.proofs.DirectCalls.{same_values, stays_canonical, stored_cells}
 use Rattle.zarrs_array_uses.proofs.courses.stored_and_read_twice.Goals as goal
@@ -12,9 +12,9 @@ returns-clause-cells g c =
     let before = c.args.array.now in
     let after = c.store_array_subset.new.self in
     let lawful = c.an_array_is_its_metadata.ensures.lawful in
-    let parts = c.in_ok-store_array_subset.ensures.kept.parts in
+    let parts = c.in_ok-store_array_subset.ensures.kept.layout_kept in
     let layout = layout_of_array before in
-    let same = ap (λ p. layout_of_parts p) parts in
+    let same = ap (λ p. layout_meaning p) parts in
     let stored = c.in_ok-store_array_subset.ensures.done in
     let first = c.in_ok-_first.ensures.cells in
     let second = c.in_ok-second.ensures.cells in
@@ -27,10 +27,10 @@ returns-clause-canonical g c =
     let before = c.args.array.now in
     let after = c.store_array_subset.new.self in
     let lawful = c.an_array_is_its_metadata.ensures.lawful in
-    let parts = c.in_ok-store_array_subset.ensures.kept.parts in
+    let parts = c.in_ok-store_array_subset.ensures.kept.layout_kept in
     let stored = c.in_ok-store_array_subset.ensures.done in
     let first = c.in_ok-_first.ensures.cells in
     let second = c.in_ok-second.ensures.cells in
     let shape = ap (λ p. array_extents_of p.grid) parts in
-    stays_canonical (layout_of_array before) (layout_of_array after) lawful (ap (λ p. layout_of_parts p) parts) (box_of c.args.region.now) stored.0 first.0 second.0 (state_of_array open_state before) (state_of_array open_state after) shape
+    stays_canonical (layout_of_array before) (layout_of_array after) lawful (ap (λ p. layout_meaning p) parts) (box_of c.args.region.now) stored.0 first.0 second.0 (state_of_array open_state before) (state_of_array open_state after) shape
     stored.2 first.1 second.1 c.courses_keep_canon.ensures
