@@ -6,20 +6,35 @@ use std::collections::BTreeMap;
 use zarrs_bench_rows::measure::{Sample, Work};
 use zarrs_script::run_script;
 
+/// Appends a number behind some bytes.
+fn put_number(script: &mut Vec<u8>, before: &[u8], number: usize) -> Result<()> {
+    let mut buffer = Buffer::new();
+    script.extend_from_slice(before)?;
+    script.extend_from_slice(buffer.format(number).as_bytes())?;
+    Ok(())
+}
+
+/// Appends a `chunk` and a `read`.
+fn put_pair(script: &mut Vec<u8>, pair: usize) -> Result<()> {
+    put_number(script, b"chunk ", pair % 100)?;
+    put_number(script, b" 1,2,3,", pair % 256)?;
+    put_number(script, b"\nread ", pair % 100)?;
+    script.extend_from_slice(b"\n")?;
+    Ok(())
+}
+
+/// Appends so many pairs of a `chunk` and a `read`.
+fn put_pairs(script: &mut Vec<u8>, pairs: usize) -> Result<()> {
+    for pair in 0..pairs {
+        put_pair(script, pair)?;
+    }
+    Ok(())
+}
+
 /// An array of 100 chunks of four cells, and so many pairs of a `chunk` and a `read`.
 fn long_script(alloc: Global, pairs: usize) -> Result<Vec<u8>> {
     let mut script = Vec::from_slice(alloc, b"array 400 4 uint8 0\n")?;
-    let mut buffer = Buffer::new();
-    for pair in 0..pairs {
-        script.extend_from_slice(b"chunk ")?;
-        script.extend_from_slice(buffer.format(pair % 100).as_bytes())?;
-        script.extend_from_slice(b" 1,2,3,")?;
-        script.extend_from_slice(buffer.format(pair % 256).as_bytes())?;
-        script.extend_from_slice(b"\nread ")?;
-        script.extend_from_slice(buffer.format(pair % 100).as_bytes())?;
-        script.extend_from_slice(b"\n")?;
-    }
-    Ok(script)
+    put_pairs(&mut script, pairs).and(Ok(script))
 }
 
 /// The lowest byte of the length of what was written.
@@ -38,10 +53,9 @@ impl Sample for Script {
     type Form = ();
 
     fn make(alloc: Global, _form: (), lines: usize) -> Result<Script> {
-        Ok(Script {
-            text: long_script(alloc, lines / 2)?,
-            values: BTreeMap::new(alloc),
-        })
+        let text = long_script(alloc, lines / 2)?;
+        let values = BTreeMap::new(alloc);
+        Ok(Script { text, values })
     }
 
     /// Nothing: what a script prints is made anew by each run.
@@ -194,6 +208,19 @@ fn run_line(
     }
 }
 
+/// Does what each line asks.
+fn run_lines(
+    alloc: Global,
+    values: &mut BTreeMap<String, Vec<u8>>,
+    lines: &[Line],
+    text: &mut Vec<u8>,
+) -> Result<()> {
+    for line in lines {
+        run_line(alloc, values, line, text)?;
+    }
+    Ok(())
+}
+
 /// The same steps: all lines are read, then each is done.
 pub struct PlainScript;
 
@@ -201,10 +228,9 @@ impl Work for PlainScript {
     type Sample = Script;
 
     fn run(alloc: Global, script: &mut Script) -> Result<u8> {
+        let lines = lines_of(alloc, &script.text)?;
         let mut text = Vec::new(alloc);
-        for line in &lines_of(alloc, &script.text)? {
-            run_line(alloc, &mut script.values, line, &mut text)?;
-        }
-        Ok(low_len(&text))
+        let outcome = run_lines(alloc, &mut script.values, &lines, &mut text);
+        outcome.and(Ok(low_len(&text)))
     }
 }

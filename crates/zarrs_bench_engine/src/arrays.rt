@@ -61,6 +61,21 @@ fn chain_of(
     }
 }
 
+/// How many bytes the fill value has.
+fn fill_len(kind: Kind) -> usize {
+    match kind {
+        Kind::Numbers | Kind::BigNumbers => 4,
+        Kind::Texts => 0,
+        _ => 1,
+    }
+}
+
+/// The chunks of that shape, of an array of this shape.
+fn grid_of(alloc: Global, shape: &[u64], chunk_shape: &[u64]) -> Result<RegularChunkGrid> {
+    let chunk_shape = extents(alloc, chunk_shape)?;
+    Ok(RegularChunkGrid::new(alloc, shape.to_vec(alloc)?, chunk_shape)?)
+}
+
 /// An array of this kind of cells and this shape, in chunks of that shape, which are shards if there is a shape of
 /// subchunks. All chunks are absent, and the fill value is 0, an empty text or none.
 ///
@@ -73,17 +88,12 @@ pub fn absent_array(
     subchunk_shape: Option<[u64; 2]>,
 ) -> Result<MemoryEngine> {
     let data_type = kind.data_type(alloc)?;
-    let fill_len = match kind {
-        Kind::Numbers | Kind::BigNumbers => 4,
-        Kind::Texts => 0,
-        _ => 1,
-    };
-    let fill_value = FillValue::new(vec![in alloc; 0; fill_len]?);
+    let fill_value = FillValue::new(vec![in alloc; 0; fill_len(kind)]?);
     if !fill_value.is_value_of(&data_type) {
         return Err(anyhow!("no fill value"));
     }
     let path = NodePath::new(alloc, "/climate/rain")?;
-    let grid = RegularChunkGrid::new(alloc, shape.to_vec(alloc)?, extents(alloc, chunk_shape)?)?;
+    let grid = grid_of(alloc, shape, chunk_shape)?;
     let chain = chain_of(alloc, kind, &data_type, subchunk_shape)?;
     let keys = ChunkKeyEncoding::Default(ChunkKeySeparator::Slash);
     let store = MemoryStore::new(alloc);

@@ -11,21 +11,35 @@ use zarrs_data_type::ArrayBytes;
 use zarrs_storage::{MemoryStore, StoreKey};
 use zarrs_subset::ArraySubset;
 
-/// An array over a store, the same chunks in a store alone, a part of the array, and what is stored there.
+/// An array over a store, and the same chunks in a store alone.
 #[derive(Drop)]
-pub struct Cells {
+pub struct Stored {
     /// The array.
     pub engine: MemoryEngine,
     /// The store alone.
     pub store: MemoryStore,
-    /// The key of the first chunk.
-    pub key: StoreKey,
+}
+
+/// A part of an array, and what is stored there.
+#[derive(Drop)]
+pub struct Place {
     /// What the array and the part are.
     pub case: Case,
+    /// The key of the first chunk.
+    pub key: StoreKey,
     /// The part.
     pub subset: ArraySubset,
     /// What is stored there.
     pub cells: ArrayBytes<'static>,
+}
+
+/// An array and a store that hold the same chunks, and a part of the array.
+#[derive(Drop)]
+pub struct Cells {
+    /// The array and the store.
+    pub stored: Stored,
+    /// The part.
+    pub place: Place,
 }
 
 /// What is stored there, one cell for each position.
@@ -33,12 +47,24 @@ fn cells_in(alloc: Global, kind: Kind, subset: &ArraySubset) -> Result<ArrayByte
     kind.cells(alloc, subset.num_elements()? as usize)
 }
 
-/// Stores all of the array, and returns the same chunks in a store alone.
-fn store_all(alloc: Global, engine: &mut MemoryEngine, case: Case) -> Result<MemoryStore> {
+/// Stores the cells of all of the array.
+fn store_all(alloc: Global, engine: &mut MemoryEngine, case: Case) -> Result<()> {
     let all = ArraySubset::new_with_shape(alloc, case.extents(alloc, case.grid.shape)?)?;
     let cells = cells_in(alloc, case.kind, &all)?;
-    engine.store_array_subset(alloc, &all, &cells, &CodecOptions::default())?;
-    same_values(alloc, engine.storage())
+    let outcome = store_cells(alloc, engine, &all, &cells);
+    drop(cells);
+    outcome
+}
+
+/// Stores these cells there.
+fn store_cells(
+    alloc: Global,
+    engine: &mut MemoryEngine,
+    subset: &ArraySubset,
+    cells: &ArrayBytes<'_>,
+) -> Result<()> {
+    engine.store_array_subset(alloc, subset, cells, &CodecOptions::default())?;
+    Ok(())
 }
 
 /// The array, all chunks of which are absent.
@@ -53,11 +79,30 @@ fn array_of(alloc: Global, case: Case) -> Result<MemoryEngine> {
     )
 }
 
-/// The array, and the same chunks in a store alone.
-fn stored(alloc: Global, case: Case) -> Result<(MemoryEngine, MemoryStore)> {
+/// The array, all chunks of which are stored.
+fn stored_array(alloc: Global, case: Case) -> Result<MemoryEngine> {
     let mut engine = array_of(alloc, case)?;
-    let store = store_all(alloc, &mut engine, case)?;
-    Ok((engine, store))
+    store_all(alloc, &mut engine, case).and(Ok(engine))
+}
+
+/// The array, and the same chunks in a store alone.
+fn make_stored(alloc: Global, case: Case) -> Result<Stored> {
+    let engine = stored_array(alloc, case)?;
+    let store = same_values(alloc, engine.storage())?;
+    Ok(Stored { engine, store })
+}
+
+/// The part of the array.
+fn place_of(alloc: Global, case: Case) -> Result<Place> {
+    let key = key_of(alloc, [0, 0])?;
+    let subset = case.subset(alloc)?;
+    let cells = cells_in(alloc, case.kind, &subset)?;
+    Ok(Place {
+        case,
+        key,
+        subset,
+        cells,
+    })
 }
 
 impl Sample for Cells {
@@ -65,25 +110,16 @@ impl Sample for Cells {
 
     fn make(alloc: Global, form: (Form, Part), size: usize) -> Result<Cells> {
         let case = case_of(form, size as u64);
-        let key = key_of(alloc, [0, 0])?;
-        let subset = case.subset(alloc)?;
-        let cells = cells_in(alloc, case.kind, &subset)?;
-        let (engine, store) = stored(alloc, case)?;
-        Ok(Cells {
-            engine,
-            store,
-            key,
-            case,
-            subset,
-            cells,
-        })
+        let place = place_of(alloc, case)?;
+        let stored = make_stored(alloc, case)?;
+        Ok(Cells { stored, place })
     }
 
     fn touch(&mut self, turn: u8) {
-        self.cells.touch(turn);
+        self.place.cells.touch(turn);
     }
 
     fn is_left_same(&self, alloc: Global) -> Result<bool> {
-        hold_same(alloc, self.engine.storage(), &self.store)
+        hold_same(alloc, self.stored.engine.storage(), &self.stored.store)
     }
 }

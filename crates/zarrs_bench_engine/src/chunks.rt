@@ -30,16 +30,14 @@ pub struct Chunks {
 /// A map with so many chunks of these cells.
 fn values_of(alloc: Global, cells: &[u8], stored: u64) -> Result<BTreeMap<String, Vec<u8>>> {
     let mut values = BTreeMap::new(alloc);
-    put_chunks(alloc, &mut values, cells, stored)?;
-    Ok(values)
+    put_chunks(alloc, &mut values, cells, stored).and(Ok(values))
 }
 
 /// An array with so many chunks of these cells.
 fn array_of(alloc: Global, cells: &ArrayBytes<'_>, stored: u64) -> Result<MemoryEngine> {
     let shapes: [&[u64]; 2] = [&[LEN * CHUNKS], &[LEN]];
     let mut engine = absent_array(alloc, Kind::Bytes, shapes, None)?;
-    store_chunks(alloc, &mut engine, cells, stored)?;
-    Ok(engine)
+    store_chunks(alloc, &mut engine, cells, stored).and(Ok(engine))
 }
 
 impl Sample for Chunks {
@@ -63,8 +61,11 @@ impl Sample for Chunks {
     }
 
     fn is_left_same(&self, alloc: Global) -> Result<bool> {
+        let taken = take_chunk(alloc, &self.values, 7)?;
         let held = self.engine.retrieve_chunk(alloc, &[7])?;
-        Ok(bytes_in(&held) == take_chunk(alloc, &self.values, 7)?.as_slice())
+        let is_same = bytes_in(&held) == taken.as_slice();
+        drop(held);
+        Ok(is_same)
     }
 }
 
@@ -103,7 +104,21 @@ fn key_of(alloc: Global, number: u64) -> Result<String> {
     Ok(key)
 }
 
-/// A copy in a map from keys to bytes, if some byte is not 0, so many times.
+/// A copy in a map from keys to bytes, if some byte is not 0.
+fn put_chunk(
+    alloc: Global,
+    values: &mut BTreeMap<String, Vec<u8>>,
+    cells: &[u8],
+    number: u64,
+) -> Result<()> {
+    if cells.iter().any(|cell| *cell != 0) {
+        let key = key_of(alloc, number)?;
+        values.insert(key, cells.to_vec(alloc)?)?;
+    }
+    Ok(())
+}
+
+/// The same, so many times.
 fn put_chunks(
     alloc: Global,
     values: &mut BTreeMap<String, Vec<u8>>,
@@ -111,10 +126,7 @@ fn put_chunks(
     calls: u64,
 ) -> Result<()> {
     for number in 0..calls {
-        if cells.iter().any(|cell| *cell != 0) {
-            let key = key_of(alloc, number)?;
-            values.insert(key, cells.to_vec(alloc)?)?;
-        }
+        put_chunk(alloc, values, cells, number)?;
     }
     Ok(())
 }
@@ -131,6 +143,14 @@ impl Work for PlainStoreChunks {
     }
 }
 
+/// What some bytes of a chunk say.
+fn read_chunk(alloc: Global, engine: &MemoryEngine, number: u64) -> Result<u8> {
+    let found = engine.retrieve_chunk(alloc, &[number % CHUNKS])?;
+    let byte = tested(bytes_in(&found));
+    drop(found);
+    Ok(byte)
+}
+
 /// `Engine::retrieve_chunk`.
 pub struct ReadChunks;
 
@@ -140,8 +160,7 @@ impl Work for ReadChunks {
     fn run(alloc: Global, chunks: &mut Chunks) -> Result<u8> {
         let mut seen = 0;
         for number in 0..CALLS {
-            let found = chunks.engine.retrieve_chunk(alloc, &[number % CHUNKS])?;
-            seen ^= tested(bytes_in(&found));
+            seen ^= read_chunk(alloc, &chunks.engine, number)?;
         }
         Ok(seen)
     }

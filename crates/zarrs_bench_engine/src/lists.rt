@@ -1,5 +1,5 @@
 //! Texts and optional numbers that plain loops store to a store in memory and read from it.
-use crate::plain::{key_of, numbers_of, value_at};
+use crate::plain::{chunk_at, key_of, numbers_of};
 use anyhow::{Result, anyhow};
 use std::alloc::Global;
 use zarrs_bench_rows::plain::{mapped, packed, put_mapped, unpacked};
@@ -10,6 +10,17 @@ use zarrs_storage::{Bytes, MemoryStore, WritableStorageTraits};
 /// A length, in four bytes.
 fn length_bytes(len: usize) -> [u8; 4] {
     u32::try_from(len).unwrap_or(u32::MAX).to_le_bytes()
+}
+
+/// Appends this number, and the texts between these offsets, each behind its length.
+fn append_texts(made: &mut Vec<u8>, bytes: &[u8], offsets: &[usize], count: usize) -> Result<()> {
+    made.extend_from_slice(&length_bytes(count))?;
+    for (start, end) in offsets.iter().zip(offsets.iter().skip(1)) {
+        let text = bytes.get(*start..*end).unwrap_or(&[]);
+        made.extend_from_slice(&length_bytes(text.len()))?;
+        made.extend_from_slice(text)?;
+    }
+    Ok(())
 }
 
 /// The texts between these offsets, behind their number, each behind its length. Nothing, if all are empty.
@@ -25,13 +36,31 @@ fn encoded_texts(alloc: Global, bytes: &[u8], offsets: &[usize]) -> Result<Vec<u
         .saturating_mul(4)
         .saturating_add(len);
     let mut made = Vec::with_capacity(alloc, room)?;
-    made.extend_from_slice(&length_bytes(count))?;
-    for (start, end) in offsets.iter().zip(offsets.iter().skip(1)) {
-        let text = bytes.get(*start..*end).unwrap_or(&[]);
-        made.extend_from_slice(&length_bytes(text.len()))?;
-        made.extend_from_slice(text)?;
+    append_texts(&mut made, bytes, offsets, count).and(Ok(made))
+}
+
+/// Appends the numbers whose flags are set.
+fn put_some(made: &mut Vec<u8>, flags: &[u8], numbers: &[u8]) -> Result<()> {
+    for (flag, number) in flags.iter().zip(numbers.as_chunks::<4>().0) {
+        if *flag == 1 {
+            made.extend_from_slice(number)?;
+        }
     }
-    Ok(made)
+    Ok(())
+}
+
+/// Appends a mask and so many bytes of the numbers whose flags are set, behind the lengths of both.
+fn append_options(
+    made: &mut Vec<u8>,
+    mask: &[u8],
+    len: usize,
+    flags: &[u8],
+    numbers: &[u8],
+) -> Result<()> {
+    made.extend_from_slice(&(mask.len() as u64).to_le_bytes())?;
+    made.extend_from_slice(&(len as u64).to_le_bytes())?;
+    made.extend_from_slice(mask)?;
+    put_some(made, flags, numbers)
 }
 
 /// Eight flags in a byte, and the numbers of those that are set, behind the lengths of both. Nothing, if no flag is set.
@@ -44,15 +73,7 @@ fn encoded_options(alloc: Global, flags: &[u8], numbers: &[u8]) -> Result<Vec<u8
     let len = count.saturating_mul(4);
     let room = mask.len().saturating_add(len).saturating_add(16);
     let mut made = Vec::with_capacity(alloc, room)?;
-    made.extend_from_slice(&(mask.len() as u64).to_le_bytes())?;
-    made.extend_from_slice(&(len as u64).to_le_bytes())?;
-    made.extend_from_slice(&mask)?;
-    for (flag, number) in flags.iter().zip(numbers.as_chunks::<4>().0) {
-        if *flag == 1 {
-            made.extend_from_slice(number)?;
-        }
-    }
-    Ok(made)
+    append_options(&mut made, &mask, len, flags, numbers).and(Ok(made))
 }
 
 /// The bytes of so many cells from `start` on.
@@ -82,6 +103,15 @@ pub struct Chunks {
     pub count: usize,
 }
 
+/// Sets the value of the chunk with this index, unless that is empty.
+fn set_chunk(alloc: Global, store: &mut MemoryStore, index: usize, made: Vec<u8>) -> Result<()> {
+    if !made.is_empty() {
+        let key = key_of(alloc, [0, index as u64])?;
+        store.set(alloc, &key, Bytes::from_vec(made)?)?;
+    }
+    Ok(())
+}
+
 /// Stores the cells, by the calls of a store that an array makes.
 ///
 /// # Errors
@@ -99,10 +129,7 @@ pub fn store_chunks(
             index.saturating_mul(chunks.count),
             chunks.count,
         )?;
-        if !made.is_empty() {
-            let key = key_of(alloc, [0, index as u64])?;
-            store.set(alloc, &key, Bytes::from_vec(made)?)?;
-        }
+        set_chunk(alloc, store, index, made)?;
     }
     Ok(())
 }
@@ -155,6 +182,21 @@ fn put_texts(bytes: &mut Vec<u8>, offsets: &mut Vec<usize>, encoded: &[u8]) -> R
     Ok(())
 }
 
+/// Appends the texts of all chunks, and where each ends.
+fn put_all_texts(
+    alloc: Global,
+    store: &MemoryStore,
+    chunks: Chunks,
+    bytes: &mut Vec<u8>,
+    offsets: &mut Vec<usize>,
+) -> Result<()> {
+    for index in 0..chunks.number {
+        let value = chunk_at(alloc, store, [0, index as u64])?;
+        put_texts(bytes, offsets, value.as_slice())?;
+    }
+    Ok(())
+}
+
 /// Reads the texts of all chunks, and returns what some of them say.
 ///
 /// # Errors
@@ -162,11 +204,8 @@ fn put_texts(bytes: &mut Vec<u8>, offsets: &mut Vec<usize>, encoded: &[u8]) -> R
 pub fn read_texts(alloc: Global, store: &MemoryStore, chunks: Chunks) -> Result<u8> {
     let mut bytes = Vec::new(alloc);
     let mut offsets = vec![in alloc; 0]?;
-    for index in 0..chunks.number {
-        let value = value_at(alloc, store, &key_of(alloc, [0, index as u64])?)?;
-        put_texts(&mut bytes, &mut offsets, value.as_slice())?;
-    }
-    Ok(tested_texts(&bytes, &offsets))
+    let outcome = put_all_texts(alloc, store, chunks, &mut bytes, &mut offsets);
+    outcome.and(Ok(tested_texts(&bytes, &offsets)))
 }
 
 /// Puts each number that is some in its place.
@@ -193,19 +232,42 @@ fn put_options(flags: &mut [u8], numbers: &mut [u8], encoded: &[u8]) -> Result<(
     Ok(())
 }
 
+/// Puts the flags and the numbers of the chunk with this index in their places.
+fn put_chunk_options(
+    alloc: Global,
+    store: &MemoryStore,
+    index: usize,
+    flags: &mut [u8],
+    numbers: &mut [u8],
+) -> Result<()> {
+    let value = chunk_at(alloc, store, [0, index as u64])?;
+    put_options(flags, numbers, value.as_slice())
+}
+
+/// Puts the flags and the numbers of chunks of so many cells in their places.
+fn put_all_options(
+    alloc: Global,
+    store: &MemoryStore,
+    count: usize,
+    flags: &mut [u8],
+    numbers: &mut [u8],
+) -> Result<()> {
+    let step = count.max(1);
+    let parts = numbers.chunks_mut(step.saturating_mul(4));
+    for (index, (flags, numbers)) in flags.chunks_mut(step).zip(parts).enumerate() {
+        put_chunk_options(alloc, store, index, flags, numbers)?;
+    }
+    Ok(())
+}
+
 /// Reads the optional numbers of all chunks, 0 where there is none, and returns what some of them say.
 ///
 /// # Errors
 /// A chunk is absent, or out of memory.
 pub fn read_options(alloc: Global, store: &MemoryStore, chunks: Chunks) -> Result<u8> {
     let all = chunks.number.saturating_mul(chunks.count);
-    let step = chunks.count.max(1);
     let mut flags = vec![in alloc; 0; all]?;
     let mut numbers = vec![in alloc; 0; all.saturating_mul(4)]?;
-    let parts = numbers.chunks_mut(step.saturating_mul(4));
-    for (index, (flags, numbers)) in flags.chunks_mut(step).zip(parts).enumerate() {
-        let value = value_at(alloc, store, &key_of(alloc, [0, index as u64])?)?;
-        put_options(flags, numbers, value.as_slice())?;
-    }
-    Ok(tested_options(&flags, &numbers))
+    let outcome = put_all_options(alloc, store, chunks.count, &mut flags, &mut numbers);
+    outcome.and(Ok(tested_options(&flags, &numbers)))
 }

@@ -4,6 +4,7 @@ use crate::cases::{
     LARGE_SHARD, NUMBER_SHARD, OPTION_CHUNKS, OPTIONS, Part, SHARD, SHARDS, SMALL, SPREAD_TEXTS,
     SUBCHUNKS, TEXT_CHUNKS, TEXTS,
 };
+use crate::cells::Cells;
 use crate::chunks::{PlainReadChunks, PlainStoreChunks, ReadChunks, StoreChunks};
 use crate::works::{
     PlainLines, PlainPart, PlainRead, PlainStore, Read, ReadChunk, ReadPart, Store,
@@ -11,7 +12,7 @@ use crate::works::{
 use std::alloc::Global;
 use std::time::Clock;
 use zarrs_bench_rows::growth::{CHUNKS as BY_CHUNKS, DIMENSIONS, Scale};
-use zarrs_bench_rows::measure::Extent;
+use zarrs_bench_rows::measure::{Extent, Work};
 use zarrs_bench_rows::table::Table;
 
 /// What is measured, and against what.
@@ -192,16 +193,26 @@ pub fn print_rows<R: Clock + Print + Alloc<A = Global>>(table: &mut Table<'_, R>
 
 /// Prints a row.
 fn print_row<R: Clock + Print + Alloc<A = Global>>(table: &mut Table<'_, R>, row: Row) {
-    let Row(name, (works, form, part, len)) = row;
-    let (form, copied) = ((form, part), Extent::bytes(len));
+    let Row(_, (works, ..)) = row;
     match works {
-        Works::Store => table.row::<Store, PlainStore>(name, form, copied),
-        Works::Read => table.row::<Read, PlainRead>(name, form, copied),
-        Works::ReadByLines => table.row::<Read, PlainLines>(name, form, copied),
-        Works::ReadOfChunk => table.row::<Read, ReadChunk>(name, form, copied),
-        Works::Part => table.row::<ReadPart, PlainPart>(name, form, copied),
-        Works::PartOfChunk => table.row::<ReadPart, ReadChunk>(name, form, copied),
+        Works::Store => print_works::<R, Store, PlainStore>(table, row),
+        Works::Read => print_works::<R, Read, PlainRead>(table, row),
+        Works::ReadByLines => print_works::<R, Read, PlainLines>(table, row),
+        Works::ReadOfChunk => print_works::<R, Read, ReadChunk>(table, row),
+        Works::Part => print_works::<R, ReadPart, PlainPart>(table, row),
+        Works::PartOfChunk => print_works::<R, ReadPart, ReadChunk>(table, row),
     }
+}
+
+/// Measures these works, and prints the row.
+fn print_works<R, P, Q>(table: &mut Table<'_, R>, row: Row)
+where
+    R: Clock + Print + Alloc<A = Global>,
+    P: Work<Sample = Cells>,
+    Q: Work<Sample = Cells>,
+{
+    let Row(name, (_, form, part, len)) = row;
+    table.row::<P, Q>(name, (form, part), Extent::bytes(len));
 }
 
 /// A row of a table of growths: its name, whether the store is measured and not the read, and the array and the part of it.

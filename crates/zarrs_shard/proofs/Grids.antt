@@ -93,9 +93,3 @@ corner_at (n ∷ s) (c ∷ sub) (i ∷ is) zero cut in_grid lt =
 corner_at (n ∷ s) (c ∷ sub) (i ∷ is) (suc j) cut in_grid lt =
     let r = corner_at s sub is j (and_parts (nat_lt 0 c && eqb (n % c) 0) (is_cut_by s sub) cut).1 in_grid.1 (omega arith) in
     record { value = r.value; below = r.below; some = (let h = r.some in omega arith); long = ap suc r.long }
-
-pub corner_more : (s sub i : List ℕ) (j q : ℕ) (start : List ℕ) → is_cut_by s sub ≡ true → InShape (quotients s sub) i → j < length s → start ≡ take j (corner sub i) → q ≡ slice_index i j * slice_index sub j → start ++ q ∷ [] ≡ take (j + 1) (corner sub i)
-corner_more s sub i j q start cut in_grid lt is here =
-    let r = corner_at s sub i j cut in_grid lt in
-    ap (λ l. l ++ q ∷ []) is ∙ ap (λ x. take j (corner sub i) ++ x ∷ []) (here ∙ sym r.value)
-    ∙ sym (take_more (corner sub i) j 0 (omega (arith, r.long)))

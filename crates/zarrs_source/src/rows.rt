@@ -1,7 +1,7 @@
 //! The cells of a box of an array that stands in a source.
 ghost use Rattle.std.specs.Prelude.{◌≡◌, ◌+◌, ◌*◌, ◌<◌, ◌≤◌, ◌^◌, ◌++◌, IfOk, IfErr, OnOk, length};
 ghost use Rattle.zarrs_subset.specs.Boxes.{position_count, BoxFits};
-ghost use Rattle.zarrs_subset.specs.Regions.{LiesInShape, box_of};
+ghost use Rattle.zarrs_subset.specs.Regions.{LiesInShape, box_at_origin, box_of};
 ghost use Rattle.zarrs_source.specs.BoxReads.{CanReadBox, MayReadBox, box_bytes, cells_in};
 ghost use Rattle.zarrs_source.specs.Sources.{IsWindow, MayReadPlaces, RefusesSource, window_bytes};
 
@@ -64,6 +64,9 @@ pub fn read_box<B: ByteSource>(
     Ok(made)
 }
 
+/// The first position of an array of few dimensions.
+static ORIGIN: [u64; 8] = [0; 8];
+
 /// The cells of a box of an array of this shape, row-major: `len` bytes.
 fn gathered(
     alloc: Global,
@@ -80,7 +83,32 @@ fn gathered(
         array.now) }
 {
     let extents = part.shape();
+    if extents.len() <= ORIGIN.len() {
+        let origin = &ORIGIN[..extents.len()];
+        return gathered_to(alloc, array, shape, part, origin, size, len);
+    }
     let origin = vec![in alloc; 0; extents.len()]?;
+    gathered_to(alloc, array, shape, part, origin.as_slice(), size, len)
+}
+
+/// The same, with the first position of the box seen as an array of its own.
+fn gathered_to(
+    alloc: Global,
+    array: &[u8],
+    shape: &[u64],
+    part: &ArraySubset,
+    origin: &[u64],
+    size: usize,
+    len: usize,
+) -> Result<Vec<u8>, AllocError>
+    requires array_len { length array.now ≡ position_count shape.now * size }
+    requires part { BoxFits (box_of part.now).start (box_of part.now).shape shape.now }
+    requires origin { origin.now ≡ (box_at_origin (box_of part.now).shape).start }
+    requires len { len ≡ position_count (box_of part.now).shape * size }
+    ensures { IfOk result (λ made. made.items ≡ cells_in size shape.now (box_of part.now)
+        array.now) }
+{
+    let extents = part.shape();
     let mut made = vec![in alloc; 0; len]?;
     let from = Corner {
         shape,
@@ -88,7 +116,7 @@ fn gathered(
     };
     let to = Corner {
         shape: extents,
-        start: &origin,
+        start: origin,
     };
     copy_box(array, from, &mut made, to, extents, size);
     Ok(made)
