@@ -7,5 +7,6 @@ pub mod Made
 pub mod Parts
 pub mod Pieces
 pub mod Presence
+pub mod Spread
 pub mod Validity
 mod Periods

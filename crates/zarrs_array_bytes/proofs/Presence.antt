@@ -181,13 +181,13 @@ spread-at (flag ∷ mask) (d ∷ ds) (suc i) lt enough = go (flag == 0) refl (λ
         there (omega (arith, left false e))
         ∙ ap (λ n. cond (slice_index mask i == 0) none (some (get_or (d ∷ ds) n none))) (let same : suc (count_by flag_set (take i mask)) ≡ count_by flag_set (flag ∷ take i mask) = omega (arith, rank false e) in same)
 
-rank_below : (mask : List ℕ) (i : ℕ) → i < length mask → (slice_index mask i == 0) ≡ false → count_by flag_set (take i mask) < count_by flag_set mask
+pub rank_below : (mask : List ℕ) (i : ℕ) → i < length mask → (slice_index mask i == 0) ≡ false → count_by flag_set (take i mask) < count_by flag_set mask
 rank_below mask i lt there =
     let more = count_by_more_yes flag_set mask i 0 lt (ap not there) in
     let within = sum_by-take-le (λ x. cond (flag_set x) 1 0) mask (i + 1) in
     omega arith
 
-ranks_within : (mask : List ℕ) → 0 < count_by flag_set mask → All (λ p. p < count_by flag_set mask) (ranks_set mask (length mask))
+pub ranks_within : (mask : List ℕ) → 0 < count_by flag_set mask → All (λ p. p < count_by flag_set mask) (ranks_set mask (length mask))
 ranks_within mask some_there k d lt =
     let f : ℕ → ℕ = λ i. cond (slice_index mask i == 0) 0 (count_by flag_set (take i mask)) in
     let here : k < length mask = omega (arith, length-map-range_with_len f 0 (length mask)) in

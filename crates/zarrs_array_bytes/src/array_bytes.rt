@@ -20,6 +20,7 @@ mod fixed;
 mod part;
 mod present;
 mod select;
+mod spread;
 mod validate;
 
 /// The cells of an array or of a part of it, in row-major order.

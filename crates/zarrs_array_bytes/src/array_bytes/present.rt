@@ -1,9 +1,9 @@
 //! The inner cells of optional data that are some, and optional data made of them.
-ghost use Rattle.std.specs.Prelude.{◌≡◌, ◌<◌, ◌*◌, ◌^◌, ℕ, true, All, IfOk, IfSome, IsSome, IsTrue};
+ghost use Rattle.std.specs.Prelude.{◌≡◌, ◌<◌, ◌*◌, ◌^◌, All, IfOk, IfSome, IsSome};
 ghost use Rattle.std.specs.Prelude.{Some, length, count_by};
 ghost use Rattle.zarrs_array_bytes.specs.ArrayData.{data_of, optional_data};
-ghost use Rattle.zarrs_array_bytes.specs.Cells.{cells, fits, HasCells, IsSelection};
-ghost use Rattle.zarrs_array_bytes.specs.Present.{flag_set, places_set, ranks_set, present_cells};
+ghost use Rattle.zarrs_array_bytes.specs.Cells.{cells, HasCells};
+ghost use Rattle.zarrs_array_bytes.specs.Present.{flag_set, places_set, present_cells};
 ghost use Rattle.zarrs_array_bytes.specs.Present.{spread_cells};
 ghost use Rattle.zarrs_types.specs.Kind.{kind, cell_size, optional};
 
@@ -26,47 +26,7 @@ fn places_set(alloc: Global, mask: &[u8]) -> Result<Vec<usize>, AllocError>
     Ok(places)
 }
 
-/// For each flag that is set, how many are set before it; for another one 0.
-fn ranks_set(alloc: Global, mask: &[u8]) -> Result<Vec<usize>, AllocError>
-    ensures { IfOk result (λ ranks. ranks.items ≡ ranks_set mask.now (length mask.now)) }
-{
-    let mut ranks = Vec::with_capacity(alloc, mask.len())?;
-    let mut count = 0;
-    for index in 0..mask.len() {
-        if mask[index] == 0 {
-            ranks.push(0)?;
-        } else {
-            ranks.push(count)?;
-            count += 1;
-        }
-    }
-    Ok(ranks)
-}
-
 impl<'a> ArrayBytes<'a> {
-    /// The cells at these places; any cells if there are none to take.
-    fn spread(
-        &self,
-        alloc: Global,
-        data_type: &DataType,
-        places: &[usize],
-    ) -> Result<ArrayBytes<'static>, AllocError>
-        requires cells { (n : ℕ) × IsTrue (fits (kind data_type.now) (data_of self.now) n)
-            × (0 < n → All (λ p. p < n) places.now) }
-        requires size { length places.now * cell_size (kind data_type.now) < 2 ^ 64 }
-        ensures kind { IfOk result (λ made. IsTrue (fits (kind data_type.now) (data_of made)
-            (length places.now))) }
-        ensures cells { IfOk result (λ made. (n : ℕ)
-            → fits (kind data_type.now) (data_of self.now) n ≡ true → 0 < n
-            → IsSelection (kind data_type.now) (data_of made) (data_of self.now) places.now) }
-    {
-        if self.fits(data_type, 0) {
-            ArrayBytes::missing(alloc, data_type, places.len())
-        } else {
-            self.select(alloc, data_type, places)
-        }
-    }
-
     /// Data of an optional type: a cell whose flag is 0 is none, the others are some of the present cells in their
     /// order. `inner` is the inner type.
     ///
@@ -86,8 +46,7 @@ impl<'a> ArrayBytes<'a> {
             (λ ds. cells (optional (kind inner.now)) (data_of made)
             ≡ Some (spread_cells mask.items ds))) }
     {
-        let ranks = ranks_set(alloc, mask.as_slice())?;
-        let data = present.spread(alloc, inner, ranks.as_slice())?;
+        let data = present.spread(alloc, inner, mask.as_slice())?;
         data.with_optional_mask(alloc, CowSlice::Owned(mask))
     }
 }

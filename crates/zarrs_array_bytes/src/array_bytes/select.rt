@@ -13,7 +13,7 @@ use zarrs_byte_strings::{ArrayBytesVariableLength, VariableLengthBuilder};
 use zarrs_types::DataType;
 
 /// The cells of one size at these places, one after another.
-fn select_fixed(
+pub(super) fn select_fixed(
     alloc: Global,
     bytes: &[u8],
     size: usize,

@@ -1,28 +1,23 @@
-use Rattle.std.proofs.Common.{◌≡◌, ◌∙◌, ap, length}
+use Rattle.std.proofs.Common.{◌≡◌, ℕ, ◌<◌, true, ◌∙◌, refl, sym, ap, subst, length}
 use Rattle.std.proofs.lemmas.Result.{IfOk-weaker}
 use Rattle.zarrs_types.specs.Kind.{kind}
 use Rattle.zarrs_array_bytes.specs.ArrayData.{data_of}
+use Rattle.zarrs_array_bytes.specs.Cells.{fits, IsSelection}
 use Rattle.zarrs_array_bytes.specs.Present.{ranks_set}
-use Rattle.zarrs_array_bytes.proofs.Presence.{spread-within, length-ranks, cells-spread}
+use Rattle.zarrs_array_bytes.proofs.Presence.{length-ranks, cells-spread}
 use Rattle.zarrs_array_bytes.proofs.array_bytes.ArrayBytes.from_present.Goals as goal
-
-pub spread-requires-clause-cells : goal.spread-requires-clause-cells
-spread-requires-clause-cells c =
-    let ranks : c.as_slice-2.result.now ≡ ranks_set c.args.mask.items (length c.args.mask.items) =
-    c.as_slice-2.ensures.value ∙ c.in_ok-ranks.ensures ∙ ap (λ m. ranks_set m (length m)) c.as_slice.ensures.value in
-    spread-within (kind c.args.inner.now) (data_of c.args.present.now) c.args.mask.items c.as_slice-2.result.now c.requires.present ranks
-
-pub spread-requires-clause-size : goal.spread-requires-clause-size
-spread-requires-clause-size c =
-    let ranks : c.as_slice-2.result.now ≡ ranks_set c.args.mask.items (length c.args.mask.items) =
-    c.as_slice-2.ensures.value ∙ c.in_ok-ranks.ensures ∙ ap (λ m. ranks_set m (length m)) c.as_slice.ensures.value in
-    rw (ap length ranks ∙ length-ranks c.args.mask.items) c.requires.size
 
 pub returns : goal.returns
 returns c =
-    let ranks : c.as_slice-2.result.now ≡ ranks_set c.args.mask.items (length c.args.mask.items) =
-    c.as_slice-2.ensures.value ∙ c.in_ok-ranks.ensures ∙ ap (λ m. ranks_set m (length m)) c.as_slice.ensures.value in
+    let k = kind c.args.inner.now in
+    let dense = data_of c.args.present.now in
+    let made = data_of c.in_ok-data.data in
+    let mask = c.args.mask.items in
+    let same : c.as_slice.result.now ≡ mask = c.as_slice.ensures.value in
+    let fit : fits k made (length (ranks_set mask (length mask))) ≡ true =
+    subst (λ n. fits k made n ≡ true) (ap length same ∙ sym (length-ranks mask)) c.in_ok-data.ensures.kind in
+    let selected : (n : ℕ) → fits k dense n ≡ true → 0 < n → IsSelection k made dense (ranks_set mask (length mask)) =
+    subst (λ m. (n : ℕ) → fits k dense n ≡ true → 0 < n → IsSelection k made dense (ranks_set m (length m))) same c.in_ok-data.ensures.cells in
     IfOk-weaker c.with_optional_mask.result _ _
-    (λ made is. rw is (cells-spread c.args.inner.now (data_of c.args.present.now) (data_of c.in_ok-data.data) c.args.mask.items c.as_slice-2.result.now
-    c.requires.flags c.requires.present ranks c.in_ok-data.ensures.kind c.in_ok-data.ensures.cells))
+    (λ all is. rw is (cells-spread c.args.inner.now dense made mask (ranks_set mask (length mask)) c.requires.flags c.requires.present refl fit selected))
     c.with_optional_mask.ensures

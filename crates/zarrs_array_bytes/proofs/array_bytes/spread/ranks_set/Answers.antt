@@ -2,8 +2,8 @@ use Rattle.std.proofs.Common.{ap, sym, ◌∙◌, ◌+◌, ◌++◌, ◌∷◌, 
 use Rattle.std.proofs.lemmas.List.Sums.{count_by_more_yes, count_by_more_no}
 use Rattle.zarrs_array_bytes.specs.Present.{flag_set, ranks_set}
 use Rattle.zarrs_array_bytes.proofs.Presence.{ranks-set, ranks-unset, set-flag, unset-flag}
-use Rattle.zarrs_array_bytes.proofs.array_bytes.present.ranks_set.Goals as goal
-use Rattle.zarrs_array_bytes.proofs.array_bytes.present.ranks_set.Goals.{then-mask-index-eq0+in_ok-push, else-mask-index-eq0+in_ok-push-2}
+use Rattle.zarrs_array_bytes.proofs.array_bytes.spread.ranks_set.Goals as goal
+use Rattle.zarrs_array_bytes.proofs.array_bytes.spread.ranks_set.Goals.{then-mask-index-eq0+in_ok-push, else-mask-index-eq0+in_ok-push-2}
 
 pub loop-index-preserved : goal.loop-index-preserved
 loop-index-preserved c =

@@ -1,7 +1,7 @@
 use Rattle.std.proofs.Common.{◌≡◌, take}
 use Rattle.std.specs.Prelude.{count_by}
 use Rattle.zarrs_array_bytes.specs.Present.{ranks_set, flag_set}
-use Rattle.zarrs_array_bytes.proofs.array_bytes.present.ranks_set.Given as goal
+use Rattle.zarrs_array_bytes.proofs.array_bytes.spread.ranks_set.Given as goal
 
 abbrev pub invariant-loop-index : goal.invariant-loop-index
 invariant-loop-index l = record {
