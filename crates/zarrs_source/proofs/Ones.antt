@@ -39,10 +39,10 @@ fits-without_ones (s ∷ start) (e ∷ extents) [] fits = absurd fits
 fits-without_ones (s ∷ start) (e ∷ extents) (n ∷ shape) fits =
     fits_step n s e (without_ones shape shape) (without_ones shape start) (without_ones shape extents) (eqb n 1) fits.0 (fits-without_ones start extents shape fits.1)
 
-first_some : (e : ℕ) (extents : List ℕ) → AllSome (e ∷ extents) → 0 < e
+pub first_some : (e : ℕ) (extents : List ℕ) → AllSome (e ∷ extents) → 0 < e
 first_some e extents some = let here : e ≡ 0 → ⊥ = some zero (omega arith) in omega arith
 
-rest_some : (e : ℕ) (extents : List ℕ) → AllSome (e ∷ extents) → AllSome extents
+pub rest_some : (e : ℕ) (extents : List ℕ) → AllSome (e ∷ extents) → AllSome extents
 rest_some e extents some k below none = some (suc k) (omega arith) none
 
 -- the only index of a dimension of extent 1

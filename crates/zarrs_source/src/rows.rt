@@ -1,19 +1,21 @@
 //! The cells of a box of an array that stands in a source.
 ghost use Rattle.std.specs.Prelude.{◌≡◌, ◌+◌, ◌*◌, ◌<◌, ◌≤◌, ◌^◌, ◌++◌, IfOk, IfErr, OnOk, length};
-ghost use Rattle.zarrs_subset.specs.Boxes.{position_count, BoxFits};
-ghost use Rattle.zarrs_subset.specs.Regions.{LiesInShape, box_of};
-ghost use Rattle.zarrs_source.specs.BoxReads.{CanReadBox, MayReadBox, box_bytes, cells_in};
+ghost use Rattle.zarrs_subset.specs.Boxes.{position_count, place, BoxFits, InShape};
+ghost use Rattle.zarrs_subset.specs.Regions.{LiesInShape, box_at_origin, box_of};
+ghost use Rattle.zarrs_source.specs.BoxReads.{CanReadBox, MayReadBox, box_bytes, cells_in, is_run};
+ghost use Rattle.zarrs_source.specs.BoxReads.{run_from};
 ghost use Rattle.zarrs_source.specs.Sources.{IsWindow, MayReadPlaces, RefusesSource, window_bytes};
 
 use crate::source::{ByteSource, Window};
 use std::alloc::{AllocError, Global};
 use zarrs_storage::StorageError;
-use zarrs_subset::{ArraySubset, Corner, copy_box, without_ones};
+use zarrs_subset::{ArraySubset, Corner, copy_box, ravel_indices, without_ones};
 
 /// The cells of a box of an array of this shape whose bytes are those of a window, row-major. A cell has `size` bytes.
 ///
-/// What the source lends is copied once, in runs of cells that stand together. Otherwise each run is one read: one for
-/// each row of the box, and fewer if its last dimensions are whole. Nothing is read of a box without cells.
+/// Cells that stand one after another are one read and one copy. Otherwise what the source lends is copied once, in
+/// runs of cells that stand together, and of another source each run is one read: one for each row of the box, and
+/// fewer if its last dimensions are whole. Nothing is read of a box without cells.
 ///
 /// # Errors
 /// What the source says if it refuses; `OutOfMemory`.
@@ -43,12 +45,20 @@ pub fn read_box<B: ByteSource>(
     let Ok(count) = part.num_elements() else {
         unreachable!()
     };
-    let len = (count * size) as usize;
+    let len = count * size;
+    let start = part.start();
+    let extents = part.shape();
+    if is_run(shape, extents) {
+        let run = run_at(window, shape, start, size, len);
+        let bytes = source.read(alloc, run)?;
+        return Ok(Vec::from_slice(alloc, bytes.as_slice())?);
+    }
+    let len = len as usize;
     if let Some(bytes) = source.lent() {
         return Ok(gathered(alloc, window.slice(bytes), shape, part, size as usize, len)?);
     }
-    let kept_extents = without_ones(alloc, shape, part.shape())?;
-    let kept_start = without_ones(alloc, shape, part.start())?;
+    let kept_extents = without_ones(alloc, shape, extents)?;
+    let kept_start = without_ones(alloc, shape, start)?;
     let kept_shape = without_ones(alloc, shape, shape)?;
     let mut made = Vec::with_capacity(alloc, len)?;
     read_rows(
@@ -63,6 +73,44 @@ pub fn read_box<B: ByteSource>(
     )?;
     Ok(made)
 }
+
+/// Whether the cells of a box of these extents stand one after another in an array of this shape.
+fn is_run(shape: &[u64], extents: &[u64]) -> bool
+    ensures { result ≡ is_run shape.now extents.now }
+{
+    let mut outer = shape;
+    let mut rest = extents;
+    while let Some((count, inner_extents)) = rest.split_first() {
+        let Some((_, inner)) = outer.split_first() else {
+            return true;
+        };
+        if *count != 1 {
+            return inner_extents == inner;
+        }
+        outer = inner;
+        rest = inner_extents;
+    }
+    true
+}
+
+/// The window of `len` bytes from the cell at `start` of the array in this window.
+fn run_at(window: Window, shape: &[u64], start: &[u64], size: u64, len: u64) -> Window
+    requires start { InShape shape.now start.now }
+    requires fits { window.offset + place shape.now start.now * size + len < 2 ^ 64 }
+    requires size { 0 < size }
+    ensures { result ≡ run_from window size shape.now start.now len }
+{
+    let Some(first) = ravel_indices(start, shape) else {
+        unreachable!()
+    };
+    Window {
+        offset: window.offset + first * size,
+        len,
+    }
+}
+
+/// The first position of an array of few dimensions.
+static ORIGIN: [u64; 8] = [0; 8];
 
 /// The cells of a box of an array of this shape, row-major: `len` bytes.
 fn gathered(
@@ -80,7 +128,32 @@ fn gathered(
         array.now) }
 {
     let extents = part.shape();
+    if extents.len() <= ORIGIN.len() {
+        let origin = &ORIGIN[..extents.len()];
+        return gathered_to(alloc, array, shape, part, origin, size, len);
+    }
     let origin = vec![in alloc; 0; extents.len()]?;
+    gathered_to(alloc, array, shape, part, &origin, size, len)
+}
+
+/// The same, with the first position of the box seen as an array of its own.
+fn gathered_to(
+    alloc: Global,
+    array: &[u8],
+    shape: &[u64],
+    part: &ArraySubset,
+    origin: &[u64],
+    size: usize,
+    len: usize,
+) -> Result<Vec<u8>, AllocError>
+    requires array_len { length array.now ≡ position_count shape.now * size }
+    requires part { BoxFits (box_of part.now).start (box_of part.now).shape shape.now }
+    requires origin { origin.now ≡ (box_at_origin (box_of part.now).shape).start }
+    requires len { len ≡ position_count (box_of part.now).shape * size }
+    ensures { IfOk result (λ made. made.items ≡ cells_in size shape.now (box_of part.now)
+        array.now) }
+{
+    let extents = part.shape();
     let mut made = vec![in alloc; 0; len]?;
     let from = Corner {
         shape,
@@ -88,7 +161,7 @@ fn gathered(
     };
     let to = Corner {
         shape: extents,
-        start: &origin,
+        start: origin,
     };
     copy_box(array, from, &mut made, to, extents, size);
     Ok(made)
