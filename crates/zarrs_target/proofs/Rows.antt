@@ -1,93 +1,24 @@
 -- A box as rows: what lies together in the parent, row after row.
-use Rattle.std.proofs.Common.{◌≡◌, ◌≢◌, ◌/◌, ◌%◌, ℕ, zero, suc, ◌+◌, ◌-◌, ◌*◌, ◌<◌, ◌≤◌, Bool, true, false, cond, ◌&&◌, nat_le, nat_lt, List, [], ◌∷◌, length, take, drop, get_or, slice_index, inl, inr, ◌⊎◌, refl, sym, ap, ◌∙◌, arith, rules}
-use Rattle.std.specs.List.{repeat}
+use Rattle.std.proofs.Common.{◌≡◌, ◌≢◌, ℕ, zero, suc, ◌+◌, ◌-◌, ◌*◌, ◌<◌, ◌≤◌, true, false, cond, ◌&&◌, ◌==◌, nat_le, nat_lt, List, [], ◌∷◌, length, take, drop, get_or, slice_index, inl, inr, ◌⊎◌, refl, sym, ap, ◌∙◌, arith, rules}
+use Rattle.std.specs.List.{copy_within, prefix_len, repeat}
 use Rattle.std.proofs.Math.Nat.{add-mul, mul-le-mul_left, mul-le-mul_right, mul_assoc}
-use Rattle.std.proofs.lemmas.Nat.{mod_below}
-use Rattle.std.proofs.Math.Nat.{div-one}
-use Rattle.std.proofs.lemmas.Bool.{and_parts, and_from, cases_Bool, cases_eq, cases_lt, cases_order, cond-true, cond-false, false≢true, le-leb, lt-ltb, leb-true, ltb-true}
+use Rattle.std.proofs.Math.Seq.{paste}
+use Rattle.std.proofs.lemmas.Bool.{and_parts, and_from, cases_Bool, cases_eq, cases_lt, cases_order, cond-true, cond-false, false≢true, eqb-true, le-leb, lt-ltb, leb-true, ltb-true}
 use Rattle.std.proofs.lemmas.Bool.Decides.{nat_tests}
-use Rattle.std.proofs.lemmas.List.{drop_all, drop_more, get_or-replicate, places}
+use Rattle.std.proofs.lemmas.List.{get_or-replicate, get_or-take, places}
+use Rattle.std.proofs.lemmas.List.Sums.{prefix_len-le-length, prefix_len_passes}
 use Rattle.std.proofs.lemmas.List.FromFn.{get_or-map-range_with_len}
+use Rattle.std.proofs.lemmas.Slice.{between-put_mid, between_is, overwrites, take-put_mid_below}
 use borrow.Rule.Slice.PartMut.{put_mid}
-use Rattle.zarrs_subset.specs.Boxes.{position_count, InShape, place, BoxFits, in_range, is_within, offset_from, offset_by, unravel}
+use Rattle.zarrs_subset.specs.Boxes.{position_count, InShape, place, BoxFits, in_range, is_within}
 use Rattle.zarrs_subset.specs.Pieces.{piece_at}
 use Rattle.zarrs_subset.specs.Regions.{Box, IsLong, box_at_origin, in_box, place_in}
 use Rattle.zarrs_subset.proofs.Kernel.{block_order, cell_ends, get_or-put_mid_above, get_or-put_mid_below, get_or-put_mid_inside, piece_at-same, place_below}
-use Rattle.zarrs_subset.proofs.Joined.{BoxFits-take, count_split, count_within, length_shape}
-use Rattle.zarrs_subset.proofs.BoxRuns.{AllSome-fits, fits_at}
 use Rattle.zarrs_subset.proofs.Bytes.{place_in_below}
-use Rattle.zarrs_subset.proofs.Counts.{AllSome-drop, count_drop, count_some, count_zero, quotient_more, unravel_more}
-use Rattle.zarrs_subset.proofs.Nothing.{length_fits}
-use Rattle.zarrs_subset.proofs.Overlaps.{AllSome}
-use Rattle.zarrs_subset.proofs.Positions.{in_box-offset_by, offset_by-from, offset_from-by, offset_from-in, place-unravel, unravel-place, unravel_in}
 use Rattle.zarrs_array_bytes.specs.Parts.{TakesAt}
 use Rattle.zarrs_array_bytes.proofs.Pieces.{length-repeat, pieces-repeat}
 use Rattle.zarrs_target.specs.Targets.{IsFilledBox}
 use Rattle.zarrs_target.proofs.Copies.{in_parent, place_in_parent}
-
--- ---- a position in two parts
-
-pub in_split : (k : ℕ) (shape p : List ℕ) → InShape shape p → InShape (take k shape) (take k p) × InShape (drop k shape) (drop k p)
-in_split zero shape p inside = (tt, inside)
-in_split (suc k) [] [] inside = (tt, tt)
-in_split (suc k) [] (i ∷ p) inside = absurd inside
-in_split (suc k) (n ∷ shape) [] inside = absurd inside
-in_split (suc k) (n ∷ shape) (i ∷ p) inside = let rest = in_split k shape p inside.1 in ((inside.0, rest.0), rest.1)
-
-pub place_split : (k : ℕ) (shape p : List ℕ) → InShape shape p → place shape p ≡ place (take k shape) (take k p) * position_count (drop k shape) + place (drop k shape) (drop k p)
-place_split zero shape p inside = omega arith
-place_split (suc k) [] [] inside = omega arith
-place_split (suc k) [] (i ∷ p) inside = absurd inside
-place_split (suc k) (n ∷ shape) [] inside = absurd inside
-place_split (suc k) (n ∷ shape) (i ∷ p) inside =
-    let front = place (take k shape) (take k p) in
-    let back = position_count (drop k shape) in
-    omega (
-      arith,
-      place_split k shape p inside.1,
-      ap (λ c. i * c) (count_split shape k),
-      mul_assoc i (position_count (take k shape)) back,
-      add-mul (i * position_count (take k shape)) front back,
-    )
-
-and_assoc : (a b c : Bool) → (a && (b && c)) ≡ ((a && b) && c)
-and_assoc true b c = refl
-and_assoc false b c = refl
-
-pub within_split : (k : ℕ) (start extents shape p : List ℕ) → BoxFits start extents shape → InShape shape p
-    → is_within start extents p ≡ (is_within (take k start) (take k extents) (take k p) && is_within (drop k start) (drop k extents) (drop k p))
-within_split zero start extents shape p fits inside = refl
-within_split (suc k) [] [] [] [] fits inside = refl
-within_split (suc k) [] [] [] (i ∷ p) fits inside = absurd inside
-within_split (suc k) [] [] (n ∷ shape) p fits inside = absurd fits
-within_split (suc k) [] (e ∷ extents) shape p fits inside = absurd fits
-within_split (suc k) (s ∷ start) [] shape p fits inside = absurd fits
-within_split (suc k) (s ∷ start) (e ∷ extents) [] p fits inside = absurd fits
-within_split (suc k) (s ∷ start) (e ∷ extents) (n ∷ shape) [] fits inside = absurd inside
-within_split (suc k) (s ∷ start) (e ∷ extents) (n ∷ shape) (i ∷ p) fits inside =
-    ap (λ b. in_range s e i && b) (within_split k start extents shape p fits.1 inside.1)
-    ∙ and_assoc (in_range s e i) (is_within (take k start) (take k extents) (take k p)) (is_within (drop k start) (drop k extents) (drop k p))
-
-pub fits_drop : (k : ℕ) (start extents shape : List ℕ) → BoxFits start extents shape → BoxFits (drop k start) (drop k extents) (drop k shape)
-fits_drop zero start extents shape fits = fits
-fits_drop (suc k) [] [] [] fits = tt
-fits_drop (suc k) [] [] (n ∷ shape) fits = absurd fits
-fits_drop (suc k) [] (e ∷ extents) shape fits = absurd fits
-fits_drop (suc k) (s ∷ start) [] shape fits = absurd fits
-fits_drop (suc k) (s ∷ start) (e ∷ extents) [] fits = absurd fits
-fits_drop (suc k) (s ∷ start) (e ∷ extents) (n ∷ shape) fits = fits_drop k start extents shape fits.1
-
-pub in_offset : (start extents shape q : List ℕ) → BoxFits start extents shape → InShape extents q → InShape shape (offset_by start q)
-in_offset [] [] [] q fits inside = tt
-in_offset [] [] (n ∷ shape) q fits inside = absurd fits
-in_offset [] (e ∷ extents) shape q fits inside = absurd fits
-in_offset (s ∷ start) [] shape q fits inside = absurd fits
-in_offset (s ∷ start) (e ∷ extents) [] q fits inside = absurd fits
-in_offset (s ∷ start) (e ∷ extents) (n ∷ shape) [] fits inside = absurd inside
-in_offset (s ∷ start) (e ∷ extents) (n ∷ shape) (j ∷ q) fits inside =
-    let room : s + e ≤ n = fits.0 in
-    let below : j < e = inside.0 in
-    (omega arith, in_offset start extents shape q fits.1 inside.1)
 
 -- ---- one row: a box whose dimensions behind the first are whole
 
@@ -204,123 +135,19 @@ piece_outside size first len c w xs ys begin room long ends (inr past) =
     piece_at-same size c c (put_mid w (len * size) xs ys) xs (omega (arith, length_put w (len * size) xs ys room long)) ends
     (λ b lt. get_or-put_mid_above w (len * size) (c * size + b) xs ys room long (omega (arith, add-mul first len size)))
 
--- ---- rows
-
--- the number of the row of a position, if its first `k` dimensions number the rows
-abbrev pub row_number : ℕ → List ℕ → List ℕ → List ℕ → ℕ
-row_number k start extents p = place (take k extents) (offset_from (take k start) (take k p))
-
--- the first `rows` rows of the box have the piece, and every other piece is the old one
-abbrev pub RowsFilled : ℕ → ℕ → List ℕ → List ℕ → List ℕ → List ℕ → List ℕ → List ℕ → ℕ → Type 0
-RowsFilled size k shape start extents piece old new rows =
-    (p : List ℕ) → InShape shape p
-    → piece_at size new (place shape p) ≡ cond (is_within start extents p && nat_lt (row_number k start extents p) rows) piece (piece_at size old (place shape p))
-
-place_same : (shape p q : List ℕ) → InShape shape p → InShape shape q → place shape p ≡ place shape q → p ≡ q
-place_same shape p q inside inside' same = sym (unravel-place shape p inside) ∙ ap (unravel shape) same ∙ unravel-place shape q inside'
-
--- a position of the row, and one outside it
-record IsInRow (k : ℕ) (shape start extents p : List ℕ) (row first : ℕ) : Type 0 where
-  j : ℕ
-  within : is_within start extents p ≡ true
-  number : row_number k start extents p ≡ row
-  below : j < position_count (drop k extents)
-  at : place shape p ≡ first + j
-
-record IsElsewhere (k : ℕ) (shape start extents p : List ℕ) (row first : ℕ) : Type 0 where
-  same : (is_within start extents p && nat_lt (row_number k start extents p) (row + 1)) ≡ (is_within start extents p && nat_lt (row_number k start extents p) row)
-  apart : (place shape p < first) ⊎ (first + position_count (drop k extents) ≤ place shape p)
-
-not_within : (b x y : Bool) → b ≡ false → (b && x) ≡ (b && y)
-not_within true x y out = absurd (false≢true (sym out))
-not_within false x y out = refl
-
-lt_same : (n r : ℕ) → n ≢ r → nat_lt n (r + 1) ≡ nat_lt n r
-lt_same n r other = grind (arith, nat_tests)
-
-pub drop_one : {X : Type 0} (k : ℕ) (xs : List X) → drop 1 (drop k xs) ≡ drop (k + 1) xs
-drop_one k xs = search (rules, places)
-
-row_case : (k : ℕ) (shape start extents p : List ℕ) (row first : ℕ) → BoxFits start extents shape → drop (k + 1) shape ≡ drop (k + 1) extents → InShape shape p
-    → row < position_count (take k extents)
-    → first ≡ place (take k shape) (offset_by (take k start) (unravel (take k extents) row)) * position_count (drop k shape) + place (drop k shape) (drop k start)
-    → IsInRow k shape start extents p row first ⊎ IsElsewhere k shape start extents p row first
-row_case k shape start extents p row first fits whole inside below first_is =
-    let outer_fits = BoxFits-take start extents shape k fits in
-    let long = length_fits (take k start) (take k extents) (take k shape) outer_fits in
-    let parts = in_split k shape p inside in
-    let u = unravel (take k extents) row in
-    let u_in = unravel_in (take k extents) row below in
-    let q = offset_by (take k start) u in
-    let there = place (take k shape) q in
-    let here = place (take k shape) (take k p) in
-    let N = drop k shape in
-    let S = drop k start in
-    let E = drop k extents in
-    let stride = position_count N in
-    let j = place N (drop k p) in
-    let inner_fits = fits_drop k start extents shape fits in
-    let inner_whole : drop 1 N ≡ drop 1 E = drop_one k shape ∙ whole ∙ sym (drop_one k extents) in
-    let split = within_split k start extents shape p fits inside in
-    let number = place_split k shape p inside in
-    let j_below = place_below N (drop k p) parts.1 in
-    let ends = row_ends S E N inner_fits inner_whole in
-    elim (cases_eq here there) [
-      | inl same ↦
-          let is : take k p ≡ q = place_same (take k shape) (take k p) q parts.0 (in_offset (take k start) (take k extents) (take k shape) u outer_fits u_in) same in
-          let outer : is_within (take k start) (take k extents) (take k p) ≡ true = ap (λ v. is_within (take k start) (take k extents) v) is ∙ in_box-offset_by (take k start) (take k extents) u long u_in in
-          let row_is : row_number k start extents p ≡ row =
-          ap (λ v. place (take k extents) (offset_from (take k start) v)) is ∙ ap (λ v. place (take k extents) v) (offset_from-by (take k start) (take k extents) u long u_in)
-          ∙ place-unravel (take k extents) row below in
-          let blocks = ap (λ v. v * stride) same in
-          elim (cases_Bool (is_within S E (drop k p))) [
-            | inl hit ↦
-                let span = row_from S E N (drop k p) inner_fits inner_whole parts.1 hit in
-                inl (record {
-                  j = j - place N S;
-                  within = split ∙ and_from _ _ outer hit;
-                  number = row_is;
-                  below = omega (arith, span.0, span.1);
-                  at = omega (arith, span.0, blocks, number, first_is);
-                })
-            | inr miss ↦
-                let out : is_within start extents p ≡ false = split ∙ ap (λ b. is_within (take k start) (take k extents) (take k p) && b) miss ∙ and_none (is_within (take k start) (take k extents) (take k p)) in
-                inr (record {
-                  same = not_within (is_within start extents p) _ _ out;
-                  apart = elim (cases_lt j (place N S)) [
-                    | inl low ↦ inl (omega (arith, blocks, number, first_is))
-                    | inr from ↦ elim (cases_lt j (place N S + position_count E)) [
-                      | inl high ↦ absurd (false≢true (sym miss ∙ row_back S E N (drop k p) inner_fits inner_whole parts.1 from high))
-                      | inr past ↦ inr (omega (arith, blocks, number, first_is))
-                    ]
-                  ];
-                })
-          ]
-      | inr other ↦
-          let same_number : is_within start extents p ≡ true → row_number k start extents p ≡ row → ⊥ = λ within is.
-          let outer = (and_parts (is_within (take k start) (take k extents) (take k p)) (is_within S E (drop k p)) (sym split ∙ within)).0 in
-          let o = offset_from (take k start) (take k p) in
-          let o_in = offset_from-in (take k start) (take k extents) (take k p) long outer in
-          let o_is : o ≡ u = sym (unravel-place (take k extents) o o_in) ∙ ap (λ n. unravel (take k extents) n) is in
-          other (ap (λ v. place (take k shape) v) (sym (offset_by-from (take k start) (take k extents) (take k p) long outer) ∙ ap (λ v. offset_by (take k start) v) o_is)) in
-          inr (record {
-            same = elim (cases_Bool (is_within start extents p)) [
-              | inl within ↦ ap (λ b. is_within start extents p && b) (lt_same (row_number k start extents p) row (same_number within))
-              | inr out ↦ not_within (is_within start extents p) _ _ out
-            ];
-            apart = elim (cases_order here there) [
-              | inl e ↦ absurd (other e)
-              | inr o ↦ elim o [
-                | inl lt ↦ let order = block_order here there stride lt in inl (omega (arith, order, number, first_is, j_below))
-                | inr gt ↦ let order = block_order there here stride gt in inr (omega (arith, order, number, first_is, ends))
-              ]
-            ];
-          })
-    ]
+-- a piece of a part
+piece_part : (size first len j w wk : ℕ) (xs : List ℕ) → w ≡ first * size → wk ≡ len * size → w + wk ≤ length xs → j < len → piece_at size (take wk (drop w xs)) j ≡ piece_at size xs (first + j)
+piece_part size first len j w wk xs begin count room below =
+    let part_len : length (take wk (drop w xs)) ≡ wk = search (rules, places) in
+    let ends = cell_ends size j len wk below count in
+    let sum : (first + j) * size ≡ w + j * size = omega (arith, add-mul first j size) in
+    piece_at-same size j (first + j) (take wk (drop w xs)) xs (omega (arith, part_len)) (omega arith) (λ b lt.
+    let inside : j * size + b < wk = omega arith in
+    let at : w + (j * size + b) ≡ (first + j) * size + b = omega arith in
+    part_at w wk (j * size + b) xs inside ∙ ap (λ n. get_or xs n 0) at)
   where
-    and_none : (b : Bool) → (b && false) ≡ false
-    and_none true = refl
-    and_none false = refl
+    part_at : (a k r : ℕ) (xs : List ℕ) → r < k → get_or (take k (drop a xs)) r 0 ≡ get_or xs (a + r) 0
+    part_at a k r xs below = search (rules, places)
 
 -- each of the pieces of a piece that is repeated
 pub repeat_piece : (p : List ℕ) (n i : ℕ) → i < n → piece_at (length p) (repeat n p) i ≡ p
@@ -329,59 +156,435 @@ repeat_piece p n i below =
     ∙ ap (λ l. get_or l i []) (pieces-repeat p n)
     ∙ get_or-replicate n i p [] below
 
--- one more row
-pub rows_step : (k row first w wk : ℕ) (shape start extents piece old mid sub : List ℕ) → BoxFits start extents shape → drop (k + 1) shape ≡ drop (k + 1) extents
-    → row < position_count (take k extents)
-    → first ≡ place (take k shape) (offset_by (take k start) (unravel (take k extents) row)) * position_count (drop k shape) + place (drop k shape) (drop k start)
-    → w ≡ first * length piece → wk ≡ position_count (drop k extents) * length piece → w + wk ≤ length mid → length mid ≡ position_count shape * length piece
-    → sub ≡ repeat (position_count (drop k extents)) piece
-    → RowsFilled (length piece) k shape start extents piece old mid row → RowsFilled (length piece) k shape start extents piece old (put_mid w wk mid sub) (row + 1)
-rows_step k row first w wk shape start extents piece old mid sub fits whole below first_is w_is wk_is room mid_len sub_is filled = λ p inside.
+-- ---- one row of an array
+
+-- a row that is written: the piece at `c`, which lies as far from the row's first piece as the position from the start
+row_piece : (first c w wk : ℕ) (shape start extents piece mid sub p : List ℕ) → BoxFits start extents shape → drop 1 shape ≡ drop 1 extents
+    → first + place shape p ≡ c + place shape start → w ≡ first * length piece → wk ≡ position_count extents * length piece → w + wk ≤ length mid
+    → sub ≡ repeat (position_count extents) piece → InShape shape p → c * length piece + length piece ≤ length mid
+    → piece_at (length piece) (put_mid w wk mid sub) c ≡ cond (is_within start extents p) piece (piece_at (length piece) mid c)
+row_piece first c w wk shape start extents piece mid sub p fits whole far w_is wk_is room sub_is inside ends =
     let size = length piece in
-    let len = position_count (drop k extents) in
+    let len = position_count extents in
     let sub_len : length sub ≡ len * size = ap length sub_is ∙ length-repeat piece len in
     let room' : w + len * size ≤ length mid = omega (arith, wk_is) in
-    let goes = ap (λ n. piece_at size (put_mid w n mid sub) (place shape p)) wk_is in
-    elim (row_case k shape start extents p row first fits whole inside below first_is) [
+    let goes = ap (λ n. piece_at size (put_mid w n mid sub) c) wk_is in
+    elim (cases_Bool (is_within start extents p)) [
       | inl hit ↦
-          let last : nat_lt (row_number k start extents p) (row + 1) ≡ true = lt-ltb (row_number k start extents p) (row + 1) (omega (arith, hit.number)) in
+          let span = row_from start extents shape p fits whole inside hit in
+          let j = place shape p - place shape start in
+          let at : c ≡ first + j = omega (arith, span.0) in
+          let below : j < len = omega (arith, span.0, span.1) in
           goes
-          ∙ ap (λ n. piece_at size (put_mid w (len * size) mid sub) n) hit.at
-          ∙ piece_inside size first len hit.j w mid sub w_is room' sub_len hit.below
-          ∙ ap (λ l. piece_at size l hit.j) sub_is
-          ∙ repeat_piece piece len hit.j hit.below
-          ∙ sym (cond-true _ _ _ (and_from _ _ hit.within last))
+          ∙ ap (λ n. piece_at size (put_mid w (len * size) mid sub) n) at
+          ∙ piece_inside size first len j w mid sub w_is room' sub_len below
+          ∙ ap (λ l. piece_at size l j) sub_is
+          ∙ repeat_piece piece len j below
+          ∙ sym (cond-true _ _ _ hit)
       | inr miss ↦
-          let ends = cell_ends size (place shape p) (position_count shape) (length mid) (place_below shape p inside) mid_len in
-          goes
-          ∙ piece_outside size first len (place shape p) w mid sub w_is room' sub_len ends miss.apart
-          ∙ filled p inside
-          ∙ ap (λ b. cond b piece (piece_at size old (place shape p))) (sym miss.same)
+          let apart : (c < first) ⊎ (first + len ≤ c) = elim (cases_lt (place shape p) (place shape start)) [
+            | inl low ↦ inl (omega arith)
+            | inr from ↦ elim (cases_lt (place shape p) (place shape start + len)) [
+              | inl high ↦ absurd (false≢true (sym miss ∙ row_back start extents shape p fits whole inside from high))
+              | inr past ↦ inr (omega arith)
+            ]
+          ] in
+          goes ∙ piece_outside size first len c w mid sub w_is room' sub_len ends apart ∙ sym (cond-false _ _ _ miss)
     ]
 
-pub rows_none : (size k : ℕ) (shape start extents piece old : List ℕ) → RowsFilled size k shape start extents piece old old 0
-rows_none size k shape start extents piece old = λ p inside. go (is_within start extents p) (row_number k start extents p) (piece_at size old (place shape p))
-  where
-    go : (b : Bool) (n : ℕ) (x : List ℕ) → x ≡ cond (b && nat_lt n 0) piece x
-    go true n x = let none : nat_lt n 0 ≡ false = grind (arith, nat_tests) in sym (cond-false _ _ _ none)
-    go false n x = refl
+-- a box that is one row
+pub row_filled : (w wk : ℕ) (shape start extents piece old sub : List ℕ) → BoxFits start extents shape → drop 1 shape ≡ drop 1 extents
+    → length old ≡ position_count shape * length piece → w ≡ place shape start * length piece → wk ≡ position_count extents * length piece → w + wk ≤ length old
+    → sub ≡ repeat (position_count extents) piece → IsFilledBox (length piece) shape start extents piece old (put_mid w wk old sub)
+row_filled w wk shape start extents piece old sub fits whole old_len w_is wk_is room sub_is = λ p inside.
+    row_piece (place shape start) (place shape p) w wk shape start extents piece old sub p fits whole (omega arith) w_is wk_is room sub_is inside
+    (cell_ends (length piece) (place shape p) (position_count shape) (length old) (place_below shape p inside) old_len)
 
--- all rows
-pub rows_all : (size k : ℕ) (shape start extents piece old new : List ℕ) → BoxFits start extents shape → RowsFilled size k shape start extents piece old new (position_count (take k extents))
-    → IsFilledBox size shape start extents piece old new
-rows_all size k shape start extents piece old new fits filled = λ p inside. filled p inside ∙ ap (λ b. cond b piece (piece_at size old (place shape p))) (all p inside)
+-- ---- the blocks of the first dimension
+
+-- a box of which the first `d` blocks are filled, and one more
+one_more : (size d s n : ℕ) (shape start extents piece old mid new : List ℕ)
+    → ((p : List ℕ) → InShape shape p
+    → piece_at size new ((s + d) * position_count shape + place shape p) ≡ cond (is_within start extents p) piece (piece_at size mid ((s + d) * position_count shape + place shape p)))
+    → ((j : ℕ) (p : List ℕ) → j ≢ s + d → j < n → InShape shape p
+    → piece_at size new (j * position_count shape + place shape p) ≡ piece_at size mid (j * position_count shape + place shape p))
+    → IsFilledBox size (n ∷ shape) (s ∷ start) (d ∷ extents) piece old mid → IsFilledBox size (n ∷ shape) (s ∷ start) ((d + 1) ∷ extents) piece old new
+one_more size d s n shape start extents piece old mid new here elsewhere filled = go
   where
-    all : (p : List ℕ) → InShape shape p → (is_within start extents p && nat_lt (row_number k start extents p) (position_count (take k extents))) ≡ is_within start extents p
-    all p inside =
-        let long = length_fits (take k start) (take k extents) (take k shape) (BoxFits-take start extents shape k fits) in
-        let split = within_split k start extents shape p fits inside in
-        elim (cases_Bool (is_within start extents p)) [
-          | inl within ↦
-              let outer = (and_parts (is_within (take k start) (take k extents) (take k p)) (is_within (drop k start) (drop k extents) (drop k p)) (sym split ∙ within)).0 in
-              let lt = place_below (take k extents) (offset_from (take k start) (take k p)) (offset_from-in (take k start) (take k extents) (take k p) long outer) in
-              and_from _ _ within (lt-ltb (row_number k start extents p) (position_count (take k extents)) lt) ∙ sym within
-          | inr out ↦ ap (λ b. b && nat_lt (row_number k start extents p) (position_count (take k extents))) out ∙ sym out
-        ]
+    past : (s d : ℕ) → in_range s d (s + d) ≡ false
+    past s d = grind (arith, nat_tests)
+
+    last : (s d : ℕ) → in_range s (d + 1) (s + d) ≡ true
+    last s d = grind (arith, nat_tests)
+
+    same_range : (s d j : ℕ) → j ≢ s + d → in_range s d j ≡ in_range s (d + 1) j
+    same_range s d j other = grind (arith, nat_tests)
+
+    go : (p : List ℕ) → InShape (n ∷ shape) p
+        → piece_at size new (place (n ∷ shape) p) ≡ cond (is_within (s ∷ start) ((d + 1) ∷ extents) p) piece (piece_at size old (place (n ∷ shape) p))
+    go [] inside = absurd inside
+    go (j ∷ p) inside = elim (cases_eq j (s + d)) [
+      | inl same ↦
+          let within = is_within start extents p in
+          let was = piece_at size old (j * position_count shape + place shape p) in
+          let before : piece_at size mid (j * position_count shape + place shape p) ≡ was =
+          filled (j ∷ p) inside ∙ ap (λ b. cond (b && within) piece was) (ap (λ i. in_range s d i) same ∙ past s d) in
+          let now : in_range s (d + 1) j ≡ true = ap (λ i. in_range s (d + 1) i) same ∙ last s d in
+          ap (λ i. piece_at size new (i * position_count shape + place shape p)) same
+          ∙ here p inside.1
+          ∙ ap (λ i. cond within piece (piece_at size mid (i * position_count shape + place shape p))) (sym same)
+          ∙ ap (λ v. cond within piece v) before
+          ∙ ap (λ b. cond (b && within) piece was) (sym now)
+      | inr other ↦
+          elsewhere j p other inside.0 inside.1
+          ∙ filled (j ∷ p) inside
+          ∙ ap (λ b. cond (b && is_within start extents p) piece (piece_at size old (j * position_count shape + place shape p))) (same_range s d j other)
+    ]
+
+apart_blocks : (i j c x first len : ℕ) → j ≢ i → x < c → i * c ≤ first → first + len ≤ i * c + c → (j * c + x < first) ⊎ (first + len ≤ j * c + x)
+apart_blocks i j c x first len other below low high = elim (cases_order j i) [
+  | inl e ↦ absurd (other e)
+  | inr o ↦ elim o [ inl lt ↦ inl (omega (arith, block_order j i c lt)) | inr gt ↦ inr (omega (arith, block_order i j c gt)) ]
+]
+
+-- no block yet
+pub blocks_none : (size : ℕ) (shape start extents piece old : List ℕ) → 0 < length shape → BoxFits start extents shape → IsFilledBox size shape start (0 ∷ drop 1 extents) piece old old
+blocks_none size [] start extents piece old some fits = absurd (omega arith)
+blocks_none size (n ∷ shape) [] [] piece old some fits = absurd fits
+blocks_none size (n ∷ shape) [] (e ∷ extents) piece old some fits = absurd fits
+blocks_none size (n ∷ shape) (s ∷ start) [] piece old some fits = absurd fits
+blocks_none size (n ∷ shape) (s ∷ start) (e ∷ extents) piece old some fits = go
+  where
+    none : (s j : ℕ) → in_range s 0 j ≡ false
+    none s j = grind (arith, nat_tests)
+
+    go : IsFilledBox size (n ∷ shape) (s ∷ start) (0 ∷ extents) piece old old
+    go [] inside = absurd inside
+    go (j ∷ p) inside =
+        let was = piece_at size old (j * position_count shape + place shape p) in
+        ap (λ b. cond (b && is_within start extents p) piece was) (sym (none s j))
+
+-- all blocks
+pub blocks_all : (size d : ℕ) (shape start extents piece old new : List ℕ) → 0 < length extents → d ≡ slice_index extents 0
+    → IsFilledBox size shape start (d ∷ drop 1 extents) piece old new → IsFilledBox size shape start extents piece old new
+blocks_all size d shape start [] piece old new some all filled = absurd (omega arith)
+blocks_all size d shape start (e ∷ extents) piece old new some all filled = rw all at filled
+
+-- one more block, which is filled by itself
+pub block_more : (d w wk size : ℕ) (shape start extents piece old mid sub : List ℕ) → BoxFits start extents shape → d < slice_index extents 0
+    → wk ≡ position_count (drop 1 shape) * size → w ≡ (slice_index start 0 + d) * wk → length mid ≡ position_count shape * size → length sub ≡ wk
+    → IsFilledBox size (drop 1 shape) (drop 1 start) (drop 1 extents) piece (take wk (drop w mid)) sub
+    → IsFilledBox size shape start (d ∷ drop 1 extents) piece old mid → IsFilledBox size shape start ((d + 1) ∷ drop 1 extents) piece old (put_mid w wk mid sub)
+block_more d w wk size shape start [] piece old mid sub fits below wk_is w_is mid_len sub_len made filled = absurd (omega arith)
+block_more d w wk size shape [] (e ∷ extents) piece old mid sub fits below wk_is w_is mid_len sub_len made filled = absurd fits
+block_more d w wk size [] (s ∷ start) (e ∷ extents) piece old mid sub fits below wk_is w_is mid_len sub_len made filled = absurd fits
+block_more d w wk size (n ∷ shape) (s ∷ start) (e ∷ extents) piece old mid sub fits below wk_is w_is mid_len sub_len made filled =
+    one_more size d s n shape start extents piece old mid (put_mid w wk mid sub)
+    (λ p inside.
+    let k = place shape p in
+    let k_below = place_below shape p inside in
+    goes (first + k)
+    ∙ piece_inside size first c k w mid sub w_at room sub_len' k_below
+    ∙ made p inside
+    ∙ ap (λ v. cond (is_within start extents p) piece v) (piece_part size first c k w wk mid w_at wk_is (omega (arith, wk_is, room)) k_below))
+    (λ j p other j_below inside.
+    let x_below = place_below shape p inside in
+    let ends = cell_ends size (j * c + place shape p) (n * c) (length mid) (omega (arith, block_order j n c j_below)) mid_len in
+    goes (j * c + place shape p) ∙ piece_outside size first c (j * c + place shape p) w mid sub w_at room sub_len' ends
+    (apart_blocks (s + d) j c (place shape p) first c other x_below (omega arith) (omega arith)))
+    filled
+  where
+    c : ℕ
+    c = position_count shape
+
+    first : ℕ
+    first = (s + d) * position_count shape
+
+    w_at : w ≡ (s + d) * position_count shape * size
+    w_at = w_is ∙ ap (λ v. (s + d) * v) wk_is ∙ sym (mul_assoc (s + d) (position_count shape) size)
+
+    room : w + position_count shape * size ≤ length mid
+    room =
+        let index : s + d < n = (let fit : s + e ≤ n = fits.0 in let low : d < e = below in omega arith) in
+        let order : (s + d) * position_count shape + position_count shape ≤ n * position_count shape = block_order (s + d) n (position_count shape) index in
+        omega (arith, mul-le-mul_right size order, add-mul ((s + d) * position_count shape) (position_count shape) size, w_at, mid_len)
+
+    sub_len' : length sub ≡ position_count shape * size
+    sub_len' = sub_len ∙ wk_is
+
+    goes : (i : ℕ) → piece_at size (put_mid w wk mid sub) i ≡ piece_at size (put_mid w (position_count shape * size) mid sub) i
+    goes i = ap (λ v. piece_at size (put_mid w v mid sub) i) wk_is
+
+-- one more row, in a box with a row for each index of the first dimension
+pub plane_more : (d w wk : ℕ) (shape start extents piece old mid sub : List ℕ) → BoxFits start extents shape → d < slice_index extents 0 → drop 2 shape ≡ drop 2 extents
+    → wk ≡ position_count (drop 1 extents) * length piece → w ≡ (place shape start + d * position_count (drop 1 shape)) * length piece → length mid ≡ position_count shape * length piece
+    → sub ≡ repeat (position_count (drop 1 extents)) piece
+    → IsFilledBox (length piece) shape start (d ∷ drop 1 extents) piece old mid → IsFilledBox (length piece) shape start ((d + 1) ∷ drop 1 extents) piece old (put_mid w wk mid sub)
+plane_more d w wk shape start [] piece old mid sub fits below whole wk_is w_is mid_len sub_is filled = absurd (omega arith)
+plane_more d w wk shape [] (e ∷ extents) piece old mid sub fits below whole wk_is w_is mid_len sub_is filled = absurd fits
+plane_more d w wk [] (s ∷ start) (e ∷ extents) piece old mid sub fits below whole wk_is w_is mid_len sub_is filled = absurd fits
+plane_more d w wk (n ∷ shape) (s ∷ start) (e ∷ extents) piece old mid sub fits below whole wk_is w_is mid_len sub_is filled =
+    let size = length piece in
+    let c = position_count shape in
+    let len = position_count extents in
+    let first = (s + d) * c + place shape start in
+    let index : s + d < n = (let fit : s + e ≤ n = fits.0 in let low : d < e = below in omega arith) in
+    let order = block_order (s + d) n c index in
+    let row_end = row_ends start extents shape fits.1 whole in
+    let at : s * c + place shape start + d * c ≡ first = omega (arith, add-mul s d c) in
+    let w_at : w ≡ first * size = w_is ∙ ap (λ v. v * size) at in
+    let inside_all : first + len ≤ n * c = omega (arith, order, row_end) in
+    let room : w + wk ≤ length mid = omega (arith, mul-le-mul_right size inside_all, add-mul first len size, w_at, wk_is, mid_len) in
+    let room' : w + len * size ≤ length mid = omega (arith, wk_is) in
+    let sub_len : length sub ≡ len * size = ap length sub_is ∙ length-repeat piece len in
+    one_more size d s n shape start extents piece old mid (put_mid w wk mid sub)
+    (λ p inside.
+    let x_below = place_below shape p inside in
+    row_piece first ((s + d) * c + place shape p) w wk shape start extents piece mid sub p fits.1 whole (omega arith) w_at wk_is room sub_is inside
+    (cell_ends size ((s + d) * c + place shape p) (n * c) (length mid) (omega (arith, order)) mid_len))
+    (λ j p other j_below inside.
+    let x_below = place_below shape p inside in
+    let ends = cell_ends size (j * c + place shape p) (n * c) (length mid) (omega (arith, block_order j n c j_below)) mid_len in
+    ap (λ v. piece_at size (put_mid w v mid sub) (j * c + place shape p)) wk_is
+    ∙ piece_outside size first len (j * c + place shape p) w mid sub w_at room' sub_len ends
+    (apart_blocks (s + d) j c (place shape p) first len other x_below (omega arith) (omega (arith, row_end))))
+    filled
+
+-- ---- the room of a box
+
+drop_rest : {X : Type 0} (k : ℕ) (xs : List X) → drop k (drop 1 xs) ≡ drop (k + 1) xs
+drop_rest k xs =
+    let rest : drop k (drop 1 xs) ≡ drop (1 + k) xs = search (rules, places) in
+    let same : 1 + k ≡ k + 1 = omega arith in
+    rest ∙ ap (λ n. drop n xs) same
+
+-- a box that has positions, and its blocks
+pub record BlockRoom (shape start extents : List ℕ) : Type 0 where
+  pub starts : 0 < length start
+  pub extents_some : 0 < length extents
+  pub fits : BoxFits (drop 1 start) (drop 1 extents) (drop 1 shape)
+  pub room : slice_index start 0 + slice_index extents 0 ≤ slice_index shape 0
+  pub count : position_count shape ≡ slice_index shape 0 * position_count (drop 1 shape)
+  pub inner : position_count (drop 1 shape) ≤ position_count shape
+  pub extent : slice_index shape 0 ≤ position_count shape
+  pub first : 0 < slice_index extents 0
+  pub some : 0 < position_count (drop 1 extents)
+
+factor_some : (a b : ℕ) → 0 < a * b → 0 < a
+factor_some zero b some = absurd (omega arith)
+factor_some (suc a) b some = omega arith
+
+factor_after : (a b : ℕ) → 0 < a * b → 0 < b
+factor_after a zero some = absurd (omega arith)
+factor_after a (suc b) some = omega arith
+
+count_fits : (start extents shape : List ℕ) → 0 < position_count extents → BoxFits start extents shape → 0 < position_count shape
+count_fits [] [] [] some fits = omega arith
+count_fits [] [] (n ∷ shape) some fits = absurd fits
+count_fits [] (e ∷ extents) shape some fits = absurd fits
+count_fits (s ∷ start) [] shape some fits = absurd fits
+count_fits (s ∷ start) (e ∷ extents) [] some fits = absurd fits
+count_fits (s ∷ start) (e ∷ extents) (n ∷ shape) some fits =
+    let first : 0 < e = factor_some e (position_count extents) some in
+    let here : s + e ≤ n = fits.0 in
+    let one : 1 ≤ n = omega arith in
+    let rest : 1 ≤ position_count shape = count_fits start extents shape (factor_after e (position_count extents) some) fits.1 in
+    omega (arith, mul-le-mul_left n rest)
+
+pub block_room : (shape start extents : List ℕ) → 0 < length shape → BoxFits start extents shape → 0 < position_count extents → BlockRoom shape start extents
+block_room [] start extents dimensions fits some = absurd (omega arith)
+block_room (n ∷ shape) [] [] dimensions fits some = absurd fits
+block_room (n ∷ shape) [] (e ∷ extents) dimensions fits some = absurd fits
+block_room (n ∷ shape) (s ∷ start) [] dimensions fits some = absurd fits
+block_room (n ∷ shape) (s ∷ start) (e ∷ extents) dimensions fits some =
+    let first : 0 < e = factor_some e (position_count extents) some in
+    let here : s + e ≤ n = fits.0 in
+    let one : 1 ≤ n = omega arith in
+    let inner_some = factor_after e (position_count extents) some in
+    let rest : 1 ≤ position_count shape = count_fits start extents shape inner_some fits.1 in
+    record {
+      starts = omega arith;
+      extents_some = omega arith;
+      fits = fits.1;
+      room = fits.0;
+      count = refl;
+      inner = omega (arith, mul-le-mul_right (position_count shape) one);
+      extent = omega (arith, mul-le-mul_left n rest);
+      first = first;
+      some = inner_some;
+    }
+
+-- ---- dimensions of extent 1
+
+one_filled : (size m s e : ℕ) (shape start extents piece old new : List ℕ) → m ≡ 1 → s + e ≤ m → 0 < e
+    → IsFilledBox size shape start extents piece old new → IsFilledBox size (m ∷ shape) (s ∷ start) (e ∷ extents) piece old new
+one_filled size m s e shape start extents piece old new one fit some filled = go
+  where
+    hit : (s e j : ℕ) → s + e ≤ 1 → 0 < e → j < 1 → in_range s e j ≡ true
+    hit s e j fit some below = grind (arith, nat_tests)
+
+    go : IsFilledBox size (m ∷ shape) (s ∷ start) (e ∷ extents) piece old new
+    go [] inside = absurd inside
+    go (j ∷ p) inside =
+        let below : j < m = inside.0 in
+        let first : j ≡ 0 = omega arith in
+        let within : in_range s e j ≡ true = hit s e j (omega arith) some (omega arith) in
+        let at : j * position_count shape + place shape p ≡ place shape p = omega (arith, ap (λ v. v * position_count shape) first) in
+        ap (λ v. piece_at size new v) at
+        ∙ filled p inside.1
+        ∙ ap (λ v. cond (is_within start extents p) piece (piece_at size old v)) (sym at)
+        ∙ ap (λ b. cond (b && is_within start extents p) piece (piece_at size old (j * position_count shape + place shape p))) (sym within)
+
+-- a box without its first dimensions, each of extent 1
+pub record BehindOnes (n : ℕ) (shape start extents : List ℕ) : Type 0 where
+  pub fits : BoxFits (drop n start) (drop n extents) (drop n shape)
+  pub count : position_count (drop n shape) ≡ position_count shape
+  pub some : 0 < position_count (drop n extents)
+  pub filled : (size : ℕ) (piece old new : List ℕ) → IsFilledBox size (drop n shape) (drop n start) (drop n extents) piece old new → IsFilledBox size shape start extents piece old new
+
+behind_ones : (n : ℕ) (shape start extents : List ℕ) → ((k : ℕ) → k < n → slice_index shape k ≡ 1) → BoxFits start extents shape → 0 < position_count extents
+    → BehindOnes n shape start extents
+behind_ones zero shape start extents ones fits some = record { fits = fits; count = refl; some = some; filled = λ size piece old new made. made }
+behind_ones (suc n) [] start extents ones fits some = absurd (omega (arith, ones 0 (omega arith)))
+behind_ones (suc n) (m ∷ shape) [] [] ones fits some = absurd fits
+behind_ones (suc n) (m ∷ shape) [] (e ∷ extents) ones fits some = absurd fits
+behind_ones (suc n) (m ∷ shape) (s ∷ start) [] ones fits some = absurd fits
+behind_ones (suc n) (m ∷ shape) (s ∷ start) (e ∷ extents) ones fits some =
+    let one : m ≡ 1 = ones 0 (omega arith) in
+    let first : 0 < e = factor_some e (position_count extents) some in
+    let rest = behind_ones n shape start extents (λ k below. ones (suc k) (omega arith)) fits.1 (factor_after e (position_count extents) some) in
+    record {
+      fits = rest.fits;
+      count = rest.count ∙ sym (omega (arith, ap (λ v. v * position_count shape) one));
+      some = rest.some;
+      filled = λ size piece old new made. one_filled size m s e shape start extents piece old new one fits.0 first (rest.filled size piece old new made);
+    }
+
+-- so many dimensions behind the first have extent 1
+pub record OnesAhead (axis n : ℕ) (shape : List ℕ) : Type 0 where
+  pub within : n < axis
+  pub ones : (k : ℕ) → k < n → slice_index (drop 1 shape) k ≡ 1
+
+pub ones_ahead : (axis n : ℕ) (shape : List ℕ) → 0 < axis → n ≡ prefix_len (λ extent. extent == 1) (take (axis - 1) (drop 1 shape)) → OnesAhead axis n shape
+ones_ahead axis n shape some is =
+    let xs = drop 1 shape in
+    let short : length (take (axis - 1) xs) ≤ axis - 1 = search (rules, places) in
+    let within : n ≤ axis - 1 = omega (arith, prefix_len-le-length (λ (extent : ℕ). extent == 1) (take (axis - 1) xs)) in
+    record {
+      within = omega arith;
+      ones = λ k below.
+          sym (get_or-take (axis - 1) xs k 0 (omega arith))
+          ∙ eqb-true (get_or (take (axis - 1) xs) k 0) 1 (prefix_len_passes (λ (extent : ℕ). extent == 1) (take (axis - 1) xs) k 0 (omega arith));
+    }
+
+-- a box whose dimensions behind the first are passed over, so far as they have extent 1
+pub record NextRoom (n : ℕ) (shape start extents : List ℕ) : Type 0 where
+  pub fits : BoxFits (drop (n + 1) start) (drop (n + 1) extents) (drop (n + 1) shape)
+  pub count : position_count (drop (n + 1) shape) ≡ position_count (drop 1 shape)
+  pub some : 0 < position_count (drop (n + 1) extents)
+  pub filled : (size : ℕ) (piece old new : List ℕ) → IsFilledBox size (drop (n + 1) shape) (drop (n + 1) start) (drop (n + 1) extents) piece old new
+      → IsFilledBox size (drop 1 shape) (drop 1 start) (drop 1 extents) piece old new
+
+pub next_room : (n : ℕ) (shape start extents : List ℕ) → ((k : ℕ) → k < n → slice_index (drop 1 shape) k ≡ 1) → BlockRoom shape start extents → NextRoom n shape start extents
+next_room n shape start extents ones parts =
+    let behind = behind_ones n (drop 1 shape) (drop 1 start) (drop 1 extents) ones parts.fits parts.some in
+    record {
+      fits = rw (drop_rest n shape, drop_rest n start, drop_rest n extents) at behind.fits;
+      count = ap position_count (sym (drop_rest n shape)) ∙ behind.count;
+      some = rw (drop_rest n extents) at behind.some;
+      filled = λ size piece old new made. behind.filled size piece old new (rw (← drop_rest n shape, ← drop_rest n start, ← drop_rest n extents) at made);
+    }
+
+-- the dimensions from `axis` on, counted from another one
+pub whole_behind : (axis next : ℕ) (shape extents : List ℕ) → next ≤ axis → drop (axis + 1) shape ≡ drop (axis + 1) extents
+    → drop (axis - next + 1) (drop next shape) ≡ drop (axis - next + 1) (drop next extents)
+whole_behind axis next shape extents low whole = behind shape ∙ whole ∙ sym (behind extents)
+  where
+    far : next + (axis - next + 1) ≡ axis + 1
+    far = omega arith
+
+    twice : (xs : List ℕ) → drop (axis - next + 1) (drop next xs) ≡ drop (next + (axis - next + 1)) xs
+    twice xs = search (rules, places)
+
+    behind : (xs : List ℕ) → drop (axis - next + 1) (drop next xs) ≡ drop (axis + 1) xs
+    behind xs = twice xs ∙ ap (λ n. drop n xs) far
+
+-- the block of an index of the box
+pub block_ends : (size index : ℕ) (shape start extents : List ℕ) → BlockRoom shape start extents → index < slice_index start 0 + slice_index extents 0
+    → index * (position_count (drop 1 shape) * size) + position_count (drop 1 shape) * size ≤ position_count shape * size
+block_ends size index shape start extents parts below =
+    let n = slice_index shape 0 in
+    let c = position_count (drop 1 shape) in
+    let within : index < n = omega (arith, parts.room) in
+    omega (arith, block_order index n (c * size) within, mul_assoc n c size, ap (λ v. v * size) parts.count)
+
+pub start_in : (start extents shape : List ℕ) → 0 < position_count extents → BoxFits start extents shape → InShape shape start
+start_in [] [] [] some fits = tt
+start_in [] [] (n ∷ shape) some fits = absurd fits
+start_in [] (e ∷ extents) shape some fits = absurd fits
+start_in (s ∷ start) [] shape some fits = absurd fits
+start_in (s ∷ start) (e ∷ extents) [] some fits = absurd fits
+start_in (s ∷ start) (e ∷ extents) (n ∷ shape) some fits =
+    let parts = block_room (n ∷ shape) (s ∷ start) (e ∷ extents) (omega arith) fits some in
+    let here : 0 < e = parts.first in
+    let room : s + e ≤ n = fits.0 in
+    (omega arith, start_in start extents shape parts.some fits.1)
+
+-- the rows of a box with a row for each index of the first dimension: the next one, and the one after so many
+pub record PlaneRoom (size : ℕ) (shape start extents : List ℕ) (row : ℕ) : Type 0 where
+  pub ends : place shape start * size + row * (position_count (drop 1 shape) * size) + position_count (drop 1 extents) * size ≤ position_count shape * size
+  pub short : position_count (drop 1 extents) ≤ position_count (drop 1 shape)
+  pub behind : position_count (drop 1 extents) * size ≤ position_count (drop 1 shape) * size
+  pub at : place shape start * size + row * (position_count (drop 1 shape) * size) ≡ (place shape start + row * position_count (drop 1 shape)) * size
+
+pub plane_room : (size row : ℕ) (shape start extents : List ℕ) → BoxFits start extents shape → drop 2 shape ≡ drop 2 extents → row < slice_index extents 0 → PlaneRoom size shape start extents row
+plane_room size row shape start [] fits whole below = absurd (omega arith)
+plane_room size row shape [] (e ∷ extents) fits whole below = absurd fits
+plane_room size row [] (s ∷ start) (e ∷ extents) fits whole below = absurd fits
+plane_room size row (n ∷ shape) (s ∷ start) (e ∷ extents) fits whole below =
+    let c = position_count shape in
+    let len = position_count extents in
+    let p = place shape start in
+    let row_end = row_ends start extents shape fits.1 whole in
+    let index : s + row < n = (let fit : s + e ≤ n = fits.0 in let low : row < e = below in omega arith) in
+    let order = block_order (s + row) n c index in
+    let all : s * c + p + row * c + len ≤ n * c = omega (arith, order, row_end, add-mul s row c) in
+    let at : (s * c + p) * size + row * (c * size) ≡ (s * c + p + row * c) * size = omega (arith, add-mul (s * c + p) (row * c) size, mul_assoc row c size) in
+    let short : len ≤ c = omega (arith, row_end) in
+    record {
+      ends = omega (arith, at, mul-le-mul_right size all, add-mul (s * c + p + row * c) len size);
+      short = short;
+      behind = mul-le-mul_right size short;
+      at = at;
+    }
+
+-- the room of a box that is one row
+pub row_room : (size : ℕ) (shape start extents : List ℕ) → BoxFits start extents shape → drop 1 shape ≡ drop 1 extents
+    → place shape start * size + position_count extents * size ≤ position_count shape * size
+row_room size shape start extents fits whole =
+    omega (arith, mul-le-mul_right size (row_ends start extents shape fits whole), add-mul (place shape start) (position_count extents) size)
+
+-- ---- a run that is copied
+
+pub copied_run : (from len to : ℕ) (xs new : List ℕ) → from + len ≤ to → to + len ≤ length xs → new ≡ copy_within xs from (from + len) to → new ≡ put_mid to len xs (take len (drop from xs))
+copied_run from len to xs new behind room is =
+    let count : from + len - from ≡ len = omega arith in
+    is ∙ ap (λ n. paste xs to (drop from xs) n) count ∙ search (rules, overwrites)
+
+pub run_kept : (from len to : ℕ) (xs ys : List ℕ) → from + len ≤ to → to + len ≤ length xs → take len (drop from (put_mid to len xs ys)) ≡ take len (drop from xs)
+run_kept from len to xs ys behind room =
+    let count : from + len - from ≡ len = omega arith in
+    let new = put_mid to len xs ys in
+    ap (λ n. take n (drop from new)) (sym count)
+    ∙ between_is new from (from + len)
+    ∙ ap (drop from) (take-put_mid_below to len xs ys (from + len) behind (omega arith))
+    ∙ sym (between_is xs from (from + len))
+    ∙ ap (λ n. take n (drop from xs)) count
+
+pub run_put : (from len : ℕ) (xs ys : List ℕ) → from + len ≤ length xs → length ys ≡ len → take len (drop from (put_mid from len xs ys)) ≡ ys
+run_put from len xs ys room long =
+    let count : from + len - from ≡ len = omega arith in
+    ap (λ n. take n (drop from (put_mid from len xs ys))) (sym count) ∙ between-put_mid from len xs ys (from + len) (omega arith) (long ∙ sym count)
 
 -- ---- a box of the parent
 
@@ -405,157 +608,3 @@ box_filled size region shape piece old new size_is long filled = λ position hol
 pub nothing_filled : (size : ℕ) (region : Box) (shape part old : List ℕ) → ((position : List ℕ) → in_box region position ≡ false)
     → TakesAt (box_at_origin shape) region (piece_at size part) (piece_at size old) (piece_at size old)
 nothing_filled size region shape part old none = λ position holds. sym (cond-false _ _ _ (none position))
-
--- ---- the block of a row
-
-AllSome-take : (shape : List ℕ) (k : ℕ) → AllSome shape → AllSome (take k shape)
-AllSome-take shape zero some j below z = absurd (omega arith)
-AllSome-take [] (suc k) some j below z = absurd (omega arith)
-AllSome-take (n ∷ shape) (suc k) some zero below z = some zero (omega arith) z
-AllSome-take (n ∷ shape) (suc k) some (suc j) below z = AllSome-take shape k (λ i h e. some (suc i) (omega arith) e) j (omega arith) z
-
--- a part of the dimensions has no more positions than the array, if no extent is 0
-pub count_front : (k : ℕ) (shape : List ℕ) → AllSome shape → position_count (take k shape) ≤ position_count shape
-count_front k shape some =
-    let one : 1 ≤ position_count (drop k shape) = count_some (drop k shape) (AllSome-drop shape k some) in
-    omega (arith, count_split shape k, mul-le-mul_left (position_count (take k shape)) one)
-
-pub count_back : (k : ℕ) (shape : List ℕ) → AllSome shape → position_count (drop k shape) ≤ position_count shape
-count_back k shape some =
-    let one : 1 ≤ position_count (take k shape) = count_some (take k shape) (AllSome-take shape k some) in
-    omega (arith, count_split shape k, mul-le-mul_right (position_count (drop k shape)) one)
-
-pub some_from : (extents : List ℕ) → 0 < position_count extents → AllSome extents
-some_from extents some k below z = absurd (omega (arith, count_zero extents k below z))
-
--- no dimension so far
-pub block_none : (shape start extents : List ℕ) (row : ℕ) → BoxFits start extents shape
-    → (row ≡ row / position_count (drop (length extents) extents)) × (1 ≡ position_count (drop (length extents) shape))
-    × (0 ≡ place (drop (length extents) shape) (offset_by (drop (length extents) start) (unravel (drop (length extents) extents) (row % position_count (drop (length extents) extents)))))
-block_none shape start extents row fits =
-    let shape_none : drop (length extents) shape ≡ [] = drop_all (length extents) shape (omega (arith, length_shape start extents shape fits)) in
-    let none : drop (length extents) extents ≡ [] = drop_all (length extents) extents (omega arith) in
-    (sym (ap (λ l. row / position_count l) none ∙ div-one row), ap position_count (sym shape_none), ap (λ l. place l (offset_by (drop (length extents) start) (unravel (drop (length extents) extents) (row % position_count (drop (length extents) extents))))) (sym shape_none))
-
--- what one more dimension adds to the number of a row's block
-pub record BlockMore (shape start extents : List ℕ) (a row rest count number : ℕ) : Type 0 where
-  pub some : 0 < slice_index extents a
-  pub index : slice_index start a + rest % slice_index extents a < position_count shape
-  pub value : number + (slice_index start a + rest % slice_index extents a) * count
-      ≡ place (drop a shape) (offset_by (drop a start) (unravel (drop a extents) (row % position_count (drop a extents))))
-  pub room : number + (slice_index start a + rest % slice_index extents a) * count < position_count shape
-  pub quotient : rest / slice_index extents a ≡ row / position_count (drop a extents)
-  pub product : count * slice_index shape a ≡ position_count (drop a shape)
-  pub count_room : count * slice_index shape a ≤ position_count shape
-
-pub block_more : (shape start extents : List ℕ) (a row rest count number : ℕ) → BoxFits start extents shape → a < length extents → row < position_count extents
-    → rest ≡ row / position_count (drop (a + 1) extents) → count ≡ position_count (drop (a + 1) shape)
-    → number ≡ place (drop (a + 1) shape) (offset_by (drop (a + 1) start) (unravel (drop (a + 1) extents) (row % position_count (drop (a + 1) extents))))
-    → BlockMore shape start extents a row rest count number
-block_more shape start extents a row rest count number fits below row_below rest_is count_is number_is =
-    let some = some_from extents (omega arith) in
-    let at = fits_at shape start shape start extents a fits fits below in
-    let shape_some = AllSome-fits start extents shape some fits in
-    let here : slice_index extents a ≡ 0 → ⊥ = some a below in
-    let positive : 0 < slice_index extents a = omega arith in
-    let o = rest % slice_index extents a in
-    let o_below : o < slice_index extents a = mod_below rest (slice_index extents a) positive in
-    let whole : position_count (drop a shape) ≡ slice_index shape a * count = count_drop shape a at.in_source ∙ ap (λ c. slice_index shape a * c) (sym count_is) in
-    let back = count_back a shape shape_some in
-    let count_some' : 0 < count = omega (arith, count_is, count_some (drop (a + 1) shape) (AllSome-drop shape (a + 1) shape_some)) in
-    let i = slice_index start a + o in
-    let extents_some : 0 < position_count (drop a extents) = count_some (drop a extents) (AllSome-drop extents a some) in
-    let u = unravel (drop a extents) (row % position_count (drop a extents)) in
-    let tail = unravel (drop (a + 1) extents) (row % position_count (drop (a + 1) extents)) in
-    let u_in = unravel_in (drop a extents) (row % position_count (drop a extents)) (mod_below row (position_count (drop a extents)) extents_some) in
-    let fits_here = fits_drop a start extents shape fits in
-    let value : place (drop a shape) (offset_by (drop a start) u) ≡ i * count + number =
-    ap (λ v. place (drop a shape) (offset_by (drop a start) v)) (unravel_more extents a row below some)
-    ∙ ap (λ r. place (drop a shape) (offset_by (drop a start) (r % slice_index extents a ∷ tail))) (sym rest_is)
-    ∙ ap (λ s. place (drop a shape) (offset_by s (o ∷ tail))) (drop_more start a 0 at.in_source_start)
-    ∙ ap (λ s. place s (offset_by (slice_index start a ∷ drop (a + 1) start) (o ∷ tail))) (drop_more shape a 0 at.in_source)
-    ∙ ap (λ c. i * c + place (drop (a + 1) shape) (offset_by (drop (a + 1) start) tail)) (sym count_is)
-    ∙ ap (λ v. i * count + v) (sym number_is) in
-    let below_whole = place_below (drop a shape) (offset_by (drop a start) u) (in_offset (drop a start) (drop a extents) (drop a shape) u fits_here u_in) in
-    let one : 1 ≤ count = count_some' in
-    let room : number + i * count < position_count shape = omega (arith, value, below_whole, back) in
-    record {
-      some = positive;
-      index = omega (arith, mul-le-mul_left i one, room);
-      value = omega (arith, value);
-      room = room;
-      quotient = ap (λ r. r / slice_index extents a) rest_is ∙ quotient_more extents a row below;
-      product = omega (arith, whole);
-      count_room = omega (arith, whole, back);
-    }
-
--- the same, for the dimension before number `j`
-pub block_at : (shape start extents : List ℕ) (j row rest count number : ℕ) → BoxFits start extents shape → 0 < j → j ≤ length extents → row < position_count extents
-    → rest ≡ row / position_count (drop j extents) → count ≡ position_count (drop j shape)
-    → number ≡ place (drop j shape) (offset_by (drop j start) (unravel (drop j extents) (row % position_count (drop j extents))))
-    → BlockMore shape start extents (j - 1) row rest count number
-block_at shape start extents j row rest count number fits positive below row_below rest_is count_is number_is =
-    let next : j ≡ j - 1 + 1 = omega arith in
-    block_more shape start extents (j - 1) row rest count number fits (omega arith) row_below
-    (rest_is ∙ ap (λ k. row / position_count (drop k extents)) next)
-    (count_is ∙ ap (λ k. position_count (drop k shape)) next)
-    (number_is ∙ ap (λ k. place (drop k shape) (offset_by (drop k start) (unravel (drop k extents) (row % position_count (drop k extents))))) next)
-
--- ---- the room of a row
-
-pub start_in : (start extents shape : List ℕ) → AllSome extents → BoxFits start extents shape → InShape shape start
-start_in [] [] [] some fits = tt
-start_in [] [] (n ∷ shape) some fits = absurd fits
-start_in [] (e ∷ extents) shape some fits = absurd fits
-start_in (s ∷ start) [] shape some fits = absurd fits
-start_in (s ∷ start) (e ∷ extents) [] some fits = absurd fits
-start_in (s ∷ start) (e ∷ extents) (n ∷ shape) some fits =
-    let here : e ≡ 0 → ⊥ = some zero (omega arith) in
-    let room : s + e ≤ n = fits.0 in
-    (omega arith, start_in start extents shape (λ j below z. some (suc j) (omega arith) z) fits.1)
-
--- the parts of a box that has positions
-pub record PartRoom (k : ℕ) (shape start extents : List ℕ) : Type 0 where
-  pub front : BoxFits (take k start) (take k extents) (take k shape)
-  pub inside : InShape (drop k shape) (drop k start)
-  pub shape_front : position_count (take k shape) ≤ position_count shape
-  pub shape_back : position_count (drop k shape) ≤ position_count shape
-  pub front_count : position_count (take k extents) ≤ position_count shape
-  pub back_count : position_count (drop k extents) ≤ position_count shape
-
-pub part_room : (k : ℕ) (shape start extents : List ℕ) → BoxFits start extents shape → 0 < position_count extents → PartRoom k shape start extents
-part_room k shape start extents fits positive =
-    let some = some_from extents positive in
-    let shape_some = AllSome-fits start extents shape some fits in
-    record {
-      front = BoxFits-take start extents shape k fits;
-      inside = start_in (drop k start) (drop k extents) (drop k shape) (AllSome-drop extents k some) (fits_drop k start extents shape fits);
-      shape_front = count_front k shape shape_some;
-      shape_back = count_back k shape shape_some;
-      front_count = omega (arith, count_front k extents some, count_within start extents shape 0 some fits);
-      back_count = count_within start extents shape k some fits;
-    }
-
-pub record RowRoom (k row block stride first len size total : ℕ) (shape start extents : List ℕ) : Type 0 where
-  pub cells : block * stride + first + len ≤ position_count shape
-  pub bytes : (block * stride + first) * size + len * size ≤ total
-  pub first_is : block * stride + first ≡ place (take k shape) (offset_by (take k start) (unravel (take k extents) row)) * position_count (drop k shape) + place (drop k shape) (drop k start)
-
-pub row_room : (k row block stride first len size total : ℕ) (shape start extents : List ℕ) → BoxFits start extents shape → drop (k + 1) shape ≡ drop (k + 1) extents
-    → row < position_count (take k extents) → block ≡ place (take k shape) (offset_by (take k start) (unravel (take k extents) row))
-    → stride ≡ position_count (drop k shape) → first ≡ place (drop k shape) (drop k start) → len ≡ position_count (drop k extents) → total ≡ position_count shape * size
-    → RowRoom k row block stride first len size total shape start extents
-row_room k row block stride first len size total shape start extents fits whole below block_is stride_is first_is len_is total_is =
-    let q_in = in_offset (take k start) (take k extents) (take k shape) (unravel (take k extents) row) (BoxFits-take start extents shape k fits) (unravel_in (take k extents) row below) in
-    let block_below : block < position_count (take k shape) = omega (arith, block_is, place_below (take k shape) (offset_by (take k start) (unravel (take k extents) row)) q_in) in
-    let inner_whole : drop 1 (drop k shape) ≡ drop 1 (drop k extents) = drop_one k shape ∙ whole ∙ sym (drop_one k extents) in
-    let ends = row_ends (drop k start) (drop k extents) (drop k shape) (fits_drop k start extents shape fits) inner_whole in
-    let all : position_count shape ≡ position_count (take k shape) * stride = count_split shape k ∙ ap (λ v. position_count (take k shape) * v) (sym stride_is) in
-    let cells : block * stride + first + len ≤ position_count shape = omega (arith, block_order block (position_count (take k shape)) stride block_below, all, ends, stride_is, first_is, len_is) in
-    record {
-      cells = cells;
-      bytes = omega (arith, mul-le-mul_right size cells, add-mul (block * stride + first) len size, total_is);
-      first_is = ap (λ b. b * stride + first) block_is
-          ∙ ap (λ v. place (take k shape) (offset_by (take k start) (unravel (take k extents) row)) * v + first) stride_is
-          ∙ ap (λ v. place (take k shape) (offset_by (take k start) (unravel (take k extents) row)) * position_count (drop k shape) + v) first_is;
-    }

@@ -1,11 +1,11 @@
 //! A box of an array of cells that a caller lends to be written.
 ghost use Rattle.std.specs.Prelude.{◌≡◌, ◌↔◌, ◌*◌, ◌==◌, true, IfOk, IsOk, IsTrue, IsSome, OnErr, OnOk, length};
 ghost use Rattle.std.specs.Prelude.{◌≤◌, ◌<◌, ◌+◌, ◌^◌, [], drop, slice_index, take};
-ghost use Rattle.std.specs.List.{repeat};
+ghost use Rattle.std.specs.List.{copy_within, prefix_len, repeat};
 ghost use Rattle.zarrs_array_bytes.specs.ArrayData.{data_of};
 ghost use Rattle.zarrs_array_bytes.specs.Cells.{fits};
 ghost use Rattle.zarrs_array_bytes.specs.Parts.{TakesAt, TakesEach};
-ghost use Rattle.zarrs_subset.specs.Boxes.{BoxFits, InShape, offset_by, place, position_count, unravel};
+ghost use Rattle.zarrs_subset.specs.Boxes.{BoxFits, InShape, place, position_count};
 ghost use Rattle.zarrs_subset.specs.Pieces.{piece_at};
 ghost use Rattle.zarrs_subset.specs.Regions.{LiesInShape, box_of, box_at_origin};
 ghost use Rattle.zarrs_types.specs.Cell.{fill_cell, fill_of};
@@ -540,21 +540,115 @@ fn fill_rows(shape: &[u64], start: &[u64], extents: &[u64], target: &mut [u8], p
     ensures { IsFilledBox (length piece.now) shape.now start.now extents.now piece.now
         target.old target.new }
 {
-    let axis = row_axis(shape, extents);
-    let stride = positions(&shape[axis..]);
-    let first = number_of(&start[axis..], &shape[axis..]);
-    let len = positions(&extents[axis..]);
-    let size = piece.len();
-    for row in 0..positions(&extents[..axis]) {
-        let block = row_block(
-            row as u64,
-            &shape[..axis],
-            &start[..axis],
-            &extents[..axis],
-        ) as usize;
-        let from = (block * stride + first) * size;
-        fill_run(&mut target[from..from + len * size], piece, len);
+    fill_blocks(
+        row_axis(shape, extents),
+        shape,
+        start,
+        extents,
+        target,
+        piece,
+    );
+}
+
+/// The same, for a box whose rows lie together from dimension `axis` on: one block of the first dimension after the
+/// other. Dimensions of extent 1 behind it are passed over, so that the calls nest only as deep as there are longer ones.
+fn fill_blocks(
+    axis: usize,
+    shape: &[u64],
+    start: &[u64],
+    extents: &[u64],
+    target: &mut [u8],
+    piece: &[u8],
+)
+    requires fits { BoxFits start.now extents.now shape.now }
+    requires counted { position_count shape.now < 2 ^ 64 }
+    requires some { 0 < position_count extents.now }
+    requires axis { axis ≤ length shape.now }
+    requires whole { drop (axis + 1) shape.now ≡ drop (axis + 1) extents.now }
+    requires target_len { length target.old ≡ position_count shape.now * length piece.now }
+    ensures { IsFilledBox (length piece.now) shape.now start.now extents.now piece.now
+        target.old target.new }
+{
+    if axis == 0 {
+        fill_row(shape, start, extents, target, piece);
+        return;
     }
+    if axis == 1 {
+        fill_plane(shape, start, extents, target, piece);
+        return;
+    }
+    let block = positions(&shape[1..]) * piece.len();
+    let next = leading_ones(&shape[1..axis]) + 1;
+    for index in start[0]..start[0] + extents[0] {
+        let from = index as usize * block;
+        fill_blocks(
+            axis - next,
+            &shape[next..],
+            &start[next..],
+            &extents[next..],
+            &mut target[from..from + block],
+            piece,
+        );
+    }
+}
+
+/// How many of the first extents are 1.
+fn leading_ones(shape: &[u64]) -> usize
+    ensures within { result ≤ length shape.now }
+    ensures counted { result ≡ prefix_len (λ extent. extent == 1) shape.now }
+{
+    let mut count = 0;
+    while count < shape.len() && shape[count] == 1 {
+        count += 1;
+    }
+    count
+}
+
+/// The same, for a box that is one row.
+fn fill_row(shape: &[u64], start: &[u64], extents: &[u64], target: &mut [u8], piece: &[u8])
+    requires fits { BoxFits start.now extents.now shape.now }
+    requires counted { position_count shape.now < 2 ^ 64 }
+    requires some { 0 < position_count extents.now }
+    requires whole { drop 1 shape.now ≡ drop 1 extents.now }
+    requires target_len { length target.old ≡ position_count shape.now * length piece.now }
+    ensures { IsFilledBox (length piece.now) shape.now start.now extents.now piece.now
+        target.old target.new }
+{
+    let count = positions(extents);
+    let from = number_of(start, shape) * piece.len();
+    fill_run(&mut target[from..from + count * piece.len()], piece, count);
+}
+
+/// The same, for a box with a row for each index of its first dimension. The first row is filled, and the others are
+/// copies of it.
+fn fill_plane(shape: &[u64], start: &[u64], extents: &[u64], target: &mut [u8], piece: &[u8])
+    requires fits { BoxFits start.now extents.now shape.now }
+    requires counted { position_count shape.now < 2 ^ 64 }
+    requires some { 0 < position_count extents.now }
+    requires dimensions { 0 < length shape.now }
+    requires whole { drop 2 shape.now ≡ drop 2 extents.now }
+    requires target_len { length target.old ≡ position_count shape.now * length piece.now }
+    ensures { IsFilledBox (length piece.now) shape.now start.now extents.now piece.now
+        target.old target.new }
+{
+    let count = positions(&extents[1..]);
+    let len = count * piece.len();
+    let stride = positions(&shape[1..]) * piece.len();
+    let from = number_of(start, shape) * piece.len();
+    fill_run(&mut target[from..from + len], piece, count);
+    for row in 1..extents[0] as usize {
+        copy_run(target, from, len, from + row * stride);
+    }
+}
+
+/// Copies the `len` bytes at `from` to `to`, behind them.
+fn copy_run(target: &mut [u8], from: usize, len: usize, to: usize)
+    requires behind { from + len ≤ to }
+    requires room { to + len ≤ length target.old }
+    ensures { target.new ≡ copy_within target.old from (from + len) to }
+{
+    let (front, rest) = target.split_at_mut(to);
+    rest[..len].copy_from_slice(&front[from..from + len]);
 }
 
 /// The dimension from which on a row of the box lies together: the last one that is not whole, or the first.
@@ -571,26 +665,6 @@ fn row_axis(shape: &[u64], extents: &[u64]) -> usize
         }
     }
     axis
-}
-
-/// The row-major number, in an array of this shape, of the position of number `row` of the box.
-fn row_block(row: u64, shape: &[u64], start: &[u64], extents: &[u64]) -> u64
-    requires fits { BoxFits start.now extents.now shape.now }
-    requires counted { position_count shape.now < 2 ^ 64 }
-    requires row { row < position_count extents.now }
-    ensures { result ≡ place shape.now (offset_by start.now (unravel extents.now row)) }
-{
-    let mut rest = row;
-    let mut count: u64 = 1;
-    let mut number: u64 = 0;
-    let mut axis = extents.len();
-    while axis > 0 {
-        axis -= 1;
-        number += (start[axis] + rest % extents[axis]) * count;
-        rest /= extents[axis];
-        count *= shape[axis];
-    }
-    number
 }
 
 /// Writes the piece `count` times, one behind the other. Each copy is as long as what stands there already, up to a
