@@ -1,5 +1,6 @@
 mod Blanks
 pub mod Compaction
+mod CopiedCells
 pub mod Cuts
 pub mod Encoding
 pub mod FixedCells

@@ -2,7 +2,7 @@
 ghost use Rattle.std.specs.Prelude.{◌≡◌, ℕ, ◌+◌, ◌*◌, ◌<◌, ◌≤◌, ◌++◌, List, IfErr, IfOk, length, slice_index};
 ghost use Rattle.zarrs_byte_strings.specs.StringParts.{LiesInBox};
 ghost use Rattle.zarrs_subset.specs.Boxes.{position_count};
-ghost use Rattle.zarrs_subset.specs.Regions.{box_of};
+ghost use Rattle.zarrs_subset.specs.Regions.{box_from, box_of, IsLong};
 ghost use Rattle.zarrs_shard.specs.Blocks.{rows_of, AddsCells};
 
 use std::alloc::{AllocError, Global};
@@ -12,11 +12,43 @@ use zarrs_subset::{ArraySubset, element_count, place_part};
 /// written over them.
 const BLOCK_LEN: u64 = 8192;
 
-/// Puts the cells of one size at the positions of `subset`, of an array over `held_box`, behind the bytes.
+/// Puts the cells of one size at the positions of the box of this shape at `corner`, of an array over `held_box`, behind
+/// the bytes.
 ///
 /// # Errors
 /// `AllocError`: out of memory; the bytes are as they were.
 pub(crate) fn append_cells(
+    alloc: Global,
+    made: &mut Vec<u8>,
+    bytes: &[u8],
+    size: usize,
+    held_box: &ArraySubset,
+    corner: &[u64],
+    shape: &[u64],
+) -> Result<(), AllocError>
+    requires positive { 0 < size }
+    requires held_len { length bytes.now ≡ position_count (box_of held_box.now).shape * size }
+    requires long { IsLong (box_from corner.now shape.now) }
+    requires inside { LiesInBox (box_from corner.now shape.now) (box_of held_box.now) }
+    ensures added { IfOk result (λ _. AddsCells size (box_of held_box.now) bytes.now
+        (box_from corner.now shape.now) made.old.items made.new.items) }
+    ensures refused { IfErr result (λ _. made.new.items ≡ made.old.items) }
+{
+    if shape.len() != 2 {
+        let corner = Vec::from_slice(alloc, corner)?;
+        let subset = ArraySubset::new(corner, Vec::from_slice(alloc, shape)?);
+        return append_subset(alloc, made, bytes, size, held_box, &subset);
+    }
+    let len = made.len();
+    let appended = append_rows(made, bytes, size, held_box, corner, shape);
+    if appended.is_err() {
+        made.truncate(len);
+    }
+    appended
+}
+
+/// The same of a box of any number of dimensions.
+fn append_subset(
     alloc: Global,
     made: &mut Vec<u8>,
     bytes: &[u8],
@@ -31,17 +63,13 @@ pub(crate) fn append_cells(
         (box_of subset.now) made.old.items made.new.items) }
     ensures refused { IfErr result (λ _. made.new.items ≡ made.old.items) }
 {
-    if subset.dimensionality() != 2 && is_one_block(subset.shape(), size) {
+    if is_one_block(subset.shape(), size) {
         return append_block(made, bytes, size, held_box, subset);
     }
-    let start = made.len();
-    let appended = if subset.dimensionality() == 2 {
-        append_rows(made, bytes, size, held_box, subset)
-    } else {
-        append_blocks(alloc, made, bytes, size, held_box, subset)
-    };
+    let len = made.len();
+    let appended = append_blocks(alloc, made, bytes, size, held_box, subset);
     if appended.is_err() {
-        made.truncate(start);
+        made.truncate(len);
     }
     appended
 }
@@ -52,21 +80,23 @@ fn append_rows(
     bytes: &[u8],
     size: usize,
     held_box: &ArraySubset,
-    subset: &ArraySubset,
+    corner: &[u64],
+    shape: &[u64],
 ) -> Result<(), AllocError>
     requires positive { 0 < size }
     requires held_len { length bytes.now ≡ position_count (box_of held_box.now).shape * size }
-    requires inside { LiesInBox (box_of subset.now) (box_of held_box.now) }
-    requires plane { length (box_of subset.now).start ≡ 2 }
+    requires long { IsLong (box_from corner.now shape.now) }
+    requires inside { LiesInBox (box_from corner.now shape.now) (box_of held_box.now) }
+    requires plane { length corner.now ≡ 2 }
     ensures added { IfOk result (λ _. AddsCells size (box_of held_box.now) bytes.now
-        (box_of subset.now) made.old.items made.new.items) }
+        (box_from corner.now shape.now) made.old.items made.new.items) }
     ensures refused { IfErr result
         (λ _. (more : List ℕ) × (made.new.items ≡ made.old.items ++ more)) }
 {
-    let rows = subset.shape()[0];
+    let rows = shape[0];
     let mut row = 0;
     while row < rows {
-        append_row(made, bytes, size, held_box, subset, row)?;
+        append_row(made, bytes, size, held_box, corner, shape, row)?;
         row += 1;
     }
     Ok(())
@@ -79,23 +109,25 @@ fn append_row(
     bytes: &[u8],
     size: usize,
     held_box: &ArraySubset,
-    subset: &ArraySubset,
+    corner: &[u64],
+    shape: &[u64],
     row: u64,
 ) -> Result<(), AllocError>
     requires positive { 0 < size }
     requires held_len { length bytes.now ≡ position_count (box_of held_box.now).shape * size }
-    requires inside { LiesInBox (box_of subset.now) (box_of held_box.now) }
-    requires plane { length (box_of subset.now).start ≡ 2 }
-    requires row { row < slice_index (box_of subset.now).shape 0 }
+    requires long { IsLong (box_from corner.now shape.now) }
+    requires inside { LiesInBox (box_from corner.now shape.now) (box_of held_box.now) }
+    requires plane { length corner.now ≡ 2 }
+    requires row { row < slice_index shape.now 0 }
     ensures added { IfOk result (λ _. AddsCells size (box_of held_box.now) bytes.now
-        (rows_of (box_of subset.now) row 1) made.old.items made.new.items) }
+        (rows_of (box_from corner.now shape.now) row 1) made.old.items made.new.items) }
     ensures refused { IfErr result (λ _. made.new.items ≡ made.old.items) }
 {
-    let (start, held_start) = (subset.start(), held_box.start());
-    let above = start[0] - held_start[0] + row;
-    let cell = above * held_box.shape()[1] + (start[1] - held_start[1]);
+    let held_start = held_box.start();
+    let above = corner[0] - held_start[0] + row;
+    let cell = above * held_box.shape()[1] + (corner[1] - held_start[1]);
     let from = cell as usize * size;
-    let len = subset.shape()[1] as usize * size;
+    let len = shape[1] as usize * size;
     made.extend_from_slice(&bytes[from..from + len])?;
     Ok(())
 }

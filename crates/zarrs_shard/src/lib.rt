@@ -3,6 +3,7 @@
 
 mod blocks;
 mod compact;
+mod corners;
 mod error;
 pub mod laws;
 mod patch;

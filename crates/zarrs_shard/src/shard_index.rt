@@ -8,7 +8,7 @@ ghost use Rattle.zarrs_array_bytes.specs.Cells.{cells, HasCells};
 ghost use Rattle.zarrs_byte_strings.specs.StringParts.{LiesInBox};
 ghost use Rattle.zarrs_subset.specs.Boxes.{position_count};
 ghost use Rattle.zarrs_subset.specs.Pieces.{pieces};
-ghost use Rattle.zarrs_subset.specs.Regions.{box_of};
+ghost use Rattle.zarrs_subset.specs.Regions.{box_from, box_of, IsLong};
 ghost use Rattle.zarrs_types.specs.Cell.{fill_cell, fill_of};
 ghost use Rattle.zarrs_types.specs.Kind.{kind};
 ghost use Rattle.zarrs_shard.specs.Blocks.{AddsCells};
@@ -22,7 +22,7 @@ ghost use Rattle.zarrs_shard.specs.Steps.{all_present};
 use crate::blocks::append_cells;
 use std::alloc::{AllocError, Global};
 use zarrs_array_bytes::{ArrayBytes, DataType, FillValue};
-use zarrs_subset::ArraySubset;
+use zarrs_subset::{ArraySubset, element_count};
 
 /// The bytes of an entry of an index: a `u64` offset and a `u64` length.
 pub(crate) const ENTRY_LEN: usize = 16;
@@ -205,30 +205,32 @@ impl ShardWriter {
         }
     }
 
-    /// Writes the next subchunk: the cells at the positions of `subset`, as they stand in memory, of an array over
-    /// `held_box`. It is left out if each is the fill value's, unless `store_empty` says that it is kept.
+    /// Writes the next subchunk: the cells at the positions of the box of this shape at `corner`, as they stand in memory,
+    /// of an array over `held_box`. It is left out if each is the fill value's, unless `store_empty` says that it is kept.
     pub(crate) fn push_cells(
         &mut self,
         alloc: Global,
         bytes: &[u8],
         held_box: &ArraySubset,
-        subset: &ArraySubset,
+        corner: &[u64],
+        shape: &[u64],
         data_type: &DataType,
         fill_value: &FillValue,
         store_empty: bool,
     ) -> Result<(), AllocError>
-        requires inside { LiesInBox (box_of subset.now) (box_of held_box.now) }
+        requires long { IsLong (box_from corner.now shape.now) }
+        requires inside { LiesInBox (box_from corner.now shape.now) (box_of held_box.now) }
         requires held { HasCells (kind data_type.now) (fixed bytes.now)
             (position_count (box_of held_box.now).shape) }
         requires filled { IsSome (fill_cell (kind data_type.now) fill_value.now) }
         ensures pushed { IfOk result (λ _. PushesExtract (kind data_type.now) store_empty
             (fill_of (kind data_type.now) fill_value.now) (box_of held_box.now) bytes.now
-            (box_of subset.now) self.old self.new) }
+            (box_from corner.now shape.now) self.old self.new) }
         ensures refused { IfErr result (λ _. IsSameWriter self.old self.new) }
     {
         let start = self.encoded.len();
         let size = data_type.element_size().unwrap();
-        self.add_cells(alloc, bytes, size, held_box, subset)?;
+        self.add_cells(alloc, bytes, size, held_box, corner, shape)?;
         if is_left_out(&self.encoded[start..], data_type, fill_value, store_empty) {
             self.encoded.truncate(start);
             return self.push_absent();
@@ -241,27 +243,38 @@ impl ShardWriter {
         pushed
     }
 
-    /// Puts the cells of one size at the positions of `subset`, of an array over `held_box`, behind the subchunks.
+    /// Puts the cells of one size at the positions of the box of this shape at `corner`, of an array over `held_box`,
+    /// behind the subchunks.
     fn add_cells(
         &mut self,
         alloc: Global,
         bytes: &[u8],
         size: usize,
         held_box: &ArraySubset,
-        subset: &ArraySubset,
+        corner: &[u64],
+        shape: &[u64],
     ) -> Result<(), AllocError>
         requires positive { 0 < size }
         requires held_len { length bytes.now ≡ position_count (box_of held_box.now).shape * size }
-        requires inside { LiesInBox (box_of subset.now) (box_of held_box.now) }
+        requires long { IsLong (box_from corner.now shape.now) }
+        requires inside { LiesInBox (box_from corner.now shape.now) (box_of held_box.now) }
         ensures added { IfOk result (λ _. AddsCells size (box_of held_box.now) bytes.now
-            (box_of subset.now) self.old.encoded.items self.new.encoded.items) }
+            (box_from corner.now shape.now) self.old.encoded.items self.new.encoded.items) }
         ensures refused { IfErr result (λ _. self.new.encoded.items ≡ self.old.encoded.items) }
         ensures entries { self.new.entries ≡ self.old.entries }
         ensures at_start { self.new.at_start ≡ self.old.at_start }
     {
-        let count = subset.num_elements().unwrap_or(u64::MAX);
+        let count = element_count(shape).unwrap_or(u64::MAX);
         self.make_room((count as usize).saturating_mul(size));
-        append_cells(alloc, &mut self.encoded, bytes, size, held_box, subset)
+        append_cells(
+            alloc,
+            &mut self.encoded,
+            bytes,
+            size,
+            held_box,
+            corner,
+            shape,
+        )
     }
 
     /// Makes room for each subchunk that is left, as if all had this length, and for the index behind them. It does

@@ -16,12 +16,14 @@ ghost use Rattle.zarrs_types.specs.Cell.{Cell, fill_cell, fill_of, held_size};
 ghost use Rattle.zarrs_types.specs.Kind.{kind, cell_size};
 ghost use Rattle.zarrs_byte_strings.specs.StringParts.{LiesInBox};
 
+use crate::corners::tiny_corner;
 use crate::shard_index::ShardWriter;
 use std::alloc::{AllocError, Global};
 use zarrs_array_bytes::{ArrayBytes, DataType, FillValue};
 use zarrs_region_cells::RegionCells;
 use zarrs_subset::{
-    ArrayIndices, ArrayShape, ArraySubset, element_count, place_part, unravel_index,
+    ArrayIndices, ArrayIndicesTinyVec, ArrayShape, ArraySubset, Corner, copy_box, element_count,
+    place_part, unravel_index,
 };
 
 /// How a chunk is cut into subchunks of one shape, which divides the chunk's. They are numbered in row-major order.
@@ -230,12 +232,13 @@ impl Subchunks {
             (subchunk_shape self.now) number bytes.now writer.old writer.new) }
         ensures refused { IfErr result (λ _. IsSameWriter writer.old writer.new) }
     {
-        let own = self.subset(alloc, number)?;
+        let corner = self.start_of(alloc, number)?;
         writer.push_cells(
             alloc,
             bytes,
             &self.chunk_box,
-            &own,
+            corner.as_slice(),
+            &self.shape,
             data_type,
             fill_value,
             store_empty,
@@ -307,6 +310,54 @@ impl Subchunks {
     {
         let subset = self.subset(alloc, number)?;
         chunk.with_part(alloc, data_type, &self.chunk_box, part, &subset)
+    }
+
+    /// Writes the cells of one size of a subchunk, as they stand in memory, over those of the subchunk of this number of
+    /// a chunk. Nothing is allocated up to four dimensions.
+    ///
+    /// # Errors
+    /// `AllocError`: out of memory; the cells of the chunk are as they were.
+    pub fn put_cells(
+        &self,
+        alloc: Global,
+        chunk: &mut [u8],
+        part: &[u8],
+        data_type: &DataType,
+        number: u64,
+    ) -> Result<(), AllocError>
+        requires number { number < subchunk_count (chunk_shape self.now) (subchunk_shape self.now) }
+        requires held { HasCells (kind data_type.now) (fixed chunk.old)
+            (position_count (chunk_shape self.now)) }
+        requires part { HasCells (kind data_type.now) (fixed part.now)
+            (position_count (subchunk_shape self.now)) }
+        ensures put { IfOk result (λ _. PutsSubchunk (kind data_type.now) (chunk_shape self.now)
+            (subchunk_shape self.now) number (fixed part.now) (fixed chunk.old)
+            (fixed chunk.new)) }
+        ensures refused { IfErr result (λ _. chunk.new ≡ chunk.old) }
+    {
+        let size = data_type.element_size().unwrap();
+        let start = self.start_of(alloc, number)?;
+        let (sub, origin) = (self.shape.as_slice(), self.chunk_box.start());
+        let from = Corner {
+            shape: sub,
+            start: origin,
+        };
+        let to = Corner {
+            shape: self.chunk_box.shape(),
+            start: start.as_slice(),
+        };
+        copy_box(part, from, chunk, to, sub, size);
+        Ok(())
+    }
+
+    /// Where the subchunk of this number starts.
+    #[inline]
+    fn start_of(&self, alloc: Global, number: u64) -> Result<ArrayIndicesTinyVec, AllocError>
+        requires { number < subchunk_count (chunk_shape self.now) (subchunk_shape self.now) }
+        ensures { IfOk result (λ start. start.items ≡ corner (subchunk_shape self.now)
+            (unravel (quotients (chunk_shape self.now) (subchunk_shape self.now)) number)) }
+    {
+        tiny_corner(alloc, &self.shape, &self.grid, number)
     }
 }
 

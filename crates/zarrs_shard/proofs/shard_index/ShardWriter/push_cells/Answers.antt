@@ -6,7 +6,7 @@ use Rattle.zarrs_array_bytes.specs.ArrayData.{fixed}
 use Rattle.zarrs_array_bytes.specs.Cells.{cells}
 use Rattle.zarrs_array_bytes.proofs.Fixed.{length-fixed}
 use Rattle.zarrs_subset.specs.Boxes.{position_count}
-use Rattle.zarrs_subset.specs.Regions.{box_of}
+use Rattle.zarrs_subset.specs.Regions.{box_from, box_of}
 use Rattle.zarrs_types.proofs.Sizes.{element_size-positive}
 use Rattle.zarrs_types.specs.Cell.{Cell, fill_of}
 use Rattle.zarrs_types.specs.Kind.{kind}
@@ -29,13 +29,13 @@ is_left_out-requires-clause-has_cells c =
     let t = c.args.data_type.now in
     let k = kind t in
     let held = box_of c.args.held_box.now in
-    let part = box_of c.args.subset.now in
+    let part = box_from c.args.corner.now c.args.shape.now in
     let bytes = c.args.bytes.now in
     let old = c.args.self.now.encoded.items in
     let x = c.in_ok-add_cells.ensures.added in
     let at : length old ≡ c.len-start.result = omega (arith, c.args.self.now.encoded.ok.0, c.len-start.ensures) in
     let slice = behind_is old x.added c.deref.result.now c.len-start.result (c.deref.ensures.value ∙ x.new_is) at in
-    let e = added_extracts t c.unwrap-size.result held part bytes x.added (sym c.element_size.ensures ∙ c.unwrap-size.ensures) c.args.held_box.now.same_length c.args.subset.now.same_length c.requires.inside c.requires.held x.count x.cells_are in
+    let e = added_extracts t c.unwrap-size.result held part bytes x.added (sym c.element_size.ensures ∙ c.unwrap-size.ensures) c.args.held_box.now.same_length c.requires.long c.requires.inside c.requires.held x.count x.cells_are in
     subst (λ (b : List ℕ). IsSome (cells k (fixed b))) (sym slice) (ap is_some e.new_is)
 
 pub returns-then-is_left_out-clause-pushed : goal.returns-then-is_left_out-clause-pushed
@@ -45,13 +45,13 @@ returns-then-is_left_out-clause-pushed c =
     let f = fill_of k c.args.fill_value.now in
     let empty = c.args.store_empty in
     let held = box_of c.args.held_box.now in
-    let part = box_of c.args.subset.now in
+    let part = box_from c.args.corner.now c.args.shape.now in
     let bytes = c.args.bytes.now in
     let old = c.args.self.now.encoded.items in
     let x = c.in_ok-add_cells.ensures.added in
     let at : length old ≡ c.len-start.result = omega (arith, c.args.self.now.encoded.ok.0, c.len-start.ensures) in
     let slice = behind_is old x.added c.deref.result.now c.len-start.result (c.deref.ensures.value ∙ x.new_is) at in
-    let e = added_extracts t c.unwrap-size.result held part bytes x.added (sym c.element_size.ensures ∙ c.unwrap-size.ensures) c.args.held_box.now.same_length c.args.subset.now.same_length c.requires.inside c.requires.held x.count x.cells_are in
+    let e = added_extracts t c.unwrap-size.result held part bytes x.added (sym c.element_size.ensures ∙ c.unwrap-size.ensures) c.args.held_box.now.same_length c.requires.long c.requires.inside c.requires.held x.count x.cells_are in
     let left = at_some _ e.made (λ (cs : List Cell). c.is_left_out.result ≡ (not empty && is_all_fill f cs)) (ap (λ (b : List ℕ). cells k (fixed b)) slice ∙ e.new_is) c.is_left_out.ensures in
     IfOk-weaker c.push_absent.result _ _
     (λ done pushes. pushes_fill k empty f held bytes part c.args.self.now c.push_absent.new.self x.added e (sym left ∙ c.if-is_left_out.true)
@@ -66,13 +66,13 @@ returns-else-is_err-clause-pushed c =
     let f = fill_of k c.args.fill_value.now in
     let empty = c.args.store_empty in
     let held = box_of c.args.held_box.now in
-    let part = box_of c.args.subset.now in
+    let part = box_from c.args.corner.now c.args.shape.now in
     let bytes = c.args.bytes.now in
     let old = c.args.self.now.encoded.items in
     let x = c.in_ok-add_cells.ensures.added in
     let at : length old ≡ c.len-start.result = omega (arith, c.args.self.now.encoded.ok.0, c.len-start.ensures) in
     let slice = behind_is old x.added c.deref.result.now c.len-start.result (c.deref.ensures.value ∙ x.new_is) at in
-    let e = added_extracts t c.unwrap-size.result held part bytes x.added (sym c.element_size.ensures ∙ c.unwrap-size.ensures) c.args.held_box.now.same_length c.args.subset.now.same_length c.requires.inside c.requires.held x.count x.cells_are in
+    let e = added_extracts t c.unwrap-size.result held part bytes x.added (sym c.element_size.ensures ∙ c.unwrap-size.ensures) c.args.held_box.now.same_length c.requires.long c.requires.inside c.requires.held x.count x.cells_are in
     let left = at_some _ e.made (λ (cs : List Cell). c.is_left_out.result ≡ (not empty && is_all_fill f cs)) (ap (λ (b : List ℕ). cells k (fixed b)) slice ∙ e.new_is) c.is_left_out.ensures in
     let long : c.len.result - c.len-start.result ≡ length x.added =
     omega (arith, ap length x.new_is, length-append old x.added, c.len.ensures, c.add_cells.new.self.encoded.ok.0, at) in
