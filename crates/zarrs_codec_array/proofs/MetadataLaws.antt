@@ -10,7 +10,8 @@ use Rattle.zarrs_metadata.specs.Extension.{ExtensionData}
 use Rattle.zarrs_metadata.proofs.ListLemmas.{all_of-items_of, numbers_of-numbers_data}
 use Rattle.zarrs_codec_array.specs.Arrays.{product_of}
 use Rattle.zarrs_codec_array.specs.Extents.{extent_view, extents_view}
-use Rattle.zarrs_codec_array.specs.Metadata.{array_codec_data, extent_said, extent_data, transpose_of}
+use Rattle.zarrs_codec_array.specs.Metadata.{extent_said, extent_data, transpose_of}
+use Rattle.zarrs_codec_array.specs.ArrayCodecs.{array_codec_data}
 use Rattle.zarrs_codec_array.specs.Metadata.{reshape_of, array_codec_said, with_one_member, extension_of_array_codec}
 use Rattle.zarrs_codec_array.specs.Reshape.{entries_of}
 use Rattle.zarrs_codec_array.specs.declared.array.ArrayToArrayCodec.{ArrayToArrayCodec}

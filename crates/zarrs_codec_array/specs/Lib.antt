@@ -1,6 +1,7 @@
 pub mod ArrayCodecs
 pub mod ArrayLaws
 pub mod Arrays
+pub mod Configurations
 pub mod Extents
 pub mod Gathered
 pub mod Metadata

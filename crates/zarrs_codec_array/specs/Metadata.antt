@@ -10,24 +10,9 @@ use Rattle.zarrs_metadata.specs.Extension.{ExtensionData, settings, named}
 use Rattle.zarrs_metadata.specs.Lists.{list_of, list_data, number_of, number_data, numbers_of, numbers_data}
 use Rattle.zarrs_metadata.specs.Members.{has_only}
 use Rattle.zarrs_codec_array.specs.Arrays.{Extent, size, product_of, rest}
+use Rattle.zarrs_codec_array.specs.Configurations.{ArrayCodecData, transpose, reshape, squeeze}
 use Rattle.zarrs_codec_array.specs.Extents.{is_reshape}
 use Rattle.zarrs_codec_array.specs.Orders.{is_order}
-use Rattle.zarrs_codec_array.specs.Reshape.{entries_of}
-use Rattle.zarrs_codec_array.specs.Transpose.{order_of}
-use Rattle.zarrs_codec_array.specs.declared.array.ArrayToArrayCodec.{ArrayToArrayCodec}
-use Rattle.zarrs_codec_array.specs.declared.array.ArrayToArrayCodec.TheVariants as code
-
--- a codec with its configuration
-pub data ArrayCodecData : Type 0 where
-  transpose : List ℕ → ArrayCodecData
-  reshape : List Extent → ArrayCodecData
-  squeeze : ArrayCodecData
-
--- the configuration of a codec
-abbrev pub array_codec_data : ArrayToArrayCodec → ArrayCodecData
-array_codec_data (code.Transpose t) = transpose (order_of t)
-array_codec_data (code.Reshape r) = reshape (entries_of r)
-array_codec_data (code.Squeeze s) = squeeze
 
 -- ---- what metadata says
 

@@ -9,7 +9,8 @@ ghost use Rattle.zarrs_metadata.specs.Lists.{all_of, list_of, list_data, number_
 ghost use Rattle.zarrs_metadata.specs.Refusals.{RefusesMeaning};
 ghost use Rattle.zarrs_codec_array.specs.Arrays.{size, rest};
 ghost use Rattle.zarrs_codec_array.specs.Extents.{extent_view, extents_view};
-ghost use Rattle.zarrs_codec_array.specs.Metadata.{array_codec_data, only_member, extent_of_number, rest_of};
+ghost use Rattle.zarrs_codec_array.specs.Metadata.{only_member, extent_of_number, rest_of};
+ghost use Rattle.zarrs_codec_array.specs.ArrayCodecs.{array_codec_data};
 ghost use Rattle.zarrs_codec_array.specs.Metadata.{extent_said, extent_data, transpose_said};
 ghost use Rattle.zarrs_codec_array.specs.Metadata.{reshape_said, squeeze_said, array_codec_said};
 ghost use Rattle.zarrs_codec_array.specs.Metadata.{with_one_member, extension_of_array_codec};

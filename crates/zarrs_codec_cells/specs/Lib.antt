@@ -1,5 +1,6 @@
 pub mod CellsCodecLaws
 pub mod CellsCodecs
+pub mod Configurations
 pub mod Metadata
 pub mod Optional
 pub mod OptionalLaws

@@ -2,12 +2,14 @@
 #![tactic(auto)]
 
 mod bytes;
+mod codec;
 mod error;
 mod packbits;
 mod vlen;
 mod vlen_strings;
 
 pub use bytes::{BytesCodec, Endianness};
+pub use codec::LeafCodec;
 pub use error::{CodecError, Misfit};
 pub use packbits::PackBitsCodec;
 pub use vlen::VlenCodec;

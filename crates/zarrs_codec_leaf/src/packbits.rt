@@ -5,9 +5,11 @@ ghost use Rattle.zarrs_data_type.specs.Cells.{cells};
 ghost use Rattle.zarrs_data_type.specs.Kind.{kind};
 ghost use Rattle.zarrs_codec_leaf.specs.PackBits.{are_zero, byte_bits, packbits_meaning, packed};
 ghost use Rattle.zarrs_codec_leaf.specs.PackBits.{packed_byte};
+ghost use Rattle.zarrs_codec_leaf.specs.PackBitsLaws.{packbits-lawful};
 ghost use Rattle.zarrs_codec_leaf.specs.Refusals.{RefusesEncoding, RefusesDecoding};
 ghost use Rattle.zarrs_codec_leaf.specs.Leaf.{encoding_of};
 
+use crate::codec::LeafCodec;
 use crate::error::{CodecError, Misfit};
 use std::alloc::{AllocError, Global};
 use std::borrow::CowSlice;
@@ -18,33 +20,22 @@ use zarrs_numbers::{Writing, written};
 #[derive(Clone, Copy, Debug, Default, Drop, PartialEq, Eq)]
 pub struct PackBitsCodec;
 
-impl PackBitsCodec {
-    /// Whether the codec takes cells of this type.
-    pub fn takes(&self, data_type: &DataType) -> bool
-        ensures { result ≡ packbits_meaning.takes (kind data_type.now) }
-    {
+impl LeafCodec for PackBitsCodec {
+    ghost meaning = { λ _. packbits_meaning };
+
+    fn takes(&self, data_type: &DataType) -> bool {
         match data_type {
             DataType::Bool => true,
             _ => false,
         }
     }
 
-    /// The bytes of the cells.
-    ///
-    /// # Errors
-    /// `DoesNotFit` if the codec does not take the type. `OutOfMemory` may come at any time.
-    pub fn encode(
+    fn encode(
         &self,
         alloc: Global,
         bytes: &ArrayBytes<'_>,
         data_type: &DataType,
-    ) -> Result<Vec<u8>, CodecError>
-        requires { IsSome (cells (kind data_type.now) (data_of bytes.now)) }
-        ensures encoded { IfOk result (λ encoded. encoding_of packbits_meaning (kind data_type.now)
-            (data_of bytes.now) ≡ Some encoded.items) }
-        ensures refused { IfErr result (RefusesEncoding packbits_meaning (kind data_type.now)
-            (data_of bytes.now)) }
-    {
+    ) -> Result<Vec<u8>, CodecError> {
         if !self.takes(data_type) {
             return Err(CodecError::DoesNotFit(Misfit::TypeOrShape));
         }
@@ -55,25 +46,13 @@ impl PackBitsCodec {
         }
     }
 
-    /// The `count` cells of the bytes.
-    ///
-    /// # Errors
-    /// `DoesNotFit` if the codec does not take the type, if there are more or fewer bytes than
-    /// `count` bools need, or if a bit behind the last bool is not 0. `OutOfMemory` may come at any
-    /// time.
-    pub fn decode<'a>(
+    fn decode<'a>(
         &self,
         alloc: Global,
         encoded: &'a [u8],
         data_type: &DataType,
         count: u64,
-    ) -> Result<ArrayBytes<'a>, CodecError>
-        ensures cells { IfOk result (λ made. cells (kind data_type.now) (data_of made)
-            ≡ packbits_meaning.decoded (kind data_type.now) count encoded.now) }
-        ensures some { IfOk result (λ made. IsSome (cells (kind data_type.now) (data_of made))) }
-        ensures refused { IfErr result (RefusesDecoding packbits_meaning (kind data_type.now) count
-            encoded.now) }
-    {
+    ) -> Result<ArrayBytes<'a>, CodecError> {
         if !self.takes(data_type) {
             return Err(CodecError::DoesNotFit(Misfit::TypeOrShape));
         }
@@ -88,6 +67,8 @@ impl PackBitsCodec {
         flags.truncate(count as usize);
         Ok(ArrayBytes::Fixed(CowSlice::Owned(flags)))
     }
+
+    ghost lawful = { λ _. packbits-lawful };
 }
 
 /// The flags, eight to a byte.

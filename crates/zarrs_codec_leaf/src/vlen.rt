@@ -8,9 +8,11 @@ ghost use Rattle.zarrs_data_type.specs.ArrayData.{data_of};
 ghost use Rattle.zarrs_data_type.specs.Cells.{cells};
 ghost use Rattle.zarrs_data_type.specs.Kind.{kind};
 ghost use Rattle.zarrs_codec_leaf.specs.Vlen.{cut, indexed, split_index, unindexed, vlen_meaning};
+ghost use Rattle.zarrs_codec_leaf.specs.VlenLaws.{vlen-lawful};
 ghost use Rattle.zarrs_codec_leaf.specs.Refusals.{RefusesEncoding, RefusesDecoding};
 ghost use Rattle.zarrs_codec_leaf.specs.Leaf.{encoding_of};
 
+use crate::codec::LeafCodec;
 use crate::error::{CodecError, Misfit};
 use std::alloc::{AllocError, Global};
 use std::borrow::CowSlice;
@@ -21,31 +23,19 @@ use zarrs_data_type::{ArrayBytes, ArrayBytesOffsets, ArrayBytesVariableLength, D
 #[derive(Clone, Copy, Debug, Default, Drop, PartialEq, Eq)]
 pub struct VlenCodec;
 
-impl VlenCodec {
-    /// Whether the codec takes cells of this type.
-    pub fn takes(&self, data_type: &DataType) -> bool
-        ensures { result ≡ vlen_meaning.takes (kind data_type.now) }
-    {
+impl LeafCodec for VlenCodec {
+    ghost meaning = { λ _. vlen_meaning };
+
+    fn takes(&self, data_type: &DataType) -> bool {
         data_type.is_variable()
     }
 
-    /// The bytes of the cells.
-    ///
-    /// # Errors
-    /// In this order: `DoesNotFit` if the codec does not take the type; `SizeOverflow` if the length of the index does
-    /// not fit 8 bytes. `OutOfMemory` may come at any time.
-    pub fn encode(
+    fn encode(
         &self,
         alloc: Global,
         bytes: &ArrayBytes<'_>,
         data_type: &DataType,
-    ) -> Result<Vec<u8>, CodecError>
-        requires { IsSome (cells (kind data_type.now) (data_of bytes.now)) }
-        ensures encoded { IfOk result (λ encoded. encoding_of vlen_meaning (kind data_type.now)
-            (data_of bytes.now) ≡ Some encoded.items) }
-        ensures refused { IfErr result (RefusesEncoding vlen_meaning (kind data_type.now)
-            (data_of bytes.now)) }
-    {
+    ) -> Result<Vec<u8>, CodecError> {
         if !self.takes(data_type) {
             return Err(CodecError::DoesNotFit(Misfit::TypeOrShape));
         }
@@ -62,24 +52,13 @@ impl VlenCodec {
         }
     }
 
-    /// The `count` cells of the bytes.
-    ///
-    /// # Errors
-    /// `DoesNotFit` if the codec does not take the type, or if the bytes are not `count` cells of it. `OutOfMemory` may
-    /// come at any time.
-    pub fn decode<'a>(
+    fn decode<'a>(
         &self,
         alloc: Global,
         encoded: &'a [u8],
         data_type: &DataType,
         count: u64,
-    ) -> Result<ArrayBytes<'a>, CodecError>
-        ensures cells { IfOk result (λ made. cells (kind data_type.now) (data_of made)
-            ≡ vlen_meaning.decoded (kind data_type.now) count encoded.now) }
-        ensures some { IfOk result (λ made. IsSome (cells (kind data_type.now) (data_of made))) }
-        ensures refused { IfErr result (RefusesDecoding vlen_meaning (kind data_type.now) count
-            encoded.now) }
-    {
+    ) -> Result<ArrayBytes<'a>, CodecError> {
         if !self.takes(data_type) {
             return Err(CodecError::DoesNotFit(Misfit::TypeOrShape));
         }
@@ -95,6 +74,8 @@ impl VlenCodec {
             None => Err(CodecError::DoesNotFit(Misfit::Bytes)),
         }
     }
+
+    ghost lawful = { λ _. vlen-lawful };
 }
 
 /// The length of the index, the index and the data of byte strings, or `None` if the length of the index does not fit

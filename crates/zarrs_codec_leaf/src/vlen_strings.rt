@@ -7,9 +7,11 @@ ghost use Rattle.zarrs_data_type.specs.Kind.{kind};
 ghost use Rattle.zarrs_codec_leaf.specs.VlenStrings.{behind_length, counted_strings, first_string};
 ghost use Rattle.zarrs_codec_leaf.specs.VlenStrings.{is_short, strings_of, uncounted};
 ghost use Rattle.zarrs_codec_leaf.specs.VlenStrings.{vlen_bytes_meaning, vlen_utf8_meaning};
+ghost use Rattle.zarrs_codec_leaf.specs.VlenStringsLaws.{vlen_bytes-lawful, vlen_utf8-lawful};
 ghost use Rattle.zarrs_codec_leaf.specs.Refusals.{RefusesEncoding, RefusesDecoding};
 ghost use Rattle.zarrs_codec_leaf.specs.Leaf.{encoding_of};
 
+use crate::codec::LeafCodec;
 use crate::error::{CodecError, Misfit};
 use std::alloc::{AllocError, Global};
 use zarrs_data_type::{ArrayBytes, ArrayBytesVariableLength, DataType, VariableLengthBuilder};
@@ -23,34 +25,22 @@ pub struct VlenUtf8Codec;
 #[derive(Clone, Copy, Debug, Default, Drop, PartialEq, Eq)]
 pub struct VlenBytesCodec;
 
-impl VlenUtf8Codec {
-    /// Whether the codec takes cells of this type.
-    pub fn takes(&self, data_type: &DataType) -> bool
-        ensures { result ≡ vlen_utf8_meaning.takes (kind data_type.now) }
-    {
+impl LeafCodec for VlenUtf8Codec {
+    ghost meaning = { λ _. vlen_utf8_meaning };
+
+    fn takes(&self, data_type: &DataType) -> bool {
         match data_type {
             DataType::String => true,
             _ => false,
         }
     }
 
-    /// The bytes of the cells.
-    ///
-    /// # Errors
-    /// In this order: `DoesNotFit` if the codec does not take the type; `SizeOverflow` if the number of the cells, or
-    /// the length of one, does not fit 4 bytes. `OutOfMemory` may come at any time.
-    pub fn encode(
+    fn encode(
         &self,
         alloc: Global,
         bytes: &ArrayBytes<'_>,
         data_type: &DataType,
-    ) -> Result<Vec<u8>, CodecError>
-        requires { IsSome (cells (kind data_type.now) (data_of bytes.now)) }
-        ensures encoded { IfOk result (λ encoded. encoding_of vlen_utf8_meaning (kind data_type.now)
-            (data_of bytes.now) ≡ Some encoded.items) }
-        ensures refused { IfErr result (RefusesEncoding vlen_utf8_meaning (kind data_type.now)
-            (data_of bytes.now)) }
-    {
+    ) -> Result<Vec<u8>, CodecError> {
         if !self.takes(data_type) {
             return Err(CodecError::DoesNotFit(Misfit::TypeOrShape));
         }
@@ -67,24 +57,13 @@ impl VlenUtf8Codec {
         }
     }
 
-    /// The `count` cells of the bytes.
-    ///
-    /// # Errors
-    /// `DoesNotFit` if the codec does not take the type, or if the bytes are not `count` cells of it. `OutOfMemory` may
-    /// come at any time.
-    pub fn decode<'a>(
+    fn decode<'a>(
         &self,
         alloc: Global,
         encoded: &'a [u8],
         data_type: &DataType,
         count: u64,
-    ) -> Result<ArrayBytes<'a>, CodecError>
-        ensures cells { IfOk result (λ made. cells (kind data_type.now) (data_of made)
-            ≡ vlen_utf8_meaning.decoded (kind data_type.now) count encoded.now) }
-        ensures some { IfOk result (λ made. IsSome (cells (kind data_type.now) (data_of made))) }
-        ensures refused { IfErr result (RefusesDecoding vlen_utf8_meaning (kind data_type.now) count
-            encoded.now) }
-    {
+    ) -> Result<ArrayBytes<'a>, CodecError> {
         if !self.takes(data_type) {
             return Err(CodecError::DoesNotFit(Misfit::TypeOrShape));
         }
@@ -100,37 +79,26 @@ impl VlenUtf8Codec {
             None => Err(CodecError::DoesNotFit(Misfit::Bytes)),
         }
     }
+
+    ghost lawful = { λ _. vlen_utf8-lawful };
 }
 
-impl VlenBytesCodec {
-    /// Whether the codec takes cells of this type.
-    pub fn takes(&self, data_type: &DataType) -> bool
-        ensures { result ≡ vlen_bytes_meaning.takes (kind data_type.now) }
-    {
+impl LeafCodec for VlenBytesCodec {
+    ghost meaning = { λ _. vlen_bytes_meaning };
+
+    fn takes(&self, data_type: &DataType) -> bool {
         match data_type {
             DataType::Bytes => true,
             _ => false,
         }
     }
 
-    /// The bytes of the cells.
-    ///
-    /// # Errors
-    /// In this order: `DoesNotFit` if the codec does not take the type; `SizeOverflow` if the number of the cells, or
-    /// the length of one, does not fit 4 bytes. `OutOfMemory` may come at any time.
-    pub fn encode(
+    fn encode(
         &self,
         alloc: Global,
         bytes: &ArrayBytes<'_>,
         data_type: &DataType,
-    ) -> Result<Vec<u8>, CodecError>
-        requires { IsSome (cells (kind data_type.now) (data_of bytes.now)) }
-        ensures encoded { IfOk result
-            (λ encoded. encoding_of vlen_bytes_meaning (kind data_type.now)
-            (data_of bytes.now) ≡ Some encoded.items) }
-        ensures refused { IfErr result (RefusesEncoding vlen_bytes_meaning (kind data_type.now)
-            (data_of bytes.now)) }
-    {
+    ) -> Result<Vec<u8>, CodecError> {
         if !self.takes(data_type) {
             return Err(CodecError::DoesNotFit(Misfit::TypeOrShape));
         }
@@ -147,24 +115,13 @@ impl VlenBytesCodec {
         }
     }
 
-    /// The `count` cells of the bytes.
-    ///
-    /// # Errors
-    /// `DoesNotFit` if the codec does not take the type, or if the bytes are not `count` cells of it. `OutOfMemory` may
-    /// come at any time.
-    pub fn decode<'a>(
+    fn decode<'a>(
         &self,
         alloc: Global,
         encoded: &'a [u8],
         data_type: &DataType,
         count: u64,
-    ) -> Result<ArrayBytes<'a>, CodecError>
-        ensures cells { IfOk result (λ made. cells (kind data_type.now) (data_of made)
-            ≡ vlen_bytes_meaning.decoded (kind data_type.now) count encoded.now) }
-        ensures some { IfOk result (λ made. IsSome (cells (kind data_type.now) (data_of made))) }
-        ensures refused { IfErr result (RefusesDecoding vlen_bytes_meaning (kind data_type.now)
-            count encoded.now) }
-    {
+    ) -> Result<ArrayBytes<'a>, CodecError> {
         if !self.takes(data_type) {
             return Err(CodecError::DoesNotFit(Misfit::TypeOrShape));
         }
@@ -180,6 +137,8 @@ impl VlenBytesCodec {
             None => Err(CodecError::DoesNotFit(Misfit::Bytes)),
         }
     }
+
+    ghost lawful = { λ _. vlen_bytes-lawful };
 }
 
 /// The bytes of byte strings, or `None` if their number or a length does not fit 4 bytes.

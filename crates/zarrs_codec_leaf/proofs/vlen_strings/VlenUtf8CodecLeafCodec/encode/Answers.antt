@@ -7,7 +7,7 @@ use Rattle.zarrs_data_type.specs.Kind.{kind}
 use Rattle.zarrs_codec_leaf.specs.VlenStrings.{counted_strings, is_string, uncounted}
 use Rattle.zarrs_codec_leaf.specs.VlenStringsLaws.{string-variable}
 use Rattle.zarrs_codec_leaf.proofs.StringData.{encoding_of-strings, fixed_untaken, optional_untaken}
-use Rattle.zarrs_codec_leaf.proofs.vlen_strings.VlenUtf8Codec.encode.Goals as goal
+use Rattle.zarrs_codec_leaf.proofs.vlen_strings.VlenUtf8CodecLeafCodec.encode.Goals as goal
 
 pub returns-in-Fixed-clause-refused : goal.returns-in-Fixed-clause-refused
 returns-in-Fixed-clause-refused c =

@@ -4,7 +4,7 @@ use Rattle.zarrs_data_type.specs.Kind.{is_variable, kind}
 use Rattle.zarrs_codec_leaf.specs.Vlen.{indexed, unindexed}
 use Rattle.zarrs_codec_leaf.specs.VlenLaws.{vlen-lawful}
 use Rattle.zarrs_codec_leaf.proofs.StringData.{decoded-strings, refused-strings, unread-strings}
-use Rattle.zarrs_codec_leaf.proofs.vlen.VlenCodec.decode.Goals as goal
+use Rattle.zarrs_codec_leaf.proofs.vlen.VlenCodecLeafCodec.decode.Goals as goal
 
 pub returns-else-not-validate-clause-cells : goal.returns-else-not-validate-clause-cells
 returns-else-not-validate-clause-cells c =

@@ -5,7 +5,7 @@ use Rattle.zarrs_data_type.specs.Cells.{cells}
 use Rattle.zarrs_data_type.specs.Kind.{kind}
 use Rattle.zarrs_codec_leaf.specs.PackBits.{bits}
 use Rattle.zarrs_codec_leaf.proofs.PackedData.{ceil_len, decoded-flags, decoded-unpadded}
-use Rattle.zarrs_codec_leaf.proofs.packbits.PackBitsCodec.decode.Goals as goal
+use Rattle.zarrs_codec_leaf.proofs.packbits.PackBitsCodecLeafCodec.decode.Goals as goal
 
 pub returns-then-not-are_zero-clause-refused : goal.returns-then-not-are_zero-clause-refused
 returns-then-not-are_zero-clause-refused c =

@@ -5,7 +5,7 @@ use Rattle.zarrs_data_type.specs.Cells.{cells}
 use Rattle.zarrs_data_type.specs.Kind.{kind}
 use Rattle.zarrs_codec_leaf.proofs.Encodings.{variable-unsized, optional-unsized}
 use Rattle.zarrs_codec_leaf.proofs.PackedData.{bools_small, data_bools, encoding_of-packed, unsized_bool}
-use Rattle.zarrs_codec_leaf.proofs.packbits.PackBitsCodec.encode.Goals as goal
+use Rattle.zarrs_codec_leaf.proofs.packbits.PackBitsCodecLeafCodec.encode.Goals as goal
 
 pub packed-requires : goal.packed-requires
 packed-requires c =

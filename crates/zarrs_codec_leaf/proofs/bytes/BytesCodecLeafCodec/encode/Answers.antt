@@ -7,7 +7,7 @@ use Rattle.zarrs_data_type.specs.Kind.{kind}
 use Rattle.zarrs_codec_leaf.specs.Bytes.{bytes_meaning_of, endian_of, has_byte_order}
 use Rattle.zarrs_codec_leaf.specs.Leaf.{encoding_of}
 use Rattle.zarrs_codec_leaf.proofs.Encodings.{encoding_of-bytes, variable-unsized, optional-unsized}
-use Rattle.zarrs_codec_leaf.proofs.bytes.BytesCodec.encode.Goals as goal
+use Rattle.zarrs_codec_leaf.proofs.bytes.BytesCodecLeafCodec.encode.Goals as goal
 
 pub returns-in-Variable-clause-refused : goal.returns-in-Variable-clause-refused
 returns-in-Variable-clause-refused c =
