@@ -1,3 +1,4 @@
+pub mod BytesInto
 pub mod BytesParts
 pub mod IntoSteps
 pub mod Kept
@@ -9,4 +10,5 @@ pub mod Stays
 pub mod SubchunkPieces
 pub mod SubchunkSteps
 pub mod SubchunkWalks
+pub mod Turns
 pub mod WholeParts

@@ -13,7 +13,7 @@ ghost use Rattle.zarrs_parts.specs.Refusals.{RefusesPartDecoding};
 use crate::error::PartError;
 use std::alloc::Global;
 use zarrs_array_bytes::{ArrayBytes, DataType};
-use zarrs_codec_leaf::{BytesCodec, CodecError, Misfit};
+use zarrs_codec_leaf::{BytesCodec, CodecError, LeafCodec, Misfit};
 use zarrs_source::{ByteSource, Window, read_box};
 use zarrs_subset::{ArraySubset, element_count};
 
@@ -65,7 +65,7 @@ pub fn partial_decode_bytes<B: ByteSource>(
 }
 
 /// Whether the cells of a chunk of this shape have so many bytes.
-fn is_length_of(len: u64, shape: &[u64], data_type: &DataType, size: usize) -> bool
+pub(crate) fn is_length_of(len: u64, shape: &[u64], data_type: &DataType, size: usize) -> bool
     requires sized { element_size (kind data_type.now) ≡ Some size }
     requires small { position_count shape.now * cell_size (kind data_type.now) < 2 ^ 64 }
     ensures { IsTrue result ↔ (len ≡ position_count shape.now * size) }
