@@ -9,7 +9,9 @@ use Rattle.zarrs_metadata.specs.Refusals.{RefusesMeaning}
 use Rattle.zarrs_metadata.specs.declared.error.PluginCreateError.{PluginCreateError}
 use Rattle.zarrs_metadata.specs.declared.error.PluginCreateError.TheVariants as plugin
 use Rattle.zarrs_metadata.specs.declared.extension.MetadataV3.{MetadataV3}
-use Rattle.zarrs_codec_array.specs.Metadata.{ArrayCodecData, array_codec_data, array_codec_said, extension_of_array_codec}
+use Rattle.zarrs_codec_array.specs.Metadata.{array_codec_said, extension_of_array_codec}
+use Rattle.zarrs_codec_array.specs.ArrayCodecs.{array_codec_data}
+use Rattle.zarrs_codec_array.specs.Configurations.{ArrayCodecData}
 use Rattle.zarrs_codec_array.specs.declared.array.ArrayToArrayCodec.{ArrayToArrayCodec}
 use Rattle.zarrs_codec_array.proofs.MetadataLaws.{array_codec_back}
 use Rattle.std.specs.Int.NonZero.{non_zero_u64_get}
@@ -22,16 +24,20 @@ use Rattle.serde_json.specs.View.{items_of}
 use Rattle.zarrs_metadata.specs.Extension.{extension_of, extension_data, settings}
 use Rattle.zarrs_metadata.specs.Lists.{all_of, list_of, list_data, number_data}
 use Rattle.zarrs_metadata.proofs.ListLemmas.{all_of-items_of}
-use Rattle.zarrs_codec_array.specs.Metadata.{transpose, reshape, squeeze}
+use Rattle.zarrs_codec_array.specs.Configurations.{transpose, reshape, squeeze}
 use Rattle.zarrs_codec_leaf.specs.Bytes.{endian_of}
 use Rattle.zarrs_codec_leaf.specs.declared.bytes.Endianness.TheVariants.{Little, Big}
-use Rattle.zarrs_codec_cells.specs.Metadata.{CellsCodecData, bytes, packbits, vlen_utf8, vlen_bytes, vlen, optional, optional_codec_data, extension_of_cells_codec}
+use Rattle.zarrs_codec_cells.specs.Metadata.{extension_of_cells_codec}
+use Rattle.zarrs_codec_cells.specs.CellsCodecs.{optional_codec_data}
+use Rattle.zarrs_codec_cells.specs.Configurations.{CellsCodecData, bytes, packbits, vlen_utf8, vlen_bytes, vlen, optional}
 use Rattle.zarrs_codec_cells.proofs.OptionalMetadata.{codec_again, cells_codec_back}
 use Rattle.zarrs_codec.specs.Chains.{is_at_start}
 use Rattle.zarrs_codec_cells.specs.ShardingMetadata.{sizes_of}
 use Rattle.zarrs_codec.specs.declared.codec.ArrayToBytesCodec.{ArrayToBytesCodec}
 use Rattle.zarrs_codec.specs.declared.codec.ArrayToBytesCodec as code
-use Rattle.zarrs_codec.specs.Metadata.{BytesCodecData, cells, sharding, bytes_codec_data, bytes_codec_said, sharding_with}
+use Rattle.zarrs_codec.specs.Metadata.{bytes_codec_said, sharding_with}
+use Rattle.zarrs_codec.specs.Chains.{bytes_codec_data}
+use Rattle.zarrs_codec.specs.Configurations.{BytesCodecData, cells, sharding}
 use Rattle.zarrs_codec.specs.Metadata.{array_codecs_said, chain_of_parts, chain_said, last_of, extension_of_bytes_codec}
 use Rattle.zarrs_codec.specs.Metadata.{extensions_of_chain}
 use Rattle.zarrs_codec_cells.specs.ShardingMetadata.{ShardingData, sharding_data, sharding_from, sharding_extension, size_said}

@@ -5,13 +5,14 @@ use Rattle.std.proofs.lemmas.Bool.{and_parts, false≢true}
 use Rattle.zarrs_data_type.specs.declared.data_type.DataType.{DataType}
 use Rattle.zarrs_data_type.specs.ArrayData.{fixed}
 use Rattle.zarrs_data_type.specs.Cell.{Cell}
-use Rattle.zarrs_data_type.specs.Cells.{cells}
+use Rattle.zarrs_data_type.specs.Cells.{cells, HasCells}
 use Rattle.zarrs_data_type.specs.Kind.{Kind, kind}
+use Rattle.zarrs_subset.specs.Boxes.{position_count}
 use Rattle.zarrs_codec_array.specs.declared.array.ArrayToArrayCodec.{ArrayToArrayCodec}
 use Rattle.zarrs_codec_leaf.specs.Bytes.{bytes_meaning_of, endian_of, reverses, takes_bytes}
 use Rattle.zarrs_codec_leaf.specs.declared.bytes.Endianness.{Endianness}
 use Rattle.zarrs_codec_leaf.specs.declared.bytes.Endianness.TheVariants as endian
-use Rattle.zarrs_codec_leaf.proofs.Encodings.{encoding_of-bytes}
+use Rattle.zarrs_codec_leaf.proofs.Encodings.{decoded-cells, decoded-none, encoding_of-bytes}
 use Rattle.zarrs_shard.specs.CellParts.{PushesSubchunk}
 use Rattle.zarrs_shard.specs.Sharded.{SubchunkMeaning, is_all_fill}
 use Rattle.zarrs_shard.specs.Subchunks.{subchunk_at}
@@ -19,9 +20,10 @@ use Rattle.zarrs_shard.specs.declared.shard_index.ShardWriter.{ShardWriter}
 use Rattle.zarrs_codec.specs.declared.chain.CodecChain.{CodecChain}
 use Rattle.zarrs_codec.specs.declared.codec.ArrayToBytesCodec.{ArrayToBytesCodec}
 use Rattle.zarrs_codec.specs.declared.codec.ArrayToBytesCodec as codec
+use Rattle.zarrs_codec.specs.ChainLaws.{same_cells}
 use Rattle.zarrs_codec.specs.Chains.{array_to_array_of, array_to_bytes_of, behind, chain_meaning, codec_meaning}
-use Rattle.zarrs_codec.specs.Chains.{codec_keeps_cells, keeps_cells, keeps_order, no_codec}
-use Rattle.zarrs_codec.specs.Shardings.{cells_of, subchunk_meaning, PushesCells}
+use Rattle.zarrs_codec.specs.Chains.{codec_keeps_cells, keeps_cells, keeps_order, leaf_meaning, no_codec}
+use Rattle.zarrs_codec.specs.Shardings.{cells_of, subchunk_meaning, PushesCells, ReadsCells}
 
 -- no cell's bytes are put in reverse
 none_reversed : (e : Option Endianness) (k : Kind) → keeps_order e ≡ true → reverses e k ≡ false
@@ -66,3 +68,31 @@ pushes_kept chain t empty f s sub n bytes old new keeps fits x =
       part_is = kept_part left (m.encoded cs) x.added (chain_kept t x.added cs x.extracts.new_is chain empty f sub keeps fits);
       pushes = x.pushes;
     })
+
+-- ---- subchunks that are read as they stand in the shard
+
+module _ (t : DataType) (f : Cell) (sub b : List ℕ) where
+  codec_same : (codecs : List ArrayToArrayCodec) (c : ArrayToBytesCodec) → no_codec codecs ≡ true → codec_keeps_cells c ≡ true → (leaf_meaning c).takes (kind t) ≡ true
+      → HasCells (kind t) (fixed b) (position_count sub) → cells (kind t) (fixed b) ≡ (behind codecs (codec_meaning c)).decoded (kind t) f sub b
+  codec_same [] (codec.Bytes bytes) none keeps taken has =
+      let e = endian_of bytes in
+      (decoded-cells e t b b taken (λ r. refl) (λ r. absurd (false≢true (sym (none_reversed e (kind t) keeps) ∙ r))) (position_count sub) has).0
+      ∙ sym (same_cells (codec_meaning (codec.Bytes bytes)) (kind t) f sub (Some b))
+  codec_same [] c none keeps taken has = cc
+  codec_same (x ∷ codecs) c none keeps taken has = cc
+
+  codec_none : (codecs : List ArrayToArrayCodec) (c : ArrayToBytesCodec) → no_codec codecs ≡ true → codec_keeps_cells c ≡ true → (leaf_meaning c).takes (kind t) ≡ true
+      → (HasCells (kind t) (fixed b) (position_count sub) → ⊥) → (behind codecs (codec_meaning c)).decoded (kind t) f sub b ≡ None
+  codec_none [] (codec.Bytes bytes) none keeps taken fails =
+      same_cells (codec_meaning (codec.Bytes bytes)) (kind t) f sub (Some b) ∙ decoded-none (endian_of bytes) t (position_count sub) b taken fails
+  codec_none [] c none keeps taken fails = cc
+  codec_none (x ∷ codecs) c none keeps taken fails = cc
+
+pub reads_kept : (chain : CodecChain) (t : DataType) (f : Cell) (sub : List ℕ) → keeps_cells chain ≡ true → (leaf_meaning (array_to_bytes_of chain)).takes (kind t) ≡ true
+    → ReadsCells (chain_meaning chain) (kind t) f sub
+reads_kept chain t f sub keeps taken =
+    let both = and_parts (no_codec (array_to_array_of chain)) (codec_keeps_cells (array_to_bytes_of chain)) keeps in
+    record {
+      same = λ b has. codec_same t f sub b (array_to_array_of chain) (array_to_bytes_of chain) both.0 both.1 taken has;
+      none = λ b fails. codec_none t f sub b (array_to_array_of chain) (array_to_bytes_of chain) both.0 both.1 taken fails;
+    }

@@ -13,7 +13,8 @@ use Rattle.zarrs_types.proofs.TypeReading.{get_member-depth}
 use Rattle.zarrs_codec_leaf.specs.Chosen.{some_is, only_parts, bind_parts, map_parts}
 use Rattle.zarrs_codec_cells.specs.Metadata.{cells_codec_said}
 use Rattle.zarrs_codec_cells.proofs.OptionalMetadata.{extension_levels, array_depth, levels_of_member}
-use Rattle.zarrs_codec.specs.Metadata.{BytesCodecData, cells, array_codecs_said, chain_of_parts, chain_said, front_of, last_of, sharding_with, bytes_codec_within, bytes_codec_said}
+use Rattle.zarrs_codec.specs.Metadata.{array_codecs_said, chain_of_parts, chain_said, front_of, last_of, sharding_with, bytes_codec_within, bytes_codec_said}
+use Rattle.zarrs_codec.specs.Configurations.{BytesCodecData, cells}
 use Rattle.zarrs_codec_cells.specs.ShardingMetadata.{ShardingData, sharding_data, sharding_from, sharding_names, is_plain_index, location_said, size_said}
 
 -- ---- a codec in a configuration has fewer levels

@@ -8,7 +8,7 @@ use Rattle.zarrs_codec_leaf.specs.Refusals.{RefusesDecoding}
 use Rattle.zarrs_codec_leaf.specs.declared.error.CodecError.{CodecError}
 use Rattle.zarrs_codec_leaf.specs.declared.error.CodecError.TheVariants as error
 use Rattle.zarrs_chain.specs.Refusals.{RefusesChunkDecoding}
-use Rattle.zarrs_codec.specs.Chains.{whole_chunk}
+use Rattle.zarrs_codec.specs.Configurations.{whole_chunk}
 
 -- its refusal is one of the chain
 pub whole_chunk-refusal : (leaf : LeafMeaning) (k : Kind) (f : Cell) (s b : List ℕ) (e : CodecError)

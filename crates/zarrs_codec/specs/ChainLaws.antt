@@ -24,8 +24,10 @@ use Rattle.zarrs_codec.specs.declared.codec.ArrayToBytesCodec as codec
 use Rattle.zarrs_codec.specs.declared.chain.CodecChain.{CodecChain}
 use Rattle.zarrs_chain.specs.Chain.{ChainMeaning, IsLawfulChain, chunk_cells}
 use Rattle.zarrs_codec_cells.specs.ShardingMetadata.{sizes_of}
-use Rattle.zarrs_codec.specs.Chains.{array_to_array_of, array_to_bytes_of, behind, codec_meaning, is_at_start, leaf_meaning, no_cells, whole_chunk}
-use Rattle.zarrs_codec.specs.Chains.{chain_meaning, no_codec, with_places}
+use Rattle.zarrs_codec.specs.Chains.{array_to_array_of, array_to_bytes_of, behind, codec_meaning, is_at_start, leaf_meaning}
+use Rattle.zarrs_codec.specs.Configurations.{no_cells, whole_chunk}
+use Rattle.zarrs_codec.specs.Chains.{chain_meaning, no_codec}
+use Rattle.zarrs_codec.specs.Configurations.{with_places}
 use Rattle.zarrs_parts.specs.Places.{Places, all_places-inside, cell_places, cell_places-inside, places_behind-inside, shard_places-inside}
 use Rattle.zarrs_codec.specs.Shardings.{sharded, subchunk_meaning}
 use Rattle.zarrs_codec.specs.Through.{through-lawful}

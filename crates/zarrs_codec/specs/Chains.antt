@@ -1,18 +1,15 @@
--- What the chains of the code mean.
-use Rattle.std.specs.Prelude.{Bool, true, false, Option, Some, None, List, [], ◌∷◌, ◌&&◌}
+-- What the chains of the code are made of, and what they mean.
+use Rattle.std.specs.Prelude.{Bool, true, false, Option, Some, None, List, map, ◌&&◌}
 use Rattle.std.specs.declared.num.NonZeroU64.{NonZeroU64}
-use Rattle.zarrs_codec_array.specs.ArrayCodecs.{arrays_meaning}
+use Rattle.zarrs_codec_array.specs.ArrayCodecs.{array_codec_data, arrays_meaning}
 use Rattle.zarrs_codec_array.specs.declared.array.ArrayToArrayCodec.{ArrayToArrayCodec}
-use Rattle.zarrs_codec_leaf.specs.Bytes.{bytes_meaning_of, endian_of}
+use Rattle.zarrs_codec_leaf.specs.Bytes.{endian_of}
 use Rattle.zarrs_codec_leaf.specs.declared.bytes.Endianness.{Endianness}
 use Rattle.zarrs_codec_leaf.specs.declared.bytes.Endianness.TheVariants as endian
 use Rattle.zarrs_codec_leaf.specs.Leaf.{LeafMeaning}
-use Rattle.zarrs_codec_leaf.specs.PackBits.{packbits_meaning}
-use Rattle.zarrs_codec_leaf.specs.Vlen.{vlen_meaning}
-use Rattle.zarrs_codec_leaf.specs.VlenStrings.{vlen_utf8_meaning, vlen_bytes_meaning}
+use Rattle.zarrs_codec_cells.specs.CellsCodecs.{optional_codec_data}
+use Rattle.zarrs_codec_cells.specs.Configurations.{bytes, packbits, vlen_utf8, vlen_bytes, vlen}
 use Rattle.zarrs_codec_cells.specs.ShardingMetadata.{sizes_of}
-use Rattle.zarrs_codec_cells.specs.CellsCodecs.{optional_meaning_of}
-use Rattle.zarrs_subset.specs.Boxes.{position_count}
 use Rattle.zarrs_codec.specs.declared.codec.ArrayToBytesCodec.{ArrayToBytesCodec}
 use Rattle.zarrs_codec.specs.declared.codec.ArrayToBytesCodec as codec
 use Rattle.zarrs_codec.specs.declared.chain.BytesToBytesCodecs.{BytesToBytesCodecs}
@@ -20,10 +17,10 @@ use Rattle.zarrs_codec.specs.declared.chain.CodecChain.{CodecChain}
 use Rattle.zarrs_codec.specs.declared.sharding.ShardingCodec.{ShardingCodec}
 use Rattle.zarrs_codec.specs.declared.sharding.ShardingIndexLocation.{ShardingIndexLocation}
 use Rattle.zarrs_codec.specs.declared.sharding.ShardingIndexLocation.TheVariants as location
-use Rattle.zarrs_parts.specs.Places.{Places, all_places, cell_places}
 use Rattle.zarrs_chain.specs.Chain.{ChainMeaning}
-use Rattle.zarrs_codec.specs.Shardings.{sharded}
-use Rattle.zarrs_codec.specs.Through.{through, through_all}
+use Rattle.zarrs_codec.specs.Configurations.{BytesCodecData, ChainData, cells, sharding, cells_meaning_of, whole_chunk}
+use Rattle.zarrs_codec.specs.Configurations.{no_array_codec, behind_codecs, meaning_of_bytes_codec, meaning_of_chain}
+use Rattle.zarrs_codec.specs.Through.{through}
 
 -- the parts of a chain
 abbrev pub array_to_array_of : CodecChain → List ArrayToArrayCodec
@@ -49,57 +46,50 @@ abbrev pub is_at_start : ShardingIndexLocation → Bool
 is_at_start location.Start = true
 is_at_start location.End = false
 
--- a codec that takes no cells
-abbrev pub no_cells : LeafMeaning
-no_cells = record { takes = λ k. false; encoded = λ k cs. None; decoded = λ k n b. None }
+-- ---- the configurations of the code's codecs
 
--- what a codec means to cells alone, whatever the shape of their array: a codec of shards takes none
-abbrev pub leaf_meaning : ArrayToBytesCodec → LeafMeaning
-leaf_meaning (codec.Bytes bytes) = bytes_meaning_of (endian_of bytes)
-leaf_meaning (codec.PackBits packbits) = packbits_meaning
-leaf_meaning (codec.VlenUtf8 texts) = vlen_utf8_meaning
-leaf_meaning (codec.VlenBytes strings) = vlen_bytes_meaning
-leaf_meaning (codec.Vlen strings) = vlen_meaning
-leaf_meaning (codec.Optional optional) = optional_meaning_of optional
-leaf_meaning (codec.Sharding' p sub at before last after) = no_cells
+abbrev pub bytes_codec_data : ArrayToBytesCodec → BytesCodecData
+bytes_codec_data (codec.Bytes c) = cells (bytes (endian_of c))
+bytes_codec_data (codec.PackBits c) = cells packbits
+bytes_codec_data (codec.VlenUtf8 c) = cells vlen_utf8
+bytes_codec_data (codec.VlenBytes c) = cells vlen_bytes
+bytes_codec_data (codec.Vlen c) = cells vlen
+bytes_codec_data (codec.Optional c) = cells (optional_codec_data c)
+bytes_codec_data (codec.Sharding' p sub at before last after) =
+    sharding (sizes_of sub.items) (is_at_start at) (map array_codec_data before.items) (bytes_codec_data last)
 
--- a codec of cells as a chain: the cells are those of the whole chunk, and its bytes are compact
-abbrev pub whole_chunk : LeafMeaning → ChainMeaning
-whole_chunk leaf = record {
-  fits = λ k s. leaf.takes k;
-  encoded = λ empty k f s cs. leaf.encoded k cs;
-  decoded = λ k f s b. leaf.decoded k (position_count s) b;
-  compacts = false;
-  compacted = λ s b. Some None;
-  leaves_out = λ s b. false;
-  encodes_partly = false;
-  partly_encoded = λ empty k f s stored part cs. None;
-  places = all_places;
+abbrev pub chain_data : CodecChain → ChainData
+chain_data chain = record {
+  array_to_array = map array_codec_data (array_to_array_of chain);
+  array_to_bytes = bytes_codec_data (array_to_bytes_of chain);
 }
 
--- a chain whose reads of parts need these places
-abbrev pub with_places : Places → ChainMeaning → ChainMeaning
-with_places places m = record m { places = places }
+abbrev pub sharding_data_of : ShardingCodec → BytesCodecData
+sharding_data_of codec =
+    let inner = chain_data (inner_chain_of codec) in
+    sharding (sizes_of (subchunk_sizes_of codec)) (is_at_start (location_of codec)) inner.array_to_array inner.array_to_bytes
+
+-- ---- what they mean
+
+-- what a codec means to cells alone
+abbrev pub leaf_meaning : ArrayToBytesCodec → LeafMeaning
+leaf_meaning codec = cells_meaning_of (bytes_codec_data codec)
 
 -- whether there is no codec
 abbrev pub no_codec : List ArrayToArrayCodec → Bool
-no_codec [] = true
-no_codec (codec ∷ codecs) = false
+no_codec codecs = no_array_codec (map array_codec_data codecs)
 
--- the chain `m` behind array-to-array codecs: parts are written, and read by themselves, only if there is none
+-- the chain `m` behind array-to-array codecs
 abbrev pub behind : List ArrayToArrayCodec → ChainMeaning → ChainMeaning
-behind codecs m = through_all (no_codec codecs) (arrays_meaning codecs) m
+behind codecs m = behind_codecs (map array_codec_data codecs) m
 
 -- what a codec means
 abbrev pub codec_meaning : ArrayToBytesCodec → ChainMeaning
-codec_meaning (codec.Sharding' p sub at before last after) =
-    sharded (is_at_start at) (sizes_of sub.items) (behind before.items (codec_meaning last))
-codec_meaning (codec.Bytes bytes) = with_places cell_places (whole_chunk (leaf_meaning (codec.Bytes bytes)))
-codec_meaning c = whole_chunk (leaf_meaning c)
+codec_meaning codec = meaning_of_bytes_codec (bytes_codec_data codec)
 
 -- what a chain means
 abbrev pub chain_meaning : CodecChain → ChainMeaning
-chain_meaning chain = behind (array_to_array_of chain) (codec_meaning (array_to_bytes_of chain))
+chain_meaning chain = meaning_of_chain (chain_data chain)
 
 -- what a chain means whose last codec looks at cells alone
 abbrev pub cells_chain_meaning : CodecChain → ChainMeaning
@@ -108,8 +98,7 @@ cells_chain_meaning chain =
 
 -- what a codec of shards means
 abbrev pub sharding_meaning : ShardingCodec → ChainMeaning
-sharding_meaning codec =
-    sharded (is_at_start (location_of codec)) (sizes_of (subchunk_sizes_of codec)) (chain_meaning (inner_chain_of codec))
+sharding_meaning codec = meaning_of_bytes_codec (sharding_data_of codec)
 
 -- whether an endian leaves the bytes of each cell as they stand in memory, which is little endian
 abbrev pub keeps_order : Option Endianness → Bool
@@ -119,7 +108,7 @@ keeps_order None = true
 
 -- whether a codec makes bytes that are the cells as they stand in memory
 abbrev pub codec_keeps_cells : ArrayToBytesCodec → Bool
-codec_keeps_cells (codec.Bytes bytes) = keeps_order (endian_of bytes)
+codec_keeps_cells (codec.Bytes c) = keeps_order (endian_of c)
 codec_keeps_cells c = false
 
 -- the same, of a chain

@@ -1,8 +1,10 @@
 pub mod ChainLaws
 pub mod Chains
+pub mod Configurations
 pub mod Metadata
 pub mod PartialShardings
 pub mod ShardPartsInto
+pub mod ShardPieces
 pub mod ShardingBuilders
 pub mod Shardings
 pub mod Through

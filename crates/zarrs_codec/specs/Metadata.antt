@@ -3,53 +3,13 @@ use Rattle.std.specs.Prelude.{ℕ, zero, suc, ◌-◌, Bool, List, [], ◌∷◌
 use Rattle.std.specs.Prelude.{length, map, take, slice_get, option_map, option_and_then}
 use Rattle.std.specs.Str.{bytes_eq}
 use Rattle.zarrs_metadata.specs.Extension.{ExtensionData, settings, ◌>>=◌}
-use Rattle.zarrs_codec_array.specs.Metadata.{ArrayCodecData, array_codec_data, array_codec_said, extension_of_array_codec}
+use Rattle.zarrs_codec_array.specs.Metadata.{array_codec_said, extension_of_array_codec}
+use Rattle.zarrs_codec_array.specs.Configurations.{ArrayCodecData}
 use Rattle.zarrs_types.specs.Kind.{Kind}
 use Rattle.zarrs_types.specs.TypeMetadata.{levels_in}
-use Rattle.zarrs_codec_leaf.specs.Bytes.{endian_of}
-use Rattle.zarrs_codec_cells.specs.Metadata.{CellsCodecData, bytes, packbits, vlen_utf8, vlen_bytes, vlen, optional_codec_data}
 use Rattle.zarrs_codec_cells.specs.Metadata.{cells_codec_said, extension_of_cells_codec, default_cells_codec}
-use Rattle.zarrs_codec.specs.Chains.{array_to_array_of, array_to_bytes_of, inner_chain_of, is_at_start, location_of, subchunk_sizes_of}
-use Rattle.zarrs_codec_cells.specs.ShardingMetadata.{sizes_of}
 use Rattle.zarrs_codec_cells.specs.ShardingMetadata.{ShardingData, sharding_data, sharding_extension}
-use Rattle.zarrs_codec.specs.declared.codec.ArrayToBytesCodec.{ArrayToBytesCodec}
-use Rattle.zarrs_codec.specs.declared.codec.ArrayToBytesCodec as code
-use Rattle.zarrs_codec.specs.declared.chain.CodecChain.{CodecChain}
-use Rattle.zarrs_codec.specs.declared.sharding.ShardingCodec.{ShardingCodec}
-
--- an array-to-bytes codec with its configuration
-pub data BytesCodecData : Type 0 where
-  -- a codec that looks at cells alone
-  cells : CellsCodecData → BytesCodecData
-  -- one of shards, with the chain of the subchunks
-  sharding : (chunk_shape : List ℕ) → (at_start : Bool) → (front : List ArrayCodecData) → (last : BytesCodecData) → BytesCodecData
-
--- a chain: array-to-array codecs, the first one first, then one array-to-bytes codec
-pub record ChainData : Type 0 where
-  pub array_to_array : List ArrayCodecData
-  pub array_to_bytes : BytesCodecData
-
--- the configurations of the code's codecs
-abbrev pub bytes_codec_data : ArrayToBytesCodec → BytesCodecData
-bytes_codec_data (code.Bytes codec) = cells (bytes (endian_of codec))
-bytes_codec_data (code.PackBits codec) = cells packbits
-bytes_codec_data (code.VlenUtf8 codec) = cells vlen_utf8
-bytes_codec_data (code.VlenBytes codec) = cells vlen_bytes
-bytes_codec_data (code.Vlen codec) = cells vlen
-bytes_codec_data (code.Optional codec) = cells (optional_codec_data codec)
-bytes_codec_data (code.Sharding' p sub at before last after) =
-    sharding (sizes_of sub.items) (is_at_start at) (map array_codec_data before.items) (bytes_codec_data last)
-
-abbrev pub sharding_data_of : ShardingCodec → BytesCodecData
-sharding_data_of codec =
-    sharding (sizes_of (subchunk_sizes_of codec)) (is_at_start (location_of codec)) (map array_codec_data (array_to_array_of (inner_chain_of codec)))
-    (bytes_codec_data (array_to_bytes_of (inner_chain_of codec)))
-
-abbrev pub chain_data : CodecChain → ChainData
-chain_data chain = record {
-  array_to_array = map array_codec_data (array_to_array_of chain);
-  array_to_bytes = bytes_codec_data (array_to_bytes_of chain);
-}
+use Rattle.zarrs_codec.specs.Configurations.{BytesCodecData, ChainData, cells, sharding}
 
 -- ---- what metadata says
 

@@ -1,9 +1,11 @@
 -- What a builder of `sharding_indexed` has been told.
 use Rattle.std.specs.Prelude.{ℕ, Bool, List, map}
-use Rattle.zarrs_codec_array.specs.Metadata.{ArrayCodecData, array_codec_data}
+use Rattle.zarrs_codec_array.specs.ArrayCodecs.{array_codec_data}
+use Rattle.zarrs_codec_array.specs.Configurations.{ArrayCodecData}
 use Rattle.zarrs_codec_cells.specs.ShardingMetadata.{sizes_of}
 use Rattle.zarrs_codec.specs.Chains.{is_at_start}
-use Rattle.zarrs_codec.specs.Metadata.{BytesCodecData, bytes_codec_data, sharding}
+use Rattle.zarrs_codec.specs.Chains.{bytes_codec_data}
+use Rattle.zarrs_codec.specs.Configurations.{BytesCodecData, sharding}
 use Rattle.zarrs_codec.specs.declared.sharding_builder.ShardingCodecBuilder.{ShardingCodecBuilder}
 
 -- what a builder of the codec has been told

@@ -4,8 +4,8 @@ use Rattle.std.specs.Prelude.{Option, None, Some, List, [], ◌∷◌, ◌++◌,
 use Rattle.std.specs.List.{list_all, list_any}
 use Rattle.zarrs_types.specs.Kind.{Kind}
 use Rattle.zarrs_types.specs.Cell.{Cell, held_size}
-use Rattle.zarrs_array_bytes.specs.ArrayData.{ArrayData}
-use Rattle.zarrs_array_bytes.specs.Cells.{cells}
+use Rattle.zarrs_array_bytes.specs.ArrayData.{ArrayData, fixed}
+use Rattle.zarrs_array_bytes.specs.Cells.{cells, HasCells}
 use Rattle.zarrs_codec_leaf.specs.declared.error.CodecError.{CodecError}
 use Rattle.zarrs_codec_leaf.specs.declared.error.CodecError.TheVariants as error
 use Rattle.zarrs_shard.specs.PartialShards.{sharded_partly}
@@ -113,3 +113,25 @@ RefusesCells m k f s sub parts (error.DoesNotFit _) = decoded_parts m k f s sub 
 RefusesCells m k f s sub parts error.SizeOverflow =
     (list_any (part_leaves_out (m.leaves_out sub)) parts ≡ true) × (2 ^ 64 ≤ position_count s * held_size k f)
 RefusesCells m k f s sub parts error.OutOfMemory = Unit {0}
+
+-- ---- subchunks whose bytes are their cells as they stand in memory
+
+-- The bytes of a subchunk decode to the cells that they are in memory, and others to nothing.
+pub record ReadsCells (m : ChainMeaning) (k : Kind) (f : Cell) (sub : List ℕ) : Type 0 where
+  pub same : (b : List ℕ) → HasCells k (fixed b) (position_count sub) → cells k (fixed b) ≡ m.decoded k f sub b
+  pub none : (b : List ℕ) → (HasCells k (fixed b) (position_count sub) → ⊥) → m.decoded k f sub b ≡ None
+
+-- the cells of the parts are put into the chunk, if all its cells are one filler
+abbrev pub CopiesParts : Kind → (shape sub : List ℕ) → List (Option (List ℕ)) → (old new : ArrayData) → Type 0
+CopiesParts k s sub parts old new =
+    (m : ChainMeaning) (f : Cell) → ReadsCells m k f sub → HasFirstCells m k f s sub parts 0 old → HasFirstCells m k f s sub parts (length parts) new
+
+-- why that refuses
+abbrev pub RefusesCopies : Kind → (shape sub : List ℕ) → List (Option (List ℕ)) → CodecError → Type 0
+RefusesCopies k s sub parts e = (m : ChainMeaning) (f : Cell) → ReadsCells m k f sub → RefusesCells m k f s sub parts e
+
+-- why one part is refused: its bytes are not the cells of a subchunk
+abbrev pub RefusesCopy : Kind → (sub : List ℕ) (encoded : List ℕ) → CodecError → Type 0
+RefusesCopy k sub b (error.DoesNotFit _) = HasCells k (fixed b) (position_count sub) → ⊥
+RefusesCopy k sub b error.SizeOverflow = ⊥
+RefusesCopy k sub b error.OutOfMemory = Unit {0}

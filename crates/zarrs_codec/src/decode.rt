@@ -1,17 +1,19 @@
 //! Bytes to chunks.
-ghost use Rattle.std.specs.Prelude.{◌≡◌, ◌*◌, ◌<◌, ◌^◌, All, Some, IfOk, IfErr, IsSome, is_some, length, map};
+ghost use Rattle.std.specs.Prelude.{◌≡◌, ℕ, ◌*◌, ◌<◌, ◌^◌, All, List, Some, IfOk, IfErr, IsSome, is_some, length, map};
+ghost use Rattle.std.specs.Bool.{OnTrue};
 ghost use Rattle.std.specs.List.{list_all};
 ghost use Rattle.zarrs_subset.specs.Boxes.{position_count};
-ghost use Rattle.zarrs_data_type.specs.Kind.{kind, cell_size};
-ghost use Rattle.zarrs_data_type.specs.Cell.{fill_cell, fill_of};
-ghost use Rattle.zarrs_data_type.specs.ArrayData.{data_of};
+ghost use Rattle.zarrs_data_type.specs.Kind.{kind, cell_size, element_size};
+ghost use Rattle.zarrs_data_type.specs.Cell.{Cell, fill_cell, fill_of};
+ghost use Rattle.zarrs_data_type.specs.ArrayData.{data_of, fixed};
 ghost use Rattle.zarrs_data_type.specs.Cells.{cells, HasCells};
 ghost use Rattle.zarrs_region_cells.specs.RegionData.{region_data};
 ghost use Rattle.zarrs_shard.specs.ShardIndex.{range_part, IsRangeWithin};
-ghost use Rattle.zarrs_shard.specs.SubchunkData.{chunk_shape, subchunk_shape};
+ghost use Rattle.zarrs_shard.specs.SubchunkData.{chunk_shape, subchunk_shape, PutsSubchunk};
 ghost use Rattle.zarrs_shard.specs.Subchunks.{subchunk_count};
 ghost use Rattle.zarrs_codec.specs.Chains.{behind, chain_meaning, inner_chain_of, sharding_meaning};
 ghost use Rattle.zarrs_codec.specs.Shardings.{decoded_parts, PutsPart, RefusesCells};
+ghost use Rattle.zarrs_codec.specs.Shardings.{CopiesParts, ReadsCells, RefusesCopies, RefusesCopy};
 ghost use Rattle.zarrs_chain.specs.Refusals.{RefusesChunkDecoding};
 
 use crate::chain::CodecChain;
@@ -23,6 +25,7 @@ use zarrs_codec_leaf::{CodecError, Misfit};
 use zarrs_data_type::{ArrayBytes, DataType, FillValue};
 use zarrs_region_cells::RegionCells;
 use zarrs_shard::{SubchunkRange, Subchunks, read_index};
+use zarrs_subset::element_count;
 
 impl CodecChain {
     /// The cells of a chunk's bytes.
@@ -52,6 +55,15 @@ impl CodecChain {
             }
             _ => self.decode_cells(alloc, encoded, data_type, fill_value, shape),
         }
+    }
+
+    /// Whether the bytes of a chunk of this type are its cells as they stand in memory.
+    fn reads_cells(&self, data_type: &DataType) -> bool
+        ensures reads { OnTrue result ((fill : Cell) (shape : List ℕ)
+            → ReadsCells (chain_meaning self.now) (kind data_type.now) fill shape) }
+        ensures sized { OnTrue result (IsSome (element_size (kind data_type.now))) }
+    {
+        self.keeps_cells() && self.array_to_bytes.takes(data_type)
     }
 }
 
@@ -154,6 +166,9 @@ impl ShardingCodec {
         let Some(mut chunk) = subchunks.new_chunk(alloc, data_type, fill_value, is_whole)? else {
             return Err(CodecError::SizeOverflow);
         };
+        if self.inner_codecs().reads_cells(data_type) {
+            return with_parts(alloc, encoded, ranges, subchunks, chunk, data_type);
+        }
         for (number, range) in ranges.iter().enumerate() {
             let Some(range) = range else {
                 continue;
@@ -212,4 +227,101 @@ fn are_present(ranges: &[Option<SubchunkRange>]) -> bool
     ensures { result ≡ list_all is_some ranges.now }
 {
     ranges.iter().all(|range| range.is_some())
+}
+
+/// The cells of a chunk, with those of the subchunks that stand at these ranges of its shard as they are in memory.
+fn with_parts(
+    alloc: Global,
+    encoded: &[u8],
+    ranges: &[Option<SubchunkRange>],
+    subchunks: &Subchunks,
+    chunk: RegionCells,
+    data_type: &DataType,
+) -> Result<ArrayBytes<'static>, CodecError>
+    requires sized { IsSome (element_size (kind data_type.now)) }
+    requires size { position_count (chunk_shape subchunks.now) * cell_size (kind data_type.now)
+        < 2 ^ 64 }
+    requires within { All (IsRangeWithin (length encoded.now)) ranges.now }
+    requires count { length ranges.now
+        ≡ subchunk_count (chunk_shape subchunks.now) (subchunk_shape subchunks.now) }
+    requires held { HasCells (kind data_type.now) (region_data chunk)
+        (position_count (chunk_shape subchunks.now)) }
+    ensures copied { IfOk result (λ made. CopiesParts (kind data_type.now)
+        (chunk_shape subchunks.now) (subchunk_shape subchunks.now)
+        (map (range_part encoded.now) ranges.now) (region_data chunk) (data_of made)) }
+    ensures refused { IfErr result (RefusesCopies (kind data_type.now)
+        (chunk_shape subchunks.now) (subchunk_shape subchunks.now)
+        (map (range_part encoded.now) ranges.now)) }
+{
+    let ArrayBytes::Fixed(bytes) = chunk.into_array_bytes(alloc)? else {
+        unreachable!();
+    };
+    // They are owned, and are not copied.
+    let mut cells = bytes.into_owned(alloc)?;
+    copy_parts(alloc, encoded, ranges, subchunks, &mut cells, data_type)?;
+    Ok(ArrayBytes::new_flen(cells))
+}
+
+/// Writes the cells of the subchunks that stand at these ranges of a shard, as they are in memory, over those of the
+/// chunk.
+fn copy_parts(
+    alloc: Global,
+    encoded: &[u8],
+    ranges: &[Option<SubchunkRange>],
+    subchunks: &Subchunks,
+    chunk: &mut [u8],
+    data_type: &DataType,
+) -> Result<(), CodecError>
+    requires size { position_count (chunk_shape subchunks.now) * cell_size (kind data_type.now)
+        < 2 ^ 64 }
+    requires within { All (IsRangeWithin (length encoded.now)) ranges.now }
+    requires count { length ranges.now
+        ≡ subchunk_count (chunk_shape subchunks.now) (subchunk_shape subchunks.now) }
+    requires held { HasCells (kind data_type.now) (fixed chunk.old)
+        (position_count (chunk_shape subchunks.now)) }
+    ensures copied { IfOk result (λ _. CopiesParts (kind data_type.now)
+        (chunk_shape subchunks.now) (subchunk_shape subchunks.now)
+        (map (range_part encoded.now) ranges.now) (fixed chunk.old) (fixed chunk.new)) }
+    ensures refused { IfErr result (RefusesCopies (kind data_type.now)
+        (chunk_shape subchunks.now) (subchunk_shape subchunks.now)
+        (map (range_part encoded.now) ranges.now)) }
+{
+    for (number, range) in ranges.iter().enumerate() {
+        let Some(range) = range else {
+            continue;
+        };
+        let part = &encoded[range.start..range.end];
+        copy_part(alloc, part, subchunks, chunk, data_type, number as u64)?;
+    }
+    Ok(())
+}
+
+/// Writes the cells that these bytes are in memory over those of the subchunk of this number of a chunk.
+fn copy_part(
+    alloc: Global,
+    part: &[u8],
+    subchunks: &Subchunks,
+    chunk: &mut [u8],
+    data_type: &DataType,
+    number: u64,
+) -> Result<(), CodecError>
+    requires size { position_count (subchunk_shape subchunks.now) * cell_size (kind data_type.now)
+        < 2 ^ 64 }
+    requires number { number
+        < subchunk_count (chunk_shape subchunks.now) (subchunk_shape subchunks.now) }
+    requires held { HasCells (kind data_type.now) (fixed chunk.old)
+        (position_count (chunk_shape subchunks.now)) }
+    ensures has_cells { IfOk result (λ _. HasCells (kind data_type.now) (fixed part.now)
+        (position_count (subchunk_shape subchunks.now))) }
+    ensures put { IfOk result (λ _. PutsSubchunk (kind data_type.now) (chunk_shape subchunks.now)
+        (subchunk_shape subchunks.now) number (fixed part.now) (fixed chunk.old)
+        (fixed chunk.new)) }
+    ensures refused { IfErr result (RefusesCopy (kind data_type.now)
+        (subchunk_shape subchunks.now) part.now) }
+{
+    let count = element_count(subchunks.shape()).unwrap();
+    if !ArrayBytes::from_flen(part).validate(data_type, count) {
+        return Err(CodecError::DoesNotFit(Misfit::Bytes));
+    }
+    Ok(subchunks.put_cells(alloc, chunk, part, data_type, number)?)
 }

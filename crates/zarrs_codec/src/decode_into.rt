@@ -21,7 +21,7 @@ use crate::sharding::ShardingCodec;
 use std::alloc::Global;
 use zarrs_codec_leaf::{CodecError, Misfit};
 use zarrs_data_type::{DataType, FillValue};
-use zarrs_parts::{shifted_to, write_whole};
+use zarrs_parts::{decode_bytes_into, shifted_to, write_whole};
 use zarrs_shard::{SubchunkRange, Subchunks, read_index};
 use zarrs_subset::ArraySubset;
 use zarrs_target::{ArrayBytesDecodeIntoTarget, copy_fill_value_into};
@@ -59,6 +59,9 @@ impl CodecChain {
             return self.write_decoded(alloc, encoded, data_type, fill_value, target);
         }
         match &self.array_to_bytes {
+            ArrayToBytesCodec::Bytes(codec) => {
+                decode_bytes_into(codec, alloc, encoded, data_type, target)
+            }
             ArrayToBytesCodec::Sharding(codec) => {
                 codec.decode_shard_into(alloc, encoded, data_type, fill_value, target)
             }

@@ -28,7 +28,7 @@ use zarrs_shard::{ShardWriter, Subchunks};
 
 impl CodecChain {
     /// Whether the bytes of a chunk are its cells as they stand in memory.
-    fn keeps_cells(&self) -> bool
+    pub(crate) fn keeps_cells(&self) -> bool
         ensures { result ≡ keeps_cells self.now }
     {
         match &self.array_to_bytes {

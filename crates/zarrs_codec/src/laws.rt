@@ -4,7 +4,8 @@ ghost use Rattle.std.specs.Str.{bytes_eq};
 ghost use Rattle.zarrs_metadata.specs.Extension.{ExtensionData, settings};
 ghost use Rattle.zarrs_codec_cells.specs.Metadata.{cells_codec_said};
 ghost use Rattle.zarrs_codec_cells.specs.ShardingMetadata.{sharding_data};
-ghost use Rattle.zarrs_codec.specs.Metadata.{bytes_codec_said, cells, chain_said, sharding_with};
+ghost use Rattle.zarrs_codec.specs.Metadata.{bytes_codec_said, chain_said, sharding_with};
+ghost use Rattle.zarrs_codec.specs.Configurations.{cells};
 
 /// Metadata says an array-to-bytes codec level by level: `sharding_indexed` is a codec of shards around the chain that
 /// the codecs of its configuration say; another one is said by its name and its own configuration alone.

@@ -30,7 +30,7 @@ pub use zarrs_codec_array::{
 };
 pub use zarrs_codec_cells::{CellsCodec, MaskCodec, OptionalCodec};
 pub use zarrs_codec_leaf::{
-    BytesCodec, CodecError, Endianness, Misfit, PackBitsCodec, VlenBytesCodec, VlenCodec,
-    VlenUtf8Codec,
+    BytesCodec, CodecError, Endianness, LeafCodec, Misfit, PackBitsCodec, VlenBytesCodec,
+    VlenCodec, VlenUtf8Codec,
 };
 pub use zarrs_shard::PartialWrite;

@@ -1,21 +1,22 @@
 //! Parts of chunks, of ranges of their bytes.
-ghost use Rattle.std.specs.Prelude.{◌≡◌, ◌*◌, ◌<◌, ◌^◌, Some, IfOk, IfErr, IsSome, map, replicate};
+ghost use Rattle.std.specs.Prelude.{◌≡◌, ◌*◌, ◌<◌, ◌^◌, IfOk, IfErr, IfNone, IfSome, IsSome, map};
 ghost use Rattle.zarrs_subset.specs.Boxes.{position_count};
 ghost use Rattle.zarrs_subset.specs.Regions.{LiesInShape, box_of};
 ghost use Rattle.zarrs_data_type.specs.Kind.{kind, cell_size};
 ghost use Rattle.zarrs_data_type.specs.Cell.{fill_cell, fill_of, held_size};
 ghost use Rattle.zarrs_data_type.specs.ArrayData.{data_of};
-ghost use Rattle.zarrs_data_type.specs.Cells.{cells, HasCells};
+ghost use Rattle.zarrs_data_type.specs.Cells.{HasCells};
 ghost use Rattle.zarrs_region_cells.specs.RegionData.{region_data};
 ghost use Rattle.zarrs_shard.specs.ShardIndex.{range_part};
 ghost use Rattle.zarrs_source.specs.Sources.{IsWindow, MayRead, window_bytes};
 ghost use Rattle.zarrs_parts.specs.Parts.{DecodesPart};
 ghost use Rattle.zarrs_parts.specs.Places.{all_places, shard_places};
 ghost use Rattle.zarrs_parts.specs.Refusals.{RefusesPartDecoding};
-ghost use Rattle.zarrs_parts.specs.ShardParts.{DecodesAs, HasAllParts, IsShard, ReadsSubchunk};
+ghost use Rattle.zarrs_parts.specs.ShardParts.{DecodesAs, HasAllParts, IsShard, MeetsPart, ReadsSubchunk};
 ghost use Rattle.zarrs_parts.specs.ShardParts.{RefusesStep};
 ghost use Rattle.zarrs_shard.specs.Sharded.{SubchunkMeaning, sharded_decoded, sharded_leaves_out};
 ghost use Rattle.zarrs_codec.specs.Chains.{chain_meaning, inner_chain_of, sharding_meaning};
+ghost use Rattle.zarrs_codec.specs.ShardPieces.{HasNoPiece, HasPiece};
 
 use crate::chain::CodecChain;
 use crate::codec::ArrayToBytesCodec;
@@ -113,6 +114,13 @@ impl CodecChain {
     }
 }
 
+/// The cells that a subchunk has of a part of its shard, over the box of their positions.
+#[derive(Drop)]
+struct Piece {
+    shared: ArraySubset,
+    cells: ArrayBytes<'static>,
+}
+
 impl ShardingCodec {
     /// The cells of a part of a shard whose bytes are those of a window. The index is read first, then each present
     /// subchunk that the part meets, in a window of its own.
@@ -194,19 +202,38 @@ impl ShardingCodec {
             (position_count shape.now * held_size (kind data_type.now)
             (fill_of (kind data_type.now) fill_value.now)) (B.refuses source.now) e) }
     {
-        let Ok(count) = part.num_elements() else {
-            unreachable!()
-        };
-        let held = RegionCells::new_fill_value(alloc, data_type, count, fill_value)?;
         let Some(index) = open_shard(alloc, source, window, shape, sub, at_start)? else {
             return Err(PartError::Codec(CodecError::DoesNotFit(Misfit::Bytes)));
         };
+        let met = met_subchunks(alloc, part, shape, sub)?;
+        // The cells of a part that lies in one subchunk are put into no other data.
+        if met.shape().iter().all(|count| *count == 1) {
+            let found = self.decode_piece(
+                at_start,
+                sub,
+                alloc,
+                source,
+                window,
+                &index,
+                part,
+                data_type,
+                fill_value,
+                shape,
+                met.start(),
+            )?;
+            if let Some(piece) = found {
+                if piece.shared == *part {
+                    return Ok(piece.cells);
+                }
+            }
+        }
         self.read_subchunks(
-            at_start, sub, alloc, source, window, &index, part, data_type, fill_value, shape, held,
+            at_start, sub, alloc, source, window, &index, part, data_type, fill_value, shape, &met,
         )
     }
 
-    /// The cells of the subchunks that a part of a shard meets, put into data of the part that is all fill.
+    /// The cells of the subchunks that a part of a shard meets, put into data of the part that is all fill. `met` is the
+    /// box of the indices of these subchunks.
     #[cycle(partial_decode)]
     fn read_subchunks<B: ByteSource>(
         &self,
@@ -220,7 +247,7 @@ impl ShardingCodec {
         data_type: &DataType,
         fill_value: &FillValue,
         shape: &[u64],
-        held: RegionCells,
+        met: &ArraySubset,
     ) -> Result<ArrayBytes<'static>, PartError>
         requires filled { IsSome (fill_cell (kind data_type.now) fill_value.now) }
         requires size { position_count shape.now * cell_size (kind data_type.now) < 2 ^ 64 }
@@ -233,8 +260,7 @@ impl ShardingCodec {
             (window_bytes window (B.bytes source.now))) }
         requires shard { IsShard index.now at_start shape.now sub.now
             (window_bytes window (B.bytes source.now)) }
-        requires fill { cells (kind data_type.now) (region_data held) ≡ Some (replicate
-            (position_count (box_of part.now).shape) (fill_of (kind data_type.now) fill_value.now)) }
+        requires met { MeetsPart sub.now (box_of part.now) (box_of met.now) }
         ensures all { IfOk result (λ made. HasAllParts (kind data_type.now)
             ((chain_meaning (inner_chain_of self.now)).decoded (kind data_type.now)
             (fill_of (kind data_type.now) fill_value.now) sub.now)
@@ -250,7 +276,10 @@ impl ShardingCodec {
             (map (range_part (window_bytes window (B.bytes source.now))) index.now.ranges.items)
             (B.refuses source.now)) }
     {
-        let met = met_subchunks(alloc, part, shape, sub)?;
+        let Ok(count) = part.num_elements() else {
+            unreachable!()
+        };
+        let held = RegionCells::new_fill_value(alloc, data_type, count, fill_value)?;
         let Some(mut walk) = met.walk(alloc)? else {
             return Ok(held.into_array_bytes(alloc)?);
         };
@@ -322,18 +351,79 @@ impl ShardingCodec {
             (map (range_part (window_bytes window (B.bytes source.now))) index.now.ranges.items)
             (B.refuses source.now)) }
     {
+        let found = self.decode_piece(
+            at_start, sub, alloc, source, window, index, part, data_type, fill_value, shape,
+            indices,
+        )?;
+        let Some(piece) = found else {
+            return Ok(held);
+        };
+        let Piece { shared, cells } = piece;
+        let made = held.with_owned_part(alloc, data_type, part, cells, &shared)?;
+        Ok(made)
+    }
+
+    /// The cells that the subchunk with these indices has of a part of its shard, or `None` if the subchunk is absent or
+    /// has none of them.
+    #[cycle(partial_decode)]
+    fn decode_piece<B: ByteSource>(
+        &self,
+        at_start: bool,
+        sub: &[u64],
+        alloc: Global,
+        source: &B,
+        window: Window,
+        index: &ShardIndex,
+        part: &ArraySubset,
+        data_type: &DataType,
+        fill_value: &FillValue,
+        shape: &[u64],
+        indices: &[u64],
+    ) -> Result<Option<Piece>, PartError>
+        requires filled { IsSome (fill_cell (kind data_type.now) fill_value.now) }
+        requires size { position_count shape.now * cell_size (kind data_type.now) < 2 ^ 64 }
+        requires fill_size { position_count (box_of part.now).shape * held_size (kind data_type.now)
+            (fill_of (kind data_type.now) fill_value.now) < 2 ^ 64 }
+        requires part { LiesInShape (box_of part.now) shape.now }
+        requires window { IsWindow window (B.bytes source.now) }
+        requires may_read { MayRead (B.may_read source.now) window (shard_places at_start sub.now
+            (kind data_type.now) shape.now (box_of part.now)
+            (window_bytes window (B.bytes source.now))) }
+        requires shard { IsShard index.now at_start shape.now sub.now
+            (window_bytes window (B.bytes source.now)) }
+        ensures none { IfOk result (λ made. IfNone made (HasNoPiece (kind data_type.now)
+            ((chain_meaning (inner_chain_of self.now)).decoded (kind data_type.now)
+            (fill_of (kind data_type.now) fill_value.now) sub.now)
+            (fill_of (kind data_type.now) fill_value.now) shape.now sub.now (box_of part.now)
+            (map (range_part (window_bytes window (B.bytes source.now))) index.now.ranges.items)
+            indices.now)) }
+        ensures piece { IfOk result (λ made. IfSome made (λ piece. HasPiece (kind data_type.now)
+            ((chain_meaning (inner_chain_of self.now)).decoded (kind data_type.now)
+            (fill_of (kind data_type.now) fill_value.now) sub.now)
+            (fill_of (kind data_type.now) fill_value.now) shape.now sub.now (box_of part.now)
+            (map (range_part (window_bytes window (B.bytes source.now))) index.now.ranges.items)
+            indices.now (box_of piece.shared) (data_of piece.cells))) }
+        ensures refused { IfErr result (RefusesStep
+            ((chain_meaning (inner_chain_of self.now)).decoded (kind data_type.now)
+            (fill_of (kind data_type.now) fill_value.now) sub.now)
+            ((chain_meaning (inner_chain_of self.now)).leaves_out sub.now)
+            (position_count shape.now * held_size (kind data_type.now)
+            (fill_of (kind data_type.now) fill_value.now))
+            (map (range_part (window_bytes window (B.bytes source.now))) index.now.ranges.items)
+            (B.refuses source.now)) }
+    {
         // The bytes of the source are counted, so that no place passes `u64`.
         let _counted = source.size();
         let Some(number) = ravel_indices(indices, index.subchunks.grid()) else {
-            return Ok(held);
+            return Ok(None);
         };
         let Some(range) = index.ranges[number as usize] else {
-            return Ok(held);
+            return Ok(None);
         };
         let subset = index.subchunks.subset(alloc, number)?;
         let shared = common_part(alloc, part, &subset)?;
         if shared.is_empty() {
-            return Ok(held);
+            return Ok(None);
         }
         let own = seen_from_corner(alloc, &shared, subset.start())?;
         let own_window = Window {
@@ -343,8 +433,7 @@ impl ShardingCodec {
         let cells = self.partial_decode_inner(
             alloc, source, own_window, &own, data_type, fill_value, sub,
         )?;
-        let made = held.with_owned_part(alloc, data_type, part, cells, &shared)?;
-        Ok(made)
+        Ok(Some(Piece { shared, cells }))
     }
 
     /// The cells of a part of a subchunk of this shape whose bytes are those of a window.

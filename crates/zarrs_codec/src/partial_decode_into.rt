@@ -27,7 +27,8 @@ use std::alloc::Global;
 use zarrs_codec_leaf::{CodecError, Misfit};
 use zarrs_data_type::{DataType, FillValue};
 use zarrs_parts::{
-    PartError, ShardIndex, common_part, met_subchunks, open_shard, seen_from_corner, shifted_to,
+    PartError, ShardIndex, common_part, met_subchunks, open_shard, partial_decode_bytes_into,
+    seen_from_corner, shifted_to,
 };
 use zarrs_shard::SubchunkRange;
 use zarrs_source::{ByteSource, Window};
@@ -83,6 +84,9 @@ impl CodecChain {
             );
         }
         match &self.array_to_bytes {
+            ArrayToBytesCodec::Bytes(codec) => partial_decode_bytes_into(
+                codec, alloc, source, window, part, data_type, shape, target,
+            ),
             ArrayToBytesCodec::Sharding(codec) => codec.partial_decode_shard_into(
                 alloc, source, window, part, data_type, fill_value, shape, target,
             ),

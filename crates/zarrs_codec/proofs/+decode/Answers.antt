@@ -1,9 +1,10 @@
 use Rattle.std.proofs.Common.{rules, arith, ◌≡◌, ◌∙◌, ◌<◌, ◌*◌, ◌≤◌, ◌^◌, true, false, List, map, length, get_or, Some, None, Option, sym, ap, subst}
-use Rattle.std.specs.Prelude.{is_some, slice_range, option_map}
+use Rattle.std.specs.Prelude.{is_some, slice_range, option_map, IsSome}
 use Rattle.std.specs.List.{list_all, All}
 use Rattle.std.specs.Result.{IfOk}
 use Rattle.std.proofs.lemmas.List.{length-map}
-use Rattle.std.proofs.lemmas.Result.{IfErr-weaker}
+use Rattle.std.proofs.lemmas.Bool.{OnTrue_at}
+use Rattle.std.proofs.lemmas.Result.{IfErr-weaker, IfOk-weaker}
 use Rattle.zarrs_data_type.specs.Kind.{kind, cell_size}
 use Rattle.zarrs_data_type.specs.Cell.{Cell, fill_of, held_size}
 use Rattle.zarrs_data_type.specs.ArrayData.{data_of}
@@ -23,7 +24,8 @@ use Rattle.zarrs_chain.specs.Refusals.{RefusesChunkDecoding}
 use Rattle.zarrs_codec.specs.Chains.{behind, chain_meaning, codec_meaning, inner_chain_of, is_at_start, location_of, sharding_meaning, subchunk_sizes_of}
 use Rattle.zarrs_codec_cells.specs.ShardingMetadata.{sizes_of}
 use Rattle.zarrs_codec.specs.ChainLaws.{chain-lawful, sharded-lawful}
-use Rattle.zarrs_codec.specs.Shardings.{HasFirstCells, RefusesCells}
+use Rattle.zarrs_codec.specs.Shardings.{decoded_parts, CopiesParts, HasFirstCells, ReadsCells, RefusesCells, RefusesCopies}
+use Rattle.zarrs_codec.proofs.CopiedParts.{some_first}
 use Rattle.zarrs_codec.proofs.Behind.{count_behind, decoded-has_cells, held_behind, refused_behind}
 use Rattle.zarrs_codec.proofs.PartCells.{cells_all, cells_left, cells_more, cells_refused, cells_started, fill_refused, part_at, present_parts, puts_part, held_cells, is_read, IsRead}
 use Rattle.zarrs_codec.proofs.+decode.Goals as goal
@@ -64,6 +66,59 @@ sharding::ShardingCodec::decode_parts-returns-in_default-clause-refused t c =
     let why : (c.are_present-is_whole.result ≡ false) × (2 ^ 64 ≤ position_count s * held_size k f) = search rules in
     let absent : list_all is_some parts ≡ false = present_parts c.args.encoded.now c.args.ranges.now ∙ sym c.are_present-is_whole.ensures ∙ why.0 in
     fill_refused (chain_meaning (inner_chain_of c.args.self.now)) k f s (subchunk_shape c.args.subchunks.now) parts absent why.1
+
+pub sharding::ShardingCodec::decode_parts-returns-then-reads_cells-clause-cells :
+    goal.sharding::ShardingCodec::decode_parts-returns-then-reads_cells-clause-cells
+sharding::ShardingCodec::decode_parts-returns-then-reads_cells-clause-cells t c =
+    let k = kind c.args.data_type.now in
+    let f = fill_of k c.args.fill_value.now in
+    let m : ChainMeaning = chain_meaning (inner_chain_of c.args.self.now) in
+    let s = chunk_shape c.args.subchunks.now in
+    let sub = subchunk_shape c.args.subchunks.now in
+    let b = c.args.encoded.now in
+    let ranges = c.args.ranges.now in
+    let parts = map (range_part b) ranges in
+    let old = region_data c.in-Some.chunk in
+    let starts : StartsChunk k f s c.are_present-is_whole.result old = search rules in
+    let first = cells_started m k f s sub parts starts.filler old c.args.subchunks.now.cut
+    (λ absent. starts.fill_is (c.are_present-is_whole.ensures ∙ sym (present_parts b ranges) ∙ absent)) starts.cells_are in
+    let reads : ReadsCells m k f sub = subst (λ x. ReadsCells (chain_meaning x) k f sub) c.inner_codecs.ensures (OnTrue_at c.if-reads_cells.true c.reads_cells.ensures.reads f sub) in
+    let count : length parts ≡ subchunk_count s sub = length-map ranges (range_part b) ∙ c.requires.count in
+    IfOk-weaker c.with_parts.result (λ made. CopiesParts k s sub parts old (data_of made)) (λ made. cells k (data_of made) ≡ decoded_parts m k f s sub parts)
+    (λ made copied. cells_all m k f s sub parts (data_of made) c.args.subchunks.now.cut count (copied m f reads first))
+    c.with_parts.ensures.copied
+
+pub sharding::ShardingCodec::decode_parts-returns-then-reads_cells-clause-some :
+    goal.sharding::ShardingCodec::decode_parts-returns-then-reads_cells-clause-some
+sharding::ShardingCodec::decode_parts-returns-then-reads_cells-clause-some t c =
+    let k = kind c.args.data_type.now in
+    let f = fill_of k c.args.fill_value.now in
+    let m : ChainMeaning = chain_meaning (inner_chain_of c.args.self.now) in
+    let s = chunk_shape c.args.subchunks.now in
+    let sub = subchunk_shape c.args.subchunks.now in
+    let b = c.args.encoded.now in
+    let ranges = c.args.ranges.now in
+    let parts = map (range_part b) ranges in
+    let old = region_data c.in-Some.chunk in
+    let starts : StartsChunk k f s c.are_present-is_whole.result old = search rules in
+    let first = cells_started m k f s sub parts starts.filler old c.args.subchunks.now.cut
+    (λ absent. starts.fill_is (c.are_present-is_whole.ensures ∙ sym (present_parts b ranges) ∙ absent)) starts.cells_are in
+    let reads : ReadsCells m k f sub = subst (λ x. ReadsCells (chain_meaning x) k f sub) c.inner_codecs.ensures (OnTrue_at c.if-reads_cells.true c.reads_cells.ensures.reads f sub) in
+    IfOk-weaker c.with_parts.result (λ made. CopiesParts k s sub parts old (data_of made)) (λ made. IsSome (cells k (data_of made)))
+    (λ made copied. some_first k s sub parts m f (length parts) (data_of made) (copied m f reads first))
+    c.with_parts.ensures.copied
+
+pub sharding::ShardingCodec::decode_parts-returns-then-reads_cells-clause-refused :
+    goal.sharding::ShardingCodec::decode_parts-returns-then-reads_cells-clause-refused
+sharding::ShardingCodec::decode_parts-returns-then-reads_cells-clause-refused t c =
+    let k = kind c.args.data_type.now in
+    let f = fill_of k c.args.fill_value.now in
+    let m : ChainMeaning = chain_meaning (inner_chain_of c.args.self.now) in
+    let s = chunk_shape c.args.subchunks.now in
+    let sub = subchunk_shape c.args.subchunks.now in
+    let parts = map (range_part c.args.encoded.now) c.args.ranges.now in
+    let reads : ReadsCells m k f sub = subst (λ x. ReadsCells (chain_meaning x) k f sub) c.inner_codecs.ensures (OnTrue_at c.if-reads_cells.true c.reads_cells.ensures.reads f sub) in
+    IfErr-weaker c.with_parts.result (RefusesCopies k s sub parts) (RefusesCells m k f s sub parts) (λ e why. why m f reads) c.with_parts.ensures.refused
 
 pub sharding::ShardingCodec::decode_parts-loop-number-init :
     goal.sharding::ShardingCodec::decode_parts-loop-number-init

@@ -362,6 +362,41 @@ sharding::ShardingCodec::decode_shard_into-returns-clause-refused measure c =
     (subst (λ (a : Bool). RefusesIntoDecoding (sharded_decoded (subchunk_meaning m false k f sub) a k f s sub enc) e) at_is (h (subchunk_meaning m false k f sub) (λ b. refl))))
     c.decode_cut_into.ensures.refused
 
+pub chain::CodecChain::decode_chunk_into-returns-in-Bytes-clause-cells : goal.chain::CodecChain::decode_chunk_into-returns-in-Bytes-clause-cells
+chain::CodecChain::decode_chunk_into-returns-in-Bytes-clause-cells measure c =
+    let k = kind c.args.data_type.now in
+    let f = fill_of k c.args.fill_value.now in
+    let t = c.args.target.now in
+    let s = (target_box t).shape in
+    let b = c.args.encoded.now in
+    let before = c.args.self.now.array_to_array in
+    let last = c.args.self.now.array_to_bytes in
+    let none = eqb-true (vec_len before) 0 (sym c.if-not-is_empty.ensures) in
+    let alone = is_none before.items (omega (arith, none, before.ok.0)) in
+    let new = data_of_target c.decode_bytes_into.new.target in
+    on_ok_weaker c.decode_bytes_into.result
+    (λ h.
+    alone_into before.items (codec_meaning last) k f s b (parent_box t) (target_box t) new alone
+    (subst (λ x. DecodesInto k (parent_box t) (target_box t) ((codec_meaning x).decoded k f s b) new) (sym c.in-Bytes.is) h))
+    c.decode_bytes_into.ensures.cells
+
+pub chain::CodecChain::decode_chunk_into-returns-in-Bytes-clause-refused : goal.chain::CodecChain::decode_chunk_into-returns-in-Bytes-clause-refused
+chain::CodecChain::decode_chunk_into-returns-in-Bytes-clause-refused measure c =
+    let k = kind c.args.data_type.now in
+    let f = fill_of k c.args.fill_value.now in
+    let t = c.args.target.now in
+    let s = (target_box t).shape in
+    let b = c.args.encoded.now in
+    let before = c.args.self.now.array_to_array in
+    let last = c.args.self.now.array_to_bytes in
+    let none = eqb-true (vec_len before) 0 (sym c.if-not-is_empty.ensures) in
+    let alone = is_none before.items (omega (arith, none, before.ok.0)) in
+    IfErr-weaker c.decode_bytes_into.result _ _
+    (λ e why.
+    alone_into_refused before.items (codec_meaning last) k f s b e alone
+    (subst (λ x. RefusesIntoDecoding ((codec_meaning x).decoded k f s b) e) (sym c.in-Bytes.is) why))
+    c.decode_bytes_into.ensures.refused
+
 pub chain::CodecChain::decode_chunk_into-returns-in-Sharding-clause-cells : goal.chain::CodecChain::decode_chunk_into-returns-in-Sharding-clause-cells
 chain::CodecChain::decode_chunk_into-returns-in-Sharding-clause-cells measure c =
     let k = kind c.args.data_type.now in

@@ -272,6 +272,25 @@ sharding::ShardingCodec::encode_behind-returns-in-Some-2-clause-refused t c =
     (λ err why. b.refusal err (subst (λ x. RefusesChunkEncoding m empty k f x e err) c.deref.ensures.value why))
     c.encode_shard.ensures.refused
 
+pub sharding::ShardingCodec::encode_behind-returns-clause-encoded :
+    goal.sharding::ShardingCodec::encode_behind-returns-clause-encoded
+sharding::ShardingCodec::encode_behind-returns-clause-encoded t c =
+    let k = kind c.args.data_type.now in
+    let f = fill_of k c.args.fill_value.now in
+    let empty = stores_empty_chunks c.args.options.now in
+    let s = c.args.shape.now in
+    let d = data_of c.args.bytes.now in
+    let codecs = c.args.codecs.now in
+    let a = arrays_meaning codecs in
+    let m : ChainMeaning = sharding_meaning c.args.self.now in
+    let inner = c.in-Some.inner.items in
+    let shape : encoded_shape a s ≡ Some inner = sym c.in_ok-inner.ensures ∙ ap (option_map (λ v. v.items)) c.in-Some.is in
+    let is : IfSome (cells k d) (λ cs. cells k d ≡ Some (a.forward s cs)) = subst (λ o. IsEncodedArray a k s d o) c.in-None.is c.in_ok-made.ensures in
+    let b = is_behind a m (arrays-lawful codecs) empty k f s inner d d shape c.requires.cells is in
+    let whole : chunk_encoding (behind codecs m) empty k f s d ≡ chunk_encoding m empty k f c.deref-in-None.result.now d =
+    b.encoding ∙ ap (λ x. chunk_encoding m empty k f x d) (sym c.deref-in-None.ensures.value) in
+    subst (λ (x : Option (List ℕ)). IfOk c.encode_shard-in-None.result (λ encoded. x ≡ Some encoded.items)) (sym whole) c.encode_shard-in-None.ensures.encoded
+
 pub sharding::ShardingCodec::encode_behind-returns-clause-refused :
     goal.sharding::ShardingCodec::encode_behind-returns-clause-refused
 sharding::ShardingCodec::encode_behind-returns-clause-refused t c =

@@ -13,20 +13,21 @@ use Rattle.zarrs_codec.specs.ChainLaws.{chain-lawful}
 use Rattle.zarrs_codec.specs.Chains.{codec_meaning, chain_meaning, inner_chain_of, is_at_start, location_of, subchunk_sizes_of, sharding_meaning}
 use Rattle.zarrs_codec.specs.Shardings.{subchunk_meaning}
 use Rattle.zarrs_codec.proofs.PartReads.{alone_refused, is_none}
+use Rattle.zarrs_codec.proofs.Pieces.{piece_alone, piece_cells, piece_put, piece_read}
 use Rattle.zarrs_codec_cells.specs.ShardingMetadata.{sizes_of}
 use Rattle.zarrs_parts.proofs.BytesParts.{window_len}
 use Rattle.zarrs_parts.proofs.Kept.{err_kept}
 use Rattle.zarrs_parts.proofs.PartBoxes.{part_fits}
 use Rattle.zarrs_parts.proofs.ReadSteps.{box_is, found, index_fits, met, own_of, skip_absent, skip_empty, skip_unfound, window_of}
-use Rattle.zarrs_parts.proofs.SubchunkSteps.{inner_refused, put_more, none_read, all_parts_decode, broken_shard, shard_left_out, step_refused}
+use Rattle.zarrs_parts.proofs.SubchunkSteps.{inner_refused, none_read, all_parts_decode, broken_shard, shard_left_out, step_refused}
 use Rattle.zarrs_parts.proofs.SubchunkWalks.{all_walked, walked_cells, walked_last, walked_more, walked_next}
 use Rattle.zarrs_parts.specs.Parts.{DecodesPart}
 use Rattle.zarrs_parts.specs.Places.{shard_places}
 use Rattle.zarrs_parts.specs.Refusals.{RefusesPartDecoding}
-use Rattle.zarrs_parts.specs.ShardParts.{HasAllParts, HasSubchunkParts, MeetsPart, RefusesStep}
+use Rattle.zarrs_parts.specs.ShardParts.{DecodesAs, HasAllParts, HasSubchunkParts, MeetsPart, RefusesStep}
 use Rattle.zarrs_shard.proofs.Sizes.{part_size}
 use Rattle.zarrs_shard.specs.ShardIndex.{range_part, IsRangeWithin}
-use Rattle.zarrs_shard.specs.Sharded.{sharded_decoded, sharded_leaves_out}
+use Rattle.zarrs_shard.specs.Sharded.{SubchunkMeaning, sharded_decoded, sharded_leaves_out}
 use Rattle.zarrs_shard.specs.SubchunkData.{chunk_shape, subchunk_shape}
 use Rattle.zarrs_shard.specs.Subchunks.{quotients, subchunk_count}
 use Rattle.zarrs_source.proofs.RowReads.{count_fits}
@@ -40,8 +41,8 @@ use Rattle.zarrs_types.specs.Cell.{fill_of, held_size}
 use Rattle.zarrs_types.specs.Kind.{cell_size, kind}
 use Rattle.zarrs_codec.proofs.+partial_decode.Goals as goal
 
-pub sharding::ShardingCodec::read_subchunk-returns-in_default-clause-read : goal.sharding::ShardingCodec::read_subchunk-returns-in_default-clause-read
-sharding::ShardingCodec::read_subchunk-returns-in_default-clause-read g t c =
+pub sharding::ShardingCodec::decode_piece-returns-in_default-clause-none : goal.sharding::ShardingCodec::decode_piece-returns-in_default-clause-none
+sharding::ShardingCodec::decode_piece-returns-in_default-clause-none g t c =
     let k = kind c.args.data_type.now in
     let f = fill_of k c.args.fill_value.now in
     let s = c.args.shape.now in
@@ -59,10 +60,10 @@ sharding::ShardingCodec::read_subchunk-returns-in_default-clause-read g t c =
     let len = window_len c.args.window source c.requires.window in
     let fits = index_fits c.args.at_start (subchunk_count s sub) whole parts shard.parts in
     let few : subchunk_count s sub < 2 ^ 64 = omega (arith, c.requires.window) in
-    skip_unfound k dec f s sub part parts i _ shard.cut c.args.part.now.same_length c.requires.part c.grid.result.now grid_is c.in_default.ensures few
+    λ held. skip_unfound k dec f s sub part parts i held shard.cut c.args.part.now.same_length c.requires.part c.grid.result.now grid_is c.in_default.ensures few
 
-pub sharding::ShardingCodec::read_subchunk-index-requires : goal.sharding::ShardingCodec::read_subchunk-index-requires
-sharding::ShardingCodec::read_subchunk-index-requires g t c =
+pub sharding::ShardingCodec::decode_piece-index-requires : goal.sharding::ShardingCodec::decode_piece-index-requires
+sharding::ShardingCodec::decode_piece-index-requires g t c =
     let k = kind c.args.data_type.now in
     let f = fill_of k c.args.fill_value.now in
     let s = c.args.shape.now in
@@ -80,8 +81,8 @@ sharding::ShardingCodec::read_subchunk-index-requires g t c =
     let here = found index c.args.at_start s sub whole c.grid.result.now i n shard c.grid.ensures c.in-Some.ensures.0 c.in-Some.ensures.1 in
     omega (arith, here.below, here.counted, index.ranges.ok)
 
-pub sharding::ShardingCodec::read_subchunk-subset-requires : goal.sharding::ShardingCodec::read_subchunk-subset-requires
-sharding::ShardingCodec::read_subchunk-subset-requires g t c =
+pub sharding::ShardingCodec::decode_piece-subset-requires : goal.sharding::ShardingCodec::decode_piece-subset-requires
+sharding::ShardingCodec::decode_piece-subset-requires g t c =
     let k = kind c.args.data_type.now in
     let f = fill_of k c.args.fill_value.now in
     let s = c.args.shape.now in
@@ -101,8 +102,8 @@ sharding::ShardingCodec::read_subchunk-subset-requires g t c =
     ap (λ (x : List ℕ). subchunk_count x (subchunk_shape index.subchunks)) shard.chunk ∙ ap (subchunk_count s) shard.subchunk in
     omega (arith, here.below)
 
-pub sharding::ShardingCodec::read_subchunk-returns-in_default-index-clause-read : goal.sharding::ShardingCodec::read_subchunk-returns-in_default-index-clause-read
-sharding::ShardingCodec::read_subchunk-returns-in_default-index-clause-read g t c =
+pub sharding::ShardingCodec::decode_piece-returns-in_default-index-clause-none : goal.sharding::ShardingCodec::decode_piece-returns-in_default-index-clause-none
+sharding::ShardingCodec::decode_piece-returns-in_default-index-clause-none g t c =
     let k = kind c.args.data_type.now in
     let f = fill_of k c.args.fill_value.now in
     let s = c.args.shape.now in
@@ -122,10 +123,10 @@ sharding::ShardingCodec::read_subchunk-returns-in_default-index-clause-read g t 
     let absent : slice_index_or parts n None ≡ None =
     get_or-map (range_part whole) index.ranges.items n None None lt
     ∙ ap (range_part whole) (sym (get_or_read index.ranges.items n c.index.result.now lt c.index.ensures None) ∙ c.in_default-index.is) in
-    skip_absent k dec f s sub part parts i _ shard.cut c.args.part.now.same_length c.requires.part n here.at_n absent
+    λ held. skip_absent k dec f s sub part parts i held shard.cut c.args.part.now.same_length c.requires.part n here.at_n absent
 
-pub sharding::ShardingCodec::read_subchunk-returns-then-is_empty-clause-read : goal.sharding::ShardingCodec::read_subchunk-returns-then-is_empty-clause-read
-sharding::ShardingCodec::read_subchunk-returns-then-is_empty-clause-read g t c =
+pub sharding::ShardingCodec::decode_piece-returns-then-is_empty-clause-none : goal.sharding::ShardingCodec::decode_piece-returns-then-is_empty-clause-none
+sharding::ShardingCodec::decode_piece-returns-then-is_empty-clause-none g t c =
     let k = kind c.args.data_type.now in
     let f = fill_of k c.args.fill_value.now in
     let s = c.args.shape.now in
@@ -143,12 +144,12 @@ sharding::ShardingCodec::read_subchunk-returns-then-is_empty-clause-read g t c =
     let here = found index c.args.at_start s sub whole c.grid.result.now i n shard c.grid.ensures c.in-Some.ensures.0 c.in-Some.ensures.1 in
     let shared = box_of c.in_ok-shared.shared in
     let none = c.is_empty.ensures.0 c.if-is_empty.true in
-    skip_empty k dec f s sub part parts i _ shard.cut c.args.part.now.same_length c.requires.part n shared none.0 here.in_grid here.at_n c.in_ok-shared.shared.same_length none.1 none.2
+    λ held. skip_empty k dec f s sub part parts i held shard.cut c.args.part.now.same_length c.requires.part n shared none.0 here.in_grid here.at_n c.in_ok-shared.shared.same_length none.1 none.2
     (subst (λ (b : Box). (p : List ℕ) → in_box shared p ≡ (in_box part p && in_box b p)) (box_is index c.args.at_start s sub whole n (box_of c.in_ok-subset.subset) shard c.in_ok-subset.ensures)
     c.in_ok-shared.ensures.common)
 
-pub sharding::ShardingCodec::read_subchunk-seen_from_corner-requires-clause-dimensions : goal.sharding::ShardingCodec::read_subchunk-seen_from_corner-requires-clause-dimensions
-sharding::ShardingCodec::read_subchunk-seen_from_corner-requires-clause-dimensions g t c =
+pub sharding::ShardingCodec::decode_piece-seen_from_corner-requires-clause-dimensions : goal.sharding::ShardingCodec::decode_piece-seen_from_corner-requires-clause-dimensions
+sharding::ShardingCodec::decode_piece-seen_from_corner-requires-clause-dimensions g t c =
     let k = kind c.args.data_type.now in
     let f = fill_of k c.args.fill_value.now in
     let s = c.args.shape.now in
@@ -170,8 +171,8 @@ sharding::ShardingCodec::read_subchunk-seen_from_corner-requires-clause-dimensio
     (λ j below none. false≢true (sym c.if-is_empty.false ∙ c.is_empty.ensures.1 (j, below, none))) in
     ap length (c.start.ensures ∙ there.piece.corner_is) ∙ there.piece.corner_len
 
-pub sharding::ShardingCodec::read_subchunk-seen_from_corner-requires-clause-above : goal.sharding::ShardingCodec::read_subchunk-seen_from_corner-requires-clause-above
-sharding::ShardingCodec::read_subchunk-seen_from_corner-requires-clause-above g t c =
+pub sharding::ShardingCodec::decode_piece-seen_from_corner-requires-clause-above : goal.sharding::ShardingCodec::decode_piece-seen_from_corner-requires-clause-above
+sharding::ShardingCodec::decode_piece-seen_from_corner-requires-clause-above g t c =
     let k = kind c.args.data_type.now in
     let f = fill_of k c.args.fill_value.now in
     let s = c.args.shape.now in
@@ -193,8 +194,8 @@ sharding::ShardingCodec::read_subchunk-seen_from_corner-requires-clause-above g 
     (λ j below none. false≢true (sym c.if-is_empty.false ∙ c.is_empty.ensures.1 (j, below, none))) in
     subst (λ (x : List ℕ). (j : ℕ) → j < length shared.start → slice_index x j ≤ slice_index shared.start j) (sym (c.start.ensures ∙ there.piece.corner_is)) there.piece.above
 
-pub sharding::ShardingCodec::read_subchunk-overflow_add-own_window : goal.sharding::ShardingCodec::read_subchunk-overflow_add-own_window
-sharding::ShardingCodec::read_subchunk-overflow_add-own_window g t c =
+pub sharding::ShardingCodec::decode_piece-overflow_add-own_window : goal.sharding::ShardingCodec::decode_piece-overflow_add-own_window
+sharding::ShardingCodec::decode_piece-overflow_add-own_window g t c =
     let k = kind c.args.data_type.now in
     let f = fill_of k c.args.fill_value.now in
     let s = c.args.shape.now in
@@ -216,8 +217,8 @@ sharding::ShardingCodec::read_subchunk-overflow_add-own_window g t c =
     let fits = subst (IsRangeWithin (length whole)) ranged (shard.within n None lt) in
     omega (arith, fits.0, fits.1, window_len c.args.window source c.requires.window, c.requires.window)
 
-pub sharding::ShardingCodec::read_subchunk-overflow_sub-own_window : goal.sharding::ShardingCodec::read_subchunk-overflow_sub-own_window
-sharding::ShardingCodec::read_subchunk-overflow_sub-own_window g t c =
+pub sharding::ShardingCodec::decode_piece-overflow_sub-own_window : goal.sharding::ShardingCodec::decode_piece-overflow_sub-own_window
+sharding::ShardingCodec::decode_piece-overflow_sub-own_window g t c =
     let k = kind c.args.data_type.now in
     let f = fill_of k c.args.fill_value.now in
     let s = c.args.shape.now in
@@ -239,31 +240,8 @@ sharding::ShardingCodec::read_subchunk-overflow_sub-own_window g t c =
     let fits = subst (IsRangeWithin (length whole)) ranged (shard.within n None lt) in
     fits.0
 
-pub sharding::ShardingCodec::read_subchunk-with_owned_part-requires-clause-dimensions : goal.sharding::ShardingCodec::read_subchunk-with_owned_part-requires-clause-dimensions
-sharding::ShardingCodec::read_subchunk-with_owned_part-requires-clause-dimensions g t c =
-    let k = kind c.args.data_type.now in
-    let f = fill_of k c.args.fill_value.now in
-    let s = c.args.shape.now in
-    let sub = c.args.sub.now in
-    let m : ChainMeaning = chain_meaning (inner_chain_of c.args.self.now) in
-    let dec = m.decoded k f sub in
-    let part = box_of c.args.part.now in
-    let i = c.args.indices.now in
-    let source = g.B.ByteSource.bytes c.args.source.now in
-    let whole = window_bytes c.args.window source in
-    let index = c.args.index.now in
-    let parts = map (range_part whole) index.ranges.items in
-    let shard = c.requires.shard in
-    let n = c.in-Some.number in
-    let here = found index c.args.at_start s sub whole c.grid.result.now i n shard c.grid.ensures c.in-Some.ensures.0 c.in-Some.ensures.1 in
-    let shared = box_of c.in_ok-shared.shared in
-    let subset = box_of c.in_ok-subset.subset in
-    let there = met index c.args.at_start s sub whole i part n subset shared shard here c.args.part.now.same_length c.requires.part c.in_ok-subset.ensures c.in_ok-shared.ensures.value
-    (λ j below none. false≢true (sym c.if-is_empty.false ∙ c.is_empty.ensures.1 (j, below, none))) in
-    sym there.piece.dimensions ∙ ap length there.piece.corner_is ∙ there.piece.corner_len
-
-pub sharding::ShardingCodec::read_subchunk-returns-in_err-cells-clause-refused : goal.sharding::ShardingCodec::read_subchunk-returns-in_err-cells-clause-refused
-sharding::ShardingCodec::read_subchunk-returns-in_err-cells-clause-refused g t c =
+pub sharding::ShardingCodec::decode_piece-returns-in_err-cells-clause-refused : goal.sharding::ShardingCodec::decode_piece-returns-in_err-cells-clause-refused
+sharding::ShardingCodec::decode_piece-returns-in_err-cells-clause-refused g t c =
     let k = kind c.args.data_type.now in
     let f = fill_of k c.args.fill_value.now in
     let s = c.args.shape.now in
@@ -298,8 +276,8 @@ sharding::ShardingCodec::read_subchunk-returns-in_err-cells-clause-refused g t c
     (inner_refused dec left s sub size parts n (window_bytes own_window source) refuses e shard.cut count lt at.bytes_are
     c.in_err-cells.ensures.refused)
 
-pub sharding::ShardingCodec::read_subchunk-returns-clause-read : goal.sharding::ShardingCodec::read_subchunk-returns-clause-read
-sharding::ShardingCodec::read_subchunk-returns-clause-read g t c =
+pub sharding::ShardingCodec::decode_piece-returns-clause-piece : goal.sharding::ShardingCodec::decode_piece-returns-clause-piece
+sharding::ShardingCodec::decode_piece-returns-clause-piece g t c =
     let k = kind c.args.data_type.now in
     let f = fill_of k c.args.fill_value.now in
     let s = c.args.shape.now in
@@ -326,14 +304,14 @@ sharding::ShardingCodec::read_subchunk-returns-clause-read g t c =
     let lt : n < length index.ranges.items = omega (arith, here.below, here.counted) in
     let ranged : slice_index_or index.ranges.items n None ≡ Some range = sym (get_or_read index.ranges.items n c.index.result.now lt c.index.ensures None) ∙ c.in-Some-index.is in
     let at = window_of (g.B.ByteSource.may_read c.args.source.now) c.args.window own_window source index c.args.at_start k s sub i part n range subset shared shard here there c.requires.window (omega arith) ranged refl refl c.requires.may_read in
-    put_more k dec f s sub part parts i n (window_bytes own_window source) shared (data_of c.in_ok-cells.cells) _ _ shard.cut c.args.part.now.same_length c.requires.part c.in_ok-shared.shared.same_length
+    piece_read k dec f s sub part parts i n (window_bytes own_window source) shared (data_of c.in_ok-cells.cells) shard.cut c.args.part.now.same_length c.requires.part c.in_ok-shared.shared.same_length
     here.in_grid here.at_n at.bytes_are
     (subst (λ (b : Box). (p : List ℕ) → in_box shared p ≡ (in_box part p && in_box b p)) there.box_of_number c.in_ok-shared.ensures.common)
-    there.piece.corner_len there.piece.above
-    (subst (λ (b : Box). DecodesPart k sub b (dec (window_bytes own_window source)) (data_of c.in_ok-cells.cells)) own_is c.in_ok-cells.ensures.cells) c.in_ok-made.ensures
+    there.piece.corner_len there.piece.above (sym there.piece.dimensions ∙ ap length there.piece.corner_is ∙ there.piece.corner_len)
+    (subst (λ (b : Box). DecodesPart k sub b (dec (window_bytes own_window source)) (data_of c.in_ok-cells.cells)) own_is c.in_ok-cells.ensures.cells)
 
-pub sharding::ShardingCodec::read_subchunk-partial_decode_inner-requires : goal.sharding::ShardingCodec::read_subchunk-partial_decode_inner-requires
-sharding::ShardingCodec::read_subchunk-partial_decode_inner-requires g t c κs within =
+pub sharding::ShardingCodec::decode_piece-partial_decode_inner-requires : goal.sharding::ShardingCodec::decode_piece-partial_decode_inner-requires
+sharding::ShardingCodec::decode_piece-partial_decode_inner-requires g t c κs within =
     let k = kind c.args.data_type.now in
     let f = fill_of k c.args.fill_value.now in
     let s = c.args.shape.now in
@@ -370,8 +348,53 @@ sharding::ShardingCodec::read_subchunk-partial_decode_inner-requires g t c κs w
     let may = at.allowed (m.places k sub own (window_bytes own_window source)) ((chain-lawful inner).places_inside k sub own (window_bytes own_window source)) in
     (first_of (omega (arith, c.decreases), search rules), (search rules, (c.requires.filled, (small, (fill_size, (lies, (at.inside, may)))))))
 
-pub sharding::ShardingCodec::read_subchunks-returns-in_default-clause-all : goal.sharding::ShardingCodec::read_subchunks-returns-in_default-clause-all
-sharding::ShardingCodec::read_subchunks-returns-in_default-clause-all g t c =
+pub sharding::ShardingCodec::read_subchunk-decode_piece-requires : goal.sharding::ShardingCodec::read_subchunk-decode_piece-requires
+sharding::ShardingCodec::read_subchunk-decode_piece-requires g t c κs within =
+    let r = c.requires in
+    (first_of (omega (arith, c.decreases), search rules), (search rules, (r.filled, (r.size, (r.fill_size, (r.part, (r.window, (r.may_read, r.shard))))))))
+
+pub sharding::ShardingCodec::read_subchunk-with_owned_part-requires-clause-dimensions : goal.sharding::ShardingCodec::read_subchunk-with_owned_part-requires-clause-dimensions
+sharding::ShardingCodec::read_subchunk-with_owned_part-requires-clause-dimensions g t c =
+    let has = rw c.in-Some.is at c.in_ok-found.ensures.piece in
+    has.dimensions
+
+pub sharding::ShardingCodec::read_subchunk-with_owned_part-requires-clause-part : goal.sharding::ShardingCodec::read_subchunk-with_owned_part-requires-clause-part
+sharding::ShardingCodec::read_subchunk-with_owned_part-requires-clause-part g t c =
+    let k = kind c.args.data_type.now in
+    let f = fill_of k c.args.fill_value.now in
+    let s = c.args.shape.now in
+    let sub = c.args.sub.now in
+    let m : ChainMeaning = chain_meaning (inner_chain_of c.args.self.now) in
+    let dec = m.decoded k f sub in
+    let part = box_of c.args.part.now in
+    let i = c.args.indices.now in
+    let whole = window_bytes c.args.window (g.B.ByteSource.bytes c.args.source.now) in
+    let parts = map (range_part whole) c.args.index.now.ranges.items in
+    let has = rw c.in-Some.is at c.in_ok-found.ensures.piece in
+    piece_cells k dec f s sub part parts i (box_of c.in-Some.piece.shared) (data_of c.in-Some.piece.cells) has
+
+pub sharding::ShardingCodec::read_subchunk-returns-clause-read : goal.sharding::ShardingCodec::read_subchunk-returns-clause-read
+sharding::ShardingCodec::read_subchunk-returns-clause-read g t c =
+    let k = kind c.args.data_type.now in
+    let f = fill_of k c.args.fill_value.now in
+    let s = c.args.shape.now in
+    let sub = c.args.sub.now in
+    let m : ChainMeaning = chain_meaning (inner_chain_of c.args.self.now) in
+    let dec = m.decoded k f sub in
+    let part = box_of c.args.part.now in
+    let i = c.args.indices.now in
+    let whole = window_bytes c.args.window (g.B.ByteSource.bytes c.args.source.now) in
+    let parts = map (range_part whole) c.args.index.now.ranges.items in
+    let has = rw c.in-Some.is at c.in_ok-found.ensures.piece in
+    piece_put k dec f s sub part parts i (box_of c.in-Some.piece.shared) (data_of c.in-Some.piece.cells) has _ _ c.in_ok-made.ensures
+
+pub sharding::ShardingCodec::read_subchunk-returns-in_default-clause-read : goal.sharding::ShardingCodec::read_subchunk-returns-in_default-clause-read
+sharding::ShardingCodec::read_subchunk-returns-in_default-clause-read g t c =
+    let none = rw c.in_default.is at c.in_ok-found.ensures.none in
+    none (region_data c.args.held)
+
+pub sharding::ShardingCodec::read_subchunks-returns-in_default-2-clause-all : goal.sharding::ShardingCodec::read_subchunks-returns-in_default-2-clause-all
+sharding::ShardingCodec::read_subchunks-returns-in_default-2-clause-all g t c =
     let k = kind c.args.data_type.now in
     let f = fill_of k c.args.fill_value.now in
     let s = c.args.shape.now in
@@ -380,12 +403,14 @@ sharding::ShardingCodec::read_subchunks-returns-in_default-clause-all g t c =
     let dec = m.decoded k f sub in
     let part = box_of c.args.part.now in
     let parts = map (range_part (window_bytes c.args.window (g.B.ByteSource.bytes c.args.source.now))) c.args.index.now.ranges.items in
-    let none = none_read k dec f s sub part parts (region_data c.args.held) c.args.part.now.same_length c.requires.fill in
-    let met = box_of c.in_ok-met.met in
-    let nothing = rw c.in_default.is at c.in_ok-walk.ensures.none in
+    let count : c.in-Ok.count ≡ position_count part.shape = c.in-Ok.ensures.ok in
+    let fill : cells k (region_data c.in_ok-held.held) ≡ Some (replicate (position_count part.shape) f) = c.in_ok-held.ensures ∙ ap (λ n. Some (replicate n f)) count in
+    let none = none_read k dec f s sub part parts (region_data c.in_ok-held.held) c.args.part.now.same_length fill in
+    let met = box_of c.args.met.now in
+    let nothing = rw c.in_default-2.is at c.in_ok-walk.ensures.none in
     subst (λ (d : ArrayData). HasAllParts k dec f s sub part parts d) (sym c.in_ok-into_array_bytes.ensures)
-    (all_walked k dec f s sub part met parts (region_data c.args.held) c.in_ok-met.met.same_length c.in_ok-met.ensures
-    (subst (λ (done : List (List ℕ)). HasSubchunkParts k dec f s sub part parts done (region_data c.args.held)) (sym nothing) none))
+    (all_walked k dec f s sub part met parts (region_data c.in_ok-held.held) c.args.met.now.same_length c.requires.met
+    (subst (λ (done : List (List ℕ)). HasSubchunkParts k dec f s sub part parts done (region_data c.in_ok-held.held)) (sym nothing) none))
 
 pub sharding::ShardingCodec::read_subchunks-loop-walk-init : goal.sharding::ShardingCodec::read_subchunks-loop-walk-init
 sharding::ShardingCodec::read_subchunks-loop-walk-init g t c =
@@ -397,14 +422,16 @@ sharding::ShardingCodec::read_subchunks-loop-walk-init g t c =
     let dec = m.decoded k f sub in
     let part = box_of c.args.part.now in
     let parts = map (range_part (window_bytes c.args.window (g.B.ByteSource.bytes c.args.source.now))) c.args.index.now.ranges.items in
+    let count : c.in-Ok.count ≡ position_count part.shape = c.in-Ok.ensures.ok in
+    let fill : cells k (region_data c.in_ok-held.held) ≡ Some (replicate (position_count part.shape) f) = c.in_ok-held.ensures ∙ ap (λ n. Some (replicate n f)) count in
     let walk = c.in-Some.walk in
     let same = rw c.in-Some.is at c.in_ok-walk.ensures.none in
     let first = rw c.in-Some.is at c.in_ok-walk.ensures.first in
     record {
-      meets = subst (λ (b : Box). MeetsPart sub part b) (sym same) c.in_ok-met.ensures;
+      meets = subst (λ (b : Box). MeetsPart sub part b) (sym same) c.requires.met;
       read =
-          subst (λ (n : ℕ). HasSubchunkParts k dec f s sub part parts (take n (positions (walk_box walk))) (region_data c.args.held)) (sym first)
-          (none_read k dec f s sub part parts (region_data c.args.held) c.args.part.now.same_length c.requires.fill);
+          subst (λ (n : ℕ). HasSubchunkParts k dec f s sub part parts (take n (positions (walk_box walk))) (region_data c.in_ok-held.held)) (sym first)
+          (none_read k dec f s sub part parts (region_data c.in_ok-held.held) c.args.part.now.same_length fill);
     }
 
 pub sharding::ShardingCodec::read_subchunks-loop-walk-smaller : goal.sharding::ShardingCodec::read_subchunks-loop-walk-smaller
@@ -485,8 +512,8 @@ sharding::ShardingCodec::read_subchunks-read_subchunk-requires g t c κs within 
     let held = walked_cells k dec f s sub part parts _ (region_data c.loop-walk.made) c.loop-walk.invariant.read in
     (first_of (omega (arith, c.decreases), search rules), (search rules, (r.filled, (r.size, (r.fill_size, (r.part, (r.window, (r.may_read, (r.shard, held)))))))))
 
-pub sharding::ShardingCodec::partial_decode_cut-unreachable-requires : goal.sharding::ShardingCodec::partial_decode_cut-unreachable-requires
-sharding::ShardingCodec::partial_decode_cut-unreachable-requires g t c =
+pub sharding::ShardingCodec::read_subchunks-unreachable-requires : goal.sharding::ShardingCodec::read_subchunks-unreachable-requires
+sharding::ShardingCodec::read_subchunks-unreachable-requires g t c =
     let one : 1 ≤ cell_size (kind c.args.data_type.now) = cell_size-positive c.args.data_type.now in
     let fewer = count_fits _ _ _ (part_fits (box_of c.args.part.now) c.args.shape.now c.args.part.now.same_length c.requires.part) in
     omega (arith, mul-le-mul_left (position_count c.args.shape.now) one, c.requires.size, fewer, c.in_default.ensures.refused)
@@ -528,15 +555,64 @@ sharding::ShardingCodec::partial_decode_cut-returns-clause-refused g t c =
     (broken_shard k dec f s sub m at whole parts decodes_as shard.parts) (shard_left_out left at s sub whole parts shard.cut shard.parts) why)
     c.read_subchunks.ensures.refused
 
-pub sharding::ShardingCodec::partial_decode_cut-read_subchunks-requires : goal.sharding::ShardingCodec::partial_decode_cut-read_subchunks-requires
-sharding::ShardingCodec::partial_decode_cut-read_subchunks-requires g t c κs within =
-    let k = kind c.args.data_type.now in
-    let f = fill_of k c.args.fill_value.now in
+pub sharding::ShardingCodec::partial_decode_cut-met_subchunks-requires-clause-cut : goal.sharding::ShardingCodec::partial_decode_cut-met_subchunks-requires-clause-cut
+sharding::ShardingCodec::partial_decode_cut-met_subchunks-requires-clause-cut g t c =
+    let shard = rw c.in-Some.is at c.in_ok-index.ensures.shard in
+    shard.cut
+
+pub sharding::ShardingCodec::partial_decode_cut-decode_piece-requires : goal.sharding::ShardingCodec::partial_decode_cut-decode_piece-requires
+sharding::ShardingCodec::partial_decode_cut-decode_piece-requires g t c κs within =
     let r = c.requires in
     let shard = rw c.in-Some.is at c.in_ok-index.ensures.shard in
-    let count : c.in-Ok.count ≡ position_count (box_of c.args.part.now).shape = c.in-Ok.ensures.ok in
-    let fill : cells k (region_data c.in_ok-held.held) ≡ Some (replicate (position_count (box_of c.args.part.now).shape) f) = c.in_ok-held.ensures ∙ ap (λ n. Some (replicate n f)) count in
-    (first_of (omega (arith, c.decreases), search rules), (search rules, (r.filled, (r.size, (r.fill_size, (r.part, (r.window, (r.may_read, (shard, fill)))))))))
+    (first_of (omega (arith, c.decreases), search rules), (search rules, (r.filled, (r.size, (r.fill_size, (r.part, (r.window, (r.may_read, shard))))))))
+
+pub sharding::ShardingCodec::partial_decode_cut-returns-in_err-found-clause-refused : goal.sharding::ShardingCodec::partial_decode_cut-returns-in_err-found-clause-refused
+sharding::ShardingCodec::partial_decode_cut-returns-in_err-found-clause-refused g t c =
+    let k = kind c.args.data_type.now in
+    let f = fill_of k c.args.fill_value.now in
+    let s = c.args.shape.now in
+    let sub = c.args.sub.now in
+    let inner : ChainMeaning = chain_meaning (inner_chain_of c.args.self.now) in
+    let dec = inner.decoded k f sub in
+    let part = box_of c.args.part.now in
+    let whole = window_bytes c.args.window (g.B.ByteSource.bytes c.args.source.now) in
+    let parts = map (range_part whole) c.in-Some.index.ranges.items in
+    let shard = rw c.in-Some.is at c.in_ok-index.ensures.shard in
+    let at = c.args.at_start in
+    let left = inner.leaves_out sub in
+    let n = position_count s * held_size k f in
+    let refuses = g.B.ByteSource.refuses c.args.source.now in
+    let e = c.in_err-found.field-0.0 in
+    err_kept c.from_residual-in_err-found.result e
+    (λ e. (m : SubchunkMeaning) → DecodesAs m dec → RefusesPartDecoding (sharded_decoded m at k f s sub whole) (sharded_leaves_out left at s sub whole) n refuses e)
+    c.from_residual-in_err-found.ensures.1
+    (λ m decodes_as.
+    step_refused (sharded_decoded m at k f s sub whole) (sharded_leaves_out left at s sub whole) n dec left parts refuses e
+    (broken_shard k dec f s sub m at whole parts decodes_as shard.parts) (shard_left_out left at s sub whole parts shard.cut shard.parts) c.in_err-found.ensures.refused)
+
+pub sharding::ShardingCodec::partial_decode_cut-returns-then-eq-clause-cells : goal.sharding::ShardingCodec::partial_decode_cut-returns-then-eq-clause-cells
+sharding::ShardingCodec::partial_decode_cut-returns-then-eq-clause-cells g t c =
+    let k = kind c.args.data_type.now in
+    let f = fill_of k c.args.fill_value.now in
+    let s = c.args.shape.now in
+    let sub = c.args.sub.now in
+    let inner : ChainMeaning = chain_meaning (inner_chain_of c.args.self.now) in
+    let dec = inner.decoded k f sub in
+    let part = box_of c.args.part.now in
+    let whole = window_bytes c.args.window (g.B.ByteSource.bytes c.args.source.now) in
+    let parts = map (range_part whole) c.in-Some.index.ranges.items in
+    let shard = rw c.in-Some.is at c.in_ok-index.ensures.shard in
+    let has = rw c.in-Some-found.is at c.in_ok-found.ensures.piece in
+    let all = piece_alone k dec f s sub part parts c.start.result.now (box_of c.in-Some-found.piece.shared) (data_of c.in-Some-found.piece.cells) has (c.eq.ensures.0 c.if-eq.true) in
+    λ m decodes_as.
+    all_parts_decode k dec f s sub m c.args.at_start whole parts decodes_as shard.parts part (data_of c.in-Some-found.piece.cells) shard.cut c.args.part.now.same_length c.requires.part
+    (λ b cs is. (chain-lawful (inner_chain_of c.args.self.now)).decoded_len k f sub b cs is) all
+
+pub sharding::ShardingCodec::partial_decode_cut-read_subchunks-requires : goal.sharding::ShardingCodec::partial_decode_cut-read_subchunks-requires
+sharding::ShardingCodec::partial_decode_cut-read_subchunks-requires g t c κs within =
+    let r = c.requires in
+    let shard = rw c.in-Some.is at c.in_ok-index.ensures.shard in
+    (first_of (omega (arith, c.decreases), search rules), (search rules, (r.filled, (r.size, (r.fill_size, (r.part, (r.window, (r.may_read, (shard, c.in_ok-met.ensures)))))))))
 
 pub sharding::ShardingCodec::partial_decode_shard-partial_decode_cut-requires : goal.sharding::ShardingCodec::partial_decode_shard-partial_decode_cut-requires
 sharding::ShardingCodec::partial_decode_shard-partial_decode_cut-requires g t c κs within =

@@ -11,7 +11,7 @@ use Rattle.zarrs_codec.specs.ChainLaws.{chain-lawful}
 use Rattle.zarrs_codec.specs.Chains.{codec_meaning, chain_meaning, inner_chain_of, is_at_start, location_of, subchunk_sizes_of, sharding_meaning}
 use Rattle.zarrs_codec.specs.Shardings.{subchunk_meaning}
 use Rattle.zarrs_codec.specs.ShardPartsInto.{DecodesPieceAt, HasAllPartsAt, HasSubchunksAt, ReadsSubchunkAt, RefusesPiece, range_window}
-use Rattle.zarrs_codec.proofs.PartReads.{alone_refused, alone_places, is_none}
+use Rattle.zarrs_codec.proofs.PartReads.{alone_refused, alone_places, is_none, leaf_refused}
 use Rattle.zarrs_codec.proofs.SubchunksInto.{all_at, alone_at, last_walked, more_walked, none_at, none_empty, none_unfound, overlap_lies, parts_decode_at, piece_at, piece_refused, piece_window, skip_at}
 use Rattle.zarrs_codec_cells.specs.ShardingMetadata.{sizes_of}
 use Rattle.zarrs_parts.proofs.BytesParts.{window_len}
@@ -952,6 +952,58 @@ sharding::ShardingCodec::partial_decode_shard_into-returns-clause-refused g t c 
     subst (λ (l : List ℕ). RefusesPartDecoding (sharded_decoded (subchunk_meaning m false k f l) (is_at_start (location_of x)) k f s l whole) (sharded_leaves_out (m.leaves_out l) (is_at_start (location_of x)) s l whole) n refuses e) sub_is
     (subst (λ (a : Bool). RefusesPartDecoding (sharded_decoded (subchunk_meaning m false k f sub) a k f s sub whole) (sharded_leaves_out (m.leaves_out sub) a s sub whole) n refuses e) at_is (h (subchunk_meaning m false k f sub) (λ b. refl))))
     c.partial_decode_cut_into.ensures.refused
+
+pub chain::CodecChain::partial_decode_chunk_into-partial_decode_bytes_into-requires-clause-may_read : goal.chain::CodecChain::partial_decode_chunk_into-partial_decode_bytes_into-requires-clause-may_read
+chain::CodecChain::partial_decode_chunk_into-partial_decode_bytes_into-requires-clause-may_read g t c =
+    let k = kind c.args.data_type.now in
+    let s = c.args.shape.now in
+    let b = window_bytes c.args.window (g.B.ByteSource.bytes c.args.source.now) in
+    let part = box_of c.args.part.now in
+    let may_read = g.B.ByteSource.may_read c.args.source.now in
+    let before = c.args.self.now.array_to_array in
+    let last = c.args.self.now.array_to_bytes in
+    let none = eqb-true (vec_len before) 0 (sym c.if-not-is_empty.ensures) in
+    let alone = is_none before.items (omega (arith, none, before.ok.0)) in
+    subst (λ x. MayRead may_read c.args.window ((codec_meaning x).places k s part b)) c.in-Bytes.is
+    (alone_places before.items (codec_meaning last) may_read c.args.window k s part b alone c.requires.may_read)
+
+pub chain::CodecChain::partial_decode_chunk_into-returns-in-Bytes-clause-cells : goal.chain::CodecChain::partial_decode_chunk_into-returns-in-Bytes-clause-cells
+chain::CodecChain::partial_decode_chunk_into-returns-in-Bytes-clause-cells g t c =
+    let k = kind c.args.data_type.now in
+    let f = fill_of k c.args.fill_value.now in
+    let s = c.args.shape.now in
+    let b = window_bytes c.args.window (g.B.ByteSource.bytes c.args.source.now) in
+    let part = box_of c.args.part.now in
+    let t = c.args.target.now in
+    let before = c.args.self.now.array_to_array in
+    let last = c.args.self.now.array_to_bytes in
+    let none = eqb-true (vec_len before) 0 (sym c.if-not-is_empty.ensures) in
+    let alone = is_none before.items (omega (arith, none, before.ok.0)) in
+    let new = data_of_target c.partial_decode_bytes_into.new.target in
+    on_ok_weaker c.partial_decode_bytes_into.result
+    (λ h.
+    alone_at before.items (codec_meaning last) k f s part b (parent_box t) (target_box t) new alone
+    (subst (λ x. DecodesPartAt k s part ((codec_meaning x).decoded k f s b) (parent_box t) (target_box t) new) (sym c.in-Bytes.is) h))
+    c.partial_decode_bytes_into.ensures.cells
+
+pub chain::CodecChain::partial_decode_chunk_into-returns-in-Bytes-clause-refused : goal.chain::CodecChain::partial_decode_chunk_into-returns-in-Bytes-clause-refused
+chain::CodecChain::partial_decode_chunk_into-returns-in-Bytes-clause-refused g t c =
+    let k = kind c.args.data_type.now in
+    let f = fill_of k c.args.fill_value.now in
+    let s = c.args.shape.now in
+    let b = window_bytes c.args.window (g.B.ByteSource.bytes c.args.source.now) in
+    let before = c.args.self.now.array_to_array in
+    let last = c.args.self.now.array_to_bytes in
+    let none = eqb-true (vec_len before) 0 (sym c.if-not-is_empty.ensures) in
+    let alone = is_none before.items (omega (arith, none, before.ok.0)) in
+    let n = position_count s * held_size k f in
+    let refuses = g.B.ByteSource.refuses c.args.source.now in
+    IfErr-weaker c.partial_decode_bytes_into.result _ _
+    (λ e why.
+    alone_refused before.items (codec_meaning last) k f s b n refuses e alone
+    (subst (λ x. RefusesPartDecoding ((codec_meaning x).decoded k f s b) ((codec_meaning x).leaves_out s b) n refuses e) (sym c.in-Bytes.is)
+    (leaf_refused _ false n refuses e why)))
+    c.partial_decode_bytes_into.ensures.refused
 
 pub chain::CodecChain::partial_decode_chunk_into-returns-in-Sharding-clause-cells : goal.chain::CodecChain::partial_decode_chunk_into-returns-in-Sharding-clause-cells
 chain::CodecChain::partial_decode_chunk_into-returns-in-Sharding-clause-cells g t c =

@@ -11,7 +11,8 @@ use Rattle.zarrs_codec_leaf.specs.Refusals.{RefusesDecoding}
 use Rattle.zarrs_shard.proofs.Missing.{only_if_true}
 use Rattle.zarrs_chain.specs.Refusals.{RefusesChunkDecoding}
 use Rattle.zarrs_codec.specs.ChainLaws.{leaf-lawful, whole_chunk-lawful}
-use Rattle.zarrs_codec.specs.Chains.{leaf_meaning, whole_chunk}
+use Rattle.zarrs_codec.specs.Chains.{leaf_meaning}
+use Rattle.zarrs_codec.specs.Configurations.{whole_chunk}
 use Rattle.zarrs_codec.specs.Through.{through}
 use Rattle.zarrs_codec_cells.proofs.Kept.{err_kept}
 use Rattle.zarrs_codec.proofs.Behind.{cells_behind, count_behind, held_behind, refused_behind}

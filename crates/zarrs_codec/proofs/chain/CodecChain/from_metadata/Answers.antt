@@ -2,7 +2,8 @@ use Rattle.std.proofs.Common.{◌≡◌, Some, map, sym, subst}
 use Rattle.std.specs.Result.{IfOk, IfErr}
 use Rattle.zarrs_metadata.specs.Extension.{extension_view}
 use Rattle.zarrs_metadata.specs.Refusals.{RefusesMeaning}
-use Rattle.zarrs_codec.specs.Metadata.{chain_data, chain_said}
+use Rattle.zarrs_codec.specs.Metadata.{chain_said}
+use Rattle.zarrs_codec.specs.Chains.{chain_data}
 use Rattle.zarrs_codec.proofs.ChainMetadata.{no_chain, read_parts, refuses_none}
 use Rattle.zarrs_codec.proofs.chain.CodecChain.from_metadata.Goals as goal
 
