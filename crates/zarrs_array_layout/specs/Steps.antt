@@ -56,12 +56,15 @@ pub record HasValue (layout : Layout) (keep : Bool) (box : Box) (held : ArrayDat
   pub count : length chunk ≡ position_count box.shape
   pub is_value : IsValueOf layout keep box chunk value
 
--- A writing call was refused, or out of memory: no value changed, and at most one failure was counted, none if no call
--- was left.
-pub record RefusesPut (refusal : Refusal) (old new : StoreState) : Type 0 where
+-- One key was not written, for this cause: no value changed, and at most one failure was counted, none if no call was left.
+pub record LeavesValues (why : ℕ → StoreState → Type 0) (old new : StoreState) : Type 0 where
   pub failed : ℕ
   pub one : failed ≤ 1
   pub counted : 0 < failed → new.calls ≢ last_call + 1
   pub values : new.values ≡ old.values
   pub makes : Makes 0 failed old new
-  pub cause : RefusesErasure failed new refusal
+  pub cause : why failed new
+
+-- a writing call was refused, or out of memory
+abbrev pub RefusesPut : Refusal → StoreState → StoreState → Type 0
+RefusesPut r old new = LeavesValues (λ failed state. RefusesErasure failed state r) old new

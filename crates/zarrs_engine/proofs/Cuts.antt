@@ -324,13 +324,12 @@ module _ (layout : Layout) (keep : Bool) (shape index : List ℕ) (cut : is_cut 
   -- no writing call was made
   pub leaves_cut : (r : Refusal) (state : StoreState) → RefusesCut layout keep shape index 0 state r → LeavesCut layout keep shape index r state state
   leaves_cut r state why = record {
-    is_cut = cut;
     failed = 0;
     one = omega arith;
     counted = λ some. absurd (omega arith);
     values = refl;
     makes = makes_none state;
-    cause = why;
+    cause = (cut, why);
   }
 
   pub leaves_cut_memory : (state : StoreState) → LeavesCut layout keep shape index refusal.out_of_memory state state
@@ -353,13 +352,12 @@ module _ (layout : Layout) (keep : Bool) (shape index : List ℕ) (cut : is_cut 
   -- the store refuses the write
   pub put_fails : (value : Option (List ℕ)) (old new : StoreState) (r : Refusal) → IsCutValue layout keep shape index old value → RefusesPut r old new → LeavesCut layout keep shape index r old new
   put_fails value old new r v put = record {
-    is_cut = cut;
     failed = put.failed;
     one = put.one;
     counted = put.counted;
     values = put.values;
     makes = put.makes;
-    cause = record { gone = λ _. put.cause; kept = λ some. failed_cut value put.failed old new r (v.kept some) put.values put.cause };
+    cause = (cut, record { gone = λ _. put.cause; kept = λ some. failed_cut value put.failed old new r (v.kept some) put.values put.cause });
   }
 
   -- the chunk is cut
@@ -469,7 +467,7 @@ module _ (layout : Layout) (lawful : IsLawful layout) (keep : Bool) (shape : Lis
   cut_fails first n index r old mid new none at h l =
       let front = filter test (take n xs) in
       let rest = filter test (drop (n + 1) xs) in
-      let split = split_is n index at l.is_cut in
+      let split = split_is n index at l.cause.0 in
       let done = length front in
       let within : done < length (filter test xs) = omega (arith, ap (λ (cs : List (List ℕ)). length cs) split, length-append (front ++ index ∷ []) rest, length-append front (index ∷ [])) in
       let here : slice_get (filter test xs) done ≡ Some index = ap (λ (cs : List (List ℕ)). slice_get cs done) split ∙ at_seam front index rest in
@@ -487,7 +485,7 @@ module _ (layout : Layout) (lawful : IsLawful layout) (keep : Bool) (shape : Lis
         below = λ some. within;
         one = l.one;
         counted = l.counted;
-        cause = inr (index, here, (none, l.cause));
+        cause = inr (index, here, (none, l.cause.1));
       }
 
   -- out of memory before the first chunk

@@ -1,8 +1,8 @@
 -- What the steps inside a store leave that may write the parts of chunks by themselves.
-use Rattle.std.specs.Prelude.{◌≡◌, ◌≢◌, ◌+◌, ◌<◌, ◌≤◌, ℕ, Bool, List, length, take, Some}
+use Rattle.std.specs.Prelude.{◌≡◌, ℕ, Bool, List, length, take, Some}
 use Rattle.zarrs_subset.specs.Boxes.{position_count}
 use Rattle.zarrs_subset.specs.Regions.{Box}
-use Rattle.zarrs_storage.specs.Store.{StoreState, last_call}
+use Rattle.zarrs_storage.specs.Store.{StoreState}
 use Rattle.zarrs_data_type.specs.Cell.{Cell}
 use Rattle.zarrs_data_type.specs.ArrayData.{ArrayData}
 use Rattle.zarrs_data_type.specs.Cells.{cells}
@@ -10,15 +10,11 @@ use Rattle.zarrs_calls.specs.Layout.{Layout}
 use Rattle.zarrs_calls.specs.Refusals.{Refusal}
 use Rattle.zarrs_calls.specs.Changes.{Makes}
 use Rattle.zarrs_calls.specs.Patches.{Patches, RefusesPatch}
+use Rattle.zarrs_array_layout.specs.Steps.{LeavesValues}
 
--- One chunk did not take its part: no value changed, and at most one failure was counted, none if no call was left.
-pub record LeavesPatch (layout : Layout) (keep : Bool) (region : Box) (held : ArrayData) (index : List ℕ) (r : Refusal) (old new : StoreState) : Type 0 where
-  pub failed : ℕ
-  pub one : failed ≤ 1
-  pub counted : 0 < failed → new.calls ≢ last_call + 1
-  pub values : new.values ≡ old.values
-  pub makes : Makes 0 failed old new
-  pub cause : RefusesPatch layout keep region held index failed new r
+-- one chunk did not take its part
+abbrev pub LeavesPatch : Layout → (keep : Bool) → Box → ArrayData → (index : List ℕ) → Refusal → StoreState → StoreState → Type 0
+LeavesPatch layout keep region held index r old new = LeavesValues (λ failed state. RefusesPatch layout keep region held index failed state r) old new
 
 -- the first `done` of the chunks took their part, each by one writing call
 pub record HasPatched (layout : Layout) (region : Box) (held : ArrayData) (chunks : List (List ℕ)) (done : ℕ) (old new : StoreState) : Type 0 where

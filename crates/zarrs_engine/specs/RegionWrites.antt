@@ -1,9 +1,9 @@
 -- What a write of a region leaves after some of its chunks.
-use Rattle.std.specs.Prelude.{◌≡◌, ◌≢◌, ◌+◌, ◌<◌, ◌≤◌, ℕ, true, Bool, List, [], ◌∷◌, length, take, Some}
+use Rattle.std.specs.Prelude.{◌≡◌, ℕ, true, Bool, List, [], ◌∷◌, length, take, Some}
 use Rattle.zarrs_subset.specs.Boxes.{position_count}
 use Rattle.zarrs_subset.specs.Regions.{Box, Holds}
 use Rattle.zarrs_chunk_grid.specs.Grids.{Grid, box_at, is_covered}
-use Rattle.zarrs_storage.specs.Store.{StoreState, last_call}
+use Rattle.zarrs_storage.specs.Store.{StoreState}
 use Rattle.zarrs_data_type.specs.Cell.{Cell}
 use Rattle.zarrs_data_type.specs.ArrayData.{ArrayData}
 use Rattle.zarrs_data_type.specs.Cells.{cells}
@@ -11,6 +11,7 @@ use Rattle.zarrs_calls.specs.Layout.{Layout}
 use Rattle.zarrs_calls.specs.Refusals.{Refusal}
 use Rattle.zarrs_calls.specs.Changes.{Makes, Stores}
 use Rattle.zarrs_calls.specs.StateRefusals.{AreUpdated, RefusesPart}
+use Rattle.zarrs_array_layout.specs.Steps.{LeavesValues}
 
 -- each position of the region lies in a chunk
 abbrev pub AreCovered : Grid → Box → Type 0
@@ -39,11 +40,6 @@ pub record StoresOneMore (layout : Layout) (keep : Bool) (region : Box) (held : 
   pub stores : Stores layout keep region given (index ∷ []) old new
   pub makes : Makes 1 0 old new
 
--- One chunk did not take its part: no value changed, and at most one failure was counted, none if no call was left.
-pub record LeavesPart (layout : Layout) (keep : Bool) (region : Box) (held : ArrayData) (index : List ℕ) (r : Refusal) (old new : StoreState) : Type 0 where
-  pub failed : ℕ
-  pub one : failed ≤ 1
-  pub counted : 0 < failed → new.calls ≢ last_call + 1
-  pub values : new.values ≡ old.values
-  pub makes : Makes 0 failed old new
-  pub cause : RefusesPart layout keep region held index failed new r
+-- one chunk did not take its part
+abbrev pub LeavesPart : Layout → (keep : Bool) → Box → ArrayData → (index : List ℕ) → Refusal → StoreState → StoreState → Type 0
+LeavesPart layout keep region held index r old new = LeavesValues (λ failed state. RefusesPart layout keep region held index failed state r) old new

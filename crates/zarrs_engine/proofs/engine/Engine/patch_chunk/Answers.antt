@@ -4,7 +4,7 @@ use Rattle.zarrs_chunk_grid.proofs.Chunks.{box_is_there}
 use Rattle.zarrs_data_type.specs.ArrayData.{data_of}
 use Rattle.zarrs_shard.specs.ShardPatches.{change_of}
 use Rattle.zarrs_chain.specs.Options.{stores_empty_chunks}
-use Rattle.zarrs_calls.specs.Refusals.{Refusal, refusal_of}
+use Rattle.zarrs_calls.specs.Refusals.{Refusal, out_of_memory, refusal_of}
 use Rattle.zarrs_calls.proofs.RefusalLemmas.{storage_said}
 use Rattle.zarrs_engine.specs.Engine.{layout_of}
 use Rattle.zarrs_engine.specs.Patches.{LeavesPatch}
@@ -39,7 +39,7 @@ returns-in_err-key-clause-refused g c = λ region held.
     let keep = stores_empty_chunks c.args.options.now in
     let state = g.S.ReadableStorageTraits.state c.args.self.now.storage in
     let index = c.args.chunk_indices.now in
-    let why = leaves_patch layout keep region held index _ state state (leaves_memory layout keep region held index state) in
+    let why = leaves_patch layout keep region held index out_of_memory state state (leaves_memory layout keep region held index state) in
     search (rules, why)
 
 pub returns-in_err-put_part-clause-refused : goal.returns-in_err-put_part-clause-refused
