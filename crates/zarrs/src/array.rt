@@ -60,7 +60,7 @@ impl<TStorage> Array<TStorage> {
     ghost use Rattle.zarrs_chunk_grid.specs.Configurations.{counts_of};
     ghost use Rattle.zarrs_chunk_grid.specs.GridView.{configuration_of};
     ghost use Rattle.zarrs_types.specs.Kind.{kind};
-    ghost use Rattle.zarrs_codec.specs.Metadata.{chain_data};
+    ghost use Rattle.zarrs_codec.specs.Chains.{chain_data};
     ghost use Rattle.zarrs_creation.specs.Meanings.{shape_said, attributes_of};
     ghost use Rattle.zarrs_creation.specs.Meanings.{dimension_names_of};
     ghost use Rattle.zarrs.specs.Arrays.{metadata_of_array, meaning_of_array, layout_of_array};

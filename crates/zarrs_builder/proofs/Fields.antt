@@ -6,9 +6,9 @@ use Rattle.serde_json.specs.Data.{Members}
 use Rattle.zarrs_metadata.specs.Extension.{ExtensionData}
 use Rattle.zarrs_keys.specs.declared.encodings.ChunkKeyEncoding.{ChunkKeyEncoding}
 use Rattle.zarrs_types.specs.Kind.{Kind}
-use Rattle.zarrs_codec_array.specs.Metadata.{ArrayCodecData}
+use Rattle.zarrs_codec_array.specs.Configurations.{ArrayCodecData}
 use Rattle.zarrs_chain.specs.declared.options.CodecSpecificOptions.{CodecSpecificOptions}
-use Rattle.zarrs_codec.specs.Metadata.{BytesCodecData}
+use Rattle.zarrs_codec.specs.Configurations.{BytesCodecData}
 use Rattle.zarrs_metadata_v3.specs.Fields.{FieldData}
 use Rattle.zarrs_builder.specs.Given.{FillData}
 use Rattle.zarrs_builder.specs.Builders.{BuilderData}

@@ -19,8 +19,9 @@ use Rattle.zarrs_types.specs.TypeMetadata.{kind_of, is_readable}
 use Rattle.zarrs_types.proofs.TypeReading.{kind_of-extension}
 use Rattle.zarrs_types.specs.Kind.{Kind}
 use Rattle.zarrs_codec_cells.specs.ShardingMetadata.{sizes_of}
-use Rattle.zarrs_codec_array.specs.Metadata.{ArrayCodecData}
-use Rattle.zarrs_codec.specs.Metadata.{BytesCodecData, ChainData, chain_said, extensions_of_chain}
+use Rattle.zarrs_codec_array.specs.Configurations.{ArrayCodecData}
+use Rattle.zarrs_codec.specs.Metadata.{chain_said, extensions_of_chain}
+use Rattle.zarrs_codec.specs.Configurations.{BytesCodecData, ChainData}
 use Rattle.zarrs_metadata_v3.specs.Document.{DocumentData}
 use Rattle.zarrs_metadata_v2.specs.View.{v3}
 use Rattle.zarrs_options.specs.Refusals.{CreateRefusal, data_type, chunk_grid, said_or, RefusesCreation}

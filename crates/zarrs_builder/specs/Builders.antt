@@ -15,9 +15,11 @@ use Rattle.zarrs_chunk_grid.specs.Metadata.{extension_of_grid}
 use Rattle.zarrs_chunk_grid.specs.declared.grid.ChunkGrid.{ChunkGrid}
 use Rattle.zarrs_types.specs.FillMetadata.{fill_written}
 use Rattle.zarrs_types.specs.Kind.{Kind}
-use Rattle.zarrs_codec_array.specs.Metadata.{ArrayCodecData, array_codec_data}
+use Rattle.zarrs_codec_array.specs.ArrayCodecs.{array_codec_data}
+use Rattle.zarrs_codec_array.specs.Configurations.{ArrayCodecData}
 use Rattle.zarrs_chain.specs.declared.options.CodecSpecificOptions.{CodecSpecificOptions}
-use Rattle.zarrs_codec.specs.Metadata.{BytesCodecData, bytes_codec_data}
+use Rattle.zarrs_codec.specs.Chains.{bytes_codec_data}
+use Rattle.zarrs_codec.specs.Configurations.{BytesCodecData}
 use Rattle.zarrs_metadata_v3.specs.Fields.{FieldData}
 use Rattle.zarrs_metadata_v3.specs.View.{name_view, fields_view}
 use Rattle.zarrs_metadata_v2.specs.View.{MetadataData, v3, v2}

@@ -10,7 +10,8 @@ use Rattle.zarrs_types.specs.Cell.{fill_cell}
 use Rattle.zarrs_types.specs.FillMetadata.{fill_said, fill_written}
 use Rattle.zarrs_types.specs.Kind.{Kind}
 use Rattle.zarrs_types.specs.TypeMetadata.{kind_name, kind_extension, is_readable}
-use Rattle.zarrs_codec.specs.Metadata.{BytesCodecData, ChainData, sharding, default_codec, extensions_of_chain}
+use Rattle.zarrs_codec.specs.Metadata.{default_codec, extensions_of_chain}
+use Rattle.zarrs_codec.specs.Configurations.{BytesCodecData, ChainData, sharding}
 use Rattle.zarrs_metadata_v3.specs.Document.{DocumentData}
 use Rattle.zarrs_metadata_v2.specs.View.{MetadataData, v3}
 use Rattle.zarrs_options.specs.Refusals.{CreateRefusal, data_type, subchunk_shape, chunk_grid, fill_value, fill_value_metadata, out_of_memory, said_or}

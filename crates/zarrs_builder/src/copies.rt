@@ -1,6 +1,6 @@
 //! Copies of the parts of a builder.
 ghost use Rattle.std.specs.Prelude.{◌≡◌, map, option_map, IfOk};
-ghost use Rattle.zarrs_codec_array.specs.Metadata.{array_codec_data};
+ghost use Rattle.zarrs_codec_array.specs.ArrayCodecs.{array_codec_data};
 ghost use Rattle.zarrs_metadata_v3.specs.View.{name_view, fields_view};
 
 use std::alloc::{AllocError, Global};

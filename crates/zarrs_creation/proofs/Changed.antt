@@ -10,7 +10,8 @@ use Rattle.zarrs_chunk_grid.specs.Metadata.{grid_said}
 use Rattle.zarrs_types.specs.FillMetadata.{fill_said}
 use Rattle.zarrs_types.specs.Kind.{Kind}
 use Rattle.zarrs_types.specs.TypeMetadata.{kind_of}
-use Rattle.zarrs_codec.specs.Metadata.{ChainData, chain_said}
+use Rattle.zarrs_codec.specs.Metadata.{chain_said}
+use Rattle.zarrs_codec.specs.Configurations.{ChainData}
 use Rattle.zarrs_options.specs.Options.{transformers_said}
 use Rattle.zarrs_options.specs.Refusals.{CreateRefusal, codecs, data_type, chunk_grid, fill_value_metadata, storage_transformers, chunk_key_encoding, said_or}
 use Rattle.zarrs_creation.specs.Changes.{with_names, naming}

@@ -14,7 +14,8 @@ use Rattle.zarrs_keys.specs.Metadata.{key_encoding_of}
 use Rattle.zarrs_types.specs.FillMetadata.{fill_said}
 use Rattle.zarrs_types.specs.TypeMetadata.{kind_of}
 use Rattle.zarrs_codec_array.specs.Metadata.{array_codec_said}
-use Rattle.zarrs_codec.specs.Metadata.{ChainData, bytes_codec_said, array_codecs_said, chain_of_parts, chain_said}
+use Rattle.zarrs_codec.specs.Metadata.{bytes_codec_said, array_codecs_said, chain_of_parts, chain_said}
+use Rattle.zarrs_codec.specs.Configurations.{ChainData}
 use Rattle.zarrs_options.specs.Options.{MetadataOptionsData}
 use Rattle.zarrs_options.specs.Refusals.{CreateRefusal, codecs, data_type, chunk_grid, fill_value_metadata, said_or}
 use Rattle.zarrs_options.specs.declared.versions.MetadataConvertVersion.{MetadataConvertVersion}

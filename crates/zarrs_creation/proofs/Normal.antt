@@ -8,7 +8,8 @@ use Rattle.zarrs_chunk_grid.specs.Metadata.{grid_said}
 use Rattle.zarrs_keys.specs.Metadata.{key_encoding_of}
 use Rattle.zarrs_types.specs.TypeMetadata.{kind_of}
 use Rattle.zarrs_codec_array.specs.Metadata.{array_codec_said}
-use Rattle.zarrs_codec.specs.Metadata.{ChainData, bytes_codec_said, array_codecs_said, chain_of_parts, chain_said}
+use Rattle.zarrs_codec.specs.Metadata.{bytes_codec_said, array_codecs_said, chain_of_parts, chain_said}
+use Rattle.zarrs_codec.specs.Configurations.{ChainData}
 use Rattle.zarrs_options.specs.Options.{transformers_said}
 use Rattle.zarrs_metadata_v3.specs.Document.{DocumentData, normal_document}
 use Rattle.zarrs_creation.specs.Meanings.{creation_v3}

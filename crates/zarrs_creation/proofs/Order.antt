@@ -8,7 +8,8 @@ use Rattle.zarrs_chunk_grid.specs.Metadata.{grid_said}
 use Rattle.zarrs_types.specs.FillMetadata.{fill_said}
 use Rattle.zarrs_types.specs.Kind.{Kind}
 use Rattle.zarrs_types.specs.TypeMetadata.{kind_of}
-use Rattle.zarrs_codec.specs.Metadata.{ChainData, chain_said}
+use Rattle.zarrs_codec.specs.Metadata.{chain_said}
+use Rattle.zarrs_codec.specs.Configurations.{ChainData}
 use Rattle.zarrs_options.specs.Options.{transformers_said}
 use Rattle.zarrs_options.specs.Refusals.{CreateRefusal, node_path, additional_field, data_type, fill_value, fill_value_metadata, codecs, storage_transformers, chunk_grid, chunk_key_encoding, grid_dimensions, dimension_names, subchunk_shape, storage, unread, missing_metadata, unsupported_v2, out_of_memory, unused, said_or, RefusesCreation}
 use Rattle.zarrs_creation.specs.Meanings.{names_said, creation_v3, ◌>>=◌}

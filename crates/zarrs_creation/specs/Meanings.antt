@@ -17,7 +17,9 @@ use Rattle.zarrs_types.specs.FillMetadata.{fill_said}
 use Rattle.zarrs_types.specs.Kind.{Kind, kind}
 use Rattle.zarrs_types.specs.TypeMetadata.{kind_of}
 use Rattle.zarrs_types.specs.declared.data_type.DataType.{DataType}
-use Rattle.zarrs_codec.specs.Metadata.{ChainData, chain_data, chain_said}
+use Rattle.zarrs_codec.specs.Metadata.{chain_said}
+use Rattle.zarrs_codec.specs.Chains.{chain_data}
+use Rattle.zarrs_codec.specs.Configurations.{ChainData}
 use Rattle.zarrs_codec.specs.declared.chain.CodecChain.{CodecChain}
 use Rattle.zarrs_options.specs.Options.{transformers_said}
 use Rattle.zarrs_options.specs.Refusals.{CreateRefusal, node_path, codecs, data_type, chunk_grid, fill_value_metadata}

@@ -10,10 +10,10 @@ use Rattle.zarrs_chunk_grid.specs.Configurations.{DimensionSizes, GridConfigurat
 use Rattle.zarrs_types.specs.Kind.{Kind}
 use Rattle.zarrs_types.specs.Same.{kind_eq, kind_eq-Decides}
 use Rattle.zarrs_codec_array.specs.Arrays.{Extent}
-use Rattle.zarrs_codec_array.specs.Metadata.{ArrayCodecData}
+use Rattle.zarrs_codec_array.specs.Configurations.{ArrayCodecData}
 use Rattle.zarrs_codec_leaf.specs.declared.bytes.Endianness.{Endianness}
-use Rattle.zarrs_codec_cells.specs.Metadata.{MaskCodecData, CellsCodecData, bytes, packbits, vlen_utf8, vlen_bytes, vlen, optional}
-use Rattle.zarrs_codec.specs.Metadata.{BytesCodecData, cells, sharding, ChainData}
+use Rattle.zarrs_codec_cells.specs.Configurations.{MaskCodecData, CellsCodecData, bytes, packbits, vlen_utf8, vlen_bytes, vlen, optional}
+use Rattle.zarrs_codec.specs.Configurations.{BytesCodecData, cells, sharding, ChainData}
 use Rattle.zarrs_creation.specs.Meanings.{Meaning}
 
 Bool-set : IsSet Bool

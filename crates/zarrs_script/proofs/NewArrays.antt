@@ -17,15 +17,16 @@ use Rattle.serde_json.specs.Written.{has_float}
 use Rattle.zarrs_metadata_v3.specs.Document.{DocumentData, data_of_document}
 use Rattle.zarrs_keys.specs.declared.encodings.ChunkKeyEncoding.TheVariants.{Default}
 use Rattle.zarrs_chunk_grid.specs.Configurations.{GridConfiguration}
-use Rattle.zarrs_codec_array.specs.Metadata.{array_codec_data}
+use Rattle.zarrs_codec_array.specs.ArrayCodecs.{array_codec_data}
 use Rattle.zarrs_codec_array.specs.declared.array.ArrayToArrayCodec.{ArrayToArrayCodec}
 use Rattle.zarrs_codec_leaf.specs.Bytes.{endian_of}
 use Rattle.zarrs_codec_leaf.specs.declared.bytes.BytesCodec.{BytesCodec}
 use Rattle.zarrs_codec_leaf.specs.declared.bytes.Endianness.{Endianness}
 use Rattle.zarrs_codec_leaf.specs.declared.bytes.Endianness.TheVariants.{Little}
-use Rattle.zarrs_codec_cells.specs.Metadata.{bytes}
+use Rattle.zarrs_codec_cells.specs.Configurations.{bytes}
 use Rattle.zarrs_codec.specs.Chains.{array_to_array_of, array_to_bytes_of}
-use Rattle.zarrs_codec.specs.Metadata.{ChainData, chain_data, bytes_codec_data, cells}
+use Rattle.zarrs_codec.specs.Chains.{chain_data, bytes_codec_data}
+use Rattle.zarrs_codec.specs.Configurations.{ChainData, cells}
 use Rattle.zarrs_codec.specs.declared.codec.ArrayToBytesCodec as code
 use Rattle.zarrs_codec.specs.declared.chain.CodecChain.{CodecChain}
 use Rattle.zarrs_metadata_v2.specs.View.{MetadataData, v3}

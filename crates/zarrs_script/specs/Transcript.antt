@@ -15,7 +15,7 @@ use Rattle.zarrs_data_type.specs.ArrayData.{ArrayData, data_of}
 use Rattle.zarrs_data_type.specs.Cells.{cells}
 use Rattle.zarrs_codec_leaf.specs.Bytes.{bytes_meaning}
 use Rattle.zarrs_codec_array.specs.Arrays.{same_array}
-use Rattle.zarrs_codec.specs.Chains.{whole_chunk, with_places}
+use Rattle.zarrs_codec.specs.Configurations.{whole_chunk, with_places}
 use Rattle.zarrs_codec.specs.Through.{through_all}
 use Rattle.zarrs_parts.specs.Places.{cell_places}
 use Rattle.zarrs_calls.specs.declared.call.Call.{Call}

@@ -21,7 +21,9 @@ use Rattle.zarrs_types.specs.Kind as type
 use Rattle.zarrs_types.specs.TypeMetadata.{kind_of, kind_extension}
 use Rattle.zarrs_types.specs.declared.data_type.DataType.{DataType}
 use Rattle.zarrs_codec.specs.Chains.{array_to_array_of, array_to_bytes_of}
-use Rattle.zarrs_codec.specs.Metadata.{ChainData, chain_data, chain_said, extensions_of_chain}
+use Rattle.zarrs_codec.specs.Metadata.{chain_said, extensions_of_chain}
+use Rattle.zarrs_codec.specs.Chains.{chain_data}
+use Rattle.zarrs_codec.specs.Configurations.{ChainData}
 use Rattle.zarrs_codec.specs.declared.chain.CodecChain.{CodecChain}
 use Rattle.zarrs_codec.proofs.ChainMetadata.{chain_back}
 use Rattle.zarrs_creation.specs.Meanings.{meaning_with, creation_v3}

@@ -12,8 +12,9 @@ use Rattle.zarrs_types.specs.Kind.{Kind}
 use Rattle.zarrs_types.specs.Kind as type
 use Rattle.zarrs_types.specs.TypeMetadata.{kind_extension}
 use Rattle.zarrs_codec_leaf.specs.declared.bytes.Endianness.TheVariants.{Little}
-use Rattle.zarrs_codec_cells.specs.Metadata.{bytes}
-use Rattle.zarrs_codec.specs.Metadata.{cells, extensions_of_chain}
+use Rattle.zarrs_codec_cells.specs.Configurations.{bytes}
+use Rattle.zarrs_codec.specs.Metadata.{extensions_of_chain}
+use Rattle.zarrs_codec.specs.Configurations.{cells}
 use Rattle.zarrs_creation.specs.Meanings.{Meaning}
 
 -- the parts of an array with the `regular` grid, `default` keys with `/` and the codec `bytes`, little endian

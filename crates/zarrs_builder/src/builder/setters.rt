@@ -20,8 +20,8 @@ impl ArrayBuilder {
     ghost use Rattle.std.specs.Borrow.{sem};
     ghost use Rattle.serde_json.specs.View.{members_view};
     ghost use Rattle.zarrs_keys.specs.declared.encodings.ChunkKeyEncoding.TheVariants as keys;
-    ghost use Rattle.zarrs_codec_array.specs.Metadata.{array_codec_data};
-    ghost use Rattle.zarrs_codec.specs.Metadata.{bytes_codec_data};
+    ghost use Rattle.zarrs_codec_array.specs.ArrayCodecs.{array_codec_data};
+    ghost use Rattle.zarrs_codec.specs.Chains.{bytes_codec_data};
     ghost use Rattle.zarrs_metadata_v3.specs.View.{fields_view};
     ghost use Rattle.zarrs_builder.specs.Given.{AreGiven};
     ghost use Rattle.zarrs_builder.specs.Builders.{builder_view, shape_of, chunk_grid_of};

@@ -1,5 +1,5 @@
 use Rattle.std.proofs.Common.{◌≡◌, take, map}
-use Rattle.zarrs_codec_array.specs.Metadata.{array_codec_data}
+use Rattle.zarrs_codec_array.specs.ArrayCodecs.{array_codec_data}
 use Rattle.zarrs_builder.proofs.copies.copied_codecs.Given as goal
 
 -- the copies so far
