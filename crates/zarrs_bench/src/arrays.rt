@@ -3,22 +3,35 @@ use crate::numbers::{Number, numbers_of, tested_numbers};
 use anyhow::Result;
 use std::alloc::Global;
 use std::marker::PhantomData;
-use zarrs::{Array, ArrayBytes, ArrayMetadata, ArrayMetadataV3, ArraySubset, IntoArrayBytes};
-use zarrs_bench_engine::plain::{Grid, hold_same, read_region, same_values, store_region};
+use zarrs::{Array, ArrayBytes, ArraySubset, DataType, IntoArrayBytes};
+use zarrs_bench_plain::regions::{Grid, hold_same, read_region, same_values, store_region};
 use zarrs_bench_rows::measure::{Sample, Work};
 use zarrs_bench_rows::samples::{bytes_in, tested};
+use zarrs_builder::ArrayBuilder;
 use zarrs_storage::MemoryStore;
 
-/// An array of numbers over a store, the same chunks in a store alone, and what is stored there as a list and as bytes.
+/// An array over a store, and the same chunks in a store alone.
 #[derive(Drop)]
-pub struct Numbers<T: Number> {
+pub struct Stored {
     array: Array<MemoryStore>,
     store: MemoryStore,
-    is_chunk: bool,
-    grid: Grid,
+}
+
+/// All positions of an array of numbers, and what is stored there as a list and as bytes.
+#[derive(Drop)]
+pub struct Values<T: Number> {
     all: ArraySubset,
     list: Vec<T>,
     cells: ArrayBytes<'static>,
+}
+
+/// An array of numbers, how it is cut, and what is stored there.
+#[derive(Drop)]
+pub struct Numbers<T: Number> {
+    is_chunk: bool,
+    grid: Grid,
+    stored: Stored,
+    values: Values<T>,
 }
 
 /// An array of 32 MiB in chunks of 64 KiB, or of one chunk of 32 KiB.
@@ -36,9 +49,9 @@ fn grid_of(is_chunk: bool) -> Grid {
     }
 }
 
-/// The extents in numbers of so many bytes, of extents in bytes.
-fn in_numbers([rows, columns]: [u64; 2], width: usize) -> [u64; 2] {
-    [rows, columns / (width as u64).max(1)]
+/// The extents in numbers, of extents in bytes.
+fn in_numbers<T: Number>([rows, columns]: [u64; 2]) -> [u64; 2] {
+    [rows, columns / (T::WIDTH as u64).max(1)]
 }
 
 /// The array of this type and shape, in chunks of that shape. All chunks are absent.
@@ -47,27 +60,14 @@ fn in_numbers([rows, columns]: [u64; 2], width: usize) -> [u64; 2] {
 /// Out of memory.
 pub fn absent_array(
     alloc: Global,
-    type_name: &str,
-    [rows, columns]: [u64; 2],
-    [height, width]: [u64; 2],
+    data_type: DataType,
+    shape: [u64; 2],
+    chunk: [u64; 2],
 ) -> Result<Array<MemoryStore>> {
-    let document = format!(in alloc;
-        concat!(
-            r#"{{"zarr_format":3,"node_type":"array","data_type":"{}","shape":[{},{}],"#,
-            r#""chunk_grid":{{"name":"regular","configuration":{{"chunk_shape":[{},{}]}}}},"#,
-            r#""chunk_key_encoding":{{"name":"default","configuration":{{"separator":"/"}}}},"#,
-            r#""codecs":[{{"name":"bytes","configuration":{{"endian":"little"}}}}],"#,
-            r#""fill_value":0}}"#
-        ),
-        type_name,
-        rows,
-        columns,
-        height,
-        width
-    )?;
-    let metadata = ArrayMetadataV3::from_slice(alloc, document.as_bytes())?;
-    let (storage, metadata) = (MemoryStore::new(alloc), ArrayMetadata::V3(metadata));
-    Ok(Array::new_with_metadata(alloc, storage, "/climate/rain", metadata)?)
+    let builder = ArrayBuilder::new(alloc, shape, chunk, data_type, 0u8);
+    let built = builder.build(alloc, MemoryStore::new(alloc), "/climate/rain");
+    drop(builder);
+    Ok(built?)
 }
 
 /// Stores these cells as the first chunk, or as all of the array.
@@ -84,15 +84,32 @@ fn store_data<'a, D: IntoArrayBytes<'a>>(
     Ok(())
 }
 
-/// Stores these numbers as all of the array, and returns the same chunks in a store alone.
-fn store_all<T: Number>(
+/// An array of numbers that is cut like this, with these numbers as all of it.
+fn stored_array<T: Number>(
     alloc: Global,
-    array: &mut Array<MemoryStore>,
-    all: &ArraySubset,
-    list: &[T],
-) -> Result<MemoryStore> {
-    store_data(alloc, array, Some(all), list)?;
-    same_values(alloc, array.storage())
+    grid: Grid,
+    values: &Values<T>,
+) -> Result<Array<MemoryStore>> {
+    let (shape, chunk) = (in_numbers::<T>(grid.shape), in_numbers::<T>(grid.chunk));
+    let mut array = absent_array(alloc, T::data_type(), shape, chunk)?;
+    let outcome = store_data(alloc, &mut array, Some(&values.all), values.list.as_slice());
+    outcome.and(Ok(array))
+}
+
+/// The array, and the same chunks in a store alone.
+fn make_stored<T: Number>(alloc: Global, grid: Grid, values: &Values<T>) -> Result<Stored> {
+    let array = stored_array(alloc, grid, values)?;
+    let store = same_values(alloc, array.storage())?;
+    Ok(Stored { array, store })
+}
+
+/// All positions of an array that is cut like this, and numbers and cells of so many bytes.
+fn make_values<T: Number>(alloc: Global, grid: Grid, len: usize) -> Result<Values<T>> {
+    let shape = in_numbers::<T>(grid.shape).to_vec(alloc)?;
+    let all = ArraySubset::new_with_shape(alloc, shape)?;
+    let list = numbers_of(alloc, len / T::WIDTH.max(1))?;
+    let cells = ArrayBytes::make(alloc, (), len)?;
+    Ok(Values { all, list, cells })
 }
 
 impl<T: Number> Sample for Numbers<T> {
@@ -101,34 +118,25 @@ impl<T: Number> Sample for Numbers<T> {
 
     fn make(alloc: Global, is_chunk: bool, len: usize) -> Result<Numbers<T>> {
         let grid = grid_of(is_chunk);
-        let width = T::WIDTH.max(1);
-        let shape = in_numbers(grid.shape, width);
-        let chunk = in_numbers(grid.chunk, width);
-        let all = ArraySubset::new_with_shape(alloc, shape.to_vec(alloc)?)?;
-        let list = numbers_of(alloc, len / width)?;
-        let cells = ArrayBytes::make(alloc, (), len)?;
-        let mut array = absent_array(alloc, T::NAME, shape, chunk)?;
-        let store = store_all(alloc, &mut array, &all, &list)?;
+        let values = make_values(alloc, grid, len)?;
+        let stored = make_stored(alloc, grid, &values)?;
         Ok(Numbers {
-            array,
-            store,
             is_chunk,
             grid,
-            all,
-            list,
-            cells,
+            stored,
+            values,
         })
     }
 
     fn touch(&mut self, turn: u8) {
-        if let Some(last) = self.list.last_mut() {
+        if let Some(last) = self.values.list.last_mut() {
             *last = T::of_byte(turn);
         }
-        self.cells.touch(turn);
+        self.values.cells.touch(turn);
     }
 
     fn is_left_same(&self, alloc: Global) -> Result<bool> {
-        hold_same(alloc, self.array.storage(), &self.store)
+        hold_same(alloc, self.stored.array.storage(), &self.stored.store)
     }
 }
 
@@ -139,22 +147,16 @@ impl<T: Number, const IS_LIST: bool> Work for Store<T, IS_LIST> {
     type Sample = Numbers<T>;
 
     fn run(alloc: Global, sample: &mut Numbers<T>) -> Result<u8> {
-        let Numbers {
-            array,
-            is_chunk,
-            all,
-            list,
-            cells,
-            ..
-        } = sample;
-        let all = (!*is_chunk).then_some(&*all);
-        let outcome = if IS_LIST {
-            store_data(alloc, array, all, list.as_slice())
+        let is_chunk = sample.is_chunk;
+        let (array, values) = (&mut sample.stored.array, &sample.values);
+        let all = (!is_chunk).then_some(&values.all);
+        let stored = if IS_LIST {
+            store_data(alloc, array, all, values.list.as_slice())
         } else {
-            store_data(alloc, array, all, ArrayBytes::from_flen(bytes_in(cells)))
+            let cells = ArrayBytes::from_flen(bytes_in(&values.cells));
+            store_data(alloc, array, all, cells)
         };
-        outcome?;
-        Ok(0)
+        stored.and(Ok(0))
     }
 }
 
@@ -176,21 +178,33 @@ impl<T: Number, const IS_LIST: bool> Work for PlainStore<T, IS_LIST> {
     type Sample = Numbers<T>;
 
     fn run(alloc: Global, sample: &mut Numbers<T>) -> Result<u8> {
-        let Numbers {
-            store,
-            grid,
-            list,
-            cells,
-            ..
-        } = sample;
-        let outcome = if IS_LIST {
-            store_list(alloc, store, *grid, list)
+        let grid = sample.grid;
+        let (store, values) = (&mut sample.stored.store, &sample.values);
+        let stored = if IS_LIST {
+            store_list(alloc, store, grid, &values.list)
         } else {
-            store_region(alloc, store, *grid, grid.all(), bytes_in(cells))
+            store_region(alloc, store, grid, grid.all(), bytes_in(&values.cells))
         };
-        outcome?;
-        Ok(0)
+        stored.and(Ok(0))
     }
+}
+
+/// What some of the numbers of an array say, read as a list.
+fn read_list<T: Number>(
+    alloc: Global,
+    array: &Array<MemoryStore>,
+    all: &ArraySubset,
+) -> Result<u8> {
+    let found: Vec<T> = array.retrieve_array_subset(alloc, all)?;
+    Ok(tested_numbers(&found))
+}
+
+/// What some of the bytes of an array say, read as array bytes.
+fn read_bytes(alloc: Global, array: &Array<MemoryStore>, all: &ArraySubset) -> Result<u8> {
+    let found: ArrayBytes<'static> = array.retrieve_array_subset(alloc, all)?;
+    let byte = tested(bytes_in(&found));
+    drop(found);
+    Ok(byte)
 }
 
 /// `Array::retrieve_array_subset`, as `Vec<T>` or as `ArrayBytes`.
@@ -200,13 +214,19 @@ impl<T: Number, const IS_LIST: bool> Work for Read<T, IS_LIST> {
     type Sample = Numbers<T>;
 
     fn run(alloc: Global, sample: &mut Numbers<T>) -> Result<u8> {
+        let (array, all) = (&sample.stored.array, &sample.values.all);
         if IS_LIST {
-            let found: Vec<T> = sample.array.retrieve_array_subset(alloc, &sample.all)?;
-            return Ok(tested_numbers(&found));
+            read_list::<T>(alloc, array, all)
+        } else {
+            read_bytes(alloc, array, all)
         }
-        let found: ArrayBytes<'static> = sample.array.retrieve_array_subset(alloc, &sample.all)?;
-        Ok(tested(bytes_in(&found)))
     }
+}
+
+/// What some of the numbers of these bytes say.
+fn tested_list<T: Number>(alloc: Global, bytes: Vec<u8>) -> Result<u8> {
+    let numbers = T::of_bytes(alloc, bytes)?;
+    Ok(tested_numbers(&numbers))
 }
 
 /// The same calls of a store, copies of rows over zeros, and the numbers of the bytes, if a list is read.
@@ -217,10 +237,11 @@ impl<T: Number, const IS_LIST: bool> Work for PlainRead<T, IS_LIST> {
 
     fn run(alloc: Global, sample: &mut Numbers<T>) -> Result<u8> {
         let grid = sample.grid;
-        let found = read_region(alloc, &sample.store, grid, grid.all())?;
+        let found = read_region(alloc, &sample.stored.store, grid, grid.all())?;
         if IS_LIST {
-            return Ok(tested_numbers(&T::of_bytes(alloc, found)?));
+            tested_list::<T>(alloc, found)
+        } else {
+            Ok(tested(&found))
         }
-        Ok(tested(&found))
     }
 }

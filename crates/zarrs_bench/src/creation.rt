@@ -5,20 +5,25 @@ use std::alloc::Global;
 use std::mem;
 use zarrs::{Array, DataType};
 use zarrs_bench_rows::measure::{Sample, Work};
-use zarrs_builder::ArrayBuilder;
 use zarrs_storage::MemoryStore;
 
 /// A store that holds the metadata of an array.
 #[derive(Drop)]
 pub struct Written(Option<MemoryStore>);
 
+/// `Array::store_metadata`.
+fn store_metadata(alloc: Global, array: &mut Array<MemoryStore>) -> Result<()> {
+    array.store_metadata(alloc)?;
+    Ok(())
+}
+
 impl Sample for Written {
     type Form = ();
 
     fn make(alloc: Global, _form: (), _size: usize) -> Result<Written> {
-        let mut array = absent_array(alloc, "uint8", [8192, 4096], [256, 256])?;
-        array.store_metadata(alloc)?;
-        Ok(Written(Some(array.into_storage())))
+        let mut array = absent_array(alloc, DataType::UInt8, [8192, 4096], [256, 256])?;
+        let stored = store_metadata(alloc, &mut array);
+        stored.and(Ok(Written(Some(array.into_storage()))))
     }
 
     /// Nothing: an array is opened anew by each run.
@@ -48,9 +53,7 @@ impl Work for Build {
     type Sample = u64;
 
     fn run(alloc: Global, _number: &mut u64) -> Result<u8> {
-        let shapes = ([8192u64, 4096], [256u64, 256]);
-        let builder = ArrayBuilder::new(alloc, shapes.0, shapes.1, DataType::UInt8, 0u8);
-        let array = builder.build(alloc, MemoryStore::new(alloc), "/climate/rain")?;
+        let array = absent_array(alloc, DataType::UInt8, [8192, 4096], [256, 256])?;
         drop(array);
         Ok(0)
     }

@@ -54,21 +54,34 @@ fn run(rt: &HostRuntime) -> Result<()> {
     table.finish()
 }
 
+/// 32 MiB, or a chunk of 32 KiB.
+fn extent_of(is_chunk: bool) -> Extent {
+    let len = if is_chunk { 1 << 15 } else { 1 << 25 };
+    Extent { size: len, len }
+}
+
+/// Prints the row of a store.
+fn print_store<T: Number, const IS_LIST: bool>(
+    table: &mut Table<'_, HostRuntime>,
+    name: &str,
+    is_chunk: bool,
+) {
+    let extent = extent_of(is_chunk);
+    table.row::<Store<T, IS_LIST>, PlainStore<T, IS_LIST>>(name, is_chunk, extent);
+}
+
+/// Prints the row of a read.
+fn print_read<T: Number, const IS_LIST: bool>(table: &mut Table<'_, HostRuntime>, name: &str) {
+    table.row::<Read<T, IS_LIST>, PlainRead<T, IS_LIST>>(name, false, extent_of(false));
+}
+
 /// Prints the rows of numbers of one type: 32 MiB of them and a chunk, by a list of them and by array bytes.
 fn print_numbers<T: Number>(table: &mut Table<'_, HostRuntime>, name: &str, chunk_name: &str) {
-    let all = Extent {
-        size: 1 << 25,
-        len: 1 << 25,
-    };
-    table.row::<Store<T, true>, PlainStore<T, true>>(name, false, all);
-    let name = "the same, by array bytes";
-    table.row::<Store<T, false>, PlainStore<T, false>>(name, false, all);
-    table.row::<Read<T, true>, PlainRead<T, true>>("read it, by a list", false, all);
-    table.row::<Read<T, false>, PlainRead<T, false>>(name, false, all);
-    let chunk = Extent {
-        size: 1 << 15,
-        len: 1 << 15,
-    };
-    table.row::<Store<T, true>, PlainStore<T, true>>(chunk_name, true, chunk);
-    table.row::<Store<T, false>, PlainStore<T, false>>(name, true, chunk);
+    let by_bytes = "the same, by array bytes";
+    print_store::<T, true>(table, name, false);
+    print_store::<T, false>(table, by_bytes, false);
+    print_read::<T, true>(table, "read it, by a list");
+    print_read::<T, false>(table, by_bytes);
+    print_store::<T, true>(table, chunk_name, true);
+    print_store::<T, false>(table, by_bytes, true);
 }

@@ -2,16 +2,15 @@
 use anyhow::Result;
 use std::alloc::Global;
 use std::borrow::CowSlice;
-use zarrs::ElementOwned;
-use zarrs_bench_rows::plain::mapped;
+use zarrs::{DataType, ElementOwned};
 
 /// A number of one type.
 pub trait Number: ElementOwned + Copy {
-    /// The name of the data type.
-    const NAME: &'static str;
-
     /// How many bytes a number has.
     const WIDTH: usize;
+
+    /// The data type.
+    fn data_type() -> DataType;
 
     /// The number whose value is this byte.
     fn of_byte(byte: u8) -> Self;
@@ -33,9 +32,11 @@ pub trait Number: ElementOwned + Copy {
 }
 
 impl Number for u8 {
-    const NAME: &'static str = "uint8";
-
     const WIDTH: usize = 1;
+
+    fn data_type() -> DataType {
+        DataType::UInt8
+    }
 
     fn of_byte(byte: u8) -> u8 {
         byte
@@ -54,10 +55,26 @@ impl Number for u8 {
     }
 }
 
-impl Number for u32 {
-    const NAME: &'static str = "uint32";
+/// Puts the bytes of each number in their places.
+fn put_bytes(bytes: &mut [u8], numbers: &[u32]) {
+    for (place, number) in bytes.as_chunks_mut::<4>().0.iter_mut().zip(numbers) {
+        *place = number.to_le_bytes();
+    }
+}
 
+/// Puts the number of each four bytes in its place.
+fn put_numbers(numbers: &mut [u32], bytes: &[u8]) {
+    for (place, cell) in numbers.iter_mut().zip(bytes.as_chunks::<4>().0) {
+        *place = u32::from_le_bytes(*cell);
+    }
+}
+
+impl Number for u32 {
     const WIDTH: usize = 4;
+
+    fn data_type() -> DataType {
+        DataType::UInt32
+    }
 
     fn of_byte(byte: u8) -> u32 {
         u32::from(byte)
@@ -69,16 +86,14 @@ impl Number for u32 {
 
     fn to_bytes<'a>(alloc: Global, numbers: &'a [u32]) -> Result<CowSlice<'a, u8>> {
         let mut bytes = vec![in alloc; 0; numbers.len().saturating_mul(4)]?;
-        let (places, _) = bytes.as_mut_slice().as_chunks_mut::<4>();
-        for (place, number) in places.iter_mut().zip(numbers) {
-            *place = number.to_le_bytes();
-        }
+        put_bytes(&mut bytes, numbers);
         Ok(CowSlice::Owned(bytes))
     }
 
     fn of_bytes(alloc: Global, bytes: Vec<u8>) -> Result<Vec<u32>> {
-        let cells = bytes.as_chunks::<4>().0;
-        mapped(alloc, cells, 0, |cell| u32::from_le_bytes(*cell))
+        let mut numbers = vec![in alloc; 0; bytes.len() / 4]?;
+        put_numbers(&mut numbers, &bytes);
+        Ok(numbers)
     }
 }
 

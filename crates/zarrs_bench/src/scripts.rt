@@ -1,25 +1,38 @@
 //! Scripts of many lines.
 use anyhow::{Result, anyhow};
 use itoa::Buffer;
-use std::alloc::Global;
+use std::alloc::{AllocError, Global};
 use std::collections::BTreeMap;
 use zarrs_bench_rows::measure::{Sample, Work};
 use zarrs_script::run_script;
 
-/// An array of 100 chunks of four cells, and so many pairs of a `chunk` and a `read`.
-fn long_script(alloc: Global, pairs: usize) -> Result<Vec<u8>> {
-    let mut script = Vec::from_slice(alloc, b"array 400 4 uint8 0\n")?;
+/// Appends a number behind some bytes.
+fn put_number(script: &mut Vec<u8>, before: &[u8], number: usize) -> Result<(), AllocError> {
     let mut buffer = Buffer::new();
+    let front = script.extend_from_slice(before);
+    front.and(script.extend_from_slice(buffer.format(number).as_bytes()))
+}
+
+/// Appends a `chunk` and a `read`.
+fn put_pair(script: &mut Vec<u8>, pair: usize) -> Result<(), AllocError> {
+    let front = put_number(script, b"chunk ", pair % 100);
+    let front = front.and(put_number(script, b" 1,2,3,", pair % 256));
+    let front = front.and(put_number(script, b"\nread ", pair % 100));
+    front.and(script.extend_from_slice(b"\n"))
+}
+
+/// Appends so many pairs of a `chunk` and a `read`.
+fn put_pairs(script: &mut Vec<u8>, pairs: usize) -> Result<(), AllocError> {
     for pair in 0..pairs {
-        script.extend_from_slice(b"chunk ")?;
-        script.extend_from_slice(buffer.format(pair % 100).as_bytes())?;
-        script.extend_from_slice(b" 1,2,3,")?;
-        script.extend_from_slice(buffer.format(pair % 256).as_bytes())?;
-        script.extend_from_slice(b"\nread ")?;
-        script.extend_from_slice(buffer.format(pair % 100).as_bytes())?;
-        script.extend_from_slice(b"\n")?;
+        put_pair(script, pair)?;
     }
-    Ok(script)
+    Ok(())
+}
+
+/// An array of 100 chunks of four cells, and so many pairs of a `chunk` and a `read`.
+fn long_script(alloc: Global, pairs: usize) -> Result<Vec<u8>, AllocError> {
+    let mut script = Vec::from_slice(alloc, b"array 400 4 uint8 0\n")?;
+    put_pairs(&mut script, pairs).and(Ok(script))
 }
 
 /// The lowest byte of the length of what was written.
@@ -38,10 +51,9 @@ impl Sample for Script {
     type Form = ();
 
     fn make(alloc: Global, _form: (), lines: usize) -> Result<Script> {
-        Ok(Script {
-            text: long_script(alloc, lines / 2)?,
-            values: BTreeMap::new(alloc),
-        })
+        let text = long_script(alloc, lines / 2)?;
+        let values = BTreeMap::new(alloc);
+        Ok(Script { text, values })
     }
 
     /// Nothing: what a script prints is made anew by each run.
@@ -85,16 +97,24 @@ fn number_of(digits: &[u8]) -> Result<u64> {
     Ok(number)
 }
 
+/// The cell that these digits write.
+fn cell_of(digits: &[u8]) -> Result<u8> {
+    Ok(u8::try_from(number_of(digits)?)?)
+}
+
+/// Appends the cells of a list.
+fn put_list(cells: &mut Vec<u8>, list: &[u8]) -> Result<()> {
+    for item in list.split(|byte| *byte == b',') {
+        let cell = cell_of(item)?;
+        cells.push(cell)?;
+    }
+    Ok(())
+}
+
 /// The cells of a list.
 fn cells_of(alloc: Global, list: &[u8]) -> Result<Vec<u8>> {
     let mut cells = Vec::new(alloc);
-    for item in list.split(|byte| *byte == b',') {
-        let Ok(cell) = u8::try_from(number_of(item)?) else {
-            return Err(anyhow!("no byte"));
-        };
-        cells.push(cell)?;
-    }
-    Ok(cells)
+    put_list(&mut cells, list).and(Ok(cells))
 }
 
 /// Writes the cells of a list.
@@ -110,13 +130,17 @@ fn put_cells(text: &mut Vec<u8>, cells: &[u8]) -> Result<()> {
     Ok(())
 }
 
+/// The line that stores these cells.
+fn chunk_line(alloc: Global, index: &[u8], cells: &[u8]) -> Result<Line> {
+    let index = number_of(index)?;
+    Ok(Line::Chunk(index, cells_of(alloc, cells)?))
+}
+
 /// The line that these bytes write.
 fn line_of(alloc: Global, bytes: &[u8]) -> Result<Line> {
     let mut words = bytes.split(|byte| *byte == b' ');
     match (words.next(), words.next(), words.next()) {
-        (Some(b"chunk"), Some(index), Some(cells)) => {
-            Ok(Line::Chunk(number_of(index)?, cells_of(alloc, cells)?))
-        }
+        (Some(b"chunk"), Some(index), Some(cells)) => chunk_line(alloc, index, cells),
         (Some(b"read"), Some(index), None) => Ok(Line::Read(number_of(index)?)),
         _ => Ok(Line::Array),
     }
@@ -140,12 +164,12 @@ fn put_ok(text: &mut Vec<u8>) -> Result<()> {
 }
 
 /// The key of the chunk with this index.
-fn key_of(alloc: Global, index: u64) -> Result<String> {
+fn key_of(alloc: Global, index: u64) -> Result<String, AllocError> {
     let mut buffer = Buffer::new();
     let mut key = String::with_capacity(alloc, 32)?;
-    key.push_str("c/")?;
-    key.push_str(buffer.format(index))?;
-    Ok(key)
+    let front = key.push_str("c/");
+    let front = front.and(key.push_str(buffer.format(index)));
+    front.and(Ok(key))
 }
 
 /// Puts the cells of a chunk in the map, unless all are 0.
@@ -194,6 +218,19 @@ fn run_line(
     }
 }
 
+/// Does what each line asks.
+fn run_lines(
+    alloc: Global,
+    values: &mut BTreeMap<String, Vec<u8>>,
+    lines: &[Line],
+    text: &mut Vec<u8>,
+) -> Result<()> {
+    for line in lines {
+        run_line(alloc, values, line, text)?;
+    }
+    Ok(())
+}
+
 /// The same steps: all lines are read, then each is done.
 pub struct PlainScript;
 
@@ -201,10 +238,9 @@ impl Work for PlainScript {
     type Sample = Script;
 
     fn run(alloc: Global, script: &mut Script) -> Result<u8> {
+        let lines = lines_of(alloc, &script.text)?;
         let mut text = Vec::new(alloc);
-        for line in &lines_of(alloc, &script.text)? {
-            run_line(alloc, &mut script.values, line, &mut text)?;
-        }
-        Ok(low_len(&text))
+        let run = run_lines(alloc, &mut script.values, &lines, &mut text);
+        run.and(Ok(low_len(&text)))
     }
 }

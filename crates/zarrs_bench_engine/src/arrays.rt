@@ -3,7 +3,6 @@ use crate::kinds::Kind;
 use anyhow::{Result, anyhow};
 use std::alloc::Global;
 use std::num::NonZeroU64;
-use zarrs_bench_rows::plain::mapped;
 use zarrs_chunk_grid::RegularChunkGrid;
 use zarrs_codec::{
     ArrayToBytesCodec, BytesCodec, BytesToBytesCodecs, CodecChain, ShardingCodec,
@@ -17,15 +16,18 @@ use zarrs_storage::MemoryStore;
 /// An array over a store in memory, in chunks of one shape.
 pub type MemoryEngine = Engine<MemoryStore, RegularChunkGrid, ChunkKeyEncoding, CodecChain>;
 
+/// Puts each extent in its place, 1 in place of 0.
+fn put_extents(extents: &mut [NonZeroU64], shape: &[u64]) {
+    for (place, extent) in extents.iter_mut().zip(shape) {
+        *place = NonZeroU64::new(*extent).unwrap_or(NonZeroU64::MIN);
+    }
+}
+
 /// These extents, 1 in place of 0.
 fn extents(alloc: Global, shape: &[u64]) -> Result<Vec<NonZeroU64>> {
-    let first = NonZeroU64::MIN;
-    mapped(
-        alloc,
-        shape,
-        first,
-        |extent| NonZeroU64::new(*extent).unwrap_or(NonZeroU64::MIN),
-    )
+    let mut extents = vec![in alloc; NonZeroU64::MIN; shape.len()]?;
+    put_extents(&mut extents, shape);
+    Ok(extents)
 }
 
 /// The chain of this kind of cells, without subchunks.
@@ -51,14 +53,44 @@ fn chain_of(
     data_type: &DataType,
     subchunk_shape: Option<[u64; 2]>,
 ) -> Result<CodecChain> {
-    match subchunk_shape {
-        Some(shape) => sharded(
-            alloc,
-            extents(alloc, &shape)?,
-            inner_chain(alloc, kind, data_type)?,
-        ),
-        None => inner_chain(alloc, kind, data_type),
+    let Some(shape) = subchunk_shape else {
+        return inner_chain(alloc, kind, data_type);
+    };
+    let shape = extents(alloc, &shape)?;
+    sharded(alloc, shape, inner_chain(alloc, kind, data_type)?)
+}
+
+/// The data type of this kind of cells, its fill value, which is 0, an empty text or none, and its chain.
+fn typed(
+    alloc: Global,
+    kind: Kind,
+    subchunk_shape: Option<[u64; 2]>,
+) -> Result<(DataType, FillValue, CodecChain)> {
+    let data_type = kind.data_type(alloc)?;
+    let fill_value = FillValue::new(vec![in alloc; 0; kind.fill_len()]?);
+    let chain = chain_of(alloc, kind, &data_type, subchunk_shape)?;
+    Ok((data_type, fill_value, chain))
+}
+
+/// The chunks of that shape, of an array of this shape.
+fn grid_of(alloc: Global, shape: &[u64], chunk_shape: &[u64]) -> Result<RegularChunkGrid> {
+    let chunk_shape = extents(alloc, chunk_shape)?;
+    Ok(RegularChunkGrid::new(alloc, shape.to_vec(alloc)?, chunk_shape)?)
+}
+
+/// The array of these parts, all chunks of which are absent.
+fn engine_of(
+    alloc: Global,
+    path: NodePath,
+    grid: RegularChunkGrid,
+    (data_type, fill_value, chain): (DataType, FillValue, CodecChain),
+) -> Result<MemoryEngine> {
+    if !fill_value.is_value_of(&data_type) {
+        return Err(anyhow!("no fill value"));
     }
+    let keys = ChunkKeyEncoding::Default(ChunkKeySeparator::Slash);
+    let store = MemoryStore::new(alloc);
+    Ok(Engine::new(store, path, grid, keys, chain, data_type, fill_value))
 }
 
 /// An array of this kind of cells and this shape, in chunks of that shape, which are shards if there is a shape of
@@ -72,20 +104,8 @@ pub fn absent_array(
     [shape, chunk_shape]: [&[u64]; 2],
     subchunk_shape: Option<[u64; 2]>,
 ) -> Result<MemoryEngine> {
-    let data_type = kind.data_type(alloc)?;
-    let fill_len = match kind {
-        Kind::Numbers | Kind::BigNumbers => 4,
-        Kind::Texts => 0,
-        _ => 1,
-    };
-    let fill_value = FillValue::new(vec![in alloc; 0; fill_len]?);
-    if !fill_value.is_value_of(&data_type) {
-        return Err(anyhow!("no fill value"));
-    }
     let path = NodePath::new(alloc, "/climate/rain")?;
-    let grid = RegularChunkGrid::new(alloc, shape.to_vec(alloc)?, extents(alloc, chunk_shape)?)?;
-    let chain = chain_of(alloc, kind, &data_type, subchunk_shape)?;
-    let keys = ChunkKeyEncoding::Default(ChunkKeySeparator::Slash);
-    let store = MemoryStore::new(alloc);
-    Ok(Engine::new(store, path, grid, keys, chain, data_type, fill_value))
+    let grid = grid_of(alloc, shape, chunk_shape)?;
+    let typed = typed(alloc, kind, subchunk_shape)?;
+    engine_of(alloc, path, grid, typed)
 }

@@ -1,10 +1,10 @@
 //! What is stored and read: arrays, and parts of them.
-use crate::boxes::{Region, region_of};
 use crate::kinds::Kind;
-use crate::lists::Chunks;
-use crate::plain::Grid;
 use anyhow::Result;
 use std::alloc::Global;
+use zarrs_bench_plain::boxes::{Region, region_of};
+use zarrs_bench_plain::lists::Chunks;
+use zarrs_bench_plain::regions::Grid;
 use zarrs_subset::ArraySubset;
 
 /// An array: what its cells are, and how it is cut.
@@ -200,10 +200,13 @@ impl Case {
 
     /// The extents of the cube if it is one, or else these ones, in cells.
     pub fn extents(self, alloc: Global, extents: [u64; 2]) -> Result<Vec<u64>> {
-        if self.cube.is_empty() {
-            return Ok(self.in_cells(extents).to_vec(alloc)?);
-        }
-        Ok(self.cube.to_vec(alloc)?)
+        let extents = self.in_cells(extents);
+        let extents = if self.cube.is_empty() {
+            extents.as_slice()
+        } else {
+            self.cube
+        };
+        Ok(extents.to_vec(alloc)?)
     }
 
     /// The shape of its chunks.

@@ -2,13 +2,13 @@
 use crate::arrays::{MemoryEngine, absent_array};
 use crate::cases::{Case, Form, Part, case_of};
 use crate::kinds::Kind;
-use crate::plain::{hold_same, key_of, same_values};
 use anyhow::Result;
 use std::alloc::Global;
+use zarrs_bench_plain::regions::{hold_same, same_values};
 use zarrs_bench_rows::measure::Sample;
 use zarrs_codec::CodecOptions;
 use zarrs_data_type::ArrayBytes;
-use zarrs_storage::{MemoryStore, StoreKey};
+use zarrs_storage::MemoryStore;
 use zarrs_subset::ArraySubset;
 
 /// An array over a store, the same chunks in a store alone, a part of the array, and what is stored there.
@@ -18,8 +18,6 @@ pub struct Cells {
     pub engine: MemoryEngine,
     /// The store alone.
     pub store: MemoryStore,
-    /// The key of the first chunk.
-    pub key: StoreKey,
     /// What the array and the part are.
     pub case: Case,
     /// The part.
@@ -33,12 +31,24 @@ fn cells_in(alloc: Global, kind: Kind, subset: &ArraySubset) -> Result<ArrayByte
     kind.cells(alloc, subset.num_elements()? as usize)
 }
 
-/// Stores all of the array, and returns the same chunks in a store alone.
-fn store_all(alloc: Global, engine: &mut MemoryEngine, case: Case) -> Result<MemoryStore> {
+/// Stores these cells there.
+pub fn store_cells(
+    alloc: Global,
+    engine: &mut MemoryEngine,
+    subset: &ArraySubset,
+    cells: &ArrayBytes<'_>,
+) -> Result<()> {
+    engine.store_array_subset(alloc, subset, cells, &CodecOptions::default())?;
+    Ok(())
+}
+
+/// Stores all of the array.
+fn store_all(alloc: Global, engine: &mut MemoryEngine, case: Case) -> Result<()> {
     let all = ArraySubset::new_with_shape(alloc, case.extents(alloc, case.grid.shape)?)?;
     let cells = cells_in(alloc, case.kind, &all)?;
-    engine.store_array_subset(alloc, &all, &cells, &CodecOptions::default())?;
-    same_values(alloc, engine.storage())
+    let outcome = store_cells(alloc, engine, &all, &cells);
+    drop(cells);
+    outcome
 }
 
 /// The array, all chunks of which are absent.
@@ -53,10 +63,16 @@ fn array_of(alloc: Global, case: Case) -> Result<MemoryEngine> {
     )
 }
 
+/// The array, all chunks of which are stored.
+fn stored_array(alloc: Global, case: Case) -> Result<MemoryEngine> {
+    let mut engine = array_of(alloc, case)?;
+    store_all(alloc, &mut engine, case).and(Ok(engine))
+}
+
 /// The array, and the same chunks in a store alone.
 fn stored(alloc: Global, case: Case) -> Result<(MemoryEngine, MemoryStore)> {
-    let mut engine = array_of(alloc, case)?;
-    let store = store_all(alloc, &mut engine, case)?;
+    let engine = stored_array(alloc, case)?;
+    let store = same_values(alloc, engine.storage())?;
     Ok((engine, store))
 }
 
@@ -65,14 +81,12 @@ impl Sample for Cells {
 
     fn make(alloc: Global, form: (Form, Part), size: usize) -> Result<Cells> {
         let case = case_of(form, size as u64);
-        let key = key_of(alloc, [0, 0])?;
         let subset = case.subset(alloc)?;
         let cells = cells_in(alloc, case.kind, &subset)?;
         let (engine, store) = stored(alloc, case)?;
         Ok(Cells {
             engine,
             store,
-            key,
             case,
             subset,
             cells,

@@ -3,8 +3,9 @@ use crate::arrays::{MemoryEngine, absent_array};
 use crate::kinds::Kind;
 use anyhow::Result;
 use itoa::Buffer;
-use std::alloc::Global;
+use std::alloc::{AllocError, Global};
 use std::collections::BTreeMap;
+use zarrs_bench_plain::regions::has_cells;
 use zarrs_bench_rows::measure::{Sample, Work};
 use zarrs_bench_rows::samples::{bytes_in, tested};
 use zarrs_codec::CodecOptions;
@@ -30,16 +31,14 @@ pub struct Chunks {
 /// A map with so many chunks of these cells.
 fn values_of(alloc: Global, cells: &[u8], stored: u64) -> Result<BTreeMap<String, Vec<u8>>> {
     let mut values = BTreeMap::new(alloc);
-    put_chunks(alloc, &mut values, cells, stored)?;
-    Ok(values)
+    put_chunks(alloc, &mut values, cells, stored).and(Ok(values))
 }
 
 /// An array with so many chunks of these cells.
 fn array_of(alloc: Global, cells: &ArrayBytes<'_>, stored: u64) -> Result<MemoryEngine> {
     let shapes: [&[u64]; 2] = [&[LEN * CHUNKS], &[LEN]];
     let mut engine = absent_array(alloc, Kind::Bytes, shapes, None)?;
-    store_chunks(alloc, &mut engine, cells, stored)?;
-    Ok(engine)
+    store_chunks(alloc, &mut engine, cells, stored).and(Ok(engine))
 }
 
 impl Sample for Chunks {
@@ -63,8 +62,11 @@ impl Sample for Chunks {
     }
 
     fn is_left_same(&self, alloc: Global) -> Result<bool> {
+        let taken = take_chunk(alloc, &self.values, 7)?;
         let held = self.engine.retrieve_chunk(alloc, &[7])?;
-        Ok(bytes_in(&held) == take_chunk(alloc, &self.values, 7)?.as_slice())
+        let is_same = bytes_in(&held) == taken.as_slice();
+        drop(held);
+        Ok(is_same)
     }
 }
 
@@ -95,15 +97,29 @@ impl Work for StoreChunks {
 }
 
 /// The key of a chunk.
-fn key_of(alloc: Global, number: u64) -> Result<String> {
+fn key_of(alloc: Global, number: u64) -> Result<String, AllocError> {
     let mut buffer = Buffer::new();
     let mut key = String::with_capacity(alloc, 32)?;
-    key.push_str("climate/rain/c/")?;
-    key.push_str(buffer.format(number % CHUNKS))?;
-    Ok(key)
+    let front = key.push_str("climate/rain/c/");
+    let front = front.and(key.push_str(buffer.format(number % CHUNKS)));
+    front.and(Ok(key))
 }
 
-/// A copy in a map from keys to bytes, if some byte is not 0, so many times.
+/// A copy in a map from keys to bytes, if some byte is not 0.
+fn put_chunk(
+    alloc: Global,
+    values: &mut BTreeMap<String, Vec<u8>>,
+    cells: &[u8],
+    number: u64,
+) -> Result<()> {
+    if has_cells(cells) {
+        let key = key_of(alloc, number)?;
+        values.insert(key, cells.to_vec(alloc)?)?;
+    }
+    Ok(())
+}
+
+/// The same, so many times.
 fn put_chunks(
     alloc: Global,
     values: &mut BTreeMap<String, Vec<u8>>,
@@ -111,10 +127,7 @@ fn put_chunks(
     calls: u64,
 ) -> Result<()> {
     for number in 0..calls {
-        if cells.iter().any(|cell| *cell != 0) {
-            let key = key_of(alloc, number)?;
-            values.insert(key, cells.to_vec(alloc)?)?;
-        }
+        put_chunk(alloc, values, cells, number)?;
     }
     Ok(())
 }
@@ -131,6 +144,14 @@ impl Work for PlainStoreChunks {
     }
 }
 
+/// What some bytes of a chunk say.
+fn read_chunk(alloc: Global, engine: &MemoryEngine, number: u64) -> Result<u8> {
+    let found = engine.retrieve_chunk(alloc, &[number % CHUNKS])?;
+    let byte = tested(bytes_in(&found));
+    drop(found);
+    Ok(byte)
+}
+
 /// `Engine::retrieve_chunk`.
 pub struct ReadChunks;
 
@@ -140,8 +161,7 @@ impl Work for ReadChunks {
     fn run(alloc: Global, chunks: &mut Chunks) -> Result<u8> {
         let mut seen = 0;
         for number in 0..CALLS {
-            let found = chunks.engine.retrieve_chunk(alloc, &[number % CHUNKS])?;
-            seen ^= tested(bytes_in(&found));
+            seen ^= read_chunk(alloc, &chunks.engine, number)?;
         }
         Ok(seen)
     }
@@ -164,7 +184,8 @@ impl Work for PlainReadChunks {
     fn run(alloc: Global, chunks: &mut Chunks) -> Result<u8> {
         let mut seen = 0;
         for number in 0..CALLS {
-            seen ^= tested(&take_chunk(alloc, &chunks.values, number)?);
+            let taken = take_chunk(alloc, &chunks.values, number)?;
+            seen ^= tested(&taken);
         }
         Ok(seen)
     }

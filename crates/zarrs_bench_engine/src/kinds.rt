@@ -28,6 +28,28 @@ fn owned_cells<T: Element>(alloc: Global, kind: Kind, values: &[T]) -> Result<Ar
     Ok(cells.into_owned(alloc)?)
 }
 
+/// So many texts.
+fn text_cells(alloc: Global, count: usize) -> Result<ArrayBytes<'static>> {
+    let texts = texts_of(alloc, count)?;
+    owned_cells(alloc, Kind::Texts, &texts)
+}
+
+/// So many optional numbers.
+fn option_cells(alloc: Global, count: usize) -> Result<ArrayBytes<'static>> {
+    let options = options_of(alloc, count)?;
+    owned_cells(alloc, Kind::Options, &options)
+}
+
+/// So many bytes.
+fn byte_cells(alloc: Global, len: usize) -> Result<ArrayBytes<'static>> {
+    Ok(ArrayBytes::new_flen(bytes_of(alloc, len)?))
+}
+
+/// So many bytes that are 0.
+fn zero_cells(alloc: Global, len: usize) -> Result<ArrayBytes<'static>> {
+    Ok(ArrayBytes::new_flen(vec![in alloc; 0; len]?))
+}
+
 impl Kind {
     /// How many bytes a cell has in the eyes of a plain loop, which counts texts and optional numbers one by one.
     pub fn width(self) -> u64 {
@@ -47,16 +69,22 @@ impl Kind {
         })
     }
 
+    /// How many bytes a fill value has that is 0, an empty text or none.
+    pub fn fill_len(self) -> usize {
+        match self {
+            Kind::Numbers | Kind::BigNumbers => 4,
+            Kind::Texts => 0,
+            _ => 1,
+        }
+    }
+
     /// So many cells.
     pub fn cells(self, alloc: Global, count: usize) -> Result<ArrayBytes<'static>> {
         match self {
-            Kind::Texts => owned_cells(alloc, self, &texts_of(alloc, count)?),
-            Kind::Options => owned_cells(alloc, self, &options_of(alloc, count)?),
-            Kind::Zeros => Ok(ArrayBytes::new_flen(vec![in alloc; 0; count]?)),
-            _ => {
-                let len = count.saturating_mul(self.width() as usize);
-                Ok(ArrayBytes::new_flen(bytes_of(alloc, len)?))
-            }
+            Kind::Texts => text_cells(alloc, count),
+            Kind::Options => option_cells(alloc, count),
+            Kind::Zeros => zero_cells(alloc, count),
+            _ => byte_cells(alloc, count.saturating_mul(self.width() as usize)),
         }
     }
 }

@@ -3,12 +3,9 @@
 #![tactic(auto)]
 
 mod arrays;
-pub mod boxes;
 mod cases;
 mod cells;
 mod chunks;
 mod kinds;
-mod lists;
-pub mod plain;
 pub mod rows;
 mod works;

@@ -25,7 +25,8 @@ enum Works {
     ReadByLines,
     /// The same, against the read of the chunk that the region meets.
     ReadOfChunk,
-    /// The read of a part of a chunk, against copies of rows over zeros.
+    /// The read of a part of a chunk, against copies of rows over zeros. The loop makes the chunk's key for each turn, as
+    /// the loops of regions do, since the call makes it from the chunk's indices too.
     Part,
     /// The same, against the read of the chunk.
     PartOfChunk,

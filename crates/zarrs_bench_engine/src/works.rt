@@ -1,14 +1,15 @@
 //! Parts of arrays stored and read, by an engine and by plain loops.
-use crate::boxes::copy_part;
-use crate::cells::Cells;
+use crate::cases::Case;
+use crate::cells::{Cells, store_cells};
 use crate::kinds::Kind;
-use crate::lists::{read_options, read_texts, store_chunks, tested_cells};
-use crate::plain::{copy_chunk, read_lines, read_region, store_region, value_at};
 use anyhow::Result;
 use std::alloc::Global;
+use zarrs_bench_plain::boxes::{Region, copy_part};
+use zarrs_bench_plain::lists::{read_options, read_texts, store_chunks, tested_cells};
+use zarrs_bench_plain::regions::{read_lines, read_part, read_region, store_region};
 use zarrs_bench_rows::measure::Work;
 use zarrs_bench_rows::samples::{bytes_in, tested};
-use zarrs_codec::CodecOptions;
+use zarrs_storage::MemoryStore;
 
 /// `Engine::store_array_subset`.
 pub struct Store;
@@ -17,14 +18,8 @@ impl Work for Store {
     type Sample = Cells;
 
     fn run(alloc: Global, sample: &mut Cells) -> Result<u8> {
-        let Cells {
-            engine,
-            subset,
-            cells,
-            ..
-        } = sample;
-        engine.store_array_subset(alloc, subset, cells, &CodecOptions::default())?;
-        Ok(0)
+        let stored = store_cells(alloc, &mut sample.engine, &sample.subset, &sample.cells);
+        stored.and(Ok(0))
     }
 }
 
@@ -35,17 +30,13 @@ impl Work for PlainStore {
     type Sample = Cells;
 
     fn run(alloc: Global, sample: &mut Cells) -> Result<u8> {
-        let Cells {
-            store,
-            case,
-            cells,
-            ..
-        } = sample;
-        match case.kind {
-            Kind::Texts | Kind::Options => store_chunks(alloc, store, case.chunks(), cells)?,
-            _ => store_region(alloc, store, case.grid, case.region, bytes_in(cells))?,
-        }
-        Ok(0)
+        let case = sample.case;
+        let (store, cells) = (&mut sample.store, &sample.cells);
+        let stored = match case.kind {
+            Kind::Texts | Kind::Options => store_chunks(alloc, store, case.chunks(), cells),
+            _ => store_region(alloc, store, case.grid, case.region, bytes_in(cells)),
+        };
+        stored.and(Ok(0))
     }
 }
 
@@ -57,8 +48,16 @@ impl Work for Read {
 
     fn run(alloc: Global, sample: &mut Cells) -> Result<u8> {
         let found = sample.engine.retrieve_array_subset(alloc, &sample.subset)?;
-        Ok(tested_cells(&found))
+        let byte = tested_cells(&found);
+        drop(found);
+        Ok(byte)
     }
+}
+
+/// What some bytes of the region say.
+fn tested_region(alloc: Global, store: &MemoryStore, case: Case) -> Result<u8> {
+    let made = read_region(alloc, store, case.grid, case.region)?;
+    Ok(tested(&made))
 }
 
 /// The same calls of a store, the same decodings, and copies of rows over zeros.
@@ -72,7 +71,7 @@ impl Work for PlainRead {
         match case.kind {
             Kind::Texts => read_texts(alloc, store, case.chunks()),
             Kind::Options => read_options(alloc, store, case.chunks()),
-            _ => Ok(tested(&read_region(alloc, store, case.grid, case.region)?)),
+            _ => tested_region(alloc, store, case),
         }
     }
 }
@@ -97,25 +96,45 @@ impl Work for ReadPart {
     type Sample = Cells;
 
     fn run(alloc: Global, sample: &mut Cells) -> Result<u8> {
-        let Cells { engine, subset, .. } = sample;
-        let found = engine.retrieve_chunk_subset(alloc, &[0, 0], subset)?;
-        Ok(tested(bytes_in(&found)))
+        let engine = &sample.engine;
+        let found = engine.retrieve_chunk_subset(alloc, &[0, 0], &sample.subset)?;
+        let byte = tested(bytes_in(&found));
+        drop(found);
+        Ok(byte)
     }
 }
 
-/// A call of the store whose key is at hand, and copies of rows over zeros.
+/// A call of the store, whose key is made from the chunk's indices as for a region, and copies of rows over zeros.
 pub struct PlainPart;
 
 impl Work for PlainPart {
     type Sample = Cells;
 
     fn run(alloc: Global, sample: &mut Cells) -> Result<u8> {
-        let case = sample.case;
-        let held = value_at(alloc, &sample.store, &sample.key)?;
-        let mut made = vec![in alloc; 0; case.region.len()]?;
-        copy_chunk(case.grid, held.as_slice(), case.region, [0, 0], &mut made);
-        Ok(tested(&made))
+        let Case { grid, region, .. } = sample.case;
+        let mut made = vec![in alloc; 0; region.len()]?;
+        let read = read_part(alloc, &sample.store, grid, region, [0, 0], &mut made);
+        read.and(Ok(tested(&made)))
     }
+}
+
+/// The indices of the chunk that the part meets, and its rows and columns.
+fn chunk_of(case: Case) -> ([u64; 2], Region) {
+    let [height, width] = case.grid.chunk;
+    let row = case.region.rows.start / height.max(1);
+    let column = case.region.columns.start / width.max(1);
+    let indices = [row, column];
+    (indices, case.grid.all().within(indices, case.grid.chunk))
+}
+
+/// What some bytes say of the part of this chunk, which is copied unless it is all of it.
+fn tested_copy(alloc: Global, chunk: Region, held: &[u8], region: Region) -> Result<u8> {
+    if region == chunk {
+        return Ok(tested(held));
+    }
+    let mut made = vec![in alloc; 0; region.len()]?;
+    copy_part(chunk, held, region, &mut made, region, false);
+    Ok(tested(&made))
 }
 
 /// `Engine::retrieve_chunk` of the chunk that the part meets, and a copy of the part unless that is all of it.
@@ -125,19 +144,10 @@ impl Work for ReadChunk {
     type Sample = Cells;
 
     fn run(alloc: Global, sample: &mut Cells) -> Result<u8> {
-        let (grid, region) = (sample.case.grid, sample.case.region);
-        let [height, width] = grid.chunk;
-        let indices = [
-            region.rows.start / height.max(1),
-            region.columns.start / width.max(1),
-        ];
+        let (indices, chunk) = chunk_of(sample.case);
         let found = sample.engine.retrieve_chunk(alloc, &indices)?;
-        let chunk = grid.all().within(indices, grid.chunk);
-        if region == chunk {
-            return Ok(tested(bytes_in(&found)));
-        }
-        let mut made = vec![in alloc; 0; region.len()]?;
-        copy_part(chunk, bytes_in(&found), region, &mut made, region, false);
-        Ok(tested(&made))
+        let byte = tested_copy(alloc, chunk, bytes_in(&found), sample.case.region);
+        drop(found);
+        byte
     }
 }

@@ -1,5 +1,6 @@
 //! How the time of a piece of work grows with the size of what it is done on.
 use crate::measure::{Sample, Work, best_time};
+use crate::table::Column;
 use anyhow::Result;
 use std::alloc::Global;
 use std::fmt;
@@ -96,24 +97,11 @@ fn log2_of(number: u64) -> u64 {
     log
 }
 
-/// Hundredths, as a number with two digits behind the point; `-` if there are none.
-#[derive(Clone, Copy)]
-pub struct Hundredths(pub Option<u64>);
-
-impl fmt::Display for Hundredths {
-    fn fmt<W: fmt::Write>(&self, f: &mut fmt::Formatter<W>) -> fmt::Result {
-        match self.0 {
-            Some(count) => write!(f, "{}.{:02}", count / 100, count % 100),
-            None => write!(f, "-"),
-        }
-    }
-}
-
 impl fmt::Display for Growth {
     fn fmt<W: fmt::Write>(&self, f: &mut fmt::Formatter<W>) -> fmt::Result {
         for point in &self.0 {
-            write!(f, " | {}", point.time / 1000)?;
+            write!(f, "{}", Column::Time(point.time))?;
         }
-        write!(f, " | {}", Hundredths(Some(self.hundredths())))
+        write!(f, "{}", Column::Hundredths(self.hundredths()))
     }
 }

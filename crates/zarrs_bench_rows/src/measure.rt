@@ -1,4 +1,5 @@
 //! Times of pieces of work.
+use crate::samples::copy_all;
 use anyhow::Result;
 use std::alloc::Global;
 use std::time::{Clock, Instant};
@@ -59,7 +60,7 @@ impl Extent {
 pub struct Times {
     /// That of the product.
     pub product: u64,
-    /// That of plain Rust.
+    /// That of plain Rust; 0 if there is none.
     pub plain: u64,
     /// That of a copy of the bytes; 0 if the work is none over bytes.
     pub copy: u64,
@@ -173,6 +174,24 @@ pub fn best_time<W: Work>(
     best_of_turns::<W>(rt, alloc, &mut sample)
 }
 
+/// The best time of the work alone over a sample of this form, whose size is 0.
+///
+/// # Errors
+/// The work or the clock fails, or out of memory.
+pub fn alone<W: Work>(
+    rt: &impl Clock,
+    alloc: Global,
+    form: <W::Sample as Sample>::Form,
+) -> Result<Times> {
+    let product = best_time::<W>(rt, alloc, form, 0)?;
+    Ok(Times {
+        product,
+        plain: 0,
+        copy: 0,
+        are_same: true,
+    })
+}
+
 /// The best time of the turns of the work.
 fn best_of_turns<W: Work>(rt: &impl Clock, alloc: Global, sample: &mut W::Sample) -> Result<u64> {
     let mut best = u64::MAX;
@@ -188,7 +207,9 @@ fn best_of_turns<W: Work>(rt: &impl Clock, alloc: Global, sample: &mut W::Sample
     Ok(best)
 }
 
-/// A turn of the work.
+/// A turn of the work. In the program it is a function of its own, so that what the compiler makes of the work does not
+/// depend on the rows around it.
+#[inline(never)]
 fn timed<W: Work>(rt: &impl Clock, alloc: Global, sample: &mut W::Sample) -> Result<Turn> {
     let start = Instant::now(rt)?;
     let byte = W::run(alloc, sample)?;
@@ -241,15 +262,8 @@ impl Work for Copies {
     fn run(_alloc: Global, blocks: &mut Blocks) -> Result<u8> {
         for time in 0..blocks.times {
             blocks.touch((time % 256) as u8);
-            copy_all(&blocks.source, &mut blocks.target);
+            copy_all(&mut blocks.target, &blocks.source);
         }
         Ok(blocks.target.first().copied().unwrap_or(0))
-    }
-}
-
-/// Copies as many bytes.
-fn copy_all(source: &[u8], target: &mut [u8]) {
-    if source.len() == target.len() {
-        target.copy_from_slice(source);
     }
 }

@@ -1,6 +1,5 @@
 //! Lists of options of numbers turned into cells, and read from them.
 use crate::measure::{Sample, Work};
-use crate::plain::mapped;
 use crate::samples::{bytes_in, options_of, tested};
 use anyhow::{Result, anyhow};
 use std::alloc::Global;
@@ -20,27 +19,14 @@ fn data_type_of(alloc: Global) -> Result<DataType> {
     Ok(DataType::Optional(Box::new(alloc, DataType::UInt32)?))
 }
 
-/// The cells of a list.
-fn cells_of<'a>(
-    alloc: Global,
-    data_type: &DataType,
-    list: &'a [Option<u32>],
-) -> Result<ArrayBytes<'a>> {
-    Ok(<Option<u32> as Element>::to_array_bytes(alloc, data_type, list)?)
-}
-
-/// The list of cells.
-fn list_of(alloc: Global, data_type: &DataType, cells: ArrayBytes<'_>) -> Result<Vec<Option<u32>>> {
-    Ok(<Option<u32> as ElementOwned>::from_array_bytes(alloc, data_type, cells)?)
-}
-
 /// The cells of a list, which no longer borrow from it.
 fn owned_cells_of(
     alloc: Global,
     data_type: &DataType,
     list: &[Option<u32>],
 ) -> Result<ArrayBytes<'static>> {
-    Ok(cells_of(alloc, data_type, list)?.into_owned(alloc)?)
+    let cells = <Option<u32> as Element>::to_array_bytes(alloc, data_type, list)?;
+    Ok(cells.into_owned(alloc)?)
 }
 
 impl Sample for Options {
@@ -64,12 +50,18 @@ impl Sample for Options {
     }
 }
 
+/// The mask and the numbers of optional cells.
+fn parts_of<'a>(cells: &'a ArrayBytes<'_>) -> (&'a [u8], &'a [u8]) {
+    match cells {
+        ArrayBytes::Optional(cells) => (cells.mask(), bytes_in(cells.data())),
+        _ => (&[], &[]),
+    }
+}
+
 /// What the flags of optional cells say, and the numbers.
 fn tested_cells(cells: &ArrayBytes<'_>) -> u8 {
-    match cells {
-        ArrayBytes::Optional(cells) => tested(cells.mask()) ^ tested(bytes_in(cells.data())),
-        _ => 0,
-    }
+    let (mask, numbers) = parts_of(cells);
+    tested(mask) ^ tested(numbers)
 }
 
 /// `Element::to_array_bytes`.
@@ -79,10 +71,29 @@ impl Work for ToCells {
     type Sample = Options;
 
     fn run(alloc: Global, options: &mut Options) -> Result<u8> {
-        let made = cells_of(alloc, &options.data_type, &options.list)?;
+        let Options {
+            data_type,
+            list,
+            ..
+        } = options;
+        let made = <Option<u32> as Element>::to_array_bytes(alloc, data_type, list)?;
         let byte = tested_cells(&made);
         drop(made);
         Ok(byte)
+    }
+}
+
+/// Puts the flag of each option in its place.
+fn put_flags(mask: &mut [u8], options: &[Option<u32>]) {
+    for (flag, option) in mask.iter_mut().zip(options) {
+        *flag = u8::from(option.is_some());
+    }
+}
+
+/// Puts the bytes of each option in their place, 0 where there is none.
+fn put_bytes(numbers: &mut [[u8; 4]], options: &[Option<u32>]) {
+    for (number, option) in numbers.iter_mut().zip(options) {
+        *number = option.unwrap_or(0).to_le_bytes();
     }
 }
 
@@ -93,13 +104,10 @@ impl Work for PlainToCells {
     type Sample = Options;
 
     fn run(alloc: Global, options: &mut Options) -> Result<u8> {
-        let mask = mapped(alloc, &options.list, 0, |option| u8::from(option.is_some()))?;
-        let made = mapped(
-            alloc,
-            &options.list,
-            [0; 4],
-            |option| option.unwrap_or(0).to_le_bytes(),
-        )?;
+        let mut mask = vec![in alloc; 0; options.list.len()]?;
+        let mut made = vec![in alloc; [0; 4]; options.list.len()]?;
+        put_flags(&mut mask, &options.list);
+        put_bytes(&mut made, &options.list);
         Ok(tested(&mask) ^ tested(made.as_slice().as_flattened()))
     }
 }
@@ -113,14 +121,6 @@ fn tested_list(options: &[Option<u32>]) -> u8 {
     let middle = options.get(options.len() / 2 | 1).unwrap_or(last);
     let sum = second.unwrap_or(7) ^ middle.unwrap_or(11) ^ last.unwrap_or(13);
     (sum & 0xff) as u8
-}
-
-/// The mask and the numbers of optional cells.
-fn parts_of<'a>(cells: &'a ArrayBytes<'_>) -> Result<(&'a [u8], &'a [u8])> {
-    match cells {
-        ArrayBytes::Optional(cells) => Ok((cells.mask(), bytes_in(cells.data()))),
-        _ => Err(anyhow!("no options")),
-    }
 }
 
 /// The same cells, lent.
@@ -140,7 +140,8 @@ impl Work for FromCells {
 
     fn run(alloc: Global, options: &mut Options) -> Result<u8> {
         let lent = lent(alloc, &options.cells)?;
-        let made = list_of(alloc, &options.data_type, lent)?;
+        let data_type = &options.data_type;
+        let made = <Option<u32> as ElementOwned>::from_array_bytes(alloc, data_type, lent)?;
         Ok(tested_list(&made))
     }
 }
@@ -159,7 +160,7 @@ impl Work for PlainFromCells {
     type Sample = Options;
 
     fn run(alloc: Global, options: &mut Options) -> Result<u8> {
-        let (mask, numbers) = parts_of(&options.cells)?;
+        let (mask, numbers) = parts_of(&options.cells);
         let mut made = vec![in alloc; None; mask.len()]?;
         put_options(&mut made, mask, numbers.as_chunks::<4>().0);
         Ok(tested_list(&made))

@@ -1,10 +1,9 @@
 //! Flags to bytes and back.
 use crate::measure::Work;
-use crate::plain::{mapped, packed, put_mapped, unpacked};
 use crate::samples::{BYTES, bytes_in, tested};
 use anyhow::{Result, anyhow};
 use std::alloc::Global;
-use zarrs_codec_leaf::PackBitsCodec;
+use zarrs_codec_leaf::{LeafCodec, PackBitsCodec};
 use zarrs_data_type::{ArrayBytes, DataType};
 
 /// `PackBitsCodec::encode`, behind the test that each flag is 0 or 1.
@@ -21,6 +20,28 @@ impl Work for Pack {
     }
 }
 
+/// Whether each is 0 or 1.
+fn are_flags(bytes: &[u8]) -> bool {
+    let mut are_flags = true;
+    for flag in bytes {
+        are_flags &= *flag < 2;
+    }
+    are_flags
+}
+
+/// The byte of eight flags.
+fn packed(flags: &[u8; 8]) -> u8 {
+    let [a, b, c, d, e, f, g, h] = *flags;
+    a | b << 1 | c << 2 | d << 3 | e << 4 | f << 5 | g << 6 | h << 7
+}
+
+/// Puts each eight flags in a byte.
+pub fn put_packed(bytes: &mut [u8], flags: &[u8]) {
+    for (byte, eight) in bytes.iter_mut().zip(flags.as_chunks::<8>().0) {
+        *byte = packed(eight);
+    }
+}
+
 /// The same test, and eight flags at a time.
 pub struct PlainPack;
 
@@ -28,14 +49,12 @@ impl Work for PlainPack {
     type Sample = ArrayBytes<'static>;
 
     fn run(alloc: Global, flags: &mut ArrayBytes<'static>) -> Result<u8> {
-        let mut fine = true;
-        for flag in bytes_in(flags) {
-            fine &= *flag < 2;
-        }
-        if !fine {
+        let flags = bytes_in(flags);
+        if !are_flags(flags) {
             return Err(anyhow!("no flags"));
         }
-        let made = mapped(alloc, bytes_in(flags).as_chunks::<8>().0, 0, packed)?;
+        let mut made = vec![in alloc; 0; flags.len() / 8]?;
+        put_packed(&mut made, flags);
         Ok(tested(&made))
     }
 }
@@ -65,6 +84,27 @@ impl Work for Unpack {
     }
 }
 
+/// The eight flags of a byte.
+fn unpacked(byte: u8) -> [u8; 8] {
+    [
+        byte & 1,
+        byte >> 1 & 1,
+        byte >> 2 & 1,
+        byte >> 3 & 1,
+        byte >> 4 & 1,
+        byte >> 5 & 1,
+        byte >> 6 & 1,
+        byte >> 7,
+    ]
+}
+
+/// Puts the eight flags of each byte in their places.
+pub fn put_unpacked(flags: &mut [u8], bytes: &[u8]) {
+    for (eight, byte) in flags.as_chunks_mut::<8>().0.iter_mut().zip(bytes) {
+        *eight = unpacked(*byte);
+    }
+}
+
 /// The flags of one byte after another.
 pub struct PlainUnpack;
 
@@ -73,8 +113,7 @@ impl Work for PlainUnpack {
 
     fn run(alloc: Global, cells: &mut ArrayBytes<'static>) -> Result<u8> {
         let mut made = vec![in alloc; 0; BYTES]?;
-        let eights = made.as_mut_slice().as_chunks_mut::<8>().0;
-        put_mapped(eights, eighth(cells), |byte| unpacked(*byte));
+        put_unpacked(&mut made, eighth(cells));
         Ok(tested(&made))
     }
 }

@@ -53,6 +53,13 @@ pub fn tested(bytes: &[u8]) -> u8 {
     first ^ middle ^ bytes.last().copied().unwrap_or(0)
 }
 
+/// Copies as many bytes.
+pub fn copy_all(to: &mut [u8], from: &[u8]) {
+    if to.len() == from.len() {
+        to.copy_from_slice(from);
+    }
+}
+
 /// So many numbers of four bytes, of which every other one is none.
 ///
 /// # Errors

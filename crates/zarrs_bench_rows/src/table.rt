@@ -1,6 +1,6 @@
 //! The tables that are printed.
-use crate::growth::{Growth, Hundredths, Scale};
-use crate::measure::{Extent, Sample, Times, Work, best_time, measured};
+use crate::growth::{Growth, Scale};
+use crate::measure::{Extent, Sample, Times, Work, alone, measured};
 use anyhow::Result;
 use std::alloc::Global;
 use std::fmt;
@@ -36,8 +36,8 @@ impl<'a, R: Clock + Print + Alloc<A = Global>> Table<'a, R> {
     /// Measures the work alone, and prints the row of its best time.
     pub fn time<W: Work>(&mut self, name: &str, form: <W::Sample as Sample>::Form) {
         if self.outcome.is_ok() {
-            let time = best_time::<W>(self.rt, self.rt.alloc(), form, 0);
-            self.outcome = print_columns(self.rt, name, time.map(Alone));
+            let times = alone::<W>(self.rt, self.rt.alloc(), form);
+            self.outcome = print_columns(self.rt, name, times);
         }
     }
 
@@ -66,35 +66,64 @@ impl<'a, R: Clock + Print + Alloc<A = Global>> Table<'a, R> {
     }
 }
 
-/// How many hundredths one time is of another; `-` if the other is 0.
-fn ratio(time: u64, other: u64) -> Hundredths {
-    Hundredths(time.saturating_mul(100).checked_div(other))
+/// What stands in a column.
+#[derive(Clone, Copy)]
+pub enum Column {
+    /// So many nanoseconds, in whole microseconds.
+    Time(u64),
+    /// So many hundredths, as a number with two digits behind the point.
+    Hundredths(u64),
+    /// Nothing.
+    Empty,
+}
+
+impl fmt::Display for Column {
+    fn fmt<W: fmt::Write>(&self, f: &mut fmt::Formatter<W>) -> fmt::Result {
+        match *self {
+            Column::Time(nanoseconds) => write!(f, " | {}", nanoseconds / 1000),
+            Column::Hundredths(count) => write!(f, " | {}.{:02}", count / 100, count % 100),
+            Column::Empty => f.write_str(" | -"),
+        }
+    }
+}
+
+/// A time; empty if it was not measured, which is 0.
+fn time_column(time: u64) -> Column {
+    if time == 0 {
+        return Column::Empty;
+    }
+    Column::Time(time)
+}
+
+/// How many times the other time one time is; empty if the other is 0.
+fn ratio_column(time: u64, other: u64) -> Column {
+    match time.saturating_mul(100).checked_div(other) {
+        Some(hundredths) => Column::Hundredths(hundredths),
+        None => Column::Empty,
+    }
+}
+
+impl Times {
+    /// The columns of a row.
+    fn columns(self) -> [Column; 4] {
+        [
+            Column::Time(self.product),
+            time_column(self.plain),
+            ratio_column(self.product, self.plain),
+            ratio_column(self.product, self.copy),
+        ]
+    }
 }
 
 impl fmt::Display for Times {
     fn fmt<W: fmt::Write>(&self, f: &mut fmt::Formatter<W>) -> fmt::Result {
-        let note = if self.are_same {
-            ""
-        } else {
-            " (results differ)"
-        };
-        let (product_us, plain_us) = (self.product / 1000, self.plain / 1000);
-        let to_plain = ratio(self.product, self.plain.max(1));
-        let to_copy = ratio(self.product, self.copy);
-        write!(
-            f,
-            "{note} | {product_us} | {plain_us} | {to_plain} | {to_copy}"
-        )
-    }
-}
-
-/// The time of a work alone, in nanoseconds.
-#[derive(Clone, Copy)]
-struct Alone(u64);
-
-impl fmt::Display for Alone {
-    fn fmt<W: fmt::Write>(&self, f: &mut fmt::Formatter<W>) -> fmt::Result {
-        write!(f, " | {} | - | - | -", self.0 / 1000)
+        if !self.are_same {
+            f.write_str(" (results differ)")?;
+        }
+        for column in &self.columns() {
+            write!(f, "{column}")?;
+        }
+        Ok(())
     }
 }
 

@@ -1,7 +1,7 @@
 //! Boxes of two dimensions, and plain copies of their rows.
-use anyhow::{Result, anyhow};
+use std::alloc::AllocError;
 use std::ops::Range;
-use zarrs_bench_rows::plain::put_mapped;
+use zarrs_bench_rows::samples::copy_all;
 
 /// The indices of one dimension from `start` on, and before `end`.
 #[derive(Clone, Copy, PartialEq, Eq)]
@@ -77,6 +77,19 @@ impl Region {
         let columns = part.columns.start.saturating_sub(self.columns.start);
         before.saturating_add(columns) as usize
     }
+
+    /// How many bytes of a list of all of the region there are from the first one of a part to its last one.
+    fn reach_of(self, part: Region) -> usize {
+        let between = self.columns.len().saturating_sub(part.columns.len());
+        let rows = part.rows.len().saturating_mul(self.columns.len());
+        rows.saturating_sub(between) as usize
+    }
+
+    /// The places of these bytes.
+    fn range_of(self, part: Region) -> Range<usize> {
+        let first = self.offset_of(part);
+        first..first.saturating_add(self.reach_of(part))
+    }
 }
 
 /// Turns the bytes of each number of four bytes.
@@ -86,40 +99,59 @@ pub fn turn(bytes: &mut [u8]) {
     }
 }
 
-/// Copies a row of as many bytes, and turns those of each number if that is asked for.
-fn copy_row(to: &mut [u8], from: &[u8], are_turned: bool) {
+/// Copies numbers of four bytes, and turns the bytes of each.
+fn copy_turned(to: &mut [u8], from: &[u8]) {
+    let numbers = from.as_chunks::<4>().0;
+    for (place, number) in to.as_chunks_mut::<4>().0.iter_mut().zip(numbers) {
+        *place = u32::from_be_bytes(*number).to_le_bytes();
+    }
+}
+
+/// Copies so many bytes in front, and turns those of each number if that is asked for.
+fn copy_row(to: &mut [u8], from: &[u8], len: usize, are_turned: bool) {
+    let (Some(to), Some(from)) = (to.get_mut(..len), from.get(..len)) else {
+        return;
+    };
     if are_turned {
-        let numbers = from.as_chunks::<4>().0;
-        put_mapped(
-            to.as_chunks_mut::<4>().0,
-            numbers,
-            |number| u32::from_be_bytes(*number).to_le_bytes(),
-        );
-    } else if to.len() == from.len() {
-        to.copy_from_slice(from);
+        copy_turned(to, from);
+    } else {
+        copy_all(to, from);
     }
 }
 
 /// Rows of one length, each of which begins so many bytes after the one before.
 #[derive(Clone, Copy)]
 struct Rows {
-    count: usize,
     len: usize,
     source_step: usize,
     target_step: usize,
     are_turned: bool,
 }
 
-/// Copies so many rows.
+/// Copies all rows.
 fn copy_rows(source: &[u8], target: &mut [u8], rows: Rows) {
-    if rows.source_step == 0 || rows.target_step == 0 {
-        return;
+    let sources = source.chunks(rows.source_step.max(1));
+    for (to, from) in target.chunks_mut(rows.target_step.max(1)).zip(sources) {
+        copy_row(to, from, rows.len, rows.are_turned);
     }
-    let sources = source.chunks(rows.source_step).take(rows.count);
-    for (place, row) in target.chunks_mut(rows.target_step).zip(sources) {
-        if let (Some(to), Some(from)) = (place.get_mut(..rows.len), row.get(..rows.len)) {
-            copy_row(to, from, rows.are_turned);
-        }
+}
+
+/// The rows of a part that two regions have: one, if they stand together in both.
+fn rows_of(from: Region, to: Region, part: Region, are_turned: bool) -> Rows {
+    if from.columns == part.columns && to.columns == part.columns {
+        let len = part.len();
+        return Rows {
+            len,
+            source_step: len,
+            target_step: len,
+            are_turned,
+        };
+    }
+    Rows {
+        len: part.columns.len() as usize,
+        source_step: from.columns.len() as usize,
+        target_step: to.columns.len() as usize,
+        are_turned,
     }
 }
 
@@ -133,44 +165,31 @@ pub fn copy_part(
     part: Region,
     are_turned: bool,
 ) {
-    let source = source.get(from.offset_of(part)..);
-    let target = target.get_mut(to.offset_of(part)..);
-    let (Some(source), Some(target)) = (source, target) else {
-        return;
-    };
-    let stand_together = from.columns == part.columns && to.columns == part.columns;
-    let rows = if stand_together {
-        Rows {
-            count: 1,
-            len: part.len(),
-            source_step: part.len(),
-            target_step: part.len(),
-            are_turned,
-        }
-    } else {
-        Rows {
-            count: part.rows.len() as usize,
-            len: part.columns.len() as usize,
-            source_step: from.columns.len() as usize,
-            target_step: to.columns.len() as usize,
-            are_turned,
-        }
-    };
-    copy_rows(source, target, rows);
+    let source = source.get(from.range_of(part)).unwrap_or(&[]);
+    if let Some(target) = target.get_mut(to.range_of(part)) {
+        copy_rows(source, target, rows_of(from, to, part, are_turned));
+    }
+}
+
+/// Appends the first bytes of each row, so many of each. A row begins so many bytes after the one before.
+fn put_rows(made: &mut Vec<u8>, rows: &[u8], step: usize, len: usize) -> Result<(), AllocError> {
+    for row in rows.chunks(step.max(1)) {
+        made.extend_from_slice(row.get(..len).unwrap_or(row))?;
+    }
+    Ok(())
 }
 
 /// Appends the cells of a part of the region, whose bytes these are.
 ///
 /// # Errors
-/// Out of memory, or the region has no such part.
-pub fn put_part(made: &mut Vec<u8>, region: Region, cells: &[u8], part: Region) -> Result<()> {
-    let width = region.columns.len() as usize;
-    let Some(from) = cells.get(region.offset_of(part)..) else {
-        return Err(anyhow!("no cells"));
-    };
-    let (count, len) = (part.rows.len() as usize, part.columns.len() as usize);
-    for row in from.chunks(width.max(1)).take(count) {
-        made.extend_from_slice(row.get(..len).unwrap_or(row))?;
-    }
-    Ok(())
+/// Out of memory.
+pub fn put_part(
+    made: &mut Vec<u8>,
+    region: Region,
+    cells: &[u8],
+    part: Region,
+) -> Result<(), AllocError> {
+    let rows = cells.get(region.range_of(part)).unwrap_or(&[]);
+    let (step, len) = (region.columns.len(), part.columns.len());
+    put_rows(made, rows, step as usize, len as usize)
 }
