@@ -18,7 +18,7 @@ use Rattle.zarrs_metadata.specs.Extension.{◌>>=◌}
 use Rattle.zarrs_shard.specs.Steps.{all_present}
 use Rattle.zarrs_shard.specs.Subchunks.{is_cut_by, quotients, subchunk_count, subchunk_of, assembled}
 use Rattle.zarrs_shard.proofs.Cuts.{subchunk_of-assembled}
-use Rattle.zarrs_shard.proofs.Missing.{some_is, bind_parts, only_if_parts, only_if_true, values_only_parts, length-all_some, all_some-at, all_some-from}
+use Rattle.zarrs_shard.proofs.Missing.{some_is, bind_parts, given_if-parts, given_if-true, values_only_parts, length-all_present, all_present-at, all_present-from}
 use Rattle.zarrs_shard.proofs.ShardLaws.{compaction_is, length-shard_parts}
 
 all_fill_replicate : (f : Cell) (n : ℕ) → is_all_fill f (replicate n f) ≡ true
@@ -49,15 +49,15 @@ module _ (m : SubchunkMeaning) (at_start : Bool) (k : Kind) (f : Cell) (s sub : 
       let T = λ (i : List ℕ). part_of m false f (subchunk_of s sub cs i) in
       let count = length-shard_parts at_start (position_count g) b held.parts held.parts_are in
       let mapped = length-map held.parts (cells_of_part m f sub) in
-      let subchunk_counted = length-all_some (map (cells_of_part m f sub) held.parts) subchunks is in
-      all_some-from (made_of T g) held.parts (count ∙ sym (length-made_of T g))
+      let subchunk_counted = length-all_present (map (cells_of_part m f sub) held.parts) subchunks is in
+      all_present-from (made_of T g) held.parts (count ∙ sym (length-made_of T g))
       (λ j d e lt.
       let below : j < position_count g = omega (arith, length-made_of T g) in
       let i = unravel g j in
       let at : place g i ≡ j = place-unravel g j below in
       let here : cells_of_part m f sub (get_or held.parts j None) ≡ Some (get_or subchunks j []) =
       sym (get_or-map (cells_of_part m f sub) held.parts j None None (omega arith))
-      ∙ all_some-at (map (cells_of_part m f sub) held.parts) subchunks j None [] is (omega arith) in
+      ∙ all_present-at (map (cells_of_part m f sub) held.parts) subchunks j None [] is (omega arith) in
       let long : length (get_or subchunks (place g i) []) ≡ position_count sub =
       ap (λ x. length (get_or subchunks x [])) at ∙ cell_count (get_or held.parts j None) (get_or subchunks j []) here in
       let part : subchunk_of s sub cs i ≡ get_or subchunks j [] =
@@ -74,13 +74,13 @@ module _ (m : SubchunkMeaning) (at_start : Bool) (k : Kind) (f : Cell) (s sub : 
   pub encoded_parts_compact : (b made : List ℕ) (cs : List Cell) → HoldsEncodedParts m at_start f s sub b
       → sharded_decoded m at_start k f s sub b ≡ Some cs → sharded_encoded m at_start false f s sub cs ≡ Some made → CompactsTo at_start s sub b made
   encoded_parts_compact b made cs held decoded encoded =
-      let p = only_if_parts (sharded_fits m s sub) _ cs decoded in
+      let p = given_if-parts (sharded_fits m s sub) _ cs decoded in
       let cut = (and_parts (is_cut_by s sub) m.fits p.0).0 in
       let q : cells_of_parts m k f s sub held.parts ≡ Some cs = sym (ap (λ o. o >>= cells_of_parts m k f s sub) held.parts_are) ∙ p.1 in
       let r = bind_parts (all_present (map (cells_of_part m f sub) held.parts)) (λ subchunks. values_only k (assembled s sub subchunks)) cs q in
       let same = (values_only_parts k (assembled s sub r.0) cs r.2).1 in
-      let e = only_if_parts (sharded_fits m s sub) _ made encoded in
+      let e = given_if-parts (sharded_fits m s sub) _ made encoded in
       let written : written_shard at_start held.parts ≡ Some made =
       sym (ap (λ o. o >>= written_shard at_start) (ap (parts_of m false f s sub) (sym same) ∙ parts_encoded b r.0 held cut r.1)) ∙ e.1 in
       compacts b made (bytes_eq made b) refl
-      (only_if_true (is_cut_by s sub) _ cut ∙ compaction_is at_start (subchunk_count s sub) b made held.parts held.parts_are written)
+      (given_if-true (is_cut_by s sub) _ cut ∙ compaction_is at_start (subchunk_count s sub) b made held.parts held.parts_are written)

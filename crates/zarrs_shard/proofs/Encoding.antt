@@ -11,7 +11,7 @@ use Rattle.zarrs_shard.specs.Shards.{data_bytes, index_bytes, shard_bytes, writt
 use Rattle.zarrs_metadata.specs.Extension.{◌>>=◌}
 use Rattle.zarrs_shard.specs.Steps.{given_if, all_present}
 use Rattle.zarrs_shard.specs.Subchunks.{subchunk_count, subchunk_at}
-use Rattle.zarrs_shard.proofs.Missing.{only_if_false, all_some-more, all_some-none, length-all_some}
+use Rattle.zarrs_shard.proofs.Missing.{given_if-false, all_present-more, all_present-none, length-all_present}
 use Rattle.zarrs_shard.proofs.ShardBytes.{length-joined_entries}
 
 -- a shard is at least as long as its index
@@ -24,12 +24,12 @@ module _ (m : SubchunkMeaning) (empty : Bool) (f : Cell) (s sub : List ℕ) (cs 
       → first_parts m empty f s sub cs (n + 1) ≡ Some (parts ++ part ∷ [])
   next_part n parts part is here =
       let T = λ (j : ℕ). part_of m empty f (subchunk_at s sub cs j) in
-      ap all_present (map-range_with_len_more T 0 n n (omega arith)) ∙ all_some-more (map T (range_with_len 0 n)) parts (T n) part is here
+      ap all_present (map-range_with_len_more T 0 n n (omega arith)) ∙ all_present-more (map T (range_with_len 0 n)) parts (T n) part is here
 
   pub no_part : (n j : ℕ) → j < n → part_of m empty f (subchunk_at s sub cs j) ≡ None → first_parts m empty f s sub cs n ≡ None
   no_part n j lt is =
       let T = λ (j : ℕ). part_of m empty f (subchunk_at s sub cs j) in
-      all_some-none (map T (range_with_len 0 n)) j None (omega (arith, length-map-range_with_len T 0 n))
+      all_present-none (map T (range_with_len 0 n)) j None (omega (arith, length-map-range_with_len T 0 n))
       (get_or-map-range_with_len T 0 n j j None lt (omega arith) ∙ is)
 
   -- a chunk of so many subchunks that its index is too long
@@ -41,9 +41,9 @@ module _ (m : SubchunkMeaning) (empty : Bool) (f : Cell) (s sub : List ℕ) (cs 
       go (Some parts) is =
           let T = λ (j : ℕ). part_of m empty f (subchunk_at s sub cs j) in
           let n = subchunk_count s sub in
-          let count : length parts ≡ n = length-all_some (map T (range_with_len 0 n)) parts is ∙ length-map-range_with_len T 0 n in
+          let count : length parts ≡ n = length-all_present (map T (range_with_len 0 n)) parts is ∙ length-map-range_with_len T 0 n in
           let long = length-shard_bytes at_start parts in
-          only_if_false (nat_lt (length (shard_bytes at_start parts)) (2 ^ 64)) _ (le-ltb (length (shard_bytes at_start parts)) (2 ^ 64) (omega arith))
+          given_if-false (nat_lt (length (shard_bytes at_start parts)) (2 ^ 64)) _ (le-ltb (length (shard_bytes at_start parts)) (2 ^ 64) (omega arith))
 
       still : (b : Bool) → given_if {A = List ℕ} b None ≡ None
       still true = refl

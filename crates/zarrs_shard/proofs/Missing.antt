@@ -13,24 +13,24 @@ pub bind_parts : {A B : Type 0} (o : Option A) (f : A → Option B) (y : B) → 
 bind_parts None f y is = cc
 bind_parts (Some x) f y is = (x, refl, is)
 
-pub only_if_parts : {A : Type 0} (b : Bool) (o : Option A) (y : A) → given_if b o ≡ Some y → (b ≡ true) × (o ≡ Some y)
-only_if_parts true o y is = (refl, is)
-only_if_parts false o y is = cc
+pub given_if-parts : {A : Type 0} (b : Bool) (o : Option A) (y : A) → given_if b o ≡ Some y → (b ≡ true) × (o ≡ Some y)
+given_if-parts true o y is = (refl, is)
+given_if-parts false o y is = cc
 
-pub only_if_true : {A : Type 0} (b : Bool) (o : Option A) → b ≡ true → given_if b o ≡ o
-only_if_true b o is = ap (λ x. given_if x o) is
+pub given_if-true : {A : Type 0} (b : Bool) (o : Option A) → b ≡ true → given_if b o ≡ o
+given_if-true b o is = ap (λ x. given_if x o) is
 
-pub only_if_false : {A : Type 0} (b : Bool) (o : Option A) → b ≡ false → given_if b o ≡ None
-only_if_false b o is = ap (λ x. given_if x o) is
+pub given_if-false : {A : Type 0} (b : Bool) (o : Option A) → b ≡ false → given_if b o ≡ None
+given_if-false b o is = ap (λ x. given_if x o) is
 
 pub values_only_parts : (k : Kind) (cs ds : List Cell) → values_only k cs ≡ Some ds → (are_values k ds ≡ true) × (cs ≡ ds)
 values_only_parts k cs ds is =
-    let p = only_if_parts (are_values k cs) (Some cs) ds is in
+    let p = given_if-parts (are_values k cs) (Some cs) ds is in
     let e = some_is p.1 in
     (ap (are_values k) (sym e) ∙ p.0, e)
 
-pub all_some-cons : {X : Type 0} (o : Option X) (os : List (Option X)) (x : X) (xs : List X) → o ≡ Some x → all_present os ≡ Some xs → all_present (o ∷ os) ≡ Some (x ∷ xs)
-all_some-cons o os x xs is rest = ap (λ p. all_present (p ∷ os)) is ∙ ap (option_map (λ ys. x ∷ ys)) rest
+pub all_present-cons : {X : Type 0} (o : Option X) (os : List (Option X)) (x : X) (xs : List X) → o ≡ Some x → all_present os ≡ Some xs → all_present (o ∷ os) ≡ Some (x ∷ xs)
+all_present-cons o os x xs is rest = ap (λ p. all_present (p ∷ os)) is ∙ ap (option_map (λ ys. x ∷ ys)) rest
 
 -- the parts of a list of values none of which is missing
 pub record IsParted {X : Type 0} (o : Option X) (os : List (Option X)) (ys : List X) : Type 0 where
@@ -44,42 +44,42 @@ parted_tail : {X : Type 0} (x : X) (os : List (Option X)) (r : Option (List X)) 
 parted_tail x os None ys is made = cc
 parted_tail x os (Some xs) ys is made = record { head = x; tail = xs; head_is = refl; tail_is = is; whole = sym (some_is made) }
 
-pub all_some-parts : {X : Type 0} (o : Option X) (os : List (Option X)) (ys : List X) → all_present (o ∷ os) ≡ Some ys → IsParted o os ys
-all_some-parts None os ys made = cc
-all_some-parts (Some x) os ys made = parted_tail x os (all_present os) ys refl made
+pub all_present-parts : {X : Type 0} (o : Option X) (os : List (Option X)) (ys : List X) → all_present (o ∷ os) ≡ Some ys → IsParted o os ys
+all_present-parts None os ys made = cc
+all_present-parts (Some x) os ys made = parted_tail x os (all_present os) ys refl made
 
-pub length-all_some : {X : Type 0} (os : List (Option X)) (ys : List X) → all_present os ≡ Some ys → length ys ≡ length os
-length-all_some [] ys made = ap length (sym (some_is made))
-length-all_some (o ∷ os) ys made =
-    let p = all_some-parts o os ys made in ap length p.whole ∙ ap suc (length-all_some os p.tail p.tail_is)
+pub length-all_present : {X : Type 0} (os : List (Option X)) (ys : List X) → all_present os ≡ Some ys → length ys ≡ length os
+length-all_present [] ys made = ap length (sym (some_is made))
+length-all_present (o ∷ os) ys made =
+    let p = all_present-parts o os ys made in ap length p.whole ∙ ap suc (length-all_present os p.tail p.tail_is)
 
 -- each of them
-pub all_some-at : {X : Type 0} (os : List (Option X)) (ys : List X) (k : ℕ) (d : Option X) (e : X) → all_present os ≡ Some ys → k < length os → get_or os k d ≡ Some (get_or ys k e)
-all_some-at [] ys k d e made lt = absurd (omega arith)
-all_some-at (o ∷ os) ys zero d e made lt =
-    let p = all_some-parts o os ys made in p.head_is ∙ ap (λ l. Some (get_or l 0 e)) (sym p.whole)
-all_some-at (o ∷ os) ys (suc k) d e made lt =
-    let p = all_some-parts o os ys made in all_some-at os p.tail k d e p.tail_is (omega arith) ∙ ap (λ l. Some (get_or l (suc k) e)) (sym p.whole)
+pub all_present-at : {X : Type 0} (os : List (Option X)) (ys : List X) (k : ℕ) (d : Option X) (e : X) → all_present os ≡ Some ys → k < length os → get_or os k d ≡ Some (get_or ys k e)
+all_present-at [] ys k d e made lt = absurd (omega arith)
+all_present-at (o ∷ os) ys zero d e made lt =
+    let p = all_present-parts o os ys made in p.head_is ∙ ap (λ l. Some (get_or l 0 e)) (sym p.whole)
+all_present-at (o ∷ os) ys (suc k) d e made lt =
+    let p = all_present-parts o os ys made in all_present-at os p.tail k d e p.tail_is (omega arith) ∙ ap (λ l. Some (get_or l (suc k) e)) (sym p.whole)
 
 -- they are there where each of them is
-pub all_some-from : {X : Type 0} (os : List (Option X)) (ys : List X) → length ys ≡ length os → ((k : ℕ) (d : Option X) (e : X) → k < length os → get_or os k d ≡ Some (get_or ys k e)) → all_present os ≡ Some ys
-all_some-from [] [] len each = refl
-all_some-from [] (y ∷ ys) len each = absurd (omega arith)
-all_some-from (o ∷ os) [] len each = absurd (omega arith)
-all_some-from (o ∷ os) (y ∷ ys) len each =
-    all_some-cons o os y ys (each 0 None y (omega arith)) (all_some-from os ys (omega arith) (λ k d e lt. each (suc k) d e (omega arith)))
+pub all_present-from : {X : Type 0} (os : List (Option X)) (ys : List X) → length ys ≡ length os → ((k : ℕ) (d : Option X) (e : X) → k < length os → get_or os k d ≡ Some (get_or ys k e)) → all_present os ≡ Some ys
+all_present-from [] [] len each = refl
+all_present-from [] (y ∷ ys) len each = absurd (omega arith)
+all_present-from (o ∷ os) [] len each = absurd (omega arith)
+all_present-from (o ∷ os) (y ∷ ys) len each =
+    all_present-cons o os y ys (each 0 None y (omega arith)) (all_present-from os ys (omega arith) (λ k d e lt. each (suc k) d e (omega arith)))
 
 -- one that is missing
-pub all_some-none : {X : Type 0} (os : List (Option X)) (k : ℕ) (d : Option X) → k < length os → get_or os k d ≡ None → all_present os ≡ None
-all_some-none [] k d lt is = absurd (omega arith)
-all_some-none (o ∷ os) zero d lt is = ap (λ p. all_present (p ∷ os)) is
-all_some-none (None ∷ os) (suc k) d lt is = refl
-all_some-none (Some x ∷ os) (suc k) d lt is = ap (option_map (λ xs. x ∷ xs)) (all_some-none os k d (omega arith) is)
+pub all_present-none : {X : Type 0} (os : List (Option X)) (k : ℕ) (d : Option X) → k < length os → get_or os k d ≡ None → all_present os ≡ None
+all_present-none [] k d lt is = absurd (omega arith)
+all_present-none (o ∷ os) zero d lt is = ap (λ p. all_present (p ∷ os)) is
+all_present-none (None ∷ os) (suc k) d lt is = refl
+all_present-none (Some x ∷ os) (suc k) d lt is = ap (option_map (λ xs. x ∷ xs)) (all_present-none os k d (omega arith) is)
 
 -- one more at the end
-pub all_some-more : {X : Type 0} (os : List (Option X)) (xs : List X) (o : Option X) (x : X) → all_present os ≡ Some xs → o ≡ Some x → all_present (os ++ o ∷ []) ≡ Some (xs ++ x ∷ [])
-all_some-more [] xs o x made is = ap (λ p. all_present (p ∷ [])) is ∙ ap (λ l. Some (l ++ x ∷ [])) (some_is made)
-all_some-more (p ∷ os) xs o x made is =
-    let q = all_some-parts p os xs made in
-    all_some-cons p (os ++ o ∷ []) q.head (q.tail ++ x ∷ []) q.head_is (all_some-more os q.tail o x q.tail_is is)
+pub all_present-more : {X : Type 0} (os : List (Option X)) (xs : List X) (o : Option X) (x : X) → all_present os ≡ Some xs → o ≡ Some x → all_present (os ++ o ∷ []) ≡ Some (xs ++ x ∷ [])
+all_present-more [] xs o x made is = ap (λ p. all_present (p ∷ [])) is ∙ ap (λ l. Some (l ++ x ∷ [])) (some_is made)
+all_present-more (p ∷ os) xs o x made is =
+    let q = all_present-parts p os xs made in
+    all_present-cons p (os ++ o ∷ []) q.head (q.tail ++ x ∷ []) q.head_is (all_present-more os q.tail o x q.tail_is is)
     ∙ ap (λ l. Some (l ++ x ∷ [])) (sym q.whole)

@@ -12,7 +12,7 @@ use Rattle.zarrs_byte_strings.proofs.ByteStrings.{slice_range-front}
 use Rattle.zarrs_shard.specs.PartialShards.{written_over, stored_parts, stored_entries, stored_end, changed_parts, changed_entries, changed_bytes, changed_text}
 use Rattle.zarrs_shard.specs.Shards.{absent, entry_bytes, named_part, shard_parts}
 use Rattle.zarrs_shard.specs.Steps.{given_if, all_present}
-use Rattle.zarrs_shard.proofs.Missing.{some_is, only_if_parts, only_if_true, all_some-cons, all_some-parts}
+use Rattle.zarrs_shard.proofs.Missing.{some_is, given_if-parts, given_if-true, all_present-cons, all_present-parts}
 use Rattle.zarrs_shard.proofs.ShardBytes.{length-entry_bytes, entry_absent, entry_present}
 
 -- ---- an entry that stays
@@ -25,7 +25,7 @@ read_wider : {A : Type 0} (x y z : Bool) (s t : A) (p : Option A) → cond x (So
     → cond x (Some None) (given_if z (Some (Some t))) ≡ Some p
 read_wider true y z s t p is more = is
 read_wider false true z s t p is more =
-    let m = more refl in only_if_true z (Some (Some t)) m.0 ∙ ap (λ u. Some (Some u)) m.1 ∙ is
+    let m = more refl in given_if-true z (Some (Some t)) m.0 ∙ ap (λ u. Some (Some u)) m.1 ∙ is
 read_wider false false z s t p is more = cc
 
 kept_entry : (old new e : List ℕ) (base end : ℕ) (p : Option (List ℕ)) → base ≤ end → HasSameFront base old new → named_part old 0 base e ≡ Some p → named_part new 0 end e ≡ Some p
@@ -54,21 +54,21 @@ entries_read : (old shard : List ℕ) (base end : ℕ) (entries : List (List ℕ
 entries_read old shard base end [] parts changes front rest same wider small is within len made = ap (λ ps. Some (changed_parts ps changes)) (some_is made)
 entries_read old shard base end (e ∷ entries) parts [] front rest same wider small is within len made = absurd (omega arith)
 entries_read old shard base end (e ∷ entries) parts (None ∷ changes) front rest same wider small is within len made =
-    let p = all_some-parts (named_part old 0 base e) (map (named_part old 0 base) entries) parts made in
+    let p = all_present-parts (named_part old 0 base e) (map (named_part old 0 base) entries) parts made in
     let read = named_part shard 0 end in
-    all_some-cons (read e) (map read (changed_entries (length front) entries changes)) p.head (changed_parts p.tail changes)
+    all_present-cons (read e) (map read (changed_entries (length front) entries changes)) p.head (changed_parts p.tail changes)
     (kept_entry old shard e base end p.head wider same p.head_is)
     (entries_read old shard base end entries p.tail changes front rest same wider small is within (omega arith) p.tail_is)
     ∙ ap (λ ps. Some (changed_parts ps (None ∷ changes))) (sym p.whole)
 entries_read old shard base end (e ∷ entries) parts (Some None ∷ changes) front rest same wider small is within len made =
-    let p = all_some-parts (named_part old 0 base e) (map (named_part old 0 base) entries) parts made in
+    let p = all_present-parts (named_part old 0 base e) (map (named_part old 0 base) entries) parts made in
     let read = named_part shard 0 end in
-    all_some-cons (read (entry_bytes absent absent)) (map read (changed_entries (length front) entries changes)) None (changed_parts p.tail changes)
+    all_present-cons (read (entry_bytes absent absent)) (map read (changed_entries (length front) entries changes)) None (changed_parts p.tail changes)
     (entry_absent shard 0 end)
     (entries_read old shard base end entries p.tail changes front rest same wider small is within (omega arith) p.tail_is)
     ∙ ap (λ ps. Some (changed_parts ps (Some None ∷ changes))) (sym p.whole)
 entries_read old shard base end (e ∷ entries) parts (Some (Some b) ∷ changes) front rest same wider small is within len made =
-    let p = all_some-parts (named_part old 0 base e) (map (named_part old 0 base) entries) parts made in
+    let p = all_present-parts (named_part old 0 base e) (map (named_part old 0 base) entries) parts made in
     let read = named_part shard 0 end in
     let o = length front in
     let more = changed_bytes changes in
@@ -79,7 +79,7 @@ entries_read old shard base end (e ∷ entries) parts (Some (Some b) ∷ changes
     let others : all_present (map read (changed_entries (o + length b) entries changes)) ≡ Some (changed_parts p.tail changes) =
     ap (λ k. all_present (map read (changed_entries k entries changes))) (sym m)
     ∙ entries_read old shard base end entries p.tail changes (front ++ b) rest same wider small (joined ∙ sym (append_assoc front b (more ++ rest))) (omega arith) (omega arith) p.tail_is in
-    all_some-cons (read (entry_bytes o (length b))) (map read (changed_entries (o + length b) entries changes)) (Some b) (changed_parts p.tail changes)
+    all_present-cons (read (entry_bytes o (length b))) (map read (changed_entries (o + length b) entries changes)) (Some b) (changed_parts p.tail changes)
     (entry_present shard 0 end o (length b) (omega arith) (omega arith) small ∙ ap (λ x. Some (Some x)) here) others
     ∙ ap (λ ps. Some (changed_parts ps (Some (Some b) ∷ changes))) (sym p.whole)
 
@@ -166,7 +166,7 @@ read_changed count base old entries parts changes is len small =
           ∙ sym (slice_range-front front (drop base old) o (o + l) (omega arith) here)
           ∙ ap (λ s. slice_range s o (o + l)) (take-append-drop base old);
     } in
-    only_if_true (nat_le (count * 16) (length shard)) _ (le-leb (count * 16) (length shard) (omega arith))
+    given_if-true (nat_le (count * 16) (length shard)) _ (le-leb (count * 16) (length shard) (omega arith))
     ∙ ap (λ end. all_present (map (named_part shard 0 end) (pieces 16 count (drop end shard)))) end_is
     ∙ ap (λ l. all_present (map (named_part shard 0 (base + length body)) l)) cut
     ∙ ap (λ n. all_present (map (named_part shard 0 (base + length body)) (changed_entries n entries changes))) (sym front_len)
@@ -177,7 +177,7 @@ read_changed count base old entries parts changes is len small =
 none_read : (count base : ℕ) (shard : List ℕ) → all_present (map (named_part shard 0 base) (replicate count (entry_bytes absent absent))) ≡ Some (replicate count None)
 none_read zero base shard = refl
 none_read (suc count) base shard =
-    all_some-cons (named_part shard 0 base (entry_bytes absent absent)) (map (named_part shard 0 base) (replicate count (entry_bytes absent absent))) None (replicate count None)
+    all_present-cons (named_part shard 0 base (entry_bytes absent absent)) (map (named_part shard 0 base) (replicate count (entry_bytes absent absent))) None (replicate count None)
     (entry_absent shard 0 base) (none_read count base shard)
 
 none_each : (count k : ℕ) (d : List ℕ) → k < length (replicate count (entry_bytes absent absent)) → length (get_or (replicate count (entry_bytes absent absent)) k d) ≡ 16
@@ -195,7 +195,7 @@ is_stored count None parts made = record {
   read = none_read count 0 [] ∙ made;
 }
 is_stored count (Some shard) parts made =
-    let p = only_if_parts (nat_le (count * 16) (length shard)) _ parts made in
+    let p = given_if-parts (nat_le (count * 16) (length shard)) _ parts made in
     let le : count * 16 ≤ length shard = leb-true (count * 16) (length shard) p.0 in
     let end = length shard - count * 16 in
     let index = drop end shard in

@@ -24,7 +24,7 @@ use Rattle.zarrs_shard.specs.Steps.{given_if, all_present}
 use Rattle.zarrs_shard.specs.Subchunks.{is_cut_by, quotients, remainders, corner, subchunk_count, subchunk_of, subchunk_at, assembled}
 use Rattle.zarrs_shard.proofs.Cuts.{position_divided, position_inside, assembled_again, length-assembled, subchunk_len, subchunk_all, subchunk_of-assembled}
 use Rattle.zarrs_shard.proofs.Grids.{cut_len}
-use Rattle.zarrs_shard.proofs.Missing.{some_is, bind_parts, only_if_parts, only_if_true, values_only_parts, length-all_some, all_some-at, all_some-from}
+use Rattle.zarrs_shard.proofs.Missing.{some_is, bind_parts, given_if-parts, given_if-true, values_only_parts, length-all_present, all_present-at, all_present-from}
 use Rattle.zarrs_shard.proofs.PartialBytes.{written_parts}
 use Rattle.zarrs_shard.proofs.ShardLaws.{length-shard_parts, part_again}
 use Rattle.zarrs_shard.proofs.SubchunkBoxes.{long_corner, place_in_chunk}
@@ -215,7 +215,7 @@ module _ (m : SubchunkMeaning) (k : Kind) (f : Cell) (s sub : List ℕ) where
               let in_grid = unravel_in g j lt in
               let here : cells_of_part m f sub (get_or parts j None) ≡ Some (get_or r.0 j []) =
               sym (get_or-map (cells_of_part m f sub) parts j None None (omega arith))
-              ∙ all_some-at (map (cells_of_part m f sub) parts) r.0 j None [] r.1 (omega arith) in
+              ∙ all_present-at (map (cells_of_part m f sub) parts) r.0 j None [] r.1 (omega arith) in
               let at : place g i ≡ j = place-unravel g j lt in
               let long : length (get_or r.0 (place g i) []) ≡ position_count sub = ap (λ x. length (get_or r.0 x [])) at ∙ part_len (get_or parts j None) (get_or r.0 j []) here in
               here ∙ ap (λ l. Some l)
@@ -229,7 +229,7 @@ module _ (m : SubchunkMeaning) (k : Kind) (f : Cell) (s sub : List ℕ) where
         subst (λ ps. IsHeld ps held) (some_is read) (subst (λ cs. IsHeld (replicate (subchunk_count s sub) None) cs) (some_is is) (fill_held cut value))
     stored_held (Some shard) parts held fit value read is =
         let cut = (and_parts (is_cut_by s sub) m.fits fit).0 in
-        let p = only_if_parts (sharded_fits m s sub) _ held is in
+        let p = given_if-parts (sharded_fits m s sub) _ held is in
         shard_held shard parts held cut read (sym (ap (λ o. o >>= cells_of_parts m k f s sub) read) ∙ p.1)
 
     -- ---- afterwards
@@ -243,7 +243,7 @@ module _ (m : SubchunkMeaning) (k : Kind) (f : Cell) (s sub : List ℕ) where
       pub change_count : length changes ≡ subchunk_count s sub
       change_count =
           let T = λ (j : ℕ). change_at m empty f s sub part given parts j in
-          length-all_some (map T (range_with_len 0 (subchunk_count s sub))) changes changes_are ∙ length-map-range_with_len T 0 (subchunk_count s sub)
+          length-all_present (map T (range_with_len 0 (subchunk_count s sub))) changes changes_are ∙ length-map-range_with_len T 0 (subchunk_count s sub)
 
       -- a subchunk that changes
       met_part : (j : ℕ) (c : Option (Option (List ℕ))) → j < subchunk_count s sub
@@ -281,7 +281,7 @@ module _ (m : SubchunkMeaning) (k : Kind) (f : Cell) (s sub : List ℕ) where
           let n = subchunk_count s sub in
           let here : change_at m empty f s sub part given parts j ≡ Some (get_or changes j None) =
           sym (get_or-map-range_with_len T 0 n j j None lt (omega arith))
-          ∙ all_some-at (map T (range_with_len 0 n)) changes j None None changes_are (omega (arith, length-map-range_with_len T 0 n)) in
+          ∙ all_present-at (map T (range_with_len 0 n)) changes j None None changes_are (omega (arith, length-map-range_with_len T 0 n)) in
           ap (cells_of_part m f sub) (changed_at parts changes j (change_count ∙ sym h.count) (let len = h.count in omega arith))
           ∙ go (is_met s sub part j) refl here
         where
@@ -304,17 +304,17 @@ module _ (m : SubchunkMeaning) (k : Kind) (f : Cell) (s sub : List ℕ) where
           let count : length (changed_parts parts changes) ≡ n = changed_count parts changes ∙ h.count in
           let mapped = length-map (changed_parts parts changes) (cells_of_part m f sub) in
           let all : all_present (map (cells_of_part m f sub) (changed_parts parts changes)) ≡ Some (made_of (subchunk_of s sub now) g) =
-          all_some-from (map (cells_of_part m f sub) (changed_parts parts changes)) (made_of (subchunk_of s sub now) g) (length-made_of (subchunk_of s sub now) g ∙ sym count ∙ sym mapped)
+          all_present-from (map (cells_of_part m f sub) (changed_parts parts changes)) (made_of (subchunk_of s sub now) g) (length-made_of (subchunk_of s sub now) g ∙ sym count ∙ sym mapped)
           (λ j d e lt.
           let below : j < position_count g = omega arith in
           get_or-map (cells_of_part m f sub) (changed_parts parts changes) j None d (omega arith)
           ∙ now_each j below
           ∙ ap Some (sym (get_or-made_of (subchunk_of s sub now) g j e below))) in
-          only_if_true (sharded_fits m s sub) _ fit
+          given_if-true (sharded_fits m s sub) _ fit
           ∙ ap (λ o. o >>= cells_of_parts m k f s sub) read
           ∙ ap (λ o. o >>= λ xs. values_only k (assembled s sub xs)) all
           ∙ ap (values_only k) (assembled_again s sub is_cut now len)
-          ∙ only_if_true (are_values k now) _ (now_values s sub part given held is_cut is_part k h.len given_values h.values)
+          ∙ given_if-true (are_values k now) _ (now_values s sub part given held is_cut is_part k h.len given_values h.values)
 
       -- no shard, if each part is absent
       pub now_erased : all_absent (changed_parts parts changes) ≡ true → Some (replicate (position_count s) f) ≡ Some (updated_cells s part given held)
@@ -349,7 +349,7 @@ module _ (m : SubchunkMeaning) (k : Kind) (f : Cell) (s sub : List ℕ) where
         → sharded_partly m empty f s sub stored part given ≡ Some change → stored_cells m k f s sub stored ≡ Some held → IsUpdated s part given held (stored_cells m k f s sub (after change stored))
     updates empty stored part given held change value given_values is_part made is =
         let n = subchunk_count s sub in
-        let a = only_if_parts (sharded_fits m s sub && nat_lt (n * 16) (2 ^ 64)) _ change made in
+        let a = given_if-parts (sharded_fits m s sub && nat_lt (n * 16) (2 ^ 64)) _ change made in
         let fit = (and_parts (sharded_fits m s sub) (nat_lt (n * 16) (2 ^ 64)) a.0).0 in
         let b = bind_parts (stored_parts n stored) (λ parts. first_changes m empty f s sub part given parts n >>= λ changes. write_of n stored parts changes) change a.1 in
         let c = bind_parts (first_changes m empty f s sub part given b.0 n) (λ changes. write_of n stored b.0 changes) change b.2 in
@@ -375,7 +375,7 @@ module _ (m : SubchunkMeaning) (k : Kind) (f : Cell) (s sub : List ℕ) where
             let n = subchunk_count s sub in
             let end = stored_end n stored in
             let text = changed_text n stored changes in
-            let w = only_if_parts (nat_lt (end + length text) (2 ^ 64)) (Some (put end text)) change is in
+            let w = given_if-parts (nat_lt (end + length text) (2 ^ 64)) (Some (put end text)) change is in
             let small : end + length text < 2 ^ 64 = ltb-true (end + length text) (2 ^ 64) w.0 in
             let count = change_count empty part given held fit is_part given_values parts h changes changes_are in
             ap (λ x. stored_cells m k f s sub (after x stored)) (sym (some_is w.1))

@@ -15,7 +15,7 @@ use Rattle.zarrs_shard.specs.declared.shard_index.SubchunkRange.{SubchunkRange}
 use Rattle.zarrs_shard.specs.Shards.{absent, entry_bytes}
 use Rattle.zarrs_shard.specs.Steps.{given_if}
 use Rattle.zarrs_shard.specs.declared.patch.ShardPatch.{ShardPatch}
-use Rattle.zarrs_shard.proofs.Missing.{some_is, only_if_parts, only_if_true}
+use Rattle.zarrs_shard.proofs.Missing.{some_is, given_if-parts, given_if-true}
 use Rattle.zarrs_shard.proofs.ShardLaws.{length-shard_parts}
 use Rattle.zarrs_shard.proofs.PartialBytes.{AreEntries, is_stored, length-changed_index}
 
@@ -188,7 +188,7 @@ some_long count shard is = go (stored_parts count (Some shard)) refl is
   where
     go : (o : Option (List (Option (List ℕ)))) → stored_parts count (Some shard) ≡ o → IsSome o → count * 16 ≤ length shard
     go None made some = let nothing : IsSome {T = List (Option (List ℕ))} None = some in cc
-    go (Some parts) made some = leb-true (count * 16) (length shard) (only_if_parts (nat_le (count * 16) (length shard)) _ parts made).0
+    go (Some parts) made some = leb-true (count * 16) (length shard) (given_if-parts (nat_le (count * 16) (length shard)) _ parts made).0
 
 pub some_started : (count : ℕ) (shard : List ℕ) (parts : List (Option (List ℕ))) (patch : ShardPatch) → count * 16 ≤ length shard → patch.base ≡ length shard - count * 16 → patch.index.items ≡ drop (length shard - count * 16) shard → patch.encoded.items ≡ [] → patch.entries.items ≡ [] → patch.any ≡ false
     → IsPatching count (Some shard) parts patch []
@@ -244,7 +244,7 @@ module _ (count : ℕ) (stored : Option (List ℕ)) (parts : List (Option (List 
       subst (λ t. stored_end count stored + length t < 2 ^ 64) whole (subst (λ b. b + length text < 2 ^ 64) is.base_is small) in
       ap (λ b. cond b (Some erase) (given_if (nat_lt (stored_end count stored + length (changed_text count stored changes)) (2 ^ 64)) (Some (put (stored_end count stored) (changed_text count stored changes)))))
       (any_not (all_absent (changed_parts parts changes)) (sym whole_any ∙ some))
-      ∙ only_if_true (nat_lt (stored_end count stored + length (changed_text count stored changes)) (2 ^ 64)) _ (lt-ltb (stored_end count stored + length (changed_text count stored changes)) (2 ^ 64) fits)
+      ∙ given_if-true (nat_lt (stored_end count stored + length (changed_text count stored changes)) (2 ^ 64)) _ (lt-ltb (stored_end count stored + length (changed_text count stored changes)) (2 ^ 64) fits)
       ∙ ap (λ b. Some (put b (changed_text count stored changes))) (sym is.base_is)
       ∙ ap (λ t. Some (put patch.base t)) (sym whole)
 

@@ -1,9 +1,9 @@
 -- The rows of a box of two dimensions, each of which lies together in the array.
-use Rattle.std.proofs.Common.{◌≡◌, ℕ, ◌+◌, ◌-◌, ◌*◌, ◌<◌, ◌≤◌, List, [], ◌∷◌, length, ◌++◌, take, drop, refl, sym, ap, subst, ◌∙◌, arith}
+use Rattle.std.proofs.Common.{◌≡◌, ℕ, zero, suc, ◌+◌, ◌-◌, ◌*◌, ◌<◌, ◌≤◌, List, [], ◌∷◌, length, ◌++◌, take, drop, Result, Ok, Err, IfErr, refl, sym, ap, subst, ◌∙◌, arith}
 use Rattle.std.specs.Prelude.{nat_le, nat_lt, slice_index}
 use Rattle.std.proofs.lemmas.Bool.{and_parts, ltb-true, leb-true, false≢true}
 use Rattle.std.proofs.lemmas.List.{append-nil, length-take-le, length-drop, take-append-drop}
-use Rattle.std.proofs.Math.Nat.{add-mul, mul-le-mul_right}
+use Rattle.std.proofs.Math.Nat.{add-mul, mul-le-mul_right, mul_assoc}
 use Rattle.zarrs_array_bytes.proofs.Parts.{positive_size}
 use Rattle.zarrs_byte_strings.specs.StringParts.{LiesInBox}
 use Rattle.zarrs_subset.specs.Boxes.{position_count, in_range, is_within}
@@ -13,26 +13,44 @@ use Rattle.zarrs_shard.specs.Blocks.{rows_of, AddsCells}
 use Rattle.zarrs_shard.proofs.RowBlocks.{piece_front, piece_past}
 
 -- no row
+nothing : (size : ℕ) (held : Box) (bytes old : List ℕ) (s : ℕ) (ss ts : List ℕ) → AddsCells size held bytes (box_from (s ∷ ss) (0 ∷ ts)) old old
+nothing size held bytes old s ss ts = record {
+  added = [];
+  new_is = sym (append-nil old);
+  count = omega arith;
+  cells_are = none;
+}
+  where
+    none : (position : List ℕ) → Holds (box_from (s ∷ ss) (0 ∷ ts)) position → piece_at size [] (place_in (box_from (s ∷ ss) (0 ∷ ts)) position) ≡ piece_at size bytes (place_in held position)
+    none [] holds = absurd (false≢true holds)
+    none (i ∷ q) holds =
+        let a = and_parts (nat_le s i) (nat_lt i (s + 0)) (and_parts (in_range s 0 i) (is_within ss ts q) holds).0 in
+        let low : s ≤ i = leb-true s i a.0 in
+        let high : i < s + 0 = ltb-true i (s + 0) a.1 in
+        absurd (omega arith)
+
 pub no_rows : (size : ℕ) (held : Box) (bytes old : List ℕ) (part : Box) → IsLong part → 0 < length part.shape → AddsCells size held bytes (rows_of part 0 0) old old
 no_rows size held bytes old part long some = go part.start part.shape long some
   where
     go : (start shape : List ℕ) → length start ≡ length shape → 0 < length shape → AddsCells size held bytes (rows_of (box_from start shape) 0 0) old old
     go start [] l some = absurd (omega arith)
     go [] (t ∷ ts) l some = absurd (omega arith)
-    go (s ∷ ss) (t ∷ ts) l some = record {
-      added = [];
-      new_is = sym (append-nil old);
-      count = omega arith;
-      cells_are = none;
-    }
-      where
-        none : (position : List ℕ) → Holds (box_from ((s + 0) ∷ ss) (0 ∷ ts)) position → piece_at size [] (place_in (box_from ((s + 0) ∷ ss) (0 ∷ ts)) position) ≡ piece_at size bytes (place_in held position)
-        none [] holds = absurd (false≢true holds)
-        none (i ∷ q) holds =
-            let a = and_parts (nat_le (s + 0) i) (nat_lt i (s + 0 + 0)) (and_parts (in_range (s + 0) 0 i) (is_within ss ts q) holds).0 in
-            let low : s + 0 ≤ i = leb-true (s + 0) i a.0 in
-            let high : i < s + 0 + 0 = ltb-true i (s + 0 + 0) a.1 in
-            absurd (omega arith)
+    go (s ∷ ss) (t ∷ ts) l some = nothing size held bytes old (s + 0) ss ts
+
+-- a box without rows
+pub no_cells : (size : ℕ) (held : Box) (bytes old : List ℕ) (part : Box) → IsLong part → 0 < length part.shape → slice_index part.shape 0 ≡ 0 → AddsCells size held bytes part old old
+no_cells size held bytes old part long some is = go part.start part.shape long some is
+  where
+    go : (start shape : List ℕ) → length start ≡ length shape → 0 < length shape → slice_index shape 0 ≡ 0 → AddsCells size held bytes (box_from start shape) old old
+    go start [] l some is = absurd (omega arith)
+    go [] (t ∷ ts) l some is = absurd (omega arith)
+    go (s ∷ ss) (zero ∷ ts) l some is = nothing size held bytes old s ss ts
+    go (s ∷ ss) (suc t ∷ ts) l some is = absurd (omega (arith, is))
+
+-- what holds whatever the refusal is
+pub if_refused : {T E P : Type 0} (r : Result T E) → P → IfErr r (λ _. P)
+if_refused (Ok t) p = tt
+if_refused (Err e) p = p
 
 pub two_of : (l : List ℕ) → length l ≡ 2 → l ≡ slice_index l 0 ∷ slice_index l 1 ∷ []
 two_of [] is = absurd (omega arith)
@@ -61,6 +79,7 @@ pub record RowFits (size len row s0 s1 t1 h0 h1 H0 H1 : ℕ) : Type 0 where
   pub most : H0 * H1 ≤ len
   pub bytes : ((s0 - h0 + row) * H1 + (s1 - h1)) * size + t1 * size ≤ len
   pub whole : (((s0 - h0 + row) * H1 + (s1 - h1)) + t1) * size ≤ len
+  pub stride : H1 * size ≤ len
 
 row_fits : (size len row s0 s1 t0 t1 h0 h1 H0 H1 : ℕ) → 0 < size → len ≡ H0 * (H1 * 1) * size → h0 ≤ s0 → h1 ≤ s1 → s0 + t0 ≤ h0 + H0 → s1 + t1 ≤ h1 + H1 → row < t0
     → RowFits size len row s0 s1 t1 h0 h1 H0 H1
@@ -73,6 +92,8 @@ row_fits size len row s0 s1 t0 t1 h0 h1 H0 H1 positive long low0 low1 high0 high
     let one : H1 * 1 ≡ H1 = omega arith in
     let long : len ≡ H0 * H1 * size = long ∙ ap (λ n. H0 * n * size) one in
     let whole = mul-le-mul_right {m = a * H1 + (s1 - h1) + t1} {n = H0 * H1} size cell in
+    let line_one : H1 ≤ H0 * H1 = omega (arith, mul-le-mul_right {m = 1} {n = H0} H1 (omega arith)) in
+    let stride = mul-le-mul_right {m = H1} {n = H0 * H1} size line_one in
     record {
       above = omega arith;
       line = omega arith;
@@ -80,7 +101,14 @@ row_fits size len row s0 s1 t0 t1 h0 h1 H0 H1 positive long low0 low1 high0 high
       most = omega (arith, positive_size (H0 * H1) size positive);
       bytes = omega (arith, add-mul (a * H1 + (s1 - h1)) t1 size);
       whole = omega arith;
+      stride = omega arith;
     }
+
+-- a row begins so many strides after the first one
+place_is : (size a d row H1 : ℕ) → (a * H1 + d) * size + row * (H1 * size) ≡ ((a + row) * H1 + d) * size
+place_is size a d row H1 =
+    let sum : (a + row) * H1 + d ≡ a * H1 + d + row * H1 = omega (arith, add-mul a row H1) in
+    omega (arith, ap (λ n. n * size) sum, add-mul (a * H1 + d) (row * H1) size, mul_assoc row H1 size)
 
 module _ (size row h0 h1 H0 H1 s0 s1 t0 t1 : ℕ) (bytes old : List ℕ) (low : h0 ≤ s0) (low1 : h1 ≤ s1) (f : RowFits size (length bytes) row s0 s1 t1 h0 h1 H0 H1) where
   row_cells : let first = (s0 - h0 + row) * H1 + (s1 - h1) in
@@ -135,11 +163,16 @@ module _ (size row : ℕ) (held part : Box) (bytes : List ℕ) (positive : 0 < s
       (len ∙ ap (λ l. position_count l * size) (two_of held.shape (sym long ∙ n)))
       (inside.starts 0 (omega arith)) (inside.starts 1 (omega arith)) (inside.ends 0 (omega arith)) (inside.ends 1 (omega arith)) lt
 
-  pub from_is : (a b d : List ℕ) → a ≡ part.start → b ≡ held.start → d ≡ held.shape → ((slice_index a 0 - slice_index b 0 + row) * slice_index d 1 + (slice_index a 1 - slice_index b 1)) * size ≡ first * size
+  from_is : (a b d : List ℕ) → a ≡ part.start → b ≡ held.start → d ≡ held.shape → ((slice_index a 0 - slice_index b 0 + row) * slice_index d 1 + (slice_index a 1 - slice_index b 1)) * size ≡ first * size
   from_is a b d p q r =
       ap (λ l. ((slice_index l 0 - slice_index b 0 + row) * slice_index d 1 + (slice_index l 1 - slice_index b 1)) * size) p
       ∙ ap (λ l. ((slice_index part.start 0 - slice_index l 0 + row) * slice_index d 1 + (slice_index part.start 1 - slice_index l 1)) * size) q
       ∙ ap (λ l. ((slice_index part.start 0 - slice_index held.start 0 + row) * slice_index l 1 + (slice_index part.start 1 - slice_index held.start 1)) * size) r
+
+  -- the same, from where the first row begins
+  pub place_of : (a b d : List ℕ) → a ≡ part.start → b ≡ held.start → d ≡ held.shape
+      → ((slice_index a 0 - slice_index b 0) * slice_index d 1 + (slice_index a 1 - slice_index b 1)) * size + row * (slice_index d 1 * size) ≡ first * size
+  place_of a b d p q r = place_is size (slice_index a 0 - slice_index b 0) (slice_index a 1 - slice_index b 1) row (slice_index d 1) ∙ from_is a b d p q r
 
   pub row_added : (old new : List ℕ) (from l : ℕ) → from ≡ first * size → l ≡ slice_index part.shape 1 * size → new ≡ old ++ take (from + l - from) (drop from bytes) → AddsCells size held bytes (rows_of part row 1) old new
   row_added old new from l from_is l_is new_is =

@@ -10,7 +10,7 @@ use Rattle.std.proofs.Math.Seq.{drop-append_seam}
 use Rattle.zarrs_subset.specs.Pieces.{pieces}
 use Rattle.zarrs_array_bytes.proofs.Pieces.{length-flat_map_same, pieces-flat_map}
 use Rattle.zarrs_shard.specs.Steps.{given_if, all_present}
-use Rattle.zarrs_shard.proofs.Missing.{only_if_true, only_if_parts, some_is, all_some-cons}
+use Rattle.zarrs_shard.proofs.Missing.{given_if-true, given_if-parts, some_is, all_present-cons}
 use Rattle.zarrs_shard.specs.Shards.{absent, entry_bytes, entries, data_bytes, index_bytes, shard_bytes, written_shard, named_part, shard_parts}
 
 length-le8 : (n : ℕ) → length (to_le_bytes w64 n) ≡ 8
@@ -48,14 +48,14 @@ pub entry_present : (shard : List ℕ) (start end o l : ℕ) → start ≤ o →
 entry_present shard start end o l behind within small =
     entry_read shard start end o l (omega arith) (omega arith)
     ∙ ap (λ b. cond b (Some None) (given_if (nat_le start o && nat_le (o + l) end) (Some (Some (slice_range shard o (o + l)))))) (not_absent o l (omega arith))
-    ∙ only_if_true (nat_le start o && nat_le (o + l) end) _ (and_from (nat_le start o) (nat_le (o + l) end) (le-leb start o behind) (le-leb (o + l) end within))
+    ∙ given_if-true (nat_le start o && nat_le (o + l) end) _ (and_from (nat_le start o) (nat_le (o + l) end) (le-leb start o behind) (le-leb (o + l) end within))
 
 -- the subchunks that an index names
 parts_behind : (front : List ℕ) (parts : List (Option (List ℕ))) (rest : List ℕ) (start end : ℕ) → start ≤ length front → length front + length (data_bytes parts) ≤ end → end < 2 ^ 64 → all_present (map (named_part (front ++ (data_bytes parts ++ rest)) start end) (entries (length front) parts)) ≡ Some parts
 parts_behind front [] rest start end behind within small = refl
 parts_behind front (None ∷ parts) rest start end behind within small =
     let shard = front ++ (data_bytes parts ++ rest) in
-    all_some-cons (named_part shard start end (entry_bytes absent absent)) (map (named_part shard start end) (entries (length front) parts)) None parts
+    all_present-cons (named_part shard start end (entry_bytes absent absent)) (map (named_part shard start end) (entries (length front) parts)) None parts
     (entry_absent shard start end) (parts_behind front parts rest start end behind within small)
 parts_behind front (Some b ∷ parts) rest start end behind within small =
     let p = data_bytes parts in
@@ -72,7 +72,7 @@ parts_behind front (Some b ∷ parts) rest start end behind within small =
     ap (λ k. all_present (map (named_part shard start end) (entries k parts))) (sym m)
     ∙ ap (λ s. all_present (map (named_part s start end) (entries (length (front ++ b)) parts))) (sym same)
     ∙ parts_behind (front ++ b) parts rest start end (omega arith) (omega arith) small in
-    all_some-cons (named_part shard start end (entry_bytes o l)) (map (named_part shard start end) (entries (o + l) parts)) (Some b) parts
+    all_present-cons (named_part shard start end (entry_bytes o l)) (map (named_part shard start end) (entries (o + l) parts)) (Some b) parts
     (entry_present shard start end o l behind (omega arith) small ∙ ap (λ x. Some (Some x)) here) others
 
 length-entries : (o : ℕ) (parts : List (Option (List ℕ))) → length (entries o parts) ≡ length parts
@@ -107,7 +107,7 @@ shard_parts-shard_bytes false parts small =
     let end_is : length shard - n * 16 ≡ length body = omega arith in
     let cut : pieces 16 n (drop (length body) shard) ≡ entries 0 parts =
     ap (pieces 16 n) (drop-append_seam body index) ∙ cut_again 0 parts in
-    only_if_true (nat_le (n * 16) (length shard)) _ (le-leb (n * 16) (length shard) (omega arith))
+    given_if-true (nat_le (n * 16) (length shard)) _ (le-leb (n * 16) (length shard) (omega arith))
     ∙ ap (λ end. all_present (map (named_part shard 0 end) (pieces 16 n (drop end shard)))) end_is
     ∙ ap (λ l. all_present (map (named_part shard 0 (length body)) l)) cut
     ∙ parts_behind [] parts index 0 (length body) (omega arith) (omega arith) (omega arith)
@@ -121,7 +121,7 @@ shard_parts-shard_bytes true parts small =
     let cut : pieces 16 n (take (n * 16) shard) ≡ entries (n * 16) parts =
     ap (pieces 16 n) (take_at index body (n * 16) index_len) ∙ cut_again (n * 16) parts in
     let whole : shard ≡ index ++ (body ++ []) = ap (λ x. index ++ x) (sym (append-nil body)) in
-    only_if_true (nat_le (n * 16) (length shard)) _ (le-leb (n * 16) (length shard) (omega arith))
+    given_if-true (nat_le (n * 16) (length shard)) _ (le-leb (n * 16) (length shard) (omega arith))
     ∙ ap (λ l. all_present (map (named_part shard (n * 16) (length shard)) l)) cut
     ∙ ap (λ l. all_present (map (named_part shard (n * 16) (length shard)) (entries l parts))) (sym index_len)
     ∙ ap (λ x. all_present (map (named_part x (n * 16) (length shard)) (entries (length index) parts))) whole
@@ -129,6 +129,6 @@ shard_parts-shard_bytes true parts small =
 
 pub written_again : (at_start : Bool) (parts : List (Option (List ℕ))) (n : ℕ) (b : List ℕ) → length parts ≡ n → written_shard at_start parts ≡ Some b → (shard_bytes at_start parts ≡ b) × (shard_parts at_start n b ≡ Some parts)
 written_again at_start parts n b count made =
-    let w = only_if_parts (nat_lt (length (shard_bytes at_start parts)) (2 ^ 64)) (Some (shard_bytes at_start parts)) b made in
+    let w = given_if-parts (nat_lt (length (shard_bytes at_start parts)) (2 ^ 64)) (Some (shard_bytes at_start parts)) b made in
     let e = some_is w.1 in
     (e, ap (λ x. shard_parts at_start n x) (sym e) ∙ ap (λ k. shard_parts at_start k (shard_bytes at_start parts)) (sym count) ∙ shard_parts-shard_bytes at_start parts (ltb-true (length (shard_bytes at_start parts)) (2 ^ 64) w.0))

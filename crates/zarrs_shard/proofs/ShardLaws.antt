@@ -20,7 +20,7 @@ use Rattle.zarrs_metadata.specs.Extension.{◌>>=◌}
 use Rattle.zarrs_shard.specs.Steps.{given_if, all_present}
 use Rattle.zarrs_shard.specs.Subchunks.{is_cut_by, quotients, subchunk_count, subchunk_of, assembled}
 use Rattle.zarrs_shard.proofs.Cuts.{assembled_again, length-assembled, subchunk_len, subchunk_all}
-use Rattle.zarrs_shard.proofs.Missing.{some_is, bind_parts, only_if_parts, only_if_true, only_if_false, values_only_parts, length-all_some, all_some-at, all_some-from}
+use Rattle.zarrs_shard.proofs.Missing.{some_is, bind_parts, given_if-parts, given_if-true, given_if-false, values_only_parts, length-all_present, all_present-at, all_present-from}
 use Rattle.zarrs_shard.proofs.ShardBytes.{shard_parts-shard_bytes, written_again}
 
 fill_is : (f : Cell) (cs : List Cell) → is_all_fill f cs ≡ true → cs ≡ replicate (length cs) f
@@ -31,9 +31,9 @@ fill_is f (c ∷ cs) is =
 
 pub length-shard_parts : (at_start : Bool) (n : ℕ) (b : List ℕ) (parts : List (Option (List ℕ))) → shard_parts at_start n b ≡ Some parts → length parts ≡ n
 length-shard_parts at_start n b parts made =
-    let p = only_if_parts (nat_le (n * 16) (length b)) _ parts made in
+    let p = given_if-parts (nat_le (n * 16) (length b)) _ parts made in
     let read = named_part b (data_start at_start n) (data_end at_start n (length b)) in
-    length-all_some (map read (pieces 16 n (index_in at_start n b))) parts p.1
+    length-all_present (map read (pieces 16 n (index_in at_start n b))) parts p.1
     ∙ length-map (pieces 16 n (index_in at_start n b)) read ∙ length-pieces 16 n (index_in at_start n b)
 
 -- a compaction that is not the same bytes
@@ -77,7 +77,7 @@ module _ (m : SubchunkMeaning) (at_start empty : Bool) (k : Kind) (f : Cell) (s 
   part_count : (cs : List Cell) (parts : List (Option (List ℕ))) → parts_of m empty f s sub cs ≡ Some parts → length parts ≡ subchunk_count s sub
   part_count cs parts made =
       let T = λ (i : List ℕ). part_of m empty f (subchunk_of s sub cs i) in
-      length-all_some (made_of T (quotients s sub)) parts made ∙ length-made_of T (quotients s sub)
+      length-all_present (made_of T (quotients s sub)) parts made ∙ length-made_of T (quotients s sub)
 
   pub record IsWritten (cs : List Cell) (b : List ℕ) : Type 0 where
     pub fits : sharded_fits m s sub ≡ true
@@ -88,14 +88,14 @@ module _ (m : SubchunkMeaning) (at_start empty : Bool) (k : Kind) (f : Cell) (s 
 
   is_written : (cs : List Cell) (b : List ℕ) → sharded_encoded m at_start empty f s sub cs ≡ Some b → IsWritten cs b
   is_written cs b made =
-      let p = only_if_parts (sharded_fits m s sub) _ b made in
+      let p = given_if-parts (sharded_fits m s sub) _ b made in
       let q = bind_parts (parts_of m empty f s sub cs) (written_shard at_start) b p.1 in
       let w = written_again at_start q.0 (subchunk_count s sub) b (part_count cs q.0 q.1) q.2 in
       record { fits = p.0; parts = q.0; parts_are = q.1; written_is = q.2; read_is = w.1 }
 
   shard_values : (b : List ℕ) (cs : List Cell) → sharded_decoded m at_start k f s sub b ≡ Some cs → (length cs ≡ position_count s) × (are_values k cs ≡ true)
   shard_values b cs made =
-      let p = only_if_parts (sharded_fits m s sub) _ cs made in
+      let p = given_if-parts (sharded_fits m s sub) _ cs made in
       let q = bind_parts (shard_parts at_start (subchunk_count s sub) b) (cells_of_parts m k f s sub) cs p.1 in
       let r = bind_parts (all_present (map (cells_of_part m f sub) q.0)) (λ subchunks. values_only k (assembled s sub subchunks)) cs q.2 in
       let v = values_only_parts k (assembled s sub r.0) cs r.2 in
@@ -124,12 +124,12 @@ module _ (m : SubchunkMeaning) (at_start empty : Bool) (k : Kind) (f : Cell) (s 
         let T = λ (i : List ℕ). part_of m empty f (subchunk_of s sub cs i) in
         let count = part_count cs parts made in
         let mapped = length-map parts (cells_of_part m f sub) in
-        all_some-from (map (cells_of_part m f sub) parts) (made_of (subchunk_of s sub cs) g) (length-made_of (subchunk_of s sub cs) g ∙ sym count ∙ sym mapped)
+        all_present-from (map (cells_of_part m f sub) parts) (made_of (subchunk_of s sub cs) g) (length-made_of (subchunk_of s sub cs) g ∙ sym count ∙ sym mapped)
         (λ j d e lt.
         let below : j < position_count g = omega arith in
         let i = unravel g j in
         let in_grid = unravel_in g j below in
-        let here = all_some-at (made_of T g) parts j None None made (omega (arith, length-made_of T g)) in
+        let here = all_present-at (made_of T g) parts j None None made (omega (arith, length-made_of T g)) in
         get_or-map (cells_of_part m f sub) parts j None d (omega arith)
         ∙ part_again (subchunk_of s sub cs i) (get_or parts j None) (subchunk_all s sub cut cs len (λ c. is_value k c) values i in_grid) (subchunk_len s sub cut cs len i)
         (sym (get_or-made_of T g j None below) ∙ here)
@@ -139,11 +139,11 @@ module _ (m : SubchunkMeaning) (at_start empty : Bool) (k : Kind) (f : Cell) (s 
     shard_again cs b values len made =
         let w = is_written cs b made in
         let cut = (and_parts (is_cut_by s sub) m.fits w.fits).0 in
-        only_if_true (sharded_fits m s sub) _ w.fits
+        given_if-true (sharded_fits m s sub) _ w.fits
         ∙ ap (λ o. o >>= cells_of_parts m k f s sub) w.read_is
         ∙ ap (λ o. o >>= λ subchunks. values_only k (assembled s sub subchunks)) (cells_again cs w.parts cut values len w.parts_are)
         ∙ ap (values_only k) (assembled_again s sub cut cs len)
-        ∙ only_if_true (are_values k cs) _ values
+        ∙ given_if-true (are_values k cs) _ values
 
     pub shard-lawful : IsLawfulShard m at_start empty k f s sub
     shard-lawful = record {
@@ -151,19 +151,19 @@ module _ (m : SubchunkMeaning) (at_start empty : Bool) (k : Kind) (f : Cell) (s 
       decoded_len = λ b cs made. (shard_values b cs made).0;
       decoded_values = λ b cs made. (shard_values b cs made).1;
       compacted_same = λ b less made small.
-          let p = only_if_parts (is_cut_by s sub) _ (Some less) made in
+          let p = given_if-parts (is_cut_by s sub) _ (Some less) made in
           let w = is_compacted at_start (subchunk_count s sub) b less p.1 in
           ap (λ o. given_if (sharded_fits m s sub) (o >>= cells_of_parts m k f s sub)) (compacted_parts at_start (subchunk_count s sub) b less w small ∙ sym w.old_is);
       compacted_differs = λ b less made. λ same.
-          let p = only_if_parts (is_cut_by s sub) _ (Some less) made in
+          let p = given_if-parts (is_cut_by s sub) _ (Some less) made in
           let w = is_compacted at_start (subchunk_count s sub) b less p.1 in
           false≢true (sym w.differs ∙ (bytes_eq-Decides less b).1 same);
       encoded_compact = λ cs b made.
           let w = is_written cs b made in
           let cut = (and_parts (is_cut_by s sub) m.fits w.fits).0 in
-          only_if_true (is_cut_by s sub) _ cut
+          given_if-true (is_cut_by s sub) _ cut
           ∙ compaction_is at_start (subchunk_count s sub) b b w.parts w.read_is w.written_is
           ∙ ap (λ x. Some (cond x None (Some b))) ((bytes_eq-Decides b b).1 refl);
-      unfit = λ cs not. only_if_false (sharded_fits m s sub) _ not;
-      unfit_decoded = λ b not. only_if_false (sharded_fits m s sub) _ not;
+      unfit = λ cs not. given_if-false (sharded_fits m s sub) _ not;
+      unfit_decoded = λ b not. given_if-false (sharded_fits m s sub) _ not;
     }

@@ -13,7 +13,7 @@ use Rattle.std.proofs.lemmas.List.FromFn.{get_or-map-range_with_len}
 use Rattle.zarrs_subset.specs.Pieces.{pieces}
 use Rattle.zarrs_array_bytes.proofs.Pieces.{pieces_more, length-pieces}
 use Rattle.zarrs_shard.specs.Steps.{all_present}
-use Rattle.zarrs_shard.proofs.Missing.{all_some-more, all_some-none}
+use Rattle.zarrs_shard.proofs.Missing.{all_present-more, all_present-none}
 use Rattle.zarrs_shard.specs.declared.shard_index.SubchunkRange.{SubchunkRange}
 use Rattle.zarrs_shard.specs.Shards.{entry_bytes, named_part}
 use Rattle.zarrs_shard.specs.ShardIndex.{range_entry, range_part, IsRangeWithin}
@@ -55,7 +55,7 @@ read_more n start end index entry ranges range is same here inside again = recor
       let e = slice_range index (n * 16) (n * 16 + 16) in
       ap (λ l. all_present (map read l)) (pieces_more 16 n index)
       ∙ ap all_present (map-append read (pieces 16 n index) (e ∷ []))
-      ∙ all_some-more (map read (pieces 16 n index)) (map (range_part shard) ranges) (read e) (range_part shard range) (is.each shard) (ap read (sym same) ∙ here shard)
+      ∙ all_present-more (map read (pieces 16 n index)) (map (range_part shard) ranges) (read e) (range_part shard range) (is.each shard) (ap read (sym same) ∙ here shard)
       ∙ ap Some (sym (map-append (range_part shard) ranges (range ∷ [])));
   within = All-append (IsRangeWithin end) ranges (range ∷ []) is.within (λ k d lt. all_one end range inside k d lt);
   entries_are =
@@ -75,7 +75,7 @@ pub read_none_at : (n k start end : ℕ) (shard index entry : List ℕ) → k < 
 read_none_at n k start end shard index entry lt same missing =
     let read = named_part shard start end in
     let len = length-pieces 16 n index in
-    all_some-none (map read (pieces 16 n index)) k None (omega (arith, length-map (pieces 16 n index) read))
+    all_present-none (map read (pieces 16 n index)) k None (omega (arith, length-map (pieces 16 n index) read))
     (get_or-map read (pieces 16 n index) k [] None (omega arith)
     ∙ ap read (get_or-map-range_with_len (λ j. slice_range index (j * 16) (j * 16 + 16)) 0 n k k [] lt (omega arith) ∙ sym same)
     ∙ missing)

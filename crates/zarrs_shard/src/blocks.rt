@@ -93,42 +93,21 @@ fn append_rows(
     ensures refused { IfErr result
         (λ _. (more : List ℕ) × (made.new.items ≡ made.old.items ++ more)) }
 {
-    let rows = shape[0];
-    let mut row = 0;
-    while row < rows {
-        append_row(made, bytes, size, held_box, corner, shape, row)?;
-        row += 1;
+    let rows = shape[0] as usize;
+    // A row of an array without cells may have more bytes than a `usize` counts.
+    if rows == 0 {
+        return Ok(());
     }
-    Ok(())
-}
-
-/// Puts the cells of a row of the box behind the bytes: they lie together in the array.
-#[inline(always)]
-fn append_row(
-    made: &mut Vec<u8>,
-    bytes: &[u8],
-    size: usize,
-    held_box: &ArraySubset,
-    corner: &[u64],
-    shape: &[u64],
-    row: u64,
-) -> Result<(), AllocError>
-    requires positive { 0 < size }
-    requires held_len { length bytes.now ≡ position_count (box_of held_box.now).shape * size }
-    requires long { IsLong (box_from corner.now shape.now) }
-    requires inside { LiesInBox (box_from corner.now shape.now) (box_of held_box.now) }
-    requires plane { length corner.now ≡ 2 }
-    requires row { row < slice_index shape.now 0 }
-    ensures added { IfOk result (λ _. AddsCells size (box_of held_box.now) bytes.now
-        (rows_of (box_from corner.now shape.now) row 1) made.old.items made.new.items) }
-    ensures refused { IfErr result (λ _. made.new.items ≡ made.old.items) }
-{
     let held_start = held_box.start();
-    let above = corner[0] - held_start[0] + row;
-    let cell = above * held_box.shape()[1] + (corner[1] - held_start[1]);
-    let from = cell as usize * size;
+    let width = held_box.shape()[1];
+    let cell = (corner[0] - held_start[0]) * width + (corner[1] - held_start[1]);
+    let first = cell as usize * size;
+    let stride = width as usize * size;
     let len = shape[1] as usize * size;
-    made.extend_from_slice(&bytes[from..from + len])?;
+    for row in 0..rows {
+        let from = first + row * stride;
+        made.extend_from_slice(&bytes[from..from + len])?;
+    }
     Ok(())
 }
 

@@ -1,4 +1,4 @@
-use Rattle.std.proofs.Common.{◌-◌, ◌≤◌}
+use Rattle.std.proofs.Common.{◌≤◌}
 use Rattle.zarrs_subset.specs.Regions.{box_from, box_of}
 use Rattle.zarrs_shard.specs.Blocks.{rows_of, AddsCells}
 use Rattle.zarrs_shard.proofs.blocks.append_rows.Given as goal
@@ -6,6 +6,3 @@ use Rattle.zarrs_shard.proofs.blocks.append_rows.Given as goal
 abbrev pub invariant-loop-row : goal.invariant-loop-row
 invariant-loop-row l =
     (l.row ≤ l.rows) × AddsCells l.size (box_of l.held_box) l.bytes (rows_of (box_from l.corner l.shape) 0 l.row) l.initial.made.items l.made.items
-
-abbrev pub decreases-loop-row : goal.decreases-loop-row
-decreases-loop-row l = l.rows - l.row
