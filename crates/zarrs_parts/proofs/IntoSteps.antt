@@ -19,7 +19,7 @@ use Rattle.zarrs_shard.specs.SubchunkData.{chunk_shape, subchunk_shape}
 use Rattle.zarrs_shard.specs.Subchunks.{assembled, corner, is_cut_by, quotients, remainders, subchunk_box, subchunk_count}
 use Rattle.zarrs_shard.proofs.Cuts.{position_divided}
 use Rattle.zarrs_shard.proofs.Grids.{corner_long}
-use Rattle.zarrs_shard.proofs.Missing.{all_some-cons, only_if_true, some_is}
+use Rattle.zarrs_shard.proofs.Missing.{all_present-cons, given_if-true, some_is}
 use Rattle.zarrs_shard.proofs.ShardLaws.{length-shard_parts}
 use Rattle.zarrs_shard.proofs.SubchunkBoxes.{lies_in_chunk, long_corner, only_own}
 use Rattle.zarrs_subset.specs.Boxes.{position_count, InShape, place, unravel, offset_by, offset_from, zip_with}
@@ -249,7 +249,7 @@ module _ (parent : List ℕ) (region : Box) (sub : List ℕ) (cut : is_cut_by re
       all_there (o ∷ list) each =
           let first = each 0 (omega arith) in
           let rest = all_there list (λ j lt. each (suc j) (omega arith)) in
-          (first.0 ∷ rest.0, all_some-cons (cells_of_part m fill sub o) (map (cells_of_part m fill sub) list) first.0 rest.0 first.1 rest.1)
+          (first.0 ∷ rest.0, all_present-cons (cells_of_part m fill sub o) (map (cells_of_part m fill sub) list) first.0 rest.0 first.1 rest.1)
 
       filled : (n : ℕ) → are_values k (replicate n fill) ≡ true
       filled zero = refl
@@ -275,7 +275,7 @@ module _ (parent : List ℕ) (region : Box) (sub : List ℕ) (cut : is_cut_by re
           let v = part_values (get_or parts j None) (get_or all j []) (part_at m fill sub parts all j are j_lt) in
           ap (is_value k) (get_or-made_of F s i d below)
           ∙ AllPass-from_list_all (λ c. is_value k c) (get_or all j []) v.0 (place sub (remainders x sub)) none (omega (arith, v.1, place_below sub (remainders x sub) q.in_part))) in
-          only_if_true (sharded_fits m s sub) (shard_parts at_start (subchunk_count s sub) encoded >>= cells_of_parts m k fill s sub) (and_from (is_cut_by s sub) m.fits cut fits)
+          given_if-true (sharded_fits m s sub) (shard_parts at_start (subchunk_count s sub) encoded >>= cells_of_parts m k fill s sub) (and_from (is_cut_by s sub) m.fits cut fits)
           ∙ ap (λ o. o >>= cells_of_parts m k fill s sub) parts_are
           ∙ ap (λ o. o >>= λ subchunks. values_only k (assembled s sub subchunks)) are
           ∙ ap (λ b. cond b (Some (assembled s sub all)) None) values

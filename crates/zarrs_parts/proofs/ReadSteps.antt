@@ -11,7 +11,7 @@ use Rattle.zarrs_shard.specs.Steps.{all_present}
 use Rattle.zarrs_shard.specs.SubchunkData.{chunk_shape, subchunk_shape}
 use Rattle.zarrs_shard.specs.Subchunks.{corner, is_cut_by, quotients, subchunk_box, subchunk_count}
 use Rattle.zarrs_shard.proofs.Cuts.{position_divided}
-use Rattle.zarrs_shard.proofs.Missing.{only_if_parts}
+use Rattle.zarrs_shard.proofs.Missing.{given_if-parts}
 use Rattle.zarrs_shard.proofs.ShardLaws.{length-shard_parts}
 use Rattle.zarrs_source.specs.Sources.{IsWindow, MayRead, window_bytes}
 use Rattle.zarrs_source.specs.declared.source.Window.{Window}
@@ -33,7 +33,7 @@ use Rattle.zarrs_parts.proofs.SubchunkSteps.{own_holds, skip_more}
 pub index_fits : (at_start : Bool) (count : ℕ) (encoded : List ℕ) (parts : List (Option (List ℕ))) → shard_parts at_start count encoded ≡ Some parts → count * 16 ≤ length encoded
 index_fits at_start count encoded parts are =
     leb-true (count * 16) (length encoded)
-    (only_if_parts (nat_le (count * 16) (length encoded))
+    (given_if-parts (nat_le (count * 16) (length encoded))
     (all_present (map (named_part encoded (data_start at_start count) (data_end at_start count (length encoded))) (pieces 16 count (index_in at_start count encoded)))) parts are).0
 
 module _ (k : Kind) (decoded : List ℕ → Option (List Cell)) (fill : Cell) (s sub : List ℕ) (part : Box) (parts : List (Option (List ℕ))) (i : List ℕ) (held : ArrayData)

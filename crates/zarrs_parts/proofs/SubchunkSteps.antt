@@ -23,7 +23,7 @@ use Rattle.zarrs_shard.specs.Shards.{data_end, data_start, index_in, named_part,
 use Rattle.zarrs_shard.specs.Steps.{all_present, given_if}
 use Rattle.zarrs_shard.specs.Subchunks.{assembled, corner, is_cut_by, quotients, remainders, subchunk_box, subchunk_count}
 use Rattle.zarrs_shard.proofs.Cuts.{position_divided, length-assembled}
-use Rattle.zarrs_shard.proofs.Missing.{all_some-at, bind_parts, only_if_parts, values_only_parts}
+use Rattle.zarrs_shard.proofs.Missing.{all_present-at, bind_parts, given_if-parts, values_only_parts}
 use Rattle.zarrs_shard.proofs.SubchunkBoxes.{holds_own, long_corner, only_own, place_in_chunk}
 use Rattle.zarrs_subset.specs.Boxes.{position_count, InShape, place, unravel, offset_by, offset_from, zip_with}
 use Rattle.zarrs_subset.specs.Regions.{Box, Holds, IsLong, LiesInShape, box_at_origin, box_from, cell_in, in_box, place_in, positions, seen_from}
@@ -249,7 +249,7 @@ pub record IsAssembled (m : SubchunkMeaning) (fill : Cell) (s sub : List ℕ) (p
 shard_assembled : (m : SubchunkMeaning) (at_start : Bool) (k : Kind) (fill : Cell) (s sub encoded : List ℕ) (parts : List (Option (List ℕ))) (whole : List Cell)
     → shard_parts at_start (subchunk_count s sub) encoded ≡ Some parts → sharded_decoded m at_start k fill s sub encoded ≡ Some whole → IsAssembled m fill s sub parts whole
 shard_assembled m at_start k fill s sub encoded parts whole parts_are decoded =
-    let p = only_if_parts (sharded_fits m s sub) (shard_parts at_start (subchunk_count s sub) encoded >>= cells_of_parts m k fill s sub) whole decoded in
+    let p = given_if-parts (sharded_fits m s sub) (shard_parts at_start (subchunk_count s sub) encoded >>= cells_of_parts m k fill s sub) whole decoded in
     let q = bind_parts (shard_parts at_start (subchunk_count s sub) encoded) (cells_of_parts m k fill s sub) whole p.1 in
     let same : q.0 ≡ parts = some_is (sym q.1 ∙ parts_are) in
     let r = bind_parts (all_present (map (cells_of_part m fill sub) q.0)) (λ subchunks. values_only k (assembled s sub subchunks)) whole q.2 in
@@ -264,7 +264,7 @@ pub part_at : (m : SubchunkMeaning) (fill : Cell) (sub : List ℕ) (parts : List
     → j < length parts → cells_of_part m fill sub (get_or parts j None) ≡ Some (get_or subchunks j [])
 part_at m fill sub parts subchunks j read lt =
     sym (get_or-map (cells_of_part m fill sub) parts j None None lt)
-    ∙ all_some-at (map (cells_of_part m fill sub) parts) subchunks j None [] read (omega (arith, length-map parts (cells_of_part m fill sub)))
+    ∙ all_present-at (map (cells_of_part m fill sub) parts) subchunks j None [] read (omega (arith, length-map parts (cells_of_part m fill sub)))
 
 module _ (k : Kind) (decoded : List ℕ → Option (List Cell)) (fill : Cell) (s sub : List ℕ) where
   module _ (m : SubchunkMeaning) (at_start : Bool) (encoded : List ℕ) (parts : List (Option (List ℕ))) (decodes_as : DecodesAs m decoded)

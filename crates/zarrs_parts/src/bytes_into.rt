@@ -1,6 +1,7 @@
 //! Parts of chunks under the codec `bytes` that are decoded into a box that a caller lends.
 ghost use Rattle.std.specs.Prelude.{◌≡◌, ℕ, ◌+◌, ◌*◌, ◌<◌, ◌≤◌, ◌^◌, false, true, List, length};
-ghost use Rattle.std.specs.Prelude.{IfErr, IsTrue, OnOk, reverse, slice_index, slice_range};
+ghost use Rattle.std.specs.Prelude.{IfErr, IsTrue, OnOk, map, reverse, slice_index, slice_range};
+ghost use Rattle.std.specs.List.{flat_map};
 ghost use Rattle.zarrs_codec_leaf.specs.Bytes.{bytes_meaning_of, endian_of, reverses};
 ghost use Rattle.zarrs_source.specs.Sources.{IsWindow, MayRead, window_bytes};
 ghost use Rattle.zarrs_subset.specs.Boxes.{BoxFits, position_count};
@@ -31,8 +32,8 @@ const MOST_DIMENSIONS: usize = 64;
 /// Decodes a part of a chunk, which has the shape of the target's box, into the box. The chunk's bytes are those of a
 /// window. Every byte outside the box stays; after a refusal the inside is open.
 ///
-/// Numbers and raw cells that the source lends go straight to their places, in at most 64 dimensions. Otherwise the cells are read as
-/// `partial_decode_bytes` reads them, and then written.
+/// Numbers and raw cells that the source lends go straight to their places, in at most 64 dimensions. Otherwise the
+/// cells are read as `partial_decode_bytes` reads them, and then written.
 ///
 /// # Errors
 /// Those of `partial_decode_bytes`.
@@ -69,59 +70,13 @@ pub fn partial_decode_bytes_into<B: ByteSource>(
         (position_count shape.now) (window_bytes window (B.bytes source.now))) false 0
         (B.refuses source.now)) }
 {
-    if !has_rows(part) {
-        return write_listed(codec, alloc, source, window, part, data_type, shape, target);
-    }
     if let Some(bytes) = source.lent() {
-        if are_cells(codec, window.len, data_type, shape) {
-            put_part(
-                codec,
-                window_of(window, bytes),
-                shape,
-                part,
-                data_type,
-                target,
-            );
+        if has_rows(part) && are_cells(codec, window.len, data_type, shape) {
+            let array = window_of(window, bytes);
+            put_part(codec, array, shape, part, data_type, target);
             return Ok(());
         }
     }
-    write_listed(codec, alloc, source, window, part, data_type, shape, target)
-}
-
-/// The same, of the cells of the part as a list of their own.
-fn write_listed<B: ByteSource>(
-    codec: &BytesCodec,
-    alloc: Global,
-    source: &B,
-    window: Window,
-    part: &ArraySubset,
-    data_type: &DataType,
-    shape: &[u64],
-    target: &mut ArrayBytesDecodeIntoTarget<'_, '_, '_>,
-) -> Result<(), PartError>
-    requires size { position_count shape.now * cell_size (kind data_type.now) < 2 ^ 64 }
-    requires part { LiesInShape (box_of part.now) shape.now }
-    requires window { IsWindow window (B.bytes source.now) }
-    requires may_read { MayRead (B.may_read source.now) window
-        (cell_places (kind data_type.now) shape.now (box_of part.now)
-        (window_bytes window (B.bytes source.now))) }
-    requires target { IsTarget target.old }
-    requires takes { takes_type target.old.cell_size target.old.depth (kind data_type.now) ≡ true }
-    requires same_shape { (target_box target.old).shape ≡ (box_of part.now).shape }
-    ensures target { IsTarget target.new }
-    ensures same_bytes { target.new.bytes.ghost_name ≡ target.old.bytes.ghost_name }
-    ensures same_masks { target.new.masks.ghost_name ≡ target.old.masks.ghost_name }
-    ensures same_box { SameBox target.old target.new }
-    ensures cells { OnOk result (DecodesPartAt (kind data_type.now) shape.now (box_of part.now)
-        ((bytes_meaning_of (endian_of codec.now)).decoded (kind data_type.now)
-        (position_count shape.now) (window_bytes window (B.bytes source.now)))
-        (parent_box target.old) (target_box target.old) (data_of_target target.new)) }
-    ensures outside { StaysOutside target.old target.new }
-    ensures refused { IfErr result (RefusesPartDecoding
-        ((bytes_meaning_of (endian_of codec.now)).decoded (kind data_type.now)
-        (position_count shape.now) (window_bytes window (B.bytes source.now))) false 0
-        (B.refuses source.now)) }
-{
     let cells = partial_decode_bytes(codec, alloc, source, window, part, data_type, shape)?;
     target.write_cells(alloc, &cells)?;
     Ok(())
@@ -130,7 +85,8 @@ fn write_listed<B: ByteSource>(
 /// Decodes a chunk under the codec `bytes`, which has the shape of the target's box, into the box. Every byte outside the
 /// box stays; after a refusal the inside is open.
 ///
-/// Numbers and raw cells go straight to their places, in at most 64 dimensions. Otherwise the cells are decoded, and then written.
+/// Numbers and raw cells go straight to their places, in at most 64 dimensions. Otherwise the cells are decoded, and then
+/// written.
 ///
 /// # Errors
 /// `DoesNotFit` if the codec does not take the type, or if the bytes are not as many values of it. `OutOfMemory` may come
@@ -158,46 +114,17 @@ pub fn decode_bytes_into(
         (position_count (target_box target.old).shape) encoded.now)) }
 {
     let region = target.region;
-    if !has_rows(region) {
-        return write_decoded(codec, alloc, encoded, data_type, target);
-    }
     let shape = region.shape();
-    if are_cells(codec, encoded.len() as u64, data_type, shape) {
+    if has_rows(region) && are_cells(codec, encoded.len() as u64, data_type, shape) {
         let whole = ArraySubset::new_with_shape(alloc, Vec::from_slice(alloc, shape)?)?;
         put_part(codec, encoded, shape, &whole, data_type, target);
         return Ok(());
     }
-    write_decoded(codec, alloc, encoded, data_type, target)
-}
-
-/// The same, of the cells of the chunk as a list of their own.
-fn write_decoded(
-    codec: &BytesCodec,
-    alloc: Global,
-    encoded: &[u8],
-    data_type: &DataType,
-    target: &mut ArrayBytesDecodeIntoTarget<'_, '_, '_>,
-) -> Result<(), CodecError>
-    requires target { IsTarget target.old }
-    requires takes { takes_type target.old.cell_size target.old.depth (kind data_type.now) ≡ true }
-    ensures target { IsTarget target.new }
-    ensures same_bytes { target.new.bytes.ghost_name ≡ target.old.bytes.ghost_name }
-    ensures same_masks { target.new.masks.ghost_name ≡ target.old.masks.ghost_name }
-    ensures same_box { SameBox target.old target.new }
-    ensures cells { OnOk result (DecodesInto (kind data_type.now) (parent_box target.old)
-        (target_box target.old) ((bytes_meaning_of (endian_of codec.now)).decoded
-        (kind data_type.now) (position_count (target_box target.old).shape) encoded.now)
-        (data_of_target target.new)) }
-    ensures outside { StaysOutside target.old target.new }
-    ensures refused { IfErr result (RefusesIntoDecoding
-        ((bytes_meaning_of (endian_of codec.now)).decoded (kind data_type.now)
-        (position_count (target_box target.old).shape) encoded.now)) }
-{
-    let Some(count) = element_count(target.region.shape()) else {
+    let Some(count) = element_count(shape) else {
         unreachable!()
     };
-    let whole = codec.decode(alloc, encoded, data_type, count)?;
-    Ok(write_whole(alloc, &whole, data_type, target)?)
+    let cells = codec.decode(alloc, encoded, data_type, count)?;
+    Ok(write_whole(alloc, &cells, data_type, target)?)
 }
 
 /// Puts the cells of a part of an array of this shape, whose bytes are in the codec's order, into the target's box. Every
@@ -371,6 +298,49 @@ impl Turning<8> for Turned {
     }
 }
 
+/// So many cells are turned at a time: the compiler makes vector code of it.
+const GROUP: usize = 16;
+
+/// The cells of a group, the bytes of each in reverse.
+#[inline(always)]
+fn turned_group<T: Turning<N>, const N: usize>(cells: &[[u8; N]; GROUP]) -> [[u8; N]; GROUP]
+    ensures { result ≡ map reverse cells.now }
+{
+    let mut turned = [[0; N]; GROUP];
+    for index in 0..GROUP {
+        turned[index] = T::turned(&cells[index]);
+    }
+    turned
+}
+
+/// Puts the cells of groups into `target`, the bytes of each in reverse.
+fn turn_groups<T: Turning<N>, const N: usize>(groups: &[[[u8; N]; GROUP]], target: &mut [u8])
+    requires some { 0 < N }
+    requires small { N < 9 }
+    requires target_len { length target.old ≡ length groups.now * (16 * N) }
+    ensures { target.new ≡ flat_map (flat_map reverse) groups.now }
+{
+    let len = GROUP * N;
+    for index in 0..groups.len() {
+        let at = index * len;
+        let turned = turned_group::<T, N>(&groups[index]);
+        target[at..at + len].copy_from_slice(turned.as_flattened());
+    }
+}
+
+/// Puts cells into `target`, the bytes of each in reverse.
+fn turn_cells<T: Turning<N>, const N: usize>(cells: &[[u8; N]], target: &mut [u8])
+    requires some { 0 < N }
+    requires small { N < 9 }
+    requires target_len { length target.old ≡ length cells.now * N }
+    ensures { target.new ≡ flat_map reverse cells.now }
+{
+    for index in 0..cells.len() {
+        let at = index * N;
+        target[at..at + N].copy_from_slice(&T::turned(&cells[index]));
+    }
+}
+
 /// Puts `count` cells into `target`, the bytes of each in reverse.
 fn turn_run<T: Turning<N>, const N: usize>(source: &[u8], target: &mut [u8], count: usize)
     requires some { 0 < N }
@@ -380,10 +350,10 @@ fn turn_run<T: Turning<N>, const N: usize>(source: &[u8], target: &mut [u8], cou
     ensures { (turned : List ℕ) → IsTurned N source.now turned → target.new ≡ turned }
 {
     let (cells, _) = source.as_chunks::<N>();
-    for index in 0..count {
-        let at = index * N;
-        target[at..at + N].copy_from_slice(&T::turned(&cells[index]));
-    }
+    let (groups, rest) = cells.as_chunks::<GROUP>();
+    let end = groups.len() * GROUP * N;
+    turn_groups::<T, N>(groups, &mut target[..end]);
+    turn_cells::<T, N>(rest, &mut target[end..]);
 }
 
 /// Where the first block that a box reaches begins in an array of `len` bytes, and how long a block is: what one index

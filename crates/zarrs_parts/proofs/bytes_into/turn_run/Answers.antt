@@ -1,31 +1,33 @@
-use Rattle.std.proofs.Common.{◌≡◌, ◌+◌, ◌*◌, ◌-◌, ◌/◌, ◌<◌, ◌≤◌, ℕ, [], length, get_or, reverse, refl, ap, sym, subst, ◌∙◌, arith}
+use Rattle.std.proofs.Common.{◌≡◌, ◌*◌, ◌/◌, ◌%◌, ◌-◌, ◌++◌, length, drop, reverse, ap, ◌∙◌, arith}
+use Rattle.std.specs.List.{flat_map}
+use Rattle.std.specs.Simd.{first_chunks}
+use Rattle.std.proofs.lemmas.List.{length-take-le}
 use Rattle.std.proofs.Math.Nat.{mul-div_cancel}
-use Rattle.std.proofs.lemmas.List.{get_or_default}
-use borrow.Rule.Slice.PartMut.{put_mid}
-use Rattle.zarrs_subset.specs.Pieces.{piece_at}
-use Rattle.zarrs_subset.proofs.Kernel.{cell_ends, length_part}
-use Rattle.zarrs_parts.proofs.Turns.{chunk_at, put_more, turned_once}
+use Rattle.zarrs_parts.proofs.Turns.{part_end, put_behind, rest_len, turned_all}
 use Rattle.zarrs_parts.proofs.bytes_into.turn_run.Goals as goal
 
-pub loop-index-preserved : goal.loop-index-preserved
-loop-index-preserved g c =
+pub turn_cells-requires : goal.turn_cells-requires
+turn_cells-requires g c =
     let N = g.row.N in
-    let i = c.loop-index.index in
-    let source = c.args.source.now in
-    let cells = c.as_chunks.result.0.now in
-    let count : length source / N ≡ c.args.count = ap (λ n. n / N) c.requires.source_len ∙ mul-div_cancel c.args.count c.requires.some in
-    let cells_len : length cells ≡ c.args.count = c.as_chunks.ensures.front_len ∙ count in
-    let item : c.index-cells-index.result ≡ get_or cells i [] = c.index-cells-index.is ∙ get_or_default cells i c.index-cells-index.result [] (omega arith) in
-    let at : get_or cells i [] ≡ piece_at N source i = ap (λ l. get_or l i []) c.as_chunks.ensures.front ∙ chunk_at N (length source / N) i source (omega arith) in
-    let cell = c.copy_from_slice.new.self in
-    let is : cell ≡ reverse (piece_at N source i) = c.copy_from_slice.ensures.after ∙ c.turned.ensures ∙ ap reverse (item ∙ at) in
-    let width : i * N + N - i * N ≡ N = omega arith in
-    let room : i * N + N ≤ length c.loop-index.target = cell_ends N i c.args.count (length c.loop-index.target) (omega arith) (omega arith) in
-    subst (λ n. (j : ℕ) → j < i + 1 → piece_at N (put_mid (i * N) n c.loop-index.target cell) j ≡ reverse (piece_at N source j)) (sym width)
-    (put_more N c.args.count i (i * N) source c.loop-index.target cell (omega arith) (omega arith) refl (c.copy_from_slice.ensures.len ∙ length_part (i * N) N c.loop-index.target room) is c.loop-index.invariant)
+    let k = length c.as_chunks-2.result.0.now * 16 * N in
+    let old = c.args.target.now in
+    let front = c.turn_groups.new.target in
+    let count : length c.as_chunks.result.0.now ≡ c.args.count = c.as_chunks.ensures.front_len ∙ ap (λ n. n / N) c.requires.source_len ∙ mul-div_cancel c.args.count c.requires.some in
+    let rest = rest_len N c.args.count (length c.as_chunks-2.result.0.now) (length c.as_chunks-2.result.1.now) k 16
+    (c.as_chunks-2.ensures.front_len ∙ ap (λ n. n / 16) count) (c.as_chunks-2.ensures.back_len ∙ ap (λ n. n % 16) count) (omega arith) in
+    let len : length front ≡ k = c.turn_groups.auto.target ∙ length-take-le k old (omega (arith, rest.0, c.requires.target_len)) in
+    (omega (arith, c.requires.small), (c.requires.some, (c.requires.small, part_end k front old len (omega (arith, rest.0, c.requires.target_len)) ∙ ap (λ n. n - k) c.requires.target_len ∙ rest.1)))
 
 pub returns : goal.returns
 returns g c = λ turned is.
-    let all : c.loop-index.index ≡ c.args.count = omega arith in
-    turned_once g.row.N c.args.count c.args.source.now turned c.loop-index.target c.requires.source_len is (omega arith)
-    (λ i lt. c.loop-index.invariant i (omega arith))
+    let N = g.row.N in
+    let k = length c.as_chunks-2.result.0.now * 16 * N in
+    let front = c.turn_groups.new.target in
+    let count : length c.as_chunks.result.0.now ≡ c.args.count = c.as_chunks.ensures.front_len ∙ ap (λ n. n / N) c.requires.source_len ∙ mul-div_cancel c.args.count c.requires.some in
+    let rest = rest_len N c.args.count (length c.as_chunks-2.result.0.now) (length c.as_chunks-2.result.1.now) k 16
+    (c.as_chunks-2.ensures.front_len ∙ ap (λ n. n / 16) count) (c.as_chunks-2.ensures.back_len ∙ ap (λ n. n % 16) count) (omega arith) in
+    let len : length front ≡ k = c.turn_groups.auto.target ∙ length-take-le k c.args.target.now (omega (arith, rest.0, c.requires.target_len)) in
+    let cut = c.as_chunks.ensures.front ∙ ap (λ n. first_chunks N n c.args.source.now) (ap (λ n. n / N) c.requires.source_len ∙ mul-div_cancel c.args.count c.requires.some) in
+    turned_all N c.args.count 16 (length c.as_chunks.result.0.now / 16) c.args.source.now turned c.as_chunks.result.0.now c.as_chunks-2.result.0.now c.as_chunks-2.result.1.now _ c.requires.some c.requires.source_len is
+    cut c.as_chunks-2.ensures.front c.as_chunks-2.ensures.back
+    (put_behind k front (drop k c.args.target.now) c.turn_cells.new.target len ∙ ap (λ l. l ++ c.turn_cells.new.target) c.turn_groups.ensures ∙ ap (λ l. flat_map (flat_map reverse) c.as_chunks-2.result.0.now ++ l) c.turn_cells.ensures)
