@@ -14,7 +14,7 @@ use Rattle.zarrs_codec_leaf.specs.declared.error.CodecError.{CodecError}
 use Rattle.zarrs_codec_leaf.specs.declared.error.CodecError.TheVariants as error
 use Rattle.zarrs_chain.specs.Chain.{ChainMeaning, IsLawfulChain, chunk_encoding}
 use Rattle.zarrs_chain.specs.Refusals.{RefusesChunkEncoding, RefusesChunkDecoding}
-use Rattle.zarrs_shard.proofs.Missing.{some_is, only_if_parts}
+use Rattle.zarrs_shard.proofs.Missing.{some_is, given_if-parts}
 use Rattle.zarrs_codec.specs.Through.{through}
 
 -- data of a chunk that was decoded has its cells
@@ -75,7 +75,7 @@ pub record IsBehind (a : ArrayMeaning) (m : ChainMeaning) (empty : Bool) (k : Ki
 pub is_behind : (a : ArrayMeaning) (m : ChainMeaning) → IsLawfulArray a → (empty : Bool) (k : Kind) (f : Cell) (s inner : List ℕ) (d e : ArrayData) → encoded_shape a s ≡ Some inner → HasCells k d (position_count s)
     → IfSome (cells k d) (λ cs. cells k e ≡ Some (a.forward s cs)) → IsBehind a m empty k f s inner d e
 is_behind a m law empty k f s inner d e shape has made =
-    let p = only_if_parts (a.fits s) (Some (a.shape s)) inner shape in
+    let p = given_if-parts (a.fits s) (Some (a.shape s)) inner shape in
     let is = some_is p.1 in record {
       has = subst (λ x. HasCells k e (position_count x)) is (has-behind a m k s p.0 law d e has made);
       encoding = encoding-behind a m k s p.0 law empty f d e has made ∙ ap (λ x. chunk_encoding m empty k f x e) is;
@@ -85,10 +85,10 @@ is_behind a m law empty k f s inner d e shape has made =
 -- what is said of bytes and of the array that the codecs make, of the shape `inner`
 module _ (a : ArrayMeaning) (m : ChainMeaning) (array_law : IsLawfulArray a) (k : Kind) (f : Cell) (s inner b : List ℕ) (shape : encoded_shape a s ≡ Some inner) where
   fit : a.fits s ≡ true
-  fit = (only_if_parts (a.fits s) (Some (a.shape s)) inner shape).0
+  fit = (given_if-parts (a.fits s) (Some (a.shape s)) inner shape).0
 
   inner_is : a.shape s ≡ inner
-  inner_is = some_is (only_if_parts (a.fits s) (Some (a.shape s)) inner shape).1
+  inner_is = some_is (given_if-parts (a.fits s) (Some (a.shape s)) inner shape).1
 
   pub count_behind : position_count inner ≡ position_count s
   count_behind = ap position_count (sym inner_is) ∙ array_law.count s fit

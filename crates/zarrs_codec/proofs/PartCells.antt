@@ -24,7 +24,7 @@ use Rattle.zarrs_shard.specs.Subchunks.{is_cut_by, subchunk_count, assembled}
 use Rattle.zarrs_shard.proofs.Filling.{filled_start, filled_whole, leave_next, put_next}
 use Rattle.zarrs_shard.proofs.ShardLaws.{length-shard_parts}
 use Rattle.zarrs_shard.proofs.Sizes.{part_large}
-use Rattle.zarrs_shard.proofs.Missing.{only_if_true, all_some-more, all_some-none, length-all_some}
+use Rattle.zarrs_shard.proofs.Missing.{given_if-true, all_present-more, all_present-none, length-all_present}
 use Rattle.zarrs_chain.specs.Chain.{ChainMeaning}
 use Rattle.zarrs_chain.specs.Refusals.{RefusesChunkDecoding}
 use Rattle.zarrs_codec.specs.Shardings.{decoded_part, decoded_parts, sharded, subchunk_meaning, HasFirstCells, HasNextSubchunk, PutsPart, RefusesCells}
@@ -94,7 +94,7 @@ module _ (m : ChainMeaning) (k : Kind) (f : Cell) (s sub : List ℕ) where
     held_count : (n : ℕ) (chunk : ArrayData) → n < length parts → (is : HasFirstCells m k f s sub parts n chunk) → length is.held ≡ n
     held_count n chunk lt is =
         let P = decoded_part m k f sub in
-        length-all_some (map P (take n parts)) is.held is.held_is ∙ length-map (take n parts) P ∙ length-take-le n parts (omega arith)
+        length-all_present (map P (take n parts)) is.held is.held_is ∙ length-map (take n parts) P ∙ length-take-le n parts (omega arith)
 
     next_held : (n : ℕ) (held : List (List Cell)) (part : Option (List ℕ)) (next : List Cell) → n < length parts → get_or parts n None ≡ part → all_present (map (decoded_part m k f sub) (take n parts)) ≡ Some held
         → decoded_part m k f sub part ≡ Some next → all_present (map (decoded_part m k f sub) (take (n + 1) parts)) ≡ Some (held ++ next ∷ [])
@@ -102,7 +102,7 @@ module _ (m : ChainMeaning) (k : Kind) (f : Cell) (s sub : List ℕ) where
         let P = decoded_part m k f sub in
         ap (λ l. all_present (map P l)) (take_more parts n None lt)
         ∙ ap all_present (map-append P (take n parts) (get_or parts n None ∷ []))
-        ∙ all_some-more (map P (take n parts)) held (P (get_or parts n None)) next held_is (ap P at ∙ next_is)
+        ∙ all_present-more (map P (take n parts)) held (P (get_or parts n None)) next held_is (ap P at ∙ next_is)
 
     -- one more that is present
     pub cells_more : (n : ℕ) (b : List ℕ) (old new : ArrayData) → n < length parts → get_or parts n None ≡ Some b → HasFirstCells m k f s sub parts n old → PutsPart m k f s sub n b old new
@@ -137,11 +137,11 @@ module _ (m : ChainMeaning) (k : Kind) (f : Cell) (s sub : List ℕ) where
     cells_all chunk cut count is =
         let P = decoded_part m k f sub in
         let whole : all_present (map P parts) ≡ Some is.held = ap (λ l. all_present (map P l)) (sym (take-length parts)) ∙ is.held_is in
-        let n : length is.held ≡ subchunk_count s sub = length-all_some (map P parts) is.held whole ∙ length-map parts P ∙ count in
+        let n : length is.held ≡ subchunk_count s sub = length-all_present (map P parts) is.held whole ∙ length-map parts P ∙ count in
         let made = filled_whole k is.filler s sub is.held chunk cut n is.has in
         made
         ∙ sym (ap (λ o. o >>= λ xs. values_only k (assembled s sub xs)) whole
-        ∙ only_if_true (are_values k (assembled s sub is.held)) (Some (assembled s sub is.held)) (cells-values k chunk (assembled s sub is.held) made))
+        ∙ given_if-true (are_values k (assembled s sub is.held)) (Some (assembled s sub is.held)) (cells-values k chunk (assembled s sub is.held) made))
 
     -- ---- refusals
 
@@ -150,7 +150,7 @@ module _ (m : ChainMeaning) (k : Kind) (f : Cell) (s sub : List ℕ) where
     cells_refused n b (error.DoesNotFit _) cut count lt at why =
         let P = decoded_part m k f sub in
         ap (λ o. o >>= λ xs. values_only k (assembled s sub xs))
-        (all_some-none (map P parts) n None (omega (arith, length-map parts P)) (get_or-map P parts n None None lt ∙ ap P at ∙ why))
+        (all_present-none (map P parts) n None (omega (arith, length-map parts P)) (get_or-map P parts n None None lt ∙ ap P at ∙ why))
     cells_refused n b error.SizeOverflow cut count lt at why = (
       left_out (m.leaves_out sub) parts n lt (ap (part_leaves_out (m.leaves_out sub)) at ∙ why.0),
       part_large s sub n (held_size k f) cut (omega arith) why.1,
@@ -168,7 +168,7 @@ module _ (m : ChainMeaning) (at_start : Bool) (k : Kind) (f : Cell) (s sub b : L
   pub shard_cells : (sharded at_start sub m).decoded k f s b ≡ decoded_parts m k f s sub parts
   shard_cells =
       let one = subchunk_meaning m false k f sub in
-      only_if_true (sharded_fits one s sub) (shard_parts at_start (subchunk_count s sub) b >>= cells_of_parts one k f s sub) (and_from (is_cut_by s sub) (m.fits k sub) cut fit)
+      given_if-true (sharded_fits one s sub) (shard_parts at_start (subchunk_count s sub) b >>= cells_of_parts one k f s sub) (and_from (is_cut_by s sub) (m.fits k sub) cut fit)
       ∙ ap (λ o. o >>= cells_of_parts one k f s sub) read
 
   pub shard_refused : (e : CodecError) → RefusesCells m k f s sub parts e → RefusesChunkDecoding (sharded at_start sub m) k f s b e

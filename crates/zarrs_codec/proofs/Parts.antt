@@ -22,7 +22,7 @@ use Rattle.zarrs_shard.specs.SubchunkData.{ExtractsSubchunk}
 use Rattle.zarrs_shard.specs.Subchunks.{is_cut_by, quotients, corner, subchunk_count, subchunk_at}
 use Rattle.zarrs_shard.specs.declared.shard_index.ShardWriter.{ShardWriter}
 use Rattle.zarrs_shard.proofs.Encoding.{next_part, no_part}
-use Rattle.zarrs_shard.proofs.Missing.{only_if_true, length-all_some}
+use Rattle.zarrs_shard.proofs.Missing.{given_if-true, length-all_present}
 use Rattle.zarrs_codec.specs.Shardings.{cells_of, RefusesPart, RefusesParts, HasFirstParts}
 
 -- ---- encoding
@@ -48,18 +48,18 @@ module _ (m : SubchunkMeaning) (at_start empty : Bool) (f : Cell) (s sub : List 
   pub first_count : (count n : ℕ) (writer : ShardWriter) → (is : HasFirstParts m at_start empty f s sub cs count n writer) → length is.parts ≡ n
   first_count count n writer is =
       let T = λ (j : ℕ). part_of m empty f (subchunk_at s sub cs j) in
-      length-all_some (map T (range_with_len 0 n)) is.parts is.parts_are ∙ length-map-range_with_len T 0 n
+      length-all_present (map T (range_with_len 0 n)) is.parts is.parts_are ∙ length-map-range_with_len T 0 n
 
   pub all_written : (writer : ShardWriter) (encoded : List ℕ) → sharded_fits m s sub ≡ true → (is : HasFirstParts m at_start empty f s sub cs (subchunk_count s sub) (subchunk_count s sub) writer)
       → encoded ≡ shard_bytes at_start is.parts → length encoded < 2 ^ 64 → sharded_encoded m at_start empty f s sub cs ≡ Some encoded
   all_written writer encoded fit is same small =
-      only_if_true (sharded_fits m s sub) _ fit
+      given_if-true (sharded_fits m s sub) _ fit
       ∙ ap (λ o. o >>= written_shard at_start) is.parts_are
       ∙ ap (λ b. given_if (nat_lt (length b) (2 ^ 64)) (Some b)) (sym same)
-      ∙ only_if_true (nat_lt (length encoded) (2 ^ 64)) (Some encoded) (lt-ltb (length encoded) (2 ^ 64) small)
+      ∙ given_if-true (nat_lt (length encoded) (2 ^ 64)) (Some encoded) (lt-ltb (length encoded) (2 ^ 64) small)
 
   pub part_refused : (n : ℕ) (e : CodecError) → sharded_fits m s sub ≡ true → n < subchunk_count s sub → RefusesPart m empty f (subchunk_at s sub cs n) e → RefusesParts m at_start empty f s sub cs e
   part_refused n (error.DoesNotFit _) fit lt refused = and_right (is_cut_by s sub) m.fits refused
   part_refused n error.SizeOverflow fit lt refused =
-      only_if_true (sharded_fits m s sub) _ fit ∙ ap (λ o. o >>= written_shard at_start) (no_part m empty f s sub cs (subchunk_count s sub) n lt refused.1)
+      given_if-true (sharded_fits m s sub) _ fit ∙ ap (λ o. o >>= written_shard at_start) (no_part m empty f s sub cs (subchunk_count s sub) n lt refused.1)
   part_refused n error.OutOfMemory fit lt refused = refused

@@ -19,7 +19,7 @@ use Rattle.zarrs_shard.specs.PartialShards.{sharded_partly, stored_parts, write_
 use Rattle.zarrs_shard.specs.Sharded.{SubchunkMeaning, cells_of_parts, part_leaves_out, sharded_fits}
 use Rattle.zarrs_shard.specs.Steps.{given_if}
 use Rattle.zarrs_shard.specs.Subchunks.{assembled, is_cut_by, subchunk_count}
-use Rattle.zarrs_shard.proofs.Missing.{some_is, only_if_false, only_if_true, all_some-none}
+use Rattle.zarrs_shard.proofs.Missing.{some_is, given_if-false, given_if-true, all_present-none}
 use Rattle.zarrs_shard.proofs.ShardLaws.{length-shard_parts}
 use Rattle.zarrs_shard.proofs.Sizes.{part_large}
 use Rattle.zarrs_chain.specs.Chain.{ChainMeaning, chunk_cells, chunk_leaves_out, partial_encoding}
@@ -68,7 +68,7 @@ module _ (m : ChainMeaning) (at_start : Bool) (empty : Bool) (k : Kind) (f : Cel
 
       go : (o : Option (List Cell)) → option_and_then (λ cs. given_if (not at_start) (sharded_partly one empty f s sub stored part cs)) o ≡ None
       go None = refl
-      go (Some cs) = ap (given_if (not at_start)) (only_if_false _ _ apart) ∙ still (not at_start)
+      go (Some cs) = ap (given_if (not at_start)) (given_if-false _ _ apart) ∙ still (not at_start)
 
 -- what is stored is no shard
 unread : (m : ChainMeaning) (k : Kind) (f : Cell) (s sub : List ℕ) (stored : Option (List ℕ)) → stored_parts (subchunk_count s sub) stored ≡ None → chunk_cells (sharded false sub m) k f s stored ≡ None
@@ -89,7 +89,7 @@ module _ (m : ChainMeaning) (empty : Bool) (k : Kind) (f : Cell) (s sub : List �
       let E = λ (g : List Cell). sharded_partly one empty f s sub stored part g in
       ap (option_and_then E) cells_are
       ∙ ap E (sym (ap (λ o. unwrap_or o []) cells_are))
-      ∙ only_if_true (sharded_fits one s sub && nat_lt (n * 16) (2 ^ 64)) _ (and_from (sharded_fits one s sub) _ (and_from (is_cut_by s sub) _ cut fit) (lt-ltb (n * 16) (2 ^ 64) few))
+      ∙ given_if-true (sharded_fits one s sub && nat_lt (n * 16) (2 ^ 64)) _ (and_from (sharded_fits one s sub) _ (and_from (is_cut_by s sub) _ cut fit) (lt-ltb (n * 16) (2 ^ 64) few))
       ∙ ap (λ o. o >>= λ ps. changes_of m empty k f s sub part d ps n >>= λ xs. write_of n stored ps xs) read
 
   undecoded : (o : Option (List ℕ)) → stored_parts (subchunk_count s sub) o ≡ Some parts → (j : ℕ) → j < length parts → decoded_part m k f sub (get_or parts j None) ≡ None → chunk_cells (sharded false sub m) k f s o ≡ None
@@ -100,7 +100,7 @@ module _ (m : ChainMeaning) (empty : Bool) (k : Kind) (f : Cell) (s sub : List �
   undecoded (Some b) made j lt none =
       let P = decoded_part m k f sub in
       shard_cells m false k f s sub b parts cut fit made
-      ∙ ap (λ o. o >>= λ xs. values_only k (assembled s sub xs)) (all_some-none (map P parts) j None (omega (arith, length-map parts P)) (get_or-map P parts j None None lt ∙ none))
+      ∙ ap (λ o. o >>= λ xs. values_only k (assembled s sub xs)) (all_present-none (map P parts) j None (omega (arith, length-map parts P)) (get_or-map P parts j None None lt ∙ none))
 
   leaves_at : (o : Option (List ℕ)) → stored_parts (subchunk_count s sub) o ≡ Some parts → list_any (part_leaves_out (m.leaves_out sub)) parts ≡ true → chunk_leaves_out (sharded false sub m) s o ≡ true
   leaves_at None made any = refl

@@ -25,7 +25,7 @@ use Rattle.zarrs_shard.specs.SubchunkData.{UpdatesSubchunk}
 use Rattle.zarrs_shard.specs.Subchunks.{corner, quotients, subchunk_count}
 use Rattle.zarrs_shard.specs.declared.patch.ShardPatch.{ShardPatch}
 use Rattle.zarrs_shard.specs.declared.shard_index.SubchunkRange.{SubchunkRange}
-use Rattle.zarrs_shard.proofs.Missing.{all_some-more, all_some-none, length-all_some}
+use Rattle.zarrs_shard.proofs.Missing.{all_present-more, all_present-none, length-all_present}
 use Rattle.zarrs_shard.proofs.Patching.{index_length}
 use Rattle.zarrs_chain.specs.Chain.{ChainMeaning, IsLawfulChain}
 use Rattle.zarrs_codec.specs.PartialShardings.{changed_part, changes_of, write_to, HasFirstChanges, RefusesChange, RefusesChanges, RefusesHeld}
@@ -90,7 +90,7 @@ module _ (m : ChainMeaning) (empty : Bool) (k : Kind) (f : Cell) (s sub : List �
     first_count : (n : ℕ) (cs : List (Option (Option (List ℕ)))) → changes_of m empty k f s sub part d parts n ≡ Some cs → length cs ≡ n
     first_count n cs is =
         let T = λ (j : ℕ). changed_part m empty k f s sub part d j (get_or parts j None) in
-        length-all_some (map T (range_with_len 0 n)) cs is ∙ length-map-range_with_len T 0 n
+        length-all_present (map T (range_with_len 0 n)) cs is ∙ length-map-range_with_len T 0 n
 
     pub changes_started : (count : ℕ) (patch : ShardPatch) → IsPatching count stored parts patch [] → HasFirstChanges m empty k f s sub stored part d parts count 0 patch
     changes_started count patch is = record { changes = []; changes_are = refl; patching = is }
@@ -110,7 +110,7 @@ module _ (m : ChainMeaning) (empty : Bool) (k : Kind) (f : Cell) (s sub : List �
         let len = first_count n is.changes is.changes_are in
         record {
           changes = is.changes ++ c ∷ [];
-          changes_are = ap all_present (map-range_with_len_more T 0 n n (omega arith)) ∙ all_some-more (map T (range_with_len 0 n)) is.changes (T n) c is.changes_are here;
+          changes_are = ap all_present (map-range_with_len_more T 0 n n (omega arith)) ∙ all_present-more (map T (range_with_len 0 n)) is.changes (T n) c is.changes_are here;
           patching = pushes count stored parts is.changes read (omega (arith, len)) (present_is ∙ ap (λ j. is_some (get_or parts j None)) (sym len)) is.patching;
         }
 
@@ -130,7 +130,7 @@ module _ (m : ChainMeaning) (empty : Bool) (k : Kind) (f : Cell) (s sub : List �
     no_change : (n j : ℕ) → j < n → changed_part m empty k f s sub part d j (get_or parts j None) ≡ None → changes_of m empty k f s sub part d parts n ≡ None
     no_change n j lt is =
         let T = λ (i : ℕ). changed_part m empty k f s sub part d i (get_or parts i None) in
-        all_some-none (map T (range_with_len 0 n)) j None (omega (arith, length-map-range_with_len T 0 n))
+        all_present-none (map T (range_with_len 0 n)) j None (omega (arith, length-map-range_with_len T 0 n))
         (get_or-map-range_with_len T 0 n j j None lt (omega arith) ∙ is)
 
     pub no_write : (j : ℕ) → j < subchunk_count s sub → changed_part m empty k f s sub part d j (get_or parts j None) ≡ None → write_to m empty k f s sub stored part d parts ≡ None

@@ -19,7 +19,8 @@ pub record HasPiece (k : Kind) (decoded : List ℕ → Option (List Cell)) (fill
   pub given : List Cell
   pub are_cells : cells k held ≡ Some given
   pub count : length given ≡ position_count shared.shape
-  pub each : (position : List ℕ) → Holds part position → Holds shared position → IsPartCell decoded fill shape sub parts position (cell_in shared given position)
+  pub each : (position : List ℕ) → Holds part position → Holds shared position
+      → IsPartCell decoded fill shape sub parts position (cell_in shared given position)
 
 -- what is all fill has the cells of the part that lie in the subchunk with these indices
 abbrev pub HasNoPiece : Kind → (List ℕ → Option (List Cell)) → (fill : Cell) (shape sub : List ℕ)

@@ -6,20 +6,18 @@ use Rattle.zarrs_subset.specs.Boxes.{position_count}
 use Rattle.zarrs_codec_array.specs.Arrays.{ArrayMeaning, IsLawfulArray}
 use Rattle.std.specs.Prelude.{option_and_then, if◌then◌else◌}
 use Rattle.zarrs_parts.specs.Places.{all_places, all_places-inside, places_behind}
+use Rattle.zarrs_shard.specs.Steps.{given_if}
+use Rattle.zarrs_shard.proofs.Missing.{some_is, bind_parts, given_if-parts, given_if-true}
 use Rattle.zarrs_chain.specs.Chain.{ChainMeaning, IsLawfulChain}
-
--- the value, if the test holds
-abbrev pub only_if : {A : Type 0} → Bool → Option A → Option A
-only_if b o = if b then o else None
 
 -- the chain `m` behind codecs that make an array of an array
 abbrev pub through : ArrayMeaning → ChainMeaning → ChainMeaning
 through a m = record {
   fits = λ k s. a.fits s && m.fits k (a.shape s);
-  encoded = λ empty k f s cs. only_if (a.fits s) (m.encoded empty k f (a.shape s) (a.forward s cs));
-  decoded = λ k f s b. only_if (a.fits s) (option_and_then (λ cs. Some (a.back s cs)) (m.decoded k f (a.shape s) b));
+  encoded = λ empty k f s cs. given_if (a.fits s) (m.encoded empty k f (a.shape s) (a.forward s cs));
+  decoded = λ k f s b. given_if (a.fits s) (option_and_then (λ cs. Some (a.back s cs)) (m.decoded k f (a.shape s) b));
   compacts = m.compacts;
-  compacted = λ s b. if m.compacts then only_if (a.fits s) (m.compacted (a.shape s) b) else Some None;
+  compacted = λ s b. if m.compacts then given_if (a.fits s) (m.compacted (a.shape s) b) else Some None;
   leaves_out = λ s b. a.fits s && m.leaves_out (a.shape s) b;
   encodes_partly = false;
   partly_encoded = λ empty k f s stored part cs. None;
@@ -30,48 +28,34 @@ through a m = record {
 abbrev pub through_all : (none : Bool) → ArrayMeaning → ChainMeaning → ChainMeaning
 through_all none a m = record (through a m) {
   encodes_partly = none && m.encodes_partly;
-  partly_encoded = λ empty k f s stored part cs. only_if none (m.partly_encoded empty k f s stored part cs);
+  partly_encoded = λ empty k f s stored part cs. given_if none (m.partly_encoded empty k f s stored part cs);
   places = places_behind none m.places;
 }
 
-some_is : {A : Type 0} {x y : A} → Some x ≡ Some y → x ≡ y
-some_is e = cc
-
-bind_parts : {A B : Type 0} (o : Option A) (f : A → Option B) (y : B) → option_and_then f o ≡ Some y → (x : A) × (o ≡ Some x) × (f x ≡ Some y)
-bind_parts None f y is = cc
-bind_parts (Some x) f y is = (x, refl, is)
-
-only_if_parts : {A : Type 0} (b : Bool) (o : Option A) (y : A) → only_if b o ≡ Some y → (b ≡ true) × (o ≡ Some y)
-only_if_parts true o y is = (refl, is)
-only_if_parts false o y is = cc
-
 compacted_parts : {A : Type 0} (compacts fits : Bool) (o : Option (Option A)) (less : A)
-    → (if compacts then only_if fits o else Some None) ≡ Some (Some less) → (fits ≡ true) × (o ≡ Some (Some less))
-compacted_parts true fits o less is = only_if_parts fits o (Some less) is
+    → (if compacts then given_if fits o else Some None) ≡ Some (Some less) → (fits ≡ true) × (o ≡ Some (Some less))
+compacted_parts true fits o less is = given_if-parts fits o (Some less) is
 compacted_parts false fits o less is = cc
 
 is_compact : {A : Type 0} (compacts fits : Bool) (o : Option (Option A)) → fits ≡ true → o ≡ Some None
-    → (if compacts then only_if fits o else Some None) ≡ Some None
+    → (if compacts then given_if fits o else Some None) ≡ Some None
 is_compact true true o fit is = is
 is_compact true false o fit is = cc
 is_compact false fits o fit is = refl
-
-only_if_true : {A : Type 0} (b : Bool) (o : Option A) → b ≡ true → only_if b o ≡ o
-only_if_true b o is = ap (λ x. only_if x o) is
 
 module _ (a : ArrayMeaning) (m : ChainMeaning) (array_law : IsLawfulArray a) (law : IsLawfulChain m) where
   again : (empty : Bool) (k : Kind) (f : Cell) (s : List ℕ) (cs : List Cell) (b : List ℕ) → are_values k cs ≡ true → length cs ≡ position_count s
       → (through a m).encoded empty k f s cs ≡ Some b → (through a m).decoded k f s b ≡ Some cs
   again empty k f s cs b values len made =
-      let p = only_if_parts (a.fits s) _ b made in
+      let p = given_if-parts (a.fits s) _ b made in
       let count = array_law.forward_len s cs p.0 len ∙ sym (array_law.count s p.0) in
       let read = law.round_trip empty k f (a.shape s) (a.forward s cs) b (array_law.forward_all (λ c. is_value k c) s cs p.0 len values) count p.1 in
-      only_if_true (a.fits s) _ p.0 ∙ ap (option_and_then (λ x. Some (a.back s x))) read ∙ ap Some (array_law.round_trip s cs p.0 len)
+      given_if-true (a.fits s) _ p.0 ∙ ap (option_and_then (λ x. Some (a.back s x))) read ∙ ap Some (array_law.round_trip s cs p.0 len)
 
   parts : (k : Kind) (f : Cell) (s b : List ℕ) (cs : List Cell) → (through a m).decoded k f s b ≡ Some cs
       → (length cs ≡ position_count s) × (are_values k cs ≡ true)
   parts k f s b cs made =
-      let p = only_if_parts (a.fits s) _ cs made in
+      let p = given_if-parts (a.fits s) _ cs made in
       let q = bind_parts (m.decoded k f (a.shape s) b) (λ x. Some (a.back s x)) cs p.1 in
       let e = some_is q.2 in
       let len = law.decoded_len k f (a.shape s) b q.0 q.1 ∙ array_law.count s p.0 in (
@@ -79,7 +63,7 @@ module _ (a : ArrayMeaning) (m : ChainMeaning) (array_law : IsLawfulArray a) (la
         ap (are_values k) (sym e) ∙ array_law.back_all (λ c. is_value k c) s q.0 p.0 len (law.decoded_values k f (a.shape s) b q.0 q.1),
       )
 
-  unfit_here : {X : Type 0} (x y : Bool) (o : Option X) → (x && y) ≡ false → (y ≡ false → o ≡ None) → only_if x o ≡ None
+  unfit_here : {X : Type 0} (x y : Bool) (o : Option X) → (x && y) ≡ false → (y ≡ false → o ≡ None) → given_if x o ≡ None
   unfit_here true y o not rest = rest not
   unfit_here false y o not rest = refl
 
@@ -90,11 +74,11 @@ module _ (a : ArrayMeaning) (m : ChainMeaning) (array_law : IsLawfulArray a) (la
     decoded_values = λ k f s b cs made. (parts k f s b cs made).1;
     compacted_same = λ k f s b less made short.
         let p = compacted_parts m.compacts (a.fits s) (m.compacted (a.shape s) b) less made in
-        ap (λ o. only_if (a.fits s) (option_and_then (λ x. Some (a.back s x)) o)) (law.compacted_same k f (a.shape s) b less p.1 short);
+        ap (λ o. given_if (a.fits s) (option_and_then (λ x. Some (a.back s x)) o)) (law.compacted_same k f (a.shape s) b less p.1 short);
     compacted_differs = λ s b less made.
         law.compacted_differs (a.shape s) b less (compacted_parts m.compacts (a.fits s) (m.compacted (a.shape s) b) less made).1;
     encoded_compact = λ empty k f s cs b len made.
-        let p = only_if_parts (a.fits s) _ b made in
+        let p = given_if-parts (a.fits s) _ b made in
         is_compact m.compacts (a.fits s) (m.compacted (a.shape s) b) p.0
         (law.encoded_compact empty k f (a.shape s) (a.forward s cs) b (array_law.forward_len s cs p.0 len ∙ sym (array_law.count s p.0)) p.1);
     unfit = λ empty k f s cs not.

@@ -8,7 +8,7 @@ use Rattle.zarrs_subset.specs.Boxes.{position_count}
 use Rattle.zarrs_codec_array.specs.ArrayCodecs.{arrays_meaning, arrays-lawful}
 use Rattle.zarrs_codec_array.specs.Gathered.{encoded_shape}
 use Rattle.zarrs_codec_leaf.specs.Refusals.{RefusesDecoding}
-use Rattle.zarrs_shard.proofs.Missing.{only_if_true}
+use Rattle.zarrs_shard.proofs.Missing.{given_if-true}
 use Rattle.zarrs_chain.specs.Refusals.{RefusesChunkDecoding}
 use Rattle.zarrs_codec.specs.ChainLaws.{leaf-lawful, whole_chunk-lawful}
 use Rattle.zarrs_codec.specs.Chains.{leaf_meaning}
@@ -37,7 +37,7 @@ returns-in_err-array-clause-refused c =
     let last = c.args.self.now.array_to_bytes in
     let leaf = leaf_meaning last in
     let fit : a.fits s ≡ true = sym c.in_ok-takes_shape.ensures ∙ c.if-not-branch.false in
-    let shape : encoded_shape a s ≡ Some (a.shape s) = only_if_true (a.fits s) (Some (a.shape s)) fit in
+    let shape : encoded_shape a s ≡ Some (a.shape s) = given_if-true (a.fits s) (Some (a.shape s)) fit in
     let given : c.unwrap-count.result ≡ position_count s = search rules in
     let count = given ∙ sym (count_behind a (whole_chunk leaf) law k f s (a.shape s) b shape) in
     let e = c.in_err-array.field-0.0 in
@@ -57,7 +57,7 @@ decode_array-requires-clause-cells c =
     let last = c.args.self.now.array_to_bytes in
     let leaf = leaf_meaning last in
     let fit : a.fits s ≡ true = sym c.in_ok-takes_shape.ensures ∙ c.if-not-branch.false in
-    let shape : encoded_shape a s ≡ Some (a.shape s) = only_if_true (a.fits s) (Some (a.shape s)) fit in
+    let shape : encoded_shape a s ≡ Some (a.shape s) = given_if-true (a.fits s) (Some (a.shape s)) fit in
     let given : c.unwrap-count.result ≡ position_count s = search rules in
     let count = given ∙ sym (count_behind a (whole_chunk leaf) law k f s (a.shape s) b shape) in
     let d = data_of c.in_ok-array.array in
@@ -76,7 +76,7 @@ returns-clause-cells c =
     let last = c.args.self.now.array_to_bytes in
     let leaf = leaf_meaning last in
     let fit : a.fits s ≡ true = sym c.in_ok-takes_shape.ensures ∙ c.if-not-branch.false in
-    let shape : encoded_shape a s ≡ Some (a.shape s) = only_if_true (a.fits s) (Some (a.shape s)) fit in
+    let shape : encoded_shape a s ≡ Some (a.shape s) = given_if-true (a.fits s) (Some (a.shape s)) fit in
     let given : c.unwrap-count.result ≡ position_count s = search rules in
     let count = given ∙ sym (count_behind a (whole_chunk leaf) law k f s (a.shape s) b shape) in
     let d = data_of c.in_ok-array.array in
