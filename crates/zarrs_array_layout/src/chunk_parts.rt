@@ -10,7 +10,7 @@ use zarrs_subset::{ArraySubset, ArraySubsetTraits};
 impl<G: ChunkGridTraits, K: ChunkKeyEncodingTraits, C: ChainTraits> ArrayLayout<G, K, C> {
     ghost use Rattle.std.specs.Prelude.{◌≡◌, if◌then◌else◌, false, None, IfOk, IfErr, OnOk};
     ghost use Rattle.std.specs.Option.{option_or};
-    ghost use Rattle.zarrs_subset.specs.Regions.{box_of, positions};
+    ghost use Rattle.zarrs_subset.specs.Regions.{LiesInShape, box_of, positions};
     ghost use Rattle.zarrs_chunk_grid.specs.Grids.{box_at, chunks_box, has_box};
     ghost use Rattle.zarrs_calls.specs.ArgumentRefusals.{chunk_refusal, dimensions_refusal};
     ghost use Rattle.zarrs_calls.specs.ArgumentRefusals.{part_refusal, range_refusal};
@@ -43,10 +43,34 @@ impl<G: ChunkGridTraits, K: ChunkKeyEncodingTraits, C: ChainTraits> ArrayLayout<
         }
     }
 
-    /// A part of the chunk with these indices and this box, as a box seen from the origin of the array.
+    /// Whether a part lies in the chunk with these indices, which has these extents.
     ///
     /// # Errors
     /// E2 for another number of dimensions, or a part that passes the chunk. E9 may come at any time.
+    pub fn check_part(
+        &self,
+        alloc: Global,
+        chunk_indices: &[u64],
+        extents: &[u64],
+        part: &ArraySubset,
+    ) -> Result<(), ArrayError>
+        requires { extents.now ≡ (box_at (G.grid self.now.grid) chunk_indices.now).shape }
+        ensures accepted { OnOk result
+            (part_refusal (layout_meaning self.now) chunk_indices.now (box_of part.now) ≡ None) }
+        ensures inside { OnOk result (LiesInShape (box_of part.now) extents.now) }
+        ensures refused { IfErr result (λ e. RefusesBy (part_refusal (layout_meaning self.now)
+            chunk_indices.now (box_of part.now)) (refusal_of e)) }
+    {
+        if !part.inbounds_shape(extents) {
+            return Err(invalid_part(alloc, chunk_indices, extents, part));
+        }
+        Ok(())
+    }
+
+    /// A part of the chunk with these indices and this box, as a box seen from the origin of the array.
+    ///
+    /// # Errors
+    /// Those of `check_part`.
     pub fn part_of(
         &self,
         alloc: Global,
@@ -61,9 +85,7 @@ impl<G: ChunkGridTraits, K: ChunkKeyEncodingTraits, C: ChainTraits> ArrayLayout<
         ensures refused { IfErr result (λ e. RefusesBy (part_refusal (layout_meaning self.now)
             chunk_indices.now (box_of part.now)) (refusal_of e)) }
     {
-        if !part.inbounds_shape(chunk.shape()) {
-            return Err(invalid_part(alloc, chunk_indices, chunk, part));
-        }
+        self.check_part(alloc, chunk_indices, chunk.shape(), part)?;
         let region = part.shifted_by(alloc, chunk.start())?;
         Ok(region)
     }
@@ -127,15 +149,15 @@ ghost use Rattle.zarrs_subset.specs.Regions.{box_of};
 ghost use Rattle.zarrs_calls.specs.ChunkBoxes.{last_of};
 ghost use Rattle.zarrs_calls.specs.Refusals.{RefusesBy, chunk_subset, refusal_of};
 
-/// The refusal of this part of the chunk with these indices and this box.
+/// The refusal of this part of the chunk with these indices and extents.
 fn invalid_part(
     alloc: Global,
     chunk_indices: &[u64],
-    chunk: &ArraySubset,
+    extents: &[u64],
     part: &ArraySubset,
 ) -> ArrayError
-    ensures { RefusesBy (Some (chunk_subset (box_of part.now) chunk_indices.now
-        (box_of chunk.now).shape)) (refusal_of result) }
+    ensures { RefusesBy (Some (chunk_subset (box_of part.now) chunk_indices.now extents.now))
+        (refusal_of result) }
 {
     let Ok(part) = part.clone() else {
         return ArrayError::OutOfMemory;
@@ -143,8 +165,8 @@ fn invalid_part(
     let Ok(indices) = chunk_indices.to_vec(alloc) else {
         return ArrayError::OutOfMemory;
     };
-    match chunk.shape().to_vec(alloc) {
-        Ok(shape) => ArrayError::InvalidChunkSubset(part, indices, shape),
+    match extents.to_vec(alloc) {
+        Ok(extents) => ArrayError::InvalidChunkSubset(part, indices, extents),
         Err(_) => ArrayError::OutOfMemory,
     }
 }

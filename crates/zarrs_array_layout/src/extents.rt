@@ -29,7 +29,7 @@ impl<G: ChunkGridTraits, K: ChunkKeyEncodingTraits, C: ChainTraits> ArrayLayout<
     ghost use Rattle.zarrs_array_layout.specs.Layouts.{layout_meaning};
 
     /// The number of cells of a chunk of this shape, or `None` if they have more bytes than a `usize` counts.
-    pub(crate) fn shape_count(&self, shape: &[u64]) -> Option<u64>
+    pub fn shape_count(&self, shape: &[u64]) -> Option<u64>
         ensures some { IfSome result (λ count. count ≡ position_count shape.now) }
         ensures small { OnSome result (is_too_large (layout_meaning self.now) shape.now ≡ false) }
         ensures large { IfNone result (is_too_large (layout_meaning self.now) shape.now ≡ true) }
@@ -73,7 +73,7 @@ impl<G: ChunkGridTraits, K: ChunkKeyEncodingTraits, C: ChainTraits> ArrayLayout<
     ///
     /// # Errors
     /// E3 for another number of indices than dimensions, or indices without a chunk. E9 may come at any time.
-    fn chunk_shape(
+    pub fn chunk_shape(
         &self,
         alloc: Global,
         chunk_indices: &[u64],

@@ -13,7 +13,7 @@ use zarrs_target::ArrayBytesDecodeIntoTarget;
 impl<G: ChunkGridTraits, K: ChunkKeyEncodingTraits, C: ChainTraits> ArrayLayout<G, K, C> {
     ghost use Rattle.std.specs.Prelude.{◌≡◌, ◌<◌, ◌*◌, ◌^◌, ℕ, true, false, IfOk, IfErr, OnOk};
     ghost use Rattle.zarrs_subset.specs.Boxes.{position_count};
-    ghost use Rattle.zarrs_subset.specs.Regions.{box_of, LiesInShape};
+    ghost use Rattle.zarrs_subset.specs.Regions.{box_at_origin, box_of, LiesInShape};
     ghost use Rattle.zarrs_data_type.specs.ArrayData.{data_of};
     ghost use Rattle.zarrs_data_type.specs.Cell.{held_size};
     ghost use Rattle.zarrs_target.specs.States.{IsTarget, SameBox, StaysOutside, data_of_target};
@@ -25,7 +25,7 @@ impl<G: ChunkGridTraits, K: ChunkKeyEncodingTraits, C: ChainTraits> ArrayLayout<
     ghost use Rattle.zarrs_array_layout.specs.Layouts.{layout_meaning};
     ghost use Rattle.zarrs_array_layout.specs.Steps.{RefusesPartBytes};
 
-    /// The cells of a part of a chunk of this box, whose bytes are those of the source. The part is seen from the corner
+    /// The cells of a part of a chunk of this shape, whose bytes are those of the source. The part is seen from the corner
     /// of the chunk. No other bytes are read than those that the part needs.
     ///
     /// # Errors
@@ -34,22 +34,23 @@ impl<G: ChunkGridTraits, K: ChunkKeyEncodingTraits, C: ChainTraits> ArrayLayout<
     pub fn decode_part<B: ByteSource>(
         &self,
         alloc: Global,
-        chunk: &ArraySubset,
+        shape: &[u64],
         source: &B,
         part: &ArraySubset,
     ) -> Result<ArrayBytes<'static>, ArrayError>
-        requires fit { is_too_large (layout_meaning self.now) (box_of chunk.now).shape ≡ false }
+        requires fit { is_too_large (layout_meaning self.now) shape.now ≡ false }
         requires fill_size { position_count (box_of part.now).shape
             * held_size (layout_meaning self.now).kind (layout_meaning self.now).fill < 2 ^ 64 }
-        requires part { LiesInShape (box_of part.now) (box_of chunk.now).shape }
+        requires part { LiesInShape (box_of part.now) shape.now }
         requires may_read { (place : ℕ) → (layout_meaning self.now).chain.places
-            (layout_meaning self.now).kind (box_of chunk.now).shape (box_of part.now)
+            (layout_meaning self.now).kind shape.now (box_of part.now)
             (B.bytes source.now) place ≡ true → B.may_read source.now place ≡ true }
         ensures cells { IfOk result (λ made. DecodesPart (layout_meaning self.now).kind
-            (box_of chunk.now).shape (box_of part.now) (decoded_cells (layout_meaning self.now)
-            (box_of chunk.now) (B.bytes source.now)) (data_of made)) }
+            shape.now (box_of part.now) (decoded_cells (layout_meaning self.now)
+            (box_at_origin shape.now) (B.bytes source.now)) (data_of made)) }
         ensures refused { IfErr result (λ e. RefusesPartBytes (layout_meaning self.now)
-            (box_of chunk.now) (B.bytes source.now) (B.refuses source.now) (refusal_of e)) }
+            (box_at_origin shape.now) (B.bytes source.now) (B.refuses source.now)
+            (refusal_of e)) }
     {
         let whole = Window {
             offset: 0,
@@ -62,7 +63,7 @@ impl<G: ChunkGridTraits, K: ChunkKeyEncodingTraits, C: ChainTraits> ArrayLayout<
             part,
             &self.data_type,
             &self.fill_value,
-            chunk.shape(),
+            shape,
         )?;
         Ok(data)
     }

@@ -1,5 +1,5 @@
 -- Reads of regions that lie in one chunk.
-use Rattle.std.proofs.Common.{◌≡◌, ◌∙◌, ℕ, true, false, List, [], ◌∷◌, Option, Some, None, Contains, refl, sym, ap, subst, inl, inr}
+use Rattle.std.proofs.Common.{◌≡◌, ◌∙◌, ℕ, true, false, List, [], ◌∷◌, Option, Some, None, refl, sym, ap, subst, inl, inr}
 use Rattle.std.specs.Option.{option_or}
 use Rattle.std.proofs.lemmas.Bool.{cases_Bool}
 use Rattle.zarrs_subset.specs.Boxes.{position_count}
@@ -8,16 +8,15 @@ use Rattle.zarrs_chunk_grid.specs.Grids.{box_at, has_box}
 use Rattle.zarrs_chunk_grid.proofs.Chunks.{box_long}
 use Rattle.zarrs_storage.specs.Store.{StoreState}
 use Rattle.zarrs_data_type.specs.ArrayData.{ArrayData}
-use Rattle.zarrs_byte_strings.specs.StringParts.{LiesInBox}
 use Rattle.zarrs_calls.specs.Layout.{Layout, IsLawful}
 use Rattle.zarrs_calls.specs.ArgumentRefusals.{read_size_refusal, size_refusal}
 use Rattle.zarrs_calls.specs.Changes.{RetrievesChunk}
-use Rattle.zarrs_calls.specs.ChunkBoxes.{CoversBox, is_empty}
+use Rattle.zarrs_calls.specs.ChunkBoxes.{is_empty}
 use Rattle.zarrs_calls.specs.Content.{value_at}
 use Rattle.zarrs_calls.specs.Reads.{IsBroken, ReadsRegion}
 use Rattle.zarrs_calls.specs.Refusals as refusal
 use Rattle.zarrs_calls.specs.Refusals.{Refusal, fill_refusal, is_too_large, length_refusal, refuse_if}
-use Rattle.zarrs_calls.specs.StateRefusals.{IsPart, NeedsLargeFill, RefusesChunkRead, RefusesRegionRead}
+use Rattle.zarrs_calls.specs.StateRefusals.{IsPart, RefusesChunkRead, RefusesRegionRead}
 use Rattle.zarrs_calls.proofs.Contents.{member, only_member}
 use Rattle.zarrs_calls.proofs.RefusalLemmas.{second_refusal}
 use Rattle.zarrs_calls.proofs.Regions.{cell_there}

@@ -18,25 +18,28 @@ use Rattle.zarrs_chunk_grid.specs.Grids.{box_at, has_box}
 use Rattle.zarrs_chunk_grid.proofs.Chunks.{box_covered, box_dimensions, box_index, box_is_there, box_long}
 use Rattle.zarrs_storage.specs.Store.{StoreState}
 use Rattle.zarrs_data_type.specs.ArrayData.{ArrayData}
+use Rattle.zarrs_data_type.specs.Cell.{Cell}
+use Rattle.zarrs_data_type.specs.Cells.{cells}
 use Rattle.zarrs_calls.specs.Layout.{Layout, IsLawful}
 use Rattle.zarrs_calls.specs.ArgumentRefusals.{chunk_refusal, part_refusal, read_part_refusal, read_size_refusal}
 use Rattle.zarrs_calls.specs.Changes.{RetrievesChunk}
 use Rattle.zarrs_calls.specs.ChunkBoxes.{is_whole_of, part_box}
 use Rattle.zarrs_calls.specs.Reads.{ReadsRegion}
 use Rattle.zarrs_calls.specs.Refusals.{Refusal, RefusesBy, length_refusal, key_refusal, read_refusal}
-use Rattle.zarrs_calls.specs.StateRefusals.{IsPart, RefusesChunkRead, RefusesRegionRead}
+use Rattle.zarrs_calls.specs.StateRefusals.{IsPart, RefusesChunkRead, RefusesRegionRead, RefusesSomeChunk}
+use Rattle.zarrs_calls.specs.Reach.{MayDecodePart, chunk_part}
 use Rattle.zarrs_calls.specs.Step.{RetrievesPart, RefusesRetrievePart}
 use Rattle.zarrs_calls.specs.Content.{value_at}
 use Rattle.zarrs_calls.proofs.Contents.{member, only_member}
-use Rattle.zarrs_calls.proofs.RefusalLemmas.{refused_first, refused_second, second_refusal}
+use Rattle.zarrs_calls.proofs.RefusalLemmas.{memory_or_said, refused_first, refused_second, second_refusal}
 use Rattle.zarrs_array_layout.specs.Covers.{CoverRegion}
 use Rattle.zarrs_array_layout.specs.Shared.{AreApart, AreShared}
-use Rattle.zarrs_engine.specs.RegionReads.{HasRead}
+use Rattle.zarrs_engine.specs.RegionReads.{DecodesStored, HasRead, IsRegionOf, ReadsOneMore}
 use Rattle.zarrs_array_layout.proofs.ChunkParts.{chunk_has, part_lies, shifted_part}
 use Rattle.zarrs_array_layout.proofs.Chunks.{right_length}
 use Rattle.zarrs_array_layout.proofs.OneChunk.{covers_lies}
 use Rattle.zarrs_parts.proofs.MovedBoxes.{overlap_inside}
-use Rattle.zarrs_engine.proofs.RegionReads.{read_all}
+use Rattle.zarrs_engine.proofs.RegionReads.{read_absent, read_all, read_alone, read_apart, read_none}
 
 -- ---- which part is the whole chunk
 
@@ -51,10 +54,9 @@ offset_origin (s ∷ start) (suc n) long =
     ap (λ x. x ∷ offset_by start (replicate n 0)) here ∙ ap (λ xs. s ∷ xs) (offset_origin start n (omega arith))
 
 module _ (chunk part : Box) (long : IsLong chunk) where
-  -- a part that lies where its chunk does is all of it
-  pub whole_part : LiesInShape part chunk.shape → part_box chunk part ≡ chunk → is_whole_of chunk.shape part ≡ true
-  whole_part lies is =
-      let shapes : part.shape ≡ chunk.shape = ap (λ (b : Box). b.shape) is in
+  -- a part of the shape of its chunk is all of it
+  pub whole_part : LiesInShape part chunk.shape → part.shape ≡ chunk.shape → is_whole_of chunk.shape part ≡ true
+  whole_part lies shapes =
       let zeros = length-replicate {A = ℕ} (length chunk.shape) 0 in
       let starts : part.start ≡ replicate (length chunk.shape) 0 =
       same_number_lists part.start (replicate (length chunk.shape) 0) (lies.same_length ∙ sym zeros) (λ k below.
@@ -262,7 +264,7 @@ module _ (layout : Layout) (lawful : IsLawful layout) (index : List ℕ) (part c
   -- the part is the whole chunk exactly if it lies where the chunk does
   pub is_whole : region ≡ chunk → is_whole_of (box_at layout.grid index).shape part ≡ true
   is_whole same =
-      whole_part (box_at layout.grid index) part (box_long layout.grid index) (part_lies layout index part inside) (sym region_at ∙ same ∙ chunk_is)
+      whole_part (box_at layout.grid index) part (box_long layout.grid index) (part_lies layout index part inside) (ap (λ (b : Box). b.shape) (sym region_at ∙ same ∙ chunk_is))
 
   pub is_proper : (region ≡ chunk → ⊥) → is_whole_of (box_at layout.grid index).shape part ≡ false
   is_proper apart =
@@ -293,6 +295,14 @@ module _ (layout : Layout) (lawful : IsLawful layout) (index : List ℕ) (part c
       let outer = covers_lies layout.grid lawful.grid index (chunk_has layout index there) region part_cover.long part_cover.dimensions covers in
       apart (sym (overlap_within region box part_cover.long long inner) ∙ overlap_inside region box part_cover.long long outer ∙ sym chunk_is)
 
+  pub region_of : (region ≡ chunk → ⊥) → IsRegionOf layout index part region
+  region_of apart = record {
+    long = part_cover.long;
+    lies = subst (LiesInBox region) chunk_is lies_within;
+    seen = seen_part ∙ ap (λ (b : Box). seen_from region b.start) chunk_is;
+    proper = is_part apart;
+  }
+
   module _ (state : StoreState) (apart : region ≡ chunk → ⊥) where
     -- the cells that were decoded
     pub part_alone : (made : ArrayData) → read_size_refusal layout region.shape ≡ None → HasRead layout region (index ∷ []) state made → RetrievesPart layout index part made state
@@ -305,3 +315,47 @@ module _ (layout : Layout) (lawful : IsLawful layout) (index : List ℕ) (part c
     part_not_read r why =
         proper_refused layout index part state there inside (is_proper apart) r
         (subst (λ (b : Box). RefusesRegionRead layout (read_size_refusal layout b.shape) b (index ∷ []) state r) region_at why)
+
+-- ---- the read of a part of a chunk, as the region that it is
+
+module _ (layout : Layout) (lawful : IsLawful layout) (index : List ℕ) (has : has_box layout.grid index ≡ true) (part region : Box) (state : StoreState) (is : IsRegionOf layout index part region) where
+  same_shape : part.shape ≡ region.shape
+  same_shape = ap (λ (b : Box). b.shape) is.seen
+
+  -- the chunk has nothing of it, and it is filled
+  pub filled_read : (made : ArrayData) → cells layout.kind made ≡ Some (replicate (position_count part.shape) layout.fill)
+      → ((held : ArrayData) → ReadsOneMore layout region index state held held) → HasRead layout region (index ∷ []) state made
+  filled_read made are none =
+      none made []
+      (read_none layout lawful region state made is.long (subst (λ s. cells layout.kind made ≡ Some (replicate (position_count s) layout.fill)) same_shape are)
+      (length-replicate {A = Cell} (position_count region.shape) layout.fill))
+
+  pub region_empty : SomeIndex part.shape (λ k. slice_index part.shape k ≡ 0) → (held : ArrayData) → ReadsOneMore layout region index state held held
+  region_empty none held =
+      let some = subst (λ s. SomeIndex s (λ k. slice_index s k ≡ 0)) same_shape none in
+      read_apart layout lawful region index state has held (empty_apart region (box_at layout.grid index) is.long some) is.proper
+
+  pub region_absent : value_at state (layout.key index) ≡ None → (held : ArrayData) → ReadsOneMore layout region index state held held
+  region_absent absent held = read_absent layout lawful region index state has held absent
+
+  -- what the chunk has of it was decoded
+  pub region_decoded : (made : ArrayData) → DecodesStored layout index part state made → HasRead layout region (index ∷ []) state made
+  region_decoded made decodes =
+      read_alone layout lawful region index state has is.long is.lies.same_length region part is.long
+      (alone_shared region (box_at layout.grid index) part is.long (box_long layout.grid index) is.lies is.seen) refl is.proper made decodes
+
+  -- it has no memory for the fill
+  pub filled_refused : (r : Refusal) → read_size_refusal layout part.shape ≡ None → RefusesBy (read_size_refusal layout part.shape) r → RefusesSomeChunk layout region (index ∷ []) state r
+  filled_refused r fits why =
+      elim (memory_or_said (read_size_refusal layout part.shape) r why) [
+        | inl memory ↦ subst (RefusesSomeChunk layout region (index ∷ []) state) (sym memory) tt
+        | inr said ↦ absurd (let clash : None ≡ Some r = sym fits ∙ said in cc)
+      ]
+
+-- what is read of a part of a chunk is what may be read of the region that it is
+pub part_asked : (layout : Layout) (index : List ℕ) (part region : Box) (state : StoreState) → IsLong region → LiesInBox region (box_at layout.grid index) → part ≡ seen_from region (box_at layout.grid index).start
+    → MayDecodePart layout (chunk_part region (box_at layout.grid index)) index state → MayDecodePart layout part index state
+part_asked layout index part region state long lies seen ask =
+    let box = box_at layout.grid index in
+    let all = overlap_within region box long (box_long layout.grid index) lies in
+    subst (λ (b : Box). MayDecodePart layout b index state) (ap (λ (b : Box). seen_from b box.start) all ∙ sym seen) ask

@@ -2,7 +2,8 @@
 use Rattle.std.specs.Prelude.{◌≡◌, ℕ, ◌++◌, List, [], ◌∷◌, length, Some, Contains, if◌then◌else◌}
 use Rattle.zarrs_chunk_grid.specs.Grids.{box_at}
 use Rattle.zarrs_subset.specs.Boxes.{position_count}
-use Rattle.zarrs_subset.specs.Regions.{Box, Holds, cell_in}
+use Rattle.zarrs_subset.specs.Regions.{Box, Holds, IsLong, cell_in, seen_from}
+use Rattle.zarrs_byte_strings.specs.StringParts.{LiesInBox}
 use Rattle.zarrs_storage.specs.Store.{StoreState}
 use Rattle.zarrs_data_type.specs.Cell.{Cell}
 use Rattle.zarrs_data_type.specs.ArrayData.{ArrayData}
@@ -13,6 +14,7 @@ use Rattle.zarrs_calls.specs.Content.{value_at, content, decoded_cells}
 use Rattle.zarrs_calls.specs.ChunkBoxes.{CoversBox}
 use Rattle.zarrs_calls.specs.Fronts.{is_in_chunks}
 use Rattle.zarrs_calls.specs.Reads.{IsBroken}
+use Rattle.zarrs_calls.specs.StateRefusals.{IsPart}
 
 -- The data is one cell for each position of the region: in these chunks the content, wherever there is one, and else fill.
 -- A chunk that the region covers decodes.
@@ -35,3 +37,10 @@ pub record DecodesStored (layout : Layout) (index : List ℕ) (part : Box) (stat
   pub encoded : List ℕ
   pub stands : value_at state (layout.key index) ≡ Some encoded
   pub decodes : DecodesPart layout.kind (box_at layout.grid index).shape part (decoded_cells layout (box_at layout.grid index) encoded) made
+
+-- the region is this part of the chunk with this index, seen from the origin of the array, and does not cover the chunk
+pub record IsRegionOf (layout : Layout) (index : List ℕ) (part region : Box) : Type 0 where
+  pub long : IsLong region
+  pub lies : LiesInBox region (box_at layout.grid index)
+  pub seen : part ≡ seen_from region (box_at layout.grid index).start
+  pub proper : IsPart layout region index

@@ -57,14 +57,14 @@ impl<
         ensures { RetrievesPartOrRefuses S.state chunk_indices.now (box_of chunk_subset.now) self.now
             result }
     {
-        let chunk = self.layout.chunk_box(alloc, chunk_indices)?;
-        let region = self
-            .layout
-            .part_of(alloc, chunk_indices, &chunk, chunk_subset)?;
-        if region == chunk {
+        let extents = self.layout.chunk_shape(alloc, chunk_indices)?;
+        let shape = extents.as_slice();
+        self.layout
+            .check_part(alloc, chunk_indices, shape, chunk_subset)?;
+        if chunk_subset.shape() == shape {
             return self.retrieve_chunk(alloc, chunk_indices);
         }
-        self.count_to_read(&region)?;
-        self.read_part(alloc, &region, chunk_indices, &chunk, chunk_subset)
+        self.count_to_read(chunk_subset)?;
+        self.read_part(alloc, chunk_indices, shape, chunk_subset)
     }
 }

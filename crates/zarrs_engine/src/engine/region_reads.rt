@@ -23,7 +23,7 @@ impl<
     ghost use Rattle.std.specs.Prelude.{◌≡◌, ◌<◌, ◌*◌, ◌^◌, true, false, [], ◌∷◌, Some, None, IfOk, IfErr, IfSome};
     ghost use Rattle.std.specs.Prelude.{IfNone, OnOk, length, replicate};
     ghost use Rattle.zarrs_subset.specs.Boxes.{position_count};
-    ghost use Rattle.zarrs_subset.specs.Regions.{Box, LiesInShape, box_of, positions, seen_from};
+    ghost use Rattle.zarrs_subset.specs.Regions.{Box, LiesInShape, box_of, positions};
     ghost use Rattle.zarrs_chunk_grid.specs.Grids.{box_at, has_box};
     ghost use Rattle.zarrs_data_type.specs.Cell.{held_size};
     ghost use Rattle.zarrs_data_type.specs.ArrayData.{ArrayData, data_of};
@@ -41,7 +41,7 @@ impl<
     ghost use Rattle.zarrs_engine.specs.Engine.{layout_of, store_of};
     ghost use Rattle.zarrs_engine.specs.Outcomes.{RetrievesRegionOrRefuses, MayRetrieveRegion};
     ghost use Rattle.zarrs_array_layout.specs.Covers.{CoverRegion};
-    ghost use Rattle.zarrs_engine.specs.RegionReads.{DecodesStored, HasRead, ReadsOneMore};
+    ghost use Rattle.zarrs_engine.specs.RegionReads.{DecodesStored, HasRead, IsRegionOf, ReadsOneMore};
 
     /// How many cells a region has.
     ///
@@ -93,18 +93,18 @@ impl<
         Ok(made)
     }
 
-    /// The cells that a chunk of this box has of a part, seen from the corner of the chunk, or `None` if the chunk is
+    /// The cells that a chunk of this shape has of a part, seen from the corner of the chunk, or `None` if the chunk is
     /// absent. No other bytes of it are read than those that the part needs.
     pub(super) fn part_of_chunk(
         &self,
         alloc: Global,
         chunk_indices: &[u64],
-        chunk: &ArraySubset,
+        shape: &[u64],
         part: &ArraySubset,
     ) -> Result<Option<ArrayBytes<'static>>, ArrayError>
         requires boxed { has_box (layout_of self.now).grid chunk_indices.now ≡ true }
-        requires chunk { box_of chunk.now ≡ box_at (layout_of self.now).grid chunk_indices.now }
-        requires part { LiesInShape (box_of part.now) (box_of chunk.now).shape }
+        requires shape { shape.now ≡ (box_at (layout_of self.now).grid chunk_indices.now).shape }
+        requires part { LiesInShape (box_of part.now) shape.now }
         requires size { position_count (box_of part.now).shape * held_size (layout_of self.now).kind
             (layout_of self.now).fill < 2 ^ 64 }
         requires ask { MayDecodePart (layout_of self.now) (box_of part.now) chunk_indices.now
@@ -121,46 +121,11 @@ impl<
         let Some(source) = StoredValue::open(alloc, &self.storage, &key)? else {
             return Ok(None);
         };
-        if self.layout.cell_count(chunk).is_none() {
+        if self.layout.shape_count(shape).is_none() {
             return Err(ArrayError::SizeOverflow);
         }
-        let made = self.layout.decode_part(alloc, chunk, &source, part)?;
+        let made = self.layout.decode_part(alloc, shape, &source, part)?;
         Ok(Some(made))
-    }
-
-    /// The cells of a region that is a part of the chunk of this box, just as they are decoded. They are fill if there are
-    /// none: the region has no position, or the chunk is absent. `part` is the region, seen from the corner of the chunk.
-    fn region_in_chunk(
-        &self,
-        alloc: Global,
-        region: &ArraySubset,
-        chunk_indices: &[u64],
-        chunk: &ArraySubset,
-        part: &ArraySubset,
-    ) -> Result<Option<ArrayBytes<'static>>, ArrayError>
-        requires boxed { has_box (layout_of self.now).grid chunk_indices.now ≡ true }
-        requires chunk { box_of chunk.now ≡ box_at (layout_of self.now).grid chunk_indices.now }
-        requires part { IsPart (layout_of self.now) (box_of region.now) chunk_indices.now }
-        requires lies { LiesInBox (box_of region.now) (box_of chunk.now) }
-        requires seen { box_of part.now ≡ seen_from (box_of region.now) (box_of chunk.now).start }
-        requires size { read_size_refusal (layout_of self.now) (box_of region.now).shape ≡ None }
-        requires ask { MayDecodePart (layout_of self.now) (chunk_part (box_of region.now)
-            (box_of chunk.now)) chunk_indices.now (store_of S.state self.now) }
-        ensures none { IfOk result (λ found. IfNone found ((held : ArrayData) → ReadsOneMore
-            (layout_of self.now) (box_of region.now) chunk_indices.now (store_of S.state self.now)
-            held held)) }
-        ensures some { IfOk result (λ found. IfSome found (λ made. HasRead (layout_of self.now)
-            (box_of region.now) (chunk_indices.now ∷ []) (store_of S.state self.now)
-            (data_of made))) }
-        ensures refused { IfErr result
-            (λ e. RefusesSomeChunk (layout_of self.now) (box_of region.now)
-            (chunk_indices.now ∷ []) (store_of S.state self.now) (refusal_of e)) }
-    {
-        if region.is_empty() {
-            return Ok(None);
-        }
-        let found = self.part_of_chunk(alloc, chunk_indices, chunk, part)?;
-        Ok(found)
     }
 
     /// The cells of a region with those that one chunk has of it. An absent chunk changes nothing. Of a chunk that the
@@ -252,7 +217,7 @@ impl<
         let Some(shared) = shared_positions(alloc, region, chunk)? else {
             return Ok(held);
         };
-        let found = self.part_of_chunk(alloc, chunk_indices, chunk, &shared.part)?;
+        let found = self.part_of_chunk(alloc, chunk_indices, chunk.shape(), &shared.part)?;
         let Some(part) = found else {
             return Ok(held);
         };
@@ -353,37 +318,39 @@ impl<
             return self.retrieve_chunk(alloc, chunk_indices);
         }
         let part = seen_from_corner(alloc, region, chunk.start())?;
-        self.read_part(alloc, region, chunk_indices, &chunk, &part)
+        self.read_part(alloc, chunk_indices, chunk.shape(), &part)
     }
 
-    /// The same, of a region that is a part of the chunk of this box: `part` is the region, seen from the corner of the
-    /// chunk. No other bytes of the chunk are read than those that the part needs.
+    /// The cells of a part of the chunk with these indices, which has this shape, just as they are decoded. The part is
+    /// seen from the corner of the chunk, and is not all of it. Where the chunk is absent they are fill. No other bytes of
+    /// the chunk are read than those that the part needs.
     pub(super) fn read_part(
         &self,
         alloc: Global,
-        region: &ArraySubset,
         chunk_indices: &[u64],
-        chunk: &ArraySubset,
+        shape: &[u64],
         part: &ArraySubset,
     ) -> Result<ArrayBytes<'static>, ArrayError>
         requires boxed { has_box (layout_of self.now).grid chunk_indices.now ≡ true }
-        requires chunk { box_of chunk.now ≡ box_at (layout_of self.now).grid chunk_indices.now }
-        requires part { IsPart (layout_of self.now) (box_of region.now) chunk_indices.now }
-        requires lies { LiesInBox (box_of region.now) (box_of chunk.now) }
-        requires seen { box_of part.now ≡ seen_from (box_of region.now) (box_of chunk.now).start }
-        requires size { read_size_refusal (layout_of self.now) (box_of region.now).shape ≡ None }
-        requires ask { MayDecodePart (layout_of self.now) (chunk_part (box_of region.now)
-            (box_of chunk.now)) chunk_indices.now (store_of S.state self.now) }
-        ensures read { IfOk result (λ made. HasRead (layout_of self.now) (box_of region.now)
+        requires shape { shape.now ≡ (box_at (layout_of self.now).grid chunk_indices.now).shape }
+        requires part { LiesInShape (box_of part.now) shape.now }
+        requires size { read_size_refusal (layout_of self.now) (box_of part.now).shape ≡ None }
+        requires ask { MayDecodePart (layout_of self.now) (box_of part.now) chunk_indices.now
+            (store_of S.state self.now) }
+        ensures read { IfOk result (λ made. (region : Box) → IsRegionOf (layout_of self.now)
+            chunk_indices.now (box_of part.now) region → HasRead (layout_of self.now) region
             (chunk_indices.now ∷ []) (store_of S.state self.now) (data_of made)) }
-        ensures refused { IfErr result (λ e. RefusesSomeChunk (layout_of self.now)
-            (box_of region.now) (chunk_indices.now ∷ []) (store_of S.state self.now)
-            (refusal_of e)) }
+        ensures refused { IfErr result (λ e. (region : Box) → IsRegionOf (layout_of self.now)
+            chunk_indices.now (box_of part.now) region → RefusesSomeChunk (layout_of self.now)
+            region (chunk_indices.now ∷ []) (store_of S.state self.now) (refusal_of e)) }
     {
-        if let Some(made) = self.region_in_chunk(alloc, region, chunk_indices, chunk, part)? {
-            return Ok(made);
+        if part.is_empty() {
+            return self.layout.filled(alloc, part);
         }
-        self.layout.filled(alloc, region)
+        match self.part_of_chunk(alloc, chunk_indices, shape, part)? {
+            Some(made) => Ok(made),
+            None => self.layout.filled(alloc, part),
+        }
     }
 
     /// The cells of the region, in row-major order. Where a chunk is absent they are fill. The chunks that the region

@@ -1,5 +1,5 @@
-use Rattle.std.proofs.Common.{◌≡◌, ◌∙◌, ℕ, true, List, [], ◌∷◌, Some, sym, ap, subst}
-use Rattle.zarrs_subset.specs.Regions.{Box, box_of}
+use Rattle.std.proofs.Common.{◌≡◌, ◌∙◌, ℕ, true, List, [], ◌∷◌, Some, refl, sym, ap, subst}
+use Rattle.zarrs_subset.specs.Regions.{Box, box_at_origin, box_of}
 use Rattle.zarrs_storage.specs.Store.{StoreState}
 use Rattle.zarrs_data_type.specs.ArrayData.{data_of}
 use Rattle.zarrs_parts.proofs.Kept.{err_kept}
@@ -8,6 +8,8 @@ use Rattle.zarrs_source.specs.Stored.{key_of_source, state_of_source, value_or_e
 use Rattle.zarrs_calls.specs.Content.{decoded_cells}
 use Rattle.zarrs_calls.specs.Refusals.{is_too_large, refusal_of}
 use Rattle.zarrs_calls.specs.StateRefusals.{RefusesSomeChunk}
+use Rattle.zarrs_chunk_grid.specs.Grids.{box_at}
+use Rattle.zarrs_array_layout.specs.Steps.{RefusesPartBytes}
 use Rattle.zarrs_calls.proofs.Contents.{index_list}
 use Rattle.zarrs_engine.specs.Engine.{layout_of}
 use Rattle.zarrs_engine.proofs.PartBytes.{none_of, part_why, size_why, source_value}
@@ -29,8 +31,8 @@ returns-then-is_none-clause-refused g c = λ region.
     let state_is : state_of_source source ≡ state = rw c.in-Some.is at c.in_ok-source.ensures.state in
     let key_is : key_of_source source ≡ layout.key index = (rw c.in-Some.is at c.in_ok-source.ensures.key) ∙ c.in_ok-key.ensures.key in
     let found = source_value (state_of_source source) state (key_of_source source) (layout.key index) source.size state_is key_is source.sized in
-    let large = none_of c.cell_count.result c.is_none.result _ c.is_none.ensures c.if-is_none.true c.cell_count.ensures.large in
-    size_why layout region index state c.requires.boxed found.0 found.1 (subst (λ (b : Box). is_too_large layout b.shape ≡ true) c.requires.chunk large)
+    let large = none_of c.shape_count.result c.is_none.result _ c.is_none.ensures c.if-is_none.true c.shape_count.ensures.large in
+    size_why layout region index state c.requires.boxed found.0 found.1 (subst (λ s. is_too_large layout s ≡ true) c.requires.shape large)
 
 pub decode_part-requires-clause-may_read : goal.decode_part-requires-clause-may_read
 decode_part-requires-clause-may_read g c = λ place needed.
@@ -43,8 +45,8 @@ decode_part-requires-clause-may_read g c = λ place needed.
     let key_is : key_of_source source ≡ layout.key index = (rw c.in-Some.is at c.in_ok-source.ensures.key) ∙ c.in_ok-key.ensures.key in
     let found = source_value (state_of_source source) state (key_of_source source) (layout.key index) source.size state_is key_is source.sized in
     let words = index_list layout c.args.self.now.layout.lawful index c.requires.boxed in
-    let there = subst (λ (b : Box). layout.chain.places layout.kind b.shape part found.0 place ≡ true) c.requires.chunk
-    (subst (λ (v : List ℕ). layout.chain.places layout.kind (box_of c.args.chunk.now).shape part v place ≡ true) found.2 needed) in
+    let there = subst (λ s. layout.chain.places layout.kind s part found.0 place ≡ true) c.requires.shape
+    (subst (λ (v : List ℕ). layout.chain.places layout.kind c.args.shape.now part v place ≡ true) found.2 needed) in
     let may = c.requires.ask.places words found.0 place found.1 there in
     subst (λ (s : StoreState). s.may_read (key_of_source source) place ≡ true) (sym state_is)
     (subst (λ (key : List ℕ). state.may_read key place ≡ true) (sym key_is) may)
@@ -63,8 +65,8 @@ returns-in_err-made-clause-refused g c =
     ap (λ (s : StoreState). s.refuses (key_of_source source)) state_is ∙ ap state.refuses key_is in
     let r = refusal_of c.in_err-made.field-0.0 in
     let why : (region : Box) → RefusesSomeChunk layout region (index ∷ []) state r = λ region.
-    part_why layout region index state c.requires.boxed bytes ((state_of_source source).refuses (key_of_source source)) (box_of c.args.chunk.now) c.requires.chunk same (found.1 ∙ ap Some (sym found.2)) r
-    c.in_err-made.ensures.refused in
+    part_why layout region index state c.requires.boxed bytes ((state_of_source source).refuses (key_of_source source)) (box_at layout.grid index) refl same (found.1 ∙ ap Some (sym found.2)) r
+    (subst (λ s. RefusesPartBytes layout (box_at_origin s) bytes ((state_of_source source).refuses (key_of_source source)) r) c.requires.shape c.in_err-made.ensures.refused) in
     err_kept c.from_residual-in_err-made.result c.in_err-made.field-0.0 (λ e. (region : Box) → RefusesSomeChunk layout region (index ∷ []) state (refusal_of e)) c.from_residual-in_err-made.ensures.1 why
 
 pub returns-clause-part : goal.returns-clause-part
@@ -81,5 +83,5 @@ returns-clause-part g c =
     record {
       encoded = bytes;
       stands = found.1 ∙ ap Some (sym found.2);
-      decodes = subst (λ (b : Box). DecodesPart layout.kind b.shape part (decoded_cells layout b bytes) (data_of c.in_ok-made.made)) c.requires.chunk c.in_ok-made.ensures.cells;
+      decodes = subst (λ s. DecodesPart layout.kind s part (decoded_cells layout (box_at_origin s) bytes) (data_of c.in_ok-made.made)) c.requires.shape c.in_ok-made.ensures.cells;
     }

@@ -1,9 +1,10 @@
-use Rattle.std.proofs.Common.{◌≡◌, ◌<◌, ◌≤◌, ◌∙◌, ℕ, true, List, [], ◌∷◌, length, slice_index, rules, refl, sym, ap, subst, inl, inr, arith}
+use Rattle.std.proofs.Common.{◌<◌, ◌≤◌, ◌∙◌, ℕ, true, List, [], ◌∷◌, length, slice_index, rules, sym, ap, subst, inl, inr, arith}
 use Rattle.std.proofs.lemmas.Bool.{false≢true}
 use Rattle.std.proofs.lemmas.Result.{IfOk-weaker}
-use Rattle.zarrs_subset.specs.Regions.{Box, Holds, box_of, seen_from}
+use Rattle.zarrs_subset.specs.Regions.{Box, Holds, LiesInShape, box_of, seen_from}
 use Rattle.zarrs_array_bytes.specs.declared.array_bytes.ArrayBytes.{ArrayBytes}
-use Rattle.zarrs_byte_strings.specs.StringParts.{LiesInBox}
+use Rattle.zarrs_chunk_grid.specs.Grids.{box_at}
+use Rattle.zarrs_chunk_grid.proofs.Chunks.{box_long}
 use Rattle.zarrs_data_type.specs.ArrayData.{data_of}
 use Rattle.zarrs_calls.specs.declared.error.ArrayError.{ArrayError}
 use Rattle.zarrs_calls.specs.ArgumentRefusals.{read_size_refusal}
@@ -13,9 +14,10 @@ use Rattle.zarrs_calls.specs.Refusals.{length_refusal, refusal_of}
 use Rattle.zarrs_calls.specs.StateRefusals.{RefusesChunkRead, RefusesRegionRead, RefusesSomeChunk}
 use Rattle.zarrs_array_layout.proofs.OneChunk.{region_lies}
 use Rattle.zarrs_engine.specs.Engine.{layout_of}
-use Rattle.zarrs_engine.specs.RegionReads.{HasRead}
+use Rattle.zarrs_engine.specs.RegionReads.{HasRead, IsRegionOf}
 use Rattle.zarrs_engine.proofs.OneChunkReads.{chunk_read, chunk_refused, has, only_part}
 use Rattle.zarrs_engine.proofs.PartBytes.{box_why}
+use Rattle.zarrs_engine.proofs.PartReads.{alone_shared, part_asked}
 use Rattle.zarrs_engine.proofs.Puts.{each_error}
 use Rattle.zarrs_engine.proofs.RegionReads.{read_all}
 use Rattle.zarrs_engine.proofs.engine.Engine.read_in_chunk.Goals as goal
@@ -88,36 +90,67 @@ seen_from_corner-requires-clause-above g c =
 pub read_part-requires-clause-part : goal.read_part-requires-clause-part
 read_part-requires-clause-part g c =
     let layout = layout_of c.args.self.now in
-    only_part layout c.args.self.now.layout.lawful (box_of c.args.region.now) c.args.chunk_indices.now c.requires.cover c.requires.some
-    (λ same. false≢true (sym c.if-eq.false ∙ c.eq.ensures.1 (same ∙ sym c.in_ok-chunk.ensures.region)))
-
-pub read_part-requires-clause-lies : goal.read_part-requires-clause-lies
-read_part-requires-clause-lies g c =
-    let layout = layout_of c.args.self.now in
     let region = box_of c.args.region.now in
     let index = c.args.chunk_indices.now in
     let has = has layout c.args.self.now.layout.lawful region index c.requires.cover in
-    subst (λ (b : Box). LiesInBox region b) (sym c.in_ok-chunk.ensures.region)
-    (region_lies layout.grid c.args.self.now.layout.lawful.grid index has region c.requires.cover c.requires.some)
+    let lies = region_lies layout.grid c.args.self.now.layout.lawful.grid index has region c.requires.cover c.requires.some in
+    let seen = c.in_ok-part.ensures ∙ ap (λ (l : List ℕ). seen_from region l) (c.start.ensures ∙ ap (λ (b : Box). b.start) c.in_ok-chunk.ensures.region) in
+    let shape = c.shape.ensures ∙ ap (λ (b : Box). b.shape) c.in_ok-chunk.ensures.region in
+    subst (LiesInShape (box_of c.in_ok-part.part)) (sym shape)
+    (alone_shared region (box_at layout.grid index) (box_of c.in_ok-part.part) c.args.region.now.same_length (box_long layout.grid index) lies seen).lies
 
-pub read_part-requires-clause-seen : goal.read_part-requires-clause-seen
-read_part-requires-clause-seen g c = c.in_ok-part.ensures ∙ ap (λ (l : List ℕ). seen_from (box_of c.args.region.now) l) c.start.ensures
+pub read_part-requires-clause-size : goal.read_part-requires-clause-size
+read_part-requires-clause-size g c =
+    let layout = layout_of c.args.self.now in
+    ap (λ (b : Box). read_size_refusal layout b.shape) c.in_ok-part.ensures ∙ c.in_ok-count_to_read.ensures.accepted
+
+pub read_part-requires-clause-ask : goal.read_part-requires-clause-ask
+read_part-requires-clause-ask g c =
+    let layout = layout_of c.args.self.now in
+    let state = g.S.ReadableStorageTraits.state c.args.self.now.storage in
+    let region = box_of c.args.region.now in
+    let index = c.args.chunk_indices.now in
+    let has = has layout c.args.self.now.layout.lawful region index c.requires.cover in
+    let lies = region_lies layout.grid c.args.self.now.layout.lawful.grid index has region c.requires.cover c.requires.some in
+    let seen = c.in_ok-part.ensures ∙ ap (λ (l : List ℕ). seen_from region l) (c.start.ensures ∙ ap (λ (b : Box). b.start) c.in_ok-chunk.ensures.region) in
+    part_asked layout index (box_of c.in_ok-part.part) region state c.args.region.now.same_length lies seen c.requires.ask.part
 
 pub returns-clause-read : goal.returns-clause-read
 returns-clause-read g c =
     let layout = layout_of c.args.self.now in
+    let lawful = c.args.self.now.layout.lawful in
     let state = g.S.ReadableStorageTraits.state c.args.self.now.storage in
     let region = box_of c.args.region.now in
     let index = c.args.chunk_indices.now in
-    IfOk-weaker c.read_part.result (λ (made : ArrayBytes). HasRead layout region (index ∷ []) state (data_of made)) (λ (made : ArrayBytes). ReadsRegion layout region (index ∷ []) (data_of made) state)
-    (λ made r. read_all layout c.args.self.now.layout.lawful region (index ∷ []) state (data_of made) c.requires.cover r) c.read_part.ensures.read
+    let part = box_of c.in_ok-part.part in
+    let has = has layout lawful region index c.requires.cover in
+    let is : IsRegionOf layout index part region = record {
+      long = c.args.region.now.same_length;
+      lies = region_lies layout.grid lawful.grid index has region c.requires.cover c.requires.some;
+      seen = c.in_ok-part.ensures ∙ ap (λ (l : List ℕ). seen_from region l) (c.start.ensures ∙ ap (λ (b : Box). b.start) c.in_ok-chunk.ensures.region);
+      proper = only_part layout lawful region index c.requires.cover c.requires.some
+          (λ same. false≢true (sym c.if-eq.false ∙ c.eq.ensures.1 (same ∙ sym c.in_ok-chunk.ensures.region)));
+    } in
+    IfOk-weaker c.read_part.result (λ (made : ArrayBytes). (region : Box) → IsRegionOf layout index part region → HasRead layout region (index ∷ []) state (data_of made))
+    (λ (made : ArrayBytes). ReadsRegion layout region (index ∷ []) (data_of made) state)
+    (λ made r. read_all layout lawful region (index ∷ []) state (data_of made) c.requires.cover (r region is)) c.read_part.ensures.read
 
 pub returns-clause-refused : goal.returns-clause-refused
 returns-clause-refused g c =
     let layout = layout_of c.args.self.now in
+    let lawful = c.args.self.now.layout.lawful in
     let state = g.S.ReadableStorageTraits.state c.args.self.now.storage in
     let region = box_of c.args.region.now in
     let index = c.args.chunk_indices.now in
-    each_error c.read_part.result (λ (e : ArrayError). RefusesSomeChunk layout region (index ∷ []) state (refusal_of e))
+    let part = box_of c.in_ok-part.part in
+    let has = has layout lawful region index c.requires.cover in
+    let is : IsRegionOf layout index part region = record {
+      long = c.args.region.now.same_length;
+      lies = region_lies layout.grid lawful.grid index has region c.requires.cover c.requires.some;
+      seen = c.in_ok-part.ensures ∙ ap (λ (l : List ℕ). seen_from region l) (c.start.ensures ∙ ap (λ (b : Box). b.start) c.in_ok-chunk.ensures.region);
+      proper = only_part layout lawful region index c.requires.cover c.requires.some
+          (λ same. false≢true (sym c.if-eq.false ∙ c.eq.ensures.1 (same ∙ sym c.in_ok-chunk.ensures.region)));
+    } in
+    each_error c.read_part.result (λ (e : ArrayError). (region : Box) → IsRegionOf layout index part region → RefusesSomeChunk layout region (index ∷ []) state (refusal_of e))
     (λ (e : ArrayError). RefusesRegionRead layout (read_size_refusal layout region.shape) region (index ∷ []) state (refusal_of e))
-    (λ e why. inr (c.in_ok-count_to_read.ensures.accepted, why)) c.read_part.ensures.refused
+    (λ e why. inr (c.in_ok-count_to_read.ensures.accepted, why region is)) c.read_part.ensures.refused
