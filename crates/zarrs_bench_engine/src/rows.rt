@@ -6,7 +6,8 @@ use crate::cases::{
 };
 use crate::chunks::{PlainReadChunks, PlainStoreChunks, ReadChunks, StoreChunks};
 use crate::works::{
-    PlainLines, PlainPart, PlainRead, PlainStore, Read, ReadChunk, ReadPart, Store,
+    Compact, PlainLines, PlainPart, PlainRead, PlainStore, Read, ReadChunk, ReadPart, Store,
+    StorePart,
 };
 use std::alloc::Global;
 use std::time::Clock;
@@ -205,57 +206,84 @@ fn print_row<R: Clock + Print + Alloc<A = Global>>(table: &mut Table<'_, R>, row
     }
 }
 
-/// A row of a table of growths: its name, whether the store is measured and not the read, and the array and the part of it.
+/// What grows.
 #[derive(Clone, Copy)]
-struct Growing(&'static str, bool, (Form, Part));
+enum Grown {
+    /// The store of a region.
+    Store,
+    /// Its read.
+    Read,
+    /// The store of a part of the first chunk, written by itself.
+    StorePart,
+    /// The compaction of the first chunk, which is compact.
+    Compact,
+}
+
+/// A row of a table of growths: its name, what is measured, and the array and the part of it.
+#[derive(Clone, Copy)]
+struct Growing(&'static str, Grown, (Form, Part));
 
 /// The growths over samples of more and more chunks or subchunks.
 const CHUNK_GROWTHS: &[Growing] = &[
     Growing(
         "store all of an array of bytes, chunks of 1 KiB",
-        true,
+        Grown::Store,
         (CHUNKS, Part::All),
     ),
-    Growing("read it", false, (CHUNKS, Part::All)),
-    Growing("read one cell of it", false, (CHUNKS, Part::Cell)),
-    Growing("read absent chunks", false, (ABSENT_CHUNKS, Part::All)),
+    Growing("read it", Grown::Read, (CHUNKS, Part::All)),
+    Growing("read one cell of it", Grown::Read, (CHUNKS, Part::Cell)),
+    Growing(
+        "read absent chunks",
+        Grown::Read,
+        (ABSENT_CHUNKS, Part::All),
+    ),
     Growing(
         "store one shard of so many subchunks of 1 KiB",
-        true,
+        Grown::Store,
         (SUBCHUNKS, Part::All),
     ),
-    Growing("read it", false, (SUBCHUNKS, Part::All)),
-    Growing("read one cell of it", false, (SUBCHUNKS, Part::Cell)),
-    Growing("store texts, 64 a chunk", true, (TEXT_CHUNKS, Part::All)),
-    Growing("read them", false, (TEXT_CHUNKS, Part::All)),
+    Growing("read it", Grown::Read, (SUBCHUNKS, Part::All)),
+    Growing("read one cell of it", Grown::Read, (SUBCHUNKS, Part::Cell)),
+    Growing(
+        "store one cell of it, its subchunk by itself",
+        Grown::StorePart,
+        (SUBCHUNKS, Part::Cell),
+    ),
+    Growing("compact it", Grown::Compact, (SUBCHUNKS, Part::All)),
+    Growing(
+        "store texts, 64 a chunk",
+        Grown::Store,
+        (TEXT_CHUNKS, Part::All),
+    ),
+    Growing("read them", Grown::Read, (TEXT_CHUNKS, Part::All)),
     Growing(
         "store 100,000 texts, over more and more chunks",
-        true,
+        Grown::Store,
         (SPREAD_TEXTS, Part::All),
     ),
-    Growing("read them", false, (SPREAD_TEXTS, Part::All)),
+    Growing("read them", Grown::Read, (SPREAD_TEXTS, Part::All)),
     Growing(
         "store optional numbers, 256 a chunk",
-        true,
+        Grown::Store,
         (OPTION_CHUNKS, Part::All),
     ),
-    Growing("read them", false, (OPTION_CHUNKS, Part::All)),
+    Growing("read them", Grown::Read, (OPTION_CHUNKS, Part::All)),
 ];
 
 /// The growths over samples of more and more dimensions.
 const CUBE_GROWTHS: &[Growing] = &[
     Growing(
         "store 65,536 bytes over 8 chunks",
-        true,
+        Grown::Store,
         (Form::Cube, Part::All),
     ),
-    Growing("read them", false, (Form::Cube, Part::All)),
+    Growing("read them", Grown::Read, (Form::Cube, Part::All)),
     Growing(
         "store half of them: of each row of 16 the middle 8",
-        true,
+        Grown::Store,
         (Form::Cube, Part::Half),
     ),
-    Growing("read the same half", false, (Form::Cube, Part::Half)),
+    Growing("read the same half", Grown::Read, (Form::Cube, Part::Half)),
 ];
 
 /// Prints the growths of this crate, in two tables.
@@ -282,10 +310,11 @@ fn print_growth<R: Clock + Print + Alloc<A = Global>>(
     scale: Scale,
     growth: Growing,
 ) {
-    let Growing(name, is_store, form) = growth;
-    if is_store {
-        table.growth::<Store>(scale, name, form);
-    } else {
-        table.growth::<Read>(scale, name, form);
+    let Growing(name, grown, form) = growth;
+    match grown {
+        Grown::Store => table.growth::<Store>(scale, name, form),
+        Grown::Read => table.growth::<Read>(scale, name, form),
+        Grown::StorePart => table.growth::<StorePart>(scale, name, form),
+        Grown::Compact => table.growth::<Compact>(scale, name, form),
     }
 }

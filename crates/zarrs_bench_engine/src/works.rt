@@ -9,6 +9,8 @@ use zarrs_bench_plain::lists::{read_options, read_texts, store_chunks, tested_ce
 use zarrs_bench_plain::regions::{read_lines, read_part, read_region, store_region};
 use zarrs_bench_rows::measure::Work;
 use zarrs_bench_rows::samples::{bytes_in, tested};
+use zarrs_codec::CodecOptions;
+use zarrs_engine::{Call, Reply};
 use zarrs_storage::MemoryStore;
 
 /// `Engine::store_array_subset`.
@@ -101,6 +103,33 @@ impl Work for ReadPart {
         let byte = tested(bytes_in(&found));
         drop(found);
         Ok(byte)
+    }
+}
+
+/// `Engine::store_chunk_subset` of the first chunk, whose parts are written by themselves.
+pub struct StorePart;
+
+impl Work for StorePart {
+    type Sample = Cells;
+
+    fn run(alloc: Global, sample: &mut Cells) -> Result<u8> {
+        let options = CodecOptions::default().with_experimental_partial_encoding(true);
+        let (engine, part, cells) = (&mut sample.engine, &sample.subset, &sample.cells);
+        engine.store_chunk_subset(alloc, &[0, 0], part, cells, &options)?;
+        Ok(0)
+    }
+}
+
+/// `Engine::compact_chunk` of the first chunk, which is compact.
+pub struct Compact;
+
+impl Work for Compact {
+    type Sample = Cells;
+
+    fn run(alloc: Global, sample: &mut Cells) -> Result<u8> {
+        let call = Call::CompactChunk(vec![in alloc; 0; 2]?);
+        let reply = sample.engine.answer(alloc, &call, &CodecOptions::default());
+        Ok(u8::from(matches!(reply, Reply::Compacted(true))))
     }
 }
 
