@@ -3,6 +3,7 @@ pub mod Cells
 pub mod Filled
 pub mod Fills
 pub mod Fixed
+pub mod FixedSizes
 pub mod Made
 pub mod Parts
 pub mod Pieces

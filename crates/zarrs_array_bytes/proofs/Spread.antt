@@ -1,13 +1,14 @@
 -- The cells of one size at the places of flags that are set.
 use Rattle.std.proofs.Common.{◌≡◌, ℕ, zero, suc, ◌+◌, ◌*◌, ◌/◌, ◌<◌, ◌==◌, true, false, List, [], ◌∷◌, ◌++◌, length, map, take, get_or}
-use Rattle.std.proofs.Common.{Some, refl, sym, ap, ◌∙◌, subst, arith}
+use Rattle.std.proofs.Common.{Some, sym, ap, ◌∙◌, subst, arith}
 use Rattle.std.specs.Prelude.{All, count_by, slice_index, slice_range}
 use Rattle.std.specs.List.{flat_map}
 use Rattle.std.specs.Simd.{first_chunks}
 use Rattle.std.proofs.lemmas.Bool.{eqb-true, false≢true, false_from_ne_true}
 use Rattle.std.proofs.lemmas.List.Sums.{count_by_more_yes, count_by_more_no}
 use Rattle.std.proofs.Math.Nat.{mul-div_cancel}
-use Rattle.std.proofs.lemmas.List.{length-map, get_or-map, map-append}
+use Rattle.std.proofs.lemmas.Grind.{flat_map-append}
+use Rattle.std.proofs.lemmas.List.{append-nil, length-map, get_or-map, map-append}
 use Rattle.std.proofs.lemmas.List.FromFn.{get_or-map-range_with_len}
 use Rattle.zarrs_numbers.proofs.Chunks.{first_chunks-at}
 use Rattle.zarrs_types.specs.Kind.{Kind, element_size}
@@ -48,15 +49,18 @@ IsStep-set mask n count at lt is there pair =
     }
 
 -- one cell more
-pub spread_more : (cs : List (List ℕ)) (mask : List ℕ) (n rank : ℕ) (old new : List (List ℕ)) (item : List ℕ) → old ≡ map (λ r. get_or cs r []) (ranks_set mask n)
-    → ranks_set mask (n + 1) ≡ ranks_set mask n ++ rank ∷ [] → item ≡ get_or cs rank [] → new ≡ old ++ item ∷ [] → new ≡ map (λ r. get_or cs r []) (ranks_set mask (n + 1))
-spread_more cs mask n rank old new item so_far next is pushed =
+pub spread_more : (cs : List (List ℕ)) (mask : List ℕ) (n rank : ℕ) (old new item : List ℕ) → old ≡ flat_map (λ x. x) (map (λ r. get_or cs r []) (ranks_set mask n))
+    → ranks_set mask (n + 1) ≡ ranks_set mask n ++ rank ∷ [] → item ≡ get_or cs rank [] → new ≡ old ++ item → new ≡ flat_map (λ x. x) (map (λ r. get_or cs r []) (ranks_set mask (n + 1)))
+spread_more cs mask n rank old new item so_far next is put =
     let f : ℕ → List ℕ = λ r. get_or cs r [] in
-    pushed
-    ∙ ap (λ l. l ++ item ∷ []) so_far
-    ∙ ap (λ c. map f (ranks_set mask n) ++ c ∷ []) is
-    ∙ sym (map-append f (ranks_set mask n) (rank ∷ []))
-    ∙ ap (map f) (sym next)
+    let flat : List (List ℕ) → List ℕ = flat_map (λ x. x) in
+    let front = map f (ranks_set mask n) in
+    put
+    ∙ ap (λ l. l ++ item) so_far
+    ∙ ap (λ c. flat front ++ c) (is ∙ sym (append-nil (f rank)))
+    ∙ sym (flat_map-append (λ x. x) front (map f (rank ∷ [])))
+    ∙ ap flat (sym (map-append f (ranks_set mask n) (rank ∷ [])))
+    ∙ ap (λ l. flat (map f l)) (sym next)
 
 module _ (b : List ℕ) (size n : ℕ) (ranks : List ℕ) (len : length b ≡ n * size) (within : All (λ p. p < n) ranks) where
   abbrev pub chosen : List (List ℕ)
@@ -90,18 +94,17 @@ module _ (b : List ℕ) (size n : ℕ) (ranks : List ℕ) (len : length b ≡ n 
       ∙ chosen-at k [] lt
 
 -- the cells put together
-pub spread_is : (b mask out : List ℕ) (size : ℕ) (cs spread : List (List ℕ)) → 0 < size → 0 < count_by flag_set mask → length b ≡ count_by flag_set mask * size → cs ≡ first_chunks size (length b / size) b
-    → spread ≡ map (λ r. get_or cs r []) (ranks_set mask (length mask)) → out ≡ flat_map (λ x. x) spread
+pub spread_is : (b mask out : List ℕ) (size : ℕ) (cs : List (List ℕ)) → 0 < size → 0 < count_by flag_set mask → length b ≡ count_by flag_set mask * size → cs ≡ first_chunks size (length b / size) b
+    → out ≡ flat_map (λ x. x) (map (λ r. get_or cs r []) (ranks_set mask (length mask)))
     → (length out ≡ length mask * size) × ((k : ℕ) → k < length (ranks_set mask (length mask))
     → slice_range out (k * size) (k * size + size) ≡ slice_range b (slice_index (ranks_set mask (length mask)) k * size) (slice_index (ranks_set mask (length mask)) k * size + size))
-spread_is b mask out size cs spread wide some len cut are joined =
+spread_is b mask out size cs wide some len cut are =
     let ones = count_by flag_set mask in
     let ranks = ranks_set mask (length mask) in
     let within = ranks_within mask some in
     let count : length b / size ≡ ones = ap (λ m. m / size) len ∙ mul-div_cancel ones wide in
     let pieces : cs ≡ first_chunks size ones b = cut ∙ ap (λ m. first_chunks size m b) count in
-    let whole : out ≡ flat_map (λ x. x) (chosen b size ones ranks len within) =
-    joined ∙ ap (flat_map (λ x. x)) (are ∙ ap (λ l. map (λ r. get_or l r []) ranks) pieces) in (
+    let whole : out ≡ flat_map (λ x. x) (chosen b size ones ranks len within) = are ∙ ap (λ l. flat_map (λ x. x) (map (λ r. get_or l r []) ranks)) pieces in (
       ap length whole ∙ length-chosen b size ones ranks len within ∙ ap (λ m. m * size) (length-ranks mask),
       λ k lt. ap (λ l. slice_range l (k * size) (k * size + size)) whole ∙ slice_range-chosen b size ones ranks len within k lt,
     )

@@ -18,8 +18,9 @@ use Rattle.zarrs_metadata.specs.Extension.{◌>>=◌}
 use Rattle.zarrs_shard.specs.Steps.{all_present}
 use Rattle.zarrs_shard.specs.Subchunks.{is_cut_by, quotients, subchunk_count, subchunk_of, assembled}
 use Rattle.zarrs_shard.proofs.Cuts.{subchunk_of-assembled}
-use Rattle.zarrs_shard.proofs.Missing.{some_is, bind_parts, given_if-parts, given_if-true, values_only_parts, length-all_present, all_present-at, all_present-from}
+use Rattle.zarrs_shard.proofs.Missing.{bind_parts, given_if-parts, given_if-true, values_only_parts, length-all_present, all_present-at, all_present-from}
 use Rattle.zarrs_shard.proofs.ShardLaws.{compaction_is, length-shard_parts}
+use Rattle.zarrs_array_bytes.proofs.FixedSizes.{some_is}
 
 all_fill_replicate : (f : Cell) (n : ℕ) → is_all_fill f (replicate n f) ≡ true
 all_fill_replicate f zero = refl

@@ -15,7 +15,7 @@ use Rattle.zarrs_subset.proofs.RearrangedCells.{made_from}
 use Rattle.zarrs_shard.specs.SubchunkData.{PutsSubchunk, FillsChunk, HasSubchunks, StartsChunk}
 use Rattle.zarrs_shard.specs.Subchunks.{is_cut_by, quotients, corner, subchunk_count, subchunk_of, subchunk_at, assembled}
 use Rattle.zarrs_shard.proofs.Cuts.{assembled_again, position_inside}
-use Rattle.zarrs_shard.proofs.Missing.{some_is}
+use Rattle.zarrs_array_bytes.proofs.FixedSizes.{some_is}
 
 -- the entries of a list with one more
 more_at : {X : Type 0} (xs : List X) (x d : X) (P : ℕ → X) → ((j : ℕ) → j < length xs → P j ≡ get_or xs j d) → P (length xs) ≡ x → (j : ℕ) → j < length (xs ++ x ∷ []) → P j ≡ get_or (xs ++ x ∷ []) j d

@@ -5,9 +5,7 @@ use Rattle.zarrs_types.specs.Kind.{Kind}
 use Rattle.zarrs_types.specs.Cell.{Cell, are_values, values_only}
 use Rattle.zarrs_metadata.specs.Extension.{◌>>=◌}
 use Rattle.zarrs_shard.specs.Steps.{given_if, all_present}
-
-pub some_is : {A : Type 0} {x y : A} → Some x ≡ Some y → x ≡ y
-some_is e = cc
+use Rattle.zarrs_array_bytes.proofs.FixedSizes.{some_is}
 
 pub bind_parts : {A B : Type 0} (o : Option A) (f : A → Option B) (y : B) → (o >>= f) ≡ Some y → (x : A) × (o ≡ Some x) × (f x ≡ Some y)
 bind_parts None f y is = cc

@@ -12,8 +12,9 @@ use Rattle.zarrs_byte_strings.proofs.ByteStrings.{slice_range-front}
 use Rattle.zarrs_shard.specs.PartialShards.{written_over, stored_parts, stored_entries, stored_end, changed_parts, changed_entries, changed_bytes, changed_text}
 use Rattle.zarrs_shard.specs.Shards.{absent, entry_bytes, named_part, shard_parts}
 use Rattle.zarrs_shard.specs.Steps.{given_if, all_present}
-use Rattle.zarrs_shard.proofs.Missing.{some_is, given_if-parts, given_if-true, all_present-cons, all_present-parts}
+use Rattle.zarrs_shard.proofs.Missing.{given_if-parts, given_if-true, all_present-cons, all_present-parts}
 use Rattle.zarrs_shard.proofs.ShardBytes.{length-entry_bytes, entry_absent, entry_present}
+use Rattle.zarrs_array_bytes.proofs.FixedSizes.{some_is}
 
 -- ---- an entry that stays
 

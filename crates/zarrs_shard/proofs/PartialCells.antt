@@ -24,10 +24,11 @@ use Rattle.zarrs_shard.specs.Steps.{given_if, all_present}
 use Rattle.zarrs_shard.specs.Subchunks.{is_cut_by, quotients, remainders, corner, subchunk_count, subchunk_of, subchunk_at, assembled}
 use Rattle.zarrs_shard.proofs.Cuts.{position_divided, position_inside, assembled_again, length-assembled, subchunk_len, subchunk_all, subchunk_of-assembled}
 use Rattle.zarrs_shard.proofs.Grids.{cut_len}
-use Rattle.zarrs_shard.proofs.Missing.{some_is, bind_parts, given_if-parts, given_if-true, values_only_parts, length-all_present, all_present-at, all_present-from}
+use Rattle.zarrs_shard.proofs.Missing.{bind_parts, given_if-parts, given_if-true, values_only_parts, length-all_present, all_present-at, all_present-from}
 use Rattle.zarrs_shard.proofs.PartialBytes.{written_parts}
 use Rattle.zarrs_shard.proofs.ShardLaws.{length-shard_parts, part_again}
 use Rattle.zarrs_shard.proofs.SubchunkBoxes.{long_corner, place_in_chunk}
+use Rattle.zarrs_array_bytes.proofs.FixedSizes.{some_is}
 
 -- a position of the box of a chunk is one of the chunk
 holds_in : (s p : List ℕ) → Holds (box_at_origin s) p → InShape s p

@@ -15,9 +15,10 @@ use Rattle.zarrs_shard.specs.declared.shard_index.SubchunkRange.{SubchunkRange}
 use Rattle.zarrs_shard.specs.Shards.{absent, entry_bytes}
 use Rattle.zarrs_shard.specs.Steps.{given_if}
 use Rattle.zarrs_shard.specs.declared.patch.ShardPatch.{ShardPatch}
-use Rattle.zarrs_shard.proofs.Missing.{some_is, given_if-parts, given_if-true}
+use Rattle.zarrs_shard.proofs.Missing.{given_if-parts, given_if-true}
 use Rattle.zarrs_shard.proofs.ShardLaws.{length-shard_parts}
 use Rattle.zarrs_shard.proofs.PartialBytes.{AreEntries, is_stored, length-changed_index}
+use Rattle.zarrs_array_bytes.proofs.FixedSizes.{some_is}
 
 -- ---- one more subchunk
 

@@ -19,8 +19,8 @@ use Rattle.zarrs_shard.specs.Sharded.{is_all_fill}
 use Rattle.zarrs_shard.specs.ShardIndex.{IsSameWriter, PushesPart}
 use Rattle.zarrs_shard.specs.Subchunks.{is_cut_by, subchunk_box, subchunk_count}
 use Rattle.zarrs_shard.proofs.FixedCells.{extracts_fixed}
-use Rattle.zarrs_shard.proofs.Missing.{some_is}
 use Rattle.zarrs_shard.proofs.SubchunkCells.{extracts_subchunk}
+use Rattle.zarrs_array_bytes.proofs.FixedSizes.{some_is}
 
 -- ---- a list that gets longer, whose new bytes are written over
 

@@ -10,8 +10,9 @@ use Rattle.std.proofs.Math.Seq.{drop-append_seam}
 use Rattle.zarrs_subset.specs.Pieces.{pieces}
 use Rattle.zarrs_array_bytes.proofs.Pieces.{length-flat_map_same, pieces-flat_map}
 use Rattle.zarrs_shard.specs.Steps.{given_if, all_present}
-use Rattle.zarrs_shard.proofs.Missing.{given_if-true, given_if-parts, some_is, all_present-cons}
+use Rattle.zarrs_shard.proofs.Missing.{given_if-true, given_if-parts, all_present-cons}
 use Rattle.zarrs_shard.specs.Shards.{absent, entry_bytes, entries, data_bytes, index_bytes, shard_bytes, written_shard, named_part, shard_parts}
+use Rattle.zarrs_array_bytes.proofs.FixedSizes.{some_is}
 
 length-le8 : (n : ℕ) → length (to_le_bytes w64 n) ≡ 8
 length-le8 n = refl

@@ -20,8 +20,9 @@ use Rattle.zarrs_metadata.specs.Extension.{◌>>=◌}
 use Rattle.zarrs_shard.specs.Steps.{given_if, all_present}
 use Rattle.zarrs_shard.specs.Subchunks.{is_cut_by, quotients, subchunk_count, subchunk_of, assembled}
 use Rattle.zarrs_shard.proofs.Cuts.{assembled_again, length-assembled, subchunk_len, subchunk_all}
-use Rattle.zarrs_shard.proofs.Missing.{some_is, bind_parts, given_if-parts, given_if-true, given_if-false, values_only_parts, length-all_present, all_present-at, all_present-from}
+use Rattle.zarrs_shard.proofs.Missing.{bind_parts, given_if-parts, given_if-true, given_if-false, values_only_parts, length-all_present, all_present-at, all_present-from}
 use Rattle.zarrs_shard.proofs.ShardBytes.{shard_parts-shard_bytes, written_again}
+use Rattle.zarrs_array_bytes.proofs.FixedSizes.{some_is}
 
 fill_is : (f : Cell) (cs : List Cell) → is_all_fill f cs ≡ true → cs ≡ replicate (length cs) f
 fill_is f [] is = refl

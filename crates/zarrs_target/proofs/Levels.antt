@@ -19,7 +19,8 @@ use Rattle.zarrs_array_bytes.specs.Parts.{TakesAt, TakesEach}
 use Rattle.zarrs_array_bytes.proofs.Filled.{fits-fixed, fits-optional}
 use Rattle.zarrs_array_bytes.proofs.Parts.{takes-fixed}
 use Rattle.zarrs_target.specs.Targets.{HasLevels, KeepsAt, KeepsOutside, TakesLevels, masked}
-use Rattle.zarrs_target.proofs.TypeSizes.{some_is, optional_is, element_is}
+use Rattle.zarrs_target.proofs.TypeSizes.{element_is}
+use Rattle.zarrs_array_bytes.proofs.FixedSizes.{optional_is, some_is}
 
 -- ---- what stays
 

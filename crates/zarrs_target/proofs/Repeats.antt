@@ -18,7 +18,8 @@ use Rattle.zarrs_array_bytes.proofs.Filled.{cell_at-fixed, fits-fixed, fits-opti
 use Rattle.zarrs_array_bytes.proofs.Pieces.{length-repeat}
 use Rattle.zarrs_target.specs.Targets.{HasLevels, repeated}
 use Rattle.zarrs_target.proofs.Rows.{repeat_piece}
-use Rattle.zarrs_target.proofs.TypeSizes.{optional_is, variable_none}
+use Rattle.zarrs_target.proofs.TypeSizes.{variable_none}
+use Rattle.zarrs_array_bytes.proofs.FixedSizes.{optional_is}
 
 -- ---- runs
 

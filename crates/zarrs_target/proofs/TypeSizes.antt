@@ -8,25 +8,7 @@ use Rattle.zarrs_array_bytes.specs.ArrayData.{ArrayData, fixed, variable, option
 use Rattle.zarrs_array_bytes.specs.Cells.{fits}
 use Rattle.zarrs_array_bytes.proofs.Filled.{fits-fixed, fits-variable, fits-optional}
 use Rattle.zarrs_target.specs.Targets.{HasLevels, depth_of, takes_type}
-
-pub some_is : {A : Type 0} {x y : A} → Some x ≡ Some y → x ≡ y
-some_is e = cc
-
--- an optional type
-pub optional_is : (k u : Kind) → inner_of k ≡ Some u → k ≡ type.optional u
-optional_is (type.optional inner) u is = ap type.optional (some_is is)
-optional_is type.bool u is = cc
-optional_is type.int8 u is = cc
-optional_is type.int16 u is = cc
-optional_is type.int32 u is = cc
-optional_is type.int64 u is = cc
-optional_is type.uint8 u is = cc
-optional_is type.uint16 u is = cc
-optional_is type.uint32 u is = cc
-optional_is type.uint64 u is = cc
-optional_is (type.raw n) u is = cc
-optional_is type.string u is = cc
-optional_is type.bytes u is = cc
+use Rattle.zarrs_array_bytes.proofs.FixedSizes.{optional_is, some_is}
 
 -- a type with elements of one size
 pub element_is : (k : Kind) (size : ℕ) → element_size k ≡ Some size → (fixed_size k ≡ Some size) × (depth_of k ≡ 0)

@@ -1,6 +1,6 @@
 //! The present cells of optional data at the places of the flags that are set.
-ghost use Rattle.std.specs.Prelude.{◌≡◌, ◌<◌, ◌+◌, ◌*◌, ◌^◌, ℕ, true, EachIndex, IfOk, IsTrue};
-ghost use Rattle.std.specs.Prelude.{count_by, length, slice_index, slice_range};
+ghost use Rattle.std.specs.Prelude.{◌≡◌, ◌<◌, ◌≤◌, ◌+◌, ◌*◌, ◌^◌, ◌++◌, ℕ, true, EachIndex, IfOk, IsTrue};
+ghost use Rattle.std.specs.Prelude.{count_by, length, slice_index, slice_range, vec_capacity, vec_len};
 ghost use Rattle.zarrs_array_bytes.specs.ArrayData.{data_of};
 ghost use Rattle.zarrs_array_bytes.specs.Cells.{fits, HasCells, IsSelection};
 ghost use Rattle.zarrs_array_bytes.specs.Present.{flag_set, ranks_set};
@@ -29,6 +29,19 @@ fn ranks_set(alloc: Global, mask: &[u8]) -> Result<Vec<usize>, AllocError>
     Ok(ranks)
 }
 
+/// Appends a cell to bytes that have room for it: byte by byte, since the compiler makes one write of them.
+#[inline(always)]
+fn push_cell<const N: usize>(bytes: &mut Vec<u8>, cell: [u8; N])
+    requires { vec_len bytes.old + N ≤ vec_capacity bytes.old }
+    ensures items { bytes.new.items ≡ bytes.old.items ++ cell.entry }
+    ensures len { vec_len bytes.new ≡ vec_len bytes.old + N }
+    ensures capacity { vec_capacity bytes.new ≡ vec_capacity bytes.old }
+{
+    for index in 0..N {
+        bytes.push_reserved(cell[index]);
+    }
+}
+
 /// Does what `spread_fixed` says, with cells of `N` bytes.
 fn spread_sized<const N: usize>(
     alloc: Global,
@@ -39,6 +52,7 @@ fn spread_sized<const N: usize>(
     requires small { N < 9 }
     requires some { 0 < count_by flag_set mask.now }
     requires cells { length bytes.now ≡ count_by flag_set mask.now * N }
+    requires size { length mask.now * N < 2 ^ 64 }
     ensures len { IfOk result (λ spread. length spread.items ≡ length mask.now * N) }
     ensures cells { IfOk result (λ spread. EachIndex (ranks_set mask.now (length mask.now)) (λ k.
         slice_range spread.items (k * N) (k * N + N)
@@ -46,7 +60,7 @@ fn spread_sized<const N: usize>(
         (slice_index (ranks_set mask.now (length mask.now)) k * N + N))) }
 {
     let (cells, _) = bytes.as_chunks::<N>();
-    let mut spread = Vec::with_capacity(alloc, mask.len())?;
+    let mut spread = Vec::with_capacity(alloc, mask.len() * N)?;
     let mut count = 0;
     for index in 0..mask.len() {
         let (rank, next) = if mask[index] == 0 {
@@ -54,10 +68,10 @@ fn spread_sized<const N: usize>(
         } else {
             (count, count + 1)
         };
-        spread.push_reserved(cells[rank]);
+        push_cell::<N>(&mut spread, cells[rank]);
         count = next;
     }
-    Vec::from_slice(alloc, spread.as_slice().as_flattened())
+    Ok(spread)
 }
 
 /// For each flag that is set the next of the cells, which have `size` bytes; for another one the first of them.
@@ -69,6 +83,7 @@ fn spread_fixed(
 ) -> Result<Vec<u8>, AllocError>
     requires some { 0 < count_by flag_set mask.now }
     requires cells { length cells.now ≡ count_by flag_set mask.now * size }
+    requires size { length mask.now * size < 2 ^ 64 }
     ensures len { IfOk result (λ spread. length spread.items ≡ length mask.now * size) }
     ensures cells { IfOk result (λ spread. EachIndex (ranks_set mask.now (length mask.now)) (λ k.
         slice_range spread.items (k * size) (k * size + size)

@@ -8,8 +8,9 @@ use Rattle.zarrs_target.specs.States.{parent_box, target_box, data_of_target}
 use Rattle.zarrs_target.specs.Targets.{TakesLevels, masked, repeated}
 use Rattle.zarrs_target.proofs.TypeSizes.{type_taken, levels_of}
 use Rattle.zarrs_target.proofs.Levels.{levels_keep, masked_keeps, masked_levels}
-use Rattle.zarrs_target.proofs.Fills.{filled_fits, held_fixed, levels_filled}
+use Rattle.zarrs_target.proofs.Fills.{filled_fits, levels_filled}
 use Rattle.zarrs_target.proofs.target.copy_fill_value_into.Goals as goal
+use Rattle.zarrs_array_bytes.proofs.FixedSizes.{held_fixed}
 
 pub new_fill_value-requires-clause-size : goal.new_fill_value-requires-clause-size
 new_fill_value-requires-clause-size c =

@@ -1,7 +1,8 @@
-use Rattle.std.proofs.Common.{◌≡◌, ℕ, ◌*◌, true, Some, sym, ap, subst, ◌∙◌, length}
+use Rattle.std.proofs.Common.{◌≡◌, ◌*◌, ◌<◌, ◌^◌, true, Some, sym, ap, subst, ◌∙◌, length}
 use Rattle.std.specs.Prelude.{count_by}
 use Rattle.std.proofs.lemmas.Result.{IfOk-weaker}
 use Rattle.zarrs_types.specs.Kind.{kind, element_size}
+use Rattle.zarrs_types.proofs.Sizes.{cell_size-element}
 use Rattle.zarrs_array_bytes.specs.ArrayData.{data_of, fixed}
 use Rattle.zarrs_array_bytes.specs.Cells.{fits, HasCells, IsSelection}
 use Rattle.zarrs_array_bytes.specs.Present.{flag_set, ranks_set}
@@ -23,6 +24,12 @@ spread_fixed-requires-clause-cells c =
     let size : element_size k ≡ Some c.in-Some.size = sym c.element_size.ensures ∙ c.in-Some.is in
     let same : data_of c.args.self.now ≡ fixed c.as_slice.result.now = ap data_of c.in-Fixed.is ∙ ap fixed (sym c.as_slice.ensures.value) in
     length-fixed k c.in-Some.size size c.as_slice.result.now ones (subst (λ d. HasCells k d ones) same c.requires.present)
+
+pub spread_fixed-requires-clause-size : goal.spread_fixed-requires-clause-size
+spread_fixed-requires-clause-size c =
+    let k = kind c.args.data_type.now in
+    let size : element_size k ≡ Some c.in-Some.size = sym c.element_size.ensures ∙ c.in-Some.is in
+    subst (λ n. length c.args.mask.now * n < 2 ^ 64) (cell_size-element k c.in-Some.size size) c.requires.size
 
 pub returns-in-Fixed-clause-cells : goal.returns-in-Fixed-clause-cells
 returns-in-Fixed-clause-cells c = λ n fit some_there.

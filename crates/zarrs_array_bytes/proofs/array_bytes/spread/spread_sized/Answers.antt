@@ -1,9 +1,9 @@
-use Rattle.std.proofs.Common.{◌≡◌, ◌+◌, ◌/◌, ◌<◌, [], length, map, get_or, ap, ◌∙◌, arith}
+use Rattle.std.proofs.Common.{◌≡◌, ◌*◌, ◌/◌, ◌<◌, [], length, map, get_or, refl, ap, ◌∙◌, arith}
 use Rattle.std.specs.Prelude.{count_by}
 use Rattle.std.specs.List.{flat_map}
 use Rattle.std.proofs.Math.Nat.{mul-div_cancel}
 use Rattle.std.proofs.lemmas.List.{get_or_default}
-use Rattle.std.proofs.lemmas.Result.{IfOk-weaker}
+use Rattle.zarrs_subset.proofs.Kernel.{cell_ends}
 use Rattle.zarrs_array_bytes.specs.Present.{flag_set, ranks_set}
 use Rattle.zarrs_array_bytes.proofs.Spread.{IsStep, IsStep-set, IsStep-unset, spread_more, spread_is}
 use Rattle.zarrs_array_bytes.proofs.array_bytes.spread.spread_sized.Goals as goal
@@ -45,30 +45,31 @@ loop-index-preserved g c =
     let below : rank < length cells = omega (arith, step.below, count) in
     let item : c.index-cells-rank.result ≡ get_or cells rank [] = c.index-cells-rank.is ∙ get_or_default cells rank c.index-cells-rank.result [] below in
     record {
-      cells = spread_more cells mask n rank c.loop-index.spread.items c.push_reserved.new.self.items c.index-cells-rank.result c.loop-index.invariant.cells step.rank item c.push_reserved.ensures.items;
+      cells = spread_more cells mask n rank c.loop-index.spread.items c.push_cell.new.bytes.items c.index-cells-rank.result c.loop-index.invariant.cells step.rank item c.push_cell.ensures.items;
       count = step.count;
-      len = c.push_reserved.ensures.len ∙ ap (λ m. m + 1) c.loop-index.invariant.len;
-      room = c.push_reserved.ensures.capacity ∙ c.loop-index.invariant.room;
+      len = omega (arith, c.push_cell.ensures.len, c.loop-index.invariant.len);
+      room = c.push_cell.ensures.capacity ∙ c.loop-index.invariant.room;
     }
+
+pub push_cell-requires : goal.push_cell-requires
+push_cell-requires g c =
+    let mask = c.args.mask.now in
+    let n = c.loop-index.index in
+    let ends = cell_ends g.row.N n (length mask) (length mask * g.row.N) c.loop-index-test.true refl in
+    omega (arith, c.loop-index.invariant.len, c.loop-index.invariant.room, ends)
 
 pub returns-clause-len : goal.returns-clause-len
 returns-clause-len g c =
     let mask = c.args.mask.now in
     let cells = c.as_chunks.result.0.now in
     let done : c.loop-index.index ≡ length mask = omega arith in
-    let all = c.loop-index.invariant.cells ∙ ap (λ n. map (λ r. get_or cells r []) (ranks_set mask n)) done in
-    let joined = c.as_flattened.ensures.value ∙ ap (flat_map (λ x. x)) c.as_slice.ensures.value in
-    IfOk-weaker c.from_slice.result _ _
-    (λ made is. (spread_is c.args.bytes.now mask made.items g.row.N cells c.loop-index.spread.items c.requires.wide c.requires.some c.requires.cells c.as_chunks.ensures.front all (is ∙ joined)).0)
-    c.from_slice.ensures.items
+    let all = c.loop-index.invariant.cells ∙ ap (λ n. flat_map (λ x. x) (map (λ r. get_or cells r []) (ranks_set mask n))) done in
+    (spread_is c.args.bytes.now mask c.loop-index.spread.items g.row.N cells c.requires.wide c.requires.some c.requires.cells c.as_chunks.ensures.front all).0
 
 pub returns-clause-cells : goal.returns-clause-cells
 returns-clause-cells g c =
     let mask = c.args.mask.now in
     let cells = c.as_chunks.result.0.now in
     let done : c.loop-index.index ≡ length mask = omega arith in
-    let all = c.loop-index.invariant.cells ∙ ap (λ n. map (λ r. get_or cells r []) (ranks_set mask n)) done in
-    let joined = c.as_flattened.ensures.value ∙ ap (flat_map (λ x. x)) c.as_slice.ensures.value in
-    IfOk-weaker c.from_slice.result _ _
-    (λ made is. (spread_is c.args.bytes.now mask made.items g.row.N cells c.loop-index.spread.items c.requires.wide c.requires.some c.requires.cells c.as_chunks.ensures.front all (is ∙ joined)).1)
-    c.from_slice.ensures.items
+    let all = c.loop-index.invariant.cells ∙ ap (λ n. flat_map (λ x. x) (map (λ r. get_or cells r []) (ranks_set mask n))) done in
+    (spread_is c.args.bytes.now mask c.loop-index.spread.items g.row.N cells c.requires.wide c.requires.some c.requires.cells c.as_chunks.ensures.front all).1
