@@ -19,7 +19,7 @@ use Rattle.zarrs_shard.specs.SubchunkData.{chunk_shape, subchunk_shape}
 use Rattle.zarrs_shard.specs.Subchunks.{assembled, corner, is_cut_by, quotients, remainders, subchunk_box, subchunk_count}
 use Rattle.zarrs_shard.proofs.Cuts.{position_divided}
 use Rattle.zarrs_shard.proofs.Grids.{corner_long}
-use Rattle.zarrs_shard.proofs.Missing.{all_present-cons, given_if-true, some_is}
+use Rattle.zarrs_shard.proofs.Missing.{all_present-cons, given_if-true}
 use Rattle.zarrs_shard.proofs.ShardLaws.{length-shard_parts}
 use Rattle.zarrs_shard.proofs.SubchunkBoxes.{lies_in_chunk, long_corner, only_own}
 use Rattle.zarrs_subset.specs.Boxes.{position_count, InShape, place, unravel, offset_by, offset_from, zip_with}
@@ -43,6 +43,7 @@ use Rattle.zarrs_parts.specs.ShardInto.{DecodesPartInto, RefusesIntoStep}
 use Rattle.zarrs_parts.specs.ShardParts.{DecodesAs, IsCellOf}
 use Rattle.zarrs_parts.proofs.Stays.{cell_stays}
 use Rattle.zarrs_parts.proofs.SubchunkSteps.{broken_shard, cell_of_whole, length-offset_from, own_holds, own_place, part_at}
+use Rattle.zarrs_array_bytes.proofs.FixedSizes.{some_is}
 
 -- ---- what is known of a shard
 

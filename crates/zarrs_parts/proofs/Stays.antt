@@ -6,9 +6,10 @@ use Rattle.zarrs_array_bytes.specs.Cells.{cell_at}
 use Rattle.zarrs_subset.specs.Pieces.{piece_at}
 use Rattle.zarrs_subset.specs.Regions.{Box, Holds, in_box, place_in}
 use Rattle.zarrs_target.specs.Targets.{KeepsOutside}
-use Rattle.zarrs_target.proofs.TypeSizes.{element_is, optional_is, some_is}
+use Rattle.zarrs_target.proofs.TypeSizes.{element_is}
 use Rattle.zarrs_types.specs.Cell.{Cell, bytes, none, some}
 use Rattle.zarrs_types.specs.Kind.{Kind, element_size, fixed_size, inner_of}
+use Rattle.zarrs_array_bytes.proofs.FixedSizes.{optional_is, some_is}
 
 -- a cell of so many bytes, and one under a mask
 abbrev sized_cell : Option ℕ → List ℕ → ℕ → Cell

@@ -46,9 +46,7 @@ use Rattle.zarrs_parts.specs.declared.error.PartError.{PartError}
 use Rattle.zarrs_parts.specs.declared.error.PartError.TheVariants.{Codec, Source}
 use Rattle.zarrs_parts.specs.ShardParts.{RefusesStep, DecodesAs, HasAllParts, HasSubchunkParts, IsBrokenShard, IsCellOf, IsPartCell, IsReadOrFill, is_among}
 use Rattle.zarrs_parts.proofs.PartBoxes.{part_fits, within_shape}
-
-some_is : {A : Type 0} {x y : A} → Some x ≡ Some y → x ≡ y
-some_is e = cc
+use Rattle.zarrs_array_bytes.proofs.FixedSizes.{some_is}
 
 -- ---- index lists
 

@@ -180,6 +180,11 @@ pub shorter : (xs : List ℕ) → 0 < length xs → length (slice_range xs 1 (le
 shorter [] some = absurd (omega arith)
 shorter (x ∷ xs) some = omega (arith, ap length (tail_is x xs))
 
+-- the second of two dimensions
+pub one_left : (xs : List ℕ) → length xs ≡ 2 → length (slice_range xs 1 (length xs)) ≡ 1
+one_left [] two = absurd (omega arith)
+one_left (x ∷ xs) two = omega (arith, ap length (tail_is x xs))
+
 -- a box of them, copied
 pub turned_cells : (size : ℕ) (S F T U es all turned old new : List ℕ) → BoxFits F es S → BoxFits U es T → length all ≡ position_count S * size → IsTurned size all turned
     → CellsCopied size S F T U es turned old new

@@ -404,6 +404,48 @@ fn turn_row<T: Turning<N>, const N: usize>(
     turn_run::<T, N>(&source[from..from + len], &mut target[to..to + len], count);
 }
 
+/// Does what `turn_rows` does in two dimensions.
+fn turn_plane<T: Turning<N>, const N: usize>(
+    source: &[u8],
+    source_shape: &[u64],
+    source_start: &[u64],
+    target: &mut [u8],
+    target_shape: &[u64],
+    target_start: &[u64],
+    extents: &[u64],
+)
+    requires some { 0 < N }
+    requires small { N < 9 }
+    requires two_dimensions { length extents.now ≡ 2 }
+    requires source_fits { BoxFits source_start.now extents.now source_shape.now }
+    requires target_fits { BoxFits target_start.now extents.now target_shape.now }
+    requires source_len { length source.now ≡ position_count source_shape.now * N }
+    requires target_len { length target.old ≡ position_count target_shape.now * N }
+    ensures { (turned : List ℕ) → IsTurned N source.now turned
+        → BoxCopied N source_shape.now source_start.now target_shape.now target_start.now
+        extents.now turned target.old target.new }
+{
+    let extent = extents[0] as usize;
+    if extent == 0 {
+        return;
+    }
+    let (from, source_block) = first_block(source.len(), source_shape, source_start, extents);
+    let (to, target_block) = first_block(target.len(), target_shape, target_start, extents);
+    for row in 0..extent {
+        let read = from + row * source_block;
+        let write = to + row * target_block;
+        turn_row::<T, N>(
+            &source[read..read + source_block],
+            &source_shape[1..],
+            &source_start[1..],
+            &mut target[write..write + target_block],
+            &target_shape[1..],
+            &target_start[1..],
+            &extents[1..],
+        );
+    }
+}
+
 /// Puts the cells of a box of the array `source` into a box of the array `target`, the bytes of each in reverse, row by
 /// row.
 fn turn_rows<T: Turning<N>, const N: usize>(
@@ -431,6 +473,18 @@ fn turn_rows<T: Turning<N>, const N: usize>(
     }
     if extents.len() == 1 {
         turn_row::<T, N>(
+            source,
+            source_shape,
+            source_start,
+            target,
+            target_shape,
+            target_start,
+            extents,
+        );
+        return;
+    }
+    if extents.len() == 2 {
+        turn_plane::<T, N>(
             source,
             source_shape,
             source_start,

@@ -4,7 +4,6 @@ use Rattle.zarrs_subset.specs.Boxes.{position_count}
 use Rattle.zarrs_subset.specs.Regions.{box_at_origin, box_of}
 use Rattle.zarrs_target.specs.States.{target_box, parent_box}
 use Rattle.zarrs_target.proofs.Boxes.{bytes_within, count_within}
-use Rattle.zarrs_target.proofs.Fills.{size_is}
 use Rattle.zarrs_target.proofs.TypeSizes.{type_taken}
 use Rattle.zarrs_types.specs.Kind.{cell_size, kind}
 use Rattle.zarrs_parts.proofs.BytesInto.{whole_into, whole_outside, decoded_held}
@@ -12,6 +11,7 @@ use Rattle.zarrs_array_bytes.specs.ArrayData.{data_of}
 use Rattle.zarrs_array_bytes.specs.Cells.{HasCells}
 use Rattle.zarrs_target.proofs.Levels.{masked_keeps}
 use Rattle.zarrs_parts.proofs.bytes_into.decode_bytes_into.Goals as goal
+use Rattle.zarrs_array_bytes.proofs.FixedSizes.{size_is}
 
 pub are_cells-requires : goal.are_cells-requires
 are_cells-requires c =
