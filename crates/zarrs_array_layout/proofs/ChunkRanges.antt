@@ -22,7 +22,7 @@ use Rattle.zarrs_data_type.specs.Kind.{cell_size}
 use Rattle.zarrs_data_type.specs.Cell.{held_size}
 use Rattle.zarrs_data_type.specs.ArrayData.{ArrayData}
 use Rattle.zarrs_calls.specs.Layout.{Layout}
-use Rattle.zarrs_calls.specs.ArgumentRefusals.{chunk_refusal, dimensions_refusal, range_refusal, read_chunks_refusal, read_size_refusal}
+use Rattle.zarrs_calls.specs.ArgumentRefusals.{chunk_refusal, dimensions_refusal, range_refusal, read_chunks_refusal, size_refusal}
 use Rattle.zarrs_calls.specs.ChunkBoxes.{is_empty, last_of}
 use Rattle.zarrs_calls.specs.Reads.{ReadsRegion}
 use Rattle.zarrs_calls.specs.Refusals as refusal
@@ -164,10 +164,8 @@ then_size (Some y) r s empty h = absurd (cc)
 no_bytes : (count size : ℕ) → count ≡ 0 → nat_le (2 ^ 64) (count * size) ≡ false
 no_bytes count size none = lt-leb (2 ^ 64) (count * size) (omega (arith, ap (λ n. n * size) none))
 
-no_size : (layout : Layout) (shape : List ℕ) → position_count shape ≡ 0 → read_size_refusal layout shape ≡ None
-no_size layout shape none =
-    second_refusal _ _ (ap (λ b. refuse_if b refusal.size_overflow) (no_bytes (position_count shape) (cell_size layout.kind) none))
-    ∙ ap (λ b. refuse_if b refusal.size_overflow) (no_bytes (position_count shape) (held_size layout.kind layout.fill) none)
+no_size : (layout : Layout) (shape : List ℕ) → position_count shape ≡ 0 → size_refusal layout shape ≡ None
+no_size layout shape none = ap (λ b. refuse_if b refusal.size_overflow) (no_bytes (position_count shape) (cell_size layout.kind) none)
 
 pub no_position : (shape : List ℕ) → list_any (λ extent. extent == 0) shape ≡ true → position_count (replicate (length shape) 0) ≡ 0
 no_position [] h = absurd (false≢true h)
@@ -175,9 +173,9 @@ no_position (e ∷ shape) h = omega arith
 
 module _ (layout : Layout) (shape : List ℕ) (range : Box) where
   -- a range that is not refused before is refused for the size of its region
-  pub range_size : range_first layout shape range ≡ None → read_chunks_refusal layout shape range ≡ read_size_refusal layout (chunks_box layout.grid range).shape
+  pub range_size : range_first layout shape range ≡ None → read_chunks_refusal layout shape range ≡ size_refusal layout (chunks_box layout.grid range).shape
   range_size none =
-      then_size (dimensions_refusal layout shape range) (range_refusal layout range) (read_size_refusal layout (range_box layout.grid range).shape) (is_empty range) none
+      then_size (dimensions_refusal layout shape range) (range_refusal layout range) (size_refusal layout (range_box layout.grid range).shape) (is_empty range) none
       ∙ elim (cases_Bool (is_empty range)) [
         | inl empty ↦ rw empty (sym (no_size layout (replicate (length range.shape) 0) (no_position range.shape empty)))
         | inr some ↦ rw some refl
@@ -186,16 +184,16 @@ module _ (layout : Layout) (shape : List ℕ) (range : Box) where
   pub range_refused_first : (state : StoreState) (r : Refusal) → RefusesBy (range_first layout shape range) r → RefusesRetrieveChunks layout shape range r state
   range_refused_first state r h =
       inl (refusal_moved (range_first layout shape range) (read_chunks_refusal layout shape range) r
-      (more (dimensions_refusal layout shape range) (range_refusal layout range) (read_size_refusal layout (range_box layout.grid range).shape) (is_empty range)) h)
+      (more (dimensions_refusal layout shape range) (range_refusal layout range) (size_refusal layout (range_box layout.grid range).shape) (is_empty range)) h)
 
   pub range_refused_then : (region : Box) (state : StoreState) (r : Refusal) → range_first layout shape range ≡ None → region ≡ chunks_box layout.grid range
-      → RefusesRegionRead layout (read_size_refusal layout region.shape) region (positions range) state r → RefusesRetrieveChunks layout shape range r state
+      → RefusesRegionRead layout (size_refusal layout region.shape) region (positions range) state r → RefusesRetrieveChunks layout shape range r state
   range_refused_then region state r none is why =
       subst (λ (o : Option Refusal). RefusesRegionRead layout o (chunks_box layout.grid range) (positions range) state r) (sym (range_size none))
-      (subst (λ (b : Box). RefusesRegionRead layout (read_size_refusal layout b.shape) b (positions range) state r) is why)
+      (subst (λ (b : Box). RefusesRegionRead layout (size_refusal layout b.shape) b (positions range) state r) is why)
 
   -- an accepted one
   pub range_read : (region : Box) (held : ArrayData) (state : StoreState) → range_first layout shape range ≡ None → region ≡ chunks_box layout.grid range
-      → read_size_refusal layout region.shape ≡ None → ReadsRegion layout region (positions range) held state → RetrievesChunks layout shape range held state
+      → size_refusal layout region.shape ≡ None → ReadsRegion layout region (positions range) held state → RetrievesChunks layout shape range held state
   range_read region held state none is fits r =
-      (range_size none ∙ ap (λ (b : Box). read_size_refusal layout b.shape) (sym is) ∙ fits, subst (λ (b : Box). ReadsRegion layout b (positions range) held state) is r)
+      (range_size none ∙ ap (λ (b : Box). size_refusal layout b.shape) (sym is) ∙ fits, subst (λ (b : Box). ReadsRegion layout b (positions range) held state) is r)

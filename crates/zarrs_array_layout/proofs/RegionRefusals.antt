@@ -13,7 +13,7 @@ use Rattle.zarrs_data_type.specs.ArrayData.{ArrayData}
 use Rattle.zarrs_calls.specs.Layout.{Layout, IsLawful}
 use Rattle.zarrs_calls.specs.Content.{value_at, decoded_cells}
 use Rattle.zarrs_calls.specs.ChunkBoxes.{is_covered_box, is_empty, last_of}
-use Rattle.zarrs_calls.specs.ArgumentRefusals.{read_size_refusal, region_refusal}
+use Rattle.zarrs_calls.specs.ArgumentRefusals.{size_refusal, region_refusal}
 use Rattle.zarrs_calls.specs.Reads.{ReadsRegion}
 use Rattle.zarrs_calls.specs.Refusals as refusal
 use Rattle.std.specs.Option.{option_or}
@@ -166,16 +166,16 @@ module _ (layout : Layout) (lawful : IsLawful layout) (shape : List ℕ) (region
 -- ---- the read of a region
 
 pub region_refused_first : (layout : Layout) (shape : List ℕ) (region : Box) (state : StoreState) (r : Refusal) → RefusesBy (region_refusal layout shape region) r → RefusesRetrieveRegion layout shape region r state
-region_refused_first layout shape region state r h = inl (refused_first (region_refusal layout shape region) (read_size_refusal layout region.shape) r h)
+region_refused_first layout shape region state r h = inl (refused_first (region_refusal layout shape region) (size_refusal layout region.shape) r h)
 
 pub region_refused_then : (layout : Layout) (shape : List ℕ) (region chunks : Box) (state : StoreState) (r : Refusal) → region_refusal layout shape region ≡ None → chunks ≡ met layout.grid region
-    → RefusesRegionRead layout (read_size_refusal layout region.shape) region (positions chunks) state r → RefusesRetrieveRegion layout shape region r state
-region_refused_then layout shape region chunks state r none is (inl size) = inl (refused_second (region_refusal layout shape region) (read_size_refusal layout region.shape) r none size)
+    → RefusesRegionRead layout (size_refusal layout region.shape) region (positions chunks) state r → RefusesRetrieveRegion layout shape region r state
+region_refused_then layout shape region chunks state r none is (inl size) = inl (refused_second (region_refusal layout shape region) (size_refusal layout region.shape) r none size)
 region_refused_then layout shape region chunks state r none is (inr (fits, why)) =
     inr (second_refusal (region_refusal layout shape region) _ none ∙ fits, subst (λ (b : Box). RefusesSomeChunk layout region (positions b) state r) is why)
 
 -- an accepted one
 pub region_read : (layout : Layout) (shape : List ℕ) (region chunks : Box) (held : ArrayData) (state : StoreState) → region_refusal layout shape region ≡ None → chunks ≡ met layout.grid region
-    → read_size_refusal layout region.shape ≡ None → ReadsRegion layout region (positions chunks) held state → RetrievesRegion layout shape region held state
+    → size_refusal layout region.shape ≡ None → ReadsRegion layout region (positions chunks) held state → RetrievesRegion layout shape region held state
 region_read layout shape region chunks held state none is fits r =
     (second_refusal (region_refusal layout shape region) _ none ∙ fits, subst (λ (b : Box). ReadsRegion layout region (positions b) held state) is r)

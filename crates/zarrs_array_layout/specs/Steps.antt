@@ -13,12 +13,17 @@ use Rattle.zarrs_calls.specs.Layout.{Layout}
 use Rattle.zarrs_calls.specs.Content.{decoded_cells}
 use Rattle.zarrs_calls.specs.Refusals.{Refusal, codec, indices, storage, size_overflow, out_of_memory, refusal_of, RefusesBy, length_refusal, key_refusal}
 use Rattle.zarrs_calls.specs.Refusals.{box_refusal, fill_refusal, read_refusal, refuse_if}
+use Rattle.zarrs_calls.specs.ArgumentRefusals.{size_refusal}
 use Rattle.zarrs_calls.specs.Changes.{IsValueOf, Makes}
 use Rattle.zarrs_calls.specs.StateRefusals.{RefusesErasure}
 
 -- so many fill values take more bytes than a usize counts
 abbrev pub fills_refusal : Layout → ℕ → Option Refusal
 fills_refusal layout count = refuse_if (nat_le (2 ^ 64) (count * held_size layout.kind layout.fill)) size_overflow
+
+-- E8: a box of this shape is too large, or a fill value for each of its positions
+abbrev pub filled_refusal : Layout → List ℕ → Option Refusal
+filled_refusal layout shape = option_or (size_refusal layout shape) (fill_refusal layout shape)
 
 -- the refusal names these indices, or out of memory
 abbrev pub RefusesIndices : List ℕ → ArrayError → Type 0

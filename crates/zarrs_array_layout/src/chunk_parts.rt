@@ -43,7 +43,7 @@ impl<G: ChunkGridTraits, K: ChunkKeyEncodingTraits, C: ChainTraits> ArrayLayout<
         }
     }
 
-    /// Whether a part lies in the chunk with these indices, which has these extents.
+    /// Accepts a part that lies in the chunk with these indices, which has these extents.
     ///
     /// # Errors
     /// E2 for another number of dimensions, or a part that passes the chunk. E9 may come at any time.

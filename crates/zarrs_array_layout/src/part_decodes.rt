@@ -39,8 +39,6 @@ impl<G: ChunkGridTraits, K: ChunkKeyEncodingTraits, C: ChainTraits> ArrayLayout<
         part: &ArraySubset,
     ) -> Result<ArrayBytes<'static>, ArrayError>
         requires fit { is_too_large (layout_meaning self.now) shape.now ≡ false }
-        requires fill_size { position_count (box_of part.now).shape
-            * held_size (layout_meaning self.now).kind (layout_meaning self.now).fill < 2 ^ 64 }
         requires part { LiesInShape (box_of part.now) shape.now }
         requires may_read { (place : ℕ) → (layout_meaning self.now).chain.places
             (layout_meaning self.now).kind shape.now (box_of part.now)

@@ -16,13 +16,13 @@ impl<G: ChunkGridTraits, K: ChunkKeyEncodingTraits, C: ChainTraits> ArrayLayout<
     ghost use Rattle.zarrs_data_type.specs.Kind.{kind};
     ghost use Rattle.zarrs_data_type.specs.ArrayData.{data_of};
     ghost use Rattle.zarrs_data_type.specs.Cells.{HasCells, cells, count_of};
-    ghost use Rattle.zarrs_calls.specs.ArgumentRefusals.{box_data_refusal, read_size_refusal};
+    ghost use Rattle.zarrs_calls.specs.ArgumentRefusals.{box_data_refusal};
     ghost use Rattle.zarrs_calls.specs.ArgumentRefusals.{region_refusal};
     ghost use Rattle.zarrs_calls.specs.ChunkBoxes.{is_one_chunk};
     ghost use Rattle.zarrs_calls.specs.Refusals.{RefusesBy, array_subset, refusal_of};
     ghost use Rattle.zarrs_array_layout.specs.Layouts.{layout_meaning};
     ghost use Rattle.zarrs_array_layout.specs.Covers.{CoverRegion};
-    ghost use Rattle.zarrs_array_layout.specs.Steps.{fills_refusal};
+    ghost use Rattle.zarrs_array_layout.specs.Steps.{filled_refusal, fills_refusal};
 
     /// The refusal of this region: E1, or out of memory.
     pub fn invalid_region(&self, alloc: Global, region: &ArraySubset) -> ArrayError
@@ -76,8 +76,8 @@ impl<G: ChunkGridTraits, K: ChunkKeyEncodingTraits, C: ChainTraits> ArrayLayout<
             ≡ Some (replicate (position_count (box_of region.now).shape)
             (layout_meaning self.now).fill)) }
         ensures accepted { OnOk result
-            (read_size_refusal (layout_meaning self.now) (box_of region.now).shape ≡ None) }
-        ensures refused { IfErr result (λ e. RefusesBy (read_size_refusal
+            (filled_refusal (layout_meaning self.now) (box_of region.now).shape ≡ None) }
+        ensures refused { IfErr result (λ e. RefusesBy (filled_refusal
             (layout_meaning self.now) (box_of region.now).shape) (refusal_of e)) }
     {
         match self.cell_count(region) {

@@ -11,7 +11,7 @@ use Rattle.zarrs_data_type.specs.ArrayData.{ArrayData, data_of}
 use Rattle.zarrs_data_type.specs.Cells.{cells}
 use Rattle.zarrs_calls.specs.Layout.{Layout}
 use Rattle.zarrs_calls.specs.Refusals as refusal
-use Rattle.zarrs_calls.specs.Refusals.{Refusal, refuse_if, length_refusal, box_refusal, fill_refusal, is_too_large}
+use Rattle.zarrs_calls.specs.Refusals.{Refusal, refuse_if, length_refusal, box_refusal, is_too_large}
 use Rattle.zarrs_calls.specs.declared.call.Call.{Call}
 use Rattle.zarrs_calls.specs.declared.call.Call.TheVariants as call
 use Rattle.zarrs_calls.specs.ChunkBoxes.{is_empty, last_of, is_one_chunk, is_part_of, is_whole_of, is_covered_box}
@@ -27,10 +27,6 @@ cells_refusal layout count held = count_refusal count (cells layout.kind held)
 -- E8: a box of this shape is too large
 abbrev pub size_refusal : Layout → List ℕ → Option Refusal
 size_refusal layout shape = refuse_if (is_too_large layout shape) refusal.size_overflow
-
--- E8: the cells of a box of this shape, or a fill value for each, take more bytes than a usize counts
-abbrev pub read_size_refusal : Layout → List ℕ → Option Refusal
-read_size_refusal layout shape = option_or (size_refusal layout shape) (fill_refusal layout shape)
 
 -- E3: no such chunk
 abbrev pub chunk_refusal : Layout → List ℕ → Option Refusal
@@ -91,21 +87,21 @@ store_region_refusal layout shape region held = option_or (region_refusal layout
 
 -- a read of a region: the dimensions, the cover, the size
 abbrev pub read_region_refusal : Layout → List ℕ → Box → Option Refusal
-read_region_refusal layout shape region = option_or (region_refusal layout shape region) (read_size_refusal layout region.shape)
+read_region_refusal layout shape region = option_or (region_refusal layout shape region) (size_refusal layout region.shape)
 
 -- a read of a range: the dimensions, the first and the last chunk, the size; an empty range reads no cell
 abbrev pub read_chunks_refusal : Layout → List ℕ → Box → Option Refusal
 read_chunks_refusal layout shape range =
     option_or (dimensions_refusal layout shape range)
     (if is_empty range then None
-    else option_or (range_refusal layout range) (read_size_refusal layout (range_box layout.grid range).shape))
+    else option_or (range_refusal layout range) (size_refusal layout (range_box layout.grid range).shape))
 
 -- a read of a part: the index list, the part; if it is not the whole chunk, its size
 abbrev pub read_part_refusal : Layout → List ℕ → Box → Option Refusal
 read_part_refusal layout index part =
     option_or (chunk_refusal layout index)
     (option_or (part_refusal layout index part)
-    (if is_whole_of (box_at layout.grid index).shape part then None else read_size_refusal layout part.shape))
+    (if is_whole_of (box_at layout.grid index).shape part then None else size_refusal layout part.shape))
 
 -- a change of the shape: the number of dimensions; a grid whose boxes depend on the shape
 abbrev pub resize_refusal : Layout → List ℕ → Option Refusal

@@ -136,8 +136,6 @@ pub trait ChainTraits {
     ) -> Result<ArrayBytes<'static>, PartError>
         requires filled { IsSome (fill_cell (kind data_type.now) fill_value.now) }
         requires size { position_count shape.now * cell_size (kind data_type.now) < 2 ^ 64 }
-        requires fill_size { position_count (box_of part.now).shape * held_size (kind data_type.now)
-            (fill_of (kind data_type.now) fill_value.now) < 2 ^ 64 }
         requires part { LiesInShape (box_of part.now) shape.now }
         requires window { IsWindow window (B.bytes source.now) }
         requires may_read { MayRead (B.may_read source.now) window ((meaning self.now).places

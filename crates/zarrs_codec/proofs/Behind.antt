@@ -14,8 +14,9 @@ use Rattle.zarrs_codec_leaf.specs.declared.error.CodecError.{CodecError}
 use Rattle.zarrs_codec_leaf.specs.declared.error.CodecError.TheVariants as error
 use Rattle.zarrs_chain.specs.Chain.{ChainMeaning, IsLawfulChain, chunk_encoding}
 use Rattle.zarrs_chain.specs.Refusals.{RefusesChunkEncoding, RefusesChunkDecoding}
-use Rattle.zarrs_shard.proofs.Missing.{some_is, given_if-parts}
+use Rattle.zarrs_shard.proofs.Missing.{given_if-parts}
 use Rattle.zarrs_codec.specs.Through.{through}
+use Rattle.zarrs_array_bytes.proofs.FixedSizes.{some_is}
 
 -- data of a chunk that was decoded has its cells
 pub decoded-has_cells : (m : ChainMeaning) → IsLawfulChain m → (k : Kind) (f : Cell) (s b : List ℕ) (d : ArrayData) → cells k d ≡ m.decoded k f s b → IsSome (cells k d) → HasCells k d (position_count s)

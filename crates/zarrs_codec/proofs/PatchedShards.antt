@@ -19,7 +19,7 @@ use Rattle.zarrs_shard.specs.PartialShards.{sharded_partly, stored_parts, write_
 use Rattle.zarrs_shard.specs.Sharded.{SubchunkMeaning, cells_of_parts, part_leaves_out, sharded_fits}
 use Rattle.zarrs_shard.specs.Steps.{given_if}
 use Rattle.zarrs_shard.specs.Subchunks.{assembled, is_cut_by, subchunk_count}
-use Rattle.zarrs_shard.proofs.Missing.{some_is, given_if-false, given_if-true, all_present-none}
+use Rattle.zarrs_shard.proofs.Missing.{given_if-false, given_if-true, all_present-none}
 use Rattle.zarrs_shard.proofs.ShardLaws.{length-shard_parts}
 use Rattle.zarrs_shard.proofs.Sizes.{part_large}
 use Rattle.zarrs_chain.specs.Chain.{ChainMeaning, chunk_cells, chunk_leaves_out, partial_encoding}
@@ -30,6 +30,7 @@ use Rattle.zarrs_codec.specs.PartialShardings.{changed_part, changes_of, write_t
 use Rattle.zarrs_codec.specs.Shardings.{decoded_part, sharded, subchunk_meaning}
 use Rattle.zarrs_codec.proofs.PartCells.{left_out, shard_cells}
 use Rattle.zarrs_codec.proofs.Patches.{no_write}
+use Rattle.zarrs_array_bytes.proofs.FixedSizes.{some_is}
 
 still : {A : Type 0} (b : Bool) → given_if {A = A} b None ≡ None
 still true = refl

@@ -20,9 +20,7 @@ use Rattle.zarrs_parts.proofs.PartBoxes.{part_fits, within_shape}
 use Rattle.zarrs_parts.proofs.SubchunkPieces.{subset_is}
 use Rattle.zarrs_parts.proofs.SubchunkSteps.{holds_seen, own_holds, own_place, read_more, seen_again}
 use Rattle.zarrs_codec.specs.ShardPieces.{HasPiece}
-
-some_is : {A : Type 0} {x y : A} → Some x ≡ Some y → x ≡ y
-some_is e = cc
+use Rattle.zarrs_array_bytes.proofs.FixedSizes.{some_is}
 
 module _ (k : Kind) (decoded : List ℕ → Option (List Cell)) (fill : Cell) (s sub : List ℕ) (part : Box) (parts : List (Option (List ℕ))) where
   -- the cells that the chain of the subchunks decodes

@@ -7,8 +7,9 @@ use Rattle.zarrs_codec_array.specs.Arrays.{ArrayMeaning, IsLawfulArray}
 use Rattle.std.specs.Prelude.{option_and_then, if◌then◌else◌}
 use Rattle.zarrs_parts.specs.Places.{all_places, all_places-inside, places_behind}
 use Rattle.zarrs_shard.specs.Steps.{given_if}
-use Rattle.zarrs_shard.proofs.Missing.{some_is, bind_parts, given_if-parts, given_if-true}
+use Rattle.zarrs_shard.proofs.Missing.{bind_parts, given_if-parts, given_if-true}
 use Rattle.zarrs_chain.specs.Chain.{ChainMeaning, IsLawfulChain}
+use Rattle.zarrs_array_bytes.proofs.FixedSizes.{some_is}
 
 -- the chain `m` behind codecs that make an array of an array
 abbrev pub through : ArrayMeaning → ChainMeaning → ChainMeaning

@@ -47,8 +47,6 @@ impl CodecChain {
     ) -> Result<ArrayBytes<'static>, PartError>
         requires filled { IsSome (fill_cell (kind data_type.now) fill_value.now) }
         requires size { position_count shape.now * cell_size (kind data_type.now) < 2 ^ 64 }
-        requires fill_size { position_count (box_of part.now).shape * held_size (kind data_type.now)
-            (fill_of (kind data_type.now) fill_value.now) < 2 ^ 64 }
         requires part { LiesInShape (box_of part.now) shape.now }
         requires window { IsWindow window (B.bytes source.now) }
         requires may_read { MayRead (B.may_read source.now) window ((chain_meaning self.now).places
@@ -137,8 +135,6 @@ impl ShardingCodec {
     ) -> Result<ArrayBytes<'static>, PartError>
         requires filled { IsSome (fill_cell (kind data_type.now) fill_value.now) }
         requires size { position_count shape.now * cell_size (kind data_type.now) < 2 ^ 64 }
-        requires fill_size { position_count (box_of part.now).shape * held_size (kind data_type.now)
-            (fill_of (kind data_type.now) fill_value.now) < 2 ^ 64 }
         requires part { LiesInShape (box_of part.now) shape.now }
         requires window { IsWindow window (B.bytes source.now) }
         requires may_read { MayRead (B.may_read source.now) window
@@ -178,8 +174,6 @@ impl ShardingCodec {
     ) -> Result<ArrayBytes<'static>, PartError>
         requires filled { IsSome (fill_cell (kind data_type.now) fill_value.now) }
         requires size { position_count shape.now * cell_size (kind data_type.now) < 2 ^ 64 }
-        requires fill_size { position_count (box_of part.now).shape * held_size (kind data_type.now)
-            (fill_of (kind data_type.now) fill_value.now) < 2 ^ 64 }
         requires part { LiesInShape (box_of part.now) shape.now }
         requires window { IsWindow window (B.bytes source.now) }
         requires may_read { MayRead (B.may_read source.now) window (shard_places at_start sub.now
@@ -251,8 +245,6 @@ impl ShardingCodec {
     ) -> Result<ArrayBytes<'static>, PartError>
         requires filled { IsSome (fill_cell (kind data_type.now) fill_value.now) }
         requires size { position_count shape.now * cell_size (kind data_type.now) < 2 ^ 64 }
-        requires fill_size { position_count (box_of part.now).shape * held_size (kind data_type.now)
-            (fill_of (kind data_type.now) fill_value.now) < 2 ^ 64 }
         requires part { LiesInShape (box_of part.now) shape.now }
         requires window { IsWindow window (B.bytes source.now) }
         requires may_read { MayRead (B.may_read source.now) window (shard_places at_start sub.now
@@ -325,8 +317,6 @@ impl ShardingCodec {
     ) -> Result<RegionCells, PartError>
         requires filled { IsSome (fill_cell (kind data_type.now) fill_value.now) }
         requires size { position_count shape.now * cell_size (kind data_type.now) < 2 ^ 64 }
-        requires fill_size { position_count (box_of part.now).shape * held_size (kind data_type.now)
-            (fill_of (kind data_type.now) fill_value.now) < 2 ^ 64 }
         requires part { LiesInShape (box_of part.now) shape.now }
         requires window { IsWindow window (B.bytes source.now) }
         requires may_read { MayRead (B.may_read source.now) window (shard_places at_start sub.now
@@ -382,8 +372,6 @@ impl ShardingCodec {
     ) -> Result<Option<Piece>, PartError>
         requires filled { IsSome (fill_cell (kind data_type.now) fill_value.now) }
         requires size { position_count shape.now * cell_size (kind data_type.now) < 2 ^ 64 }
-        requires fill_size { position_count (box_of part.now).shape * held_size (kind data_type.now)
-            (fill_of (kind data_type.now) fill_value.now) < 2 ^ 64 }
         requires part { LiesInShape (box_of part.now) shape.now }
         requires window { IsWindow window (B.bytes source.now) }
         requires may_read { MayRead (B.may_read source.now) window (shard_places at_start sub.now
@@ -450,8 +438,6 @@ impl ShardingCodec {
     ) -> Result<ArrayBytes<'static>, PartError>
         requires filled { IsSome (fill_cell (kind data_type.now) fill_value.now) }
         requires size { position_count shape.now * cell_size (kind data_type.now) < 2 ^ 64 }
-        requires fill_size { position_count (box_of part.now).shape * held_size (kind data_type.now)
-            (fill_of (kind data_type.now) fill_value.now) < 2 ^ 64 }
         requires part { LiesInShape (box_of part.now) shape.now }
         requires window { IsWindow window (B.bytes source.now) }
         requires may_read { MayRead (B.may_read source.now) window ((chain_meaning (inner_chain_of self.now)).places

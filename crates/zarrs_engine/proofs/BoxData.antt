@@ -20,9 +20,10 @@ use Rattle.zarrs_array_bytes.specs.Parts.{TakesEach}
 use Rattle.zarrs_array_bytes.proofs.Cells.{fitting-fixed}
 use Rattle.zarrs_array_bytes.proofs.Pieces.{length-fixed_cell, length-flat_map_same, pieces-flat_map}
 use Rattle.zarrs_target.specs.Targets.{HasLevels, KeepsOutside, depth_of}
-use Rattle.zarrs_target.proofs.TypeSizes.{element_is, optional_is, some_is}
+use Rattle.zarrs_target.proofs.TypeSizes.{element_is}
 use Rattle.zarrs_parts.proofs.Stays.{cell_stays}
 use Rattle.zarrs_parts.proofs.MovedBoxes.{own_unravel}
+use Rattle.zarrs_array_bytes.proofs.FixedSizes.{optional_is, some_is}
 
 -- ---- data of so many levels fits the type
 

@@ -37,9 +37,9 @@ use Rattle.zarrs_calls.specs.Layout.{ArrayState, Layout, IsLawful}
 use Rattle.zarrs_calls.specs.Content.{value_at, content}
 use Rattle.zarrs_calls.specs.Refusals as refusal
 use Rattle.zarrs_calls.specs.Refusals.{Refusal, RefusesBy, box_refusal, data_refusal, encode_refusal, encoded_cells, fill_refusal}
-use Rattle.zarrs_calls.specs.Refusals.{is_left_out, is_too_large, key_refusal, length_refusal, read_refusal, refusal_of, refuse_if}
+use Rattle.zarrs_calls.specs.Refusals.{is_left_out, is_too_large, length_refusal, refusal_of, refuse_if}
 use Rattle.zarrs_calls.specs.Step.{RefusesResize}
-use Rattle.zarrs_calls.specs.ArgumentRefusals.{read_size_refusal, resize_refusal, size_refusal}
+use Rattle.zarrs_calls.specs.ArgumentRefusals.{resize_refusal, size_refusal}
 use Rattle.zarrs_calls.specs.Changes.{IsPut, IsValueOf, Makes, RetrievesChunk}
 use Rattle.zarrs_calls.specs.Cuts.{Cuts, cut_chunks, is_below, is_cut, keeps_some}
 use Rattle.zarrs_calls.specs.Fronts.{CutsAll}
@@ -52,7 +52,7 @@ use Rattle.zarrs_calls.proofs.Contents.{fill_at, index_list, one_key, only_membe
 use Rattle.zarrs_calls.proofs.CutLoops.{cut_gone, cut_kept, cuts_all, cuts_none, cuts_push, cuts_same}
 use Rattle.zarrs_calls.proofs.RefusalLemmas.{fit_chunk, large_chunk, makes_none, memory_or_said, second_refusal}
 use Rattle.zarrs_array_layout.specs.CutWalks.{walk_box, walk_number, walk_whole}
-use Rattle.zarrs_array_layout.specs.Steps.{HasValue, RefusesPut}
+use Rattle.zarrs_array_layout.specs.Steps.{HasValue, RefusesPut, filled_refusal}
 use Rattle.zarrs_array_layout.specs.WholeChunks.{PassesBelow}
 use Rattle.zarrs_array_layout.specs.declared.cut_walk.CutWalk.{CutWalk}
 use Rattle.zarrs_array_layout.proofs.Chunks.{unread_why}
@@ -259,7 +259,7 @@ module _ (layout : Layout) (keep : Bool) (shape index : List ℕ) (state : Store
 
   module _ (fit : is_too_large layout (box_at layout.grid index).shape ≡ false) where
     -- a chunk of fill cannot be made
-    pub filled_fails : (r : Refusal) → RefusesBy (read_size_refusal layout (box_at layout.grid index).shape) r → RefusesKeptCut layout keep shape index 0 state r
+    pub filled_fails : (r : Refusal) → RefusesBy (filled_refusal layout (box_at layout.grid index).shape) r → RefusesKeptCut layout keep shape index 0 state r
     filled_fails r why = elim (memory_or_said _ r why) [
       | inl memory ↦ subst (RefusesKeptCut layout keep shape index 0 state) (sym memory) tt
       | inr said ↦

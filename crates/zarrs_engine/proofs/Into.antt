@@ -13,7 +13,7 @@ use Rattle.zarrs_subset.proofs.Positions.{in_box-offset_by, offset_from-by, offs
 use Rattle.zarrs_byte_strings.proofs.Inside.{holds_inside}
 use Rattle.zarrs_storage.specs.Store.{StoreState}
 use Rattle.zarrs_data_type.specs.Kind.{Kind, cell_size, is_variable}
-use Rattle.zarrs_data_type.specs.Cell.{Cell, none, held_size}
+use Rattle.zarrs_data_type.specs.Cell.{Cell, none}
 use Rattle.zarrs_data_type.specs.ArrayData.{ArrayData}
 use Rattle.zarrs_data_type.specs.Cells.{cells, fits, cell_at}
 use Rattle.zarrs_array_bytes.specs.Parts.{TakesEach}
@@ -23,17 +23,17 @@ use Rattle.zarrs_target.specs.States.{IsTarget, data_of_target, parent_box, targ
 use Rattle.zarrs_target.specs.Targets.{takes_type}
 use Rattle.zarrs_target.proofs.TypeSizes.{type_taken, taken_fixed}
 use Rattle.zarrs_target.proofs.Boxes.{bytes_within, lies_at_origin, origin_long}
-use Rattle.zarrs_target.proofs.Fills.{held_fixed, size_is}
 use Rattle.zarrs_calls.specs.Layout.{Layout, IsLawful}
-use Rattle.zarrs_calls.specs.ArgumentRefusals.{dimensions_refusal, into_refusal, read_region_refusal, read_size_refusal, region_refusal}
+use Rattle.zarrs_calls.specs.ArgumentRefusals.{dimensions_refusal, into_refusal, read_region_refusal, region_refusal, size_refusal}
 use Rattle.zarrs_calls.specs.ChunkBoxes.{chunks_met}
 use Rattle.zarrs_calls.specs.Refusals as refusal
-use Rattle.zarrs_calls.specs.Refusals.{Refusal, RefusesBy, refuse_if}
+use Rattle.zarrs_calls.specs.Refusals.{Refusal, refuse_if}
 use Rattle.zarrs_calls.specs.Reads.{ReadsRegion}
 use Rattle.zarrs_calls.specs.StateRefusals.{RefusesRegionRead}
 use Rattle.zarrs_calls.specs.Step.{RefusesRetrieveRegion}
 use Rattle.zarrs_calls.proofs.RefusalLemmas.{second_refusal}
 use Rattle.zarrs_engine.specs.Into.{HasContent, place_of, target_refusal}
+use Rattle.zarrs_array_bytes.proofs.FixedSizes.{size_is}
 
 -- ---- what the arguments decide
 
@@ -64,19 +64,15 @@ small_refusal : (size : ℕ) → size < 2 ^ 64 → refuse_if (nat_le (2 ^ 64) si
 small_refusal size lt = ap (λ b. refuse_if b refusal.size_overflow) (lt-leb (2 ^ 64) size lt)
 
 -- as many cells as the target has take no more bytes
-pub read_size : (layout : Layout) (shape : List ℕ) (size : ℕ) → cell_size layout.kind ≡ size → held_size layout.kind layout.fill ≡ size → position_count shape * size < 2 ^ 64
-    → read_size_refusal layout shape ≡ None
-read_size layout shape size cell held lt =
-    let first = small_refusal (position_count shape * cell_size layout.kind) (subst (λ s. position_count shape * s < 2 ^ 64) (sym cell) lt) in
-    let second = small_refusal (position_count shape * held_size layout.kind layout.fill) (subst (λ s. position_count shape * s < 2 ^ 64) (sym held) lt) in
-    second_refusal (refuse_if (nat_le (2 ^ 64) (position_count shape * cell_size layout.kind)) refusal.size_overflow) _ first ∙ second
+pub read_size : (layout : Layout) (shape : List ℕ) (size : ℕ) → cell_size layout.kind ≡ size → position_count shape * size < 2 ^ 64 → size_refusal layout shape ≡ None
+read_size layout shape size cell lt = small_refusal (position_count shape * cell_size layout.kind) (subst (λ s. position_count shape * s < 2 ^ 64) (sym cell) lt)
 
 -- then the arguments decide what they decide of a read of the region
 pub into_read : (layout : Layout) (shape : List ℕ) (region : Box) (fit : Bool) (target : List ℕ)
-    → length region.start ≡ layout.grid.dimensions → fit ≡ true → is_variable layout.kind ≡ false → target ≡ region.shape → read_size_refusal layout region.shape ≡ None
+    → length region.start ≡ layout.grid.dimensions → fit ≡ true → is_variable layout.kind ≡ false → target ≡ region.shape → size_refusal layout region.shape ≡ None
     → into_refusal layout shape region fit target ≡ read_region_refusal layout shape region
 into_read layout shape region fit target dimensions fits is same small =
-    into_region layout shape region fit target dimensions fits is same ∙ sym (or_none (region_refusal layout shape region) (read_size_refusal layout region.shape) small)
+    into_region layout shape region fit target dimensions fits is same ∙ sym (or_none (region_refusal layout shape region) (size_refusal layout region.shape) small)
 
 module _ (layout : Layout) (lawful : IsLawful layout) (region : Box) (t : ArrayBytesDecodeIntoTarget) where
   pub target_read : (shape : List ℕ) → IsTarget t → IsLong (target_box t) → length region.start ≡ layout.grid.dimensions
@@ -88,7 +84,7 @@ module _ (layout : Layout) (lawful : IsLawful layout) (region : Box) (t : ArrayB
       let small = is.small in
       let lt : position_count (target_box t).shape * t.cell_size < 2 ^ 64 = omega arith in
       into_read layout shape region (takes_type t.cell_size t.depth layout.kind) (target_box t).shape dimensions takes (taken_fixed t.cell_size t.depth layout.kind takes) same
-      (read_size layout region.shape t.cell_size (size_is layout.kind t.cell_size size) (held_fixed layout.kind t.cell_size layout.fill size lawful.filled)
+      (read_size layout region.shape t.cell_size (size_is layout.kind t.cell_size size)
       (subst (λ s. position_count s * t.cell_size < 2 ^ 64) same lt))
 
   -- the arguments decide no more than of the region

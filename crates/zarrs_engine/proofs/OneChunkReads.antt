@@ -1,7 +1,5 @@
 -- Reads of regions that lie in one chunk.
-use Rattle.std.proofs.Common.{◌≡◌, ◌∙◌, ℕ, true, false, List, [], ◌∷◌, Option, Some, None, refl, sym, ap, subst, inl, inr}
-use Rattle.std.specs.Option.{option_or}
-use Rattle.std.proofs.lemmas.Bool.{cases_Bool}
+use Rattle.std.proofs.Common.{◌≡◌, ◌∙◌, ℕ, true, false, List, [], ◌∷◌, Some, None, sym, ap, subst, inl, inr}
 use Rattle.zarrs_subset.specs.Boxes.{position_count}
 use Rattle.zarrs_subset.specs.Regions.{Box, Holds, cell_in}
 use Rattle.zarrs_chunk_grid.specs.Grids.{box_at, has_box}
@@ -9,27 +7,24 @@ use Rattle.zarrs_chunk_grid.proofs.Chunks.{box_long}
 use Rattle.zarrs_storage.specs.Store.{StoreState}
 use Rattle.zarrs_data_type.specs.ArrayData.{ArrayData}
 use Rattle.zarrs_calls.specs.Layout.{Layout, IsLawful}
-use Rattle.zarrs_calls.specs.ArgumentRefusals.{read_size_refusal, size_refusal}
+use Rattle.zarrs_calls.specs.ArgumentRefusals.{size_refusal}
 use Rattle.zarrs_calls.specs.Changes.{RetrievesChunk}
 use Rattle.zarrs_calls.specs.ChunkBoxes.{is_empty}
 use Rattle.zarrs_calls.specs.Content.{value_at}
 use Rattle.zarrs_calls.specs.Reads.{IsBroken, ReadsRegion}
 use Rattle.zarrs_calls.specs.Refusals as refusal
-use Rattle.zarrs_calls.specs.Refusals.{Refusal, fill_refusal, is_too_large, length_refusal, refuse_if}
-use Rattle.zarrs_calls.specs.StateRefusals.{IsPart, RefusesChunkRead, RefusesRegionRead}
-use Rattle.zarrs_calls.proofs.Contents.{member, only_member}
-use Rattle.zarrs_calls.proofs.RefusalLemmas.{second_refusal}
+use Rattle.zarrs_calls.specs.Refusals.{Refusal, length_refusal}
+use Rattle.zarrs_calls.specs.StateRefusals.{IsLargeBox, IsPart, RefusesChunkRead, RefusesRegionRead}
+use Rattle.zarrs_calls.proofs.Contents.{absent_fill, member, only_member}
 use Rattle.zarrs_calls.proofs.Regions.{cell_there}
 use Rattle.zarrs_calls.proofs.Shapes.{known_decodes}
 use Rattle.zarrs_array_layout.specs.Covers.{CoverRegion}
 use Rattle.zarrs_array_layout.proofs.Chunks.{unread_why}
 use Rattle.zarrs_array_layout.proofs.OneChunk.{covers_lies, first_held, region_lies}
 use Rattle.zarrs_parts.proofs.MovedBoxes.{overlap_inside}
+use Rattle.zarrs_engine.proofs.PartBytes.{size_fits}
 use Rattle.zarrs_engine.proofs.PartReads.{overlap_within}
-
-none_first : (a b : Option Refusal) → option_or a b ≡ None → a ≡ None
-none_first None b h = refl
-none_first (Some x) b h = absurd (cc)
+use Rattle.zarrs_engine.proofs.PartWrites.{large_region}
 
 module _ (layout : Layout) (lawful : IsLawful layout) (region : Box) (index : List ℕ) (cover : CoverRegion layout.grid region (index ∷ [])) where
   abbrev box : Box
@@ -72,18 +67,17 @@ module _ (layout : Layout) (lawful : IsLawful layout) (region : Box) (index : Li
     }
 
     -- or it is refused
-    pub chunk_refused : region ≡ box → read_size_refusal layout region.shape ≡ None → (r : Refusal) → RefusesChunkRead layout (length_refusal layout index) true index state r
-        → RefusesRegionRead layout (read_size_refusal layout region.shape) region (index ∷ []) state r
+    pub chunk_refused : region ≡ box → size_refusal layout region.shape ≡ None → (r : Refusal) → RefusesChunkRead layout (length_refusal layout index) true index state r
+        → RefusesRegionRead layout (size_refusal layout region.shape) region (index ∷ []) state r
     chunk_refused same fits =
-        let fits_box : read_size_refusal layout box.shape ≡ None = ap (λ (b : Box). read_size_refusal layout b.shape) (sym same) ∙ fits in
-        let size = none_first (size_refusal layout box.shape) (fill_refusal layout box.shape) fits_box in
-        let filled : fill_refusal layout box.shape ≡ None = sym (second_refusal (size_refusal layout box.shape) (fill_refusal layout box.shape) size) ∙ fits_box in
-        let fit : is_too_large layout box.shape ≡ false = elim (cases_Bool (is_too_large layout box.shape)) [
-          | inr small ↦ small
-          | inl large ↦ absurd (let clash : Some refusal.size_overflow ≡ None = sym (ap (λ b. refuse_if b refusal.size_overflow) large) ∙ size in cc)
-        ] in
-        unread_why layout index state has fit (RefusesRegionRead layout (read_size_refusal layout region.shape) region (index ∷ []) state)
+        let fit = size_fits layout box.shape (ap (λ (b : Box). size_refusal layout b.shape) (sym same) ∙ fits) in
+        unread_why layout index state has fit (RefusesRegionRead layout (size_refusal layout region.shape) region (index ∷ []) state)
         (inr (fits, tt))
         (λ broken. inr (fits, (index, member index, broken)))
-        (λ large where_is. absurd (let clash : Some refusal.size_overflow ≡ None = sym large ∙ filled in cc))
+        (λ large where_is. elim where_is [
+          | inl absent ↦
+              let filled = large_region layout box state (box_long layout.grid index) fit (λ position holds. absent_fill layout (value_at state) lawful index has absent position holds) large in
+              inr (fits, inr (inr (inr (subst (λ (b : Box). IsLargeBox layout b state) (sym same) filled))))
+          | inr needs ↦ inr (fits, inr (inl (index, member index, needs)))
+        ])
         (λ refuses. inr (fits, (index, member index, refuses)))

@@ -1,10 +1,9 @@
 -- Parts of chunks, read from the bytes at their keys.
-use Rattle.std.proofs.Common.{◌≡◌, ◌<◌, ◌≤◌, ◌*◌, ◌^◌, ℕ, Bool, true, false, not, nat_le, List, [], ◌∷◌, length, Option, Some, None, option_map, refl, sym, ◌∙◌, ap, subst, inl, inr, arith}
+use Rattle.std.proofs.Common.{◌≡◌, ℕ, Bool, true, false, not, List, [], ◌∷◌, length, Option, Some, None, option_map, refl, sym, ◌∙◌, ap, subst, inl, inr}
 use Rattle.std.specs.Prelude.{IfNone, is_some, unwrap_or}
 use Rattle.std.specs.FinMap as map
 use Rattle.std.specs.Option.{option_or}
-use Rattle.std.proofs.lemmas.Bool.{cases_Bool, leb-false}
-use Rattle.std.proofs.Math.Nat.{mul-le-mul_right}
+use Rattle.std.proofs.lemmas.Bool.{cases_Bool}
 use Rattle.zarrs_subset.specs.Boxes.{position_count}
 use Rattle.zarrs_subset.specs.Regions.{Box}
 use Rattle.zarrs_chunk_grid.specs.Grids.{box_at, has_box}
@@ -13,13 +12,12 @@ use Rattle.zarrs_storage.specs.Store.{StoreState, size_at}
 use Rattle.zarrs_storage.specs.Refusals.{RefusesRead}
 use Rattle.zarrs_storage.specs.declared.error.StorageError.{StorageError}
 use Rattle.zarrs_data_type.specs.ArrayData.{ArrayData}
-use Rattle.zarrs_data_type.specs.Cell.{held_size}
 use Rattle.zarrs_data_type.specs.Cells.{HasCells}
 use Rattle.zarrs_data_type.proofs.Cells.{HasCells-some}
 use Rattle.zarrs_source.specs.Stored.{value_or_empty}
 use Rattle.zarrs_calls.specs.Layout.{Layout}
 use Rattle.zarrs_calls.specs.Content.{decoded_cells, value_at}
-use Rattle.zarrs_calls.specs.ArgumentRefusals.{chunk_refusal, read_size_refusal, size_refusal}
+use Rattle.zarrs_calls.specs.ArgumentRefusals.{chunk_refusal, size_refusal}
 use Rattle.zarrs_calls.specs.Errors.{error_of_storage}
 use Rattle.zarrs_calls.specs.Refusals as refusal
 use Rattle.zarrs_calls.specs.Refusals.{Refusal, RefusesBy, box_refusal, fill_refusal, is_too_large, refusal_of, refuse_if}
@@ -53,19 +51,13 @@ none_of None b P same is h = h
 none_of (Some x) true P same is h = absurd (cc)
 none_of (Some x) false P same is h = absurd (cc)
 
--- as many fill values as a region has cells
-pub fill_fits : (layout : Layout) (shape : List ℕ) → read_size_refusal layout shape ≡ None → position_count shape * held_size layout.kind layout.fill < 2 ^ 64
-fill_fits layout shape none =
-    elim (cases_Bool (nat_le (2 ^ 64) (position_count shape * held_size layout.kind layout.fill))) [
-      | inr small ↦ leb-false (2 ^ 64) (position_count shape * held_size layout.kind layout.fill) small
-      | inl large ↦
-          let said : fill_refusal layout shape ≡ Some refusal.size_overflow = ap (λ b. refuse_if b refusal.size_overflow) large in
-          absurd (never (size_refusal layout shape) none said)
+-- a size that is accepted
+pub size_fits : (layout : Layout) (shape : List ℕ) → size_refusal layout shape ≡ None → is_too_large layout shape ≡ false
+size_fits layout shape none =
+    elim (cases_Bool (is_too_large layout shape)) [
+      | inr small ↦ small
+      | inl large ↦ absurd (let clash : Some refusal.size_overflow ≡ None = sym (ap (λ b. refuse_if b refusal.size_overflow) large) ∙ none in cc)
     ]
-  where
-    never : (first : Option Refusal) → option_or first (fill_refusal layout shape) ≡ None → fill_refusal layout shape ≡ Some refusal.size_overflow → ⊥
-    never None none said = let clash : None ≡ Some refusal.size_overflow = sym none ∙ said in cc
-    never (Some r) none said = cc
 
 -- a decode of a part is one cell for each of its positions
 pub decoded_has : (layout : Layout) (index : List ℕ) (part shared : Box) (state : StoreState) (made : ArrayData) → DecodesStored layout index part state made → part.shape ≡ shared.shape
@@ -131,7 +123,3 @@ module _ (layout : Layout) (region : Box) (index : List ℕ) (state : StoreState
       ))
   part_why encoded refuses box is same stands refusal.out_of_memory why = tt
   part_why encoded refuses box is same stands _ why = absurd why
-
--- a part has no more cells than the region
-pub fits_fewer : (few many size : ℕ) → few ≤ many → many * size < 2 ^ 64 → few * size < 2 ^ 64
-fits_fewer few many size less fits = let grows : few * size ≤ many * size = mul-le-mul_right size less in omega arith

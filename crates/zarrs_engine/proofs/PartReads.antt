@@ -1,5 +1,5 @@
 -- Reads of parts of chunks.
-use Rattle.std.proofs.Common.{◌≡◌, ◌+◌, ◌-◌, ◌<◌, ◌≤◌, max, min, ℕ, zero, suc, true, false, cond, List, [], ◌∷◌, length, replicate}
+use Rattle.std.proofs.Common.{◌≡◌, ◌+◌, ◌-◌, ◌*◌, ◌^◌, ◌<◌, ◌≤◌, max, min, nat_le, ℕ, zero, suc, Bool, true, false, cond, List, [], ◌∷◌, length, replicate}
 use Rattle.std.proofs.Common.{slice_index, Option, Some, None, Contains, refl, sym, ◌∙◌, ap, subst, inl, inr, arith}
 use Rattle.std.specs.List.{SomeIndex}
 use Rattle.std.specs.Option.{option_or}
@@ -18,27 +18,31 @@ use Rattle.zarrs_chunk_grid.specs.Grids.{box_at, has_box}
 use Rattle.zarrs_chunk_grid.proofs.Chunks.{box_covered, box_dimensions, box_index, box_is_there, box_long}
 use Rattle.zarrs_storage.specs.Store.{StoreState}
 use Rattle.zarrs_data_type.specs.ArrayData.{ArrayData}
-use Rattle.zarrs_data_type.specs.Cell.{Cell}
+use Rattle.zarrs_data_type.specs.Cell.{Cell, held_size}
 use Rattle.zarrs_data_type.specs.Cells.{cells}
 use Rattle.zarrs_calls.specs.Layout.{Layout, IsLawful}
-use Rattle.zarrs_calls.specs.ArgumentRefusals.{chunk_refusal, part_refusal, read_part_refusal, read_size_refusal}
+use Rattle.zarrs_calls.specs.ArgumentRefusals.{chunk_refusal, part_refusal, read_part_refusal, size_refusal}
 use Rattle.zarrs_calls.specs.Changes.{RetrievesChunk}
 use Rattle.zarrs_calls.specs.ChunkBoxes.{is_whole_of, part_box}
 use Rattle.zarrs_calls.specs.Reads.{ReadsRegion}
-use Rattle.zarrs_calls.specs.Refusals.{Refusal, RefusesBy, length_refusal, key_refusal, read_refusal}
+use Rattle.zarrs_calls.specs.Refusals as refusal
+use Rattle.zarrs_calls.specs.Refusals.{Refusal, RefusesBy, fill_refusal, is_too_large, length_refusal, key_refusal, read_refusal, refuse_if}
 use Rattle.zarrs_calls.specs.StateRefusals.{IsPart, RefusesChunkRead, RefusesRegionRead, RefusesSomeChunk}
 use Rattle.zarrs_calls.specs.Reach.{MayDecodePart, chunk_part}
 use Rattle.zarrs_calls.specs.Step.{RetrievesPart, RefusesRetrievePart}
-use Rattle.zarrs_calls.specs.Content.{value_at}
-use Rattle.zarrs_calls.proofs.Contents.{member, only_member}
+use Rattle.zarrs_calls.specs.Content.{content, value_at}
+use Rattle.zarrs_calls.proofs.Contents.{absent_fill, member, only_member}
 use Rattle.zarrs_calls.proofs.RefusalLemmas.{memory_or_said, refused_first, refused_second, second_refusal}
 use Rattle.zarrs_array_layout.specs.Covers.{CoverRegion}
 use Rattle.zarrs_array_layout.specs.Shared.{AreApart, AreShared}
+use Rattle.zarrs_array_layout.specs.Steps.{filled_refusal}
 use Rattle.zarrs_engine.specs.RegionReads.{DecodesStored, HasRead, IsRegionOf, ReadsOneMore}
 use Rattle.zarrs_array_layout.proofs.ChunkParts.{chunk_has, part_lies, shifted_part}
 use Rattle.zarrs_array_layout.proofs.Chunks.{right_length}
 use Rattle.zarrs_array_layout.proofs.OneChunk.{covers_lies}
 use Rattle.zarrs_parts.proofs.MovedBoxes.{overlap_inside}
+use Rattle.zarrs_engine.proofs.PartBytes.{size_fits}
+use Rattle.zarrs_engine.proofs.PartWrites.{large_region, lies_covers}
 use Rattle.zarrs_engine.proofs.RegionReads.{read_absent, read_all, read_alone, read_apart, read_none}
 
 -- ---- which part is the whole chunk
@@ -213,12 +217,12 @@ module _ (layout : Layout) (index : List ℕ) (part : Box) (state : StoreState) 
   part_refused_part r chunk h = parts_refused r (refused_second (chunk_refusal layout index) _ r chunk (refused_first (part_refusal layout index part) _ r h))
 
   module _ (chunk : chunk_refusal layout index ≡ None) (lies : part_refusal layout index part ≡ None) where
-    then_sized : read_part_refusal layout index part ≡ cond (is_whole_of (box_at layout.grid index).shape part) None (read_size_refusal layout part.shape)
+    then_sized : read_part_refusal layout index part ≡ cond (is_whole_of (box_at layout.grid index).shape part) None (size_refusal layout part.shape)
     then_sized = second_refusal (chunk_refusal layout index) _ chunk ∙ second_refusal (part_refusal layout index part) _ lies
 
     module _ (is : is_whole_of (box_at layout.grid index).shape part ≡ true) where
       whole_accepted : read_part_refusal layout index part ≡ None
-      whole_accepted = then_sized ∙ ap (λ b. cond b None (read_size_refusal layout part.shape)) is
+      whole_accepted = then_sized ∙ ap (λ b. cond b None (size_refusal layout part.shape)) is
 
       -- all of the chunk was read
       pub whole_read : (held : ArrayData) → RetrievesChunk layout index held state → RetrievesPart layout index part held state
@@ -237,18 +241,18 @@ module _ (layout : Layout) (index : List ℕ) (part : Box) (state : StoreState) 
           }
 
     module _ (is : is_whole_of (box_at layout.grid index).shape part ≡ false) where
-      proper_first : read_part_refusal layout index part ≡ read_size_refusal layout part.shape
-      proper_first = then_sized ∙ ap (λ b. cond b None (read_size_refusal layout part.shape)) is
+      proper_first : read_part_refusal layout index part ≡ size_refusal layout part.shape
+      proper_first = then_sized ∙ ap (λ b. cond b None (size_refusal layout part.shape)) is
 
       -- a part was read
-      pub proper_read : (held : ArrayData) → read_size_refusal layout part.shape ≡ None → ReadsRegion layout (part_box (box_at layout.grid index) part) (index ∷ []) held state → RetrievesPart layout index part held state
+      pub proper_read : (held : ArrayData) → size_refusal layout part.shape ≡ None → ReadsRegion layout (part_box (box_at layout.grid index) part) (index ∷ []) held state → RetrievesPart layout index part held state
       proper_read held fits r = record {
         accepted = proper_first ∙ fits;
         whole = λ whole. absurd (false≢true (sym is ∙ whole));
         proper = λ proper. r;
       }
 
-      pub proper_refused : (r : Refusal) → RefusesRegionRead layout (read_size_refusal layout part.shape) (part_box (box_at layout.grid index) part) (index ∷ []) state r → RefusesRetrievePart layout index part r state
+      pub proper_refused : (r : Refusal) → RefusesRegionRead layout (size_refusal layout part.shape) (part_box (box_at layout.grid index) part) (index ∷ []) state r → RefusesRetrievePart layout index part r state
       proper_refused r h = record {
         whole = λ whole. absurd (false≢true (sym is ∙ whole));
         proper = λ proper. subst (λ (o : Option Refusal). RefusesRegionRead layout o (part_box (box_at layout.grid index) part) (index ∷ []) state r) (sym proper_first) h;
@@ -305,18 +309,26 @@ module _ (layout : Layout) (lawful : IsLawful layout) (index : List ℕ) (part c
 
   module _ (state : StoreState) (apart : region ≡ chunk → ⊥) where
     -- the cells that were decoded
-    pub part_alone : (made : ArrayData) → read_size_refusal layout region.shape ≡ None → HasRead layout region (index ∷ []) state made → RetrievesPart layout index part made state
+    pub part_alone : (made : ArrayData) → size_refusal layout region.shape ≡ None → HasRead layout region (index ∷ []) state made → RetrievesPart layout index part made state
     part_alone made fits r =
         let reads = read_all layout lawful region (index ∷ []) state made part_cover r in
-        proper_read layout index part state there inside (is_proper apart) made (ap (λ (b : Box). read_size_refusal layout b.shape) (sym region_is) ∙ fits)
+        proper_read layout index part state there inside (is_proper apart) made (ap (λ (b : Box). size_refusal layout b.shape) (sym region_is) ∙ fits)
         (subst (λ (b : Box). ReadsRegion layout b (index ∷ []) made state) region_at reads)
 
-    pub part_not_read : (r : Refusal) → RefusesRegionRead layout (read_size_refusal layout region.shape) region (index ∷ []) state r → RefusesRetrievePart layout index part r state
+    pub part_not_read : (r : Refusal) → RefusesRegionRead layout (size_refusal layout region.shape) region (index ∷ []) state r → RefusesRetrievePart layout index part r state
     part_not_read r why =
         proper_refused layout index part state there inside (is_proper apart) r
-        (subst (λ (b : Box). RefusesRegionRead layout (read_size_refusal layout b.shape) b (index ∷ []) state r) region_at why)
+        (subst (λ (b : Box). RefusesRegionRead layout (size_refusal layout b.shape) b (index ∷ []) state r) region_at why)
 
 -- ---- the read of a part of a chunk, as the region that it is
+
+-- fill is refused for its size alone
+fill_said : (layout : Layout) (shape : List ℕ) (r : Refusal) → fill_refusal layout shape ≡ Some r → r ≡ refusal.size_overflow
+fill_said layout shape r = of (nat_le (2 ^ 64) (position_count shape * held_size layout.kind layout.fill))
+  where
+    of : (large : Bool) → refuse_if large refusal.size_overflow ≡ Some r → r ≡ refusal.size_overflow
+    of true said = cc
+    of false said = absurd (cc)
 
 module _ (layout : Layout) (lawful : IsLawful layout) (index : List ℕ) (has : has_box layout.grid index ≡ true) (part region : Box) (state : StoreState) (is : IsRegionOf layout index part region) where
   same_shape : part.shape ≡ region.shape
@@ -344,12 +356,29 @@ module _ (layout : Layout) (lawful : IsLawful layout) (index : List ℕ) (has : 
       read_alone layout lawful region index state has is.long is.lies.same_length region part is.long
       (alone_shared region (box_at layout.grid index) part is.long (box_long layout.grid index) is.lies is.seen) refl is.proper made decodes
 
-  -- it has no memory for the fill
-  pub filled_refused : (r : Refusal) → read_size_refusal layout part.shape ≡ None → RefusesBy (read_size_refusal layout part.shape) r → RefusesSomeChunk layout region (index ∷ []) state r
-  filled_refused r fits why =
-      elim (memory_or_said (read_size_refusal layout part.shape) r why) [
+  -- all of it is fill
+  pub empty_filled : SomeIndex part.shape (λ k. slice_index part.shape k ≡ 0) → (position : List ℕ) → Holds region position → content layout (value_at state) position ≡ Some layout.fill
+  empty_filled none position holds =
+      let some = subst (λ s. SomeIndex s (λ k. slice_index s k ≡ 0)) same_shape none in
+      absurd (false≢true (sym (in_box-empty region.start region.shape position some.0 is.long some.1 some.2) ∙ holds))
+
+  pub absent_filled : value_at state (layout.key index) ≡ None → (position : List ℕ) → Holds region position → content layout (value_at state) position ≡ Some layout.fill
+  absent_filled absent position holds =
+      absent_fill layout (value_at state) lawful index has absent position (lies_covers region (box_at layout.grid index) is.long (box_long layout.grid index) is.lies position holds)
+
+  -- the fill is too large, or it has no memory for it
+  pub filled_refused : (r : Refusal) → size_refusal layout part.shape ≡ None → ((position : List ℕ) → Holds region position → content layout (value_at state) position ≡ Some layout.fill)
+      → RefusesBy (filled_refusal layout part.shape) r → RefusesSomeChunk layout region (index ∷ []) state r
+  filled_refused r fits filled why =
+      elim (memory_or_said (filled_refusal layout part.shape) r why) [
         | inl memory ↦ subst (RefusesSomeChunk layout region (index ∷ []) state) (sym memory) tt
-        | inr said ↦ absurd (let clash : None ≡ Some r = sym fits ∙ said in cc)
+        | inr said ↦
+            let large : fill_refusal layout part.shape ≡ Some r = sym (second_refusal (size_refusal layout part.shape) (fill_refusal layout part.shape) fits) ∙ said in
+            let same = fill_said layout part.shape r large in
+            let here = subst (λ (x : Refusal). fill_refusal layout part.shape ≡ Some x) same large in
+            let fit = subst (λ s. is_too_large layout s ≡ false) same_shape (size_fits layout part.shape fits) in
+            subst (RefusesSomeChunk layout region (index ∷ []) state) (sym same)
+            (inr (inr (inr (large_region layout region state is.long fit filled (subst (λ s. fill_refusal layout s ≡ Some refusal.size_overflow) same_shape here)))))
       ]
 
 -- what is read of a part of a chunk is what may be read of the region that it is

@@ -5,7 +5,7 @@ use Rattle.std.proofs.lemmas.Bool.{cases_Bool, leb-true, leb-false}
 use Rattle.std.proofs.lemmas.List.{length-replicate}
 use Rattle.std.proofs.lemmas.List.Folds.{sum_by-replicate}
 use Rattle.zarrs_subset.specs.Boxes.{position_count}
-use Rattle.zarrs_subset.specs.Regions.{Box, IsLong, cell_in, in_box, place_in}
+use Rattle.zarrs_subset.specs.Regions.{Box, Holds, IsLong, cell_in, in_box, place_in}
 use Rattle.zarrs_subset.proofs.Bytes.{along_holds, holds_along, place_in_below}
 use Rattle.zarrs_chunk_grid.specs.Grids.{box_at, has_box}
 use Rattle.zarrs_chunk_grid.proofs.Chunks.{box_long}
@@ -116,32 +116,36 @@ fill_count layout shape said =
       | inr small ↦ absurd (let clash : None ≡ Some refusal.size_overflow = sym (ap (λ b. refuse_if b refusal.size_overflow) small) ∙ said in cc)
     ]
 
+-- a region of fill alone is too large
+pub large_region : (layout : Layout) (region : Box) (state : StoreState) → IsLong region → is_too_large layout region.shape ≡ false
+    → ((position : List ℕ) → Holds region position → content layout (value_at state) position ≡ Some layout.fill) → fill_refusal layout region.shape ≡ Some refusal.size_overflow
+    → IsLargeBox layout region state
+large_region layout region state long fit filled said =
+    let n = position_count region.shape in
+    let given = replicate n layout.fill in
+    let count : length given ≡ n = length-replicate n layout.fill in
+    let large = fill_count layout region.shape said in
+    let size : 2 ^ 64 ≤ n * cell_length layout.fill = elim (held_is layout.kind layout.fill) [
+      | inl is ↦ absurd (let small = not_large layout region.shape fit in let more = subst (λ s. 2 ^ 64 ≤ n * s) is large in omega arith)
+      | inr is ↦ subst (λ s. 2 ^ 64 ≤ n * s) is large
+    ] in
+    let sums = sum_by-replicate cell_length n layout.fill in (
+      given,
+      record {
+        count = count;
+        each = λ position holds.
+            let below = place_in_below region position long holds in
+            ap (λ o. Some (known_cell o)) (filled position holds) ∙ sym (fill_at layout.fill given (place_in region position) (replicated layout.fill n) (omega (arith, count)));
+      },
+      subst (λ s. 2 ^ 64 ≤ s) (sym sums) size,
+    )
+
 module _ (layout : Layout) (lawful : IsLawful layout) (keep : Bool) (region : Box) (held : ArrayData) (index : List ℕ) (state : StoreState)
     (has : has_box layout.grid index ≡ true) (fit : is_too_large layout (box_at layout.grid index).shape ≡ false) (part : IsPart layout region index) where
-  large_fill : value_at state (layout.key index) ≡ None → 2 ^ 64 ≤ position_count (box_at layout.grid index).shape * held_size layout.kind layout.fill → IsLargeBox layout (box_at layout.grid index) state
-  large_fill absent large =
-      let box = box_at layout.grid index in
-      let n = position_count box.shape in
-      let given = replicate n layout.fill in
-      let count : length given ≡ n = length-replicate n layout.fill in
-      let size : 2 ^ 64 ≤ n * cell_length layout.fill = elim (held_is layout.kind layout.fill) [
-        | inl is ↦ absurd (let small = not_large layout box.shape fit in let more = subst (λ s. 2 ^ 64 ≤ n * s) is large in omega arith)
-        | inr is ↦ subst (λ s. 2 ^ 64 ≤ n * s) is large
-      ] in
-      let sums = sum_by-replicate cell_length n layout.fill in (
-        given,
-        record {
-          count = count;
-          each = λ position holds.
-              let below = place_in_below box position (box_long layout.grid index) holds in
-              ap (λ o. Some (known_cell o)) (absent_fill layout (value_at state) lawful index has absent position holds)
-              ∙ sym (fill_at layout.fill given (place_in box position) (replicated layout.fill n) (omega (arith, count)));
-        },
-        subst (λ s. 2 ^ 64 ≤ s) (sym sums) size,
-      )
-
   fill_fails : fill_refusal layout (box_at layout.grid index).shape ≡ Some refusal.size_overflow → (value_at state (layout.key index) ≡ None) ⊎ NeedsLargeFill layout index state → RefusesPart layout keep region held index 0 state refusal.size_overflow
-  fill_fails said (inl absent) = (refl, inr (inl (part, inl (large_fill absent (fill_count layout (box_at layout.grid index).shape said)))))
+  fill_fails said (inl absent) =
+      let filled = large_region layout (box_at layout.grid index) state (box_long layout.grid index) fit (λ position holds. absent_fill layout (value_at state) lawful index has absent position holds) said in
+      (refl, inr (inl (part, inl filled)))
   fill_fails said (inr needs) = (refl, inr (inl (part, inr (inl needs))))
 
   -- the chunk cannot be read

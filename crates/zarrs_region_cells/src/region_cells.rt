@@ -6,8 +6,8 @@ ghost use Rattle.zarrs_array_bytes.specs.Parts.{TakesCells};
 ghost use Rattle.zarrs_region_cells.specs.RegionData.{region_data};
 ghost use Rattle.zarrs_subset.specs.Boxes.{position_count};
 ghost use Rattle.zarrs_subset.specs.Regions.{box_of};
-ghost use Rattle.zarrs_types.specs.Cell.{fill_cell, fill_of, held_size};
-ghost use Rattle.zarrs_types.specs.Kind.{kind};
+ghost use Rattle.zarrs_types.specs.Cell.{fill_cell, fill_of};
+ghost use Rattle.zarrs_types.specs.Kind.{kind, cell_size};
 
 use crate::levels::Level;
 use std::alloc::{AllocError, Global};
@@ -41,8 +41,7 @@ impl RegionCells {
         fill_value: &FillValue,
     ) -> Result<RegionCells, AllocError>
         requires filled { IsSome (fill_cell (kind data_type.now) fill_value.now) }
-        requires size { count * held_size (kind data_type.now) (fill_of
-            (kind data_type.now) fill_value.now) < 2 ^ 64 }
+        requires size { count * cell_size (kind data_type.now) < 2 ^ 64 }
         ensures { IfOk result (λ made. cells (kind data_type.now) (region_data made)
             ≡ Some (replicate count (fill_of (kind data_type.now) fill_value.now))) }
     {

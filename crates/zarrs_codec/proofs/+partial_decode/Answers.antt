@@ -338,20 +338,16 @@ sharding::ShardingCodec::decode_piece-partial_decode_inner-requires g t c κs wi
     let lt : n < length index.ranges.items = omega (arith, here.below, here.counted) in
     let ranged : slice_index_or index.ranges.items n None ≡ Some range = sym (get_or_read index.ranges.items n c.index.result.now lt c.index.ensures None) ∙ c.in-Some-index.is in
     let at = window_of (g.B.ByteSource.may_read c.args.source.now) c.args.window own_window source index c.args.at_start k s sub i part n range subset shared shard here there c.requires.window (omega arith) ranged refl refl c.requires.may_read in
-    let size = held_size k f in
-    let same : position_count own.shape ≡ position_count shared.shape = ap (λ (b : Box). position_count b.shape) own_is in
-    let fill_size : position_count own.shape * size < 2 ^ 64 =
-    omega (arith, same, mul-le-mul_right {m = position_count shared.shape} {n = position_count part.shape} size there.piece.own_few, ap (λ m. m * size) same, c.requires.fill_size) in
     let small = part_size s sub n (cell_size k) shard.cut here.below c.requires.size in
     let lies = subst (λ (b : Box). LiesInShape b sub) (sym own_is) there.piece.own_lies in
     let inner = inner_chain_of c.args.self.now in
     let may = at.allowed (m.places k sub own (window_bytes own_window source)) ((chain-lawful inner).places_inside k sub own (window_bytes own_window source)) in
-    (first_of (omega (arith, c.decreases), search rules), (search rules, (c.requires.filled, (small, (fill_size, (lies, (at.inside, may)))))))
+    (first_of (omega (arith, c.decreases), search rules), (search rules, (c.requires.filled, (small, (lies, (at.inside, may))))))
 
 pub sharding::ShardingCodec::read_subchunk-decode_piece-requires : goal.sharding::ShardingCodec::read_subchunk-decode_piece-requires
 sharding::ShardingCodec::read_subchunk-decode_piece-requires g t c κs within =
     let r = c.requires in
-    (first_of (omega (arith, c.decreases), search rules), (search rules, (r.filled, (r.size, (r.fill_size, (r.part, (r.window, (r.may_read, r.shard))))))))
+    (first_of (omega (arith, c.decreases), search rules), (search rules, (r.filled, (r.size, (r.part, (r.window, (r.may_read, r.shard)))))))
 
 pub sharding::ShardingCodec::read_subchunk-with_owned_part-requires-clause-dimensions : goal.sharding::ShardingCodec::read_subchunk-with_owned_part-requires-clause-dimensions
 sharding::ShardingCodec::read_subchunk-with_owned_part-requires-clause-dimensions g t c =
@@ -510,7 +506,14 @@ sharding::ShardingCodec::read_subchunks-read_subchunk-requires g t c κs within 
     let parts = map (range_part (window_bytes c.args.window (g.B.ByteSource.bytes c.args.source.now))) c.args.index.now.ranges.items in
     let r = c.requires in
     let held = walked_cells k dec f s sub part parts _ (region_data c.loop-walk.made) c.loop-walk.invariant.read in
-    (first_of (omega (arith, c.decreases), search rules), (search rules, (r.filled, (r.size, (r.fill_size, (r.part, (r.window, (r.may_read, (r.shard, held)))))))))
+    (first_of (omega (arith, c.decreases), search rules), (search rules, (r.filled, (r.size, (r.part, (r.window, (r.may_read, (r.shard, held))))))))
+
+pub sharding::ShardingCodec::read_subchunks-new_fill_value-requires-clause-size : goal.sharding::ShardingCodec::read_subchunks-new_fill_value-requires-clause-size
+sharding::ShardingCodec::read_subchunks-new_fill_value-requires-clause-size g t c =
+    let size = cell_size (kind c.args.data_type.now) in
+    let fewer = count_fits _ _ _ (part_fits (box_of c.args.part.now) c.args.shape.now c.args.part.now.same_length c.requires.part) in
+    let count : c.in-Ok.count ≡ position_count (box_of c.args.part.now).shape = c.in-Ok.ensures.ok in
+    omega (arith, ap (λ n. n * size) count, mul-le-mul_right size fewer, c.requires.size)
 
 pub sharding::ShardingCodec::read_subchunks-unreachable-requires : goal.sharding::ShardingCodec::read_subchunks-unreachable-requires
 sharding::ShardingCodec::read_subchunks-unreachable-requires g t c =
@@ -564,7 +567,7 @@ pub sharding::ShardingCodec::partial_decode_cut-decode_piece-requires : goal.sha
 sharding::ShardingCodec::partial_decode_cut-decode_piece-requires g t c κs within =
     let r = c.requires in
     let shard = rw c.in-Some.is at c.in_ok-index.ensures.shard in
-    (first_of (omega (arith, c.decreases), search rules), (search rules, (r.filled, (r.size, (r.fill_size, (r.part, (r.window, (r.may_read, shard))))))))
+    (first_of (omega (arith, c.decreases), search rules), (search rules, (r.filled, (r.size, (r.part, (r.window, (r.may_read, shard)))))))
 
 pub sharding::ShardingCodec::partial_decode_cut-returns-in_err-found-clause-refused : goal.sharding::ShardingCodec::partial_decode_cut-returns-in_err-found-clause-refused
 sharding::ShardingCodec::partial_decode_cut-returns-in_err-found-clause-refused g t c =
@@ -612,7 +615,7 @@ pub sharding::ShardingCodec::partial_decode_cut-read_subchunks-requires : goal.s
 sharding::ShardingCodec::partial_decode_cut-read_subchunks-requires g t c κs within =
     let r = c.requires in
     let shard = rw c.in-Some.is at c.in_ok-index.ensures.shard in
-    (first_of (omega (arith, c.decreases), search rules), (search rules, (r.filled, (r.size, (r.fill_size, (r.part, (r.window, (r.may_read, (shard, c.in_ok-met.ensures)))))))))
+    (first_of (omega (arith, c.decreases), search rules), (search rules, (r.filled, (r.size, (r.part, (r.window, (r.may_read, (shard, c.in_ok-met.ensures))))))))
 
 pub sharding::ShardingCodec::partial_decode_shard-partial_decode_cut-requires : goal.sharding::ShardingCodec::partial_decode_shard-partial_decode_cut-requires
 sharding::ShardingCodec::partial_decode_shard-partial_decode_cut-requires g t c κs within =
@@ -629,7 +632,7 @@ sharding::ShardingCodec::partial_decode_shard-partial_decode_cut-requires g t c 
     let sub = sizes_of (subchunk_sizes_of x) in
     let may = subst (λ (l : List ℕ). MayRead (g.B.ByteSource.may_read c.args.source.now) c.args.window (shard_places c.is_at_start-at_start.result l k s part whole)) (sym sub_is)
     (subst (λ (a : Bool). MayRead (g.B.ByteSource.may_read c.args.source.now) c.args.window (shard_places a sub k s part whole)) (sym at_is) r.may_read) in
-    (first_of (omega (arith, c.decreases), search rules), (search rules, (r.filled, (r.size, (r.fill_size, (r.part, (r.window, may)))))))
+    (first_of (omega (arith, c.decreases), search rules), (search rules, (r.filled, (r.size, (r.part, (r.window, may))))))
 
 pub sharding::ShardingCodec::partial_decode_shard-returns-clause-cells : goal.sharding::ShardingCodec::partial_decode_shard-returns-clause-cells
 sharding::ShardingCodec::partial_decode_shard-returns-clause-cells g t c =

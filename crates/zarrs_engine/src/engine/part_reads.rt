@@ -24,8 +24,8 @@ impl<
     ///
     /// # Errors
     /// In this order: E1 for another number of dimensions; E3 for a first index without a chunk, then for such a last
-    /// one; E8 for more cells, or as many fill values, than a `usize` counts bytes. Then as for `retrieve_array_subset`
-    /// over the region of these chunks. E9 may come at any time.
+    /// one; E8 for cells of more bytes than a `usize` counts. Then as for `retrieve_array_subset` over the region of these
+    /// chunks. E9 may come at any time.
     pub fn retrieve_chunks(
         &self,
         alloc: Global,
@@ -44,9 +44,9 @@ impl<
     /// # Errors
     /// In this order: E3 for another number of indices than dimensions, or without a chunk; E2 for a part of another
     /// number of dimensions, or that passes the chunk. Then for the whole chunk the errors of `retrieve_chunk`; for
-    /// another part E8 for more cells, or as many fill values, than a `usize` counts bytes, and then one of these: E7
-    /// if the store refuses the key, E8 for a chunk of more bytes than a `usize` counts, or for such a chunk of fill if
-    /// its bytes leave out cells, E4 if its bytes do not decode. E9 may come at any time.
+    /// another part E8 for cells of more bytes than a `usize` counts, and then one of these: E7 if the store refuses the
+    /// key, E8 for a chunk of more bytes than that, for such a chunk of fill if its bytes leave out cells, or for such
+    /// fill if it is absent, E4 if its bytes do not decode. E9 may come at any time.
     pub fn retrieve_chunk_subset(
         &self,
         alloc: Global,

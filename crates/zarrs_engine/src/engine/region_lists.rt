@@ -19,7 +19,7 @@ impl<
 > Engine<S, G, K, C> {
     ghost use Rattle.std.specs.Prelude.{◌≡◌, ◌*◌, ◌<◌, ◌^◌, true, None, IfErr, IfOk, OnOk, length};
     ghost use Rattle.zarrs_array_layout.specs.Covers.{CoverRegion};
-    ghost use Rattle.zarrs_calls.specs.ArgumentRefusals.{read_size_refusal};
+    ghost use Rattle.zarrs_calls.specs.ArgumentRefusals.{size_refusal};
     ghost use Rattle.zarrs_calls.specs.Reach.{MayReadParts};
     ghost use Rattle.zarrs_calls.specs.Reads.{ReadsRegion};
     ghost use Rattle.zarrs_calls.specs.Refusals.{refusal_of};
@@ -48,9 +48,9 @@ impl<
         ensures read { IfOk result (λ made. ReadsRegion (layout_of self.now) (box_of region.now)
             (positions (box_of chunks.now)) (data_of made) (store_of S.state self.now)) }
         ensures accepted { OnOk result
-            (read_size_refusal (layout_of self.now) (box_of region.now).shape ≡ None) }
+            (size_refusal (layout_of self.now) (box_of region.now).shape ≡ None) }
         ensures refused { IfErr result (λ e. RefusesRegionRead (layout_of self.now)
-            (read_size_refusal (layout_of self.now) (box_of region.now).shape) (box_of region.now)
+            (size_refusal (layout_of self.now) (box_of region.now).shape) (box_of region.now)
             (positions (box_of chunks.now)) (store_of S.state self.now) (refusal_of e)) }
     {
         let count = self.count_to_read(region)? as usize;

@@ -25,12 +25,12 @@ impl<
     ghost use Rattle.zarrs_subset.specs.Boxes.{position_count};
     ghost use Rattle.zarrs_subset.specs.Regions.{Box, LiesInShape, box_of, positions};
     ghost use Rattle.zarrs_chunk_grid.specs.Grids.{box_at, has_box};
-    ghost use Rattle.zarrs_data_type.specs.Cell.{held_size};
+    ghost use Rattle.zarrs_data_type.specs.Kind.{cell_size};
     ghost use Rattle.zarrs_data_type.specs.ArrayData.{ArrayData, data_of};
     ghost use Rattle.zarrs_data_type.specs.Cells.{cells, HasCells};
     ghost use Rattle.zarrs_region_cells.specs.RegionData.{region_data};
     ghost use Rattle.zarrs_byte_strings.specs.StringParts.{LiesInBox};
-    ghost use Rattle.zarrs_calls.specs.ArgumentRefusals.{read_size_refusal};
+    ghost use Rattle.zarrs_calls.specs.ArgumentRefusals.{size_refusal};
     ghost use Rattle.zarrs_calls.specs.ChunkBoxes.{is_empty};
     ghost use Rattle.zarrs_calls.specs.Content.{value_at};
     ghost use Rattle.zarrs_calls.specs.Reach.{MayAskChunk, MayDecodePart, MayReadPart};
@@ -46,27 +46,20 @@ impl<
     /// How many cells a region has.
     ///
     /// # Errors
-    /// E8 for more of them, or as many fill values, than a `usize` counts bytes.
+    /// E8 for cells of more bytes than a `usize` counts.
     pub(super) fn count_to_read(&self, region: &ArraySubset) -> Result<u64, ArrayError>
         ensures count { IfOk result (λ count. count ≡ position_count (box_of region.now).shape) }
-        ensures fits { IfOk result (λ count. count * held_size (layout_of self.now).kind
-            (layout_of self.now).fill < 2 ^ 64) }
+        ensures fits { IfOk result (λ count. count * cell_size (layout_of self.now).kind
+            < 2 ^ 64) }
         ensures accepted { OnOk result
-            (read_size_refusal (layout_of self.now) (box_of region.now).shape ≡ None) }
-        ensures refused { IfErr result (λ e. RefusesBy (read_size_refusal (layout_of self.now)
+            (size_refusal (layout_of self.now) (box_of region.now).shape ≡ None) }
+        ensures refused { IfErr result (λ e. RefusesBy (size_refusal (layout_of self.now)
             (box_of region.now).shape) (refusal_of e)) }
     {
-        let Some(count) = self.layout.cell_count(region) else {
-            return Err(ArrayError::SizeOverflow);
-        };
-        let cell_size = self
-            .layout
-            .data_type
-            .held_size(self.layout.fill_value.as_bytes());
-        if count.checked_mul(cell_size as u64).is_none() {
-            return Err(ArrayError::SizeOverflow);
+        match self.layout.cell_count(region) {
+            Some(count) => Ok(count),
+            None => Err(ArrayError::SizeOverflow),
         }
-        Ok(count)
     }
 
     /// The cells of a region if each is the fill value's.
@@ -79,8 +72,8 @@ impl<
             ≡ Some (replicate (position_count (box_of region.now).shape)
             (layout_of self.now).fill)) }
         ensures accepted { OnOk result
-            (read_size_refusal (layout_of self.now) (box_of region.now).shape ≡ None) }
-        ensures refused { IfErr result (λ e. RefusesBy (read_size_refusal (layout_of self.now)
+            (size_refusal (layout_of self.now) (box_of region.now).shape ≡ None) }
+        ensures refused { IfErr result (λ e. RefusesBy (size_refusal (layout_of self.now)
             (box_of region.now).shape) (refusal_of e)) }
     {
         let count = self.count_to_read(region)?;
@@ -105,8 +98,6 @@ impl<
         requires boxed { has_box (layout_of self.now).grid chunk_indices.now ≡ true }
         requires shape { shape.now ≡ (box_at (layout_of self.now).grid chunk_indices.now).shape }
         requires part { LiesInShape (box_of part.now) shape.now }
-        requires size { position_count (box_of part.now).shape * held_size (layout_of self.now).kind
-            (layout_of self.now).fill < 2 ^ 64 }
         requires ask { MayDecodePart (layout_of self.now) (box_of part.now) chunk_indices.now
             (store_of S.state self.now) }
         ensures absent { IfOk result (λ found. IfNone found (value_at (store_of S.state self.now)
@@ -140,7 +131,6 @@ impl<
         requires boxed { has_box (layout_of self.now).grid chunk_indices.now ≡ true }
         requires dimensions { length (box_of region.now).start
             ≡ (layout_of self.now).grid.dimensions }
-        requires size { read_size_refusal (layout_of self.now) (box_of region.now).shape ≡ None }
         requires held { HasCells (layout_of self.now).kind (region_data held)
             (position_count (box_of region.now).shape) }
         requires ask { MayReadPart (layout_of self.now) (box_of region.now) chunk_indices.now
@@ -203,7 +193,6 @@ impl<
         requires part { IsPart (layout_of self.now) (box_of region.now) chunk_indices.now }
         requires dimensions { length (box_of region.now).start
             ≡ (layout_of self.now).grid.dimensions }
-        requires size { read_size_refusal (layout_of self.now) (box_of region.now).shape ≡ None }
         requires held { HasCells (layout_of self.now).kind (region_data held)
             (position_count (box_of region.now).shape) }
         requires ask { MayDecodePart (layout_of self.now) (chunk_part (box_of region.now)
@@ -235,7 +224,6 @@ impl<
     ) -> Result<RegionCells, ArrayError>
         requires cover { CoverRegion (layout_of self.now).grid (box_of region.now)
             (positions (box_of chunks.now)) }
-        requires size { read_size_refusal (layout_of self.now) (box_of region.now).shape ≡ None }
         requires ask { MayReadParts (layout_of self.now) (box_of region.now)
             (positions (box_of chunks.now)) (store_of S.state self.now) }
         requires none { HasRead (layout_of self.now) (box_of region.now) []
@@ -272,9 +260,9 @@ impl<
         ensures read { IfOk result (λ made. ReadsRegion (layout_of self.now) (box_of region.now)
             (positions (box_of chunks.now)) (data_of made) (store_of S.state self.now)) }
         ensures accepted { OnOk result
-            (read_size_refusal (layout_of self.now) (box_of region.now).shape ≡ None) }
+            (size_refusal (layout_of self.now) (box_of region.now).shape ≡ None) }
         ensures refused { IfErr result (λ e. RefusesRegionRead (layout_of self.now)
-            (read_size_refusal (layout_of self.now) (box_of region.now).shape) (box_of region.now)
+            (size_refusal (layout_of self.now) (box_of region.now).shape) (box_of region.now)
             (positions (box_of chunks.now)) (store_of S.state self.now) (refusal_of e)) }
     {
         if !region.is_empty() {
@@ -307,9 +295,9 @@ impl<
         ensures read { IfOk result (λ made. ReadsRegion (layout_of self.now) (box_of region.now)
             (chunk_indices.now ∷ []) (data_of made) (store_of S.state self.now)) }
         ensures accepted { OnOk result
-            (read_size_refusal (layout_of self.now) (box_of region.now).shape ≡ None) }
+            (size_refusal (layout_of self.now) (box_of region.now).shape ≡ None) }
         ensures refused { IfErr result (λ e. RefusesRegionRead (layout_of self.now)
-            (read_size_refusal (layout_of self.now) (box_of region.now).shape) (box_of region.now)
+            (size_refusal (layout_of self.now) (box_of region.now).shape) (box_of region.now)
             (chunk_indices.now ∷ []) (store_of S.state self.now) (refusal_of e)) }
     {
         self.count_to_read(region)?;
@@ -334,7 +322,7 @@ impl<
         requires boxed { has_box (layout_of self.now).grid chunk_indices.now ≡ true }
         requires shape { shape.now ≡ (box_at (layout_of self.now).grid chunk_indices.now).shape }
         requires part { LiesInShape (box_of part.now) shape.now }
-        requires size { read_size_refusal (layout_of self.now) (box_of part.now).shape ≡ None }
+        requires size { size_refusal (layout_of self.now) (box_of part.now).shape ≡ None }
         requires ask { MayDecodePart (layout_of self.now) (box_of part.now) chunk_indices.now
             (store_of S.state self.now) }
         ensures read { IfOk result (λ made. (region : Box) → IsRegionOf (layout_of self.now)
@@ -357,10 +345,10 @@ impl<
     /// meets are read one after another in row-major order; an empty region asks nothing of the store.
     ///
     /// # Errors
-    /// In this order: E1 for another number of dimensions, or a position that no chunk covers; E8 for more cells, or as
-    /// many fill values, than a `usize` counts bytes. Then one of these: E7 if the store refuses the key of a chunk that
-    /// the region meets, E8 for such a chunk of more bytes than a `usize` counts, or for a chunk of fill of more if its
-    /// bytes leave out cells, E4 if its bytes do not decode. E9 may come at any time.
+    /// In this order: E1 for another number of dimensions, or a position that no chunk covers; E8 for cells of more
+    /// bytes than a `usize` counts. Then one of these: E7 if the store refuses the key of a chunk that the region meets,
+    /// E8 for such a chunk of more bytes than that, for a chunk of fill of more if its bytes leave out cells, or for such
+    /// fill if all of the region lies in an absent chunk, E4 if its bytes do not decode. E9 may come at any time.
     pub fn retrieve_array_subset(
         &self,
         alloc: Global,

@@ -6,7 +6,6 @@ use Rattle.zarrs_data_type.specs.Kind.{cell_size, kind}
 use Rattle.zarrs_subset.specs.Boxes.{position_count}
 use Rattle.zarrs_target.specs.States.{parent_box, target_box}
 use Rattle.zarrs_target.proofs.Boxes.{bytes_within}
-use Rattle.zarrs_target.proofs.Fills.{held_fixed, size_is}
 use Rattle.zarrs_target.proofs.Levels.{masked_keeps}
 use Rattle.zarrs_target.proofs.TypeSizes.{type_taken}
 use Rattle.zarrs_types.proofs.Values.{fill-value}
@@ -18,6 +17,7 @@ use Rattle.zarrs_codec.specs.Chains.{chain_meaning}
 use Rattle.zarrs_codec.proofs.Behind.{decoded-has_cells}
 use Rattle.zarrs_codec.proofs.PartReads.{into_refused}
 use Rattle.zarrs_codec.proofs.chain.CodecChain.write_decoded.Goals as goal
+use Rattle.zarrs_array_bytes.proofs.FixedSizes.{held_fixed, size_is}
 
 pub decode_chunk-requires-clause-size : goal.decode_chunk-requires-clause-size
 decode_chunk-requires-clause-size c =

@@ -7,7 +7,6 @@ use Rattle.zarrs_subset.specs.Boxes.{position_count}
 use Rattle.zarrs_subset.specs.Regions.{box_of}
 use Rattle.zarrs_target.specs.States.{data_of_target, parent_box, target_box}
 use Rattle.zarrs_target.proofs.Boxes.{bytes_within}
-use Rattle.zarrs_target.proofs.Fills.{held_fixed}
 use Rattle.zarrs_target.proofs.Levels.{masked_keeps}
 use Rattle.zarrs_target.proofs.TypeSizes.{levels_of, type_taken}
 use Rattle.zarrs_types.proofs.Values.{fill-value}
@@ -16,18 +15,7 @@ use Rattle.zarrs_types.specs.Kind.{kind}
 use Rattle.zarrs_parts.proofs.PartsInto.{written_part}
 use Rattle.zarrs_codec.specs.Chains.{chain_meaning}
 use Rattle.zarrs_codec.proofs.chain.CodecChain.write_part.Goals as goal
-
-pub partial_decode_chunk-requires-clause-fill_size : goal.partial_decode_chunk-requires-clause-fill_size
-partial_decode_chunk-requires-clause-fill_size g c =
-    let t = c.args.target.now in
-    let k = kind c.args.data_type.now in
-    let f = fill_of k c.args.fill_value.now in
-    let is = c.requires.target in
-    let held : held_size k f ≡ t.cell_size = held_fixed k t.cell_size f (type_taken t.cell_size t.depth k c.requires.takes).0 (fill-value k c.args.fill_value.now c.requires.filled) in
-    let within = bytes_within _ t.cell_size _ t.depth t.parent_shape.now (target_box t) t.region.now.same_length is in
-    let small = is.small in
-    let fit : position_count (target_box t).shape * t.cell_size < 2 ^ 64 = omega arith in
-    subst (λ (s : List ℕ). position_count s * held_size k f < 2 ^ 64) c.requires.same_shape (subst (λ n. position_count (target_box t).shape * n < 2 ^ 64) (sym held) fit)
+use Rattle.zarrs_array_bytes.proofs.FixedSizes.{held_fixed}
 
 pub returns-in_err-cells-clause-outside : goal.returns-in_err-cells-clause-outside
 returns-in_err-cells-clause-outside g c =

@@ -9,7 +9,7 @@ use Rattle.zarrs_data_type.proofs.Cells.{HasCells-some}
 use Rattle.zarrs_array_bytes.specs.Parts.{ExtractsCells, TakesCells}
 use Rattle.zarrs_byte_strings.specs.StringParts.{LiesInBox}
 use Rattle.zarrs_calls.specs.Refusals.{RefusesBy, is_too_large, refusal_of}
-use Rattle.zarrs_calls.specs.ArgumentRefusals.{read_size_refusal}
+use Rattle.zarrs_array_layout.specs.Steps.{filled_refusal}
 use Rattle.zarrs_engine.specs.Engine.{layout_of}
 use Rattle.zarrs_engine.proofs.Cuts.{bound_memory, cut_made, cut_memory, filled_box, filled_cells, filled_fails, kept_lies, read_fails}
 use Rattle.zarrs_engine.proofs.engine.Engine.cut_cells.Goals as goal
@@ -44,7 +44,7 @@ returns-in_err-filled-clause-refused g c = λ keep.
     let layout = layout_of c.args.self.now in
     let fit = subst (λ (b : Box). is_too_large layout b.shape ≡ false) c.requires.chunk c.requires.fit in
     let r = refusal_of c.in_err-filled.field-0.0 in
-    let said = subst (λ (b : Box). RefusesBy (read_size_refusal layout b.shape) r) c.requires.chunk c.in_err-filled.ensures.refused in
+    let said = subst (λ (b : Box). RefusesBy (filled_refusal layout b.shape) r) c.requires.chunk c.in_err-filled.ensures.refused in
     let why = filled_fails layout keep c.args.shape.now c.args.chunk_indices.now (g.S.ReadableStorageTraits.state c.args.self.now.storage) c.requires.boxed fit r said in
     search (rules, why)
 

@@ -7,7 +7,7 @@ use Rattle.zarrs_chunk_grid.specs.Grids.{box_at}
 use Rattle.zarrs_chunk_grid.proofs.Chunks.{box_long}
 use Rattle.zarrs_data_type.specs.ArrayData.{data_of}
 use Rattle.zarrs_calls.specs.declared.error.ArrayError.{ArrayError}
-use Rattle.zarrs_calls.specs.ArgumentRefusals.{read_size_refusal}
+use Rattle.zarrs_calls.specs.ArgumentRefusals.{size_refusal}
 use Rattle.zarrs_calls.specs.Changes.{RetrievesChunk}
 use Rattle.zarrs_calls.specs.Reads.{ReadsRegion}
 use Rattle.zarrs_calls.specs.Refusals.{length_refusal, refusal_of}
@@ -27,7 +27,7 @@ returns-in_err-count_to_read-clause-refused g c =
     let layout = layout_of c.args.self.now in
     let state = g.S.ReadableStorageTraits.state c.args.self.now.storage in
     let region = box_of c.args.region.now in
-    let why : RefusesRegionRead layout (read_size_refusal layout region.shape) region (c.args.chunk_indices.now ∷ []) state (refusal_of c.in_err-count_to_read.field-0.0) =
+    let why : RefusesRegionRead layout (size_refusal layout region.shape) region (c.args.chunk_indices.now ∷ []) state (refusal_of c.in_err-count_to_read.field-0.0) =
     inl c.in_err-count_to_read.ensures.refused in
     search (rules, why)
 
@@ -38,7 +38,7 @@ returns-in_err-chunk-clause-refused g c =
     let region = box_of c.args.region.now in
     let index = c.args.chunk_indices.now in
     let has = has layout c.args.self.now.layout.lawful region index c.requires.cover in
-    let why : RefusesRegionRead layout (read_size_refusal layout region.shape) region (index ∷ []) state (refusal_of c.in_err-chunk.field-0.0) =
+    let why : RefusesRegionRead layout (size_refusal layout region.shape) region (index ∷ []) state (refusal_of c.in_err-chunk.field-0.0) =
     inr (c.in_ok-count_to_read.ensures.accepted, box_why layout region index state has (refusal_of c.in_err-chunk.field-0.0) c.in_err-chunk.ensures.refused) in
     search (rules, why)
 
@@ -65,7 +65,7 @@ returns-then-eq-clause-refused g c =
     let index = c.args.chunk_indices.now in
     let same = c.eq.ensures.0 c.if-eq.true ∙ c.in_ok-chunk.ensures.region in
     each_error c.retrieve_chunk.result (λ (e : ArrayError). RefusesChunkRead layout (length_refusal layout index) true index state (refusal_of e))
-    (λ (e : ArrayError). RefusesRegionRead layout (read_size_refusal layout region.shape) region (index ∷ []) state (refusal_of e))
+    (λ (e : ArrayError). RefusesRegionRead layout (size_refusal layout region.shape) region (index ∷ []) state (refusal_of e))
     (λ e why. chunk_refused layout c.args.self.now.layout.lawful region index c.requires.cover state same c.in_ok-count_to_read.ensures.accepted (refusal_of e) why) c.retrieve_chunk.ensures.refused
 
 pub seen_from_corner-requires-clause-dimensions : goal.seen_from_corner-requires-clause-dimensions
@@ -102,7 +102,7 @@ read_part-requires-clause-part g c =
 pub read_part-requires-clause-size : goal.read_part-requires-clause-size
 read_part-requires-clause-size g c =
     let layout = layout_of c.args.self.now in
-    ap (λ (b : Box). read_size_refusal layout b.shape) c.in_ok-part.ensures ∙ c.in_ok-count_to_read.ensures.accepted
+    ap (λ (b : Box). size_refusal layout b.shape) c.in_ok-part.ensures ∙ c.in_ok-count_to_read.ensures.accepted
 
 pub read_part-requires-clause-ask : goal.read_part-requires-clause-ask
 read_part-requires-clause-ask g c =
@@ -152,5 +152,5 @@ returns-clause-refused g c =
           (λ same. false≢true (sym c.if-eq.false ∙ c.eq.ensures.1 (same ∙ sym c.in_ok-chunk.ensures.region)));
     } in
     each_error c.read_part.result (λ (e : ArrayError). (region : Box) → IsRegionOf layout index part region → RefusesSomeChunk layout region (index ∷ []) state (refusal_of e))
-    (λ (e : ArrayError). RefusesRegionRead layout (read_size_refusal layout region.shape) region (index ∷ []) state (refusal_of e))
+    (λ (e : ArrayError). RefusesRegionRead layout (size_refusal layout region.shape) region (index ∷ []) state (refusal_of e))
     (λ e why. inr (c.in_ok-count_to_read.ensures.accepted, why region is)) c.read_part.ensures.refused

@@ -6,21 +6,21 @@ use Rattle.zarrs_subset.specs.Boxes.{position_count}
 use Rattle.zarrs_subset.specs.Regions.{box_of, positions}
 use Rattle.zarrs_types.proofs.Sizes.{element_size-positive}
 use Rattle.zarrs_data_type.specs.ArrayData.{ArrayData, data_of}
-use Rattle.zarrs_data_type.specs.Cell.{held_size}
+use Rattle.zarrs_data_type.specs.Kind.{cell_size}
 use Rattle.zarrs_target.specs.Targets.{masked}
-use Rattle.zarrs_target.proofs.Fills.{held_fixed}
 use Rattle.zarrs_target.proofs.TypeSizes.{type_taken}
 use Rattle.zarrs_calls.specs.Reads.{ReadsRegion}
 use Rattle.zarrs_engine.specs.Engine.{layout_of}
 use Rattle.zarrs_engine.proofs.RegionLists.{AreFlags, lists_read}
 use Rattle.zarrs_engine.proofs.engine.Engine.read_in_list.Goals as goal
+use Rattle.zarrs_array_bytes.proofs.FixedSizes.{size_is}
 
 pub overflow_mul-count : goal.overflow_mul-count
 overflow_mul-count g c =
     let layout = layout_of c.args.self.now in
     let form = c.args.form in
-    let held : held_size layout.kind layout.fill ≡ form.size = held_fixed layout.kind form.size layout.fill (type_taken form.size form.depth layout.kind c.requires.takes).0 c.args.self.now.layout.lawful.filled in
-    let fit : c.in_ok-count.count * form.size < 2 ^ 64 = subst (λ n. c.in_ok-count.count * n < 2 ^ 64) held c.in_ok-count.ensures.fits in
+    let size : cell_size layout.kind ≡ form.size = size_is layout.kind form.size (type_taken form.size form.depth layout.kind c.requires.takes).0 in
+    let fit : c.in_ok-count.count * form.size < 2 ^ 64 = subst (λ n. c.in_ok-count.count * n < 2 ^ 64) size c.in_ok-count.ensures.fits in
     search (rules, fit)
 
 pub returns-clause-read : goal.returns-clause-read

@@ -6,13 +6,13 @@ use Rattle.zarrs_array_bytes.specs.declared.array_bytes.ArrayBytes.{ArrayBytes}
 use Rattle.zarrs_data_type.specs.ArrayData.{data_of}
 use Rattle.zarrs_data_type.specs.Cells.{cells}
 use Rattle.zarrs_calls.specs.declared.error.ArrayError.{ArrayError}
-use Rattle.zarrs_calls.specs.ArgumentRefusals.{read_size_refusal}
+use Rattle.zarrs_array_layout.specs.Steps.{filled_refusal}
 use Rattle.zarrs_calls.specs.Content.{value_at}
 use Rattle.zarrs_calls.specs.Refusals.{RefusesBy, refusal_of}
 use Rattle.zarrs_calls.specs.StateRefusals.{RefusesSomeChunk}
 use Rattle.zarrs_engine.specs.Engine.{layout_of}
 use Rattle.zarrs_engine.specs.RegionReads.{DecodesStored, HasRead, IsRegionOf}
-use Rattle.zarrs_engine.proofs.PartReads.{filled_read, filled_refused, region_absent, region_decoded, region_empty}
+use Rattle.zarrs_engine.proofs.PartReads.{absent_filled, empty_filled, filled_read, filled_refused, region_absent, region_decoded, region_empty}
 use Rattle.zarrs_engine.proofs.Puts.{each_error}
 use Rattle.zarrs_engine.proofs.engine.Engine.read_part.Goals as goal
 
@@ -36,9 +36,10 @@ returns-then-is_empty-clause-refused g c =
     let state = g.S.ReadableStorageTraits.state c.args.self.now.storage in
     let index = c.args.chunk_indices.now in
     let part = box_of c.args.part.now in
-    each_error c.filled.result (λ (e : ArrayError). RefusesBy (read_size_refusal layout part.shape) (refusal_of e))
+    let none = c.is_empty.ensures.0 c.if-is_empty.true in
+    each_error c.filled.result (λ (e : ArrayError). RefusesBy (filled_refusal layout part.shape) (refusal_of e))
     (λ (e : ArrayError). (region : Box) → IsRegionOf layout index part region → RefusesSomeChunk layout region (index ∷ []) state (refusal_of e))
-    (λ e why region is. filled_refused layout lawful index c.requires.boxed part region state is (refusal_of e) c.requires.size why) c.filled.ensures.refused
+    (λ e why region is. filled_refused layout lawful index c.requires.boxed part region state is (refusal_of e) c.requires.size (empty_filled layout lawful index c.requires.boxed part region state is none) why) c.filled.ensures.refused
 
 pub returns-in_err-made-clause-refused : goal.returns-in_err-made-clause-refused
 returns-in_err-made-clause-refused g c =
@@ -78,6 +79,7 @@ returns-in-None-clause-refused g c =
     let state = g.S.ReadableStorageTraits.state c.args.self.now.storage in
     let index = c.args.chunk_indices.now in
     let part = box_of c.args.part.now in
-    each_error c.filled-in-None.result (λ (e : ArrayError). RefusesBy (read_size_refusal layout part.shape) (refusal_of e))
+    let absent : value_at state (layout.key index) ≡ None = rw c.in-None.is at c.in_ok-made.ensures.absent in
+    each_error c.filled-in-None.result (λ (e : ArrayError). RefusesBy (filled_refusal layout part.shape) (refusal_of e))
     (λ (e : ArrayError). (region : Box) → IsRegionOf layout index part region → RefusesSomeChunk layout region (index ∷ []) state (refusal_of e))
-    (λ e why region is. filled_refused layout lawful index c.requires.boxed part region state is (refusal_of e) c.requires.size why) c.filled-in-None.ensures.refused
+    (λ e why region is. filled_refused layout lawful index c.requires.boxed part region state is (refusal_of e) c.requires.size (absent_filled layout lawful index c.requires.boxed part region state is absent) why) c.filled-in-None.ensures.refused

@@ -7,7 +7,7 @@ use Rattle.zarrs_array_bytes.specs.declared.array_bytes.ArrayBytes.{ArrayBytes}
 use Rattle.zarrs_data_type.specs.ArrayData.{ArrayData, data_of}
 use Rattle.zarrs_region_cells.specs.RegionData.{region_data}
 use Rattle.zarrs_calls.specs.declared.error.ArrayError.{ArrayError}
-use Rattle.zarrs_calls.specs.ArgumentRefusals.{read_size_refusal}
+use Rattle.zarrs_calls.specs.ArgumentRefusals.{size_refusal}
 use Rattle.zarrs_calls.specs.Reads.{ReadsRegion}
 use Rattle.zarrs_calls.specs.Refusals.{refusal_of}
 use Rattle.zarrs_calls.specs.StateRefusals.{RefusesRegionRead}
@@ -59,7 +59,7 @@ returns-in-Ok-eq1-clause-refused g c =
     let chunks = c.args.chunks.now in
     let count = sym c.in-Ok-eq1.ensures.ok ∙ c.in-Ok-eq1.field-0-test in
     let only = only_position (box_of chunks).start (box_of chunks).shape chunks.same_length count ∙ ap (λ l. l ∷ []) (sym c.start.ensures) in
-    subst (λ (l : List (List ℕ)). IfErr c.read_in_chunk.result (λ (e : ArrayError). RefusesRegionRead layout (read_size_refusal layout region.shape) region l state (refusal_of e))) (sym only) c.read_in_chunk.ensures.refused
+    subst (λ (l : List (List ℕ)). IfErr c.read_in_chunk.result (λ (e : ArrayError). RefusesRegionRead layout (size_refusal layout region.shape) region l state (refusal_of e))) (sym only) c.read_in_chunk.ensures.refused
 
 pub returns-in_err-filled-clause-refused : goal.returns-in_err-filled-clause-refused
 returns-in_err-filled-clause-refused g c =
@@ -67,7 +67,7 @@ returns-in_err-filled-clause-refused g c =
     let state = g.S.ReadableStorageTraits.state c.args.self.now.storage in
     let region = box_of c.args.region.now in
     let chunks = positions (box_of c.args.chunks.now) in
-    let why : RefusesRegionRead layout (read_size_refusal layout region.shape) region chunks state (refusal_of c.in_err-filled.field-0.0) = inl c.in_err-filled.ensures.refused in
+    let why : RefusesRegionRead layout (size_refusal layout region.shape) region chunks state (refusal_of c.in_err-filled.field-0.0) = inl c.in_err-filled.ensures.refused in
     search (rules, why)
 
 pub read_along-requires-clause-none : goal.read_along-requires-clause-none
@@ -83,7 +83,7 @@ returns-in_err-held-clause-refused g c =
     let state = g.S.ReadableStorageTraits.state c.args.self.now.storage in
     let region = box_of c.args.region.now in
     let chunks = positions (box_of c.args.chunks.now) in
-    let why : RefusesRegionRead layout (read_size_refusal layout region.shape) region chunks state (refusal_of c.in_err-held.field-0.0) =
+    let why : RefusesRegionRead layout (size_refusal layout region.shape) region chunks state (refusal_of c.in_err-held.field-0.0) =
     inr (c.in_ok-filled.ensures.accepted, c.in_err-held.ensures.refused) in
     search (rules, why)
 
