@@ -6,8 +6,8 @@ use Rattle.zarrs_codec_leaf.specs.declared.error.CodecError.TheVariants as codec
 use Rattle.zarrs_codec_leaf.specs.declared.error.Misfit.TheVariants as misfit
 use Rattle.zarrs_parts.specs.declared.error.PartError.{PartError}
 use Rattle.zarrs_parts.specs.declared.error.PartError.TheVariants as part
-use Rattle.zarrs_data_type.specs.declared.error.ElementError.{ElementError}
-use Rattle.zarrs_data_type.specs.declared.error.ElementError.TheVariants as element
+use Rattle.zarrs_elements.specs.declared.error.ElementError.{ElementError}
+use Rattle.zarrs_elements.specs.declared.error.ElementError.TheVariants as element
 use Rattle.zarrs_subset.specs.declared.error.ArraySubsetError.{ArraySubsetError}
 use Rattle.zarrs_subset.specs.declared.error.ArraySubsetError.TheVariants as subset
 use Rattle.zarrs_calls.specs.declared.error.ArrayError.{ArrayError}

@@ -11,7 +11,7 @@ use Rattle.zarrs_storage.specs.declared.error.StorageError.{StorageError}
 use Rattle.zarrs_storage.specs.declared.error.StorageError.TheVariants as stored
 use Rattle.zarrs_codec_leaf.specs.declared.error.CodecError.{CodecError}
 use Rattle.zarrs_codec_leaf.specs.declared.error.CodecError.TheVariants as coded
-use Rattle.zarrs_data_type.specs.declared.error.ElementError.TheVariants as elements
+use Rattle.zarrs_elements.specs.declared.error.ElementError.TheVariants as elements
 use Rattle.zarrs_data_type.specs.Kind.{cell_size}
 use Rattle.zarrs_data_type.specs.Cell.{Cell, cell_eq, held_size}
 use Rattle.zarrs_data_type.specs.Cells.{cells}

@@ -6,8 +6,3 @@ pub use Rattle.zarrs_array_bytes.proofs.Pieces
 pub use Rattle.zarrs_array_bytes.proofs.Validity
 pub use Rattle.zarrs_types.proofs.Same
 pub use Rattle.zarrs_types.proofs.Sizes
-pub mod ElementCells
-pub mod StringCells
-pub mod FlagCells
-pub mod OptionCells
-pub mod OptionNumbers

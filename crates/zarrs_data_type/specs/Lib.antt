@@ -5,4 +5,4 @@ pub use Rattle.zarrs_array_bytes.specs.Present
 pub use Rattle.zarrs_types.specs.Cell
 pub use Rattle.zarrs_types.specs.Kind
 pub use Rattle.zarrs_types.specs.Same
-pub mod Elements
+pub use Rattle.zarrs_elements.specs.Elements

@@ -3,12 +3,11 @@ ghost use Rattle.std.specs.Prelude.{◌≡◌, Bool, true, map, Some, IfOk, IfEr
 ghost use Rattle.zarrs_array_bytes.specs.ArrayData.{ArrayData, data_of};
 ghost use Rattle.zarrs_array_bytes.specs.Cells.{cells};
 ghost use Rattle.zarrs_types.specs.Kind.{Kind, kind};
-ghost use Rattle.zarrs_data_type.specs.Elements.{RefusesElement, RefusesCells};
+ghost use Rattle.zarrs_elements.specs.Elements.{RefusesElement, RefusesCells};
 
-use crate::element::{Element, ElementOwned};
-use crate::error::ElementError;
 use std::alloc::Global;
 use zarrs_array_bytes::ArrayBytes;
+use zarrs_elements::{Element, ElementError, ElementOwned};
 use zarrs_types::DataType;
 
 /// What a read returns: array bytes as they are, or the values of their cells.
