@@ -89,7 +89,7 @@ impl<G: ChunkGridTraits, K: ChunkKeyEncodingTraits, C: ChainTraits> ArrayLayout<
         if chunk_indices.len() != self.grid.dimensionality() {
             return Err(invalid_indices(alloc, chunk_indices));
         }
-        let mut shape = SmallVec::with_capacity(alloc, chunk_indices.len())?;
+        let mut shape = SmallVec::new(alloc);
         for (dimension, number) in chunk_indices.iter().enumerate() {
             let Some(interval) = self.grid.chunk_interval(dimension, *number) else {
                 return Err(invalid_indices(alloc, chunk_indices));
