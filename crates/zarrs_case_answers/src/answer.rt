@@ -68,9 +68,9 @@ pub fn put(alloc: Global, outcome: &Result<(), StorageError>) -> Result<Answer, 
 }
 
 /// The answer of a setter.
-pub fn set(alloc: Global, outcome: &Result<(), ArrayCreateError>) -> Result<Answer, AllocError> {
+pub fn set<T>(alloc: Global, outcome: &Result<T, ArrayCreateError>) -> Result<Answer, AllocError> {
     match outcome {
-        Ok(()) => word(alloc, "ok"),
+        Ok(_) => word(alloc, "ok"),
         Err(error) => refused_creation(alloc, error),
     }
 }

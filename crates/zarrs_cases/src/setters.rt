@@ -27,7 +27,7 @@ pub(crate) fn answer_of<'f>(
 }
 
 fn set_shape(alloc: Global, array: &mut Array<()>, shape: &[u64]) -> Result<Answer, AllocError> {
-    let outcome = array.reshape(alloc, shape.to_vec(alloc)?);
+    let outcome = array.set_shape(alloc, shape.to_vec(alloc)?);
     set(alloc, &outcome)
 }
 
@@ -38,8 +38,7 @@ fn set_shape_and_grid<'f>(
     grid: &'f str,
 ) -> Result<Answer, Why<'f>> {
     let grid = grid_of(alloc, grid)?;
-    let outcome = array.regrid(alloc, shape.to_vec(alloc)?, &grid);
-    drop(grid);
+    let outcome = array.set_shape_and_chunk_grid(alloc, shape.to_vec(alloc)?, grid);
     Ok(set(alloc, &outcome)?)
 }
 
@@ -53,7 +52,7 @@ fn set_attributes<'f>(
 }
 
 fn set_names(alloc: Global, array: &mut Array<()>, names: &str) -> Result<Answer, AllocError> {
-    let outcome = array.name_dimensions(alloc, names_in(alloc, names)?);
+    let outcome = array.set_dimension_names(alloc, names_in(alloc, names)?);
     set(alloc, &outcome)
 }
 

@@ -43,7 +43,7 @@ impl<TStorage> Array<TStorage> {
     ///
     /// # Errors
     /// Those of `set_dimension_names`. The array stays as it was then.
-    pub fn name_dimensions(
+    fn name_dimensions(
         &mut self,
         alloc: Global,
         dimension_names: Option<Vec<DimensionName>>,
@@ -85,8 +85,7 @@ impl<TStorage> Array<TStorage> {
         Ok(ArrayLoan { array: self })
     }
 
-    /// Gives the dimensions these names, or takes their names away. If this is refused the array stays as it was. The
-    /// proof of a caller reads that of `name_dimensions` alone.
+    /// Gives the dimensions these names, or takes their names away. If this is refused the array stays as it was.
     ///
     /// # Errors
     /// E21 for more or fewer names than dimensions; E25 for names of a V2 array. E26 may come for those.
@@ -126,7 +125,7 @@ impl<TStorage> Array<TStorage> {
     ///
     /// # Errors
     /// Those of `set_shape`. The array stays as it was then.
-    pub fn reshape(&mut self, alloc: Global, shape: ArrayShape) -> Result<(), ArrayCreateError>
+    fn reshape(&mut self, alloc: Global, shape: ArrayShape) -> Result<(), ArrayCreateError>
         ensures reshaped { OnOk result (reshaping shape.items (metadata_of_array self.old)
             ≡ Ok (metadata_of_array self.new)) }
         ensures refused { IfErr result (λ e. RefusesCreation
@@ -164,8 +163,7 @@ impl<TStorage> Array<TStorage> {
     }
 
     /// Gives the array this shape, and makes its chunk grid anew from its metadata. The store is not asked: a chunk that
-    /// it holds is read by the new grid. If this is refused the array stays as it was. The proof of a caller reads that
-    /// of `reshape` alone.
+    /// it holds is read by the new grid. If this is refused the array stays as it was.
     ///
     /// # Errors
     /// E18 if there is no such grid over the shape, so also for another number of dimensions. E26 may come at any time.
@@ -193,7 +191,7 @@ impl<TStorage> Array<TStorage> {
     ///
     /// # Errors
     /// Those of `set_shape_and_chunk_grid`. The array stays as it was then.
-    pub fn regrid(
+    fn regrid(
         &mut self,
         alloc: Global,
         shape: ArrayShape,
@@ -239,7 +237,7 @@ impl<TStorage> Array<TStorage> {
     }
 
     /// Gives the array this shape and this chunk grid. The store is not asked: a chunk that it holds is read by the new
-    /// grid. If this is refused the array stays as it was. The proof of a caller reads that of `regrid` alone.
+    /// grid. If this is refused the array stays as it was.
     ///
     /// # Errors
     /// In this order: E18 for a text that is no metadata of a grid; E20 for another number of dimensions; E18 for no
