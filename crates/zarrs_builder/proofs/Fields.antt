@@ -10,7 +10,7 @@ use Rattle.zarrs_codec_array.specs.Configurations.{ArrayCodecData}
 use Rattle.zarrs_chain.specs.declared.options.CodecSpecificOptions.{CodecSpecificOptions}
 use Rattle.zarrs_codec.specs.Configurations.{BytesCodecData}
 use Rattle.zarrs_metadata_v3.specs.Fields.{FieldData}
-use Rattle.zarrs_builder.specs.Given.{FillData}
+use Rattle.zarrs_builder_values.specs.Given.{FillData}
 use Rattle.zarrs_builder.specs.Builders.{BuilderData}
 
 abbrev pub same_type : BuilderData → BuilderData → Type 0

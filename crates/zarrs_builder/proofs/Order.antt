@@ -27,9 +27,9 @@ use Rattle.zarrs_metadata_v2.specs.View.{v3}
 use Rattle.zarrs_options.specs.Refusals.{CreateRefusal, data_type, chunk_grid, said_or, RefusesCreation}
 use Rattle.zarrs_creation.proofs.Order.{bound, all_said}
 use Rattle.zarrs_creation.specs.Meanings.{Meaning, creation_v3, names_said, path_said, created}
-use Rattle.zarrs_builder.specs.Given.{FillData}
+use Rattle.zarrs_builder_values.specs.Given.{FillData, fill_chosen}
 use Rattle.zarrs_builder.specs.Builders.{BuilderData, FieldsData, fields_of}
-use Rattle.zarrs_builder.specs.Built.{codecs_chosen, sizes_said, cut_into, chain_chosen, grid_chosen, fill_chosen, fill_stated, ChosenData, chosen, document_with, document_of_fields, parts_of_fields, built, built_at, built_metadata}
+use Rattle.zarrs_builder.specs.Built.{codecs_chosen, sizes_said, cut_into, chain_chosen, grid_chosen, fill_stated, ChosenData, chosen, document_with, document_of_fields, parts_of_fields, built, built_at, built_metadata}
 
 -- each field found memory
 pub all_found : (b : BuilderData) (s : List ℕ) → b.shape ≡ Some s → (g : Option ExtensionData) → b.chunk_grid ≡ Some g → (k : Option Kind) → b.data_type ≡ Some k → (f : FillData) → b.fill_value ≡ Some f → (n : Option (List (Option (List ℕ)))) → b.dimension_names ≡ Some n → (sub : Option (List ℕ)) → b.subchunk_shape ≡ Some sub

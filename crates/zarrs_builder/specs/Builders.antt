@@ -27,9 +27,9 @@ use Rattle.zarrs_options.specs.Given.{grid_given}
 use Rattle.zarrs_options.specs.declared.chunk_grid_metadata.ArrayBuilderChunkGridMetadata.{ArrayBuilderChunkGridMetadata}
 use Rattle.zarrs_creation.specs.Meanings.{Meaning, shape_said, attributes_of, dimension_names_of}
 use Rattle.zarrs.specs.Arrays.{default_specific_options}
-use Rattle.zarrs_builder.specs.Given.{type_given, FillData, by_metadata, fill_given}
-use Rattle.zarrs_builder.specs.declared.data_type.ArrayBuilderDataType.{ArrayBuilderDataType}
-use Rattle.zarrs_builder.specs.declared.fill_value.ArrayBuilderFillValue.{ArrayBuilderFillValue}
+use Rattle.zarrs_builder_values.specs.Given.{type_given, FillData, by_metadata, fill_given}
+use Rattle.zarrs_builder_values.specs.declared.data_type.ArrayBuilderDataType.{ArrayBuilderDataType}
+use Rattle.zarrs_builder_values.specs.declared.fill_value.ArrayBuilderFillValue.{ArrayBuilderFillValue}
 use Rattle.zarrs_builder.specs.declared.builder.ArrayBuilder.{ArrayBuilder}
 
 -- The first six are none if they found no memory. A chunk grid and a data type are what is given for them, if that

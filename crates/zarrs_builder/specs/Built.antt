@@ -7,16 +7,16 @@ use Rattle.zarrs_keys.specs.Metadata.{extension_of_encoding}
 use Rattle.zarrs_chunk_grid.specs.Configurations.{GridConfiguration}
 use Rattle.zarrs_chunk_grid.specs.Metadata.{grid_said, extension_of_grid}
 use Rattle.zarrs_types.specs.Cell.{fill_cell}
-use Rattle.zarrs_types.specs.FillMetadata.{fill_said, fill_written}
+use Rattle.zarrs_types.specs.FillMetadata.{fill_written}
 use Rattle.zarrs_types.specs.Kind.{Kind}
 use Rattle.zarrs_types.specs.TypeMetadata.{kind_name, kind_extension, is_readable}
 use Rattle.zarrs_codec.specs.Metadata.{default_codec, extensions_of_chain}
 use Rattle.zarrs_codec.specs.Configurations.{BytesCodecData, ChainData, sharding}
 use Rattle.zarrs_metadata_v3.specs.Document.{DocumentData}
 use Rattle.zarrs_metadata_v2.specs.View.{MetadataData, v3}
-use Rattle.zarrs_options.specs.Refusals.{CreateRefusal, data_type, subchunk_shape, chunk_grid, fill_value, fill_value_metadata, out_of_memory, said_or}
+use Rattle.zarrs_options.specs.Refusals.{CreateRefusal, data_type, subchunk_shape, chunk_grid, fill_value, out_of_memory, said_or}
 use Rattle.zarrs_creation.specs.Meanings.{Meaning, creation_v3, path_said, names_said, ◌>>=◌}
-use Rattle.zarrs_builder.specs.Given.{FillData, by_bytes, by_metadata}
+use Rattle.zarrs_builder_values.specs.Given.{fill_chosen}
 use Rattle.zarrs_builder.specs.Builders.{BuilderData, FieldsData, fields_of}
 
 -- the codec that makes bytes: the one that is set, or the default one of the type
@@ -45,11 +45,6 @@ chain_chosen (Some shape) codecs = sizes_said shape >>= (λ sized. Ok (cut_into 
 -- the grid over an array of that shape that is given, if there is one
 abbrev pub grid_chosen : Option ExtensionData → List ℕ → Option GridConfiguration
 grid_chosen given shape = option_and_then (λ e. grid_said e shape) given
-
--- the bytes of the fill value; those that are given as bytes may be no value of the type
-abbrev pub fill_chosen : Kind → FillData → Result (List ℕ) CreateRefusal
-fill_chosen k (by_bytes f) = Ok f
-fill_chosen k (by_metadata d) = said_or (fill_value_metadata (kind_name k) d) (fill_said k d)
 
 -- its metadata, if the bytes are a value of the type
 abbrev pub fill_stated : Kind → List ℕ → Result Data CreateRefusal

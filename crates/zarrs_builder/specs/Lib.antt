@@ -1,4 +1,3 @@
-pub mod Given
 pub mod Builders
 pub mod Built
 pub mod Lending

@@ -3,11 +3,10 @@ mod arrays;
 mod building;
 mod setters;
 
-use crate::data_type::ArrayBuilderDataType;
-use crate::fill_value::ArrayBuilderFillValue;
 pub use arrays::ToBuilder;
 use serde_json::{Map, Value};
 use std::alloc::{AllocError, Global};
+use zarrs_builder_values::{ArrayBuilderDataType, ArrayBuilderFillValue};
 use zarrs_chunk_grid::{ChunkGrid, ChunkGridTraits};
 use zarrs_codec::{ArrayToArrayCodec, ArrayToBytesCodec, BytesToBytesCodecs, CodecSpecificOptions};
 use zarrs_data_type::IntoField;

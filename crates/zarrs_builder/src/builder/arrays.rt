@@ -13,16 +13,15 @@ ghost use Rattle.zarrs_creation.specs.Meanings.{shape_said, attributes_of};
 ghost use Rattle.zarrs_creation.specs.Meanings.{dimension_names_of};
 ghost use Rattle.zarrs.specs.Arrays.{meaning_of_array, metadata_of_array};
 ghost use Rattle.zarrs_builder.specs.Builders.{additional_fields_of};
-ghost use Rattle.zarrs_builder.specs.Given.{type_given, by_metadata, fill_given};
+ghost use Rattle.zarrs_builder_values.specs.Given.{type_given, by_metadata, fill_given};
 ghost use Rattle.zarrs_builder.specs.declared.builder.ArrayBuilder.{ArrayBuilder};
 
 use super::{ArrayBuilder, grid_field};
 use crate::copies::{copied_codecs, copied_dimension_names, copied_fields};
-use crate::data_type::ArrayBuilderDataType;
-use crate::fill_value::ArrayBuilderFillValue;
 use serde_json::{Map, Value};
 use std::alloc::{AllocError, Global};
 use zarrs::Array;
+use zarrs_builder_values::{ArrayBuilderDataType, ArrayBuilderFillValue};
 use zarrs_codec::{ArrayToArrayCodec, ArrayToBytesCodec, BytesToBytesCodecs, CodecSpecificOptions};
 use zarrs_data_type::{DataTypeFillValueError, IntoField};
 use zarrs_keys::ChunkKeyEncoding;

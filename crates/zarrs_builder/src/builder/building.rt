@@ -21,11 +21,10 @@ ghost use Rattle.zarrs_builder.specs.Built.{fill_stated, sizes_said};
 
 use super::ArrayBuilder;
 use crate::copies::{copied_codecs, copied_dimension_names, copied_fields};
-use crate::data_type::ArrayBuilderDataType;
-use crate::fill_value::ArrayBuilderFillValue;
 use std::alloc::{AllocError, Global};
 use std::num::NonZeroU64;
 use zarrs::Array;
+use zarrs_builder_values::{ArrayBuilderDataType, ArrayBuilderFillValue};
 use zarrs_chunk_grid::{ChunkGrid, ChunkGridTraits, ChunkShape};
 use zarrs_codec::{
     ArrayToArrayCodec, ArrayToBytesCodec, BytesToBytesCodecs, CodecChain, ShardingCodecBuilder,

@@ -9,8 +9,8 @@ ghost use Rattle.zarrs_types.specs.Kind.{kind};
 ghost use Rattle.zarrs_types.specs.TypeMetadata.{kind_name};
 ghost use Rattle.zarrs_options.specs.Refusals.{RefusesCreation, create_refusal_of, said_or};
 ghost use Rattle.zarrs_options.specs.Refusals as refusal;
-ghost use Rattle.zarrs_builder.specs.Built.{fill_chosen};
-ghost use Rattle.zarrs_builder.specs.Given.{by_bytes, by_metadata, fill_given};
+ghost use Rattle.zarrs_builder_values.specs.Given.{fill_chosen};
+ghost use Rattle.zarrs_builder_values.specs.Given.{by_bytes, by_metadata, fill_given};
 
 use crate::numbers::{FillNumber, list_value};
 use serde_json::Value;

@@ -7,7 +7,7 @@ ghost use Rattle.zarrs_types.specs.TypeMetadata.{kind_of};
 ghost use Rattle.zarrs_options.specs.Given.{extension_of_text};
 ghost use Rattle.zarrs_options.specs.Refusals.{RefusesCreation, create_refusal_of, said_or};
 ghost use Rattle.zarrs_options.specs.Refusals as refusal;
-ghost use Rattle.zarrs_builder.specs.Given.{type_given};
+ghost use Rattle.zarrs_builder_values.specs.Given.{type_given};
 
 use std::alloc::{AllocError, Global};
 use zarrs_data_type::{DataType, IntoField};

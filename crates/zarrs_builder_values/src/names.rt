@@ -1,14 +1,14 @@
 //! Names of dimensions, as a caller may give them.
 ghost use Rattle.std.specs.Prelude.{IfOk};
 ghost use Rattle.std.specs.Iterator.{IsFinite};
-ghost use Rattle.zarrs_builder.specs.Given.{AreGiven};
+ghost use Rattle.zarrs_builder_values.specs.Given.{AreGiven};
 
 use std::alloc::{AllocError, Global};
 use zarrs_data_type::IntoField;
 use zarrs_metadata_v3::DimensionName;
 
 /// Returns the names that these become.
-pub(crate) fn given_names<I: IntoIterator<Item = D>, D: IntoField<DimensionName>>(
+pub fn given_names<I: IntoIterator<Item = D>, D: IntoField<DimensionName>>(
     alloc: Global,
     names: I,
 ) -> Result<Vec<DimensionName>, AllocError>

@@ -1,6 +1,6 @@
 use Rattle.std.proofs.Common.{◌≡◌, take, map}
 use Rattle.serde_json.specs.View.{view}
-use Rattle.zarrs_builder.proofs.numbers.list_value.Given as goal
+use Rattle.zarrs_builder_values.proofs.numbers.list_value.Given as goal
 
 -- the values so far
 abbrev pub invariant-loop-number : goal.invariant-loop-number

@@ -1,5 +1,5 @@
 use Rattle.std.specs.List.{AllZip}
-use Rattle.zarrs_builder.proofs.names.given_names.Given as goal
+use Rattle.zarrs_builder_values.proofs.names.given_names.Given as goal
 
 -- a field for each name so far
 abbrev pub invariant-loop-name : goal.invariant-loop-name

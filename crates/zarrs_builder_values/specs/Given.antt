@@ -1,19 +1,21 @@
 -- What callers give for the data type, the fill value and the names of dimensions of a builder.
-use Rattle.std.specs.Prelude.{ℕ, List, Option, Some, string_bytes, option_and_then}
+use Rattle.std.specs.Prelude.{ℕ, List, Option, Some, Result, Ok, string_bytes, option_and_then}
 use Rattle.std.specs.List.{AllZip}
 use Rattle.std.specs.Iterator.{Drains}
 use Rattle.serde_json.specs.Data.{Data}
 use Rattle.zarrs_metadata.specs.Extension.{extension_view}
 use Rattle.zarrs_metadata.specs.FillValue.{fill_data}
+use Rattle.zarrs_types.specs.FillMetadata.{fill_said}
 use Rattle.zarrs_types.specs.Kind.{Kind, kind}
-use Rattle.zarrs_types.specs.TypeMetadata.{kind_of}
+use Rattle.zarrs_types.specs.TypeMetadata.{kind_name, kind_of}
 use Rattle.zarrs_options.specs.Given.{extension_of_text}
-use Rattle.zarrs_builder.specs.declared.data_type.ArrayBuilderDataType.{ArrayBuilderDataType}
-use Rattle.zarrs_builder.specs.declared.data_type.GivenType.{GivenType}
-use Rattle.zarrs_builder.specs.declared.data_type.GivenType.TheVariants as given_type
-use Rattle.zarrs_builder.specs.declared.fill_value.ArrayBuilderFillValue.{ArrayBuilderFillValue}
-use Rattle.zarrs_builder.specs.declared.fill_value.GivenFill.{GivenFill}
-use Rattle.zarrs_builder.specs.declared.fill_value.GivenFill.TheVariants as given_fill
+use Rattle.zarrs_options.specs.Refusals.{CreateRefusal, fill_value_metadata, said_or}
+use Rattle.zarrs_builder_values.specs.declared.data_type.ArrayBuilderDataType.{ArrayBuilderDataType}
+use Rattle.zarrs_builder_values.specs.declared.data_type.GivenType.{GivenType}
+use Rattle.zarrs_builder_values.specs.declared.data_type.GivenType.TheVariants as given_type
+use Rattle.zarrs_builder_values.specs.declared.fill_value.ArrayBuilderFillValue.{ArrayBuilderFillValue}
+use Rattle.zarrs_builder_values.specs.declared.fill_value.GivenFill.{GivenFill}
+use Rattle.zarrs_builder_values.specs.declared.fill_value.GivenFill.TheVariants as given_fill
 
 -- ---- a data type
 
@@ -40,6 +42,11 @@ filling_given (given_fill.Metadata m) = by_metadata (fill_data m)
 -- the fill value that is given
 abbrev pub fill_given : ArrayBuilderFillValue → FillData
 fill_given f = filling_given f.given
+
+-- the bytes of the fill value; those that are given as bytes may be no value of the type
+abbrev pub fill_chosen : Kind → FillData → Result (List ℕ) CreateRefusal
+fill_chosen k (by_bytes f) = Ok f
+fill_chosen k (by_metadata d) = said_or (fill_value_metadata (kind_name k) d) (fill_said k d)
 
 -- ---- names of dimensions
 

@@ -1,5 +1,5 @@
 use Rattle.std.proofs.lemmas.Slice.Zip.{all_zipped_more}
-use Rattle.zarrs_builder.proofs.names.given_names.Goals as goal
+use Rattle.zarrs_builder_values.proofs.names.given_names.Goals as goal
 
 pub loop-name-preserved : goal.loop-name-preserved
 loop-name-preserved g c =
