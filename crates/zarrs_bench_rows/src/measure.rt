@@ -55,7 +55,7 @@ impl Extent {
     }
 }
 
-/// The best time of each kind of work, in nanoseconds, and whether both made the same.
+/// The best time of each kind of work, once, in nanoseconds, and whether both made the same.
 #[derive(Clone, Copy)]
 pub struct Times {
     /// That of the product.
@@ -74,14 +74,21 @@ const TURNS: u8 = 25;
 /// How long a piece of work is repeated at most before its last turn, in nanoseconds: 2 s.
 const LIMIT: u64 = 2_000_000_000;
 
-/// How long a turn of a piece of work took, in nanoseconds, and the byte that it returned.
+/// Work that takes less than so many nanoseconds is done more than once in a turn, and its time divided: 20 us. The clock
+/// takes some 20 ns itself.
+const SHORT: u64 = 20_000;
+
+/// How often work is done in a turn at most.
+const MOST_RUNS: u64 = 100;
+
+/// How long a piece of work took once in a turn, in nanoseconds, and the byte that it returned.
 #[derive(Clone, Copy)]
 struct Turn {
     time: u64,
     byte: u8,
 }
 
-/// How long a copy took, in nanoseconds, and the turn behind it.
+/// How long a copy took once, in nanoseconds, and the turn behind it.
 #[derive(Clone, Copy)]
 struct Behind {
     copy: u64,
@@ -117,9 +124,10 @@ fn best_times<P: Work, Q: Work<Sample = P::Sample>>(
         copy: if blocks.times > 0 { u64::MAX } else { 0 },
         are_same: true,
     };
+    let runs = runs_in_turn::<Q>(rt, alloc, sample)?;
     for turn in 0..TURNS {
         sample.touch(turn);
-        best = next_times::<P, Q>(rt, alloc, sample, blocks, best)?;
+        best = next_times::<P, Q>(rt, alloc, sample, blocks, runs, best)?;
     }
     best.are_same = best.are_same && sample.is_left_same(alloc)?;
     Ok(best)
@@ -131,10 +139,11 @@ fn next_times<P: Work, Q: Work<Sample = P::Sample>>(
     alloc: Global,
     sample: &mut P::Sample,
     blocks: &mut Blocks,
+    runs: u64,
     best: Times,
 ) -> Result<Times> {
-    let product = timed_behind_copy::<P>(rt, alloc, sample, blocks)?;
-    let plain = timed_behind_copy::<Q>(rt, alloc, sample, blocks)?;
+    let product = timed_behind_copy::<P>(rt, alloc, sample, blocks, runs)?;
+    let plain = timed_behind_copy::<Q>(rt, alloc, sample, blocks, runs)?;
     Ok(joined(best, product, plain))
 }
 
@@ -154,13 +163,14 @@ fn timed_behind_copy<W: Work>(
     alloc: Global,
     sample: &mut W::Sample,
     blocks: &mut Blocks,
+    runs: u64,
 ) -> Result<Behind> {
-    let copy = timed::<Copies>(rt, alloc, blocks)?.time;
-    let turn = timed::<W>(rt, alloc, sample)?;
+    let copy = timed::<Copies>(rt, alloc, blocks, runs)?.time;
+    let turn = timed::<W>(rt, alloc, sample, runs)?;
     Ok(Behind { copy, turn })
 }
 
-/// The best time of the work alone over a sample of this form and size, in nanoseconds.
+/// The best time of the work alone, once, over a sample of this form and size, in nanoseconds.
 ///
 /// # Errors
 /// The work or the clock fails, or out of memory.
@@ -194,12 +204,13 @@ pub fn alone<W: Work>(
 
 /// The best time of the turns of the work.
 fn best_of_turns<W: Work>(rt: &impl Clock, alloc: Global, sample: &mut W::Sample) -> Result<u64> {
+    let runs = runs_in_turn::<W>(rt, alloc, sample)?;
     let mut best = u64::MAX;
     let mut all = 0u64;
     for turn in 0..TURNS {
         if all < LIMIT {
             sample.touch(turn);
-            let time = timed::<W>(rt, alloc, sample)?.time;
+            let time = timed::<W>(rt, alloc, sample, runs)?.time;
             best = best.min(time);
             all = all.saturating_add(time);
         }
@@ -207,14 +218,47 @@ fn best_of_turns<W: Work>(rt: &impl Clock, alloc: Global, sample: &mut W::Sample
     Ok(best)
 }
 
-/// A turn of the work. In the program it is a function of its own, so that what the compiler makes of the work does not
-/// depend on the rows around it.
-#[inline(never)]
-fn timed<W: Work>(rt: &impl Clock, alloc: Global, sample: &mut W::Sample) -> Result<Turn> {
+/// How often the work is done in a turn: once if it is not short. The second of two turns tells, since the first one finds
+/// nothing in the caches.
+fn runs_in_turn<W: Work>(rt: &impl Clock, alloc: Global, sample: &mut W::Sample) -> Result<u64> {
+    let first = timed::<W>(rt, alloc, sample, 1)?.time;
+    if first > SHORT {
+        return Ok(1);
+    }
+    let second = timed::<W>(rt, alloc, sample, 1)?.time;
+    Ok((SHORT / second.max(1)).clamp(1, MOST_RUNS))
+}
+
+/// A turn of the work, which is done so often in it.
+fn timed<W: Work>(
+    rt: &impl Clock,
+    alloc: Global,
+    sample: &mut W::Sample,
+    runs: u64,
+) -> Result<Turn> {
     let start = Instant::now(rt)?;
-    let byte = W::run(alloc, sample)?;
+    let byte = repeated::<W>(alloc, sample, runs)?;
     let time = nanoseconds_since(rt, start)?;
-    Ok(Turn { time, byte })
+    Ok(Turn {
+        time: time / runs.max(1),
+        byte,
+    })
+}
+
+/// Does the work so often, and returns the byte of the last time.
+fn repeated<W: Work>(alloc: Global, sample: &mut W::Sample, runs: u64) -> Result<u8> {
+    let mut byte = 0;
+    for _run in 0..runs {
+        byte = run_once::<W>(alloc, sample)?;
+    }
+    Ok(byte)
+}
+
+/// Does the work once. In the program it is a function of its own, so that what the compiler makes of the work does not
+/// depend on the rows around it, and no run can use what the one before made.
+#[inline(never)]
+fn run_once<W: Work>(alloc: Global, sample: &mut W::Sample) -> Result<u8> {
+    W::run(alloc, sample)
 }
 
 /// How long ago this was.

@@ -69,7 +69,7 @@ impl<'a, R: Clock + Print + Alloc<A = Global>> Table<'a, R> {
 /// What stands in a column.
 #[derive(Clone, Copy)]
 pub enum Column {
-    /// So many nanoseconds, in whole microseconds.
+    /// So many nanoseconds, in microseconds: whole ones, but with two digits behind the point below ten.
     Time(u64),
     /// So many hundredths, as a number with two digits behind the point.
     Hundredths(u64),
@@ -80,11 +80,20 @@ pub enum Column {
 impl fmt::Display for Column {
     fn fmt<W: fmt::Write>(&self, f: &mut fmt::Formatter<W>) -> fmt::Result {
         match *self {
+            Column::Time(nanoseconds) if nanoseconds < 10_000 => write_hundredths(
+                f,
+                nanoseconds / 10,
+            ),
             Column::Time(nanoseconds) => write!(f, " | {}", nanoseconds / 1000),
-            Column::Hundredths(count) => write!(f, " | {}.{:02}", count / 100, count % 100),
+            Column::Hundredths(count) => write_hundredths(f, count),
             Column::Empty => f.write_str(" | -"),
         }
     }
+}
+
+/// Writes a column with so many hundredths.
+fn write_hundredths<W: fmt::Write>(f: &mut fmt::Formatter<W>, count: u64) -> fmt::Result {
+    write!(f, " | {}.{:02}", count / 100, count % 100)
 }
 
 /// A time; empty if it was not measured, which is 0.
