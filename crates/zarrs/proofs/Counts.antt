@@ -1,9 +1,9 @@
 -- How many writing calls the calls on the metadata of an array make.
 use Rattle.std.proofs.Common.{◌≡◌, ◌∙◌, ℕ, List, [], ◌∷◌, length, Ok, ap, sym, subst, arith}
 use Rattle.zarrs_storage.specs.Store.{StoreState}
-use Rattle.zarrs_calls.specs.Changes.{Makes}
-use Rattle.zarrs_calls.proofs.RefusalLemmas.{makes_none}
-use Rattle.zarrs_metadata_v2.specs.View.{MetadataData, v3, v2}
+use Rattle.zarrs_engine_calls.specs.Changes.{Makes}
+use Rattle.zarrs_engine_calls.proofs.RefusalLemmas.{makes_none}
+use Rattle.zarrs_metadata.specs.Versions.{MetadataData, v3, v2}
 use Rattle.zarrs_options.specs.declared.versions.MetadataEraseVersion.TheVariants as erase
 use Rattle.zarrs_creation.specs.Writing.{Put, IsWrittenBy, erasures}
 use Rattle.zarrs_options.specs.Options.{MetadataOptionsData}

@@ -1,6 +1,6 @@
 -- An array whose dimensions were named, or not, has metadata that says the same parts.
 use Rattle.std.proofs.Common.{◌≡◌, ℕ, List, Option, Result, Ok, Err, OnOk, OnErr, sym, subst}
-use Rattle.zarrs_metadata_v2.specs.View.{MetadataData}
+use Rattle.zarrs_metadata.specs.Versions.{MetadataData}
 use Rattle.zarrs_creation.specs.Changes.{with_names, naming}
 use Rattle.zarrs_creation.specs.Meanings.{Meaning, Says}
 use Rattle.zarrs_creation.proofs.Changed.{names_say_nothing}

@@ -4,16 +4,16 @@ use Rattle.std.proofs.lemmas.List.{append-nil, append_assoc}
 use Rattle.zarrs_storage.specs.Store.{StoreState, KeepsReach}
 use Rattle.zarrs_keys.specs.Keys.{v3_name, v2_array_name, v2_attributes_name, IsMetadataName}
 use Rattle.zarrs_keys.specs.Paths.{path_key}
-use Rattle.zarrs_metadata_v2.specs.View.{MetadataData, v3, v2}
+use Rattle.zarrs_metadata.specs.Versions.{MetadataData, v3, v2}
 use Rattle.zarrs_options.specs.declared.versions.MetadataEraseVersion.{MetadataEraseVersion}
 use Rattle.zarrs_options.specs.declared.versions.MetadataEraseVersion.TheVariants as erase
 use Rattle.zarrs_options.specs.declared.versions.MetadataRetrieveVersion.{MetadataRetrieveVersion}
 use Rattle.zarrs_options.specs.declared.versions.MetadataRetrieveVersion.TheVariants as retrieve
 use Rattle.zarrs_creation.specs.Opening.{MayAskKey, MayAskV2, MayAskMetadata, MayAskEachMetadata}
-use Rattle.zarrs_calls.specs.Changes.{IsPut}
-use Rattle.zarrs_calls.specs.Refusals.{Refusal, out_of_memory}
-use Rattle.zarrs_calls.proofs.RefusalLemmas.{makes_none}
-use Rattle.zarrs_array_layout.specs.Steps.{RefusesPut}
+use Rattle.zarrs_engine_calls.specs.Changes.{IsPut}
+use Rattle.zarrs_engine_calls.specs.Refusals.{Refusal, out_of_memory}
+use Rattle.zarrs_engine_calls.proofs.RefusalLemmas.{makes_none}
+use Rattle.zarrs_engine_layout.specs.Steps.{RefusesPut}
 use Rattle.zarrs_creation.specs.Writing.{Put, erasures}
 use Rattle.zarrs.specs.Puts.{ArePut, RefusesPuts}
 

@@ -10,14 +10,14 @@ use Rattle.zarrs_chunk_grid.specs.declared.grid.ChunkGrid.{ChunkGrid}
 use Rattle.zarrs_chunk_grid.specs.declared.traits.ChunkGridTraits.{Ghosts as GridMeaning}
 use Rattle.zarrs_chunk_grid.proofs.MetadataLemmas.{said_back}
 use Rattle.zarrs_codec.specs.declared.chain.CodecChain.{CodecChain}
-use Rattle.zarrs_chain.specs.declared.traits.ChainTraits.{Ghosts as ChainMeanings}
-use Rattle.zarrs_metadata_v2.specs.View.{MetadataData, v3, v2, metadata_view}
-use Rattle.zarrs_metadata_v2.specs.declared.versions.ArrayMetadata.{ArrayMetadata}
-use Rattle.zarrs_chain.specs.Chain.{ChainMeaning}
-use Rattle.zarrs_types.specs.Kind.{Kind, kind}
-use Rattle.zarrs_calls.specs.Content.{content}
-use Rattle.zarrs_calls.specs.Laws.{EachDecodes, over_grid}
-use Rattle.zarrs_calls.specs.Layout.{Layout, layout_at}
+use Rattle.zarrs_codec_chain.specs.declared.traits.ChainTraits.{Ghosts as ChainMeanings}
+use Rattle.zarrs_metadata.specs.Versions.{MetadataData, v3, v2, metadata_view}
+use Rattle.zarrs_metadata.specs.declared.versions.ArrayMetadata.{ArrayMetadata}
+use Rattle.zarrs_codec.specs.Chain.{ChainMeaning}
+use Rattle.zarrs_data_type.specs.Kind.{Kind, kind}
+use Rattle.zarrs_engine_calls.specs.Content.{content}
+use Rattle.zarrs_engine_calls.specs.Laws.{EachDecodes, over_grid}
+use Rattle.zarrs_engine_calls.specs.Layout.{Layout, layout_at}
 use Rattle.zarrs_engine.specs.Engine.{layout_of, path_of, grid_of, keys_of, chain_of, data_type_of, fill_value_of, GivesGrid, KeepsOthers, KeepsLayout}
 use Rattle.zarrs_engine.specs.declared.engine.Engine.{Engine}
 use Rattle.zarrs_creation.specs.Changes.{with_shape}

@@ -3,8 +3,8 @@ use Rattle.std.proofs.Common.{inl, inr, ℕ, List, refl}
 use Rattle.zarrs_storage.specs.Store.{StoreState}
 use Rattle.zarrs_storage.specs.declared.error.StorageError.{StorageError}
 use Rattle.zarrs_storage.specs.declared.error.StorageError.TheVariants as error
-use Rattle.zarrs_calls.specs.Refusals.{refusal_of_storage}
-use Rattle.zarrs_metadata_v2.specs.View.{MetadataData}
+use Rattle.zarrs_engine_calls.specs.Refusals.{refusal_of_storage}
+use Rattle.zarrs_metadata.specs.Versions.{MetadataData}
 use Rattle.zarrs_options.specs.Errors.{create_error_of_storage}
 use Rattle.zarrs_options.specs.Options.{MetadataOptionsData}
 use Rattle.zarrs_options.specs.Refusals.{create_refusal_of}

@@ -3,11 +3,11 @@ use Rattle.std.proofs.Common.{inl, refl, arith, ℕ, Bool, List}
 use Rattle.zarrs_storage.specs.Store.{StoreState}
 use Rattle.zarrs_subset.specs.Regions.{Box}
 use Rattle.zarrs_data_type.specs.ArrayData.{ArrayData}
-use Rattle.zarrs_calls.specs.Layout.{Layout}
-use Rattle.zarrs_calls.specs.Patches.{RefusesPatchPart}
-use Rattle.zarrs_calls.specs.Refusals.{out_of_memory}
-use Rattle.zarrs_calls.specs.Step.{RefusesEraseChunks}
-use Rattle.zarrs_calls.proofs.RefusalLemmas.{makes_none}
+use Rattle.zarrs_engine_calls.specs.Layout.{Layout}
+use Rattle.zarrs_engine_calls.specs.Patches.{RefusesPatchPart}
+use Rattle.zarrs_engine_calls.specs.Refusals.{out_of_memory}
+use Rattle.zarrs_engine_calls.specs.Step.{RefusesEraseChunks}
+use Rattle.zarrs_engine_calls.proofs.RefusalLemmas.{makes_none}
 
 pub erase_short : (layout : Layout) (range : Box) (state : StoreState) → RefusesEraseChunks layout range out_of_memory state state
 erase_short layout range state = record {

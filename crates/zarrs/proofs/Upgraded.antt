@@ -3,11 +3,11 @@ use Rattle.std.proofs.Common.{◌≡◌, inl, inr, ℕ, List, [], ◌∷◌, ◌
 use Rattle.std.proofs.lemmas.List.{append_assoc, map-append}
 use Rattle.zarrs_storage.specs.Store.{StoreState}
 use Rattle.zarrs_storage.specs.declared.error.StorageError.{StorageError}
-use Rattle.zarrs_calls.specs.Refusals.{Refusal, out_of_memory, refusal_of_storage}
+use Rattle.zarrs_engine_calls.specs.Refusals.{Refusal, out_of_memory, refusal_of_storage}
 use Rattle.zarrs_metadata_v3.specs.Document.{DocumentData}
-use Rattle.zarrs_metadata_v2.specs.Conversion.{ConversionRefusal, to_v3}
+use Rattle.zarrs_metadata.specs.Conversion.{ConversionRefusal, to_v3}
 use Rattle.zarrs_metadata_v2.specs.Document.{DocumentV2Data}
-use Rattle.zarrs_metadata_v2.specs.View.{MetadataData, v3, v2}
+use Rattle.zarrs_metadata.specs.Versions.{MetadataData, v3, v2}
 use Rattle.zarrs_options.specs.Options.{MetadataOptionsData}
 use Rattle.zarrs_options.specs.declared.versions.MetadataConvertVersion.TheVariants as convert
 use Rattle.zarrs_creation.specs.Meanings.{as_v3, v3_metadata}

@@ -1,12 +1,12 @@
 -- The parts of an engine are those that metadata says.
-use Rattle.zarrs_metadata_v2.specs.View.{metadata_view}
-use Rattle.zarrs_metadata_v2.specs.declared.versions.ArrayMetadata.{ArrayMetadata}
+use Rattle.zarrs_metadata.specs.Versions.{metadata_view}
+use Rattle.zarrs_metadata.specs.declared.versions.ArrayMetadata.{ArrayMetadata}
 use Rattle.zarrs_keys.specs.declared.encodings.ChunkKeyEncoding.{ChunkKeyEncoding}
 use Rattle.zarrs_keys.specs.declared.traits.ChunkKeyEncodingTraits.{Ghosts as KeyMeaning}
 use Rattle.zarrs_chunk_grid.specs.declared.grid.ChunkGrid.{ChunkGrid}
 use Rattle.zarrs_chunk_grid.specs.declared.traits.ChunkGridTraits.{Ghosts as GridMeaning}
 use Rattle.zarrs_codec.specs.declared.chain.CodecChain.{CodecChain}
-use Rattle.zarrs_chain.specs.declared.traits.ChainTraits.{Ghosts as ChainMeanings}
+use Rattle.zarrs_codec_chain.specs.declared.traits.ChainTraits.{Ghosts as ChainMeanings}
 use Rattle.zarrs_engine.specs.Engine.{grid_of, keys_of, chain_of, data_type_of, fill_value_of}
 use Rattle.zarrs_engine.specs.declared.engine.Engine.{Engine}
 use Rattle.zarrs_creation.specs.Meanings.{Meaning, meaning_with, Says}

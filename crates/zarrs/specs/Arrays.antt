@@ -1,13 +1,13 @@
 -- What clauses show of an array.
 use Rattle.std.specs.Prelude.{◌≡◌, ℕ, List, false}
 use Rattle.zarrs_storage.specs.Store.{StoreState}
-use Rattle.zarrs_metadata_v2.specs.View.{MetadataData, metadata_view}
-use Rattle.zarrs_chain.specs.Options.{stores_empty_chunks, encodes_partially}
-use Rattle.zarrs_chain.specs.declared.options.CodecOptions.{CodecOptions}
-use Rattle.zarrs_chain.specs.declared.options.CodecSpecificOptions.{CodecSpecificOptions}
-use Rattle.zarrs_chain.specs.declared.options.SubchunkWriteOrder.TheVariants.{C}
+use Rattle.zarrs_metadata.specs.Versions.{MetadataData, metadata_view}
+use Rattle.zarrs_codec.specs.Options.{stores_empty_chunks, encodes_partially}
+use Rattle.zarrs_codec_chain.specs.declared.options.CodecOptions.{CodecOptions}
+use Rattle.zarrs_codec_chain.specs.declared.options.CodecSpecificOptions.{CodecSpecificOptions}
+use Rattle.zarrs_codec_chain.specs.declared.options.SubchunkWriteOrder.TheVariants.{C}
 use Rattle.zarrs_options.specs.Options.{MetadataOptionsData, options_view, default_options}
-use Rattle.zarrs_calls.specs.Layout.{Layout, ArrayState}
+use Rattle.zarrs_engine_calls.specs.Layout.{Layout, ArrayState}
 use Rattle.zarrs_engine.specs.Engine.{layout_of, the_store, store_of, state_of, path_of, grid_of, KeepsOthers, KeepsLayout, GivesGrid}
 use Rattle.zarrs_chunk_grid.specs.GridView.{array_extents_of}
 use Rattle.zarrs_creation.specs.Changes.{with_shape}

@@ -1,8 +1,8 @@
 -- How many writing calls of the store the calls on the metadata of an array make, if they are accepted.
 use Rattle.std.specs.Prelude.{ℕ, List}
 use Rattle.zarrs_storage.specs.Store.{StoreState}
-use Rattle.zarrs_calls.specs.Changes.{Makes}
-use Rattle.zarrs_metadata_v2.specs.View.{MetadataData, v3, v2}
+use Rattle.zarrs_engine_calls.specs.Changes.{Makes}
+use Rattle.zarrs_metadata.specs.Versions.{MetadataData, v3, v2}
 use Rattle.zarrs_options.specs.Options.{MetadataOptionsData}
 use Rattle.zarrs_options.specs.declared.versions.MetadataEraseVersion.{MetadataEraseVersion}
 use Rattle.zarrs_options.specs.declared.versions.MetadataEraseVersion.TheVariants as erase

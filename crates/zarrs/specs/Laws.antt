@@ -5,16 +5,16 @@ use Rattle.serde_json.specs.Read.{max_depth}
 use Rattle.serde_json.specs.Written.{has_float}
 use Rattle.zarrs_storage.specs.Store.{StoreState}
 use Rattle.zarrs_keys.specs.Paths.{is_node_path}
-use Rattle.zarrs_calls.specs.Layout.{Layout, IsLawful, ArrayState, metadata_keys_at}
-use Rattle.zarrs_calls.specs.Content.{value_at}
-use Rattle.zarrs_calls.specs.Refusals.{Refusal}
-use Rattle.zarrs_calls.specs.Step.{Run}
-use Rattle.zarrs_calls.specs.Laws.{HaveEqualContent}
-use Rattle.zarrs_calls.specs.declared.call.Call.{Call}
-use Rattle.zarrs_calls.specs.declared.call.Reply.{Reply}
+use Rattle.zarrs_engine_calls.specs.Layout.{Layout, IsLawful, ArrayState, metadata_keys_at}
+use Rattle.zarrs_engine_calls.specs.Content.{value_at}
+use Rattle.zarrs_engine_calls.specs.Refusals.{Refusal}
+use Rattle.zarrs_engine_calls.specs.Step.{Run}
+use Rattle.zarrs_engine_calls.specs.Laws.{HaveEqualContent}
+use Rattle.zarrs_engine_calls.specs.declared.call.Call.{Call}
+use Rattle.zarrs_engine_calls.specs.declared.call.Reply.{Reply}
 use Rattle.zarrs_metadata_v3.specs.Document.{DocumentData, data_of_document, normal_document}
 use Rattle.zarrs_metadata_v2.specs.Document.{DocumentV2Data, data_of_v2, without_attributes}
-use Rattle.zarrs_metadata_v2.specs.View.{MetadataData, v3, v2}
+use Rattle.zarrs_metadata.specs.Versions.{MetadataData, v3, v2}
 use Rattle.zarrs_options.specs.Options.{MetadataOptionsData}
 use Rattle.zarrs_options.specs.declared.versions.MetadataEraseVersion.{MetadataEraseVersion}
 use Rattle.zarrs_options.specs.declared.versions.MetadataRetrieveVersion.{MetadataRetrieveVersion}

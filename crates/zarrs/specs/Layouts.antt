@@ -3,7 +3,7 @@ use Rattle.std.specs.Prelude.{ℕ, List}
 use Rattle.zarrs_keys.specs.Encodings.{encoding_key}
 use Rattle.zarrs_chunk_grid.specs.Configurations.{grid_of}
 use Rattle.zarrs_codec.specs.Configurations.{meaning_of_chain}
-use Rattle.zarrs_calls.specs.Layout.{Layout, layout_at}
+use Rattle.zarrs_engine_calls.specs.Layout.{Layout, layout_at}
 use Rattle.zarrs_creation.specs.Meanings.{Meaning}
 
 -- at this path

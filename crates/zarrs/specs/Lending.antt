@@ -5,14 +5,15 @@ use Rattle.std.specs.Result.{result_ok}
 use Rattle.serde_json.specs.Rows.{map_row}
 use Rattle.serde_json.specs.View.{members_view}
 use Rattle.zarrs_metadata_v3.specs.View.{document_view}
-use Rattle.zarrs_metadata_v2.specs.View.{document_v2_view, metadata_view}
-use Rattle.zarrs_metadata_v2.specs.declared.versions.ArrayMetadata.{ArrayMetadata}
-use Rattle.zarrs_metadata_v2.specs.declared.versions.ArrayMetadata.TheVariants.{V3, V2}
+use Rattle.zarrs_metadata_v2.specs.View.{document_v2_view}
+use Rattle.zarrs_metadata.specs.Versions.{metadata_view}
+use Rattle.zarrs_metadata.specs.declared.versions.ArrayMetadata.{ArrayMetadata}
+use Rattle.zarrs_metadata.specs.declared.versions.ArrayMetadata.TheVariants.{V3, V2}
 use Rattle.zarrs_creation.specs.Meanings.{Meaning, Says}
 use Rattle.zarrs_creation.proofs.Names.{attributes_of_v3_say_nothing, attributes_say_nothing}
 use Rattle.zarrs.specs.declared.array.Array.{Array}
 use Rattle.zarrs.specs.contracts.array.Array.{the_row}
-use Rattle.zarrs_metadata_v2.specs.contracts.versions.ArrayMetadata.{the_row as metadata_row}
+use Rattle.zarrs_metadata.specs.contracts.versions.ArrayMetadata.{the_row as metadata_row}
 
 -- the metadata with these attributes
 abbrev pub with_attributes : ArrayMetadata → map_row.Denot → ArrayMetadata

@@ -3,10 +3,10 @@ use Rattle.std.specs.Prelude.{◌≡◌, ℕ, List, None, Result}
 use Rattle.std.specs.Borrow.{Fml, MutBor, RattleType, RestsIfErr}
 use Rattle.zarrs_storage.specs.Store.{StoreState}
 use Rattle.zarrs_subset.specs.Regions.{Box}
-use Rattle.zarrs_calls.specs.ArgumentRefusals.{chunk_refusal, part_refusal}
-use Rattle.zarrs_calls.specs.Reach.{MayReadPart}
-use Rattle.zarrs_calls.specs.Layout.{Layout, ArrayState}
-use Rattle.zarrs_calls.specs.declared.error.ArrayError.{ArrayError}
+use Rattle.zarrs_engine_calls.specs.ArgumentRefusals.{chunk_refusal, part_refusal}
+use Rattle.zarrs_engine_calls.specs.Reach.{MayReadPart}
+use Rattle.zarrs_engine_calls.specs.Layout.{Layout, ArrayState}
+use Rattle.zarrs_engine_calls.specs.declared.error.ArrayError.{ArrayError}
 use Rattle.zarrs_engine.specs.Engine.{layout_of, state_of, store_of}
 use Rattle.zarrs_engine.specs.PartialDecoders.{engine_of, indices_of, region_of_part}
 use Rattle.zarrs.specs.declared.array.Array.{Array}

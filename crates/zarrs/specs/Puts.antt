@@ -1,10 +1,10 @@
 -- What calls on the metadata of an array do in its store.
 use Rattle.std.specs.Prelude.{◌≡◌, ◌≢◌, ◌⊎◌, ℕ, List, [], ◌∷◌, ◌++◌, Ok}
 use Rattle.zarrs_storage.specs.Store.{StoreState}
-use Rattle.zarrs_calls.specs.Changes.{IsPut}
-use Rattle.zarrs_calls.specs.Refusals.{Refusal, out_of_memory}
-use Rattle.zarrs_array_layout.specs.Steps.{RefusesPut}
-use Rattle.zarrs_metadata_v2.specs.View.{MetadataData}
+use Rattle.zarrs_engine_calls.specs.Changes.{IsPut}
+use Rattle.zarrs_engine_calls.specs.Refusals.{Refusal, out_of_memory}
+use Rattle.zarrs_engine_layout.specs.Steps.{RefusesPut}
+use Rattle.zarrs_metadata.specs.Versions.{MetadataData}
 use Rattle.zarrs_options.specs.Options.{MetadataOptionsData}
 use Rattle.zarrs_creation.specs.Shown.{shown}
 use Rattle.zarrs_creation.specs.Writing.{Put, IsWrittenBy}

@@ -2,10 +2,10 @@
 use Rattle.std.specs.Prelude.{◌==◌, not, if◌then◌else◌, length, Option, None}
 use Rattle.std.specs.Option.{option_or}
 use Rattle.zarrs_subset.specs.Regions.{Box}
-use Rattle.zarrs_calls.specs.Layout.{Layout}
-use Rattle.zarrs_calls.specs.ArgumentRefusals.{range_refusal}
-use Rattle.zarrs_calls.specs.ChunkBoxes.{is_empty}
-use Rattle.zarrs_calls.specs.Refusals.{Refusal, refuse_if, dimensionality}
+use Rattle.zarrs_engine_calls.specs.Layout.{Layout}
+use Rattle.zarrs_engine_calls.specs.ArgumentRefusals.{range_refusal}
+use Rattle.zarrs_engine_calls.specs.ChunkBoxes.{is_empty}
+use Rattle.zarrs_engine_calls.specs.Refusals.{Refusal, refuse_if, dimensionality}
 
 -- E10: the region has another number of dimensions than the array
 abbrev pub query_refusal : Layout → Box → Option Refusal

@@ -1,8 +1,8 @@
 -- Why an array that is stored is not opened again.
 use Rattle.std.specs.Prelude.{◌≡◌, ◌⊎◌, ℕ, List, Err}
 use Rattle.zarrs_storage.specs.Store.{StoreState}
-use Rattle.zarrs_calls.specs.Refusals as refusals
-use Rattle.zarrs_metadata_v2.specs.View.{MetadataData}
+use Rattle.zarrs_engine_calls.specs.Refusals as refusals
+use Rattle.zarrs_metadata.specs.Versions.{MetadataData}
 use Rattle.zarrs_options.specs.Options.{MetadataOptionsData}
 use Rattle.zarrs_options.specs.Refusals.{CreateRefusal, storage, out_of_memory, RefusesCreation}
 use Rattle.zarrs_creation.specs.Opening.{opened}

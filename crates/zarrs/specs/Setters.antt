@@ -2,14 +2,14 @@
 use Rattle.std.specs.Prelude.{◌≡◌, ◌⊎◌, ℕ, List, Option, Ok}
 use Rattle.zarrs_chunk_grid.specs.Grids.{Grid, box_at, index_at, is_covered}
 use Rattle.zarrs_storage.specs.Store.{StoreState}
-use Rattle.zarrs_metadata_v2.specs.View.{MetadataData}
+use Rattle.zarrs_metadata.specs.Versions.{MetadataData}
 use Rattle.zarrs_options.specs.Given.{grid_given}
 use Rattle.zarrs_options.specs.Refusals.{CreateRefusal, out_of_memory, RefusesCreation}
 use Rattle.zarrs_options.specs.declared.chunk_grid_metadata.ArrayBuilderChunkGridMetadata.{ArrayBuilderChunkGridMetadata}
 use Rattle.zarrs_creation.specs.Changes.{regridding}
-use Rattle.zarrs_calls.specs.Content.{content}
-use Rattle.zarrs_calls.specs.Laws.{EachDecodes, over_grid}
-use Rattle.zarrs_calls.specs.Layout.{Layout}
+use Rattle.zarrs_engine_calls.specs.Content.{content}
+use Rattle.zarrs_engine_calls.specs.Laws.{EachDecodes, over_grid}
+use Rattle.zarrs_engine_calls.specs.Layout.{Layout}
 
 -- the metadata gets this shape and such a grid
 abbrev pub Regrids : (ArrayBuilderChunkGridMetadata → Type 0) → List ℕ → MetadataData → MetadataData → Type 0

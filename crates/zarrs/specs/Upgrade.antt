@@ -2,13 +2,13 @@
 use Rattle.std.specs.Prelude.{◌≡◌, ◌⊎◌, ℕ, true, false, List, [], ◌∷◌, ◌++◌, Some, None, Ok}
 use Rattle.zarrs_storage.specs.Store.{StoreState}
 use Rattle.zarrs_keys.specs.Paths.{is_node_path}
-use Rattle.zarrs_calls.specs.Layout.{Layout, IsLawful, metadata_keys_at}
-use Rattle.zarrs_calls.specs.Content.{value_at}
-use Rattle.zarrs_calls.specs.Refusals.{Refusal, out_of_memory}
-use Rattle.zarrs_calls.specs.Laws.{HaveEqualContent}
+use Rattle.zarrs_engine_calls.specs.Layout.{Layout, IsLawful, metadata_keys_at}
+use Rattle.zarrs_engine_calls.specs.Content.{value_at}
+use Rattle.zarrs_engine_calls.specs.Refusals.{Refusal, out_of_memory}
+use Rattle.zarrs_engine_calls.specs.Laws.{HaveEqualContent}
 use Rattle.zarrs_metadata_v3.specs.Document.{DocumentData, IsDocumentText}
 use Rattle.zarrs_metadata_v2.specs.Document.{DocumentV2Data}
-use Rattle.zarrs_metadata_v2.specs.View.{MetadataData, v3, v2}
+use Rattle.zarrs_metadata.specs.Versions.{MetadataData, v3, v2}
 use Rattle.zarrs_options.specs.Options.{MetadataOptionsData}
 use Rattle.zarrs_options.specs.declared.versions.MetadataConvertVersion.TheVariants as convert
 use Rattle.zarrs_options.specs.declared.versions.MetadataRetrieveVersion.TheVariants as retrieve

@@ -31,8 +31,7 @@ use zarrs_creation::{parts_said, stored_metadata};
 use zarrs_data_type::{DataType, FillValue};
 use zarrs_engine::Engine;
 use zarrs_keys::{ChunkKeyEncoding, NodePath};
-use zarrs_metadata_v2::ArrayMetadata;
-use zarrs_metadata_v3::DimensionName;
+use zarrs_metadata::{ArrayMetadata, DimensionName};
 use zarrs_options::{
     ArrayCreateError, ArrayMetadataOptions, MetadataRetrieveVersion, StorageTransformerChain,
 };
@@ -56,10 +55,10 @@ impl<TStorage> Array<TStorage> {
     ghost use Rattle.std.specs.Prelude.{◌≡◌, map, option_map};
     ghost use Rattle.serde_json.specs.View.{members_view};
     ghost use Rattle.zarrs_metadata_v3.specs.View.{name_view};
-    ghost use Rattle.zarrs_metadata_v2.specs.View.{metadata_view};
+    ghost use Rattle.zarrs_metadata.specs.Versions.{metadata_view};
     ghost use Rattle.zarrs_chunk_grid.specs.Configurations.{counts_of};
     ghost use Rattle.zarrs_chunk_grid.specs.GridView.{configuration_of};
-    ghost use Rattle.zarrs_types.specs.Kind.{kind};
+    ghost use Rattle.zarrs_data_type.specs.Kind.{kind};
     ghost use Rattle.zarrs_codec.specs.Chains.{chain_data};
     ghost use Rattle.zarrs_creation.specs.Meanings.{shape_said, attributes_of};
     ghost use Rattle.zarrs_creation.specs.Meanings.{dimension_names_of};
@@ -183,7 +182,7 @@ impl<TStorage> Array<TStorage> {
 
 impl<TStorage: Drop> Array<TStorage> {
     ghost use Rattle.std.specs.Prelude.{◌≡◌, IfOk, IfErr};
-    ghost use Rattle.zarrs_metadata_v2.specs.View.{metadata_view};
+    ghost use Rattle.zarrs_metadata.specs.Versions.{metadata_view};
     ghost use Rattle.zarrs_options.specs.Refusals.{create_refusal_of, RefusesCreation};
     ghost use Rattle.zarrs_creation.specs.Meanings.{creation, created};
     ghost use Rattle.zarrs.specs.Arrays.{metadata_of_array, path_of_array, storage_of_array};

@@ -1,9 +1,9 @@
 //! The codecs that a chain is made of, and the sources of bytes that chains read parts of chunks from.
 
 pub use zarrs_codec::{
-    BytesCodec, CellsCodec, Endianness, LeafCodec, MaskCodec, OptionalCodec, PackBitsCodec,
-    ReshapeCodec, ReshapeExtent, ShardingCodec, ShardingCodecBuilder, ShardingCodecOptions,
-    ShardingIndexLocation, SqueezeCodec, SubchunkWriteOrder, TransposeCodec, VlenBytesCodec,
-    VlenCodec, VlenUtf8Codec, default_array_to_bytes_codec,
+    ByteSource, BytesCodec, CellsCodec, Endianness, LeafCodec, MaskCodec, OptionalCodec,
+    PackBitsCodec, ReshapeCodec, ReshapeExtent, ShardingCodec, ShardingCodecBuilder,
+    ShardingCodecOptions, ShardingIndexLocation, SliceSource, SourceBytes, SqueezeCodec,
+    SubchunkWriteOrder, TransposeCodec, VlenBytesCodec, VlenCodec, VlenUtf8Codec, Window,
+    default_array_to_bytes_codec,
 };
-pub use zarrs_source::{ByteSource, SliceSource, SourceBytes, Window};

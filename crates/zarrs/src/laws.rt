@@ -1,14 +1,13 @@
 //! Laws of arrays and of their metadata. These functions do nothing: their contracts are the facts.
 ghost use Rattle.std.specs.Prelude.{◌≡◌, Ok};
-ghost use Rattle.zarrs_calls.specs.Layout.{IsLawful};
+ghost use Rattle.zarrs_engine_calls.specs.Layout.{IsLawful};
 ghost use Rattle.zarrs_creation.specs.Meanings.{creation};
 ghost use Rattle.zarrs.specs.Layouts.{layout_meant};
 ghost use Rattle.zarrs.specs.Laws.{WrittenMetadataOpens, NormalMetadataSaysTheSame};
 ghost use Rattle.zarrs.specs.Laws.{ConvertedMetadataSaysTheSame, ShownMetadataSaysTheSame};
 ghost use Rattle.zarrs.specs.Laws.{MetadataCallsLeaveContent, CallsLeaveMetadata};
 ghost use Rattle.zarrs.specs.Counts.{StoringCounts, ErasingCounts, UpgradingCounts};
-ghost use Rattle.zarrs.specs.Upgrade.{UpgradesOpen, UpgradeCallsOpen};
-ghost use Rattle.zarrs.specs.Upgrade.{UpgradesLeaveContent, UpgradeCallsLeaveContent};
+ghost use Rattle.zarrs.specs.Upgrade.{UpgradesOpen, UpgradeCallsOpen, UpgradesLeaveContent, UpgradeCallsLeaveContent};
 ghost use Rattle.zarrs.specs.Arrays.{metadata_of_array, meaning_of_array, layout_of_array, path_of_array};
 
 use crate::array::Array;
@@ -17,6 +16,7 @@ pub use zarrs_chunk_grid::laws::{
     covered_positions, grid_of_its_configuration, metadata_describes_the_configuration,
 };
 pub use zarrs_codec::laws::codecs_are_said_by_levels;
+pub use zarrs_data_type_kinds::laws::{types_are_said_by_levels, written_fill_value_is_read};
 pub use zarrs_engine::laws::{
     accepted_resizes, accepted_shape_changes, canonical_chunks_are_compact, canonical_maps_are_one,
     canonical_parts_are_maps, canonical_stores_are_compact, canonical_stores_are_their_map,
@@ -37,7 +37,6 @@ pub use zarrs_subset::laws::{
     boxes_hold_along_each_dimension, parts_lie_in_their_chunks, positions_are_row_major,
     shifted_boxes_hold_shifted_positions,
 };
-pub use zarrs_types::laws::{types_are_said_by_levels, written_fill_value_is_read};
 
 /// The parts of an array are those that its metadata says, and it lies in its store as they mean at its path. So two
 /// arrays at one path whose metadata says the same parts lie in the same way. Its layout is lawful, as the laws of steps

@@ -1,4 +1,13 @@
-//! Arrays in stores: made from their metadata, opened, read and written.
+//! Arrays in stores: made from their metadata, opened, read, written and changed.
+//!
+//! Users and builders use `Array`, and find here each type that its calls take or return. It is an engine, the
+//! metadata that says its parts, and its options. Its calls are those of `Engine`, by array bytes or by values.
+//!
+//! The ghost field `agrees` of each array is `Agrees` of `specs/Agreement.antt`: its metadata says the parts of its
+//! engine. `specs/Arrays.antt` has what contracts show of an array, as `layout_of_array` and `store_of_array`.
+//! `specs/Outcomes.antt` says what each call ends in. `specs/Puts.antt` says what a call on metadata puts (`ArePut`),
+//! `specs/Upgrade.antt` what an upgrade does, and `specs/Setters.antt` what a setter does. `specs/Laws.antt` states
+//! the laws of metadata, which `laws` shows.
 #![tactic(auto)]
 
 mod array;
@@ -22,10 +31,11 @@ pub use zarrs_codec::{
     CodecMetadataOptions, CodecOptions, CodecSpecificOptions, Misfit,
 };
 pub use zarrs_data_type::{
-    ArrayBytes, ArrayBytesFixedDisjointViewCreateError, ArrayBytesOffsets, ArrayBytesOptional,
-    ArrayBytesVariableLength, DataType, DataTypeFillValueError, DataTypeFillValueMetadataError,
-    Element, ElementError, ElementOwned, ExpectedFixedLengthBytesError, ExpectedOptionalBytesError,
-    ExpectedVariableLengthBytesError, FillValue, FromArrayBytes, IntoArrayBytes, IntoField,
+    ArrayBytes, ArrayBytesDecodeIntoTarget, ArrayBytesFixedDisjointViewCreateError,
+    ArrayBytesOffsets, ArrayBytesOptional, ArrayBytesVariableLength, DataType,
+    DataTypeFillValueError, DataTypeFillValueMetadataError, Element, ElementError, ElementOwned,
+    ExpectedFixedLengthBytesError, ExpectedOptionalBytesError, ExpectedVariableLengthBytesError,
+    FillValue, FromArrayBytes, IntoArrayBytes, IntoField, SubdividedTarget, copy_fill_value_into,
     data_type,
 };
 pub use zarrs_engine::{ArrayError, Call, Engine, Reply};
@@ -33,13 +43,10 @@ pub use zarrs_keys::{
     ChunkKeyEncoding, ChunkKeyEncodingTraits, ChunkKeySeparator, KeySuffix, KeySuffixError,
     NodePath, NodePathError,
 };
-pub use zarrs_metadata::{MetadataError, MetadataV3, PluginCreateError};
-pub use zarrs_metadata_v2::{
-    ArrayMetadata, ArrayMetadataV2, ArrayMetadataV2Order, ArrayMetadataV2ToV3Error,
-    DataTypeMetadataV2, array_metadata_v2_to_v3,
-};
-pub use zarrs_metadata_v3::{
-    AdditionalFieldV3, AdditionalFieldsV3, ArrayMetadataV3, DimensionName, FillValueMetadata,
+pub use zarrs_metadata::{
+    AdditionalFieldV3, AdditionalFieldsV3, ArrayMetadata, ArrayMetadataV2, ArrayMetadataV2Order,
+    ArrayMetadataV2ToV3Error, ArrayMetadataV3, DataTypeMetadataV2, DimensionName,
+    FillValueMetadata, MetadataError, MetadataV3, PluginCreateError, array_metadata_v2_to_v3,
 };
 pub use zarrs_options::{
     AdditionalFieldUnsupportedError, ArrayBuilderChunkGridMetadata, ArrayCreateError,
@@ -54,4 +61,3 @@ pub use zarrs_subset::{
     ArrayIndices, ArrayIndicesTinyVec, ArrayShape, ArraySubset, ArraySubsetError,
     ArraySubsetTraits, IncompatibleDimensionalityError, SizeOverflow, ravel_indices, unravel_index,
 };
-pub use zarrs_target::{ArrayBytesDecodeIntoTarget, SubdividedTarget, copy_fill_value_into};

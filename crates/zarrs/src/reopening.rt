@@ -1,20 +1,19 @@
 //! An array that is stored and opened again.
 ghost use Rattle.std.specs.Prelude.{◌≡◌, Ok, IfOk, IfErr};
-ghost use Rattle.zarrs_metadata_v2.specs.View.{MetadataData, metadata_view};
+ghost use Rattle.zarrs_metadata.specs.Versions.{MetadataData, metadata_view};
 ghost use Rattle.zarrs_creation.specs.Opening.{MayAskEachMetadata};
 ghost use Rattle.zarrs_creation.specs.Shown.{shown};
 ghost use Rattle.zarrs_options.specs.Refusals.{create_refusal_of, out_of_memory};
 ghost use Rattle.zarrs.specs.Laws.{IsReadAgain, normal_metadata, version_of};
 ghost use Rattle.zarrs.specs.Arrays.{metadata_of_array, metadata_options_of_array};
-ghost use Rattle.zarrs.specs.Arrays.{path_of_array, layout_of_array, store_of_array};
-ghost use Rattle.zarrs.specs.Arrays.{HasDefaultOptions};
+ghost use Rattle.zarrs.specs.Arrays.{path_of_array, layout_of_array, store_of_array, HasDefaultOptions};
 ghost use Rattle.zarrs.specs.Puts.{StoresMetadata};
 ghost use Rattle.zarrs.specs.Reopening.{RefusesToStore, RefusesReopening};
 
 use crate::array::Array;
 use std::alloc::Global;
 use zarrs_keys::NodePath;
-use zarrs_metadata_v2::ArrayMetadata;
+use zarrs_metadata::ArrayMetadata;
 use zarrs_options::{ArrayCreateError, MetadataRetrieveVersion};
 use zarrs_storage::WritableStorageTraits;
 

@@ -3,14 +3,14 @@ use Rattle.std.proofs.Common.{◌≡◌, ℕ, List, Some, Option, Result, Ok, Er
 use Rattle.std.specs.Prelude.{IfOk, IfSome, option_map}
 use Rattle.std.specs.Result.{result_ok}
 use Rattle.serde_json.specs.Data.{Members}
-use Rattle.zarrs_metadata.specs.Extension.{ExtensionData}
+use Rattle.zarrs_metadata_parts.specs.Extension.{ExtensionData}
 use Rattle.zarrs_keys.specs.declared.encodings.ChunkKeyEncoding.{ChunkKeyEncoding}
-use Rattle.zarrs_types.specs.Kind.{Kind}
+use Rattle.zarrs_data_type.specs.Kind.{Kind}
 use Rattle.zarrs_codec_array.specs.Configurations.{ArrayCodecData}
-use Rattle.zarrs_chain.specs.declared.options.CodecSpecificOptions.{CodecSpecificOptions}
+use Rattle.zarrs_codec_chain.specs.declared.options.CodecSpecificOptions.{CodecSpecificOptions}
 use Rattle.zarrs_codec.specs.Configurations.{BytesCodecData}
 use Rattle.zarrs_metadata_v3.specs.Fields.{FieldData}
-use Rattle.zarrs_builder_values.specs.Given.{FillData}
+use Rattle.zarrs_builder.specs.Given.{FillData}
 use Rattle.zarrs_builder.specs.Builders.{BuilderData}
 
 abbrev pub same_type : BuilderData → BuilderData → Type 0

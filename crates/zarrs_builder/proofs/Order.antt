@@ -6,7 +6,7 @@ use Rattle.std.specs.List.{list_any}
 use Rattle.std.specs.declared.num.NonZeroU64.{NonZeroU64}
 use Rattle.std.proofs.lemmas.Bool.Decides.{nat_tests}
 use Rattle.serde_json.specs.Data.{Data}
-use Rattle.zarrs_metadata.specs.Extension.{ExtensionData}
+use Rattle.zarrs_metadata_parts.specs.Extension.{ExtensionData}
 use Rattle.zarrs_keys.specs.Metadata.{key_encoding_of, extension_of_encoding}
 use Rattle.zarrs_chunk_grid.specs.Configurations.{GridConfiguration}
 use Rattle.zarrs_chunk_grid.specs.GridView.{configuration_of, array_extents_of}
@@ -14,20 +14,20 @@ use Rattle.zarrs_chunk_grid.specs.Metadata.{grid_said, over_shape, extension_of_
 use Rattle.zarrs_chunk_grid.specs.declared.grid.ChunkGrid.{ChunkGrid}
 use Rattle.zarrs_chunk_grid.proofs.ConfigurationLemmas.{own_taken}
 use Rattle.zarrs_chunk_grid.proofs.MetadataLemmas.{said_back}
-use Rattle.zarrs_types.specs.FillMetadata.{fill_said}
-use Rattle.zarrs_types.specs.TypeMetadata.{kind_of, is_readable}
-use Rattle.zarrs_types.proofs.TypeReading.{kind_of-extension}
-use Rattle.zarrs_types.specs.Kind.{Kind}
-use Rattle.zarrs_codec_cells.specs.ShardingMetadata.{sizes_of}
+use Rattle.zarrs_data_type.specs.FillMetadata.{fill_said}
+use Rattle.zarrs_data_type.specs.TypeMetadata.{kind_of, is_readable}
+use Rattle.zarrs_data_type_kinds.proofs.TypeReading.{kind_of-extension}
+use Rattle.zarrs_data_type.specs.Kind.{Kind}
+use Rattle.zarrs_codec.specs.ShardingMetadata.{sizes_of}
 use Rattle.zarrs_codec_array.specs.Configurations.{ArrayCodecData}
 use Rattle.zarrs_codec.specs.Metadata.{chain_said, extensions_of_chain}
 use Rattle.zarrs_codec.specs.Configurations.{BytesCodecData, ChainData}
 use Rattle.zarrs_metadata_v3.specs.Document.{DocumentData}
-use Rattle.zarrs_metadata_v2.specs.View.{v3}
+use Rattle.zarrs_metadata.specs.Versions.{v3}
 use Rattle.zarrs_options.specs.Refusals.{CreateRefusal, data_type, chunk_grid, said_or, RefusesCreation}
 use Rattle.zarrs_creation.proofs.Order.{bound, all_said}
 use Rattle.zarrs_creation.specs.Meanings.{Meaning, creation_v3, names_said, path_said, created}
-use Rattle.zarrs_builder_values.specs.Given.{FillData, fill_chosen}
+use Rattle.zarrs_builder.specs.Given.{FillData, fill_chosen}
 use Rattle.zarrs_builder.specs.Builders.{BuilderData, FieldsData, fields_of}
 use Rattle.zarrs_builder.specs.Built.{codecs_chosen, sizes_said, cut_into, chain_chosen, grid_chosen, fill_stated, ChosenData, chosen, document_with, document_of_fields, parts_of_fields, built, built_at, built_metadata}
 

@@ -6,30 +6,30 @@ use Rattle.std.specs.declared.alloc.Global.{Global}
 use Rattle.std.specs.declared.string.String.{String}
 use Rattle.serde_json.specs.Data.{Members, no_members}
 use Rattle.serde_json.specs.View.{members_view}
-use Rattle.zarrs_metadata.specs.Extension.{ExtensionData, ◌>>=◌}
-use Rattle.zarrs_metadata.specs.declared.separators.ChunkKeySeparator.TheVariants.{Slash}
+use Rattle.zarrs_metadata_parts.specs.Extension.{ExtensionData, ◌>>=◌}
+use Rattle.zarrs_metadata_parts.specs.declared.separators.ChunkKeySeparator.TheVariants.{Slash}
 use Rattle.zarrs_keys.specs.declared.encodings.ChunkKeyEncoding.{ChunkKeyEncoding}
 use Rattle.zarrs_keys.specs.declared.encodings.ChunkKeyEncoding.TheVariants.{Default}
 use Rattle.zarrs_chunk_grid.specs.GridView.{configuration_of, array_extents_of}
 use Rattle.zarrs_chunk_grid.specs.Metadata.{extension_of_grid}
 use Rattle.zarrs_chunk_grid.specs.declared.grid.ChunkGrid.{ChunkGrid}
-use Rattle.zarrs_types.specs.FillMetadata.{fill_written}
-use Rattle.zarrs_types.specs.Kind.{Kind}
+use Rattle.zarrs_data_type.specs.FillMetadata.{fill_written}
+use Rattle.zarrs_data_type.specs.Kind.{Kind}
 use Rattle.zarrs_codec_array.specs.ArrayCodecs.{array_codec_data}
 use Rattle.zarrs_codec_array.specs.Configurations.{ArrayCodecData}
-use Rattle.zarrs_chain.specs.declared.options.CodecSpecificOptions.{CodecSpecificOptions}
+use Rattle.zarrs_codec_chain.specs.declared.options.CodecSpecificOptions.{CodecSpecificOptions}
 use Rattle.zarrs_codec.specs.Chains.{bytes_codec_data}
 use Rattle.zarrs_codec.specs.Configurations.{BytesCodecData}
 use Rattle.zarrs_metadata_v3.specs.Fields.{FieldData}
 use Rattle.zarrs_metadata_v3.specs.View.{name_view, fields_view}
-use Rattle.zarrs_metadata_v2.specs.View.{MetadataData, v3, v2}
+use Rattle.zarrs_metadata.specs.Versions.{MetadataData, v3, v2}
 use Rattle.zarrs_options.specs.Given.{grid_given}
 use Rattle.zarrs_options.specs.declared.chunk_grid_metadata.ArrayBuilderChunkGridMetadata.{ArrayBuilderChunkGridMetadata}
 use Rattle.zarrs_creation.specs.Meanings.{Meaning, shape_said, attributes_of, dimension_names_of}
 use Rattle.zarrs.specs.Arrays.{default_specific_options}
-use Rattle.zarrs_builder_values.specs.Given.{type_given, FillData, by_metadata, fill_given}
-use Rattle.zarrs_builder_values.specs.declared.data_type.ArrayBuilderDataType.{ArrayBuilderDataType}
-use Rattle.zarrs_builder_values.specs.declared.fill_value.ArrayBuilderFillValue.{ArrayBuilderFillValue}
+use Rattle.zarrs_builder.specs.Given.{type_given, FillData, by_metadata, fill_given}
+use Rattle.zarrs_builder.specs.declared.data_type.ArrayBuilderDataType.{ArrayBuilderDataType}
+use Rattle.zarrs_builder.specs.declared.fill_value.ArrayBuilderFillValue.{ArrayBuilderFillValue}
 use Rattle.zarrs_builder.specs.declared.builder.ArrayBuilder.{ArrayBuilder}
 
 -- The first six are none if they found no memory. A chunk grid and a data type are what is given for them, if that

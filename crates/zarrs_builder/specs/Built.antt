@@ -2,21 +2,21 @@
 use Rattle.std.specs.Prelude.{◌≡◌, ◌==◌, ℕ, List, [], length, false, Option, Some, None, Result, Ok, Err, is_some, if◌then◌else◌, option_and_then}
 use Rattle.std.specs.List.{list_any}
 use Rattle.serde_json.specs.Data.{Data}
-use Rattle.zarrs_metadata.specs.Extension.{ExtensionData}
+use Rattle.zarrs_metadata_parts.specs.Extension.{ExtensionData}
 use Rattle.zarrs_keys.specs.Metadata.{extension_of_encoding}
 use Rattle.zarrs_chunk_grid.specs.Configurations.{GridConfiguration}
 use Rattle.zarrs_chunk_grid.specs.Metadata.{grid_said, extension_of_grid}
-use Rattle.zarrs_types.specs.Cell.{fill_cell}
-use Rattle.zarrs_types.specs.FillMetadata.{fill_written}
-use Rattle.zarrs_types.specs.Kind.{Kind}
-use Rattle.zarrs_types.specs.TypeMetadata.{kind_name, kind_extension, is_readable}
+use Rattle.zarrs_data_type.specs.Cell.{fill_cell}
+use Rattle.zarrs_data_type.specs.FillMetadata.{fill_written}
+use Rattle.zarrs_data_type.specs.Kind.{Kind}
+use Rattle.zarrs_data_type.specs.TypeMetadata.{kind_name, kind_extension, is_readable}
 use Rattle.zarrs_codec.specs.Metadata.{default_codec, extensions_of_chain}
 use Rattle.zarrs_codec.specs.Configurations.{BytesCodecData, ChainData, sharding}
 use Rattle.zarrs_metadata_v3.specs.Document.{DocumentData}
-use Rattle.zarrs_metadata_v2.specs.View.{MetadataData, v3}
+use Rattle.zarrs_metadata.specs.Versions.{MetadataData, v3}
 use Rattle.zarrs_options.specs.Refusals.{CreateRefusal, data_type, subchunk_shape, chunk_grid, fill_value, out_of_memory, said_or}
 use Rattle.zarrs_creation.specs.Meanings.{Meaning, creation_v3, path_said, names_said, ◌>>=◌}
-use Rattle.zarrs_builder_values.specs.Given.{fill_chosen}
+use Rattle.zarrs_builder.specs.Given.{fill_chosen}
 use Rattle.zarrs_builder.specs.Builders.{BuilderData, FieldsData, fields_of}
 
 -- the codec that makes bytes: the one that is set, or the default one of the type

@@ -1,12 +1,12 @@
 -- What the code holds between the fields of a builder and its metadata.
 use Rattle.std.specs.Prelude.{map, option_map}
-use Rattle.zarrs_metadata.specs.FillValue.{fill_data}
-use Rattle.zarrs_types.specs.Kind.{kind}
+use Rattle.zarrs_metadata_parts.specs.FillValue.{fill_data}
+use Rattle.zarrs_data_type.specs.Kind.{kind}
 use Rattle.zarrs_chunk_grid.specs.GridView.{configuration_of}
 use Rattle.zarrs_codec.specs.Chains.{chain_data}
 use Rattle.zarrs_metadata_v3.specs.View.{name_view}
 use Rattle.zarrs_options.specs.Given.{grid_given}
-use Rattle.zarrs_builder_values.specs.Given.{type_given, fill_given}
+use Rattle.zarrs_builder.specs.Given.{type_given, fill_given}
 use Rattle.zarrs_builder.specs.Builders.{FieldsData}
 use Rattle.zarrs_builder.specs.Built.{ChosenData}
 use Rattle.zarrs_builder.specs.declared.builder.building.Fields.{Fields}

@@ -3,16 +3,16 @@ mod arrays;
 mod building;
 mod setters;
 
+use crate::data_type::ArrayBuilderDataType;
+use crate::fill_value::ArrayBuilderFillValue;
 pub use arrays::ToBuilder;
 use serde_json::{Map, Value};
 use std::alloc::{AllocError, Global};
-use zarrs_builder_values::{ArrayBuilderDataType, ArrayBuilderFillValue};
 use zarrs_chunk_grid::{ChunkGrid, ChunkGridTraits};
 use zarrs_codec::{ArrayToArrayCodec, ArrayToBytesCodec, BytesToBytesCodecs, CodecSpecificOptions};
 use zarrs_data_type::IntoField;
 use zarrs_keys::ChunkKeyEncoding;
-use zarrs_metadata::ChunkKeySeparator;
-use zarrs_metadata_v3::{AdditionalFieldsV3, DimensionName};
+use zarrs_metadata::{AdditionalFieldsV3, ChunkKeySeparator, DimensionName};
 use zarrs_options::{ArrayBuilderChunkGridMetadata, StorageTransformerChain};
 use zarrs_subset::ArrayShape;
 

@@ -5,7 +5,7 @@ ghost use Rattle.zarrs_metadata_v3.specs.View.{name_view, fields_view};
 
 use std::alloc::{AllocError, Global};
 use zarrs_codec::ArrayToArrayCodec;
-use zarrs_metadata_v3::{AdditionalFieldsV3, DimensionName};
+use zarrs_metadata::{AdditionalFieldsV3, DimensionName};
 
 fn copied_name(name: &DimensionName) -> Result<DimensionName, AllocError>
     ensures { IfOk result (λ copy. name_view copy ≡ name_view name.now) }

@@ -4,9 +4,9 @@ use Rattle.std.proofs.Common.{option_and_then, ap, ◌∙◌}
 use Rattle.std.specs.Int.NonZero.{non_zero_u64_get}
 use Rattle.std.proofs.lemmas.Bool.{ne_eqb, and_from}
 use Rattle.std.proofs.lemmas.List.{length-map}
-use Rattle.zarrs_metadata.specs.Refusals.{RefusesMeaning}
-use Rattle.zarrs_metadata.specs.declared.error.PluginCreateError.{PluginCreateError}
-use Rattle.zarrs_metadata.specs.declared.error.PluginCreateError.TheVariants as plugin
+use Rattle.zarrs_metadata_parts.specs.Refusals.{RefusesMeaning}
+use Rattle.zarrs_metadata_parts.specs.declared.error.PluginCreateError.{PluginCreateError}
+use Rattle.zarrs_metadata_parts.specs.declared.error.PluginCreateError.TheVariants as plugin
 use Rattle.zarrs_chunk_grid.specs.Configurations.{GridConfiguration, dimensions_of, fills_shape, takes_shape, counts_of, sizes_view}
 use Rattle.zarrs_chunk_grid.specs.Metadata.{over_shape}
 use Rattle.zarrs_chunk_grid.specs.GridView.{configuration_of, array_extents_of, grid_extents_of}

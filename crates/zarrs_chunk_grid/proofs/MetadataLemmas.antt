@@ -7,12 +7,11 @@ use Rattle.std.proofs.lemmas.Bool.{ne_eqb, lt-ltb}
 use Rattle.std.proofs.lemmas.Simd.{map-map}
 use Rattle.serde_json.specs.Data.{Data}
 use Rattle.serde_json.specs.View.{items_of}
-use Rattle.zarrs_metadata.specs.Lists.{all_of, list_of, list_data, number_data}
-use Rattle.zarrs_metadata.proofs.ListLemmas.{all_of-items_of}
+use Rattle.zarrs_metadata_parts.specs.Lists.{all_of, list_of, list_data, number_data}
+use Rattle.zarrs_metadata_parts.proofs.ListLemmas.{all_of-items_of}
 use Rattle.zarrs_chunk_grid.specs.Axes.{sizes_of}
 use Rattle.zarrs_chunk_grid.specs.Configurations.{DimensionSizes, one, listed, regular, bounded, rectangular, sizes_view}
-use Rattle.zarrs_chunk_grid.specs.Metadata.{size_said, sizes_said, listed_within, sizes_data}
-use Rattle.zarrs_chunk_grid.specs.Metadata.{configuration_said, extension_of_grid}
+use Rattle.zarrs_chunk_grid.specs.Metadata.{size_said, sizes_said, listed_within, sizes_data, configuration_said, extension_of_grid}
 use Rattle.zarrs_chunk_grid.specs.GridView.{configuration_of}
 use Rattle.zarrs_chunk_grid.specs.declared.dimension.ChunkSizes.{ChunkSizes}
 use Rattle.zarrs_chunk_grid.specs.declared.dimension.ChunkSizes.TheVariants.{Size, Sizes}

@@ -5,11 +5,10 @@ use Rattle.std.specs.Option.{option_or}
 use Rattle.std.specs.Str.{bytes_eq}
 use Rattle.serde_json.specs.Data.{Data, Members, no_members, member}
 use Rattle.serde_json.specs.Find.{get_member}
-use Rattle.zarrs_metadata.specs.Members.{has_only}
-use Rattle.zarrs_metadata.specs.Lists.{list_of, list_data, number_of, number_data}
-use Rattle.zarrs_metadata.specs.Extension.{ExtensionData, settings, ◌>>=◌}
-use Rattle.zarrs_chunk_grid.specs.Configurations.{DimensionSizes, one, listed, takes_shape}
-use Rattle.zarrs_chunk_grid.specs.Configurations.{GridConfiguration, regular, bounded, rectangular}
+use Rattle.zarrs_metadata_parts.specs.Members.{has_only}
+use Rattle.zarrs_metadata_parts.specs.Lists.{list_of, list_data, number_of, number_data}
+use Rattle.zarrs_metadata_parts.specs.Extension.{ExtensionData, settings, ◌>>=◌}
+use Rattle.zarrs_chunk_grid.specs.Configurations.{DimensionSizes, one, listed, takes_shape, GridConfiguration, regular, bounded, rectangular}
 
 -- ---- what an extension point says
 

@@ -2,9 +2,9 @@
 ghost use Rattle.std.specs.Prelude.{◌≡◌, ◌∷◌, [], Some, map, option_map, IfOk, IfErr};
 ghost use Rattle.std.specs.Int.NonZero.{non_zero_u64_get};
 ghost use Rattle.serde_json.specs.View.{view};
-ghost use Rattle.zarrs_metadata.specs.Extension.{extension_view, settings};
-ghost use Rattle.zarrs_metadata.specs.Lists.{list_of, list_data, number_data};
-ghost use Rattle.zarrs_metadata.specs.Refusals.{RefusesMeaning};
+ghost use Rattle.zarrs_metadata_parts.specs.Extension.{extension_view, settings};
+ghost use Rattle.zarrs_metadata_parts.specs.Lists.{list_of, list_data, number_data};
+ghost use Rattle.zarrs_metadata_parts.specs.Refusals.{RefusesMeaning};
 ghost use Rattle.zarrs_chunk_grid.specs.Axes.{sizes_of};
 ghost use Rattle.zarrs_chunk_grid.specs.Configurations.{regular, bounded, rectangular, sizes_view};
 ghost use Rattle.zarrs_chunk_grid.specs.Metadata.{extension_with, grid_said, only_chunk_shape};
@@ -21,7 +21,7 @@ use crate::traits::{ChunkGridTraits, ChunkShape};
 use serde_json::Value;
 use std::alloc::{AllocError, Global};
 use std::num::NonZeroU64;
-use zarrs_metadata::{MetadataV3, PluginCreateError};
+use zarrs_metadata_parts::{MetadataV3, PluginCreateError};
 use zarrs_subset::ArrayShape;
 
 const NO_SIZES: &str = "a `chunk_shape` is a list of sizes, whole numbers from 1 to 2^64 - 1";

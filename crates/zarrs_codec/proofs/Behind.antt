@@ -6,17 +6,17 @@ use Rattle.zarrs_data_type.specs.ArrayData.{ArrayData}
 use Rattle.zarrs_data_type.specs.Cell.{Cell, held_size}
 use Rattle.zarrs_data_type.specs.Cells.{cells, HasCells}
 use Rattle.zarrs_data_type.specs.Kind.{Kind}
-use Rattle.zarrs_data_type.proofs.Cells.{HasCells-cells, HasCells-some}
+use Rattle.zarrs_data_type_bytes.proofs.Cells.{HasCells-cells, HasCells-some}
 use Rattle.zarrs_subset.specs.Boxes.{position_count}
 use Rattle.zarrs_codec_array.specs.Arrays.{ArrayMeaning, IsLawfulArray}
 use Rattle.zarrs_codec_array.specs.Gathered.{encoded_shape}
 use Rattle.zarrs_codec_leaf.specs.declared.error.CodecError.{CodecError}
 use Rattle.zarrs_codec_leaf.specs.declared.error.CodecError.TheVariants as error
-use Rattle.zarrs_chain.specs.Chain.{ChainMeaning, IsLawfulChain, chunk_encoding}
-use Rattle.zarrs_chain.specs.Refusals.{RefusesChunkEncoding, RefusesChunkDecoding}
-use Rattle.zarrs_shard.proofs.Missing.{given_if-parts}
+use Rattle.zarrs_codec_chain.specs.Chain.{ChainMeaning, IsLawfulChain, chunk_encoding}
+use Rattle.zarrs_codec_chain.specs.Refusals.{RefusesChunkEncoding, RefusesChunkDecoding}
+use Rattle.zarrs_codec_shard.proofs.Missing.{given_if-parts}
 use Rattle.zarrs_codec.specs.Through.{through}
-use Rattle.zarrs_array_bytes.proofs.FixedSizes.{some_is}
+use Rattle.zarrs_data_type_bytes.proofs.FixedSizes.{some_is}
 
 -- data of a chunk that was decoded has its cells
 pub decoded-has_cells : (m : ChainMeaning) → IsLawfulChain m → (k : Kind) (f : Cell) (s b : List ℕ) (d : ArrayData) → cells k d ≡ m.decoded k f s b → IsSome (cells k d) → HasCells k d (position_count s)

@@ -4,14 +4,14 @@ use Rattle.std.proofs.Common.{None, option_map, option_and_then, refl, sym, ap, 
 use Rattle.std.specs.Prelude.{slice_get, codes}
 use Rattle.std.proofs.Math.Seq.{take-append_seam}
 use Rattle.std.proofs.lemmas.List.{drop_more, length-append}
-use Rattle.zarrs_metadata.specs.Extension.{ExtensionData, extension_view}
-use Rattle.zarrs_metadata.specs.Refusals.{RefusesMeaning}
-use Rattle.zarrs_metadata.specs.declared.error.PluginCreateError.{PluginCreateError}
-use Rattle.zarrs_metadata.specs.declared.error.PluginCreateError.TheVariants as plugin
-use Rattle.zarrs_metadata.specs.declared.extension.MetadataV3.{MetadataV3}
+use Rattle.zarrs_metadata_parts.specs.Extension.{ExtensionData, extension_view, extension_of, extension_data, settings}
+use Rattle.zarrs_metadata_parts.specs.Refusals.{RefusesMeaning}
+use Rattle.zarrs_metadata_parts.specs.declared.error.PluginCreateError.{PluginCreateError}
+use Rattle.zarrs_metadata_parts.specs.declared.error.PluginCreateError.TheVariants as plugin
+use Rattle.zarrs_metadata_parts.specs.declared.extension.MetadataV3.{MetadataV3}
 use Rattle.zarrs_codec_array.specs.Metadata.{array_codec_said, extension_of_array_codec}
 use Rattle.zarrs_codec_array.specs.ArrayCodecs.{array_codec_data}
-use Rattle.zarrs_codec_array.specs.Configurations.{ArrayCodecData}
+use Rattle.zarrs_codec_array.specs.Configurations.{ArrayCodecData, transpose, reshape, squeeze}
 use Rattle.zarrs_codec_array.specs.declared.array.ArrayToArrayCodec.{ArrayToArrayCodec}
 use Rattle.zarrs_codec_array.proofs.MetadataLaws.{array_codec_back}
 use Rattle.std.specs.Int.NonZero.{non_zero_u64_get}
@@ -21,26 +21,21 @@ use Rattle.std.proofs.lemmas.Bool.{ne_eqb}
 use Rattle.std.proofs.lemmas.Simd.{map-map}
 use Rattle.serde_json.specs.Data.{Data}
 use Rattle.serde_json.specs.View.{items_of}
-use Rattle.zarrs_metadata.specs.Extension.{extension_of, extension_data, settings}
-use Rattle.zarrs_metadata.specs.Lists.{all_of, list_of, list_data, number_data}
-use Rattle.zarrs_metadata.proofs.ListLemmas.{all_of-items_of}
-use Rattle.zarrs_codec_array.specs.Configurations.{transpose, reshape, squeeze}
+use Rattle.zarrs_metadata_parts.specs.Lists.{all_of, list_of, list_data, number_data}
+use Rattle.zarrs_metadata_parts.proofs.ListLemmas.{all_of-items_of}
 use Rattle.zarrs_codec_leaf.specs.Bytes.{endian_of}
-use Rattle.zarrs_codec_leaf.specs.declared.bytes.Endianness.TheVariants.{Little, Big}
-use Rattle.zarrs_codec_cells.specs.Metadata.{extension_of_cells_codec}
-use Rattle.zarrs_codec_cells.specs.CellsCodecs.{optional_codec_data}
-use Rattle.zarrs_codec_cells.specs.Configurations.{CellsCodecData, bytes, packbits, vlen_utf8, vlen_bytes, vlen, optional}
-use Rattle.zarrs_codec_cells.proofs.OptionalMetadata.{codec_again, cells_codec_back}
-use Rattle.zarrs_codec.specs.Chains.{is_at_start}
-use Rattle.zarrs_codec_cells.specs.ShardingMetadata.{sizes_of}
+use Rattle.zarrs_codec_leaf.specs.declared.bytes_codec.Endianness.TheVariants.{Little, Big}
+use Rattle.zarrs_codec_optional.specs.Metadata.{extension_of_cells_codec}
+use Rattle.zarrs_codec_optional.specs.CellsCodecs.{optional_codec_data}
+use Rattle.zarrs_codec_optional.specs.Configurations.{CellsCodecData, bytes, packbits, vlen_utf8, vlen_bytes, vlen, optional}
+use Rattle.zarrs_codec_optional.proofs.OptionalMetadata.{codec_again, cells_codec_back}
+use Rattle.zarrs_codec.specs.Chains.{is_at_start, bytes_codec_data}
+use Rattle.zarrs_codec_optional.specs.ShardingMetadata.{sizes_of, ShardingData, sharding_data, sharding_from, sharding_extension, size_said}
 use Rattle.zarrs_codec.specs.declared.codec.ArrayToBytesCodec.{ArrayToBytesCodec}
 use Rattle.zarrs_codec.specs.declared.codec.ArrayToBytesCodec as code
-use Rattle.zarrs_codec.specs.Metadata.{bytes_codec_said, sharding_with}
-use Rattle.zarrs_codec.specs.Chains.{bytes_codec_data}
+use Rattle.zarrs_codec.specs.Metadata.{bytes_codec_said, sharding_with, array_codecs_said, chain_of_parts, chain_said, last_of, extension_of_bytes_codec}
 use Rattle.zarrs_codec.specs.Configurations.{BytesCodecData, cells, sharding}
-use Rattle.zarrs_codec.specs.Metadata.{array_codecs_said, chain_of_parts, chain_said, last_of, extension_of_bytes_codec}
 use Rattle.zarrs_codec.specs.Metadata.{extensions_of_chain}
-use Rattle.zarrs_codec_cells.specs.ShardingMetadata.{ShardingData, sharding_data, sharding_from, sharding_extension, size_said}
 use Rattle.zarrs_codec.proofs.ShardingMetadata.{said-cells, said-sharding}
 
 -- the last of the extension points, and those before it

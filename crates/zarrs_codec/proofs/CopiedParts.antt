@@ -5,13 +5,13 @@ use Rattle.zarrs_data_type.specs.ArrayData.{ArrayData, fixed}
 use Rattle.zarrs_data_type.specs.Cell.{Cell}
 use Rattle.zarrs_data_type.specs.Cells.{cells, HasCells}
 use Rattle.zarrs_data_type.specs.Kind.{Kind}
-use Rattle.zarrs_data_type.proofs.Cells.{HasCells-IsSome, HasCells-some}
+use Rattle.zarrs_data_type_bytes.proofs.Cells.{HasCells-IsSome, HasCells-some}
 use Rattle.zarrs_subset.specs.Boxes.{position_count}
 use Rattle.zarrs_codec_leaf.specs.declared.error.CodecError.{CodecError}
 use Rattle.zarrs_codec_leaf.specs.declared.error.CodecError.TheVariants as error
-use Rattle.zarrs_shard.specs.SubchunkData.{PutsSubchunk}
-use Rattle.zarrs_shard.specs.Subchunks.{is_cut_by, subchunk_count}
-use Rattle.zarrs_chain.specs.Chain.{ChainMeaning}
+use Rattle.zarrs_codec_shard.specs.SubchunkData.{PutsSubchunk}
+use Rattle.zarrs_codec_shard.specs.Subchunks.{is_cut_by, subchunk_count}
+use Rattle.zarrs_codec_chain.specs.Chain.{ChainMeaning}
 use Rattle.zarrs_codec.specs.Shardings.{HasFirstCells, ReadsCells, RefusesCopies, RefusesCopy}
 use Rattle.zarrs_codec.proofs.PartCells.{cells_left, cells_more, cells_refused, puts_part}
 

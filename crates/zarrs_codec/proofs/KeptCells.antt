@@ -10,13 +10,13 @@ use Rattle.zarrs_data_type.specs.Kind.{Kind, kind}
 use Rattle.zarrs_subset.specs.Boxes.{position_count}
 use Rattle.zarrs_codec_array.specs.declared.array.ArrayToArrayCodec.{ArrayToArrayCodec}
 use Rattle.zarrs_codec_leaf.specs.Bytes.{bytes_meaning_of, endian_of, reverses, takes_bytes}
-use Rattle.zarrs_codec_leaf.specs.declared.bytes.Endianness.{Endianness}
-use Rattle.zarrs_codec_leaf.specs.declared.bytes.Endianness.TheVariants as endian
+use Rattle.zarrs_codec_leaf.specs.declared.bytes_codec.Endianness.{Endianness}
+use Rattle.zarrs_codec_leaf.specs.declared.bytes_codec.Endianness.TheVariants as endian
 use Rattle.zarrs_codec_leaf.proofs.Encodings.{decoded-cells, decoded-none, encoding_of-bytes}
-use Rattle.zarrs_shard.specs.CellParts.{PushesSubchunk}
-use Rattle.zarrs_shard.specs.Sharded.{SubchunkMeaning, is_all_fill}
-use Rattle.zarrs_shard.specs.Subchunks.{subchunk_at}
-use Rattle.zarrs_shard.specs.declared.shard_index.ShardWriter.{ShardWriter}
+use Rattle.zarrs_codec_shard.specs.CellParts.{PushesSubchunk}
+use Rattle.zarrs_codec_shard.specs.Sharded.{SubchunkMeaning, is_all_fill}
+use Rattle.zarrs_codec_shard.specs.Subchunks.{subchunk_at}
+use Rattle.zarrs_codec_shard.specs.declared.shard_index.ShardWriter.{ShardWriter}
 use Rattle.zarrs_codec.specs.declared.chain.CodecChain.{CodecChain}
 use Rattle.zarrs_codec.specs.declared.codec.ArrayToBytesCodec.{ArrayToBytesCodec}
 use Rattle.zarrs_codec.specs.declared.codec.ArrayToBytesCodec as codec

@@ -9,24 +9,24 @@ use Rattle.zarrs_data_type.specs.ArrayData.{ArrayData}
 use Rattle.zarrs_data_type.specs.Cell.{Cell, are_values, held_size, values_only}
 use Rattle.zarrs_data_type.specs.Cells.{cells, HasCells}
 use Rattle.zarrs_data_type.specs.Kind.{Kind}
-use Rattle.zarrs_data_type.proofs.Cells.{cells-values, HasCells-some}
+use Rattle.zarrs_data_type_bytes.proofs.Cells.{cells-values, HasCells-some}
 use Rattle.zarrs_subset.specs.Boxes.{position_count}
 use Rattle.zarrs_codec_leaf.specs.declared.error.CodecError.{CodecError}
 use Rattle.zarrs_codec_leaf.specs.declared.error.CodecError.TheVariants as error
-use Rattle.zarrs_metadata.specs.Extension.{◌>>=◌}
-use Rattle.zarrs_shard.specs.Sharded.{cells_of_parts, part_leaves_out, sharded_fits}
-use Rattle.zarrs_shard.specs.Shards.{shard_parts}
-use Rattle.zarrs_shard.specs.ShardIndex.{range_part}
-use Rattle.zarrs_shard.specs.declared.shard_index.SubchunkRange.{SubchunkRange}
-use Rattle.zarrs_shard.specs.Steps.{all_present}
-use Rattle.zarrs_shard.specs.SubchunkData.{HasSubchunks, PutsSubchunk}
-use Rattle.zarrs_shard.specs.Subchunks.{is_cut_by, subchunk_count, assembled}
-use Rattle.zarrs_shard.proofs.Filling.{filled_start, filled_whole, leave_next, put_next}
-use Rattle.zarrs_shard.proofs.ShardLaws.{length-shard_parts}
-use Rattle.zarrs_shard.proofs.Sizes.{part_large}
-use Rattle.zarrs_shard.proofs.Missing.{given_if-true, all_present-more, all_present-none, length-all_present}
-use Rattle.zarrs_chain.specs.Chain.{ChainMeaning}
-use Rattle.zarrs_chain.specs.Refusals.{RefusesChunkDecoding}
+use Rattle.zarrs_metadata_parts.specs.Extension.{◌>>=◌}
+use Rattle.zarrs_codec_shard.specs.Sharded.{cells_of_parts, part_leaves_out, sharded_fits}
+use Rattle.zarrs_codec_shard.specs.Shards.{shard_parts}
+use Rattle.zarrs_codec_shard.specs.ShardIndex.{range_part}
+use Rattle.zarrs_codec_shard.specs.declared.shard_index.SubchunkRange.{SubchunkRange}
+use Rattle.zarrs_codec_shard.specs.Steps.{all_present}
+use Rattle.zarrs_codec_shard.specs.SubchunkData.{HasSubchunks, PutsSubchunk}
+use Rattle.zarrs_codec_shard.specs.Subchunks.{is_cut_by, subchunk_count, assembled}
+use Rattle.zarrs_codec_shard.proofs.Filling.{filled_start, filled_whole, leave_next, put_next}
+use Rattle.zarrs_codec_shard.proofs.ShardLaws.{length-shard_parts}
+use Rattle.zarrs_codec_shard.proofs.Sizes.{part_large}
+use Rattle.zarrs_codec_shard.proofs.Missing.{given_if-true, all_present-more, all_present-none, length-all_present}
+use Rattle.zarrs_codec_chain.specs.Chain.{ChainMeaning}
+use Rattle.zarrs_codec_chain.specs.Refusals.{RefusesChunkDecoding}
 use Rattle.zarrs_codec.specs.Shardings.{decoded_part, decoded_parts, sharded, subchunk_meaning, HasFirstCells, HasNextSubchunk, PutsPart, RefusesCells}
 
 -- ---- absent parts

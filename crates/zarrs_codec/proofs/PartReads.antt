@@ -2,23 +2,23 @@
 use Rattle.std.proofs.Common.{◌≡◌, ℕ, ◌+◌, ◌-◌, ◌*◌, ◌^◌, ◌<◌, ◌≤◌, Bool, true, false, List, [], ◌∷◌, length, Option, Some, refl, sym, ap, ◌∙◌, subst, arith}
 use Rattle.std.proofs.lemmas.Bool.{false≢true, lt-ltb}
 use Rattle.std.proofs.lemmas.List.{length-drop, length-take-le}
-use Rattle.zarrs_array_bytes.specs.ArrayData.{ArrayData}
+use Rattle.zarrs_data_type.specs.ArrayData.{ArrayData}
 use Rattle.zarrs_codec_array.specs.declared.array.ArrayToArrayCodec.{ArrayToArrayCodec}
 use Rattle.zarrs_codec_leaf.specs.declared.error.CodecError.{CodecError}
 use Rattle.zarrs_codec_leaf.specs.declared.error.CodecError.TheVariants as error
-use Rattle.zarrs_source.specs.Sources.{IsWindow, MayRead, MayReadPlaces, window_bytes}
-use Rattle.zarrs_source.specs.declared.source.Window.{Window}
+use Rattle.zarrs_codec_leaf.specs.Sources.{IsWindow, MayRead, MayReadPlaces, window_bytes}
+use Rattle.zarrs_codec_leaf.specs.declared.source.Window.{Window}
 use Rattle.zarrs_subset.specs.Boxes.{position_count}
 use Rattle.zarrs_subset.specs.Regions.{Box}
-use Rattle.zarrs_types.specs.Cell.{Cell, held_size}
-use Rattle.zarrs_types.specs.Kind.{Kind}
-use Rattle.zarrs_parts.specs.Parts.{DecodesInto, DecodesPart}
-use Rattle.zarrs_parts.specs.Places.{all_places}
-use Rattle.zarrs_parts.specs.Refusals.{RefusesIntoDecoding, RefusesPartDecoding}
-use Rattle.zarrs_parts.specs.declared.error.PartError.{PartError}
-use Rattle.zarrs_parts.specs.declared.error.PartError.TheVariants.{Codec, Source}
-use Rattle.zarrs_chain.specs.Chain.{ChainMeaning}
-use Rattle.zarrs_chain.specs.Refusals.{RefusesChunkDecoding}
+use Rattle.zarrs_data_type.specs.Cell.{Cell, held_size}
+use Rattle.zarrs_data_type.specs.Kind.{Kind}
+use Rattle.zarrs_codec_chain.specs.Parts.{DecodesInto, DecodesPart}
+use Rattle.zarrs_codec_chain.specs.Places.{all_places}
+use Rattle.zarrs_codec_chain.specs.PartRefusals.{RefusesIntoDecoding, RefusesPartDecoding}
+use Rattle.zarrs_codec_chain.specs.declared.error.PartError.{PartError}
+use Rattle.zarrs_codec_chain.specs.declared.error.PartError.TheVariants.{Codec, Source}
+use Rattle.zarrs_codec_chain.specs.Chain.{ChainMeaning}
+use Rattle.zarrs_codec_chain.specs.Refusals.{RefusesChunkDecoding}
 use Rattle.zarrs_codec.specs.Chains.{behind, codec_meaning, no_codec}
 use Rattle.zarrs_codec.specs.ChainLaws.{same_cells}
 use Rattle.zarrs_codec.specs.declared.codec.ArrayToBytesCodec.{ArrayToBytesCodec}

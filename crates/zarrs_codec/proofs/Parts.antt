@@ -8,21 +8,21 @@ use Rattle.zarrs_data_type.specs.ArrayData.{ArrayData}
 use Rattle.zarrs_data_type.specs.Cell.{Cell, none}
 use Rattle.zarrs_data_type.specs.Cells.{HasCells}
 use Rattle.zarrs_data_type.specs.Kind.{Kind}
-use Rattle.zarrs_data_type.proofs.Cells.{HasCells-some}
+use Rattle.zarrs_data_type_bytes.proofs.Cells.{HasCells-some}
 use Rattle.zarrs_subset.specs.Boxes.{position_count, place, unravel, offset_by}
 use Rattle.zarrs_subset.proofs.RearrangedCells.{length-made_of}
 use Rattle.zarrs_codec_leaf.specs.declared.error.CodecError.{CodecError}
 use Rattle.zarrs_codec_leaf.specs.declared.error.CodecError.TheVariants as error
-use Rattle.zarrs_metadata.specs.Extension.{◌>>=◌}
-use Rattle.zarrs_shard.specs.ShardIndex.{PushesPart}
-use Rattle.zarrs_shard.specs.Sharded.{SubchunkMeaning, part_of, sharded_fits, sharded_encoded}
-use Rattle.zarrs_shard.specs.Shards.{shard_bytes, written_shard}
-use Rattle.zarrs_shard.specs.Steps.{given_if}
-use Rattle.zarrs_shard.specs.SubchunkData.{ExtractsSubchunk}
-use Rattle.zarrs_shard.specs.Subchunks.{is_cut_by, quotients, corner, subchunk_count, subchunk_at}
-use Rattle.zarrs_shard.specs.declared.shard_index.ShardWriter.{ShardWriter}
-use Rattle.zarrs_shard.proofs.Encoding.{next_part, no_part}
-use Rattle.zarrs_shard.proofs.Missing.{given_if-true, length-all_present}
+use Rattle.zarrs_metadata_parts.specs.Extension.{◌>>=◌}
+use Rattle.zarrs_codec_shard.specs.ShardIndex.{PushesPart}
+use Rattle.zarrs_codec_shard.specs.Sharded.{SubchunkMeaning, part_of, sharded_fits, sharded_encoded}
+use Rattle.zarrs_codec_shard.specs.Shards.{shard_bytes, written_shard}
+use Rattle.zarrs_codec_shard.specs.Steps.{given_if}
+use Rattle.zarrs_codec_shard.specs.SubchunkData.{ExtractsSubchunk}
+use Rattle.zarrs_codec_shard.specs.Subchunks.{is_cut_by, quotients, corner, subchunk_count, subchunk_at}
+use Rattle.zarrs_codec_shard.specs.declared.shard_index.ShardWriter.{ShardWriter}
+use Rattle.zarrs_codec_shard.proofs.Encoding.{next_part, no_part}
+use Rattle.zarrs_codec_shard.proofs.Missing.{given_if-true, length-all_present}
 use Rattle.zarrs_codec.specs.Shardings.{cells_of, RefusesPart, RefusesParts, HasFirstParts}
 
 -- ---- encoding

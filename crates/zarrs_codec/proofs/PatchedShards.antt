@@ -8,29 +8,29 @@ use Rattle.zarrs_data_type.specs.ArrayData.{ArrayData}
 use Rattle.zarrs_data_type.specs.Cell.{Cell, held_size, values_only}
 use Rattle.zarrs_data_type.specs.Cells.{cells, HasCells}
 use Rattle.zarrs_data_type.specs.Kind.{Kind}
-use Rattle.zarrs_data_type.proofs.Cells.{HasCells-cells}
+use Rattle.zarrs_data_type_bytes.proofs.Cells.{HasCells-cells}
 use Rattle.zarrs_subset.specs.Boxes.{position_count}
 use Rattle.zarrs_subset.specs.Regions.{Box}
 use Rattle.zarrs_codec_array.specs.declared.array.ArrayToArrayCodec.{ArrayToArrayCodec}
 use Rattle.zarrs_codec_leaf.specs.declared.error.CodecError.{CodecError}
 use Rattle.zarrs_codec_leaf.specs.declared.error.CodecError.TheVariants as error
-use Rattle.zarrs_metadata.specs.Extension.{◌>>=◌}
-use Rattle.zarrs_shard.specs.PartialShards.{sharded_partly, stored_parts, write_of}
-use Rattle.zarrs_shard.specs.Sharded.{SubchunkMeaning, cells_of_parts, part_leaves_out, sharded_fits}
-use Rattle.zarrs_shard.specs.Steps.{given_if}
-use Rattle.zarrs_shard.specs.Subchunks.{assembled, is_cut_by, subchunk_count}
-use Rattle.zarrs_shard.proofs.Missing.{given_if-false, given_if-true, all_present-none}
-use Rattle.zarrs_shard.proofs.ShardLaws.{length-shard_parts}
-use Rattle.zarrs_shard.proofs.Sizes.{part_large}
-use Rattle.zarrs_chain.specs.Chain.{ChainMeaning, chunk_cells, chunk_leaves_out, partial_encoding}
-use Rattle.zarrs_chain.specs.Refusals.{RefusesPartialEncoding}
+use Rattle.zarrs_metadata_parts.specs.Extension.{◌>>=◌}
+use Rattle.zarrs_codec_shard.specs.PartialShards.{sharded_partly, stored_parts, write_of}
+use Rattle.zarrs_codec_shard.specs.Sharded.{SubchunkMeaning, cells_of_parts, part_leaves_out, sharded_fits}
+use Rattle.zarrs_codec_shard.specs.Steps.{given_if}
+use Rattle.zarrs_codec_shard.specs.Subchunks.{assembled, is_cut_by, subchunk_count}
+use Rattle.zarrs_codec_shard.proofs.Missing.{given_if-false, given_if-true, all_present-none}
+use Rattle.zarrs_codec_shard.proofs.ShardLaws.{length-shard_parts}
+use Rattle.zarrs_codec_shard.proofs.Sizes.{part_large}
+use Rattle.zarrs_codec_chain.specs.Chain.{ChainMeaning, chunk_cells, chunk_leaves_out, partial_encoding}
+use Rattle.zarrs_codec_chain.specs.Refusals.{RefusesPartialEncoding}
 use Rattle.zarrs_codec.specs.Chains.{behind, no_codec}
 use Rattle.zarrs_codec.specs.ChainLaws.{same_cells}
 use Rattle.zarrs_codec.specs.PartialShardings.{changed_part, changes_of, write_to, RefusesChanges, RefusesHeld}
 use Rattle.zarrs_codec.specs.Shardings.{decoded_part, sharded, subchunk_meaning}
 use Rattle.zarrs_codec.proofs.PartCells.{left_out, shard_cells}
 use Rattle.zarrs_codec.proofs.Patches.{no_write}
-use Rattle.zarrs_array_bytes.proofs.FixedSizes.{some_is}
+use Rattle.zarrs_data_type_bytes.proofs.FixedSizes.{some_is}
 
 still : {A : Type 0} (b : Bool) → given_if {A = A} b None ≡ None
 still true = refl

@@ -9,25 +9,25 @@ use Rattle.zarrs_data_type.specs.ArrayData.{ArrayData}
 use Rattle.zarrs_data_type.specs.Cell.{Cell, none}
 use Rattle.zarrs_data_type.specs.Cells.{cells, HasCells}
 use Rattle.zarrs_data_type.specs.Kind.{Kind}
-use Rattle.zarrs_data_type.proofs.Cells.{HasCells-some}
+use Rattle.zarrs_data_type_bytes.proofs.Cells.{HasCells-some}
 use Rattle.zarrs_subset.specs.Boxes.{offset_by, place, position_count, unravel}
 use Rattle.zarrs_subset.specs.Regions.{Box, in_box, place_in}
 use Rattle.zarrs_subset.proofs.RearrangedCells.{length-made_of}
 use Rattle.zarrs_codec_leaf.specs.declared.error.CodecError.{CodecError}
 use Rattle.zarrs_codec_leaf.specs.declared.error.CodecError.TheVariants as error
-use Rattle.zarrs_metadata.specs.Extension.{◌>>=◌}
-use Rattle.zarrs_shard.specs.PartialShards.{PartialChange, is_met, stored_parts, updated_subchunk, write_of}
-use Rattle.zarrs_shard.specs.ShardIndex.{range_part}
-use Rattle.zarrs_shard.specs.ShardPatches.{HasRoom, IsPatching, PushesChange}
-use Rattle.zarrs_shard.specs.Sharded.{cells_of_part, part_of}
-use Rattle.zarrs_shard.specs.Steps.{all_present}
-use Rattle.zarrs_shard.specs.SubchunkData.{UpdatesSubchunk}
-use Rattle.zarrs_shard.specs.Subchunks.{corner, quotients, subchunk_count}
-use Rattle.zarrs_shard.specs.declared.patch.ShardPatch.{ShardPatch}
-use Rattle.zarrs_shard.specs.declared.shard_index.SubchunkRange.{SubchunkRange}
-use Rattle.zarrs_shard.proofs.Missing.{all_present-more, all_present-none, length-all_present}
-use Rattle.zarrs_shard.proofs.Patching.{index_length}
-use Rattle.zarrs_chain.specs.Chain.{ChainMeaning, IsLawfulChain}
+use Rattle.zarrs_metadata_parts.specs.Extension.{◌>>=◌}
+use Rattle.zarrs_codec_shard.specs.PartialShards.{PartialChange, is_met, stored_parts, updated_subchunk, write_of}
+use Rattle.zarrs_codec_shard.specs.ShardIndex.{range_part}
+use Rattle.zarrs_codec_shard.specs.ShardPatches.{HasRoom, IsPatching, PushesChange}
+use Rattle.zarrs_codec_shard.specs.Sharded.{cells_of_part, part_of}
+use Rattle.zarrs_codec_shard.specs.Steps.{all_present}
+use Rattle.zarrs_codec_shard.specs.SubchunkData.{UpdatesSubchunk}
+use Rattle.zarrs_codec_shard.specs.Subchunks.{corner, quotients, subchunk_count}
+use Rattle.zarrs_codec_shard.specs.declared.patch.ShardPatch.{ShardPatch}
+use Rattle.zarrs_codec_shard.specs.declared.shard_index.SubchunkRange.{SubchunkRange}
+use Rattle.zarrs_codec_shard.proofs.Missing.{all_present-more, all_present-none, length-all_present}
+use Rattle.zarrs_codec_shard.proofs.Patching.{index_length}
+use Rattle.zarrs_codec_chain.specs.Chain.{ChainMeaning, IsLawfulChain}
 use Rattle.zarrs_codec.specs.PartialShardings.{changed_part, changes_of, write_to, HasFirstChanges, RefusesChange, RefusesChanges, RefusesHeld}
 use Rattle.zarrs_codec.specs.Shardings.{cells_of, decoded_part, subchunk_meaning, RefusesPart}
 use Rattle.zarrs_codec.proofs.Behind.{decoded-has_cells}

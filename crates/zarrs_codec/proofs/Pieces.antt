@@ -2,25 +2,25 @@
 use Rattle.std.proofs.Common.{◌≡◌, ℕ, ◌<◌, ◌≤◌, Bool, true, false, cond, ◌&&◌, List, length, slice_get, Option, None, Some, refl, sym, ap, ◌∙◌, subst}
 use Rattle.std.specs.Prelude.{slice_index, slice_index_or}
 use Rattle.std.proofs.lemmas.Bool.{and_from, and_parts}
-use Rattle.zarrs_array_bytes.specs.ArrayData.{ArrayData}
-use Rattle.zarrs_array_bytes.specs.Cells.{HasCells}
-use Rattle.zarrs_array_bytes.specs.Parts.{TakesCells}
-use Rattle.zarrs_array_bytes.proofs.Cells.{HasCells-some}
-use Rattle.zarrs_shard.specs.Subchunks.{corner, is_cut_by, quotients, remainders, subchunk_box}
-use Rattle.zarrs_shard.proofs.Cuts.{position_divided}
-use Rattle.zarrs_shard.proofs.SubchunkBoxes.{only_own, place_in_chunk}
+use Rattle.zarrs_data_type.specs.ArrayData.{ArrayData}
+use Rattle.zarrs_data_type.specs.Cells.{HasCells}
+use Rattle.zarrs_data_type.specs.Parts.{TakesCells}
+use Rattle.zarrs_data_type_bytes.proofs.Cells.{HasCells-some}
+use Rattle.zarrs_codec_shard.specs.Subchunks.{corner, is_cut_by, quotients, remainders, subchunk_box}
+use Rattle.zarrs_codec_shard.proofs.Cuts.{position_divided}
+use Rattle.zarrs_codec_shard.proofs.SubchunkBoxes.{only_own, place_in_chunk}
 use Rattle.zarrs_subset.specs.Boxes.{position_count, InShape, place, offset_from}
 use Rattle.zarrs_subset.specs.Regions.{Box, Holds, IsLong, LiesInShape, box_at_origin, box_from, cell_in, in_box, seen_from}
 use Rattle.zarrs_subset.proofs.Bytes.{holds_along}
-use Rattle.zarrs_types.specs.Cell.{Cell}
-use Rattle.zarrs_types.specs.Kind.{Kind}
-use Rattle.zarrs_parts.specs.Parts.{DecodesPart}
-use Rattle.zarrs_parts.specs.ShardParts.{HasAllParts, IsCellOf, IsPartCell, ReadsSubchunk}
-use Rattle.zarrs_parts.proofs.PartBoxes.{part_fits, within_shape}
-use Rattle.zarrs_parts.proofs.SubchunkPieces.{subset_is}
-use Rattle.zarrs_parts.proofs.SubchunkSteps.{holds_seen, own_holds, own_place, read_more, seen_again}
+use Rattle.zarrs_data_type.specs.Cell.{Cell}
+use Rattle.zarrs_data_type.specs.Kind.{Kind}
+use Rattle.zarrs_codec_chain.specs.Parts.{DecodesPart}
+use Rattle.zarrs_codec_chain.specs.ShardParts.{HasAllParts, IsCellOf, IsPartCell, ReadsSubchunk}
+use Rattle.zarrs_codec_chain.proofs.PartBoxes.{part_fits, within_shape}
+use Rattle.zarrs_codec_chain.proofs.SubchunkPieces.{subset_is}
+use Rattle.zarrs_codec_chain.proofs.SubchunkSteps.{holds_seen, own_holds, own_place, read_more, seen_again}
 use Rattle.zarrs_codec.specs.ShardPieces.{HasPiece}
-use Rattle.zarrs_array_bytes.proofs.FixedSizes.{some_is}
+use Rattle.zarrs_data_type_bytes.proofs.FixedSizes.{some_is}
 
 module _ (k : Kind) (decoded : List ℕ → Option (List Cell)) (fill : Cell) (s sub : List ℕ) (part : Box) (parts : List (Option (List ℕ))) where
   -- the cells that the chain of the subchunks decodes

@@ -5,17 +5,17 @@ use Rattle.std.specs.Prelude.{codes, option_map, option_and_then, slice_get, ◌
 use Rattle.std.specs.Str.{bytes_eq}
 use Rattle.serde_json.specs.Data.{Data, Items, no_items, item, Members, depth, items_depth}
 use Rattle.serde_json.specs.Find.{get_member, as_array}
-use Rattle.zarrs_metadata.specs.Extension.{ExtensionData, settings, extension_of}
-use Rattle.zarrs_metadata.specs.Lists.{all_of, list_of}
-use Rattle.zarrs_metadata.specs.Members.{has_only}
-use Rattle.zarrs_types.specs.TypeMetadata.{levels_in}
-use Rattle.zarrs_types.proofs.TypeReading.{get_member-depth}
+use Rattle.zarrs_metadata_parts.specs.Extension.{ExtensionData, settings, extension_of}
+use Rattle.zarrs_metadata_parts.specs.Lists.{all_of, list_of}
+use Rattle.zarrs_metadata_parts.specs.Members.{has_only}
+use Rattle.zarrs_data_type.specs.TypeMetadata.{levels_in}
+use Rattle.zarrs_data_type_kinds.proofs.TypeReading.{get_member-depth}
 use Rattle.zarrs_codec_leaf.specs.Chosen.{some_is, only_parts, bind_parts, map_parts}
-use Rattle.zarrs_codec_cells.specs.Metadata.{cells_codec_said}
-use Rattle.zarrs_codec_cells.proofs.OptionalMetadata.{extension_levels, array_depth, levels_of_member}
+use Rattle.zarrs_codec_optional.specs.Metadata.{cells_codec_said}
+use Rattle.zarrs_codec_optional.proofs.OptionalMetadata.{extension_levels, array_depth, levels_of_member}
 use Rattle.zarrs_codec.specs.Metadata.{array_codecs_said, chain_of_parts, chain_said, front_of, last_of, sharding_with, bytes_codec_within, bytes_codec_said}
 use Rattle.zarrs_codec.specs.Configurations.{BytesCodecData, cells}
-use Rattle.zarrs_codec_cells.specs.ShardingMetadata.{ShardingData, sharding_data, sharding_from, sharding_names, is_plain_index, location_said, size_said}
+use Rattle.zarrs_codec_optional.specs.ShardingMetadata.{ShardingData, sharding_data, sharding_from, sharding_names, is_plain_index, location_said, size_said}
 
 -- ---- a codec in a configuration has fewer levels
 

@@ -6,44 +6,44 @@ use Rattle.std.specs.Cmp.Lexicographic.{pointwise, same_text}
 use Rattle.std.proofs.lemmas.Bool.{and_from, cases_Bool, eq-eqb, false≢true}
 use Rattle.std.proofs.lemmas.List.{get_or-map, take_more, take_all}
 use Rattle.std.proofs.lemmas.Option.{slice_get_within, get_or_from_slice_get}
-use Rattle.zarrs_array_bytes.specs.ArrayData.{ArrayData}
-use Rattle.zarrs_array_bytes.specs.Cells.{cell_at}
+use Rattle.zarrs_data_type.specs.ArrayData.{ArrayData}
+use Rattle.zarrs_data_type.specs.Cells.{cell_at}
 use Rattle.zarrs_codec_leaf.specs.declared.error.CodecError.TheVariants as codec
-use Rattle.zarrs_shard.specs.ShardIndex.{range_part}
-use Rattle.zarrs_shard.specs.Sharded.{SubchunkMeaning, sharded_decoded}
-use Rattle.zarrs_shard.specs.Shards.{shard_parts}
-use Rattle.zarrs_shard.specs.declared.shard_index.SubchunkRange.{SubchunkRange}
-use Rattle.zarrs_shard.specs.Subchunks.{corner, is_cut_by, quotients, remainders, subchunk_box, subchunk_count}
-use Rattle.zarrs_shard.proofs.Cuts.{position_divided}
-use Rattle.zarrs_shard.proofs.SubchunkBoxes.{only_own, place_in_chunk}
-use Rattle.zarrs_source.specs.Sources.{IsWindow, MayRead, window_bytes}
-use Rattle.zarrs_source.specs.declared.source.Window.{Window}
+use Rattle.zarrs_codec_shard.specs.ShardIndex.{range_part}
+use Rattle.zarrs_codec_shard.specs.Sharded.{SubchunkMeaning, sharded_decoded}
+use Rattle.zarrs_codec_shard.specs.Shards.{shard_parts}
+use Rattle.zarrs_codec_shard.specs.declared.shard_index.SubchunkRange.{SubchunkRange}
+use Rattle.zarrs_codec_shard.specs.Subchunks.{corner, is_cut_by, quotients, remainders, subchunk_box, subchunk_count}
+use Rattle.zarrs_codec_shard.proofs.Cuts.{position_divided}
+use Rattle.zarrs_codec_shard.proofs.SubchunkBoxes.{only_own, place_in_chunk}
+use Rattle.zarrs_codec_leaf.specs.Sources.{IsWindow, MayRead, window_bytes}
+use Rattle.zarrs_codec_leaf.specs.declared.source.Window.{Window}
 use Rattle.zarrs_subset.specs.Boxes.{InShape, offset_by, offset_from, place, position_count}
 use Rattle.zarrs_subset.specs.Regions.{Box, Holds, IsLong, LiesInShape, box_at_origin, box_from, cell_in, in_box, overlap_of, place_in, positions, seen_from}
 use Rattle.zarrs_subset.proofs.Bytes.{holds_along}
 use Rattle.zarrs_subset.proofs.Kernel.{place_below}
 use Rattle.zarrs_subset.proofs.Overlaps.{AllSome, in_box-empty, length-overlap_extents, length-zip_with}
 use Rattle.zarrs_subset.proofs.Parts.{overlap_extents-at, zip_with-at}
-use Rattle.zarrs_target.specs.Targets.{KeepsOutside}
-use Rattle.zarrs_target.proofs.Boxes.{lies_at_origin, origin_long}
-use Rattle.zarrs_types.specs.Cell.{Cell, is_value}
-use Rattle.zarrs_types.specs.Kind.{Kind, fixed_size}
-use Rattle.zarrs_byte_strings.specs.StringParts.{LiesInBox}
-use Rattle.zarrs_byte_strings.proofs.Inside.{holds_inside}
-use Rattle.zarrs_parts.specs.Parts.{DecodesPartAt, place_at}
-use Rattle.zarrs_parts.specs.Places.{shard_places}
-use Rattle.zarrs_parts.specs.ShardParts.{DecodesAs, IsCellOf, IsShard, MeetsPart, RefusesStep, is_among}
-use Rattle.zarrs_parts.specs.declared.shard.ShardIndex.{ShardIndex}
-use Rattle.zarrs_parts.specs.declared.error.PartError.{PartError}
-use Rattle.zarrs_parts.specs.declared.error.PartError.TheVariants.{Codec}
-use Rattle.zarrs_parts.proofs.MovedBoxes.{moved_box, moved_holds, moved_in, moved_same, moved_to}
-use Rattle.zarrs_parts.proofs.PartBoxes.{part_fits, within_shape}
-use Rattle.zarrs_parts.proofs.Stays.{cell_stays}
-use Rattle.zarrs_parts.proofs.ReadSteps.{IsFound, IsMet, window_of}
-use Rattle.zarrs_parts.proofs.SubchunkPieces.{subset_is}
-use Rattle.zarrs_parts.proofs.SubchunkSteps.{cell_of_whole, holds_seen, inner_refused, met_among, own_holds, own_place, seen_again}
+use Rattle.zarrs_data_type.specs.Targets.{KeepsOutside}
+use Rattle.zarrs_data_type_region.proofs.TargetBoxes.{lies_at_origin, origin_long}
+use Rattle.zarrs_data_type.specs.Cell.{Cell, is_value}
+use Rattle.zarrs_data_type.specs.Kind.{Kind, fixed_size}
+use Rattle.zarrs_subset.specs.Regions.{LiesInBox}
+use Rattle.zarrs_subset.proofs.Inside.{holds_inside}
+use Rattle.zarrs_codec_chain.specs.Parts.{DecodesPartAt, place_at}
+use Rattle.zarrs_codec_chain.specs.Places.{shard_places}
+use Rattle.zarrs_codec_chain.specs.ShardParts.{DecodesAs, IsCellOf, IsShard, MeetsPart, RefusesStep, is_among}
+use Rattle.zarrs_codec_chain.specs.declared.shard.ShardIndex.{ShardIndex}
+use Rattle.zarrs_codec_chain.specs.declared.error.PartError.{PartError}
+use Rattle.zarrs_codec_chain.specs.declared.error.PartError.TheVariants.{Codec}
+use Rattle.zarrs_codec_chain.proofs.MovedBoxes.{moved_box, moved_holds, moved_in, moved_same, moved_to}
+use Rattle.zarrs_codec_chain.proofs.PartBoxes.{part_fits, within_shape}
+use Rattle.zarrs_codec_chain.proofs.Stays.{cell_stays}
+use Rattle.zarrs_codec_chain.proofs.ReadSteps.{IsFound, IsMet, window_of}
+use Rattle.zarrs_codec_chain.proofs.SubchunkPieces.{subset_is}
+use Rattle.zarrs_codec_chain.proofs.SubchunkSteps.{cell_of_whole, holds_seen, inner_refused, met_among, own_holds, own_place, seen_again}
 use Rattle.zarrs_codec_array.specs.declared.array.ArrayToArrayCodec.{ArrayToArrayCodec}
-use Rattle.zarrs_chain.specs.Chain.{ChainMeaning}
+use Rattle.zarrs_codec_chain.specs.Chain.{ChainMeaning}
 use Rattle.zarrs_codec.specs.ChainLaws.{same_cells}
 use Rattle.zarrs_codec.specs.Chains.{behind, no_codec}
 use Rattle.zarrs_codec.specs.ShardPartsInto.{DecodesPieceAt, HasAllPartsAt, HasSubchunksAt, IsPartValue, ReadsSubchunkAt, RefusesPiece, range_window}

@@ -1,9 +1,9 @@
 -- The law of every chain of the code, from those of its codecs.
 use Rattle.std.proofs.Common.{◌≡◌, ◌<◌, ℕ, Bool, true, false, List, [], ◌∷◌, length, Option, None, Some, refl, sym, ap, subst, ◌∙◌}
 use Rattle.std.specs.Prelude.{option_and_then}
-use Rattle.zarrs_types.specs.Kind.{Kind}
-use Rattle.zarrs_types.specs.Kind as type
-use Rattle.zarrs_types.specs.Cell.{Cell, none, is_value, are_values}
+use Rattle.zarrs_data_type.specs.Kind.{Kind}
+use Rattle.zarrs_data_type.specs.Kind as type
+use Rattle.zarrs_data_type.specs.Cell.{Cell, none, is_value, are_values}
 use Rattle.zarrs_subset.specs.Boxes.{position_count}
 use Rattle.zarrs_subset.specs.Regions.{Box}
 use Rattle.zarrs_codec_array.specs.ArrayCodecs.{arrays_meaning, arrays-lawful}
@@ -14,21 +14,19 @@ use Rattle.zarrs_codec_leaf.specs.Leaf.{LeafMeaning, IsLawfulLeaf}
 use Rattle.zarrs_codec_leaf.specs.PackBitsLaws.{packbits-lawful}
 use Rattle.zarrs_codec_leaf.specs.VlenLaws.{vlen-lawful}
 use Rattle.zarrs_codec_leaf.specs.VlenStringsLaws.{vlen_utf8-lawful, vlen_bytes-lawful}
-use Rattle.zarrs_codec_cells.specs.CellsCodecLaws.{optional_codec-lawful}
-use Rattle.zarrs_shard.specs.Sharded.{IsLawfulSubchunk, IsLawfulShard}
-use Rattle.zarrs_shard.specs.PartialShards.{PartialChange, after, stored_cells, IsUpdated}
-use Rattle.zarrs_shard.proofs.PartialCells.{shard-updates}
-use Rattle.zarrs_shard.proofs.ShardLaws.{shard-lawful}
+use Rattle.zarrs_codec_optional.specs.CellsCodecLaws.{optional_codec-lawful}
+use Rattle.zarrs_codec_shard.specs.Sharded.{IsLawfulSubchunk, IsLawfulShard}
+use Rattle.zarrs_codec_shard.specs.PartialShards.{PartialChange, after, stored_cells, IsUpdated}
+use Rattle.zarrs_codec_shard.proofs.PartialCells.{shard-updates}
+use Rattle.zarrs_codec_shard.proofs.ShardLaws.{shard-lawful}
 use Rattle.zarrs_codec.specs.declared.codec.ArrayToBytesCodec.{ArrayToBytesCodec}
 use Rattle.zarrs_codec.specs.declared.codec.ArrayToBytesCodec as codec
 use Rattle.zarrs_codec.specs.declared.chain.CodecChain.{CodecChain}
-use Rattle.zarrs_chain.specs.Chain.{ChainMeaning, IsLawfulChain, chunk_cells}
-use Rattle.zarrs_codec_cells.specs.ShardingMetadata.{sizes_of}
-use Rattle.zarrs_codec.specs.Chains.{array_to_array_of, array_to_bytes_of, behind, codec_meaning, is_at_start, leaf_meaning}
-use Rattle.zarrs_codec.specs.Configurations.{no_cells, whole_chunk}
-use Rattle.zarrs_codec.specs.Chains.{chain_meaning, no_codec}
-use Rattle.zarrs_codec.specs.Configurations.{with_places}
-use Rattle.zarrs_parts.specs.Places.{Places, all_places-inside, cell_places, cell_places-inside, places_behind-inside, shard_places-inside}
+use Rattle.zarrs_codec_chain.specs.Chain.{ChainMeaning, IsLawfulChain, chunk_cells}
+use Rattle.zarrs_codec_optional.specs.ShardingMetadata.{sizes_of}
+use Rattle.zarrs_codec.specs.Chains.{array_to_array_of, array_to_bytes_of, behind, codec_meaning, is_at_start, leaf_meaning, chain_meaning, no_codec}
+use Rattle.zarrs_codec.specs.Configurations.{no_cells, whole_chunk, with_places}
+use Rattle.zarrs_codec_chain.specs.Places.{Places, all_places-inside, cell_places, cell_places-inside, places_behind-inside, shard_places-inside}
 use Rattle.zarrs_codec.specs.Shardings.{sharded, subchunk_meaning}
 use Rattle.zarrs_codec.specs.Through.{through-lawful}
 

@@ -4,12 +4,12 @@ use Rattle.std.specs.declared.num.NonZeroU64.{NonZeroU64}
 use Rattle.zarrs_codec_array.specs.ArrayCodecs.{array_codec_data, arrays_meaning}
 use Rattle.zarrs_codec_array.specs.declared.array.ArrayToArrayCodec.{ArrayToArrayCodec}
 use Rattle.zarrs_codec_leaf.specs.Bytes.{endian_of}
-use Rattle.zarrs_codec_leaf.specs.declared.bytes.Endianness.{Endianness}
-use Rattle.zarrs_codec_leaf.specs.declared.bytes.Endianness.TheVariants as endian
+use Rattle.zarrs_codec_leaf.specs.declared.bytes_codec.Endianness.{Endianness}
+use Rattle.zarrs_codec_leaf.specs.declared.bytes_codec.Endianness.TheVariants as endian
 use Rattle.zarrs_codec_leaf.specs.Leaf.{LeafMeaning}
-use Rattle.zarrs_codec_cells.specs.CellsCodecs.{optional_codec_data}
-use Rattle.zarrs_codec_cells.specs.Configurations.{bytes, packbits, vlen_utf8, vlen_bytes, vlen}
-use Rattle.zarrs_codec_cells.specs.ShardingMetadata.{sizes_of}
+use Rattle.zarrs_codec_optional.specs.CellsCodecs.{optional_codec_data}
+use Rattle.zarrs_codec_optional.specs.Configurations.{bytes, packbits, vlen_utf8, vlen_bytes, vlen}
+use Rattle.zarrs_codec_optional.specs.ShardingMetadata.{sizes_of}
 use Rattle.zarrs_codec.specs.declared.codec.ArrayToBytesCodec.{ArrayToBytesCodec}
 use Rattle.zarrs_codec.specs.declared.codec.ArrayToBytesCodec as codec
 use Rattle.zarrs_codec.specs.declared.chain.BytesToBytesCodecs.{BytesToBytesCodecs}
@@ -17,7 +17,7 @@ use Rattle.zarrs_codec.specs.declared.chain.CodecChain.{CodecChain}
 use Rattle.zarrs_codec.specs.declared.sharding.ShardingCodec.{ShardingCodec}
 use Rattle.zarrs_codec.specs.declared.sharding.ShardingIndexLocation.{ShardingIndexLocation}
 use Rattle.zarrs_codec.specs.declared.sharding.ShardingIndexLocation.TheVariants as location
-use Rattle.zarrs_chain.specs.Chain.{ChainMeaning}
+use Rattle.zarrs_codec_chain.specs.Chain.{ChainMeaning}
 use Rattle.zarrs_codec.specs.Configurations.{BytesCodecData, ChainData, cells, sharding, cells_meaning_of, whole_chunk}
 use Rattle.zarrs_codec.specs.Configurations.{no_array_codec, behind_codecs, meaning_of_bytes_codec, meaning_of_chain}
 use Rattle.zarrs_codec.specs.Through.{through}

@@ -3,9 +3,9 @@ use Rattle.std.specs.Prelude.{ℕ, Bool, true, false, Some, None, List, [], ◌�
 use Rattle.zarrs_subset.specs.Boxes.{position_count}
 use Rattle.zarrs_codec_array.specs.Configurations.{ArrayCodecData, meaning_of_array_codecs}
 use Rattle.zarrs_codec_leaf.specs.Leaf.{LeafMeaning}
-use Rattle.zarrs_codec_cells.specs.Configurations.{CellsCodecData, bytes, meaning_of_cells_codec}
-use Rattle.zarrs_parts.specs.Places.{Places, all_places, cell_places}
-use Rattle.zarrs_chain.specs.Chain.{ChainMeaning}
+use Rattle.zarrs_codec_optional.specs.Configurations.{CellsCodecData, bytes, meaning_of_cells_codec}
+use Rattle.zarrs_codec_chain.specs.Places.{Places, all_places, cell_places}
+use Rattle.zarrs_codec_chain.specs.Chain.{ChainMeaning}
 use Rattle.zarrs_codec.specs.Shardings.{sharded}
 use Rattle.zarrs_codec.specs.Through.{through_all}
 

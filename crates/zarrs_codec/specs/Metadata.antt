@@ -2,13 +2,13 @@
 use Rattle.std.specs.Prelude.{ℕ, zero, suc, ◌-◌, Bool, List, [], ◌∷◌, ◌++◌, codes, if◌then◌else◌, Option, Some, None}
 use Rattle.std.specs.Prelude.{length, map, take, slice_get, option_map, option_and_then}
 use Rattle.std.specs.Str.{bytes_eq}
-use Rattle.zarrs_metadata.specs.Extension.{ExtensionData, settings, ◌>>=◌}
+use Rattle.zarrs_metadata_parts.specs.Extension.{ExtensionData, settings, ◌>>=◌}
 use Rattle.zarrs_codec_array.specs.Metadata.{array_codec_said, extension_of_array_codec}
 use Rattle.zarrs_codec_array.specs.Configurations.{ArrayCodecData}
-use Rattle.zarrs_types.specs.Kind.{Kind}
-use Rattle.zarrs_types.specs.TypeMetadata.{levels_in}
-use Rattle.zarrs_codec_cells.specs.Metadata.{cells_codec_said, extension_of_cells_codec, default_cells_codec}
-use Rattle.zarrs_codec_cells.specs.ShardingMetadata.{ShardingData, sharding_data, sharding_extension}
+use Rattle.zarrs_data_type.specs.Kind.{Kind}
+use Rattle.zarrs_data_type.specs.TypeMetadata.{levels_in}
+use Rattle.zarrs_codec_optional.specs.Metadata.{cells_codec_said, extension_of_cells_codec, default_cells_codec}
+use Rattle.zarrs_codec_optional.specs.ShardingMetadata.{ShardingData, sharding_data, sharding_extension}
 use Rattle.zarrs_codec.specs.Configurations.{BytesCodecData, ChainData, cells, sharding}
 
 -- ---- what metadata says

@@ -1,20 +1,20 @@
 -- A part of a chunk's cells written into its shard, over the chain of the subchunks.
 use Rattle.std.specs.Prelude.{◌≡◌, ◌⊎◌, ℕ, ◌*◌, ◌<◌, ◌≤◌, ◌^◌, Bool, true}
 use Rattle.std.specs.Prelude.{Option, None, Some, List, [], length, option_map, slice_index_or, unwrap_or, if◌then◌else◌}
-use Rattle.zarrs_types.specs.Kind.{Kind}
-use Rattle.zarrs_types.specs.Cell.{Cell, held_size}
-use Rattle.zarrs_array_bytes.specs.ArrayData.{ArrayData}
+use Rattle.zarrs_data_type.specs.Kind.{Kind}
+use Rattle.zarrs_data_type.specs.Cell.{Cell, held_size}
+use Rattle.zarrs_data_type.specs.ArrayData.{ArrayData}
 use Rattle.zarrs_codec_leaf.specs.declared.error.CodecError.{CodecError}
 use Rattle.zarrs_codec_leaf.specs.declared.error.CodecError.TheVariants as error
-use Rattle.zarrs_metadata.specs.Extension.{◌>>=◌}
-use Rattle.zarrs_shard.specs.PartialShards.{PartialChange, first_changes, is_met, updated_subchunk, write_of}
-use Rattle.zarrs_shard.specs.ShardPatches.{IsPatching}
-use Rattle.zarrs_shard.specs.Sharded.{cells_of_part, part_leaves_out, part_of}
-use Rattle.zarrs_shard.specs.Subchunks.{subchunk_count}
-use Rattle.zarrs_shard.specs.declared.patch.ShardPatch.{ShardPatch}
+use Rattle.zarrs_metadata_parts.specs.Extension.{◌>>=◌}
+use Rattle.zarrs_codec_shard.specs.PartialShards.{PartialChange, first_changes, is_met, updated_subchunk, write_of}
+use Rattle.zarrs_codec_shard.specs.ShardPatches.{IsPatching}
+use Rattle.zarrs_codec_shard.specs.Sharded.{cells_of_part, part_leaves_out, part_of}
+use Rattle.zarrs_codec_shard.specs.Subchunks.{subchunk_count}
+use Rattle.zarrs_codec_shard.specs.declared.patch.ShardPatch.{ShardPatch}
 use Rattle.zarrs_subset.specs.Boxes.{position_count}
 use Rattle.zarrs_subset.specs.Regions.{Box}
-use Rattle.zarrs_chain.specs.Chain.{ChainMeaning}
+use Rattle.zarrs_codec_chain.specs.Chain.{ChainMeaning}
 use Rattle.zarrs_codec.specs.Shardings.{cells_of, decoded_part, subchunk_meaning}
 
 -- the bytes that are stored: none without a key

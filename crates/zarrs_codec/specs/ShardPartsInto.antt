@@ -1,19 +1,19 @@
 -- What a read of a part of a shard into a target has there after some of its subchunks.
 use Rattle.std.specs.Prelude.{◌≡◌, ◌+◌, ◌-◌, ℕ, Bool, true, Option, None, Some, List, ◌∷◌, [], ◌++◌}
-use Rattle.zarrs_array_bytes.specs.ArrayData.{ArrayData}
-use Rattle.zarrs_array_bytes.specs.Cells.{cell_at}
+use Rattle.zarrs_data_type.specs.ArrayData.{ArrayData}
+use Rattle.zarrs_data_type.specs.Cells.{cell_at}
 use Rattle.zarrs_codec_leaf.specs.declared.error.CodecError.TheVariants as codec
-use Rattle.zarrs_shard.specs.declared.shard_index.SubchunkRange.{SubchunkRange}
-use Rattle.zarrs_shard.specs.Subchunks.{quotients}
-use Rattle.zarrs_source.specs.declared.source.Window.{Window}
+use Rattle.zarrs_codec_shard.specs.declared.shard_index.SubchunkRange.{SubchunkRange}
+use Rattle.zarrs_codec_shard.specs.Subchunks.{quotients}
+use Rattle.zarrs_codec_leaf.specs.declared.source.Window.{Window}
 use Rattle.zarrs_subset.specs.Regions.{Box, Holds, place_in}
-use Rattle.zarrs_types.specs.Cell.{Cell, is_value}
-use Rattle.zarrs_types.specs.Kind.{Kind}
-use Rattle.zarrs_parts.specs.declared.error.PartError.{PartError}
-use Rattle.zarrs_parts.specs.declared.error.PartError.TheVariants.{Codec}
-use Rattle.zarrs_parts.specs.Parts.{DecodesPartAt, place_at}
-use Rattle.zarrs_parts.specs.Refusals.{RefusesPartDecoding}
-use Rattle.zarrs_parts.specs.ShardParts.{IsPartCell, is_among}
+use Rattle.zarrs_data_type.specs.Cell.{Cell, is_value}
+use Rattle.zarrs_data_type.specs.Kind.{Kind}
+use Rattle.zarrs_codec_chain.specs.declared.error.PartError.{PartError}
+use Rattle.zarrs_codec_chain.specs.declared.error.PartError.TheVariants.{Codec}
+use Rattle.zarrs_codec_chain.specs.Parts.{DecodesPartAt, place_at}
+use Rattle.zarrs_codec_chain.specs.PartRefusals.{RefusesPartDecoding}
+use Rattle.zarrs_codec_chain.specs.ShardParts.{IsPartCell, is_among}
 
 -- the window of a range of a window
 abbrev pub range_window : Window → SubchunkRange → Window

@@ -1,13 +1,13 @@
 -- The cells of one subchunk in a read of a part of a shard.
 use Rattle.std.specs.Prelude.{◌≡◌, ℕ, false, List, length, Option, Some}
-use Rattle.zarrs_array_bytes.specs.ArrayData.{ArrayData}
-use Rattle.zarrs_array_bytes.specs.Cells.{cells}
-use Rattle.zarrs_parts.specs.ShardParts.{IsPartCell, ReadsSubchunk}
-use Rattle.zarrs_shard.specs.Subchunks.{quotients}
+use Rattle.zarrs_data_type.specs.ArrayData.{ArrayData}
+use Rattle.zarrs_data_type.specs.Cells.{cells}
+use Rattle.zarrs_codec_chain.specs.ShardParts.{IsPartCell, ReadsSubchunk}
+use Rattle.zarrs_codec_shard.specs.Subchunks.{quotients}
 use Rattle.zarrs_subset.specs.Boxes.{position_count}
 use Rattle.zarrs_subset.specs.Regions.{Box, Holds, cell_in, in_box}
-use Rattle.zarrs_types.specs.Cell.{Cell}
-use Rattle.zarrs_types.specs.Kind.{Kind}
+use Rattle.zarrs_data_type.specs.Cell.{Cell}
+use Rattle.zarrs_data_type.specs.Kind.{Kind}
 
 -- the box has the positions of the part that lie in the subchunk with these indices, and the data is one cell for each
 -- of them: the one that the subchunk has there

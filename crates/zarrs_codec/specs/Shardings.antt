@@ -2,23 +2,23 @@
 use Rattle.std.specs.Prelude.{◌≡◌, ℕ, ◌*◌, ◌≤◌, ◌^◌, Bool, true, false, not}
 use Rattle.std.specs.Prelude.{Option, None, Some, List, [], ◌∷◌, ◌++◌, length, map, take, is_some, unwrap_or, ◌&&◌}
 use Rattle.std.specs.List.{list_all, list_any}
-use Rattle.zarrs_types.specs.Kind.{Kind}
-use Rattle.zarrs_types.specs.Cell.{Cell, held_size}
-use Rattle.zarrs_array_bytes.specs.ArrayData.{ArrayData, fixed}
-use Rattle.zarrs_array_bytes.specs.Cells.{cells, HasCells}
+use Rattle.zarrs_data_type.specs.Kind.{Kind}
+use Rattle.zarrs_data_type.specs.Cell.{Cell, held_size}
+use Rattle.zarrs_data_type.specs.ArrayData.{ArrayData, fixed}
+use Rattle.zarrs_data_type.specs.Cells.{cells, HasCells}
 use Rattle.zarrs_codec_leaf.specs.declared.error.CodecError.{CodecError}
 use Rattle.zarrs_codec_leaf.specs.declared.error.CodecError.TheVariants as error
-use Rattle.zarrs_shard.specs.PartialShards.{sharded_partly}
-use Rattle.zarrs_shard.specs.Steps.{given_if, all_present}
-use Rattle.zarrs_shard.specs.ShardIndex.{IsWriting, PushesPart}
-use Rattle.zarrs_shard.specs.declared.shard_index.ShardWriter.{ShardWriter}
-use Rattle.zarrs_shard.specs.Sharded.{SubchunkMeaning, part_of, part_leaves_out, first_parts, cells_of_part, cells_of_parts}
-use Rattle.zarrs_shard.specs.Sharded.{sharded_fits, sharded_encoded, sharded_decoded, sharded_compacted, sharded_leaves_out}
-use Rattle.zarrs_shard.specs.SubchunkData.{HasSubchunks}
-use Rattle.zarrs_shard.specs.Subchunks.{is_cut_by}
+use Rattle.zarrs_codec_shard.specs.PartialShards.{sharded_partly}
+use Rattle.zarrs_codec_shard.specs.Steps.{given_if, all_present}
+use Rattle.zarrs_codec_shard.specs.ShardIndex.{IsWriting, PushesPart}
+use Rattle.zarrs_codec_shard.specs.declared.shard_index.ShardWriter.{ShardWriter}
+use Rattle.zarrs_codec_shard.specs.Sharded.{SubchunkMeaning, part_of, part_leaves_out, first_parts, cells_of_part, cells_of_parts}
+use Rattle.zarrs_codec_shard.specs.Sharded.{sharded_fits, sharded_encoded, sharded_decoded, sharded_compacted, sharded_leaves_out}
+use Rattle.zarrs_codec_shard.specs.SubchunkData.{HasSubchunks}
+use Rattle.zarrs_codec_shard.specs.Subchunks.{is_cut_by}
 use Rattle.zarrs_subset.specs.Boxes.{position_count}
-use Rattle.zarrs_parts.specs.Places.{shard_places}
-use Rattle.zarrs_chain.specs.Chain.{ChainMeaning}
+use Rattle.zarrs_codec_chain.specs.Places.{shard_places}
+use Rattle.zarrs_codec_chain.specs.Chain.{ChainMeaning}
 
 -- what a chain means to subchunks of one shape
 abbrev pub subchunk_meaning : ChainMeaning → (store_empty : Bool) → Kind → (fill : Cell) (sub : List ℕ) → SubchunkMeaning

@@ -1,15 +1,15 @@
 -- Chains behind codecs that make an array of an array.
 use Rattle.std.proofs.Common.{◌≡◌, ℕ, Bool, true, false, ◌&&◌, List, length, Option, None, Some, refl, sym, ap, ◌∙◌}
-use Rattle.zarrs_types.specs.Kind.{Kind}
-use Rattle.zarrs_types.specs.Cell.{Cell, are_values, is_value}
+use Rattle.zarrs_data_type.specs.Kind.{Kind}
+use Rattle.zarrs_data_type.specs.Cell.{Cell, are_values, is_value}
 use Rattle.zarrs_subset.specs.Boxes.{position_count}
 use Rattle.zarrs_codec_array.specs.Arrays.{ArrayMeaning, IsLawfulArray}
 use Rattle.std.specs.Prelude.{option_and_then, if◌then◌else◌}
-use Rattle.zarrs_parts.specs.Places.{all_places, all_places-inside, places_behind}
-use Rattle.zarrs_shard.specs.Steps.{given_if}
-use Rattle.zarrs_shard.proofs.Missing.{bind_parts, given_if-parts, given_if-true}
-use Rattle.zarrs_chain.specs.Chain.{ChainMeaning, IsLawfulChain}
-use Rattle.zarrs_array_bytes.proofs.FixedSizes.{some_is}
+use Rattle.zarrs_codec_chain.specs.Places.{all_places, all_places-inside, places_behind}
+use Rattle.zarrs_codec_shard.specs.Steps.{given_if}
+use Rattle.zarrs_codec_shard.proofs.Missing.{bind_parts, given_if-parts, given_if-true}
+use Rattle.zarrs_codec_chain.specs.Chain.{ChainMeaning, IsLawfulChain}
+use Rattle.zarrs_data_type_bytes.proofs.FixedSizes.{some_is}
 
 -- the chain `m` behind codecs that make an array of an array
 abbrev pub through : ArrayMeaning → ChainMeaning → ChainMeaning

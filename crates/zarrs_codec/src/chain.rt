@@ -6,24 +6,21 @@ ghost use Rattle.zarrs_data_type.specs.ArrayData.{data_of};
 ghost use Rattle.zarrs_data_type.specs.Cell.{fill_of};
 ghost use Rattle.zarrs_data_type.specs.Cells.{cells, HasCells};
 ghost use Rattle.zarrs_codec_array.specs.ArrayCodecs.{arrays_meaning};
-ghost use Rattle.zarrs_chain.specs.Chain.{chunk_encoding};
+ghost use Rattle.zarrs_codec_chain.specs.Chain.{chunk_encoding};
 ghost use Rattle.zarrs_codec.specs.Chains.{array_to_array_of, array_to_bytes_of, bytes_to_bytes_of};
 ghost use Rattle.zarrs_codec.specs.Chains.{behind, codec_meaning, chain_meaning, cells_chain_meaning};
 ghost use Rattle.zarrs_codec.specs.ChainLaws.{chain-lawful};
-ghost use Rattle.zarrs_chain.specs.Refusals.{RefusesChunkEncoding, RefusesChunkDecoding};
-ghost use Rattle.zarrs_chain.specs.Options.{stores_empty_chunks};
+ghost use Rattle.zarrs_codec_chain.specs.Refusals.{RefusesChunkEncoding, RefusesChunkDecoding};
+ghost use Rattle.zarrs_codec_chain.specs.Options.{stores_empty_chunks};
 
 use crate::codec::ArrayToBytesCodec;
 use std::alloc::{AllocError, Global};
-use zarrs_chain::{ChainTraits, CodecOptions};
 use zarrs_codec_array::{ArrayToArrayCodec, decode_array, encode_array, encoded_shape};
-use zarrs_codec_leaf::{CodecError, Misfit};
-use zarrs_data_type::{ArrayBytes, DataType, FillValue};
-use zarrs_parts::PartError;
-use zarrs_shard::PartialWrite;
-use zarrs_source::{ByteSource, Window};
+use zarrs_codec_chain::{ChainTraits, CodecOptions, PartError};
+use zarrs_codec_leaf::{ByteSource, CodecError, Misfit, Window};
+use zarrs_codec_shard::PartialWrite;
+use zarrs_data_type::{ArrayBytes, ArrayBytesDecodeIntoTarget, DataType, FillValue};
 use zarrs_subset::{ArraySubset, element_count};
-use zarrs_target::ArrayBytesDecodeIntoTarget;
 
 /// The codecs that make bytes of bytes: there is none.
 #[derive(Clone, Copy, Debug, Drop, PartialEq, Eq)]

@@ -1,7 +1,7 @@
 //! Chunks without what no cell needs.
 ghost use Rattle.std.specs.Prelude.{◌≡◌, Some, IfOk, IfErr, option_map};
 ghost use Rattle.zarrs_codec.specs.Chains.{chain_meaning, sharding_meaning};
-ghost use Rattle.zarrs_chain.specs.Refusals.{RefusesCompaction};
+ghost use Rattle.zarrs_codec_chain.specs.Refusals.{RefusesCompaction};
 
 use crate::chain::CodecChain;
 use crate::codec::ArrayToBytesCodec;
@@ -9,7 +9,7 @@ use crate::sharding::ShardingCodec;
 use std::alloc::Global;
 use zarrs_codec_array::encoded_shape;
 use zarrs_codec_leaf::{CodecError, Misfit};
-use zarrs_shard::{CompactError, Subchunks, compact_shard};
+use zarrs_codec_shard::{CompactError, Subchunks, compact_shard};
 
 impl CodecChain {
     /// The bytes of the same cells without what no cell needs, or `None` if those are the same bytes.

@@ -7,14 +7,14 @@ ghost use Rattle.zarrs_data_type.specs.Kind.{kind, cell_size, element_size};
 ghost use Rattle.zarrs_data_type.specs.Cell.{Cell, fill_cell, fill_of};
 ghost use Rattle.zarrs_data_type.specs.ArrayData.{data_of, fixed};
 ghost use Rattle.zarrs_data_type.specs.Cells.{cells, HasCells};
-ghost use Rattle.zarrs_region_cells.specs.RegionData.{region_data};
-ghost use Rattle.zarrs_shard.specs.ShardIndex.{range_part, IsRangeWithin};
-ghost use Rattle.zarrs_shard.specs.SubchunkData.{chunk_shape, subchunk_shape, PutsSubchunk};
-ghost use Rattle.zarrs_shard.specs.Subchunks.{subchunk_count};
+ghost use Rattle.zarrs_data_type.specs.RegionData.{region_data};
+ghost use Rattle.zarrs_codec_shard.specs.ShardIndex.{range_part, IsRangeWithin};
+ghost use Rattle.zarrs_codec_shard.specs.SubchunkData.{chunk_shape, subchunk_shape, PutsSubchunk};
+ghost use Rattle.zarrs_codec_shard.specs.Subchunks.{subchunk_count};
 ghost use Rattle.zarrs_codec.specs.Chains.{behind, chain_meaning, inner_chain_of, sharding_meaning};
 ghost use Rattle.zarrs_codec.specs.Shardings.{decoded_parts, PutsPart, RefusesCells};
 ghost use Rattle.zarrs_codec.specs.Shardings.{CopiesParts, ReadsCells, RefusesCopies, RefusesCopy};
-ghost use Rattle.zarrs_chain.specs.Refusals.{RefusesChunkDecoding};
+ghost use Rattle.zarrs_codec_chain.specs.Refusals.{RefusesChunkDecoding};
 
 use crate::chain::CodecChain;
 use crate::codec::ArrayToBytesCodec;
@@ -22,9 +22,8 @@ use crate::sharding::ShardingCodec;
 use std::alloc::Global;
 use zarrs_codec_array::{ArrayToArrayCodec, decode_array, encoded_shape};
 use zarrs_codec_leaf::{CodecError, Misfit};
-use zarrs_data_type::{ArrayBytes, DataType, FillValue};
-use zarrs_region_cells::RegionCells;
-use zarrs_shard::{SubchunkRange, Subchunks, read_index};
+use zarrs_codec_shard::{SubchunkRange, Subchunks, read_index};
+use zarrs_data_type::{ArrayBytes, DataType, FillValue, RegionCells};
 use zarrs_subset::element_count;
 
 impl CodecChain {

@@ -2,29 +2,27 @@
 ghost use Rattle.std.specs.Prelude.{◌≡◌, true, IfErr, IsSome, OnOk, length};
 ghost use Rattle.zarrs_data_type.specs.Cell.{fill_cell, fill_of};
 ghost use Rattle.zarrs_data_type.specs.Kind.{kind};
-ghost use Rattle.zarrs_shard.specs.ShardIndex.{range_part, IsRangeWithin};
-ghost use Rattle.zarrs_shard.specs.Sharded.{SubchunkMeaning, sharded_decoded};
-ghost use Rattle.zarrs_subset.specs.Regions.{box_of};
-ghost use Rattle.zarrs_target.specs.States.{IsTarget, SameBox, StaysOutside, data_of_target};
-ghost use Rattle.zarrs_target.specs.States.{parent_box, target_box};
-ghost use Rattle.zarrs_target.specs.Targets.{takes_type, KeepsOutside};
-ghost use Rattle.zarrs_byte_strings.specs.StringParts.{LiesInBox};
-ghost use Rattle.zarrs_parts.specs.Parts.{DecodesInto};
-ghost use Rattle.zarrs_parts.specs.Refusals.{RefusesIntoDecoding};
-ghost use Rattle.zarrs_parts.specs.ShardInto.{DecodesPartInto, RefusesIntoStep};
-ghost use Rattle.zarrs_parts.specs.ShardParts.{DecodesAs};
+ghost use Rattle.zarrs_codec_shard.specs.ShardIndex.{range_part, IsRangeWithin};
+ghost use Rattle.zarrs_codec_shard.specs.Sharded.{SubchunkMeaning, sharded_decoded};
+ghost use Rattle.zarrs_subset.specs.Regions.{box_of, LiesInBox};
+ghost use Rattle.zarrs_data_type.specs.States.{IsTarget, SameBox, StaysOutside, data_of_target};
+ghost use Rattle.zarrs_data_type.specs.States.{parent_box, target_box};
+ghost use Rattle.zarrs_data_type.specs.Targets.{takes_type, KeepsOutside};
+ghost use Rattle.zarrs_codec_chain.specs.Parts.{DecodesInto};
+ghost use Rattle.zarrs_codec_chain.specs.PartRefusals.{RefusesIntoDecoding};
+ghost use Rattle.zarrs_codec_chain.specs.ShardInto.{DecodesPartInto, RefusesIntoStep};
+ghost use Rattle.zarrs_codec_chain.specs.ShardParts.{DecodesAs};
 ghost use Rattle.zarrs_codec.specs.Chains.{chain_meaning, inner_chain_of, sharding_meaning};
 
 use crate::chain::CodecChain;
 use crate::codec::ArrayToBytesCodec;
 use crate::sharding::ShardingCodec;
 use std::alloc::Global;
+use zarrs_codec_chain::{decode_bytes_into, shifted_to, write_whole};
 use zarrs_codec_leaf::{CodecError, Misfit};
-use zarrs_data_type::{DataType, FillValue};
-use zarrs_parts::{decode_bytes_into, shifted_to, write_whole};
-use zarrs_shard::{SubchunkRange, Subchunks, read_index};
+use zarrs_codec_shard::{SubchunkRange, Subchunks, read_index};
+use zarrs_data_type::{ArrayBytesDecodeIntoTarget, DataType, FillValue, copy_fill_value_into};
 use zarrs_subset::ArraySubset;
-use zarrs_target::{ArrayBytesDecodeIntoTarget, copy_fill_value_into};
 
 impl CodecChain {
     /// Decodes a chunk, which has the shape of the target's box, into the box. Every byte outside the box stays; after a

@@ -5,26 +5,25 @@ ghost use Rattle.zarrs_data_type.specs.Kind.{kind};
 ghost use Rattle.zarrs_data_type.specs.Cell.{fill_cell, fill_of};
 ghost use Rattle.zarrs_data_type.specs.ArrayData.{data_of};
 ghost use Rattle.zarrs_data_type.specs.Cells.{HasCells};
-ghost use Rattle.zarrs_shard.specs.Sharded.{part_of, sharded_encoded};
-ghost use Rattle.zarrs_shard.specs.SubchunkData.{chunk_shape, subchunk_shape};
-ghost use Rattle.zarrs_shard.specs.Subchunks.{subchunk_at, subchunk_count};
-ghost use Rattle.zarrs_chain.specs.Chain.{chunk_encoding};
+ghost use Rattle.zarrs_codec_shard.specs.Sharded.{part_of, sharded_encoded};
+ghost use Rattle.zarrs_codec_shard.specs.SubchunkData.{chunk_shape, subchunk_shape};
+ghost use Rattle.zarrs_codec_shard.specs.Subchunks.{subchunk_at, subchunk_count};
+ghost use Rattle.zarrs_codec_chain.specs.Chain.{chunk_encoding};
 ghost use Rattle.zarrs_codec.specs.Chains.{behind, chain_meaning, inner_chain_of, is_at_start};
 ghost use Rattle.zarrs_codec.specs.Chains.{keeps_cells, location_of, sharding_meaning};
-ghost use Rattle.zarrs_codec.specs.Shardings.{cells_of, subchunk_meaning};
-ghost use Rattle.zarrs_codec.specs.Shardings.{PushesCells, RefusesPart, RefusesParts};
-ghost use Rattle.zarrs_chain.specs.Refusals.{RefusesChunkEncoding};
-ghost use Rattle.zarrs_chain.specs.Options.{stores_empty_chunks};
+ghost use Rattle.zarrs_codec.specs.Shardings.{cells_of, subchunk_meaning, PushesCells, RefusesPart, RefusesParts};
+ghost use Rattle.zarrs_codec_chain.specs.Refusals.{RefusesChunkEncoding};
+ghost use Rattle.zarrs_codec_chain.specs.Options.{stores_empty_chunks};
 
 use crate::chain::CodecChain;
 use crate::codec::ArrayToBytesCodec;
 use crate::sharding::ShardingCodec;
 use std::alloc::Global;
-use zarrs_chain::CodecOptions;
 use zarrs_codec_array::{ArrayToArrayCodec, encode_array, encoded_shape};
+use zarrs_codec_chain::CodecOptions;
 use zarrs_codec_leaf::{CodecError, Endianness, Misfit};
+use zarrs_codec_shard::{ShardWriter, Subchunks};
 use zarrs_data_type::{ArrayBytes, DataType, FillValue};
-use zarrs_shard::{ShardWriter, Subchunks};
 
 impl CodecChain {
     /// Whether the bytes of a chunk are its cells as they stand in memory.

@@ -1,9 +1,9 @@
 //! Laws of the metadata of codecs, as contracts of functions that do nothing.
 ghost use Rattle.std.specs.Prelude.{◌≡◌, codes, if◌then◌else◌, option_and_then, option_map};
 ghost use Rattle.std.specs.Str.{bytes_eq};
-ghost use Rattle.zarrs_metadata.specs.Extension.{ExtensionData, settings};
-ghost use Rattle.zarrs_codec_cells.specs.Metadata.{cells_codec_said};
-ghost use Rattle.zarrs_codec_cells.specs.ShardingMetadata.{sharding_data};
+ghost use Rattle.zarrs_metadata_parts.specs.Extension.{ExtensionData, settings};
+ghost use Rattle.zarrs_codec_optional.specs.Metadata.{cells_codec_said};
+ghost use Rattle.zarrs_codec_optional.specs.ShardingMetadata.{sharding_data};
 ghost use Rattle.zarrs_codec.specs.Metadata.{bytes_codec_said, chain_said, sharding_with};
 ghost use Rattle.zarrs_codec.specs.Configurations.{cells};
 

@@ -1,4 +1,13 @@
-//! Codec chains: the cells of a chunk to bytes and back.
+//! The face of the crates of codecs: every codec, the shards, and the chains that are made of them.
+//!
+//! The layers above use `CodecChain`, `ArrayToBytesCodec`, `ShardingCodec` and `ShardingCodecBuilder`, and find here
+//! what the crates below show: `ChainTraits`, `CodecOptions`, `CodecError` and each codec.
+//!
+//! `CodecChain` implements `ChainTraits`: its ghost member `meaning` is `chain_meaning` of `specs/Chains.antt`, and
+//! `specs/ChainLaws.antt` has its law. It is the meaning of its configuration (`chain_data`), by `meaning_of_chain`
+//! of `specs/Configurations.antt`. `chain_said` of `specs/Metadata.antt` is the chain that metadata says.
+//! `specs/Shardings.antt` has chains of shards (`sharded`), and `specs/Through.antt` chains behind codecs that make
+//! an array of an array.
 #![tactic(auto)]
 
 mod chain;
@@ -21,16 +30,16 @@ pub use codec::ArrayToBytesCodec;
 pub use metadata::default_array_to_bytes_codec;
 pub use sharding::{ShardingCodec, ShardingIndexLocation};
 pub use sharding_builder::ShardingCodecBuilder;
-pub use zarrs_chain::{
-    ChainTraits, CodecMetadataOptions, CodecOptions, CodecSpecificOptions, ShardingCodecOptions,
-    SubchunkWriteOrder,
-};
 pub use zarrs_codec_array::{
     ArrayToArrayCodec, ReshapeCodec, ReshapeExtent, SqueezeCodec, TransposeCodec,
 };
-pub use zarrs_codec_cells::{CellsCodec, MaskCodec, OptionalCodec};
-pub use zarrs_codec_leaf::{
-    BytesCodec, CodecError, Endianness, LeafCodec, Misfit, PackBitsCodec, VlenBytesCodec,
-    VlenCodec, VlenUtf8Codec,
+pub use zarrs_codec_chain::{
+    ChainTraits, CodecMetadataOptions, CodecOptions, CodecSpecificOptions, ShardingCodecOptions,
+    SubchunkWriteOrder,
 };
-pub use zarrs_shard::PartialWrite;
+pub use zarrs_codec_leaf::{
+    ByteSource, BytesCodec, CodecError, Endianness, LeafCodec, Misfit, PackBitsCodec, SliceSource,
+    SourceBytes, StoredValue, VlenBytesCodec, VlenCodec, VlenUtf8Codec, Window,
+};
+pub use zarrs_codec_optional::{CellsCodec, MaskCodec, OptionalCodec, codec_of, named};
+pub use zarrs_codec_shard::PartialWrite;

@@ -1,31 +1,31 @@
 //! The metadata of chains of codecs, both ways.
 ghost use Rattle.std.specs.Prelude.{◌≡◌, Some, codes, map, option_map, IfOk, IfErr};
 ghost use Rattle.std.specs.Str.{bytes_eq};
-ghost use Rattle.zarrs_metadata.specs.Extension.{extension_view, settings};
-ghost use Rattle.zarrs_metadata.specs.Refusals.{RefusesMeaning};
+ghost use Rattle.zarrs_metadata_parts.specs.Extension.{extension_view, settings};
+ghost use Rattle.zarrs_metadata_parts.specs.Refusals.{RefusesMeaning};
 ghost use Rattle.zarrs_data_type.specs.Kind.{kind};
 ghost use Rattle.zarrs_codec_array.specs.Metadata.{extension_of_array_codec};
 ghost use Rattle.zarrs_codec_array.specs.ArrayCodecs.{array_codec_data};
-ghost use Rattle.zarrs_codec_cells.specs.Metadata.{cells_codec_said};
-ghost use Rattle.zarrs_codec_cells.specs.CellsCodecs.{cells_codec_data};
+ghost use Rattle.zarrs_codec_optional.specs.Metadata.{cells_codec_said};
+ghost use Rattle.zarrs_codec_optional.specs.CellsCodecs.{cells_codec_data};
 ghost use Rattle.zarrs_codec.specs.Chains.{bytes_codec_data, chain_data, sharding_data_of};
 ghost use Rattle.zarrs_codec.specs.Configurations.{cells};
 ghost use Rattle.zarrs_codec.specs.Metadata.{array_codecs_said, bytes_codec_said, chain_of_parts, chain_said};
 ghost use Rattle.zarrs_codec.specs.Metadata.{default_codec, sharding_with};
 ghost use Rattle.zarrs_codec.specs.Metadata.{extension_of_bytes_codec, extensions_of_chain};
-ghost use Rattle.zarrs_codec_cells.specs.ShardingViews.{sharding_view};
+ghost use Rattle.zarrs_codec_optional.specs.ShardingViews.{sharding_view};
 
 use crate::chain::{BytesToBytesCodecs, CodecChain};
 use crate::codec::ArrayToBytesCodec;
 use crate::sharding::{ShardingCodec, ShardingIndexLocation};
 use std::alloc::{AllocError, Global};
 use zarrs_codec_array::ArrayToArrayCodec;
-use zarrs_codec_cells::{
+use zarrs_codec_optional::{
     CellsCodec, ShardingParts, codec_of, default_cells_codec, named, sharding_metadata,
     sharding_parts,
 };
 use zarrs_data_type::DataType;
-use zarrs_metadata::{MetadataV3, PluginCreateError};
+use zarrs_metadata_parts::{MetadataV3, PluginCreateError};
 
 impl From<CellsCodec> for ArrayToBytesCodec {
     ghost from_gives = { λ codec made. bytes_codec_data made ≡ cells (cells_codec_data codec) };

@@ -6,15 +6,15 @@ ghost use Rattle.zarrs_data_type.specs.Kind.{kind, cell_size};
 ghost use Rattle.zarrs_data_type.specs.Cell.{fill_cell, fill_of, held_size};
 ghost use Rattle.zarrs_data_type.specs.ArrayData.{data_of};
 ghost use Rattle.zarrs_data_type.specs.Cells.{HasCells};
-ghost use Rattle.zarrs_region_cells.specs.RegionData.{region_data};
-ghost use Rattle.zarrs_shard.specs.ShardIndex.{range_part};
-ghost use Rattle.zarrs_source.specs.Sources.{IsWindow, MayRead, window_bytes};
-ghost use Rattle.zarrs_parts.specs.Parts.{DecodesPart};
-ghost use Rattle.zarrs_parts.specs.Places.{all_places, shard_places};
-ghost use Rattle.zarrs_parts.specs.Refusals.{RefusesPartDecoding};
-ghost use Rattle.zarrs_parts.specs.ShardParts.{DecodesAs, HasAllParts, IsShard, MeetsPart, ReadsSubchunk};
-ghost use Rattle.zarrs_parts.specs.ShardParts.{RefusesStep};
-ghost use Rattle.zarrs_shard.specs.Sharded.{SubchunkMeaning, sharded_decoded, sharded_leaves_out};
+ghost use Rattle.zarrs_data_type.specs.RegionData.{region_data};
+ghost use Rattle.zarrs_codec_shard.specs.ShardIndex.{range_part};
+ghost use Rattle.zarrs_codec_leaf.specs.Sources.{IsWindow, MayRead, window_bytes};
+ghost use Rattle.zarrs_codec_chain.specs.Parts.{DecodesPart};
+ghost use Rattle.zarrs_codec_chain.specs.Places.{all_places, shard_places};
+ghost use Rattle.zarrs_codec_chain.specs.PartRefusals.{RefusesPartDecoding};
+ghost use Rattle.zarrs_codec_chain.specs.ShardParts.{DecodesAs, HasAllParts, IsShard, MeetsPart, ReadsSubchunk};
+ghost use Rattle.zarrs_codec_chain.specs.ShardParts.{RefusesStep};
+ghost use Rattle.zarrs_codec_shard.specs.Sharded.{SubchunkMeaning, sharded_decoded, sharded_leaves_out};
 ghost use Rattle.zarrs_codec.specs.Chains.{chain_meaning, inner_chain_of, sharding_meaning};
 ghost use Rattle.zarrs_codec.specs.ShardPieces.{HasNoPiece, HasPiece};
 
@@ -22,14 +22,12 @@ use crate::chain::CodecChain;
 use crate::codec::ArrayToBytesCodec;
 use crate::sharding::ShardingCodec;
 use std::alloc::Global;
-use zarrs_codec_leaf::{CodecError, Misfit};
-use zarrs_data_type::{ArrayBytes, DataType, FillValue};
-use zarrs_parts::{
+use zarrs_codec_chain::{
     PartError, ShardIndex, common_part, met_subchunks, open_shard, part_of_whole,
     partial_decode_bytes, seen_from_corner,
 };
-use zarrs_region_cells::RegionCells;
-use zarrs_source::{ByteSource, Window};
+use zarrs_codec_leaf::{ByteSource, CodecError, Misfit, Window};
+use zarrs_data_type::{ArrayBytes, DataType, FillValue, RegionCells};
 use zarrs_subset::{ArraySubset, ravel_indices};
 
 impl CodecChain {

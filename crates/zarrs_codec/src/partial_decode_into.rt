@@ -2,20 +2,19 @@
 ghost use Rattle.std.specs.Prelude.{◌≡◌, ◌+◌, ◌*◌, ◌<◌, ◌^◌, true, IfErr, IfSome, IsSome, OnOk};
 ghost use Rattle.std.specs.Prelude.{map, option_map};
 ghost use Rattle.zarrs_subset.specs.Boxes.{position_count};
-ghost use Rattle.zarrs_subset.specs.Regions.{LiesInShape, box_of};
+ghost use Rattle.zarrs_subset.specs.Regions.{LiesInShape, box_of, LiesInBox};
 ghost use Rattle.zarrs_data_type.specs.Kind.{kind, cell_size};
 ghost use Rattle.zarrs_data_type.specs.Cell.{fill_cell, fill_of, held_size};
-ghost use Rattle.zarrs_byte_strings.specs.StringParts.{LiesInBox};
-ghost use Rattle.zarrs_shard.specs.ShardIndex.{range_part, IsRangeWithin};
-ghost use Rattle.zarrs_shard.specs.Sharded.{SubchunkMeaning, sharded_decoded, sharded_leaves_out};
-ghost use Rattle.zarrs_source.specs.Sources.{IsWindow, MayRead, window_bytes};
-ghost use Rattle.zarrs_target.specs.States.{IsTarget, SameBox, StaysOutside, data_of_target};
-ghost use Rattle.zarrs_target.specs.States.{parent_box, target_box};
-ghost use Rattle.zarrs_target.specs.Targets.{takes_type, KeepsOutside};
-ghost use Rattle.zarrs_parts.specs.Parts.{DecodesPartAt};
-ghost use Rattle.zarrs_parts.specs.Places.{shard_places};
-ghost use Rattle.zarrs_parts.specs.Refusals.{RefusesPartDecoding};
-ghost use Rattle.zarrs_parts.specs.ShardParts.{DecodesAs, IsShard, RefusesStep};
+ghost use Rattle.zarrs_codec_shard.specs.ShardIndex.{range_part, IsRangeWithin};
+ghost use Rattle.zarrs_codec_shard.specs.Sharded.{SubchunkMeaning, sharded_decoded, sharded_leaves_out};
+ghost use Rattle.zarrs_codec_leaf.specs.Sources.{IsWindow, MayRead, window_bytes};
+ghost use Rattle.zarrs_data_type.specs.States.{IsTarget, SameBox, StaysOutside, data_of_target};
+ghost use Rattle.zarrs_data_type.specs.States.{parent_box, target_box};
+ghost use Rattle.zarrs_data_type.specs.Targets.{takes_type, KeepsOutside};
+ghost use Rattle.zarrs_codec_chain.specs.Parts.{DecodesPartAt};
+ghost use Rattle.zarrs_codec_chain.specs.Places.{shard_places};
+ghost use Rattle.zarrs_codec_chain.specs.PartRefusals.{RefusesPartDecoding};
+ghost use Rattle.zarrs_codec_chain.specs.ShardParts.{DecodesAs, IsShard, RefusesStep};
 ghost use Rattle.zarrs_codec.specs.Chains.{chain_meaning, inner_chain_of, sharding_meaning};
 ghost use Rattle.zarrs_codec.specs.ShardPartsInto.{DecodesPieceAt, HasAllPartsAt};
 ghost use Rattle.zarrs_codec.specs.ShardPartsInto.{ReadsSubchunkAt, RefusesPiece, range_window};
@@ -24,16 +23,14 @@ use crate::chain::CodecChain;
 use crate::codec::ArrayToBytesCodec;
 use crate::sharding::ShardingCodec;
 use std::alloc::Global;
-use zarrs_codec_leaf::{CodecError, Misfit};
-use zarrs_data_type::{DataType, FillValue};
-use zarrs_parts::{
+use zarrs_codec_chain::{
     PartError, ShardIndex, common_part, met_subchunks, open_shard, partial_decode_bytes_into,
     seen_from_corner, shifted_to,
 };
-use zarrs_shard::SubchunkRange;
-use zarrs_source::{ByteSource, Window};
+use zarrs_codec_leaf::{ByteSource, CodecError, Misfit, Window};
+use zarrs_codec_shard::SubchunkRange;
+use zarrs_data_type::{ArrayBytesDecodeIntoTarget, DataType, FillValue, copy_fill_value_into};
 use zarrs_subset::{ArraySubset, ravel_indices};
-use zarrs_target::{ArrayBytesDecodeIntoTarget, copy_fill_value_into};
 
 impl CodecChain {
     /// Decodes a part of a chunk, which has the shape of the target's box, into the box. The chunk's bytes are those of a

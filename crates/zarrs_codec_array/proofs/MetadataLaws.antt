@@ -5,14 +5,13 @@ use Rattle.std.proofs.lemmas.Bool.{ne_eqb}
 use Rattle.std.proofs.lemmas.Simd.{map-map}
 use Rattle.serde_json.specs.Data.{Data}
 use Rattle.serde_json.specs.View.{items_of}
-use Rattle.zarrs_metadata.specs.Lists.{all_of, list_of, list_data}
-use Rattle.zarrs_metadata.specs.Extension.{ExtensionData}
-use Rattle.zarrs_metadata.proofs.ListLemmas.{all_of-items_of, numbers_of-numbers_data}
+use Rattle.zarrs_metadata_parts.specs.Lists.{all_of, list_of, list_data}
+use Rattle.zarrs_metadata_parts.specs.Extension.{ExtensionData}
+use Rattle.zarrs_metadata_parts.proofs.ListLemmas.{all_of-items_of, numbers_of-numbers_data}
 use Rattle.zarrs_codec_array.specs.Arrays.{product_of}
 use Rattle.zarrs_codec_array.specs.Extents.{extent_view, extents_view}
-use Rattle.zarrs_codec_array.specs.Metadata.{extent_said, extent_data, transpose_of}
+use Rattle.zarrs_codec_array.specs.Metadata.{extent_said, extent_data, transpose_of, reshape_of, array_codec_said, with_one_member, extension_of_array_codec}
 use Rattle.zarrs_codec_array.specs.ArrayCodecs.{array_codec_data}
-use Rattle.zarrs_codec_array.specs.Metadata.{reshape_of, array_codec_said, with_one_member, extension_of_array_codec}
 use Rattle.zarrs_codec_array.specs.Reshape.{entries_of}
 use Rattle.zarrs_codec_array.specs.declared.array.ArrayToArrayCodec.{ArrayToArrayCodec}
 use Rattle.zarrs_codec_array.specs.declared.array.ArrayToArrayCodec.TheVariants as code

@@ -8,8 +8,7 @@ use Rattle.std.proofs.lemmas.List.{take_more, drop_more, take-append-drop}
 use Rattle.std.proofs.lemmas.List.Folds.{list_any-append}
 use Rattle.std.proofs.Math.Nat.{div-le_self}
 use Rattle.zarrs_subset.specs.Boxes.{position_count}
-use Rattle.zarrs_codec_array.specs.Arrays.{Extent, size, product_of, rest, named_extent, named_shape, extent_left}
-use Rattle.zarrs_codec_array.specs.Arrays.{reshape_shape, names_within, reshaped}
+use Rattle.zarrs_codec_array.specs.Arrays.{Extent, size, product_of, rest, named_extent, named_shape, extent_left, reshape_shape, names_within, reshaped}
 use Rattle.zarrs_codec_array.specs.Gathered.{encoded_shape}
 use Rattle.zarrs_codec_array.specs.Extents.{are_distinct, fitting_extent, fitting_shape}
 

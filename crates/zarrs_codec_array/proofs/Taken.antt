@@ -10,8 +10,8 @@ use Rattle.zarrs_data_type.specs.Kind.{Kind, element_size, is_variable, inner_of
 use Rattle.zarrs_data_type.specs.Cell.{Cell, bytes, none, some, is_value, are_values}
 use Rattle.zarrs_data_type.specs.ArrayData.{ArrayData, fixed, variable, optional}
 use Rattle.zarrs_data_type.specs.Cells.{fits, cell_at, cells}
-use Rattle.zarrs_data_type.proofs.Cells.{IsSized, cells-as, cells-parts, cells-values}
-use Rattle.zarrs_data_type.proofs.Filled.{cell_at-fixed}
+use Rattle.zarrs_data_type_bytes.proofs.Cells.{IsSized, cells-as, cells-parts, cells-values}
+use Rattle.zarrs_data_type_bytes.proofs.Filled.{cell_at-fixed}
 use Rattle.zarrs_subset.specs.Boxes.{position_count, InShape, place, unravel}
 use Rattle.zarrs_subset.proofs.Kernel.{place_below, piece_at-same, cell_ends}
 use Rattle.zarrs_subset.proofs.Positions.{unravel_in, place-unravel}

@@ -7,7 +7,7 @@ use Rattle.zarrs_data_type.specs.ArrayData.{ArrayData}
 use Rattle.zarrs_data_type.specs.Cell.{Cell, none}
 use Rattle.zarrs_data_type.specs.Cells.{cells, HasCells}
 use Rattle.zarrs_data_type.specs.Kind.{Kind}
-use Rattle.zarrs_data_type.proofs.Cells.{IsSized, HasCells-cells}
+use Rattle.zarrs_data_type_bytes.proofs.Cells.{IsSized, HasCells-cells}
 use Rattle.zarrs_subset.specs.Boxes.{position_count, InShape, place}
 use Rattle.zarrs_subset.proofs.Counts.{length-InShape}
 use Rattle.zarrs_subset.proofs.Kernel.{place_below}

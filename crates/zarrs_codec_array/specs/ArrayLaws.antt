@@ -5,14 +5,13 @@ use Rattle.std.specs.Prelude.{nat_lt}
 use Rattle.std.specs.List.{list_all}
 use Rattle.std.proofs.lemmas.Bool.{eqb-true, and_parts}
 use Rattle.std.proofs.lemmas.List.Sums.{AllPass-from_list_all}
-use Rattle.zarrs_types.specs.Cell.{Cell, none}
+use Rattle.zarrs_data_type.specs.Cell.{Cell, none}
 use Rattle.zarrs_subset.specs.Boxes.{position_count, InShape, place}
 use Rattle.zarrs_subset.specs.Rearranged.{made_of}
 use Rattle.zarrs_subset.proofs.Kernel.{place_below}
 use Rattle.zarrs_subset.proofs.RearrangedCells.{length-made_of, made_of-same, read_all, made_at, all-made_of}
 use Rattle.zarrs_codec_array.specs.Arrays.{ArrayMeaning, IsLawfulArray, same_array, and_then, rearranged, transposed}
-use Rattle.zarrs_codec_array.specs.Arrays.{keeping_cells, Extent, reshape_shape, names_within, reshaped, squeeze_shape}
-use Rattle.zarrs_codec_array.specs.Arrays.{squeezed}
+use Rattle.zarrs_codec_array.specs.Arrays.{keeping_cells, Extent, reshape_shape, names_within, reshaped, squeeze_shape, squeezed}
 use Rattle.zarrs_codec_array.specs.Orders.{is_order, permuted, inverse}
 use Rattle.zarrs_codec_array.specs.OrderLaws.{permuted_in, inverse_in, there_and_back, count-permuted}
 

@@ -2,7 +2,7 @@
 use Rattle.std.specs.Prelude.{◌≡◌, ℕ, ◌/◌, ◌^◌, Bool, true, List, [], ◌∷◌, length, map, slice_index, slice_index_or}
 use Rattle.std.specs.Prelude.{nat_lt, ◌==◌, ◌&&◌, if◌then◌else◌}
 use Rattle.std.specs.List.{list_all}
-use Rattle.zarrs_types.specs.Cell.{Cell, none}
+use Rattle.zarrs_data_type.specs.Cell.{Cell, none}
 use Rattle.zarrs_subset.specs.Boxes.{position_count, place}
 use Rattle.zarrs_subset.specs.Rearranged.{made_of}
 use Rattle.zarrs_codec_array.specs.Orders.{permuted, inverse}

@@ -2,10 +2,10 @@
 use Rattle.std.specs.Prelude.{◌≡◌, ℕ, ◌+◌, ◌*◌, ◌<◌, ◌≤◌, true, Option, None, Some, List, [], ◌∷◌, length, slice_index}
 use Rattle.std.specs.Prelude.{IfSome, if◌then◌else◌}
 use Rattle.std.specs.List.{flat_map, range_with_len}
-use Rattle.zarrs_array_bytes.specs.ArrayData.{ArrayData, data_of}
-use Rattle.zarrs_array_bytes.specs.Cells.{fits, cell_at, cells}
-use Rattle.zarrs_types.specs.Kind.{Kind}
-use Rattle.zarrs_array_bytes.specs.declared.array_bytes.ArrayBytes.{ArrayBytes}
+use Rattle.zarrs_data_type.specs.ArrayData.{ArrayData, data_of}
+use Rattle.zarrs_data_type.specs.Cells.{fits, cell_at, cells}
+use Rattle.zarrs_data_type.specs.Kind.{Kind}
+use Rattle.zarrs_data_type_bytes.specs.declared.array_bytes.ArrayBytes.{ArrayBytes}
 use Rattle.zarrs_subset.specs.Boxes.{position_count, InShape, place}
 use Rattle.zarrs_codec_array.specs.Arrays.{ArrayMeaning}
 use Rattle.zarrs_codec_array.specs.Orders.{dot_product, permuted, strides}

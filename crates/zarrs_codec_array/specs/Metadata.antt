@@ -6,9 +6,9 @@ use Rattle.std.specs.Ordering.{int_eq}
 use Rattle.std.specs.Str.{bytes_eq}
 use Rattle.serde_json.specs.Data.{Data, number, negative, Members, no_members, member}
 use Rattle.serde_json.specs.Find.{get_member, as_number, as_i64}
-use Rattle.zarrs_metadata.specs.Extension.{ExtensionData, settings, named}
-use Rattle.zarrs_metadata.specs.Lists.{list_of, list_data, number_of, number_data, numbers_of, numbers_data}
-use Rattle.zarrs_metadata.specs.Members.{has_only}
+use Rattle.zarrs_metadata_parts.specs.Extension.{ExtensionData, settings, named}
+use Rattle.zarrs_metadata_parts.specs.Lists.{list_of, list_data, number_of, number_data, numbers_of, numbers_data}
+use Rattle.zarrs_metadata_parts.specs.Members.{has_only}
 use Rattle.zarrs_codec_array.specs.Arrays.{Extent, size, product_of, rest}
 use Rattle.zarrs_codec_array.specs.Configurations.{ArrayCodecData, transpose, reshape, squeeze}
 use Rattle.zarrs_codec_array.specs.Extents.{is_reshape}

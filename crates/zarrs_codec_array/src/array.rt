@@ -5,10 +5,8 @@ ghost use Rattle.zarrs_subset.specs.Boxes.{position_count};
 ghost use Rattle.zarrs_data_type.specs.ArrayData.{ArrayData, data_of};
 ghost use Rattle.zarrs_data_type.specs.Cells.{cells, HasCells};
 ghost use Rattle.zarrs_data_type.specs.Kind.{kind};
-ghost use Rattle.zarrs_codec_array.specs.ArrayCodecs.{array_meaning, arrays_meaning, AreMadeShapes};
-ghost use Rattle.zarrs_codec_array.specs.ArrayCodecs.{array_codec_data};
-ghost use Rattle.zarrs_codec_array.specs.Gathered.{IsEncodedArray, IsDecodedArray, data_or};
-ghost use Rattle.zarrs_codec_array.specs.Gathered.{encoded_shape};
+ghost use Rattle.zarrs_codec_array.specs.ArrayCodecs.{array_meaning, arrays_meaning, AreMadeShapes, array_codec_data};
+ghost use Rattle.zarrs_codec_array.specs.Gathered.{IsEncodedArray, IsDecodedArray, data_or, encoded_shape};
 
 use crate::reshape::ReshapeCodec;
 use crate::squeeze::SqueezeCodec;

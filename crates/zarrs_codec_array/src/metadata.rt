@@ -4,9 +4,9 @@ ghost use Rattle.std.specs.Prelude.{if◌then◌else◌};
 ghost use Rattle.std.specs.Int.NonZero.{non_zero_u64_get};
 ghost use Rattle.serde_json.specs.View.{view, items_view};
 ghost use Rattle.serde_json.specs.Find.{as_number, as_i64};
-ghost use Rattle.zarrs_metadata.specs.Extension.{extension_view, settings};
-ghost use Rattle.zarrs_metadata.specs.Lists.{all_of, list_of, list_data, number_of};
-ghost use Rattle.zarrs_metadata.specs.Refusals.{RefusesMeaning};
+ghost use Rattle.zarrs_metadata_parts.specs.Extension.{extension_view, settings};
+ghost use Rattle.zarrs_metadata_parts.specs.Lists.{all_of, list_of, list_data, number_of};
+ghost use Rattle.zarrs_metadata_parts.specs.Refusals.{RefusesMeaning};
 ghost use Rattle.zarrs_codec_array.specs.Arrays.{size, rest};
 ghost use Rattle.zarrs_codec_array.specs.Extents.{extent_view, extents_view};
 ghost use Rattle.zarrs_codec_array.specs.Metadata.{only_member, extent_of_number, rest_of};
@@ -22,7 +22,7 @@ use crate::transpose::TransposeCodec;
 use serde_json::Value;
 use std::alloc::{AllocError, Global};
 use std::num::NonZeroU64;
-use zarrs_metadata::{MetadataV3, PluginCreateError, numbers, numbers_value};
+use zarrs_metadata_parts::{MetadataV3, PluginCreateError, numbers, numbers_value};
 
 impl ArrayToArrayCodec {
     /// Reads the codec that metadata says: `transpose` with its `order`, `reshape` (also `zarrs.reshape`) with its

@@ -7,8 +7,7 @@ ghost use Rattle.zarrs_subset.specs.Boxes.{position_count};
 ghost use Rattle.zarrs_codec_array.specs.Arrays.{reshaped};
 ghost use Rattle.zarrs_codec_array.specs.Gathered.{encoded_shape};
 ghost use Rattle.zarrs_codec_array.specs.Extents.{dimensions_in, is_rest, are_distinct, is_reshape};
-ghost use Rattle.zarrs_codec_array.specs.Extents.{extent_view, extents_view, fitting_extent};
-ghost use Rattle.zarrs_codec_array.specs.Extents.{fitting_shape};
+ghost use Rattle.zarrs_codec_array.specs.Extents.{extent_view, extents_view, fitting_extent, fitting_shape};
 
 use crate::lists;
 use std::alloc::{AllocError, Global};

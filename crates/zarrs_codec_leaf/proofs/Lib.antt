@@ -3,3 +3,7 @@ pub mod PackedData
 pub mod PackedWords
 pub mod StringData
 pub mod VlenData
+pub mod Ones
+pub mod RowReads
+pub mod Runs
+pub mod Gathered

@@ -16,9 +16,9 @@ use Rattle.zarrs_data_type.specs.Cell.{bytes, may_hold}
 use Rattle.zarrs_data_type.specs.ArrayData.{ArrayData, fixed}
 use Rattle.zarrs_data_type.specs.Cells.{cells, HasCells}
 use Rattle.zarrs_subset.specs.Pieces.{pieces}
-use Rattle.zarrs_data_type.proofs.Cells.{HasCells-IsSome}
-use Rattle.zarrs_data_type.proofs.Fixed.{cells-held, cells-of, length-fixed, whole_cells, HasCells-fixed}
-use Rattle.zarrs_data_type.proofs.Pieces.{pieces-one, pieces_more}
+use Rattle.zarrs_data_type_bytes.proofs.Cells.{HasCells-IsSome}
+use Rattle.zarrs_data_type_bytes.proofs.Fixed.{cells-held, cells-of, length-fixed, whole_cells, HasCells-fixed}
+use Rattle.zarrs_data_type_bytes.proofs.Pieces.{pieces-one, pieces_more}
 use Rattle.zarrs_codec_leaf.specs.Chosen.{map_same}
 use Rattle.zarrs_codec_leaf.specs.Leaf.{encoding_of}
 use Rattle.zarrs_codec_leaf.specs.PackBits.{is_bool, packed_byte, packed_len, packed, bits, flag_of, flag_cell, are_zero, packbits_meaning}

@@ -17,8 +17,8 @@ use Rattle.zarrs_data_type.specs.Kind as type
 use Rattle.zarrs_data_type.specs.Cell.{Cell, bytes, none, are_values, values_only}
 use Rattle.zarrs_data_type.specs.ArrayData.{ArrayData, fixed, variable, optional}
 use Rattle.zarrs_data_type.specs.Cells.{cells, cell_at, HasCells}
-use Rattle.zarrs_data_type.proofs.Filled.{fits-cells, fits-optional}
-use Rattle.zarrs_data_type.proofs.Fixed.{sized_cells}
+use Rattle.zarrs_data_type_bytes.proofs.Filled.{fits-cells, fits-optional}
+use Rattle.zarrs_data_type_bytes.proofs.Fixed.{sized_cells}
 use Rattle.zarrs_codec_leaf.specs.Bytes.{cell_bytes}
 use Rattle.zarrs_codec_leaf.specs.Chosen.{some_is, only_parts, map_same, chosen_size}
 use Rattle.zarrs_codec_leaf.specs.Leaf.{LeafMeaning, IsLawfulLeaf, encoding_of}

@@ -9,7 +9,7 @@ use Rattle.std.specs.Simd.{first_chunks}
 use Rattle.std.proofs.Math.Nat.{mul-div_cancel}
 use Rattle.std.proofs.lemmas.Bool.{false≢true, lt-ltb, leb-true, and_parts, and_from}
 use Rattle.std.proofs.lemmas.List.{length-drop, length-take-le}
-use Rattle.zarrs_array_bytes.specs.Offsets.{AreOffsets, AreCuts, byte_strings, joined, last_offset, offsets_of}
+use Rattle.zarrs_data_type.specs.Offsets.{AreOffsets, AreCuts, byte_strings, joined, last_offset, offsets_of}
 use Rattle.zarrs_codec_leaf.specs.Chosen.{some_is, only_parts}
 use Rattle.zarrs_codec_leaf.specs.Vlen.{are_cuts, cut, index_len, indexed, offsets_in, split_index, unindexed}
 use Rattle.zarrs_codec_leaf.specs.VlenLaws.{cuts-from_test, test-from_cuts, length-offsets_of}

@@ -11,3 +11,6 @@ pub mod Vlen
 pub mod VlenLaws
 pub mod VlenStrings
 pub mod VlenStringsLaws
+pub mod BoxReads
+pub mod Sources
+pub mod Stored

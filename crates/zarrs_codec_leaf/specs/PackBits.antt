@@ -3,9 +3,9 @@ use Rattle.std.specs.Prelude.{ℕ, ◌+◌, ◌*◌, ◌/◌, Bool, true, false,
 use Rattle.std.specs.Prelude.{drop, slice_index, ◌==◌, ◌&&◌, if◌then◌else◌}
 use Rattle.std.specs.List.{range_with_len, flat_map, list_all}
 use Rattle.std.specs.Int.{bit_at}
-use Rattle.zarrs_types.specs.Kind.{Kind}
-use Rattle.zarrs_types.specs.Kind as type
-use Rattle.zarrs_types.specs.Cell.{Cell, bytes}
+use Rattle.zarrs_data_type.specs.Kind.{Kind}
+use Rattle.zarrs_data_type.specs.Kind as type
+use Rattle.zarrs_data_type.specs.Cell.{Cell, bytes}
 use Rattle.zarrs_subset.specs.Pieces.{pieces}
 use Rattle.zarrs_codec_leaf.specs.Bytes.{cell_bytes}
 use Rattle.zarrs_codec_leaf.specs.Leaf.{LeafMeaning}

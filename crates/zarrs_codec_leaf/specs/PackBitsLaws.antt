@@ -15,14 +15,13 @@ use Rattle.std.proofs.lemmas.List.FromFn.{length-map-range_with_len, get_or-map-
 use Rattle.std.proofs.lemmas.List.Sums.{AllPass-from_list_all, list_all-from_AllPass}
 use Rattle.std.proofs.lemmas.Simd.{map-map}
 use Rattle.std.proofs.Math.Nat.{pow-succ', div-div-eq-div-mul, add-mul-div_left, add-mul-mod_self_left, div-add-mod'}
-use Rattle.zarrs_types.specs.Kind.{Kind}
-use Rattle.zarrs_types.specs.Kind as type
-use Rattle.zarrs_types.specs.Cell.{Cell, bytes, none, some, is_value, are_values}
+use Rattle.zarrs_data_type.specs.Kind.{Kind}
+use Rattle.zarrs_data_type.specs.Kind as type
+use Rattle.zarrs_data_type.specs.Cell.{Cell, bytes, none, some, is_value, are_values}
 use Rattle.zarrs_subset.specs.Pieces.{pieces, piece_at}
-use Rattle.zarrs_array_bytes.proofs.Pieces.{length-pieces, length-flat_map_same}
+use Rattle.zarrs_data_type_bytes.proofs.Pieces.{length-pieces, length-flat_map_same}
 use Rattle.zarrs_codec_leaf.specs.Bytes.{cell_bytes}
-use Rattle.zarrs_codec_leaf.specs.PackBits.{is_bool, packed_byte, packed_len, packed, byte_bits, bits, flag_of}
-use Rattle.zarrs_codec_leaf.specs.PackBits.{flag_cell, are_zero, packbits_meaning}
+use Rattle.zarrs_codec_leaf.specs.PackBits.{is_bool, packed_byte, packed_len, packed, byte_bits, bits, flag_of, flag_cell, are_zero, packbits_meaning}
 use Rattle.zarrs_codec_leaf.specs.Chosen.{some_is, only_parts, map_same}
 use Rattle.zarrs_codec_leaf.specs.Leaf.{IsLawfulLeaf}
 

@@ -1,7 +1,7 @@
 -- Codecs of byte strings, from what they write for a list of byte strings.
 use Rattle.std.specs.Prelude.{ℕ, Bool, Option, None, List, map, option_and_then, if◌then◌else◌}
-use Rattle.zarrs_types.specs.Kind.{Kind}
-use Rattle.zarrs_types.specs.Cell.{bytes, values_only}
+use Rattle.zarrs_data_type.specs.Kind.{Kind}
+use Rattle.zarrs_data_type.specs.Cell.{bytes, values_only}
 use Rattle.zarrs_codec_leaf.specs.Bytes.{cell_bytes}
 use Rattle.zarrs_codec_leaf.specs.Leaf.{LeafMeaning}
 

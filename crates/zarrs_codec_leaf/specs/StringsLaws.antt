@@ -6,9 +6,9 @@ use Rattle.std.proofs.lemmas.Bool.{false≢true}
 use Rattle.std.proofs.lemmas.List.{length-map}
 use Rattle.std.proofs.lemmas.List.Sums.{AllPass-from_list_all}
 use Rattle.std.proofs.lemmas.Simd.{map-map}
-use Rattle.zarrs_types.specs.Kind.{Kind, is_variable}
-use Rattle.zarrs_types.specs.Kind as type
-use Rattle.zarrs_types.specs.Cell.{Cell, bytes, none, some, is_value, are_values, values_only}
+use Rattle.zarrs_data_type.specs.Kind.{Kind, is_variable}
+use Rattle.zarrs_data_type.specs.Kind as type
+use Rattle.zarrs_data_type.specs.Cell.{Cell, bytes, none, some, is_value, are_values, values_only}
 use Rattle.zarrs_codec_leaf.specs.Bytes.{cell_bytes}
 use Rattle.zarrs_codec_leaf.specs.Chosen.{some_is, only_parts, bind_parts, map_same}
 use Rattle.zarrs_codec_leaf.specs.Leaf.{LeafMeaning, IsLawfulLeaf}

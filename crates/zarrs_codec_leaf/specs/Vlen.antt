@@ -4,8 +4,8 @@ use Rattle.std.specs.Prelude.{slice_index, option_and_then, nat_lt, nat_le, ◌=
 use Rattle.std.specs.List.{flat_map, list_all, range_with_len}
 use Rattle.std.specs.Int.{w64, to_le_bytes, from_le_bytes}
 use Rattle.std.specs.Simd.{first_chunks}
-use Rattle.zarrs_types.specs.Kind.{is_variable}
-use Rattle.zarrs_array_bytes.specs.Offsets.{byte_strings, joined, last_offset, offsets_of}
+use Rattle.zarrs_data_type.specs.Kind.{is_variable}
+use Rattle.zarrs_data_type.specs.Offsets.{byte_strings, joined, last_offset, offsets_of}
 use Rattle.zarrs_codec_leaf.specs.Leaf.{LeafMeaning}
 use Rattle.zarrs_codec_leaf.specs.Strings.{strings_meaning}
 

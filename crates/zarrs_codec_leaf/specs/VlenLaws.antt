@@ -13,9 +13,9 @@ use Rattle.std.proofs.lemmas.List.Concat.{length-flat_map}
 use Rattle.std.proofs.lemmas.List.FromFn.{length-map-range_with_len, get_or-map-range_with_len, length-range_with_len, get_or-range_with_len}
 use Rattle.std.proofs.lemmas.List.Sorted.{IsNonDecreasingBy-from_all_adjacent}
 use Rattle.std.proofs.lemmas.List.Sums.{AllPass-from_list_all, list_all-from_AllPass, sum_by_more}
-use Rattle.zarrs_array_bytes.specs.Offsets.{AreOffsets, AreCuts, byte_strings, joined, last_offset, offsets_of}
-use Rattle.zarrs_byte_strings.proofs.ByteStrings.{length_strings, strings_at, offset_within, offset_rises}
-use Rattle.zarrs_types.specs.Kind.{is_variable}
+use Rattle.zarrs_data_type.specs.Offsets.{AreOffsets, AreCuts, byte_strings, joined, last_offset, offsets_of}
+use Rattle.zarrs_data_type_bytes.proofs.ByteStrings.{length_strings, strings_at, offset_within, offset_rises}
+use Rattle.zarrs_data_type.specs.Kind.{is_variable}
 use Rattle.zarrs_codec_leaf.specs.Chosen.{some_is, only_parts, bind_parts}
 use Rattle.zarrs_codec_leaf.specs.Leaf.{IsLawfulLeaf}
 use Rattle.zarrs_codec_leaf.specs.StringsLaws.{strings-lawful}

@@ -7,8 +7,8 @@ use Rattle.std.specs.Int.{w32, to_le_bytes, from_le_bytes}
 use Rattle.std.proofs.lemmas.Bool.{eqb-true, eq-eqb, le-leb, ltb-true, and_parts, and_from, false≢true}
 use Rattle.std.proofs.lemmas.Nat.{from_le_bytes-to_le_bytes_4}
 use Rattle.std.proofs.lemmas.List.{length-append, append_assoc, take_at, drop_at, drop-drop}
-use Rattle.zarrs_types.specs.Kind.{Kind, is_variable}
-use Rattle.zarrs_types.specs.Kind as type
+use Rattle.zarrs_data_type.specs.Kind.{Kind, is_variable}
+use Rattle.zarrs_data_type.specs.Kind as type
 use Rattle.zarrs_codec_leaf.specs.VlenStrings.{is_string, is_bytes, is_short, behind_length, counted_strings, first_string}
 use Rattle.zarrs_codec_leaf.specs.VlenStrings.{strings_of, uncounted, vlen_utf8_meaning, vlen_bytes_meaning}
 use Rattle.zarrs_codec_leaf.specs.Chosen.{some_is, only_parts, bind_parts, map_parts}

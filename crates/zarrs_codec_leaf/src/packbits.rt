@@ -3,8 +3,7 @@ ghost use Rattle.std.specs.Prelude.{◌≡◌, ◌<◌, ◌^◌, All, Some, IfOk
 ghost use Rattle.zarrs_data_type.specs.ArrayData.{data_of};
 ghost use Rattle.zarrs_data_type.specs.Cells.{cells};
 ghost use Rattle.zarrs_data_type.specs.Kind.{kind};
-ghost use Rattle.zarrs_codec_leaf.specs.PackBits.{are_zero, byte_bits, packbits_meaning, packed};
-ghost use Rattle.zarrs_codec_leaf.specs.PackBits.{packed_byte};
+ghost use Rattle.zarrs_codec_leaf.specs.PackBits.{are_zero, byte_bits, packbits_meaning, packed, packed_byte};
 ghost use Rattle.zarrs_codec_leaf.specs.PackBitsLaws.{packbits-lawful};
 ghost use Rattle.zarrs_codec_leaf.specs.Refusals.{RefusesEncoding, RefusesDecoding};
 ghost use Rattle.zarrs_codec_leaf.specs.Leaf.{encoding_of};
@@ -13,8 +12,7 @@ use crate::codec::LeafCodec;
 use crate::error::{CodecError, Misfit};
 use std::alloc::{AllocError, Global};
 use std::borrow::CowSlice;
-use zarrs_data_type::{ArrayBytes, DataType};
-use zarrs_numbers::{Writing, written};
+use zarrs_data_type::{ArrayBytes, DataType, Writing, written};
 
 /// Bools, eight to a byte, the first in the lowest bit. The bits behind the last bool are 0.
 #[derive(Clone, Copy, Debug, Default, Drop, PartialEq, Eq)]

@@ -2,11 +2,11 @@
 use Rattle.std.proofs.Common.{◌≡◌, ℕ, ◌==◌, List, [], ◌∷◌, length, Bool, true, false, cond, if◌then◌else◌, Option, Some, None, option_and_then, Result, Ok, Err, refl, ap, sym, subst, ◌∙◌}
 use Rattle.std.proofs.lemmas.Bool.{eqb-true, and_parts}
 use Rattle.serde_json.specs.Data.{Data}
-use Rattle.zarrs_metadata.specs.Extension.{ExtensionData}
+use Rattle.zarrs_metadata_parts.specs.Extension.{ExtensionData}
 use Rattle.zarrs_metadata_v3.specs.Document.{DocumentData}
-use Rattle.zarrs_metadata_v2.specs.Conversion.{ConversionRefusal, no_codecs, type_v2, fill_v3, is_uncompressed, cells_codec, order_codecs, converted, converted_with_fill, converted_with_type, to_v3}
+use Rattle.zarrs_metadata.specs.Conversion.{ConversionRefusal, no_codecs, type_v2, fill_v3, is_uncompressed, cells_codec, order_codecs, converted, converted_with_fill, converted_with_type, to_v3}
 use Rattle.zarrs_metadata_v2.specs.Document.{DocumentV2Data}
-use Rattle.zarrs_metadata_v2.specs.View.{MetadataData, v3, v2}
+use Rattle.zarrs_metadata.specs.Versions.{MetadataData, v3, v2}
 use Rattle.zarrs_chunk_grid.specs.Configurations.{GridConfiguration, regular, bounded, rectangular, dimensions_of, fills_shape, takes_shape, grid_of}
 use Rattle.zarrs_chunk_grid.specs.GridView.{configuration_of, array_extents_of}
 use Rattle.zarrs_chunk_grid.specs.Metadata.{configuration_said, over_shape, grid_said, extension_of_grid}
@@ -14,8 +14,8 @@ use Rattle.zarrs_chunk_grid.specs.declared.grid.ChunkGrid.{ChunkGrid}
 use Rattle.zarrs_chunk_grid.proofs.ConfigurationLemmas.{own_taken, said_taken}
 use Rattle.zarrs_chunk_grid.proofs.MetadataLemmas.{said_back}
 use Rattle.zarrs_keys.specs.Metadata.{key_encoding_of}
-use Rattle.zarrs_types.specs.FillMetadata.{fill_said}
-use Rattle.zarrs_types.specs.TypeMetadata.{kind_of}
+use Rattle.zarrs_data_type.specs.FillMetadata.{fill_said}
+use Rattle.zarrs_data_type.specs.TypeMetadata.{kind_of}
 use Rattle.zarrs_codec.specs.Metadata.{chain_said}
 use Rattle.zarrs_options.specs.Given.{regular_extension}
 use Rattle.zarrs_options.specs.Options.{transformers_said}

@@ -3,16 +3,16 @@ use Rattle.std.proofs.Common.{◌≡◌, ◌-◌, ℕ, List, [], ◌∷◌, leng
 use Rattle.std.proofs.lemmas.List.{take-map, length-map}
 use Rattle.std.proofs.lemmas.Option.{slice_get-map}
 use Rattle.std.proofs.lemmas.Slice.Eq.{bytes_eq-Decides}
-use Rattle.zarrs_metadata.specs.Extension.{ExtensionData}
+use Rattle.zarrs_metadata_parts.specs.Extension.{ExtensionData}
 use Rattle.zarrs_metadata_v3.specs.Document.{DocumentData}
-use Rattle.zarrs_metadata_v2.specs.Conversion.{ConversionRefusal, no_type, no_fill_value, no_codecs, type_v2, fill_v3, is_uncompressed, converted, converted_with_fill, converted_with_type, to_v3}
+use Rattle.zarrs_metadata.specs.Conversion.{ConversionRefusal, no_type, no_fill_value, no_codecs, type_v2, fill_v3, is_uncompressed, converted, converted_with_fill, converted_with_type, to_v3}
 use Rattle.serde_json.specs.Data.{Data, Members}
 use Rattle.zarrs_metadata_v2.specs.Document.{DocumentV2Data}
-use Rattle.zarrs_metadata_v2.specs.View.{MetadataData, v3, v2}
+use Rattle.zarrs_metadata.specs.Versions.{MetadataData, v3, v2}
 use Rattle.zarrs_chunk_grid.specs.Metadata.{grid_said}
 use Rattle.zarrs_keys.specs.Metadata.{key_encoding_of}
-use Rattle.zarrs_types.specs.FillMetadata.{fill_said}
-use Rattle.zarrs_types.specs.TypeMetadata.{kind_of}
+use Rattle.zarrs_data_type.specs.FillMetadata.{fill_said}
+use Rattle.zarrs_data_type.specs.TypeMetadata.{kind_of}
 use Rattle.zarrs_codec_array.specs.Metadata.{array_codec_said}
 use Rattle.zarrs_codec.specs.Metadata.{bytes_codec_said, array_codecs_said, chain_of_parts, chain_said}
 use Rattle.zarrs_codec.specs.Configurations.{ChainData}

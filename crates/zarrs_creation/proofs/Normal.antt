@@ -3,10 +3,10 @@ use Rattle.std.proofs.Common.{◌≡◌, ◌-◌, ℕ, List, [], ◌∷◌, leng
 use Rattle.std.proofs.lemmas.List.{take-map, length-map}
 use Rattle.std.proofs.lemmas.Option.{slice_get-map}
 use Rattle.serde_json.specs.Data.{Members, no_members, member}
-use Rattle.zarrs_metadata.specs.Extension.{ExtensionData, settings, normal}
+use Rattle.zarrs_metadata_parts.specs.Extension.{ExtensionData, settings, normal}
 use Rattle.zarrs_chunk_grid.specs.Metadata.{grid_said}
 use Rattle.zarrs_keys.specs.Metadata.{key_encoding_of}
-use Rattle.zarrs_types.specs.TypeMetadata.{kind_of}
+use Rattle.zarrs_data_type.specs.TypeMetadata.{kind_of}
 use Rattle.zarrs_codec_array.specs.Metadata.{array_codec_said}
 use Rattle.zarrs_codec.specs.Metadata.{bytes_codec_said, array_codecs_said, chain_of_parts, chain_said}
 use Rattle.zarrs_codec.specs.Configurations.{ChainData}

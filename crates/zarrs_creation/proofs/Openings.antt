@@ -7,11 +7,11 @@ use Rattle.zarrs_storage.specs.Store.{StoreState}
 use Rattle.zarrs_storage.specs.Refusals.{RefusesRead}
 use Rattle.zarrs_storage.specs.declared.error.StorageError.{StorageError}
 use Rattle.zarrs_storage.specs.declared.error.StorageError.TheVariants as store_error
-use Rattle.zarrs_calls.specs.Content.{value_at}
+use Rattle.zarrs_engine_calls.specs.Content.{value_at}
 use Rattle.zarrs_metadata_v3.specs.Document.{DocumentData, document_said}
 use Rattle.serde_json.specs.Data.{Members}
 use Rattle.zarrs_metadata_v2.specs.Document.{DocumentV2Data, attributes_said}
-use Rattle.zarrs_metadata_v2.specs.View.{MetadataData, v3, v2}
+use Rattle.zarrs_metadata.specs.Versions.{MetadataData, v3, v2}
 use Rattle.zarrs_options.specs.Errors.{create_error_of_path, create_error_of_storage}
 use Rattle.zarrs_options.specs.Refusals.{CreateRefusal, node_path, storage, unread, missing_metadata, create_refusal_of, RefusesCreation}
 use Rattle.zarrs_options.specs.declared.versions.MetadataRetrieveVersion.{MetadataRetrieveVersion}

@@ -5,9 +5,9 @@ use Rattle.zarrs_keys.specs.Metadata.{key_encoding_of}
 use Rattle.zarrs_keys.specs.declared.encodings.ChunkKeyEncoding.{ChunkKeyEncoding}
 use Rattle.zarrs_chunk_grid.specs.Configurations.{GridConfiguration}
 use Rattle.zarrs_chunk_grid.specs.Metadata.{grid_said}
-use Rattle.zarrs_types.specs.FillMetadata.{fill_said}
-use Rattle.zarrs_types.specs.Kind.{Kind}
-use Rattle.zarrs_types.specs.TypeMetadata.{kind_of}
+use Rattle.zarrs_data_type.specs.FillMetadata.{fill_said}
+use Rattle.zarrs_data_type.specs.Kind.{Kind}
+use Rattle.zarrs_data_type.specs.TypeMetadata.{kind_of}
 use Rattle.zarrs_codec.specs.Metadata.{chain_said}
 use Rattle.zarrs_codec.specs.Configurations.{ChainData}
 use Rattle.zarrs_options.specs.Options.{transformers_said}

@@ -3,9 +3,9 @@ use Rattle.std.specs.Prelude.{◌≡◌, ℕ, ◌==◌, List, length, if◌then�
 use Rattle.std.specs.Result.{result_ok}
 use Rattle.serde_json.specs.Data.{Members}
 use Rattle.zarrs_metadata_v3.specs.Document.{DocumentData}
-use Rattle.zarrs_metadata_v2.specs.Conversion.{ConversionRefusal, no_type, no_fill_value, no_codecs, to_v3}
+use Rattle.zarrs_metadata.specs.Conversion.{ConversionRefusal, no_type, no_fill_value, no_codecs, to_v3}
 use Rattle.zarrs_metadata_v2.specs.Document.{DocumentV2Data}
-use Rattle.zarrs_metadata_v2.specs.View.{MetadataData, v3, v2}
+use Rattle.zarrs_metadata.specs.Versions.{MetadataData, v3, v2}
 use Rattle.zarrs_keys.specs.Metadata.{key_encoding_of}
 use Rattle.zarrs_keys.specs.Paths.{is_node_path}
 use Rattle.zarrs_keys.specs.declared.encodings.ChunkKeyEncoding.{ChunkKeyEncoding}
@@ -13,10 +13,10 @@ use Rattle.zarrs_chunk_grid.specs.Configurations.{GridConfiguration}
 use Rattle.zarrs_chunk_grid.specs.GridView.{configuration_of, array_extents_of}
 use Rattle.zarrs_chunk_grid.specs.Metadata.{grid_said}
 use Rattle.zarrs_chunk_grid.specs.declared.grid.ChunkGrid.{ChunkGrid}
-use Rattle.zarrs_types.specs.FillMetadata.{fill_said}
-use Rattle.zarrs_types.specs.Kind.{Kind, kind}
-use Rattle.zarrs_types.specs.TypeMetadata.{kind_of}
-use Rattle.zarrs_types.specs.declared.data_type.DataType.{DataType}
+use Rattle.zarrs_data_type.specs.FillMetadata.{fill_said}
+use Rattle.zarrs_data_type.specs.Kind.{Kind, kind}
+use Rattle.zarrs_data_type.specs.TypeMetadata.{kind_of}
+use Rattle.zarrs_data_type_kinds.specs.declared.data_type.DataType.{DataType}
 use Rattle.zarrs_codec.specs.Metadata.{chain_said}
 use Rattle.zarrs_codec.specs.Chains.{chain_data}
 use Rattle.zarrs_codec.specs.Configurations.{ChainData}

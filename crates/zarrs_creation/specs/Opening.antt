@@ -6,8 +6,8 @@ use Rattle.zarrs_keys.specs.Paths.{path_key}
 use Rattle.zarrs_metadata_v3.specs.Document.{DocumentData, document_said}
 use Rattle.zarrs_metadata_v3.specs.Fields.{FieldData}
 use Rattle.zarrs_metadata_v2.specs.Document.{DocumentV2Data, document_v2_said, attributes_said}
-use Rattle.zarrs_metadata_v2.specs.View.{MetadataData, v3, v2}
-use Rattle.zarrs_calls.specs.Content.{value_at}
+use Rattle.zarrs_metadata.specs.Versions.{MetadataData, v3, v2}
+use Rattle.zarrs_engine_calls.specs.Content.{value_at}
 use Rattle.zarrs_options.specs.Refusals.{CreateRefusal, storage, unread, missing_metadata, additional_field, said_or}
 use Rattle.zarrs_options.specs.declared.versions.MetadataRetrieveVersion.{MetadataRetrieveVersion}
 use Rattle.zarrs_options.specs.declared.versions.MetadataRetrieveVersion.TheVariants as retrieve

@@ -7,12 +7,12 @@ use mathlib.Core.Sum.{⊎_set}
 use Rattle.zarrs_keys.specs.declared.encodings.ChunkKeyEncoding.{ChunkKeyEncoding}
 use Rattle.zarrs_keys.specs.contracts.encodings.ChunkKeyEncoding as encoding
 use Rattle.zarrs_chunk_grid.specs.Configurations.{DimensionSizes, GridConfiguration}
-use Rattle.zarrs_types.specs.Kind.{Kind}
-use Rattle.zarrs_types.specs.Same.{kind_eq, kind_eq-Decides}
+use Rattle.zarrs_data_type.specs.Kind.{Kind}
+use Rattle.zarrs_data_type.specs.Same.{kind_eq, kind_eq-Decides}
 use Rattle.zarrs_codec_array.specs.Arrays.{Extent}
 use Rattle.zarrs_codec_array.specs.Configurations.{ArrayCodecData}
-use Rattle.zarrs_codec_leaf.specs.declared.bytes.Endianness.{Endianness}
-use Rattle.zarrs_codec_cells.specs.Configurations.{MaskCodecData, CellsCodecData, bytes, packbits, vlen_utf8, vlen_bytes, vlen, optional}
+use Rattle.zarrs_codec_leaf.specs.declared.bytes_codec.Endianness.{Endianness}
+use Rattle.zarrs_codec_optional.specs.Configurations.{MaskCodecData, CellsCodecData, bytes, packbits, vlen_utf8, vlen_bytes, vlen, optional}
 use Rattle.zarrs_codec.specs.Configurations.{BytesCodecData, cells, sharding, ChainData}
 use Rattle.zarrs_creation.specs.Meanings.{Meaning}
 

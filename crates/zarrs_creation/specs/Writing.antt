@@ -3,7 +3,7 @@ use Rattle.std.specs.Prelude.{◌≡◌, ℕ, List, [], ◌∷◌, map, Option, 
 use Rattle.serde_json.specs.Data.{Members, no_members, member}
 use Rattle.zarrs_metadata_v3.specs.Document.{DocumentData, IsDocumentText}
 use Rattle.zarrs_metadata_v2.specs.Document.{DocumentV2Data, without_attributes, IsDocumentV2Text, IsAttributesText}
-use Rattle.zarrs_metadata_v2.specs.View.{MetadataData, v3, v2}
+use Rattle.zarrs_metadata.specs.Versions.{MetadataData, v3, v2}
 use Rattle.zarrs_options.specs.declared.versions.MetadataEraseVersion.{MetadataEraseVersion}
 use Rattle.zarrs_options.specs.declared.versions.MetadataEraseVersion.TheVariants as erase
 use Rattle.zarrs_creation.specs.Opening.{v3_key, v2_array_key, attributes_key}

@@ -1,25 +1,22 @@
 //! Changes of metadata.
 ghost use Rattle.std.specs.Prelude.{◌≡◌, length, map, Some, Ok, Err, IfOk, IfErr, OnOk, OnErr, option_map};
-ghost use Rattle.zarrs_metadata.specs.Extension.{extension_view};
+ghost use Rattle.zarrs_metadata_parts.specs.Extension.{extension_view};
 ghost use Rattle.zarrs_metadata_v3.specs.View.{name_view};
-ghost use Rattle.zarrs_metadata_v2.specs.View.{metadata_view};
+ghost use Rattle.zarrs_metadata.specs.Versions.{metadata_view};
 ghost use Rattle.zarrs_chunk_grid.specs.Axes.{sizes_of};
 ghost use Rattle.zarrs_chunk_grid.specs.GridView.{configuration_of, array_extents_of};
 ghost use Rattle.zarrs_options.specs.Given.{grid_given, regular_extension};
 ghost use Rattle.zarrs_options.specs.Refusals.{create_refusal_of, RefusesCreation, chunk_grid};
 ghost use Rattle.zarrs_options.specs.Refusals.{unsupported_v2, said_or};
 ghost use Rattle.zarrs_creation.specs.Changes.{naming, with_names, with_shape, reshaping};
-ghost use Rattle.zarrs_creation.specs.Changes.{grid_of_metadata, dimensions_said, chunks_said};
-ghost use Rattle.zarrs_creation.specs.Changes.{regridding};
+ghost use Rattle.zarrs_creation.specs.Changes.{grid_of_metadata, dimensions_said, chunks_said, regridding};
 ghost use Rattle.zarrs_creation.specs.Meanings.{shape_said};
 
 use crate::parts::{check_names, grid_from};
 use std::alloc::{AllocError, Global};
 use std::num::NonZeroU64;
 use zarrs_chunk_grid::{ChunkGrid, ChunkShape};
-use zarrs_metadata::{MetadataV3, PluginCreateError, numbers_value};
-use zarrs_metadata_v2::ArrayMetadata;
-use zarrs_metadata_v3::DimensionName;
+use zarrs_metadata::{ArrayMetadata, DimensionName, MetadataV3, PluginCreateError, numbers_value};
 use zarrs_options::{ArrayBuilderChunkGridMetadata, ArrayCreateError, chunk_shape_to_array_shape};
 
 /// Makes the refusal of names of dimensions in V2 metadata.

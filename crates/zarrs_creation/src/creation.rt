@@ -1,18 +1,19 @@
 //! The parts of an array that metadata of either version says.
 ghost use Rattle.std.specs.Prelude.{◌≡◌, Ok, IsSome, IfOk, IfErr, OnOk};
-ghost use Rattle.zarrs_metadata_v2.specs.Conversion.{to_v3};
-ghost use Rattle.zarrs_metadata_v2.specs.Refusals.{RefusesConversion};
-ghost use Rattle.zarrs_metadata_v2.specs.View.{document_v2_view, metadata_view};
-ghost use Rattle.zarrs_types.specs.Cell.{fill_cell};
-ghost use Rattle.zarrs_types.specs.Kind.{kind};
+ghost use Rattle.zarrs_metadata.specs.Conversion.{to_v3};
+ghost use Rattle.zarrs_metadata.specs.Refusals.{RefusesConversion};
+ghost use Rattle.zarrs_metadata_v2.specs.View.{document_v2_view};
+ghost use Rattle.zarrs_metadata.specs.Versions.{metadata_view};
+ghost use Rattle.zarrs_data_type.specs.Cell.{fill_cell};
+ghost use Rattle.zarrs_data_type.specs.Kind.{kind};
 ghost use Rattle.zarrs_options.specs.Refusals.{create_refusal_of, RefusesCreation};
 ghost use Rattle.zarrs_creation.specs.Meanings.{meaning_with, extents_said, creation_v2, creation};
 
 use crate::parts::{ArrayParts, parts_of_v3};
 use std::alloc::Global;
-use zarrs_metadata::PluginCreateError;
-use zarrs_metadata_v2::{
-    ArrayMetadata, ArrayMetadataV2, ArrayMetadataV2ToV3Error, array_metadata_v2_to_v3,
+use zarrs_metadata::{
+    ArrayMetadata, ArrayMetadataV2, ArrayMetadataV2ToV3Error, PluginCreateError,
+    array_metadata_v2_to_v3,
 };
 use zarrs_options::ArrayCreateError;
 

@@ -1,19 +1,20 @@
 //! The metadata that a store holds for an array.
 ghost use Rattle.std.specs.Prelude.{◌≡◌, None, Ok, IfOk, IfErr, OnOk, option_map};
 ghost use Rattle.zarrs_metadata_v3.specs.View.{document_view, fields_view};
-ghost use Rattle.zarrs_metadata_v2.specs.View.{document_v2_view, metadata_view};
+ghost use Rattle.zarrs_metadata_v2.specs.View.{document_v2_view};
+ghost use Rattle.zarrs_metadata.specs.Versions.{metadata_view};
 ghost use Rattle.zarrs_options.specs.Refusals.{create_refusal_of, unread, RefusesCreation, said_or};
 ghost use Rattle.zarrs_creation.specs.Opening.{v3_key, attributes_key, value_asked};
-ghost use Rattle.zarrs_creation.specs.Opening.{fields_understood, understood_document};
-ghost use Rattle.zarrs_creation.specs.Opening.{document_v2_read, attributed};
+ghost use Rattle.zarrs_creation.specs.Opening.{fields_understood, understood_document, document_v2_read, attributed};
 ghost use Rattle.zarrs_creation.specs.Opening.{stored_v3, stored_v2, stored_default, stored_by, stored_metadata};
 ghost use Rattle.zarrs_creation.specs.Opening.{MayAskKey, MayAskV2, MayAskMetadata};
 
 use std::alloc::Global;
 use zarrs_keys::{NodePath, meta_key_v2_array, meta_key_v2_attributes, meta_key_v3};
-use zarrs_metadata::MetadataError;
-use zarrs_metadata_v2::{ArrayMetadata, ArrayMetadataV2, attributes_from_slice};
-use zarrs_metadata_v3::{AdditionalFieldsV3, ArrayMetadataV3};
+use zarrs_metadata::{
+    AdditionalFieldsV3, ArrayMetadata, ArrayMetadataV2, ArrayMetadataV3, MetadataError,
+    attributes_from_slice,
+};
 use zarrs_options::{AdditionalFieldUnsupportedError, ArrayCreateError, MetadataRetrieveVersion};
 use zarrs_storage::{Bytes, ReadableStorageTraits, StorageError, StoreKey};
 

@@ -1,15 +1,15 @@
 //! The parts of an array that a V3 document says.
 ghost use Rattle.std.specs.Prelude.{◌≡◌, map, length, Some, Ok, IsSome, IfOk, IfErr, OnOk, option_map};
-ghost use Rattle.zarrs_metadata.specs.Extension.{extension_view};
-ghost use Rattle.zarrs_metadata.specs.FillValue.{fill_data};
+ghost use Rattle.zarrs_metadata_parts.specs.Extension.{extension_view};
+ghost use Rattle.zarrs_metadata_parts.specs.FillValue.{fill_data};
 ghost use Rattle.zarrs_metadata_v3.specs.View.{document_view, name_view};
 ghost use Rattle.zarrs_chunk_grid.specs.GridView.{configuration_of, array_extents_of};
 ghost use Rattle.zarrs_chunk_grid.specs.Metadata.{grid_said};
 ghost use Rattle.zarrs_keys.specs.Metadata.{key_encoding_of};
-ghost use Rattle.zarrs_types.specs.Cell.{fill_cell};
-ghost use Rattle.zarrs_types.specs.FillMetadata.{fill_said};
-ghost use Rattle.zarrs_types.specs.Kind.{kind};
-ghost use Rattle.zarrs_types.specs.TypeMetadata.{kind_of};
+ghost use Rattle.zarrs_data_type.specs.Cell.{fill_cell};
+ghost use Rattle.zarrs_data_type.specs.FillMetadata.{fill_said};
+ghost use Rattle.zarrs_data_type.specs.Kind.{kind};
+ghost use Rattle.zarrs_data_type.specs.TypeMetadata.{kind_of};
 ghost use Rattle.zarrs_codec.specs.Metadata.{chain_said};
 ghost use Rattle.zarrs_codec.specs.Chains.{chain_data};
 ghost use Rattle.zarrs_options.specs.Options.{transformers_said};
@@ -23,8 +23,9 @@ use zarrs_chunk_grid::ChunkGrid;
 use zarrs_codec::CodecChain;
 use zarrs_data_type::{DataType, DataTypeFillValueMetadataError, FillValue};
 use zarrs_keys::ChunkKeyEncoding;
-use zarrs_metadata::{MetadataV3, PluginCreateError};
-use zarrs_metadata_v3::{ArrayMetadataV3, DimensionName, FillValueMetadata};
+use zarrs_metadata::{
+    ArrayMetadataV3, DimensionName, FillValueMetadata, MetadataV3, PluginCreateError,
+};
 use zarrs_options::{ArrayCreateError, StorageTransformerChain};
 
 /// The parts of an array, beside its path and its store.

@@ -1,23 +1,22 @@
 //! The metadata of an array as options show it.
 ghost use Rattle.std.specs.Prelude.{◌≡◌, map, option_map, unwrap_or, Ok, IfOk, IfErr, OnOk};
 ghost use Rattle.serde_json.specs.View.{view, members_view};
-ghost use Rattle.zarrs_metadata.specs.Extension.{extension_view};
+ghost use Rattle.zarrs_metadata_parts.specs.Extension.{extension_view};
 ghost use Rattle.zarrs_metadata_v3.specs.View.{document_view};
-ghost use Rattle.zarrs_metadata_v2.specs.Refusals.{RefusesConversion};
-ghost use Rattle.zarrs_metadata_v2.specs.View.{document_v2_view, metadata_view};
+ghost use Rattle.zarrs_metadata.specs.Refusals.{RefusesConversion};
+ghost use Rattle.zarrs_metadata_v2.specs.View.{document_v2_view};
+ghost use Rattle.zarrs_metadata.specs.Versions.{metadata_view};
 ghost use Rattle.zarrs_options.specs.Options.{options_view};
-ghost use Rattle.zarrs_creation.specs.Shown.{made_by, shown_attributes, renamed};
-ghost use Rattle.zarrs_creation.specs.Shown.{main_type_name, main_grid_name};
+ghost use Rattle.zarrs_creation.specs.Shown.{made_by, shown_attributes, renamed, main_type_name, main_grid_name};
 ghost use Rattle.zarrs_creation.specs.Shown.{main_encoding_name, main_codec_name};
 ghost use Rattle.zarrs_creation.specs.Shown.{with_main_names, shown_v3, shown_v2, shown};
 
 use serde_json::{Map, Value};
 use std::alloc::{AllocError, Global};
-use zarrs_metadata::MetadataV3;
-use zarrs_metadata_v2::{
-    ArrayMetadata, ArrayMetadataV2, ArrayMetadataV2ToV3Error, array_metadata_v2_to_v3,
+use zarrs_metadata::{
+    ArrayMetadata, ArrayMetadataV2, ArrayMetadataV2ToV3Error, ArrayMetadataV3, MetadataV3,
+    array_metadata_v2_to_v3,
 };
-use zarrs_metadata_v3::ArrayMetadataV3;
 use zarrs_options::{ArrayMetadataOptions, MetadataConvertVersion};
 
 /// Returns which library made the array, with the version of zarrs whose behaviour it has.

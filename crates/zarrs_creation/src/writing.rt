@@ -2,15 +2,15 @@
 ghost use Rattle.std.specs.Prelude.{◌≡◌, [], ◌∷◌, map, option_map, None, IfOk, IsOkUnless};
 ghost use Rattle.serde_json.specs.View.{members_view};
 ghost use Rattle.zarrs_metadata_v3.specs.View.{document_view};
-ghost use Rattle.zarrs_metadata_v2.specs.View.{document_v2_view, metadata_view};
+ghost use Rattle.zarrs_metadata_v2.specs.View.{document_v2_view};
+ghost use Rattle.zarrs_metadata.specs.Versions.{metadata_view};
 ghost use Rattle.zarrs_creation.specs.Opening.{v3_key, v2_array_key, attributes_key};
 ghost use Rattle.zarrs_creation.specs.Writing.{put_at, put_view, erasures, IsTextOfAttributes};
 ghost use Rattle.zarrs_creation.specs.Writing.{IsWrittenV3, IsWrittenV2, IsWrittenBy};
 
 use std::alloc::Global;
 use zarrs_keys::{NodePath, meta_key_v2_array, meta_key_v2_attributes, meta_key_v3};
-use zarrs_metadata_v2::{ArrayMetadata, ArrayMetadataV2};
-use zarrs_metadata_v3::ArrayMetadataV3;
+use zarrs_metadata::{ArrayMetadata, ArrayMetadataV2, ArrayMetadataV3};
 use zarrs_metadata_v3::members::is_empty;
 use zarrs_options::MetadataEraseVersion;
 use zarrs_storage::{StorageError, StoreKey};

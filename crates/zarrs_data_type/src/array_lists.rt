@@ -1,14 +1,14 @@
 //! Lists of values and array bytes, which stand for the same cells.
 ghost use Rattle.std.specs.Prelude.{◌≡◌, Bool, true, map, Some, IfOk, IfErr, OnOk};
-ghost use Rattle.zarrs_array_bytes.specs.ArrayData.{ArrayData, data_of};
-ghost use Rattle.zarrs_array_bytes.specs.Cells.{cells};
-ghost use Rattle.zarrs_types.specs.Kind.{Kind, kind};
-ghost use Rattle.zarrs_elements.specs.Elements.{RefusesElement, RefusesCells};
+ghost use Rattle.zarrs_data_type_bytes.specs.ArrayData.{ArrayData, data_of};
+ghost use Rattle.zarrs_data_type_bytes.specs.Cells.{cells};
+ghost use Rattle.zarrs_data_type_kinds.specs.Kind.{Kind, kind};
+ghost use Rattle.zarrs_data_type_elements.specs.Elements.{RefusesElement, RefusesCells};
 
 use std::alloc::Global;
-use zarrs_array_bytes::ArrayBytes;
-use zarrs_elements::{Element, ElementError, ElementOwned};
-use zarrs_types::DataType;
+use zarrs_data_type_bytes::ArrayBytes;
+use zarrs_data_type_elements::{Element, ElementError, ElementOwned};
+use zarrs_data_type_kinds::DataType;
 
 /// What a read returns: array bytes as they are, or the values of their cells.
 pub trait FromArrayBytes: Sized {

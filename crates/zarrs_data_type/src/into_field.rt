@@ -4,8 +4,8 @@ ghost use Rattle.std.specs.Prelude.{Some, option_map, string_bytes};
 ghost use Rattle.std.specs.Int.{w8, w16, w32, w64, cast_unsigned, to_le_bytes};
 
 use std::alloc::{AllocError, Global};
+use zarrs_data_type_kinds::FillValue;
 use zarrs_subset::ArrayShape;
-use zarrs_types::FillValue;
 
 /// A value that becomes a field, in memory of the allocator.
 pub trait IntoField<T> {

@@ -6,24 +6,23 @@ use Rattle.std.proofs.lemmas.Bool.{and_from, cases_Bool, eq-eqb}
 use Rattle.std.proofs.lemmas.List.FromFn.{get_or-map-range_with_len, get_or-range_with_len, length-map-range_with_len, length-range_with_len}
 use Rattle.zarrs_subset.specs.Boxes.{position_count, offset_by, unravel}
 use Rattle.zarrs_subset.specs.Pieces.{piece_at, pieces}
-use Rattle.zarrs_subset.specs.Regions.{Box, IsLong, in_box, place_in}
+use Rattle.zarrs_subset.specs.Regions.{Box, IsLong, in_box, place_in, LiesInBox}
 use Rattle.zarrs_subset.proofs.Bytes.{place_in_below}
 use Rattle.zarrs_subset.proofs.Positions.{in_box-offset_by, unravel_in}
-use Rattle.zarrs_byte_strings.specs.StringParts.{LiesInBox}
-use Rattle.zarrs_byte_strings.proofs.Inside.{holds_inside}
-use Rattle.zarrs_types.specs.Kind.{Kind, element_size, fixed_size, inner_of}
-use Rattle.zarrs_types.specs.Kind as type
-use Rattle.zarrs_types.specs.Cell.{Cell, bytes, none, some}
-use Rattle.zarrs_array_bytes.specs.ArrayData.{ArrayData, fixed, variable, optional}
-use Rattle.zarrs_array_bytes.specs.Cells.{cell_at, fits}
-use Rattle.zarrs_array_bytes.specs.Parts.{TakesEach}
-use Rattle.zarrs_array_bytes.proofs.Cells.{fitting-fixed}
-use Rattle.zarrs_array_bytes.proofs.Pieces.{length-fixed_cell, length-flat_map_same, pieces-flat_map}
-use Rattle.zarrs_target.specs.Targets.{HasLevels, KeepsOutside, depth_of}
-use Rattle.zarrs_target.proofs.TypeSizes.{element_is}
-use Rattle.zarrs_parts.proofs.Stays.{cell_stays}
-use Rattle.zarrs_parts.proofs.MovedBoxes.{own_unravel}
-use Rattle.zarrs_array_bytes.proofs.FixedSizes.{optional_is, some_is}
+use Rattle.zarrs_subset.proofs.Inside.{holds_inside}
+use Rattle.zarrs_data_type.specs.Kind.{Kind, element_size, fixed_size, inner_of}
+use Rattle.zarrs_data_type.specs.Kind as type
+use Rattle.zarrs_data_type.specs.Cell.{Cell, bytes, none, some}
+use Rattle.zarrs_data_type.specs.ArrayData.{ArrayData, fixed, variable, optional}
+use Rattle.zarrs_data_type.specs.Cells.{cell_at, fits}
+use Rattle.zarrs_data_type.specs.Parts.{TakesEach}
+use Rattle.zarrs_data_type_bytes.proofs.Cells.{fitting-fixed}
+use Rattle.zarrs_data_type_bytes.proofs.Pieces.{length-fixed_cell, length-flat_map_same, pieces-flat_map}
+use Rattle.zarrs_data_type.specs.Targets.{HasLevels, KeepsOutside, depth_of}
+use Rattle.zarrs_data_type_region.proofs.TypeSizes.{element_is}
+use Rattle.zarrs_codec_chain.proofs.Stays.{cell_stays}
+use Rattle.zarrs_codec_chain.proofs.MovedBoxes.{own_unravel}
+use Rattle.zarrs_data_type_bytes.proofs.FixedSizes.{optional_is, some_is}
 
 -- ---- data of so many levels fits the type
 

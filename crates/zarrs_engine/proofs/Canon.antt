@@ -3,16 +3,16 @@ use Rattle.std.proofs.Common.{◌≡◌, ℕ, Bool, false, List, Option, None, R
 use Rattle.zarrs_subset.specs.Regions.{Box}
 use Rattle.zarrs_storage.specs.Store.{StoreState}
 use Rattle.zarrs_data_type.specs.ArrayData.{ArrayData}
-use Rattle.zarrs_calls.specs.Canon.{IsCanonical, KeepsCanon}
-use Rattle.zarrs_calls.specs.Compactions.{Compacts}
-use Rattle.zarrs_calls.specs.Content.{value_at}
-use Rattle.zarrs_calls.specs.Fronts.{CutsAll, ErasesAll, StoresAll}
-use Rattle.zarrs_calls.specs.Layout.{Layout, IsLawful}
-use Rattle.zarrs_calls.specs.Refusals.{Refusal, refusal_of}
-use Rattle.zarrs_calls.specs.Step.{RefusesCompactChunk, RefusesCuts, RefusesErase, RefusesStore}
-use Rattle.zarrs_calls.specs.declared.error.ArrayError.{ArrayError}
-use Rattle.zarrs_calls.proofs.Compactions.{canonical_stays}
-use Rattle.zarrs_calls.proofs.Steps.{writes_canon, writes_keep_canon}
+use Rattle.zarrs_engine_calls.specs.Canon.{IsCanonical, KeepsCanon}
+use Rattle.zarrs_engine_calls.specs.Compactions.{Compacts}
+use Rattle.zarrs_engine_calls.specs.Content.{value_at}
+use Rattle.zarrs_engine_calls.specs.Fronts.{CutsAll, ErasesAll, StoresAll}
+use Rattle.zarrs_engine_calls.specs.Layout.{Layout, IsLawful}
+use Rattle.zarrs_engine_calls.specs.Refusals.{Refusal, refusal_of}
+use Rattle.zarrs_engine_calls.specs.Step.{RefusesCompactChunk, RefusesCuts, RefusesErase, RefusesStore}
+use Rattle.zarrs_engine_calls.specs.declared.error.ArrayError.{ArrayError}
+use Rattle.zarrs_engine_calls.proofs.Compactions.{canonical_stays}
+use Rattle.zarrs_engine_calls.proofs.Steps.{writes_canon, writes_keep_canon}
 
 -- what both ends of a call keep, the call keeps
 pub either_keeps : {T E K : Type 0} (result : Result T E) (does : Type 0) (refuses : E → Type 0)

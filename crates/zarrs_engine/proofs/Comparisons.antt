@@ -12,10 +12,10 @@ use Rattle.zarrs_subset.proofs.Bytes.{holds_along}
 use Rattle.zarrs_subset.proofs.Positions.{positions_in}
 use Rattle.zarrs_keys.specs.Keys.{IsIndexList}
 use Rattle.zarrs_storage.specs.Store.{StoreState}
-use Rattle.zarrs_calls.specs.Layout.{Layout, IsLawful}
-use Rattle.zarrs_calls.specs.Content.{value_at}
-use Rattle.zarrs_calls.specs.Refusals.{Refusal, RefusesBy, key_refusal}
-use Rattle.zarrs_calls.proofs.Comparisons.{comparison_is_content}
+use Rattle.zarrs_engine_calls.specs.Layout.{Layout, IsLawful}
+use Rattle.zarrs_engine_calls.specs.Content.{value_at}
+use Rattle.zarrs_engine_calls.specs.Refusals.{Refusal, RefusesBy, key_refusal}
+use Rattle.zarrs_engine_calls.proofs.Comparisons.{comparison_is_content}
 use Rattle.zarrs_engine.specs.Comparisons.{ComparesContent, DifferInChunk, HoldSameChunks, RefusesComparison}
 use Rattle.zarrs_engine.proofs.Encoded.{value_refused}
 use Rattle.zarrs_engine.proofs.Ranges.{next_front}

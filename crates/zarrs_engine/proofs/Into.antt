@@ -10,30 +10,30 @@ use Rattle.std.proofs.lemmas.Option.{slice_get_within, get_or_from_slice_get}
 use Rattle.zarrs_subset.specs.Boxes.{position_count, place, InShape, offset_by, offset_from}
 use Rattle.zarrs_subset.specs.Regions.{Box, Holds, IsLong, place_in}
 use Rattle.zarrs_subset.proofs.Positions.{in_box-offset_by, offset_from-by, offset_from-in}
-use Rattle.zarrs_byte_strings.proofs.Inside.{holds_inside}
+use Rattle.zarrs_subset.proofs.Inside.{holds_inside}
 use Rattle.zarrs_storage.specs.Store.{StoreState}
 use Rattle.zarrs_data_type.specs.Kind.{Kind, cell_size, is_variable}
 use Rattle.zarrs_data_type.specs.Cell.{Cell, none}
 use Rattle.zarrs_data_type.specs.ArrayData.{ArrayData}
 use Rattle.zarrs_data_type.specs.Cells.{cells, fits, cell_at}
-use Rattle.zarrs_array_bytes.specs.Parts.{TakesEach}
-use Rattle.zarrs_array_bytes.proofs.Cells.{cells-parts}
-use Rattle.zarrs_target.specs.declared.target.ArrayBytesDecodeIntoTarget.{ArrayBytesDecodeIntoTarget}
-use Rattle.zarrs_target.specs.States.{IsTarget, data_of_target, parent_box, target_box}
-use Rattle.zarrs_target.specs.Targets.{takes_type}
-use Rattle.zarrs_target.proofs.TypeSizes.{type_taken, taken_fixed}
-use Rattle.zarrs_target.proofs.Boxes.{bytes_within, lies_at_origin, origin_long}
-use Rattle.zarrs_calls.specs.Layout.{Layout, IsLawful}
-use Rattle.zarrs_calls.specs.ArgumentRefusals.{dimensions_refusal, into_refusal, read_region_refusal, region_refusal, size_refusal}
-use Rattle.zarrs_calls.specs.ChunkBoxes.{chunks_met}
-use Rattle.zarrs_calls.specs.Refusals as refusal
-use Rattle.zarrs_calls.specs.Refusals.{Refusal, refuse_if}
-use Rattle.zarrs_calls.specs.Reads.{ReadsRegion}
-use Rattle.zarrs_calls.specs.StateRefusals.{RefusesRegionRead}
-use Rattle.zarrs_calls.specs.Step.{RefusesRetrieveRegion}
-use Rattle.zarrs_calls.proofs.RefusalLemmas.{second_refusal}
+use Rattle.zarrs_data_type.specs.Parts.{TakesEach}
+use Rattle.zarrs_data_type_bytes.proofs.Cells.{cells-parts}
+use Rattle.zarrs_data_type_region.specs.declared.target.ArrayBytesDecodeIntoTarget.{ArrayBytesDecodeIntoTarget}
+use Rattle.zarrs_data_type.specs.States.{IsTarget, data_of_target, parent_box, target_box}
+use Rattle.zarrs_data_type.specs.Targets.{takes_type}
+use Rattle.zarrs_data_type_region.proofs.TypeSizes.{type_taken, taken_fixed}
+use Rattle.zarrs_data_type_region.proofs.TargetBoxes.{bytes_within, lies_at_origin, origin_long}
+use Rattle.zarrs_engine_calls.specs.Layout.{Layout, IsLawful}
+use Rattle.zarrs_engine_calls.specs.ArgumentRefusals.{dimensions_refusal, into_refusal, read_region_refusal, region_refusal, size_refusal}
+use Rattle.zarrs_engine_calls.specs.ChunkBoxes.{chunks_met}
+use Rattle.zarrs_engine_calls.specs.Refusals as refusal
+use Rattle.zarrs_engine_calls.specs.Refusals.{Refusal, refuse_if}
+use Rattle.zarrs_engine_calls.specs.Reads.{ReadsRegion}
+use Rattle.zarrs_engine_calls.specs.StateRefusals.{RefusesRegionRead}
+use Rattle.zarrs_engine_calls.specs.Step.{RefusesRetrieveRegion}
+use Rattle.zarrs_engine_calls.proofs.RefusalLemmas.{second_refusal}
 use Rattle.zarrs_engine.specs.Into.{HasContent, place_of, target_refusal}
-use Rattle.zarrs_array_bytes.proofs.FixedSizes.{size_is}
+use Rattle.zarrs_data_type_bytes.proofs.FixedSizes.{size_is}
 
 -- ---- what the arguments decide
 

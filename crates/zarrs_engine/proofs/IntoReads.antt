@@ -7,32 +7,32 @@ use Rattle.zarrs_storage.specs.Store.{StoreState}
 use Rattle.zarrs_data_type.specs.Kind.{Kind}
 use Rattle.zarrs_data_type.specs.ArrayData.{ArrayData}
 use Rattle.zarrs_data_type.specs.Cells.{cell_at, fits}
-use Rattle.zarrs_array_bytes.proofs.Cells.{IsSized}
-use Rattle.zarrs_target.specs.declared.target.ArrayBytesDecodeIntoTarget.{ArrayBytesDecodeIntoTarget}
-use Rattle.zarrs_target.specs.States.{IsTarget, SameBox, StaysOutside, data_of_target, parent_box, target_box}
-use Rattle.zarrs_target.specs.Targets.{HasLevels, KeepsOutside, masked, takes_type}
-use Rattle.zarrs_target.proofs.Boxes.{lies_at_origin, origin_long}
-use Rattle.zarrs_target.proofs.Levels.{masked_levels}
-use Rattle.zarrs_target.proofs.TypeSizes.{type_taken}
-use Rattle.zarrs_parts.proofs.Stays.{keeps_more}
-use Rattle.zarrs_parts.specs.Refusals.{RefusesIntoDecoding}
+use Rattle.zarrs_data_type_bytes.proofs.Cells.{IsSized}
+use Rattle.zarrs_data_type_region.specs.declared.target.ArrayBytesDecodeIntoTarget.{ArrayBytesDecodeIntoTarget}
+use Rattle.zarrs_data_type.specs.States.{IsTarget, SameBox, StaysOutside, data_of_target, parent_box, target_box}
+use Rattle.zarrs_data_type.specs.Targets.{HasLevels, KeepsOutside, masked, takes_type}
+use Rattle.zarrs_data_type_region.proofs.TargetBoxes.{lies_at_origin, origin_long}
+use Rattle.zarrs_data_type_region.proofs.TargetLevels.{masked_levels}
+use Rattle.zarrs_data_type_region.proofs.TypeSizes.{type_taken}
+use Rattle.zarrs_codec_chain.proofs.Stays.{keeps_more}
+use Rattle.zarrs_codec_chain.specs.PartRefusals.{RefusesIntoDecoding}
 use Rattle.zarrs_codec_leaf.specs.declared.error.CodecError.{CodecError}
 use Rattle.zarrs_codec_leaf.specs.declared.error.CodecError.TheVariants as codec
 use Rattle.zarrs_chunk_grid.specs.Grids.{box_at}
-use Rattle.zarrs_calls.specs.Content.{decoded_cells, value_at}
-use Rattle.zarrs_calls.specs.Errors.{error_of_codec}
-use Rattle.zarrs_calls.specs.Refusals.{refusal_of}
-use Rattle.zarrs_calls.specs.StateRefusals.{RefusesSomeChunk}
-use Rattle.zarrs_calls.proofs.Contents.{member}
-use Rattle.zarrs_calls.specs.ChunkBoxes.{chunks_met}
-use Rattle.zarrs_calls.specs.Layout.{Layout}
-use Rattle.zarrs_calls.specs.Reads.{ReadsRegion}
-use Rattle.zarrs_array_layout.specs.Covers.{CoverRegion}
+use Rattle.zarrs_engine_calls.specs.Content.{decoded_cells, value_at}
+use Rattle.zarrs_engine_calls.specs.Errors.{error_of_codec}
+use Rattle.zarrs_engine_calls.specs.Refusals.{refusal_of}
+use Rattle.zarrs_engine_calls.specs.StateRefusals.{RefusesSomeChunk}
+use Rattle.zarrs_engine_calls.proofs.Contents.{member}
+use Rattle.zarrs_engine_calls.specs.ChunkBoxes.{chunks_met}
+use Rattle.zarrs_engine_calls.specs.Layout.{Layout}
+use Rattle.zarrs_engine_calls.specs.Reads.{ReadsRegion}
+use Rattle.zarrs_engine_layout.specs.Covers.{CoverRegion}
 use Rattle.zarrs_engine.specs.TargetReads.{HasPositions, HasReadInto, IsRead, ReadsOneMoreInto}
 use Rattle.zarrs_engine.specs.Into.{HasContent, RetrievesInto, target_refusal}
 use Rattle.zarrs_engine.proofs.BoxData.{box_cell, box_data, box_levels, box_taken, levels_fit}
 use Rattle.zarrs_engine.proofs.TargetReads.{each_read, reads_from}
-use Rattle.zarrs_parts.proofs.MovedBoxes.{moved_unravel, origin_moved}
+use Rattle.zarrs_codec_chain.proofs.MovedBoxes.{moved_unravel, origin_moved}
 
 -- the data of a target has its levels
 pub target_levels : (old new : ArrayBytesDecodeIntoTarget) → IsTarget new → SameBox old new → HasLevels old.depth old.cell_size (position_count old.parent_shape.now) (data_of_target new)

@@ -6,22 +6,22 @@ use Rattle.zarrs_chunk_grid.specs.Grids.{box_at, has_box}
 use Rattle.zarrs_chunk_grid.proofs.Chunks.{box_long}
 use Rattle.zarrs_storage.specs.Store.{StoreState}
 use Rattle.zarrs_data_type.specs.ArrayData.{ArrayData}
-use Rattle.zarrs_calls.specs.Layout.{Layout, IsLawful}
-use Rattle.zarrs_calls.specs.ArgumentRefusals.{size_refusal}
-use Rattle.zarrs_calls.specs.Changes.{RetrievesChunk}
-use Rattle.zarrs_calls.specs.ChunkBoxes.{is_empty}
-use Rattle.zarrs_calls.specs.Content.{value_at}
-use Rattle.zarrs_calls.specs.Reads.{IsBroken, ReadsRegion}
-use Rattle.zarrs_calls.specs.Refusals as refusal
-use Rattle.zarrs_calls.specs.Refusals.{Refusal, length_refusal}
-use Rattle.zarrs_calls.specs.StateRefusals.{IsLargeBox, IsPart, RefusesChunkRead, RefusesRegionRead}
-use Rattle.zarrs_calls.proofs.Contents.{absent_fill, member, only_member}
-use Rattle.zarrs_calls.proofs.Regions.{cell_there}
-use Rattle.zarrs_calls.proofs.Shapes.{known_decodes}
-use Rattle.zarrs_array_layout.specs.Covers.{CoverRegion}
-use Rattle.zarrs_array_layout.proofs.Chunks.{unread_why}
-use Rattle.zarrs_array_layout.proofs.OneChunk.{covers_lies, first_held, region_lies}
-use Rattle.zarrs_parts.proofs.MovedBoxes.{overlap_inside}
+use Rattle.zarrs_engine_calls.specs.Layout.{Layout, IsLawful}
+use Rattle.zarrs_engine_calls.specs.ArgumentRefusals.{size_refusal}
+use Rattle.zarrs_engine_calls.specs.Changes.{RetrievesChunk}
+use Rattle.zarrs_engine_calls.specs.ChunkBoxes.{is_empty}
+use Rattle.zarrs_engine_calls.specs.Content.{value_at}
+use Rattle.zarrs_engine_calls.specs.Reads.{IsBroken, ReadsRegion}
+use Rattle.zarrs_engine_calls.specs.Refusals as refusal
+use Rattle.zarrs_engine_calls.specs.Refusals.{Refusal, length_refusal}
+use Rattle.zarrs_engine_calls.specs.StateRefusals.{IsLargeBox, IsPart, RefusesChunkRead, RefusesRegionRead}
+use Rattle.zarrs_engine_calls.proofs.Contents.{absent_fill, member, only_member}
+use Rattle.zarrs_engine_calls.proofs.Regions.{cell_there}
+use Rattle.zarrs_engine_calls.proofs.Shapes.{known_decodes}
+use Rattle.zarrs_engine_layout.specs.Covers.{CoverRegion}
+use Rattle.zarrs_engine_layout.proofs.Chunks.{unread_why}
+use Rattle.zarrs_engine_layout.proofs.OneChunk.{covers_lies, first_held, region_lies}
+use Rattle.zarrs_codec_chain.proofs.MovedBoxes.{overlap_inside}
 use Rattle.zarrs_engine.proofs.PartBytes.{size_fits}
 use Rattle.zarrs_engine.proofs.PartReads.{overlap_within}
 use Rattle.zarrs_engine.proofs.PartWrites.{large_region}

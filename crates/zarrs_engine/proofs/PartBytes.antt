@@ -13,21 +13,21 @@ use Rattle.zarrs_storage.specs.Refusals.{RefusesRead}
 use Rattle.zarrs_storage.specs.declared.error.StorageError.{StorageError}
 use Rattle.zarrs_data_type.specs.ArrayData.{ArrayData}
 use Rattle.zarrs_data_type.specs.Cells.{HasCells}
-use Rattle.zarrs_data_type.proofs.Cells.{HasCells-some}
-use Rattle.zarrs_source.specs.Stored.{value_or_empty}
-use Rattle.zarrs_calls.specs.Layout.{Layout}
-use Rattle.zarrs_calls.specs.Content.{decoded_cells, value_at}
-use Rattle.zarrs_calls.specs.ArgumentRefusals.{chunk_refusal, size_refusal}
-use Rattle.zarrs_calls.specs.Errors.{error_of_storage}
-use Rattle.zarrs_calls.specs.Refusals as refusal
-use Rattle.zarrs_calls.specs.Refusals.{Refusal, RefusesBy, box_refusal, fill_refusal, is_too_large, refusal_of, refuse_if}
-use Rattle.zarrs_calls.specs.StateRefusals.{RefusesSomeChunk}
-use Rattle.zarrs_calls.proofs.Contents.{member}
-use Rattle.zarrs_calls.proofs.RefusalLemmas.{fit_chunk, large_chunk, memory_or_said, refuses_said}
-use Rattle.zarrs_array_layout.specs.Steps.{RefusesBytes, RefusesPartBytes}
-use Rattle.zarrs_array_layout.proofs.ChunkParts.{chunk_accepted}
-use Rattle.zarrs_array_layout.proofs.Chunks.{value_refused_store}
-use Rattle.zarrs_array_layout.proofs.RegionRefusals.{some_broken, some_key, some_size}
+use Rattle.zarrs_data_type_bytes.proofs.Cells.{HasCells-some}
+use Rattle.zarrs_codec_leaf.specs.Stored.{value_or_empty}
+use Rattle.zarrs_engine_calls.specs.Layout.{Layout}
+use Rattle.zarrs_engine_calls.specs.Content.{decoded_cells, value_at}
+use Rattle.zarrs_engine_calls.specs.ArgumentRefusals.{chunk_refusal, size_refusal}
+use Rattle.zarrs_engine_calls.specs.Errors.{error_of_storage}
+use Rattle.zarrs_engine_calls.specs.Refusals as refusal
+use Rattle.zarrs_engine_calls.specs.Refusals.{Refusal, RefusesBy, box_refusal, fill_refusal, is_too_large, refusal_of, refuse_if}
+use Rattle.zarrs_engine_calls.specs.StateRefusals.{RefusesSomeChunk}
+use Rattle.zarrs_engine_calls.proofs.Contents.{member}
+use Rattle.zarrs_engine_calls.proofs.RefusalLemmas.{fit_chunk, large_chunk, memory_or_said, refuses_said}
+use Rattle.zarrs_engine_layout.specs.Steps.{RefusesBytes, RefusesPartBytes}
+use Rattle.zarrs_engine_layout.proofs.ChunkParts.{chunk_accepted}
+use Rattle.zarrs_engine_layout.proofs.Chunks.{value_refused_store}
+use Rattle.zarrs_engine_layout.proofs.RegionRefusals.{some_broken, some_key, some_size}
 use Rattle.zarrs_engine.specs.RegionReads.{DecodesStored}
 
 -- the bytes of a value that has a size

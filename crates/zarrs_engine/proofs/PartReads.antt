@@ -9,10 +9,9 @@ use Rattle.std.proofs.lemmas.Grind.{same_number_lists}
 use Rattle.std.proofs.lemmas.List.{get_or-replicate, length-replicate}
 use Rattle.std.proofs.lemmas.Slice.Eq.{bytes_eq-Decides}
 use Rattle.zarrs_subset.specs.Boxes.{offset_by, overlap_extents, overlap_start, position_count, zip_with}
-use Rattle.zarrs_subset.specs.Regions.{Box, IsLong, Holds, LiesInShape, box_from, overlap_of, seen_from, shifted_box}
+use Rattle.zarrs_subset.specs.Regions.{Box, IsLong, Holds, LiesInShape, box_from, overlap_of, seen_from, shifted_box, LiesInBox}
 use Rattle.zarrs_subset.proofs.Overlaps.{in_box-empty, length-zip_with}
 use Rattle.zarrs_subset.proofs.Parts.{zip_with-at}
-use Rattle.zarrs_byte_strings.specs.StringParts.{LiesInBox}
 use Rattle.zarrs_subset.proofs.Shifts.{part_in_chunk}
 use Rattle.zarrs_chunk_grid.specs.Grids.{box_at, has_box}
 use Rattle.zarrs_chunk_grid.proofs.Chunks.{box_covered, box_dimensions, box_index, box_is_there, box_long}
@@ -20,27 +19,27 @@ use Rattle.zarrs_storage.specs.Store.{StoreState}
 use Rattle.zarrs_data_type.specs.ArrayData.{ArrayData}
 use Rattle.zarrs_data_type.specs.Cell.{Cell, held_size}
 use Rattle.zarrs_data_type.specs.Cells.{cells}
-use Rattle.zarrs_calls.specs.Layout.{Layout, IsLawful}
-use Rattle.zarrs_calls.specs.ArgumentRefusals.{chunk_refusal, part_refusal, read_part_refusal, size_refusal}
-use Rattle.zarrs_calls.specs.Changes.{RetrievesChunk}
-use Rattle.zarrs_calls.specs.ChunkBoxes.{is_whole_of, part_box}
-use Rattle.zarrs_calls.specs.Reads.{ReadsRegion}
-use Rattle.zarrs_calls.specs.Refusals as refusal
-use Rattle.zarrs_calls.specs.Refusals.{Refusal, RefusesBy, fill_refusal, is_too_large, length_refusal, key_refusal, read_refusal, refuse_if}
-use Rattle.zarrs_calls.specs.StateRefusals.{IsPart, RefusesChunkRead, RefusesRegionRead, RefusesSomeChunk}
-use Rattle.zarrs_calls.specs.Reach.{MayDecodePart, chunk_part}
-use Rattle.zarrs_calls.specs.Step.{RetrievesPart, RefusesRetrievePart}
-use Rattle.zarrs_calls.specs.Content.{content, value_at}
-use Rattle.zarrs_calls.proofs.Contents.{absent_fill, member, only_member}
-use Rattle.zarrs_calls.proofs.RefusalLemmas.{memory_or_said, refused_first, refused_second, second_refusal}
-use Rattle.zarrs_array_layout.specs.Covers.{CoverRegion}
-use Rattle.zarrs_array_layout.specs.Shared.{AreApart, AreShared}
-use Rattle.zarrs_array_layout.specs.Steps.{filled_refusal}
+use Rattle.zarrs_engine_calls.specs.Layout.{Layout, IsLawful}
+use Rattle.zarrs_engine_calls.specs.ArgumentRefusals.{chunk_refusal, part_refusal, read_part_refusal, size_refusal}
+use Rattle.zarrs_engine_calls.specs.Changes.{RetrievesChunk}
+use Rattle.zarrs_engine_calls.specs.ChunkBoxes.{is_whole_of, part_box}
+use Rattle.zarrs_engine_calls.specs.Reads.{ReadsRegion}
+use Rattle.zarrs_engine_calls.specs.Refusals as refusal
+use Rattle.zarrs_engine_calls.specs.Refusals.{Refusal, RefusesBy, fill_refusal, is_too_large, length_refusal, key_refusal, read_refusal, refuse_if}
+use Rattle.zarrs_engine_calls.specs.StateRefusals.{IsPart, RefusesChunkRead, RefusesRegionRead, RefusesSomeChunk}
+use Rattle.zarrs_engine_calls.specs.Reach.{MayDecodePart, chunk_part}
+use Rattle.zarrs_engine_calls.specs.Step.{RetrievesPart, RefusesRetrievePart}
+use Rattle.zarrs_engine_calls.specs.Content.{content, value_at}
+use Rattle.zarrs_engine_calls.proofs.Contents.{absent_fill, member, only_member}
+use Rattle.zarrs_engine_calls.proofs.RefusalLemmas.{memory_or_said, refused_first, refused_second, second_refusal}
+use Rattle.zarrs_engine_layout.specs.Covers.{CoverRegion}
+use Rattle.zarrs_engine_layout.specs.Shared.{AreApart, AreShared}
+use Rattle.zarrs_engine_layout.specs.Steps.{filled_refusal}
 use Rattle.zarrs_engine.specs.RegionReads.{DecodesStored, HasRead, IsRegionOf, ReadsOneMore}
-use Rattle.zarrs_array_layout.proofs.ChunkParts.{chunk_has, part_lies, shifted_part}
-use Rattle.zarrs_array_layout.proofs.Chunks.{right_length}
-use Rattle.zarrs_array_layout.proofs.OneChunk.{covers_lies}
-use Rattle.zarrs_parts.proofs.MovedBoxes.{overlap_inside}
+use Rattle.zarrs_engine_layout.proofs.ChunkParts.{chunk_has, part_lies, shifted_part}
+use Rattle.zarrs_engine_layout.proofs.Chunks.{right_length}
+use Rattle.zarrs_engine_layout.proofs.OneChunk.{covers_lies}
+use Rattle.zarrs_codec_chain.proofs.MovedBoxes.{overlap_inside}
 use Rattle.zarrs_engine.proofs.PartBytes.{size_fits}
 use Rattle.zarrs_engine.proofs.PartWrites.{large_region, lies_covers}
 use Rattle.zarrs_engine.proofs.RegionReads.{read_absent, read_all, read_alone, read_apart, read_none}

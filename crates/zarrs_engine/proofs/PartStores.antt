@@ -16,32 +16,31 @@ use Rattle.zarrs_subset.proofs.Counts.{count_some, count_zero}
 use Rattle.zarrs_subset.proofs.Overlaps.{length-zip_with}
 use Rattle.zarrs_subset.proofs.Positions.{length-positions, positions_in}
 use Rattle.std.proofs.lemmas.Option.{slice_get-get_or}
-use Rattle.zarrs_chunk_grid.specs.Grids.{Grid, IsChunkRange, box_at, chunks_box, each_dimension, extent_along, has_box}
-use Rattle.zarrs_chunk_grid.specs.Grids.{range_box, start_along}
+use Rattle.zarrs_chunk_grid.specs.Grids.{Grid, IsChunkRange, box_at, chunks_box, each_dimension, extent_along, has_box, range_box, start_along}
 use Rattle.zarrs_chunk_grid.proofs.Chunks.{box_is_there, holds_chunk}
 use Rattle.zarrs_chunk_grid.proofs.MetChunks.{at_dimension, range_fills}
 use Rattle.zarrs_storage.specs.Store.{StoreState}
 use Rattle.zarrs_data_type.specs.ArrayData.{ArrayData}
 use Rattle.zarrs_data_type.specs.Cells.{HasCells}
-use Rattle.zarrs_array_bytes.proofs.Cells.{HasCells-cells}
-use Rattle.zarrs_calls.specs.Layout.{Layout, IsLawful}
-use Rattle.zarrs_calls.specs.ArgumentRefusals.{box_data_refusal, cells_refusal, chunk_refusal, dimensions_refusal}
-use Rattle.zarrs_calls.specs.ArgumentRefusals.{part_refusal, range_refusal, size_refusal, store_chunk_refusal}
-use Rattle.zarrs_calls.specs.ArgumentRefusals.{store_chunks_refusal, store_part_refusal}
-use Rattle.zarrs_calls.specs.ChunkBoxes.{CoversBox, is_empty, is_whole_of, last_of, part_box}
-use Rattle.zarrs_calls.specs.Fronts.{StoresAll}
-use Rattle.zarrs_calls.specs.Reach.{MayAskParts}
-use Rattle.zarrs_calls.specs.Refusals as refusal
-use Rattle.zarrs_calls.specs.Refusals.{Refusal, RefusesBy, box_refusal, is_too_large, refuse_if}
-use Rattle.zarrs_calls.specs.Step.{RefusesStore, RefusesStoreChunks, RefusesStorePart, StoresChunks, StoresPart}
-use Rattle.zarrs_calls.proofs.Covers.{last_at, some_extent}
-use Rattle.zarrs_calls.proofs.RefusalLemmas.{first_refusal, no_chunk, refused_first, refused_second, second_refusal}
-use Rattle.zarrs_array_layout.specs.Covers.{CoverRegion}
+use Rattle.zarrs_data_type_bytes.proofs.Cells.{HasCells-cells}
+use Rattle.zarrs_engine_calls.specs.Layout.{Layout, IsLawful}
+use Rattle.zarrs_engine_calls.specs.ArgumentRefusals.{box_data_refusal, cells_refusal, chunk_refusal, dimensions_refusal}
+use Rattle.zarrs_engine_calls.specs.ArgumentRefusals.{part_refusal, range_refusal, size_refusal, store_chunk_refusal}
+use Rattle.zarrs_engine_calls.specs.ArgumentRefusals.{store_chunks_refusal, store_part_refusal}
+use Rattle.zarrs_engine_calls.specs.ChunkBoxes.{CoversBox, is_empty, is_whole_of, last_of, part_box}
+use Rattle.zarrs_engine_calls.specs.Fronts.{StoresAll}
+use Rattle.zarrs_engine_calls.specs.Reach.{MayAskParts}
+use Rattle.zarrs_engine_calls.specs.Refusals as refusal
+use Rattle.zarrs_engine_calls.specs.Refusals.{Refusal, RefusesBy, box_refusal, is_too_large, refuse_if}
+use Rattle.zarrs_engine_calls.specs.Step.{RefusesStore, RefusesStoreChunks, RefusesStorePart, StoresChunks, StoresPart}
+use Rattle.zarrs_engine_calls.proofs.Covers.{last_at, some_extent}
+use Rattle.zarrs_engine_calls.proofs.RefusalLemmas.{first_refusal, no_chunk, refused_first, refused_second, second_refusal}
+use Rattle.zarrs_engine_layout.specs.Covers.{CoverRegion}
 use Rattle.zarrs_engine.specs.RegionWrites.{LeavesPart, StoresOneMore}
-use Rattle.zarrs_array_layout.proofs.ChunkParts.{chunk_accepted, chunk_has, chunk_missing}
+use Rattle.zarrs_engine_layout.proofs.ChunkParts.{chunk_accepted, chunk_has, chunk_missing}
 use Rattle.zarrs_engine.proofs.PartReads.{is_proper, is_whole, part_cover}
-use Rattle.zarrs_array_layout.proofs.ChunkRanges.{no_position, range_first}
-use Rattle.zarrs_array_layout.proofs.OneChunk.{not_empty}
+use Rattle.zarrs_engine_layout.proofs.ChunkRanges.{no_position, range_first}
+use Rattle.zarrs_engine_layout.proofs.OneChunk.{not_empty}
 use Rattle.zarrs_engine.proofs.RegionFronts.{stored_all, stored_fails, stored_more, stored_none}
 use Rattle.zarrs_engine.proofs.Writes.{refused_early}
 

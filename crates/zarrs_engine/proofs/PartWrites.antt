@@ -5,7 +5,7 @@ use Rattle.std.proofs.lemmas.Bool.{cases_Bool, leb-true, leb-false}
 use Rattle.std.proofs.lemmas.List.{length-replicate}
 use Rattle.std.proofs.lemmas.List.Folds.{sum_by-replicate}
 use Rattle.zarrs_subset.specs.Boxes.{position_count}
-use Rattle.zarrs_subset.specs.Regions.{Box, Holds, IsLong, cell_in, in_box, place_in}
+use Rattle.zarrs_subset.specs.Regions.{Box, Holds, IsLong, cell_in, in_box, place_in, LiesInBox}
 use Rattle.zarrs_subset.proofs.Bytes.{along_holds, holds_along, place_in_below}
 use Rattle.zarrs_chunk_grid.specs.Grids.{box_at, has_box}
 use Rattle.zarrs_chunk_grid.proofs.Chunks.{box_long}
@@ -14,20 +14,19 @@ use Rattle.zarrs_data_type.specs.Kind.{Kind, cell_size}
 use Rattle.zarrs_data_type.specs.Cell.{Cell, bytes, none, some, held_size}
 use Rattle.zarrs_data_type.specs.ArrayData.{ArrayData}
 use Rattle.zarrs_data_type.specs.Cells.{HasCells}
-use Rattle.zarrs_array_bytes.proofs.Cells.{HasCells-cells}
-use Rattle.zarrs_array_bytes.specs.Parts.{TakesCells, ExtractsCells}
-use Rattle.zarrs_array_bytes.specs.StringParts.{LiesInBox}
-use Rattle.zarrs_calls.specs.Layout.{Layout, IsLawful}
-use Rattle.zarrs_calls.specs.Content.{value_at, content}
-use Rattle.zarrs_calls.specs.Refusals as refusal
-use Rattle.zarrs_calls.specs.Refusals.{Refusal, fill_refusal, is_too_large, length_refusal, refuse_if}
-use Rattle.zarrs_calls.specs.Changes.{RetrievesChunk}
-use Rattle.zarrs_calls.specs.ChunkBoxes.{CoversBox}
-use Rattle.zarrs_calls.specs.StateRefusals.{IsLargeBox, IsPart, NeedsLargeFill, RefusesChunkRead, RefusesPart, cell_length, known_cell}
-use Rattle.zarrs_calls.proofs.Contents.{absent_fill, fill_at, replicated}
-use Rattle.zarrs_calls.proofs.RefusalLemmas.{not_large}
+use Rattle.zarrs_data_type_bytes.proofs.Cells.{HasCells-cells}
+use Rattle.zarrs_data_type.specs.Parts.{TakesCells, ExtractsCells}
+use Rattle.zarrs_engine_calls.specs.Layout.{Layout, IsLawful}
+use Rattle.zarrs_engine_calls.specs.Content.{value_at, content}
+use Rattle.zarrs_engine_calls.specs.Refusals as refusal
+use Rattle.zarrs_engine_calls.specs.Refusals.{Refusal, fill_refusal, is_too_large, length_refusal, refuse_if}
+use Rattle.zarrs_engine_calls.specs.Changes.{RetrievesChunk}
+use Rattle.zarrs_engine_calls.specs.ChunkBoxes.{CoversBox}
+use Rattle.zarrs_engine_calls.specs.StateRefusals.{IsLargeBox, IsPart, NeedsLargeFill, RefusesChunkRead, RefusesPart, cell_length, known_cell}
+use Rattle.zarrs_engine_calls.proofs.Contents.{absent_fill, fill_at, replicated}
+use Rattle.zarrs_engine_calls.proofs.RefusalLemmas.{not_large}
 use Rattle.zarrs_engine.specs.RegionWrites.{HasUpdated}
-use Rattle.zarrs_array_layout.proofs.Chunks.{unread_why}
+use Rattle.zarrs_engine_layout.proofs.Chunks.{unread_why}
 
 -- ---- boxes
 

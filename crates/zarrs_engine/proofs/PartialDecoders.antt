@@ -13,18 +13,18 @@ use Rattle.zarrs_chunk_grid.specs.Grids.{Grid, IsGrid, amount_met, each_dimensio
 use Rattle.zarrs_chunk_grid.proofs.Chunks.{index_long}
 use Rattle.zarrs_chunk_grid.proofs.MetChunks.{at_dimension}
 use Rattle.zarrs_storage.specs.Store.{StoreState}
-use Rattle.zarrs_calls.specs.Layout.{Layout, IsLawful}
-use Rattle.zarrs_calls.specs.ArgumentRefusals.{part_refusal, region_refusal}
-use Rattle.zarrs_calls.specs.ChunkBoxes.{chunks_met, is_covered_box, is_empty, last_of}
-use Rattle.zarrs_calls.specs.Reach.{MayReadPart, MayReadParts}
-use Rattle.zarrs_calls.specs.Refusals as refusal
-use Rattle.zarrs_calls.specs.Refusals.{refuse_if}
-use Rattle.zarrs_calls.proofs.Contents.{only_member}
-use Rattle.zarrs_calls.proofs.Covers.{covered_box, last_at, last_held, some_extent}
-use Rattle.zarrs_calls.proofs.RefusalLemmas.{second_refusal}
-use Rattle.zarrs_array_layout.specs.Covers.{CoverRegion}
-use Rattle.zarrs_array_layout.proofs.ChunkParts.{part_lies}
-use Rattle.zarrs_array_layout.proofs.RegionRefusals.{no_extent}
+use Rattle.zarrs_engine_calls.specs.Layout.{Layout, IsLawful}
+use Rattle.zarrs_engine_calls.specs.ArgumentRefusals.{part_refusal, region_refusal}
+use Rattle.zarrs_engine_calls.specs.ChunkBoxes.{chunks_met, is_covered_box, is_empty, last_of}
+use Rattle.zarrs_engine_calls.specs.Reach.{MayReadPart, MayReadParts}
+use Rattle.zarrs_engine_calls.specs.Refusals as refusal
+use Rattle.zarrs_engine_calls.specs.Refusals.{refuse_if}
+use Rattle.zarrs_engine_calls.proofs.Contents.{only_member}
+use Rattle.zarrs_engine_calls.proofs.Covers.{covered_box, last_at, last_held, some_extent}
+use Rattle.zarrs_engine_calls.proofs.RefusalLemmas.{second_refusal}
+use Rattle.zarrs_engine_layout.specs.Covers.{CoverRegion}
+use Rattle.zarrs_engine_layout.proofs.ChunkParts.{part_lies}
+use Rattle.zarrs_engine_layout.proofs.RegionRefusals.{no_extent}
 use Rattle.zarrs_engine.specs.PartialDecoders.{region_of_part}
 use Rattle.zarrs_engine.proofs.PartReads.{cover_part}
 

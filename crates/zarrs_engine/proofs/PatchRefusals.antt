@@ -12,16 +12,16 @@ use Rattle.zarrs_storage.specs.declared.error.StorageError.TheVariants as stored
 use Rattle.zarrs_codec_leaf.specs.declared.error.CodecError.{CodecError}
 use Rattle.zarrs_codec_leaf.specs.declared.error.CodecError.TheVariants as coded
 use Rattle.zarrs_data_type.specs.ArrayData.{ArrayData}
-use Rattle.zarrs_chain.specs.Refusals.{RefusesPartialEncoding}
-use Rattle.zarrs_calls.specs.Layout.{Layout}
-use Rattle.zarrs_calls.specs.Content.{value_at}
-use Rattle.zarrs_calls.specs.Errors.{error_of_subset}
-use Rattle.zarrs_calls.specs.Refusals as refusal
-use Rattle.zarrs_calls.specs.Refusals.{Refusal, RefusesBy, key_refusal, refusal_of, refusal_of_codec, refusal_of_storage}
-use Rattle.zarrs_calls.specs.StateRefusals.{RefusesErasure}
-use Rattle.zarrs_calls.specs.Patches.{IsNotEncoded, RefusesPartly}
-use Rattle.zarrs_calls.proofs.RefusalLemmas.{makes_none, memory_or_said}
-use Rattle.zarrs_array_layout.specs.Steps.{RefusesPut}
+use Rattle.zarrs_codec_chain.specs.Refusals.{RefusesPartialEncoding}
+use Rattle.zarrs_engine_calls.specs.Layout.{Layout}
+use Rattle.zarrs_engine_calls.specs.Content.{value_at}
+use Rattle.zarrs_engine_calls.specs.Errors.{error_of_subset}
+use Rattle.zarrs_engine_calls.specs.Refusals as refusal
+use Rattle.zarrs_engine_calls.specs.Refusals.{Refusal, RefusesBy, key_refusal, refusal_of, refusal_of_codec, refusal_of_storage}
+use Rattle.zarrs_engine_calls.specs.StateRefusals.{RefusesErasure}
+use Rattle.zarrs_engine_calls.specs.Patches.{IsNotEncoded, RefusesPartly}
+use Rattle.zarrs_engine_calls.proofs.RefusalLemmas.{makes_none, memory_or_said}
+use Rattle.zarrs_engine_layout.specs.Steps.{RefusesPut}
 use Rattle.zarrs_engine.specs.Patches.{LeavesPatch}
 
 module _ (layout : Layout) (keep : Bool) (index : List ℕ) where

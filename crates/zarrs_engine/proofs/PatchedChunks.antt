@@ -12,18 +12,17 @@ use Rattle.zarrs_storage.specs.Store.{StoreState}
 use Rattle.zarrs_data_type.specs.Cell.{Cell}
 use Rattle.zarrs_data_type.specs.ArrayData.{ArrayData}
 use Rattle.zarrs_data_type.specs.Cells.{HasCells, cells}
-use Rattle.zarrs_data_type.proofs.Cells.{cells-values}
-use Rattle.zarrs_array_bytes.proofs.Cells.{HasCells-cells}
-use Rattle.zarrs_shard.specs.PartialShards.{PartialChange, after, IsUpdated}
-use Rattle.zarrs_chain.specs.Chain.{chunk_cells, partial_encoding}
-use Rattle.zarrs_calls.specs.Layout.{Layout, IsLawful}
-use Rattle.zarrs_calls.specs.Content.{value_at, content, Reads}
-use Rattle.zarrs_calls.specs.Changes.{IsPut}
-use Rattle.zarrs_calls.specs.ChunkBoxes.{part_box}
-use Rattle.zarrs_calls.specs.Patches.{PatchesAll, known_cells}
-use Rattle.zarrs_calls.proofs.Contents.{only_member, reads_absent, reads_decoded}
-use Rattle.zarrs_calls.proofs.Loops.{put_changes}
-use Rattle.zarrs_array_layout.proofs.CutWalks.{number_is}
+use Rattle.zarrs_data_type_bytes.proofs.Cells.{cells-values, HasCells-cells}
+use Rattle.zarrs_codec_shard.specs.PartialShards.{PartialChange, after, IsUpdated}
+use Rattle.zarrs_codec_chain.specs.Chain.{chunk_cells, partial_encoding}
+use Rattle.zarrs_engine_calls.specs.Layout.{Layout, IsLawful}
+use Rattle.zarrs_engine_calls.specs.Content.{value_at, content, Reads}
+use Rattle.zarrs_engine_calls.specs.Changes.{IsPut}
+use Rattle.zarrs_engine_calls.specs.ChunkBoxes.{part_box}
+use Rattle.zarrs_engine_calls.specs.Patches.{PatchesAll, known_cells}
+use Rattle.zarrs_engine_calls.proofs.Contents.{only_member, reads_absent, reads_decoded}
+use Rattle.zarrs_engine_calls.proofs.Loops.{put_changes}
+use Rattle.zarrs_engine_layout.proofs.CutWalks.{number_is}
 
 -- ---- positions of a chunk, seen from its origin
 

@@ -2,7 +2,7 @@
 use Rattle.std.proofs.Common.{◌≡◌, ℕ, zero, suc, ◌+◌, ◌-◌, ◌<◌, ◌≤◌, Bool, true, false, cond, ◌&&◌, List, [], ◌∷◌, length, slice_index, min, max, Some, refl, sym, ap, subst, ◌∙◌, arith}
 use Rattle.std.specs.Prelude.{SomeIndex, IsSomeAnd}
 use Rattle.zarrs_subset.specs.Boxes.{position_count, offset_by, overlap_extents, overlap_start, zip_with}
-use Rattle.zarrs_subset.specs.Regions.{Box, IsLong, LiesInShape, cell_in, in_box, overlap_of, seen_from}
+use Rattle.zarrs_subset.specs.Regions.{Box, IsLong, LiesInShape, cell_in, in_box, overlap_of, seen_from, LiesInBox}
 use Rattle.zarrs_subset.specs.Refusals.{RefusesOffset}
 use Rattle.zarrs_subset.specs.declared.error.ArraySubsetError.{ArraySubsetError}
 use Rattle.zarrs_subset.specs.declared.error.ArraySubsetError.TheVariants as subset
@@ -13,15 +13,14 @@ use Rattle.zarrs_storage.specs.Store.{StoreState}
 use Rattle.zarrs_data_type.specs.Cell.{Cell}
 use Rattle.zarrs_data_type.specs.ArrayData.{ArrayData}
 use Rattle.zarrs_data_type.specs.Cells.{HasCells, cells}
-use Rattle.zarrs_array_bytes.specs.Parts.{ExtractsCells}
-use Rattle.zarrs_array_bytes.specs.StringParts.{LiesInBox}
-use Rattle.zarrs_calls.specs.Layout.{Layout}
-use Rattle.zarrs_calls.specs.Content.{value_at, content}
-use Rattle.zarrs_calls.specs.Errors.{error_of_subset}
-use Rattle.zarrs_calls.specs.Refusals.{refusal_of}
-use Rattle.zarrs_calls.specs.ChunkBoxes.{part_box}
-use Rattle.zarrs_calls.specs.Patches.{PatchesAll, RefusesPartly}
-use Rattle.zarrs_calls.proofs.Contents.{only_member}
+use Rattle.zarrs_data_type.specs.Parts.{ExtractsCells}
+use Rattle.zarrs_engine_calls.specs.Layout.{Layout}
+use Rattle.zarrs_engine_calls.specs.Content.{value_at, content}
+use Rattle.zarrs_engine_calls.specs.Errors.{error_of_subset}
+use Rattle.zarrs_engine_calls.specs.Refusals.{refusal_of}
+use Rattle.zarrs_engine_calls.specs.ChunkBoxes.{part_box}
+use Rattle.zarrs_engine_calls.specs.Patches.{PatchesAll, RefusesPartly}
+use Rattle.zarrs_engine_calls.proofs.Contents.{only_member}
 
 -- what is seen from a corner and put there again is what it was
 offset_back : (b s : List ℕ) → length s ≡ length b → ((k : ℕ) → k < length b → slice_index b k ≤ slice_index s k) → offset_by b (zip_with (λ s t. s - t) s b) ≡ s

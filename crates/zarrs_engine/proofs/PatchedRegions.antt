@@ -12,30 +12,30 @@ use Rattle.zarrs_chunk_grid.proofs.Chunks.{box_is_there, box_index}
 use Rattle.zarrs_storage.specs.Store.{StoreState}
 use Rattle.zarrs_data_type.specs.Cell.{Cell}
 use Rattle.zarrs_data_type.specs.ArrayData.{ArrayData}
-use Rattle.zarrs_chain.specs.Chain.{chunk_cells}
-use Rattle.zarrs_calls.specs.Layout.{Layout, IsLawful}
-use Rattle.zarrs_calls.specs.Content.{value_at, content, chunk_cell}
-use Rattle.zarrs_calls.specs.Refusals as refusal
-use Rattle.zarrs_calls.specs.Refusals.{Refusal, RefusesBy}
-use Rattle.zarrs_calls.specs.Changes.{Makes, Stores}
-use Rattle.zarrs_calls.specs.Fronts.{Front, StoresAll, Takes}
+use Rattle.zarrs_codec_chain.specs.Chain.{chunk_cells}
+use Rattle.zarrs_engine_calls.specs.Layout.{Layout, IsLawful}
+use Rattle.zarrs_engine_calls.specs.Content.{value_at, content, chunk_cell}
+use Rattle.zarrs_engine_calls.specs.Refusals as refusal
+use Rattle.zarrs_engine_calls.specs.Refusals.{Refusal, RefusesBy}
+use Rattle.zarrs_engine_calls.specs.Changes.{Makes, Stores}
+use Rattle.zarrs_engine_calls.specs.Fronts.{Front, StoresAll, Takes}
 use Rattle.zarrs_data_type.specs.Cells.{HasCells, cells}
-use Rattle.zarrs_calls.specs.ArgumentRefusals.{box_data_refusal, chunk_refusal, part_refusal, store_part_refusal, store_region_refusal}
+use Rattle.zarrs_engine_calls.specs.ArgumentRefusals.{box_data_refusal, chunk_refusal, part_refusal, store_part_refusal, store_region_refusal}
 use Rattle.zarrs_engine.proofs.PartStores.{accepted_part}
-use Rattle.zarrs_calls.specs.ChunkBoxes.{chunks_met, part_box}
-use Rattle.zarrs_calls.specs.Step.{RefusesStore, RefusesStorePart, RefusesStoreRegion, StoresPart, StoresRegion}
-use Rattle.zarrs_calls.specs.Patches.{Patches, PatchesAll, PatchesPart, PatchesRegion, TakesPatches, known_cells}
-use Rattle.zarrs_calls.specs.Patches.{RefusesPatches, RefusesPatchPart, RefusesPatchRegion}
-use Rattle.zarrs_calls.proofs.Contents.{content_in_box, index_list, member, one_key, only_member}
-use Rattle.zarrs_calls.proofs.RefusalLemmas.{makes_none}
+use Rattle.zarrs_engine_calls.specs.ChunkBoxes.{chunks_met, part_box}
+use Rattle.zarrs_engine_calls.specs.Step.{RefusesStore, RefusesStorePart, RefusesStoreRegion, StoresPart, StoresRegion}
+use Rattle.zarrs_engine_calls.specs.Patches.{Patches, PatchesAll, PatchesPart, PatchesRegion, TakesPatches, known_cells}
+use Rattle.zarrs_engine_calls.specs.Patches.{RefusesPatches, RefusesPatchPart, RefusesPatchRegion}
+use Rattle.zarrs_engine_calls.proofs.Contents.{content_in_box, index_list, member, one_key, only_member}
+use Rattle.zarrs_engine_calls.proofs.RefusalLemmas.{makes_none}
 use Rattle.zarrs_engine.specs.Patches.{HasPatched, LeavesPatch}
 use Rattle.zarrs_engine.specs.RegionWrites.{LeavesPart, StoresOneMore}
 use Rattle.zarrs_engine.proofs.Ranges.{makes_then, next_front}
 use Rattle.zarrs_engine.proofs.RegionFronts.{may_ask_then, not_yet}
 use Rattle.zarrs_engine.proofs.RegionSteps.{at_among}
-use Rattle.zarrs_array_layout.specs.Covers.{CoverRegion}
-use Rattle.zarrs_calls.specs.Reach.{MayAskChunk, MayAskParts}
-use Rattle.zarrs_calls.specs.StateRefusals.{IsPart}
+use Rattle.zarrs_engine_layout.specs.Covers.{CoverRegion}
+use Rattle.zarrs_engine_calls.specs.Reach.{MayAskChunk, MayAskParts}
+use Rattle.zarrs_engine_calls.specs.StateRefusals.{IsPart}
 use Rattle.zarrs_engine.proofs.Writes.{refused_early}
 
 module _ (layout : Layout) (lawful : IsLawful layout) where

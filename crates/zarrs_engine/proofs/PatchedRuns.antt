@@ -1,21 +1,21 @@
 -- Steps and runs of which the stores may write parts by themselves.
 use Rattle.std.proofs.Common.{Result, Ok, Err, OnOk, IfErr, ◌≡◌, ℕ, Bool, List, [], ◌∷◌, ◌++◌, Option, refl, subst, sym}
 use Rattle.zarrs_storage.specs.Store.{StoreState, KeepsReach}
-use Rattle.zarrs_chain.specs.Options.{stores_empty_chunks}
-use Rattle.zarrs_chain.specs.declared.options.CodecOptions.{CodecOptions}
-use Rattle.zarrs_calls.specs.Layout.{ArrayState, Layout, IsLawful}
-use Rattle.zarrs_calls.specs.declared.call.Call.{Call}
-use Rattle.zarrs_calls.specs.declared.error.ArrayError.{ArrayError}
-use Rattle.zarrs_calls.specs.declared.call.Reply.{Reply}
-use Rattle.zarrs_calls.specs.declared.call.Reply.TheVariants.{Done, Compacted, Cells, MaybeCells, Refused}
-use Rattle.zarrs_calls.specs.Acts.{Act, store, erase, compact, read, read_chunk, resize, act_of, shape_after}
-use Rattle.zarrs_calls.specs.ArgumentRefusals.{argument_refusal}
-use Rattle.zarrs_calls.specs.Reach.{MayAskCalls}
-use Rattle.zarrs_calls.specs.Refusals.{Refusal, refusal_of}
-use Rattle.zarrs_calls.specs.Step.{ActStep, Step}
-use Rattle.zarrs_calls.specs.Patches.{PatchActStep, PatchRun, PatchStep}
-use Rattle.zarrs_calls.proofs.Runs.{calls_later}
-use Rattle.zarrs_calls.proofs.Steps.{act_reach}
+use Rattle.zarrs_codec_chain.specs.Options.{stores_empty_chunks}
+use Rattle.zarrs_codec_chain.specs.declared.options.CodecOptions.{CodecOptions}
+use Rattle.zarrs_engine_calls.specs.Layout.{ArrayState, Layout, IsLawful}
+use Rattle.zarrs_engine_calls.specs.declared.call.Call.{Call}
+use Rattle.zarrs_engine_calls.specs.declared.error.ArrayError.{ArrayError}
+use Rattle.zarrs_engine_calls.specs.declared.call.Reply.{Reply}
+use Rattle.zarrs_engine_calls.specs.declared.call.Reply.TheVariants.{Done, Compacted, Cells, MaybeCells, Refused}
+use Rattle.zarrs_engine_calls.specs.Acts.{Act, store, erase, compact, read, read_chunk, resize, act_of, shape_after}
+use Rattle.zarrs_engine_calls.specs.ArgumentRefusals.{argument_refusal}
+use Rattle.zarrs_engine_calls.specs.Reach.{MayAskCalls}
+use Rattle.zarrs_engine_calls.specs.Refusals.{Refusal, refusal_of}
+use Rattle.zarrs_engine_calls.specs.Step.{ActStep, Step}
+use Rattle.zarrs_engine_calls.specs.Patches.{PatchActStep, PatchRun, PatchStep}
+use Rattle.zarrs_engine_calls.proofs.Runs.{calls_later}
+use Rattle.zarrs_engine_calls.proofs.Steps.{act_reach}
 use Rattle.zarrs_engine.specs.Outcomes.{StepsAs}
 use Rattle.zarrs_engine.proofs.PatchedRegions.{all_patched, refused_patches}
 

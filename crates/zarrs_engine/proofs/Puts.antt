@@ -8,12 +8,12 @@ use Rattle.zarrs_storage.specs.Store.{StoreState, Values, Accepts, Refuses, last
 use Rattle.zarrs_storage.specs.declared.error.StorageError.{StorageError}
 use Rattle.zarrs_storage.specs.declared.error.StorageError.TheVariants as stored
 use Rattle.zarrs_storage.proofs.ValuesLemmas.{get_inserted, get_removed}
-use Rattle.zarrs_calls.specs.Changes.{Makes, IsPut}
-use Rattle.zarrs_calls.specs.Refusals as refusal
-use Rattle.zarrs_calls.specs.Refusals.{Refusal, refusal_of_storage}
-use Rattle.zarrs_calls.specs.StateRefusals.{RefusesErasure, CallFails}
-use Rattle.zarrs_calls.proofs.RefusalLemmas.{makes_none}
-use Rattle.zarrs_array_layout.specs.Steps.{RefusesPut}
+use Rattle.zarrs_engine_calls.specs.Changes.{Makes, IsPut}
+use Rattle.zarrs_engine_calls.specs.Refusals as refusal
+use Rattle.zarrs_engine_calls.specs.Refusals.{Refusal, refusal_of_storage}
+use Rattle.zarrs_engine_calls.specs.StateRefusals.{RefusesErasure, CallFails}
+use Rattle.zarrs_engine_calls.proofs.RefusalLemmas.{makes_none}
+use Rattle.zarrs_engine_layout.specs.Steps.{RefusesPut}
 
 apart_test : (a b : List ℕ) → a ≢ b → bytes_eq a b ≡ false
 apart_test a b apart = elim (cases_Bool (bytes_eq a b)) [

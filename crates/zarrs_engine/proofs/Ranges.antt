@@ -7,17 +7,17 @@ use Rattle.zarrs_subset.specs.Regions.{Box, IsLong, positions}
 use Rattle.zarrs_subset.proofs.Bytes.{holds_along}
 use Rattle.zarrs_subset.proofs.Positions.{positions_in}
 use Rattle.zarrs_storage.specs.Store.{StoreState}
-use Rattle.zarrs_calls.specs.Layout.{Layout, IsLawful}
-use Rattle.zarrs_calls.specs.Refusals as refusal
-use Rattle.zarrs_calls.specs.Refusals.{Refusal, RefusesBy, length_refusal}
-use Rattle.zarrs_calls.specs.Changes.{Makes, Erases}
-use Rattle.zarrs_calls.specs.StateRefusals.{RefusesErasure}
-use Rattle.zarrs_calls.specs.Fronts.{Front, ErasesAll}
-use Rattle.zarrs_calls.specs.Step.{ErasesChunk, RefusesEraseChunk, RefusesEraseChunks, RefusesErase}
+use Rattle.zarrs_engine_calls.specs.Layout.{Layout, IsLawful}
+use Rattle.zarrs_engine_calls.specs.Refusals as refusal
+use Rattle.zarrs_engine_calls.specs.Refusals.{Refusal, RefusesBy, length_refusal}
+use Rattle.zarrs_engine_calls.specs.Changes.{Makes, Erases}
+use Rattle.zarrs_engine_calls.specs.StateRefusals.{RefusesErasure}
+use Rattle.zarrs_engine_calls.specs.Fronts.{Front, ErasesAll}
+use Rattle.zarrs_engine_calls.specs.Step.{ErasesChunk, RefusesEraseChunk, RefusesEraseChunks, RefusesErase}
 use Rattle.zarrs_engine.proofs.Writes.{refused_early}
-use Rattle.zarrs_calls.proofs.Loops.{erases_push, erases_all}
-use Rattle.zarrs_calls.proofs.RefusalLemmas.{makes_none, memory_or_said}
-use Rattle.zarrs_calls.proofs.Runs.{reach_then}
+use Rattle.zarrs_engine_calls.proofs.Loops.{erases_push, erases_all}
+use Rattle.zarrs_engine_calls.proofs.RefusalLemmas.{makes_none, memory_or_said}
+use Rattle.zarrs_engine_calls.proofs.Runs.{reach_then}
 
 -- none is gone yet
 erases_none : (layout : Layout) (state : StoreState) → Erases layout [] state state

@@ -14,18 +14,18 @@ use Rattle.zarrs_data_type.specs.Kind.{is_variable}
 use Rattle.zarrs_data_type.specs.Cell.{Cell}
 use Rattle.zarrs_data_type.specs.ArrayData.{ArrayData}
 use Rattle.zarrs_data_type.specs.Cells.{cells}
-use Rattle.zarrs_calls.specs.Layout.{Layout, IsLawful}
-use Rattle.zarrs_calls.specs.ArgumentRefusals.{dimensions_refusal, into_refusal, region_refusal}
-use Rattle.zarrs_calls.specs.ChunkBoxes.{chunks_met, is_whole_of}
-use Rattle.zarrs_calls.specs.Content.{value_at, content, decoded_cells, chunk_cell, cell_at_place}
-use Rattle.zarrs_calls.specs.Reads.{ReadsKnown}
-use Rattle.zarrs_calls.specs.Refusals as refusal
-use Rattle.zarrs_calls.specs.Refusals.{Refusal, refuse_if}
-use Rattle.zarrs_calls.specs.Step.{RetrievesPart}
-use Rattle.zarrs_calls.proofs.Contents.{content_covered, in_chunk}
-use Rattle.zarrs_calls.proofs.Shapes.{slice_there}
-use Rattle.zarrs_target.specs.States.{target_box}
-use Rattle.zarrs_target.specs.Targets.{takes_type}
+use Rattle.zarrs_engine_calls.specs.Layout.{Layout, IsLawful}
+use Rattle.zarrs_engine_calls.specs.ArgumentRefusals.{dimensions_refusal, into_refusal, region_refusal}
+use Rattle.zarrs_engine_calls.specs.ChunkBoxes.{chunks_met, is_whole_of}
+use Rattle.zarrs_engine_calls.specs.Content.{value_at, content, decoded_cells, chunk_cell, cell_at_place}
+use Rattle.zarrs_engine_calls.specs.Reads.{ReadsKnown}
+use Rattle.zarrs_engine_calls.specs.Refusals as refusal
+use Rattle.zarrs_engine_calls.specs.Refusals.{Refusal, refuse_if}
+use Rattle.zarrs_engine_calls.specs.Step.{RetrievesPart}
+use Rattle.zarrs_engine_calls.proofs.Contents.{content_covered, in_chunk}
+use Rattle.zarrs_engine_calls.proofs.Shapes.{slice_there}
+use Rattle.zarrs_data_type.specs.States.{target_box}
+use Rattle.zarrs_data_type.specs.Targets.{takes_type}
 use Rattle.zarrs_engine.specs.PartialDecoders.{region_of_part}
 use Rattle.zarrs_engine.specs.ReadLaws.{DecodedPartsAgree, DecodesAt, TargetReadsAgree}
 use Rattle.zarrs_engine.proofs.Into.{has_content}

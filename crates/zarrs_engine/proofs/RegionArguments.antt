@@ -3,11 +3,11 @@ use Rattle.std.proofs.Common.{◌≡◌, ℕ, Bool, List, Option, Some, None}
 use Rattle.zarrs_subset.specs.Regions.{Box}
 use Rattle.zarrs_data_type.specs.ArrayData.{ArrayData}
 use Rattle.zarrs_storage.specs.Store.{StoreState}
-use Rattle.zarrs_calls.specs.Layout.{Layout}
-use Rattle.zarrs_calls.specs.ArgumentRefusals.{region_data_refusal, region_refusal}
-use Rattle.zarrs_calls.specs.Refusals.{Refusal, RefusesBy}
-use Rattle.zarrs_calls.specs.Step.{RefusesStoreRegion}
-use Rattle.zarrs_calls.proofs.RefusalLemmas.{refusal_moved, refused_first, refused_second}
+use Rattle.zarrs_engine_calls.specs.Layout.{Layout}
+use Rattle.zarrs_engine_calls.specs.ArgumentRefusals.{region_data_refusal, region_refusal}
+use Rattle.zarrs_engine_calls.specs.Refusals.{Refusal, RefusesBy}
+use Rattle.zarrs_engine_calls.specs.Step.{RefusesStoreRegion}
+use Rattle.zarrs_engine_calls.proofs.RefusalLemmas.{refusal_moved, refused_first, refused_second}
 use Rattle.zarrs_engine.proofs.Writes.{refused_early}
 
 -- ---- writes of regions

@@ -6,17 +6,17 @@ use Rattle.std.proofs.lemmas.List.{get_or-drop, get_or-replicate, get_or-take, l
 use Rattle.zarrs_subset.specs.Boxes.{position_count}
 use Rattle.zarrs_subset.specs.Regions.{Box, LiesInShape, box_at_origin}
 use Rattle.zarrs_storage.specs.Store.{StoreState}
-use Rattle.zarrs_types.specs.Kind.{Kind, inner_of}
-use Rattle.zarrs_types.specs.Cell.{none, some}
-use Rattle.zarrs_array_bytes.specs.ArrayData.{ArrayData, optional}
-use Rattle.zarrs_array_bytes.specs.Cells.{cell_at}
-use Rattle.zarrs_array_bytes.proofs.Cells.{IsSized}
-use Rattle.zarrs_target.specs.Targets.{IsTargetOver, masked, takes_type}
-use Rattle.zarrs_target.proofs.Boxes.{origin_long}
-use Rattle.zarrs_target.proofs.Levels.{masked_levels}
-use Rattle.zarrs_calls.specs.Layout.{Layout}
-use Rattle.zarrs_calls.specs.Reads.{ReadsRegion}
-use Rattle.zarrs_array_layout.specs.Covers.{CoverRegion}
+use Rattle.zarrs_data_type.specs.Kind.{Kind, inner_of}
+use Rattle.zarrs_data_type.specs.Cell.{none, some}
+use Rattle.zarrs_data_type.specs.ArrayData.{ArrayData, optional}
+use Rattle.zarrs_data_type.specs.Cells.{cell_at}
+use Rattle.zarrs_data_type_bytes.proofs.Cells.{IsSized}
+use Rattle.zarrs_data_type.specs.Targets.{IsTargetOver, masked, takes_type}
+use Rattle.zarrs_data_type_region.proofs.TargetBoxes.{origin_long}
+use Rattle.zarrs_data_type_region.proofs.TargetLevels.{masked_levels}
+use Rattle.zarrs_engine_calls.specs.Layout.{Layout}
+use Rattle.zarrs_engine_calls.specs.Reads.{ReadsRegion}
+use Rattle.zarrs_engine_layout.specs.Covers.{CoverRegion}
 use Rattle.zarrs_engine.specs.TargetReads.{HasReadInto}
 use Rattle.zarrs_engine.proofs.IntoReads.{region_read}
 

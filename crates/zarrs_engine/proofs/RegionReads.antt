@@ -7,32 +7,31 @@ use Rattle.std.proofs.lemmas.Bool.{cases_Bool, false≢true}
 use Rattle.std.proofs.lemmas.List.Elements.{Contains-push_cases}
 use Rattle.std.proofs.lemmas.List.Folds.{list_any-append, list_any_at}
 use Rattle.std.proofs.lemmas.Slice.Eq.{bytes_eq-Decides}
-use Rattle.zarrs_subset.specs.Boxes.{position_count}
-use Rattle.zarrs_subset.specs.Boxes.{offset_from, place}
+use Rattle.zarrs_subset.specs.Boxes.{position_count, offset_from, place}
 use Rattle.zarrs_subset.specs.Regions.{Box, Holds, IsLong, cell_in, in_box, place_in}
 use Rattle.zarrs_subset.proofs.Bytes.{holds_along, place_in_below}
 use Rattle.zarrs_subset.proofs.Overlaps.{in_box-overlap}
 use Rattle.zarrs_subset.proofs.Positions.{offset_from-in}
-use Rattle.zarrs_shard.proofs.SubchunkBoxes.{place_in_chunk}
-use Rattle.zarrs_parts.proofs.SubchunkSteps.{holds_seen, seen_again}
+use Rattle.zarrs_codec_shard.proofs.SubchunkBoxes.{place_in_chunk}
+use Rattle.zarrs_codec_chain.proofs.SubchunkSteps.{holds_seen, seen_again}
 use Rattle.zarrs_chunk_grid.specs.Grids.{box_at, index_at, is_covered, has_box}
 use Rattle.zarrs_chunk_grid.proofs.Chunks.{box_is_there, box_index, box_covered, box_long}
-use Rattle.zarrs_byte_strings.proofs.Inside.{holds_inside}
+use Rattle.zarrs_subset.proofs.Inside.{holds_inside}
 use Rattle.zarrs_storage.specs.Store.{StoreState}
 use Rattle.zarrs_data_type.specs.Cell.{Cell}
 use Rattle.zarrs_data_type.specs.ArrayData.{ArrayData}
 use Rattle.zarrs_data_type.specs.Cells.{cells}
-use Rattle.zarrs_array_bytes.specs.Parts.{TakesCells}
-use Rattle.zarrs_calls.specs.Layout.{Layout, IsLawful}
-use Rattle.zarrs_calls.specs.Content.{value_at, content, decoded_cells}
-use Rattle.zarrs_calls.specs.ChunkBoxes.{CoversBox}
-use Rattle.zarrs_calls.specs.Fronts.{is_in_chunks}
-use Rattle.zarrs_calls.specs.Reads.{IsBroken, ReadsRegion}
-use Rattle.zarrs_calls.specs.StateRefusals.{IsPart}
-use Rattle.zarrs_calls.proofs.Contents.{absent_fill, fill_at, in_chunk, only_member, reads_decoded, replicated, same_or_not}
-use Rattle.zarrs_calls.proofs.Shapes.{known_decodes}
-use Rattle.zarrs_array_layout.specs.Covers.{CoverRegion}
-use Rattle.zarrs_array_layout.specs.Shared.{AreApart, AreShared}
+use Rattle.zarrs_data_type.specs.Parts.{TakesCells}
+use Rattle.zarrs_engine_calls.specs.Layout.{Layout, IsLawful}
+use Rattle.zarrs_engine_calls.specs.Content.{value_at, content, decoded_cells}
+use Rattle.zarrs_engine_calls.specs.ChunkBoxes.{CoversBox}
+use Rattle.zarrs_engine_calls.specs.Fronts.{is_in_chunks}
+use Rattle.zarrs_engine_calls.specs.Reads.{IsBroken, ReadsRegion}
+use Rattle.zarrs_engine_calls.specs.StateRefusals.{IsPart}
+use Rattle.zarrs_engine_calls.proofs.Contents.{absent_fill, fill_at, in_chunk, only_member, reads_decoded, replicated, same_or_not}
+use Rattle.zarrs_engine_calls.proofs.Shapes.{known_decodes}
+use Rattle.zarrs_engine_layout.specs.Covers.{CoverRegion}
+use Rattle.zarrs_engine_layout.specs.Shared.{AreApart, AreShared}
 use Rattle.zarrs_engine.specs.RegionReads.{DecodesStored, HasRead, ReadsOneMore}
 
 or_all : (b : Bool) → b || true ≡ true

@@ -8,9 +8,9 @@ use Rattle.zarrs_keys.specs.Keys.{IsIndexList}
 use Rattle.zarrs_storage.specs.Store.{StoreState}
 use Rattle.zarrs_data_type.specs.ArrayData.{ArrayData}
 use Rattle.zarrs_data_type.specs.Cells.{HasCells}
-use Rattle.zarrs_data_type.proofs.Cells.{HasCells-some}
-use Rattle.zarrs_calls.specs.Layout.{ArrayState, Layout}
-use Rattle.zarrs_calls.specs.Reach.{MayAsk, MayAskChunks}
+use Rattle.zarrs_data_type_bytes.proofs.Cells.{HasCells-some}
+use Rattle.zarrs_engine_calls.specs.Layout.{ArrayState, Layout}
+use Rattle.zarrs_engine_calls.specs.Reach.{MayAsk, MayAskChunks}
 use Rattle.zarrs_engine.specs.RegionReads.{HasRead, ReadsOneMore}
 
 -- what stands at a number of a list is among it

@@ -1,14 +1,14 @@
 -- Replies to calls, as steps of a run.
 use Rattle.std.proofs.Common.{Result, Ok, Err, IfErr, IfOk, OnOk, ◌≡◌, ℕ, List, Bool, Option, sym, subst}
 use Rattle.zarrs_storage.specs.Store.{StoreState}
-use Rattle.zarrs_array_bytes.specs.declared.array_bytes.ArrayBytes.{ArrayBytes}
-use Rattle.zarrs_calls.specs.declared.call.Reply.{Reply}
-use Rattle.zarrs_calls.specs.declared.call.Reply.TheVariants.{Cells, Done, Refused}
-use Rattle.zarrs_calls.specs.declared.error.ArrayError.{ArrayError}
-use Rattle.zarrs_calls.specs.Acts.{Act, resize, shape_after}
-use Rattle.zarrs_calls.specs.Layout.{Layout}
-use Rattle.zarrs_calls.specs.Refusals.{Refusal}
-use Rattle.zarrs_calls.specs.Step.{ActStep}
+use Rattle.zarrs_data_type_bytes.specs.declared.array_bytes.ArrayBytes.{ArrayBytes}
+use Rattle.zarrs_engine_calls.specs.declared.call.Reply.{Reply}
+use Rattle.zarrs_engine_calls.specs.declared.call.Reply.TheVariants.{Cells, Done, Refused}
+use Rattle.zarrs_engine_calls.specs.declared.error.ArrayError.{ArrayError}
+use Rattle.zarrs_engine_calls.specs.Acts.{Act, resize, shape_after}
+use Rattle.zarrs_engine_calls.specs.Layout.{Layout}
+use Rattle.zarrs_engine_calls.specs.Refusals.{Refusal}
+use Rattle.zarrs_engine_calls.specs.Step.{ActStep}
 
 module _ (layout : Layout) (keep : Bool) (shape : List ℕ) (first : Option Refusal) (act : Act) (old new : StoreState) where
   abbrev Steps : Reply → Type 0

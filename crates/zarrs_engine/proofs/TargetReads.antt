@@ -10,10 +10,9 @@ use Rattle.std.proofs.lemmas.List.FromFn.{get_or-map-range_with_len, length-map-
 use Rattle.std.proofs.lemmas.List.Sums.{AllPass-from_list_all}
 use Rattle.std.proofs.lemmas.Option.{get_or_from_slice_get, slice_get-get_or, slice_get_within}
 use Rattle.zarrs_subset.specs.Boxes.{offset_by, offset_from, position_count}
-use Rattle.zarrs_subset.specs.Regions.{Box, Holds, IsLong, in_box, place_in, seen_from}
+use Rattle.zarrs_subset.specs.Regions.{Box, Holds, IsLong, in_box, place_in, seen_from, LiesInBox}
 use Rattle.zarrs_subset.proofs.Bytes.{along_holds, holds_along, place_in_below}
-use Rattle.zarrs_byte_strings.specs.StringParts.{LiesInBox}
-use Rattle.zarrs_byte_strings.proofs.Inside.{holds_inside}
+use Rattle.zarrs_subset.proofs.Inside.{holds_inside}
 use Rattle.zarrs_chunk_grid.specs.Grids.{IsGrid, Grid, box_at, extent_along, has_box, index_at, is_covered}
 use Rattle.zarrs_chunk_grid.proofs.Chunks.{box_dimensions, box_is_there, box_long}
 use Rattle.zarrs_chunk_grid.proofs.MetChunks.{at_dimension}
@@ -22,23 +21,23 @@ use Rattle.zarrs_data_type.specs.Kind.{fixed_size}
 use Rattle.zarrs_data_type.specs.Cell.{Cell, are_values, is_value, none}
 use Rattle.zarrs_data_type.specs.ArrayData.{ArrayData}
 use Rattle.zarrs_data_type.specs.Cells.{cell_at, fits}
-use Rattle.zarrs_array_bytes.proofs.Cells.{IsSized, cells-from}
-use Rattle.zarrs_array_bytes.proofs.Parts.{at_place}
-use Rattle.zarrs_target.specs.Targets.{FillsBox, KeepsOutside}
-use Rattle.zarrs_parts.specs.Parts.{DecodesInto, DecodesPartAt, place_at}
-use Rattle.zarrs_parts.proofs.Stays.{cell_stays}
-use Rattle.zarrs_parts.proofs.SubchunkSteps.{seen_again}
-use Rattle.zarrs_calls.specs.Layout.{Layout, IsLawful}
-use Rattle.zarrs_calls.specs.ChunkBoxes.{CoversBox}
-use Rattle.zarrs_calls.specs.Content.{value_at, cell_at_place, chunk_cell, content, decoded_cells}
-use Rattle.zarrs_calls.specs.Fronts.{is_in_chunks}
-use Rattle.zarrs_calls.specs.Reads.{IsBroken, ReadsRegion}
-use Rattle.zarrs_calls.proofs.Contents.{content_in_box, reads_decoded}
-use Rattle.zarrs_array_layout.specs.Covers.{CoverRegion}
-use Rattle.zarrs_array_layout.specs.Shared.{AreApart, AreShared}
-use Rattle.zarrs_array_layout.proofs.SharedBoxes.{shared_long}
+use Rattle.zarrs_data_type_bytes.proofs.Cells.{IsSized, cells-from}
+use Rattle.zarrs_data_type_bytes.proofs.Parts.{at_place}
+use Rattle.zarrs_data_type.specs.Targets.{FillsBox, KeepsOutside}
+use Rattle.zarrs_codec_chain.specs.Parts.{DecodesInto, DecodesPartAt, place_at}
+use Rattle.zarrs_codec_chain.proofs.Stays.{cell_stays}
+use Rattle.zarrs_codec_chain.proofs.SubchunkSteps.{seen_again}
+use Rattle.zarrs_engine_calls.specs.Layout.{Layout, IsLawful}
+use Rattle.zarrs_engine_calls.specs.ChunkBoxes.{CoversBox}
+use Rattle.zarrs_engine_calls.specs.Content.{value_at, cell_at_place, chunk_cell, content, decoded_cells}
+use Rattle.zarrs_engine_calls.specs.Fronts.{is_in_chunks}
+use Rattle.zarrs_engine_calls.specs.Reads.{IsBroken, ReadsRegion}
+use Rattle.zarrs_engine_calls.proofs.Contents.{content_in_box, reads_decoded}
+use Rattle.zarrs_engine_layout.specs.Covers.{CoverRegion}
+use Rattle.zarrs_engine_layout.specs.Shared.{AreApart, AreShared}
+use Rattle.zarrs_engine_layout.proofs.SharedBoxes.{shared_long}
 use Rattle.zarrs_engine.specs.TargetReads.{HasPositions, HasReadInto, IsRead, ReadsOneMoreInto}
-use Rattle.zarrs_parts.proofs.MovedBoxes.{in_overlap, moved_box, moved_holds, moved_in, moved_place, moved_same, moved_to, origin_place, part_holds}
+use Rattle.zarrs_codec_chain.proofs.MovedBoxes.{in_overlap, moved_box, moved_holds, moved_in, moved_place, moved_same, moved_to, origin_place, part_holds}
 use Rattle.zarrs_engine.proofs.RegionReads.{any_of, in_more}
 
 some_is : {A : Type 0} {x y : A} → Some x ≡ Some y → x ≡ y

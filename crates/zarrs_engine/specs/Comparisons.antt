@@ -1,11 +1,11 @@
 -- Chunks of two arrays, compared by the bytes that are stored.
 use Rattle.std.specs.Prelude.{◌≡◌, ◌≢◌, ◌⊎◌, ◌↔◌, ℕ, Bool, IsTrue, List, Contains}
 use Rattle.zarrs_storage.specs.Store.{StoreState}
-use Rattle.zarrs_calls.specs.Layout.{Layout}
-use Rattle.zarrs_calls.specs.Canon.{IsCanonical}
-use Rattle.zarrs_calls.specs.Content.{content, value_at}
-use Rattle.zarrs_calls.specs.Laws.{AgreeOver, DifferInKeys}
-use Rattle.zarrs_calls.specs.Refusals.{Refusal}
+use Rattle.zarrs_engine_calls.specs.Layout.{Layout}
+use Rattle.zarrs_engine_calls.specs.Canon.{IsCanonical}
+use Rattle.zarrs_engine_calls.specs.Content.{content, value_at}
+use Rattle.zarrs_engine_calls.specs.Laws.{AgreeOver, DifferInKeys}
+use Rattle.zarrs_engine_calls.specs.Refusals.{Refusal}
 use Rattle.zarrs_engine.specs.Encoded.{RefusesEncoded}
 
 -- an array lies like `a` in the store `one`, another like `b` in `two`; these are indices of chunks

@@ -1,9 +1,9 @@
 -- Chunks as the bytes that are stored.
 use Rattle.std.specs.Prelude.{◌≡◌, ◌≤◌, ◌^◌, true, List, length, map, Option, Contains, ℕ}
 use Rattle.zarrs_storage.specs.Store.{StoreState}
-use Rattle.zarrs_calls.specs.Layout.{Layout}
-use Rattle.zarrs_calls.specs.Content.{value_at}
-use Rattle.zarrs_calls.specs.Refusals.{Refusal, out_of_memory, size_overflow, storage}
+use Rattle.zarrs_engine_calls.specs.Layout.{Layout}
+use Rattle.zarrs_engine_calls.specs.Content.{value_at}
+use Rattle.zarrs_engine_calls.specs.Refusals.{Refusal, out_of_memory, size_overflow, storage}
 
 -- the bytes that are stored for each of these chunks, none for one that is absent
 abbrev pub stored_values : Layout → StoreState → List (List ℕ) → List (Option (List ℕ))

@@ -3,10 +3,10 @@ use Rattle.std.specs.Prelude.{◌≡◌, ℕ, List}
 use Rattle.zarrs_storage.specs.Store.{StoreState}
 use Rattle.zarrs_chunk_grid.specs.declared.traits.ChunkGridTraits.{Ghosts as GridMeaning}
 use Rattle.zarrs_keys.specs.declared.traits.ChunkKeyEncodingTraits.{Ghosts as KeyMeaning}
-use Rattle.zarrs_chain.specs.declared.traits.ChainTraits.{Ghosts as ChainMeanings}
+use Rattle.zarrs_codec_chain.specs.declared.traits.ChainTraits.{Ghosts as ChainMeanings}
 use Rattle.zarrs_data_type.specs.declared.data_type.DataType.{DataType}
-use Rattle.zarrs_calls.specs.Layout.{Layout, ArrayState}
-use Rattle.zarrs_array_layout.specs.Layouts.{layout_meaning}
+use Rattle.zarrs_engine_calls.specs.Layout.{Layout, ArrayState}
+use Rattle.zarrs_engine_layout.specs.Layouts.{layout_meaning}
 use Rattle.zarrs_engine.specs.declared.engine.Engine.{Engine}
 
 module _ {G K C : Type 0} {g : GridMeaning G} {k : KeyMeaning K} {c : ChainMeanings C} where

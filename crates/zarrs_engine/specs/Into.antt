@@ -6,17 +6,17 @@ use Rattle.zarrs_storage.specs.Store.{StoreState}
 use Rattle.zarrs_data_type.specs.Cell.{Cell}
 use Rattle.zarrs_data_type.specs.ArrayData.{ArrayData}
 use Rattle.zarrs_data_type.specs.Cells.{cell_at}
-use Rattle.zarrs_array_bytes.specs.Parts.{TakesEach}
-use Rattle.zarrs_calls.specs.Layout.{Layout}
-use Rattle.zarrs_calls.specs.Content.{value_at, content}
-use Rattle.zarrs_calls.specs.ArgumentRefusals.{into_refusal}
-use Rattle.zarrs_calls.specs.ChunkBoxes.{chunks_met}
-use Rattle.zarrs_calls.specs.Reads.{ReadsRegion}
-use Rattle.zarrs_calls.specs.Refusals.{Refusal}
-use Rattle.zarrs_calls.specs.StateRefusals.{RefusesRegionRead}
-use Rattle.zarrs_target.specs.declared.target.ArrayBytesDecodeIntoTarget.{ArrayBytesDecodeIntoTarget}
-use Rattle.zarrs_target.specs.States.{data_of_target, parent_box, target_box}
-use Rattle.zarrs_target.specs.Targets.{takes_type}
+use Rattle.zarrs_data_type.specs.Parts.{TakesEach}
+use Rattle.zarrs_engine_calls.specs.Layout.{Layout}
+use Rattle.zarrs_engine_calls.specs.Content.{value_at, content}
+use Rattle.zarrs_engine_calls.specs.ArgumentRefusals.{into_refusal}
+use Rattle.zarrs_engine_calls.specs.ChunkBoxes.{chunks_met}
+use Rattle.zarrs_engine_calls.specs.Reads.{ReadsRegion}
+use Rattle.zarrs_engine_calls.specs.Refusals.{Refusal}
+use Rattle.zarrs_engine_calls.specs.StateRefusals.{RefusesRegionRead}
+use Rattle.zarrs_data_type_region.specs.declared.target.ArrayBytesDecodeIntoTarget.{ArrayBytesDecodeIntoTarget}
+use Rattle.zarrs_data_type.specs.States.{data_of_target, parent_box, target_box}
+use Rattle.zarrs_data_type.specs.Targets.{takes_type}
 
 -- the first refusal that the arguments of a read into this target decide
 abbrev pub target_refusal : Layout → List ℕ → Box → ArrayBytesDecodeIntoTarget → Option Refusal

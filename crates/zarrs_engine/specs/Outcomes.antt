@@ -7,32 +7,30 @@ use Rattle.zarrs_storage.specs.Store.{StoreState}
 use Rattle.zarrs_storage.specs.declared.error.StorageError.{StorageError}
 use Rattle.zarrs_chunk_grid.specs.declared.traits.ChunkGridTraits.{Ghosts as GridMeaning}
 use Rattle.zarrs_keys.specs.declared.traits.ChunkKeyEncodingTraits.{Ghosts as KeyMeaning}
-use Rattle.zarrs_chain.specs.declared.traits.ChainTraits.{Ghosts as ChainMeanings}
-use Rattle.zarrs_chain.specs.Options.{encodes_partially, stores_empty_chunks}
-use Rattle.zarrs_chain.specs.declared.options.CodecOptions.{CodecOptions}
-use Rattle.zarrs_array_bytes.specs.declared.array_bytes.ArrayBytes.{ArrayBytes}
+use Rattle.zarrs_codec_chain.specs.declared.traits.ChainTraits.{Ghosts as ChainMeanings}
+use Rattle.zarrs_codec_chain.specs.Options.{encodes_partially, stores_empty_chunks}
+use Rattle.zarrs_codec_chain.specs.declared.options.CodecOptions.{CodecOptions}
+use Rattle.zarrs_data_type_bytes.specs.declared.array_bytes.ArrayBytes.{ArrayBytes}
 use Rattle.zarrs_data_type.specs.ArrayData.{ArrayData, data_of}
 use Rattle.zarrs_chunk_grid.specs.Grids.{box_at}
-use Rattle.zarrs_calls.specs.ArgumentRefusals.{chunk_refusal, dimensions_refusal, part_refusal, range_refusal, region_refusal}
-use Rattle.zarrs_calls.specs.ChunkBoxes.{chunks_met, is_empty, part_box}
-use Rattle.zarrs_calls.specs.Step.{RetrievesChunks, RefusesRetrieveChunks, RetrievesPart, RefusesRetrievePart, RetrievesRegion, RefusesRetrieveRegion}
-use Rattle.zarrs_calls.specs.Step.{StoresChunks, RefusesStoreChunks, StoresPart, RefusesStorePart, ErasesChunks, RefusesEraseChunks}
-use Rattle.zarrs_calls.specs.Reach.{MayAskChunks, MayAskParts, MayReadPart, MayReadParts}
-use Rattle.zarrs_calls.specs.Refusals.{Refusal, refusal_of, refusal_of_storage, length_refusal}
-use Rattle.zarrs_calls.specs.Canon.{IsCanonical, KeepsCanon}
-use Rattle.zarrs_calls.specs.Changes.{RetrievesChunk, RetrievesIfExists}
-use Rattle.zarrs_calls.specs.Compactions.{CompactsChunk}
-use Rattle.zarrs_calls.specs.Content.{value_at}
-use Rattle.zarrs_calls.specs.StateRefusals.{RefusesChunkRead}
-use Rattle.zarrs_calls.specs.Step.{StoresChunk, RefusesStoreChunk, ErasesChunk, RefusesEraseChunk, RefusesCompactChunk}
-use Rattle.zarrs_calls.specs.Step.{StoresRegion, RefusesStoreRegion}
-use Rattle.zarrs_calls.specs.Layout.{ArrayState, Layout}
-use Rattle.zarrs_calls.specs.declared.call.Call.{Call}
-use Rattle.zarrs_calls.specs.declared.call.Reply.{Reply}
-use Rattle.zarrs_calls.specs.Step.{Step}
-use Rattle.zarrs_calls.specs.Patches.{PatchStep}
-use Rattle.zarrs_calls.specs.Patches.{PatchesPart, RefusesPatchPart, PatchesRegion, RefusesPatchRegion}
-use Rattle.zarrs_calls.specs.declared.error.ArrayError.{ArrayError}
+use Rattle.zarrs_engine_calls.specs.ArgumentRefusals.{chunk_refusal, dimensions_refusal, part_refusal, range_refusal, region_refusal}
+use Rattle.zarrs_engine_calls.specs.ChunkBoxes.{chunks_met, is_empty, part_box}
+use Rattle.zarrs_engine_calls.specs.Step.{RetrievesChunks, RefusesRetrieveChunks, RetrievesPart, RefusesRetrievePart, RetrievesRegion, RefusesRetrieveRegion}
+use Rattle.zarrs_engine_calls.specs.Step.{StoresChunks, RefusesStoreChunks, StoresPart, RefusesStorePart, ErasesChunks, RefusesEraseChunks}
+use Rattle.zarrs_engine_calls.specs.Reach.{MayAskChunks, MayAskParts, MayReadPart, MayReadParts}
+use Rattle.zarrs_engine_calls.specs.Refusals.{Refusal, refusal_of, refusal_of_storage, length_refusal}
+use Rattle.zarrs_engine_calls.specs.Canon.{IsCanonical, KeepsCanon}
+use Rattle.zarrs_engine_calls.specs.Changes.{RetrievesChunk, RetrievesIfExists}
+use Rattle.zarrs_engine_calls.specs.Compactions.{CompactsChunk}
+use Rattle.zarrs_engine_calls.specs.Content.{value_at}
+use Rattle.zarrs_engine_calls.specs.StateRefusals.{RefusesChunkRead}
+use Rattle.zarrs_engine_calls.specs.Step.{StoresChunk, RefusesStoreChunk, ErasesChunk, RefusesEraseChunk, RefusesCompactChunk}
+use Rattle.zarrs_engine_calls.specs.Step.{StoresRegion, RefusesStoreRegion, Step}
+use Rattle.zarrs_engine_calls.specs.Layout.{ArrayState, Layout}
+use Rattle.zarrs_engine_calls.specs.declared.call.Call.{Call}
+use Rattle.zarrs_engine_calls.specs.declared.call.Reply.{Reply}
+use Rattle.zarrs_engine_calls.specs.Patches.{PatchStep, PatchesPart, RefusesPatchPart, PatchesRegion, RefusesPatchRegion}
+use Rattle.zarrs_engine_calls.specs.declared.error.ArrayError.{ArrayError}
 use Rattle.zarrs_engine.specs.Engine.{layout_of, store_of, state_of, KeepsLayout}
 use Rattle.zarrs_engine.specs.declared.engine.Engine.{Engine}
 

@@ -5,24 +5,24 @@ use Rattle.zarrs_subset.specs.Regions.{Box}
 use Rattle.zarrs_chunk_grid.specs.Grids.{box_at}
 use Rattle.zarrs_chunk_grid.specs.declared.traits.ChunkGridTraits.{Ghosts as GridMeaning}
 use Rattle.zarrs_keys.specs.declared.traits.ChunkKeyEncodingTraits.{Ghosts as KeyMeaning}
-use Rattle.zarrs_chain.specs.declared.traits.ChainTraits.{Ghosts as ChainMeanings}
+use Rattle.zarrs_codec_chain.specs.declared.traits.ChainTraits.{Ghosts as ChainMeanings}
 use Rattle.zarrs_storage.specs.Store.{StoreState}
-use Rattle.zarrs_calls.specs.ArgumentRefusals.{part_refusal}
-use Rattle.zarrs_calls.specs.ChunkBoxes.{part_box}
-use Rattle.zarrs_calls.specs.Layout.{Layout}
-use Rattle.zarrs_calls.specs.Refusals.{Refusal, RefusesBy}
-use Rattle.zarrs_target.specs.declared.target.ArrayBytesDecodeIntoTarget.{ArrayBytesDecodeIntoTarget}
+use Rattle.zarrs_engine_calls.specs.ArgumentRefusals.{part_refusal}
+use Rattle.zarrs_engine_calls.specs.ChunkBoxes.{part_box}
+use Rattle.zarrs_engine_calls.specs.Layout.{Layout}
+use Rattle.zarrs_engine_calls.specs.Refusals.{Refusal, RefusesBy}
+use Rattle.zarrs_data_type_region.specs.declared.target.ArrayBytesDecodeIntoTarget.{ArrayBytesDecodeIntoTarget}
 use Rattle.zarrs_engine.specs.Into.{RefusesRetrieveInto, target_refusal}
 use Rattle.zarrs_engine.specs.declared.engine.Engine.{Engine}
-use Rattle.zarrs_engine.specs.declared.partial_decoder.ArrayPartialDecoder.{ArrayPartialDecoder}
+use Rattle.zarrs_engine.specs.declared.partial_decoder.ChunkPartialDecoder.{ChunkPartialDecoder}
 
 module _ {G K C : Type 0} {g : GridMeaning G} {k : KeyMeaning K} {c : ChainMeanings C} where
   module _ {S : Type 0} where
     -- the engine that a decoder reads, and the indices of its chunk
-    abbrev pub engine_of : ArrayPartialDecoder S G K C g k c → Engine S G K C g k c
+    abbrev pub engine_of : ChunkPartialDecoder S G K C g k c → Engine S G K C g k c
     engine_of decoder = decoder.engine.now
 
-    abbrev pub indices_of : ArrayPartialDecoder S G K C g k c → List ℕ
+    abbrev pub indices_of : ChunkPartialDecoder S G K C g k c → List ℕ
     indices_of decoder = decoder.chunk_indices.items
 
 -- the region of the array that this part of the chunk is

@@ -2,18 +2,18 @@
 use Rattle.std.specs.Prelude.{ℕ, List}
 use Rattle.zarrs_chunk_grid.specs.declared.traits.ChunkGridTraits.{Ghosts as GridMeaning}
 use Rattle.zarrs_keys.specs.declared.traits.ChunkKeyEncodingTraits.{Ghosts as KeyMeaning}
-use Rattle.zarrs_chain.specs.declared.traits.ChainTraits.{Ghosts as ChainMeanings}
+use Rattle.zarrs_codec_chain.specs.declared.traits.ChainTraits.{Ghosts as ChainMeanings}
 use Rattle.zarrs_engine.specs.declared.engine.Engine.{Engine}
-use Rattle.zarrs_engine.specs.declared.partial_encoder.ArrayPartialEncoder.{ArrayPartialEncoder}
+use Rattle.zarrs_engine.specs.declared.partial_encoder.ChunkPartialEncoder.{ChunkPartialEncoder}
 
 module _ {G K C : Type 0} {g : GridMeaning G} {k : KeyMeaning K} {c : ChainMeanings C} where
   module _ {S : Type 0} where
     -- the engine that an encoder writes, the name of its loan, and the indices of its chunk
-    abbrev pub engine_of : ArrayPartialEncoder S G K C g k c → Engine S G K C g k c
+    abbrev pub engine_of : ChunkPartialEncoder S G K C g k c → Engine S G K C g k c
     engine_of encoder = encoder.engine.now
 
-    abbrev pub loan_of : ArrayPartialEncoder S G K C g k c → ℕ
+    abbrev pub loan_of : ChunkPartialEncoder S G K C g k c → ℕ
     loan_of encoder = encoder.engine.ghost_name
 
-    abbrev pub indices_of : ArrayPartialEncoder S G K C g k c → List ℕ
+    abbrev pub indices_of : ChunkPartialEncoder S G K C g k c → List ℕ
     indices_of encoder = encoder.chunk_indices.items

@@ -6,11 +6,11 @@ use Rattle.zarrs_storage.specs.Store.{StoreState}
 use Rattle.zarrs_data_type.specs.Cell.{Cell}
 use Rattle.zarrs_data_type.specs.ArrayData.{ArrayData}
 use Rattle.zarrs_data_type.specs.Cells.{cells}
-use Rattle.zarrs_calls.specs.Layout.{Layout}
-use Rattle.zarrs_calls.specs.Refusals.{Refusal}
-use Rattle.zarrs_calls.specs.Changes.{Makes}
-use Rattle.zarrs_calls.specs.Patches.{Patches, RefusesPatch}
-use Rattle.zarrs_array_layout.specs.Steps.{LeavesValues}
+use Rattle.zarrs_engine_calls.specs.Layout.{Layout}
+use Rattle.zarrs_engine_calls.specs.Refusals.{Refusal}
+use Rattle.zarrs_engine_calls.specs.Changes.{Makes}
+use Rattle.zarrs_engine_calls.specs.Patches.{Patches, RefusesPatch}
+use Rattle.zarrs_engine_layout.specs.Steps.{LeavesValues}
 
 -- one chunk did not take its part
 abbrev pub LeavesPatch : Layout → (keep : Bool) → Box → ArrayData → (index : List ℕ) → Refusal → StoreState → StoreState → Type 0

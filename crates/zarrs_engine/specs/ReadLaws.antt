@@ -6,11 +6,11 @@ use Rattle.zarrs_storage.specs.Store.{StoreState}
 use Rattle.zarrs_data_type.specs.Cell.{Cell}
 use Rattle.zarrs_data_type.specs.ArrayData.{ArrayData}
 use Rattle.zarrs_data_type.specs.Cells.{cells, cell_at}
-use Rattle.zarrs_calls.specs.Layout.{Layout, IsLawful}
-use Rattle.zarrs_calls.specs.Reads.{IsBroken}
-use Rattle.zarrs_calls.specs.Step.{RetrievesPart, RetrievesRegion}
-use Rattle.zarrs_target.specs.declared.target.ArrayBytesDecodeIntoTarget.{ArrayBytesDecodeIntoTarget}
-use Rattle.zarrs_target.specs.States.{IsTarget, data_of_target}
+use Rattle.zarrs_engine_calls.specs.Layout.{Layout, IsLawful}
+use Rattle.zarrs_engine_calls.specs.Reads.{IsBroken}
+use Rattle.zarrs_engine_calls.specs.Step.{RetrievesPart, RetrievesRegion}
+use Rattle.zarrs_data_type_region.specs.declared.target.ArrayBytesDecodeIntoTarget.{ArrayBytesDecodeIntoTarget}
+use Rattle.zarrs_data_type.specs.States.{IsTarget, data_of_target}
 use Rattle.zarrs_engine.specs.Into.{RetrievesInto, place_of}
 use Rattle.zarrs_engine.specs.PartialDecoders.{region_of_part}
 

@@ -2,19 +2,18 @@
 use Rattle.std.specs.Prelude.{◌≡◌, ℕ, ◌++◌, List, [], ◌∷◌, length, Some, Contains, if◌then◌else◌}
 use Rattle.zarrs_chunk_grid.specs.Grids.{box_at}
 use Rattle.zarrs_subset.specs.Boxes.{position_count}
-use Rattle.zarrs_subset.specs.Regions.{Box, Holds, IsLong, cell_in, seen_from}
-use Rattle.zarrs_byte_strings.specs.StringParts.{LiesInBox}
+use Rattle.zarrs_subset.specs.Regions.{Box, Holds, IsLong, cell_in, seen_from, LiesInBox}
 use Rattle.zarrs_storage.specs.Store.{StoreState}
 use Rattle.zarrs_data_type.specs.Cell.{Cell}
 use Rattle.zarrs_data_type.specs.ArrayData.{ArrayData}
 use Rattle.zarrs_data_type.specs.Cells.{cells}
-use Rattle.zarrs_calls.specs.Layout.{Layout}
-use Rattle.zarrs_parts.specs.Parts.{DecodesPart}
-use Rattle.zarrs_calls.specs.Content.{value_at, content, decoded_cells}
-use Rattle.zarrs_calls.specs.ChunkBoxes.{CoversBox}
-use Rattle.zarrs_calls.specs.Fronts.{is_in_chunks}
-use Rattle.zarrs_calls.specs.Reads.{IsBroken}
-use Rattle.zarrs_calls.specs.StateRefusals.{IsPart}
+use Rattle.zarrs_engine_calls.specs.Layout.{Layout}
+use Rattle.zarrs_codec_chain.specs.Parts.{DecodesPart}
+use Rattle.zarrs_engine_calls.specs.Content.{value_at, content, decoded_cells}
+use Rattle.zarrs_engine_calls.specs.ChunkBoxes.{CoversBox}
+use Rattle.zarrs_engine_calls.specs.Fronts.{is_in_chunks}
+use Rattle.zarrs_engine_calls.specs.Reads.{IsBroken}
+use Rattle.zarrs_engine_calls.specs.StateRefusals.{IsPart}
 
 -- The data is one cell for each position of the region: in these chunks the content, wherever there is one, and else fill.
 -- A chunk that the region covers decodes.

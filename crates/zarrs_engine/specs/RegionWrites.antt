@@ -7,11 +7,11 @@ use Rattle.zarrs_storage.specs.Store.{StoreState}
 use Rattle.zarrs_data_type.specs.Cell.{Cell}
 use Rattle.zarrs_data_type.specs.ArrayData.{ArrayData}
 use Rattle.zarrs_data_type.specs.Cells.{cells}
-use Rattle.zarrs_calls.specs.Layout.{Layout}
-use Rattle.zarrs_calls.specs.Refusals.{Refusal}
-use Rattle.zarrs_calls.specs.Changes.{Makes, Stores}
-use Rattle.zarrs_calls.specs.StateRefusals.{AreUpdated, RefusesPart}
-use Rattle.zarrs_array_layout.specs.Steps.{LeavesValues}
+use Rattle.zarrs_engine_calls.specs.Layout.{Layout}
+use Rattle.zarrs_engine_calls.specs.Refusals.{Refusal}
+use Rattle.zarrs_engine_calls.specs.Changes.{Makes, Stores}
+use Rattle.zarrs_engine_calls.specs.StateRefusals.{AreUpdated, RefusesPart}
+use Rattle.zarrs_engine_layout.specs.Steps.{LeavesValues}
 
 -- each position of the region lies in a chunk
 abbrev pub AreCovered : Grid → Box → Type 0

@@ -7,11 +7,11 @@ use Rattle.zarrs_storage.specs.Store.{StoreState}
 use Rattle.zarrs_data_type.specs.Cell.{Cell, is_value}
 use Rattle.zarrs_data_type.specs.ArrayData.{ArrayData}
 use Rattle.zarrs_data_type.specs.Cells.{cell_at}
-use Rattle.zarrs_calls.specs.ChunkBoxes.{CoversBox}
-use Rattle.zarrs_calls.specs.Content.{value_at, content}
-use Rattle.zarrs_calls.specs.Fronts.{is_in_chunks}
-use Rattle.zarrs_calls.specs.Layout.{Layout}
-use Rattle.zarrs_calls.specs.Reads.{IsBroken}
+use Rattle.zarrs_engine_calls.specs.ChunkBoxes.{CoversBox}
+use Rattle.zarrs_engine_calls.specs.Content.{value_at, content}
+use Rattle.zarrs_engine_calls.specs.Fronts.{is_in_chunks}
+use Rattle.zarrs_engine_calls.specs.Layout.{Layout}
+use Rattle.zarrs_engine_calls.specs.Reads.{IsBroken}
 
 -- the cell is a value of the type, and the content at the position, wherever there is one
 pub record IsRead (layout : Layout) (state : StoreState) (position : List ℕ) (cell : Cell) : Type 0 where

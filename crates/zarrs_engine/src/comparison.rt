@@ -2,18 +2,17 @@
 ghost use Rattle.std.specs.Prelude.{◌≡◌, ◌↔◌, ◌⊎◌, IfOk, IfErr, IsTrue, length};
 ghost use Rattle.std.specs.Bool.{OnFalse, OnTrue};
 ghost use Rattle.zarrs_subset.specs.Regions.{box_of, positions};
-ghost use Rattle.zarrs_calls.specs.Content.{value_at};
-ghost use Rattle.zarrs_calls.specs.Reach.{MayAskChunk, MayAskChunks};
-ghost use Rattle.zarrs_calls.specs.Refusals.{RefusesBy, key_refusal, refusal_of};
-ghost use Rattle.zarrs_engine.specs.Comparisons.{ComparesContent, DifferInChunk, HoldSameChunks};
-ghost use Rattle.zarrs_engine.specs.Comparisons.{RefusesComparison};
+ghost use Rattle.zarrs_engine_calls.specs.Content.{value_at};
+ghost use Rattle.zarrs_engine_calls.specs.Reach.{MayAskChunk, MayAskChunks};
+ghost use Rattle.zarrs_engine_calls.specs.Refusals.{RefusesBy, key_refusal, refusal_of};
+ghost use Rattle.zarrs_engine.specs.Comparisons.{ComparesContent, DifferInChunk, HoldSameChunks, RefusesComparison};
 ghost use Rattle.zarrs_engine.specs.Engine.{layout_of, store_of};
 
 use crate::engine::Engine;
 use std::alloc::Global;
-use zarrs_calls::ArrayError;
-use zarrs_chain::ChainTraits;
 use zarrs_chunk_grid::ChunkGridTraits;
+use zarrs_codec_chain::ChainTraits;
+use zarrs_engine_calls::ArrayError;
 use zarrs_keys::ChunkKeyEncodingTraits;
 use zarrs_storage::ReadableStorageTraits;
 use zarrs_subset::ArraySubset;

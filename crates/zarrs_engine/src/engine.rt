@@ -14,10 +14,10 @@ mod writes;
 
 pub use calls::replay;
 use std::fmt;
-use zarrs_array_layout::ArrayLayout;
-use zarrs_chain::ChainTraits;
 use zarrs_chunk_grid::ChunkGridTraits;
+use zarrs_codec_chain::ChainTraits;
 use zarrs_data_type::{DataType, FillValue};
+use zarrs_engine_layout::ArrayLayout;
 use zarrs_keys::{ChunkKeyEncodingTraits, NodePath};
 
 /// The chunks of one array in a store.
@@ -36,8 +36,8 @@ impl<S, G: ChunkGridTraits, K: ChunkKeyEncodingTraits, C: ChainTraits> Engine<S,
     ghost use Rattle.std.specs.Prelude.{◌≡◌, IsSome};
     ghost use Rattle.zarrs_data_type.specs.Kind.{kind};
     ghost use Rattle.zarrs_data_type.specs.Cell.{fill_cell};
-    ghost use Rattle.zarrs_calls.specs.Layout.{layout_at};
-    ghost use Rattle.zarrs_array_layout.specs.Layouts.{layout_meaning};
+    ghost use Rattle.zarrs_engine_calls.specs.Layout.{layout_at};
+    ghost use Rattle.zarrs_engine_layout.specs.Layouts.{layout_meaning};
     ghost use Rattle.zarrs_engine.specs.Engine.{layout_of, the_store, path_of, grid_of, keys_of};
     ghost use Rattle.zarrs_engine.specs.Engine.{chain_of, data_type_of, fill_value_of};
     ghost use Rattle.zarrs_engine.specs.Lending.{LendsStore};
@@ -197,7 +197,7 @@ impl<S, G: ChunkGridTraits, K: ChunkKeyEncodingTraits, C: ChainTraits> fmt::Debu
     }
 }
 
-ghost use Rattle.zarrs_calls.specs.Layout.{IsLawful};
+ghost use Rattle.zarrs_engine_calls.specs.Layout.{IsLawful};
 ghost use Rattle.zarrs_engine.specs.Engine.{layout_of};
 
 /// The layout of every engine is lawful: its grid, its keys and its chain keep their laws, no chunk key is a metadata

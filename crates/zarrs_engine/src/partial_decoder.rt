@@ -5,18 +5,17 @@ ghost use Rattle.zarrs_engine.specs.Engine.{layout_of};
 
 use crate::engine::Engine;
 use std::alloc::Global;
-use zarrs_calls::ArrayError;
-use zarrs_chain::{ChainTraits, CodecOptions};
 use zarrs_chunk_grid::ChunkGridTraits;
-use zarrs_data_type::ArrayBytes;
+use zarrs_codec_chain::{ChainTraits, CodecOptions};
+use zarrs_data_type::{ArrayBytes, ArrayBytesDecodeIntoTarget};
+use zarrs_engine_calls::ArrayError;
 use zarrs_keys::ChunkKeyEncodingTraits;
 use zarrs_storage::ReadableStorageTraits;
 use zarrs_subset::{ArrayIndices, ArraySubset};
-use zarrs_target::ArrayBytesDecodeIntoTarget;
 
 /// A chunk of an array, of which parts are read. It keeps nothing of what it read.
 #[derive(Debug, Drop)]
-pub struct ArrayPartialDecoder<
+pub struct ChunkPartialDecoder<
     'a,
     S,
     G: ChunkGridTraits,
@@ -31,8 +30,8 @@ pub struct ArrayPartialDecoder<
 impl<S, G: ChunkGridTraits, K: ChunkKeyEncodingTraits, C: ChainTraits> Engine<S, G, K, C> {
     ghost use Rattle.std.specs.Prelude.{◌≡◌, true, IfOk, IfErr, OnOk};
     ghost use Rattle.zarrs_chunk_grid.specs.Grids.{has_box};
-    ghost use Rattle.zarrs_calls.specs.ArgumentRefusals.{chunk_refusal};
-    ghost use Rattle.zarrs_calls.specs.Refusals.{RefusesBy, refusal_of};
+    ghost use Rattle.zarrs_engine_calls.specs.ArgumentRefusals.{chunk_refusal};
+    ghost use Rattle.zarrs_engine_calls.specs.Refusals.{RefusesBy, refusal_of};
     ghost use Rattle.zarrs_engine.specs.Engine.{layout_of};
     ghost use Rattle.zarrs_engine.specs.PartialDecoders.{engine_of, indices_of};
 
@@ -44,7 +43,7 @@ impl<S, G: ChunkGridTraits, K: ChunkKeyEncodingTraits, C: ChainTraits> Engine<S,
         &self,
         alloc: Global,
         chunk_indices: &[u64],
-    ) -> Result<ArrayPartialDecoder<'_, S, G, K, C>, ArrayError>
+    ) -> Result<ChunkPartialDecoder<'_, S, G, K, C>, ArrayError>
         ensures engine { IfOk result (λ decoder. engine_of decoder ≡ self.now) }
         ensures chunk { IfOk result (λ decoder. indices_of decoder ≡ chunk_indices.now) }
         ensures accepted { OnOk result (has_box (layout_of self.now).grid chunk_indices.now
@@ -53,7 +52,7 @@ impl<S, G: ChunkGridTraits, K: ChunkKeyEncodingTraits, C: ChainTraits> Engine<S,
             (chunk_refusal (layout_of self.now) chunk_indices.now) (refusal_of e)) }
     {
         self.layout().chunk_box(alloc, chunk_indices)?;
-        Ok(ArrayPartialDecoder {
+        Ok(ChunkPartialDecoder {
             engine: self,
             chunk_indices: chunk_indices.to_vec(alloc)?,
         })
@@ -65,15 +64,15 @@ impl<
     G: ChunkGridTraits,
     K: ChunkKeyEncodingTraits,
     C: ChainTraits,
-> ArrayPartialDecoder<'_, S, G, K, C> {
+> ChunkPartialDecoder<'_, S, G, K, C> {
     ghost use Rattle.std.specs.Prelude.{◌≡◌, ◌↔◌, true, None, IfOk, IfErr, IsSome, IsTrue, OnErr, OnOk};
     ghost use Rattle.zarrs_subset.specs.Regions.{box_of};
     ghost use Rattle.zarrs_data_type.specs.ArrayData.{data_of};
-    ghost use Rattle.zarrs_calls.specs.ArgumentRefusals.{part_refusal, region_refusal};
-    ghost use Rattle.zarrs_calls.specs.Changes.{IsPresent};
-    ghost use Rattle.zarrs_calls.specs.Refusals.{RefusesBy, key_refusal, refusal_of};
-    ghost use Rattle.zarrs_calls.specs.Step.{RetrievesPart, RefusesRetrievePart};
-    ghost use Rattle.zarrs_target.specs.States.{IsTarget, SameBox, StaysOutside};
+    ghost use Rattle.zarrs_engine_calls.specs.ArgumentRefusals.{part_refusal, region_refusal};
+    ghost use Rattle.zarrs_engine_calls.specs.Changes.{IsPresent};
+    ghost use Rattle.zarrs_engine_calls.specs.Refusals.{RefusesBy, key_refusal, refusal_of};
+    ghost use Rattle.zarrs_engine_calls.specs.Step.{RetrievesPart, RefusesRetrievePart};
+    ghost use Rattle.zarrs_data_type.specs.States.{IsTarget, SameBox, StaysOutside};
     ghost use Rattle.zarrs_engine.specs.Engine.{layout_of, state_of, store_of};
     ghost use Rattle.zarrs_engine.specs.Into.{HasContent, RetrievesInto};
     ghost use Rattle.zarrs_engine.specs.Outcomes.{MayRetrievePart};

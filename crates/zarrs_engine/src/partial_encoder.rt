@@ -6,17 +6,17 @@ ghost use Rattle.zarrs_engine.specs.Engine.{layout_of};
 use crate::engine::Engine;
 use std::alloc::Global;
 use std::fmt;
-use zarrs_calls::ArrayError;
-use zarrs_chain::{ChainTraits, CodecOptions};
 use zarrs_chunk_grid::ChunkGridTraits;
+use zarrs_codec_chain::{ChainTraits, CodecOptions};
 use zarrs_data_type::ArrayBytes;
+use zarrs_engine_calls::ArrayError;
 use zarrs_keys::ChunkKeyEncodingTraits;
 use zarrs_storage::WritableStorageTraits;
 use zarrs_subset::{ArrayIndices, ArraySubset};
 
 /// A chunk of an array, of which parts are written. It keeps nothing of what it wrote.
 #[derive(Drop)]
-pub struct ArrayPartialEncoder<
+pub struct ChunkPartialEncoder<
     'a,
     S,
     G: ChunkGridTraits,
@@ -31,8 +31,8 @@ pub struct ArrayPartialEncoder<
 impl<S, G: ChunkGridTraits, K: ChunkKeyEncodingTraits, C: ChainTraits> Engine<S, G, K, C> {
     ghost use Rattle.std.specs.Prelude.{◌≡◌, true, IfOk, IfErr, OnOk};
     ghost use Rattle.zarrs_chunk_grid.specs.Grids.{has_box};
-    ghost use Rattle.zarrs_calls.specs.ArgumentRefusals.{chunk_refusal};
-    ghost use Rattle.zarrs_calls.specs.Refusals.{RefusesBy, refusal_of};
+    ghost use Rattle.zarrs_engine_calls.specs.ArgumentRefusals.{chunk_refusal};
+    ghost use Rattle.zarrs_engine_calls.specs.Refusals.{RefusesBy, refusal_of};
     ghost use Rattle.zarrs_engine.specs.Engine.{layout_of};
     ghost use Rattle.zarrs_engine.specs.PartialEncoders.{engine_of, indices_of, loan_of};
 
@@ -44,7 +44,7 @@ impl<S, G: ChunkGridTraits, K: ChunkKeyEncodingTraits, C: ChainTraits> Engine<S,
         &mut self,
         alloc: Global,
         chunk_indices: &[u64],
-    ) -> Result<ArrayPartialEncoder<'_, S, G, K, C>, ArrayError>
+    ) -> Result<ChunkPartialEncoder<'_, S, G, K, C>, ArrayError>
         ensures engine { IfOk result (λ encoder. engine_of encoder ≡ self.old) }
         ensures same_loan { IfOk result (λ encoder. loan_of encoder ≡ self.entry.ghost_name) }
         ensures chunk { IfOk result (λ encoder. indices_of encoder ≡ chunk_indices.now) }
@@ -55,7 +55,7 @@ impl<S, G: ChunkGridTraits, K: ChunkKeyEncodingTraits, C: ChainTraits> Engine<S,
     {
         self.layout().chunk_box(alloc, chunk_indices)?;
         let chunk_indices = chunk_indices.to_vec(alloc)?;
-        Ok(ArrayPartialEncoder {
+        Ok(ChunkPartialEncoder {
             engine: self,
             chunk_indices,
         })
@@ -67,13 +67,13 @@ impl<
     G: ChunkGridTraits,
     K: ChunkKeyEncodingTraits,
     C: ChainTraits,
-> ArrayPartialEncoder<'_, S, G, K, C> {
+> ChunkPartialEncoder<'_, S, G, K, C> {
     ghost use Rattle.std.specs.Prelude.{◌≡◌, ◌&&◌, None};
     ghost use Rattle.zarrs_subset.specs.Regions.{box_of};
     ghost use Rattle.zarrs_data_type.specs.ArrayData.{data_of};
-    ghost use Rattle.zarrs_chain.specs.Options.{stores_empty_chunks};
-    ghost use Rattle.zarrs_calls.specs.ArgumentRefusals.{part_refusal};
-    ghost use Rattle.zarrs_calls.specs.Reach.{MayAskChunk};
+    ghost use Rattle.zarrs_codec_chain.specs.Options.{stores_empty_chunks};
+    ghost use Rattle.zarrs_engine_calls.specs.ArgumentRefusals.{part_refusal};
+    ghost use Rattle.zarrs_engine_calls.specs.Reach.{MayAskChunk};
     ghost use Rattle.zarrs_engine.specs.Engine.{layout_of, store_of};
     ghost use Rattle.zarrs_engine.specs.Outcomes.{ErasesEncodedOrRefuses, PatchesPartOrRefuses};
     ghost use Rattle.zarrs_engine.specs.PartialEncoders.{engine_of, indices_of, loan_of};
@@ -128,9 +128,9 @@ impl<
 
 /// Prints the engine and the indices. The store is not printed.
 impl<S, G: ChunkGridTraits, K: ChunkKeyEncodingTraits, C: ChainTraits> fmt::Debug
-    for ArrayPartialEncoder<'_, S, G, K, C> {
+    for ChunkPartialEncoder<'_, S, G, K, C> {
     fn fmt<W: fmt::Write>(&self, f: &mut fmt::Formatter<W>) -> fmt::Result {
-        f.debug_struct("ArrayPartialEncoder")
+        f.debug_struct("ChunkPartialEncoder")
             .field("engine", &*self.engine)
             .field("chunk_indices", &self.chunk_indices)
             .finish()

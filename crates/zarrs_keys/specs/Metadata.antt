@@ -3,11 +3,11 @@ use Rattle.std.specs.Prelude.{ℕ, List, [], ◌∷◌, true, ◌||◌, codes, i
 use Rattle.std.specs.Str.{bytes_eq}
 use Rattle.serde_json.specs.Data.{Data, string, Members, no_members, member}
 use Rattle.serde_json.specs.Find.{get_member, as_str}
-use Rattle.zarrs_metadata.specs.Extension.{ExtensionData, settings, ◌>>=◌}
-use Rattle.zarrs_metadata.specs.Members.{has_only}
-use Rattle.zarrs_metadata.specs.Separator.{separator_of, separator_data}
-use Rattle.zarrs_metadata.specs.declared.separators.ChunkKeySeparator.{ChunkKeySeparator}
-use Rattle.zarrs_metadata.specs.declared.separators.ChunkKeySeparator.TheVariants.{Slash, Dot}
+use Rattle.zarrs_metadata_parts.specs.Extension.{ExtensionData, settings, ◌>>=◌}
+use Rattle.zarrs_metadata_parts.specs.Members.{has_only}
+use Rattle.zarrs_metadata_parts.specs.Separator.{separator_of, separator_data}
+use Rattle.zarrs_metadata_parts.specs.declared.separators.ChunkKeySeparator.{ChunkKeySeparator}
+use Rattle.zarrs_metadata_parts.specs.declared.separators.ChunkKeySeparator.TheVariants.{Slash, Dot}
 use Rattle.zarrs_keys.specs.Keys.{is_suffix}
 use Rattle.zarrs_keys.specs.declared.encodings.ChunkKeyEncoding.{ChunkKeyEncoding}
 use Rattle.zarrs_keys.specs.declared.encodings.ChunkKeyEncoding.TheVariants.{Default, V2, DefaultSuffix}

@@ -1,8 +1,8 @@
 //! The metadata of chunk key encodings, both ways.
 ghost use Rattle.std.specs.Prelude.{◌≡◌, Some, IfOk, IfErr};
 ghost use Rattle.serde_json.specs.Data.{no_members};
-ghost use Rattle.zarrs_metadata.specs.Extension.{settings, extension_view};
-ghost use Rattle.zarrs_metadata.specs.Refusals.{RefusesMeaning};
+ghost use Rattle.zarrs_metadata_parts.specs.Extension.{settings, extension_view};
+ghost use Rattle.zarrs_metadata_parts.specs.Refusals.{RefusesMeaning};
 ghost use Rattle.zarrs_keys.specs.Metadata.{separator_in, suffix_named, suffix_in, default_of};
 ghost use Rattle.zarrs_keys.specs.Metadata.{v2_of, default_suffix_of, key_encoding_of, configured};
 ghost use Rattle.zarrs_keys.specs.Metadata.{separator_member, extension_of_encoding};
@@ -12,7 +12,7 @@ use crate::error::KeySuffixError;
 use crate::suffixes::KeySuffix;
 use serde_json::Value;
 use std::alloc::{AllocError, Global};
-use zarrs_metadata::{ChunkKeySeparator, MetadataV3, PluginCreateError};
+use zarrs_metadata_parts::{ChunkKeySeparator, MetadataV3, PluginCreateError};
 
 /// Returns the separator of a configuration, or `absent` if it has none.
 fn separator_in(absent: ChunkKeySeparator, metadata: &MetadataV3) -> Option<ChunkKeySeparator>

@@ -1,3 +1,2 @@
-pub mod MemberLemmas
-pub mod ExtensionLaws
-pub mod ListLemmas
+pub mod FilterLemmas
+pub mod ConversionLaws

@@ -1,7 +1,3 @@
-pub mod FillValue
-pub mod Separator
-pub mod Members
-pub mod Extension
-pub mod Lists
+pub mod Conversion
 pub mod Refusals
-pub mod TypesV2
+pub mod Versions

@@ -1,58 +1,45 @@
-//! Why metadata is refused.
+//! Why a V2 document is not converted.
 ghost use Rattle.std.specs.Prelude.{◌≡◌};
-ghost use Rattle.zarrs_metadata.specs.declared.error.PluginCreateError.TheVariants.{OutOfMemory};
+ghost use Rattle.zarrs_metadata.specs.declared.error.ArrayMetadataV2ToV3Error.TheVariants as conversion;
 
-use std::alloc::{AllocError, AllocFailed, Global};
+use std::alloc::{AllocError, AllocFailed};
 use thiserror::Error;
+use zarrs_metadata_parts::FillValueMetadata;
 
-/// Why a JSON value is not metadata.
+/// Why a V2 document has no V3 document.
 #[derive(Debug, Drop, Error)]
-pub enum MetadataError {
-    /// The value has another shape than the metadata.
-    #[error("the metadata has another shape")]
-    InvalidShape,
+pub enum ArrayMetadataV2ToV3Error {
+    /// The data type has no V3 name.
+    #[error("unsupported Zarr V2 data type: {0}")]
+    UnsupportedDataType(String),
+    /// The fill value is no value of the data type.
+    #[error("invalid fill value metadata for data type `{data_type_name}`: {fill_value_metadata}")]
+    InvalidFillValueMetadata {
+        /// The data type, as the V2 document names it.
+        data_type_name: String,
+        /// What was to be its fill value.
+        fill_value_metadata: FillValueMetadata,
+    },
+    /// The compressor or the filters have no V3 codec.
+    #[error("unsupported Zarr V2 array: {0}")]
+    UnsupportedZarrV2Array(String),
     /// Out of memory.
     #[error("out of memory")]
     OutOfMemory,
 }
 
-/// Why no grid, key encoding, data type or codec was made from metadata.
-#[derive(Debug, Drop, Error)]
-pub enum PluginCreateError {
-    /// The metadata describes none, for the reason in the text.
-    #[error("{0}")]
-    Other(String),
-    /// Out of memory.
-    #[error("out of memory")]
-    OutOfMemory,
-}
+impl From<AllocError> for ArrayMetadataV2ToV3Error {
+    ghost from_gives = { λ _ e. e ≡ conversion.OutOfMemory };
 
-impl From<AllocError> for PluginCreateError {
-    ghost from_gives = { λ _ e. e ≡ OutOfMemory };
-
-    fn from(_error: AllocError) -> PluginCreateError {
-        PluginCreateError::OutOfMemory
+    fn from(_error: AllocError) -> ArrayMetadataV2ToV3Error {
+        ArrayMetadataV2ToV3Error::OutOfMemory
     }
 }
 
-impl<T: Drop> From<AllocFailed<T>> for PluginCreateError {
-    ghost from_gives = { λ _ e. e ≡ OutOfMemory };
+impl<T: Drop> From<AllocFailed<T>> for ArrayMetadataV2ToV3Error {
+    ghost from_gives = { λ _ e. e ≡ conversion.OutOfMemory };
 
-    fn from(_error: AllocFailed<T>) -> PluginCreateError {
-        PluginCreateError::OutOfMemory
-    }
-}
-
-impl PluginCreateError {
-    ghost use Rattle.zarrs_metadata.specs.Refusals.{SaysReason};
-
-    /// The refusal with this text, or `OutOfMemory`.
-    pub fn other(alloc: Global, text: &str) -> PluginCreateError
-        ensures { SaysReason text.now result }
-    {
-        match String::from_str(alloc, text) {
-            Ok(text) => PluginCreateError::Other(text),
-            Err(_) => PluginCreateError::OutOfMemory,
-        }
+    fn from(_error: AllocFailed<T>) -> ArrayMetadataV2ToV3Error {
+        ArrayMetadataV2ToV3Error::OutOfMemory
     }
 }

@@ -6,11 +6,11 @@ use Rattle.std.specs.declared.num.NonZeroU64.{NonZeroU64}
 use Rattle.serde_json.specs.Data.{Data, string, array, object, Members, no_members, member}
 use Rattle.serde_json.specs.Find.{get_member}
 use Rattle.serde_json.specs.View.{items_of}
-use Rattle.zarrs_metadata.specs.Lists.{number_data, numbers_data}
-use Rattle.zarrs_metadata.specs.Separator.{separator_of, separator_data}
-use Rattle.zarrs_metadata.specs.declared.separators.ChunkKeySeparator.{ChunkKeySeparator}
-use Rattle.zarrs_metadata.specs.declared.separators.ChunkKeySeparator.TheVariants.{Slash, Dot}
-use Rattle.zarrs_metadata.proofs.ListLemmas.{all_of-items_of, numbers_of-numbers_data}
+use Rattle.zarrs_metadata_parts.specs.Lists.{number_data, numbers_data}
+use Rattle.zarrs_metadata_parts.specs.Separator.{separator_of, separator_data}
+use Rattle.zarrs_metadata_parts.specs.declared.separators.ChunkKeySeparator.{ChunkKeySeparator}
+use Rattle.zarrs_metadata_parts.specs.declared.separators.ChunkKeySeparator.TheVariants.{Slash, Dot}
+use Rattle.zarrs_metadata_parts.proofs.ListLemmas.{all_of-items_of, numbers_of-numbers_data}
 use Rattle.zarrs_metadata_v3.specs.Members.{put_some, put_all, list_in, members_in, object_data}
 use Rattle.zarrs_metadata_v3.proofs.ListLemmas.{map_both}
 use Rattle.zarrs_metadata_v3.proofs.MemberLemmas.{get_member-put_all}

@@ -1,4 +1,2 @@
 pub mod DocumentLaws
 pub mod TextLaws
-pub mod FilterLemmas
-pub mod ConversionLaws

@@ -7,8 +7,8 @@ use Rattle.json.specs.Layout.{pretty}
 use Rattle.serde_json.specs.Data.{Data, object, Members, depth}
 use Rattle.serde_json.specs.Read.{read, max_depth}
 use Rattle.serde_json.specs.Written.{IsInOrder}
-use Rattle.zarrs_metadata.specs.declared.error.MetadataError.{MetadataError}
-use Rattle.zarrs_metadata.specs.declared.error.MetadataError.TheVariants.{InvalidShape, OutOfMemory}
+use Rattle.zarrs_metadata_parts.specs.declared.error.MetadataError.{MetadataError}
+use Rattle.zarrs_metadata_parts.specs.declared.error.MetadataError.TheVariants.{InvalidShape, OutOfMemory}
 use Rattle.zarrs_metadata_v3.specs.Refusals.{RefusesReading}
 use Rattle.zarrs_metadata_v2.specs.Document.{DocumentV2Data, value_said, document_v2_of, data_of_v2, IsDocumentV2Text, IsAttributesText}
 

@@ -7,11 +7,11 @@ use Rattle.serde_json.specs.Data.{Data, depth, string, object, Members, no_membe
 use Rattle.serde_json.specs.Find.{get_member, as_str, as_object}
 use Rattle.serde_json.specs.Written.{has_float, IsInOrder}
 use Rattle.serde_json.specs.Read.{read, max_depth}
-use Rattle.zarrs_metadata.specs.Lists.{number_of, numbers_of, numbers_data, number_data}
-use Rattle.zarrs_metadata.specs.Extension.{◌>>=◌}
-use Rattle.zarrs_metadata.specs.Separator.{separator_of, separator_data}
-use Rattle.zarrs_metadata.specs.declared.separators.ChunkKeySeparator.{ChunkKeySeparator}
-use Rattle.zarrs_metadata.specs.declared.separators.ChunkKeySeparator.TheVariants.{Dot}
+use Rattle.zarrs_metadata_parts.specs.Lists.{number_of, numbers_of, numbers_data, number_data}
+use Rattle.zarrs_metadata_parts.specs.Extension.{◌>>=◌}
+use Rattle.zarrs_metadata_parts.specs.Separator.{separator_of, separator_data}
+use Rattle.zarrs_metadata_parts.specs.declared.separators.ChunkKeySeparator.{ChunkKeySeparator}
+use Rattle.zarrs_metadata_parts.specs.declared.separators.ChunkKeySeparator.TheVariants.{Dot}
 use Rattle.zarrs_metadata_v3.specs.Members.{reads_as_number, list_in, members_in, object_data, put_all}
 use Rattle.zarrs_metadata_v2.specs.declared.order.ArrayMetadataV2Order.{ArrayMetadataV2Order}
 use Rattle.zarrs_metadata_v2.specs.declared.order.ArrayMetadataV2Order.TheVariants.{C, F}

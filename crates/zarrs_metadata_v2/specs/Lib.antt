@@ -1,4 +1,2 @@
 pub mod Document
-pub mod Conversion
 pub mod View
-pub mod Refusals

@@ -4,16 +4,11 @@ use Rattle.std.specs.Int.NonZero.{non_zero_u64_get}
 use Rattle.serde_json.specs.Data.{Data}
 use Rattle.serde_json.specs.Find.{get}
 use Rattle.serde_json.specs.View.{view, members_view}
-use Rattle.zarrs_metadata.specs.FillValue.{fill_data}
-use Rattle.zarrs_metadata_v3.specs.Members.{reads_as_number}
-use Rattle.zarrs_metadata_v3.specs.Document.{DocumentData, plain_document_of, data_of_document}
-use Rattle.zarrs_metadata_v3.specs.View.{document_view}
+use Rattle.zarrs_metadata_parts.specs.FillValue.{fill_data}
 use Rattle.zarrs_metadata_v2.specs.Document.{DocumentV2Data, PartsV2Data, DraftV2Data, plain_document_v2_of, data_of_v2}
 use Rattle.zarrs_metadata_v2.specs.declared.document.ArrayMetadataV2.{ArrayMetadataV2}
 use Rattle.zarrs_metadata_v2.specs.declared.reading.Parts.{Parts}
 use Rattle.zarrs_metadata_v2.specs.declared.reading.Draft.{Draft}
-use Rattle.zarrs_metadata_v2.specs.declared.versions.ArrayMetadata.{ArrayMetadata}
-use Rattle.zarrs_metadata_v2.specs.declared.versions.ArrayMetadata.TheVariants.{V3, V2}
 
 abbrev pub document_v2_view : ArrayMetadataV2 → DocumentV2Data
 document_v2_view m = record {
@@ -55,22 +50,3 @@ draft_v2_view w = record {
   dimension_separator = w.dimension_separator;
   attributes = option_map (λ m. members_view m.entries) w.attributes;
 }
-
--- the metadata of an array of either version
-pub data MetadataData : Type 0 where
-  v3 : DocumentData → MetadataData
-  v2 : DocumentV2Data → MetadataData
-
-abbrev pub metadata_view : ArrayMetadata → MetadataData
-metadata_view (V3 m) = v3 (document_view m)
-metadata_view (V2 m) = v2 (document_v2_view m)
-
--- the metadata that a JSON value reads as
-abbrev pub metadata_of : Data → Option MetadataData
-metadata_of d =
-    if reads_as_number 2 (get (codes "zarr_format") d) then option_map v2 (plain_document_v2_of d) else option_map v3 (plain_document_of d)
-
--- the JSON value of metadata
-abbrev pub data_of_metadata : MetadataData → Data
-data_of_metadata (v3 m) = data_of_document m
-data_of_metadata (v2 m) = data_of_v2 m

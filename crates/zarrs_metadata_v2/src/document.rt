@@ -2,7 +2,7 @@
 ghost use Rattle.std.specs.Prelude.{◌≡◌, Some, map, IfOk, IfErr};
 ghost use Rattle.std.specs.Int.NonZero.{non_zero_u64_get};
 ghost use Rattle.serde_json.specs.View.{view, members_view};
-ghost use Rattle.zarrs_metadata.specs.FillValue.{fill_data};
+ghost use Rattle.zarrs_metadata_parts.specs.FillValue.{fill_data};
 ghost use Rattle.zarrs_metadata_v3.specs.Refusals.{RefusesReading};
 ghost use Rattle.zarrs_metadata_v2.specs.Document.{document_v2_of, plain_document_v2_of};
 ghost use Rattle.zarrs_metadata_v2.specs.Document.{document_v2_said, plain_document_v2};
@@ -17,7 +17,9 @@ use crate::writing::{array_value, document_value};
 use serde_json::{Map, Value};
 use std::alloc::{AllocError, Global};
 use std::num::NonZeroU64;
-use zarrs_metadata::{ChunkKeySeparator, DataTypeMetadataV2, FillValueMetadata, MetadataError};
+use zarrs_metadata_parts::{
+    ChunkKeySeparator, DataTypeMetadataV2, FillValueMetadata, MetadataError,
+};
 use zarrs_metadata_v3::holds_float;
 use zarrs_metadata_v3::members::copied;
 

@@ -1,20 +1,21 @@
-//! The V2 document of an array, and its conversion to a V3 document (Zarr V2 storage
-//! specification, arrays and attributes).
+//! The V2 document of an array (Zarr V2 storage specification), from and to stored bytes.
+//!
+//! The layers above use `ArrayMetadataV2`, the order of its cells (`ArrayMetadataV2Order`), and
+//! `attributes_from_slice`, since V2 stores attributes at a key of their own.
+//!
+//! `document_v2_view` of `specs/View.antt` gives the `DocumentV2Data` of a document. `specs/Document.antt` has that
+//! record, the JSON values that read as one (`document_v2_of`), and the bytes that are written for one
+//! (`IsDocumentV2Text`). Attributes have bytes of their own (`IsAttributesText`).
 #![tactic(auto)]
 
-mod conversion;
 mod document;
-mod error;
 mod order;
 mod reading;
 mod text;
-mod versions;
 mod writing;
 
-pub use conversion::array_metadata_v2_to_v3;
 pub use document::ArrayMetadataV2;
-pub use error::ArrayMetadataV2ToV3Error;
 pub use order::ArrayMetadataV2Order;
 pub use text::attributes_from_slice;
-pub use versions::ArrayMetadata;
-pub use zarrs_metadata::DataTypeMetadataV2;
+pub use writing::sizes_value;
+pub use zarrs_metadata_parts::DataTypeMetadataV2;

@@ -3,7 +3,7 @@ ghost use Rattle.std.specs.Prelude.{◌≡◌, map, string_bytes, option_map, op
 ghost use Rattle.std.specs.Int.NonZero.{non_zero_u64_get};
 ghost use Rattle.serde_json.specs.Find.{as_str};
 ghost use Rattle.serde_json.specs.View.{view, items_view, members_view};
-ghost use Rattle.zarrs_metadata.specs.Lists.{all_of};
+ghost use Rattle.zarrs_metadata_parts.specs.Lists.{all_of};
 ghost use Rattle.zarrs_metadata_v3.specs.Members.{list_in};
 ghost use Rattle.zarrs_metadata_v2.specs.Document.{non_zero_size, chunk_order_of, dimension_separator_in};
 ghost use Rattle.zarrs_metadata_v2.specs.Document.{parts_of_v2, draft_of_v2, assembled_v2};
@@ -15,7 +15,7 @@ use crate::order::ArrayMetadataV2Order;
 use serde_json::{Map, Value};
 use std::alloc::{AllocError, Global};
 use std::num::NonZeroU64;
-use zarrs_metadata::{ChunkKeySeparator, DataTypeMetadataV2, FillValueMetadata};
+use zarrs_metadata_parts::{ChunkKeySeparator, DataTypeMetadataV2, FillValueMetadata};
 use zarrs_metadata_v3::members::{
     fill_value_in, items_in, members_in, numbers_in, object_of, reads_as_number, take_member,
 };

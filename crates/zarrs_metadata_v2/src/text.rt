@@ -6,7 +6,7 @@ ghost use Rattle.zarrs_metadata_v2.specs.Document.{value_said, plain_members_of,
 
 use serde_json::{Category, Map, Value};
 use std::alloc::{AllocError, Global};
-use zarrs_metadata::MetadataError;
+use zarrs_metadata_parts::MetadataError;
 use zarrs_metadata_v3::holds_float;
 use zarrs_metadata_v3::members::{copied, object_of};
 

@@ -2,7 +2,7 @@
 ghost use Rattle.std.specs.Prelude.{◌≡◌, map, option_map, IfOk, Some};
 ghost use Rattle.std.specs.Int.NonZero.{non_zero_u64_get};
 ghost use Rattle.serde_json.specs.View.{view};
-ghost use Rattle.zarrs_metadata.specs.Lists.{numbers_data};
+ghost use Rattle.zarrs_metadata_parts.specs.Lists.{numbers_data};
 ghost use Rattle.zarrs_metadata_v2.specs.Document.{document_v2_of, without_attributes, data_v2_with, data_of_v2};
 ghost use Rattle.zarrs_metadata_v2.specs.View.{document_v2_view};
 
@@ -10,7 +10,7 @@ use crate::document::ArrayMetadataV2;
 use serde_json::{Map, Value};
 use std::alloc::{AllocError, Global};
 use std::num::NonZeroU64;
-use zarrs_metadata::numbers_value;
+use zarrs_metadata_parts::numbers_value;
 use zarrs_metadata_v3::members::{object_value, put_member};
 
 /// Returns the JSON value of a document.
@@ -65,7 +65,7 @@ fn value_with(
 }
 
 /// Returns the list of these sizes as a value.
-pub(crate) fn sizes_value(alloc: Global, sizes: &Vec<NonZeroU64>) -> Result<Value, AllocError>
+pub fn sizes_value(alloc: Global, sizes: &Vec<NonZeroU64>) -> Result<Value, AllocError>
     ensures { IfOk result (λ v. view v ≡ numbers_data (map non_zero_u64_get sizes.now.items)) }
 {
     let mut values = Vec::with_capacity(alloc, sizes.len())?;

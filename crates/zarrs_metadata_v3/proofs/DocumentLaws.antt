@@ -2,17 +2,16 @@
 use Rattle.std.proofs.Common.{◌≡◌, ℕ, List, [], ◌∷◌, map, Bool, true, false, Option, Some, None, option_map, codes, refl, ap, ◌∙◌}
 use Rattle.serde_json.specs.Data.{Data, string, object, Members, no_members, member}
 use Rattle.serde_json.specs.Find.{get_member}
-use Rattle.zarrs_metadata.specs.Members.{is_named, besides}
+use Rattle.zarrs_metadata_parts.specs.Members.{is_named, besides}
 use Rattle.zarrs_metadata_v3.specs.Members.{put_some, put_all, list_in, members_in, object_data}
 use Rattle.zarrs_metadata_v3.specs.Fields.{FieldData, fields_of, fields_data, normal_field, normal_fields}
-use Rattle.zarrs_metadata.specs.Extension.{ExtensionData, normal, extension_of, extension_data}
+use Rattle.zarrs_metadata_parts.specs.Extension.{ExtensionData, normal, extension_of, extension_data}
 use Rattle.zarrs_metadata_v3.specs.Document.{DocumentData, PartsData, DraftData, document_names, parts_of, draft_of}
 use Rattle.zarrs_metadata_v3.specs.Document.{dimension_name_of, transformers_in, names_in, assembled, document_from}
-use Rattle.zarrs_metadata_v3.specs.Document.{document_of, dimension_name_data, transformers_data, document_members}
-use Rattle.zarrs_metadata_v3.specs.Document.{data_of_document, normal_document}
-use Rattle.zarrs_metadata.specs.Lists.{number_data, numbers_data, list_data}
-use Rattle.zarrs_metadata.proofs.ExtensionLaws.{round_trip}
-use Rattle.zarrs_metadata.proofs.ListLemmas.{all_of-items_of, map_same, numbers_of-numbers_data}
+use Rattle.zarrs_metadata_v3.specs.Document.{document_of, dimension_name_data, transformers_data, document_members, data_of_document, normal_document}
+use Rattle.zarrs_metadata_parts.specs.Lists.{number_data, numbers_data, list_data}
+use Rattle.zarrs_metadata_parts.proofs.ExtensionLaws.{round_trip}
+use Rattle.zarrs_metadata_parts.proofs.ListLemmas.{all_of-items_of, map_same, numbers_of-numbers_data}
 use Rattle.zarrs_metadata_v3.proofs.MemberLemmas.{get_member-besides_none, besides-again, get_member-put_all, besides-put_all}
 
 -- ---- written one after the other

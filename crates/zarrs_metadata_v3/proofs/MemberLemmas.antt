@@ -8,7 +8,7 @@ use Rattle.std.specs.Cmp.Lexicographic.{slice_cmp}
 use Rattle.serde_json.specs.Data.{Data, Members, no_members, member, put}
 use Rattle.serde_json.specs.Find.{get_member}
 use Rattle.serde_json.proofs.Views.{get_member-put, get_member-put_other}
-use Rattle.zarrs_metadata.specs.Members.{is_named, besides}
+use Rattle.zarrs_metadata_parts.specs.Members.{is_named, besides}
 use Rattle.zarrs_metadata_v3.specs.Members.{put_some, put_all}
 
 same_text : (xs ys : List ℕ) → slice_cmp nat_cmp xs ys ≡ Equal → xs ≡ ys

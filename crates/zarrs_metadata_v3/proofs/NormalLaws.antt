@@ -5,15 +5,13 @@ use Rattle.serde_json.specs.Data.{Data, null, boolean, number, string, array, ob
 use Rattle.serde_json.specs.Data.{no_members, member, put}
 use Rattle.serde_json.specs.Find.{get_member, as_array, as_bool, as_object, as_str}
 use Rattle.serde_json.proofs.Views.{get_member-put}
-use Rattle.zarrs_metadata.specs.Members.{is_named, has_only, besides, nonempty}
-use Rattle.zarrs_metadata.specs.Lists.{all_of}
-use Rattle.zarrs_metadata.specs.Extension.{ExtensionData, named, normal, extension_of, extension_names}
-use Rattle.zarrs_metadata.specs.Extension.{configuration_from, must_understand_from}
+use Rattle.zarrs_metadata_parts.specs.Members.{is_named, has_only, besides, nonempty}
+use Rattle.zarrs_metadata_parts.specs.Lists.{all_of}
+use Rattle.zarrs_metadata_parts.specs.Extension.{ExtensionData, named, normal, extension_of, extension_names, configuration_from, must_understand_from}
 use Rattle.zarrs_metadata_v3.specs.Members.{list_in}
 use Rattle.zarrs_metadata_v3.specs.Fields.{FieldData, flag_names, is_unneeded, field_of, normal_field, fields_of, normal_fields}
 use Rattle.zarrs_metadata_v3.specs.Document.{DocumentData, PartsData, DraftData, document_names, parts_of, is_array}
-use Rattle.zarrs_metadata_v3.specs.Document.{draft_of, transformers_in, assembled, document_from, document_of}
-use Rattle.zarrs_metadata_v3.specs.Document.{normal_document}
+use Rattle.zarrs_metadata_v3.specs.Document.{draft_of, transformers_in, assembled, document_from, document_of, normal_document}
 use Rattle.zarrs_metadata_v3.proofs.MemberLemmas.{besides-put, besides-again}
 
 -- ---- a value that is present came of one that was present

@@ -8,9 +8,9 @@ use Rattle.serde_json.specs.Data.{Data, depth, null, boolean, number, string, ar
 use Rattle.serde_json.specs.Find.{get_member, as_object}
 use Rattle.serde_json.specs.Written.{has_float, IsInOrder}
 use Rattle.serde_json.specs.Read.{read, max_depth}
-use Rattle.zarrs_metadata.specs.Members.{besides}
-use Rattle.zarrs_metadata.specs.Lists.{all_of, list_data, numbers_of, numbers_data, number_data}
-use Rattle.zarrs_metadata.specs.Extension.{◌>>=◌, ExtensionData, normal, extension_of, extension_data}
+use Rattle.zarrs_metadata_parts.specs.Members.{besides}
+use Rattle.zarrs_metadata_parts.specs.Lists.{all_of, list_data, numbers_of, numbers_data, number_data}
+use Rattle.zarrs_metadata_parts.specs.Extension.{◌>>=◌, ExtensionData, normal, extension_of, extension_data}
 use Rattle.zarrs_metadata_v3.specs.Members.{reads_as_text, reads_as_number, list_in, members_in, object_data, put_all}
 use Rattle.zarrs_metadata_v3.specs.Fields.{FieldData, fields_of, fields_data, normal_fields}
 

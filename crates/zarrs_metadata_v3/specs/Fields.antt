@@ -2,7 +2,7 @@
 use Rattle.std.specs.Prelude.{ℕ, List, [], ◌∷◌, Bool, true, false, not, codes, if◌then◌else◌, option_map, option_and_then, unwrap_or}
 use Rattle.serde_json.specs.Data.{Data, null, boolean, number, string, array, object, Members, no_members, member, put}
 use Rattle.serde_json.specs.Find.{get, as_bool}
-use Rattle.zarrs_metadata.specs.Members.{is_named, besides}
+use Rattle.zarrs_metadata_parts.specs.Members.{is_named, besides}
 
 -- the value of a field without its flag, and the flag
 pub record FieldData : Type 0 where

@@ -2,8 +2,8 @@
 use Rattle.std.specs.Prelude.{ℕ, List, [], ◌∷◌, ◌==◌, Bool, false, bytes_eq, Option, Some, None, option_map, option_and_then, unwrap_or}
 use Rattle.serde_json.specs.Data.{Data, object, Members, no_members, put}
 use Rattle.serde_json.specs.Find.{as_str, as_array, as_object}
-use Rattle.zarrs_metadata.specs.Members.{nonempty}
-use Rattle.zarrs_metadata.specs.Lists.{all_of, number_of}
+use Rattle.zarrs_metadata_parts.specs.Members.{nonempty}
+use Rattle.zarrs_metadata_parts.specs.Lists.{all_of, number_of}
 
 -- ---- read
 

@@ -2,8 +2,8 @@
 use Rattle.std.specs.Prelude.{ℕ, List, map, Option, option_map, String, string_bytes}
 use Rattle.std.specs.declared.alloc.Global.{Global}
 use Rattle.serde_json.specs.View.{view, members_view}
-use Rattle.zarrs_metadata.specs.Extension.{extension_view}
-use Rattle.zarrs_metadata.specs.FillValue.{fill_data}
+use Rattle.zarrs_metadata_parts.specs.Extension.{extension_view}
+use Rattle.zarrs_metadata_parts.specs.FillValue.{fill_data}
 use Rattle.zarrs_metadata_v3.specs.Fields.{FieldData}
 use Rattle.zarrs_metadata_v3.specs.Document.{DocumentData, PartsData, DraftData}
 use Rattle.zarrs_metadata_v3.specs.declared.fields.AdditionalFieldV3.{AdditionalFieldV3}

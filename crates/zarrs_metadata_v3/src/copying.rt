@@ -1,13 +1,13 @@
 //! Copies of a document and of its parts.
 ghost use Rattle.std.specs.Prelude.{◌≡◌, map, option_map, IfOk};
-ghost use Rattle.zarrs_metadata.specs.Extension.{extension_view};
+ghost use Rattle.zarrs_metadata_parts.specs.Extension.{extension_view};
 ghost use Rattle.zarrs_metadata_v3.specs.View.{name_view, document_view};
 
 use crate::document::{ArrayMetadataV3, DimensionName};
 use crate::fields::copied_fields;
 use crate::members::copied;
 use std::alloc::{AllocError, Global};
-use zarrs_metadata::MetadataV3;
+use zarrs_metadata_parts::MetadataV3;
 
 /// Returns a copy of the document.
 pub(crate) fn copied_document(

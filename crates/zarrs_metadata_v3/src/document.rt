@@ -1,11 +1,10 @@
 //! The V3 document of an array.
 ghost use Rattle.std.specs.Prelude.{◌≡◌, Some, None, map, option_map, IfOk, IfErr};
 ghost use Rattle.serde_json.specs.View.{view, members_view};
-ghost use Rattle.zarrs_metadata.specs.Extension.{extension_view};
-ghost use Rattle.zarrs_metadata.specs.FillValue.{fill_data};
+ghost use Rattle.zarrs_metadata_parts.specs.Extension.{extension_view};
+ghost use Rattle.zarrs_metadata_parts.specs.FillValue.{fill_data};
 ghost use Rattle.zarrs_metadata_v3.specs.Document.{document_of, plain_document_of, document_said};
-ghost use Rattle.zarrs_metadata_v3.specs.Document.{plain_document, data_of_document, normal_document};
-ghost use Rattle.zarrs_metadata_v3.specs.Document.{IsDocumentText};
+ghost use Rattle.zarrs_metadata_v3.specs.Document.{plain_document, data_of_document, normal_document, IsDocumentText};
 ghost use Rattle.zarrs_metadata_v3.specs.Refusals.{RefusesReading};
 ghost use Rattle.zarrs_metadata_v3.specs.View.{name_view, fields_view, document_view};
 
@@ -16,7 +15,7 @@ use crate::reading::read_document;
 use crate::writing::document_value;
 use serde_json::{Category, Map, Value};
 use std::alloc::{AllocError, Global};
-use zarrs_metadata::{ChunkKeySeparator, FillValueMetadata, MetadataError, MetadataV3};
+use zarrs_metadata_parts::{ChunkKeySeparator, FillValueMetadata, MetadataError, MetadataV3};
 
 /// The name of a dimension, or `None` for a dimension without a name.
 pub type DimensionName = Option<String>;

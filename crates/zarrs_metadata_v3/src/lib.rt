@@ -1,4 +1,14 @@
 //! The V3 document of an array (Zarr V3 core specification, array metadata), from and to stored bytes.
+//!
+//! The layers above use `ArrayMetadataV3`, the names of its dimensions (`DimensionName`), and its additional fields
+//! (`AdditionalFieldV3`). `zarrs_metadata_v2` and `zarrs_metadata` use `members`, which reads and writes members of
+//! objects by name.
+//!
+//! `document_view` of `specs/View.antt` gives the `DocumentData` of a document. `specs/Document.antt` has that
+//! record, the JSON values that read as one (`document_of`), and the bytes that are written for one
+//! (`IsDocumentText`). What is written reads as the same document, in its normal form (`normal_document`).
+//! `specs/Fields.antt` has the additional fields, `specs/Members.antt` the members, and `specs/Refusals.antt` says
+//! why a document is refused.
 #![tactic(auto)]
 
 mod copying;
@@ -12,4 +22,3 @@ mod writing;
 pub use document::{ArrayMetadataV3, DimensionName};
 pub use fields::{AdditionalFieldV3, AdditionalFieldsV3};
 pub use numbers::holds_float;
-pub use zarrs_metadata::FillValueMetadata;

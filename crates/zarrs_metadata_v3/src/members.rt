@@ -2,16 +2,15 @@
 ghost use Rattle.std.specs.Prelude.{◌≡◌, [], ◌∷◌, option_map, option_and_then, IfOk, OnOk, is_none};
 ghost use Rattle.serde_json.specs.Find.{get_member, as_array, as_object};
 ghost use Rattle.serde_json.specs.View.{view, items_view, members_view};
-ghost use Rattle.zarrs_metadata.specs.Members.{besides, nonempty};
-ghost use Rattle.zarrs_metadata.specs.Lists.{numbers_of};
-ghost use Rattle.zarrs_metadata.specs.FillValue.{fill_data};
-ghost use Rattle.zarrs_metadata_v3.specs.Members.{reads_as_text, reads_as_number, members_in};
-ghost use Rattle.zarrs_metadata_v3.specs.Members.{object_data, put_some};
+ghost use Rattle.zarrs_metadata_parts.specs.Members.{besides, nonempty};
+ghost use Rattle.zarrs_metadata_parts.specs.Lists.{numbers_of};
+ghost use Rattle.zarrs_metadata_parts.specs.FillValue.{fill_data};
+ghost use Rattle.zarrs_metadata_v3.specs.Members.{reads_as_text, reads_as_number, members_in, object_data, put_some};
 
 use serde_json::{Map, Value};
 use std::alloc::{AllocError, Global};
-pub use zarrs_metadata::members::{copied, object_of, take_member};
-use zarrs_metadata::{FillValueMetadata, numbers};
+pub use zarrs_metadata_parts::members::{copied, object_of, take_member};
+use zarrs_metadata_parts::{FillValueMetadata, numbers};
 
 /// Returns the member of this name.
 pub fn member_of<'a>(members: &'a Map<String, Value>, name: &str) -> Option<&'a Value>

@@ -1,9 +1,9 @@
 //! Reading a document from a JSON value, member by member.
 ghost use Rattle.std.specs.Prelude.{◌≡◌, Some, None, map, codes, option_map, option_and_then, IfOk};
 ghost use Rattle.serde_json.specs.View.{view, items_view, members_view};
-ghost use Rattle.zarrs_metadata.specs.Members.{besides};
-ghost use Rattle.zarrs_metadata.specs.Lists.{all_of};
-ghost use Rattle.zarrs_metadata.specs.Extension.{extension_of, extension_view};
+ghost use Rattle.zarrs_metadata_parts.specs.Members.{besides};
+ghost use Rattle.zarrs_metadata_parts.specs.Lists.{all_of};
+ghost use Rattle.zarrs_metadata_parts.specs.Extension.{extension_of, extension_view};
 ghost use Rattle.zarrs_metadata_v3.specs.Members.{list_in};
 ghost use Rattle.zarrs_metadata_v3.specs.Document.{dimension_name_of, transformers_in, names_in};
 ghost use Rattle.zarrs_metadata_v3.specs.Document.{parts_of, document_names, is_array, draft_of};
@@ -18,7 +18,7 @@ use crate::members::{
 };
 use serde_json::{Map, Value};
 use std::alloc::{AllocError, Global};
-use zarrs_metadata::{FillValueMetadata, MetadataV3};
+use zarrs_metadata_parts::{FillValueMetadata, MetadataV3};
 
 /// The members of a document, and the others.
 #[derive(Drop)]

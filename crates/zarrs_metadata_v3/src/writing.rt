@@ -1,11 +1,9 @@
 //! Writing a document as a JSON value, member by member.
 ghost use Rattle.std.specs.Prelude.{◌≡◌, map, option_map, IfOk};
 ghost use Rattle.serde_json.specs.View.{view};
-ghost use Rattle.zarrs_metadata.specs.Extension.{extension_data};
-ghost use Rattle.zarrs_metadata.specs.Lists.{list_data};
-ghost use Rattle.zarrs_metadata.specs.Extension.{extension_view};
-ghost use Rattle.zarrs_metadata_v3.specs.Document.{dimension_name_data, transformers_data};
-ghost use Rattle.zarrs_metadata_v3.specs.Document.{data_of_document};
+ghost use Rattle.zarrs_metadata_parts.specs.Extension.{extension_data, extension_view};
+ghost use Rattle.zarrs_metadata_parts.specs.Lists.{list_data};
+ghost use Rattle.zarrs_metadata_v3.specs.Document.{dimension_name_data, transformers_data, data_of_document};
 ghost use Rattle.zarrs_metadata_v3.specs.View.{name_view, document_view};
 
 use crate::document::{ArrayMetadataV3, DimensionName};
@@ -14,7 +12,7 @@ use crate::members::{object_value, put_member};
 use crate::reading::other_members;
 use serde_json::Value;
 use std::alloc::{AllocError, Global};
-use zarrs_metadata::{MetadataV3, numbers_value};
+use zarrs_metadata_parts::{MetadataV3, numbers_value};
 
 /// Returns the JSON value of a document.
 pub(crate) fn document_value(alloc: Global, document: &ArrayMetadataV3) -> Result<Value, AllocError>

@@ -2,8 +2,8 @@
 use Rattle.std.specs.Prelude.{ℕ, ◌==◌, List, [], ◌∷◌, Bool, true, false, codes, if◌then◌else◌, Option, Some, option_and_then, string_bytes}
 use Rattle.serde_json.specs.Data.{no_members, member}
 use Rattle.serde_json.specs.Read.{read}
-use Rattle.zarrs_metadata.specs.Extension.{ExtensionData, extension_view, extension_of, named}
-use Rattle.zarrs_metadata.specs.Lists.{numbers_data}
+use Rattle.zarrs_metadata_parts.specs.Extension.{ExtensionData, extension_view, extension_of, named}
+use Rattle.zarrs_metadata_parts.specs.Lists.{numbers_data}
 use Rattle.zarrs_options.specs.declared.chunk_grid_metadata.ArrayBuilderChunkGridMetadata.{ArrayBuilderChunkGridMetadata}
 use Rattle.zarrs_options.specs.declared.chunk_grid_metadata.Given.{Given}
 use Rattle.zarrs_options.specs.declared.chunk_grid_metadata.Given.TheVariants.{Metadata, Text, Sizes}

@@ -1,7 +1,7 @@
 -- Options of which a part is lent.
 use Rattle.std.specs.Borrow.{Lends, MutBor, Fml}
-use Rattle.zarrs_chain.specs.contracts.options.CodecMetadataOptions.{the_row as codec_row}
-use Rattle.zarrs_chain.specs.declared.options.CodecMetadataOptions.{CodecMetadataOptions}
+use Rattle.zarrs_codec_chain.specs.contracts.options.CodecMetadataOptions.{the_row as codec_row}
+use Rattle.zarrs_codec_chain.specs.declared.options.CodecMetadataOptions.{CodecMetadataOptions}
 use Rattle.zarrs_options.specs.contracts.options.ArrayMetadataOptions.{the_row}
 use Rattle.zarrs_options.specs.declared.options.ArrayMetadataOptions.{ArrayMetadataOptions}
 

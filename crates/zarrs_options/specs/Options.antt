@@ -1,7 +1,7 @@
 -- The options of an array's metadata.
 use Rattle.std.specs.Prelude.{List, [], ◌∷◌, Bool, true, false, Option, Some, None}
-use Rattle.zarrs_chain.specs.declared.options.CodecMetadataOptions.{CodecMetadataOptions}
-use Rattle.zarrs_metadata.specs.Extension.{ExtensionData}
+use Rattle.zarrs_codec_chain.specs.declared.options.CodecMetadataOptions.{CodecMetadataOptions}
+use Rattle.zarrs_metadata_parts.specs.Extension.{ExtensionData}
 use Rattle.zarrs_options.specs.declared.versions.MetadataConvertVersion.{MetadataConvertVersion}
 use Rattle.zarrs_options.specs.declared.versions.MetadataConvertVersion.TheVariants as convert
 use Rattle.zarrs_options.specs.declared.options.ArrayMetadataOptions.{ArrayMetadataOptions}

@@ -5,9 +5,9 @@ use Rattle.zarrs_storage.specs.declared.error.StorageError.{StorageError}
 use Rattle.zarrs_storage.specs.declared.error.StorageError.TheVariants as stored
 use Rattle.zarrs_keys.specs.declared.error.NodePathError.{NodePathError}
 use Rattle.zarrs_keys.specs.declared.error.NodePathError.TheVariants as path
-use Rattle.zarrs_metadata.specs.FillValue.{fill_data}
-use Rattle.zarrs_metadata.specs.declared.error.PluginCreateError.{PluginCreateError}
-use Rattle.zarrs_metadata.specs.declared.error.PluginCreateError.TheVariants as plugin
+use Rattle.zarrs_metadata_parts.specs.FillValue.{fill_data}
+use Rattle.zarrs_metadata_parts.specs.declared.error.PluginCreateError.{PluginCreateError}
+use Rattle.zarrs_metadata_parts.specs.declared.error.PluginCreateError.TheVariants as plugin
 use Rattle.zarrs_options.specs.Errors.{name_of_field, value_of_field}
 use Rattle.zarrs_options.specs.declared.error.ArrayCreateError.{ArrayCreateError}
 use Rattle.zarrs_options.specs.declared.error.ArrayCreateError.TheVariants as error

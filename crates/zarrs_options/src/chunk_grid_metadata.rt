@@ -1,7 +1,7 @@
 //! The metadata of a chunk grid, as a caller may give it.
 ghost use Rattle.std.specs.Prelude.{◌≡◌, Some, IsOk, map, string_bytes};
 ghost use Rattle.std.specs.Int.NonZero.{non_zero_u64_get};
-ghost use Rattle.zarrs_metadata.specs.Extension.{extension_view};
+ghost use Rattle.zarrs_metadata_parts.specs.Extension.{extension_view};
 
 use crate::error::ArrayCreateError;
 use crate::shapes::chunk_shape_to_array_shape;
@@ -9,7 +9,7 @@ use crate::texts::extension_of_text;
 use std::alloc::{AllocError, Global};
 use std::num::NonZeroU64;
 use zarrs_data_type::IntoField;
-use zarrs_metadata::{MetadataV3, PluginCreateError, numbers_value};
+use zarrs_metadata_parts::{MetadataV3, PluginCreateError, numbers_value};
 
 #[derive(Debug, Drop)]
 enum Given {
@@ -56,8 +56,7 @@ impl ArrayBuilderChunkGridMetadata {
 
 ghost use Rattle.std.specs.Prelude.{None, IfOk};
 ghost use Rattle.zarrs_options.specs.Given.{grid_given, extension_of_text, regular_extension};
-ghost use Rattle.zarrs_options.specs.Refusals.{RefusesCreation, chunk_grid, create_refusal_of};
-ghost use Rattle.zarrs_options.specs.Refusals.{said_or};
+ghost use Rattle.zarrs_options.specs.Refusals.{RefusesCreation, chunk_grid, create_refusal_of, said_or};
 
 fn no_metadata(alloc: Global) -> ArrayCreateError
     ensures { RefusesCreation (said_or {A = Unit {0}} chunk_grid None) (create_refusal_of result) }

@@ -10,7 +10,7 @@ use std::alloc::{AllocError, AllocFailed};
 use thiserror::Error;
 use zarrs_data_type::FillValue;
 use zarrs_keys::NodePathError;
-use zarrs_metadata::{FillValueMetadata, PluginCreateError};
+use zarrs_metadata_parts::{FillValueMetadata, PluginCreateError};
 use zarrs_storage::StorageError;
 
 /// An additional field of a document that must be understood, and is not.

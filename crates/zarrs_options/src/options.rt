@@ -3,7 +3,7 @@ ghost use Rattle.std.specs.Prelude.{◌≡◌};
 ghost use Rattle.zarrs_options.specs.Options.{options_view, default_options};
 
 use crate::versions::MetadataConvertVersion;
-use zarrs_chain::CodecMetadataOptions;
+use zarrs_codec_chain::CodecMetadataOptions;
 
 /// How the metadata of an array is shown and written. By default it is that of the array's own
 /// version, with the attribute `_zarrs`, and with names of extensions as they are.

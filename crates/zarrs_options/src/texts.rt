@@ -1,12 +1,12 @@
 //! Extension points that texts say.
 ghost use Rattle.std.specs.Prelude.{◌≡◌, IfOk, option_and_then, option_map};
 ghost use Rattle.serde_json.specs.Read.{read};
-ghost use Rattle.zarrs_metadata.specs.Extension.{extension_view, extension_of};
+ghost use Rattle.zarrs_metadata_parts.specs.Extension.{extension_view, extension_of};
 ghost use Rattle.zarrs_options.specs.Given.{extension_of_text};
 
 use serde_json::{Category, Value};
 use std::alloc::{AllocError, Global};
-use zarrs_metadata::MetadataV3;
+use zarrs_metadata_parts::MetadataV3;
 
 /// Returns the extension point that a text says: one that begins with `{` is read as JSON, any other is a name.
 /// `None` if it is read as JSON and says none.

@@ -1,11 +1,11 @@
 //! Storage transformers: none is supported.
 ghost use Rattle.std.specs.Prelude.{◌≡◌, map, Some, IfOk, IfErr};
-ghost use Rattle.zarrs_metadata.specs.Refusals.{RefusesMeaning};
-ghost use Rattle.zarrs_metadata.specs.Extension.{extension_view};
+ghost use Rattle.zarrs_metadata_parts.specs.Refusals.{RefusesMeaning};
+ghost use Rattle.zarrs_metadata_parts.specs.Extension.{extension_view};
 ghost use Rattle.zarrs_options.specs.Options.{transformers_said};
 
 use std::alloc::Global;
-use zarrs_metadata::{MetadataV3, PluginCreateError};
+use zarrs_metadata_parts::{MetadataV3, PluginCreateError};
 
 /// The empty chain of storage transformers (Zarr V3 core specification, storage transformers).
 #[derive(Clone, Copy, Debug, Default, Drop, PartialEq, Eq)]

@@ -3,11 +3,11 @@ use Rattle.std.proofs.Common.{◌≡◌, ℕ, ◌-◌, ◌+◌, ◌^◌, ◌%◌
 use Rattle.std.proofs.Common.{cond, nat_le, nat_lt, Option, Some, None, IsSome, refl, subst, rules, arith}
 use Rattle.std.proofs.lemmas.Bool.Decides.{nat_tests}
 use Rattle.zarrs_data_type.specs.Cell.{fill_cell}
-use Rattle.zarrs_metadata.specs.Extension.{◌>>=◌}
-use Rattle.zarrs_script_metadata.specs.declared.cell_type.CellType.{CellType}
-use Rattle.zarrs_script_metadata.specs.declared.cell_type.CellType.TheVariants as cell
+use Rattle.zarrs_metadata_parts.specs.Extension.{◌>>=◌}
+use Rattle.zarrs_script.specs.declared.cell_type.CellType.{CellType}
+use Rattle.zarrs_script.specs.declared.cell_type.CellType.TheVariants as cell
 use Rattle.zarrs_script.specs.Words.{number_of}
-use Rattle.zarrs_script_metadata.specs.CellTypes.{kind_of_cells, cell_type_size, greatest, is_signed}
+use Rattle.zarrs_script.specs.CellTypes.{kind_of_cells, cell_type_size, greatest, is_signed}
 use Rattle.zarrs_script.specs.CellTexts.{low_bytes, positive, negative, cell_of}
 
 -- a `bool` has the byte 0 or 1

@@ -9,11 +9,11 @@ use Rattle.std.specs.Result.{result_err}
 use Rattle.std.specs.Str.{bytes_eq}
 use Rattle.std.proofs.lemmas.List.{at_drop_all}
 use Rattle.std.proofs.lemmas.Slice.Zip.{get_or-zip, length-zip}
-use Rattle.zarrs_metadata.specs.Extension.{◌>>=◌}
-use Rattle.zarrs_script_metadata.specs.declared.cell_type.CellType.{CellType}
+use Rattle.zarrs_metadata_parts.specs.Extension.{◌>>=◌}
+use Rattle.zarrs_script.specs.declared.cell_type.CellType.{CellType}
 use Rattle.zarrs_script.specs.declared.command.Verb.{Verb}
 use Rattle.zarrs_script.specs.declared.command.Verb.TheVariants as verb
-use Rattle.zarrs_script_metadata.specs.CellTypes.{type_of}
+use Rattle.zarrs_script.specs.CellTypes.{type_of}
 use Rattle.zarrs_script.specs.Words.{number_of, items_of, numbers_in_word, each_of, region_at, region_of}
 use Rattle.zarrs_script.specs.CellTexts.{cell_of}
 use Rattle.zarrs_script.specs.Script.{Order, Array, Chunk, Read, Erase, Put, Get, Resize, Keys, Meta, Other}

@@ -5,16 +5,16 @@ use Rattle.std.specs.Cmp.Lexicographic.{slice_cmp}
 use Rattle.std.specs.FinMap.{get-empty}
 use Rattle.std.specs.Ordering.{nat_cmp}
 use Rattle.zarrs_storage.specs.Store.{StoreState}
-use Rattle.zarrs_calls.specs.declared.call.Call.{Call}
-use Rattle.zarrs_calls.specs.declared.call.Reply.{Reply}
-use Rattle.zarrs_calls.specs.Layout.{Layout, IsLawful, ArrayState}
-use Rattle.zarrs_calls.specs.Content.{value_at}
-use Rattle.zarrs_calls.specs.Canon.{IsCanonical, HasChunksAlone}
-use Rattle.zarrs_calls.specs.Events.{events_of}
-use Rattle.zarrs_calls.specs.Step.{Run}
-use Rattle.zarrs_calls.proofs.LawProofs.{empty_is_canonical}
-use Rattle.zarrs_calls.proofs.Maps.{stores_are_their_map}
-use Rattle.zarrs_calls.proofs.Steps.{courses_keep_other_keys, runs_are_courses}
+use Rattle.zarrs_engine_calls.specs.declared.call.Call.{Call}
+use Rattle.zarrs_engine_calls.specs.declared.call.Reply.{Reply}
+use Rattle.zarrs_engine_calls.specs.Layout.{Layout, IsLawful, ArrayState}
+use Rattle.zarrs_engine_calls.specs.Content.{value_at}
+use Rattle.zarrs_engine_calls.specs.Canon.{IsCanonical, HasChunksAlone}
+use Rattle.zarrs_engine_calls.specs.Events.{events_of}
+use Rattle.zarrs_engine_calls.specs.Step.{Run}
+use Rattle.zarrs_engine_calls.proofs.LawProofs.{empty_is_canonical}
+use Rattle.zarrs_engine_calls.proofs.Maps.{stores_are_their_map}
+use Rattle.zarrs_engine_calls.proofs.Steps.{courses_keep_other_keys, runs_are_courses}
 use Rattle.zarrs_script.specs.Transcript.{Opened, ListsContent, keys_text, new_store}
 
 -- no key is in a new store

@@ -12,3 +12,5 @@ pub mod Transcripts
 pub mod Contents
 pub mod Lines
 pub mod NewArrays
+pub mod Plain
+pub mod Documents

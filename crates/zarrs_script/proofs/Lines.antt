@@ -4,7 +4,7 @@ use Rattle.std.proofs.Common.{refl, sym, ap, ◌∙◌, append_assoc}
 use Rattle.std.proofs.lemmas.List.{append-nil}
 use Rattle.std.specs.Borrow.{Bor}
 use Rattle.std.specs.Result.{result_err}
-use Rattle.zarrs_script_metadata.specs.declared.cell_type.CellType.{CellType}
+use Rattle.zarrs_script.specs.declared.cell_type.CellType.{CellType}
 use Rattle.zarrs_script.specs.Script.{Order, order_of, type_after, is_skipped, onto, orders_from, orders_of}
 use Rattle.zarrs_script.specs.Parsed.{lines_in}
 use Rattle.zarrs_script.specs.Transcript.{Session, Does}

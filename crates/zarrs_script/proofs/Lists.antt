@@ -6,7 +6,7 @@ use Rattle.std.specs.List.{concat}
 use Rattle.std.specs.Iterator.{Yields}
 use Rattle.std.proofs.lemmas.Iterator.{YieldsList}
 use Rattle.std.proofs.lemmas.Iterator.Consumers.{YieldsList-turn, YieldsList-end}
-use Rattle.zarrs_metadata.specs.Extension.{◌>>=◌}
+use Rattle.zarrs_metadata_parts.specs.Extension.{◌>>=◌}
 use Rattle.zarrs_script.specs.declared.error.ParseError.{ParseError}
 use Rattle.zarrs_script.specs.declared.error.ParseError.TheVariants.{NotACommand, OutOfMemory}
 use Rattle.zarrs_script.specs.Words.{each_of}

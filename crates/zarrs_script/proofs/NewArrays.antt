@@ -9,41 +9,39 @@ use Rattle.std.proofs.lemmas.Bool.Decides.{nat_tests}
 use Rattle.std.proofs.lemmas.List.{take_more, map_push}
 use Rattle.std.proofs.lemmas.List.Folds.{list_any_at}
 use Rattle.zarrs_storage.specs.Memory.{MemoryState, open_state}
-use Rattle.zarrs_metadata.specs.declared.separators.ChunkKeySeparator.TheVariants.{Slash}
+use Rattle.zarrs_metadata_parts.specs.declared.separators.ChunkKeySeparator.TheVariants.{Slash}
 use Rattle.zarrs_chunk_grid.specs.Axes.{sizes_of}
-use Rattle.zarrs_chunk_grid.specs.Configurations.{regular, takes_shape}
+use Rattle.zarrs_chunk_grid.specs.Configurations.{regular, takes_shape, GridConfiguration}
 use Rattle.zarrs_data_type.specs.Kind.{Kind}
 use Rattle.serde_json.specs.Written.{has_float}
 use Rattle.zarrs_metadata_v3.specs.Document.{DocumentData, data_of_document}
 use Rattle.zarrs_keys.specs.declared.encodings.ChunkKeyEncoding.TheVariants.{Default}
-use Rattle.zarrs_chunk_grid.specs.Configurations.{GridConfiguration}
 use Rattle.zarrs_codec_array.specs.ArrayCodecs.{array_codec_data}
 use Rattle.zarrs_codec_array.specs.declared.array.ArrayToArrayCodec.{ArrayToArrayCodec}
 use Rattle.zarrs_codec_leaf.specs.Bytes.{endian_of}
-use Rattle.zarrs_codec_leaf.specs.declared.bytes.BytesCodec.{BytesCodec}
-use Rattle.zarrs_codec_leaf.specs.declared.bytes.Endianness.{Endianness}
-use Rattle.zarrs_codec_leaf.specs.declared.bytes.Endianness.TheVariants.{Little}
-use Rattle.zarrs_codec_cells.specs.Configurations.{bytes}
-use Rattle.zarrs_codec.specs.Chains.{array_to_array_of, array_to_bytes_of}
-use Rattle.zarrs_codec.specs.Chains.{chain_data, bytes_codec_data}
+use Rattle.zarrs_codec_leaf.specs.declared.bytes_codec.BytesCodec.{BytesCodec}
+use Rattle.zarrs_codec_leaf.specs.declared.bytes_codec.Endianness.{Endianness}
+use Rattle.zarrs_codec_leaf.specs.declared.bytes_codec.Endianness.TheVariants.{Little}
+use Rattle.zarrs_codec_optional.specs.Configurations.{bytes}
+use Rattle.zarrs_codec.specs.Chains.{array_to_array_of, array_to_bytes_of, chain_data, bytes_codec_data}
 use Rattle.zarrs_codec.specs.Configurations.{ChainData, cells}
 use Rattle.zarrs_codec.specs.declared.codec.ArrayToBytesCodec as code
 use Rattle.zarrs_codec.specs.declared.chain.CodecChain.{CodecChain}
-use Rattle.zarrs_metadata_v2.specs.View.{MetadataData, v3}
+use Rattle.zarrs_metadata.specs.Versions.{MetadataData, v3}
 use Rattle.zarrs_keys.specs.declared.error.NodePathError.TheVariants as path_error
-use Rattle.zarrs_metadata.specs.declared.error.PluginCreateError.TheVariants as plugin
+use Rattle.zarrs_metadata_parts.specs.declared.error.PluginCreateError.TheVariants as plugin
 use Rattle.zarrs_storage.specs.declared.error.StorageError.TheVariants as stored
 use Rattle.zarrs_options.specs.Refusals.{CreateRefusal, create_refusal_of, RefusesCreation}
 use Rattle.zarrs_options.specs.declared.error.ArrayCreateError.{ArrayCreateError}
 use Rattle.zarrs_options.specs.declared.error.ArrayCreateError.TheVariants as create_error
 use Rattle.zarrs_creation.specs.Meanings.{Meaning, creation, creation_v3, created}
 use Rattle.zarrs.specs.Layouts.{layout_meant}
-use Rattle.zarrs_script_metadata.specs.Parts.{is_whole_number, document_for}
-use Rattle.zarrs_script_metadata.proofs.Plain.{plain_document_for}
-use Rattle.zarrs_calls.specs.Layout.{Layout}
-use Rattle.zarrs_script_metadata.specs.declared.cell_type.CellType.{CellType}
-use Rattle.zarrs_script_metadata.specs.declared.cell_type.CellType.TheVariants as cell
-use Rattle.zarrs_script_metadata.specs.CellTypes.{kind_of_cells}
+use Rattle.zarrs_script.specs.Parts.{is_whole_number, document_for}
+use Rattle.zarrs_script.proofs.Plain.{plain_document_for}
+use Rattle.zarrs_engine_calls.specs.Layout.{Layout}
+use Rattle.zarrs_script.specs.declared.cell_type.CellType.{CellType}
+use Rattle.zarrs_script.specs.declared.cell_type.CellType.TheVariants as cell
+use Rattle.zarrs_script.specs.CellTypes.{kind_of_cells}
 use Rattle.zarrs_script.specs.Transcript.{Opened, MakesGrid, SaysItsParts, layout_for, parts_of_line, metadata_for, new_array}
 
 -- one extent more, which is not 0

@@ -6,13 +6,13 @@ use Rattle.std.specs.Cmp.Lexicographic.{slice_cmp}
 use Rattle.serde_json.specs.Data.{Data, Members, no_members, member, put}
 use Rattle.serde_json.specs.View.{items_of}
 use Rattle.serde_json.specs.Written.{has_float, items_have_float, members_have_float}
-use Rattle.zarrs_metadata.specs.Members.{besides}
-use Rattle.zarrs_metadata.specs.Lists.{number_data, numbers_data}
+use Rattle.zarrs_metadata_parts.specs.Members.{besides}
+use Rattle.zarrs_metadata_parts.specs.Lists.{number_data, numbers_data}
 use Rattle.zarrs_metadata_v3.specs.Members.{object_data, put_some, put_all}
 use Rattle.zarrs_metadata_v3.specs.Document.{DocumentData, data_of_document, document_members, document_names}
 use Rattle.zarrs_metadata_v3.specs.Fields.{fields_data}
 use Rattle.zarrs_metadata_v2.specs.Document.{DocumentV2Data, data_v2_with, document_v2_members}
-use Rattle.zarrs_metadata_v2.specs.View.{MetadataData, v3, v2, data_of_metadata}
+use Rattle.zarrs_metadata.specs.Versions.{MetadataData, v3, v2, data_of_metadata}
 use Rattle.zarrs_creation.specs.Changes.{with_shape}
 
 -- each key, and whether its value holds a float

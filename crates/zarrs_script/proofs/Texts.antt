@@ -7,9 +7,9 @@ use Rattle.std.proofs.lemmas.Bool.Decides.{nat_tests}
 use Rattle.std.proofs.lemmas.List.FromFn.{map-range_with_len_more, length-map-range_with_len}
 use Rattle.zarrs_data_type.specs.ArrayData.{fixed}
 use Rattle.zarrs_data_type.specs.Cell.{Cell, bytes}
-use Rattle.zarrs_script_metadata.specs.declared.cell_type.CellType.{CellType}
-use Rattle.zarrs_script_metadata.specs.declared.cell_type.CellType.TheVariants as cell
-use Rattle.zarrs_script_metadata.specs.CellTypes.{cell_type_size, greatest, is_signed}
+use Rattle.zarrs_script.specs.declared.cell_type.CellType.{CellType}
+use Rattle.zarrs_script.specs.declared.cell_type.CellType.TheVariants as cell
+use Rattle.zarrs_script.specs.CellTypes.{cell_type_size, greatest, is_signed}
 use Rattle.zarrs_script.specs.CellTexts.{value_of, number_text, cell_text}
 use Rattle.zarrs_script.proofs.Bytes.{value_below}
 use Rattle.zarrs_script.specs.Transcript.{line, list_text, data_text}

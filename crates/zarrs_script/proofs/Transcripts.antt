@@ -7,25 +7,25 @@ use Rattle.zarrs_data_type.specs.Cell.{Cell}
 use Rattle.zarrs_data_type.specs.ArrayData.{ArrayData, data_of}
 use Rattle.zarrs_data_type.specs.Cells.{cells}
 use Rattle.zarrs_storage.specs.Store.{StoreState}
-use Rattle.zarrs_calls.specs.declared.call.Call.{Call}
-use Rattle.zarrs_calls.specs.declared.call.Call.TheVariants as call
-use Rattle.zarrs_calls.specs.declared.call.Reply.{Reply}
-use Rattle.zarrs_calls.specs.declared.call.Reply.TheVariants.{Done, Compacted, Cells, MaybeCells, Refused}
-use Rattle.zarrs_calls.specs.Layout.{Layout, ArrayState}
-use Rattle.zarrs_calls.specs.Acts.{Act, store, erase, compact, read, read_chunk, resize, act_of}
-use Rattle.zarrs_calls.specs.ArgumentRefusals.{argument_refusal}
-use Rattle.zarrs_calls.specs.Refusals.{Refusal}
-use Rattle.zarrs_calls.specs.Step.{ActStep, Step, Run}
-use Rattle.zarrs_metadata_v2.specs.View.{MetadataData}
+use Rattle.zarrs_engine_calls.specs.declared.call.Call.{Call}
+use Rattle.zarrs_engine_calls.specs.declared.call.Call.TheVariants as call
+use Rattle.zarrs_engine_calls.specs.declared.call.Reply.{Reply}
+use Rattle.zarrs_engine_calls.specs.declared.call.Reply.TheVariants.{Done, Compacted, Cells, MaybeCells, Refused}
+use Rattle.zarrs_engine_calls.specs.Layout.{Layout, ArrayState}
+use Rattle.zarrs_engine_calls.specs.Acts.{Act, store, erase, compact, read, read_chunk, resize, act_of}
+use Rattle.zarrs_engine_calls.specs.ArgumentRefusals.{argument_refusal}
+use Rattle.zarrs_engine_calls.specs.Refusals.{Refusal}
+use Rattle.zarrs_engine_calls.specs.Step.{ActStep, Step, Run}
+use Rattle.zarrs_metadata.specs.Versions.{MetadataData}
 use Rattle.zarrs_creation.specs.Changes.{with_shape}
 use Rattle.zarrs.specs.Arrays.{metadata_of_array}
-use Rattle.zarrs_script_metadata.specs.Parts.{text_of_metadata}
-use Rattle.zarrs_script_metadata.specs.declared.cell_type.CellType.{CellType}
+use Rattle.zarrs_script.specs.Parts.{text_of_metadata}
+use Rattle.zarrs_script.specs.declared.cell_type.CellType.{CellType}
 use Rattle.zarrs_script.specs.declared.command.Creation.{Creation}
 use Rattle.zarrs_script.specs.declared.command.Command.{Command}
 use Rattle.zarrs_script.specs.declared.command.Command.TheVariants as command_of
 use Rattle.zarrs_script.specs.declared.array.OpenArray.{OpenArray}
-use Rattle.zarrs_script_metadata.specs.CellTypes.{kind_of_cells}
+use Rattle.zarrs_script.specs.CellTypes.{kind_of_cells}
 use Rattle.zarrs_script.specs.CellTexts.{cell_text}
 use Rattle.zarrs_script.specs.Script.{Order}
 use Rattle.zarrs_script.specs.Parsed.{order_of_call, order_of_command}

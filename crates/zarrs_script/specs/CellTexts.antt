@@ -3,9 +3,9 @@ use Rattle.std.specs.Prelude.{ℕ, zero, suc, ◌+◌, ◌-◌, ◌*◌, ◌/◌
 use Rattle.std.specs.Prelude.{nat_lt, nat_le, List, [], ◌∷◌, ◌++◌, codes, decimal, Option, Some, None}
 use Rattle.std.specs.List.{concat}
 use Rattle.zarrs_data_type.specs.Cell.{Cell, fill_bytes}
-use Rattle.zarrs_metadata.specs.Extension.{◌>>=◌}
-use Rattle.zarrs_script_metadata.specs.declared.cell_type.CellType.{CellType}
-use Rattle.zarrs_script_metadata.specs.CellTypes.{cell_type_size, greatest, is_signed}
+use Rattle.zarrs_metadata_parts.specs.Extension.{◌>>=◌}
+use Rattle.zarrs_script.specs.declared.cell_type.CellType.{CellType}
+use Rattle.zarrs_script.specs.CellTypes.{cell_type_size, greatest, is_signed}
 use Rattle.zarrs_script.specs.Words.{number_of, each_of, items_of}
 
 -- the lowest bytes of a number, the lowest first

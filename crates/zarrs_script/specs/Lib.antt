@@ -6,3 +6,5 @@ pub mod Transcript
 pub mod Answers
 pub mod Sessions
 pub mod Sizes
+pub mod CellTypes
+pub mod Parts

@@ -4,15 +4,15 @@ use Rattle.std.specs.Borrow.{Bor}
 use Rattle.std.specs.List.{slice_split}
 use Rattle.zarrs_subset.specs.Regions.{box_of}
 use Rattle.zarrs_data_type.specs.ArrayData.{data_of}
-use Rattle.zarrs_calls.specs.declared.call.Call.{Call}
-use Rattle.zarrs_calls.specs.declared.call.Call.TheVariants as call
+use Rattle.zarrs_engine_calls.specs.declared.call.Call.{Call}
+use Rattle.zarrs_engine_calls.specs.declared.call.Call.TheVariants as call
 use Rattle.zarrs_script.specs.declared.command.Creation.{Creation}
 use Rattle.zarrs_script.specs.declared.command.Command.{Command}
 use Rattle.zarrs_script.specs.declared.command.Command.TheVariants as command
 use Rattle.zarrs_script.specs.declared.error.ParseError.{ParseError}
 use Rattle.zarrs_script.specs.declared.error.ParseError.TheVariants.{NotACommand, OutOfMemory}
-use Rattle.zarrs_metadata.specs.Extension.{◌>>=◌}
-use Rattle.zarrs_script_metadata.specs.declared.cell_type.CellType.{CellType}
+use Rattle.zarrs_metadata_parts.specs.Extension.{◌>>=◌}
+use Rattle.zarrs_script.specs.declared.cell_type.CellType.{CellType}
 use Rattle.zarrs_script.specs.Words.{number_of}
 use Rattle.zarrs_script.specs.Script.{type_after, Order, Array, Chunk, Read, Erase, Put, Get, Resize, Keys, Meta, Other}
 

@@ -4,12 +4,12 @@ use Rattle.std.specs.List.{slice_split}
 use Rattle.std.specs.Str.{bytes_eq}
 use Rattle.zarrs_subset.specs.Regions.{Box}
 use Rattle.zarrs_data_type.specs.ArrayData.{ArrayData, fixed}
-use Rattle.zarrs_metadata.specs.Extension.{◌>>=◌}
-use Rattle.zarrs_script_metadata.specs.declared.cell_type.CellType.{CellType}
+use Rattle.zarrs_metadata_parts.specs.Extension.{◌>>=◌}
+use Rattle.zarrs_script.specs.declared.cell_type.CellType.{CellType}
 use Rattle.zarrs_script.specs.declared.command.Verb.{Verb}
 use Rattle.zarrs_script.specs.declared.command.Verb.TheVariants as verb
 use Rattle.zarrs_script.specs.Words.{numbers_in_word, region_of}
-use Rattle.zarrs_script_metadata.specs.CellTypes.{type_of}
+use Rattle.zarrs_script.specs.CellTypes.{type_of}
 use Rattle.zarrs_script.specs.CellTexts.{cell_of, cells_of}
 
 -- what a line asks for

@@ -6,9 +6,9 @@ use Rattle.std.specs.FinMap as finite
 use Rattle.hex.specs.Hex.{encode_lower}
 use Rattle.zarrs_storage.specs.Store.{StoreState, Values}
 use Rattle.zarrs_storage.specs.Memory.{open_state}
-use Rattle.zarrs_metadata.specs.declared.separators.ChunkKeySeparator.TheVariants.{Slash}
+use Rattle.zarrs_metadata_parts.specs.declared.separators.ChunkKeySeparator.TheVariants.{Slash}
 use Rattle.zarrs_metadata_v3.specs.Document.{DocumentData}
-use Rattle.zarrs_metadata_v2.specs.View.{MetadataData, v3}
+use Rattle.zarrs_metadata.specs.Versions.{MetadataData, v3}
 use Rattle.zarrs_keys.specs.Encodings.{default_key}
 use Rattle.zarrs_chunk_grid.specs.Configurations.{regular, grid_of, takes_shape}
 use Rattle.zarrs_data_type.specs.ArrayData.{ArrayData, data_of}
@@ -17,20 +17,20 @@ use Rattle.zarrs_codec_leaf.specs.Bytes.{bytes_meaning}
 use Rattle.zarrs_codec_array.specs.Arrays.{same_array}
 use Rattle.zarrs_codec.specs.Configurations.{whole_chunk, with_places}
 use Rattle.zarrs_codec.specs.Through.{through_all}
-use Rattle.zarrs_parts.specs.Places.{cell_places}
-use Rattle.zarrs_calls.specs.declared.call.Call.{Call}
-use Rattle.zarrs_calls.specs.declared.call.Reply.{Reply}
-use Rattle.zarrs_calls.specs.declared.call.Reply.TheVariants.{Done, Compacted, Cells, MaybeCells, Refused}
-use Rattle.zarrs_calls.specs.Canon.{IsCanonicalMap}
-use Rattle.zarrs_calls.specs.Content.{value_at, content}
-use Rattle.zarrs_calls.specs.Layout.{Layout, layout_at, ArrayState}
-use Rattle.zarrs_calls.specs.Refusals.{refusal_of, refusal_number}
-use Rattle.zarrs_calls.specs.Step.{Step}
+use Rattle.zarrs_codec_chain.specs.Places.{cell_places}
+use Rattle.zarrs_engine_calls.specs.declared.call.Call.{Call}
+use Rattle.zarrs_engine_calls.specs.declared.call.Reply.{Reply}
+use Rattle.zarrs_engine_calls.specs.declared.call.Reply.TheVariants.{Done, Compacted, Cells, MaybeCells, Refused}
+use Rattle.zarrs_engine_calls.specs.Canon.{IsCanonicalMap}
+use Rattle.zarrs_engine_calls.specs.Content.{value_at, content}
+use Rattle.zarrs_engine_calls.specs.Layout.{Layout, layout_at, ArrayState}
+use Rattle.zarrs_engine_calls.specs.Refusals.{refusal_of, refusal_number}
+use Rattle.zarrs_engine_calls.specs.Step.{Step}
 use Rattle.zarrs_creation.specs.Changes.{with_shape}
 use Rattle.zarrs_creation.specs.Meanings.{Meaning, creation_v3}
-use Rattle.zarrs_script_metadata.specs.Parts.{parts_for, document_for, text_of_metadata}
-use Rattle.zarrs_script_metadata.specs.declared.cell_type.CellType.{CellType}
-use Rattle.zarrs_script_metadata.specs.CellTypes.{kind_of_cells}
+use Rattle.zarrs_script.specs.Parts.{parts_for, document_for, text_of_metadata}
+use Rattle.zarrs_script.specs.declared.cell_type.CellType.{CellType}
+use Rattle.zarrs_script.specs.CellTypes.{kind_of_cells}
 use Rattle.zarrs_script.specs.CellTexts.{cell_text}
 use Rattle.zarrs_script.specs.Script.{Order, Array, Keys, Meta}
 use Rattle.zarrs_script.specs.Parsed.{order_of_call}

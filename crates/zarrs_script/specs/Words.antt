@@ -5,7 +5,7 @@ use Rattle.std.specs.List.{slice_split}
 use Rattle.std.specs.Str.{bytes_eq, all_ascii_digits}
 use Rattle.std.specs.Str.Parse.{digits_value}
 use Rattle.zarrs_subset.specs.Regions.{Box, box_from}
-use Rattle.zarrs_metadata.specs.Extension.{◌>>=◌}
+use Rattle.zarrs_metadata_parts.specs.Extension.{◌>>=◌}
 
 -- a number: one decimal digit or more, below 2 ^ 64
 abbrev pub is_number : List ℕ → Bool

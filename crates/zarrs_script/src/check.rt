@@ -10,9 +10,9 @@ ghost use Rattle.zarrs_script.specs.Script.{array_order, chunk_order, put_order,
 ghost use Rattle.zarrs_script.specs.Script.{keys_order, verb_order, order_of, orders_of};
 ghost use Rattle.zarrs_script.specs.Parsed.{words_in, known_after, is_range};
 
+use crate::cell_type::CellType;
 use crate::command::Verb;
 use crate::parse::{is_skipped, last_word, next_word, number_of, verb_of};
-use zarrs_script_metadata::CellType;
 
 /// Whether the items that are joined by commas are numbers.
 fn are_numbers(word: &[u8]) -> bool

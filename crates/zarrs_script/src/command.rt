@@ -1,10 +1,10 @@
 //! What the lines of a script ask for.
 ghost use Rattle.std.specs.Prelude.{IsSome};
 ghost use Rattle.zarrs_data_type.specs.Cell.{fill_cell};
-ghost use Rattle.zarrs_script_metadata.specs.CellTypes.{kind_of_cells};
+ghost use Rattle.zarrs_script.specs.CellTypes.{kind_of_cells};
 
+use crate::cell_type::CellType;
 use zarrs_engine::Call;
-use zarrs_script_metadata::CellType;
 
 /// The first word of a line.
 #[derive(Clone, Copy, Debug, PartialEq, Eq)]

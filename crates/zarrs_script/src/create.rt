@@ -6,6 +6,7 @@ ghost use Rattle.zarrs_script.specs.Sessions.{Describes, Creates, HasParts};
 use crate::array::OpenArray;
 use crate::command::Creation;
 use crate::error::CreationError;
+use crate::parts::metadata_of_parts;
 use std::alloc::Global;
 use std::num::NonZeroU64;
 use zarrs::Array;
@@ -13,10 +14,8 @@ use zarrs::laws::an_array_is_its_metadata;
 use zarrs_chunk_grid::{ChunkShape, GridError, RegularChunkGrid};
 use zarrs_codec::{ArrayToBytesCodec, BytesCodec, BytesToBytesCodecs, CodecChain};
 use zarrs_data_type::FillValue;
-use zarrs_metadata_v2::ArrayMetadata;
-use zarrs_metadata_v3::ArrayMetadataV3;
+use zarrs_metadata::{ArrayMetadata, ArrayMetadataV3};
 use zarrs_options::ArrayCreateError;
-use zarrs_script_metadata::metadata_of_parts;
 use zarrs_storage::MemoryStore;
 
 /// The extents of a chunk, none of which may be 0.

@@ -4,23 +4,22 @@ ghost use Rattle.std.specs.List.{slice_split};
 ghost use Rattle.zarrs_subset.specs.Regions.{box_of};
 ghost use Rattle.zarrs_data_type.specs.Cell.{fill_cell};
 ghost use Rattle.zarrs_script.specs.Words.{number_of, each_of, numbers_in_word, region_of};
-ghost use Rattle.zarrs_script_metadata.specs.CellTypes.{kind_of_cells};
+ghost use Rattle.zarrs_script.specs.CellTypes.{kind_of_cells};
 ghost use Rattle.zarrs_script.specs.CellTexts.{cell_of, joined_cells, cells_of, low_bytes};
 ghost use Rattle.zarrs_script.specs.CellTexts.{positive, negative, unsigned_cell, signed_cell};
 ghost use Rattle.zarrs_script.specs.Script.{verb_of, array_order, chunk_order, put_order};
-ghost use Rattle.zarrs_script.specs.Script.{get_order, one_list, keys_order, meta_order};
-ghost use Rattle.zarrs_script.specs.Script.{verb_order};
+ghost use Rattle.zarrs_script.specs.Script.{get_order, one_list, keys_order, meta_order, verb_order};
 ghost use Rattle.zarrs_script.specs.Script.{order_of, type_after, is_skipped};
 ghost use Rattle.zarrs_script.specs.Parsed.{Gives, Grows, words_in, lines_in};
 ghost use Rattle.zarrs_script.specs.Parsed.{TakesWord, TakesLastWord, order_of_command};
 
+use crate::cell_type::CellType;
 use crate::command::{Command, Creation, Verb};
 use crate::error::ParseError;
 use std::alloc::{AllocError, Global};
 use std::borrow::CowSlice;
 use zarrs_data_type::ArrayBytes;
 use zarrs_engine::Call;
-use zarrs_script_metadata::CellType;
 use zarrs_subset::ArraySubset;
 
 /// The verb of this name.

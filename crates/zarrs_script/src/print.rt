@@ -2,27 +2,28 @@
 ghost use Rattle.std.specs.Prelude.{◌≡◌, ◌≤◌, ◌++◌, ◌*◌, ◌∷◌, [], codes, decimal, length, IfOk};
 ghost use Rattle.std.specs.Prelude.{OnOk, IsSome, Some, false};
 ghost use Rattle.serde_json.specs.Written.{has_float};
-ghost use Rattle.zarrs_metadata_v2.specs.View.{metadata_view, data_of_metadata};
+ghost use Rattle.zarrs_metadata.specs.Versions.{metadata_view, data_of_metadata};
 ghost use Rattle.zarrs_data_type.specs.ArrayData.{fixed};
 ghost use Rattle.zarrs_data_type.specs.Cells.{cells};
-ghost use Rattle.zarrs_calls.specs.Refusals.{refusal_of, refusal_number};
-ghost use Rattle.zarrs_script_metadata.specs.Parts.{text_of_metadata};
-ghost use Rattle.zarrs_script_metadata.specs.CellTypes.{kind_of_cells, cell_type_size};
+ghost use Rattle.zarrs_engine_calls.specs.Refusals.{refusal_of, refusal_number};
+ghost use Rattle.zarrs_script.specs.Parts.{text_of_metadata};
+ghost use Rattle.zarrs_script.specs.CellTypes.{kind_of_cells, cell_type_size};
 ghost use Rattle.zarrs_script.specs.CellTexts.{value_of, number_text};
 ghost use Rattle.zarrs_script.specs.Transcript.{line, refusal, data_text, reply_text, is_refusal};
 ghost use Rattle.zarrs_script.specs.Transcript.{bytes_at, key_text, keys_text};
 ghost use Rattle.zarrs_script.specs.Sessions.{Puts};
 
+use crate::cell_type::CellType;
 use crate::error::Stopped;
+use crate::text::metadata_text;
 use bytes::Bytes;
 use itoa::Buffer;
 use std::alloc::{AllocError, Global};
 use std::io::Write;
-use zarrs_codec_leaf::CodecError;
+use zarrs_codec::CodecError;
 use zarrs_data_type::{ArrayBytes, ElementError};
 use zarrs_engine::{ArrayError, Reply};
-use zarrs_metadata_v2::ArrayMetadata;
-use zarrs_script_metadata::{CellType, metadata_text};
+use zarrs_metadata::ArrayMetadata;
 use zarrs_storage::{MemoryStore, ReadableStorageTraits, StorageError, StoreKey};
 
 /// The number of bytes that are gathered before they are written.

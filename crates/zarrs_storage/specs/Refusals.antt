@@ -2,8 +2,7 @@
 use Rattle.std.specs.Prelude.{◌≡◌, ℕ, false, true, List, ◌⊎◌, string_bytes}
 use Rattle.zarrs_storage.specs.Store.{StoreState, is_store_key, PassesValue}
 use Rattle.zarrs_storage.specs.declared.error.StorageError.{StorageError}
-use Rattle.zarrs_storage.specs.declared.error.StorageError.TheVariants.{InvalidMetadata, ReadOnly, InvalidByteRange}
-use Rattle.zarrs_storage.specs.declared.error.StorageError.TheVariants.{Exhausted, Other, OutOfMemory}
+use Rattle.zarrs_storage.specs.declared.error.StorageError.TheVariants.{InvalidMetadata, ReadOnly, InvalidByteRange, Exhausted, Other, OutOfMemory}
 
 -- the text is not a store key, or out of memory
 abbrev pub RefusesKey : List ℕ → StorageError → Type 0

@@ -3,8 +3,7 @@ ghost use Rattle.std.specs.Prelude.{◌≡◌, ◌+◌, ◌<◌, true, length, c
 ghost use Rattle.std.specs.Prelude.{IsErr, IsErrOf, IsErrAnd};
 ghost use Rattle.std.specs.FinMap as map;
 ghost use Rattle.zarrs_storage.specs.Store.{Accepts, Refuses, MayReadWhole, MayReadRange};
-ghost use Rattle.zarrs_storage.specs.Store.{PassesValue, is_listed, last_call, value_range};
-ghost use Rattle.zarrs_storage.specs.Store.{size_at, with_part};
+ghost use Rattle.zarrs_storage.specs.Store.{PassesValue, is_listed, last_call, value_range, size_at, with_part};
 ghost use Rattle.zarrs_storage.specs.Refusals.{RefusesRead, RefusesRange, SaysOther};
 ghost use Rattle.zarrs_storage.specs.Wrappers.{with_refused, whole_state, below_whole, whole_keys};
 

@@ -7,8 +7,7 @@ use Rattle.std.proofs.lemmas.Bool.{cases_Bool, and_parts, ltb-true, leb-true, fa
 use Rattle.std.proofs.lemmas.Bool.Decides.{nat_tests}
 use Rattle.std.proofs.lemmas.Option.{slice_get-get_or, slice_get-map}
 use Rattle.std.proofs.lemmas.List.FromFn.{length-map-range_with_len, get_or-map-range_with_len}
-use Rattle.zarrs_subset.specs.Boxes.{position_count, place, BoxFits, in_range, is_within, moved, offset_from, zip_with}
-use Rattle.zarrs_subset.specs.Boxes.{overlap_extents, MeetAlong}
+use Rattle.zarrs_subset.specs.Boxes.{position_count, place, BoxFits, in_range, is_within, moved, offset_from, zip_with, overlap_extents, MeetAlong}
 use Rattle.zarrs_subset.specs.Cells.{BoxCopied}
 use Rattle.zarrs_subset.specs.Pieces.{piece_at, pieces}
 use Rattle.zarrs_subset.specs.Regions.{Box, IsLong, place_in, cells_over, TakesPart}

@@ -7,8 +7,7 @@ use Rattle.std.specs.List.{flat_map, range_with_len}
 use Rattle.std.specs.Cmp.Lexicographic.{pointwise}
 use Rattle.std.specs.declared.ops.Range.{Range}
 use Rattle.zarrs_subset.specs.declared.subset.ArraySubset.{ArraySubset}
-use Rattle.zarrs_subset.specs.Boxes.{position_count, place, is_within, offset_from, positions_from, zip_with, ends}
-use Rattle.zarrs_subset.specs.Boxes.{overlap_start, overlap_extents}
+use Rattle.zarrs_subset.specs.Boxes.{position_count, place, is_within, offset_from, positions_from, zip_with, ends, overlap_start, overlap_extents}
 use Rattle.zarrs_subset.specs.Pieces.{pieces}
 
 -- the first index of each dimension, and its extent
@@ -126,3 +125,10 @@ TakesPart box other part old new =
     (position : List ℕ) → Holds box position
     → cell_in box new position
     ≡ (if in_box other position then cell_in other part position else cell_in box old position)
+
+-- the box lies in another: it starts and ends there in each dimension
+pub record LiesInBox (box other : Box) : Type 0 where
+  pub same_length : length box.start ≡ length other.start
+  pub starts : (k : ℕ) → k < length other.start → slice_index other.start k ≤ slice_index box.start k
+  pub ends : (k : ℕ) → k < length other.start
+      → slice_index box.start k + slice_index box.shape k ≤ slice_index other.start k + slice_index other.shape k

@@ -4,8 +4,7 @@ ghost use Rattle.std.specs.Prelude.{◌≡◌, ◌+◌, [], length, true, IfOk, 
 ghost use Rattle.std.specs.Bool.{OnTrue, OnFalse};
 ghost use Rattle.std.specs.Iterator.{item_count};
 ghost use Rattle.zarrs_subset.specs.Boxes.{position_count, EndsFit};
-ghost use Rattle.zarrs_subset.specs.Regions.{Holds, IsLong, box_from, box_of, in_box, place_in};
-ghost use Rattle.zarrs_subset.specs.Regions.{positions};
+ghost use Rattle.zarrs_subset.specs.Regions.{Holds, IsLong, box_from, box_of, in_box, place_in, positions};
 
 use crate::ArrayIndicesTinyVec;
 use crate::subset::ArraySubset;

@@ -2,8 +2,7 @@
 
 ghost use Rattle.std.specs.Prelude.{◌≡◌, ℕ, ◌+◌, ◌-◌, ◌*◌, ◌<◌, ◌≤◌, ◌^◌, List, [], ◌∷◌, drop};
 ghost use Rattle.std.specs.Prelude.{length};
-ghost use Rattle.zarrs_subset.specs.Strides.{AreApart, AreApart-prop, RunsCopied, source_span};
-ghost use Rattle.zarrs_subset.specs.Strides.{target_span};
+ghost use Rattle.zarrs_subset.specs.Strides.{AreApart, AreApart-prop, RunsCopied, source_span, target_span};
 
 /// A repetition of a copy: `count` times, each time one step further in the source and in the target, in bytes.
 #[derive(Clone, Copy)]

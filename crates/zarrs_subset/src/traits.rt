@@ -3,8 +3,7 @@
 ghost use Rattle.std.specs.Prelude.{◌≡◌, ◌-◌, ◌+◌, ◌<◌, ◌≤◌, ◌^◌, ◌↔◌, length, slice_index, IfOk};
 ghost use Rattle.std.specs.Prelude.{IsTrue, OnErr, MatchOption, SomeIndex};
 ghost use Rattle.zarrs_subset.specs.Boxes.{ends, position_count};
-ghost use Rattle.zarrs_subset.specs.Regions.{Box, IsBox, IsLong, IsLong-ranges, LiesInShape};
-ghost use Rattle.zarrs_subset.specs.Regions.{box_of, box_of_ranges};
+ghost use Rattle.zarrs_subset.specs.Regions.{Box, IsBox, IsLong, IsLong-ranges, LiesInShape, box_of, box_of_ranges};
 
 use crate::error::SizeOverflow;
 use crate::lists::ends_of;

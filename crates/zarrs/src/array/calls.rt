@@ -12,9 +12,9 @@ impl<TStorage: ReadableStorageTraits> Array<TStorage> {
     ghost use Rattle.std.specs.Prelude.{◌≡◌, IfOk, IfErr, OnOk, None};
     ghost use Rattle.std.specs.Prelude.{length, map, option_map};
     ghost use Rattle.zarrs_subset.specs.Regions.{positions};
-    ghost use Rattle.zarrs_calls.specs.Reach.{MayAskChunk, MayAskChunks};
-    ghost use Rattle.zarrs_calls.specs.Content.{value_at};
-    ghost use Rattle.zarrs_calls.specs.Refusals.{RefusesBy, refusal_of, length_refusal, key_refusal};
+    ghost use Rattle.zarrs_engine_calls.specs.Reach.{MayAskChunk, MayAskChunks};
+    ghost use Rattle.zarrs_engine_calls.specs.Content.{value_at};
+    ghost use Rattle.zarrs_engine_calls.specs.Refusals.{RefusesBy, refusal_of, length_refusal, key_refusal};
     ghost use Rattle.zarrs_engine.specs.Encoded.{RefusesEncoded, stored_values};
     ghost use Rattle.zarrs.specs.Arrays.{layout_of_array, store_of_array};
 
@@ -76,18 +76,18 @@ impl<TStorage: WritableStorageTraits> Array<TStorage> {
     ghost use Rattle.std.specs.Prelude.{IfOk, IfErr, OnOk, OnErr};
     ghost use Rattle.zarrs_chunk_grid.specs.Grids.{box_at, has_box};
     ghost use Rattle.zarrs_storage.specs.Store.{KeepsReach};
-    ghost use Rattle.zarrs_calls.specs.Changes.{IsPut};
-    ghost use Rattle.zarrs_chain.specs.Options.{encodes_partially, stores_empty_chunks};
-    ghost use Rattle.zarrs_calls.specs.Canon.{IsCanonical, KeepsCanon};
-    ghost use Rattle.zarrs_calls.specs.Content.{decoded_cells, value_at};
-    ghost use Rattle.zarrs_array_layout.specs.Steps.{RefusesPut};
-    ghost use Rattle.zarrs_calls.specs.Laws.{EachDecodes};
-    ghost use Rattle.zarrs_calls.specs.Patches.{PatchRun};
-    ghost use Rattle.zarrs_calls.specs.Reach.{MayAskCalls};
-    ghost use Rattle.zarrs_calls.specs.Refusals.{refusal_of, refusal_of_storage};
+    ghost use Rattle.zarrs_engine_calls.specs.Changes.{IsPut};
+    ghost use Rattle.zarrs_codec.specs.Options.{encodes_partially, stores_empty_chunks};
+    ghost use Rattle.zarrs_engine_calls.specs.Canon.{IsCanonical, KeepsCanon};
+    ghost use Rattle.zarrs_engine_calls.specs.Content.{decoded_cells, value_at};
+    ghost use Rattle.zarrs_engine_layout.specs.Steps.{RefusesPut};
+    ghost use Rattle.zarrs_engine_calls.specs.Laws.{EachDecodes};
+    ghost use Rattle.zarrs_engine_calls.specs.Patches.{PatchRun};
+    ghost use Rattle.zarrs_engine_calls.specs.Reach.{MayAskCalls};
+    ghost use Rattle.zarrs_engine_calls.specs.Refusals.{refusal_of, refusal_of_storage};
     ghost use Rattle.zarrs.specs.Outcomes.{ErasesChunkOrRefuses};
-    ghost use Rattle.zarrs_calls.specs.Step.{ErasesChunks, RefusesEraseChunks};
-    ghost use Rattle.zarrs_calls.specs.Step.{Run};
+    ghost use Rattle.zarrs_engine_calls.specs.Step.{ErasesChunks, RefusesEraseChunks};
+    ghost use Rattle.zarrs_engine_calls.specs.Step.{Run};
     ghost use Rattle.zarrs.specs.Arrays.{layout_of_array, storage_of_array, store_of_array};
     ghost use Rattle.zarrs.specs.Arrays.{state_of_array, KeepsAllButShape, KeepsArray};
 

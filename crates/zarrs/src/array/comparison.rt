@@ -9,8 +9,8 @@ impl<TStorage: ReadableStorageTraits> Array<TStorage> {
     ghost use Rattle.std.specs.Prelude.{◌≡◌, IfOk, IfErr, length};
     ghost use Rattle.std.specs.Bool.{OnFalse, OnTrue};
     ghost use Rattle.zarrs_subset.specs.Regions.{positions};
-    ghost use Rattle.zarrs_calls.specs.Reach.{MayAskChunks};
-    ghost use Rattle.zarrs_calls.specs.Refusals.{refusal_of};
+    ghost use Rattle.zarrs_engine_calls.specs.Reach.{MayAskChunks};
+    ghost use Rattle.zarrs_engine_calls.specs.Refusals.{refusal_of};
     ghost use Rattle.zarrs_engine.specs.Comparisons.{ComparesContent, DifferInChunk};
     ghost use Rattle.zarrs_engine.specs.Comparisons.{HoldSameChunks, RefusesComparison};
     ghost use Rattle.zarrs.specs.Arrays.{layout_of_array, store_of_array};

@@ -1,12 +1,12 @@
 //! The same array over another store.
 ghost use Rattle.std.specs.Prelude.{◌≡◌, IfOk};
-ghost use Rattle.zarrs_metadata_v2.specs.View.{metadata_view};
+ghost use Rattle.zarrs_metadata.specs.Versions.{metadata_view};
 
 use super::Array;
 use std::alloc::{AllocError, Global};
 use zarrs_creation::ArrayParts;
 use zarrs_engine::{ArrayError, Engine};
-use zarrs_metadata_v2::ArrayMetadata;
+use zarrs_metadata::ArrayMetadata;
 use zarrs_storage::{ReadOnly, ReadableStorageTraits};
 
 /// Returns a copy of the metadata.
@@ -21,8 +21,8 @@ fn copied_metadata(alloc: Global, metadata: &ArrayMetadata) -> Result<ArrayMetad
 
 impl<TStorage> Array<TStorage> {
     ghost use Rattle.std.specs.Prelude.{◌≡◌, IfOk, IsSome, IsOkUnless};
-    ghost use Rattle.zarrs_types.specs.Cell.{fill_cell};
-    ghost use Rattle.zarrs_types.specs.Kind.{kind};
+    ghost use Rattle.zarrs_data_type.specs.Cell.{fill_cell};
+    ghost use Rattle.zarrs_data_type.specs.Kind.{kind};
     ghost use Rattle.zarrs_creation.specs.Meanings.{meaning_with};
     ghost use Rattle.zarrs.specs.Arrays.{meaning_of_array, storage_of_array, HasAllButStore};
 

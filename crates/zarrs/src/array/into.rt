@@ -2,15 +2,15 @@
 use super::Array;
 use std::alloc::Global;
 use zarrs_codec::CodecOptions;
+use zarrs_data_type::ArrayBytesDecodeIntoTarget;
 use zarrs_engine::ArrayError;
 use zarrs_storage::ReadableStorageTraits;
 use zarrs_subset::ArraySubsetTraits;
-use zarrs_target::ArrayBytesDecodeIntoTarget;
 
 impl<TStorage: ReadableStorageTraits> Array<TStorage> {
     ghost use Rattle.std.specs.Prelude.{◌≡◌, IfErr, IsSome, OnErr, OnOk};
-    ghost use Rattle.zarrs_calls.specs.Refusals.{refusal_of};
-    ghost use Rattle.zarrs_target.specs.States.{IsTarget, SameBox, StaysOutside};
+    ghost use Rattle.zarrs_engine_calls.specs.Refusals.{refusal_of};
+    ghost use Rattle.zarrs_data_type.specs.States.{IsTarget, SameBox, StaysOutside};
     ghost use Rattle.zarrs_engine.specs.Into.{HasContent, RefusesRetrieveInto, RetrievesInto};
     ghost use Rattle.zarrs_engine.specs.Into.{target_refusal};
     ghost use Rattle.zarrs.specs.Arrays.{layout_of_array, store_of_array, state_of_array};

@@ -2,13 +2,13 @@
 ghost use Rattle.std.specs.Borrow.{sem};
 ghost use Rattle.std.specs.Prelude.{◌≡◌};
 ghost use Rattle.serde_json.specs.View.{members_view};
-ghost use Rattle.zarrs_metadata_v2.specs.View.{metadata_view};
+ghost use Rattle.zarrs_metadata.specs.Versions.{metadata_view};
 ghost use Rattle.zarrs_creation.specs.Meanings.{attributes_of};
 ghost use Rattle.zarrs.specs.Lending.{LendsAttributesIn};
 
 use super::Array;
 use serde_json::{Map, Value};
-use zarrs_metadata_v2::ArrayMetadata;
+use zarrs_metadata::ArrayMetadata;
 
 /// Lends the attributes of metadata of either version.
 fn attributes_in(metadata: &mut ArrayMetadata) -> &mut Map<String, Value>

@@ -7,10 +7,10 @@ use zarrs_storage::{StorageError, WritableStorageTraits};
 
 impl<TStorage: WritableStorageTraits> Array<TStorage> {
     ghost use Rattle.std.specs.Prelude.{◌≡◌, map, IfErr, Ok, OnOk};
-    ghost use Rattle.zarrs_metadata_v2.specs.View.{MetadataData};
+    ghost use Rattle.zarrs_metadata.specs.Versions.{MetadataData};
     ghost use Rattle.zarrs_options.specs.Options.{options_view};
     ghost use Rattle.zarrs_options.specs.declared.versions.MetadataEraseVersion.TheVariants as erase;
-    ghost use Rattle.zarrs_calls.specs.Refusals.{refusal_of_storage};
+    ghost use Rattle.zarrs_engine_calls.specs.Refusals.{refusal_of_storage};
     ghost use Rattle.zarrs_creation.specs.Shown.{shown};
     ghost use Rattle.zarrs_creation.specs.Writing.{put_view, erasures};
     ghost use Rattle.zarrs.specs.Counts.{Writes, documents_of, erased_documents};

@@ -4,17 +4,16 @@ use std::alloc::Global;
 use std::fmt;
 use zarrs_chunk_grid::ChunkGrid;
 use zarrs_codec::{CodecChain, CodecOptions};
-use zarrs_data_type::ArrayBytes;
+use zarrs_data_type::{ArrayBytes, ArrayBytesDecodeIntoTarget};
 use zarrs_engine::ArrayError;
 use zarrs_keys::ChunkKeyEncoding;
 use zarrs_storage::ReadableStorageTraits;
 use zarrs_subset::ArraySubsetTraits;
-use zarrs_target::ArrayBytesDecodeIntoTarget;
 
 /// A chunk of an array, of which parts are read. It keeps nothing of what it read.
 #[derive(Drop)]
 pub struct ArrayPartialDecoder<'a, TStorage> {
-    decoder: zarrs_engine::ArrayPartialDecoder<
+    decoder: zarrs_engine::ChunkPartialDecoder<
         'a,
         TStorage,
         ChunkGrid,
@@ -26,8 +25,8 @@ pub struct ArrayPartialDecoder<'a, TStorage> {
 impl<TStorage: ReadableStorageTraits> Array<TStorage> {
     ghost use Rattle.std.specs.Prelude.{◌≡◌, true, IfOk, IfErr, OnOk};
     ghost use Rattle.zarrs_chunk_grid.specs.Grids.{has_box};
-    ghost use Rattle.zarrs_calls.specs.ArgumentRefusals.{chunk_refusal};
-    ghost use Rattle.zarrs_calls.specs.Refusals.{RefusesBy, refusal_of};
+    ghost use Rattle.zarrs_engine_calls.specs.ArgumentRefusals.{chunk_refusal};
+    ghost use Rattle.zarrs_engine_calls.specs.Refusals.{RefusesBy, refusal_of};
     ghost use Rattle.zarrs.specs.Arrays.{layout_of_array, state_of_array};
     ghost use Rattle.zarrs.specs.PartialEncoders.{MayDecodeAt, layout_of_decoder, state_of_decoder};
     ghost use Rattle.zarrs.specs.PartialEncoders.{indices_of_decoder};
@@ -83,11 +82,11 @@ impl<TStorage: ReadableStorageTraits> ArrayPartialDecoder<'_, TStorage> {
     ghost use Rattle.std.specs.Prelude.{◌≡◌, ◌↔◌, true, None, IfOk, IfErr, IsSome, IsTrue};
     ghost use Rattle.std.specs.Prelude.{OnErr, OnOk};
     ghost use Rattle.zarrs_data_type.specs.ArrayData.{data_of};
-    ghost use Rattle.zarrs_calls.specs.ArgumentRefusals.{part_refusal, region_refusal};
-    ghost use Rattle.zarrs_calls.specs.Changes.{IsPresent};
-    ghost use Rattle.zarrs_calls.specs.Refusals.{RefusesBy, key_refusal, refusal_of};
-    ghost use Rattle.zarrs_calls.specs.Step.{RetrievesPart, RefusesRetrievePart};
-    ghost use Rattle.zarrs_target.specs.States.{IsTarget, SameBox, StaysOutside};
+    ghost use Rattle.zarrs_engine_calls.specs.ArgumentRefusals.{part_refusal, region_refusal};
+    ghost use Rattle.zarrs_engine_calls.specs.Changes.{IsPresent};
+    ghost use Rattle.zarrs_engine_calls.specs.Refusals.{RefusesBy, key_refusal, refusal_of};
+    ghost use Rattle.zarrs_engine_calls.specs.Step.{RetrievesPart, RefusesRetrievePart};
+    ghost use Rattle.zarrs_data_type.specs.States.{IsTarget, SameBox, StaysOutside};
     ghost use Rattle.zarrs_engine.specs.Into.{HasContent, RetrievesInto};
     ghost use Rattle.zarrs_engine.specs.PartialDecoders.{RefusesPartInto, part_into_refusal};
     ghost use Rattle.zarrs_engine.specs.PartialDecoders.{region_of_part};

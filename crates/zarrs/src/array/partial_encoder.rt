@@ -24,8 +24,8 @@ impl<TStorage> Array<TStorage> {
     ghost use Rattle.std.specs.Borrow.{sem};
     ghost use Rattle.std.specs.Prelude.{◌≡◌, true, IfOk, IfErr, OnOk};
     ghost use Rattle.zarrs_chunk_grid.specs.Grids.{has_box};
-    ghost use Rattle.zarrs_calls.specs.ArgumentRefusals.{chunk_refusal};
-    ghost use Rattle.zarrs_calls.specs.Refusals.{RefusesBy, refusal_of};
+    ghost use Rattle.zarrs_engine_calls.specs.ArgumentRefusals.{chunk_refusal};
+    ghost use Rattle.zarrs_engine_calls.specs.Refusals.{RefusesBy, refusal_of};
     ghost use Rattle.zarrs.specs.Arrays.{layout_of_array};
     ghost use Rattle.zarrs.specs.PartialEncoders.{array_of_encoder, indices_of_encoder};
     ghost use Rattle.zarrs.specs.PartialEncoders.{loan_of_encoder, RestsUnlessEncoded};
@@ -62,9 +62,9 @@ impl<TStorage> Array<TStorage> {
 
 impl<TStorage: WritableStorageTraits> Array<TStorage> {
     ghost use Rattle.std.specs.Prelude.{◌≡◌, ◌&&◌, true, None};
-    ghost use Rattle.zarrs_chain.specs.Options.{stores_empty_chunks};
+    ghost use Rattle.zarrs_codec.specs.Options.{stores_empty_chunks};
     ghost use Rattle.zarrs_chunk_grid.specs.Grids.{has_box};
-    ghost use Rattle.zarrs_calls.specs.ArgumentRefusals.{part_refusal};
+    ghost use Rattle.zarrs_engine_calls.specs.ArgumentRefusals.{part_refusal};
     ghost use Rattle.zarrs_data_type.specs.ArrayData.{data_of};
     ghost use Rattle.zarrs.specs.Arrays.{layout_of_array, store_of_array};
     ghost use Rattle.zarrs.specs.Outcomes.{EncodesPartOrRefuses, ErasesEncodedOrRefuses};
@@ -119,8 +119,8 @@ impl<TStorage: WritableStorageTraits> Array<TStorage> {
 
 impl<TStorage: WritableStorageTraits> ArrayPartialEncoder<'_, TStorage> {
     ghost use Rattle.std.specs.Prelude.{◌≡◌, ◌&&◌, None};
-    ghost use Rattle.zarrs_chain.specs.Options.{stores_empty_chunks};
-    ghost use Rattle.zarrs_calls.specs.ArgumentRefusals.{part_refusal};
+    ghost use Rattle.zarrs_codec.specs.Options.{stores_empty_chunks};
+    ghost use Rattle.zarrs_engine_calls.specs.ArgumentRefusals.{part_refusal};
     ghost use Rattle.zarrs_data_type.specs.ArrayData.{data_of};
     ghost use Rattle.zarrs.specs.Arrays.{layout_of_array, store_of_array};
     ghost use Rattle.zarrs.specs.Outcomes.{EncodesPartOrRefuses, ErasesEncodedOrRefuses};

@@ -3,9 +3,9 @@ ghost use Rattle.std.specs.Prelude.{◌≡◌, IfOk};
 
 use super::Array;
 use std::alloc::{AllocError, Global};
-use zarrs_array_layout::invalid_indices;
 use zarrs_chunk_grid::{ChunkGridTraits, ChunkShape, GridError};
 use zarrs_engine::ArrayError;
+use zarrs_engine_layout::invalid_indices;
 use zarrs_keys::chunk_key;
 use zarrs_storage::StoreKey;
 use zarrs_subset::{ArrayIndices, ArraySubset, ArraySubsetTraits, IncompatibleDimensionalityError};
@@ -23,8 +23,8 @@ impl<TStorage> Array<TStorage> {
     ghost use Rattle.zarrs_subset.specs.Regions.{box_of, bound_to, box_at_origin};
     ghost use Rattle.zarrs_chunk_grid.specs.Axes.{sizes_of};
     ghost use Rattle.zarrs_chunk_grid.specs.Grids.{HasUncovered, IsMet, box_at, chunks_box, met};
-    ghost use Rattle.zarrs_calls.specs.ArgumentRefusals.{chunk_refusal};
-    ghost use Rattle.zarrs_calls.specs.Refusals.{RefusesBy, refusal_of};
+    ghost use Rattle.zarrs_engine_calls.specs.ArgumentRefusals.{chunk_refusal};
+    ghost use Rattle.zarrs_engine_calls.specs.Refusals.{RefusesBy, refusal_of};
     ghost use Rattle.zarrs_creation.specs.Meanings.{shape_said};
     ghost use Rattle.zarrs.specs.Queries.{query_refusal, chunks_refusal, bounded_chunks_refusal};
     ghost use Rattle.zarrs.specs.Arrays.{layout_of_array, metadata_of_array};

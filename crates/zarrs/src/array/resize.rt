@@ -10,14 +10,14 @@ use zarrs_subset::ArrayShape;
 
 impl<TStorage: WritableStorageTraits> Array<TStorage> {
     ghost use Rattle.std.specs.Prelude.{◌≡◌, None, IfErr, OnErr, OnOk};
-    ghost use Rattle.zarrs_chain.specs.Options.{stores_empty_chunks};
+    ghost use Rattle.zarrs_codec.specs.Options.{stores_empty_chunks};
     ghost use Rattle.zarrs_creation.specs.Changes.{with_shape};
-    ghost use Rattle.zarrs_calls.specs.ArgumentRefusals.{resize_refusal};
-    ghost use Rattle.zarrs_calls.specs.Canon.{KeepsCanon};
-    ghost use Rattle.zarrs_calls.specs.Cuts.{cut_chunks};
-    ghost use Rattle.zarrs_calls.specs.Reach.{MayAskKept};
-    ghost use Rattle.zarrs_calls.specs.Refusals.{refusal_of};
-    ghost use Rattle.zarrs_calls.specs.Step.{ResizesArray, RefusesResize};
+    ghost use Rattle.zarrs_engine_calls.specs.ArgumentRefusals.{resize_refusal};
+    ghost use Rattle.zarrs_engine_calls.specs.Canon.{KeepsCanon};
+    ghost use Rattle.zarrs_engine_calls.specs.Cuts.{cut_chunks};
+    ghost use Rattle.zarrs_engine_calls.specs.Reach.{MayAskKept};
+    ghost use Rattle.zarrs_engine_calls.specs.Refusals.{refusal_of};
+    ghost use Rattle.zarrs_engine_calls.specs.Step.{ResizesArray, RefusesResize};
     ghost use Rattle.zarrs.specs.Arrays.{layout_of_array, metadata_of_array, state_of_array};
     ghost use Rattle.zarrs.specs.Arrays.{store_of_array, KeepsArray, KeepsAllButShape};
 

@@ -5,7 +5,7 @@ use super::Array;
 use std::alloc::Global;
 use zarrs_creation::{name_dimensions, regrid, reshape};
 use zarrs_data_type::IntoField;
-use zarrs_metadata_v3::DimensionName;
+use zarrs_metadata::DimensionName;
 use zarrs_options::{ArrayBuilderChunkGridMetadata, ArrayCreateError};
 use zarrs_subset::ArrayShape;
 

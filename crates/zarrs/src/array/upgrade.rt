@@ -3,14 +3,14 @@ use super::Array;
 use std::alloc::Global;
 use zarrs_creation::{MetadataPut, puts_of_metadata};
 use zarrs_keys::{meta_key_v2_array, meta_key_v2_attributes};
-use zarrs_metadata_v2::{ArrayMetadata, array_metadata_v2_to_v3};
+use zarrs_metadata::{ArrayMetadata, array_metadata_v2_to_v3};
 use zarrs_options::MetadataConvertVersion;
 use zarrs_storage::{StorageError, WritableStorageTraits};
 
 impl<TStorage> Array<TStorage> {
     ghost use Rattle.std.specs.Prelude.{◌≡◌, map, IfOk, IsOkUnless};
     ghost use Rattle.zarrs_metadata_v2.specs.Document.{DocumentV2Data};
-    ghost use Rattle.zarrs_metadata_v2.specs.View.{v2};
+    ghost use Rattle.zarrs_metadata.specs.Versions.{v2};
     ghost use Rattle.zarrs_creation.specs.Writing.{put_view};
     ghost use Rattle.zarrs.specs.Arrays.{metadata_of_array, metadata_options_of_array};
     ghost use Rattle.zarrs.specs.Arrays.{path_of_array};
@@ -48,8 +48,8 @@ impl<TStorage> Array<TStorage> {
 
 impl<TStorage: WritableStorageTraits> Array<TStorage> {
     ghost use Rattle.std.specs.Prelude.{◌≡◌, Ok, IfErr, OnOk, OnErr};
-    ghost use Rattle.zarrs_calls.specs.Laws.{HaveEqualContent};
-    ghost use Rattle.zarrs_calls.specs.Refusals.{refusal_of_storage};
+    ghost use Rattle.zarrs_engine_calls.specs.Laws.{HaveEqualContent};
+    ghost use Rattle.zarrs_engine_calls.specs.Refusals.{refusal_of_storage};
     ghost use Rattle.zarrs_creation.specs.Meanings.{as_v3};
     ghost use Rattle.zarrs.specs.Arrays.{metadata_of_array, metadata_options_of_array};
     ghost use Rattle.zarrs.specs.Arrays.{layout_of_array, meaning_of_array, path_of_array};

@@ -2,12 +2,12 @@
 use super::Array;
 use std::alloc::Global;
 use zarrs_creation::shown_metadata;
-use zarrs_metadata_v2::{ArrayMetadata, ArrayMetadataV2ToV3Error, array_metadata_v2_to_v3};
+use zarrs_metadata::{ArrayMetadata, ArrayMetadataV2ToV3Error, array_metadata_v2_to_v3};
 use zarrs_options::ArrayMetadataOptions;
 
 impl<TStorage> Array<TStorage> {
     ghost use Rattle.std.specs.Prelude.{◌≡◌, Ok, IfOk, IsOkUnless};
-    ghost use Rattle.zarrs_metadata_v2.specs.View.{metadata_view};
+    ghost use Rattle.zarrs_metadata.specs.Versions.{metadata_view};
     ghost use Rattle.zarrs_options.specs.Options.{options_view};
     ghost use Rattle.zarrs_creation.specs.Shown.{shown};
     ghost use Rattle.zarrs.specs.Arrays.{metadata_of_array};

@@ -1,6 +1,6 @@
 //! Stores of an array, which pass to its engine. They take array bytes, or a list of the values of the cells.
 ghost use Rattle.std.specs.Prelude.{◌≡◌, None, IfErr, OnOk};
-ghost use Rattle.zarrs_calls.specs.Refusals.{RefusesBy, refusal_of};
+ghost use Rattle.zarrs_engine_calls.specs.Refusals.{RefusesBy, refusal_of};
 ghost use Rattle.zarrs.specs.Typed.{number_refusal};
 
 use super::Array;
@@ -29,7 +29,7 @@ fn check_number<R: ArraySubsetTraits>(chunks: &R) -> Result<(), ArrayError>
 impl<TStorage> Array<TStorage> {
     ghost use Rattle.std.specs.Prelude.{◌≡◌, None, IfErr, OnOk};
     ghost use Rattle.zarrs_subset.specs.Regions.{box_of};
-    ghost use Rattle.zarrs_calls.specs.Refusals.{RefusesBy, refusal_of};
+    ghost use Rattle.zarrs_engine_calls.specs.Refusals.{RefusesBy, refusal_of};
     ghost use Rattle.zarrs.specs.Arrays.{layout_of_array};
     ghost use Rattle.zarrs.specs.Typed.{place_refusal, chunk_part_refusal};
 
@@ -97,9 +97,9 @@ impl<TStorage> Array<TStorage> {
 
 impl<TStorage: WritableStorageTraits> Array<TStorage> {
     ghost use Rattle.std.specs.Prelude.{◌≡◌, false, None, IfErr, OnOk};
-    ghost use Rattle.zarrs_chain.specs.Options.{stores_empty_chunks};
-    ghost use Rattle.zarrs_calls.specs.ArgumentRefusals.{region_refusal};
-    ghost use Rattle.zarrs_calls.specs.Refusals.{RefusesBy, refusal_of};
+    ghost use Rattle.zarrs_codec.specs.Options.{stores_empty_chunks};
+    ghost use Rattle.zarrs_engine_calls.specs.ArgumentRefusals.{region_refusal};
+    ghost use Rattle.zarrs_engine_calls.specs.Refusals.{RefusesBy, refusal_of};
     ghost use Rattle.zarrs.specs.Arrays.{layout_of_array, state_of_array};
     ghost use Rattle.zarrs.specs.Outcomes.{StoresChunkOrRefuses, StoresChunksOrRefuses};
     ghost use Rattle.zarrs.specs.Outcomes.{StoresPartAs, StoresPartOrRefuses, MayStorePart};

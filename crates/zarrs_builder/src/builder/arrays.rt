@@ -1,33 +1,32 @@
 //! Builders of arrays that there are.
 ghost use Rattle.std.specs.Prelude.{◌≡◌, Some, map, option_map, IfOk, IsOkUnless};
 ghost use Rattle.serde_json.specs.View.{members_view};
-ghost use Rattle.zarrs_metadata.specs.FillValue.{fill_data};
+ghost use Rattle.zarrs_metadata_parts.specs.FillValue.{fill_data};
 ghost use Rattle.zarrs_chunk_grid.specs.Metadata.{extension_of_grid};
-ghost use Rattle.zarrs_types.specs.FillMetadata.{fill_written};
+ghost use Rattle.zarrs_data_type.specs.FillMetadata.{fill_written};
 ghost use Rattle.zarrs_codec_array.specs.ArrayCodecs.{array_codec_data};
 ghost use Rattle.zarrs_codec.specs.Chains.{bytes_codec_data};
 ghost use Rattle.zarrs_metadata_v3.specs.View.{fields_view, name_view};
-ghost use Rattle.zarrs_metadata_v2.specs.View.{metadata_view};
+ghost use Rattle.zarrs_metadata.specs.Versions.{metadata_view};
 ghost use Rattle.zarrs_options.specs.Given.{grid_given};
-ghost use Rattle.zarrs_creation.specs.Meanings.{shape_said, attributes_of};
-ghost use Rattle.zarrs_creation.specs.Meanings.{dimension_names_of};
+ghost use Rattle.zarrs_creation.specs.Meanings.{shape_said, attributes_of, dimension_names_of};
 ghost use Rattle.zarrs.specs.Arrays.{meaning_of_array, metadata_of_array};
 ghost use Rattle.zarrs_builder.specs.Builders.{additional_fields_of};
-ghost use Rattle.zarrs_builder_values.specs.Given.{type_given, by_metadata, fill_given};
+ghost use Rattle.zarrs_builder.specs.Given.{type_given, by_metadata, fill_given};
 ghost use Rattle.zarrs_builder.specs.declared.builder.ArrayBuilder.{ArrayBuilder};
 
 use super::{ArrayBuilder, grid_field};
 use crate::copies::{copied_codecs, copied_dimension_names, copied_fields};
+use crate::data_type::ArrayBuilderDataType;
+use crate::fill_value::ArrayBuilderFillValue;
 use serde_json::{Map, Value};
 use std::alloc::{AllocError, Global};
 use zarrs::Array;
-use zarrs_builder_values::{ArrayBuilderDataType, ArrayBuilderFillValue};
 use zarrs_codec::{ArrayToArrayCodec, ArrayToBytesCodec, BytesToBytesCodecs, CodecSpecificOptions};
 use zarrs_data_type::{DataTypeFillValueError, IntoField};
 use zarrs_keys::ChunkKeyEncoding;
-use zarrs_metadata::members::copied;
-use zarrs_metadata_v2::ArrayMetadata;
-use zarrs_metadata_v3::{AdditionalFieldsV3, DimensionName, FillValueMetadata};
+use zarrs_metadata::{AdditionalFieldsV3, ArrayMetadata, DimensionName, FillValueMetadata};
+use zarrs_metadata_parts::members::copied;
 use zarrs_options::{ArrayBuilderChunkGridMetadata, ArrayCreateError, StorageTransformerChain};
 use zarrs_subset::ArrayShape;
 

@@ -1,14 +1,14 @@
 //! Metadata and arrays of a builder.
 ghost use Rattle.std.specs.Prelude.{◌≡◌, false, map, option_map, length, Some, None, Ok, IfOk, IfErr, OnOk};
-ghost use Rattle.zarrs_metadata.specs.FillValue.{fill_data};
+ghost use Rattle.zarrs_metadata_parts.specs.FillValue.{fill_data};
 ghost use Rattle.zarrs_keys.specs.Paths.{is_node_path};
 ghost use Rattle.zarrs_chunk_grid.specs.GridView.{array_extents_of, configuration_of};
 ghost use Rattle.zarrs_chunk_grid.specs.Metadata.{grid_said};
-ghost use Rattle.zarrs_types.specs.FillMetadata.{fill_said};
-ghost use Rattle.zarrs_types.specs.Kind.{kind};
-ghost use Rattle.zarrs_types.specs.TypeMetadata.{kind_name};
+ghost use Rattle.zarrs_data_type.specs.FillMetadata.{fill_said};
+ghost use Rattle.zarrs_data_type.specs.Kind.{kind};
+ghost use Rattle.zarrs_data_type.specs.TypeMetadata.{kind_name};
 ghost use Rattle.zarrs_codec_array.specs.ArrayCodecs.{array_codec_data};
-ghost use Rattle.zarrs_codec_cells.specs.ShardingMetadata.{sizes_of};
+ghost use Rattle.zarrs_codec.specs.ShardingMetadata.{sizes_of};
 ghost use Rattle.zarrs_codec.specs.Chains.{bytes_codec_data, chain_data};
 ghost use Rattle.zarrs_codec.specs.Configurations.{sharding};
 ghost use Rattle.zarrs_metadata_v3.specs.View.{document_view, name_view};
@@ -21,23 +21,24 @@ ghost use Rattle.zarrs_builder.specs.Built.{fill_stated, sizes_said};
 
 use super::ArrayBuilder;
 use crate::copies::{copied_codecs, copied_dimension_names, copied_fields};
+use crate::data_type::ArrayBuilderDataType;
+use crate::fill_value::ArrayBuilderFillValue;
 use std::alloc::{AllocError, Global};
 use std::num::NonZeroU64;
 use zarrs::Array;
-use zarrs_builder_values::{ArrayBuilderDataType, ArrayBuilderFillValue};
 use zarrs_chunk_grid::{ChunkGrid, ChunkGridTraits, ChunkShape};
 use zarrs_codec::{
     ArrayToArrayCodec, ArrayToBytesCodec, BytesToBytesCodecs, CodecChain, ShardingCodecBuilder,
     default_array_to_bytes_codec,
 };
 use zarrs_data_type::{DataType, DataTypeFillValueError, FillValue};
+use zarrs_data_type_kinds::laws::written_fill_value_is_read;
 use zarrs_keys::NodePath;
-use zarrs_metadata::PluginCreateError;
-use zarrs_metadata::members::copied;
-use zarrs_metadata_v2::ArrayMetadata;
-use zarrs_metadata_v3::{ArrayMetadataV3, DimensionName, FillValueMetadata};
+use zarrs_metadata::{
+    ArrayMetadata, ArrayMetadataV3, DimensionName, FillValueMetadata, PluginCreateError,
+};
+use zarrs_metadata_parts::members::copied;
 use zarrs_options::{ArrayBuilderChunkGridMetadata, ArrayCreateError};
-use zarrs_types::laws::written_fill_value_is_read;
 
 /// The fields that callers' values became, each of which found memory.
 #[derive(Drop)]
@@ -62,7 +63,7 @@ struct Chosen {
 }
 
 impl ArrayBuilder {
-    ghost use Rattle.zarrs_metadata_v2.specs.View.{v3};
+    ghost use Rattle.zarrs_metadata.specs.Versions.{v3};
     ghost use Rattle.zarrs.specs.Arrays.{meaning_of_array, metadata_of_array, path_of_array};
     ghost use Rattle.zarrs.specs.Arrays.{storage_of_array, HasSpecificOptions};
     ghost use Rattle.zarrs_builder.specs.Builders.{builder_view, fields_of};

@@ -1,14 +1,15 @@
 //! Setters of a builder: each replaces its part and keeps the others.
 use super::{ArrayBuilder, grid_field};
+use crate::data_type::ArrayBuilderDataType;
+use crate::fill_value::ArrayBuilderFillValue;
+use crate::names::given_names;
 use serde_json::{Map, Value};
 use std::alloc::Global;
-use zarrs_builder_values::{ArrayBuilderDataType, ArrayBuilderFillValue, given_names};
 use zarrs_chunk_grid::{ChunkGrid, ChunkGridTraits};
 use zarrs_codec::{ArrayToArrayCodec, ArrayToBytesCodec, BytesToBytesCodecs, CodecSpecificOptions};
 use zarrs_data_type::IntoField;
 use zarrs_keys::ChunkKeyEncoding;
-use zarrs_metadata::ChunkKeySeparator;
-use zarrs_metadata_v3::{AdditionalFieldsV3, DimensionName};
+use zarrs_metadata::{AdditionalFieldsV3, ChunkKeySeparator, DimensionName};
 use zarrs_options::{ArrayBuilderChunkGridMetadata, StorageTransformerChain};
 use zarrs_subset::ArrayShape;
 
@@ -21,7 +22,7 @@ impl ArrayBuilder {
     ghost use Rattle.zarrs_codec_array.specs.ArrayCodecs.{array_codec_data};
     ghost use Rattle.zarrs_codec.specs.Chains.{bytes_codec_data};
     ghost use Rattle.zarrs_metadata_v3.specs.View.{fields_view};
-    ghost use Rattle.zarrs_builder_values.specs.Given.{AreGiven};
+    ghost use Rattle.zarrs_builder.specs.Given.{AreGiven};
     ghost use Rattle.zarrs_builder.specs.Builders.{builder_view, shape_of, chunk_grid_of};
     ghost use Rattle.zarrs_builder.specs.Builders.{data_type_of, fill_value_of, HasGrid};
     ghost use Rattle.zarrs_builder.specs.Builders.{dimension_names_in, subchunk_shape_in};

@@ -12,17 +12,17 @@ use Rattle.zarrs_data_type.specs.Cells.{cells, HasCells}
 use Rattle.zarrs_subset.specs.Boxes.{position_count}
 use Rattle.zarrs_codec_array.specs.ArrayCodecs.{arrays_meaning, arrays-lawful}
 use Rattle.zarrs_codec_array.specs.Gathered.{encoded_shape}
-use Rattle.zarrs_codec_cells.proofs.Kept.{err_kept}
-use Rattle.zarrs_region_cells.specs.RegionData.{region_data}
-use Rattle.zarrs_shard.specs.ShardIndex.{range_part, IsRangeWithin}
-use Rattle.zarrs_shard.specs.Shards.{shard_parts}
-use Rattle.zarrs_shard.specs.SubchunkData.{chunk_shape, subchunk_shape, StartsChunk}
-use Rattle.zarrs_shard.specs.Subchunks.{subchunk_count}
-use Rattle.zarrs_shard.proofs.Sizes.{part_size}
-use Rattle.zarrs_chain.specs.Chain.{ChainMeaning}
-use Rattle.zarrs_chain.specs.Refusals.{RefusesChunkDecoding}
+use Rattle.zarrs_codec_optional.proofs.Kept.{err_kept}
+use Rattle.zarrs_data_type.specs.RegionData.{region_data}
+use Rattle.zarrs_codec_shard.specs.ShardIndex.{range_part, IsRangeWithin}
+use Rattle.zarrs_codec_shard.specs.Shards.{shard_parts}
+use Rattle.zarrs_codec_shard.specs.SubchunkData.{chunk_shape, subchunk_shape, StartsChunk}
+use Rattle.zarrs_codec_shard.specs.Subchunks.{subchunk_count}
+use Rattle.zarrs_codec_shard.proofs.Sizes.{part_size}
+use Rattle.zarrs_codec_chain.specs.Chain.{ChainMeaning}
+use Rattle.zarrs_codec_chain.specs.Refusals.{RefusesChunkDecoding}
 use Rattle.zarrs_codec.specs.Chains.{behind, chain_meaning, codec_meaning, inner_chain_of, is_at_start, location_of, sharding_meaning, subchunk_sizes_of}
-use Rattle.zarrs_codec_cells.specs.ShardingMetadata.{sizes_of}
+use Rattle.zarrs_codec_optional.specs.ShardingMetadata.{sizes_of}
 use Rattle.zarrs_codec.specs.ChainLaws.{chain-lawful, sharded-lawful}
 use Rattle.zarrs_codec.specs.Shardings.{decoded_parts, CopiesParts, HasFirstCells, ReadsCells, RefusesCells, RefusesCopies}
 use Rattle.zarrs_codec.proofs.CopiedParts.{some_first}

@@ -1,9 +1,9 @@
 use Rattle.std.proofs.Common.{map}
 use Rattle.zarrs_data_type.specs.Cell.{fill_of}
 use Rattle.zarrs_data_type.specs.Kind.{kind}
-use Rattle.zarrs_region_cells.specs.RegionData.{region_data}
-use Rattle.zarrs_shard.specs.ShardIndex.{range_part}
-use Rattle.zarrs_shard.specs.SubchunkData.{chunk_shape, subchunk_shape}
+use Rattle.zarrs_data_type.specs.RegionData.{region_data}
+use Rattle.zarrs_codec_shard.specs.ShardIndex.{range_part}
+use Rattle.zarrs_codec_shard.specs.SubchunkData.{chunk_shape, subchunk_shape}
 use Rattle.zarrs_codec.specs.Chains.{chain_meaning, inner_chain_of}
 use Rattle.zarrs_codec.specs.Shardings.{HasFirstCells}
 use Rattle.zarrs_codec.proofs.+decode.Given as goal

@@ -3,34 +3,33 @@ use Rattle.std.proofs.lemmas.Bool.{eqb-true}
 use Rattle.std.proofs.lemmas.List.{get_or-map, get_or_read, length-map}
 use Rattle.std.proofs.lemmas.Result.{IfErr-weaker, on_ok_weaker}
 use Rattle.std.specs.Prelude.{slice_index, slice_index_or}
-use Rattle.zarrs_chain.specs.Chain.{ChainMeaning}
+use Rattle.zarrs_codec_chain.specs.Chain.{ChainMeaning}
 use Rattle.zarrs_codec.proofs.PartReads.{alone_into, alone_into_refused, is_none}
 use Rattle.zarrs_codec.specs.ChainLaws.{chain-lawful}
 use Rattle.zarrs_codec.specs.Chains.{chain_meaning, inner_chain_of, codec_meaning, is_at_start, location_of, sharding_meaning, subchunk_sizes_of}
 use Rattle.zarrs_codec.specs.Shardings.{subchunk_meaning}
-use Rattle.zarrs_codec_cells.specs.ShardingMetadata.{sizes_of}
+use Rattle.zarrs_codec_optional.specs.ShardingMetadata.{sizes_of}
 use Rattle.zarrs_codec_leaf.specs.declared.error.CodecError.{CodecError}
-use Rattle.zarrs_parts.proofs.IntoSteps.{all_into, into_refused, number_box, own_box, own_box_is, own_ends, own_in_region, own_outside, parts_more, same_decodes, same_keeps, shard_of, filled_part}
-use Rattle.zarrs_parts.proofs.Kept.{err_kept}
-use Rattle.zarrs_parts.proofs.Stays.{keeps_more}
-use Rattle.zarrs_parts.specs.Parts.{DecodesInto}
-use Rattle.zarrs_parts.specs.Refusals.{RefusesIntoDecoding}
-use Rattle.zarrs_parts.specs.ShardInto.{RefusesIntoStep, DecodesPartInto}
-use Rattle.zarrs_parts.specs.ShardParts.{DecodesAs}
-use Rattle.zarrs_shard.specs.ShardIndex.{range_part, IsRangeWithin}
-use Rattle.zarrs_shard.specs.Sharded.{SubchunkMeaning, sharded_decoded}
-use Rattle.zarrs_shard.specs.Subchunks.{subchunk_count}
-use Rattle.zarrs_shard.specs.declared.shard_index.SubchunkRange.{SubchunkRange}
+use Rattle.zarrs_codec_chain.proofs.IntoSteps.{all_into, into_refused, number_box, own_box, own_box_is, own_ends, own_in_region, own_outside, parts_more, same_decodes, same_keeps, shard_of, filled_part}
+use Rattle.zarrs_codec_chain.proofs.Kept.{err_kept}
+use Rattle.zarrs_codec_chain.proofs.Stays.{keeps_more}
+use Rattle.zarrs_codec_chain.specs.Parts.{DecodesInto}
+use Rattle.zarrs_codec_chain.specs.PartRefusals.{RefusesIntoDecoding}
+use Rattle.zarrs_codec_chain.specs.ShardInto.{RefusesIntoStep, DecodesPartInto}
+use Rattle.zarrs_codec_chain.specs.ShardParts.{DecodesAs}
+use Rattle.zarrs_codec_shard.specs.ShardIndex.{range_part, IsRangeWithin}
+use Rattle.zarrs_codec_shard.specs.Sharded.{SubchunkMeaning, sharded_decoded}
+use Rattle.zarrs_codec_shard.specs.Subchunks.{subchunk_count}
+use Rattle.zarrs_codec_shard.specs.declared.shard_index.SubchunkRange.{SubchunkRange}
 use Rattle.zarrs_subset.specs.Boxes.{position_count}
-use Rattle.zarrs_subset.specs.Regions.{Box, box_of}
-use Rattle.zarrs_target.proofs.Levels.{masked_keeps}
-use Rattle.zarrs_target.proofs.TypeSizes.{type_taken}
-use Rattle.zarrs_target.specs.States.{data_of_target, parent_box, target_box}
-use Rattle.zarrs_target.specs.Targets.{takes_type}
-use Rattle.zarrs_types.proofs.Values.{fill-value}
-use Rattle.zarrs_types.specs.Cell.{fill_of}
-use Rattle.zarrs_types.specs.Kind.{kind}
-use Rattle.zarrs_byte_strings.specs.StringParts.{LiesInBox}
+use Rattle.zarrs_subset.specs.Regions.{Box, box_of, LiesInBox}
+use Rattle.zarrs_data_type_region.proofs.TargetLevels.{masked_keeps}
+use Rattle.zarrs_data_type_region.proofs.TypeSizes.{type_taken}
+use Rattle.zarrs_data_type.specs.States.{data_of_target, parent_box, target_box}
+use Rattle.zarrs_data_type.specs.Targets.{takes_type}
+use Rattle.zarrs_data_type_kinds.proofs.Values.{fill-value}
+use Rattle.zarrs_data_type.specs.Cell.{fill_of}
+use Rattle.zarrs_data_type.specs.Kind.{kind}
 use Rattle.zarrs_codec.proofs.+decode_into.Goals as goal
 
 pub sharding::ShardingCodec::decode_cut_into-returns-in_err-subchunks-clause-outside : goal.sharding::ShardingCodec::decode_cut_into-returns-in_err-subchunks-clause-outside

@@ -1,12 +1,12 @@
 use Rattle.std.proofs.Common.{◌≡◌, ◌<◌, ℕ, None, map}
 use Rattle.std.specs.Prelude.{slice_index_or}
-use Rattle.zarrs_shard.specs.ShardIndex.{range_part}
-use Rattle.zarrs_shard.specs.Subchunks.{subchunk_box}
+use Rattle.zarrs_codec_shard.specs.ShardIndex.{range_part}
+use Rattle.zarrs_codec_shard.specs.Subchunks.{subchunk_box}
 use Rattle.zarrs_subset.specs.Regions.{shifted_box}
-use Rattle.zarrs_target.specs.States.{IsTarget, SameBox, StaysOutside, data_of_target, parent_box, target_box}
-use Rattle.zarrs_types.specs.Cell.{fill_of}
-use Rattle.zarrs_types.specs.Kind.{kind}
-use Rattle.zarrs_parts.specs.ShardInto.{DecodesPartInto}
+use Rattle.zarrs_data_type.specs.States.{IsTarget, SameBox, StaysOutside, data_of_target, parent_box, target_box}
+use Rattle.zarrs_data_type.specs.Cell.{fill_of}
+use Rattle.zarrs_data_type.specs.Kind.{kind}
+use Rattle.zarrs_codec_chain.specs.ShardInto.{DecodesPartInto}
 use Rattle.zarrs_codec.specs.Chains.{chain_meaning, inner_chain_of}
 use Rattle.zarrs_codec.proofs.+decode_into.Given as goal
 

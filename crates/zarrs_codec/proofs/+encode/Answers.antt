@@ -9,19 +9,19 @@ use Rattle.zarrs_data_type.specs.Cells.{cells, HasCells}
 use Rattle.zarrs_data_type.specs.Kind.{kind}
 use Rattle.zarrs_codec_array.specs.ArrayCodecs.{arrays_meaning, arrays-lawful}
 use Rattle.zarrs_codec_array.specs.Gathered.{encoded_shape, IsEncodedArray}
-use Rattle.zarrs_shard.specs.CellParts.{PushesSubchunk}
-use Rattle.zarrs_shard.specs.SubchunkData.{chunk_shape, subchunk_shape}
-use Rattle.zarrs_shard.specs.Subchunks.{subchunk_at, subchunk_count}
-use Rattle.zarrs_shard.specs.Sharded.{first_parts, part_of, sharded_fits}
-use Rattle.zarrs_shard.specs.ShardIndex.{IsWriting}
-use Rattle.zarrs_shard.proofs.Encoding.{too_many}
-use Rattle.zarrs_chain.specs.Chain.{ChainMeaning, chunk_encoding}
+use Rattle.zarrs_codec_shard.specs.CellParts.{PushesSubchunk}
+use Rattle.zarrs_codec_shard.specs.SubchunkData.{chunk_shape, subchunk_shape}
+use Rattle.zarrs_codec_shard.specs.Subchunks.{subchunk_at, subchunk_count}
+use Rattle.zarrs_codec_shard.specs.Sharded.{first_parts, part_of, sharded_fits}
+use Rattle.zarrs_codec_shard.specs.ShardIndex.{IsWriting}
+use Rattle.zarrs_codec_shard.proofs.Encoding.{too_many}
+use Rattle.zarrs_codec_chain.specs.Chain.{ChainMeaning, chunk_encoding}
 use Rattle.zarrs_codec.specs.Chains.{behind, chain_meaning, inner_chain_of, is_at_start, keeps_cells, location_of, sharding_meaning}
-use Rattle.zarrs_chain.specs.Options.{stores_empty_chunks}
-use Rattle.zarrs_chain.specs.Refusals.{RefusesChunkEncoding}
+use Rattle.zarrs_codec_chain.specs.Options.{stores_empty_chunks}
+use Rattle.zarrs_codec_chain.specs.Refusals.{RefusesChunkEncoding}
 use Rattle.zarrs_codec.specs.Shardings.{cells_of, subchunk_meaning, HasFirstParts, PushesCells, RefusesPart, RefusesParts}
 use Rattle.zarrs_codec.proofs.Behind.{is_behind}
-use Rattle.zarrs_codec_cells.proofs.Kept.{err_kept}
+use Rattle.zarrs_codec_optional.proofs.Kept.{err_kept}
 use Rattle.zarrs_codec.proofs.KeptCells.{pushes_kept}
 use Rattle.zarrs_codec.proofs.Parts.{all_written, extracted, first_count, next_written, part_refused}
 use Rattle.zarrs_codec.proofs.+encode.Goals as goal

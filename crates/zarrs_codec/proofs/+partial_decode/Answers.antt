@@ -5,40 +5,40 @@ use Rattle.std.proofs.lemmas.List.{get_or-map, get_or_read, length-map}
 use Rattle.std.proofs.lemmas.Option.{slice_get_within}
 use Rattle.std.proofs.lemmas.Result.{IfErr-weaker, IfOk-weaker}
 use Rattle.std.specs.Prelude.{slice_index, slice_index_or}
-use Rattle.zarrs_array_bytes.specs.ArrayData.{ArrayData, data_of}
-use Rattle.zarrs_region_cells.specs.RegionData.{region_data}
-use Rattle.zarrs_array_bytes.specs.Cells.{cells}
-use Rattle.zarrs_chain.specs.Chain.{ChainMeaning}
+use Rattle.zarrs_data_type.specs.ArrayData.{ArrayData, data_of}
+use Rattle.zarrs_data_type.specs.RegionData.{region_data}
+use Rattle.zarrs_data_type.specs.Cells.{cells}
+use Rattle.zarrs_codec_chain.specs.Chain.{ChainMeaning}
 use Rattle.zarrs_codec.specs.ChainLaws.{chain-lawful}
 use Rattle.zarrs_codec.specs.Chains.{codec_meaning, chain_meaning, inner_chain_of, is_at_start, location_of, subchunk_sizes_of, sharding_meaning}
 use Rattle.zarrs_codec.specs.Shardings.{subchunk_meaning}
 use Rattle.zarrs_codec.proofs.PartReads.{alone_refused, is_none}
 use Rattle.zarrs_codec.proofs.Pieces.{piece_alone, piece_cells, piece_put, piece_read}
-use Rattle.zarrs_codec_cells.specs.ShardingMetadata.{sizes_of}
-use Rattle.zarrs_parts.proofs.BytesParts.{window_len}
-use Rattle.zarrs_parts.proofs.Kept.{err_kept}
-use Rattle.zarrs_parts.proofs.PartBoxes.{part_fits}
-use Rattle.zarrs_parts.proofs.ReadSteps.{box_is, found, index_fits, met, own_of, skip_absent, skip_empty, skip_unfound, window_of}
-use Rattle.zarrs_parts.proofs.SubchunkSteps.{inner_refused, none_read, all_parts_decode, broken_shard, shard_left_out, step_refused}
-use Rattle.zarrs_parts.proofs.SubchunkWalks.{all_walked, walked_cells, walked_last, walked_more, walked_next}
-use Rattle.zarrs_parts.specs.Parts.{DecodesPart}
-use Rattle.zarrs_parts.specs.Places.{shard_places}
-use Rattle.zarrs_parts.specs.Refusals.{RefusesPartDecoding}
-use Rattle.zarrs_parts.specs.ShardParts.{DecodesAs, HasAllParts, HasSubchunkParts, MeetsPart, RefusesStep}
-use Rattle.zarrs_shard.proofs.Sizes.{part_size}
-use Rattle.zarrs_shard.specs.ShardIndex.{range_part, IsRangeWithin}
-use Rattle.zarrs_shard.specs.Sharded.{SubchunkMeaning, sharded_decoded, sharded_leaves_out}
-use Rattle.zarrs_shard.specs.SubchunkData.{chunk_shape, subchunk_shape}
-use Rattle.zarrs_shard.specs.Subchunks.{quotients, subchunk_count}
-use Rattle.zarrs_source.proofs.RowReads.{count_fits}
-use Rattle.zarrs_source.specs.Sources.{MayRead, window_bytes}
-use Rattle.zarrs_source.specs.declared.source.Window.{Window}
+use Rattle.zarrs_codec_optional.specs.ShardingMetadata.{sizes_of}
+use Rattle.zarrs_codec_chain.proofs.BytesParts.{window_len}
+use Rattle.zarrs_codec_chain.proofs.Kept.{err_kept}
+use Rattle.zarrs_codec_chain.proofs.PartBoxes.{part_fits}
+use Rattle.zarrs_codec_chain.proofs.ReadSteps.{box_is, found, index_fits, met, own_of, skip_absent, skip_empty, skip_unfound, window_of}
+use Rattle.zarrs_codec_chain.proofs.SubchunkSteps.{inner_refused, none_read, all_parts_decode, broken_shard, shard_left_out, step_refused}
+use Rattle.zarrs_codec_chain.proofs.SubchunkWalks.{all_walked, walked_cells, walked_last, walked_more, walked_next}
+use Rattle.zarrs_codec_chain.specs.Parts.{DecodesPart}
+use Rattle.zarrs_codec_chain.specs.Places.{shard_places}
+use Rattle.zarrs_codec_chain.specs.PartRefusals.{RefusesPartDecoding}
+use Rattle.zarrs_codec_chain.specs.ShardParts.{DecodesAs, HasAllParts, HasSubchunkParts, MeetsPart, RefusesStep}
+use Rattle.zarrs_codec_shard.proofs.Sizes.{part_size}
+use Rattle.zarrs_codec_shard.specs.ShardIndex.{range_part, IsRangeWithin}
+use Rattle.zarrs_codec_shard.specs.Sharded.{SubchunkMeaning, sharded_decoded, sharded_leaves_out}
+use Rattle.zarrs_codec_shard.specs.SubchunkData.{chunk_shape, subchunk_shape}
+use Rattle.zarrs_codec_shard.specs.Subchunks.{quotients, subchunk_count}
+use Rattle.zarrs_codec_leaf.proofs.RowReads.{count_fits}
+use Rattle.zarrs_codec_leaf.specs.Sources.{MayRead, window_bytes}
+use Rattle.zarrs_codec_leaf.specs.declared.source.Window.{Window}
 use Rattle.zarrs_subset.specs.Boxes.{position_count}
 use Rattle.zarrs_subset.specs.Regions.{Box, LiesInShape, box_of, in_box, positions}
 use Rattle.zarrs_subset.specs.Walks.{walk_box, walk_number}
-use Rattle.zarrs_types.proofs.Sizes.{cell_size-positive}
-use Rattle.zarrs_types.specs.Cell.{fill_of, held_size}
-use Rattle.zarrs_types.specs.Kind.{cell_size, kind}
+use Rattle.zarrs_data_type_kinds.proofs.Sizes.{cell_size-positive}
+use Rattle.zarrs_data_type.specs.Cell.{fill_of, held_size}
+use Rattle.zarrs_data_type.specs.Kind.{cell_size, kind}
 use Rattle.zarrs_codec.proofs.+partial_decode.Goals as goal
 
 pub sharding::ShardingCodec::decode_piece-returns-in_default-clause-none : goal.sharding::ShardingCodec::decode_piece-returns-in_default-clause-none

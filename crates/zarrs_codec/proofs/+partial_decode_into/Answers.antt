@@ -4,46 +4,45 @@ use Rattle.std.proofs.lemmas.List.{get_or-map, get_or_read, length-map}
 use Rattle.std.proofs.lemmas.Option.{slice_get_within}
 use Rattle.std.proofs.lemmas.Result.{IfErr-weaker, on_ok_weaker}
 use Rattle.std.specs.Prelude.{IfSome, option_map, slice_index, slice_index_or}
-use Rattle.zarrs_array_bytes.specs.ArrayData.{ArrayData}
-use Rattle.zarrs_byte_strings.specs.StringParts.{LiesInBox}
-use Rattle.zarrs_chain.specs.Chain.{ChainMeaning}
+use Rattle.zarrs_data_type.specs.ArrayData.{ArrayData}
+use Rattle.zarrs_subset.specs.Regions.{LiesInBox, Box, LiesInShape, box_at_origin, box_of, in_box, positions, seen_from, shifted_box}
+use Rattle.zarrs_codec_chain.specs.Chain.{ChainMeaning}
 use Rattle.zarrs_codec.specs.ChainLaws.{chain-lawful}
 use Rattle.zarrs_codec.specs.Chains.{codec_meaning, chain_meaning, inner_chain_of, is_at_start, location_of, subchunk_sizes_of, sharding_meaning}
 use Rattle.zarrs_codec.specs.Shardings.{subchunk_meaning}
 use Rattle.zarrs_codec.specs.ShardPartsInto.{DecodesPieceAt, HasAllPartsAt, HasSubchunksAt, ReadsSubchunkAt, RefusesPiece, range_window}
 use Rattle.zarrs_codec.proofs.PartReads.{alone_refused, alone_places, is_none, leaf_refused}
 use Rattle.zarrs_codec.proofs.SubchunksInto.{all_at, alone_at, last_walked, more_walked, none_at, none_empty, none_unfound, overlap_lies, parts_decode_at, piece_at, piece_refused, piece_window, skip_at}
-use Rattle.zarrs_codec_cells.specs.ShardingMetadata.{sizes_of}
-use Rattle.zarrs_parts.proofs.BytesParts.{window_len}
-use Rattle.zarrs_parts.proofs.IntoSteps.{filled_part, same_keeps}
-use Rattle.zarrs_parts.proofs.Kept.{err_kept}
-use Rattle.zarrs_parts.proofs.MovedBoxes.{moved_box, moved_ends, moved_lies, moved_outside, seen_start_len}
-use Rattle.zarrs_parts.proofs.ReadSteps.{box_is, found, index_fits, met, own_of}
-use Rattle.zarrs_parts.proofs.Stays.{keeps_more}
-use Rattle.zarrs_parts.proofs.SubchunkSteps.{broken_shard, shard_left_out, step_refused}
-use Rattle.zarrs_parts.specs.Parts.{DecodesPartAt}
-use Rattle.zarrs_parts.specs.Places.{shard_places}
-use Rattle.zarrs_parts.specs.Refusals.{RefusesPartDecoding}
-use Rattle.zarrs_parts.specs.ShardParts.{MeetsPart, RefusesStep}
-use Rattle.zarrs_shard.proofs.Sizes.{part_size}
-use Rattle.zarrs_shard.specs.ShardIndex.{range_part, IsRangeWithin}
-use Rattle.zarrs_shard.specs.Sharded.{sharded_decoded, sharded_leaves_out}
-use Rattle.zarrs_shard.specs.SubchunkData.{chunk_shape, subchunk_shape}
-use Rattle.zarrs_shard.specs.Subchunks.{corner, quotients, subchunk_count}
-use Rattle.zarrs_source.specs.Sources.{IsWindow, MayRead, window_bytes}
-use Rattle.zarrs_source.specs.declared.source.Window.{Window}
+use Rattle.zarrs_codec_optional.specs.ShardingMetadata.{sizes_of}
+use Rattle.zarrs_codec_chain.proofs.BytesParts.{window_len}
+use Rattle.zarrs_codec_chain.proofs.IntoSteps.{filled_part, same_keeps}
+use Rattle.zarrs_codec_chain.proofs.Kept.{err_kept}
+use Rattle.zarrs_codec_chain.proofs.MovedBoxes.{moved_box, moved_ends, moved_lies, moved_outside, seen_start_len}
+use Rattle.zarrs_codec_chain.proofs.ReadSteps.{box_is, found, index_fits, met, own_of}
+use Rattle.zarrs_codec_chain.proofs.Stays.{keeps_more}
+use Rattle.zarrs_codec_chain.proofs.SubchunkSteps.{broken_shard, shard_left_out, step_refused}
+use Rattle.zarrs_codec_chain.specs.Parts.{DecodesPartAt}
+use Rattle.zarrs_codec_chain.specs.Places.{shard_places}
+use Rattle.zarrs_codec_chain.specs.PartRefusals.{RefusesPartDecoding}
+use Rattle.zarrs_codec_chain.specs.ShardParts.{MeetsPart, RefusesStep}
+use Rattle.zarrs_codec_shard.proofs.Sizes.{part_size}
+use Rattle.zarrs_codec_shard.specs.ShardIndex.{range_part, IsRangeWithin}
+use Rattle.zarrs_codec_shard.specs.Sharded.{sharded_decoded, sharded_leaves_out}
+use Rattle.zarrs_codec_shard.specs.SubchunkData.{chunk_shape, subchunk_shape}
+use Rattle.zarrs_codec_shard.specs.Subchunks.{corner, quotients, subchunk_count}
+use Rattle.zarrs_codec_leaf.specs.Sources.{IsWindow, MayRead, window_bytes}
+use Rattle.zarrs_codec_leaf.specs.declared.source.Window.{Window}
 use Rattle.zarrs_subset.proofs.Overlaps.{AllSome}
 use Rattle.zarrs_subset.specs.Boxes.{position_count}
-use Rattle.zarrs_subset.specs.Regions.{Box, LiesInShape, box_at_origin, box_of, in_box, positions, seen_from, shifted_box}
 use Rattle.zarrs_subset.specs.Walks.{walk_box, walk_number}
-use Rattle.zarrs_target.proofs.Boxes.{lies_at_origin, origin_long}
-use Rattle.zarrs_target.proofs.Levels.{masked_keeps}
-use Rattle.zarrs_target.proofs.TypeSizes.{type_taken}
-use Rattle.zarrs_target.specs.States.{data_of_target, parent_box, target_box}
-use Rattle.zarrs_target.specs.Targets.{KeepsOutside, takes_type}
-use Rattle.zarrs_types.proofs.Values.{fill-value}
-use Rattle.zarrs_types.specs.Cell.{fill_of, held_size}
-use Rattle.zarrs_types.specs.Kind.{cell_size, kind}
+use Rattle.zarrs_data_type_region.proofs.TargetBoxes.{lies_at_origin, origin_long}
+use Rattle.zarrs_data_type_region.proofs.TargetLevels.{masked_keeps}
+use Rattle.zarrs_data_type_region.proofs.TypeSizes.{type_taken}
+use Rattle.zarrs_data_type.specs.States.{data_of_target, parent_box, target_box}
+use Rattle.zarrs_data_type.specs.Targets.{KeepsOutside, takes_type}
+use Rattle.zarrs_data_type_kinds.proofs.Values.{fill-value}
+use Rattle.zarrs_data_type.specs.Cell.{fill_of, held_size}
+use Rattle.zarrs_data_type.specs.Kind.{cell_size, kind}
 use Rattle.zarrs_codec.proofs.+partial_decode_into.Goals as goal
 
 pub sharding::ShardingCodec::read_subchunk_into-returns-in_default-clause-outside : goal.sharding::ShardingCodec::read_subchunk_into-returns-in_default-clause-outside

@@ -1,12 +1,12 @@
 use Rattle.std.proofs.Common.{◌≡◌, ◌-◌, length, map, take}
-use Rattle.zarrs_shard.specs.ShardIndex.{range_part}
-use Rattle.zarrs_source.specs.Sources.{window_bytes}
+use Rattle.zarrs_codec_shard.specs.ShardIndex.{range_part}
+use Rattle.zarrs_codec_leaf.specs.Sources.{window_bytes}
 use Rattle.zarrs_subset.specs.Regions.{box_of, positions}
 use Rattle.zarrs_subset.specs.Walks.{walk_box, walk_number}
-use Rattle.zarrs_target.specs.States.{IsTarget, SameBox, StaysOutside, data_of_target, parent_box, target_box}
-use Rattle.zarrs_types.specs.Cell.{fill_of}
-use Rattle.zarrs_types.specs.Kind.{kind}
-use Rattle.zarrs_parts.specs.ShardParts.{MeetsPart}
+use Rattle.zarrs_data_type.specs.States.{IsTarget, SameBox, StaysOutside, data_of_target, parent_box, target_box}
+use Rattle.zarrs_data_type.specs.Cell.{fill_of}
+use Rattle.zarrs_data_type.specs.Kind.{kind}
+use Rattle.zarrs_codec_chain.specs.ShardParts.{MeetsPart}
 use Rattle.zarrs_codec.specs.Chains.{chain_meaning, inner_chain_of}
 use Rattle.zarrs_codec.specs.ShardPartsInto.{HasSubchunksAt}
 use Rattle.zarrs_codec.proofs.+partial_decode_into.Given as goal

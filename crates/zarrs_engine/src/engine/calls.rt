@@ -1,23 +1,23 @@
 //! Lists of calls.
 ghost use Rattle.std.specs.Prelude.{◌≡◌, false, IfOk, IfErr, OnOk, OnErr};
-ghost use Rattle.zarrs_chain.specs.Options.{encodes_partially, stores_empty_chunks};
+ghost use Rattle.zarrs_codec_chain.specs.Options.{encodes_partially, stores_empty_chunks};
 ghost use Rattle.zarrs_storage.specs.Store.{KeepsReach};
-ghost use Rattle.zarrs_calls.specs.Content.{value_at};
-ghost use Rattle.zarrs_calls.specs.Reach.{MayAskCalls};
-ghost use Rattle.zarrs_calls.specs.Step.{Run};
-ghost use Rattle.zarrs_calls.specs.Patches.{PatchRun};
-ghost use Rattle.zarrs_calls.specs.Canon.{IsCanonical};
-ghost use Rattle.zarrs_calls.specs.Laws.{EachDecodes};
-ghost use Rattle.zarrs_calls.specs.declared.call.Reply.TheVariants.{Done, Cells, Refused};
+ghost use Rattle.zarrs_engine_calls.specs.Content.{value_at};
+ghost use Rattle.zarrs_engine_calls.specs.Reach.{MayAskCalls};
+ghost use Rattle.zarrs_engine_calls.specs.Step.{Run};
+ghost use Rattle.zarrs_engine_calls.specs.Patches.{PatchRun};
+ghost use Rattle.zarrs_engine_calls.specs.Canon.{IsCanonical};
+ghost use Rattle.zarrs_engine_calls.specs.Laws.{EachDecodes};
+ghost use Rattle.zarrs_engine_calls.specs.declared.call.Reply.TheVariants.{Done, Cells, Refused};
 ghost use Rattle.zarrs_engine.specs.Engine.{layout_of, store_of, state_of, KeepsOthers};
 
 use super::Engine;
 use std::alloc::{AllocError, Global};
-use zarrs_array_layout::invalid_indices;
-use zarrs_calls::{ArrayError, Call, Reply};
-use zarrs_chain::{ChainTraits, CodecOptions};
 use zarrs_chunk_grid::ChunkGridTraits;
+use zarrs_codec_chain::{ChainTraits, CodecOptions};
 use zarrs_data_type::ArrayBytes;
+use zarrs_engine_calls::{ArrayError, Call, Reply};
+use zarrs_engine_layout::invalid_indices;
 use zarrs_keys::ChunkKeyEncodingTraits;
 use zarrs_storage::WritableStorageTraits;
 use zarrs_subset::ArraySubset;
@@ -96,13 +96,13 @@ impl<
 > Engine<S, G, K, C> {
     ghost use Rattle.std.specs.Prelude.{◌≡◌, [], ◌∷◌, Bool, List, ℕ};
     ghost use Rattle.zarrs_subset.specs.Regions.{box_of, positions};
-    ghost use Rattle.zarrs_chain.specs.Options.{stores_empty_chunks};
-    ghost use Rattle.zarrs_calls.specs.Acts.{compact, erase, resize, shape_after};
-    ghost use Rattle.zarrs_calls.specs.ArgumentRefusals.{resize_refusal};
-    ghost use Rattle.zarrs_calls.specs.Cuts.{cut_chunks};
-    ghost use Rattle.zarrs_calls.specs.Reach.{MayAskCall, MayAskChunk, MayAskKept};
-    ghost use Rattle.zarrs_calls.specs.Refusals.{length_refusal};
-    ghost use Rattle.zarrs_calls.specs.Step.{ActStep};
+    ghost use Rattle.zarrs_codec_chain.specs.Options.{stores_empty_chunks};
+    ghost use Rattle.zarrs_engine_calls.specs.Acts.{compact, erase, resize, shape_after};
+    ghost use Rattle.zarrs_engine_calls.specs.ArgumentRefusals.{resize_refusal};
+    ghost use Rattle.zarrs_engine_calls.specs.Cuts.{cut_chunks};
+    ghost use Rattle.zarrs_engine_calls.specs.Reach.{MayAskCall, MayAskChunk, MayAskKept};
+    ghost use Rattle.zarrs_engine_calls.specs.Refusals.{length_refusal};
+    ghost use Rattle.zarrs_engine_calls.specs.Step.{ActStep};
     ghost use Rattle.zarrs_engine.specs.Engine.{layout_of, state_of, store_of, KeepsOthers};
     ghost use Rattle.zarrs_engine.specs.Engine.{KeepsLayout};
     ghost use Rattle.zarrs_engine.specs.Outcomes.{StepsAs};

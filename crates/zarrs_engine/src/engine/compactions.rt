@@ -1,9 +1,9 @@
 //! Compactions of chunks.
 use super::Engine;
 use std::alloc::Global;
-use zarrs_calls::ArrayError;
-use zarrs_chain::ChainTraits;
 use zarrs_chunk_grid::ChunkGridTraits;
+use zarrs_codec_chain::ChainTraits;
+use zarrs_engine_calls::ArrayError;
 use zarrs_keys::ChunkKeyEncodingTraits;
 use zarrs_storage::WritableStorageTraits;
 
@@ -14,7 +14,7 @@ impl<
     C: ChainTraits,
 > Engine<S, G, K, C> {
     ghost use Rattle.std.specs.Prelude.{◌≡◌, length};
-    ghost use Rattle.zarrs_calls.specs.Reach.{MayAskChunk};
+    ghost use Rattle.zarrs_engine_calls.specs.Reach.{MayAskChunk};
     ghost use Rattle.zarrs_engine.specs.Engine.{layout_of, store_of};
     ghost use Rattle.zarrs_engine.specs.Outcomes.{CompactsChunkOrRefuses};
 

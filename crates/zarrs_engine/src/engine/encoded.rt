@@ -1,9 +1,9 @@
 //! Chunks as the bytes that are stored, which are not decoded.
 use super::Engine;
 use std::alloc::Global;
-use zarrs_calls::ArrayError;
-use zarrs_chain::ChainTraits;
 use zarrs_chunk_grid::ChunkGridTraits;
+use zarrs_codec_chain::ChainTraits;
+use zarrs_engine_calls::ArrayError;
 use zarrs_keys::ChunkKeyEncodingTraits;
 use zarrs_storage::ReadableStorageTraits;
 use zarrs_subset::ArraySubset;
@@ -16,9 +16,9 @@ impl<
 > Engine<S, G, K, C> {
     ghost use Rattle.std.specs.Prelude.{◌≡◌, IfOk, IfErr, OnOk, None, length, map, option_map};
     ghost use Rattle.zarrs_subset.specs.Regions.{box_of, positions};
-    ghost use Rattle.zarrs_calls.specs.Content.{value_at};
-    ghost use Rattle.zarrs_calls.specs.Reach.{MayAskChunk, MayAskChunks};
-    ghost use Rattle.zarrs_calls.specs.Refusals.{RefusesBy, refusal_of, key_refusal};
+    ghost use Rattle.zarrs_engine_calls.specs.Content.{value_at};
+    ghost use Rattle.zarrs_engine_calls.specs.Reach.{MayAskChunk, MayAskChunks};
+    ghost use Rattle.zarrs_engine_calls.specs.Refusals.{RefusesBy, refusal_of, key_refusal};
     ghost use Rattle.zarrs_engine.specs.Encoded.{RefusesEncoded, stored_values};
     ghost use Rattle.zarrs_engine.specs.Engine.{layout_of, store_of};
 

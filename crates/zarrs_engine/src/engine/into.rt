@@ -1,17 +1,15 @@
 //! Reads of regions into boxes that callers lend.
 use super::Engine;
 use std::alloc::{AllocError, Global};
-use zarrs_array_layout::{Shared, shared_positions};
-use zarrs_calls::ArrayError;
-use zarrs_chain::{ChainTraits, CodecError, Misfit};
 use zarrs_chunk_grid::ChunkGridTraits;
-use zarrs_data_type::lies_in_box;
+use zarrs_codec_chain::{ChainTraits, seen_from_corner};
+use zarrs_codec_leaf::{CodecError, Misfit, StoredValue};
+use zarrs_data_type::{ArrayBytesDecodeIntoTarget, copy_fill_value_into};
+use zarrs_engine_calls::ArrayError;
+use zarrs_engine_layout::{Shared, shared_positions};
 use zarrs_keys::ChunkKeyEncodingTraits;
-use zarrs_parts::seen_from_corner;
-use zarrs_source::StoredValue;
 use zarrs_storage::ReadableStorageTraits;
-use zarrs_subset::{ArraySubset, ArraySubsetError};
-use zarrs_target::{ArrayBytesDecodeIntoTarget, copy_fill_value_into};
+use zarrs_subset::{ArraySubset, ArraySubsetError, lies_in_box};
 
 impl<
     S: ReadableStorageTraits,
@@ -21,18 +19,18 @@ impl<
 > Engine<S, G, K, C> {
     ghost use Rattle.std.specs.Prelude.{◌≡◌, ◌∷◌, [], true, IfErr, IsSome, OnErr, OnOk, length};
     ghost use Rattle.zarrs_chunk_grid.specs.Grids.{box_at, has_box};
-    ghost use Rattle.zarrs_array_layout.specs.Covers.{CoverRegion};
-    ghost use Rattle.zarrs_array_layout.specs.Shared.{AreShared};
+    ghost use Rattle.zarrs_engine_layout.specs.Covers.{CoverRegion};
+    ghost use Rattle.zarrs_engine_layout.specs.Shared.{AreShared};
     ghost use Rattle.zarrs_subset.specs.Regions.{box_of, positions};
-    ghost use Rattle.zarrs_calls.specs.ChunkBoxes.{CoversBox};
-    ghost use Rattle.zarrs_calls.specs.Reach.{MayAskChunk, MayDecodePart, MayReadPart};
-    ghost use Rattle.zarrs_calls.specs.Reach.{MayReadParts};
-    ghost use Rattle.zarrs_calls.specs.Reads.{IsBroken};
-    ghost use Rattle.zarrs_calls.specs.Refusals.{RefusesBy, refusal_of};
-    ghost use Rattle.zarrs_calls.specs.StateRefusals.{RefusesSomeChunk};
-    ghost use Rattle.zarrs_target.specs.States.{IsTarget, SameBox, StaysOutside, data_of_target};
-    ghost use Rattle.zarrs_target.specs.States.{parent_box, target_box};
-    ghost use Rattle.zarrs_target.specs.Targets.{takes_type};
+    ghost use Rattle.zarrs_engine_calls.specs.ChunkBoxes.{CoversBox};
+    ghost use Rattle.zarrs_engine_calls.specs.Reach.{MayAskChunk, MayDecodePart, MayReadPart};
+    ghost use Rattle.zarrs_engine_calls.specs.Reach.{MayReadParts};
+    ghost use Rattle.zarrs_engine_calls.specs.Reads.{IsBroken};
+    ghost use Rattle.zarrs_engine_calls.specs.Refusals.{RefusesBy, refusal_of};
+    ghost use Rattle.zarrs_engine_calls.specs.StateRefusals.{RefusesSomeChunk};
+    ghost use Rattle.zarrs_data_type.specs.States.{IsTarget, SameBox, StaysOutside, data_of_target};
+    ghost use Rattle.zarrs_data_type.specs.States.{parent_box, target_box};
+    ghost use Rattle.zarrs_data_type.specs.Targets.{takes_type};
     ghost use Rattle.zarrs_engine.specs.Engine.{layout_of, state_of, store_of};
     ghost use Rattle.zarrs_engine.specs.Outcomes.{MayRetrieveRegion};
     ghost use Rattle.zarrs_engine.specs.Into.{HasContent, RefusesRetrieveInto, RetrievesInto};
@@ -329,8 +327,7 @@ impl<
 }
 
 ghost use Rattle.std.specs.Prelude.{◌≡◌, ◌+◌, ◌<◌, ◌^◌, ℕ, IfOk, length, slice_index};
-ghost use Rattle.zarrs_subset.specs.Regions.{box_of, seen_from, shifted_box};
-ghost use Rattle.zarrs_byte_strings.specs.StringParts.{LiesInBox};
+ghost use Rattle.zarrs_subset.specs.Regions.{box_of, seen_from, shifted_box, LiesInBox};
 
 /// A box that lies in a region, as it lies in a box of the same shape.
 fn moved_box(

@@ -1,10 +1,10 @@
 //! Reads of parts of chunks and of ranges of chunks.
 use super::Engine;
 use std::alloc::Global;
-use zarrs_calls::ArrayError;
-use zarrs_chain::ChainTraits;
 use zarrs_chunk_grid::ChunkGridTraits;
+use zarrs_codec_chain::ChainTraits;
 use zarrs_data_type::ArrayBytes;
+use zarrs_engine_calls::ArrayError;
 use zarrs_keys::ChunkKeyEncodingTraits;
 use zarrs_storage::ReadableStorageTraits;
 use zarrs_subset::ArraySubset;

@@ -1,15 +1,15 @@
 //! Writes of parts of chunks by themselves.
 use super::Engine;
 use std::alloc::Global;
-use zarrs_array_layout::Chunk;
-use zarrs_calls::ArrayError;
-use zarrs_chain::{ChainTraits, CodecOptions};
 use zarrs_chunk_grid::ChunkGridTraits;
-use zarrs_data_type::{ArrayBytes, lies_in_box};
+use zarrs_codec_chain::{ChainTraits, CodecOptions};
+use zarrs_codec_shard::PartialWrite;
+use zarrs_data_type::ArrayBytes;
+use zarrs_engine_calls::ArrayError;
+use zarrs_engine_layout::Chunk;
 use zarrs_keys::ChunkKeyEncodingTraits;
-use zarrs_shard::PartialWrite;
 use zarrs_storage::{StorageError, StoreKey, WritableStorageTraits};
-use zarrs_subset::{ArraySubset, ArraySubsetError};
+use zarrs_subset::{ArraySubset, ArraySubsetError, lies_in_box};
 
 impl<
     S: WritableStorageTraits,
@@ -25,23 +25,23 @@ impl<
     ghost use Rattle.zarrs_chunk_grid.specs.Grids.{box_at, has_box};
     ghost use Rattle.zarrs_data_type.specs.ArrayData.{ArrayData, data_of};
     ghost use Rattle.zarrs_data_type.specs.Cells.{HasCells};
-    ghost use Rattle.zarrs_array_bytes.specs.Parts.{ExtractsCells};
-    ghost use Rattle.zarrs_array_bytes.specs.StringParts.{LiesInBox};
-    ghost use Rattle.zarrs_shard.specs.PartialShards.{after};
-    ghost use Rattle.zarrs_shard.specs.ShardPatches.{change_of};
-    ghost use Rattle.zarrs_chain.specs.Chain.{partial_encoding};
-    ghost use Rattle.zarrs_chain.specs.Options.{encodes_partially, stores_empty_chunks};
-    ghost use Rattle.zarrs_calls.specs.ArgumentRefusals.{part_refusal};
-    ghost use Rattle.zarrs_calls.specs.Changes.{IsPut};
-    ghost use Rattle.zarrs_calls.specs.ChunkBoxes.{part_box};
-    ghost use Rattle.zarrs_calls.specs.Content.{value_at};
-    ghost use Rattle.zarrs_calls.specs.Patches.{PatchesAll, RefusesPartly, RefusesPatches};
-    ghost use Rattle.zarrs_calls.specs.Reach.{MayAskChunk, MayAskParts};
-    ghost use Rattle.zarrs_calls.specs.Refusals.{Refusal, is_too_large, refusal_of};
-    ghost use Rattle.zarrs_calls.specs.Refusals.{refusal_of_storage};
-    ghost use Rattle.zarrs_array_layout.specs.Covers.{CoverRegion};
+    ghost use Rattle.zarrs_data_type.specs.Parts.{ExtractsCells};
+    ghost use Rattle.zarrs_subset.specs.Regions.{LiesInBox};
+    ghost use Rattle.zarrs_codec_shard.specs.PartialShards.{after};
+    ghost use Rattle.zarrs_codec_shard.specs.ShardPatches.{change_of};
+    ghost use Rattle.zarrs_codec_chain.specs.Chain.{partial_encoding};
+    ghost use Rattle.zarrs_codec_chain.specs.Options.{encodes_partially, stores_empty_chunks};
+    ghost use Rattle.zarrs_engine_calls.specs.ArgumentRefusals.{part_refusal};
+    ghost use Rattle.zarrs_engine_calls.specs.Changes.{IsPut};
+    ghost use Rattle.zarrs_engine_calls.specs.ChunkBoxes.{part_box};
+    ghost use Rattle.zarrs_engine_calls.specs.Content.{value_at};
+    ghost use Rattle.zarrs_engine_calls.specs.Patches.{PatchesAll, RefusesPartly, RefusesPatches};
+    ghost use Rattle.zarrs_engine_calls.specs.Reach.{MayAskChunk, MayAskParts};
+    ghost use Rattle.zarrs_engine_calls.specs.Refusals.{Refusal, is_too_large, refusal_of};
+    ghost use Rattle.zarrs_engine_calls.specs.Refusals.{refusal_of_storage};
+    ghost use Rattle.zarrs_engine_layout.specs.Covers.{CoverRegion};
     ghost use Rattle.zarrs_engine.specs.RegionWrites.{AreCovered};
-    ghost use Rattle.zarrs_array_layout.specs.Steps.{RefusesPut};
+    ghost use Rattle.zarrs_engine_layout.specs.Steps.{RefusesPut};
     ghost use Rattle.zarrs_engine.specs.Engine.{layout_of, store_of, KeepsLayout};
     ghost use Rattle.zarrs_engine.specs.Outcomes.{PatchesPartOrRefuses};
     ghost use Rattle.zarrs_engine.specs.Patches.{LeavesPatch};

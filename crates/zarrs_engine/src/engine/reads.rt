@@ -1,11 +1,11 @@
 //! Reads of one chunk.
 use super::Engine;
 use std::alloc::Global;
-use zarrs_array_layout::invalid_indices;
-use zarrs_calls::ArrayError;
-use zarrs_chain::ChainTraits;
 use zarrs_chunk_grid::ChunkGridTraits;
+use zarrs_codec_chain::ChainTraits;
 use zarrs_data_type::ArrayBytes;
+use zarrs_engine_calls::ArrayError;
+use zarrs_engine_layout::invalid_indices;
 use zarrs_keys::ChunkKeyEncodingTraits;
 use zarrs_storage::{Bytes, ReadableStorageTraits};
 
@@ -17,14 +17,14 @@ impl<
 > Engine<S, G, K, C> {
     ghost use Rattle.std.specs.Prelude.{◌≡◌, true, false, IfOk, IfErr, OnOk, IsErr, None, length, option_map};
     ghost use Rattle.zarrs_data_type.specs.ArrayData.{data_of};
-    ghost use Rattle.zarrs_calls.specs.Content.{value_at};
-    ghost use Rattle.zarrs_calls.specs.Reach.{MayAskChunk};
-    ghost use Rattle.zarrs_calls.specs.Refusals.{refusal_of, key_refusal, length_refusal};
-    ghost use Rattle.zarrs_calls.specs.Changes.{RetrievesChunk, RetrievesIfExists};
-    ghost use Rattle.zarrs_calls.specs.StateRefusals.{RefusesChunkRead};
+    ghost use Rattle.zarrs_engine_calls.specs.Content.{value_at};
+    ghost use Rattle.zarrs_engine_calls.specs.Reach.{MayAskChunk};
+    ghost use Rattle.zarrs_engine_calls.specs.Refusals.{refusal_of, key_refusal, length_refusal};
+    ghost use Rattle.zarrs_engine_calls.specs.Changes.{RetrievesChunk, RetrievesIfExists};
+    ghost use Rattle.zarrs_engine_calls.specs.StateRefusals.{RefusesChunkRead};
     ghost use Rattle.zarrs_engine.specs.Engine.{layout_of, store_of};
     ghost use Rattle.zarrs_engine.specs.Outcomes.{RetrievesChunkOrRefuses, RetrievesIfExistsOrRefuses};
-    ghost use Rattle.zarrs_array_layout.specs.Steps.{RefusesValue};
+    ghost use Rattle.zarrs_engine_layout.specs.Steps.{RefusesValue};
 
     /// The bytes that are present at the key of the chunk with these indices.
     pub(crate) fn stored_bytes(

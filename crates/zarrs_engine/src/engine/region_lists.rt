@@ -2,14 +2,13 @@
 use super::Engine;
 use std::alloc::{AllocError, Global};
 use std::borrow::CowSlice;
-use zarrs_calls::ArrayError;
-use zarrs_chain::ChainTraits;
 use zarrs_chunk_grid::ChunkGridTraits;
-use zarrs_data_type::{ArrayBytes, DataType};
+use zarrs_codec_chain::ChainTraits;
+use zarrs_data_type::{ArrayBytes, ArrayBytesDecodeIntoTarget, DataType};
+use zarrs_engine_calls::ArrayError;
 use zarrs_keys::ChunkKeyEncodingTraits;
 use zarrs_storage::ReadableStorageTraits;
 use zarrs_subset::ArraySubset;
-use zarrs_target::ArrayBytesDecodeIntoTarget;
 
 impl<
     S: ReadableStorageTraits,
@@ -18,16 +17,16 @@ impl<
     C: ChainTraits,
 > Engine<S, G, K, C> {
     ghost use Rattle.std.specs.Prelude.{◌≡◌, ◌*◌, ◌<◌, ◌^◌, true, None, IfErr, IfOk, OnOk, length};
-    ghost use Rattle.zarrs_array_layout.specs.Covers.{CoverRegion};
-    ghost use Rattle.zarrs_calls.specs.ArgumentRefusals.{size_refusal};
-    ghost use Rattle.zarrs_calls.specs.Reach.{MayReadParts};
-    ghost use Rattle.zarrs_calls.specs.Reads.{ReadsRegion};
-    ghost use Rattle.zarrs_calls.specs.Refusals.{refusal_of};
-    ghost use Rattle.zarrs_calls.specs.StateRefusals.{RefusesRegionRead, RefusesSomeChunk};
+    ghost use Rattle.zarrs_engine_layout.specs.Covers.{CoverRegion};
+    ghost use Rattle.zarrs_engine_calls.specs.ArgumentRefusals.{size_refusal};
+    ghost use Rattle.zarrs_engine_calls.specs.Reach.{MayReadParts};
+    ghost use Rattle.zarrs_engine_calls.specs.Reads.{ReadsRegion};
+    ghost use Rattle.zarrs_engine_calls.specs.Refusals.{refusal_of};
+    ghost use Rattle.zarrs_engine_calls.specs.StateRefusals.{RefusesRegionRead, RefusesSomeChunk};
     ghost use Rattle.zarrs_data_type.specs.ArrayData.{data_of};
     ghost use Rattle.zarrs_subset.specs.Boxes.{position_count};
     ghost use Rattle.zarrs_subset.specs.Regions.{box_at_origin, box_of, positions};
-    ghost use Rattle.zarrs_target.specs.Targets.{masked, takes_type};
+    ghost use Rattle.zarrs_data_type.specs.Targets.{masked, takes_type};
     ghost use Rattle.zarrs_engine.specs.Engine.{layout_of, store_of};
     ghost use Rattle.zarrs_engine.specs.TargetReads.{HasReadInto};
 
@@ -107,7 +106,7 @@ ghost use Rattle.std.specs.Prelude.{◌≡◌, ◌*◌, ◌<◌, true, All, Each
 ghost use Rattle.std.specs.Prelude.{slice_index};
 ghost use Rattle.zarrs_data_type.specs.ArrayData.{data_of};
 ghost use Rattle.zarrs_data_type.specs.Kind.{kind};
-ghost use Rattle.zarrs_target.specs.Targets.{depth_of, masked, takes_type};
+ghost use Rattle.zarrs_data_type.specs.Targets.{depth_of, masked, takes_type};
 
 /// What a cell of a fixed type is in lists: so many bytes, and a byte in each of so many masks.
 #[derive(Clone, Copy, Debug, Drop)]

@@ -2,17 +2,15 @@
 use super::Engine;
 use super::region_lists::form_of;
 use std::alloc::Global;
-use zarrs_array_layout::{ArrayLayout, shared_positions};
-use zarrs_calls::ArrayError;
-use zarrs_chain::ChainTraits;
 use zarrs_chunk_grid::ChunkGridTraits;
-use zarrs_data_type::{ArrayBytes, lies_in_box};
+use zarrs_codec_chain::{ChainTraits, seen_from_corner};
+use zarrs_codec_leaf::StoredValue;
+use zarrs_data_type::{ArrayBytes, RegionCells};
+use zarrs_engine_calls::ArrayError;
+use zarrs_engine_layout::{ArrayLayout, shared_positions};
 use zarrs_keys::ChunkKeyEncodingTraits;
-use zarrs_parts::seen_from_corner;
-use zarrs_region_cells::RegionCells;
-use zarrs_source::StoredValue;
 use zarrs_storage::ReadableStorageTraits;
-use zarrs_subset::ArraySubset;
+use zarrs_subset::{ArraySubset, lies_in_box};
 
 impl<
     S: ReadableStorageTraits,
@@ -28,19 +26,19 @@ impl<
     ghost use Rattle.zarrs_data_type.specs.Kind.{cell_size};
     ghost use Rattle.zarrs_data_type.specs.ArrayData.{ArrayData, data_of};
     ghost use Rattle.zarrs_data_type.specs.Cells.{cells, HasCells};
-    ghost use Rattle.zarrs_region_cells.specs.RegionData.{region_data};
-    ghost use Rattle.zarrs_byte_strings.specs.StringParts.{LiesInBox};
-    ghost use Rattle.zarrs_calls.specs.ArgumentRefusals.{size_refusal};
-    ghost use Rattle.zarrs_calls.specs.ChunkBoxes.{is_empty};
-    ghost use Rattle.zarrs_calls.specs.Content.{value_at};
-    ghost use Rattle.zarrs_calls.specs.Reach.{MayAskChunk, MayDecodePart, MayReadPart};
-    ghost use Rattle.zarrs_calls.specs.Reach.{MayReadParts, chunk_part};
-    ghost use Rattle.zarrs_calls.specs.Reads.{ReadsRegion};
-    ghost use Rattle.zarrs_calls.specs.Refusals.{RefusesBy, refusal_of};
-    ghost use Rattle.zarrs_calls.specs.StateRefusals.{IsPart, RefusesRegionRead, RefusesSomeChunk};
+    ghost use Rattle.zarrs_data_type.specs.RegionData.{region_data};
+    ghost use Rattle.zarrs_subset.specs.Regions.{LiesInBox};
+    ghost use Rattle.zarrs_engine_calls.specs.ArgumentRefusals.{size_refusal};
+    ghost use Rattle.zarrs_engine_calls.specs.ChunkBoxes.{is_empty};
+    ghost use Rattle.zarrs_engine_calls.specs.Content.{value_at};
+    ghost use Rattle.zarrs_engine_calls.specs.Reach.{MayAskChunk, MayDecodePart, MayReadPart};
+    ghost use Rattle.zarrs_engine_calls.specs.Reach.{MayReadParts, chunk_part};
+    ghost use Rattle.zarrs_engine_calls.specs.Reads.{ReadsRegion};
+    ghost use Rattle.zarrs_engine_calls.specs.Refusals.{RefusesBy, refusal_of};
+    ghost use Rattle.zarrs_engine_calls.specs.StateRefusals.{IsPart, RefusesRegionRead, RefusesSomeChunk};
     ghost use Rattle.zarrs_engine.specs.Engine.{layout_of, store_of};
     ghost use Rattle.zarrs_engine.specs.Outcomes.{RetrievesRegionOrRefuses, MayRetrieveRegion};
-    ghost use Rattle.zarrs_array_layout.specs.Covers.{CoverRegion};
+    ghost use Rattle.zarrs_engine_layout.specs.Covers.{CoverRegion};
     ghost use Rattle.zarrs_engine.specs.RegionReads.{DecodesStored, HasRead, IsRegionOf, ReadsOneMore};
 
     /// How many cells a region has.

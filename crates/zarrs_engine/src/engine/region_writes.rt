@@ -1,14 +1,14 @@
 //! Writes of parts of chunks, of ranges of chunks and of regions.
 use super::Engine;
 use std::alloc::Global;
-use zarrs_array_layout::invalid_indices;
-use zarrs_calls::ArrayError;
-use zarrs_chain::{ChainTraits, CodecOptions};
 use zarrs_chunk_grid::ChunkGridTraits;
-use zarrs_data_type::{ArrayBytes, lies_in_box};
+use zarrs_codec_chain::{ChainTraits, CodecOptions};
+use zarrs_data_type::ArrayBytes;
+use zarrs_engine_calls::ArrayError;
+use zarrs_engine_layout::invalid_indices;
 use zarrs_keys::ChunkKeyEncodingTraits;
 use zarrs_storage::WritableStorageTraits;
-use zarrs_subset::{ArraySubset, IncompatibleDimensionalityError};
+use zarrs_subset::{ArraySubset, IncompatibleDimensionalityError, lies_in_box};
 
 impl<
     S: WritableStorageTraits,
@@ -23,17 +23,17 @@ impl<
     ghost use Rattle.zarrs_chunk_grid.specs.Grids.{box_at, has_box};
     ghost use Rattle.zarrs_data_type.specs.ArrayData.{ArrayData, data_of};
     ghost use Rattle.zarrs_data_type.specs.Cells.{HasCells, cells};
-    ghost use Rattle.zarrs_chain.specs.Options.{stores_empty_chunks};
-    ghost use Rattle.zarrs_calls.specs.Fronts.{StoresAll};
-    ghost use Rattle.zarrs_calls.specs.Reach.{MayAskParts};
-    ghost use Rattle.zarrs_calls.specs.Refusals.{Refusal, data_refusal, is_too_large, refusal_of};
-    ghost use Rattle.zarrs_calls.specs.StateRefusals.{RefusesPart};
-    ghost use Rattle.zarrs_calls.specs.Step.{RefusesStore};
+    ghost use Rattle.zarrs_codec_chain.specs.Options.{stores_empty_chunks};
+    ghost use Rattle.zarrs_engine_calls.specs.Fronts.{StoresAll};
+    ghost use Rattle.zarrs_engine_calls.specs.Reach.{MayAskParts};
+    ghost use Rattle.zarrs_engine_calls.specs.Refusals.{Refusal, data_refusal, is_too_large, refusal_of};
+    ghost use Rattle.zarrs_engine_calls.specs.StateRefusals.{RefusesPart};
+    ghost use Rattle.zarrs_engine_calls.specs.Step.{RefusesStore};
     ghost use Rattle.zarrs_engine.specs.Outcomes.{StoresRegionAs, MayStoreRegion};
     ghost use Rattle.zarrs_engine.specs.Outcomes.{StoresChunksOrRefuses};
     ghost use Rattle.zarrs_engine.specs.Outcomes.{StoresPartAs, MayStorePart};
-    ghost use Rattle.zarrs_array_layout.specs.Covers.{CoverRegion};
-    ghost use Rattle.zarrs_array_layout.specs.Steps.{HasValue};
+    ghost use Rattle.zarrs_engine_layout.specs.Covers.{CoverRegion};
+    ghost use Rattle.zarrs_engine_layout.specs.Steps.{HasValue};
     ghost use Rattle.zarrs_engine.specs.Engine.{layout_of, state_of, store_of, KeepsLayout};
     ghost use Rattle.zarrs_engine.specs.RegionWrites.{AreCovered, HasUpdated, LeavesPart};
     ghost use Rattle.zarrs_engine.specs.RegionWrites.{StoresOneMore};

@@ -1,10 +1,10 @@
 //! Changes of the array's shape.
 use super::Engine;
 use std::alloc::Global;
-use zarrs_calls::ArrayError;
-use zarrs_chain::{ChainTraits, CodecOptions};
 use zarrs_chunk_grid::ChunkGridTraits;
+use zarrs_codec_chain::{ChainTraits, CodecOptions};
 use zarrs_data_type::ArrayBytes;
+use zarrs_engine_calls::ArrayError;
 use zarrs_keys::ChunkKeyEncodingTraits;
 use zarrs_storage::WritableStorageTraits;
 use zarrs_subset::{ArrayShape, ArraySubset, IncompatibleDimensionalityError};
@@ -20,11 +20,11 @@ impl<
     ghost use Rattle.zarrs_subset.specs.Regions.{box_of};
     ghost use Rattle.zarrs_chunk_grid.specs.Grids.{box_at, has_box};
     ghost use Rattle.zarrs_data_type.specs.ArrayData.{data_of};
-    ghost use Rattle.zarrs_chain.specs.Options.{stores_empty_chunks};
-    ghost use Rattle.zarrs_calls.specs.Cuts.{cut_chunks, is_cut, keeps_some};
-    ghost use Rattle.zarrs_calls.specs.Reach.{MayAskChunk, MayAskKept};
-    ghost use Rattle.zarrs_calls.specs.Refusals.{Refusal, is_too_large, refusal_of};
-    ghost use Rattle.zarrs_calls.specs.StateRefusals.{RefusesCut, RefusesKeptCut};
+    ghost use Rattle.zarrs_codec_chain.specs.Options.{stores_empty_chunks};
+    ghost use Rattle.zarrs_engine_calls.specs.Cuts.{cut_chunks, is_cut, keeps_some};
+    ghost use Rattle.zarrs_engine_calls.specs.Reach.{MayAskChunk, MayAskKept};
+    ghost use Rattle.zarrs_engine_calls.specs.Refusals.{Refusal, is_too_large, refusal_of};
+    ghost use Rattle.zarrs_engine_calls.specs.StateRefusals.{RefusesCut, RefusesKeptCut};
     ghost use Rattle.zarrs_engine.specs.Engine.{layout_of, state_of, store_of, KeepsLayout};
     ghost use Rattle.zarrs_engine.specs.Resizes.{HasCut, HasCutCells, IsCutValue, PassesChunk};
     ghost use Rattle.zarrs_engine.specs.Resizes.{LeavesCut, LeavesFront};
@@ -156,13 +156,13 @@ impl<
     C: ChainTraits,
 > Engine<S, G, K, C> {
     ghost use Rattle.std.specs.Prelude.{◌≡◌, None, IfErr, OnErr, OnOk};
-    ghost use Rattle.zarrs_chain.specs.Options.{stores_empty_chunks};
-    ghost use Rattle.zarrs_calls.specs.ArgumentRefusals.{resize_refusal};
-    ghost use Rattle.zarrs_calls.specs.Canon.{KeepsCanon};
-    ghost use Rattle.zarrs_calls.specs.Cuts.{cut_chunks};
-    ghost use Rattle.zarrs_calls.specs.Reach.{MayAskKept};
-    ghost use Rattle.zarrs_calls.specs.Refusals.{refusal_of};
-    ghost use Rattle.zarrs_calls.specs.Step.{ResizesArray, RefusesResize};
+    ghost use Rattle.zarrs_codec_chain.specs.Options.{stores_empty_chunks};
+    ghost use Rattle.zarrs_engine_calls.specs.ArgumentRefusals.{resize_refusal};
+    ghost use Rattle.zarrs_engine_calls.specs.Canon.{KeepsCanon};
+    ghost use Rattle.zarrs_engine_calls.specs.Cuts.{cut_chunks};
+    ghost use Rattle.zarrs_engine_calls.specs.Reach.{MayAskKept};
+    ghost use Rattle.zarrs_engine_calls.specs.Refusals.{refusal_of};
+    ghost use Rattle.zarrs_engine_calls.specs.Step.{ResizesArray, RefusesResize};
     ghost use Rattle.zarrs_engine.specs.Engine.{layout_of, state_of, store_of, KeepsLayout};
     ghost use Rattle.zarrs_engine.specs.Engine.{KeepsOthers};
 
@@ -216,7 +216,7 @@ impl<
 }
 
 ghost use Rattle.std.specs.Prelude.{Some};
-ghost use Rattle.zarrs_calls.specs.Refusals.{RefusesBy, refusal_of, unsupported};
+ghost use Rattle.zarrs_engine_calls.specs.Refusals.{RefusesBy, refusal_of, unsupported};
 
 /// The refusal of a change of the shape of an array whose grid's boxes depend on it.
 fn unsupported_resize(alloc: Global) -> ArrayError

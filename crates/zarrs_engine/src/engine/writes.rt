@@ -1,10 +1,10 @@
 //! Writes of chunks.
 use super::Engine;
 use std::alloc::Global;
-use zarrs_calls::ArrayError;
-use zarrs_chain::{ChainTraits, CodecOptions};
 use zarrs_chunk_grid::ChunkGridTraits;
+use zarrs_codec_chain::{ChainTraits, CodecOptions};
 use zarrs_data_type::ArrayBytes;
+use zarrs_engine_calls::ArrayError;
 use zarrs_keys::ChunkKeyEncodingTraits;
 use zarrs_storage::{Bytes, StorageError, StoreKey, WritableStorageTraits};
 use zarrs_subset::ArraySubset;
@@ -17,16 +17,16 @@ impl<
 > Engine<S, G, K, C> {
     ghost use Rattle.std.specs.Prelude.{◌≡◌, true, Some, IsSome, IfErr, OnOk, length, option_map};
     ghost use Rattle.zarrs_chunk_grid.specs.Grids.{box_at, has_box};
-    ghost use Rattle.zarrs_calls.specs.Content.{decoded_cells};
+    ghost use Rattle.zarrs_engine_calls.specs.Content.{decoded_cells};
     ghost use Rattle.zarrs_subset.specs.Regions.{box_of};
     ghost use Rattle.zarrs_data_type.specs.ArrayData.{data_of};
-    ghost use Rattle.zarrs_chain.specs.Options.{stores_empty_chunks};
-    ghost use Rattle.zarrs_calls.specs.Refusals.{refusal_of, refusal_of_storage};
-    ghost use Rattle.zarrs_calls.specs.Changes.{IsPut};
+    ghost use Rattle.zarrs_codec_chain.specs.Options.{stores_empty_chunks};
+    ghost use Rattle.zarrs_engine_calls.specs.Refusals.{refusal_of, refusal_of_storage};
+    ghost use Rattle.zarrs_engine_calls.specs.Changes.{IsPut};
     ghost use Rattle.zarrs_engine.specs.Engine.{layout_of, store_of, KeepsLayout};
     ghost use Rattle.zarrs_engine.specs.Outcomes.{StoresChunkOrRefuses};
     ghost use Rattle.zarrs_engine.specs.Outcomes.{ErasesChunkOrRefuses, ErasesChunksOrRefuses};
-    ghost use Rattle.zarrs_array_layout.specs.Steps.{RefusesPut};
+    ghost use Rattle.zarrs_engine_layout.specs.Steps.{RefusesPut};
 
     /// Sets the value at one key, or erases the key, by one writing call of the store.
     ///

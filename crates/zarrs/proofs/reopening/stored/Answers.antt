@@ -1,4 +1,4 @@
-use Rattle.zarrs_codec_cells.proofs.Kept.{err_kept}
+use Rattle.zarrs_codec_optional.proofs.Kept.{err_kept}
 use Rattle.zarrs_options.specs.Errors.{create_error_of_storage}
 use Rattle.zarrs_options.specs.Refusals.{create_refusal_of}
 use Rattle.zarrs.specs.Arrays.{metadata_of_array, metadata_options_of_array, path_of_array, store_of_array}

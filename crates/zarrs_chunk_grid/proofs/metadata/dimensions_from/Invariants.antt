@@ -1,6 +1,6 @@
 use Rattle.std.proofs.Common.{◌≡◌, ◌++◌, drop, map, option_map}
 use Rattle.serde_json.specs.View.{items_view}
-use Rattle.zarrs_metadata.specs.Lists.{all_of}
+use Rattle.zarrs_metadata_parts.specs.Lists.{all_of}
 use Rattle.zarrs_chunk_grid.specs.Metadata.{sizes_said}
 use Rattle.zarrs_chunk_grid.specs.Configurations.{sizes_view}
 use Rattle.zarrs_chunk_grid.proofs.metadata.dimensions_from.Given as goal

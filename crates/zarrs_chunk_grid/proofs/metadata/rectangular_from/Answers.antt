@@ -1,6 +1,6 @@
 use Rattle.std.proofs.Common.{◌≡◌, List, map, Option, Some, option_map, sym, ap}
 use Rattle.serde_json.specs.View.{view}
-use Rattle.zarrs_metadata.specs.Lists.{list_of}
+use Rattle.zarrs_metadata_parts.specs.Lists.{list_of}
 use Rattle.zarrs_chunk_grid.specs.Configurations.{DimensionSizes, rectangular, sizes_view}
 use Rattle.zarrs_chunk_grid.specs.Metadata.{sizes_said}
 use Rattle.zarrs_chunk_grid.proofs.ConfigurationLemmas.{said_taken, said_refused}

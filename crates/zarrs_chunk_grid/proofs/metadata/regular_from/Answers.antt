@@ -1,6 +1,6 @@
 use Rattle.std.proofs.Common.{◌≡◌, ℕ, List, Option, Some, option_map, sym, ap}
 use Rattle.serde_json.specs.View.{view}
-use Rattle.zarrs_metadata.specs.Lists.{list_of}
+use Rattle.zarrs_metadata_parts.specs.Lists.{list_of}
 use Rattle.zarrs_chunk_grid.specs.Axes.{sizes_of}
 use Rattle.zarrs_chunk_grid.specs.Configurations.{regular}
 use Rattle.zarrs_chunk_grid.specs.Metadata.{size_said}

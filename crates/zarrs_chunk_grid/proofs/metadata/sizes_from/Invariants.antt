@@ -1,6 +1,6 @@
 use Rattle.std.proofs.Common.{◌≡◌, ◌++◌, drop, option_map}
 use Rattle.serde_json.specs.View.{items_view}
-use Rattle.zarrs_metadata.specs.Lists.{all_of}
+use Rattle.zarrs_metadata_parts.specs.Lists.{all_of}
 use Rattle.zarrs_chunk_grid.specs.Axes.{sizes_of}
 use Rattle.zarrs_chunk_grid.specs.Metadata.{size_said}
 use Rattle.zarrs_chunk_grid.proofs.metadata.sizes_from.Given as goal

@@ -1,6 +1,6 @@
 use Rattle.std.proofs.Common.{◌≡◌, take, map}
 use Rattle.serde_json.specs.View.{view}
-use Rattle.zarrs_metadata.specs.Lists.{number_data}
+use Rattle.zarrs_metadata_parts.specs.Lists.{number_data}
 use Rattle.zarrs_chunk_grid.specs.Axes.{sizes_of}
 use Rattle.zarrs_chunk_grid.proofs.metadata.sizes_value.Given as goal
 

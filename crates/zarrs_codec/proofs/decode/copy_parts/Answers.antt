@@ -3,11 +3,11 @@ use Rattle.std.specs.Prelude.{slice_range}
 use Rattle.std.proofs.lemmas.List.{length-map}
 use Rattle.zarrs_data_type.specs.ArrayData.{fixed}
 use Rattle.zarrs_data_type.specs.Kind.{kind, cell_size}
-use Rattle.zarrs_codec_cells.proofs.Kept.{err_kept}
-use Rattle.zarrs_shard.specs.ShardIndex.{range_part}
-use Rattle.zarrs_shard.specs.SubchunkData.{chunk_shape, subchunk_shape}
-use Rattle.zarrs_shard.specs.Subchunks.{subchunk_count}
-use Rattle.zarrs_shard.proofs.Sizes.{part_size}
+use Rattle.zarrs_codec_optional.proofs.Kept.{err_kept}
+use Rattle.zarrs_codec_shard.specs.ShardIndex.{range_part}
+use Rattle.zarrs_codec_shard.specs.SubchunkData.{chunk_shape, subchunk_shape}
+use Rattle.zarrs_codec_shard.specs.Subchunks.{subchunk_count}
+use Rattle.zarrs_codec_shard.proofs.Sizes.{part_size}
 use Rattle.zarrs_codec.specs.Shardings.{HasFirstCells, RefusesCopies}
 use Rattle.zarrs_codec.proofs.CopiedParts.{copied_left, copied_more, copied_none, copy_refused}
 use Rattle.zarrs_codec.proofs.PartCells.{part_at}

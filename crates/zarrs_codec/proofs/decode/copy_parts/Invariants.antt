@@ -1,8 +1,8 @@
 use Rattle.std.proofs.Common.{map}
 use Rattle.zarrs_data_type.specs.ArrayData.{fixed}
 use Rattle.zarrs_data_type.specs.Kind.{kind}
-use Rattle.zarrs_shard.specs.ShardIndex.{range_part}
-use Rattle.zarrs_shard.specs.SubchunkData.{chunk_shape, subchunk_shape}
+use Rattle.zarrs_codec_shard.specs.ShardIndex.{range_part}
+use Rattle.zarrs_codec_shard.specs.SubchunkData.{chunk_shape, subchunk_shape}
 use Rattle.zarrs_codec.proofs.CopiedParts.{IsCopied}
 use Rattle.zarrs_codec.proofs.decode.copy_parts.Given as goal
 

@@ -1,12 +1,12 @@
 use Rattle.std.proofs.Common.{◌≡◌, ◌∷◌, [], ◌++◌, true, false, Some, map, option_map, refl, sym, ap, ◌∙◌, subst, arith, IfOk}
 use Rattle.std.specs.Prelude.{codes}
 use Rattle.std.specs.Str.{bytes_eq}
-use Rattle.zarrs_metadata.specs.Extension.{extension_view, settings}
+use Rattle.zarrs_metadata_parts.specs.Extension.{extension_view, settings}
 use Rattle.zarrs_codec_array.specs.ArrayCodecs.{array_codec_data}
 use Rattle.zarrs_codec.specs.Metadata.{bytes_codec_said, array_codecs_said, chain_of_parts, sharding_with}
 use Rattle.zarrs_codec.specs.Chains.{bytes_codec_data}
-use Rattle.zarrs_codec_cells.specs.ShardingMetadata.{sharding_data}
-use Rattle.zarrs_codec_cells.specs.ShardingViews.{sharding_view}
+use Rattle.zarrs_codec_optional.specs.ShardingMetadata.{sharding_data}
+use Rattle.zarrs_codec_optional.specs.ShardingViews.{sharding_view}
 use Rattle.zarrs_codec.proofs.ChainMetadata.{last_read, said-parts}
 use Rattle.zarrs_codec.proofs.ShardingMetadata.{sharding-levels, said-cells}
 use Rattle.zarrs_codec.proofs.metadata.+codec_from.Goals as goal

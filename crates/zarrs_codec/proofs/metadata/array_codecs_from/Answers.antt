@@ -1,11 +1,11 @@
 use Rattle.std.proofs.Common.{map}
-use Rattle.zarrs_metadata.specs.Extension.{extension_view}
-use Rattle.zarrs_metadata.specs.Refusals.{RefusesMeaning}
+use Rattle.zarrs_metadata_parts.specs.Extension.{extension_view}
+use Rattle.zarrs_metadata_parts.specs.Refusals.{RefusesMeaning}
 use Rattle.zarrs_codec_array.specs.Metadata.{array_codec_said}
 use Rattle.zarrs_codec_array.specs.ArrayCodecs.{array_codec_data}
 use Rattle.zarrs_codec.specs.Metadata.{array_codecs_said}
 use Rattle.zarrs_codec.proofs.ChainMetadata.{codec_refused, refuses_through}
-use Rattle.zarrs_codec_cells.proofs.Kept.{err_kept}
+use Rattle.zarrs_codec_optional.proofs.Kept.{err_kept}
 use Rattle.zarrs_codec.proofs.metadata.array_codecs_from.Goals as goal
 
 pub returns-in_err-codec-clause-refused : goal.returns-in_err-codec-clause-refused

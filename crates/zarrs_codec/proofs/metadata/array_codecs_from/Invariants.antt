@@ -1,5 +1,5 @@
 use Rattle.std.proofs.Common.{◌≡◌, ◌++◌, drop, map, option_map}
-use Rattle.zarrs_metadata.specs.Extension.{extension_view}
+use Rattle.zarrs_metadata_parts.specs.Extension.{extension_view}
 use Rattle.zarrs_codec_array.specs.ArrayCodecs.{array_codec_data}
 use Rattle.zarrs_codec.specs.Metadata.{array_codecs_said}
 use Rattle.zarrs_codec.proofs.metadata.array_codecs_from.Given as goal

@@ -1,9 +1,9 @@
 use Rattle.std.proofs.Common.{map}
-use Rattle.zarrs_metadata.specs.Extension.{extension_view}
-use Rattle.zarrs_metadata.specs.Refusals.{RefusesMeaning}
+use Rattle.zarrs_metadata_parts.specs.Extension.{extension_view}
+use Rattle.zarrs_metadata_parts.specs.Refusals.{RefusesMeaning}
 use Rattle.zarrs_codec.specs.Metadata.{array_codecs_said, bytes_codec_said, chain_of_parts}
 use Rattle.zarrs_codec.proofs.ChainMetadata.{no_front, no_last, refuses_through}
-use Rattle.zarrs_codec_cells.proofs.Kept.{err_kept}
+use Rattle.zarrs_codec_optional.proofs.Kept.{err_kept}
 use Rattle.zarrs_codec.proofs.metadata.chain_from.Goals as goal
 
 pub returns-in_err-array_to_array-clause-refused : goal.returns-in_err-array_to_array-clause-refused

@@ -4,8 +4,7 @@ use Rattle.zarrs_subset.specs.Boxes.{position_count}
 use Rattle.zarrs_subset.proofs.Kernel.{length_part, block_is}
 use Rattle.zarrs_codec_array.specs.Gathered.{IsGathered}
 use Rattle.zarrs_codec_array.proofs.Gathering.{head_tail, row_end, gathered-empty, gathered-more, gathered-first}
-use Rattle.zarrs_codec_array.proofs.Gathering.{within-row, some_cell, some_factor, length-slice_tail, some_tail}
-use Rattle.zarrs_codec_array.proofs.Gathering.{rows_len}
+use Rattle.zarrs_codec_array.proofs.Gathering.{within-row, some_cell, some_factor, length-slice_tail, some_tail, rows_len}
 use Rattle.zarrs_codec_array.proofs.Columns.{table_len}
 use Rattle.zarrs_codec_array.proofs.gather.+gather.Goals as goal
 

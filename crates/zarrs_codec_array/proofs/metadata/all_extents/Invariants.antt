@@ -1,6 +1,6 @@
 use Rattle.std.proofs.Common.{◌≡◌, ◌++◌, drop, option_map}
 use Rattle.serde_json.specs.View.{items_view}
-use Rattle.zarrs_metadata.specs.Lists.{all_of}
+use Rattle.zarrs_metadata_parts.specs.Lists.{all_of}
 use Rattle.zarrs_codec_array.specs.Extents.{extents_view}
 use Rattle.zarrs_codec_array.specs.Metadata.{extent_said}
 use Rattle.zarrs_codec_array.proofs.metadata.all_extents.Given as goal

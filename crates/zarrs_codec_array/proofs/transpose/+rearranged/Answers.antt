@@ -9,7 +9,7 @@ use Rattle.zarrs_codec_array.specs.Orders.{permuted, strides, scaled}
 use Rattle.zarrs_codec_array.specs.OrderLaws.{length-permuted}
 use Rattle.zarrs_codec_array.proofs.Depth.{depth}
 use Rattle.zarrs_codec_array.proofs.Taken.{taken-fixed, taken-variable, taken-optional, flags-gathered}
-use Rattle.zarrs_data_type.proofs.Filled.{fits-fixed, fits-variable, fits-optional}
+use Rattle.zarrs_data_type_bytes.proofs.Filled.{fits-fixed, fits-variable, fits-optional}
 use Rattle.zarrs_codec_array.proofs.transpose.+rearranged.Goals as goal
 
 pub rearranged-requires : goal.rearranged-requires

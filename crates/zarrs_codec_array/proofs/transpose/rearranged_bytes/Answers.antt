@@ -1,8 +1,7 @@
 use Rattle.std.proofs.Common.{arith, rules, ◌≡◌, ◌*◌, length, ap, sym, subst, ◌∙◌}
-use Rattle.zarrs_subset.specs.Boxes.{position_count}
+use Rattle.zarrs_subset.specs.Boxes.{position_count, without_ones}
 use Rattle.zarrs_codec_array.specs.Gathered.{IsGathered, AreWithin}
 use Rattle.zarrs_codec_array.specs.Orders.{scaled, permuted, strides}
-use Rattle.zarrs_subset.specs.Boxes.{without_ones}
 use Rattle.zarrs_codec_array.specs.OrderLaws.{length-permuted}
 use Rattle.zarrs_codec_array.proofs.Ones.{within-without_ones, gathered-without_ones}
 use Rattle.zarrs_subset.proofs.Ones.{length-without_ones, count-without_ones}

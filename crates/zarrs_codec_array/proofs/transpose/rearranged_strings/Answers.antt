@@ -1,9 +1,8 @@
 use Rattle.std.proofs.Common.{rules, arith, ◌≡◌, length, ap, sym, subst, ◌∙◌}
 use Rattle.std.specs.Prelude.{map, slice_index_or, []}
-use Rattle.zarrs_subset.specs.Boxes.{position_count}
+use Rattle.zarrs_subset.specs.Boxes.{position_count, without_ones}
 use Rattle.zarrs_codec_array.specs.Gathered.{walked, AreWithin}
 use Rattle.zarrs_codec_array.specs.Orders.{permuted, strides}
-use Rattle.zarrs_subset.specs.Boxes.{without_ones}
 use Rattle.zarrs_codec_array.specs.OrderLaws.{length-permuted}
 use Rattle.zarrs_codec_array.proofs.Ones.{within-without_ones, walked-without_ones}
 use Rattle.zarrs_subset.proofs.Ones.{length-without_ones, count-without_ones}

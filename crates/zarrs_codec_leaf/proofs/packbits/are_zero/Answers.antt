@@ -1,6 +1,6 @@
 use Rattle.std.proofs.Common.{eqb, ◌&&◌, slice_index_or, ap, sym, ◌∙◌}
 use Rattle.std.proofs.lemmas.List.{take_all}
-use Rattle.zarrs_data_type.proofs.Pieces.{all-take_more}
+use Rattle.zarrs_data_type_bytes.proofs.Pieces.{all-take_more}
 use Rattle.zarrs_codec_leaf.specs.PackBits.{are_zero}
 use Rattle.zarrs_codec_leaf.proofs.packbits.are_zero.Goals as goal
 

@@ -1,5 +1,5 @@
 use Rattle.std.proofs.Common.{◌∙◌, ap, Ok, option_map, rules}
-use Rattle.zarrs_metadata_v2.specs.View.{metadata_view}
+use Rattle.zarrs_metadata.specs.Versions.{metadata_view}
 use Rattle.zarrs_options.specs.Refusals.{CreateRefusal, create_refusal_of, RefusesCreation}
 use Rattle.zarrs_creation.specs.Opening.{stored_v2, stored_default}
 use Rattle.zarrs_creation.proofs.Openings.{default_refused, default_v2_refused, default_v3, default_v2}

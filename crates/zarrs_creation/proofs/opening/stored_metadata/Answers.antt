@@ -1,5 +1,5 @@
 use Rattle.std.proofs.Common.{◌∙◌, ap, Ok, option_map, rules}
-use Rattle.zarrs_metadata_v2.specs.View.{metadata_view}
+use Rattle.zarrs_metadata.specs.Versions.{metadata_view}
 use Rattle.zarrs_options.specs.Refusals.{create_refusal_of}
 use Rattle.zarrs_creation.proofs.Openings.{metadata_refused, metadata_absent, metadata_read}
 use Rattle.zarrs_creation.proofs.opening.stored_metadata.Goals as goal

@@ -1,6 +1,6 @@
 use Rattle.std.proofs.Common.{refl}
 use Rattle.std.proofs.lemmas.Simd.{map-map}
-use Rattle.zarrs_metadata.specs.Extension.{extension_view}
+use Rattle.zarrs_metadata_parts.specs.Extension.{extension_view}
 use Rattle.zarrs_creation.specs.Shown.{renamed, main_codec_name}
 use Rattle.zarrs_creation.proofs.shown.rename_extensions.Goals as goal
 

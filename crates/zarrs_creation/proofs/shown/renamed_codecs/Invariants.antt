@@ -1,5 +1,5 @@
 use Rattle.std.proofs.Common.{◌≡◌, take, map}
-use Rattle.zarrs_metadata.specs.Extension.{extension_view}
+use Rattle.zarrs_metadata_parts.specs.Extension.{extension_view}
 use Rattle.zarrs_creation.specs.Shown.{renamed, main_codec_name}
 use Rattle.zarrs_creation.proofs.shown.renamed_codecs.Given as goal
 

@@ -6,7 +6,7 @@ use Rattle.std.specs.Fmt.{decimal}
 use Rattle.std.proofs.lemmas.List.{take_rest}
 use Rattle.zarrs_keys.specs.Encodings.{key_part, v2_key}
 use Rattle.zarrs_keys.specs.KeyLaws.{joined_is}
-use Rattle.zarrs_metadata.specs.declared.separators.ChunkKeySeparator.{ChunkKeySeparator}
+use Rattle.zarrs_metadata_parts.specs.declared.separators.ChunkKeySeparator.{ChunkKeySeparator}
 use Rattle.zarrs_keys.proofs.StoreKeyLemmas.{on_ok_by}
 use Rattle.zarrs_keys.proofs.encodings.push_v2.Goals as goal
 

@@ -2,7 +2,7 @@ use Rattle.std.proofs.Common.{Some, option_map, codes, ap, refl, ◌∙◌}
 use Rattle.serde_json.specs.Data.{string}
 use Rattle.serde_json.specs.View.{view, members_view}
 use Rattle.serde_json.proofs.Views.{view-Object}
-use Rattle.zarrs_metadata.specs.Lists.{numbers_data}
+use Rattle.zarrs_metadata_parts.specs.Lists.{numbers_data}
 use Rattle.zarrs_metadata_v3.specs.Members.{put_some}
 use Rattle.zarrs_metadata_v2.specs.View.{document_v2_view}
 use Rattle.zarrs_metadata_v2.proofs.DocumentLaws.{written_in_turn}

@@ -1,5 +1,5 @@
 use Rattle.std.proofs.Common.{◌≡◌, take, map}
-use Rattle.zarrs_metadata.specs.Extension.{extension_view}
+use Rattle.zarrs_metadata_parts.specs.Extension.{extension_view}
 use Rattle.zarrs_metadata_v3.proofs.copying.copied_extensions.Given as goal
 
 -- the copies so far

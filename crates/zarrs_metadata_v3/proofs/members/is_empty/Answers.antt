@@ -1,4 +1,4 @@
-use Rattle.zarrs_metadata.proofs.MemberLemmas.{empty_members}
+use Rattle.zarrs_metadata_parts.proofs.MemberLemmas.{empty_members}
 use Rattle.zarrs_metadata_v3.proofs.members.is_empty.Goals as goal
 
 pub returns : goal.returns

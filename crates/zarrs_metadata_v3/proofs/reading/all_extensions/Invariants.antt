@@ -1,9 +1,8 @@
 use Rattle.std.proofs.Common.{◌≡◌, ◌++◌, map, length, option_map}
 use Rattle.std.specs.Vec.Iter.{into_iter_items, into_iter_len}
 use Rattle.serde_json.specs.View.{items_view}
-use Rattle.zarrs_metadata.specs.Extension.{extension_of}
-use Rattle.zarrs_metadata.specs.Lists.{all_of}
-use Rattle.zarrs_metadata.specs.Extension.{extension_view}
+use Rattle.zarrs_metadata_parts.specs.Extension.{extension_of, extension_view}
+use Rattle.zarrs_metadata_parts.specs.Lists.{all_of}
 use Rattle.zarrs_metadata_v3.proofs.reading.all_extensions.Given as goal
 
 -- what is left says the rest

@@ -1,7 +1,7 @@
 use Rattle.std.proofs.Common.{◌≡◌, ◌++◌, map, length, option_map}
 use Rattle.std.specs.Vec.Iter.{into_iter_items, into_iter_len}
 use Rattle.serde_json.specs.View.{items_view}
-use Rattle.zarrs_metadata.specs.Lists.{all_of}
+use Rattle.zarrs_metadata_parts.specs.Lists.{all_of}
 use Rattle.zarrs_metadata_v3.specs.Document.{dimension_name_of}
 use Rattle.zarrs_metadata_v3.specs.View.{name_view}
 use Rattle.zarrs_metadata_v3.proofs.reading.all_names.Given as goal

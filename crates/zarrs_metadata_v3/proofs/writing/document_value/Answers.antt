@@ -1,8 +1,8 @@
 use Rattle.std.proofs.Common.{Some, option_map, ap, ◌∙◌}
 use Rattle.serde_json.specs.View.{view, members_view}
 use Rattle.serde_json.proofs.Views.{view-Object}
-use Rattle.zarrs_metadata.specs.Members.{besides}
-use Rattle.zarrs_metadata.specs.Lists.{numbers_data}
+use Rattle.zarrs_metadata_parts.specs.Members.{besides}
+use Rattle.zarrs_metadata_parts.specs.Lists.{numbers_data}
 use Rattle.zarrs_metadata_v3.specs.Document.{document_names}
 use Rattle.zarrs_metadata_v3.specs.View.{document_view}
 use Rattle.zarrs_metadata_v3.proofs.DocumentLaws.{written_in_turn}

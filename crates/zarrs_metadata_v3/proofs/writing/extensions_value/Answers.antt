@@ -3,7 +3,7 @@ use Rattle.std.proofs.lemmas.List.{take_all}
 use Rattle.serde_json.specs.Data.{array}
 use Rattle.serde_json.specs.View.{items_of}
 use Rattle.serde_json.proofs.Views.{view-Array}
-use Rattle.zarrs_metadata.specs.Extension.{extension_data, extension_view}
+use Rattle.zarrs_metadata_parts.specs.Extension.{extension_data, extension_view}
 use Rattle.zarrs_metadata_v3.proofs.ListLemmas.{map_both}
 use Rattle.zarrs_metadata_v3.proofs.writing.extensions_value.Goals as goal
 

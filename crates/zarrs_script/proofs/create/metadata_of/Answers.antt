@@ -1,6 +1,6 @@
 use Rattle.std.proofs.Common.{◌≡◌, ap, ◌∙◌}
 use Rattle.zarrs_chunk_grid.specs.Axes.{sizes_of}
-use Rattle.zarrs_script_metadata.specs.Parts.{document_for}
+use Rattle.zarrs_script.specs.Parts.{document_for}
 use Rattle.zarrs_script.proofs.NewArrays.{is_numeric, little_chain, made_parts, says_parts, makes_grid}
 use Rattle.zarrs_script.proofs.create.metadata_of.Goals as goal
 

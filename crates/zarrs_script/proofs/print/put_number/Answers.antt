@@ -1,5 +1,5 @@
 use Rattle.std.proofs.Common.{◌≡◌, true, sym, ◌∙◌, arith}
-use Rattle.zarrs_script_metadata.specs.CellTypes.{is_signed}
+use Rattle.zarrs_script.specs.CellTypes.{is_signed}
 use Rattle.zarrs_script.proofs.Texts.{signed_below, negative_text}
 use Rattle.zarrs_script.proofs.print.put_number.Goals as goal
 

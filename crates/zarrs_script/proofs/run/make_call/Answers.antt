@@ -3,16 +3,16 @@ use Rattle.std.proofs.Math.Logic.{∥∥₁_map}
 use Rattle.std.proofs.lemmas.Result.{on_err_weaker}
 use Rattle.serde_json.specs.Written.{has_float}
 use Rattle.zarrs_storage.specs.Memory.{open_state}
-use Rattle.zarrs_metadata_v2.specs.View.{MetadataData, data_of_metadata}
+use Rattle.zarrs_metadata.specs.Versions.{MetadataData, data_of_metadata}
 use Rattle.zarrs_data_type.specs.Same.{kind_eq, kind_eq-Decides}
-use Rattle.zarrs_calls.specs.Layout.{Layout}
-use Rattle.zarrs_calls.specs.declared.call.Reply.{Reply}
-use Rattle.zarrs_calls.specs.Step.{Run}
-use Rattle.zarrs_chain.specs.Options.{stores_empty_chunks}
-use Rattle.zarrs_calls.specs.Canon.{IsCanonical}
-use Rattle.zarrs_calls.specs.Content.{value_at}
+use Rattle.zarrs_engine_calls.specs.Layout.{Layout}
+use Rattle.zarrs_engine_calls.specs.declared.call.Reply.{Reply}
+use Rattle.zarrs_engine_calls.specs.Step.{Run}
+use Rattle.zarrs_codec.specs.Options.{stores_empty_chunks}
+use Rattle.zarrs_engine_calls.specs.Canon.{IsCanonical}
+use Rattle.zarrs_engine_calls.specs.Content.{value_at}
 use Rattle.zarrs.specs.Arrays.{layout_of_array, metadata_of_array, state_of_array, store_of_array}
-use Rattle.zarrs_script_metadata.specs.CellTypes.{kind_of_cells}
+use Rattle.zarrs_script.specs.CellTypes.{kind_of_cells}
 use Rattle.zarrs_script.proofs.Contents.{chunks_stay_alone}
 use Rattle.zarrs_script.proofs.Printing.{puts_as}
 use Rattle.zarrs_script.proofs.Reshaped.{floats_kept}

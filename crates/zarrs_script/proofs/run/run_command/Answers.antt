@@ -1,6 +1,6 @@
 use Rattle.std.proofs.Common.{codes, refl}
 use Rattle.zarrs.specs.Arrays.{metadata_of_array}
-use Rattle.zarrs_script_metadata.specs.Parts.{text_of_metadata}
+use Rattle.zarrs_script.specs.Parts.{text_of_metadata}
 use Rattle.zarrs_script.specs.Transcript.{line}
 use Rattle.zarrs_script.proofs.Printing.{puts_as, puts_pending}
 use Rattle.zarrs_script.proofs.Transcripts.{array_opened, call_skipped, keys_skipped, keys_listed, meta_skipped, meta_shown}

@@ -5,8 +5,7 @@ use Rattle.zarrs_subset.proofs.Overlaps.{length-zip_with, length-overlap_extents
 use Rattle.zarrs_subset.proofs.Parts.{BytesPlaced-apart, TakesPart-from, shared_start, shared_other_start, zip_with-at}
 use Rattle.zarrs_subset.proofs.Parts.{overlap_extents-at, shared_fits, shared_some, shared_copied}
 use Rattle.zarrs_subset.proofs.BoxRuns.{box_copied, AllSome-fits, block_within, fits_at, IsPlan-more}
-use Rattle.zarrs_subset.proofs.copy.place_part.Goals.{then-cell_size-eq0-via-then-cell_size-eq0}
-use Rattle.zarrs_subset.proofs.copy.place_part.Goals.{then-cell_size-eq0-via-else-cell_size-eq0+then-are_apart}
+use Rattle.zarrs_subset.proofs.copy.place_part.Goals.{then-cell_size-eq0-via-then-cell_size-eq0, then-cell_size-eq0-via-else-cell_size-eq0+then-are_apart}
 use Rattle.zarrs_subset.proofs.copy.place_part.Goals as goal
 
 pub returns-then-cell_size-eq0 : goal.returns-then-cell_size-eq0

@@ -2,8 +2,7 @@ use Rattle.std.proofs.Common.{arith, inl, inr, ℕ, List, ◌≡◌, ◌<◌, �
 use Rattle.std.proofs.lemmas.Bool.{cases_eq}
 use Rattle.std.proofs.lemmas.List.{drop_all}
 use Rattle.zarrs_subset.specs.Boxes.{position_count, place, InShape}
-use Rattle.zarrs_subset.proofs.Counts.{count_some, AllSome-from, AllSome-drop, InShape-from, InShape-at, length-InShape}
-use Rattle.zarrs_subset.proofs.Counts.{ravel_more, ravel_past}
+use Rattle.zarrs_subset.proofs.Counts.{count_some, AllSome-from, AllSome-drop, InShape-from, InShape-at, length-InShape, ravel_more, ravel_past}
 use Rattle.zarrs_subset.proofs.ravel.ravel_indices.Goals as goal
 
 -- a number that is past 64 bits at one dimension is so in the end

@@ -1,5 +1,5 @@
-use Rattle.zarrs_array_layout.proofs.Chunks.{wrong_length}
-use Rattle.zarrs_array_layout.proofs.ChunkParts.{chunk_refused}
+use Rattle.zarrs_engine_layout.proofs.Chunks.{wrong_length}
+use Rattle.zarrs_engine_layout.proofs.ChunkParts.{chunk_refused}
 use Rattle.zarrs.specs.Arrays.{layout_of_array}
 use Rattle.zarrs.proofs.array.Array.chunk_shape.Goals as goal
 

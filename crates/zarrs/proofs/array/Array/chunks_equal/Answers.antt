@@ -1,7 +1,7 @@
 use Rattle.std.proofs.Common.{IfOk, IfErr, subst}
 use Rattle.std.specs.Bool.{OnFalse, OnTrue}
 use Rattle.zarrs_subset.specs.Regions.{Box, positions}
-use Rattle.zarrs_calls.specs.Refusals.{refusal_of}
+use Rattle.zarrs_engine_calls.specs.Refusals.{refusal_of}
 use Rattle.zarrs_engine.specs.Comparisons.{ComparesContent, DifferInChunk, HoldSameChunks, RefusesComparison}
 use Rattle.zarrs.specs.Arrays.{layout_of_array, store_of_array}
 use Rattle.zarrs.proofs.array.Array.chunks_equal.Goals as goal

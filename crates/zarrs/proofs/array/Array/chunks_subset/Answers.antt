@@ -1,6 +1,6 @@
 use Rattle.std.proofs.Common.{IfErr, subst}
 use Rattle.zarrs_subset.specs.Regions.{Box}
-use Rattle.zarrs_calls.specs.Refusals.{RefusesBy, refusal_of}
+use Rattle.zarrs_engine_calls.specs.Refusals.{RefusesBy, refusal_of}
 use Rattle.zarrs.specs.Arrays.{layout_of_array}
 use Rattle.zarrs.specs.Queries.{chunks_refusal}
 use Rattle.zarrs.proofs.array.Array.chunks_subset.Goals as goal

@@ -2,9 +2,9 @@ use Rattle.std.proofs.Common.{refl, rules, subst}
 use Rattle.std.specs.Prelude.{OnOk, IfErr}
 use Rattle.zarrs_subset.specs.Regions.{Box}
 use Rattle.zarrs_data_type.specs.ArrayData.{data_of}
-use Rattle.zarrs_chain.specs.Options.{stores_empty_chunks}
-use Rattle.zarrs_calls.specs.Patches.{PatchesPart, RefusesPatchPart}
-use Rattle.zarrs_calls.specs.Refusals.{refusal_of}
+use Rattle.zarrs_codec.specs.Options.{stores_empty_chunks}
+use Rattle.zarrs_engine_calls.specs.Patches.{PatchesPart, RefusesPatchPart}
+use Rattle.zarrs_engine_calls.specs.Refusals.{refusal_of}
 use Rattle.zarrs.specs.Arrays.{layout_of_array}
 use Rattle.zarrs.proofs.Short.{patch_short}
 use Rattle.zarrs.proofs.array.Array.encode_part.Goals as goal

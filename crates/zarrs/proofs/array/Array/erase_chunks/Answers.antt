@@ -1,7 +1,7 @@
 use Rattle.std.proofs.Common.{OnOk, IfErr, subst}
 use Rattle.zarrs_subset.specs.Regions.{Box}
-use Rattle.zarrs_calls.specs.Refusals.{refusal_of_storage}
-use Rattle.zarrs_calls.specs.Step.{ErasesChunks, RefusesEraseChunks}
+use Rattle.zarrs_engine_calls.specs.Refusals.{refusal_of_storage}
+use Rattle.zarrs_engine_calls.specs.Step.{ErasesChunks, RefusesEraseChunks}
 use Rattle.zarrs.specs.Arrays.{layout_of_array}
 use Rattle.zarrs.proofs.Short.{erase_short}
 use Rattle.zarrs.proofs.array.Array.erase_chunks.Goals as goal

@@ -1,9 +1,9 @@
 use Rattle.std.proofs.Common.{subst, sym, refl}
 use Rattle.std.proofs.lemmas.Result.{err_from_is_err_and}
-use Rattle.zarrs_calls.specs.Refusals.{Refusal}
-use Rattle.zarrs_calls.specs.Step.{RefusesEraseChunk}
-use Rattle.zarrs_calls.proofs.Contents.{index_list}
-use Rattle.zarrs_calls.proofs.RefusalLemmas.{storage_said}
+use Rattle.zarrs_engine_calls.specs.Refusals.{Refusal}
+use Rattle.zarrs_engine_calls.specs.Step.{RefusesEraseChunk}
+use Rattle.zarrs_engine_calls.proofs.Contents.{index_list}
+use Rattle.zarrs_engine_calls.proofs.RefusalLemmas.{storage_said}
 use Rattle.zarrs.specs.Arrays.{layout_of_array}
 use Rattle.zarrs.proofs.array.Array.erase_encoded.Goals as goal
 

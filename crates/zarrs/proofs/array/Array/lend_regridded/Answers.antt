@@ -1,5 +1,5 @@
 use Rattle.std.proofs.Common.{inr, rules}
-use Rattle.zarrs_codec_cells.proofs.Kept.{err_kept}
+use Rattle.zarrs_codec_optional.proofs.Kept.{err_kept}
 use Rattle.zarrs_options.specs.Refusals.{create_refusal_of}
 use Rattle.zarrs.specs.Arrays.{metadata_of_array}
 use Rattle.zarrs.specs.Setters.{RefusesRegrid}

@@ -1,4 +1,4 @@
-use Rattle.zarrs_metadata_v2.specs.View.{metadata_view}
+use Rattle.zarrs_metadata.specs.Versions.{metadata_view}
 use Rattle.zarrs.specs.Agreement.{meaning_of}
 use Rattle.zarrs.proofs.Named.{named_or_not}
 use Rattle.zarrs.proofs.array.Array.name_dimensions.Goals as goal

@@ -1,6 +1,6 @@
 use Rattle.std.proofs.Common.{rules}
 use Rattle.zarrs_keys.specs.Paths.{is_node_path}
-use Rattle.zarrs_metadata_v2.specs.View.{metadata_view}
+use Rattle.zarrs_metadata.specs.Versions.{metadata_view}
 use Rattle.zarrs_options.specs.Refusals.{create_refusal_of}
 use Rattle.zarrs_creation.proofs.Openings.{not_false, opened_none, opened_unmade, is_opened, path_refused}
 use Rattle.zarrs.proofs.Layouts.{parts_are}

@@ -1,6 +1,6 @@
 use Rattle.std.proofs.Common.{◌∷◌, map, rules}
 use Rattle.std.specs.Vec.Iter.{into_iter_items}
-use Rattle.zarrs_calls.specs.Refusals.{refusal_of_storage}
+use Rattle.zarrs_engine_calls.specs.Refusals.{refusal_of_storage}
 use Rattle.zarrs_creation.specs.Writing.{put_view}
 use Rattle.zarrs.specs.Arrays.{store_of_array}
 use Rattle.zarrs.specs.Puts.{RefusesPuts}

@@ -1,13 +1,13 @@
 use Rattle.std.proofs.Common.{◌≢◌, Bool, None, cond, length, ◌∙◌, sym, subst}
 use Rattle.std.proofs.lemmas.Bool.{false≢true}
 use Rattle.zarrs_subset.specs.Regions.{box_of}
-use Rattle.zarrs_calls.specs.ArgumentRefusals.{chunk_refusal, range_refusal}
-use Rattle.zarrs_calls.specs.ChunkBoxes.{last_of}
-use Rattle.zarrs_calls.specs.Refusals.{RefusesBy, refusal_of}
-use Rattle.zarrs_calls.proofs.RefusalLemmas.{refused_first}
-use Rattle.zarrs_array_layout.proofs.Chunks.{wrong_length}
-use Rattle.zarrs_array_layout.proofs.ChunkParts.{chunk_refused}
-use Rattle.zarrs_array_layout.proofs.ChunkRanges.{has_indices, range_some}
+use Rattle.zarrs_engine_calls.specs.ArgumentRefusals.{chunk_refusal, range_refusal}
+use Rattle.zarrs_engine_calls.specs.ChunkBoxes.{last_of}
+use Rattle.zarrs_engine_calls.specs.Refusals.{RefusesBy, refusal_of}
+use Rattle.zarrs_engine_calls.proofs.RefusalLemmas.{refused_first}
+use Rattle.zarrs_engine_layout.proofs.Chunks.{wrong_length}
+use Rattle.zarrs_engine_layout.proofs.ChunkParts.{chunk_refused}
+use Rattle.zarrs_engine_layout.proofs.ChunkRanges.{has_indices, range_some}
 use Rattle.zarrs.specs.Arrays.{layout_of_array}
 use Rattle.zarrs.proofs.array.Array.range_subset.Goals as goal
 

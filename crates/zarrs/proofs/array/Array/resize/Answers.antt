@@ -1,5 +1,5 @@
 use Rattle.std.proofs.Common.{List, ℕ, length, refl, ap, ◌∙◌}
-use Rattle.zarrs_metadata_v2.specs.View.{metadata_view}
+use Rattle.zarrs_metadata.specs.Versions.{metadata_view}
 use Rattle.zarrs_chunk_grid.specs.GridView.{array_extents_of}
 use Rattle.zarrs_engine.specs.Engine.{grid_of}
 use Rattle.zarrs_creation.specs.Changes.{with_shape}

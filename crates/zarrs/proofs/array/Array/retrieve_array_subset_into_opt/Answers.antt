@@ -1,9 +1,9 @@
 use Rattle.std.proofs.Common.{◌≡◌, OnErr, OnOk, IfErr, subst, sym}
 use Rattle.std.specs.Prelude.{IsSome}
 use Rattle.zarrs_subset.specs.Regions.{Box}
-use Rattle.zarrs_calls.specs.Refusals.{refusal_of}
+use Rattle.zarrs_engine_calls.specs.Refusals.{refusal_of}
 use Rattle.zarrs_engine.specs.Into.{HasContent, RefusesRetrieveInto, target_refusal}
-use Rattle.zarrs_target.proofs.Levels.{masked_keeps}
+use Rattle.zarrs_data_type_region.proofs.TargetLevels.{masked_keeps}
 use Rattle.zarrs.specs.Arrays.{layout_of_array, store_of_array, state_of_array}
 use Rattle.zarrs.specs.Outcomes.{MayRetrieveRegion}
 use Rattle.zarrs.proofs.array.Array.retrieve_array_subset_into_opt.Goals as goal

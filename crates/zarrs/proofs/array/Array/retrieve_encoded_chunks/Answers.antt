@@ -1,6 +1,6 @@
 use Rattle.std.proofs.Common.{IfErr, subst}
 use Rattle.zarrs_subset.specs.Regions.{Box, positions}
-use Rattle.zarrs_calls.specs.Refusals.{refusal_of}
+use Rattle.zarrs_engine_calls.specs.Refusals.{refusal_of}
 use Rattle.zarrs_engine.specs.Encoded.{RefusesEncoded}
 use Rattle.zarrs.specs.Arrays.{layout_of_array, store_of_array}
 use Rattle.zarrs.proofs.array.Array.retrieve_encoded_chunks.Goals as goal

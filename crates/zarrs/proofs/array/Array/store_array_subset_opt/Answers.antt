@@ -1,12 +1,12 @@
 use Rattle.std.proofs.Common.{OnOk, IfErr, refl, subst, sym}
 use Rattle.zarrs_subset.specs.Regions.{Box}
 use Rattle.zarrs_data_type.specs.ArrayData.{data_of}
-use Rattle.zarrs_chain.specs.Options.{stores_empty_chunks}
-use Rattle.zarrs_calls.specs.Patches.{PatchesRegion, RefusesPatchRegion}
-use Rattle.zarrs_calls.specs.Step.{StoresRegion, RefusesStoreRegion}
-use Rattle.zarrs_calls.specs.Refusals.{refusal_of}
-use Rattle.zarrs_calls.specs.Canon.{KeepsCanon}
-use Rattle.zarrs_calls.specs.ArgumentRefusals.{region_refusal}
+use Rattle.zarrs_codec.specs.Options.{stores_empty_chunks}
+use Rattle.zarrs_engine_calls.specs.Patches.{PatchesRegion, RefusesPatchRegion}
+use Rattle.zarrs_engine_calls.specs.Step.{StoresRegion, RefusesStoreRegion}
+use Rattle.zarrs_engine_calls.specs.Refusals.{refusal_of}
+use Rattle.zarrs_engine_calls.specs.Canon.{KeepsCanon}
+use Rattle.zarrs_engine_calls.specs.ArgumentRefusals.{region_refusal}
 use Rattle.zarrs.specs.Arrays.{layout_of_array, state_of_array}
 use Rattle.zarrs.specs.Outcomes.{MayStoreRegion, SaysNothing}
 use Rattle.zarrs.proofs.Typed.{written_as}

@@ -1,8 +1,8 @@
 use Rattle.std.proofs.Common.{None, refl}
 use Rattle.zarrs_data_type.specs.ArrayData.{data_of}
-use Rattle.zarrs_chain.specs.Options.{stores_empty_chunks}
-use Rattle.zarrs_calls.specs.Canon.{KeepsCanon}
-use Rattle.zarrs_calls.specs.Step.{StoresChunk, RefusesStoreChunk}
+use Rattle.zarrs_codec.specs.Options.{stores_empty_chunks}
+use Rattle.zarrs_engine_calls.specs.Canon.{KeepsCanon}
+use Rattle.zarrs_engine_calls.specs.Step.{StoresChunk, RefusesStoreChunk}
 use Rattle.zarrs.specs.Arrays.{layout_of_array}
 use Rattle.zarrs.proofs.Typed.{written_as}
 use Rattle.zarrs.proofs.array.Array.store_chunk_opt.Goals as goal

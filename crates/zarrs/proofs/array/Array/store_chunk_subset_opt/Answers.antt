@@ -1,11 +1,11 @@
 use Rattle.std.proofs.Common.{OnOk, IfErr, refl, subst, sym}
 use Rattle.zarrs_subset.specs.Regions.{Box}
 use Rattle.zarrs_data_type.specs.ArrayData.{data_of}
-use Rattle.zarrs_chain.specs.Options.{stores_empty_chunks}
-use Rattle.zarrs_calls.specs.Canon.{KeepsCanon}
-use Rattle.zarrs_calls.specs.Patches.{PatchesPart, RefusesPatchPart}
-use Rattle.zarrs_calls.specs.Step.{StoresPart, RefusesStorePart}
-use Rattle.zarrs_calls.specs.Refusals.{refusal_of}
+use Rattle.zarrs_codec.specs.Options.{stores_empty_chunks}
+use Rattle.zarrs_engine_calls.specs.Canon.{KeepsCanon}
+use Rattle.zarrs_engine_calls.specs.Patches.{PatchesPart, RefusesPatchPart}
+use Rattle.zarrs_engine_calls.specs.Step.{StoresPart, RefusesStorePart}
+use Rattle.zarrs_engine_calls.specs.Refusals.{refusal_of}
 use Rattle.zarrs.specs.Typed.{place_refusal}
 use Rattle.zarrs.specs.Arrays.{layout_of_array}
 use Rattle.zarrs.specs.Outcomes.{MayStorePart, SaysNothing}

@@ -1,10 +1,10 @@
 use Rattle.std.proofs.Common.{OnOk, IfErr, refl, subst}
 use Rattle.zarrs_subset.specs.Regions.{Box}
 use Rattle.zarrs_data_type.specs.ArrayData.{data_of}
-use Rattle.zarrs_chain.specs.Options.{stores_empty_chunks}
-use Rattle.zarrs_calls.specs.Canon.{KeepsCanon}
-use Rattle.zarrs_calls.specs.Step.{StoresChunks, RefusesStoreChunks}
-use Rattle.zarrs_calls.specs.Refusals.{refusal_of}
+use Rattle.zarrs_codec.specs.Options.{stores_empty_chunks}
+use Rattle.zarrs_engine_calls.specs.Canon.{KeepsCanon}
+use Rattle.zarrs_engine_calls.specs.Step.{StoresChunks, RefusesStoreChunks}
+use Rattle.zarrs_engine_calls.specs.Refusals.{refusal_of}
 use Rattle.zarrs.specs.Typed.{number_refusal}
 use Rattle.zarrs.specs.Arrays.{layout_of_array}
 use Rattle.zarrs.proofs.Typed.{written_as}

@@ -1,8 +1,8 @@
 use Rattle.std.proofs.Common.{inr, List, map, ℕ, subst}
-use Rattle.zarrs_metadata_v2.specs.View.{metadata_view}
-use Rattle.zarrs_codec_cells.proofs.Kept.{err_kept}
+use Rattle.zarrs_metadata.specs.Versions.{metadata_view}
+use Rattle.zarrs_codec_optional.proofs.Kept.{err_kept}
 use Rattle.zarrs_options.specs.Options.{options_view}
-use Rattle.zarrs_calls.specs.Refusals.{refusal_of_storage}
+use Rattle.zarrs_engine_calls.specs.Refusals.{refusal_of_storage}
 use Rattle.zarrs_creation.specs.Writing.{put_view, IsWrittenBy}
 use Rattle.zarrs.specs.Puts.{RefusesStoreMetadata}
 use Rattle.zarrs.specs.Arrays.{path_of_array, metadata_of_array, store_of_array}

@@ -1,8 +1,9 @@
 use Rattle.std.proofs.Common.{◌≡◌, map, ap, rules}
-use Rattle.zarrs_codec_cells.proofs.Kept.{err_kept}
+use Rattle.zarrs_codec_optional.proofs.Kept.{err_kept}
 use Rattle.zarrs_metadata_v3.specs.View.{document_view}
-use Rattle.zarrs_metadata_v2.specs.View.{metadata_view, document_v2_view, v2}
-use Rattle.zarrs_calls.specs.Refusals.{refusal_of_storage}
+use Rattle.zarrs_metadata_v2.specs.View.{document_v2_view}
+use Rattle.zarrs_metadata.specs.Versions.{metadata_view, v2}
+use Rattle.zarrs_engine_calls.specs.Refusals.{refusal_of_storage}
 use Rattle.zarrs_creation.specs.Writing.{put_view}
 use Rattle.zarrs.specs.Arrays.{metadata_of_array, metadata_options_of_array, path_of_array, store_of_array}
 use Rattle.zarrs.specs.Upgrade.{RefusesUpgrade}

@@ -1,5 +1,5 @@
 use Rattle.std.proofs.Common.{◌≡◌, ◌∙◌, ℕ, List, map, None, Ok, ap, sym, subst}
-use Rattle.zarrs_metadata_v2.specs.View.{metadata_view}
+use Rattle.zarrs_metadata.specs.Versions.{metadata_view}
 use Rattle.zarrs_options.specs.Options.{MetadataOptionsData}
 use Rattle.zarrs_options.specs.declared.versions.MetadataConvertVersion.TheVariants as convert
 use Rattle.zarrs_keys.specs.Keys.{v2_array_name, v2_attributes_name}

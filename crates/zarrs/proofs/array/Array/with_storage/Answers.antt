@@ -1,5 +1,5 @@
 use Rattle.std.proofs.Common.{◌≡◌, ◌∙◌, refl, sym, subst}
-use Rattle.zarrs_metadata_v2.specs.View.{MetadataData, metadata_view}
+use Rattle.zarrs_metadata.specs.Versions.{MetadataData, metadata_view}
 use Rattle.zarrs_creation.specs.Meanings.{Meaning, meaning_with, Says}
 use Rattle.zarrs.specs.Agreement.{meaning_of}
 use Rattle.zarrs.specs.declared.array.Array.{Array}

@@ -1,6 +1,6 @@
 use Rattle.std.proofs.Common.{◌≡◌, Ok, rules, sym, ap, ◌∙◌}
 use Rattle.zarrs_metadata_v3.specs.View.{document_view}
-use Rattle.zarrs_metadata_v2.specs.View.{metadata_view, v3}
+use Rattle.zarrs_metadata.specs.Versions.{metadata_view, v3}
 use Rattle.zarrs_options.specs.Refusals.{create_refusal_of}
 use Rattle.zarrs_creation.specs.Meanings.{creation}
 use Rattle.zarrs.specs.Arrays.{metadata_of_array, meaning_of_array}

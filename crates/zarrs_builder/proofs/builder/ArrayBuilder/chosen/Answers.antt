@@ -1,5 +1,5 @@
 use Rattle.std.proofs.Common.{rules}
-use Rattle.zarrs_types.specs.Kind.{kind}
+use Rattle.zarrs_data_type.specs.Kind.{kind}
 use Rattle.zarrs_chunk_grid.specs.GridView.{configuration_of}
 use Rattle.zarrs_codec.specs.Chains.{chain_data}
 use Rattle.zarrs_options.specs.Refusals.{create_refusal_of}

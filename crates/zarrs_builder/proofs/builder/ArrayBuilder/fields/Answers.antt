@@ -2,7 +2,7 @@ use Rattle.std.proofs.Common.{map}
 use Rattle.std.specs.Prelude.{option_map}
 use Rattle.zarrs_metadata_v3.specs.View.{name_view}
 use Rattle.zarrs_options.specs.Given.{grid_given}
-use Rattle.zarrs_builder_values.specs.Given.{type_given, fill_given}
+use Rattle.zarrs_builder.specs.Given.{type_given, fill_given}
 use Rattle.zarrs_builder.specs.Builders.{builder_view}
 use Rattle.zarrs_builder.proofs.Fields.{found_ok}
 use Rattle.zarrs_builder.proofs.Order.{all_found}

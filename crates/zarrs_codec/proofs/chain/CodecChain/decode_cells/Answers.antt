@@ -8,13 +8,13 @@ use Rattle.zarrs_subset.specs.Boxes.{position_count}
 use Rattle.zarrs_codec_array.specs.ArrayCodecs.{arrays_meaning, arrays-lawful}
 use Rattle.zarrs_codec_array.specs.Gathered.{encoded_shape}
 use Rattle.zarrs_codec_leaf.specs.Refusals.{RefusesDecoding}
-use Rattle.zarrs_shard.proofs.Missing.{given_if-true}
-use Rattle.zarrs_chain.specs.Refusals.{RefusesChunkDecoding}
+use Rattle.zarrs_codec_shard.proofs.Missing.{given_if-true}
+use Rattle.zarrs_codec_chain.specs.Refusals.{RefusesChunkDecoding}
 use Rattle.zarrs_codec.specs.ChainLaws.{leaf-lawful, whole_chunk-lawful}
 use Rattle.zarrs_codec.specs.Chains.{leaf_meaning}
 use Rattle.zarrs_codec.specs.Configurations.{whole_chunk}
 use Rattle.zarrs_codec.specs.Through.{through}
-use Rattle.zarrs_codec_cells.proofs.Kept.{err_kept}
+use Rattle.zarrs_codec_optional.proofs.Kept.{err_kept}
 use Rattle.zarrs_codec.proofs.Behind.{cells_behind, count_behind, held_behind, refused_behind}
 use Rattle.zarrs_codec.proofs.Counts.{count_fits, some_count}
 use Rattle.zarrs_codec.proofs.WholeChunks.{whole_chunk-refusal}

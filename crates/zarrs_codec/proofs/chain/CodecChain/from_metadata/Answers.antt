@@ -1,7 +1,7 @@
 use Rattle.std.proofs.Common.{◌≡◌, Some, map, sym, subst}
 use Rattle.std.specs.Result.{IfOk, IfErr}
-use Rattle.zarrs_metadata.specs.Extension.{extension_view}
-use Rattle.zarrs_metadata.specs.Refusals.{RefusesMeaning}
+use Rattle.zarrs_metadata_parts.specs.Extension.{extension_view}
+use Rattle.zarrs_metadata_parts.specs.Refusals.{RefusesMeaning}
 use Rattle.zarrs_codec.specs.Metadata.{chain_said}
 use Rattle.zarrs_codec.specs.Chains.{chain_data}
 use Rattle.zarrs_codec.proofs.ChainMetadata.{no_chain, read_parts, refuses_none}

@@ -3,14 +3,14 @@ use Rattle.zarrs_data_type.specs.ArrayData.{data_of}
 use Rattle.zarrs_data_type.specs.Cell.{Cell, fill_of, held_size}
 use Rattle.zarrs_data_type.specs.Cells.{cells}
 use Rattle.zarrs_data_type.specs.Kind.{kind}
-use Rattle.zarrs_source.specs.Sources.{window_bytes}
+use Rattle.zarrs_codec_leaf.specs.Sources.{window_bytes}
 use Rattle.zarrs_subset.specs.Boxes.{position_count}
 use Rattle.zarrs_subset.specs.Regions.{box_of}
-use Rattle.zarrs_parts.specs.Parts.{DecodesPart}
-use Rattle.zarrs_parts.specs.Refusals.{RefusesPartDecoding}
-use Rattle.zarrs_parts.specs.declared.error.PartError.TheVariants as part_error
-use Rattle.zarrs_parts.proofs.Kept.{err_kept}
-use Rattle.zarrs_chain.specs.Chain.{ChainMeaning}
+use Rattle.zarrs_codec_chain.specs.Parts.{DecodesPart}
+use Rattle.zarrs_codec_chain.specs.PartRefusals.{RefusesPartDecoding}
+use Rattle.zarrs_codec_chain.specs.declared.error.PartError.TheVariants as part_error
+use Rattle.zarrs_codec_chain.proofs.Kept.{err_kept}
+use Rattle.zarrs_codec_chain.specs.Chain.{ChainMeaning}
 use Rattle.zarrs_codec.specs.ChainLaws.{chain-lawful}
 use Rattle.zarrs_codec.specs.Chains.{chain_meaning}
 use Rattle.zarrs_codec.proofs.Behind.{decoded-has_cells}

@@ -5,8 +5,8 @@ use Rattle.zarrs_data_type.specs.ArrayData.{data_of}
 use Rattle.zarrs_data_type.specs.Cell.{fill_of}
 use Rattle.zarrs_data_type.specs.Kind.{kind}
 use Rattle.zarrs_subset.specs.Regions.{box_of}
-use Rattle.zarrs_chain.specs.Options.{stores_empty_chunks}
-use Rattle.zarrs_chain.specs.Refusals.{RefusesPartialEncoding}
+use Rattle.zarrs_codec_chain.specs.Options.{stores_empty_chunks}
+use Rattle.zarrs_codec_chain.specs.Refusals.{RefusesPartialEncoding}
 use Rattle.zarrs_codec.specs.Chains.{array_to_array_of, array_to_bytes_of, codec_meaning, no_codec, sharding_meaning}
 use Rattle.zarrs_codec.proofs.PatchedShards.{alone_refusal}
 use Rattle.zarrs_codec.proofs.chain.CodecChain.partial_encode_chunk.Goals as goal

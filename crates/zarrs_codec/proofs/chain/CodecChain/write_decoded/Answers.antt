@@ -4,20 +4,20 @@ use Rattle.zarrs_data_type.specs.Cell.{fill_of, held_size}
 use Rattle.zarrs_data_type.specs.Cells.{HasCells}
 use Rattle.zarrs_data_type.specs.Kind.{cell_size, kind}
 use Rattle.zarrs_subset.specs.Boxes.{position_count}
-use Rattle.zarrs_target.specs.States.{parent_box, target_box}
-use Rattle.zarrs_target.proofs.Boxes.{bytes_within}
-use Rattle.zarrs_target.proofs.Levels.{masked_keeps}
-use Rattle.zarrs_target.proofs.TypeSizes.{type_taken}
-use Rattle.zarrs_types.proofs.Values.{fill-value}
-use Rattle.zarrs_parts.specs.Refusals.{RefusesIntoDecoding}
-use Rattle.zarrs_parts.proofs.Kept.{err_kept}
-use Rattle.zarrs_chain.specs.Chain.{ChainMeaning}
+use Rattle.zarrs_data_type.specs.States.{parent_box, target_box}
+use Rattle.zarrs_data_type_region.proofs.TargetBoxes.{bytes_within}
+use Rattle.zarrs_data_type_region.proofs.TargetLevels.{masked_keeps}
+use Rattle.zarrs_data_type_region.proofs.TypeSizes.{type_taken}
+use Rattle.zarrs_data_type_kinds.proofs.Values.{fill-value}
+use Rattle.zarrs_codec_chain.specs.PartRefusals.{RefusesIntoDecoding}
+use Rattle.zarrs_codec_chain.proofs.Kept.{err_kept}
+use Rattle.zarrs_codec_chain.specs.Chain.{ChainMeaning}
 use Rattle.zarrs_codec.specs.ChainLaws.{chain-lawful}
 use Rattle.zarrs_codec.specs.Chains.{chain_meaning}
 use Rattle.zarrs_codec.proofs.Behind.{decoded-has_cells}
 use Rattle.zarrs_codec.proofs.PartReads.{into_refused}
 use Rattle.zarrs_codec.proofs.chain.CodecChain.write_decoded.Goals as goal
-use Rattle.zarrs_array_bytes.proofs.FixedSizes.{held_fixed, size_is}
+use Rattle.zarrs_data_type_bytes.proofs.FixedSizes.{held_fixed, size_is}
 
 pub decode_chunk-requires-clause-size : goal.decode_chunk-requires-clause-size
 decode_chunk-requires-clause-size c =

@@ -1,21 +1,21 @@
 use Rattle.std.proofs.Common.{◌≡◌, ◌*◌, ◌<◌, ◌^◌, ◌∙◌, List, ℕ, true, ap, sym, subst, arith}
-use Rattle.zarrs_array_bytes.specs.ArrayData.{data_of}
-use Rattle.zarrs_array_bytes.specs.Cells.{fits}
-use Rattle.zarrs_array_bytes.proofs.Cells.{cells-parts}
-use Rattle.zarrs_source.specs.Sources.{window_bytes}
+use Rattle.zarrs_data_type.specs.ArrayData.{data_of}
+use Rattle.zarrs_data_type.specs.Cells.{fits}
+use Rattle.zarrs_data_type_bytes.proofs.Cells.{cells-parts}
+use Rattle.zarrs_codec_leaf.specs.Sources.{window_bytes}
 use Rattle.zarrs_subset.specs.Boxes.{position_count}
 use Rattle.zarrs_subset.specs.Regions.{box_of}
-use Rattle.zarrs_target.specs.States.{data_of_target, parent_box, target_box}
-use Rattle.zarrs_target.proofs.Boxes.{bytes_within}
-use Rattle.zarrs_target.proofs.Levels.{masked_keeps}
-use Rattle.zarrs_target.proofs.TypeSizes.{levels_of, type_taken}
-use Rattle.zarrs_types.proofs.Values.{fill-value}
-use Rattle.zarrs_types.specs.Cell.{fill_of, held_size}
-use Rattle.zarrs_types.specs.Kind.{kind}
-use Rattle.zarrs_parts.proofs.PartsInto.{written_part}
+use Rattle.zarrs_data_type.specs.States.{data_of_target, parent_box, target_box}
+use Rattle.zarrs_data_type_region.proofs.TargetBoxes.{bytes_within}
+use Rattle.zarrs_data_type_region.proofs.TargetLevels.{masked_keeps}
+use Rattle.zarrs_data_type_region.proofs.TypeSizes.{levels_of, type_taken}
+use Rattle.zarrs_data_type_kinds.proofs.Values.{fill-value}
+use Rattle.zarrs_data_type.specs.Cell.{fill_of, held_size}
+use Rattle.zarrs_data_type.specs.Kind.{kind}
+use Rattle.zarrs_codec_chain.proofs.PartsInto.{written_part}
 use Rattle.zarrs_codec.specs.Chains.{chain_meaning}
 use Rattle.zarrs_codec.proofs.chain.CodecChain.write_part.Goals as goal
-use Rattle.zarrs_array_bytes.proofs.FixedSizes.{held_fixed}
+use Rattle.zarrs_data_type_bytes.proofs.FixedSizes.{held_fixed}
 
 pub returns-in_err-cells-clause-outside : goal.returns-in_err-cells-clause-outside
 returns-in_err-cells-clause-outside g c =

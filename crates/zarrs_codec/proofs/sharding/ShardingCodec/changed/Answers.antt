@@ -5,9 +5,9 @@ use Rattle.zarrs_data_type.specs.Cells.{HasCells}
 use Rattle.zarrs_data_type.specs.Kind.{kind}
 use Rattle.zarrs_subset.specs.Boxes.{position_count}
 use Rattle.zarrs_subset.specs.Regions.{box_of}
-use Rattle.zarrs_shard.specs.ShardIndex.{range_part}
-use Rattle.zarrs_shard.specs.SubchunkData.{chunk_shape, subchunk_shape}
-use Rattle.zarrs_chain.specs.Options.{stores_empty_chunks}
+use Rattle.zarrs_codec_shard.specs.ShardIndex.{range_part}
+use Rattle.zarrs_codec_shard.specs.SubchunkData.{chunk_shape, subchunk_shape}
+use Rattle.zarrs_codec_chain.specs.Options.{stores_empty_chunks}
 use Rattle.zarrs_codec.specs.Chains.{chain_meaning, inner_chain_of}
 use Rattle.zarrs_codec.specs.ChainLaws.{chain-lawful}
 use Rattle.zarrs_codec.proofs.Patches.{held_data, updated_data}

@@ -6,14 +6,14 @@ use Rattle.zarrs_data_type.specs.Cell.{fill_of}
 use Rattle.zarrs_data_type.specs.Kind.{kind}
 use Rattle.zarrs_subset.specs.Boxes.{position_count}
 use Rattle.zarrs_subset.specs.Regions.{box_of}
-use Rattle.zarrs_shard.specs.PartialShards.{PartialChange, stored_parts}
-use Rattle.zarrs_shard.specs.ShardIndex.{range_part}
-use Rattle.zarrs_shard.specs.ShardPatches.{change_of}
-use Rattle.zarrs_shard.specs.SubchunkData.{chunk_shape, subchunk_shape}
-use Rattle.zarrs_chain.specs.Chain.{ChainMeaning}
-use Rattle.zarrs_chain.specs.Options.{stores_empty_chunks}
+use Rattle.zarrs_codec_shard.specs.PartialShards.{PartialChange, stored_parts}
+use Rattle.zarrs_codec_shard.specs.ShardIndex.{range_part}
+use Rattle.zarrs_codec_shard.specs.ShardPatches.{change_of}
+use Rattle.zarrs_codec_shard.specs.SubchunkData.{chunk_shape, subchunk_shape}
+use Rattle.zarrs_codec_chain.specs.Chain.{ChainMeaning}
+use Rattle.zarrs_codec_chain.specs.Options.{stores_empty_chunks}
 use Rattle.zarrs_codec.specs.Chains.{chain_meaning, inner_chain_of, is_at_start, location_of, subchunk_sizes_of}
-use Rattle.zarrs_codec_cells.specs.ShardingMetadata.{sizes_of}
+use Rattle.zarrs_codec_optional.specs.ShardingMetadata.{sizes_of}
 use Rattle.zarrs_codec.specs.PartialShardings.{stored_bytes}
 use Rattle.zarrs_codec.proofs.PatchedShards.{at_end, is_opened, IsOpened}
 use Rattle.zarrs_codec.proofs.sharding.ShardingCodec.partial_encode_shard.Goals as goal

@@ -3,13 +3,13 @@ use Rattle.zarrs_data_type.specs.ArrayData.{data_of}
 use Rattle.zarrs_data_type.specs.Cell.{fill_of}
 use Rattle.zarrs_data_type.specs.Kind.{kind, cell_size}
 use Rattle.zarrs_subset.specs.Regions.{box_of}
-use Rattle.zarrs_shard.specs.ShardIndex.{range_part}
-use Rattle.zarrs_shard.specs.ShardPatches.{change_of}
-use Rattle.zarrs_shard.specs.SubchunkData.{chunk_shape, subchunk_shape}
-use Rattle.zarrs_shard.specs.Subchunks.{subchunk_count}
-use Rattle.zarrs_shard.proofs.Sizes.{part_size}
-use Rattle.zarrs_chain.specs.Chain.{ChainMeaning}
-use Rattle.zarrs_chain.specs.Options.{stores_empty_chunks}
+use Rattle.zarrs_codec_shard.specs.ShardIndex.{range_part}
+use Rattle.zarrs_codec_shard.specs.ShardPatches.{change_of}
+use Rattle.zarrs_codec_shard.specs.SubchunkData.{chunk_shape, subchunk_shape}
+use Rattle.zarrs_codec_shard.specs.Subchunks.{subchunk_count}
+use Rattle.zarrs_codec_shard.proofs.Sizes.{part_size}
+use Rattle.zarrs_codec_chain.specs.Chain.{ChainMeaning}
+use Rattle.zarrs_codec_chain.specs.Options.{stores_empty_chunks}
 use Rattle.zarrs_codec.specs.Chains.{chain_meaning, inner_chain_of}
 use Rattle.zarrs_codec.specs.PartialShardings.{changed_part, stored_bytes, HasFirstChanges}
 use Rattle.zarrs_codec.proofs.PartCells.{part_at}

@@ -2,10 +2,10 @@ use Rattle.std.proofs.Common.{length, map, option_map}
 use Rattle.zarrs_data_type.specs.ArrayData.{data_of}
 use Rattle.zarrs_data_type.specs.Cell.{fill_of}
 use Rattle.zarrs_data_type.specs.Kind.{kind}
-use Rattle.zarrs_shard.specs.ShardIndex.{range_part}
-use Rattle.zarrs_shard.specs.SubchunkData.{chunk_shape, subchunk_shape}
+use Rattle.zarrs_codec_shard.specs.ShardIndex.{range_part}
+use Rattle.zarrs_codec_shard.specs.SubchunkData.{chunk_shape, subchunk_shape}
 use Rattle.zarrs_subset.specs.Regions.{box_of}
-use Rattle.zarrs_chain.specs.Options.{stores_empty_chunks}
+use Rattle.zarrs_codec_chain.specs.Options.{stores_empty_chunks}
 use Rattle.zarrs_codec.specs.Chains.{chain_meaning, inner_chain_of}
 use Rattle.zarrs_codec.specs.PartialShardings.{stored_bytes, HasFirstChanges}
 use Rattle.zarrs_codec.proofs.sharding.ShardingCodec.patched.Given as goal

@@ -2,8 +2,8 @@ use Rattle.std.proofs.Common.{arith, ◌≡◌, ◌<◌, ℕ, length, ap, sym, s
 use Rattle.std.specs.Prelude.{slice_index}
 use Rattle.zarrs_data_type.specs.ArrayData.{data_of}
 use Rattle.zarrs_data_type.specs.Kind.{kind}
-use Rattle.zarrs_data_type.proofs.Cells.{HasCells-parts}
-use Rattle.zarrs_data_type.proofs.Sizes.{element_size-positive}
+use Rattle.zarrs_data_type_bytes.proofs.Cells.{HasCells-parts}
+use Rattle.zarrs_data_type_kinds.proofs.Sizes.{element_size-positive}
 use Rattle.zarrs_subset.specs.Boxes.{position_count}
 use Rattle.zarrs_codec_array.specs.Gathered.{IsWay, IsTaken}
 use Rattle.zarrs_codec_array.specs.Orders.{permuted, strides}

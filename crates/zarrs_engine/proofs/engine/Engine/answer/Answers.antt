@@ -1,30 +1,28 @@
 use Rattle.std.proofs.Common.{List, ℕ, [], ◌∷◌, IfErr, IfOk, OnOk, true, ◌≡◌, refl, ap, subst, sym, option_map}
 use Rattle.zarrs_subset.specs.Regions.{box_of, positions}
 use Rattle.zarrs_chunk_grid.specs.Grids.{box_at, chunks_box}
-use Rattle.zarrs_array_bytes.specs.declared.array_bytes.ArrayBytes.{ArrayBytes}
+use Rattle.zarrs_data_type_bytes.specs.declared.array_bytes.ArrayBytes.{ArrayBytes}
 use Rattle.zarrs_data_type.specs.ArrayData.{data_of}
-use Rattle.zarrs_chain.specs.Options.{stores_empty_chunks}
-use Rattle.zarrs_calls.specs.Acts.{compact, erase, read, read_chunk, read_part_act, resize, shape_after, store}
-use Rattle.zarrs_calls.specs.ArgumentRefusals.{read_chunks_refusal, read_part_refusal, read_region_refusal, resize_refusal}
-use Rattle.zarrs_calls.specs.ArgumentRefusals.{store_chunk_refusal, store_chunks_refusal, store_part_refusal, store_region_refusal}
-use Rattle.zarrs_calls.specs.Changes.{RetrievesChunk, RetrievesIfExists}
-use Rattle.zarrs_calls.specs.ChunkBoxes.{chunks_met, part_box}
-use Rattle.zarrs_calls.specs.Reach.{MayAskCall}
-use Rattle.zarrs_calls.specs.Refusals.{length_refusal, refusal_of}
-use Rattle.zarrs_calls.specs.StateRefusals.{RefusesChunkRead}
-use Rattle.zarrs_calls.specs.Patches.{PatchesPart, RefusesPatchPart}
-use Rattle.zarrs_calls.specs.Step.{ActStep, StoresChunk, RefusesStoreChunk, StoresPart, RefusesStorePart}
-use Rattle.zarrs_calls.specs.Step.{RetrievesChunks, RefusesRetrieveChunks, RetrievesPart, RefusesRetrievePart}
-use Rattle.zarrs_calls.specs.Step.{RetrievesRegion, RefusesRetrieveRegion}
-use Rattle.zarrs_calls.specs.declared.call.Call.{Call}
-use Rattle.zarrs_calls.specs.declared.error.ArrayError.{ArrayError}
+use Rattle.zarrs_codec_chain.specs.Options.{stores_empty_chunks}
+use Rattle.zarrs_engine_calls.specs.Acts.{compact, erase, read, read_chunk, read_part_act, resize, shape_after, store}
+use Rattle.zarrs_engine_calls.specs.ArgumentRefusals.{read_chunks_refusal, read_part_refusal, read_region_refusal, resize_refusal}
+use Rattle.zarrs_engine_calls.specs.ArgumentRefusals.{store_chunk_refusal, store_chunks_refusal, store_part_refusal, store_region_refusal}
+use Rattle.zarrs_engine_calls.specs.Changes.{RetrievesChunk, RetrievesIfExists}
+use Rattle.zarrs_engine_calls.specs.ChunkBoxes.{chunks_met, part_box}
+use Rattle.zarrs_engine_calls.specs.Reach.{MayAskCall, MayAskKept}
+use Rattle.zarrs_engine_calls.specs.Refusals.{length_refusal, refusal_of}
+use Rattle.zarrs_engine_calls.specs.StateRefusals.{RefusesChunkRead}
+use Rattle.zarrs_engine_calls.specs.Patches.{PatchesPart, RefusesPatchPart}
+use Rattle.zarrs_engine_calls.specs.Step.{ActStep, StoresChunk, RefusesStoreChunk, StoresPart, RefusesStorePart}
+use Rattle.zarrs_engine_calls.specs.Step.{RetrievesChunks, RefusesRetrieveChunks, RetrievesPart, RefusesRetrievePart, RetrievesRegion, RefusesRetrieveRegion}
+use Rattle.zarrs_engine_calls.specs.declared.call.Call.{Call}
+use Rattle.zarrs_engine_calls.specs.declared.error.ArrayError.{ArrayError}
 use Rattle.zarrs_engine.specs.Engine.{layout_of, state_of}
-use Rattle.zarrs_array_layout.proofs.Chunks.{retrieved_length, found_length}
+use Rattle.zarrs_engine_layout.proofs.Chunks.{retrieved_length, found_length}
 use Rattle.zarrs_engine.proofs.PartSteps.{part_shape, part_step, part_refused_step}
-use Rattle.zarrs_calls.proofs.Reaches.{may_read_all}
+use Rattle.zarrs_engine_calls.proofs.Reaches.{may_read_all}
 use Rattle.zarrs_engine.proofs.RegionSteps.{may_ask_chunks}
-use Rattle.zarrs_calls.specs.Cuts.{cut_chunks}
-use Rattle.zarrs_calls.specs.Reach.{MayAskKept}
+use Rattle.zarrs_engine_calls.specs.Cuts.{cut_chunks}
 use Rattle.zarrs_engine.proofs.Cuts.{keeps_others, may_ask_kept}
 use Rattle.zarrs_engine.proofs.PatchedRuns.{patched_step, steps_as}
 use Rattle.zarrs_engine.proofs.Replies.{cells_step, done_step}

@@ -1,6 +1,6 @@
 use Rattle.std.proofs.Common.{arith}
 use Rattle.zarrs_engine.specs.Engine.{layout_of}
-use Rattle.zarrs_array_layout.proofs.Chunks.{refuses_length}
+use Rattle.zarrs_engine_layout.proofs.Chunks.{refuses_length}
 use Rattle.zarrs_engine.proofs.Writes.{refused_early}
 use Rattle.zarrs_engine.proofs.engine.Engine.answer_compact_chunk.Goals as goal
 

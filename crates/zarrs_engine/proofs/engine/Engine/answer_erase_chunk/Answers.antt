@@ -1,10 +1,10 @@
 use Rattle.std.proofs.Common.{arith, ap, sym, subst, ◌∙◌, Result, IfErr}
 use Rattle.zarrs_storage.specs.declared.error.StorageError.{StorageError}
-use Rattle.zarrs_calls.specs.Refusals.{Refusal, refusal_of, refusal_of_storage}
-use Rattle.zarrs_calls.specs.Step.{RefusesEraseChunk}
-use Rattle.zarrs_calls.proofs.RefusalLemmas.{storage_said}
+use Rattle.zarrs_engine_calls.specs.Refusals.{Refusal, refusal_of, refusal_of_storage}
+use Rattle.zarrs_engine_calls.specs.Step.{RefusesEraseChunk}
+use Rattle.zarrs_engine_calls.proofs.RefusalLemmas.{storage_said}
 use Rattle.zarrs_engine.specs.Engine.{layout_of}
-use Rattle.zarrs_array_layout.proofs.Chunks.{refuses_length}
+use Rattle.zarrs_engine_layout.proofs.Chunks.{refuses_length}
 use Rattle.zarrs_engine.proofs.Writes.{erase_refused}
 use Rattle.zarrs_engine.proofs.engine.Engine.answer_erase_chunk.Goals as goal
 

@@ -1,12 +1,12 @@
 use Rattle.std.proofs.Common.{List, ℕ, ap, sym, ◌∙◌, subst, Result, IfErr}
 use Rattle.zarrs_subset.specs.Regions.{box_of}
 use Rattle.zarrs_storage.specs.declared.error.StorageError.{StorageError}
-use Rattle.zarrs_calls.specs.Refusals.{Refusal, refusal_of, refusal_of_storage}
-use Rattle.zarrs_calls.specs.Step.{RefusesEraseChunks}
-use Rattle.zarrs_calls.proofs.RefusalLemmas.{storage_said}
+use Rattle.zarrs_engine_calls.specs.Refusals.{Refusal, refusal_of, refusal_of_storage}
+use Rattle.zarrs_engine_calls.specs.Step.{RefusesEraseChunks}
+use Rattle.zarrs_engine_calls.proofs.RefusalLemmas.{storage_said}
 use Rattle.zarrs_engine.specs.Engine.{layout_of}
-use Rattle.zarrs_array_layout.specs.Steps.{RefusesIndices}
-use Rattle.zarrs_array_layout.proofs.Chunks.{refuses_length}
+use Rattle.zarrs_engine_layout.specs.Steps.{RefusesIndices}
+use Rattle.zarrs_engine_layout.proofs.Chunks.{refuses_length}
 use Rattle.zarrs_engine.proofs.Ranges.{range_refused}
 use Rattle.zarrs_engine.proofs.engine.Engine.answer_erase_chunks.Goals as goal
 

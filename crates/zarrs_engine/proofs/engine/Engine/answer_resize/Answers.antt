@@ -1,12 +1,12 @@
 use Rattle.std.proofs.Common.{◌≡◌, List, ℕ, IfErr, OnOk, refl, ap, subst, sym}
 use Rattle.std.proofs.lemmas.Result.{on_err_weaker}
-use Rattle.zarrs_chain.specs.Options.{stores_empty_chunks}
-use Rattle.zarrs_calls.specs.Acts.{resize}
-use Rattle.zarrs_calls.specs.ArgumentRefusals.{resize_refusal}
-use Rattle.zarrs_calls.specs.Cuts.{cut_chunks}
-use Rattle.zarrs_calls.specs.Reach.{MayAskKept}
-use Rattle.zarrs_calls.specs.Refusals.{refusal_of}
-use Rattle.zarrs_calls.specs.Step.{ResizesArray, RefusesResize}
+use Rattle.zarrs_codec_chain.specs.Options.{stores_empty_chunks}
+use Rattle.zarrs_engine_calls.specs.Acts.{resize}
+use Rattle.zarrs_engine_calls.specs.ArgumentRefusals.{resize_refusal}
+use Rattle.zarrs_engine_calls.specs.Cuts.{cut_chunks}
+use Rattle.zarrs_engine_calls.specs.Reach.{MayAskKept}
+use Rattle.zarrs_engine_calls.specs.Refusals.{refusal_of}
+use Rattle.zarrs_engine_calls.specs.Step.{ResizesArray, RefusesResize}
 use Rattle.zarrs_engine.specs.Engine.{layout_of, state_of}
 use Rattle.zarrs_engine.proofs.Cuts.{keeps_others, resize_memory}
 use Rattle.zarrs_engine.proofs.Replies.{done_shape, done_step}

@@ -1,11 +1,11 @@
 use Rattle.std.specs.Prelude.{option_map}
 use Rattle.std.proofs.Common.{rules, ap, sym, subst, ◌∙◌, refl, Some}
 use Rattle.std.proofs.lemmas.Result.{err_from_is_err_and}
-use Rattle.zarrs_calls.specs.Compactions.{Compacts}
-use Rattle.zarrs_calls.specs.Refusals as refusal
-use Rattle.zarrs_calls.specs.Refusals.{Refusal, refusal_of}
-use Rattle.zarrs_calls.proofs.RefusalLemmas.{storage_said}
-use Rattle.zarrs_array_layout.specs.Steps.{RefusesPut}
+use Rattle.zarrs_engine_calls.specs.Compactions.{Compacts}
+use Rattle.zarrs_engine_calls.specs.Refusals as refusal
+use Rattle.zarrs_engine_calls.specs.Refusals.{Refusal, refusal_of}
+use Rattle.zarrs_engine_calls.proofs.RefusalLemmas.{storage_said}
+use Rattle.zarrs_engine_layout.specs.Steps.{RefusesPut}
 use Rattle.zarrs_engine.specs.Engine.{layout_of}
 use Rattle.zarrs_engine.proofs.Canon.{compact_refused_canon, compacted_canon}
 use Rattle.zarrs_engine.proofs.Compactions.{bytes_refused, key_refused, put_refuses}

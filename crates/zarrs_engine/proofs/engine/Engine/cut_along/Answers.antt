@@ -1,10 +1,10 @@
 use Rattle.std.proofs.Common.{◌∙◌, [], ◌∷◌, IfNone, IfSome, ap, refl, rules, subst, sym}
-use Rattle.zarrs_chain.specs.Options.{stores_empty_chunks}
-use Rattle.zarrs_calls.specs.Cuts.{cut_chunks, is_cut}
-use Rattle.zarrs_calls.specs.Reach.{MayAskKept}
-use Rattle.zarrs_calls.specs.Refusals.{refusal_of}
-use Rattle.zarrs_array_layout.specs.CutWalks.{HasNoCut, IsCutWalk}
-use Rattle.zarrs_array_layout.specs.Layouts.{layout_meaning}
+use Rattle.zarrs_codec_chain.specs.Options.{stores_empty_chunks}
+use Rattle.zarrs_engine_calls.specs.Cuts.{cut_chunks, is_cut}
+use Rattle.zarrs_engine_calls.specs.Reach.{MayAskKept}
+use Rattle.zarrs_engine_calls.specs.Refusals.{refusal_of}
+use Rattle.zarrs_engine_layout.specs.CutWalks.{HasNoCut, IsCutWalk}
+use Rattle.zarrs_engine_layout.specs.Layouts.{layout_meaning}
 use Rattle.zarrs_engine.specs.Engine.{layout_of}
 use Rattle.zarrs_engine.specs.Resizes.{LeavesCut, LeavesFront, PassesChunk}
 use Rattle.zarrs_engine.proofs.Cuts.{err_kept, walk_ask, walk_fails, walk_falls, walk_first, walk_last, walk_long, walk_memory, walk_more, walk_none}

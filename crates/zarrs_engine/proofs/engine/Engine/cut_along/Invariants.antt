@@ -1,7 +1,7 @@
 use Rattle.std.proofs.Common.{◌≡◌, ◌-◌, length}
 use Rattle.zarrs_subset.specs.Regions.{box_at_origin, positions}
-use Rattle.zarrs_chain.specs.Options.{stores_empty_chunks}
-use Rattle.zarrs_array_layout.specs.CutWalks.{walk_number}
+use Rattle.zarrs_codec_chain.specs.Options.{stores_empty_chunks}
+use Rattle.zarrs_engine_layout.specs.CutWalks.{walk_number}
 use Rattle.zarrs_engine.specs.Engine.{layout_of, state_of, store_of}
 use Rattle.zarrs_engine.proofs.Cuts.{HasCutTo}
 use Rattle.zarrs_engine.proofs.engine.Engine.cut_along.Given as goal

@@ -1,15 +1,14 @@
 use Rattle.std.proofs.Common.{◌≡◌, ◌∙◌, false, length, rules, ap, subst, sym}
 use Rattle.zarrs_subset.specs.Boxes.{position_count}
-use Rattle.zarrs_subset.specs.Regions.{Box, bound_to, box_of}
+use Rattle.zarrs_subset.specs.Regions.{Box, bound_to, box_of, LiesInBox}
 use Rattle.zarrs_chunk_grid.specs.Grids.{box_at}
 use Rattle.zarrs_chunk_grid.proofs.Chunks.{box_dimensions}
 use Rattle.zarrs_data_type.specs.ArrayData.{data_of}
 use Rattle.zarrs_data_type.specs.Cells.{HasCells}
-use Rattle.zarrs_data_type.proofs.Cells.{HasCells-some}
-use Rattle.zarrs_array_bytes.specs.Parts.{ExtractsCells, TakesCells}
-use Rattle.zarrs_byte_strings.specs.StringParts.{LiesInBox}
-use Rattle.zarrs_calls.specs.Refusals.{RefusesBy, is_too_large, refusal_of}
-use Rattle.zarrs_array_layout.specs.Steps.{filled_refusal}
+use Rattle.zarrs_data_type_bytes.proofs.Cells.{HasCells-some}
+use Rattle.zarrs_data_type.specs.Parts.{ExtractsCells, TakesCells}
+use Rattle.zarrs_engine_calls.specs.Refusals.{RefusesBy, is_too_large, refusal_of}
+use Rattle.zarrs_engine_layout.specs.Steps.{filled_refusal}
 use Rattle.zarrs_engine.specs.Engine.{layout_of}
 use Rattle.zarrs_engine.proofs.Cuts.{bound_memory, cut_made, cut_memory, filled_box, filled_cells, filled_fails, kept_lies, read_fails}
 use Rattle.zarrs_engine.proofs.engine.Engine.cut_cells.Goals as goal

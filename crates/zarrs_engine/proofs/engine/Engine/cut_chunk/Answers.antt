@@ -1,8 +1,8 @@
 use Rattle.std.proofs.Common.{◌∙◌, option_map, rules, subst, sym}
-use Rattle.zarrs_chain.specs.Options.{stores_empty_chunks}
-use Rattle.zarrs_calls.specs.Refusals.{Refusal, refusal_of, refusal_of_storage}
-use Rattle.zarrs_calls.specs.Cuts.{is_cut, keeps_some}
-use Rattle.zarrs_calls.proofs.RefusalLemmas.{storage_said}
+use Rattle.zarrs_codec_chain.specs.Options.{stores_empty_chunks}
+use Rattle.zarrs_engine_calls.specs.Refusals.{Refusal, refusal_of, refusal_of_storage}
+use Rattle.zarrs_engine_calls.specs.Cuts.{is_cut, keeps_some}
+use Rattle.zarrs_engine_calls.proofs.RefusalLemmas.{storage_said}
 use Rattle.zarrs_engine.specs.Engine.{layout_of}
 use Rattle.zarrs_engine.specs.Resizes.{LeavesCut}
 use Rattle.zarrs_engine.proofs.Cuts.{cut_answer, cut_has_box, leaves_cut, leaves_cut_memory, no_answer, passes_none, put_fails, puts_cut}

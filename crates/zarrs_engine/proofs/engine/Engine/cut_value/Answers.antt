@@ -2,11 +2,11 @@ use Rattle.std.proofs.Common.{◌≡◌, ◌∙◌, false, None, option_map, rul
 use Rattle.zarrs_subset.specs.Regions.{Box}
 use Rattle.zarrs_data_type.specs.ArrayData.{data_of}
 use Rattle.zarrs_data_type.specs.Cells.{cells}
-use Rattle.zarrs_chain.specs.Options.{stores_empty_chunks}
-use Rattle.zarrs_calls.specs.Refusals.{RefusesBy, data_refusal, is_too_large, refusal_of}
-use Rattle.zarrs_calls.proofs.Contents.{member}
-use Rattle.zarrs_calls.proofs.RefusalLemmas.{box_accepted}
-use Rattle.zarrs_array_layout.specs.Steps.{HasValue}
+use Rattle.zarrs_codec_chain.specs.Options.{stores_empty_chunks}
+use Rattle.zarrs_engine_calls.specs.Refusals.{RefusesBy, data_refusal, is_too_large, refusal_of}
+use Rattle.zarrs_engine_calls.proofs.Contents.{member}
+use Rattle.zarrs_engine_calls.proofs.RefusalLemmas.{box_accepted}
+use Rattle.zarrs_engine_layout.specs.Steps.{HasValue}
 use Rattle.zarrs_engine.specs.Engine.{layout_of}
 use Rattle.zarrs_engine.proofs.Cuts.{chain_fails, chunk_fails, cut_value_is, refuses_kept, value_gone, value_kept}
 use Rattle.zarrs_engine.proofs.engine.Engine.cut_value.Goals as goal

@@ -1,5 +1,5 @@
 use Rattle.zarrs_data_type.specs.Kind.{kind}
-use Rattle.zarrs_calls.proofs.Contents.{lawful_at_parts}
+use Rattle.zarrs_engine_calls.proofs.Contents.{lawful_at_parts}
 use Rattle.zarrs_engine.proofs.engine.Engine.new.Goals as goal
 
 pub invariant_of-layout-clause-lawful : goal.invariant_of-layout-clause-lawful

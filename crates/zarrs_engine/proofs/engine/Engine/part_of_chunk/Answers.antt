@@ -2,15 +2,15 @@ use Rattle.std.proofs.Common.{◌≡◌, ◌∙◌, ℕ, true, List, [], ◌∷�
 use Rattle.zarrs_subset.specs.Regions.{Box, box_at_origin, box_of}
 use Rattle.zarrs_storage.specs.Store.{StoreState}
 use Rattle.zarrs_data_type.specs.ArrayData.{data_of}
-use Rattle.zarrs_parts.proofs.Kept.{err_kept}
-use Rattle.zarrs_parts.specs.Parts.{DecodesPart}
-use Rattle.zarrs_source.specs.Stored.{key_of_source, state_of_source, value_or_empty}
-use Rattle.zarrs_calls.specs.Content.{decoded_cells}
-use Rattle.zarrs_calls.specs.Refusals.{is_too_large, refusal_of}
-use Rattle.zarrs_calls.specs.StateRefusals.{RefusesSomeChunk}
+use Rattle.zarrs_codec_chain.proofs.Kept.{err_kept}
+use Rattle.zarrs_codec_chain.specs.Parts.{DecodesPart}
+use Rattle.zarrs_codec_leaf.specs.Stored.{key_of_source, state_of_source, value_or_empty}
+use Rattle.zarrs_engine_calls.specs.Content.{decoded_cells}
+use Rattle.zarrs_engine_calls.specs.Refusals.{is_too_large, refusal_of}
+use Rattle.zarrs_engine_calls.specs.StateRefusals.{RefusesSomeChunk}
 use Rattle.zarrs_chunk_grid.specs.Grids.{box_at}
-use Rattle.zarrs_array_layout.specs.Steps.{RefusesPartBytes}
-use Rattle.zarrs_calls.proofs.Contents.{index_list}
+use Rattle.zarrs_engine_layout.specs.Steps.{RefusesPartBytes}
+use Rattle.zarrs_engine_calls.proofs.Contents.{index_list}
 use Rattle.zarrs_engine.specs.Engine.{layout_of}
 use Rattle.zarrs_engine.proofs.PartBytes.{none_of, part_why, size_why, source_value}
 use Rattle.zarrs_engine.proofs.engine.Engine.part_of_chunk.Goals as goal

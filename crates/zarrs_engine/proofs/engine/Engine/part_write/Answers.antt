@@ -1,13 +1,13 @@
 use Rattle.std.proofs.Common.{◌≡◌, ◌∙◌, ℕ, List, Option, Some, None, rules, ap, subst, sym}
 use Rattle.zarrs_subset.specs.Regions.{Box, box_of}
 use Rattle.zarrs_data_type.specs.ArrayData.{data_of}
-use Rattle.zarrs_chain.specs.Options.{stores_empty_chunks}
-use Rattle.zarrs_calls.specs.Content.{value_at}
-use Rattle.zarrs_calls.specs.declared.error.ArrayError.{ArrayError}
-use Rattle.zarrs_calls.specs.Refusals.{Refusal, RefusesBy, length_refusal, refusal_of}
-use Rattle.zarrs_calls.specs.Patches.{IsNotEncoded, RefusesPartly}
-use Rattle.zarrs_calls.proofs.RefusalLemmas.{second_refusal}
-use Rattle.zarrs_array_layout.proofs.Chunks.{right_length}
+use Rattle.zarrs_codec_chain.specs.Options.{stores_empty_chunks}
+use Rattle.zarrs_engine_calls.specs.Content.{value_at}
+use Rattle.zarrs_engine_calls.specs.declared.error.ArrayError.{ArrayError}
+use Rattle.zarrs_engine_calls.specs.Refusals.{Refusal, RefusesBy, length_refusal, refusal_of}
+use Rattle.zarrs_engine_calls.specs.Patches.{IsNotEncoded, RefusesPartly}
+use Rattle.zarrs_engine_calls.proofs.RefusalLemmas.{second_refusal}
+use Rattle.zarrs_engine_layout.proofs.Chunks.{right_length}
 use Rattle.zarrs_engine.specs.Engine.{layout_of}
 use Rattle.zarrs_engine.proofs.PatchRefusals.{encoded_partly, key_partly}
 use Rattle.zarrs_engine.proofs.Puts.{each_error}

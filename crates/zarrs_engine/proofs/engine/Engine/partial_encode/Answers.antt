@@ -4,17 +4,17 @@ use Rattle.zarrs_subset.specs.Regions.{box_of}
 use Rattle.zarrs_chunk_grid.specs.Grids.{box_at}
 use Rattle.zarrs_chunk_grid.proofs.Chunks.{box_is_there}
 use Rattle.zarrs_data_type.specs.ArrayData.{data_of}
-use Rattle.zarrs_chain.specs.Options.{stores_empty_chunks}
-use Rattle.zarrs_calls.specs.ChunkBoxes.{part_box}
-use Rattle.zarrs_calls.specs.Patches.{RefusesPatchPart}
-use Rattle.zarrs_calls.specs.Reach.{MayAskChunk}
-use Rattle.zarrs_calls.specs.declared.error.ArrayError.{ArrayError}
-use Rattle.zarrs_calls.specs.Refusals.{Refusal, RefusesBy, length_refusal, refusal_of}
-use Rattle.zarrs_calls.specs.Step.{RefusesStorePart, StoresPart}
-use Rattle.zarrs_calls.proofs.Contents.{only_member}
-use Rattle.zarrs_calls.proofs.RefusalLemmas.{refuses_said, second_refusal}
-use Rattle.zarrs_array_layout.proofs.Chunks.{right_length}
-use Rattle.zarrs_array_layout.proofs.ChunkParts.{part_lies}
+use Rattle.zarrs_codec_chain.specs.Options.{stores_empty_chunks}
+use Rattle.zarrs_engine_calls.specs.ChunkBoxes.{part_box}
+use Rattle.zarrs_engine_calls.specs.Patches.{RefusesPatchPart}
+use Rattle.zarrs_engine_calls.specs.Reach.{MayAskChunk}
+use Rattle.zarrs_engine_calls.specs.declared.error.ArrayError.{ArrayError}
+use Rattle.zarrs_engine_calls.specs.Refusals.{Refusal, RefusesBy, length_refusal, refusal_of}
+use Rattle.zarrs_engine_calls.specs.Step.{RefusesStorePart, StoresPart}
+use Rattle.zarrs_engine_calls.proofs.Contents.{only_member}
+use Rattle.zarrs_engine_calls.proofs.RefusalLemmas.{refuses_said, second_refusal}
+use Rattle.zarrs_engine_layout.proofs.Chunks.{right_length}
+use Rattle.zarrs_engine_layout.proofs.ChunkParts.{part_lies}
 use Rattle.zarrs_engine.specs.Engine.{layout_of}
 use Rattle.zarrs_engine.specs.Patches.{LeavesPatch}
 use Rattle.zarrs_engine.specs.RegionWrites.{LeavesPart}

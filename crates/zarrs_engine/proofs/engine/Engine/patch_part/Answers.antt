@@ -2,19 +2,18 @@ use Rattle.std.proofs.Common.{◌≡◌, ◌∙◌, length, rules, slice_index, 
 use Rattle.std.specs.Prelude.{SomeIndex}
 use Rattle.std.proofs.lemmas.Bool.{false≢true}
 use Rattle.std.proofs.lemmas.Result.{on_ok_weaker}
-use Rattle.zarrs_subset.specs.Regions.{Box, LiesInShape, box_of, seen_from}
+use Rattle.zarrs_subset.specs.Regions.{Box, LiesInShape, box_of, seen_from, LiesInBox}
 use Rattle.zarrs_subset.specs.Refusals.{RefusesOffset}
 use Rattle.zarrs_chunk_grid.proofs.Chunks.{box_dimensions}
 use Rattle.zarrs_data_type.specs.ArrayData.{data_of}
-use Rattle.zarrs_array_bytes.specs.StringParts.{LiesInBox}
-use Rattle.zarrs_chain.specs.Options.{stores_empty_chunks}
-use Rattle.zarrs_calls.specs.Errors.{error_of_subset}
-use Rattle.zarrs_calls.specs.Refusals.{refusal_of}
-use Rattle.zarrs_calls.specs.StateRefusals.{IsPart}
-use Rattle.zarrs_calls.specs.declared.error.ArrayError.{ArrayError}
-use Rattle.zarrs_calls.proofs.Contents.{member}
-use Rattle.zarrs_array_layout.proofs.ChunkParts.{chunk_accepted}
-use Rattle.zarrs_array_layout.proofs.OneChunk.{covers_lies}
+use Rattle.zarrs_codec_chain.specs.Options.{stores_empty_chunks}
+use Rattle.zarrs_engine_calls.specs.Errors.{error_of_subset}
+use Rattle.zarrs_engine_calls.specs.Refusals.{refusal_of}
+use Rattle.zarrs_engine_calls.specs.StateRefusals.{IsPart}
+use Rattle.zarrs_engine_calls.specs.declared.error.ArrayError.{ArrayError}
+use Rattle.zarrs_engine_calls.proofs.Contents.{member}
+use Rattle.zarrs_engine_layout.proofs.ChunkParts.{chunk_accepted}
+use Rattle.zarrs_engine_layout.proofs.OneChunk.{covers_lies}
 use Rattle.zarrs_engine.specs.Engine.{layout_of}
 use Rattle.zarrs_engine.specs.Patches.{LeavesPatch}
 use Rattle.zarrs_engine.proofs.Cuts.{err_kept}

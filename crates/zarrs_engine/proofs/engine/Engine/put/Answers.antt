@@ -1,14 +1,12 @@
 use Rattle.std.proofs.Common.{subst, List, ℕ}
 use Rattle.std.proofs.lemmas.Result.{on_ok_weaker}
 use Rattle.std.specs.FinMap as map
-use Rattle.zarrs_storage.specs.Store.{Accepts}
-use Rattle.zarrs_engine.proofs.Puts.{put_set, put_erase}
+use Rattle.zarrs_storage.specs.Store.{Accepts, Refuses}
+use Rattle.zarrs_engine.proofs.Puts.{put_set, put_erase, put_short, put_refused, any_error}
 use Rattle.std.proofs.Common.{rules}
 use Rattle.zarrs_storage.specs.declared.error.StorageError.{StorageError}
-use Rattle.zarrs_storage.specs.Store.{Refuses}
-use Rattle.zarrs_calls.specs.Refusals.{refusal_of_storage}
-use Rattle.zarrs_array_layout.specs.Steps.{RefusesPut}
-use Rattle.zarrs_engine.proofs.Puts.{put_short, put_refused, any_error}
+use Rattle.zarrs_engine_calls.specs.Refusals.{refusal_of_storage}
+use Rattle.zarrs_engine_layout.specs.Steps.{RefusesPut}
 use Rattle.zarrs_engine.proofs.engine.Engine.put.Goals as goal
 
 pub returns-in_ok-value-in-Some-clause-done : goal.returns-in_ok-value-in-Some-clause-done

@@ -1,6 +1,6 @@
 use Rattle.std.proofs.Common.{option_map, rules, subst, sym}
-use Rattle.zarrs_calls.specs.Refusals.{Refusal, refusal_of_storage}
-use Rattle.zarrs_calls.proofs.RefusalLemmas.{storage_said}
+use Rattle.zarrs_engine_calls.specs.Refusals.{Refusal, refusal_of_storage}
+use Rattle.zarrs_engine_calls.proofs.RefusalLemmas.{storage_said}
 use Rattle.zarrs_engine.specs.Engine.{layout_of}
 use Rattle.zarrs_engine.specs.RegionWrites.{LeavesPart}
 use Rattle.zarrs_engine.proofs.RegionFronts.{leaves_memory, put_leaves, puts_part}

@@ -2,10 +2,10 @@ use Rattle.std.proofs.Common.{◌≡◌, ◌∙◌, ◌+◌, Some, slice_get, le
 use Rattle.std.proofs.lemmas.Option.{slice_get_within}
 use Rattle.zarrs_subset.specs.Regions.{Box, box_of, positions}
 use Rattle.zarrs_subset.specs.Walks.{walk_number}
-use Rattle.zarrs_region_cells.specs.RegionData.{region_data}
+use Rattle.zarrs_data_type.specs.RegionData.{region_data}
 use Rattle.zarrs_engine.specs.Engine.{layout_of}
-use Rattle.zarrs_calls.specs.Refusals.{refusal_of}
-use Rattle.zarrs_array_layout.proofs.RegionRefusals.{some_wider}
+use Rattle.zarrs_engine_calls.specs.Refusals.{refusal_of}
+use Rattle.zarrs_engine_layout.proofs.RegionRefusals.{some_wider}
 use Rattle.zarrs_engine.proofs.RegionSteps.{at_among, read_cells, read_last, read_more, read_next}
 use Rattle.zarrs_engine.proofs.engine.Engine.read_along.Goals as goal
 

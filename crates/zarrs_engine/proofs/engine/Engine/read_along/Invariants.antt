@@ -1,7 +1,7 @@
 use Rattle.std.proofs.Common.{◌≡◌, ◌-◌, take, length}
 use Rattle.zarrs_subset.specs.Regions.{box_of, positions}
 use Rattle.zarrs_subset.specs.Walks.{walk_box, walk_number}
-use Rattle.zarrs_region_cells.specs.RegionData.{region_data}
+use Rattle.zarrs_data_type.specs.RegionData.{region_data}
 use Rattle.zarrs_engine.specs.Engine.{layout_of, store_of}
 use Rattle.zarrs_engine.specs.RegionReads.{HasRead}
 use Rattle.zarrs_engine.proofs.engine.Engine.read_along.Given as goal

@@ -1,24 +1,23 @@
 use Rattle.std.proofs.Common.{◌∙◌, length, ap, sym, subst, rules}
 use Rattle.std.proofs.lemmas.Result.{on_ok_weaker}
 use Rattle.zarrs_subset.specs.Boxes.{position_count}
-use Rattle.zarrs_subset.specs.Regions.{Box, box_of}
-use Rattle.zarrs_byte_strings.specs.StringParts.{LiesInBox}
+use Rattle.zarrs_subset.specs.Regions.{Box, box_of, LiesInBox}
 use Rattle.zarrs_chunk_grid.specs.Grids.{box_at}
 use Rattle.zarrs_chunk_grid.proofs.Chunks.{box_dimensions}
-use Rattle.zarrs_target.specs.States.{data_of_target, parent_box, target_box}
-use Rattle.zarrs_target.proofs.Boxes.{lies_at_origin, origin_long}
-use Rattle.zarrs_target.proofs.Levels.{masked_keeps}
-use Rattle.zarrs_target.proofs.TypeSizes.{type_taken}
-use Rattle.zarrs_parts.proofs.Stays.{keeps_more}
-use Rattle.zarrs_calls.specs.ChunkBoxes.{CoversBox}
-use Rattle.zarrs_calls.specs.Reads.{IsBroken}
-use Rattle.zarrs_calls.specs.Refusals.{refusal_of}
-use Rattle.zarrs_array_layout.specs.Shared.{AreApart, AreShared}
+use Rattle.zarrs_data_type.specs.States.{data_of_target, parent_box, target_box}
+use Rattle.zarrs_data_type_region.proofs.TargetBoxes.{lies_at_origin, origin_long}
+use Rattle.zarrs_data_type_region.proofs.TargetLevels.{masked_keeps}
+use Rattle.zarrs_data_type_region.proofs.TypeSizes.{type_taken}
+use Rattle.zarrs_codec_chain.proofs.Stays.{keeps_more}
+use Rattle.zarrs_engine_calls.specs.ChunkBoxes.{CoversBox}
+use Rattle.zarrs_engine_calls.specs.Reads.{IsBroken}
+use Rattle.zarrs_engine_calls.specs.Refusals.{refusal_of}
+use Rattle.zarrs_engine_layout.specs.Shared.{AreApart, AreShared}
 use Rattle.zarrs_engine.specs.Engine.{layout_of}
 use Rattle.zarrs_engine.specs.TargetReads.{HasPositions}
 use Rattle.zarrs_engine.proofs.TargetReads.{into_apart, into_more}
 use Rattle.zarrs_engine.proofs.IntoReads.{on_ok_both, same_data, same_keeps, same_parent, same_positions, same_takes}
-use Rattle.zarrs_parts.proofs.MovedBoxes.{moved_box, moved_lies, moved_outside}
+use Rattle.zarrs_codec_chain.proofs.MovedBoxes.{moved_box, moved_lies, moved_outside}
 use Rattle.zarrs_engine.proofs.PartBytes.{box_why}
 use Rattle.zarrs_engine.proofs.engine.Engine.read_chunk_into.Goals as goal
 

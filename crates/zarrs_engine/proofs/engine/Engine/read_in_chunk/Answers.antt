@@ -2,17 +2,17 @@ use Rattle.std.proofs.Common.{◌<◌, ◌≤◌, ◌∙◌, ℕ, true, List, []
 use Rattle.std.proofs.lemmas.Bool.{false≢true}
 use Rattle.std.proofs.lemmas.Result.{IfOk-weaker}
 use Rattle.zarrs_subset.specs.Regions.{Box, Holds, LiesInShape, box_of, seen_from}
-use Rattle.zarrs_array_bytes.specs.declared.array_bytes.ArrayBytes.{ArrayBytes}
+use Rattle.zarrs_data_type_bytes.specs.declared.array_bytes.ArrayBytes.{ArrayBytes}
 use Rattle.zarrs_chunk_grid.specs.Grids.{box_at}
 use Rattle.zarrs_chunk_grid.proofs.Chunks.{box_long}
 use Rattle.zarrs_data_type.specs.ArrayData.{data_of}
-use Rattle.zarrs_calls.specs.declared.error.ArrayError.{ArrayError}
-use Rattle.zarrs_calls.specs.ArgumentRefusals.{size_refusal}
-use Rattle.zarrs_calls.specs.Changes.{RetrievesChunk}
-use Rattle.zarrs_calls.specs.Reads.{ReadsRegion}
-use Rattle.zarrs_calls.specs.Refusals.{length_refusal, refusal_of}
-use Rattle.zarrs_calls.specs.StateRefusals.{RefusesChunkRead, RefusesRegionRead, RefusesSomeChunk}
-use Rattle.zarrs_array_layout.proofs.OneChunk.{region_lies}
+use Rattle.zarrs_engine_calls.specs.declared.error.ArrayError.{ArrayError}
+use Rattle.zarrs_engine_calls.specs.ArgumentRefusals.{size_refusal}
+use Rattle.zarrs_engine_calls.specs.Changes.{RetrievesChunk}
+use Rattle.zarrs_engine_calls.specs.Reads.{ReadsRegion}
+use Rattle.zarrs_engine_calls.specs.Refusals.{length_refusal, refusal_of}
+use Rattle.zarrs_engine_calls.specs.StateRefusals.{RefusesChunkRead, RefusesRegionRead, RefusesSomeChunk}
+use Rattle.zarrs_engine_layout.proofs.OneChunk.{region_lies}
 use Rattle.zarrs_engine.specs.Engine.{layout_of}
 use Rattle.zarrs_engine.specs.RegionReads.{HasRead, IsRegionOf}
 use Rattle.zarrs_engine.proofs.OneChunkReads.{chunk_read, chunk_refused, has, only_part}

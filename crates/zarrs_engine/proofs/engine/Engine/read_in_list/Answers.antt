@@ -4,16 +4,16 @@ use Rattle.std.proofs.lemmas.List.{length-replicate}
 use Rattle.std.proofs.lemmas.List.{with_items_is}
 use Rattle.zarrs_subset.specs.Boxes.{position_count}
 use Rattle.zarrs_subset.specs.Regions.{box_of, positions}
-use Rattle.zarrs_types.proofs.Sizes.{element_size-positive}
+use Rattle.zarrs_data_type_kinds.proofs.Sizes.{element_size-positive}
 use Rattle.zarrs_data_type.specs.ArrayData.{ArrayData, data_of}
 use Rattle.zarrs_data_type.specs.Kind.{cell_size}
-use Rattle.zarrs_target.specs.Targets.{masked}
-use Rattle.zarrs_target.proofs.TypeSizes.{type_taken}
-use Rattle.zarrs_calls.specs.Reads.{ReadsRegion}
+use Rattle.zarrs_data_type.specs.Targets.{masked}
+use Rattle.zarrs_data_type_region.proofs.TypeSizes.{type_taken}
+use Rattle.zarrs_engine_calls.specs.Reads.{ReadsRegion}
 use Rattle.zarrs_engine.specs.Engine.{layout_of}
 use Rattle.zarrs_engine.proofs.RegionLists.{AreFlags, lists_read}
 use Rattle.zarrs_engine.proofs.engine.Engine.read_in_list.Goals as goal
-use Rattle.zarrs_array_bytes.proofs.FixedSizes.{size_is}
+use Rattle.zarrs_data_type_bytes.proofs.FixedSizes.{size_is}
 
 pub overflow_mul-count : goal.overflow_mul-count
 overflow_mul-count g c =

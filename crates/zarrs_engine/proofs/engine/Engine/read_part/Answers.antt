@@ -2,14 +2,14 @@ use Rattle.std.proofs.Common.{◌≡◌, Some, None, [], ◌∷◌, replicate, r
 use Rattle.std.proofs.lemmas.Result.{IfOk-weaker}
 use Rattle.zarrs_subset.specs.Boxes.{position_count}
 use Rattle.zarrs_subset.specs.Regions.{Box, box_of}
-use Rattle.zarrs_array_bytes.specs.declared.array_bytes.ArrayBytes.{ArrayBytes}
+use Rattle.zarrs_data_type_bytes.specs.declared.array_bytes.ArrayBytes.{ArrayBytes}
 use Rattle.zarrs_data_type.specs.ArrayData.{data_of}
 use Rattle.zarrs_data_type.specs.Cells.{cells}
-use Rattle.zarrs_calls.specs.declared.error.ArrayError.{ArrayError}
-use Rattle.zarrs_array_layout.specs.Steps.{filled_refusal}
-use Rattle.zarrs_calls.specs.Content.{value_at}
-use Rattle.zarrs_calls.specs.Refusals.{RefusesBy, refusal_of}
-use Rattle.zarrs_calls.specs.StateRefusals.{RefusesSomeChunk}
+use Rattle.zarrs_engine_calls.specs.declared.error.ArrayError.{ArrayError}
+use Rattle.zarrs_engine_layout.specs.Steps.{filled_refusal}
+use Rattle.zarrs_engine_calls.specs.Content.{value_at}
+use Rattle.zarrs_engine_calls.specs.Refusals.{RefusesBy, refusal_of}
+use Rattle.zarrs_engine_calls.specs.StateRefusals.{RefusesSomeChunk}
 use Rattle.zarrs_engine.specs.Engine.{layout_of}
 use Rattle.zarrs_engine.specs.RegionReads.{DecodesStored, HasRead, IsRegionOf}
 use Rattle.zarrs_engine.proofs.PartReads.{absent_filled, empty_filled, filled_read, filled_refused, region_absent, region_decoded, region_empty}

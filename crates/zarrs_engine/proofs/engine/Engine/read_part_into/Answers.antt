@@ -3,18 +3,18 @@ use Rattle.std.proofs.lemmas.Result.{IfErr-weaker, on_ok_weaker}
 use Rattle.zarrs_subset.specs.Boxes.{position_count}
 use Rattle.zarrs_subset.specs.Regions.{Box, Holds, box_of}
 use Rattle.zarrs_storage.specs.Store.{StoreState}
-use Rattle.zarrs_byte_strings.proofs.Inside.{holds_inside}
-use Rattle.zarrs_target.specs.States.{data_of_target, parent_box, target_box}
-use Rattle.zarrs_target.proofs.Boxes.{lies_at_origin, origin_long}
-use Rattle.zarrs_target.proofs.Levels.{masked_keeps}
-use Rattle.zarrs_parts.specs.Parts.{DecodesPartAt}
-use Rattle.zarrs_source.specs.Stored.{key_of_source, state_of_source, value_or_empty}
-use Rattle.zarrs_calls.specs.Content.{decoded_cells, value_at}
-use Rattle.zarrs_calls.specs.Errors.{error_of_storage}
-use Rattle.zarrs_calls.specs.Refusals.{is_too_large, refusal_of}
-use Rattle.zarrs_calls.specs.StateRefusals.{RefusesSomeChunk}
-use Rattle.zarrs_calls.proofs.Contents.{absent_fill, index_list}
-use Rattle.zarrs_array_layout.specs.Shared.{AreShared}
+use Rattle.zarrs_subset.proofs.Inside.{holds_inside}
+use Rattle.zarrs_data_type.specs.States.{data_of_target, parent_box, target_box}
+use Rattle.zarrs_data_type_region.proofs.TargetBoxes.{lies_at_origin, origin_long}
+use Rattle.zarrs_data_type_region.proofs.TargetLevels.{masked_keeps}
+use Rattle.zarrs_codec_chain.specs.Parts.{DecodesPartAt}
+use Rattle.zarrs_codec_leaf.specs.Stored.{key_of_source, state_of_source, value_or_empty}
+use Rattle.zarrs_engine_calls.specs.Content.{decoded_cells, value_at}
+use Rattle.zarrs_engine_calls.specs.Errors.{error_of_storage}
+use Rattle.zarrs_engine_calls.specs.Refusals.{is_too_large, refusal_of}
+use Rattle.zarrs_engine_calls.specs.StateRefusals.{RefusesSomeChunk}
+use Rattle.zarrs_engine_calls.proofs.Contents.{absent_fill, index_list}
+use Rattle.zarrs_engine_layout.specs.Shared.{AreShared}
 use Rattle.zarrs_engine.specs.Engine.{layout_of}
 use Rattle.zarrs_engine.proofs.PartBytes.{key_why, none_of, part_why, size_why, source_value}
 use Rattle.zarrs_engine.proofs.TargetReads.{filled_positions, part_positions}

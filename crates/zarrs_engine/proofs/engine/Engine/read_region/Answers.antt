@@ -3,19 +3,19 @@ use Rattle.std.proofs.lemmas.List.{length-replicate}
 use Rattle.zarrs_subset.specs.Boxes.{position_count}
 use Rattle.zarrs_subset.specs.Regions.{box_of, positions}
 use Rattle.zarrs_data_type.specs.Cell.{Cell}
-use Rattle.zarrs_array_bytes.specs.declared.array_bytes.ArrayBytes.{ArrayBytes}
+use Rattle.zarrs_data_type_bytes.specs.declared.array_bytes.ArrayBytes.{ArrayBytes}
 use Rattle.zarrs_data_type.specs.ArrayData.{ArrayData, data_of}
-use Rattle.zarrs_region_cells.specs.RegionData.{region_data}
-use Rattle.zarrs_calls.specs.declared.error.ArrayError.{ArrayError}
-use Rattle.zarrs_calls.specs.ArgumentRefusals.{size_refusal}
-use Rattle.zarrs_calls.specs.Reads.{ReadsRegion}
-use Rattle.zarrs_calls.specs.Refusals.{refusal_of}
-use Rattle.zarrs_calls.specs.StateRefusals.{RefusesRegionRead}
+use Rattle.zarrs_data_type.specs.RegionData.{region_data}
+use Rattle.zarrs_engine_calls.specs.declared.error.ArrayError.{ArrayError}
+use Rattle.zarrs_engine_calls.specs.ArgumentRefusals.{size_refusal}
+use Rattle.zarrs_engine_calls.specs.Reads.{ReadsRegion}
+use Rattle.zarrs_engine_calls.specs.Refusals.{refusal_of}
+use Rattle.zarrs_engine_calls.specs.StateRefusals.{RefusesRegionRead}
 use Rattle.zarrs_engine.specs.Engine.{layout_of}
-use Rattle.zarrs_array_layout.specs.Covers.{CoverRegion}
-use Rattle.zarrs_array_layout.proofs.OneChunk.{not_empty, only_position}
-use Rattle.zarrs_calls.specs.Reach.{MayReadParts}
-use Rattle.zarrs_calls.proofs.Contents.{member}
+use Rattle.zarrs_engine_layout.specs.Covers.{CoverRegion}
+use Rattle.zarrs_engine_layout.proofs.OneChunk.{not_empty, only_position}
+use Rattle.zarrs_engine_calls.specs.Reach.{MayReadParts}
+use Rattle.zarrs_engine_calls.proofs.Contents.{member}
 use Rattle.zarrs_engine.proofs.RegionReads.{read_all, read_none}
 use Rattle.zarrs_engine.proofs.engine.Engine.read_region.Goals as goal
 

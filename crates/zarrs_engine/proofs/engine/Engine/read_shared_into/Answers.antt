@@ -1,16 +1,15 @@
 use Rattle.std.proofs.Common.{◌≡◌, ◌∙◌, OnOk, length, ap, sym, subst}
 use Rattle.std.proofs.lemmas.Bool.{false≢true}
 use Rattle.std.proofs.lemmas.Result.{on_ok_weaker}
-use Rattle.zarrs_subset.specs.Regions.{Box, box_of, seen_from}
-use Rattle.zarrs_byte_strings.specs.StringParts.{LiesInBox}
+use Rattle.zarrs_subset.specs.Regions.{Box, box_of, seen_from, LiesInBox}
 use Rattle.zarrs_chunk_grid.specs.Grids.{box_at}
 use Rattle.zarrs_chunk_grid.proofs.Chunks.{box_dimensions, box_long}
-use Rattle.zarrs_target.specs.States.{data_of_target, parent_box, target_box}
-use Rattle.zarrs_calls.specs.Reach.{MayDecodePart, chunk_part}
-use Rattle.zarrs_array_layout.proofs.OneChunk.{covers_lies}
+use Rattle.zarrs_data_type.specs.States.{data_of_target, parent_box, target_box}
+use Rattle.zarrs_engine_calls.specs.Reach.{MayDecodePart, chunk_part}
+use Rattle.zarrs_engine_layout.proofs.OneChunk.{covers_lies}
 use Rattle.zarrs_engine.specs.Engine.{layout_of}
 use Rattle.zarrs_engine.specs.TargetReads.{HasPositions}
-use Rattle.zarrs_parts.proofs.MovedBoxes.{overlap_inside}
+use Rattle.zarrs_codec_chain.proofs.MovedBoxes.{overlap_inside}
 use Rattle.zarrs_engine.proofs.PartWrites.{lies_covers}
 use Rattle.zarrs_engine.proofs.engine.Engine.read_shared_into.Goals as goal
 

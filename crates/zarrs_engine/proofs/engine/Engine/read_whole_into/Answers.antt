@@ -3,15 +3,15 @@ use Rattle.zarrs_subset.specs.Boxes.{position_count}
 use Rattle.zarrs_subset.specs.Regions.{box_of}
 use Rattle.zarrs_chunk_grid.specs.Grids.{box_at}
 use Rattle.zarrs_chunk_grid.proofs.Chunks.{box_long}
-use Rattle.zarrs_target.specs.States.{data_of_target, parent_box, target_box}
-use Rattle.zarrs_target.proofs.Boxes.{lies_at_origin, origin_long}
-use Rattle.zarrs_target.proofs.Levels.{masked_keeps}
-use Rattle.zarrs_parts.specs.Parts.{DecodesInto}
-use Rattle.zarrs_parts.specs.Refusals.{RefusesIntoDecoding}
-use Rattle.zarrs_calls.specs.Content.{value_at}
-use Rattle.zarrs_calls.specs.Refusals.{refusal_of}
-use Rattle.zarrs_calls.proofs.Contents.{absent_fill}
-use Rattle.zarrs_array_layout.proofs.RegionRefusals.{some_key}
+use Rattle.zarrs_data_type.specs.States.{data_of_target, parent_box, target_box}
+use Rattle.zarrs_data_type_region.proofs.TargetBoxes.{lies_at_origin, origin_long}
+use Rattle.zarrs_data_type_region.proofs.TargetLevels.{masked_keeps}
+use Rattle.zarrs_codec_chain.specs.Parts.{DecodesInto}
+use Rattle.zarrs_codec_chain.specs.PartRefusals.{RefusesIntoDecoding}
+use Rattle.zarrs_engine_calls.specs.Content.{value_at}
+use Rattle.zarrs_engine_calls.specs.Refusals.{refusal_of}
+use Rattle.zarrs_engine_calls.proofs.Contents.{absent_fill}
+use Rattle.zarrs_engine_layout.proofs.RegionRefusals.{some_key}
 use Rattle.zarrs_engine.specs.Engine.{layout_of}
 use Rattle.zarrs_engine.proofs.TargetReads.{decoded_positions, filled_positions}
 use Rattle.zarrs_engine.proofs.IntoReads.{into_why}

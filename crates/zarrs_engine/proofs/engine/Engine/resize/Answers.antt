@@ -1,14 +1,14 @@
 use Rattle.std.proofs.Common.{◌≡◌, ◌≢◌, ◌∙◌, false, true, is_some, IfSome, Some, None, List, ℕ, length, refl, rules, ap, subst, sym, arith}
-use Rattle.zarrs_chain.specs.Options.{stores_empty_chunks}
-use Rattle.zarrs_calls.specs.Cuts.{cut_chunks}
+use Rattle.zarrs_codec_chain.specs.Options.{stores_empty_chunks}
+use Rattle.zarrs_engine_calls.specs.Cuts.{cut_chunks}
 use Rattle.zarrs_chunk_grid.specs.Grids.{Grid}
-use Rattle.zarrs_calls.specs.ArgumentRefusals.{resize_refusal}
-use Rattle.zarrs_calls.specs.Fronts.{CutsAll}
-use Rattle.zarrs_calls.specs.Reach.{MayAskKept}
-use Rattle.zarrs_calls.specs.Refusals.{RefusesBy, dimensionality, refusal_of}
+use Rattle.zarrs_engine_calls.specs.ArgumentRefusals.{resize_refusal}
+use Rattle.zarrs_engine_calls.specs.Fronts.{CutsAll}
+use Rattle.zarrs_engine_calls.specs.Reach.{MayAskKept}
+use Rattle.zarrs_engine_calls.specs.Refusals.{RefusesBy, dimensionality, refusal_of}
 use Rattle.zarrs_engine.specs.Engine.{layout_of}
 use Rattle.zarrs_engine.specs.Resizes.{HasCut, LeavesFront}
-use Rattle.zarrs_calls.specs.Step.{ResizesArray}
+use Rattle.zarrs_engine_calls.specs.Step.{ResizesArray}
 use Rattle.zarrs_engine.proofs.Canon.{cut_canon, cut_refused_canon}
 use Rattle.zarrs_engine.proofs.Cuts.{keeps_others, layout_same, others_given, resize_early, resize_length, resize_memory, resize_none, resize_unsupported, resized_all}
 use Rattle.zarrs_engine.proofs.engine.Engine.resize.Goals as goal

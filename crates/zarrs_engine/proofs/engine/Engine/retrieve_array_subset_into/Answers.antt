@@ -4,14 +4,14 @@ use Rattle.std.proofs.lemmas.Bool.{false≢true}
 use Rattle.std.proofs.lemmas.Result.{on_ok_weaker}
 use Rattle.zarrs_subset.specs.Boxes.{position_count}
 use Rattle.zarrs_subset.specs.Regions.{Box, box_of, positions}
-use Rattle.zarrs_types.proofs.Sizes.{element_size-positive}
-use Rattle.zarrs_target.specs.States.{data_of_target, parent_box, target_box}
-use Rattle.zarrs_target.proofs.Levels.{masked_keeps}
-use Rattle.zarrs_calls.specs.declared.error.ArrayError.{ArrayError}
-use Rattle.zarrs_calls.specs.Reach.{MayReadParts}
-use Rattle.zarrs_calls.specs.Refusals.{Refusal, RefusesBy, refusal_of}
-use Rattle.zarrs_calls.specs.StateRefusals.{RefusesSomeChunk}
-use Rattle.zarrs_array_layout.specs.Covers.{CoverRegion}
+use Rattle.zarrs_data_type_kinds.proofs.Sizes.{element_size-positive}
+use Rattle.zarrs_data_type.specs.States.{data_of_target, parent_box, target_box}
+use Rattle.zarrs_data_type_region.proofs.TargetLevels.{masked_keeps}
+use Rattle.zarrs_engine_calls.specs.declared.error.ArrayError.{ArrayError}
+use Rattle.zarrs_engine_calls.specs.Reach.{MayReadParts}
+use Rattle.zarrs_engine_calls.specs.Refusals.{Refusal, RefusesBy, refusal_of}
+use Rattle.zarrs_engine_calls.specs.StateRefusals.{RefusesSomeChunk}
+use Rattle.zarrs_engine_layout.specs.Covers.{CoverRegion}
 use Rattle.zarrs_engine.specs.Engine.{layout_of}
 use Rattle.zarrs_engine.specs.TargetReads.{HasReadInto}
 use Rattle.zarrs_engine.specs.Into.{RefusesRetrieveInto, target_refusal}

@@ -1,8 +1,8 @@
 use Rattle.std.proofs.Common.{Option, subst, rules}
-use Rattle.zarrs_calls.specs.Refusals.{Refusal, RefusesBy, refusal_of, key_refusal}
-use Rattle.zarrs_calls.proofs.RefusalLemmas.{second_refusal}
+use Rattle.zarrs_engine_calls.specs.Refusals.{Refusal, RefusesBy, refusal_of, key_refusal}
+use Rattle.zarrs_engine_calls.proofs.RefusalLemmas.{second_refusal}
 use Rattle.zarrs_engine.specs.Engine.{layout_of}
-use Rattle.zarrs_array_layout.proofs.Chunks.{right_length}
+use Rattle.zarrs_engine_layout.proofs.Chunks.{right_length}
 use Rattle.zarrs_engine.proofs.engine.Engine.retrieve_encoded_chunk.Goals as goal
 
 pub returns-in_err-encoded-clause-refused : goal.returns-in_err-encoded-clause-refused

@@ -3,7 +3,7 @@ use Rattle.std.proofs.lemmas.Option.{slice_get_within}
 use Rattle.zarrs_subset.specs.Regions.{Box, box_of, positions}
 use Rattle.zarrs_subset.specs.Walks.{walk_number}
 use Rattle.zarrs_subset.proofs.Positions.{length-positions}
-use Rattle.zarrs_calls.specs.Refusals.{refusal_of}
+use Rattle.zarrs_engine_calls.specs.Refusals.{refusal_of}
 use Rattle.zarrs_engine.specs.Engine.{layout_of}
 use Rattle.zarrs_engine.proofs.Encoded.{on_error, values_more, values_all, value_refused}
 use Rattle.zarrs_engine.proofs.Ranges.{range_length}

@@ -4,11 +4,11 @@ use Rattle.zarrs_subset.specs.Regions.{Box, box_of, positions}
 use Rattle.zarrs_subset.specs.Walks.{walk_number}
 use Rattle.zarrs_chunk_grid.specs.Grids.{has_box}
 use Rattle.zarrs_data_type.specs.ArrayData.{data_of}
-use Rattle.zarrs_chain.specs.Options.{stores_empty_chunks}
-use Rattle.zarrs_calls.specs.Reach.{MayAskParts}
-use Rattle.zarrs_calls.specs.Refusals.{refusal_of}
+use Rattle.zarrs_codec_chain.specs.Options.{stores_empty_chunks}
+use Rattle.zarrs_engine_calls.specs.Reach.{MayAskParts}
+use Rattle.zarrs_engine_calls.specs.Refusals.{refusal_of}
 use Rattle.zarrs_engine.specs.Engine.{layout_of}
-use Rattle.zarrs_array_layout.specs.Layouts.{layout_meaning}
+use Rattle.zarrs_engine_layout.specs.Layouts.{layout_meaning}
 use Rattle.zarrs_engine.specs.RegionWrites.{HasStored, LeavesPart, StoresOneMore}
 use Rattle.zarrs_engine.proofs.RegionFronts.{stored_all, stored_ask, stored_fails, stored_more, stored_short}
 use Rattle.zarrs_engine.proofs.RegionSteps.{at_among}

@@ -2,7 +2,7 @@ use Rattle.std.proofs.Common.{◌≡◌, ◌-◌, length}
 use Rattle.zarrs_subset.specs.Regions.{box_of, positions}
 use Rattle.zarrs_subset.specs.Walks.{walk_box, walk_number}
 use Rattle.zarrs_data_type.specs.ArrayData.{data_of}
-use Rattle.zarrs_chain.specs.Options.{stores_empty_chunks}
+use Rattle.zarrs_codec_chain.specs.Options.{stores_empty_chunks}
 use Rattle.zarrs_engine.specs.Engine.{layout_of, store_of}
 use Rattle.zarrs_engine.specs.RegionWrites.{HasStored}
 use Rattle.zarrs_engine.proofs.engine.Engine.store_along.Given as goal

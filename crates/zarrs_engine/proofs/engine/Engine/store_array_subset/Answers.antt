@@ -2,19 +2,19 @@ use Rattle.std.proofs.Common.{◌≡◌, ◌∙◌, ◌&&◌, true, false, IfErr
 use Rattle.std.proofs.lemmas.Result.{on_ok_weaker}
 use Rattle.zarrs_subset.specs.Regions.{Box, box_of, positions}
 use Rattle.zarrs_data_type.specs.ArrayData.{data_of}
-use Rattle.zarrs_chain.specs.Options.{stores_empty_chunks}
-use Rattle.zarrs_calls.specs.Reach.{MayAskParts}
+use Rattle.zarrs_codec_chain.specs.Options.{stores_empty_chunks}
+use Rattle.zarrs_engine_calls.specs.Reach.{MayAskParts}
 use Rattle.zarrs_chunk_grid.specs.Grids.{met}
-use Rattle.zarrs_calls.specs.ChunkBoxes.{chunks_met}
-use Rattle.zarrs_calls.specs.ArgumentRefusals.{box_data_refusal, region_refusal, store_region_refusal}
-use Rattle.zarrs_calls.specs.Fronts.{StoresAll}
-use Rattle.zarrs_calls.specs.Patches.{PatchesAll, RefusesPatches, RefusesPatchRegion}
-use Rattle.zarrs_calls.specs.Step.{RefusesStore, RefusesStoreRegion, StoresRegion}
-use Rattle.zarrs_calls.specs.declared.error.ArrayError.{ArrayError}
+use Rattle.zarrs_engine_calls.specs.ChunkBoxes.{chunks_met}
+use Rattle.zarrs_engine_calls.specs.ArgumentRefusals.{box_data_refusal, region_refusal, store_region_refusal}
+use Rattle.zarrs_engine_calls.specs.Fronts.{StoresAll}
+use Rattle.zarrs_engine_calls.specs.Patches.{PatchesAll, RefusesPatches, RefusesPatchRegion}
+use Rattle.zarrs_engine_calls.specs.Step.{RefusesStore, RefusesStoreRegion, StoresRegion}
+use Rattle.zarrs_engine_calls.specs.declared.error.ArrayError.{ArrayError}
 use Rattle.zarrs_engine.proofs.Canon.{store_canon}
 use Rattle.zarrs_engine.proofs.Puts.{each_error}
-use Rattle.zarrs_calls.specs.Refusals.{refusal_of}
-use Rattle.zarrs_calls.proofs.RefusalLemmas.{refuses_said, second_refusal}
+use Rattle.zarrs_engine_calls.specs.Refusals.{refusal_of}
+use Rattle.zarrs_engine_calls.proofs.RefusalLemmas.{refuses_said, second_refusal}
 use Rattle.zarrs_engine.specs.Engine.{layout_of}
 use Rattle.zarrs_engine.proofs.PatchedRegions.{region_patched, region_refuses}
 use Rattle.zarrs_engine.proofs.RegionArguments.{no_refusal, region_first, region_second}

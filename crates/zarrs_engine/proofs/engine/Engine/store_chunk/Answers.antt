@@ -1,21 +1,19 @@
 use Rattle.std.proofs.Common.{rules, subst, option_map, inl, inr}
 use Rattle.zarrs_data_type.specs.ArrayData.{data_of}
 use Rattle.zarrs_data_type.specs.Cells.{cells}
-use Rattle.zarrs_chain.specs.Options.{stores_empty_chunks}
-use Rattle.zarrs_calls.specs.Refusals.{box_refusal, refusal_of, data_refusal}
+use Rattle.zarrs_codec_chain.specs.Options.{stores_empty_chunks}
+use Rattle.zarrs_engine_calls.specs.Refusals.{box_refusal, refusal_of, data_refusal, Refusal, refusal_of_storage}
 use Rattle.zarrs_engine.specs.Engine.{layout_of}
-use Rattle.zarrs_array_layout.specs.Steps.{HasValue}
-use Rattle.zarrs_array_layout.proofs.Chunks.{refused_either}
-use Rattle.zarrs_engine.proofs.Writes.{box_refused, data_refused, stored_chunk}
+use Rattle.zarrs_engine_layout.specs.Steps.{HasValue}
+use Rattle.zarrs_engine_layout.proofs.Chunks.{refused_either}
+use Rattle.zarrs_engine.proofs.Writes.{box_refused, data_refused, stored_chunk, short_of_memory, store_failed}
 use Rattle.std.proofs.Common.{◌≡◌, None, Option, List, [], ◌∷◌, sym}
 use Rattle.zarrs_chunk_grid.specs.Grids.{box_at}
 use Rattle.zarrs_data_type.specs.Cell.{Cell}
-use Rattle.zarrs_calls.specs.Refusals.{Refusal, refusal_of_storage}
-use Rattle.zarrs_calls.specs.ArgumentRefusals.{store_chunk_refusal}
-use Rattle.zarrs_calls.specs.Step.{RefusesStoreChunk}
-use Rattle.zarrs_calls.proofs.RefusalLemmas.{storage_said}
+use Rattle.zarrs_engine_calls.specs.ArgumentRefusals.{store_chunk_refusal}
+use Rattle.zarrs_engine_calls.specs.Step.{RefusesStoreChunk}
+use Rattle.zarrs_engine_calls.proofs.RefusalLemmas.{storage_said}
 use Rattle.zarrs_engine.proofs.Canon.{store_refused_canon, stored_canon}
-use Rattle.zarrs_engine.proofs.Writes.{short_of_memory, store_failed}
 use Rattle.zarrs_engine.proofs.engine.Engine.store_chunk.Goals as goal
 
 pub returns-in_err-value : goal.returns-in_err-value

@@ -1,24 +1,23 @@
 use Rattle.std.proofs.Common.{◌≡◌, ◌∙◌, ◌&&◌, true, false, IfErr, [], ◌∷◌, OnOk, Some, rules, ap, subst, sym}
 use Rattle.std.proofs.lemmas.Bool.{false≢true}
 use Rattle.std.proofs.lemmas.Result.{on_ok_weaker}
-use Rattle.zarrs_subset.specs.Regions.{Box, box_of}
+use Rattle.zarrs_subset.specs.Regions.{Box, box_of, LiesInBox}
 use Rattle.zarrs_chunk_grid.specs.Grids.{box_at}
-use Rattle.zarrs_array_bytes.specs.StringParts.{LiesInBox}
-use Rattle.zarrs_calls.specs.ArgumentRefusals.{store_part_refusal}
-use Rattle.zarrs_calls.specs.ChunkBoxes.{part_box}
-use Rattle.zarrs_calls.specs.StateRefusals.{IsPart}
-use Rattle.zarrs_calls.proofs.Contents.{member}
-use Rattle.zarrs_array_layout.proofs.ChunkParts.{chunk_has, part_lies}
-use Rattle.zarrs_array_layout.proofs.OneChunk.{covers_lies}
+use Rattle.zarrs_engine_calls.specs.ArgumentRefusals.{store_part_refusal}
+use Rattle.zarrs_engine_calls.specs.ChunkBoxes.{part_box}
+use Rattle.zarrs_engine_calls.specs.StateRefusals.{IsPart}
+use Rattle.zarrs_engine_calls.proofs.Contents.{member}
+use Rattle.zarrs_engine_layout.proofs.ChunkParts.{chunk_has, part_lies}
+use Rattle.zarrs_engine_layout.proofs.OneChunk.{covers_lies}
 use Rattle.zarrs_engine.specs.Patches.{LeavesPatch}
 use Rattle.zarrs_data_type.specs.ArrayData.{data_of}
-use Rattle.zarrs_chain.specs.Options.{stores_empty_chunks}
-use Rattle.zarrs_calls.specs.declared.error.ArrayError.{ArrayError}
-use Rattle.zarrs_calls.specs.Refusals.{dimensionality, refusal_of}
-use Rattle.zarrs_calls.specs.Step.{RefusesStorePart, StoresPart}
-use Rattle.zarrs_calls.specs.Patches.{RefusesPatchPart}
+use Rattle.zarrs_codec_chain.specs.Options.{stores_empty_chunks}
+use Rattle.zarrs_engine_calls.specs.declared.error.ArrayError.{ArrayError}
+use Rattle.zarrs_engine_calls.specs.Refusals.{dimensionality, refusal_of}
+use Rattle.zarrs_engine_calls.specs.Step.{RefusesStorePart, StoresPart}
+use Rattle.zarrs_engine_calls.specs.Patches.{RefusesPatchPart}
 use Rattle.zarrs_engine.proofs.PatchedRegions.{part_patched, part_refuses, patched_left, patched_whole}
-use Rattle.zarrs_calls.proofs.RefusalLemmas.{refuses_said}
+use Rattle.zarrs_engine_calls.proofs.RefusalLemmas.{refuses_said}
 use Rattle.zarrs_engine.specs.Engine.{layout_of}
 use Rattle.zarrs_engine.specs.RegionWrites.{LeavesPart}
 use Rattle.zarrs_engine.proofs.PartReads.{part_cover}

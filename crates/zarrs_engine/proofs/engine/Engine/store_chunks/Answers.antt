@@ -4,18 +4,17 @@ use Rattle.zarrs_subset.specs.Boxes.{position_count}
 use Rattle.zarrs_subset.specs.Regions.{box_of, positions}
 use Rattle.zarrs_chunk_grid.specs.Grids.{chunks_box}
 use Rattle.zarrs_data_type.specs.ArrayData.{data_of}
-use Rattle.zarrs_chain.specs.Options.{stores_empty_chunks}
-use Rattle.zarrs_calls.specs.declared.error.ArrayError.{ArrayError}
-use Rattle.zarrs_calls.specs.ArgumentRefusals.{box_data_refusal, store_chunks_refusal}
-use Rattle.zarrs_calls.specs.Refusals.{Refusal, RefusesBy, refusal_of, size_overflow}
-use Rattle.zarrs_calls.specs.Step.{RefusesStore, RefusesStoreChunks, StoresChunks}
-use Rattle.zarrs_calls.proofs.RefusalLemmas.{refuses_said}
+use Rattle.zarrs_codec_chain.specs.Options.{stores_empty_chunks}
+use Rattle.zarrs_engine_calls.specs.declared.error.ArrayError.{ArrayError}
+use Rattle.zarrs_engine_calls.specs.ArgumentRefusals.{box_data_refusal, store_chunks_refusal}
+use Rattle.zarrs_engine_calls.specs.Refusals.{Refusal, RefusesBy, refusal_of, size_overflow}
+use Rattle.zarrs_engine_calls.specs.Step.{RefusesStore, RefusesStoreChunks, StoresChunks}
+use Rattle.zarrs_engine_calls.proofs.RefusalLemmas.{refuses_said}
 use Rattle.zarrs_engine.specs.Engine.{layout_of}
-use Rattle.zarrs_array_layout.specs.Steps.{RefusesIndices}
-use Rattle.zarrs_array_layout.proofs.Chunks.{wrong_length}
+use Rattle.zarrs_engine_layout.specs.Steps.{RefusesIndices}
+use Rattle.zarrs_engine_layout.proofs.Chunks.{wrong_length}
 use Rattle.zarrs_engine.proofs.PartStores.{chunks_early, chunks_none, none_empty, range_ask, range_data}
-use Rattle.zarrs_engine.proofs.PartStores.{range_first_none, range_left, range_many, range_missing, range_none}
-use Rattle.zarrs_engine.proofs.PartStores.{range_refuses, range_stored, two_ok}
+use Rattle.zarrs_engine.proofs.PartStores.{range_first_none, range_left, range_many, range_missing, range_none, range_refuses, range_stored, two_ok}
 use Rattle.zarrs_engine.proofs.Canon.{store_canon}
 use Rattle.zarrs_engine.proofs.Puts.{each_error}
 use Rattle.zarrs_engine.proofs.engine.Engine.store_chunks.Goals as goal

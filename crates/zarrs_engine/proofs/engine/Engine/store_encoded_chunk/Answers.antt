@@ -1,8 +1,8 @@
 use Rattle.std.proofs.Common.{List, ℕ, Some, subst, sym, rules}
-use Rattle.zarrs_calls.specs.Changes.{IsPut}
-use Rattle.zarrs_calls.specs.Refusals.{Refusal}
-use Rattle.zarrs_calls.proofs.RefusalLemmas.{storage_said}
-use Rattle.zarrs_array_layout.specs.Steps.{RefusesPut}
+use Rattle.zarrs_engine_calls.specs.Changes.{IsPut}
+use Rattle.zarrs_engine_calls.specs.Refusals.{Refusal}
+use Rattle.zarrs_engine_calls.proofs.RefusalLemmas.{storage_said}
+use Rattle.zarrs_engine_layout.specs.Steps.{RefusesPut}
 use Rattle.zarrs_engine.proofs.Puts.{put_set, put_short, put_refused}
 use Rattle.zarrs_engine.proofs.engine.Engine.store_encoded_chunk.Goals as goal
 

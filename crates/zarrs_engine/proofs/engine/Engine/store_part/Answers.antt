@@ -2,10 +2,10 @@ use Rattle.std.proofs.Common.{◌≡◌, ◌∙◌, None, option_map, rules, sub
 use Rattle.zarrs_subset.specs.Regions.{Box, box_of}
 use Rattle.zarrs_data_type.specs.ArrayData.{data_of}
 use Rattle.zarrs_data_type.specs.Cells.{cells}
-use Rattle.zarrs_chain.specs.Options.{stores_empty_chunks}
-use Rattle.zarrs_calls.specs.Refusals.{RefusesBy, data_refusal, refusal_of}
-use Rattle.zarrs_calls.proofs.RefusalLemmas.{box_accepted}
-use Rattle.zarrs_array_layout.specs.Steps.{HasValue}
+use Rattle.zarrs_codec_chain.specs.Options.{stores_empty_chunks}
+use Rattle.zarrs_engine_calls.specs.Refusals.{RefusesBy, data_refusal, refusal_of}
+use Rattle.zarrs_engine_calls.proofs.RefusalLemmas.{box_accepted}
+use Rattle.zarrs_engine_layout.specs.Steps.{HasValue}
 use Rattle.zarrs_engine.specs.Engine.{layout_of}
 use Rattle.zarrs_engine.proofs.PartWrites.{updated_same}
 use Rattle.zarrs_engine.proofs.RegionFronts.{chain_leaves, leaves_large, leaves_state}

@@ -1,16 +1,15 @@
 use Rattle.std.proofs.Common.{◌≡◌, ◌∙◌, false, length, rules, ap, subst, sym}
 use Rattle.std.proofs.lemmas.Bool.{false≢true}
-use Rattle.zarrs_subset.specs.Regions.{Box, box_of}
+use Rattle.zarrs_subset.specs.Regions.{Box, box_of, LiesInBox}
 use Rattle.zarrs_chunk_grid.specs.Grids.{box_at}
 use Rattle.zarrs_chunk_grid.proofs.Chunks.{box_dimensions, box_long}
 use Rattle.zarrs_data_type.specs.ArrayData.{data_of}
-use Rattle.zarrs_array_bytes.specs.Parts.{ExtractsCells, TakesCells}
-use Rattle.zarrs_array_bytes.specs.StringParts.{LiesInBox}
-use Rattle.zarrs_calls.specs.Refusals.{is_too_large, refusal_of}
-use Rattle.zarrs_calls.specs.StateRefusals.{IsPart}
-use Rattle.zarrs_calls.proofs.Contents.{member}
+use Rattle.zarrs_data_type.specs.Parts.{ExtractsCells, TakesCells}
+use Rattle.zarrs_engine_calls.specs.Refusals.{is_too_large, refusal_of}
+use Rattle.zarrs_engine_calls.specs.StateRefusals.{IsPart}
+use Rattle.zarrs_engine_calls.proofs.Contents.{member}
 use Rattle.zarrs_engine.specs.Engine.{layout_of}
-use Rattle.zarrs_array_layout.proofs.OneChunk.{covers_lies}
+use Rattle.zarrs_engine_layout.proofs.OneChunk.{covers_lies}
 use Rattle.zarrs_engine.proofs.PartWrites.{lies_covers, read_fails, updated_part, updated_whole}
 use Rattle.zarrs_engine.proofs.engine.Engine.updated_chunk.Goals as goal
 

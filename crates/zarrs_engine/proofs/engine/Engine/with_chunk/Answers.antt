@@ -1,11 +1,10 @@
 use Rattle.std.proofs.Common.{◌∙◌, rules, sym, subst}
 use Rattle.std.proofs.lemmas.Bool.{false≢true}
-use Rattle.zarrs_subset.specs.Regions.{Box, box_of}
+use Rattle.zarrs_subset.specs.Regions.{Box, box_of, LiesInBox}
 use Rattle.zarrs_chunk_grid.specs.Grids.{box_at}
 use Rattle.zarrs_chunk_grid.proofs.Chunks.{box_long}
-use Rattle.zarrs_array_bytes.specs.StringParts.{LiesInBox}
-use Rattle.zarrs_calls.specs.Refusals.{refusal_of}
-use Rattle.zarrs_array_layout.proofs.OneChunk.{covers_lies}
+use Rattle.zarrs_engine_calls.specs.Refusals.{refusal_of}
+use Rattle.zarrs_engine_layout.proofs.OneChunk.{covers_lies}
 use Rattle.zarrs_engine.specs.Engine.{layout_of}
 use Rattle.zarrs_engine.proofs.PartBytes.{box_why}
 use Rattle.zarrs_engine.proofs.PartWrites.{lies_covers}

@@ -2,11 +2,11 @@ use Rattle.std.proofs.Common.{◌≡◌, ◌∙◌, None, [], ◌∷◌, length,
 use Rattle.zarrs_subset.specs.Regions.{Box, box_of}
 use Rattle.zarrs_chunk_grid.proofs.Chunks.{box_dimensions}
 use Rattle.zarrs_data_type.specs.ArrayData.{data_of}
-use Rattle.zarrs_region_cells.specs.RegionData.{region_data}
-use Rattle.zarrs_calls.specs.Content.{value_at}
-use Rattle.zarrs_calls.specs.Refusals.{refusal_of}
-use Rattle.zarrs_calls.specs.StateRefusals.{RefusesSomeChunk}
-use Rattle.zarrs_array_layout.specs.Shared.{AreApart, AreShared}
+use Rattle.zarrs_data_type.specs.RegionData.{region_data}
+use Rattle.zarrs_engine_calls.specs.Content.{value_at}
+use Rattle.zarrs_engine_calls.specs.Refusals.{refusal_of}
+use Rattle.zarrs_engine_calls.specs.StateRefusals.{RefusesSomeChunk}
+use Rattle.zarrs_engine_layout.specs.Shared.{AreApart, AreShared}
 use Rattle.zarrs_engine.specs.Engine.{layout_of}
 use Rattle.zarrs_engine.specs.RegionReads.{DecodesStored}
 use Rattle.zarrs_engine.proofs.RegionReads.{read_absent, read_apart, read_part}

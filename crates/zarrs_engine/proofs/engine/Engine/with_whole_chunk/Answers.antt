@@ -4,12 +4,12 @@ use Rattle.zarrs_subset.specs.Regions.{Box, box_of}
 use Rattle.zarrs_chunk_grid.proofs.Chunks.{box_dimensions}
 use Rattle.zarrs_data_type.specs.ArrayData.{data_of}
 use Rattle.zarrs_data_type.specs.Cells.{HasCells}
-use Rattle.zarrs_data_type.proofs.Cells.{HasCells-some}
-use Rattle.zarrs_array_bytes.specs.Parts.{TakesCells}
-use Rattle.zarrs_calls.specs.Refusals.{refusal_of}
-use Rattle.zarrs_region_cells.specs.RegionData.{region_data}
-use Rattle.zarrs_array_layout.proofs.Chunks.{retrieved}
-use Rattle.zarrs_array_layout.proofs.RegionRefusals.{some_key}
+use Rattle.zarrs_data_type_bytes.proofs.Cells.{HasCells-some}
+use Rattle.zarrs_data_type.specs.Parts.{TakesCells}
+use Rattle.zarrs_engine_calls.specs.Refusals.{refusal_of}
+use Rattle.zarrs_data_type.specs.RegionData.{region_data}
+use Rattle.zarrs_engine_layout.proofs.Chunks.{retrieved}
+use Rattle.zarrs_engine_layout.proofs.RegionRefusals.{some_key}
 use Rattle.zarrs_engine.specs.Engine.{layout_of}
 use Rattle.zarrs_engine.proofs.PartBytes.{bytes_why}
 use Rattle.zarrs_engine.proofs.RegionReads.{read_absent, read_present}

@@ -1,13 +1,13 @@
 use Rattle.std.proofs.Common.{◌≡◌, ◌+◌, Bool, List, [], ◌∷◌, ◌++◌, take, drop, sym, ◌∙◌, ap, subst, arith}
 use Rattle.std.proofs.lemmas.List.{take_more}
-use Rattle.zarrs_chain.specs.Options.{stores_empty_chunks}
-use Rattle.zarrs_calls.specs.Layout.{Layout}
-use Rattle.zarrs_calls.specs.Reach.{MayAskCall, MayAskCalls}
-use Rattle.zarrs_calls.specs.declared.call.Call.{Call}
+use Rattle.zarrs_codec_chain.specs.Options.{stores_empty_chunks}
+use Rattle.zarrs_engine_calls.specs.Layout.{Layout}
+use Rattle.zarrs_engine_calls.specs.Reach.{MayAskCall, MayAskCalls}
+use Rattle.zarrs_engine_calls.specs.declared.call.Call.{Call}
 use Rattle.zarrs_engine.proofs.Cuts.{drop_first, others_then}
-use Rattle.zarrs_calls.specs.Step.{Run}
-use Rattle.zarrs_calls.proofs.Steps.{run_keeps, run_decodes}
-use Rattle.zarrs_calls.proofs.Runs.{run_push, reach_then}
+use Rattle.zarrs_engine_calls.specs.Step.{Run}
+use Rattle.zarrs_engine_calls.proofs.Steps.{run_keeps, run_decodes}
+use Rattle.zarrs_engine_calls.proofs.Runs.{run_push, reach_then}
 use Rattle.zarrs_engine.specs.Outcomes.{StepsAs}
 use Rattle.zarrs_engine.proofs.PatchedRuns.{patch_asked, patch_push, patch_reach}
 use Rattle.zarrs_engine.specs.Engine.{layout_of, state_of}

@@ -1,9 +1,9 @@
 use Rattle.std.proofs.Common.{◌≡◌, ◌≤◌, take, drop, false, length, vec_len, vec_capacity}
 use Rattle.zarrs_storage.specs.Store.{KeepsReach}
-use Rattle.zarrs_chain.specs.Options.{encodes_partially, stores_empty_chunks}
-use Rattle.zarrs_calls.specs.Step.{Run}
-use Rattle.zarrs_calls.specs.Patches.{PatchRun}
-use Rattle.zarrs_calls.specs.Reach.{MayAskCalls}
+use Rattle.zarrs_codec_chain.specs.Options.{encodes_partially, stores_empty_chunks}
+use Rattle.zarrs_engine_calls.specs.Step.{Run}
+use Rattle.zarrs_engine_calls.specs.Patches.{PatchRun}
+use Rattle.zarrs_engine_calls.specs.Reach.{MayAskCalls}
 use Rattle.zarrs_engine.specs.Engine.{layout_of, store_of, state_of, KeepsOthers}
 use Rattle.zarrs_engine.proofs.engine.calls.replay.Given as goal
 

@@ -1,7 +1,7 @@
 use Rattle.std.proofs.Common.{◌∙◌, ◌+◌, ◌<◌, ◌^◌, ℕ, List, length, ap, sym, subst}
 use Rattle.std.specs.Prelude.{slice_index}
 use Rattle.zarrs_subset.specs.Regions.{Box, box_of, seen_from}
-use Rattle.zarrs_parts.proofs.MovedBoxes.{moved_ends, seen_start_len}
+use Rattle.zarrs_codec_chain.proofs.MovedBoxes.{moved_ends, seen_start_len}
 use Rattle.zarrs_engine.proofs.engine.into.moved_box.Goals as goal
 
 pub shifted-requires-clause-dimensions : goal.shifted-requires-clause-dimensions

@@ -1,8 +1,8 @@
 use Rattle.std.proofs.Common.{◌≡◌, ◌∙◌, ◌-◌, ◌<◌, ap, sym, take, drop, arith}
 use Rattle.std.proofs.lemmas.Result.{IfOk-weaker}
 use Rattle.zarrs_data_type.specs.ArrayData.{data_of, optional}
-use Rattle.zarrs_array_bytes.specs.declared.array_bytes.ArrayBytes.{ArrayBytes}
-use Rattle.zarrs_target.specs.Targets.{masked}
+use Rattle.zarrs_data_type_bytes.specs.declared.array_bytes.ArrayBytes.{ArrayBytes}
+use Rattle.zarrs_data_type.specs.Targets.{masked}
 use Rattle.zarrs_engine.proofs.RegionLists.{masked_more}
 use Rattle.zarrs_engine.proofs.engine.region_lists.+under_masks.Goals as goal
 

@@ -1,12 +1,12 @@
 use Rattle.std.proofs.Common.{refl, ap, ◌∙◌}
 use Rattle.std.proofs.lemmas.Grind.{merely}
 use Rattle.serde_json.specs.Written.{has_float}
-use Rattle.zarrs_metadata_v2.specs.View.{MetadataData, data_of_metadata, v3}
+use Rattle.zarrs_metadata.specs.Versions.{MetadataData, data_of_metadata, v3}
 use Rattle.zarrs_data_type.specs.Same.{kind_eq-Decides}
-use Rattle.zarrs_calls.specs.Layout.{Layout}
+use Rattle.zarrs_engine_calls.specs.Layout.{Layout}
 use Rattle.zarrs_creation.specs.Meanings.{Meaning}
 use Rattle.zarrs.specs.Arrays.{layout_of_array}
-use Rattle.zarrs_script_metadata.specs.CellTypes.{kind_of_cells}
+use Rattle.zarrs_script.specs.CellTypes.{kind_of_cells}
 use Rattle.zarrs_storage.specs.Memory.{open_state}
 use Rattle.zarrs_script.proofs.Contents.{new_is_canonical, new_has_none}
 use Rattle.zarrs_script.proofs.NewArrays.{same_parts, made_array, is_plain, only_memory, created_at_root}

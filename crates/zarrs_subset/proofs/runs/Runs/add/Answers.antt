@@ -6,8 +6,7 @@ use Rattle.zarrs_subset.proofs.PlanLemmas.{Extends, joined, pushed, single, exte
 use Rattle.zarrs_subset.proofs.PlanLemmas.{extended_apart, extended_source_span, extended_target_span, room_more}
 use Rattle.zarrs_subset.proofs.PlanLemmas.{few_more, iff_trans, offset_more, some_more, drop-set_before}
 use Rattle.zarrs_subset.proofs.runs.Runs.add.Goals as goal
-use Rattle.zarrs_subset.proofs.runs.Runs.add.Goals.{then-self-eq-MOST_STRIDES+then-self+then-self-2}
-use Rattle.zarrs_subset.proofs.runs.Runs.add.Goals.{else-self-eq-MOST_STRIDES+then-extent-gt1}
+use Rattle.zarrs_subset.proofs.runs.Runs.add.Goals.{then-self-eq-MOST_STRIDES+then-self+then-self-2, else-self-eq-MOST_STRIDES+then-extent-gt1}
 use Rattle.zarrs_subset.proofs.runs.Runs.add.Goals.{else-self-eq-MOST_STRIDES+else-extent-gt1}
 
 pub invariant_of-self : goal.invariant_of-self

@@ -1,6 +1,6 @@
 use Rattle.std.proofs.Common.{inl, rules}
-use Rattle.zarrs_calls.specs.Refusals as refusal
-use Rattle.zarrs_calls.specs.Step.{RefusesRetrievePart}
+use Rattle.zarrs_engine_calls.specs.Refusals as refusal
+use Rattle.zarrs_engine_calls.specs.Step.{RefusesRetrievePart}
 use Rattle.zarrs.specs.PartialEncoders.{indices_of_decoder, layout_of_decoder, store_of_decoder}
 use Rattle.zarrs.proofs.array.part_reads.ArrayPartialDecoder.partial_decode.Goals as goal
 

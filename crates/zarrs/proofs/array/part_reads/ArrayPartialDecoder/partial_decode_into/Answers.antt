@@ -2,9 +2,9 @@ use Rattle.std.proofs.Common.{◌≡◌, None, OnErr, OnOk, IfErr, subst}
 use Rattle.std.proofs.lemmas.Result.{on_ok_weaker}
 use Rattle.std.specs.Prelude.{IsSome}
 use Rattle.zarrs_subset.specs.Regions.{Box}
-use Rattle.zarrs_target.proofs.Levels.{masked_keeps}
-use Rattle.zarrs_calls.specs.ArgumentRefusals.{part_refusal, region_refusal}
-use Rattle.zarrs_calls.specs.Refusals.{refusal_of}
+use Rattle.zarrs_data_type_region.proofs.TargetLevels.{masked_keeps}
+use Rattle.zarrs_engine_calls.specs.ArgumentRefusals.{part_refusal, region_refusal}
+use Rattle.zarrs_engine_calls.specs.Refusals.{refusal_of}
 use Rattle.zarrs_engine.specs.Into.{HasContent, RetrievesInto}
 use Rattle.zarrs_engine.specs.PartialDecoders.{RefusesPartInto, part_into_refusal, region_of_part}
 use Rattle.zarrs.specs.PartialEncoders.{layout_of_decoder, state_of_decoder, store_of_decoder, indices_of_decoder}

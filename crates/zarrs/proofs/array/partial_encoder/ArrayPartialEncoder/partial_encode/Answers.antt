@@ -1,5 +1,5 @@
 use Rattle.std.proofs.Common.{ℕ, List, subst}
-use Rattle.zarrs_chain.specs.Options.{stores_empty_chunks}
+use Rattle.zarrs_codec.specs.Options.{stores_empty_chunks}
 use Rattle.zarrs_data_type.specs.ArrayData.{data_of}
 use Rattle.zarrs.specs.Outcomes.{EncodesPartOrRefuses}
 use Rattle.zarrs.specs.PartialEncoders.{array_of_encoder}

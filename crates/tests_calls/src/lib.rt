@@ -1,0 +1,23 @@
+//! Short uses of the engine, as a caller writes them, and the tests that run them. `README.md` and `docs/CALLING.md` quote
+//! the uses.
+//!
+//! The other tests are those that only code can be: calls over a grid that no array has, the parts that the engine lends,
+//! its laws and its errors. What calls answer stands in the case files of `zarrs_cases_run`.
+#![tactic(auto)]
+
+#[cfg(test)]
+mod calls;
+#[cfg(test)]
+mod checks;
+pub mod chunks;
+#[cfg(test)]
+mod errors;
+pub mod histories;
+pub mod make;
+pub mod refusals;
+pub mod regions;
+#[cfg(test)]
+mod steps;
+#[cfg(test)]
+mod uses;
+pub mod walk;

@@ -1,9 +1,0 @@
-pub use Rattle.zarrs_types.specs.Cell
-pub use Rattle.zarrs_types.specs.Kind
-pub use Rattle.zarrs_types.specs.Same
-pub use Rattle.zarrs_byte_strings.specs.Offsets
-pub use Rattle.zarrs_byte_strings.specs.StringParts
-pub mod ArrayData
-pub mod Cells
-pub mod Parts
-pub mod Present

@@ -1,6 +1,0 @@
-use Rattle.std.proofs.Common.{◌∙◌}
-use Rattle.zarrs_byte_strings.proofs.AsciiTexts.{is_ok-utf8}
-use Rattle.zarrs_byte_strings.proofs.texts.is_text.Goals as goal
-
-pub returns : goal.returns
-returns c = c.is_ok.ensures.value ∙ is_ok-utf8 _ _ c.from_utf8.result c.args.bytes.now c.from_utf8.ensures.cases

@@ -1,7 +1,0 @@
-use Rattle.std.proofs.Common.{◌∙◌, ap, sym}
-use Rattle.zarrs_byte_strings.specs.Offsets.{joined}
-use Rattle.zarrs_byte_strings.proofs.ByteStrings.{joined-strings}
-use Rattle.zarrs_byte_strings.proofs.variable.ArrayBytesVariableLength.bytes.Goals as goal
-
-pub returns : goal.returns
-returns c = c.as_slice.ensures.value ∙ sym (joined-strings _ _ c.self.invariant) ∙ ap joined c.self.view_is

@@ -1,7 +1,0 @@
-use Rattle.std.proofs.Common.{◌∙◌, ap, sym}
-use Rattle.zarrs_byte_strings.specs.Offsets.{offsets_of}
-use Rattle.zarrs_byte_strings.proofs.ByteStrings.{offsets_of-strings}
-use Rattle.zarrs_byte_strings.proofs.variable.ArrayBytesVariableLength.offsets.Goals as goal
-
-pub returns : goal.returns
-returns c = sym (offsets_of-strings _ _ c.self.invariant) ∙ ap offsets_of c.self.view_is

@@ -1,5 +1,0 @@
-use Rattle.zarrs_calls.proofs.CutLaws.{accepted_change}
-use Rattle.zarrs_calls.proofs.laws.accepted_shape_changes.Goals as goal
-
-pub returns : goal.returns
-returns c = accepted_change

@@ -1,5 +1,0 @@
-use Rattle.zarrs_calls.proofs.Comparisons.{are_compact}
-use Rattle.zarrs_calls.proofs.laws.canonical_chunks_are_compact.Goals as goal
-
-pub returns : goal.returns
-returns c = are_compact

@@ -1,5 +1,0 @@
-use Rattle.zarrs_calls.proofs.Maps.{maps_are_one}
-use Rattle.zarrs_calls.proofs.laws.canonical_maps_are_one.Goals as goal
-
-pub returns : goal.returns
-returns c = maps_are_one

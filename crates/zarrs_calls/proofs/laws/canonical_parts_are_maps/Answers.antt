@@ -1,5 +1,0 @@
-use Rattle.zarrs_calls.proofs.Maps.{parts_are_maps}
-use Rattle.zarrs_calls.proofs.laws.canonical_parts_are_maps.Goals as goal
-
-pub returns : goal.returns
-returns c = parts_are_maps

@@ -1,5 +1,0 @@
-use Rattle.zarrs_calls.proofs.LawProofs.{canonical_decodes}
-use Rattle.zarrs_calls.proofs.laws.canonical_stores_decode.Goals as goal
-
-pub returns : goal.returns
-returns c = canonical_decodes

@@ -1,5 +1,0 @@
-use Rattle.zarrs_calls.proofs.Compactions.{compactions_keep_content}
-use Rattle.zarrs_calls.proofs.laws.compactions_keep_content.Goals as goal
-
-pub returns : goal.returns
-returns c = compactions_keep_content

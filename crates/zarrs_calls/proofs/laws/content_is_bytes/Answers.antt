@@ -1,5 +1,0 @@
-use Rattle.zarrs_calls.proofs.LawProofs.{content_is_bytes}
-use Rattle.zarrs_calls.proofs.laws.content_is_bytes.Goals as goal
-
-pub returns : goal.returns
-returns c = content_is_bytes

@@ -1,5 +1,0 @@
-use Rattle.zarrs_calls.proofs.Steps.{course_counts_agree}
-use Rattle.zarrs_calls.proofs.laws.course_counts_agree.Goals as goal
-
-pub returns : goal.returns
-returns c = course_counts_agree

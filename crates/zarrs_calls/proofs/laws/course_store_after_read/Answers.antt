@@ -1,5 +1,0 @@
-use Rattle.zarrs_calls.proofs.Regions.{course_store_after_read}
-use Rattle.zarrs_calls.proofs.laws.course_store_after_read.Goals as goal
-
-pub returns : goal.returns
-returns c = course_store_after_read

@@ -1,5 +1,0 @@
-use Rattle.zarrs_calls.proofs.Steps.{courses_agree}
-use Rattle.zarrs_calls.proofs.laws.courses_agree.Goals as goal
-
-pub returns : goal.returns
-returns c = courses_agree

@@ -1,5 +1,0 @@
-use Rattle.zarrs_calls.proofs.Steps.{courses_keep_canon}
-use Rattle.zarrs_calls.proofs.laws.courses_keep_canon.Goals as goal
-
-pub returns : goal.returns
-returns c = courses_keep_canon

@@ -1,5 +1,0 @@
-use Rattle.zarrs_calls.proofs.Below.{cuts_right}
-use Rattle.zarrs_calls.proofs.laws.cuts_are_right.Goals as goal
-
-pub returns : goal.returns
-returns c = cuts_right

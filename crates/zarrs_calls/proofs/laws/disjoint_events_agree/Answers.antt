@@ -1,5 +1,0 @@
-use Rattle.zarrs_calls.proofs.Regions.{disjoint_events}
-use Rattle.zarrs_calls.proofs.laws.disjoint_events_agree.Goals as goal
-
-pub returns : goal.returns
-returns c = disjoint_events

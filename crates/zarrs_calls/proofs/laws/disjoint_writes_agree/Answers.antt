@@ -1,5 +1,0 @@
-use Rattle.zarrs_calls.proofs.Regions.{disjoint_writes}
-use Rattle.zarrs_calls.proofs.laws.disjoint_writes_agree.Goals as goal
-
-pub returns : goal.returns
-returns c = disjoint_writes

@@ -1,5 +1,0 @@
-use Rattle.zarrs_calls.proofs.LawProofs.{empty_is_canonical}
-use Rattle.zarrs_calls.proofs.laws.empty_stores_are_canonical.Goals as goal
-
-pub returns : goal.returns
-returns c = empty_is_canonical

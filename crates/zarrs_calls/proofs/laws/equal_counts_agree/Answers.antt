@@ -1,5 +1,0 @@
-use Rattle.zarrs_calls.proofs.Steps.{equal_counts_agree}
-use Rattle.zarrs_calls.proofs.laws.equal_counts_agree.Goals as goal
-
-pub returns : goal.returns
-returns c = equal_counts_agree

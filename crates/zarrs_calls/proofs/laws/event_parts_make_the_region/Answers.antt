@@ -1,5 +1,0 @@
-use Rattle.zarrs_calls.proofs.Regions.{event_parts_make}
-use Rattle.zarrs_calls.proofs.laws.event_parts_make_the_region.Goals as goal
-
-pub returns : goal.returns
-returns c = event_parts_make

@@ -1,5 +1,0 @@
-use Rattle.zarrs_calls.proofs.Regions.{parts_make}
-use Rattle.zarrs_calls.proofs.laws.parts_make_the_region.Goals as goal
-
-pub returns : goal.returns
-returns c = parts_make

@@ -1,5 +1,0 @@
-use Rattle.zarrs_calls.proofs.CutLaws.{refused_change}
-use Rattle.zarrs_calls.proofs.laws.refused_shape_changes.Goals as goal
-
-pub returns : goal.returns
-returns c = refused_change

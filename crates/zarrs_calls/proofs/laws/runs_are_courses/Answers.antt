@@ -1,5 +1,0 @@
-use Rattle.zarrs_calls.proofs.Steps.{runs_are_courses}
-use Rattle.zarrs_calls.proofs.laws.runs_are_courses.Goals as goal
-
-pub returns : goal.returns
-returns c = runs_are_courses

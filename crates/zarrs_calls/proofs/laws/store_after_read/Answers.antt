@@ -1,5 +1,0 @@
-use Rattle.zarrs_calls.proofs.Regions.{store_after_read}
-use Rattle.zarrs_calls.proofs.laws.store_after_read.Goals as goal
-
-pub returns : goal.returns
-returns c = store_after_read

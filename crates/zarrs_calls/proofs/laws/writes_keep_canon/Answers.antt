@@ -1,5 +1,0 @@
-use Rattle.zarrs_calls.proofs.Steps.{writes_keep_canon}
-use Rattle.zarrs_calls.proofs.laws.writes_keep_canon.Goals as goal
-
-pub returns : goal.returns
-returns c = writes_keep_canon

@@ -1,0 +1,308 @@
+-- The piece of a subchunk that a part of its shard meets.
+use Rattle.std.proofs.Common.{◌≡◌, ℕ, zero, suc, ◌+◌, ◌-◌, ◌*◌, ◌/◌, ◌^◌, ◌<◌, ◌≤◌, max, min, Bool, true, false, eqb, ◌&&◌, ◌||◌, List, [], ◌∷◌, ◌++◌, length, map, take, drop, get_or, Option, None, Some, inl, inr, refl, sym, ap, ◌∙◌, subst, arith}
+use Rattle.std.specs.Prelude.{slice_index, slice_index_or, slice_range, nat_le, nat_lt, not, All}
+use Rattle.std.specs.List.{flat_map, list_any, range_with_len}
+use Rattle.std.specs.Int.{w64, from_le_bytes}
+use Rattle.std.proofs.Math.Seq.{get_or-append_seam}
+use Rattle.std.proofs.Math.Nat.{div-lt_iff_lt-mul, div-mul-le_self}
+use Rattle.std.proofs.lemmas.Bool.{and_from, cases_lt, le-leb, lt-ltb}
+use Rattle.std.proofs.lemmas.List.{drop-drop, drop-take, get_or-map, get_or_append_left, length-append, length-drop, length-take-le, take-take}
+use Rattle.std.proofs.lemmas.List.FromFn.{get_or-map-range_with_len, get_or-range_with_len, length-range_with_len}
+use Rattle.zarrs_codec_shard.specs.declared.shard_index.SubchunkRange.{SubchunkRange}
+use Rattle.zarrs_codec_shard.specs.ShardIndex.{range_entry, range_part, IsRangeWithin}
+use Rattle.zarrs_codec_shard.specs.Shards.{absent, entry_bytes, index_in}
+use Rattle.zarrs_codec_shard.proofs.ShardBytes.{entry_len, entry_offset, length-entry_bytes, not_absent}
+use Rattle.zarrs_data_type_bytes.proofs.Pieces.{pieces-flat_map}
+use Rattle.zarrs_codec_shard.specs.Subchunks.{corner, is_cut_by, quotients, subchunk_box, subchunk_count}
+use Rattle.zarrs_codec_shard.proofs.Grids.{corner_long, cut_at, cut_len}
+use Rattle.zarrs_codec_shard.proofs.SubchunkBoxes.{long_corner}
+use Rattle.zarrs_codec_leaf.specs.Sources.{IsWindow, MayRead, window_bytes}
+use Rattle.zarrs_codec_leaf.specs.declared.source.Window.{Window}
+use Rattle.zarrs_subset.specs.Boxes.{position_count, InShape, place, unravel}
+use Rattle.zarrs_subset.specs.Pieces.{piece_at}
+use Rattle.zarrs_subset.specs.Regions.{Box, IsLong, LiesInShape, box_from, overlap_of, seen_from, LiesInBox}
+use Rattle.zarrs_subset.proofs.Bytes.{along_holds, holds_along}
+use Rattle.zarrs_subset.proofs.Counts.{count_some}
+use Rattle.zarrs_subset.proofs.Overlaps.{AllSome, length-overlap_extents, length-zip_with}
+use Rattle.zarrs_subset.proofs.Parts.{overlap_extents-at, zip_with-at}
+use Rattle.zarrs_subset.proofs.Positions.{unravel-place}
+use Rattle.zarrs_data_type.specs.Kind.{Kind}
+use Rattle.zarrs_subset.proofs.Inside.{count_inside}
+use Rattle.zarrs_codec_chain.specs.ShardParts.{MeetsPart}
+use Rattle.zarrs_codec_chain.specs.Places.{boxes_meet, is_index_place, is_range_place, shard_places}
+
+-- ---- the boxes
+
+-- what is known of the piece of the subchunk with the indices i
+pub record IsPiece (s sub : List ℕ) (part : Box) (i : List ℕ) (subset shared : Box) : Type 0 where
+  pub corner_is : subset.start ≡ corner sub i
+  pub dimensions : length subset.start ≡ length part.start
+  pub shared_long : IsLong shared
+  pub corner_len : length (corner sub i) ≡ length shared.start
+  pub above : (k : ℕ) → k < length shared.start → slice_index (corner sub i) k ≤ slice_index shared.start k
+  pub own_lies : LiesInShape (seen_from shared (corner sub i)) sub
+  pub own_few : position_count shared.shape ≤ position_count part.shape
+
+module _ (s sub : List ℕ) (part : Box) (i : List ℕ) (n : ℕ) (cut : is_cut_by s sub ≡ true) (long : IsLong part) (lies : LiesInShape part s)
+    (in_grid : InShape (quotients s sub) i) (at_n : place (quotients s sub) i ≡ n) where
+  pub subset_is : subchunk_box s sub n ≡ box_from (corner sub i) sub
+  subset_is = ap (λ j. box_from (corner sub j) sub) (ap (unravel (quotients s sub)) (sym at_n) ∙ unravel-place (quotients s sub) i in_grid)
+
+  corner_len_s : length (corner sub i) ≡ length s
+  corner_len_s = corner_long s sub i cut in_grid
+
+  own_long : length (corner sub i) ≡ length sub
+  own_long = long_corner s sub i cut in_grid
+
+  same_dims : length part.start ≡ length (corner sub i)
+  same_dims = lies.same_length ∙ sym corner_len_s
+
+  abbrev shared_box : Box
+  shared_box = overlap_of part (box_from (corner sub i) sub)
+
+  start_len : length shared_box.start ≡ length part.start
+  start_len = length-zip_with (λ a b. max a b) part.start (corner sub i) same_dims
+
+  shape_len : length shared_box.shape ≡ length part.start
+  shape_len = length-overlap_extents part.start part.shape (corner sub i) sub long own_long same_dims
+
+  start_at : (k : ℕ) → k < length part.start → slice_index shared_box.start k ≡ max (slice_index part.start k) (slice_index (corner sub i) k)
+  start_at k lt = zip_with-at (λ a b. max a b) part.start (corner sub i) k lt (omega (arith, same_dims))
+
+  shape_at : (k : ℕ) → k < length part.start
+      → slice_index shared_box.shape k
+      ≡ min (slice_index part.start k + slice_index part.shape k) (slice_index (corner sub i) k + slice_index sub k) - max (slice_index part.start k) (slice_index (corner sub i) k)
+  shape_at k lt = overlap_extents-at part.start part.shape (corner sub i) sub k long own_long same_dims lt
+
+  not_zero : (e : ℕ) → (e ≡ 0 → ⊥) → 0 < e
+  not_zero zero never = absurd (never refl)
+  not_zero (suc e) never = omega arith
+
+  within_both : (a x b y f e : ℕ) → f ≡ max a b → e ≡ min (a + x) (b + y) - max a b → 0 < e → f + e ≤ a + x
+  within_both a x b y f e first extent some = omega arith
+
+  own_within : (a x b y f e o : ℕ) → f ≡ max a b → e ≡ min (a + x) (b + y) - max a b → o ≡ f - b → 0 < e → o + e ≤ y
+  own_within a x b y f e o first extent moved some = omega arith
+
+  shared_inside : AllSome shared_box.shape → LiesInBox shared_box part
+  shared_inside full = record {
+    same_length = start_len;
+    starts = λ k lt. omega (arith, start_at k lt);
+    ends = λ k lt.
+        within_both (slice_index part.start k) (slice_index part.shape k) (slice_index (corner sub i) k) (slice_index sub k) (slice_index shared_box.start k) (slice_index shared_box.shape k)
+        (start_at k lt) (shape_at k lt) (not_zero (slice_index shared_box.shape k) (full k (omega (arith, shape_len))));
+  }
+
+  abbrev own_box : Box
+  own_box = seen_from shared_box (corner sub i)
+
+  pub meets : AllSome shared_box.shape → boxes_meet part (subchunk_box s sub n) ≡ true
+  meets full =
+      ap (λ b. nat_lt 0 (position_count (overlap_of part b).shape)) subset_is ∙ lt-ltb 0 (position_count shared_box.shape) (count_some shared_box.shape full)
+
+  pub piece_of : AllSome shared_box.shape → IsPiece s sub part i (subchunk_box s sub n) shared_box
+  piece_of full = record {
+    corner_is = ap (λ b. b.start) subset_is;
+    dimensions = ap (λ b. length b.start) subset_is ∙ sym same_dims;
+    shared_long = start_len ∙ sym shape_len;
+    corner_len = sym same_dims ∙ sym start_len;
+    above = λ k lt. omega (arith, start_at k (omega (arith, start_len)));
+    own_lies = record {
+      same_length = length-zip_with (λ a b. a - b) shared_box.start (corner sub i) (start_len ∙ same_dims) ∙ start_len ∙ same_dims ∙ own_long;
+      ends = λ k lt.
+          let below : k < length part.start = omega (arith, own_long, same_dims) in
+          let wide : k < length shared_box.start = omega (arith, start_len) in
+          let moved = zip_with-at (λ a b. a - b) shared_box.start (corner sub i) k wide (omega (arith, same_dims)) in
+          let a = slice_index part.start k in
+          let b = slice_index (corner sub i) k in
+          let x = slice_index part.shape k in
+          let y = slice_index sub k in
+          own_within a x b y (slice_index shared_box.start k) (slice_index shared_box.shape k) (slice_index own_box.start k) (start_at k below) (shape_at k below) moved (not_zero (slice_index shared_box.shape k) (full k (omega (arith, shape_len))));
+    };
+    own_few = count_inside shared_box part (start_len ∙ sym shape_len) long (shared_inside full);
+  }
+
+-- ---- the bytes
+
+-- the window of a range of a window
+sub_window : (offset len start end : ℕ) (source : List ℕ) → start ≤ end → end ≤ len → take (end - start) (drop (offset + start) source) ≡ slice_range (take len (drop offset source)) start end
+sub_window offset len start end source order inside =
+    let xs = drop offset source in
+    let split : len ≡ start + (len - start) = omega arith in
+    ap (take (end - start)) (sym (drop-drop start offset source))
+    ∙ sym
+    (ap (λ n. take (end - start) (drop start (take n xs))) split
+    ∙ ap (take (end - start)) (drop-take start (len - start) xs)
+    ∙ take-take (end - start) (len - start) (drop start xs) (omega arith))
+
+any_at : {X : Type 0} (f : X → Bool) (xs : List X) (j : ℕ) (d : X) → j < length xs → f (get_or xs j d) ≡ true → list_any f xs ≡ true
+any_at f [] j d lt is = absurd (omega arith)
+any_at f (x ∷ xs) zero d lt is = ap (λ b. b || list_any f xs) is
+any_at f (x ∷ xs) (suc j) d lt is = ap (λ b. f x || b) (any_at f xs j d (omega arith) is) ∙ or_true (f x)
+  where
+    or_true : (b : Bool) → (b || true) ≡ true
+    or_true true = refl
+    or_true false = refl
+
+-- the entry of a subchunk in the index of its shard
+entry_at : (ranges : List (Option SubchunkRange)) (n : ℕ) → n < length ranges → piece_at 16 (flat_map range_entry ranges) n ≡ range_entry (get_or ranges n None)
+entry_at ranges n lt =
+    let count = length ranges in
+    let all = pieces-flat_map range_entry 16 ranges (λ k d below. length-range_entry (get_or ranges k d)) in
+    sym (get_or-map-range_with_len (piece_at 16 (flat_map range_entry ranges)) 0 count n n [] lt (omega arith))
+    ∙ ap (λ l. get_or l n []) all
+    ∙ get_or-map range_entry ranges n None [] lt
+  where
+    length-range_entry : (r : Option SubchunkRange) → length (range_entry r) ≡ 16
+    length-range_entry None = length-entry_bytes absent absent
+    length-range_entry (Some r) = length-entry_bytes r.start (r.end - r.start)
+
+-- it names the places of the range
+named_place : (r : SubchunkRange) (x : ℕ) → r.start ≤ r.end → r.end < 2 ^ 64 → r.start ≤ x → x < r.end → is_range_place (range_entry (Some r)) x ≡ true
+named_place r x order small from below =
+    let o = r.start in
+    let l = r.end - r.start in
+    let e = entry_bytes o l in
+    let end : x < o + l = omega arith in
+    ap (λ a. not ((eqb a absent) && (eqb (from_le_bytes w64 (drop 8 e)) absent)) && (nat_le a x && nat_lt x (a + from_le_bytes w64 (drop 8 e)))) (entry_offset o l (omega arith))
+    ∙ ap (λ b. not ((eqb o absent) && (eqb b absent)) && (nat_le o x && nat_lt x (o + b))) (entry_len o l (omega arith))
+    ∙ ap (λ b. not b && (nat_le o x && nat_lt x (o + l))) (not_absent o l (omega arith))
+    ∙ and_from (nat_le o x) (nat_lt x (o + l)) (le-leb o x from) (lt-ltb x (o + l) end)
+
+-- the window of a subchunk, its bytes, and its places
+pub record IsOwnWindow (may_read : ℕ → Bool) (window own : Window) (source : List ℕ) (ranges : List (Option SubchunkRange)) (n : ℕ) : Type 0 where
+  pub inside : IsWindow own source
+  pub bytes_are : slice_index_or (map (range_part (window_bytes window source)) ranges) n None ≡ Some (window_bytes own source)
+  pub allowed : (places : ℕ → Bool) → ((place : ℕ) → places place ≡ true → place < length (window_bytes own source)) → MayRead may_read own places
+
+pub own_window : (may_read : ℕ → Bool) (window own : Window) (source : List ℕ) (ranges : List (Option SubchunkRange)) (n : ℕ) (range : SubchunkRange)
+    (at_start : Bool) (sub : List ℕ) (k : Kind) (s : List ℕ) (part : Box)
+    → IsWindow window source → n < length ranges → n < subchunk_count s sub → slice_index_or ranges n None ≡ Some range
+    → own.offset ≡ window.offset + range.start → own.len ≡ range.end - range.start
+    → All (IsRangeWithin (length (window_bytes window source))) ranges
+    → index_in at_start (subchunk_count s sub) (window_bytes window source) ≡ flat_map range_entry ranges → length source < 2 ^ 64
+    → boxes_meet part (subchunk_box s sub n) ≡ true
+    → MayRead may_read window (shard_places at_start sub k s part (window_bytes window source))
+    → IsOwnWindow may_read window own source ranges n
+own_window may_read window own source ranges n range at_start sub k s part inside lt below found offset_is len_is within entries small_source meets may =
+    let E = window_bytes window source in
+    let count = subchunk_count s sub in
+    let len : length E ≡ window.len = length-take-le window.len (drop window.offset source) (omega (arith, length-drop window.offset source)) in
+    let fits = subst (IsRangeWithin (length E)) found (within n None lt) in
+    let order : range.start ≤ range.end = fits.0 in
+    let end : range.end ≤ window.len = omega (arith, fits.1) in
+    let same : window_bytes own source ≡ slice_range E range.start range.end =
+    ap (λ o. take own.len (drop o source)) offset_is ∙ ap (λ l. take l (drop (window.offset + range.start) source)) len_is ∙ sub_window window.offset window.len range.start range.end source order end in
+    let own_inside : own.offset + own.len ≤ length source = omega arith in
+    let own_len : length (window_bytes own source) ≡ own.len = length-take-le own.len (drop own.offset source) (omega (arith, length-drop own.offset source)) in
+    record {
+      inside = own_inside;
+      bytes_are = get_or-map (range_part E) ranges n None None lt ∙ ap (range_part E) found ∙ ap Some (sym same);
+      allowed = λ places short place is.
+          let small : place < range.end - range.start = omega (arith, short place is) in
+          let x = range.start + place in
+          let index = index_in at_start count E in
+          let named : is_range_place (piece_at 16 index n) x ≡ true =
+          ap (λ l. is_range_place (piece_at 16 l n) x) entries
+          ∙ ap (λ e. is_range_place e x) (entry_at ranges n lt ∙ ap range_entry found)
+          ∙ named_place range x order (omega arith) (omega arith) (omega arith) in
+          let test : (boxes_meet part (subchunk_box s sub n) && is_range_place (piece_at 16 index n) x) ≡ true =
+          and_from (boxes_meet part (subchunk_box s sub n)) (is_range_place (piece_at 16 index n) x) meets named in
+          let any : list_any (λ j. boxes_meet part (subchunk_box s sub j) && is_range_place (piece_at 16 index j) x) (range_with_len 0 count) ≡ true =
+          any_at (λ j. boxes_meet part (subchunk_box s sub j) && is_range_place (piece_at 16 index j) x) (range_with_len 0 count) n 0 (omega (arith, length-range_with_len 0 count))
+          (ap (λ j. boxes_meet part (subchunk_box s sub j) && is_range_place (piece_at 16 index j) x) (get_or-range_with_len 0 count n 0 below ∙ (let e : 0 + n ≡ n = omega arith in e)) ∙ test) in
+          let at : own.offset + place ≡ window.offset + x = omega arith in
+          ap may_read at
+          ∙ may x
+          (and_from (nat_lt x (length E)) (is_index_place at_start count (length E) x || list_any (λ j. boxes_meet part (subchunk_box s sub j) && is_range_place (piece_at 16 index j) x) (range_with_len 0 count))
+          (lt-ltb x (length E) (omega arith))
+          (ap (λ b. is_index_place at_start count (length E) x || b) any ∙ or_true (is_index_place at_start count (length E) x)));
+    }
+  where
+    or_true : (b : Bool) → (b || true) ≡ true
+    or_true true = refl
+    or_true false = refl
+
+-- ---- the subchunks that a part meets
+
+div_above : (s p c : ℕ) → 0 < c → s ≤ p → s / c ≤ p / c
+div_above s p c some le = elim (cases_lt (p / c) (s / c)) [
+  | inl lt ↦
+      let past : p < s / c * c = (div-lt_iff_lt-mul {k = c} {x = p} {y = s / c} some).0 lt in
+      let whole : s / c * c ≤ s = div-mul-le_self s c in
+      absurd (omega arith)
+  | inr ge ↦ ge
+]
+
+-- along one dimension: the first subchunk, and how many
+pub record MeetsAlong (s x c first count : ℕ) : Type 0 where
+  pub first_is : first ≡ s / c
+  pub fits : first + count < 2 ^ 64
+  pub met : (i : ℕ) → i < s + x → i / c < first + count
+
+pub meets_part : (s sub start extents : List ℕ) (part : Box) → is_cut_by s sub ≡ true → IsLong part → LiesInShape part s → length start ≡ length sub → length extents ≡ length sub
+    → ((k : ℕ) → k < length sub → MeetsAlong (slice_index part.start k) (slice_index part.shape k) (slice_index sub k) (slice_index start k) (slice_index extents k))
+    → MeetsPart sub part (box_from start extents)
+meets_part s sub start extents part cut long lies start_len extents_len each p holds =
+    let at = holds_along part p long holds in
+    let sub_len = (cut_len s sub cut).0 in
+    let p_len : length p ≡ length sub = at.same_length ∙ lies.same_length ∙ sym sub_len in
+    let wide = length-zip_with (λ n c. n / c) p sub p_len in
+    along_holds (box_from start extents) (quotients p sub) (start_len ∙ sym extents_len)
+    (record {
+      same_length = wide ∙ p_len ∙ sym start_len;
+      from = λ k lt.
+          let below : k < length sub = omega arith in
+          let along = each k below in
+          let some = (cut_at s sub k cut (omega arith)).1 in
+          let here = zip_with-at (λ n c. n / c) p sub k (omega arith) below in
+          let low = div_above (slice_index part.start k) (slice_index p k) (slice_index sub k) some (at.from k (omega (arith, lies.same_length))) in
+          omega (arith, here, along.first_is);
+      below = λ k lt.
+          let below : k < length sub = omega arith in
+          let along = each k below in
+          let here = zip_with-at (λ n c. n / c) p sub k (omega arith) below in
+          let high = along.met (slice_index p k) (at.below k (omega (arith, lies.same_length))) in
+          omega (arith, here);
+    })
+
+-- one dimension more
+pub along_more : (starts extents ps px sub : List ℕ) (n first count : ℕ) → length starts ≡ n → length extents ≡ n
+    → ((k : ℕ) → k < n → MeetsAlong (slice_index ps k) (slice_index px k) (slice_index sub k) (slice_index starts k) (slice_index extents k))
+    → MeetsAlong (slice_index ps n) (slice_index px n) (slice_index sub n) first count
+    → (k : ℕ) → k < n + 1 → MeetsAlong (slice_index ps k) (slice_index px k) (slice_index sub k) (slice_index (starts ++ first ∷ []) k) (slice_index (extents ++ count ∷ []) k)
+along_more starts extents ps px sub n first count starts_len extents_len each last k lt = elim (cases_lt k n) [
+  | inl below ↦
+      let a : slice_index (starts ++ first ∷ []) k ≡ slice_index starts k = get_or_append_left starts (first ∷ []) 0 k (omega arith) in
+      let b : slice_index (extents ++ count ∷ []) k ≡ slice_index extents k = get_or_append_left extents (count ∷ []) 0 k (omega arith) in
+      subst (λ y. MeetsAlong (slice_index ps k) (slice_index px k) (slice_index sub k) (slice_index (starts ++ first ∷ []) k) y) (sym b)
+      (subst (λ x. MeetsAlong (slice_index ps k) (slice_index px k) (slice_index sub k) x (slice_index extents k)) (sym a) (each k below))
+  | inr past ↦
+      let at : n ≡ k = omega arith in
+      let a : slice_index (starts ++ first ∷ []) k ≡ first = ap (slice_index (starts ++ first ∷ [])) (sym at ∙ sym starts_len) ∙ get_or-append_seam starts first [] 0 in
+      let b : slice_index (extents ++ count ∷ []) k ≡ count = ap (slice_index (extents ++ count ∷ [])) (sym at ∙ sym extents_len) ∙ get_or-append_seam extents count [] 0 in
+      subst (λ y. MeetsAlong (slice_index ps k) (slice_index px k) (slice_index sub k) (slice_index (starts ++ first ∷ []) k) y) (sym b)
+      (subst (λ x. MeetsAlong (slice_index ps k) (slice_index px k) (slice_index sub k) x count) (sym a)
+      (subst (λ j. MeetsAlong (slice_index ps j) (slice_index px j) (slice_index sub j) first count) at last))
+]
+
+-- the lists after one dimension more
+pub record AreMet (ps px sub starts extents : List ℕ) (n : ℕ) : Type 0 where
+  pub start_len : length starts ≡ n
+  pub extents_len : length extents ≡ n
+  pub each : (k : ℕ) → k < n → MeetsAlong (slice_index ps k) (slice_index px k) (slice_index sub k) (slice_index starts k) (slice_index extents k)
+
+pub met_more : (ps px sub starts extents new_starts new_extents : List ℕ) (n first count : ℕ) → AreMet ps px sub starts extents n → new_starts ≡ starts ++ first ∷ [] → new_extents ≡ extents ++ count ∷ []
+    → MeetsAlong (slice_index ps n) (slice_index px n) (slice_index sub n) first count → AreMet ps px sub new_starts new_extents (n + 1)
+met_more ps px sub starts extents new_starts new_extents n first count met starts_are extents_are last = record {
+  start_len = ap length starts_are ∙ length-append starts (first ∷ []) ∙ (let e : length starts + 1 ≡ n + 1 = omega (arith, met.start_len) in e);
+  extents_len = ap length extents_are ∙ length-append extents (count ∷ []) ∙ (let e : length extents + 1 ≡ n + 1 = omega (arith, met.extents_len) in e);
+  each = λ k lt.
+      subst (λ l. MeetsAlong (slice_index ps k) (slice_index px k) (slice_index sub k) (slice_index new_starts k) (slice_index l k)) (sym extents_are)
+      (subst (λ l. MeetsAlong (slice_index ps k) (slice_index px k) (slice_index sub k) (slice_index l k) (slice_index (extents ++ count ∷ []) k)) (sym starts_are)
+      (along_more starts extents ps px sub n first count met.start_len met.extents_len met.each last k lt));
+}
+
+-- along one dimension
+pub along : (s x c first end count : ℕ) → first ≡ s / c → end ≡ s + x → first + count < 2 ^ 64 → ((i : ℕ) → i < end → i / c < first + count) → MeetsAlong s x c first count
+along s x c first end count first_is end_is fits met = record { first_is = first_is; fits = fits; met = λ i lt. met i (omega arith) }

@@ -1,0 +1,9 @@
+pub mod Chain
+pub mod Options
+pub mod Refusals
+pub mod BytesInto
+pub mod Parts
+pub mod Places
+pub mod PartRefusals
+pub mod ShardInto
+pub mod ShardParts

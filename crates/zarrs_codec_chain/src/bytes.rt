@@ -1,0 +1,79 @@
+//! Parts of chunks under the codec `bytes`.
+ghost use Rattle.std.specs.Prelude.{◌≡◌, ◌↔◌, ◌*◌, ◌<◌, ◌^◌, false, Some, IfOk, IfErr, IsTrue, length};
+ghost use Rattle.zarrs_data_type.specs.ArrayData.{data_of};
+ghost use Rattle.zarrs_codec_leaf.specs.Bytes.{bytes_meaning_of, endian_of};
+ghost use Rattle.zarrs_codec_leaf.specs.Sources.{IsWindow, MayRead, window_bytes};
+ghost use Rattle.zarrs_subset.specs.Boxes.{position_count};
+ghost use Rattle.zarrs_subset.specs.Regions.{LiesInShape, box_of};
+ghost use Rattle.zarrs_data_type.specs.Kind.{kind, cell_size, element_size};
+ghost use Rattle.zarrs_codec_chain.specs.Parts.{DecodesPart};
+ghost use Rattle.zarrs_codec_chain.specs.Places.{cell_places};
+ghost use Rattle.zarrs_codec_chain.specs.PartRefusals.{RefusesPartDecoding};
+
+use crate::error::PartError;
+use std::alloc::Global;
+use zarrs_codec_leaf::{ByteSource, BytesCodec, CodecError, LeafCodec, Misfit, Window, read_box};
+use zarrs_data_type::{ArrayBytes, DataType};
+use zarrs_subset::{ArraySubset, element_count};
+
+/// The cells of a part of a chunk whose bytes are those of a window.
+///
+/// If the source does not lend its bytes, one range is read for each run of cells that stand together: a row of the
+/// part, or more if its last dimensions are whole. They are copied once, and then turned round if the codec asks it.
+///
+/// # Errors
+/// `DoesNotFit` if the codec does not take the type, if the window is not as long as the cells of the chunk, or if the
+/// bytes of the part are no values of the type; what the source says if it refuses. `OutOfMemory` may come at any time.
+pub fn partial_decode_bytes<B: ByteSource>(
+    codec: &BytesCodec,
+    alloc: Global,
+    source: &B,
+    window: Window,
+    part: &ArraySubset,
+    data_type: &DataType,
+    shape: &[u64],
+) -> Result<ArrayBytes<'static>, PartError>
+    requires size { position_count shape.now * cell_size (kind data_type.now) < 2 ^ 64 }
+    requires part { LiesInShape (box_of part.now) shape.now }
+    requires window { IsWindow window (B.bytes source.now) }
+    requires may_read { MayRead (B.may_read source.now) window
+        (cell_places (kind data_type.now) shape.now (box_of part.now)
+        (window_bytes window (B.bytes source.now))) }
+    ensures part { IfOk result (λ made. DecodesPart (kind data_type.now) shape.now (box_of part.now)
+        ((bytes_meaning_of (endian_of codec.now)).decoded (kind data_type.now)
+        (position_count shape.now) (window_bytes window (B.bytes source.now))) (data_of made)) }
+    ensures refused { IfErr result (RefusesPartDecoding
+        ((bytes_meaning_of (endian_of codec.now)).decoded (kind data_type.now)
+        (position_count shape.now) (window_bytes window (B.bytes source.now))) false 0
+        (B.refuses source.now)) }
+{
+    if !codec.takes(data_type) {
+        return Err(PartError::Codec(CodecError::DoesNotFit(Misfit::TypeOrShape)));
+    }
+    let Some(size) = data_type.element_size() else {
+        unreachable!()
+    };
+    if !is_length_of(window.len, shape, data_type, size) {
+        return Err(PartError::Codec(CodecError::DoesNotFit(Misfit::Bytes)));
+    }
+    let Ok(count) = part.num_elements() else {
+        unreachable!()
+    };
+    let encoded = read_box(alloc, source, window, shape, part, size as u64)?;
+    Ok(codec.decode_owned(alloc, encoded, data_type, count)?)
+}
+
+/// Whether the cells of a chunk of this shape have so many bytes.
+pub(crate) fn is_length_of(len: u64, shape: &[u64], data_type: &DataType, size: usize) -> bool
+    requires sized { element_size (kind data_type.now) ≡ Some size }
+    requires small { position_count shape.now * cell_size (kind data_type.now) < 2 ^ 64 }
+    ensures { IsTrue result ↔ (len ≡ position_count shape.now * size) }
+{
+    match element_count(shape) {
+        Some(count) => {
+            let wanted = count * size as u64;
+            wanted == len
+        }
+        None => unreachable!(),
+    }
+}

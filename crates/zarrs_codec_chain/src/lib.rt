@@ -1,0 +1,30 @@
+//! The trait of chains of codecs, and the parts of chunks that a chain reads by themselves.
+//!
+//! Layouts and engines use `ChainTraits` and name no codec. It has `encode`, `decode`, `compact`, `partial_decode`,
+//! `partial_encode`, and `decode_into` a target. `CodecOptions` has what a caller chooses for a call. `zarrs_codec`
+//! uses `partial_decode_bytes`, `open_shard` and `part_of_whole`, which read the parts of chunks.
+//!
+//! The ghost member `meaning` of `ChainTraits` is a `ChainMeaning` of `specs/Chain.antt`, and its law is
+//! `IsLawfulChain`. `encoded` and `decoded` are the bytes of cells and the cells of bytes. `places` says which bytes
+//! a read of a part needs, and `specs/Places.antt` defines it. `specs/Parts.antt` says what such a read returns
+//! (`DecodesPart`), and what it leaves in a target (`DecodesInto`, `DecodesPartAt`).
+#![tactic(auto)]
+
+mod bytes;
+mod bytes_into;
+mod error;
+mod options;
+mod shard;
+mod traits;
+mod whole;
+
+pub use bytes::partial_decode_bytes;
+pub use bytes_into::{decode_bytes_into, partial_decode_bytes_into};
+pub use error::PartError;
+pub use options::{
+    CodecMetadataOptions, CodecOptions, CodecSpecificOptions, ShardingCodecOptions,
+    SubchunkWriteOrder,
+};
+pub use shard::{ShardIndex, common_part, met_subchunks, open_shard, seen_from_corner, shifted_to};
+pub use traits::ChainTraits;
+pub use whole::{part_of_whole, write_whole};

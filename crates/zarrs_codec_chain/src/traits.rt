@@ -1,0 +1,285 @@
+//! What a codec chain does.
+ghost use Rattle.std.specs.Prelude.{◌≡◌, ◌*◌, ◌<◌, ◌^◌, true, Some, IfOk, IfErr, IsSome};
+ghost use Rattle.std.specs.Prelude.{length, option_map, OnOk};
+ghost use Rattle.zarrs_subset.specs.Boxes.{position_count};
+ghost use Rattle.zarrs_subset.specs.Regions.{box_of, LiesInShape};
+ghost use Rattle.zarrs_codec_leaf.specs.Sources.{IsWindow, MayRead, window_bytes};
+ghost use Rattle.zarrs_data_type.specs.States.{IsTarget, SameBox, StaysOutside, data_of_target};
+ghost use Rattle.zarrs_data_type.specs.States.{parent_box, target_box};
+ghost use Rattle.zarrs_data_type.specs.Targets.{takes_type};
+ghost use Rattle.zarrs_codec_chain.specs.Parts.{DecodesInto, DecodesPart, DecodesPartAt};
+ghost use Rattle.zarrs_codec_chain.specs.PartRefusals.{RefusesIntoDecoding, RefusesPartDecoding};
+ghost use Rattle.zarrs_codec_shard.specs.ShardPatches.{change_of};
+ghost use Rattle.zarrs_data_type.specs.Kind.{kind, cell_size};
+ghost use Rattle.zarrs_data_type.specs.Cell.{fill_cell, fill_of, held_size};
+ghost use Rattle.zarrs_data_type.specs.ArrayData.{data_of};
+ghost use Rattle.zarrs_data_type.specs.Cells.{cells, HasCells};
+ghost use Rattle.zarrs_codec_chain.specs.Chain.{ChainMeaning, IsLawfulChain, chunk_encoding, partial_encoding};
+ghost use Rattle.zarrs_codec_chain.specs.Refusals.{RefusesChunkEncoding, RefusesChunkDecoding};
+ghost use Rattle.zarrs_codec_chain.specs.Refusals.{RefusesCompaction, RefusesPartialEncoding};
+ghost use Rattle.zarrs_codec_chain.specs.Options.{stores_empty_chunks};
+
+use crate::error::PartError;
+use crate::options::CodecOptions;
+use std::alloc::{AllocError, Global};
+use zarrs_codec_leaf::{ByteSource, CodecError, Window};
+use zarrs_codec_shard::PartialWrite;
+use zarrs_data_type::{ArrayBytes, ArrayBytesDecodeIntoTarget, DataType, FillValue};
+use zarrs_subset::ArraySubset;
+
+/// A chain of codecs, which turns the cells of a chunk into bytes and back (Zarr V3 core specification, "Codecs").
+/// A shape has the chunk's extents, and the fill value is one of the data type.
+pub trait ChainTraits {
+    /// Which bytes stand for which cells.
+    ghost meaning: { Self → ChainMeaning };
+
+    /// Whether the chain takes this type in chunks of this shape.
+    ///
+    /// # Errors
+    /// `AllocError`: out of memory.
+    fn fits(&self, alloc: Global, data_type: &DataType, shape: &[u64]) -> Result<bool, AllocError>
+        ensures { IfOk result (λ fits. fits ≡ (meaning self.now).fits (kind data_type.now)
+            shape.now) };
+
+    /// The bytes of a chunk's cells. `shape` has the chunk's extents, `bytes` its cells in row-major order.
+    ///
+    /// # Errors
+    /// In this order: `DoesNotFit` if the chain does not take the type and the shape; `SizeOverflow` if a size is too
+    /// large. `OutOfMemory` may come at any time.
+    fn encode(
+        &self,
+        alloc: Global,
+        bytes: &ArrayBytes<'_>,
+        data_type: &DataType,
+        fill_value: &FillValue,
+        shape: &[u64],
+        options: &CodecOptions,
+    ) -> Result<Vec<u8>, CodecError>
+        requires filled { IsSome (fill_cell (kind data_type.now) fill_value.now) }
+        requires cells { HasCells (kind data_type.now) (data_of bytes.now)
+            (position_count shape.now) }
+        ensures encoded { IfOk result (λ encoded.
+            chunk_encoding (meaning self.now) (stores_empty_chunks options.now) (kind data_type.now)
+            (fill_of (kind data_type.now) fill_value.now) shape.now (data_of bytes.now)
+            ≡ Some encoded.items) }
+        ensures refused { IfErr result
+            (RefusesChunkEncoding (meaning self.now) (stores_empty_chunks options.now)
+            (kind data_type.now) (fill_of (kind data_type.now) fill_value.now) shape.now
+            (data_of bytes.now)) };
+
+    /// The bytes of a chunk's cells, which are given away: a chain that would put owned bytes down as they are takes
+    /// them, and copies none.
+    ///
+    /// # Errors
+    /// Those of `encode`.
+    fn encode_owned(
+        &self,
+        alloc: Global,
+        bytes: ArrayBytes<'_>,
+        data_type: &DataType,
+        fill_value: &FillValue,
+        shape: &[u64],
+        options: &CodecOptions,
+    ) -> Result<Vec<u8>, CodecError>
+        requires filled { IsSome (fill_cell (kind data_type.now) fill_value.now) }
+        requires cells { HasCells (kind data_type.now) (data_of bytes) (position_count shape.now) }
+        ensures encoded { IfOk result (λ encoded.
+            chunk_encoding (meaning self.now) (stores_empty_chunks options.now) (kind data_type.now)
+            (fill_of (kind data_type.now) fill_value.now) shape.now (data_of bytes.entry)
+            ≡ Some encoded.items) }
+        ensures refused { IfErr result
+            (RefusesChunkEncoding (meaning self.now) (stores_empty_chunks options.now)
+            (kind data_type.now) (fill_of (kind data_type.now) fill_value.now) shape.now
+            (data_of bytes.entry)) };
+
+    /// The cells of a chunk's bytes. They may be lent by these bytes, so that a caller who takes a part of them copies
+    /// that part alone.
+    ///
+    /// # Errors
+    /// `DoesNotFit` if the bytes do not decode; `SizeOverflow` if they leave out cells, and a chunk of fill is too large.
+    /// Which comes if both hold is open. `OutOfMemory` may come at any time.
+    fn decode<'a>(
+        &self,
+        alloc: Global,
+        encoded: &'a [u8],
+        data_type: &DataType,
+        fill_value: &FillValue,
+        shape: &[u64],
+    ) -> Result<ArrayBytes<'a>, CodecError>
+        requires filled { IsSome (fill_cell (kind data_type.now) fill_value.now) }
+        requires size { position_count shape.now * cell_size (kind data_type.now) < 2 ^ 64 }
+        ensures cells { IfOk result (λ made. cells (kind data_type.now) (data_of made)
+            ≡ (meaning self.now).decoded (kind data_type.now)
+            (fill_of (kind data_type.now) fill_value.now) shape.now encoded.now) }
+        ensures some { IfOk result (λ made. IsSome (cells (kind data_type.now) (data_of made))) }
+        ensures refused { IfErr result (RefusesChunkDecoding (meaning self.now) (kind data_type.now)
+            (fill_of (kind data_type.now) fill_value.now) shape.now encoded.now) };
+
+    /// The cells of a part of a chunk whose bytes are those of a window of a source. No other bytes are read than those
+    /// that the part needs.
+    ///
+    /// # Errors
+    /// `Codec(DoesNotFit)` if the bytes do not decode, though a part of them may; `Codec(SizeOverflow)` if they leave out
+    /// cells, and a chunk of fill is too large; `Source` if the source refuses. `Codec(OutOfMemory)` may come at any time.
+    fn partial_decode<B: ByteSource>(
+        &self,
+        alloc: Global,
+        source: &B,
+        window: Window,
+        part: &ArraySubset,
+        data_type: &DataType,
+        fill_value: &FillValue,
+        shape: &[u64],
+    ) -> Result<ArrayBytes<'static>, PartError>
+        requires filled { IsSome (fill_cell (kind data_type.now) fill_value.now) }
+        requires size { position_count shape.now * cell_size (kind data_type.now) < 2 ^ 64 }
+        requires part { LiesInShape (box_of part.now) shape.now }
+        requires window { IsWindow window (B.bytes source.now) }
+        requires may_read { MayRead (B.may_read source.now) window ((meaning self.now).places
+            (kind data_type.now) shape.now (box_of part.now)
+            (window_bytes window (B.bytes source.now))) }
+        ensures cells { IfOk result (λ made. DecodesPart (kind data_type.now) shape.now
+            (box_of part.now) ((meaning self.now).decoded (kind data_type.now)
+            (fill_of (kind data_type.now) fill_value.now) shape.now
+            (window_bytes window (B.bytes source.now))) (data_of made)) }
+        ensures refused { IfErr result (RefusesPartDecoding ((meaning self.now).decoded
+            (kind data_type.now) (fill_of (kind data_type.now) fill_value.now) shape.now
+            (window_bytes window (B.bytes source.now)))
+            ((meaning self.now).leaves_out shape.now (window_bytes window (B.bytes source.now)))
+            (position_count shape.now * held_size (kind data_type.now)
+            (fill_of (kind data_type.now) fill_value.now)) (B.refuses source.now)) };
+
+    /// Decodes a part of a chunk, which has the shape of the target's box, into the box. The chunk's bytes are those of a
+    /// window of a source. No other bytes are read than those that the part needs. Every byte outside the box stays; after
+    /// a refusal the inside is open.
+    ///
+    /// # Errors
+    /// Those of `partial_decode`.
+    fn partial_decode_into<B: ByteSource>(
+        &self,
+        alloc: Global,
+        source: &B,
+        window: Window,
+        part: &ArraySubset,
+        data_type: &DataType,
+        fill_value: &FillValue,
+        shape: &[u64],
+        target: &mut ArrayBytesDecodeIntoTarget<'_, '_, '_>,
+    ) -> Result<(), PartError>
+        requires filled { IsSome (fill_cell (kind data_type.now) fill_value.now) }
+        requires size { position_count shape.now * cell_size (kind data_type.now) < 2 ^ 64 }
+        requires part { LiesInShape (box_of part.now) shape.now }
+        requires window { IsWindow window (B.bytes source.now) }
+        requires may_read { MayRead (B.may_read source.now) window ((meaning self.now).places
+            (kind data_type.now) shape.now (box_of part.now)
+            (window_bytes window (B.bytes source.now))) }
+        requires target { IsTarget target.old }
+        requires takes { takes_type target.old.cell_size target.old.depth (kind data_type.now)
+            ≡ true }
+        requires same_shape { (target_box target.old).shape ≡ (box_of part.now).shape }
+        ensures target { IsTarget target.new }
+        ensures same_bytes { target.new.bytes.ghost_name ≡ target.old.bytes.ghost_name }
+        ensures same_masks { target.new.masks.ghost_name ≡ target.old.masks.ghost_name }
+        ensures same_box { SameBox target.old target.new }
+        ensures cells { OnOk result (DecodesPartAt (kind data_type.now) shape.now (box_of part.now)
+            ((meaning self.now).decoded (kind data_type.now)
+            (fill_of (kind data_type.now) fill_value.now) shape.now
+            (window_bytes window (B.bytes source.now))) (parent_box target.old)
+            (target_box target.old) (data_of_target target.new)) }
+        ensures outside { StaysOutside target.old target.new }
+        ensures refused { IfErr result (RefusesPartDecoding ((meaning self.now).decoded
+            (kind data_type.now) (fill_of (kind data_type.now) fill_value.now) shape.now
+            (window_bytes window (B.bytes source.now)))
+            ((meaning self.now).leaves_out shape.now (window_bytes window (B.bytes source.now)))
+            (position_count shape.now * held_size (kind data_type.now)
+            (fill_of (kind data_type.now) fill_value.now)) (B.refuses source.now)) };
+
+    /// Decodes a chunk, which has the shape of the target's box, into the box. Every byte outside the box stays; after a
+    /// refusal the inside is open.
+    ///
+    /// # Errors
+    /// `DoesNotFit` if the bytes do not decode. `OutOfMemory` may come at any time.
+    fn decode_into(
+        &self,
+        alloc: Global,
+        encoded: &[u8],
+        data_type: &DataType,
+        fill_value: &FillValue,
+        target: &mut ArrayBytesDecodeIntoTarget<'_, '_, '_>,
+    ) -> Result<(), CodecError>
+        requires filled { IsSome (fill_cell (kind data_type.now) fill_value.now) }
+        requires target { IsTarget target.old }
+        requires takes { takes_type target.old.cell_size target.old.depth (kind data_type.now)
+            ≡ true }
+        ensures target { IsTarget target.new }
+        ensures same_bytes { target.new.bytes.ghost_name ≡ target.old.bytes.ghost_name }
+        ensures same_masks { target.new.masks.ghost_name ≡ target.old.masks.ghost_name }
+        ensures same_box { SameBox target.old target.new }
+        ensures cells { OnOk result (DecodesInto (kind data_type.now) (parent_box target.old)
+            (target_box target.old) ((meaning self.now).decoded (kind data_type.now)
+            (fill_of (kind data_type.now) fill_value.now) (target_box target.old).shape encoded.now)
+            (data_of_target target.new)) }
+        ensures outside { StaysOutside target.old target.new }
+        ensures refused { IfErr result (RefusesIntoDecoding ((meaning self.now).decoded
+            (kind data_type.now) (fill_of (kind data_type.now) fill_value.now)
+            (target_box target.old).shape encoded.now)) };
+
+    /// The bytes of the same cells without what no cell needs, or `None` if those are the same bytes.
+    ///
+    /// # Errors
+    /// `DoesNotFit` if the bytes do not decode; `SizeOverflow` if those bytes are too many. `OutOfMemory` may come at any
+    /// time.
+    fn compact(
+        &self,
+        alloc: Global,
+        encoded: &[u8],
+        shape: &[u64],
+    ) -> Result<Option<Vec<u8>>, CodecError>
+        ensures less { IfOk result (λ less. (meaning self.now).compacted shape.now encoded.now
+            ≡ Some (option_map (λ encoded. encoded.items) less)) }
+        ensures refused { IfErr result (RefusesCompaction (meaning self.now) shape.now
+            encoded.now) };
+
+    /// Whether the cells of a part are written into the bytes of their chunk.
+    fn supports_partial_encode(&self) -> bool
+        ensures { result ≡ (meaning self.now).encodes_partly };
+
+    /// What is done with the key of a chunk, so that it has the cells `bytes` at the positions of `part` and its other
+    /// cells stay. `stored` has the bytes of the key, or `None` if it is absent.
+    ///
+    /// # Errors
+    /// `DoesNotFit` if the chain does not take the type and the shape, or if the stored bytes do not decode;
+    /// `SizeOverflow` if a size is too large, be it of a chunk of fill where the stored bytes leave out cells. Which comes
+    /// if both hold is open. `OutOfMemory` may come at any time.
+    fn partial_encode(
+        &self,
+        alloc: Global,
+        stored: Option<&[u8]>,
+        part: &ArraySubset,
+        bytes: &ArrayBytes<'_>,
+        data_type: &DataType,
+        fill_value: &FillValue,
+        shape: &[u64],
+        options: &CodecOptions,
+    ) -> Result<PartialWrite, CodecError>
+        requires supported { (meaning self.now).encodes_partly ≡ true }
+        requires filled { IsSome (fill_cell (kind data_type.now) fill_value.now) }
+        requires size { position_count shape.now * cell_size (kind data_type.now) < 2 ^ 64 }
+        requires dimensions { length (box_of part.now).start ≡ length shape.now }
+        requires cells { HasCells (kind data_type.now) (data_of bytes.now)
+            (position_count (box_of part.now).shape) }
+        ensures written { IfOk result (λ write.
+            partial_encoding (meaning self.now) (stores_empty_chunks options.now)
+            (kind data_type.now) (fill_of (kind data_type.now) fill_value.now) shape.now
+            (option_map (λ encoded. encoded.now) stored.entry) (box_of part.now)
+            (data_of bytes.now) ≡ Some (change_of write)) }
+        ensures refused { IfErr result
+            (RefusesPartialEncoding (meaning self.now) (stores_empty_chunks options.now)
+            (kind data_type.now) (fill_of (kind data_type.now) fill_value.now) shape.now
+            (option_map (λ encoded. encoded.now) stored.entry) (box_of part.now)
+            (data_of bytes.now)) };
+
+    /// Decoding returns what was encoded, what was encoded is compact, and what a partial encode leaves decodes to the
+    /// updated cells.
+    ghost lawful: { (chain : Self) → IsLawfulChain (meaning chain) };
+}

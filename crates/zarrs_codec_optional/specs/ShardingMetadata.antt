@@ -1,0 +1,80 @@
+-- The metadata of the codec `sharding_indexed`: the configuration that says it, and what is written.
+use Rattle.std.specs.Prelude.{ℕ, Bool, true, false, List, [], ◌∷◌, map, codes, ◌==◌, ◌&&◌, if◌then◌else◌, Option, Some, None, option_and_then}
+use Rattle.std.specs.Int.NonZero.{non_zero_u64_get}
+use Rattle.std.specs.Str.{bytes_eq}
+use Rattle.std.specs.declared.num.NonZeroU64.{NonZeroU64}
+use Rattle.serde_json.specs.Data.{Data, string, Members, no_members, member}
+use Rattle.serde_json.specs.Find.{get_member, as_str}
+use Rattle.zarrs_metadata_parts.specs.Extension.{ExtensionData, extension_of, extension_data, ◌>>=◌}
+use Rattle.zarrs_metadata_parts.specs.Lists.{list_of, list_data, number_of, number_data}
+use Rattle.zarrs_metadata_parts.specs.Members.{has_only}
+use Rattle.zarrs_codec_optional.specs.Sole.{sole_codec, list_of_one}
+use Rattle.zarrs_codec_optional.specs.VlenMetadata.{passes, is_little_bytes, little_bytes}
+
+-- what a configuration says: the shape of the subchunks, whether the index stands at the start, and the extension points
+-- of the chain of the subchunks
+pub record ShardingData : Type 0 where
+  pub chunk_shape : List ℕ
+  pub at_start : Bool
+  pub codecs : List ExtensionData
+
+-- sizes as numbers
+abbrev pub sizes_of : List NonZeroU64 → List ℕ
+sizes_of sizes = map non_zero_u64_get sizes
+
+-- ---- what metadata says
+
+-- a whole number that is not 0
+abbrev pub size_of_number : ℕ → Option ℕ
+size_of_number n = if n == 0 then None else Some n
+
+abbrev pub size_said : Data → Option ℕ
+size_said d = option_and_then size_of_number (number_of d)
+
+-- whether the index stands at the start: an absent member says that it stands at the end
+abbrev pub location_named : List ℕ → Option Bool
+location_named text = if bytes_eq text (codes "start") then Some true else (if bytes_eq text (codes "end") then Some false else None)
+
+abbrev pub location_said : Option Data → Option Bool
+location_said None = Some false
+location_said (Some value) = option_and_then location_named (as_str value)
+
+-- the index is encoded by `bytes`, little endian, alone
+abbrev pub is_plain_index : Option Data → Bool
+is_plain_index value = passes is_little_bytes (sole_codec value)
+
+abbrev pub sharding_names : List (List ℕ)
+sharding_names = codes "chunk_shape" ∷ codes "codecs" ∷ codes "index_codecs" ∷ codes "index_location" ∷ []
+
+-- the configuration of these parts
+abbrev pub sharding_from : Option Bool → Option (List ℕ) → Option (List ExtensionData) → Option ShardingData
+sharding_from at_start chunk_shape codecs = do
+  location ← at_start
+  sizes ← chunk_shape
+  list ← codecs
+  Some (record { chunk_shape = sizes; at_start = location; codecs = list })
+
+-- what a configuration says
+abbrev pub sharding_data : Members → Option ShardingData
+sharding_data ms =
+    if has_only sharding_names ms && is_plain_index (get_member (codes "index_codecs") ms)
+    then sharding_from (location_said (get_member (codes "index_location") ms)) (option_and_then (list_of size_said) (get_member (codes "chunk_shape") ms))
+    (option_and_then (list_of extension_of) (get_member (codes "codecs") ms)) else None
+
+-- ---- what is written
+
+abbrev pub location_name : Bool → List ℕ
+location_name true = codes "start"
+location_name false = codes "end"
+
+-- the location of the index is written always
+abbrev pub sharding_extension : ShardingData → ExtensionData
+sharding_extension d = record {
+  name = codes "sharding_indexed";
+  configuration = Some
+      (member (codes "chunk_shape") (list_data number_data d.chunk_shape)
+      (member (codes "codecs") (list_data extension_data d.codecs)
+      (member (codes "index_codecs") (list_of_one little_bytes)
+      (member (codes "index_location") (string (location_name d.at_start)) no_members))));
+  must_understand = true;
+}

@@ -1,0 +1,199 @@
+//! The metadata of the codec `sharding_indexed`, both ways.
+ghost use Rattle.std.specs.Prelude.{◌≡◌, map, option_map, option_and_then, IfOk};
+ghost use Rattle.std.specs.Int.NonZero.{non_zero_u64_get};
+ghost use Rattle.serde_json.specs.View.{view, items_view};
+ghost use Rattle.zarrs_metadata_parts.specs.Extension.{extension_data, extension_of, extension_view, settings};
+ghost use Rattle.zarrs_metadata_parts.specs.Lists.{all_of, list_data, list_of, number_data};
+ghost use Rattle.zarrs_codec_optional.specs.VlenMetadata.{is_little_bytes};
+ghost use Rattle.zarrs_codec_optional.specs.ShardingMetadata.{is_plain_index, location_said};
+ghost use Rattle.zarrs_codec_optional.specs.ShardingMetadata.{sharding_data, sharding_extension, size_said, sizes_of};
+ghost use Rattle.zarrs_codec_optional.specs.ShardingViews.{sharding_view};
+
+use crate::metadata::named;
+use crate::sole::{extension_from, list_of_one, sole_codec};
+use crate::vlen_metadata::{is_little_bytes, little_bytes};
+use serde_json::Value;
+use std::alloc::{AllocError, Global};
+use std::num::NonZeroU64;
+use zarrs_metadata_parts::MetadataV3;
+
+/// What a configuration of `sharding_indexed` says.
+#[derive(Drop)]
+pub struct ShardingParts {
+    /// The extents of each subchunk.
+    pub subchunk_shape: Vec<NonZeroU64>,
+    /// Whether the index stands before the subchunks.
+    pub at_start: bool,
+    /// The chain of the subchunks.
+    pub codecs: Vec<MetadataV3>,
+}
+
+/// Returns what the configuration says, if it says a codec of shards: `chunk_shape`, a list of whole numbers that are
+/// not 0; `codecs`, a list of extension points; `index_codecs`, a list of `bytes`, little endian, alone; and
+/// `index_location`, which is `start`, `end` or absent.
+///
+/// # Errors
+/// `AllocError`: out of memory.
+pub fn sharding_parts(
+    alloc: Global,
+    metadata: &MetadataV3,
+) -> Result<Option<ShardingParts>, AllocError>
+    ensures { IfOk result (λ parts. option_map sharding_view parts
+        ≡ sharding_data (settings (extension_view metadata.now))) }
+{
+    if !metadata.has_only(&["chunk_shape", "codecs", "index_codecs", "index_location"]) {
+        return Ok(None);
+    }
+    if !is_plain_index(metadata.member("index_codecs"))? {
+        return Ok(None);
+    }
+    let Some(at_start) = location_from(metadata.member("index_location")) else {
+        return Ok(None);
+    };
+    let Some(subchunk_shape) = sizes_from(alloc, metadata.member("chunk_shape"))? else {
+        return Ok(None);
+    };
+    let Some(codecs) = extensions_from(alloc, metadata.member("codecs"))? else {
+        return Ok(None);
+    };
+    Ok(Some(ShardingParts {
+        subchunk_shape,
+        at_start,
+        codecs,
+    }))
+}
+
+/// Whether the index is encoded by `bytes`, little endian, alone.
+fn is_plain_index(value: Option<&Value>) -> Result<bool, AllocError>
+    ensures { IfOk result (λ is. is
+        ≡ is_plain_index (option_map (λ value. view value.now) value.entry)) }
+{
+    match sole_codec(value)? {
+        Some(codec) => Ok(is_little_bytes(&codec)),
+        None => Ok(false),
+    }
+}
+
+/// Whether the index stands before the subchunks, if the member says so or not.
+fn location_from(member: Option<&Value>) -> Option<bool>
+    ensures { result ≡ location_said (option_map (λ value. view value.now) member.entry) }
+{
+    let Some(value) = member else {
+        return Some(false);
+    };
+    match value.as_str()? {
+        "start" => Some(true),
+        "end" => Some(false),
+        _ => None,
+    }
+}
+
+/// Returns the list of sizes that a member says.
+fn sizes_from(alloc: Global, member: Option<&Value>) -> Result<Option<Vec<NonZeroU64>>, AllocError>
+    ensures { IfOk result (λ found. option_map (λ sizes. sizes_of sizes.items) found
+        ≡ option_and_then (list_of size_said) (option_map (λ value. view value.now) member.entry)) }
+{
+    match member.and_then(|value| value.as_array()) {
+        Some(items) => all_sizes(alloc, items),
+        None => Ok(None),
+    }
+}
+
+fn all_sizes(alloc: Global, items: &Vec<Value>) -> Result<Option<Vec<NonZeroU64>>, AllocError>
+    ensures { IfOk result (λ found. option_map (λ sizes. sizes_of sizes.items) found
+        ≡ all_of size_said (items_view items.now.items)) }
+{
+    let mut sizes = Vec::with_capacity(alloc, items.len())?;
+    for item in items {
+        match size_from(item) {
+            Some(size) => sizes.push(size)?,
+            None => return Ok(None),
+        }
+    }
+    Ok(Some(sizes))
+}
+
+/// A whole number that is not 0.
+fn size_from(value: &Value) -> Option<NonZeroU64>
+    ensures { option_map non_zero_u64_get result ≡ size_said (view value.now) }
+{
+    NonZeroU64::new(value.as_u64()?)
+}
+
+/// Returns the list of extension points that a member says.
+fn extensions_from(
+    alloc: Global,
+    member: Option<&Value>,
+) -> Result<Option<Vec<MetadataV3>>, AllocError>
+    ensures { IfOk result (λ found. option_map (λ list. map extension_view list.items) found
+        ≡ option_and_then (list_of extension_of) (option_map (λ value. view value.now) member.entry)) }
+{
+    match member.and_then(|value| value.as_array()) {
+        Some(items) => all_extensions(alloc, items),
+        None => Ok(None),
+    }
+}
+
+fn all_extensions(alloc: Global, items: &Vec<Value>) -> Result<Option<Vec<MetadataV3>>, AllocError>
+    ensures { IfOk result (λ found. option_map (λ list. map extension_view list.items) found
+        ≡ all_of extension_of (items_view items.now.items)) }
+{
+    let mut extensions = Vec::with_capacity(alloc, items.len())?;
+    for item in items {
+        match extension_from(item)? {
+            Some(extension) => extensions.push(extension)?,
+            None => return Ok(None),
+        }
+    }
+    Ok(Some(extensions))
+}
+
+/// Returns the metadata of a codec of shards with these subchunks.
+///
+/// # Errors
+/// `AllocError`: out of memory.
+pub fn sharding_metadata(
+    alloc: Global,
+    subchunk_shape: &[NonZeroU64],
+    at_start: bool,
+    codecs: &[MetadataV3],
+) -> Result<MetadataV3, AllocError>
+    ensures { IfOk result (λ m. extension_view m ≡ sharding_extension (record {
+      chunk_shape = sizes_of subchunk_shape.now;
+      at_start = at_start;
+      codecs = map extension_view codecs.now;
+    })) }
+{
+    let location = if at_start { "start" } else { "end" };
+    let index_codecs = list_of_one(alloc, &little_bytes(alloc)?)?;
+    named(alloc, "sharding_indexed")?
+        .with_member(alloc, "chunk_shape", sizes_value(alloc, subchunk_shape)?)?
+        .with_member(alloc, "codecs", extensions_value(alloc, codecs)?)?
+        .with_member(alloc, "index_codecs", index_codecs)?
+        .with_member(
+            alloc,
+            "index_location",
+            Value::try_from_str(alloc, location)?,
+        )
+}
+
+fn sizes_value(alloc: Global, sizes: &[NonZeroU64]) -> Result<Value, AllocError>
+    ensures { IfOk result (λ value. view value ≡ list_data number_data (sizes_of sizes.now)) }
+{
+    let mut values = Vec::with_capacity(alloc, sizes.len())?;
+    for size in sizes {
+        values.push(Value::from(size.get()))?;
+    }
+    Ok(Value::Array(values))
+}
+
+fn extensions_value(alloc: Global, extensions: &[MetadataV3]) -> Result<Value, AllocError>
+    ensures { IfOk result (λ value. view value
+        ≡ list_data extension_data (map extension_view extensions.now)) }
+{
+    let mut values = Vec::with_capacity(alloc, extensions.len())?;
+    for extension in extensions {
+        values.push(extension.to_value(alloc)?)?;
+    }
+    Ok(Value::Array(values))
+}

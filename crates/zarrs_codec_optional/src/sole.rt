@@ -1,0 +1,59 @@
+//! Lists of one codec in the configuration of another.
+ghost use Rattle.std.specs.Prelude.{◌≡◌, option_map, IfOk};
+ghost use Rattle.serde_json.specs.View.{view, items_view};
+ghost use Rattle.zarrs_metadata_parts.specs.Extension.{extension_view, extension_of};
+ghost use Rattle.zarrs_data_type.specs.FillMetadata.{sole_item};
+ghost use Rattle.zarrs_codec_optional.specs.Sole.{sole_codec, list_of_one};
+
+use serde_json::Value;
+use std::alloc::{AllocError, Global};
+use zarrs_metadata_parts::MetadataV3;
+
+/// Returns the only extension point of a list.
+pub fn sole_codec(list: Option<&Value>) -> Result<Option<MetadataV3>, AllocError>
+    ensures { IfOk result (λ found. option_map extension_view found
+        ≡ sole_codec (option_map (λ value. view value.now) list.entry)) }
+{
+    let Some(value) = list else {
+        return Ok(None);
+    };
+    let Some(items) = value.as_array() else {
+        return Ok(None);
+    };
+    match sole_item(items) {
+        Some(item) => extension_from(item),
+        None => Ok(None),
+    }
+}
+
+/// Returns the item of a list of one.
+fn sole_item(items: &Vec<Value>) -> Option<&Value>
+    ensures { option_map (λ value. view value.now) result ≡ sole_item (items_view items.now.items) }
+{
+    if items.len() == 1 {
+        items.first()
+    } else {
+        None
+    }
+}
+
+/// Returns the extension point that a value says, if it says one.
+pub fn extension_from(value: &Value) -> Result<Option<MetadataV3>, AllocError>
+    ensures { IfOk result (λ found. option_map extension_view found
+        ≡ extension_of (view value.now)) }
+{
+    let copy = value.clone()?;
+    match MetadataV3::from_value(copy) {
+        Ok(metadata) => Ok(Some(metadata)),
+        Err(_) => Ok(None),
+    }
+}
+
+/// Returns the list of this one extension point.
+pub fn list_of_one(alloc: Global, codec: &MetadataV3) -> Result<Value, AllocError>
+    ensures { IfOk result (λ v. view v ≡ list_of_one (extension_view codec.now)) }
+{
+    let mut codecs = Vec::new(alloc);
+    codecs.push(codec.to_value(alloc)?)?;
+    Ok(Value::Array(codecs))
+}

@@ -1,0 +1,17 @@
+pub mod Cells
+pub mod Filled
+pub mod Fills
+pub mod Fixed
+pub mod FixedSizes
+pub mod Made
+pub mod Parts
+pub mod Pieces
+pub mod Presence
+pub mod Spread
+pub mod Validity
+mod Periods
+pub mod ByteStrings
+mod Numbers
+mod Rows
+mod BoxRows
+mod AsciiTexts

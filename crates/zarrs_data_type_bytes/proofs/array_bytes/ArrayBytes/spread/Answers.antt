@@ -1,0 +1,64 @@
+use Rattle.std.proofs.Common.{◌≡◌, ◌*◌, ◌<◌, ◌^◌, true, Some, sym, ap, subst, ◌∙◌, length}
+use Rattle.std.specs.Prelude.{count_by}
+use Rattle.std.proofs.lemmas.Result.{IfOk-weaker}
+use Rattle.zarrs_data_type_kinds.specs.Kind.{kind, element_size}
+use Rattle.zarrs_data_type_kinds.proofs.Sizes.{cell_size-element}
+use Rattle.zarrs_data_type_bytes.specs.ArrayData.{data_of, fixed}
+use Rattle.zarrs_data_type_bytes.specs.Cells.{fits, HasCells, IsSelection}
+use Rattle.zarrs_data_type_bytes.specs.Present.{flag_set, ranks_set}
+use Rattle.zarrs_data_type_bytes.proofs.Fixed.{length-fixed}
+use Rattle.zarrs_data_type_bytes.proofs.Presence.{not_both, length-ranks}
+use Rattle.zarrs_data_type_bytes.proofs.Spread.{IsSelection-fixed, CanSelect-ranks}
+use Rattle.zarrs_data_type_bytes.proofs.array_bytes.ArrayBytes.spread.Goals as goal
+
+pub returns-then-fits-clause-cells : goal.returns-then-fits-clause-cells
+returns-then-fits-clause-cells c =
+    IfOk-weaker c.missing.result _ _
+    (λ made is n fit some_there. absurd (not_both c.args.data_type.now (data_of c.args.self.now) n (sym c.fits.ensures ∙ c.if-fits.true) fit some_there))
+    c.missing.ensures
+
+pub spread_fixed-requires-clause-cells : goal.spread_fixed-requires-clause-cells
+spread_fixed-requires-clause-cells c =
+    let k = kind c.args.data_type.now in
+    let ones = count_by flag_set c.args.mask.now in
+    let size : element_size k ≡ Some c.in-Some.size = sym c.element_size.ensures ∙ c.in-Some.is in
+    let same : data_of c.args.self.now ≡ fixed c.as_slice.result.now = ap data_of c.in-Fixed.is ∙ ap fixed (sym c.as_slice.ensures.value) in
+    length-fixed k c.in-Some.size size c.as_slice.result.now ones (subst (λ d. HasCells k d ones) same c.requires.present)
+
+pub spread_fixed-requires-clause-size : goal.spread_fixed-requires-clause-size
+spread_fixed-requires-clause-size c =
+    let k = kind c.args.data_type.now in
+    let size : element_size k ≡ Some c.in-Some.size = sym c.element_size.ensures ∙ c.in-Some.is in
+    subst (λ n. length c.args.mask.now * n < 2 ^ 64) (cell_size-element k c.in-Some.size size) c.requires.size
+
+pub returns-in-Fixed-clause-cells : goal.returns-in-Fixed-clause-cells
+returns-in-Fixed-clause-cells c = λ n fit some_there.
+    let k = kind c.args.data_type.now in
+    let mask = c.args.mask.now in
+    let ranks = ranks_set mask (length mask) in
+    let items = c.in_ok-spread.spread.items in
+    let size : element_size k ≡ Some c.in-Some.size = sym c.element_size.ensures ∙ c.in-Some.is in
+    let same : data_of c.args.self.now ≡ fixed c.as_slice.result.now = ap data_of c.in-Fixed.is ∙ ap fixed (sym c.as_slice.ensures.value) in
+    let len : length items ≡ length ranks * c.in-Some.size = c.in_ok-spread.ensures.len ∙ ap (λ m. m * c.in-Some.size) (sym (length-ranks mask)) in
+    subst (λ d. IsSelection k (fixed items) d ranks) (sym same) (IsSelection-fixed k c.in-Some.size c.as_slice.result.now items ranks size len c.in_ok-spread.ensures.cells)
+
+pub select-requires : goal.select-requires
+select-requires c =
+    let mask = c.args.mask.now in
+    let ranks : c.as_slice-2.result.now ≡ ranks_set mask (length mask) = c.as_slice-2.ensures.value ∙ c.in_ok-ranks.ensures in
+    CanSelect-ranks (kind c.args.data_type.now) (data_of c.args.self.now) mask c.as_slice-2.result.now (sym c.fits.ensures ∙ c.if-fits.false) c.requires.present ranks
+
+pub returns : goal.returns
+returns c =
+    let k = kind c.args.data_type.now in
+    let d = data_of c.args.self.now in
+    let mask = c.args.mask.now in
+    let ranks : c.as_slice-2.result.now ≡ ranks_set mask (length mask) = c.as_slice-2.ensures.value ∙ c.in_ok-ranks.ensures in
+    record {
+      kind = IfOk-weaker c.select.result _ _
+          (λ made selected. subst (λ n. fits k (data_of made) n ≡ true) (ap length ranks ∙ length-ranks mask) selected.has_kind)
+          c.select.ensures;
+      cells = IfOk-weaker c.select.result _ _
+          (λ made selected n fit some_there. subst (λ l. IsSelection k (data_of made) d l) ranks selected)
+          c.select.ensures;
+    }

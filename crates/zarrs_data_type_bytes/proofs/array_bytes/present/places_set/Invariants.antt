@@ -1,0 +1,10 @@
+use Rattle.std.proofs.Common.{◌≡◌, ◌<◌, length}
+use Rattle.std.specs.Prelude.{All}
+use Rattle.zarrs_data_type_bytes.specs.Present.{places_set}
+use Rattle.zarrs_data_type_bytes.proofs.array_bytes.present.places_set.Given as goal
+
+abbrev pub invariant-loop-index : goal.invariant-loop-index
+invariant-loop-index l = record {
+  places : l.places.items ≡ places_set l.mask l.index;
+  within : All (λ p. p < length l.mask) l.places.items;
+}

@@ -1,0 +1,6 @@
+pub mod ArrayData
+pub mod Cells
+pub mod Parts
+pub mod Present
+pub mod Offsets
+pub mod StringParts

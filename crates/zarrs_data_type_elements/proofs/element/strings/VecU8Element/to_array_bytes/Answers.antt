@@ -1,0 +1,11 @@
+use Rattle.std.proofs.Common.{refl, sym, ◌∙◌}
+use Rattle.zarrs_data_type_kinds.specs.Kind.{kind}
+use Rattle.zarrs_data_type_kinds.specs.Kind as type
+use Rattle.zarrs_data_type_elements.proofs.StringCells.{cells-made, all_true, kind_is}
+use Rattle.zarrs_data_type_elements.proofs.element.strings.VecU8Element.to_array_bytes.Goals as goal
+
+pub returns-clause-cells : goal.returns-clause-cells
+returns-clause-cells c =
+    let k = kind c.args.data_type.now in
+    cells-made (λ b. b.items) k type.bytes c.args.elements.now c.finish.result (kind_is k type.bytes (sym c.serves.ensures ∙ c.if-not-serves.false)) refl
+    (c.finish.ensures ∙ c.in_ok-strings.ensures) (all_true c.finish.result)

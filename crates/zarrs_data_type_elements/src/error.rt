@@ -1,0 +1,33 @@
+//! Why lists of values are refused.
+ghost use Rattle.std.specs.Prelude.{◌≡◌};
+ghost use Rattle.zarrs_data_type_elements.specs.declared.error.ElementError.TheVariants as element;
+
+use std::alloc::{AllocError, AllocFailed};
+use thiserror::Error;
+
+/// A list of values of Rust that is not one of cells of the data type.
+#[derive(Debug, Drop, Error, PartialEq, Eq)]
+pub enum ElementError {
+    /// The element type is not the data type's.
+    #[error("the element type does not match the data type")]
+    IncompatibleElementType,
+    /// Out of memory.
+    #[error("out of memory")]
+    OutOfMemory,
+}
+
+impl From<AllocError> for ElementError {
+    ghost from_gives = { λ _ e. e ≡ element.OutOfMemory };
+
+    fn from(_error: AllocError) -> ElementError {
+        ElementError::OutOfMemory
+    }
+}
+
+impl<T: Drop> From<AllocFailed<T>> for ElementError {
+    ghost from_gives = { λ _ e. e ≡ element.OutOfMemory };
+
+    fn from(_error: AllocFailed<T>) -> ElementError {
+        ElementError::OutOfMemory
+    }
+}

@@ -1,0 +1,409 @@
+//! Fill values as metadata says them, both ways.
+ghost use Rattle.std.specs.Prelude.{◌≡◌, [], ◌∷◌, ◌++◌, true, Some, None, nat_lt, length};
+ghost use Rattle.std.specs.Prelude.{option_map, if◌then◌else◌, IfOk, IfErr, IsSome};
+ghost use Rattle.std.specs.Int.{w16, w32, w64, from_le_bytes};
+ghost use Rattle.std.specs.List.{list_all};
+ghost use Rattle.std.specs.Str.{is_utf8};
+ghost use Rattle.serde_json.specs.Data.{string, array, item, no_items};
+ghost use Rattle.serde_json.specs.View.{view, items_view};
+ghost use Rattle.zarrs_metadata_parts.specs.FillValue.{fill_data};
+ghost use Rattle.zarrs_metadata_parts.specs.Lists.{numbers_data};
+ghost use Rattle.zarrs_data_type_kinds.specs.Cell.{fill_cell, is_element};
+ghost use Rattle.zarrs_data_type_kinds.specs.Fills.{RefusesFillMetadata, RefusesFill};
+ghost use Rattle.zarrs_data_type_kinds.specs.FillMetadata.{bytes_said, sized_said, text_said, element_said};
+ghost use Rattle.zarrs_data_type_kinds.specs.FillMetadata.{sole_item, fill_said, element_data, fill_written};
+ghost use Rattle.zarrs_data_type_kinds.specs.Kind.{kind};
+ghost use Rattle.zarrs_data_type_kinds.specs.Kind as type;
+
+use crate::data_type::DataType;
+use crate::error::{DataTypeFillValueError, DataTypeFillValueMetadataError};
+use crate::fill_value::{FillValue, inner_fill};
+use serde_json::Value;
+use std::alloc::{AllocError, Global};
+use zarrs_metadata_parts::{FillValueMetadata, numbers, numbers_value};
+
+fn made(alloc: Global, bytes: &[u8]) -> Result<Option<Vec<u8>>, AllocError>
+    ensures { IfOk result (λ made. option_map (λ b. b.items) made ≡ Some bytes.now) }
+{
+    Ok(Some(Vec::from_slice(alloc, bytes)?))
+}
+
+fn bool_said(alloc: Global, value: &Value) -> Result<Option<Vec<u8>>, AllocError>
+    ensures { IfOk result (λ said. option_map (λ b. b.items) said
+        ≡ element_said type.bool (view value.now)) }
+{
+    match value.as_bool() {
+        Some(flag) => made(alloc, &[flag as u8]),
+        None => Ok(None),
+    }
+}
+
+fn int8_said(alloc: Global, value: &Value) -> Result<Option<Vec<u8>>, AllocError>
+    ensures { IfOk result (λ said. option_map (λ b. b.items) said
+        ≡ element_said type.int8 (view value.now)) }
+{
+    match value.as_i64() {
+        Some(number) => {
+            if -128 <= number && number <= 127 {
+                made(alloc, &(number as i8).to_le_bytes())
+            } else {
+                Ok(None)
+            }
+        }
+        None => Ok(None),
+    }
+}
+
+fn int16_said(alloc: Global, value: &Value) -> Result<Option<Vec<u8>>, AllocError>
+    ensures { IfOk result (λ said. option_map (λ b. b.items) said
+        ≡ element_said type.int16 (view value.now)) }
+{
+    match value.as_i64() {
+        Some(number) => {
+            if -32_768 <= number && number <= 32_767 {
+                made(alloc, &(number as i16).to_le_bytes())
+            } else {
+                Ok(None)
+            }
+        }
+        None => Ok(None),
+    }
+}
+
+fn int32_said(alloc: Global, value: &Value) -> Result<Option<Vec<u8>>, AllocError>
+    ensures { IfOk result (λ said. option_map (λ b. b.items) said
+        ≡ element_said type.int32 (view value.now)) }
+{
+    match value.as_i64() {
+        Some(number) => {
+            if -2_147_483_648 <= number && number <= 2_147_483_647 {
+                made(alloc, &(number as i32).to_le_bytes())
+            } else {
+                Ok(None)
+            }
+        }
+        None => Ok(None),
+    }
+}
+
+fn int64_said(alloc: Global, value: &Value) -> Result<Option<Vec<u8>>, AllocError>
+    ensures { IfOk result (λ said. option_map (λ b. b.items) said
+        ≡ element_said type.int64 (view value.now)) }
+{
+    match value.as_i64() {
+        Some(number) => made(alloc, &number.to_le_bytes()),
+        None => Ok(None),
+    }
+}
+
+fn uint8_said(alloc: Global, value: &Value) -> Result<Option<Vec<u8>>, AllocError>
+    ensures { IfOk result (λ said. option_map (λ b. b.items) said
+        ≡ element_said type.uint8 (view value.now)) }
+{
+    match value.as_u64() {
+        Some(number) => {
+            if number <= 255 {
+                made(alloc, &(number as u8).to_le_bytes())
+            } else {
+                Ok(None)
+            }
+        }
+        None => Ok(None),
+    }
+}
+
+fn uint16_said(alloc: Global, value: &Value) -> Result<Option<Vec<u8>>, AllocError>
+    ensures { IfOk result (λ said. option_map (λ b. b.items) said
+        ≡ element_said type.uint16 (view value.now)) }
+{
+    match value.as_u64() {
+        Some(number) => {
+            if number <= 65_535 {
+                made(alloc, &(number as u16).to_le_bytes())
+            } else {
+                Ok(None)
+            }
+        }
+        None => Ok(None),
+    }
+}
+
+fn uint32_said(alloc: Global, value: &Value) -> Result<Option<Vec<u8>>, AllocError>
+    ensures { IfOk result (λ said. option_map (λ b. b.items) said
+        ≡ element_said type.uint32 (view value.now)) }
+{
+    match value.as_u64() {
+        Some(number) => {
+            if number <= 4_294_967_295 {
+                made(alloc, &(number as u32).to_le_bytes())
+            } else {
+                Ok(None)
+            }
+        }
+        None => Ok(None),
+    }
+}
+
+fn uint64_said(alloc: Global, value: &Value) -> Result<Option<Vec<u8>>, AllocError>
+    ensures { IfOk result (λ said. option_map (λ b. b.items) said
+        ≡ element_said type.uint64 (view value.now)) }
+{
+    match value.as_u64() {
+        Some(number) => made(alloc, &number.to_le_bytes()),
+        None => Ok(None),
+    }
+}
+
+/// Returns the numbers as bytes, if each is one.
+fn as_bytes(alloc: Global, numbers: &[u64]) -> Result<Option<Vec<u8>>, AllocError>
+    ensures { IfOk result (λ said. option_map (λ b. b.items) said
+        ≡ (if list_all (λ x. nat_lt x 256) numbers.now then Some numbers.now else None)) }
+{
+    let mut bytes = Vec::with_capacity(alloc, numbers.len())?;
+    for number in numbers {
+        if *number > 255 {
+            return Ok(None);
+        }
+        bytes.push(*number as u8)?;
+    }
+    Ok(Some(bytes))
+}
+
+fn bytes_said(alloc: Global, value: &Value) -> Result<Option<Vec<u8>>, AllocError>
+    ensures { IfOk result (λ said. option_map (λ b. b.items) said ≡ bytes_said (view value.now)) }
+{
+    match numbers(alloc, value)? {
+        Some(numbers) => as_bytes(alloc, &numbers),
+        None => Ok(None),
+    }
+}
+
+fn sized_said(alloc: Global, value: &Value, size: usize) -> Result<Option<Vec<u8>>, AllocError>
+    ensures { IfOk result (λ said. option_map (λ b. b.items) said
+        ≡ sized_said size (view value.now)) }
+{
+    let Some(bytes) = bytes_said(alloc, value)? else {
+        return Ok(None);
+    };
+    if bytes.len() == size {
+        Ok(Some(bytes))
+    } else {
+        Ok(None)
+    }
+}
+
+fn text_said(alloc: Global, value: &Value) -> Result<Option<Vec<u8>>, AllocError>
+    ensures { IfOk result (λ said. option_map (λ b. b.items) said ≡ text_said (view value.now)) }
+{
+    match value.as_str() {
+        Some(text) => made(alloc, text.as_bytes()),
+        None => Ok(None),
+    }
+}
+
+/// Returns the bytes of the cell that a value says, of a type that is not optional.
+fn element_said(
+    alloc: Global,
+    data_type: &DataType,
+    value: &Value,
+) -> Result<Option<Vec<u8>>, AllocError>
+    ensures { IfOk result (λ said. option_map (λ b. b.items) said
+        ≡ element_said (kind data_type.now) (view value.now)) }
+{
+    match data_type {
+        DataType::Bool => bool_said(alloc, value),
+        DataType::Int8 => int8_said(alloc, value),
+        DataType::Int16 => int16_said(alloc, value),
+        DataType::Int32 => int32_said(alloc, value),
+        DataType::Int64 => int64_said(alloc, value),
+        DataType::UInt8 => uint8_said(alloc, value),
+        DataType::UInt16 => uint16_said(alloc, value),
+        DataType::UInt32 => uint32_said(alloc, value),
+        DataType::UInt64 => uint64_said(alloc, value),
+        DataType::Raw(size) => sized_said(alloc, value, size.get()),
+        DataType::String => text_said(alloc, value),
+        DataType::Bytes => bytes_said(alloc, value),
+        DataType::Optional(_) => Ok(None),
+    }
+}
+
+/// Returns the bytes of some of the cell of these bytes.
+fn some_of(bytes: Option<Vec<u8>>) -> Result<Option<Vec<u8>>, AllocError>
+    ensures { IfOk result (λ made. option_map (λ b. b.items) made
+        ≡ option_map (λ b. b.items ++ 1 ∷ []) bytes) }
+{
+    match bytes {
+        Some(mut bytes) => {
+            bytes.push(1)?;
+            Ok(Some(bytes))
+        }
+        None => Ok(None),
+    }
+}
+
+/// Returns the item of a list of one.
+fn sole_item(items: &Vec<Value>) -> Option<&Value>
+    ensures { option_map (λ value. view value.now) result ≡ sole_item (items_view items.now.items) }
+{
+    if items.len() == 1 {
+        items.first()
+    } else {
+        None
+    }
+}
+
+/// Returns the bytes of the fill value that a JSON value says.
+fn fill_said(
+    alloc: Global,
+    data_type: &DataType,
+    value: &Value,
+) -> Result<Option<Vec<u8>>, AllocError>
+    ensures { IfOk result (λ said. option_map (λ b. b.items) said
+        ≡ fill_said (kind data_type.now) (view value.now)) }
+{
+    match data_type {
+        DataType::Optional(inner) => match value {
+            Value::Null => made(alloc, &[0]),
+            Value::Array(items) => match sole_item(items) {
+                Some(item) => some_of(fill_said(alloc, inner, item)?),
+                None => Ok(None),
+            },
+            _ => Ok(None),
+        },
+        _ => element_said(alloc, data_type, value),
+    }
+}
+
+/// Returns the bytes as a list of numbers.
+fn list_value(alloc: Global, bytes: &[u8]) -> Result<Value, AllocError>
+    ensures { IfOk result (λ value. view value ≡ numbers_data bytes.now) }
+{
+    let mut numbers = Vec::with_capacity(alloc, bytes.len())?;
+    for byte in bytes {
+        numbers.push(*byte as u64)?;
+    }
+    let value = numbers_value(alloc, &numbers)?;
+    Ok(value)
+}
+
+/// Returns the JSON value of a cell of these bytes, of a type that is not optional.
+fn element_value(alloc: Global, data_type: &DataType, bytes: &[u8]) -> Result<Value, AllocError>
+    requires { is_element (kind data_type.now) bytes.now ≡ true }
+    ensures { IfOk result (λ value. view value ≡ element_data (kind data_type.now) bytes.now) }
+{
+    match data_type {
+        DataType::Bool => Ok(Value::Bool(bytes[0] == 1)),
+        DataType::Int8 => Ok(Value::from(bytes[0].cast_signed())),
+        DataType::Int16 => Ok(Value::from(number_of_2(bytes).cast_signed())),
+        DataType::Int32 => Ok(Value::from(number_of_4(bytes).cast_signed())),
+        DataType::Int64 => Ok(Value::from(number_of_8(bytes).cast_signed())),
+        DataType::UInt8 => Ok(Value::from(bytes[0])),
+        DataType::UInt16 => Ok(Value::from(number_of_2(bytes))),
+        DataType::UInt32 => Ok(Value::from(number_of_4(bytes))),
+        DataType::UInt64 => Ok(Value::from(number_of_8(bytes))),
+        DataType::String => text_value(alloc, bytes),
+        DataType::Raw(_) | DataType::Bytes => list_value(alloc, bytes),
+        DataType::Optional(_) => Ok(Value::Null),
+    }
+}
+
+fn number_of_2(bytes: &[u8]) -> u16
+    requires { length bytes.now ≡ 2 }
+    ensures { result ≡ from_le_bytes w16 bytes.now }
+{
+    u16::from_le_bytes([bytes[0], bytes[1]])
+}
+
+fn number_of_4(bytes: &[u8]) -> u32
+    requires { length bytes.now ≡ 4 }
+    ensures { result ≡ from_le_bytes w32 bytes.now }
+{
+    u32::from_le_bytes([bytes[0], bytes[1], bytes[2], bytes[3]])
+}
+
+fn number_of_8(bytes: &[u8]) -> u64
+    requires { length bytes.now ≡ 8 }
+    ensures { result ≡ from_le_bytes w64 bytes.now }
+{
+    u64::from_le_bytes([
+        bytes[0], bytes[1], bytes[2], bytes[3], bytes[4], bytes[5], bytes[6], bytes[7],
+    ])
+}
+
+fn text_value(alloc: Global, bytes: &[u8]) -> Result<Value, AllocError>
+    requires { is_utf8 bytes.now ≡ true }
+    ensures { IfOk result (λ value. view value ≡ string bytes.now) }
+{
+    match str::from_utf8(bytes) {
+        Ok(text) => Value::try_from_str(alloc, text),
+        Err(_) => unreachable!(),
+    }
+}
+
+/// Returns the JSON value of the fill value of these bytes.
+fn fill_written(alloc: Global, data_type: &DataType, bytes: &[u8]) -> Result<Value, AllocError>
+    requires { IsSome (fill_cell (kind data_type.now) bytes.now) }
+    ensures { IfOk result (λ value. view value ≡ fill_written (kind data_type.now) bytes.now) }
+{
+    match data_type {
+        DataType::Optional(inner) => match inner_fill(bytes) {
+            Some(front) => one_item(alloc, fill_written(alloc, inner, front)?),
+            None => Ok(Value::Null),
+        },
+        _ => element_value(alloc, data_type, bytes),
+    }
+}
+
+fn one_item(alloc: Global, value: Value) -> Result<Value, AllocError>
+    ensures { IfOk result (λ list. view list ≡ array (item (view value) no_items)) }
+{
+    let mut items = Vec::new(alloc);
+    items.push(value)?;
+    Ok(Value::Array(items))
+}
+
+impl DataType {
+    /// Reads the fill value that V3 metadata says (Zarr V3 core specification, "fill_value"): true or false for bool,
+    /// a whole number in range for a type of numbers, a list of bytes for a raw type and for bytes, a text for
+    /// string; for an optional type null for none, and a list of one value of the inner type for some.
+    ///
+    /// # Errors
+    /// `Invalid` if it says no value of this type. `OutOfMemory` may come at any time.
+    pub fn fill_value_v3(
+        &self,
+        alloc: Global,
+        metadata: &FillValueMetadata,
+    ) -> Result<FillValue, DataTypeFillValueMetadataError>
+        ensures read { IfOk result (λ f. fill_said (kind self.now) (fill_data metadata.now)
+            ≡ Some f) }
+        ensures value { IfOk result (λ f. IsSome (fill_cell (kind self.now) f)) }
+        ensures refused { IfErr result
+            (RefusesFillMetadata (fill_said (kind self.now) (fill_data metadata.now))) }
+    {
+        let value = metadata.to_value(alloc)?;
+        match fill_said(alloc, self, &value)? {
+            Some(bytes) => Ok(FillValue::new(bytes)),
+            None => Err(DataTypeFillValueMetadataError::Invalid),
+        }
+    }
+
+    /// Returns the metadata of a fill value.
+    ///
+    /// # Errors
+    /// In this order: `Invalid` if it is no value of this type; `OutOfMemory`.
+    pub fn metadata_fill_value(
+        &self,
+        alloc: Global,
+        fill_value: &FillValue,
+    ) -> Result<FillValueMetadata, DataTypeFillValueError>
+        ensures written { IfOk result (λ m.
+            fill_data m ≡ fill_written (kind self.now) fill_value.now) }
+        ensures refused { IfErr result (RefusesFill (fill_cell (kind self.now) fill_value.now)) }
+    {
+        if !fill_value.is_value_of(self) {
+            return Err(DataTypeFillValueError::Invalid);
+        }
+        let value = fill_written(alloc, self, fill_value.as_bytes())?;
+        Ok(FillValueMetadata::from_value(value))
+    }
+}

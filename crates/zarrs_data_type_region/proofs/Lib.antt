@@ -1,0 +1,12 @@
+pub mod NumberCells
+pub mod Placed
+pub mod Joins
+pub mod SharedBoxes
+pub mod Cuts
+pub mod TypeSizes
+pub mod TargetLevels
+pub mod TargetBoxes
+pub mod Copies
+pub mod Rows
+pub mod Repeats
+pub mod Fills

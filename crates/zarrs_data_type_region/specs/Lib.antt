@@ -1,0 +1,4 @@
+pub mod Places
+pub mod RegionData
+pub mod Targets
+pub mod States

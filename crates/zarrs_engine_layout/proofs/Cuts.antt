@@ -1,0 +1,114 @@
+-- Whether a chunk is cut, one dimension after another.
+use Rattle.std.proofs.Common.{◌≡◌, ◌<◌, ◌≤◌, ◌+◌, ◌-◌, ◌&&◌, ◌^◌, ℕ, Bool, true, false, not, cond, List, length, slice_index}
+use Rattle.std.proofs.Common.{Some, None, sym, ◌∙◌, ap, inl, inr, arith}
+use Rattle.std.proofs.lemmas.Bool.{cases_Bool}
+use Rattle.zarrs_subset.proofs.Overlaps.{length-zip_with}
+use Rattle.zarrs_chunk_grid.specs.Axes.{IsInterval}
+use Rattle.zarrs_chunk_grid.specs.Grids.{Grid, IsGrid, box_at, has_box, start_along, extent_along}
+use Rattle.zarrs_chunk_grid.proofs.AxisLemmas.{interval_fits}
+use Rattle.zarrs_chunk_grid.proofs.Chunks.{box_dimensions, box_is_there, box_long, has_box_is, no_box}
+use Rattle.zarrs_chunk_grid.proofs.MetChunks.{at_dimension}
+use Rattle.zarrs_engine_calls.specs.ChunkBoxes.{last_of}
+use Rattle.zarrs_engine_calls.specs.Cuts.{is_below, is_cut, keeps_some}
+use Rattle.zarrs_engine_calls.proofs.Below.{along_below, below_along}
+use Rattle.zarrs_engine_calls.proofs.Covers.{last_at}
+
+-- along the first n dimensions there is a chunk of that number
+abbrev pub NumberedTo : Grid → List ℕ → ℕ → Type 0
+NumberedTo grid index n = (k : ℕ) → k < n → slice_index index k < (grid.axis k).count
+
+-- along the first n dimensions the chunk begins below the shape, or ends there
+abbrev pub BeginsTo : Grid → List ℕ → List ℕ → ℕ → Type 0
+BeginsTo grid shape index n = (k : ℕ) → k < n → (grid.axis k).edge (slice_index index k) < slice_index shape k
+
+abbrev pub EndsTo : Grid → List ℕ → List ℕ → ℕ → Type 0
+EndsTo grid shape index n = (k : ℕ) → k < n → (grid.axis k).edge (slice_index index k + 1) ≤ slice_index shape k
+
+pub all_numbered : (grid : Grid) (index : List ℕ) (n : ℕ) → n ≡ grid.dimensions → length index ≡ grid.dimensions → NumberedTo grid index n → true ≡ has_box grid index
+all_numbered grid index n all long numbered = sym (has_box_is grid index (record { long = long; numbered = λ k below. numbered k (omega arith) }))
+
+pub one_missing : (grid : Grid) (index : List ℕ) (k : ℕ) → k < grid.dimensions → (grid.axis k).count ≤ slice_index index k → false ≡ has_box grid index
+one_missing grid index k below past = sym (no_box grid index k below past)
+
+-- the end of a chunk fits u64
+pub end_fits : (grid : Grid) → IsGrid grid → (n number start extent : ℕ) → n < grid.dimensions → IsInterval (grid.axis n) number start extent → start + extent < 2 ^ 64
+end_fits grid lawful n number start extent below v = interval_fits (grid.axis n) (lawful n below) number start extent v
+
+module _ (grid : Grid) (lawful : IsGrid grid) (shape index : List ℕ) (has : has_box grid index ≡ true) (long : length shape ≡ grid.dimensions) where
+  -- there is a chunk of each number
+  pub never_missing : (k : ℕ) → k < grid.dimensions → (grid.axis k).count ≤ slice_index index k → ⊥
+  never_missing k below past = let numbered = (box_is_there grid index has).numbered k below in absurd (omega arith)
+
+  start_is : (k : ℕ) → k < grid.dimensions → slice_index (box_at grid index).start k ≡ (grid.axis k).edge (slice_index index k)
+  unfolding box_at
+  start_is k below = at_dimension grid.dimensions (start_along grid index) k below
+
+  extent_is : (k : ℕ) → k < grid.dimensions → slice_index (box_at grid index).shape k ≡ (grid.axis k).edge (slice_index index k + 1) - (grid.axis k).edge (slice_index index k)
+  unfolding box_at
+  extent_is k below = at_dimension grid.dimensions (extent_along grid index) k below
+
+  pub last_is : (k : ℕ) → k < grid.dimensions → slice_index (last_of (box_at grid index)) k + 1 ≡ (grid.axis k).edge (slice_index index k + 1)
+  last_is k below =
+      let dimensions = box_dimensions grid index in
+      let at = last_at (box_at grid index).start (box_at grid index).shape k (box_long grid index) (omega (arith, dimensions)) in
+      let s = start_is k below in
+      let e = extent_is k below in
+      let rises = (lawful k below).ascends (slice_index index k) ((box_is_there grid index has).numbered k below) in
+      omega arith
+
+  last_long : length (last_of (box_at grid index)) ≡ length shape
+  last_long = length-zip_with (λ s e. s + e - 1) (box_at grid index).start (box_at grid index).shape (box_long grid index) ∙ box_dimensions grid index ∙ sym long
+
+  -- along some dimension the chunk ends past the shape
+  pub ends_past : (k start extent : ℕ) → k < length shape → IsInterval (grid.axis k) (slice_index index k) start extent → slice_index shape k < start + extent → false ≡ is_below shape (last_of (box_at grid index))
+  ends_past k start extent below v past = elim (cases_Bool (is_below shape (last_of (box_at grid index)))) [
+    | inr out ↦ sym out
+    | inl all ↦
+        let b = below_along shape (last_of (box_at grid index)) all in
+        let low = b.below k below in
+        let at = last_is k (omega arith) in
+        let ends = v.ends in
+        absurd (omega arith)
+  ]
+
+  -- along no dimension it does
+  pub ends_all : (n : ℕ) → n ≡ length shape → EndsTo grid shape index n → true ≡ is_below shape (last_of (box_at grid index))
+  ends_all n all within = sym (along_below shape (last_of (box_at grid index)) (record {
+    same_length = last_long;
+    below = λ k here.
+        let at = last_is k (omega arith) in
+        let low = within k (omega arith) in
+        omega arith;
+  }))
+
+  -- along some dimension the chunk begins past the shape
+  pub begins_past : (k start extent : ℕ) → k < length shape → IsInterval (grid.axis k) (slice_index index k) start extent → slice_index shape k ≤ start → false ≡ keeps_some grid shape index
+  begins_past k start extent below v past = elim (cases_Bool (keeps_some grid shape index)) [
+    | inr out ↦ sym out
+    | inl all ↦
+        let b = below_along shape (box_at grid index).start all in
+        let low = b.below k below in
+        let at = start_is k (omega arith) in
+        let begins = v.begins in
+        absurd (omega arith)
+  ]
+
+  -- along no dimension it does
+  pub begins_all : (n : ℕ) → n ≡ length shape → BeginsTo grid shape index n → true ≡ keeps_some grid shape index
+  begins_all n all within = sym (along_below shape (box_at grid index).start (record {
+    same_length = box_dimensions grid index ∙ sym long;
+    below = λ k here.
+        let at = start_is k (omega arith) in
+        let low = within k (omega arith) in
+        omega arith;
+  }))
+
+-- what these say together
+pub no_chunk_cut : (grid : Grid) (shape index : List ℕ) → has_box grid index ≡ false → None ≡ cond (is_cut grid shape index) (Some (keeps_some grid shape index)) None
+no_chunk_cut grid shape index none = sym (ap (λ b. cond (b && not (is_below shape (last_of (box_at grid index)))) (Some (keeps_some grid shape index)) None) none)
+
+pub whole_cut : (grid : Grid) (shape index : List ℕ) → has_box grid index ≡ true → is_below shape (last_of (box_at grid index)) ≡ true → None ≡ cond (is_cut grid shape index) (Some (keeps_some grid shape index)) None
+whole_cut grid shape index has all = sym (ap (λ b. cond b (Some (keeps_some grid shape index)) None) (ap (λ b. b && not (is_below shape (last_of (box_at grid index)))) has ∙ ap not all))
+
+pub some_cut : (grid : Grid) (shape index : List ℕ) (keeps : Bool) → has_box grid index ≡ true → is_below shape (last_of (box_at grid index)) ≡ false → keeps ≡ keeps_some grid shape index → Some keeps ≡ cond (is_cut grid shape index) (Some (keeps_some grid shape index)) None
+some_cut grid shape index keeps has past is = ap Some is ∙ sym (ap (λ b. cond b (Some (keeps_some grid shape index)) None) (ap (λ b. b && not (is_below shape (last_of (box_at grid index)))) has ∙ ap not past))

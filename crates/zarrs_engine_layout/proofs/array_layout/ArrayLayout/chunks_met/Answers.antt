@@ -1,0 +1,36 @@
+use Rattle.std.proofs.Common.{sym, subst, Option}
+use Rattle.zarrs_subset.specs.Regions.{box_of}
+use Rattle.zarrs_engine_calls.specs.Refusals.{Refusal, RefusesBy, refusal_of}
+use Rattle.zarrs_engine_layout.specs.Layouts.{layout_meaning}
+use Rattle.zarrs_engine_layout.proofs.RegionRefusals.{region_accepted, region_cover, region_uncovered}
+use Rattle.zarrs_engine_layout.proofs.array_layout.ArrayLayout.chunks_met.Goals as goal
+
+pub returns-in-Ok-Some-clause-cover : goal.returns-in-Ok-Some-clause-cover
+returns-in-Ok-Some-clause-cover g c =
+    let layout = layout_meaning c.args.self.now in
+    let shape = g.G.ChunkGridTraits.array_extents c.args.self.now.grid in
+    let region = c.args.region.now in
+    let chunks = c.in-Ok-Some.chunks in
+    let e = c.in-Ok-Some.ensures in
+    let is_met = rw c.in-Ok-Some.field-0-is at e.some in
+    region_cover layout c.args.self.now.lawful shape (box_of region) (region.same_length) (box_of chunks) (chunks.same_length) e.long is_met
+
+pub returns-in-Ok-Some-clause-accepted : goal.returns-in-Ok-Some-clause-accepted
+returns-in-Ok-Some-clause-accepted g c =
+    let layout = layout_meaning c.args.self.now in
+    let shape = g.G.ChunkGridTraits.array_extents c.args.self.now.grid in
+    let region = c.args.region.now in
+    let chunks = c.in-Ok-Some.chunks in
+    let e = c.in-Ok-Some.ensures in
+    let is_met = rw c.in-Ok-Some.field-0-is at e.some in
+    region_accepted layout c.args.self.now.lawful shape (box_of region) (region.same_length) (box_of chunks) (chunks.same_length) e.long is_met
+
+pub returns-in-Ok-None-clause-refused : goal.returns-in-Ok-None-clause-refused
+returns-in-Ok-None-clause-refused g c =
+    let layout = layout_meaning c.args.self.now in
+    let shape = g.G.ChunkGridTraits.array_extents c.args.self.now.grid in
+    let region = c.args.region.now in
+    let e = c.in-Ok-None.ensures in
+    let uncovered = rw c.in-Ok-None.field-0-is at e.none in
+    let said = region_uncovered layout c.args.self.now.lawful shape (box_of region) (region.same_length) e.long uncovered in
+    subst (λ (first : Option Refusal). RefusesBy first (refusal_of c.invalid_region.result)) (sym said) c.invalid_region.ensures

@@ -1,0 +1,75 @@
+-- What the steps inside a call leave.
+use Rattle.std.specs.Prelude.{◌≡◌, ◌≢◌, ◌⊎◌, ℕ, ◌+◌, ◌*◌, ◌^◌, ◌<◌, ◌≤◌, nat_le, Bool, true, List, length, Option, Some, None}
+use Rattle.std.specs.Option.{option_or}
+use Rattle.zarrs_subset.specs.Boxes.{position_count}
+use Rattle.zarrs_subset.specs.Regions.{Box}
+use Rattle.zarrs_chunk_grid.specs.Grids.{box_at}
+use Rattle.zarrs_storage.specs.Store.{StoreState, last_call}
+use Rattle.zarrs_data_type.specs.Cell.{Cell, held_size}
+use Rattle.zarrs_data_type.specs.ArrayData.{ArrayData}
+use Rattle.zarrs_data_type.specs.Cells.{cells}
+use Rattle.zarrs_engine_calls.specs.declared.error.ArrayError.{ArrayError}
+use Rattle.zarrs_engine_calls.specs.Layout.{Layout}
+use Rattle.zarrs_engine_calls.specs.Content.{decoded_cells}
+use Rattle.zarrs_engine_calls.specs.Refusals.{Refusal, codec, indices, storage, size_overflow, out_of_memory, refusal_of, RefusesBy, length_refusal, key_refusal}
+use Rattle.zarrs_engine_calls.specs.Refusals.{box_refusal, fill_refusal, read_refusal, refuse_if}
+use Rattle.zarrs_engine_calls.specs.ArgumentRefusals.{size_refusal}
+use Rattle.zarrs_engine_calls.specs.Changes.{IsValueOf, Makes}
+use Rattle.zarrs_engine_calls.specs.StateRefusals.{RefusesErasure}
+
+-- so many fill values take more bytes than a usize counts
+abbrev pub fills_refusal : Layout → ℕ → Option Refusal
+fills_refusal layout count = refuse_if (nat_le (2 ^ 64) (count * held_size layout.kind layout.fill)) size_overflow
+
+-- E8: a box of this shape is too large, or a fill value for each of its positions
+abbrev pub filled_refusal : Layout → List ℕ → Option Refusal
+filled_refusal layout shape = option_or (size_refusal layout shape) (fill_refusal layout shape)
+
+-- the refusal names these indices, or out of memory
+abbrev pub RefusesIndices : List ℕ → ArrayError → Type 0
+RefusesIndices index e = RefusesBy (Some (indices index)) (refusal_of e)
+
+-- the bytes of a chunk are not returned: an index list of another length, or a key that the store refuses to read
+abbrev pub RefusesValue : Layout → List ℕ → StoreState → Refusal → Type 0
+RefusesValue layout index state = RefusesBy (option_or (length_refusal layout index) (key_refusal layout index state))
+
+-- the chunk has a box, its bytes leave out cells, and a chunk of fill is too large
+pub record LeaveOutCells (layout : Layout) (index encoded : List ℕ) : Type 0 where
+  pub boxed : box_refusal layout index ≡ None
+  pub left_out : layout.chain.leaves_out (box_at layout.grid index).shape encoded ≡ true
+  pub large : fill_refusal layout (box_at layout.grid index).shape ≡ Some size_overflow
+
+-- the bytes of a chunk are not decoded: as a read of them is refused, or they leave out cells
+abbrev pub RefusesBytes : Layout → (index encoded : List ℕ) → Refusal → Type 0
+RefusesBytes layout index encoded r =
+    RefusesBy (read_refusal layout true index (Some encoded)) r ⊎ ((r ≡ size_overflow) × LeaveOutCells layout index encoded)
+
+-- A part of a chunk of this box is not decoded: the source of its bytes refuses (E7), they do not decode (E4), or they leave
+-- out cells, and a chunk of fill is too large (E8). Out of memory may come at any time.
+abbrev pub RefusesPartBytes : Layout → (box : Box) (encoded : List ℕ) (refuses : Bool) → Refusal → Type 0
+RefusesPartBytes layout box encoded refuses storage = refuses ≡ true
+RefusesPartBytes layout box encoded refuses codec = decoded_cells layout box encoded ≡ None
+RefusesPartBytes layout box encoded refuses size_overflow =
+    (layout.chain.leaves_out box.shape encoded ≡ true) × (fill_refusal layout box.shape ≡ Some size_overflow)
+RefusesPartBytes layout box encoded refuses out_of_memory = Unit {0}
+RefusesPartBytes layout box encoded refuses _ = ⊥
+
+-- the data is the cells of a chunk of this box, and this is what is to be present at its key
+pub record HasValue (layout : Layout) (keep : Bool) (box : Box) (held : ArrayData) (value : Option (List ℕ)) : Type 0 where
+  pub chunk : List Cell
+  pub is_chunk : cells layout.kind held ≡ Some chunk
+  pub count : length chunk ≡ position_count box.shape
+  pub is_value : IsValueOf layout keep box chunk value
+
+-- One key was not written, for this cause: no value changed, and at most one failure was counted, none if no call was left.
+pub record LeavesValues (why : ℕ → StoreState → Type 0) (old new : StoreState) : Type 0 where
+  pub failed : ℕ
+  pub one : failed ≤ 1
+  pub counted : 0 < failed → new.calls ≢ last_call + 1
+  pub values : new.values ≡ old.values
+  pub makes : Makes 0 failed old new
+  pub cause : why failed new
+
+-- a writing call was refused, or out of memory
+abbrev pub RefusesPut : Refusal → StoreState → StoreState → Type 0
+RefusesPut r old new = LeavesValues (λ failed state. RefusesErasure failed state r) old new

@@ -1,0 +1,356 @@
+//! The parts of an array beside its store, and what they say of one chunk.
+ghost use Rattle.std.specs.Prelude.{IsSome, ◌≡◌};
+ghost use Rattle.zarrs_subset.specs.Boxes.{position_count};
+ghost use Rattle.zarrs_subset.specs.Regions.{box_of};
+ghost use Rattle.zarrs_data_type.specs.Kind.{kind};
+ghost use Rattle.zarrs_data_type.specs.Cell.{fill_cell};
+ghost use Rattle.zarrs_engine_calls.specs.Layout.{IsLawful, layout_at};
+ghost use Rattle.zarrs_engine_layout.specs.Steps.{RefusesIndices};
+ghost use Rattle.zarrs_engine_calls.specs.Lawful.{IsLawful-prop};
+
+use std::alloc::Global;
+use zarrs_chunk_grid::ChunkGridTraits;
+use zarrs_codec_chain::{ChainTraits, CodecOptions};
+use zarrs_codec_leaf::CodecError;
+use zarrs_data_type::{ArrayBytes, DataType, FillValue};
+use zarrs_engine_calls::ArrayError;
+use zarrs_keys::{ChunkKeyEncodingTraits, NodePath, chunk_key};
+use zarrs_storage::{StorageError, StoreKey};
+use zarrs_subset::ArraySubset;
+
+/// Where an array lies, how it is cut into chunks, and what the bytes of its chunks mean.
+#[derive(Debug, Drop)]
+pub struct ArrayLayout<G: ChunkGridTraits, K: ChunkKeyEncodingTraits, C: ChainTraits> {
+    /// Where the array lies.
+    pub path: NodePath,
+    /// How it is cut into chunks.
+    pub grid: G,
+    /// How the keys of chunks are made.
+    pub keys: K,
+    /// How the cells of a chunk become bytes.
+    pub chain: C,
+    /// The type of the cells.
+    pub data_type: DataType,
+    /// The bytes of the value of a cell that was never written. They are a value of the type.
+    pub fill_value: FillValue,
+    ghost lawful: { IsLawful (layout_at (G.grid grid) path (K.key keys) (C.meaning chain)
+        (kind data_type) fill_value) } by { IsLawful-prop (layout_at (G.grid grid) path
+            (K.key keys) (C.meaning chain) (kind data_type) fill_value) },
+    ghost filled: { IsSome (fill_cell (kind data_type) fill_value) },
+}
+
+/// The box of a chunk, and the number of its cells.
+#[derive(Debug, Drop)]
+pub struct Chunk {
+    /// The box.
+    pub region: ArraySubset,
+    /// The number of its positions.
+    pub count: u64,
+    ghost counted: { count ≡ position_count (box_of region).shape },
+}
+
+impl<G: ChunkGridTraits, K: ChunkKeyEncodingTraits, C: ChainTraits> ArrayLayout<G, K, C> {
+    ghost use Rattle.std.specs.Prelude.{◌≡◌, ◌<◌, ◌*◌, ◌^◌, true, false, Some, None};
+    ghost use Rattle.std.specs.Prelude.{Bool, List, ℕ, option_map, replicate};
+    ghost use Rattle.std.specs.Option.{option_or};
+    ghost use Rattle.zarrs_subset.specs.Regions.{box_at_origin};
+    ghost use Rattle.std.specs.Prelude.{IfOk, IfErr, OnOk, IfSome, IfNone, OnSome, IsSomeAnd, IsOkUnless};
+    ghost use Rattle.zarrs_chunk_grid.specs.Grids.{box_at};
+    ghost use Rattle.zarrs_data_type.specs.Kind.{cell_size};
+    ghost use Rattle.zarrs_data_type.specs.ArrayData.{data_of};
+    ghost use Rattle.zarrs_data_type.specs.Cells.{cells, HasCells};
+    ghost use Rattle.zarrs_codec_chain.specs.Options.{stores_empty_chunks};
+    ghost use Rattle.zarrs_engine_layout.specs.Layouts.{layout_meaning};
+    ghost use Rattle.zarrs_engine_calls.specs.Content.{decoded_cells};
+    ghost use Rattle.zarrs_engine_calls.specs.Refusals.{RefusesBy, refusal_of, is_too_large};
+    ghost use Rattle.zarrs_engine_calls.specs.Refusals.{box_refusal, data_refusal, read_refusal};
+    ghost use Rattle.zarrs_engine_calls.specs.Refusals.{is_left_out};
+    ghost use Rattle.zarrs_engine_layout.specs.Steps.{HasValue, RefusesBytes};
+
+    /// The key of the chunk with these indices.
+    ///
+    /// # Errors
+    /// Only `OutOfMemory`.
+    pub fn chunk_key(&self, alloc: Global, chunk_indices: &[u64]) -> Result<StoreKey, StorageError>
+        ensures key { IfOk result (λ key. key ≡ (layout_meaning self.now).key chunk_indices.now) }
+        ensures accepted { IsOkUnless result StorageError.OutOfMemory }
+    {
+        chunk_key(alloc, &self.path, &self.keys, chunk_indices)
+    }
+
+    /// The number of cells of a chunk of this box, or `None` if they have more bytes than a `usize` counts.
+    pub fn cell_count(&self, region: &ArraySubset) -> Option<u64>
+        ensures some { IfSome result (λ count. count ≡ position_count (box_of region.now).shape) }
+        ensures small { OnSome result
+            (is_too_large (layout_meaning self.now) (box_of region.now).shape ≡ false) }
+        ensures large { IfNone result
+            (is_too_large (layout_meaning self.now) (box_of region.now).shape ≡ true) }
+    {
+        self.shape_count(region.shape())
+    }
+
+    /// The chunk with these indices.
+    ///
+    /// # Errors
+    /// In this order: E3 for indices without a chunk; E8 for a chunk of more bytes than a `usize` counts. E9 may come
+    /// at any time.
+    pub fn chunk(&self, alloc: Global, chunk_indices: &[u64]) -> Result<Chunk, ArrayError>
+        ensures region { IfOk result (λ chunk. box_of chunk.region
+            ≡ box_at (G.grid self.now.grid) chunk_indices.now) }
+        ensures accepted { OnOk result (box_refusal (layout_meaning self.now) chunk_indices.now
+            ≡ None) }
+        ensures refused { IfErr result
+            (λ e. RefusesBy (box_refusal (layout_meaning self.now) chunk_indices.now)
+            (refusal_of e)) }
+    {
+        let region = self.chunk_box(alloc, chunk_indices)?;
+        match self.cell_count(&region) {
+            Some(count) => Ok(Chunk { region, count }),
+            None => Err(ArrayError::SizeOverflow),
+        }
+    }
+
+    /// What is to be present at the key of the chunk with this data: its bytes, or nothing if empty chunks are not kept
+    /// and each cell is the fill value's.
+    ///
+    /// # Errors
+    /// In this order: E4 for data that is not one cell for each position, each a value of the data type, or that the
+    /// chain does not take; E8 if the bytes pass a size. E9 may come at any time.
+    pub fn value_of(
+        &self,
+        alloc: Global,
+        chunk: &Chunk,
+        chunk_data: &ArrayBytes<'_>,
+        options: &CodecOptions,
+    ) -> Result<Option<Vec<u8>>, ArrayError>
+        ensures value { IfOk result
+            (λ value. HasValue (layout_meaning self.now) (stores_empty_chunks options.now)
+            (box_of chunk.now.region) (data_of chunk_data.now) (option_map (λ v. v.items) value)) }
+        ensures accepted { OnOk result
+            (data_refusal (layout_meaning self.now) (stores_empty_chunks options.now)
+            (box_of chunk.now.region).shape
+            (cells (kind self.now.data_type) (data_of chunk_data.now)) ≡ None) }
+        ensures refused { IfErr result
+            (λ e. RefusesBy (data_refusal (layout_meaning self.now)
+            (stores_empty_chunks options.now) (box_of chunk.now.region).shape
+            (cells (kind self.now.data_type) (data_of chunk_data.now))) (refusal_of e)) }
+    {
+        self.value_in(
+            alloc,
+            chunk.region.shape(),
+            chunk.count,
+            chunk_data,
+            options,
+        )
+    }
+
+    /// What `value_of` returns for the chunk with these indices.
+    ///
+    /// # Errors
+    /// In this order: E3 for indices without a chunk; E8 for a chunk of more bytes than a `usize` counts; those of
+    /// `value_of`. E9 may come at any time.
+    pub fn chunk_value(
+        &self,
+        alloc: Global,
+        chunk_indices: &[u64],
+        chunk_data: &ArrayBytes<'_>,
+        options: &CodecOptions,
+    ) -> Result<Option<Vec<u8>>, ArrayError>
+        ensures value { IfOk result
+            (λ value. HasValue (layout_meaning self.now) (stores_empty_chunks options.now)
+            (box_at (G.grid self.now.grid) chunk_indices.now) (data_of chunk_data.now)
+            (option_map (λ v. v.items) value)) }
+        ensures boxed { OnOk result (box_refusal (layout_meaning self.now) chunk_indices.now
+            ≡ None) }
+        ensures accepted { OnOk result
+            (data_refusal (layout_meaning self.now) (stores_empty_chunks options.now)
+            (box_at (G.grid self.now.grid) chunk_indices.now).shape
+            (cells (kind self.now.data_type) (data_of chunk_data.now)) ≡ None) }
+        ensures refused { IfErr result (λ e. RefusesBy (option_or
+            (box_refusal (layout_meaning self.now) chunk_indices.now)
+            (data_refusal (layout_meaning self.now) (stores_empty_chunks options.now)
+            (box_at (G.grid self.now.grid) chunk_indices.now).shape
+            (cells (kind self.now.data_type) (data_of chunk_data.now)))) (refusal_of e)) }
+    {
+        let chunk = self.chunk_extents(alloc, chunk_indices)?;
+        self.value_in(
+            alloc,
+            chunk.shape.as_slice(),
+            chunk.count,
+            chunk_data,
+            options,
+        )
+    }
+
+    /// What `value_of` returns for a chunk of this shape, which has so many cells.
+    ///
+    /// # Errors
+    /// Those of `value_of`.
+    fn value_in(
+        &self,
+        alloc: Global,
+        shape: &[u64],
+        count: u64,
+        chunk_data: &ArrayBytes<'_>,
+        options: &CodecOptions,
+    ) -> Result<Option<Vec<u8>>, ArrayError>
+        requires { count ≡ position_count shape.now }
+        ensures value { IfOk result
+            (λ value. HasValue (layout_meaning self.now) (stores_empty_chunks options.now)
+            (box_at_origin shape.now) (data_of chunk_data.now) (option_map (λ v. v.items) value)) }
+        ensures accepted { OnOk result
+            (data_refusal (layout_meaning self.now) (stores_empty_chunks options.now) shape.now
+            (cells (kind self.now.data_type) (data_of chunk_data.now)) ≡ None) }
+        ensures refused { IfErr result
+            (λ e. RefusesBy (data_refusal (layout_meaning self.now)
+            (stores_empty_chunks options.now) shape.now
+            (cells (kind self.now.data_type) (data_of chunk_data.now))) (refusal_of e)) }
+    {
+        if self.leaves_out(count, chunk_data, options)? {
+            return Ok(None);
+        }
+        let encoded = self.chain.encode(
+            alloc,
+            chunk_data,
+            &self.data_type,
+            &self.fill_value,
+            shape,
+            options,
+        )?;
+        Ok(Some(encoded))
+    }
+
+    /// What `value_of` returns, of data that is given away: a chain that would put owned bytes down as they are copies
+    /// none.
+    ///
+    /// # Errors
+    /// Those of `value_of`.
+    pub fn value_of_owned(
+        &self,
+        alloc: Global,
+        chunk: &Chunk,
+        chunk_data: ArrayBytes<'_>,
+        options: &CodecOptions,
+    ) -> Result<Option<Vec<u8>>, ArrayError>
+        ensures value { IfOk result
+            (λ value. HasValue (layout_meaning self.now) (stores_empty_chunks options.now)
+            (box_of chunk.now.region) (data_of chunk_data.entry)
+            (option_map (λ v. v.items) value)) }
+        ensures accepted { OnOk result
+            (data_refusal (layout_meaning self.now) (stores_empty_chunks options.now)
+            (box_of chunk.now.region).shape
+            (cells (kind self.now.data_type) (data_of chunk_data.entry)) ≡ None) }
+        ensures refused { IfErr result
+            (λ e. RefusesBy (data_refusal (layout_meaning self.now)
+            (stores_empty_chunks options.now) (box_of chunk.now.region).shape
+            (cells (kind self.now.data_type) (data_of chunk_data.entry))) (refusal_of e)) }
+    {
+        if self.leaves_out(chunk.count, &chunk_data, options)? {
+            return Ok(None);
+        }
+        let encoded = self.chain.encode_owned(
+            alloc,
+            chunk_data,
+            &self.data_type,
+            &self.fill_value,
+            chunk.region.shape(),
+            options,
+        )?;
+        Ok(Some(encoded))
+    }
+
+    /// Whether nothing is to be present at the key of a chunk of so many cells with this data: empty chunks are not kept,
+    /// and each cell is the fill value's.
+    ///
+    /// # Errors
+    /// E4 for data that is not so many cells, each a value of the data type.
+    fn leaves_out(
+        &self,
+        count: u64,
+        chunk_data: &ArrayBytes<'_>,
+        options: &CodecOptions,
+    ) -> Result<bool, ArrayError>
+        ensures cells { OnOk result (HasCells (kind self.now.data_type) (data_of chunk_data.now)
+            count) }
+        ensures left { IfOk result
+            (λ left. IsSomeAnd (cells (kind self.now.data_type) (data_of chunk_data.now))
+            (λ cs. left ≡ is_left_out (layout_meaning self.now) (stores_empty_chunks options.now)
+            cs)) }
+        ensures refused { IfErr result (λ e. (keep : Bool) (shape : List ℕ)
+            → position_count shape ≡ count → data_refusal (layout_meaning self.now) keep shape
+            (cells (kind self.now.data_type) (data_of chunk_data.now)) ≡ Some (refusal_of e)) }
+    {
+        if !chunk_data.validate(&self.data_type, count) {
+            let misfit = self.misfit_of(chunk_data, count);
+            return Err(ArrayError::CodecError(CodecError::DoesNotFit(misfit)));
+        }
+        Ok(
+            !options.store_empty_chunks()
+                && chunk_data.is_fill_value(&self.data_type, &self.fill_value),
+        )
+    }
+
+    /// The cells of the bytes of the chunk with these indices. They may be lent by these bytes.
+    ///
+    /// # Errors
+    /// In this order: those of `chunk`; E4 if the bytes do not decode, E8 if they leave out cells and as many fill values
+    /// as the chunk has cells have more bytes than a `usize` counts; which comes if both hold is open. E9 may come at any
+    /// time.
+    pub fn decode<'a>(
+        &self,
+        alloc: Global,
+        chunk_indices: &[u64],
+        encoded: &'a [u8],
+    ) -> Result<ArrayBytes<'a>, ArrayError>
+        ensures cells { IfOk result (λ made. cells (kind self.now.data_type) (data_of made)
+            ≡ decoded_cells (layout_meaning self.now)
+            (box_at (G.grid self.now.grid) chunk_indices.now) encoded.now) }
+        ensures accepted { OnOk result
+            (read_refusal (layout_meaning self.now) true chunk_indices.now (Some encoded.now)
+            ≡ None) }
+        ensures refused { IfErr result
+            (λ e. RefusesBytes (layout_meaning self.now) chunk_indices.now encoded.now
+            (refusal_of e)) }
+    {
+        let chunk = self.chunk_extents(alloc, chunk_indices)?;
+        let shape = chunk.shape.as_slice();
+        let data = self
+            .chain
+            .decode(alloc, encoded, &self.data_type, &self.fill_value, shape)?;
+        Ok(data)
+    }
+
+    /// The cells of the chunk with these indices if it is absent.
+    ///
+    /// # Errors
+    /// In this order: those of `chunk`; E8 if that many fill values have more bytes than a `usize` counts. E9 may come
+    /// at any time.
+    pub fn fill(
+        &self,
+        alloc: Global,
+        chunk_indices: &[u64],
+    ) -> Result<ArrayBytes<'static>, ArrayError>
+        ensures cells { IfOk result (λ made. cells (kind self.now.data_type) (data_of made)
+            ≡ Some (replicate
+            (position_count (box_at (G.grid self.now.grid) chunk_indices.now).shape)
+            (layout_meaning self.now).fill)) }
+        ensures accepted { OnOk result
+            (read_refusal (layout_meaning self.now) true chunk_indices.now None ≡ None) }
+        ensures refused { IfErr result
+            (λ e. RefusesBy (read_refusal (layout_meaning self.now) true chunk_indices.now None)
+            (refusal_of e)) }
+    {
+        let chunk = self.chunk_extents(alloc, chunk_indices)?;
+        self.fill_cells(alloc, chunk.count)
+    }
+}
+
+/// The refusal of these chunk indices.
+pub fn invalid_indices(alloc: Global, chunk_indices: &[u64]) -> ArrayError
+    ensures { RefusesIndices chunk_indices.now result }
+{
+    match chunk_indices.to_vec(alloc) {
+        Ok(indices) => ArrayError::InvalidChunkGridIndicesError(indices),
+        Err(_) => ArrayError::OutOfMemory,
+    }
+}

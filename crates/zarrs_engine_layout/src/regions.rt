@@ -1,0 +1,200 @@
+//! Regions of an array: the chunks that they meet, and the data over them.
+use crate::array_layout::ArrayLayout;
+use std::alloc::Global;
+use zarrs_chunk_grid::{ChunkGridTraits, GridError};
+use zarrs_codec_chain::ChainTraits;
+use zarrs_codec_leaf::{CodecError, Misfit};
+use zarrs_data_type::ArrayBytes;
+use zarrs_engine_calls::ArrayError;
+use zarrs_keys::ChunkKeyEncodingTraits;
+use zarrs_subset::ArraySubset;
+
+impl<G: ChunkGridTraits, K: ChunkKeyEncodingTraits, C: ChainTraits> ArrayLayout<G, K, C> {
+    ghost use Rattle.std.specs.Prelude.{◌≡◌, ◌↔◌, Some, None, IfOk, IfErr, IsTrue, OnOk, replicate};
+    ghost use Rattle.zarrs_subset.specs.Boxes.{position_count};
+    ghost use Rattle.zarrs_subset.specs.Regions.{box_of, positions};
+    ghost use Rattle.zarrs_chunk_grid.specs.Grids.{met};
+    ghost use Rattle.zarrs_data_type.specs.Kind.{kind};
+    ghost use Rattle.zarrs_data_type.specs.ArrayData.{data_of};
+    ghost use Rattle.zarrs_data_type.specs.Cells.{HasCells, cells, count_of};
+    ghost use Rattle.zarrs_engine_calls.specs.ArgumentRefusals.{box_data_refusal};
+    ghost use Rattle.zarrs_engine_calls.specs.ArgumentRefusals.{region_refusal};
+    ghost use Rattle.zarrs_engine_calls.specs.ChunkBoxes.{is_one_chunk};
+    ghost use Rattle.zarrs_engine_calls.specs.Refusals.{RefusesBy, array_subset, refusal_of};
+    ghost use Rattle.zarrs_engine_layout.specs.Layouts.{layout_meaning};
+    ghost use Rattle.zarrs_engine_layout.specs.Covers.{CoverRegion};
+    ghost use Rattle.zarrs_engine_layout.specs.Steps.{filled_refusal, fills_refusal};
+
+    /// The refusal of this region: E1, or out of memory.
+    pub fn invalid_region(&self, alloc: Global, region: &ArraySubset) -> ArrayError
+        ensures { RefusesBy (Some (array_subset (box_of region.now)
+            (G.array_extents self.now.grid))) (refusal_of result) }
+    {
+        let Ok(region) = region.clone() else {
+            return ArrayError::OutOfMemory;
+        };
+        match self.grid.array_shape().to_vec(alloc) {
+            Ok(shape) => ArrayError::InvalidArraySubset(region, shape),
+            Err(_) => ArrayError::OutOfMemory,
+        }
+    }
+
+    /// The indices of the chunks that the region meets.
+    ///
+    /// # Errors
+    /// E1 for another number of dimensions, or a position that no chunk covers. E9 may come at any time.
+    pub fn chunks_met(&self, alloc: Global, region: &ArraySubset) -> Result<ArraySubset, ArrayError>
+        ensures chunks { IfOk result
+            (λ chunks. box_of chunks ≡ met (G.grid self.now.grid) (box_of region.now)) }
+        ensures cover { IfOk result (λ chunks. CoverRegion (G.grid self.now.grid)
+            (box_of region.now) (positions (box_of chunks))) }
+        ensures accepted { OnOk result (region_refusal (layout_meaning self.now)
+            (G.array_extents self.now.grid) (box_of region.now) ≡ None) }
+        ensures refused { IfErr result (λ e. RefusesBy (region_refusal (layout_meaning self.now)
+            (G.array_extents self.now.grid) (box_of region.now)) (refusal_of e)) }
+    {
+        match self.grid.chunks_in_array_subset(alloc, region) {
+            Ok(Some(chunks)) => Ok(chunks),
+            Ok(None) => Err(self.invalid_region(alloc, region)),
+            Err(GridError::IncompatibleDimensionality(_)) => {
+                Err(self.invalid_region(alloc, region))
+            }
+            Err(GridError::UnequalExtent) => unreachable!(),
+            Err(GridError::OutOfMemory) => Err(ArrayError::OutOfMemory),
+        }
+    }
+
+    /// The cells of the region if each is the fill value's.
+    ///
+    /// # Errors
+    /// E8 if the cells, or that many fill values, have more bytes than a `usize` counts. E9 may come at any time.
+    pub fn filled(
+        &self,
+        alloc: Global,
+        region: &ArraySubset,
+    ) -> Result<ArrayBytes<'static>, ArrayError>
+        ensures cells { IfOk result (λ made. cells (kind self.now.data_type) (data_of made)
+            ≡ Some (replicate (position_count (box_of region.now).shape)
+            (layout_meaning self.now).fill)) }
+        ensures accepted { OnOk result
+            (filled_refusal (layout_meaning self.now) (box_of region.now).shape ≡ None) }
+        ensures refused { IfErr result (λ e. RefusesBy (filled_refusal
+            (layout_meaning self.now) (box_of region.now).shape) (refusal_of e)) }
+    {
+        match self.cell_count(region) {
+            Some(count) => self.fill_cells(alloc, count),
+            None => Err(ArrayError::SizeOverflow),
+        }
+    }
+
+    /// So many fill values.
+    ///
+    /// # Errors
+    /// E8 if they have more bytes than a `usize` counts. E9 may come at any time.
+    pub(crate) fn fill_cells(
+        &self,
+        alloc: Global,
+        count: u64,
+    ) -> Result<ArrayBytes<'static>, ArrayError>
+        ensures cells { IfOk result (λ made. cells (kind self.now.data_type) (data_of made)
+            ≡ Some (replicate count (layout_meaning self.now).fill)) }
+        ensures accepted { OnOk result (fills_refusal (layout_meaning self.now) count ≡ None) }
+        ensures refused { IfErr result
+            (λ e. RefusesBy (fills_refusal (layout_meaning self.now) count) (refusal_of e)) }
+    {
+        let cell_size = self.data_type.held_size(self.fill_value.as_bytes());
+        if count.checked_mul(cell_size as u64).is_none() {
+            return Err(ArrayError::SizeOverflow);
+        }
+        let data = ArrayBytes::new_fill_value(alloc, &self.data_type, count, &self.fill_value)?;
+        Ok(data)
+    }
+
+    /// Whether the region is the box of one chunk, the first one of those that it meets.
+    ///
+    /// # Errors
+    /// E9 alone: out of memory.
+    pub fn is_one_chunk(
+        &self,
+        alloc: Global,
+        region: &ArraySubset,
+        chunks: &ArraySubset,
+    ) -> Result<bool, ArrayError>
+        requires met { box_of chunks.now ≡ met (G.grid self.now.grid) (box_of region.now) }
+        requires cover { CoverRegion (G.grid self.now.grid) (box_of region.now)
+            (positions (box_of chunks.now)) }
+        ensures one { IfOk result (λ one. one ≡ is_one_chunk (G.grid self.now.grid)
+            (box_of region.now)) }
+        ensures refused { IfErr result (λ e. RefusesBy None (refusal_of e)) }
+    {
+        if region.is_empty() {
+            return Ok(false);
+        }
+        let chunk = self.chunk_box(alloc, chunks.start())?;
+        Ok(*region == chunk)
+    }
+
+    /// The number of cells of data of the type's kind.
+    fn count_of(&self, region_data: &ArrayBytes<'_>) -> u64
+        ensures { result ≡ count_of (kind self.now.data_type) (data_of region_data.now) }
+    {
+        match region_data {
+            ArrayBytes::Fixed(bytes) => match self.data_type.element_size() {
+                Some(size) => (bytes.as_slice().len() / size) as u64,
+                None => 0,
+            },
+            ArrayBytes::Variable(strings) => strings.len() as u64,
+            ArrayBytes::Optional(optional) => optional.mask().len() as u64,
+        }
+    }
+
+    /// Whether the data is one cell for each position of the region, each a value of the data type.
+    fn has_cells(&self, region: &ArraySubset, region_data: &ArrayBytes<'_>) -> bool
+        ensures { IsTrue result ↔ HasCells (kind self.now.data_type) (data_of region_data.now)
+            (position_count (box_of region.now).shape) }
+    {
+        let count = self.count_of(region_data);
+        match region.num_elements() {
+            Ok(wanted) => wanted == count && region_data.validate(&self.data_type, count),
+            Err(_) => false,
+        }
+    }
+
+    /// Refuses data that is not one cell for each position of the region.
+    ///
+    /// # Errors
+    /// In this order: E8 if the region is a whole chunk of more bytes than a `usize` counts; E4 for data that is not
+    /// one cell for each position, each a value of the data type.
+    pub fn check_cells(
+        &self,
+        is_whole: bool,
+        region: &ArraySubset,
+        region_data: &ArrayBytes<'_>,
+    ) -> Result<(), ArrayError>
+        ensures given { OnOk result (HasCells (kind self.now.data_type) (data_of region_data.now)
+            (position_count (box_of region.now).shape)) }
+        ensures accepted { OnOk result (box_data_refusal (layout_meaning self.now) is_whole
+            (box_of region.now).shape (data_of region_data.now) ≡ None) }
+        ensures refused { IfErr result (λ e. box_data_refusal (layout_meaning self.now) is_whole
+            (box_of region.now).shape (data_of region_data.now) ≡ Some (refusal_of e)) }
+    {
+        if is_whole && self.cell_count(region).is_none() {
+            return Err(ArrayError::SizeOverflow);
+        }
+        if self.has_cells(region, region_data) {
+            return Ok(());
+        }
+        let expected = region.num_elements().unwrap_or(u64::MAX);
+        let misfit = self.misfit_of(region_data, expected);
+        Err(ArrayError::CodecError(CodecError::DoesNotFit(misfit)))
+    }
+
+    /// Why this data is not the expected number of cells, each a value of the data type.
+    pub(crate) fn misfit_of(&self, data: &ArrayBytes<'_>, expected: u64) -> Misfit {
+        let got = self.count_of(data);
+        if got != expected && data.validate(&self.data_type, got) {
+            return Misfit::CellCount { got, expected };
+        }
+        Misfit::NoValue
+    }
+}

@@ -1,0 +1,269 @@
+//! A V2 document as a V3 document.
+ghost use Rattle.std.specs.Prelude.{◌≡◌, ◌∷◌, [], map, length, codes, Ok, IfOk, IfErr};
+ghost use Rattle.serde_json.specs.Data.{array};
+ghost use Rattle.serde_json.specs.Find.{get_member};
+ghost use Rattle.serde_json.specs.View.{view, items_view, members_view};
+ghost use Rattle.zarrs_metadata_parts.specs.Members.{is_named, has_only};
+ghost use Rattle.zarrs_metadata_v3.specs.Members.{reads_as_text};
+ghost use Rattle.zarrs_metadata_parts.specs.Extension.{extension_view};
+ghost use Rattle.zarrs_metadata_parts.specs.FillValue.{fill_data};
+ghost use Rattle.zarrs_metadata_v3.specs.View.{document_view};
+ghost use Rattle.zarrs_metadata.specs.Conversion.{is_vlen_utf8, has_no_filter, has_text_filter};
+ghost use Rattle.zarrs_metadata.specs.Conversion.{has_filters_of, is_uncompressed};
+ghost use Rattle.zarrs_metadata.specs.Conversion.{extension_with_member, endian_name_v2};
+ghost use Rattle.zarrs_metadata.specs.Conversion.{bytes_codec, cells_codec, count_down};
+ghost use Rattle.zarrs_metadata.specs.Conversion.{order_codecs, converted, to_v3};
+ghost use Rattle.zarrs_metadata.specs.Refusals.{RefusesConversion};
+ghost use Rattle.zarrs_metadata_v2.specs.View.{document_v2_view};
+
+use crate::error::ArrayMetadataV2ToV3Error;
+use serde_json::{Map, Value};
+use std::alloc::{AllocError, Global};
+use zarrs_metadata_parts::{
+    EndianV2, FillValueMetadata, KindV2, MetadataV3, TypeV2, numbers_value,
+};
+use zarrs_metadata_v2::{ArrayMetadataV2, ArrayMetadataV2Order, sizes_value};
+use zarrs_metadata_v3::ArrayMetadataV3;
+use zarrs_metadata_v3::members::{copied, member_of};
+
+/// Returns the V3 document of a V2 document: the same array under the same chunk keys and bytes.
+///
+/// # Errors
+/// In this order: `UnsupportedDataType`, `InvalidFillValueMetadata`, and `UnsupportedZarrV2Array`
+/// for a compressor, and for filters that are not those of the data type. `OutOfMemory` may come at
+/// any time.
+pub fn array_metadata_v2_to_v3(
+    alloc: Global,
+    metadata: &ArrayMetadataV2,
+) -> Result<ArrayMetadataV3, ArrayMetadataV2ToV3Error>
+    ensures converted { IfOk result (λ m. to_v3 (document_v2_view metadata.now)
+        ≡ Ok (document_view m)) }
+    ensures refused { IfErr result (RefusesConversion (to_v3 (document_v2_view metadata.now))) }
+{
+    let cells = match TypeV2::from_text(metadata.dtype.as_str()) {
+        Some(cells) => cells,
+        None => {
+            let dtype = String::from_str(alloc, metadata.dtype.as_str())?;
+            return Err(ArrayMetadataV2ToV3Error::UnsupportedDataType(dtype));
+        }
+    };
+    let fill_value = match cells.kind.fill_value(alloc, &metadata.fill_value)? {
+        Some(fill_value) => fill_value,
+        None => {
+            return Err(ArrayMetadataV2ToV3Error::InvalidFillValueMetadata {
+                data_type_name: String::from_str(alloc, metadata.dtype.as_str())?,
+                fill_value_metadata: metadata.fill_value.try_clone(alloc)?,
+            });
+        }
+    };
+    if !is_uncompressed(cells.kind, metadata) {
+        let text = String::from_str(alloc, "a compressor, or filters that are not supported")?;
+        return Err(ArrayMetadataV2ToV3Error::UnsupportedZarrV2Array(text));
+    }
+    let document = converted(alloc, metadata, cells, fill_value)?;
+    Ok(document)
+}
+
+fn converted(
+    alloc: Global,
+    metadata: &ArrayMetadataV2,
+    cells: TypeV2,
+    fill_value: FillValueMetadata,
+) -> Result<ArrayMetadataV3, AllocError>
+    ensures { IfOk result (λ m. document_view m
+        ≡ converted (document_v2_view metadata.now) cells (fill_data fill_value)) }
+{
+    let shape = metadata.shape.as_slice().to_vec(alloc)?;
+    let chunks = sizes_value(alloc, &metadata.chunks)?;
+    let chunk_grid = extension_with(alloc, "regular", "chunk_shape", chunks)?;
+    let separator = metadata.dimension_separator.to_value(alloc)?;
+    let chunk_key_encoding = extension_with(alloc, "v2", "separator", separator)?;
+    let data_type = MetadataV3::new(String::from_str(alloc, cells.kind.name())?);
+    let codecs = codecs_of(alloc, metadata, cells)?;
+    let attributes = copied(&metadata.attributes)?;
+    Ok(ArrayMetadataV3 {
+        shape,
+        data_type,
+        chunk_grid,
+        chunk_key_encoding,
+        fill_value,
+        codecs,
+        attributes,
+        storage_transformers: Vec::new(alloc),
+        dimension_names: None,
+        additional_fields: Map::new(alloc),
+    })
+}
+
+/// Returns the extension of this name with this one member in its configuration.
+fn extension_with(
+    alloc: Global,
+    name: &str,
+    key: &str,
+    value: Value,
+) -> Result<MetadataV3, AllocError>
+    ensures { IfOk result (λ m. extension_view m
+        ≡ extension_with_member name.now key.now (view value)) }
+{
+    MetadataV3::new(String::from_str(alloc, name)?).with_member(alloc, key, value)
+}
+
+/// Returns the codecs in the order in which they encode.
+fn codecs_of(
+    alloc: Global,
+    metadata: &ArrayMetadataV2,
+    cells: TypeV2,
+) -> Result<Vec<MetadataV3>, AllocError>
+    ensures { IfOk result (λ codecs. map extension_view codecs.items
+        ≡ order_codecs metadata.now.order (length metadata.now.shape.items)
+        (cells_codec cells ∷ [])) }
+{
+    let mut codecs = Vec::new(alloc);
+    let shape = metadata.shape.as_slice();
+    match metadata.order {
+        ArrayMetadataV2Order::C => {}
+        ArrayMetadataV2Order::F => {
+            let order = count_down(alloc, shape.len() as u64)?;
+            let order = numbers_value(alloc, order.as_slice())?;
+            codecs.push(extension_with(alloc, "transpose", "order", order)?)?;
+        }
+    }
+    codecs.push(cells_codec(alloc, cells)?)?;
+    Ok(codecs)
+}
+
+/// Returns the numbers below this one, the greatest first.
+fn count_down(alloc: Global, count: u64) -> Result<Vec<u64>, AllocError>
+    ensures { IfOk result (λ numbers. numbers.items ≡ count_down count) }
+{
+    let mut numbers = Vec::new(alloc);
+    let mut left = count;
+    while left > 0 {
+        left -= 1;
+        numbers.push(left)?;
+    }
+    Ok(numbers)
+}
+
+/// Returns the codec that makes bytes of the cells.
+fn cells_codec(alloc: Global, cells: TypeV2) -> Result<MetadataV3, AllocError>
+    ensures { IfOk result (λ m. extension_view m ≡ cells_codec cells) }
+{
+    if cells.kind.is_text() {
+        Ok(MetadataV3::new(String::from_str(alloc, "vlen-utf8")?))
+    } else {
+        bytes_codec(alloc, cells.endian)
+    }
+}
+
+fn bytes_codec(alloc: Global, endian: Option<EndianV2>) -> Result<MetadataV3, AllocError>
+    ensures { IfOk result (λ m. extension_view m ≡ bytes_codec endian) }
+{
+    match endian {
+        None => Ok(MetadataV3::new(String::from_str(alloc, "bytes")?)),
+        Some(endian) => {
+            let endian = Value::try_from_str(alloc, endian_name_v2(endian))?;
+            extension_with(alloc, "bytes", "endian", endian)
+        }
+    }
+}
+
+fn endian_name_v2(endian: EndianV2) -> &'static str
+    ensures { result.now ≡ endian_name_v2 endian }
+{
+    match endian {
+        EndianV2::Little => "little",
+        EndianV2::Big => "big",
+    }
+}
+
+/// Returns whether there is no compressor, and no filter but the one that the kind needs.
+fn is_uncompressed(kind: KindV2, metadata: &ArrayMetadataV2) -> bool
+    ensures { result ≡ is_uncompressed kind (document_v2_view metadata.now) }
+{
+    metadata.compressor.is_null() && has_filters_of(kind, &metadata.filters)
+}
+
+fn has_filters_of(kind: KindV2, filters: &Value) -> bool
+    ensures { result ≡ has_filters_of kind (view filters.now) }
+{
+    if kind.is_text() {
+        has_text_filter(filters)
+    } else {
+        has_no_filter(filters)
+    }
+}
+
+fn has_no_filter(filters: &Value) -> bool
+    ensures { result ≡ has_no_filter (view filters.now) }
+{
+    match filters {
+        Value::Null => true,
+        Value::Array(items) => is_empty_list(items.as_slice()),
+        _ => false,
+    }
+}
+
+fn is_empty_list(items: &[Value]) -> bool
+    ensures { result ≡ has_no_filter (array (items_view items.now)) }
+{
+    items.is_empty()
+}
+
+fn has_text_filter(filters: &Value) -> bool
+    ensures { result ≡ has_text_filter (view filters.now) }
+{
+    match filters {
+        Value::Array(items) => is_text_filter(items.as_slice()),
+        _ => false,
+    }
+}
+
+fn is_text_filter(items: &[Value]) -> bool
+    ensures { result ≡ has_text_filter (array (items_view items.now)) }
+{
+    match items {
+        [item] => is_vlen_utf8(item),
+        _ => false,
+    }
+}
+
+/// Returns whether the filter is `{"id": "vlen-utf8"}`.
+fn is_vlen_utf8(filter: &Value) -> bool
+    ensures { result ≡ is_vlen_utf8 (view filter.now) }
+{
+    match filter.as_object() {
+        Some(members) => has_text_id(members) && has_only_id(members),
+        None => false,
+    }
+}
+
+fn has_text_id(members: &Map<String, Value>) -> bool
+    ensures { result ≡ reads_as_text (codes "vlen-utf8")
+        (get_member (codes "id") (members_view members.now.entries)) }
+{
+    match member_of(members, "id") {
+        Some(id) => match id.as_str() {
+            Some(text) => text == "vlen-utf8",
+            None => false,
+        },
+        None => false,
+    }
+}
+
+fn is_id(name: &str) -> bool
+    ensures { result ≡ is_named (codes "id" ∷ []) name.now }
+{
+    name == "id"
+}
+
+fn has_only_id(members: &Map<String, Value>) -> bool
+    ensures { result ≡ has_only (codes "id" ∷ []) (members_view members.now.entries) }
+{
+    for (name, _member) in members.iter() {
+        if !is_id(name.as_str()) {
+            return false;
+        }
+    }
+    true
+}

@@ -1,0 +1,3 @@
+pub mod MemberLemmas
+pub mod ExtensionLaws
+pub mod ListLemmas

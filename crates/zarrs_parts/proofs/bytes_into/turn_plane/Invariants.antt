@@ -1,9 +1,0 @@
-use Rattle.std.proofs.Common.{List, ℕ, length, ◌∷◌, slice_range}
-use Rattle.zarrs_subset.specs.Cells.{BoxCopied}
-use Rattle.zarrs_parts.specs.BytesInto.{IsTurned}
-use Rattle.zarrs_parts.proofs.bytes_into.turn_plane.Given as goal
-
-abbrev pub invariant-loop-row : goal.invariant-loop-row
-invariant-loop-row g l =
-    (turned : List ℕ) → IsTurned g.row.N l.source turned
-    → BoxCopied g.row.N l.source_shape l.source_start l.target_shape l.target_start (l.row ∷ slice_range l.extents 1 (length l.extents)) turned l.initial.target l.target

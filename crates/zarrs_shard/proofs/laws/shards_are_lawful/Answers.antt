@@ -1,5 +1,0 @@
-use Rattle.zarrs_shard.proofs.ShardLaws.{shard-lawful}
-use Rattle.zarrs_shard.proofs.laws.shards_are_lawful.Goals as goal
-
-pub returns : goal.returns
-returns c = λ m at_start store_empty k fill shape sub law. shard-lawful m at_start store_empty k fill shape sub law

@@ -1,5 +1,0 @@
-use Rattle.zarrs_shard.proofs.ShardReading.{IsRead}
-use Rattle.zarrs_shard.proofs.shard_index.read_entries.Given as goal
-
-abbrev pub invariant-loop-number : goal.invariant-loop-number
-invariant-loop-number l = IsRead l.number l.start l.end l.index l.ranges.items

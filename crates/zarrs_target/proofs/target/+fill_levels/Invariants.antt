@@ -1,4 +1,0 @@
-use Rattle.zarrs_target.proofs.target.+fill_levels.Given as goal
-
-abbrev pub decreases-fill_levels : goal.decreases-fill_levels
-decreases-fill_levels l = l.depth

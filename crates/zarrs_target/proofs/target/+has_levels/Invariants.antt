@@ -1,4 +1,0 @@
-use Rattle.zarrs_target.proofs.target.+has_levels.Given as goal
-
-abbrev pub decreases-has_levels : goal.decreases-has_levels
-decreases-has_levels l = l.depth

@@ -1,4 +1,0 @@
-use Rattle.zarrs_target.proofs.target.+write_levels.Given as goal
-
-abbrev pub decreases-write_levels : goal.decreases-write_levels
-decreases-write_levels l = l.depth

@@ -1,9 +1,0 @@
-use Rattle.std.proofs.Common.{arith}
-use Rattle.zarrs_target.specs.States.{target_box}
-use Rattle.zarrs_target.proofs.Boxes.{count_within}
-use Rattle.zarrs_target.proofs.target.ArrayBytesDecodeIntoTarget.takes_data.Goals as goal
-
-pub unreachable-requires : goal.unreachable-requires
-unreachable-requires c =
-    let t = c.args.self.now in
-    omega (arith, c.in-Err.ensures.refused, c.requires.counted, count_within (target_box t) t.parent_shape.now t.region.now.same_length c.requires.inside)

@@ -1,6 +1,0 @@
-use Rattle.zarrs_metadata.specs.Extension.{extension_view, settings}
-use Rattle.zarrs_types.specs.TypeMetadata.{levels_in}
-use Rattle.zarrs_types.proofs.metadata.+type_of.Given as goal
-
-abbrev pub decreases-type_of : goal.decreases-type_of
-decreases-type_of l = levels_in (settings (extension_view l.metadata.now))
