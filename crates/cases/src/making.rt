@@ -109,12 +109,17 @@ impl<'f> Session<'f> {
             Through::Lent => Below::Lent(Lent::new(store)),
             Through::ReadOnly => return read_only(alloc, array, call, store, asks, other, held),
         };
-        let store = CaseStore { below, asks };
+        let store = noting(below, asks);
         match call.name {
             Name::Resize | Name::UpgradeMetadata => changed(alloc, array, call, store, held),
             _ => over(alloc, array, call, store, other, held),
         }
     }
+}
+
+/// A store that notes what it is asked.
+fn noting<'a>(below: Below<'a>, asks: &'a RefCell<Asks>) -> CaseStore<'a> {
+    CaseStore { below, asks }
 }
 
 /// Makes the call by the array over this store. The array is what the call makes of it.
@@ -186,7 +191,7 @@ fn readable<'f>(
         return Err(Why::OutOfMemory);
     };
     let below = Below::ReadOnly(ReadOnly::new(store));
-    let answer = over(alloc, &array, call, CaseStore { below, asks }, other, held);
+    let answer = over(alloc, &array, call, noting(below, asks), other, held);
     drop(array);
     answer
 }
@@ -199,8 +204,12 @@ fn opened(
     call: &CallLine<'_>,
 ) -> Result<Array<()>, ArrayCreateError> {
     let below = Below::ReadOnly(ReadOnly::new(store));
-    let store = CaseStore { below, asks };
-    let array = Array::open_opt(alloc, store, call.path, &call.options.of_opening())?;
+    let array = Array::open_opt(
+        alloc,
+        noting(below, asks),
+        call.path,
+        &call.options.of_opening(),
+    )?;
     let outcome = array.with_storage(alloc, ());
     drop(array);
     match outcome {

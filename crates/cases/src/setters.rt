@@ -14,25 +14,25 @@ pub(crate) fn answer_of<'f>(
 ) -> Result<Answer, Why<'f>> {
     match call.name {
         Name::AttributesMut => set_attributes(alloc, array, call.word),
-        Name::SetDimensionNames => set_names(alloc, array, call.word),
+        Name::SetDimensionNames => Ok(set_names(alloc, array, call.word)?),
         Name::SetMetadataOptions => {
             array.set_metadata_options(call.options.of_metadata());
             Ok(word(alloc, "ok")?)
         }
-        Name::SetShape => set_shape(alloc, array, &call.list),
+        Name::SetShape => Ok(set_shape(alloc, array, &call.list)?),
         Name::SetShapeAndChunkGrid => set_shape_and_grid(alloc, array, &call.list, call.word),
         _ => Err(Why::Call(call.written)),
     }
 }
 
 /// The answer of a setter.
-fn set<'f>(
+fn set(
     alloc: Global,
-    outcome: Result<&mut Array<()>, ArrayCreateError>,
-) -> Result<Answer, Why<'f>> {
+    outcome: &Result<&mut Array<()>, ArrayCreateError>,
+) -> Result<Answer, AllocError> {
     match outcome {
-        Ok(_) => Ok(word(alloc, "ok")?),
-        Err(error) => Ok(refused(alloc, &error)?),
+        Ok(_) => word(alloc, "ok"),
+        Err(error) => refused(alloc, error),
     }
 }
 
@@ -45,14 +45,14 @@ fn set_attributes<'f>(
     Ok(word(alloc, "ok")?)
 }
 
-fn set_names<'f>(alloc: Global, array: &mut Array<()>, names: &'f str) -> Result<Answer, Why<'f>> {
-    let names = names_in(alloc, names)?;
-    set(alloc, array.set_dimension_names(alloc, names))
+fn set_names(alloc: Global, array: &mut Array<()>, names: &str) -> Result<Answer, AllocError> {
+    let outcome = array.set_dimension_names(alloc, names_in(alloc, names)?);
+    set(alloc, &outcome)
 }
 
-fn set_shape<'f>(alloc: Global, array: &mut Array<()>, shape: &[u64]) -> Result<Answer, Why<'f>> {
-    let shape = shape.to_vec(alloc)?;
-    set(alloc, array.set_shape(alloc, shape))
+fn set_shape(alloc: Global, array: &mut Array<()>, shape: &[u64]) -> Result<Answer, AllocError> {
+    let outcome = array.set_shape(alloc, shape.to_vec(alloc)?);
+    set(alloc, &outcome)
 }
 
 fn set_shape_and_grid<'f>(
@@ -62,8 +62,8 @@ fn set_shape_and_grid<'f>(
     grid: &'f str,
 ) -> Result<Answer, Why<'f>> {
     let grid = grid_of(alloc, grid)?;
-    let shape = shape.to_vec(alloc)?;
-    set(alloc, array.set_shape_and_chunk_grid(alloc, shape, grid))
+    let outcome = array.set_shape_and_chunk_grid(alloc, shape.to_vec(alloc)?, grid);
+    Ok(set(alloc, &outcome)?)
 }
 
 /// Names joined by `,`, where `null` is no name; `-` for a list without a name; or `none` for no list.
