@@ -1,43 +1,22 @@
 -- Writing calls one after another.
-use Rattle.std.proofs.Common.{◌≡◌, ◌≢◌, inl, inr, ℕ, List, [], ◌∷◌, ◌++◌, refl, sym, subst, ◌∙◌, arith}
+use Rattle.std.proofs.Common.{◌≡◌, inl, inr, ℕ, List, [], ◌∷◌, ◌++◌, refl, sym, subst, ◌∙◌}
 use Rattle.std.proofs.lemmas.List.{append-nil, append_assoc}
-use Rattle.zarrs_storage.specs.Store.{StoreState, KeepsReach}
+use Rattle.zarrs_storage.specs.Store.{StoreState, KeepsReach, Refuses}
+use Rattle.zarrs_storage.specs.declared.error.StorageError.{StorageError}
 use Rattle.zarrs_keys.specs.Keys.{v3_name, v2_array_name, v2_attributes_name, IsMetadataName}
 use Rattle.zarrs_keys.specs.Paths.{path_key}
-use Rattle.zarrs_metadata.specs.Versions.{MetadataData, v3, v2}
-use Rattle.zarrs_options.specs.declared.versions.MetadataEraseVersion.{MetadataEraseVersion}
-use Rattle.zarrs_options.specs.declared.versions.MetadataEraseVersion.TheVariants as erase
 use Rattle.zarrs_options.specs.declared.versions.MetadataRetrieveVersion.{MetadataRetrieveVersion}
 use Rattle.zarrs_options.specs.declared.versions.MetadataRetrieveVersion.TheVariants as retrieve
 use Rattle.zarrs_creation.specs.Opening.{MayAskKey, MayAskV2, MayAskMetadata, MayAskEachMetadata}
 use Rattle.zarrs_engine_calls.specs.Changes.{IsPut}
-use Rattle.zarrs_engine_calls.specs.Refusals.{Refusal, out_of_memory}
-use Rattle.zarrs_engine_calls.proofs.RefusalLemmas.{makes_none}
-use Rattle.zarrs_engine_layout.specs.Steps.{RefusesPut}
-use Rattle.zarrs_creation.specs.Writing.{Put, erasures}
-use Rattle.zarrs.specs.Puts.{ArePut, RefusesPuts}
+use Rattle.zarrs_engine_calls.specs.Refusals.{Refusal, refusal_of_storage}
+use Rattle.zarrs_engine.proofs.Puts as call
+use Rattle.zarrs_creation.specs.Writing.{Put}
+use Rattle.zarrs.specs.Puts.{ArePut, PutsFront, RefusesCall}
 
--- out of memory before any call
-pub put_short : (state : StoreState) → RefusesPut out_of_memory state state
-put_short state = record {
-  failed = 0;
-  one = omega arith;
-  counted = λ some. absurd (omega arith);
-  values = refl;
-  makes = makes_none state;
-  cause = tt;
-}
-
-pub puts_short : (puts : List Put) (state : StoreState) → puts ≢ [] → RefusesPuts puts out_of_memory state state
-puts_short puts state some = record {
-  done = [];
-  left = puts;
-  all = refl;
-  some_left = some;
-  middle = state;
-  front = refl;
-  refused = put_short state;
-}
+-- the store refused a writing call
+pub call_refused : (e : StorageError) (old new : StoreState) → Refuses old new → RefusesCall (refusal_of_storage e) old new
+call_refused e old new r = record { put = call.put_refused e old new r; called = r.failures }
 
 -- of these puts all are done but those that are left
 pub record Putting (puts left : List Put) (old now : StoreState) : Type 0 where
@@ -60,7 +39,7 @@ put_next puts left p old middle new so put = record {
   front = snoc so.done p old middle new so.front put;
 }
 
-pub put_refused : (puts left : List Put) (p : Put) (r : Refusal) (old middle new : StoreState) → Putting puts (p ∷ left) old middle → RefusesPut r middle new → RefusesPuts puts r old new
+pub put_refused : (puts left : List Put) (p : Put) (r : Refusal) (old middle new : StoreState) → Putting puts (p ∷ left) old middle → RefusesCall r middle new → PutsFront puts r old new
 put_refused puts left p r old middle new so refused = record {
   done = so.done;
   left = p ∷ left;
@@ -73,14 +52,6 @@ put_refused puts left p r old middle new so refused = record {
 
 pub put_last : (puts : List Put) (old new : StoreState) → Putting puts [] old new → ArePut puts old new
 put_last puts old new so = subst (λ (ps : List Put). ArePut ps old new) (sym (so.all ∙ append-nil so.done)) so.front
-
--- something is erased, whichever the version
-pub some_erased : (version : MetadataEraseVersion) (path : List ℕ) (m : MetadataData) → erasures version path m ≢ []
-some_erased erase.Default path (v3 m) none = cc
-some_erased erase.Default path (v2 m) none = cc
-some_erased erase.All path m none = cc
-some_erased erase.V3 path m none = cc
-some_erased erase.V2 path m none = cc
 
 -- what may be asked stays
 pub reach_after : (puts : List Put) (old new : StoreState) → ArePut puts old new → KeepsReach old new

@@ -43,6 +43,10 @@ unfolding content
 same_cell old new path key chain k fill stored position same = rw (same.covered, same.index, same.box) refl
 
 module _ {g : GridMeaning ChunkGrid} {k : KeyMeaning ChunkKeyEncoding} {c : ChainMeanings CodecChain} {S : Type 0} where
+  -- the same engine has the same layout
+  pub layout_same : (old new : Engine S ChunkGrid ChunkKeyEncoding CodecChain g k c) → new ≡ old → KeepsLayout old new
+  layout_same old new same = ap (λ (e : Engine S ChunkGrid ChunkKeyEncoding CodecChain g k c). e.layout) same
+
   -- the parts of an engine that was given a grid
   meaning_after : (given : ChunkGrid) (old new : Engine S ChunkGrid ChunkKeyEncoding CodecChain g k c) → GivesGrid given old new → meaning_of new ≡ cut_by (array_extents_of given) (configuration_of given) (meaning_of old)
   meaning_after given old new gives =

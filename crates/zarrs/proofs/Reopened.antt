@@ -11,11 +11,11 @@ use Rattle.zarrs_options.specs.Refusals.{create_refusal_of}
 use Rattle.zarrs.specs.Puts.{RefusesStoreMetadata}
 use Rattle.zarrs.specs.Reopening.{RefusesToStore}
 
-module _ (o : MetadataOptionsData) (path : List ℕ) (m : MetadataData) (old new : StoreState) where
-  pub not_stored : (e : StorageError) → RefusesStoreMetadata o path m (refusal_of_storage e) old new → RefusesToStore o path m (create_refusal_of (create_error_of_storage e)) old
-  not_stored (error.InvalidMetadata key text) refused = inr (record { new = new; refused = refused; said = inr refl })
-  not_stored error.ReadOnly refused = inr (record { new = new; refused = refused; said = refl })
-  not_stored error.InvalidByteRange refused = inr (record { new = new; refused = refused; said = refl })
-  not_stored error.Exhausted refused = inr (record { new = new; refused = refused; said = refl })
-  not_stored (error.Other text) refused = inr (record { new = new; refused = refused; said = refl })
+module _ {S : Type 0} (state : S → StoreState) (o : MetadataOptionsData) (path : List ℕ) (m : MetadataData) (old : StoreState) (left : S) where
+  pub not_stored : (e : StorageError) → RefusesStoreMetadata o path m (refusal_of_storage e) old (state left) → RefusesToStore state o path m (create_refusal_of (create_error_of_storage e)) old
+  not_stored (error.InvalidMetadata key text) refused = inr (record { left = left; refused = refused; said = inr refl })
+  not_stored error.ReadOnly refused = inr (record { left = left; refused = refused; said = refl })
+  not_stored error.InvalidByteRange refused = inr (record { left = left; refused = refused; said = refl })
+  not_stored error.Exhausted refused = inr (record { left = left; refused = refused; said = refl })
+  not_stored (error.Other text) refused = inr (record { left = left; refused = refused; said = refl })
   not_stored error.OutOfMemory refused = inl refl

@@ -15,7 +15,7 @@ use Rattle.zarrs_creation.specs.Opening.{v2_array_key, attributes_key}
 use Rattle.zarrs_creation.specs.Shown.{shown, shown_as_v3}
 use Rattle.zarrs_creation.specs.Writing.{Put, put_at, put_view, IsWrittenBy}
 use Rattle.zarrs_creation.specs.declared.writing.MetadataPut.{MetadataPut}
-use Rattle.zarrs.specs.Puts.{ArePut, RefusesPuts}
+use Rattle.zarrs.specs.Puts.{ArePut, PutsFront}
 use Rattle.zarrs.specs.Upgrade.{AreUpgrade, UpgradesMetadata, UpgradesOrRefuses, RefusesUpgrade}
 
 -- what is shown in V3 is no V2 document
@@ -50,7 +50,7 @@ module _ (o : MetadataOptionsData) (path : List ℕ) (m : MetadataData) (d : Doc
   pub upgrade_short : (state : StoreState) → RefusesUpgrade o path m out_of_memory state state
   upgrade_short state = subst (λ (x : MetadataData). RefusesUpgrade o path x out_of_memory state state) (sym is) (inl (refl, refl))
 
-  pub upgrade_refused : (puts : List Put) (r : Refusal) (old new : StoreState) → AreUpgrade o path d puts → RefusesPuts puts r old new → RefusesUpgrade o path m r old new
+  pub upgrade_refused : (puts : List Put) (r : Refusal) (old new : StoreState) → AreUpgrade o path d puts → PutsFront puts r old new → RefusesUpgrade o path m r old new
   upgrade_refused puts r old new upgrade refused = subst (λ (x : MetadataData). RefusesUpgrade o path x r old new) (sym is) (inr (record { puts = puts; upgrade = upgrade; refused = refused }))
 
 -- the V3 metadata that it becomes

@@ -66,6 +66,11 @@ module _ {S : Type 0} where
     pub codec_specific_options : new.codec_specific_options ≡ old.codec_specific_options
     pub metadata_options : new.metadata_options ≡ old.metadata_options
 
+  -- nothing changed, nor did the store
+  pub record IsUntouched (old new : Array S) : Type 0 where
+    pub storage : storage_of_array new ≡ storage_of_array old
+    pub array : KeepsArray old new
+
   -- nothing but the store and the shape changed: the metadata has the shape that the grid has
   pub record KeepsAllButShape (old new : Array S) : Type 0 where
     pub others : KeepsOthers old.engine new.engine
@@ -77,6 +82,7 @@ module _ {S : Type 0} where
   -- nothing but the store and the metadata changed
   pub record KeepsAllButDocument (old new : Array S) : Type 0 where
     pub layout_kept : KeepsLayout old.engine new.engine
+    pub layout : layout_of_array new ≡ layout_of_array old
     pub codec_options : new.codec_options ≡ old.codec_options
     pub codec_specific_options : new.codec_specific_options ≡ old.codec_specific_options
     pub metadata_options : new.metadata_options ≡ old.metadata_options

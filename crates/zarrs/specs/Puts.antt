@@ -1,6 +1,6 @@
 -- What calls on the metadata of an array do in its store.
-use Rattle.std.specs.Prelude.{◌≡◌, ◌≢◌, ◌⊎◌, ℕ, List, [], ◌∷◌, ◌++◌, Ok}
-use Rattle.zarrs_storage.specs.Store.{StoreState}
+use Rattle.std.specs.Prelude.{◌≡◌, ◌≢◌, ◌⊎◌, ℕ, ◌+◌, List, [], ◌∷◌, ◌++◌, Ok}
+use Rattle.zarrs_storage.specs.Store.{StoreState, counted}
 use Rattle.zarrs_engine_calls.specs.Changes.{IsPut}
 use Rattle.zarrs_engine_calls.specs.Refusals.{Refusal, out_of_memory}
 use Rattle.zarrs_engine_layout.specs.Steps.{RefusesPut}
@@ -20,15 +20,25 @@ abbrev pub ArePut : List Put → StoreState → StoreState → Type 0
 ArePut [] old new = new ≡ old
 ArePut (p ∷ puts) old new = PutsFirst p (λ middle. ArePut puts middle new) old
 
--- a front of these is put, and the next one is refused: there is one left to be put
-pub record RefusesPuts (puts : List Put) (refusal : Refusal) (old new : StoreState) : Type 0 where
+-- A writing call was refused: it counts as one that failed, unless no call was left. So memory that was short is what the
+-- call itself answered.
+pub record RefusesCall (refusal : Refusal) (old new : StoreState) : Type 0 where
+  pub put : RefusesPut refusal old new
+  pub called : new.failures ≡ old.failures + counted old
+
+-- a front of these is put, and the call that puts the next one is refused
+pub record PutsFront (puts : List Put) (refusal : Refusal) (old new : StoreState) : Type 0 where
   pub done : List Put
   pub left : List Put
   pub all : puts ≡ done ++ left
   pub some_left : left ≢ []
   pub middle : StoreState
   pub front : ArePut done old middle
-  pub refused : RefusesPut refusal middle new
+  pub refused : RefusesCall refusal middle new
+
+-- memory was short before the first call, or a front of these is put
+abbrev pub RefusesPuts : List Put → Refusal → StoreState → StoreState → Type 0
+RefusesPuts puts refusal old new = ((refusal ≡ out_of_memory) × (new ≡ old)) ⊎ PutsFront puts refusal old new
 
 -- the metadata of an array at the path is written as options show it
 pub record StoresMetadata (o : MetadataOptionsData) (path : List ℕ) (m : MetadataData) (old new : StoreState) : Type 0 where
@@ -44,7 +54,7 @@ pub record StoresMetadataFront (o : MetadataOptionsData) (path : List ℕ) (m : 
   pub is_shown : shown o m ≡ Ok shows
   pub puts : List Put
   pub written : IsWrittenBy path shows puts
-  pub refused : RefusesPuts puts refusal old new
+  pub refused : PutsFront puts refusal old new
 
 -- it is not written: memory was short before the first writing call, or a front of what writes it is done
 abbrev pub RefusesStoreMetadata : MetadataOptionsData → List ℕ → MetadataData → Refusal → StoreState → StoreState → Type 0

@@ -9,22 +9,25 @@ use Rattle.zarrs_creation.specs.Opening.{opened}
 use Rattle.zarrs.specs.Laws.{version_of}
 use Rattle.zarrs.specs.Puts.{StoresMetadata, RefusesStoreMetadata}
 
--- the store refused a call that writes its metadata, and said this
-pub record IsNotStored (o : MetadataOptionsData) (path : List ℕ) (m : MetadataData) (r : CreateRefusal) (old : StoreState) : Type 0 where
-  pub new : StoreState
-  pub refused : RefusesStoreMetadata o path m refusals.storage old new
-  pub said : RefusesCreation {A = Unit {0}} (Err storage) r
+-- What is left of the store that was given is a store of its kind, in a state that the calls on metadata left: it refuses a
+-- key, and counts a call that failed, as stores of that kind do.
+module _ {S : Type 0} (state : S → StoreState) where
+  -- the store refused a call that writes its metadata, and said this
+  pub record IsNotStored (o : MetadataOptionsData) (path : List ℕ) (m : MetadataData) (r : CreateRefusal) (old : StoreState) : Type 0 where
+    pub left : S
+    pub refused : RefusesStoreMetadata o path m refusals.storage old (state left)
+    pub said : RefusesCreation {A = Unit {0}} (Err storage) r
 
--- its metadata is not stored
-abbrev pub RefusesToStore : MetadataOptionsData → List ℕ → MetadataData → CreateRefusal → StoreState → Type 0
-RefusesToStore o path m r old = (r ≡ out_of_memory) ⊎ IsNotStored o path m r old
+  -- its metadata is not stored
+  abbrev pub RefusesToStore : MetadataOptionsData → List ℕ → MetadataData → CreateRefusal → StoreState → Type 0
+  RefusesToStore o path m r old = (r ≡ out_of_memory) ⊎ IsNotStored o path m r old
 
--- what was written does not open by its version
-pub record DoesNotOpen (o : MetadataOptionsData) (path : List ℕ) (m : MetadataData) (r : CreateRefusal) (old : StoreState) : Type 0 where
-  pub new : StoreState
-  pub stored : StoresMetadata o path m old new
-  pub refused : RefusesCreation (opened (version_of stored.shows) new path) r
+  -- what was written does not open by its version
+  pub record DoesNotOpen (o : MetadataOptionsData) (path : List ℕ) (m : MetadataData) (r : CreateRefusal) (old : StoreState) : Type 0 where
+    pub left : S
+    pub stored : StoresMetadata o path m old (state left)
+    pub refused : RefusesCreation (opened (version_of stored.shows) (state left) path) r
 
--- an array with these options, at this path, of this metadata is not stored, or does not open again
-abbrev pub RefusesReopening : MetadataOptionsData → List ℕ → MetadataData → CreateRefusal → StoreState → Type 0
-RefusesReopening o path m r old = RefusesToStore o path m r old ⊎ DoesNotOpen o path m r old
+  -- an array with these options, at this path, of this metadata is not stored, or does not open again
+  abbrev pub RefusesReopening : MetadataOptionsData → List ℕ → MetadataData → CreateRefusal → StoreState → Type 0
+  RefusesReopening o path m r old = RefusesToStore o path m r old ⊎ DoesNotOpen o path m r old

@@ -17,7 +17,7 @@ use Rattle.zarrs_creation.specs.Opening.{v3_key, v2_array_key, attributes_key, o
 use Rattle.zarrs_creation.specs.Shown.{shown}
 use Rattle.zarrs_creation.specs.Writing.{Put, put_at}
 use Rattle.zarrs.specs.Laws.{IsReadAgainV3}
-use Rattle.zarrs.specs.Puts.{ArePut, RefusesPuts}
+use Rattle.zarrs.specs.Puts.{ArePut, PutsFront}
 
 -- the V3 document as options show the metadata in V3
 abbrev pub IsUpgradeOf : MetadataOptionsData → MetadataData → DocumentData → Type 0
@@ -49,7 +49,7 @@ UpgradesMetadata o path (v2 m) old new = Upgrades o path m old new
 pub record UpgradesFront (o : MetadataOptionsData) (path : List ℕ) (m : DocumentV2Data) (r : Refusal) (old new : StoreState) : Type 0 where
   pub puts : List Put
   pub upgrade : AreUpgrade o path m puts
-  pub refused : RefusesPuts puts r old new
+  pub refused : PutsFront puts r old new
 
 -- A refused upgrade: memory was short before the first writing call, or a front of it is done. Of V3 metadata none is
 -- refused.

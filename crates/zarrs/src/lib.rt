@@ -28,7 +28,7 @@ pub use zarrs_chunk_grid::{
 };
 pub use zarrs_codec::{
     ArrayToArrayCodec, ArrayToBytesCodec, BytesToBytesCodecs, ChainTraits, CodecChain, CodecError,
-    CodecMetadataOptions, CodecOptions, CodecSpecificOptions, Misfit,
+    CodecMetadataOptions, CodecOptions, CodecSpecificOptions, Misfit, PartialWrite,
 };
 pub use zarrs_data_type::{
     ArrayBytes, ArrayBytesDecodeIntoTarget, ArrayBytesFixedDisjointViewCreateError,

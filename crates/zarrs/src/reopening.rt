@@ -53,9 +53,9 @@ fn stored<S: WritableStorageTraits + Drop>(
     ensures stored { IfOk result (λ storage. StoresMetadata (metadata_options_of_array array)
         (path_of_array array) (metadata_of_array array) (store_of_array S.state array)
         (S.state storage)) }
-    ensures refused { IfErr result (λ e. RefusesToStore (metadata_options_of_array array)
-        (path_of_array array) (metadata_of_array array) (create_refusal_of e)
-        (store_of_array S.state array)) }
+    ensures refused { IfErr result (λ e. RefusesToStore S.state
+        (metadata_options_of_array array) (path_of_array array) (metadata_of_array array)
+        (create_refusal_of e) (store_of_array S.state array)) }
 {
     let mut array = array;
     array.store_metadata(alloc)?;
@@ -84,9 +84,9 @@ pub fn written_and_opened<S: WritableStorageTraits + Drop>(
         (path_of_array array) (metadata_of_array array) (store_of_array S.state array)
         (store_of_array S.state a)) }
     ensures options { IfOk result HasDefaultOptions }
-    ensures refused { IfErr result (λ e. RefusesReopening (metadata_options_of_array array)
-        (path_of_array array) (metadata_of_array array) (create_refusal_of e)
-        (store_of_array S.state array)) }
+    ensures refused { IfErr result (λ e. RefusesReopening S.state
+        (metadata_options_of_array array) (path_of_array array) (metadata_of_array array)
+        (create_refusal_of e) (store_of_array S.state array)) }
 {
     let (path, version) = path_and_version(alloc, &array)?;
     let storage = stored(alloc, array)?;

@@ -10,6 +10,7 @@ ghost use Rattle.zarrs_options.specs.Refusals as refusal;
 ghost use Rattle.zarrs_builder.specs.Given.{type_given};
 
 use std::alloc::{AllocError, Global};
+use zarrs_creation::data_type_from;
 use zarrs_data_type::{DataType, IntoField};
 use zarrs_metadata::{MetadataV3, PluginCreateError};
 use zarrs_options::{ArrayCreateError, extension_of_text};
@@ -42,22 +43,9 @@ impl ArrayBuilderDataType {
     {
         match &self.given {
             GivenType::DataType(data_type) => Ok(data_type.try_clone(alloc)?),
-            GivenType::Metadata(metadata) => type_of_metadata(alloc, metadata),
+            GivenType::Metadata(metadata) => data_type_from(alloc, metadata),
             GivenType::Text(text) => type_of_text(alloc, text.as_str()),
         }
-    }
-}
-
-fn type_of_metadata(alloc: Global, metadata: &MetadataV3) -> Result<DataType, ArrayCreateError>
-    ensures made { IfOk result (λ t. kind_of (extension_view metadata.now) ≡ Some (kind t)) }
-    ensures refused { IfErr result (λ e. RefusesCreation
-        (said_or refusal.data_type (kind_of (extension_view metadata.now)))
-        (create_refusal_of e)) }
-{
-    match DataType::from_metadata(alloc, metadata) {
-        Ok(data_type) => Ok(data_type),
-        Err(PluginCreateError::OutOfMemory) => Err(ArrayCreateError::OutOfMemory),
-        Err(error) => Err(ArrayCreateError::DataTypeCreateError(error)),
     }
 }
 
@@ -69,7 +57,7 @@ fn type_of_text(alloc: Global, text: &str) -> Result<DataType, ArrayCreateError>
         (create_refusal_of e)) }
 {
     match extension_of_text(alloc, text)? {
-        Some(metadata) => type_of_metadata(alloc, &metadata),
+        Some(metadata) => data_type_from(alloc, &metadata),
         None => Err(no_metadata(alloc)),
     }
 }

@@ -1,5 +1,5 @@
 -- What is put into a store to write metadata there, and to erase it.
-use Rattle.std.specs.Prelude.{◌≡◌, ℕ, List, [], ◌∷◌, map, Option, Some, None, option_map, IfSome, IsSome}
+use Rattle.std.specs.Prelude.{◌≡◌, ℕ, List, [], ◌∷◌, map, Option, Some, None, IfSome, IsSome}
 use Rattle.serde_json.specs.Data.{Members, no_members, member}
 use Rattle.zarrs_metadata_v3.specs.Document.{DocumentData, IsDocumentText}
 use Rattle.zarrs_metadata_v2.specs.Document.{DocumentV2Data, without_attributes, IsDocumentV2Text, IsAttributesText}
@@ -18,7 +18,7 @@ abbrev pub put_at : List ℕ → Option (List ℕ) → Put
 put_at key value = record { key = key; value = value }
 
 abbrev pub put_view : MetadataPut → Put
-put_view p = put_at p.key (option_map (λ v. v.items) p.value)
+put_view p = put_at p.key p.value
 
 -- ---- written
 

@@ -10,11 +10,12 @@ ghost use Rattle.zarrs_options.specs.Refusals.{create_refusal_of, RefusesCreatio
 ghost use Rattle.zarrs_creation.specs.Meanings.{meaning_with, extents_said, creation_v2, creation};
 
 use crate::parts::{ArrayParts, parts_of_v3};
-use std::alloc::Global;
+use std::alloc::{AllocError, Global};
 use zarrs_metadata::{
     ArrayMetadata, ArrayMetadataV2, ArrayMetadataV2ToV3Error, PluginCreateError,
     array_metadata_v2_to_v3,
 };
+use zarrs_metadata_v3::reasons::type_reason;
 use zarrs_options::ArrayCreateError;
 
 /// Checks that a chunk has as many extents as the array.
@@ -33,6 +34,14 @@ fn check_extents(alloc: Global, metadata: &ArrayMetadataV2) -> Result<(), ArrayC
     }
 }
 
+/// Returns why a data type of V2 is not supported, as a text for people.
+fn dtype_reason(alloc: Global, dtype: &str) -> Result<String, AllocError> {
+    match type_reason(alloc, Some(dtype))? {
+        Some(reason) => Ok(reason),
+        None => format!(in alloc; "no data type has the Zarr V2 name `{dtype}`"),
+    }
+}
+
 /// Returns why a V2 document that has no V3 document says no parts of an array.
 fn not_converted(
     alloc: Global,
@@ -46,7 +55,12 @@ fn not_converted(
     match error {
         ArrayMetadataV2ToV3Error::OutOfMemory => ArrayCreateError::OutOfMemory,
         ArrayMetadataV2ToV3Error::UnsupportedDataType(dtype) => {
-            ArrayCreateError::DataTypeCreateError(PluginCreateError::Other(dtype))
+            match dtype_reason(alloc, dtype.as_str()) {
+                Ok(reason) => {
+                    ArrayCreateError::DataTypeCreateError(PluginCreateError::Other(reason))
+                }
+                Err(_) => ArrayCreateError::OutOfMemory,
+            }
         }
         ArrayMetadataV2ToV3Error::InvalidFillValueMetadata {
             data_type_name,

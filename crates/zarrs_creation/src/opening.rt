@@ -9,20 +9,22 @@ ghost use Rattle.zarrs_creation.specs.Opening.{fields_understood, understood_doc
 ghost use Rattle.zarrs_creation.specs.Opening.{stored_v3, stored_v2, stored_default, stored_by, stored_metadata};
 ghost use Rattle.zarrs_creation.specs.Opening.{MayAskKey, MayAskV2, MayAskMetadata};
 
-use std::alloc::Global;
+use std::alloc::{AllocError, Global};
 use zarrs_keys::{NodePath, meta_key_v2_array, meta_key_v2_attributes, meta_key_v3};
 use zarrs_metadata::{
     AdditionalFieldsV3, ArrayMetadata, ArrayMetadataV2, ArrayMetadataV3, MetadataError,
     attributes_from_slice,
 };
+use zarrs_metadata_v2::reasons::{attributes_reason, document_reason as document_v2_reason};
+use zarrs_metadata_v3::reasons::document_reason;
 use zarrs_options::{AdditionalFieldUnsupportedError, ArrayCreateError, MetadataRetrieveVersion};
 use zarrs_storage::{Bytes, ReadableStorageTraits, StorageError, StoreKey};
 
-/// Returns the refusal of a value at the key that is not what was wanted.
-fn invalid_metadata(alloc: Global, key: StoreKey, reason: &str) -> ArrayCreateError
+/// Returns the refusal of a value at the key that is not what was wanted, for this reason.
+fn invalid_metadata(key: StoreKey, reason: Result<String, AllocError>) -> ArrayCreateError
     ensures { RefusesCreation (said_or {A = Unit {0}} (unread key) None) (create_refusal_of result) }
 {
-    match String::from_str(alloc, reason) {
+    match reason {
         Ok(reason) => ArrayCreateError::StorageError(StorageError::InvalidMetadata(key, reason)),
         Err(_) => ArrayCreateError::OutOfMemory,
     }
@@ -57,8 +59,7 @@ fn document_from(
     let metadata = match ArrayMetadataV3::from_slice(alloc, bytes) {
         Ok(metadata) => metadata,
         Err(MetadataError::InvalidShape) => {
-            let reason = "it is no document of a Zarr V3 array";
-            return Err(invalid_metadata(alloc, key, reason));
+            return Err(invalid_metadata(key, document_reason(alloc, bytes)));
         }
         Err(MetadataError::OutOfMemory) => return Err(ArrayCreateError::OutOfMemory),
     };
@@ -79,8 +80,7 @@ fn document_v2_from(
     match ArrayMetadataV2::from_slice(alloc, bytes) {
         Ok(metadata) => Ok(metadata),
         Err(MetadataError::InvalidShape) => {
-            let reason = "it is no document of a Zarr V2 array";
-            Err(invalid_metadata(alloc, key, reason))
+            Err(invalid_metadata(key, document_v2_reason(alloc, bytes)))
         }
         Err(MetadataError::OutOfMemory) => Err(ArrayCreateError::OutOfMemory),
     }
@@ -147,8 +147,7 @@ fn attributed<S: ReadableStorageTraits>(
     match attributes_from_slice(alloc, &bytes) {
         Ok(attributes) => Ok(metadata.with_attributes(attributes)),
         Err(MetadataError::InvalidShape) => {
-            let reason = "they are no attributes of a Zarr V2 array";
-            Err(invalid_metadata(alloc, key, reason))
+            Err(invalid_metadata(key, attributes_reason(alloc, &bytes)))
         }
         Err(MetadataError::OutOfMemory) => Err(ArrayCreateError::OutOfMemory),
     }

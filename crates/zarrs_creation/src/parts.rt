@@ -2,6 +2,7 @@
 ghost use Rattle.std.specs.Prelude.{◌≡◌, map, length, Some, Ok, IsSome, IfOk, IfErr, OnOk, option_map};
 ghost use Rattle.zarrs_metadata_parts.specs.Extension.{extension_view};
 ghost use Rattle.zarrs_metadata_parts.specs.FillValue.{fill_data};
+ghost use Rattle.zarrs_metadata_parts.specs.Refusals.{RefusesMeaning};
 ghost use Rattle.zarrs_metadata_v3.specs.View.{document_view, name_view};
 ghost use Rattle.zarrs_chunk_grid.specs.GridView.{configuration_of, array_extents_of};
 ghost use Rattle.zarrs_chunk_grid.specs.Metadata.{grid_said};
@@ -18,7 +19,7 @@ ghost use Rattle.zarrs_options.specs.Refusals.{codecs, data_type, chunk_grid, fi
 ghost use Rattle.zarrs_options.specs.Refusals.{storage_transformers, chunk_key_encoding};
 ghost use Rattle.zarrs_creation.specs.Meanings.{names_said, meaning_with, creation_v3};
 
-use std::alloc::Global;
+use std::alloc::{AllocError, Global};
 use zarrs_chunk_grid::ChunkGrid;
 use zarrs_codec::CodecChain;
 use zarrs_data_type::{DataType, DataTypeFillValueMetadataError, FillValue};
@@ -26,6 +27,7 @@ use zarrs_keys::ChunkKeyEncoding;
 use zarrs_metadata::{
     ArrayMetadataV3, DimensionName, FillValueMetadata, MetadataV3, PluginCreateError,
 };
+use zarrs_metadata_v3::reasons::{codecs_reason, type_reason, unsupported_codec};
 use zarrs_options::{ArrayCreateError, StorageTransformerChain};
 
 /// The parts of an array, beside its path and its store.
@@ -51,20 +53,82 @@ fn chain_from(alloc: Global, metadatas: &[MetadataV3]) -> Result<CodecChain, Arr
 {
     match CodecChain::from_metadata(alloc, metadatas) {
         Ok(chain) => Ok(chain),
-        Err(PluginCreateError::OutOfMemory) => Err(ArrayCreateError::OutOfMemory),
-        Err(error) => Err(ArrayCreateError::CodecsCreateError(error)),
+        Err(error) => Err(codecs_refused(alloc, metadatas, error)),
     }
 }
 
-fn data_type_from(alloc: Global, metadata: &MetadataV3) -> Result<DataType, ArrayCreateError>
+/// Makes the refusal of codecs that are no chain.
+fn codecs_refused(
+    alloc: Global,
+    metadatas: &[MetadataV3],
+    error: PluginCreateError,
+) -> ArrayCreateError
+    requires { RefusesMeaning (chain_said (map extension_view metadatas.now)) error }
+    ensures { RefusesCreation (said_or codecs (chain_said (map extension_view metadatas.now)))
+        (create_refusal_of result) }
+{
+    match error {
+        PluginCreateError::OutOfMemory => ArrayCreateError::OutOfMemory,
+        PluginCreateError::Other(text) => match codec_reason(alloc, metadatas, text) {
+            Ok(text) => ArrayCreateError::CodecsCreateError(PluginCreateError::Other(text)),
+            Err(_) => ArrayCreateError::OutOfMemory,
+        },
+    }
+}
+
+/// Returns why codecs are refused, as a text for people: that one of them, or of those in a configuration, compresses
+/// or checks bytes, or else what was said.
+fn codec_reason(
+    alloc: Global,
+    metadatas: &[MetadataV3],
+    said: String,
+) -> Result<String, AllocError> {
+    for metadata in metadatas {
+        if let Some(reason) = unsupported_codec(metadata.name()) {
+            return String::from_str(alloc, reason);
+        }
+        if let Some(configuration) = metadata.configuration() {
+            if let Some(reason) = codecs_reason(configuration) {
+                return String::from_str(alloc, reason);
+            }
+        }
+    }
+    Ok(said)
+}
+
+/// Makes the data type that the metadata says.
+///
+/// # Errors
+/// E13 for none. E26 may come at any time.
+pub fn data_type_from(alloc: Global, metadata: &MetadataV3) -> Result<DataType, ArrayCreateError>
     ensures made { IfOk result (λ t. kind_of (extension_view metadata.now) ≡ Some (kind t)) }
     ensures refused { IfErr result (λ e. RefusesCreation
         (said_or data_type (kind_of (extension_view metadata.now))) (create_refusal_of e)) }
 {
     match DataType::from_metadata(alloc, metadata) {
         Ok(data_type) => Ok(data_type),
-        Err(PluginCreateError::OutOfMemory) => Err(ArrayCreateError::OutOfMemory),
-        Err(error) => Err(ArrayCreateError::DataTypeCreateError(error)),
+        Err(error) => Err(data_type_refused(alloc, metadata, error)),
+    }
+}
+
+/// Makes the refusal of metadata that says no data type.
+fn data_type_refused(
+    alloc: Global,
+    metadata: &MetadataV3,
+    error: PluginCreateError,
+) -> ArrayCreateError
+    requires { RefusesMeaning (kind_of (extension_view metadata.now)) error }
+    ensures { RefusesCreation (said_or data_type (kind_of (extension_view metadata.now)))
+        (create_refusal_of result) }
+{
+    match error {
+        PluginCreateError::OutOfMemory => ArrayCreateError::OutOfMemory,
+        PluginCreateError::Other(text) => match type_reason(alloc, Some(metadata.name())) {
+            Ok(reason) => ArrayCreateError::DataTypeCreateError(PluginCreateError::Other(
+                reason.unwrap_or(text),
+            )),
+            Err(_) => ArrayCreateError::OutOfMemory,
+        },
     }
 }
 

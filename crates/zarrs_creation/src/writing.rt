@@ -1,5 +1,5 @@
 //! What is put into a store to write metadata there, and to erase it.
-ghost use Rattle.std.specs.Prelude.{◌≡◌, [], ◌∷◌, map, option_map, None, IfOk, IsOkUnless};
+ghost use Rattle.std.specs.Prelude.{◌≡◌, [], ◌∷◌, map, None, IfOk, IsOkUnless};
 ghost use Rattle.serde_json.specs.View.{members_view};
 ghost use Rattle.zarrs_metadata_v3.specs.View.{document_view};
 ghost use Rattle.zarrs_metadata_v2.specs.View.{document_v2_view};
@@ -13,15 +13,16 @@ use zarrs_keys::{NodePath, meta_key_v2_array, meta_key_v2_attributes, meta_key_v
 use zarrs_metadata::{ArrayMetadata, ArrayMetadataV2, ArrayMetadataV3};
 use zarrs_metadata_v3::members::is_empty;
 use zarrs_options::MetadataEraseVersion;
-use zarrs_storage::{StorageError, StoreKey};
+use zarrs_storage::{Bytes, StorageError, StoreKey};
 
 /// A key of metadata, and the value that is put there.
 #[derive(Debug, Drop)]
 pub struct MetadataPut {
     /// The key.
     pub key: StoreKey,
-    /// The value, or `None` if the key is erased.
-    pub value: Option<Vec<u8>>,
+    /// The value, or `None` if the key is erased. It is made before the first call of the store, so that memory is not
+    /// short between two calls.
+    pub value: Option<Bytes>,
 }
 
 impl MetadataPut {
@@ -42,22 +43,27 @@ fn puts_of_v3(
     ensures accepted { IsOkUnless result StorageError.OutOfMemory }
 {
     let key = meta_key_v3(alloc, path)?;
-    let value = Some(metadata.to_vec_pretty(alloc)?);
-    Ok(vec![in alloc; MetadataPut { key, value }]?)
+    let text = Bytes::from_vec(metadata.to_vec_pretty(alloc)?)?;
+    Ok(vec![in alloc;
+        MetadataPut {
+            key,
+            value: Some(text)
+        },
+    ]?)
 }
 
 fn text_of_attributes(
     alloc: Global,
     metadata: &ArrayMetadataV2,
-) -> Result<Option<Vec<u8>>, StorageError>
-    ensures written { IfOk result (λ text. IsTextOfAttributes
-        (members_view metadata.now.attributes.entries) (option_map (λ t. t.items) text)) }
+) -> Result<Option<Bytes>, StorageError>
+    ensures written { IfOk result
+        (IsTextOfAttributes (members_view metadata.now.attributes.entries)) }
     ensures accepted { IsOkUnless result StorageError.OutOfMemory }
 {
     if is_empty(&metadata.attributes) {
         return Ok(None);
     }
-    let text = metadata.attributes_to_vec_pretty(alloc)?;
+    let text = Bytes::from_vec(metadata.attributes_to_vec_pretty(alloc)?)?;
     Ok(Some(text))
 }
 
@@ -76,7 +82,7 @@ fn puts_of_v2(
     };
     let array = MetadataPut {
         key: meta_key_v2_array(alloc, path)?,
-        value: Some(metadata.to_vec_pretty(alloc)?),
+        value: Some(Bytes::from_vec(metadata.to_vec_pretty(alloc)?)?),
     };
     Ok(vec![in alloc; attributes, array]?)
 }

@@ -26,6 +26,33 @@ use zarrs_metadata_v2::{ArrayMetadataV2, ArrayMetadataV2Order, sizes_value};
 use zarrs_metadata_v3::ArrayMetadataV3;
 use zarrs_metadata_v3::members::{copied, member_of};
 
+/// Returns why the compressor or the filters have no V3 codec, as a text for people: it names the one that is not
+/// supported.
+fn coding_reason(alloc: Global, metadata: &ArrayMetadataV2) -> Result<String, AllocError> {
+    if !metadata.compressor.is_null() {
+        return match coding_id(&metadata.compressor) {
+            Some(id) => format!(in alloc; "the compressor `{id}` is not supported"),
+            None => String::from_str(alloc, "`compressor` is not null"),
+        };
+    }
+    if let Some(filters) = metadata.filters.as_array() {
+        for filter in filters {
+            if let Some(id) = coding_id(filter) {
+                if id != "vlen-utf8" {
+                    return format!(in alloc; "the filter `{id}` is not supported");
+                }
+            }
+        }
+    }
+    let dtype = metadata.dtype.as_str();
+    format!(in alloc; "`filters` are not those of the data type `{dtype}`")
+}
+
+/// Returns the name of a compressor or a filter, if it has one.
+fn coding_id(coding: &Value) -> Option<&str> {
+    coding.get("id")?.as_str()
+}
+
 /// Returns the V3 document of a V2 document: the same array under the same chunk keys and bytes.
 ///
 /// # Errors
@@ -57,7 +84,7 @@ pub fn array_metadata_v2_to_v3(
         }
     };
     if !is_uncompressed(cells.kind, metadata) {
-        let text = String::from_str(alloc, "a compressor, or filters that are not supported")?;
+        let text = coding_reason(alloc, metadata)?;
         return Err(ArrayMetadataV2ToV3Error::UnsupportedZarrV2Array(text));
     }
     let document = converted(alloc, metadata, cells, fill_value)?;

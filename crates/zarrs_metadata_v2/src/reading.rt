@@ -75,6 +75,15 @@ fn document_from(alloc: Global, parts: Parts) -> Result<Option<ArrayMetadataV2>,
     }
 }
 
+/// Returns a member of these that is of another shape than a document has it, and what it is to be.
+pub(crate) fn wrong_member(
+    alloc: Global,
+    members: Map<String, Value>,
+) -> Result<Option<&'static str>, AllocError> {
+    let draft = Parts::take(members).read(alloc)?;
+    Ok(draft.wrong_member())
+}
+
 impl Parts {
     fn take(mut members: Map<String, Value>) -> Parts
         ensures { parts_v2_view result ≡ parts_of_v2 (members_view members.entries) }
@@ -161,6 +170,33 @@ impl Draft {
             dimension_separator: dimension_separator?,
             attributes: attributes?,
         })
+    }
+
+    /// Returns the first member that is of another shape, and what it is to be.
+    fn wrong_member(&self) -> Option<&'static str> {
+        let members = [
+            (
+                self.shape.is_some(),
+                "`shape` is no list of whole numbers below 2^64",
+            ),
+            (
+                self.chunks.is_some(),
+                "`chunks` is no list of whole numbers from 1 to 2^64 - 1",
+            ),
+            (self.dtype.is_some(), "`dtype` is no text"),
+            (self.order.is_some(), "`order` is neither `C` nor `F`"),
+            (
+                self.dimension_separator.is_some(),
+                "`dimension_separator` is neither `.` nor `/`",
+            ),
+            (self.attributes.is_some(), "`attributes` is no object"),
+        ];
+        for (is_read, reason) in members {
+            if !is_read {
+                return Some(reason);
+            }
+        }
+        None
     }
 }
 

@@ -2,7 +2,7 @@
 //!
 //! The layers above use `ArrayMetadataV3`, the names of its dimensions (`DimensionName`), and its additional fields
 //! (`AdditionalFieldV3`). `zarrs_metadata_v2` and `zarrs_metadata` use `members`, which reads and writes members of
-//! objects by name.
+//! objects by name. `reasons` says why bytes were refused, and what is known and not supported.
 //!
 //! `document_view` of `specs/View.antt` gives the `DocumentData` of a document. `specs/Document.antt` has that
 //! record, the JSON values that read as one (`document_of`), and the bytes that are written for one
@@ -17,6 +17,7 @@ mod fields;
 pub mod members;
 mod numbers;
 mod reading;
+pub mod reasons;
 mod writing;
 
 pub use document::{ArrayMetadataV3, DimensionName};

@@ -77,6 +77,15 @@ fn document_from(alloc: Global, parts: Parts) -> Result<Option<ArrayMetadataV3>,
     }
 }
 
+/// Returns a member of these that is of another shape than a document has it, and what it is to be.
+pub(crate) fn wrong_member(
+    alloc: Global,
+    members: Map<String, Value>,
+) -> Result<Option<&'static str>, AllocError> {
+    let draft = Parts::take(members).read(alloc)?;
+    Ok(draft.wrong_member())
+}
+
 /// Returns the members under names that a document does not use.
 pub(crate) fn other_members(members: Map<String, Value>) -> Map<String, Value>
     ensures { members_view result.entries
@@ -188,6 +197,47 @@ impl Draft {
             dimension_names: dimension_names?,
             additional_fields,
         })
+    }
+
+    /// Returns the first member that is of another shape, and what it is to be.
+    fn wrong_member(&self) -> Option<&'static str> {
+        let members = [
+            (
+                self.shape.is_some(),
+                "`shape` is no list of whole numbers below 2^64",
+            ),
+            (
+                self.data_type.is_some(),
+                "`data_type` is no extension point",
+            ),
+            (
+                self.chunk_grid.is_some(),
+                "`chunk_grid` is no extension point",
+            ),
+            (
+                self.chunk_key_encoding.is_some(),
+                "`chunk_key_encoding` is no extension point",
+            ),
+            (
+                self.codecs.is_some(),
+                "`codecs` is no list of extension points",
+            ),
+            (self.attributes.is_some(), "`attributes` is no object"),
+            (
+                self.storage_transformers.is_some(),
+                "`storage_transformers` is no list of extension points",
+            ),
+            (
+                self.dimension_names.is_some(),
+                "`dimension_names` is no list of texts and nulls",
+            ),
+        ];
+        for (is_read, reason) in members {
+            if !is_read {
+                return Some(reason);
+            }
+        }
+        None
     }
 }
 

@@ -88,8 +88,8 @@ impl<TStorage: WritableStorageTraits> Array<TStorage> {
     ghost use Rattle.zarrs.specs.Outcomes.{ErasesChunkOrRefuses};
     ghost use Rattle.zarrs_engine_calls.specs.Step.{ErasesChunks, RefusesEraseChunks};
     ghost use Rattle.zarrs_engine_calls.specs.Step.{Run};
-    ghost use Rattle.zarrs.specs.Arrays.{layout_of_array, storage_of_array, store_of_array};
-    ghost use Rattle.zarrs.specs.Arrays.{state_of_array, KeepsAllButShape, KeepsArray};
+    ghost use Rattle.zarrs.specs.Arrays.{layout_of_array, state_of_array, store_of_array};
+    ghost use Rattle.zarrs.specs.Arrays.{IsUntouched, KeepsAllButShape, KeepsArray};
 
     /// Stores these bytes as those of the chunk with these indices, by one writing call of the store. The chunk has a
     /// box, and the bytes decode: both are conditions, and are not tested.
@@ -173,8 +173,7 @@ impl<TStorage: WritableStorageTraits> Array<TStorage> {
         ensures run { encodes_partially options.now ≡ false → IfOk result (λ replies.
             Run (layout_of_array self.old) (stores_empty_chunks options.now) calls.now replies.items
             (state_of_array TStorage.state self.old) (state_of_array TStorage.state self.new)) }
-        ensures untouched { OnErr result
-            (storage_of_array self.new ≡ storage_of_array self.old) }
+        ensures untouched { OnErr result (IsUntouched self.old self.new) }
         ensures layout { layout_of_array self.new ≡ layout_of_array self.old }
         ensures kept { KeepsAllButShape self.old self.new }
         ensures reach { KeepsReach (store_of_array TStorage.state self.old)
@@ -190,8 +189,8 @@ impl<TStorage: WritableStorageTraits> Array<TStorage> {
             → EachDecodes (layout_of_array self.old) (store_of_array TStorage.state self.old)
             → EachDecodes (layout_of_array self.old) (store_of_array TStorage.state self.new) }
     {
-        let replies = replay(alloc, &mut self.engine, calls, options);
+        let replies = replay(alloc, &mut self.engine, calls, options)?;
         overwrite_shape(&mut self.metadata, self.engine.chunk_grid().array_shape());
-        replies
+        Ok(replies)
     }
 }

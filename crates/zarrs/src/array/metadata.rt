@@ -7,6 +7,7 @@ use zarrs_storage::{StorageError, WritableStorageTraits};
 
 impl<TStorage: WritableStorageTraits> Array<TStorage> {
     ghost use Rattle.std.specs.Prelude.{◌≡◌, map, IfErr, Ok, OnOk};
+    ghost use Rattle.zarrs_engine_calls.specs.Changes.{IsPut};
     ghost use Rattle.zarrs_metadata.specs.Versions.{MetadataData};
     ghost use Rattle.zarrs_options.specs.Options.{options_view};
     ghost use Rattle.zarrs_options.specs.declared.versions.MetadataEraseVersion.TheVariants as erase;
@@ -14,7 +15,8 @@ impl<TStorage: WritableStorageTraits> Array<TStorage> {
     ghost use Rattle.zarrs_creation.specs.Shown.{shown};
     ghost use Rattle.zarrs_creation.specs.Writing.{put_view, erasures};
     ghost use Rattle.zarrs.specs.Counts.{Writes, documents_of, erased_documents};
-    ghost use Rattle.zarrs.specs.Puts.{ArePut, RefusesPuts, StoresMetadata, RefusesStoreMetadata};
+    ghost use Rattle.zarrs.specs.Puts.{ArePut, PutsFront, RefusesCall, RefusesPuts};
+    ghost use Rattle.zarrs.specs.Puts.{StoresMetadata, RefusesStoreMetadata};
     ghost use Rattle.zarrs.specs.Arrays.{metadata_of_array, metadata_options_of_array};
     ghost use Rattle.zarrs.specs.Arrays.{path_of_array, store_of_array, KeepsArray};
 
@@ -46,7 +48,7 @@ impl<TStorage: WritableStorageTraits> Array<TStorage> {
     ///
     /// # Errors
     /// If the store refuses, and `OutOfMemory`. No value is changed then, except that the attributes of a V2 array may
-    /// be stored.
+    /// be stored. Memory is short before the first call of the store, or it is what a call answered.
     pub fn store_metadata_opt(
         &mut self,
         alloc: Global,
@@ -96,7 +98,8 @@ impl<TStorage: WritableStorageTraits> Array<TStorage> {
     /// `.zarray` and `.zattrs` for V2, all three in this order, or by default those of the array's own version.
     ///
     /// # Errors
-    /// If the store refuses, and `OutOfMemory`. A front of the keys is erased then.
+    /// If the store refuses, and `OutOfMemory`. A front of the keys is erased then. Memory is short before the first call
+    /// of the store, or it is what a call answered.
     pub fn erase_metadata_opt(
         &mut self,
         alloc: Global,
@@ -126,15 +129,29 @@ impl<TStorage: WritableStorageTraits> Array<TStorage> {
     ) -> Result<(), StorageError>
         ensures done { OnOk result (ArePut (map put_view puts.items)
             (store_of_array TStorage.state self.old) (store_of_array TStorage.state self.new)) }
-        ensures refused { IfErr result (λ e. RefusesPuts (map put_view puts.items)
+        ensures refused { IfErr result (λ e. PutsFront (map put_view puts.items)
             (refusal_of_storage e) (store_of_array TStorage.state self.old)
             (store_of_array TStorage.state self.new)) }
         ensures kept { KeepsArray self.old self.new }
     {
         for put in puts {
-            let MetadataPut { key, value } = put;
-            self.engine.put(alloc, &key, value)?;
+            self.put(alloc, put)?;
         }
         Ok(())
+    }
+
+    /// Puts the value at its key, or erases the key, by one writing call of the store.
+    fn put(&mut self, alloc: Global, put: MetadataPut) -> Result<(), StorageError>
+        ensures done { OnOk result (IsPut put.key put.value
+            (store_of_array TStorage.state self.old) (store_of_array TStorage.state self.new)) }
+        ensures refused { IfErr result (λ e. RefusesCall (refusal_of_storage e)
+            (store_of_array TStorage.state self.old) (store_of_array TStorage.state self.new)) }
+        ensures kept { KeepsArray self.old self.new }
+    {
+        let MetadataPut { key, value } = put;
+        match value {
+            Some(value) => self.engine.storage_mut().set(alloc, &key, value),
+            None => self.engine.storage_mut().erase(alloc, &key),
+        }
     }
 }

@@ -84,7 +84,6 @@ impl<TStorage: WritableStorageTraits> Array<TStorage> {
             (store_of_array TStorage.state self.old) (store_of_array TStorage.state self.new) }
         ensures content { HaveEqualContent (layout_of_array self.old)
             (store_of_array TStorage.state self.old) (store_of_array TStorage.state self.new) }
-        ensures layout { layout_of_array self.new ≡ layout_of_array self.old }
         ensures kept { KeepsAllButDocument self.old self.new }
     {
         self.upgrade(alloc)
@@ -101,7 +100,6 @@ impl<TStorage: WritableStorageTraits> Array<TStorage> {
             (path_of_array self.old) (metadata_of_array self.old) (refusal_of_storage e)
             (store_of_array TStorage.state self.old) (store_of_array TStorage.state self.new)) }
         ensures untouched { OnErr result (KeepsArray self.old self.new) }
-        ensures layout { layout_of_array self.new ≡ layout_of_array self.old }
         ensures kept { KeepsAllButDocument self.old self.new }
     {
         let ArrayMetadata::V2(document) = &self.metadata else {

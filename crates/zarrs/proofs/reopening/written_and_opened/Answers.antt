@@ -53,5 +53,5 @@ returns-in_err-opened-clause-refused g c =
     let version : c.in_ok-path.version ≡ version_of done.shows = c.in_ok-path.ensures.version done.shows done.is_shown in
     let there = subst (λ (p : List ℕ). RefusesCreation (opened c.in_ok-path.version new p) e) path c.in_err-opened.ensures.refused in
     let by_version = subst (λ (v : MetadataRetrieveVersion). RefusesCreation (opened v new (path_of_array array)) e) version there in
-    let why : RefusesReopening (metadata_options_of_array array) (path_of_array array) (metadata_of_array array) e (store_of_array state array) = inr (record { new = new; stored = done; refused = by_version }) in
+    let why : RefusesReopening state (metadata_options_of_array array) (path_of_array array) (metadata_of_array array) e (store_of_array state array) = inr (record { left = c.in_ok-storage.storage; stored = done; refused = by_version }) in
     search (rules, why)

@@ -11,7 +11,7 @@ use Rattle.zarrs_engine_calls.specs.Step.{Run}
 use Rattle.zarrs_codec.specs.Options.{stores_empty_chunks}
 use Rattle.zarrs_engine_calls.specs.Canon.{IsCanonical}
 use Rattle.zarrs_engine_calls.specs.Content.{value_at}
-use Rattle.zarrs.specs.Arrays.{layout_of_array, metadata_of_array, state_of_array, store_of_array}
+use Rattle.zarrs.specs.Arrays.{layout_of_array, metadata_of_array, state_of_array, store_of_array, IsUntouched}
 use Rattle.zarrs_script.specs.CellTypes.{kind_of_cells}
 use Rattle.zarrs_script.proofs.Contents.{chunks_stay_alone}
 use Rattle.zarrs_script.proofs.Printing.{puts_as}
@@ -76,4 +76,4 @@ invariant_of-array-clause-alone g c =
     let old = c.args.array.now in
     chunks_stay_alone (λ replies. replies.items) (layout_of_array old.array) (layout_of_array c.replay.new.self) (stores_empty_chunks c.default-options.result) (c.args.call ∷ []) c.replay.result
     (state_of_array open_state old.array) (state_of_array open_state c.replay.new.self)
-    c.an_array_is_its_metadata.ensures.lawful c.replay.ensures.layout (c.replay.ensures.run c.default-options.ensures.1) (on_err_weaker c.replay.result (ap open_state) c.replay.ensures.untouched) old.alone
+    c.an_array_is_its_metadata.ensures.lawful c.replay.ensures.layout (c.replay.ensures.run c.default-options.ensures.1) (on_err_weaker c.replay.result (λ (u : IsUntouched old.array c.replay.new.self). ap open_state u.storage) c.replay.ensures.untouched) old.alone

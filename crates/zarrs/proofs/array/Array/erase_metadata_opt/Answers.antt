@@ -1,14 +1,15 @@
-use Rattle.std.proofs.Common.{rules}
+use Rattle.std.proofs.Common.{inl, refl, rules}
+use Rattle.zarrs_engine_calls.specs.Refusals.{out_of_memory}
 use Rattle.zarrs_creation.specs.Writing.{erasures}
 use Rattle.zarrs.specs.Arrays.{path_of_array, metadata_of_array, store_of_array}
 use Rattle.std.proofs.lemmas.Result.{on_ok_weaker}
 use Rattle.zarrs.proofs.Counts.{erasing}
-use Rattle.zarrs.proofs.Puts.{puts_short, some_erased}
+use Rattle.zarrs.specs.Puts.{RefusesPuts}
 use Rattle.zarrs.proofs.array.Array.erase_metadata_opt.Goals as goal
 
 pub returns-in_err-puts-clause-refused : goal.returns-in_err-puts-clause-refused
 returns-in_err-puts-clause-refused g c =
-    let why = puts_short (erasures c.args.version (path_of_array c.args.self.now) (metadata_of_array c.args.self.now)) (store_of_array g.TStorage.ReadableStorageTraits.state c.args.self.now) (some_erased c.args.version (path_of_array c.args.self.now) (metadata_of_array c.args.self.now)) in
+    let why : RefusesPuts (erasures c.args.version (path_of_array c.args.self.now) (metadata_of_array c.args.self.now)) out_of_memory (store_of_array g.TStorage.ReadableStorageTraits.state c.args.self.now) (store_of_array g.TStorage.ReadableStorageTraits.state c.args.self.now) = inl (refl, refl) in
     search (rules, why)
 
 pub returns-clause-done : goal.returns-clause-done

@@ -4,30 +4,41 @@ use Rattle.zarrs_chunk_grid.specs.GridView.{array_extents_of}
 use Rattle.zarrs_engine.specs.Engine.{grid_of}
 use Rattle.zarrs_creation.specs.Changes.{with_shape}
 use Rattle.zarrs.proofs.Layouts.{parts_are}
-use Rattle.zarrs.proofs.Regridded.{one_configuration, shape_fits, agrees_resized}
+use Rattle.zarrs.proofs.Regridded.{one_configuration, shape_fits, shape_kept, layout_same, agrees_resized}
 use Rattle.zarrs.proofs.array.Array.replay.Goals as goal
+
+pub returns-in_err-replies-clause-kept : goal.returns-in_err-replies-clause-kept
+returns-in_err-replies-clause-kept g c =
+    let old = c.args.self.now in
+    record {
+      others = c.in_err-replies.ensures.others;
+      metadata = shape_kept (metadata_view old.metadata) old.engine c.replay.new.engine (parts_are old) (layout_same old.engine c.replay.new.engine c.in_err-replies.ensures.untouched);
+      codec_options = refl;
+      codec_specific_options = refl;
+      metadata_options = refl;
+    }
 
 pub overwrite_shape-requires : goal.overwrite_shape-requires
 overwrite_shape-requires g c =
     let old = c.args.self.now in
-    let new = c.replay-replies.new.engine in
-    let others = c.replay-replies.ensures.others in
+    let new = c.replay.new.engine in
+    let others = c.in_ok-replies.ensures.others in
     let same = one_configuration (grid_of new) (grid_of old.engine) others.extension in
     ap length (c.array_shape.ensures.value ∙ ap array_extents_of c.chunk_grid.ensures) ∙ shape_fits (metadata_view old.metadata) old.engine new (parts_are old) others same
 
-pub invariant_of-self : goal.invariant_of-self
-invariant_of-self g c =
+pub invariant_of-self-2 : goal.invariant_of-self-2
+invariant_of-self-2 g c =
     let old = c.args.self.now in
-    let new = c.replay-replies.new.engine in
+    let new = c.replay.new.engine in
     let m = metadata_view old.metadata in
-    let others = c.replay-replies.ensures.others in
+    let others = c.in_ok-replies.ensures.others in
     let same = one_configuration (grid_of new) (grid_of old.engine) others.extension in
     let shaped = c.overwrite_shape.ensures ∙ ap (λ (s : List ℕ). with_shape s m) (c.array_shape.ensures.value ∙ ap array_extents_of c.chunk_grid.ensures) in
     record { agrees = agrees_resized m old.engine new (parts_are old) others same c.overwrite_shape.new.metadata shaped }
 
 pub returns-clause-kept : goal.returns-clause-kept
 returns-clause-kept g c = record {
-  others = c.replay-replies.ensures.others;
+  others = c.in_ok-replies.ensures.others;
   metadata = c.overwrite_shape.ensures ∙ ap (λ (s : List ℕ). with_shape s (metadata_view c.args.self.now.metadata)) (c.array_shape.ensures.value ∙ ap array_extents_of c.chunk_grid.ensures);
   codec_options = refl;
   codec_specific_options = refl;
