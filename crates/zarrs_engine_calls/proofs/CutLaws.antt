@@ -86,10 +86,10 @@ cut_cells layout keep wanted indices old new c position =
     ]
 
 -- no value changed, so no cell
-same_values : (layout : Layout) (old new : StoreState) (position : List ℕ) → new.values ≡ old.values → content layout (value_at new) position ≡ content layout (value_at old) position
+pub same_values : (layout : Layout) (old new : StoreState) (position : List ℕ) → new.values ≡ old.values → content layout (value_at new) position ≡ content layout (value_at old) position
 same_values layout old new position same = ap (λ values. content layout (map.get values) position) same
 
-in_none : (layout : Layout) (position : List ℕ) → is_in_chunks layout [] position ≡ false
+pub in_none : (layout : Layout) (position : List ℕ) → is_in_chunks layout [] position ≡ false
 in_none layout position = elim (cases_Bool (is_covered layout.grid position)) [
   | inl covered ↦ ap (λ b. b && false) covered
   | inr out ↦ ap (λ b. b && false) out

@@ -134,7 +134,7 @@ module _ (layout : Layout) (lawful : IsLawful layout) (keep : Bool) where
       ∙ quiet old.shape r.1.first event.act event.ended old.store r.0.store q.0 r.1.does position
 
   -- where its chunk decodes, the content has a cell at a covered position
-  decoded_cell : (state : StoreState) (position : List ℕ) → is_covered layout.grid position ≡ true
+  pub decoded_cell : (state : StoreState) (position : List ℕ) → is_covered layout.grid position ≡ true
       → ((encoded : List ℕ) → value_at state (layout.key (index_at layout.grid position)) ≡ Some encoded
       → (given : List Cell) × (decoded_cells layout (box_at layout.grid (index_at layout.grid position)) encoded ≡ Some given))
       → (cell : Cell) × (content layout (value_at state) position ≡ Some cell)
@@ -209,7 +209,7 @@ course_store_after_read layout lawful keep earlier write events region got held 
     ]
 
 -- what an accepted write leaves at a position
-act_written : (layout : Layout) (keep : Bool) (shape : List ℕ) (first : Option Refusal) (act : Act) (old new : StoreState)
+pub act_written : (layout : Layout) (keep : Bool) (shape : List ℕ) (first : Option Refusal) (act : Act) (old new : StoreState)
     → ActOutcome layout keep shape first act outcome.done old new → (position : List ℕ)
     → content layout (value_at new) position ≡ cond (touches layout shape act position) (written layout act position) (content layout (value_at old) position)
 act_written layout keep shape first (store region held chunks) old new s position =

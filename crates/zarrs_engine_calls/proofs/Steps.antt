@@ -35,7 +35,7 @@ use Rattle.zarrs_engine_calls.proofs.Contents.{index_list}
 use Rattle.zarrs_engine_calls.proofs.Runs.{reach_then}
 
 -- each chunk that stands in this look-up decodes
-abbrev AllDecode : Layout → (List ℕ → Option (List ℕ)) → Type 0
+abbrev pub AllDecode : Layout → (List ℕ → Option (List ℕ)) → Type 0
 AllDecode layout stored = (index encoded : List ℕ) → has_box layout.grid index ≡ true → stored (layout.key index) ≡ Some encoded
     → (cells : List Cell) × (decoded_cells layout (box_at layout.grid index) encoded ≡ Some cells)
 

@@ -1,5 +1,28 @@
 //! Laws of steps, of runs and of canonical stores, as contracts of functions that do nothing.
 ghost use Rattle.zarrs_engine_calls.specs.Laws.{ContentIsBytes, CanonicalStoresDecode, EmptyStoresAreCanonical, StepsKeepCanon, StepsKeepDecoding, StepsKeepReach, HistoriesAgree, EqualCountsAgree, ReadAfterStore, StoreAfterRead, DisjointWritesAgree, ReadsOfDecodingChunks, PartsMakeTheRegion, SameChunksHaveSameCells, CutsAreRight, AcceptedResizes, RefusedResizes, ResizesKeepOutside, WritesKeepCanon, WritesKeepDecoding, CanonicalChunksAreCompact, CanonicalStoresAreCompact, CompactionsKeepContent, ComparisonIsContent, StepsCount, EmptyStoresAreFill, CanonicalPartsAreMaps, CanonicalStoresAreTheirMap, CanonicalMapsAreOne, StepsKeepOtherKeys, RunsAreCourses, CoursesKeepCanon, CoursesKeepDecoding, CoursesKeepReach, CoursesKeepOtherKeys, CoursesAgree, CourseCountsAgree, EventsCount, CourseReadAfterStore, CourseStoreAfterRead, DisjointEventsAgree, EventReadsOfDecodingChunks, EventPartsMakeTheRegion, AcceptedShapeChanges, RefusedShapeChanges, ShapeChangesKeepOutside};
+ghost use Rattle.zarrs_engine_calls.specs.Headline.{AnArrayIsOneFunction, RunsAreOneFunction, PatchedRunsAreOneFunction};
+ghost use Rattle.zarrs_engine_calls.specs.Reached.{AnswersDependOnTheReach, CellsDependOnPlaces, ReadsDependOnPlaces};
+
+/// After any calls, accepted or refused, the array is one function from positions to cells, if each chunk that is present at
+/// first decodes: an accepted write changes its region alone, a refused one at most its first chunks, and a read lists the
+/// cells of its region in row-major order. So it is too where stores write the parts of chunks by themselves (`patched`).
+/// Two histories from stores without a chunk, which keep no empty chunks and write no part by itself, have equal functions
+/// exactly if the same bytes are present at each chunk key (`bytes`).
+pub fn an_array_is_one_function()
+    ensures changes { AnArrayIsOneFunction }
+    ensures runs { RunsAreOneFunction }
+    ensures patched { PatchedRunsAreOneFunction }
+    ensures bytes { CoursesAgree }
+{}
+
+/// What a call may answer over one store it may answer over any other that agrees with it where the call may ask, and both
+/// are changed alike. Of a read that needs a part of a chunk alone, by a call, a decoder or into a target, the places that it
+/// needs are enough.
+pub fn answers_depend_on_the_reach()
+    ensures keys { AnswersDependOnTheReach }
+    ensures places { CellsDependOnPlaces }
+    ensures reads { ReadsDependOnPlaces }
+{}
 
 /// Canonical stores of one layout have equal content exactly if the same bytes are present at each chunk key, or none
 /// in both. So stores are compared without decoding a chunk.

@@ -17,7 +17,8 @@ mod laws;
 pub use call::{Call, Reply};
 pub use error::ArrayError;
 pub use laws::{
-    accepted_resizes, accepted_shape_changes, canonical_chunks_are_compact, canonical_maps_are_one,
+    accepted_resizes, accepted_shape_changes, an_array_is_one_function,
+    answers_depend_on_the_reach, canonical_chunks_are_compact, canonical_maps_are_one,
     canonical_parts_are_maps, canonical_stores_are_compact, canonical_stores_are_their_map,
     canonical_stores_decode, compactions_keep_content, comparison_is_content, content_is_bytes,
     course_counts_agree, course_read_after_store, course_store_after_read, courses_agree,
