@@ -32,7 +32,7 @@ use Rattle.zarrs_engine_calls.specs.Step.{ActOutcome, RefusesCompact}
 use Rattle.zarrs_engine_calls.specs.Laws.{IsQuiet, AreQuiet, AreQuietEvents, IsReadAt, IsStoreAt, ReadsAt, region_read, data_returned}
 use Rattle.zarrs_engine_calls.specs.Laws.{touches, written, is_resize}
 use Rattle.zarrs_engine_calls.specs.Laws.{CourseReadAfterStore, CourseStoreAfterRead, DisjointEventsAgree, EventReadsOfDecodingChunks}
-use Rattle.zarrs_engine_calls.specs.Laws.{EventPartsMakeTheRegion, ReadAfterStore, StoreAfterRead, DisjointWritesAgree, ReadsOfDecodingChunks}
+use Rattle.zarrs_engine_calls.specs.Laws.{EventPartsMakeTheRegion, ReadAfterStore, StoreAfterRead, DisjointWritesAgree}
 use Rattle.zarrs_engine_calls.specs.Laws.{PartsMakeTheRegion}
 use Rattle.zarrs_engine_calls.proofs.Compactions.{compactions_keep_content}
 use Rattle.zarrs_engine_calls.proofs.Shapes.{front_keeps, slice_there}
@@ -296,11 +296,6 @@ module _ (layout : Layout) (keep : Bool) (call : Call) (region : Box) (held : Ar
 
   reads_so : Happens layout keep (event_of layout call r.reply) old new
   reads_so = step_event layout keep call r.reply old new r.step
-
-pub reads_of_decoding : ReadsOfDecodingChunks
-reads_of_decoding layout lawful keep call region got old new r =
-    event_reads_of_decoding layout lawful keep (event_of layout call r.reply) region got old new
-    (is_read_at layout keep call region got old new r) (reads_so layout keep call region got old new r)
 
 pub read_after_store : ReadAfterStore
 read_after_store layout lawful keep write later calls replies region held got s0 s1 s2 s3 at step quiets run r =
