@@ -50,7 +50,7 @@ use Rattle.zarrs_engine_calls.specs.Acts.{read, read_chunk}
 use Rattle.zarrs_engine_calls.specs.ChunkBoxes.{is_whole_of}
 use Rattle.zarrs_engine_calls.specs.Reached.{AgreeAt, AgreeFor, AnswersDependOnTheReach, AreChangedAlike}
 use Rattle.zarrs_engine_calls.proofs.Reached.{reads_depend}
-use Rattle.zarrs_engine_calls.proofs.Reached.{broken, first_part, large_box, large_fill, one_boxed, part_meets, range_boxed, range_meets, range_whole, region_boxed, region_meets, said_true}
+use Rattle.zarrs_engine_calls.proofs.Reached.{both_none, broken, first_part, large_box, large_fill, one_boxed, part_meets, range_boxed, range_meets, range_whole, region_boxed, region_meets, said_true}
 use Rattle.zarrs_engine_calls.proofs.RefusalLemmas.{box_accepted}
 use Rattle.zarrs_engine_calls.proofs.Contents.{content_covered, content_in_box, content_uncovered, covered_has_box, in_chunk, index_list, member, one_key, only_member}
 use Rattle.zarrs_engine_calls.proofs.Headline.{front_keys, in_front}
@@ -560,7 +560,8 @@ module _ (layout : Layout) (lawful : IsLawful layout) (keep : Bool) (wanted inde
   }
 
 module _ (layout : Layout) (lawful : IsLawful layout) (keep : Bool) (shape wanted : List ℕ) (a now_a b : StoreState) (calls : b.calls ≡ a.calls)
-    (agree : (index : List ℕ) → Contains (cut_chunks layout.grid shape wanted) index → keeps_some layout.grid wanted index ≡ true → AgreeAt layout a b index) where
+    (first : Option Refusal)
+    (agree : first ≡ None → (index : List ℕ) → Contains (cut_chunks layout.grid shape wanted) index → keeps_some layout.grid wanted index ≡ true → AgreeAt layout a b index) where
   abbrev cut_list : List (List ℕ)
   cut_list = cut_chunks layout.grid shape wanted
 
@@ -570,31 +571,43 @@ module _ (layout : Layout) (lawful : IsLawful layout) (keep : Bool) (shape wante
   abbrev Resized : (StoreState → Type 0) → Type 0
   Resized P = (new : StoreState) × P new × AreChangedAlike a b now_a new
 
-  cut_front : (done failed : ℕ) → Front (λ indices. Cuts layout keep wanted indices a now_a) cut_list done failed a now_a
+  -- of the chunks that are cut, since the arguments are accepted then
+  cut_agree : (early : Type 0) (late : List ℕ → ℕ → Type 0) (done failed : ℕ)
+      → HasWriteCause cut_list early (λ index failed. (first ≡ None) × late index failed) done failed
+      → (index : List ℕ) → Contains (take done cut_list) index → keeps_some layout.grid wanted index ≡ true → AgreeAt layout a b index
+  cut_agree early late done failed (inl (e, zero_done, z)) index among kept =
+      let none : Contains [] index = subst (λ n. Contains (take n cut_list) index) zero_done among in
+      let below = none.1 in
+      absurd (omega arith)
+  cut_agree early late done failed (inr (i, at, why)) index among kept = agree why.0 index (in_front done cut_list index among) kept
+
+  cut_front : (done failed : ℕ)
+      → ((index : List ℕ) → Contains (take done cut_list) index → keeps_some layout.grid wanted index ≡ true → AgreeAt layout a b index)
+      → Front (λ indices. Cuts layout keep wanted indices a now_a) cut_list done failed a now_a
       → Front (λ indices. Cuts layout keep wanted indices b (after_cut done failed)) cut_list done failed b (after_cut done failed)
-  cut_front done failed front =
+  cut_front done failed same front =
       front_copied layout a now_a b (λ indices. Cuts layout keep wanted indices a now_a) (λ indices. Cuts layout keep wanted indices b (after_cut done failed)) cut_list done failed front
       (λ c. cuts_copied layout lawful a now_a b (after_cut done failed) (take done cut_list)
       (here layout lawful keep cut_list a now_a b calls done failed) (elsewhere layout lawful keep cut_list a now_a b calls done failed) keep wanted
-      (λ index among has kept. (agree index (in_front done cut_list index among) kept).values) c)
+      (λ index among has kept. (same index among kept).values) c)
 
   cut_alike : (done failed : ℕ) → Front (λ indices. Cuts layout keep wanted indices a now_a) cut_list done failed a now_a → SameOrKept a b now_a (after_cut done failed)
   cut_alike done failed front =
       copied_alike layout a now_a b cut_list done failed (front_keys layout a now_a (λ indices. Cuts layout keep wanted indices a now_a) cut_list done failed (λ c. c.keys) front)
 
-  cut_done : CutsAll layout keep shape wanted a now_a → Resized (CutsAll layout keep shape wanted b)
-  cut_done s =
+  cut_done : first ≡ None → CutsAll layout keep shape wanted a now_a → Resized (CutsAll layout keep shape wanted b)
+  cut_done none s =
       let new = after_cut (length cut_list) 0 in (
         new,
         cuts_all layout lawful keep shape wanted b new
             (cuts_copied layout lawful a now_a b new cut_list (all_here layout lawful keep cut_list a now_a b calls) (all_elsewhere layout lawful keep cut_list a now_a b calls) keep wanted
-            (λ index among has kept. (agree index among kept).values) s.cuts)
-            (cut_front (length cut_list) 0 s.front),
+            (λ index among has kept. (agree none index among kept).values) s.cuts)
+            (cut_front (length cut_list) 0 (λ index among. agree none index (in_front (length cut_list) cut_list index among)) s.front),
         record { values = cut_alike (length cut_list) 0 s.front; calls = ap (λ n. n + length cut_list + 0) calls ∙ sym s.front.makes.calls },
       )
 
-  cut_refused : (first : Option Refusal) (r : Refusal) → RefusesCuts layout keep shape first wanted r a now_a → Resized (RefusesCuts layout keep shape first wanted r b)
-  cut_refused first r s =
+  cut_refused : (r : Refusal) → RefusesCuts layout keep shape first wanted r a now_a → Resized (RefusesCuts layout keep shape first wanted r b)
+  cut_refused r s =
       let new = after_cut s.done s.failed in
       let same : new.calls ≡ now_a.calls = ap (λ n. n + s.done + s.failed) calls ∙ sym s.front.makes.calls in
       let alike = cut_alike s.done s.failed s.front in (
@@ -602,7 +615,7 @@ module _ (layout : Layout) (lawful : IsLawful layout) (keep : Bool) (shape wante
         record {
           done = s.done;
           failed = s.failed;
-          front = cut_front s.done s.failed s.front;
+          front = cut_front s.done s.failed (cut_agree _ (λ x n. RefusesCut layout keep wanted x n now_a r) s.done s.failed s.cause) s.front;
           below = s.below;
           one = s.one;
           counted = λ some is. s.counted some (sym same ∙ is);
@@ -617,7 +630,7 @@ module _ (layout : Layout) (lawful : IsLawful layout) (keep : Bool) (shape wante
                     why.0,
                     cut_late layout lawful keep wanted index s.failed now_a new (cut_boxed layout.grid shape wanted index among) same
                         (λ kept. record {
-                          values = elim (alike (layout.key index)) [ inl is ↦ is | inr (x, y) ↦ y ∙ (agree index among kept).values ∙ sym x ];
+                          values = elim (alike (layout.key index)) [ inl is ↦ is | inr (x, y) ↦ y ∙ (agree why.0 index among kept).values ∙ sym x ];
                           refuses = refl;
                         }) r why.1,
                   ),
@@ -627,11 +640,11 @@ module _ (layout : Layout) (lawful : IsLawful layout) (keep : Bool) (shape wante
         record { values = alike; calls = same },
       )
 
-  cut_depends : (first : Option Refusal) (ended : Outcome) → ActOutcome layout keep shape first (resize wanted) ended a now_a
+  cut_depends : (ended : Outcome) → ActOutcome layout keep shape first (resize wanted) ended a now_a
       → Resized (ActOutcome layout keep shape first (resize wanted) ended b)
-  cut_depends first outcome.done s = let o = cut_done s.1 in (o.0, (s.0, o.1), o.2)
-  cut_depends first (outcome.refused r) s = cut_refused first r s
-  cut_depends first ended s = absurd s
+  cut_depends outcome.done s = let o = cut_done s.0 s.1 in (o.0, (s.0, o.1), o.2)
+  cut_depends (outcome.refused r) s = cut_refused r s
+  cut_depends ended s = absurd s
 
 -- an accepted index list has one number for each dimension
 long_index : (layout : Layout) (index : List ℕ) → length_refusal layout index ≡ None → length index ≡ layout.grid.dimensions
@@ -794,6 +807,13 @@ stored_part layout index part held none =
       said_true (is_part_of (box_at layout.grid index).shape part) (refusal.chunk_subset part index (box_at layout.grid index).shape) (first_part (part_refusal layout index part) _ parts.1).0,
     )
 
+located_store : (layout : Layout) (index : List ℕ) (part : Box) (held : ArrayData) → store_part_refusal layout index part held ≡ None
+    → option_or (chunk_refusal layout index) (part_refusal layout index part) ≡ None
+located_store layout index part held none =
+    let rest = (first_part (cond (not (length index == layout.grid.dimensions)) (Some (refusal.dimensionality (length index) layout.grid.dimensions)) None) _ none).1 in
+    let parts = first_part (chunk_refusal layout index) _ rest in
+    both_none (chunk_refusal layout index) (part_refusal layout index part) parts.0 (first_part (part_refusal layout index part) _ parts.1).0
+
 -- the call writes
 abbrev pub IsWrite : Call → Type 0
 IsWrite (call.StoreChunk index held) = Unit {0}
@@ -832,7 +852,7 @@ writes_depend layout lawful keep (call.StoreArraySubset region held) reply a b n
     let takes : first ≡ None → region_refusal layout b.shape box ≡ None = λ none.
     (first_part (region_refusal layout b.shape box) (region_data_refusal layout box (data_of held)) none).0 in
     let o = store_depends layout lawful keep (chunks_met layout.grid box) a.store new_a.store b.store agree.calls box (data_of held) b.shape first (outcome_of reply)
-    (λ none j among there part. (agree.reach j (box_is_there layout.grid j there).long (among, part)).values)
+    (λ none j among there part. (agree.reach (subst (λ shape. region_refusal layout shape box ≡ None) agree.shape (takes none)) j (box_is_there layout.grid j there).long (among, part)).values)
     (λ none. region_boxed layout lawful b.shape box region.same_length (takes none))
     (λ none. region_meets layout lawful b.shape box region.same_length (takes none))
     (moved layout keep (call.StoreArraySubset region held) (outcome_of reply) a.shape b.shape a.store new_a.store agree.shape s.1) in
@@ -861,7 +881,7 @@ writes_depend layout lawful keep (call.StoreChunkSubset index part held) reply a
     let first = store_part_refusal layout i box (data_of held) in
     let parts = λ (none : first ≡ None). stored_part layout i box (data_of held) none in
     let o = store_depends layout lawful keep (i ∷ []) a.store new_a.store b.store agree.calls (part_box (box_at layout.grid i) box) (data_of held) b.shape first (outcome_of reply)
-    (λ none j among there part. (agree.reach j (box_is_there layout.grid j there).long
+    (λ none j among there part. (agree.reach (located_store layout i box (data_of held) none) j (box_is_there layout.grid j there).long
     (only_member i j among, part)).values)
     (λ none. one_boxed layout i (parts none).0)
     (λ none. part_meets layout lawful i box (parts none).0 (parts none).1)
@@ -869,14 +889,15 @@ writes_depend layout lawful keep (call.StoreChunkSubset index part held) reply a
     (record { store = o.0; shape = b.shape }, (refl, o.1), o.2)
 writes_depend layout lawful keep (call.CompactChunk index) reply a b new_a is agree s =
     let i = index.items in
-    let o = compact_depends layout lawful keep i a.store new_a.store b.store agree.calls (λ long. agree.reach i long refl) b.shape (outcome_of reply)
+    let o = compact_depends layout lawful keep i a.store new_a.store b.store agree.calls (λ long. agree.reach refl i long refl) b.shape (outcome_of reply)
     (moved layout keep (call.CompactChunk index) (outcome_of reply) a.shape b.shape a.store new_a.store agree.shape s.1) in
     (record { store = o.0; shape = b.shape }, (refl, o.1), o.2)
 writes_depend layout lawful keep (call.Resize wanted) reply a b new_a is agree s =
     let o = cut_depends layout lawful keep b.shape wanted.items a.store new_a.store b.store agree.calls
-    (λ index among kept. agree.reach index (box_is_there layout.grid index (cut_boxed layout.grid b.shape wanted.items index among)).long
+    (resize_refusal layout wanted.items)
+    (λ none index among kept. agree.reach none index (box_is_there layout.grid index (cut_boxed layout.grid b.shape wanted.items index among)).long
     (subst (λ shape. Contains (cut_chunks layout.grid shape wanted.items) index) agree.shape among, kept))
-    (resize_refusal layout wanted.items) (outcome_of reply)
+    (outcome_of reply)
     (moved layout keep (call.Resize wanted) (outcome_of reply) a.shape b.shape a.store new_a.store agree.shape s.1) in
     (record { store = o.0; shape = shape_left (resize wanted.items) (outcome_of reply) b.shape }, (refl, o.1), o.2)
 writes_depend layout lawful keep other reply a b new_a is agree s = absurd is

@@ -348,7 +348,7 @@ module _ (layout : Layout) (lawful : IsLawful layout) (keep : Bool) (shape : Lis
   whole_depends needed index ended new at s = absurd s
 
   refused_region : (region : Box) (r : Refusal) → IsLong region
-      → ((index : List ℕ) → Contains (chunks_met layout.grid region) index → length index ≡ layout.grid.dimensions → AgreeAt layout a b index)
+      → (read_region_refusal layout shape region ≡ None → (index : List ℕ) → Contains (chunks_met layout.grid region) index → length index ≡ layout.grid.dimensions → AgreeAt layout a b index)
       → RefusesRegionRead layout (read_region_refusal layout shape region) region (chunks_met layout.grid region) a r
       → RefusesRegionRead layout (read_region_refusal layout shape region) region (chunks_met layout.grid region) b r
   refused_region region r long at (inl by) = inl by
@@ -358,12 +358,12 @@ module _ (layout : Layout) (lawful : IsLawful layout) (keep : Bool) (shape : Lis
       inr (
         none,
         some_refused layout lawful a b region (chunks_met layout.grid region) (region_covered layout lawful shape region long (takes_region layout shape region none))
-            (λ position holds. boxed_agrees (index_at layout.grid position) (at (index_at layout.grid position) (meet position holds)) (boxes (index_at layout.grid position) (meet position holds)))
-            boxes (λ index among. boxed_agrees index (at index among) (boxes index among)) r some,
+            (λ position holds. boxed_agrees (index_at layout.grid position) (at none (index_at layout.grid position) (meet position holds)) (boxes (index_at layout.grid position) (meet position holds)))
+            boxes (λ index among. boxed_agrees index (at none index among) (boxes index among)) r some,
       )
 
   region_depends : (region : Box) (ended : Outcome) (new : StoreState) → IsLong region
-      → ((index : List ℕ) → Contains (chunks_met layout.grid region) index → length index ≡ layout.grid.dimensions → AgreeAt layout a b index)
+      → (read_region_refusal layout shape region ≡ None → (index : List ℕ) → Contains (chunks_met layout.grid region) index → length index ≡ layout.grid.dimensions → AgreeAt layout a b index)
       → ActOutcome layout keep shape (read_region_refusal layout shape region) (read region (chunks_met layout.grid region)) ended a new
       → ActOutcome layout keep shape (read_region_refusal layout shape region) (read region (chunks_met layout.grid region)) ended b b
   region_depends region (outcome.cells held) new long at s =
@@ -372,8 +372,8 @@ module _ (layout : Layout) (lawful : IsLawful layout) (keep : Bool) (shape : Lis
         refl,
         s.1,
         region_read layout lawful a b region (chunks_met layout.grid region) held
-            (λ position holds covered. boxed_agrees (index_at layout.grid position) (at (index_at layout.grid position) (meet position holds)) (boxes (index_at layout.grid position) (meet position holds)))
-            (λ index among has. boxed_agrees index (at index among) has) boxes s.2,
+            (λ position holds covered. boxed_agrees (index_at layout.grid position) (at s.1 (index_at layout.grid position) (meet position holds)) (boxes (index_at layout.grid position) (meet position holds)))
+            (λ index among has. boxed_agrees index (at s.1 index among) has) boxes s.2,
       )
   region_depends region (outcome.refused r) new long at s = (refl, refused_region region r long at s.1)
   region_depends region ended new long at s = absurd s
@@ -402,15 +402,15 @@ module _ (layout : Layout) (lawful : IsLawful layout) (keep : Bool) (shape : Lis
     (covered : first ≡ None → (position : List ℕ) → Holds region position → is_covered layout.grid position ≡ true)
     (boxes : first ≡ None → (index : List ℕ) → Contains chunks index → has_box layout.grid index ≡ true)
     (meet : first ≡ None → (position : List ℕ) → Holds region position → Contains chunks (index_at layout.grid position))
-    (at : (index : List ℕ) → Contains chunks index → length index ≡ layout.grid.dimensions → AgreeAt layout a b index) where
+    (at : first ≡ None → (index : List ℕ) → Contains chunks index → length index ≡ layout.grid.dimensions → AgreeAt layout a b index) where
   over : first ≡ None → (position : List ℕ) → Holds region position → AgreeAt layout a b (index_at layout.grid position)
   over none position holds =
       let index = index_at layout.grid position in
       let among = meet none position holds in
-      at index among (box_is_there layout.grid index (boxes none index among)).long
+      at none index among (box_is_there layout.grid index (boxes none index among)).long
 
   each_at : first ≡ None → (index : List ℕ) → Contains chunks index → AgreeAt layout a b index
-  each_at none index among = at index among (box_is_there layout.grid index (boxes none index among)).long
+  each_at none index among = at none index among (box_is_there layout.grid index (boxes none index among)).long
 
   chunks_refused : (r : Refusal) → RefusesRegionRead layout first region chunks a r → RefusesRegionRead layout first region chunks b r
   chunks_refused r (inl by) = inl by
@@ -454,7 +454,7 @@ part_fits layout index part none = said_true (is_part_of (box_at layout.grid ind
     (first_part (part_refusal layout index part) _ (first_part (chunk_refusal layout index) _ none).1).0
 
 module _ (layout : Layout) (lawful : IsLawful layout) (keep : Bool) (shape : List ℕ) (a b : StoreState) (index : List ℕ) (part : Box)
-    (at : length index ≡ layout.grid.dimensions → AgreeAt layout a b index) where
+    (at : read_part_refusal layout index part ≡ None → length index ≡ layout.grid.dimensions → AgreeAt layout a b index) where
   abbrev part_first : Option Refusal
   part_first = read_part_refusal layout index part
 
@@ -463,15 +463,15 @@ module _ (layout : Layout) (lawful : IsLawful layout) (keep : Bool) (shape : Lis
 
   part_depends : (whole : Bool) (ended : Outcome) (new : StoreState)
       → ActOutcome layout keep shape part_first (part_act whole) ended a new → ActOutcome layout keep shape part_first (part_act whole) ended b b
-  part_depends true (outcome.cells held) new s = (refl, s.1, chunk_read layout lawful a b index (at (box_is_there layout.grid index s.2.has_box).long) held s.2)
+  part_depends true (outcome.cells held) new s = (refl, s.1, chunk_read layout lawful a b index (at s.1 (box_is_there layout.grid index s.2.has_box).long) held s.2)
   part_depends true (outcome.refused r) new s =
-      (refl, refused_early layout lawful keep shape a b part_first true index r (λ none. at (box_is_there layout.grid index (part_has layout index part none)).long) s.1)
+      (refl, refused_early layout lawful keep shape a b part_first true index r (λ none. at none (box_is_there layout.grid index (part_has layout index part none)).long) s.1)
   part_depends true ended new s = absurd s
   part_depends false ended new s =
       chunks_depend layout lawful keep shape a b part_first (part_box (box_at layout.grid index) part) (index ∷ [])
       (λ none. part_covered layout lawful index part (part_has layout index part none) (part_fits layout index part none)) (λ none. one_boxed layout index (part_has layout index part none))
       (λ none. part_meets layout lawful index part (part_has layout index part none) (part_fits layout index part none))
-      (λ i among long. subst (AgreeAt layout a b) (sym (only_member index i among)) (at (subst (λ (k : List ℕ). length k ≡ layout.grid.dimensions) (only_member index i among) long)))
+      (λ none i among long. subst (AgreeAt layout a b) (sym (only_member index i among)) (at none (subst (λ (k : List ℕ). length k ≡ layout.grid.dimensions) (only_member index i among) long)))
       ended new s
 
 -- a range of chunks that is accepted
@@ -538,6 +538,28 @@ takes_range layout shape range none some =
     let second : later (is_empty range) ≡ None = (first_part (dimensions_refusal layout shape range) (later (is_empty range)) none).1 in
     (first_part (range_refusal layout range) (size_refusal layout (range_box layout.grid range).shape) (sym (ap later some) ∙ second)).0
 
+-- where an accepted read is, its arguments refuse nothing
+pub both_none : (a b : Option Refusal) → a ≡ None → b ≡ None → option_or a b ≡ None
+both_none None b one two = two
+both_none (Some x) b one two = absurd (cc)
+
+located_range : (layout : Layout) (shape : List ℕ) (range : Box) → read_chunks_refusal layout shape range ≡ None
+    → option_or (dimensions_refusal layout shape range) (cond (is_empty range) None (range_refusal layout range)) ≡ None
+located_range layout shape range none =
+    let later = λ (v : Bool). cond v None (option_or (range_refusal layout range) (size_refusal layout (range_box layout.grid range).shape)) in
+    both_none (dimensions_refusal layout shape range) (cond (is_empty range) None (range_refusal layout range))
+    (first_part (dimensions_refusal layout shape range) (later (is_empty range)) none).0
+    (elim (is_empty range) as (λ v. is_empty range ≡ v → cond v None (range_refusal layout range) ≡ None) [
+      | true ↦ λ empty. refl
+      | false ↦ λ some. takes_range layout shape range none some
+    ] refl)
+
+located_part : (layout : Layout) (index : List ℕ) (part : Box) → read_part_refusal layout index part ≡ None
+    → option_or (chunk_refusal layout index) (part_refusal layout index part) ≡ None
+located_part layout index part none =
+    let parts = first_part (chunk_refusal layout index) _ none in
+    both_none (chunk_refusal layout index) (part_refusal layout index part) parts.0 (first_part (part_refusal layout index part) _ parts.1).0
+
 -- the call reads
 abbrev pub IsRead : Call → Type 0
 IsRead (call.RetrieveChunkIfExists index) = Unit {0}
@@ -556,19 +578,20 @@ ReadsDependOnTheReach =
 pub reads_depend : ReadsDependOnTheReach
 reads_depend layout lawful keep (call.RetrieveChunkIfExists index) reply a b new_a is agree s = (
   refl,
-  whole_depends layout lawful keep b.shape a.store b.store false index.items (outcome_of reply) new_a.store (λ long. agree.reach index.items long refl)
+  whole_depends layout lawful keep b.shape a.store b.store false index.items (outcome_of reply) new_a.store (λ long. agree.reach refl index.items long refl)
       (subst (λ shape. ActOutcome layout keep shape (length_refusal layout index.items) (read_chunk false index.items) (outcome_of reply) a.store new_a.store) (sym agree.shape) s.1),
 )
 reads_depend layout lawful keep (call.RetrieveChunk index) reply a b new_a is agree s = (
   refl,
-  whole_depends layout lawful keep b.shape a.store b.store true index.items (outcome_of reply) new_a.store (λ long. agree.reach index.items long refl)
+  whole_depends layout lawful keep b.shape a.store b.store true index.items (outcome_of reply) new_a.store (λ long. agree.reach refl index.items long refl)
       (subst (λ shape. ActOutcome layout keep shape (length_refusal layout index.items) (read_chunk true index.items) (outcome_of reply) a.store new_a.store) (sym agree.shape) s.1),
 )
 reads_depend layout lawful keep (call.RetrieveArraySubset region) reply a b new_a is agree s =
     let box = box_of region in
     let act = read box (chunks_met layout.grid box) in (
       refl,
-      region_depends layout lawful keep b.shape a.store b.store box (outcome_of reply) new_a.store region.same_length (λ index among long. agree.reach index long among)
+      region_depends layout lawful keep b.shape a.store b.store box (outcome_of reply) new_a.store region.same_length
+          (λ none index among long. agree.reach (subst (λ shape. region_refusal layout shape box ≡ None) agree.shape (takes_region layout b.shape box none)) index long among)
           (subst (λ shape. ActOutcome layout keep shape (read_region_refusal layout shape box) act (outcome_of reply) a.store new_a.store) (sym agree.shape) s.1),
     )
 reads_depend layout lawful keep (call.RetrieveChunks range) reply a b new_a is agree s =
@@ -578,15 +601,16 @@ reads_depend layout lawful keep (call.RetrieveChunks range) reply a b new_a is a
       refl,
       chunks_depend layout lawful keep b.shape a.store b.store (read_chunks_refusal layout b.shape box) (chunks_box layout.grid box) (positions box)
           (λ none. range_covered layout lawful box range.same_length (takes none)) (λ none. range_boxed layout lawful box range.same_length (takes none)) (λ none. range_meets layout lawful box range.same_length (takes none))
-          (λ index among long. agree.reach index long among) (outcome_of reply) new_a.store
+          (λ none index among long. agree.reach (subst (λ shape. option_or (dimensions_refusal layout shape box) (cond (is_empty box) None (range_refusal layout box)) ≡ None) agree.shape (located_range layout b.shape box none)) index long among)
+          (outcome_of reply) new_a.store
           (subst (λ shape. ActOutcome layout keep shape (read_chunks_refusal layout shape box) act (outcome_of reply) a.store new_a.store) (sym agree.shape) s.1),
     )
 reads_depend layout lawful keep (call.RetrieveChunkSubset index part) reply a b new_a is agree s =
     let i = index.items in
     let box = box_of part in
     let whole = is_whole_of (box_at layout.grid i).shape box in (
-      elim whole as (λ v. b.shape ≡ shape_left (part_act layout lawful keep b.shape a.store b.store i box (λ long. agree.reach i long refl) v) (outcome_of reply) b.shape) [ true ↦ refl | false ↦ refl ],
-      part_depends layout lawful keep b.shape a.store b.store i box (λ long. agree.reach i long refl) whole (outcome_of reply) new_a.store
+      elim whole as (λ v. b.shape ≡ shape_left (part_act layout lawful keep b.shape a.store b.store i box (λ none long. agree.reach (located_part layout i box none) i long refl) v) (outcome_of reply) b.shape) [ true ↦ refl | false ↦ refl ],
+      part_depends layout lawful keep b.shape a.store b.store i box (λ none long. agree.reach (located_part layout i box none) i long refl) whole (outcome_of reply) new_a.store
           (subst (λ shape. ActOutcome layout keep shape (read_part_refusal layout i box) (read_part_act layout i box) (outcome_of reply) a.store new_a.store) (sym agree.shape) s.1),
     )
 reads_depend layout lawful keep other reply a b new_a is agree s = absurd is

@@ -15,7 +15,7 @@ use Rattle.zarrs_engine_calls.specs.ChunkBoxes.{part_box}
 use Rattle.zarrs_engine_calls.specs.declared.call.Call.{Call}
 use Rattle.zarrs_engine_calls.specs.declared.call.Reply.{Reply}
 use Rattle.zarrs_engine_calls.specs.Laws.{EachDecodes}
-use Rattle.zarrs_engine_calls.specs.Reach.{Reach, chunk_part}
+use Rattle.zarrs_engine_calls.specs.Reach.{Reach, chunk_part, location_refusal}
 use Rattle.zarrs_engine_calls.specs.Step.{RetrievesChunks, RetrievesPart, RetrievesRegion, Step}
 
 -- the same bytes are present at the key of the chunk, or none in both, and both refuse to read it or neither
@@ -24,10 +24,11 @@ pub record AgreeAt (layout : Layout) (a b : StoreState) (index : List ℕ) : Typ
   pub refuses : b.refuses (layout.key index) ≡ a.refuses (layout.key index)
 
 -- The states agree at each key that the call may ask, and have made as many writing calls (so both have one left, or
--- none). An index list of another length names no key.
+-- none). A call whose region, range, part or shape is refused asks none, and an index list of another length names none.
 pub record AgreeFor (layout : Layout) (call : Call) (a b : ArrayState) : Type 0 where
   pub shape : b.shape ≡ a.shape
-  pub reach : (index : List ℕ) → length index ≡ layout.grid.dimensions → Reach layout a.shape call index → AgreeAt layout a.store b.store index
+  pub reach : location_refusal layout a.shape call ≡ None → (index : List ℕ) → length index ≡ layout.grid.dimensions → Reach layout a.shape call index
+      → AgreeAt layout a.store b.store index
   pub calls : b.store.calls ≡ a.store.calls
 
 -- At each key the same bytes are present in the end, or both stores have what they had; and both have made as many writing
