@@ -234,18 +234,20 @@ fn parts_are_lent_and_the_store_is_given_back(rt: HostRuntime) {
 
 #[test]
 fn laws_can_be_called(_rt: HostRuntime) {
+    zarrs_engine::laws::an_array_is_one_function();
+    zarrs_engine::laws::answers_depend_on_the_reach();
     zarrs_engine::laws::content_is_bytes();
     zarrs_engine::laws::canonical_stores_decode();
     zarrs_engine::laws::empty_stores_are_canonical();
-    zarrs_engine::laws::steps_keep_canon();
-    zarrs_engine::laws::steps_keep_decoding();
-    zarrs_engine::laws::steps_keep_reach();
+    zarrs_engine::laws::courses_keep_canon();
+    zarrs_engine::laws::courses_keep_decoding();
+    zarrs_engine::laws::courses_keep_reach();
     zarrs_engine::laws::histories_agree();
     zarrs_engine::laws::equal_counts_agree();
     zarrs_engine::laws::read_after_store();
     zarrs_engine::laws::store_after_read();
     zarrs_engine::laws::disjoint_writes_agree();
-    zarrs_engine::laws::reads_of_decoding_chunks();
+    zarrs_engine::laws::event_reads_of_decoding_chunks();
     zarrs_engine::laws::parts_make_the_region();
     zarrs_engine::laws::reads_agree();
 }

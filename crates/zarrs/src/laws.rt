@@ -18,18 +18,17 @@ pub use zarrs_chunk_grid::laws::{
 pub use zarrs_codec::laws::codecs_are_said_by_levels;
 pub use zarrs_data_type_kinds::laws::{types_are_said_by_levels, written_fill_value_is_read};
 pub use zarrs_engine::laws::{
-    accepted_resizes, accepted_shape_changes, canonical_chunks_are_compact, canonical_maps_are_one,
-    canonical_parts_are_maps, canonical_stores_are_compact, canonical_stores_are_their_map,
-    canonical_stores_decode, compactions_keep_content, comparison_is_content, content_is_bytes,
-    course_counts_agree, course_read_after_store, course_store_after_read, courses_agree,
-    courses_keep_canon, courses_keep_decoding, courses_keep_other_keys, courses_keep_reach,
-    cuts_are_right, disjoint_events_agree, disjoint_writes_agree, empty_stores_are_canonical,
+    accepted_shape_changes, an_array_is_one_function, answers_depend_on_the_reach,
+    canonical_chunks_are_compact, canonical_maps_are_one, canonical_parts_are_maps,
+    canonical_stores_are_compact, canonical_stores_are_their_map, canonical_stores_decode,
+    compactions_keep_content, comparison_is_content, content_is_bytes, course_counts_agree,
+    course_read_after_store, course_store_after_read, courses_agree, courses_keep_canon,
+    courses_keep_decoding, courses_keep_other_keys, courses_keep_reach, cuts_are_right,
+    disjoint_events_agree, disjoint_writes_agree, empty_stores_are_canonical,
     empty_stores_are_fill, equal_counts_agree, event_parts_make_the_region,
     event_reads_of_decoding_chunks, events_count, histories_agree, parts_make_the_region,
-    read_after_store, reads_agree, reads_of_decoding_chunks, refused_resizes,
-    refused_shape_changes, resizes_keep_outside, runs_are_courses, same_chunks_have_same_cells,
-    shape_changes_keep_outside, steps_count, steps_keep_canon, steps_keep_decoding,
-    steps_keep_other_keys, steps_keep_reach, store_after_read, writes_keep_canon,
+    read_after_store, reads_agree, refused_shape_changes, runs_are_courses,
+    same_chunks_have_same_cells, shape_changes_keep_outside, store_after_read, writes_keep_canon,
     writes_keep_decoding,
 };
 pub use zarrs_keys::{paths_are_names, paths_keep_keys_lawful, unrelated_paths_share_no_key};

@@ -8,13 +8,13 @@ use Rattle.zarrs_engine_calls.specs.declared.call.Call.{Call}
 use Rattle.zarrs_engine_calls.specs.declared.error.ArrayError.{ArrayError}
 use Rattle.zarrs_engine_calls.specs.declared.call.Reply.{Reply}
 use Rattle.zarrs_engine_calls.specs.declared.call.Reply.TheVariants.{Done, Compacted, Cells, MaybeCells, Refused}
-use Rattle.zarrs_engine_calls.specs.Acts.{Act, store, erase, compact, read, read_chunk, resize, act_of, shape_after}
+use Rattle.zarrs_engine_calls.specs.Acts.{Act, store, erase, compact, read, read_chunk, resize, act_of}
 use Rattle.zarrs_engine_calls.specs.ArgumentRefusals.{argument_refusal}
 use Rattle.zarrs_engine_calls.specs.Reach.{MayAskCalls}
 use Rattle.zarrs_engine_calls.specs.Refusals.{Refusal, refusal_of}
 use Rattle.zarrs_engine_calls.specs.Step.{ActStep, Step}
 use Rattle.zarrs_engine_calls.specs.Patches.{PatchActStep, PatchRun, PatchStep}
-use Rattle.zarrs_engine_calls.proofs.Runs.{calls_later}
+use Rattle.zarrs_engine_calls.proofs.Runs.{calls_after}
 use Rattle.zarrs_engine_calls.proofs.Steps.{act_reach}
 use Rattle.zarrs_engine.specs.Outcomes.{StepsAs}
 use Rattle.zarrs_engine.proofs.PatchedRegions.{all_patched, refused_patches}
@@ -73,7 +73,7 @@ patch_push layout keep (c ∷ cs) [] call reply old mid new r s = absurd r
 pub patch_asked : (layout : Layout) (keep : Bool) (call : Call) (calls : List Call) (reply : Reply) (old new : ArrayState) → PatchStep layout keep call reply old new
     → MayAskCalls layout (call ∷ calls) old → MayAskCalls layout calls new
 patch_asked layout keep call calls reply old new s may =
-    calls_later layout calls (record old { shape = shape_after (act_of layout call) reply old.shape }) new s.0 (patch_reach layout keep call reply old new s) (may.1 reply)
+    calls_after layout keep call calls reply old new s (patch_reach layout keep call reply old new s) may
 
 -- the reply to a store
 pub patched_step : (layout : Layout) (keep : Bool) (shape : List ℕ) (first : Option Refusal) (act : Act) (old new : StoreState) {T : Type 0} (made : Result T ArrayError) (reply : Reply)

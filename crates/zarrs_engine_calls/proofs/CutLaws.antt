@@ -5,7 +5,7 @@ use Rattle.std.proofs.lemmas.List.{length-replicate, take-append-drop}
 use Rattle.std.proofs.lemmas.List.Elements.{All-contains, All-contains_itself, All-filter, Contains-append_left}
 use Rattle.std.proofs.lemmas.Option.{slice_get-get_or}
 use Rattle.zarrs_subset.proofs.Positions.{positions_in}
-use Rattle.zarrs_engine_calls.specs.Refusals.{Refusal, refusal_of}
+use Rattle.zarrs_engine_calls.specs.Refusals.{Refusal}
 use Rattle.zarrs_engine_calls.proofs.Contents.{index_list, one_key}
 use Rattle.std.specs.FinMap as map
 use Rattle.std.specs.List.{filter, list_any}
@@ -15,36 +15,20 @@ use Rattle.zarrs_subset.specs.Regions.{box_at_origin, positions}
 use Rattle.zarrs_chunk_grid.specs.Grids.{Grid, index_at, is_covered}
 use Rattle.zarrs_keys.specs.Keys.{IsIndexList}
 use Rattle.zarrs_storage.specs.Store.{StoreState}
-use Rattle.zarrs_engine_calls.specs.Layout.{Layout, IsLawful, ArrayState}
+use Rattle.zarrs_engine_calls.specs.Layout.{Layout, IsLawful}
 use Rattle.zarrs_engine_calls.specs.Content.{value_at, content}
 use Rattle.zarrs_engine_calls.specs.Cuts.{Cuts, cut_chunks, is_below, is_cut, is_cut_away}
 use Rattle.zarrs_engine_calls.specs.Fronts.{Front, is_in_chunks}
-use Rattle.zarrs_engine_calls.specs.declared.call.Call.{Call}
-use Rattle.zarrs_engine_calls.specs.declared.call.Reply.{Reply}
-use Rattle.zarrs_engine_calls.specs.declared.call.Reply.TheVariants.{Done, Refused}
-use Rattle.zarrs_engine_calls.specs.Acts.{Act, resize}
-use Rattle.zarrs_engine_calls.specs.Events.{Happens, change_of_shape}
+use Rattle.zarrs_engine_calls.specs.Acts.{resize}
 use Rattle.zarrs_engine_calls.specs.Outcome as outcome
-use Rattle.zarrs_engine_calls.specs.Outcome.{Outcome, outcome_of}
-use Rattle.zarrs_engine_calls.specs.Step.{ActOutcome, Step}
-use Rattle.zarrs_engine_calls.specs.Laws.{AcceptedResizes, RefusedResizes, ResizesKeepOutside, ResizesTo}
+use Rattle.zarrs_engine_calls.specs.Outcome.{Outcome}
+use Rattle.zarrs_engine_calls.specs.Step.{ActOutcome}
 use Rattle.zarrs_engine_calls.specs.Laws.{AcceptedShapeChanges, RefusedShapeChanges, ShapeChangesKeepOutside}
 use Rattle.zarrs_engine_calls.proofs.Loops.{any_among, among_any}
-use Rattle.zarrs_engine_calls.proofs.Steps.{step_event}
 
 -- an accepted one
 pub accepted_change : AcceptedShapeChanges
 accepted_change layout keep wanted old new h = record { shape = h.shape; cells = h.does.1.updates; makes = h.does.1.front.makes }
-
--- a call that resizes is such an event
-change_happens : (layout : Layout) (keep : Bool) (call : Call) (reply : Reply) (wanted : List ℕ) (old new : ArrayState)
-    → ResizesTo layout call wanted → Step layout keep call reply old new → Happens layout keep (change_of_shape wanted (outcome_of reply)) old new
-change_happens layout keep call reply wanted old new is s =
-    subst (λ (act : Act). Happens layout keep (record { act = act; ended = outcome_of reply }) old new) is (step_event layout keep call reply old new s)
-
-pub accepted : AcceptedResizes
-accepted layout keep call wanted old new is s =
-    accepted_change layout keep wanted old new (change_happens layout keep call Done wanted old new is s)
 
 pub and_left : (a b : Bool) → a && b ≡ true → a ≡ true
 and_left true b e = refl
@@ -86,10 +70,10 @@ cut_cells layout keep wanted indices old new c position =
     ]
 
 -- no value changed, so no cell
-same_values : (layout : Layout) (old new : StoreState) (position : List ℕ) → new.values ≡ old.values → content layout (value_at new) position ≡ content layout (value_at old) position
+pub same_values : (layout : Layout) (old new : StoreState) (position : List ℕ) → new.values ≡ old.values → content layout (value_at new) position ≡ content layout (value_at old) position
 same_values layout old new position same = ap (λ values. content layout (map.get values) position) same
 
-in_none : (layout : Layout) (position : List ℕ) → is_in_chunks layout [] position ≡ false
+pub in_none : (layout : Layout) (position : List ℕ) → is_in_chunks layout [] position ≡ false
 in_none layout position = elim (cases_Bool (is_covered layout.grid position)) [
   | inl covered ↦ ap (λ b. b && false) covered
   | inr out ↦ ap (λ b. b && false) out
@@ -118,10 +102,6 @@ refused_change layout keep r wanted old new h =
       makes = step.front.makes;
       one = step.one;
     }
-
-pub refused : RefusedResizes
-refused layout lawful keep call e wanted old new is s =
-    refused_change layout keep (refusal_of e) wanted old new (change_happens layout keep call (Refused e) wanted old new is s)
 
 -- a chunk that is cut is one of the array as it was
 pub cut_is_one : (grid : Grid) (old wanted : List ℕ) (n : ℕ) (index : List ℕ) → Contains (take n (cut_chunks grid old wanted)) index → is_below (grid.counts old) index ≡ true
@@ -175,7 +155,3 @@ change_kept_outside layout lawful keep ended wanted old new h =
       chunks = outside_chunks layout lawful keep old.shape wanted old.store new.store some;
       cells = outside_cells layout keep old.shape wanted old.store new.store some;
     }
-
-pub kept_outside : ResizesKeepOutside
-kept_outside layout lawful keep call reply wanted old new is s =
-    change_kept_outside layout lawful keep (outcome_of reply) wanted old new (change_happens layout keep call reply wanted old new is s)

@@ -1,6 +1,5 @@
 -- A store that may be asked anything.
 use Rattle.std.proofs.Common.{◌≡◌, ℕ, true, List, [], ◌∷◌}
-use Rattle.zarrs_engine_calls.specs.Acts.{act_of, shape_after}
 use Rattle.zarrs_engine_calls.specs.Layout.{ArrayState, Layout}
 use Rattle.zarrs_engine_calls.specs.Reach.{MayAskCalls}
 use Rattle.zarrs_engine_calls.specs.declared.call.Call.{Call}
@@ -11,6 +10,6 @@ pub may_ask_calls : (layout : Layout) (calls : List Call) (state : ArrayState)
     → MayAskCalls layout calls state
 may_ask_calls layout [] state keys places = tt
 may_ask_calls layout (call ∷ calls) state keys places = (
-  (λ index reached long. record { key = keys (layout.key index); places = λ place. places (layout.key index) place }),
-  λ reply. may_ask_calls layout calls (record state { shape = shape_after (act_of layout call) reply state.shape }) keys places,
+  (λ located index reached long. record { key = keys (layout.key index); places = λ place. places (layout.key index) place }),
+  λ later leaves. may_ask_calls layout calls (record state { shape = later }) keys places,
 )

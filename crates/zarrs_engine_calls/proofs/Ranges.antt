@@ -18,18 +18,18 @@ use Rattle.zarrs_engine_calls.specs.ArgumentRefusals.{chunk_refusal, range_refus
 use Rattle.zarrs_engine_calls.specs.StateRefusals.{IsPart}
 use Rattle.zarrs_engine_calls.proofs.Covers.{last_at, some_extent}
 
-box_of_range : (grid : Grid) (range : Box) → IsLong (range_box grid range)
+pub box_of_range : (grid : Grid) (range : Box) → IsLong (range_box grid range)
 box_of_range grid range = length-map-range_with_len _ 0 grid.dimensions ∙ sym (length-map-range_with_len _ 0 grid.dimensions)
 
 module _ (grid : Grid) (lawful : IsGrid grid) (range : Box) (long : IsLong range) (is_range : IsChunkRange grid range) (box_is_long : IsLong (range_box grid range)) where
   -- an index list of the range has a chunk
-  range_has : (index : List ℕ) → InBox range index → has_box grid index ≡ true
+  pub range_has : (index : List ℕ) → InBox range index → has_box grid index ≡ true
   range_has index inside = has_box_is grid index (record {
     long = inside.same_length ∙ is_range.start_long;
     numbered = λ k below. let n = is_range.numbered k below in let b = inside.below k (omega (arith, is_range.start_long)) in omega arith;
   })
 
-  listed : (index : List ℕ) → Contains (positions range) index → InBox range index
+  pub listed : (index : List ℕ) → Contains (positions range) index → InBox range index
   listed index among =
       holds_along range index long (positions_in range.start range.shape among.0 index long (slice_get-get_or (positions range) among.0 index among.1 ∙ ap Some among.2))
 
@@ -55,7 +55,7 @@ first_part : (a b : Option Refusal) → option_or a b ≡ None → (a ≡ None) 
 first_part None b h = (refl, h)
 first_part (Some x) b h = absurd (cc)
 
-is_chunk : (layout : Layout) (index : List ℕ) → chunk_refusal layout index ≡ None → has_box layout.grid index ≡ true
+pub is_chunk : (layout : Layout) (index : List ℕ) → chunk_refusal layout index ≡ None → has_box layout.grid index ≡ true
 is_chunk layout index h =
     elim (has_box layout.grid index) as (λ b. cond (not b) (Some (refusal.indices index)) None ≡ None → b ≡ true) [ true ↦ λ h. refl | false ↦ λ h. absurd (cc) ] h
 

@@ -32,7 +32,7 @@ use Rattle.zarrs_engine_calls.specs.Step.{ActOutcome, RefusesCompact}
 use Rattle.zarrs_engine_calls.specs.Laws.{IsQuiet, AreQuiet, AreQuietEvents, IsReadAt, IsStoreAt, ReadsAt, region_read, data_returned}
 use Rattle.zarrs_engine_calls.specs.Laws.{touches, written, is_resize}
 use Rattle.zarrs_engine_calls.specs.Laws.{CourseReadAfterStore, CourseStoreAfterRead, DisjointEventsAgree, EventReadsOfDecodingChunks}
-use Rattle.zarrs_engine_calls.specs.Laws.{EventPartsMakeTheRegion, ReadAfterStore, StoreAfterRead, DisjointWritesAgree, ReadsOfDecodingChunks}
+use Rattle.zarrs_engine_calls.specs.Laws.{EventPartsMakeTheRegion, ReadAfterStore, StoreAfterRead, DisjointWritesAgree}
 use Rattle.zarrs_engine_calls.specs.Laws.{PartsMakeTheRegion}
 use Rattle.zarrs_engine_calls.proofs.Compactions.{compactions_keep_content}
 use Rattle.zarrs_engine_calls.proofs.Shapes.{front_keeps, slice_there}
@@ -134,7 +134,7 @@ module _ (layout : Layout) (lawful : IsLawful layout) (keep : Bool) where
       ∙ quiet old.shape r.1.first event.act event.ended old.store r.0.store q.0 r.1.does position
 
   -- where its chunk decodes, the content has a cell at a covered position
-  decoded_cell : (state : StoreState) (position : List ℕ) → is_covered layout.grid position ≡ true
+  pub decoded_cell : (state : StoreState) (position : List ℕ) → is_covered layout.grid position ≡ true
       → ((encoded : List ℕ) → value_at state (layout.key (index_at layout.grid position)) ≡ Some encoded
       → (given : List Cell) × (decoded_cells layout (box_at layout.grid (index_at layout.grid position)) encoded ≡ Some given))
       → (cell : Cell) × (content layout (value_at state) position ≡ Some cell)
@@ -209,7 +209,7 @@ course_store_after_read layout lawful keep earlier write events region got held 
     ]
 
 -- what an accepted write leaves at a position
-act_written : (layout : Layout) (keep : Bool) (shape : List ℕ) (first : Option Refusal) (act : Act) (old new : StoreState)
+pub act_written : (layout : Layout) (keep : Bool) (shape : List ℕ) (first : Option Refusal) (act : Act) (old new : StoreState)
     → ActOutcome layout keep shape first act outcome.done old new → (position : List ℕ)
     → content layout (value_at new) position ≡ cond (touches layout shape act position) (written layout act position) (content layout (value_at old) position)
 act_written layout keep shape first (store region held chunks) old new s position =
@@ -296,11 +296,6 @@ module _ (layout : Layout) (keep : Bool) (call : Call) (region : Box) (held : Ar
 
   reads_so : Happens layout keep (event_of layout call r.reply) old new
   reads_so = step_event layout keep call r.reply old new r.step
-
-pub reads_of_decoding : ReadsOfDecodingChunks
-reads_of_decoding layout lawful keep call region got old new r =
-    event_reads_of_decoding layout lawful keep (event_of layout call r.reply) region got old new
-    (is_read_at layout keep call region got old new r) (reads_so layout keep call region got old new r)
 
 pub read_after_store : ReadAfterStore
 read_after_store layout lawful keep write later calls replies region held got s0 s1 s2 s3 at step quiets run r =

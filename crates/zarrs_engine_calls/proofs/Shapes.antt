@@ -106,7 +106,7 @@ module _ (layout : Layout) (lawful : IsLawful layout) where
     }
 
     -- and what is present there decodes
-    some_decode : ((i encoded : List ℕ) → Contains indices i → has_box layout.grid i ≡ true → value_at new (layout.key i) ≡ Some encoded → (cells : List Cell) × (decoded_cells layout (box_at layout.grid i) encoded ≡ Some cells))
+    pub some_decode : ((i encoded : List ℕ) → Contains indices i → has_box layout.grid i ≡ true → value_at new (layout.key i) ≡ Some encoded → (cells : List Cell) × (decoded_cells layout (box_at layout.grid i) encoded ≡ Some cells))
         → EachDecodes layout old → EachDecodes layout new
     some_decode here each i encoded has at = elim (among_or_not indices i) [
       | inl among ↦ here i encoded among has at

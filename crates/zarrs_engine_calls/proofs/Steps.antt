@@ -9,12 +9,12 @@ use Rattle.zarrs_engine_calls.specs.Layout.{Layout, IsLawful, ArrayState}
 use Rattle.zarrs_engine_calls.specs.Content.{value_at, decoded_cells}
 use Rattle.zarrs_engine_calls.specs.Refusals.{Refusal}
 use Rattle.zarrs_engine_calls.specs.Changes.{Erases, Makes}
-use Rattle.zarrs_engine_calls.specs.Canon.{IsCanonical}
+use Rattle.zarrs_engine_calls.specs.Canon.{IsCanonical, IsNoChunkKey}
 use Rattle.zarrs_engine_calls.proofs.LawProofs.{content_is_bytes, empty_is_canonical}
 use Rattle.zarrs_engine_calls.proofs.RefusalLemmas.{makes_none, same_reach}
 use Rattle.zarrs_engine_calls.specs.declared.call.Call.{Call}
 use Rattle.zarrs_engine_calls.specs.declared.call.Reply.{Reply}
-use Rattle.zarrs_engine_calls.specs.Acts.{Act, store, erase, compact, read, read_chunk, resize, act_of}
+use Rattle.zarrs_engine_calls.specs.Acts.{Act, store, erase, compact, read, read_chunk, resize}
 use Rattle.zarrs_engine_calls.specs.ArgumentRefusals.{argument_refusal}
 use Rattle.zarrs_engine_calls.specs.Compactions.{Compacts, CompactsChunk}
 use Rattle.zarrs_engine_calls.specs.Cuts.{Cuts}
@@ -22,9 +22,9 @@ use Rattle.zarrs_engine_calls.specs.Fronts.{Front, RefusesWrite, Takes}
 use Rattle.zarrs_engine_calls.specs.Outcome as outcome
 use Rattle.zarrs_engine_calls.specs.Outcome.{Outcome, outcome_of}
 use Rattle.zarrs_engine_calls.specs.Step.{ActOutcome, ActStep, Run, Step}
-use Rattle.zarrs_engine_calls.specs.Events.{Course, Event, Happens, event_of, events_of, one_event}
-use Rattle.zarrs_engine_calls.specs.Laws.{EachDecodes, StepsKeepCanon, StepsKeepDecoding, StepsKeepReach, StepsKeepOtherKeys}
-use Rattle.zarrs_engine_calls.specs.Laws.{HistoriesAgree, EqualCountsAgree, StepsCount, CountsWrites, chunks_written}
+use Rattle.zarrs_engine_calls.specs.Events.{Course, Event, event_of, events_of, one_event}
+use Rattle.zarrs_engine_calls.specs.Laws.{EachDecodes, StepsAreEvents}
+use Rattle.zarrs_engine_calls.specs.Laws.{HistoriesAgree, EqualCountsAgree, CountsWrites, chunks_written}
 use Rattle.zarrs_engine_calls.specs.Laws.{WritesKeep, WritesKeepCanon, WritesKeepDecoding}
 use Rattle.zarrs_engine_calls.specs.Laws.{RunsAreCourses, CoursesKeepCanon, CoursesKeepDecoding, CoursesKeepReach, CoursesKeepOtherKeys}
 use Rattle.zarrs_engine_calls.specs.Laws.{CoursesAgree, CourseCountsAgree, EventsCount}
@@ -35,7 +35,7 @@ use Rattle.zarrs_engine_calls.proofs.Contents.{index_list}
 use Rattle.zarrs_engine_calls.proofs.Runs.{reach_then}
 
 -- each chunk that stands in this look-up decodes
-abbrev AllDecode : Layout → (List ℕ → Option (List ℕ)) → Type 0
+abbrev pub AllDecode : Layout → (List ℕ → Option (List ℕ)) → Type 0
 AllDecode layout stored = (index encoded : List ℕ) → has_box layout.grid index ≡ true → stored (layout.key index) ≡ Some encoded
     → (cells : List Cell) × (decoded_cells layout (box_at layout.grid index) encoded ≡ Some cells)
 
@@ -273,8 +273,7 @@ events_count layout keep event old new h = outcome_calls layout keep old.shape h
 -- ---- runs of calls
 
 -- a step is an event
-pub step_event : (layout : Layout) (keep : Bool) (call : Call) (reply : Reply) (old new : ArrayState)
-    → Step layout keep call reply old new → Happens layout keep (event_of layout call reply) old new
+pub step_event : StepsAreEvents
 step_event layout keep call reply old new s = record { shape = s.0; first = argument_refusal layout old.shape call; does = s.1 }
 
 step_course : (layout : Layout) (keep : Bool) (call : Call) (reply : Reply) (old new : ArrayState)
@@ -288,24 +287,15 @@ runs_are_courses layout keep (call ∷ calls) (reply ∷ replies) old new r =
 runs_are_courses layout keep [] (reply ∷ replies) old new r = absurd r
 runs_are_courses layout keep (call ∷ calls) [] old new r = absurd r
 
-pub step_keeps : StepsKeepCanon
-step_keeps layout lawful call reply old new s =
-    canon_stays layout lawful (event_of layout call reply ∷ []) old new (step_course layout false call reply old new s)
-
-pub step_decodes : StepsKeepDecoding
-step_decodes layout lawful keep call reply old new s =
-    courses_keep_decoding layout lawful keep (event_of layout call reply ∷ []) old new (step_course layout keep call reply old new s)
-
-pub step_other_keys : StepsKeepOtherKeys
+-- a step leaves the values at the keys of no chunk
+pub step_other_keys : (layout : Layout) → IsLawful layout → (keep : Bool) (call : Call) (reply : Reply) (old new : ArrayState)
+    → Step layout keep call reply old new → (key : List ℕ) → IsNoChunkKey layout key → value_at new.store key ≡ value_at old.store key
 step_other_keys layout lawful keep call reply old new s =
     courses_keep_other_keys layout lawful keep (event_of layout call reply ∷ []) old new (step_course layout keep call reply old new s)
 
 pub act_reach : (layout : Layout) (keep : Bool) (shape : List ℕ) (first : Option Refusal) (act : Act) (reply : Reply) (old new : StoreState)
     → ActStep layout keep shape first act reply old new → KeepsReach old new
 act_reach layout keep shape first act reply = outcome_reach layout keep shape first act (outcome_of reply)
-
-pub step_reach : StepsKeepReach
-step_reach layout keep call reply old new s = act_reach layout keep old.shape (argument_refusal layout old.shape call) (act_of layout call) reply old.store new.store s.1
 
 pub run_keeps : (layout : Layout) → IsLawful layout → (calls : List Call) (replies : List Reply) (old new : ArrayState)
     → Run layout false calls replies old new → IsCanonical layout (value_at old.store) → IsCanonical layout (value_at new.store)
@@ -326,6 +316,3 @@ histories_agree layout lawful a b p q =
 pub equal_counts_agree : EqualCountsAgree
 equal_counts_agree layout keep calls replies old new r =
     course_counts_agree layout keep (events_of layout calls replies) old new (runs_are_courses layout keep calls replies old new r)
-
-pub steps_count : StepsCount
-steps_count layout keep call reply old new s = events_count layout keep (event_of layout call reply) old new (step_event layout keep call reply old new s)

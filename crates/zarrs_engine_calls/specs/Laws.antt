@@ -1,4 +1,4 @@
--- Laws of steps and of runs.
+-- Laws of calls: of courses, which are calls one after another, and of runs, which are lists of calls.
 use Rattle.std.specs.Prelude.{◌≡◌, ◌↔◌, ℕ, ◌+◌, ◌<◌, ◌≤◌, ◌&&◌, not, Bool, true, false, List, [], ◌∷◌, length, take}
 use Rattle.std.specs.Prelude.{Option, Some, None, option_and_then, Contains, if◌then◌else◌}
 use Rattle.zarrs_subset.specs.Boxes.{position_count}
@@ -14,13 +14,12 @@ use Rattle.zarrs_engine_calls.specs.Content.{value_at, content, decoded_cells, R
 use Rattle.zarrs_engine_calls.specs.Changes.{Makes}
 use Rattle.zarrs_engine_calls.specs.Canon.{IsCanonical, KeepsCanon, HasNoChunk, HasChunksAlone, IsCanonicalMap, IsChunkPart, IsNoChunkKey}
 use Rattle.zarrs_engine_calls.specs.declared.call.Call.{Call}
-use Rattle.zarrs_engine_calls.specs.declared.error.ArrayError.{ArrayError}
 use Rattle.zarrs_engine_calls.specs.declared.call.Reply.{Reply}
-use Rattle.zarrs_engine_calls.specs.declared.call.Reply.TheVariants.{Done, Refused}
+use Rattle.zarrs_engine_calls.specs.declared.call.Reply.TheVariants.{Done}
 use Rattle.zarrs_engine_calls.specs.Acts.{Act, store, erase, compact, read, read_chunk, resize, act_of}
 use Rattle.zarrs_engine_calls.specs.Compactions.{CompactsChunk, compacted_bytes}
 use Rattle.zarrs_engine_calls.specs.Cuts.{cut_chunks, is_below, is_cut, is_cut_away, keeps_some, resized}
-use Rattle.zarrs_engine_calls.specs.Events.{Course, Event, Happens, accepted_write, change_of_shape, events_of}
+use Rattle.zarrs_engine_calls.specs.Events.{Course, Event, Happens, accepted_write, change_of_shape, event_of, events_of}
 use Rattle.zarrs_engine_calls.specs.Fronts.{CutsAll, ErasesAll, StoresAll, is_in_chunks}
 use Rattle.zarrs_engine_calls.specs.Outcome as outcome
 use Rattle.zarrs_engine_calls.specs.Outcome.{Outcome, outcome_of}
@@ -78,30 +77,6 @@ CanonicalMapsAreOne =
     (layout : Layout) → IsLawful layout → (f g : List ℕ → Option Cell)
     → ((position : List ℕ) → is_covered layout.grid position ≡ true → f position ≡ g position)
     → (m n : Values) → IsCanonicalMap layout f m → IsCanonicalMap layout g n → m ≡ n
-
--- a step leaves a canonical store canonical, if empty chunks are not kept
-abbrev pub StepsKeepCanon : Type 0
-StepsKeepCanon =
-    (layout : Layout) → IsLawful layout → (call : Call) (reply : Reply) (old new : ArrayState)
-    → Step layout false call reply old new → IsCanonical layout (value_at old.store) → IsCanonical layout (value_at new.store)
-
--- a step leaves chunks that decode, if all did
-abbrev pub StepsKeepDecoding : Type 0
-StepsKeepDecoding =
-    (layout : Layout) → IsLawful layout → (keep : Bool) (call : Call) (reply : Reply) (old new : ArrayState)
-    → Step layout keep call reply old new → EachDecodes layout old.store → EachDecodes layout new.store
-
--- a step changes nothing of what may be asked
-abbrev pub StepsKeepReach : Type 0
-StepsKeepReach =
-    (layout : Layout) (keep : Bool) (call : Call) (reply : Reply) (old new : ArrayState)
-    → Step layout keep call reply old new → KeepsReach old.store new.store
-
--- a step leaves the values at the keys of no chunk
-abbrev pub StepsKeepOtherKeys : Type 0
-StepsKeepOtherKeys =
-    (layout : Layout) → IsLawful layout → (keep : Bool) (call : Call) (reply : Reply) (old new : ArrayState)
-    → Step layout keep call reply old new → (key : List ℕ) → IsNoChunkKey layout key → value_at new.store key ≡ value_at old.store key
 
 -- a run from a store without a chunk, if empty chunks are not kept
 abbrev pub IsHistory : Layout → ArrayState → Type 0
@@ -226,13 +201,6 @@ DecodesOver layout region state =
     → value_at state (layout.key (index_at layout.grid position)) ≡ Some encoded
     → (given : List Cell) × (decoded_cells layout (box_at layout.grid (index_at layout.grid position)) encoded ≡ Some given)
 
--- if the chunks of its region decode, a read returns the content over it
-abbrev pub ReadsOfDecodingChunks : Type 0
-ReadsOfDecodingChunks =
-    (layout : Layout) → IsLawful layout → (keep : Bool) (call : Call) (region : Box) (got : ArrayData) (old new : ArrayState)
-    → ReadsAt layout keep call region got old new → DecodesOver layout region old.store
-    → (given : List Cell) × (cells layout.kind got ≡ Some given) × Reads (content layout (value_at old.store)) region given
-
 -- A region's cells are those of its parts put together, if its chunks decode: a list of one cell for each position of the
 -- region, which at each of them has the cell that the read of some part has there, is what a read of the region returns.
 abbrev pub PartsMakeTheRegion : Type 0
@@ -274,21 +242,12 @@ CutsAreRight =
     (grid : Grid) → IsGrid grid → (shape index : List ℕ) → length shape ≡ grid.dimensions → has_box grid index ≡ true
     → AreCutRight grid shape index
 
--- the call makes the array's shape this one
-abbrev pub ResizesTo : Layout → Call → List ℕ → Type 0
-ResizesTo layout call wanted = act_of layout call ≡ resize wanted
-
 -- an accepted change of the shape: what it cuts away is fill, by one writing call for each chunk that it cuts
 pub record IsResized (layout : Layout) (wanted : List ℕ) (old new : ArrayState) : Type 0 where
   pub shape : new.shape ≡ wanted
   pub cells : (position : List ℕ)
       → content layout (value_at new.store) position ≡ resized layout old.shape wanted (content layout (value_at old.store)) position
   pub makes : Makes (length (cut_chunks layout.grid old.shape wanted)) 0 old.store new.store
-
-abbrev pub AcceptedResizes : Type 0
-AcceptedResizes =
-    (layout : Layout) (keep : Bool) (call : Call) (wanted : List ℕ) (old new : ArrayState)
-    → ResizesTo layout call wanted → Step layout keep call Done old new → IsResized layout wanted old new
 
 -- a refused one: the shape stays, and of the chunks that it cuts the first `done` are cut
 pub record IsResizedInPart (layout : Layout) (wanted : List ℕ) (old new : ArrayState) : Type 0 where
@@ -303,22 +262,12 @@ pub record IsResizedInPart (layout : Layout) (wanted : List ℕ) (old new : Arra
   pub makes : Makes done failed old.store new.store
   pub one : failed ≤ 1
 
-abbrev pub RefusedResizes : Type 0
-RefusedResizes =
-    (layout : Layout) → IsLawful layout → (keep : Bool) (call : Call) (e : ArrayError) (wanted : List ℕ) (old new : ArrayState)
-    → ResizesTo layout call wanted → Step layout keep call (Refused e) old new → IsResizedInPart layout wanted old new
-
 -- whatever the reply: outside the chunks of the array as it was, no value changed; and no cell did that is not cut away
 pub record KeepsOutside (layout : Layout) (wanted : List ℕ) (old new : ArrayState) : Type 0 where
   pub chunks : (index : List ℕ) → IsIndexList layout.grid.dimensions index → is_below (layout.grid.counts old.shape) index ≡ false
       → value_at new.store (layout.key index) ≡ value_at old.store (layout.key index)
   pub cells : (position : List ℕ) → is_cut_away layout.grid old.shape wanted position ≡ false
       → content layout (value_at new.store) position ≡ content layout (value_at old.store) position
-
-abbrev pub ResizesKeepOutside : Type 0
-ResizesKeepOutside =
-    (layout : Layout) → IsLawful layout → (keep : Bool) (call : Call) (reply : Reply) (wanted : List ℕ) (old new : ArrayState)
-    → ResizesTo layout call wanted → Step layout keep call reply old new → KeepsOutside layout wanted old new
 
 -- each contract of a writing call keeps what holds of the store, whether the call was accepted or refused
 pub record WritesKeep (layout : Layout) (keep : Bool) (P : StoreState → Type 0) : Type 0 where
@@ -406,18 +355,14 @@ CountsWrites chunks (outcome.refused r) old new =
 CountsWrites chunks (outcome.compacted false) old new = Makes 0 0 old new
 CountsWrites chunks ended old new = Makes (length chunks) 0 old new
 
--- the same of a call with this reply
-abbrev pub CountsCalls : List (List ℕ) → Reply → StoreState → StoreState → Type 0
-CountsCalls chunks reply old new = CountsWrites chunks (outcome_of reply) old new
+-- ---- courses of events: calls that are made by themselves, also of typed values
 
-abbrev pub StepsCount : Type 0
-StepsCount =
+-- a step of a call is an event, and a run of calls is a course of events
+abbrev pub StepsAreEvents : Type 0
+StepsAreEvents =
     (layout : Layout) (keep : Bool) (call : Call) (reply : Reply) (old new : ArrayState)
-    → Step layout keep call reply old new → CountsCalls (chunks_written layout old.shape (act_of layout call)) reply old.store new.store
+    → Step layout keep call reply old new → Happens layout keep (event_of layout call reply) old new
 
--- ---- the same of events, so of calls that are made by themselves, also of typed values
-
--- a run of calls is a course of events
 abbrev pub RunsAreCourses : Type 0
 RunsAreCourses =
     (layout : Layout) (keep : Bool) (calls : List Call) (replies : List Reply) (old new : ArrayState)

@@ -1,5 +1,6 @@
 -- The keys that a call may ask.
-use Rattle.std.specs.Prelude.{◌≡◌, ℕ, true, List, [], ◌∷◌, Some, Contains}
+use Rattle.std.specs.Prelude.{◌≡◌, ◌⊎◌, ℕ, true, List, [], ◌∷◌, Option, Some, None, Contains, if◌then◌else◌}
+use Rattle.std.specs.Option.{option_or}
 use Rattle.zarrs_subset.specs.Regions.{Box, box_of, overlap_of, positions, seen_from}
 use Rattle.zarrs_chunk_grid.specs.Grids.{box_at}
 use Rattle.zarrs_keys.specs.Keys.{IsIndexList}
@@ -7,12 +8,27 @@ use Rattle.zarrs_storage.specs.Store.{StoreState, MayReadWhole}
 use Rattle.zarrs_engine_calls.specs.Layout.{Layout, ArrayState}
 use Rattle.zarrs_engine_calls.specs.declared.call.Call.{Call}
 use Rattle.zarrs_engine_calls.specs.declared.call.Call.TheVariants as call
-use Rattle.zarrs_engine_calls.specs.declared.call.Reply.{Reply}
-use Rattle.zarrs_engine_calls.specs.Acts.{act_of, shape_after}
-use Rattle.zarrs_engine_calls.specs.ChunkBoxes.{CoversBox, chunks_met, part_box}
+use Rattle.zarrs_engine_calls.specs.Refusals.{Refusal}
+use Rattle.zarrs_engine_calls.specs.ArgumentRefusals.{chunk_refusal, dimensions_refusal, part_refusal, range_refusal, region_refusal, resize_refusal}
+use Rattle.zarrs_engine_calls.specs.ChunkBoxes.{CoversBox, chunks_met, is_empty, part_box}
 use Rattle.zarrs_engine_calls.specs.Content.{value_at}
 use Rattle.zarrs_engine_calls.specs.Cuts.{cut_chunks, keeps_some}
 use Rattle.zarrs_engine_calls.specs.StateRefusals.{IsPart}
+
+-- What is refused of where a call is to read or write: a region that chunks do not cover; a range whose first or last index
+-- has no chunk; a part of an index without a chunk, or one that passes its chunk; a shape that the grid does not take. Such a
+-- call names no chunk.
+abbrev pub location_refusal : Layout → List ℕ → Call → Option Refusal
+location_refusal layout shape (call.StoreChunkSubset index part held) =
+    option_or (chunk_refusal layout index.items) (part_refusal layout index.items (box_of part))
+location_refusal layout shape (call.StoreArraySubset region held) = region_refusal layout shape (box_of region)
+location_refusal layout shape (call.RetrieveChunks range) =
+    option_or (dimensions_refusal layout shape (box_of range)) (if is_empty (box_of range) then None else range_refusal layout (box_of range))
+location_refusal layout shape (call.RetrieveChunkSubset index part) =
+    option_or (chunk_refusal layout index.items) (part_refusal layout index.items (box_of part))
+location_refusal layout shape (call.RetrieveArraySubset region) = region_refusal layout shape (box_of region)
+location_refusal layout shape (call.Resize wanted) = resize_refusal layout wanted.items
+location_refusal layout shape _ = None
 
 -- The chunks of which the call may ask the key: of a read, those that it names or meets; of a store of a part or of a
 -- region, those of which it covers a part alone; of a compaction, its one chunk; of a change of the shape, those that it
@@ -38,18 +54,25 @@ pub record MayAsk (layout : Layout) (index : List ℕ) (state : ArrayState) : Ty
   pub key : state.store.may_ask (layout.key index) ≡ true
   pub places : (place : ℕ) → state.store.may_read (layout.key index) place ≡ true
 
--- what the call may ask may be asked; an index list of another length names no key
+-- What the call may ask may be asked. A call whose region, range, part or shape is refused asks nothing, and an index list
+-- of another length names no key.
 abbrev pub MayAskCall : Layout → Call → ArrayState → Type 0
 MayAskCall layout call state =
-    (index : List ℕ) → Reach layout state.shape call index → IsIndexList layout.grid.dimensions index → MayAsk layout index state
+    location_refusal layout state.shape call ≡ None
+    → (index : List ℕ) → Reach layout state.shape call index → IsIndexList layout.grid.dimensions index → MayAsk layout index state
 
--- what each of these calls may ask may be asked, whatever the calls before it returned: the array's shape when it is
--- made is the one that it has now, or the one that such a call made
+-- the shape that the call may leave an array of this shape: the same, or that of a change of the shape which its arguments
+-- do not refuse
+abbrev pub MayLeave : Layout → Call → List ℕ → List ℕ → Type 0
+MayLeave layout (call.Resize wanted) shape later = (later ≡ shape) ⊎ ((resize_refusal layout wanted.items ≡ None) × (later ≡ wanted.items))
+MayLeave layout _ shape later = later ≡ shape
+
+-- what each of these calls may ask may be asked, whatever shape the calls before it leave
 abbrev pub MayAskCalls : Layout → List Call → ArrayState → Type 0
 MayAskCalls layout [] state = Unit {0}
 MayAskCalls layout (call ∷ calls) state =
     MayAskCall layout call state
-    × ((reply : Reply) → MayAskCalls layout calls (record state { shape = shape_after (act_of layout call) reply state.shape }))
+    × ((later : List ℕ) → MayLeave layout call state.shape later → MayAskCalls layout calls (record state { shape = later }))
 
 -- the key of the chunk and each place of its value may be asked; an index list of another length names no key
 pub record MayAskChunk (layout : Layout) (index : List ℕ) (state : StoreState) : Type 0 where

@@ -1,5 +1,40 @@
 //! Laws of steps, of runs and of canonical stores, as contracts of functions that do nothing.
-ghost use Rattle.zarrs_engine_calls.specs.Laws.{ContentIsBytes, CanonicalStoresDecode, EmptyStoresAreCanonical, StepsKeepCanon, StepsKeepDecoding, StepsKeepReach, HistoriesAgree, EqualCountsAgree, ReadAfterStore, StoreAfterRead, DisjointWritesAgree, ReadsOfDecodingChunks, PartsMakeTheRegion, SameChunksHaveSameCells, CutsAreRight, AcceptedResizes, RefusedResizes, ResizesKeepOutside, WritesKeepCanon, WritesKeepDecoding, CanonicalChunksAreCompact, CanonicalStoresAreCompact, CompactionsKeepContent, ComparisonIsContent, StepsCount, EmptyStoresAreFill, CanonicalPartsAreMaps, CanonicalStoresAreTheirMap, CanonicalMapsAreOne, StepsKeepOtherKeys, RunsAreCourses, CoursesKeepCanon, CoursesKeepDecoding, CoursesKeepReach, CoursesKeepOtherKeys, CoursesAgree, CourseCountsAgree, EventsCount, CourseReadAfterStore, CourseStoreAfterRead, DisjointEventsAgree, EventReadsOfDecodingChunks, EventPartsMakeTheRegion, AcceptedShapeChanges, RefusedShapeChanges, ShapeChangesKeepOutside};
+ghost use Rattle.zarrs_engine_calls.specs.Laws.{AcceptedShapeChanges, CanonicalChunksAreCompact, CanonicalMapsAreOne};
+ghost use Rattle.zarrs_engine_calls.specs.Laws.{CanonicalPartsAreMaps, CanonicalStoresAreCompact};
+ghost use Rattle.zarrs_engine_calls.specs.Laws.{CanonicalStoresAreTheirMap, CanonicalStoresDecode};
+ghost use Rattle.zarrs_engine_calls.specs.Laws.{CompactionsKeepContent, ComparisonIsContent, ContentIsBytes};
+ghost use Rattle.zarrs_engine_calls.specs.Laws.{CourseCountsAgree, CourseReadAfterStore, CourseStoreAfterRead};
+ghost use Rattle.zarrs_engine_calls.specs.Laws.{CoursesAgree, CoursesKeepCanon, CoursesKeepDecoding};
+ghost use Rattle.zarrs_engine_calls.specs.Laws.{CoursesKeepOtherKeys, CoursesKeepReach, CutsAreRight};
+ghost use Rattle.zarrs_engine_calls.specs.Laws.{DisjointEventsAgree, DisjointWritesAgree, EmptyStoresAreCanonical};
+ghost use Rattle.zarrs_engine_calls.specs.Laws.{EmptyStoresAreFill, EqualCountsAgree, EventPartsMakeTheRegion};
+ghost use Rattle.zarrs_engine_calls.specs.Laws.{EventReadsOfDecodingChunks, EventsCount, HistoriesAgree};
+ghost use Rattle.zarrs_engine_calls.specs.Laws.{PartsMakeTheRegion, ReadAfterStore, RefusedShapeChanges};
+ghost use Rattle.zarrs_engine_calls.specs.Laws.{RunsAreCourses, SameChunksHaveSameCells, ShapeChangesKeepOutside};
+ghost use Rattle.zarrs_engine_calls.specs.Laws.{StepsAreEvents, StoreAfterRead, WritesKeepCanon, WritesKeepDecoding};
+ghost use Rattle.zarrs_engine_calls.specs.Headline.{AnArrayIsOneFunction, RunsAreOneFunction, PatchedRunsAreOneFunction};
+ghost use Rattle.zarrs_engine_calls.specs.Reached.{AnswersDependOnTheReach, CellsDependOnPlaces, ReadsDependOnPlaces};
+
+/// After any calls, accepted or refused, the array is one function from positions to cells, if each chunk that is present at
+/// first decodes: an accepted write changes its region alone, a refused one at most its first chunks, and a read lists the
+/// cells of its region in row-major order. So it is too where stores write the parts of chunks by themselves (`patched`).
+/// Two histories from stores without a chunk, which keep no empty chunks and write no part by itself, have equal functions
+/// exactly if the same bytes are present at each chunk key (`bytes`).
+pub fn an_array_is_one_function()
+    ensures changes { AnArrayIsOneFunction }
+    ensures runs { RunsAreOneFunction }
+    ensures patched { PatchedRunsAreOneFunction }
+    ensures bytes { CoursesAgree }
+{}
+
+/// What a call may answer over one store it may answer over any other that agrees with it where the call may ask, and both
+/// are changed alike. Of a read that needs a part of a chunk alone, by a call, a decoder or into a target, the places that it
+/// needs are enough.
+pub fn answers_depend_on_the_reach()
+    ensures keys { AnswersDependOnTheReach }
+    ensures places { CellsDependOnPlaces }
+    ensures reads { ReadsDependOnPlaces }
+{}
 
 /// Canonical stores of one layout have equal content exactly if the same bytes are present at each chunk key, or none
 /// in both. So stores are compared without decoding a chunk.
@@ -38,26 +73,6 @@ pub fn canonical_maps_are_one()
     ensures { CanonicalMapsAreOne }
 {}
 
-/// Each step leaves a canonical store canonical, if empty chunks are not kept.
-pub fn steps_keep_canon()
-    ensures { StepsKeepCanon }
-{}
-
-/// Each step leaves chunks that decode, if all did: a chunk that was stored reads back as its cells.
-pub fn steps_keep_decoding()
-    ensures { StepsKeepDecoding }
-{}
-
-/// No step changes the value at a key that is that of no chunk.
-pub fn steps_keep_other_keys()
-    ensures { StepsKeepOtherKeys }
-{}
-
-/// No step changes what may be asked of the store.
-pub fn steps_keep_reach()
-    ensures { StepsKeepReach }
-{}
-
 /// Two histories of calls have equal content exactly if the same bytes are present at each chunk key: the bytes are a
 /// function of the content, whichever calls made it, in whatever order. A history begins at a store without a chunk and
 /// keeps no empty chunks; no call at all is a history.
@@ -88,11 +103,6 @@ pub fn disjoint_writes_agree()
     ensures { DisjointWritesAgree }
 {}
 
-/// If the chunks that a region meets decode, a read of it returns the content over it.
-pub fn reads_of_decoding_chunks()
-    ensures { ReadsOfDecodingChunks }
-{}
-
 /// The cells of a region are those of its parts put together, whatever chunks it crosses, if these decode.
 pub fn parts_make_the_region()
     ensures { PartsMakeTheRegion }
@@ -108,23 +118,6 @@ pub fn same_chunks_have_same_cells()
 /// of its cells exactly if it has one that is.
 pub fn cuts_are_right()
     ensures { CutsAreRight }
-{}
-
-/// After an accepted change of the shape the array has the new shape, and is fill where a chunk of the array as it was has
-/// a position that is not below the new shape. Elsewhere it is what it was. It made one writing call for each such chunk.
-pub fn accepted_resizes()
-    ensures { AcceptedResizes }
-{}
-
-/// A refused change of the shape leaves the shape, and has cut a front of the chunks that it cuts, in row-major order.
-pub fn refused_resizes()
-    ensures { RefusedResizes }
-{}
-
-/// A change of the shape, accepted or not, changes no chunk outside the array as it was, and no cell that it does not cut
-/// away.
-pub fn resizes_keep_outside()
-    ensures { ResizesKeepOutside }
 {}
 
 /// Each writing call leaves a canonical store canonical, accepted or refused, if empty chunks are not kept: the contract
@@ -159,18 +152,12 @@ pub fn comparison_is_content()
     ensures { ComparisonIsContent }
 {}
 
-/// An accepted store, erasure or change of the shape makes one writing call for each of its chunks, a compaction one
-/// where it answers true, and a read none; none of them fails. A refused call makes one for each chunk that it has
-/// done, and at most one that fails.
-pub fn steps_count()
-    ensures { StepsCount }
-{}
-
-/// A run of calls is a course of events. An event is what a call does over data: so a call of typed values is one as well,
-/// by the data that stands for the values, and the laws of courses serve it. What the contract of a call promises makes its
-/// event happen, as `Rattle.zarrs_engine_calls.specs.Events` shows for each.
+/// A step of a call is an event, and a run of calls a course of events, so the laws of courses serve both. An event is what a
+/// call does over data: so a call of typed values is one as well, by the data that stands for the values. What the contract of
+/// a call promises makes its event happen, as `Rattle.zarrs_engine_calls.specs.Events` shows for each.
 pub fn runs_are_courses()
-    ensures { RunsAreCourses }
+    ensures steps { StepsAreEvents }
+    ensures runs { RunsAreCourses }
 {}
 
 /// A course leaves a canonical store canonical, if empty chunks are not kept.
@@ -204,7 +191,9 @@ pub fn course_counts_agree()
     ensures { CourseCountsAgree }
 {}
 
-/// An event makes as many writing calls as a step.
+/// An accepted store, erasure or change of the shape makes one writing call for each of its chunks, a compaction one
+/// where it answers true, and a read none; none of them fails. A refused call makes one for each chunk that it has
+/// done, and at most one that fails.
 pub fn events_count()
     ensures { EventsCount }
 {}
@@ -234,18 +223,18 @@ pub fn event_parts_make_the_region()
     ensures { EventPartsMakeTheRegion }
 {}
 
-/// After an accepted change of the shape the array has the new shape, is fill where it is cut away, and made one writing
-/// call for each chunk that it cuts.
+/// After an accepted change of the shape the array has the new shape, and is fill where a chunk of the array as it was has
+/// a position that is not below the new shape. Elsewhere it is what it was. It made one writing call for each such chunk.
 pub fn accepted_shape_changes()
     ensures { AcceptedShapeChanges }
 {}
 
-/// A refused change of the shape leaves the shape, and has cut a front of the chunks that it cuts.
+/// A refused change of the shape leaves the shape, and has cut a front of the chunks that it cuts, in row-major order.
 pub fn refused_shape_changes()
     ensures { RefusedShapeChanges }
 {}
 
-/// No change of the shape, accepted or not, changes a chunk outside the array as it was, or a cell that it does not cut
+/// A change of the shape, accepted or not, changes no chunk outside the array as it was, and no cell that it does not cut
 /// away.
 pub fn shape_changes_keep_outside()
     ensures { ShapeChangesKeepOutside }

@@ -81,6 +81,7 @@ impl<TStorage: WritableStorageTraits> Array<TStorage> {
     ghost use Rattle.zarrs_engine_calls.specs.Canon.{IsCanonical, KeepsCanon};
     ghost use Rattle.zarrs_engine_calls.specs.Content.{decoded_cells, value_at};
     ghost use Rattle.zarrs_engine_layout.specs.Steps.{RefusesPut};
+    ghost use Rattle.zarrs_engine_calls.specs.Headline.{IsOneFunctionThrough};
     ghost use Rattle.zarrs_engine_calls.specs.Laws.{EachDecodes};
     ghost use Rattle.zarrs_engine_calls.specs.Patches.{PatchRun};
     ghost use Rattle.zarrs_engine_calls.specs.Reach.{MayAskCalls};
@@ -169,6 +170,12 @@ impl<TStorage: WritableStorageTraits> Array<TStorage> {
         ensures patched { IfOk result (λ replies. PatchRun (layout_of_array self.old)
             (stores_empty_chunks options.now) calls.now replies.items
             (state_of_array TStorage.state self.old) (state_of_array TStorage.state self.new)) }
+        // Whatever the options, the array is one function through the calls, if each chunk decodes at first.
+        ensures one_function { EachDecodes (layout_of_array self.old)
+            (store_of_array TStorage.state self.old)
+            → IfOk result (λ replies. IsOneFunctionThrough (layout_of_array self.old) calls.now
+            replies.items (state_of_array TStorage.state self.old)
+            (state_of_array TStorage.state self.new)) }
         // If no part is written by itself, the keys of the chunks that were stored hold what their cells are encoded to.
         ensures run { encodes_partially options.now ≡ false → IfOk result (λ replies.
             Run (layout_of_array self.old) (stores_empty_chunks options.now) calls.now replies.items

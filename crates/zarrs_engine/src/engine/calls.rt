@@ -7,6 +7,7 @@ ghost use Rattle.zarrs_engine_calls.specs.Reach.{MayAskCalls};
 ghost use Rattle.zarrs_engine_calls.specs.Step.{Run};
 ghost use Rattle.zarrs_engine_calls.specs.Patches.{PatchRun};
 ghost use Rattle.zarrs_engine_calls.specs.Canon.{IsCanonical};
+ghost use Rattle.zarrs_engine_calls.specs.Headline.{IsOneFunctionThrough};
 ghost use Rattle.zarrs_engine_calls.specs.Laws.{EachDecodes};
 ghost use Rattle.zarrs_engine_calls.specs.declared.call.Reply.TheVariants.{Done, Cells, Refused};
 ghost use Rattle.zarrs_engine.specs.Engine.{layout_of, store_of, state_of, KeepsOthers};
@@ -40,6 +41,11 @@ pub fn replay<
     requires { MayAskCalls (layout_of engine.old) calls.now (state_of S.state engine.old) }
     ensures patched { IfOk result (λ replies.
         PatchRun (layout_of engine.old) (stores_empty_chunks options.now) calls.now replies.items
+        (state_of S.state engine.old) (state_of S.state engine.new)) }
+    // Whatever the options, the array is one function through the calls, if each chunk decodes at first.
+    ensures one_function { EachDecodes (layout_of engine.old) (store_of S.state engine.old)
+        → IfOk result (λ replies.
+        IsOneFunctionThrough (layout_of engine.old) calls.now replies.items
         (state_of S.state engine.old) (state_of S.state engine.new)) }
     // If no part is written by itself, the keys of the chunks that were stored hold what their cells are encoded to.
     ensures run { encodes_partially options.now ≡ false → IfOk result (λ replies.
@@ -94,7 +100,7 @@ impl<
     K: ChunkKeyEncodingTraits,
     C: ChainTraits,
 > Engine<S, G, K, C> {
-    ghost use Rattle.std.specs.Prelude.{◌≡◌, [], ◌∷◌, Bool, List, ℕ};
+    ghost use Rattle.std.specs.Prelude.{◌≡◌, [], ◌∷◌, Bool, List, None, ℕ};
     ghost use Rattle.zarrs_subset.specs.Regions.{box_of, positions};
     ghost use Rattle.zarrs_codec_chain.specs.Options.{stores_empty_chunks};
     ghost use Rattle.zarrs_engine_calls.specs.Acts.{compact, erase, resize, shape_after};
@@ -151,9 +157,9 @@ impl<
 
     /// The reply to a change of the shape.
     fn answer_resize(&mut self, alloc: Global, shape: &[u64], options: &CodecOptions) -> Reply
-        requires { MayAskKept (layout_of self.old) shape.now (cut_chunks
-            (layout_of self.old).grid (state_of S.state self.old).shape shape.now)
-            (store_of S.state self.old) }
+        requires { resize_refusal (layout_of self.old) shape.now ≡ None
+            → MayAskKept (layout_of self.old) shape.now (cut_chunks (layout_of self.old).grid
+            (state_of S.state self.old).shape shape.now) (store_of S.state self.old) }
         ensures step { ActStep (layout_of self.old) (stores_empty_chunks options.now)
             (state_of S.state self.old).shape (resize_refusal (layout_of self.old) shape.now)
             (resize shape.now) result (store_of S.state self.old) (store_of S.state self.new) }

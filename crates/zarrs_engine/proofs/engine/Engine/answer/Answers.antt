@@ -1,4 +1,4 @@
-use Rattle.std.proofs.Common.{List, ℕ, [], ◌∷◌, IfErr, IfOk, OnOk, true, ◌≡◌, refl, ap, subst, sym, option_map}
+use Rattle.std.proofs.Common.{List, ℕ, [], ◌∷◌, IfErr, IfOk, None, OnOk, true, ◌≡◌, refl, ap, subst, sym, option_map}
 use Rattle.zarrs_subset.specs.Regions.{box_of, positions}
 use Rattle.zarrs_chunk_grid.specs.Grids.{box_at, chunks_box}
 use Rattle.zarrs_data_type_bytes.specs.declared.array_bytes.ArrayBytes.{ArrayBytes}
@@ -152,12 +152,12 @@ returns-in-Ok-clause-step g c =
     (rw c.in-RetrieveChunkIfExists.is (refl, (refl, found_length layout index found state cells, cells)))
 
 pub retrieve_array_subset-requires : goal.retrieve_array_subset-requires
-retrieve_array_subset-requires g c =
+retrieve_array_subset-requires g c accepted =
     let layout = layout_of c.args.self.now in
     let state = state_of g.S.ReadableStorageTraits.state c.args.self.now in
     let region = box_of c.in-RetrieveArraySubset.array_subset in
-    let ask = may_ask_chunks layout (chunks_met layout.grid region) state (subst (λ (call : Call). MayAskCall layout call state) c.in-RetrieveArraySubset.is c.requires) in
-    λ accepted. may_read_all layout c.args.self.now.layout.lawful.chain region (chunks_met layout.grid region) state.store ask
+    let ask = may_ask_chunks layout (chunks_met layout.grid region) state (subst (λ (call : Call). MayAskCall layout call state) c.in-RetrieveArraySubset.is c.requires accepted) in
+    may_read_all layout c.args.self.now.layout.lawful.chain region (chunks_met layout.grid region) state.store ask
 
 pub returns-in-RetrieveChunk-clause-step : goal.returns-in-RetrieveChunk-clause-step
 returns-in-RetrieveChunk-clause-step g c =
@@ -256,11 +256,12 @@ pub returns-in-CompactChunk-clause-others : goal.returns-in-CompactChunk-clause-
 returns-in-CompactChunk-clause-others g c = keeps_others _ _ c.answer_compact_chunk.ensures.layout_kept
 
 pub answer_resize-requires : goal.answer_resize-requires
-answer_resize-requires g c =
+answer_resize-requires g c accepted =
     let layout = layout_of c.args.self.now in
     let state = state_of g.S.ReadableStorageTraits.state c.args.self.now in
     let wanted = c.in-Resize.shape.items in
-    let asked = may_ask_kept layout wanted (cut_chunks layout.grid state.shape wanted) state (subst (λ (call : Call). MayAskCall layout call state) c.in-Resize.is c.requires) in
+    let asked = may_ask_kept layout wanted (cut_chunks layout.grid state.shape wanted) state (subst (λ (call : Call). MayAskCall layout call state) c.in-Resize.is c.requires
+    (subst (λ (i : List ℕ). resize_refusal layout i ≡ None) c.deref-in-Resize.ensures.value accepted)) in
     subst (λ (i : List ℕ). MayAskKept layout i (cut_chunks layout.grid state.shape i) state.store) (sym c.deref-in-Resize.ensures.value) asked
 
 pub returns-in-Resize-clause-step : goal.returns-in-Resize-clause-step

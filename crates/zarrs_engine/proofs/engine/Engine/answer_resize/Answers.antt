@@ -1,4 +1,4 @@
-use Rattle.std.proofs.Common.{◌≡◌, List, ℕ, IfErr, OnOk, refl, ap, subst, sym}
+use Rattle.std.proofs.Common.{◌≡◌, None, List, ℕ, IfErr, OnOk, refl, ap, subst, sym}
 use Rattle.std.proofs.lemmas.Result.{on_err_weaker}
 use Rattle.zarrs_codec_chain.specs.Options.{stores_empty_chunks}
 use Rattle.zarrs_engine_calls.specs.Acts.{resize}
@@ -23,7 +23,9 @@ pub resize-requires : goal.resize-requires
 resize-requires g c accepted =
     let layout = layout_of c.args.self.now in
     let state = state_of g.S.ReadableStorageTraits.state c.args.self.now in
-    subst (λ (i : List ℕ). MayAskKept layout i (cut_chunks layout.grid state.shape i) state.store) (sym (c.in-Ok.ensures.items_if_clones_equal (λ x y same. same))) c.requires
+    let at = c.in-Ok.ensures.items_if_clones_equal (λ x y same. same) in
+    subst (λ (i : List ℕ). MayAskKept layout i (cut_chunks layout.grid state.shape i) state.store) (sym at)
+    (c.requires (subst (λ (i : List ℕ). resize_refusal layout i ≡ None) at accepted))
 
 pub returns-clause-step : goal.returns-clause-step
 returns-clause-step g c =

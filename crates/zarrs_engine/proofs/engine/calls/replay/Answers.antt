@@ -7,6 +7,7 @@ use Rattle.zarrs_engine_calls.specs.declared.call.Call.{Call}
 use Rattle.zarrs_engine.proofs.Cuts.{drop_first, others_then}
 use Rattle.zarrs_engine_calls.specs.Step.{Run}
 use Rattle.zarrs_engine_calls.proofs.Steps.{run_keeps, run_decodes}
+use Rattle.zarrs_engine_calls.proofs.Patched.{patched_all_one}
 use Rattle.zarrs_engine_calls.proofs.Runs.{run_push, reach_then}
 use Rattle.zarrs_engine.specs.Outcomes.{StepsAs}
 use Rattle.zarrs_engine.proofs.PatchedRuns.{patch_asked, patch_push, patch_reach}
@@ -68,3 +69,10 @@ returns-clause-decodes g c =
     let old = state_of g.S.ReadableStorageTraits.state c.args.engine.now in
     let new = state_of g.S.ReadableStorageTraits.state c.loop-call.engine in
     λ whole. run_decodes (layout_of c.args.engine.now) c.args.engine.now.layout.lawful (stores_empty_chunks c.args.options.now) (take c.loop-call.call-index c.args.calls.now) c.loop-call.replies.items old new (i.run whole)
+
+pub returns-clause-one_function : goal.returns-clause-one_function
+returns-clause-one_function g c =
+    let old = state_of g.S.ReadableStorageTraits.state c.args.engine.now in
+    let new = state_of g.S.ReadableStorageTraits.state c.loop-call.engine in
+    patched_all_one (layout_of c.args.engine.now) c.args.engine.now.layout.lawful (stores_empty_chunks c.args.options.now) c.args.calls.now c.loop-call.call-index
+    c.loop-call.replies.items old new c.loop-call-test.false c.loop-call.invariant.patched
