@@ -101,7 +101,7 @@ module _ (layout : Layout) (lawful : IsLawful layout) (region : Box) (t : ArrayB
 
 -- ---- what the target has then
 
-cell_found : (k : Kind) (d : ArrayData) (cs : List Cell) (i : ℕ) (cell : Cell) → cells k d ≡ Some cs → slice_get cs i ≡ Some cell → cell_at k d i ≡ cell
+pub cell_found : (k : Kind) (d : ArrayData) (cs : List Cell) (i : ℕ) (cell : Cell) → cells k d ≡ Some cs → slice_get cs i ≡ Some cell → cell_at k d i ≡ cell
 cell_found k d cs i cell is at =
     let lt = slice_get_within cs i cell at in
     sym (get_or-map-range_with_len (λ j. cell_at k d j) 0 (length cs) i i none lt (omega arith))

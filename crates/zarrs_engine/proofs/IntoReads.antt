@@ -1,5 +1,5 @@
 -- Targets whose box was read.
-use Rattle.std.proofs.Common.{◌≡◌, ℕ, ◌<◌, true, List, [], ◌∷◌, None, Some, Ok, Err, OnOk, Result, refl, sym, ap, ◌∙◌, subst}
+use Rattle.std.proofs.Common.{◌≡◌, ℕ, ◌<◌, Bool, true, List, [], ◌∷◌, None, Some, Ok, Err, OnOk, Result, refl, sym, ap, ◌∙◌, subst}
 use Rattle.zarrs_subset.specs.Boxes.{position_count, offset_by, offset_from}
 use Rattle.zarrs_subset.specs.Regions.{Box, Holds, IsLong, box_at_origin, box_of, place_in}
 use Rattle.zarrs_subset.proofs.Bytes.{place_in_below}
@@ -142,11 +142,11 @@ stays_more t l u same before after =
     (same_keeps t.cell_size l.cell_size (parent_box t) (parent_box l) (target_box t) (target_box l) (data_of_target l) (data_of_target l) (data_of_target u) (data_of_target u)
     same.cell_size (same_parent t l same.parent_shape) (ap box_of same.region) refl refl after)
 
-pub same_more : (layout : Layout) (region : Box) (index : List ℕ) (state : StoreState) (t l : ArrayBytesDecodeIntoTarget) (old new : ArrayData) → SameBox t l
-    → ReadsOneMoreInto layout region index state (parent_box l) (target_box l) old new → ReadsOneMoreInto layout region index state (parent_box t) (target_box t) old new
-same_more layout region index state t l old new same one =
-    subst (λ (b : Box). ReadsOneMoreInto layout region index state (parent_box t) b old new) (ap box_of same.region)
-    (subst (λ (b : Box). ReadsOneMoreInto layout region index state b (target_box l) old new) (same_parent t l same.parent_shape) one)
+pub same_more : (layout : Layout) (filled : Bool) (region : Box) (index : List ℕ) (state : StoreState) (t l : ArrayBytesDecodeIntoTarget) (old new : ArrayData) → SameBox t l
+    → ReadsOneMoreInto layout filled region index state (parent_box l) (target_box l) old new → ReadsOneMoreInto layout filled region index state (parent_box t) (target_box t) old new
+same_more layout filled region index state t l old new same one =
+    subst (λ (b : Box). ReadsOneMoreInto layout filled region index state (parent_box t) b old new) (ap box_of same.region)
+    (subst (λ (b : Box). ReadsOneMoreInto layout filled region index state b (target_box l) old new) (same_parent t l same.parent_shape) one)
 
 pub same_takes : (t l : ArrayBytesDecodeIntoTarget) (k : Kind) → l.cell_size ≡ t.cell_size → l.depth ≡ t.depth → takes_type t.cell_size t.depth k ≡ true → takes_type l.cell_size l.depth k ≡ true
 same_takes t l k sizes depths takes = subst (λ n. takes_type n l.depth k ≡ true) (sym sizes) (subst (λ n. takes_type t.cell_size n k ≡ true) (sym depths) takes)

@@ -1,23 +1,28 @@
 -- Lists of a region's cells as targets, and the cells under masks whose bytes are 0 and 1.
-use Rattle.std.proofs.Common.{◌≡◌, ℕ, zero, suc, ◌+◌, ◌-◌, ◌*◌, ◌<◌, ◌≤◌, ◌^◌, true, cond, List, length, take, drop, Option, None, Some, refl, sym, ap, ◌∙◌, subst, arith}
+use Rattle.std.proofs.Common.{◌≡◌, ℕ, zero, suc, ◌+◌, ◌-◌, ◌*◌, ◌<◌, ◌≤◌, ◌^◌, true, cond, List, [], length, take, drop, replicate, slice_get, Option, None, Some, refl, sym, ap, ◌∙◌, subst, arith}
 use Rattle.std.specs.Prelude.{◌==◌, min, slice_index}
 use Rattle.std.proofs.Math.Nat.{mul-suc}
-use Rattle.std.proofs.lemmas.List.{get_or-drop, get_or-replicate, get_or-take, length-drop}
+use Rattle.std.proofs.lemmas.List.{get_or-drop, get_or-replicate, get_or-take, length-drop, length-replicate}
+use Rattle.std.proofs.lemmas.Option.{slice_get-get_or}
 use Rattle.zarrs_subset.specs.Boxes.{position_count}
-use Rattle.zarrs_subset.specs.Regions.{Box, LiesInShape, box_at_origin}
+use Rattle.zarrs_subset.specs.Regions.{Box, IsLong, LiesInShape, box_at_origin, place_in}
+use Rattle.zarrs_subset.proofs.Bytes.{place_in_below}
 use Rattle.zarrs_storage.specs.Store.{StoreState}
 use Rattle.zarrs_data_type.specs.Kind.{Kind, inner_of}
-use Rattle.zarrs_data_type.specs.Cell.{none, some}
-use Rattle.zarrs_data_type.specs.ArrayData.{ArrayData, optional}
-use Rattle.zarrs_data_type.specs.Cells.{cell_at}
-use Rattle.zarrs_data_type_bytes.proofs.Cells.{IsSized}
-use Rattle.zarrs_data_type.specs.Targets.{IsTargetOver, masked, takes_type}
+use Rattle.zarrs_data_type.specs.Cell.{Cell, none, some}
+use Rattle.zarrs_data_type.specs.ArrayData.{ArrayData, fixed, optional}
+use Rattle.zarrs_data_type.specs.Cells.{cell_at, cells, fits}
+use Rattle.zarrs_data_type_bytes.proofs.Cells.{IsSized, cells-parts}
+use Rattle.zarrs_data_type.specs.Targets.{HasLevels, IsTargetOver, masked, takes_type}
 use Rattle.zarrs_data_type_region.proofs.TargetBoxes.{origin_long}
 use Rattle.zarrs_data_type_region.proofs.TargetLevels.{masked_levels}
+use Rattle.zarrs_data_type_region.proofs.TypeSizes.{levels_of}
+use Rattle.zarrs_codec_chain.proofs.MovedBoxes.{origin_moved}
 use Rattle.zarrs_engine_calls.specs.Layout.{Layout}
 use Rattle.zarrs_engine_calls.specs.Reads.{ReadsRegion}
 use Rattle.zarrs_engine_layout.specs.Covers.{CoverRegion}
-use Rattle.zarrs_engine.specs.TargetReads.{HasReadInto}
+use Rattle.zarrs_engine.specs.TargetReads.{HasFillElsewhere, HasReadInto}
+use Rattle.zarrs_engine.proofs.Into.{cell_found}
 use Rattle.zarrs_engine.proofs.IntoReads.{region_read}
 
 -- ---- a target whose box is all of its parent
@@ -79,6 +84,31 @@ flag_cells k (suc depth) count masks flags bytes len are i lt =
     under (inner_of k) (slice_index (take count flags) i) (slice_index (take count masks) i) i
     (masked depth count (drop count flags) bytes) (masked depth count (drop count masks) bytes) zero_is
     (λ u. flag_cells u depth count (drop count masks) (drop count flags) bytes (length-drop count masks ∙ omega arith) (rest_flags count masks flags (omega arith) are) i lt)
+
+-- ---- lists that begin as fill
+
+-- cells without a mask are bytes
+pub plain_len : (d : ArrayData) (b : List ℕ) (k : Kind) (size depth n : ℕ) (cs : List Cell) → d ≡ fixed b → depth ≡ 0 → takes_type size depth k ≡ true → cells k d ≡ Some cs → length cs ≡ n → length b ≡ n * size
+plain_len d b k size depth n cs is plain takes are count =
+    let fit = subst (λ m. fits k d m ≡ true) count (cells-parts k d cs are).0 in
+    let levels = levels_of k size depth n d takes fit in
+    subst (λ (x : ArrayData). HasLevels 0 size n x) is (subst (λ m. HasLevels m size n d) plain levels)
+
+-- each position of a region has the fill value in a list of so many of them
+pub list_filled : (layout : Layout) (region : Box) (parent : List ℕ) (own : Box) (depth : ℕ) (masks bytes : List ℕ) → IsLong region → depth ≡ 0 → parent ≡ region.shape → own ≡ box_at_origin region.shape
+    → cells layout.kind (fixed bytes) ≡ Some (replicate (position_count region.shape) layout.fill) → HasFillElsewhere layout region [] (box_at_origin parent) own (masked depth (position_count parent) masks bytes)
+list_filled layout region parent own depth masks bytes long plain parent_is own_is are =
+    subst (λ d. HasFillElsewhere layout region [] (box_at_origin parent) own (masked d (position_count parent) masks bytes)) (sym plain)
+    (subst (λ (b : Box). HasFillElsewhere layout region [] (box_at_origin parent) b (fixed bytes)) (sym own_is)
+    (subst (λ (p : List ℕ). HasFillElsewhere layout region [] (box_at_origin p) (box_at_origin region.shape) (fixed bytes)) (sym parent_is)
+    (λ position holds none.
+    let i = place_in region position in
+    let n = position_count region.shape in
+    let lt : i < n = place_in_below region position long holds in
+    let len = length-replicate {A = Cell} n layout.fill in
+    let at : slice_get (replicate n layout.fill) i ≡ Some layout.fill =
+    slice_get-get_or (replicate n layout.fill) i layout.fill (omega (arith, len)) ∙ ap Some (get_or-replicate {A = Cell} n i layout.fill layout.fill lt) in
+    ap (cell_at layout.kind (fixed bytes)) (origin_moved region position long holds) ∙ cell_found layout.kind (fixed bytes) (replicate n layout.fill) i layout.fill are at)))
 
 -- ---- the data of the lists
 

@@ -32,11 +32,11 @@ use Rattle.zarrs_engine_calls.specs.ChunkBoxes.{CoversBox}
 use Rattle.zarrs_engine_calls.specs.Content.{value_at, cell_at_place, chunk_cell, content, decoded_cells}
 use Rattle.zarrs_engine_calls.specs.Fronts.{is_in_chunks}
 use Rattle.zarrs_engine_calls.specs.Reads.{IsBroken, ReadsRegion}
-use Rattle.zarrs_engine_calls.proofs.Contents.{content_in_box, reads_decoded}
+use Rattle.zarrs_engine_calls.proofs.Contents.{absent_fill, content_in_box, reads_decoded}
 use Rattle.zarrs_engine_layout.specs.Covers.{CoverRegion}
 use Rattle.zarrs_engine_layout.specs.Shared.{AreApart, AreShared}
 use Rattle.zarrs_engine_layout.proofs.SharedBoxes.{shared_long}
-use Rattle.zarrs_engine.specs.TargetReads.{HasPositions, HasReadInto, IsRead, ReadsOneMoreInto}
+use Rattle.zarrs_engine.specs.TargetReads.{HasFillElsewhere, HasPositions, HasReadInto, HasReadSoFar, IsRead, ReadsOneMoreInto}
 use Rattle.zarrs_codec_chain.proofs.MovedBoxes.{in_overlap, moved_box, moved_holds, moved_in, moved_place, moved_same, moved_to, origin_place, part_holds}
 use Rattle.zarrs_engine.proofs.RegionReads.{any_of, in_more}
 
@@ -143,6 +143,14 @@ module _ (grid : Grid) (lawful : IsGrid grid) (index : List ℕ) (has : has_box 
         below = λ k below. let e = some_extent k (omega (arith, box_dimensions grid index)) in omega arith;
       })
 
+or_second : (b c : Bool) → b ≡ false → b || c ≡ true → c ≡ true
+or_second true c out is = absurd (false≢true (sym out))
+or_second false c out is = is
+
+neither : (b c : Bool) → b || c ≡ false → (b ≡ false) × (c ≡ false)
+neither true c is = absurd (false≢true (sym is))
+neither false c is = (refl, is)
+
 or_none : (b c : Bool) → c ≡ false → b || c ≡ true → b ≡ true
 or_none true c out is = refl
 or_none false c out is = sym out ∙ is
@@ -159,9 +167,17 @@ module _ (layout : Layout) (lawful : IsLawful layout) (region : Box) (state : St
       none_among true = refl
       none_among false = refl
 
-  module _ (index : List ℕ) (has : has_box layout.grid index ≡ true) where
+  pub so_far_none : (filled : Bool) (held : ArrayData) → (filled ≡ true → HasFillElsewhere layout region [] box own held) → HasReadSoFar layout filled region [] state box own held
+  so_far_none filled held rest = record { read = into_none held; rest = rest }
+
+  module _ (filled : Bool) (index : List ℕ) (has : has_box layout.grid index ≡ true) where
     abbrev chunk_box : Box
     chunk_box = box_at layout.grid index
+
+    -- a position that neither these chunks have nor the next one
+    not_among : (chunks : List (List ℕ)) (position : List ℕ) → is_in_chunks layout (chunks ++ index ∷ []) position ≡ false
+        → (is_in_chunks layout chunks position ≡ false) × (in_box chunk_box position ≡ false)
+    not_among chunks position out = neither (is_in_chunks layout chunks position) (in_box chunk_box position) (sym (in_more layout lawful chunks index has position) ∙ out)
 
     sound_more : (chunks : List (List ℕ)) (held : ArrayData) → HasReadInto layout region chunks state box own held → (CoversBox region chunk_box → IsBroken layout index state → ⊥)
         → (i : List ℕ) → Contains (chunks ++ index ∷ []) i → CoversBox region (box_at layout.grid i) → IsBroken layout i state → ⊥
@@ -171,50 +187,85 @@ module _ (layout : Layout) (lawful : IsLawful layout) (region : Box) (state : St
     ]
 
     -- the chunk has no position of the region
-    pub into_apart : (held : ArrayData) → AreApart region chunk_box → ReadsOneMoreInto layout region index state box own held held
+    pub into_apart : (held : ArrayData) → AreApart region chunk_box → ReadsOneMoreInto layout filled region index state box own held held
     into_apart held apart = λ chunks r. record {
-      each = λ position holds among. r.each position holds (or_none (is_in_chunks layout chunks position) (in_box chunk_box position) (apart position holds) (sym (in_more layout lawful chunks index has position) ∙ among));
-      whole = sound_more chunks held r (λ covers.
-          let corner = corner_held layout.grid lawful.grid index has in
-          absurd (false≢true (sym (apart chunk_box.start (covers chunk_box.start corner)) ∙ corner)));
+      read = record {
+        each = λ position holds among.
+            r.read.each position holds (or_none (is_in_chunks layout chunks position) (in_box chunk_box position) (apart position holds) (sym (in_more layout lawful chunks index has position) ∙ among));
+        whole = sound_more chunks held r.read (λ covers.
+            let corner = corner_held layout.grid lawful.grid index has in
+            absurd (false≢true (sym (apart chunk_box.start (covers chunk_box.start corner)) ∙ corner)));
+      };
+      rest = λ is position holds out. r.rest is position holds (not_among chunks position out).0;
+    }
+
+    -- the chunk is absent, and its positions are fill already
+    pub into_absent : (held : ArrayData) → filled ≡ true → value_at state (layout.key index) ≡ None → ReadsOneMoreInto layout filled region index state box own held held
+    into_absent held is absent = λ chunks r. record {
+      read = record {
+        each = λ position holds among.
+            elim (cases_Bool (is_in_chunks layout chunks position)) [
+              | inl before ↦ r.read.each position holds before
+              | inr after ↦
+                  let here = or_second (is_in_chunks layout chunks position) (in_box chunk_box position) after (sym (in_more layout lawful chunks index has position) ∙ among) in
+                  let fill = r.rest is position holds after in
+                  let known = absent_fill layout (value_at state) lawful index has absent position here in
+                  record {
+                    value = ap (is_value layout.kind) fill ∙ lawful.filled;
+                    same = λ cell found. fill ∙ some_is (sym known ∙ found);
+                  }
+            ];
+        whole = sound_more chunks held r.read (λ covers broken. let clash : None ≡ Some broken.encoded = sym absent ∙ broken.stands in cc);
+      };
+      rest = λ on position holds out. r.rest on position holds (not_among chunks position out).0;
     }
 
     -- what it has of the region was read, and the other bytes stayed
     pub into_more : (size : ℕ) (shared part : Box) (old new : ArrayData) → fixed_size layout.kind ≡ Some size → IsLong region → IsLong box → IsLong own → own.shape ≡ region.shape → LiesInBox own box
         → AreShared region chunk_box shared part → HasPositions layout shared state box (moved_box own region shared) new → (CoversBox region chunk_box → IsBroken layout index state → ⊥)
-        → KeepsOutside size box (moved_box own region shared) old new → ReadsOneMoreInto layout region index state box own old new
+        → KeepsOutside size box (moved_box own region shared) old new → ReadsOneMoreInto layout filled region index state box own old new
     into_more size shared part old new fixed long box_is_long own_long same inside are has_shared sound keeps = λ chunks r.
         let chunk_long = box_long layout.grid index in
         let shared_long = is_long region chunk_box shared part long chunk_long are in
+        let both : (position : List ℕ) → Holds region position → in_box shared position ≡ in_box chunk_box position =
+        λ position holds.
+        ap (λ (b : Box). in_box b position) are.shared_is
+        ∙ in_overlap region chunk_box position long chunk_long (sym are.in_region.same_length ∙ are.in_chunk.same_length)
+        ∙ ap (λ b. b && in_box chunk_box position) holds in
+        let stays : (position : List ℕ) → Holds region position → in_box chunk_box position ≡ false
+        → cell_at layout.kind new (place_in box (moved_to own region position)) ≡ cell_at layout.kind old (place_in box (moved_to own region position)) =
+        λ position holds out.
+        let q = moved_to own region position in
+        let parent = holds_inside own box q own_long box_is_long inside (moved_holds own region own_long long same position holds) in
+        let outside = moved_in own region shared own_long long shared_long same are.in_region position holds ∙ both position holds ∙ out in
+        cell_stays layout.kind size box (moved_box own region shared) old new fixed keeps q parent outside in
         record {
-          each = λ position holds among.
-              let q = moved_to own region position in
-              let both : in_box shared position ≡ in_box chunk_box position =
-              ap (λ (b : Box). in_box b position) are.shared_is
-              ∙ in_overlap region chunk_box position long chunk_long (sym are.in_region.same_length ∙ are.in_chunk.same_length)
-              ∙ ap (λ b. b && in_box chunk_box position) holds in
-              elim (cases_Bool (in_box chunk_box position)) [
-                | inl here ↦
-                    let there : Holds shared position = both ∙ here in
-                    subst (λ (x : List ℕ). IsRead layout state position (cell_at layout.kind new (place_in box x))) (moved_same own region shared own_long long shared_long same are.in_region position there)
-                    (has_shared position there)
-                | inr out ↦
-                    let before = or_none (is_in_chunks layout chunks position) (in_box chunk_box position) out (sym (in_more layout lawful chunks index has position) ∙ among) in
-                    let parent = holds_inside own box q own_long box_is_long inside (moved_holds own region own_long long same position holds) in
-                    let outside = moved_in own region shared own_long long shared_long same are.in_region position holds ∙ both ∙ out in
-                    subst (IsRead layout state position) (sym (cell_stays layout.kind size box (moved_box own region shared) old new fixed keeps q parent outside)) (r.each position holds before)
-              ];
-          whole = sound_more chunks old r sound;
+          read = record {
+            each = λ position holds among.
+                elim (cases_Bool (in_box chunk_box position)) [
+                  | inl here ↦
+                      let there : Holds shared position = both position holds ∙ here in
+                      subst (λ (x : List ℕ). IsRead layout state position (cell_at layout.kind new (place_in box x))) (moved_same own region shared own_long long shared_long same are.in_region position there)
+                      (has_shared position there)
+                  | inr out ↦
+                      let before = or_none (is_in_chunks layout chunks position) (in_box chunk_box position) out (sym (in_more layout lawful chunks index has position) ∙ among) in
+                      subst (IsRead layout state position) (sym (stays position holds out)) (r.read.each position holds before)
+                ];
+            whole = sound_more chunks old r.read sound;
+          };
+          rest = λ is position holds out.
+              let apart = not_among chunks position out in
+              stays position holds apart.1 ∙ r.rest is position holds apart.0;
         }
 
   -- ---- the loop over the chunks
 
-  pub into_next : (chunks : List (List ℕ)) (n m : ℕ) (index : List ℕ) (old new : ArrayData) → m ≡ n + 1 → slice_get chunks n ≡ Some index → HasReadInto layout region (take n chunks) state box own old
-      → ReadsOneMoreInto layout region index state box own old new → HasReadInto layout region (take m chunks) state box own new
-  into_next chunks n m index old new is at r one =
+  pub into_next : (filled : Bool) (chunks : List (List ℕ)) (n m : ℕ) (index : List ℕ) (old new : ArrayData) → m ≡ n + 1 → slice_get chunks n ≡ Some index → HasReadSoFar layout filled region (take n chunks) state box own old
+      → ReadsOneMoreInto layout filled region index state box own old new → HasReadSoFar layout filled region (take m chunks) state box own new
+  into_next filled chunks n m index old new is at r one =
       let next : take (n + 1) chunks ≡ take n chunks ++ index ∷ [] =
       take_more chunks n index (slice_get_within chunks n index at) ∙ ap (λ x. take n chunks ++ x ∷ []) (get_or_from_slice_get chunks n index index at) in
-      subst (λ (done : List (List ℕ)). HasReadInto layout region done state box own new) (sym (ap (λ k. take k chunks) is ∙ next)) (one (take n chunks) r)
+      subst (λ (done : List (List ℕ)). HasReadSoFar layout filled region done state box own new) (sym (ap (λ k. take k chunks) is ∙ next)) (one (take n chunks) r)
 
   pub into_last : (chunks : List (List ℕ)) (n : ℕ) (held : ArrayData) → n ≡ length chunks → HasReadInto layout region (take n chunks) state box own held → HasReadInto layout region chunks state box own held
   into_last chunks n held all r =

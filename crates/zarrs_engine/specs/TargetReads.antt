@@ -1,5 +1,5 @@
 -- What reads of regions leave in data over a larger box.
-use Rattle.std.specs.Prelude.{◌≡◌, ◌++◌, List, [], ◌∷◌, ℕ, true, Some, Contains}
+use Rattle.std.specs.Prelude.{◌≡◌, ◌++◌, Bool, List, [], ◌∷◌, ℕ, true, false, Some, Contains}
 use Rattle.zarrs_subset.specs.Boxes.{offset_by, offset_from}
 use Rattle.zarrs_subset.specs.Regions.{Box, Holds, place_in}
 use Rattle.zarrs_chunk_grid.specs.Grids.{box_at}
@@ -33,7 +33,18 @@ pub record HasReadInto (layout : Layout) (region : Box) (chunks : List (List ℕ
       → IsRead layout state position (cell_at layout.kind held (place_from box own.start region position))
   pub whole : (index : List ℕ) → Contains chunks index → CoversBox region (box_at layout.grid index) → IsBroken layout index state → ⊥
 
+-- data over `box` has the fill value at each position of the region, which lies at `own`, that these chunks do not have
+abbrev pub HasFillElsewhere : Layout → (region : Box) → (chunks : List (List ℕ)) → (box own : Box) → ArrayData → Type 0
+HasFillElsewhere layout region chunks box own held =
+    (position : List ℕ) → Holds region position → is_in_chunks layout chunks position ≡ false
+    → cell_at layout.kind held (place_from box own.start region position) ≡ layout.fill
+
+-- these chunks were read so far, and the rest of a box that was filled is still fill
+pub record HasReadSoFar (layout : Layout) (filled : Bool) (region : Box) (chunks : List (List ℕ)) (state : StoreState) (box own : Box) (held : ArrayData) : Type 0 where
+  pub read : HasReadInto layout region chunks state box own held
+  pub rest : filled ≡ true → HasFillElsewhere layout region chunks box own held
+
 -- one more chunk was read
-abbrev pub ReadsOneMoreInto : Layout → Box → List ℕ → StoreState → (box own : Box) → ArrayData → ArrayData → Type 0
-ReadsOneMoreInto layout region index state box own old new =
-    (chunks : List (List ℕ)) → HasReadInto layout region chunks state box own old → HasReadInto layout region (chunks ++ index ∷ []) state box own new
+abbrev pub ReadsOneMoreInto : Layout → Bool → Box → List ℕ → StoreState → (box own : Box) → ArrayData → ArrayData → Type 0
+ReadsOneMoreInto layout filled region index state box own old new =
+    (chunks : List (List ℕ)) → HasReadSoFar layout filled region chunks state box own old → HasReadSoFar layout filled region (chunks ++ index ∷ []) state box own new

@@ -29,12 +29,14 @@ pub struct ChunkPartialEncoder<
 }
 
 impl<S, G: ChunkGridTraits, K: ChunkKeyEncodingTraits, C: ChainTraits> Engine<S, G, K, C> {
+    ghost use Rattle.std.specs.Borrow.{sem};
     ghost use Rattle.std.specs.Prelude.{◌≡◌, true, IfOk, IfErr, OnOk};
     ghost use Rattle.zarrs_chunk_grid.specs.Grids.{has_box};
     ghost use Rattle.zarrs_engine_calls.specs.ArgumentRefusals.{chunk_refusal};
     ghost use Rattle.zarrs_engine_calls.specs.Refusals.{RefusesBy, refusal_of};
     ghost use Rattle.zarrs_engine.specs.Engine.{layout_of};
-    ghost use Rattle.zarrs_engine.specs.PartialEncoders.{engine_of, indices_of, loan_of};
+    ghost use Rattle.zarrs_engine.specs.PartialEncoders.{RestsUnlessEncoded, engine_of, indices_of};
+    ghost use Rattle.zarrs_engine.specs.PartialEncoders.{loan_of};
 
     /// The chunk with these indices, to write parts of it. The store is not asked.
     ///
@@ -45,6 +47,8 @@ impl<S, G: ChunkGridTraits, K: ChunkKeyEncodingTraits, C: ChainTraits> Engine<S,
         alloc: Global,
         chunk_indices: &[u64],
     ) -> Result<ChunkPartialEncoder<'_, S, G, K, C>, ArrayError>
+        ensures* untouched { sem 𝓛 (RestsUnlessEncoded S.row G.row K.row C.row G.ChunkGridTraits
+            K.ChunkKeyEncodingTraits C.ChainTraits self.entry result) }
         ensures engine { IfOk result (λ encoder. engine_of encoder ≡ self.old) }
         ensures same_loan { IfOk result (λ encoder. loan_of encoder ≡ self.entry.ghost_name) }
         ensures chunk { IfOk result (λ encoder. indices_of encoder ≡ chunk_indices.now) }

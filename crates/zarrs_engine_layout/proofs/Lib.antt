@@ -2,6 +2,7 @@ pub mod Chunks
 pub mod RegionRefusals
 pub mod ChunkParts
 pub mod ChunkRanges
+pub mod ChunkShares
 pub mod Cuts
 pub mod CutWalks
 pub mod OneChunk

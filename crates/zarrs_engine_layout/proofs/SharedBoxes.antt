@@ -27,16 +27,16 @@ module _ (region chunk : Box) (long : IsLong region) (chunk_long : IsLong chunk)
   pub start_len : length shared.start ≡ length region.start
   start_len = length-zip_with (λ a b. max a b) region.start chunk.start same
 
-  shape_len : length shared.shape ≡ length region.start
+  pub shape_len : length shared.shape ≡ length region.start
   shape_len = length-overlap_extents region.start region.shape chunk.start chunk.shape long chunk_long same
 
   pub shared_long : IsLong shared
   shared_long = start_len ∙ sym shape_len
 
-  start_at : (k : ℕ) → k < length region.start → slice_index shared.start k ≡ max (slice_index region.start k) (slice_index chunk.start k)
+  pub start_at : (k : ℕ) → k < length region.start → slice_index shared.start k ≡ max (slice_index region.start k) (slice_index chunk.start k)
   start_at k lt = zip_with-at (λ a b. max a b) region.start chunk.start k lt (omega (arith, same))
 
-  shape_at : (k : ℕ) → k < length region.start
+  pub shape_at : (k : ℕ) → k < length region.start
       → slice_index shared.shape k
       ≡ min (slice_index region.start k + slice_index region.shape k) (slice_index chunk.start k + slice_index chunk.shape k) - max (slice_index region.start k) (slice_index chunk.start k)
   shape_at k lt = overlap_extents-at region.start region.shape chunk.start chunk.shape k long chunk_long same lt

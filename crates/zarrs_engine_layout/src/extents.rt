@@ -13,7 +13,7 @@ use zarrs_subset::element_count;
 
 /// The extents of a chunk, and the number of its cells.
 #[derive(Debug, Drop)]
-pub(crate) struct ChunkExtents {
+pub struct ChunkExtents {
     /// One extent for each dimension.
     pub shape: SmallVec<u64, 4>,
     /// Their product.
@@ -49,7 +49,7 @@ impl<G: ChunkGridTraits, K: ChunkKeyEncodingTraits, C: ChainTraits> ArrayLayout<
     /// # Errors
     /// In this order: E3 for indices without a chunk; E8 for a chunk of more bytes than a `usize` counts. E9 may come
     /// at any time.
-    pub(crate) fn chunk_extents(
+    pub fn chunk_extents(
         &self,
         alloc: Global,
         chunk_indices: &[u64],

@@ -2,8 +2,8 @@
 //!
 //! `zarrs_engine` uses `ArrayLayout`: a grid, a path, a key encoding, a chain, a data type and a fill value. It gives
 //! the chunks that a region meets (`chunks_met`), and the key, the value and the cells of a chunk. It refuses bad
-//! arguments. `shared_positions` is what a region and a chunk share, and `CutWalk` finds the chunks that a new shape
-//! cuts.
+//! arguments. `shared_in` and `part_in_chunk` are what a region and a chunk share, and `CutWalk` finds the chunks that a
+//! new shape cuts.
 //!
 //! `layout_meaning` of `specs/Layouts.antt` gives the `Layout` of `zarrs_engine_calls`, and the ghost field `lawful`
 //! says that it is lawful. `CoverRegion` of `specs/Covers.antt` says that chunks cover a region. `HasValue` of
@@ -24,4 +24,5 @@ mod shared;
 
 pub use array_layout::{ArrayLayout, Chunk, invalid_indices};
 pub use cut_walk::CutWalk;
-pub use shared::{Shared, shared_positions};
+pub use extents::ChunkExtents;
+pub use shared::{Shared, covers_chunk, part_in_chunk, shared_in, shared_positions};

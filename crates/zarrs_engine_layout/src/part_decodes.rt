@@ -65,7 +65,7 @@ impl<G: ChunkGridTraits, K: ChunkKeyEncodingTraits, C: ChainTraits> ArrayLayout<
         Ok(data)
     }
 
-    /// Decodes a part of a chunk of this box, whose bytes are those of the source, into the target's box, which has the
+    /// Decodes a part of a chunk of this shape, whose bytes are those of the source, into the target's box, which has the
     /// part's shape. The part is seen from the corner of the chunk. No other bytes are read than those that the part needs.
     /// Every byte outside the target's box stays; after a refusal the inside is open.
     ///
@@ -74,15 +74,15 @@ impl<G: ChunkGridTraits, K: ChunkKeyEncodingTraits, C: ChainTraits> ArrayLayout<
     pub fn decode_part_into<B: ByteSource>(
         &self,
         alloc: Global,
-        chunk: &ArraySubset,
+        shape: &[u64],
         source: &B,
         part: &ArraySubset,
         target: &mut ArrayBytesDecodeIntoTarget<'_, '_, '_>,
     ) -> Result<(), ArrayError>
-        requires fit { is_too_large (layout_meaning self.now) (box_of chunk.now).shape ≡ false }
-        requires part { LiesInShape (box_of part.now) (box_of chunk.now).shape }
+        requires fit { is_too_large (layout_meaning self.now) shape.now ≡ false }
+        requires part { LiesInShape (box_of part.now) shape.now }
         requires may_read { (place : ℕ) → (layout_meaning self.now).chain.places
-            (layout_meaning self.now).kind (box_of chunk.now).shape (box_of part.now)
+            (layout_meaning self.now).kind shape.now (box_of part.now)
             (B.bytes source.now) place ≡ true → B.may_read source.now place ≡ true }
         requires target { IsTarget target.old }
         requires takes { takes_type target.old.cell_size target.old.depth
@@ -93,12 +93,12 @@ impl<G: ChunkGridTraits, K: ChunkKeyEncodingTraits, C: ChainTraits> ArrayLayout<
         ensures same_masks { target.new.masks.ghost_name ≡ target.old.masks.ghost_name }
         ensures same_box { SameBox target.old target.new }
         ensures cells { OnOk result (DecodesPartAt (layout_meaning self.now).kind
-            (box_of chunk.now).shape (box_of part.now) (decoded_cells (layout_meaning self.now)
-            (box_of chunk.now) (B.bytes source.now)) (parent_box target.old)
+            shape.now (box_of part.now) (decoded_cells (layout_meaning self.now)
+            (box_at_origin shape.now) (B.bytes source.now)) (parent_box target.old)
             (target_box target.old) (data_of_target target.new)) }
         ensures outside { StaysOutside target.old target.new }
         ensures refused { IfErr result (λ e. RefusesPartBytes (layout_meaning self.now)
-            (box_of chunk.now) (B.bytes source.now) (B.refuses source.now) (refusal_of e)) }
+            (box_at_origin shape.now) (B.bytes source.now) (B.refuses source.now) (refusal_of e)) }
     {
         let whole = Window {
             offset: 0,
@@ -111,7 +111,7 @@ impl<G: ChunkGridTraits, K: ChunkKeyEncodingTraits, C: ChainTraits> ArrayLayout<
             part,
             &self.data_type,
             &self.fill_value,
-            chunk.shape(),
+            shape,
             target,
         )?;
         Ok(())

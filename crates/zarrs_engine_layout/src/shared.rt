@@ -1,11 +1,13 @@
 //! What a region and a chunk share.
-ghost use Rattle.std.specs.Prelude.{◌≡◌, IfNone, IfOk, IfSome, length};
-ghost use Rattle.zarrs_subset.specs.Regions.{box_of};
-ghost use Rattle.zarrs_engine_layout.specs.Shared.{AreApart, AreShared};
+ghost use Rattle.std.specs.Prelude.{◌≡◌, ◌↔◌, true, IfNone, IfOk, IfSome, IsTrue, length};
+ghost use Rattle.zarrs_chunk_grid.specs.Grids.{box_at, has_box};
+ghost use Rattle.zarrs_subset.specs.Regions.{LiesInBox, box_of, overlap_of, seen_from};
+ghost use Rattle.zarrs_engine_layout.specs.Shared.{AreApart, AreShared, IsSharedIn};
 
 use std::alloc::{AllocError, Global};
+use zarrs_chunk_grid::ChunkGridTraits;
 use zarrs_codec_chain::{common_part, seen_from_corner};
-use zarrs_subset::ArraySubset;
+use zarrs_subset::{ArraySubset, ArraySubsetTraits};
 
 /// The positions that a region and a chunk share.
 #[derive(Debug, Drop)]
@@ -40,4 +42,102 @@ pub fn shared_positions(
         region: shared,
         part,
     }))
+}
+
+/// Whether the region covers the chunk with these indices, which has a box.
+pub fn covers_chunk<G: ChunkGridTraits>(
+    grid: &G,
+    region: &ArraySubset,
+    chunk_indices: &[u64],
+) -> bool
+    requires boxed { has_box (G.grid grid.now) chunk_indices.now ≡ true }
+    requires dimensions { length (box_of region.now).start ≡ (G.grid grid.now).dimensions }
+    ensures { IsTrue result ↔ LiesInBox (box_at (G.grid grid.now) chunk_indices.now)
+        (box_of region.now) }
+{
+    for (dimension, number) in chunk_indices.iter().enumerate() {
+        let Some(chunk) = grid.chunk_interval(dimension, *number) else {
+            return false;
+        };
+        let range = region.range(dimension);
+        if chunk.start < range.start || range.end < chunk.start + chunk.extent.get() {
+            return false;
+        }
+    }
+    true
+}
+
+/// The positions that a region and the chunk with these indices share, as they lie in `own`, a box of the region's shape:
+/// the region's first position lies at its corner. `None` if they share none.
+///
+/// # Errors
+/// `AllocError`: out of memory.
+pub fn shared_in<G: ChunkGridTraits>(
+    alloc: Global,
+    grid: &G,
+    region: &ArraySubset,
+    chunk_indices: &[u64],
+    own: &ArraySubset,
+) -> Result<Option<ArraySubset>, AllocError>
+    requires boxed { has_box (G.grid grid.now) chunk_indices.now ≡ true }
+    requires dimensions { length (box_of region.now).start ≡ (G.grid grid.now).dimensions }
+    requires same_shape { (box_of own.now).shape ≡ (box_of region.now).shape }
+    ensures none { IfOk result (λ found. IfNone found (AreApart (box_of region.now)
+        (box_at (G.grid grid.now) chunk_indices.now))) }
+    ensures some { IfOk result (λ found. IfSome found (λ made. IsSharedIn (box_of own.now)
+        (box_of region.now) (box_at (G.grid grid.now) chunk_indices.now) (box_of made))) }
+{
+    let mut start = Vec::with_capacity(alloc, chunk_indices.len())?;
+    let mut shape = Vec::with_capacity(alloc, chunk_indices.len())?;
+    for (dimension, number) in chunk_indices.iter().enumerate() {
+        let Some(chunk) = grid.chunk_interval(dimension, *number) else {
+            return Ok(None);
+        };
+        let range = region.range(dimension);
+        let first = range.start.max(chunk.start);
+        let end = range.end.min(chunk.start + chunk.extent.get());
+        if end <= first {
+            return Ok(None);
+        }
+        start.push(first - range.start + own.start()[dimension])?;
+        shape.push(end - first)?;
+    }
+    Ok(Some(ArraySubset::new(start, shape)))
+}
+
+/// The positions that a region shares with the chunk with these indices, seen from the corner of the chunk.
+///
+/// # Errors
+/// `AllocError`: out of memory.
+pub fn part_in_chunk<G: ChunkGridTraits>(
+    alloc: Global,
+    grid: &G,
+    region: &ArraySubset,
+    chunk_indices: &[u64],
+) -> Result<Option<ArraySubset>, AllocError>
+    requires boxed { has_box (G.grid grid.now) chunk_indices.now ≡ true }
+    requires dimensions { length (box_of region.now).start ≡ (G.grid grid.now).dimensions }
+    ensures none { IfOk result (λ found. IfNone found (AreApart (box_of region.now)
+        (box_at (G.grid grid.now) chunk_indices.now))) }
+    ensures some { IfOk result (λ found. IfSome found (λ part. AreShared (box_of region.now)
+        (box_at (G.grid grid.now) chunk_indices.now)
+        (overlap_of (box_of region.now) (box_at (G.grid grid.now) chunk_indices.now))
+        (box_of part))) }
+{
+    let mut start = Vec::with_capacity(alloc, chunk_indices.len())?;
+    let mut shape = Vec::with_capacity(alloc, chunk_indices.len())?;
+    for (dimension, number) in chunk_indices.iter().enumerate() {
+        let Some(chunk) = grid.chunk_interval(dimension, *number) else {
+            return Ok(None);
+        };
+        let range = region.range(dimension);
+        let first = range.start.max(chunk.start);
+        let end = range.end.min(chunk.start + chunk.extent.get());
+        if end <= first {
+            return Ok(None);
+        }
+        start.push(first - chunk.start)?;
+        shape.push(end - first)?;
+    }
+    Ok(Some(ArraySubset::new(start, shape)))
 }

@@ -1,15 +1,15 @@
 //! Reads of regions into boxes that callers lend.
 use super::Engine;
-use std::alloc::{AllocError, Global};
+use std::alloc::Global;
 use zarrs_chunk_grid::ChunkGridTraits;
-use zarrs_codec_chain::{ChainTraits, seen_from_corner};
+use zarrs_codec_chain::ChainTraits;
 use zarrs_codec_leaf::{CodecError, Misfit, StoredValue};
 use zarrs_data_type::{ArrayBytesDecodeIntoTarget, copy_fill_value_into};
 use zarrs_engine_calls::ArrayError;
-use zarrs_engine_layout::{Shared, shared_positions};
+use zarrs_engine_layout::{ArrayLayout, covers_chunk, part_in_chunk, shared_in};
 use zarrs_keys::ChunkKeyEncodingTraits;
 use zarrs_storage::ReadableStorageTraits;
-use zarrs_subset::{ArraySubset, ArraySubsetError, lies_in_box};
+use zarrs_subset::ArraySubset;
 
 impl<
     S: ReadableStorageTraits,
@@ -17,17 +17,15 @@ impl<
     K: ChunkKeyEncodingTraits,
     C: ChainTraits,
 > Engine<S, G, K, C> {
-    ghost use Rattle.std.specs.Prelude.{◌≡◌, ◌∷◌, [], true, IfErr, IsSome, OnErr, OnOk, length};
+    ghost use Rattle.std.specs.Prelude.{◌≡◌, ◌∷◌, [], true, IfErr, IsSome, None, OnErr, OnOk, length};
     ghost use Rattle.zarrs_chunk_grid.specs.Grids.{box_at, has_box};
     ghost use Rattle.zarrs_engine_layout.specs.Covers.{CoverRegion};
-    ghost use Rattle.zarrs_engine_layout.specs.Shared.{AreShared};
-    ghost use Rattle.zarrs_subset.specs.Regions.{box_of, positions};
-    ghost use Rattle.zarrs_engine_calls.specs.ChunkBoxes.{CoversBox};
+    ghost use Rattle.zarrs_subset.specs.Regions.{LiesInBox, box_of, positions};
+    ghost use Rattle.zarrs_engine_calls.specs.Content.{value_at};
     ghost use Rattle.zarrs_engine_calls.specs.Reach.{MayAskChunk, MayDecodePart, MayReadPart};
-    ghost use Rattle.zarrs_engine_calls.specs.Reach.{MayReadParts};
-    ghost use Rattle.zarrs_engine_calls.specs.Reads.{IsBroken};
+    ghost use Rattle.zarrs_engine_calls.specs.Reach.{MayReadParts, chunk_part};
     ghost use Rattle.zarrs_engine_calls.specs.Refusals.{RefusesBy, refusal_of};
-    ghost use Rattle.zarrs_engine_calls.specs.StateRefusals.{RefusesSomeChunk};
+    ghost use Rattle.zarrs_engine_calls.specs.StateRefusals.{IsPart, RefusesSomeChunk};
     ghost use Rattle.zarrs_data_type.specs.States.{IsTarget, SameBox, StaysOutside, data_of_target};
     ghost use Rattle.zarrs_data_type.specs.States.{parent_box, target_box};
     ghost use Rattle.zarrs_data_type.specs.Targets.{takes_type};
@@ -35,7 +33,7 @@ impl<
     ghost use Rattle.zarrs_engine.specs.Outcomes.{MayRetrieveRegion};
     ghost use Rattle.zarrs_engine.specs.Into.{HasContent, RefusesRetrieveInto, RetrievesInto};
     ghost use Rattle.zarrs_engine.specs.Into.{target_refusal};
-    ghost use Rattle.zarrs_engine.specs.TargetReads.{HasPositions, HasReadInto, ReadsOneMoreInto};
+    ghost use Rattle.zarrs_engine.specs.TargetReads.{HasFillElsewhere, HasReadInto, ReadsOneMoreInto};
 
     /// Reads the region into the target's box, where its cells stand in row-major order. Every byte outside the box
     /// stays.
@@ -75,7 +73,7 @@ impl<
     {
         self.check_target(alloc, array_subset, target)?;
         let chunks = self.layout.chunks_met(alloc, array_subset)?;
-        self.read_into(alloc, array_subset, &chunks, target)
+        self.read_into(alloc, array_subset, &chunks, target, false)
     }
 
     /// Refuses a region of another number of dimensions, and a target that takes no cells of it.
@@ -111,13 +109,15 @@ impl<
         Ok(())
     }
 
-    /// Reads what these chunks have of the region into the target's box. Every byte outside the box stays.
+    /// Reads what these chunks have of the region into the target's box. Every byte outside the box stays. A box that is
+    /// `filled` has the fill value everywhere: there an absent chunk is left alone.
     pub(super) fn read_into(
         &self,
         alloc: Global,
         region: &ArraySubset,
         chunks: &ArraySubset,
         target: &mut ArrayBytesDecodeIntoTarget<'_, '_, '_>,
+        filled: bool,
     ) -> Result<(), ArrayError>
         requires cover { CoverRegion (layout_of self.now).grid (box_of region.now)
             (positions (box_of chunks.now)) }
@@ -127,6 +127,8 @@ impl<
         requires takes { takes_type target.old.cell_size target.old.depth (layout_of self.now).kind
             ≡ true }
         requires same_shape { (target_box target.old).shape ≡ (box_of region.now).shape }
+        requires filled { filled ≡ true → HasFillElsewhere (layout_of self.now) (box_of region.now)
+            [] (parent_box target.old) (target_box target.old) (data_of_target target.old) }
         ensures target { IsTarget target.new }
         ensures same_bytes { target.new.bytes.ghost_name ≡ target.old.bytes.ghost_name }
         ensures same_masks { target.new.masks.ghost_name ≡ target.old.masks.ghost_name }
@@ -143,7 +145,7 @@ impl<
             return Ok(());
         };
         loop {
-            self.read_chunk_into(alloc, region, walk.current(), target)?;
+            self.read_chunk_into(alloc, region, walk.current(), target, filled)?;
             if !walk.advance() {
                 return Ok(());
             }
@@ -157,6 +159,7 @@ impl<
         region: &ArraySubset,
         chunk_indices: &[u64],
         target: &mut ArrayBytesDecodeIntoTarget<'_, '_, '_>,
+        filled: bool,
     ) -> Result<(), ArrayError>
         requires boxed { has_box (layout_of self.now).grid chunk_indices.now ≡ true }
         requires dimensions { length (box_of region.now).start
@@ -171,141 +174,102 @@ impl<
         ensures same_bytes { target.new.bytes.ghost_name ≡ target.old.bytes.ghost_name }
         ensures same_masks { target.new.masks.ghost_name ≡ target.old.masks.ghost_name }
         ensures same_box { SameBox target.old target.new }
-        ensures read { OnOk result (ReadsOneMoreInto (layout_of self.now) (box_of region.now)
-            chunk_indices.now (store_of S.state self.now) (parent_box target.old)
-            (target_box target.old) (data_of_target target.old) (data_of_target target.new)) }
-        ensures refused { IfErr result (λ e. RefusesSomeChunk (layout_of self.now)
-            (box_of region.now) (chunk_indices.now ∷ []) (store_of S.state self.now)
-            (refusal_of e)) }
-        ensures outside { StaysOutside target.old target.new }
-    {
-        let chunk = self.layout.chunk_box(alloc, chunk_indices)?;
-        let Some(shared) = shared_positions(alloc, region, &chunk)? else {
-            return Ok(());
-        };
-        let own = moved_box(alloc, &shared.region, region, target.region)?;
-        let mut part = target.subdivide(&own);
-        let done = self.read_shared_into(
-            alloc,
-            region,
-            chunk_indices,
-            &chunk,
-            &shared,
-            &mut part.target,
-        );
-        target.rejoin(part);
-        done
-    }
-
-    /// Reads the positions that the region and the chunk share into the target's box, which has their shape.
-    fn read_shared_into(
-        &self,
-        alloc: Global,
-        region: &ArraySubset,
-        chunk_indices: &[u64],
-        chunk: &ArraySubset,
-        shared: &Shared,
-        target: &mut ArrayBytesDecodeIntoTarget<'_, '_, '_>,
-    ) -> Result<(), ArrayError>
-        requires boxed { has_box (layout_of self.now).grid chunk_indices.now ≡ true }
-        requires chunk { box_of chunk.now ≡ box_at (layout_of self.now).grid chunk_indices.now }
-        requires shared { AreShared (box_of region.now) (box_of chunk.now)
-            (box_of shared.now.region) (box_of shared.now.part) }
-        requires ask { MayReadPart (layout_of self.now) (box_of region.now) chunk_indices.now
-            (store_of S.state self.now) }
-        requires target { IsTarget target.old }
-        requires takes { takes_type target.old.cell_size target.old.depth (layout_of self.now).kind
-            ≡ true }
-        requires same_shape { (target_box target.old).shape ≡ (box_of shared.now.region).shape }
-        ensures target { IsTarget target.new }
-        ensures same_bytes { target.new.bytes.ghost_name ≡ target.old.bytes.ghost_name }
-        ensures same_masks { target.new.masks.ghost_name ≡ target.old.masks.ghost_name }
-        ensures same_box { SameBox target.old target.new }
-        ensures read { OnOk result (HasPositions (layout_of self.now) (box_of shared.now.region)
-            (store_of S.state self.now) (parent_box target.old) (target_box target.old)
+        ensures read { OnOk result (ReadsOneMoreInto (layout_of self.now) filled
+            (box_of region.now) chunk_indices.now (store_of S.state self.now)
+            (parent_box target.old) (target_box target.old) (data_of_target target.old)
             (data_of_target target.new)) }
-        ensures whole { OnOk result (CoversBox (box_of region.now)
-            (box_at (layout_of self.now).grid chunk_indices.now)
-            → IsBroken (layout_of self.now) chunk_indices.now (store_of S.state self.now) → ⊥) }
         ensures refused { IfErr result (λ e. RefusesSomeChunk (layout_of self.now)
             (box_of region.now) (chunk_indices.now ∷ []) (store_of S.state self.now)
             (refusal_of e)) }
         ensures outside { StaysOutside target.old target.new }
     {
-        if lies_in_box(chunk, region) {
-            return self.read_whole_into(alloc, region, chunk_indices, target);
+        if covers_chunk(&self.layout.grid, region, chunk_indices) {
+            return self.read_whole_into(alloc, region, chunk_indices, target, filled);
         }
-        self.read_part_into(alloc, region, chunk_indices, chunk, shared, target)
+        self.read_part_into(alloc, region, chunk_indices, target, filled)
     }
 
-    /// Reads a chunk into the target's box, which has its shape.
+    /// The same, of a chunk that the region covers.
     fn read_whole_into(
         &self,
         alloc: Global,
         region: &ArraySubset,
         chunk_indices: &[u64],
         target: &mut ArrayBytesDecodeIntoTarget<'_, '_, '_>,
+        filled: bool,
     ) -> Result<(), ArrayError>
         requires boxed { has_box (layout_of self.now).grid chunk_indices.now ≡ true }
+        requires dimensions { length (box_of region.now).start
+            ≡ (layout_of self.now).grid.dimensions }
+        requires covers { LiesInBox (box_at (layout_of self.now).grid chunk_indices.now)
+            (box_of region.now) }
         requires ask { MayAskChunk (layout_of self.now) chunk_indices.now
             (store_of S.state self.now) }
         requires target { IsTarget target.old }
         requires takes { takes_type target.old.cell_size target.old.depth (layout_of self.now).kind
             ≡ true }
-        requires same_shape { (target_box target.old).shape
-            ≡ (box_at (layout_of self.now).grid chunk_indices.now).shape }
+        requires same_shape { (target_box target.old).shape ≡ (box_of region.now).shape }
         ensures target { IsTarget target.new }
         ensures same_bytes { target.new.bytes.ghost_name ≡ target.old.bytes.ghost_name }
         ensures same_masks { target.new.masks.ghost_name ≡ target.old.masks.ghost_name }
         ensures same_box { SameBox target.old target.new }
-        ensures read { OnOk result (HasPositions (layout_of self.now)
-            (box_at (layout_of self.now).grid chunk_indices.now) (store_of S.state self.now)
-            (parent_box target.old) (target_box target.old) (data_of_target target.new)) }
-        ensures whole { OnOk result (IsBroken (layout_of self.now) chunk_indices.now
-            (store_of S.state self.now) → ⊥) }
+        ensures read { OnOk result (ReadsOneMoreInto (layout_of self.now) filled
+            (box_of region.now) chunk_indices.now (store_of S.state self.now)
+            (parent_box target.old) (target_box target.old) (data_of_target target.old)
+            (data_of_target target.new)) }
         ensures refused { IfErr result (λ e. RefusesSomeChunk (layout_of self.now)
             (box_of region.now) (chunk_indices.now ∷ []) (store_of S.state self.now)
             (refusal_of e)) }
         ensures outside { StaysOutside target.old target.new }
     {
-        let data_type = &self.layout.data_type;
-        let fill_value = &self.layout.fill_value;
         let Some(encoded) = self.stored_bytes(alloc, chunk_indices)? else {
-            copy_fill_value_into(alloc, data_type, fill_value, target)?;
+            return self.read_absent_into(alloc, region, chunk_indices, target, filled);
+        };
+        let grid = &self.layout.grid;
+        let Some(own) = shared_in(alloc, grid, region, chunk_indices, target.region)? else {
             return Ok(());
         };
-        let chain = &self.layout.chain;
-        chain.decode_into(alloc, &encoded, data_type, fill_value, target)?;
+        let ArrayLayout {
+            chain,
+            data_type,
+            fill_value,
+            ..
+        } = &self.layout;
+        let mut part = target.subdivide(&own);
+        let done = chain.decode_into(alloc, &encoded, data_type, fill_value, &mut part.target);
+        target.rejoin(part);
+        done?;
         Ok(())
     }
 
-    /// Reads a part of a chunk into the target's box, which has its shape. No other bytes of the chunk are read than
-    /// those that the part needs.
+    /// The same, of a chunk of which the region covers a part alone. No other bytes of the chunk are read than those that
+    /// the part needs.
     fn read_part_into(
         &self,
         alloc: Global,
         region: &ArraySubset,
         chunk_indices: &[u64],
-        chunk: &ArraySubset,
-        shared: &Shared,
         target: &mut ArrayBytesDecodeIntoTarget<'_, '_, '_>,
+        filled: bool,
     ) -> Result<(), ArrayError>
         requires boxed { has_box (layout_of self.now).grid chunk_indices.now ≡ true }
-        requires chunk { box_of chunk.now ≡ box_at (layout_of self.now).grid chunk_indices.now }
-        requires shared { AreShared (box_of region.now) (box_of chunk.now)
-            (box_of shared.now.region) (box_of shared.now.part) }
-        requires ask { MayDecodePart (layout_of self.now) (box_of shared.now.part)
-            chunk_indices.now (store_of S.state self.now) }
+        requires dimensions { length (box_of region.now).start
+            ≡ (layout_of self.now).grid.dimensions }
+        requires part { IsPart (layout_of self.now) (box_of region.now) chunk_indices.now }
+        requires ask { MayDecodePart (layout_of self.now) (chunk_part (box_of region.now)
+            (box_at (layout_of self.now).grid chunk_indices.now)) chunk_indices.now
+            (store_of S.state self.now) }
         requires target { IsTarget target.old }
         requires takes { takes_type target.old.cell_size target.old.depth (layout_of self.now).kind
             ≡ true }
-        requires same_shape { (target_box target.old).shape ≡ (box_of shared.now.region).shape }
+        requires same_shape { (target_box target.old).shape ≡ (box_of region.now).shape }
         ensures target { IsTarget target.new }
         ensures same_bytes { target.new.bytes.ghost_name ≡ target.old.bytes.ghost_name }
         ensures same_masks { target.new.masks.ghost_name ≡ target.old.masks.ghost_name }
         ensures same_box { SameBox target.old target.new }
-        ensures read { OnOk result (HasPositions (layout_of self.now) (box_of shared.now.region)
-            (store_of S.state self.now) (parent_box target.old) (target_box target.old)
+        ensures read { OnOk result (ReadsOneMoreInto (layout_of self.now) filled
+            (box_of region.now) chunk_indices.now (store_of S.state self.now)
+            (parent_box target.old) (target_box target.old) (data_of_target target.old)
             (data_of_target target.new)) }
         ensures refused { IfErr result (λ e. RefusesSomeChunk (layout_of self.now)
             (box_of region.now) (chunk_indices.now ∷ []) (store_of S.state self.now)
@@ -314,47 +278,72 @@ impl<
     {
         let key = self.layout.chunk_key(alloc, chunk_indices)?;
         let Some(source) = StoredValue::open(alloc, &self.storage, &key)? else {
-            let data_type = &self.layout.data_type;
-            copy_fill_value_into(alloc, data_type, &self.layout.fill_value, target)?;
+            return self.read_absent_into(alloc, region, chunk_indices, target, filled);
+        };
+        let chunk = self.layout.chunk_extents(alloc, chunk_indices)?;
+        let grid = &self.layout.grid;
+        let Some(part) = part_in_chunk(alloc, grid, region, chunk_indices)? else {
             return Ok(());
         };
-        if self.layout.cell_count(chunk).is_none() {
-            return Err(ArrayError::SizeOverflow);
-        }
-        self.layout
-            .decode_part_into(alloc, chunk, &source, &shared.part, target)
+        let Some(own) = shared_in(alloc, grid, region, chunk_indices, target.region)? else {
+            return Ok(());
+        };
+        let shape = chunk.shape.as_slice();
+        let mut lent = target.subdivide(&own);
+        let done = self
+            .layout
+            .decode_part_into(alloc, shape, &source, &part, &mut lent.target);
+        target.rejoin(lent);
+        done
     }
-}
 
-ghost use Rattle.std.specs.Prelude.{◌≡◌, ◌+◌, ◌<◌, ◌^◌, ℕ, IfOk, length, slice_index};
-ghost use Rattle.zarrs_subset.specs.Regions.{box_of, seen_from, shifted_box, LiesInBox};
-
-/// A box that lies in a region, as it lies in a box of the same shape.
-fn moved_box(
-    alloc: Global,
-    subset: &ArraySubset,
-    region: &ArraySubset,
-    own: &ArraySubset,
-) -> Result<ArraySubset, AllocError>
-    requires inside { LiesInBox (box_of subset.now) (box_of region.now) }
-    requires same_shape { (box_of own.now).shape ≡ (box_of region.now).shape }
-    ensures { IfOk result (λ moved. box_of moved ≡ shifted_box
-        (seen_from (box_of subset.now) (box_of region.now).start) (box_of own.now).start) }
-{
-    let seen = seen_from_corner(alloc, subset, region.start())?;
-    shifted(alloc, &seen, own.start())
-}
-
-/// The box, shifted by the start of another.
-fn shifted(alloc: Global, subset: &ArraySubset, offset: &[u64]) -> Result<ArraySubset, AllocError>
-    requires dimensions { length offset.now ≡ length (box_of subset.now).start }
-    requires ends { (k : ℕ) → k < length offset.now → slice_index (box_of subset.now).start k
-        + slice_index (box_of subset.now).shape k + slice_index offset.now k < 2 ^ 64 }
-    ensures { IfOk result (λ own. box_of own ≡ shifted_box (box_of subset.now) offset.now) }
-{
-    match subset.shifted_by(alloc, offset) {
-        Ok(own) => Ok(own),
-        Err(ArraySubsetError::OutOfMemory) => Err(AllocError),
-        Err(_) => unreachable!(),
+    /// The same, of a chunk that is absent.
+    fn read_absent_into(
+        &self,
+        alloc: Global,
+        region: &ArraySubset,
+        chunk_indices: &[u64],
+        target: &mut ArrayBytesDecodeIntoTarget<'_, '_, '_>,
+        filled: bool,
+    ) -> Result<(), ArrayError>
+        requires boxed { has_box (layout_of self.now).grid chunk_indices.now ≡ true }
+        requires dimensions { length (box_of region.now).start
+            ≡ (layout_of self.now).grid.dimensions }
+        requires absent { value_at (store_of S.state self.now)
+            ((layout_of self.now).key chunk_indices.now) ≡ None }
+        requires target { IsTarget target.old }
+        requires takes { takes_type target.old.cell_size target.old.depth (layout_of self.now).kind
+            ≡ true }
+        requires same_shape { (target_box target.old).shape ≡ (box_of region.now).shape }
+        ensures target { IsTarget target.new }
+        ensures same_bytes { target.new.bytes.ghost_name ≡ target.old.bytes.ghost_name }
+        ensures same_masks { target.new.masks.ghost_name ≡ target.old.masks.ghost_name }
+        ensures same_box { SameBox target.old target.new }
+        ensures read { OnOk result (ReadsOneMoreInto (layout_of self.now) filled
+            (box_of region.now) chunk_indices.now (store_of S.state self.now)
+            (parent_box target.old) (target_box target.old) (data_of_target target.old)
+            (data_of_target target.new)) }
+        ensures refused { IfErr result (λ e. RefusesSomeChunk (layout_of self.now)
+            (box_of region.now) (chunk_indices.now ∷ []) (store_of S.state self.now)
+            (refusal_of e)) }
+        ensures outside { StaysOutside target.old target.new }
+    {
+        if filled {
+            return Ok(());
+        }
+        let grid = &self.layout.grid;
+        let Some(own) = shared_in(alloc, grid, region, chunk_indices, target.region)? else {
+            return Ok(());
+        };
+        let ArrayLayout {
+            data_type,
+            fill_value,
+            ..
+        } = &self.layout;
+        let mut part = target.subdivide(&own);
+        let done = copy_fill_value_into(alloc, data_type, fill_value, &mut part.target);
+        target.rejoin(part);
+        done?;
+        Ok(())
     }
 }

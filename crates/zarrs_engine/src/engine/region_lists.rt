@@ -6,6 +6,7 @@ use zarrs_chunk_grid::ChunkGridTraits;
 use zarrs_codec_chain::ChainTraits;
 use zarrs_data_type::{ArrayBytes, ArrayBytesDecodeIntoTarget, DataType};
 use zarrs_engine_calls::ArrayError;
+use zarrs_engine_layout::ArrayLayout;
 use zarrs_keys::ChunkKeyEncodingTraits;
 use zarrs_storage::ReadableStorageTraits;
 use zarrs_subset::ArraySubset;
@@ -16,14 +17,16 @@ impl<
     K: ChunkKeyEncodingTraits,
     C: ChainTraits,
 > Engine<S, G, K, C> {
-    ghost use Rattle.std.specs.Prelude.{◌≡◌, ◌*◌, ◌<◌, ◌^◌, true, None, IfErr, IfOk, OnOk, length};
+    ghost use Rattle.std.specs.Prelude.{◌≡◌, ◌*◌, ◌<◌, ◌^◌, true, None, Some, IfErr, IfOk, OnOk, length};
+    ghost use Rattle.std.specs.Prelude.{replicate};
     ghost use Rattle.zarrs_engine_layout.specs.Covers.{CoverRegion};
     ghost use Rattle.zarrs_engine_calls.specs.ArgumentRefusals.{size_refusal};
     ghost use Rattle.zarrs_engine_calls.specs.Reach.{MayReadParts};
     ghost use Rattle.zarrs_engine_calls.specs.Reads.{ReadsRegion};
     ghost use Rattle.zarrs_engine_calls.specs.Refusals.{refusal_of};
     ghost use Rattle.zarrs_engine_calls.specs.StateRefusals.{RefusesRegionRead, RefusesSomeChunk};
-    ghost use Rattle.zarrs_data_type.specs.ArrayData.{data_of};
+    ghost use Rattle.zarrs_data_type.specs.ArrayData.{data_of, fixed};
+    ghost use Rattle.zarrs_data_type.specs.Cells.{cells};
     ghost use Rattle.zarrs_subset.specs.Boxes.{position_count};
     ghost use Rattle.zarrs_subset.specs.Regions.{box_at_origin, box_of, positions};
     ghost use Rattle.zarrs_data_type.specs.Targets.{masked, takes_type};
@@ -53,14 +56,44 @@ impl<
             (positions (box_of chunks.now)) (store_of S.state self.now) (refusal_of e)) }
     {
         let count = self.count_to_read(region)? as usize;
-        let mut bytes = vec![in alloc; 0u8; count * form.size]?;
+        let mut bytes = self.first_bytes(alloc, count, form)?;
         let mut masks = zero_masks(alloc, count, form.depth)?;
         self.read_into_list(alloc, region, chunks, form, &mut bytes, &mut masks)?;
         let made = under_masks(alloc, form.depth, count, into_flags(masks), bytes)?;
         Ok(made)
     }
 
-    /// Reads the region into a list of its cells, and of their masks.
+    /// What the bytes of so many cells begin as: fill values, or zeros that lie under masks.
+    fn first_bytes(
+        &self,
+        alloc: Global,
+        count: usize,
+        form: CellForm,
+    ) -> Result<Vec<u8>, AllocError>
+        requires takes { takes_type form.size form.depth (layout_of self.now).kind ≡ true }
+        requires size { count * form.size < 2 ^ 64 }
+        ensures len { IfOk result (λ made. length made.items ≡ count * form.size) }
+        ensures filled { IfOk result (λ made. form.depth ≡ 0
+            → cells (layout_of self.now).kind (fixed made.items)
+            ≡ Some (replicate count (layout_of self.now).fill)) }
+    {
+        if form.depth > 0 {
+            return vec![in alloc; 0u8; count * form.size];
+        }
+        let ArrayLayout {
+            data_type,
+            fill_value,
+            ..
+        } = &self.layout;
+        let made = ArrayBytes::new_fill_value(alloc, data_type, count as u64, fill_value)?;
+        let ArrayBytes::Fixed(bytes) = made else {
+            unreachable!()
+        };
+        let first = bytes.into_owned(alloc)?;
+        Ok(first)
+    }
+
+    /// Reads the region into a list of its cells, and of their masks. Where there is no mask, the bytes are fill values.
     fn read_into_list(
         &self,
         alloc: Global,
@@ -81,6 +114,9 @@ impl<
             ≡ position_count (box_of region.now).shape * form.size }
         requires masks_len { length masks.old
             ≡ position_count (box_of region.now).shape * form.depth }
+        requires filled { form.depth ≡ 0 → cells (layout_of self.now).kind (fixed bytes.old)
+            ≡ Some (replicate (position_count (box_of region.now).shape)
+            (layout_of self.now).fill) }
         ensures read { OnOk result (HasReadInto (layout_of self.now) (box_of region.now)
             (positions (box_of chunks.now)) (store_of S.state self.now)
             (box_at_origin (box_of region.now).shape) (box_at_origin (box_of region.now).shape)
@@ -98,7 +134,7 @@ impl<
             region.shape(),
             &own,
         );
-        self.read_into(alloc, region, chunks, &mut target)
+        self.read_into(alloc, region, chunks, &mut target, form.depth == 0)
     }
 }
 

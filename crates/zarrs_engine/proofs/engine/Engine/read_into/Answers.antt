@@ -8,8 +8,8 @@ use Rattle.zarrs_data_type_region.proofs.TargetLevels.{masked_keeps}
 use Rattle.zarrs_engine_calls.specs.Refusals.{refusal_of}
 use Rattle.zarrs_engine_layout.proofs.RegionRefusals.{some_wider}
 use Rattle.zarrs_engine.specs.Engine.{layout_of}
-use Rattle.zarrs_engine.specs.TargetReads.{HasReadInto}
-use Rattle.zarrs_engine.proofs.TargetReads.{into_last, into_next, into_none}
+use Rattle.zarrs_engine.specs.TargetReads.{HasReadInto, HasReadSoFar}
+use Rattle.zarrs_engine.proofs.TargetReads.{into_last, into_next, into_none, so_far_none}
 use Rattle.zarrs_engine.proofs.IntoReads.{same_more, same_takes, same_twice, stays_more}
 use Rattle.zarrs_engine.proofs.RegionSteps.{at_among}
 use Rattle.zarrs_engine.proofs.engine.Engine.read_into.Goals as goal
@@ -49,8 +49,8 @@ loop-walk-init g c =
       same_masks = refl;
       same_target = record { cell_size = refl; depth = refl; parent_shape = refl; region = refl };
       stays = masked_keeps t.cell_size (parent_box t) (target_box t) t.depth (position_count t.parent_shape.now) t.masks.now t.bytes.now;
-      read = subst (λ n. HasReadInto layout region (take n chunks) state (parent_box t) (target_box t) (data_of_target t)) (sym first)
-          (into_none layout c.args.self.now.layout.lawful region state (parent_box t) (target_box t) (data_of_target t));
+      read = subst (λ n. HasReadSoFar layout c.args.filled region (take n chunks) state (parent_box t) (target_box t) (data_of_target t)) (sym first)
+          (so_far_none layout c.args.self.now.layout.lawful region state (parent_box t) (target_box t) c.args.filled (data_of_target t) c.requires.filled);
     }
 
 pub read_chunk_into-requires-clause-boxed : goal.read_chunk_into-requires-clause-boxed
@@ -122,9 +122,9 @@ returns-then-not-advance-clause-read g c =
     let index = c.current.result.now in
     let at = subst (λ (b : Box). slice_get (positions b) n ≡ Some index) i.same_box c.current.ensures in
     let last = subst (λ (b : Box). n + 1 ≡ length (positions b)) i.same_box c.if-not-advance.ensures.last in
-    let one = same_more layout region index state t l (data_of_target l) (data_of_target new) i.same_target c.in_ok-read_chunk_into.ensures.read in
+    let one = same_more layout c.args.filled region index state t l (data_of_target l) (data_of_target new) i.same_target c.in_ok-read_chunk_into.ensures.read in
     into_last layout lawful region state (parent_box t) (target_box t) chunks (n + 1) (data_of_target new) last
-    (into_next layout lawful region state (parent_box t) (target_box t) chunks n (n + 1) index (data_of_target l) (data_of_target new) refl at i.read one)
+    (into_next layout lawful region state (parent_box t) (target_box t) c.args.filled chunks n (n + 1) index (data_of_target l) (data_of_target new) refl at i.read one).read
 
 pub returns-then-not-advance-clause-outside : goal.returns-then-not-advance-clause-outside
 returns-then-not-advance-clause-outside g c =
@@ -145,7 +145,7 @@ loop-walk-preserved g c =
     let n = walk_number c.loop-walk.walk in
     let index = c.current.result.now in
     let at = subst (λ (b : Box). slice_get (positions b) n ≡ Some index) i.same_box c.current.ensures in
-    let one = same_more layout region index state t l (data_of_target l) (data_of_target new) i.same_target c.in_ok-read_chunk_into.ensures.read in
+    let one = same_more layout c.args.filled region index state t l (data_of_target l) (data_of_target new) i.same_target c.in_ok-read_chunk_into.ensures.read in
     record {
       same_box = c.if-not-advance.ensures.same_box ∙ i.same_box;
       is_target = c.read_chunk_into.ensures.target;
@@ -153,5 +153,5 @@ loop-walk-preserved g c =
       same_masks = c.read_chunk_into.ensures.same_masks ∙ i.same_masks;
       same_target = same_twice t l new i.same_target c.read_chunk_into.ensures.same_box;
       stays = stays_more t l new i.same_target i.stays c.read_chunk_into.ensures.outside;
-      read = into_next layout lawful region state (parent_box t) (target_box t) chunks n _ index (data_of_target l) (data_of_target new) c.if-not-advance.ensures.next at i.read one;
+      read = into_next layout lawful region state (parent_box t) (target_box t) c.args.filled chunks n _ index (data_of_target l) (data_of_target new) c.if-not-advance.ensures.next at i.read one;
     }

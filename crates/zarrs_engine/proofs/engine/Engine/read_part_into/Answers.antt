@@ -1,23 +1,35 @@
-use Rattle.std.proofs.Common.{◌≡◌, ◌∙◌, ℕ, List, [], ◌∷◌, true, Some, ap, sym, subst, rules}
+use Rattle.std.proofs.Common.{◌≡◌, ◌∙◌, ℕ, List, [], ◌∷◌, true, false, None, Some, length, ap, refl, sym, subst, rules}
 use Rattle.std.proofs.lemmas.Result.{IfErr-weaker, on_ok_weaker}
 use Rattle.zarrs_subset.specs.Boxes.{position_count}
-use Rattle.zarrs_subset.specs.Regions.{Box, Holds, box_of}
-use Rattle.zarrs_storage.specs.Store.{StoreState}
+use Rattle.zarrs_subset.specs.Regions.{Box, Holds, LiesInShape, box_of, overlap_of, seen_from}
 use Rattle.zarrs_subset.proofs.Inside.{holds_inside}
+use Rattle.zarrs_chunk_grid.specs.Grids.{box_at}
+use Rattle.zarrs_chunk_grid.proofs.Chunks.{box_dimensions, box_long}
+use Rattle.zarrs_storage.specs.Store.{StoreState}
 use Rattle.zarrs_data_type.specs.States.{data_of_target, parent_box, target_box}
 use Rattle.zarrs_data_type_region.proofs.TargetBoxes.{lies_at_origin, origin_long}
 use Rattle.zarrs_data_type_region.proofs.TargetLevels.{masked_keeps}
-use Rattle.zarrs_codec_chain.specs.Parts.{DecodesPartAt}
+use Rattle.zarrs_codec_chain.specs.Parts.{DecodesInto, DecodesPartAt}
+use Rattle.zarrs_codec_chain.specs.PartRefusals.{RefusesIntoDecoding}
+use Rattle.zarrs_codec_chain.proofs.MovedBoxes.{overlap_inside}
 use Rattle.zarrs_codec_leaf.specs.Stored.{key_of_source, state_of_source, value_or_empty}
+use Rattle.zarrs_engine_calls.specs.ChunkBoxes.{CoversBox}
 use Rattle.zarrs_engine_calls.specs.Content.{decoded_cells, value_at}
 use Rattle.zarrs_engine_calls.specs.Errors.{error_of_storage}
+use Rattle.zarrs_engine_calls.specs.Reads.{IsBroken}
 use Rattle.zarrs_engine_calls.specs.Refusals.{is_too_large, refusal_of}
 use Rattle.zarrs_engine_calls.specs.StateRefusals.{RefusesSomeChunk}
 use Rattle.zarrs_engine_calls.proofs.Contents.{absent_fill, index_list}
-use Rattle.zarrs_engine_layout.specs.Shared.{AreShared}
+use Rattle.zarrs_engine_calls.proofs.RefusalLemmas.{box_accepted}
+use Rattle.zarrs_engine_layout.specs.Shared.{AreApart, AreShared, IsSharedIn}
+use Rattle.zarrs_engine_layout.specs.Steps.{RefusesPartBytes}
+use Rattle.zarrs_engine_layout.proofs.RegionRefusals.{some_key, some_size}
 use Rattle.zarrs_engine.specs.Engine.{layout_of}
-use Rattle.zarrs_engine.proofs.PartBytes.{key_why, none_of, part_why, size_why, source_value}
-use Rattle.zarrs_engine.proofs.TargetReads.{filled_positions, part_positions}
+use Rattle.zarrs_engine.specs.TargetReads.{HasPositions, ReadsOneMoreInto}
+use Rattle.zarrs_engine.proofs.IntoReads.{into_why, same_takes, same_twice}
+use Rattle.zarrs_engine.proofs.LentParts.{IsTakenBack, back_reads, back_stays, made_lies}
+use Rattle.zarrs_engine.proofs.PartBytes.{key_why, part_why, source_value}
+use Rattle.zarrs_engine.proofs.TargetReads.{decoded_positions, filled_positions, into_absent, into_apart, is_long, part_positions}
 use Rattle.zarrs_engine.proofs.engine.Engine.read_part_into.Goals as goal
 
 pub returns-in_err-key-clause-outside : goal.returns-in_err-key-clause-outside
@@ -29,7 +41,10 @@ pub open-requires : goal.open-requires
 open-requires g c =
     let layout = layout_of c.args.self.now in
     let state = g.S.ReadableStorageTraits.state c.args.self.now.storage in
-    let words = index_list layout c.args.self.now.layout.lawful c.args.chunk_indices.now c.requires.boxed in
+    let region = box_of c.args.region.now in
+    let index = c.args.chunk_indices.now in
+    let chunk = box_at layout.grid index in
+    let words = index_list layout c.args.self.now.layout.lawful index c.requires.boxed in
     subst (λ (key : List ℕ). state.may_ask key ≡ true) (sym c.in_ok-key.ensures.key) (c.requires.ask.key words)
 
 pub returns-in_err-source-clause-outside : goal.returns-in_err-source-clause-outside
@@ -43,63 +58,138 @@ returns-in_err-source-clause-refused g c =
     let state = g.S.ReadableStorageTraits.state c.args.self.now.storage in
     let region = box_of c.args.region.now in
     let index = c.args.chunk_indices.now in
+    let chunk = box_at layout.grid index in
     let e = c.in_err-source.field-0.0 in
     let why : RefusesSomeChunk layout region (index ∷ []) state (refusal_of (error_of_storage e)) = key_why layout region index state c.requires.boxed _ e c.in_ok-key.ensures.key c.in_err-source.ensures.refused in
     search (rules, why)
 
-pub returns-in_default-clause-read : goal.returns-in_default-clause-read
-returns-in_default-clause-read g c =
+pub read_absent_into-requires-clause-absent : goal.read_absent_into-requires-clause-absent
+read_absent_into-requires-clause-absent g c =
     let layout = layout_of c.args.self.now in
-    let lawful = c.args.self.now.layout.lawful in
     let state = g.S.ReadableStorageTraits.state c.args.self.now.storage in
+    let region = box_of c.args.region.now in
     let index = c.args.chunk_indices.now in
-    let t = c.args.target.now in
-    let shared = box_of c.args.shared.now.region in
-    let chunk = box_of c.args.chunk.now in
-    let absent = ap (value_at state) (sym c.in_ok-key.ensures.key) ∙ (rw c.in_default.is at c.in_ok-source.ensures.absent) in
-    filled_positions layout lawful state (parent_box t) (target_box t) (origin_long t.parent_shape.now) t.region.now.same_length (lies_at_origin (target_box t) t.parent_shape.now c.requires.target.inside)
-    shared (data_of_target t) (data_of_target c.copy_fill_value_into.new.target) c.args.shared.now.region.same_length c.requires.same_shape
-    (λ position holds.
-    let inside = holds_inside shared chunk position c.args.shared.now.region.same_length c.args.chunk.now.same_length c.requires.shared.in_chunk holds in
-    absent_fill layout (value_at state) lawful index c.requires.boxed absent position (subst (λ (b : Box). Holds b position) c.requires.chunk inside))
-    c.in_ok-copy_fill_value_into.ensures.fills
+    let chunk = box_at layout.grid index in
+    ap (value_at state) (sym c.in_ok-key.ensures.key) ∙ (rw c.in_default.is at c.in_ok-source.ensures.absent)
 
-pub returns-then-is_none-clause-refused : goal.returns-then-is_none-clause-refused
-returns-then-is_none-clause-refused g c =
+pub returns-in_err-chunk-clause-refused : goal.returns-in_err-chunk-clause-refused
+returns-in_err-chunk-clause-refused g c =
     let layout = layout_of c.args.self.now in
-    let index = c.args.chunk_indices.now in
     let state = g.S.ReadableStorageTraits.state c.args.self.now.storage in
+    let region = box_of c.args.region.now in
+    let index = c.args.chunk_indices.now in
+    let chunk = box_at layout.grid index in
     let source = c.in-Some.source in
     let state_is : state_of_source source ≡ state = rw c.in-Some.is at c.in_ok-source.ensures.state in
     let key_is : key_of_source source ≡ layout.key index = (rw c.in-Some.is at c.in_ok-source.ensures.key) ∙ c.in_ok-key.ensures.key in
     let found = source_value (state_of_source source) state (key_of_source source) (layout.key index) source.size state_is key_is source.sized in
-    let large = none_of c.cell_count.result c.is_none.result _ c.is_none.ensures c.if-is_none.true c.cell_count.ensures.large in
-    size_why layout (box_of c.args.region.now) index state c.requires.boxed found.0 found.1 (subst (λ (b : Box). is_too_large layout b.shape ≡ true) c.requires.chunk large)
+    let why = some_size layout region index state c.requires.boxed found.0 found.1 (refusal_of c.in_err-chunk.field-0.0) c.in_err-chunk.ensures.refused in
+    search (rules, why)
 
-pub returns-then-is_none-clause-outside : goal.returns-then-is_none-clause-outside
-returns-then-is_none-clause-outside g c =
+pub returns-in_err-chunk-clause-outside : goal.returns-in_err-chunk-clause-outside
+returns-in_err-chunk-clause-outside g c =
     let t = c.args.target.now in
     masked_keeps t.cell_size (parent_box t) (target_box t) t.depth (position_count t.parent_shape.now) t.masks.now t.bytes.now
 
-pub decode_part_into-requires-clause-may_read : goal.decode_part_into-requires-clause-may_read
-decode_part_into-requires-clause-may_read g c = λ place needed.
+pub returns-in_err-part-clause-outside : goal.returns-in_err-part-clause-outside
+returns-in_err-part-clause-outside g c =
+    let t = c.args.target.now in
+    masked_keeps t.cell_size (parent_box t) (target_box t) t.depth (position_count t.parent_shape.now) t.masks.now t.bytes.now
+
+pub returns-in_default-2-clause-read : goal.returns-in_default-2-clause-read
+returns-in_default-2-clause-read g c =
     let layout = layout_of c.args.self.now in
-    let index = c.args.chunk_indices.now in
-    let part = box_of c.args.shared.now.part in
     let state = g.S.ReadableStorageTraits.state c.args.self.now.storage in
+    let t = c.args.target.now in
+    let apart = rw c.in_default-2.is at c.in_ok-part.ensures.none in
+    into_apart layout c.args.self.now.layout.lawful (box_of c.args.region.now) state (parent_box t) (target_box t) c.args.filled c.args.chunk_indices.now c.requires.boxed (data_of_target t) apart
+
+pub returns-in_default-2-clause-outside : goal.returns-in_default-2-clause-outside
+returns-in_default-2-clause-outside g c =
+    let t = c.args.target.now in
+    masked_keeps t.cell_size (parent_box t) (target_box t) t.depth (position_count t.parent_shape.now) t.masks.now t.bytes.now
+
+pub returns-in_err-own-clause-outside : goal.returns-in_err-own-clause-outside
+returns-in_err-own-clause-outside g c =
+    let t = c.args.target.now in
+    masked_keeps t.cell_size (parent_box t) (target_box t) t.depth (position_count t.parent_shape.now) t.masks.now t.bytes.now
+
+pub returns-in_default-3-clause-read : goal.returns-in_default-3-clause-read
+returns-in_default-3-clause-read g c =
+    let layout = layout_of c.args.self.now in
+    let state = g.S.ReadableStorageTraits.state c.args.self.now.storage in
+    let t = c.args.target.now in
+    let apart = rw c.in_default-3.is at c.in_ok-own.ensures.none in
+    into_apart layout c.args.self.now.layout.lawful (box_of c.args.region.now) state (parent_box t) (target_box t) c.args.filled c.args.chunk_indices.now c.requires.boxed (data_of_target t) apart
+
+pub returns-in_default-3-clause-outside : goal.returns-in_default-3-clause-outside
+returns-in_default-3-clause-outside g c =
+    let t = c.args.target.now in
+    masked_keeps t.cell_size (parent_box t) (target_box t) t.depth (position_count t.parent_shape.now) t.masks.now t.bytes.now
+
+pub subdivide-lent-requires-clause-inside : goal.subdivide-lent-requires-clause-inside
+subdivide-lent-requires-clause-inside g c =
+    let layout = layout_of c.args.self.now in
+    let t = c.args.target.now in
+    let index = c.args.chunk_indices.now in
+    made_lies (target_box t) (box_of c.args.region.now) (box_at layout.grid index) (box_of c.in-Some-3.own) t.region.now.same_length c.args.region.now.same_length (box_long layout.grid index) c.requires.same_shape
+    (rw c.in-Some-3.is at c.in_ok-own.ensures.some)
+
+pub decode_part_into-done-requires-clause-takes : goal.decode_part_into-done-requires-clause-takes
+decode_part_into-done-requires-clause-takes g c =
+    let p = c.subdivide-lent.result.target in
+    let same = c.subdivide-lent.ensures.same_parent in
+    same_takes c.args.target.now p (layout_of c.args.self.now).kind same.cell_size same.depth c.requires.takes
+
+pub decode_part_into-done-requires-clause-fit : goal.decode_part_into-done-requires-clause-fit
+decode_part_into-done-requires-clause-fit g c =
+    let layout = layout_of c.args.self.now in
+    let shape = c.as_slice-shape.ensures ∙ c.in_ok-chunk.ensures.shape in
+    subst (λ (s : List ℕ). is_too_large layout s ≡ false) (sym shape) (box_accepted layout c.args.chunk_indices.now c.in_ok-chunk.ensures.accepted).1
+
+pub decode_part_into-done-requires-clause-part : goal.decode_part_into-done-requires-clause-part
+decode_part_into-done-requires-clause-part g c =
+    let layout = layout_of c.args.self.now in
+    let state = g.S.ReadableStorageTraits.state c.args.self.now.storage in
+    let region = box_of c.args.region.now in
+    let index = c.args.chunk_indices.now in
+    let chunk = box_at layout.grid index in
+    let shared = rw c.in-Some-2.is at c.in_ok-part.ensures.some in
+    subst (λ (s : List ℕ). LiesInShape (box_of c.in-Some-2.part) s) (sym (c.as_slice-shape.ensures ∙ c.in_ok-chunk.ensures.shape)) shared.lies
+
+pub decode_part_into-done-requires-clause-may_read : goal.decode_part_into-done-requires-clause-may_read
+decode_part_into-done-requires-clause-may_read g c = λ place needed.
+    let layout = layout_of c.args.self.now in
+    let state = g.S.ReadableStorageTraits.state c.args.self.now.storage in
+    let region = box_of c.args.region.now in
+    let index = c.args.chunk_indices.now in
+    let chunk = box_at layout.grid index in
     let source = c.in-Some.source in
     let state_is : state_of_source source ≡ state = rw c.in-Some.is at c.in_ok-source.ensures.state in
     let key_is : key_of_source source ≡ layout.key index = (rw c.in-Some.is at c.in_ok-source.ensures.key) ∙ c.in_ok-key.ensures.key in
     let found = source_value (state_of_source source) state (key_of_source source) (layout.key index) source.size state_is key_is source.sized in
+    let part = box_of c.in-Some-2.part in
+    let shared = rw c.in-Some-2.is at c.in_ok-part.ensures.some in
+    let shape : c.as_slice-shape.result.now ≡ chunk.shape = c.as_slice-shape.ensures ∙ c.in_ok-chunk.ensures.shape in
     let words = index_list layout c.args.self.now.layout.lawful index c.requires.boxed in
-    let there = subst (λ (b : Box). layout.chain.places layout.kind b.shape part found.0 place ≡ true) c.requires.chunk
-    (subst (λ (v : List ℕ). layout.chain.places layout.kind (box_of c.args.chunk.now).shape part v place ≡ true) found.2 needed) in
+    let there = subst (λ (b : Box). layout.chain.places layout.kind chunk.shape b found.0 place ≡ true) shared.part_is
+    (subst (λ (s : List ℕ). layout.chain.places layout.kind s part found.0 place ≡ true) shape
+    (subst (λ (v : List ℕ). layout.chain.places layout.kind c.as_slice-shape.result.now part v place ≡ true) found.2 needed)) in
     let may = c.requires.ask.places words found.0 place found.1 there in
     subst (λ (s : StoreState). s.may_read (key_of_source source) place ≡ true) (sym state_is)
     (subst (λ (key : List ℕ). state.may_read key place ≡ true) (sym key_is) may)
 
-pub decode_part_into-requires-clause-same_shape : goal.decode_part_into-requires-clause-same_shape
-decode_part_into-requires-clause-same_shape g c = c.requires.same_shape ∙ sym (ap (λ (b : Box). b.shape) c.requires.shared.part_is)
+pub decode_part_into-done-requires-clause-same_shape : goal.decode_part_into-done-requires-clause-same_shape
+decode_part_into-done-requires-clause-same_shape g c =
+    let layout = layout_of c.args.self.now in
+    let state = g.S.ReadableStorageTraits.state c.args.self.now.storage in
+    let region = box_of c.args.region.now in
+    let index = c.args.chunk_indices.now in
+    let chunk = box_at layout.grid index in
+    let t = c.args.target.now in
+    let shared = rw c.in-Some-2.is at c.in_ok-part.ensures.some in
+    let is = rw c.in-Some-3.is at c.in_ok-own.ensures.some in
+    ap (λ (b : Box). b.shape) (ap box_of c.subdivide-lent.ensures.region ∙ is.made_is) ∙ sym (ap (λ (b : Box). b.shape) shared.part_is)
 
 pub returns-clause-read : goal.returns-clause-read
 returns-clause-read g c =
@@ -107,39 +197,93 @@ returns-clause-read g c =
     let lawful = c.args.self.now.layout.lawful in
     let state = g.S.ReadableStorageTraits.state c.args.self.now.storage in
     let index = c.args.chunk_indices.now in
-    let t = c.args.target.now in
-    let own = target_box t in
     let region = box_of c.args.region.now in
-    let shared = box_of c.args.shared.now.region in
-    let part = box_of c.args.shared.now.part in
+    let chunk = box_at layout.grid index in
+    let over = overlap_of region chunk in
+    let t = c.args.target.now in
+    let p = c.subdivide-lent.result.target in
+    let q = c.decode_part_into-done.new.target in
+    let u = c.rejoin.new.self in
+    let written = c.decode_part_into-done.ensures in
+    let back : IsTakenBack t p q u = record {
+      parent = c.subdivide-lent.ensures.same_parent;
+      lent_masks = c.subdivide-lent.ensures.masks;
+      lent_bytes = c.subdivide-lent.ensures.bytes;
+      written = written.same_box;
+      joined = same_twice t c.subdivide-lent.new.self u c.subdivide-lent.ensures.same_box c.rejoin.ensures.same_box;
+      joined_masks = c.rejoin.ensures.masks;
+      joined_bytes = c.rejoin.ensures.bytes;
+    } in
+    let made = box_of c.in-Some-3.own in
+    let is : IsSharedIn (target_box t) region chunk made = rw c.in-Some-3.is at c.in_ok-own.ensures.some in
+    let made_is : target_box p ≡ made = ap box_of c.subdivide-lent.ensures.region in
+    let region_long = c.args.region.now.same_length in
+    let chunk_long = box_long layout.grid index in
     let source = c.in-Some.source in
     let state_is : state_of_source source ≡ state = rw c.in-Some.is at c.in_ok-source.ensures.state in
     let key_is : key_of_source source ≡ layout.key index = (rw c.in-Some.is at c.in_ok-source.ensures.key) ∙ c.in_ok-key.ensures.key in
     let found = source_value (state_of_source source) state (key_of_source source) (layout.key index) source.size state_is key_is source.sized in
+    let part = box_of c.in-Some-2.part in
+    let shared = rw c.in-Some-2.is at c.in_ok-part.ensures.some in
+    let shape : c.as_slice-shape.result.now ≡ chunk.shape = c.as_slice-shape.ensures ∙ c.in_ok-chunk.ensures.shape in
     let bytes = value_or_empty (state_of_source source) (key_of_source source) in
-    let new = data_of_target c.decode_part_into.new.target in
-    let are = subst (λ (b : Box). AreShared region b shared part) c.requires.chunk c.requires.shared in
-    on_ok_weaker c.decode_part_into.result
+    on_ok_weaker c.decode_part_into-done.result
     (λ decodes.
-    part_positions layout lawful state (parent_box t) own (origin_long t.parent_shape.now) t.region.now.same_length (lies_at_origin own t.parent_shape.now c.requires.target.inside)
-    index c.requires.boxed region shared part bytes new c.args.region.now.same_length are c.requires.same_shape (found.1 ∙ ap Some (sym found.2))
-    (subst (λ (b : Box). DecodesPartAt layout.kind b.shape part (decoded_cells layout b bytes) (parent_box t) own new) c.requires.chunk decodes))
-    c.decode_part_into.ensures.cells
+    let cells = subst (λ (s : List ℕ). DecodesPartAt layout.kind s part (layout.chain.decoded layout.kind layout.fill s bytes) (parent_box p) (target_box p) (data_of_target q)) shape decodes in
+    let read = part_positions layout lawful state (parent_box p) (target_box p) (origin_long p.parent_shape.now) p.region.now.same_length
+    (lies_at_origin (target_box p) p.parent_shape.now c.subdivide-lent.ensures.target.inside) index c.requires.boxed region over part bytes (data_of_target q) region_long shared
+    (ap (λ (b : Box). b.shape) (made_is ∙ is.made_is)) (found.1 ∙ ap Some (sym found.2)) cells in
+    back_reads t p q u back t.region.now.same_length region chunk made region_long chunk_long c.requires.same_shape is made_is written.outside
+    layout lawful state c.args.filled index c.requires.boxed refl c.requires.target c.requires.takes read (λ covers broken. c.requires.part covers))
+    written.cells
 
 pub returns-clause-refused : goal.returns-clause-refused
 returns-clause-refused g c =
     let layout = layout_of c.args.self.now in
-    let index = c.args.chunk_indices.now in
     let state = g.S.ReadableStorageTraits.state c.args.self.now.storage in
+    let region = box_of c.args.region.now in
+    let index = c.args.chunk_indices.now in
+    let chunk = box_at layout.grid index in
     let source = c.in-Some.source in
     let state_is : state_of_source source ≡ state = rw c.in-Some.is at c.in_ok-source.ensures.state in
     let key_is : key_of_source source ≡ layout.key index = (rw c.in-Some.is at c.in_ok-source.ensures.key) ∙ c.in_ok-key.ensures.key in
     let found = source_value (state_of_source source) state (key_of_source source) (layout.key index) source.size state_is key_is source.sized in
     let bytes = value_or_empty (state_of_source source) (key_of_source source) in
+    let shape : c.as_slice-shape.result.now ≡ chunk.shape = c.as_slice-shape.ensures ∙ c.in_ok-chunk.ensures.shape in
     let same : (state_of_source source).refuses (key_of_source source) ≡ state.refuses (layout.key index) =
     ap (λ (s : StoreState). s.refuses (key_of_source source)) state_is ∙ ap state.refuses key_is in
-    IfErr-weaker c.decode_part_into.result _ _
+    IfErr-weaker c.decode_part_into-done.result _ _
     (λ e why.
-    part_why layout (box_of c.args.region.now) index state c.requires.boxed bytes ((state_of_source source).refuses (key_of_source source)) (box_of c.args.chunk.now) c.requires.chunk same
-    (found.1 ∙ ap Some (sym found.2)) (refusal_of e) why)
-    c.decode_part_into.ensures.refused
+    part_why layout region index state c.requires.boxed bytes ((state_of_source source).refuses (key_of_source source)) chunk refl same (found.1 ∙ ap Some (sym found.2)) (refusal_of e)
+    (subst (λ (s : List ℕ). RefusesPartBytes layout (record { start = chunk.start; shape = s }) bytes ((state_of_source source).refuses (key_of_source source)) (refusal_of e)) shape why))
+    c.decode_part_into-done.ensures.refused
+
+pub returns-clause-outside : goal.returns-clause-outside
+returns-clause-outside g c =
+    let layout = layout_of c.args.self.now in
+    let lawful = c.args.self.now.layout.lawful in
+    let state = g.S.ReadableStorageTraits.state c.args.self.now.storage in
+    let index = c.args.chunk_indices.now in
+    let region = box_of c.args.region.now in
+    let chunk = box_at layout.grid index in
+    let over = overlap_of region chunk in
+    let t = c.args.target.now in
+    let p = c.subdivide-lent.result.target in
+    let q = c.decode_part_into-done.new.target in
+    let u = c.rejoin.new.self in
+    let written = c.decode_part_into-done.ensures in
+    let back : IsTakenBack t p q u = record {
+      parent = c.subdivide-lent.ensures.same_parent;
+      lent_masks = c.subdivide-lent.ensures.masks;
+      lent_bytes = c.subdivide-lent.ensures.bytes;
+      written = written.same_box;
+      joined = same_twice t c.subdivide-lent.new.self u c.subdivide-lent.ensures.same_box c.rejoin.ensures.same_box;
+      joined_masks = c.rejoin.ensures.masks;
+      joined_bytes = c.rejoin.ensures.bytes;
+    } in
+    let made = box_of c.in-Some-3.own in
+    let is : IsSharedIn (target_box t) region chunk made = rw c.in-Some-3.is at c.in_ok-own.ensures.some in
+    let made_is : target_box p ≡ made = ap box_of c.subdivide-lent.ensures.region in
+    let region_long = c.args.region.now.same_length in
+    let chunk_long = box_long layout.grid index in
+    back_stays t p q u back t.region.now.same_length region chunk made region_long chunk_long c.requires.same_shape is made_is written.outside

@@ -123,3 +123,6 @@ returns-clause-kept_masks g c =
     let e = c.in_ok-check_target.ensures in
     let accepted = target_region layout c.args.self.now.layout.lawful region t shape e.dimensions e.takes e.same_shape ∙ c.in_ok-chunks.ensures.accepted in
     kept c.read_into.result (target_refusal layout shape region t) _ accepted
+
+pub read_into-requires-clause-filled : goal.read_into-requires-clause-filled
+read_into-requires-clause-filled g c = λ is. absurd (false≢true is)
