@@ -1,4 +1,5 @@
 pub mod Layouts
+mod WritingCalls
 pub mod Puts
 pub mod Typed
 pub mod Named

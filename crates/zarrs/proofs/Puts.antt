@@ -10,7 +10,7 @@ use Rattle.zarrs_options.specs.declared.versions.MetadataRetrieveVersion.TheVari
 use Rattle.zarrs_creation.specs.Opening.{MayAskKey, MayAskV2, MayAskMetadata, MayAskEachMetadata}
 use Rattle.zarrs_engine_calls.specs.Changes.{IsPut}
 use Rattle.zarrs_engine_calls.specs.Refusals.{Refusal, refusal_of_storage}
-use Rattle.zarrs_engine.proofs.Puts as call
+use Rattle.zarrs.proofs.WritingCalls as call
 use Rattle.zarrs_creation.specs.Writing.{Put}
 use Rattle.zarrs.specs.Puts.{ArePut, PutsFront, RefusesCall}
 
