@@ -39,6 +39,8 @@ pub record IsReadAgainV2 (m : DocumentV2Data) : Type 0 where
   pub shallow_attributes : depth (object m.attributes) ≤ max_depth
   pub plain_attributes : has_float (object m.attributes) ≡ false
 
+-- what is written for the metadata reads as it: each tree nests at most as deep as JSON that is read and has no left-out number,
+-- and no field must be understood
 abbrev pub IsReadAgain : MetadataData → Type 0
 IsReadAgain (v3 m) = IsReadAgainV3 m
 IsReadAgain (v2 m) = IsReadAgainV2 m

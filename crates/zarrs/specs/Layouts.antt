@@ -6,6 +6,6 @@ use Rattle.zarrs_codec.specs.Configurations.{meaning_of_chain}
 use Rattle.zarrs_engine_calls.specs.Layout.{Layout, layout_at}
 use Rattle.zarrs_creation.specs.Meanings.{Meaning}
 
--- at this path
+-- how an array that its metadata means lies in its store, at a path
 abbrev pub layout_meant : List ℕ → Meaning → Layout
 layout_meant path m = layout_at (grid_of m.grid m.shape) path (encoding_key m.keys) (meaning_of_chain m.chain) m.kind m.fill

@@ -12,6 +12,7 @@ module _ {S : Type 0} where
   abbrev pub name_of_loan : ArrayLoan S → GName
   name_of_loan loan = loan.array.ghost_name
 
+  -- the name of an array's loan
   abbrev pub name_of_array : MutBor (Array S) → GName
   name_of_array array = array.ghost_name
 

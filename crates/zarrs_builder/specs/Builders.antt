@@ -106,7 +106,7 @@ plain_builder shape chunk_grid data_type fill_value = record {
 abbrev pub IsNew : BuilderData → Type 0
 IsNew b = b ≡ plain_builder b.shape b.chunk_grid b.data_type b.fill_value
 
--- the shape and the grid are those of this grid, or found no memory
+-- the shape and the grid of a builder are those of this grid, or found no memory
 pub record HasGrid (given : ChunkGrid → Type 0) (b : BuilderData) : Type 0 where
   pub grid : ChunkGrid
   pub is_given : given grid

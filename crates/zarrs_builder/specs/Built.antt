@@ -28,7 +28,7 @@ codec_chosen None k = default_codec k
 abbrev pub codecs_chosen : BuilderData → Kind → ChainData
 codecs_chosen b k = record { array_to_array = b.array_to_array; array_to_bytes = codec_chosen b.array_to_bytes k }
 
--- no extent of a subchunk is 0
+-- no extent of a subchunk is 0, or the refusal E22
 abbrev pub sizes_said : List ℕ → Result (Unit {0}) CreateRefusal
 sizes_said shape = if list_any (λ extent. extent == 0) shape then Err (subchunk_shape shape) else Ok tt
 
@@ -46,7 +46,7 @@ chain_chosen (Some shape) codecs = sizes_said shape >>= (λ sized. Ok (cut_into 
 abbrev pub grid_chosen : Option ExtensionData → List ℕ → Option GridConfiguration
 grid_chosen given shape = option_and_then (λ e. grid_said e shape) given
 
--- its metadata, if the bytes are a value of the type
+-- the metadata of the fill value, if its bytes are a value of the type
 abbrev pub fill_stated : Kind → List ℕ → Result Data CreateRefusal
 fill_stated k f = if is_some (fill_cell k f) then Ok (fill_written k f) else Err (fill_value (kind_name k) f)
 
@@ -58,7 +58,7 @@ pub record ChosenData : Type 0 where
   pub fill : List ℕ
   pub fill_value : Data
 
--- what fields say, or the first refusal
+-- what the fields say, or the first refusal: of the data type, the grid, the metadata of the fill value, the names, the fill value
 unfoldable pub chosen : BuilderData → FieldsData → Result ChosenData CreateRefusal
 chosen b f = do
   kind ← said_or data_type f.data_type
@@ -69,7 +69,7 @@ chosen b f = do
   stated ← fill_stated kind fill
   Ok (record { kind = kind; chain = chain; grid = grid; fill = fill; fill_value = stated })
 
--- the metadata of these parts, by main names
+-- the V3 metadata of these parts, by main names
 abbrev pub document_with : BuilderData → FieldsData → ChosenData → DocumentData
 document_with b f c = record {
   shape = f.shape;
@@ -106,7 +106,8 @@ parts_of_fields b f c =
 abbrev pub SaysChosen : BuilderData → FieldsData → DocumentData → Type 0
 SaysChosen b f m = (c : ChosenData) × (chosen b f ≡ Ok c) × (creation_v3 m ≡ parts_of_fields b f c)
 
--- the parts of the array of a builder at a path, or the first refusal
+-- the parts of the array of a builder at a path, which are its own, or the first refusal: of its memory, the path, the fields; of
+-- a type that metadata cannot say, of creation
 abbrev pub built_at : List ℕ → BuilderData → Result Meaning CreateRefusal
 built_at path b = found b >>= (λ f. path_said path >>= (λ valid. chosen b f >>= parts_of_fields b f))
 

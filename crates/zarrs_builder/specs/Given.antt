@@ -50,7 +50,7 @@ fill_chosen k (by_metadata d) = said_or (fill_value_metadata (kind_name k) d) (f
 
 -- ---- names of dimensions
 
--- a list of fields, one for each item that is drawn of this
+-- a list of fields, one for each item that is drawn of an iterator
 pub record AreGiven {I S D F : Type 0} (starts : I → S → Type 0) (steps : S → Option D → S → Type 0) (gives : D → F → Type 0)
     (source : I) (fields : List F) : Type 0 where
   pub iterator : S

@@ -13,7 +13,7 @@ pub trait FillNumber: Copy + Drop {
     // Its JSON value.
     ghost json: { Self → Data };
 
-    /// Its JSON value.
+    /// Returns its JSON value.
     fn to_json(self) -> Value
         ensures { view result ≡ json self };
 }

@@ -31,7 +31,8 @@ abbrev pub ◌>>=◌ : {A B : Type 0} → Result A CreateRefusal → (A → Resu
 Ok a >>= f = f a
 Err refusal >>= f = Err refusal
 
--- the parts of an array, whichever its path and its store
+-- the parts of an array, whichever its path and its store: its shape, the configuration of its grid, its key encoding, its chain,
+-- its data type, and the bytes of its fill value
 pub record Meaning : Type 0 where
   pub shape : List ℕ
   pub grid : GridConfiguration
@@ -59,7 +60,8 @@ abbrev pub names_said : ℕ → Option (List (Option (List ℕ))) → Result (Un
 names_said dimensions None = Ok tt
 names_said dimensions (Some names) = if length names == dimensions then Ok tt else Err (dimension_names (length names) dimensions)
 
--- The parts that a V3 document says, or the first refusal.
+-- the parts that a V3 document says, or the first refusal: of the codecs, the data type, the grid, the fill value, the storage
+-- transformers, the key encoding, the names
 unfoldable pub creation_v3 : DocumentData → Result Meaning CreateRefusal
 creation_v3 m = do
   chain ← said_or codecs (chain_said m.codecs)
@@ -88,7 +90,8 @@ abbrev pub creation_by : DocumentV2Data → Result DocumentData ConversionRefusa
 creation_by m (Ok document) = creation_v3 document
 creation_by m (Err refusal) = not_converted m refusal
 
--- The parts that a V2 document says, or the first refusal.
+-- the parts that a V2 document says, which are those of the V3 document that it becomes, or the first refusal: of the data type,
+-- the number of a chunk's extents, the fill value, the codecs
 abbrev pub creation_v2 : DocumentV2Data → Result Meaning CreateRefusal
 creation_v2 m = creation_by m (to_v3 m)
 

@@ -33,7 +33,7 @@ value_asked state key = if state.refuses key then Err storage else Ok (value_at 
 
 -- ---- V3
 
--- no field must be understood; of those that must, the first one is named
+-- no additional field must be understood; of those that must, the first one is named
 abbrev pub fields_understood : List (List ℕ × FieldData) → Result (Unit {0}) CreateRefusal
 fields_understood [] = Ok tt
 fields_understood (f ∷ fs) = if f.1.must_understand then Err (additional_field f.0 f.1.value) else fields_understood fs

@@ -23,7 +23,7 @@ module _ {G K C : Type 0} {g : GridMeaning G} {k : KeyMeaning K} {c : ChainMeani
     abbrev pub store_of : (S → StoreState) → Engine S G K C g k c → StoreState
     store_of state engine = state engine.storage
 
-    -- the same, and the array's shape
+    -- what an engine's store is now, and the array's shape
     abbrev pub state_of : (S → StoreState) → Engine S G K C g k c → ArrayState
     state_of state engine = record { store = state engine.storage; shape = g.array_extents engine.layout.grid }
 

@@ -17,10 +17,10 @@ use zarrs_keys::ChunkKeyEncodingTraits;
 use zarrs_storage::ReadableStorageTraits;
 use zarrs_subset::ArraySubset;
 
-/// Whether of each chunk with indices in the range the same bytes are stored in both arrays, or none in both. No chunk
-/// is decoded. The chunks are asked in row-major order, up to the first one that differs; an empty range asks nothing.
-/// Of two canonical arrays of one grid, data type, fill value and chain it is whether they have equal cells over the
-/// chunks.
+/// Returns whether of each chunk with indices in the range the same bytes are stored in both arrays, or none in both.
+/// No chunk is decoded. The chunks are asked in row-major order, up to the first one that differs; an empty range asks
+/// nothing. Of two canonical arrays of one grid, data type, fill value and chain it is whether they have equal cells
+/// over the chunks.
 ///
 /// # Errors
 /// E8 for more chunks than a `u64` counts; E7 if one of the stores refuses the key of one of them. E9 may come at any
@@ -75,7 +75,7 @@ pub fn chunks_equal<
     }
 }
 
-/// Whether of the chunk with these indices the same bytes are stored in both arrays, or none in both.
+/// Returns whether of the chunk with these indices the same bytes are stored in both arrays, or none in both.
 ///
 /// # Errors
 /// E7 if one of the stores refuses the key. E9 may come at any time.

@@ -75,7 +75,7 @@ impl<S, G: ChunkGridTraits, K: ChunkKeyEncodingTraits, C: ChainTraits> Engine<S,
         Engine { storage, layout }
     }
 
-    /// The store.
+    /// Returns the store.
     pub fn storage(&self) -> &S
         ensures { result.now ≡ the_store self.now }
     {
@@ -91,7 +91,7 @@ impl<S, G: ChunkGridTraits, K: ChunkKeyEncodingTraits, C: ChainTraits> Engine<S,
         &mut self.storage
     }
 
-    /// What an engine is beside its store.
+    /// Returns what an engine is beside its store.
     pub fn layout(&self) -> &ArrayLayout<G, K, C>
         ensures layout { layout_meaning result.now ≡ layout_of self.now }
         ensures path { result.now.path ≡ path_of self.now }
@@ -104,49 +104,49 @@ impl<S, G: ChunkGridTraits, K: ChunkKeyEncodingTraits, C: ChainTraits> Engine<S,
         &self.layout
     }
 
-    /// Where the array lies.
+    /// Returns where the array lies.
     pub fn path(&self) -> &NodePath
         ensures { result.now ≡ path_of self.now }
     {
         &self.layout.path
     }
 
-    /// How the array is cut into chunks.
+    /// Returns how the array is cut into chunks.
     pub fn chunk_grid(&self) -> &G
         ensures { result.now ≡ grid_of self.now }
     {
         &self.layout.grid
     }
 
-    /// The number of dimensions, which is the length of an index list.
+    /// Returns the number of dimensions, which is the length of an index list.
     pub fn dimensionality(&self) -> usize
         ensures { result ≡ (layout_of self.now).grid.dimensions }
     {
         self.layout.grid.dimensionality()
     }
 
-    /// How the keys of chunks are made.
+    /// Returns how the keys of chunks are made.
     pub fn keys(&self) -> &K
         ensures { result.now ≡ keys_of self.now }
     {
         &self.layout.keys
     }
 
-    /// How the cells of a chunk become bytes.
+    /// Returns how the cells of a chunk become bytes.
     pub fn chain(&self) -> &C
         ensures { result.now ≡ chain_of self.now }
     {
         &self.layout.chain
     }
 
-    /// The type of the cells.
+    /// Returns the type of the cells.
     pub fn data_type(&self) -> &DataType
         ensures { result.now ≡ data_type_of self.now }
     {
         &self.layout.data_type
     }
 
-    /// The value of a cell that was never written.
+    /// Returns the value of a cell that was never written.
     pub fn fill_value(&self) -> &FillValue
         ensures { result.now ≡ fill_value_of self.now }
     {
@@ -177,7 +177,7 @@ impl<S, G: ChunkGridTraits + Drop, K: ChunkKeyEncodingTraits + Drop, C: ChainTra
     ghost use Rattle.std.specs.Prelude.{◌≡◌};
     ghost use Rattle.zarrs_engine.specs.Engine.{the_store};
 
-    /// The store, which is all that is kept.
+    /// Returns the store, which is all that is kept.
     pub fn into_storage(self) -> S
         ensures { result ≡ the_store self }
     {

@@ -35,7 +35,7 @@ impl<S, G: ChunkGridTraits, K: ChunkKeyEncodingTraits, C: ChainTraits> Engine<S,
     ghost use Rattle.zarrs_engine.specs.Engine.{layout_of};
     ghost use Rattle.zarrs_engine.specs.PartialDecoders.{engine_of, indices_of};
 
-    /// The chunk with these indices, to read parts of it. The store is not asked.
+    /// Returns the chunk with these indices, to read parts of it. The store is not asked.
     ///
     /// # Errors
     /// E3 for another number of indices than dimensions, or indices without a chunk. E9 may come at any time.
@@ -80,8 +80,8 @@ impl<
     ghost use Rattle.zarrs_engine.specs.PartialDecoders.{RefusesPartInto, part_into_refusal};
     ghost use Rattle.zarrs_engine.specs.PartialDecoders.{region_of_part};
 
-    /// The cells of a part of the chunk, in row-major order, as `Engine::retrieve_chunk_subset` returns them. The part
-    /// is seen from the origin of the chunk. Where the chunk is absent they are fill.
+    /// Returns the cells of a part of the chunk, in row-major order, as `Engine::retrieve_chunk_subset` returns them.
+    /// The part is seen from the origin of the chunk. Where the chunk is absent they are fill.
     ///
     /// # Errors
     /// E2 for a part of another number of dimensions, or that passes the chunk. Then as for
@@ -163,7 +163,7 @@ impl<
             .retrieve_array_subset_into(alloc, &region, target)
     }
 
-    /// The region of the array that a part of the chunk is.
+    /// Returns the region of the array that a part of the chunk is.
     ///
     /// # Errors
     /// E2 for a part of another number of dimensions, or that passes the chunk. E9 may come at any time.
@@ -185,7 +185,7 @@ impl<
         layout.part_of(alloc, &self.chunk_indices, &chunk, chunk_subset)
     }
 
-    /// Whether the chunk is present. None of its bytes is read.
+    /// Returns whether the chunk is present. None of its bytes is read.
     ///
     /// # Errors
     /// E7 if the store refuses the key. E9 may come at any time.

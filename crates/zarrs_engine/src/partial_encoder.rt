@@ -38,7 +38,7 @@ impl<S, G: ChunkGridTraits, K: ChunkKeyEncodingTraits, C: ChainTraits> Engine<S,
     ghost use Rattle.zarrs_engine.specs.PartialEncoders.{RestsUnlessEncoded, engine_of, indices_of};
     ghost use Rattle.zarrs_engine.specs.PartialEncoders.{loan_of};
 
-    /// The chunk with these indices, to write parts of it. The store is not asked.
+    /// Returns the chunk with these indices, to write parts of it. The store is not asked.
     ///
     /// # Errors
     /// E3 for another number of indices than dimensions, or indices without a chunk. E9 may come at any time.
@@ -121,7 +121,7 @@ impl<
         Ok(())
     }
 
-    /// Whether the parts of the chunk are written by themselves: the chain and the store can.
+    /// Returns whether the parts of the chunk are written by themselves: the chain and the store can.
     pub fn supports_partial_encode(&self) -> bool
         ensures { result ≡ ((layout_of (engine_of self.now)).chain.encodes_partly
             && (store_of S.state (engine_of self.now)).sets_parts) }

@@ -26,7 +26,7 @@ pub data Act : Type 0 where
   -- make the array's shape this one
   resize : List ℕ → Act
 
--- a read of a part of a chunk; of all of it, that of the chunk
+-- a read of a part of a chunk: of all of it that of the chunk, of another part that of a region of one chunk
 abbrev pub read_part_act : Layout → List ℕ → Box → Act
 read_part_act layout index part =
     let chunk = box_at layout.grid index in

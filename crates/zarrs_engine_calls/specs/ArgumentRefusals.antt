@@ -21,6 +21,7 @@ abbrev pub count_refusal : ℕ → Option (List Cell) → Option Refusal
 count_refusal count None = Some refusal.codec
 count_refusal count (Some found) = refuse_if (not (length found == count)) refusal.codec
 
+-- E4: the data is no cells of the type, or not this many
 abbrev pub cells_refusal : Layout → ℕ → ArrayData → Option Refusal
 cells_refusal layout count held = count_refusal count (cells layout.kind held)
 
@@ -32,7 +33,7 @@ size_refusal layout shape = refuse_if (is_too_large layout shape) refusal.size_o
 abbrev pub chunk_refusal : Layout → List ℕ → Option Refusal
 chunk_refusal layout index = refuse_if (not (has_box layout.grid index)) (refusal.indices index)
 
--- E3: the first chunk of the range, or the last one, is none
+-- E3: the first chunk of the range, or else the last one, is none
 abbrev pub range_refusal : Layout → Box → Option Refusal
 range_refusal layout range = option_or (chunk_refusal layout range.start) (chunk_refusal layout (last_of range))
 
@@ -50,16 +51,17 @@ abbrev pub region_refusal : Layout → List ℕ → Box → Option Refusal
 region_refusal layout shape region =
     option_or (dimensions_refusal layout shape region) (refuse_if (not (is_covered_box layout.grid region)) (refusal.array_subset region shape))
 
--- data over a box of this shape: if it is a whole chunk, its size; the cells
+-- data over a box: if the box is a whole chunk its size (E8), then the cells (E4)
 abbrev pub box_data_refusal : Layout → Bool → List ℕ → ArrayData → Option Refusal
 box_data_refusal layout is_whole shape held =
     option_or (if is_whole then size_refusal layout shape else None) (cells_refusal layout (position_count shape) held)
 
--- a store of one chunk: the index list, the size, the cells
+-- a store of one chunk: the index list, the size, the cells, in this order
 abbrev pub store_chunk_refusal : Layout → List ℕ → ArrayData → Option Refusal
 store_chunk_refusal layout index held = option_or (box_refusal layout index) (cells_refusal layout (position_count (box_at layout.grid index).shape) held)
 
--- a store of a range: the number of chunks, then by that number
+-- a store of a range: more chunks than a `u64` counts (E8); of no chunk the cells only; of one chunk as a store of that chunk;
+-- else the first and the last chunk, and the cells
 abbrev pub store_chunks_refusal : Layout → Box → ArrayData → Option Refusal
 store_chunks_refusal layout range held =
     let number = position_count range.shape in
@@ -77,33 +79,33 @@ store_part_refusal layout index part held =
     (option_or (part_refusal layout index part)
     (box_data_refusal layout (is_whole_of shape part) part.shape held)))
 
--- data over a region: if it is one whole chunk, its size; the cells
+-- data over a region: if the region is one whole chunk its size, then the cells
 abbrev pub region_data_refusal : Layout → Box → ArrayData → Option Refusal
 region_data_refusal layout region held = box_data_refusal layout (is_one_chunk layout.grid region) region.shape held
 
--- a store of a region: the dimensions, the cover; the data
+-- a store of a region: the dimensions, the cover, the data, in this order
 abbrev pub store_region_refusal : Layout → List ℕ → Box → ArrayData → Option Refusal
 store_region_refusal layout shape region held = option_or (region_refusal layout shape region) (region_data_refusal layout region held)
 
--- a read of a region: the dimensions, the cover, the size
+-- a read of a region: the dimensions, the cover, the size, in this order
 abbrev pub read_region_refusal : Layout → List ℕ → Box → Option Refusal
 read_region_refusal layout shape region = option_or (region_refusal layout shape region) (size_refusal layout region.shape)
 
--- a read of a range: the dimensions, the first and the last chunk, the size; an empty range reads no cell
+-- a read of a range: the dimensions, the first and the last chunk, the size; of an empty range the dimensions only
 abbrev pub read_chunks_refusal : Layout → List ℕ → Box → Option Refusal
 read_chunks_refusal layout shape range =
     option_or (dimensions_refusal layout shape range)
     (if is_empty range then None
     else option_or (range_refusal layout range) (size_refusal layout (range_box layout.grid range).shape))
 
--- a read of a part: the index list, the part; if it is not the whole chunk, its size
+-- a read of a part: the index list, the part, and the part's size if it is not the whole chunk
 abbrev pub read_part_refusal : Layout → List ℕ → Box → Option Refusal
 read_part_refusal layout index part =
     option_or (chunk_refusal layout index)
     (option_or (part_refusal layout index part)
     (if is_whole_of (box_at layout.grid index).shape part then None else size_refusal layout part.shape))
 
--- a change of the shape: the number of dimensions; a grid whose boxes depend on the shape
+-- a change of the shape: the number of dimensions (E10); a grid whose boxes depend on the shape (E28)
 abbrev pub resize_refusal : Layout → List ℕ → Option Refusal
 resize_refusal layout wanted =
     option_or (refuse_if (not (length wanted == layout.grid.dimensions)) (refusal.dimensionality (length wanted) layout.grid.dimensions))

@@ -10,7 +10,7 @@ use Rattle.zarrs_engine_calls.specs.Layout.{Layout}
 use Rattle.zarrs_engine_calls.specs.Content.{value_at, content}
 use Rattle.zarrs_engine_calls.specs.Changes.{ChangesKeysOf, HoldsValue}
 
--- the position is below the shape
+-- the position is below the shape: along each dimension
 abbrev pub is_below : List ℕ → List ℕ → Bool
 is_below shape position = in_box (box_at_origin shape) position
 
@@ -34,7 +34,7 @@ is_cut_away grid old new position = is_covered grid position && is_below (grid.c
 abbrev pub resized : Layout → List ℕ → List ℕ → (List ℕ → Option Cell) → List ℕ → Option Cell
 resized layout old new f position = if is_cut_away layout.grid old new position then Some layout.fill else f position
 
--- the chunks of these indices were cut to the shape: what they had past it is fill
+-- these chunks were cut to the shape: what they had past it is fill; one of which nothing is below the shape is gone
 pub record Cuts (layout : Layout) (keep : Bool) (shape : List ℕ) (indices : List (List ℕ)) (old new : StoreState) : Type 0 where
   pub inside : (position : List ℕ)
       → is_covered layout.grid position ≡ true → Contains indices (index_at layout.grid position) → is_below shape position ≡ false

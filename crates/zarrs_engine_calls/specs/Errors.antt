@@ -13,7 +13,7 @@ use Rattle.zarrs_subset.specs.declared.error.ArraySubsetError.TheVariants as sub
 use Rattle.zarrs_engine_calls.specs.declared.error.ArrayError.{ArrayError}
 use Rattle.zarrs_engine_calls.specs.declared.error.ArrayError.TheVariants as array
 
--- data of another kind
+-- the error that data of another kind becomes: E4, of the misfit `NoValue`
 abbrev pub unfit : ArrayError
 unfit = array.CodecError (codec.DoesNotFit misfit.NoValue)
 

@@ -30,7 +30,7 @@ pub record Front (changed : List (List ℕ) → Type 0) (chunks : List (List ℕ
   pub changes : 0 < done → changed (take done chunks)
   pub makes : Makes done failed old new
 
--- an accepted store: the content is the data over the region, and elsewhere what it was
+-- an accepted store: the content is the data over the region, and elsewhere what it was; the front is all of its chunks
 pub record StoresAll (layout : Layout) (keep : Bool) (region : Box) (held : ArrayData) (chunks : List (List ℕ)) (old new : StoreState) : Type 0 where
   pub takes : Takes layout keep region held chunks old new
   pub updates : (position : List ℕ) → content layout (value_at new) position
@@ -41,7 +41,7 @@ pub record StoresAll (layout : Layout) (keep : Bool) (region : Box) (held : Arra
 abbrev pub is_in_chunks : Layout → List (List ℕ) → List ℕ → Bool
 is_in_chunks layout indices position = is_covered layout.grid position && list_any (bytes_eq (index_at layout.grid position)) indices
 
--- an accepted erasure: the content is fill in these chunks, and elsewhere what it was
+-- an accepted erasure: the content is fill in these chunks, and elsewhere what it was; the front is all of its chunks
 pub record ErasesAll (layout : Layout) (chunks : List (List ℕ)) (old new : StoreState) : Type 0 where
   pub erases : Erases layout chunks old new
   pub updates : (position : List ℕ) → content layout (value_at new) position
@@ -61,7 +61,8 @@ abbrev pub HasWriteCause : List (List ℕ) → Type 0 → (List ℕ → ℕ → 
 HasWriteCause chunks early late done failed =
     (early × (done ≡ 0) × (failed ≡ 0)) ⊎ ((index : List ℕ) × (slice_get chunks done ≡ Some index) × late index failed)
 
--- a refused write: a front that is not all, with its reason
+-- a refused write: a front that is not all of its chunks, at most one writing call that failed, and the reason: one that comes
+-- before any writing call, or one of the next chunk
 pub record RefusesWrite (changed : List (List ℕ) → Type 0) (chunks : List (List ℕ))
     (early : Type 0) (late : List ℕ → ℕ → Type 0) (old new : StoreState) : Type 0 where
   pub done : ℕ

@@ -237,6 +237,7 @@ pub record AreCutRight (grid : Grid) (shape index : List ℕ) : Type 0 where
   pub cut : (is_cut grid shape index ≡ true) ↔ ((position : List ℕ) × Holds (box_at grid index) position × (is_below shape position ≡ false))
   pub kept : (keeps_some grid shape index ≡ true) ↔ ((position : List ℕ) × Holds (box_at grid index) position × (is_below shape position ≡ true))
 
+-- a chunk is cut exactly if it has a position that is not below the shape, and keeps some exactly if it has one that is
 abbrev pub CutsAreRight : Type 0
 CutsAreRight =
     (grid : Grid) → IsGrid grid → (shape index : List ℕ) → length shape ≡ grid.dimensions → has_box grid index ≡ true

@@ -79,7 +79,7 @@ pub record MayAskChunk (layout : Layout) (index : List ℕ) (state : StoreState)
   pub key : IsIndexList layout.grid.dimensions index → state.may_ask (layout.key index) ≡ true
   pub places : IsIndexList layout.grid.dimensions index → MayReadWhole state (layout.key index)
 
--- the same for each of these chunks
+-- what reads of these chunks may ask may be asked
 abbrev pub MayAskChunks : Layout → List (List ℕ) → StoreState → Type 0
 MayAskChunks layout chunks state = (index : List ℕ) → Contains chunks index → MayAskChunk layout index state
 

@@ -23,7 +23,8 @@ pub record ReadsKnown (f : List ℕ → Option Cell) (box : Box) (given : List C
   pub count : length given ≡ position_count box.shape
   pub each : (position : List ℕ) (cell : Cell) → Holds box position → f position ≡ Some cell → cell_in box given position ≡ Some cell
 
--- an accepted read of a region
+-- an accepted read of a region: one cell for each position, that of the content if it has one there; a chunk that the region
+-- covers whole decodes
 pub record ReadsRegion (layout : Layout) (region : Box) (chunks : List (List ℕ)) (held : ArrayData) (state : StoreState) : Type 0 where
   pub given : List Cell
   pub are_cells : cells layout.kind held ≡ Some given

@@ -20,7 +20,7 @@ use Rattle.zarrs_engine_calls.specs.declared.error.ArrayError.TheVariants as err
 use Rattle.zarrs_engine_calls.specs.Layout.{Layout}
 use Rattle.zarrs_engine_calls.specs.Content.{decoded_cells}
 
--- a refusal, by what it says
+-- a refusal, by what it says: `array_subset` is E1, `chunk_subset` E2, and so on to E10
 pub data Refusal : Type 0 where
   -- E1: a region, and the array's shape
   array_subset : Box → List ℕ → Refusal

@@ -126,7 +126,8 @@ RefusesKeptCut layout keep shape index failed new refusal.size_overflow =
 RefusesKeptCut layout keep shape index failed new refusal.out_of_memory = Unit {0}
 RefusesKeptCut layout keep shape index failed new _ = ⊥
 
--- why a chunk is not cut to the shape: as one that is not erased, if it has no position below it
+-- why a chunk is not cut to the shape: as one that is not erased, if it keeps no cell; else its key refuses, or the writing call
+-- failed (E7); it does not decode, or the chain takes no such chunk (E4); a size (E8); out of memory (E9)
 pub record RefusesCut (layout : Layout) (keep : Bool) (shape index : List ℕ) (failed : ℕ) (new : StoreState) (r : Refusal) : Type 0 where
   pub gone : keeps_some layout.grid shape index ≡ false → RefusesErasure failed new r
   pub kept : keeps_some layout.grid shape index ≡ true → RefusesKeptCut layout keep shape index failed new r

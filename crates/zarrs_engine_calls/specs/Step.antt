@@ -44,7 +44,7 @@ abbrev pub StoresChunk : Layout → Bool → List ℕ → ArrayData → StoreSta
 StoresChunk layout keep index held old new =
     (store_chunk_refusal layout index held ≡ None) × StoresAll layout keep (box_at layout.grid index) held (index ∷ []) old new
 
--- a refused one, which changes no value
+-- a refused store of one chunk, which changes no value
 abbrev pub RefusesStoreChunk : Layout → Bool → List ℕ → ArrayData → Refusal → StoreState → StoreState → Type 0
 RefusesStoreChunk layout keep index held r old new =
     RefusesStore layout keep (store_chunk_refusal layout index held) (box_at layout.grid index) held (index ∷ []) r old new
@@ -54,7 +54,7 @@ abbrev pub StoresChunks : Layout → Bool → Box → ArrayData → StoreState �
 StoresChunks layout keep range held old new =
     (store_chunks_refusal layout range held ≡ None) × StoresAll layout keep (chunks_box layout.grid range) held (positions range) old new
 
--- a refused one, of which a front is done
+-- a refused store over a range, of which a front is done
 abbrev pub RefusesStoreChunks : Layout → Bool → Box → ArrayData → Refusal → StoreState → StoreState → Type 0
 RefusesStoreChunks layout keep range held r old new =
     RefusesStore layout keep (store_chunks_refusal layout range held) (chunks_box layout.grid range) held (positions range) r old new
@@ -64,7 +64,7 @@ abbrev pub StoresPart : Layout → Bool → List ℕ → Box → ArrayData → S
 StoresPart layout keep index part held old new =
     (store_part_refusal layout index part held ≡ None) × StoresAll layout keep (part_box (box_at layout.grid index) part) held (index ∷ []) old new
 
--- a refused one, which changes no value
+-- a refused store over a part of a chunk, which changes no value
 abbrev pub RefusesStorePart : Layout → Bool → List ℕ → Box → ArrayData → Refusal → StoreState → StoreState → Type 0
 RefusesStorePart layout keep index part held r old new =
     RefusesStore layout keep (store_part_refusal layout index part held) (part_box (box_at layout.grid index) part) held (index ∷ []) r old new
@@ -74,7 +74,7 @@ abbrev pub StoresRegion : Layout → Bool → List ℕ → Box → ArrayData →
 StoresRegion layout keep shape region held old new =
     (store_region_refusal layout shape region held ≡ None) × StoresAll layout keep region held (chunks_met layout.grid region) old new
 
--- a refused one, of which a front is done
+-- a refused store over a region, of which a front is done
 abbrev pub RefusesStoreRegion : Layout → Bool → List ℕ → Box → ArrayData → Refusal → StoreState → StoreState → Type 0
 RefusesStoreRegion layout keep shape region held r old new =
     RefusesStore layout keep (store_region_refusal layout shape region held) region held (chunks_met layout.grid region) r old new
@@ -83,7 +83,7 @@ RefusesStoreRegion layout keep shape region held r old new =
 abbrev pub ErasesChunk : Layout → List ℕ → StoreState → StoreState → Type 0
 ErasesChunk layout index old new = (length_refusal layout index ≡ None) × ErasesAll layout (index ∷ []) old new
 
--- a refused one, which changes no value
+-- a refused erasure of one chunk, which changes no value
 abbrev pub RefusesEraseChunk : Layout → List ℕ → Refusal → StoreState → StoreState → Type 0
 RefusesEraseChunk layout index r old new = RefusesErase layout (length_refusal layout index) (index ∷ []) r old new
 
@@ -91,7 +91,7 @@ RefusesEraseChunk layout index r old new = RefusesErase layout (length_refusal l
 abbrev pub ErasesChunks : Layout → Box → StoreState → StoreState → Type 0
 ErasesChunks layout range old new = (length_refusal layout range.start ≡ None) × ErasesAll layout (positions range) old new
 
--- a refused one, of which a front is done
+-- a refused erasure of the chunks of a range, of which a front is done
 abbrev pub RefusesEraseChunks : Layout → Box → Refusal → StoreState → StoreState → Type 0
 RefusesEraseChunks layout range r old new = RefusesErase layout (length_refusal layout range.start) (positions range) r old new
 
@@ -99,12 +99,12 @@ RefusesEraseChunks layout range r old new = RefusesErase layout (length_refusal 
 abbrev pub RefusesCompactChunk : Layout → List ℕ → Refusal → StoreState → StoreState → Type 0
 RefusesCompactChunk layout index r old new = RefusesCompact layout (length_refusal layout index) index r old new
 
--- an accepted read of the chunks of a range
+-- an accepted read of the chunks of a range, as of the region that they fill
 abbrev pub RetrievesChunks : Layout → List ℕ → Box → ArrayData → StoreState → Type 0
 RetrievesChunks layout shape range held state =
     (read_chunks_refusal layout shape range ≡ None) × ReadsRegion layout (chunks_box layout.grid range) (positions range) held state
 
--- a refused one
+-- a refused read of a range
 abbrev pub RefusesRetrieveChunks : Layout → List ℕ → Box → Refusal → StoreState → Type 0
 RefusesRetrieveChunks layout shape range r state =
     RefusesRegionRead layout (read_chunks_refusal layout shape range) (chunks_box layout.grid range) (positions range) state r
@@ -116,19 +116,20 @@ pub record RetrievesPart (layout : Layout) (index : List ℕ) (part : Box) (held
   pub proper : is_whole_of (box_at layout.grid index).shape part ≡ false
       → ReadsRegion layout (part_box (box_at layout.grid index) part) (index ∷ []) held state
 
--- a refused one
+-- a refused read of a part of a chunk; of all of it, as of the chunk once the arguments are tested
 pub record RefusesRetrievePart (layout : Layout) (index : List ℕ) (part : Box) (r : Refusal) (state : StoreState) : Type 0 where
   pub whole : is_whole_of (box_at layout.grid index).shape part ≡ true
       → RefusesChunkRead layout (read_part_refusal layout index part) true index state r
   pub proper : is_whole_of (box_at layout.grid index).shape part ≡ false
       → RefusesRegionRead layout (read_part_refusal layout index part) (part_box (box_at layout.grid index) part) (index ∷ []) state r
 
--- an accepted read of a region
+-- an accepted read of a region: one cell for each position, that of the content if it has one there, which it has except in chunks
+-- that do not decode
 abbrev pub RetrievesRegion : Layout → List ℕ → Box → ArrayData → StoreState → Type 0
 RetrievesRegion layout shape region held state =
     (read_region_refusal layout shape region ≡ None) × ReadsRegion layout region (chunks_met layout.grid region) held state
 
--- a refused one
+-- a refused read of a region: what the arguments decide first, then a cause among the chunks that it meets
 abbrev pub RefusesRetrieveRegion : Layout → List ℕ → Box → Refusal → StoreState → Type 0
 RefusesRetrieveRegion layout shape region r state =
     RefusesRegionRead layout (read_region_refusal layout shape region) region (chunks_met layout.grid region) state r

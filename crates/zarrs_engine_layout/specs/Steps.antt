@@ -17,7 +17,7 @@ use Rattle.zarrs_engine_calls.specs.ArgumentRefusals.{size_refusal}
 use Rattle.zarrs_engine_calls.specs.Changes.{IsValueOf, Makes}
 use Rattle.zarrs_engine_calls.specs.StateRefusals.{RefusesErasure}
 
--- so many fill values take more bytes than a usize counts
+-- E8: so many fill values take more bytes than a `usize` counts
 abbrev pub fills_refusal : Layout → ℕ → Option Refusal
 fills_refusal layout count = refuse_if (nat_le (2 ^ 64) (count * held_size layout.kind layout.fill)) size_overflow
 
@@ -70,6 +70,6 @@ pub record LeavesValues (why : ℕ → StoreState → Type 0) (old new : StoreSt
   pub makes : Makes 0 failed old new
   pub cause : why failed new
 
--- a writing call was refused, or out of memory
+-- a writing call was refused, or out of memory: as `LeavesValues` says
 abbrev pub RefusesPut : Refusal → StoreState → StoreState → Type 0
 RefusesPut r old new = LeavesValues (λ failed state. RefusesErasure failed state r) old new

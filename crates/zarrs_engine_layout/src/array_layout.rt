@@ -67,7 +67,7 @@ impl<G: ChunkGridTraits, K: ChunkKeyEncodingTraits, C: ChainTraits> ArrayLayout<
     ghost use Rattle.zarrs_engine_calls.specs.Refusals.{is_left_out};
     ghost use Rattle.zarrs_engine_layout.specs.Steps.{HasValue, RefusesBytes};
 
-    /// The key of the chunk with these indices.
+    /// Returns the key of the chunk with these indices.
     ///
     /// # Errors
     /// Only `OutOfMemory`.
@@ -78,7 +78,7 @@ impl<G: ChunkGridTraits, K: ChunkKeyEncodingTraits, C: ChainTraits> ArrayLayout<
         chunk_key(alloc, &self.path, &self.keys, chunk_indices)
     }
 
-    /// The number of cells of a chunk of this box, or `None` if they have more bytes than a `usize` counts.
+    /// Returns the number of cells of a chunk of this box, or `None` if they have more bytes than a `usize` counts.
     pub fn cell_count(&self, region: &ArraySubset) -> Option<u64>
         ensures some { IfSome result (λ count. count ≡ position_count (box_of region.now).shape) }
         ensures small { OnSome result
@@ -89,7 +89,7 @@ impl<G: ChunkGridTraits, K: ChunkKeyEncodingTraits, C: ChainTraits> ArrayLayout<
         self.shape_count(region.shape())
     }
 
-    /// The chunk with these indices.
+    /// Returns the chunk with these indices.
     ///
     /// # Errors
     /// In this order: E3 for indices without a chunk; E8 for a chunk of more bytes than a `usize` counts. E9 may come
@@ -110,8 +110,8 @@ impl<G: ChunkGridTraits, K: ChunkKeyEncodingTraits, C: ChainTraits> ArrayLayout<
         }
     }
 
-    /// What is to be present at the key of the chunk with this data: its bytes, or nothing if empty chunks are not kept
-    /// and each cell is the fill value's.
+    /// Returns what is to be present at the key of the chunk with this data: its bytes, or nothing if empty chunks are
+    /// not kept and each cell is the fill value's.
     ///
     /// # Errors
     /// In this order: E4 for data that is not one cell for each position, each a value of the data type, or that the
@@ -144,7 +144,7 @@ impl<G: ChunkGridTraits, K: ChunkKeyEncodingTraits, C: ChainTraits> ArrayLayout<
         )
     }
 
-    /// What `value_of` returns for the chunk with these indices.
+    /// Returns what `value_of` returns for the chunk with these indices.
     ///
     /// # Errors
     /// In this order: E3 for indices without a chunk; E8 for a chunk of more bytes than a `usize` counts; those of
@@ -182,7 +182,7 @@ impl<G: ChunkGridTraits, K: ChunkKeyEncodingTraits, C: ChainTraits> ArrayLayout<
         )
     }
 
-    /// What `value_of` returns for a chunk of this shape, which has so many cells.
+    /// Returns what `value_of` returns for a chunk of this shape, which has so many cells.
     ///
     /// # Errors
     /// Those of `value_of`.
@@ -220,8 +220,8 @@ impl<G: ChunkGridTraits, K: ChunkKeyEncodingTraits, C: ChainTraits> ArrayLayout<
         Ok(Some(encoded))
     }
 
-    /// What `value_of` returns, of data that is given away: a chain that would put owned bytes down as they are copies
-    /// none.
+    /// Returns what `value_of` returns, of data that is given away: a chain that would put owned bytes down as they are
+    /// copies none.
     ///
     /// # Errors
     /// Those of `value_of`.
@@ -259,8 +259,8 @@ impl<G: ChunkGridTraits, K: ChunkKeyEncodingTraits, C: ChainTraits> ArrayLayout<
         Ok(Some(encoded))
     }
 
-    /// Whether nothing is to be present at the key of a chunk of so many cells with this data: empty chunks are not kept,
-    /// and each cell is the fill value's.
+    /// Returns whether nothing is to be present at the key of a chunk of so many cells with this data: empty chunks are
+    /// not kept, and each cell is the fill value's.
     ///
     /// # Errors
     /// E4 for data that is not so many cells, each a value of the data type.
@@ -290,7 +290,7 @@ impl<G: ChunkGridTraits, K: ChunkKeyEncodingTraits, C: ChainTraits> ArrayLayout<
         )
     }
 
-    /// The cells of the bytes of the chunk with these indices. They may be lent by these bytes.
+    /// Returns the cells of the bytes of the chunk with these indices. They may be lent by these bytes.
     ///
     /// # Errors
     /// In this order: those of `chunk`; E4 if the bytes do not decode, E8 if they leave out cells and as many fill values
@@ -320,7 +320,7 @@ impl<G: ChunkGridTraits, K: ChunkKeyEncodingTraits, C: ChainTraits> ArrayLayout<
         Ok(data)
     }
 
-    /// The cells of the chunk with these indices if it is absent.
+    /// Returns the cells of the chunk with these indices if it is absent.
     ///
     /// # Errors
     /// In this order: those of `chunk`; E8 if that many fill values have more bytes than a `usize` counts. E9 may come
@@ -345,7 +345,7 @@ impl<G: ChunkGridTraits, K: ChunkKeyEncodingTraits, C: ChainTraits> ArrayLayout<
     }
 }
 
-/// The refusal of these chunk indices.
+/// Returns the refusal of these chunk indices.
 pub fn invalid_indices(alloc: Global, chunk_indices: &[u64]) -> ArrayError
     ensures { RefusesIndices chunk_indices.now result }
 {

@@ -19,7 +19,7 @@ impl<G: ChunkGridTraits, K: ChunkKeyEncodingTraits, C: ChainTraits> ArrayLayout<
     ghost use Rattle.zarrs_engine_layout.specs.Layouts.{layout_meaning};
     ghost use Rattle.zarrs_engine_layout.specs.Covers.{CoverRegion};
 
-    /// The box of the chunk with these indices.
+    /// Returns the box of the chunk with these indices.
     ///
     /// # Errors
     /// E3 for another number of indices than dimensions, or indices without a chunk. E9 may come at any time.
@@ -67,7 +67,7 @@ impl<G: ChunkGridTraits, K: ChunkKeyEncodingTraits, C: ChainTraits> ArrayLayout<
         Ok(())
     }
 
-    /// A part of the chunk with these indices and this box, as a box seen from the origin of the array.
+    /// Returns a part of the chunk with these indices and this box, as a box seen from the origin of the array.
     ///
     /// # Errors
     /// Those of `check_part`.
@@ -90,7 +90,7 @@ impl<G: ChunkGridTraits, K: ChunkKeyEncodingTraits, C: ChainTraits> ArrayLayout<
         Ok(region)
     }
 
-    /// The region that the chunks of a range fill; of a range without a chunk the empty one.
+    /// Returns the region that the chunks of a range fill; of a range without a chunk the empty one.
     ///
     /// # Errors
     /// In this order: E1 for another number of dimensions; E3 for a first index without a chunk, then for such a last
@@ -128,7 +128,8 @@ impl<G: ChunkGridTraits, K: ChunkKeyEncodingTraits, C: ChainTraits> ArrayLayout<
         }
     }
 
-    /// The refusal of a range of which the last index has no chunk: the first one is named if that has none either.
+    /// Returns the refusal of a range of which the last index has no chunk: the first one is named if that has none
+    /// either.
     fn invalid_range(&self, alloc: Global, chunks: &ArraySubset) -> ArrayError
         requires { has_box (G.grid self.now.grid) (last_of (box_of chunks.now)) ≡ false }
         ensures { RefusesBy (range_refusal (layout_meaning self.now) (box_of chunks.now))
@@ -149,7 +150,7 @@ ghost use Rattle.zarrs_subset.specs.Regions.{box_of};
 ghost use Rattle.zarrs_engine_calls.specs.ChunkBoxes.{last_of};
 ghost use Rattle.zarrs_engine_calls.specs.Refusals.{RefusesBy, chunk_subset, refusal_of};
 
-/// The refusal of this part of the chunk with these indices and extents.
+/// Returns the refusal of this part of the chunk with these indices and extents.
 fn invalid_part(
     alloc: Global,
     chunk_indices: &[u64],
@@ -171,7 +172,7 @@ fn invalid_part(
     }
 }
 
-/// The last index of a range.
+/// Returns the last index of a range.
 fn last_index(alloc: Global, chunks: &ArraySubset) -> Result<Vec<u64>, AllocError>
     ensures { IfOk result (λ last. last.items ≡ last_of (box_of chunks.now)) }
 {

@@ -12,7 +12,7 @@ impl<G: ChunkGridTraits, K: ChunkKeyEncodingTraits, C: ChainTraits> ArrayLayout<
     ghost use Rattle.zarrs_engine_calls.specs.Refusals.{RefusesBy, refusal_of};
     ghost use Rattle.zarrs_engine_layout.specs.Layouts.{layout_meaning};
 
-    /// The compaction of the bytes of the chunk with these indices, or `None` if they are compact.
+    /// Returns the compaction of the bytes of the chunk with these indices, or `None` if they are compact.
     ///
     /// # Errors
     /// In this order: E3 for indices without a chunk; E4 if the chain takes no such bytes; E8 if their compaction passes

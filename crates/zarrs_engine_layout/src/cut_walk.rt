@@ -37,7 +37,7 @@ impl CutWalk {
     ghost use Rattle.zarrs_subset.specs.Regions.{positions};
     ghost use Rattle.zarrs_engine_layout.specs.CutWalks.{IsFirst, walk_box, walk_number, walk_whole};
 
-    /// A walk at the first position of an array of `shape` that is not below `whole`, if there is one.
+    /// Makes a walk at the first position of an array of `shape` that is not below `whole`, if there is one.
     fn new(
         alloc: Global,
         shape: ArrayShape,
@@ -64,7 +64,7 @@ impl CutWalk {
         }))
     }
 
-    /// The position that the walk is at.
+    /// Returns the position that the walk is at.
     pub fn current(&self) -> &[u64]
         ensures at { slice_get (positions (walk_box self.now)) (walk_number self.now)
             ≡ Some result.now }
@@ -88,14 +88,14 @@ impl CutWalk {
     }
 }
 
-/// Whether some extent is 0.
+/// Returns whether some extent is 0.
 fn has_zero(extents: &[u64]) -> bool
     ensures { IsTrue result ↔ SomeIndex extents.now (λ k. slice_index extents.now k ≡ 0) }
 {
     extents.iter().any(|extent| *extent == 0)
 }
 
-/// The last dimension along which the array of `shape` reaches past `whole`.
+/// Returns the last dimension along which the array of `shape` reaches past `whole`.
 fn last_axis(shape: &[u64], whole: &[u64]) -> Option<usize>
     requires { length whole.now ≡ length shape.now }
     ensures some { IfSome result
@@ -114,7 +114,7 @@ fn last_axis(shape: &[u64], whole: &[u64]) -> Option<usize>
     None
 }
 
-/// Whether the position is below the shape.
+/// Returns whether the position is below the shape.
 fn lies_below(position: &[u64], shape: &[u64]) -> bool
     requires { length shape.now ≡ length position.now }
     ensures { result ≡ is_below shape.now position.now }
@@ -196,8 +196,8 @@ impl<G: ChunkGridTraits, K: ChunkKeyEncodingTraits, C: ChainTraits> ArrayLayout<
     ghost use Rattle.zarrs_engine_layout.specs.CutWalks.{HasNoCut, IsCutWalk};
     ghost use Rattle.zarrs_engine_layout.specs.WholeChunks.{AreWhole};
 
-    /// How many chunks lie below the shape along each dimension, from the first one on. Where no chunk ends past the
-    /// shape, all chunks of the array do.
+    /// Returns how many chunks lie below the shape along each dimension, from the first one on. Where no chunk ends
+    /// past the shape, all chunks of the array do.
     fn whole_chunks(&self, alloc: Global, shape: &[u64]) -> Result<ArrayShape, AllocError>
         requires { length shape.now ≡ (G.grid self.now.grid).dimensions }
         ensures { IfOk result (λ whole. AreWhole (G.grid self.now.grid)
@@ -212,8 +212,8 @@ impl<G: ChunkGridTraits, K: ChunkKeyEncodingTraits, C: ChainTraits> ArrayLayout<
         Ok(whole)
     }
 
-    /// A walk through the chunks of the array that a change of its shape to this one cuts, in row-major order. It is at
-    /// the first of them, and comes to no other chunk. `None` if no chunk is cut.
+    /// Returns a walk through the chunks of the array that a change of its shape to this one cuts, in row-major order.
+    /// It is at the first of them, and comes to no other chunk. `None` if no chunk is cut.
     ///
     /// # Errors
     /// `AllocError`: out of memory.

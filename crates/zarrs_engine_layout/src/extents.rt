@@ -28,7 +28,7 @@ impl<G: ChunkGridTraits, K: ChunkKeyEncodingTraits, C: ChainTraits> ArrayLayout<
     ghost use Rattle.zarrs_engine_calls.specs.Refusals.{RefusesBy, box_refusal, is_too_large, refusal_of};
     ghost use Rattle.zarrs_engine_layout.specs.Layouts.{layout_meaning};
 
-    /// The number of cells of a chunk of this shape, or `None` if they have more bytes than a `usize` counts.
+    /// Returns the number of cells of a chunk of this shape, or `None` if they have more bytes than a `usize` counts.
     pub fn shape_count(&self, shape: &[u64]) -> Option<u64>
         ensures some { IfSome result (λ count. count ≡ position_count shape.now) }
         ensures small { OnSome result (is_too_large (layout_meaning self.now) shape.now ≡ false) }
@@ -44,7 +44,7 @@ impl<G: ChunkGridTraits, K: ChunkKeyEncodingTraits, C: ChainTraits> ArrayLayout<
         }
     }
 
-    /// The extents of the chunk with these indices, and the number of its cells.
+    /// Returns the extents of the chunk with these indices, and the number of its cells.
     ///
     /// # Errors
     /// In this order: E3 for indices without a chunk; E8 for a chunk of more bytes than a `usize` counts. E9 may come
@@ -69,7 +69,7 @@ impl<G: ChunkGridTraits, K: ChunkKeyEncodingTraits, C: ChainTraits> ArrayLayout<
         }
     }
 
-    /// The extents of the chunk with these indices.
+    /// Returns the extents of the chunk with these indices.
     ///
     /// # Errors
     /// E3 for another number of indices than dimensions, or indices without a chunk. E9 may come at any time.

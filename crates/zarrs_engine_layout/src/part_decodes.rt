@@ -24,8 +24,8 @@ impl<G: ChunkGridTraits, K: ChunkKeyEncodingTraits, C: ChainTraits> ArrayLayout<
     ghost use Rattle.zarrs_engine_layout.specs.Layouts.{layout_meaning};
     ghost use Rattle.zarrs_engine_layout.specs.Steps.{RefusesPartBytes};
 
-    /// The cells of a part of a chunk of this shape, whose bytes are those of the source. The part is seen from the corner
-    /// of the chunk. No other bytes are read than those that the part needs.
+    /// Returns the cells of a part of a chunk of this shape, whose bytes are those of the source. The part is seen from
+    /// the corner of the chunk. No other bytes are read than those that the part needs.
     ///
     /// # Errors
     /// One of these: E4 if the bytes do not decode, though a part of them may; E7 if the source refuses; E8 if the bytes

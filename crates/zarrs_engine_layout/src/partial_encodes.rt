@@ -23,15 +23,15 @@ impl<G: ChunkGridTraits, K: ChunkKeyEncodingTraits, C: ChainTraits> ArrayLayout<
     ghost use Rattle.zarrs_engine_calls.specs.Refusals.{is_too_large, refusal_of};
     ghost use Rattle.zarrs_engine_layout.specs.Layouts.{layout_meaning};
 
-    /// Whether the cells of a part are written into the bytes of their chunk.
+    /// Returns whether the cells of a part are written into the bytes of their chunk.
     pub fn encodes_partly(&self) -> bool
         ensures { result ≡ (layout_meaning self.now).chain.encodes_partly }
     {
         self.chain.supports_partial_encode()
     }
 
-    /// What is done with the key of a chunk, so that it has this data at the positions of `part`, seen from the chunk's
-    /// origin, and its other cells stay. `stored` has the bytes of the key, or `None` if it is absent.
+    /// Returns what is done with the key of a chunk, so that it has this data at the positions of `part`, seen from the
+    /// chunk's origin, and its other cells stay. `stored` has the bytes of the key, or `None` if it is absent.
     ///
     /// # Errors
     /// E4 if the chain does not take the chunk, or its bytes do not decode; E8 if a size is too large. Which comes if both

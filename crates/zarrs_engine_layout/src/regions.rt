@@ -25,7 +25,7 @@ impl<G: ChunkGridTraits, K: ChunkKeyEncodingTraits, C: ChainTraits> ArrayLayout<
     ghost use Rattle.zarrs_engine_layout.specs.Covers.{CoverRegion};
     ghost use Rattle.zarrs_engine_layout.specs.Steps.{filled_refusal, fills_refusal};
 
-    /// The refusal of this region: E1, or out of memory.
+    /// Returns the refusal of this region: E1, or out of memory.
     pub fn invalid_region(&self, alloc: Global, region: &ArraySubset) -> ArrayError
         ensures { RefusesBy (Some (array_subset (box_of region.now)
             (G.array_extents self.now.grid))) (refusal_of result) }
@@ -39,7 +39,7 @@ impl<G: ChunkGridTraits, K: ChunkKeyEncodingTraits, C: ChainTraits> ArrayLayout<
         }
     }
 
-    /// The indices of the chunks that the region meets.
+    /// Returns the indices of the chunks that the region meets.
     ///
     /// # Errors
     /// E1 for another number of dimensions, or a position that no chunk covers. E9 may come at any time.
@@ -64,7 +64,7 @@ impl<G: ChunkGridTraits, K: ChunkKeyEncodingTraits, C: ChainTraits> ArrayLayout<
         }
     }
 
-    /// The cells of the region if each is the fill value's.
+    /// Returns the cells of the region if each is the fill value's.
     ///
     /// # Errors
     /// E8 if the cells, or that many fill values, have more bytes than a `usize` counts. E9 may come at any time.
@@ -87,7 +87,7 @@ impl<G: ChunkGridTraits, K: ChunkKeyEncodingTraits, C: ChainTraits> ArrayLayout<
         }
     }
 
-    /// So many fill values.
+    /// Returns so many fill values.
     ///
     /// # Errors
     /// E8 if they have more bytes than a `usize` counts. E9 may come at any time.
@@ -110,7 +110,7 @@ impl<G: ChunkGridTraits, K: ChunkKeyEncodingTraits, C: ChainTraits> ArrayLayout<
         Ok(data)
     }
 
-    /// Whether the region is the box of one chunk, the first one of those that it meets.
+    /// Returns whether the region is the box of one chunk, the first one of those that it meets.
     ///
     /// # Errors
     /// E9 alone: out of memory.
@@ -134,7 +134,7 @@ impl<G: ChunkGridTraits, K: ChunkKeyEncodingTraits, C: ChainTraits> ArrayLayout<
         Ok(*region == chunk)
     }
 
-    /// The number of cells of data of the type's kind.
+    /// Returns the number of cells of data of the type's kind.
     fn count_of(&self, region_data: &ArrayBytes<'_>) -> u64
         ensures { result ≡ count_of (kind self.now.data_type) (data_of region_data.now) }
     {
@@ -148,7 +148,7 @@ impl<G: ChunkGridTraits, K: ChunkKeyEncodingTraits, C: ChainTraits> ArrayLayout<
         }
     }
 
-    /// Whether the data is one cell for each position of the region, each a value of the data type.
+    /// Returns whether the data is one cell for each position of the region, each a value of the data type.
     fn has_cells(&self, region: &ArraySubset, region_data: &ArrayBytes<'_>) -> bool
         ensures { IsTrue result ↔ HasCells (kind self.now.data_type) (data_of region_data.now)
             (position_count (box_of region.now).shape) }

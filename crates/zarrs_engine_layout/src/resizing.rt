@@ -10,7 +10,7 @@ impl<G: ChunkGridTraits, K: ChunkKeyEncodingTraits, C: ChainTraits> ArrayLayout<
     ghost use Rattle.zarrs_engine_calls.specs.ChunkBoxes.{last_of};
     ghost use Rattle.zarrs_engine_calls.specs.Cuts.{is_below, is_cut, keeps_some};
 
-    /// Whether there is a chunk with these indices.
+    /// Returns whether there is a chunk with these indices.
     fn has_chunk(&self, chunk_indices: &[u64]) -> bool
         requires { length chunk_indices.now ≡ (G.grid self.now.grid).dimensions }
         ensures { result ≡ has_box (G.grid self.now.grid) chunk_indices.now }
@@ -23,7 +23,7 @@ impl<G: ChunkGridTraits, K: ChunkKeyEncodingTraits, C: ChainTraits> ArrayLayout<
         true
     }
 
-    /// Whether the first cell of the chunk is below the shape.
+    /// Returns whether the first cell of the chunk is below the shape.
     fn begins_below(&self, chunk_indices: &[u64], shape: &[u64]) -> bool
         requires chunk { has_box (G.grid self.now.grid) chunk_indices.now ≡ true }
         requires shape { length shape.now ≡ (G.grid self.now.grid).dimensions }
@@ -43,7 +43,7 @@ impl<G: ChunkGridTraits, K: ChunkKeyEncodingTraits, C: ChainTraits> ArrayLayout<
         true
     }
 
-    /// Whether the last cell of the chunk is below the shape.
+    /// Returns whether the last cell of the chunk is below the shape.
     fn ends_below(&self, chunk_indices: &[u64], shape: &[u64]) -> bool
         requires chunk { has_box (G.grid self.now.grid) chunk_indices.now ≡ true }
         requires shape { length shape.now ≡ (G.grid self.now.grid).dimensions }
@@ -64,8 +64,8 @@ impl<G: ChunkGridTraits, K: ChunkKeyEncodingTraits, C: ChainTraits> ArrayLayout<
         true
     }
 
-    /// Whether the chunk with these indices has cells below this shape, if it has cells that are not. `None` if it has
-    /// no such cell, or if there is no such chunk.
+    /// Returns whether the chunk with these indices has cells below this shape, if it has cells that are not. `None` if
+    /// it has no such cell, or if there is no such chunk.
     pub fn cut(&self, chunk_indices: &[u64], shape: &[u64]) -> Option<bool>
         requires indices { length chunk_indices.now ≡ (G.grid self.now.grid).dimensions }
         requires shape { length shape.now ≡ (G.grid self.now.grid).dimensions }

@@ -18,7 +18,7 @@ pub struct Shared {
     pub part: ArraySubset,
 }
 
-/// The positions that a region and the box of a chunk share, or `None` if there is none.
+/// Returns the positions that a region and the box of a chunk share, or `None` if there is none.
 ///
 /// # Errors
 /// `AllocError`: out of memory.
@@ -44,7 +44,7 @@ pub fn shared_positions(
     }))
 }
 
-/// Whether the region covers the chunk with these indices, which has a box.
+/// Returns whether the region covers the chunk with these indices, which has a box.
 pub fn covers_chunk<G: ChunkGridTraits>(
     grid: &G,
     region: &ArraySubset,
@@ -67,8 +67,8 @@ pub fn covers_chunk<G: ChunkGridTraits>(
     true
 }
 
-/// The positions that a region and the chunk with these indices share, as they lie in `own`, a box of the region's shape:
-/// the region's first position lies at its corner. `None` if they share none.
+/// Returns the positions that a region and the chunk with these indices share, as they lie in `own`, a box of the
+/// region's shape: the region's first position lies at its corner. `None` if they share none.
 ///
 /// # Errors
 /// `AllocError`: out of memory.
@@ -105,7 +105,7 @@ pub fn shared_in<G: ChunkGridTraits>(
     Ok(Some(ArraySubset::new(start, shape)))
 }
 
-/// The positions that a region shares with the chunk with these indices, seen from the corner of the chunk.
+/// Returns the positions that a region shares with the chunk with these indices, seen from the corner of the chunk.
 ///
 /// # Errors
 /// `AllocError`: out of memory.

@@ -89,6 +89,7 @@ order_codecs F dimensions codecs = extension_with_member (codes "transpose") (co
 
 -- ---- documents
 
+-- the V3 document of a V2 document of this type and this fill value; order F is a `transpose` that turns the dimensions around
 abbrev pub converted : DocumentV2Data → TypeV2 → Data → DocumentData
 converted m t fill = record {
   shape = m.shape;

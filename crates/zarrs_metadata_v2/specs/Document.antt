@@ -54,6 +54,7 @@ non_zero_size d = option_and_then (λ n. if n == 0 then None else Some n) (numbe
 abbrev pub order_named : List ℕ → Option ArrayMetadataV2Order
 order_named text = if bytes_eq text (codes "C") then Some C else (if bytes_eq text (codes "F") then Some F else None)
 
+-- the order that a JSON value says: the text `C` or `F`
 abbrev pub chunk_order_of : Data → Option ArrayMetadataV2Order
 chunk_order_of d = option_and_then order_named (as_str d)
 

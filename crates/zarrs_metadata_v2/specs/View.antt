@@ -10,6 +10,7 @@ use Rattle.zarrs_metadata_v2.specs.declared.document.ArrayMetadataV2.{ArrayMetad
 use Rattle.zarrs_metadata_v2.specs.declared.reading.Parts.{Parts}
 use Rattle.zarrs_metadata_v2.specs.declared.reading.Draft.{Draft}
 
+-- the document that a value of this type is
 abbrev pub document_v2_view : ArrayMetadataV2 → DocumentV2Data
 document_v2_view m = record {
   shape = m.shape.items;

@@ -11,6 +11,7 @@ use Rattle.zarrs_metadata_v3.specs.declared.document.ArrayMetadataV3.{ArrayMetad
 use Rattle.zarrs_metadata_v3.specs.declared.reading.Parts.{Parts}
 use Rattle.zarrs_metadata_v3.specs.declared.reading.Draft.{Draft}
 
+-- the field that a value of this type is
 abbrev pub field_view : AdditionalFieldV3 → FieldData
 field_view f = record { value = view f.value; must_understand = f.must_understand }
 
@@ -18,9 +19,11 @@ field_view f = record { value = view f.value; must_understand = f.must_understan
 abbrev pub fields_view : List (String Global × AdditionalFieldV3) → List (List ℕ × FieldData)
 fields_view fs = map (λ f. (string_bytes f.0, field_view f.1)) fs
 
+-- the name of a dimension, or none
 abbrev pub name_view : Option (String Global) → Option (List ℕ)
 name_view name = option_map string_bytes name
 
+-- the document that a value of this type is
 abbrev pub document_view : ArrayMetadataV3 → DocumentData
 document_view m = record {
   shape = m.shape.items;

@@ -102,7 +102,7 @@ abbrev pub words_order : Option CellType → List (List ℕ) → Option Order
 words_order known [] = None
 words_order known (word ∷ words) = verb_of word >>= λ verb. verb_order verb known words
 
--- words are separated by one space
+-- what a line asks for; its words are separated by one space
 unfoldable pub order_of : Option CellType → List ℕ → Option Order
 order_of known line = words_order known (slice_split (λ b. b == 32) line)
 

@@ -39,7 +39,7 @@ Describes creation (Ok m) =
     × (document_view m ≡ metadata_for creation.shape.items creation.chunk_shape.items creation.cell_type creation.fill.items)
 Describes creation (Err error) = HasNoArray creation error
 
--- a new array is what the line says
+-- a new array is what the line says, or it has no grid, or out of memory
 abbrev pub Creates : Creation → Result OpenArray CreationError → Type 0
 Creates creation (Ok array) =
     MakesGrid creation.shape.items creation.chunk_shape.items

@@ -88,7 +88,7 @@ abbrev pub lines_of_keys : Values → List (List ℕ) → List ℕ
 lines_of_keys values [] = line (codes "none")
 lines_of_keys values (key ∷ keys) = flat_map (key_text values) (key ∷ keys)
 
--- the keys of a map, in ascending order of their bytes
+-- the keys of a map and their values, in ascending order of their bytes
 abbrev pub keys_text : Values → List ℕ
 keys_text values = lines_of_keys values (finite.keys values)
 

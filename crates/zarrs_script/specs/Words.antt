@@ -37,6 +37,7 @@ is_region start shape = pointwise (λ first extent. nat_lt (first + extent) (2 ^
 abbrev pub region_at : List ℕ → List ℕ → Option Box
 region_at start shape = if is_region start shape then Some (box_from start shape) else None
 
+-- the region of two words, its start and its shape: they are as long, and each end is below 2 ^ 64
 abbrev pub region_of : List ℕ → List ℕ → Option Box
 region_of start shape = do
   start ← numbers_in_word start

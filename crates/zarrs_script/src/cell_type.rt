@@ -29,7 +29,7 @@ pub enum CellType {
 }
 
 impl CellType {
-    /// The type of this name.
+    /// Returns the type of this name.
     #[tactic(auto, unfolding(crate::specs::CellTypes::type_of))]
     pub fn named(name: &[u8]) -> Option<CellType>
         ensures { result ≡ type_of name.now }
@@ -57,7 +57,7 @@ impl CellType {
         }
     }
 
-    /// The data type of the cells.
+    /// Returns the data type of the cells.
     pub fn data_type(self) -> DataType
         ensures { kind result ≡ kind_of_cells self }
     {
@@ -74,7 +74,7 @@ impl CellType {
         }
     }
 
-    /// The size of a cell in bytes.
+    /// Returns the size of a cell in bytes.
     pub fn size(self) -> usize
         ensures { result ≡ cell_type_size self }
     {
@@ -103,7 +103,7 @@ impl CellType {
         }
     }
 
-    /// Whether the type has numbers below 0, the least of which is `-greatest - 1`.
+    /// Returns whether the type has numbers below 0, the least of which is `-greatest - 1`.
     pub fn is_signed(self) -> bool
         ensures { result ≡ is_signed self }
     {

@@ -14,7 +14,7 @@ use crate::cell_type::CellType;
 use crate::command::Verb;
 use crate::parse::{is_skipped, last_word, next_word, number_of, verb_of};
 
-/// Whether the items that are joined by commas are numbers.
+/// Returns whether the items that are joined by commas are numbers.
 fn are_numbers(word: &[u8]) -> bool
     ensures { result ≡ is_some (each_of number_of (slice_split (λ b. b == 44) word.now)) }
 {
@@ -26,7 +26,7 @@ fn are_numbers(word: &[u8]) -> bool
     true
 }
 
-/// Whether the word is a list of numbers.
+/// Returns whether the word is a list of numbers.
 #[tactic(auto, unfolding(crate::specs::Words::items_of))]
 fn is_list(word: &[u8]) -> bool
     ensures { result ≡ is_some (numbers_in_word word.now) }
@@ -34,21 +34,21 @@ fn is_list(word: &[u8]) -> bool
     word == b"-".as_slice() || are_numbers(word)
 }
 
-/// Whether the type has this number.
+/// Returns whether the type has this number.
 fn has_positive(cell_type: CellType, number: u64) -> bool
     ensures { result ≡ is_some (positive cell_type number) }
 {
     number <= cell_type.greatest()
 }
 
-/// Whether the type has this number below 0.
+/// Returns whether the type has this number below 0.
 fn has_negative(cell_type: CellType, number: u64) -> bool
     ensures { result ≡ is_some (negative cell_type number) }
 {
     cell_type.is_signed() && number <= cell_type.greatest() + 1
 }
 
-/// Whether the word writes a cell.
+/// Returns whether the word writes a cell.
 #[tactic(auto, unfolding(crate::specs::CellTexts::cell_of))]
 fn is_cell(cell_type: CellType, word: &[u8]) -> bool
     ensures { result ≡ is_some (cell_of cell_type word.now) }
@@ -66,7 +66,7 @@ fn is_cell(cell_type: CellType, word: &[u8]) -> bool
     }
 }
 
-/// Whether the items that are joined by commas write cells.
+/// Returns whether the items that are joined by commas write cells.
 fn are_cell_items(cell_type: CellType, word: &[u8]) -> bool
     ensures { result ≡ is_some (each_of (cell_of cell_type) (slice_split (λ b. b == 44) word.now)) }
 {
@@ -78,7 +78,7 @@ fn are_cell_items(cell_type: CellType, word: &[u8]) -> bool
     true
 }
 
-/// Whether the word is a list of cells.
+/// Returns whether the word is a list of cells.
 #[tactic(auto, unfolding(crate::specs::Words::items_of))]
 fn are_cells(cell_type: CellType, word: &[u8]) -> bool
     ensures { result ≡ is_some (cells_of cell_type word.now) }
@@ -86,7 +86,7 @@ fn are_cells(cell_type: CellType, word: &[u8]) -> bool
     word == b"-".as_slice() || are_cell_items(cell_type, word)
 }
 
-/// Whether the words are numbers, and their sum is below 2^64.
+/// Returns whether the words are numbers, and their sum is below 2^64.
 fn is_range(start: &[u8], extent: &[u8]) -> bool
     ensures { result ≡ is_range start.now extent.now }
 {
@@ -96,14 +96,14 @@ fn is_range(start: &[u8], extent: &[u8]) -> bool
     }
 }
 
-/// How many items are joined by commas.
+/// Returns how many items are joined by commas.
 fn item_count(word: &[u8]) -> usize
     ensures { result ≡ length (slice_split (λ b. b == 44) word.now) }
 {
     word.split(|byte| *byte == b',').count()
 }
 
-/// Whether there are as many items in both words, and those at one place are a range.
+/// Returns whether there are as many items in both words, and those at one place are a range.
 fn are_ranges(start: &[u8], shape: &[u8]) -> bool
     ensures { result ≡ pointwise is_range
         (slice_split (λ b. b == 44) start.now) (slice_split (λ b. b == 44) shape.now) }
@@ -121,7 +121,7 @@ fn are_ranges(start: &[u8], shape: &[u8]) -> bool
     true
 }
 
-/// Whether there is a region that begins at the indices of one word and has the extents of the other.
+/// Returns whether there is a region that begins at the indices of one word and has the extents of the other.
 #[tactic(auto, unfolding(crate::specs::Words::items_of))]
 fn is_region(start: &[u8], shape: &[u8]) -> bool
     ensures { result ≡ is_some (region_of start.now shape.now) }
@@ -132,7 +132,7 @@ fn is_region(start: &[u8], shape: &[u8]) -> bool
     shape != b"-".as_slice() && are_ranges(start, shape)
 }
 
-/// The type of the array that an `array` line makes.
+/// Returns the type of the array that an `array` line makes.
 fn array_type(words: Option<&[u8]>) -> Option<CellType>
     ensures { result ≡ known_after None (array_order (words_in words.entry)) }
 {
@@ -184,7 +184,7 @@ fn is_get(words: Option<&[u8]>) -> bool
     is_region(start, shape)
 }
 
-/// Whether the line has one list and nothing else.
+/// Returns whether the line has one list and nothing else.
 fn is_one_list(words: Option<&[u8]>) -> bool
     ensures { result ≡ is_some (one_list (words_in words.entry)) }
 {
@@ -194,14 +194,14 @@ fn is_one_list(words: Option<&[u8]>) -> bool
     is_list(numbers)
 }
 
-/// Whether the line has no more words.
+/// Returns whether the line has no more words.
 fn is_end(words: Option<&[u8]>) -> bool
     ensures { result ≡ is_some (keys_order (words_in words.entry)) }
 {
     words.is_none()
 }
 
-/// The type of the latest array after a line that begins with this verb, or none if the line is not a command.
+/// Returns the type of the latest array after a line that begins with this verb, or none if the line is not a command.
 fn type_after_words(verb: Verb, known: Option<CellType>, words: Option<&[u8]>) -> Option<CellType>
     ensures { result ≡ known_after known (verb_order verb known (words_in words.entry)) }
 {
@@ -218,7 +218,7 @@ fn type_after_words(verb: Verb, known: Option<CellType>, words: Option<&[u8]>) -
     }
 }
 
-/// The type of the latest array after a line, or none if the line is not a command.
+/// Returns the type of the latest array after a line, or none if the line is not a command.
 #[tactic(auto, unfolding(crate::specs::Script::order_of))]
 fn type_after_line(known: Option<CellType>, line: &[u8]) -> Option<CellType>
     ensures { result ≡ known_after known (order_of known line.now) }
@@ -227,7 +227,7 @@ fn type_after_line(known: Option<CellType>, line: &[u8]) -> Option<CellType>
     type_after_words(verb_of(first)?, known, words)
 }
 
-/// The number, from 1, of the first line of the script that is not a command.
+/// Returns the number, from 1, of the first line of the script that is not a command.
 pub fn first_bad_line(script: &[u8]) -> Option<u64>
     ensures { result ≡ result_err (orders_of script.now) }
 {

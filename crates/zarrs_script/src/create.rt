@@ -18,7 +18,7 @@ use zarrs_metadata::{ArrayMetadata, ArrayMetadataV3};
 use zarrs_options::ArrayCreateError;
 use zarrs_storage::MemoryStore;
 
-/// The extents of a chunk, none of which may be 0.
+/// Returns the extents of a chunk, none of which may be 0.
 fn chunk_shape_of(alloc: Global, extents: &[u64]) -> Result<ChunkShape, CreationError>
     ensures { HasSizes extents.now result }
 {
@@ -61,8 +61,8 @@ fn metadata_of(alloc: Global, creation: Creation) -> Result<ArrayMetadataV3, Cre
 }
 
 impl OpenArray {
-    /// A new array at the path `/` of a new store in memory, with the `regular` grid, `default` keys with `/` and the
-    /// codec `bytes`, made of the metadata that says these parts.
+    /// Returns a new array at the path `/` of a new store in memory, with the `regular` grid, `default` keys with `/`
+    /// and the codec `bytes`, made of the metadata that says these parts.
     ///
     /// # Errors
     /// `NoGrid` if the chunk shape has another length than the shape, or an extent 0. `OutOfMemory` may come at any

@@ -22,7 +22,7 @@ use zarrs_data_type::ArrayBytes;
 use zarrs_engine::Call;
 use zarrs_subset::ArraySubset;
 
-/// The verb of this name.
+/// Returns the verb of this name.
 #[tactic(auto, unfolding(crate::specs::Script::verb_of))]
 pub fn verb_of(word: &[u8]) -> Option<Verb>
     ensures { result ≡ verb_of word.now }
@@ -138,7 +138,7 @@ fn push_cell(cells: &mut Vec<u8>, cell_type: CellType, word: &[u8]) -> Result<()
     }
 }
 
-/// The bytes of the cell that the word writes.
+/// Returns the bytes of the cell that the word writes.
 fn cell_of(alloc: Global, cell_type: CellType, word: &[u8]) -> Result<Vec<u8>, ParseError>
     ensures value { Gives (λ cell. cell.items) result (cell_of cell_type word.now) }
     ensures whole { IfOk result (λ cell. IsSome (fill_cell (kind_of_cells cell_type) cell.items)) }
@@ -148,7 +148,7 @@ fn cell_of(alloc: Global, cell_type: CellType, word: &[u8]) -> Result<Vec<u8>, P
     Ok(cell)
 }
 
-/// The numbers that are joined by commas.
+/// Returns the numbers that are joined by commas.
 fn number_items(alloc: Global, word: &[u8]) -> Result<Vec<u64>, ParseError>
     ensures { Gives (λ numbers. numbers.items) result
         (each_of number_of (slice_split (λ b. b == 44) word.now)) }
@@ -163,7 +163,7 @@ fn number_items(alloc: Global, word: &[u8]) -> Result<Vec<u64>, ParseError>
     Ok(numbers)
 }
 
-/// The numbers of a list: they are joined by commas, or there are none, for `-`.
+/// Returns the numbers of a list: they are joined by commas, or there are none, for `-`.
 #[tactic(auto, unfolding(crate::specs::Words::items_of))]
 fn numbers_in_word(alloc: Global, word: &[u8]) -> Result<Vec<u64>, ParseError>
     ensures { Gives (λ numbers. numbers.items) result (numbers_in_word word.now) }
@@ -174,7 +174,7 @@ fn numbers_in_word(alloc: Global, word: &[u8]) -> Result<Vec<u64>, ParseError>
     number_items(alloc, word)
 }
 
-/// The bytes of the cells that are joined by commas.
+/// Returns the bytes of the cells that are joined by commas.
 fn cell_items(alloc: Global, cell_type: CellType, word: &[u8]) -> Result<Vec<u8>, ParseError>
     ensures { Gives (λ cells. cells.items) result
         (joined_cells (each_of (cell_of cell_type) (slice_split (λ b. b == 44) word.now))) }
@@ -186,7 +186,7 @@ fn cell_items(alloc: Global, cell_type: CellType, word: &[u8]) -> Result<Vec<u8>
     Ok(cells)
 }
 
-/// The bytes of the cells of a list.
+/// Returns the bytes of the cells of a list.
 #[tactic(auto, unfolding(crate::specs::Words::items_of))]
 fn cells_of(alloc: Global, cell_type: CellType, word: &[u8]) -> Result<Vec<u8>, ParseError>
     ensures { Gives (λ cells. cells.items) result (cells_of cell_type word.now) }
@@ -197,14 +197,14 @@ fn cells_of(alloc: Global, cell_type: CellType, word: &[u8]) -> Result<Vec<u8>, 
     cell_items(alloc, cell_type, word)
 }
 
-/// Where the first space is.
+/// Returns where the first space is.
 fn space_in(text: &[u8]) -> Option<usize>
     ensures { result ≡ position (λ b. b == 32) text.now }
 {
     text.iter().position(|byte| *byte == b' ')
 }
 
-/// The first of the words, which are separated by one space, and the others if there are any.
+/// Returns the first of the words, which are separated by one space, and the others if there are any.
 ///
 /// # Errors
 /// `NotACommand` if there is no word.
@@ -267,7 +267,7 @@ fn chunk_command(
     Ok(Command::Call(Call::StoreChunk(chunk_indices, chunk_data)))
 }
 
-/// The region that begins at the indices of one word and has the extents of the other.
+/// Returns the region that begins at the indices of one word and has the extents of the other.
 fn region_of(alloc: Global, start: &[u8], shape: &[u8]) -> Result<ArraySubset, ParseError>
     ensures { Gives box_of result (region_of start.now shape.now) }
 {
@@ -304,7 +304,7 @@ fn get_command(alloc: Global, words: Option<&[u8]>) -> Result<Command, ParseErro
     Ok(Command::Call(Call::RetrieveArraySubset(region)))
 }
 
-/// The list of a line that has nothing else.
+/// Returns the list of a line that has nothing else.
 fn one_list(alloc: Global, words: Option<&[u8]>) -> Result<Vec<u64>, ParseError>
     ensures { Gives (λ numbers. numbers.items) result (one_list (words_in words.entry)) }
 {
@@ -330,7 +330,7 @@ fn meta_command(words: Option<&[u8]>) -> Result<Command, ParseError>
     }
 }
 
-/// The command of a line that begins with this verb. The latest array before it has the known type.
+/// Returns the command of a line that begins with this verb. The latest array before it has the known type.
 fn verb_command(
     alloc: Global,
     verb: Verb,
@@ -353,7 +353,7 @@ fn verb_command(
     }
 }
 
-/// The command of a line, if the latest array before it has the known type.
+/// Returns the command of a line, if the latest array before it has the known type.
 ///
 /// # Errors
 /// `NotACommand` for a line that is no command. `OutOfMemory` may come at any time.
@@ -370,7 +370,7 @@ pub fn command_of(
     verb_command(alloc, verb, known, words)
 }
 
-/// The type of the latest array after this command.
+/// Returns the type of the latest array after this command.
 pub fn type_after(known: Option<CellType>, command: &Command) -> Option<CellType>
     ensures { result ≡ type_after known (order_of_command command.now) }
 {
@@ -380,14 +380,14 @@ pub fn type_after(known: Option<CellType>, command: &Command) -> Option<CellType
     }
 }
 
-/// Where the first line ends.
+/// Returns where the first line ends.
 fn line_end_in(text: &[u8]) -> Option<usize>
     ensures { result ≡ position (λ b. b == 10) text.now }
 {
     text.iter().position(|byte| *byte == b'\n')
 }
 
-/// The first of the lines, and the others if there are any.
+/// Returns the first of the lines, and the others if there are any.
 pub fn next_line(text: &[u8]) -> (&[u8], Option<&[u8]>)
     ensures { slice_split (λ b. b == 10) text.now ≡ result.0.now ∷ lines_in result.1 }
 {
@@ -397,7 +397,7 @@ pub fn next_line(text: &[u8]) -> (&[u8], Option<&[u8]>)
     }
 }
 
-/// Whether the line is empty, or begins with `#`.
+/// Returns whether the line is empty, or begins with `#`.
 pub fn is_skipped(line: &[u8]) -> bool
     ensures { result ≡ is_skipped line.now }
 {

@@ -71,7 +71,7 @@ pub fn put_refusal(out: &mut Vec<u8>, number: u8) -> Result<(), AllocError>
     Ok(())
 }
 
-/// The text for a line, by its number, that is not a command.
+/// Returns the text for a line, by its number, that is not a command.
 ///
 /// # Errors
 /// `AllocError`: out of memory.
@@ -86,7 +86,7 @@ pub fn complaint(alloc: Global, number: u64) -> Result<Vec<u8>, AllocError>
     Ok(text)
 }
 
-/// The number of these bytes, the lowest first.
+/// Returns the number of these bytes, the lowest first.
 fn value_of(bytes: &[u8]) -> u64
     requires { length bytes.now ≤ 8 }
     ensures { result ≡ value_of bytes.now }
@@ -151,7 +151,7 @@ fn put_cells<W: Write>(
     Ok(())
 }
 
-/// The number of a refusal, and 0 for one that no call returns.
+/// Returns the number of a refusal, and 0 for one that no call returns.
 fn refusal_number(error: &ArrayError) -> u8
     ensures { result ≡ refusal_number (refusal_of error.now) }
 {
@@ -220,7 +220,7 @@ pub fn put_skipped(out: &mut Vec<u8>) -> Result<(), AllocError>
     put_line(out, b"skipped")
 }
 
-/// The bytes at a key, or none. A store in memory is refused only if out of memory.
+/// Returns the bytes at a key, or none. A store in memory is refused only if out of memory.
 fn value_at(alloc: Global, store: &MemoryStore, key: &StoreKey) -> Result<Bytes, AllocError>
     ensures { IfOk result (λ value. value ≡ bytes_at store.now.values key.now) }
 {

@@ -108,7 +108,7 @@ impl<TStorage: WritableStorageTraits> Array<TStorage> {
         Ok(())
     }
 
-    /// Whether the parts of chunks are written by themselves: the chain and the store can.
+    /// Returns whether the parts of chunks are written by themselves: the chain and the store can.
     fn encodes_partly(&self) -> bool
         ensures { result ≡ ((layout_of_array self.now).chain.encodes_partly
             && (store_of_array TStorage.state self.now).sets_parts) }

@@ -15,7 +15,7 @@ struct ArrayLoan<'a, TStorage> {
     array: &'a mut Array<TStorage>,
 }
 
-/// The array of a loan.
+/// Returns the array of a loan.
 fn array_of<'a, TStorage>(
     loan: Result<ArrayLoan<'a, TStorage>, ArrayCreateError>,
 ) -> Result<&'a mut Array<TStorage>, ArrayCreateError>

@@ -72,7 +72,7 @@ pub fn replay<
     Ok(replies)
 }
 
-/// The reply to a call that returns nothing.
+/// Returns the reply to a call that returns nothing.
 fn done(made: Result<(), ArrayError>) -> Reply
     ensures done { OnOk made (result ≡ Done) }
     ensures refused { IfErr made (λ e. result ≡ Refused e) }
@@ -83,7 +83,7 @@ fn done(made: Result<(), ArrayError>) -> Reply
     }
 }
 
-/// The reply to a call that returns cells.
+/// Returns the reply to a call that returns cells.
 fn cells(made: Result<ArrayBytes<'static>, ArrayError>) -> Reply
     ensures cells { IfOk made.entry (λ held. result ≡ Cells held) }
     ensures refused { IfErr made.entry (λ e. result ≡ Refused e) }
@@ -155,7 +155,7 @@ impl<
         }
     }
 
-    /// The reply to a change of the shape.
+    /// Returns the reply to a change of the shape.
     fn answer_resize(&mut self, alloc: Global, shape: &[u64], options: &CodecOptions) -> Reply
         requires { resize_refusal (layout_of self.old) shape.now ≡ None
             → MayAskKept (layout_of self.old) shape.now (cut_chunks (layout_of self.old).grid
@@ -174,7 +174,7 @@ impl<
         done(self.resize(alloc, wanted, options))
     }
 
-    /// The reply to an erasure of one chunk.
+    /// Returns the reply to an erasure of one chunk.
     fn answer_erase_chunk(&mut self, alloc: Global, chunk_indices: &[u64]) -> Reply
         ensures step { (keep : Bool) (shape : List ℕ) → ActStep (layout_of self.old) keep shape
             (length_refusal (layout_of self.old) chunk_indices.now)
@@ -191,7 +191,7 @@ impl<
         }
     }
 
-    /// The reply to an erasure of a range of chunks.
+    /// Returns the reply to an erasure of a range of chunks.
     fn answer_erase_chunks(&mut self, alloc: Global, chunks: &ArraySubset) -> Reply
         ensures step { (keep : Bool) (shape : List ℕ) → ActStep (layout_of self.old) keep shape
             (length_refusal (layout_of self.old) (box_of chunks.now).start)
@@ -208,7 +208,7 @@ impl<
         }
     }
 
-    /// The reply to a compaction of one chunk.
+    /// Returns the reply to a compaction of one chunk.
     fn answer_compact_chunk(&mut self, alloc: Global, chunk_indices: &[u64]) -> Reply
         requires { MayAskChunk (layout_of self.old) chunk_indices.now (store_of S.state self.old) }
         ensures step { (keep : Bool) (shape : List ℕ) → ActStep (layout_of self.old) keep shape

@@ -22,7 +22,7 @@ impl<
     ghost use Rattle.zarrs_engine.specs.Encoded.{RefusesEncoded, stored_values};
     ghost use Rattle.zarrs_engine.specs.Engine.{layout_of, store_of};
 
-    /// The bytes that are stored for the chunk with these indices, or `None` if it is absent.
+    /// Returns the bytes that are stored for the chunk with these indices, or `None` if it is absent.
     ///
     /// # Errors
     /// E7 if the store refuses the key. E9 may come at any time.
@@ -49,7 +49,8 @@ impl<
         }
     }
 
-    /// The bytes that are stored for each chunk of the range, in row-major order, `None` for a chunk that is absent.
+    /// Returns the bytes that are stored for each chunk of the range, in row-major order, `None` for a chunk that is
+    /// absent.
     ///
     /// # Errors
     /// E8 for more chunks than a `u64` counts; E7 if the store refuses the key of one of them. E9 may come at any time.

@@ -19,8 +19,8 @@ impl<
     ghost use Rattle.zarrs_engine.specs.Outcomes.{RetrievesChunksOrRefuses, MayRetrieveChunks};
     ghost use Rattle.zarrs_engine.specs.Outcomes.{MayRetrievePart, RetrievesPartOrRefuses};
 
-    /// The cells of the chunks with the indices in the range, in row-major order over all of them. Where a chunk is
-    /// absent they are fill. A range without a chunk has no cell, and asks nothing of the store.
+    /// Returns the cells of the chunks with the indices in the range, in row-major order over all of them. Where a
+    /// chunk is absent they are fill. A range without a chunk has no cell, and asks nothing of the store.
     ///
     /// # Errors
     /// In this order: E1 for another number of dimensions; E3 for a first index without a chunk, then for such a last
@@ -38,8 +38,8 @@ impl<
         self.read_region(alloc, &region, chunks)
     }
 
-    /// The cells of a part of the chunk with these indices, in row-major order. The part is seen from the origin of the
-    /// chunk. Where the chunk is absent they are fill.
+    /// Returns the cells of a part of the chunk with these indices, in row-major order. The part is seen from the
+    /// origin of the chunk. Where the chunk is absent they are fill.
     ///
     /// # Errors
     /// In this order: E3 for another number of indices than dimensions, or without a chunk; E2 for a part of another

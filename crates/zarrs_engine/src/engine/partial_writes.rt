@@ -46,7 +46,7 @@ impl<
     ghost use Rattle.zarrs_engine.specs.Outcomes.{PatchesPartOrRefuses};
     ghost use Rattle.zarrs_engine.specs.Patches.{LeavesPatch};
 
-    /// Whether the parts of chunks are written by themselves: the chain and the store can.
+    /// Returns whether the parts of chunks are written by themselves: the chain and the store can.
     pub(crate) fn encodes_partly(&self) -> bool
         ensures { result ≡ ((layout_of self.now).chain.encodes_partly
             && (store_of S.state self.now).sets_parts) }
@@ -54,7 +54,7 @@ impl<
         self.layout.encodes_partly() && self.storage.supports_set_partial()
     }
 
-    /// Whether a store with these options writes the parts of chunks by themselves.
+    /// Returns whether a store with these options writes the parts of chunks by themselves.
     pub(crate) fn writes_parts(&self, options: &CodecOptions) -> bool
         ensures { result ≡ (encodes_partially options.now
             && ((layout_of self.now).chain.encodes_partly
@@ -85,8 +85,8 @@ impl<
         }
     }
 
-    /// What is done with the key of a chunk for the cells of a part, seen from the chunk's origin. What was read of it is
-    /// let go of.
+    /// Returns what is done with the key of a chunk for the cells of a part, seen from the chunk's origin. What was
+    /// read of it is let go of.
     fn part_write(
         &self,
         alloc: Global,
@@ -208,7 +208,7 @@ impl<
         self.store_part(alloc, &region, chunk_subset_data, chunk_indices, options)
     }
 
-    /// A box inside a region, seen from `origin`, and the region's cells in it.
+    /// Returns a box inside a region, seen from `origin`, and the region's cells in it.
     fn seen_cells(
         &self,
         alloc: Global,

@@ -26,7 +26,7 @@ impl<
     ghost use Rattle.zarrs_engine.specs.Outcomes.{RetrievesChunkOrRefuses, RetrievesIfExistsOrRefuses};
     ghost use Rattle.zarrs_engine_layout.specs.Steps.{RefusesValue};
 
-    /// The bytes that are present at the key of the chunk with these indices.
+    /// Returns the bytes that are present at the key of the chunk with these indices.
     pub(crate) fn stored_bytes(
         &self,
         alloc: Global,
@@ -54,7 +54,7 @@ impl<
         Ok(value)
     }
 
-    /// The cells of the chunk with these indices, or `None` if it is absent.
+    /// Returns the cells of the chunk with these indices, or `None` if it is absent.
     ///
     /// # Errors
     /// In this order: E3 for another number of indices than dimensions; E7 if the store refuses the key. Then, if the
@@ -77,7 +77,7 @@ impl<
         }
     }
 
-    /// The cells of the chunk with these indices. An absent chunk is all fill value.
+    /// Returns the cells of the chunk with these indices. An absent chunk is all fill value.
     ///
     /// # Errors
     /// In this order: E3 for another number of indices than dimensions; E7 if the store refuses the key; E3 for

@@ -33,8 +33,8 @@ impl<
     ghost use Rattle.zarrs_engine.specs.Engine.{layout_of, store_of};
     ghost use Rattle.zarrs_engine.specs.TargetReads.{HasReadInto};
 
-    /// The cells of a region that these chunks cover, of a type of this form. They are one list, into which each chunk
-    /// is decoded.
+    /// Returns the cells of a region that these chunks cover, of a type of this form. They are one list, into which
+    /// each chunk is decoded.
     pub(super) fn read_in_list(
         &self,
         alloc: Global,
@@ -63,7 +63,7 @@ impl<
         Ok(made)
     }
 
-    /// What the bytes of so many cells begin as: fill values, or zeros that lie under masks.
+    /// Returns what the bytes of so many cells begin as: fill values, or zeros that lie under masks.
     fn first_bytes(
         &self,
         alloc: Global,
@@ -151,7 +151,7 @@ pub(super) struct CellForm {
     depth: usize,
 }
 
-/// The form of the cells of a fixed type. Another type has none.
+/// Returns the form of the cells of a fixed type. Another type has none.
 pub(super) fn form_of(data_type: &DataType) -> Option<CellForm>
     ensures { IfSome result (λ form. takes_type form.size form.depth (kind data_type.now) ≡ true) }
 {
@@ -170,7 +170,7 @@ fn depth_of(data_type: &DataType) -> Option<usize>
     }
 }
 
-/// So many masks of `count` zeros each. Bytes that no `usize` counts are in no memory.
+/// Returns so many masks of `count` zeros each. Bytes that no `usize` counts are in no memory.
 fn zero_masks(alloc: Global, count: usize, depth: usize) -> Result<Vec<u8>, AllocError>
     ensures { IfOk result (λ made. length made.items ≡ count * depth) }
 {
@@ -194,7 +194,7 @@ fn into_flags(masks: Vec<u8>) -> Vec<u8>
     flags
 }
 
-/// Cells of one size under so many masks of `count` flags each, the outermost first.
+/// Returns cells of one size under so many masks of `count` flags each, the outermost first.
 fn under_masks(
     alloc: Global,
     depth: usize,

@@ -41,7 +41,7 @@ impl<
     ghost use Rattle.zarrs_engine_layout.specs.Covers.{CoverRegion};
     ghost use Rattle.zarrs_engine.specs.RegionReads.{DecodesStored, HasRead, IsRegionOf, ReadsOneMore};
 
-    /// How many cells a region has.
+    /// Returns how many cells a region has.
     ///
     /// # Errors
     /// E8 for cells of more bytes than a `usize` counts.
@@ -60,7 +60,7 @@ impl<
         }
     }
 
-    /// The cells of a region if each is the fill value's.
+    /// Returns the cells of a region if each is the fill value's.
     pub(super) fn region_of_fill(
         &self,
         alloc: Global,
@@ -84,8 +84,8 @@ impl<
         Ok(made)
     }
 
-    /// The cells that a chunk of this shape has of a part, seen from the corner of the chunk, or `None` if the chunk is
-    /// absent. No other bytes of it are read than those that the part needs.
+    /// Returns the cells that a chunk of this shape has of a part, seen from the corner of the chunk, or `None` if the
+    /// chunk is absent. No other bytes of it are read than those that the part needs.
     pub(super) fn part_of_chunk(
         &self,
         alloc: Global,
@@ -117,8 +117,8 @@ impl<
         Ok(Some(made))
     }
 
-    /// The cells of a region with those that one chunk has of it. An absent chunk changes nothing. Of a chunk that the
-    /// region does not cover, no other bytes are read than those that its part needs.
+    /// Returns the cells of a region with those that one chunk has of it. An absent chunk changes nothing. Of a chunk
+    /// that the region does not cover, no other bytes are read than those that its part needs.
     pub(super) fn with_chunk(
         &self,
         alloc: Global,
@@ -146,7 +146,7 @@ impl<
         self.with_chunk_part(alloc, region, held, chunk_indices, &chunk)
     }
 
-    /// The same, of a chunk that the region covers.
+    /// Returns the same, of a chunk that the region covers.
     fn with_whole_chunk(
         &self,
         alloc: Global,
@@ -177,7 +177,7 @@ impl<
         Ok(made)
     }
 
-    /// The same, of a chunk of which the region covers a part alone.
+    /// Returns the same, of a chunk of which the region covers a part alone.
     fn with_chunk_part(
         &self,
         alloc: Global,
@@ -212,7 +212,7 @@ impl<
         Ok(made)
     }
 
-    /// The cells of a region, all fill at first, with those of these chunks.
+    /// Returns the cells of a region, all fill at first, with those of these chunks.
     fn read_along(
         &self,
         alloc: Global,
@@ -244,7 +244,7 @@ impl<
         }
     }
 
-    /// The cells of a region that these chunks cover.
+    /// Returns the cells of a region that these chunks cover.
     pub(super) fn read_region(
         &self,
         alloc: Global,
@@ -277,8 +277,8 @@ impl<
         Ok(made)
     }
 
-    /// The cells of a region that lies in the chunk with these indices, just as they are decoded. They are fill if the
-    /// chunk is absent.
+    /// Returns the cells of a region that lies in the chunk with these indices, just as they are decoded. They are fill
+    /// if the chunk is absent.
     fn read_in_chunk(
         &self,
         alloc: Global,
@@ -307,9 +307,9 @@ impl<
         self.read_part(alloc, chunk_indices, chunk.shape(), &part)
     }
 
-    /// The cells of a part of the chunk with these indices, which has this shape, just as they are decoded. The part is
-    /// seen from the corner of the chunk, and is not all of it. Where the chunk is absent they are fill. No other bytes of
-    /// the chunk are read than those that the part needs.
+    /// Returns the cells of a part of the chunk with these indices, which has this shape, just as they are decoded. The
+    /// part is seen from the corner of the chunk, and is not all of it. Where the chunk is absent they are fill. No
+    /// other bytes of the chunk are read than those that the part needs.
     pub(super) fn read_part(
         &self,
         alloc: Global,
@@ -339,8 +339,8 @@ impl<
         }
     }
 
-    /// The cells of the region, in row-major order. Where a chunk is absent they are fill. The chunks that the region
-    /// meets are read one after another in row-major order; an empty region asks nothing of the store.
+    /// Returns the cells of the region, in row-major order. Where a chunk is absent they are fill. The chunks that the
+    /// region meets are read one after another in row-major order; an empty region asks nothing of the store.
     ///
     /// # Errors
     /// In this order: E1 for another number of dimensions, or a position that no chunk covers; E8 for cells of more

@@ -38,8 +38,8 @@ impl<
     ghost use Rattle.zarrs_engine.specs.RegionWrites.{AreCovered, HasUpdated, LeavesPart};
     ghost use Rattle.zarrs_engine.specs.RegionWrites.{StoresOneMore};
 
-    /// The cells of a chunk after it took its part of the region's data. Unless the region covers the chunk, the chunk
-    /// is read first.
+    /// Returns the cells of a chunk after it took its part of the region's data. Unless the region covers the chunk,
+    /// the chunk is read first.
     fn updated_chunk(
         &self,
         alloc: Global,

@@ -29,7 +29,7 @@ impl<
     ghost use Rattle.zarrs_engine.specs.Resizes.{HasCut, HasCutCells, IsCutValue, PassesChunk};
     ghost use Rattle.zarrs_engine.specs.Resizes.{LeavesCut, LeavesFront};
 
-    /// The cells of a chunk that has some below the shape, after the others became fill. The chunk is read.
+    /// Returns the cells of a chunk that has some below the shape, after the others became fill. The chunk is read.
     fn cut_cells(
         &self,
         alloc: Global,
@@ -57,7 +57,8 @@ impl<
         Ok(data)
     }
 
-    /// What is to be present at the key of a chunk after it was cut to the shape: nothing if it has no cell below it.
+    /// Returns what is to be present at the key of a chunk after it was cut to the shape: nothing if it has no cell
+    /// below it.
     fn cut_value(
         &self,
         alloc: Global,
@@ -218,7 +219,7 @@ impl<
 ghost use Rattle.std.specs.Prelude.{Some};
 ghost use Rattle.zarrs_engine_calls.specs.Refusals.{RefusesBy, refusal_of, unsupported};
 
-/// The refusal of a change of the shape of an array whose grid's boxes depend on it.
+/// Returns the refusal of a change of the shape of an array whose grid's boxes depend on it.
 fn unsupported_resize(alloc: Global) -> ArrayError
     ensures { RefusesBy (Some unsupported) (refusal_of result) }
 {
