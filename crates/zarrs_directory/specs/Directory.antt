@@ -1,0 +1,60 @@
+-- What a store over a directory is: what was read of it, and what was written since.
+use Rattle.std.specs.Prelude.{◌≡◌, ◌≢◌, ◌==◌, ℕ, List, [], Bool, true, false, codes, Contains}
+use Rattle.std.specs.List.{slice_split}
+use Rattle.std.specs.Ordering.{nat_cmp}
+use Rattle.std.specs.Cmp.Lexicographic.{slice_cmp}
+use Rattle.std.specs.BTreeSet.{BTreeSet, contains}
+use Rattle.std.specs.FinMap as map
+use Rattle.zarrs_storage.specs.Store.{StoreState, Values, slash}
+use Rattle.zarrs_storage.specs.Memory.{values_of}
+use Rattle.zarrs_directory.specs.declared.store.DirectoryStore.{DirectoryStore}
+
+-- ---- paths
+
+-- the names between the slashes
+abbrev pub names_of : List ℕ → List (List ℕ)
+names_of key = slice_split (λ byte. byte == slash) key
+
+-- a name that stays in its folder: some bytes without 0, and neither `.` nor `..`
+abbrev pub IsName : List ℕ → Type 0
+IsName name = (name ≢ []) × (name ≢ codes ".") × (name ≢ codes "..") × (Contains name 0 → ⊥)
+
+-- ---- the store
+
+-- whether the key is in the set
+abbrev pub has_key : BTreeSet (List ℕ) → List ℕ → Bool
+has_key read key = contains (slice_cmp nat_cmp) read key
+
+-- whether the key was read
+abbrev pub was_read : {R : Type 0} → DirectoryStore R → List ℕ → Bool
+was_read s key = has_key s.read key
+
+-- each key that was in the set is, and another key than this one is if it was
+pub record KeepsKeys (old new : BTreeSet (List ℕ)) (key : List ℕ) : Type 0 where
+  pub kept : (other : List ℕ) → has_key old other ≡ true → has_key new other ≡ true
+  pub others : (other : List ℕ) → (other ≡ key → ⊥) → has_key new other ≡ has_key old other
+
+-- another key than this one has the value that it had
+abbrev pub KeepsOtherValues : Values → Values → List ℕ → Type 0
+KeepsOtherValues old new key = (other : List ℕ) → (other ≡ key → ⊥) → map.get new other ≡ map.get old other
+
+-- its map, which holds what was read and written; the keys that were read may be asked
+abbrev pub directory_state : {R : Type 0} → DirectoryStore R → StoreState
+directory_state s = record {
+  values = values_of s.values;
+  calls = s.counts.calls;
+  failures = s.counts.failures;
+  refuses = λ _. false;
+  may_ask = λ key. was_read s key;
+  may_read = λ _ _. true;
+  sets_parts = false;
+  lenders = [];
+}
+
+-- A key is read: each other key has the value that it had and may be asked if it might, and no key that might be asked
+-- is lost.
+pub record ReadsKey {R : Type 0} (old new : DirectoryStore R) (key : List ℕ) : Type 0 where
+  pub keys : KeepsKeys old.read new.read key
+  pub values : KeepsOtherValues (values_of old.values) (values_of new.values) key
+  pub calls : new.counts.calls ≡ old.counts.calls
+  pub failures : new.counts.failures ≡ old.counts.failures

@@ -1,0 +1,18 @@
+//! Directories as stores: a key is the path of a file below a directory.
+//!
+//! `DirectoryStore` is a store over what was read of a directory. Its map is what was read and what was written since;
+//! the keys that may be asked are those that were read, so no call can take a file that nobody read for an absent one. What
+//! is written goes to its file at once. `files_below` lists what lies below a directory.
+#![tactic(auto)]
+
+mod counts;
+mod files;
+mod held;
+mod names;
+mod store;
+mod walk;
+
+pub use files::Directory;
+pub use names::{is_path, joined};
+pub use store::DirectoryStore;
+pub use walk::{Found, files_below};
