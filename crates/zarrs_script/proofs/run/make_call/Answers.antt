@@ -20,7 +20,7 @@ use Rattle.zarrs_script.proofs.Transcripts.{one_reply, some_reply, reply_said, c
 use Rattle.zarrs_script.proofs.run.make_call.Goals as goal
 
 pub replay-requires : goal.replay-requires
-replay-requires g c = ((λ index reached long. record { key = refl; places = λ place. refl }), λ reply. tt)
+replay-requires g c = ((λ located index reached long. record { key = refl; places = λ place. refl }), λ later leaves. tt)
 
 pub unreachable-requires : goal.unreachable-requires
 unreachable-requires g c =
