@@ -1,5 +1,5 @@
 -- Numbers and the cells that they stand for.
-use Rattle.std.proofs.Common.{◌≡◌, ℕ, true, List, [], ◌∷◌, length, map, get_or, Some, refl, sym, ap, ◌∙◌}
+use Rattle.std.proofs.Common.{◌≡◌, ℕ, true, List, [], ◌∷◌, length, map, get_or, Some, refl, ap, ◌∙◌}
 use Rattle.std.specs.List.{flat_map}
 use Rattle.std.proofs.lemmas.Simd.{map-map}
 use Rattle.zarrs_data_type_kinds.specs.declared.data_type.DataType.{DataType}

@@ -10,4 +10,4 @@ returns-clause-cells g c =
     let t = c.args.data_type.now in
     ap (cells (kind t)) (c.new_flen.ensures ∙ ap fixed c.in_ok-take_bytes.ensures)
     ∙ cells-numbers g.T.WholeNumber.le_bytes t g.T.Number.number_kind g.T.WholeNumber.size c.args.elements.now.items
-    (sym c.is_number_of.ensures ∙ c.if-not-is_number_of.false) g.T.Number.number_size g.T.Number.number_any g.T.WholeNumber.sized
+    (sym c.is_number_of.ensures ∙ c.if-not-is_number_of.false) g.met.T.Number.number_size g.met.T.Number.number_any g.T.WholeNumber.sized

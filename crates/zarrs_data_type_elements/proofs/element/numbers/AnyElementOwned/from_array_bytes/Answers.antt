@@ -15,4 +15,4 @@ returns-clause-cells g c =
     ap (λ d. cells (kind t) (data_of d)) c.in-Fixed.is
     ∙ ap (λ b. cells (kind t) (fixed b)) (sym c.in_ok-own_bytes.ensures)
     ∙ cells-numbers g.T.WholeNumber.le_bytes t g.T.Number.number_kind g.T.WholeNumber.size c.in_ok-own_bytes.field-0.items
-    (sym c.is_number_of.ensures ∙ c.if-not-is_number_of.false) g.T.Number.number_size g.T.Number.number_any g.T.WholeNumber.sized
+    (sym c.is_number_of.ensures ∙ c.if-not-is_number_of.false) g.met.T.Number.number_size g.met.T.Number.number_any g.T.WholeNumber.sized
