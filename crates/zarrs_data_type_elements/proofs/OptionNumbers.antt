@@ -1,5 +1,5 @@
 -- Options of numbers and the cells that they stand for.
-use Rattle.std.proofs.Common.{◌≡◌, ◌==◌, ℕ, ◌+◌, ◌*◌, ◌<◌, Bool, true, false, List, [], length, map, get_or, replicate}
+use Rattle.std.proofs.Common.{◌≡◌, ◌==◌, ℕ, ◌+◌, ◌*◌, ◌<◌, true, false, List, [], length, map, get_or}
 use Rattle.std.proofs.Common.{Option, None, Some, ◌&&◌, refl, sym, ap, ◌∙◌, subst, arith}
 use Rattle.std.specs.Prelude.{IfSome, slice_index, slice_range}
 use Rattle.std.specs.List.{flat_map}
@@ -8,10 +8,10 @@ use Rattle.std.proofs.lemmas.List.{length-map, get_or-map, length-replicate}
 use Rattle.std.proofs.lemmas.List.FromFn.{get_or-map-range_with_len}
 use Rattle.zarrs_data_type_kinds.specs.declared.data_type.DataType.{DataType}
 use Rattle.zarrs_data_type_kinds.specs.Kind.{Kind, kind, element_size, inner_of}
-use Rattle.zarrs_data_type_kinds.specs.Cell.{Cell, bytes, none, some, is_value, takes_any_bytes}
+use Rattle.zarrs_data_type_kinds.specs.Cell.{bytes, none, some, is_value, takes_any_bytes}
 use Rattle.zarrs_data_type_kinds.specs.Same.{kind_eq, kind_eq-Decides}
 use Rattle.zarrs_data_type_kinds.proofs.Sizes.{element_size-positive}
-use Rattle.zarrs_subset.specs.Pieces.{pieces, piece_at}
+use Rattle.zarrs_subset.specs.Pieces.{piece_at}
 use Rattle.zarrs_data_type_bytes.specs.ArrayData.{ArrayData, fixed, optional}
 use Rattle.zarrs_data_type_bytes.specs.Cells.{fits, cell_at, cells, HasCells}
 use Rattle.zarrs_data_type_bytes.proofs.Cells.{cells-as, fitting-fixed, HasCells-parts}

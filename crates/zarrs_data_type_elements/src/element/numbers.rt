@@ -1,54 +1,273 @@
 //! Whole numbers as cells.
-ghost use Rattle.std.specs.Prelude.{◌≡◌, true, map, Some, IfOk, IfErr};
+ghost use Rattle.std.specs.Prelude.{◌≡◌, ◌%◌, true, length, map, refl, Some, IfOk, IfErr};
+ghost use Rattle.std.specs.Cow.{cow_slice_items};
+ghost use Rattle.std.specs.List.{flat_map};
 ghost use Rattle.zarrs_data_type_bytes.specs.ArrayData.{data_of};
 ghost use Rattle.zarrs_data_type_bytes.specs.Cells.{cells};
 ghost use Rattle.zarrs_data_type_numbers.specs.Options.{option_flag};
 ghost use Rattle.zarrs_data_type_kinds.specs.Cell.{bytes, takes_any_bytes};
-ghost use Rattle.zarrs_data_type_kinds.specs.Kind.{kind, element_size};
+ghost use Rattle.zarrs_data_type_kinds.specs.Kind.{Kind, kind, element_size};
+ghost use Rattle.zarrs_data_type_kinds.specs.Kind as type;
+ghost use Rattle.zarrs_data_type_kinds.specs.Same.{kind_eq};
 ghost use Rattle.zarrs_data_type_elements.specs.Elements.{HoldsOptions, RefusesCells, option_cell};
 
+use super::copies::copied;
+use super::{Element, ElementOwned};
 use crate::error::ElementError;
 use std::alloc::{AllocError, Global};
 use std::borrow::CowSlice;
+use std::mem;
 use zarrs_data_type_bytes::ArrayBytes;
 use zarrs_data_type_kinds::DataType;
 use zarrs_data_type_numbers::WholeNumber;
 
-/// Data whose cells are these numbers, of a type of their size.
-pub(super) fn number_data<'a, T: WholeNumber>(
-    alloc: Global,
-    data_type: &DataType,
-    numbers: &[T],
-) -> Result<ArrayBytes<'a>, AllocError>
-    requires size { element_size (kind data_type.now) ≡ Some T.size }
-    requires any { takes_any_bytes (kind data_type.now) ≡ true }
-    ensures { IfOk result (λ made. cells (kind data_type.now) (data_of made)
-        ≡ Some (map (λ x. bytes (T.le_bytes x)) numbers.now)) }
-{
-    let _ = data_type;
-    let bytes = T::to_bytes(alloc, numbers)?;
-    Ok(ArrayBytes::Fixed(CowSlice::Owned(bytes)))
+/// A whole number that is the value of a cell.
+pub trait Number: WholeNumber {
+    // The data type of such cells.
+    ghost number_kind: { Kind };
+
+    /// Whether the numbers are the values of this data type.
+    fn is_number_of(data_type: &DataType) -> bool
+        ensures { result ≡ kind_eq (kind data_type.now) number_kind };
+
+    /// The bytes of the numbers. Numbers that are bytes are lent, not copied.
+    ///
+    /// # Errors
+    /// `AllocError`: out of memory.
+    fn lend_bytes<'a>(
+        alloc: Global,
+        numbers: &'a [Self],
+    ) -> Result<CowSlice<'a, u8>, AllocError>
+        ensures { IfOk result (λ made. cow_slice_items made
+            ≡ flat_map Self.le_bytes numbers.now) }
+    {
+        Ok(CowSlice::Owned(Self::to_bytes(alloc, numbers)?))
+    }
+
+    /// The bytes of the numbers. Numbers that are bytes are taken, not copied.
+    ///
+    /// # Errors
+    /// `AllocError`: out of memory.
+    fn take_bytes(alloc: Global, numbers: &mut Vec<Self>) -> Result<Vec<u8>, AllocError>
+        ensures { IfOk result (λ made. made.items
+            ≡ flat_map Self.le_bytes numbers.old.items) }
+    {
+        Self::to_bytes(alloc, numbers.as_slice())
+    }
+
+    /// The numbers of the bytes. Bytes that are owned become numbers without a copy.
+    ///
+    /// # Errors
+    /// `AllocError`: out of memory.
+    fn own_bytes(alloc: Global, bytes: CowSlice<'_, u8>) -> Result<Vec<Self>, AllocError>
+        requires { length (cow_slice_items bytes) % Self.size ≡ 0 }
+        ensures { IfOk result (λ made. flat_map Self.le_bytes made.items
+            ≡ cow_slice_items bytes.entry) }
+    {
+        Self::from_bytes(alloc, bytes.as_slice())
+    }
+
+    // Such cells have the size of the number.
+    ghost number_size: { element_size number_kind ≡ Some Self.WholeNumber.size };
+
+    // They are any bytes of this size.
+    ghost number_any: { takes_any_bytes number_kind ≡ true };
 }
 
-/// The numbers of the cells of the data, of a type of their size.
-pub(super) fn number_list<T: WholeNumber>(
-    alloc: Global,
-    data_type: &DataType,
-    array_bytes: &ArrayBytes<'_>,
-) -> Result<Vec<T>, ElementError>
-    requires size { element_size (kind data_type.now) ≡ Some T.size }
-    requires any { takes_any_bytes (kind data_type.now) ≡ true }
-    ensures cells { IfOk result (λ numbers. cells (kind data_type.now) (data_of array_bytes.now)
-        ≡ Some (map (λ x. bytes (T.le_bytes x)) numbers.items)) }
-    ensures refused { IfErr result (RefusesCells true (cells (kind data_type.now)
-        (data_of array_bytes.now))) }
-{
-    let size = data_type.element_size().unwrap();
-    match array_bytes {
-        ArrayBytes::Fixed(bytes) if bytes.as_slice().len() % size == 0 => {
-            Ok(T::from_bytes(alloc, bytes.as_slice())?)
+impl Number for u8 {
+    ghost number_kind = { type.uint8 };
+
+    ghost number_size = { refl };
+
+    ghost number_any = { refl };
+
+    fn is_number_of(data_type: &DataType) -> bool {
+        *data_type == DataType::UInt8
+    }
+
+    fn lend_bytes<'a>(_alloc: Global, numbers: &'a [u8]) -> Result<CowSlice<'a, u8>, AllocError> {
+        Ok(CowSlice::Borrowed(numbers))
+    }
+
+    fn take_bytes(alloc: Global, numbers: &mut Vec<u8>) -> Result<Vec<u8>, AllocError> {
+        Ok(mem::replace(numbers, Vec::new(alloc)))
+    }
+
+    fn own_bytes(alloc: Global, bytes: CowSlice<'_, u8>) -> Result<Vec<u8>, AllocError> {
+        bytes.into_owned(alloc)
+    }
+}
+
+impl Number for u16 {
+    ghost number_kind = { type.uint16 };
+
+    ghost number_size = { refl };
+
+    ghost number_any = { refl };
+
+    fn is_number_of(data_type: &DataType) -> bool {
+        *data_type == DataType::UInt16
+    }
+}
+
+impl Number for u32 {
+    ghost number_kind = { type.uint32 };
+
+    ghost number_size = { refl };
+
+    ghost number_any = { refl };
+
+    fn is_number_of(data_type: &DataType) -> bool {
+        *data_type == DataType::UInt32
+    }
+}
+
+impl Number for u64 {
+    ghost number_kind = { type.uint64 };
+
+    ghost number_size = { refl };
+
+    ghost number_any = { refl };
+
+    fn is_number_of(data_type: &DataType) -> bool {
+        *data_type == DataType::UInt64
+    }
+}
+
+impl Number for i8 {
+    ghost number_kind = { type.int8 };
+
+    ghost number_size = { refl };
+
+    ghost number_any = { refl };
+
+    fn is_number_of(data_type: &DataType) -> bool {
+        *data_type == DataType::Int8
+    }
+}
+
+impl Number for i16 {
+    ghost number_kind = { type.int16 };
+
+    ghost number_size = { refl };
+
+    ghost number_any = { refl };
+
+    fn is_number_of(data_type: &DataType) -> bool {
+        *data_type == DataType::Int16
+    }
+}
+
+impl Number for i32 {
+    ghost number_kind = { type.int32 };
+
+    ghost number_size = { refl };
+
+    ghost number_any = { refl };
+
+    fn is_number_of(data_type: &DataType) -> bool {
+        *data_type == DataType::Int32
+    }
+}
+
+impl Number for i64 {
+    ghost number_kind = { type.int64 };
+
+    ghost number_size = { refl };
+
+    ghost number_any = { refl };
+
+    fn is_number_of(data_type: &DataType) -> bool {
+        *data_type == DataType::Int64
+    }
+}
+
+impl<T: Number> Element for T {
+    ghost cell = { λ x. bytes (T.WholeNumber.le_bytes x) };
+
+    ghost serves = { λ k. kind_eq k T.number_kind };
+
+    fn serves(data_type: &DataType) -> bool {
+        T::is_number_of(data_type)
+    }
+
+    fn to_array_bytes<'a>(
+        alloc: Global,
+        data_type: &DataType,
+        elements: &'a [T],
+    ) -> Result<ArrayBytes<'a>, ElementError> {
+        if !T::is_number_of(data_type) {
+            return Err(ElementError::IncompatibleElementType);
         }
-        _ => Err(ElementError::IncompatibleElementType),
+        Ok(ArrayBytes::Fixed(T::lend_bytes(alloc, elements)?))
+    }
+
+    fn take_array_bytes(
+        alloc: Global,
+        data_type: &DataType,
+        elements: &mut Vec<T>,
+    ) -> Result<ArrayBytes<'static>, ElementError> {
+        if !T::is_number_of(data_type) {
+            return Err(ElementError::IncompatibleElementType);
+        }
+        Ok(ArrayBytes::new_flen(T::take_bytes(alloc, elements)?))
+    }
+
+    fn lent_to_array_bytes(
+        alloc: Global,
+        data_type: &DataType,
+        elements: &[&T],
+    ) -> Result<ArrayBytes<'static>, ElementError> {
+        let mut numbers = copied(alloc, elements)?;
+        <T as Element>::take_array_bytes(alloc, data_type, &mut numbers)
+    }
+
+    fn options_to_array_bytes(
+        alloc: Global,
+        data_type: &DataType,
+        options: &[Option<T>],
+    ) -> Result<ArrayBytes<'static>, ElementError> {
+        let Some(inner) = data_type.optional_inner() else {
+            return Err(ElementError::IncompatibleElementType);
+        };
+        if !T::is_number_of(inner) {
+            return Err(ElementError::IncompatibleElementType);
+        }
+        Ok(number_option_data(alloc, data_type, options)?)
+    }
+}
+
+impl<T: Number> ElementOwned for T {
+    fn from_array_bytes(
+        alloc: Global,
+        data_type: &DataType,
+        array_bytes: ArrayBytes<'_>,
+    ) -> Result<Vec<T>, ElementError> {
+        if !T::is_number_of(data_type) {
+            return Err(ElementError::IncompatibleElementType);
+        }
+        let ArrayBytes::Fixed(bytes) = array_bytes else {
+            return Err(ElementError::IncompatibleElementType);
+        };
+        let size = data_type.element_size().unwrap();
+        if bytes.as_slice().len() % size != 0 {
+            return Err(ElementError::IncompatibleElementType);
+        }
+        Ok(T::own_bytes(alloc, bytes)?)
+    }
+
+    fn options_from_array_bytes(
+        alloc: Global,
+        data_type: &DataType,
+        array_bytes: ArrayBytes<'_>,
+    ) -> Result<Vec<Option<T>>, ElementError> {
+        let Some(inner) = data_type.optional_inner() else {
+            return Err(ElementError::IncompatibleElementType);
+        };
+        if !T::is_number_of(inner) {
+            return Err(ElementError::IncompatibleElementType);
+        }
+        number_options(alloc, data_type, &array_bytes)
     }
 }
 

@@ -1,4 +1,4 @@
-use Rattle.std.proofs.Common.{◌≡◌, ◌*◌, Some, IsTrue, length, map, sym, ap, subst, ◌∙◌}
+use Rattle.std.proofs.Common.{◌≡◌, ◌*◌, IsTrue, length, sym, ap, subst, ◌∙◌}
 use Rattle.std.proofs.lemmas.List.{length-map}
 use Rattle.zarrs_data_type_kinds.specs.Kind.{kind}
 use Rattle.zarrs_data_type_bytes.specs.ArrayData.{data_of, mask_of, inner_data, optional, fixed}

@@ -1,7 +1,6 @@
-use Rattle.std.proofs.Common.{sym, ap, ◌∙◌}
+use Rattle.std.proofs.Common.{sym, ◌∙◌}
 use Rattle.zarrs_data_type_kinds.specs.Kind.{kind}
 use Rattle.zarrs_data_type_kinds.specs.Kind as type
-use Rattle.zarrs_data_type_bytes.specs.Cells.{cells}
 use Rattle.zarrs_data_type_elements.proofs.FlagCells.{flags-made}
 use Rattle.zarrs_data_type_elements.proofs.StringCells.{kind_is}
 use Rattle.zarrs_data_type_elements.proofs.element.flags.BoolElement.to_array_bytes.Goals as goal

@@ -1,8 +1,0 @@
-use Rattle.std.proofs.Common.{sym, ◌∙◌, refl}
-use Rattle.zarrs_data_type_kinds.specs.Kind.{kind}
-use Rattle.zarrs_data_type_kinds.specs.Kind as type
-use Rattle.zarrs_data_type_elements.proofs.ElementCells.{same_any}
-use Rattle.zarrs_data_type_elements.proofs.element.I32ElementOwned.from_array_bytes.Goals as goal
-
-pub number_list-requires-clause-any : goal.number_list-requires-clause-any
-number_list-requires-clause-any c = same_any (kind c.args.data_type.now) type.int32 (sym c.serves.ensures ∙ c.if-not-serves.false) refl

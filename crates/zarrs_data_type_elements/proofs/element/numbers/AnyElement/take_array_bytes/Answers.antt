@@ -1,0 +1,13 @@
+use Rattle.std.proofs.Common.{sym, ap, ◌∙◌}
+use Rattle.zarrs_data_type_kinds.specs.Kind.{kind}
+use Rattle.zarrs_data_type_bytes.specs.ArrayData.{fixed}
+use Rattle.zarrs_data_type_bytes.specs.Cells.{cells}
+use Rattle.zarrs_data_type_elements.proofs.ElementCells.{cells-numbers}
+use Rattle.zarrs_data_type_elements.proofs.element.numbers.AnyElement.take_array_bytes.Goals as goal
+
+pub returns-clause-cells : goal.returns-clause-cells
+returns-clause-cells g c =
+    let t = c.args.data_type.now in
+    ap (cells (kind t)) (c.new_flen.ensures ∙ ap fixed c.in_ok-take_bytes.ensures)
+    ∙ cells-numbers g.T.WholeNumber.le_bytes t g.T.Number.number_kind g.T.WholeNumber.size c.args.elements.now.items
+    (sym c.is_number_of.ensures ∙ c.if-not-is_number_of.false) g.met.T.Number.number_size g.met.T.Number.number_any g.T.WholeNumber.sized
