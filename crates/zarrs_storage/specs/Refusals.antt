@@ -17,6 +17,15 @@ RefusesKey text OutOfMemory = Unit {0}
 abbrev pub RefusesRead : StoreState → List ℕ → StorageError → Type 0
 RefusesRead s key e = (e ≡ OutOfMemory) ⊎ (s.refuses key ≡ true)
 
+-- a refusal that says that what is at some key is no document speaks of this key
+abbrev pub NamesKey : List ℕ → StorageError → Type 0
+NamesKey key (InvalidMetadata at said) = at ≡ key
+NamesKey key ReadOnly = Unit {0}
+NamesKey key InvalidByteRange = Unit {0}
+NamesKey key Exhausted = Unit {0}
+NamesKey key (Other said) = Unit {0}
+NamesKey key OutOfMemory = Unit {0}
+
 -- the range passes the value at the key, the key refuses, or out of memory
 abbrev pub RefusesRange : StoreState → List ℕ → ℕ → ℕ → StorageError → Type 0
 RefusesRange s key offset count e = ((e ≡ InvalidByteRange) × PassesValue s.values key offset count) ⊎ RefusesRead s key e

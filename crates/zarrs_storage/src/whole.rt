@@ -5,7 +5,7 @@ ghost use Rattle.std.specs.FinMap as map;
 ghost use Rattle.zarrs_storage.specs.Store.{Accepts, Refuses, AcceptsPartial, RefusesPartial};
 ghost use Rattle.zarrs_storage.specs.Store.{MayReadWhole, MayReadRange};
 ghost use Rattle.zarrs_storage.specs.Store.{PassesValue, is_listed, last_call, value_range, size_at, with_part};
-ghost use Rattle.zarrs_storage.specs.Refusals.{RefusesRead, RefusesRange, SaysOther};
+ghost use Rattle.zarrs_storage.specs.Refusals.{NamesKey, RefusesRead, RefusesRange, SaysOther};
 ghost use Rattle.zarrs_storage.specs.Wrappers.{with_refused, whole_state, below_whole, whole_keys};
 
 use crate::error::StorageError;
@@ -49,6 +49,7 @@ impl<S: ReadableStorageTraits> ReadableStorageTraits for WholeRefused<S> {
             ≡ map.get (whole_state S.state self.now).values key.now) }
         ensures refusing { (whole_state S.state self.now).refuses key.now ≡ true → IsErr result }
         ensures refused { IfErr result (RefusesRead (whole_state S.state self.now) key.now) }
+        ensures named { IfErr result (NamesKey key.now) }
         ensures whole { is_listed (whole_keys self.now) key.now ≡ true
             → IsErrAnd result (SaysOther (codes "get")) }
     {
