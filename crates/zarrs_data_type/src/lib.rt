@@ -29,6 +29,6 @@ pub use zarrs_data_type_numbers::{
     transmute_to_bytes, transmute_to_bytes_vec, written,
 };
 pub use zarrs_data_type_region::{
-    ArrayBytesDecodeIntoTarget, ArrayBytesFixedDisjointViewCreateError, RegionCells,
+    ArrayBytesDecodeIntoTarget, ArrayBytesFixedDisjointViewCreateError, RefusedTarget, RegionCells,
     SubdividedTarget, copy_fill_value_into,
 };

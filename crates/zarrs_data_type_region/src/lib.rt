@@ -22,4 +22,6 @@ mod target;
 
 pub use error::ArrayBytesFixedDisjointViewCreateError;
 pub use region_cells::RegionCells;
-pub use target::{ArrayBytesDecodeIntoTarget, SubdividedTarget, copy_fill_value_into};
+pub use target::{
+    ArrayBytesDecodeIntoTarget, RefusedTarget, SubdividedTarget, copy_fill_value_into,
+};

@@ -1,5 +1,5 @@
 //! A box of an array of cells that a caller lends to be written.
-ghost use Rattle.std.specs.Prelude.{◌≡◌, ◌↔◌, ◌*◌, ◌==◌, true, IfOk, IsOk, IsTrue, IsSome, OnErr, OnOk, length};
+ghost use Rattle.std.specs.Prelude.{◌≡◌, ◌↔◌, ◌*◌, ◌==◌, true, IfErr, IfOk, IsOk, IsTrue, IsSome, OnErr, OnOk, length};
 ghost use Rattle.std.specs.Prelude.{◌≤◌, ◌<◌, ◌+◌, ◌^◌, [], drop, slice_index, take};
 ghost use Rattle.std.specs.List.{copy_within, prefix_len, repeat};
 ghost use Rattle.zarrs_data_type_bytes.specs.ArrayData.{data_of};
@@ -24,6 +24,21 @@ use zarrs_subset::{
 
 /// What a fill copies at a time grows to this length, so that it stays in the nearest cache while it is copied.
 const BLOCK_LEN: usize = 16384;
+
+/// What a caller lent for a target that was refused: each byte and each mask is what it was.
+#[derive(Debug, Drop)]
+pub struct RefusedTarget<'a, 'm> {
+    /// The cells of the parent.
+    pub bytes: &'a mut [u8],
+    /// The masks of the parent.
+    pub masks: &'m mut [u8],
+}
+
+impl From<RefusedTarget<'_, '_>> for ArrayBytesFixedDisjointViewCreateError {
+    fn from(_refused: RefusedTarget<'_, '_>) -> ArrayBytesFixedDisjointViewCreateError {
+        ArrayBytesFixedDisjointViewCreateError
+    }
+}
 
 /// The box `region` of an array of `parent_shape`, which a caller lends to be written.
 ///
@@ -113,13 +128,13 @@ impl<'a, 'm, 'r> ArrayBytesDecodeIntoTarget<'a, 'm, 'r> {
     /// The target of a type that is not optional: `bytes` has a cell for each position of the parent.
     ///
     /// # Errors
-    /// As `check`.
+    /// As `check`. What was lent comes back as it was.
     pub fn new_fixed(
         bytes: &'a mut [u8],
         cell_size: usize,
         parent_shape: &'r [u64],
         region: &'r ArraySubset,
-    ) -> Result<ArrayBytesDecodeIntoTarget<'a, 'm, 'r>, ArrayBytesFixedDisjointViewCreateError>
+    ) -> Result<ArrayBytesDecodeIntoTarget<'a, 'm, 'r>, RefusedTarget<'a, 'm>>
         ensures accepted { IsOk result ↔ IsTargetOver (length bytes.old) cell_size 0 0
             parent_shape.now (box_of region.now) }
         ensures target { IfOk result (λ t. IsTarget t) }
@@ -129,6 +144,8 @@ impl<'a, 'm, 'r> ArrayBytesDecodeIntoTarget<'a, 'm, 'r> {
         ensures depth { IfOk result (λ t. t.depth ≡ 0) }
         ensures parent_shape { IfOk result (λ t. t.parent_shape.now ≡ parent_shape.now) }
         ensures region { IfOk result (λ t. t.region.now ≡ region.now) }
+        ensures same_bytes_back { IfErr result (λ r. r.bytes.ghost_name ≡ bytes.entry.ghost_name) }
+        ensures bytes_back { IfErr result (λ r. r.bytes.now ≡ bytes.old) }
     {
         ArrayBytesDecodeIntoTarget::new_optional(bytes, cell_size, &mut [], 0, parent_shape, region)
     }
@@ -137,7 +154,7 @@ impl<'a, 'm, 'r> ArrayBytesDecodeIntoTarget<'a, 'm, 'r> {
     /// outermost first.
     ///
     /// # Errors
-    /// As `check`.
+    /// As `check`. What was lent comes back as it was.
     pub fn new_optional(
         bytes: &'a mut [u8],
         cell_size: usize,
@@ -145,7 +162,7 @@ impl<'a, 'm, 'r> ArrayBytesDecodeIntoTarget<'a, 'm, 'r> {
         depth: usize,
         parent_shape: &'r [u64],
         region: &'r ArraySubset,
-    ) -> Result<ArrayBytesDecodeIntoTarget<'a, 'm, 'r>, ArrayBytesFixedDisjointViewCreateError>
+    ) -> Result<ArrayBytesDecodeIntoTarget<'a, 'm, 'r>, RefusedTarget<'a, 'm>>
         ensures accepted { IsOk result ↔ IsTargetOver (length bytes.old) cell_size
             (length masks.old) depth parent_shape.now (box_of region.now) }
         ensures target { IfOk result (λ t. IsTarget t) }
@@ -157,8 +174,22 @@ impl<'a, 'm, 'r> ArrayBytesDecodeIntoTarget<'a, 'm, 'r> {
         ensures depth { IfOk result (λ t. t.depth ≡ depth) }
         ensures parent_shape { IfOk result (λ t. t.parent_shape.now ≡ parent_shape.now) }
         ensures region { IfOk result (λ t. t.region.now ≡ region.now) }
+        ensures same_bytes_back { IfErr result (λ r. r.bytes.ghost_name ≡ bytes.entry.ghost_name) }
+        ensures same_masks_back { IfErr result (λ r. r.masks.ghost_name ≡ masks.entry.ghost_name) }
+        ensures bytes_back { IfErr result (λ r. r.bytes.now ≡ bytes.old) }
+        ensures masks_back { IfErr result (λ r. r.masks.now ≡ masks.old) }
     {
-        ArrayBytesDecodeIntoTarget::check(bytes, cell_size, masks, depth, parent_shape, region)?;
+        if ArrayBytesDecodeIntoTarget::check(
+            bytes,
+            cell_size,
+            masks,
+            depth,
+            parent_shape,
+            region,
+        ).is_err()
+        {
+            return Err(RefusedTarget { bytes, masks });
+        }
         Ok(ArrayBytesDecodeIntoTarget::over(bytes, cell_size, masks, depth, parent_shape, region))
     }
 }
