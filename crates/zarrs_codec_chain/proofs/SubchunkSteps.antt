@@ -464,7 +464,7 @@ left_out leaves_out (p ∷ parts) (suc n) lt at = or_right (part_leaves_out leav
 pub inner_refused : (decoded : List ℕ → Option (List Cell)) (TooLarge : List ℕ → Type 0) (parts : List (Option (List ℕ))) (n : ℕ) (encoded : List ℕ) (refuses : Bool) (e : PartError)
     → n < length parts → slice_index_or parts n None ≡ Some encoded → RefusesPartDecoding (decoded encoded) (TooLarge encoded) refuses e → RefusesStep decoded TooLarge parts refuses e
 inner_refused decoded TooLarge parts n encoded refuses (Codec (codec.DoesNotFit _)) lt is why = (n, encoded, lt, is, why)
-inner_refused decoded TooLarge parts n encoded refuses (Codec codec.SizeOverflow) lt is why = (n, encoded, lt, is, why)
+inner_refused decoded TooLarge parts n encoded refuses (Codec codec.SizeOverflow) lt is why = record { number = n; encoded = encoded; below = lt; present = is; large = why }
 inner_refused decoded TooLarge parts n encoded refuses (Codec codec.OutOfMemory) lt is why = why
 inner_refused decoded TooLarge parts n encoded refuses (Source e) lt is why = why
 

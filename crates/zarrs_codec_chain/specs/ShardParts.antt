@@ -93,8 +93,12 @@ abbrev pub MeetsPart : (sub : List ℕ) → (part met : Box) → Type 0
 MeetsPart sub part met = (position : List ℕ) → Holds part position → Holds met (quotients position sub)
 
 -- what would be decoded whole of a subchunk that is present is too large
-abbrev pub HasTooLarge : (TooLarge : List ℕ → Type 0) → List (Option (List ℕ)) → Type 0
-HasTooLarge TooLarge parts = (j : ℕ) × (encoded : List ℕ) × (j < length parts) × (slice_index_or parts j None ≡ Some encoded) × TooLarge encoded
+pub record HasTooLarge (TooLarge : List ℕ → Type 0) (parts : List (Option (List ℕ))) : Type 0 where
+  pub number : ℕ
+  pub encoded : List ℕ
+  pub below : number < length parts
+  pub present : slice_index_or parts number None ≡ Some encoded
+  pub large : TooLarge encoded
 
 -- why a subchunk is not read: one that is present does not decode, or is too large to be decoded, or the source refuses
 abbrev pub RefusesStep : (List ℕ → Option (List Cell)) → (TooLarge : List ℕ → Type 0)
