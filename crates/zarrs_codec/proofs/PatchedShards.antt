@@ -24,7 +24,7 @@ use Rattle.zarrs_codec_chain.specs.Chain.{ChainMeaning, chunk_cells, partial_enc
 use Rattle.zarrs_codec_chain.specs.Refusals.{RefusesPartialEncoding}
 use Rattle.zarrs_codec.specs.Chains.{behind, no_codec}
 use Rattle.zarrs_codec.specs.ChainLaws.{same_cells}
-use Rattle.zarrs_codec.specs.PartialShardings.{changed_part, changes_of, stored_bytes, write_to, RefusesChanges, RefusesIndex, RefusesMet}
+use Rattle.zarrs_codec.specs.PartialShardings.{changed_part, changes_of, stored_bytes, write_to, RefusesChanges, RefusesIndex, RefusesPatch}
 use Rattle.zarrs_codec.specs.Shardings.{all_met_decode, any_met_too_large, decoded_part, part_too_large, sharded, sharded_partly_decodes, sharded_partly_too_large, subchunk_meaning}
 use Rattle.zarrs_codec.proofs.PartCells.{shard_cells}
 use Rattle.zarrs_codec.proofs.Patches.{no_write, too_large_met}
@@ -110,30 +110,27 @@ module _ (m : ChainMeaning) (empty : Bool) (k : Kind) (f : Cell) (s sub : List �
   too_large_at j lt meets large =
       ap (λ o. elim o [ None ↦ false | Some ps ↦ any_met_too_large m k f s sub part ps ]) read ∙ too_large_met m k f s sub part parts j lt meets large
 
-  refusal_at : (e : CodecError) → (e ≡ error.SizeOverflow → all_met_decode m k f s sub part parts ≡ true) → RefusesChanges m empty k f s sub part d parts e → RefusesPartialEncoding (sharded false sub m) empty k f s stored part d e
-  refusal_at (error.DoesNotFit _) all why = inr (undecoded stored read why.0 why.1 why.2)
-  refusal_at error.SizeOverflow all why = (and_from (is_cut_by s sub) _ cut fit, partly stored read (all refl), go why.0 why.1 why.2)
+  refusal_at : (e : CodecError) → RefusesPatch m empty k f s sub part d parts e → RefusesPartialEncoding (sharded false sub m) empty k f s stored part d e
+  refusal_at (error.DoesNotFit _) why = inr (undecoded stored read why.0 why.1 why.2)
+  refusal_at error.SizeOverflow why = (and_from (is_cut_by s sub) _ cut fit, partly stored read why.0, sized why.1)
     where
       go : (j : ℕ) → j < length parts → (changed_part m empty k f s sub part d j (get_or parts j None) ≡ None) ⊎ ((is_met s sub part j ≡ true) × (part_too_large m k f sub (get_or parts j None) ≡ true))
           → (partial_encoding (sharded false sub m) empty k f s stored part d ≡ None) ⊎ (sharded_partly_too_large m k f s sub stored part ≡ true)
       go j lt (inl none) =
           inl (writing_at ∙ no_write m empty k f s sub part d stored parts j (omega (arith, lt, parts_count (subchunk_count s sub) stored parts read)) none)
       go j lt (inr large) = inr (too_large_at j (omega (arith, lt, parts_count (subchunk_count s sub) stored parts read)) large.0 large.1)
-  refusal_at error.OutOfMemory all why = why
 
-  met_refusal_at : (e : CodecError) → RefusesMet m k f sub parts e → RefusesPartialEncoding (sharded false sub m) empty k f s stored part d e
-  met_refusal_at (error.DoesNotFit _) why = inr (undecoded stored read why.0 why.1 why.2)
-  met_refusal_at error.SizeOverflow why = absurd why
-  met_refusal_at error.OutOfMemory why = why
+      sized : RefusesChanges m empty k f s sub part d parts error.SizeOverflow
+          → (partial_encoding (sharded false sub m) empty k f s stored part d ≡ None) ⊎ (sharded_partly_too_large m k f s sub stored part ≡ true)
+      sized large = go large.0 large.1 large.2
+  refusal_at error.OutOfMemory why = why
 
 -- what is said of what is stored and of its parts, where the chunk's shape is `shape` and the subchunks' `subshape`
 pub record IsOpened (m : ChainMeaning) (at_start : Bool) (empty : Bool) (k : Kind) (f : Cell) (s sub : List ℕ) (part : Box) (d : ArrayData) (stored : Option (List ℕ)) (shape subshape : List ℕ)
     (parts : List (Option (List ℕ))) : Type 0 where
   pub long : length parts ≡ subchunk_count shape subshape
   pub writing : partial_encoding (sharded at_start sub m) empty k f s stored part d ≡ write_to m empty k f shape subshape stored part d parts
-  pub refusal : (e : CodecError) → (e ≡ error.SizeOverflow → all_met_decode m k f shape subshape part parts ≡ true) → RefusesChanges m empty k f shape subshape part d parts e
-      → RefusesPartialEncoding (sharded at_start sub m) empty k f s stored part d e
-  pub met_refusal : (e : CodecError) → RefusesMet m k f subshape parts e → RefusesPartialEncoding (sharded at_start sub m) empty k f s stored part d e
+  pub refusal : (e : CodecError) → RefusesPatch m empty k f shape subshape part d parts e → RefusesPartialEncoding (sharded at_start sub m) empty k f s stored part d e
 
 pub is_opened : (m : ChainMeaning) (at_start : Bool) (empty : Bool) (k : Kind) (f : Cell) (s sub : List ℕ) (part : Box) (d : ArrayData) (stored : Option (List ℕ)) (shape subshape : List ℕ) (parts : List (Option (List ℕ))) (count n : ℕ)
     → shape ≡ s → subshape ≡ sub → at_start ≡ false → is_cut_by shape subshape ≡ true → m.fits k sub ≡ true → count ≡ subchunk_count shape subshape → count * 16 < 2 ^ 64
@@ -148,7 +145,6 @@ is_opened m at_start empty k f s sub part d stored shape subshape parts count n 
       long = parts_count (subchunk_count s sub) stored parts read_here;
       writing = writing_at m empty k f s sub part d stored parts cut_here fit few_here read_here held.0 held.1;
       refusal = refusal_at m empty k f s sub part d stored parts cut_here fit few_here read_here held.0 held.1;
-      met_refusal = met_refusal_at m empty k f s sub part d stored parts cut_here fit few_here read_here held.0 held.1;
     } in
     subst (λ b. IsOpened m b empty k f s sub part d stored shape subshape parts) (sym end)
     (subst (λ x. IsOpened m false empty k f s sub part d stored x subshape parts) (sym shape_is) (subst (λ x. IsOpened m false empty k f s sub part d stored s x parts) (sym sub_is) here))

@@ -41,7 +41,7 @@ use Rattle.zarrs_codec_chain.specs.Refusals.{RefusesChunkDecoding}
 use Rattle.zarrs_codec.specs.ChainLaws.{same_cells}
 use Rattle.zarrs_codec.specs.Chains.{behind, codec_meaning, no_codec}
 use Rattle.zarrs_codec.specs.declared.codec.ArrayToBytesCodec as codec
-use Rattle.zarrs_codec.specs.PartialShardings.{changed_part, changes_of, write_to, ArePassed, HasFirstChanges, RefusesChange, RefusesChanges, RefusesHeld, RefusesLarge, RefusesMet, RefusesTested}
+use Rattle.zarrs_codec.specs.PartialShardings.{changed_part, changes_of, write_to, ArePassed, HasFirstChanges, RefusesChange, RefusesChanges, RefusesHeld, RefusesLarge, RefusesMet, RefusesPatch, RefusesTested}
 use Rattle.zarrs_codec.specs.Shardings.{all_met_decode, any_met_too_large, cells_of, decoded_part, part_decodes, part_too_large, subchunk_meaning, RefusesPart}
 use Rattle.zarrs_codec.proofs.Behind.{decoded-has_cells}
 
@@ -132,6 +132,16 @@ module _ (m : ChainMeaning) (k : Kind) (f : Cell) (s sub : List ℕ) (part : Box
   part_refused n (error.DoesNotFit _) lt why = (n, lt, why)
   part_refused n error.SizeOverflow lt why = absurd why
   part_refused n error.OutOfMemory lt why = why
+
+  pub met_refused : (empty : Bool) (d : ArrayData) (e : CodecError) → RefusesMet m k f sub parts e → RefusesPatch m empty k f s sub part d parts e
+  met_refused empty d (error.DoesNotFit _) why = why
+  met_refused empty d error.SizeOverflow why = absurd why
+  met_refused empty d error.OutOfMemory why = why
+
+  pub other_refused : (empty : Bool) (d : ArrayData) (e : CodecError) → (e ≡ error.SizeOverflow → ⊥) → RefusesChanges m empty k f s sub part d parts e → RefusesPatch m empty k f s sub part d parts e
+  other_refused empty d (error.DoesNotFit _) other why = why
+  other_refused empty d error.SizeOverflow other why = absurd (other refl)
+  other_refused empty d error.OutOfMemory other why = why
 
   pub too_large_met : (j : ℕ) → j < subchunk_count s sub → is_met s sub part j ≡ true → part_too_large m k f sub (get_or parts j None) ≡ true → any_met_too_large m k f s sub part parts ≡ true
   too_large_met j lt meets large =

@@ -15,7 +15,7 @@ use Rattle.zarrs_codec_shard.specs.declared.patch.ShardPatch.{ShardPatch}
 use Rattle.zarrs_subset.specs.Boxes.{position_count}
 use Rattle.zarrs_subset.specs.Regions.{Box}
 use Rattle.zarrs_codec_chain.specs.Chain.{ChainMeaning}
-use Rattle.zarrs_codec.specs.Shardings.{cells_of, decoded_part, part_decodes, part_too_large, subchunk_meaning}
+use Rattle.zarrs_codec.specs.Shardings.{all_met_decode, cells_of, decoded_part, part_decodes, part_too_large, subchunk_meaning}
 
 -- the bytes that are stored: none without a key
 abbrev pub stored_bytes : Option (List ℕ) → List ℕ
@@ -103,6 +103,14 @@ RefusesMet m k f sub parts (error.DoesNotFit _) = (j : ℕ) × (j < length parts
 RefusesMet m k f sub parts error.SizeOverflow = ⊥
 RefusesMet m k f sub parts error.OutOfMemory = Unit {0}
 
--- the first n pass it
+-- the patch of a shard of these parts: they do not decode, or those that the part meets do, and a size is too large
+abbrev pub RefusesPatch : ChainMeaning → (store_empty : Bool) → Kind → Cell → (shape sub : List ℕ) → Box → ArrayData
+    → (parts : List (Option (List ℕ))) → CodecError → Type 0
+RefusesPatch m store_empty k f s sub part d parts (error.DoesNotFit reason) = RefusesMet m k f sub parts (error.DoesNotFit reason)
+RefusesPatch m store_empty k f s sub part d parts error.SizeOverflow =
+    (all_met_decode m k f s sub part parts ≡ true) × RefusesChanges m store_empty k f s sub part d parts error.SizeOverflow
+RefusesPatch m store_empty k f s sub part d parts error.OutOfMemory = Unit {0}
+
+-- the first n pass the test
 abbrev pub ArePassed : ChainMeaning → Kind → Cell → (shape sub : List ℕ) → Box → (parts : List (Option (List ℕ))) (n : ℕ) → Type 0
 ArePassed m k f s sub part parts n = (j : ℕ) → j < n → is_met s sub part j ≡ true → part_decodes m k f sub (slice_index_or parts j None) ≡ true

@@ -18,7 +18,7 @@ ghost use Rattle.zarrs_codec_chain.specs.Refusals.{RefusesPartialEncoding};
 ghost use Rattle.zarrs_codec.specs.Chains.{chain_meaning, inner_chain_of, sharding_meaning};
 ghost use Rattle.zarrs_codec.specs.PartialShardings.{changed_part, stored_bytes, write_to};
 ghost use Rattle.zarrs_codec.specs.PartialShardings.{RefusesChange, RefusesChanges, RefusesHeld};
-ghost use Rattle.zarrs_codec.specs.PartialShardings.{RefusesIndex, RefusesLarge, RefusesMet, RefusesTested};
+ghost use Rattle.zarrs_codec.specs.PartialShardings.{RefusesIndex, RefusesLarge, RefusesMet, RefusesPatch, RefusesTested};
 ghost use Rattle.zarrs_codec.specs.Shardings.{all_met_decode, decoded_part, part_decodes};
 
 use crate::chain::CodecChain;
@@ -125,14 +125,62 @@ impl ShardingCodec {
         let Some(ranges) = stored_ranges(alloc, stored, count)? else {
             return Err(CodecError::DoesNotFit(Misfit::Bytes));
         };
-        let patched = self.patched(
+        self.patch_shard(
             alloc, stored, &ranges, &subchunks, part, bytes, data_type, fill_value, options,
+        )
+    }
+
+    /// The same, of the subchunks that stand at these ranges of what is stored. Where a size is too large, it is told only if
+    /// what the part meets decodes.
+    fn patch_shard(
+        &self,
+        alloc: Global,
+        stored: Option<&[u8]>,
+        ranges: &[Option<SubchunkRange>],
+        subchunks: &Subchunks,
+        part: &ArraySubset,
+        bytes: &ArrayBytes<'_>,
+        data_type: &DataType,
+        fill_value: &FillValue,
+        options: &CodecOptions,
+    ) -> Result<PartialWrite, CodecError>
+        requires filled { IsSome (fill_cell (kind data_type.now) fill_value.now) }
+        requires dimensions { length (box_of part.now).start ≡ length (chunk_shape subchunks.now) }
+        requires cells { HasCells (kind data_type.now) (data_of bytes.now)
+            (position_count (box_of part.now).shape) }
+        requires fits { (chain_meaning (inner_chain_of self.now)).fits (kind data_type.now)
+            (subchunk_shape subchunks.now) ≡ true }
+        requires within { All (IsRangeWithin (length (stored_bytes
+            (option_map (λ encoded. encoded.now) stored)))) ranges.now }
+        requires count { length ranges.now
+            ≡ subchunk_count (chunk_shape subchunks.now) (subchunk_shape subchunks.now) }
+        requires few { length ranges.now * 16 < 2 ^ 64 }
+        requires parts { stored_parts (length ranges.now)
+            (option_map (λ encoded. encoded.now) stored)
+            ≡ Some (map (range_part (stored_bytes (option_map (λ encoded. encoded.now) stored)))
+            ranges.now) }
+        ensures written { IfOk result (λ write. write_to (chain_meaning (inner_chain_of self.now))
+            (stores_empty_chunks options.now) (kind data_type.now)
+            (fill_of (kind data_type.now) fill_value.now) (chunk_shape subchunks.now)
+            (subchunk_shape subchunks.now) (option_map (λ encoded. encoded.now) stored.entry)
+            (box_of part.now) (data_of bytes.now)
+            (map (range_part (stored_bytes (option_map (λ encoded. encoded.now) stored.entry)))
+            ranges.now) ≡ Some (change_of write)) }
+        ensures refused { IfErr result (RefusesPatch (chain_meaning (inner_chain_of self.now))
+            (stores_empty_chunks options.now) (kind data_type.now)
+            (fill_of (kind data_type.now) fill_value.now) (chunk_shape subchunks.now)
+            (subchunk_shape subchunks.now) (box_of part.now) (data_of bytes.now)
+            (map (range_part (stored_bytes (option_map (λ encoded. encoded.now) stored.entry)))
+            ranges.now)) }
+    {
+        let patched = self.patched(
+            alloc, stored, ranges, subchunks, part, bytes, data_type, fill_value, options,
         );
         match patched {
             Ok(write) => Ok(write),
             Err(CodecError::SizeOverflow) => {
                 let shard = bytes_of(stored);
-                self.test_met(alloc, shard, &ranges, &subchunks, part, data_type, fill_value)?;
+                self.test_met(alloc, shard, ranges, subchunks, part, data_type, fill_value)?;
                 Err(CodecError::SizeOverflow)
             }
             Err(e) => Err(e),
@@ -200,7 +248,7 @@ impl ShardingCodec {
         }
     }
 
-    /// The same, of the subchunks that stand at these ranges of what is stored.
+    /// The same, subchunk by subchunk.
     fn patched(
         &self,
         alloc: Global,

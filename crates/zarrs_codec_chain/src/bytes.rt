@@ -67,8 +67,15 @@ pub(crate) fn is_length_of(len: u64, shape: &[u64], size: usize) -> bool
     requires { 0 < size }
     ensures { IsTrue result ↔ (len ≡ position_count shape.now * size) }
 {
-    let Some(count) = element_count(shape) else {
-        return false;
-    };
+    match element_count(shape) {
+        Some(count) => is_size_of(len, count, size),
+        None => false,
+    }
+}
+
+/// Whether so many cells of this size have so many bytes.
+fn is_size_of(len: u64, count: u64, size: usize) -> bool
+    ensures { IsTrue result ↔ (len ≡ count * size) }
+{
     count.checked_mul(size as u64) == Some(len)
 }

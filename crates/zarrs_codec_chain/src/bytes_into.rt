@@ -258,9 +258,7 @@ fn are_cells(codec: &BytesCodec, len: u64, data_type: &DataType, shape: &[u64]) 
 {
     match data_type.element_size() {
         Some(size) => {
-            data_type.takes_any_bytes()
-                && codec.takes(data_type)
-                && is_length_of(len, shape, size)
+            data_type.takes_any_bytes() && codec.takes(data_type) && is_length_of(len, shape, size)
         }
         None => false,
     }

@@ -18,8 +18,8 @@ use Rattle.zarrs_codec.specs.PartialShardings.{stored_bytes}
 use Rattle.zarrs_codec.proofs.PatchedShards.{at_end, is_opened, IsOpened}
 use Rattle.zarrs_codec.proofs.sharding.ShardingCodec.partial_encode_shard.Goals as goal
 
-pub patched-requires-clause-count : goal.patched-requires-clause-count
-patched-requires-clause-count c =
+pub patch_shard-requires-clause-count : goal.patch_shard-requires-clause-count
+patch_shard-requires-clause-count c =
     let k = kind c.args.data_type.now in
     let f = fill_of k c.args.fill_value.now in
     let empty = stores_empty_chunks c.args.options.now in
@@ -47,8 +47,8 @@ patched-requires-clause-count c =
     (at_end at c.requires.supported) subchunks.cut fit c.in-Some-indexed_count.ensures.none c.in-Some-indexed_count.ensures.few read c.requires.cells in
     sym (length-map ranges (range_part b)) ∙ r.long
 
-pub patched-requires-clause-parts : goal.patched-requires-clause-parts
-patched-requires-clause-parts c =
+pub patch_shard-requires-clause-parts : goal.patch_shard-requires-clause-parts
+patch_shard-requires-clause-parts c =
     let k = kind c.args.data_type.now in
     let f = fill_of k c.args.fill_value.now in
     let empty = stores_empty_chunks c.args.options.now in
@@ -76,5 +76,34 @@ patched-requires-clause-parts c =
     (at_end at c.requires.supported) subchunks.cut fit c.in-Some-indexed_count.ensures.none c.in-Some-indexed_count.ensures.few read c.requires.cells in
     subst (λ j. stored_parts j stored ≡ Some (map (range_part b) ranges)) (c.in-Some-indexed_count.ensures.none ∙ sym (sym (length-map ranges (range_part b)) ∙ r.long)) read
 
-pub returns-in_default-clause-refused : goal.returns-in_default-clause-refused
-returns-in_default-clause-refused c = hole
+pub returns : goal.returns
+returns c =
+    let k = kind c.args.data_type.now in
+    let f = fill_of k c.args.fill_value.now in
+    let empty = stores_empty_chunks c.args.options.now in
+    let s = c.args.shape.now in
+    let sub = sizes_of (subchunk_sizes_of c.args.self.now) in
+    let stored = option_map (λ encoded. encoded.now) c.args.stored in
+    let b = stored_bytes stored in
+    let part = box_of c.args.part.now in
+    let d = data_of c.args.bytes.now in
+    let subchunks = c.in-Some.subchunks in
+    let ranges = c.deref-3.result.now in
+    let count = c.in-Some-indexed_count.count in
+    let m : ChainMeaning = chain_meaning (inner_chain_of c.args.self.now) in
+    let at = is_at_start (location_of c.args.self.now) in
+    let sub_is : c.in_ok-sub.sub.items ≡ sub = c.in_ok-sub.ensures in
+    let shape_is : chunk_shape subchunks ≡ s = search rules in
+    let cut_is : subchunk_shape subchunks ≡ c.deref.result.now = search rules in
+    let fit : m.fits k sub ≡ true =
+    subst (λ x. m.fits k x ≡ true) (c.deref-2.ensures.value ∙ sub_is)
+    (subst (λ x. (chain_meaning x).fits k c.deref-2.result.now ≡ true) c.inner_codecs.ensures (sym c.in_ok-fits_chunk.ensures ∙ c.if-not-branch.false)) in
+    let given : stored_parts count stored ≡ Some (map (range_part b) c.in-Some-2.ranges.items) = search rules in
+    let read : stored_parts count stored ≡ Some (map (range_part b) ranges) = given ∙ ap (λ l. Some (map (range_part b) l)) (sym c.deref-3.ensures.value) in
+    let r : IsOpened m at empty k f s sub part d stored (chunk_shape subchunks) (subchunk_shape subchunks) (map (range_part b) ranges) =
+    is_opened m at empty k f s sub part d stored (chunk_shape subchunks) (subchunk_shape subchunks) (map (range_part b) ranges) count (position_count part.shape) shape_is (cut_is ∙ c.deref.ensures.value ∙ sub_is)
+    (at_end at c.requires.supported) subchunks.cut fit c.in-Some-indexed_count.ensures.none c.in-Some-indexed_count.ensures.few read c.requires.cells in
+    record {
+      written = subst (λ (x : Option PartialChange). IfOk c.patch_shard.result (λ write. x ≡ Some (change_of write))) (sym r.writing) c.patch_shard.ensures.written;
+      refused = IfErr-weaker c.patch_shard.result _ _ r.refusal c.patch_shard.ensures.refused;
+    }
