@@ -165,12 +165,11 @@ not_counted m at_start empty k f s sub part d stored shape subshape shape_is sub
   where
     go : is_cut_by s sub ≡ true → 2 ^ 64 ≤ subchunk_count s sub * 16 → (e : CodecError) → RefusesIndex stored e → RefusesPartialEncoding (sharded false sub m) empty k f s stored part d e
     go cut_here large_here (error.DoesNotFit _) why = inr (short_index m k f s sub stored large_here why.0 why.1)
-    go cut_here large_here error.SizeOverflow why =
-        (
-          and_from (is_cut_by s sub) _ cut_here fit,
-          subst (λ (o : Option (List ℕ)). sharded_partly_decodes m k f s sub o part ≡ true) (sym why) refl,
-          inl (too_long m false empty k f s sub stored part d large_here),
-        )
+    go cut_here large_here error.SizeOverflow why = (
+      and_from (is_cut_by s sub) _ cut_here fit,
+      subst (λ (o : Option (List ℕ)). sharded_partly_decodes m k f s sub o part ≡ true) (sym why) refl,
+      inl (too_long m false empty k f s sub stored part d large_here),
+    )
     go cut_here large_here error.OutOfMemory why = absurd why
 
 -- what is stored is no shard

@@ -112,8 +112,8 @@ module _ (m : ChainMeaning) (k : Kind) (f : Cell) (s sub : List ℕ) (part : Box
   passed_more n before here j lt meets = elim (cases_Bool (nat_lt j n)) [
     | inl less ↦ before j (ltb-true j n less) meets
     | inr more ↦
-    let same : j ≡ n = omega (arith, ltb-false j n more) in
-    subst (λ i. part_decodes m k f sub (get_or parts i None) ≡ true) (sym same) (here (subst (λ i. is_met s sub part i ≡ true) same meets))
+        let same : j ≡ n = omega (arith, ltb-false j n more) in
+        subst (λ i. part_decodes m k f sub (get_or parts i None) ≡ true) (sym same) (here (subst (λ i. is_met s sub part i ≡ true) same meets))
   ]
 
   pub all_passed : (n : ℕ) → n ≡ subchunk_count s sub → ArePassed m k f s sub part parts n → all_met_decode m k f s sub part parts ≡ true
