@@ -1,18 +1,26 @@
 -- A part of a chunk's cells written into its shard, subchunk by subchunk.
-use Rattle.std.proofs.Common.{◌≡◌, ℕ, ◌+◌, ◌<◌, ◌≤◌, Bool, true, false, cond, inl, inr, List, [], ◌∷◌, ◌++◌, length, map, get_or, replicate, Option, None, Some, IsSome, refl, sym, ap, subst, ◌∙◌, arith}
-use Rattle.std.specs.Prelude.{is_some, option_map, unwrap_or, if◌then◌else◌}
+use Rattle.std.proofs.Common.{◌≡◌, ℕ, ◌+◌, ◌<◌, ◌≤◌, ◌*◌, ◌^◌, not, ◌&&◌, ◌||◌, Bool, true, false, cond, inl, inr, List, [], ◌∷◌, ◌++◌, length, map, get_or, replicate, Option, None, Some, IsSome, refl, sym, ap, subst, ◌∙◌, arith}
+use Rattle.std.specs.Prelude.{is_some, nat_le, nat_lt, option_and_then, option_map, unwrap_or, ◌==◌, if◌then◌else◌}
 use Rattle.std.specs.List.{range_with_len}
-use Rattle.std.proofs.lemmas.Bool.{false≢true}
+use Rattle.std.proofs.lemmas.Bool.{and_from, cases_Bool, false≢true, le-leb, ltb-false, ltb-true, or_left, or_right}
 use Rattle.std.proofs.lemmas.List.{length-replicate}
-use Rattle.std.proofs.lemmas.List.FromFn.{length-map-range_with_len, get_or-map-range_with_len, map-range_with_len_more}
+use Rattle.std.proofs.lemmas.List.Folds.{list_any_at}
+use Rattle.std.proofs.lemmas.List.Sums.{list_all-from_AllPass}
+use Rattle.std.proofs.lemmas.List.FromFn.{length-range_with_len, get_or-range_with_len, length-map-range_with_len, get_or-map-range_with_len, map-range_with_len_more}
 use Rattle.zarrs_data_type.specs.ArrayData.{ArrayData}
-use Rattle.zarrs_data_type.specs.Cell.{Cell, none}
+use Rattle.zarrs_data_type.specs.Cell.{Cell, bytes, held_size, none, values_only}
 use Rattle.zarrs_data_type.specs.Cells.{cells, HasCells}
-use Rattle.zarrs_data_type.specs.Kind.{Kind}
+use Rattle.zarrs_data_type.specs.Kind.{Kind, cell_size, element_size}
 use Rattle.zarrs_data_type_bytes.proofs.Cells.{HasCells-some}
 use Rattle.zarrs_subset.specs.Boxes.{offset_by, place, position_count, unravel}
+use Rattle.zarrs_subset.specs.Pieces.{pieces}
 use Rattle.zarrs_subset.specs.Regions.{Box, in_box, place_in}
 use Rattle.zarrs_subset.proofs.RearrangedCells.{length-made_of}
+use Rattle.zarrs_codec_array.specs.declared.array.ArrayToArrayCodec.{ArrayToArrayCodec}
+use Rattle.zarrs_codec_leaf.specs.Bytes.{bytes_meaning_of, endian_of, in_order, reverses, takes_bytes}
+use Rattle.zarrs_codec_leaf.specs.declared.bytes_codec.BytesCodec.{BytesCodec}
+use Rattle.zarrs_codec_leaf.specs.declared.bytes_codec.Endianness.{Endianness}
+use Rattle.zarrs_codec_leaf.specs.declared.error.Misfit.{Misfit}
 use Rattle.zarrs_codec_leaf.specs.declared.error.CodecError.{CodecError}
 use Rattle.zarrs_codec_leaf.specs.declared.error.CodecError.TheVariants as error
 use Rattle.zarrs_metadata_parts.specs.Extension.{◌>>=◌}
@@ -27,9 +35,14 @@ use Rattle.zarrs_codec_shard.specs.declared.patch.ShardPatch.{ShardPatch}
 use Rattle.zarrs_codec_shard.specs.declared.shard_index.SubchunkRange.{SubchunkRange}
 use Rattle.zarrs_codec_shard.proofs.Missing.{all_present-more, all_present-none, length-all_present}
 use Rattle.zarrs_codec_shard.proofs.Patching.{index_length}
+use Rattle.zarrs_codec_chain.proofs.BytesParts.{sized_cell, wrong_length}
 use Rattle.zarrs_codec_chain.specs.Chain.{ChainMeaning, IsLawfulChain}
-use Rattle.zarrs_codec.specs.PartialShardings.{changed_part, changes_of, write_to, HasFirstChanges, RefusesChange, RefusesChanges, RefusesHeld}
-use Rattle.zarrs_codec.specs.Shardings.{cells_of, decoded_part, subchunk_meaning, RefusesPart}
+use Rattle.zarrs_codec_chain.specs.Refusals.{RefusesChunkDecoding}
+use Rattle.zarrs_codec.specs.ChainLaws.{same_cells}
+use Rattle.zarrs_codec.specs.Chains.{behind, codec_meaning, no_codec}
+use Rattle.zarrs_codec.specs.declared.codec.ArrayToBytesCodec as codec
+use Rattle.zarrs_codec.specs.PartialShardings.{changed_part, changes_of, write_to, ArePassed, HasFirstChanges, RefusesChange, RefusesChanges, RefusesHeld, RefusesLarge, RefusesMet, RefusesPatch, RefusesTested}
+use Rattle.zarrs_codec.specs.Shardings.{all_met_decode, any_met_too_large, cells_of, decoded_part, part_decodes, part_too_large, subchunk_meaning, RefusesPart}
 use Rattle.zarrs_codec.proofs.Behind.{decoded-has_cells}
 
 -- ---- one subchunk
@@ -43,6 +56,99 @@ held_data m law k f sub (Some b) d is there = decoded-has_cells m law k f sub b 
 pub present_part : (b : List ℕ) (range : Option SubchunkRange) → is_some range ≡ is_some (range_part b range)
 present_part b None = refl
 present_part b (Some r) = refl
+
+-- what is too large of it
+module _ (m : ChainMeaning) (k : Kind) (f : Cell) (sub : List ℕ) where
+  pub fill_too_large : 2 ^ 64 ≤ position_count sub * held_size k f → part_too_large m k f sub None ≡ true
+  fill_too_large large = le-leb (2 ^ 64) (position_count sub * held_size k f) large
+
+  pub large_refused : (b : List ℕ) (e : CodecError) → length b < 2 ^ 64 → 2 ^ 64 ≤ position_count sub * cell_size k → RefusesLarge m e → RefusesHeld m k f sub (Some b) e
+  large_refused b (error.DoesNotFit _) short large why = why k f sub b short large
+  large_refused b error.SizeOverflow short large why = or_left (nat_le (2 ^ 64) (position_count sub * cell_size k)) _ (le-leb (2 ^ 64) (position_count sub * cell_size k) large)
+  large_refused b error.OutOfMemory short large why = absurd why
+
+  pub decoding_refused : (b : List ℕ) (e : CodecError) → RefusesChunkDecoding m k f sub b e → RefusesHeld m k f sub (Some b) e
+  decoding_refused b (error.DoesNotFit _) why = why
+  decoding_refused b error.SizeOverflow why =
+      or_right (nat_le (2 ^ 64) (position_count sub * cell_size k)) _ (and_from (m.leaves_out sub b) (nat_le (2 ^ 64) (position_count sub * held_size k f)) why.0 (le-leb (2 ^ 64) (position_count sub * held_size k f) why.1))
+  decoding_refused b error.OutOfMemory why = why
+
+  -- and whether it passes the test
+  pub held_passes : (old : Option (List ℕ)) (d : ArrayData) → cells k d ≡ decoded_part m k f sub old → IsSome (cells k d) → part_decodes m k f sub old ≡ true
+  held_passes old d is there = or_left (is_some (decoded_part m k f sub old)) (part_too_large m k f sub old) (ap is_some (sym is) ∙ there)
+
+  pub large_passes : (old : Option (List ℕ)) → part_too_large m k f sub old ≡ true → part_decodes m k f sub old ≡ true
+  large_passes old large = or_right (is_some (decoded_part m k f sub old)) (part_too_large m k f sub old) large
+
+  pub test_refused : (old : Option (List ℕ)) (e : CodecError) → (e ≡ error.SizeOverflow → ⊥) → RefusesHeld m k f sub old e → RefusesTested m k f sub old e
+  test_refused old (error.DoesNotFit _) other why = why
+  test_refused old error.SizeOverflow other why = absurd (other refl)
+  test_refused old error.OutOfMemory other why = why
+
+-- under `bytes` alone no bytes are cells that are too large
+pub no_large_bytes : (x : BytesCodec) (k : Kind) (f : Cell) (sub b : List ℕ) → length b < 2 ^ 64 → 2 ^ 64 ≤ position_count sub * cell_size k → (codec_meaning (codec.Bytes x)).decoded k f sub b ≡ None
+no_large_bytes x k f sub b short large = go (element_size k) refl
+  where
+    e : Option Endianness
+    e = endian_of x
+
+    n : ℕ
+    n = position_count sub
+
+    go : (o : Option ℕ) → element_size k ≡ o → (bytes_meaning_of e).decoded k n b ≡ None
+    go None is =
+        ap (option_and_then (λ size. if takes_bytes e k && (length b == n * size) then values_only k (map (λ p. bytes (in_order (reverses e k) p)) (pieces size n b)) else None)) is
+    go (Some size) is =
+        wrong_length e k size n b is (λ same. (let sized : n * cell_size k ≡ n * size = ap (λ x. n * x) (sized_cell k size is) in omega arith))
+
+pub alone_large : (codecs : List ArrayToArrayCodec) (x : BytesCodec) → no_codec codecs ≡ true → (reason : Misfit) → RefusesLarge (behind codecs (codec_meaning (codec.Bytes x))) (error.DoesNotFit reason)
+alone_large [] x alone reason k f sub b short large = same_cells (codec_meaning (codec.Bytes x)) k f sub (Some b) ∙ no_large_bytes x k f sub b short large
+alone_large (c ∷ codecs) x alone reason k f sub b short large = absurd (false≢true alone)
+
+-- ---- the subchunks that a part meets, one after another
+
+module _ (m : ChainMeaning) (k : Kind) (f : Cell) (s sub : List ℕ) (part : Box) (parts : List (Option (List ℕ))) where
+  pub passed_more : (n : ℕ) → ArePassed m k f s sub part parts n → (is_met s sub part n ≡ true → part_decodes m k f sub (get_or parts n None) ≡ true) → ArePassed m k f s sub part parts (n + 1)
+  passed_more n before here j lt meets = elim (cases_Bool (nat_lt j n)) [
+    | inl less ↦ before j (ltb-true j n less) meets
+    | inr more ↦
+        let same : j ≡ n = omega (arith, ltb-false j n more) in
+        subst (λ i. part_decodes m k f sub (get_or parts i None) ≡ true) (sym same) (here (subst (λ i. is_met s sub part i ≡ true) same meets))
+  ]
+
+  pub all_passed : (n : ℕ) → n ≡ subchunk_count s sub → ArePassed m k f s sub part parts n → all_met_decode m k f s sub part parts ≡ true
+  all_passed n n_is all =
+      let T = λ (j : ℕ). not (is_met s sub part j) || part_decodes m k f sub (get_or parts j None) in
+      list_all-from_AllPass T (range_with_len 0 (subchunk_count s sub)) (λ i d lt.
+      let below : i < n = omega (arith, length-range_with_len 0 (subchunk_count s sub)) in
+      let at : get_or (range_with_len 0 (subchunk_count s sub)) i d ≡ i = get_or-range_with_len 0 (subchunk_count s sub) i d (omega arith) in
+      ap T at ∙ passes (is_met s sub part i) (part_decodes m k f sub (get_or parts i None)) (all i below))
+    where
+      passes : (met decodes : Bool) → (met ≡ true → decodes ≡ true) → (not met || decodes) ≡ true
+      passes true decodes is = is refl
+      passes false decodes is = refl
+
+  pub part_refused : (n : ℕ) (e : CodecError) → n < length parts → RefusesTested m k f sub (get_or parts n None) e → RefusesMet m k f sub parts e
+  part_refused n (error.DoesNotFit _) lt why = (n, lt, why)
+  part_refused n error.SizeOverflow lt why = absurd why
+  part_refused n error.OutOfMemory lt why = why
+
+  pub met_refused : (empty : Bool) (d : ArrayData) (e : CodecError) → RefusesMet m k f sub parts e → RefusesPatch m empty k f s sub part d parts e
+  met_refused empty d (error.DoesNotFit _) why = why
+  met_refused empty d error.SizeOverflow why = absurd why
+  met_refused empty d error.OutOfMemory why = why
+
+  pub other_refused : (empty : Bool) (d : ArrayData) (e : CodecError) → (e ≡ error.SizeOverflow → ⊥) → RefusesChanges m empty k f s sub part d parts e → RefusesPatch m empty k f s sub part d parts e
+  other_refused empty d (error.DoesNotFit _) other why = why
+  other_refused empty d error.SizeOverflow other why = absurd (other refl)
+  other_refused empty d error.OutOfMemory other why = why
+
+  pub too_large_met : (j : ℕ) → j < subchunk_count s sub → is_met s sub part j ≡ true → part_too_large m k f sub (get_or parts j None) ≡ true → any_met_too_large m k f s sub part parts ≡ true
+  too_large_met j lt meets large =
+      let n = subchunk_count s sub in
+      let T = λ (i : ℕ). is_met s sub part i && part_too_large m k f sub (get_or parts i None) in
+      list_any_at T (range_with_len 0 n) j 0 (omega (arith, length-range_with_len 0 n))
+      (ap T (get_or-range_with_len 0 n j 0 lt) ∙ and_from (is_met s sub part j) (part_too_large m k f sub (get_or parts j None)) meets large)
 
 module _ (m : ChainMeaning) (empty : Bool) (k : Kind) (f : Cell) (s sub : List ℕ) (part : Box) (d : ArrayData) where
   same_held : (old : Option (List ℕ)) → cells_of_part (subchunk_meaning m empty k f sub) f sub old ≡ decoded_part m k f sub old
@@ -79,10 +185,10 @@ module _ (m : ChainMeaning) (empty : Bool) (k : Kind) (f : Cell) (s sub : List �
       inl (changed_is number old held new meets is u ∙ ap (option_map Some) why.1)
   encode_refused number old held new error.OutOfMemory fit meets is u why = why
 
-  pub held_refused : (number : ℕ) (old : Option (List ℕ)) (e : CodecError) → RefusesHeld m k f sub old e → RefusesChange m empty k f s sub part d number old e
-  held_refused number old (error.DoesNotFit _) why = why
-  held_refused number old error.SizeOverflow why = inr why
-  held_refused number old error.OutOfMemory why = why
+  pub held_refused : (number : ℕ) (old : Option (List ℕ)) (e : CodecError) → is_met s sub part number ≡ true → RefusesHeld m k f sub old e → RefusesChange m empty k f s sub part d number old e
+  held_refused number old (error.DoesNotFit _) meets why = why
+  held_refused number old error.SizeOverflow meets why = inr (meets, why)
+  held_refused number old error.OutOfMemory meets why = why
 
   -- ---- one after another
 

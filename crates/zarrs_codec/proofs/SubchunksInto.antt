@@ -281,8 +281,7 @@ alone_at (c ∷ codecs) m k f s part b box own held alone h = absurd (false≢tr
 
 -- ---- refusals
 
-pub piece_refused : (decoded : List ℕ → Option (List Cell)) (leaves_out : List ℕ → Bool) (s sub : List ℕ) (size : ℕ) (parts : List (Option (List ℕ))) (n : ℕ) (o : Option (List ℕ)) (refuses : Bool) (e : PartError)
-    → is_cut_by s sub ≡ true → length parts ≡ subchunk_count s sub → n < length parts → slice_index_or parts n None ≡ o
-    → RefusesPiece decoded leaves_out (position_count sub * size) o refuses e → RefusesStep decoded leaves_out (position_count s * size) parts refuses e
-piece_refused decoded leaves_out s sub size parts n None refuses e cut count lt is why = subst (RefusesStep decoded leaves_out (position_count s * size) parts refuses) (sym why) tt
-piece_refused decoded leaves_out s sub size parts n (Some encoded) refuses e cut count lt is why = inner_refused decoded leaves_out s sub size parts n encoded refuses e cut count lt is why
+pub piece_refused : (decoded : List ℕ → Option (List Cell)) (TooLarge : List ℕ → Type 0) (parts : List (Option (List ℕ))) (n : ℕ) (o : Option (List ℕ)) (refuses : Bool) (e : PartError)
+    → n < length parts → slice_index_or parts n None ≡ o → RefusesPiece decoded TooLarge o refuses e → RefusesStep decoded TooLarge parts refuses e
+piece_refused decoded TooLarge parts n None refuses e lt is why = subst (RefusesStep decoded TooLarge parts refuses) (sym why) tt
+piece_refused decoded TooLarge parts n (Some encoded) refuses e lt is why = inner_refused decoded TooLarge parts n encoded refuses e lt is why

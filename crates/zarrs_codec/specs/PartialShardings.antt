@@ -1,21 +1,21 @@
 -- A part of a chunk's cells written into its shard, over the chain of the subchunks.
-use Rattle.std.specs.Prelude.{◌≡◌, ◌⊎◌, ℕ, ◌*◌, ◌<◌, ◌≤◌, ◌^◌, Bool, true}
+use Rattle.std.specs.Prelude.{◌≡◌, ◌⊎◌, ℕ, ◌*◌, ◌<◌, ◌≤◌, ◌^◌, Bool, true, IsSome}
 use Rattle.std.specs.Prelude.{Option, None, Some, List, [], length, option_map, slice_index_or, unwrap_or, if◌then◌else◌}
-use Rattle.zarrs_data_type.specs.Kind.{Kind}
-use Rattle.zarrs_data_type.specs.Cell.{Cell, held_size}
+use Rattle.zarrs_data_type.specs.Kind.{Kind, cell_size}
+use Rattle.zarrs_data_type.specs.Cell.{Cell}
 use Rattle.zarrs_data_type.specs.ArrayData.{ArrayData}
 use Rattle.zarrs_codec_leaf.specs.declared.error.CodecError.{CodecError}
 use Rattle.zarrs_codec_leaf.specs.declared.error.CodecError.TheVariants as error
 use Rattle.zarrs_metadata_parts.specs.Extension.{◌>>=◌}
 use Rattle.zarrs_codec_shard.specs.PartialShards.{PartialChange, first_changes, is_met, updated_subchunk, write_of}
 use Rattle.zarrs_codec_shard.specs.ShardPatches.{IsPatching}
-use Rattle.zarrs_codec_shard.specs.Sharded.{cells_of_part, part_leaves_out, part_of}
+use Rattle.zarrs_codec_shard.specs.Sharded.{cells_of_part, part_of}
 use Rattle.zarrs_codec_shard.specs.Subchunks.{subchunk_count}
 use Rattle.zarrs_codec_shard.specs.declared.patch.ShardPatch.{ShardPatch}
 use Rattle.zarrs_subset.specs.Boxes.{position_count}
 use Rattle.zarrs_subset.specs.Regions.{Box}
 use Rattle.zarrs_codec_chain.specs.Chain.{ChainMeaning}
-use Rattle.zarrs_codec.specs.Shardings.{cells_of, decoded_part, subchunk_meaning}
+use Rattle.zarrs_codec.specs.Shardings.{all_met_decode, cells_of, decoded_part, part_decodes, part_too_large, subchunk_meaning}
 
 -- the bytes that are stored: none without a key
 abbrev pub stored_bytes : Option (List ℕ) → List ℕ
@@ -51,18 +51,18 @@ pub record HasFirstChanges (m : ChainMeaning) (store_empty : Bool) (k : Kind) (f
 
 -- ---- why it refuses. Out of memory may come at any time
 
--- a subchunk does not decode, or it leaves out cells and one of fill is too large
+-- a subchunk does not decode, or is too large for that
 abbrev pub RefusesHeld : ChainMeaning → Kind → Cell → (sub : List ℕ) → (old : Option (List ℕ)) → CodecError → Type 0
 RefusesHeld m k f sub old (error.DoesNotFit _) = decoded_part m k f sub old ≡ None
-RefusesHeld m k f sub old error.SizeOverflow = (part_leaves_out (m.leaves_out sub) old ≡ true) × (2 ^ 64 ≤ position_count sub * held_size k f)
+RefusesHeld m k f sub old error.SizeOverflow = part_too_large m k f sub old ≡ true
 RefusesHeld m k f sub old error.OutOfMemory = Unit {0}
 
--- or what becomes of it is too large
+-- the same of one that the part meets, or what becomes of it is too large
 abbrev pub RefusesChange : ChainMeaning → (store_empty : Bool) → Kind → Cell → (shape sub : List ℕ) → Box → ArrayData → (number : ℕ)
     → (old : Option (List ℕ)) → CodecError → Type 0
 RefusesChange m store_empty k f s sub part d number old (error.DoesNotFit _) = decoded_part m k f sub old ≡ None
 RefusesChange m store_empty k f s sub part d number old error.SizeOverflow =
-    (changed_part m store_empty k f s sub part d number old ≡ None) ⊎ (RefusesHeld m k f sub old error.SizeOverflow)
+    (changed_part m store_empty k f s sub part d number old ≡ None) ⊎ ((is_met s sub part number ≡ true) × (part_too_large m k f sub old ≡ true))
 RefusesChange m store_empty k f s sub part d number old error.OutOfMemory = Unit {0}
 
 -- so of one of the subchunks
@@ -73,3 +73,44 @@ RefusesChanges m store_empty k f s sub part d parts (error.DoesNotFit _) =
 RefusesChanges m store_empty k f s sub part d parts error.SizeOverflow =
     (j : ℕ) × (j < length parts) × RefusesChange m store_empty k f s sub part d j (slice_index_or parts j None) error.SizeOverflow
 RefusesChanges m store_empty k f s sub part d parts error.OutOfMemory = Unit {0}
+
+-- ---- why a size is said to be too large
+
+-- the index is too long: no bytes have it, so that it may only be written where there is no key
+abbrev pub RefusesIndex : (stored : Option (List ℕ)) → CodecError → Type 0
+RefusesIndex stored (error.DoesNotFit _) = IsSome stored × (length (stored_bytes stored) < 2 ^ 64)
+RefusesIndex stored error.SizeOverflow = stored ≡ None
+RefusesIndex stored error.OutOfMemory = ⊥
+
+-- a subchunk is too large: no bytes are its cells, or none are looked at
+abbrev pub RefusesLarge : ChainMeaning → CodecError → Type 0
+RefusesLarge m (error.DoesNotFit _) =
+    (k : Kind) (f : Cell) (sub b : List ℕ) → length b < 2 ^ 64 → 2 ^ 64 ≤ position_count sub * cell_size k → m.decoded k f sub b ≡ None
+RefusesLarge m error.SizeOverflow = Unit {0}
+RefusesLarge m error.OutOfMemory = ⊥
+
+-- ---- why the subchunks that a part meets fail the test that they decode, or are too large for that
+
+-- one does not decode
+abbrev pub RefusesTested : ChainMeaning → Kind → Cell → (sub : List ℕ) → (old : Option (List ℕ)) → CodecError → Type 0
+RefusesTested m k f sub old (error.DoesNotFit _) = decoded_part m k f sub old ≡ None
+RefusesTested m k f sub old error.SizeOverflow = ⊥
+RefusesTested m k f sub old error.OutOfMemory = Unit {0}
+
+-- one of these does not
+abbrev pub RefusesMet : ChainMeaning → Kind → Cell → (sub : List ℕ) → (parts : List (Option (List ℕ))) → CodecError → Type 0
+RefusesMet m k f sub parts (error.DoesNotFit _) = (j : ℕ) × (j < length parts) × (decoded_part m k f sub (slice_index_or parts j None) ≡ None)
+RefusesMet m k f sub parts error.SizeOverflow = ⊥
+RefusesMet m k f sub parts error.OutOfMemory = Unit {0}
+
+-- the patch of a shard of these parts: they do not decode, or those that the part meets do, and a size is too large
+abbrev pub RefusesPatch : ChainMeaning → (store_empty : Bool) → Kind → Cell → (shape sub : List ℕ) → Box → ArrayData
+    → (parts : List (Option (List ℕ))) → CodecError → Type 0
+RefusesPatch m store_empty k f s sub part d parts (error.DoesNotFit reason) = RefusesMet m k f sub parts (error.DoesNotFit reason)
+RefusesPatch m store_empty k f s sub part d parts error.SizeOverflow =
+    (all_met_decode m k f s sub part parts ≡ true) × RefusesChanges m store_empty k f s sub part d parts error.SizeOverflow
+RefusesPatch m store_empty k f s sub part d parts error.OutOfMemory = Unit {0}
+
+-- the first n pass the test
+abbrev pub ArePassed : ChainMeaning → Kind → Cell → (shape sub : List ℕ) → Box → (parts : List (Option (List ℕ))) (n : ℕ) → Type 0
+ArePassed m k f s sub part parts n = (j : ℕ) → j < n → is_met s sub part j ≡ true → part_decodes m k f sub (slice_index_or parts j None) ≡ true

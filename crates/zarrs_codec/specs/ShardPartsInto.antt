@@ -54,7 +54,7 @@ DecodesPieceAt k decoded fill sub piece None box own held = (position : List ℕ
 DecodesPieceAt k decoded fill sub piece (Some encoded) box own held = DecodesPartAt k sub piece (decoded encoded) box own held
 
 -- why a piece of a subchunk is not read
-abbrev pub RefusesPiece : (List ℕ → Option (List Cell)) → (leaves_out : List ℕ → Bool) (fill_len : ℕ)
+abbrev pub RefusesPiece : (List ℕ → Option (List Cell)) → (TooLarge : List ℕ → Type 0)
     → Option (List ℕ) → (refuses : Bool) → PartError → Type 0
-RefusesPiece decoded leaves_out fill_len None refuses e = e ≡ Codec codec.OutOfMemory
-RefusesPiece decoded leaves_out fill_len (Some encoded) refuses e = RefusesPartDecoding (decoded encoded) (leaves_out encoded) fill_len refuses e
+RefusesPiece decoded TooLarge None refuses e = e ≡ Codec codec.OutOfMemory
+RefusesPiece decoded TooLarge (Some encoded) refuses e = RefusesPartDecoding (decoded encoded) (TooLarge encoded) refuses e

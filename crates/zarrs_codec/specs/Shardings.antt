@@ -1,22 +1,23 @@
 -- Chains whose last codec is `sharding_indexed`, over the chain of their subchunks.
-use Rattle.std.specs.Prelude.{◌≡◌, ℕ, ◌*◌, ◌≤◌, ◌^◌, Bool, true, false, not}
+use Rattle.std.specs.Prelude.{◌≡◌, ℕ, ◌*◌, ◌≤◌, ◌^◌, Bool, true, false, not, nat_le, slice_index_or, ◌||◌}
 use Rattle.std.specs.Prelude.{Option, None, Some, List, [], ◌∷◌, ◌++◌, length, map, take, is_some, unwrap_or, ◌&&◌}
-use Rattle.std.specs.List.{list_all, list_any}
-use Rattle.zarrs_data_type.specs.Kind.{Kind}
+use Rattle.std.specs.List.{list_all, list_any, range_with_len}
+use Rattle.zarrs_data_type.specs.Kind.{Kind, cell_size}
 use Rattle.zarrs_data_type.specs.Cell.{Cell, held_size}
 use Rattle.zarrs_data_type.specs.ArrayData.{ArrayData, fixed}
 use Rattle.zarrs_data_type.specs.Cells.{cells, HasCells}
 use Rattle.zarrs_codec_leaf.specs.declared.error.CodecError.{CodecError}
 use Rattle.zarrs_codec_leaf.specs.declared.error.CodecError.TheVariants as error
-use Rattle.zarrs_codec_shard.specs.PartialShards.{sharded_partly}
+use Rattle.zarrs_codec_shard.specs.PartialShards.{is_met, sharded_partly, stored_parts}
 use Rattle.zarrs_codec_shard.specs.Steps.{given_if, all_present}
 use Rattle.zarrs_codec_shard.specs.ShardIndex.{IsWriting, PushesPart}
 use Rattle.zarrs_codec_shard.specs.declared.shard_index.ShardWriter.{ShardWriter}
 use Rattle.zarrs_codec_shard.specs.Sharded.{SubchunkMeaning, part_of, part_leaves_out, first_parts, cells_of_part, cells_of_parts}
 use Rattle.zarrs_codec_shard.specs.Sharded.{sharded_fits, sharded_encoded, sharded_decoded, sharded_compacted, sharded_leaves_out}
 use Rattle.zarrs_codec_shard.specs.SubchunkData.{HasSubchunks}
-use Rattle.zarrs_codec_shard.specs.Subchunks.{is_cut_by}
+use Rattle.zarrs_codec_shard.specs.Subchunks.{is_cut_by, subchunk_count}
 use Rattle.zarrs_subset.specs.Boxes.{position_count}
+use Rattle.zarrs_subset.specs.Regions.{Box}
 use Rattle.zarrs_codec_chain.specs.Places.{shard_places}
 use Rattle.zarrs_codec_chain.specs.Chain.{ChainMeaning}
 
@@ -27,6 +28,49 @@ subchunk_meaning m store_empty k fill sub = record {
   encoded = m.encoded store_empty k fill sub;
   decoded = m.decoded k fill sub;
 }
+
+-- the cells of the part of a subchunk
+abbrev pub decoded_part : ChainMeaning → Kind → Cell → (sub : List ℕ) → Option (List ℕ) → Option (List Cell)
+decoded_part m k f sub part = cells_of_part (subchunk_meaning m false k f sub) f sub part
+
+-- ---- writes of parts, of a shard whose index stands at the end
+
+-- whether a subchunk is too large to be decoded: a usize does not count the bytes of its cells, or of its fill where its part
+-- leaves out cells
+abbrev pub part_too_large : ChainMeaning → Kind → Cell → (sub : List ℕ) → Option (List ℕ) → Bool
+part_too_large m k f sub None = nat_le (2 ^ 64) (position_count sub * held_size k f)
+part_too_large m k f sub (Some b) =
+    nat_le (2 ^ 64) (position_count sub * cell_size k) || (m.leaves_out sub b && nat_le (2 ^ 64) (position_count sub * held_size k f))
+
+-- whether a subchunk decodes, or is too large for that
+abbrev pub part_decodes : ChainMeaning → Kind → Cell → (sub : List ℕ) → Option (List ℕ) → Bool
+part_decodes m k f sub part = is_some (decoded_part m k f sub part) || part_too_large m k f sub part
+
+-- whether each subchunk that a part of the chunk meets does
+abbrev pub all_met_decode : ChainMeaning → Kind → Cell → (shape sub : List ℕ) (part : Box) (parts : List (Option (List ℕ))) → Bool
+all_met_decode m k f s sub part parts =
+    list_all (λ j. not (is_met s sub part j) || part_decodes m k f sub (slice_index_or parts j None)) (range_with_len 0 (subchunk_count s sub))
+
+-- whether one of them is too large
+abbrev pub any_met_too_large : ChainMeaning → Kind → Cell → (shape sub : List ℕ) (part : Box) (parts : List (Option (List ℕ))) → Bool
+any_met_too_large m k f s sub part parts =
+    list_any (λ j. is_met s sub part j && part_too_large m k f sub (slice_index_or parts j None)) (range_with_len 0 (subchunk_count s sub))
+
+-- the same of what stands at a key
+abbrev pub sharded_partly_decodes : ChainMeaning → Kind → Cell → (shape sub : List ℕ) (stored : Option (List ℕ)) (part : Box) → Bool
+sharded_partly_decodes m k f s sub None part = true
+sharded_partly_decodes m k f s sub (Some b) part = elim (stored_parts (subchunk_count s sub) (Some b)) [
+  | None ↦ false
+  | Some parts ↦ all_met_decode m k f s sub part parts
+]
+
+abbrev pub sharded_partly_too_large : ChainMeaning → Kind → Cell → (shape sub : List ℕ) (stored : Option (List ℕ)) (part : Box) → Bool
+sharded_partly_too_large m k f s sub stored part = elim (stored_parts (subchunk_count s sub) stored) [
+  | None ↦ false
+  | Some parts ↦ any_met_too_large m k f s sub part parts
+]
+
+-- ---- the chain
 
 -- `sharding_indexed` with subchunks of this shape, which the chain `m` encodes
 abbrev pub sharded : (at_start : Bool) (sub : List ℕ) → ChainMeaning → ChainMeaning
@@ -41,6 +85,9 @@ sharded at_start sub m = record {
   partly_encoded = λ store_empty k fill s stored part cs.
       given_if (not at_start) (sharded_partly (subchunk_meaning m store_empty k fill sub) store_empty fill s sub stored part cs);
   places = shard_places at_start sub;
+  decodes_whole = λ s. m.decodes_whole sub;
+  partly_decodes = λ k f s stored part. sharded_partly_decodes m k f s sub stored part;
+  partly_too_large = λ k f s stored part. sharded_partly_too_large m k f s sub stored part;
 }
 
 -- the cells of data that has some
@@ -76,11 +123,7 @@ pub record HasFirstParts (m : SubchunkMeaning) (at_start empty : Bool) (f : Cell
 
 -- ---- decoding
 
--- the cells of the part of a subchunk
-abbrev pub decoded_part : ChainMeaning → Kind → Cell → (sub : List ℕ) → Option (List ℕ) → Option (List Cell)
-decoded_part m k f sub part = cells_of_part (subchunk_meaning m false k f sub) f sub part
-
--- and of the parts of a chunk
+-- the cells of the parts of a chunk
 abbrev pub decoded_parts : ChainMeaning → Kind → Cell → (shape sub : List ℕ) → List (Option (List ℕ)) → Option (List Cell)
 decoded_parts m k f s sub parts = cells_of_parts (subchunk_meaning m false k f sub) k f s sub parts
 

@@ -8,7 +8,7 @@ use Rattle.std.specs.Prelude.{option_and_then, if◌then◌else◌}
 use Rattle.zarrs_codec_chain.specs.Places.{all_places, all_places-inside, places_behind}
 use Rattle.zarrs_codec_shard.specs.Steps.{given_if}
 use Rattle.zarrs_codec_shard.proofs.Missing.{bind_parts, given_if-parts, given_if-true}
-use Rattle.zarrs_codec_chain.specs.Chain.{ChainMeaning, IsLawfulChain}
+use Rattle.zarrs_codec_chain.specs.Chain.{ChainMeaning, IsLawfulChain, decodes_stored}
 use Rattle.zarrs_data_type_bytes.proofs.FixedSizes.{some_is}
 
 -- the chain `m` behind codecs that make an array of an array
@@ -23,6 +23,10 @@ through a m = record {
   encodes_partly = false;
   partly_encoded = λ empty k f s stored part cs. None;
   places = all_places;
+  decodes_whole = λ s. Some s;
+  partly_decodes = λ k f s stored part.
+      decodes_stored (λ b. given_if (a.fits s) (option_and_then (λ cs. Some (a.back s cs)) (m.decoded k f (a.shape s) b))) stored;
+  partly_too_large = λ k f s stored part. false;
 }
 
 -- the same, where it is said whether there is no such codec: parts are written, and read by themselves, only then
@@ -31,6 +35,10 @@ through_all none a m = record (through a m) {
   encodes_partly = none && m.encodes_partly;
   partly_encoded = λ empty k f s stored part cs. given_if none (m.partly_encoded empty k f s stored part cs);
   places = places_behind none m.places;
+  decodes_whole = λ s. if none then m.decodes_whole s else Some s;
+  partly_decodes = λ k f s stored part.
+      if none then m.partly_decodes k f s stored part else (through a m).partly_decodes k f s stored part;
+  partly_too_large = λ k f s stored part. none && m.partly_too_large k f s stored part;
 }
 
 compacted_parts : {A : Type 0} (compacts fits : Bool) (o : Option (Option A)) (less : A)

@@ -24,6 +24,7 @@ mod partial_decode_into;
 mod partial_encode;
 mod sharding;
 mod sharding_builder;
+mod sizes;
 
 pub use chain::{BytesToBytesCodecs, CodecChain};
 pub use codec::ArrayToBytesCodec;

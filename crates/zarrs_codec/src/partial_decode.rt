@@ -1,9 +1,9 @@
 //! Parts of chunks, of ranges of their bytes.
-ghost use Rattle.std.specs.Prelude.{◌≡◌, ◌*◌, ◌<◌, ◌^◌, IfOk, IfErr, IfNone, IfSome, IsSome, map};
+ghost use Rattle.std.specs.Prelude.{◌≡◌, ◌*◌, ◌<◌, ◌^◌, Some, IfOk, IfErr, IfNone, IfSome, IsSome, map};
 ghost use Rattle.zarrs_subset.specs.Boxes.{position_count};
 ghost use Rattle.zarrs_subset.specs.Regions.{LiesInShape, box_of};
 ghost use Rattle.zarrs_data_type.specs.Kind.{kind, cell_size};
-ghost use Rattle.zarrs_data_type.specs.Cell.{fill_cell, fill_of, held_size};
+ghost use Rattle.zarrs_data_type.specs.Cell.{fill_cell, fill_of};
 ghost use Rattle.zarrs_data_type.specs.ArrayData.{data_of};
 ghost use Rattle.zarrs_data_type.specs.Cells.{HasCells};
 ghost use Rattle.zarrs_data_type.specs.RegionData.{region_data};
@@ -12,15 +12,18 @@ ghost use Rattle.zarrs_codec_leaf.specs.Sources.{IsWindow, MayRead, window_bytes
 ghost use Rattle.zarrs_codec_chain.specs.Parts.{DecodesPart};
 ghost use Rattle.zarrs_codec_chain.specs.Places.{all_places, shard_places};
 ghost use Rattle.zarrs_codec_chain.specs.PartRefusals.{RefusesPartDecoding};
+ghost use Rattle.zarrs_codec_chain.specs.Refusals.{IsTooLargeToDecode};
 ghost use Rattle.zarrs_codec_chain.specs.ShardParts.{DecodesAs, HasAllParts, IsShard, MeetsPart, ReadsSubchunk};
 ghost use Rattle.zarrs_codec_chain.specs.ShardParts.{RefusesStep};
-ghost use Rattle.zarrs_codec_shard.specs.Sharded.{SubchunkMeaning, sharded_decoded, sharded_leaves_out};
+ghost use Rattle.zarrs_codec_shard.specs.Sharded.{SubchunkMeaning, sharded_decoded};
 ghost use Rattle.zarrs_codec.specs.Chains.{chain_meaning, inner_chain_of, sharding_meaning};
 ghost use Rattle.zarrs_codec.specs.ShardPieces.{HasNoPiece, HasPiece};
+ghost use Rattle.zarrs_codec.specs.Shardings.{sharded};
 
 use crate::chain::CodecChain;
 use crate::codec::ArrayToBytesCodec;
 use crate::sharding::ShardingCodec;
+use crate::sizes::is_counted;
 use std::alloc::Global;
 use zarrs_codec_chain::{
     PartError, ShardIndex, common_part, met_subchunks, open_shard, part_of_whole,
@@ -44,7 +47,8 @@ impl CodecChain {
         shape: &[u64],
     ) -> Result<ArrayBytes<'static>, PartError>
         requires filled { IsSome (fill_cell (kind data_type.now) fill_value.now) }
-        requires size { position_count shape.now * cell_size (kind data_type.now) < 2 ^ 64 }
+        requires size { position_count (box_of part.now).shape * cell_size (kind data_type.now)
+            < 2 ^ 64 }
         requires part { LiesInShape (box_of part.now) shape.now }
         requires window { IsWindow window (B.bytes source.now) }
         requires may_read { MayRead (B.may_read source.now) window ((chain_meaning self.now).places
@@ -56,10 +60,9 @@ impl CodecChain {
             (window_bytes window (B.bytes source.now))) (data_of made)) }
         ensures refused { IfErr result (RefusesPartDecoding ((chain_meaning self.now).decoded
             (kind data_type.now) (fill_of (kind data_type.now) fill_value.now) shape.now
-            (window_bytes window (B.bytes source.now))) ((chain_meaning self.now).leaves_out
-            shape.now (window_bytes window (B.bytes source.now)))
-            (position_count shape.now * held_size (kind data_type.now)
-            (fill_of (kind data_type.now) fill_value.now)) (B.refuses source.now)) }
+            (window_bytes window (B.bytes source.now))) (IsTooLargeToDecode (chain_meaning self.now)
+            (kind data_type.now) (fill_of (kind data_type.now) fill_value.now) shape.now
+            (window_bytes window (B.bytes source.now))) (B.refuses source.now)) }
     {
         if !self.array_to_array.is_empty() {
             return self.part_of_decoded(alloc, source, window, part, data_type, fill_value, shape);
@@ -87,7 +90,7 @@ impl CodecChain {
         shape: &[u64],
     ) -> Result<ArrayBytes<'static>, PartError>
         requires filled { IsSome (fill_cell (kind data_type.now) fill_value.now) }
-        requires size { position_count shape.now * cell_size (kind data_type.now) < 2 ^ 64 }
+        requires whole { (chain_meaning self.now).decodes_whole shape.now ≡ Some shape.now }
         requires part { LiesInShape (box_of part.now) shape.now }
         requires window { IsWindow window (B.bytes source.now) }
         requires may_read { MayRead (B.may_read source.now) window (all_places (kind data_type.now)
@@ -98,11 +101,13 @@ impl CodecChain {
             (window_bytes window (B.bytes source.now))) (data_of made)) }
         ensures refused { IfErr result (RefusesPartDecoding ((chain_meaning self.now).decoded
             (kind data_type.now) (fill_of (kind data_type.now) fill_value.now) shape.now
-            (window_bytes window (B.bytes source.now))) ((chain_meaning self.now).leaves_out
-            shape.now (window_bytes window (B.bytes source.now)))
-            (position_count shape.now * held_size (kind data_type.now)
-            (fill_of (kind data_type.now) fill_value.now)) (B.refuses source.now)) }
+            (window_bytes window (B.bytes source.now))) (IsTooLargeToDecode (chain_meaning self.now)
+            (kind data_type.now) (fill_of (kind data_type.now) fill_value.now) shape.now
+            (window_bytes window (B.bytes source.now))) (B.refuses source.now)) }
     {
+        if !is_counted(shape, data_type) {
+            return Err(PartError::Codec(CodecError::SizeOverflow));
+        }
         let encoded = source.read(alloc, window)?;
         let whole = self.decode_chunk(alloc, encoded.as_slice(), data_type, fill_value, shape)?;
         let made = part_of_whole(alloc, &whole, data_type, shape, part)?;
@@ -132,7 +137,8 @@ impl ShardingCodec {
         shape: &[u64],
     ) -> Result<ArrayBytes<'static>, PartError>
         requires filled { IsSome (fill_cell (kind data_type.now) fill_value.now) }
-        requires size { position_count shape.now * cell_size (kind data_type.now) < 2 ^ 64 }
+        requires size { position_count (box_of part.now).shape * cell_size (kind data_type.now)
+            < 2 ^ 64 }
         requires part { LiesInShape (box_of part.now) shape.now }
         requires window { IsWindow window (B.bytes source.now) }
         requires may_read { MayRead (B.may_read source.now) window
@@ -144,10 +150,9 @@ impl ShardingCodec {
             (window_bytes window (B.bytes source.now))) (data_of made)) }
         ensures refused { IfErr result (RefusesPartDecoding ((sharding_meaning self.now).decoded
             (kind data_type.now) (fill_of (kind data_type.now) fill_value.now) shape.now
-            (window_bytes window (B.bytes source.now))) ((sharding_meaning self.now).leaves_out
-            shape.now (window_bytes window (B.bytes source.now)))
-            (position_count shape.now * held_size (kind data_type.now)
-            (fill_of (kind data_type.now) fill_value.now)) (B.refuses source.now)) }
+            (window_bytes window (B.bytes source.now))) (IsTooLargeToDecode (sharding_meaning self.now)
+            (kind data_type.now) (fill_of (kind data_type.now) fill_value.now) shape.now
+            (window_bytes window (B.bytes source.now))) (B.refuses source.now)) }
     {
         let sub = self.extents(alloc)?;
         let at_start = self.index_location().is_at_start();
@@ -171,7 +176,8 @@ impl ShardingCodec {
         shape: &[u64],
     ) -> Result<ArrayBytes<'static>, PartError>
         requires filled { IsSome (fill_cell (kind data_type.now) fill_value.now) }
-        requires size { position_count shape.now * cell_size (kind data_type.now) < 2 ^ 64 }
+        requires size { position_count (box_of part.now).shape * cell_size (kind data_type.now)
+            < 2 ^ 64 }
         requires part { LiesInShape (box_of part.now) shape.now }
         requires window { IsWindow window (B.bytes source.now) }
         requires may_read { MayRead (B.may_read source.now) window (shard_places at_start sub.now
@@ -189,10 +195,9 @@ impl ShardingCodec {
             → RefusesPartDecoding (sharded_decoded m at_start (kind data_type.now)
             (fill_of (kind data_type.now) fill_value.now) shape.now sub.now
             (window_bytes window (B.bytes source.now)))
-            (sharded_leaves_out ((chain_meaning (inner_chain_of self.now)).leaves_out sub.now)
-            at_start shape.now sub.now (window_bytes window (B.bytes source.now)))
-            (position_count shape.now * held_size (kind data_type.now)
-            (fill_of (kind data_type.now) fill_value.now)) (B.refuses source.now) e) }
+            (IsTooLargeToDecode (sharded at_start sub.now (chain_meaning (inner_chain_of self.now)))
+            (kind data_type.now) (fill_of (kind data_type.now) fill_value.now) shape.now
+            (window_bytes window (B.bytes source.now))) (B.refuses source.now) e) }
     {
         let Some(index) = open_shard(alloc, source, window, shape, sub, at_start)? else {
             return Err(PartError::Codec(CodecError::DoesNotFit(Misfit::Bytes)));
@@ -242,7 +247,8 @@ impl ShardingCodec {
         met: &ArraySubset,
     ) -> Result<ArrayBytes<'static>, PartError>
         requires filled { IsSome (fill_cell (kind data_type.now) fill_value.now) }
-        requires size { position_count shape.now * cell_size (kind data_type.now) < 2 ^ 64 }
+        requires size { position_count (box_of part.now).shape * cell_size (kind data_type.now)
+            < 2 ^ 64 }
         requires part { LiesInShape (box_of part.now) shape.now }
         requires window { IsWindow window (B.bytes source.now) }
         requires may_read { MayRead (B.may_read source.now) window (shard_places at_start sub.now
@@ -260,9 +266,8 @@ impl ShardingCodec {
         ensures refused { IfErr result (RefusesStep
             ((chain_meaning (inner_chain_of self.now)).decoded (kind data_type.now)
             (fill_of (kind data_type.now) fill_value.now) sub.now)
-            ((chain_meaning (inner_chain_of self.now)).leaves_out sub.now)
-            (position_count shape.now * held_size (kind data_type.now)
-            (fill_of (kind data_type.now) fill_value.now))
+            (IsTooLargeToDecode (chain_meaning (inner_chain_of self.now)) (kind data_type.now)
+            (fill_of (kind data_type.now) fill_value.now) sub.now)
             (map (range_part (window_bytes window (B.bytes source.now))) index.now.ranges.items)
             (B.refuses source.now)) }
     {
@@ -314,7 +319,8 @@ impl ShardingCodec {
         indices: &[u64],
     ) -> Result<RegionCells, PartError>
         requires filled { IsSome (fill_cell (kind data_type.now) fill_value.now) }
-        requires size { position_count shape.now * cell_size (kind data_type.now) < 2 ^ 64 }
+        requires size { position_count (box_of part.now).shape * cell_size (kind data_type.now)
+            < 2 ^ 64 }
         requires part { LiesInShape (box_of part.now) shape.now }
         requires window { IsWindow window (B.bytes source.now) }
         requires may_read { MayRead (B.may_read source.now) window (shard_places at_start sub.now
@@ -333,9 +339,8 @@ impl ShardingCodec {
         ensures refused { IfErr result (RefusesStep
             ((chain_meaning (inner_chain_of self.now)).decoded (kind data_type.now)
             (fill_of (kind data_type.now) fill_value.now) sub.now)
-            ((chain_meaning (inner_chain_of self.now)).leaves_out sub.now)
-            (position_count shape.now * held_size (kind data_type.now)
-            (fill_of (kind data_type.now) fill_value.now))
+            (IsTooLargeToDecode (chain_meaning (inner_chain_of self.now)) (kind data_type.now)
+            (fill_of (kind data_type.now) fill_value.now) sub.now)
             (map (range_part (window_bytes window (B.bytes source.now))) index.now.ranges.items)
             (B.refuses source.now)) }
     {
@@ -369,7 +374,8 @@ impl ShardingCodec {
         indices: &[u64],
     ) -> Result<Option<Piece>, PartError>
         requires filled { IsSome (fill_cell (kind data_type.now) fill_value.now) }
-        requires size { position_count shape.now * cell_size (kind data_type.now) < 2 ^ 64 }
+        requires size { position_count (box_of part.now).shape * cell_size (kind data_type.now)
+            < 2 ^ 64 }
         requires part { LiesInShape (box_of part.now) shape.now }
         requires window { IsWindow window (B.bytes source.now) }
         requires may_read { MayRead (B.may_read source.now) window (shard_places at_start sub.now
@@ -392,9 +398,8 @@ impl ShardingCodec {
         ensures refused { IfErr result (RefusesStep
             ((chain_meaning (inner_chain_of self.now)).decoded (kind data_type.now)
             (fill_of (kind data_type.now) fill_value.now) sub.now)
-            ((chain_meaning (inner_chain_of self.now)).leaves_out sub.now)
-            (position_count shape.now * held_size (kind data_type.now)
-            (fill_of (kind data_type.now) fill_value.now))
+            (IsTooLargeToDecode (chain_meaning (inner_chain_of self.now)) (kind data_type.now)
+            (fill_of (kind data_type.now) fill_value.now) sub.now)
             (map (range_part (window_bytes window (B.bytes source.now))) index.now.ranges.items)
             (B.refuses source.now)) }
     {
@@ -435,7 +440,8 @@ impl ShardingCodec {
         shape: &[u64],
     ) -> Result<ArrayBytes<'static>, PartError>
         requires filled { IsSome (fill_cell (kind data_type.now) fill_value.now) }
-        requires size { position_count shape.now * cell_size (kind data_type.now) < 2 ^ 64 }
+        requires size { position_count (box_of part.now).shape * cell_size (kind data_type.now)
+            < 2 ^ 64 }
         requires part { LiesInShape (box_of part.now) shape.now }
         requires window { IsWindow window (B.bytes source.now) }
         requires may_read { MayRead (B.may_read source.now) window ((chain_meaning (inner_chain_of self.now)).places
@@ -447,10 +453,10 @@ impl ShardingCodec {
             (window_bytes window (B.bytes source.now))) (data_of made)) }
         ensures refused { IfErr result (RefusesPartDecoding ((chain_meaning (inner_chain_of self.now)).decoded
             (kind data_type.now) (fill_of (kind data_type.now) fill_value.now) shape.now
-            (window_bytes window (B.bytes source.now))) ((chain_meaning (inner_chain_of self.now)).leaves_out
-            shape.now (window_bytes window (B.bytes source.now)))
-            (position_count shape.now * held_size (kind data_type.now)
-            (fill_of (kind data_type.now) fill_value.now)) (B.refuses source.now)) }
+            (window_bytes window (B.bytes source.now)))
+            (IsTooLargeToDecode (chain_meaning (inner_chain_of self.now)) (kind data_type.now)
+            (fill_of (kind data_type.now) fill_value.now) shape.now
+            (window_bytes window (B.bytes source.now))) (B.refuses source.now)) }
     {
         self.inner
             .partial_decode_chunk(alloc, source, window, part, data_type, fill_value, shape)

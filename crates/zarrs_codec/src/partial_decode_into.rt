@@ -1,12 +1,11 @@
 //! Parts of chunks that are decoded into a box that a caller lends.
-ghost use Rattle.std.specs.Prelude.{◌≡◌, ◌+◌, ◌*◌, ◌<◌, ◌^◌, true, IfErr, IfSome, IsSome, OnOk};
+ghost use Rattle.std.specs.Prelude.{◌≡◌, ◌+◌, ◌<◌, ◌^◌, true, IfErr, IfSome, IsSome, OnOk};
 ghost use Rattle.std.specs.Prelude.{map, option_map};
-ghost use Rattle.zarrs_subset.specs.Boxes.{position_count};
 ghost use Rattle.zarrs_subset.specs.Regions.{LiesInShape, box_of, LiesInBox};
-ghost use Rattle.zarrs_data_type.specs.Kind.{kind, cell_size};
-ghost use Rattle.zarrs_data_type.specs.Cell.{fill_cell, fill_of, held_size};
+ghost use Rattle.zarrs_data_type.specs.Kind.{kind};
+ghost use Rattle.zarrs_data_type.specs.Cell.{fill_cell, fill_of};
 ghost use Rattle.zarrs_codec_shard.specs.ShardIndex.{range_part, IsRangeWithin};
-ghost use Rattle.zarrs_codec_shard.specs.Sharded.{SubchunkMeaning, sharded_decoded, sharded_leaves_out};
+ghost use Rattle.zarrs_codec_shard.specs.Sharded.{SubchunkMeaning, sharded_decoded};
 ghost use Rattle.zarrs_codec_leaf.specs.Sources.{IsWindow, MayRead, window_bytes};
 ghost use Rattle.zarrs_data_type.specs.States.{IsTarget, SameBox, StaysOutside, data_of_target};
 ghost use Rattle.zarrs_data_type.specs.States.{parent_box, target_box};
@@ -14,10 +13,12 @@ ghost use Rattle.zarrs_data_type.specs.Targets.{takes_type, KeepsOutside};
 ghost use Rattle.zarrs_codec_chain.specs.Parts.{DecodesPartAt};
 ghost use Rattle.zarrs_codec_chain.specs.Places.{shard_places};
 ghost use Rattle.zarrs_codec_chain.specs.PartRefusals.{RefusesPartDecoding};
+ghost use Rattle.zarrs_codec_chain.specs.Refusals.{IsTooLargeToDecode};
 ghost use Rattle.zarrs_codec_chain.specs.ShardParts.{DecodesAs, IsShard, RefusesStep};
 ghost use Rattle.zarrs_codec.specs.Chains.{chain_meaning, inner_chain_of, sharding_meaning};
 ghost use Rattle.zarrs_codec.specs.ShardPartsInto.{DecodesPieceAt, HasAllPartsAt};
 ghost use Rattle.zarrs_codec.specs.ShardPartsInto.{ReadsSubchunkAt, RefusesPiece, range_window};
+ghost use Rattle.zarrs_codec.specs.Shardings.{sharded};
 
 use crate::chain::CodecChain;
 use crate::codec::ArrayToBytesCodec;
@@ -48,7 +49,6 @@ impl CodecChain {
         target: &mut ArrayBytesDecodeIntoTarget<'_, '_, '_>,
     ) -> Result<(), PartError>
         requires filled { IsSome (fill_cell (kind data_type.now) fill_value.now) }
-        requires size { position_count shape.now * cell_size (kind data_type.now) < 2 ^ 64 }
         requires part { LiesInShape (box_of part.now) shape.now }
         requires window { IsWindow window (B.bytes source.now) }
         requires may_read { MayRead (B.may_read source.now) window ((chain_meaning self.now).places
@@ -70,10 +70,9 @@ impl CodecChain {
         ensures outside { StaysOutside target.old target.new }
         ensures refused { IfErr result (RefusesPartDecoding ((chain_meaning self.now).decoded
             (kind data_type.now) (fill_of (kind data_type.now) fill_value.now) shape.now
-            (window_bytes window (B.bytes source.now))) ((chain_meaning self.now).leaves_out
-            shape.now (window_bytes window (B.bytes source.now)))
-            (position_count shape.now * held_size (kind data_type.now)
-            (fill_of (kind data_type.now) fill_value.now)) (B.refuses source.now)) }
+            (window_bytes window (B.bytes source.now))) (IsTooLargeToDecode (chain_meaning self.now)
+            (kind data_type.now) (fill_of (kind data_type.now) fill_value.now) shape.now
+            (window_bytes window (B.bytes source.now))) (B.refuses source.now)) }
     {
         if !self.array_to_array.is_empty() {
             return self.write_part(
@@ -106,7 +105,6 @@ impl CodecChain {
         target: &mut ArrayBytesDecodeIntoTarget<'_, '_, '_>,
     ) -> Result<(), PartError>
         requires filled { IsSome (fill_cell (kind data_type.now) fill_value.now) }
-        requires size { position_count shape.now * cell_size (kind data_type.now) < 2 ^ 64 }
         requires part { LiesInShape (box_of part.now) shape.now }
         requires window { IsWindow window (B.bytes source.now) }
         requires may_read { MayRead (B.may_read source.now) window ((chain_meaning self.now).places
@@ -128,10 +126,9 @@ impl CodecChain {
         ensures outside { StaysOutside target.old target.new }
         ensures refused { IfErr result (RefusesPartDecoding ((chain_meaning self.now).decoded
             (kind data_type.now) (fill_of (kind data_type.now) fill_value.now) shape.now
-            (window_bytes window (B.bytes source.now))) ((chain_meaning self.now).leaves_out
-            shape.now (window_bytes window (B.bytes source.now)))
-            (position_count shape.now * held_size (kind data_type.now)
-            (fill_of (kind data_type.now) fill_value.now)) (B.refuses source.now)) }
+            (window_bytes window (B.bytes source.now))) (IsTooLargeToDecode (chain_meaning self.now)
+            (kind data_type.now) (fill_of (kind data_type.now) fill_value.now) shape.now
+            (window_bytes window (B.bytes source.now))) (B.refuses source.now)) }
     {
         let cells = self.partial_decode_chunk(
             alloc, source, window, part, data_type, fill_value, shape,
@@ -157,7 +154,6 @@ impl ShardingCodec {
         target: &mut ArrayBytesDecodeIntoTarget<'_, '_, '_>,
     ) -> Result<(), PartError>
         requires filled { IsSome (fill_cell (kind data_type.now) fill_value.now) }
-        requires size { position_count shape.now * cell_size (kind data_type.now) < 2 ^ 64 }
         requires part { LiesInShape (box_of part.now) shape.now }
         requires window { IsWindow window (B.bytes source.now) }
         requires may_read { MayRead (B.may_read source.now) window ((sharding_meaning self.now).places
@@ -179,10 +175,9 @@ impl ShardingCodec {
         ensures outside { StaysOutside target.old target.new }
         ensures refused { IfErr result (RefusesPartDecoding ((sharding_meaning self.now).decoded
             (kind data_type.now) (fill_of (kind data_type.now) fill_value.now) shape.now
-            (window_bytes window (B.bytes source.now))) ((sharding_meaning self.now).leaves_out
-            shape.now (window_bytes window (B.bytes source.now)))
-            (position_count shape.now * held_size (kind data_type.now)
-            (fill_of (kind data_type.now) fill_value.now)) (B.refuses source.now)) }
+            (window_bytes window (B.bytes source.now))) (IsTooLargeToDecode (sharding_meaning self.now)
+            (kind data_type.now) (fill_of (kind data_type.now) fill_value.now) shape.now
+            (window_bytes window (B.bytes source.now))) (B.refuses source.now)) }
     {
         let sub = self.extents(alloc)?;
         let at_start = self.index_location().is_at_start();
@@ -207,7 +202,6 @@ impl ShardingCodec {
         target: &mut ArrayBytesDecodeIntoTarget<'_, '_, '_>,
     ) -> Result<(), PartError>
         requires filled { IsSome (fill_cell (kind data_type.now) fill_value.now) }
-        requires size { position_count shape.now * cell_size (kind data_type.now) < 2 ^ 64 }
         requires part { LiesInShape (box_of part.now) shape.now }
         requires window { IsWindow window (B.bytes source.now) }
         requires may_read { MayRead (B.may_read source.now) window (shard_places at_start sub.now
@@ -235,10 +229,9 @@ impl ShardingCodec {
             → RefusesPartDecoding (sharded_decoded m at_start (kind data_type.now)
             (fill_of (kind data_type.now) fill_value.now) shape.now sub.now
             (window_bytes window (B.bytes source.now)))
-            (sharded_leaves_out ((chain_meaning (inner_chain_of self.now)).leaves_out sub.now)
-            at_start shape.now sub.now (window_bytes window (B.bytes source.now)))
-            (position_count shape.now * held_size (kind data_type.now)
-            (fill_of (kind data_type.now) fill_value.now)) (B.refuses source.now) e) }
+            (IsTooLargeToDecode (sharded at_start sub.now (chain_meaning (inner_chain_of self.now)))
+            (kind data_type.now) (fill_of (kind data_type.now) fill_value.now) shape.now
+            (window_bytes window (B.bytes source.now))) (B.refuses source.now) e) }
     {
         let Some(index) = open_shard(alloc, source, window, shape, sub, at_start)? else {
             return Err(PartError::Codec(CodecError::DoesNotFit(Misfit::Bytes)));
@@ -266,7 +259,6 @@ impl ShardingCodec {
         target: &mut ArrayBytesDecodeIntoTarget<'_, '_, '_>,
     ) -> Result<(), PartError>
         requires filled { IsSome (fill_cell (kind data_type.now) fill_value.now) }
-        requires size { position_count shape.now * cell_size (kind data_type.now) < 2 ^ 64 }
         requires part { LiesInShape (box_of part.now) shape.now }
         requires window { IsWindow window (B.bytes source.now) }
         requires may_read { MayRead (B.may_read source.now) window (shard_places at_start sub.now
@@ -292,9 +284,8 @@ impl ShardingCodec {
         ensures refused { IfErr result (RefusesStep
             ((chain_meaning (inner_chain_of self.now)).decoded (kind data_type.now)
             (fill_of (kind data_type.now) fill_value.now) sub.now)
-            ((chain_meaning (inner_chain_of self.now)).leaves_out sub.now)
-            (position_count shape.now * held_size (kind data_type.now)
-            (fill_of (kind data_type.now) fill_value.now))
+            (IsTooLargeToDecode (chain_meaning (inner_chain_of self.now)) (kind data_type.now)
+            (fill_of (kind data_type.now) fill_value.now) sub.now)
             (map (range_part (window_bytes window (B.bytes source.now))) index.now.ranges.items)
             (B.refuses source.now)) }
     {
@@ -342,7 +333,6 @@ impl ShardingCodec {
         target: &mut ArrayBytesDecodeIntoTarget<'_, '_, '_>,
     ) -> Result<(), PartError>
         requires filled { IsSome (fill_cell (kind data_type.now) fill_value.now) }
-        requires size { position_count shape.now * cell_size (kind data_type.now) < 2 ^ 64 }
         requires part { LiesInShape (box_of part.now) shape.now }
         requires window { IsWindow window (B.bytes source.now) }
         requires may_read { MayRead (B.may_read source.now) window (shard_places at_start sub.now
@@ -369,9 +359,8 @@ impl ShardingCodec {
         ensures refused { IfErr result (RefusesStep
             ((chain_meaning (inner_chain_of self.now)).decoded (kind data_type.now)
             (fill_of (kind data_type.now) fill_value.now) sub.now)
-            ((chain_meaning (inner_chain_of self.now)).leaves_out sub.now)
-            (position_count shape.now * held_size (kind data_type.now)
-            (fill_of (kind data_type.now) fill_value.now))
+            (IsTooLargeToDecode (chain_meaning (inner_chain_of self.now)) (kind data_type.now)
+            (fill_of (kind data_type.now) fill_value.now) sub.now)
             (map (range_part (window_bytes window (B.bytes source.now))) index.now.ranges.items)
             (B.refuses source.now)) }
     {
@@ -411,7 +400,6 @@ impl ShardingCodec {
         target: &mut ArrayBytesDecodeIntoTarget<'_, '_, '_>,
     ) -> Result<(), PartError>
         requires filled { IsSome (fill_cell (kind data_type.now) fill_value.now) }
-        requires size { position_count sub.now * cell_size (kind data_type.now) < 2 ^ 64 }
         requires piece { LiesInShape (box_of piece.now) sub.now }
         requires window { IfSome window (λ w. IsWindow w (B.bytes source.now)) }
         requires may_read { IfSome window (λ w. MayRead (B.may_read source.now) w
@@ -437,9 +425,8 @@ impl ShardingCodec {
         ensures refused { IfErr result (RefusesPiece
             ((chain_meaning (inner_chain_of self.now)).decoded (kind data_type.now)
             (fill_of (kind data_type.now) fill_value.now) sub.now)
-            ((chain_meaning (inner_chain_of self.now)).leaves_out sub.now)
-            (position_count sub.now * held_size (kind data_type.now)
-            (fill_of (kind data_type.now) fill_value.now))
+            (IsTooLargeToDecode (chain_meaning (inner_chain_of self.now)) (kind data_type.now)
+            (fill_of (kind data_type.now) fill_value.now) sub.now)
             (option_map (λ w. window_bytes w (B.bytes source.now)) window)
             (B.refuses source.now)) }
     {
@@ -473,7 +460,6 @@ impl ShardingCodec {
         target: &mut ArrayBytesDecodeIntoTarget<'_, '_, '_>,
     ) -> Result<(), PartError>
         requires filled { IsSome (fill_cell (kind data_type.now) fill_value.now) }
-        requires size { position_count sub.now * cell_size (kind data_type.now) < 2 ^ 64 }
         requires piece { LiesInShape (box_of piece.now) sub.now }
         requires window { IfSome window (λ w. IsWindow w (B.bytes source.now)) }
         requires may_read { IfSome window (λ w. MayRead (B.may_read source.now) w
@@ -497,9 +483,8 @@ impl ShardingCodec {
         ensures refused { IfErr result (RefusesPiece
             ((chain_meaning (inner_chain_of self.now)).decoded (kind data_type.now)
             (fill_of (kind data_type.now) fill_value.now) sub.now)
-            ((chain_meaning (inner_chain_of self.now)).leaves_out sub.now)
-            (position_count sub.now * held_size (kind data_type.now)
-            (fill_of (kind data_type.now) fill_value.now))
+            (IsTooLargeToDecode (chain_meaning (inner_chain_of self.now)) (kind data_type.now)
+            (fill_of (kind data_type.now) fill_value.now) sub.now)
             (option_map (λ w. window_bytes w (B.bytes source.now)) window)
             (B.refuses source.now)) }
     {
@@ -525,7 +510,6 @@ impl ShardingCodec {
         target: &mut ArrayBytesDecodeIntoTarget<'_, '_, '_>,
     ) -> Result<(), PartError>
         requires filled { IsSome (fill_cell (kind data_type.now) fill_value.now) }
-        requires size { position_count shape.now * cell_size (kind data_type.now) < 2 ^ 64 }
         requires part { LiesInShape (box_of part.now) shape.now }
         requires window { IsWindow window (B.bytes source.now) }
         requires may_read { MayRead (B.may_read source.now) window
@@ -549,10 +533,9 @@ impl ShardingCodec {
             ((chain_meaning (inner_chain_of self.now)).decoded (kind data_type.now)
             (fill_of (kind data_type.now) fill_value.now) shape.now
             (window_bytes window (B.bytes source.now)))
-            ((chain_meaning (inner_chain_of self.now)).leaves_out shape.now
-            (window_bytes window (B.bytes source.now)))
-            (position_count shape.now * held_size (kind data_type.now)
-            (fill_of (kind data_type.now) fill_value.now)) (B.refuses source.now)) }
+            (IsTooLargeToDecode (chain_meaning (inner_chain_of self.now)) (kind data_type.now)
+            (fill_of (kind data_type.now) fill_value.now) shape.now
+            (window_bytes window (B.bytes source.now))) (B.refuses source.now)) }
     {
         self.inner.partial_decode_chunk_into(
             alloc, source, window, part, data_type, fill_value, shape, target,

@@ -1,9 +1,9 @@
 //! Parts of chunks to bytes.
-ghost use Rattle.std.specs.Prelude.{◌≡◌, ◌*◌, ◌<◌, ◌^◌, All, IfErr, IfOk, IsSome, Some, true};
+ghost use Rattle.std.specs.Prelude.{◌≡◌, ◌*◌, ◌<◌, ◌^◌, All, IfErr, IfOk, IsSome, OnOk, Some, true};
 ghost use Rattle.std.specs.Prelude.{length, map, option_map};
 ghost use Rattle.zarrs_subset.specs.Boxes.{position_count};
 ghost use Rattle.zarrs_subset.specs.Regions.{box_of};
-ghost use Rattle.zarrs_data_type.specs.Kind.{kind, cell_size};
+ghost use Rattle.zarrs_data_type.specs.Kind.{kind};
 ghost use Rattle.zarrs_data_type.specs.Cell.{fill_cell, fill_of};
 ghost use Rattle.zarrs_data_type.specs.ArrayData.{data_of};
 ghost use Rattle.zarrs_data_type.specs.Cells.{cells, HasCells};
@@ -18,11 +18,13 @@ ghost use Rattle.zarrs_codec_chain.specs.Refusals.{RefusesPartialEncoding};
 ghost use Rattle.zarrs_codec.specs.Chains.{chain_meaning, inner_chain_of, sharding_meaning};
 ghost use Rattle.zarrs_codec.specs.PartialShardings.{changed_part, stored_bytes, write_to};
 ghost use Rattle.zarrs_codec.specs.PartialShardings.{RefusesChange, RefusesChanges, RefusesHeld};
-ghost use Rattle.zarrs_codec.specs.Shardings.{decoded_part};
+ghost use Rattle.zarrs_codec.specs.PartialShardings.{RefusesIndex, RefusesLarge, RefusesMet, RefusesPatch, RefusesTested};
+ghost use Rattle.zarrs_codec.specs.Shardings.{all_met_decode, decoded_part, part_decodes};
 
 use crate::chain::CodecChain;
 use crate::codec::ArrayToBytesCodec;
 use crate::sharding::ShardingCodec;
+use crate::sizes::is_counted;
 use std::alloc::Global;
 use zarrs_codec_chain::CodecOptions;
 use zarrs_codec_leaf::{CodecError, Misfit};
@@ -58,7 +60,6 @@ impl CodecChain {
     ) -> Result<PartialWrite, CodecError>
         requires supported { (chain_meaning self.now).encodes_partly ≡ true }
         requires filled { IsSome (fill_cell (kind data_type.now) fill_value.now) }
-        requires size { position_count shape.now * cell_size (kind data_type.now) < 2 ^ 64 }
         requires dimensions { length (box_of part.now).start ≡ length shape.now }
         requires cells { HasCells (kind data_type.now) (data_of bytes.now)
             (position_count (box_of part.now).shape) }
@@ -97,7 +98,6 @@ impl ShardingCodec {
     ) -> Result<PartialWrite, CodecError>
         requires supported { (sharding_meaning self.now).encodes_partly ≡ true }
         requires filled { IsSome (fill_cell (kind data_type.now) fill_value.now) }
-        requires size { position_count shape.now * cell_size (kind data_type.now) < 2 ^ 64 }
         requires dimensions { length (box_of part.now).start ≡ length shape.now }
         requires cells { HasCells (kind data_type.now) (data_of bytes.now)
             (position_count (box_of part.now).shape) }
@@ -120,17 +120,135 @@ impl ShardingCodec {
             return Err(CodecError::DoesNotFit(Misfit::TypeOrShape));
         }
         let Some(count) = subchunks.indexed_count() else {
-            return Err(CodecError::SizeOverflow);
+            return Err(refusal_of_index(stored));
         };
         let Some(ranges) = stored_ranges(alloc, stored, count)? else {
             return Err(CodecError::DoesNotFit(Misfit::Bytes));
         };
-        self.patched(
+        self.patch_shard(
             alloc, stored, &ranges, &subchunks, part, bytes, data_type, fill_value, options,
         )
     }
 
-    /// The same, of the subchunks that stand at these ranges of what is stored.
+    /// The same, of the subchunks that stand at these ranges of what is stored. Where a size is too large, it is told only if
+    /// what the part meets decodes.
+    fn patch_shard(
+        &self,
+        alloc: Global,
+        stored: Option<&[u8]>,
+        ranges: &[Option<SubchunkRange>],
+        subchunks: &Subchunks,
+        part: &ArraySubset,
+        bytes: &ArrayBytes<'_>,
+        data_type: &DataType,
+        fill_value: &FillValue,
+        options: &CodecOptions,
+    ) -> Result<PartialWrite, CodecError>
+        requires filled { IsSome (fill_cell (kind data_type.now) fill_value.now) }
+        requires dimensions { length (box_of part.now).start ≡ length (chunk_shape subchunks.now) }
+        requires cells { HasCells (kind data_type.now) (data_of bytes.now)
+            (position_count (box_of part.now).shape) }
+        requires fits { (chain_meaning (inner_chain_of self.now)).fits (kind data_type.now)
+            (subchunk_shape subchunks.now) ≡ true }
+        requires within { All (IsRangeWithin (length (stored_bytes
+            (option_map (λ encoded. encoded.now) stored)))) ranges.now }
+        requires count { length ranges.now
+            ≡ subchunk_count (chunk_shape subchunks.now) (subchunk_shape subchunks.now) }
+        requires few { length ranges.now * 16 < 2 ^ 64 }
+        requires parts { stored_parts (length ranges.now)
+            (option_map (λ encoded. encoded.now) stored)
+            ≡ Some (map (range_part (stored_bytes (option_map (λ encoded. encoded.now) stored)))
+            ranges.now) }
+        ensures written { IfOk result (λ write. write_to (chain_meaning (inner_chain_of self.now))
+            (stores_empty_chunks options.now) (kind data_type.now)
+            (fill_of (kind data_type.now) fill_value.now) (chunk_shape subchunks.now)
+            (subchunk_shape subchunks.now) (option_map (λ encoded. encoded.now) stored.entry)
+            (box_of part.now) (data_of bytes.now)
+            (map (range_part (stored_bytes (option_map (λ encoded. encoded.now) stored.entry)))
+            ranges.now) ≡ Some (change_of write)) }
+        ensures refused { IfErr result (RefusesPatch (chain_meaning (inner_chain_of self.now))
+            (stores_empty_chunks options.now) (kind data_type.now)
+            (fill_of (kind data_type.now) fill_value.now) (chunk_shape subchunks.now)
+            (subchunk_shape subchunks.now) (box_of part.now) (data_of bytes.now)
+            (map (range_part (stored_bytes (option_map (λ encoded. encoded.now) stored.entry)))
+            ranges.now)) }
+    {
+        let patched = self.patched(
+            alloc, stored, ranges, subchunks, part, bytes, data_type, fill_value, options,
+        );
+        match patched {
+            Ok(write) => Ok(write),
+            Err(CodecError::SizeOverflow) => {
+                let shard = bytes_of(stored);
+                self.test_met(alloc, shard, ranges, subchunks, part, data_type, fill_value)?;
+                Err(CodecError::SizeOverflow)
+            }
+            Err(e) => Err(e),
+        }
+    }
+
+    /// Tests that the subchunks that a part meets decode, which stand at these ranges of a shard. What is too large to be
+    /// decoded passes.
+    ///
+    /// # Errors
+    /// `DoesNotFit` if one does not decode; `OutOfMemory` may come at any time.
+    fn test_met(
+        &self,
+        alloc: Global,
+        shard: &[u8],
+        ranges: &[Option<SubchunkRange>],
+        subchunks: &Subchunks,
+        part: &ArraySubset,
+        data_type: &DataType,
+        fill_value: &FillValue,
+    ) -> Result<(), CodecError>
+        requires filled { IsSome (fill_cell (kind data_type.now) fill_value.now) }
+        requires dimensions { length (box_of part.now).start ≡ length (chunk_shape subchunks.now) }
+        requires within { All (IsRangeWithin (length shard.now)) ranges.now }
+        requires count { length ranges.now
+            ≡ subchunk_count (chunk_shape subchunks.now) (subchunk_shape subchunks.now) }
+        ensures decode { OnOk result (all_met_decode (chain_meaning (inner_chain_of self.now))
+            (kind data_type.now) (fill_of (kind data_type.now) fill_value.now)
+            (chunk_shape subchunks.now) (subchunk_shape subchunks.now) (box_of part.now)
+            (map (range_part shard.now) ranges.now) ≡ true) }
+        ensures refused { IfErr result (RefusesMet (chain_meaning (inner_chain_of self.now))
+            (kind data_type.now) (fill_of (kind data_type.now) fill_value.now)
+            (subchunk_shape subchunks.now) (map (range_part shard.now) ranges.now)) }
+    {
+        for (number, range) in ranges.iter().enumerate() {
+            if subchunks.meets(alloc, part, number as u64)? {
+                self.test_part(alloc, shard, *range, subchunks, data_type, fill_value)?;
+            }
+        }
+        Ok(())
+    }
+
+    /// The same of the subchunk that stands at this range of a shard.
+    fn test_part(
+        &self,
+        alloc: Global,
+        shard: &[u8],
+        range: Option<SubchunkRange>,
+        subchunks: &Subchunks,
+        data_type: &DataType,
+        fill_value: &FillValue,
+    ) -> Result<(), CodecError>
+        requires filled { IsSome (fill_cell (kind data_type.now) fill_value.now) }
+        requires within { IsRangeWithin (length shard.now) range }
+        ensures decode { OnOk result (part_decodes (chain_meaning (inner_chain_of self.now))
+            (kind data_type.now) (fill_of (kind data_type.now) fill_value.now)
+            (subchunk_shape subchunks.now) (range_part shard.now range) ≡ true) }
+        ensures refused { IfErr result (RefusesTested (chain_meaning (inner_chain_of self.now))
+            (kind data_type.now) (fill_of (kind data_type.now) fill_value.now)
+            (subchunk_shape subchunks.now) (range_part shard.now range)) }
+    {
+        match self.held_part(alloc, shard, range, subchunks, data_type, fill_value) {
+            Ok(_) | Err(CodecError::SizeOverflow) => Ok(()),
+            Err(e) => Err(e),
+        }
+    }
+
+    /// The same, subchunk by subchunk.
     fn patched(
         &self,
         alloc: Global,
@@ -144,8 +262,6 @@ impl ShardingCodec {
         options: &CodecOptions,
     ) -> Result<PartialWrite, CodecError>
         requires filled { IsSome (fill_cell (kind data_type.now) fill_value.now) }
-        requires size { position_count (chunk_shape subchunks.now)
-            * cell_size (kind data_type.now) < 2 ^ 64 }
         requires dimensions { length (box_of part.now).start ≡ length (chunk_shape subchunks.now) }
         requires cells { HasCells (kind data_type.now) (data_of bytes.now)
             (position_count (box_of part.now).shape) }
@@ -210,8 +326,6 @@ impl ShardingCodec {
         options: &CodecOptions,
     ) -> Result<Option<Option<Vec<u8>>>, CodecError>
         requires filled { IsSome (fill_cell (kind data_type.now) fill_value.now) }
-        requires size { position_count (subchunk_shape subchunks.now)
-            * cell_size (kind data_type.now) < 2 ^ 64 }
         requires within { IsRangeWithin (length shard.now) range }
         requires number { number
             < subchunk_count (chunk_shape subchunks.now) (subchunk_shape subchunks.now) }
@@ -242,6 +356,19 @@ impl ShardingCodec {
         Ok(Some(encoded))
     }
 
+    /// Why the cells of a subchunk are not decoded that are too large: no bytes are so many cells under `bytes` alone.
+    fn refusal_of_large(&self) -> CodecError
+        ensures { RefusesLarge (chain_meaning (inner_chain_of self.now)) result }
+    {
+        if !self.inner.array_to_array.is_empty() {
+            return CodecError::SizeOverflow;
+        }
+        match &self.inner.array_to_bytes {
+            ArrayToBytesCodec::Bytes(_) => CodecError::DoesNotFit(Misfit::Bytes),
+            _ => CodecError::SizeOverflow,
+        }
+    }
+
     /// The cells of the subchunk that stands at this range of a shard.
     fn held_part(
         &self,
@@ -253,8 +380,6 @@ impl ShardingCodec {
         fill_value: &FillValue,
     ) -> Result<ArrayBytes<'static>, CodecError>
         requires filled { IsSome (fill_cell (kind data_type.now) fill_value.now) }
-        requires size { position_count (subchunk_shape subchunks.now)
-            * cell_size (kind data_type.now) < 2 ^ 64 }
         requires within { IsRangeWithin (length shard.now) range }
         ensures cells { IfOk result (λ made. cells (kind data_type.now) (data_of made)
             ≡ decoded_part (chain_meaning (inner_chain_of self.now)) (kind data_type.now)
@@ -273,10 +398,23 @@ impl ShardingCodec {
         };
         let encoded = &shard[range.start..range.end];
         let sub = subchunks.shape();
+        if !is_counted(sub, data_type) {
+            return Err(self.refusal_of_large());
+        }
         let part = self
             .inner_codecs()
             .decode_chunk(alloc, encoded, data_type, fill_value, sub)?;
         Ok(part.into_owned(alloc)?)
+    }
+}
+
+/// Why nothing is written into a shard whose index is too long: no stored bytes have one.
+fn refusal_of_index(stored: Option<&[u8]>) -> CodecError
+    ensures { RefusesIndex (option_map (λ encoded. encoded.now) stored.entry) result }
+{
+    match stored {
+        Some(_) => CodecError::DoesNotFit(Misfit::Bytes),
+        None => CodecError::SizeOverflow,
     }
 }
 

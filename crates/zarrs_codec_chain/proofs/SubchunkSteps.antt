@@ -18,7 +18,6 @@ use Rattle.zarrs_codec_leaf.specs.Sources.{MayRead, MayReadPlaces, window_bytes}
 use Rattle.zarrs_codec_leaf.specs.declared.source.Window.{Window}
 use Rattle.zarrs_codec_shard.specs.Sharded.{SubchunkMeaning, cells_of_part, cells_of_parts, part_leaves_out, sharded_decoded, sharded_fits, sharded_leaves_out}
 use Rattle.zarrs_codec_shard.proofs.ShardLaws.{length-shard_parts}
-use Rattle.zarrs_codec_shard.proofs.Sizes.{part_large}
 use Rattle.zarrs_codec_shard.specs.Shards.{data_end, data_start, index_in, named_part, shard_parts}
 use Rattle.zarrs_codec_shard.specs.Steps.{all_present, given_if}
 use Rattle.zarrs_codec_shard.specs.Subchunks.{assembled, corner, is_cut_by, quotients, remainders, subchunk_box, subchunk_count}
@@ -43,7 +42,7 @@ use Rattle.zarrs_codec_shard.specs.ShardIndex.{IsRangeWithin}
 use Rattle.zarrs_codec_chain.specs.PartRefusals.{RefusesPartDecoding}
 use Rattle.zarrs_codec_chain.specs.declared.error.PartError.{PartError}
 use Rattle.zarrs_codec_chain.specs.declared.error.PartError.TheVariants.{Codec, Source}
-use Rattle.zarrs_codec_chain.specs.ShardParts.{RefusesStep, DecodesAs, HasAllParts, HasSubchunkParts, IsBrokenShard, IsCellOf, IsPartCell, IsReadOrFill, is_among}
+use Rattle.zarrs_codec_chain.specs.ShardParts.{RefusesStep, DecodesAs, HasAllParts, HasSubchunkParts, HasTooLarge, IsBrokenShard, IsCellOf, IsPartCell, IsReadOrFill, is_among}
 use Rattle.zarrs_codec_chain.proofs.PartBoxes.{part_fits, within_shape}
 use Rattle.zarrs_data_type_bytes.proofs.FixedSizes.{some_is}
 
@@ -440,13 +439,12 @@ parts_placed at_start count may_read window index source start end read at named
 
 -- ---- refusals
 
-pub step_refused : (dec : Option (List Cell)) (leaves : Bool) (fill_len : ℕ) (decoded : List ℕ → Option (List Cell)) (leaves_out : List ℕ → Bool) (parts : List (Option (List ℕ))) (refuses : Bool) (e : PartError)
-    → (IsBrokenShard decoded parts → dec ≡ None) → (list_any (part_leaves_out leaves_out) parts ≡ true → leaves ≡ true)
-    → RefusesStep decoded leaves_out fill_len parts refuses e → RefusesPartDecoding dec leaves fill_len refuses e
-step_refused dec leaves fill_len decoded leaves_out parts refuses (Codec (codec.DoesNotFit _)) broken left why = broken why
-step_refused dec leaves fill_len decoded leaves_out parts refuses (Codec codec.SizeOverflow) broken left why = (left why.0, why.1)
-step_refused dec leaves fill_len decoded leaves_out parts refuses (Codec codec.OutOfMemory) broken left why = why
-step_refused dec leaves fill_len decoded leaves_out parts refuses (Source e) broken left why = why
+pub step_refused : (dec : Option (List Cell)) (Whole : Type 0) (decoded : List ℕ → Option (List Cell)) (TooLarge : List ℕ → Type 0) (parts : List (Option (List ℕ))) (refuses : Bool) (e : PartError)
+    → (IsBrokenShard decoded parts → dec ≡ None) → (HasTooLarge TooLarge parts → Whole) → RefusesStep decoded TooLarge parts refuses e → RefusesPartDecoding dec Whole refuses e
+step_refused dec Whole decoded TooLarge parts refuses (Codec (codec.DoesNotFit _)) broken large why = broken why
+step_refused dec Whole decoded TooLarge parts refuses (Codec codec.SizeOverflow) broken large why = large why
+step_refused dec Whole decoded TooLarge parts refuses (Codec codec.OutOfMemory) broken large why = why
+step_refused dec Whole decoded TooLarge parts refuses (Source e) broken large why = why
 
 -- bytes of a shard of which a subchunk leaves out cells
 pub shard_left_out : (leaves_out : List ℕ → Bool) (at_start : Bool) (s sub encoded : List ℕ) (parts : List (Option (List ℕ))) → is_cut_by s sub ≡ true → shard_parts at_start (subchunk_count s sub) encoded ≡ Some parts
@@ -456,20 +454,19 @@ shard_left_out leaves_out at_start s sub encoded parts cut are any =
     and_from (is_cut_by s sub) (list_any (part_leaves_out leaves_out) (unwrap_or (shard_parts at_start n encoded) [])) cut
     (ap (λ o. list_any (part_leaves_out leaves_out) (unwrap_or o [])) are ∙ any)
 
-left_out : (leaves_out : List ℕ → Bool) (parts : List (Option (List ℕ))) (n : ℕ) → n < length parts → part_leaves_out leaves_out (get_or parts n None) ≡ true → list_any (part_leaves_out leaves_out) parts ≡ true
+-- one of the parts does
+pub left_out : (leaves_out : List ℕ → Bool) (parts : List (Option (List ℕ))) (n : ℕ) → n < length parts → part_leaves_out leaves_out (get_or parts n None) ≡ true → list_any (part_leaves_out leaves_out) parts ≡ true
 left_out leaves_out [] n lt at = absurd (omega arith)
 left_out leaves_out (p ∷ parts) zero lt at = or_left (part_leaves_out leaves_out p) (list_any (part_leaves_out leaves_out) parts) at
 left_out leaves_out (p ∷ parts) (suc n) lt at = or_right (part_leaves_out leaves_out p) (list_any (part_leaves_out leaves_out) parts) (left_out leaves_out parts n (omega arith) at)
 
 -- what the inner decoder refuses
-pub inner_refused : (decoded : List ℕ → Option (List Cell)) (leaves_out : List ℕ → Bool) (s sub : List ℕ) (size : ℕ) (parts : List (Option (List ℕ))) (n : ℕ) (encoded : List ℕ) (refuses : Bool) (e : PartError)
-    → is_cut_by s sub ≡ true → length parts ≡ subchunk_count s sub → n < length parts → slice_index_or parts n None ≡ Some encoded
-    → RefusesPartDecoding (decoded encoded) (leaves_out encoded) (position_count sub * size) refuses e → RefusesStep decoded leaves_out (position_count s * size) parts refuses e
-inner_refused decoded leaves_out s sub size parts n encoded refuses (Codec (codec.DoesNotFit _)) cut count lt is why = (n, encoded, lt, is, why)
-inner_refused decoded leaves_out s sub size parts n encoded refuses (Codec codec.SizeOverflow) cut count lt is why =
-    (left_out leaves_out parts n lt (ap (part_leaves_out leaves_out) is ∙ why.0), part_large s sub n size cut (omega arith) why.1)
-inner_refused decoded leaves_out s sub size parts n encoded refuses (Codec codec.OutOfMemory) cut count lt is why = why
-inner_refused decoded leaves_out s sub size parts n encoded refuses (Source e) cut count lt is why = why
+pub inner_refused : (decoded : List ℕ → Option (List Cell)) (TooLarge : List ℕ → Type 0) (parts : List (Option (List ℕ))) (n : ℕ) (encoded : List ℕ) (refuses : Bool) (e : PartError)
+    → n < length parts → slice_index_or parts n None ≡ Some encoded → RefusesPartDecoding (decoded encoded) (TooLarge encoded) refuses e → RefusesStep decoded TooLarge parts refuses e
+inner_refused decoded TooLarge parts n encoded refuses (Codec (codec.DoesNotFit _)) lt is why = (n, encoded, lt, is, why)
+inner_refused decoded TooLarge parts n encoded refuses (Codec codec.SizeOverflow) lt is why = record { number = n; encoded = encoded; below = lt; present = is; large = why }
+inner_refused decoded TooLarge parts n encoded refuses (Codec codec.OutOfMemory) lt is why = why
+inner_refused decoded TooLarge parts n encoded refuses (Source e) lt is why = why
 
 -- ---- what the code reads
 
@@ -486,7 +483,7 @@ ranges_wider end len ranges le within = λ k d lt. range_wider end len (get_or r
 
 -- what the bytes of a part that was read refuse
 pub refused_decoding : (dec : Option (List Cell)) (refuses : Bool) (leaf : LeafMeaning) (k : Kind) (n : ℕ) (b : List ℕ) (e : CodecError) → RefusesDecoding leaf k n b e → (leaf.decoded k n b ≡ None → dec ≡ None)
-    → RefusesPartDecoding dec false 0 refuses (Codec e)
+    → RefusesPartDecoding dec ⊥ refuses (Codec e)
 refused_decoding dec refuses leaf k n b (codec.DoesNotFit _) why next = next why
 refused_decoding dec refuses leaf k n b codec.SizeOverflow why next = absurd why
 refused_decoding dec refuses leaf k n b codec.OutOfMemory why next = why

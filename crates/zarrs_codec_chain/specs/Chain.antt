@@ -1,5 +1,5 @@
 -- What a chain of codecs means: which bytes stand for the cells of a chunk.
-use Rattle.std.specs.Prelude.{◌≡◌, ◌≢◌, ℕ, ◌<◌, ◌^◌, Bool, true, false, Option, None, Some, List, length, replicate, option_and_then, ◌==◌, if◌then◌else◌}
+use Rattle.std.specs.Prelude.{◌≡◌, ◌≢◌, ℕ, ◌<◌, ◌^◌, Bool, true, false, Option, None, Some, List, length, replicate, is_some, option_and_then, ◌==◌, if◌then◌else◌}
 use Rattle.zarrs_data_type.specs.Kind.{Kind}
 use Rattle.zarrs_data_type.specs.Cell.{Cell, is_value, are_values}
 use Rattle.zarrs_data_type.specs.ArrayData.{ArrayData}
@@ -31,6 +31,19 @@ pub record ChainMeaning : Type 0 where
       → Option PartialChange
   -- the places of a chunk's bytes that a read of a part of its cells needs
   pub places : Places
+  -- the extents of what such a read decodes whole: the chunk, a subchunk, or nothing
+  pub decodes_whole : (shape : List ℕ) → Option (List ℕ)
+  -- whether what stands at a key decodes where a write of this part reads it: its absence does, and what is too large to be
+  -- decoded counts as if it did
+  pub partly_decodes : (kind : Kind) (fill : Cell) (shape : List ℕ) (stored : Option (List ℕ)) (part : Box) → Bool
+  -- whether a subchunk that such a write decodes is too large: a usize does not count the bytes of its cells, or of its fill
+  -- where what stands leaves out cells
+  pub partly_too_large : (kind : Kind) (fill : Cell) (shape : List ℕ) (stored : Option (List ℕ)) (part : Box) → Bool
+
+-- whether what stands at a key decodes: its absence does
+abbrev pub decodes_stored : (decoded : List ℕ → Option (List Cell)) (stored : Option (List ℕ)) → Bool
+decodes_stored decoded None = true
+decodes_stored decoded (Some b) = is_some (decoded b)
 
 -- the cells of a chunk, from the bytes of its key or its absence
 abbrev pub chunk_cells : ChainMeaning → Kind → Cell → List ℕ → Option (List ℕ) → Option (List Cell)

@@ -1,5 +1,5 @@
 -- Why a part of a chunk is not read. Out of memory may come at any time.
-use Rattle.std.specs.Prelude.{◌≡◌, ℕ, ◌≤◌, ◌^◌, Bool, true, List, Option, None}
+use Rattle.std.specs.Prelude.{◌≡◌, Bool, List, Option, None}
 use Rattle.zarrs_codec_leaf.specs.declared.error.CodecError.{CodecError}
 use Rattle.zarrs_codec_leaf.specs.declared.error.CodecError.TheVariants as codec
 use Rattle.zarrs_codec_leaf.specs.Sources.{RefusesSource}
@@ -7,12 +7,12 @@ use Rattle.zarrs_data_type.specs.Cell.{Cell}
 use Rattle.zarrs_codec_chain.specs.declared.error.PartError.{PartError}
 use Rattle.zarrs_codec_chain.specs.declared.error.PartError.TheVariants.{Codec, Source}
 
--- the chunk does not decode, its bytes leave out cells and so many bytes of fill are too many, or the source refuses
-abbrev pub RefusesPartDecoding : (decoded : Option (List Cell)) (leaves_out : Bool) (fill_len : ℕ) (refuses : Bool) → PartError → Type 0
-RefusesPartDecoding decoded leaves_out fill_len refuses (Codec (codec.DoesNotFit _)) = decoded ≡ None
-RefusesPartDecoding decoded leaves_out fill_len refuses (Codec codec.SizeOverflow) = (leaves_out ≡ true) × (2 ^ 64 ≤ fill_len)
-RefusesPartDecoding decoded leaves_out fill_len refuses (Codec codec.OutOfMemory) = Unit {0}
-RefusesPartDecoding decoded leaves_out fill_len refuses (Source e) = RefusesSource refuses e
+-- the chunk does not decode, what would be decoded whole is too large, or the source refuses
+abbrev pub RefusesPartDecoding : (decoded : Option (List Cell)) (TooLarge : Type 0) (refuses : Bool) → PartError → Type 0
+RefusesPartDecoding decoded TooLarge refuses (Codec (codec.DoesNotFit _)) = decoded ≡ None
+RefusesPartDecoding decoded TooLarge refuses (Codec codec.SizeOverflow) = TooLarge
+RefusesPartDecoding decoded TooLarge refuses (Codec codec.OutOfMemory) = Unit {0}
+RefusesPartDecoding decoded TooLarge refuses (Source e) = RefusesSource refuses e
 
 -- the chunk does not decode
 abbrev pub RefusesIntoDecoding : (decoded : Option (List Cell)) → CodecError → Type 0

@@ -2,12 +2,12 @@
 use Rattle.std.specs.Prelude.{◌≡◌, ◌⊎◌, ℕ, ◌*◌, ◌≤◌, ◌^◌, Bool, true, false, List, length, Option, None, Some}
 use Rattle.zarrs_codec_leaf.specs.declared.error.CodecError.{CodecError}
 use Rattle.zarrs_codec_leaf.specs.declared.error.CodecError.TheVariants as error
-use Rattle.zarrs_data_type.specs.Kind.{Kind}
+use Rattle.zarrs_data_type.specs.Kind.{Kind, cell_size}
 use Rattle.zarrs_data_type.specs.Cell.{Cell, held_size}
 use Rattle.zarrs_data_type.specs.ArrayData.{ArrayData}
 use Rattle.zarrs_subset.specs.Boxes.{position_count}
 use Rattle.zarrs_subset.specs.Regions.{Box}
-use Rattle.zarrs_codec_chain.specs.Chain.{ChainMeaning, chunk_cells, chunk_encoding, chunk_leaves_out, partial_encoding}
+use Rattle.zarrs_codec_chain.specs.Chain.{ChainMeaning, chunk_cells, chunk_encoding, partial_encoding}
 
 -- the type and the shape do not fit, or else a size is too large
 abbrev pub RefusesChunkEncoding : ChainMeaning → Bool → Kind → Cell → List ℕ → ArrayData → CodecError → Type 0
@@ -27,11 +27,18 @@ RefusesCompaction chain s b (error.DoesNotFit _) = chain.compacted s b ≡ None
 RefusesCompaction chain s b error.SizeOverflow = (less : List ℕ) × (chain.compacted s b ≡ Some (Some less)) × (2 ^ 64 ≤ length less)
 RefusesCompaction chain s b error.OutOfMemory = Unit {0}
 
--- the type and the shape do not fit or what is stored does not decode, or a size is too large: of what is written, or of
--- a chunk of fill, where what is stored leaves out cells
+-- what a read of a part decodes whole has more bytes than a usize counts, or so has its fill, where the chunk's bytes leave
+-- out cells
+abbrev pub IsTooLargeToDecode : ChainMeaning → Kind → Cell → (shape encoded : List ℕ) → Type 0
+IsTooLargeToDecode chain k f s b =
+    (whole : List ℕ) × (chain.decodes_whole s ≡ Some whole)
+    × ((2 ^ 64 ≤ position_count whole * cell_size k) ⊎ ((chain.leaves_out s b ≡ true) × (2 ^ 64 ≤ position_count whole * held_size k f)))
+
+-- the type and the shape do not fit or what is stored does not decode; or it decodes where the part reads it, and a size is
+-- too large: of what is written, or of a subchunk that the part meets
 abbrev pub RefusesPartialEncoding : ChainMeaning → Bool → Kind → Cell → List ℕ → Option (List ℕ) → Box → ArrayData → CodecError → Type 0
 RefusesPartialEncoding chain empty k f s stored part d (error.DoesNotFit _) = (chain.fits k s ≡ false) ⊎ (chunk_cells chain k f s stored ≡ None)
 RefusesPartialEncoding chain empty k f s stored part d error.SizeOverflow =
-    (chain.fits k s ≡ true) × ((partial_encoding chain empty k f s stored part d ≡ None)
-    ⊎ ((chunk_leaves_out chain s stored ≡ true) × (2 ^ 64 ≤ position_count s * held_size k f)))
+    (chain.fits k s ≡ true) × (chain.partly_decodes k f s stored part ≡ true)
+    × ((partial_encoding chain empty k f s stored part d ≡ None) ⊎ (chain.partly_too_large k f s stored part ≡ true))
 RefusesPartialEncoding chain empty k f s stored part d error.OutOfMemory = Unit {0}

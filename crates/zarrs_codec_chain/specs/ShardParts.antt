@@ -1,11 +1,11 @@
 -- What a read of a part of a shard has after some of its subchunks.
-use Rattle.std.specs.Prelude.{◌≡◌, ℕ, ◌≤◌, ◌<◌, ◌^◌, Bool, true, false, Option, None, Some}
+use Rattle.std.specs.Prelude.{◌≡◌, ℕ, ◌<◌, Bool, true, false, Option, None, Some}
 use Rattle.std.specs.Prelude.{List, ◌∷◌, [], ◌++◌, length, map, slice_get, slice_index_or, nat_eq, All}
 use Rattle.std.specs.Cmp.Lexicographic.{pointwise}
 use Rattle.std.specs.List.{flat_map, list_any}
 use Rattle.zarrs_data_type.specs.ArrayData.{ArrayData}
 use Rattle.zarrs_data_type.specs.Cells.{cells}
-use Rattle.zarrs_codec_shard.specs.Sharded.{SubchunkMeaning, part_leaves_out, sharded_decoded}
+use Rattle.zarrs_codec_shard.specs.Sharded.{SubchunkMeaning, sharded_decoded}
 use Rattle.zarrs_codec_shard.specs.ShardIndex.{range_entry, range_part, IsRangeWithin}
 use Rattle.zarrs_codec_shard.specs.Shards.{index_in, shard_parts}
 use Rattle.zarrs_codec_shard.specs.SubchunkData.{chunk_shape, subchunk_shape}
@@ -92,11 +92,18 @@ pub record HasAllParts (k : Kind) (decoded : List ℕ → Option (List Cell)) (f
 abbrev pub MeetsPart : (sub : List ℕ) → (part met : Box) → Type 0
 MeetsPart sub part met = (position : List ℕ) → Holds part position → Holds met (quotients position sub)
 
--- why a subchunk is not read: one that is present does not decode, some leave out cells and so many bytes of fill are too
--- many, or the source refuses
-abbrev pub RefusesStep : (List ℕ → Option (List Cell)) → (leaves_out : List ℕ → Bool) (fill_len : ℕ)
+-- what would be decoded whole of a subchunk that is present is too large
+pub record HasTooLarge (TooLarge : List ℕ → Type 0) (parts : List (Option (List ℕ))) : Type 0 where
+  pub number : ℕ
+  pub encoded : List ℕ
+  pub below : number < length parts
+  pub present : slice_index_or parts number None ≡ Some encoded
+  pub large : TooLarge encoded
+
+-- why a subchunk is not read: one that is present does not decode, or is too large to be decoded, or the source refuses
+abbrev pub RefusesStep : (List ℕ → Option (List Cell)) → (TooLarge : List ℕ → Type 0)
     → List (Option (List ℕ)) → (refuses : Bool) → PartError → Type 0
-RefusesStep decoded leaves_out fill_len parts refuses (Codec (codec.DoesNotFit _)) = IsBrokenShard decoded parts
-RefusesStep decoded leaves_out fill_len parts refuses (Codec codec.SizeOverflow) = (list_any (part_leaves_out leaves_out) parts ≡ true) × (2 ^ 64 ≤ fill_len)
-RefusesStep decoded leaves_out fill_len parts refuses (Codec codec.OutOfMemory) = Unit {0}
-RefusesStep decoded leaves_out fill_len parts refuses (Source e) = RefusesSource refuses e
+RefusesStep decoded TooLarge parts refuses (Codec (codec.DoesNotFit _)) = IsBrokenShard decoded parts
+RefusesStep decoded TooLarge parts refuses (Codec codec.SizeOverflow) = HasTooLarge TooLarge parts
+RefusesStep decoded TooLarge parts refuses (Codec codec.OutOfMemory) = Unit {0}
+RefusesStep decoded TooLarge parts refuses (Source e) = RefusesSource refuses e

@@ -1,11 +1,11 @@
 //! Parts of chunks under the codec `bytes`.
-ghost use Rattle.std.specs.Prelude.{◌≡◌, ◌↔◌, ◌*◌, ◌<◌, ◌^◌, false, Some, IfOk, IfErr, IsTrue, length};
+ghost use Rattle.std.specs.Prelude.{◌≡◌, ◌↔◌, ◌*◌, ◌<◌, IfOk, IfErr, IsTrue};
 ghost use Rattle.zarrs_data_type.specs.ArrayData.{data_of};
 ghost use Rattle.zarrs_codec_leaf.specs.Bytes.{bytes_meaning_of, endian_of};
 ghost use Rattle.zarrs_codec_leaf.specs.Sources.{IsWindow, MayRead, window_bytes};
 ghost use Rattle.zarrs_subset.specs.Boxes.{position_count};
 ghost use Rattle.zarrs_subset.specs.Regions.{LiesInShape, box_of};
-ghost use Rattle.zarrs_data_type.specs.Kind.{kind, cell_size, element_size};
+ghost use Rattle.zarrs_data_type.specs.Kind.{kind};
 ghost use Rattle.zarrs_codec_chain.specs.Parts.{DecodesPart};
 ghost use Rattle.zarrs_codec_chain.specs.Places.{cell_places};
 ghost use Rattle.zarrs_codec_chain.specs.PartRefusals.{RefusesPartDecoding};
@@ -33,7 +33,6 @@ pub fn partial_decode_bytes<B: ByteSource>(
     data_type: &DataType,
     shape: &[u64],
 ) -> Result<ArrayBytes<'static>, PartError>
-    requires size { position_count shape.now * cell_size (kind data_type.now) < 2 ^ 64 }
     requires part { LiesInShape (box_of part.now) shape.now }
     requires window { IsWindow window (B.bytes source.now) }
     requires may_read { MayRead (B.may_read source.now) window
@@ -44,7 +43,7 @@ pub fn partial_decode_bytes<B: ByteSource>(
         (position_count shape.now) (window_bytes window (B.bytes source.now))) (data_of made)) }
     ensures refused { IfErr result (RefusesPartDecoding
         ((bytes_meaning_of (endian_of codec.now)).decoded (kind data_type.now)
-        (position_count shape.now) (window_bytes window (B.bytes source.now))) false 0
+        (position_count shape.now) (window_bytes window (B.bytes source.now))) ⊥
         (B.refuses source.now)) }
 {
     if !codec.takes(data_type) {
@@ -53,7 +52,7 @@ pub fn partial_decode_bytes<B: ByteSource>(
     let Some(size) = data_type.element_size() else {
         unreachable!()
     };
-    if !is_length_of(window.len, shape, data_type, size) {
+    if !is_length_of(window.len, shape, size) {
         return Err(PartError::Codec(CodecError::DoesNotFit(Misfit::Bytes)));
     }
     let Ok(count) = part.num_elements() else {
@@ -63,17 +62,20 @@ pub fn partial_decode_bytes<B: ByteSource>(
     Ok(codec.decode_owned(alloc, encoded, data_type, count)?)
 }
 
-/// Whether the cells of a chunk of this shape have so many bytes.
-pub(crate) fn is_length_of(len: u64, shape: &[u64], data_type: &DataType, size: usize) -> bool
-    requires sized { element_size (kind data_type.now) ≡ Some size }
-    requires small { position_count shape.now * cell_size (kind data_type.now) < 2 ^ 64 }
+/// Whether the cells of a chunk of this shape, each of this size, have so many bytes.
+pub(crate) fn is_length_of(len: u64, shape: &[u64], size: usize) -> bool
+    requires { 0 < size }
     ensures { IsTrue result ↔ (len ≡ position_count shape.now * size) }
 {
     match element_count(shape) {
-        Some(count) => {
-            let wanted = count * size as u64;
-            wanted == len
-        }
-        None => unreachable!(),
+        Some(count) => is_size_of(len, count, size),
+        None => false,
     }
+}
+
+/// Whether so many cells of this size have so many bytes.
+fn is_size_of(len: u64, count: u64, size: usize) -> bool
+    ensures { IsTrue result ↔ (len ≡ count * size) }
+{
+    count.checked_mul(size as u64) == Some(len)
 }

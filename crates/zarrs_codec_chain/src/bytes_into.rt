@@ -1,5 +1,5 @@
 //! Parts of chunks under the codec `bytes` that are decoded into a box that a caller lends.
-ghost use Rattle.std.specs.Prelude.{◌≡◌, ℕ, ◌+◌, ◌*◌, ◌<◌, ◌≤◌, ◌^◌, false, true, List, length};
+ghost use Rattle.std.specs.Prelude.{◌≡◌, ℕ, ◌+◌, ◌*◌, ◌<◌, ◌≤◌, false, true, List, length};
 ghost use Rattle.std.specs.Prelude.{IfErr, IsTrue, OnOk, map, reverse, slice_index, slice_range};
 ghost use Rattle.std.specs.List.{flat_map};
 ghost use Rattle.zarrs_codec_leaf.specs.Bytes.{bytes_meaning_of, endian_of, reverses};
@@ -10,7 +10,7 @@ ghost use Rattle.zarrs_subset.specs.Regions.{LiesInShape, box_of};
 ghost use Rattle.zarrs_data_type.specs.States.{IsTarget, SameBox, StaysOutside, data_of_target};
 ghost use Rattle.zarrs_data_type.specs.States.{parent_box, target_box};
 ghost use Rattle.zarrs_data_type.specs.Targets.{takes_type};
-ghost use Rattle.zarrs_data_type.specs.Kind.{kind, cell_size};
+ghost use Rattle.zarrs_data_type.specs.Kind.{kind};
 ghost use Rattle.zarrs_codec_chain.specs.BytesInto.{AreCells, IsTurned, PutsPart};
 ghost use Rattle.zarrs_codec_chain.specs.Parts.{DecodesInto, DecodesPartAt};
 ghost use Rattle.zarrs_codec_chain.specs.Places.{cell_places};
@@ -45,7 +45,6 @@ pub fn partial_decode_bytes_into<B: ByteSource>(
     shape: &[u64],
     target: &mut ArrayBytesDecodeIntoTarget<'_, '_, '_>,
 ) -> Result<(), PartError>
-    requires size { position_count shape.now * cell_size (kind data_type.now) < 2 ^ 64 }
     requires part { LiesInShape (box_of part.now) shape.now }
     requires window { IsWindow window (B.bytes source.now) }
     requires may_read { MayRead (B.may_read source.now) window
@@ -65,7 +64,7 @@ pub fn partial_decode_bytes_into<B: ByteSource>(
     ensures outside { StaysOutside target.old target.new }
     ensures refused { IfErr result (RefusesPartDecoding
         ((bytes_meaning_of (endian_of codec.now)).decoded (kind data_type.now)
-        (position_count shape.now) (window_bytes window (B.bytes source.now))) false 0
+        (position_count shape.now) (window_bytes window (B.bytes source.now))) ⊥
         (B.refuses source.now)) }
 {
     if let Some(bytes) = source.lent() {
@@ -254,15 +253,12 @@ fn has_rows(part: &ArraySubset) -> bool {
 
 /// Whether bytes of this length are the cells of a chunk of this shape, whatever they are.
 fn are_cells(codec: &BytesCodec, len: u64, data_type: &DataType, shape: &[u64]) -> bool
-    requires { position_count shape.now * cell_size (kind data_type.now) < 2 ^ 64 }
     ensures { IsTrue result → AreCells (endian_of codec.now) (kind data_type.now)
         (position_count shape.now) len }
 {
     match data_type.element_size() {
         Some(size) => {
-            data_type.takes_any_bytes()
-                && codec.takes(data_type)
-                && is_length_of(len, shape, data_type, size)
+            data_type.takes_any_bytes() && codec.takes(data_type) && is_length_of(len, shape, size)
         }
         None => false,
     }

@@ -11,12 +11,12 @@ ghost use Rattle.zarrs_codec_chain.specs.Parts.{DecodesInto, DecodesPart, Decode
 ghost use Rattle.zarrs_codec_chain.specs.PartRefusals.{RefusesIntoDecoding, RefusesPartDecoding};
 ghost use Rattle.zarrs_codec_shard.specs.ShardPatches.{change_of};
 ghost use Rattle.zarrs_data_type.specs.Kind.{kind, cell_size};
-ghost use Rattle.zarrs_data_type.specs.Cell.{fill_cell, fill_of, held_size};
+ghost use Rattle.zarrs_data_type.specs.Cell.{fill_cell, fill_of};
 ghost use Rattle.zarrs_data_type.specs.ArrayData.{data_of};
 ghost use Rattle.zarrs_data_type.specs.Cells.{cells, HasCells};
 ghost use Rattle.zarrs_codec_chain.specs.Chain.{ChainMeaning, IsLawfulChain, chunk_encoding, partial_encoding};
 ghost use Rattle.zarrs_codec_chain.specs.Refusals.{RefusesChunkEncoding, RefusesChunkDecoding};
-ghost use Rattle.zarrs_codec_chain.specs.Refusals.{RefusesCompaction, RefusesPartialEncoding};
+ghost use Rattle.zarrs_codec_chain.specs.Refusals.{IsTooLargeToDecode, RefusesCompaction, RefusesPartialEncoding};
 ghost use Rattle.zarrs_codec_chain.specs.Options.{stores_empty_chunks};
 
 use crate::error::PartError;
@@ -119,8 +119,9 @@ pub trait ChainTraits {
     /// that the part needs.
     ///
     /// # Errors
-    /// `Codec(DoesNotFit)` if the bytes do not decode, though a part of them may; `Codec(SizeOverflow)` if they leave out
-    /// cells, and a chunk of fill is too large; `Source` if the source refuses. `Codec(OutOfMemory)` may come at any time.
+    /// `Codec(DoesNotFit)` if the bytes do not decode, though a part of them may; `Codec(SizeOverflow)` if what the chain
+    /// decodes whole is too large, the chunk or a subchunk: its cells, or its fill if the bytes leave out cells; `Source` if
+    /// the source refuses. Which comes if several hold is open. `Codec(OutOfMemory)` may come at any time.
     fn partial_decode<B: ByteSource>(
         &self,
         alloc: Global,
@@ -132,7 +133,8 @@ pub trait ChainTraits {
         shape: &[u64],
     ) -> Result<ArrayBytes<'static>, PartError>
         requires filled { IsSome (fill_cell (kind data_type.now) fill_value.now) }
-        requires size { position_count shape.now * cell_size (kind data_type.now) < 2 ^ 64 }
+        requires size { position_count (box_of part.now).shape * cell_size (kind data_type.now)
+            < 2 ^ 64 }
         requires part { LiesInShape (box_of part.now) shape.now }
         requires window { IsWindow window (B.bytes source.now) }
         requires may_read { MayRead (B.may_read source.now) window ((meaning self.now).places
@@ -145,9 +147,9 @@ pub trait ChainTraits {
         ensures refused { IfErr result (RefusesPartDecoding ((meaning self.now).decoded
             (kind data_type.now) (fill_of (kind data_type.now) fill_value.now) shape.now
             (window_bytes window (B.bytes source.now)))
-            ((meaning self.now).leaves_out shape.now (window_bytes window (B.bytes source.now)))
-            (position_count shape.now * held_size (kind data_type.now)
-            (fill_of (kind data_type.now) fill_value.now)) (B.refuses source.now)) };
+            (IsTooLargeToDecode (meaning self.now) (kind data_type.now)
+            (fill_of (kind data_type.now) fill_value.now) shape.now
+            (window_bytes window (B.bytes source.now))) (B.refuses source.now)) };
 
     /// Decodes a part of a chunk, which has the shape of the target's box, into the box. The chunk's bytes are those of a
     /// window of a source. No other bytes are read than those that the part needs. Every byte outside the box stays; after
@@ -167,7 +169,6 @@ pub trait ChainTraits {
         target: &mut ArrayBytesDecodeIntoTarget<'_, '_, '_>,
     ) -> Result<(), PartError>
         requires filled { IsSome (fill_cell (kind data_type.now) fill_value.now) }
-        requires size { position_count shape.now * cell_size (kind data_type.now) < 2 ^ 64 }
         requires part { LiesInShape (box_of part.now) shape.now }
         requires window { IsWindow window (B.bytes source.now) }
         requires may_read { MayRead (B.may_read source.now) window ((meaning self.now).places
@@ -190,9 +191,9 @@ pub trait ChainTraits {
         ensures refused { IfErr result (RefusesPartDecoding ((meaning self.now).decoded
             (kind data_type.now) (fill_of (kind data_type.now) fill_value.now) shape.now
             (window_bytes window (B.bytes source.now)))
-            ((meaning self.now).leaves_out shape.now (window_bytes window (B.bytes source.now)))
-            (position_count shape.now * held_size (kind data_type.now)
-            (fill_of (kind data_type.now) fill_value.now)) (B.refuses source.now)) };
+            (IsTooLargeToDecode (meaning self.now) (kind data_type.now)
+            (fill_of (kind data_type.now) fill_value.now) shape.now
+            (window_bytes window (B.bytes source.now))) (B.refuses source.now)) };
 
     /// Decodes a chunk, which has the shape of the target's box, into the box. Every byte outside the box stays; after a
     /// refusal the inside is open.
@@ -248,9 +249,10 @@ pub trait ChainTraits {
     /// cells stay. `stored` has the bytes of the key, or `None` if it is absent.
     ///
     /// # Errors
-    /// `DoesNotFit` if the chain does not take the type and the shape, or if the stored bytes do not decode;
-    /// `SizeOverflow` if a size is too large, be it of a chunk of fill where the stored bytes leave out cells. Which comes
-    /// if both hold is open. `OutOfMemory` may come at any time.
+    /// In this order: `DoesNotFit` if the chain does not take the type and the shape, or if the stored bytes do not decode
+    /// where the part reads them; `SizeOverflow` if a size is too large: of what is written, or of a subchunk that the part
+    /// meets, be it of its fill where the stored bytes leave out cells. Which comes of a subchunk that is too large and does
+    /// not decode is open. `OutOfMemory` may come at any time.
     fn partial_encode(
         &self,
         alloc: Global,
@@ -264,7 +266,6 @@ pub trait ChainTraits {
     ) -> Result<PartialWrite, CodecError>
         requires supported { (meaning self.now).encodes_partly ≡ true }
         requires filled { IsSome (fill_cell (kind data_type.now) fill_value.now) }
-        requires size { position_count shape.now * cell_size (kind data_type.now) < 2 ^ 64 }
         requires dimensions { length (box_of part.now).start ≡ length shape.now }
         requires cells { HasCells (kind data_type.now) (data_of bytes.now)
             (position_count (box_of part.now).shape) }

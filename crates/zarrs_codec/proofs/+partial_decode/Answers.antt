@@ -11,33 +11,34 @@ use Rattle.zarrs_data_type.specs.Cells.{cells}
 use Rattle.zarrs_codec_chain.specs.Chain.{ChainMeaning}
 use Rattle.zarrs_codec.specs.ChainLaws.{chain-lawful}
 use Rattle.zarrs_codec.specs.Chains.{codec_meaning, chain_meaning, inner_chain_of, is_at_start, location_of, subchunk_sizes_of, sharding_meaning}
-use Rattle.zarrs_codec.specs.Shardings.{subchunk_meaning}
-use Rattle.zarrs_codec.proofs.PartReads.{alone_refused, is_none}
+use Rattle.zarrs_codec.specs.Shardings.{sharded, subchunk_meaning}
+use Rattle.zarrs_codec.proofs.PartReads.{alone_refused, is_none, shard_too_large}
+use Rattle.zarrs_codec.proofs.SubchunksInto.{overlap_lies}
 use Rattle.zarrs_codec.proofs.Pieces.{piece_alone, piece_cells, piece_put, piece_read}
 use Rattle.zarrs_codec_optional.specs.ShardingMetadata.{sizes_of}
 use Rattle.zarrs_codec_chain.proofs.BytesParts.{window_len}
 use Rattle.zarrs_codec_chain.proofs.Kept.{err_kept}
-use Rattle.zarrs_codec_chain.proofs.PartBoxes.{part_fits}
 use Rattle.zarrs_codec_chain.proofs.ReadSteps.{box_is, found, index_fits, met, own_of, skip_absent, skip_empty, skip_unfound, window_of}
-use Rattle.zarrs_codec_chain.proofs.SubchunkSteps.{inner_refused, none_read, all_parts_decode, broken_shard, shard_left_out, step_refused}
+use Rattle.zarrs_codec_chain.proofs.SubchunkSteps.{inner_refused, none_read, all_parts_decode, broken_shard, step_refused}
 use Rattle.zarrs_codec_chain.proofs.SubchunkWalks.{all_walked, walked_cells, walked_last, walked_more, walked_next}
 use Rattle.zarrs_codec_chain.specs.Parts.{DecodesPart}
 use Rattle.zarrs_codec_chain.specs.Places.{shard_places}
 use Rattle.zarrs_codec_chain.specs.PartRefusals.{RefusesPartDecoding}
+use Rattle.zarrs_codec_chain.specs.Refusals.{IsTooLargeToDecode}
 use Rattle.zarrs_codec_chain.specs.ShardParts.{DecodesAs, HasAllParts, HasSubchunkParts, MeetsPart, RefusesStep}
-use Rattle.zarrs_codec_shard.proofs.Sizes.{part_size}
 use Rattle.zarrs_codec_shard.specs.ShardIndex.{range_part, IsRangeWithin}
-use Rattle.zarrs_codec_shard.specs.Sharded.{SubchunkMeaning, sharded_decoded, sharded_leaves_out}
+use Rattle.zarrs_codec_shard.specs.Sharded.{SubchunkMeaning, sharded_decoded}
 use Rattle.zarrs_codec_shard.specs.SubchunkData.{chunk_shape, subchunk_shape}
 use Rattle.zarrs_codec_shard.specs.Subchunks.{quotients, subchunk_count}
-use Rattle.zarrs_codec_leaf.proofs.RowReads.{count_fits}
 use Rattle.zarrs_codec_leaf.specs.Sources.{MayRead, window_bytes}
 use Rattle.zarrs_codec_leaf.specs.declared.source.Window.{Window}
 use Rattle.zarrs_subset.specs.Boxes.{position_count}
-use Rattle.zarrs_subset.specs.Regions.{Box, LiesInShape, box_of, in_box, positions}
+use Rattle.zarrs_subset.proofs.Inside.{count_inside}
+use Rattle.zarrs_subset.proofs.Overlaps.{AllSome}
+use Rattle.zarrs_subset.specs.Regions.{Box, LiesInBox, LiesInShape, box_of, in_box, positions}
 use Rattle.zarrs_subset.specs.Walks.{walk_box, walk_number}
 use Rattle.zarrs_data_type_kinds.proofs.Sizes.{cell_size-positive}
-use Rattle.zarrs_data_type.specs.Cell.{fill_of, held_size}
+use Rattle.zarrs_data_type.specs.Cell.{fill_of}
 use Rattle.zarrs_data_type.specs.Kind.{cell_size, kind}
 use Rattle.zarrs_codec.proofs.+partial_decode.Goals as goal
 
@@ -267,14 +268,11 @@ sharding::ShardingCodec::decode_piece-returns-in_err-cells-clause-refused g t c 
     let ranged : slice_index_or index.ranges.items n None ≡ Some range = sym (get_or_read index.ranges.items n c.index.result.now lt c.index.ensures None) ∙ c.in-Some-index.is in
     let at = window_of (g.B.ByteSource.may_read c.args.source.now) c.args.window own_window source index c.args.at_start k s sub i part n range subset shared shard here there c.requires.window (omega arith) ranged refl refl c.requires.may_read in
     let lt : n < length parts = omega (arith, here.below, here.counted, length-map index.ranges.items (range_part whole)) in
-    let count : length parts ≡ subchunk_count s sub = length-map index.ranges.items (range_part whole) ∙ here.counted in
-    let left = m.leaves_out sub in
-    let size = held_size k f in
+    let large = IsTooLargeToDecode m k f sub in
     let refuses = g.B.ByteSource.refuses c.args.source.now in
     let e = c.in_err-cells.field-0.0 in
-    err_kept c.from_residual-in_err-cells.result e (RefusesStep dec left (position_count s * size) parts refuses) c.from_residual-in_err-cells.ensures.1
-    (inner_refused dec left s sub size parts n (window_bytes own_window source) refuses e shard.cut count lt at.bytes_are
-    c.in_err-cells.ensures.refused)
+    err_kept c.from_residual-in_err-cells.result e (RefusesStep dec large parts refuses) c.from_residual-in_err-cells.ensures.1
+    (inner_refused dec large parts n (window_bytes own_window source) refuses e lt at.bytes_are c.in_err-cells.ensures.refused)
 
 pub sharding::ShardingCodec::decode_piece-returns-clause-piece : goal.sharding::ShardingCodec::decode_piece-returns-clause-piece
 sharding::ShardingCodec::decode_piece-returns-clause-piece g t c =
@@ -338,7 +336,13 @@ sharding::ShardingCodec::decode_piece-partial_decode_inner-requires g t c κs wi
     let lt : n < length index.ranges.items = omega (arith, here.below, here.counted) in
     let ranged : slice_index_or index.ranges.items n None ≡ Some range = sym (get_or_read index.ranges.items n c.index.result.now lt c.index.ensures None) ∙ c.in-Some-index.is in
     let at = window_of (g.B.ByteSource.may_read c.args.source.now) c.args.window own_window source index c.args.at_start k s sub i part n range subset shared shard here there c.requires.window (omega arith) ranged refl refl c.requires.may_read in
-    let small = part_size s sub n (cell_size k) shard.cut here.below c.requires.size in
+    let value = c.in_ok-shared.ensures.value in
+    let long = c.args.part.now.same_length in
+    let full : AllSome shared.shape = λ j below none. false≢true (sym c.if-is_empty.false ∙ c.is_empty.ensures.1 (j, below, none)) in
+    let shared_lies : LiesInBox shared part = subst (λ (b : Box). LiesInBox b part) (sym value) (overlap_lies part subset long c.in_ok-subset.subset.same_length (sym there.piece.dimensions) (subst (λ (b : Box). AllSome b.shape) value full)) in
+    let fewer = count_inside shared part c.in_ok-shared.shared.same_length long shared_lies in
+    let same : position_count own.shape ≡ position_count shared.shape = ap (λ (b : Box). position_count b.shape) own_is in
+    let small : position_count own.shape * cell_size k < 2 ^ 64 = omega (arith, ap (λ n. n * cell_size k) same, mul-le-mul_right (cell_size k) fewer, c.requires.size) in
     let lies = subst (λ (b : Box). LiesInShape b sub) (sym own_is) there.piece.own_lies in
     let inner = inner_chain_of c.args.self.now in
     let may = at.allowed (m.places k sub own (window_bytes own_window source)) ((chain-lawful inner).places_inside k sub own (window_bytes own_window source)) in
@@ -511,15 +515,13 @@ sharding::ShardingCodec::read_subchunks-read_subchunk-requires g t c κs within 
 pub sharding::ShardingCodec::read_subchunks-new_fill_value-requires-clause-size : goal.sharding::ShardingCodec::read_subchunks-new_fill_value-requires-clause-size
 sharding::ShardingCodec::read_subchunks-new_fill_value-requires-clause-size g t c =
     let size = cell_size (kind c.args.data_type.now) in
-    let fewer = count_fits _ _ _ (part_fits (box_of c.args.part.now) c.args.shape.now c.args.part.now.same_length c.requires.part) in
     let count : c.in-Ok.count ≡ position_count (box_of c.args.part.now).shape = c.in-Ok.ensures.ok in
-    omega (arith, ap (λ n. n * size) count, mul-le-mul_right size fewer, c.requires.size)
+    omega (arith, ap (λ n. n * size) count, c.requires.size)
 
 pub sharding::ShardingCodec::read_subchunks-unreachable-requires : goal.sharding::ShardingCodec::read_subchunks-unreachable-requires
 sharding::ShardingCodec::read_subchunks-unreachable-requires g t c =
     let one : 1 ≤ cell_size (kind c.args.data_type.now) = cell_size-positive c.args.data_type.now in
-    let fewer = count_fits _ _ _ (part_fits (box_of c.args.part.now) c.args.shape.now c.args.part.now.same_length c.requires.part) in
-    omega (arith, mul-le-mul_left (position_count c.args.shape.now) one, c.requires.size, fewer, c.in_default.ensures.refused)
+    omega (arith, mul-le-mul_left (position_count (box_of c.args.part.now).shape) one, c.requires.size, c.in_default.ensures.refused)
 
 pub sharding::ShardingCodec::partial_decode_cut-returns-clause-cells : goal.sharding::ShardingCodec::partial_decode_cut-returns-clause-cells
 sharding::ShardingCodec::partial_decode_cut-returns-clause-cells g t c =
@@ -548,14 +550,13 @@ sharding::ShardingCodec::partial_decode_cut-returns-clause-refused g t c =
     let at = c.args.at_start in
     let inner : ChainMeaning = chain_meaning (inner_chain_of c.args.self.now) in
     let dec = inner.decoded k f sub in
-    let left = inner.leaves_out sub in
     let whole = window_bytes c.args.window (g.B.ByteSource.bytes c.args.source.now) in
     let parts = map (range_part whole) c.in-Some.index.ranges.items in
     let shard = rw c.in-Some.is at c.in_ok-index.ensures.shard in
     IfErr-weaker c.read_subchunks.result _ _
     (λ e why m decodes_as.
-    step_refused (sharded_decoded m at k f s sub whole) (sharded_leaves_out left at s sub whole) (position_count s * held_size k f) dec left parts (g.B.ByteSource.refuses c.args.source.now) e
-    (broken_shard k dec f s sub m at whole parts decodes_as shard.parts) (shard_left_out left at s sub whole parts shard.cut shard.parts) why)
+    step_refused (sharded_decoded m at k f s sub whole) (IsTooLargeToDecode (sharded at sub inner) k f s whole) dec (IsTooLargeToDecode inner k f sub) parts (g.B.ByteSource.refuses c.args.source.now) e
+    (broken_shard k dec f s sub m at whole parts decodes_as shard.parts) (shard_too_large at sub inner k f s whole parts shard.cut shard.parts) why)
     c.read_subchunks.ensures.refused
 
 pub sharding::ShardingCodec::partial_decode_cut-met_subchunks-requires-clause-cut : goal.sharding::ShardingCodec::partial_decode_cut-met_subchunks-requires-clause-cut
@@ -582,16 +583,14 @@ sharding::ShardingCodec::partial_decode_cut-returns-in_err-found-clause-refused 
     let parts = map (range_part whole) c.in-Some.index.ranges.items in
     let shard = rw c.in-Some.is at c.in_ok-index.ensures.shard in
     let at = c.args.at_start in
-    let left = inner.leaves_out sub in
-    let n = position_count s * held_size k f in
     let refuses = g.B.ByteSource.refuses c.args.source.now in
     let e = c.in_err-found.field-0.0 in
     err_kept c.from_residual-in_err-found.result e
-    (λ e. (m : SubchunkMeaning) → DecodesAs m dec → RefusesPartDecoding (sharded_decoded m at k f s sub whole) (sharded_leaves_out left at s sub whole) n refuses e)
+    (λ e. (m : SubchunkMeaning) → DecodesAs m dec → RefusesPartDecoding (sharded_decoded m at k f s sub whole) (IsTooLargeToDecode (sharded at sub inner) k f s whole) refuses e)
     c.from_residual-in_err-found.ensures.1
     (λ m decodes_as.
-    step_refused (sharded_decoded m at k f s sub whole) (sharded_leaves_out left at s sub whole) n dec left parts refuses e
-    (broken_shard k dec f s sub m at whole parts decodes_as shard.parts) (shard_left_out left at s sub whole parts shard.cut shard.parts) c.in_err-found.ensures.refused)
+    step_refused (sharded_decoded m at k f s sub whole) (IsTooLargeToDecode (sharded at sub inner) k f s whole) dec (IsTooLargeToDecode inner k f sub) parts refuses e
+    (broken_shard k dec f s sub m at whole parts decodes_as shard.parts) (shard_too_large at sub inner k f s whole parts shard.cut shard.parts) c.in_err-found.ensures.refused)
 
 pub sharding::ShardingCodec::partial_decode_cut-returns-then-eq-clause-cells : goal.sharding::ShardingCodec::partial_decode_cut-returns-then-eq-clause-cells
 sharding::ShardingCodec::partial_decode_cut-returns-then-eq-clause-cells g t c =
@@ -664,12 +663,11 @@ sharding::ShardingCodec::partial_decode_shard-returns-clause-refused g t c =
     let at_is : c.is_at_start-at_start.result ≡ is_at_start (location_of x) = c.is_at_start-at_start.ensures ∙ ap is_at_start c.index_location.ensures in
     let sub_is : c.deref.result.now ≡ sizes_of (subchunk_sizes_of x) = c.deref.ensures.value ∙ c.in_ok-sub.ensures in
     let sub = c.deref.result.now in
-    let n = position_count s * held_size k f in
     let refuses = g.B.ByteSource.refuses c.args.source.now in
     IfErr-weaker c.partial_decode_cut.result _ _
     (λ e h.
-    subst (λ (l : List ℕ). RefusesPartDecoding (sharded_decoded (subchunk_meaning m false k f l) (is_at_start (location_of x)) k f s l whole) (sharded_leaves_out (m.leaves_out l) (is_at_start (location_of x)) s l whole) n refuses e) sub_is
-    (subst (λ (a : Bool). RefusesPartDecoding (sharded_decoded (subchunk_meaning m false k f sub) a k f s sub whole) (sharded_leaves_out (m.leaves_out sub) a s sub whole) n refuses e) at_is (h (subchunk_meaning m false k f sub) (λ b. refl))))
+    subst (λ (l : List ℕ). RefusesPartDecoding (sharded_decoded (subchunk_meaning m false k f l) (is_at_start (location_of x)) k f s l whole) (IsTooLargeToDecode (sharded (is_at_start (location_of x)) l m) k f s whole) refuses e) sub_is
+    (subst (λ (a : Bool). RefusesPartDecoding (sharded_decoded (subchunk_meaning m false k f sub) a k f s sub whole) (IsTooLargeToDecode (sharded a sub m) k f s whole) refuses e) at_is (h (subchunk_meaning m false k f sub) (λ b. refl))))
     c.partial_decode_cut.ensures.refused
 
 pub chain::CodecChain::partial_decode_chunk-returns-in-Sharding-clause-refused : goal.chain::CodecChain::partial_decode_chunk-returns-in-Sharding-clause-refused
@@ -678,7 +676,6 @@ chain::CodecChain::partial_decode_chunk-returns-in-Sharding-clause-refused g t c
     let f = fill_of k c.args.fill_value.now in
     let s = c.args.shape.now in
     let b = window_bytes c.args.window (g.B.ByteSource.bytes c.args.source.now) in
-    let n = position_count s * held_size k f in
     let refuses = g.B.ByteSource.refuses c.args.source.now in
     let before = c.args.self.now.array_to_array in
     let last = c.args.self.now.array_to_bytes in
@@ -686,7 +683,7 @@ chain::CodecChain::partial_decode_chunk-returns-in-Sharding-clause-refused g t c
     let alone = is_none before.items (omega (arith, none, before.ok.0)) in
     IfErr-weaker c.partial_decode_shard.result _ _
     (λ e why.
-    alone_refused before.items (codec_meaning last) k f s b n refuses e alone
-    (subst (λ x. RefusesPartDecoding ((codec_meaning x).decoded k f s b) ((codec_meaning x).leaves_out s b) n refuses e) (sym c.in-Sharding.is)
-    (subst (λ x. RefusesPartDecoding ((sharding_meaning x).decoded k f s b) ((sharding_meaning x).leaves_out s b) n refuses e) c.deref.ensures why)))
+    alone_refused before.items (codec_meaning last) k f s b refuses e alone
+    (subst (λ x. RefusesPartDecoding ((codec_meaning x).decoded k f s b) (IsTooLargeToDecode (codec_meaning x) k f s b) refuses e) (sym c.in-Sharding.is)
+    (subst (λ x. RefusesPartDecoding ((sharding_meaning x).decoded k f s b) (IsTooLargeToDecode (sharding_meaning x) k f s b) refuses e) c.deref.ensures why)))
     c.partial_decode_shard.ensures.refused

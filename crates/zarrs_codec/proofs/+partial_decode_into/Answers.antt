@@ -9,9 +9,9 @@ use Rattle.zarrs_subset.specs.Regions.{LiesInBox, Box, LiesInShape, box_at_origi
 use Rattle.zarrs_codec_chain.specs.Chain.{ChainMeaning}
 use Rattle.zarrs_codec.specs.ChainLaws.{chain-lawful}
 use Rattle.zarrs_codec.specs.Chains.{codec_meaning, chain_meaning, inner_chain_of, is_at_start, location_of, subchunk_sizes_of, sharding_meaning}
-use Rattle.zarrs_codec.specs.Shardings.{subchunk_meaning}
+use Rattle.zarrs_codec.specs.Shardings.{sharded, subchunk_meaning}
 use Rattle.zarrs_codec.specs.ShardPartsInto.{DecodesPieceAt, HasAllPartsAt, HasSubchunksAt, ReadsSubchunkAt, RefusesPiece, range_window}
-use Rattle.zarrs_codec.proofs.PartReads.{alone_refused, alone_places, is_none, leaf_refused}
+use Rattle.zarrs_codec.proofs.PartReads.{alone_refused, alone_places, is_none, leaf_refused, shard_too_large}
 use Rattle.zarrs_codec.proofs.SubchunksInto.{all_at, alone_at, last_walked, more_walked, none_at, none_empty, none_unfound, overlap_lies, parts_decode_at, piece_at, piece_refused, piece_window, skip_at}
 use Rattle.zarrs_codec_optional.specs.ShardingMetadata.{sizes_of}
 use Rattle.zarrs_codec_chain.proofs.BytesParts.{window_len}
@@ -20,14 +20,14 @@ use Rattle.zarrs_codec_chain.proofs.Kept.{err_kept}
 use Rattle.zarrs_codec_chain.proofs.MovedBoxes.{moved_box, moved_ends, moved_lies, moved_outside, seen_start_len}
 use Rattle.zarrs_codec_chain.proofs.ReadSteps.{box_is, found, index_fits, met, own_of}
 use Rattle.zarrs_codec_chain.proofs.Stays.{keeps_more}
-use Rattle.zarrs_codec_chain.proofs.SubchunkSteps.{broken_shard, shard_left_out, step_refused}
+use Rattle.zarrs_codec_chain.proofs.SubchunkSteps.{broken_shard, step_refused}
 use Rattle.zarrs_codec_chain.specs.Parts.{DecodesPartAt}
 use Rattle.zarrs_codec_chain.specs.Places.{shard_places}
 use Rattle.zarrs_codec_chain.specs.PartRefusals.{RefusesPartDecoding}
+use Rattle.zarrs_codec_chain.specs.Refusals.{IsTooLargeToDecode}
 use Rattle.zarrs_codec_chain.specs.ShardParts.{MeetsPart, RefusesStep}
-use Rattle.zarrs_codec_shard.proofs.Sizes.{part_size}
 use Rattle.zarrs_codec_shard.specs.ShardIndex.{range_part, IsRangeWithin}
-use Rattle.zarrs_codec_shard.specs.Sharded.{sharded_decoded, sharded_leaves_out}
+use Rattle.zarrs_codec_shard.specs.Sharded.{sharded_decoded}
 use Rattle.zarrs_codec_shard.specs.SubchunkData.{chunk_shape, subchunk_shape}
 use Rattle.zarrs_codec_shard.specs.Subchunks.{corner, quotients, subchunk_count}
 use Rattle.zarrs_codec_leaf.specs.Sources.{IsWindow, MayRead, window_bytes}
@@ -41,7 +41,7 @@ use Rattle.zarrs_data_type_region.proofs.TypeSizes.{type_taken}
 use Rattle.zarrs_data_type.specs.States.{data_of_target, parent_box, target_box}
 use Rattle.zarrs_data_type.specs.Targets.{KeepsOutside, takes_type}
 use Rattle.zarrs_data_type_kinds.proofs.Values.{fill-value}
-use Rattle.zarrs_data_type.specs.Cell.{fill_of, held_size}
+use Rattle.zarrs_data_type.specs.Cell.{fill_of}
 use Rattle.zarrs_data_type.specs.Kind.{cell_size, kind}
 use Rattle.zarrs_codec.proofs.+partial_decode_into.Goals as goal
 
@@ -415,14 +415,13 @@ sharding::ShardingCodec::read_subchunk_into-read_piece-requires g t c κs within
     let window_is : own_window ≡ option_map (range_window c.args.window) range = c.window_of_range-own_window.ensures in
     let bytes_are : slice_index_or parts n None ≡ option_map (λ (w : Window). window_bytes w source) own_window = at.bytes_are ∙ ap (option_map (λ (w : Window). window_bytes w source)) (sym window_is) in
     let r = c.requires in
-    let small = part_size s sub n (cell_size k) shard.cut here.below r.size in
     let piece_lies = subst (λ (b : Box). LiesInShape b sub) (sym piece_is) there.piece.own_lies in
     let inner = inner_chain_of c.args.self.now in
     let inside = subst (λ (o : Option Window). IfSome o (λ w. IsWindow w source)) (sym window_is) at.inside in
     let allowed = subst (λ (o : Option Window). IfSome o (λ w. MayRead may_read w (m.places k sub piece (window_bytes w source)))) (sym window_is) (at.allowed (m.places k sub piece) ((chain-lawful inner).places_inside k sub piece)) in
     let own_lies = subst (λ (b : Box). LiesInBox b region) (sym own_is) (moved_lies region part shared own_long long shared_long r.same_shape shared_lies) in
     let same_shape : own.shape ≡ piece.shape = ap (λ (b : Box). b.shape) own_is ∙ sym (ap (λ (b : Box). b.shape) piece_is) in
-    (first_of (omega (arith, c.decreases), search rules), (search rules, (r.filled, (small, (piece_lies, (inside, (allowed, (r.target, (r.takes, (own_lies, same_shape))))))))))
+    (first_of (omega (arith, c.decreases), search rules), (search rules, (r.filled, (piece_lies, (inside, (allowed, (r.target, (r.takes, (own_lies, same_shape)))))))))
 
 pub sharding::ShardingCodec::read_subchunk_into-returns-clause-outside : goal.sharding::ShardingCodec::read_subchunk_into-returns-clause-outside
 sharding::ShardingCodec::read_subchunk_into-returns-clause-outside g t c =
@@ -550,7 +549,7 @@ sharding::ShardingCodec::read_subchunk_into-returns-clause-refused g t c =
     let count : length parts ≡ subchunk_count s sub = length-map index.ranges.items (range_part whole) ∙ here.counted in
     let below : n < length parts = omega (arith, here.below) in
     IfErr-weaker c.read_piece.result _ _
-    (λ e why. piece_refused dec (m.leaves_out sub) s sub (held_size k f) parts n (option_map (λ (w : Window). window_bytes w source) own_window) (g.B.ByteSource.refuses c.args.source.now) e shard.cut count below bytes_are why)
+    (λ e why. piece_refused dec (IsTooLargeToDecode m k f sub) parts n (option_map (λ (w : Window). window_bytes w source) own_window) (g.B.ByteSource.refuses c.args.source.now) e below bytes_are why)
     c.read_piece.ensures.refused
 
 pub sharding::ShardingCodec::read_piece_into-returns-in_default-clause-cells : goal.sharding::ShardingCodec::read_piece_into-returns-in_default-clause-cells
@@ -594,7 +593,7 @@ sharding::ShardingCodec::read_piece_into-returns-clause-refused g t c =
     let t = c.args.target.now in
     let refuses = g.B.ByteSource.refuses c.args.source.now in
     IfErr-weaker c.partial_decode_inner_into.result _ _
-    (λ e why. subst (λ (o : Option Window). RefusesPiece dec (m.leaves_out sub) (position_count sub * held_size k f) (option_map (λ (w : Window). window_bytes w source) o) refuses e) (sym c.in-Some.is) why)
+    (λ e why. subst (λ (o : Option Window). RefusesPiece dec (IsTooLargeToDecode m k f sub) (option_map (λ (w : Window). window_bytes w source) o) refuses e) (sym c.in-Some.is) why)
     c.partial_decode_inner_into.ensures.refused
 
 pub sharding::ShardingCodec::read_piece_into-partial_decode_inner_into-requires : goal.sharding::ShardingCodec::read_piece_into-partial_decode_inner_into-requires
@@ -610,7 +609,7 @@ sharding::ShardingCodec::read_piece_into-partial_decode_inner_into-requires g t 
     let r = c.requires in
     let inside = rw c.in-Some.is at r.window in
     let may = rw c.in-Some.is at r.may_read in
-    (first_of (omega (arith, c.decreases), search rules), (search rules, (r.filled, (r.size, (r.piece, (inside, (may, (r.target, (r.takes, r.same_shape)))))))))
+    (first_of (omega (arith, c.decreases), search rules), (search rules, (r.filled, (r.piece, (inside, (may, (r.target, (r.takes, r.same_shape))))))))
 
 pub sharding::ShardingCodec::read_subchunks_into-returns-in_err-met-clause-outside : goal.sharding::ShardingCodec::read_subchunks_into-returns-in_err-met-clause-outside
 sharding::ShardingCodec::read_subchunks_into-returns-in_err-met-clause-outside g t c =
@@ -828,7 +827,7 @@ sharding::ShardingCodec::read_subchunks_into-read_subchunk_into-requires g t c �
     let r = c.requires in
     let takes_same = subst (λ n. takes_type n l.depth k ≡ true) (sym i.same_box.cell_size) (subst (λ n. takes_type t.cell_size n k ≡ true) (sym i.same_box.depth) r.takes) in
     let shape_same : (target_box l).shape ≡ part.shape = ap (λ (b : Box). b.shape) (ap box_of i.same_box.region) ∙ r.same_shape in
-    (first_of (omega (arith, c.decreases), search rules), (search rules, (r.filled, (r.size, (r.part, (r.window, (r.may_read, (r.shard, (i.is_target, (takes_same, shape_same))))))))))
+    (first_of (omega (arith, c.decreases), search rules), (search rules, (r.filled, (r.part, (r.window, (r.may_read, (r.shard, (i.is_target, (takes_same, shape_same)))))))))
 
 pub sharding::ShardingCodec::partial_decode_cut_into-returns-in_err-index-clause-outside : goal.sharding::ShardingCodec::partial_decode_cut_into-returns-in_err-index-clause-outside
 sharding::ShardingCodec::partial_decode_cut_into-returns-in_err-index-clause-outside g t c =
@@ -875,18 +874,17 @@ sharding::ShardingCodec::partial_decode_cut_into-returns-clause-refused g t c =
     let whole = window_bytes c.args.window (g.B.ByteSource.bytes c.args.source.now) in
     let parts = map (range_part whole) c.in-Some.index.ranges.items in
     let shard = rw c.in-Some.is at c.in_ok-index.ensures.shard in
-    let left = inner.leaves_out sub in
     IfErr-weaker c.read_subchunks_into.result _ _
     (λ e why m decodes_as.
-    step_refused (sharded_decoded m at k f s sub whole) (sharded_leaves_out left at s sub whole) (position_count s * held_size k f) dec left parts (g.B.ByteSource.refuses c.args.source.now) e
-    (broken_shard k dec f s sub m at whole parts decodes_as shard.parts) (shard_left_out left at s sub whole parts shard.cut shard.parts) why)
+    step_refused (sharded_decoded m at k f s sub whole) (IsTooLargeToDecode (sharded at sub inner) k f s whole) dec (IsTooLargeToDecode inner k f sub) parts (g.B.ByteSource.refuses c.args.source.now) e
+    (broken_shard k dec f s sub m at whole parts decodes_as shard.parts) (shard_too_large at sub inner k f s whole parts shard.cut shard.parts) why)
     c.read_subchunks_into.ensures.refused
 
 pub sharding::ShardingCodec::partial_decode_cut_into-read_subchunks_into-requires : goal.sharding::ShardingCodec::partial_decode_cut_into-read_subchunks_into-requires
 sharding::ShardingCodec::partial_decode_cut_into-read_subchunks_into-requires g t c κs within =
     let r = c.requires in
     let shard = rw c.in-Some.is at c.in_ok-index.ensures.shard in
-    (first_of (omega (arith, c.decreases), search rules), (search rules, (r.filled, (r.size, (r.part, (r.window, (r.may_read, (shard, (r.target, (r.takes, r.same_shape))))))))))
+    (first_of (omega (arith, c.decreases), search rules), (search rules, (r.filled, (r.part, (r.window, (r.may_read, (shard, (r.target, (r.takes, r.same_shape)))))))))
 
 pub sharding::ShardingCodec::partial_decode_shard_into-returns-in_err-sub-clause-outside : goal.sharding::ShardingCodec::partial_decode_shard_into-returns-in_err-sub-clause-outside
 sharding::ShardingCodec::partial_decode_shard_into-returns-in_err-sub-clause-outside g t c =
@@ -909,7 +907,7 @@ sharding::ShardingCodec::partial_decode_shard_into-partial_decode_cut_into-requi
     let sub = sizes_of (subchunk_sizes_of x) in
     let may = subst (λ (l : List ℕ). MayRead (g.B.ByteSource.may_read c.args.source.now) c.args.window (shard_places c.is_at_start-at_start.result l k s part whole)) (sym sub_is)
     (subst (λ (a : Bool). MayRead (g.B.ByteSource.may_read c.args.source.now) c.args.window (shard_places a sub k s part whole)) (sym at_is) r.may_read) in
-    (first_of (omega (arith, c.decreases), search rules), (search rules, (r.filled, (r.size, (r.part, (r.window, (may, (r.target, (r.takes, r.same_shape)))))))))
+    (first_of (omega (arith, c.decreases), search rules), (search rules, (r.filled, (r.part, (r.window, (may, (r.target, (r.takes, r.same_shape))))))))
 
 pub sharding::ShardingCodec::partial_decode_shard_into-returns-clause-cells : goal.sharding::ShardingCodec::partial_decode_shard_into-returns-clause-cells
 sharding::ShardingCodec::partial_decode_shard_into-returns-clause-cells g t c =
@@ -944,12 +942,11 @@ sharding::ShardingCodec::partial_decode_shard_into-returns-clause-refused g t c 
     let at_is : c.is_at_start-at_start.result ≡ is_at_start (location_of x) = c.is_at_start-at_start.ensures ∙ ap is_at_start c.index_location.ensures in
     let sub_is : c.deref.result.now ≡ sizes_of (subchunk_sizes_of x) = c.deref.ensures.value ∙ c.in_ok-sub.ensures in
     let sub = c.deref.result.now in
-    let n = position_count s * held_size k f in
     let refuses = g.B.ByteSource.refuses c.args.source.now in
     IfErr-weaker c.partial_decode_cut_into.result _ _
     (λ e h.
-    subst (λ (l : List ℕ). RefusesPartDecoding (sharded_decoded (subchunk_meaning m false k f l) (is_at_start (location_of x)) k f s l whole) (sharded_leaves_out (m.leaves_out l) (is_at_start (location_of x)) s l whole) n refuses e) sub_is
-    (subst (λ (a : Bool). RefusesPartDecoding (sharded_decoded (subchunk_meaning m false k f sub) a k f s sub whole) (sharded_leaves_out (m.leaves_out sub) a s sub whole) n refuses e) at_is (h (subchunk_meaning m false k f sub) (λ b. refl))))
+    subst (λ (l : List ℕ). RefusesPartDecoding (sharded_decoded (subchunk_meaning m false k f l) (is_at_start (location_of x)) k f s l whole) (IsTooLargeToDecode (sharded (is_at_start (location_of x)) l m) k f s whole) refuses e) sub_is
+    (subst (λ (a : Bool). RefusesPartDecoding (sharded_decoded (subchunk_meaning m false k f sub) a k f s sub whole) (IsTooLargeToDecode (sharded a sub m) k f s whole) refuses e) at_is (h (subchunk_meaning m false k f sub) (λ b. refl))))
     c.partial_decode_cut_into.ensures.refused
 
 pub chain::CodecChain::partial_decode_chunk_into-partial_decode_bytes_into-requires-clause-may_read : goal.chain::CodecChain::partial_decode_chunk_into-partial_decode_bytes_into-requires-clause-may_read
@@ -995,13 +992,12 @@ chain::CodecChain::partial_decode_chunk_into-returns-in-Bytes-clause-refused g t
     let last = c.args.self.now.array_to_bytes in
     let none = eqb-true (vec_len before) 0 (sym c.if-not-is_empty.ensures) in
     let alone = is_none before.items (omega (arith, none, before.ok.0)) in
-    let n = position_count s * held_size k f in
     let refuses = g.B.ByteSource.refuses c.args.source.now in
     IfErr-weaker c.partial_decode_bytes_into.result _ _
     (λ e why.
-    alone_refused before.items (codec_meaning last) k f s b n refuses e alone
-    (subst (λ x. RefusesPartDecoding ((codec_meaning x).decoded k f s b) ((codec_meaning x).leaves_out s b) n refuses e) (sym c.in-Bytes.is)
-    (leaf_refused _ false n refuses e why)))
+    alone_refused before.items (codec_meaning last) k f s b refuses e alone
+    (subst (λ x. RefusesPartDecoding ((codec_meaning x).decoded k f s b) (IsTooLargeToDecode (codec_meaning x) k f s b) refuses e) (sym c.in-Bytes.is)
+    (leaf_refused _ _ refuses e why)))
     c.partial_decode_bytes_into.ensures.refused
 
 pub chain::CodecChain::partial_decode_chunk_into-returns-in-Sharding-clause-cells : goal.chain::CodecChain::partial_decode_chunk_into-returns-in-Sharding-clause-cells
@@ -1036,11 +1032,10 @@ chain::CodecChain::partial_decode_chunk_into-returns-in-Sharding-clause-refused 
     let last = c.args.self.now.array_to_bytes in
     let none = eqb-true (vec_len before) 0 (sym c.if-not-is_empty.ensures) in
     let alone = is_none before.items (omega (arith, none, before.ok.0)) in
-    let n = position_count s * held_size k f in
     let refuses = g.B.ByteSource.refuses c.args.source.now in
     IfErr-weaker c.partial_decode_shard_into.result _ _
     (λ e why.
-    alone_refused before.items (codec_meaning last) k f s b n refuses e alone
-    (subst (λ x. RefusesPartDecoding ((codec_meaning x).decoded k f s b) ((codec_meaning x).leaves_out s b) n refuses e) (sym c.in-Sharding.is)
-    (subst (λ x. RefusesPartDecoding ((sharding_meaning x).decoded k f s b) ((sharding_meaning x).leaves_out s b) n refuses e) c.deref.ensures why)))
+    alone_refused before.items (codec_meaning last) k f s b refuses e alone
+    (subst (λ x. RefusesPartDecoding ((codec_meaning x).decoded k f s b) (IsTooLargeToDecode (codec_meaning x) k f s b) refuses e) (sym c.in-Sharding.is)
+    (subst (λ x. RefusesPartDecoding ((sharding_meaning x).decoded k f s b) (IsTooLargeToDecode (sharding_meaning x) k f s b) refuses e) c.deref.ensures why)))
     c.partial_decode_shard_into.ensures.refused

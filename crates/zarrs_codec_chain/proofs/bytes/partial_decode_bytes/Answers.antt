@@ -1,12 +1,12 @@
-use Rattle.std.proofs.Common.{◌≡◌, ◌∙◌, ◌≤◌, ap, sym, arith, rules, Some, false}
+use Rattle.std.proofs.Common.{◌≡◌, ◌∙◌, ◌≤◌, ap, sym, arith, rules, Some}
 use Rattle.std.proofs.lemmas.Bool.{false≢true}
 use Rattle.zarrs_data_type.specs.ArrayData.{data_of}
 use Rattle.zarrs_codec_leaf.specs.Bytes.{bytes_meaning_of, endian_of}
 use Rattle.zarrs_codec_leaf.specs.BytesLaws.{untaken_bytes}
 use Rattle.zarrs_subset.specs.Boxes.{position_count}
 use Rattle.zarrs_subset.specs.Regions.{box_of}
-use Rattle.zarrs_data_type.specs.Kind.{kind, cell_size, element_size}
-use Rattle.zarrs_data_type_kinds.proofs.Sizes.{cell_size-positive, element_size-positive}
+use Rattle.zarrs_data_type.specs.Kind.{kind, element_size}
+use Rattle.zarrs_data_type_kinds.proofs.Sizes.{element_size-positive}
 use Rattle.zarrs_codec_leaf.specs.Sources.{window_bytes}
 use Rattle.zarrs_codec_leaf.proofs.RowReads.{count_fits}
 use Rattle.zarrs_codec_chain.proofs.BytesParts.{may_read_part, read_part, part_refused, window_len, wrong_length}
@@ -29,6 +29,11 @@ returns-then-not-is_length_of-clause-refused g c =
     wrong_length (endian_of c.args.codec.now) (kind c.args.data_type.now) c.in-Some.size (position_count c.args.shape.now) _ is
     (λ same. let yes = c.is_length_of.ensures.1 (sym len ∙ same) in false≢true (sym c.if-not-is_length_of.true ∙ yes))
 
+pub is_length_of-requires : goal.is_length_of-requires
+is_length_of-requires g c =
+    let is : element_size (kind c.args.data_type.now) ≡ Some c.in-Some.size = search rules in
+    element_size-positive c.args.data_type.now c.in-Some.size is
+
 pub read_box-requires-clause-size : goal.read_box-requires-clause-size
 read_box-requires-clause-size g c =
     let is : element_size (kind c.args.data_type.now) ≡ Some c.in-Some.size = search rules in
@@ -50,9 +55,11 @@ read_box-requires-clause-may_read g c =
 
 pub unreachable-requires-in_default-num_elements : goal.unreachable-requires-in_default-num_elements
 unreachable-requires-in_default-num_elements g c =
-    let one : 1 ≤ cell_size (kind c.args.data_type.now) = cell_size-positive c.args.data_type.now in
+    let is : element_size (kind c.args.data_type.now) ≡ Some c.in-Some.size = search rules in
+    let one : 1 ≤ c.in-Some.size = element_size-positive c.args.data_type.now c.in-Some.size is in
+    let len = c.is_length_of.ensures.0 c.if-not-is_length_of.false in
     let fewer = count_fits _ _ _ (part_fits (box_of c.args.part.now) c.args.shape.now c.args.part.now.same_length c.requires.part) in
-    omega (arith, mul-le-mul_left (position_count c.args.shape.now) one, c.requires.size, fewer, c.in_default-num_elements.ensures.refused)
+    omega (arith, mul-le-mul_left (position_count c.args.shape.now) one, len, fewer, c.in_default-num_elements.ensures.refused)
 
 pub returns-in_err-decode_owned-clause-refused : goal.returns-in_err-decode_owned-clause-refused
 returns-in_err-decode_owned-clause-refused g c =
@@ -66,7 +73,7 @@ returns-in_err-decode_owned-clause-refused g c =
     let is : element_size k ≡ Some c.in-Some.size = search rules in
     let count : c.in-Ok.count ≡ position_count part.shape = c.in-Ok.ensures.ok in
     let dec = (bytes_meaning_of e).decoded k (position_count shape) (window_bytes c.args.window source) in
-    err_kept c.from_residual-in_err-decode_owned.result (part_error.Codec c.in_err-decode_owned.field-0.0) (RefusesPartDecoding dec false 0 refuses) c.from_residual-in_err-decode_owned.ensures.1
+    err_kept c.from_residual-in_err-decode_owned.result (part_error.Codec c.in_err-decode_owned.field-0.0) (RefusesPartDecoding dec ⊥ refuses) c.from_residual-in_err-decode_owned.ensures.1
     (refused_decoding dec refuses (bytes_meaning_of e) k c.in-Ok.count got c.in_err-decode_owned.field-0.0 c.in_err-decode_owned.ensures.refused
     (λ none. part_refused e k c.in-Some.size shape part c.args.window source got is c.args.part.now.same_length c.requires.part c.requires.window
     (c.is_length_of.ensures.0 c.if-not-is_length_of.false) c.in_ok-encoded.ensures.bytes (sym c.takes.ensures ∙ c.if-not-takes.false)

@@ -1,26 +1,15 @@
-use Rattle.std.proofs.Common.{◌≡◌, ◌*◌, List, ℕ, ap, arith, rules, ◌∙◌, ◌≤◌, ◌^◌, subst}
+use Rattle.std.proofs.Common.{◌≡◌, ap, arith, rules, ◌∙◌, ◌≤◌, ◌^◌, subst}
 use Rattle.zarrs_codec_leaf.specs.Bytes.{endian_of}
 use Rattle.zarrs_subset.specs.Boxes.{position_count}
 use Rattle.zarrs_subset.specs.Regions.{box_at_origin, box_of}
 use Rattle.zarrs_data_type.specs.States.{target_box, parent_box}
-use Rattle.zarrs_data_type_region.proofs.TargetBoxes.{bytes_within, count_within}
-use Rattle.zarrs_data_type_region.proofs.TypeSizes.{type_taken}
-use Rattle.zarrs_data_type.specs.Kind.{cell_size, kind}
+use Rattle.zarrs_data_type_region.proofs.TargetBoxes.{count_within}
+use Rattle.zarrs_data_type.specs.Kind.{kind}
 use Rattle.zarrs_codec_chain.proofs.BytesInto.{whole_into, whole_outside, decoded_held}
 use Rattle.zarrs_data_type.specs.ArrayData.{data_of}
 use Rattle.zarrs_data_type.specs.Cells.{HasCells}
 use Rattle.zarrs_data_type_region.proofs.TargetLevels.{masked_keeps}
 use Rattle.zarrs_codec_chain.proofs.bytes_into.decode_bytes_into.Goals as goal
-use Rattle.zarrs_data_type_bytes.proofs.FixedSizes.{size_is}
-
-pub are_cells-requires : goal.are_cells-requires
-are_cells-requires c =
-    let t = c.args.target.now in
-    let k = kind c.args.data_type.now in
-    let shape : c.shape-shape.result.now ≡ (target_box t).shape = search rules in
-    let size : cell_size k ≡ t.cell_size = size_is k t.cell_size (type_taken t.cell_size t.depth k c.requires.takes).0 in
-    let within = bytes_within _ t.cell_size _ t.depth t.parent_shape.now (target_box t) t.region.now.same_length c.requires.target in
-    omega (arith, within, c.requires.target.small, ap (λ (x : List ℕ). position_count x * cell_size k) shape, ap (λ n. position_count (target_box t).shape * n) size)
 
 pub returns-then-are_cells-clause-cells : goal.returns-then-are_cells-clause-cells
 returns-then-are_cells-clause-cells c =

@@ -1,16 +1,16 @@
-use Rattle.std.proofs.Common.{◌≡◌, ◌∙◌, ◌*◌, Option, List, ℕ, ap, subst}
+use Rattle.std.proofs.Common.{◌≡◌, ◌∙◌, inl, Option, List, ℕ, ap, subst}
 use Rattle.zarrs_data_type.specs.ArrayData.{data_of}
-use Rattle.zarrs_data_type.specs.Cell.{Cell, fill_of, held_size}
+use Rattle.zarrs_data_type.specs.Cell.{Cell, fill_of}
 use Rattle.zarrs_data_type.specs.Cells.{cells}
 use Rattle.zarrs_data_type.specs.Kind.{kind}
 use Rattle.zarrs_codec_leaf.specs.Sources.{window_bytes}
-use Rattle.zarrs_subset.specs.Boxes.{position_count}
 use Rattle.zarrs_subset.specs.Regions.{box_of}
 use Rattle.zarrs_codec_chain.specs.Parts.{DecodesPart}
 use Rattle.zarrs_codec_chain.specs.PartRefusals.{RefusesPartDecoding}
 use Rattle.zarrs_codec_chain.specs.declared.error.PartError.TheVariants as part_error
 use Rattle.zarrs_codec_chain.proofs.Kept.{err_kept}
 use Rattle.zarrs_codec_chain.specs.Chain.{ChainMeaning}
+use Rattle.zarrs_codec_chain.specs.Refusals.{IsTooLargeToDecode}
 use Rattle.zarrs_codec.specs.ChainLaws.{chain-lawful}
 use Rattle.zarrs_codec.specs.Chains.{chain_meaning}
 use Rattle.zarrs_codec.proofs.Behind.{decoded-has_cells}
@@ -31,9 +31,13 @@ returns-in_err-whole-clause-refused g c =
     let refuses = g.B.ByteSource.refuses c.args.source.now in
     let e = c.in_err-whole.field-0.0 in
     let read : c.as_slice.result.now ≡ b = c.as_slice.ensures ∙ c.in_ok-encoded.ensures.bytes in
-    err_kept c.from_residual-in_err-whole.result (part_error.Codec e) (RefusesPartDecoding (m.decoded k f s b) (m.leaves_out s b) (position_count s * held_size k f) refuses) c.from_residual-in_err-whole.ensures.1
-    (subst (λ (x : List ℕ). RefusesPartDecoding (m.decoded k f s x) (m.leaves_out s x) (position_count s * held_size k f) refuses (part_error.Codec e)) read
-    (chunk_refused m k f s c.as_slice.result.now refuses e c.in_err-whole.ensures.refused))
+    err_kept c.from_residual-in_err-whole.result (part_error.Codec e) (RefusesPartDecoding (m.decoded k f s b) (IsTooLargeToDecode m k f s b) refuses) c.from_residual-in_err-whole.ensures.1
+    (subst (λ (x : List ℕ). RefusesPartDecoding (m.decoded k f s x) (IsTooLargeToDecode m k f s x) refuses (part_error.Codec e)) read
+    (chunk_refused m k f s c.as_slice.result.now refuses e c.requires.whole c.in_err-whole.ensures.refused))
+
+pub returns-then-not-is_counted-clause-refused : goal.returns-then-not-is_counted-clause-refused
+returns-then-not-is_counted-clause-refused g c =
+    (c.args.shape.now, c.requires.whole, inl (c.is_counted.ensures.large c.if-not-is_counted.true))
 
 pub part_of_whole-requires-clause-held : goal.part_of_whole-requires-clause-held
 part_of_whole-requires-clause-held g c =

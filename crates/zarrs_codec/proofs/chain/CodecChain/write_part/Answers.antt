@@ -11,16 +11,26 @@ use Rattle.zarrs_data_type_region.proofs.TargetLevels.{masked_keeps}
 use Rattle.zarrs_data_type_region.proofs.TypeSizes.{levels_of, type_taken}
 use Rattle.zarrs_data_type_kinds.proofs.Values.{fill-value}
 use Rattle.zarrs_data_type.specs.Cell.{fill_of, held_size}
-use Rattle.zarrs_data_type.specs.Kind.{kind}
+use Rattle.zarrs_data_type.specs.Kind.{cell_size, kind}
 use Rattle.zarrs_codec_chain.proofs.PartsInto.{written_part}
 use Rattle.zarrs_codec.specs.Chains.{chain_meaning}
 use Rattle.zarrs_codec.proofs.chain.CodecChain.write_part.Goals as goal
-use Rattle.zarrs_data_type_bytes.proofs.FixedSizes.{held_fixed}
+use Rattle.zarrs_data_type_bytes.proofs.FixedSizes.{size_is}
 
 pub returns-in_err-cells-clause-outside : goal.returns-in_err-cells-clause-outside
 returns-in_err-cells-clause-outside g c =
     let t = c.args.target.now in
     masked_keeps t.cell_size (parent_box t) (target_box t) t.depth (position_count t.parent_shape.now) t.masks.now t.bytes.now
+
+pub partial_decode_chunk-requires-clause-size : goal.partial_decode_chunk-requires-clause-size
+partial_decode_chunk-requires-clause-size g c =
+    let t = c.args.target.now in
+    let k = kind c.args.data_type.now in
+    let own = target_box t in
+    let same : position_count (box_of c.args.part.now).shape ≡ position_count own.shape = ap position_count (sym c.requires.same_shape) in
+    let size : cell_size k ≡ t.cell_size = size_is k t.cell_size (type_taken t.cell_size t.depth k c.requires.takes).0 in
+    let within = bytes_within _ t.cell_size _ t.depth t.parent_shape.now own t.region.now.same_length c.requires.target in
+    omega (arith, within, c.requires.target.small, ap (λ n. n * cell_size k) same, ap (λ n. position_count own.shape * n) size)
 
 pub write_cells-requires-clause-data : goal.write_cells-requires-clause-data
 write_cells-requires-clause-data g c =

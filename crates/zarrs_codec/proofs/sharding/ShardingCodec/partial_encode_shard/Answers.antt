@@ -18,8 +18,8 @@ use Rattle.zarrs_codec.specs.PartialShardings.{stored_bytes}
 use Rattle.zarrs_codec.proofs.PatchedShards.{at_end, is_opened, IsOpened}
 use Rattle.zarrs_codec.proofs.sharding.ShardingCodec.partial_encode_shard.Goals as goal
 
-pub patched-requires-clause-count : goal.patched-requires-clause-count
-patched-requires-clause-count c =
+pub patch_shard-requires-clause-count : goal.patch_shard-requires-clause-count
+patch_shard-requires-clause-count c =
     let k = kind c.args.data_type.now in
     let f = fill_of k c.args.fill_value.now in
     let empty = stores_empty_chunks c.args.options.now in
@@ -47,8 +47,8 @@ patched-requires-clause-count c =
     (at_end at c.requires.supported) subchunks.cut fit c.in-Some-indexed_count.ensures.none c.in-Some-indexed_count.ensures.few read c.requires.cells in
     sym (length-map ranges (range_part b)) ∙ r.long
 
-pub patched-requires-clause-parts : goal.patched-requires-clause-parts
-patched-requires-clause-parts c =
+pub patch_shard-requires-clause-parts : goal.patch_shard-requires-clause-parts
+patch_shard-requires-clause-parts c =
     let k = kind c.args.data_type.now in
     let f = fill_of k c.args.fill_value.now in
     let empty = stores_empty_chunks c.args.options.now in
@@ -104,6 +104,6 @@ returns c =
     is_opened m at empty k f s sub part d stored (chunk_shape subchunks) (subchunk_shape subchunks) (map (range_part b) ranges) count (position_count part.shape) shape_is (cut_is ∙ c.deref.ensures.value ∙ sub_is)
     (at_end at c.requires.supported) subchunks.cut fit c.in-Some-indexed_count.ensures.none c.in-Some-indexed_count.ensures.few read c.requires.cells in
     record {
-      written = subst (λ (x : Option PartialChange). IfOk c.patched.result (λ write. x ≡ Some (change_of write))) (sym r.writing) c.patched.ensures.written;
-      refused = IfErr-weaker c.patched.result _ _ r.refusal c.patched.ensures.refused;
+      written = subst (λ (x : Option PartialChange). IfOk c.patch_shard.result (λ write. x ≡ Some (change_of write))) (sym r.writing) c.patch_shard.ensures.written;
+      refused = IfErr-weaker c.patch_shard.result _ _ r.refusal c.patch_shard.ensures.refused;
     }

@@ -1,13 +1,11 @@
 use Rattle.std.proofs.Common.{rules, arith, ◌≡◌, ◌<◌, None, Some, is_some, get_or, length, map, option_map, refl, sym, ap, subst, ◌∙◌}
 use Rattle.zarrs_data_type.specs.ArrayData.{data_of}
 use Rattle.zarrs_data_type.specs.Cell.{fill_of}
-use Rattle.zarrs_data_type.specs.Kind.{kind, cell_size}
+use Rattle.zarrs_data_type.specs.Kind.{kind}
 use Rattle.zarrs_subset.specs.Regions.{box_of}
 use Rattle.zarrs_codec_shard.specs.ShardIndex.{range_part}
 use Rattle.zarrs_codec_shard.specs.ShardPatches.{change_of}
 use Rattle.zarrs_codec_shard.specs.SubchunkData.{chunk_shape, subchunk_shape}
-use Rattle.zarrs_codec_shard.specs.Subchunks.{subchunk_count}
-use Rattle.zarrs_codec_shard.proofs.Sizes.{part_size}
 use Rattle.zarrs_codec_chain.specs.Chain.{ChainMeaning}
 use Rattle.zarrs_codec_chain.specs.Options.{stores_empty_chunks}
 use Rattle.zarrs_codec.specs.Chains.{chain_meaning, inner_chain_of}
@@ -24,14 +22,6 @@ loop-number-init c =
     let parts = map (range_part (stored_bytes stored)) ranges in
     changes_started (chain_meaning (inner_chain_of c.args.self.now)) (stores_empty_chunks c.args.options.now) k (fill_of k c.args.fill_value.now) (chunk_shape c.args.subchunks.now) (subchunk_shape c.args.subchunks.now)
     (box_of c.args.part.now) (data_of c.args.bytes.now) stored parts (length ranges) c.in_ok-patch.patch (c.in_ok-patch.ensures parts)
-
-pub changed-requires-clause-size : goal.changed-requires-clause-size
-changed-requires-clause-size c =
-    let s = chunk_shape c.args.subchunks.now in
-    let sub = subchunk_shape c.args.subchunks.now in
-    let number = c.loop-number.number in
-    let below : number < subchunk_count s sub = omega (arith, c.requires.count) in
-    part_size s sub number (cell_size (kind c.args.data_type.now)) c.args.subchunks.now.cut below c.requires.size
 
 pub push-requires : goal.push-requires
 push-requires c =

@@ -1,0 +1,14 @@
+use Rattle.std.proofs.Common.{map}
+use Rattle.zarrs_data_type.specs.Cell.{fill_of}
+use Rattle.zarrs_data_type.specs.Kind.{kind}
+use Rattle.zarrs_subset.specs.Regions.{box_of}
+use Rattle.zarrs_codec_shard.specs.ShardIndex.{range_part}
+use Rattle.zarrs_codec_shard.specs.SubchunkData.{chunk_shape, subchunk_shape}
+use Rattle.zarrs_codec.specs.Chains.{chain_meaning, inner_chain_of}
+use Rattle.zarrs_codec.specs.PartialShardings.{ArePassed}
+use Rattle.zarrs_codec.proofs.sharding.ShardingCodec.test_met.Given as goal
+
+abbrev pub invariant-loop-number : goal.invariant-loop-number
+invariant-loop-number l =
+    let k = kind l.data_type in
+    ArePassed (chain_meaning (inner_chain_of l.self)) k (fill_of k l.fill_value) (chunk_shape l.subchunks) (subchunk_shape l.subchunks) (box_of l.part) (map (range_part l.shard) l.ranges) l.number
