@@ -121,7 +121,7 @@ module _ (m : ChainMeaning) (k : Kind) (f : Cell) (s sub : List ℕ) (part : Box
       let T = λ (j : ℕ). not (is_met s sub part j) || part_decodes m k f sub (get_or parts j None) in
       list_all-from_AllPass T (range_with_len 0 (subchunk_count s sub)) (λ i d lt.
       let below : i < n = omega (arith, length-range_with_len 0 (subchunk_count s sub)) in
-      let at : get_or (range_with_len 0 (subchunk_count s sub)) i d ≡ i = get_or-range_with_len 0 (subchunk_count s sub) i d (omega arith) in
+      let at : get_or (range_with_len 0 (subchunk_count s sub)) i d ≡ i = get_or-range_with_len 0 (subchunk_count s sub) i d (omega arith) ∙ omega arith in
       ap T at ∙ passes (is_met s sub part i) (part_decodes m k f sub (get_or parts i None)) (all i below))
     where
       passes : (met decodes : Bool) → (met ≡ true → decodes ≡ true) → (not met || decodes) ≡ true
@@ -148,7 +148,7 @@ module _ (m : ChainMeaning) (k : Kind) (f : Cell) (s sub : List ℕ) (part : Box
       let n = subchunk_count s sub in
       let T = λ (i : ℕ). is_met s sub part i && part_too_large m k f sub (get_or parts i None) in
       list_any_at T (range_with_len 0 n) j 0 (omega (arith, length-range_with_len 0 n))
-      (ap T (get_or-range_with_len 0 n j 0 lt) ∙ and_from (is_met s sub part j) (part_too_large m k f sub (get_or parts j None)) meets large)
+      (ap T (get_or-range_with_len 0 n j 0 lt ∙ omega arith) ∙ and_from (is_met s sub part j) (part_too_large m k f sub (get_or parts j None)) meets large)
 
 module _ (m : ChainMeaning) (empty : Bool) (k : Kind) (f : Cell) (s sub : List ℕ) (part : Box) (d : ArrayData) where
   same_held : (old : Option (List ℕ)) → cells_of_part (subchunk_meaning m empty k f sub) f sub old ≡ decoded_part m k f sub old

@@ -12,7 +12,7 @@ use Rattle.zarrs_codec_chain.specs.Chain.{ChainMeaning}
 use Rattle.zarrs_codec.specs.ChainLaws.{chain-lawful}
 use Rattle.zarrs_codec.specs.Chains.{codec_meaning, chain_meaning, inner_chain_of, is_at_start, location_of, subchunk_sizes_of, sharding_meaning}
 use Rattle.zarrs_codec.specs.Shardings.{sharded, subchunk_meaning}
-use Rattle.zarrs_codec.proofs.PartReads.{alone_refused, is_none, shard_too_large}
+use Rattle.zarrs_codec.proofs.PartReads.{alone_refused, is_none, leaf_refused, shard_too_large}
 use Rattle.zarrs_codec.proofs.SubchunksInto.{overlap_lies}
 use Rattle.zarrs_codec.proofs.Pieces.{piece_alone, piece_cells, piece_put, piece_read}
 use Rattle.zarrs_codec_optional.specs.ShardingMetadata.{sizes_of}
@@ -687,3 +687,21 @@ chain::CodecChain::partial_decode_chunk-returns-in-Sharding-clause-refused g t c
     (subst (λ x. RefusesPartDecoding ((codec_meaning x).decoded k f s b) (IsTooLargeToDecode (codec_meaning x) k f s b) refuses e) (sym c.in-Sharding.is)
     (subst (λ x. RefusesPartDecoding ((sharding_meaning x).decoded k f s b) (IsTooLargeToDecode (sharding_meaning x) k f s b) refuses e) c.deref.ensures why)))
     c.partial_decode_shard.ensures.refused
+
+pub chain::CodecChain::partial_decode_chunk-returns-in-Bytes-clause-refused : goal.chain::CodecChain::partial_decode_chunk-returns-in-Bytes-clause-refused
+chain::CodecChain::partial_decode_chunk-returns-in-Bytes-clause-refused g t c =
+    let k = kind c.args.data_type.now in
+    let f = fill_of k c.args.fill_value.now in
+    let s = c.args.shape.now in
+    let b = window_bytes c.args.window (g.B.ByteSource.bytes c.args.source.now) in
+    let refuses = g.B.ByteSource.refuses c.args.source.now in
+    let before = c.args.self.now.array_to_array in
+    let last = c.args.self.now.array_to_bytes in
+    let none = eqb-true (vec_len before) 0 (sym c.if-not-is_empty.ensures) in
+    let alone = is_none before.items (omega (arith, none, before.ok.0)) in
+    IfErr-weaker c.partial_decode_bytes.result _ _
+    (λ e why.
+    alone_refused before.items (codec_meaning last) k f s b refuses e alone
+    (subst (λ x. RefusesPartDecoding ((codec_meaning x).decoded k f s b) (IsTooLargeToDecode (codec_meaning x) k f s b) refuses e) (sym c.in-Bytes.is)
+    (leaf_refused _ _ refuses e why)))
+    c.partial_decode_bytes.ensures.refused

@@ -37,7 +37,7 @@ returns-in_err-whole-clause-refused g c =
 
 pub returns-then-not-is_counted-clause-refused : goal.returns-then-not-is_counted-clause-refused
 returns-then-not-is_counted-clause-refused g c =
-    (c.args.shape.now, c.requires.whole, inl (c.is_counted.ensures.large c.if-not-is_counted.true))
+    (c.args.shape.now, c.requires.whole, inl c.if-not-is_counted.ensures.large)
 
 pub part_of_whole-requires-clause-held : goal.part_of_whole-requires-clause-held
 part_of_whole-requires-clause-held g c =
