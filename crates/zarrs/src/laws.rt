@@ -15,7 +15,7 @@ pub use zarrs_chunk_grid::laws::{
     box_of_a_chunk, chunk_of_a_position, chunk_range_fills_a_box, chunks_share_no_position,
     covered_positions, grid_of_its_configuration, metadata_describes_the_configuration,
 };
-pub use zarrs_codec::laws::codecs_are_said_by_levels;
+pub use zarrs_codec::laws::{codecs_are_said_by_levels, sole_shardings_make_shards};
 pub use zarrs_data_type_kinds::laws::{types_are_said_by_levels, written_fill_value_is_read};
 pub use zarrs_engine::laws::{
     accepted_shape_changes, an_array_is_one_function, answers_depend_on_the_reach,
@@ -28,8 +28,8 @@ pub use zarrs_engine::laws::{
     empty_stores_are_fill, equal_counts_agree, event_parts_make_the_region,
     event_reads_of_decoding_chunks, events_count, histories_agree, parts_make_the_region,
     read_after_store, reads_agree, refused_shape_changes, runs_are_courses,
-    same_chunks_have_same_cells, shape_changes_keep_outside, store_after_read, writes_keep_canon,
-    writes_keep_decoding,
+    same_chunks_have_same_cells, shape_changes_keep_outside, shards_compact_to_their_encoding, store_after_read,
+    target_reads_depend_on_places, writes_keep_canon, writes_keep_decoding,
 };
 pub use zarrs_keys::{paths_are_names, paths_keep_keys_lawful, unrelated_paths_share_no_key};
 pub use zarrs_subset::laws::{

@@ -21,7 +21,7 @@ use Rattle.zarrs_engine_calls.specs.Reads.{ReadsRegion}
 use Rattle.zarrs_engine_calls.specs.Reach.{chunk_part}
 use Rattle.zarrs_engine_calls.specs.Step.{RetrievesPart}
 use Rattle.zarrs_engine_calls.specs.Laws.{EachDecodes}
-use Rattle.zarrs_engine_calls.specs.Reached.{AgreeAtPlaces, AgreeInPart, CellsDependOnPlaces, PlacesDecide, ReadsDependOnPlaces}
+use Rattle.zarrs_engine_calls.specs.Reached.{AgreeAtPlaces, AgreeInPart, CellsDependOnPlaces, ReadsDependOnPlaces}
 use Rattle.zarrs_engine_calls.proofs.Contents.{content_covered, content_uncovered, covered_has_box, in_chunk}
 use Rattle.zarrs_engine_calls.proofs.CutLaws.{and_both, and_left, and_right}
 use Rattle.zarrs_engine_calls.proofs.Reached.{one_boxed, part_has, range_boxed, region_boxed, takes_range, takes_region}
@@ -82,7 +82,7 @@ whole_box box part long whole =
     let starts : offset_by box.start part.start ≡ box.start = ap (offset_by box.start) start ∙ from_origin box.start box.shape long in
     λ i. record { start = starts i; shape = shape i }
 
-module _ (layout : Layout) (lawful : IsLawful layout) (decide : PlacesDecide layout.chain) (region box : Box) (long : IsLong box) where
+module _ (layout : Layout) (lawful : IsLawful layout) (region box : Box) (long : IsLong box) where
   part_cell : (position : List ℕ) → Holds region position → Holds box position → (va vb : Option (List ℕ))
       → ((x : List ℕ) → va ≡ Some x → (cs : List Cell) × (decoded_cells layout box x ≡ Some cs))
       → ((y : List ℕ) → vb ≡ Some y → (ds : List Cell) × (decoded_cells layout box y ≡ Some ds))
@@ -95,12 +95,12 @@ module _ (layout : Layout) (lawful : IsLawful layout) (decide : PlacesDecide lay
       let d = two y refl in
       let n = place_in box position in
       ap (λ o. cell_at_place o n) d.1
-      ∙ decide layout.kind layout.fill box.shape (chunk_part region box) x y c.0 d.0 c.1 d.1 same.0 same.1 (offset_from box.start position)
+      ∙ lawful.chain.places_decide layout.kind layout.fill box.shape (chunk_part region box) x y c.0 d.0 c.1 d.1 same.0 same.1 (offset_from box.start position)
       (shape_within box.start box.shape position long inside)
       (part_within region.start region.shape box.start box.shape position holds inside)
       ∙ sym (ap (λ o. cell_at_place o n) c.1)
 
-module _ (layout : Layout) (lawful : IsLawful layout) (decide : PlacesDecide layout.chain) (a b : StoreState)
+module _ (layout : Layout) (lawful : IsLawful layout) (a b : StoreState)
     (each_a : EachDecodes layout a) (each_b : EachDecodes layout b) where
   cells_same : (region : Box) → AgreeAtPlaces layout region a b → (position : List ℕ) → Holds region position
       → content layout (value_at b) position ≡ content layout (value_at a) position
@@ -111,7 +111,7 @@ module _ (layout : Layout) (lawful : IsLawful layout) (decide : PlacesDecide lay
         let has = covered_has_box layout lawful position covered in
         let inside = in_chunk layout lawful index position covered refl in
         content_covered layout (value_at b) position covered
-        ∙ part_cell layout lawful decide region (box_at layout.grid index) (box_long layout.grid index) position holds inside
+        ∙ part_cell layout lawful region (box_at layout.grid index) (box_long layout.grid index) position holds inside
         (value_at a (layout.key index)) (value_at b (layout.key index))
         (λ x at. each_a index x has at) (λ y at. each_b index y has at) (agree index position has holds inside)
         ∙ sym (content_covered layout (value_at a) position covered)
@@ -125,7 +125,7 @@ module _ (layout : Layout) (lawful : IsLawful layout) (decide : PlacesDecide lay
     reads = record { count = r.reads.count; each = λ position holds. cells_same (box_at layout.grid index) agree position holds ∙ r.reads.each position holds };
   }
 
-  region_alike : (region : Box) (chunks : List (List ℕ)) (held : ArrayData) → ((index : List ℕ) → Contains chunks index → has_box layout.grid index ≡ true)
+  pub region_alike : (region : Box) (chunks : List (List ℕ)) (held : ArrayData) → ((index : List ℕ) → Contains chunks index → has_box layout.grid index ≡ true)
       → AgreeAtPlaces layout region a b → ReadsRegion layout region chunks held a → ReadsRegion layout region chunks held b
   region_alike region chunks held boxes agree r = record {
     given = r.given;
@@ -150,20 +150,20 @@ module _ (layout : Layout) (lawful : IsLawful layout) (decide : PlacesDecide lay
       }
 
 pub cells_depend_on_places : CellsDependOnPlaces
-cells_depend_on_places layout lawful decide region a b each_a each_b agree = cells_same layout lawful decide a b each_a each_b region agree
+cells_depend_on_places layout lawful region a b each_a each_b agree = cells_same layout lawful a b each_a each_b region agree
 
 pub reads_depend_on_places : ReadsDependOnPlaces
-reads_depend_on_places layout lawful decide shape a b each_a each_b = record {
-  chunk = chunk_alike layout lawful decide a b each_a each_b;
-  part = part_alike layout lawful decide a b each_a each_b;
+reads_depend_on_places layout lawful shape a b each_a each_b = record {
+  chunk = chunk_alike layout lawful a b each_a each_b;
+  part = part_alike layout lawful a b each_a each_b;
   chunks = λ range held long agree r. (
     r.0,
-    region_alike layout lawful decide a b each_a each_b (chunks_box layout.grid range) (positions range) held
+    region_alike layout lawful a b each_a each_b (chunks_box layout.grid range) (positions range) held
         (range_boxed layout lawful range long (takes_range layout shape range r.0)) agree r.1,
   );
   region = λ region held agree r. (
     r.0,
-    region_alike layout lawful decide a b each_a each_b region (chunks_met layout.grid region) held
+    region_alike layout lawful a b each_a each_b region (chunks_met layout.grid region) held
         (region_boxed layout lawful shape region r.1.long (takes_region layout shape region r.0)) agree r.1,
   );
 }

@@ -1,13 +1,9 @@
 -- The answer to a call depends on what the call may ask alone.
 use Rattle.std.specs.Prelude.{◌≡◌, ◌⊎◌, ℕ, true, Bool, List, length, Option, None, Some, slice_get}
-use Rattle.zarrs_subset.specs.Boxes.{place}
-use Rattle.zarrs_subset.specs.Regions.{Box, IsLong, Holds, box_at_origin}
+use Rattle.zarrs_subset.specs.Regions.{Box, IsLong, Holds}
 use Rattle.zarrs_chunk_grid.specs.Grids.{box_at, chunks_box, has_box}
 use Rattle.zarrs_storage.specs.Store.{StoreState}
 use Rattle.zarrs_data_type.specs.ArrayData.{ArrayData}
-use Rattle.zarrs_data_type.specs.Kind.{Kind}
-use Rattle.zarrs_data_type.specs.Cell.{Cell}
-use Rattle.zarrs_codec_chain.specs.Chain.{ChainMeaning}
 use Rattle.zarrs_engine_calls.specs.Layout.{ArrayState, Layout, IsLawful}
 use Rattle.zarrs_engine_calls.specs.Content.{value_at, content}
 use Rattle.zarrs_engine_calls.specs.Changes.{RetrievesChunk}
@@ -47,16 +43,6 @@ AnswersDependOnTheReach =
 
 -- ---- places
 
--- What a chain decodes at a part hangs on the length of the bytes and on those places alone that a read of the part needs,
--- if both decode. (A law that lawful chains are to have; it is not one of `IsLawfulChain` yet.)
-abbrev pub PlacesDecide : ChainMeaning → Type 0
-PlacesDecide chain =
-    (kind : Kind) (fill : Cell) (shape : List ℕ) (part : Box) (x y : List ℕ) (cs ds : List Cell)
-    → chain.decoded kind fill shape x ≡ Some cs → chain.decoded kind fill shape y ≡ Some ds → length y ≡ length x
-    → ((n : ℕ) → chain.places kind shape part x n ≡ true → slice_get y n ≡ slice_get x n)
-    → (position : List ℕ) → Holds (box_at_origin shape) position → Holds part position
-    → slice_get ds (place shape position) ≡ slice_get cs (place shape position)
-
 -- both values are absent, or both are as long and have the same byte at each place that a read of the region needs
 abbrev pub AgreeInPart : Layout → Box → Box → Option (List ℕ) → Option (List ℕ) → Type 0
 AgreeInPart layout region chunk None None = Unit {0}
@@ -75,7 +61,7 @@ AgreeAtPlaces layout region a b =
 -- so has each read of it that is accepted, into a target or by a decoder too.
 abbrev pub CellsDependOnPlaces : Type 0
 CellsDependOnPlaces =
-    (layout : Layout) → IsLawful layout → PlacesDecide layout.chain → (region : Box) (a b : StoreState)
+    (layout : Layout) → IsLawful layout → (region : Box) (a b : StoreState)
     → EachDecodes layout a → EachDecodes layout b → AgreeAtPlaces layout region a b
     → (position : List ℕ) → Holds region position → content layout (value_at b) position ≡ content layout (value_at a) position
 
@@ -93,5 +79,5 @@ pub record AreReadAlike (layout : Layout) (shape : List ℕ) (a b : StoreState) 
 
 abbrev pub ReadsDependOnPlaces : Type 0
 ReadsDependOnPlaces =
-    (layout : Layout) → IsLawful layout → PlacesDecide layout.chain → (shape : List ℕ) (a b : StoreState)
+    (layout : Layout) → IsLawful layout → (shape : List ℕ) (a b : StoreState)
     → EachDecodes layout a → EachDecodes layout b → AreReadAlike layout shape a b
