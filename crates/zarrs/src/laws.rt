@@ -6,6 +6,7 @@ ghost use Rattle.zarrs.specs.Layouts.{layout_meant};
 ghost use Rattle.zarrs.specs.Laws.{WrittenMetadataOpens, NormalMetadataSaysTheSame};
 ghost use Rattle.zarrs.specs.Laws.{ConvertedMetadataSaysTheSame, ShownMetadataSaysTheSame};
 ghost use Rattle.zarrs.specs.Laws.{MetadataCallsLeaveContent, CallsLeaveMetadata};
+ghost use Rattle.zarrs.specs.OpeningReach.{OpeningsDependOnTheReach};
 ghost use Rattle.zarrs.specs.Counts.{StoringCounts, ErasingCounts, UpgradingCounts};
 ghost use Rattle.zarrs.specs.Upgrade.{UpgradesOpen, UpgradeCallsOpen, UpgradesLeaveContent, UpgradeCallsLeaveContent};
 ghost use Rattle.zarrs.specs.Arrays.{metadata_of_array, meaning_of_array, layout_of_array, path_of_array};
@@ -97,4 +98,10 @@ pub fn upgrades_open()
 pub fn upgrades_leave_content()
     ensures fronts { UpgradesLeaveContent }
     ensures calls { UpgradeCallsLeaveContent }
+{}
+
+/// What opens at a path in one store, or why nothing does, is so in any other that agrees with it at the keys that the
+/// metadata of the version may have there.
+pub fn openings_depend_on_the_reach()
+    ensures { OpeningsDependOnTheReach }
 {}
