@@ -1,2 +1,3 @@
 mod Decodes
 mod DirectCalls
+mod UpgradedStores

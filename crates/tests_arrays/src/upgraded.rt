@@ -22,10 +22,10 @@ pub fn stored_and_upgraded(
     path: &str,
     document: ArrayMetadataV2,
 ) -> Result<Array<MemoryStore>>
-    requires v2_document { IsReadAgainV2 (shown_v2 default_options (document_v2_view document)) }
-    requires v3_document { (n : DocumentData)
-        → IsUpgradeOf default_options (v2 (document_v2_view document)) n → IsReadAgainV3 n }
-    ensures { IfOk result (λ array. OpensAs (store_of_array open_state array) (path_of_array array)
+    ensures { IsReadAgainV2 (shown_v2 default_options (document_v2_view document))
+        → ((n : DocumentData) → IsUpgradeOf default_options (v2 (document_v2_view document)) n
+        → IsReadAgainV3 n)
+        → IfOk result (λ array. OpensAs (store_of_array open_state array) (path_of_array array)
         (meaning_of_array array)) }
 {
     let metadata = ArrayMetadata::V2(document);

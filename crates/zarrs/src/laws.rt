@@ -27,9 +27,9 @@ pub use zarrs_engine::laws::{
     courses_keep_decoding, courses_keep_other_keys, courses_keep_reach, cuts_are_right,
     disjoint_events_agree, disjoint_writes_agree, empty_stores_are_canonical,
     empty_stores_are_fill, equal_counts_agree, event_parts_make_the_region,
-    event_reads_of_decoding_chunks, events_count, histories_agree, parts_make_the_region,
-    read_after_store, reads_agree, refused_shape_changes, runs_are_courses,
-    same_chunks_have_same_cells, shape_changes_keep_outside, shards_compact_to_their_encoding, store_after_read,
+    event_reads_of_decoding_chunks, events_count, parts_make_the_region, read_after_store,
+    reads_agree, refused_shape_changes, runs_are_courses, same_chunks_have_same_cells,
+    shape_changes_keep_outside, shards_compact_to_their_encoding, store_after_read,
     target_reads_depend_on_places, writes_keep_canon, writes_keep_decoding,
 };
 pub use zarrs_keys::{paths_are_names, paths_keep_keys_lawful, unrelated_paths_share_no_key};
