@@ -32,10 +32,10 @@ takes_covered layout shape region fits target none =
     (last_none (dimensions_refusal layout shape region) (option_or (refuse_if (is_variable layout.kind) refusal.codec) (option_or typed (option_or shaped covered))) none)))
 
 pub target_reads_depend : TargetReadsDependOnPlaces
-target_reads_depend layout lawful shape region old new a b each_a each_b agree r = record {
+target_reads_depend layout lawful shape region old new a b agree r = record {
   held = r.held;
   accepted = r.accepted;
-  reads = region_alike layout lawful a b each_a each_b region (chunks_met layout.grid region) r.held
+  reads = region_alike layout lawful a b region (chunks_met layout.grid region) r.held
       (region_boxed layout lawful shape region r.reads.long (takes_covered layout shape region (takes_type old.cell_size old.depth layout.kind) (target_box old).shape r.accepted)) agree r.reads;
   written = r.written;
 }

@@ -29,7 +29,7 @@ pub fn an_array_is_one_function()
 
 /// What a call may answer over one store it may answer over any other that agrees with it where the call may ask, and both
 /// are changed alike. Of a read that needs a part of a chunk alone, by a call, a decoder or into a target, the places that it
-/// needs are enough.
+/// needs are enough, if the chunks that it meets decode.
 pub fn answers_depend_on_the_reach()
     ensures keys { AnswersDependOnTheReach }
     ensures places { CellsDependOnPlaces }
