@@ -10,6 +10,7 @@ pub mod Comparisons
 pub mod PartialDecoders
 pub mod ReadLaws
 pub mod PlaceLaws
+pub mod ShardCompactions
 pub mod Outcomes
 pub mod Patches
 pub mod PartialEncoders
