@@ -1,2 +1,4 @@
+mod Courses
 mod Decodes
 mod DirectCalls
+mod UpgradedStores

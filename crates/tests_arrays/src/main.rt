@@ -18,6 +18,7 @@ pub mod documents;
 pub mod encoded;
 #[cfg(test)]
 mod errors;
+pub mod histories;
 #[cfg(test)]
 mod made;
 #[cfg(test)]
@@ -26,6 +27,7 @@ mod memory;
 mod scripts;
 #[cfg(test)]
 mod setters;
+pub mod upgraded;
 #[cfg(test)]
 mod uses;
 

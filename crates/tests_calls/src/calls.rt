@@ -242,7 +242,7 @@ fn laws_can_be_called(_rt: HostRuntime) {
     zarrs_engine::laws::courses_keep_canon();
     zarrs_engine::laws::courses_keep_decoding();
     zarrs_engine::laws::courses_keep_reach();
-    zarrs_engine::laws::histories_agree();
+    zarrs_engine::laws::courses_agree();
     zarrs_engine::laws::equal_counts_agree();
     zarrs_engine::laws::read_after_store();
     zarrs_engine::laws::store_after_read();
@@ -250,4 +250,6 @@ fn laws_can_be_called(_rt: HostRuntime) {
     zarrs_engine::laws::event_reads_of_decoding_chunks();
     zarrs_engine::laws::parts_make_the_region();
     zarrs_engine::laws::reads_agree();
+    zarrs_engine::laws::shards_compact_to_their_encoding();
+    zarrs_engine::laws::target_reads_depend_on_places();
 }

@@ -8,6 +8,7 @@ pub mod Regridded
 mod Short
 mod Apart
 mod Reopened
+mod OpeningReach
 mod Upgrade
 mod Counts
 mod Upgraded

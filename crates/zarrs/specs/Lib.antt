@@ -10,6 +10,7 @@ pub mod Lending
 pub mod Loans
 pub mod Elements
 pub mod Reopening
+pub mod OpeningReach
 pub mod Outcomes
 pub mod PartialEncoders
 pub mod Upgrade

@@ -6,6 +6,7 @@ ghost use Rattle.zarrs.specs.Layouts.{layout_meant};
 ghost use Rattle.zarrs.specs.Laws.{WrittenMetadataOpens, NormalMetadataSaysTheSame};
 ghost use Rattle.zarrs.specs.Laws.{ConvertedMetadataSaysTheSame, ShownMetadataSaysTheSame};
 ghost use Rattle.zarrs.specs.Laws.{MetadataCallsLeaveContent, CallsLeaveMetadata};
+ghost use Rattle.zarrs.specs.OpeningReach.{OpeningsDependOnTheReach};
 ghost use Rattle.zarrs.specs.Counts.{StoringCounts, ErasingCounts, UpgradingCounts};
 ghost use Rattle.zarrs.specs.Upgrade.{UpgradesOpen, UpgradeCallsOpen, UpgradesLeaveContent, UpgradeCallsLeaveContent};
 ghost use Rattle.zarrs.specs.Arrays.{metadata_of_array, meaning_of_array, layout_of_array, path_of_array};
@@ -15,7 +16,7 @@ pub use zarrs_chunk_grid::laws::{
     box_of_a_chunk, chunk_of_a_position, chunk_range_fills_a_box, chunks_share_no_position,
     covered_positions, grid_of_its_configuration, metadata_describes_the_configuration,
 };
-pub use zarrs_codec::laws::codecs_are_said_by_levels;
+pub use zarrs_codec::laws::{codecs_are_said_by_levels, sole_shardings_make_shards};
 pub use zarrs_data_type_kinds::laws::{types_are_said_by_levels, written_fill_value_is_read};
 pub use zarrs_engine::laws::{
     accepted_shape_changes, an_array_is_one_function, answers_depend_on_the_reach,
@@ -26,10 +27,10 @@ pub use zarrs_engine::laws::{
     courses_keep_decoding, courses_keep_other_keys, courses_keep_reach, cuts_are_right,
     disjoint_events_agree, disjoint_writes_agree, empty_stores_are_canonical,
     empty_stores_are_fill, equal_counts_agree, event_parts_make_the_region,
-    event_reads_of_decoding_chunks, events_count, histories_agree, parts_make_the_region,
-    read_after_store, reads_agree, refused_shape_changes, runs_are_courses,
-    same_chunks_have_same_cells, shape_changes_keep_outside, store_after_read, writes_keep_canon,
-    writes_keep_decoding,
+    event_reads_of_decoding_chunks, events_count, parts_make_the_region, read_after_store,
+    reads_agree, refused_shape_changes, runs_are_courses, same_chunks_have_same_cells,
+    shape_changes_keep_outside, shards_compact_to_their_encoding, store_after_read,
+    target_reads_depend_on_places, writes_keep_canon, writes_keep_decoding,
 };
 pub use zarrs_keys::{paths_are_names, paths_keep_keys_lawful, unrelated_paths_share_no_key};
 pub use zarrs_subset::laws::{
@@ -97,4 +98,10 @@ pub fn upgrades_open()
 pub fn upgrades_leave_content()
     ensures fronts { UpgradesLeaveContent }
     ensures calls { UpgradeCallsLeaveContent }
+{}
+
+/// What opens at a path in one store, or why nothing does, is so in any other that agrees with it at the keys that the
+/// metadata of the version may have there.
+pub fn openings_depend_on_the_reach()
+    ensures { OpeningsDependOnTheReach }
 {}

@@ -26,6 +26,8 @@ use Rattle.zarrs_codec_chain.specs.Chain.{ChainMeaning, IsLawfulChain, chunk_cel
 use Rattle.zarrs_codec_optional.specs.ShardingMetadata.{sizes_of}
 use Rattle.zarrs_codec.specs.Chains.{array_to_array_of, array_to_bytes_of, behind, codec_meaning, is_at_start, leaf_meaning, chain_meaning, no_codec}
 use Rattle.zarrs_codec.specs.Configurations.{no_cells, whole_chunk, with_places}
+use Rattle.zarrs_codec_chain.specs.Deciding.{PlacesDecide}
+use Rattle.zarrs_codec_chain.proofs.DecidingPlaces.{all_decide, cells_decide, shards_decide}
 use Rattle.zarrs_codec_chain.specs.Places.{Places, all_places-inside, cell_places, cell_places-inside, places_behind-inside, shard_places-inside}
 use Rattle.zarrs_codec.specs.Shardings.{sharded, subchunk_meaning}
 use Rattle.zarrs_codec.specs.Through.{through-lawful}
@@ -60,12 +62,14 @@ whole_chunk-lawful leaf law = record {
   unfit_decoded = λ k f s b not. law.untaken_decoded k _ b not;
   partly_updates = λ empty k f s stored part given held change filled values count start shape made is. cc;
   places_inside = all_places-inside;
+  places_decide = all_decide (whole_chunk leaf).decoded;
 }
 
--- the law does not depend on which of its bytes a read of a part needs
+-- the law does not depend on which of its bytes a read of a part needs, if these decide its cells
 pub with_places-lawful : (places : Places) (m : ChainMeaning) → IsLawfulChain m
-    → ((k : Kind) (s : List ℕ) (part : Box) (b : List ℕ) (place : ℕ) → places k s part b place ≡ true → place < length b) → IsLawfulChain (with_places places m)
-with_places-lawful places m law inside = record {
+    → ((k : Kind) (s : List ℕ) (part : Box) (b : List ℕ) (place : ℕ) → places k s part b place ≡ true → place < length b) → PlacesDecide m.decoded places
+    → IsLawfulChain (with_places places m)
+with_places-lawful places m law inside decide = record {
   round_trip = law.round_trip;
   decoded_len = law.decoded_len;
   decoded_values = law.decoded_values;
@@ -77,6 +81,7 @@ with_places-lawful places m law inside = record {
   partly_updates = λ empty k f s stored part given held change filled values count start shape made is.
       updates empty k f s stored part given held change filled values count start shape made (sym (same stored k f s) ∙ is);
   places_inside = inside;
+  places_decide = decide;
 }
   where
     same : (stored : Option (List ℕ)) (k : Kind) (f : Cell) (s : List ℕ) → chunk_cells (with_places places m) k f s stored ≡ chunk_cells m k f s stored
@@ -114,6 +119,11 @@ module _ (m : ChainMeaning) (law : IsLawfulChain m) where
       (law.partly_updates empty k f s stored part given held change filled values count start shape made (sym (same_cells m k f s stored) ∙ is))
   partly (codec ∷ codecs) empty k f s stored part given held change filled values count start shape made is = cc
 
+  decide : (codecs : List ArrayToArrayCodec) → PlacesDecide (behind codecs m).decoded (behind codecs m).places
+  decide [] k f s part x y cs ds is_x is_y long same =
+      law.places_decide k f s part x y cs ds (sym (same_cells m k f s (Some x)) ∙ is_x) (sym (same_cells m k f s (Some y)) ∙ is_y) long same
+  decide (codec ∷ codecs) = all_decide (behind (codec ∷ codecs) m).decoded
+
   pub behind-lawful : (codecs : List ArrayToArrayCodec) → IsLawfulChain (behind codecs m)
   behind-lawful codecs =
       let t = through-lawful (arrays_meaning codecs) m (arrays-lawful codecs) law in
@@ -128,6 +138,7 @@ module _ (m : ChainMeaning) (law : IsLawfulChain m) where
         unfit_decoded = t.unfit_decoded;
         partly_updates = partly codecs;
         places_inside = places_behind-inside (no_codec codecs) m.places law.places_inside;
+        places_decide = decide codecs;
       }
 
 module _ (sub : List ℕ) (m : ChainMeaning) (law : IsLawfulChain m) where
@@ -174,6 +185,7 @@ module _ (at_start : Bool) (sub : List ℕ) (m : ChainMeaning) (law : IsLawfulCh
     partly_updates = λ empty k f s stored part given held change filled values count start shape made is.
         partly_sharded at_start sub m law empty k f s stored part given held change filled values count start shape made is;
     places_inside = shard_places-inside at_start sub;
+    places_decide = shards_decide (λ k f. subchunk_meaning m false k f sub) at_start sub;
   }
 
 pub codec-lawful : (c : ArrayToBytesCodec) → IsLawfulChain (codec_meaning c)
@@ -185,6 +197,7 @@ codec-lawful (codec.Bytes bytes) =
     (whole_chunk (leaf_meaning (codec.Bytes bytes)))
     (whole_chunk-lawful (leaf_meaning (codec.Bytes bytes)) (leaf-lawful (codec.Bytes bytes)))
     cell_places-inside
+    (cells_decide (endian_of bytes))
 codec-lawful c = whole_chunk-lawful (leaf_meaning c) (leaf-lawful c)
 
 pub chain-lawful : (chain : CodecChain) → IsLawfulChain (chain_meaning chain)

@@ -7,6 +7,7 @@ pub mod ShardPartsInto
 pub mod ShardPieces
 pub mod ShardingBuilders
 pub mod Shardings
+pub mod SoleShardings
 pub mod Through
 pub use Rattle.zarrs_codec_optional.specs.CellsCodecLaws
 pub use Rattle.zarrs_codec_optional.specs.CellsCodecs

@@ -5,6 +5,7 @@ use Rattle.zarrs_data_type.specs.Cell.{Cell, are_values, is_value}
 use Rattle.zarrs_subset.specs.Boxes.{position_count}
 use Rattle.zarrs_codec_array.specs.Arrays.{ArrayMeaning, IsLawfulArray}
 use Rattle.std.specs.Prelude.{option_and_then, if◌then◌else◌}
+use Rattle.zarrs_codec_chain.proofs.DecidingPlaces.{all_decide}
 use Rattle.zarrs_codec_chain.specs.Places.{all_places, all_places-inside, places_behind}
 use Rattle.zarrs_codec_shard.specs.Steps.{given_if}
 use Rattle.zarrs_codec_shard.proofs.Missing.{bind_parts, given_if-parts, given_if-true}
@@ -96,4 +97,5 @@ module _ (a : ArrayMeaning) (m : ChainMeaning) (array_law : IsLawfulArray a) (la
         unfit_here (a.fits s) (m.fits k (a.shape s)) _ not (λ n. ap (option_and_then (λ x. Some (a.back s x))) (law.unfit_decoded k f (a.shape s) b n));
     partly_updates = λ empty k f s stored part given held change filled values count start shape made is. cc;
     places_inside = all_places-inside;
+    places_decide = all_decide (through a m).decoded;
   }

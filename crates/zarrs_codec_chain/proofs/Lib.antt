@@ -1,11 +1,13 @@
 pub mod BytesInto
 pub mod BytesParts
+pub mod DecidingPlaces
 pub mod IntoSteps
 pub mod Kept
 pub mod MovedBoxes
 pub mod PartBoxes
 pub mod PartsInto
 pub mod ReadSteps
+pub mod ShardChains
 pub mod Stays
 pub mod SubchunkPieces
 pub mod SubchunkSteps

@@ -7,6 +7,7 @@ use Rattle.zarrs_data_type.specs.Cells.{cells}
 use Rattle.zarrs_subset.specs.Boxes.{position_count}
 use Rattle.zarrs_subset.specs.Regions.{Box}
 use Rattle.zarrs_codec_shard.specs.PartialShards.{PartialChange, after, IsUpdated}
+use Rattle.zarrs_codec_chain.specs.Deciding.{PlacesDecide}
 use Rattle.zarrs_codec_chain.specs.Places.{Places}
 
 -- A chain as functions of values. Everything that calls a chain speaks of it by these and their law.
@@ -86,6 +87,8 @@ pub record IsLawfulChain (chain : ChainMeaning) : Type 0 where
       → IsUpdated s part given held (chunk_cells chain k f s (after change stored))
   -- a read of a part needs no place past the bytes
   pub places_inside : (k : Kind) (s : List ℕ) (part : Box) (b : List ℕ) (place : ℕ) → chain.places k s part b place ≡ true → place < length b
+  -- and these places decide its cells
+  pub places_decide : PlacesDecide chain.decoded chain.places
 
 -- the bytes of a chunk's data, if it is one cell for each position of the chunk
 abbrev pub chunk_encoding : ChainMeaning → Bool → Kind → Cell → List ℕ → ArrayData → Option (List ℕ)

@@ -1,9 +1,11 @@
 pub mod Chain
+pub mod Deciding
 pub mod Options
 pub mod Refusals
 pub mod BytesInto
 pub mod Parts
 pub mod Places
 pub mod PartRefusals
+pub mod ShardChains
 pub mod ShardInto
 pub mod ShardParts

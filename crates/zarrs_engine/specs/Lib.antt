@@ -9,6 +9,8 @@ pub mod Resizes
 pub mod Comparisons
 pub mod PartialDecoders
 pub mod ReadLaws
+pub mod PlaceLaws
+pub mod ShardCompactions
 pub mod Outcomes
 pub mod Patches
 pub mod PartialEncoders

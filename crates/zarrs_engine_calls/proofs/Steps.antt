@@ -24,7 +24,7 @@ use Rattle.zarrs_engine_calls.specs.Outcome.{Outcome, outcome_of}
 use Rattle.zarrs_engine_calls.specs.Step.{ActOutcome, ActStep, Run, Step}
 use Rattle.zarrs_engine_calls.specs.Events.{Course, Event, event_of, events_of, one_event}
 use Rattle.zarrs_engine_calls.specs.Laws.{EachDecodes, StepsAreEvents}
-use Rattle.zarrs_engine_calls.specs.Laws.{HistoriesAgree, EqualCountsAgree, CountsWrites, chunks_written}
+use Rattle.zarrs_engine_calls.specs.Laws.{EqualCountsAgree, CountsWrites, chunks_written}
 use Rattle.zarrs_engine_calls.specs.Laws.{WritesKeep, WritesKeepCanon, WritesKeepDecoding}
 use Rattle.zarrs_engine_calls.specs.Laws.{RunsAreCourses, CoursesKeepCanon, CoursesKeepDecoding, CoursesKeepReach, CoursesKeepOtherKeys}
 use Rattle.zarrs_engine_calls.specs.Laws.{CoursesAgree, CourseCountsAgree, EventsCount}
@@ -306,12 +306,6 @@ pub run_decodes : (layout : Layout) → IsLawful layout → (keep : Bool) (calls
     → Run layout keep calls replies old new → EachDecodes layout old.store → EachDecodes layout new.store
 run_decodes layout lawful keep calls replies old new r =
     courses_keep_decoding layout lawful keep (events_of layout calls replies) old new (runs_are_courses layout keep calls replies old new r)
-
-pub histories_agree : HistoriesAgree
-histories_agree layout lawful a b p q =
-    courses_agree layout lawful a b
-    (events_of layout p.0 p.1, p.2, p.3, runs_are_courses layout false p.0 p.1 p.2 a p.4)
-    (events_of layout q.0 q.1, q.2, q.3, runs_are_courses layout false q.0 q.1 q.2 b q.4)
 
 pub equal_counts_agree : EqualCountsAgree
 equal_counts_agree layout keep calls replies old new r =

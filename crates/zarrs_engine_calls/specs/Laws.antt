@@ -78,17 +78,6 @@ CanonicalMapsAreOne =
     → ((position : List ℕ) → is_covered layout.grid position ≡ true → f position ≡ g position)
     → (m n : Values) → IsCanonicalMap layout f m → IsCanonicalMap layout g n → m ≡ n
 
--- a run from a store without a chunk, if empty chunks are not kept
-abbrev pub IsHistory : Layout → ArrayState → Type 0
-IsHistory layout new =
-    (calls : List Call) × (replies : List Reply) × (old : ArrayState) × HasNoChunk layout old.store × Run layout false calls replies old new
-
--- two histories from stores without a chunk have equal content exactly if they have equal bytes
-abbrev pub HistoriesAgree : Type 0
-HistoriesAgree =
-    (layout : Layout) → IsLawful layout → (a b : ArrayState) → IsHistory layout a → IsHistory layout b
-    → HaveEqualContent layout a.store b.store ↔ HaveEqualBytes layout a.store b.store
-
 -- between two states of a run with equally many accepted writing calls no value changed (stated by sums, since the
 -- numbers of a store are any)
 abbrev pub EqualCountsAgree : Type 0

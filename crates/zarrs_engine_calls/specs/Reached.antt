@@ -1,20 +1,16 @@
 -- The answer to a call depends on what the call may ask alone.
 use Rattle.std.specs.Prelude.{◌≡◌, ◌⊎◌, ℕ, true, Bool, List, length, Option, None, Some, slice_get}
-use Rattle.zarrs_subset.specs.Boxes.{place}
-use Rattle.zarrs_subset.specs.Regions.{Box, IsLong, Holds, box_at_origin}
+use Rattle.zarrs_subset.specs.Regions.{Box, IsLong, Holds}
 use Rattle.zarrs_chunk_grid.specs.Grids.{box_at, chunks_box, has_box}
 use Rattle.zarrs_storage.specs.Store.{StoreState}
 use Rattle.zarrs_data_type.specs.ArrayData.{ArrayData}
-use Rattle.zarrs_data_type.specs.Kind.{Kind}
-use Rattle.zarrs_data_type.specs.Cell.{Cell}
-use Rattle.zarrs_codec_chain.specs.Chain.{ChainMeaning}
 use Rattle.zarrs_engine_calls.specs.Layout.{ArrayState, Layout, IsLawful}
 use Rattle.zarrs_engine_calls.specs.Content.{value_at, content}
 use Rattle.zarrs_engine_calls.specs.Changes.{RetrievesChunk}
 use Rattle.zarrs_engine_calls.specs.ChunkBoxes.{part_box}
 use Rattle.zarrs_engine_calls.specs.declared.call.Call.{Call}
 use Rattle.zarrs_engine_calls.specs.declared.call.Reply.{Reply}
-use Rattle.zarrs_engine_calls.specs.Laws.{EachDecodes}
+use Rattle.zarrs_engine_calls.specs.Laws.{DecodesOver}
 use Rattle.zarrs_engine_calls.specs.Reach.{Reach, chunk_part, location_refusal}
 use Rattle.zarrs_engine_calls.specs.Step.{RetrievesChunks, RetrievesPart, RetrievesRegion, Step}
 
@@ -47,16 +43,6 @@ AnswersDependOnTheReach =
 
 -- ---- places
 
--- What a chain decodes at a part hangs on the length of the bytes and on those places alone that a read of the part needs,
--- if both decode. (A law that lawful chains are to have; it is not one of `IsLawfulChain` yet.)
-abbrev pub PlacesDecide : ChainMeaning → Type 0
-PlacesDecide chain =
-    (kind : Kind) (fill : Cell) (shape : List ℕ) (part : Box) (x y : List ℕ) (cs ds : List Cell)
-    → chain.decoded kind fill shape x ≡ Some cs → chain.decoded kind fill shape y ≡ Some ds → length y ≡ length x
-    → ((n : ℕ) → chain.places kind shape part x n ≡ true → slice_get y n ≡ slice_get x n)
-    → (position : List ℕ) → Holds (box_at_origin shape) position → Holds part position
-    → slice_get ds (place shape position) ≡ slice_get cs (place shape position)
-
 -- both values are absent, or both are as long and have the same byte at each place that a read of the region needs
 abbrev pub AgreeInPart : Layout → Box → Box → Option (List ℕ) → Option (List ℕ) → Type 0
 AgreeInPart layout region chunk None None = Unit {0}
@@ -71,27 +57,30 @@ AgreeAtPlaces layout region a b =
     (index position : List ℕ) → has_box layout.grid index ≡ true → Holds region position → Holds (box_at layout.grid index) position
     → AgreeInPart layout region (box_at layout.grid index) (value_at a (layout.key index)) (value_at b (layout.key index))
 
--- Two stores whose chunks decode, and that agree at the places that a read of the region needs, have the same cells over it:
--- so has each read of it that is accepted, into a target or by a decoder too.
+-- for a read of the region the stores are the same: the chunks of both that have a position of it decode, and both agree at
+-- the places that the read needs
+pub record AgreeForRead (layout : Layout) (region : Box) (a b : StoreState) : Type 0 where
+  pub decodes : DecodesOver layout region a
+  pub other_decodes : DecodesOver layout region b
+  pub places : AgreeAtPlaces layout region a b
+
+-- then they have the same cells over it: so has each read of it that is accepted, into a target or by a decoder too
 abbrev pub CellsDependOnPlaces : Type 0
 CellsDependOnPlaces =
-    (layout : Layout) → IsLawful layout → PlacesDecide layout.chain → (region : Box) (a b : StoreState)
-    → EachDecodes layout a → EachDecodes layout b → AgreeAtPlaces layout region a b
+    (layout : Layout) → IsLawful layout → (region : Box) (a b : StoreState) → AgreeForRead layout region a b
     → (position : List ℕ) → Holds region position → content layout (value_at b) position ≡ content layout (value_at a) position
 
 -- what an accepted read of the one returns an accepted read of the other may return: of a chunk, of a part of it, of the
 -- chunks of a range, of a region
 pub record AreReadAlike (layout : Layout) (shape : List ℕ) (a b : StoreState) : Type 0 where
-  pub chunk : (index : List ℕ) (held : ArrayData) → AgreeAtPlaces layout (box_at layout.grid index) a b
+  pub chunk : (index : List ℕ) (held : ArrayData) → AgreeForRead layout (box_at layout.grid index) a b
       → RetrievesChunk layout index held a → RetrievesChunk layout index held b
-  pub part : (index : List ℕ) (part : Box) (held : ArrayData) → AgreeAtPlaces layout (part_box (box_at layout.grid index) part) a b
+  pub part : (index : List ℕ) (part : Box) (held : ArrayData) → AgreeForRead layout (part_box (box_at layout.grid index) part) a b
       → RetrievesPart layout index part held a → RetrievesPart layout index part held b
-  pub chunks : (range : Box) (held : ArrayData) → IsLong range → AgreeAtPlaces layout (chunks_box layout.grid range) a b
+  pub chunks : (range : Box) (held : ArrayData) → IsLong range → AgreeForRead layout (chunks_box layout.grid range) a b
       → RetrievesChunks layout shape range held a → RetrievesChunks layout shape range held b
-  pub region : (region : Box) (held : ArrayData) → AgreeAtPlaces layout region a b
+  pub region : (region : Box) (held : ArrayData) → AgreeForRead layout region a b
       → RetrievesRegion layout shape region held a → RetrievesRegion layout shape region held b
 
 abbrev pub ReadsDependOnPlaces : Type 0
-ReadsDependOnPlaces =
-    (layout : Layout) → IsLawful layout → PlacesDecide layout.chain → (shape : List ℕ) (a b : StoreState)
-    → EachDecodes layout a → EachDecodes layout b → AreReadAlike layout shape a b
+ReadsDependOnPlaces = (layout : Layout) → IsLawful layout → (shape : List ℕ) (a b : StoreState) → AreReadAlike layout shape a b

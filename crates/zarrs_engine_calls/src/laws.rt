@@ -8,7 +8,7 @@ ghost use Rattle.zarrs_engine_calls.specs.Laws.{CoursesAgree, CoursesKeepCanon, 
 ghost use Rattle.zarrs_engine_calls.specs.Laws.{CoursesKeepOtherKeys, CoursesKeepReach, CutsAreRight};
 ghost use Rattle.zarrs_engine_calls.specs.Laws.{DisjointEventsAgree, DisjointWritesAgree, EmptyStoresAreCanonical};
 ghost use Rattle.zarrs_engine_calls.specs.Laws.{EmptyStoresAreFill, EqualCountsAgree, EventPartsMakeTheRegion};
-ghost use Rattle.zarrs_engine_calls.specs.Laws.{EventReadsOfDecodingChunks, EventsCount, HistoriesAgree};
+ghost use Rattle.zarrs_engine_calls.specs.Laws.{EventReadsOfDecodingChunks, EventsCount};
 ghost use Rattle.zarrs_engine_calls.specs.Laws.{PartsMakeTheRegion, ReadAfterStore, RefusedShapeChanges};
 ghost use Rattle.zarrs_engine_calls.specs.Laws.{RunsAreCourses, SameChunksHaveSameCells, ShapeChangesKeepOutside};
 ghost use Rattle.zarrs_engine_calls.specs.Laws.{StepsAreEvents, StoreAfterRead, WritesKeepCanon, WritesKeepDecoding};
@@ -29,7 +29,7 @@ pub fn an_array_is_one_function()
 
 /// What a call may answer over one store it may answer over any other that agrees with it where the call may ask, and both
 /// are changed alike. Of a read that needs a part of a chunk alone, by a call, a decoder or into a target, the places that it
-/// needs are enough.
+/// needs are enough, if the chunks that it meets decode.
 pub fn answers_depend_on_the_reach()
     ensures keys { AnswersDependOnTheReach }
     ensures places { CellsDependOnPlaces }
@@ -71,13 +71,6 @@ pub fn canonical_stores_are_their_map()
 /// Functions that agree at each position that a chunk covers have one map.
 pub fn canonical_maps_are_one()
     ensures { CanonicalMapsAreOne }
-{}
-
-/// Two histories of calls have equal content exactly if the same bytes are present at each chunk key: the bytes are a
-/// function of the content, whichever calls made it, in whatever order. A history begins at a store without a chunk and
-/// keeps no empty chunks; no call at all is a history.
-pub fn histories_agree()
-    ensures { HistoriesAgree }
 {}
 
 /// Between two states of a run with equally many accepted writing calls no value changed. So a store that stops at any
@@ -181,7 +174,8 @@ pub fn courses_keep_other_keys()
 {}
 
 /// Two courses from stores without a chunk, which keep no empty chunks, have equal content exactly if the same bytes are
-/// present at each chunk key.
+/// present at each chunk key: the bytes are a function of the content, whichever calls made it, in whatever order. No call
+/// at all is a course, and a list of calls is one by `runs_are_courses`.
 pub fn courses_agree()
     ensures { CoursesAgree }
 {}

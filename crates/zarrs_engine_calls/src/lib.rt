@@ -25,7 +25,7 @@ pub use laws::{
     courses_keep_decoding, courses_keep_other_keys, courses_keep_reach, cuts_are_right,
     disjoint_events_agree, disjoint_writes_agree, empty_stores_are_canonical,
     empty_stores_are_fill, equal_counts_agree, event_parts_make_the_region,
-    event_reads_of_decoding_chunks, events_count, histories_agree, parts_make_the_region,
-    read_after_store, refused_shape_changes, runs_are_courses, same_chunks_have_same_cells,
+    event_reads_of_decoding_chunks, events_count, parts_make_the_region, read_after_store,
+    refused_shape_changes, runs_are_courses, same_chunks_have_same_cells,
     shape_changes_keep_outside, store_after_read, writes_keep_canon, writes_keep_decoding,
 };
