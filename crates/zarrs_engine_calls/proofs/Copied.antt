@@ -31,7 +31,7 @@ use Rattle.zarrs_engine_calls.proofs.Below.{cut_right}
 use Rattle.zarrs_engine_calls.proofs.CutLaws.{and_left}
 use Rattle.zarrs_engine_calls.proofs.CutLoops.{cuts_all}
 use Rattle.zarrs_engine_calls.specs.Fronts.{CutsAll, ErasesAll, Front, HasWriteCause, StoresAll, Takes}
-use Rattle.zarrs_engine_calls.specs.StateRefusals.{AreCut, AreUpdated, CallFails, IsCutAs, IsPart, IsRefusedAs, RefusesCut, RefusesErasure, RefusesKeptCut, RefusesPart}
+use Rattle.zarrs_engine_calls.specs.StateRefusals.{AreUpdated, CallFails, IsCutAs, IsPart, IsRefusedAs, RefusesCut, RefusesErasure, RefusesKeptCut, RefusesPart}
 use Rattle.zarrs_engine_calls.specs.Acts.{act_of, compact, erase, resize, shape_left, store}
 use Rattle.zarrs_engine_calls.specs.ArgumentRefusals.{argument_refusal, cells_refusal, chunk_refusal, part_refusal, range_refusal, region_data_refusal, region_refusal}
 use Rattle.zarrs_engine_calls.specs.ArgumentRefusals.{resize_refusal, store_chunk_refusal, store_chunks_refusal, store_part_refusal, store_region_refusal}
@@ -526,20 +526,20 @@ cut_boxed grid shape wanted index among =
 module _ (layout : Layout) (lawful : IsLawful layout) (keep : Bool) (wanted index : List ℕ) (failed : ℕ) (x y : StoreState)
     (has : has_box layout.grid index ≡ true) (calls : y.calls ≡ x.calls)
     (same : keeps_some layout.grid wanted index ≡ true → AgreeAt layout x y index) where
-  cut_same : keeps_some layout.grid wanted index ≡ true → (chunk : List Cell)
-      → AreCut layout wanted (box_at layout.grid index) x chunk → AreCut layout wanted (box_at layout.grid index) y chunk
-  cut_same kept chunk cut = record {
-    count = cut.count;
-    each = λ position holds.
-        cut.each position holds
-        ∙ ap (λ o. cond (is_below wanted position) o (Some layout.fill))
-        (sym (content_in_box layout (value_at y) lawful index has position holds
-        ∙ ap (λ t. chunk_cell layout t (box_at layout.grid index) position) (same kept).values
-        ∙ sym (content_in_box layout (value_at x) lawful index has position holds)));
-  }
-
   cut_as : keeps_some layout.grid wanted index ≡ true → (r : Option Refusal) → IsCutAs layout keep wanted index x r → IsCutAs layout keep wanted index y r
-  cut_as kept r such = (such.0, cut_same kept such.0 such.1, such.2)
+  cut_as kept r such = (
+    such.0,
+    record {
+      count = such.1.count;
+      each = λ position holds.
+          such.1.each position holds
+          ∙ ap (λ o. cond (is_below wanted position) o (Some layout.fill))
+          (sym (content_in_box layout (value_at y) lawful index has position holds
+          ∙ ap (λ t. chunk_cell layout t (box_at layout.grid index) position) (same kept).values
+          ∙ sym (content_in_box layout (value_at x) lawful index has position holds)));
+    },
+    such.2,
+  )
 
   kept_late : keeps_some layout.grid wanted index ≡ true → (r : Refusal) → RefusesKeptCut layout keep wanted index failed x r → RefusesKeptCut layout keep wanted index failed y r
   kept_late kept refusal.storage (inl (none, is)) = inl (none, (same kept).refuses ∙ is)
@@ -548,9 +548,7 @@ module _ (layout : Layout) (lawful : IsLawful layout) (keep : Bool) (wanted inde
   kept_late kept refusal.codec (none, small, inl bad) = (none, small, inl (broken layout lawful x y index (same kept) bad))
   kept_late kept refusal.codec (none, small, inr such) = (none, small, inr (cut_as kept (Some refusal.codec) such))
   kept_late kept refusal.size_overflow (none, inl large) = (none, inl large)
-  kept_late kept refusal.size_overflow (none, inr (inl (inl large))) = (none, inr (inl (inl (large_box layout lawful x y index (same kept) has large))))
-  kept_late kept refusal.size_overflow (none, inr (inl (inr (inl fill)))) = (none, inr (inl (inr (inl (large_fill layout lawful x y index (same kept) fill)))))
-  kept_late kept refusal.size_overflow (none, inr (inl (inr (inr chunk)))) = (none, inr (inl (inr (inr (chunk.0, cut_same kept chunk.0 chunk.1, chunk.2)))))
+  kept_late kept refusal.size_overflow (none, inr (inl fill)) = (none, inr (inl fill))
   kept_late kept refusal.size_overflow (none, inr (inr such)) = (none, inr (inr (cut_as kept (Some refusal.size_overflow) such)))
   kept_late kept refusal.out_of_memory why = why
   kept_late kept r why = absurd why

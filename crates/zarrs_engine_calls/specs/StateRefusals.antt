@@ -108,14 +108,9 @@ IsCutAs layout keep shape index state r =
     (chunk : List Cell) × AreCut layout shape (box_at layout.grid index) state chunk
     × (data_refusal layout keep (box_at layout.grid index).shape (Some chunk) ≡ r)
 
--- and these cells hold more bytes than a usize counts
-abbrev pub IsLargeCut : Layout → List ℕ → List ℕ → StoreState → Type 0
-IsLargeCut layout shape index state = (chunk : List Cell) × AreCut layout shape (box_at layout.grid index) state chunk × AreLarge chunk
-
 -- Why a chunk that has a position below the shape is not cut to it, in the store state at that moment: its key refuses
 -- to be read, or the writing call failed (E7); it does not decode, or the chain takes no such chunk (E4); the size of the
--- chunk, of its cells before or after, of one that is all fill where its bytes leave out cells, or of its bytes (E8); out of
--- memory (E9).
+-- chunk, of one that is all fill, or of its bytes (E8); out of memory (E9).
 abbrev pub RefusesKeptCut : Layout → Bool → List ℕ → List ℕ → ℕ → StoreState → Refusal → Type 0
 RefusesKeptCut layout keep shape index failed new refusal.storage =
     ((failed ≡ 0) × (new.refuses (layout.key index) ≡ true))
@@ -126,7 +121,7 @@ RefusesKeptCut layout keep shape index failed new refusal.codec =
 RefusesKeptCut layout keep shape index failed new refusal.size_overflow =
     (failed ≡ 0)
     × ((is_too_large layout (box_at layout.grid index).shape ≡ true)
-    ⊎ (IsLargeBox layout (box_at layout.grid index) new ⊎ NeedsLargeFill layout index new ⊎ IsLargeCut layout shape index new)
+    ⊎ (fill_refusal layout (box_at layout.grid index).shape ≡ Some refusal.size_overflow)
     ⊎ IsCutAs layout keep shape index new (Some refusal.size_overflow))
 RefusesKeptCut layout keep shape index failed new refusal.out_of_memory = Unit {0}
 RefusesKeptCut layout keep shape index failed new _ = ⊥
