@@ -16,7 +16,7 @@ use Rattle.zarrs_engine_calls.specs.declared.error.ArrayError.{ArrayError}
 use Rattle.zarrs_engine.proofs.Canon.{store_canon}
 use Rattle.zarrs_engine.proofs.Puts.{each_error}
 use Rattle.zarrs_engine_calls.specs.Refusals.{refusal_of}
-use Rattle.zarrs_engine_calls.proofs.Met.{shares}
+use Rattle.zarrs_engine_calls.proofs.MetParts.{shares}
 use Rattle.zarrs_engine_calls.proofs.RefusalLemmas.{refuses_said, second_refusal}
 use Rattle.zarrs_engine.specs.Engine.{layout_of}
 use Rattle.zarrs_engine.proofs.PatchedRegions.{patches_as, refuses_as, region_early, region_patch_early, region_patched, region_refuses, supported_parts}
