@@ -58,33 +58,34 @@ module _ (layout : Layout) (index : List ℕ) (part : Box) (held : ArrayData) wh
   part_first long there inside =
       second_refusal first_length _ (length_accepted long) ∙ second_refusal (chunk_refusal layout index) _ there ∙ second_refusal (part_refusal layout index part) _ inside
 
-  module _ (keep : Bool) (state : StoreState) (r : Refusal) where
-    early : RefusesBy (store_part_refusal layout index part held) r → RefusesStorePart layout keep index part held r state state
-    early why = refused_early _ _ _ _ state why
+  -- the arguments refuse it
+  pub stores_early : (keep : Bool) (state : StoreState) (r : Refusal) → RefusesBy (store_part_refusal layout index part held) r → RefusesStorePart layout keep index part held r state state
+  stores_early keep state r why = refused_early _ _ _ _ state why
 
+  module _ (r : Refusal) where
     -- another number of indices
-    pub part_length : (length index ≢ layout.grid.dimensions) → RefusesBy (Some (refusal.dimensionality (length index) layout.grid.dimensions)) r → RefusesStorePart layout keep index part held r state state
+    pub part_length : (length index ≢ layout.grid.dimensions) → RefusesBy (Some (refusal.dimensionality (length index) layout.grid.dimensions)) r → RefusesBy (store_part_refusal layout index part held) r
     part_length wrong why =
         let apart : (length index == layout.grid.dimensions) ≡ false = elim (cases_Bool (length index == layout.grid.dimensions)) [
           | inl is ↦ absurd (wrong (eqb-true _ _ is))
           | inr is_not ↦ is_not
         ] in
         let said = ap (λ b. refuse_if (not b) (refusal.dimensionality (length index) layout.grid.dimensions)) apart in
-        early (refused_first first_length _ r (subst (λ (o : Option Refusal). RefusesBy o r) (sym said) why))
+        refused_first first_length _ r (subst (λ (o : Option Refusal). RefusesBy o r) (sym said) why)
 
     -- no such chunk
-    pub part_chunk : length index ≡ layout.grid.dimensions → RefusesBy (chunk_refusal layout index) r → RefusesStorePart layout keep index part held r state state
-    part_chunk long why = early (refused_second first_length _ r (length_accepted long) (refused_first (chunk_refusal layout index) _ r why))
+    pub part_chunk : length index ≡ layout.grid.dimensions → RefusesBy (chunk_refusal layout index) r → RefusesBy (store_part_refusal layout index part held) r
+    part_chunk long why = refused_second first_length _ r (length_accepted long) (refused_first (chunk_refusal layout index) _ r why)
 
     -- the part passes the chunk
-    pub part_passing : length index ≡ layout.grid.dimensions → chunk_refusal layout index ≡ None → RefusesBy (part_refusal layout index part) r → RefusesStorePart layout keep index part held r state state
+    pub part_passing : length index ≡ layout.grid.dimensions → chunk_refusal layout index ≡ None → RefusesBy (part_refusal layout index part) r → RefusesBy (store_part_refusal layout index part held) r
     part_passing long there why =
-        early (refused_second first_length _ r (length_accepted long) (refused_second (chunk_refusal layout index) _ r there (refused_first (part_refusal layout index part) _ r why)))
+        refused_second first_length _ r (length_accepted long) (refused_second (chunk_refusal layout index) _ r there (refused_first (part_refusal layout index part) _ r why))
 
     -- the data is not stored over the part
     pub part_data : length index ≡ layout.grid.dimensions → chunk_refusal layout index ≡ None → part_refusal layout index part ≡ None
-        → RefusesBy (box_data_refusal layout (is_whole_of (box_at layout.grid index).shape part) part.shape held) r → RefusesStorePart layout keep index part held r state state
-    part_data long there inside why = early (subst (λ (o : Option Refusal). RefusesBy o r) (sym (part_first long there inside)) why)
+        → RefusesBy (box_data_refusal layout (is_whole_of (box_at layout.grid index).shape part) part.shape held) r → RefusesBy (store_part_refusal layout index part held) r
+    part_data long there inside why = subst (λ (o : Option Refusal). RefusesBy o r) (sym (part_first long there inside)) why
 
   module _ (keep : Bool) (long : length index ≡ layout.grid.dimensions) (there : chunk_refusal layout index ≡ None) (inside : part_refusal layout index part ≡ None)
       (fits : box_data_refusal layout (is_whole_of (box_at layout.grid index).shape part) part.shape held ≡ None)
@@ -110,7 +111,7 @@ module _ (layout : Layout) (index : List ℕ) (part : Box) (held : ArrayData) wh
 -- the same, from what the steps of the call leave
 module _ (layout : Layout) (lawful : IsLawful layout) (index : List ℕ) (part chunk region : Box) (part_long : IsLong part) (chunk_is : chunk ≡ box_at layout.grid index) (region_is : region ≡ part_box chunk part)
     (there : chunk_refusal layout index ≡ None) (inside : part_refusal layout index part ≡ None) (held : ArrayData) where
-  stored_at : region ≡ part_box (box_at layout.grid index) part
+  pub stored_at : region ≡ part_box (box_at layout.grid index) part
   stored_at = region_is ∙ ap (λ (b : Box). part_box b part) chunk_is
 
   stored_cover : CoverRegion layout.grid (part_box (box_at layout.grid index) part) (index ∷ [])
@@ -135,8 +136,8 @@ module _ (layout : Layout) (lawful : IsLawful layout) (index : List ℕ) (part c
     pub accepted_part : box_data_refusal layout whole region.shape held ≡ None → store_part_refusal layout index part held ≡ None
     accepted_part fits = part_first layout index part held index_length there inside ∙ sym data_is ∙ fits
 
-    pub data_refuses : (keep : Bool) (r : Refusal) (state : StoreState) → RefusesBy (box_data_refusal layout whole region.shape held) r → RefusesStorePart layout keep index part held r state state
-    data_refuses keep r state why = part_data layout index part held keep state r index_length there inside (subst (λ (o : Option Refusal). RefusesBy o r) data_is why)
+    pub data_refuses : (r : Refusal) → RefusesBy (box_data_refusal layout whole region.shape held) r → RefusesBy (store_part_refusal layout index part held) r
+    data_refuses r why = part_data layout index part held r index_length there inside (subst (λ (o : Option Refusal). RefusesBy o r) data_is why)
 
     module _ (keep : Bool) (fits : box_data_refusal layout whole region.shape held ≡ None) (given : HasCells layout.kind held (position_count region.shape)) (old new : StoreState) where
       given_part : HasCells layout.kind held (position_count part.shape)

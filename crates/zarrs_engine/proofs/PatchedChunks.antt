@@ -1,17 +1,19 @@
 -- A chunk of which a part was written by itself.
-use Rattle.std.proofs.Common.{◌≡◌, ℕ, ◌+◌, ◌-◌, ◌<◌, Bool, true, cond, ◌&&◌, List, [], ◌∷◌, length, replicate, Option, Some, None, refl, sym, ap, subst, ◌∙◌, arith}
+use Rattle.std.proofs.Common.{◌≡◌, ℕ, suc, ◌+◌, ◌-◌, ◌<◌, ◌≤◌, Bool, true, cond, ◌&&◌, List, [], ◌∷◌, length, replicate, max, min, slice_index, Option, Some, None, refl, sym, ap, subst, ◌∙◌, arith}
 use Rattle.std.specs.Prelude.{IsSome, option_and_then, slice_get}
 use Rattle.std.proofs.lemmas.Bool.{and_parts, leb-true}
 use Rattle.std.proofs.lemmas.Bool.Decides.{nat_tests}
-use Rattle.zarrs_subset.specs.Boxes.{position_count, InShape, in_range, is_within, offset_by, offset_from, place}
-use Rattle.zarrs_subset.specs.Regions.{Box, Holds, box_at_origin, cell_in, in_box, place_in}
+use Rattle.zarrs_subset.specs.Boxes.{position_count, InShape, in_range, is_within, offset_by, offset_from, overlap_extents, overlap_start, place, zip_with}
+use Rattle.zarrs_subset.specs.Regions.{Box, Holds, IsLong, LiesInShape, box_at_origin, cell_in, in_box, overlap_of, place_in, seen_from}
 use Rattle.zarrs_subset.proofs.Positions.{offset_from-in}
 use Rattle.zarrs_chunk_grid.specs.Grids.{box_at, has_box}
 use Rattle.zarrs_chunk_grid.proofs.Chunks.{box_long}
 use Rattle.zarrs_storage.specs.Store.{StoreState}
+use Rattle.zarrs_data_type.specs.Kind.{Kind}
 use Rattle.zarrs_data_type.specs.Cell.{Cell}
 use Rattle.zarrs_data_type.specs.ArrayData.{ArrayData}
 use Rattle.zarrs_data_type.specs.Cells.{HasCells, cells}
+use Rattle.zarrs_data_type.specs.Parts.{ExtractsCells}
 use Rattle.zarrs_data_type_bytes.proofs.Cells.{cells-values, HasCells-cells}
 use Rattle.zarrs_codec_shard.specs.PartialShards.{PartialChange, after, IsUpdated}
 use Rattle.zarrs_codec_chain.specs.Chain.{chunk_cells, partial_encoding}
@@ -19,10 +21,12 @@ use Rattle.zarrs_engine_calls.specs.Layout.{Layout, IsLawful}
 use Rattle.zarrs_engine_calls.specs.Content.{value_at, content, Reads}
 use Rattle.zarrs_engine_calls.specs.Changes.{IsPut}
 use Rattle.zarrs_engine_calls.specs.ChunkBoxes.{part_box}
-use Rattle.zarrs_engine_calls.specs.Patches.{PatchesAll, known_cells}
+use Rattle.zarrs_engine_calls.specs.Patches.{HoldsPart, known_cells}
+use Rattle.zarrs_engine_calls.specs.Reach.{chunk_part}
 use Rattle.zarrs_engine_calls.proofs.Contents.{only_member, reads_absent, reads_decoded}
 use Rattle.zarrs_engine_calls.proofs.Loops.{put_changes}
 use Rattle.zarrs_engine_layout.proofs.CutWalks.{number_is}
+use Rattle.zarrs_engine.specs.Patches.{PatchesChunk}
 
 -- ---- positions of a chunk, seen from its origin
 
@@ -69,6 +73,64 @@ holds_origin (n ∷ s) (i ∷ p) is =
     let here : in_range 0 n i ≡ true = grind (arith, nat_tests) in
     ap (λ t. t && is_within (replicate (length s) 0) s p) here ∙ holds_origin s p is.1
 
+-- ---- a part inside a chunk is the part that its box has of it
+
+-- along each dimension the part ends in the chunk
+abbrev Ends : List ℕ → List ℕ → List ℕ → Type 0
+Ends s e n = (k : ℕ) → k < length n → slice_index s k + slice_index e k ≤ slice_index n k
+
+start_inside : (c s : List ℕ) → length s ≡ length c → overlap_start (offset_by c s) c ≡ offset_by c s
+start_inside [] [] same = refl
+start_inside [] (x ∷ s) same = absurd (omega arith)
+start_inside (a ∷ c) [] same = absurd (omega arith)
+start_inside (a ∷ c) (x ∷ s) same =
+    let here : max (a + x) a ≡ a + x = omega arith in
+    ap (λ v. v ∷ overlap_start (offset_by c s) c) here ∙ ap (λ (l : List ℕ). (a + x) ∷ l) (start_inside c s (omega arith))
+
+seen_inside : (c s : List ℕ) → length s ≡ length c → zip_with (λ s t. s - t) (offset_by c s) c ≡ s
+seen_inside [] [] same = refl
+seen_inside [] (x ∷ s) same = absurd (omega arith)
+seen_inside (a ∷ c) [] same = absurd (omega arith)
+seen_inside (a ∷ c) (x ∷ s) same =
+    let here : a + x - a ≡ x = omega arith in
+    ap (λ v. v ∷ zip_with (λ s t. s - t) (offset_by c s) c) here ∙ ap (λ (l : List ℕ). x ∷ l) (seen_inside c s (omega arith))
+
+shape_inside : (c n s e : List ℕ) → length c ≡ length n → length s ≡ length n → length e ≡ length n → Ends s e n
+    → overlap_extents (offset_by c s) e c n ≡ e
+shape_inside [] [] [] [] long same wide ends = refl
+shape_inside [] [] [] (y ∷ e) long same wide ends = absurd (omega arith)
+shape_inside [] [] (x ∷ s) e long same wide ends = absurd (omega arith)
+shape_inside [] (m ∷ n) s e long same wide ends = absurd (omega arith)
+shape_inside (a ∷ c) [] s e long same wide ends = absurd (omega arith)
+shape_inside (a ∷ c) (m ∷ n) [] e long same wide ends = absurd (omega arith)
+shape_inside (a ∷ c) (m ∷ n) (x ∷ s) [] long same wide ends = absurd (omega arith)
+shape_inside (a ∷ c) (m ∷ n) (x ∷ s) (y ∷ e) long same wide ends =
+    let first : x + y ≤ m = ends 0 (omega arith) in
+    let here : min (a + x + y) (a + m) - max (a + x) a ≡ y = omega arith in
+    ap (λ v. v ∷ overlap_extents (offset_by c s) e c n) here
+    ∙ ap (λ (l : List ℕ). y ∷ l) (shape_inside c n s e (omega arith) (omega arith) (omega arith) (λ k below. ends (suc k) (omega arith)))
+
+module _ (chunk part : Box) (long : IsLong chunk) (wide : IsLong part) (lies : LiesInShape part chunk.shape) where
+  pub overlap_inside : overlap_of (part_box chunk part) chunk ≡ part_box chunk part
+  overlap_inside =
+      let same : length part.start ≡ length chunk.start = lies.same_length ∙ sym long in
+      ap (λ (start : List ℕ). record { start = start; shape = overlap_extents (offset_by chunk.start part.start) part.shape chunk.start chunk.shape }) (start_inside chunk.start part.start same)
+      ∙ ap (λ (shape : List ℕ). record { start = offset_by chunk.start part.start; shape = shape })
+      (shape_inside chunk.start chunk.shape part.start part.shape long lies.same_length (sym wide ∙ lies.same_length) lies.ends)
+
+  pub own_part : part ≡ chunk_part (part_box chunk part) chunk
+  own_part =
+      sym (ap (λ (b : Box). seen_from b chunk.start) overlap_inside
+      ∙ ap (λ (start : List ℕ). record { start = start; shape = part.shape }) (seen_inside chunk.start part.start (lies.same_length ∙ sym long)))
+
+-- data over such a part has its own cells there
+pub own_cells : (k : Kind) (chunk part : Box) → IsLong chunk → IsLong part → LiesInShape part chunk.shape → (held : ArrayData) → HasCells k held (position_count part.shape)
+    → ExtractsCells k (part_box chunk part) held (overlap_of (part_box chunk part) chunk) held
+own_cells k chunk part long wide lies held fits =
+    let found = HasCells-cells k held (position_count part.shape) fits in
+    subst (λ (b : Box). ExtractsCells k (part_box chunk part) held b held) (sym (overlap_inside chunk part long wide lies))
+    (record { held = found.0; made = found.0; old_is = found.1; new_is = found.1; count = found.2; same = λ position holds. refl })
+
 -- ---- what a chunk is afterwards
 
 module _ (layout : Layout) (lawful : IsLawful layout) (index : List ℕ) (has : has_box layout.grid index ≡ true) where
@@ -114,10 +176,16 @@ module _ (layout : Layout) (lawful : IsLawful layout) (index : List ℕ) (has : 
 
   -- what a partial encode was written for is in the chunk
   module _ (keep : Bool) (part : Box) (held : ArrayData) (key : List ℕ) (change : PartialChange) (old new : StoreState)
-      (same : length part.start ≡ length box.shape) (wide : length part.shape ≡ length box.shape)
+      (part_long : IsLong part) (lies : LiesInShape part box.shape)
       (fits : HasCells layout.kind held (position_count part.shape)) (key_is : key ≡ layout.key index)
       (written : partial_encoding layout.chain keep layout.kind layout.fill box.shape (value_at old (layout.key index)) part held ≡ Some change)
       (put : IsPut key (after change (value_at old key)) old new) where
+    same : length part.start ≡ length box.shape
+    same = lies.same_length
+
+    wide : length part.shape ≡ length box.shape
+    wide = sym part_long ∙ same
+
     found : (cs : List Cell) × (cells layout.kind held ≡ Some cs) × (length cs ≡ position_count part.shape)
     found = HasCells-cells layout.kind held (position_count part.shape) fits
 
@@ -135,7 +203,22 @@ module _ (layout : Layout) (lawful : IsLawful layout) (index : List ℕ) (has : 
         (lawful.chain.partly_updates keep layout.kind layout.fill box.shape (value_at old (layout.key index)) part found.0 cs change
         lawful.filled (cells-values layout.kind held found.0 found.1) found.2 same wide encoded known)
 
-    pub patched : PatchesAll layout (part_box box part) held (index ∷ []) old new
+    -- the key holds what the partial encode makes of what stood there
+    holds_part : HoldsPart layout keep (part_box box part) found.0 index old new
+    holds_part =
+        let long = box_long layout.grid index in
+        let region = part_box box part in
+        record {
+          taken = found.0;
+          reads = subst (λ (b : Box). Reads (cell_in region found.0) b found.0) (sym (overlap_inside box part long part_long lies))
+              (record { count = found.2; each = λ position holds. refl });
+          change = change;
+          encoded = subst (λ (b : Box). layout.chain.partly_encoded keep layout.kind layout.fill box.shape (value_at old (layout.key index)) b found.0 ≡ Some change)
+              (own_part box part long part_long lies) encoded;
+          held = stands;
+        }
+
+    pub patched : PatchesChunk layout keep index part held old new
     patched = record {
       takes = record {
         given = found.0;
@@ -144,9 +227,11 @@ module _ (layout : Layout) (lawful : IsLawful layout) (index : List ℕ) (has : 
         patches = record {
           boxed = λ i among. subst (λ (j : List ℕ). has_box layout.grid j ≡ true) (sym (only_member index i among)) has;
           keys = put_changes layout index key _ old new key_is put;
+          whole = λ i among not. absurd (not tt);
+          partly = λ i among itself. subst (λ (j : List ℕ). HoldsPart layout keep (part_box box part) found.0 j old new) (sym (only_member index i among)) holds_part;
           inside = λ i among known position holds.
               let is = only_member index i among in
-              let here : IsSome (known_cells layout index old) = subst (λ (j : List ℕ). IsSome (known_cells layout j old)) is known in
+              let here : IsSome (known_cells layout index old) = subst (λ (j : List ℕ). IsSome (known_cells layout j old)) is (known tt) in
               let in_here : Holds box position = subst (λ (j : List ℕ). Holds (box_at layout.grid j) position) is holds in
               inside_some (known_cells layout index old) refl here position in_here;
         };

@@ -1,6 +1,6 @@
 -- The part of a region that lies in one chunk, written by itself.
-use Rattle.std.proofs.Common.{◌≡◌, ℕ, zero, suc, ◌+◌, ◌-◌, ◌<◌, ◌≤◌, Bool, true, false, cond, ◌&&◌, List, [], ◌∷◌, length, slice_index, min, max, Some, refl, sym, ap, subst, ◌∙◌, arith}
-use Rattle.std.specs.Prelude.{SomeIndex, IsSomeAnd}
+use Rattle.std.proofs.Common.{◌≡◌, ℕ, suc, ◌+◌, ◌-◌, ◌<◌, ◌≤◌, Bool, true, false, cond, ◌&&◌, List, [], ◌∷◌, length, slice_index, min, max, Some, refl, sym, ap, subst, ◌∙◌, arith}
+use Rattle.std.specs.Prelude.{Contains, IsSomeAnd}
 use Rattle.zarrs_subset.specs.Boxes.{position_count, offset_by, overlap_extents, overlap_start, zip_with}
 use Rattle.zarrs_subset.specs.Regions.{Box, IsLong, LiesInShape, cell_in, in_box, overlap_of, seen_from, LiesInBox}
 use Rattle.zarrs_subset.specs.Refusals.{RefusesOffset}
@@ -15,12 +15,16 @@ use Rattle.zarrs_data_type.specs.ArrayData.{ArrayData}
 use Rattle.zarrs_data_type.specs.Cells.{HasCells, cells}
 use Rattle.zarrs_data_type.specs.Parts.{ExtractsCells}
 use Rattle.zarrs_engine_calls.specs.Layout.{Layout}
-use Rattle.zarrs_engine_calls.specs.Content.{value_at, content}
+use Rattle.zarrs_engine_calls.specs.Content.{value_at, content, Reads}
 use Rattle.zarrs_engine_calls.specs.Errors.{error_of_subset}
-use Rattle.zarrs_engine_calls.specs.Refusals.{refusal_of}
+use Rattle.zarrs_engine_calls.specs.Refusals.{Refusal, out_of_memory, refusal_of}
 use Rattle.zarrs_engine_calls.specs.ChunkBoxes.{part_box}
-use Rattle.zarrs_engine_calls.specs.Patches.{PatchesAll, RefusesPartly}
-use Rattle.zarrs_engine_calls.proofs.Contents.{only_member}
+use Rattle.zarrs_engine_calls.specs.Patches.{HoldsPart, PatchesAll}
+use Rattle.zarrs_engine_calls.specs.Reach.{chunk_part}
+use Rattle.zarrs_engine_calls.proofs.Contents.{member, only_member}
+use Rattle.zarrs_engine.specs.Patches.{LeavesPartly, LeavesPatch, PatchesChunk, Shares}
+use Rattle.zarrs_engine.proofs.PatchRefusals.{partly_leaves_patch}
+use Rattle.zarrs_engine.proofs.PatchedChunks.{overlap_inside}
 
 -- what is seen from a corner and put there again is what it was
 offset_back : (b s : List ℕ) → length s ≡ length b → ((k : ℕ) → k < length b → slice_index b k ≤ slice_index s k) → offset_by b (zip_with (λ s t. s - t) s b) ≡ s
@@ -51,21 +55,14 @@ module _ (region chunk : Box) (long : IsLong region) (chunk_long : IsLong chunk)
   extent_at k below = overlap_extents-at region.start region.shape chunk.start chunk.shape k long chunk_long same below
 
   -- the part is seen from the chunk's origin: only memory may be short
-  pub offset_partly : (layout : Layout) (keep : Bool) (index : List ℕ) (state : StoreState) (e : ArraySubsetError) → RefusesOffset shared.start chunk.start e → RefusesPartly layout keep index 0 state (refusal_of (error_of_subset e))
-  offset_partly layout keep index state (subset.IncompatibleDimensionality mismatch) why = absurd (why.0 (sym (starts_len ∙ same)))
-  offset_partly layout keep index state subset.EndOverflow why = absurd why
-  offset_partly layout keep index state subset.EndBelowStart why = absurd why
-  offset_partly layout keep index state subset.StartBelowOffset (equal, (k, below, under)) = absurd (let a = start_at k (omega (arith, same)) in omega arith)
-  offset_partly layout keep index state subset.OutOfMemory why = tt
+  pub offset_memory : (e : ArraySubsetError) → RefusesOffset shared.start chunk.start e → refusal_of (error_of_subset e) ≡ out_of_memory
+  offset_memory (subset.IncompatibleDimensionality mismatch) why = absurd (why.0 (sym (starts_len ∙ same)))
+  offset_memory subset.EndOverflow why = absurd why
+  offset_memory subset.EndBelowStart why = absurd why
+  offset_memory subset.StartBelowOffset (equal, (k, below, under)) = absurd (let a = start_at k (omega (arith, same)) in omega arith)
+  offset_memory subset.OutOfMemory why = refl
 
-  module _ (some : SomeIndex shared.shape (λ k. slice_index shared.shape k ≡ 0) → ⊥) where
-    positive : (k : ℕ) → k < length region.start → 0 < slice_index shared.shape k
-    positive k below = go (slice_index shared.shape k) refl
-      where
-        go : (n : ℕ) → slice_index shared.shape k ≡ n → 0 < n
-        go zero is = absurd (some (k, omega (arith, extents_len), is))
-        go (suc n) is = omega arith
-
+  module _ (positive : Shares region chunk) where
     pub shared_in_region : LiesInBox shared region
     shared_in_region = record {
       same_length = starts_len;
@@ -99,12 +96,38 @@ module _ (region chunk : Box) (long : IsLong region) (chunk_long : IsLong chunk)
     part_back = ap (λ (start : List ℕ). record { start = start; shape = shared.shape })
         (offset_back chunk.start shared.start (starts_len ∙ same) (λ k below. let a = start_at k (omega (arith, same)) in omega arith))
 
-    module _ (layout : Layout) (index : List ℕ) (chunk_is : chunk ≡ box_at layout.grid index) (held made : ArrayData) (e : ExtractsCells layout.kind region held shared made)
+    -- the chunk has all of it
+    shared_inside : overlap_of shared chunk ≡ shared
+    shared_inside = subst (λ (b : Box). overlap_of b chunk ≡ b) part_back
+        (overlap_inside chunk part chunk_long (part_start_len ∙ sym same ∙ sym extents_len) part_lies)
+
+    module _ (layout : Layout) (keep : Bool) (itself : List ℕ → Type 0) (index : List ℕ) (is : itself index) (chunk_is : chunk ≡ box_at layout.grid index)
+        (held made : ArrayData) (e : ExtractsCells layout.kind region held shared made)
         (count : (cs : List Cell) → cells layout.kind held ≡ Some cs → length cs ≡ position_count region.shape) (old new : StoreState) where
+      -- so what its key holds for the part is what it holds for the region
+      region_holds : (given : List Cell) → given ≡ e.made → HoldsPart layout keep shared given index old new → HoldsPart layout keep region e.held index old new
+      region_holds given given_is h =
+          let box = box_at layout.grid index in
+          let here = subst (λ (b : Box). Reads (cell_in shared given) (overlap_of shared b) h.taken) (sym chunk_is) h.reads in
+          let all = subst (λ (b : Box). Reads (cell_in shared given) b h.taken) shared_inside here in
+          let there : Reads (cell_in region e.held) shared h.taken = record {
+            count = all.count;
+            each = λ position holds. sym (e.same position holds) ∙ ap (λ (cs : List Cell). cell_in shared cs position) (sym given_is) ∙ all.each position holds;
+          } in
+          let part_same : chunk_part shared box ≡ chunk_part region box =
+          ap (chunk_part shared) (sym chunk_is) ∙ ap (λ (b : Box). seen_from b chunk.start) shared_inside ∙ ap (chunk_part region) chunk_is in
+          record {
+            taken = h.taken;
+            reads = subst (λ (b : Box). Reads (cell_in region e.held) (overlap_of region b) h.taken) chunk_is there;
+            change = h.change;
+            encoded = subst (λ (b : Box). layout.chain.partly_encoded keep layout.kind layout.fill box.shape (value_at old (layout.key index)) b h.taken ≡ Some h.change) part_same h.encoded;
+            held = h.held;
+          }
+
       -- the cells that were taken out are those of the region in this chunk
-      pub patched_region : PatchesAll layout (part_box chunk part) made (index ∷ []) old new → PatchesAll layout region held (index ∷ []) old new
+      pub patched_region : PatchesAll layout keep (λ i. Unit {0}) (part_box chunk part) made (index ∷ []) old new → PatchesAll layout keep itself region held (index ∷ []) old new
       patched_region p =
-          let q = subst (λ (b : Box). PatchesAll layout b made (index ∷ []) old new) part_back p in
+          let q = subst (λ (b : Box). PatchesAll layout keep (λ i. Unit {0}) b made (index ∷ []) old new) part_back p in
           let one : Some q.takes.given ≡ Some e.made = sym q.takes.are_cells ∙ e.new_is in
           let given_is : q.takes.given ≡ e.made = cc in
           record {
@@ -115,14 +138,18 @@ module _ (region chunk : Box) (long : IsLong region) (chunk_long : IsLong chunk)
               patches = record {
                 boxed = q.takes.patches.boxed;
                 keys = q.takes.patches.keys;
+                whole = λ i among not. absurd (not (here i among));
+                partly = λ i among _.
+                    subst (λ (j : List ℕ). HoldsPart layout keep region e.held j old new) (sym (only_member index i among))
+                    (region_holds q.takes.given given_is (q.takes.patches.partly index (member index) tt));
                 inside = λ i among known position holds.
-                    let here : in_box chunk position ≡ true =
+                    let inside : in_box chunk position ≡ true =
                     ap (λ (b : Box). in_box b position) (chunk_is ∙ ap (box_at layout.grid) (sym (only_member index i among))) ∙ holds in
                     let both : in_box shared position ≡ in_box region position =
                     in_box-overlap region.start region.shape chunk.start chunk.shape position long chunk_long same
-                    ∙ ap (λ b. in_box region position && b) here
+                    ∙ ap (λ b. in_box region position && b) inside
                     ∙ and_true (in_box region position) in
-                    q.takes.patches.inside i among known position holds
+                    q.takes.patches.inside i among (λ _. known (here i among)) position holds
                     ∙ ap (λ (cs : List Cell). cond (in_box shared position) (cell_in shared cs position) (content layout (value_at old) position)) given_is
                     ∙ taken (in_box shared position) position refl
                     ∙ ap (λ b. cond b (cell_in region e.held position) (content layout (value_at old) position)) both;
@@ -131,46 +158,51 @@ module _ (region chunk : Box) (long : IsLong region) (chunk_long : IsLong chunk)
             makes = q.makes;
           }
         where
+          here : (i : List ℕ) → Contains (index ∷ []) i → itself i
+          here i among = subst itself (sym (only_member index i among)) is
+
           and_true : (b : Bool) → b && true ≡ b
           and_true true = refl
           and_true false = refl
 
           taken : (b : Bool) (position : List ℕ) → in_box shared position ≡ b → cond b (cell_in shared e.made position) (content layout (value_at old) position) ≡ cond b (cell_in region e.held position) (content layout (value_at old) position)
-          taken true position is = e.same position is
-          taken false position is = refl
+          taken true position at = e.same position at
+          taken false position at = refl
 
 -- the same of the boxes that the code makes
 module _ (region chunk shared part : Box) (long : IsLong region) (chunk_long : IsLong chunk) (same : length region.start ≡ length chunk.start)
     (shared_is : shared ≡ overlap_of region chunk) where
-  pub offset_refused : (layout : Layout) (keep : Bool) (index : List ℕ) (state : StoreState) (e : ArraySubsetError) → RefusesOffset shared.start chunk.start e → RefusesPartly layout keep index 0 state (refusal_of (error_of_subset e))
-  offset_refused layout keep index state e why =
-      offset_partly region chunk long chunk_long same layout keep index state e (subst (λ (b : Box). RefusesOffset b.start chunk.start e) shared_is why)
+  pub offset_short : (e : ArraySubsetError) → RefusesOffset shared.start chunk.start e → refusal_of (error_of_subset e) ≡ out_of_memory
+  offset_short e why = offset_memory region chunk long chunk_long same e (subst (λ (b : Box). RefusesOffset b.start chunk.start e) shared_is why)
 
-  module _ (some : SomeIndex shared.shape (λ k. slice_index shared.shape k ≡ 0) → ⊥) where
-    meets : SomeIndex (overlap_of region chunk).shape (λ k. slice_index (overlap_of region chunk).shape k ≡ 0) → ⊥
-    meets = subst (λ (b : Box). SomeIndex b.shape (λ k. slice_index b.shape k ≡ 0) → ⊥) shared_is some
-
+  module _ (positive : Shares region chunk) where
     pub shared_lies : LiesInBox shared region
-    shared_lies = subst (λ (b : Box). LiesInBox b region) (sym shared_is) (shared_in_region region chunk long chunk_long same meets)
+    shared_lies = subst (λ (b : Box). LiesInBox b region) (sym shared_is) (shared_in_region region chunk long chunk_long same positive)
 
     module _ (part_is : part ≡ seen_from shared chunk.start) where
-      seen : part ≡ seen_from (overlap_of region chunk) chunk.start
+      seen : part ≡ chunk_part region chunk
       seen = part_is ∙ ap (λ (b : Box). seen_from b chunk.start) shared_is
 
       pub part_inside : LiesInShape part chunk.shape
-      part_inside = subst (λ (b : Box). LiesInShape b chunk.shape) (sym seen) (part_lies region chunk long chunk_long same meets)
+      part_inside = subst (λ (b : Box). LiesInShape b chunk.shape) (sym seen) (part_lies region chunk long chunk_long same positive)
 
       pub part_counts : position_count part.shape ≡ position_count shared.shape
       part_counts = ap (λ (b : Box). position_count b.shape) part_is
 
-      module _ (layout : Layout) (index : List ℕ) (chunk_is : chunk ≡ box_at layout.grid index) (held made : ArrayData) (e : ExtractsCells layout.kind region held shared made)
-          (given : HasCells layout.kind held (position_count region.shape)) (old new : StoreState) where
-        count : (cs : List Cell) → cells layout.kind held ≡ Some cs → length cs ≡ position_count region.shape
-        count cs is = subst (λ o. IsSomeAnd o (λ (xs : List Cell). length xs ≡ position_count region.shape)) is given
+      module _ (layout : Layout) (keep : Bool) (itself : List ℕ → Type 0) (index : List ℕ) (is : itself index) (chunk_is : chunk ≡ box_at layout.grid index)
+          (held made : ArrayData) (e : ExtractsCells layout.kind region held shared made) (old new : StoreState) where
+        extracts : ExtractsCells layout.kind region held (overlap_of region chunk) made
+        extracts = subst (λ (b : Box). ExtractsCells layout.kind region held b made) shared_is e
 
-        pub patched_shared : PatchesAll layout (part_box (box_at layout.grid index) part) made (index ∷ []) old new → PatchesAll layout region held (index ∷ []) old new
-        patched_shared p =
-            let here = subst (λ (b : Box). PatchesAll layout (part_box b part) made (index ∷ []) old new) (sym chunk_is) p in
-            let there = subst (λ (b : Box). PatchesAll layout (part_box chunk b) made (index ∷ []) old new) seen here in
-            patched_region region chunk long chunk_long same meets layout index chunk_is held made
-            (subst (λ (b : Box). ExtractsCells layout.kind region held b made) shared_is e) count old new there
+        pub patched_shared : HasCells layout.kind held (position_count region.shape) → PatchesChunk layout keep index part made old new → PatchesAll layout keep itself region held (index ∷ []) old new
+        patched_shared given p =
+            let here = subst (λ (b : Box). PatchesAll layout keep (λ i. Unit {0}) (part_box b part) made (index ∷ []) old new) (sym chunk_is) p in
+            let there = subst (λ (b : Box). PatchesAll layout keep (λ i. Unit {0}) (part_box chunk b) made (index ∷ []) old new) seen here in
+            let count : (cs : List Cell) → cells layout.kind held ≡ Some cs → length cs ≡ position_count region.shape =
+            λ cs at. subst (λ o. IsSomeAnd o (λ (xs : List Cell). length xs ≡ position_count region.shape)) at given in
+            patched_region region chunk long chunk_long same positive layout keep itself index is chunk_is held made extracts count old new there
+
+        pub shared_left : (r : Refusal) → LeavesPartly layout keep index part made r old new → LeavesPatch layout keep itself region held index r old new
+        shared_left r l =
+            partly_leaves_patch layout keep itself region held index part made (seen ∙ ap (chunk_part region) chunk_is)
+            (subst (λ (b : Box). ExtractsCells layout.kind region held (overlap_of region b) made) chunk_is extracts) r old new is l

@@ -29,7 +29,7 @@ use Rattle.zarrs_engine_calls.specs.Step.{StoresRegion, RefusesStoreRegion, Step
 use Rattle.zarrs_engine_calls.specs.Layout.{ArrayState, Layout}
 use Rattle.zarrs_engine_calls.specs.declared.call.Call.{Call}
 use Rattle.zarrs_engine_calls.specs.declared.call.Reply.{Reply}
-use Rattle.zarrs_engine_calls.specs.Patches.{PatchStep, PatchesPart, RefusesPatchPart, PatchesRegion, RefusesPatchRegion}
+use Rattle.zarrs_engine_calls.specs.Patches.{EncodesPart, PatchStep, PatchesPart, PatchesRegion, RefusesEncodePart, RefusesPatchPart, RefusesPatchRegion, writes_parts}
 use Rattle.zarrs_engine_calls.specs.declared.error.ArrayError.{ArrayError}
 use Rattle.zarrs_engine.specs.Engine.{layout_of, store_of, state_of, KeepsLayout}
 use Rattle.zarrs_engine.specs.declared.engine.Engine.{Engine}
@@ -39,11 +39,11 @@ pub record Reads (returns : ArrayData → Type 0) (refuses : Refusal → Type 0)
   pub cells : IfOk result (λ made. returns (data_of made))
   pub refused : IfErr result (λ e. refuses (refusal_of e))
 
--- The engine may return this reply to the call and go from old to new with these options: by a step, and if parts may be
--- written by themselves by one that says nothing of what the keys of the chunks that were stored hold.
+-- The engine may return this reply to the call and go from old to new with these options: by a step that says of each chunk
+-- whether it took its part by itself, and by one of whole chunks if none does.
 pub record StepsAs (layout : Layout) (options : CodecOptions) (call : Call) (reply : Reply) (old new : ArrayState) : Type 0 where
-  pub whole : encodes_partially options ≡ false → Step layout (stores_empty_chunks options) call reply old new
-  pub partly : PatchStep layout (stores_empty_chunks options) call reply old new
+  pub whole : writes_parts (encodes_partially options) layout old.store ≡ false → Step layout (stores_empty_chunks options) call reply old new
+  pub partly : PatchStep layout (stores_empty_chunks options) (encodes_partially options) call reply old new
 
 module _ {S G K C : Type 0} {g : GridMeaning G} {k : KeyMeaning K} {c : ChainMeanings C} where
   -- A writing call was made: its write is done, or refused by this error. Nothing but the store changed.
@@ -181,26 +181,34 @@ module _ {S G K C : Type 0} {g : GridMeaning G} {k : KeyMeaning K} {c : ChainMea
       let now = state_of state engine in
       region_refusal layout now.shape region ≡ None → MayReadParts layout region (chunks_met layout.grid region) now.store
 
-  -- a store over a part of a chunk whose parts may be written by themselves
-  abbrev pub PatchesPartOrRefuses : (S → StoreState) → Bool → List ℕ → Box → ArrayData
+  -- a store over a part of a chunk, whose parts are written by themselves where that is asked for
+  abbrev pub PatchesPartOrRefuses : (S → StoreState) → Bool → Bool → List ℕ → Box → ArrayData
       → Engine S G K C g k c → Engine S G K C g k c → Result (Unit {0}) ArrayError → Type 0
-  PatchesPartOrRefuses state keep index part held old =
-      Writes refusal_of state (PatchesPart (layout_of old) index part held) (RefusesPatchPart (layout_of old) keep index part held) old
+  PatchesPartOrRefuses state keep asked index part held old =
+      Writes refusal_of state (PatchesPart (layout_of old) keep asked index part held) (RefusesPatchPart (layout_of old) keep asked index part held) old
 
-  -- a store over a part of a chunk with these options: whole chunks are stored, unless parts may be written by themselves
+  -- a part of a chunk that an encoder writes
+  abbrev pub EncodesPartOrRefuses : (S → StoreState) → Bool → List ℕ → Box → ArrayData
+      → Engine S G K C g k c → Engine S G K C g k c → Result (Unit {0}) ArrayError → Type 0
+  EncodesPartOrRefuses state keep index part held old =
+      Writes refusal_of state (EncodesPart (layout_of old) keep index part held) (RefusesEncodePart (layout_of old) keep index part held) old
+
+  -- a store over a part of a chunk with these options: the whole chunk is stored if no part is written by itself
   pub record StoresPartAs (state : S → StoreState) (options : CodecOptions) (index : List ℕ) (part : Box) (held : ArrayData)
       (old new : Engine S G K C g k c) (result : Result (Unit {0}) ArrayError) : Type 0 where
-    pub whole : encodes_partially options ≡ false → StoresPartOrRefuses state (stores_empty_chunks options) index part held old new result
-    pub partly : PatchesPartOrRefuses state (stores_empty_chunks options) index part held old new result
+    pub whole : writes_parts (encodes_partially options) (layout_of old) (store_of state old) ≡ false
+        → StoresPartOrRefuses state (stores_empty_chunks options) index part held old new result
+    pub partly : PatchesPartOrRefuses state (stores_empty_chunks options) (encodes_partially options) index part held old new result
 
   -- the same over a region
-  abbrev pub PatchesRegionOrRefuses : (S → StoreState) → Bool → Box → ArrayData
+  abbrev pub PatchesRegionOrRefuses : (S → StoreState) → Bool → Bool → Box → ArrayData
       → Engine S G K C g k c → Engine S G K C g k c → Result (Unit {0}) ArrayError → Type 0
-  PatchesRegionOrRefuses state keep region held old =
+  PatchesRegionOrRefuses state keep asked region held old =
       let shape = (state_of state old).shape in
-      Writes refusal_of state (PatchesRegion (layout_of old) shape region held) (RefusesPatchRegion (layout_of old) keep shape region held) old
+      Writes refusal_of state (PatchesRegion (layout_of old) keep asked shape region held) (RefusesPatchRegion (layout_of old) keep asked shape region held) old
 
   pub record StoresRegionAs (state : S → StoreState) (options : CodecOptions) (region : Box) (held : ArrayData)
       (old new : Engine S G K C g k c) (result : Result (Unit {0}) ArrayError) : Type 0 where
-    pub whole : encodes_partially options ≡ false → StoresRegionOrRefuses state (stores_empty_chunks options) region held old new result
-    pub partly : PatchesRegionOrRefuses state (stores_empty_chunks options) region held old new result
+    pub whole : writes_parts (encodes_partially options) (layout_of old) (store_of state old) ≡ false
+        → StoresRegionOrRefuses state (stores_empty_chunks options) region held old new result
+    pub partly : PatchesRegionOrRefuses state (stores_empty_chunks options) (encodes_partially options) region held old new result

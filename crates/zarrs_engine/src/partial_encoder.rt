@@ -79,7 +79,7 @@ impl<
     ghost use Rattle.zarrs_engine_calls.specs.ArgumentRefusals.{part_refusal};
     ghost use Rattle.zarrs_engine_calls.specs.Reach.{MayAskChunk};
     ghost use Rattle.zarrs_engine.specs.Engine.{layout_of, store_of};
-    ghost use Rattle.zarrs_engine.specs.Outcomes.{ErasesEncodedOrRefuses, PatchesPartOrRefuses};
+    ghost use Rattle.zarrs_engine.specs.Outcomes.{EncodesPartOrRefuses, ErasesEncodedOrRefuses};
     ghost use Rattle.zarrs_engine.specs.PartialEncoders.{engine_of, indices_of, loan_of};
 
     /// Stores the cells over a part of the chunk, as `Engine::partial_encode` does, by one writing call of the store.
@@ -97,7 +97,7 @@ impl<
             (box_of chunk_subset.now) ≡ None
             → MayAskChunk (layout_of (engine_of self.old)) (indices_of self.old)
             (store_of S.state (engine_of self.old)) }
-        ensures encodes { PatchesPartOrRefuses S.state (stores_empty_chunks options.now)
+        ensures encodes { EncodesPartOrRefuses S.state (stores_empty_chunks options.now)
             (indices_of self.old) (box_of chunk_subset.now) (data_of bytes.now)
             (engine_of self.old) (engine_of self.new) result }
         ensures same_loan { loan_of self.new ≡ loan_of self.old }

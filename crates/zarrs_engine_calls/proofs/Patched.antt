@@ -30,7 +30,7 @@ use Rattle.zarrs_engine_calls.specs.Refusals.{refusal_of}
 use Rattle.zarrs_engine_calls.specs.Step.{ActOutcome}
 use Rattle.zarrs_engine_calls.specs.Events.{Event, event_of, events_of, one_event}
 use Rattle.zarrs_engine_calls.specs.Laws.{EachDecodes}
-use Rattle.zarrs_engine_calls.specs.Patches.{PatchActStep, PatchRun, Patches, PatchesAll, RefusesPatches, TakesPatches, known_cells}
+use Rattle.zarrs_engine_calls.specs.Patches.{IsPatched, PatchActStep, PatchRun, Patches, PatchesAll, RefusesPatches, TakesPatches, known_cells}
 use Rattle.zarrs_engine_calls.specs.Fronts.{is_in_chunks}
 use Rattle.zarrs_engine_calls.specs.Headline.{Change, IsOneFunctionThrough, PatchedRunsAreOneFunction, cell_at, made}
 use Rattle.zarrs_engine_calls.proofs.Contents.{content_covered, content_uncovered, covered_has_box, in_chunk, index_list, member}
@@ -138,8 +138,8 @@ known_of : (layout : Layout) (index : List ℕ) (stored : Option (List ℕ))
 known_of layout index None decodes = refl
 known_of layout index (Some encoded) decodes = ap is_some (decodes encoded refl).1
 
-module _ (layout : Layout) (lawful : IsLawful layout) (region : Box) (given : List Cell) (indices : List (List ℕ)) (old new : StoreState)
-    (p : Patches layout region given indices old new) (each : EachDecodes layout old) where
+module _ (layout : Layout) (lawful : IsLawful layout) (keep : Bool) (itself : List ℕ → Type 0) (region : Box) (given : List Cell) (indices : List (List ℕ))
+    (old new : StoreState) (p : Patches layout keep itself region given indices old new) (each : EachDecodes layout old) where
   known : (index : List ℕ) → has_box layout.grid index ≡ true → IsSome (known_cells layout index old)
   known index has = known_of layout index (value_at old (layout.key index)) (λ encoded at. each index encoded has at)
 
@@ -147,7 +147,7 @@ module _ (layout : Layout) (lawful : IsLawful layout) (region : Box) (given : Li
       → content layout (value_at new) position ≡ cond (in_box region position) (cell_in region given position) (content layout (value_at old) position)
   patched_inside position covered among =
       let index = index_at layout.grid position in
-      p.inside index among (known index (p.boxed index among)) position (in_chunk layout lawful index position covered refl)
+      p.inside index among (λ _. known index (p.boxed index among)) position (in_chunk layout lawful index position covered refl)
 
   uncovered_same : (position : List ℕ) → is_covered layout.grid position ≡ false → content layout (value_at new) position ≡ content layout (value_at old) position
   uncovered_same position uncovered = content_uncovered layout (value_at new) position uncovered ∙ sym (content_uncovered layout (value_at old) position uncovered)
@@ -197,18 +197,18 @@ module _ (layout : Layout) (lawful : IsLawful layout) (region : Box) (given : Li
         let start = (box_at layout.grid i).start in
         let holds = first_held layout.grid lawful.grid i has in
         let c = some_cell start (box_covered layout.grid lawful.grid i start (box_is_there layout.grid i has) holds) in
-        known_decodes layout lawful (value_at new) i encoded start c.0 has at holds (p.inside i among (known i has) start holds ∙ c.1))
+        known_decodes layout lawful (value_at new) i encoded start c.0 has at holds (p.inside i among (λ _. known i has) start holds ∙ c.1))
         each
 
 -- ---- steps
 
-module _ (layout : Layout) (lawful : IsLawful layout) (keep : Bool) (old new : ArrayState) (each : EachDecodes layout old.store) where
-  module _ (region : Box) (held : ArrayData) (chunks : List (List ℕ)) where
+module _ (layout : Layout) (lawful : IsLawful layout) (keep asked : Bool) (old new : ArrayState) (each : EachDecodes layout old.store) where
+  module _ (itself : List ℕ → Type 0) (region : Box) (held : ArrayData) (chunks : List (List ℕ)) where
     abbrev put_at : List ℕ → Option Cell
     put_at position = option_and_then (λ given. cell_in region given position) (cells layout.kind held)
 
     -- an accepted store
-    patched_made : IsStoredBy layout region chunks → PatchesAll layout region held chunks old.store new.store → Change layout (store region held chunks) outcome.done old new
+    patched_made : IsStoredBy layout region chunks → PatchesAll layout keep itself region held chunks old.store new.store → Change layout (store region held chunks) outcome.done old new
     patched_made stored s =
         let t = s.takes in (
           record {
@@ -217,10 +217,10 @@ module _ (layout : Layout) (lawful : IsLawful layout) (keep : Bool) (old new : A
                 let is : put_at position ≡ cell_in region t.given position = ap (λ o. option_and_then (λ given. cell_in region given position) o) t.are_cells in
                 elim (cases_Bool (in_box region position)) [
                   | inl holds ↦
-                      patched_inside layout lawful region t.given chunks old.store new.store t.patches each position (stored.covered position holds) (stored.meets position holds)
+                      patched_inside layout lawful keep itself region t.given chunks old.store new.store t.patches each position (stored.covered position holds) (stored.meets position holds)
                       ∙ ap (λ o. cond (in_box region position) o was) (sym is)
                   | inr out ↦
-                      patched_beside layout lawful region t.given chunks old.store new.store t.patches each position out
+                      patched_beside layout lawful keep itself region t.given chunks old.store new.store t.patches each position out
                       ∙ sym (ap (λ b. cond b (put_at position) was) out)
                 ];
             keys = t.patches.keys;
@@ -229,24 +229,24 @@ module _ (layout : Layout) (lawful : IsLawful layout) (keep : Bool) (old new : A
         )
 
     -- a refused one, in the chunks that took their part
-    patched_part : (indices : List (List ℕ)) → TakesPatches layout region held indices old.store new.store → (position : List ℕ)
+    patched_part : (indices : List (List ℕ)) → TakesPatches layout keep itself region held indices old.store new.store → (position : List ℕ)
         → cell_at layout new position ≡ cond (is_in_chunks layout indices position) (made layout old.shape (store region held chunks) (cell_at layout old) position) (cell_at layout old position)
     patched_part indices t position =
         let was = cell_at layout old position in
         let is : put_at position ≡ cell_in region t.given position = ap (λ o. option_and_then (λ given. cell_in region given position) o) t.are_cells in
         by_chunks layout old.store new.store indices position (cond (in_box region position) (put_at position) was)
         (λ covered among.
-        patched_inside layout lawful region t.given indices old.store new.store t.patches each position covered among
+        patched_inside layout lawful keep itself region t.given indices old.store new.store t.patches each position covered among
         ∙ ap (λ o. cond (in_box region position) o was) (sym is))
-        (λ apart. patched_outside layout lawful region t.given indices old.store new.store t.patches each position apart)
+        (λ apart. patched_outside layout lawful keep itself region t.given indices old.store new.store t.patches each position apart)
 
     part_decodes : (first : Option Refusal) (r : Refusal) → (first ≡ None → IsStoredBy layout region chunks)
-        → RefusesPatches layout keep first region held chunks r old.store new.store → EachDecodes layout new.store
+        → RefusesPatches layout keep itself first region held chunks r old.store new.store → EachDecodes layout new.store
     part_decodes first r right s = elim s.cause [
       | inl early ↦ subst (AllDecode layout) (ap (λ values. map.get values) (sym (s.front.untouched early.1))) each
       | inr (index, where_at, why) ↦
-          front_keeps (λ indices. TakesPatches layout region held indices old.store new.store) chunks s.done s.failed old.store new.store (AllDecode layout)
-          (λ indices t was. patched_decodes layout lawful region t.given indices old.store new.store t.patches was (right why.0).long t.count)
+          front_keeps (λ indices. TakesPatches layout keep itself region held indices old.store new.store) chunks s.done s.failed old.store new.store (AllDecode layout)
+          (λ indices t was. patched_decodes layout lawful keep itself region t.given indices old.store new.store t.patches was (right why.0).long t.count)
           s.front each
     ]
 
@@ -260,16 +260,16 @@ module _ (layout : Layout) (lawful : IsLawful layout) (keep : Bool) (old new : A
       )
 
   patched_change : (first : Option Refusal) (act : Act) (reply : Reply) → IsStoredRight layout first act → new.shape ≡ shape_after act reply old.shape
-      → PatchActStep layout keep old.shape first act reply old.store new.store → Change layout act (outcome_of reply) old new × EachDecodes layout new.store
+      → PatchActStep layout keep asked old.shape first act reply old.store new.store → Change layout act (outcome_of reply) old new × EachDecodes layout new.store
   patched_change first (store region held chunks) Done right shape s =
       let t = s.1.takes in (
-        patched_made region held chunks (right s.0) s.1,
-        patched_decodes layout lawful region t.given chunks old.store new.store t.patches each (right s.0).long t.count,
+        patched_made (IsPatched layout asked region old.store) region held chunks (right s.0) s.1,
+        patched_decodes layout lawful keep (IsPatched layout asked region old.store) region t.given chunks old.store new.store t.patches each (right s.0).long t.count,
       )
   patched_change first (store region held chunks) (Refused e) right shape s = (
     in_part layout lawful keep old new (store region held chunks) chunks _ _ _ s
-        (λ position t. patched_part region held chunks (take s.done chunks) t position) (λ t. t.patches.keys),
-    part_decodes region held chunks first (refusal_of e) right s,
+        (λ position t. patched_part (IsPatched layout asked region old.store) region held chunks (take s.done chunks) t position) (λ t. t.patches.keys),
+    part_decodes (IsPatched layout asked region old.store) region held chunks first (refusal_of e) right s,
   )
   patched_change first (store region held chunks) (Compacted answer) right shape s = absurd s
   patched_change first (store region held chunks) (Cells found) right shape s = absurd s
@@ -283,22 +283,22 @@ module _ (layout : Layout) (lawful : IsLawful layout) (keep : Bool) (old new : A
 -- ---- runs
 
 pub patched_runs_one : PatchedRunsAreOneFunction
-patched_runs_one layout lawful keep [] [] old new each run = record { one_each = refl; function = none_happened layout old new each run }
-patched_runs_one layout lawful keep (call ∷ calls) (reply ∷ replies) old new each run =
+patched_runs_one layout lawful keep asked [] [] old new each run = record { one_each = refl; function = none_happened layout old new each run }
+patched_runs_one layout lawful keep asked (call ∷ calls) (reply ∷ replies) old new each run =
     let mid = run.0 in
     let shape = run.1.0 in
-    let step = patched_change layout lawful keep old mid each (argument_refusal layout old.shape call) (act_of layout call) reply (stored_right layout lawful old.shape call) shape run.1.1 in
-    let rest = patched_runs_one layout lawful keep calls replies mid new step.1 run.2 in
+    let step = patched_change layout lawful keep asked old mid each (argument_refusal layout old.shape call) (act_of layout call) reply (stored_right layout lawful old.shape call) shape run.1.1 in
+    let rest = patched_runs_one layout lawful keep asked calls replies mid new step.1 run.2 in
     record {
       one_each = ap suc rest.one_each;
       function = one_more layout (event_of layout call reply) (events_of layout calls replies) old mid new each step.0 shape rest.function;
     }
-patched_runs_one layout lawful keep [] (reply ∷ replies) old new each run = absurd run
-patched_runs_one layout lawful keep (call ∷ calls) [] old new each run = absurd run
+patched_runs_one layout lawful keep asked [] (reply ∷ replies) old new each run = absurd run
+patched_runs_one layout lawful keep asked (call ∷ calls) [] old new each run = absurd run
 
 -- the same of a loop that has made all of its calls
-pub patched_all_one : (layout : Layout) → IsLawful layout → (keep : Bool) (calls : List Call) (n : ℕ) (replies : List Reply) (old new : ArrayState)
-    → length calls ≤ n → PatchRun layout keep (take n calls) replies old new → EachDecodes layout old.store → IsOneFunctionThrough layout calls replies old new
-patched_all_one layout lawful keep calls n replies old new all run each =
+pub patched_all_one : (layout : Layout) → IsLawful layout → (keep asked : Bool) (calls : List Call) (n : ℕ) (replies : List Reply) (old new : ArrayState)
+    → length calls ≤ n → PatchRun layout keep asked (take n calls) replies old new → EachDecodes layout old.store → IsOneFunctionThrough layout calls replies old new
+patched_all_one layout lawful keep asked calls n replies old new all run each =
     subst (λ (made : List Call). IsOneFunctionThrough layout made replies old new) (take_all n calls all)
-    (patched_runs_one layout lawful keep (take n calls) replies old new each run)
+    (patched_runs_one layout lawful keep asked (take n calls) replies old new each run)

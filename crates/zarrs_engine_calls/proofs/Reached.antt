@@ -73,7 +73,7 @@ held_some region long position holds = elim (cases_Bool (is_empty region)) [
 
 module _ (grid : Grid) (lawful : IsGrid grid) (region : Box) (long : IsLong region) (some : is_empty region ≡ false)
     (covered : (position : List ℕ) → Holds region position → is_covered grid position ≡ true) where
-  first_held : Holds region region.start
+  pub first_held : Holds region region.start
   first_held = along_holds region region.start long (record {
     same_length = refl;
     from = λ k below. omega arith;
@@ -153,7 +153,7 @@ module _ (grid : Grid) (lawful : IsGrid grid) (region : Box) (long : IsLong regi
       })
 
 -- an empty region meets no chunk
-none_met : (grid : Grid) (region : Box) → IsLong region → length region.start ≡ grid.dimensions → is_empty region ≡ true
+pub none_met : (grid : Grid) (region : Box) → IsLong region → length region.start ≡ grid.dimensions → is_empty region ≡ true
     → (index : List ℕ) → Contains (chunks_met grid region) index → ⊥
 unfolding met
 none_met grid region long same empty index among =

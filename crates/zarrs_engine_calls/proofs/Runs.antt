@@ -58,26 +58,26 @@ part_leaves layout index part reply shape later =
     ]
 
 -- the shape after a step is one that its call may leave; also where the parts of chunks may be written by themselves
-pub patch_leaves : (layout : Layout) (keep : Bool) (call : Call) (reply : Reply) (old new : ArrayState) → PatchStep layout keep call reply old new → MayLeave layout call old.shape new.shape
-patch_leaves layout keep (call.Resize wanted) reply old new s = resize_leaves layout keep old.shape new.shape wanted.items reply old.store new.store s.0 s.1
-patch_leaves layout keep (call.RetrieveChunkSubset index part) reply old new s = part_leaves layout index.items (box_of part) reply old.shape new.shape s.0
-patch_leaves layout keep (call.StoreChunk index held) reply old new s = s.0
-patch_leaves layout keep (call.StoreChunks range held) reply old new s = s.0
-patch_leaves layout keep (call.StoreChunkSubset index part held) reply old new s = s.0
-patch_leaves layout keep (call.StoreArraySubset region held) reply old new s = s.0
-patch_leaves layout keep (call.EraseChunk index) reply old new s = s.0
-patch_leaves layout keep (call.EraseChunks range) reply old new s = s.0
-patch_leaves layout keep (call.CompactChunk index) reply old new s = s.0
-patch_leaves layout keep (call.RetrieveChunkIfExists index) reply old new s = s.0
-patch_leaves layout keep (call.RetrieveChunk index) reply old new s = s.0
-patch_leaves layout keep (call.RetrieveChunks range) reply old new s = s.0
-patch_leaves layout keep (call.RetrieveArraySubset region) reply old new s = s.0
+pub patch_leaves : (layout : Layout) (keep asked : Bool) (call : Call) (reply : Reply) (old new : ArrayState) → PatchStep layout keep asked call reply old new → MayLeave layout call old.shape new.shape
+patch_leaves layout keep asked (call.Resize wanted) reply old new s = resize_leaves layout keep old.shape new.shape wanted.items reply old.store new.store s.0 s.1
+patch_leaves layout keep asked (call.RetrieveChunkSubset index part) reply old new s = part_leaves layout index.items (box_of part) reply old.shape new.shape s.0
+patch_leaves layout keep asked (call.StoreChunk index held) reply old new s = s.0
+patch_leaves layout keep asked (call.StoreChunks range held) reply old new s = s.0
+patch_leaves layout keep asked (call.StoreChunkSubset index part held) reply old new s = s.0
+patch_leaves layout keep asked (call.StoreArraySubset region held) reply old new s = s.0
+patch_leaves layout keep asked (call.EraseChunk index) reply old new s = s.0
+patch_leaves layout keep asked (call.EraseChunks range) reply old new s = s.0
+patch_leaves layout keep asked (call.CompactChunk index) reply old new s = s.0
+patch_leaves layout keep asked (call.RetrieveChunkIfExists index) reply old new s = s.0
+patch_leaves layout keep asked (call.RetrieveChunk index) reply old new s = s.0
+patch_leaves layout keep asked (call.RetrieveChunks range) reply old new s = s.0
+patch_leaves layout keep asked (call.RetrieveArraySubset region) reply old new s = s.0
 
 -- after a step the calls behind it may ask what they may ask
-pub calls_after : (layout : Layout) (keep : Bool) (call : Call) (calls : List Call) (reply : Reply) (old new : ArrayState)
-    → PatchStep layout keep call reply old new → KeepsReach old.store new.store → MayAskCalls layout (call ∷ calls) old → MayAskCalls layout calls new
-calls_after layout keep call calls reply old new s reach may =
-    calls_later layout calls (record old { shape = new.shape }) new refl reach (may.1 new.shape (patch_leaves layout keep call reply old new s))
+pub calls_after : (layout : Layout) (keep asked : Bool) (call : Call) (calls : List Call) (reply : Reply) (old new : ArrayState)
+    → PatchStep layout keep asked call reply old new → KeepsReach old.store new.store → MayAskCalls layout (call ∷ calls) old → MayAskCalls layout calls new
+calls_after layout keep asked call calls reply old new s reach may =
+    calls_later layout calls (record old { shape = new.shape }) new refl reach (may.1 new.shape (patch_leaves layout keep asked call reply old new s))
 
 pub reach_then : (old mid new : StoreState) → KeepsReach old mid → KeepsReach mid new → KeepsReach old new
 reach_then old mid new a b = record { may_ask = λ key. b.may_ask key ∙ a.may_ask key; may_read = λ key place. b.may_read key place ∙ a.may_read key place; sets_parts = b.sets_parts ∙ a.sets_parts; lenders = b.lenders ∙ a.lenders }

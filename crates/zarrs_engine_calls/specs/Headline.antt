@@ -104,5 +104,5 @@ RunsAreOneFunction =
 -- of lists of calls whose stores may write the parts of chunks by themselves
 abbrev pub PatchedRunsAreOneFunction : Type 0
 PatchedRunsAreOneFunction =
-    (layout : Layout) → IsLawful layout → (keep : Bool) (calls : List Call) (replies : List Reply) (old new : ArrayState)
-    → EachDecodes layout old.store → PatchRun layout keep calls replies old new → IsOneFunctionThrough layout calls replies old new
+    (layout : Layout) → IsLawful layout → (keep asked : Bool) (calls : List Call) (replies : List Reply) (old new : ArrayState)
+    → EachDecodes layout old.store → PatchRun layout keep asked calls replies old new → IsOneFunctionThrough layout calls replies old new

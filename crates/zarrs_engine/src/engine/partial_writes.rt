@@ -18,7 +18,7 @@ impl<
     C: ChainTraits,
 > Engine<S, G, K, C> {
     ghost use Rattle.std.specs.Prelude.{◌≡◌, true, false, [], ◌∷◌, ◌&&◌, length, Option, None, Some};
-    ghost use Rattle.std.specs.Prelude.{IfOk, IfErr, OnOk};
+    ghost use Rattle.std.specs.Prelude.{IfOk, IfErr, OnOk, IsTrue, ◌↔◌};
     ghost use Rattle.zarrs_subset.specs.Boxes.{position_count};
     ghost use Rattle.zarrs_subset.specs.Regions.{Box, LiesInShape, box_of, positions, seen_from};
     ghost use Rattle.zarrs_subset.specs.Refusals.{RefusesOffset};
@@ -36,6 +36,8 @@ impl<
     ghost use Rattle.zarrs_engine_calls.specs.ChunkBoxes.{part_box};
     ghost use Rattle.zarrs_engine_calls.specs.Content.{value_at};
     ghost use Rattle.zarrs_engine_calls.specs.Patches.{PatchesAll, RefusesPartly, RefusesPatches};
+    ghost use Rattle.zarrs_engine_calls.specs.Patches.{writes_parts};
+    ghost use Rattle.zarrs_engine_calls.specs.StateRefusals.{IsPart};
     ghost use Rattle.zarrs_engine_calls.specs.Reach.{MayAskChunk, MayAskParts};
     ghost use Rattle.zarrs_engine_calls.specs.Refusals.{Refusal, is_too_large, refusal_of};
     ghost use Rattle.zarrs_engine_calls.specs.Refusals.{refusal_of_storage};
@@ -43,8 +45,9 @@ impl<
     ghost use Rattle.zarrs_engine.specs.RegionWrites.{AreCovered};
     ghost use Rattle.zarrs_engine_layout.specs.Steps.{RefusesPut};
     ghost use Rattle.zarrs_engine.specs.Engine.{layout_of, store_of, KeepsLayout};
-    ghost use Rattle.zarrs_engine.specs.Outcomes.{PatchesPartOrRefuses};
-    ghost use Rattle.zarrs_engine.specs.Patches.{LeavesPatch};
+    ghost use Rattle.zarrs_engine.specs.Outcomes.{EncodesPartOrRefuses};
+    ghost use Rattle.zarrs_engine.specs.Patches.{LeavesPartly, LeavesPatch, PatchesChunk, Shares};
+    ghost use Rattle.zarrs_engine.specs.Patches.{SharesEach};
 
     /// Returns whether the parts of chunks are written by themselves: the chain and the store can.
     pub(crate) fn encodes_partly(&self) -> bool
@@ -56,11 +59,25 @@ impl<
 
     /// Returns whether a store with these options writes the parts of chunks by themselves.
     pub(crate) fn writes_parts(&self, options: &CodecOptions) -> bool
-        ensures { result ≡ (encodes_partially options.now
-            && ((layout_of self.now).chain.encodes_partly
-            && (store_of S.state self.now).sets_parts)) }
+        ensures { result ≡ writes_parts (encodes_partially options.now) (layout_of self.now)
+            (store_of S.state self.now) }
     {
         options.experimental_partial_encoding() && self.encodes_partly()
+    }
+
+    /// Returns whether a store with these options over the region writes the part of this chunk by itself: of a chunk that
+    /// the region covers it does not.
+    pub(crate) fn writes_part(
+        &self,
+        region: &ArraySubset,
+        chunk: &ArraySubset,
+        options: &CodecOptions,
+    ) -> bool
+        ensures { IsTrue result ↔ ((writes_parts (encodes_partially options.now)
+            (layout_of self.now) (store_of S.state self.now) ≡ true)
+            × (LiesInBox (box_of chunk.now) (box_of region.now) → ⊥)) }
+    {
+        self.writes_parts(options) && !lies_in_box(chunk, region)
     }
 
     /// Does what is to be done with a key, by one writing call of the store.
@@ -114,8 +131,8 @@ impl<
             (value_at (store_of S.state self.now) ((layout_of self.now).key chunk_indices.now))
             (box_of part.now) (data_of part_data.now) ≡ Some (change_of write)) }
         ensures refused { IfErr result (λ e. RefusesPartly (layout_of self.now)
-            (stores_empty_chunks options.now) chunk_indices.now 0 (store_of S.state self.now)
-            (refusal_of e)) }
+            (stores_empty_chunks options.now) chunk_indices.now (box_of part.now)
+            (data_of part_data.now) 0 (store_of S.state self.now) (refusal_of e)) }
     {
         let Some(encoded) = self.stored_bytes(alloc, chunk_indices)? else {
             return self
@@ -143,14 +160,12 @@ impl<
             (position_count (box_of part.now).shape) }
         requires ask { MayAskChunk (layout_of self.old) chunk_indices.now
             (store_of S.state self.old) }
-        ensures done { OnOk result (PatchesAll (layout_of self.old)
-            (part_box (box_at (layout_of self.old).grid chunk_indices.now) (box_of part.now))
-            (data_of part_data.now) (chunk_indices.now ∷ []) (store_of S.state self.old)
-            (store_of S.state self.new)) }
-        // Whatever region the part is cut from.
-        ensures refused { (region : Box) (held : ArrayData) → IfErr result
-            (λ e. LeavesPatch (layout_of self.old) (stores_empty_chunks options.now) region held
-            chunk_indices.now (refusal_of e) (store_of S.state self.old)
+        ensures done { OnOk result (PatchesChunk (layout_of self.old)
+            (stores_empty_chunks options.now) chunk_indices.now (box_of part.now)
+            (data_of part_data.now) (store_of S.state self.old) (store_of S.state self.new)) }
+        ensures refused { IfErr result (λ e. LeavesPartly (layout_of self.old)
+            (stores_empty_chunks options.now) chunk_indices.now (box_of part.now)
+            (data_of part_data.now) (refusal_of e) (store_of S.state self.old)
             (store_of S.state self.new)) }
         ensures layout_kept { KeepsLayout self.old self.new }
     {
@@ -183,7 +198,7 @@ impl<
         requires ask { part_refusal (layout_of self.old) chunk_indices.now
             (box_of chunk_subset.now) ≡ None
             → MayAskChunk (layout_of self.old) chunk_indices.now (store_of S.state self.old) }
-        ensures { PatchesPartOrRefuses S.state (stores_empty_chunks options.now) chunk_indices.now
+        ensures { EncodesPartOrRefuses S.state (stores_empty_chunks options.now) chunk_indices.now
             (box_of chunk_subset.now) (data_of chunk_subset_data.now) self.old self.new result }
     {
         let chunk = self.layout.chunk_box(alloc, chunk_indices)?;
@@ -246,24 +261,27 @@ impl<
         requires dimensions { length (box_of region.now).start
             ≡ (layout_of self.old).grid.dimensions }
         requires covered { AreCovered (layout_of self.old).grid (box_of region.now) }
+        requires meets { Shares (box_of region.now)
+            (box_at (layout_of self.old).grid chunk_indices.now) }
         requires given { HasCells (layout_of self.old).kind (data_of region_data.now)
             (position_count (box_of region.now).shape) }
         requires ask { MayAskParts (layout_of self.old) (box_of region.now)
             (chunk_indices.now ∷ []) (store_of S.state self.old) }
-        ensures done { OnOk result (PatchesAll (layout_of self.old) (box_of region.now)
-            (data_of region_data.now) (chunk_indices.now ∷ []) (store_of S.state self.old)
-            (store_of S.state self.new)) }
+        ensures done { OnOk result (PatchesAll (layout_of self.old)
+            (stores_empty_chunks options.now) (IsPart (layout_of self.old) (box_of region.now))
+            (box_of region.now) (data_of region_data.now) (chunk_indices.now ∷ [])
+            (store_of S.state self.old) (store_of S.state self.new)) }
         ensures refused { IfErr result (λ e. LeavesPatch (layout_of self.old)
-            (stores_empty_chunks options.now) (box_of region.now) (data_of region_data.now)
-            chunk_indices.now (refusal_of e) (store_of S.state self.old)
-            (store_of S.state self.new)) }
+            (stores_empty_chunks options.now) (IsPart (layout_of self.old) (box_of region.now))
+            (box_of region.now) (data_of region_data.now) chunk_indices.now (refusal_of e)
+            (store_of S.state self.old) (store_of S.state self.new)) }
         ensures layout_kept { KeepsLayout self.old self.new }
     {
         let chunk = self.layout.chunk_box(alloc, chunk_indices)?;
-        let shared = region.overlap(alloc, &chunk)?;
-        if shared.is_empty() || lies_in_box(&chunk, region) {
+        if lies_in_box(&chunk, region) {
             return self.store_part(alloc, region, region_data, chunk_indices, options);
         }
+        let shared = region.overlap(alloc, &chunk)?;
         let (part, data) = self.seen_cells(alloc, region, region_data, &shared, chunk.start())?;
         self.patch_chunk(alloc, chunk_indices, &part, &data, options)
     }
@@ -280,17 +298,21 @@ impl<
         requires supported { (layout_of self.old).chain.encodes_partly ≡ true }
         requires cover { CoverRegion (layout_of self.old).grid (box_of region.now)
             (positions (box_of chunks.now)) }
+        requires meets { SharesEach (layout_of self.old).grid (box_of region.now)
+            (positions (box_of chunks.now)) }
         requires given { HasCells (layout_of self.old).kind (data_of region_data.now)
             (position_count (box_of region.now).shape) }
         requires ask { MayAskParts (layout_of self.old) (box_of region.now)
             (positions (box_of chunks.now)) (store_of S.state self.old) }
-        ensures done { OnOk result (PatchesAll (layout_of self.old) (box_of region.now)
-            (data_of region_data.now) (positions (box_of chunks.now)) (store_of S.state self.old)
-            (store_of S.state self.new)) }
-        ensures refused { (first : Option Refusal) → first ≡ None → IfErr result
-            (λ e. RefusesPatches (layout_of self.old) (stores_empty_chunks options.now) first
+        ensures done { OnOk result (PatchesAll (layout_of self.old)
+            (stores_empty_chunks options.now) (IsPart (layout_of self.old) (box_of region.now))
             (box_of region.now) (data_of region_data.now) (positions (box_of chunks.now))
-            (refusal_of e) (store_of S.state self.old) (store_of S.state self.new)) }
+            (store_of S.state self.old) (store_of S.state self.new)) }
+        ensures refused { (first : Option Refusal) → first ≡ None → IfErr result
+            (λ e. RefusesPatches (layout_of self.old) (stores_empty_chunks options.now)
+            (IsPart (layout_of self.old) (box_of region.now)) first (box_of region.now)
+            (data_of region_data.now) (positions (box_of chunks.now)) (refusal_of e)
+            (store_of S.state self.old) (store_of S.state self.new)) }
         ensures layout_kept { KeepsLayout self.old self.new }
     {
         let Some(mut walk) = chunks.walk(alloc)? else {

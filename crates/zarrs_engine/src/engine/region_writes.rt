@@ -260,7 +260,7 @@ impl<
             .part_of(alloc, chunk_indices, &chunk, chunk_subset)?;
         self.layout
             .check_cells(region == chunk, &region, chunk_subset_data)?;
-        if self.writes_parts(options) && !lies_in_box(&chunk, &region) {
+        if self.writes_part(&region, &chunk, options) {
             return self.patch_chunk(
                 alloc,
                 chunk_indices,

@@ -32,7 +32,7 @@ impl<
     ///
     /// # Errors
     /// If the store refuses, and `OutOfMemory`. No value is changed then.
-    pub fn put(
+    pub(crate) fn put(
         &mut self,
         alloc: Global,
         key: &StoreKey,

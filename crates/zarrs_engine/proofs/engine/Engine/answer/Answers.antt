@@ -3,7 +3,7 @@ use Rattle.zarrs_subset.specs.Regions.{box_of, positions}
 use Rattle.zarrs_chunk_grid.specs.Grids.{box_at, chunks_box}
 use Rattle.zarrs_data_type_bytes.specs.declared.array_bytes.ArrayBytes.{ArrayBytes}
 use Rattle.zarrs_data_type.specs.ArrayData.{data_of}
-use Rattle.zarrs_codec_chain.specs.Options.{stores_empty_chunks}
+use Rattle.zarrs_codec_chain.specs.Options.{encodes_partially, stores_empty_chunks}
 use Rattle.zarrs_engine_calls.specs.Acts.{compact, erase, read, read_chunk, read_part_act, resize, shape_after, store}
 use Rattle.zarrs_engine_calls.specs.ArgumentRefusals.{read_chunks_refusal, read_part_refusal, read_region_refusal, resize_refusal}
 use Rattle.zarrs_engine_calls.specs.ArgumentRefusals.{store_chunk_refusal, store_chunks_refusal, store_part_refusal, store_region_refusal}
@@ -40,7 +40,7 @@ returns-in-StoreChunk-clause-step g c =
     let e = c.store_chunk.ensures in
     let at = c.deref.ensures.value in
     steps_as (layout_of c.args.self.now) c.args.self.now.layout.lawful c.args.options.now c.args.call.now _ (state_of g.S.ReadableStorageTraits.state c.args.self.now) _
-    (rw c.in-StoreChunk.is (
+    (rw c.in-StoreChunk.is tt)    (rw c.in-StoreChunk.is (
       ap (λ own. g.G.ChunkGridTraits.array_extents own.grid) e.layout_kept,
       done_step layout keep shape (store_chunk_refusal layout index held) (store (box_at layout.grid index) held (index ∷ [])) old new c.store_chunk.result c.done.result (subst (λ (i : List ℕ). OnOk c.store_chunk.result (StoresChunk layout keep i held old new)) at e.done) (subst (λ (i : List ℕ). IfErr c.store_chunk.result (λ e. RefusesStoreChunk layout keep i held (refusal_of e) old new)) at e.refused) c.done.ensures.done c.done.ensures.refused,
     ))
@@ -56,7 +56,7 @@ returns-in-StoreChunks-clause-step g c =
     let held = data_of c.in-StoreChunks.«data» in
     let e = c.store_chunks.ensures in
     steps_as (layout_of c.args.self.now) c.args.self.now.layout.lawful c.args.options.now c.args.call.now _ (state_of g.S.ReadableStorageTraits.state c.args.self.now) _
-    (rw c.in-StoreChunks.is (
+    (rw c.in-StoreChunks.is tt)    (rw c.in-StoreChunks.is (
       ap (λ own. g.G.ChunkGridTraits.array_extents own.grid) e.layout_kept,
       done_step layout keep shape (store_chunks_refusal layout range held) (store (chunks_box layout.grid range) held (positions range)) old new c.store_chunks.result c.done-in-StoreChunks.result e.done e.refused c.done-in-StoreChunks.ensures.done c.done-in-StoreChunks.ensures.refused,
     ))
@@ -66,6 +66,7 @@ returns-in-StoreChunkSubset-clause-step g c =
     let layout = layout_of c.args.self.now in
     let shape = g.G.ChunkGridTraits.array_extents c.args.self.now.layout.grid in
     let keep = stores_empty_chunks c.args.options.now in
+    let asked = encodes_partially c.args.options.now in
     let old = g.S.ReadableStorageTraits.state c.args.self.now.storage in
     let new = g.S.ReadableStorageTraits.state c.store_chunk_subset.new.self.storage in
     let index = c.in-StoreChunkSubset.chunk_indices.items in
@@ -83,7 +84,7 @@ returns-in-StoreChunkSubset-clause-step g c =
       );
       partly = rw c.in-StoreChunkSubset.is (
         shaped,
-        patched_step layout keep shape first act old new c.store_chunk_subset.result c.done-in-StoreChunkSubset.result (subst (λ (i : List ℕ). OnOk c.store_chunk_subset.result (PatchesPart layout i part held old new)) at e.partly.done) (subst (λ (i : List ℕ). IfErr c.store_chunk_subset.result (λ e. RefusesPatchPart layout keep i part held (refusal_of e) old new)) at e.partly.refused) c.done-in-StoreChunkSubset.ensures.done c.done-in-StoreChunkSubset.ensures.refused,
+        patched_step layout keep asked shape first act old new c.store_chunk_subset.result c.done-in-StoreChunkSubset.result (subst (λ (i : List ℕ). OnOk c.store_chunk_subset.result (PatchesPart layout keep asked i part held old new)) at e.partly.done) (subst (λ (i : List ℕ). IfErr c.store_chunk_subset.result (λ e. RefusesPatchPart layout keep asked i part held (refusal_of e) old new)) at e.partly.refused) c.done-in-StoreChunkSubset.ensures.done c.done-in-StoreChunkSubset.ensures.refused,
       );
     }
 
@@ -91,6 +92,7 @@ pub returns-in-StoreArraySubset-clause-step : goal.returns-in-StoreArraySubset-c
 returns-in-StoreArraySubset-clause-step g c =
     let layout = layout_of c.args.self.now in
     let keep = stores_empty_chunks c.args.options.now in
+    let asked = encodes_partially c.args.options.now in
     let old = g.S.ReadableStorageTraits.state c.args.self.now.storage in
     let new = g.S.ReadableStorageTraits.state c.store_array_subset.new.self.storage in
     let shape = g.G.ChunkGridTraits.array_extents c.args.self.now.layout.grid in
@@ -107,7 +109,7 @@ returns-in-StoreArraySubset-clause-step g c =
       );
       partly = rw c.in-StoreArraySubset.is (
         shaped,
-        patched_step layout keep shape first act old new c.store_array_subset.result c.done-in-StoreArraySubset.result e.partly.done e.partly.refused c.done-in-StoreArraySubset.ensures.done c.done-in-StoreArraySubset.ensures.refused,
+        patched_step layout keep asked shape first act old new c.store_array_subset.result c.done-in-StoreArraySubset.result e.partly.done e.partly.refused c.done-in-StoreArraySubset.ensures.done c.done-in-StoreArraySubset.ensures.refused,
       );
     }
 
@@ -121,7 +123,7 @@ returns-in-EraseChunk-clause-step g c =
     let shape = g.G.ChunkGridTraits.array_extents c.args.self.now.layout.grid in
     let step = subst (λ (i : List ℕ). ActStep layout keep shape (length_refusal layout i) (erase (i ∷ [])) c.answer_erase_chunk.result old new) c.deref-in-EraseChunk.ensures.value (e.step keep shape) in
     steps_as (layout_of c.args.self.now) c.args.self.now.layout.lawful c.args.options.now c.args.call.now _ (state_of g.S.ReadableStorageTraits.state c.args.self.now) _
-    (rw c.in-EraseChunk.is (ap (λ own. g.G.ChunkGridTraits.array_extents own.grid) e.layout_kept, step))
+    (rw c.in-EraseChunk.is tt)    (rw c.in-EraseChunk.is (ap (λ own. g.G.ChunkGridTraits.array_extents own.grid) e.layout_kept, step))
 
 pub returns-in-CompactChunk-clause-step : goal.returns-in-CompactChunk-clause-step
 returns-in-CompactChunk-clause-step g c =
@@ -133,13 +135,13 @@ returns-in-CompactChunk-clause-step g c =
     let shape = g.G.ChunkGridTraits.array_extents c.args.self.now.layout.grid in
     let step = subst (λ (i : List ℕ). ActStep layout keep shape (length_refusal layout i) (compact i) c.answer_compact_chunk.result old new) c.deref-in-CompactChunk.ensures.value (e.step keep shape) in
     steps_as (layout_of c.args.self.now) c.args.self.now.layout.lawful c.args.options.now c.args.call.now _ (state_of g.S.ReadableStorageTraits.state c.args.self.now) _
-    (rw c.in-CompactChunk.is (ap (λ own. g.G.ChunkGridTraits.array_extents own.grid) e.layout_kept, step))
+    (rw c.in-CompactChunk.is tt)    (rw c.in-CompactChunk.is (ap (λ own. g.G.ChunkGridTraits.array_extents own.grid) e.layout_kept, step))
 
 pub returns-in-EraseChunks-clause-step : goal.returns-in-EraseChunks-clause-step
 returns-in-EraseChunks-clause-step g c =
     let e = c.answer_erase_chunks.ensures in
     steps_as (layout_of c.args.self.now) c.args.self.now.layout.lawful c.args.options.now c.args.call.now _ (state_of g.S.ReadableStorageTraits.state c.args.self.now) _
-    (rw c.in-EraseChunks.is (ap (λ own. g.G.ChunkGridTraits.array_extents own.grid) e.layout_kept, e.step (stores_empty_chunks c.args.options.now) (g.G.ChunkGridTraits.array_extents c.args.self.now.layout.grid)))
+    (rw c.in-EraseChunks.is tt)    (rw c.in-EraseChunks.is (ap (λ own. g.G.ChunkGridTraits.array_extents own.grid) e.layout_kept, e.step (stores_empty_chunks c.args.options.now) (g.G.ChunkGridTraits.array_extents c.args.self.now.layout.grid)))
 
 pub returns-in-Ok-clause-step : goal.returns-in-Ok-clause-step
 returns-in-Ok-clause-step g c =
@@ -149,7 +151,7 @@ returns-in-Ok-clause-step g c =
     let found = option_map data_of c.in-Ok.found in
     let cells = subst (λ (i : List ℕ). RetrievesIfExists layout i found state) c.deref-in-RetrieveChunkIfExists.ensures.value c.in-Ok.ensures.cells in
     steps_as (layout_of c.args.self.now) c.args.self.now.layout.lawful c.args.options.now c.args.call.now _ (state_of g.S.ReadableStorageTraits.state c.args.self.now) _
-    (rw c.in-RetrieveChunkIfExists.is (refl, (refl, found_length layout index found state cells, cells)))
+    (rw c.in-RetrieveChunkIfExists.is tt)    (rw c.in-RetrieveChunkIfExists.is (refl, (refl, found_length layout index found state cells, cells)))
 
 pub retrieve_array_subset-requires : goal.retrieve_array_subset-requires
 retrieve_array_subset-requires g c accepted =
@@ -169,7 +171,7 @@ returns-in-RetrieveChunk-clause-step g c =
     let at = c.deref-in-RetrieveChunk.ensures.value in
     let e = c.retrieve_chunk.ensures in
     steps_as (layout_of c.args.self.now) c.args.self.now.layout.lawful c.args.options.now c.args.call.now _ (state_of g.S.ReadableStorageTraits.state c.args.self.now) _
-    (rw c.in-RetrieveChunk.is (
+    (rw c.in-RetrieveChunk.is tt)    (rw c.in-RetrieveChunk.is (
       refl,
       cells_step layout keep shape (length_refusal layout index) (read_chunk true index) state state c.retrieve_chunk.result c.cells.result (λ (held : ArrayBytes). RetrievesChunk layout index (data_of held) state) (λ (x : ArrayError). RefusesChunkRead layout (length_refusal layout index) true index state (refusal_of x))
           (λ held r. (refl, retrieved_length layout index (data_of held) state r, r))
@@ -188,7 +190,7 @@ returns-in-RetrieveChunks-clause-step g c =
     let range = box_of c.in-RetrieveChunks.chunks in
     let e = c.retrieve_chunks.ensures in
     steps_as (layout_of c.args.self.now) c.args.self.now.layout.lawful c.args.options.now c.args.call.now _ (state_of g.S.ReadableStorageTraits.state c.args.self.now) _
-    (rw c.in-RetrieveChunks.is (
+    (rw c.in-RetrieveChunks.is tt)    (rw c.in-RetrieveChunks.is (
       refl,
       cells_step layout keep shape (read_chunks_refusal layout shape range) (read (chunks_box layout.grid range) (positions range)) state state c.retrieve_chunks.result c.cells-in-RetrieveChunks.result (λ (held : ArrayBytes). RetrievesChunks layout shape range (data_of held) state) (λ (x : ArrayError). RefusesRetrieveChunks layout shape range (refusal_of x) state)
           (λ held r. (refl, r.0, r.1))
@@ -207,7 +209,7 @@ returns-in-RetrieveChunkSubset-clause-step g c =
     let at = c.deref-in-RetrieveChunkSubset.ensures.value in
     let e = c.retrieve_chunk_subset.ensures in
     steps_as (layout_of c.args.self.now) c.args.self.now.layout.lawful c.args.options.now c.args.call.now _ (state_of g.S.ReadableStorageTraits.state c.args.self.now) _
-    (rw c.in-RetrieveChunkSubset.is (
+    (rw c.in-RetrieveChunkSubset.is tt)    (rw c.in-RetrieveChunkSubset.is (
       part_shape layout keep shape index part state c.cells-in-RetrieveChunkSubset.result,
       cells_step layout keep shape (read_part_refusal layout index part) (read_part_act layout index part) state state c.retrieve_chunk_subset.result c.cells-in-RetrieveChunkSubset.result (λ (held : ArrayBytes). RetrievesPart layout index part (data_of held) state) (λ (x : ArrayError). RefusesRetrievePart layout index part (refusal_of x) state)
           (λ held r. part_step layout keep shape index part state held r)
@@ -226,7 +228,7 @@ returns-in-RetrieveArraySubset-clause-step g c =
     let region = box_of c.in-RetrieveArraySubset.array_subset in
     let e = c.retrieve_array_subset.ensures in
     steps_as (layout_of c.args.self.now) c.args.self.now.layout.lawful c.args.options.now c.args.call.now _ (state_of g.S.ReadableStorageTraits.state c.args.self.now) _
-    (rw c.in-RetrieveArraySubset.is (
+    (rw c.in-RetrieveArraySubset.is tt)    (rw c.in-RetrieveArraySubset.is (
       refl,
       cells_step layout keep shape (read_region_refusal layout shape region) (read region (chunks_met layout.grid region)) state state c.retrieve_array_subset.result c.cells-in-RetrieveArraySubset.result (λ (held : ArrayBytes). RetrievesRegion layout shape region (data_of held) state) (λ (x : ArrayError). RefusesRetrieveRegion layout shape region (refusal_of x) state)
           (λ held r. (refl, r.0, r.1))
@@ -273,7 +275,7 @@ returns-in-Resize-clause-step g c =
     let e = c.answer_resize.ensures in
     let at = c.deref-in-Resize.ensures.value in
     steps_as (layout_of c.args.self.now) c.args.self.now.layout.lawful c.args.options.now c.args.call.now _ (state_of g.S.ReadableStorageTraits.state c.args.self.now) _
-    (rw c.in-Resize.is (
+    (rw c.in-Resize.is tt)    (rw c.in-Resize.is (
       subst (λ (i : List ℕ). new.shape ≡ shape_after (resize i) c.answer_resize.result old.shape) at e.shape,
       subst (λ (i : List ℕ). ActStep layout keep old.shape (resize_refusal layout i) (resize i) c.answer_resize.result old.store new.store) at e.step,
     ))

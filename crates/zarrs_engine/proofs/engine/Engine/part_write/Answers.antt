@@ -21,7 +21,7 @@ returns-in_err-encoded-clause-refused g c =
     let index = c.args.chunk_indices.now in
     let r = refusal_of c.in_err-encoded.field-0.0 in
     let of_key = subst (λ (o : Option Refusal). RefusesBy o r) (second_refusal (length_refusal layout index) _ (right_length layout index c.requires.long)) c.in_err-encoded.ensures.refused in
-    let why = key_partly layout keep index state r of_key in
+    let why = key_partly layout keep index (box_of c.args.part.now) (data_of c.args.part_data.now) state r of_key in
     search (rules, why)
 
 pub returns-in_default-clause-refused : goal.returns-in_default-clause-refused
@@ -34,8 +34,8 @@ returns-in_default-clause-refused g c =
     let held = data_of c.args.part_data.now in
     let at : None ≡ value_at state (layout.key index) = sym c.in_default.is ∙ c.in_ok-encoded.ensures.value in
     each_error c.partial_encode.result (λ (e : ArrayError). IsNotEncoded layout keep (box_of c.args.chunk.now.region).shape None part held (refusal_of e))
-    (λ (e : ArrayError). RefusesPartly layout keep index 0 state (refusal_of e))
-    (λ e not. encoded_partly layout keep index state part held (refusal_of e)
+    (λ (e : ArrayError). RefusesPartly layout keep index part held 0 state (refusal_of e))
+    (λ e not. encoded_partly layout keep index part held state (refusal_of e)
     (subst (λ (b : Box). IsNotEncoded layout keep b.shape (value_at state (layout.key index)) part held (refusal_of e)) c.requires.chunk
     (subst (λ (o : Option (List ℕ)). IsNotEncoded layout keep (box_of c.args.chunk.now.region).shape o part held (refusal_of e)) at not)))
     c.partial_encode.ensures.refused
@@ -50,8 +50,8 @@ returns-clause-refused g c =
     let held = data_of c.args.part_data.now in
     let at : Some c.deref.result.now ≡ value_at state (layout.key index) = ap Some c.deref.ensures ∙ sym c.in-Some.is ∙ c.in_ok-encoded.ensures.value in
     each_error c.partial_encode-2.result (λ (e : ArrayError). IsNotEncoded layout keep (box_of c.args.chunk.now.region).shape (Some c.deref.result.now) part held (refusal_of e))
-    (λ (e : ArrayError). RefusesPartly layout keep index 0 state (refusal_of e))
-    (λ e not. encoded_partly layout keep index state part held (refusal_of e)
+    (λ (e : ArrayError). RefusesPartly layout keep index part held 0 state (refusal_of e))
+    (λ e not. encoded_partly layout keep index part held state (refusal_of e)
     (subst (λ (b : Box). IsNotEncoded layout keep b.shape (value_at state (layout.key index)) part held (refusal_of e)) c.requires.chunk
     (subst (λ (o : Option (List ℕ)). IsNotEncoded layout keep (box_of c.args.chunk.now.region).shape o part held (refusal_of e)) at not)))
     c.partial_encode-2.ensures.refused

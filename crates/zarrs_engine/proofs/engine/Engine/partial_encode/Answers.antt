@@ -1,27 +1,29 @@
-use Rattle.std.proofs.Common.{ℕ, List, Option, IfErr, OnOk, refl, rules, subst, sym}
+use Rattle.std.proofs.Common.{◌≡◌, ◌∙◌, true, false, ℕ, List, Option, IfErr, OnOk, refl, rules, ap, subst, sym}
+use Rattle.std.proofs.lemmas.Bool.{false≢true}
 use Rattle.std.proofs.lemmas.Result.{err_from_is_err_and, on_ok_weaker}
-use Rattle.zarrs_subset.specs.Regions.{box_of}
+use Rattle.zarrs_subset.specs.Boxes.{position_count}
+use Rattle.zarrs_subset.specs.Regions.{Box, box_of}
 use Rattle.zarrs_chunk_grid.specs.Grids.{box_at}
 use Rattle.zarrs_chunk_grid.proofs.Chunks.{box_is_there}
 use Rattle.zarrs_data_type.specs.ArrayData.{data_of}
+use Rattle.zarrs_data_type.specs.Cells.{HasCells}
 use Rattle.zarrs_codec_chain.specs.Options.{stores_empty_chunks}
 use Rattle.zarrs_engine_calls.specs.ChunkBoxes.{part_box}
-use Rattle.zarrs_engine_calls.specs.Patches.{RefusesPatchPart}
+use Rattle.zarrs_engine_calls.specs.Patches.{IsEncoded, RefusesEncodePart}
 use Rattle.zarrs_engine_calls.specs.Reach.{MayAskChunk}
 use Rattle.zarrs_engine_calls.specs.declared.error.ArrayError.{ArrayError}
 use Rattle.zarrs_engine_calls.specs.Refusals.{Refusal, RefusesBy, length_refusal, refusal_of}
-use Rattle.zarrs_engine_calls.specs.Step.{RefusesStorePart, StoresPart}
+use Rattle.zarrs_engine_calls.specs.Step.{StoresPart}
 use Rattle.zarrs_engine_calls.proofs.Contents.{only_member}
 use Rattle.zarrs_engine_calls.proofs.RefusalLemmas.{refuses_said, second_refusal}
 use Rattle.zarrs_engine_layout.proofs.Chunks.{right_length}
 use Rattle.zarrs_engine_layout.proofs.ChunkParts.{part_lies}
 use Rattle.zarrs_engine.specs.Engine.{layout_of}
-use Rattle.zarrs_engine.specs.Patches.{LeavesPatch}
+use Rattle.zarrs_engine.specs.Patches.{LeavesPartly}
 use Rattle.zarrs_engine.specs.RegionWrites.{LeavesPart}
 use Rattle.zarrs_engine.proofs.PartReads.{part_cover}
-use Rattle.zarrs_engine.proofs.PartStores.{data_refuses, part_chunk, part_passing, takes_none, takes_part}
-use Rattle.zarrs_engine.proofs.PatchRefusals.{key_partly, partly_leaves}
-use Rattle.zarrs_engine.proofs.PatchedRegions.{part_patched, part_refuses, patched_left, patched_whole}
+use Rattle.zarrs_engine.proofs.PartStores.{accepted_part, data_refuses, part_chunk, part_passing, stored_at, takes_part}
+use Rattle.zarrs_engine.proofs.PatchedRegions.{encode_early, encoded_left, encoded_part, encoded_whole, key_left, whole_left}
 use Rattle.zarrs_engine.proofs.Puts.{each_error}
 use Rattle.zarrs_engine.proofs.engine.Engine.partial_encode.Goals as goal
 
@@ -33,11 +35,10 @@ returns-in_err-chunk g c =
     let index = c.args.chunk_indices.now in
     let part = box_of c.args.chunk_subset.now in
     let held = data_of c.args.chunk_subset_data.now in
-    let lawful = c.args.self.now.layout.lawful in
     let long = (box_is_there layout.grid index c.requires.boxed).long in
     let r = refusal_of c.in_err-chunk.field-0.0 in
-    let partly = part_refuses layout lawful keep index part held r state state (part_chunk layout index part held keep state r long c.in_err-chunk.ensures.refused) in
-    search (rules, partly)
+    let why = encode_early layout keep index part held r state (part_chunk layout index part held r long c.in_err-chunk.ensures.refused) in
+    search (rules, why)
 
 pub returns-in_err-region : goal.returns-in_err-region
 returns-in_err-region g c =
@@ -47,12 +48,11 @@ returns-in_err-region g c =
     let index = c.args.chunk_indices.now in
     let part = box_of c.args.chunk_subset.now in
     let held = data_of c.args.chunk_subset_data.now in
-    let lawful = c.args.self.now.layout.lawful in
     let long = (box_is_there layout.grid index c.requires.boxed).long in
     let r = refusal_of c.in_err-region.field-0.0 in
-    let partly = part_refuses layout lawful keep index part held r state state (part_passing layout index part held keep state r long c.in_ok-chunk.ensures.accepted c.in_err-region.ensures.refused) in
+    let why = encode_early layout keep index part held r state (part_passing layout index part held r long c.in_ok-chunk.ensures.accepted c.in_err-region.ensures.refused) in
     let p = err_from_is_err_and c.from_residual-in_err-region.result c.from_residual-in_err-region.ensures.1 in
-    rw (p.1, p.2) (record { done = tt; refused = partly; layout_kept = refl })
+    rw (p.1, p.2) (record { done = tt; refused = why; layout_kept = refl })
 
 pub returns-in_err-check_cells : goal.returns-in_err-check_cells
 returns-in_err-check_cells g c =
@@ -66,9 +66,10 @@ returns-in_err-check_cells g c =
     let chunk = c.in_ok-chunk.ensures in
     let region = c.in_ok-region.ensures in
     let r = refusal_of c.in_err-check_cells.field-0.0 in
-    let why = data_refuses layout lawful index part (box_of c.in_ok-chunk.chunk) (box_of c.in_ok-region.region) c.args.chunk_subset.now.same_length chunk.region region.part chunk.accepted region.accepted held c.eq-whole.result c.eq-whole.ensures keep r state (refuses_said _ r c.in_err-check_cells.ensures.refused) in
-    let partly = part_refuses layout lawful keep index part held r state state why in
-    search (rules, partly)
+    let why = encode_early layout keep index part held r state
+    (data_refuses layout lawful index part (box_of c.in_ok-chunk.chunk) (box_of c.in_ok-region.region) c.args.chunk_subset.now.same_length chunk.region region.part chunk.accepted region.accepted held c.eq-whole.result c.eq-whole.ensures r
+    (refuses_said _ r c.in_err-check_cells.ensures.refused)) in
+    search (rules, why)
 
 pub patch_chunk-requires-clause-part : goal.patch_chunk-requires-clause-part
 patch_chunk-requires-clause-part g c = part_lies (layout_of c.args.self.now) c.args.chunk_indices.now (box_of c.args.chunk_subset.now) c.in_ok-region.ensures.accepted
@@ -118,13 +119,16 @@ returns-then-encodes_partly g c =
     let region = c.in_ok-region.ensures in
     let new = g.S.ReadableStorageTraits.state c.patch_chunk.new.self.storage in
     let fits = c.in_ok-check_cells.ensures in
+    let lies = part_lies layout index part region.accepted in
+    let is : IsEncoded layout state index = sym c.encodes_partly.ensures ∙ c.if-encodes_partly.true in
+    let given = subst (λ (b : Box). HasCells layout.kind held (position_count b.shape)) (stored_at layout lawful index part (box_of c.in_ok-chunk.chunk) (box_of c.in_ok-region.region) c.args.chunk_subset.now.same_length chunk.region region.part chunk.accepted region.accepted held) fits.given in
     let e = c.patch_chunk.ensures in
     record {
-      done = on_ok_weaker c.patch_chunk.result (patched_whole layout lawful index part (box_of c.in_ok-chunk.chunk) (box_of c.in_ok-region.region) c.args.chunk_subset.now.same_length chunk.region region.part chunk.accepted region.accepted held c.eq-whole.result c.eq-whole.ensures fits.accepted state new) e.done;
-      refused = each_error c.patch_chunk.result (λ (e : ArrayError). LeavesPatch layout keep (part_box (box_at layout.grid index) part) held index (refusal_of e) state new)
-          (λ (e : ArrayError). RefusesPatchPart layout keep index part held (refusal_of e) state new)
-          (λ e left. patched_left layout lawful index part (box_of c.in_ok-chunk.chunk) (box_of c.in_ok-region.region) c.args.chunk_subset.now.same_length chunk.region region.part chunk.accepted region.accepted held c.eq-whole.result c.eq-whole.ensures fits.accepted state new fits.given keep (refusal_of e) left)
-          (e.refused (part_box (box_at layout.grid index) part) held);
+      done = on_ok_weaker c.patch_chunk.result (encoded_part layout lawful index part (box_of c.in_ok-chunk.chunk) (box_of c.in_ok-region.region) c.args.chunk_subset.now.same_length chunk.region region.part chunk.accepted region.accepted held c.eq-whole.result c.eq-whole.ensures fits.accepted state new keep is) e.done;
+      refused = each_error c.patch_chunk.result (λ (e : ArrayError). LeavesPartly layout keep index part held (refusal_of e) state new)
+          (λ (e : ArrayError). RefusesEncodePart layout keep index part held (refusal_of e) state new)
+          (λ e left. encoded_left layout lawful index part (box_of c.in_ok-chunk.chunk) (box_of c.in_ok-region.region) c.args.chunk_subset.now.same_length chunk.region region.part chunk.accepted region.accepted held c.eq-whole.result c.eq-whole.ensures fits.accepted state new keep is lies given (refusal_of e) left)
+          e.refused;
       layout_kept = e.layout_kept;
     }
 
@@ -143,10 +147,11 @@ returns-in_err-stored_bytes g c =
     let long = (box_is_there layout.grid index c.requires.boxed).long in
     let r = refusal_of c.in_err-stored_bytes.field-0.0 in
     let of_key = subst (λ (o : Option Refusal). RefusesBy o r) (second_refusal (length_refusal layout index) _ (right_length layout index long)) c.in_err-stored_bytes.ensures.refused in
-    let left = partly_leaves layout keep index (part_box (box_at layout.grid index) part) held r state (key_partly layout keep index state r of_key) in
-    let partly = patched_left layout lawful index part (box_of c.in_ok-chunk.chunk) (box_of c.in_ok-region.region) c.args.chunk_subset.now.same_length chunk.region region.part chunk.accepted region.accepted held c.eq-whole.result c.eq-whole.ensures fits.accepted state state fits.given keep r left in
+    let not : IsEncoded layout state index → ⊥ = λ is. false≢true (sym c.if-encodes_partly.false ∙ c.encodes_partly.ensures ∙ is) in
+    let accepted = accepted_part layout lawful index part (box_of c.in_ok-chunk.chunk) (box_of c.in_ok-region.region) c.args.chunk_subset.now.same_length chunk.region region.part chunk.accepted region.accepted held c.eq-whole.result c.eq-whole.ensures fits.accepted in
+    let why = key_left layout keep index part held state accepted not r of_key in
     let p = err_from_is_err_and c.from_residual-in_err-stored_bytes.result c.from_residual-in_err-stored_bytes.ensures.1 in
-    rw (p.1, p.2) (record { done = tt; refused = partly; layout_kept = refl })
+    rw (p.1, p.2) (record { done = tt; refused = why; layout_kept = refl })
 
 pub returns : goal.returns
 returns g c =
@@ -161,18 +166,17 @@ returns g c =
     let region = c.in_ok-region.ensures in
     let new = g.S.ReadableStorageTraits.state c.store_part.new.self.storage in
     let fits = c.in_ok-check_cells.ensures in
+    let not : IsEncoded layout state index → ⊥ = λ is. false≢true (sym c.if-encodes_partly.false ∙ c.encodes_partly.ensures ∙ is) in
+    let here = part_box (box_at layout.grid index) part in
+    let at = stored_at layout lawful index part (box_of c.in_ok-chunk.chunk) (box_of c.in_ok-region.region) c.args.chunk_subset.now.same_length chunk.region region.part chunk.accepted region.accepted held in
     let done : OnOk c.store_part.result (StoresPart layout keep index part held state new) =
     on_ok_weaker c.store_part.result (takes_part layout lawful index part (box_of c.in_ok-chunk.chunk) (box_of c.in_ok-region.region) c.args.chunk_subset.now.same_length chunk.region region.part chunk.accepted region.accepted held c.eq-whole.result c.eq-whole.ensures keep fits.accepted fits.given state new) c.store_part.ensures.done in
-    let refused : IfErr c.store_part.result (λ (e : ArrayError). RefusesStorePart layout keep index part held (refusal_of e) state new) =
-    each_error c.store_part.result (λ (e : ArrayError). LeavesPart layout keep (box_of c.in_ok-region.region) held index (refusal_of e) state new)
-    (λ (e : ArrayError). RefusesStorePart layout keep index part held (refusal_of e) state new)
-    (λ e left. takes_none layout lawful index part (box_of c.in_ok-chunk.chunk) (box_of c.in_ok-region.region) c.args.chunk_subset.now.same_length chunk.region region.part chunk.accepted region.accepted held c.eq-whole.result c.eq-whole.ensures keep fits.accepted fits.given state new (refusal_of e) left)
-    c.store_part.ensures.refused in
     record {
-      done = on_ok_weaker c.store_part.result (part_patched layout lawful keep index part held state new) done;
-      refused = each_error c.store_part.result (λ (e : ArrayError). RefusesStorePart layout keep index part held (refusal_of e) state new)
-          (λ (e : ArrayError). RefusesPatchPart layout keep index part held (refusal_of e) state new)
-          (λ e why. part_refuses layout lawful keep index part held (refusal_of e) state new why)
-          refused;
+      done = on_ok_weaker c.store_part.result (encoded_whole layout lawful index part (box_of c.in_ok-chunk.chunk) (box_of c.in_ok-region.region) c.args.chunk_subset.now.same_length chunk.region region.part chunk.accepted region.accepted held c.eq-whole.result c.eq-whole.ensures fits.accepted state new keep not) done;
+      refused = each_error c.store_part.result (λ (e : ArrayError). LeavesPart layout keep (box_of c.in_ok-region.region) held index (refusal_of e) state new)
+          (λ (e : ArrayError). RefusesEncodePart layout keep index part held (refusal_of e) state new)
+          (λ e left. whole_left layout lawful index part (box_of c.in_ok-chunk.chunk) (box_of c.in_ok-region.region) c.args.chunk_subset.now.same_length chunk.region region.part chunk.accepted region.accepted held c.eq-whole.result c.eq-whole.ensures fits.accepted state new keep not (refusal_of e)
+          (subst (λ (b : Box). LeavesPart layout keep b held index (refusal_of e) state new) at left))
+          c.store_part.ensures.refused;
       layout_kept = c.store_part.ensures.layout_kept;
     }

@@ -1,57 +1,61 @@
-use Rattle.std.proofs.Common.{◌∙◌, rules, subst, sym}
+use Rattle.std.proofs.Common.{◌∙◌, rules, ap, subst, sym}
+use Rattle.std.specs.Prelude.{is_some}
 use Rattle.zarrs_subset.specs.Regions.{box_of}
 use Rattle.zarrs_chunk_grid.proofs.Chunks.{box_is_there}
 use Rattle.zarrs_data_type.specs.ArrayData.{data_of}
 use Rattle.zarrs_codec_shard.specs.ShardPatches.{change_of}
 use Rattle.zarrs_codec_chain.specs.Options.{stores_empty_chunks}
+use Rattle.zarrs_engine_calls.specs.Patches.{RefusesPartly}
 use Rattle.zarrs_engine_calls.specs.Refusals.{Refusal, out_of_memory, refusal_of}
 use Rattle.zarrs_engine_calls.proofs.RefusalLemmas.{storage_said}
 use Rattle.zarrs_engine.specs.Engine.{layout_of}
-use Rattle.zarrs_engine.specs.Patches.{LeavesPatch}
-use Rattle.zarrs_engine.proofs.PatchRefusals.{partly_leaves, put_leaves_patch}
+use Rattle.zarrs_engine.specs.Patches.{LeavesPartly}
+use Rattle.zarrs_engine.proofs.PatchRefusals.{large_partly, partly_leaves, put_leaves_partly}
 use Rattle.zarrs_engine.proofs.PatchedChunks.{patched}
-use Rattle.zarrs_engine.proofs.PatchedRegions.{leaves_patch}
-use Rattle.zarrs_engine.proofs.RegionFronts.{leaves_large, leaves_memory}
 use Rattle.zarrs_engine.proofs.engine.Engine.patch_chunk.Goals as goal
 
 pub returns-in_err-chunk-clause-refused : goal.returns-in_err-chunk-clause-refused
-returns-in_err-chunk-clause-refused g c = λ region held.
+returns-in_err-chunk-clause-refused g c =
     let layout = layout_of c.args.self.now in
     let keep = stores_empty_chunks c.args.options.now in
     let state = g.S.ReadableStorageTraits.state c.args.self.now.storage in
     let index = c.args.chunk_indices.now in
+    let part = box_of c.args.part.now in
+    let held = data_of c.args.part_data.now in
     let r = refusal_of c.in_err-chunk.field-0.0 in
-    let why = leaves_patch layout keep region held index r state state (leaves_large layout keep region held index r state c.requires.boxed c.in_err-chunk.ensures.refused) in
+    let why = partly_leaves layout keep index part held r state (large_partly layout keep index part held state r c.requires.boxed c.in_err-chunk.ensures.refused) in
     search (rules, why)
 
 pub part_write-requires-clause-long : goal.part_write-requires-clause-long
 part_write-requires-clause-long g c = (box_is_there (layout_of c.args.self.now).grid c.args.chunk_indices.now c.requires.boxed).long
 
 pub returns-in_err-write-clause-refused : goal.returns-in_err-write-clause-refused
-returns-in_err-write-clause-refused g c = λ region held.
+returns-in_err-write-clause-refused g c =
     let state = g.S.ReadableStorageTraits.state c.args.self.now.storage in
-    let why = partly_leaves (layout_of c.args.self.now) (stores_empty_chunks c.args.options.now) c.args.chunk_indices.now region held (refusal_of c.in_err-write.field-0.0) state c.in_err-write.ensures.refused in
+    let why = partly_leaves (layout_of c.args.self.now) (stores_empty_chunks c.args.options.now) c.args.chunk_indices.now (box_of c.args.part.now) (data_of c.args.part_data.now)
+    (refusal_of c.in_err-write.field-0.0) state c.in_err-write.ensures.refused in
     search (rules, why)
 
 pub returns-in_err-key-clause-refused : goal.returns-in_err-key-clause-refused
-returns-in_err-key-clause-refused g c = λ region held.
+returns-in_err-key-clause-refused g c =
     let layout = layout_of c.args.self.now in
     let keep = stores_empty_chunks c.args.options.now in
     let state = g.S.ReadableStorageTraits.state c.args.self.now.storage in
-    let index = c.args.chunk_indices.now in
-    let why = leaves_patch layout keep region held index out_of_memory state state (leaves_memory layout keep region held index state) in
+    let why = partly_leaves layout keep c.args.chunk_indices.now (box_of c.args.part.now) (data_of c.args.part_data.now) out_of_memory state tt in
     search (rules, why)
 
 pub returns-in_err-put_part-clause-refused : goal.returns-in_err-put_part-clause-refused
-returns-in_err-put_part-clause-refused g c = λ region held.
+returns-in_err-put_part-clause-refused g c =
     let layout = layout_of c.args.self.now in
     let keep = stores_empty_chunks c.args.options.now in
     let index = c.args.chunk_indices.now in
+    let part = box_of c.args.part.now in
+    let held = data_of c.args.part_data.now in
     let old = g.S.ReadableStorageTraits.state c.args.self.now.storage in
     let new = g.S.ReadableStorageTraits.state c.put_part.new.self.storage in
     let e = c.in_err-put_part.field-0.0 in
-    let left = put_leaves_patch layout keep index region held e old new c.in_err-put_part.ensures.refused in
-    let why = subst (λ (r : Refusal). LeavesPatch layout keep region held index r old new) (sym (storage_said e)) left in
+    let left = put_leaves_partly layout keep index part held e old new (ap is_some c.in_ok-write.ensures.written) c.in_err-put_part.ensures.refused in
+    let why = subst (λ (r : Refusal). LeavesPartly layout keep index part held r old new) (sym (storage_said e)) left in
     search (rules, why)
 
 pub returns-clause-done : goal.returns-clause-done
@@ -59,7 +63,6 @@ returns-clause-done g c =
     let layout = layout_of c.args.self.now in
     let keep = stores_empty_chunks c.args.options.now in
     let part = box_of c.args.part.now in
-    let lies = c.requires.part in
     patched layout c.args.self.now.layout.lawful c.args.chunk_indices.now c.requires.boxed keep part (data_of c.args.part_data.now) c.in_ok-key.key (change_of c.in_ok-write.write)
     (g.S.ReadableStorageTraits.state c.args.self.now.storage) (g.S.ReadableStorageTraits.state c.put_part.new.self.storage)
-    lies.same_length (sym c.args.part.now.same_length ∙ lies.same_length) c.requires.cells c.in_ok-key.ensures.key c.in_ok-write.ensures.written c.in_ok-put_part.ensures.done
+    c.args.part.now.same_length c.requires.part c.requires.cells c.in_ok-key.ensures.key c.in_ok-write.ensures.written c.in_ok-put_part.ensures.done

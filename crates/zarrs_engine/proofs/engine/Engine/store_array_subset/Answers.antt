@@ -1,39 +1,72 @@
-use Rattle.std.proofs.Common.{◌≡◌, ◌∙◌, ◌&&◌, true, false, IfErr, OnOk, Some, None, ap, rules, subst, sym}
+use Rattle.std.proofs.Common.{◌≡◌, ◌∙◌, true, false, Contains, IfErr, OnOk, Some, None, rules, subst, sym}
+use Rattle.std.proofs.lemmas.Bool.{false≢true}
 use Rattle.std.proofs.lemmas.Result.{on_ok_weaker}
 use Rattle.zarrs_subset.specs.Regions.{Box, box_of, positions}
 use Rattle.zarrs_data_type.specs.ArrayData.{data_of}
-use Rattle.zarrs_codec_chain.specs.Options.{stores_empty_chunks}
+use Rattle.zarrs_codec_chain.specs.Options.{encodes_partially, stores_empty_chunks}
 use Rattle.zarrs_engine_calls.specs.Reach.{MayAskParts}
 use Rattle.zarrs_chunk_grid.specs.Grids.{met}
 use Rattle.zarrs_engine_calls.specs.ChunkBoxes.{chunks_met}
 use Rattle.zarrs_engine_calls.specs.ArgumentRefusals.{box_data_refusal, region_refusal, store_region_refusal}
 use Rattle.zarrs_engine_calls.specs.Fronts.{StoresAll}
-use Rattle.zarrs_engine_calls.specs.Patches.{PatchesAll, RefusesPatches, RefusesPatchRegion}
+use Rattle.zarrs_engine_calls.specs.Patches.{IsPatched, PatchesAll, RefusesPatches, RefusesPatchRegion, writes_parts}
+use Rattle.zarrs_engine_calls.specs.StateRefusals.{IsPart}
 use Rattle.zarrs_engine_calls.specs.Step.{RefusesStore, RefusesStoreRegion, StoresRegion}
 use Rattle.zarrs_engine_calls.specs.declared.error.ArrayError.{ArrayError}
 use Rattle.zarrs_engine.proofs.Canon.{store_canon}
 use Rattle.zarrs_engine.proofs.Puts.{each_error}
 use Rattle.zarrs_engine_calls.specs.Refusals.{refusal_of}
+use Rattle.zarrs_engine_calls.proofs.MetParts.{shares}
 use Rattle.zarrs_engine_calls.proofs.RefusalLemmas.{refuses_said, second_refusal}
 use Rattle.zarrs_engine.specs.Engine.{layout_of}
-use Rattle.zarrs_engine.proofs.PatchedRegions.{region_patched, region_refuses}
+use Rattle.zarrs_engine.proofs.PatchedRegions.{patches_as, refuses_as, region_early, region_patch_early, region_patched, region_refuses, supported_parts}
 use Rattle.zarrs_engine.proofs.RegionArguments.{no_refusal, region_first, region_second}
 use Rattle.zarrs_engine.proofs.engine.Engine.store_array_subset.Goals as goal
 
 pub returns-in_err-chunks : goal.returns-in_err-chunks
 returns-in_err-chunks g c =
-    let why = region_first (layout_of c.args.self.now) (stores_empty_chunks c.args.options.now) (g.G.ChunkGridTraits.array_extents c.args.self.now.layout.grid) (box_of c.args.array_subset.now)
-    (data_of c.args.subset_data.now) (g.S.ReadableStorageTraits.state c.args.self.now.storage) (refusal_of c.in_err-chunks.field-0.0) c.in_err-chunks.ensures.refused in
-    let partly = region_refuses (layout_of c.args.self.now) c.args.self.now.layout.lawful (stores_empty_chunks c.args.options.now) (g.G.ChunkGridTraits.array_extents c.args.self.now.layout.grid) (box_of c.args.array_subset.now)
-    (data_of c.args.subset_data.now) (refusal_of c.in_err-chunks.field-0.0) (g.S.ReadableStorageTraits.state c.args.self.now.storage) (g.S.ReadableStorageTraits.state c.args.self.now.storage) why in
+    let layout = layout_of c.args.self.now in
+    let keep = stores_empty_chunks c.args.options.now in
+    let asked = encodes_partially c.args.options.now in
+    let shape = g.G.ChunkGridTraits.array_extents c.args.self.now.layout.grid in
+    let region = box_of c.args.array_subset.now in
+    let held = data_of c.args.subset_data.now in
+    let state = g.S.ReadableStorageTraits.state c.args.self.now.storage in
+    let r = refusal_of c.in_err-chunks.field-0.0 in
+    let first = region_first layout shape region held r c.in_err-chunks.ensures.refused in
+    let why = region_early layout keep shape region held r state first in
+    let partly = region_patch_early layout keep asked shape region held r state first in
     search (rules, why, partly)
 
 pub returns-in_err-check_cells : goal.returns-in_err-check_cells
 returns-in_err-check_cells g c =
-    let why = region_second (layout_of c.args.self.now) (stores_empty_chunks c.args.options.now) (g.G.ChunkGridTraits.array_extents c.args.self.now.layout.grid) (box_of c.args.array_subset.now)
-    (data_of c.args.subset_data.now) (g.S.ReadableStorageTraits.state c.args.self.now.storage) (refusal_of c.in_err-check_cells.field-0.0) c.in_ok-chunks.ensures.accepted (refuses_said _ (refusal_of c.in_err-check_cells.field-0.0) (subst (λ b. box_data_refusal (layout_of c.args.self.now) b (box_of c.args.array_subset.now).shape (data_of c.args.subset_data.now) ≡ Some (refusal_of c.in_err-check_cells.field-0.0)) c.in_ok-is_chunk.ensures.one c.in_err-check_cells.ensures.refused)) in
-    let partly = region_refuses (layout_of c.args.self.now) c.args.self.now.layout.lawful (stores_empty_chunks c.args.options.now) (g.G.ChunkGridTraits.array_extents c.args.self.now.layout.grid) (box_of c.args.array_subset.now)
-    (data_of c.args.subset_data.now) (refusal_of c.in_err-check_cells.field-0.0) (g.S.ReadableStorageTraits.state c.args.self.now.storage) (g.S.ReadableStorageTraits.state c.args.self.now.storage) why in
+    let layout = layout_of c.args.self.now in
+    let keep = stores_empty_chunks c.args.options.now in
+    let asked = encodes_partially c.args.options.now in
+    let shape = g.G.ChunkGridTraits.array_extents c.args.self.now.layout.grid in
+    let region = box_of c.args.array_subset.now in
+    let held = data_of c.args.subset_data.now in
+    let state = g.S.ReadableStorageTraits.state c.args.self.now.storage in
+    let r = refusal_of c.in_err-check_cells.field-0.0 in
+    let first = region_second layout shape region held r c.in_ok-chunks.ensures.accepted
+    (refuses_said _ r (subst (λ b. box_data_refusal layout b region.shape held ≡ Some r) c.in_ok-is_chunk.ensures.one c.in_err-check_cells.ensures.refused)) in
+    let why = region_early layout keep shape region held r state first in
+    let partly = region_patch_early layout keep asked shape region held r state first in
+    search (rules, why, partly)
+
+pub returns-in_err-is_chunk : goal.returns-in_err-is_chunk
+returns-in_err-is_chunk g c =
+    let layout = layout_of c.args.self.now in
+    let keep = stores_empty_chunks c.args.options.now in
+    let asked = encodes_partially c.args.options.now in
+    let shape = g.G.ChunkGridTraits.array_extents c.args.self.now.layout.grid in
+    let region = box_of c.args.array_subset.now in
+    let held = data_of c.args.subset_data.now in
+    let state = g.S.ReadableStorageTraits.state c.args.self.now.storage in
+    let r = refusal_of c.in_err-is_chunk.field-0.0 in
+    let first = region_second layout shape region held r c.in_ok-chunks.ensures.accepted (no_refusal _ r c.in_err-is_chunk.ensures.refused) in
+    let why = region_early layout keep shape region held r state first in
+    let partly = region_patch_early layout keep asked shape region held r state first in
     search (rules, why, partly)
 
 pub store_along-requires-clause-ask : goal.store_along-requires-clause-ask
@@ -41,14 +74,19 @@ store_along-requires-clause-ask g c =
     subst (λ (b : Box). MayAskParts (layout_of c.args.self.now) (box_of c.args.array_subset.now) (positions b) (g.S.ReadableStorageTraits.state c.args.self.now.storage))
     (sym c.in_ok-chunks.ensures.chunks) (c.requires c.in_ok-chunks.ensures.accepted)
 
-pub returns-in_err-is_chunk : goal.returns-in_err-is_chunk
-returns-in_err-is_chunk g c =
-    let why = region_second (layout_of c.args.self.now) (stores_empty_chunks c.args.options.now) (g.G.ChunkGridTraits.array_extents c.args.self.now.layout.grid) (box_of c.args.array_subset.now)
-    (data_of c.args.subset_data.now) (g.S.ReadableStorageTraits.state c.args.self.now.storage) (refusal_of c.in_err-is_chunk.field-0.0) c.in_ok-chunks.ensures.accepted
-    (no_refusal _ (refusal_of c.in_err-is_chunk.field-0.0) c.in_err-is_chunk.ensures.refused) in
-    let partly = region_refuses (layout_of c.args.self.now) c.args.self.now.layout.lawful (stores_empty_chunks c.args.options.now) (g.G.ChunkGridTraits.array_extents c.args.self.now.layout.grid) (box_of c.args.array_subset.now)
-    (data_of c.args.subset_data.now) (refusal_of c.in_err-is_chunk.field-0.0) (g.S.ReadableStorageTraits.state c.args.self.now.storage) (g.S.ReadableStorageTraits.state c.args.self.now.storage) why in
-    search (rules, why, partly)
+pub patch_along-requires-clause-supported : goal.patch_along-requires-clause-supported
+patch_along-requires-clause-supported g c =
+    let layout = layout_of c.args.self.now in
+    let state = g.S.ReadableStorageTraits.state c.args.self.now.storage in
+    supported_parts (encodes_partially c.args.options.now) layout state (sym c.writes_parts.ensures ∙ c.if-writes_parts.true)
+
+pub patch_along-requires-clause-meets : goal.patch_along-requires-clause-meets
+patch_along-requires-clause-meets g c =
+    let layout = layout_of c.args.self.now in
+    let region = box_of c.args.array_subset.now in
+    let cover = c.in_ok-chunks.ensures.cover in
+    λ index among. shares layout.grid c.args.self.now.layout.lawful.grid region c.args.array_subset.now.same_length cover.dimensions cover.covered index
+    (subst (λ (b : Box). Contains (positions b) index) c.in_ok-chunks.ensures.chunks among)
 
 pub patch_along-requires-clause-ask : goal.patch_along-requires-clause-ask
 patch_along-requires-clause-ask g c =
@@ -58,8 +96,8 @@ patch_along-requires-clause-ask g c =
 pub returns-then-writes_parts : goal.returns-then-writes_parts
 returns-then-writes_parts g c =
     let layout = layout_of c.args.self.now in
-    let lawful = c.args.self.now.layout.lawful in
     let keep = stores_empty_chunks c.args.options.now in
+    let asked = encodes_partially c.args.options.now in
     let shape = g.G.ChunkGridTraits.array_extents c.args.self.now.layout.grid in
     let region = box_of c.args.array_subset.now in
     let held = data_of c.args.subset_data.now in
@@ -70,16 +108,18 @@ returns-then-writes_parts g c =
     let fits = subst (λ b. box_data_refusal layout b region.shape held ≡ None) c.in_ok-is_chunk.ensures.one c.in_ok-check_cells.ensures.accepted in
     let none : first ≡ None = second_refusal (region_refusal layout shape region) _ c.in_ok-chunks.ensures.accepted ∙ fits in
     let new = g.S.ReadableStorageTraits.state c.patch_along.new.self.storage in
+    let is : writes_parts asked layout old ≡ true = sym c.writes_parts.ensures ∙ c.if-writes_parts.true in
     let e = c.patch_along.ensures in
     record {
-      whole = λ off.
-          let clash : true ≡ false = sym c.if-writes_parts.true ∙ c.writes_parts.ensures ∙ ap (λ b. b && (layout.chain.encodes_partly && old.sets_parts)) off in
-          absurd (cc);
+      whole = λ off. absurd (false≢true (sym off ∙ is));
       partly = record {
-        done = on_ok_weaker c.patch_along.result (λ (p : PatchesAll layout region held (positions range) old new). (none, subst (λ (b : Box). PatchesAll layout region held (positions b) old new) at p)) e.done;
-        refused = each_error c.patch_along.result (λ (e : ArrayError). RefusesPatches layout keep first region held (positions range) (refusal_of e) old new)
-            (λ (e : ArrayError). RefusesPatchRegion layout keep shape region held (refusal_of e) old new)
-            (λ e why. subst (λ (b : Box). RefusesPatches layout keep first region held (positions b) (refusal_of e) old new) at why)
+        done = on_ok_weaker c.patch_along.result (λ (p : PatchesAll layout keep (IsPart layout region) region held (positions range) old new).
+            (none, patches_as layout keep (IsPart layout region) (IsPatched layout asked region old) region held (chunks_met layout.grid region) old new (λ i among part. (is, part)) (λ i among patched. patched.1)
+            (subst (λ (b : Box). PatchesAll layout keep (IsPart layout region) region held (positions b) old new) at p))) e.done;
+        refused = each_error c.patch_along.result (λ (e : ArrayError). RefusesPatches layout keep (IsPart layout region) first region held (positions range) (refusal_of e) old new)
+            (λ (e : ArrayError). RefusesPatchRegion layout keep asked shape region held (refusal_of e) old new)
+            (λ e why. refuses_as layout keep (IsPart layout region) (IsPatched layout asked region old) first region held (chunks_met layout.grid region) (refusal_of e) old new (λ i part. (is, part)) (λ i patched. patched.1)
+            (subst (λ (b : Box). RefusesPatches layout keep (IsPart layout region) first region held (positions b) (refusal_of e) old new) at why))
             (e.refused first none);
         layout_kept = e.layout_kept;
       };
@@ -90,6 +130,7 @@ returns g c =
     let layout = layout_of c.args.self.now in
     let lawful = c.args.self.now.layout.lawful in
     let keep = stores_empty_chunks c.args.options.now in
+    let asked = encodes_partially c.args.options.now in
     let shape = g.G.ChunkGridTraits.array_extents c.args.self.now.layout.grid in
     let region = box_of c.args.array_subset.now in
     let held = data_of c.args.subset_data.now in
@@ -100,6 +141,7 @@ returns g c =
     let fits = subst (λ b. box_data_refusal layout b region.shape held ≡ None) c.in_ok-is_chunk.ensures.one c.in_ok-check_cells.ensures.accepted in
     let none : first ≡ None = second_refusal (region_refusal layout shape region) _ c.in_ok-chunks.ensures.accepted ∙ fits in
     let new = g.S.ReadableStorageTraits.state c.store_along.new.self.storage in
+    let off : writes_parts asked layout old ≡ false = sym c.writes_parts.ensures ∙ c.if-writes_parts.false in
     let e = c.store_along.ensures in
     let done : OnOk c.store_along.result (StoresRegion layout keep shape region held old new) =
     on_ok_weaker c.store_along.result (λ (p : StoresAll layout keep region held (positions range) old new). (none, subst (λ (b : Box). StoresAll layout keep region held (positions b) old new) at p)) e.done in
@@ -109,17 +151,17 @@ returns g c =
     (λ e why. subst (λ (b : Box). RefusesStore layout keep first region held (positions b) (refusal_of e) old new) at why)
     (e.refused first none) in
     record {
-      whole = λ off. record {
+      whole = λ _. record {
         done = done;
         refused = refused;
         canonical = store_canon layout lawful keep old new first region held (chunks_met layout.grid region) c.store_along.result done refused;
         layout_kept = e.layout_kept;
       };
       partly = record {
-        done = on_ok_weaker c.store_along.result (region_patched layout lawful keep shape region held old new) done;
+        done = on_ok_weaker c.store_along.result (region_patched layout lawful keep asked shape region held old new off) done;
         refused = each_error c.store_along.result (λ (e : ArrayError). RefusesStoreRegion layout keep shape region held (refusal_of e) old new)
-            (λ (e : ArrayError). RefusesPatchRegion layout keep shape region held (refusal_of e) old new)
-            (λ e why. region_refuses layout lawful keep shape region held (refusal_of e) old new why)
+            (λ (e : ArrayError). RefusesPatchRegion layout keep asked shape region held (refusal_of e) old new)
+            (λ e why. region_refuses layout lawful keep asked shape region held (refusal_of e) old new (λ _. off) why)
             refused;
         layout_kept = e.layout_kept;
       };

@@ -1,28 +1,32 @@
-use Rattle.std.proofs.Common.{◌≡◌, ◌∙◌, ◌&&◌, true, false, IfErr, [], ◌∷◌, OnOk, Some, rules, ap, subst, sym}
+use Rattle.std.proofs.Common.{◌≡◌, ◌∙◌, true, false, IfErr, [], ◌∷◌, OnOk, Some, rules, ap, subst, sym}
 use Rattle.std.proofs.lemmas.Bool.{false≢true}
 use Rattle.std.proofs.lemmas.Result.{on_ok_weaker}
+use Rattle.zarrs_subset.specs.Boxes.{position_count}
 use Rattle.zarrs_subset.specs.Regions.{Box, box_of, LiesInBox}
 use Rattle.zarrs_chunk_grid.specs.Grids.{box_at}
-use Rattle.zarrs_engine_calls.specs.ArgumentRefusals.{store_part_refusal}
-use Rattle.zarrs_engine_calls.specs.ChunkBoxes.{part_box}
-use Rattle.zarrs_engine_calls.specs.StateRefusals.{IsPart}
-use Rattle.zarrs_engine_calls.proofs.Contents.{member}
-use Rattle.zarrs_engine_layout.proofs.ChunkParts.{chunk_has, part_lies}
-use Rattle.zarrs_engine_layout.proofs.OneChunk.{covers_lies}
-use Rattle.zarrs_engine.specs.Patches.{LeavesPatch}
+use Rattle.zarrs_chunk_grid.proofs.Chunks.{box_long}
 use Rattle.zarrs_data_type.specs.ArrayData.{data_of}
-use Rattle.zarrs_codec_chain.specs.Options.{stores_empty_chunks}
+use Rattle.zarrs_data_type.specs.Cells.{HasCells}
+use Rattle.zarrs_codec_chain.specs.Options.{encodes_partially, stores_empty_chunks}
+use Rattle.zarrs_engine_calls.specs.ArgumentRefusals.{store_part_refusal}
+use Rattle.zarrs_engine_calls.specs.ChunkBoxes.{CoversBox, part_box}
+use Rattle.zarrs_engine_calls.specs.Patches.{IsPatched, RefusesPatchPart}
+use Rattle.zarrs_engine_calls.specs.StateRefusals.{IsPart}
 use Rattle.zarrs_engine_calls.specs.declared.error.ArrayError.{ArrayError}
 use Rattle.zarrs_engine_calls.specs.Refusals.{dimensionality, refusal_of}
 use Rattle.zarrs_engine_calls.specs.Step.{RefusesStorePart, StoresPart}
-use Rattle.zarrs_engine_calls.specs.Patches.{RefusesPatchPart}
-use Rattle.zarrs_engine.proofs.PatchedRegions.{part_patched, part_refuses, patched_left, patched_whole}
+use Rattle.zarrs_engine_calls.proofs.Contents.{member}
 use Rattle.zarrs_engine_calls.proofs.RefusalLemmas.{refuses_said}
+use Rattle.zarrs_engine_layout.proofs.ChunkParts.{chunk_has, part_lies}
+use Rattle.zarrs_engine_layout.proofs.OneChunk.{covers_lies}
 use Rattle.zarrs_engine.specs.Engine.{layout_of}
+use Rattle.zarrs_engine.specs.Patches.{LeavesPartly}
 use Rattle.zarrs_engine.specs.RegionWrites.{LeavesPart}
-use Rattle.zarrs_engine.proofs.PartReads.{part_cover}
-use Rattle.zarrs_engine.proofs.PartStores.{data_refuses, part_chunk, part_length, part_passing, stored_ask_part, takes_none, takes_part}
 use Rattle.zarrs_engine.proofs.Canon.{store_canon}
+use Rattle.zarrs_engine.proofs.PartReads.{part_cover}
+use Rattle.zarrs_engine.proofs.PartStores.{data_refuses, part_chunk, part_length, part_passing, stored_ask_part, stored_at, stores_early, takes_none, takes_part}
+use Rattle.zarrs_engine.proofs.PartWrites.{lies_covers}
+use Rattle.zarrs_engine.proofs.PatchedRegions.{part_patched, part_refuses, patch_early, patched_left, patched_part, supported_parts}
 use Rattle.zarrs_engine.proofs.Puts.{each_error}
 use Rattle.zarrs_engine.proofs.engine.Engine.store_chunk_subset.Goals as goal
 
@@ -30,54 +34,67 @@ pub returns-then-chunk_indices-dimensions : goal.returns-then-chunk_indices-dime
 returns-then-chunk_indices-dimensions g c =
     let layout = layout_of c.args.self.now in
     let keep = stores_empty_chunks c.args.options.now in
+    let asked = encodes_partially c.args.options.now in
     let state = g.S.ReadableStorageTraits.state c.args.self.now.storage in
     let index = c.args.chunk_indices.now in
     let part = box_of c.args.chunk_subset.now in
     let held = data_of c.args.chunk_subset_data.now in
     let e = c.new-error.result in
+    let r = dimensionality e.got e.expected in
     let said = ap (λ n. Some (dimensionality n layout.grid.dimensions)) (sym c.new-error.ensures.got) ∙ ap (λ n. Some (dimensionality e.got n)) (sym (c.new-error.ensures.expected ∙ c.dimensionality-dimensions.ensures)) in
-    let why = part_length layout index part held keep state (dimensionality e.got e.expected) (λ is. c.if-chunk_indices-dimensions.true (is ∙ sym c.dimensionality-dimensions.ensures)) said in
-    let partly = part_refuses layout c.args.self.now.layout.lawful keep index part held (dimensionality e.got e.expected) state state why in
+    let first = part_length layout index part held r (λ is. c.if-chunk_indices-dimensions.true (is ∙ sym c.dimensionality-dimensions.ensures)) said in
+    let why = stores_early layout index part held keep state r first in
+    let partly = patch_early layout keep asked index part held r state first in
     search (rules, why, partly)
 
 pub returns-in_err-chunk : goal.returns-in_err-chunk
 returns-in_err-chunk g c =
     let layout = layout_of c.args.self.now in
     let keep = stores_empty_chunks c.args.options.now in
+    let asked = encodes_partially c.args.options.now in
     let state = g.S.ReadableStorageTraits.state c.args.self.now.storage in
     let index = c.args.chunk_indices.now in
     let part = box_of c.args.chunk_subset.now in
     let held = data_of c.args.chunk_subset_data.now in
     let long = c.if-chunk_indices-dimensions.false ∙ c.dimensionality-dimensions.ensures in
-    let why = part_chunk layout index part held keep state (refusal_of c.in_err-chunk.field-0.0) long c.in_err-chunk.ensures.refused in
-    let partly = part_refuses layout c.args.self.now.layout.lawful keep index part held (refusal_of c.in_err-chunk.field-0.0) state state why in
+    let r = refusal_of c.in_err-chunk.field-0.0 in
+    let first = part_chunk layout index part held r long c.in_err-chunk.ensures.refused in
+    let why = stores_early layout index part held keep state r first in
+    let partly = patch_early layout keep asked index part held r state first in
     search (rules, why, partly)
 
 pub returns-in_err-region : goal.returns-in_err-region
 returns-in_err-region g c =
     let layout = layout_of c.args.self.now in
     let keep = stores_empty_chunks c.args.options.now in
+    let asked = encodes_partially c.args.options.now in
     let state = g.S.ReadableStorageTraits.state c.args.self.now.storage in
     let index = c.args.chunk_indices.now in
     let part = box_of c.args.chunk_subset.now in
     let held = data_of c.args.chunk_subset_data.now in
     let long = c.if-chunk_indices-dimensions.false ∙ c.dimensionality-dimensions.ensures in
-    let why = part_passing layout index part held keep state (refusal_of c.in_err-region.field-0.0) long c.in_ok-chunk.ensures.accepted c.in_err-region.ensures.refused in
-    let partly = part_refuses layout c.args.self.now.layout.lawful keep index part held (refusal_of c.in_err-region.field-0.0) state state why in
+    let r = refusal_of c.in_err-region.field-0.0 in
+    let first = part_passing layout index part held r long c.in_ok-chunk.ensures.accepted c.in_err-region.ensures.refused in
+    let why = stores_early layout index part held keep state r first in
+    let partly = patch_early layout keep asked index part held r state first in
     search (rules, why, partly)
 
 pub returns-in_err-check_cells : goal.returns-in_err-check_cells
 returns-in_err-check_cells g c =
     let layout = layout_of c.args.self.now in
     let keep = stores_empty_chunks c.args.options.now in
+    let asked = encodes_partially c.args.options.now in
     let state = g.S.ReadableStorageTraits.state c.args.self.now.storage in
     let index = c.args.chunk_indices.now in
     let part = box_of c.args.chunk_subset.now in
     let held = data_of c.args.chunk_subset_data.now in
     let chunk = c.in_ok-chunk.ensures in
     let region = c.in_ok-region.ensures in
-    let why = data_refuses layout c.args.self.now.layout.lawful index part (box_of c.in_ok-chunk.chunk) (box_of c.in_ok-region.region) c.args.chunk_subset.now.same_length chunk.region region.part chunk.accepted region.accepted held c.eq.result c.eq.ensures keep (refusal_of c.in_err-check_cells.field-0.0) state (refuses_said _ (refusal_of c.in_err-check_cells.field-0.0) c.in_err-check_cells.ensures.refused) in
-    let partly = part_refuses layout c.args.self.now.layout.lawful keep index part held (refusal_of c.in_err-check_cells.field-0.0) state state why in
+    let r = refusal_of c.in_err-check_cells.field-0.0 in
+    let first = data_refuses layout c.args.self.now.layout.lawful index part (box_of c.in_ok-chunk.chunk) (box_of c.in_ok-region.region) c.args.chunk_subset.now.same_length chunk.region region.part chunk.accepted region.accepted held c.eq.result c.eq.ensures r
+    (refuses_said _ r c.in_err-check_cells.ensures.refused) in
+    let why = stores_early layout index part held keep state r first in
+    let partly = patch_early layout keep asked index part held r state first in
     search (rules, why, partly)
 
 pub store_part-requires-clause-dimensions : goal.store_part-requires-clause-dimensions
@@ -121,15 +138,20 @@ pub returns : goal.returns
 returns g c =
     let layout = layout_of c.args.self.now in
     let keep = stores_empty_chunks c.args.options.now in
+    let asked = encodes_partially c.args.options.now in
     let state = g.S.ReadableStorageTraits.state c.args.self.now.storage in
     let index = c.args.chunk_indices.now in
     let part = box_of c.args.chunk_subset.now in
     let held = data_of c.args.chunk_subset_data.now in
+    let lawful = c.args.self.now.layout.lawful in
     let chunk = c.in_ok-chunk.ensures in
     let region = c.in_ok-region.ensures in
+    let here = part_box (box_at layout.grid index) part in
+    let at = stored_at layout lawful index part (box_of c.in_ok-chunk.chunk) (box_of c.in_ok-region.region) c.args.chunk_subset.now.same_length chunk.region region.part chunk.accepted region.accepted held in
+    let boxed = chunk_has layout index chunk.accepted in
+    let dimensions = (part_cover layout lawful index part (box_of c.in_ok-chunk.chunk) (box_of c.in_ok-region.region) c.args.chunk_subset.now.same_length chunk.region region.part chunk.accepted region.accepted).dimensions in
     let new = g.S.ReadableStorageTraits.state c.store_part.new.self.storage in
     let fits = c.in_ok-check_cells.ensures in
-    let lawful = c.args.self.now.layout.lawful in
     let done : OnOk c.store_part.result (StoresPart layout keep index part held state new) =
     on_ok_weaker c.store_part.result (takes_part layout lawful index part (box_of c.in_ok-chunk.chunk) (box_of c.in_ok-region.region) c.args.chunk_subset.now.same_length chunk.region region.part chunk.accepted region.accepted held c.eq.result c.eq.ensures keep fits.accepted fits.given state new) c.store_part.ensures.done in
     let refused : IfErr c.store_part.result (λ (e : ArrayError). RefusesStorePart layout keep index part held (refusal_of e) state new) =
@@ -137,22 +159,34 @@ returns g c =
     (λ (e : ArrayError). RefusesStorePart layout keep index part held (refusal_of e) state new)
     (λ e left. takes_none layout lawful index part (box_of c.in_ok-chunk.chunk) (box_of c.in_ok-region.region) c.args.chunk_subset.now.same_length chunk.region region.part chunk.accepted region.accepted held c.eq.result c.eq.ensures keep fits.accepted fits.given state new (refusal_of e) left)
     c.store_part.ensures.refused in
+    let not : IsPatched layout asked here state index → ⊥ = λ is.
+    let proper : LiesInBox (box_of c.in_ok-chunk.chunk) (box_of c.in_ok-region.region) → ⊥ = λ lies.
+    is.1 (subst (λ (b : Box). CoversBox b (box_at layout.grid index)) at
+    (lies_covers (box_at layout.grid index) (box_of c.in_ok-region.region) (box_long layout.grid index) c.in_ok-region.region.same_length (subst (λ (b : Box). LiesInBox b (box_of c.in_ok-region.region)) chunk.region lies))) in
+    false≢true (sym c.if-writes_part.false ∙ c.writes_part.ensures.1 (is.0, proper)) in
     record {
       whole = λ off. record {
         done = done;
         refused = refused;
-        canonical = store_canon layout lawful keep state new (store_part_refusal layout index part held) (part_box (box_at layout.grid index) part) held (index ∷ []) c.store_part.result done refused;
+        canonical = store_canon layout lawful keep state new (store_part_refusal layout index part held) here held (index ∷ []) c.store_part.result done refused;
         layout_kept = c.store_part.ensures.layout_kept;
       };
       partly = record {
-        done = on_ok_weaker c.store_part.result (part_patched layout lawful keep index part held state new) done;
+        done = on_ok_weaker c.store_part.result (part_patched layout lawful keep asked index part held state new not) done;
         refused = each_error c.store_part.result (λ (e : ArrayError). RefusesStorePart layout keep index part held (refusal_of e) state new)
-            (λ (e : ArrayError). RefusesPatchPart layout keep index part held (refusal_of e) state new)
-            (λ e why. part_refuses layout lawful keep index part held (refusal_of e) state new why)
+            (λ (e : ArrayError). RefusesPatchPart layout keep asked index part held (refusal_of e) state new)
+            (λ e why. part_refuses layout lawful keep asked index part held (refusal_of e) state new (λ _. not) why)
             refused;
         layout_kept = c.store_part.ensures.layout_kept;
       };
     }
+
+pub patch_chunk-requires-clause-supported : goal.patch_chunk-requires-clause-supported
+patch_chunk-requires-clause-supported g c =
+    let layout = layout_of c.args.self.now in
+    let asked = encodes_partially c.args.options.now in
+    let state = g.S.ReadableStorageTraits.state c.args.self.now.storage in
+    supported_parts asked layout state (c.writes_part.ensures.0 c.if-writes_part.true).0
 
 pub patch_chunk-requires-clause-part : goal.patch_chunk-requires-clause-part
 patch_chunk-requires-clause-part g c = part_lies (layout_of c.args.self.now) c.args.chunk_indices.now (box_of c.args.chunk_subset.now) c.in_ok-region.ensures.accepted
@@ -161,6 +195,7 @@ pub patch_chunk-requires-clause-ask : goal.patch_chunk-requires-clause-ask
 patch_chunk-requires-clause-ask g c =
     let layout = layout_of c.args.self.now in
     let keep = stores_empty_chunks c.args.options.now in
+    let asked = encodes_partially c.args.options.now in
     let state = g.S.ReadableStorageTraits.state c.args.self.now.storage in
     let index = c.args.chunk_indices.now in
     let part = box_of c.args.chunk_subset.now in
@@ -168,18 +203,21 @@ patch_chunk-requires-clause-ask g c =
     let lawful = c.args.self.now.layout.lawful in
     let chunk = c.in_ok-chunk.ensures in
     let region = c.in_ok-region.ensures in
-    let here = box_of c.in_ok-region.region in
+    let here = part_box (box_at layout.grid index) part in
+    let at = stored_at layout lawful index part (box_of c.in_ok-chunk.chunk) (box_of c.in_ok-region.region) c.args.chunk_subset.now.same_length chunk.region region.part chunk.accepted region.accepted held in
     let boxed = chunk_has layout index chunk.accepted in
     let dimensions = (part_cover layout lawful index part (box_of c.in_ok-chunk.chunk) (box_of c.in_ok-region.region) c.args.chunk_subset.now.same_length chunk.region region.part chunk.accepted region.accepted).dimensions in
-    let proper : IsPart layout here index = λ covers.
-    let lies = covers_lies layout.grid lawful.grid index boxed here c.in_ok-region.region.same_length dimensions covers in
-    false≢true (sym c.if-not-lies_in_box.true ∙ c.lies_in_box.ensures.1 (subst (λ (b : Box). LiesInBox b here) (sym chunk.region) lies)) in
+    let region_box = box_of c.in_ok-region.region in
+    let proper : IsPart layout region_box index = λ covers.
+    let lies = covers_lies layout.grid lawful.grid index boxed region_box c.in_ok-region.region.same_length dimensions covers in
+    (c.writes_part.ensures.0 c.if-writes_part.true).1 (subst (λ (b : Box). LiesInBox b region_box) (sym chunk.region) lies) in
     stored_ask_part layout lawful index part (box_of c.in_ok-chunk.chunk) (box_of c.in_ok-region.region) c.args.chunk_subset.now.same_length chunk.region region.part chunk.accepted region.accepted held state (c.requires chunk.accepted region.accepted) index (member index) proper
 
-pub returns-then-not-lies_in_box : goal.returns-then-not-lies_in_box
-returns-then-not-lies_in_box g c =
+pub returns-then-writes_part : goal.returns-then-writes_part
+returns-then-writes_part g c =
     let layout = layout_of c.args.self.now in
     let keep = stores_empty_chunks c.args.options.now in
+    let asked = encodes_partially c.args.options.now in
     let state = g.S.ReadableStorageTraits.state c.args.self.now.storage in
     let index = c.args.chunk_indices.now in
     let part = box_of c.args.chunk_subset.now in
@@ -187,20 +225,29 @@ returns-then-not-lies_in_box g c =
     let lawful = c.args.self.now.layout.lawful in
     let chunk = c.in_ok-chunk.ensures in
     let region = c.in_ok-region.ensures in
+    let here = part_box (box_at layout.grid index) part in
+    let at = stored_at layout lawful index part (box_of c.in_ok-chunk.chunk) (box_of c.in_ok-region.region) c.args.chunk_subset.now.same_length chunk.region region.part chunk.accepted region.accepted held in
+    let boxed = chunk_has layout index chunk.accepted in
+    let dimensions = (part_cover layout lawful index part (box_of c.in_ok-chunk.chunk) (box_of c.in_ok-region.region) c.args.chunk_subset.now.same_length chunk.region region.part chunk.accepted region.accepted).dimensions in
+    let region_box = box_of c.in_ok-region.region in
     let new = g.S.ReadableStorageTraits.state c.patch_chunk.new.self.storage in
     let fits = c.in_ok-check_cells.ensures in
+    let lies = part_lies layout index part region.accepted in
+    let given = subst (λ (b : Box). HasCells layout.kind held (position_count b.shape)) at fits.given in
+    let takes = c.writes_part.ensures.0 c.if-writes_part.true in
+    let proper : IsPart layout region_box index = λ covers.
+    let within = covers_lies layout.grid lawful.grid index boxed region_box c.in_ok-region.region.same_length dimensions covers in
+    takes.1 (subst (λ (b : Box). LiesInBox b region_box) (sym chunk.region) within) in
+    let is : IsPatched layout asked here state index = (takes.0, subst (λ (b : Box). IsPart layout b index) at proper) in
     let e = c.patch_chunk.ensures in
-    let here = part_box (box_at layout.grid index) part in
     record {
-      whole = λ off.
-          let clash : true ≡ false = sym c.if-writes_parts.true ∙ c.writes_parts.ensures ∙ ap (λ b. b && (layout.chain.encodes_partly && state.sets_parts)) off in
-          absurd (cc);
+      whole = λ off. absurd (false≢true (sym off ∙ takes.0));
       partly = record {
-        done = on_ok_weaker c.patch_chunk.result (patched_whole layout lawful index part (box_of c.in_ok-chunk.chunk) (box_of c.in_ok-region.region) c.args.chunk_subset.now.same_length chunk.region region.part chunk.accepted region.accepted held c.eq.result c.eq.ensures fits.accepted state new) e.done;
-        refused = each_error c.patch_chunk.result (λ (e : ArrayError). LeavesPatch layout keep here held index (refusal_of e) state new)
-            (λ (e : ArrayError). RefusesPatchPart layout keep index part held (refusal_of e) state new)
-            (λ e left. patched_left layout lawful index part (box_of c.in_ok-chunk.chunk) (box_of c.in_ok-region.region) c.args.chunk_subset.now.same_length chunk.region region.part chunk.accepted region.accepted held c.eq.result c.eq.ensures fits.accepted state new fits.given keep (refusal_of e) left)
-            (e.refused here held);
+        done = on_ok_weaker c.patch_chunk.result (patched_part layout lawful index part (box_of c.in_ok-chunk.chunk) (box_of c.in_ok-region.region) c.args.chunk_subset.now.same_length chunk.region region.part chunk.accepted region.accepted held c.eq.result c.eq.ensures fits.accepted state new keep asked is) e.done;
+        refused = each_error c.patch_chunk.result (λ (e : ArrayError). LeavesPartly layout keep index part held (refusal_of e) state new)
+            (λ (e : ArrayError). RefusesPatchPart layout keep asked index part held (refusal_of e) state new)
+            (λ e left. patched_left layout lawful index part (box_of c.in_ok-chunk.chunk) (box_of c.in_ok-region.region) c.args.chunk_subset.now.same_length chunk.region region.part chunk.accepted region.accepted held c.eq.result c.eq.ensures fits.accepted state new keep asked is lies given (refusal_of e) left)
+            e.refused;
         layout_kept = e.layout_kept;
       };
     }

@@ -1,6 +1,6 @@
-use Rattle.std.proofs.Common.{◌≡◌, ◌+◌, Bool, List, [], ◌∷◌, ◌++◌, take, drop, sym, ◌∙◌, ap, subst, arith}
+use Rattle.std.proofs.Common.{◌≡◌, ◌+◌, ◌&&◌, Bool, List, [], ◌∷◌, ◌++◌, take, drop, sym, ◌∙◌, ap, subst, arith}
 use Rattle.std.proofs.lemmas.List.{take_more}
-use Rattle.zarrs_codec_chain.specs.Options.{stores_empty_chunks}
+use Rattle.zarrs_codec_chain.specs.Options.{encodes_partially, stores_empty_chunks}
 use Rattle.zarrs_engine_calls.specs.Layout.{Layout}
 use Rattle.zarrs_engine_calls.specs.Reach.{MayAskCall, MayAskCalls}
 use Rattle.zarrs_engine_calls.specs.declared.call.Call.{Call}
@@ -30,6 +30,7 @@ loop-call-preserved g c =
     let s = c.answer-reply.ensures in
     let p = c.push_reserved.ensures in
     let keep = stores_empty_chunks c.args.options.now in
+    let asked = encodes_partially c.args.options.now in
     let calls = c.args.calls.now in
     let n = c.loop-call.call-index in
     let layout = layout_of c.args.engine.now in
@@ -39,16 +40,18 @@ loop-call-preserved g c =
     let call = c.call-item.result in
     let more : take (n + 1) calls ≡ take n calls ++ call ∷ [] = take_more calls n call c.loop-call-test.true ∙ ap (λ x. take n calls ++ x ∷ []) (sym c.call-item.is) in
     let step = subst (λ (layout : Layout). StepsAs layout c.args.options.now call c.answer-reply.result mid new) i.layout s.step in
-    let kept = patch_reach layout keep call c.answer-reply.result mid new step.partly in
+    let kept = patch_reach layout keep asked call c.answer-reply.result mid new step.partly in
     record {
-      run = λ off. rw (more, p.items) (run_push layout keep _ _ call c.answer-reply.result old mid new (i.run off) (step.whole off));
-      patched = rw (more, p.items) (patch_push layout keep _ _ call c.answer-reply.result old mid new i.patched step.partly);
+      run = λ off.
+          let still = ap (λ b. asked && (layout.chain.encodes_partly && b)) i.reach.sets_parts ∙ off in
+          rw (more, p.items) (run_push layout keep _ _ call c.answer-reply.result old mid new (i.run off) (step.whole still));
+      patched = rw (more, p.items) (patch_push layout keep asked _ _ call c.answer-reply.result old mid new i.patched step.partly);
       layout = s.layout ∙ i.layout;
       others = others_then _ _ _ i.others s.others;
       reach = reach_then old.store mid.store new.store i.reach kept;
       ask =
           let rest = drop_first calls n call c.loop-call-test.true c.call-item.is in
-          patch_asked layout keep call (drop (n + 1) calls) c.answer-reply.result mid new step.partly (subst (λ (calls : List Call). MayAskCalls layout calls mid) rest i.ask);
+          patch_asked layout keep asked call (drop (n + 1) calls) c.answer-reply.result mid new step.partly (subst (λ (calls : List Call). MayAskCalls layout calls mid) rest i.ask);
       count = omega arith;
       room = omega arith;
     }
@@ -74,5 +77,5 @@ pub returns-clause-one_function : goal.returns-clause-one_function
 returns-clause-one_function g c =
     let old = state_of g.S.ReadableStorageTraits.state c.args.engine.now in
     let new = state_of g.S.ReadableStorageTraits.state c.loop-call.engine in
-    patched_all_one (layout_of c.args.engine.now) c.args.engine.now.layout.lawful (stores_empty_chunks c.args.options.now) c.args.calls.now c.loop-call.call-index
+    patched_all_one (layout_of c.args.engine.now) c.args.engine.now.layout.lawful (stores_empty_chunks c.args.options.now) (encodes_partially c.args.options.now) c.args.calls.now c.loop-call.call-index
     c.loop-call.replies.items old new c.loop-call-test.false c.loop-call.invariant.patched
