@@ -9,7 +9,7 @@ use Rattle.zarrs_data_type.specs.ArrayData.{ArrayData}
 use Rattle.zarrs_engine_calls.specs.Layout.{Layout, IsLawful}
 use Rattle.zarrs_engine_calls.specs.ArgumentRefusals.{size_refusal}
 use Rattle.zarrs_engine_calls.specs.Changes.{RetrievesChunk}
-use Rattle.zarrs_engine_calls.specs.ChunkBoxes.{is_empty}
+use Rattle.zarrs_engine_calls.specs.ChunkBoxes.{CoversBox, is_empty}
 use Rattle.zarrs_engine_calls.specs.Content.{value_at}
 use Rattle.zarrs_engine_calls.specs.Reads.{IsBroken, ReadsRegion}
 use Rattle.zarrs_engine_calls.specs.Refusals as refusal
@@ -21,6 +21,7 @@ use Rattle.zarrs_engine_calls.proofs.Shapes.{known_decodes}
 use Rattle.zarrs_engine_layout.specs.Covers.{CoverRegion}
 use Rattle.zarrs_engine_layout.proofs.Chunks.{unread_why}
 use Rattle.zarrs_engine_layout.proofs.OneChunk.{covers_lies, first_held, region_lies}
+use Rattle.zarrs_engine_layout.proofs.RegionRefusals.{some_fill}
 use Rattle.zarrs_codec_chain.proofs.MovedBoxes.{overlap_inside}
 use Rattle.zarrs_engine.proofs.PartBytes.{size_fits}
 use Rattle.zarrs_engine.proofs.PartReads.{overlap_within}
@@ -77,7 +78,9 @@ module _ (layout : Layout) (lawful : IsLawful layout) (region : Box) (index : Li
         (λ large where_is. elim where_is [
           | inl absent ↦
               let filled = large_region layout box state (box_long layout.grid index) fit (λ position holds. absent_fill layout (value_at state) lawful index has absent position holds) large in
-              inr (fits, inr (inr (inr (subst (λ (b : Box). IsLargeBox layout b state) (sym same) filled))))
-          | inr needs ↦ inr (fits, inr (inl (index, member index, needs)))
+              inr (fits, inr (subst (λ (b : Box). IsLargeBox layout b state) (sym same) filled))
+          | inr needs ↦
+              let covers : CoversBox region box = λ position holds. subst (λ (b : Box). Holds b position) (sym same) holds in
+              inr (fits, some_fill layout region index state has covers needs.encoded needs.stands needs.left_out needs.large)
         ])
         (λ refuses. inr (fits, (index, member index, refuses)))

@@ -29,7 +29,7 @@ impl<
     ghost use Rattle.zarrs_data_type.specs.RegionData.{region_data};
     ghost use Rattle.zarrs_subset.specs.Regions.{LiesInBox};
     ghost use Rattle.zarrs_engine_calls.specs.ArgumentRefusals.{size_refusal};
-    ghost use Rattle.zarrs_engine_calls.specs.ChunkBoxes.{is_empty};
+    ghost use Rattle.zarrs_engine_calls.specs.ChunkBoxes.{CoversBox, is_empty};
     ghost use Rattle.zarrs_engine_calls.specs.Content.{value_at};
     ghost use Rattle.zarrs_engine_calls.specs.Reach.{MayAskChunk, MayDecodePart, MayReadPart};
     ghost use Rattle.zarrs_engine_calls.specs.Reach.{MayReadParts, chunk_part};
@@ -103,16 +103,15 @@ impl<
         ensures part { IfOk result (λ found. IfSome found (λ made. DecodesStored
             (layout_of self.now) chunk_indices.now (box_of part.now) (store_of S.state self.now)
             (data_of made))) }
-        ensures refused { IfErr result (λ e. (region : Box) → RefusesSomeChunk (layout_of self.now)
-            region (chunk_indices.now ∷ []) (store_of S.state self.now) (refusal_of e)) }
+        ensures refused { IfErr result (λ e. (region : Box)
+            → IsPart (layout_of self.now) region chunk_indices.now
+            → RefusesSomeChunk (layout_of self.now) region (chunk_indices.now ∷ [])
+            (store_of S.state self.now) (refusal_of e)) }
     {
         let key = self.layout.chunk_key(alloc, chunk_indices)?;
         let Some(source) = StoredValue::open(alloc, &self.storage, &key)? else {
             return Ok(None);
         };
-        if self.layout.shape_count(shape).is_none() {
-            return Err(ArrayError::SizeOverflow);
-        }
         let made = self.layout.decode_part(alloc, shape, &source, part)?;
         Ok(Some(made))
     }
@@ -157,6 +156,7 @@ impl<
     ) -> Result<RegionCells, ArrayError>
         requires boxed { has_box (layout_of self.now).grid chunk_indices.now ≡ true }
         requires chunk { box_of chunk.now ≡ box_at (layout_of self.now).grid chunk_indices.now }
+        requires covers { CoversBox (box_of region.now) (box_of chunk.now) }
         requires dimensions { length (box_of region.now).start
             ≡ (layout_of self.now).grid.dimensions }
         requires held { HasCells (layout_of self.now).kind (region_data held)
@@ -345,8 +345,9 @@ impl<
     /// # Errors
     /// In this order: E1 for another number of dimensions, or a position that no chunk covers; E8 for cells of more
     /// bytes than a `usize` counts. Then one of these: E7 if the store refuses the key of a chunk that the region meets,
-    /// E8 for such a chunk of more bytes than that, for a chunk of fill of more if its bytes leave out cells, or for such
-    /// fill if all of the region lies in an absent chunk, E4 if its bytes do not decode. E9 may come at any time.
+    /// E4 if its bytes do not decode, E8 if what is decoded whole of it (the chunk, a subchunk or nothing) has more bytes
+    /// than that, or so has its fill where the bytes leave out cells, or if all of the region lies in an absent chunk and
+    /// that many fill values have more. E9 may come at any time.
     pub fn retrieve_array_subset(
         &self,
         alloc: Global,

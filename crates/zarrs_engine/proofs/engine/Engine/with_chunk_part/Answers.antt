@@ -31,7 +31,7 @@ returns-in_err-found-clause-refused g c =
     let layout = layout_of c.args.self.now in
     let state = g.S.ReadableStorageTraits.state c.args.self.now.storage in
     let region = box_of c.args.region.now in
-    let why : RefusesSomeChunk layout region (c.args.chunk_indices.now ∷ []) state (refusal_of c.in_err-found.field-0.0) = c.in_err-found.ensures.refused region in
+    let why : RefusesSomeChunk layout region (c.args.chunk_indices.now ∷ []) state (refusal_of c.in_err-found.field-0.0) = c.in_err-found.ensures.refused region c.requires.part in
     search (rules, why)
 
 pub returns-in_default-found-clause-read : goal.returns-in_default-found-clause-read
