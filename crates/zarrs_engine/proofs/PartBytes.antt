@@ -1,9 +1,10 @@
 -- Parts of chunks, read from the bytes at their keys.
-use Rattle.std.proofs.Common.{◌≡◌, ℕ, Bool, true, false, List, [], ◌∷◌, length, Option, Some, None, option_map, refl, sym, ◌∙◌, ap, subst, inl, inr}
+use Rattle.std.proofs.Common.{◌≡◌, ◌≤◌, ◌*◌, ◌^◌, ℕ, Bool, true, false, List, [], ◌∷◌, length, Option, Some, None, option_map, refl, sym, ◌∙◌, ap, subst, inl, inr, arith}
 use Rattle.std.specs.Prelude.{unwrap_or}
 use Rattle.std.specs.FinMap as map
 use Rattle.std.specs.Option.{option_or}
-use Rattle.std.proofs.lemmas.Bool.{cases_Bool}
+use Rattle.std.proofs.lemmas.Bool.{cases_Bool, lt-leb}
+use Rattle.std.proofs.Math.Nat.{mul-le-mul_right}
 use Rattle.zarrs_subset.specs.Boxes.{position_count}
 use Rattle.zarrs_subset.specs.Regions.{Box}
 use Rattle.zarrs_chunk_grid.specs.Grids.{box_at, has_box}
@@ -11,11 +12,12 @@ use Rattle.zarrs_chunk_grid.proofs.Chunks.{box_is_there}
 use Rattle.zarrs_storage.specs.Store.{StoreState, size_at}
 use Rattle.zarrs_storage.specs.Refusals.{RefusesRead}
 use Rattle.zarrs_storage.specs.declared.error.StorageError.{StorageError}
+use Rattle.zarrs_data_type.specs.Kind.{cell_size}
 use Rattle.zarrs_data_type.specs.ArrayData.{ArrayData}
 use Rattle.zarrs_data_type.specs.Cells.{HasCells}
 use Rattle.zarrs_data_type_bytes.proofs.Cells.{HasCells-some}
 use Rattle.zarrs_codec_leaf.specs.Stored.{value_or_empty}
-use Rattle.zarrs_codec_chain.specs.PartRefusals.{IsTooLargeToDecode}
+use Rattle.zarrs_codec_chain.specs.Refusals.{IsTooLargeToDecode}
 use Rattle.zarrs_engine_calls.specs.Layout.{Layout}
 use Rattle.zarrs_engine_calls.specs.Content.{decoded_cells, value_at}
 use Rattle.zarrs_engine_calls.specs.ArgumentRefusals.{chunk_refusal, size_refusal}
@@ -25,7 +27,7 @@ use Rattle.zarrs_engine_calls.specs.Refusals as refusal
 use Rattle.zarrs_engine_calls.specs.Refusals.{Refusal, RefusesBy, box_refusal, is_too_large, refusal_of, refuse_if}
 use Rattle.zarrs_engine_calls.specs.StateRefusals.{IsPart, RefusesSomeChunk}
 use Rattle.zarrs_engine_calls.proofs.Contents.{member}
-use Rattle.zarrs_engine_calls.proofs.RefusalLemmas.{fit_chunk, large_chunk, memory_or_said, refuses_said}
+use Rattle.zarrs_engine_calls.proofs.RefusalLemmas.{fit_chunk, large_chunk, memory_or_said, not_large, refuses_said}
 use Rattle.zarrs_engine_layout.specs.Steps.{RefusesBytes, RefusesPartBytes}
 use Rattle.zarrs_engine_layout.proofs.ChunkParts.{chunk_accepted}
 use Rattle.zarrs_engine_layout.proofs.Chunks.{value_refused_store}
@@ -54,6 +56,13 @@ size_fits layout shape none =
       | inr small ↦ small
       | inl large ↦ absurd (let clash : Some refusal.size_overflow ≡ None = sym (ap (λ b. refuse_if b refusal.size_overflow) large) ∙ none in cc)
     ]
+
+-- so is that of a box of fewer positions
+pub smaller_fits : (layout : Layout) (a b : List ℕ) → position_count a ≤ position_count b → size_refusal layout b ≡ None → size_refusal layout a ≡ None
+smaller_fits layout a b few fits =
+    let small = not_large layout b (size_fits layout b fits) in
+    let less : position_count a * cell_size layout.kind ≤ position_count b * cell_size layout.kind = mul-le-mul_right (cell_size layout.kind) few in
+    ap (λ large. refuse_if large refusal.size_overflow) (lt-leb (2 ^ 64) (position_count a * cell_size layout.kind) (omega arith))
 
 -- a decode of a part is one cell for each of its positions
 pub decoded_has : (layout : Layout) (index : List ℕ) (part shared : Box) (state : StoreState) (made : ArrayData) → DecodesStored layout index part state made → part.shape ≡ shared.shape

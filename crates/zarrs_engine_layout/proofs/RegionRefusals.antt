@@ -13,7 +13,7 @@ use Rattle.zarrs_storage.specs.Store.{StoreState}
 use Rattle.zarrs_data_type.specs.ArrayData.{ArrayData}
 use Rattle.zarrs_data_type.specs.Cell.{held_size}
 use Rattle.zarrs_data_type.specs.Kind.{cell_size}
-use Rattle.zarrs_codec_chain.specs.PartRefusals.{IsTooLargeToDecode}
+use Rattle.zarrs_codec_chain.specs.Refusals.{IsTooLargeToDecode}
 use Rattle.zarrs_engine_calls.specs.Layout.{Layout, IsLawful}
 use Rattle.zarrs_engine_calls.specs.Content.{value_at, decoded_cells}
 use Rattle.zarrs_engine_calls.specs.ChunkBoxes.{CoversBox, is_covered_box, is_empty, last_of}

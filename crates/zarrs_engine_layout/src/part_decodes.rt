@@ -20,7 +20,7 @@ impl<G: ChunkGridTraits, K: ChunkKeyEncodingTraits, C: ChainTraits> ArrayLayout<
     ghost use Rattle.zarrs_data_type.specs.Targets.{takes_type};
     ghost use Rattle.zarrs_codec_chain.specs.Parts.{DecodesPart, DecodesPartAt};
     ghost use Rattle.zarrs_engine_calls.specs.Content.{decoded_cells};
-    ghost use Rattle.zarrs_engine_calls.specs.Refusals.{refusal_of};
+    ghost use Rattle.zarrs_engine_calls.specs.Refusals.{is_too_large, refusal_of};
     ghost use Rattle.zarrs_engine_layout.specs.Layouts.{layout_meaning};
     ghost use Rattle.zarrs_engine_layout.specs.Steps.{RefusesPartBytes};
 
@@ -38,6 +38,7 @@ impl<G: ChunkGridTraits, K: ChunkKeyEncodingTraits, C: ChainTraits> ArrayLayout<
         source: &B,
         part: &ArraySubset,
     ) -> Result<ArrayBytes<'static>, ArrayError>
+        requires size { is_too_large (layout_meaning self.now) (box_of part.now).shape ≡ false }
         requires part { LiesInShape (box_of part.now) shape.now }
         requires may_read { (place : ℕ) → (layout_meaning self.now).chain.places
             (layout_meaning self.now).kind shape.now (box_of part.now)

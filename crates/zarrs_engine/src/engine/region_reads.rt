@@ -96,6 +96,7 @@ impl<
         requires boxed { has_box (layout_of self.now).grid chunk_indices.now ≡ true }
         requires shape { shape.now ≡ (box_at (layout_of self.now).grid chunk_indices.now).shape }
         requires part { LiesInShape (box_of part.now) shape.now }
+        requires size { size_refusal (layout_of self.now) (box_of part.now).shape ≡ None }
         requires ask { MayDecodePart (layout_of self.now) (box_of part.now) chunk_indices.now
             (store_of S.state self.now) }
         ensures absent { IfOk result (λ found. IfNone found (value_at (store_of S.state self.now)
@@ -128,6 +129,7 @@ impl<
         requires boxed { has_box (layout_of self.now).grid chunk_indices.now ≡ true }
         requires dimensions { length (box_of region.now).start
             ≡ (layout_of self.now).grid.dimensions }
+        requires size { size_refusal (layout_of self.now) (box_of region.now).shape ≡ None }
         requires held { HasCells (layout_of self.now).kind (region_data held)
             (position_count (box_of region.now).shape) }
         requires ask { MayReadPart (layout_of self.now) (box_of region.now) chunk_indices.now
@@ -191,6 +193,7 @@ impl<
         requires part { IsPart (layout_of self.now) (box_of region.now) chunk_indices.now }
         requires dimensions { length (box_of region.now).start
             ≡ (layout_of self.now).grid.dimensions }
+        requires size { size_refusal (layout_of self.now) (box_of region.now).shape ≡ None }
         requires held { HasCells (layout_of self.now).kind (region_data held)
             (position_count (box_of region.now).shape) }
         requires ask { MayDecodePart (layout_of self.now) (chunk_part (box_of region.now)
@@ -222,6 +225,7 @@ impl<
     ) -> Result<RegionCells, ArrayError>
         requires cover { CoverRegion (layout_of self.now).grid (box_of region.now)
             (positions (box_of chunks.now)) }
+        requires size { size_refusal (layout_of self.now) (box_of region.now).shape ≡ None }
         requires ask { MayReadParts (layout_of self.now) (box_of region.now)
             (positions (box_of chunks.now)) (store_of S.state self.now) }
         requires none { HasRead (layout_of self.now) (box_of region.now) []

@@ -12,7 +12,7 @@ use Rattle.zarrs_chunk_grid.specs.Grids.{box_at}
 use Rattle.zarrs_engine_layout.specs.Steps.{RefusesPartBytes}
 use Rattle.zarrs_engine_calls.proofs.Contents.{index_list}
 use Rattle.zarrs_engine.specs.Engine.{layout_of}
-use Rattle.zarrs_engine.proofs.PartBytes.{part_why, source_value}
+use Rattle.zarrs_engine.proofs.PartBytes.{part_why, size_fits, source_value}
 use Rattle.zarrs_engine.proofs.engine.Engine.part_of_chunk.Goals as goal
 
 pub open-requires : goal.open-requires
@@ -21,6 +21,9 @@ open-requires g c =
     let state = g.S.ReadableStorageTraits.state c.args.self.now.storage in
     let words = index_list layout c.args.self.now.layout.lawful c.args.chunk_indices.now c.requires.boxed in
     subst (λ (key : List ℕ). state.may_ask key ≡ true) (sym c.in_ok-key.ensures.key) (c.requires.ask.key words)
+
+pub decode_part-requires-clause-size : goal.decode_part-requires-clause-size
+decode_part-requires-clause-size g c = size_fits (layout_of c.args.self.now) (box_of c.args.part.now).shape c.requires.size
 
 pub decode_part-requires-clause-may_read : goal.decode_part-requires-clause-may_read
 decode_part-requires-clause-may_read g c = λ place needed.
