@@ -3,11 +3,11 @@ use super::Engine;
 use super::region_lists::form_of;
 use std::alloc::Global;
 use zarrs_chunk_grid::ChunkGridTraits;
-use zarrs_codec_chain::{ChainTraits, seen_from_corner};
+use zarrs_codec_chain::ChainTraits;
 use zarrs_codec_leaf::StoredValue;
 use zarrs_data_type::{ArrayBytes, RegionCells};
 use zarrs_engine_calls::ArrayError;
-use zarrs_engine_layout::{ArrayLayout, shared_positions};
+use zarrs_engine_layout::{ArrayLayout, part_in_chunk, shared_positions};
 use zarrs_keys::ChunkKeyEncodingTraits;
 use zarrs_storage::ReadableStorageTraits;
 use zarrs_subset::{ArraySubset, lies_in_box};
@@ -303,12 +303,15 @@ impl<
             (chunk_indices.now ∷ []) (store_of S.state self.now) (refusal_of e)) }
     {
         self.count_to_read(region)?;
-        let chunk = self.layout.chunk_box(alloc, chunk_indices)?;
-        if *region == chunk {
+        let extents = self.layout.chunk_shape(alloc, chunk_indices)?;
+        let shape = extents.as_slice();
+        if region.shape() == shape {
             return self.retrieve_chunk(alloc, chunk_indices);
         }
-        let part = seen_from_corner(alloc, region, chunk.start())?;
-        self.read_part(alloc, chunk_indices, chunk.shape(), &part)
+        match part_in_chunk(alloc, &self.layout.grid, region, chunk_indices)? {
+            Some(part) => self.read_part(alloc, chunk_indices, shape, &part),
+            None => self.layout.filled(alloc, region),
+        }
     }
 
     /// Returns the cells of a part of the chunk with these indices, which has this shape, just as they are decoded. The
