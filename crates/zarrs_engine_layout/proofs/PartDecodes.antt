@@ -1,5 +1,5 @@
 -- Parts of chunks that are decoded from sources.
-use Rattle.std.proofs.Common.{◌≡◌, ℕ, Bool, List, length, take, drop, Some, ap, ◌∙◌, inl, inr}
+use Rattle.std.proofs.Common.{◌≡◌, ℕ, Bool, List, length, take, drop, ap, ◌∙◌, inl, inr}
 use Rattle.std.proofs.Math.Seq.{take-length}
 use Rattle.zarrs_storage.specs.declared.error.StorageError.TheVariants as storage
 use Rattle.zarrs_codec_leaf.specs.declared.error.CodecError.TheVariants as codec
