@@ -1,7 +1,9 @@
 -- Reads of regions that lie in one chunk.
-use Rattle.std.proofs.Common.{◌≡◌, ◌∙◌, ℕ, true, false, List, [], ◌∷◌, Some, None, sym, ap, subst, inl, inr}
+use Rattle.std.proofs.Common.{◌≡◌, ◌∙◌, ◌<◌, ℕ, true, false, List, [], ◌∷◌, length, slice_index, Some, None, sym, ap, subst, inl, inr, arith}
+use Rattle.std.proofs.lemmas.Bool.{false≢true}
+use Rattle.std.proofs.lemmas.Grind.{same_number_lists}
 use Rattle.zarrs_subset.specs.Boxes.{position_count}
-use Rattle.zarrs_subset.specs.Regions.{Box, Holds, cell_in}
+use Rattle.zarrs_subset.specs.Regions.{Box, Holds, box_from, cell_in, overlap_of, seen_from}
 use Rattle.zarrs_chunk_grid.specs.Grids.{box_at, has_box}
 use Rattle.zarrs_chunk_grid.proofs.Chunks.{box_long}
 use Rattle.zarrs_storage.specs.Store.{StoreState}
@@ -9,22 +11,26 @@ use Rattle.zarrs_data_type.specs.ArrayData.{ArrayData}
 use Rattle.zarrs_engine_calls.specs.Layout.{Layout, IsLawful}
 use Rattle.zarrs_engine_calls.specs.ArgumentRefusals.{size_refusal}
 use Rattle.zarrs_engine_calls.specs.Changes.{RetrievesChunk}
-use Rattle.zarrs_engine_calls.specs.ChunkBoxes.{is_empty}
+use Rattle.zarrs_engine_calls.specs.ChunkBoxes.{CoversBox, is_empty, last_of}
 use Rattle.zarrs_engine_calls.specs.Content.{value_at}
 use Rattle.zarrs_engine_calls.specs.Reads.{IsBroken, ReadsRegion}
 use Rattle.zarrs_engine_calls.specs.Refusals as refusal
 use Rattle.zarrs_engine_calls.specs.Refusals.{Refusal, length_refusal}
 use Rattle.zarrs_engine_calls.specs.StateRefusals.{IsLargeBox, IsPart, RefusesChunkRead, RefusesRegionRead}
 use Rattle.zarrs_engine_calls.proofs.Contents.{absent_fill, member, only_member}
+use Rattle.zarrs_engine_calls.proofs.Covers.{last_held}
 use Rattle.zarrs_engine_calls.proofs.Regions.{cell_there}
 use Rattle.zarrs_engine_calls.proofs.Shapes.{known_decodes}
 use Rattle.zarrs_engine_layout.specs.Covers.{CoverRegion}
+use Rattle.zarrs_engine_layout.specs.Shared.{AreApart, AreShared}
+use Rattle.zarrs_engine.specs.RegionReads.{IsRegionOf}
 use Rattle.zarrs_engine_layout.proofs.Chunks.{unread_why}
 use Rattle.zarrs_engine_layout.proofs.OneChunk.{covers_lies, first_held, region_lies}
+use Rattle.zarrs_engine_layout.proofs.RegionRefusals.{some_fill}
 use Rattle.zarrs_codec_chain.proofs.MovedBoxes.{overlap_inside}
 use Rattle.zarrs_engine.proofs.PartBytes.{size_fits}
 use Rattle.zarrs_engine.proofs.PartReads.{overlap_within}
-use Rattle.zarrs_engine.proofs.PartWrites.{large_region}
+use Rattle.zarrs_engine.proofs.PartWrites.{large_region, lies_covers}
 
 module _ (layout : Layout) (lawful : IsLawful layout) (region : Box) (index : List ℕ) (cover : CoverRegion layout.grid region (index ∷ [])) where
   abbrev box : Box
@@ -40,6 +46,37 @@ module _ (layout : Layout) (lawful : IsLawful layout) (region : Box) (index : Li
       let inner = region_lies layout.grid lawful.grid index has region cover some in
       let outer = covers_lies layout.grid lawful.grid index has region cover.long cover.dimensions covers in
       apart (sym (overlap_within region box cover.long long inner) ∙ overlap_inside region box cover.long long outer)
+
+  -- some position of the region lies in the chunk
+  pub not_apart : is_empty region ≡ false → AreApart region box → ⊥
+  not_apart some apart =
+      let inner = region_lies layout.grid lawful.grid index has region cover some in
+      let last = last_held layout.grid lawful.grid region cover.long some in
+      absurd (false≢true (sym (apart (last_of region) last) ∙ lies_covers region box cover.long (box_long layout.grid index) inner (last_of region) last))
+
+  -- a region of the chunk's shape is the chunk
+  pub same_box : is_empty region ≡ false → region.shape ≡ box.shape → region ≡ box
+  same_box some shapes =
+      let lies = region_lies layout.grid lawful.grid index has region cover some in
+      let starts : region.start ≡ box.start =
+      same_number_lists region.start box.start lies.same_length (λ k below.
+      let here : k < length box.start = omega (arith, lies.same_length) in
+      let first = lies.starts k here in
+      let last = lies.ends k here in
+      let extent = ap (λ xs. slice_index xs k) shapes in
+      omega arith) in
+      ap (λ start. box_from start region.shape) starts ∙ ap (λ shape. box_from box.start shape) shapes
+
+  -- what they share is the region, seen from the corner of the chunk
+  pub shared_part : is_empty region ≡ false → (region.shape ≡ box.shape → ⊥) → (part : Box) → AreShared region box (overlap_of region box) part → IsRegionOf layout index part region
+  shared_part some apart part shared =
+      let lies = region_lies layout.grid lawful.grid index has region cover some in
+      record {
+        long = cover.long;
+        lies = lies;
+        seen = shared.part_is ∙ ap (λ (b : Box). seen_from b box.start) (overlap_within region box cover.long (box_long layout.grid index) lies);
+        proper = only_part some (λ same. apart (ap (λ (b : Box). b.shape) same));
+      }
 
   module _ (state : StoreState) where
     -- a chunk that was read decodes
@@ -77,7 +114,9 @@ module _ (layout : Layout) (lawful : IsLawful layout) (region : Box) (index : Li
         (λ large where_is. elim where_is [
           | inl absent ↦
               let filled = large_region layout box state (box_long layout.grid index) fit (λ position holds. absent_fill layout (value_at state) lawful index has absent position holds) large in
-              inr (fits, inr (inr (inr (subst (λ (b : Box). IsLargeBox layout b state) (sym same) filled))))
-          | inr needs ↦ inr (fits, inr (inl (index, member index, needs)))
+              inr (fits, inr (subst (λ (b : Box). IsLargeBox layout b state) (sym same) filled))
+          | inr needs ↦
+              let covers : CoversBox region box = λ position holds. subst (λ (b : Box). Holds b position) (sym same) holds in
+              inr (fits, some_fill layout region index state has covers needs.encoded needs.stands needs.left_out needs.large)
         ])
         (λ refuses. inr (fits, (index, member index, refuses)))

@@ -377,7 +377,7 @@ module _ (layout : Layout) (lawful : IsLawful layout) (index : List ℕ) (has : 
             let here = subst (λ (x : Refusal). fill_refusal layout part.shape ≡ Some x) same large in
             let fit = subst (λ s. is_too_large layout s ≡ false) same_shape (size_fits layout part.shape fits) in
             subst (RefusesSomeChunk layout region (index ∷ []) state) (sym same)
-            (inr (inr (inr (large_region layout region state is.long fit filled (subst (λ s. fill_refusal layout s ≡ Some refusal.size_overflow) same_shape here)))))
+            (inr (large_region layout region state is.long fit filled (subst (λ s. fill_refusal layout s ≡ Some refusal.size_overflow) same_shape here)))
       ]
 
 -- what is read of a part of a chunk is what may be read of the region that it is

@@ -28,7 +28,7 @@ use Rattle.zarrs_engine_calls.specs.Refusals as refusal
 use Rattle.zarrs_engine_calls.specs.Refusals.{Refusal, RefusesBy, box_refusal, key_refusal, length_refusal, read_refusal}
 use Rattle.zarrs_engine_calls.specs.Changes.{IsPresent, RetrievesChunk, RetrievesIfExists}
 use Rattle.zarrs_engine_calls.specs.Reads.{IsBroken, ReadsRegion}
-use Rattle.zarrs_engine_calls.specs.StateRefusals.{IsLargeBox, NeedsLargeFill, RefusesChunkRead, RefusesRegionRead, RefusesSomeChunk, known_cell}
+use Rattle.zarrs_engine_calls.specs.StateRefusals.{IsLargeBox, IsTooLargeToRead, NeedsLargeFill, RefusesChunkRead, RefusesRegionRead, RefusesSomeChunk, known_cell}
 use Rattle.zarrs_engine_calls.specs.Acts.{Act, read, read_chunk, read_part_act, shape_left}
 use Rattle.zarrs_engine_calls.specs.ArgumentRefusals.{chunk_refusal, dimensions_refusal, part_refusal, range_refusal, read_chunks_refusal, read_part_refusal, read_region_refusal}
 use Rattle.zarrs_engine_calls.specs.ArgumentRefusals.{region_refusal, size_refusal}
@@ -216,6 +216,10 @@ module _ (layout : Layout) (lawful : IsLawful layout) (a b : StoreState) where
     large_box has r =
         (r.0, record { count = r.1.count; each = λ position holds. ap (λ o. Some (known_cell o)) (box_agrees has position holds) ∙ r.1.each position holds }, r.2)
 
+    -- what a read decodes whole of the chunk is too large
+    too_large : (region : Box) → IsTooLargeToRead layout region index a → IsTooLargeToRead layout region index b
+    too_large region r = record { encoded = r.encoded; stands = same.values ∙ r.stands; whole = r.whole; decoded_whole = r.decoded_whole; large = r.large }
+
     -- a refused read of the chunk
     chunk_refused : (early : Option Refusal) (needed : Bool) (r : Refusal)
         → RefusesChunkRead layout early needed index a r → RefusesChunkRead layout early needed index b r
@@ -261,11 +265,8 @@ module _ (layout : Layout) (lawful : IsLawful layout) (a b : StoreState) (region
     some_refused : (r : Refusal) → RefusesSomeChunk layout region chunks a r → RefusesSomeChunk layout region chunks b r
     some_refused refusal.storage (index, among, is) = (index, among, (at index among).refuses ∙ is)
     some_refused refusal.codec (index, among, bad) = (index, among, broken layout lawful a b index (at index among) bad)
-    some_refused refusal.size_overflow (inl (index, among, large, p)) = inl (index, among, large, present layout lawful a b index (at index among) p)
-    some_refused refusal.size_overflow (inr (inl (index, among, large))) = inr (inl (index, among, large_fill layout lawful a b index (at index among) large))
-    some_refused refusal.size_overflow (inr (inr (inl (index, among, large, p)))) =
-        inr (inr (inl (index, among, large_box layout lawful a b index (at index among) (boxes index among) large, present layout lawful a b index (at index among) p)))
-    some_refused refusal.size_overflow (inr (inr (inr large))) = inr (inr (inr (
+    some_refused refusal.size_overflow (inl (index, among, large)) = inl (index, among, too_large layout lawful a b index (at index among) region large)
+    some_refused refusal.size_overflow (inr large) = inr (
       large.0,
       record {
         count = large.1.count;
@@ -273,7 +274,7 @@ module _ (layout : Layout) (lawful : IsLawful layout) (a b : StoreState) (region
             ap (λ o. Some (known_cell o)) (cell_agrees layout lawful a b position (covered position holds) (over position holds)) ∙ large.1.each position holds;
       },
       large.2,
-    )))
+    )
     some_refused refusal.out_of_memory s = s
     some_refused r s = absurd s
 

@@ -1,5 +1,5 @@
 -- Why a call is refused that its arguments do not refuse.
-use Rattle.std.specs.Prelude.{◌≡◌, ◌⊎◌, ℕ, [], ◌≤◌, ◌^◌, Bool, true, false, List, length, Option, Some, None}
+use Rattle.std.specs.Prelude.{◌≡◌, ◌⊎◌, ℕ, [], ◌*◌, ◌≤◌, ◌^◌, Bool, true, false, List, length, Option, Some, None}
 use Rattle.std.specs.Prelude.{Contains, if◌then◌else◌}
 use Rattle.std.specs.Option.{option_or}
 use Rattle.std.specs.List.{sum_by}
@@ -7,7 +7,8 @@ use Rattle.zarrs_subset.specs.Boxes.{position_count}
 use Rattle.zarrs_subset.specs.Regions.{Box, Holds, in_box, cell_in}
 use Rattle.zarrs_chunk_grid.specs.Grids.{box_at}
 use Rattle.zarrs_storage.specs.Store.{StoreState, last_call}
-use Rattle.zarrs_data_type.specs.Cell.{Cell}
+use Rattle.zarrs_data_type.specs.Kind.{cell_size}
+use Rattle.zarrs_data_type.specs.Cell.{Cell, held_size}
 use Rattle.zarrs_data_type.specs.Cell as cell
 use Rattle.zarrs_data_type.specs.ArrayData.{ArrayData}
 use Rattle.zarrs_data_type.specs.Cells.{cells}
@@ -15,7 +16,6 @@ use Rattle.zarrs_engine_calls.specs.Layout.{Layout}
 use Rattle.zarrs_engine_calls.specs.Content.{value_at, content, Reads}
 use Rattle.zarrs_engine_calls.specs.Refusals as refusal
 use Rattle.zarrs_engine_calls.specs.Refusals.{Refusal, RefusesBy, box_refusal, is_too_large, data_refusal, fill_refusal, key_refusal, read_refusal}
-use Rattle.zarrs_engine_calls.specs.Changes.{IsPresent}
 use Rattle.zarrs_engine_calls.specs.ChunkBoxes.{CoversBox}
 use Rattle.zarrs_engine_calls.specs.Cuts.{is_below, keeps_some}
 use Rattle.zarrs_engine_calls.specs.Reads.{IsBroken}
@@ -132,16 +132,30 @@ pub record RefusesCut (layout : Layout) (keep : Bool) (shape index : List ℕ) (
   pub gone : keeps_some layout.grid shape index ≡ false → RefusesErasure failed new r
   pub kept : keeps_some layout.grid shape index ≡ true → RefusesKeptCut layout keep shape index failed new r
 
--- Why a region is not read: some key of its chunks refuses (E7), some chunk does not decode (E4), a size (E8), out of
--- memory (E9). Which of these comes if several hold is open.
+-- What a read of the region decodes whole of the chunk: all of it, if the region covers it; of a part of it what the chain
+-- says, which is the chunk, a subchunk or nothing.
+abbrev pub IsDecodedWhole : Layout → Box → List ℕ → List ℕ → Type 0
+IsDecodedWhole layout region index whole =
+    (CoversBox region (box_at layout.grid index) × (whole ≡ (box_at layout.grid index).shape))
+    ⊎ (IsPart layout region index × (layout.chain.decodes_whole (box_at layout.grid index).shape ≡ Some whole))
+
+-- the chunk is present, and what a read of the region decodes whole of it has more bytes than a usize counts, or so has its
+-- fill where the bytes leave out cells
+pub record IsTooLargeToRead (layout : Layout) (region : Box) (index : List ℕ) (state : StoreState) : Type 0 where
+  pub encoded : List ℕ
+  pub stands : value_at state (layout.key index) ≡ Some encoded
+  pub whole : List ℕ
+  pub decoded_whole : IsDecodedWhole layout region index whole
+  pub large : (2 ^ 64 ≤ position_count whole * cell_size layout.kind)
+      ⊎ ((layout.chain.leaves_out (box_at layout.grid index).shape encoded ≡ true) × (2 ^ 64 ≤ position_count whole * held_size layout.kind layout.fill))
+
+-- Why a region is not read: some key of its chunks refuses (E7), some chunk does not decode (E4), a size (E8): of what is
+-- decoded whole of some chunk, or of the region's cells; out of memory (E9). Which of these comes if several hold is open.
 abbrev pub RefusesSomeChunk : Layout → Box → List (List ℕ) → StoreState → Refusal → Type 0
 RefusesSomeChunk layout region chunks state refusal.storage = (index : List ℕ) × Contains chunks index × (state.refuses (layout.key index) ≡ true)
 RefusesSomeChunk layout region chunks state refusal.codec = (index : List ℕ) × Contains chunks index × IsBroken layout index state
 RefusesSomeChunk layout region chunks state refusal.size_overflow =
-    ((index : List ℕ) × Contains chunks index × (is_too_large layout (box_at layout.grid index).shape ≡ true) × IsPresent layout index state)
-    ⊎ ((index : List ℕ) × Contains chunks index × NeedsLargeFill layout index state)
-    ⊎ ((index : List ℕ) × Contains chunks index × IsLargeBox layout (box_at layout.grid index) state × IsPresent layout index state)
-    ⊎ IsLargeBox layout region state
+    ((index : List ℕ) × Contains chunks index × IsTooLargeToRead layout region index state) ⊎ IsLargeBox layout region state
 RefusesSomeChunk layout region chunks state refusal.out_of_memory = Unit {0}
 RefusesSomeChunk layout region chunks state _ = ⊥
 

@@ -1,13 +1,11 @@
 -- Parts of chunks that are decoded from sources.
-use Rattle.std.proofs.Common.{◌≡◌, ◌≤◌, ◌*◌, ◌^◌, ℕ, Bool, List, length, take, drop, Some, ap, ◌∙◌, inl, inr}
+use Rattle.std.proofs.Common.{◌≡◌, ℕ, Bool, List, length, take, drop, ap, ◌∙◌, inl, inr}
 use Rattle.std.proofs.Math.Seq.{take-length}
-use Rattle.std.proofs.lemmas.Bool.{le-leb}
 use Rattle.zarrs_storage.specs.declared.error.StorageError.TheVariants as storage
 use Rattle.zarrs_codec_leaf.specs.declared.error.CodecError.TheVariants as codec
-use Rattle.zarrs_subset.specs.Boxes.{position_count}
 use Rattle.zarrs_subset.specs.Regions.{Box}
-use Rattle.zarrs_data_type.specs.Cell.{held_size}
 use Rattle.zarrs_codec_chain.specs.PartRefusals.{RefusesPartDecoding}
+use Rattle.zarrs_codec_chain.specs.Refusals.{IsTooLargeToDecode}
 use Rattle.zarrs_codec_chain.specs.declared.error.PartError.{PartError}
 use Rattle.zarrs_codec_chain.specs.declared.error.PartError.TheVariants as part
 use Rattle.zarrs_codec_leaf.specs.Sources.{window_bytes}
@@ -15,20 +13,15 @@ use Rattle.zarrs_codec_leaf.specs.declared.source.Window.{Window}
 use Rattle.zarrs_engine_calls.specs.Errors.{error_of_part}
 use Rattle.zarrs_engine_calls.specs.Layout.{Layout}
 use Rattle.zarrs_engine_calls.specs.Content.{decoded_cells}
-use Rattle.zarrs_engine_calls.specs.Refusals as refusal
-use Rattle.zarrs_engine_calls.specs.Refusals.{fill_refusal, refusal_of, refuse_if}
+use Rattle.zarrs_engine_calls.specs.Refusals.{refusal_of}
 use Rattle.zarrs_engine_layout.specs.Steps.{RefusesPartBytes}
-
--- so many fill values pass a usize
-fill_passes : (layout : Layout) (shape : List ℕ) → 2 ^ 64 ≤ position_count shape * held_size layout.kind layout.fill → fill_refusal layout shape ≡ Some refusal.size_overflow
-fill_passes layout shape large = ap (λ b. refuse_if b refusal.size_overflow) (le-leb (2 ^ 64) (position_count shape * held_size layout.kind layout.fill) large)
 
 -- what the chain or the source refuses, the call refuses
 pub part_refused : (layout : Layout) (box : Box) (encoded : List ℕ) (refuses : Bool) (e : PartError)
-    → RefusesPartDecoding (decoded_cells layout box encoded) (layout.chain.leaves_out box.shape encoded) (position_count box.shape * held_size layout.kind layout.fill) refuses e
+    → RefusesPartDecoding (decoded_cells layout box encoded) (IsTooLargeToDecode layout.chain layout.kind layout.fill box.shape encoded) refuses e
     → RefusesPartBytes layout box encoded refuses (refusal_of (error_of_part e))
 part_refused layout box encoded refuses (part.Codec (codec.DoesNotFit _)) why = why
-part_refused layout box encoded refuses (part.Codec codec.SizeOverflow) why = (why.0, fill_passes layout box.shape why.1)
+part_refused layout box encoded refuses (part.Codec codec.SizeOverflow) why = why
 part_refused layout box encoded refuses (part.Codec codec.OutOfMemory) why = tt
 part_refused layout box encoded refuses (part.Source storage.OutOfMemory) why = tt
 part_refused layout box encoded refuses (part.Source (storage.InvalidMetadata key said)) (inl is) = absurd (cc)

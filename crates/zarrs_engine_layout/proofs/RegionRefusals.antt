@@ -1,24 +1,28 @@
 -- Refusals of reads of regions.
-use Rattle.std.proofs.Common.{◌≡◌, ◌<◌, ◌==◌, ◌||◌, not, ℕ, zero, suc, Bool, true, false, cond, List, [], ◌∷◌, length}
+use Rattle.std.proofs.Common.{◌≡◌, ◌⊎◌, ◌<◌, ◌≤◌, ◌*◌, ◌^◌, nat_le, ◌==◌, ◌||◌, not, ℕ, zero, suc, Bool, true, false, cond, List, [], ◌∷◌, length}
 use Rattle.std.proofs.Common.{slice_index, is_some, Some, None, Contains, refl, sym, ◌∙◌, ap, subst, inl, inr, arith}
 use Rattle.std.specs.List.{list_any}
-use Rattle.std.proofs.lemmas.Bool.{cases_Bool, eq-eqb, ne_eqb}
+use Rattle.std.proofs.lemmas.Bool.{cases_Bool, eq-eqb, leb-true, ne_eqb}
 use Rattle.std.proofs.lemmas.Option.{slice_get-get_or}
+use Rattle.zarrs_subset.specs.Boxes.{position_count}
 use Rattle.zarrs_subset.specs.Regions.{Box, IsLong, InBox, positions}
 use Rattle.zarrs_subset.proofs.Bytes.{along_holds}
 use Rattle.zarrs_chunk_grid.specs.Grids.{HasUncovered, IsMet, box_at, has_box, index_at, is_covered, met}
 use Rattle.zarrs_chunk_grid.proofs.Chunks.{box_is_there, covered_chunk, has_box_is, met_contains, met_covered, met_has_box}
 use Rattle.zarrs_storage.specs.Store.{StoreState}
 use Rattle.zarrs_data_type.specs.ArrayData.{ArrayData}
+use Rattle.zarrs_data_type.specs.Cell.{held_size}
+use Rattle.zarrs_data_type.specs.Kind.{cell_size}
+use Rattle.zarrs_codec_chain.specs.Refusals.{IsTooLargeToDecode}
 use Rattle.zarrs_engine_calls.specs.Layout.{Layout, IsLawful}
 use Rattle.zarrs_engine_calls.specs.Content.{value_at, decoded_cells}
-use Rattle.zarrs_engine_calls.specs.ChunkBoxes.{is_covered_box, is_empty, last_of}
+use Rattle.zarrs_engine_calls.specs.ChunkBoxes.{CoversBox, is_covered_box, is_empty, last_of}
 use Rattle.zarrs_engine_calls.specs.ArgumentRefusals.{size_refusal, region_refusal}
 use Rattle.zarrs_engine_calls.specs.Reads.{ReadsRegion}
 use Rattle.zarrs_engine_calls.specs.Refusals as refusal
 use Rattle.std.specs.Option.{option_or}
-use Rattle.zarrs_engine_calls.specs.Refusals.{Refusal, RefusesBy, refuse_if, box_refusal, key_refusal, length_refusal, is_too_large}
-use Rattle.zarrs_engine_calls.specs.StateRefusals.{NeedsLargeFill, RefusesRegionRead, RefusesSomeChunk}
+use Rattle.zarrs_engine_calls.specs.Refusals.{Refusal, RefusesBy, refuse_if, box_refusal, fill_refusal, key_refusal, length_refusal, is_too_large}
+use Rattle.zarrs_engine_calls.specs.StateRefusals.{IsPart, RefusesRegionRead, RefusesSomeChunk}
 use Rattle.zarrs_engine_calls.specs.Step.{RetrievesRegion, RefusesRetrieveRegion}
 use Rattle.zarrs_engine_calls.proofs.Contents.{member, only_member}
 use Rattle.zarrs_engine_calls.proofs.Covers.{covered_box, last_covers}
@@ -32,15 +36,20 @@ use Rattle.zarrs_engine_layout.proofs.Chunks.{right_length}
 some_memory : (layout : Layout) (region : Box) (chunks : List (List ℕ)) (state : StoreState) (r : Refusal) → r ≡ refusal.out_of_memory → RefusesSomeChunk layout region chunks state r
 some_memory layout region chunks state r is = subst (RefusesSomeChunk layout region chunks state) (sym is) tt
 
+-- the fill of this shape is too large
+fill_passes : (layout : Layout) (shape : List ℕ) → fill_refusal layout shape ≡ Some refusal.size_overflow → 2 ^ 64 ≤ position_count shape * held_size layout.kind layout.fill
+fill_passes layout shape said = elim (cases_Bool (nat_le (2 ^ 64) (position_count shape * held_size layout.kind layout.fill))) [
+  | inl large ↦ leb-true (2 ^ 64) (position_count shape * held_size layout.kind layout.fill) large
+  | inr small ↦ absurd (let clash : None ≡ Some refusal.size_overflow = sym (ap (λ b. refuse_if b refusal.size_overflow) small) ∙ said in cc)
+]
+
 -- a cause at one chunk is one of all
 pub some_wider : (layout : Layout) (region : Box) (chunks : List (List ℕ)) (index : List ℕ) (state : StoreState) → Contains chunks index
     → (r : Refusal) → RefusesSomeChunk layout region (index ∷ []) state r → RefusesSomeChunk layout region chunks state r
 some_wider layout region chunks index state among refusal.storage (i, only, why) = (i, subst (Contains chunks) (sym (only_member index i only)) among, why)
 some_wider layout region chunks index state among refusal.codec (i, only, why) = (i, subst (Contains chunks) (sym (only_member index i only)) among, why)
-some_wider layout region chunks index state among refusal.size_overflow (inl (i, only, large, there)) = inl (i, subst (Contains chunks) (sym (only_member index i only)) among, large, there)
-some_wider layout region chunks index state among refusal.size_overflow (inr (inl (i, only, needs))) = inr (inl (i, subst (Contains chunks) (sym (only_member index i only)) among, needs))
-some_wider layout region chunks index state among refusal.size_overflow (inr (inr (inl (i, only, large, there)))) = inr (inr (inl (i, subst (Contains chunks) (sym (only_member index i only)) among, large, there)))
-some_wider layout region chunks index state among refusal.size_overflow (inr (inr (inr why))) = inr (inr (inr why))
+some_wider layout region chunks index state among refusal.size_overflow (inl (i, only, large)) = inl (i, subst (Contains chunks) (sym (only_member index i only)) among, large)
+some_wider layout region chunks index state among refusal.size_overflow (inr why) = inr why
 some_wider layout region chunks index state among refusal.out_of_memory why = tt
 some_wider layout region chunks index state among _ why = absurd why
 
@@ -60,35 +69,51 @@ module _ (layout : Layout) (region : Box) (index : List ℕ) (state : StoreState
         ]
   ]
 
-  -- a chunk that is present is too large
-  pub some_size : (encoded : List ℕ) → value_at state (layout.key index) ≡ Some encoded → (r : Refusal) → RefusesBy (box_refusal layout index) r → RefusesSomeChunk layout region (index ∷ []) state r
-  some_size encoded stands r h = elim (memory_or_said _ r h) [
-    | inl memory ↦ some_memory layout region (index ∷ []) state r memory
-    | inr said ↦ elim (cases_Bool (is_too_large layout (box_at layout.grid index).shape)) [
-      | inl large ↦
-          let is : Some refusal.size_overflow ≡ Some r = sym (large_chunk layout index has large) ∙ said in
-          let same : refusal.size_overflow ≡ r = cc in
-          subst (RefusesSomeChunk layout region (index ∷ []) state) same (inl (index, member index, large, (encoded, stands)))
-      | inr fit ↦ absurd (let clash : None ≡ Some r = sym (fit_chunk layout index has fit) ∙ said in cc)
-    ]
-  ]
+  -- a part of a chunk that is present is not decoded, for a size
+  pub some_large : (encoded : List ℕ) → value_at state (layout.key index) ≡ Some encoded → IsPart layout region index
+      → IsTooLargeToDecode layout.chain layout.kind layout.fill (box_at layout.grid index).shape encoded → RefusesSomeChunk layout region (index ∷ []) state refusal.size_overflow
+  some_large encoded stands part (whole, is, large) =
+      inl (index, member index, record { encoded = encoded; stands = stands; whole = whole; decoded_whole = inr (part, is); large = large })
 
-  -- a chunk that is present does not decode, or leaves out cells
-  pub some_broken : (encoded : List ℕ) → value_at state (layout.key index) ≡ Some encoded → box_refusal layout index ≡ None → (r : Refusal) → RefusesBytes layout index encoded r → RefusesSomeChunk layout region (index ∷ []) state r
-  some_broken encoded stands boxed r (inr (is, lack)) =
-      let needs : NeedsLargeFill layout index state = record { encoded = encoded; stands = stands; left_out = lack.left_out; large = lack.large } in
-      subst (RefusesSomeChunk layout region (index ∷ []) state) (sym is) (inr (inl (index, member index, needs)))
-  some_broken encoded stands boxed r (inl h) = elim (memory_or_said _ r h) [
-    | inl memory ↦ some_memory layout region (index ∷ []) state r memory
-    | inr said ↦
-        let decode : cond (is_some (decoded_cells layout (box_at layout.grid index) encoded)) None (Some refusal.codec) ≡ Some r = sym (second_refusal (box_refusal layout index) _ boxed) ∙ said in
-        elim (decoded_cells layout (box_at layout.grid index) encoded) as (λ o. decoded_cells layout (box_at layout.grid index) encoded ≡ o → cond (is_some o) None (Some refusal.codec) ≡ Some r → RefusesSomeChunk layout region (index ∷ []) state r) [
-          | None ↦ λ at is.
-              let same : refusal.codec ≡ r = cc in
-              subst (RefusesSomeChunk layout region (index ∷ []) state) same (index, member index, record { encoded = encoded; stands = stands; undecoded = at })
-          | Some cells ↦ λ at is. absurd (let clash : None ≡ Some r = is in cc)
-        ] refl decode
-  ]
+  module _ (covers : CoversBox region (box_at layout.grid index)) (encoded : List ℕ) (stands : value_at state (layout.key index) ≡ Some encoded) where
+    -- a chunk that is present, and that the region covers, is too large
+    some_whole : (2 ^ 64 ≤ position_count (box_at layout.grid index).shape * cell_size layout.kind)
+        ⊎ ((layout.chain.leaves_out (box_at layout.grid index).shape encoded ≡ true) × (2 ^ 64 ≤ position_count (box_at layout.grid index).shape * held_size layout.kind layout.fill))
+        → RefusesSomeChunk layout region (index ∷ []) state refusal.size_overflow
+    some_whole large =
+        inl (index, member index, record { encoded = encoded; stands = stands; whole = (box_at layout.grid index).shape; decoded_whole = inl (covers, refl); large = large })
+
+    pub some_size : (r : Refusal) → RefusesBy (box_refusal layout index) r → RefusesSomeChunk layout region (index ∷ []) state r
+    some_size r h = elim (memory_or_said _ r h) [
+      | inl memory ↦ some_memory layout region (index ∷ []) state r memory
+      | inr said ↦ elim (cases_Bool (is_too_large layout (box_at layout.grid index).shape)) [
+        | inl large ↦
+            let is : Some refusal.size_overflow ≡ Some r = sym (large_chunk layout index has large) ∙ said in
+            let same : refusal.size_overflow ≡ r = cc in
+            subst (RefusesSomeChunk layout region (index ∷ []) state) same (some_whole (inl (leb-true (2 ^ 64) (position_count (box_at layout.grid index).shape * cell_size layout.kind) large)))
+        | inr fit ↦ absurd (let clash : None ≡ Some r = sym (fit_chunk layout index has fit) ∙ said in cc)
+      ]
+    ]
+
+    -- its fill is too large
+    pub some_fill : layout.chain.leaves_out (box_at layout.grid index).shape encoded ≡ true → fill_refusal layout (box_at layout.grid index).shape ≡ Some refusal.size_overflow
+        → RefusesSomeChunk layout region (index ∷ []) state refusal.size_overflow
+    some_fill left_out large = some_whole (inr (left_out, fill_passes layout (box_at layout.grid index).shape large))
+
+    -- it does not decode, or leaves out cells
+    pub some_broken : box_refusal layout index ≡ None → (r : Refusal) → RefusesBytes layout index encoded r → RefusesSomeChunk layout region (index ∷ []) state r
+    some_broken boxed r (inr (is, lack)) = subst (RefusesSomeChunk layout region (index ∷ []) state) (sym is) (some_fill lack.left_out lack.large)
+    some_broken boxed r (inl h) = elim (memory_or_said _ r h) [
+      | inl memory ↦ some_memory layout region (index ∷ []) state r memory
+      | inr said ↦
+          let decode : cond (is_some (decoded_cells layout (box_at layout.grid index) encoded)) None (Some refusal.codec) ≡ Some r = sym (second_refusal (box_refusal layout index) _ boxed) ∙ said in
+          elim (decoded_cells layout (box_at layout.grid index) encoded) as (λ o. decoded_cells layout (box_at layout.grid index) encoded ≡ o → cond (is_some o) None (Some refusal.codec) ≡ Some r → RefusesSomeChunk layout region (index ∷ []) state r) [
+            | None ↦ λ at is.
+                let same : refusal.codec ≡ r = cc in
+                subst (RefusesSomeChunk layout region (index ∷ []) state) same (index, member index, record { encoded = encoded; stands = stands; undecoded = at })
+            | Some cells ↦ λ at is. absurd (let clash : None ≡ Some r = is in cc)
+          ] refl decode
+    ]
 
 -- ---- what the arguments decide
 

@@ -5,6 +5,7 @@ use Rattle.zarrs_subset.specs.Boxes.{position_count}
 use Rattle.zarrs_subset.specs.Regions.{Box}
 use Rattle.zarrs_chunk_grid.specs.Grids.{box_at}
 use Rattle.zarrs_storage.specs.Store.{StoreState, last_call}
+use Rattle.zarrs_codec_chain.specs.Refusals.{IsTooLargeToDecode}
 use Rattle.zarrs_data_type.specs.Cell.{Cell, held_size}
 use Rattle.zarrs_data_type.specs.ArrayData.{ArrayData}
 use Rattle.zarrs_data_type.specs.Cells.{cells}
@@ -44,13 +45,12 @@ abbrev pub RefusesBytes : Layout → (index encoded : List ℕ) → Refusal → 
 RefusesBytes layout index encoded r =
     RefusesBy (read_refusal layout true index (Some encoded)) r ⊎ ((r ≡ size_overflow) × LeaveOutCells layout index encoded)
 
--- A part of a chunk of this box is not decoded: the source of its bytes refuses (E7), they do not decode (E4), or they leave
--- out cells, and a chunk of fill is too large (E8). Out of memory may come at any time.
+-- A part of a chunk of this box is not decoded: the source of its bytes refuses (E7), they do not decode (E4), or what is
+-- decoded whole of them is too large, or its fill where they leave out cells (E8). Out of memory may come at any time.
 abbrev pub RefusesPartBytes : Layout → (box : Box) (encoded : List ℕ) (refuses : Bool) → Refusal → Type 0
 RefusesPartBytes layout box encoded refuses storage = refuses ≡ true
 RefusesPartBytes layout box encoded refuses codec = decoded_cells layout box encoded ≡ None
-RefusesPartBytes layout box encoded refuses size_overflow =
-    (layout.chain.leaves_out box.shape encoded ≡ true) × (fill_refusal layout box.shape ≡ Some size_overflow)
+RefusesPartBytes layout box encoded refuses size_overflow = IsTooLargeToDecode layout.chain layout.kind layout.fill box.shape encoded
 RefusesPartBytes layout box encoded refuses out_of_memory = Unit {0}
 RefusesPartBytes layout box encoded refuses _ = ⊥
 

@@ -71,6 +71,7 @@ impl<G: ChunkGridTraits, K: ChunkKeyEncodingTraits, C: ChainTraits> ArrayLayout<
     ///
     /// # Errors
     /// Only `OutOfMemory`.
+    #[inline(always)]
     pub fn chunk_key(&self, alloc: Global, chunk_indices: &[u64]) -> Result<StoreKey, StorageError>
         ensures key { IfOk result (λ key. key ≡ (layout_meaning self.now).key chunk_indices.now) }
         ensures accepted { IsOkUnless result StorageError.OutOfMemory }
@@ -296,6 +297,7 @@ impl<G: ChunkGridTraits, K: ChunkKeyEncodingTraits, C: ChainTraits> ArrayLayout<
     /// In this order: those of `chunk`; E4 if the bytes do not decode, E8 if they leave out cells and as many fill values
     /// as the chunk has cells have more bytes than a `usize` counts; which comes if both hold is open. E9 may come at any
     /// time.
+    #[inline(always)]
     pub fn decode<'a>(
         &self,
         alloc: Global,

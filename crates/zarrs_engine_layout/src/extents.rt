@@ -29,6 +29,7 @@ impl<G: ChunkGridTraits, K: ChunkKeyEncodingTraits, C: ChainTraits> ArrayLayout<
     ghost use Rattle.zarrs_engine_layout.specs.Layouts.{layout_meaning};
 
     /// Returns the number of cells of a chunk of this shape, or `None` if they have more bytes than a `usize` counts.
+    #[inline(always)]
     pub fn shape_count(&self, shape: &[u64]) -> Option<u64>
         ensures some { IfSome result (λ count. count ≡ position_count shape.now) }
         ensures small { OnSome result (is_too_large (layout_meaning self.now) shape.now ≡ false) }
@@ -49,6 +50,7 @@ impl<G: ChunkGridTraits, K: ChunkKeyEncodingTraits, C: ChainTraits> ArrayLayout<
     /// # Errors
     /// In this order: E3 for indices without a chunk; E8 for a chunk of more bytes than a `usize` counts. E9 may come
     /// at any time.
+    #[inline(always)]
     pub fn chunk_extents(
         &self,
         alloc: Global,
@@ -73,6 +75,7 @@ impl<G: ChunkGridTraits, K: ChunkKeyEncodingTraits, C: ChainTraits> ArrayLayout<
     ///
     /// # Errors
     /// E3 for another number of indices than dimensions, or indices without a chunk. E9 may come at any time.
+    #[inline(always)]
     pub fn chunk_shape(
         &self,
         alloc: Global,

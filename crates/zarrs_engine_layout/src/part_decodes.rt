@@ -28,8 +28,9 @@ impl<G: ChunkGridTraits, K: ChunkKeyEncodingTraits, C: ChainTraits> ArrayLayout<
     /// the corner of the chunk. No other bytes are read than those that the part needs.
     ///
     /// # Errors
-    /// One of these: E4 if the bytes do not decode, though a part of them may; E7 if the source refuses; E8 if the bytes
-    /// leave out cells and a chunk of fill has more bytes than a `usize` counts. E9 may come at any time.
+    /// One of these: E4 if the bytes do not decode, though a part of them may; E7 if the source refuses; E8 if what the
+    /// chain decodes whole, the chunk or a subchunk, has more bytes than a `usize` counts, or so has its fill where the
+    /// bytes leave out cells. E9 may come at any time.
     pub fn decode_part<B: ByteSource>(
         &self,
         alloc: Global,
@@ -37,7 +38,7 @@ impl<G: ChunkGridTraits, K: ChunkKeyEncodingTraits, C: ChainTraits> ArrayLayout<
         source: &B,
         part: &ArraySubset,
     ) -> Result<ArrayBytes<'static>, ArrayError>
-        requires fit { is_too_large (layout_meaning self.now) shape.now ≡ false }
+        requires size { is_too_large (layout_meaning self.now) (box_of part.now).shape ≡ false }
         requires part { LiesInShape (box_of part.now) shape.now }
         requires may_read { (place : ℕ) → (layout_meaning self.now).chain.places
             (layout_meaning self.now).kind shape.now (box_of part.now)
@@ -79,7 +80,6 @@ impl<G: ChunkGridTraits, K: ChunkKeyEncodingTraits, C: ChainTraits> ArrayLayout<
         part: &ArraySubset,
         target: &mut ArrayBytesDecodeIntoTarget<'_, '_, '_>,
     ) -> Result<(), ArrayError>
-        requires fit { is_too_large (layout_meaning self.now) shape.now ≡ false }
         requires part { LiesInShape (box_of part.now) shape.now }
         requires may_read { (place : ℕ) → (layout_meaning self.now).chain.places
             (layout_meaning self.now).kind shape.now (box_of part.now)

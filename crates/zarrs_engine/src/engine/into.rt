@@ -280,7 +280,7 @@ impl<
         let Some(source) = StoredValue::open(alloc, &self.storage, &key)? else {
             return self.read_absent_into(alloc, region, chunk_indices, target, filled);
         };
-        let chunk = self.layout.chunk_extents(alloc, chunk_indices)?;
+        let extents = self.layout.chunk_shape(alloc, chunk_indices)?;
         let grid = &self.layout.grid;
         let Some(part) = part_in_chunk(alloc, grid, region, chunk_indices)? else {
             return Ok(());
@@ -288,7 +288,7 @@ impl<
         let Some(own) = shared_in(alloc, grid, region, chunk_indices, target.region)? else {
             return Ok(());
         };
-        let shape = chunk.shape.as_slice();
+        let shape = extents.as_slice();
         let mut lent = target.subdivide(&own);
         let done = self
             .layout

@@ -27,6 +27,7 @@ impl<
     ghost use Rattle.zarrs_engine_layout.specs.Steps.{RefusesValue};
 
     /// Returns the bytes that are present at the key of the chunk with these indices.
+    #[inline(always)]
     pub(crate) fn stored_bytes(
         &self,
         alloc: Global,

@@ -3,11 +3,11 @@ use super::Engine;
 use super::region_lists::form_of;
 use std::alloc::Global;
 use zarrs_chunk_grid::ChunkGridTraits;
-use zarrs_codec_chain::{ChainTraits, seen_from_corner};
+use zarrs_codec_chain::ChainTraits;
 use zarrs_codec_leaf::StoredValue;
 use zarrs_data_type::{ArrayBytes, RegionCells};
 use zarrs_engine_calls::ArrayError;
-use zarrs_engine_layout::{ArrayLayout, shared_positions};
+use zarrs_engine_layout::{ArrayLayout, part_in_chunk, shared_positions};
 use zarrs_keys::ChunkKeyEncodingTraits;
 use zarrs_storage::ReadableStorageTraits;
 use zarrs_subset::{ArraySubset, lies_in_box};
@@ -29,7 +29,7 @@ impl<
     ghost use Rattle.zarrs_data_type.specs.RegionData.{region_data};
     ghost use Rattle.zarrs_subset.specs.Regions.{LiesInBox};
     ghost use Rattle.zarrs_engine_calls.specs.ArgumentRefusals.{size_refusal};
-    ghost use Rattle.zarrs_engine_calls.specs.ChunkBoxes.{is_empty};
+    ghost use Rattle.zarrs_engine_calls.specs.ChunkBoxes.{CoversBox, is_empty};
     ghost use Rattle.zarrs_engine_calls.specs.Content.{value_at};
     ghost use Rattle.zarrs_engine_calls.specs.Reach.{MayAskChunk, MayDecodePart, MayReadPart};
     ghost use Rattle.zarrs_engine_calls.specs.Reach.{MayReadParts, chunk_part};
@@ -96,6 +96,7 @@ impl<
         requires boxed { has_box (layout_of self.now).grid chunk_indices.now ≡ true }
         requires shape { shape.now ≡ (box_at (layout_of self.now).grid chunk_indices.now).shape }
         requires part { LiesInShape (box_of part.now) shape.now }
+        requires size { size_refusal (layout_of self.now) (box_of part.now).shape ≡ None }
         requires ask { MayDecodePart (layout_of self.now) (box_of part.now) chunk_indices.now
             (store_of S.state self.now) }
         ensures absent { IfOk result (λ found. IfNone found (value_at (store_of S.state self.now)
@@ -103,16 +104,15 @@ impl<
         ensures part { IfOk result (λ found. IfSome found (λ made. DecodesStored
             (layout_of self.now) chunk_indices.now (box_of part.now) (store_of S.state self.now)
             (data_of made))) }
-        ensures refused { IfErr result (λ e. (region : Box) → RefusesSomeChunk (layout_of self.now)
-            region (chunk_indices.now ∷ []) (store_of S.state self.now) (refusal_of e)) }
+        ensures refused { IfErr result (λ e. (region : Box)
+            → IsPart (layout_of self.now) region chunk_indices.now
+            → RefusesSomeChunk (layout_of self.now) region (chunk_indices.now ∷ [])
+            (store_of S.state self.now) (refusal_of e)) }
     {
         let key = self.layout.chunk_key(alloc, chunk_indices)?;
         let Some(source) = StoredValue::open(alloc, &self.storage, &key)? else {
             return Ok(None);
         };
-        if self.layout.shape_count(shape).is_none() {
-            return Err(ArrayError::SizeOverflow);
-        }
         let made = self.layout.decode_part(alloc, shape, &source, part)?;
         Ok(Some(made))
     }
@@ -129,6 +129,7 @@ impl<
         requires boxed { has_box (layout_of self.now).grid chunk_indices.now ≡ true }
         requires dimensions { length (box_of region.now).start
             ≡ (layout_of self.now).grid.dimensions }
+        requires size { size_refusal (layout_of self.now) (box_of region.now).shape ≡ None }
         requires held { HasCells (layout_of self.now).kind (region_data held)
             (position_count (box_of region.now).shape) }
         requires ask { MayReadPart (layout_of self.now) (box_of region.now) chunk_indices.now
@@ -157,6 +158,7 @@ impl<
     ) -> Result<RegionCells, ArrayError>
         requires boxed { has_box (layout_of self.now).grid chunk_indices.now ≡ true }
         requires chunk { box_of chunk.now ≡ box_at (layout_of self.now).grid chunk_indices.now }
+        requires covers { CoversBox (box_of region.now) (box_of chunk.now) }
         requires dimensions { length (box_of region.now).start
             ≡ (layout_of self.now).grid.dimensions }
         requires held { HasCells (layout_of self.now).kind (region_data held)
@@ -191,6 +193,7 @@ impl<
         requires part { IsPart (layout_of self.now) (box_of region.now) chunk_indices.now }
         requires dimensions { length (box_of region.now).start
             ≡ (layout_of self.now).grid.dimensions }
+        requires size { size_refusal (layout_of self.now) (box_of region.now).shape ≡ None }
         requires held { HasCells (layout_of self.now).kind (region_data held)
             (position_count (box_of region.now).shape) }
         requires ask { MayDecodePart (layout_of self.now) (chunk_part (box_of region.now)
@@ -222,6 +225,7 @@ impl<
     ) -> Result<RegionCells, ArrayError>
         requires cover { CoverRegion (layout_of self.now).grid (box_of region.now)
             (positions (box_of chunks.now)) }
+        requires size { size_refusal (layout_of self.now) (box_of region.now).shape ≡ None }
         requires ask { MayReadParts (layout_of self.now) (box_of region.now)
             (positions (box_of chunks.now)) (store_of S.state self.now) }
         requires none { HasRead (layout_of self.now) (box_of region.now) []
@@ -299,12 +303,15 @@ impl<
             (chunk_indices.now ∷ []) (store_of S.state self.now) (refusal_of e)) }
     {
         self.count_to_read(region)?;
-        let chunk = self.layout.chunk_box(alloc, chunk_indices)?;
-        if *region == chunk {
+        let extents = self.layout.chunk_shape(alloc, chunk_indices)?;
+        let shape = extents.as_slice();
+        if region.shape() == shape {
             return self.retrieve_chunk(alloc, chunk_indices);
         }
-        let part = seen_from_corner(alloc, region, chunk.start())?;
-        self.read_part(alloc, chunk_indices, chunk.shape(), &part)
+        match part_in_chunk(alloc, &self.layout.grid, region, chunk_indices)? {
+            Some(part) => self.read_part(alloc, chunk_indices, shape, &part),
+            None => self.layout.filled(alloc, region),
+        }
     }
 
     /// Returns the cells of a part of the chunk with these indices, which has this shape, just as they are decoded. The
@@ -345,8 +352,9 @@ impl<
     /// # Errors
     /// In this order: E1 for another number of dimensions, or a position that no chunk covers; E8 for cells of more
     /// bytes than a `usize` counts. Then one of these: E7 if the store refuses the key of a chunk that the region meets,
-    /// E8 for such a chunk of more bytes than that, for a chunk of fill of more if its bytes leave out cells, or for such
-    /// fill if all of the region lies in an absent chunk, E4 if its bytes do not decode. E9 may come at any time.
+    /// E4 if its bytes do not decode, E8 if what is decoded whole of it (the chunk, a subchunk or nothing) has more bytes
+    /// than that, or so has its fill where the bytes leave out cells, or if all of the region lies in an absent chunk and
+    /// that many fill values have more. E9 may come at any time.
     pub fn retrieve_array_subset(
         &self,
         alloc: Global,

@@ -6,13 +6,13 @@ use Rattle.zarrs_codec_chain.proofs.Kept.{err_kept}
 use Rattle.zarrs_codec_chain.specs.Parts.{DecodesPart}
 use Rattle.zarrs_codec_leaf.specs.Stored.{key_of_source, state_of_source, value_or_empty}
 use Rattle.zarrs_engine_calls.specs.Content.{decoded_cells}
-use Rattle.zarrs_engine_calls.specs.Refusals.{is_too_large, refusal_of}
-use Rattle.zarrs_engine_calls.specs.StateRefusals.{RefusesSomeChunk}
+use Rattle.zarrs_engine_calls.specs.Refusals.{refusal_of}
+use Rattle.zarrs_engine_calls.specs.StateRefusals.{IsPart, RefusesSomeChunk}
 use Rattle.zarrs_chunk_grid.specs.Grids.{box_at}
 use Rattle.zarrs_engine_layout.specs.Steps.{RefusesPartBytes}
 use Rattle.zarrs_engine_calls.proofs.Contents.{index_list}
 use Rattle.zarrs_engine.specs.Engine.{layout_of}
-use Rattle.zarrs_engine.proofs.PartBytes.{none_of, part_why, size_why, source_value}
+use Rattle.zarrs_engine.proofs.PartBytes.{part_why, size_fits, source_value}
 use Rattle.zarrs_engine.proofs.engine.Engine.part_of_chunk.Goals as goal
 
 pub open-requires : goal.open-requires
@@ -22,17 +22,8 @@ open-requires g c =
     let words = index_list layout c.args.self.now.layout.lawful c.args.chunk_indices.now c.requires.boxed in
     subst (λ (key : List ℕ). state.may_ask key ≡ true) (sym c.in_ok-key.ensures.key) (c.requires.ask.key words)
 
-pub returns-then-is_none-clause-refused : goal.returns-then-is_none-clause-refused
-returns-then-is_none-clause-refused g c = λ region.
-    let layout = layout_of c.args.self.now in
-    let index = c.args.chunk_indices.now in
-    let state = g.S.ReadableStorageTraits.state c.args.self.now.storage in
-    let source = c.in-Some.source in
-    let state_is : state_of_source source ≡ state = rw c.in-Some.is at c.in_ok-source.ensures.state in
-    let key_is : key_of_source source ≡ layout.key index = (rw c.in-Some.is at c.in_ok-source.ensures.key) ∙ c.in_ok-key.ensures.key in
-    let found = source_value (state_of_source source) state (key_of_source source) (layout.key index) source.size state_is key_is source.sized in
-    let large = none_of c.shape_count.result c.is_none.result _ c.is_none.ensures c.if-is_none.true c.shape_count.ensures.large in
-    size_why layout region index state c.requires.boxed found.0 found.1 (subst (λ s. is_too_large layout s ≡ true) c.requires.shape large)
+pub decode_part-requires-clause-size : goal.decode_part-requires-clause-size
+decode_part-requires-clause-size g c = size_fits (layout_of c.args.self.now) (box_of c.args.part.now).shape c.requires.size
 
 pub decode_part-requires-clause-may_read : goal.decode_part-requires-clause-may_read
 decode_part-requires-clause-may_read g c = λ place needed.
@@ -64,10 +55,10 @@ returns-in_err-made-clause-refused g c =
     let same : (state_of_source source).refuses (key_of_source source) ≡ state.refuses (layout.key index) =
     ap (λ (s : StoreState). s.refuses (key_of_source source)) state_is ∙ ap state.refuses key_is in
     let r = refusal_of c.in_err-made.field-0.0 in
-    let why : (region : Box) → RefusesSomeChunk layout region (index ∷ []) state r = λ region.
-    part_why layout region index state c.requires.boxed bytes ((state_of_source source).refuses (key_of_source source)) (box_at layout.grid index) refl same (found.1 ∙ ap Some (sym found.2)) r
+    let why : (region : Box) → IsPart layout region index → RefusesSomeChunk layout region (index ∷ []) state r = λ region part.
+    part_why layout region index state c.requires.boxed part bytes ((state_of_source source).refuses (key_of_source source)) (box_at layout.grid index) refl same (found.1 ∙ ap Some (sym found.2)) r
     (subst (λ s. RefusesPartBytes layout (box_at_origin s) bytes ((state_of_source source).refuses (key_of_source source)) r) c.requires.shape c.in_err-made.ensures.refused) in
-    err_kept c.from_residual-in_err-made.result c.in_err-made.field-0.0 (λ e. (region : Box) → RefusesSomeChunk layout region (index ∷ []) state (refusal_of e)) c.from_residual-in_err-made.ensures.1 why
+    err_kept c.from_residual-in_err-made.result c.in_err-made.field-0.0 (λ e. (region : Box) → IsPart layout region index → RefusesSomeChunk layout region (index ∷ []) state (refusal_of e)) c.from_residual-in_err-made.ensures.1 why
 
 pub returns-clause-part : goal.returns-clause-part
 returns-clause-part g c =

@@ -47,7 +47,7 @@ returns-in_err-made-clause-refused g c =
     let state = g.S.ReadableStorageTraits.state c.args.self.now.storage in
     let index = c.args.chunk_indices.now in
     let why : (region : Box) → IsRegionOf layout index (box_of c.args.part.now) region → RefusesSomeChunk layout region (index ∷ []) state (refusal_of c.in_err-made.field-0.0) =
-    λ region is. c.in_err-made.ensures.refused region in
+    λ region is. c.in_err-made.ensures.refused region is.proper in
     search (rules, why)
 
 pub returns-in-Some-clause-read : goal.returns-in-Some-clause-read

@@ -1,35 +1,27 @@
-use Rattle.std.proofs.Common.{◌≡◌, ◌∙◌, ℕ, List, [], ◌∷◌, true, false, None, Some, length, ap, refl, sym, subst, rules}
+use Rattle.std.proofs.Common.{◌≡◌, ◌∙◌, ℕ, List, [], ◌∷◌, true, Some, ap, refl, sym, subst, rules}
 use Rattle.std.proofs.lemmas.Result.{IfErr-weaker, on_ok_weaker}
 use Rattle.zarrs_subset.specs.Boxes.{position_count}
-use Rattle.zarrs_subset.specs.Regions.{Box, Holds, LiesInShape, box_of, overlap_of, seen_from}
-use Rattle.zarrs_subset.proofs.Inside.{holds_inside}
+use Rattle.zarrs_subset.specs.Regions.{Box, LiesInShape, box_of, overlap_of}
 use Rattle.zarrs_chunk_grid.specs.Grids.{box_at}
-use Rattle.zarrs_chunk_grid.proofs.Chunks.{box_dimensions, box_long}
+use Rattle.zarrs_chunk_grid.proofs.Chunks.{box_long}
 use Rattle.zarrs_storage.specs.Store.{StoreState}
 use Rattle.zarrs_data_type.specs.States.{data_of_target, parent_box, target_box}
 use Rattle.zarrs_data_type_region.proofs.TargetBoxes.{lies_at_origin, origin_long}
 use Rattle.zarrs_data_type_region.proofs.TargetLevels.{masked_keeps}
-use Rattle.zarrs_codec_chain.specs.Parts.{DecodesInto, DecodesPartAt}
-use Rattle.zarrs_codec_chain.specs.PartRefusals.{RefusesIntoDecoding}
-use Rattle.zarrs_codec_chain.proofs.MovedBoxes.{overlap_inside}
+use Rattle.zarrs_codec_chain.specs.Parts.{DecodesPartAt}
 use Rattle.zarrs_codec_leaf.specs.Stored.{key_of_source, state_of_source, value_or_empty}
-use Rattle.zarrs_engine_calls.specs.ChunkBoxes.{CoversBox}
-use Rattle.zarrs_engine_calls.specs.Content.{decoded_cells, value_at}
+use Rattle.zarrs_engine_calls.specs.Content.{value_at}
 use Rattle.zarrs_engine_calls.specs.Errors.{error_of_storage}
-use Rattle.zarrs_engine_calls.specs.Reads.{IsBroken}
-use Rattle.zarrs_engine_calls.specs.Refusals.{is_too_large, refusal_of}
+use Rattle.zarrs_engine_calls.specs.Refusals.{refusal_of}
 use Rattle.zarrs_engine_calls.specs.StateRefusals.{RefusesSomeChunk}
-use Rattle.zarrs_engine_calls.proofs.Contents.{absent_fill, index_list}
-use Rattle.zarrs_engine_calls.proofs.RefusalLemmas.{box_accepted}
-use Rattle.zarrs_engine_layout.specs.Shared.{AreApart, AreShared, IsSharedIn}
+use Rattle.zarrs_engine_calls.proofs.Contents.{index_list}
+use Rattle.zarrs_engine_layout.specs.Shared.{IsSharedIn}
 use Rattle.zarrs_engine_layout.specs.Steps.{RefusesPartBytes}
-use Rattle.zarrs_engine_layout.proofs.RegionRefusals.{some_key, some_size}
 use Rattle.zarrs_engine.specs.Engine.{layout_of}
-use Rattle.zarrs_engine.specs.TargetReads.{HasPositions, ReadsOneMoreInto}
-use Rattle.zarrs_engine.proofs.IntoReads.{into_why, same_takes, same_twice}
+use Rattle.zarrs_engine.proofs.IntoReads.{same_takes, same_twice}
 use Rattle.zarrs_engine.proofs.LentParts.{IsTakenBack, back_reads, back_stays, made_lies}
-use Rattle.zarrs_engine.proofs.PartBytes.{key_why, part_why, source_value}
-use Rattle.zarrs_engine.proofs.TargetReads.{decoded_positions, filled_positions, into_absent, into_apart, is_long, part_positions}
+use Rattle.zarrs_engine.proofs.PartBytes.{box_why, key_why, part_why, source_value}
+use Rattle.zarrs_engine.proofs.TargetReads.{into_apart, part_positions}
 use Rattle.zarrs_engine.proofs.engine.Engine.read_part_into.Goals as goal
 
 pub returns-in_err-key-clause-outside : goal.returns-in_err-key-clause-outside
@@ -72,22 +64,18 @@ read_absent_into-requires-clause-absent g c =
     let chunk = box_at layout.grid index in
     ap (value_at state) (sym c.in_ok-key.ensures.key) ∙ (rw c.in_default.is at c.in_ok-source.ensures.absent)
 
-pub returns-in_err-chunk-clause-refused : goal.returns-in_err-chunk-clause-refused
-returns-in_err-chunk-clause-refused g c =
+pub returns-in_err-extents-clause-refused : goal.returns-in_err-extents-clause-refused
+returns-in_err-extents-clause-refused g c =
     let layout = layout_of c.args.self.now in
     let state = g.S.ReadableStorageTraits.state c.args.self.now.storage in
     let region = box_of c.args.region.now in
     let index = c.args.chunk_indices.now in
     let chunk = box_at layout.grid index in
-    let source = c.in-Some.source in
-    let state_is : state_of_source source ≡ state = rw c.in-Some.is at c.in_ok-source.ensures.state in
-    let key_is : key_of_source source ≡ layout.key index = (rw c.in-Some.is at c.in_ok-source.ensures.key) ∙ c.in_ok-key.ensures.key in
-    let found = source_value (state_of_source source) state (key_of_source source) (layout.key index) source.size state_is key_is source.sized in
-    let why = some_size layout region index state c.requires.boxed found.0 found.1 (refusal_of c.in_err-chunk.field-0.0) c.in_err-chunk.ensures.refused in
+    let why = box_why layout region index state c.requires.boxed (refusal_of c.in_err-extents.field-0.0) c.in_err-extents.ensures.refused in
     search (rules, why)
 
-pub returns-in_err-chunk-clause-outside : goal.returns-in_err-chunk-clause-outside
-returns-in_err-chunk-clause-outside g c =
+pub returns-in_err-extents-clause-outside : goal.returns-in_err-extents-clause-outside
+returns-in_err-extents-clause-outside g c =
     let t = c.args.target.now in
     masked_keeps t.cell_size (parent_box t) (target_box t) t.depth (position_count t.parent_shape.now) t.masks.now t.bytes.now
 
@@ -141,12 +129,6 @@ decode_part_into-done-requires-clause-takes g c =
     let same = c.subdivide-lent.ensures.same_parent in
     same_takes c.args.target.now p (layout_of c.args.self.now).kind same.cell_size same.depth c.requires.takes
 
-pub decode_part_into-done-requires-clause-fit : goal.decode_part_into-done-requires-clause-fit
-decode_part_into-done-requires-clause-fit g c =
-    let layout = layout_of c.args.self.now in
-    let shape = c.as_slice-shape.ensures ∙ c.in_ok-chunk.ensures.shape in
-    subst (λ (s : List ℕ). is_too_large layout s ≡ false) (sym shape) (box_accepted layout c.args.chunk_indices.now c.in_ok-chunk.ensures.accepted).1
-
 pub decode_part_into-done-requires-clause-part : goal.decode_part_into-done-requires-clause-part
 decode_part_into-done-requires-clause-part g c =
     let layout = layout_of c.args.self.now in
@@ -155,7 +137,7 @@ decode_part_into-done-requires-clause-part g c =
     let index = c.args.chunk_indices.now in
     let chunk = box_at layout.grid index in
     let shared = rw c.in-Some-2.is at c.in_ok-part.ensures.some in
-    subst (λ (s : List ℕ). LiesInShape (box_of c.in-Some-2.part) s) (sym (c.as_slice-shape.ensures ∙ c.in_ok-chunk.ensures.shape)) shared.lies
+    subst (λ (s : List ℕ). LiesInShape (box_of c.in-Some-2.part) s) (sym (c.as_slice-shape.ensures ∙ c.in_ok-extents.ensures.shape)) shared.lies
 
 pub decode_part_into-done-requires-clause-may_read : goal.decode_part_into-done-requires-clause-may_read
 decode_part_into-done-requires-clause-may_read g c = λ place needed.
@@ -170,7 +152,7 @@ decode_part_into-done-requires-clause-may_read g c = λ place needed.
     let found = source_value (state_of_source source) state (key_of_source source) (layout.key index) source.size state_is key_is source.sized in
     let part = box_of c.in-Some-2.part in
     let shared = rw c.in-Some-2.is at c.in_ok-part.ensures.some in
-    let shape : c.as_slice-shape.result.now ≡ chunk.shape = c.as_slice-shape.ensures ∙ c.in_ok-chunk.ensures.shape in
+    let shape : c.as_slice-shape.result.now ≡ chunk.shape = c.as_slice-shape.ensures ∙ c.in_ok-extents.ensures.shape in
     let words = index_list layout c.args.self.now.layout.lawful index c.requires.boxed in
     let there = subst (λ (b : Box). layout.chain.places layout.kind chunk.shape b found.0 place ≡ true) shared.part_is
     (subst (λ (s : List ℕ). layout.chain.places layout.kind s part found.0 place ≡ true) shape
@@ -225,7 +207,7 @@ returns-clause-read g c =
     let found = source_value (state_of_source source) state (key_of_source source) (layout.key index) source.size state_is key_is source.sized in
     let part = box_of c.in-Some-2.part in
     let shared = rw c.in-Some-2.is at c.in_ok-part.ensures.some in
-    let shape : c.as_slice-shape.result.now ≡ chunk.shape = c.as_slice-shape.ensures ∙ c.in_ok-chunk.ensures.shape in
+    let shape : c.as_slice-shape.result.now ≡ chunk.shape = c.as_slice-shape.ensures ∙ c.in_ok-extents.ensures.shape in
     let bytes = value_or_empty (state_of_source source) (key_of_source source) in
     on_ok_weaker c.decode_part_into-done.result
     (λ decodes.
@@ -249,12 +231,12 @@ returns-clause-refused g c =
     let key_is : key_of_source source ≡ layout.key index = (rw c.in-Some.is at c.in_ok-source.ensures.key) ∙ c.in_ok-key.ensures.key in
     let found = source_value (state_of_source source) state (key_of_source source) (layout.key index) source.size state_is key_is source.sized in
     let bytes = value_or_empty (state_of_source source) (key_of_source source) in
-    let shape : c.as_slice-shape.result.now ≡ chunk.shape = c.as_slice-shape.ensures ∙ c.in_ok-chunk.ensures.shape in
+    let shape : c.as_slice-shape.result.now ≡ chunk.shape = c.as_slice-shape.ensures ∙ c.in_ok-extents.ensures.shape in
     let same : (state_of_source source).refuses (key_of_source source) ≡ state.refuses (layout.key index) =
     ap (λ (s : StoreState). s.refuses (key_of_source source)) state_is ∙ ap state.refuses key_is in
     IfErr-weaker c.decode_part_into-done.result _ _
     (λ e why.
-    part_why layout region index state c.requires.boxed bytes ((state_of_source source).refuses (key_of_source source)) chunk refl same (found.1 ∙ ap Some (sym found.2)) (refusal_of e)
+    part_why layout region index state c.requires.boxed c.requires.part bytes ((state_of_source source).refuses (key_of_source source)) chunk refl same (found.1 ∙ ap Some (sym found.2)) (refusal_of e)
     (subst (λ (s : List ℕ). RefusesPartBytes layout (record { start = chunk.start; shape = s }) bytes ((state_of_source source).refuses (key_of_source source)) (refusal_of e)) shape why))
     c.decode_part_into-done.ensures.refused
 

@@ -1,33 +1,23 @@
-use Rattle.std.proofs.Common.{◌≡◌, ◌∙◌, ℕ, List, [], ◌∷◌, true, None, Some, length, ap, refl, sym, subst, rules}
-use Rattle.std.proofs.lemmas.Result.{IfErr-weaker, on_ok_weaker}
+use Rattle.std.proofs.Common.{◌≡◌, ◌∙◌, ℕ, List, None, Some, ap, refl, sym, subst, rules}
 use Rattle.zarrs_subset.specs.Boxes.{position_count}
-use Rattle.zarrs_subset.specs.Regions.{Box, Holds, box_of, overlap_of, seen_from}
-use Rattle.zarrs_subset.proofs.Inside.{holds_inside}
+use Rattle.zarrs_subset.specs.Regions.{Box, box_of, overlap_of}
 use Rattle.zarrs_chunk_grid.specs.Grids.{box_at}
-use Rattle.zarrs_chunk_grid.proofs.Chunks.{box_dimensions, box_long}
-use Rattle.zarrs_storage.specs.Store.{StoreState}
+use Rattle.zarrs_chunk_grid.proofs.Chunks.{box_long}
 use Rattle.zarrs_data_type.specs.States.{data_of_target, parent_box, target_box}
 use Rattle.zarrs_data_type_region.proofs.TargetBoxes.{lies_at_origin, origin_long}
 use Rattle.zarrs_data_type_region.proofs.TargetLevels.{masked_keeps}
-use Rattle.zarrs_codec_chain.specs.Parts.{DecodesInto, DecodesPartAt}
+use Rattle.zarrs_codec_chain.specs.Parts.{DecodesInto}
 use Rattle.zarrs_codec_chain.specs.PartRefusals.{RefusesIntoDecoding}
 use Rattle.zarrs_codec_chain.proofs.MovedBoxes.{overlap_inside}
-use Rattle.zarrs_codec_leaf.specs.Stored.{key_of_source, state_of_source, value_or_empty}
-use Rattle.zarrs_engine_calls.specs.ChunkBoxes.{CoversBox}
-use Rattle.zarrs_engine_calls.specs.Content.{decoded_cells, value_at}
-use Rattle.zarrs_engine_calls.specs.Errors.{error_of_storage}
-use Rattle.zarrs_engine_calls.specs.Reads.{IsBroken}
-use Rattle.zarrs_engine_calls.specs.Refusals.{is_too_large, refusal_of}
-use Rattle.zarrs_engine_calls.specs.StateRefusals.{RefusesSomeChunk}
-use Rattle.zarrs_engine_calls.proofs.Contents.{absent_fill, index_list}
-use Rattle.zarrs_engine_layout.specs.Shared.{AreApart, AreShared, IsSharedIn}
-use Rattle.zarrs_engine_layout.proofs.RegionRefusals.{some_key, some_size}
+use Rattle.zarrs_engine_calls.specs.Content.{decoded_cells}
+use Rattle.zarrs_engine_calls.specs.Refusals.{refusal_of}
+use Rattle.zarrs_engine_layout.specs.Shared.{IsSharedIn}
+use Rattle.zarrs_engine_layout.proofs.RegionRefusals.{some_key}
 use Rattle.zarrs_engine.specs.Engine.{layout_of}
-use Rattle.zarrs_engine.specs.TargetReads.{HasPositions, ReadsOneMoreInto}
+use Rattle.zarrs_engine.specs.TargetReads.{HasPositions}
 use Rattle.zarrs_engine.proofs.IntoReads.{into_why, same_takes, same_twice}
 use Rattle.zarrs_engine.proofs.LentParts.{IsTakenBack, back_reads, back_stays, made_lies}
-use Rattle.zarrs_engine.proofs.PartBytes.{key_why, part_why, source_value}
-use Rattle.zarrs_engine.proofs.TargetReads.{decoded_positions, filled_positions, into_absent, into_apart, is_long, part_positions}
+use Rattle.zarrs_engine.proofs.TargetReads.{decoded_positions, into_apart}
 use Rattle.zarrs_engine.proofs.engine.Engine.read_whole_into.Goals as goal
 
 pub returns-in_err-encoded-clause-refused : goal.returns-in_err-encoded-clause-refused

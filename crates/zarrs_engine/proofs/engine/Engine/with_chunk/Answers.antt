@@ -25,6 +25,10 @@ with_whole_chunk-requires-clause-ask g c =
     let lies = subst (λ (b : Box). LiesInBox b region) c.in_ok-chunk.ensures.region (c.lies_in_box.ensures.0 c.if-lies_in_box.true) in
     c.requires.ask.whole (lies_covers (box_at layout.grid index) region (box_long layout.grid index) c.args.region.now.same_length lies)
 
+pub with_whole_chunk-requires-clause-covers : goal.with_whole_chunk-requires-clause-covers
+with_whole_chunk-requires-clause-covers g c =
+    lies_covers (box_of c.in_ok-chunk.chunk) (box_of c.args.region.now) c.in_ok-chunk.chunk.same_length c.args.region.now.same_length (c.lies_in_box.ensures.0 c.if-lies_in_box.true)
+
 pub with_chunk_part-requires-clause-part : goal.with_chunk_part-requires-clause-part
 with_chunk_part-requires-clause-part g c = λ covers.
     let layout = layout_of c.args.self.now in

@@ -3,12 +3,14 @@ use Rattle.zarrs_subset.specs.Regions.{Box, box_of}
 use Rattle.zarrs_chunk_grid.proofs.Chunks.{box_dimensions}
 use Rattle.zarrs_data_type.specs.ArrayData.{data_of}
 use Rattle.zarrs_data_type.specs.RegionData.{region_data}
+use Rattle.zarrs_engine_calls.specs.ArgumentRefusals.{size_refusal}
 use Rattle.zarrs_engine_calls.specs.Content.{value_at}
 use Rattle.zarrs_engine_calls.specs.Refusals.{refusal_of}
 use Rattle.zarrs_engine_calls.specs.StateRefusals.{RefusesSomeChunk}
 use Rattle.zarrs_engine_layout.specs.Shared.{AreApart, AreShared}
 use Rattle.zarrs_engine.specs.Engine.{layout_of}
 use Rattle.zarrs_engine.specs.RegionReads.{DecodesStored}
+use Rattle.zarrs_engine.proofs.PartBytes.{smaller_fits}
 use Rattle.zarrs_engine.proofs.RegionReads.{read_absent, read_apart, read_part}
 use Rattle.zarrs_engine.proofs.engine.Engine.with_chunk_part.Goals as goal
 
@@ -26,12 +28,21 @@ returns-in_default-clause-read g c =
     let apart = subst (λ (b : Box). AreApart region b) c.requires.chunk none in
     read_apart layout c.args.self.now.layout.lawful region c.args.chunk_indices.now state c.requires.boxed (region_data c.args.held) apart c.requires.part
 
+pub part_of_chunk-found-requires-clause-size : goal.part_of_chunk-found-requires-clause-size
+part_of_chunk-found-requires-clause-size g c =
+    let layout = layout_of c.args.self.now in
+    let region = box_of c.args.region.now in
+    let shared = c.in-Some.shared in
+    let some : AreShared region (box_of c.args.chunk.now) (box_of shared.region) (box_of shared.part) = rw c.in-Some.is at c.in_ok-shared.ensures.some in
+    let fits = smaller_fits layout (box_of shared.region).shape region.shape some.few c.requires.size in
+    subst (λ (b : Box). size_refusal layout b.shape ≡ None) (sym some.part_is) fits
+
 pub returns-in_err-found-clause-refused : goal.returns-in_err-found-clause-refused
 returns-in_err-found-clause-refused g c =
     let layout = layout_of c.args.self.now in
     let state = g.S.ReadableStorageTraits.state c.args.self.now.storage in
     let region = box_of c.args.region.now in
-    let why : RefusesSomeChunk layout region (c.args.chunk_indices.now ∷ []) state (refusal_of c.in_err-found.field-0.0) = c.in_err-found.ensures.refused region in
+    let why : RefusesSomeChunk layout region (c.args.chunk_indices.now ∷ []) state (refusal_of c.in_err-found.field-0.0) = c.in_err-found.ensures.refused region c.requires.part in
     search (rules, why)
 
 pub returns-in_default-found-clause-read : goal.returns-in_default-found-clause-read

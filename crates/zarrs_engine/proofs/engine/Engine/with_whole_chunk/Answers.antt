@@ -6,6 +6,7 @@ use Rattle.zarrs_data_type.specs.ArrayData.{data_of}
 use Rattle.zarrs_data_type.specs.Cells.{HasCells}
 use Rattle.zarrs_data_type_bytes.proofs.Cells.{HasCells-some}
 use Rattle.zarrs_data_type.specs.Parts.{TakesCells}
+use Rattle.zarrs_engine_calls.specs.ChunkBoxes.{CoversBox}
 use Rattle.zarrs_engine_calls.specs.Refusals.{refusal_of}
 use Rattle.zarrs_data_type.specs.RegionData.{region_data}
 use Rattle.zarrs_engine_layout.proofs.Chunks.{retrieved}
@@ -34,7 +35,8 @@ returns-in_err-part-clause-refused g c =
     let layout = layout_of c.args.self.now in
     let state = g.S.ReadableStorageTraits.state c.args.self.now.storage in
     let stands = sym (ap Some c.deref.ensures ∙ sym c.in-Some.is ∙ c.in_ok-encoded.ensures.value) in
-    let why = bytes_why layout (box_of c.args.region.now) c.args.chunk_indices.now state c.requires.boxed c.deref.result.now stands (refusal_of c.in_err-part.field-0.0) c.in_err-part.ensures.refused in
+    let covers = subst (CoversBox (box_of c.args.region.now)) c.requires.chunk c.requires.covers in
+    let why = bytes_why layout (box_of c.args.region.now) c.args.chunk_indices.now state c.requires.boxed covers c.deref.result.now stands (refusal_of c.in_err-part.field-0.0) c.in_err-part.ensures.refused in
     search (rules, why)
 
 pub with_part-requires-clause-dimensions : goal.with_part-requires-clause-dimensions
