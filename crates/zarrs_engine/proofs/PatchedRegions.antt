@@ -85,10 +85,17 @@ refuses_as layout keep a b first region held chunks r old new to from s = record
   counted = s.counted;
   cause = elim s.cause [
     | inl early ↦ inl early
-    | inr late ↦ inr (late.0, late.1, (late.2.0, record {
-      whole = λ not. late.2.1.whole (λ is. not (to late.0 is));
-      partly = λ is. late.2.1.partly (from late.0 is);
-    }))
+    | inr late ↦ inr (
+      late.0,
+      late.1,
+      (
+        late.2.0,
+        record {
+          whole = λ not. late.2.1.whole (λ is. not (to late.0 is));
+          partly = λ is. late.2.1.partly (from late.0 is);
+        },
+      ),
+    )
   ];
 }
 
@@ -435,10 +442,17 @@ module _ (layout : Layout) (lawful : IsLawful layout) (index : List ℕ) (part c
       below = λ some. some;
       one = l.one;
       counted = l.counted;
-      cause = inr (index, refl, (accepted, record {
-        whole = λ not. absurd (not is);
-        partly = λ _. partly_left keep (IsPatched layout asked here old) is lies given l.failed new r l.cause;
-      }));
+      cause = inr (
+        index,
+        refl,
+        (
+          accepted,
+          record {
+            whole = λ not. absurd (not is);
+            partly = λ _. partly_left keep (IsPatched layout asked here old) is lies given l.failed new r l.cause;
+          },
+        ),
+      );
     }
 
   -- by an encoder

@@ -40,7 +40,7 @@ returns-in-StoreChunk-clause-step g c =
     let e = c.store_chunk.ensures in
     let at = c.deref.ensures.value in
     steps_as (layout_of c.args.self.now) c.args.self.now.layout.lawful c.args.options.now c.args.call.now _ (state_of g.S.ReadableStorageTraits.state c.args.self.now) _
-    (rw c.in-StoreChunk.is tt)    (rw c.in-StoreChunk.is (
+    (rw c.in-StoreChunk.is tt) (rw c.in-StoreChunk.is (
       ap (λ own. g.G.ChunkGridTraits.array_extents own.grid) e.layout_kept,
       done_step layout keep shape (store_chunk_refusal layout index held) (store (box_at layout.grid index) held (index ∷ [])) old new c.store_chunk.result c.done.result (subst (λ (i : List ℕ). OnOk c.store_chunk.result (StoresChunk layout keep i held old new)) at e.done) (subst (λ (i : List ℕ). IfErr c.store_chunk.result (λ e. RefusesStoreChunk layout keep i held (refusal_of e) old new)) at e.refused) c.done.ensures.done c.done.ensures.refused,
     ))
@@ -56,7 +56,7 @@ returns-in-StoreChunks-clause-step g c =
     let held = data_of c.in-StoreChunks.«data» in
     let e = c.store_chunks.ensures in
     steps_as (layout_of c.args.self.now) c.args.self.now.layout.lawful c.args.options.now c.args.call.now _ (state_of g.S.ReadableStorageTraits.state c.args.self.now) _
-    (rw c.in-StoreChunks.is tt)    (rw c.in-StoreChunks.is (
+    (rw c.in-StoreChunks.is tt) (rw c.in-StoreChunks.is (
       ap (λ own. g.G.ChunkGridTraits.array_extents own.grid) e.layout_kept,
       done_step layout keep shape (store_chunks_refusal layout range held) (store (chunks_box layout.grid range) held (positions range)) old new c.store_chunks.result c.done-in-StoreChunks.result e.done e.refused c.done-in-StoreChunks.ensures.done c.done-in-StoreChunks.ensures.refused,
     ))
@@ -123,7 +123,7 @@ returns-in-EraseChunk-clause-step g c =
     let shape = g.G.ChunkGridTraits.array_extents c.args.self.now.layout.grid in
     let step = subst (λ (i : List ℕ). ActStep layout keep shape (length_refusal layout i) (erase (i ∷ [])) c.answer_erase_chunk.result old new) c.deref-in-EraseChunk.ensures.value (e.step keep shape) in
     steps_as (layout_of c.args.self.now) c.args.self.now.layout.lawful c.args.options.now c.args.call.now _ (state_of g.S.ReadableStorageTraits.state c.args.self.now) _
-    (rw c.in-EraseChunk.is tt)    (rw c.in-EraseChunk.is (ap (λ own. g.G.ChunkGridTraits.array_extents own.grid) e.layout_kept, step))
+    (rw c.in-EraseChunk.is tt) (rw c.in-EraseChunk.is (ap (λ own. g.G.ChunkGridTraits.array_extents own.grid) e.layout_kept, step))
 
 pub returns-in-CompactChunk-clause-step : goal.returns-in-CompactChunk-clause-step
 returns-in-CompactChunk-clause-step g c =
@@ -135,13 +135,13 @@ returns-in-CompactChunk-clause-step g c =
     let shape = g.G.ChunkGridTraits.array_extents c.args.self.now.layout.grid in
     let step = subst (λ (i : List ℕ). ActStep layout keep shape (length_refusal layout i) (compact i) c.answer_compact_chunk.result old new) c.deref-in-CompactChunk.ensures.value (e.step keep shape) in
     steps_as (layout_of c.args.self.now) c.args.self.now.layout.lawful c.args.options.now c.args.call.now _ (state_of g.S.ReadableStorageTraits.state c.args.self.now) _
-    (rw c.in-CompactChunk.is tt)    (rw c.in-CompactChunk.is (ap (λ own. g.G.ChunkGridTraits.array_extents own.grid) e.layout_kept, step))
+    (rw c.in-CompactChunk.is tt) (rw c.in-CompactChunk.is (ap (λ own. g.G.ChunkGridTraits.array_extents own.grid) e.layout_kept, step))
 
 pub returns-in-EraseChunks-clause-step : goal.returns-in-EraseChunks-clause-step
 returns-in-EraseChunks-clause-step g c =
     let e = c.answer_erase_chunks.ensures in
     steps_as (layout_of c.args.self.now) c.args.self.now.layout.lawful c.args.options.now c.args.call.now _ (state_of g.S.ReadableStorageTraits.state c.args.self.now) _
-    (rw c.in-EraseChunks.is tt)    (rw c.in-EraseChunks.is (ap (λ own. g.G.ChunkGridTraits.array_extents own.grid) e.layout_kept, e.step (stores_empty_chunks c.args.options.now) (g.G.ChunkGridTraits.array_extents c.args.self.now.layout.grid)))
+    (rw c.in-EraseChunks.is tt) (rw c.in-EraseChunks.is (ap (λ own. g.G.ChunkGridTraits.array_extents own.grid) e.layout_kept, e.step (stores_empty_chunks c.args.options.now) (g.G.ChunkGridTraits.array_extents c.args.self.now.layout.grid)))
 
 pub returns-in-Ok-clause-step : goal.returns-in-Ok-clause-step
 returns-in-Ok-clause-step g c =
@@ -151,7 +151,7 @@ returns-in-Ok-clause-step g c =
     let found = option_map data_of c.in-Ok.found in
     let cells = subst (λ (i : List ℕ). RetrievesIfExists layout i found state) c.deref-in-RetrieveChunkIfExists.ensures.value c.in-Ok.ensures.cells in
     steps_as (layout_of c.args.self.now) c.args.self.now.layout.lawful c.args.options.now c.args.call.now _ (state_of g.S.ReadableStorageTraits.state c.args.self.now) _
-    (rw c.in-RetrieveChunkIfExists.is tt)    (rw c.in-RetrieveChunkIfExists.is (refl, (refl, found_length layout index found state cells, cells)))
+    (rw c.in-RetrieveChunkIfExists.is tt) (rw c.in-RetrieveChunkIfExists.is (refl, (refl, found_length layout index found state cells, cells)))
 
 pub retrieve_array_subset-requires : goal.retrieve_array_subset-requires
 retrieve_array_subset-requires g c accepted =
@@ -171,7 +171,7 @@ returns-in-RetrieveChunk-clause-step g c =
     let at = c.deref-in-RetrieveChunk.ensures.value in
     let e = c.retrieve_chunk.ensures in
     steps_as (layout_of c.args.self.now) c.args.self.now.layout.lawful c.args.options.now c.args.call.now _ (state_of g.S.ReadableStorageTraits.state c.args.self.now) _
-    (rw c.in-RetrieveChunk.is tt)    (rw c.in-RetrieveChunk.is (
+    (rw c.in-RetrieveChunk.is tt) (rw c.in-RetrieveChunk.is (
       refl,
       cells_step layout keep shape (length_refusal layout index) (read_chunk true index) state state c.retrieve_chunk.result c.cells.result (λ (held : ArrayBytes). RetrievesChunk layout index (data_of held) state) (λ (x : ArrayError). RefusesChunkRead layout (length_refusal layout index) true index state (refusal_of x))
           (λ held r. (refl, retrieved_length layout index (data_of held) state r, r))
@@ -190,7 +190,7 @@ returns-in-RetrieveChunks-clause-step g c =
     let range = box_of c.in-RetrieveChunks.chunks in
     let e = c.retrieve_chunks.ensures in
     steps_as (layout_of c.args.self.now) c.args.self.now.layout.lawful c.args.options.now c.args.call.now _ (state_of g.S.ReadableStorageTraits.state c.args.self.now) _
-    (rw c.in-RetrieveChunks.is tt)    (rw c.in-RetrieveChunks.is (
+    (rw c.in-RetrieveChunks.is tt) (rw c.in-RetrieveChunks.is (
       refl,
       cells_step layout keep shape (read_chunks_refusal layout shape range) (read (chunks_box layout.grid range) (positions range)) state state c.retrieve_chunks.result c.cells-in-RetrieveChunks.result (λ (held : ArrayBytes). RetrievesChunks layout shape range (data_of held) state) (λ (x : ArrayError). RefusesRetrieveChunks layout shape range (refusal_of x) state)
           (λ held r. (refl, r.0, r.1))
@@ -209,7 +209,7 @@ returns-in-RetrieveChunkSubset-clause-step g c =
     let at = c.deref-in-RetrieveChunkSubset.ensures.value in
     let e = c.retrieve_chunk_subset.ensures in
     steps_as (layout_of c.args.self.now) c.args.self.now.layout.lawful c.args.options.now c.args.call.now _ (state_of g.S.ReadableStorageTraits.state c.args.self.now) _
-    (rw c.in-RetrieveChunkSubset.is tt)    (rw c.in-RetrieveChunkSubset.is (
+    (rw c.in-RetrieveChunkSubset.is tt) (rw c.in-RetrieveChunkSubset.is (
       part_shape layout keep shape index part state c.cells-in-RetrieveChunkSubset.result,
       cells_step layout keep shape (read_part_refusal layout index part) (read_part_act layout index part) state state c.retrieve_chunk_subset.result c.cells-in-RetrieveChunkSubset.result (λ (held : ArrayBytes). RetrievesPart layout index part (data_of held) state) (λ (x : ArrayError). RefusesRetrievePart layout index part (refusal_of x) state)
           (λ held r. part_step layout keep shape index part state held r)
@@ -228,7 +228,7 @@ returns-in-RetrieveArraySubset-clause-step g c =
     let region = box_of c.in-RetrieveArraySubset.array_subset in
     let e = c.retrieve_array_subset.ensures in
     steps_as (layout_of c.args.self.now) c.args.self.now.layout.lawful c.args.options.now c.args.call.now _ (state_of g.S.ReadableStorageTraits.state c.args.self.now) _
-    (rw c.in-RetrieveArraySubset.is tt)    (rw c.in-RetrieveArraySubset.is (
+    (rw c.in-RetrieveArraySubset.is tt) (rw c.in-RetrieveArraySubset.is (
       refl,
       cells_step layout keep shape (read_region_refusal layout shape region) (read region (chunks_met layout.grid region)) state state c.retrieve_array_subset.result c.cells-in-RetrieveArraySubset.result (λ (held : ArrayBytes). RetrievesRegion layout shape region (data_of held) state) (λ (x : ArrayError). RefusesRetrieveRegion layout shape region (refusal_of x) state)
           (λ held r. (refl, r.0, r.1))
@@ -275,7 +275,7 @@ returns-in-Resize-clause-step g c =
     let e = c.answer_resize.ensures in
     let at = c.deref-in-Resize.ensures.value in
     steps_as (layout_of c.args.self.now) c.args.self.now.layout.lawful c.args.options.now c.args.call.now _ (state_of g.S.ReadableStorageTraits.state c.args.self.now) _
-    (rw c.in-Resize.is tt)    (rw c.in-Resize.is (
+    (rw c.in-Resize.is tt) (rw c.in-Resize.is (
       subst (λ (i : List ℕ). new.shape ≡ shape_after (resize i) c.answer_resize.result old.shape) at e.shape,
       subst (λ (i : List ℕ). ActStep layout keep old.shape (resize_refusal layout i) (resize i) c.answer_resize.result old.store new.store) at e.step,
     ))

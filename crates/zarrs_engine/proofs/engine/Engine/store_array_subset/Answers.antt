@@ -113,9 +113,11 @@ returns-then-writes_parts g c =
     record {
       whole = λ off. absurd (false≢true (sym off ∙ is));
       partly = record {
-        done = on_ok_weaker c.patch_along.result (λ (p : PatchesAll layout keep (IsPart layout region) region held (positions range) old new).
-            (none, patches_as layout keep (IsPart layout region) (IsPatched layout asked region old) region held (chunks_met layout.grid region) old new (λ i among part. (is, part)) (λ i among patched. patched.1)
-            (subst (λ (b : Box). PatchesAll layout keep (IsPart layout region) region held (positions b) old new) at p))) e.done;
+        done = on_ok_weaker c.patch_along.result (λ (p : PatchesAll layout keep (IsPart layout region) region held (positions range) old new). (
+          none,
+          patches_as layout keep (IsPart layout region) (IsPatched layout asked region old) region held (chunks_met layout.grid region) old new (λ i among part. (is, part)) (λ i among patched. patched.1)
+              (subst (λ (b : Box). PatchesAll layout keep (IsPart layout region) region held (positions b) old new) at p),
+        )) e.done;
         refused = each_error c.patch_along.result (λ (e : ArrayError). RefusesPatches layout keep (IsPart layout region) first region held (positions range) (refusal_of e) old new)
             (λ (e : ArrayError). RefusesPatchRegion layout keep asked shape region held (refusal_of e) old new)
             (λ e why. refuses_as layout keep (IsPart layout region) (IsPatched layout asked region old) first region held (chunks_met layout.grid region) (refusal_of e) old new (λ i part. (is, part)) (λ i patched. patched.1)
