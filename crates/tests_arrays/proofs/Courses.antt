@@ -22,7 +22,7 @@ from_nothing layout keep calls replies old new off none law run = (
 )
 
 -- a new store has no chunk
-pub new_has_no_chunk : (layout : Layout) (m : MemoryState) → m ≡ record { values = map.empty; calls = 0; failures = 0 } → HasNoChunk layout (open_state m)
+pub new_has_no_chunk : (layout : Layout) (m : MemoryState) → m ≡ record { values = map.empty; calls = 0; failures = 0; parts = 0 } → HasNoChunk layout (open_state m)
 new_has_no_chunk layout m new index long = ap (λ (s : MemoryState). map.get s.values (layout.key index)) new ∙ map.get-empty _ (layout.key index)
 
 -- what an accepted change of the shape leaves

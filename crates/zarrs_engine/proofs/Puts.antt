@@ -1,13 +1,13 @@
 -- One writing call of the store.
-use Rattle.std.proofs.Common.{Result, Ok, Err, IfErr, OnErr, ◌≡◌, ◌≢◌, bytes_eq, ℕ, ◌==◌, true, false, cond, List, Some}
+use Rattle.std.proofs.Common.{Result, Ok, Err, IfErr, OnErr, ◌≡◌, ◌≢◌, ◌+◌, bytes_eq, ℕ, ◌==◌, true, false, cond, List, Some}
 use Rattle.std.proofs.Common.{None, refl, sym, ◌∙◌, ap, arith, inl, inr, ◌⊎◌}
 use Rattle.std.specs.FinMap as map
 use Rattle.std.proofs.lemmas.Slice.Eq.{bytes_eq-Decides}
 use Rattle.std.proofs.lemmas.Bool.{cases_Bool, eqb-true, eq-eqb}
-use Rattle.zarrs_storage.specs.Store.{StoreState, Values, Accepts, Refuses, last_call, counted}
+use Rattle.zarrs_storage.specs.Store.{StoreState, Values, Accepts, AcceptsPartial, Refuses, RefusesPartial, last_call, counted}
 use Rattle.zarrs_storage.specs.declared.error.StorageError.{StorageError}
 use Rattle.zarrs_storage.specs.declared.error.StorageError.TheVariants as stored
-use Rattle.zarrs_storage.proofs.ValuesLemmas.{get_inserted, get_removed}
+use Rattle.zarrs_storage.proofs.ValuesLemmas.{get_inserted, get_removed, rules_of}
 use Rattle.zarrs_engine_calls.specs.Changes.{Makes, IsPut}
 use Rattle.zarrs_engine_calls.specs.Refusals as refusal
 use Rattle.zarrs_engine_calls.specs.Refusals.{Refusal, refusal_of_storage}
@@ -23,14 +23,21 @@ apart_test a b apart = elim (cases_Bool (bytes_eq a b)) [
 
 -- an accepted call is one that makes one writing call
 accepts_makes : (old new : StoreState) (written : Values) → Accepts old new written → Makes 1 0 old new
-accepts_makes old new written a = record { calls = omega (arith, a.calls); failures = omega (arith, a.failures); reach = a.reach }
+accepts_makes old new written a = record { calls = omega (arith, a.calls); failures = omega (arith, a.failures); reach = rules_of old new a.reach }
+
+-- a value was put at the key by one writing call
+put_value : (key value : List ℕ) (old new : StoreState) → new.values ≡ map.insert old.values key value → Makes 1 0 old new → IsPut key (Some value) old new
+put_value key value old new values made = record {
+  held = ap (λ m. map.get m key) values ∙ get_inserted old.values key value key ∙ ap (λ b. cond b (Some value) (map.get old.values key)) ((bytes_eq-Decides key key).1 refl);
+  others = λ other apart. ap (λ m. map.get m other) values ∙ get_inserted old.values key value other ∙ ap (λ b. cond b (Some value) (map.get old.values other)) (apart_test other key apart);
+  makes = made;
+}
 
 pub put_set : (key value : List ℕ) (old new : StoreState) → Accepts old new (map.insert old.values key value) → IsPut key (Some value) old new
-put_set key value old new a = record {
-  held = ap (λ m. map.get m key) a.values ∙ get_inserted old.values key value key ∙ ap (λ b. cond b (Some value) (map.get old.values key)) ((bytes_eq-Decides key key).1 refl);
-  others = λ other apart. ap (λ m. map.get m other) a.values ∙ get_inserted old.values key value other ∙ ap (λ b. cond b (Some value) (map.get old.values other)) (apart_test other key apart);
-  makes = accepts_makes old new _ a;
-}
+put_set key value old new a = put_value key value old new a.values (accepts_makes old new _ a)
+
+pub put_partial : (key value : List ℕ) (old new : StoreState) → AcceptsPartial old new (map.insert old.values key value) → IsPut key (Some value) old new
+put_partial key value old new a = put_value key value old new a.values (record { calls = omega (arith, a.calls); failures = omega (arith, a.failures); reach = a.rules })
 
 pub put_erase : (key : List ℕ) (old new : StoreState) → Accepts old new (map.remove old.values key) → IsPut key None old new
 put_erase key old new a = record {
@@ -58,22 +65,30 @@ counted_or_last s = elim (cases_Bool (s.calls == last_call)) [
   | inr more ↦ inl (ap (λ b. cond b 0 1) more, λ same. (let clash : true ≡ false = sym (eq_last s.calls same) ∙ more in cc))
 ]
 
--- the store refused a writing call
-pub put_refused : (e : StorageError) (old new : StoreState) → Refuses old new → RefusesPut (refusal_of_storage e) old new
-put_refused e old new r = record {
+-- a writing call was refused, and counted if one was left
+refused_call : (e : StorageError) (old new : StoreState) → new.values ≡ old.values → new.calls ≡ old.calls + counted old → Makes 0 (counted old) old new
+    → RefusesPut (refusal_of_storage e) old new
+refused_call e old new values calls made = record {
   failed = counted old;
   one = elim (counted_or_last old) [ inl one ↦ (let a = one.0 in omega arith) | inr none ↦ (let a = none.0 in omega arith) ];
   counted = λ some. elim (counted_or_last old) [
-    | inl one ↦ λ same. one.1 (let a = one.0 in let b = r.calls in omega arith)
+    | inl one ↦ λ same. one.1 (let a = one.0 in let b = calls in omega arith)
     | inr none ↦ absurd (let a = none.0 in omega arith)
   ];
-  values = r.values;
-  makes = record { calls = (let a = r.calls in omega arith); failures = r.failures; reach = r.reach };
+  values = values;
+  makes = made;
   cause = failed_erasure e (counted old) new (elim (counted_or_last old) [
     | inl one ↦ inl one.0
-    | inr none ↦ inr (let a = none.0 in let b = none.1 in let c = r.calls in omega arith)
+    | inr none ↦ inr (let a = none.0 in let b = none.1 in let c = calls in omega arith)
   ]);
 }
+
+-- the store refused a writing call
+pub put_refused : (e : StorageError) (old new : StoreState) → Refuses old new → RefusesPut (refusal_of_storage e) old new
+put_refused e old new r = refused_call e old new r.values r.calls (record { calls = (let a = r.calls in omega arith); failures = r.failures; reach = rules_of old new r.reach })
+
+pub partial_refused : (e : StorageError) (old new : StoreState) → RefusesPartial old new → RefusesPut (refusal_of_storage e) old new
+partial_refused e old new r = refused_call e old new r.values r.calls (record { calls = (let a = r.calls in omega arith); failures = r.failures; reach = r.rules })
 
 -- out of memory before any call
 pub put_short : (state : StoreState) → RefusesPut refusal.out_of_memory state state

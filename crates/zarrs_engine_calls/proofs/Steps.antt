@@ -2,7 +2,7 @@
 use Rattle.std.proofs.Common.{◌≡◌, ◌+◌, ℕ, Bool, true, false, List, [], ◌∷◌, Option, Some, refl, sym, ◌∙◌, ap, subst, arith}
 use Rattle.zarrs_subset.specs.Regions.{Box}
 use Rattle.zarrs_chunk_grid.specs.Grids.{box_at, has_box}
-use Rattle.zarrs_storage.specs.Store.{StoreState, KeepsReach}
+use Rattle.zarrs_storage.specs.Store.{StoreState, KeepsRules}
 use Rattle.zarrs_data_type.specs.Cell.{Cell}
 use Rattle.zarrs_data_type.specs.ArrayData.{ArrayData}
 use Rattle.zarrs_engine_calls.specs.Layout.{Layout, IsLawful, ArrayState}
@@ -118,11 +118,11 @@ courses_agree layout lawful a b p q =
     (canon_stays layout lawful p.0 p.1 a p.3 (empty_is_canonical layout lawful p.1.store p.2))
     (canon_stays layout lawful q.0 q.1 b q.3 (empty_is_canonical layout lawful q.1.store q.2))
 
-kept_reach : (old new : StoreState) → new ≡ old → KeepsReach old new
-kept_reach old new is = subst (KeepsReach old) (sym is) (same_reach old)
+kept_reach : (old new : StoreState) → new ≡ old → KeepsRules old new
+kept_reach old new is = subst (KeepsRules old) (sym is) (same_reach old)
 
 outcome_reach : (layout : Layout) (keep : Bool) (shape : List ℕ) (first : Option Refusal) (act : Act) (ended : Outcome) (old new : StoreState)
-    → ActOutcome layout keep shape first act ended old new → KeepsReach old new
+    → ActOutcome layout keep shape first act ended old new → KeepsRules old new
 outcome_reach layout keep shape first (store region held chunks) outcome.done old new s = s.1.front.makes.reach
 outcome_reach layout keep shape first (store region held chunks) (outcome.refused r) old new s = s.front.makes.reach
 outcome_reach layout keep shape first (erase chunks) outcome.done old new s = s.1.front.makes.reach
@@ -294,7 +294,7 @@ step_other_keys layout lawful keep call reply old new s =
     courses_keep_other_keys layout lawful keep (event_of layout call reply ∷ []) old new (step_course layout keep call reply old new s)
 
 pub act_reach : (layout : Layout) (keep : Bool) (shape : List ℕ) (first : Option Refusal) (act : Act) (reply : Reply) (old new : StoreState)
-    → ActStep layout keep shape first act reply old new → KeepsReach old new
+    → ActStep layout keep shape first act reply old new → KeepsRules old new
 act_reach layout keep shape first act reply = outcome_reach layout keep shape first act (outcome_of reply)
 
 pub run_keeps : (layout : Layout) → IsLawful layout → (calls : List Call) (replies : List Reply) (old new : ArrayState)

@@ -3,7 +3,7 @@ use Rattle.std.specs.Prelude.{◌≡◌, ◌≢◌, ℕ, ◌+◌, Bool, true, fa
 use Rattle.zarrs_subset.specs.Regions.{Box, Holds, cell_in}
 use Rattle.zarrs_chunk_grid.specs.Grids.{box_at, index_at, is_covered, has_box}
 use Rattle.zarrs_keys.specs.Keys.{IsIndexList}
-use Rattle.zarrs_storage.specs.Store.{StoreState, KeepsReach}
+use Rattle.zarrs_storage.specs.Store.{StoreState, KeepsRules}
 use Rattle.zarrs_data_type.specs.Cell.{Cell}
 use Rattle.zarrs_data_type.specs.ArrayData.{ArrayData}
 use Rattle.zarrs_data_type.specs.Cells.{cells}
@@ -15,7 +15,7 @@ use Rattle.zarrs_engine_calls.specs.Refusals.{is_left_out, encoded_cells}
 pub record Makes (accepted failed : ℕ) (old new : StoreState) : Type 0 where
   pub calls : new.calls ≡ old.calls + accepted + failed
   pub failures : new.failures ≡ old.failures + failed
-  pub reach : KeepsReach old new
+  pub reach : KeepsRules old new
 
 -- what is present at the key of a chunk of this box with these cells: nothing if it is left out, else their bytes
 abbrev pub IsValueOf : Layout → Bool → Box → List Cell → Option (List ℕ) → Type 0

@@ -74,7 +74,7 @@ makes_grid shape chunk_shape sizes is taken =
 -- an array of these parts lies in its store as a new array does
 pub made_array : (shape chunk_shape fill : List ℕ) (cell_type : CellType) (path : List ℕ) (layout : Layout) (metadata : MetadataData) (parts : Meaning) (store : MemoryState) (extents : List ℕ)
     → layout ≡ layout_meant path parts → path ≡ codes "/" → parts ≡ parts_of_line shape chunk_shape cell_type fill → metadata ≡ v3 (metadata_for shape chunk_shape cell_type fill)
-    → store ≡ record { values = finite.empty; calls = 0; failures = 0 } → extents ≡ parts.shape
+    → store ≡ record { values = finite.empty; calls = 0; failures = 0; parts = 0 } → extents ≡ parts.shape
     → ◌≡◌ {A = Opened} (record { cell_type = cell_type; layout = layout; metadata = metadata; state = record { store = open_state store; shape = extents } }) (new_array shape chunk_shape cell_type fill)
 made_array shape chunk_shape fill cell_type path layout metadata parts store extents lies at_root are described empty long =
     let same : layout ≡ layout_for shape chunk_shape cell_type fill = lies ∙ ap (λ (p : List ℕ). layout_meant p parts) at_root ∙ ap (λ (m : Meaning). layout_meant (codes "/") m) are in

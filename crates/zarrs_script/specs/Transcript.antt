@@ -126,7 +126,7 @@ metadata_for shape chunk_shape cell_type fill = document_for (parts_of_line shap
 
 -- a store in memory that holds nothing
 abbrev pub new_store : StoreState
-new_store = open_state (record { values = finite.empty; calls = 0; failures = 0 })
+new_store = open_state (record { values = finite.empty; calls = 0; failures = 0; parts = 0 })
 
 -- a new array of this shape
 abbrev pub new_array : List ℕ → List ℕ → CellType → List ℕ → Opened

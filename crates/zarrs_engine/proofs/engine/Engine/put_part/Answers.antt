@@ -2,8 +2,8 @@ use Rattle.std.proofs.Common.{ℕ, List, subst}
 use Rattle.std.proofs.lemmas.Result.{on_ok_weaker}
 use Rattle.std.specs.FinMap as map
 use Rattle.std.specs.Prelude.{[], unwrap_or}
-use Rattle.zarrs_storage.specs.Store.{Accepts, overwritten, with_part}
-use Rattle.zarrs_engine.proofs.Puts.{put_set, put_erase}
+use Rattle.zarrs_storage.specs.Store.{AcceptsPartial, overwritten, with_part}
+use Rattle.zarrs_engine.proofs.Puts.{put_partial, put_erase}
 use Rattle.zarrs_engine.proofs.engine.Engine.put_part.Goals as goal
 
 pub returns-in-Put-clause-done : goal.returns-in-Put-clause-done
@@ -13,8 +13,8 @@ returns-in-Put-clause-done g c =
     let key = c.args.key.now in
     let offset = c.in-Put.offset in
     let bytes = c.in-Put.bytes.items in
-    rw c.in-Put.is (on_ok_weaker c.set_partial.result (λ a. put_set key (overwritten (unwrap_or (map.get old.values key) []) offset bytes) old new
-    (subst (λ (v : List ℕ). Accepts old new (with_part old.values key offset v)) c.deref.ensures.value a)) c.set_partial.ensures.ok)
+    rw c.in-Put.is (on_ok_weaker c.set_partial.result (λ a. put_partial key (overwritten (unwrap_or (map.get old.values key) []) offset bytes) old new
+    (subst (λ (v : List ℕ). AcceptsPartial old new (with_part old.values key offset v)) c.deref.ensures.value a)) c.set_partial.ensures.ok)
 
 pub returns-in-Erase-clause-done : goal.returns-in-Erase-clause-done
 returns-in-Erase-clause-done g c =
