@@ -1,4 +1,4 @@
-use Rattle.std.proofs.Common.{vec_len, ◌≡◌, ◌∙◌, ◌+◌, Some, slice_get, length, map, take, List, ℕ, rules, sym, ap, subst, arith, ◌-◌, ◌*◌, ◌<◌, ◌≤◌, ◌^◌, ◌&&◌, refl, None, false, true, Bool, Option}
+use Rattle.std.proofs.Common.{vec_len, ◌≡◌, ◌∙◌, ◌+◌, Some, slice_get, length, map, take, List, ℕ, rules, sym, ap, subst, arith, ◌-◌, ◌<◌, ◌≤◌, ◌^◌, ◌&&◌, refl, None, false, true, Bool, Option}
 use Rattle.std.proofs.lemmas.Bool.{eqb-true, false≢true}
 use Rattle.std.proofs.lemmas.List.{get_or-map, get_or_read, length-map}
 use Rattle.std.proofs.lemmas.Option.{slice_get_within}
