@@ -12,12 +12,13 @@ use Rattle.zarrs_creation.specs.Opening.{attributed, attributes_key, document_v2
 use Rattle.zarrs.specs.OpeningReach.{AgreeAtKey, OpeningsDependOnTheReach}
 
 -- steps that are the same, one after another
+module _ {A B : Type 0} (f g : A → Result B CreateRefusal) (each : (x : A) → f x ≡ g x) where
+  then_same : (q : Result A CreateRefusal) → (q >>= f) ≡ (q >>= g)
+  then_same (Ok x) = each x
+  then_same (Err e) = refl
+
 bind_same : {A B : Type 0} (o p : Result A CreateRefusal) (f g : A → Result B CreateRefusal) → o ≡ p → ((x : A) → f x ≡ g x) → (o >>= f) ≡ (p >>= g)
-bind_same o p f g same each = ap (λ q. q >>= f) same ∙ go p
-  where
-    go : (q : Result A CreateRefusal) → (q >>= f) ≡ (q >>= g)
-    go (Ok x) = each x
-    go (Err e) = refl
+bind_same o p f g same each = ap (λ q. q >>= f) same ∙ then_same f g each p
 
 module _ (path : List ℕ) (a b : StoreState) where
   asked_same : (key : List ℕ) → AgreeAtKey a b key → value_asked b key ≡ value_asked a key
