@@ -29,6 +29,8 @@ mod scripts;
 mod setters;
 pub mod upgraded;
 #[cfg(test)]
+mod shards;
+#[cfg(test)]
 mod uses;
 
 use anyhow::{Result, bail};
