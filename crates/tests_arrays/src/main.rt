@@ -27,9 +27,9 @@ mod memory;
 mod scripts;
 #[cfg(test)]
 mod setters;
-pub mod upgraded;
 #[cfg(test)]
 mod shards;
+pub mod upgraded;
 #[cfg(test)]
 mod uses;
 
