@@ -6,13 +6,14 @@ use Rattle.zarrs_codec_chain.proofs.Kept.{err_kept}
 use Rattle.zarrs_codec_chain.specs.Parts.{DecodesPart}
 use Rattle.zarrs_codec_leaf.specs.Stored.{key_of_source, state_of_source, value_or_empty}
 use Rattle.zarrs_engine_calls.specs.Content.{decoded_cells}
+use Rattle.zarrs_engine_calls.specs.Errors.{error_of_storage}
 use Rattle.zarrs_engine_calls.specs.Refusals.{refusal_of}
 use Rattle.zarrs_engine_calls.specs.StateRefusals.{IsPart, RefusesSomeChunk}
 use Rattle.zarrs_chunk_grid.specs.Grids.{box_at}
 use Rattle.zarrs_engine_layout.specs.Steps.{RefusesPartBytes}
 use Rattle.zarrs_engine_calls.proofs.Contents.{index_list}
 use Rattle.zarrs_engine.specs.Engine.{layout_of}
-use Rattle.zarrs_engine.proofs.PartBytes.{part_why, size_fits, source_value}
+use Rattle.zarrs_engine.proofs.PartBytes.{key_why, part_why, size_fits, source_value}
 use Rattle.zarrs_engine.proofs.engine.Engine.part_of_chunk.Goals as goal
 
 pub open-requires : goal.open-requires
@@ -21,6 +22,16 @@ open-requires g c =
     let state = g.S.ReadableStorageTraits.state c.args.self.now.storage in
     let words = index_list layout c.args.self.now.layout.lawful c.args.chunk_indices.now c.requires.boxed in
     subst (λ (key : List ℕ). state.may_ask key ≡ true) (sym c.in_ok-key.ensures.key) (c.requires.ask.key words)
+
+pub returns-in_err-source-clause-refused : goal.returns-in_err-source-clause-refused
+returns-in_err-source-clause-refused g c =
+    let layout = layout_of c.args.self.now in
+    let index = c.args.chunk_indices.now in
+    let state = g.S.ReadableStorageTraits.state c.args.self.now.storage in
+    let e = c.in_err-source.field-0.0 in
+    let why : (region : Box) → IsPart layout region index → RefusesSomeChunk layout region (index ∷ []) state (refusal_of (error_of_storage e)) = λ region part.
+    key_why layout region index state c.requires.boxed _ e c.in_ok-key.ensures.key c.in_err-source.ensures.refused in
+    err_kept c.from_residual-in_err-source.result (error_of_storage e) (λ e. (region : Box) → IsPart layout region index → RefusesSomeChunk layout region (index ∷ []) state (refusal_of e)) c.from_residual-in_err-source.ensures.1 why
 
 pub decode_part-requires-clause-size : goal.decode_part-requires-clause-size
 decode_part-requires-clause-size g c = size_fits (layout_of c.args.self.now) (box_of c.args.part.now).shape c.requires.size

@@ -1,4 +1,4 @@
-use Rattle.std.proofs.Common.{◌≡◌, ◌∙◌, ℕ, None, List, [], ◌∷◌, rules, sym, ap, subst, inl, inr}
+use Rattle.std.proofs.Common.{◌≡◌, ◌∙◌, ℕ, true, None, List, [], ◌∷◌, rules, sym, ap, subst, inl, inr}
 use Rattle.std.proofs.lemmas.Bool.{false≢true}
 use Rattle.std.proofs.lemmas.Result.{IfOk-weaker}
 use Rattle.std.proofs.lemmas.Slice.Eq.{bytes_eq-Decides}
@@ -150,16 +150,16 @@ returns-in-Some-clause-refused g c =
     (λ (e : ArrayError). RefusesRegionRead layout (size_refusal layout region.shape) region (index ∷ []) state (refusal_of e))
     (λ e why. inr (c.in_ok-count_to_read.ensures.accepted, why region is)) c.read_part.ensures.refused
 
-pub returns-in-None-clause-read : goal.returns-in-None-clause-read
-returns-in-None-clause-read g c =
+pub returns-clause-read : goal.returns-clause-read
+returns-clause-read g c =
     let layout = layout_of c.args.self.now in
     let region = box_of c.args.region.now in
     let index = c.args.chunk_indices.now in
     let none : AreApart region (box_at layout.grid index) = rw c.in-None.is at c.in_ok-part.ensures.none in
     absurd (not_apart layout c.args.self.now.layout.lawful region index c.requires.cover c.requires.some none)
 
-pub returns-in-None-clause-refused : goal.returns-in-None-clause-refused
-returns-in-None-clause-refused g c =
+pub returns-clause-refused : goal.returns-clause-refused
+returns-clause-refused g c =
     let layout = layout_of c.args.self.now in
     let region = box_of c.args.region.now in
     let index = c.args.chunk_indices.now in

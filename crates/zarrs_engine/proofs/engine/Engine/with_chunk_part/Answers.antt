@@ -28,8 +28,8 @@ returns-in_default-clause-read g c =
     let apart = subst (λ (b : Box). AreApart region b) c.requires.chunk none in
     read_apart layout c.args.self.now.layout.lawful region c.args.chunk_indices.now state c.requires.boxed (region_data c.args.held) apart c.requires.part
 
-pub part_of_chunk-found-requires-clause-size : goal.part_of_chunk-found-requires-clause-size
-part_of_chunk-found-requires-clause-size g c =
+pub part_of_chunk-requires-clause-size : goal.part_of_chunk-requires-clause-size
+part_of_chunk-requires-clause-size g c =
     let layout = layout_of c.args.self.now in
     let region = box_of c.args.region.now in
     let shared = c.in-Some.shared in
