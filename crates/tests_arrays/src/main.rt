@@ -27,6 +27,8 @@ mod scripts;
 #[cfg(test)]
 mod setters;
 #[cfg(test)]
+mod shards;
+#[cfg(test)]
 mod uses;
 
 use anyhow::{Result, bail};
