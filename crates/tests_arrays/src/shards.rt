@@ -1,78 +1,110 @@
-//! Arrays of shards that a builder makes: the options of their codec, and a codec that was made by itself.
+//! What a builder is told of shards: by the options of single codecs, and by a codec that was made before.
 use crate::arrays::MemoryArray;
-use crate::checks::{must, must_be_bytes, must_be_done};
-use crate::made::{bytes, list_of};
+use crate::checks::{must, must_be_done, must_eq};
 use std::alloc::Global;
 use std::num::NonZeroU64;
 use std::process::Abort;
-use zarrs::codec::{ShardingCodecBuilder, ShardingCodecOptions, SubchunkWriteOrder};
+use zarrs::codec::{
+    ShardingCodec, ShardingCodecBuilder, ShardingCodecOptions, ShardingIndexLocation,
+    SubchunkWriteOrder,
+};
 use zarrs::{ArrayToBytesCodec, CodecSpecificOptions, DataType, MemoryStore};
 use zarrs_builder::ArrayBuilder;
 
-/// The options of shards whose subchunks are written in row-major order.
-fn row_major() -> CodecSpecificOptions {
-    let sharding = ShardingCodecOptions::default().with_subchunk_write_order(SubchunkWriteOrder::C);
-    CodecSpecificOptions::default().with_option(sharding)
+/// The codec of shards of the array.
+fn sharding_of<'a>(rt: &impl Abort, array: &'a MemoryArray) -> &'a ShardingCodec {
+    match array.codecs().array_to_bytes_codec() {
+        ArrayToBytesCodec::Sharding(codec) => codec,
+        _ => rt.panic("another codec"),
+    }
 }
 
-/// The codec of shards of subchunks of 2 by 2 bytes.
-fn shards(rt: &impl Abort, alloc: Global) -> ArrayToBytesCodec {
-    let two = NonZeroU64::new(2).expect(rt, "not zero");
-    let sizes = list_of(rt, alloc, &[two, two]);
-    let builder = ShardingCodecBuilder::new(alloc, sizes, &DataType::UInt8);
-    let codec = builder.expect(rt, "no refusal").build(alloc);
-    let boxed = Box::new(alloc, codec.expect(rt, "no refusal"));
-    ArrayToBytesCodec::Sharding(boxed.expect(rt, "no refusal"))
-}
-
-/// The array that is built, over a new store in memory.
-fn built(rt: &impl Abort, alloc: Global, builder: ArrayBuilder) -> MemoryArray {
-    let array = builder.build(alloc, MemoryStore::new(alloc), "/");
+/// An array of 8 by 8 numbers in shards of 2 by 2, by a builder with these options.
+fn with_options(rt: &impl Abort, alloc: Global, options: CodecSpecificOptions) -> MemoryArray {
+    let mut builder = ArrayBuilder::new(alloc, [8u64, 8], [2u64, 2], DataType::Int8, 0i8);
+    builder
+        .subchunk_shape(alloc, Some([1u64, 1]))
+        .codec_specific_options(options);
+    let built = builder.build(alloc, MemoryStore::new(alloc), "/");
     drop(builder);
-    array.expect(rt, "no refusal")
-}
-
-/// The array has a codec of shards, and these options of it.
-fn must_have_shards(rt: &impl Abort, array: &MemoryArray, options: CodecSpecificOptions) {
-    let codec = array.codecs().array_to_bytes_codec();
-    must(rt, matches!(codec, ArrayToBytesCodec::Sharding(_)));
-    must(rt, *array.codec_specific_options() == options);
+    built.expect(rt, "no refusal")
 }
 
 #[test]
-fn an_array_has_the_options_of_its_builder(rt: HostRuntime) {
-    let alloc = rt.alloc();
-    let mut builder = bytes(alloc);
-    builder
-        .subchunk_shape(alloc, Some([2u64, 2]))
-        .codec_specific_options(row_major());
-    let array = built(&rt, alloc, builder);
-    must_have_shards(&rt, &array, row_major());
+fn options_of_shards_pass_through_a_builder(rt: HostRuntime) {
+    let order = ShardingCodecOptions::default().with_subchunk_write_order(SubchunkWriteOrder::C);
+    let options = CodecSpecificOptions::default().with_option(order);
+    let array = with_options(&rt, rt.alloc(), options);
+    must(&rt, *array.codec_specific_options() == options);
+    must_eq(
+        &rt,
+        array
+            .codec_specific_options()
+            .sharding()
+            .subchunk_write_order(),
+        SubchunkWriteOrder::C,
+    );
+    let _codec = sharding_of(&rt, &array);
     drop(array);
 }
 
-/// Cells of four subchunks are read as they were stored.
-fn must_keep_cells(rt: &impl Abort, alloc: Global, array: &mut MemoryArray) {
-    let cells = [1u8, 2, 3, 4, 5, 6, 7, 8, 9];
-    must_be_done(
-        rt,
-        array.store_array_subset_elements(alloc, &[1..4, 1..4], &cells),
-    );
-    must_be_bytes(
-        rt,
-        array.retrieve_array_subset_elements(alloc, &[1..4, 1..4]),
-        &cells,
-    );
+/// A codec of shards whose subchunks are of one cell, with the index at the start.
+fn shards_of_cells(rt: &impl Abort, alloc: Global) -> ShardingCodec {
+    let one = NonZeroU64::new(1).expect(rt, "1 is no zero");
+    let subchunk_shape = vec![in alloc; one, one].expect(rt, "no refusal");
+    let builder = ShardingCodecBuilder::new(alloc, subchunk_shape, &DataType::Int64);
+    let mut builder = builder.expect(rt, "no refusal");
+    builder.index_location(ShardingIndexLocation::Start);
+    builder.build(alloc).expect(rt, "no refusal")
 }
 
-/// A builder that takes a codec takes its options with it.
+/// An array of 4 by 4 numbers in shards of 2 by 2, by a builder with this codec and without options.
+fn with_codec(rt: &impl Abort, alloc: Global, codec: ShardingCodec) -> MemoryArray {
+    let mut builder = ArrayBuilder::new(alloc, [4u64, 4], [2u64, 2], DataType::Int64, 0i64);
+    let codec = Box::new(alloc, codec).expect(rt, "no refusal");
+    builder.array_to_bytes_codec(ArrayToBytesCodec::Sharding(codec));
+    let built = builder.build(alloc, MemoryStore::new(alloc), "/");
+    drop(builder);
+    built.expect(rt, "no refusal")
+}
+
+/// The codec has its subchunks and its index where it had them.
+fn must_be_kept(rt: &impl Abort, codec: &ShardingCodec) {
+    must(
+        rt,
+        codec
+            .subchunk_shape()
+            .iter()
+            .all(|extent| extent.get() == 1),
+    );
+    must_eq(rt, codec.subchunk_shape().len(), 2);
+    must(rt, codec.index_location().is_at_start());
+}
+
+/// The numbers from 0 on are stored in the array and read back.
+fn must_keep_numbers(rt: &impl Abort, alloc: Global, array: &mut MemoryArray) {
+    let numbers = [0i64, 1, 2, 3, 4, 5, 6, 7, 8, 9, 10, 11, 12, 13, 14, 15];
+    let all = array.subset_all(alloc).expect(rt, "no refusal");
+    must_be_done(
+        rt,
+        array.store_array_subset(alloc, &all, numbers.as_slice()),
+    );
+    let read: Vec<i64> = array
+        .retrieve_array_subset(alloc, &all)
+        .expect(rt, "no refusal");
+    must_eq(rt, read.as_slice(), numbers.as_slice());
+}
+
 #[test]
-fn an_array_has_the_options_of_its_codec(rt: HostRuntime) {
+fn a_codec_that_was_made_before_is_kept(rt: HostRuntime) {
     let alloc = rt.alloc();
-    let mut builder = bytes(alloc);
-    builder.array_to_bytes_codec(shards(&rt, alloc));
-    let mut array = built(&rt, alloc, builder);
-    must_have_shards(&rt, &array, CodecSpecificOptions::default());
-    must_keep_cells(&rt, alloc, &mut array);
+    let mut array = with_codec(&rt, alloc, shards_of_cells(&rt, alloc));
+    must_be_kept(&rt, sharding_of(&rt, &array));
+    must(
+        &rt,
+        *array.codec_specific_options() == CodecSpecificOptions::default(),
+    );
+    array.store_metadata(alloc).expect(&rt, "no refusal");
+    must_keep_numbers(&rt, alloc, &mut array);
     drop(array);
 }

@@ -193,19 +193,22 @@ fn must_lend(rt: &impl Abort, engine: &MemoryEngine) {
     let _chain = engine.chain();
 }
 
-/// Puts these bytes at the key of the first chunk.
-fn put(rt: &impl Abort, alloc: Global, engine: &mut MemoryEngine, bytes: &[u8]) {
+/// Sets these bytes at the key of the first chunk, in the store that the engine lends.
+fn set_first(rt: &impl Abort, alloc: Global, engine: &mut MemoryEngine, bytes: &'static [u8]) {
     let key = StoreKey::new(alloc, "climate/rain/c/0/0").expect(rt, "no refusal");
-    let value = bytes.to_vec(alloc).expect(rt, "no refusal");
     engine
-        .put(alloc, &key, Some(value))
+        .storage_mut()
+        .set(alloc, &key, Bytes::from_static(bytes))
         .expect(rt, "no refusal");
 }
 
-/// Erases the key of the first chunk.
-fn put_none(rt: &impl Abort, alloc: Global, engine: &mut MemoryEngine) {
+/// Erases the key of the first chunk there.
+fn erase_first(rt: &impl Abort, alloc: Global, engine: &mut MemoryEngine) {
     let key = StoreKey::new(alloc, "climate/rain/c/0/0").expect(rt, "no refusal");
-    engine.put(alloc, &key, None).expect(rt, "no refusal");
+    engine
+        .storage_mut()
+        .erase(alloc, &key)
+        .expect(rt, "no refusal");
 }
 
 /// The store has no key, and saw two writing calls.
@@ -220,7 +223,7 @@ fn parts_are_lent_and_the_store_is_given_back(rt: HostRuntime) {
     let mut engine = small_array(&rt, rt.alloc());
     must_lend(&rt, &engine);
     const FIRST: &[Step] = &[Step::Read(&[0, 0])];
-    put(&rt, rt.alloc(), &mut engine, &[1, 2, 3, 4]);
+    set_first(&rt, rt.alloc(), &mut engine, &[1, 2, 3, 4]);
     must_reply(
         &rt,
         rt.alloc(),
@@ -228,7 +231,7 @@ fn parts_are_lent_and_the_store_is_given_back(rt: HostRuntime) {
         FIRST,
         "[Cells(Fixed([1, 2, 3, 4]))]",
     );
-    put_none(&rt, rt.alloc(), &mut engine);
+    erase_first(&rt, rt.alloc(), &mut engine);
     must_be_left(&rt, rt.alloc(), &engine.into_storage());
 }
 

@@ -13,6 +13,8 @@ pub mod chunks;
 #[cfg(test)]
 mod errors;
 pub mod histories;
+#[cfg(test)]
+mod lean;
 pub mod make;
 pub mod refusals;
 pub mod regions;
