@@ -9,7 +9,8 @@ use Rattle.zarrs_engine_calls.specs.Reach.{MayAskParts}
 use Rattle.zarrs_engine_calls.specs.Refusals.{refusal_of}
 use Rattle.zarrs_engine.specs.Engine.{layout_of}
 use Rattle.zarrs_engine_layout.specs.Layouts.{layout_meaning}
-use Rattle.zarrs_engine_calls.specs.Patches.{PatchesAll}
+use Rattle.zarrs_codec_chain.proofs.Kept.{err_kept}
+use Rattle.zarrs_engine_calls.specs.Patches.{PatchesAll, RefusesPatches}
 use Rattle.zarrs_engine_calls.specs.StateRefusals.{IsPart}
 use Rattle.zarrs_engine.specs.Patches.{HasPatched, LeavesPatch, Shares}
 use Rattle.zarrs_engine.proofs.PatchedRegions.{patched_all, patched_ask, patched_fails, patched_more, patched_short}
@@ -72,7 +73,7 @@ returns-in_err-patch_part-clause-refused g c = λ first none.
     let r = refusal_of c.in_err-patch_part.field-0.0 in
     let refused = subst (λ own. LeavesPatch (layout_meaning own) keep (IsPart (layout_meaning own) region) region held index r mid new) i.layout_kept c.in_err-patch_part.ensures.refused in
     let why = patched_fails layout c.args.self.now.layout.lawful keep (IsPart layout region) region held (box_of c.args.chunks.now) (c.args.chunks.now.same_length) first n index r old mid new none i.patched at refused in
-    search (rules, why)
+    err_kept c.from_residual-in_err-patch_part.result c.in_err-patch_part.field-0.0 (λ e. RefusesPatches layout keep (IsPart layout region) first region held chunks (refusal_of e) old new) c.from_residual-in_err-patch_part.ensures.1 why
 
 pub returns-then-not-advance-clause-done : goal.returns-then-not-advance-clause-done
 returns-then-not-advance-clause-done g c =
