@@ -1,5 +1,5 @@
 -- Why a part of a chunk is not written by itself.
-use Rattle.std.proofs.Common.{◌≡◌, ℕ, Bool, true, cond, List, Option, Some, None, refl, sym, ap, subst, ◌∙◌, inl, inr, arith}
+use Rattle.std.proofs.Common.{◌≡◌, ℕ, Bool, true, cond, not, List, Option, Some, None, refl, sym, ap, subst, ◌∙◌, inl, inr, arith}
 use Rattle.std.specs.FinMap as map
 use Rattle.std.proofs.lemmas.Bool.{cases_Bool}
 use Rattle.zarrs_subset.specs.Regions.{Box, overlap_of}
@@ -20,10 +20,11 @@ use Rattle.zarrs_engine_calls.specs.Content.{value_at}
 use Rattle.zarrs_engine_calls.specs.Errors.{error_of_subset}
 use Rattle.zarrs_engine_calls.specs.Reach.{chunk_part}
 use Rattle.zarrs_engine_calls.specs.Refusals as refusal
-use Rattle.zarrs_engine_calls.specs.Refusals.{Refusal, RefusesBy, box_refusal, is_too_large, key_refusal, refusal_of, refusal_of_codec, refusal_of_storage}
+use Rattle.zarrs_engine_calls.specs.Refusals.{Refusal, RefusesBy, key_refusal, refusal_of, refusal_of_codec, refusal_of_storage}
+use Rattle.zarrs_engine_calls.specs.ArgumentRefusals.{chunk_refusal}
 use Rattle.zarrs_engine_calls.specs.StateRefusals.{RefusesErasure, RefusesPart}
 use Rattle.zarrs_engine_calls.specs.Patches.{IsEncodedAs, IsNotEncoded, RefusesPartOf, RefusesPartly, RefusesPatch}
-use Rattle.zarrs_engine_calls.proofs.RefusalLemmas.{fit_chunk, large_chunk, makes_none, memory_or_said}
+use Rattle.zarrs_engine_calls.proofs.RefusalLemmas.{makes_none, memory_or_said}
 use Rattle.zarrs_engine_layout.specs.Steps.{RefusesPut}
 use Rattle.zarrs_engine.specs.Patches.{LeavesPartly, LeavesPatch}
 
@@ -60,18 +61,11 @@ module _ (layout : Layout) (keep : Bool) (index : List ℕ) (part : Box) (held :
     ]
   ]
 
-  -- the chunk is too large
-  pub large_partly : (state : StoreState) (r : Refusal) → has_box layout.grid index ≡ true → RefusesBy (box_refusal layout index) r → RefusesPartly layout keep index part held 0 state r
-  large_partly state r has why = elim (memory_or_said _ r why) [
-    | inl memory ↦ subst (RefusesPartly layout keep index part held 0 state) (sym memory) tt
-    | inr said ↦ elim (cases_Bool (is_too_large layout (box_at layout.grid index).shape)) [
-      | inl large ↦
-          let is : Some refusal.size_overflow ≡ Some r = sym (large_chunk layout index has large) ∙ said in
-          let same : refusal.size_overflow ≡ r = cc in
-          subst (RefusesPartly layout keep index part held 0 state) same (refl, inl large)
-      | inr fit ↦ absurd (let clash : None ≡ Some r = sym (fit_chunk layout index has fit) ∙ said in cc)
-    ]
-  ]
+  -- no memory for the box of the chunk
+  pub box_partly : (state : StoreState) (r : Refusal) → has_box layout.grid index ≡ true → RefusesBy (chunk_refusal layout index) r → RefusesPartly layout keep index part held 0 state r
+  box_partly state r has why =
+      let none : chunk_refusal layout index ≡ None = ap (λ b. cond (not b) (Some (refusal.indices index)) None) has in
+      subst (RefusesPartly layout keep index part held 0 state) (sym (only_memory (chunk_refusal layout index) r none why)) tt
 
   -- the part is not encoded
   pub encoded_partly : (state : StoreState) (r : Refusal)
@@ -81,7 +75,7 @@ module _ (layout : Layout) (keep : Bool) (index : List ℕ) (part : Box) (held :
       go : (e : CodecError) → RefusesPartialEncoding layout.chain keep layout.kind layout.fill (box_at layout.grid index).shape (value_at state (layout.key index)) part held e
           → RefusesPartly layout keep index part held 0 state (refusal_of_codec e)
       go (coded.DoesNotFit misfit) cause = (refl, record { error = coded.DoesNotFit misfit; is = refl; cause = cause })
-      go coded.SizeOverflow cause = (refl, inr (record { error = coded.SizeOverflow; is = refl; cause = cause }))
+      go coded.SizeOverflow cause = (refl, record { error = coded.SizeOverflow; is = refl; cause = cause })
       go coded.OutOfMemory cause = tt
 
   -- the part is encoded, and the writing call is refused

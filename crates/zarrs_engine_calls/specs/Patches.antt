@@ -21,7 +21,7 @@ use Rattle.zarrs_engine_calls.specs.declared.call.Reply.TheVariants.{Done, Refus
 use Rattle.zarrs_engine_calls.specs.Acts.{Act, store, act_of, shape_after}
 use Rattle.zarrs_engine_calls.specs.Content.{value_at, content, Reads}
 use Rattle.zarrs_engine_calls.specs.Refusals as refusal
-use Rattle.zarrs_engine_calls.specs.Refusals.{Refusal, RefusesBy, is_too_large, refusal_of, refusal_of_codec}
+use Rattle.zarrs_engine_calls.specs.Refusals.{Refusal, RefusesBy, refusal_of, refusal_of_codec}
 use Rattle.zarrs_engine_calls.specs.Changes.{ChangesKeysOf, HoldsValue, Makes}
 use Rattle.zarrs_engine_calls.specs.ChunkBoxes.{chunks_met, part_box}
 use Rattle.zarrs_engine_calls.specs.ArgumentRefusals.{argument_refusal, store_part_refusal, store_region_refusal}
@@ -112,10 +112,6 @@ RefusesKey layout index failed new = (failed ≡ 0) × (new.refuses (layout.key 
 abbrev pub RefusesPartly : Layout → Bool → List ℕ → Box → ArrayData → ℕ → StoreState → Refusal → Type 0
 RefusesPartly layout keep index part held failed new refusal.storage =
     RefusesKey layout index failed new ⊎ (IsEncodedAs layout keep index new part held × CallFails failed new)
-RefusesPartly layout keep index part held failed new refusal.size_overflow =
-    (failed ≡ 0)
-    × ((is_too_large layout (box_at layout.grid index).shape ≡ true)
-    ⊎ IsNotEncoded layout keep (box_at layout.grid index).shape (value_at new (layout.key index)) part held refusal.size_overflow)
 RefusesPartly layout keep index part held failed new refusal.out_of_memory = Unit {0}
 RefusesPartly layout keep index part held failed new r =
     (failed ≡ 0) × IsNotEncoded layout keep (box_at layout.grid index).shape (value_at new (layout.key index)) part held r

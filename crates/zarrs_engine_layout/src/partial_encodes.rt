@@ -1,5 +1,5 @@
 //! What becomes of the bytes of a chunk of which a part is written by itself.
-use crate::array_layout::{ArrayLayout, Chunk};
+use crate::array_layout::ArrayLayout;
 use std::alloc::Global;
 use zarrs_chunk_grid::ChunkGridTraits;
 use zarrs_codec_chain::{ChainTraits, CodecOptions};
@@ -10,7 +10,7 @@ use zarrs_keys::ChunkKeyEncodingTraits;
 use zarrs_subset::ArraySubset;
 
 impl<G: ChunkGridTraits, K: ChunkKeyEncodingTraits, C: ChainTraits> ArrayLayout<G, K, C> {
-    ghost use Rattle.std.specs.Prelude.{◌≡◌, true, false, length, Some, IfOk, IfErr, option_map};
+    ghost use Rattle.std.specs.Prelude.{◌≡◌, true, length, Some, IfOk, IfErr, option_map};
     ghost use Rattle.zarrs_subset.specs.Boxes.{position_count};
     ghost use Rattle.zarrs_subset.specs.Regions.{box_of};
     ghost use Rattle.zarrs_data_type.specs.Kind.{kind};
@@ -20,7 +20,7 @@ impl<G: ChunkGridTraits, K: ChunkKeyEncodingTraits, C: ChainTraits> ArrayLayout<
     ghost use Rattle.zarrs_codec_chain.specs.Chain.{partial_encoding};
     ghost use Rattle.zarrs_codec_chain.specs.Options.{stores_empty_chunks};
     ghost use Rattle.zarrs_engine_calls.specs.Patches.{IsNotEncoded};
-    ghost use Rattle.zarrs_engine_calls.specs.Refusals.{is_too_large, refusal_of};
+    ghost use Rattle.zarrs_engine_calls.specs.Refusals.{refusal_of};
     ghost use Rattle.zarrs_engine_layout.specs.Layouts.{layout_meaning};
 
     /// Returns whether the cells of a part are written into the bytes of their chunk.
@@ -39,26 +39,23 @@ impl<G: ChunkGridTraits, K: ChunkKeyEncodingTraits, C: ChainTraits> ArrayLayout<
     pub fn partial_encode(
         &self,
         alloc: Global,
-        chunk: &Chunk,
+        chunk: &ArraySubset,
         stored: Option<&[u8]>,
         part: &ArraySubset,
         part_data: &ArrayBytes<'_>,
         options: &CodecOptions,
     ) -> Result<PartialWrite, ArrayError>
         requires supported { (layout_meaning self.now).chain.encodes_partly ≡ true }
-        requires size { is_too_large (layout_meaning self.now) (box_of chunk.now.region).shape
-            ≡ false }
-        requires dimensions { length (box_of part.now).start
-            ≡ length (box_of chunk.now.region).shape }
+        requires dimensions { length (box_of part.now).start ≡ length (box_of chunk.now).shape }
         requires cells { HasCells (kind self.now.data_type) (data_of part_data.now)
             (position_count (box_of part.now).shape) }
         ensures written { IfOk result (λ write.
             partial_encoding (layout_meaning self.now).chain (stores_empty_chunks options.now)
             (layout_meaning self.now).kind (layout_meaning self.now).fill
-            (box_of chunk.now.region).shape (option_map (λ encoded. encoded.now) stored.entry)
+            (box_of chunk.now).shape (option_map (λ encoded. encoded.now) stored.entry)
             (box_of part.now) (data_of part_data.now) ≡ Some (change_of write)) }
         ensures refused { IfErr result (λ e. IsNotEncoded (layout_meaning self.now)
-            (stores_empty_chunks options.now) (box_of chunk.now.region).shape
+            (stores_empty_chunks options.now) (box_of chunk.now).shape
             (option_map (λ encoded. encoded.now) stored.entry) (box_of part.now)
             (data_of part_data.now) (refusal_of e)) }
     {
@@ -69,7 +66,7 @@ impl<G: ChunkGridTraits, K: ChunkKeyEncodingTraits, C: ChainTraits> ArrayLayout<
             part_data,
             &self.data_type,
             &self.fill_value,
-            chunk.region.shape(),
+            chunk.shape(),
             options,
         )?;
         Ok(write)

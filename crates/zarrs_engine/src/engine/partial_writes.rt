@@ -6,7 +6,6 @@ use zarrs_codec_chain::{ChainTraits, CodecOptions};
 use zarrs_codec_shard::PartialWrite;
 use zarrs_data_type::ArrayBytes;
 use zarrs_engine_calls::ArrayError;
-use zarrs_engine_layout::Chunk;
 use zarrs_keys::ChunkKeyEncodingTraits;
 use zarrs_storage::{StorageError, StoreKey, WritableStorageTraits};
 use zarrs_subset::{ArraySubset, ArraySubsetError, lies_in_box};
@@ -39,7 +38,7 @@ impl<
     ghost use Rattle.zarrs_engine_calls.specs.Patches.{writes_parts};
     ghost use Rattle.zarrs_engine_calls.specs.StateRefusals.{IsPart};
     ghost use Rattle.zarrs_engine_calls.specs.Reach.{MayAskChunk, MayAskParts};
-    ghost use Rattle.zarrs_engine_calls.specs.Refusals.{Refusal, is_too_large, refusal_of};
+    ghost use Rattle.zarrs_engine_calls.specs.Refusals.{Refusal, refusal_of};
     ghost use Rattle.zarrs_engine_calls.specs.Refusals.{refusal_of_storage};
     ghost use Rattle.zarrs_engine_layout.specs.Covers.{CoverRegion};
     ghost use Rattle.zarrs_engine.specs.RegionWrites.{AreCovered};
@@ -108,18 +107,15 @@ impl<
         &self,
         alloc: Global,
         chunk_indices: &[u64],
-        chunk: &Chunk,
+        chunk: &ArraySubset,
         part: &ArraySubset,
         part_data: &ArrayBytes<'_>,
         options: &CodecOptions,
     ) -> Result<PartialWrite, ArrayError>
         requires supported { (layout_of self.now).chain.encodes_partly ≡ true }
         requires long { length chunk_indices.now ≡ (layout_of self.now).grid.dimensions }
-        requires chunk { box_of chunk.now.region ≡ box_at (layout_of self.now).grid
-            chunk_indices.now }
-        requires size { is_too_large (layout_of self.now) (box_of chunk.now.region).shape ≡ false }
-        requires dimensions { length (box_of part.now).start
-            ≡ length (box_of chunk.now.region).shape }
+        requires chunk { box_of chunk.now ≡ box_at (layout_of self.now).grid chunk_indices.now }
+        requires dimensions { length (box_of part.now).start ≡ length (box_of chunk.now).shape }
         requires cells { HasCells (layout_of self.now).kind (data_of part_data.now)
             (position_count (box_of part.now).shape) }
         requires ask { MayAskChunk (layout_of self.now) chunk_indices.now
@@ -169,7 +165,7 @@ impl<
             (store_of S.state self.new)) }
         ensures layout_kept { KeepsLayout self.old self.new }
     {
-        let chunk = self.layout.chunk(alloc, chunk_indices)?;
+        let chunk = self.layout.chunk_box(alloc, chunk_indices)?;
         let write = self.part_write(alloc, chunk_indices, &chunk, part, part_data, options)?;
         let key = self.layout.chunk_key(alloc, chunk_indices)?;
         self.put_part(alloc, &key, write)?;
@@ -183,7 +179,7 @@ impl<
     /// # Errors
     /// In this order: E2 for a part of another number of dimensions, or that passes the chunk; E8 for a part that is the
     /// whole chunk and has more bytes than a `usize` counts; E4 for data that is not one cell for each position, each a
-    /// value of the data type. Then E8 for such a chunk; E7 if the store refuses its key; E4 if the chain does not take it,
+    /// value of the data type. Then E7 if the store refuses its key; E4 if the chain does not take it,
     /// or its bytes do not decode, or E8 if a size is too large; E7 if the store refuses the write. E9 may come at any time.
     /// Nothing is changed then.
     pub fn partial_encode(

@@ -33,11 +33,11 @@ returns-in_default-clause-refused g c =
     let part = box_of c.args.part.now in
     let held = data_of c.args.part_data.now in
     let at : None ≡ value_at state (layout.key index) = sym c.in_default.is ∙ c.in_ok-encoded.ensures.value in
-    each_error c.partial_encode.result (λ (e : ArrayError). IsNotEncoded layout keep (box_of c.args.chunk.now.region).shape None part held (refusal_of e))
+    each_error c.partial_encode.result (λ (e : ArrayError). IsNotEncoded layout keep (box_of c.args.chunk.now).shape None part held (refusal_of e))
     (λ (e : ArrayError). RefusesPartly layout keep index part held 0 state (refusal_of e))
     (λ e not. encoded_partly layout keep index part held state (refusal_of e)
     (subst (λ (b : Box). IsNotEncoded layout keep b.shape (value_at state (layout.key index)) part held (refusal_of e)) c.requires.chunk
-    (subst (λ (o : Option (List ℕ)). IsNotEncoded layout keep (box_of c.args.chunk.now.region).shape o part held (refusal_of e)) at not)))
+    (subst (λ (o : Option (List ℕ)). IsNotEncoded layout keep (box_of c.args.chunk.now).shape o part held (refusal_of e)) at not)))
     c.partial_encode.ensures.refused
 
 pub returns-clause-refused : goal.returns-clause-refused
@@ -49,9 +49,9 @@ returns-clause-refused g c =
     let part = box_of c.args.part.now in
     let held = data_of c.args.part_data.now in
     let at : Some c.deref.result.now ≡ value_at state (layout.key index) = ap Some c.deref.ensures ∙ sym c.in-Some.is ∙ c.in_ok-encoded.ensures.value in
-    each_error c.partial_encode-2.result (λ (e : ArrayError). IsNotEncoded layout keep (box_of c.args.chunk.now.region).shape (Some c.deref.result.now) part held (refusal_of e))
+    each_error c.partial_encode-2.result (λ (e : ArrayError). IsNotEncoded layout keep (box_of c.args.chunk.now).shape (Some c.deref.result.now) part held (refusal_of e))
     (λ (e : ArrayError). RefusesPartly layout keep index part held 0 state (refusal_of e))
     (λ e not. encoded_partly layout keep index part held state (refusal_of e)
     (subst (λ (b : Box). IsNotEncoded layout keep b.shape (value_at state (layout.key index)) part held (refusal_of e)) c.requires.chunk
-    (subst (λ (o : Option (List ℕ)). IsNotEncoded layout keep (box_of c.args.chunk.now.region).shape o part held (refusal_of e)) at not)))
+    (subst (λ (o : Option (List ℕ)). IsNotEncoded layout keep (box_of c.args.chunk.now).shape o part held (refusal_of e)) at not)))
     c.partial_encode-2.ensures.refused

@@ -10,7 +10,7 @@ use Rattle.zarrs_engine_calls.specs.Refusals.{Refusal, out_of_memory, refusal_of
 use Rattle.zarrs_engine_calls.proofs.RefusalLemmas.{storage_said}
 use Rattle.zarrs_engine.specs.Engine.{layout_of}
 use Rattle.zarrs_engine.specs.Patches.{LeavesPartly}
-use Rattle.zarrs_engine.proofs.PatchRefusals.{large_partly, partly_leaves, put_leaves_partly}
+use Rattle.zarrs_engine.proofs.PatchRefusals.{box_partly, partly_leaves, put_leaves_partly}
 use Rattle.zarrs_engine.proofs.PatchedChunks.{patched}
 use Rattle.zarrs_engine.proofs.engine.Engine.patch_chunk.Goals as goal
 
@@ -23,7 +23,7 @@ returns-in_err-chunk-clause-refused g c =
     let part = box_of c.args.part.now in
     let held = data_of c.args.part_data.now in
     let r = refusal_of c.in_err-chunk.field-0.0 in
-    let why = partly_leaves layout keep index part held r state (large_partly layout keep index part held state r c.requires.boxed c.in_err-chunk.ensures.refused) in
+    let why = partly_leaves layout keep index part held r state (box_partly layout keep index part held state r c.requires.boxed c.in_err-chunk.ensures.refused) in
     search (rules, why)
 
 pub part_write-requires-clause-long : goal.part_write-requires-clause-long
