@@ -18,7 +18,6 @@ pub mod documents;
 pub mod encoded;
 #[cfg(test)]
 mod errors;
-pub mod histories;
 #[cfg(test)]
 mod made;
 #[cfg(test)]
@@ -27,7 +26,6 @@ mod memory;
 mod scripts;
 #[cfg(test)]
 mod setters;
-pub mod upgraded;
 #[cfg(test)]
 mod uses;
 
