@@ -122,7 +122,8 @@ module _ (m : ChainMeaning) (law : IsLawfulChain m) where
   decide : (codecs : List ArrayToArrayCodec) → PlacesDecide (behind codecs m).decoded (behind codecs m).places
   decide [] k f s part x y cs ds is_x is_y long same =
       law.places_decide k f s part x y cs ds (sym (same_cells m k f s (Some x)) ∙ is_x) (sym (same_cells m k f s (Some y)) ∙ is_y) long same
-  decide (codec ∷ codecs) = all_decide (behind (codec ∷ codecs) m).decoded
+  decide (codec ∷ codecs) k f s part x y cs ds is_x is_y long same =
+      all_decide (behind (codec ∷ codecs) m).decoded k f s part x y cs ds is_x is_y long same
 
   pub behind-lawful : (codecs : List ArrayToArrayCodec) → IsLawfulChain (behind codecs m)
   behind-lawful codecs =
