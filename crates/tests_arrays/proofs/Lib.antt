@@ -1,4 +1,2 @@
-mod Courses
 mod Decodes
 mod DirectCalls
-mod UpgradedStores

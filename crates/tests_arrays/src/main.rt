@@ -18,7 +18,6 @@ pub mod documents;
 pub mod encoded;
 #[cfg(test)]
 mod errors;
-pub mod histories;
 #[cfg(test)]
 mod made;
 #[cfg(test)]
@@ -29,7 +28,6 @@ mod scripts;
 mod setters;
 #[cfg(test)]
 mod shards;
-pub mod upgraded;
 #[cfg(test)]
 mod uses;
 

@@ -1,8 +1,14 @@
 //! Replays histories of calls.
+ghost use Rattle.std.specs.Prelude.{◌≡◌, ◌↔◌};
+ghost use Rattle.zarrs_storage.specs.Memory.{open_state};
+ghost use Rattle.zarrs_engine_calls.specs.Laws.{HaveEqualBytes, HaveEqualContent, IsCourseFromNothing};
+ghost use Rattle.zarrs_engine.specs.Engine.{layout_of, state_of, store_of};
+
 use crate::make::MemoryEngine;
 use std::alloc::{AllocError, Global};
 use zarrs_codec::CodecOptions;
-use zarrs_engine::{Call, Reply, replay};
+use zarrs_engine::laws::courses_agree;
+use zarrs_engine::{Call, Reply, layouts_are_lawful, replay};
 use zarrs_storage::{MemoryStore, ReadableStorageTraits};
 
 /// Makes the calls in turn, and returns the reply to each.
@@ -43,4 +49,19 @@ pub fn have_equal_bytes(
         }
     }
     Ok(true)
+}
+
+/// Two arrays of one layout, each left by calls from a store without a chunk, are equal exactly if the same bytes are
+/// present at each chunk key. This does nothing: its contract is the fact.
+pub fn bytes_tell_arrays_apart(one: &MemoryEngine, other: &MemoryEngine)
+    requires same_layout { layout_of other.now ≡ layout_of one.now }
+    requires course { IsCourseFromNothing (layout_of one.now) (state_of open_state one.now) }
+    requires other_course { IsCourseFromNothing (layout_of one.now) (state_of open_state other.now) }
+    ensures { HaveEqualContent (layout_of one.now) (store_of open_state one.now)
+        (store_of open_state other.now)
+        ↔ HaveEqualBytes (layout_of one.now) (store_of open_state one.now)
+        (store_of open_state other.now) }
+{
+    layouts_are_lawful(one);
+    courses_agree();
 }

@@ -16,7 +16,9 @@ pub use zarrs_chunk_grid::laws::{
     box_of_a_chunk, chunk_of_a_position, chunk_range_fills_a_box, chunks_share_no_position,
     covered_positions, grid_of_its_configuration, metadata_describes_the_configuration,
 };
-pub use zarrs_codec::laws::{codecs_are_said_by_levels, sole_shardings_make_shards};
+pub use zarrs_codec::laws::{
+    chains_are_lawful, codecs_are_said_by_levels, sole_shardings_make_shards,
+};
 pub use zarrs_data_type_kinds::laws::{types_are_said_by_levels, written_fill_value_is_read};
 pub use zarrs_engine::laws::{
     accepted_shape_changes, an_array_is_one_function, answers_depend_on_the_reach,

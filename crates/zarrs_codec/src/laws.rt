@@ -7,6 +7,9 @@ ghost use Rattle.zarrs_codec_optional.specs.ShardingMetadata.{sharding_data};
 ghost use Rattle.zarrs_codec.specs.Metadata.{bytes_codec_said, chain_said, sharding_with};
 ghost use Rattle.zarrs_codec.specs.Configurations.{cells};
 ghost use Rattle.zarrs_codec.specs.SoleShardings.{SoleShardingsMakeShards};
+ghost use Rattle.zarrs_codec.specs.Chains.{chain_meaning};
+ghost use Rattle.zarrs_codec.specs.declared.chain.CodecChain.{CodecChain};
+ghost use Rattle.zarrs_codec_chain.specs.Chain.{IsLawfulChain};
 
 /// Metadata says an array-to-bytes codec level by level: `sharding_indexed` is a codec of shards around the chain that
 /// the codecs of its configuration say; another one is said by its name and its own configuration alone.
@@ -22,4 +25,10 @@ pub fn codecs_are_said_by_levels()
 /// over chains, `shards_compact_to_their_encoding`, speaks of it.
 pub fn sole_shardings_make_shards()
     ensures { SoleShardingsMakeShards }
+{}
+
+/// Each chain of codecs keeps the law of chains: decoding returns what was encoded, the places of a part decide its cells,
+/// and what a partial encode leaves decodes to the updated cells.
+pub fn chains_are_lawful()
+    ensures { (chain : CodecChain) → IsLawfulChain (chain_meaning chain) }
 {}
