@@ -35,8 +35,8 @@ pub use zarrs_data_type::{
     ArrayBytesOffsets, ArrayBytesOptional, ArrayBytesVariableLength, DataType,
     DataTypeFillValueError, DataTypeFillValueMetadataError, Element, ElementError, ElementOwned,
     ExpectedFixedLengthBytesError, ExpectedOptionalBytesError, ExpectedVariableLengthBytesError,
-    FillValue, FromArrayBytes, IntoArrayBytes, IntoField, SubdividedTarget, copy_fill_value_into,
-    data_type,
+    FillValue, FromArrayBytes, IntoArrayBytes, IntoField, RefusedTarget, SubdividedTarget,
+    copy_fill_value_into, data_type,
 };
 pub use zarrs_engine::{ArrayError, Call, Engine, Reply};
 pub use zarrs_keys::{
