@@ -197,15 +197,20 @@ fn must_lend(rt: &impl Abort, engine: &MemoryEngine) {
 fn put(rt: &impl Abort, alloc: Global, engine: &mut MemoryEngine, bytes: &[u8]) {
     let key = StoreKey::new(alloc, "climate/rain/c/0/0").expect(rt, "no refusal");
     let value = bytes.to_vec(alloc).expect(rt, "no refusal");
+    let value = Bytes::from_vec(value).expect(rt, "no refusal");
     engine
-        .put(alloc, &key, Some(value))
+        .storage_mut()
+        .set(alloc, &key, value)
         .expect(rt, "no refusal");
 }
 
 /// Erases the key of the first chunk.
 fn put_none(rt: &impl Abort, alloc: Global, engine: &mut MemoryEngine) {
     let key = StoreKey::new(alloc, "climate/rain/c/0/0").expect(rt, "no refusal");
-    engine.put(alloc, &key, None).expect(rt, "no refusal");
+    engine
+        .storage_mut()
+        .erase(alloc, &key)
+        .expect(rt, "no refusal");
 }
 
 /// The store has no key, and saw two writing calls.
