@@ -1,0 +1,54 @@
+-- Lists that a loop makes, item by item.
+use Rattle.std.proofs.Common.{◌≡◌, ℕ, zero, suc, ◌+◌, ◌<◌, Bool, true, List, [], ◌∷◌, ◌++◌, length, get_or, take, filter, not, decimal, Option, Some, None, refl, sym, ap, ◌∙◌, subst, arith, append_assoc, append-nil}
+use Rattle.std.specs.Char.{is_ascii_whitespace}
+use Rattle.std.specs.Int.{w16, to_le_bytes, from_le_bytes}
+use Rattle.std.specs.Io.KnownBytes.{Consumes}
+use Rattle.std.proofs.lemmas.List.Elements.{filter-append}
+use Rattle.zarr_cells.specs.Numbers.{number_in}
+use Rattle.zarr_cells.specs.Words.{with_others, all_numbers}
+use Rattle.zarr_cells.specs.Npy.{extents, without_blanks, magic, header_bytes, IsHeader}
+
+-- ---- numbers
+
+abbrev numbers_of : Option (List ℕ) → List ℕ
+numbers_of None = []
+numbers_of (Some numbers) = numbers
+
+with_parts : (first : Option ℕ) (others : Option (List ℕ)) (numbers : List ℕ) → with_others first others ≡ Some numbers
+    → (one : ℕ) × (more : List ℕ) × (first ≡ Some one) × (others ≡ Some more) × (numbers ≡ one ∷ more)
+with_parts None others numbers is = let no : None {T = List ℕ} ≡ Some numbers = is in absurd cc
+with_parts (Some one) None numbers is = let no : None {T = List ℕ} ≡ Some numbers = is in absurd cc
+with_parts (Some one) (Some others) numbers is = (one, others, refl, refl, sym (ap numbers_of is))
+
+pub numbers_push : (parts : List (List ℕ)) (part numbers : List ℕ) (number : ℕ) → all_numbers parts ≡ Some numbers → number_in part ≡ Some number
+    → all_numbers (parts ++ part ∷ []) ≡ Some (numbers ++ number ∷ [])
+numbers_push [] part numbers number is says = rw says (ap (λ l. Some (l ++ number ∷ [])) (ap numbers_of is))
+numbers_push (first ∷ parts) part numbers number is says =
+    let split = with_parts (number_in first) (all_numbers parts) numbers is in
+    rw (split.2, numbers_push parts part split.1 number split.3 says) (ap (λ l. Some (l ++ number ∷ [])) (sym split.4))
+
+-- ---- extents
+
+pub extents_push : (shape : List ℕ) (extent : ℕ) → extents (shape ++ extent ∷ []) ≡ extents shape ++ decimal extent ++ 44 ∷ []
+extents_push [] extent = refl
+extents_push (first ∷ shape) extent =
+    ap (λ l. decimal first ++ 44 ∷ l) (extents_push shape extent)
+    ∙ ap (λ l. decimal first ++ 44 ∷ l) (append_assoc (extents shape) (decimal extent) (44 ∷ []))
+    ∙ sym (append_assoc (decimal first) (44 ∷ extents shape) (decimal extent ++ 44 ∷ []))
+    ∙ sym (append_assoc (extents (first ∷ shape)) (decimal extent) (44 ∷ []))
+
+-- ---- blanks
+
+pub blank_behind : (text : List ℕ) (blank : ℕ) → is_ascii_whitespace blank ≡ true → without_blanks (text ++ blank ∷ []) ≡ without_blanks text
+blank_behind text blank is =
+    filter-append (λ byte. not (is_ascii_whitespace byte)) text (blank ∷ [])
+    ∙ ap (λ l. without_blanks text ++ l) (let none : without_blanks (blank ∷ []) ≡ [] = rw is refl in none)
+    ∙ append-nil (without_blanks text)
+
+-- ---- what a reader gave, piece by piece
+
+pub consumes_both : (old between new : Option (List ℕ)) (one other : List ℕ) → Consumes old between one → Consumes between new other → Consumes old new (one ++ other)
+consumes_both None between new one other first second = tt
+consumes_both (Some xs) None new one other first second = absurd first
+consumes_both (Some xs) (Some ys) None one other first second = absurd second
+consumes_both (Some xs) (Some ys) (Some zs) one other first second = first ∙ ap (λ l. one ++ l) second ∙ sym (append_assoc one other zs)
