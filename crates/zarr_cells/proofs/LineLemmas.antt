@@ -161,7 +161,7 @@ cell_written form size width column word cell old opened said new solid says fir
 
 -- ---- many cells
 
-column_more : (width column count : ℕ) → column_after width column (suc count) ≡ next width (column_after width column count)
+pub column_more : (width column count : ℕ) → column_after width column (suc count) ≡ next width (column_after width column count)
 column_more width column zero = refl
 column_more width column (suc count) = column_more width (next width column) count
 
@@ -175,8 +175,8 @@ left_of (Some parts) = parts.1
 
 joined_parts : (cell : Option (List ℕ)) (others : Option (List ℕ × List ℕ)) (cells left : List ℕ) → joined cell others ≡ Some (cells, left)
     → (one : List ℕ) × (more : List ℕ) × (cell ≡ Some one) × (others ≡ Some (more, left)) × (cells ≡ one ++ more)
-joined_parts None others cells left is = let no : None {T = List ℕ × List ℕ} ≡ Some (cells, left) = is in absurd cc
-joined_parts (Some one) None cells left is = let no : None {T = List ℕ × List ℕ} ≡ Some (cells, left) = is in absurd cc
+joined_parts None others cells left is = let no : None ≡ Some (cells, left) = is in absurd cc
+joined_parts (Some one) None cells left is = let no : None ≡ Some (cells, left) = is in absurd cc
 joined_parts (Some one) (Some others) cells left is = (one, others.0, refl, ap (λ l. Some (others.0, l)) (ap left_of is), sym (ap cells_of is))
 
 module _ (form : Form) (size width : ℕ) where
@@ -244,10 +244,10 @@ module _ (form : Form) (size width : ℕ) where
   reads_more start count column None between new before now after column_is front one = tt
   reads_more start count column (Some text) between new before now after column_is front one =
       let there = subst (λ b. ReadsCell form size width column b new now after) front.3 one in (
-        front.0 ++ there.1,
+        front.0 ++ there.1.0,
         behind form size width column front.1,
-        cells_more count start text front.0 front.1 there.1 (behind form size width column front.1) front.2
-            (subst (λ c. first_cell form size width c front.1 ≡ Some there.1) column_is there.2) (ap (λ c. behind form size width c front.1) (sym column_is)),
+        cells_more count start text front.0 front.1 there.1.0 (behind form size width column front.1) front.2
+            (subst (λ c. first_cell form size width c front.1 ≡ Some there.1.0) column_is there.1.1) (ap (λ c. behind form size width c front.1) (sym column_is)),
         there.0,
-        there.3 ∙ ap (λ l. l ++ there.1) front.4 ∙ append_assoc before front.0 there.1,
+        there.1.2 ∙ ap (λ l. l ++ there.1.0) front.4 ∙ append_assoc before front.0 there.1.0,
       )

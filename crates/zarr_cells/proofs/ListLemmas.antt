@@ -1,12 +1,14 @@
 -- Lists that a loop makes, item by item.
-use Rattle.std.proofs.Common.{◌≡◌, ℕ, zero, suc, ◌+◌, ◌<◌, Bool, true, List, [], ◌∷◌, ◌++◌, length, get_or, take, filter, not, decimal, Option, Some, None, refl, sym, ap, ◌∙◌, subst, arith, append_assoc, append-nil}
+use Rattle.std.proofs.Common.{◌≡◌, ℕ, zero, suc, ◌+◌, ◌^◌, ◌<◌, Bool, true, List, [], ◌∷◌, ◌++◌, length, get_or, take, filter, not, decimal, Option, Some, None, refl, sym, ap, ◌∙◌, subst, arith, append_assoc, append-nil}
+use Rattle.std.specs.Prelude.{bytes_eq}
+use Rattle.std.proofs.lemmas.Slice.Eq.{bytes_eq-Decides}
 use Rattle.std.specs.Char.{is_ascii_whitespace}
 use Rattle.std.specs.Int.{w16, to_le_bytes, from_le_bytes}
 use Rattle.std.specs.Io.KnownBytes.{Consumes}
 use Rattle.std.proofs.lemmas.List.Elements.{filter-append}
 use Rattle.zarr_cells.specs.Numbers.{number_in}
 use Rattle.zarr_cells.specs.Words.{with_others, all_numbers}
-use Rattle.zarr_cells.specs.Npy.{extents, without_blanks, magic, header_bytes, IsHeader}
+use Rattle.zarr_cells.specs.Npy.{extents, without_blanks, magic, header_bytes, IsHeader, ReadsHeader}
 
 -- ---- numbers
 
@@ -16,8 +18,8 @@ numbers_of (Some numbers) = numbers
 
 with_parts : (first : Option ℕ) (others : Option (List ℕ)) (numbers : List ℕ) → with_others first others ≡ Some numbers
     → (one : ℕ) × (more : List ℕ) × (first ≡ Some one) × (others ≡ Some more) × (numbers ≡ one ∷ more)
-with_parts None others numbers is = let no : None {T = List ℕ} ≡ Some numbers = is in absurd cc
-with_parts (Some one) None numbers is = let no : None {T = List ℕ} ≡ Some numbers = is in absurd cc
+with_parts None others numbers is = let no : None ≡ Some numbers = is in absurd cc
+with_parts (Some one) None numbers is = let no : None ≡ Some numbers = is in absurd cc
 with_parts (Some one) (Some others) numbers is = (one, others, refl, refl, sym (ap numbers_of is))
 
 pub numbers_push : (parts : List (List ℕ)) (part numbers : List ℕ) (number : ℕ) → all_numbers parts ≡ Some numbers → number_in part ≡ Some number
@@ -52,3 +54,14 @@ consumes_both None between new one other first second = tt
 consumes_both (Some xs) None new one other first second = absurd first
 consumes_both (Some xs) (Some ys) None one other first second = absurd second
 consumes_both (Some xs) (Some ys) (Some zs) one other first second = first ∙ ap (λ l. one ++ l) second ∙ sym (append_assoc one other zs)
+
+pub header_consumed : (old started told new : Option (List ℕ)) (size : ℕ) (text : List ℕ) → Consumes old started magic → Consumes started told (to_le_bytes w16 size) → length text ≡ size
+    → Consumes told new text → Consumes old new (header_bytes text)
+header_consumed old started told new size text first second is third =
+    consumes_both old started new magic (to_le_bytes w16 (length text) ++ text) first
+    (consumes_both started told new (to_le_bytes w16 (length text)) text (subst (λ n. Consumes started told (to_le_bytes w16 n)) (sym is) second) third)
+
+pub header_is : (says text : List ℕ) (old new : Option (List ℕ)) (same : Bool) → length text < 2 ^ 16 → Consumes old new (header_bytes text)
+    → same ≡ bytes_eq (without_blanks text) (without_blanks says) → same ≡ true → ReadsHeader says old new
+header_is says text old new same short read is holds =
+    record { bytes = header_bytes text; is = record { text = text; is = refl; short = short; same = (bytes_eq-Decides (without_blanks text) (without_blanks says)).0 (sym is ∙ holds) }; read = read }

@@ -1,5 +1,5 @@
 -- What words say, and what is written for bits.
-use Rattle.std.proofs.Common.{◌≡◌, ◌≢◌, ◌⊎◌, ℕ, zero, suc, ◌+◌, ◌-◌, ◌%◌, ◌^◌, ◌<◌, ◌≤◌, Bool, true, false, cond, eqb, ltb, leb, ◌&&◌, not, List, [], ◌∷◌, ◌++◌, length, get_or, take, drop, slice_range, replicate, Option, Some, None, Result, Ok, Err, IsOk, OnOk, decimal, codes, refl, sym, ap, ◌∙◌, subst, inl, inr, ⊎_elim, arith, rules, length-append, append_assoc, append-nil, option_map, option_and_then}
+use Rattle.std.proofs.Common.{◌≡◌, ◌≢◌, ◌⊎◌, ℕ, zero, suc, ◌+◌, ◌-◌, ◌*◌, ◌/◌, ◌%◌, ◌^◌, ◌<◌, ◌≤◌, Bool, true, false, cond, eqb, ltb, leb, ◌&&◌, not, List, [], ◌∷◌, ◌++◌, length, get_or, take, drop, slice_range, replicate, Option, Some, None, Result, Ok, Err, IsOk, OnOk, decimal, codes, refl, sym, ap, ◌∙◌, subst, inl, inr, ⊎_elim, arith, rules, length-append, append_assoc, append-nil, option_map, option_and_then}
 use Rattle.std.specs.Prelude.{⊤, slice_index, bytes_eq, nat_lt, nat_le, nat_eq}
 use Rattle.std.specs.Result.{result_ok, OkIff}
 use Rattle.std.specs.Int.{IsInRange}
@@ -111,7 +111,7 @@ appends_both (Some xs) None new one other first second = absurd first
 appends_both (Some xs) (Some ys) None one other first second = absurd second
 appends_both (Some xs) (Some ys) (Some zs) one other first second = second ∙ ap (λ l. l ++ other) first ∙ append_assoc xs one other
 
-pub negative_says : (n size : ℕ) (text : List ℕ) (old between new : Option (List ℕ)) → 2 ^ 63 ≤ n → n < 2 ^ 64 → size ≡ (2 ^ 64 - n) % 2 ^ 64 → text ≡ decimal size → Appends old between (45 ∷ []) → Appends between new text
+pub negative_says : (n size : ℕ) (text : List ℕ) (old between new : Option (List ℕ)) → 2 ^ 63 ≤ n → n < 2 ^ 64 → size ≡ 2 ^ 64 - 1 - n + 1 → text ≡ decimal size → Appends old between (45 ∷ []) → Appends between new text
     → WritesBits Signed n old new
 negative_says n size text old between new large small opposite is first second =
     let fits : size < 2 ^ 64 = omega arith in
@@ -168,9 +168,15 @@ numeric_text p formed =
 plain_numeric : (text : List ℕ) → IsPlainNumber text → AreNumeric text
 plain_numeric text plain = subst AreNumeric (sym plain.2) (numeric_sign plain.0 (text_of plain.1) (numeric_text plain.1 plain.3.well_formed))
 
+front_some : (one other : List ℕ) → 0 < length one → 0 < length (one ++ other)
+front_some one other some = omega (arith, length-append one other)
+
+behind_some : (one other : List ℕ) → 0 < length other → 0 < length (one ++ other)
+behind_some one other some = omega (arith, length-append one other)
+
 plain_some : (text : List ℕ) → IsPlainNumber text → 0 < length text
 plain_some text plain =
-    omega (arith, ap length plain.2, length-append (sign_text plain.0) (text_of plain.1), length-append plain.1.whole _, plain.3.whole)
+    subst (λ l. 0 < length l) (sym plain.2) (behind_some (sign_text plain.0) (text_of plain.1) (front_some plain.1.whole _ plain.3.whole))
 
 no_quote : (text : List ℕ) → AreNumeric text → eqb (get_or text 0 0) 34 ≡ false
 no_quote [] all = refl
@@ -221,7 +227,7 @@ hex_solid (byte ∷ bytes) all =
     let small : byte < 256 = all 0 in
     let high = high_at 16 (byte / 16) refl (omega arith) in
     let low = high_at 16 (byte % 16) refl (omega arith) in
-    (omega (arith, high), (λ is. omega (arith, high, is)), omega (arith, low), (λ is. omega (arith, low, is)), hex_solid bytes (λ i. all (suc i)))
+    (omega (arith, high), (λ is. omega (arith, high, is)), (omega (arith, low), (λ is. omega (arith, low, is)), hex_solid bytes (λ i. all (suc i))))
 
 solid_append : (one other : List ℕ) → AreSolid one → AreSolid other → AreSolid (one ++ other)
 solid_append [] other first second = second
@@ -252,13 +258,13 @@ bytes_at (byte ∷ bytes) all zero = all.0
 bytes_at (byte ∷ bytes) all (suc i) = bytes_at bytes all.1 i
 
 four_bytes : (bits : ℕ) → IsBytes (to_be_bytes w32 bits)
-four_bytes bits = bytes_at (to_be_bytes w32 bits) (omega arith, omega arith, omega arith, omega arith, tt)
+four_bytes bits = bytes_at (to_be_bytes w32 bits) (omega arith, (omega arith, (omega arith, (omega arith, tt))))
 
 eight_bytes : (bits : ℕ) → IsBytes (to_be_bytes w64 bits)
-eight_bytes bits = bytes_at (to_be_bytes w64 bits) (omega arith, omega arith, omega arith, omega arith, omega arith, omega arith, omega arith, omega arith, tt)
+eight_bytes bits = bytes_at (to_be_bytes w64 bits) (omega arith, (omega arith, (omega arith, (omega arith, (omega arith, (omega arith, (omega arith, (omega arith, tt))))))))
 
 hex_name_solid : (digits : List ℕ) → AreSolid digits → AreSolid (34 ∷ ((48 ∷ 120 ∷ digits) ++ 34 ∷ []))
-hex_name_solid digits solid = name_solid (48 ∷ 120 ∷ digits) (omega arith, (λ is. omega (arith, is)), omega arith, (λ is. omega (arith, is)), solid)
+hex_name_solid digits solid = name_solid (48 ∷ 120 ∷ digits) (omega arith, (λ is. omega (arith, is)), (omega arith, (λ is. omega (arith, is)), solid))
 
 pub four_says : (bits : ℕ) (digits bytes : List ℕ) (old new : Option (List ℕ)) → bits < 2 ^ 32 → bytes ≡ to_be_bytes w32 bits → digits ≡ encode_lower bytes
     → Appends old new (34 ∷ 48 ∷ 120 ∷ (digits ++ 34 ∷ [])) → WritesBits (Float Four) bits old new

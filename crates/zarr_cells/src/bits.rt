@@ -162,7 +162,7 @@ fn write_negative<W: Write>(out: &mut W, bits: u64) -> io::Result<()>
     ensures { OnOk result
         (WritesBits Form.Signed bits (W.contents out.old) (W.contents out.new)) }
 {
-    let size = bits.wrapping_neg();
+    let size = u64::MAX - bits + 1;
     out.write_all(b"-".as_slice())?;
     out.write_all(Buffer::new().format(size).as_bytes())
 }

@@ -2,7 +2,7 @@
 ghost use Rattle.std.specs.Prelude.{◌≡◌, ◌≤◌, ◌<◌, ◌++◌, ℕ, List, length, take, vec_items, MatchOption, OnOk, Some, None};
 ghost use Rattle.std.specs.Prelude.{if◌then◌else◌};
 ghost use Rattle.std.specs.Io.KnownBytes.{Appends};
-ghost use Rattle.zarr_cells.specs.Lines.{word_in, is_first, is_last, next, cell_at, ReadsCell, ReadsCells, WritesCell, WritesCells, opening, closed};
+ghost use Rattle.zarr_cells.specs.Lines.{trimmed, unclosed, unopened, word_in, is_first, is_last, next, cell_at, ReadsCell, ReadsCells, WritesCell, WritesCells, opening, closed};
 
 use crate::bits::{cell_bits, word_cell, write_bits};
 use crate::error::CellsError;
@@ -88,24 +88,58 @@ pub fn write_cells<W: Write>(out: &mut W, rows: &Rows, column: u64, bytes: &[u8]
     Ok(())
 }
 
+/// Returns the text without the blanks that it begins and ends with.
+fn trimmed(text: &[u8]) -> &[u8]
+    ensures { result.now ≡ trimmed text.now }
+{
+    text.trim_ascii()
+}
+
+/// Returns what stands before the byte that ends a cell's word.
+fn unclosed(text: &[u8], is_last: bool) -> Option<&[u8]>
+    ensures { MatchOption result (unclosed is_last text.now ≡ None)
+        (λ rest. unclosed is_last text.now ≡ Some rest.now) }
+{
+    if is_last {
+        match text {
+            [rest @ .., b']'] => Some(rest),
+            _ => None,
+        }
+    } else {
+        match text {
+            [rest @ .., b','] => Some(rest),
+            _ => None,
+        }
+    }
+}
+
+/// Returns what stands behind the bracket, if the cell is the first one of its row.
+fn unopened(text: &[u8], is_first: bool) -> Option<&[u8]>
+    ensures { MatchOption result (unopened is_first text.now ≡ None)
+        (λ rest. unopened is_first text.now ≡ Some rest.now) }
+{
+    if !is_first {
+        return Some(text);
+    }
+    match text {
+        [b'[', rest @ ..] => Some(rest),
+        _ => None,
+    }
+}
+
 /// Returns the word of a cell, in what is read for it.
 fn word_in(token: &[u8], is_first: bool, is_last: bool) -> Option<&[u8]>
     ensures { MatchOption result (word_in is_first is_last token.now ≡ None)
         (λ word. word_in is_first is_last token.now ≡ Some word.now) }
 {
-    let token = token.trim_ascii();
-    let (last, rest) = token.split_last()?;
-    if *last != (if is_last { b']' } else { b',' }) {
+    let token = trimmed(token);
+    let Some(rest) = unclosed(token, is_last) else {
         return None;
+    };
+    match unopened(rest, is_first) {
+        Some(word) => Some(trimmed(word)),
+        None => None,
     }
-    if !is_first {
-        return Some(rest.trim_ascii());
-    }
-    let (first, rest) = rest.split_first()?;
-    if *first != b'[' {
-        return None;
-    }
-    Some(rest.trim_ascii())
 }
 
 /// Returns eight bytes, of which the first ones are the cell in this column that is read.

@@ -1,13 +1,14 @@
 //! Numpy's format: a header that says the type and the shape, and then the cells.
-ghost use Rattle.std.specs.Prelude.{◌≡◌, ℕ, List, [], ◌∷◌, ◌++◌, IfOk, OnOk, Some, None};
+ghost use Rattle.std.specs.Prelude.{◌≡◌, ◌<◌, ◌^◌, length, bytes_eq, IfOk, OnOk};
+ghost use Rattle.std.specs.Int.{w16, to_le_bytes};
 ghost use Rattle.std.specs.Io.KnownBytes.{Consumes};
-ghost use Rattle.zarr_cells.specs.Npy.{letter, order, extents, tuple, description, without_blanks, header_bytes, IsHeader, ReadsHeader};
+ghost use Rattle.zarr_cells.specs.Npy.{letter, order, extents, tuple, description, without_blanks, magic, header_bytes, IsHeader, ReadsHeader};
 
 use crate::error::CellsError;
 use crate::form::Form;
 use itoa::Buffer;
 use std::alloc::{AllocError, Global};
-use std::io::Read;
+use std::io::{self, Read};
 use std::str;
 
 /// What a file of this format begins with, up to the length of the header: version 1.0.
@@ -37,6 +38,7 @@ fn order(form: Option<Form>, size: usize) -> u8
 }
 
 /// Returns the extents, each with the comma behind it.
+#[tactic(auto, using(crate::proofs::ListLemmas::extents_push))]
 fn extents(alloc: Global, shape: &[u64]) -> Result<Vec<u8>, AllocError>
     ensures { IfOk result (λ text. text.items ≡ extents shape.now) }
 {
@@ -80,6 +82,7 @@ fn description(
 }
 
 /// Adds blanks, so that a header with this text is a multiple of 64 bytes.
+#[tactic(auto, using(crate::proofs::ListLemmas::blank_behind))]
 fn padded(text: Vec<u8>) -> Result<Vec<u8>, AllocError>
     ensures { IfOk result (λ made. without_blanks made.items ≡ without_blanks text.items) }
 {
@@ -123,24 +126,64 @@ fn without_blanks(alloc: Global, text: &[u8]) -> Result<Vec<u8>, AllocError>
         .collect(alloc)
 }
 
+/// Reads the length of a header's text.
+fn read_length<R: Read>(input: &mut R) -> io::Result<u16>
+    ensures { IfOk result (λ length.
+        Consumes (R.remaining input.old) (R.remaining input.new) (to_le_bytes w16 length)) }
+{
+    let mut bytes = [0u8; 2];
+    input.read_exact(&mut bytes)?;
+    Ok(u16::from_le_bytes(bytes))
+}
+
+/// Reads so many bytes.
+fn read_bytes<R: Read>(alloc: Global, input: &mut R, size: usize) -> Result<Vec<u8>, CellsError>
+    ensures { IfOk result (λ bytes. (length bytes.items ≡ size)
+        × Consumes (R.remaining input.old) (R.remaining input.new) bytes.items) }
+{
+    let mut bytes = vec![in alloc; 0u8; size]?;
+    input.read_exact(&mut bytes)?;
+    Ok(bytes)
+}
+
+/// Reads what a file of this format begins with.
+///
+/// # Errors
+/// The input begins with something else; what the reader says.
+fn read_magic<R: Read>(alloc: Global, input: &mut R) -> Result<(), CellsError>
+    ensures { OnOk result (Consumes (R.remaining input.old) (R.remaining input.new) magic) }
+{
+    let mut bytes = [0u8; 8];
+    input.read_exact(&mut bytes)?;
+    if bytes == MAGIC {
+        return Ok(());
+    }
+    Err(CellsError::said(alloc, "the input is no file of numpy's format, version 1.0"))
+}
+
 /// Reads the text of a header.
 ///
 /// # Errors
 /// The input has no such header; what the reader says; out of memory.
+#[tactic(auto, using(crate::proofs::ListLemmas::header_consumed))]
 fn read_text<R: Read>(alloc: Global, input: &mut R) -> Result<Vec<u8>, CellsError>
-    ensures { IfOk result (λ text.
-        Consumes (R.remaining input.old) (R.remaining input.new) (header_bytes text.items)) }
+    ensures { IfOk result (λ text. (length text.items < 2 ^ 16)
+        × Consumes (R.remaining input.old) (R.remaining input.new) (header_bytes text.items)) }
 {
-    let mut magic = [0u8; 8];
-    input.read_exact(&mut magic)?;
-    if magic != MAGIC {
-        return Err(CellsError::said(alloc, "the input is no file of numpy's format, version 1.0"));
-    }
-    let mut length = [0u8; 2];
-    input.read_exact(&mut length)?;
-    let mut text = vec![in alloc; 0u8; usize::from(u16::from_le_bytes(length))]?;
-    input.read_exact(&mut text)?;
+    read_magic(alloc, input)?;
+    let length = read_length(input)?;
+    let text = read_bytes(alloc, input, usize::from(length))?;
     Ok(text)
+}
+
+/// Returns whether two texts are the same but for blanks.
+fn is_same(alloc: Global, text: &[u8], other: &[u8]) -> Result<bool, AllocError>
+    ensures { IfOk result (λ same.
+        same ≡ bytes_eq (without_blanks text.now) (without_blanks other.now)) }
+{
+    let text = without_blanks(alloc, text)?;
+    let other = without_blanks(alloc, other)?;
+    Ok(text.as_slice() == other.as_slice())
 }
 
 /// Returns why the header is refused.
@@ -170,6 +213,7 @@ fn other_header(alloc: Global, text: &[u8], expected: &[u8]) -> CellsError {
 ///
 /// # Errors
 /// It says another type or shape, big endian or Fortran's order, or is no such header.
+#[tactic(auto, using(crate::proofs::ListLemmas::header_is))]
 pub fn read_header<R: Read>(
     alloc: Global,
     input: &mut R,
@@ -182,7 +226,7 @@ pub fn read_header<R: Read>(
 {
     let expected = description(alloc, form, size, shape)?;
     let text = read_text(alloc, input)?;
-    if without_blanks(alloc, &text)? == without_blanks(alloc, &expected)? {
+    if is_same(alloc, &text, &expected)? {
         return Ok(());
     }
     Err(other_header(alloc, &text, &expected))

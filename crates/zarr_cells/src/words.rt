@@ -27,6 +27,7 @@ fn part_number(alloc: Global, part: &str) -> Result<u64, CellsError>
 }
 
 /// Returns the numbers that the parts say.
+#[tactic(auto, using(crate::proofs::ListLemmas::numbers_push))]
 fn part_numbers(alloc: Global, parts: &[&str]) -> Result<Vec<u64>, CellsError>
     ensures { IfOk result (λ found.
         all_numbers (map (λ part. part.now) parts.now) ≡ Some found.items) }

@@ -13,5 +13,5 @@ returns g c =
     let fits : 16 ≡ 2 * length bytes = omega (arith, size) in
     let encoded : c.encode_to_slice.new.output ≡ encode_lower bytes = at_ok c.encode_to_slice.result (c.encode_to_slice.ensures.fits.1 fits) c.encode_to_slice.ensures.written in
     on_ok_weaker c.write_digits.result
-    (λ written. eight_says c.args.bits c.as_slice-2.result.now bytes _ _ c.ranges.bits.fits are (c.as_slice-2.ensures ∙ encoded) written)
+    (λ written. eight_says c.args.bits c.as_slice-2.result.now bytes (g.W.Write.contents c.args.out.now) (g.W.Write.contents c.write_digits.new.out) c.ranges.bits.fits are (c.as_slice-2.ensures ∙ encoded) written)
     c.write_digits.ensures

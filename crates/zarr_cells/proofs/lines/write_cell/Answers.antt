@@ -15,7 +15,7 @@ returns g c =
     let small : IsBytes cell = λ i. let fits = c.type_inv.cell i in omega arith in
     on_ok_weaker c.write_closing.result
     (λ third.
-    cell_written rows.form (length cell) rows.width c.args.column said.word cell _ _ _ _ said.solid
+    cell_written rows.form (length cell) rows.width c.args.column said.word cell (g.W.Write.contents c.args.out.now) (g.W.Write.contents c.write_opening.new.out) (g.W.Write.contents c.write_bits.new.out) (g.W.Write.contents c.write_closing.new.out) said.solid
     (cell_says rows.form said.word cell c.cell_bits.result c.requires small c.cell_bits.ensures said.says)
-    c.in_ok-write_opening.ensures said.written (subst (λ b. Appends _ _ (closed b)) c.is_last.ensures third))
+    c.in_ok-write_opening.ensures said.written (subst (λ b. Appends (g.W.Write.contents c.write_bits.new.out) (g.W.Write.contents c.write_closing.new.out) (closed b)) c.is_last.ensures third))
     c.write_closing.ensures
