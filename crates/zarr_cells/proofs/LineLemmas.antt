@@ -1,5 +1,5 @@
 -- Cells that are read from the lines that were written of them.
-use Rattle.std.proofs.Common.{◌≡◌, ◌≢◌, ℕ, zero, suc, ◌+◌, ◌-◌, ◌<◌, ◌≤◌, Bool, true, false, cond, eqb, ltb, leb, ◌&&◌, List, [], ◌∷◌, ◌++◌, length, get_or, take, drop, Option, Some, None, refl, sym, ap, ◌∙◌, subst, arith, length-append, append_assoc, append-nil, eq-eqb}
+use Rattle.std.proofs.Common.{◌≡◌, ◌≢◌, ℕ, zero, suc, ◌+◌, ◌-◌, ◌<◌, ◌≤◌, Bool, true, false, cond, eqb, ltb, leb, ◌&&◌, List, [], ◌∷◌, ◌++◌, length, get_or, take, drop, Option, Some, None, option_map, option_and_then, refl, sym, ap, ◌∙◌, subst, arith, length-append, append_assoc, append-nil, eq-eqb}
 use Rattle.std.specs.Prelude.{⊤, slice_index}
 use Rattle.std.specs.Str.{IsTrimAscii}
 use Rattle.std.specs.Char.{is_ascii_whitespace}
@@ -105,6 +105,25 @@ word_back : (first last : Bool) (word : List ℕ) → AreSolid word → word_in 
 word_back first last word solid =
     rw (trim_token last (opening first ++ word) (solid_tight (opening first ++ word) (opened_solid first word solid)), unclosed_is last (opening first ++ word), unopened_is first word)
     (ap Some (trim_tight word (solid_tight word solid)))
+
+-- ---- the word of a cell, part by part
+
+abbrev word_of : Bool → Bool → List ℕ → Option (List ℕ)
+word_of first last token = option_map trimmed (option_and_then (unopened first) (unclosed last token))
+
+pub word_unclosed : (first last : Bool) (text token : List ℕ) → token ≡ trimmed text → unclosed last token ≡ None → word_in first last text ≡ None
+word_unclosed first last text token is none = ap (word_of first last) (sym is) ∙ ap (λ o. option_map trimmed (option_and_then (unopened first) o)) none
+
+pub word_unopened : (first last : Bool) (text token rest : List ℕ) → token ≡ trimmed text → unclosed last token ≡ Some rest → unopened first rest ≡ None
+    → word_in first last text ≡ None
+word_unopened first last text token rest is some none =
+    ap (word_of first last) (sym is) ∙ ap (λ o. option_map trimmed (option_and_then (unopened first) o)) some ∙ ap (option_map trimmed) none
+
+pub word_found : (first last : Bool) (text token rest word found : List ℕ) → token ≡ trimmed text → unclosed last token ≡ Some rest → unopened first rest ≡ Some word
+    → found ≡ trimmed word → word_in first last text ≡ Some found
+word_found first last text token rest word found is some opens found_is =
+    ap (word_of first last) (sym is) ∙ ap (λ o. option_map trimmed (option_and_then (unopened first) o)) some ∙ ap (option_map trimmed) opens
+    ∙ ap Some (sym found_is)
 
 -- ---- what is read for a cell
 

@@ -1,33 +1,24 @@
 -- Lists that a loop makes, item by item.
-use Rattle.std.proofs.Common.{◌≡◌, ℕ, zero, suc, ◌+◌, ◌^◌, ◌<◌, Bool, true, List, [], ◌∷◌, ◌++◌, length, get_or, take, filter, not, decimal, Option, Some, None, refl, sym, ap, ◌∙◌, subst, arith, append_assoc, append-nil}
+use Rattle.std.proofs.Common.{◌≡◌, ℕ, zero, suc, ◌+◌, ◌^◌, ◌<◌, Bool, true, List, [], ◌∷◌, ◌++◌, length, get_or, take, map, filter, not, decimal, Option, Some, None, refl, sym, ap, ◌∙◌, subst, arith, append_assoc, append-nil}
 use Rattle.std.specs.Prelude.{bytes_eq}
+use Rattle.std.specs.Borrow.{Bor}
 use Rattle.std.proofs.lemmas.Slice.Eq.{bytes_eq-Decides}
 use Rattle.std.specs.Char.{is_ascii_whitespace}
 use Rattle.std.specs.Int.{w16, to_le_bytes, from_le_bytes}
 use Rattle.std.specs.Io.KnownBytes.{Consumes}
 use Rattle.std.proofs.lemmas.List.Elements.{filter-append}
 use Rattle.zarr_cells.specs.Numbers.{number_in}
-use Rattle.zarr_cells.specs.Words.{with_others, all_numbers}
 use Rattle.zarr_cells.specs.Npy.{extents, without_blanks, magic, header_bytes, IsHeader, ReadsHeader}
 
 -- ---- numbers
 
-abbrev numbers_of : Option (List ℕ) → List ℕ
-numbers_of None = []
-numbers_of (Some numbers) = numbers
-
-with_parts : (first : Option ℕ) (others : Option (List ℕ)) (numbers : List ℕ) → with_others first others ≡ Some numbers
-    → (one : ℕ) × (more : List ℕ) × (first ≡ Some one) × (others ≡ Some more) × (numbers ≡ one ∷ more)
-with_parts None others numbers is = let no : None ≡ Some numbers = is in absurd cc
-with_parts (Some one) None numbers is = let no : None ≡ Some numbers = is in absurd cc
-with_parts (Some one) (Some others) numbers is = (one, others, refl, refl, sym (ap numbers_of is))
-
-pub numbers_push : (parts : List (List ℕ)) (part numbers : List ℕ) (number : ℕ) → all_numbers parts ≡ Some numbers → number_in part ≡ Some number
-    → all_numbers (parts ++ part ∷ []) ≡ Some (numbers ++ number ∷ [])
-numbers_push [] part numbers number is says = rw says (ap (λ l. Some (l ++ number ∷ [])) (ap numbers_of is))
-numbers_push (first ∷ parts) part numbers number is says =
-    let split = with_parts (number_in first) (all_numbers parts) numbers is in
-    rw (split.2, numbers_push parts part split.1 number split.3 says) (ap (λ l. Some (l ++ number ∷ [])) (sym split.4))
+pub parts_said : (parts : List (Bor (List ℕ))) (words : List (List ℕ)) (numbers : List ℕ) → map (λ (part : Bor (List ℕ)). part.now) parts ≡ words
+    → map (λ n. Some n) numbers ≡ map (λ (part : Bor (List ℕ)). number_in part.now) parts → map (λ n. Some n) numbers ≡ map number_in words
+parts_said parts words numbers are says = says ∙ fused parts ∙ ap (map number_in) are
+  where
+    fused : (l : List (Bor (List ℕ))) → map (λ (part : Bor (List ℕ)). number_in part.now) l ≡ map number_in (map (λ (part : Bor (List ℕ)). part.now) l)
+    fused [] = refl
+    fused (part ∷ l) = ap (λ r. number_in part.now ∷ r) (fused l)
 
 -- ---- extents
 

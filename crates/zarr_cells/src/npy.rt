@@ -126,6 +126,14 @@ fn without_blanks(alloc: Global, text: &[u8]) -> Result<Vec<u8>, AllocError>
         .collect(alloc)
 }
 
+/// Returns the number that two bytes say.
+fn length_in(bytes: &[u8]) -> u16
+    requires { length bytes.now ≡ 2 }
+    ensures { to_le_bytes w16 result ≡ bytes.now }
+{
+    u16::from_le_bytes([bytes[0], bytes[1]])
+}
+
 /// Reads the length of a header's text.
 fn read_length<R: Read>(input: &mut R) -> io::Result<u16>
     ensures { IfOk result (λ length.
@@ -133,7 +141,7 @@ fn read_length<R: Read>(input: &mut R) -> io::Result<u16>
 {
     let mut bytes = [0u8; 2];
     input.read_exact(&mut bytes)?;
-    Ok(u16::from_le_bytes(bytes))
+    Ok(length_in(bytes.as_slice()))
 }
 
 /// Reads so many bytes.

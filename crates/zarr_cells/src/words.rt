@@ -2,7 +2,7 @@
 ghost use Rattle.std.specs.Prelude.{◌≡◌, map, IfOk, Some};
 ghost use Rattle.zarrs_subset.specs.Regions.{box_of};
 ghost use Rattle.zarr_cells.specs.Numbers.{number_in};
-ghost use Rattle.zarr_cells.specs.Words.{parts_between, all_numbers, numbers_in};
+ghost use Rattle.zarr_cells.specs.Words.{parts_between, SaysNumbers};
 
 use crate::bits::number;
 use crate::error::CellsError;
@@ -27,14 +27,15 @@ fn part_number(alloc: Global, part: &str) -> Result<u64, CellsError>
 }
 
 /// Returns the numbers that the parts say.
-#[tactic(auto, using(crate::proofs::ListLemmas::numbers_push))]
 fn part_numbers(alloc: Global, parts: &[&str]) -> Result<Vec<u64>, CellsError>
     ensures { IfOk result (λ found.
-        all_numbers (map (λ part. part.now) parts.now) ≡ Some found.items) }
+        map (λ number. Some number) found.items
+        ≡ map (λ part. number_in part.now) parts.now) }
 {
     let mut found = Vec::new(alloc);
     for part in parts {
-        found.push(part_number(alloc, part)?)?;
+        let number = part_number(alloc, part)?;
+        found.push(number)?;
     }
     Ok(found)
 }
@@ -43,8 +44,9 @@ fn part_numbers(alloc: Global, parts: &[&str]) -> Result<Vec<u64>, CellsError>
 ///
 /// # Errors
 /// A part of it is no number below 2^64; out of memory.
+#[tactic(auto, using(crate::proofs::ListLemmas::parts_said))]
 pub fn numbers(alloc: Global, word: &str) -> Result<Vec<u64>, CellsError>
-    ensures { IfOk result (λ found. numbers_in word.now ≡ Some found.items) }
+    ensures { IfOk result (λ found. SaysNumbers word.now found.items) }
 {
     if word == "-" {
         return Ok(Vec::new(alloc));
@@ -58,8 +60,8 @@ pub fn numbers(alloc: Global, word: &str) -> Result<Vec<u64>, CellsError>
 /// # Errors
 /// As `numbers`; lists of different lengths; an end past 2^64.
 pub fn region(alloc: Global, start: &str, shape: &str) -> Result<ArraySubset, CellsError>
-    ensures start { IfOk result (λ region. numbers_in start.now ≡ Some (box_of region).start) }
-    ensures shape { IfOk result (λ region. numbers_in shape.now ≡ Some (box_of region).shape) }
+    ensures start { IfOk result (λ region. SaysNumbers start.now (box_of region).start) }
+    ensures shape { IfOk result (λ region. SaysNumbers shape.now (box_of region).shape) }
 {
     let start = numbers(alloc, start)?;
     let shape = numbers(alloc, shape)?;
