@@ -192,10 +192,13 @@ abbrev left_of : Option (List ℕ × List ℕ) → List ℕ
 left_of None = []
 left_of (Some parts) = parts.1
 
+abbrev nothing : Option (List ℕ × List ℕ)
+nothing = None
+
 joined_parts : (cell : Option (List ℕ)) (others : Option (List ℕ × List ℕ)) (cells left : List ℕ) → joined cell others ≡ Some (cells, left)
     → (one : List ℕ) × (more : List ℕ) × (cell ≡ Some one) × (others ≡ Some (more, left)) × (cells ≡ one ++ more)
-joined_parts None others cells left is = let no : None ≡ Some (cells, left) = is in absurd cc
-joined_parts (Some one) None cells left is = let no : None ≡ Some (cells, left) = is in absurd cc
+joined_parts None others cells left is = let no : nothing ≡ Some (cells, left) = is in absurd cc
+joined_parts (Some one) None cells left is = let no : nothing ≡ Some (cells, left) = is in absurd cc
 joined_parts (Some one) (Some others) cells left is = (one, others.0, refl, ap (λ l. Some (others.0, l)) (ap left_of is), sym (ap cells_of is))
 
 module _ (form : Form) (size width : ℕ) where
