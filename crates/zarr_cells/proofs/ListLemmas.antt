@@ -1,14 +1,14 @@
 -- Lists that a loop makes, item by item.
-use Rattle.std.proofs.Common.{◌≡◌, ℕ, zero, suc, ◌+◌, ◌^◌, ◌<◌, Bool, true, List, [], ◌∷◌, ◌++◌, length, get_or, take, map, filter, not, decimal, Option, Some, None, refl, sym, ap, ◌∙◌, subst, arith, append_assoc, append-nil}
+use Rattle.std.proofs.Common.{◌≡◌, ℕ, ◌^◌, ◌<◌, Bool, true, List, [], ◌∷◌, ◌++◌, length, map, not, decimal, Option, Some, None, refl, sym, ap, ◌∙◌, subst, append_assoc, append-nil}
 use Rattle.std.specs.Prelude.{bytes_eq}
 use Rattle.std.specs.Borrow.{Bor}
 use Rattle.std.proofs.lemmas.Slice.Eq.{bytes_eq-Decides}
 use Rattle.std.specs.Char.{is_ascii_whitespace}
-use Rattle.std.specs.Int.{w16, to_le_bytes, from_le_bytes}
+use Rattle.std.specs.Int.{w16, to_le_bytes}
 use Rattle.std.specs.Io.KnownBytes.{Consumes}
 use Rattle.std.proofs.lemmas.List.Elements.{filter-append}
 use Rattle.zarr_cells.specs.Numbers.{number_in}
-use Rattle.zarr_cells.specs.Npy.{extents, without_blanks, magic, header_bytes, IsHeader, ReadsHeader}
+use Rattle.zarr_cells.specs.Npy.{extents, without_blanks, magic, header_bytes, ReadsHeader}
 
 -- ---- numbers
 

@@ -1,33 +1,33 @@
 -- What words say, and what is written for bits.
-use Rattle.std.proofs.Common.{◌≡◌, ◌≢◌, ◌⊎◌, ℕ, zero, suc, ◌+◌, ◌-◌, ◌*◌, ◌/◌, ◌%◌, ◌^◌, ◌<◌, ◌≤◌, Bool, true, false, cond, eqb, ltb, leb, ◌&&◌, not, List, [], ◌∷◌, ◌++◌, length, get_or, take, drop, slice_range, replicate, Option, Some, None, Result, Ok, Err, IsOk, OnOk, decimal, codes, refl, sym, ap, ◌∙◌, subst, inl, inr, ⊎_elim, arith, rules, length-append, append_assoc, append-nil, option_map, option_and_then}
-use Rattle.std.specs.Prelude.{⊤, slice_index, bytes_eq, nat_lt, nat_le, nat_eq}
+use Rattle.std.proofs.Common.{◌≡◌, ◌≢◌, ℕ, zero, suc, ◌+◌, ◌-◌, ◌*◌, ◌/◌, ◌%◌, ◌^◌, ◌<◌, ◌≤◌, Bool, true, false, cond, eqb, ltb, leb, ◌&&◌, List, [], ◌∷◌, ◌++◌, length, get_or, take, replicate, Option, Some, None, Result, Ok, Err, IsOk, OnOk, decimal, refl, sym, ap, ◌∙◌, subst, inl, inr, arith, length-append, append_assoc}
+use Rattle.std.specs.Prelude.{⊤, slice_index, bytes_eq}
 use Rattle.std.specs.Result.{result_ok, OkIff}
 use Rattle.std.specs.Int.{IsInRange}
 use Rattle.std.specs.Str.{all_ascii_digits}
-use Rattle.std.specs.Str.Parse.{AllDigits, IsNumeral, ParsesUnsigned, digits_value, without_leading_plus}
+use Rattle.std.specs.Str.Parse.{AllDigits, ParsesUnsigned, digits_value}
 use Rattle.std.specs.Io.KnownBytes.{Appends}
-use Rattle.std.proofs.lemmas.Bool.{true≢false, lt-ltb, ltb-true, le-leb, lt-leb, ne_eqb, eqb-false, and_parts, cases_lt}
+use Rattle.std.proofs.lemmas.Bool.{true≢false, lt-ltb, ltb-true, le-leb, ne_eqb, eqb-false, and_parts, cases_lt}
 use Rattle.std.proofs.lemmas.Str.Parse.{tells_digits, tells_all_ascii_digits, numerals_by_value, parse_plain, digit_at}
 use Rattle.std.proofs.lemmas.Slice.Eq.{bytes_eq-Decides}
 use Rattle.std.proofs.lemmas.Nat.{le_bytes_8, from_be_bytes-to_be_bytes_4, from_be_bytes-to_be_bytes_8}
 use Rattle.std.proofs.lemmas.List.{get_or_append_left, length-replicate}
 use Rattle.std.proofs.Math.Seq.{take-append_seam, get_or-append_seam, get_or-append_right}
 use Rattle.std.specs.Int.{w32, w64, to_le_bytes, to_be_bytes, from_le_bytes, from_be_bytes}
-use Rattle.std.specs.Float.{binary32, binary64, float_is_finite, NotNan}
-use Rattle.std.specs.Float.Ieee.{Format, to_bits, of_bits, is_nan, top}
+use Rattle.std.specs.Float.{float_is_finite, NotNan}
+use Rattle.std.specs.Float.Ieee.{of_bits, top}
 use Rattle.std.specs.Float.Numeral.{Parts, exponent_text, text_of, IsWellFormed}
 use Rattle.std.specs.Fmt.{sign_text}
 use Rattle.fast_float.specs.Parse.{parse_float}
-use Rattle.ryu.specs.Plain.{IsPlain, IsPlainNumber}
+use Rattle.ryu.specs.Plain.{IsPlainNumber}
 use Rattle.hex.specs.Hex.{IsBytes, encode_lower, encode_with, lower_digits, decode_sized}
-use Rattle.hex.proofs.HexLemmas.{decode_sized-encode_lower, length-encode_with}
+use Rattle.hex.proofs.HexLemmas.{decode_sized-encode_lower}
 use lib.Ieee.Bits.{to_bits-of_bits}
 use Rattle.std.proofs.lemmas.Fmt.{decimal_is_IsNumeral, digits_decimal}
 use Rattle.zarr_cells.specs.declared.form.Form.{Form}
-use Rattle.zarr_cells.specs.declared.form.Form.TheVariants.{Bool as BoolForm, Unsigned, Signed, Float}
+use Rattle.zarr_cells.specs.declared.form.Form.TheVariants.{Unsigned, Signed, Float}
 use Rattle.zarr_cells.specs.declared.form.Width.{Width}
 use Rattle.zarr_cells.specs.declared.form.Width.TheVariants.{Four, Eight}
-use Rattle.zarr_cells.specs.Numbers.{number_in, negative_in, signed_in, bits_in, float_in, name_in, unquoted, format_of, widened, sign_byte, is_below_zero, cell_of, cell_in, AreSolid, WritesBits}
+use Rattle.zarr_cells.specs.Numbers.{number_in, bits_in, float_in, name_in, unquoted, format_of, widened, sign_byte, is_below_zero, cell_in, AreSolid, WritesBits}
 
 -- ---- numbers
 

@@ -1,5 +1,5 @@
 -- Cells as text: a JSON list for each row, on a line of its own.
-use Rattle.std.specs.Prelude.{◌==◌, ◌&&◌, ℕ, zero, suc, ◌+◌, ◌-◌, List, [], ◌∷◌, ◌++◌, Option, Some, None, Bool, true, length, take, drop, slice_index, nat_lt, nat_le, if◌then◌else◌, option_and_then, option_map, IfSome, ◌≡◌}
+use Rattle.std.specs.Prelude.{◌==◌, ◌&&◌, ℕ, zero, suc, ◌+◌, ◌-◌, List, [], ◌∷◌, ◌++◌, Option, Some, None, Bool, length, take, drop, slice_index, nat_lt, nat_le, if◌then◌else◌, option_and_then, option_map, IfSome, ◌≡◌}
 use Rattle.std.specs.List.{prefix_len, suffix_len}
 use Rattle.std.specs.Char.{is_ascii_whitespace}
 use Rattle.std.specs.Io.KnownBytes.{Appends}

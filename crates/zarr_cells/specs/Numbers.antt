@@ -1,5 +1,5 @@
 -- What words say as cells: the bits of a number, and the bytes of these.
-use Rattle.std.specs.Prelude.{◌≡◌, ◌≢◌, ◌<◌, ⊤, ◌==◌, ◌&&◌, ℕ, ◌+◌, ◌-◌, ◌*◌, ◌%◌, ◌^◌, List, [], ◌∷◌, ◌++◌, Option, Some, None, Result, Ok, Err, Bool, false, length, take, drop, replicate, slice_index, slice_range, nat_lt, nat_le, bytes_eq, codes, to_bits, if◌then◌else◌, option_and_then}
+use Rattle.std.specs.Prelude.{◌≡◌, ◌≢◌, ◌<◌, ⊤, ◌==◌, ◌&&◌, ℕ, ◌-◌, ◌%◌, ◌^◌, List, [], ◌∷◌, ◌++◌, Option, Some, None, Result, Ok, Err, Bool, false, length, take, drop, replicate, slice_index, slice_range, nat_lt, nat_le, bytes_eq, codes, to_bits, if◌then◌else◌, option_and_then}
 use Rattle.std.specs.Io.KnownBytes.{Appends}
 use Rattle.std.specs.Str.{all_ascii_digits}
 use Rattle.std.specs.Str.Parse.{digits_value}
