@@ -1,0 +1,4 @@
+pub mod LineLemmas
+pub mod ListLemmas
+pub mod RowLemmas
+pub mod WordLemmas

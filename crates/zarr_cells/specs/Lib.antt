@@ -1,0 +1,5 @@
+pub mod Lines
+pub mod Npy
+pub mod Numbers
+pub mod Raw
+pub mod Words

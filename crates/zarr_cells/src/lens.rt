@@ -1,0 +1,168 @@
+//! What the array layer sees of a foreign document: one that it reads, and whose cells are the same bytes.
+use crate::error::CellsError;
+use crate::floats::value_bits;
+use crate::form::Width;
+use serde_json::{Map, Number, Value};
+use std::alloc::Global;
+use zarrs_metadata::holds_float;
+
+/// How what is seen differs from what is stored.
+#[derive(Clone, Copy, Debug)]
+pub struct Lens {
+    /// The cells are floats, of which the bits are seen.
+    pub floats: Option<Width>,
+    /// Attributes, or the name of the data type, are not seen as they are.
+    pub is_partial: bool,
+    /// The fill value is null: cells that were not stored may be any.
+    pub has_no_fill: bool,
+}
+
+/// The lens that shows each document as it is.
+pub const CLEAR: Lens = Lens {
+    floats: None,
+    is_partial: false,
+    has_no_fill: false,
+};
+
+impl Lens {
+    /// Returns whether a document is seen as it is, so that it may be written back.
+    pub fn is_clear(&self) -> bool {
+        self.floats.is_none() && !self.is_partial
+    }
+}
+
+/// Returns the V2 name of cells of the same bytes that the layer knows, and of what floats they are the bits.
+fn seen_v2(dtype: &str) -> Option<(&'static str, Option<Width>)> {
+    match dtype {
+        "<i1" | ">i1" => Some(("|i1", None)),
+        "<u1" | ">u1" => Some(("|u1", None)),
+        "<b1" | ">b1" => Some(("|b1", None)),
+        "<f4" => Some(("<u4", Some(Width::Four))),
+        ">f4" => Some((">u4", Some(Width::Four))),
+        "<f8" => Some(("<u8", Some(Width::Eight))),
+        ">f8" => Some((">u8", Some(Width::Eight))),
+        _ => None,
+    }
+}
+
+/// Returns the V3 name of cells of the same bytes that the layer knows, and of what floats they are the bits.
+fn seen_v3(data_type: &str) -> Option<(&'static str, Option<Width>)> {
+    match data_type {
+        "float32" => Some(("uint32", Some(Width::Four))),
+        "float64" => Some(("uint64", Some(Width::Eight))),
+        _ => None,
+    }
+}
+
+/// Puts the name that is seen in the place of the one at this member, if there is such a name.
+fn see_name(
+    alloc: Global,
+    members: &mut Map<String, Value>,
+    name: &str,
+    seen: Option<(&'static str, Option<Width>)>,
+    lens: &mut Lens,
+) -> Result<(), CellsError> {
+    if let Some((text, floats)) = seen {
+        lens.is_partial = true;
+        lens.floats = floats;
+        serde_json::put(members, alloc, name, Value::try_from_str(alloc, text)?)?;
+    }
+    Ok(())
+}
+
+/// Puts the bits of the fill value in its place; those of null are 0.
+fn see_fill(
+    alloc: Global,
+    members: &mut Map<String, Value>,
+    width: Width,
+) -> Result<(), CellsError> {
+    let bits = match members.get("fill_value") {
+        Some(Value::Null) => Some(0),
+        Some(fill) => value_bits(width, fill),
+        None => None,
+    };
+    if let Some(bits) = bits {
+        let bits = Value::Number(Number::from(bits));
+        serde_json::put(members, alloc, "fill_value", bits)?;
+    }
+    Ok(())
+}
+
+/// Returns the text at this member.
+fn text_at<'m>(members: &'m Map<String, Value>, name: &str) -> Option<&'m str> {
+    members.get(name).and_then(Value::as_str)
+}
+
+/// Takes the attributes away, if a float is among them.
+fn hide_attributes(members: &mut Map<String, Value>, lens: &mut Lens) {
+    let has_floats = match members.get("attributes") {
+        Some(attributes) => holds_float(attributes),
+        None => false,
+    };
+    if has_floats {
+        lens.is_partial = true;
+        drop(members.remove("attributes"));
+    }
+}
+
+/// Shows the members of a V3 document as the layer reads them.
+fn see_v3(
+    alloc: Global,
+    members: &mut Map<String, Value>,
+    lens: &mut Lens,
+) -> Result<(), CellsError> {
+    hide_attributes(members, lens);
+    let name = text_at(members, "data_type").and_then(|name| seen_v3(name));
+    see_name(alloc, members, "data_type", name, lens)?;
+    if let Some(width) = lens.floats {
+        see_fill(alloc, members, width)?;
+    }
+    Ok(())
+}
+
+/// Shows the members of a V2 document as the layer reads them.
+fn see_v2(
+    alloc: Global,
+    members: &mut Map<String, Value>,
+    lens: &mut Lens,
+) -> Result<(), CellsError> {
+    lens.has_no_fill = matches!(members.get("fill_value"), Some(Value::Null));
+    let name = text_at(members, "dtype").and_then(|name| seen_v2(name));
+    see_name(alloc, members, "dtype", name, lens)?;
+    if let Some(width) = lens.floats {
+        see_fill(alloc, members, width)?;
+    }
+    Ok(())
+}
+
+/// Returns the document that is seen in place of the one at a metadata key, `None` for none. It is the same where the
+/// layer reads it. Of an array that has a `zarr.json` no other document is to be looked at.
+pub fn seen(
+    alloc: Global,
+    name: &str,
+    bytes: &[u8],
+    lens: &mut Lens,
+) -> Result<Option<Vec<u8>>, CellsError> {
+    let Ok(mut value) = Value::from_slice(alloc, bytes) else {
+        return Ok(Some(bytes.to_vec(alloc)?));
+    };
+    if name == ".zattrs" {
+        if holds_float(&value) {
+            lens.is_partial = true;
+            return Ok(None);
+        }
+        return Ok(Some(bytes.to_vec(alloc)?));
+    }
+    if let Some(members) = value.as_object_mut() {
+        if name == "zarr.json" {
+            see_v3(alloc, members, lens)?;
+        } else {
+            see_v2(alloc, members, lens)?;
+        }
+    }
+    if lens.is_clear() {
+        return Ok(Some(bytes.to_vec(alloc)?));
+    }
+    let text = value.to_string(alloc)?;
+    Ok(Some(text.as_bytes().to_vec(alloc)?))
+}
