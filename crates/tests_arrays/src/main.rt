@@ -27,7 +27,7 @@ mod scripts;
 #[cfg(test)]
 mod setters;
 #[cfg(test)]
-mod shards;
+mod shard_options;
 #[cfg(test)]
 mod uses;
 
