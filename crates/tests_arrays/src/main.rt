@@ -27,8 +27,6 @@ mod scripts;
 #[cfg(test)]
 mod setters;
 #[cfg(test)]
-mod shard_options;
-#[cfg(test)]
 mod uses;
 
 use anyhow::{Result, bail};
