@@ -61,6 +61,6 @@ module _ (path : List ℕ) (a b : StoreState) where
       (λ valid. bind_same _ _ _ _ (bind_same _ _ (said_or missing_metadata) (said_or missing_metadata) same (λ found. refl)) (λ m. refl))
 
 pub openings_depend : OpeningsDependOnTheReach
-openings_depend retrieve.Default path a b agree = opened_same path a b retrieve.Default (default_same path a b agree.1.0 agree.1.1 agree.0)
+openings_depend retrieve.Default path a b agree = opened_same path a b retrieve.Default (default_same path a b agree.1 agree.2 agree.0)
 openings_depend retrieve.V3 path a b agree = opened_same path a b retrieve.V3 (v3_same path a b agree)
 openings_depend retrieve.V2 path a b agree = opened_same path a b retrieve.V2 (v2_same path a b agree.0 agree.1)
