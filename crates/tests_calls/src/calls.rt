@@ -115,10 +115,10 @@ fn must_decode(rt: &impl Abort, alloc: Global, engine: &MemoryEngine) {
 fn must_decode_into(rt: &impl Abort, alloc: Global, engine: &MemoryEngine) {
     let mut bytes = [8u8; 4];
     let column = region(rt, alloc, &[0, 1], &[2, 1]);
-    let mut target = ArrayBytesDecodeIntoTarget::new_fixed(&mut bytes, 1, &[2, 2], &column).expect(
-        rt,
-        "no refusal",
-    );
+    let Ok(mut target) = ArrayBytesDecodeIntoTarget::new_fixed(&mut bytes, 1, &[2, 2], &column)
+    else {
+        rt.panic("no refusal")
+    };
     let decoder = engine
         .partial_decoder(alloc, &[1, 1])
         .expect(rt, "no refusal");
@@ -134,10 +134,10 @@ fn must_read_into(rt: &impl Abort, alloc: Global, engine: &MemoryEngine) {
     let mut bytes = [8u8; 8];
     let whole = region(rt, alloc, &[0, 0], &[2, 4]);
     let rows = region(rt, alloc, &[2, 0], &[2, 4]);
-    let mut target = ArrayBytesDecodeIntoTarget::new_fixed(&mut bytes, 1, &[2, 4], &whole).expect(
-        rt,
-        "no refusal",
-    );
+    let Ok(mut target) = ArrayBytesDecodeIntoTarget::new_fixed(&mut bytes, 1, &[2, 4], &whole)
+    else {
+        rt.panic("no refusal")
+    };
     engine
         .retrieve_array_subset_into(alloc, &rows, &mut target)
         .expect(rt, "no refusal");

@@ -205,10 +205,10 @@ fn must_read_into(rt: &impl Abort, alloc: Global, engine: &LeanEngine) {
     let mut bytes = [0u8; 12];
     let place = region(rt, alloc, &[0, 0], &[4, 3]);
     let columns = region(rt, alloc, &[0, 1], &[4, 3]);
-    let mut target = ArrayBytesDecodeIntoTarget::new_fixed(&mut bytes, 1, &[4, 3], &place).expect(
-        rt,
-        "no refusal",
-    );
+    let Ok(mut target) = ArrayBytesDecodeIntoTarget::new_fixed(&mut bytes, 1, &[4, 3], &place)
+    else {
+        rt.panic("no refusal")
+    };
     engine
         .retrieve_array_subset_into(alloc, &columns, &mut target)
         .expect(rt, "no refusal");

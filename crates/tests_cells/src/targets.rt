@@ -65,14 +65,16 @@ fn a_box_is_written_by_two_halves(rt: HostRuntime) {
     let left = box_at(&rt, alloc, &[0, 1], &[2, 1]);
     let right = box_at(&rt, alloc, &[0, 2], &[2, 1]);
     let (mut bytes, mut masks) = ([9u8; 6], [7u8; 6]);
-    let mut target = ArrayBytesDecodeIntoTarget::new_optional(
+    let Ok(mut target) = ArrayBytesDecodeIntoTarget::new_optional(
         &mut bytes,
         1,
         &mut masks,
         1,
         &[2, 3],
         &region,
-    ).expect(&rt, "a place");
+    ) else {
+        rt.panic("no place")
+    };
     write_part(
         &rt,
         alloc,
