@@ -1,6 +1,7 @@
 //! Chains of codecs.
 ghost use Rattle.std.specs.Prelude.{◌≡◌, ◌*◌, ◌<◌, ◌^◌, Some, IfOk, IfErr, IsSome};
 ghost use Rattle.zarrs_subset.specs.Boxes.{position_count};
+ghost use Rattle.zarrs_data_type.specs.CellTypes.{filling, kind_of};
 ghost use Rattle.zarrs_data_type.specs.Kind.{kind, cell_size};
 ghost use Rattle.zarrs_data_type.specs.ArrayData.{data_of};
 ghost use Rattle.zarrs_data_type.specs.Cell.{fill_of};
@@ -19,7 +20,7 @@ use zarrs_codec_array::{ArrayToArrayCodec, decode_array, encode_array, encoded_s
 use zarrs_codec_chain::{ChainTraits, CodecOptions, PartError};
 use zarrs_codec_leaf::{ByteSource, CodecError, Misfit, Window};
 use zarrs_codec_shard::PartialWrite;
-use zarrs_data_type::{ArrayBytes, ArrayBytesDecodeIntoTarget, DataType, FillValue};
+use zarrs_data_type::{ArrayBytes, ArrayBytesDecodeIntoTarget, CellType, ChunkType, DataType, FillValue};
 use zarrs_subset::{ArraySubset, element_count};
 
 /// The codecs that make bytes of bytes: there is none.
@@ -95,27 +96,33 @@ impl CodecChain {
         &self,
         alloc: Global,
         bytes: &ArrayBytes<'_>,
-        data_type: &DataType,
-        fill_value: &FillValue,
+        cell_type: &CellType,
         shape: &[u64],
         options: &CodecOptions,
     ) -> Result<Vec<u8>, CodecError>
-        requires cells { HasCells (kind data_type.now) (data_of bytes.now)
+        requires cells { HasCells (kind_of cell_type.now) (data_of bytes.now)
             (position_count shape.now) }
         ensures encoded { IfOk result (λ encoded.
             chunk_encoding (cells_chain_meaning self.now) (stores_empty_chunks options.now)
-            (kind data_type.now) (fill_of (kind data_type.now) fill_value.now) shape.now
+            (kind_of cell_type.now) (filling cell_type.now) shape.now
             (data_of bytes.now) ≡ Some encoded.items) }
         ensures refused { IfErr result
             (RefusesChunkEncoding (cells_chain_meaning self.now) (stores_empty_chunks options.now)
-            (kind data_type.now) (fill_of (kind data_type.now) fill_value.now) shape.now
+            (kind_of cell_type.now) (filling cell_type.now) shape.now
             (data_of bytes.now)) }
     {
         if !self.takes_shape(alloc, shape)? {
             return Err(CodecError::DoesNotFit(Misfit::TypeOrShape));
         }
-        let made = encode_array(alloc, &self.array_to_array, bytes, data_type, shape)?;
-        self.array_to_bytes.encode(alloc, &made, bytes, data_type)
+        let made = encode_array(
+            alloc,
+            &self.array_to_array,
+            bytes,
+            &cell_type.data_type,
+            shape,
+        )?;
+        self.array_to_bytes
+            .encode(alloc, &made, bytes, &cell_type.data_type)
     }
 
     /// The bytes of a chunk's cells, which are given away.
@@ -123,27 +130,32 @@ impl CodecChain {
         &self,
         alloc: Global,
         bytes: ArrayBytes<'_>,
-        data_type: &DataType,
-        fill_value: &FillValue,
+        cell_type: &CellType,
         shape: &[u64],
         options: &CodecOptions,
     ) -> Result<Vec<u8>, CodecError>
-        requires cells { HasCells (kind data_type.now) (data_of bytes) (position_count shape.now) }
+        requires cells { HasCells (kind_of cell_type.now) (data_of bytes) (position_count shape.now) }
         ensures encoded { IfOk result (λ encoded.
             chunk_encoding (cells_chain_meaning self.now) (stores_empty_chunks options.now)
-            (kind data_type.now) (fill_of (kind data_type.now) fill_value.now) shape.now
+            (kind_of cell_type.now) (filling cell_type.now) shape.now
             (data_of bytes.entry) ≡ Some encoded.items) }
         ensures refused { IfErr result
             (RefusesChunkEncoding (cells_chain_meaning self.now) (stores_empty_chunks options.now)
-            (kind data_type.now) (fill_of (kind data_type.now) fill_value.now) shape.now
+            (kind_of cell_type.now) (filling cell_type.now) shape.now
             (data_of bytes.entry)) }
     {
         if !self.takes_shape(alloc, shape)? {
             return Err(CodecError::DoesNotFit(Misfit::TypeOrShape));
         }
-        let made = encode_array(alloc, &self.array_to_array, &bytes, data_type, shape)?;
+        let made = encode_array(
+            alloc,
+            &self.array_to_array,
+            &bytes,
+            &cell_type.data_type,
+            shape,
+        )?;
         self.array_to_bytes
-            .encode_owned(alloc, made, bytes, data_type)
+            .encode_owned(alloc, made, bytes, &cell_type.data_type)
     }
 
     /// The cells of a chunk's bytes.
@@ -186,35 +198,33 @@ impl ChainTraits for CodecChain {
         &self,
         alloc: Global,
         bytes: &ArrayBytes<'_>,
-        data_type: &DataType,
-        fill_value: &FillValue,
-        shape: &[u64],
+        chunk: &ChunkType<'_>,
         options: &CodecOptions,
     ) -> Result<Vec<u8>, CodecError> {
-        self.encode_chunk(alloc, bytes, data_type, fill_value, shape, options)
+        self.encode_chunk(alloc, bytes, chunk.cell_type, chunk.shape, options)
     }
 
     fn encode_owned(
         &self,
         alloc: Global,
         bytes: ArrayBytes<'_>,
-        data_type: &DataType,
-        fill_value: &FillValue,
-        shape: &[u64],
+        chunk: &ChunkType<'_>,
         options: &CodecOptions,
     ) -> Result<Vec<u8>, CodecError> {
-        self.encode_owned_chunk(alloc, bytes, data_type, fill_value, shape, options)
+        self.encode_owned_chunk(alloc, bytes, chunk.cell_type, chunk.shape, options)
     }
 
     fn decode<'a>(
         &self,
         alloc: Global,
         encoded: &'a [u8],
-        data_type: &DataType,
-        fill_value: &FillValue,
-        shape: &[u64],
+        chunk: &ChunkType<'_>,
     ) -> Result<ArrayBytes<'a>, CodecError> {
-        self.decode_chunk(alloc, encoded, data_type, fill_value, shape)
+        let CellType {
+            data_type,
+            fill_value,
+        } = chunk.cell_type;
+        self.decode_chunk(alloc, encoded, data_type, fill_value, chunk.shape)
     }
 
     fn partial_decode<B: ByteSource>(
@@ -223,11 +233,21 @@ impl ChainTraits for CodecChain {
         source: &B,
         window: Window,
         part: &ArraySubset,
-        data_type: &DataType,
-        fill_value: &FillValue,
-        shape: &[u64],
+        chunk: &ChunkType<'_>,
     ) -> Result<ArrayBytes<'static>, PartError> {
-        self.partial_decode_chunk(alloc, source, window, part, data_type, fill_value, shape)
+        let CellType {
+            data_type,
+            fill_value,
+        } = chunk.cell_type;
+        self.partial_decode_chunk(
+            alloc,
+            source,
+            window,
+            part,
+            data_type,
+            fill_value,
+            chunk.shape,
+        )
     }
 
     fn partial_decode_into<B: ByteSource>(
@@ -236,13 +256,22 @@ impl ChainTraits for CodecChain {
         source: &B,
         window: Window,
         part: &ArraySubset,
-        data_type: &DataType,
-        fill_value: &FillValue,
-        shape: &[u64],
+        chunk: &ChunkType<'_>,
         target: &mut ArrayBytesDecodeIntoTarget<'_, '_, '_>,
     ) -> Result<(), PartError> {
+        let CellType {
+            data_type,
+            fill_value,
+        } = chunk.cell_type;
         self.partial_decode_chunk_into(
-            alloc, source, window, part, data_type, fill_value, shape, target,
+            alloc,
+            source,
+            window,
+            part,
+            data_type,
+            fill_value,
+            chunk.shape,
+            target,
         )
     }
 
@@ -250,11 +279,10 @@ impl ChainTraits for CodecChain {
         &self,
         alloc: Global,
         encoded: &[u8],
-        data_type: &DataType,
-        fill_value: &FillValue,
+        cell_type: &CellType,
         target: &mut ArrayBytesDecodeIntoTarget<'_, '_, '_>,
     ) -> Result<(), CodecError> {
-        self.decode_chunk_into(alloc, encoded, data_type, fill_value, target)
+        self.decode_chunk_into(alloc, encoded, cell_type, target)
     }
 
     fn compact(
@@ -276,13 +304,17 @@ impl ChainTraits for CodecChain {
         stored: Option<&[u8]>,
         part: &ArraySubset,
         bytes: &ArrayBytes<'_>,
-        data_type: &DataType,
-        fill_value: &FillValue,
-        shape: &[u64],
+        chunk: &ChunkType<'_>,
         options: &CodecOptions,
     ) -> Result<PartialWrite, CodecError> {
         self.partial_encode_chunk(
-            alloc, stored, part, bytes, data_type, fill_value, shape, options,
+            alloc,
+            stored,
+            part,
+            bytes,
+            chunk.cell_type,
+            chunk.shape,
+            options,
         )
     }
 

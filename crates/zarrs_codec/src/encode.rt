@@ -1,8 +1,7 @@
 //! Chunks to bytes.
-ghost use Rattle.std.specs.Prelude.{◌≡◌, ◌<◌, true, Some, IfOk, IfErr, IsSome, option_map};
+ghost use Rattle.std.specs.Prelude.{◌≡◌, ◌<◌, true, Some, IfOk, IfErr, option_map};
 ghost use Rattle.zarrs_subset.specs.Boxes.{position_count};
-ghost use Rattle.zarrs_data_type.specs.Kind.{kind};
-ghost use Rattle.zarrs_data_type.specs.Cell.{fill_cell, fill_of};
+ghost use Rattle.zarrs_data_type.specs.CellTypes.{filling, kind_of};
 ghost use Rattle.zarrs_data_type.specs.ArrayData.{data_of};
 ghost use Rattle.zarrs_data_type.specs.Cells.{HasCells};
 ghost use Rattle.zarrs_codec_shard.specs.Sharded.{part_of, sharded_encoded};
@@ -23,7 +22,7 @@ use zarrs_codec_array::{ArrayToArrayCodec, encode_array, encoded_shape};
 use zarrs_codec_chain::CodecOptions;
 use zarrs_codec_leaf::{CodecError, Endianness, Misfit};
 use zarrs_codec_shard::{ShardWriter, Subchunks};
-use zarrs_data_type::{ArrayBytes, DataType, FillValue};
+use zarrs_data_type::{ArrayBytes, CellType, DataType, FillValue};
 
 impl CodecChain {
     /// Whether the bytes of a chunk are its cells as they stand in memory.
@@ -43,29 +42,27 @@ impl CodecChain {
         &self,
         alloc: Global,
         bytes: &ArrayBytes<'_>,
-        data_type: &DataType,
-        fill_value: &FillValue,
+        cell_type: &CellType,
         shape: &[u64],
         options: &CodecOptions,
     ) -> Result<Vec<u8>, CodecError>
-        requires filled { IsSome (fill_cell (kind data_type.now) fill_value.now) }
-        requires cells { HasCells (kind data_type.now) (data_of bytes.now)
+        requires cells { HasCells (kind_of cell_type.now) (data_of bytes.now)
             (position_count shape.now) }
         ensures encoded { IfOk result (λ encoded.
             chunk_encoding (chain_meaning self.now) (stores_empty_chunks options.now)
-            (kind data_type.now) (fill_of (kind data_type.now) fill_value.now) shape.now
+            (kind_of cell_type.now) (filling cell_type.now) shape.now
             (data_of bytes.now) ≡ Some encoded.items) }
         ensures refused { IfErr result
             (RefusesChunkEncoding (chain_meaning self.now) (stores_empty_chunks options.now)
-            (kind data_type.now) (fill_of (kind data_type.now) fill_value.now) shape.now
+            (kind_of cell_type.now) (filling cell_type.now) shape.now
             (data_of bytes.now)) }
     {
         match &self.array_to_bytes {
             ArrayToBytesCodec::Sharding(codec) => {
                 let arrays = &self.array_to_array;
-                codec.encode_behind(alloc, arrays, bytes, data_type, fill_value, shape, options)
+                codec.encode_behind(alloc, arrays, bytes, cell_type, shape, options)
             }
-            _ => self.encode_cells(alloc, bytes, data_type, fill_value, shape, options),
+            _ => self.encode_cells(alloc, bytes, cell_type, shape, options),
         }
     }
 
@@ -75,28 +72,26 @@ impl CodecChain {
         &self,
         alloc: Global,
         bytes: ArrayBytes<'_>,
-        data_type: &DataType,
-        fill_value: &FillValue,
+        cell_type: &CellType,
         shape: &[u64],
         options: &CodecOptions,
     ) -> Result<Vec<u8>, CodecError>
-        requires filled { IsSome (fill_cell (kind data_type.now) fill_value.now) }
-        requires cells { HasCells (kind data_type.now) (data_of bytes) (position_count shape.now) }
+        requires cells { HasCells (kind_of cell_type.now) (data_of bytes) (position_count shape.now) }
         ensures encoded { IfOk result (λ encoded.
             chunk_encoding (chain_meaning self.now) (stores_empty_chunks options.now)
-            (kind data_type.now) (fill_of (kind data_type.now) fill_value.now) shape.now
+            (kind_of cell_type.now) (filling cell_type.now) shape.now
             (data_of bytes.entry) ≡ Some encoded.items) }
         ensures refused { IfErr result
             (RefusesChunkEncoding (chain_meaning self.now) (stores_empty_chunks options.now)
-            (kind data_type.now) (fill_of (kind data_type.now) fill_value.now) shape.now
+            (kind_of cell_type.now) (filling cell_type.now) shape.now
             (data_of bytes.entry)) }
     {
         match &self.array_to_bytes {
             ArrayToBytesCodec::Sharding(codec) => {
                 let arrays = &self.array_to_array;
-                codec.encode_behind(alloc, arrays, &bytes, data_type, fill_value, shape, options)
+                codec.encode_behind(alloc, arrays, &bytes, cell_type, shape, options)
             }
-            _ => self.encode_owned_cells(alloc, bytes, data_type, fill_value, shape, options),
+            _ => self.encode_owned_cells(alloc, bytes, cell_type, shape, options),
         }
     }
 }
@@ -109,32 +104,28 @@ impl ShardingCodec {
         alloc: Global,
         codecs: &[ArrayToArrayCodec],
         bytes: &ArrayBytes<'_>,
-        data_type: &DataType,
-        fill_value: &FillValue,
+        cell_type: &CellType,
         shape: &[u64],
         options: &CodecOptions,
     ) -> Result<Vec<u8>, CodecError>
-        requires filled { IsSome (fill_cell (kind data_type.now) fill_value.now) }
-        requires cells { HasCells (kind data_type.now) (data_of bytes.now)
+        requires cells { HasCells (kind_of cell_type.now) (data_of bytes.now)
             (position_count shape.now) }
         ensures encoded { IfOk result (λ encoded.
             chunk_encoding (behind codecs.now (sharding_meaning self.now))
-            (stores_empty_chunks options.now) (kind data_type.now)
-            (fill_of (kind data_type.now) fill_value.now) shape.now
+            (stores_empty_chunks options.now) (kind_of cell_type.now)
+            (filling cell_type.now) shape.now
             (data_of bytes.now) ≡ Some encoded.items) }
         ensures refused { IfErr result
             (RefusesChunkEncoding (behind codecs.now (sharding_meaning self.now))
-            (stores_empty_chunks options.now) (kind data_type.now)
-            (fill_of (kind data_type.now) fill_value.now) shape.now (data_of bytes.now)) }
+            (stores_empty_chunks options.now) (kind_of cell_type.now)
+            (filling cell_type.now) shape.now (data_of bytes.now)) }
     {
         let Some(inner) = encoded_shape(alloc, codecs, shape)? else {
             return Err(CodecError::DoesNotFit(Misfit::TypeOrShape));
         };
-        match encode_array(alloc, codecs, bytes, data_type, shape)? {
-            Some(made) => {
-                self.encode_shard(alloc, &made, data_type, fill_value, &inner, options)
-            }
-            None => self.encode_shard(alloc, bytes, data_type, fill_value, &inner, options),
+        match encode_array(alloc, codecs, bytes, &cell_type.data_type, shape)? {
+            Some(made) => { self.encode_shard(alloc, &made, cell_type, &inner, options) }
+            None => self.encode_shard(alloc, bytes, cell_type, &inner, options),
         }
     }
 
@@ -144,31 +135,32 @@ impl ShardingCodec {
         &self,
         alloc: Global,
         bytes: &ArrayBytes<'_>,
-        data_type: &DataType,
-        fill_value: &FillValue,
+        cell_type: &CellType,
         shape: &[u64],
         options: &CodecOptions,
     ) -> Result<Vec<u8>, CodecError>
-        requires filled { IsSome (fill_cell (kind data_type.now) fill_value.now) }
-        requires cells { HasCells (kind data_type.now) (data_of bytes.now)
+        requires cells { HasCells (kind_of cell_type.now) (data_of bytes.now)
             (position_count shape.now) }
         ensures encoded { IfOk result (λ encoded.
             chunk_encoding (sharding_meaning self.now) (stores_empty_chunks options.now)
-            (kind data_type.now) (fill_of (kind data_type.now) fill_value.now) shape.now
+            (kind_of cell_type.now) (filling cell_type.now) shape.now
             (data_of bytes.now) ≡ Some encoded.items) }
         ensures refused { IfErr result
             (RefusesChunkEncoding (sharding_meaning self.now) (stores_empty_chunks options.now)
-            (kind data_type.now) (fill_of (kind data_type.now) fill_value.now) shape.now
+            (kind_of cell_type.now) (filling cell_type.now) shape.now
             (data_of bytes.now)) }
     {
         let sub = self.extents(alloc)?;
         let Some(subchunks) = Subchunks::new(alloc, shape, &sub)? else {
             return Err(CodecError::DoesNotFit(Misfit::TypeOrShape));
         };
-        if !self.inner_codecs().fits_chunk(alloc, data_type, &sub)? {
+        if !self
+            .inner_codecs()
+            .fits_chunk(alloc, &cell_type.data_type, &sub)?
+        {
             return Err(CodecError::DoesNotFit(Misfit::TypeOrShape));
         }
-        self.encode_parts(alloc, bytes, data_type, fill_value, &subchunks, options)
+        self.encode_parts(alloc, bytes, cell_type, &subchunks, options)
     }
 
     /// The shard of the subchunks of an array.
@@ -177,31 +169,29 @@ impl ShardingCodec {
         &self,
         alloc: Global,
         bytes: &ArrayBytes<'_>,
-        data_type: &DataType,
-        fill_value: &FillValue,
+        cell_type: &CellType,
         subchunks: &Subchunks,
         options: &CodecOptions,
     ) -> Result<Vec<u8>, CodecError>
-        requires filled { IsSome (fill_cell (kind data_type.now) fill_value.now) }
-        requires cells { HasCells (kind data_type.now) (data_of bytes.now)
+        requires cells { HasCells (kind_of cell_type.now) (data_of bytes.now)
             (position_count (chunk_shape subchunks.now)) }
-        requires fits { (chain_meaning (inner_chain_of self.now)).fits (kind data_type.now)
+        requires fits { (chain_meaning (inner_chain_of self.now)).fits (kind_of cell_type.now)
             (subchunk_shape subchunks.now) ≡ true }
         ensures encoded { IfOk result (λ encoded. sharded_encoded
             (subchunk_meaning (chain_meaning (inner_chain_of self.now))
-            (stores_empty_chunks options.now) (kind data_type.now)
-            (fill_of (kind data_type.now) fill_value.now) (subchunk_shape subchunks.now))
+            (stores_empty_chunks options.now) (kind_of cell_type.now)
+            (filling cell_type.now) (subchunk_shape subchunks.now))
             (is_at_start (location_of self.now)) (stores_empty_chunks options.now)
-            (fill_of (kind data_type.now) fill_value.now) (chunk_shape subchunks.now)
-            (subchunk_shape subchunks.now) (cells_of (kind data_type.now) (data_of bytes.now))
+            (filling cell_type.now) (chunk_shape subchunks.now)
+            (subchunk_shape subchunks.now) (cells_of (kind_of cell_type.now) (data_of bytes.now))
             ≡ Some encoded.items) }
         ensures refused { IfErr result (RefusesParts
             (subchunk_meaning (chain_meaning (inner_chain_of self.now))
-            (stores_empty_chunks options.now) (kind data_type.now)
-            (fill_of (kind data_type.now) fill_value.now) (subchunk_shape subchunks.now))
+            (stores_empty_chunks options.now) (kind_of cell_type.now)
+            (filling cell_type.now) (subchunk_shape subchunks.now))
             (is_at_start (location_of self.now)) (stores_empty_chunks options.now)
-            (fill_of (kind data_type.now) fill_value.now) (chunk_shape subchunks.now)
-            (subchunk_shape subchunks.now) (cells_of (kind data_type.now) (data_of bytes.now))) }
+            (filling cell_type.now) (chunk_shape subchunks.now)
+            (subchunk_shape subchunks.now) (cells_of (kind_of cell_type.now) (data_of bytes.now))) }
     {
         let Some(count) = subchunks.indexed_count() else {
             return Err(CodecError::SizeOverflow);
@@ -213,8 +203,7 @@ impl ShardingCodec {
             room = self.push_subchunk(
                 alloc,
                 bytes,
-                data_type,
-                fill_value,
+                cell_type,
                 subchunks,
                 number,
                 options,
@@ -232,47 +221,53 @@ impl ShardingCodec {
         &self,
         alloc: Global,
         bytes: &ArrayBytes<'_>,
-        data_type: &DataType,
-        fill_value: &FillValue,
+        cell_type: &CellType,
         subchunks: &Subchunks,
         number: u64,
         options: &CodecOptions,
         room: Vec<u8>,
         writer: &mut ShardWriter,
     ) -> Result<Vec<u8>, CodecError>
-        requires filled { IsSome (fill_cell (kind data_type.now) fill_value.now) }
-        requires cells { HasCells (kind data_type.now) (data_of bytes.now)
+        requires cells { HasCells (kind_of cell_type.now) (data_of bytes.now)
             (position_count (chunk_shape subchunks.now)) }
-        requires fits { (chain_meaning (inner_chain_of self.now)).fits (kind data_type.now)
+        requires fits { (chain_meaning (inner_chain_of self.now)).fits (kind_of cell_type.now)
             (subchunk_shape subchunks.now) ≡ true }
         requires number { number
             < subchunk_count (chunk_shape subchunks.now) (subchunk_shape subchunks.now) }
         ensures pushed { IfOk result (λ _. PushesCells
             (subchunk_meaning (chain_meaning (inner_chain_of self.now))
-            (stores_empty_chunks options.now) (kind data_type.now)
-            (fill_of (kind data_type.now) fill_value.now) (subchunk_shape subchunks.now))
-            (stores_empty_chunks options.now) (fill_of (kind data_type.now) fill_value.now)
+            (stores_empty_chunks options.now) (kind_of cell_type.now)
+            (filling cell_type.now) (subchunk_shape subchunks.now))
+            (stores_empty_chunks options.now) (filling cell_type.now)
             (subchunk_at (chunk_shape subchunks.now) (subchunk_shape subchunks.now)
-            (cells_of (kind data_type.now) (data_of bytes.now)) number) writer.old writer.new) }
+            (cells_of (kind_of cell_type.now) (data_of bytes.now)) number) writer.old writer.new) }
         ensures refused { IfErr result (RefusesPart
             (subchunk_meaning (chain_meaning (inner_chain_of self.now))
-            (stores_empty_chunks options.now) (kind data_type.now)
-            (fill_of (kind data_type.now) fill_value.now) (subchunk_shape subchunks.now))
-            (stores_empty_chunks options.now) (fill_of (kind data_type.now) fill_value.now)
+            (stores_empty_chunks options.now) (kind_of cell_type.now)
+            (filling cell_type.now) (subchunk_shape subchunks.now))
+            (stores_empty_chunks options.now) (filling cell_type.now)
             (subchunk_at (chunk_shape subchunks.now) (subchunk_shape subchunks.now)
-            (cells_of (kind data_type.now) (data_of bytes.now)) number)) }
+            (cells_of (kind_of cell_type.now) (data_of bytes.now)) number)) }
     {
         match (bytes, self.inner.keeps_cells()) {
             (ArrayBytes::Fixed(cells), true) => {
                 let empty = options.store_empty_chunks();
                 let cells = cells.as_slice();
-                subchunks.push_cells(alloc, cells, data_type, fill_value, empty, number, writer)?;
+                subchunks.push_cells(
+                    alloc,
+                    cells,
+                    &cell_type.data_type,
+                    &cell_type.fill_value,
+                    empty,
+                    number,
+                    writer,
+                )?;
                 Ok(room)
             }
             _ => {
-                let part = subchunks.extract(alloc, bytes, data_type, number, room)?;
+                let part = subchunks.extract(alloc, bytes, &cell_type.data_type, number, room)?;
                 let sub = subchunks.shape();
-                let encoded = self.encode_part(alloc, part, data_type, fill_value, sub, options)?;
+                let encoded = self.encode_part(alloc, part, cell_type, sub, options)?;
                 writer.push_part(&encoded)?;
                 Ok(encoded.unwrap_or(Vec::new(alloc)))
             }
@@ -285,32 +280,32 @@ impl ShardingCodec {
         &self,
         alloc: Global,
         bytes: ArrayBytes<'static>,
-        data_type: &DataType,
-        fill_value: &FillValue,
+        cell_type: &CellType,
         sub: &[u64],
         options: &CodecOptions,
     ) -> Result<Option<Vec<u8>>, CodecError>
-        requires filled { IsSome (fill_cell (kind data_type.now) fill_value.now) }
-        requires cells { HasCells (kind data_type.now) (data_of bytes) (position_count sub.now) }
+        requires cells { HasCells (kind_of cell_type.now) (data_of bytes) (position_count sub.now) }
         ensures part { IfOk result (λ part. part_of
             (subchunk_meaning (chain_meaning (inner_chain_of self.now))
-            (stores_empty_chunks options.now) (kind data_type.now)
-            (fill_of (kind data_type.now) fill_value.now) sub.now)
-            (stores_empty_chunks options.now) (fill_of (kind data_type.now) fill_value.now)
-            (cells_of (kind data_type.now) (data_of bytes.entry))
+            (stores_empty_chunks options.now) (kind_of cell_type.now)
+            (filling cell_type.now) sub.now)
+            (stores_empty_chunks options.now) (filling cell_type.now)
+            (cells_of (kind_of cell_type.now) (data_of bytes.entry))
             ≡ Some (option_map (λ encoded. encoded.items) part)) }
         ensures refused { IfErr result (RefusesPart
             (subchunk_meaning (chain_meaning (inner_chain_of self.now))
-            (stores_empty_chunks options.now) (kind data_type.now)
-            (fill_of (kind data_type.now) fill_value.now) sub.now)
-            (stores_empty_chunks options.now) (fill_of (kind data_type.now) fill_value.now)
-            (cells_of (kind data_type.now) (data_of bytes.entry))) }
+            (stores_empty_chunks options.now) (kind_of cell_type.now)
+            (filling cell_type.now) sub.now)
+            (stores_empty_chunks options.now) (filling cell_type.now)
+            (cells_of (kind_of cell_type.now) (data_of bytes.entry))) }
     {
-        if !options.store_empty_chunks() && bytes.is_fill_value(data_type, fill_value) {
+        if !options.store_empty_chunks()
+            && bytes.is_fill_value(&cell_type.data_type, &cell_type.fill_value)
+        {
             return Ok(None);
         }
         let inner = self.inner_codecs();
-        let encoded = inner.encode_owned_chunk(alloc, bytes, data_type, fill_value, sub, options)?;
+        let encoded = inner.encode_owned_chunk(alloc, bytes, cell_type, sub, options)?;
         Ok(Some(encoded))
     }
 }

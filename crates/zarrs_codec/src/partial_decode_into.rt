@@ -8,7 +8,7 @@ ghost use Rattle.zarrs_data_type.specs.Cell.{fill_cell, fill_of, held_size};
 ghost use Rattle.zarrs_codec_shard.specs.ShardIndex.{range_part, IsRangeWithin};
 ghost use Rattle.zarrs_codec_shard.specs.Sharded.{SubchunkMeaning, sharded_decoded, sharded_leaves_out};
 ghost use Rattle.zarrs_codec_leaf.specs.Sources.{IsWindow, MayRead, window_bytes};
-ghost use Rattle.zarrs_data_type.specs.States.{IsTarget, SameBox, StaysOutside, data_of_target};
+ghost use Rattle.zarrs_data_type.specs.States.{KeepsBut, KeepsTarget, data_of_target};
 ghost use Rattle.zarrs_data_type.specs.States.{parent_box, target_box};
 ghost use Rattle.zarrs_data_type.specs.Targets.{takes_type, KeepsOutside};
 ghost use Rattle.zarrs_codec_chain.specs.Parts.{DecodesPartAt};
@@ -54,20 +54,15 @@ impl CodecChain {
         requires may_read { MayRead (B.may_read source.now) window ((chain_meaning self.now).places
             (kind data_type.now) shape.now (box_of part.now)
             (window_bytes window (B.bytes source.now))) }
-        requires target { IsTarget target.old }
         requires takes { takes_type target.old.cell_size target.old.depth (kind data_type.now)
             ≡ true }
         requires same_shape { (target_box target.old).shape ≡ (box_of part.now).shape }
-        ensures target { IsTarget target.new }
-        ensures same_bytes { target.new.bytes.ghost_name ≡ target.old.bytes.ghost_name }
-        ensures same_masks { target.new.masks.ghost_name ≡ target.old.masks.ghost_name }
-        ensures same_box { SameBox target.old target.new }
+        ensures kept { KeepsTarget target.old target.new }
         ensures cells { OnOk result (DecodesPartAt (kind data_type.now) shape.now (box_of part.now)
             ((chain_meaning self.now).decoded (kind data_type.now)
             (fill_of (kind data_type.now) fill_value.now) shape.now
             (window_bytes window (B.bytes source.now))) (parent_box target.old)
             (target_box target.old) (data_of_target target.new)) }
-        ensures outside { StaysOutside target.old target.new }
         ensures refused { IfErr result (RefusesPartDecoding ((chain_meaning self.now).decoded
             (kind data_type.now) (fill_of (kind data_type.now) fill_value.now) shape.now
             (window_bytes window (B.bytes source.now))) ((chain_meaning self.now).leaves_out
@@ -94,6 +89,7 @@ impl CodecChain {
     }
 
     /// The same, of the cells of the part as a list of their own.
+    #[tactic(auto, using(zarrs_target::proofs::Kept::keeps_itself))]
     fn write_part<B: ByteSource>(
         &self,
         alloc: Global,
@@ -112,20 +108,15 @@ impl CodecChain {
         requires may_read { MayRead (B.may_read source.now) window ((chain_meaning self.now).places
             (kind data_type.now) shape.now (box_of part.now)
             (window_bytes window (B.bytes source.now))) }
-        requires target { IsTarget target.old }
         requires takes { takes_type target.old.cell_size target.old.depth (kind data_type.now)
             ≡ true }
         requires same_shape { (target_box target.old).shape ≡ (box_of part.now).shape }
-        ensures target { IsTarget target.new }
-        ensures same_bytes { target.new.bytes.ghost_name ≡ target.old.bytes.ghost_name }
-        ensures same_masks { target.new.masks.ghost_name ≡ target.old.masks.ghost_name }
-        ensures same_box { SameBox target.old target.new }
+        ensures kept { KeepsTarget target.old target.new }
         ensures cells { OnOk result (DecodesPartAt (kind data_type.now) shape.now (box_of part.now)
             ((chain_meaning self.now).decoded (kind data_type.now)
             (fill_of (kind data_type.now) fill_value.now) shape.now
             (window_bytes window (B.bytes source.now))) (parent_box target.old)
             (target_box target.old) (data_of_target target.new)) }
-        ensures outside { StaysOutside target.old target.new }
         ensures refused { IfErr result (RefusesPartDecoding ((chain_meaning self.now).decoded
             (kind data_type.now) (fill_of (kind data_type.now) fill_value.now) shape.now
             (window_bytes window (B.bytes source.now))) ((chain_meaning self.now).leaves_out
@@ -145,6 +136,7 @@ impl ShardingCodec {
     /// Decodes a part of a shard into the target's box. The index is read first, then each present subchunk that the part
     /// meets, in a window of its own, into its share of the box.
     #[cycle(partial_decode_into)]
+    #[tactic(auto, using(zarrs_target::proofs::Kept::keeps_itself))]
     fn partial_decode_shard_into<B: ByteSource>(
         &self,
         alloc: Global,
@@ -163,20 +155,15 @@ impl ShardingCodec {
         requires may_read { MayRead (B.may_read source.now) window ((sharding_meaning self.now).places
             (kind data_type.now) shape.now (box_of part.now)
             (window_bytes window (B.bytes source.now))) }
-        requires target { IsTarget target.old }
         requires takes { takes_type target.old.cell_size target.old.depth (kind data_type.now)
             ≡ true }
         requires same_shape { (target_box target.old).shape ≡ (box_of part.now).shape }
-        ensures target { IsTarget target.new }
-        ensures same_bytes { target.new.bytes.ghost_name ≡ target.old.bytes.ghost_name }
-        ensures same_masks { target.new.masks.ghost_name ≡ target.old.masks.ghost_name }
-        ensures same_box { SameBox target.old target.new }
+        ensures kept { KeepsTarget target.old target.new }
         ensures cells { OnOk result (DecodesPartAt (kind data_type.now) shape.now (box_of part.now)
             ((sharding_meaning self.now).decoded (kind data_type.now)
             (fill_of (kind data_type.now) fill_value.now) shape.now
             (window_bytes window (B.bytes source.now))) (parent_box target.old)
             (target_box target.old) (data_of_target target.new)) }
-        ensures outside { StaysOutside target.old target.new }
         ensures refused { IfErr result (RefusesPartDecoding ((sharding_meaning self.now).decoded
             (kind data_type.now) (fill_of (kind data_type.now) fill_value.now) shape.now
             (window_bytes window (B.bytes source.now))) ((sharding_meaning self.now).leaves_out
@@ -193,6 +180,7 @@ impl ShardingCodec {
 
     /// The same, of a shard that is cut into subchunks of this shape.
     #[cycle(partial_decode_into)]
+    #[tactic(auto, using(zarrs_target::proofs::Kept::keeps_itself))]
     fn partial_decode_cut_into<B: ByteSource>(
         &self,
         at_start: bool,
@@ -213,14 +201,10 @@ impl ShardingCodec {
         requires may_read { MayRead (B.may_read source.now) window (shard_places at_start sub.now
             (kind data_type.now) shape.now (box_of part.now)
             (window_bytes window (B.bytes source.now))) }
-        requires target { IsTarget target.old }
         requires takes { takes_type target.old.cell_size target.old.depth (kind data_type.now)
             ≡ true }
         requires same_shape { (target_box target.old).shape ≡ (box_of part.now).shape }
-        ensures target { IsTarget target.new }
-        ensures same_bytes { target.new.bytes.ghost_name ≡ target.old.bytes.ghost_name }
-        ensures same_masks { target.new.masks.ghost_name ≡ target.old.masks.ghost_name }
-        ensures same_box { SameBox target.old target.new }
+        ensures kept { KeepsTarget target.old target.new }
         ensures cells { OnOk result ((m : SubchunkMeaning) → DecodesAs m
             ((chain_meaning (inner_chain_of self.now)).decoded (kind data_type.now)
             (fill_of (kind data_type.now) fill_value.now) sub.now)
@@ -228,7 +212,6 @@ impl ShardingCodec {
             at_start (kind data_type.now) (fill_of (kind data_type.now) fill_value.now) shape.now
             sub.now (window_bytes window (B.bytes source.now))) (parent_box target.old)
             (target_box target.old) (data_of_target target.new)) }
-        ensures outside { StaysOutside target.old target.new }
         ensures refused { IfErr result (λ e. (m : SubchunkMeaning) → DecodesAs m
             ((chain_meaning (inner_chain_of self.now)).decoded (kind data_type.now)
             (fill_of (kind data_type.now) fill_value.now) sub.now)
@@ -251,6 +234,7 @@ impl ShardingCodec {
 
     /// Decodes what the subchunks that a part of a shard meets have of it into the target's box.
     #[cycle(partial_decode_into)]
+    #[tactic(auto, using(zarrs_target::proofs::Kept::keeps_itself))]
     fn read_subchunks_into<B: ByteSource>(
         &self,
         at_start: bool,
@@ -274,21 +258,16 @@ impl ShardingCodec {
             (window_bytes window (B.bytes source.now))) }
         requires shard { IsShard index.now at_start shape.now sub.now
             (window_bytes window (B.bytes source.now)) }
-        requires target { IsTarget target.old }
         requires takes { takes_type target.old.cell_size target.old.depth (kind data_type.now)
             ≡ true }
         requires same_shape { (target_box target.old).shape ≡ (box_of part.now).shape }
-        ensures target { IsTarget target.new }
-        ensures same_bytes { target.new.bytes.ghost_name ≡ target.old.bytes.ghost_name }
-        ensures same_masks { target.new.masks.ghost_name ≡ target.old.masks.ghost_name }
-        ensures same_box { SameBox target.old target.new }
+        ensures kept { KeepsTarget target.old target.new }
         ensures all { OnOk result (HasAllPartsAt (kind data_type.now)
             ((chain_meaning (inner_chain_of self.now)).decoded (kind data_type.now)
             (fill_of (kind data_type.now) fill_value.now) sub.now)
             (fill_of (kind data_type.now) fill_value.now) shape.now sub.now (box_of part.now)
             (map (range_part (window_bytes window (B.bytes source.now))) index.now.ranges.items)
             (parent_box target.old) (target_box target.old) (data_of_target target.new)) }
-        ensures outside { StaysOutside target.old target.new }
         ensures refused { IfErr result (RefusesStep
             ((chain_meaning (inner_chain_of self.now)).decoded (kind data_type.now)
             (fill_of (kind data_type.now) fill_value.now) sub.now)
@@ -326,6 +305,7 @@ impl ShardingCodec {
     /// Decodes what the subchunk with these indices has of a part of a shard into its share of the target's box. Every
     /// other byte of the box stays too.
     #[cycle(partial_decode_into)]
+    #[tactic(auto, using(zarrs_target::proofs::Kept::keeps_itself))]
     fn read_subchunk_into<B: ByteSource>(
         &self,
         at_start: bool,
@@ -350,14 +330,10 @@ impl ShardingCodec {
             (window_bytes window (B.bytes source.now))) }
         requires shard { IsShard index.now at_start shape.now sub.now
             (window_bytes window (B.bytes source.now)) }
-        requires target { IsTarget target.old }
         requires takes { takes_type target.old.cell_size target.old.depth (kind data_type.now)
             ≡ true }
         requires same_shape { (target_box target.old).shape ≡ (box_of part.now).shape }
-        ensures target { IsTarget target.new }
-        ensures same_bytes { target.new.bytes.ghost_name ≡ target.old.bytes.ghost_name }
-        ensures same_masks { target.new.masks.ghost_name ≡ target.old.masks.ghost_name }
-        ensures same_box { SameBox target.old target.new }
+        ensures kept { KeepsTarget target.old target.new }
         ensures read { OnOk result (ReadsSubchunkAt (kind data_type.now)
             ((chain_meaning (inner_chain_of self.now)).decoded (kind data_type.now)
             (fill_of (kind data_type.now) fill_value.now) sub.now)
@@ -365,7 +341,6 @@ impl ShardingCodec {
             (map (range_part (window_bytes window (B.bytes source.now))) index.now.ranges.items)
             indices.now (parent_box target.old) (target_box target.old) (data_of_target target.old)
             (data_of_target target.new)) }
-        ensures outside { StaysOutside target.old target.new }
         ensures refused { IfErr result (RefusesStep
             ((chain_meaning (inner_chain_of self.now)).decoded (kind data_type.now)
             (fill_of (kind data_type.now) fill_value.now) sub.now)
@@ -417,23 +392,17 @@ impl ShardingCodec {
         requires may_read { IfSome window (λ w. MayRead (B.may_read source.now) w
             ((chain_meaning (inner_chain_of self.now)).places (kind data_type.now) sub.now
             (box_of piece.now) (window_bytes w (B.bytes source.now)))) }
-        requires target { IsTarget target.old }
         requires takes { takes_type target.old.cell_size target.old.depth (kind data_type.now)
             ≡ true }
         requires inside { LiesInBox (box_of own.now) (target_box target.old) }
         requires same_shape { (box_of own.now).shape ≡ (box_of piece.now).shape }
-        ensures target { IsTarget target.new }
-        ensures same_bytes { target.new.bytes.ghost_name ≡ target.old.bytes.ghost_name }
-        ensures same_masks { target.new.masks.ghost_name ≡ target.old.masks.ghost_name }
-        ensures same_box { SameBox target.old target.new }
+        ensures kept { KeepsBut (box_of own.now) target.old target.new }
         ensures cells { OnOk result (DecodesPieceAt (kind data_type.now)
             ((chain_meaning (inner_chain_of self.now)).decoded (kind data_type.now)
             (fill_of (kind data_type.now) fill_value.now) sub.now)
             (fill_of (kind data_type.now) fill_value.now) sub.now (box_of piece.now)
             (option_map (λ w. window_bytes w (B.bytes source.now)) window)
             (parent_box target.old) (box_of own.now) (data_of_target target.new)) }
-        ensures outside { KeepsOutside target.old.cell_size (parent_box target.old)
-            (box_of own.now) (data_of_target target.old) (data_of_target target.new) }
         ensures refused { IfErr result (RefusesPiece
             ((chain_meaning (inner_chain_of self.now)).decoded (kind data_type.now)
             (fill_of (kind data_type.now) fill_value.now) sub.now)
@@ -479,21 +448,16 @@ impl ShardingCodec {
         requires may_read { IfSome window (λ w. MayRead (B.may_read source.now) w
             ((chain_meaning (inner_chain_of self.now)).places (kind data_type.now) sub.now
             (box_of piece.now) (window_bytes w (B.bytes source.now)))) }
-        requires target { IsTarget target.old }
         requires takes { takes_type target.old.cell_size target.old.depth (kind data_type.now)
             ≡ true }
         requires same_shape { (target_box target.old).shape ≡ (box_of piece.now).shape }
-        ensures target { IsTarget target.new }
-        ensures same_bytes { target.new.bytes.ghost_name ≡ target.old.bytes.ghost_name }
-        ensures same_masks { target.new.masks.ghost_name ≡ target.old.masks.ghost_name }
-        ensures same_box { SameBox target.old target.new }
+        ensures kept { KeepsTarget target.old target.new }
         ensures cells { OnOk result (DecodesPieceAt (kind data_type.now)
             ((chain_meaning (inner_chain_of self.now)).decoded (kind data_type.now)
             (fill_of (kind data_type.now) fill_value.now) sub.now)
             (fill_of (kind data_type.now) fill_value.now) sub.now (box_of piece.now)
             (option_map (λ w. window_bytes w (B.bytes source.now)) window)
             (parent_box target.old) (target_box target.old) (data_of_target target.new)) }
-        ensures outside { StaysOutside target.old target.new }
         ensures refused { IfErr result (RefusesPiece
             ((chain_meaning (inner_chain_of self.now)).decoded (kind data_type.now)
             (fill_of (kind data_type.now) fill_value.now) sub.now)
@@ -531,20 +495,15 @@ impl ShardingCodec {
         requires may_read { MayRead (B.may_read source.now) window
             ((chain_meaning (inner_chain_of self.now)).places (kind data_type.now) shape.now
             (box_of part.now) (window_bytes window (B.bytes source.now))) }
-        requires target { IsTarget target.old }
         requires takes { takes_type target.old.cell_size target.old.depth (kind data_type.now)
             ≡ true }
         requires same_shape { (target_box target.old).shape ≡ (box_of part.now).shape }
-        ensures target { IsTarget target.new }
-        ensures same_bytes { target.new.bytes.ghost_name ≡ target.old.bytes.ghost_name }
-        ensures same_masks { target.new.masks.ghost_name ≡ target.old.masks.ghost_name }
-        ensures same_box { SameBox target.old target.new }
+        ensures kept { KeepsTarget target.old target.new }
         ensures cells { OnOk result (DecodesPartAt (kind data_type.now) shape.now (box_of part.now)
             ((chain_meaning (inner_chain_of self.now)).decoded (kind data_type.now)
             (fill_of (kind data_type.now) fill_value.now) shape.now
             (window_bytes window (B.bytes source.now))) (parent_box target.old)
             (target_box target.old) (data_of_target target.new)) }
-        ensures outside { StaysOutside target.old target.new }
         ensures refused { IfErr result (RefusesPartDecoding
             ((chain_meaning (inner_chain_of self.now)).decoded (kind data_type.now)
             (fill_of (kind data_type.now) fill_value.now) shape.now

@@ -3,8 +3,8 @@ ghost use Rattle.std.specs.Prelude.{◌≡◌, ◌*◌, ◌<◌, ◌^◌, All, I
 ghost use Rattle.std.specs.Prelude.{length, map, option_map};
 ghost use Rattle.zarrs_subset.specs.Boxes.{position_count};
 ghost use Rattle.zarrs_subset.specs.Regions.{box_of};
-ghost use Rattle.zarrs_data_type.specs.Kind.{kind, cell_size};
-ghost use Rattle.zarrs_data_type.specs.Cell.{fill_cell, fill_of};
+ghost use Rattle.zarrs_data_type.specs.CellTypes.{filling, kind_of};
+ghost use Rattle.zarrs_data_type.specs.Kind.{cell_size};
 ghost use Rattle.zarrs_data_type.specs.ArrayData.{data_of};
 ghost use Rattle.zarrs_data_type.specs.Cells.{cells, HasCells};
 ghost use Rattle.zarrs_codec_shard.specs.PartialShards.{stored_parts};
@@ -27,7 +27,7 @@ use std::alloc::Global;
 use zarrs_codec_chain::CodecOptions;
 use zarrs_codec_leaf::{CodecError, Misfit};
 use zarrs_codec_shard::{PartialWrite, ShardPatch, SubchunkRange, Subchunks, stored_ranges};
-use zarrs_data_type::{ArrayBytes, DataType, FillValue};
+use zarrs_data_type::{ArrayBytes, CellType, DataType, FillValue};
 use zarrs_subset::ArraySubset;
 
 impl CodecChain {
@@ -51,31 +51,29 @@ impl CodecChain {
         stored: Option<&[u8]>,
         part: &ArraySubset,
         bytes: &ArrayBytes<'_>,
-        data_type: &DataType,
-        fill_value: &FillValue,
+        cell_type: &CellType,
         shape: &[u64],
         options: &CodecOptions,
     ) -> Result<PartialWrite, CodecError>
         requires supported { (chain_meaning self.now).encodes_partly ≡ true }
-        requires filled { IsSome (fill_cell (kind data_type.now) fill_value.now) }
-        requires size { position_count shape.now * cell_size (kind data_type.now) < 2 ^ 64 }
+        requires size { position_count shape.now * cell_size (kind_of cell_type.now) < 2 ^ 64 }
         requires dimensions { length (box_of part.now).start ≡ length shape.now }
-        requires cells { HasCells (kind data_type.now) (data_of bytes.now)
+        requires cells { HasCells (kind_of cell_type.now) (data_of bytes.now)
             (position_count (box_of part.now).shape) }
         ensures written { IfOk result (λ write.
             partial_encoding (chain_meaning self.now) (stores_empty_chunks options.now)
-            (kind data_type.now) (fill_of (kind data_type.now) fill_value.now) shape.now
+            (kind_of cell_type.now) (filling cell_type.now) shape.now
             (option_map (λ encoded. encoded.now) stored.entry) (box_of part.now)
             (data_of bytes.now) ≡ Some (change_of write)) }
         ensures refused { IfErr result
             (RefusesPartialEncoding (chain_meaning self.now) (stores_empty_chunks options.now)
-            (kind data_type.now) (fill_of (kind data_type.now) fill_value.now) shape.now
+            (kind_of cell_type.now) (filling cell_type.now) shape.now
             (option_map (λ encoded. encoded.now) stored.entry) (box_of part.now)
             (data_of bytes.now)) }
     {
         match &self.array_to_bytes {
             ArrayToBytesCodec::Sharding(codec) => codec.partial_encode_shard(
-                alloc, stored, part, bytes, data_type, fill_value, shape, options,
+                alloc, stored, part, bytes, cell_type, shape, options,
             ),
             _ => unreachable!(),
         }
@@ -90,25 +88,23 @@ impl ShardingCodec {
         stored: Option<&[u8]>,
         part: &ArraySubset,
         bytes: &ArrayBytes<'_>,
-        data_type: &DataType,
-        fill_value: &FillValue,
+        cell_type: &CellType,
         shape: &[u64],
         options: &CodecOptions,
     ) -> Result<PartialWrite, CodecError>
         requires supported { (sharding_meaning self.now).encodes_partly ≡ true }
-        requires filled { IsSome (fill_cell (kind data_type.now) fill_value.now) }
-        requires size { position_count shape.now * cell_size (kind data_type.now) < 2 ^ 64 }
+        requires size { position_count shape.now * cell_size (kind_of cell_type.now) < 2 ^ 64 }
         requires dimensions { length (box_of part.now).start ≡ length shape.now }
-        requires cells { HasCells (kind data_type.now) (data_of bytes.now)
+        requires cells { HasCells (kind_of cell_type.now) (data_of bytes.now)
             (position_count (box_of part.now).shape) }
         ensures written { IfOk result (λ write.
             partial_encoding (sharding_meaning self.now) (stores_empty_chunks options.now)
-            (kind data_type.now) (fill_of (kind data_type.now) fill_value.now) shape.now
+            (kind_of cell_type.now) (filling cell_type.now) shape.now
             (option_map (λ encoded. encoded.now) stored.entry) (box_of part.now)
             (data_of bytes.now) ≡ Some (change_of write)) }
         ensures refused { IfErr result
             (RefusesPartialEncoding (sharding_meaning self.now) (stores_empty_chunks options.now)
-            (kind data_type.now) (fill_of (kind data_type.now) fill_value.now) shape.now
+            (kind_of cell_type.now) (filling cell_type.now) shape.now
             (option_map (λ encoded. encoded.now) stored.entry) (box_of part.now)
             (data_of bytes.now)) }
     {
@@ -116,7 +112,10 @@ impl ShardingCodec {
         let Some(subchunks) = Subchunks::new(alloc, shape, &sub)? else {
             return Err(CodecError::DoesNotFit(Misfit::TypeOrShape));
         };
-        if !self.inner_codecs().fits_chunk(alloc, data_type, &sub)? {
+        if !self
+            .inner_codecs()
+            .fits_chunk(alloc, &cell_type.data_type, &sub)?
+        {
             return Err(CodecError::DoesNotFit(Misfit::TypeOrShape));
         }
         let Some(count) = subchunks.indexed_count() else {
@@ -126,7 +125,7 @@ impl ShardingCodec {
             return Err(CodecError::DoesNotFit(Misfit::Bytes));
         };
         self.patched(
-            alloc, stored, &ranges, &subchunks, part, bytes, data_type, fill_value, options,
+            alloc, stored, &ranges, &subchunks, part, bytes, cell_type, options,
         )
     }
 
@@ -139,17 +138,15 @@ impl ShardingCodec {
         subchunks: &Subchunks,
         part: &ArraySubset,
         bytes: &ArrayBytes<'_>,
-        data_type: &DataType,
-        fill_value: &FillValue,
+        cell_type: &CellType,
         options: &CodecOptions,
     ) -> Result<PartialWrite, CodecError>
-        requires filled { IsSome (fill_cell (kind data_type.now) fill_value.now) }
         requires size { position_count (chunk_shape subchunks.now)
-            * cell_size (kind data_type.now) < 2 ^ 64 }
+            * cell_size (kind_of cell_type.now) < 2 ^ 64 }
         requires dimensions { length (box_of part.now).start ≡ length (chunk_shape subchunks.now) }
-        requires cells { HasCells (kind data_type.now) (data_of bytes.now)
+        requires cells { HasCells (kind_of cell_type.now) (data_of bytes.now)
             (position_count (box_of part.now).shape) }
-        requires fits { (chain_meaning (inner_chain_of self.now)).fits (kind data_type.now)
+        requires fits { (chain_meaning (inner_chain_of self.now)).fits (kind_of cell_type.now)
             (subchunk_shape subchunks.now) ≡ true }
         requires within { All (IsRangeWithin (length (stored_bytes
             (option_map (λ encoded. encoded.now) stored)))) ranges.now }
@@ -161,15 +158,15 @@ impl ShardingCodec {
             ≡ Some (map (range_part (stored_bytes (option_map (λ encoded. encoded.now) stored)))
             ranges.now) }
         ensures written { IfOk result (λ write. write_to (chain_meaning (inner_chain_of self.now))
-            (stores_empty_chunks options.now) (kind data_type.now)
-            (fill_of (kind data_type.now) fill_value.now) (chunk_shape subchunks.now)
+            (stores_empty_chunks options.now) (kind_of cell_type.now)
+            (filling cell_type.now) (chunk_shape subchunks.now)
             (subchunk_shape subchunks.now) (option_map (λ encoded. encoded.now) stored.entry)
             (box_of part.now) (data_of bytes.now)
             (map (range_part (stored_bytes (option_map (λ encoded. encoded.now) stored.entry)))
             ranges.now) ≡ Some (change_of write)) }
         ensures refused { IfErr result (RefusesChanges (chain_meaning (inner_chain_of self.now))
-            (stores_empty_chunks options.now) (kind data_type.now)
-            (fill_of (kind data_type.now) fill_value.now) (chunk_shape subchunks.now)
+            (stores_empty_chunks options.now) (kind_of cell_type.now)
+            (filling cell_type.now) (chunk_shape subchunks.now)
             (subchunk_shape subchunks.now) (box_of part.now) (data_of bytes.now)
             (map (range_part (stored_bytes (option_map (λ encoded. encoded.now) stored.entry)))
             ranges.now)) }
@@ -184,8 +181,7 @@ impl ShardingCodec {
                 subchunks,
                 part,
                 bytes,
-                data_type,
-                fill_value,
+                cell_type,
                 number as u64,
                 options,
             )?;
@@ -204,41 +200,39 @@ impl ShardingCodec {
         subchunks: &Subchunks,
         part: &ArraySubset,
         bytes: &ArrayBytes<'_>,
-        data_type: &DataType,
-        fill_value: &FillValue,
+        cell_type: &CellType,
         number: u64,
         options: &CodecOptions,
     ) -> Result<Option<Option<Vec<u8>>>, CodecError>
-        requires filled { IsSome (fill_cell (kind data_type.now) fill_value.now) }
         requires size { position_count (subchunk_shape subchunks.now)
-            * cell_size (kind data_type.now) < 2 ^ 64 }
+            * cell_size (kind_of cell_type.now) < 2 ^ 64 }
         requires within { IsRangeWithin (length shard.now) range }
         requires number { number
             < subchunk_count (chunk_shape subchunks.now) (subchunk_shape subchunks.now) }
         requires dimensions { length (box_of part.now).start ≡ length (chunk_shape subchunks.now) }
-        requires cells { HasCells (kind data_type.now) (data_of bytes.now)
+        requires cells { HasCells (kind_of cell_type.now) (data_of bytes.now)
             (position_count (box_of part.now).shape) }
-        requires fits { (chain_meaning (inner_chain_of self.now)).fits (kind data_type.now)
+        requires fits { (chain_meaning (inner_chain_of self.now)).fits (kind_of cell_type.now)
             (subchunk_shape subchunks.now) ≡ true }
         ensures change { IfOk result (λ change. changed_part (chain_meaning (inner_chain_of self.now))
-            (stores_empty_chunks options.now) (kind data_type.now)
-            (fill_of (kind data_type.now) fill_value.now) (chunk_shape subchunks.now)
+            (stores_empty_chunks options.now) (kind_of cell_type.now)
+            (filling cell_type.now) (chunk_shape subchunks.now)
             (subchunk_shape subchunks.now) (box_of part.now) (data_of bytes.now) number
             (range_part shard.now range)
             ≡ Some (option_map (λ part. option_map (λ bytes. bytes.items) part) change)) }
         ensures refused { IfErr result (RefusesChange (chain_meaning (inner_chain_of self.now))
-            (stores_empty_chunks options.now) (kind data_type.now)
-            (fill_of (kind data_type.now) fill_value.now) (chunk_shape subchunks.now)
+            (stores_empty_chunks options.now) (kind_of cell_type.now)
+            (filling cell_type.now) (chunk_shape subchunks.now)
             (subchunk_shape subchunks.now) (box_of part.now) (data_of bytes.now) number
             (range_part shard.now range)) }
     {
         if !subchunks.meets(alloc, part, number)? {
             return Ok(None);
         }
-        let held = self.held_part(alloc, shard, range, subchunks, data_type, fill_value)?;
-        let updated = subchunks.update(alloc, held, part, bytes, data_type, number)?;
+        let held = self.held_part(alloc, shard, range, subchunks, cell_type)?;
+        let updated = subchunks.update(alloc, held, part, bytes, &cell_type.data_type, number)?;
         let sub = subchunks.shape();
-        let encoded = self.encode_part(alloc, updated, data_type, fill_value, sub, options)?;
+        let encoded = self.encode_part(alloc, updated, cell_type, sub, options)?;
         Ok(Some(encoded))
     }
 
@@ -249,33 +243,39 @@ impl ShardingCodec {
         shard: &[u8],
         range: Option<SubchunkRange>,
         subchunks: &Subchunks,
-        data_type: &DataType,
-        fill_value: &FillValue,
+        cell_type: &CellType,
     ) -> Result<ArrayBytes<'static>, CodecError>
-        requires filled { IsSome (fill_cell (kind data_type.now) fill_value.now) }
         requires size { position_count (subchunk_shape subchunks.now)
-            * cell_size (kind data_type.now) < 2 ^ 64 }
+            * cell_size (kind_of cell_type.now) < 2 ^ 64 }
         requires within { IsRangeWithin (length shard.now) range }
-        ensures cells { IfOk result (λ made. cells (kind data_type.now) (data_of made)
-            ≡ decoded_part (chain_meaning (inner_chain_of self.now)) (kind data_type.now)
-            (fill_of (kind data_type.now) fill_value.now) (subchunk_shape subchunks.now)
+        ensures cells { IfOk result (λ made. cells (kind_of cell_type.now) (data_of made)
+            ≡ decoded_part (chain_meaning (inner_chain_of self.now)) (kind_of cell_type.now)
+            (filling cell_type.now) (subchunk_shape subchunks.now)
             (range_part shard.now range)) }
-        ensures some { IfOk result (λ made. IsSome (cells (kind data_type.now) (data_of made))) }
+        ensures some { IfOk result (λ made. IsSome (cells (kind_of cell_type.now) (data_of made))) }
         ensures refused { IfErr result (RefusesHeld (chain_meaning (inner_chain_of self.now))
-            (kind data_type.now) (fill_of (kind data_type.now) fill_value.now)
+            (kind_of cell_type.now) (filling cell_type.now)
             (subchunk_shape subchunks.now) (range_part shard.now range)) }
     {
         let Some(range) = range else {
-            return match subchunks.new_fill_part(alloc, data_type, fill_value)? {
+            return match subchunks.new_fill_part(
+                alloc,
+                &cell_type.data_type,
+                &cell_type.fill_value,
+            )? {
                 Some(part) => Ok(part),
                 None => Err(CodecError::SizeOverflow),
             };
         };
         let encoded = &shard[range.start..range.end];
         let sub = subchunks.shape();
-        let part = self
-            .inner_codecs()
-            .decode_chunk(alloc, encoded, data_type, fill_value, sub)?;
+        let part = self.inner_codecs().decode_chunk(
+            alloc,
+            encoded,
+            &cell_type.data_type,
+            &cell_type.fill_value,
+            sub,
+        )?;
         Ok(part.into_owned(alloc)?)
     }
 }

@@ -7,3 +7,4 @@ pub mod Places
 pub mod PartRefusals
 pub mod ShardInto
 pub mod ShardParts
+pub mod Chunks

@@ -7,7 +7,7 @@ ghost use Rattle.zarrs_codec_leaf.specs.Sources.{IsWindow, MayRead, window_bytes
 ghost use Rattle.zarrs_subset.specs.Boxes.{BoxFits, position_count};
 ghost use Rattle.zarrs_subset.specs.Cells.{BoxCopied};
 ghost use Rattle.zarrs_subset.specs.Regions.{LiesInShape, box_of};
-ghost use Rattle.zarrs_data_type.specs.States.{IsTarget, SameBox, StaysOutside, data_of_target};
+ghost use Rattle.zarrs_data_type.specs.States.{IsSameTarget, KeepsTarget, data_of_target};
 ghost use Rattle.zarrs_data_type.specs.States.{parent_box, target_box};
 ghost use Rattle.zarrs_data_type.specs.Targets.{takes_type};
 ghost use Rattle.zarrs_data_type.specs.Kind.{kind, cell_size};
@@ -51,18 +51,13 @@ pub fn partial_decode_bytes_into<B: ByteSource>(
     requires may_read { MayRead (B.may_read source.now) window
         (cell_places (kind data_type.now) shape.now (box_of part.now)
         (window_bytes window (B.bytes source.now))) }
-    requires target { IsTarget target.old }
     requires takes { takes_type target.old.cell_size target.old.depth (kind data_type.now) ≡ true }
     requires same_shape { (target_box target.old).shape ≡ (box_of part.now).shape }
-    ensures target { IsTarget target.new }
-    ensures same_bytes { target.new.bytes.ghost_name ≡ target.old.bytes.ghost_name }
-    ensures same_masks { target.new.masks.ghost_name ≡ target.old.masks.ghost_name }
-    ensures same_box { SameBox target.old target.new }
+    ensures kept { KeepsTarget target.old target.new }
     ensures cells { OnOk result (DecodesPartAt (kind data_type.now) shape.now (box_of part.now)
         ((bytes_meaning_of (endian_of codec.now)).decoded (kind data_type.now)
         (position_count shape.now) (window_bytes window (B.bytes source.now)))
         (parent_box target.old) (target_box target.old) (data_of_target target.new)) }
-    ensures outside { StaysOutside target.old target.new }
     ensures refused { IfErr result (RefusesPartDecoding
         ((bytes_meaning_of (endian_of codec.now)).decoded (kind data_type.now)
         (position_count shape.now) (window_bytes window (B.bytes source.now))) false 0
@@ -96,17 +91,12 @@ pub fn decode_bytes_into(
     data_type: &DataType,
     target: &mut ArrayBytesDecodeIntoTarget<'_, '_, '_>,
 ) -> Result<(), CodecError>
-    requires target { IsTarget target.old }
     requires takes { takes_type target.old.cell_size target.old.depth (kind data_type.now) ≡ true }
-    ensures target { IsTarget target.new }
-    ensures same_bytes { target.new.bytes.ghost_name ≡ target.old.bytes.ghost_name }
-    ensures same_masks { target.new.masks.ghost_name ≡ target.old.masks.ghost_name }
-    ensures same_box { SameBox target.old target.new }
+    ensures kept { KeepsTarget target.old target.new }
     ensures cells { OnOk result (DecodesInto (kind data_type.now) (parent_box target.old)
         (target_box target.old) ((bytes_meaning_of (endian_of codec.now)).decoded
         (kind data_type.now) (position_count (target_box target.old).shape) encoded.now)
         (data_of_target target.new)) }
-    ensures outside { StaysOutside target.old target.new }
     ensures refused { IfErr result (RefusesIntoDecoding
         ((bytes_meaning_of (endian_of codec.now)).decoded (kind data_type.now)
         (position_count (target_box target.old).shape) encoded.now)) }
@@ -136,14 +126,10 @@ fn put_part(
     target: &mut ArrayBytesDecodeIntoTarget<'_, '_, '_>,
 )
     requires part { LiesInShape (box_of part.now) shape.now }
-    requires target { IsTarget target.old }
     requires takes { takes_type target.old.cell_size target.old.depth (kind data_type.now) ≡ true }
     requires same_shape { (target_box target.old).shape ≡ (box_of part.now).shape }
     requires array_len { length array.now ≡ position_count shape.now * target.old.cell_size }
-    ensures target { IsTarget target.new }
-    ensures same_bytes { target.new.bytes.ghost_name ≡ target.old.bytes.ghost_name }
-    ensures same_masks { target.new.masks.ghost_name ≡ target.old.masks.ghost_name }
-    ensures same_box { SameBox target.old target.new }
+    ensures same { IsSameTarget target.old target.new }
     ensures masks { target.new.masks.now ≡ target.old.masks.now }
     ensures put { PutsPart (reverses (endian_of codec.now) (kind data_type.now))
         target.old.cell_size shape.now (box_of part.now) target.old.parent_shape.now
@@ -171,13 +157,9 @@ fn copy_part(
     target: &mut ArrayBytesDecodeIntoTarget<'_, '_, '_>,
 )
     requires part { LiesInShape (box_of part.now) shape.now }
-    requires target { IsTarget target.old }
     requires same_shape { (target_box target.old).shape ≡ (box_of part.now).shape }
     requires array_len { length array.now ≡ position_count shape.now * target.old.cell_size }
-    ensures target { IsTarget target.new }
-    ensures same_bytes { target.new.bytes.ghost_name ≡ target.old.bytes.ghost_name }
-    ensures same_masks { target.new.masks.ghost_name ≡ target.old.masks.ghost_name }
-    ensures same_box { SameBox target.old target.new }
+    ensures same { IsSameTarget target.old target.new }
     ensures masks { target.new.masks.now ≡ target.old.masks.now }
     ensures put { PutsPart false target.old.cell_size shape.now (box_of part.now)
         target.old.parent_shape.now (target_box target.old) array.now target.old.bytes.now
@@ -213,13 +195,9 @@ fn turn_part<T: Turning<N>, const N: usize>(
     requires small { N < 9 }
     requires size { target.old.cell_size ≡ N }
     requires part { LiesInShape (box_of part.now) shape.now }
-    requires target { IsTarget target.old }
     requires same_shape { (target_box target.old).shape ≡ (box_of part.now).shape }
     requires array_len { length array.now ≡ position_count shape.now * target.old.cell_size }
-    ensures target { IsTarget target.new }
-    ensures same_bytes { target.new.bytes.ghost_name ≡ target.old.bytes.ghost_name }
-    ensures same_masks { target.new.masks.ghost_name ≡ target.old.masks.ghost_name }
-    ensures same_box { SameBox target.old target.new }
+    ensures same { IsSameTarget target.old target.new }
     ensures masks { target.new.masks.now ≡ target.old.masks.now }
     ensures put { PutsPart true target.old.cell_size shape.now (box_of part.now)
         target.old.parent_shape.now (target_box target.old) array.now target.old.bytes.now

@@ -10,9 +10,13 @@
 #![tactic(auto)]
 
 mod array_lists;
+mod cell_type;
+mod chunk_type;
 mod into_field;
 
 pub use array_lists::{FromArrayBytes, IntoArrayBytes};
+pub use cell_type::CellType;
+pub use chunk_type::ChunkType;
 pub use into_field::IntoField;
 pub use zarrs_data_type_bytes::{
     ArrayBytes, ArrayBytesOffsets, ArrayBytesOptional, ArrayBytesVariableLength,

@@ -1,3 +1,4 @@
+use Rattle.zarrs_data_type.specs.CellTypes.{filling, kind_of}
 use Rattle.std.proofs.Common.{◌≡◌, ◌∙◌, ◌+◌, ◌<◌, ◌^◌, ap, sym, subst, arith, refl, length, map, List, ℕ, None, Option, true, rules, Bool, false, vec_len}
 use Rattle.std.proofs.lemmas.Bool.{eqb-true}
 use Rattle.std.proofs.lemmas.List.{get_or-map, get_or_read, length-map}
@@ -22,8 +23,8 @@ use Rattle.zarrs_codec_shard.specs.Sharded.{SubchunkMeaning, sharded_decoded}
 use Rattle.zarrs_codec_shard.specs.Subchunks.{subchunk_count}
 use Rattle.zarrs_codec_shard.specs.declared.shard_index.SubchunkRange.{SubchunkRange}
 use Rattle.zarrs_subset.specs.Boxes.{position_count}
-use Rattle.zarrs_subset.specs.Regions.{Box, box_of, LiesInBox}
-use Rattle.zarrs_data_type_region.proofs.TargetLevels.{masked_keeps}
+use Rattle.zarrs_subset.specs.Regions.{Box, box_of}
+use Rattle.zarrs_data_type_region.proofs.Kept.{keeps_itself, same_twice}
 use Rattle.zarrs_data_type_region.proofs.TypeSizes.{type_taken}
 use Rattle.zarrs_data_type.specs.States.{data_of_target, parent_box, target_box}
 use Rattle.zarrs_data_type.specs.Targets.{takes_type}
@@ -32,47 +33,18 @@ use Rattle.zarrs_data_type.specs.Cell.{fill_of}
 use Rattle.zarrs_data_type.specs.Kind.{kind}
 use Rattle.zarrs_codec.proofs.+decode_into.Goals as goal
 
-pub sharding::ShardingCodec::decode_cut_into-returns-in_err-subchunks-clause-outside : goal.sharding::ShardingCodec::decode_cut_into-returns-in_err-subchunks-clause-outside
-sharding::ShardingCodec::decode_cut_into-returns-in_err-subchunks-clause-outside t c =
-    let t = c.args.target.now in
-    masked_keeps t.cell_size (parent_box t) (target_box t) t.depth (position_count t.parent_shape.now) t.masks.now t.bytes.now
-
-pub sharding::ShardingCodec::decode_cut_into-returns-in_default-clause-outside : goal.sharding::ShardingCodec::decode_cut_into-returns-in_default-clause-outside
-sharding::ShardingCodec::decode_cut_into-returns-in_default-clause-outside t c =
-    let t = c.args.target.now in
-    masked_keeps t.cell_size (parent_box t) (target_box t) t.depth (position_count t.parent_shape.now) t.masks.now t.bytes.now
-
-pub sharding::ShardingCodec::decode_cut_into-returns-in_default-count-clause-outside : goal.sharding::ShardingCodec::decode_cut_into-returns-in_default-count-clause-outside
-sharding::ShardingCodec::decode_cut_into-returns-in_default-count-clause-outside t c =
-    let t = c.args.target.now in
-    masked_keeps t.cell_size (parent_box t) (target_box t) t.depth (position_count t.parent_shape.now) t.masks.now t.bytes.now
-
-pub sharding::ShardingCodec::decode_cut_into-returns-in_err-ranges-clause-outside : goal.sharding::ShardingCodec::decode_cut_into-returns-in_err-ranges-clause-outside
-sharding::ShardingCodec::decode_cut_into-returns-in_err-ranges-clause-outside t c =
-    let t = c.args.target.now in
-    masked_keeps t.cell_size (parent_box t) (target_box t) t.depth (position_count t.parent_shape.now) t.masks.now t.bytes.now
-
-pub sharding::ShardingCodec::decode_cut_into-returns-in_default-2-clause-outside : goal.sharding::ShardingCodec::decode_cut_into-returns-in_default-2-clause-outside
-sharding::ShardingCodec::decode_cut_into-returns-in_default-2-clause-outside t c =
-    let t = c.args.target.now in
-    masked_keeps t.cell_size (parent_box t) (target_box t) t.depth (position_count t.parent_shape.now) t.masks.now t.bytes.now
-
 pub sharding::ShardingCodec::decode_cut_into-loop-number-init : goal.sharding::ShardingCodec::decode_cut_into-loop-number-init
 sharding::ShardingCodec::decode_cut_into-loop-number-init t c =
     let t = c.args.target.now in
     record {
-      is_target = c.requires.target;
-      same_bytes = refl;
-      same_masks = refl;
-      same_box = record { cell_size = refl; depth = refl; parent_shape = refl; region = refl };
-      stays = masked_keeps t.cell_size (parent_box t) (target_box t) t.depth (position_count t.parent_shape.now) t.masks.now t.bytes.now;
+      kept = keeps_itself t;
       parts = λ j lt. absurd (omega arith);
     }
 
 pub sharding::ShardingCodec::decode_cut_into-shifted_to-requires-clause-ends : goal.sharding::ShardingCodec::decode_cut_into-shifted_to-requires-clause-ends
 sharding::ShardingCodec::decode_cut_into-shifted_to-requires-clause-ends t c =
-    let k = kind c.args.data_type.now in
-    let f = fill_of k c.args.fill_value.now in
+    let k = kind_of c.args.cell_type.now in
+    let f = filling c.args.cell_type.now in
     let t = c.args.target.now in
     let region = target_box t in
     let s = region.shape in
@@ -86,7 +58,7 @@ sharding::ShardingCodec::decode_cut_into-shifted_to-requires-clause-ends t c =
     shard_of at s sub enc c.shape.result.now sc c.in-Some-count.count ranges c.shape.ensures (rw c.in-Some.is at c.in_ok-subchunks.ensures.cut) (rw c.in-Some.is at c.in_ok-subchunks.ensures.chunk)
     (rw c.in-Some.is at c.in_ok-subchunks.ensures.subchunk) c.in-Some-count.ensures (rw c.in-Some-2.is at c.in_ok-ranges.ensures.parts) (rw c.in-Some-2.is at c.in_ok-ranges.ensures.within) in
     let long = t.region.now.same_length in
-    let lies = c.requires.target.inside in
+    let lies = t.whole.inside in
     let l = c.loop-number.target in
     let i = c.loop-number.invariant in
     let n = c.loop-number.number in
@@ -99,8 +71,8 @@ sharding::ShardingCodec::decode_cut_into-shifted_to-requires-clause-ends t c =
 
 pub sharding::ShardingCodec::decode_cut_into-index-range-requires : goal.sharding::ShardingCodec::decode_cut_into-index-range-requires
 sharding::ShardingCodec::decode_cut_into-index-range-requires t c =
-    let k = kind c.args.data_type.now in
-    let f = fill_of k c.args.fill_value.now in
+    let k = kind_of c.args.cell_type.now in
+    let f = filling c.args.cell_type.now in
     let t = c.args.target.now in
     let region = target_box t in
     let s = region.shape in
@@ -114,7 +86,7 @@ sharding::ShardingCodec::decode_cut_into-index-range-requires t c =
     shard_of at s sub enc c.shape.result.now sc c.in-Some-count.count ranges c.shape.ensures (rw c.in-Some.is at c.in_ok-subchunks.ensures.cut) (rw c.in-Some.is at c.in_ok-subchunks.ensures.chunk)
     (rw c.in-Some.is at c.in_ok-subchunks.ensures.subchunk) c.in-Some-count.ensures (rw c.in-Some-2.is at c.in_ok-ranges.ensures.parts) (rw c.in-Some-2.is at c.in_ok-ranges.ensures.within) in
     let long = t.region.now.same_length in
-    let lies = c.requires.target.inside in
+    let lies = t.whole.inside in
     let l = c.loop-number.target in
     let i = c.loop-number.invariant in
     let n = c.loop-number.number in
@@ -122,10 +94,10 @@ sharding::ShardingCodec::decode_cut_into-index-range-requires t c =
     let r_lt : n < length ranges = omega (arith, shard.counted) in
     omega (arith, c.in-Some-2.ranges.ok)
 
-pub sharding::ShardingCodec::decode_cut_into-returns-in_err-decode_part_into-clause-outside : goal.sharding::ShardingCodec::decode_cut_into-returns-in_err-decode_part_into-clause-outside
-sharding::ShardingCodec::decode_cut_into-returns-in_err-decode_part_into-clause-outside t c =
-    let k = kind c.args.data_type.now in
-    let f = fill_of k c.args.fill_value.now in
+pub sharding::ShardingCodec::decode_cut_into-returns-in_err-decode_part_into-clause-kept : goal.sharding::ShardingCodec::decode_cut_into-returns-in_err-decode_part_into-clause-kept
+sharding::ShardingCodec::decode_cut_into-returns-in_err-decode_part_into-clause-kept t c =
+    let k = kind_of c.args.cell_type.now in
+    let f = filling c.args.cell_type.now in
     let t = c.args.target.now in
     let region = target_box t in
     let s = region.shape in
@@ -139,7 +111,7 @@ sharding::ShardingCodec::decode_cut_into-returns-in_err-decode_part_into-clause-
     shard_of at s sub enc c.shape.result.now sc c.in-Some-count.count ranges c.shape.ensures (rw c.in-Some.is at c.in_ok-subchunks.ensures.cut) (rw c.in-Some.is at c.in_ok-subchunks.ensures.chunk)
     (rw c.in-Some.is at c.in_ok-subchunks.ensures.subchunk) c.in-Some-count.ensures (rw c.in-Some-2.is at c.in_ok-ranges.ensures.parts) (rw c.in-Some-2.is at c.in_ok-ranges.ensures.within) in
     let long = t.region.now.same_length in
-    let lies = c.requires.target.inside in
+    let lies = t.whole.inside in
     let l = c.loop-number.target in
     let i = c.loop-number.invariant in
     let n = c.loop-number.number in
@@ -149,15 +121,15 @@ sharding::ShardingCodec::decode_cut_into-returns-in_err-decode_part_into-clause-
     let own_is = own_box_is region (box_of c.in_ok-subset.subset) (box_of c.in_ok-own.own) sub c.start.result.now n subset_is c.start.ensures c.in_ok-own.ensures in
     let new = c.decode_part_into.new.target in
     let keeps =
-    same_keeps t.cell_size l.cell_size t.parent_shape.now l.parent_shape.now (own_box region sub n) (box_of c.in_ok-own.own) (data_of_target l) (data_of_target new) i.same_box.cell_size i.same_box.parent_shape own_is
-    c.decode_part_into.ensures.outside in
-    let stays = keeps_more t.cell_size (parent_box t) region (own_box region sub n) (data_of_target t) (data_of_target l) (data_of_target new) (own_outside t.parent_shape.now region sub shard.cut long lies n n_lt) i.stays keeps in
-    stays
+    same_keeps t.cell_size l.cell_size t.parent_shape.now l.parent_shape.now (own_box region sub n) (box_of c.in_ok-own.own) (data_of_target l) (data_of_target new) i.kept.same.cell_size i.kept.same.parent_shape own_is
+    c.decode_part_into.ensures.kept.outside in
+    let stays = keeps_more t.cell_size (parent_box t) region (own_box region sub n) (data_of_target t) (data_of_target l) (data_of_target new) (own_outside t.parent_shape.now region sub shard.cut long lies n n_lt) i.kept.outside keeps in
+    record { same = same_twice t l new i.kept.same c.decode_part_into.ensures.kept.same; outside = stays }
 
 pub sharding::ShardingCodec::decode_cut_into-returns-in_err-decode_part_into-clause-refused : goal.sharding::ShardingCodec::decode_cut_into-returns-in_err-decode_part_into-clause-refused
 sharding::ShardingCodec::decode_cut_into-returns-in_err-decode_part_into-clause-refused t c =
-    let k = kind c.args.data_type.now in
-    let f = fill_of k c.args.fill_value.now in
+    let k = kind_of c.args.cell_type.now in
+    let f = filling c.args.cell_type.now in
     let t = c.args.target.now in
     let region = target_box t in
     let s = region.shape in
@@ -171,7 +143,7 @@ sharding::ShardingCodec::decode_cut_into-returns-in_err-decode_part_into-clause-
     shard_of at s sub enc c.shape.result.now sc c.in-Some-count.count ranges c.shape.ensures (rw c.in-Some.is at c.in_ok-subchunks.ensures.cut) (rw c.in-Some.is at c.in_ok-subchunks.ensures.chunk)
     (rw c.in-Some.is at c.in_ok-subchunks.ensures.subchunk) c.in-Some-count.ensures (rw c.in-Some-2.is at c.in_ok-ranges.ensures.parts) (rw c.in-Some-2.is at c.in_ok-ranges.ensures.within) in
     let long = t.region.now.same_length in
-    let lies = c.requires.target.inside in
+    let lies = t.whole.inside in
     let l = c.loop-number.target in
     let i = c.loop-number.invariant in
     let n = c.loop-number.number in
@@ -190,8 +162,8 @@ sharding::ShardingCodec::decode_cut_into-returns-in_err-decode_part_into-clause-
 
 pub sharding::ShardingCodec::decode_cut_into-loop-number-preserved : goal.sharding::ShardingCodec::decode_cut_into-loop-number-preserved
 sharding::ShardingCodec::decode_cut_into-loop-number-preserved t c =
-    let k = kind c.args.data_type.now in
-    let f = fill_of k c.args.fill_value.now in
+    let k = kind_of c.args.cell_type.now in
+    let f = filling c.args.cell_type.now in
     let t = c.args.target.now in
     let region = target_box t in
     let s = region.shape in
@@ -205,7 +177,7 @@ sharding::ShardingCodec::decode_cut_into-loop-number-preserved t c =
     shard_of at s sub enc c.shape.result.now sc c.in-Some-count.count ranges c.shape.ensures (rw c.in-Some.is at c.in_ok-subchunks.ensures.cut) (rw c.in-Some.is at c.in_ok-subchunks.ensures.chunk)
     (rw c.in-Some.is at c.in_ok-subchunks.ensures.subchunk) c.in-Some-count.ensures (rw c.in-Some-2.is at c.in_ok-ranges.ensures.parts) (rw c.in-Some-2.is at c.in_ok-ranges.ensures.within) in
     let long = t.region.now.same_length in
-    let lies = c.requires.target.inside in
+    let lies = t.whole.inside in
     let l = c.loop-number.target in
     let i = c.loop-number.invariant in
     let n = c.loop-number.number in
@@ -217,33 +189,24 @@ sharding::ShardingCodec::decode_cut_into-loop-number-preserved t c =
     let part_is : slice_index_or parts n None ≡ range_part enc range = get_or-map (range_part enc) ranges n None None r_lt ∙ ap (range_part enc) (sym (get_or_read ranges n range r_lt c.index-range.ensures None)) in
     let new = c.decode_part_into.new.target in
     let keeps =
-    same_keeps t.cell_size l.cell_size t.parent_shape.now l.parent_shape.now (own_box region sub n) (box_of c.in_ok-own.own) (data_of_target l) (data_of_target new) i.same_box.cell_size i.same_box.parent_shape own_is
-    c.decode_part_into.ensures.outside in
-    let stays = keeps_more t.cell_size (parent_box t) region (own_box region sub n) (data_of_target t) (data_of_target l) (data_of_target new) (own_outside t.parent_shape.now region sub shard.cut long lies n n_lt) i.stays keeps in
+    same_keeps t.cell_size l.cell_size t.parent_shape.now l.parent_shape.now (own_box region sub n) (box_of c.in_ok-own.own) (data_of_target l) (data_of_target new) i.kept.same.cell_size i.kept.same.parent_shape own_is
+    c.decode_part_into.ensures.kept.outside in
+    let stays = keeps_more t.cell_size (parent_box t) region (own_box region sub n) (data_of_target t) (data_of_target l) (data_of_target new) (own_outside t.parent_shape.now region sub shard.cut long lies n n_lt) i.kept.outside keeps in
     let D = (chain_meaning (inner_chain_of c.args.self.now)).decoded k f in
     let fixed_is = (type_taken t.cell_size t.depth k c.requires.takes).0 in
     let did = c.decode_part_into.ensures in
     let here =
-    same_decodes k D f t.parent_shape.now l.parent_shape.now (own_box region sub n) (box_of c.in_ok-own.own) (slice_index_or parts n None) (range_part enc range) (data_of_target new) i.same_box.parent_shape own_is (sym part_is)
+    same_decodes k D f t.parent_shape.now l.parent_shape.now (own_box region sub n) (box_of c.in_ok-own.own) (slice_index_or parts n None) (range_part enc range) (data_of_target new) i.kept.same.parent_shape own_is (sym part_is)
     c.in_ok-decode_part_into.ensures.cells in
     record {
-      is_target = did.target;
-      same_bytes = did.same_bytes ∙ i.same_bytes;
-      same_masks = did.same_masks ∙ i.same_masks;
-      same_box = record {
-        cell_size = did.same_box.cell_size ∙ i.same_box.cell_size;
-        depth = did.same_box.depth ∙ i.same_box.depth;
-        parent_shape = did.same_box.parent_shape ∙ i.same_box.parent_shape;
-        region = did.same_box.region ∙ i.same_box.region;
-      };
-      stays = stays;
+      kept = record { same = same_twice t l new i.kept.same did.kept.same; outside = stays };
       parts = parts_more t.parent_shape.now region sub shard.cut long lies k t.cell_size fixed_is (D sub) f parts n (data_of_target l) (data_of_target new) n_lt keeps i.parts here;
     }
 
 pub sharding::ShardingCodec::decode_cut_into-returns-clause-cells : goal.sharding::ShardingCodec::decode_cut_into-returns-clause-cells
 sharding::ShardingCodec::decode_cut_into-returns-clause-cells t c =
-    let k = kind c.args.data_type.now in
-    let f = fill_of k c.args.fill_value.now in
+    let k = kind_of c.args.cell_type.now in
+    let f = filling c.args.cell_type.now in
     let t = c.args.target.now in
     let region = target_box t in
     let s = region.shape in
@@ -257,19 +220,19 @@ sharding::ShardingCodec::decode_cut_into-returns-clause-cells t c =
     shard_of at s sub enc c.shape.result.now sc c.in-Some-count.count ranges c.shape.ensures (rw c.in-Some.is at c.in_ok-subchunks.ensures.cut) (rw c.in-Some.is at c.in_ok-subchunks.ensures.chunk)
     (rw c.in-Some.is at c.in_ok-subchunks.ensures.subchunk) c.in-Some-count.ensures (rw c.in-Some-2.is at c.in_ok-ranges.ensures.parts) (rw c.in-Some-2.is at c.in_ok-ranges.ensures.within) in
     let long = t.region.now.same_length in
-    let lies = c.requires.target.inside in
+    let lies = t.whole.inside in
     let D = (chain_meaning (inner_chain_of c.args.self.now)).decoded k f in
     let l = c.loop-number.target in
     let fixed_is = (type_taken t.cell_size t.depth k c.requires.takes).0 in
     λ m fits decodes_as.
     all_into t.parent_shape.now region sub shard.cut long lies k t.cell_size fixed_is (D sub) f parts m at enc fits decodes_as shard.parts
-    (λ b cs is. (chain-lawful (inner_chain_of c.args.self.now)).decoded_len k f sub b cs is) (λ b cs is. (chain-lawful (inner_chain_of c.args.self.now)).decoded_values k f sub b cs is) (fill-value k c.args.fill_value.now c.requires.filled) (data_of_target l)
+    (λ b cs is. (chain-lawful (inner_chain_of c.args.self.now)).decoded_len k f sub b cs is) (λ b cs is. (chain-lawful (inner_chain_of c.args.self.now)).decoded_values k f sub b cs is) (fill-value k c.args.cell_type.now.fill_value c.args.cell_type.now.filled) (data_of_target l)
     (λ j lt. c.loop-number.invariant.parts j (omega (arith, shard.count_is)))
 
 pub sharding::ShardingCodec::decode_cut_into-decode_part_into-requires : goal.sharding::ShardingCodec::decode_cut_into-decode_part_into-requires
 sharding::ShardingCodec::decode_cut_into-decode_part_into-requires t c =
-    let k = kind c.args.data_type.now in
-    let f = fill_of k c.args.fill_value.now in
+    let k = kind_of c.args.cell_type.now in
+    let f = filling c.args.cell_type.now in
     let t = c.args.target.now in
     let region = target_box t in
     let s = region.shape in
@@ -283,7 +246,7 @@ sharding::ShardingCodec::decode_cut_into-decode_part_into-requires t c =
     shard_of at s sub enc c.shape.result.now sc c.in-Some-count.count ranges c.shape.ensures (rw c.in-Some.is at c.in_ok-subchunks.ensures.cut) (rw c.in-Some.is at c.in_ok-subchunks.ensures.chunk)
     (rw c.in-Some.is at c.in_ok-subchunks.ensures.subchunk) c.in-Some-count.ensures (rw c.in-Some-2.is at c.in_ok-ranges.ensures.parts) (rw c.in-Some-2.is at c.in_ok-ranges.ensures.within) in
     let long = t.region.now.same_length in
-    let lies = c.requires.target.inside in
+    let lies = t.whole.inside in
     let l = c.loop-number.target in
     let i = c.loop-number.invariant in
     let n = c.loop-number.number in
@@ -291,42 +254,27 @@ sharding::ShardingCodec::decode_cut_into-decode_part_into-requires t c =
     let r_lt : n < length ranges = omega (arith, shard.counted) in
     let subset_is = number_box at s sub enc sc c.in-Some-count.count ranges n (box_of c.in_ok-subset.subset) shard c.in_ok-subset.ensures in
     let own_is = own_box_is region (box_of c.in_ok-subset.subset) (box_of c.in_ok-own.own) sub c.start.result.now n subset_is c.start.ensures c.in_ok-own.ensures in
-    let takes_same = subst (λ n. takes_type n l.depth k ≡ true) (sym i.same_box.cell_size) (subst (λ n. takes_type t.cell_size n k ≡ true) (sym i.same_box.depth) c.requires.takes) in
+    let takes_same = subst (λ n. takes_type n l.depth k ≡ true) (sym i.kept.same.cell_size) (subst (λ n. takes_type t.cell_size n k ≡ true) (sym i.kept.same.depth) c.requires.takes) in
     let range = c.index-range.result.now in
     let ranged = subst (IsRangeWithin (length enc)) (sym (get_or_read ranges n range r_lt c.index-range.ensures None)) (shard.within n None r_lt) in
     let inside =
     subst (λ (b : Box). LiesInBox b (target_box l)) (sym own_is)
-    (subst (λ (b : Box). LiesInBox (own_box region sub n) b) (ap box_of (sym i.same_box.region)) (own_in_region t.parent_shape.now region sub shard.cut long lies n n_lt)) in
-    (first_of (omega (arith, c.decreases), search rules), (c.requires.filled, (i.is_target, (takes_same, (ranged, inside)))))
+    (subst (λ (b : Box). LiesInBox (own_box region sub n) b) (ap box_of (sym i.kept.same.region)) (own_in_region t.parent_shape.now region sub shard.cut long lies n n_lt)) in
+    (first_of (omega (arith, c.decreases), search rules), (takes_same, (ranged, inside)))
 
 pub sharding::ShardingCodec::decode_subchunk_into-returns-in_default-clause-cells : goal.sharding::ShardingCodec::decode_subchunk_into-returns-in_default-clause-cells
 sharding::ShardingCodec::decode_subchunk_into-returns-in_default-clause-cells t c =
-    let k = kind c.args.data_type.now in
-    let f = fill_of k c.args.fill_value.now in
+    let k = kind_of c.args.cell_type.now in
+    let f = filling c.args.cell_type.now in
     let t = c.args.target.now in
     let dec = (chain_meaning (inner_chain_of c.args.self.now)).decoded k f (target_box t).shape in
     subst (λ (o : Option SubchunkRange). DecodesPartInto k dec f (parent_box t) (target_box t) (range_part c.args.encoded.now o) (data_of_target c.copy_fill_value_into.new.target)) (sym c.in_default.is)
-    (filled_part k t.parent_shape.now (target_box t) f (data_of_target t) (data_of_target c.copy_fill_value_into.new.target) t.region.now.same_length c.requires.target.inside c.in_ok-copy_fill_value_into.ensures.fills)
-
-pub sharding::ShardingCodec::decode_shard_into-returns-in_err-sub-clause-outside : goal.sharding::ShardingCodec::decode_shard_into-returns-in_err-sub-clause-outside
-sharding::ShardingCodec::decode_shard_into-returns-in_err-sub-clause-outside t c =
-    let a = c.args.target.now in
-    masked_keeps a.cell_size (parent_box a) (target_box a) a.depth (position_count a.parent_shape.now) a.masks.now a.bytes.now
-
-pub sharding::ShardingCodec::decode_shard_into-returns-in_err-fits_chunk-clause-outside : goal.sharding::ShardingCodec::decode_shard_into-returns-in_err-fits_chunk-clause-outside
-sharding::ShardingCodec::decode_shard_into-returns-in_err-fits_chunk-clause-outside t c =
-    let a = c.args.target.now in
-    masked_keeps a.cell_size (parent_box a) (target_box a) a.depth (position_count a.parent_shape.now) a.masks.now a.bytes.now
-
-pub sharding::ShardingCodec::decode_shard_into-returns-then-not-branch-clause-outside : goal.sharding::ShardingCodec::decode_shard_into-returns-then-not-branch-clause-outside
-sharding::ShardingCodec::decode_shard_into-returns-then-not-branch-clause-outside t c =
-    let a = c.args.target.now in
-    masked_keeps a.cell_size (parent_box a) (target_box a) a.depth (position_count a.parent_shape.now) a.masks.now a.bytes.now
+    (filled_part k t.parent_shape.now (target_box t) f (data_of_target t) (data_of_target c.copy_fill_value_into.new.target) t.region.now.same_length c.args.target.now.whole.inside c.in_ok-copy_fill_value_into.ensures.fills)
 
 pub sharding::ShardingCodec::decode_shard_into-returns-clause-cells : goal.sharding::ShardingCodec::decode_shard_into-returns-clause-cells
 sharding::ShardingCodec::decode_shard_into-returns-clause-cells measure c =
-    let k = kind c.args.data_type.now in
-    let f = fill_of k c.args.fill_value.now in
+    let k = kind_of c.args.cell_type.now in
+    let f = filling c.args.cell_type.now in
     let x = c.args.self.now in
     let m : ChainMeaning = chain_meaning (inner_chain_of x) in
     let t = c.args.target.now in
@@ -345,8 +293,8 @@ sharding::ShardingCodec::decode_shard_into-returns-clause-cells measure c =
 
 pub sharding::ShardingCodec::decode_shard_into-returns-clause-refused : goal.sharding::ShardingCodec::decode_shard_into-returns-clause-refused
 sharding::ShardingCodec::decode_shard_into-returns-clause-refused measure c =
-    let k = kind c.args.data_type.now in
-    let f = fill_of k c.args.fill_value.now in
+    let k = kind_of c.args.cell_type.now in
+    let f = filling c.args.cell_type.now in
     let x = c.args.self.now in
     let m : ChainMeaning = chain_meaning (inner_chain_of x) in
     let t = c.args.target.now in
@@ -363,8 +311,8 @@ sharding::ShardingCodec::decode_shard_into-returns-clause-refused measure c =
 
 pub chain::CodecChain::decode_chunk_into-returns-in-Bytes-clause-cells : goal.chain::CodecChain::decode_chunk_into-returns-in-Bytes-clause-cells
 chain::CodecChain::decode_chunk_into-returns-in-Bytes-clause-cells measure c =
-    let k = kind c.args.data_type.now in
-    let f = fill_of k c.args.fill_value.now in
+    let k = kind_of c.args.cell_type.now in
+    let f = filling c.args.cell_type.now in
     let t = c.args.target.now in
     let s = (target_box t).shape in
     let b = c.args.encoded.now in
@@ -381,8 +329,8 @@ chain::CodecChain::decode_chunk_into-returns-in-Bytes-clause-cells measure c =
 
 pub chain::CodecChain::decode_chunk_into-returns-in-Bytes-clause-refused : goal.chain::CodecChain::decode_chunk_into-returns-in-Bytes-clause-refused
 chain::CodecChain::decode_chunk_into-returns-in-Bytes-clause-refused measure c =
-    let k = kind c.args.data_type.now in
-    let f = fill_of k c.args.fill_value.now in
+    let k = kind_of c.args.cell_type.now in
+    let f = filling c.args.cell_type.now in
     let t = c.args.target.now in
     let s = (target_box t).shape in
     let b = c.args.encoded.now in
@@ -398,8 +346,8 @@ chain::CodecChain::decode_chunk_into-returns-in-Bytes-clause-refused measure c =
 
 pub chain::CodecChain::decode_chunk_into-returns-in-Sharding-clause-cells : goal.chain::CodecChain::decode_chunk_into-returns-in-Sharding-clause-cells
 chain::CodecChain::decode_chunk_into-returns-in-Sharding-clause-cells measure c =
-    let k = kind c.args.data_type.now in
-    let f = fill_of k c.args.fill_value.now in
+    let k = kind_of c.args.cell_type.now in
+    let f = filling c.args.cell_type.now in
     let t = c.args.target.now in
     let s = (target_box t).shape in
     let b = c.args.encoded.now in
@@ -417,8 +365,8 @@ chain::CodecChain::decode_chunk_into-returns-in-Sharding-clause-cells measure c 
 
 pub chain::CodecChain::decode_chunk_into-returns-in-Sharding-clause-refused : goal.chain::CodecChain::decode_chunk_into-returns-in-Sharding-clause-refused
 chain::CodecChain::decode_chunk_into-returns-in-Sharding-clause-refused measure c =
-    let k = kind c.args.data_type.now in
-    let f = fill_of k c.args.fill_value.now in
+    let k = kind_of c.args.cell_type.now in
+    let f = filling c.args.cell_type.now in
     let t = c.args.target.now in
     let s = (target_box t).shape in
     let b = c.args.encoded.now in

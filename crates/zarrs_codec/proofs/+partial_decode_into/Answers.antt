@@ -37,6 +37,7 @@ use Rattle.zarrs_subset.specs.Boxes.{position_count}
 use Rattle.zarrs_subset.specs.Walks.{walk_box, walk_number}
 use Rattle.zarrs_data_type_region.proofs.TargetBoxes.{lies_at_origin, origin_long}
 use Rattle.zarrs_data_type_region.proofs.TargetLevels.{masked_keeps}
+use Rattle.zarrs_data_type_region.proofs.Kept.{keeps_itself, same_twice}
 use Rattle.zarrs_data_type_region.proofs.TypeSizes.{type_taken}
 use Rattle.zarrs_data_type.specs.States.{data_of_target, parent_box, target_box}
 use Rattle.zarrs_data_type.specs.Targets.{KeepsOutside, takes_type}
@@ -44,41 +45,6 @@ use Rattle.zarrs_data_type_kinds.proofs.Values.{fill-value}
 use Rattle.zarrs_data_type.specs.Cell.{fill_of, held_size}
 use Rattle.zarrs_data_type.specs.Kind.{cell_size, kind}
 use Rattle.zarrs_codec.proofs.+partial_decode_into.Goals as goal
-
-pub sharding::ShardingCodec::read_subchunk_into-returns-in_default-clause-outside : goal.sharding::ShardingCodec::read_subchunk_into-returns-in_default-clause-outside
-sharding::ShardingCodec::read_subchunk_into-returns-in_default-clause-outside g t c =
-    let t = c.args.target.now in
-    masked_keeps t.cell_size (parent_box t) (target_box t) t.depth (position_count t.parent_shape.now) t.masks.now t.bytes.now
-
-pub sharding::ShardingCodec::read_subchunk_into-returns-in_err-subset-clause-outside : goal.sharding::ShardingCodec::read_subchunk_into-returns-in_err-subset-clause-outside
-sharding::ShardingCodec::read_subchunk_into-returns-in_err-subset-clause-outside g t c =
-    let t = c.args.target.now in
-    masked_keeps t.cell_size (parent_box t) (target_box t) t.depth (position_count t.parent_shape.now) t.masks.now t.bytes.now
-
-pub sharding::ShardingCodec::read_subchunk_into-returns-in_err-shared-clause-outside : goal.sharding::ShardingCodec::read_subchunk_into-returns-in_err-shared-clause-outside
-sharding::ShardingCodec::read_subchunk_into-returns-in_err-shared-clause-outside g t c =
-    let t = c.args.target.now in
-    masked_keeps t.cell_size (parent_box t) (target_box t) t.depth (position_count t.parent_shape.now) t.masks.now t.bytes.now
-
-pub sharding::ShardingCodec::read_subchunk_into-returns-then-is_empty-clause-outside : goal.sharding::ShardingCodec::read_subchunk_into-returns-then-is_empty-clause-outside
-sharding::ShardingCodec::read_subchunk_into-returns-then-is_empty-clause-outside g t c =
-    let t = c.args.target.now in
-    masked_keeps t.cell_size (parent_box t) (target_box t) t.depth (position_count t.parent_shape.now) t.masks.now t.bytes.now
-
-pub sharding::ShardingCodec::read_subchunk_into-returns-in_err-piece-clause-outside : goal.sharding::ShardingCodec::read_subchunk_into-returns-in_err-piece-clause-outside
-sharding::ShardingCodec::read_subchunk_into-returns-in_err-piece-clause-outside g t c =
-    let t = c.args.target.now in
-    masked_keeps t.cell_size (parent_box t) (target_box t) t.depth (position_count t.parent_shape.now) t.masks.now t.bytes.now
-
-pub sharding::ShardingCodec::read_subchunk_into-returns-in_err-seen-clause-outside : goal.sharding::ShardingCodec::read_subchunk_into-returns-in_err-seen-clause-outside
-sharding::ShardingCodec::read_subchunk_into-returns-in_err-seen-clause-outside g t c =
-    let t = c.args.target.now in
-    masked_keeps t.cell_size (parent_box t) (target_box t) t.depth (position_count t.parent_shape.now) t.masks.now t.bytes.now
-
-pub sharding::ShardingCodec::read_subchunk_into-returns-in_err-own-clause-outside : goal.sharding::ShardingCodec::read_subchunk_into-returns-in_err-own-clause-outside
-sharding::ShardingCodec::read_subchunk_into-returns-in_err-own-clause-outside g t c =
-    let t = c.args.target.now in
-    masked_keeps t.cell_size (parent_box t) (target_box t) t.depth (position_count t.parent_shape.now) t.masks.now t.bytes.now
 
 pub sharding::ShardingCodec::read_subchunk_into-returns-in_default-clause-read : goal.sharding::ShardingCodec::read_subchunk_into-returns-in_default-clause-read
 sharding::ShardingCodec::read_subchunk_into-returns-in_default-clause-read g t c =
@@ -422,10 +388,10 @@ sharding::ShardingCodec::read_subchunk_into-read_piece-requires g t c κs within
     let allowed = subst (λ (o : Option Window). IfSome o (λ w. MayRead may_read w (m.places k sub piece (window_bytes w source)))) (sym window_is) (at.allowed (m.places k sub piece) ((chain-lawful inner).places_inside k sub piece)) in
     let own_lies = subst (λ (b : Box). LiesInBox b region) (sym own_is) (moved_lies region part shared own_long long shared_long r.same_shape shared_lies) in
     let same_shape : own.shape ≡ piece.shape = ap (λ (b : Box). b.shape) own_is ∙ sym (ap (λ (b : Box). b.shape) piece_is) in
-    (first_of (omega (arith, c.decreases), search rules), (search rules, (r.filled, (small, (piece_lies, (inside, (allowed, (r.target, (r.takes, (own_lies, same_shape))))))))))
+    (first_of (omega (arith, c.decreases), search rules), (search rules, (r.filled, (small, (piece_lies, (inside, (allowed, (r.takes, (own_lies, same_shape)))))))))
 
-pub sharding::ShardingCodec::read_subchunk_into-returns-clause-outside : goal.sharding::ShardingCodec::read_subchunk_into-returns-clause-outside
-sharding::ShardingCodec::read_subchunk_into-returns-clause-outside g t c =
+pub sharding::ShardingCodec::read_subchunk_into-returns-clause-kept : goal.sharding::ShardingCodec::read_subchunk_into-returns-clause-kept
+sharding::ShardingCodec::read_subchunk_into-returns-clause-kept g t c =
     let k = kind c.args.data_type.now in
     let f = fill_of k c.args.fill_value.now in
     let s = c.args.shape.now in
@@ -457,10 +423,13 @@ sharding::ShardingCodec::read_subchunk_into-returns-clause-outside g t c =
     let piece = box_of c.in_ok-piece.piece in
     let piece_is : piece ≡ seen_from shared (corner sub i) = own_of s sub i part subset shared piece c.start.result.now there.piece c.start.ensures c.in_ok-piece.ensures in
     let new = data_of_target c.read_piece.new.target in
-    let outside = c.read_piece.ensures.outside in
-    keeps_more t.cell_size (parent_box t) region own (data_of_target t) (data_of_target t) new
-    (subst (λ (b : Box). (p : List ℕ) → in_box region p ≡ false → in_box b p ≡ false) (sym own_is) (moved_outside region part shared own_long long shared_long c.requires.same_shape shared_lies))
-    (masked_keeps t.cell_size (parent_box t) region t.depth (position_count t.parent_shape.now) t.masks.now t.bytes.now) outside
+    let outside = c.read_piece.ensures.kept.outside in
+    record {
+      same = c.read_piece.ensures.kept.same;
+      outside = keeps_more t.cell_size (parent_box t) region own (data_of_target t) (data_of_target t) new
+          (subst (λ (b : Box). (p : List ℕ) → in_box region p ≡ false → in_box b p ≡ false) (sym own_is) (moved_outside region part shared own_long long shared_long c.requires.same_shape shared_lies))
+          (masked_keeps t.cell_size (parent_box t) region t.depth (position_count t.parent_shape.now) t.masks.now t.bytes.now) outside;
+    }
 
 pub sharding::ShardingCodec::read_subchunk_into-returns-clause-read : goal.sharding::ShardingCodec::read_subchunk_into-returns-clause-read
 sharding::ShardingCodec::read_subchunk_into-returns-clause-read g t c =
@@ -503,13 +472,13 @@ sharding::ShardingCodec::read_subchunk_into-returns-clause-read g t c =
     let window_is : own_window ≡ option_map (range_window c.args.window) range = c.window_of_range-own_window.ensures in
     let bytes_are : slice_index_or parts n None ≡ option_map (λ (w : Window). window_bytes w source) own_window = at.bytes_are ∙ ap (option_map (λ (w : Window). window_bytes w source)) (sym window_is) in
     let new = data_of_target c.read_piece.new.target in
-    let outside = c.read_piece.ensures.outside in
+    let outside = c.read_piece.ensures.kept.outside in
     let o = option_map (λ (w : Window). window_bytes w source) own_window in
     let keeps = subst (λ (b : Box). KeepsOutside t.cell_size (parent_box t) b (data_of_target t) new) own_is outside in
     on_ok_weaker c.read_piece.result
     (λ h.
     piece_at k dec f s sub part parts (parent_box t) region t.cell_size (type_taken t.cell_size t.depth k c.requires.takes).0 (fill-value k c.args.fill_value.now c.requires.filled) shard.cut long c.requires.part
-    (origin_long t.parent_shape.now) own_long c.requires.same_shape (lies_at_origin region t.parent_shape.now c.requires.target.inside)
+    (origin_long t.parent_shape.now) own_long c.requires.same_shape (lies_at_origin region t.parent_shape.now c.args.target.now.whole.inside)
     i n shared shared_long shared_lies here.in_grid here.at_n
     (subst (λ (b : Box). (p : List ℕ) → in_box shared p ≡ (in_box part p && in_box b p)) there.box_of_number c.in_ok-shared.ensures.common)
     there.piece.corner_len there.piece.above o (data_of_target t) new bytes_are keeps
@@ -565,7 +534,7 @@ sharding::ShardingCodec::read_piece_into-returns-in_default-clause-cells g t c =
     let t = c.args.target.now in
     let new = data_of_target c.copy_fill_value_into.new.target in
     subst (λ (o : Option Window). DecodesPieceAt k dec f sub piece (option_map (λ (w : Window). window_bytes w source) o) (parent_box t) (target_box t) new) (sym c.in_default.is)
-    (filled_part k t.parent_shape.now (target_box t) f (data_of_target t) new t.region.now.same_length c.requires.target.inside c.in_ok-copy_fill_value_into.ensures.fills)
+    (filled_part k t.parent_shape.now (target_box t) f (data_of_target t) new t.region.now.same_length c.args.target.now.whole.inside c.in_ok-copy_fill_value_into.ensures.fills)
 
 pub sharding::ShardingCodec::read_piece_into-returns-clause-cells : goal.sharding::ShardingCodec::read_piece_into-returns-clause-cells
 sharding::ShardingCodec::read_piece_into-returns-clause-cells g t c =
@@ -610,22 +579,7 @@ sharding::ShardingCodec::read_piece_into-partial_decode_inner_into-requires g t 
     let r = c.requires in
     let inside = rw c.in-Some.is at r.window in
     let may = rw c.in-Some.is at r.may_read in
-    (first_of (omega (arith, c.decreases), search rules), (search rules, (r.filled, (r.size, (r.piece, (inside, (may, (r.target, (r.takes, r.same_shape)))))))))
-
-pub sharding::ShardingCodec::read_subchunks_into-returns-in_err-met-clause-outside : goal.sharding::ShardingCodec::read_subchunks_into-returns-in_err-met-clause-outside
-sharding::ShardingCodec::read_subchunks_into-returns-in_err-met-clause-outside g t c =
-    let t = c.args.target.now in
-    masked_keeps t.cell_size (parent_box t) (target_box t) t.depth (position_count t.parent_shape.now) t.masks.now t.bytes.now
-
-pub sharding::ShardingCodec::read_subchunks_into-returns-in_err-walk-clause-outside : goal.sharding::ShardingCodec::read_subchunks_into-returns-in_err-walk-clause-outside
-sharding::ShardingCodec::read_subchunks_into-returns-in_err-walk-clause-outside g t c =
-    let t = c.args.target.now in
-    masked_keeps t.cell_size (parent_box t) (target_box t) t.depth (position_count t.parent_shape.now) t.masks.now t.bytes.now
-
-pub sharding::ShardingCodec::read_subchunks_into-returns-in_default-clause-outside : goal.sharding::ShardingCodec::read_subchunks_into-returns-in_default-clause-outside
-sharding::ShardingCodec::read_subchunks_into-returns-in_default-clause-outside g t c =
-    let t = c.args.target.now in
-    masked_keeps t.cell_size (parent_box t) (target_box t) t.depth (position_count t.parent_shape.now) t.masks.now t.bytes.now
+    (first_of (omega (arith, c.decreases), search rules), (search rules, (r.filled, (r.size, (r.piece, (inside, (may, (r.takes, r.same_shape))))))))
 
 pub sharding::ShardingCodec::read_subchunks_into-returns-in_default-clause-all : goal.sharding::ShardingCodec::read_subchunks_into-returns-in_default-clause-all
 sharding::ShardingCodec::read_subchunks_into-returns-in_default-clause-all g t c =
@@ -658,11 +612,7 @@ sharding::ShardingCodec::read_subchunks_into-loop-walk-init g t c =
     let same = rw c.in-Some.is at c.in_ok-walk.ensures.none in
     let first = rw c.in-Some.is at c.in_ok-walk.ensures.first in
     record {
-      is_target = c.requires.target;
-      same_bytes = refl;
-      same_masks = refl;
-      same_box = record { cell_size = refl; depth = refl; parent_shape = refl; region = refl };
-      stays = masked_keeps t.cell_size (parent_box t) (target_box t) t.depth (position_count t.parent_shape.now) t.masks.now t.bytes.now;
+      kept = keeps_itself t;
       meets = subst (λ (b : Box). MeetsPart sub part b) (sym same) c.in_ok-met.ensures;
       read =
           subst (λ (n : ℕ). HasSubchunksAt k dec f s sub part parts (take n (positions (walk_box walk))) (parent_box t) (target_box t) (data_of_target t)) (sym first)
@@ -691,8 +641,8 @@ sharding::ShardingCodec::read_subchunks_into-loop-walk-smaller g t c =
     let next = c.if-not-advance.ensures.next in
     omega (arith, ap (λ (b : Box). length (positions b)) c.if-not-advance.ensures.same_box)
 
-pub sharding::ShardingCodec::read_subchunks_into-returns-in_err-read_subchunk_into-clause-outside : goal.sharding::ShardingCodec::read_subchunks_into-returns-in_err-read_subchunk_into-clause-outside
-sharding::ShardingCodec::read_subchunks_into-returns-in_err-read_subchunk_into-clause-outside g t c =
+pub sharding::ShardingCodec::read_subchunks_into-returns-in_err-read_subchunk_into-clause-kept : goal.sharding::ShardingCodec::read_subchunks_into-returns-in_err-read_subchunk_into-clause-kept
+sharding::ShardingCodec::read_subchunks_into-returns-in_err-read_subchunk_into-clause-kept g t c =
     let k = kind c.args.data_type.now in
     let f = fill_of k c.args.fill_value.now in
     let s = c.args.shape.now in
@@ -711,13 +661,13 @@ sharding::ShardingCodec::read_subchunks_into-returns-in_err-read_subchunk_into-c
     let at : slice_get chunks n ≡ Some index = c.current.ensures in
     let new = c.read_subchunk_into.new.target in
     let keeps =
-    same_keeps t.cell_size l.cell_size t.parent_shape.now l.parent_shape.now (target_box t) (target_box l) (data_of_target l) (data_of_target new) i.same_box.cell_size i.same_box.parent_shape (ap box_of i.same_box.region)
-    c.read_subchunk_into.ensures.outside in
-    let stays = keeps_more t.cell_size (parent_box t) (target_box t) (target_box t) (data_of_target t) (data_of_target l) (data_of_target new) (λ p out. out) i.stays keeps in
-    stays
+    same_keeps t.cell_size l.cell_size t.parent_shape.now l.parent_shape.now (target_box t) (target_box l) (data_of_target l) (data_of_target new) i.kept.same.cell_size i.kept.same.parent_shape (ap box_of i.kept.same.region)
+    c.read_subchunk_into.ensures.kept.outside in
+    let stays = keeps_more t.cell_size (parent_box t) (target_box t) (target_box t) (data_of_target t) (data_of_target l) (data_of_target new) (λ p out. out) i.kept.outside keeps in
+    record { same = same_twice t l new i.kept.same c.read_subchunk_into.ensures.kept.same; outside = stays }
 
-pub sharding::ShardingCodec::read_subchunks_into-returns-then-not-advance-clause-outside : goal.sharding::ShardingCodec::read_subchunks_into-returns-then-not-advance-clause-outside
-sharding::ShardingCodec::read_subchunks_into-returns-then-not-advance-clause-outside g t c =
+pub sharding::ShardingCodec::read_subchunks_into-returns-then-not-advance-clause-kept : goal.sharding::ShardingCodec::read_subchunks_into-returns-then-not-advance-clause-kept
+sharding::ShardingCodec::read_subchunks_into-returns-then-not-advance-clause-kept g t c =
     let k = kind c.args.data_type.now in
     let f = fill_of k c.args.fill_value.now in
     let s = c.args.shape.now in
@@ -736,10 +686,10 @@ sharding::ShardingCodec::read_subchunks_into-returns-then-not-advance-clause-out
     let at : slice_get chunks n ≡ Some index = c.current.ensures in
     let new = c.read_subchunk_into.new.target in
     let keeps =
-    same_keeps t.cell_size l.cell_size t.parent_shape.now l.parent_shape.now (target_box t) (target_box l) (data_of_target l) (data_of_target new) i.same_box.cell_size i.same_box.parent_shape (ap box_of i.same_box.region)
-    c.read_subchunk_into.ensures.outside in
-    let stays = keeps_more t.cell_size (parent_box t) (target_box t) (target_box t) (data_of_target t) (data_of_target l) (data_of_target new) (λ p out. out) i.stays keeps in
-    stays
+    same_keeps t.cell_size l.cell_size t.parent_shape.now l.parent_shape.now (target_box t) (target_box l) (data_of_target l) (data_of_target new) i.kept.same.cell_size i.kept.same.parent_shape (ap box_of i.kept.same.region)
+    c.read_subchunk_into.ensures.kept.outside in
+    let stays = keeps_more t.cell_size (parent_box t) (target_box t) (target_box t) (data_of_target t) (data_of_target l) (data_of_target new) (λ p out. out) i.kept.outside keeps in
+    record { same = same_twice t l new i.kept.same c.read_subchunk_into.ensures.kept.same; outside = stays }
 
 pub sharding::ShardingCodec::read_subchunks_into-returns-then-not-advance-clause-all : goal.sharding::ShardingCodec::read_subchunks_into-returns-then-not-advance-clause-all
 sharding::ShardingCodec::read_subchunks_into-returns-then-not-advance-clause-all g t c =
@@ -761,8 +711,8 @@ sharding::ShardingCodec::read_subchunks_into-returns-then-not-advance-clause-all
     let at : slice_get chunks n ≡ Some index = c.current.ensures in
     let new = c.read_subchunk_into.new.target in
     let read =
-    subst (λ (b : Box). ReadsSubchunkAt k dec f s sub part parts index (parent_box t) b (data_of_target l) (data_of_target new)) (ap box_of i.same_box.region)
-    (subst (λ (x : List ℕ). ReadsSubchunkAt k dec f s sub part parts index (box_at_origin x) (target_box l) (data_of_target l) (data_of_target new)) i.same_box.parent_shape c.in_ok-read_subchunk_into.ensures.read) in
+    subst (λ (b : Box). ReadsSubchunkAt k dec f s sub part parts index (parent_box t) b (data_of_target l) (data_of_target new)) (ap box_of i.kept.same.region)
+    (subst (λ (x : List ℕ). ReadsSubchunkAt k dec f s sub part parts index (box_at_origin x) (target_box l) (data_of_target l) (data_of_target new)) i.kept.same.parent_shape c.in_ok-read_subchunk_into.ensures.read) in
     all_at k dec f s sub part parts (parent_box t) (target_box t) (walk_box walk) (data_of_target new) walk.subset.now.same_length i.meets
     (last_walked k dec f s sub part parts (parent_box t) (target_box t) chunks (n + 1) (data_of_target new) c.if-not-advance.ensures.last
     (more_walked k dec f s sub part parts (parent_box t) (target_box t) chunks n (n + 1) index (data_of_target l) (data_of_target new) refl at i.read read))
@@ -787,25 +737,16 @@ sharding::ShardingCodec::read_subchunks_into-loop-walk-preserved g t c =
     let at : slice_get chunks n ≡ Some index = c.current.ensures in
     let new = c.read_subchunk_into.new.target in
     let keeps =
-    same_keeps t.cell_size l.cell_size t.parent_shape.now l.parent_shape.now (target_box t) (target_box l) (data_of_target l) (data_of_target new) i.same_box.cell_size i.same_box.parent_shape (ap box_of i.same_box.region)
-    c.read_subchunk_into.ensures.outside in
-    let stays = keeps_more t.cell_size (parent_box t) (target_box t) (target_box t) (data_of_target t) (data_of_target l) (data_of_target new) (λ p out. out) i.stays keeps in
+    same_keeps t.cell_size l.cell_size t.parent_shape.now l.parent_shape.now (target_box t) (target_box l) (data_of_target l) (data_of_target new) i.kept.same.cell_size i.kept.same.parent_shape (ap box_of i.kept.same.region)
+    c.read_subchunk_into.ensures.kept.outside in
+    let stays = keeps_more t.cell_size (parent_box t) (target_box t) (target_box t) (data_of_target t) (data_of_target l) (data_of_target new) (λ p out. out) i.kept.outside keeps in
     let read =
-    subst (λ (b : Box). ReadsSubchunkAt k dec f s sub part parts index (parent_box t) b (data_of_target l) (data_of_target new)) (ap box_of i.same_box.region)
-    (subst (λ (x : List ℕ). ReadsSubchunkAt k dec f s sub part parts index (box_at_origin x) (target_box l) (data_of_target l) (data_of_target new)) i.same_box.parent_shape c.in_ok-read_subchunk_into.ensures.read) in
+    subst (λ (b : Box). ReadsSubchunkAt k dec f s sub part parts index (parent_box t) b (data_of_target l) (data_of_target new)) (ap box_of i.kept.same.region)
+    (subst (λ (x : List ℕ). ReadsSubchunkAt k dec f s sub part parts index (box_at_origin x) (target_box l) (data_of_target l) (data_of_target new)) i.kept.same.parent_shape c.in_ok-read_subchunk_into.ensures.read) in
     let did = c.read_subchunk_into.ensures in
     let same = c.if-not-advance.ensures.same_box in
     record {
-      is_target = did.target;
-      same_bytes = did.same_bytes ∙ i.same_bytes;
-      same_masks = did.same_masks ∙ i.same_masks;
-      same_box = record {
-        cell_size = did.same_box.cell_size ∙ i.same_box.cell_size;
-        depth = did.same_box.depth ∙ i.same_box.depth;
-        parent_shape = did.same_box.parent_shape ∙ i.same_box.parent_shape;
-        region = did.same_box.region ∙ i.same_box.region;
-      };
-      stays = stays;
+      kept = record { same = same_twice t l new i.kept.same did.kept.same; outside = stays };
       meets = subst (λ (b : Box). MeetsPart sub part b) (sym same) i.meets;
       read =
           subst (λ (b : Box). HasSubchunksAt k dec f s sub part parts (take (walk_number c.advance.new.self) (positions b)) (parent_box t) (target_box t) (data_of_target new)) (sym same)
@@ -826,19 +767,9 @@ sharding::ShardingCodec::read_subchunks_into-read_subchunk_into-requires g t c �
     let l = c.loop-walk.target in
     let i = c.loop-walk.invariant in
     let r = c.requires in
-    let takes_same = subst (λ n. takes_type n l.depth k ≡ true) (sym i.same_box.cell_size) (subst (λ n. takes_type t.cell_size n k ≡ true) (sym i.same_box.depth) r.takes) in
-    let shape_same : (target_box l).shape ≡ part.shape = ap (λ (b : Box). b.shape) (ap box_of i.same_box.region) ∙ r.same_shape in
-    (first_of (omega (arith, c.decreases), search rules), (search rules, (r.filled, (r.size, (r.part, (r.window, (r.may_read, (r.shard, (i.is_target, (takes_same, shape_same))))))))))
-
-pub sharding::ShardingCodec::partial_decode_cut_into-returns-in_err-index-clause-outside : goal.sharding::ShardingCodec::partial_decode_cut_into-returns-in_err-index-clause-outside
-sharding::ShardingCodec::partial_decode_cut_into-returns-in_err-index-clause-outside g t c =
-    let t = c.args.target.now in
-    masked_keeps t.cell_size (parent_box t) (target_box t) t.depth (position_count t.parent_shape.now) t.masks.now t.bytes.now
-
-pub sharding::ShardingCodec::partial_decode_cut_into-returns-in_default-clause-outside : goal.sharding::ShardingCodec::partial_decode_cut_into-returns-in_default-clause-outside
-sharding::ShardingCodec::partial_decode_cut_into-returns-in_default-clause-outside g t c =
-    let t = c.args.target.now in
-    masked_keeps t.cell_size (parent_box t) (target_box t) t.depth (position_count t.parent_shape.now) t.masks.now t.bytes.now
+    let takes_same = subst (λ n. takes_type n l.depth k ≡ true) (sym i.kept.same.cell_size) (subst (λ n. takes_type t.cell_size n k ≡ true) (sym i.kept.same.depth) r.takes) in
+    let shape_same : (target_box l).shape ≡ part.shape = ap (λ (b : Box). b.shape) (ap box_of i.kept.same.region) ∙ r.same_shape in
+    (first_of (omega (arith, c.decreases), search rules), (search rules, (r.filled, (r.size, (r.part, (r.window, (r.may_read, (r.shard, (takes_same, shape_same)))))))))
 
 pub sharding::ShardingCodec::partial_decode_cut_into-returns-clause-cells : goal.sharding::ShardingCodec::partial_decode_cut_into-returns-clause-cells
 sharding::ShardingCodec::partial_decode_cut_into-returns-clause-cells g t c =
@@ -886,12 +817,7 @@ pub sharding::ShardingCodec::partial_decode_cut_into-read_subchunks_into-require
 sharding::ShardingCodec::partial_decode_cut_into-read_subchunks_into-requires g t c κs within =
     let r = c.requires in
     let shard = rw c.in-Some.is at c.in_ok-index.ensures.shard in
-    (first_of (omega (arith, c.decreases), search rules), (search rules, (r.filled, (r.size, (r.part, (r.window, (r.may_read, (shard, (r.target, (r.takes, r.same_shape))))))))))
-
-pub sharding::ShardingCodec::partial_decode_shard_into-returns-in_err-sub-clause-outside : goal.sharding::ShardingCodec::partial_decode_shard_into-returns-in_err-sub-clause-outside
-sharding::ShardingCodec::partial_decode_shard_into-returns-in_err-sub-clause-outside g t c =
-    let t = c.args.target.now in
-    masked_keeps t.cell_size (parent_box t) (target_box t) t.depth (position_count t.parent_shape.now) t.masks.now t.bytes.now
+    (first_of (omega (arith, c.decreases), search rules), (search rules, (r.filled, (r.size, (r.part, (r.window, (r.may_read, (shard, (r.takes, r.same_shape)))))))))
 
 pub sharding::ShardingCodec::partial_decode_shard_into-partial_decode_cut_into-requires : goal.sharding::ShardingCodec::partial_decode_shard_into-partial_decode_cut_into-requires
 sharding::ShardingCodec::partial_decode_shard_into-partial_decode_cut_into-requires g t c κs within =
@@ -909,7 +835,7 @@ sharding::ShardingCodec::partial_decode_shard_into-partial_decode_cut_into-requi
     let sub = sizes_of (subchunk_sizes_of x) in
     let may = subst (λ (l : List ℕ). MayRead (g.B.ByteSource.may_read c.args.source.now) c.args.window (shard_places c.is_at_start-at_start.result l k s part whole)) (sym sub_is)
     (subst (λ (a : Bool). MayRead (g.B.ByteSource.may_read c.args.source.now) c.args.window (shard_places a sub k s part whole)) (sym at_is) r.may_read) in
-    (first_of (omega (arith, c.decreases), search rules), (search rules, (r.filled, (r.size, (r.part, (r.window, (may, (r.target, (r.takes, r.same_shape)))))))))
+    (first_of (omega (arith, c.decreases), search rules), (search rules, (r.filled, (r.size, (r.part, (r.window, (may, (r.takes, r.same_shape))))))))
 
 pub sharding::ShardingCodec::partial_decode_shard_into-returns-clause-cells : goal.sharding::ShardingCodec::partial_decode_shard_into-returns-clause-cells
 sharding::ShardingCodec::partial_decode_shard_into-returns-clause-cells g t c =

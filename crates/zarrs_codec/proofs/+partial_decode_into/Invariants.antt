@@ -3,7 +3,7 @@ use Rattle.zarrs_codec_shard.specs.ShardIndex.{range_part}
 use Rattle.zarrs_codec_leaf.specs.Sources.{window_bytes}
 use Rattle.zarrs_subset.specs.Regions.{box_of, positions}
 use Rattle.zarrs_subset.specs.Walks.{walk_box, walk_number}
-use Rattle.zarrs_data_type.specs.States.{IsTarget, SameBox, StaysOutside, data_of_target, parent_box, target_box}
+use Rattle.zarrs_data_type.specs.States.{KeepsTarget, data_of_target, parent_box, target_box}
 use Rattle.zarrs_data_type.specs.Cell.{fill_of}
 use Rattle.zarrs_data_type.specs.Kind.{kind}
 use Rattle.zarrs_codec_chain.specs.ShardParts.{MeetsPart}
@@ -15,11 +15,7 @@ use Rattle.zarrs_codec.proofs.+partial_decode_into.Given as goal
 -- nothing outside its box changed
 abbrev pub invariant-sharding::ShardingCodec::read_subchunks_into-loop-walk : goal.invariant-sharding::ShardingCodec::read_subchunks_into-loop-walk
 invariant-sharding::ShardingCodec::read_subchunks_into-loop-walk g l = record {
-  is_target : IsTarget l.target;
-  same_bytes : l.target.bytes.ghost_name ≡ l.initial.target.bytes.ghost_name;
-  same_masks : l.target.masks.ghost_name ≡ l.initial.target.masks.ghost_name;
-  same_box : SameBox l.initial.target l.target;
-  stays : StaysOutside l.initial.target l.target;
+  kept : KeepsTarget l.initial.target l.target;
   meets : MeetsPart l.sub (box_of l.part) (walk_box l.walk);
   read :
       HasSubchunksAt (kind l.data_type) ((chain_meaning (inner_chain_of l.self)).decoded (kind l.data_type) (fill_of (kind l.data_type) l.fill_value) l.sub) (fill_of (kind l.data_type) l.fill_value) l.shape l.sub (box_of l.part)

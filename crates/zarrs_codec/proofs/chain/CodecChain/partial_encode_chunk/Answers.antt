@@ -1,3 +1,4 @@
+use Rattle.zarrs_data_type.specs.CellTypes.{filling, kind_of}
 use Rattle.std.proofs.Common.{◌≡◌, true, option_map, sym, subst}
 use Rattle.std.proofs.lemmas.Bool.{and_parts}
 use Rattle.std.proofs.lemmas.Result.{IfErr-weaker}
@@ -13,8 +14,8 @@ use Rattle.zarrs_codec.proofs.chain.CodecChain.partial_encode_chunk.Goals as goa
 
 pub returns-clause-refused : goal.returns-clause-refused
 returns-clause-refused c =
-    let k = kind c.args.data_type.now in
-    let f = fill_of k c.args.fill_value.now in
+    let k = kind_of c.args.cell_type.now in
+    let f = filling c.args.cell_type.now in
     let empty = stores_empty_chunks c.args.options.now in
     let s = c.args.shape.now in
     let stored = option_map (λ encoded. encoded.now) c.args.stored in

@@ -1,3 +1,4 @@
+use Rattle.zarrs_data_type.specs.CellTypes.{filling, kind_of}
 use Rattle.std.proofs.Common.{rules, ◌≡◌, true, Option, Some, IfOk, map, option_map, sym, ap, subst, ◌∙◌}
 use Rattle.std.proofs.lemmas.List.{length-map}
 use Rattle.std.proofs.lemmas.Result.{IfErr-weaker}
@@ -20,8 +21,8 @@ use Rattle.zarrs_codec.proofs.sharding.ShardingCodec.partial_encode_shard.Goals 
 
 pub patched-requires-clause-count : goal.patched-requires-clause-count
 patched-requires-clause-count c =
-    let k = kind c.args.data_type.now in
-    let f = fill_of k c.args.fill_value.now in
+    let k = kind_of c.args.cell_type.now in
+    let f = filling c.args.cell_type.now in
     let empty = stores_empty_chunks c.args.options.now in
     let s = c.args.shape.now in
     let sub = sizes_of (subchunk_sizes_of c.args.self.now) in
@@ -49,8 +50,8 @@ patched-requires-clause-count c =
 
 pub patched-requires-clause-parts : goal.patched-requires-clause-parts
 patched-requires-clause-parts c =
-    let k = kind c.args.data_type.now in
-    let f = fill_of k c.args.fill_value.now in
+    let k = kind_of c.args.cell_type.now in
+    let f = filling c.args.cell_type.now in
     let empty = stores_empty_chunks c.args.options.now in
     let s = c.args.shape.now in
     let sub = sizes_of (subchunk_sizes_of c.args.self.now) in
@@ -78,8 +79,8 @@ patched-requires-clause-parts c =
 
 pub returns : goal.returns
 returns c =
-    let k = kind c.args.data_type.now in
-    let f = fill_of k c.args.fill_value.now in
+    let k = kind_of c.args.cell_type.now in
+    let f = filling c.args.cell_type.now in
     let empty = stores_empty_chunks c.args.options.now in
     let s = c.args.shape.now in
     let sub = sizes_of (subchunk_sizes_of c.args.self.now) in

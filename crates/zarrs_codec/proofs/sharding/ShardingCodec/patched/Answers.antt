@@ -1,3 +1,4 @@
+use Rattle.zarrs_data_type.specs.CellTypes.{filling, kind_of}
 use Rattle.std.proofs.Common.{rules, arith, ◌≡◌, ◌<◌, None, Some, is_some, get_or, length, map, option_map, refl, sym, ap, subst, ◌∙◌}
 use Rattle.zarrs_data_type.specs.ArrayData.{data_of}
 use Rattle.zarrs_data_type.specs.Cell.{fill_of}
@@ -18,11 +19,11 @@ use Rattle.zarrs_codec.proofs.sharding.ShardingCodec.patched.Goals as goal
 
 pub loop-number-init : goal.loop-number-init
 loop-number-init c =
-    let k = kind c.args.data_type.now in
+    let k = kind_of c.args.cell_type.now in
     let stored = option_map (λ encoded. encoded.now) c.args.stored in
     let ranges = c.args.ranges.now in
     let parts = map (range_part (stored_bytes stored)) ranges in
-    changes_started (chain_meaning (inner_chain_of c.args.self.now)) (stores_empty_chunks c.args.options.now) k (fill_of k c.args.fill_value.now) (chunk_shape c.args.subchunks.now) (subchunk_shape c.args.subchunks.now)
+    changes_started (chain_meaning (inner_chain_of c.args.self.now)) (stores_empty_chunks c.args.options.now) k (filling c.args.cell_type.now) (chunk_shape c.args.subchunks.now) (subchunk_shape c.args.subchunks.now)
     (box_of c.args.part.now) (data_of c.args.bytes.now) stored parts (length ranges) c.in_ok-patch.patch (c.in_ok-patch.ensures parts)
 
 pub changed-requires-clause-size : goal.changed-requires-clause-size
@@ -31,23 +32,23 @@ changed-requires-clause-size c =
     let sub = subchunk_shape c.args.subchunks.now in
     let number = c.loop-number.number in
     let below : number < subchunk_count s sub = omega (arith, c.requires.count) in
-    part_size s sub number (cell_size (kind c.args.data_type.now)) c.args.subchunks.now.cut below c.requires.size
+    part_size s sub number (cell_size (kind_of c.args.cell_type.now)) c.args.subchunks.now.cut below c.requires.size
 
 pub push-requires : goal.push-requires
 push-requires c =
-    let k = kind c.args.data_type.now in
+    let k = kind_of c.args.cell_type.now in
     let stored = option_map (λ encoded. encoded.now) c.args.stored in
     let ranges = c.args.ranges.now in
     let parts = map (range_part (stored_bytes stored)) ranges in
     let number = c.loop-number.number in
     let below : number < length ranges = omega arith in
-    has_room (chain_meaning (inner_chain_of c.args.self.now)) (stores_empty_chunks c.args.options.now) k (fill_of k c.args.fill_value.now) (chunk_shape c.args.subchunks.now) (subchunk_shape c.args.subchunks.now)
+    has_room (chain_meaning (inner_chain_of c.args.self.now)) (stores_empty_chunks c.args.options.now) k (filling c.args.cell_type.now) (chunk_shape c.args.subchunks.now) (subchunk_shape c.args.subchunks.now)
     (box_of c.args.part.now) (data_of c.args.bytes.now) stored parts (length ranges) number c.loop-number.patch c.requires.parts below c.loop-number.invariant
 
 pub loop-number-preserved : goal.loop-number-preserved
 loop-number-preserved c =
-    let k = kind c.args.data_type.now in
-    let f = fill_of k c.args.fill_value.now in
+    let k = kind_of c.args.cell_type.now in
+    let f = filling c.args.cell_type.now in
     let m : ChainMeaning = chain_meaning (inner_chain_of c.args.self.now) in
     let empty = stores_empty_chunks c.args.options.now in
     let s = chunk_shape c.args.subchunks.now in
@@ -72,8 +73,8 @@ loop-number-preserved c =
 
 pub returns-clause-written : goal.returns-clause-written
 returns-clause-written c =
-    let k = kind c.args.data_type.now in
-    let f = fill_of k c.args.fill_value.now in
+    let k = kind_of c.args.cell_type.now in
+    let f = filling c.args.cell_type.now in
     let m : ChainMeaning = chain_meaning (inner_chain_of c.args.self.now) in
     let empty = stores_empty_chunks c.args.options.now in
     let s = chunk_shape c.args.subchunks.now in
