@@ -1,6 +1,6 @@
 //! Parts of chunks under the codec `bytes` that are decoded into a box that a caller lends.
 ghost use Rattle.std.specs.Prelude.{◌≡◌, ℕ, ◌+◌, ◌*◌, ◌<◌, ◌≤◌, ◌^◌, false, true, List, length};
-ghost use Rattle.std.specs.Prelude.{IfErr, IsTrue, OnOk, map, reverse, slice_index, slice_range};
+ghost use Rattle.std.specs.Prelude.{IfErr, IsSome, IsTrue, OnOk, map, reverse, slice_index, slice_range};
 ghost use Rattle.std.specs.List.{flat_map};
 ghost use Rattle.zarrs_codec_leaf.specs.Bytes.{bytes_meaning_of, endian_of, reverses};
 ghost use Rattle.zarrs_codec_leaf.specs.Sources.{IsWindow, MayRead, window_bytes};
@@ -14,15 +14,14 @@ ghost use Rattle.zarrs_data_type.specs.Kind.{kind, cell_size};
 ghost use Rattle.zarrs_codec_chain.specs.BytesInto.{AreCells, IsTurned, PutsPart};
 ghost use Rattle.zarrs_codec_chain.specs.Parts.{DecodesInto, DecodesPartAt};
 ghost use Rattle.zarrs_codec_chain.specs.Places.{cell_places};
-ghost use Rattle.zarrs_codec_chain.specs.PartRefusals.{RefusesIntoDecoding, RefusesPartDecoding};
+ghost use Rattle.zarrs_codec_chain.specs.PartRefusals.{IsWholeError, RefusesIntoDecoding, RefusesPartDecoding};
 
 use crate::bytes::{is_length_of, partial_decode_bytes};
 use crate::error::PartError;
-use crate::whole::write_whole;
 use std::alloc::Global;
-use zarrs_codec_leaf::{ByteSource, BytesCodec, CodecError, Endianness, LeafCodec, Window};
+use zarrs_codec_leaf::{ByteSource, BytesCodec, CodecError, Endianness, LeafCodec, SliceSource, Window};
 use zarrs_data_type::{ArrayBytesDecodeIntoTarget, DataType};
-use zarrs_subset::{ArraySubset, Corner, copy_box, element_count};
+use zarrs_subset::{ArraySubset, Corner, copy_box};
 
 /// A part of more dimensions is decoded by way of a list.
 const MOST_DIMENSIONS: usize = 64;
@@ -58,6 +57,9 @@ pub fn partial_decode_bytes_into<B: ByteSource>(
         ((bytes_meaning_of (endian_of codec.now)).decoded (kind data_type.now)
         (position_count shape.now) (window_bytes window (B.bytes source.now)))
         (parent_box target.old) (target_box target.old) (data_of_target target.new)) }
+    ensures whole { (box_of part.now).shape ≡ shape.now → OnOk result (IsSome
+        ((bytes_meaning_of (endian_of codec.now)).decoded (kind data_type.now)
+        (position_count shape.now) (window_bytes window (B.bytes source.now)))) }
     ensures refused { IfErr result (RefusesPartDecoding
         ((bytes_meaning_of (endian_of codec.now)).decoded (kind data_type.now)
         (position_count shape.now) (window_bytes window (B.bytes source.now))) false 0
@@ -101,18 +103,30 @@ pub fn decode_bytes_into(
         ((bytes_meaning_of (endian_of codec.now)).decoded (kind data_type.now)
         (position_count (target_box target.old).shape) encoded.now)) }
 {
-    let region = target.region;
-    let shape = region.shape();
-    if has_rows(region) && are_cells(codec, encoded.len() as u64, data_type, shape) {
-        let whole = ArraySubset::new_with_shape(alloc, Vec::from_slice(alloc, shape)?)?;
-        put_part(codec, encoded, shape, &whole, data_type, target);
-        return Ok(());
-    }
-    let Some(count) = element_count(shape) else {
-        unreachable!()
+    let shape = target.region.shape();
+    let whole = ArraySubset::new_with_shape(alloc, Vec::from_slice(alloc, shape)?)?;
+    let source = SliceSource { bytes: encoded };
+    let window = Window {
+        offset: 0,
+        len: encoded.len() as u64,
     };
-    let cells = codec.decode(alloc, encoded, data_type, count)?;
-    Ok(write_whole(alloc, &cells, data_type, target)?)
+    let done = partial_decode_bytes_into(
+        codec, alloc, &source, window, &whole, data_type, shape, target,
+    );
+    match done {
+        Ok(()) => Ok(()),
+        Err(error) => Err(whole_error(error)),
+    }
+}
+
+/// Why a chunk in memory is not read, which refuses only out of memory.
+pub fn whole_error(error: PartError) -> CodecError
+    ensures { IsWholeError error result }
+{
+    match error {
+        PartError::Codec(error) => error,
+        PartError::Source(_) => CodecError::OutOfMemory,
+    }
 }
 
 /// Puts the cells of a part of an array of this shape, whose bytes are in the codec's order, into the target's box. Every

@@ -22,10 +22,11 @@ ghost use Rattle.zarrs_codec_chain.specs.Options.{stores_empty_chunks};
 use crate::error::PartError;
 use crate::options::CodecOptions;
 use std::alloc::{AllocError, Global};
-use zarrs_codec_leaf::{ByteSource, CodecError, Window};
+use crate::bytes_into::whole_error;
+use zarrs_codec_leaf::{ByteSource, CodecError, SliceSource, Window};
 use zarrs_codec_shard::PartialWrite;
 use zarrs_data_type::{ArrayBytes, ArrayBytesDecodeIntoTarget, CellType, ChunkType, DataType, FillValue};
-use zarrs_subset::ArraySubset;
+use zarrs_subset::{ArraySubset, element_count};
 
 /// A chain of codecs, which turns the cells of a chunk into bytes and back (Zarr V3 core specification, "Codecs").
 /// A shape has the chunk's extents, and the fill value is one of the data type.
@@ -146,6 +147,8 @@ pub trait ChainTraits {
         ensures kept { KeepsTarget target.old target.new }
         ensures cells { OnOk result (HoldsPartAt (meaning self.now) chunk.now (box_of part.now)
             (window_bytes window (B.bytes source.now)) target.old target.new) }
+        ensures whole { (box_of part.now).shape ≡ shape_of chunk.now → OnOk result (IsSome
+            (decoded_of (meaning self.now) chunk.now (window_bytes window (B.bytes source.now)))) }
         ensures refused { IfErr result (RefusesToDecodePart (meaning self.now) chunk.now
             (window_bytes window (B.bytes source.now)) (B.refuses source.now)) };
 
@@ -167,7 +170,28 @@ pub trait ChainTraits {
         ensures cells { OnOk result (HoldsChunk (meaning self.now) cell_type.now encoded.now
             target.old target.new) }
         ensures refused { IfErr result (RefusesIntoDecoding
-            (decoded_in (meaning self.now) cell_type.now target.old encoded.now)) };
+            (decoded_in (meaning self.now) cell_type.now target.old encoded.now)) }
+    {
+        let shape = target.region.shape();
+        let Some(count) = element_count(shape) else {
+            unreachable!()
+        };
+        let chunk = ChunkType {
+            cell_type,
+            shape,
+            count,
+        };
+        let whole = ArraySubset::new_with_shape(alloc, Vec::from_slice(alloc, shape)?)?;
+        let source = SliceSource { bytes: encoded };
+        let window = Window {
+            offset: 0,
+            len: encoded.len() as u64,
+        };
+        match self.partial_decode_into(alloc, &source, window, &whole, &chunk, target) {
+            Ok(()) => Ok(()),
+            Err(error) => Err(whole_error(error)),
+        }
+    }
 
     /// The bytes of the same cells without what no cell needs, or `None` if those are the same bytes.
     ///

@@ -2,8 +2,8 @@
 use Rattle.std.proofs.Common.{◌∙◌, refl}
 use Rattle.zarrs_subset.specs.Boxes.{position_count}
 use Rattle.zarrs_data_type_region.specs.declared.target.ArrayBytesDecodeIntoTarget.{ArrayBytesDecodeIntoTarget}
-use Rattle.zarrs_data_type.specs.States.{IsSameTarget, KeepsTarget, parent_box, target_box}
-use Rattle.zarrs_data_type_region.proofs.Levels.{masked_keeps}
+use Rattle.zarrs_data_type_region.specs.States.{IsSameTarget, KeepsTarget, parent_box, target_box}
+use Rattle.zarrs_data_type_region.proofs.TargetLevels.{masked_keeps}
 
 -- a target that is not touched is kept
 pub keeps_itself : (t : ArrayBytesDecodeIntoTarget) → KeepsTarget t t

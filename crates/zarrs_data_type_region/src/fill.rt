@@ -1,13 +1,13 @@
 //! Boxes of an array that a fill value fills.
 ghost use Rattle.std.specs.Prelude.{◌≡◌, true, IsSome, OnErr, OnOk};
-ghost use Rattle.zarrs_data_type.specs.Cell.{fill_cell, fill_of};
-ghost use Rattle.zarrs_data_type.specs.Kind.{kind};
-ghost use Rattle.zarrs_data_type.specs.States.{KeepsTarget, data_of_target, parent_box, target_box};
-ghost use Rattle.zarrs_data_type.specs.Targets.{FillsBox, takes_type};
+ghost use Rattle.zarrs_data_type_kinds.specs.Cell.{fill_cell, fill_of};
+ghost use Rattle.zarrs_data_type_kinds.specs.Kind.{kind};
+ghost use Rattle.zarrs_data_type_region.specs.States.{KeepsTarget, data_of_target, parent_box, target_box};
+ghost use Rattle.zarrs_data_type_region.specs.Targets.{FillsBox, takes_type};
 
 use crate::target::{ArrayBytesDecodeIntoTarget, Place, fill_levels, positions};
 use std::alloc::{AllocError, Global};
-use zarrs_data_type::ArrayBytes;
+use zarrs_data_type_bytes::ArrayBytes;
 use zarrs_data_type_kinds::{DataType, FillValue};
 
 /// Fills the box with the fill value. Every byte outside the box stays.

@@ -1,4 +1,4 @@
-use Rattle.std.proofs.Common.{◌≡◌, ◌∙◌, ap, true, sym, subst}
+use Rattle.std.proofs.Common.{refl, ◌≡◌, ◌∙◌, ap, true, sym, subst}
 use Rattle.zarrs_codec_leaf.specs.Bytes.{endian_of, bytes_meaning_of}
 use Rattle.zarrs_codec_leaf.specs.Sources.{window_bytes}
 use Rattle.zarrs_subset.specs.Boxes.{position_count}
@@ -12,6 +12,10 @@ use Rattle.zarrs_data_type_bytes.proofs.Cells.{cells-parts}
 use Rattle.zarrs_data_type_region.proofs.Kept.{keeps_itself}
 use Rattle.zarrs_data_type_region.proofs.TypeSizes.{levels_of}
 use Rattle.zarrs_codec_chain.proofs.PartsInto.{written_part}
+use Rattle.std.specs.Prelude.{IsSome}
+use Rattle.zarrs_codec_chain.specs.BytesInto.{AreCells}
+use Rattle.zarrs_codec_chain.proofs.BytesParts.{window_len}
+use Rattle.zarrs_codec_chain.proofs.AllOfIt.{cells_decode}
 use Rattle.zarrs_codec_chain.proofs.bytes_into.partial_decode_bytes_into.Goals as goal
 
 pub put_part-requires-clause-array_len : goal.put_part-requires-clause-array_len
@@ -76,3 +80,17 @@ returns-clause-cells g c =
     let fit = subst (λ n. fits k made n ≡ true) (d.count ∙ same) (cells-parts k made d.given d.are_cells).0 in
     written_part k t.parent_shape.now s part own ((bytes_meaning_of (endian_of c.args.codec.now)).decoded k (position_count s) b) made (data_of_target t) (data_of_target c.write_cells.new.self) c.args.part.now.same_length t.region.now.same_length c.requires.same_shape
     c.args.target.now.whole.inside d (c.in_ok-write_cells.ensures.cells k c.requires.takes fit)
+
+pub returns-then-are_cells-clause-whole : goal.returns-then-are_cells-clause-whole
+returns-then-are_cells-clause-whole g c = λ all.
+    let k = kind c.args.data_type.now in
+    let e = endian_of c.args.codec.now in
+    let n = position_count c.args.shape.now in
+    let source = g.B.ByteSource.bytes c.args.source.now in
+    cells_decode e k n (window_bytes c.args.window source)
+    (subst (λ l. AreCells e k n l) (sym (window_len c.args.window source c.requires.window)) (c.are_cells.ensures c.if-are_cells.true))
+
+pub returns-clause-whole : goal.returns-clause-whole
+returns-clause-whole g c = λ all.
+    let whole = c.in_ok-cells.ensures.whole all in
+    subst IsSome (sym c.in_ok-cells.ensures.part.are_cells ∙ whole) refl
