@@ -9,7 +9,7 @@ use Rattle.zarrs_data_type.specs.Kind.{cell_size}
 use Rattle.zarrs_data_type.specs.Cell.{held_size}
 use Rattle.zarrs_data_type_kinds.proofs.Values.{fill-value}
 use Rattle.zarrs_data_type_bytes.proofs.FixedSizes.{held_fixed, size_is}
-use Rattle.zarrs_cell_type.specs.CellTypes.{filling, kind_of}
+use Rattle.zarrs_data_type.specs.CellTypes.{filling, kind_of}
 use Rattle.zarrs_codec_chain.specs.Parts.{DecodesInto}
 use Rattle.zarrs_codec_chain.specs.Refusals.{RefusesIntoDecoding}
 use Rattle.zarrs_codec_chain.proofs.AllOfIt.{all_bytes, whole_part, whole_refused}
