@@ -44,6 +44,7 @@ directory_state s = record {
   values = values_of s.values;
   calls = s.counts.calls;
   failures = s.counts.failures;
+  parts = s.counts.parts;
   refuses = λ _. false;
   may_ask = λ key. was_read s key;
   may_read = λ _ _. true;
@@ -58,3 +59,4 @@ pub record ReadsKey {R : Type 0} (old new : DirectoryStore R) (key : List ℕ) :
   pub values : KeepsOtherValues (values_of old.values) (values_of new.values) key
   pub calls : new.counts.calls ≡ old.counts.calls
   pub failures : new.counts.failures ≡ old.counts.failures
+  pub parts : new.counts.parts ≡ old.counts.parts

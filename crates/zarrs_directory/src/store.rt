@@ -228,7 +228,7 @@ impl<'r, R: Files + AllocGlobal> WritableStorageTraits for DirectoryStore<'r, R>
         if self.counts.are_exhausted() {
             return Err(StorageError::Exhausted);
         }
-        self.counts.count(true);
+        self.counts.count_part(true);
         Err(StorageError::ReadOnly)
     }
 

@@ -1,8 +1,11 @@
 -- Stores over a store.
 use Rattle.std.specs.Prelude.{◌≡◌, ℕ, ◌+◌, ◌==◌, ◌&&◌, ◌||◌, Bool, false, not, nat_lt, List, ◌∷◌}
-use Rattle.std.specs.Prelude.{Option, Some, None, Result, MatchResult}
+use Rattle.std.specs.Prelude.{Option, Some, None, Result, MatchResult, true, codes, OnOk, OnErr, IsErrOf, IsErrAnd}
 use Rattle.std.specs.Borrow.{MutBor}
-use Rattle.zarrs_storage.specs.Store.{StoreState, Values, Accepts, Refuses, is_listed, last_call}
+use Rattle.zarrs_storage.specs.Refusals.{SaysOther}
+use Rattle.zarrs_storage.specs.Store.{StoreState, Values, Accepts, Refuses, AcceptsPartial, RefusesPartial, is_listed, last_call}
+use Rattle.zarrs_storage.specs.declared.error.StorageError.{StorageError}
+use Rattle.zarrs_storage.specs.declared.error.StorageError.TheVariants.{Exhausted}
 use Rattle.zarrs_storage.specs.declared.faults.Fault.{Fault}
 use Rattle.zarrs_storage.specs.declared.fences.Fence.{Fence}
 use Rattle.zarrs_storage.specs.declared.lending.Lent.{Lent}
@@ -20,8 +23,8 @@ abbrev pub lent_store : {S : Type 0} → Lent S → MutBor S
 lent_store lent = lent.store
 
 -- the state, with counts of its own
-abbrev pub with_counts : StoreState → ℕ → ℕ → StoreState
-with_counts s calls failures = record s { calls = calls; failures = failures }
+abbrev pub with_counts : StoreState → ℕ → ℕ → ℕ → StoreState
+with_counts s calls failures parts = record s { calls = calls; failures = failures; parts = parts }
 
 -- the state, if these keys refuse too
 abbrev pub with_refused : StoreState → List (List ℕ) → StoreState
@@ -41,9 +44,32 @@ fence_keys fence = fence.keys.items
 
 -- ---- writing calls
 
+-- the ways in which a writing call ends: accepted, and refused
+pub record Endings : Type 1 where
+  pub accepts : StoreState → StoreState → Values → Type 0
+  pub refuses : StoreState → StoreState → Type 0
+
+-- of a call that writes a whole value
+abbrev pub whole_value : Endings
+whole_value = record { accepts = Accepts; refuses = Refuses }
+
+-- of a call that writes a part
+abbrev pub part_of_value : Endings
+part_of_value = record { accepts = AcceptsPartial; refuses = RefusesPartial }
+
 -- a writing call that was passed on, and accepted or refused there
-abbrev pub PassedOn : {T E : Type 0} → Result T E → StoreState → StoreState → Values → Type 0
-PassedOn result old new written = MatchResult result (λ _. Accepts old new written) (λ _. Refuses old new)
+abbrev pub PassedOn : {T E : Type 0} → Endings → Result T E → StoreState → StoreState → Values → Type 0
+PassedOn ends result old new written = MatchResult result (λ _. ends.accepts old new written) (λ _. ends.refuses old new)
+
+-- A writing call of a store over a store that counts its calls by itself: what the trait says; at the last call nothing
+-- is passed on; if it is the one to be refused it is refused with this text, and not passed on; else it is passed on. `write`
+-- is what the call makes of the values.
+pub record WritesOver {W S : Type 0} (ends : Endings) (outer : W → StoreState) (below : W → S) (state : S → StoreState) (is_next passes_on : W → Bool) (text : List ℕ) (write : Values → Values) (old new : W) (result : Result (Unit {0}) StorageError) : Type 0 where
+  pub ok : OnOk result (ends.accepts (outer old) (outer new) (write (outer old).values))
+  pub refused : OnErr result (ends.refuses (outer old) (outer new))
+  pub exhausted : (outer old).calls ≡ last_call → IsErrOf result Exhausted × (below new ≡ below old)
+  pub own : is_next old ≡ true → IsErrAnd result (SaysOther text) × (below new ≡ below old)
+  pub passed_on : passes_on old ≡ true → PassedOn ends result (state (below old)) (state (below new)) (write (state (below old)).values)
 
 -- whether a number is given, and is this one
 abbrev pub is_write_number : Option ℕ → ℕ → Bool
@@ -54,7 +80,7 @@ is_write_number (Some given) number = given == number
 
 -- the store below with counts of its own; the listed keys refuse
 abbrev pub fault_state : {S : Type 0} → (S → StoreState) → Fault S → StoreState
-fault_state state fault = with_counts (with_refused (state fault.store) fault.refused_keys.items) fault.counts.calls fault.counts.failures
+fault_state state fault = with_counts (with_refused (state fault.store) fault.refused_keys.items) fault.counts.calls fault.counts.failures fault.counts.parts
 
 abbrev pub below_fault : {S : Type 0} → Fault S → S
 below_fault fault = fault.store
@@ -78,11 +104,15 @@ fault_is_next fault = nat_lt fault.counts.calls last_call && is_write_number fau
 abbrev pub fault_passes_on : {S : Type 0} → Fault S → Bool
 fault_passes_on fault = nat_lt fault.counts.calls last_call && not (is_write_number fault.refused_write (fault.counts.calls + 1))
 
+-- a writing call of a `Fault`
+abbrev pub FaultWrites : {S : Type 0} → Endings → (S → StoreState) → (Values → Values) → Fault S → Fault S → Result (Unit {0}) StorageError → Type 0
+FaultWrites ends state write = WritesOver ends (fault_state state) below_fault state fault_is_next fault_passes_on (codes "fault") write
+
 -- ---- `Stop`
 
 -- the store below, with counts of its own
 abbrev pub stop_state : {S : Type 0} → (S → StoreState) → Stop S → StoreState
-stop_state state stop = with_counts (state stop.store) stop.counts.calls stop.counts.failures
+stop_state state stop = with_counts (state stop.store) stop.counts.calls stop.counts.failures stop.counts.parts
 
 abbrev pub below_stop : {S : Type 0} → Stop S → S
 below_stop stop = stop.store
@@ -97,6 +127,10 @@ stop_is_next stop = nat_lt stop.counts.calls last_call && not (nat_lt stop.count
 -- whether the next writing call is passed on
 abbrev pub stop_passes_on : {S : Type 0} → Stop S → Bool
 stop_passes_on stop = nat_lt stop.counts.calls last_call && nat_lt stop.counts.calls stop.passed
+
+-- a writing call of a `Stop`
+abbrev pub StopWrites : {S : Type 0} → Endings → (S → StoreState) → (Values → Values) → Stop S → Stop S → Result (Unit {0}) StorageError → Type 0
+StopWrites ends state write = WritesOver ends (stop_state state) below_stop state stop_is_next stop_passes_on (codes "stop") write
 
 -- ---- `WholeRefused`
 

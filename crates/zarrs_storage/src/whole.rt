@@ -2,7 +2,8 @@
 ghost use Rattle.std.specs.Prelude.{◌≡◌, ◌+◌, ◌<◌, true, length, codes, IfOk, IfErr, OnOk, OnErr};
 ghost use Rattle.std.specs.Prelude.{IsErr, IsErrOf, IsErrAnd};
 ghost use Rattle.std.specs.FinMap as map;
-ghost use Rattle.zarrs_storage.specs.Store.{Accepts, Refuses, MayReadWhole, MayReadRange};
+ghost use Rattle.zarrs_storage.specs.Store.{Accepts, Refuses, AcceptsPartial, RefusesPartial};
+ghost use Rattle.zarrs_storage.specs.Store.{MayReadWhole, MayReadRange};
 ghost use Rattle.zarrs_storage.specs.Store.{PassesValue, is_listed, last_call, value_range, size_at, with_part};
 ghost use Rattle.zarrs_storage.specs.Refusals.{RefusesRead, RefusesRange, SaysOther};
 ghost use Rattle.zarrs_storage.specs.Wrappers.{with_refused, whole_state, below_whole, whole_keys};
@@ -121,10 +122,10 @@ impl<S: WritableStorageTraits> WritableStorageTraits for WholeRefused<S> {
         bytes: &[u8],
     ) -> Result<(), StorageError>
         ensures ok { let state = S.ReadableStorageTraits.state in
-            OnOk result (Accepts (whole_state state self.old) (whole_state state self.new)
+            OnOk result (AcceptsPartial (whole_state state self.old) (whole_state state self.new)
             (with_part (whole_state state self.old).values key.now offset bytes.now)) }
         ensures refused { let state = S.ReadableStorageTraits.state in
-            OnErr result (Refuses (whole_state state self.old) (whole_state state self.new)) }
+            OnErr result (RefusesPartial (whole_state state self.old) (whole_state state self.new)) }
         ensures exhausted { (whole_state S.ReadableStorageTraits.state self.old).calls ≡ last_call
             → IsErrOf result StorageError.Exhausted }
         ensures passing { usize.MAX < offset + length bytes.now → IsErr result }

@@ -9,4 +9,10 @@ returns-in-Some c =
     let found : option_copied c.get.result ≡ map.get c.args.self.now.values c.args.key.now =
     c.get.ensures.value ∙ sym (get_stored c.self.inside.values c.args.key.now) ∙ ap (λ m. map.get m.values c.args.key.now) c.self.view_is in
     let present : map.get c.args.self.now.values c.args.key.now ≡ Some c.as_slice.result.now = search (rules, found) in
-    record { lends = record { present = present; allowed = λ value place at below. refl; served = refl } }
+    record { lends = record { present = present; allowed = λ value place at below. refl; served = refl }; value = sym present }
+
+pub returns-in-None-clause-value : goal.returns-in-None-clause-value
+returns-in-None-clause-value c =
+    let found : option_copied c.get.result ≡ map.get c.args.self.now.values c.args.key.now =
+    c.get.ensures.value ∙ sym (get_stored c.self.inside.values c.args.key.now) ∙ ap (λ m. map.get m.values c.args.key.now) c.self.view_is in
+    search (rules, found)
