@@ -24,8 +24,8 @@ use Rattle.zarrs_engine_calls.specs.Refusals.{Refusal, RefusesBy, box_refusal, i
 use Rattle.zarrs_engine_calls.specs.StateRefusals.{RefusesErasure, RefusesPart}
 use Rattle.zarrs_engine_calls.specs.Patches.{IsEncodedAs, IsNotEncoded, RefusesPartOf, RefusesPartly, RefusesPatch}
 use Rattle.zarrs_engine_calls.proofs.RefusalLemmas.{fit_chunk, large_chunk, makes_none, memory_or_said}
-use Rattle.zarrs_engine_layout.specs.Steps.{RefusesPut}
-use Rattle.zarrs_engine.specs.Patches.{LeavesPartly, LeavesPatch}
+use Rattle.zarrs_engine.specs.Patches.{LeavesPartly, LeavesPatch, RefusesPutPart}
+use Rattle.zarrs_engine.proofs.PartCalls.{parts_as, parts_of}
 
 -- ---- only memory may be short
 
@@ -100,11 +100,11 @@ module _ (layout : Layout) (keep : Bool) (index : List ℕ) (part : Box) (held :
     one = omega arith;
     counted = λ some. absurd (omega arith);
     values = refl;
-    makes = makes_none state;
+    makes = parts_of (Unit {0}) 0 0 state state (makes_none state);
     cause = why;
   }
 
-  pub put_leaves_partly : (e : StorageError) (old new : StoreState) → IsEncodedAs layout keep index old part held → RefusesPut (refusal_of_storage e) old new
+  pub put_leaves_partly : (e : StorageError) (old new : StoreState) → IsEncodedAs layout keep index old part held → RefusesPutPart (refusal_of_storage e) old new
       → LeavesPartly layout keep index part held (refusal_of_storage e) old new
   put_leaves_partly e old new is put = record {
     failed = put.failed;
@@ -126,7 +126,7 @@ module _ (layout : Layout) (keep : Bool) (itself : List ℕ → Type 0) (region 
     one = omega arith;
     counted = λ some. absurd (omega arith);
     values = refl;
-    makes = makes_none state;
+    makes = parts_of (itself index) 0 0 state state (makes_none state);
     cause = record { whole = λ _. subst (RefusesPart layout keep region held index 0 state) (sym is) tt; partly = λ _. inl is };
   }
 
@@ -145,6 +145,6 @@ module _ (layout : Layout) (keep : Bool) (itself : List ℕ → Type 0) (region 
       one = l.one;
       counted = l.counted;
       values = l.values;
-      makes = l.makes;
+      makes = parts_as (Unit {0}) (itself index) 0 l.failed old new (λ _. is) l.makes;
       cause = record { whole = λ not. absurd (not is); partly = λ _. inr (partly_of l.failed new r l.cause) };
     }

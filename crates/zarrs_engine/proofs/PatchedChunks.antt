@@ -19,14 +19,13 @@ use Rattle.zarrs_codec_shard.specs.PartialShards.{PartialChange, after, IsUpdate
 use Rattle.zarrs_codec_chain.specs.Chain.{chunk_cells, partial_encoding}
 use Rattle.zarrs_engine_calls.specs.Layout.{Layout, IsLawful}
 use Rattle.zarrs_engine_calls.specs.Content.{value_at, content, Reads}
-use Rattle.zarrs_engine_calls.specs.Changes.{IsPut}
 use Rattle.zarrs_engine_calls.specs.ChunkBoxes.{part_box}
-use Rattle.zarrs_engine_calls.specs.Patches.{HoldsPart, known_cells}
+use Rattle.zarrs_engine_calls.specs.Patches.{HoldsPart, SomeItself, known_cells}
 use Rattle.zarrs_engine_calls.specs.Reach.{chunk_part}
-use Rattle.zarrs_engine_calls.proofs.Contents.{only_member, reads_absent, reads_decoded}
-use Rattle.zarrs_engine_calls.proofs.Loops.{put_changes}
+use Rattle.zarrs_engine_calls.proofs.Contents.{member, only_member, reads_absent, reads_decoded}
 use Rattle.zarrs_engine_layout.proofs.CutWalks.{number_is}
-use Rattle.zarrs_engine.specs.Patches.{PatchesChunk}
+use Rattle.zarrs_engine.proofs.PartCalls.{parts_as}
+use Rattle.zarrs_engine.specs.Patches.{IsPutPart, PatchesChunk}
 
 -- ---- positions of a chunk, seen from its origin
 
@@ -179,7 +178,7 @@ module _ (layout : Layout) (lawful : IsLawful layout) (index : List ℕ) (has : 
       (part_long : IsLong part) (lies : LiesInShape part box.shape)
       (fits : HasCells layout.kind held (position_count part.shape)) (key_is : key ≡ layout.key index)
       (written : partial_encoding layout.chain keep layout.kind layout.fill box.shape (value_at old (layout.key index)) part held ≡ Some change)
-      (put : IsPut key (after change (value_at old key)) old new) where
+      (put : IsPutPart key (after change (value_at old key)) old new) where
     same : length part.start ≡ length box.shape
     same = lies.same_length
 
@@ -226,7 +225,7 @@ module _ (layout : Layout) (lawful : IsLawful layout) (index : List ℕ) (has : 
         count = found.2;
         patches = record {
           boxed = λ i among. subst (λ (j : List ℕ). has_box layout.grid j ≡ true) (sym (only_member index i among)) has;
-          keys = put_changes layout index key _ old new key_is put;
+          keys = λ key apart. put.others key (λ same. apart index (member index) (same ∙ key_is));
           whole = λ i among not. absurd (not tt);
           partly = λ i among itself. subst (λ (j : List ℕ). HoldsPart layout keep (part_box box part) found.0 j old new) (sym (only_member index i among)) holds_part;
           inside = λ i among known position holds.
@@ -236,7 +235,7 @@ module _ (layout : Layout) (lawful : IsLawful layout) (index : List ℕ) (has : 
               inside_some (known_cells layout index old) refl here position in_here;
         };
       };
-      makes = put.makes;
+      makes = parts_as (Unit {0}) (SomeItself (λ i. Unit {0}) (index ∷ [])) 1 0 old new (λ _. (index, member index, tt)) put.makes;
     }
       where
         inside_some : (o : Option (List Cell)) → known_cells layout index old ≡ o → IsSome o → (position : List ℕ) → Holds box position

@@ -19,10 +19,11 @@ use Rattle.zarrs_engine_calls.specs.Content.{value_at, content, Reads}
 use Rattle.zarrs_engine_calls.specs.Errors.{error_of_subset}
 use Rattle.zarrs_engine_calls.specs.Refusals.{Refusal, out_of_memory, refusal_of}
 use Rattle.zarrs_engine_calls.specs.ChunkBoxes.{part_box}
-use Rattle.zarrs_engine_calls.specs.Patches.{HoldsPart, PatchesAll}
+use Rattle.zarrs_engine_calls.specs.Patches.{HoldsPart, PatchesAll, SomeItself}
 use Rattle.zarrs_engine_calls.specs.Reach.{chunk_part}
 use Rattle.zarrs_engine_calls.proofs.Contents.{member, only_member}
 use Rattle.zarrs_engine.specs.Patches.{LeavesPartly, LeavesPatch, PatchesChunk, Shares}
+use Rattle.zarrs_engine.proofs.PartCalls.{parts_as}
 use Rattle.zarrs_engine.proofs.PatchRefusals.{partly_leaves_patch}
 use Rattle.zarrs_engine.proofs.PatchedChunks.{overlap_inside}
 
@@ -155,7 +156,7 @@ module _ (region chunk : Box) (long : IsLong region) (chunk_long : IsLong chunk)
                     ∙ ap (λ b. cond b (cell_in region e.held position) (content layout (value_at old) position)) both;
               };
             };
-            makes = q.makes;
+            makes = parts_as (SomeItself (λ i. Unit {0}) (index ∷ [])) (SomeItself itself (index ∷ [])) 1 0 old new (λ some. (index, member index, is)) q.makes;
           }
         where
           here : (i : List ℕ) → Contains (index ∷ []) i → itself i

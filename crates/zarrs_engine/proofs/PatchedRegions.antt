@@ -26,7 +26,7 @@ use Rattle.zarrs_engine_calls.specs.ArgumentRefusals.{box_data_refusal, chunk_re
 use Rattle.zarrs_engine.proofs.PartStores.{accepted_part}
 use Rattle.zarrs_engine_calls.specs.ChunkBoxes.{chunks_met, part_box}
 use Rattle.zarrs_engine_calls.specs.Step.{RefusesStore, RefusesStorePart, RefusesStoreRegion, StoresPart, StoresRegion}
-use Rattle.zarrs_engine_calls.specs.Patches.{EncodesPart, HoldsPart, IsEncoded, IsPatched, Patches, PatchesAll, PatchesPart, PatchesRegion, TakesPatches, known_cells, writes_parts}
+use Rattle.zarrs_engine_calls.specs.Patches.{EncodesPart, HoldsPart, IsEncoded, IsPatched, MakesParts, SomeItself, Patches, PatchesAll, PatchesPart, PatchesRegion, TakesPatches, known_cells, writes_parts}
 use Rattle.zarrs_engine_calls.specs.Patches.{RefusesEncodePart, RefusesEncoding, RefusesItself, RefusesKey, RefusesPartly, RefusesPatches, RefusesPatchPart, RefusesPatchRegion}
 use Rattle.zarrs_engine_calls.proofs.Contents.{content_in_box, index_list, member, one_key, only_member}
 use Rattle.zarrs_engine_calls.proofs.Headline.{in_front}
@@ -35,7 +35,8 @@ use Rattle.zarrs_engine.specs.Patches.{HasPatched, LeavesPartly, LeavesPatch, Pa
 use Rattle.zarrs_engine.specs.RegionWrites.{LeavesPart, StoresOneMore}
 use Rattle.zarrs_engine.proofs.PatchRefusals.{partly_of}
 use Rattle.zarrs_engine.proofs.PatchedChunks.{own_cells, own_part}
-use Rattle.zarrs_engine.proofs.Ranges.{makes_then, next_front}
+use Rattle.zarrs_engine.proofs.PartCalls.{parts_as, parts_early, parts_of, parts_then}
+use Rattle.zarrs_engine.proofs.Ranges.{next_front}
 use Rattle.zarrs_engine.proofs.RegionFronts.{may_ask_then, not_yet}
 use Rattle.zarrs_engine.proofs.RegionSteps.{at_among}
 use Rattle.zarrs_engine_layout.specs.Covers.{CoverRegion}
@@ -65,7 +66,7 @@ pub patches_as : (layout : Layout) (keep : Bool) (a b : List ℕ → Type 0) (re
     → PatchesAll layout keep a region held chunks old new → PatchesAll layout keep b region held chunks old new
 patches_as layout keep a b region held chunks old new to from p = record {
   takes = takes_as layout keep a b region held chunks old new to from p.takes;
-  makes = p.makes;
+  makes = parts_as (SomeItself a chunks) (SomeItself b chunks) (length chunks) 0 old new (λ some. (some.0, some.1, to some.0 some.1 some.2)) p.makes;
 }
 
 pub refuses_as : (layout : Layout) (keep : Bool) (a b : List ℕ → Type 0) (first : Option Refusal) (region : Box) (held : ArrayData) (chunks : List (List ℕ)) (r : Refusal) (old new : StoreState)
@@ -78,7 +79,7 @@ refuses_as layout keep a b first region held chunks r old new to from s = record
     within = s.front.within;
     untouched = s.front.untouched;
     changes = λ some. takes_as layout keep a b region held (take s.done chunks) old new (λ i _. to i) (λ i _. from i) (s.front.changes some);
-    makes = s.front.makes;
+    makes = parts_as (SomeItself a chunks) (SomeItself b chunks) s.done s.failed old new (λ some. (some.0, some.1, to some.0 some.2)) s.front.makes;
   };
   below = s.below;
   one = s.one;
@@ -146,14 +147,14 @@ module _ (layout : Layout) (lawful : IsLawful layout) where
         count = s.count;
         patches = stored_patches s.given (index ∷ []) old new (λ i among is. not (subst itself (only_member index i among) is)) s.stores;
       };
-      makes = s.makes;
+      makes = parts_of (SomeItself itself (index ∷ [])) 1 0 old new s.makes;
     }
 
     -- a store of whole chunks is one that may write parts by themselves
     pub all_patched : (held : ArrayData) (chunks : List (List ℕ)) (old new : StoreState) → NoneItself chunks
         → StoresAll layout keep region held chunks old new → PatchesAll layout keep itself region held chunks old new
     all_patched held chunks old new none s =
-        record { takes = takes_patches held chunks old new none s.takes; makes = s.front.makes }
+        record { takes = takes_patches held chunks old new none s.takes; makes = parts_of (SomeItself itself chunks) (length chunks) 0 old new s.front.makes }
 
     pub refused_patches : (first : Option Refusal) (held : ArrayData) (chunks : List (List ℕ)) (r : Refusal) (old new : StoreState) → (first ≡ None → NoneItself chunks)
         → RefusesStore layout keep first region held chunks r old new → RefusesPatches layout keep itself first region held chunks r old new
@@ -168,7 +169,7 @@ module _ (layout : Layout) (lawful : IsLawful layout) where
           | inr late ↦
               takes_patches held (take s.done chunks) old new (λ i among. none late.2.0 i (in_front s.done chunks i among)) (s.front.changes some)
         ];
-        makes = s.front.makes;
+        makes = parts_of (SomeItself itself chunks) s.done s.failed old new s.front.makes;
       };
       below = s.below;
       one = s.one;
@@ -313,7 +314,7 @@ module _ (layout : Layout) (lawful : IsLawful layout) where
         partly = λ i among is. let b = among.1 in absurd (omega arith);
       };
       untouched = λ none. refl;
-      makes = makes_none state;
+      makes = parts_of (SomeItself itself chunks) 0 0 state state (makes_none state);
     }
 
     pub patched_more : (done : ℕ) (index : List ℕ) (old mid new : StoreState) → HasPatched layout keep itself region held chunks done old mid → slice_get chunks done ≡ Some index
@@ -329,7 +330,9 @@ module _ (layout : Layout) (lawful : IsLawful layout) where
           patches = subst (λ front. Patches layout keep itself region p.given front old new) (sym (next_front layout chunks done index at))
               (patches_push keep itself region p.given (take done chunks) index old mid new (not_yet range range_long done index at) p.patches next);
           untouched = λ none. absurd (omega arith);
-          makes = makes_then done 0 1 0 old mid new p.makes one.makes;
+          makes = parts_then (SomeItself itself chunks) done 0 1 0 old mid new p.makes
+              (parts_as (SomeItself itself (index ∷ [])) (SomeItself itself chunks) 1 0 mid new
+              (λ some. (some.0, subst (Contains chunks) (sym (only_member index some.0 some.1)) (at_among chunks done index at), some.2)) one.makes);
         }
 
     pub patched_all : (done : ℕ) (old new : StoreState) → done ≡ length chunks → HasPatched layout keep itself region held chunks done old new → PatchesAll layout keep itself region held chunks old new
@@ -337,7 +340,7 @@ module _ (layout : Layout) (lawful : IsLawful layout) where
         let whole : take done chunks ≡ chunks = ap (λ n. take n chunks) all ∙ take_all (length chunks) chunks (omega arith) in
         record {
           takes = record { given = p.given; are_cells = p.are_cells; count = p.count; patches = subst (λ front. Patches layout keep itself region p.given front old new) whole p.patches };
-          makes = subst (λ n. Makes n 0 old new) all p.makes;
+          makes = subst (λ n. MakesParts (SomeItself itself chunks) n 0 old new) all p.makes;
         }
 
     -- the next chunk is refused
@@ -349,26 +352,28 @@ module _ (layout : Layout) (lawful : IsLawful layout) where
         record {
           done = done;
           failed = l.failed;
-          front = patched_front done l.failed old mid new (omega (arith, within)) p l.values l.makes;
+          front = patched_front done l.failed old mid new (omega (arith, within)) p l.values
+              (parts_as (itself index) (SomeItself itself chunks) 0 l.failed mid new (λ is. (index, at_among chunks done index at, is)) l.makes);
           below = λ some. within;
           one = l.one;
           counted = l.counted;
           cause = inr (index, at, (none, l.cause));
         }
       where
-        patched_front : (done failed : ℕ) (old mid new : StoreState) → done ≤ length chunks → HasPatched layout keep itself region held chunks done old mid → new.values ≡ mid.values → Makes 0 failed mid new
-            → Front (λ indices. TakesPatches layout keep itself region held indices old new) chunks done failed old new
+        patched_front : (done failed : ℕ) (old mid new : StoreState) → done ≤ length chunks → HasPatched layout keep itself region held chunks done old mid → new.values ≡ mid.values → MakesParts (SomeItself itself chunks) 0 failed mid new
+            → Front (MakesParts (SomeItself itself chunks)) (λ indices. TakesPatches layout keep itself region held indices old new) chunks done failed old new
         patched_front done failed old mid new within p same makes =
             record {
               within = within;
               untouched = λ none. same ∙ p.untouched none;
               changes = λ some. record { given = p.given; are_cells = p.are_cells; count = p.count; patches = patches_then keep itself region p.given (take done chunks) old mid new same p.patches };
-              makes = subst (λ n. Makes n failed old new) (add-zero done) (subst (λ n. Makes (done + 0) n old new) (zero-add failed) (makes_then done 0 0 failed old mid new p.makes makes));
+              makes = subst (λ n. MakesParts (SomeItself itself chunks) n failed old new) (add-zero done)
+                  (subst (λ n. MakesParts (SomeItself itself chunks) (done + 0) n old new) (zero-add failed) (parts_then (SomeItself itself chunks) done 0 0 failed old mid new p.makes makes));
             }
 
     -- out of memory before the first chunk
     pub patched_short : (first : Option Refusal) (state : StoreState) → RefusesPatches layout keep itself first region held chunks refusal.out_of_memory state state
-    patched_short first state = refused_early _ chunks _ _ state tt
+    patched_short first state = parts_early (SomeItself itself chunks) _ chunks _ _ state tt
 
 -- a chunk that is stored whole was refused
 pub leaves_patch : (layout : Layout) (keep : Bool) (itself : List ℕ → Type 0) (region : Box) (held : ArrayData) (index : List ℕ) (r : Refusal) (old new : StoreState) → (itself index → ⊥)
@@ -378,7 +383,7 @@ leaves_patch layout keep itself region held index r old new not l = record {
   one = l.one;
   counted = l.counted;
   values = l.values;
-  makes = l.makes;
+  makes = parts_of (itself index) 0 l.failed old new l.makes;
   cause = record { whole = λ _. l.cause; partly = λ is. absurd (not is) };
 }
 
@@ -394,7 +399,7 @@ patched_ask layout lawful keep itself region held range long cover old mid ask d
     p.patches.keys (layout.key index) (λ i early equal.
     let one = one_key layout lawful index i mine (index_list layout lawful i (p.patches.boxed i early)) equal in
     not_yet range long done index at (subst (Contains (take done (positions range))) (sym one) early)) in
-    let here = may_ask_then layout index old mid p.makes.reach same (ask index among (subst (IsPart layout region) is part)) in
+    let here = may_ask_then layout index old mid p.makes.rules same (ask index among (subst (IsPart layout region) is part)) in
     subst (λ i. MayAskChunk layout i mid) (sym is) here
 
 -- a part of one chunk, from what the steps of the call leave
@@ -431,7 +436,7 @@ module _ (layout : Layout) (lawful : IsLawful layout) (index : List ℕ) (part c
     patched_left lies given r l = record {
       done = 0;
       failed = l.failed;
-      front = record { within = omega arith; untouched = λ none. l.values; changes = λ some. absurd (omega arith); makes = l.makes };
+      front = record { within = omega arith; untouched = λ none. l.values; changes = λ some. absurd (omega arith); makes = parts_as (Unit {0}) (SomeItself (IsPatched layout asked here old) (index ∷ [])) 0 l.failed old new (λ _. (index, member index, is)) l.makes };
       below = λ some. some;
       one = l.one;
       counted = l.counted;
@@ -446,7 +451,7 @@ module _ (layout : Layout) (lawful : IsLawful layout) (index : List ℕ) (part c
     pub encoded_part : IsEncoded layout old index → PatchesChunk layout keep index part held old new → EncodesPart layout keep index part held old new
     encoded_part is p = (accepted, patched_itself keep (IsEncoded layout old) is p)
 
-    encoding_left : (failed : ℕ) (r : Refusal) → failed ≤ 1 → (0 < failed → new.calls ≢ last_call + 1) → new.values ≡ old.values → Makes 0 failed old new
+    encoding_left : (failed : ℕ) (r : Refusal) → failed ≤ 1 → (0 < failed → new.calls ≢ last_call + 1) → new.values ≡ old.values → MakesParts (SomeItself (IsEncoded layout old) (index ∷ [])) 0 failed old new
         → RefusesEncoding layout keep (IsEncoded layout old) here held index failed new r → RefusesEncodePart layout keep index part held r old new
     encoding_left failed r one counted values makes why = record {
       done = 0;
@@ -461,7 +466,7 @@ module _ (layout : Layout) (lawful : IsLawful layout) (index : List ℕ) (part c
     pub encoded_left : IsEncoded layout old index → LiesInShape part (box_at layout.grid index).shape → HasCells layout.kind held (position_count part.shape) → (r : Refusal)
         → LeavesPartly layout keep index part held r old new → RefusesEncodePart layout keep index part held r old new
     encoded_left is lies given r l =
-        encoding_left l.failed r l.one l.counted l.values l.makes
+        encoding_left l.failed r l.one l.counted l.values (parts_as (Unit {0}) (SomeItself (IsEncoded layout old) (index ∷ [])) 0 l.failed old new (λ _. (index, member index, is)) l.makes)
         (record { whole = λ not. absurd (not is); partly = λ _. partly_left keep (IsEncoded layout old) is lies given l.failed new r l.cause })
 
     -- which stores the chunk whole
@@ -472,7 +477,7 @@ module _ (layout : Layout) (lawful : IsLawful layout) (index : List ℕ) (part c
 
       pub whole_left : (r : Refusal) → LeavesPart layout keep here held index r old new → RefusesEncodePart layout keep index part held r old new
       whole_left r l =
-          encoding_left l.failed r l.one l.counted l.values l.makes (record { whole = λ _. inl l.cause; partly = λ is. absurd (not is) })
+          encoding_left l.failed r l.one l.counted l.values (parts_of (SomeItself (IsEncoded layout old) (index ∷ [])) 0 l.failed old new l.makes) (record { whole = λ _. inl l.cause; partly = λ is. absurd (not is) })
 
 -- the key of the chunk refuses to be read
 module _ (layout : Layout) (keep : Bool) (index : List ℕ) (part : Box) (held : ArrayData) (state : StoreState) (accepted : store_part_refusal layout index part held ≡ None)
@@ -481,7 +486,7 @@ module _ (layout : Layout) (keep : Bool) (index : List ℕ) (part : Box) (held :
   key_left r why = record {
     done = 0;
     failed = 0;
-    front = record { within = omega arith; untouched = λ none. refl; changes = λ some. absurd (omega arith); makes = makes_none state };
+    front = record { within = omega arith; untouched = λ none. refl; changes = λ some. absurd (omega arith); makes = parts_of (SomeItself (IsEncoded layout state) (index ∷ [])) 0 0 state state (makes_none state) };
     below = λ some. some;
     one = omega arith;
     counted = λ some. absurd (omega arith);
@@ -504,11 +509,11 @@ module _ (layout : Layout) (keep : Bool) (index : List ℕ) (part : Box) (held :
 
 pub patch_early : (layout : Layout) (keep asked : Bool) (index : List ℕ) (part : Box) (held : ArrayData) (r : Refusal) (state : StoreState)
     → RefusesBy (store_part_refusal layout index part held) r → RefusesPatchPart layout keep asked index part held r state state
-patch_early layout keep asked index part held r state why = refused_early _ _ _ _ state why
+patch_early layout keep asked index part held r state why = parts_early _ _ _ _ _ state why
 
 pub encode_early : (layout : Layout) (keep : Bool) (index : List ℕ) (part : Box) (held : ArrayData) (r : Refusal) (state : StoreState)
     → RefusesBy (store_part_refusal layout index part held) r → RefusesEncodePart layout keep index part held r state state
-encode_early layout keep index part held r state why = refused_early _ _ _ _ state why
+encode_early layout keep index part held r state why = parts_early _ _ _ _ _ state why
 
 pub region_early : (layout : Layout) (keep : Bool) (shape : List ℕ) (region : Box) (held : ArrayData) (r : Refusal) (state : StoreState)
     → RefusesBy (store_region_refusal layout shape region held) r → RefusesStoreRegion layout keep shape region held r state state
@@ -516,4 +521,4 @@ region_early layout keep shape region held r state why = refused_early _ _ _ _ s
 
 pub region_patch_early : (layout : Layout) (keep asked : Bool) (shape : List ℕ) (region : Box) (held : ArrayData) (r : Refusal) (state : StoreState)
     → RefusesBy (store_region_refusal layout shape region held) r → RefusesPatchRegion layout keep asked shape region held r state state
-region_patch_early layout keep asked shape region held r state why = refused_early _ _ _ _ state why
+region_patch_early layout keep asked shape region held r state why = parts_early _ _ _ _ _ state why

@@ -15,7 +15,7 @@ use Rattle.zarrs_engine_calls.specs.StateRefusals.{RefusesErasure, CallFails}
 use Rattle.zarrs_engine_calls.proofs.RefusalLemmas.{makes_none}
 use Rattle.zarrs_engine_layout.specs.Steps.{RefusesPut}
 
-apart_test : (a b : List ℕ) → a ≢ b → bytes_eq a b ≡ false
+pub apart_test : (a b : List ℕ) → a ≢ b → bytes_eq a b ≡ false
 apart_test a b apart = elim (cases_Bool (bytes_eq a b)) [
   | inl is ↦ absurd (apart ((bytes_eq-Decides a b).0 is))
   | inr not_is ↦ not_is
@@ -43,7 +43,7 @@ eq_last : (n : ℕ) → n ≡ last_call → (n == last_call) ≡ true
 eq_last n is = eq-eqb n last_call is
 
 -- a writing call that failed is the reason, or out of memory
-failed_erasure : (e : StorageError) (failed : ℕ) (new : StoreState) → CallFails failed new → RefusesErasure failed new (refusal_of_storage e)
+pub failed_erasure : (e : StorageError) (failed : ℕ) (new : StoreState) → CallFails failed new → RefusesErasure failed new (refusal_of_storage e)
 failed_erasure (stored.InvalidMetadata key said) failed new fails = fails
 failed_erasure stored.ReadOnly failed new fails = fails
 failed_erasure stored.InvalidByteRange failed new fails = fails
@@ -52,7 +52,7 @@ failed_erasure (stored.Other said) failed new fails = fails
 failed_erasure stored.OutOfMemory failed new fails = tt
 
 -- a refused call is one that was counted, or the calls are at their end
-counted_or_last : (s : StoreState) → ((counted s ≡ 1) × (s.calls ≢ last_call)) ⊎ ((counted s ≡ 0) × (s.calls ≡ last_call))
+pub counted_or_last : (s : StoreState) → ((counted s ≡ 1) × (s.calls ≢ last_call)) ⊎ ((counted s ≡ 0) × (s.calls ≡ last_call))
 counted_or_last s = elim (cases_Bool (s.calls == last_call)) [
   | inl last ↦ inr (ap (λ b. cond b 0 1) last, eqb-true s.calls last_call last)
   | inr more ↦ inl (ap (λ b. cond b 0 1) more, λ same. (let clash : true ≡ false = sym (eq_last s.calls same) ∙ more in cc))

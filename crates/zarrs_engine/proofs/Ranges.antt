@@ -73,7 +73,7 @@ module _ (layout : Layout) (chunks : List (List ℕ)) where
   gone_all done old new all g =
       let whole : take done chunks ≡ chunks = ap (λ n. take n chunks) all ∙ take_all (length chunks) chunks (omega arith) in
       let erases = subst (λ front. Erases layout front old new) whole g.erases in
-      let front : Front (λ indices. Erases layout indices old new) chunks (length chunks) 0 old new = record {
+      let front : Front Makes (λ indices. Erases layout indices old new) chunks (length chunks) 0 old new = record {
         within = omega arith;
         untouched = λ none. g.untouched (all ∙ none);
         changes = λ some. subst (λ front. Erases layout front old new) (sym (take_all (length chunks) chunks (omega arith))) erases;

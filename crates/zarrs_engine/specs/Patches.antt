@@ -1,18 +1,18 @@
 -- What the steps inside a store leave that may write the parts of chunks by themselves.
-use Rattle.std.specs.Prelude.{◌≡◌, ℕ, ◌<◌, Bool, List, [], ◌∷◌, length, take, Some, Contains, slice_index}
+use Rattle.std.specs.Prelude.{◌≡◌, ◌≢◌, ℕ, ◌+◌, ◌<◌, ◌≤◌, Bool, List, [], ◌∷◌, length, take, Option, Some, Contains, slice_index}
 use Rattle.zarrs_subset.specs.Boxes.{position_count}
 use Rattle.zarrs_subset.specs.Regions.{Box, overlap_of}
 use Rattle.zarrs_chunk_grid.specs.Grids.{Grid, box_at}
-use Rattle.zarrs_storage.specs.Store.{StoreState}
+use Rattle.zarrs_storage.specs.Store.{StoreState, last_call}
 use Rattle.zarrs_data_type.specs.Cell.{Cell}
 use Rattle.zarrs_data_type.specs.ArrayData.{ArrayData}
 use Rattle.zarrs_data_type.specs.Cells.{cells}
 use Rattle.zarrs_engine_calls.specs.Layout.{Layout}
+use Rattle.zarrs_engine_calls.specs.Content.{value_at}
 use Rattle.zarrs_engine_calls.specs.ChunkBoxes.{part_box}
 use Rattle.zarrs_engine_calls.specs.Refusals.{Refusal}
-use Rattle.zarrs_engine_calls.specs.Changes.{Makes}
-use Rattle.zarrs_engine_calls.specs.Patches.{Patches, PatchesAll, RefusesPartly, RefusesPatch}
-use Rattle.zarrs_engine_layout.specs.Steps.{LeavesValues}
+use Rattle.zarrs_engine_calls.specs.Patches.{MakesParts, Patches, PatchesAll, RefusesPartly, RefusesPatch, SomeItself}
+use Rattle.zarrs_engine_calls.specs.StateRefusals.{RefusesErasure}
 
 -- along each dimension the region shares a position with the box
 abbrev pub Shares : Box → Box → Type 0
@@ -22,18 +22,39 @@ Shares region box = (k : ℕ) → k < length region.start → 0 < slice_index (o
 abbrev pub SharesEach : Grid → Box → List (List ℕ) → Type 0
 SharesEach grid region chunks = (index : List ℕ) → Contains chunks index → Shares region (box_at grid index)
 
+-- this value, or none, is present at the key, no other key changed, and one writing call was made, of a part or not
+pub record IsPutPart (key : List ℕ) (value : Option (List ℕ)) (old new : StoreState) : Type 0 where
+  pub held : value_at new key ≡ value
+  pub others : (other : List ℕ) → other ≢ key → value_at new other ≡ value_at old other
+  pub makes : MakesParts (Unit {0}) 1 0 old new
+
+-- One key was not written, for this cause: no value changed, and at most one failure was counted, none if no call was left.
+-- A part may have been tried if `Any` is so.
+pub record LeavesParts (Any : Type 0) (why : ℕ → StoreState → Type 0) (old new : StoreState) : Type 0 where
+  pub failed : ℕ
+  pub one : failed ≤ 1
+  pub counted : 0 < failed → new.calls ≢ last_call + 1
+  pub values : new.values ≡ old.values
+  pub makes : MakesParts Any 0 failed old new
+  pub cause : why failed new
+
+-- a writing call of a part, or of a whole value, was refused
+abbrev pub RefusesPutPart : Refusal → StoreState → StoreState → Type 0
+RefusesPutPart r old new = LeavesParts (Unit {0}) (λ failed state. RefusesErasure failed state r) old new
+
 -- the chunk took this part, seen from its origin, by itself
 abbrev pub PatchesChunk : Layout → Bool → List ℕ → Box → ArrayData → StoreState → StoreState → Type 0
 PatchesChunk layout keep index part held old new = PatchesAll layout keep (λ i. Unit {0}) (part_box (box_at layout.grid index) part) held (index ∷ []) old new
 
 -- the chunk did not take this part by itself
 abbrev pub LeavesPartly : Layout → Bool → List ℕ → Box → ArrayData → Refusal → StoreState → StoreState → Type 0
-LeavesPartly layout keep index part held r old new = LeavesValues (λ failed state. RefusesPartly layout keep index part held failed state r) old new
+LeavesPartly layout keep index part held r old new =
+    LeavesParts (Unit {0}) (λ failed state. RefusesPartly layout keep index part held failed state r) old new
 
 -- one chunk did not take its part
 abbrev pub LeavesPatch : Layout → Bool → (List ℕ → Type 0) → Box → ArrayData → List ℕ → Refusal → StoreState → StoreState → Type 0
 LeavesPatch layout keep itself region held index r old new =
-    LeavesValues (λ failed state. RefusesPatch layout keep itself region held index failed state r) old new
+    LeavesParts (itself index) (λ failed state. RefusesPatch layout keep itself region held index failed state r) old new
 
 -- the first `done` of the chunks took their part, each by one writing call
 pub record HasPatched (layout : Layout) (keep : Bool) (itself : List ℕ → Type 0) (region : Box) (held : ArrayData) (chunks : List (List ℕ)) (done : ℕ)
@@ -43,4 +64,4 @@ pub record HasPatched (layout : Layout) (keep : Bool) (itself : List ℕ → Typ
   pub count : length given ≡ position_count region.shape
   pub patches : Patches layout keep itself region given (take done chunks) old new
   pub untouched : done ≡ 0 → new.values ≡ old.values
-  pub makes : Makes done 0 old new
+  pub makes : MakesParts (SomeItself itself chunks) done 0 old new

@@ -199,7 +199,7 @@ module _ (layout : Layout) (lawful : IsLawful layout) where
 pub store_front : (layout : Layout) (keep : Bool) (region : Box) (held : ArrayData) (given : List Cell) (chunks : List (List ℕ)) (done failed : ℕ) (old mid new : StoreState)
     → cells layout.kind held ≡ Some given → length given ≡ position_count region.shape → done ≤ length chunks
     → Stores layout keep region given (take done chunks) old mid → Makes done 0 old mid → (done ≡ 0 → mid.values ≡ old.values)
-    → new.values ≡ mid.values → Makes 0 failed mid new → Front (λ indices. Takes layout keep region held indices old new) chunks done failed old new
+    → new.values ≡ mid.values → Makes 0 failed mid new → Front Makes (λ indices. Takes layout keep region held indices old new) chunks done failed old new
 store_front layout keep region held given chunks done failed old mid new are count within stores made none still more = record {
   within = within;
   untouched = λ zero. still ∙ none zero;
@@ -207,14 +207,14 @@ store_front layout keep region held given chunks done failed old mid new are cou
   makes = record {
     calls = let a = made.calls in let b = more.calls in omega arith;
     failures = let a = made.failures in let b = more.failures in omega arith;
-    reach = record { may_ask = λ key. more.reach.may_ask key ∙ made.reach.may_ask key; may_read = λ key place. more.reach.may_read key place ∙ made.reach.may_read key place; sets_parts = more.reach.sets_parts ∙ made.reach.sets_parts; lenders = more.reach.lenders ∙ made.reach.lenders };
+    reach = record { may_ask = λ key. more.reach.may_ask key ∙ made.reach.may_ask key; may_read = λ key place. more.reach.may_read key place ∙ made.reach.may_read key place; sets_parts = more.reach.sets_parts ∙ made.reach.sets_parts; lenders = more.reach.lenders ∙ made.reach.lenders; parts = more.reach.parts ∙ made.reach.parts };
   };
 }
 
 -- with all chunks done the content is the data over the region, where each of its positions lies in one of them
 pub stores_all : (layout : Layout) (keep : Bool) (region : Box) (held : ArrayData) (chunks : List (List ℕ)) (old new : StoreState) (t : Takes layout keep region held chunks old new)
     → ((position : List ℕ) → Holds region position → Contains chunks (index_at layout.grid position))
-    → Front (λ indices. Takes layout keep region held indices old new) chunks (length chunks) 0 old new → StoresAll layout keep region held chunks old new
+    → Front Makes (λ indices. Takes layout keep region held indices old new) chunks (length chunks) 0 old new → StoresAll layout keep region held chunks old new
 stores_all layout keep region held chunks old new t all front = record {
   takes = t;
   updates = λ position. elim (cases_Bool (in_box region position)) [
@@ -256,7 +256,7 @@ among_any indices i none among = among_none i indices among.0 none among.1 among
 
 -- with all chunks gone the content is fill in them
 pub erases_all : (layout : Layout) (chunks : List (List ℕ)) (old new : StoreState) → Erases layout chunks old new
-    → Front (λ indices. Erases layout indices old new) chunks (length chunks) 0 old new → ErasesAll layout chunks old new
+    → Front Makes (λ indices. Erases layout indices old new) chunks (length chunks) 0 old new → ErasesAll layout chunks old new
 erases_all layout chunks old new e front = record {
   erases = e;
   updates = λ position.

@@ -2,7 +2,7 @@
 use Rattle.std.proofs.Common.{◌≡◌, ◌⊎◌, ℕ, Bool, true, false, cond, List, [], ◌∷◌, ◌++◌, None, refl, ◌∙◌, subst, inl, inr}
 use Rattle.zarrs_subset.specs.Regions.{Box, box_of}
 use Rattle.zarrs_chunk_grid.specs.Grids.{box_at}
-use Rattle.zarrs_storage.specs.Store.{StoreState, KeepsReach}
+use Rattle.zarrs_storage.specs.Store.{StoreState, KeepsReach, KeepsRules}
 use Rattle.zarrs_engine_calls.specs.Layout.{Layout, ArrayState}
 use Rattle.zarrs_engine_calls.specs.declared.call.Call.{Call}
 use Rattle.zarrs_engine_calls.specs.declared.call.Reply.{Reply}
@@ -23,13 +23,13 @@ run_push layout keep [] (p ∷ ps) call reply old mid new r s = absurd r
 run_push layout keep (c ∷ cs) [] call reply old mid new r s = absurd r
 
 -- what a call may ask still may be asked
-pub ask_later : (layout : Layout) (call : Call) (old new : ArrayState) → new.shape ≡ old.shape → KeepsReach old.store new.store → MayAskCall layout call old → MayAskCall layout call new
+pub ask_later : (layout : Layout) (call : Call) (old new : ArrayState) → new.shape ≡ old.shape → KeepsRules old.store new.store → MayAskCall layout call old → MayAskCall layout call new
 ask_later layout call old new shape reach may = λ located index r long.
     let m = may (subst (λ s. location_refusal layout s call ≡ None) shape located) index (subst (λ s. Reach layout s call index) shape r) long in
     record { key = reach.may_ask (layout.key index) ∙ m.key; places = λ place. reach.may_read (layout.key index) place ∙ m.places place }
 
 -- and what each of some calls may ask
-pub calls_later : (layout : Layout) (calls : List Call) (old new : ArrayState) → new.shape ≡ old.shape → KeepsReach old.store new.store → MayAskCalls layout calls old → MayAskCalls layout calls new
+pub calls_later : (layout : Layout) (calls : List Call) (old new : ArrayState) → new.shape ≡ old.shape → KeepsRules old.store new.store → MayAskCalls layout calls old → MayAskCalls layout calls new
 calls_later layout [] old new shape reach may = tt
 calls_later layout (call ∷ calls) old new shape reach may = (
   ask_later layout call old new shape reach may.0,
@@ -75,9 +75,12 @@ patch_leaves layout keep asked (call.RetrieveArraySubset region) reply old new s
 
 -- after a step the calls behind it may ask what they may ask
 pub calls_after : (layout : Layout) (keep asked : Bool) (call : Call) (calls : List Call) (reply : Reply) (old new : ArrayState)
-    → PatchStep layout keep asked call reply old new → KeepsReach old.store new.store → MayAskCalls layout (call ∷ calls) old → MayAskCalls layout calls new
+    → PatchStep layout keep asked call reply old new → KeepsRules old.store new.store → MayAskCalls layout (call ∷ calls) old → MayAskCalls layout calls new
 calls_after layout keep asked call calls reply old new s reach may =
     calls_later layout calls (record old { shape = new.shape }) new refl reach (may.1 new.shape (patch_leaves layout keep asked call reply old new s))
 
+pub rules_then : (old mid new : StoreState) → KeepsRules old mid → KeepsRules mid new → KeepsRules old new
+rules_then old mid new a b = record { may_ask = λ key. b.may_ask key ∙ a.may_ask key; may_read = λ key place. b.may_read key place ∙ a.may_read key place; sets_parts = b.sets_parts ∙ a.sets_parts; lenders = b.lenders ∙ a.lenders }
+
 pub reach_then : (old mid new : StoreState) → KeepsReach old mid → KeepsReach mid new → KeepsReach old new
-reach_then old mid new a b = record { may_ask = λ key. b.may_ask key ∙ a.may_ask key; may_read = λ key place. b.may_read key place ∙ a.may_read key place; sets_parts = b.sets_parts ∙ a.sets_parts; lenders = b.lenders ∙ a.lenders }
+reach_then old mid new a b = record { may_ask = λ key. b.may_ask key ∙ a.may_ask key; may_read = λ key place. b.may_read key place ∙ a.may_read key place; sets_parts = b.sets_parts ∙ a.sets_parts; lenders = b.lenders ∙ a.lenders; parts = b.parts ∙ a.parts }

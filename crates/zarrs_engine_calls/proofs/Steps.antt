@@ -153,7 +153,7 @@ record Counts (old new : StoreState) : Type 0 where
   is : new.calls + old.failures ≡ old.calls + new.failures + accepted
   none : accepted ≡ 0 → new.values ≡ old.values
 
-front_counts : (changed : List (List ℕ) → Type 0) (chunks : List (List ℕ)) (done failed : ℕ) (old new : StoreState) → Front changed chunks done failed old new → Counts old new
+front_counts : (changed : List (List ℕ) → Type 0) (chunks : List (List ℕ)) (done failed : ℕ) (old new : StoreState) → Front Makes changed chunks done failed old new → Counts old new
 front_counts changed chunks done failed old new f = record {
   accepted = done;
   is = let a = f.makes.calls in let b = f.makes.failures in omega arith;
@@ -242,7 +242,7 @@ writes_keep_decoding layout lawful keep =
 
 -- how many writing calls an event makes
 front_refused : (changed : List (List ℕ) → Type 0) (chunks : List (List ℕ)) (early : Type 0) (late : List ℕ → ℕ → Type 0) (r : Refusal) (old new : StoreState)
-    → RefusesWrite changed chunks early late old new → CountsWrites chunks (outcome.refused r) old new
+    → RefusesWrite Makes changed chunks early late old new → CountsWrites chunks (outcome.refused r) old new
 front_refused changed chunks early late r old new s = (s.done, s.failed, s.front.within, s.below, s.one, s.front.makes)
 
 none_refused : (r : Refusal) (old new : StoreState) → new ≡ old → CountsWrites [] (outcome.refused r) old new

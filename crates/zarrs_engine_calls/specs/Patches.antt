@@ -1,11 +1,11 @@
 -- What a store leaves that may write the parts of chunks by themselves: which chunks take their part by themselves, the cells
 -- of a chunk whose cells were known, and what its key holds.
-use Rattle.std.specs.Prelude.{◌≡◌, ◌⊎◌, ◌&&◌, ℕ, Bool, true, false, List, [], ◌∷◌, length, Option, None, Some, Contains}
+use Rattle.std.specs.Prelude.{◌≡◌, ◌≤◌, ◌+◌, ◌⊎◌, ◌&&◌, ℕ, Bool, true, false, List, [], ◌∷◌, length, Option, None, Some, Contains}
 use Rattle.std.specs.Prelude.{IsSome, if◌then◌else◌}
 use Rattle.zarrs_subset.specs.Boxes.{position_count}
 use Rattle.zarrs_subset.specs.Regions.{Box, Holds, cell_in, in_box, overlap_of}
 use Rattle.zarrs_chunk_grid.specs.Grids.{box_at, has_box}
-use Rattle.zarrs_storage.specs.Store.{StoreState}
+use Rattle.zarrs_storage.specs.Store.{KeepsRules, StoreState}
 use Rattle.zarrs_data_type.specs.Cell.{Cell}
 use Rattle.zarrs_data_type.specs.ArrayData.{ArrayData}
 use Rattle.zarrs_data_type.specs.Cells.{cells}
@@ -22,7 +22,7 @@ use Rattle.zarrs_engine_calls.specs.Acts.{Act, store, act_of, shape_after}
 use Rattle.zarrs_engine_calls.specs.Content.{value_at, content, Reads}
 use Rattle.zarrs_engine_calls.specs.Refusals as refusal
 use Rattle.zarrs_engine_calls.specs.Refusals.{Refusal, RefusesBy, is_too_large, refusal_of, refusal_of_codec}
-use Rattle.zarrs_engine_calls.specs.Changes.{ChangesKeysOf, HoldsValue, Makes}
+use Rattle.zarrs_engine_calls.specs.Changes.{ChangesKeysOf, HoldsValue}
 use Rattle.zarrs_engine_calls.specs.ChunkBoxes.{chunks_met, part_box}
 use Rattle.zarrs_engine_calls.specs.ArgumentRefusals.{argument_refusal, store_part_refusal, store_region_refusal}
 use Rattle.zarrs_engine_calls.specs.Step.{ActStep}
@@ -82,11 +82,25 @@ pub record TakesPatches (layout : Layout) (keep : Bool) (itself : List ℕ → T
   pub count : length given ≡ position_count region.shape
   pub patches : Patches layout keep itself region given indices old new
 
+-- some of these chunks takes its part by itself
+abbrev pub SomeItself : (List ℕ → Type 0) → List (List ℕ) → Type 0
+SomeItself itself chunks = (index : List ℕ) × Contains chunks index × itself index
+
+-- This many writing calls were accepted and this many failed, and no rule of the store changed. Some of these calls may have
+-- written a part of a value, but none if `Any` is not so.
+pub record MakesParts (Any : Type 0) (accepted failed : ℕ) (old new : StoreState) : Type 0 where
+  pub calls : new.calls ≡ old.calls + accepted + failed
+  pub failures : new.failures ≡ old.failures + failed
+  pub rules : KeepsRules old new
+  pub least : old.parts ≤ new.parts
+  pub most : new.parts ≤ old.parts + accepted + failed
+  pub none : (Any → ⊥) → new.parts ≡ old.parts
+
 -- an accepted store: each chunk took its part, by one writing call
 pub record PatchesAll (layout : Layout) (keep : Bool) (itself : List ℕ → Type 0) (region : Box) (held : ArrayData) (chunks : List (List ℕ))
     (old new : StoreState) : Type 0 where
   pub takes : TakesPatches layout keep itself region held chunks old new
-  pub makes : Makes (length chunks) 0 old new
+  pub makes : MakesParts (SomeItself itself chunks) (length chunks) 0 old new
 
 -- ---- why a chunk does not take its part
 
@@ -140,7 +154,7 @@ pub record RefusesPatch (layout : Layout) (keep : Bool) (itself : List ℕ → T
 -- a refused store: a front of its chunks took their part
 abbrev pub RefusesPatches : Layout → Bool → (List ℕ → Type 0) → Option Refusal → Box → ArrayData → List (List ℕ) → Refusal → StoreState → StoreState → Type 0
 RefusesPatches layout keep itself first region held chunks r old new =
-    RefusesWrite (λ indices. TakesPatches layout keep itself region held indices old new) chunks (RefusesBy first r)
+    RefusesWrite (MakesParts (SomeItself itself chunks)) (λ indices. TakesPatches layout keep itself region held indices old new) chunks (RefusesBy first r)
     (λ index failed. (first ≡ None) × RefusesPatch layout keep itself region held index failed new r) old new
 
 -- ---- stores
@@ -183,7 +197,7 @@ pub record RefusesEncoding (layout : Layout) (keep : Bool) (itself : List ℕ �
 -- a part that was refused: no value changes
 abbrev pub RefusesEncodePart : Layout → Bool → List ℕ → Box → ArrayData → Refusal → StoreState → StoreState → Type 0
 RefusesEncodePart layout keep index part held r old new =
-    RefusesWrite (λ indices. TakesPatches layout keep (IsEncoded layout old) (part_box (box_at layout.grid index) part) held indices old new) (index ∷ [])
+    RefusesWrite (MakesParts (SomeItself (IsEncoded layout old) (index ∷ []))) (λ indices. TakesPatches layout keep (IsEncoded layout old) (part_box (box_at layout.grid index) part) held indices old new) (index ∷ [])
     (RefusesBy (store_part_refusal layout index part held) r)
     (λ i failed. (store_part_refusal layout index part held ≡ None)
     × RefusesEncoding layout keep (IsEncoded layout old) (part_box (box_at layout.grid index) part) held i failed new r) old new

@@ -1,7 +1,7 @@
 //! Lists of calls.
 ghost use Rattle.std.specs.Prelude.{◌≡◌, false, IfOk, IfErr, OnOk, OnErr};
 ghost use Rattle.zarrs_codec_chain.specs.Options.{encodes_partially, stores_empty_chunks};
-ghost use Rattle.zarrs_storage.specs.Store.{KeepsReach};
+ghost use Rattle.zarrs_storage.specs.Store.{KeepsRules};
 ghost use Rattle.zarrs_engine_calls.specs.Content.{value_at};
 ghost use Rattle.zarrs_engine_calls.specs.Reach.{MayAskCalls};
 ghost use Rattle.zarrs_engine_calls.specs.Step.{Run};
@@ -58,7 +58,7 @@ pub fn replay<
     ensures untouched { OnErr result (engine.new ≡ engine.old) }
     ensures layout { layout_of engine.new ≡ layout_of engine.old }
     ensures others { KeepsOthers engine.old engine.new }
-    ensures reach { KeepsReach (store_of S.state engine.old) (store_of S.state engine.new) }
+    ensures reach { KeepsRules (store_of S.state engine.old) (store_of S.state engine.new) }
     // If empty chunks are not kept, the bytes of a canonical store stay a function of its content.
     ensures canonical { writes_parts (encodes_partially options.now) (layout_of engine.old)
         (store_of S.state engine.old) ≡ false → stores_empty_chunks options.now ≡ false

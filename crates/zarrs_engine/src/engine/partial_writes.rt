@@ -32,7 +32,6 @@ impl<
     ghost use Rattle.zarrs_codec_chain.specs.Chain.{partial_encoding};
     ghost use Rattle.zarrs_codec_chain.specs.Options.{encodes_partially, stores_empty_chunks};
     ghost use Rattle.zarrs_engine_calls.specs.ArgumentRefusals.{part_refusal};
-    ghost use Rattle.zarrs_engine_calls.specs.Changes.{IsPut};
     ghost use Rattle.zarrs_engine_calls.specs.ChunkBoxes.{part_box};
     ghost use Rattle.zarrs_engine_calls.specs.Content.{value_at};
     ghost use Rattle.zarrs_engine_calls.specs.Patches.{PatchesAll, RefusesPartly, RefusesPatches};
@@ -43,11 +42,10 @@ impl<
     ghost use Rattle.zarrs_engine_calls.specs.Refusals.{refusal_of_storage};
     ghost use Rattle.zarrs_engine_layout.specs.Covers.{CoverRegion};
     ghost use Rattle.zarrs_engine.specs.RegionWrites.{AreCovered};
-    ghost use Rattle.zarrs_engine_layout.specs.Steps.{RefusesPut};
     ghost use Rattle.zarrs_engine.specs.Engine.{layout_of, store_of, KeepsLayout};
     ghost use Rattle.zarrs_engine.specs.Outcomes.{EncodesPartOrRefuses};
-    ghost use Rattle.zarrs_engine.specs.Patches.{LeavesPartly, LeavesPatch, PatchesChunk, Shares};
-    ghost use Rattle.zarrs_engine.specs.Patches.{SharesEach};
+    ghost use Rattle.zarrs_engine.specs.Patches.{IsPutPart, LeavesPartly, LeavesPatch, PatchesChunk};
+    ghost use Rattle.zarrs_engine.specs.Patches.{RefusesPutPart, Shares, SharesEach};
 
     /// Returns whether the parts of chunks are written by themselves: the chain and the store can.
     pub(crate) fn encodes_partly(&self) -> bool
@@ -87,10 +85,10 @@ impl<
         key: &StoreKey,
         write: PartialWrite,
     ) -> Result<(), StorageError>
-        ensures done { OnOk result (IsPut key.now (after (change_of write)
+        ensures done { OnOk result (IsPutPart key.now (after (change_of write)
             (value_at (store_of S.state self.old) key.now)) (store_of S.state self.old)
             (store_of S.state self.new)) }
-        ensures refused { IfErr result (λ e. RefusesPut (refusal_of_storage e)
+        ensures refused { IfErr result (λ e. RefusesPutPart (refusal_of_storage e)
             (store_of S.state self.old) (store_of S.state self.new)) }
         ensures layout_kept { KeepsLayout self.old self.new }
     {

@@ -8,9 +8,9 @@ use Rattle.zarrs_engine.proofs.Cuts.{drop_first, others_then}
 use Rattle.zarrs_engine_calls.specs.Step.{Run}
 use Rattle.zarrs_engine_calls.proofs.Steps.{run_keeps, run_decodes}
 use Rattle.zarrs_engine_calls.proofs.Patched.{patched_all_one}
-use Rattle.zarrs_engine_calls.proofs.Runs.{run_push, reach_then}
+use Rattle.zarrs_engine_calls.proofs.Runs.{rules_then, run_push}
 use Rattle.zarrs_engine.specs.Outcomes.{StepsAs}
-use Rattle.zarrs_engine.proofs.PatchedRuns.{patch_asked, patch_push, patch_reach}
+use Rattle.zarrs_engine.proofs.PatchedRuns.{patch_asked, patch_push, patch_rules}
 use Rattle.zarrs_engine.specs.Engine.{layout_of, state_of}
 use Rattle.zarrs_engine.proofs.engine.calls.replay.Goals as goal
 
@@ -40,7 +40,7 @@ loop-call-preserved g c =
     let call = c.call-item.result in
     let more : take (n + 1) calls ≡ take n calls ++ call ∷ [] = take_more calls n call c.loop-call-test.true ∙ ap (λ x. take n calls ++ x ∷ []) (sym c.call-item.is) in
     let step = subst (λ (layout : Layout). StepsAs layout c.args.options.now call c.answer-reply.result mid new) i.layout s.step in
-    let kept = patch_reach layout keep asked call c.answer-reply.result mid new step.partly in
+    let kept = patch_rules layout keep asked call c.answer-reply.result mid new step.partly in
     record {
       run = λ off.
           let still = ap (λ b. asked && (layout.chain.encodes_partly && b)) i.reach.sets_parts ∙ off in
@@ -48,7 +48,7 @@ loop-call-preserved g c =
       patched = rw (more, p.items) (patch_push layout keep asked _ _ call c.answer-reply.result old mid new i.patched step.partly);
       layout = s.layout ∙ i.layout;
       others = others_then _ _ _ i.others s.others;
-      reach = reach_then old.store mid.store new.store i.reach kept;
+      reach = rules_then old.store mid.store new.store i.reach kept;
       ask =
           let rest = drop_first calls n call c.loop-call-test.true c.call-item.is in
           patch_asked layout keep asked call (drop (n + 1) calls) c.answer-reply.result mid new step.partly (subst (λ (calls : List Call). MayAskCalls layout calls mid) rest i.ask);
