@@ -4,7 +4,7 @@ use Rattle.zarrs_storage.specs.Store.{StoreState}
 use Rattle.zarrs_subset.specs.Regions.{Box}
 use Rattle.zarrs_data_type.specs.ArrayData.{ArrayData}
 use Rattle.zarrs_engine_calls.specs.Layout.{Layout}
-use Rattle.zarrs_engine_calls.specs.Patches.{RefusesPatchPart}
+use Rattle.zarrs_engine_calls.specs.Patches.{RefusesEncodePart}
 use Rattle.zarrs_engine_calls.specs.Refusals.{out_of_memory}
 use Rattle.zarrs_engine_calls.specs.Step.{RefusesEraseChunks}
 use Rattle.zarrs_engine_calls.proofs.RefusalLemmas.{makes_none}
@@ -20,8 +20,8 @@ erase_short layout range state = record {
   cause = inl (tt, refl, refl);
 }
 
-pub patch_short : (layout : Layout) (keep : Bool) (index : List ℕ) (part : Box) (held : ArrayData) (state : StoreState) → RefusesPatchPart layout keep index part held out_of_memory state state
-patch_short layout keep index part held state = record {
+pub encode_short : (layout : Layout) (keep : Bool) (index : List ℕ) (part : Box) (held : ArrayData) (state : StoreState) → RefusesEncodePart layout keep index part held out_of_memory state state
+encode_short layout keep index part held state = record {
   done = 0;
   failed = 0;
   front = record { within = omega arith; untouched = λ none. refl; changes = λ some. absurd (omega arith); makes = makes_none state };

@@ -83,7 +83,7 @@ impl<TStorage: WritableStorageTraits> Array<TStorage> {
     ghost use Rattle.zarrs_engine_layout.specs.Steps.{RefusesPut};
     ghost use Rattle.zarrs_engine_calls.specs.Headline.{IsOneFunctionThrough};
     ghost use Rattle.zarrs_engine_calls.specs.Laws.{EachDecodes};
-    ghost use Rattle.zarrs_engine_calls.specs.Patches.{PatchRun};
+    ghost use Rattle.zarrs_engine_calls.specs.Patches.{PatchRun, writes_parts};
     ghost use Rattle.zarrs_engine_calls.specs.Reach.{MayAskCalls};
     ghost use Rattle.zarrs_engine_calls.specs.Refusals.{refusal_of, refusal_of_storage};
     ghost use Rattle.zarrs.specs.Outcomes.{ErasesChunkOrRefuses};
@@ -168,16 +168,19 @@ impl<TStorage: WritableStorageTraits> Array<TStorage> {
         requires { MayAskCalls (layout_of_array self.old) calls.now
             (state_of_array TStorage.state self.old) }
         ensures patched { IfOk result (λ replies. PatchRun (layout_of_array self.old)
-            (stores_empty_chunks options.now) calls.now replies.items
-            (state_of_array TStorage.state self.old) (state_of_array TStorage.state self.new)) }
+            (stores_empty_chunks options.now) (encodes_partially options.now) calls.now
+            replies.items (state_of_array TStorage.state self.old)
+            (state_of_array TStorage.state self.new)) }
         // Whatever the options, the array is one function through the calls, if each chunk decodes at first.
         ensures one_function { EachDecodes (layout_of_array self.old)
             (store_of_array TStorage.state self.old)
             → IfOk result (λ replies. IsOneFunctionThrough (layout_of_array self.old) calls.now
             replies.items (state_of_array TStorage.state self.old)
             (state_of_array TStorage.state self.new)) }
-        // If no part is written by itself, the keys of the chunks that were stored hold what their cells are encoded to.
-        ensures run { encodes_partially options.now ≡ false → IfOk result (λ replies.
+        // If no part is written by itself, since none is asked for or the chain or the store cannot, the keys of the chunks
+        // that were stored hold what their cells are encoded to.
+        ensures run { writes_parts (encodes_partially options.now) (layout_of_array self.old)
+            (store_of_array TStorage.state self.old) ≡ false → IfOk result (λ replies.
             Run (layout_of_array self.old) (stores_empty_chunks options.now) calls.now replies.items
             (state_of_array TStorage.state self.old) (state_of_array TStorage.state self.new)) }
         ensures untouched { OnErr result (IsUntouched self.old self.new) }
@@ -186,13 +189,15 @@ impl<TStorage: WritableStorageTraits> Array<TStorage> {
         ensures reach { KeepsReach (store_of_array TStorage.state self.old)
             (store_of_array TStorage.state self.new) }
         // If empty chunks are not kept, the bytes of a canonical store stay a function of its content.
-        ensures canonical { encodes_partially options.now ≡ false
+        ensures canonical { writes_parts (encodes_partially options.now)
+            (layout_of_array self.old) (store_of_array TStorage.state self.old) ≡ false
             → stores_empty_chunks options.now ≡ false
             → IsCanonical (layout_of_array self.old)
             (value_at (store_of_array TStorage.state self.old))
             → IsCanonical (layout_of_array self.old)
             (value_at (store_of_array TStorage.state self.new)) }
-        ensures decodes { encodes_partially options.now ≡ false
+        ensures decodes { writes_parts (encodes_partially options.now)
+            (layout_of_array self.old) (store_of_array TStorage.state self.old) ≡ false
             → EachDecodes (layout_of_array self.old) (store_of_array TStorage.state self.old)
             → EachDecodes (layout_of_array self.old) (store_of_array TStorage.state self.new) }
     {

@@ -1,7 +1,7 @@
 use Rattle.std.proofs.Common.{OnOk, IfErr, refl, subst, sym}
 use Rattle.zarrs_subset.specs.Regions.{Box}
 use Rattle.zarrs_data_type.specs.ArrayData.{data_of}
-use Rattle.zarrs_codec.specs.Options.{stores_empty_chunks}
+use Rattle.zarrs_codec.specs.Options.{encodes_partially, stores_empty_chunks}
 use Rattle.zarrs_engine_calls.specs.Patches.{PatchesRegion, RefusesPatchRegion}
 use Rattle.zarrs_engine_calls.specs.Step.{StoresRegion, RefusesStoreRegion}
 use Rattle.zarrs_engine_calls.specs.Refusals.{refusal_of}
@@ -16,6 +16,7 @@ pub returns : goal.returns
 returns g c =
     let layout = layout_of_array c.args.self.now in
     let keep = stores_empty_chunks c.args.options.now in
+    let asked = encodes_partially c.args.options.now in
     let old = g.TStorage.ReadableStorageTraits.state c.args.self.now.engine.storage in
     let new = g.TStorage.ReadableStorageTraits.state c.store_array_subset.new.self.storage in
     let region = g.R.ArraySubsetTraits.region c.args.array_subset.now in
@@ -34,9 +35,9 @@ returns g c =
           (record { layout_kept = stored.layout_kept; metadata = refl; codec_options = refl; codec_specific_options = refl; metadata_options = refl }));
       partly = (
           let stored = c.store_array_subset.ensures.partly in
-          let done = subst (λ (b : Box). OnOk c.store_array_subset.result (PatchesRegion layout shape b held old new)) c.in_ok-array_subset.ensures stored.done in
-          let refused = subst (λ (b : Box). IfErr c.store_array_subset.result (λ e. RefusesPatchRegion layout keep shape b held (refusal_of e) old new)) c.in_ok-array_subset.ensures stored.refused in
-          written_as serves gives (region_refusal layout shape region) g.TStorage.ReadableStorageTraits.state (λ d. PatchesRegion layout shape region d) (λ d. RefusesPatchRegion layout keep shape region d) SaysNothing c.args.self.now _ c.store_array_subset.result held given served done refused tt
+          let done = subst (λ (b : Box). OnOk c.store_array_subset.result (PatchesRegion layout keep asked shape b held old new)) c.in_ok-array_subset.ensures stored.done in
+          let refused = subst (λ (b : Box). IfErr c.store_array_subset.result (λ e. RefusesPatchRegion layout keep asked shape b held (refusal_of e) old new)) c.in_ok-array_subset.ensures stored.refused in
+          written_as serves gives (region_refusal layout shape region) g.TStorage.ReadableStorageTraits.state (λ d. PatchesRegion layout keep asked shape region d) (λ d. RefusesPatchRegion layout keep asked shape region d) SaysNothing c.args.self.now _ c.store_array_subset.result held given served done refused tt
           (record { layout_kept = stored.layout_kept; metadata = refl; codec_options = refl; codec_specific_options = refl; metadata_options = refl }));
     }
 

@@ -1,7 +1,7 @@
 use Rattle.std.proofs.Common.{OnOk, IfErr, refl, subst, sym}
 use Rattle.zarrs_subset.specs.Regions.{Box}
 use Rattle.zarrs_data_type.specs.ArrayData.{data_of}
-use Rattle.zarrs_codec.specs.Options.{stores_empty_chunks}
+use Rattle.zarrs_codec.specs.Options.{encodes_partially, stores_empty_chunks}
 use Rattle.zarrs_engine_calls.specs.Canon.{KeepsCanon}
 use Rattle.zarrs_engine_calls.specs.Patches.{PatchesPart, RefusesPatchPart}
 use Rattle.zarrs_engine_calls.specs.Step.{StoresPart, RefusesStorePart}
@@ -16,6 +16,7 @@ pub returns : goal.returns
 returns g c =
     let layout = layout_of_array c.args.self.now in
     let keep = stores_empty_chunks c.args.options.now in
+    let asked = encodes_partially c.args.options.now in
     let old = g.TStorage.ReadableStorageTraits.state c.args.self.now.engine.storage in
     let new = g.TStorage.ReadableStorageTraits.state c.store_chunk_subset.new.self.storage in
     let index = c.args.chunk_indices.now in
@@ -34,9 +35,9 @@ returns g c =
           (record { layout_kept = stored.layout_kept; metadata = refl; codec_options = refl; codec_specific_options = refl; metadata_options = refl }));
       partly = (
           let stored = c.store_chunk_subset.ensures.partly in
-          let done = subst (λ (b : Box). OnOk c.store_chunk_subset.result (PatchesPart layout index b held old new)) c.in_ok-chunk_subset.ensures stored.done in
-          let refused = subst (λ (b : Box). IfErr c.store_chunk_subset.result (λ e. RefusesPatchPart layout keep index b held (refusal_of e) old new)) c.in_ok-chunk_subset.ensures stored.refused in
-          written_as serves gives (place_refusal layout index region) g.TStorage.ReadableStorageTraits.state (λ d. PatchesPart layout index region d) (λ d. RefusesPatchPart layout keep index region d) SaysNothing c.args.self.now _ c.store_chunk_subset.result held given served done refused tt
+          let done = subst (λ (b : Box). OnOk c.store_chunk_subset.result (PatchesPart layout keep asked index b held old new)) c.in_ok-chunk_subset.ensures stored.done in
+          let refused = subst (λ (b : Box). IfErr c.store_chunk_subset.result (λ e. RefusesPatchPart layout keep asked index b held (refusal_of e) old new)) c.in_ok-chunk_subset.ensures stored.refused in
+          written_as serves gives (place_refusal layout index region) g.TStorage.ReadableStorageTraits.state (λ d. PatchesPart layout keep asked index region d) (λ d. RefusesPatchPart layout keep asked index region d) SaysNothing c.args.self.now _ c.store_chunk_subset.result held given served done refused tt
           (record { layout_kept = stored.layout_kept; metadata = refl; codec_options = refl; codec_specific_options = refl; metadata_options = refl }));
     }
 
