@@ -55,7 +55,7 @@ put_last puts old new so = subst (λ (ps : List Put). ArePut ps old new) (sym (s
 
 -- what may be asked stays
 pub reach_after : (puts : List Put) (old new : StoreState) → ArePut puts old new → KeepsReach old new
-reach_after [] old new same = subst (λ (s : StoreState). KeepsReach old s) (sym same) (record { may_ask = λ key. refl; may_read = λ key place. refl; sets_parts = refl; lenders = refl })
+reach_after [] old new same = subst (λ (s : StoreState). KeepsReach old s) (sym same) (record { may_ask = λ key. refl; may_read = λ key place. refl; sets_parts = refl; lenders = refl; parts = refl })
 reach_after (p ∷ puts) old new first =
     let here = first.first.makes.reach in
     let after = reach_after puts first.middle new first.others in
@@ -64,6 +64,7 @@ reach_after (p ∷ puts) old new first =
       may_read = λ key place. after.may_read key place ∙ here.may_read key place;
       sets_parts = after.sets_parts ∙ here.sets_parts;
       lenders = after.lenders ∙ here.lenders;
+      parts = after.parts ∙ here.parts;
     }
 
 pub may_ask_after : (version : MetadataRetrieveVersion) (path : List ℕ) (old new : StoreState) → MayAskEachMetadata old path → KeepsReach old new → MayAskMetadata version new path

@@ -24,7 +24,19 @@ pub encode_short : (layout : Layout) (keep : Bool) (index : List ℕ) (part : Bo
 encode_short layout keep index part held state = record {
   done = 0;
   failed = 0;
-  front = record { within = omega arith; untouched = λ none. refl; changes = λ some. absurd (omega arith); makes = makes_none state };
+  front = record {
+    within = omega arith;
+    untouched = λ none. refl;
+    changes = λ some. absurd (omega arith);
+    makes = record {
+      calls = omega arith;
+      failures = omega arith;
+      rules = record { may_ask = λ key. refl; may_read = λ key place. refl; sets_parts = refl; lenders = refl };
+      least = omega arith;
+      most = omega arith;
+      none = λ not. refl;
+    };
+  };
   below = λ some. some;
   one = omega arith;
   counted = λ some. absurd (omega arith);

@@ -75,7 +75,7 @@ impl<TStorage: WritableStorageTraits> Array<TStorage> {
     ghost use Rattle.std.specs.Prelude.{◌≡◌, true, false, Some, IsSome, length};
     ghost use Rattle.std.specs.Prelude.{IfOk, IfErr, OnOk, OnErr};
     ghost use Rattle.zarrs_chunk_grid.specs.Grids.{box_at, has_box};
-    ghost use Rattle.zarrs_storage.specs.Store.{KeepsReach};
+    ghost use Rattle.zarrs_storage.specs.Store.{KeepsRules};
     ghost use Rattle.zarrs_engine_calls.specs.Changes.{IsPut};
     ghost use Rattle.zarrs_codec.specs.Options.{encodes_partially, stores_empty_chunks};
     ghost use Rattle.zarrs_engine_calls.specs.Canon.{IsCanonical, KeepsCanon};
@@ -186,7 +186,7 @@ impl<TStorage: WritableStorageTraits> Array<TStorage> {
         ensures untouched { OnErr result (IsUntouched self.old self.new) }
         ensures layout { layout_of_array self.new ≡ layout_of_array self.old }
         ensures kept { KeepsAllButShape self.old self.new }
-        ensures reach { KeepsReach (store_of_array TStorage.state self.old)
+        ensures reach { KeepsRules (store_of_array TStorage.state self.old)
             (store_of_array TStorage.state self.new) }
         // If empty chunks are not kept, the bytes of a canonical store stay a function of its content.
         ensures canonical { writes_parts (encodes_partially options.now)
