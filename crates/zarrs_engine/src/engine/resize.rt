@@ -80,11 +80,12 @@ impl<
         ensures refused { (keep : Bool) → IfErr result (λ e. RefusesKeptCut (layout_of self.now)
             keep shape.now chunk_indices.now 0 (store_of S.state self.now) (refusal_of e)) }
     {
-        let mut data = self.retrieve_chunk(alloc, chunk_indices)?;
+        let held = self.retrieve_chunk(alloc, chunk_indices)?;
+        let mut made = held;
         for axis in 0..shape.len() {
-            data = self.fill_beyond(alloc, data, chunk, shape, axis)?;
+            made = self.fill_beyond(alloc, made, chunk, shape, axis)?;
         }
-        Ok(data)
+        Ok(made)
     }
 
     /// Returns what is to be present at the key of a chunk after it was cut to the shape: nothing if it has no cell
