@@ -34,10 +34,7 @@ pub trait Number: WholeNumber {
     ///
     /// # Errors
     /// `AllocError`: out of memory.
-    fn lend_bytes<'a>(
-        alloc: Global,
-        numbers: &'a [Self],
-    ) -> Result<CowSlice<'a, u8>, AllocError>
+    fn lend_bytes<'a>(alloc: Global, numbers: &'a [Self]) -> Result<CowSlice<'a, u8>, AllocError>
         ensures { IfOk result (λ made. cow_slice_items made
             ≡ flat_map Self.le_bytes numbers.now) }
     {
