@@ -101,6 +101,7 @@ unstored_names P o un r is = go r is
     none : (key : List ℕ) → RefusesCreation o (unread key) → ⊥
     none key (inl is) = subst Unstored is un
     none key (inr is) = subst Unstored is un
+
     go : (r : CreateRefusal) → RefusesCreation o r → NamesOneOf P r
     go (unread key) is = absurd (none key is)
     go node_path is = tt
