@@ -1,5 +1,11 @@
 -- Which key a refused opening names, and that what metadata says is refused by no store.
 use Rattle.std.proofs.Common.{◌≡◌, inl, inr, ℕ, List, [], ◌∷◌, length, Option, Some, None, Result, Ok, Err, Bool, true, false, ◌==◌, if◌then◌else◌, subst}
+use Rattle.zarrs_keys.specs.Metadata.{key_encoding_of}
+use Rattle.zarrs_chunk_grid.specs.Metadata.{grid_said}
+use Rattle.zarrs_data_type.specs.FillMetadata.{fill_said}
+use Rattle.zarrs_data_type.specs.TypeMetadata.{kind_of}
+use Rattle.zarrs_codec.specs.Metadata.{chain_said}
+use Rattle.zarrs_options.specs.Options.{transformers_said}
 use Rattle.zarrs_keys.specs.declared.error.NodePathError.{NodePathError}
 use Rattle.zarrs_keys.specs.declared.error.NodePathError.TheVariants as path_error
 use Rattle.zarrs_storage.specs.Refusals.{NamesKey}
@@ -51,35 +57,33 @@ chained : {A B : Type 0} (o : Result A CreateRefusal) (f : A → Result B Create
 chained (Ok a) f first next = next a
 chained (Err r) f first next = first
 
+-- and a choice of two
+chosen : {A : Type 0} (b : Bool) (o p : Result A CreateRefusal) → Unstored o → Unstored p → Unstored (if b then o else p)
+chosen true o p first next = first
+chosen false o p first next = next
+
 said : {A : Type 0} (r : CreateRefusal) (o : Option A) → IsUnstored r → Unstored (said_or r o)
 said r None is = is
 said r (Some a) is = tt
 
-named : (n : ℕ) (names : Option (List (Option (List ℕ)))) → Unstored (names_said n names)
-named n None = tt
-named n (Some names) = go (length names == n)
-  where
-    go : (b : Bool) → Unstored (if b then Ok tt else Err (dimension_names (length names) n))
-    go true = tt
-    go false = tt
+counted : (n : ℕ) (names : Option (List (Option (List ℕ)))) → Unstored (names_said n names)
+counted n None = tt
+counted n (Some names) = chosen (length names == n) (Ok tt) (Err (dimension_names (length names) n)) tt tt
 
 v3_unstored : (m : DocumentData) → Unstored (creation_v3 m)
 unfolding creation_v3
 v3_unstored m =
-    chained _ _ (said codecs _ tt) (λ chain.
-    chained _ _ (said data_type _ tt) (λ kind.
-    chained _ _ (said chunk_grid _ tt) (λ grid.
-    chained _ _ (said (fill_value_metadata m.data_type.name m.fill_value) _ tt) (λ fill.
-    chained _ _ (said storage_transformers _ tt) (λ transformers.
-    chained _ _ (said chunk_key_encoding _ tt) (λ keys.
-    chained _ _ (named (length m.shape) m.dimension_names) (λ names. tt)))))))
+    chained (said_or codecs (chain_said m.codecs)) _ (said codecs (chain_said m.codecs) tt) (λ chain.
+    chained (said_or data_type (kind_of m.data_type)) _ (said data_type (kind_of m.data_type) tt) (λ kind.
+    chained (said_or chunk_grid (grid_said m.chunk_grid m.shape)) _ (said chunk_grid (grid_said m.chunk_grid m.shape) tt) (λ grid.
+    chained (said_or (fill_value_metadata m.data_type.name m.fill_value) (fill_said kind m.fill_value)) _
+    (said (fill_value_metadata m.data_type.name m.fill_value) (fill_said kind m.fill_value) tt) (λ fill.
+    chained (said_or storage_transformers (transformers_said m.storage_transformers)) _ (said storage_transformers (transformers_said m.storage_transformers) tt) (λ transformers.
+    chained (said_or chunk_key_encoding (key_encoding_of m.chunk_key_encoding)) _ (said chunk_key_encoding (key_encoding_of m.chunk_key_encoding) tt) (λ keys.
+    chained (names_said (length m.shape) m.dimension_names) _ (counted (length m.shape) m.dimension_names) (λ names. tt)))))))
 
 extents : (m : DocumentV2Data) → Unstored (extents_said m)
-extents m = go (length m.chunks == length m.shape)
-  where
-    go : (b : Bool) → Unstored (if b then Ok tt else Err chunk_grid)
-    go true = tt
-    go false = tt
+extents m = chosen (length m.chunks == length m.shape) (Ok tt) (Err chunk_grid) tt tt
 
 unconverted : (m : DocumentV2Data) (r : ConversionRefusal) → Unstored (not_converted m r)
 unconverted m (no_type dtype) = tt
@@ -99,8 +103,8 @@ unstored_names : {A : Type 0} (P : List ℕ → Type 0) (o : Result A CreateRefu
 unstored_names P o un r is = go r is
   where
     none : (key : List ℕ) → RefusesCreation o (unread key) → ⊥
-    none key (inl is) = subst Unstored is un
-    none key (inr is) = subst Unstored is un
+    none key (inl is) = subst (λ x. Unstored x) is un
+    none key (inr is) = subst (λ x. Unstored x) is un
 
     go : (r : CreateRefusal) → RefusesCreation o r → NamesOneOf P r
     go (unread key) is = absurd (none key is)
@@ -128,11 +132,7 @@ creation_names P m r is = unstored_names P (creation m) (unstored m) r is
 
 fields : (fs : List (List ℕ × FieldData)) → Unstored (fields_understood fs)
 fields [] = tt
-fields (f ∷ fs) = go f.1.must_understand
-  where
-    go : (b : Bool) → Unstored (if b then Err (additional_field f.0 f.1.value) else fields_understood fs)
-    go true = tt
-    go false = fields fs
+fields (f ∷ fs) = chosen f.1.must_understand (Err (additional_field f.0 f.1.value)) (fields_understood fs) tt (fields fs)
 
 -- and fields
 pub fields_names : (P : List ℕ → Type 0) (fs : List (List ℕ × FieldData)) (r : CreateRefusal) → RefusesCreation (fields_understood fs) r → NamesOneOf P r

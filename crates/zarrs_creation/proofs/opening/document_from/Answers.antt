@@ -7,7 +7,7 @@ use Rattle.zarrs_creation.proofs.opening.document_from.Goals as goal
 
 pub returns-in-Err-InvalidShape-clause-refused : goal.returns-in-Err-InvalidShape-clause-refused
 returns-in-Err-InvalidShape-clause-refused c =
-    rw (unsaid c.args.key c.args.bytes.now (rw c.in-Err-InvalidShape.field-0-is at c.in-Err-InvalidShape.ensures.refused)) (no_value _ _ _ c.invalid_metadata.ensures)
+    rw (unsaid c.args.key c.args.bytes.now (rw c.in-Err-InvalidShape.field-0-is at c.in-Err-InvalidShape.ensures.refused)) (no_value _ _ _ c.invalid_metadata.ensures.refused)
 
 pub returns-in_err-check_fields-clause-refused : goal.returns-in_err-check_fields-clause-refused
 returns-in_err-check_fields-clause-refused c =
