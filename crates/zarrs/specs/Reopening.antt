@@ -5,7 +5,7 @@ use Rattle.zarrs_engine_calls.specs.Refusals as refusals
 use Rattle.zarrs_metadata.specs.Versions.{MetadataData}
 use Rattle.zarrs_options.specs.Options.{MetadataOptionsData}
 use Rattle.zarrs_options.specs.Refusals.{CreateRefusal, storage, out_of_memory, RefusesCreation}
-use Rattle.zarrs_creation.specs.Opening.{opened}
+use Rattle.zarrs_creation.specs.Opening.{opened, IsMetadataKey, NamesOneOf}
 use Rattle.zarrs.specs.Laws.{version_of}
 use Rattle.zarrs.specs.Puts.{StoresMetadata, RefusesStoreMetadata}
 
@@ -22,11 +22,12 @@ module _ {S : Type 0} (state : S → StoreState) where
   abbrev pub RefusesToStore : MetadataOptionsData → List ℕ → MetadataData → CreateRefusal → StoreState → Type 0
   RefusesToStore o path m r old = (r ≡ out_of_memory) ⊎ IsNotStored o path m r old
 
-  -- what was written does not open by its version
+  -- what was written does not open by its version; if what is at a key does not read, that is a key of this version
   pub record DoesNotOpen (o : MetadataOptionsData) (path : List ℕ) (m : MetadataData) (r : CreateRefusal) (old : StoreState) : Type 0 where
     pub left : S
     pub stored : StoresMetadata o path m old (state left)
     pub refused : RefusesCreation (opened (version_of stored.shows) (state left) path) r
+    pub named : NamesOneOf (IsMetadataKey (version_of stored.shows) path) r
 
   -- an array with these options, at this path, of this metadata is not stored, or does not open again
   abbrev pub RefusesReopening : MetadataOptionsData → List ℕ → MetadataData → CreateRefusal → StoreState → Type 0

@@ -254,6 +254,7 @@ impl<TStorage: ReadableStorageTraits + Drop> Array<TStorage> {
     ghost use Rattle.zarrs_options.specs.declared.versions.MetadataRetrieveVersion.TheVariants as retrieve;
     ghost use Rattle.zarrs_options.specs.Refusals.{create_refusal_of, RefusesCreation};
     ghost use Rattle.zarrs_creation.specs.Opening.{opened, MayAskMetadata};
+    ghost use Rattle.zarrs_creation.specs.Opening.{IsMetadataKey, NamesOneOf};
     ghost use Rattle.zarrs.specs.Arrays.{metadata_of_array, path_of_array, storage_of_array};
     ghost use Rattle.zarrs.specs.Arrays.{HasDefaultOptions};
 
@@ -275,6 +276,8 @@ impl<TStorage: ReadableStorageTraits + Drop> Array<TStorage> {
         ensures options { IfOk result HasDefaultOptions }
         ensures refused { IfErr result (λ e. RefusesCreation
             (opened retrieve.Default (TStorage.state storage) path.now) (create_refusal_of e)) }
+        ensures named { IfErr result (λ e. NamesOneOf (IsMetadataKey retrieve.Default path.now)
+            (create_refusal_of e)) }
     {
         Array::open_opt(alloc, storage, path, &MetadataRetrieveVersion::Default)
     }
@@ -303,6 +306,8 @@ impl<TStorage: ReadableStorageTraits + Drop> Array<TStorage> {
         ensures options { IfOk result HasDefaultOptions }
         ensures refused { IfErr result (λ e. RefusesCreation
             (opened version.now (TStorage.state storage) path.now) (create_refusal_of e)) }
+        ensures named { IfErr result (λ e. NamesOneOf (IsMetadataKey version.now path.now)
+            (create_refusal_of e)) }
     {
         let node_path = NodePath::new(alloc, path)?;
         let metadata = stored_metadata(alloc, &storage, &node_path, *version)?;

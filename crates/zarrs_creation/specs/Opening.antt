@@ -1,5 +1,5 @@
 -- The metadata that a store holds for an array.
-use Rattle.std.specs.Prelude.{◌≡◌, ℕ, true, List, [], ◌∷◌, Option, Some, None, Result, Ok, Err, if◌then◌else◌}
+use Rattle.std.specs.Prelude.{◌≡◌, ◌⊎◌, ℕ, true, List, [], ◌∷◌, Option, Some, None, Result, Ok, Err, if◌then◌else◌}
 use Rattle.zarrs_storage.specs.Store.{StoreState, MayReadWhole}
 use Rattle.zarrs_keys.specs.Keys.{v3_name, v2_array_name, v2_attributes_name, IsMetadataName}
 use Rattle.zarrs_keys.specs.Paths.{path_key}
@@ -113,6 +113,23 @@ opened version state path = do
   m ← stored_metadata version state path
   parts ← creation m
   Ok m
+
+-- ---- what a refusal names
+
+-- the V2 document of an array at the path is at this key, or its attributes are
+abbrev pub IsV2Key : List ℕ → List ℕ → Type 0
+IsV2Key path key = (key ≡ v2_array_key path) ⊎ (key ≡ attributes_key path)
+
+-- metadata of this version of an array at the path is at this key
+abbrev pub IsMetadataKey : MetadataRetrieveVersion → List ℕ → List ℕ → Type 0
+IsMetadataKey retrieve.Default path key = (key ≡ v3_key path) ⊎ IsV2Key path key
+IsMetadataKey retrieve.V3 path key = key ≡ v3_key path
+IsMetadataKey retrieve.V2 path key = IsV2Key path key
+
+-- where a refusal says that what is at a key could not be read, it is one of these keys
+abbrev pub NamesOneOf : (List ℕ → Type 0) → CreateRefusal → Type 0
+NamesOneOf is_asked (unread key) = is_asked key
+NamesOneOf is_asked _ = Unit {0}
 
 -- ---- what may be asked
 

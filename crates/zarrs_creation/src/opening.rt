@@ -4,10 +4,12 @@ ghost use Rattle.zarrs_metadata_v3.specs.View.{document_view, fields_view};
 ghost use Rattle.zarrs_metadata_v2.specs.View.{document_v2_view};
 ghost use Rattle.zarrs_metadata.specs.Versions.{metadata_view};
 ghost use Rattle.zarrs_options.specs.Refusals.{create_refusal_of, unread, RefusesCreation, said_or};
+ghost use Rattle.zarrs_options.specs.declared.versions.MetadataRetrieveVersion.TheVariants as retrieve;
 ghost use Rattle.zarrs_creation.specs.Opening.{v3_key, attributes_key, value_asked};
 ghost use Rattle.zarrs_creation.specs.Opening.{fields_understood, understood_document, document_v2_read, attributed};
 ghost use Rattle.zarrs_creation.specs.Opening.{stored_v3, stored_v2, stored_default, stored_by, stored_metadata};
 ghost use Rattle.zarrs_creation.specs.Opening.{MayAskKey, MayAskV2, MayAskMetadata};
+ghost use Rattle.zarrs_creation.specs.Opening.{IsV2Key, IsMetadataKey, NamesOneOf};
 
 use std::alloc::{AllocError, Global};
 use zarrs_keys::{NodePath, meta_key_v2_array, meta_key_v2_attributes, meta_key_v3};
@@ -22,7 +24,9 @@ use zarrs_storage::{Bytes, ReadableStorageTraits, StorageError, StoreKey};
 
 /// Returns the refusal of a value at the key that is not what was wanted, for this reason.
 fn invalid_metadata(key: StoreKey, reason: Result<String, AllocError>) -> ArrayCreateError
-    ensures { RefusesCreation (said_or {A = Unit {0}} (unread key) None) (create_refusal_of result) }
+    ensures refused { RefusesCreation (said_or {A = Unit {0}} (unread key) None)
+        (create_refusal_of result) }
+    ensures named { NamesOneOf (λ at. at ≡ key) (create_refusal_of result) }
 {
     match reason {
         Ok(reason) => ArrayCreateError::StorageError(StorageError::InvalidMetadata(key, reason)),
@@ -55,6 +59,7 @@ fn document_from(
     ensures read { IfOk result (λ m. understood_document key bytes.now ≡ Ok (document_view m)) }
     ensures refused { IfErr result
         (λ e. RefusesCreation (understood_document key bytes.now) (create_refusal_of e)) }
+    ensures named { IfErr result (λ e. NamesOneOf (λ at. at ≡ key) (create_refusal_of e)) }
 {
     let metadata = match ArrayMetadataV3::from_slice(alloc, bytes) {
         Ok(metadata) => metadata,
@@ -76,6 +81,7 @@ fn document_v2_from(
     ensures read { IfOk result (λ m. document_v2_read key bytes.now ≡ Ok (document_v2_view m)) }
     ensures refused { IfErr result
         (λ e. RefusesCreation (document_v2_read key bytes.now) (create_refusal_of e)) }
+    ensures named { IfErr result (λ e. NamesOneOf (λ at. at ≡ key) (create_refusal_of e)) }
 {
     match ArrayMetadataV2::from_slice(alloc, bytes) {
         Ok(metadata) => Ok(metadata),
@@ -96,6 +102,7 @@ fn value_asked<S: ReadableStorageTraits>(
     ensures read { IfOk result (λ value. value_asked (S.state storage.now) key.now ≡ Ok value) }
     ensures refused { IfErr result
         (λ e. RefusesCreation (value_asked (S.state storage.now) key.now) (create_refusal_of e)) }
+    ensures named { IfErr result (λ e. NamesOneOf (λ at. at ≡ key.now) (create_refusal_of e)) }
 {
     let value = storage.get(alloc, key)?;
     Ok(value)
@@ -112,6 +119,8 @@ fn stored_v3<S: ReadableStorageTraits>(
         ≡ Ok (option_map metadata_view m)) }
     ensures refused { IfErr result
         (λ e. RefusesCreation (stored_v3 (S.state storage.now) path.now) (create_refusal_of e)) }
+    ensures named { IfErr result (λ e. NamesOneOf (λ at. at ≡ v3_key path.now)
+        (create_refusal_of e)) }
 {
     let key = meta_key_v3(alloc, path)?;
     let value = value_asked(alloc, storage, &key)?;
@@ -136,6 +145,8 @@ fn attributed<S: ReadableStorageTraits>(
         (document_v2_view metadata) ≡ Ok (document_v2_view m)) }
     ensures refused { IfErr result (λ e. RefusesCreation
         (attributed (S.state storage.now) path.now (document_v2_view metadata))
+        (create_refusal_of e)) }
+    ensures named { IfErr result (λ e. NamesOneOf (λ at. at ≡ attributes_key path.now)
         (create_refusal_of e)) }
 {
     let key = meta_key_v2_attributes(alloc, path)?;
@@ -164,6 +175,7 @@ fn stored_v2<S: ReadableStorageTraits>(
         ≡ Ok (option_map metadata_view m)) }
     ensures refused { IfErr result
         (λ e. RefusesCreation (stored_v2 (S.state storage.now) path.now) (create_refusal_of e)) }
+    ensures named { IfErr result (λ e. NamesOneOf (IsV2Key path.now) (create_refusal_of e)) }
 {
     let key = meta_key_v2_array(alloc, path)?;
     let value = value_asked(alloc, storage, &key)?;
@@ -189,6 +201,8 @@ fn stored_default<S: ReadableStorageTraits>(
         ≡ Ok (option_map metadata_view m)) }
     ensures refused { IfErr result (λ e. RefusesCreation
         (stored_default (S.state storage.now) path.now) (create_refusal_of e)) }
+    ensures named { IfErr result (λ e. NamesOneOf (IsMetadataKey retrieve.Default path.now)
+        (create_refusal_of e)) }
 {
     let found = stored_v3(alloc, storage, path)?;
     match found {
@@ -209,6 +223,8 @@ fn stored_by<S: ReadableStorageTraits>(
         ≡ Ok (option_map metadata_view m)) }
     ensures refused { IfErr result (λ e. RefusesCreation
         (stored_by version (S.state storage.now) path.now) (create_refusal_of e)) }
+    ensures named { IfErr result (λ e. NamesOneOf (IsMetadataKey version path.now)
+        (create_refusal_of e)) }
 {
     match version {
         MetadataRetrieveVersion::Default => stored_default(alloc, storage, path),
@@ -234,6 +250,8 @@ pub fn stored_metadata<S: ReadableStorageTraits>(
         ≡ Ok (metadata_view m)) }
     ensures refused { IfErr result (λ e. RefusesCreation
         (stored_metadata version (S.state storage.now) path.now) (create_refusal_of e)) }
+    ensures named { IfErr result (λ e. NamesOneOf (IsMetadataKey version path.now)
+        (create_refusal_of e)) }
 {
     let found = stored_by(alloc, storage, path, version)?;
     match found {

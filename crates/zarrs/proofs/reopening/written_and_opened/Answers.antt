@@ -2,7 +2,7 @@ use Rattle.std.proofs.Common.{◌≡◌, ◌∙◌, ap, subst, ℕ, List, Ok, in
 use Rattle.zarrs_options.specs.declared.versions.MetadataRetrieveVersion.{MetadataRetrieveVersion}
 use Rattle.zarrs_options.specs.Refusals.{create_refusal_of, RefusesCreation}
 use Rattle.zarrs_creation.specs.Meanings.{creation}
-use Rattle.zarrs_creation.specs.Opening.{opened}
+use Rattle.zarrs_creation.specs.Opening.{opened, IsMetadataKey, NamesOneOf}
 use Rattle.zarrs_creation.proofs.Names.{shown_says_the_same}
 use Rattle.zarrs.specs.Arrays.{metadata_of_array, metadata_options_of_array, meaning_of_array, path_of_array, store_of_array}
 use Rattle.zarrs.specs.Laws.{version_of}
@@ -53,5 +53,7 @@ returns-in_err-opened-clause-refused g c =
     let version : c.in_ok-path.version ≡ version_of done.shows = c.in_ok-path.ensures.version done.shows done.is_shown in
     let there = subst (λ (p : List ℕ). RefusesCreation (opened c.in_ok-path.version new p) e) path c.in_err-opened.ensures.refused in
     let by_version = subst (λ (v : MetadataRetrieveVersion). RefusesCreation (opened v new (path_of_array array)) e) version there in
-    let why : RefusesReopening state (metadata_options_of_array array) (path_of_array array) (metadata_of_array array) e (store_of_array state array) = inr (record { left = c.in_ok-storage.storage; stored = done; refused = by_version }) in
+    let asked = subst (λ (p : List ℕ). NamesOneOf (IsMetadataKey c.in_ok-path.version p) e) path c.in_err-opened.ensures.named in
+    let named = subst (λ (v : MetadataRetrieveVersion). NamesOneOf (IsMetadataKey v (path_of_array array)) e) version asked in
+    let why : RefusesReopening state (metadata_options_of_array array) (path_of_array array) (metadata_of_array array) e (store_of_array state array) = inr (record { left = c.in_ok-storage.storage; stored = done; refused = by_version; named = named }) in
     search (rules, why)

@@ -1,7 +1,7 @@
 use Rattle.std.proofs.Common.{◌≡◌, ◌∙◌, ap, subst, ℕ, List, Some, None, Ok, rules}
 use Rattle.zarrs_metadata_v2.specs.View.{document_v2_view}
 use Rattle.zarrs_options.specs.Refusals.{create_refusal_of, RefusesCreation}
-use Rattle.zarrs_creation.specs.Opening.{value_asked}
+use Rattle.zarrs_creation.specs.Opening.{NamesOneOf, value_asked}
 use Rattle.zarrs_creation.proofs.Openings.{attributes_refused, attributes_bad, attributes_absent, attributes_read}
 use Rattle.zarrs_creation.proofs.opening.attributed.Goals as goal
 
@@ -31,4 +31,14 @@ returns-in-Err-InvalidShape-clause-refused g c =
     let state = g.S.ReadableStorageTraits.state c.args.storage.now in
     let path = c.args.path.now in
     let asked = subst (λ (k : List ℕ). value_asked state k ≡ Ok (Some c.in-Some.bytes)) c.in_ok-key.ensures.key (c.in_ok-value.ensures.read ∙ ap Ok c.in-Some.is) in
-    attributes_bad state path _ (document_v2_view c.args.metadata) c.in-Some.bytes asked (rw (c.deref.ensures, c.in-Err-InvalidShape.field-0-is) at c.in-Err-InvalidShape.ensures.refused) (rw c.in_ok-key.ensures.key at c.invalid_metadata.ensures)
+    attributes_bad state path _ (document_v2_view c.args.metadata) c.in-Some.bytes asked (rw (c.deref.ensures, c.in-Err-InvalidShape.field-0-is) at c.in-Err-InvalidShape.ensures.refused) (rw c.in_ok-key.ensures.key at c.invalid_metadata.ensures.refused)
+
+pub returns-in_err-value-clause-named : goal.returns-in_err-value-clause-named
+returns-in_err-value-clause-named g c =
+    let r = create_refusal_of c.in_err-value.field-0.0 in
+    let named = subst (λ (k : List ℕ). NamesOneOf (λ (at : List ℕ). at ≡ k) r) c.in_ok-key.ensures.key c.in_err-value.ensures.named in
+    search (rules, named)
+
+pub returns-in-Err-InvalidShape-clause-named : goal.returns-in-Err-InvalidShape-clause-named
+returns-in-Err-InvalidShape-clause-named g c =
+    subst (λ (k : List ℕ). NamesOneOf (λ (at : List ℕ). at ≡ k) (create_refusal_of c.invalid_metadata.result)) c.in_ok-key.ensures.key c.invalid_metadata.ensures.named

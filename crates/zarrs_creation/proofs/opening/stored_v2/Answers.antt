@@ -1,7 +1,8 @@
-use Rattle.std.proofs.Common.{◌≡◌, ◌∙◌, ap, subst, ℕ, List, Some, None, Ok, rules}
+use Rattle.std.proofs.Common.{◌≡◌, ◌∙◌, inl, inr, ap, subst, ℕ, List, Some, None, Ok, rules}
 use Rattle.zarrs_metadata_v2.specs.View.{document_v2_view}
 use Rattle.zarrs_options.specs.Refusals.{create_refusal_of, RefusesCreation}
-use Rattle.zarrs_creation.specs.Opening.{value_asked}
+use Rattle.zarrs_creation.specs.Opening.{IsV2Key, attributes_key, value_asked}
+use Rattle.zarrs_creation.proofs.Named.{named_more}
 use Rattle.zarrs_creation.proofs.Openings.{v2_refused, v2_bad, v2_unattributed, v2_absent, v2_read}
 use Rattle.zarrs_creation.proofs.opening.stored_v2.Goals as goal
 
@@ -41,3 +42,22 @@ returns-in_ok-metadata-in-Some-clause-read g c =
     let path = c.args.path.now in
     let asked = subst (λ (k : List ℕ). value_asked state k ≡ Ok (Some c.in-Some.bytes)) c.in_ok-key.ensures.key (c.in_ok-value.ensures.read ∙ ap Ok c.in-Some.is) in
     v2_read state path c.in-Some.bytes (document_v2_view c.in_ok-array-in-Some.array) (document_v2_view c.in_ok-metadata-in-Some.metadata) asked (rw (c.deref.ensures, c.in_ok-key.ensures.key) at c.in_ok-array-in-Some.ensures.read) c.in_ok-metadata-in-Some.ensures.read
+
+pub returns-in_err-value-clause-named : goal.returns-in_err-value-clause-named
+returns-in_err-value-clause-named g c =
+    let r = create_refusal_of c.in_err-value.field-0.0 in
+    let named = named_more (λ at. at ≡ c.in_ok-key.key) (IsV2Key c.args.path.now) r (λ at is. inl (is ∙ c.in_ok-key.ensures.key)) c.in_err-value.ensures.named in
+    search (rules, named)
+
+pub returns-in_err-array-in-Some-clause-named : goal.returns-in_err-array-in-Some-clause-named
+returns-in_err-array-in-Some-clause-named g c =
+    let r = create_refusal_of c.in_err-array-in-Some.field-0.0 in
+    let named = named_more (λ at. at ≡ c.in_ok-key.key) (IsV2Key c.args.path.now) r (λ at is. inl (is ∙ c.in_ok-key.ensures.key)) c.in_err-array-in-Some.ensures.named in
+    search (rules, named)
+
+pub returns-in_err-metadata-in-Some-clause-named : goal.returns-in_err-metadata-in-Some-clause-named
+returns-in_err-metadata-in-Some-clause-named g c =
+    let path = c.args.path.now in
+    let r = create_refusal_of c.in_err-metadata-in-Some.field-0.0 in
+    let named = named_more (λ at. at ≡ attributes_key path) (IsV2Key path) r (λ at is. inr is) c.in_err-metadata-in-Some.ensures.named in
+    search (rules, named)

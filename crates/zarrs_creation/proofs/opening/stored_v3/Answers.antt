@@ -1,7 +1,7 @@
 use Rattle.std.proofs.Common.{◌≡◌, ◌∙◌, ap, subst, ℕ, List, Some, None, Ok, rules}
 use Rattle.zarrs_metadata_v3.specs.View.{document_view}
 use Rattle.zarrs_options.specs.Refusals.{create_refusal_of, RefusesCreation}
-use Rattle.zarrs_creation.specs.Opening.{value_asked}
+use Rattle.zarrs_creation.specs.Opening.{NamesOneOf, value_asked}
 use Rattle.zarrs_creation.proofs.Openings.{v3_refused, v3_bad, v3_absent, v3_read}
 use Rattle.zarrs_creation.proofs.opening.stored_v3.Goals as goal
 
@@ -33,3 +33,15 @@ returns-in_ok-metadata-in-Some-clause-read g c =
     let path = c.args.path.now in
     let asked = subst (λ (k : List ℕ). value_asked state k ≡ Ok (Some c.in-Some.bytes)) c.in_ok-key.ensures.key (c.in_ok-value.ensures.read ∙ ap Ok c.in-Some.is) in
     v3_read state path c.in-Some.bytes (document_view c.in_ok-metadata-in-Some.metadata) asked (rw (c.deref.ensures, c.in_ok-key.ensures.key) at c.in_ok-metadata-in-Some.ensures.read)
+
+pub returns-in_err-value-clause-named : goal.returns-in_err-value-clause-named
+returns-in_err-value-clause-named g c =
+    let r = create_refusal_of c.in_err-value.field-0.0 in
+    let named = subst (λ (k : List ℕ). NamesOneOf (λ (at : List ℕ). at ≡ k) r) c.in_ok-key.ensures.key c.in_err-value.ensures.named in
+    search (rules, named)
+
+pub returns-in_err-metadata-in-Some-clause-named : goal.returns-in_err-metadata-in-Some-clause-named
+returns-in_err-metadata-in-Some-clause-named g c =
+    let r = create_refusal_of c.in_err-metadata-in-Some.field-0.0 in
+    let named = subst (λ (k : List ℕ). NamesOneOf (λ (at : List ℕ). at ≡ k) r) c.in_ok-key.ensures.key c.in_err-metadata-in-Some.ensures.named in
+    search (rules, named)

@@ -2,6 +2,8 @@ use Rattle.std.proofs.Common.{rules}
 use Rattle.zarrs_keys.specs.Paths.{is_node_path}
 use Rattle.zarrs_metadata.specs.Versions.{metadata_view}
 use Rattle.zarrs_options.specs.Refusals.{create_refusal_of}
+use Rattle.zarrs_creation.specs.Opening.{IsMetadataKey}
+use Rattle.zarrs_creation.proofs.Named.{creation_names, path_names}
 use Rattle.zarrs_creation.proofs.Openings.{not_false, opened_none, opened_unmade, is_opened, path_refused}
 use Rattle.zarrs.proofs.Layouts.{parts_are}
 use Rattle.zarrs.proofs.array.Array.open_opt.Goals as goal
@@ -36,3 +38,19 @@ returns-clause-metadata g c =
     let valid = not_false (is_node_path path) (λ wrong. let bad = c.in_ok-node_path.ensures.tested wrong in cc) in
     let made = rw c.in_ok-array.ensures.metadata at (parts_are c.in_ok-array.array) in
     rw c.in_ok-array.ensures.metadata (is_opened c.args.version.now state path m _ valid (rw c.in_ok-node_path.ensures.ok at c.in_ok-metadata.ensures.read) made)
+
+pub returns-in_err-node_path-clause-named : goal.returns-in_err-node_path-clause-named
+returns-in_err-node_path-clause-named g c =
+    let named = path_names (IsMetadataKey c.args.version.now c.args.path.now) c.in_err-node_path.field-0.0 in
+    search (rules, named)
+
+pub returns-in_err-metadata-clause-named : goal.returns-in_err-metadata-clause-named
+returns-in_err-metadata-clause-named g c =
+    let named = rw c.in_ok-node_path.ensures.ok at c.in_err-metadata.ensures.named in
+    search (rules, named)
+
+pub returns-in_err-array-clause-named : goal.returns-in_err-array-clause-named
+returns-in_err-array-clause-named g c =
+    let m = metadata_view c.in_ok-metadata.metadata in
+    let named = creation_names (IsMetadataKey c.args.version.now c.args.path.now) m (create_refusal_of c.in_err-array.field-0.0) c.in_err-array.ensures.refused in
+    search (rules, named)
