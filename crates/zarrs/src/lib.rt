@@ -38,15 +38,19 @@ pub use zarrs_data_type::{
     FillValue, FromArrayBytes, IntoArrayBytes, IntoField, RefusedTarget, SubdividedTarget,
     copy_fill_value_into, data_type,
 };
-pub use zarrs_engine::{ArrayError, Call, Engine, Reply};
+pub use zarrs_engine::{
+    ArrayError, Call, ChunkPartialDecoder, ChunkPartialEncoder, Engine, Reply,
+};
+pub use zarrs_engine_layout::ArrayLayout;
 pub use zarrs_keys::{
     ChunkKeyEncoding, ChunkKeyEncodingTraits, ChunkKeySeparator, KeySuffix, KeySuffixError,
     NodePath, NodePathError,
 };
 pub use zarrs_metadata::{
     AdditionalFieldV3, AdditionalFieldsV3, ArrayMetadata, ArrayMetadataV2, ArrayMetadataV2Order,
-    ArrayMetadataV2ToV3Error, ArrayMetadataV3, DataTypeMetadataV2, DimensionName,
-    FillValueMetadata, MetadataError, MetadataV3, PluginCreateError, array_metadata_v2_to_v3,
+    ArrayMetadataV2ToV3Error, ArrayMetadataV3, DataTypeMetadataV2, DimensionName, EndianV2,
+    FillValueMetadata, KindV2, MetadataError, MetadataV3, PluginCreateError, TypeV2,
+    array_metadata_v2_to_v3,
 };
 pub use zarrs_options::{
     AdditionalFieldUnsupportedError, ArrayBuilderChunkGridMetadata, ArrayCreateError,
