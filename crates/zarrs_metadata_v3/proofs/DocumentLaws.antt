@@ -1,15 +1,15 @@
 -- The document that is written reads as what was written.
-use Rattle.std.proofs.Common.{◌≡◌, ℕ, List, [], ◌∷◌, map, Bool, true, false, Option, Some, None, option_map, codes, refl, ap, ◌∙◌}
+use Rattle.std.proofs.Common.{◌≡◌, ℕ, List, [], ◌∷◌, map, Bool, true, false, Option, Some, None, option_map, option_and_then, codes, refl, ap, ◌∙◌}
 use Rattle.serde_json.specs.Data.{Data, string, object, Members, no_members, member}
 use Rattle.serde_json.specs.Find.{get_member}
 use Rattle.zarrs_metadata_parts.specs.Members.{is_named, besides}
-use Rattle.zarrs_metadata_v3.specs.Members.{put_some, put_all, list_in, members_in, object_data}
+use Rattle.zarrs_metadata_v3.specs.Members.{put_some, put_all, list_in, members_in, object_data, reads_as_number, reads_as_text}
 use Rattle.zarrs_metadata_v3.specs.Fields.{FieldData, fields_of, fields_data, normal_field, normal_fields}
 use Rattle.zarrs_metadata_parts.specs.Extension.{ExtensionData, normal, extension_of, extension_data}
-use Rattle.zarrs_metadata_v3.specs.Document.{DocumentData, PartsData, DraftData, document_names, parts_of, draft_of}
-use Rattle.zarrs_metadata_v3.specs.Document.{dimension_name_of, transformers_in, names_in, assembled, document_from}
+use Rattle.zarrs_metadata_v3.specs.Document.{DocumentData, document_names, document_in, document_from}
+use Rattle.zarrs_metadata_v3.specs.Document.{dimension_name_of, transformers_in, names_in}
 use Rattle.zarrs_metadata_v3.specs.Document.{document_of, dimension_name_data, transformers_data, document_members, data_of_document, normal_document}
-use Rattle.zarrs_metadata_parts.specs.Lists.{number_data, numbers_data, list_data}
+use Rattle.zarrs_metadata_parts.specs.Lists.{number_data, numbers_data, numbers_of, list_data}
 use Rattle.zarrs_metadata_parts.proofs.ExtensionLaws.{round_trip}
 use Rattle.zarrs_metadata_parts.proofs.ListLemmas.{all_of-items_of, map_same, numbers_of-numbers_data}
 use Rattle.zarrs_metadata_v3.proofs.MemberLemmas.{get_member-besides_none, besides-again, get_member-put_all, besides-put_all}
@@ -33,41 +33,15 @@ unfolding data_of_document
 written_in_turn m v_zarr_format v_node_type v_shape v_data_type v_chunk_grid v_chunk_key_encoding v_fill_value v_codecs v_attributes v_storage_transformers v_dimension_names start m_zarr_format m_node_type m_shape m_data_type m_chunk_grid m_chunk_key_encoding m_fill_value m_codecs m_attributes m_storage_transformers m_dimension_names e i_zarr_format e_zarr_format i_node_type e_node_type i_shape e_shape i_data_type e_data_type i_chunk_grid e_chunk_grid i_chunk_key_encoding e_chunk_key_encoding i_fill_value e_fill_value i_codecs e_codecs i_attributes e_attributes i_storage_transformers e_storage_transformers i_dimension_names e_dimension_names =
     rw (e_dimension_names, e_storage_transformers, e_attributes, e_codecs, e_fill_value, e_chunk_key_encoding, e_chunk_grid, e_data_type, e_shape, e_node_type, e_zarr_format, e, i_zarr_format, i_node_type, i_shape, i_data_type, i_chunk_grid, i_chunk_key_encoding, i_fill_value, i_codecs, i_attributes, i_storage_transformers, i_dimension_names) refl
 
--- ---- what the parts of a written document are
+-- ---- what a written document reads as
 
-same_parts : (ms : Members) (w : PartsData) → get_member (codes "zarr_format") ms ≡ w.zarr_format → get_member (codes "node_type") ms ≡ w.node_type → get_member (codes "shape") ms ≡ w.shape → get_member (codes "data_type") ms ≡ w.data_type → get_member (codes "chunk_grid") ms ≡ w.chunk_grid → get_member (codes "chunk_key_encoding") ms ≡ w.chunk_key_encoding → get_member (codes "fill_value") ms ≡ w.fill_value → get_member (codes "codecs") ms ≡ w.codecs → get_member (codes "attributes") ms ≡ w.attributes → get_member (codes "storage_transformers") ms ≡ w.storage_transformers → get_member (codes "dimension_names") ms ≡ w.dimension_names → besides document_names ms ≡ w.others → parts_of ms ≡ w
-unfolding parts_of
-same_parts ms w e_zarr_format e_node_type e_shape e_data_type e_chunk_grid e_chunk_key_encoding e_fill_value e_codecs e_attributes e_storage_transformers e_dimension_names e = rw (e_zarr_format, e_node_type, e_shape, e_data_type, e_chunk_grid, e_chunk_key_encoding, e_fill_value, e_codecs, e_attributes, e_storage_transformers, e_dimension_names, e) refl
-
-abbrev written_parts : DocumentData → PartsData
-written_parts m = record { zarr_format = Some (number_data 3); node_type = Some (string (codes "array")); shape = Some (numbers_data m.shape); data_type = Some (extension_data m.data_type); chunk_grid = Some (extension_data m.chunk_grid); chunk_key_encoding = Some (extension_data m.chunk_key_encoding); fill_value = Some m.fill_value; codecs = Some (list_data extension_data m.codecs); attributes = object_data m.attributes; storage_transformers = transformers_data m.storage_transformers; dimension_names = option_map (list_data dimension_name_data) m.dimension_names; others = besides document_names (fields_data m.additional_fields) }
-
-parts_written : (m : DocumentData) → parts_of (put_all (document_members m) (besides document_names (fields_data m.additional_fields))) ≡ written_parts m
-parts_written m =
-    let es = document_members m in
-    let base = besides document_names (fields_data m.additional_fields) in
-    let found = λ (key : List ℕ) (named : is_named document_names key ≡ true). get_member-put_all key es base (get_member-besides_none document_names key (fields_data m.additional_fields) named) in
-    same_parts (put_all es base) (written_parts m)
-    (found (codes "zarr_format") refl)
-    (found (codes "node_type") refl)
-    (found (codes "shape") refl)
-    (found (codes "data_type") refl)
-    (found (codes "chunk_grid") refl)
-    (found (codes "chunk_key_encoding") refl)
-    (found (codes "fill_value") refl)
-    (found (codes "codecs") refl)
-    (found (codes "attributes") refl)
-    (found (codes "storage_transformers") refl)
-    (found (codes "dimension_names") refl)
-    (besides-put_all document_names es base refl ∙ besides-again document_names (fields_data m.additional_fields))
-
--- ---- and what they say
-
-assembled_all : (w : DraftData) (m : DocumentData)
-    → w.shape ≡ Some m.shape → w.data_type ≡ Some m.data_type → w.chunk_grid ≡ Some m.chunk_grid → w.chunk_key_encoding ≡ Some m.chunk_key_encoding → w.fill_value ≡ Some m.fill_value → w.codecs ≡ Some m.codecs → w.attributes ≡ Some m.attributes → w.storage_transformers ≡ Some m.storage_transformers → w.dimension_names ≡ Some m.dimension_names → w.additional_fields ≡ m.additional_fields
-    → assembled w ≡ Some m
-unfolding assembled
-assembled_all w m e1 e2 e3 e4 e5 e6 e7 e8 e9 e10 = rw (e1, e2, e3, e4, e5, e6, e7, e8, e9, e10) refl
+document_in_all : (ms : Members) (m : DocumentData)
+    → option_and_then numbers_of (get_member (codes "shape") ms) ≡ Some m.shape → option_and_then extension_of (get_member (codes "data_type") ms) ≡ Some m.data_type → option_and_then extension_of (get_member (codes "chunk_grid") ms) ≡ Some m.chunk_grid
+    → option_and_then extension_of (get_member (codes "chunk_key_encoding") ms) ≡ Some m.chunk_key_encoding → get_member (codes "fill_value") ms ≡ Some m.fill_value → list_in extension_of (get_member (codes "codecs") ms) ≡ Some m.codecs
+    → members_in (get_member (codes "attributes") ms) ≡ Some m.attributes → transformers_in (get_member (codes "storage_transformers") ms) ≡ Some m.storage_transformers → names_in (get_member (codes "dimension_names") ms) ≡ Some m.dimension_names
+    → fields_of (besides document_names ms) ≡ m.additional_fields → document_in ms ≡ Some m
+unfolding document_in
+document_in_all ms m e1 e2 e3 e4 e5 e6 e7 e8 e9 e10 = rw (e1, e2, e3, e4, e5, e6, e7, e8, e9, e10) refl
 
 attributes_back : (ms : Members) → members_in (object_data ms) ≡ Some ms
 attributes_back no_members = refl
@@ -98,11 +72,27 @@ fields_back : (names : List (List ℕ)) (fs : List (List ℕ × FieldData)) → 
 fields_back names [] = refl
 fields_back names (f ∷ fs) = field_at _ names f fs refl (fields_back names fs)
 
-parts_back : (m : DocumentData) → document_from (written_parts m) ≡ Some (normal_document m)
-unfolding draft_of
-parts_back m =
-    assembled_all (draft_of (written_parts m)) (normal_document m) (numbers_of-numbers_data m.shape) (round_trip m.data_type) (round_trip m.chunk_grid) (round_trip m.chunk_key_encoding) refl (list_back m.codecs) (attributes_back m.attributes) (transformers_back m.storage_transformers) (names_back m.dimension_names) (fields_back document_names m.additional_fields)
+written_back : (m : DocumentData) → document_from (put_all (document_members m) (besides document_names (fields_data m.additional_fields))) ≡ Some (normal_document m)
+written_back m =
+    let es = document_members m in
+    let base = besides document_names (fields_data m.additional_fields) in
+    let ms = put_all es base in
+    let found = λ (key : List ℕ) (named : is_named document_names key ≡ true). get_member-put_all key es base (get_member-besides_none document_names key (fields_data m.additional_fields) named) in
+    let format : reads_as_number 3 (get_member (codes "zarr_format") ms) ≡ true = ap (reads_as_number 3) (found (codes "zarr_format") refl) in
+    let node : reads_as_text (codes "array") (get_member (codes "node_type") ms) ≡ true = ap (reads_as_text (codes "array")) (found (codes "node_type") refl) in
+    let read = document_in_all ms (normal_document m)
+    (ap (option_and_then numbers_of) (found (codes "shape") refl) ∙ numbers_of-numbers_data m.shape)
+    (ap (option_and_then extension_of) (found (codes "data_type") refl) ∙ round_trip m.data_type)
+    (ap (option_and_then extension_of) (found (codes "chunk_grid") refl) ∙ round_trip m.chunk_grid)
+    (ap (option_and_then extension_of) (found (codes "chunk_key_encoding") refl) ∙ round_trip m.chunk_key_encoding)
+    (found (codes "fill_value") refl)
+    (ap (list_in extension_of) (found (codes "codecs") refl) ∙ list_back m.codecs)
+    (ap members_in (found (codes "attributes") refl) ∙ attributes_back m.attributes)
+    (ap transformers_in (found (codes "storage_transformers") refl) ∙ transformers_back m.storage_transformers)
+    (ap names_in (found (codes "dimension_names") refl) ∙ names_back m.dimension_names)
+    (ap fields_of (besides-put_all document_names es base refl ∙ besides-again document_names (fields_data m.additional_fields)) ∙ fields_back document_names m.additional_fields) in
+    rw (format, node) read
 
 pub document_round_trip : (m : DocumentData) → document_of (data_of_document m) ≡ Some (normal_document m)
 unfolding data_of_document
-document_round_trip m = ap document_from (parts_written m) ∙ parts_back m
+document_round_trip m = written_back m

@@ -6,12 +6,12 @@ use Rattle.serde_json.specs.Data.{no_members, member, put}
 use Rattle.serde_json.specs.Find.{get_member, as_array, as_bool, as_object, as_str}
 use Rattle.serde_json.proofs.Views.{get_member-put}
 use Rattle.zarrs_metadata_parts.specs.Members.{is_named, has_only, besides, nonempty}
-use Rattle.zarrs_metadata_parts.specs.Lists.{all_of}
+use Rattle.zarrs_metadata_parts.specs.Lists.{all_of, numbers_of}
 use Rattle.zarrs_metadata_parts.specs.Extension.{ExtensionData, named, normal, extension_of, extension_names, configuration_from, must_understand_from}
-use Rattle.zarrs_metadata_v3.specs.Members.{list_in}
+use Rattle.zarrs_metadata_v3.specs.Members.{list_in, members_in}
 use Rattle.zarrs_metadata_v3.specs.Fields.{FieldData, flag_names, is_unneeded, field_of, normal_field, fields_of, normal_fields}
-use Rattle.zarrs_metadata_v3.specs.Document.{DocumentData, PartsData, DraftData, document_names, parts_of, is_array}
-use Rattle.zarrs_metadata_v3.specs.Document.{draft_of, transformers_in, assembled, document_from, document_of, normal_document}
+use Rattle.zarrs_metadata_v3.specs.Document.{DocumentData, document_names, is_array, document_in, document_from}
+use Rattle.zarrs_metadata_v3.specs.Document.{transformers_in, names_in, document_of, normal_document}
 use Rattle.zarrs_metadata_v3.proofs.MemberLemmas.{besides-put, besides-again}
 
 -- ---- a value that is present came of one that was present
@@ -130,21 +130,22 @@ made_normal s d g k f c a t n fs ed eg ek ec et ef =
     ∙ ap (λ x. made s d g k f c a x n (normal_fields document_names fs)) et
     ∙ ap (λ x. made s d g k f c a t n x) ef
 
--- what is assembled came of its members
-assembled_from : (w : DraftData) (m : DocumentData) → assembled w ≡ Some m
-    → (w.data_type ≡ Some m.data_type) × (w.chunk_grid ≡ Some m.chunk_grid) × (w.chunk_key_encoding ≡ Some m.chunk_key_encoding) × (w.codecs ≡ Some m.codecs) × (w.storage_transformers ≡ Some m.storage_transformers) × (w.additional_fields ≡ m.additional_fields)
-unfolding assembled
-assembled_from w m h =
-    let fs = w.additional_fields in
-    let s = bind_some _ w.shape m h in
-    let d = bind_some _ w.data_type m s.2 in
-    let g = bind_some _ w.chunk_grid m d.2 in
-    let k = bind_some _ w.chunk_key_encoding m g.2 in
-    let f = bind_some _ w.fill_value m k.2 in
-    let c = bind_some _ w.codecs m f.2 in
-    let a = bind_some _ w.attributes m c.2 in
-    let t = bind_some _ w.storage_transformers m a.2 in
-    let n = bind_some _ w.dimension_names m t.2 in
+-- what members read as came of each of them
+came_from : (ms : Members) (m : DocumentData) → document_in ms ≡ Some m
+    → (option_and_then extension_of (get_member (codes "data_type") ms) ≡ Some m.data_type) × (option_and_then extension_of (get_member (codes "chunk_grid") ms) ≡ Some m.chunk_grid) × (option_and_then extension_of (get_member (codes "chunk_key_encoding") ms) ≡ Some m.chunk_key_encoding)
+    × (list_in extension_of (get_member (codes "codecs") ms) ≡ Some m.codecs) × (transformers_in (get_member (codes "storage_transformers") ms) ≡ Some m.storage_transformers) × (fields_of (besides document_names ms) ≡ m.additional_fields)
+unfolding document_in
+came_from ms m h =
+    let fs = fields_of (besides document_names ms) in
+    let s = bind_some _ (option_and_then numbers_of (get_member (codes "shape") ms)) m h in
+    let d = bind_some _ (option_and_then extension_of (get_member (codes "data_type") ms)) m s.2 in
+    let g = bind_some _ (option_and_then extension_of (get_member (codes "chunk_grid") ms)) m d.2 in
+    let k = bind_some _ (option_and_then extension_of (get_member (codes "chunk_key_encoding") ms)) m g.2 in
+    let f = bind_some _ (get_member (codes "fill_value") ms) m k.2 in
+    let c = bind_some _ (list_in extension_of (get_member (codes "codecs") ms)) m f.2 in
+    let a = bind_some _ (members_in (get_member (codes "attributes") ms)) m c.2 in
+    let t = bind_some _ (transformers_in (get_member (codes "storage_transformers") ms)) m a.2 in
+    let n = bind_some _ (names_in (get_member (codes "dimension_names") ms)) m t.2 in
     let is : made s.0 d.0 g.0 k.0 f.0 c.0 a.0 t.0 n.0 fs ≡ m = some_same _ m n.2 in (
       d.1 ∙ ap (λ (x : DocumentData). Some x.data_type) is,
       g.1 ∙ ap (λ (x : DocumentData). Some x.chunk_grid) is,
@@ -154,17 +155,15 @@ assembled_from w m h =
       ap (λ (x : DocumentData). x.additional_fields) is,
     )
 
-draft_normal : (p : PartsData) (m : DocumentData) → normal_fields document_names (fields_of p.others) ≡ fields_of p.others → assembled (draft_of p) ≡ Some m → normal_document m ≡ m
-unfolding draft_of
-draft_normal p m others h =
-    let from = assembled_from (draft_of p) m h in
+members_normal_in : (ms : Members) (m : DocumentData) → document_in ms ≡ Some m → normal_document m ≡ m
+members_normal_in ms m h =
+    let from = came_from ms m h in
     made_normal m.shape m.data_type m.chunk_grid m.chunk_key_encoding m.fill_value m.codecs m.attributes m.storage_transformers m.dimension_names m.additional_fields
-    (member_normal p.data_type m.data_type from.0) (member_normal p.chunk_grid m.chunk_grid from.1) (member_normal p.chunk_key_encoding m.chunk_key_encoding from.2) (list_normal p.codecs m.codecs from.3) (transformers_normal p.storage_transformers m.storage_transformers from.4)
-    (subst (λ fs. normal_fields document_names fs ≡ fs) from.5 others)
-
-parts_normal : (ms : Members) (m : DocumentData) → document_from (parts_of ms) ≡ Some m → normal_document m ≡ m
-unfolding parts_of
-parts_normal ms m h = draft_normal (parts_of ms) m (fields_normal document_names ms) (kept_if (is_array (parts_of ms)) (assembled (draft_of (parts_of ms))) m h)
+    (member_normal (get_member (codes "data_type") ms) m.data_type from.0) (member_normal (get_member (codes "chunk_grid") ms) m.chunk_grid from.1) (member_normal (get_member (codes "chunk_key_encoding") ms) m.chunk_key_encoding from.2)
+    (list_normal (get_member (codes "codecs") ms) m.codecs from.3) (transformers_normal (get_member (codes "storage_transformers") ms) m.storage_transformers from.4)
+    (subst (λ fs. normal_fields document_names fs ≡ fs) from.5 (fields_normal document_names ms))
 
 pub read_document_normal : (d : Data) (m : DocumentData) → document_of d ≡ Some m → normal_document m ≡ m
-read_document_normal d m h = let found = bind_some (λ ms. document_from (parts_of ms)) (as_object d) m h in parts_normal found.0 m found.2
+read_document_normal d m h =
+    let found = bind_some document_from (as_object d) m h in
+    members_normal_in found.0 m (kept_if (is_array found.0) (document_in found.0) m found.2)

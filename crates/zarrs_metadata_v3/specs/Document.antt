@@ -49,41 +49,11 @@ plain_document shape chunk_grid data_type fill_value codecs = record {
 
 -- ---- read
 
--- the members of a document, by name, and the others
-pub record PartsData : Type 0 where
-  pub zarr_format : Option Data
-  pub node_type : Option Data
-  pub shape : Option Data
-  pub data_type : Option Data
-  pub chunk_grid : Option Data
-  pub chunk_key_encoding : Option Data
-  pub fill_value : Option Data
-  pub codecs : Option Data
-  pub attributes : Option Data
-  pub storage_transformers : Option Data
-  pub dimension_names : Option Data
-  pub others : Members
-
+-- the names of the members that a document has
 abbrev pub document_names : List (List ℕ)
 document_names =
     codes "dimension_names" ∷ codes "storage_transformers" ∷ codes "attributes" ∷ codes "codecs" ∷ codes "fill_value"
     ∷ codes "chunk_key_encoding" ∷ codes "chunk_grid" ∷ codes "data_type" ∷ codes "shape" ∷ codes "node_type" ∷ codes "zarr_format" ∷ []
-
-unfoldable pub parts_of : Members → PartsData
-parts_of ms = record {
-  zarr_format = get_member (codes "zarr_format") ms;
-  node_type = get_member (codes "node_type") ms;
-  shape = get_member (codes "shape") ms;
-  data_type = get_member (codes "data_type") ms;
-  chunk_grid = get_member (codes "chunk_grid") ms;
-  chunk_key_encoding = get_member (codes "chunk_key_encoding") ms;
-  fill_value = get_member (codes "fill_value") ms;
-  codecs = get_member (codes "codecs") ms;
-  attributes = get_member (codes "attributes") ms;
-  storage_transformers = get_member (codes "storage_transformers") ms;
-  dimension_names = get_member (codes "dimension_names") ms;
-  others = besides document_names ms;
-}
 
 -- a text, or null for a dimension without a name
 abbrev pub dimension_name_of : Data → Option (Option (List ℕ))
@@ -109,68 +79,42 @@ names_in (Some (number n)) = None
 names_in (Some (string text)) = None
 names_in (Some (object ms)) = None
 
--- each member as it reads, if it does
-pub record DraftData : Type 0 where
-  pub shape : Option (List ℕ)
-  pub data_type : Option ExtensionData
-  pub chunk_grid : Option ExtensionData
-  pub chunk_key_encoding : Option ExtensionData
-  pub fill_value : Option Data
-  pub codecs : Option (List ExtensionData)
-  pub attributes : Option Members
-  pub storage_transformers : Option (List ExtensionData)
-  pub dimension_names : Option (Option (List (Option (List ℕ))))
-  pub additional_fields : List (List ℕ × FieldData)
+-- the members are those of a V3 array
+abbrev pub is_array : Members → Bool
+is_array ms = reads_as_number 3 (get_member (codes "zarr_format") ms) && reads_as_text (codes "array") (get_member (codes "node_type") ms)
 
-unfoldable pub draft_of : PartsData → DraftData
-draft_of p = record {
-  shape = option_and_then numbers_of p.shape;
-  data_type = option_and_then extension_of p.data_type;
-  chunk_grid = option_and_then extension_of p.chunk_grid;
-  chunk_key_encoding = option_and_then extension_of p.chunk_key_encoding;
-  fill_value = p.fill_value;
-  codecs = list_in extension_of p.codecs;
-  attributes = members_in p.attributes;
-  storage_transformers = transformers_in p.storage_transformers;
-  dimension_names = names_in p.dimension_names;
-  additional_fields = fields_of p.others;
-}
-
--- the document, if each member reads
-unfoldable pub assembled : DraftData → Option DocumentData
-assembled w = do
-  s ← w.shape
-  d ← w.data_type
-  g ← w.chunk_grid
-  k ← w.chunk_key_encoding
-  f ← w.fill_value
-  c ← w.codecs
-  a ← w.attributes
-  t ← w.storage_transformers
-  n ← w.dimension_names
+-- the document that the members of an array say: each reads, under its own name, and what has another name is a field
+unfoldable pub document_in : Members → Option DocumentData
+document_in ms = do
+  shape ← option_and_then numbers_of (get_member (codes "shape") ms)
+  data_type ← option_and_then extension_of (get_member (codes "data_type") ms)
+  chunk_grid ← option_and_then extension_of (get_member (codes "chunk_grid") ms)
+  chunk_key_encoding ← option_and_then extension_of (get_member (codes "chunk_key_encoding") ms)
+  fill_value ← get_member (codes "fill_value") ms
+  codecs ← list_in extension_of (get_member (codes "codecs") ms)
+  attributes ← members_in (get_member (codes "attributes") ms)
+  storage_transformers ← transformers_in (get_member (codes "storage_transformers") ms)
+  dimension_names ← names_in (get_member (codes "dimension_names") ms)
   Some (record {
-    shape = s;
-    data_type = d;
-    chunk_grid = g;
-    chunk_key_encoding = k;
-    fill_value = f;
-    codecs = c;
-    attributes = a;
-    storage_transformers = t;
-    dimension_names = n;
-    additional_fields = w.additional_fields;
+    shape = shape;
+    data_type = data_type;
+    chunk_grid = chunk_grid;
+    chunk_key_encoding = chunk_key_encoding;
+    fill_value = fill_value;
+    codecs = codecs;
+    attributes = attributes;
+    storage_transformers = storage_transformers;
+    dimension_names = dimension_names;
+    additional_fields = fields_of (besides document_names ms);
   })
 
--- the members are those of a V3 array
-abbrev pub is_array : PartsData → Bool
-is_array p = reads_as_number 3 p.zarr_format && reads_as_text (codes "array") p.node_type
+-- the document that members read as
+abbrev pub document_from : Members → Option DocumentData
+document_from ms = if is_array ms then document_in ms else None
 
-abbrev pub document_from : PartsData → Option DocumentData
-document_from p = if is_array p then assembled (draft_of p) else None
-
--- the document that a JSON value reads as
+-- that a JSON value reads as
 abbrev pub document_of : Data → Option DocumentData
-document_of d = option_and_then (λ ms. document_from (parts_of ms)) (as_object d)
+document_of d = option_and_then document_from (as_object d)
 
 -- the same for a value without left-out numbers: numbers that are not an integer of 64 bits
 abbrev pub plain_document_of : Data → Option DocumentData

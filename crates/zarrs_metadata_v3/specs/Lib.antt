@@ -2,4 +2,5 @@ pub mod Members
 pub mod Fields
 pub mod Document
 pub mod View
+pub mod Reading
 pub mod Refusals

@@ -1,14 +1,16 @@
 //! Reading a document from a JSON value, member by member.
 ghost use Rattle.std.specs.Prelude.{◌≡◌, Some, None, map, codes, option_map, option_and_then, IfOk};
+ghost use Rattle.serde_json.specs.Data.{Members};
 ghost use Rattle.serde_json.specs.View.{view, items_view, members_view};
 ghost use Rattle.zarrs_metadata_parts.specs.Members.{besides};
 ghost use Rattle.zarrs_metadata_parts.specs.Lists.{all_of};
 ghost use Rattle.zarrs_metadata_parts.specs.Extension.{extension_of, extension_view};
 ghost use Rattle.zarrs_metadata_v3.specs.Members.{list_in};
 ghost use Rattle.zarrs_metadata_v3.specs.Document.{dimension_name_of, transformers_in, names_in};
-ghost use Rattle.zarrs_metadata_v3.specs.Document.{parts_of, document_names, is_array, draft_of};
-ghost use Rattle.zarrs_metadata_v3.specs.Document.{assembled, document_from, document_of};
-ghost use Rattle.zarrs_metadata_v3.specs.View.{name_view, document_view, parts_view, draft_view};
+ghost use Rattle.zarrs_metadata_v3.specs.Document.{document_names, is_array, document_in};
+ghost use Rattle.zarrs_metadata_v3.specs.Document.{document_from, document_of};
+ghost use Rattle.zarrs_metadata_v3.specs.Reading.{AreParts, IsDraft};
+ghost use Rattle.zarrs_metadata_v3.specs.View.{name_view, document_view};
 
 use crate::document::{ArrayMetadataV3, DimensionName};
 use crate::fields::{AdditionalFieldsV3, read_fields};
@@ -67,7 +69,8 @@ pub(crate) fn read_document(
 }
 
 fn document_from(alloc: Global, parts: Parts) -> Result<Option<ArrayMetadataV3>, AllocError>
-    ensures { IfOk result (λ o. option_map document_view o ≡ document_from (parts_view parts)) }
+    ensures { (ms : Members) → AreParts ms parts
+        → IfOk result (λ o. option_map document_view o ≡ document_from ms) }
 {
     if parts.is_array() {
         let draft = parts.read(alloc)?;
@@ -96,7 +99,7 @@ pub(crate) fn other_members(members: Map<String, Value>) -> Map<String, Value>
 
 impl Parts {
     fn take(mut members: Map<String, Value>) -> Parts
-        ensures { parts_view result ≡ parts_of (members_view members.entries) }
+        ensures { AreParts (members_view members.entries) result }
     {
         let zarr_format = take_member(&mut members, "zarr_format");
         let node_type = take_member(&mut members, "node_type");
@@ -126,13 +129,13 @@ impl Parts {
     }
 
     fn is_array(&self) -> bool
-        ensures { result ≡ is_array (parts_view self.now) }
+        ensures { (ms : Members) → AreParts ms self.now → result ≡ is_array ms }
     {
         reads_as_number(&self.zarr_format, 3) && reads_as_text(&self.node_type, "array")
     }
 
     fn read(self, alloc: Global) -> Result<Draft, AllocError>
-        ensures { IfOk result (λ draft. draft_view draft ≡ draft_of (parts_view self)) }
+        ensures { (ms : Members) → AreParts ms self → IfOk result (IsDraft ms) }
     {
         let Parts {
             zarr_format: _zarr_format,
@@ -169,9 +172,10 @@ impl Parts {
 }
 
 impl Draft {
-    #[tactic(auto, unfolding(crate::specs::Document::assembled))]
+    #[tactic(auto, unfolding(crate::specs::Document::document_in))]
     fn assemble(self) -> Option<ArrayMetadataV3>
-        ensures { option_map document_view result ≡ assembled (draft_view self) }
+        ensures { (ms : Members) → IsDraft ms self
+            → option_map document_view result ≡ document_in ms }
     {
         let Draft {
             shape,

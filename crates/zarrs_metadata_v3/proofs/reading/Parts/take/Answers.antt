@@ -1,11 +1,9 @@
 use Rattle.std.proofs.Common.{[], ◌∷◌, codes, option_map, refl}
 use Rattle.serde_json.specs.View.{view, members_view}
-use Rattle.zarrs_metadata_v3.specs.Document.{parts_of}
 use Rattle.zarrs_metadata_v3.proofs.PartsLemmas.{besides-nothing, take_next}
 use Rattle.zarrs_metadata_v3.proofs.reading.Parts.take.Goals as goal
 
 pub returns : goal.returns
-unfolding parts_of
 returns c =
     let ms = members_view c.args.members.entries in
     let at_zarr_format = take_next [] (codes "zarr_format") ms ms (members_view c.take_member-zarr_format.new.members.entries) (option_map view c.take_member-zarr_format.result) refl (besides-nothing ms) c.take_member-zarr_format.ensures.found c.take_member-zarr_format.ensures.left in
@@ -19,4 +17,17 @@ returns c =
     let at_attributes = take_next (codes "codecs" ∷ codes "fill_value" ∷ codes "chunk_key_encoding" ∷ codes "chunk_grid" ∷ codes "data_type" ∷ codes "shape" ∷ codes "node_type" ∷ codes "zarr_format" ∷ []) (codes "attributes") ms (members_view c.take_member-codecs.new.members.entries) (members_view c.take_member-attributes.new.members.entries) (option_map view c.take_member-attributes.result) refl at_codecs.1 c.take_member-attributes.ensures.found c.take_member-attributes.ensures.left in
     let at_storage_transformers = take_next (codes "attributes" ∷ codes "codecs" ∷ codes "fill_value" ∷ codes "chunk_key_encoding" ∷ codes "chunk_grid" ∷ codes "data_type" ∷ codes "shape" ∷ codes "node_type" ∷ codes "zarr_format" ∷ []) (codes "storage_transformers") ms (members_view c.take_member-attributes.new.members.entries) (members_view c.take_member-storage_transformers.new.members.entries) (option_map view c.take_member-storage_transformers.result) refl at_attributes.1 c.take_member-storage_transformers.ensures.found c.take_member-storage_transformers.ensures.left in
     let at_dimension_names = take_next (codes "storage_transformers" ∷ codes "attributes" ∷ codes "codecs" ∷ codes "fill_value" ∷ codes "chunk_key_encoding" ∷ codes "chunk_grid" ∷ codes "data_type" ∷ codes "shape" ∷ codes "node_type" ∷ codes "zarr_format" ∷ []) (codes "dimension_names") ms (members_view c.take_member-storage_transformers.new.members.entries) (members_view c.take_member-dimension_names.new.members.entries) (option_map view c.take_member-dimension_names.result) refl at_storage_transformers.1 c.take_member-dimension_names.ensures.found c.take_member-dimension_names.ensures.left in
-    rw (at_zarr_format.0, at_node_type.0, at_shape.0, at_data_type.0, at_chunk_grid.0, at_chunk_key_encoding.0, at_fill_value.0, at_codecs.0, at_attributes.0, at_storage_transformers.0, at_dimension_names.0, at_dimension_names.1) refl
+    record {
+      zarr_format = at_zarr_format.0;
+      node_type = at_node_type.0;
+      shape = at_shape.0;
+      data_type = at_data_type.0;
+      chunk_grid = at_chunk_grid.0;
+      chunk_key_encoding = at_chunk_key_encoding.0;
+      fill_value = at_fill_value.0;
+      codecs = at_codecs.0;
+      attributes = at_attributes.0;
+      storage_transformers = at_storage_transformers.0;
+      dimension_names = at_dimension_names.0;
+      others = at_dimension_names.1;
+    }
