@@ -281,7 +281,7 @@ alone_at (c ∷ codecs) m k f s part b box own held alone h = absurd (false≢tr
 
 -- ---- refusals
 
-pub piece_refused : (decoded : List ℕ → Option (List Cell)) (TooLarge : List ℕ → Type 0) (parts : List (Option (List ℕ))) (n : ℕ) (o : Option (List ℕ)) (refuses : Bool) (e : PartError)
-    → n < length parts → slice_index_or parts n None ≡ o → RefusesPiece decoded TooLarge o refuses e → RefusesStep decoded TooLarge parts refuses e
-piece_refused decoded TooLarge parts n None refuses e lt is why = subst (RefusesStep decoded TooLarge parts refuses) (sym why) tt
-piece_refused decoded TooLarge parts n (Some encoded) refuses e lt is why = inner_refused decoded TooLarge parts n encoded refuses e lt is why
+pub piece_refused : (decoded : List ℕ → Option (List Cell)) (TooLarge : ℕ → List ℕ → Type 0) (Large : List ℕ → Type 0) (parts : List (Option (List ℕ))) (n : ℕ) (o : Option (List ℕ)) (refuses : Bool) (e : PartError)
+    → n < length parts → slice_index_or parts n None ≡ o → ((b : List ℕ) → Large b → TooLarge n b) → RefusesPiece decoded Large o refuses e → RefusesStep decoded TooLarge parts refuses e
+piece_refused decoded TooLarge Large parts n None refuses e lt is large why = subst (RefusesStep decoded TooLarge parts refuses) (sym why) tt
+piece_refused decoded TooLarge Large parts n (Some encoded) refuses e lt is large why = inner_refused decoded TooLarge (Large encoded) parts n encoded refuses e lt is (large encoded) why
