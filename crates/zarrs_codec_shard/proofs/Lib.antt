@@ -6,6 +6,7 @@ pub mod Encoding
 pub mod FixedCells
 pub mod Filling
 pub mod Grids
+mod Meetings
 pub mod Missing
 pub mod PartialBytes
 pub mod PartialCells

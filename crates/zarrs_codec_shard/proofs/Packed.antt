@@ -1,32 +1,82 @@
 -- A shard whose ranges stand one after another without gaps is the shard that is made of them.
-use Rattle.std.proofs.Common.{◌≡◌, ℕ, ◌+◌, ◌-◌, ◌*◌, ◌<◌, ◌≤◌, ◌≢◌, Bool, true, false, cond, eqb, ◌&&◌, List, [], ◌∷◌, ◌++◌, length, map, take, drop, get_or, Option, None, Some, refl, sym, ap, ◌∙◌, arith}
-use Rattle.std.specs.Prelude.{All, slice_range}
+use Rattle.std.proofs.Common.{◌≡◌, ℕ, ◌+◌, ◌-◌, ◌*◌, ◌≤◌, Bool, true, false, cond, eqb, ◌&&◌, List, [], ◌∷◌, ◌++◌, length, map, take, drop, get_or, Option, None, Some, refl, sym, ap, ◌∙◌, arith}
+use Rattle.std.specs.Prelude.{All, nat_le, slice_range}
 use Rattle.std.specs.List.{flat_map, sum_by}
 use Rattle.std.proofs.Math.Seq.{take-add, take-length}
-use Rattle.std.proofs.lemmas.Bool.{and_left, and_parts, eq-eqb, eqb-true, ne_eqb}
-use Rattle.std.proofs.lemmas.List.{drop-drop, drop_more, length-drop, length-map, take-append-drop}
+use Rattle.std.proofs.lemmas.Bool.{and_from, and_parts, eq-eqb, eqb-true, le-leb}
+use Rattle.std.proofs.lemmas.List.{drop-drop, length-drop, length-map, length-take-le, take-append-drop, take_all}
 use Rattle.std.proofs.lemmas.List.Elements.{All-tail}
 use Rattle.std.proofs.lemmas.List.Sums.{sum_by-cons}
 use Rattle.std.proofs.lemmas.Slice.Eq.{bytes_eq-Decides}
 use Rattle.zarrs_codec_shard.specs.declared.shard_index.SubchunkRange.{SubchunkRange}
-use Rattle.zarrs_codec_shard.specs.ShardIndex.{are_packed, range_entry, range_len, range_part, ranges_len, IsRangeWithin}
-use Rattle.zarrs_codec_shard.specs.Shards.{absent, compaction, data_bytes, data_start, entries, entry_bytes, index_in, shard_bytes, shard_parts}
+use Rattle.zarrs_subset.specs.Pieces.{pieces}
+use Rattle.zarrs_codec_shard.specs.ShardIndex.{are_packed, range_entry, range_len, range_part, ranges_len, IsRangeWithin, NamesPacked}
+use Rattle.zarrs_codec_shard.specs.Shards.{absent, compaction, data_bytes, data_end, data_start, entries, entry_bytes, index_in, named_part, shard_bytes, shard_parts}
+use Rattle.zarrs_codec_shard.specs.Steps.{all_present}
+use Rattle.zarrs_codec_shard.proofs.Missing.{given_if-true}
 use Rattle.zarrs_codec_shard.proofs.Rewriting.{length-range}
+use Rattle.zarrs_codec_shard.proofs.ShardReading.{IsRead, read_more, read_none}
 use Rattle.zarrs_codec_shard.proofs.ShardLaws.{compaction_from, length-shard_parts}
 
--- the ranges from one on, tested one after another
-module _ (ranges : List (Option SubchunkRange)) (i e : ℕ) (b : Bool) (lt : i < length ranges) (is : b ≡ are_packed e (drop i ranges)) where
-  packed_first : (o : Option SubchunkRange) → o ≡ get_or ranges i None → b ≡ are_packed e (o ∷ drop (i + 1) ranges)
-  packed_first o at = is ∙ ap (are_packed e) (drop_more ranges i None lt) ∙ ap (λ x. are_packed e (x ∷ drop (i + 1) ranges)) (sym at)
+-- one range more behind the last one
+packed_push : (o e : ℕ) (ranges : List (Option SubchunkRange)) (r : SubchunkRange) → All (IsRangeWithin e) ranges → are_packed o ranges ≡ true → r.start ≡ o + sum_by range_len ranges
+    → are_packed o (ranges ++ Some r ∷ []) ≡ true
+packed_push o e [] r within packed starts = and_from (eqb r.start o) true (eq-eqb r.start o (omega arith)) refl
+packed_push o e (None ∷ ranges) r within packed starts =
+    packed_push o e ranges r (All-tail (IsRangeWithin e) None ranges within) packed (omega (arith, sum_by-cons range_len None ranges))
+packed_push o e (Some q ∷ ranges) r within packed starts =
+    let p = and_parts (eqb q.start o) (are_packed q.end ranges) packed in
+    let at : q.start ≡ o = eqb-true q.start o p.0 in
+    let own = within 0 None (omega arith) in
+    let ordered : q.start ≤ q.end = own.0 in
+    and_from (eqb q.start o) (are_packed q.end (ranges ++ Some r ∷ [])) p.0
+    (packed_push q.end e ranges r (All-tail (IsRangeWithin e) (Some q) ranges within) p.1 (omega (arith, sum_by-cons range_len (Some q) ranges)))
 
-  pub packed_absent : None ≡ get_or ranges i None → b ≡ are_packed e (drop (i + 1) ranges)
-  packed_absent at = packed_first None at
+packed_none : (o : ℕ) (ranges : List (Option SubchunkRange)) → are_packed o (ranges ++ None ∷ []) ≡ are_packed o ranges
+packed_none o [] = refl
+packed_none o (None ∷ ranges) = packed_none o ranges
+packed_none o (Some q ∷ ranges) = ap (λ b. eqb q.start o && b) (packed_none q.end ranges)
 
-  pub packed_next : (r : SubchunkRange) → Some r ≡ get_or ranges i None → r.start ≡ e → b ≡ are_packed r.end (drop (i + 1) ranges)
-  packed_next r at starts = packed_first (Some r) at ∙ ap (λ x. x && are_packed r.end (drop (i + 1) ranges)) (eq-eqb r.start e starts)
+length_more : (ranges : List (Option SubchunkRange)) (o : Option SubchunkRange) → sum_by range_len (ranges ++ o ∷ []) ≡ sum_by range_len ranges + range_len o
+length_more [] o = omega (arith, sum_by-cons range_len o [])
+length_more (x ∷ ranges) o = omega (arith, length_more ranges o, sum_by-cons range_len x (ranges ++ o ∷ []), sum_by-cons range_len x ranges)
 
-  pub packed_gap : (r : SubchunkRange) → Some r ≡ get_or ranges i None → r.start ≢ e → b ≡ false
-  packed_gap r at differs = packed_first (Some r) at ∙ and_left (eqb r.start e) _ (ne_eqb r.start e differs)
+-- ---- an index, read entry by entry
+
+read_of : (n start end : ℕ) (index : List ℕ) (last : ℕ) (is : NamesPacked n start end index last) → IsRead n start end index is.ranges
+read_of n start end index last is = record { each = is.parts; within = is.within; entries_are = is.entries_are }
+
+pub named_none : (start end : ℕ) (index : List ℕ) → NamesPacked 0 start end index start
+named_none start end index =
+    let r = read_none start end index in
+    record { ranges = []; parts = r.each; entries_are = r.entries_are; within = r.within; packed = refl; last_is = (let same : start ≡ start + 0 = omega arith in same) }
+
+module _ (n start end : ℕ) (index entry : List ℕ) (last : ℕ) (is : NamesPacked n start end index last) (same : entry ≡ slice_range index (n * 16) (n * 16 + 16)) where
+  pub named_absent : ((shard : List ℕ) → named_part shard start end entry ≡ Some (range_part shard None)) → entry ≡ range_entry None → NamesPacked (n + 1) start end index last
+  named_absent here again =
+      let r = read_more n start end index entry is.ranges None (read_of n start end index last is) same here tt again in
+      record {
+        ranges = is.ranges ++ None ∷ [];
+        parts = r.each;
+        entries_are = r.entries_are;
+        within = r.within;
+        packed = packed_none start is.ranges ∙ is.packed;
+        last_is = omega (arith, is.last_is, length_more is.ranges None);
+      }
+
+  pub named_next : (range : SubchunkRange) → ((shard : List ℕ) → named_part shard start end entry ≡ Some (range_part shard (Some range))) → IsRangeWithin end (Some range) → entry ≡ range_entry (Some range)
+      → range.start ≡ last → NamesPacked (n + 1) start end index range.end
+  named_next range here inside again at =
+      let r = read_more n start end index entry is.ranges (Some range) (read_of n start end index last is) same here inside again in
+      let ordered : range.start ≤ range.end = inside.0 in
+      record {
+        ranges = is.ranges ++ Some range ∷ [];
+        parts = r.each;
+        entries_are = r.entries_are;
+        within = r.within;
+        packed = packed_push start end is.ranges range is.within is.packed (at ∙ is.last_is);
+        last_is = omega (arith, at, is.last_is, length_more is.ranges (Some range));
+      }
 
 -- two slices side by side
 slices_join : (l : List ℕ) (a b c : ℕ) → a ≤ b → b ≤ c → slice_range l a b ++ slice_range l b c ≡ slice_range l a c
@@ -102,3 +152,35 @@ packed_compact at_start n b ranges read within index total packed =
     let count : length ranges ≡ n = sym (length-map ranges (range_part b)) ∙ length-shard_parts at_start n b parts read in
     let same = packed_bytes n b ranges within count total at_start index (ap (λ k. are_packed (data_start at_start k) ranges) (sym count) ∙ packed) in
     compaction_from at_start n b b parts read same ∙ ap (λ x. Some (cond x None (Some b))) ((bytes_eq-Decides b b).1 refl)
+
+all_below : (low high : ℕ) (ranges : List (Option SubchunkRange)) → low ≤ high → All (IsRangeWithin low) ranges → All (IsRangeWithin high) ranges
+all_below low high ranges le within = λ k d lt. go (get_or ranges k d) (within k d lt)
+  where
+    go : (o : Option SubchunkRange) → IsRangeWithin low o → IsRangeWithin high o
+    go None inside = tt
+    go (Some r) inside = (inside.0, (let first : r.end ≤ low = inside.1 in let last : r.end ≤ high = omega arith in last))
+
+-- a shard whose index names ranges without gaps has no compaction
+pub named_compact : (at_start : Bool) (n : ℕ) (b : List ℕ) → n * 16 ≤ length b
+    → NamesPacked n (data_start at_start n) (data_end at_start n (length b)) (index_in at_start n b) (data_end at_start n (length b)) → compaction at_start n b ≡ Some None
+named_compact at_start n b fits is =
+    let ranges = is.ranges in
+    let end = data_end at_start n (length b) in
+    let part = named_part b (data_start at_start n) end in
+    let read : shard_parts at_start n b ≡ Some (map (range_part b) ranges) =
+    given_if-true (nat_le (n * 16) (length b)) (all_present (map part (pieces 16 n (index_in at_start n b)))) (le-leb (n * 16) (length b) fits) ∙ is.parts b in
+    let count : length ranges ≡ n = sym (length-map ranges (range_part b)) ∙ length-shard_parts at_start n b (map (range_part b) ranges) read in
+    packed_compact at_start n b ranges read (all_below end (length b) ranges (end_below at_start) is.within)
+    (sym (whole at_start) ∙ is.entries_are) (total at_start count is.last_is) (ap (λ k. are_packed (data_start at_start k) ranges) count ∙ is.packed)
+  where
+    end_below : (front : Bool) → data_end front n (length b) ≤ length b
+    end_below true = omega arith
+    end_below false = omega arith
+
+    whole : (front : Bool) → take (n * 16) (index_in front n b) ≡ index_in front n b
+    whole true = take_all (n * 16) (take (n * 16) b) (omega (arith, length-take-le (n * 16) b fits))
+    whole false = take_all (n * 16) (drop (length b - n * 16) b) (omega (arith, length-drop (length b - n * 16) b))
+
+    total : (front : Bool) → length is.ranges ≡ n → data_end front n (length b) ≡ data_start front n + sum_by range_len is.ranges → ranges_len is.ranges ≡ length b
+    total true count last = omega arith
+    total false count last = omega arith

@@ -1,10 +1,12 @@
 -- What the code keeps of the index of a shard, and of a shard that is being written.
 use Rattle.std.specs.Prelude.{◌≡◌, ℕ, ◌+◌, ◌-◌, ◌*◌, ◌≤◌, Bool, true, Option, None, Some, List, [], ◌∷◌, ◌++◌, length}
-use Rattle.std.specs.Prelude.{option_map, replicate, slice_range, ◌==◌, ◌&&◌}
+use Rattle.std.specs.Prelude.{All, map, option_map, replicate, slice_range, take, ◌==◌, ◌&&◌}
 use Rattle.std.specs.List.{flat_map, sum_by}
 use Rattle.zarrs_codec_shard.specs.declared.shard_index.SubchunkRange.{SubchunkRange}
 use Rattle.zarrs_codec_shard.specs.declared.shard_index.ShardWriter.{ShardWriter}
-use Rattle.zarrs_codec_shard.specs.Shards.{absent, entry_bytes, entries, data_bytes, data_start}
+use Rattle.zarrs_subset.specs.Pieces.{pieces}
+use Rattle.zarrs_codec_shard.specs.Shards.{absent, entry_bytes, entries, data_bytes, data_start, named_part}
+use Rattle.zarrs_codec_shard.specs.Steps.{all_present}
 
 -- the part that a range of a shard is, or none
 abbrev pub range_part : (shard : List ℕ) → Option SubchunkRange → Option (List ℕ)
@@ -57,3 +59,13 @@ pub record IsSameWriter (old new : ShardWriter) : Type 0 where
 -- the writer has as many parts as its shard has subchunks
 abbrev pub IsComplete : ShardWriter → Type 0
 IsComplete writer = (at_start : Bool) × (parts : List (Option (List ℕ))) × IsWriting at_start (length parts) writer parts
+
+-- so many entries of an index name ranges between `start` and `end`, one after another from `start` up to `last`, in
+-- their order and without gaps
+pub record NamesPacked (count start end : ℕ) (index : List ℕ) (last : ℕ) : Type 0 where
+  pub ranges : List (Option SubchunkRange)
+  pub parts : (shard : List ℕ) → all_present (map (named_part shard start end) (pieces 16 count index)) ≡ Some (map (range_part shard) ranges)
+  pub entries_are : take (count * 16) index ≡ flat_map range_entry ranges
+  pub within : All (IsRangeWithin end) ranges
+  pub packed : are_packed start ranges ≡ true
+  pub last_is : last ≡ start + sum_by range_len ranges

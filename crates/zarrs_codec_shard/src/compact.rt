@@ -1,12 +1,13 @@
 //! Shards without what no cell needs.
-ghost use Rattle.std.specs.Prelude.{◌≡◌, ℕ, ◌*◌, ◌≤◌, ◌<◌, ◌^◌, Some, All, IfErr, IfOk, MatchOption};
-ghost use Rattle.std.specs.Prelude.{length, map, option_map};
+ghost use Rattle.std.specs.Prelude.{◌≡◌, ℕ, ◌+◌, ◌*◌, ◌≤◌, ◌<◌, ◌^◌, List, Some, All, IfErr, IfOk, IfSome};
+ghost use Rattle.std.specs.Prelude.{MatchOption, None, length, map, option_map, slice_range};
+ghost use Rattle.std.specs.Bool.{OnTrue};
 ghost use Rattle.zarrs_codec_shard.specs.Refusals.{RefusesShardCompaction};
-ghost use Rattle.zarrs_codec_shard.specs.ShardIndex.{are_packed, range_len, range_part, ranges_len, IsRangeWithin};
-ghost use Rattle.zarrs_codec_shard.specs.Shards.{compaction, data_start, shard_bytes};
+ghost use Rattle.zarrs_codec_shard.specs.ShardIndex.{range_len, range_part, ranges_len, IsRangeWithin, NamesPacked};
+ghost use Rattle.zarrs_codec_shard.specs.Shards.{compaction, shard_bytes};
 
 use crate::error::CompactError;
-use crate::shard_index::{ENTRY_LEN, ShardWriter, SubchunkRange, read_index};
+use crate::shard_index::{ENTRY_LEN, ShardWriter, SubchunkRange, entry_range, read_index};
 use std::alloc::{AllocError, Global};
 
 /// The shard of `count` subchunks with the bytes of its present subchunks as they are, in row-major order without gaps.
@@ -25,21 +26,68 @@ pub fn compact_shard(
         ≡ Some (option_map (λ made. made.items) less)) }
     ensures refused { IfErr result (RefusesShardCompaction at_start count encoded.now) }
 {
+    if is_compact(encoded, count, at_start) {
+        return Ok(None);
+    }
     let Some(ranges) = read_index(alloc, encoded, count, at_start)? else {
         return Err(CompactError::NoShard);
     };
-    let Some(len) = rewritten_len(&ranges) else {
+    let Some(_) = rewritten_len(&ranges) else {
         return Err(CompactError::TooLong);
     };
-    let start = data_start(ranges.len(), at_start);
-    if len == encoded.len() as u64 && are_packed(&ranges, start) {
-        return Ok(None);
-    }
     let made = rewritten(alloc, encoded, &ranges, at_start)?;
     if made.as_slice() == encoded {
         return Ok(None);
     }
     Ok(Some(made))
+}
+
+/// Whether the index of a shard of `count` subchunks tells that the shard is as it would be made.
+fn is_compact(encoded: &[u8], count: u64, at_start: bool) -> bool
+    ensures { OnTrue result (compaction at_start count encoded.now ≡ Some None) }
+{
+    if count > (encoded.len() / ENTRY_LEN) as u64 {
+        return false;
+    }
+    let index_len = count as usize * ENTRY_LEN;
+    if at_start {
+        let index = &encoded[..index_len];
+        return are_packed(index, count as usize, index_len, encoded.len());
+    }
+    let end = encoded.len() - index_len;
+    are_packed(&encoded[end..], count as usize, 0, end)
+}
+
+/// Whether what so many entries of an index name stands one after another, in their order and without gaps, from `start`
+/// up to `end`.
+fn are_packed(index: &[u8], count: usize, start: usize, end: usize) -> bool
+    requires { length index.now ≡ count * 16 }
+    ensures { OnTrue result (NamesPacked count start end index.now end) }
+{
+    let mut last = start;
+    for number in 0..count {
+        let entry = &index[number * ENTRY_LEN..number * ENTRY_LEN + ENTRY_LEN];
+        match packed_end(entry, last, start, end) {
+            Some(next) => last = next,
+            None => return false,
+        }
+    }
+    last == end
+}
+
+/// Where what an entry names ends, if it stands behind `last`, and in the data part from `start` to `end`: an absent
+/// subchunk at `last`.
+fn packed_end(entry: &[u8], last: usize, start: usize, end: usize) -> Option<usize>
+    requires { length entry.now ≡ 16 }
+    ensures { IfSome result (λ next. (number : ℕ) (index : List ℕ) → entry.now
+        ≡ slice_range index (number * 16) (number * 16 + 16)
+        → NamesPacked number start end index last → NamesPacked (number + 1) start end index next) }
+{
+    match entry_range(entry, start, end)? {
+        None => Some(last),
+        Some(range) if range.start == last => Some(range.end),
+        Some(_) => None,
+    }
 }
 
 /// The length of a shard of the subchunks that stand at these ranges, if it fits `u64`.
@@ -54,30 +102,6 @@ fn rewritten_len(ranges: &[Option<SubchunkRange>]) -> Option<u64>
         len = len.checked_add(range_len(range))?;
     }
     Some(len)
-}
-
-/// Where the data part begins in a shard of so many subchunks.
-fn data_start(count: usize, at_start: bool) -> usize
-    requires { count * 16 < 2 ^ 64 }
-    ensures { result ≡ data_start at_start count }
-{
-    if at_start { count * ENTRY_LEN } else { 0 }
-}
-
-/// Whether the ranges stand one after another, in their order and without gaps, from an offset on.
-fn are_packed(ranges: &[Option<SubchunkRange>], offset: usize) -> bool
-    ensures { result ≡ are_packed offset ranges.now }
-{
-    let mut end = offset;
-    for range in ranges {
-        if let Some(range) = range {
-            if range.start != end {
-                return false;
-            }
-            end = range.end;
-        }
-    }
-    true
 }
 
 /// The shard of the subchunks that stand at these ranges.

@@ -91,7 +91,7 @@ impl ShardPatch {
             base: end as u64,
             index: Vec::from_slice(alloc, &shard[end..])?,
             encoded: Vec::new(alloc),
-            entries: Vec::new(alloc),
+            entries: Vec::with_capacity(alloc, count as usize * ENTRY_LEN)?,
             any: false,
         })
     }
@@ -106,7 +106,7 @@ impl ShardPatch {
             base: 0,
             index: vec![in alloc; 255u8; count as usize * ENTRY_LEN]?,
             encoded: Vec::new(alloc),
-            entries: Vec::new(alloc),
+            entries: Vec::with_capacity(alloc, count as usize * ENTRY_LEN)?,
             any: false,
         })
     }
@@ -174,7 +174,9 @@ impl ShardPatch {
         ensures refused { IfErr result (λ _. IsSamePatch self.old self.new) }
     {
         let offset = self.base + self.encoded.len() as u64;
-        self.encoded.try_reserve(bytes.len())?;
+        // The new index gets room behind them too.
+        let room = bytes.len().saturating_add(self.index.len());
+        self.encoded.try_reserve(room)?;
         self.push_entry(offset, bytes.len() as u64)?;
         self.encoded.extend_from_slice(bytes)?;
         self.any = true;

@@ -90,7 +90,7 @@ pub fn read_entries(
     for number in 0..count {
         let entry = &index[number * ENTRY_LEN..number * ENTRY_LEN + ENTRY_LEN];
         match entry_range(entry, start, end) {
-            Some(range) => ranges.push(range)?,
+            Some(range) => ranges.push_reserved(range),
             None => return Ok(None),
         }
     }
@@ -98,7 +98,7 @@ pub fn read_entries(
 }
 
 /// The range that an entry names, if it lies from `start` to `end`: `Some(None)` for an absent subchunk.
-fn entry_range(entry: &[u8], start: usize, end: usize) -> Option<Option<SubchunkRange>>
+pub(crate) fn entry_range(entry: &[u8], start: usize, end: usize) -> Option<Option<SubchunkRange>>
     requires { length entry.now ≡ 16 }
     ensures part { (shard : List ℕ) → named_part shard start end entry.now
         ≡ option_map (range_part shard) result }

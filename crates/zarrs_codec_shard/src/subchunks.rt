@@ -1,6 +1,7 @@
 //! The subchunks of a chunk.
-ghost use Rattle.std.specs.Prelude.{◌≡◌, ◌*◌, ◌/◌, ◌<◌, ◌≤◌, ◌^◌, true, false, Some};
+ghost use Rattle.std.specs.Prelude.{◌≡◌, ◌*◌, ◌/◌, ◌<◌, ◌≤◌, ◌^◌, true, false, Some, ℕ};
 ghost use Rattle.std.specs.Prelude.{IfErr, IfOk, IfSome, IsSome, MatchOption, length, replicate};
+ghost use Rattle.std.specs.Prelude.{nat_lt, slice_index};
 ghost use Rattle.zarrs_data_type.specs.ArrayData.{data_of, fixed};
 ghost use Rattle.zarrs_data_type.specs.Cells.{cells, HasCells};
 ghost use Rattle.zarrs_data_type.specs.Parts.{ExtractsAt};
@@ -9,19 +10,18 @@ ghost use Rattle.zarrs_codec_shard.specs.Blank.{blank_bytes};
 ghost use Rattle.zarrs_codec_shard.specs.ShardIndex.{IsSameWriter};
 ghost use Rattle.zarrs_data_type.specs.RegionData.{region_data};
 ghost use Rattle.zarrs_codec_shard.specs.Subchunks.{corner, is_cut_by, quotients, subchunk_box, subchunk_count};
-ghost use Rattle.zarrs_subset.specs.Boxes.{position_count, unravel, InShape};
+ghost use Rattle.zarrs_subset.specs.Boxes.{position_count, unravel};
 ghost use Rattle.zarrs_subset.specs.Pieces.{piece_at};
-ghost use Rattle.zarrs_subset.specs.Regions.{box_at_origin, box_of, overlap_of, LiesInBox};
+ghost use Rattle.zarrs_subset.specs.Regions.{box_at_origin, box_from, box_of, overlap_of, LiesInBox};
 ghost use Rattle.zarrs_data_type.specs.Cell.{Cell, fill_cell, fill_of, held_size};
 ghost use Rattle.zarrs_data_type.specs.Kind.{kind, cell_size};
 
-use crate::corners::tiny_corner;
+use crate::corners::{corner_of, tiny_corner};
 use crate::shard_index::ShardWriter;
 use std::alloc::{AllocError, Global};
 use zarrs_data_type::{ArrayBytes, DataType, FillValue, RegionCells};
 use zarrs_subset::{
-    ArrayIndices, ArrayIndicesTinyVec, ArrayShape, ArraySubset, Corner, copy_box, element_count,
-    place_part, unravel_index,
+    ArrayIndicesTinyVec, ArrayShape, ArraySubset, Corner, copy_box, element_count, place_part,
 };
 
 /// How a chunk is cut into subchunks of one shape, which divides the chunk's. They are numbered in row-major order.
@@ -170,10 +170,7 @@ impl Subchunks {
         ensures { IfOk result (λ subset. box_of subset
             ≡ subchunk_box (chunk_shape self.now) (subchunk_shape self.now) number) }
     {
-        let Some(index) = unravel_index(alloc, number, &self.grid)? else {
-            unreachable!();
-        };
-        let start = corner_of(self.chunk_box.shape(), &self.shape, index);
+        let start = corner_of(alloc, &self.shape, &self.grid, number)?;
         let shape = Vec::from_slice(alloc, &self.shape)?;
         Ok(ArraySubset::new(start, shape))
     }
@@ -253,9 +250,9 @@ impl Subchunks {
         ensures { IfOk result (λ meets. meets ≡ is_met (chunk_shape self.now)
             (subchunk_shape self.now) (box_of part.now) number) }
     {
-        let subset = self.subset(alloc, number)?;
-        let shared = shared_box(alloc, &subset, part)?;
-        Ok(!shared.is_empty())
+        // Nothing is allocated: it is asked of each subchunk of a shard.
+        let _ = alloc;
+        Ok(meets_subchunk(part, &self.shape, &self.grid, number))
     }
 
     /// The cells of the subchunk of this number, those of the part where it has the position.
@@ -433,20 +430,30 @@ fn blank_len(data_type: &DataType) -> usize
     }
 }
 
-/// The positions that two boxes of the same number of dimensions share.
-fn shared_box(
-    alloc: Global,
-    one: &ArraySubset,
-    other: &ArraySubset,
-) -> Result<ArraySubset, AllocError>
-    requires { length (box_of one.now).start ≡ length (box_of other.now).start }
-    ensures { IfOk result (λ shared. box_of shared ≡ overlap_of (box_of one.now) (box_of other.now)) }
+/// Whether a box has a position of the subchunk of this number, of subchunks of the shape `sub`, of which `grid` lie along
+/// each dimension.
+#[inline]
+fn meets_subchunk(part: &ArraySubset, sub: &[u64], grid: &[u64], number: u64) -> bool
+    requires same_length { length sub.now ≡ length grid.now }
+    requires dimensions { length (box_of part.now).start ≡ length grid.now }
+    requires ends { (k : ℕ) → slice_index grid.now k * slice_index sub.now k < 2 ^ 64 }
+    requires number { number < position_count grid.now }
+    ensures { result ≡ nat_lt 0 (position_count (overlap_of
+        (box_from (corner sub.now (unravel grid.now number)) sub.now) (box_of part.now)).shape) }
 {
-    match one.overlap(alloc, other) {
-        Ok(shared) => Ok(shared),
-        // Memory alone: both have the same number of dimensions.
-        Err(_) => Err(AllocError),
+    let (start, shape) = (part.start(), part.shape());
+    let mut rest = number;
+    let mut axis = grid.len();
+    while axis > 0 {
+        axis -= 1;
+        let first = rest % grid[axis] * sub[axis];
+        rest /= grid[axis];
+        let end = (first + sub[axis]).min(start[axis] + shape[axis]);
+        if end <= first.max(start[axis]) {
+            return false;
+        }
     }
+    true
 }
 
 /// Whether a chunk of the first shape is cut into whole subchunks of the second.
@@ -474,17 +481,4 @@ fn grid_of(alloc: Global, shape: &[u64], sub: &[u64]) -> Result<ArrayShape, Allo
         grid.push(shape[axis] / sub[axis])?;
     }
     Ok(grid)
-}
-
-/// Where the subchunk of these indices starts, in their memory.
-fn corner_of(shape: &[u64], sub: &[u64], index: ArrayIndices) -> ArrayIndices
-    requires cut { is_cut_by shape.now sub.now ≡ true }
-    requires index { InShape (quotients shape.now sub.now) index.items }
-    ensures { result.items ≡ corner sub.now index.items }
-{
-    let mut start = index;
-    for axis in 0..sub.len() {
-        start[axis] *= sub[axis];
-    }
-    start
 }

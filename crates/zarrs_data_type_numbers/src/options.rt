@@ -27,11 +27,9 @@ fn option_of<T: LittleEndian<N>, const N: usize>(flag: u8, cell: &[u8; N]) -> Op
     ensures flag { option_flag result ≡ flag }
     ensures number { IfSome result (λ number. T.le_bytes number ≡ cell.now) }
 {
-    if flag == 0 {
-        None
-    } else {
-        Some(T::from_le(cell))
-    }
+    // The number is read whatever the flag is: then many options are made at a time.
+    let number = T::from_le(cell);
+    if flag == 0 { None } else { Some(number) }
 }
 
 /// None for each flag that is 0, and else the number of the bytes at its place.

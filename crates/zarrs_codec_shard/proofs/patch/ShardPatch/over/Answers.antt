@@ -10,4 +10,4 @@ returns c = λ parts.
     let end = length shard - c.args.count * 16 in
     some_started c.args.count shard parts _ (some_long c.args.count shard c.requires.stored) refl
     (c.in_ok-from_slice.ensures.items ∙ ap (λ n. take n (drop end shard)) (sym (length-drop end shard)) ∙ take-length (drop end shard))
-    c.new.ensures.items c.new-2.ensures.items refl
+    c.new.ensures.items c.in_ok-with_capacity.ensures.items refl
