@@ -19,7 +19,7 @@ use Rattle.zarrs_codec_array.specs.declared.array.ArrayToArrayCodec.{ArrayToArra
 use Rattle.zarrs_codec_leaf.specs.Sources.{window_bytes}
 use Rattle.zarrs_codec_leaf.specs.declared.source.Window.{Window}
 use Rattle.zarrs_codec_shard.specs.ShardIndex.{range_part}
-use Rattle.zarrs_codec_shard.specs.Subchunks.{is_cut_by, quotients, subchunk_box, subchunk_count}
+use Rattle.zarrs_codec_shard.specs.Subchunks.{quotients, subchunk_box, subchunk_count}
 use Rattle.zarrs_codec_shard.proofs.Grids.{cut_at, cut_len}
 use Rattle.zarrs_codec_shard.proofs.ShardLaws.{length-shard_parts}
 use Rattle.zarrs_codec_shard.proofs.SubchunkBoxes.{lies_in_chunk, long_corner}

@@ -2,7 +2,7 @@
 use Rattle.std.specs.Prelude.{◌≡◌, ℕ, ◌*◌, ◌≤◌, ◌^◌, Bool, true, false, not, nat_le, slice_index_or, ◌||◌}
 use Rattle.std.specs.Prelude.{Option, None, Some, List, [], ◌∷◌, ◌++◌, length, map, take, is_some, unwrap_or, ◌&&◌}
 use Rattle.std.specs.List.{list_all, list_any, range_with_len}
-use Rattle.zarrs_data_type.specs.Kind.{Kind, cell_size}
+use Rattle.zarrs_data_type.specs.Kind.{Kind}
 use Rattle.zarrs_data_type.specs.Cell.{Cell, held_size}
 use Rattle.zarrs_data_type.specs.ArrayData.{ArrayData, fixed}
 use Rattle.zarrs_data_type.specs.Cells.{cells, HasCells}

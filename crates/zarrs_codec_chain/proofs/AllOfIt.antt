@@ -1,5 +1,5 @@
 -- The part of a chunk that is all of it.
-use Rattle.std.proofs.Common.{rules, ◌≡◌, ℕ, ◌*◌, ◌<◌, ◌≤◌, ◌^◌, Bool, true, false, cond, List, [], length, map, take, drop, get_or, slice_get, Option, None, Some, refl, sym, ap, ◌∙◌, subst, arith}
+use Rattle.std.proofs.Common.{◌≡◌, ℕ, ◌*◌, ◌<◌, true, false, cond, List, [], length, map, take, drop, get_or, slice_get, Option, None, Some, refl, sym, ap, ◌∙◌, subst, arith}
 use Rattle.std.specs.Prelude.{IsSome}
 use Rattle.std.proofs.lemmas.Bool.{and_from, eq-eqb, false≢true}
 use Rattle.std.proofs.lemmas.List.{get_or-map, length-map, take_all}
@@ -21,7 +21,7 @@ use Rattle.zarrs_subset.specs.Regions.{Box, Holds, IsLong, LiesInShape, box_at_o
 use Rattle.zarrs_subset.proofs.Positions.{offset_by-from, offset_from-by, offset_from-in}
 use Rattle.zarrs_data_type_region.proofs.TargetBoxes.{origin_long}
 use Rattle.zarrs_data_type.specs.Cell.{Cell, bytes, is_value, are_values, values_only}
-use Rattle.zarrs_data_type.specs.Kind.{Kind, element_size}
+use Rattle.zarrs_data_type.specs.Kind.{Kind}
 use Rattle.zarrs_codec_chain.specs.BytesInto.{AreCells}
 use Rattle.zarrs_codec_chain.specs.Parts.{DecodesInto, DecodesPartAt}
 use Rattle.zarrs_codec_chain.specs.PartRefusals.{IsWholeError, RefusesIntoDecoding, RefusesPartDecoding}

@@ -34,26 +34,3 @@ pub fn part_of_whole(
     let chunk = ArraySubset::new_with_shape(alloc, Vec::from_slice(alloc, shape)?)?;
     whole.extract_array_subset(alloc, data_type, &chunk, part)
 }
-
-/// Writes the cells of a chunk, which has the shape of the target's box, into the box. Every byte outside stays.
-///
-/// # Errors
-/// If out of memory; then every byte stays.
-pub fn write_whole(
-    alloc: Global,
-    whole: &ArrayBytes<'_>,
-    data_type: &DataType,
-    target: &mut ArrayBytesDecodeIntoTarget<'_, '_, '_>,
-) -> Result<(), AllocError>
-    requires takes { takes_type target.old.cell_size target.old.depth (kind data_type.now) ≡ true }
-    requires held { HasCells (kind data_type.now) (data_of whole.now)
-        (position_count (target_box target.old).shape) }
-    ensures kept { KeepsTarget target.old target.new }
-    ensures cells { OnOk result (DecodesInto (kind data_type.now) (parent_box target.old)
-        (target_box target.old) (cells (kind data_type.now) (data_of whole.now))
-        (data_of_target target.new)) }
-    ensures kept_bytes { OnErr result (target.new.bytes.now ≡ target.old.bytes.now) }
-    ensures kept_masks { OnErr result (target.new.masks.now ≡ target.old.masks.now) }
-{
-    target.write_cells(alloc, whole)
-}

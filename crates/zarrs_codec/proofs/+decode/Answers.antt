@@ -6,8 +6,8 @@ use Rattle.std.specs.Result.{IfOk}
 use Rattle.std.proofs.lemmas.List.{length-map}
 use Rattle.std.proofs.lemmas.Bool.{OnTrue_at}
 use Rattle.std.proofs.lemmas.Result.{IfErr-weaker, IfOk-weaker}
-use Rattle.zarrs_data_type.specs.Kind.{kind, cell_size}
-use Rattle.zarrs_data_type.specs.Cell.{Cell, fill_of, held_size}
+use Rattle.zarrs_data_type.specs.Kind.{cell_size}
+use Rattle.zarrs_data_type.specs.Cell.{Cell, held_size}
 use Rattle.zarrs_data_type.specs.ArrayData.{data_of}
 use Rattle.zarrs_data_type.specs.Cells.{cells, HasCells}
 use Rattle.zarrs_subset.specs.Boxes.{position_count}

@@ -5,7 +5,6 @@ use Rattle.std.proofs.lemmas.Bool.{and_from}
 use Rattle.std.proofs.lemmas.Result.{IfErr-weaker}
 use Rattle.zarrs_subset.specs.Boxes.{position_count}
 use Rattle.zarrs_data_type.specs.ArrayData.{ArrayData, data_of, fixed}
-use Rattle.zarrs_data_type.specs.Cell.{fill_of}
 use Rattle.zarrs_data_type.specs.Cells.{cells, HasCells}
 use Rattle.zarrs_data_type.specs.Kind.{kind}
 use Rattle.zarrs_codec_array.specs.ArrayCodecs.{arrays_meaning, arrays-lawful}

@@ -1,7 +1,5 @@
 use Rattle.zarrs_data_type.specs.CellTypes.{filling, kind_of}
 use Rattle.zarrs_data_type.specs.ArrayData.{data_of}
-use Rattle.zarrs_data_type.specs.Cell.{fill_of}
-use Rattle.zarrs_data_type.specs.Kind.{kind}
 use Rattle.zarrs_codec_shard.specs.SubchunkData.{chunk_shape, subchunk_shape}
 use Rattle.zarrs_codec.specs.Chains.{chain_meaning, inner_chain_of, is_at_start, location_of}
 use Rattle.zarrs_codec_chain.specs.Options.{stores_empty_chunks}

@@ -26,9 +26,9 @@ use Rattle.zarrs_codec_chain.specs.Parts.{DecodesPart}
 use Rattle.zarrs_codec_chain.specs.Places.{shard_places}
 use Rattle.zarrs_codec_chain.specs.PartRefusals.{RefusesPartDecoding}
 use Rattle.zarrs_codec_chain.specs.Refusals.{IsTooLargeToDecode}
-use Rattle.zarrs_codec_chain.specs.ShardParts.{DecodesAs, HasAllParts, HasSubchunkParts, MeetsPart, RefusesStep}
+use Rattle.zarrs_codec_chain.specs.ShardParts.{HasAllParts, HasSubchunkParts, MeetsPart, RefusesStep}
 use Rattle.zarrs_codec_shard.specs.ShardIndex.{range_part, IsRangeWithin}
-use Rattle.zarrs_codec_shard.specs.Sharded.{SubchunkMeaning, sharded_decoded}
+use Rattle.zarrs_codec_shard.specs.Sharded.{sharded_decoded}
 use Rattle.zarrs_codec_shard.specs.SubchunkData.{chunk_shape, subchunk_shape}
 use Rattle.zarrs_codec_shard.specs.Subchunks.{quotients, subchunk_count}
 use Rattle.zarrs_codec_leaf.specs.Sources.{MayRead, window_bytes}
@@ -39,8 +39,7 @@ use Rattle.zarrs_subset.proofs.Overlaps.{AllSome}
 use Rattle.zarrs_subset.specs.Regions.{Box, LiesInBox, LiesInShape, box_of, in_box, positions}
 use Rattle.zarrs_subset.specs.Walks.{walk_box, walk_number}
 use Rattle.zarrs_data_type_kinds.proofs.Sizes.{cell_size-positive}
-use Rattle.zarrs_data_type.specs.Cell.{fill_of}
-use Rattle.zarrs_data_type.specs.Kind.{cell_size, kind}
+use Rattle.zarrs_data_type.specs.Kind.{cell_size}
 use Rattle.zarrs_codec.proofs.+partial_decode.Goals as goal
 
 pub sharding::ShardingCodec::decode_piece-returns-in_default-clause-none : goal.sharding::ShardingCodec::decode_piece-returns-in_default-clause-none

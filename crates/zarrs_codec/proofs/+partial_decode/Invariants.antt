@@ -5,8 +5,6 @@ use Rattle.zarrs_codec_shard.specs.ShardIndex.{range_part}
 use Rattle.zarrs_codec_leaf.specs.Sources.{window_bytes}
 use Rattle.zarrs_subset.specs.Regions.{box_of, positions}
 use Rattle.zarrs_subset.specs.Walks.{walk_box, walk_number}
-use Rattle.zarrs_data_type.specs.Cell.{fill_of}
-use Rattle.zarrs_data_type.specs.Kind.{kind}
 use Rattle.zarrs_codec_chain.specs.ShardParts.{HasSubchunkParts, MeetsPart}
 use Rattle.zarrs_codec.specs.Chains.{chain_meaning, inner_chain_of}
 use Rattle.zarrs_codec.proofs.+partial_decode.Given as goal

@@ -1,17 +1,16 @@
 use Rattle.zarrs_data_type.specs.CellTypes.{chunk_fill, chunk_kind}
-use Rattle.std.proofs.Common.{vec_len, ◌≡◌, ◌∙◌, ◌+◌, Some, slice_get, length, map, take, List, ℕ, rules, sym, ap, subst, arith, ◌-◌, ◌<◌, ◌≤◌, ◌^◌, ◌&&◌, refl, None, false, true, Bool, Option}
+use Rattle.std.proofs.Common.{vec_len, ◌≡◌, ◌∙◌, ◌+◌, Some, slice_get, length, map, take, List, ℕ, rules, sym, ap, subst, arith, ◌<◌, ◌≤◌, ◌^◌, ◌&&◌, refl, None, false, true, Bool, Option}
 use Rattle.std.proofs.lemmas.Bool.{eqb-true, false≢true}
-use Rattle.std.proofs.lemmas.List.{get_or-map, get_or_read, length-map}
+use Rattle.std.proofs.lemmas.List.{get_or_read, length-map}
 use Rattle.std.proofs.lemmas.Option.{slice_get_within}
 use Rattle.std.proofs.lemmas.Result.{IfErr-weaker, on_ok_weaker}
 use Rattle.std.specs.Prelude.{IfSome, option_map, slice_index, slice_index_or}
-use Rattle.zarrs_data_type.specs.ArrayData.{ArrayData}
 use Rattle.zarrs_subset.specs.Regions.{LiesInBox, Box, LiesInShape, box_at_origin, box_of, in_box, overlap_of, positions, seen_from, shifted_box}
 use Rattle.zarrs_codec_chain.specs.Chain.{ChainMeaning}
 use Rattle.zarrs_codec.specs.ChainLaws.{chain-lawful, sharded-lawful}
 use Rattle.zarrs_codec.specs.Chains.{codec_meaning, chain_meaning, inner_chain_of, is_at_start, location_of, subchunk_sizes_of, sharding_meaning}
 use Rattle.zarrs_codec.specs.Shardings.{ReadsLargeSubchunk, sharded, subchunk_meaning}
-use Rattle.zarrs_codec.specs.ShardPartsInto.{DecodesPieceAt, HasAllPartsAt, HasSubchunksAt, ReadsSubchunkAt, RefusesPiece, range_window}
+use Rattle.zarrs_codec.specs.ShardPartsInto.{DecodesPieceAt, HasSubchunksAt, ReadsSubchunkAt, RefusesPiece, range_window}
 use Rattle.zarrs_codec.proofs.PartReads.{alone_refused, alone_places, is_none, large_piece, leaf_refused, shard_too_large}
 use Rattle.zarrs_codec.proofs.WholeShards.{alone_some, found_at, into_part, met_at, origin_box, origin_lies, own_long, piece_whole, seen_self, shared_is, some_bytes}
 use Rattle.zarrs_codec_shard.specs.Shards.{shard_parts}
@@ -31,7 +30,7 @@ use Rattle.zarrs_codec_chain.specs.Parts.{DecodesPartAt}
 use Rattle.zarrs_codec_chain.specs.Places.{shard_places}
 use Rattle.zarrs_codec_chain.specs.PartRefusals.{RefusesPartDecoding}
 use Rattle.zarrs_codec_chain.specs.Refusals.{IsTooLargeToDecode}
-use Rattle.zarrs_codec_chain.specs.ShardParts.{MeetsPart, RefusesStep}
+use Rattle.zarrs_codec_chain.specs.ShardParts.{MeetsPart}
 use Rattle.zarrs_codec_shard.specs.ShardIndex.{range_part, IsRangeWithin}
 use Rattle.zarrs_codec_shard.specs.Sharded.{sharded_decoded}
 use Rattle.zarrs_codec_shard.specs.SubchunkData.{chunk_shape, subchunk_shape}
@@ -48,8 +47,6 @@ use Rattle.zarrs_data_type_region.proofs.TypeSizes.{type_taken}
 use Rattle.zarrs_data_type.specs.States.{data_of_target, parent_box, target_box}
 use Rattle.zarrs_data_type.specs.Targets.{KeepsOutside, takes_type}
 use Rattle.zarrs_data_type_kinds.proofs.Values.{fill-value}
-use Rattle.zarrs_data_type.specs.Cell.{fill_of}
-use Rattle.zarrs_data_type.specs.Kind.{cell_size, kind}
 use Rattle.zarrs_codec.proofs.+partial_decode_into.Goals as goal
 
 pub sharding::ShardingCodec::read_subchunk_into-returns-in_default-clause-read : goal.sharding::ShardingCodec::read_subchunk_into-returns-in_default-clause-read

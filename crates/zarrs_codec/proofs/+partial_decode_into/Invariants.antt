@@ -1,5 +1,5 @@
 use Rattle.zarrs_data_type.specs.CellTypes.{chunk_fill, chunk_kind}
-use Rattle.std.proofs.Common.{◌≡◌, ◌-◌, ◌<◌, ℕ, None, length, map, take}
+use Rattle.std.proofs.Common.{◌-◌, ◌<◌, ℕ, None, length, map, take}
 use Rattle.std.specs.Prelude.{slice_index_or}
 use Rattle.zarrs_codec_shard.specs.ShardIndex.{range_part}
 use Rattle.zarrs_codec_leaf.specs.Sources.{window_bytes}
@@ -8,8 +8,6 @@ use Rattle.zarrs_codec_shard.specs.Subchunks.{subchunk_box}
 use Rattle.zarrs_codec_chain.specs.ShardInto.{DecodesPartInto}
 use Rattle.zarrs_subset.specs.Walks.{walk_box, walk_number}
 use Rattle.zarrs_data_type.specs.States.{KeepsTarget, data_of_target, parent_box, target_box}
-use Rattle.zarrs_data_type.specs.Cell.{fill_of}
-use Rattle.zarrs_data_type.specs.Kind.{kind}
 use Rattle.zarrs_codec_chain.specs.ShardParts.{MeetsPart}
 use Rattle.zarrs_codec.specs.Chains.{chain_meaning, inner_chain_of}
 use Rattle.zarrs_codec.specs.ShardPartsInto.{HasSubchunksAt}

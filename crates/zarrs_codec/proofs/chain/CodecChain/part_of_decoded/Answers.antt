@@ -1,9 +1,8 @@
 use Rattle.zarrs_data_type.specs.CellTypes.{chunk_fill, chunk_kind}
-use Rattle.std.proofs.Common.{◌≡◌, ◌∙◌, inl, Option, List, ℕ, ap, subst}
+use Rattle.std.proofs.Common.{◌≡◌, ◌∙◌, Option, List, ℕ, ap, subst}
 use Rattle.zarrs_data_type.specs.ArrayData.{data_of}
-use Rattle.zarrs_data_type.specs.Cell.{Cell, fill_of}
+use Rattle.zarrs_data_type.specs.Cell.{Cell}
 use Rattle.zarrs_data_type.specs.Cells.{cells}
-use Rattle.zarrs_data_type.specs.Kind.{kind}
 use Rattle.zarrs_codec_leaf.specs.Sources.{window_bytes}
 use Rattle.zarrs_subset.specs.Regions.{box_of}
 use Rattle.zarrs_codec_chain.specs.Parts.{DecodesPart}

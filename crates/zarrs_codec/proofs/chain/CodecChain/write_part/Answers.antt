@@ -1,22 +1,16 @@
 use Rattle.zarrs_data_type.specs.CellTypes.{chunk_fill, chunk_kind}
-use Rattle.std.proofs.Common.{◌≡◌, ◌*◌, ◌<◌, ◌^◌, ◌∙◌, List, ℕ, true, ap, sym, subst, arith}
+use Rattle.std.proofs.Common.{◌≡◌, ◌∙◌, true, ap, sym, subst}
 use Rattle.zarrs_data_type.specs.ArrayData.{data_of}
 use Rattle.zarrs_data_type.specs.Cells.{fits}
 use Rattle.zarrs_data_type_bytes.proofs.Cells.{cells-parts}
 use Rattle.zarrs_codec_leaf.specs.Sources.{window_bytes}
 use Rattle.zarrs_subset.specs.Boxes.{position_count}
 use Rattle.zarrs_subset.specs.Regions.{box_of}
-use Rattle.zarrs_data_type.specs.States.{data_of_target, parent_box, target_box}
-use Rattle.zarrs_data_type_region.proofs.TargetBoxes.{bytes_within}
-use Rattle.zarrs_data_type_region.proofs.Kept.{keeps_itself}
-use Rattle.zarrs_data_type_region.proofs.TypeSizes.{levels_of, type_taken}
-use Rattle.zarrs_data_type_kinds.proofs.Values.{fill-value}
-use Rattle.zarrs_data_type.specs.Cell.{fill_of, held_size}
-use Rattle.zarrs_data_type.specs.Kind.{cell_size, kind}
+use Rattle.zarrs_data_type.specs.States.{data_of_target, target_box}
+use Rattle.zarrs_data_type_region.proofs.TypeSizes.{levels_of}
 use Rattle.zarrs_codec_chain.proofs.PartsInto.{written_part}
 use Rattle.zarrs_codec.specs.Chains.{chain_meaning}
 use Rattle.zarrs_codec.proofs.chain.CodecChain.write_part.Goals as goal
-use Rattle.zarrs_data_type_bytes.proofs.FixedSizes.{size_is}
 
 pub write_cells-requires : goal.write_cells-requires
 write_cells-requires g c =

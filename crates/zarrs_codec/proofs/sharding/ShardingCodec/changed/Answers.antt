@@ -1,9 +1,7 @@
 use Rattle.zarrs_data_type.specs.CellTypes.{filling, kind_of}
 use Rattle.std.proofs.Common.{sym, subst}
 use Rattle.zarrs_data_type.specs.ArrayData.{data_of}
-use Rattle.zarrs_data_type.specs.Cell.{fill_of}
 use Rattle.zarrs_data_type.specs.Cells.{HasCells}
-use Rattle.zarrs_data_type.specs.Kind.{kind}
 use Rattle.zarrs_subset.specs.Boxes.{position_count}
 use Rattle.zarrs_subset.specs.Regions.{box_of}
 use Rattle.zarrs_codec_shard.specs.ShardIndex.{range_part}
