@@ -14,7 +14,6 @@ use Rattle.zarrs_engine_calls.specs.Changes.{RetrievesChunk}
 use Rattle.zarrs_engine_calls.specs.ChunkBoxes.{CoversBox, is_empty, last_of}
 use Rattle.zarrs_engine_calls.specs.Content.{value_at}
 use Rattle.zarrs_engine_calls.specs.Reads.{IsBroken, ReadsRegion}
-use Rattle.zarrs_engine_calls.specs.Refusals as refusal
 use Rattle.zarrs_engine_calls.specs.Refusals.{Refusal, length_refusal}
 use Rattle.zarrs_engine_calls.specs.StateRefusals.{IsLargeBox, IsPart, RefusesChunkRead, RefusesRegionRead}
 use Rattle.zarrs_engine_calls.proofs.Contents.{absent_fill, member, only_member}

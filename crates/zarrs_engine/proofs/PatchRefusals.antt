@@ -1,6 +1,5 @@
 -- Why a part of a chunk is not written by itself.
 use Rattle.std.proofs.Common.{◌≡◌, ℕ, Bool, true, cond, not, List, Option, Some, None, refl, sym, ap, subst, ◌∙◌, inl, inr, arith}
-use Rattle.std.specs.FinMap as map
 use Rattle.std.proofs.lemmas.Bool.{cases_Bool}
 use Rattle.zarrs_subset.specs.Regions.{Box, overlap_of}
 use Rattle.zarrs_subset.specs.Refusals.{RefusesLength}
@@ -23,7 +22,7 @@ use Rattle.zarrs_engine_calls.specs.Refusals as refusal
 use Rattle.zarrs_engine_calls.specs.Refusals.{Refusal, RefusesBy, key_refusal, refusal_of, refusal_of_codec, refusal_of_storage}
 use Rattle.zarrs_engine_calls.specs.ArgumentRefusals.{chunk_refusal}
 use Rattle.zarrs_engine_calls.specs.StateRefusals.{RefusesErasure, RefusesPart}
-use Rattle.zarrs_engine_calls.specs.Patches.{IsEncodedAs, IsNotEncoded, RefusesPartOf, RefusesPartly, RefusesPatch}
+use Rattle.zarrs_engine_calls.specs.Patches.{IsEncodedAs, IsNotEncoded, RefusesPartOf, RefusesPartly}
 use Rattle.zarrs_engine_calls.proofs.RefusalLemmas.{makes_none, memory_or_said}
 use Rattle.zarrs_engine_layout.specs.Steps.{RefusesPut}
 use Rattle.zarrs_engine.specs.Patches.{LeavesPartly, LeavesPatch}

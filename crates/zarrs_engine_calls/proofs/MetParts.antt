@@ -1,9 +1,8 @@
 -- A chunk that a region meets shares a position with it along each dimension.
-use Rattle.std.proofs.Common.{◌≡◌, ◌<◌, ◌≤◌, ◌+◌, ◌-◌, ℕ, true, false, List, length, Some, Contains, min, max, slice_index, ap, sym, ◌∙◌, inl, inr, arith}
+use Rattle.std.proofs.Common.{◌≡◌, ◌<◌, ◌+◌, ◌-◌, ℕ, true, false, List, length, Some, Contains, slice_index, ap, sym, ◌∙◌, inl, inr, arith}
 use Rattle.std.proofs.lemmas.Bool.{cases_Bool}
 use Rattle.std.proofs.lemmas.List.FromFn.{length-map-range_with_len}
 use Rattle.std.proofs.lemmas.Option.{slice_get-get_or}
-use Rattle.zarrs_subset.specs.Boxes.{overlap_extents}
 use Rattle.zarrs_subset.specs.Regions.{Box, IsLong, Holds, overlap_of, positions}
 use Rattle.zarrs_subset.proofs.Bytes.{holds_along}
 use Rattle.zarrs_subset.proofs.Parts.{overlap_extents-at}

@@ -1,6 +1,6 @@
 -- What a store leaves that may write the parts of chunks by themselves: which chunks take their part by themselves, the cells
 -- of a chunk whose cells were known, and what its key holds.
-use Rattle.std.specs.Prelude.{◌≡◌, ◌⊎◌, ◌&&◌, ℕ, Bool, true, false, List, [], ◌∷◌, length, Option, None, Some, Contains}
+use Rattle.std.specs.Prelude.{◌≡◌, ◌⊎◌, ◌&&◌, ℕ, Bool, true, List, [], ◌∷◌, length, Option, None, Some, Contains}
 use Rattle.std.specs.Prelude.{IsSome, if◌then◌else◌}
 use Rattle.zarrs_subset.specs.Boxes.{position_count}
 use Rattle.zarrs_subset.specs.Regions.{Box, Holds, cell_in, in_box, overlap_of}

@@ -19,7 +19,6 @@ use Rattle.zarrs_chunk_grid.proofs.Chunks.{chunk_covered, has_box_is, no_box}
 use Rattle.zarrs_chunk_grid.proofs.MetChunks.{all_some, range_fills}
 use Rattle.zarrs_storage.specs.Store.{StoreState}
 use Rattle.zarrs_data_type.specs.Kind.{cell_size}
-use Rattle.zarrs_data_type.specs.Cell.{held_size}
 use Rattle.zarrs_data_type.specs.ArrayData.{ArrayData}
 use Rattle.zarrs_engine_calls.specs.Layout.{Layout}
 use Rattle.zarrs_engine_calls.specs.ArgumentRefusals.{chunk_refusal, dimensions_refusal, range_refusal, read_chunks_refusal, size_refusal}

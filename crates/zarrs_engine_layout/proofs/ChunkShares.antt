@@ -1,15 +1,15 @@
 -- What a region and the chunk of some indices share, one dimension at a time.
-use Rattle.std.proofs.Common.{◌≡◌, ◌&&◌, ℕ, ◌+◌, ◌-◌, ◌<◌, ◌≤◌, ◌^◌, true, max, min, List, length, refl, sym, ◌∙◌, ap, subst, arith}
+use Rattle.std.proofs.Common.{◌≡◌, ◌&&◌, ℕ, ◌+◌, ◌-◌, ◌<◌, ◌≤◌, ◌^◌, max, min, List, length, sym, ◌∙◌, ap, subst, arith}
 use Rattle.std.specs.Prelude.{slice_index}
 use Rattle.std.proofs.lemmas.Grind.{same_number_lists}
-use Rattle.zarrs_subset.specs.Boxes.{EndsFit, overlap_extents, overlap_start, zip_with}
-use Rattle.zarrs_subset.specs.Regions.{Box, IsLong, LiesInBox, Holds, in_box, overlap_of, seen_from, shifted_box}
-use Rattle.zarrs_subset.proofs.Overlaps.{AllSome, EndsFit-below, in_box-empty, in_box-overlap, length-overlap_extents, length-zip_with, zip_with-from}
-use Rattle.zarrs_subset.proofs.Parts.{overlap_extents-at, zip_with-at}
+use Rattle.zarrs_subset.specs.Boxes.{EndsFit, zip_with}
+use Rattle.zarrs_subset.specs.Regions.{Box, IsLong, LiesInBox, in_box, overlap_of, seen_from, shifted_box}
+use Rattle.zarrs_subset.proofs.Overlaps.{EndsFit-below, in_box-empty, in_box-overlap, length-zip_with, zip_with-from}
+use Rattle.zarrs_subset.proofs.Parts.{zip_with-at}
 use Rattle.zarrs_chunk_grid.specs.Axes.{IsInterval}
-use Rattle.zarrs_chunk_grid.specs.Grids.{Grid, IsGrid, box_at, extent_along, has_box, start_along}
+use Rattle.zarrs_chunk_grid.specs.Grids.{Grid, IsGrid, box_at, extent_along, start_along}
 use Rattle.zarrs_chunk_grid.proofs.AxisLemmas.{edge_fits}
-use Rattle.zarrs_chunk_grid.proofs.Chunks.{box_dimensions, box_is_there, box_long}
+use Rattle.zarrs_chunk_grid.proofs.Chunks.{box_dimensions, box_long}
 use Rattle.zarrs_chunk_grid.proofs.MetChunks.{at_dimension}
 use Rattle.zarrs_chunk_grid.proofs.Walks.{PairsBelow}
 use Rattle.zarrs_engine_layout.specs.Shared.{AreApart, AreShared, IsSharedIn}

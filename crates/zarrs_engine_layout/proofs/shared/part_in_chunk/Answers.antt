@@ -1,5 +1,4 @@
-use Rattle.std.proofs.Common.{◌≡◌, ◌∙◌, ◌<◌, ◌+◌, ◌-◌, ℕ, List, length, refl, sym, subst, arith}
-use Rattle.std.specs.Prelude.{slice_index}
+use Rattle.std.proofs.Common.{◌∙◌, ◌<◌, ◌-◌, refl, sym, arith}
 use Rattle.std.proofs.lemmas.Bool.{false≢true}
 use Rattle.zarrs_subset.specs.Regions.{box_of}
 use Rattle.zarrs_chunk_grid.proofs.Chunks.{box_is_there, no_box}

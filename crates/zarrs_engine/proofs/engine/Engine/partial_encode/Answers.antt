@@ -1,4 +1,4 @@
-use Rattle.std.proofs.Common.{◌≡◌, ◌∙◌, true, false, ℕ, List, Option, IfErr, OnOk, refl, rules, ap, subst, sym}
+use Rattle.std.proofs.Common.{◌∙◌, ℕ, List, Option, OnOk, refl, rules, subst, sym}
 use Rattle.std.proofs.lemmas.Bool.{false≢true}
 use Rattle.std.proofs.lemmas.Result.{err_from_is_err_and, on_ok_weaker}
 use Rattle.zarrs_subset.specs.Boxes.{position_count}

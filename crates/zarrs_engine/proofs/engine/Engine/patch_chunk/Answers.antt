@@ -1,11 +1,10 @@
-use Rattle.std.proofs.Common.{◌∙◌, rules, ap, subst, sym}
+use Rattle.std.proofs.Common.{rules, ap, subst, sym}
 use Rattle.std.specs.Prelude.{is_some}
 use Rattle.zarrs_subset.specs.Regions.{box_of}
 use Rattle.zarrs_chunk_grid.proofs.Chunks.{box_is_there}
 use Rattle.zarrs_data_type.specs.ArrayData.{data_of}
 use Rattle.zarrs_codec_shard.specs.ShardPatches.{change_of}
 use Rattle.zarrs_codec_chain.specs.Options.{stores_empty_chunks}
-use Rattle.zarrs_engine_calls.specs.Patches.{RefusesPartly}
 use Rattle.zarrs_engine_calls.specs.Refusals.{Refusal, out_of_memory, refusal_of}
 use Rattle.zarrs_engine_calls.proofs.RefusalLemmas.{storage_said}
 use Rattle.zarrs_engine.specs.Engine.{layout_of}

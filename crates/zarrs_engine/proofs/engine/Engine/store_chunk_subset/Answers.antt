@@ -1,4 +1,4 @@
-use Rattle.std.proofs.Common.{◌≡◌, ◌∙◌, true, false, IfErr, [], ◌∷◌, OnOk, Some, rules, ap, subst, sym}
+use Rattle.std.proofs.Common.{◌∙◌, IfErr, [], ◌∷◌, OnOk, Some, rules, ap, subst, sym}
 use Rattle.std.proofs.lemmas.Bool.{false≢true}
 use Rattle.std.proofs.lemmas.Result.{on_ok_weaker}
 use Rattle.zarrs_subset.specs.Boxes.{position_count}
