@@ -1,7 +1,7 @@
 -- Changes of the array's shape, one chunk after another.
 use Rattle.std.proofs.Common.{◌≡◌, ◌≢◌, ◌==◌, ◌<◌, ◌≤◌, ◌+◌, ◌-◌, min, zero, suc, ℕ, Bool, true, false, not, cond, List, [], ◌∷◌}
 use Rattle.std.proofs.Common.{◌++◌, length, take, drop, get_or, slice_index, replicate, is_some, Option, Some, None, slice_get, Contains}
-use Rattle.std.proofs.Common.{refl, sym, ◌∙◌, ap, subst, inl, inr, arith, Result}
+use Rattle.std.proofs.Common.{◌⊎◌, refl, sym, ◌∙◌, ap, subst, inl, inr, arith, Result}
 use Rattle.std.specs.List.{filter}
 use Rattle.std.specs.Result.{IsErrAnd, IfErr}
 use Rattle.std.proofs.lemmas.Result.{err_from_is_err_and}
@@ -42,11 +42,12 @@ use Rattle.zarrs_engine_calls.specs.Changes.{IsPut, IsValueOf, Makes, RetrievesC
 use Rattle.zarrs_engine_calls.specs.Cuts.{Cuts, cut_chunks, is_below, is_cut, keeps_some}
 use Rattle.zarrs_engine_calls.specs.Fronts.{CutsAll}
 use Rattle.zarrs_engine_calls.specs.Reach.{MayAsk, MayAskChunk, MayAskKept}
-use Rattle.zarrs_engine_calls.specs.StateRefusals.{AreCut, RefusesChunkRead, RefusesCut, RefusesErasure, RefusesKeptCut}
+use Rattle.zarrs_engine.proofs.PartWrites.{large_region}
+use Rattle.zarrs_engine_calls.specs.StateRefusals.{AreCut, NeedsLargeFill, RefusesChunkRead, RefusesCut, RefusesErasure, RefusesKeptCut}
 use Rattle.zarrs_engine_calls.specs.ChunkBoxes.{last_of}
 use Rattle.zarrs_engine_calls.proofs.Below.{below_along}
 use Rattle.zarrs_engine_calls.proofs.CutLaws.{and_left}
-use Rattle.zarrs_engine_calls.proofs.Contents.{fill_at, index_list, one_key, only_member, replicated}
+use Rattle.zarrs_engine_calls.proofs.Contents.{absent_fill, index_list, one_key, only_member}
 use Rattle.zarrs_engine_calls.proofs.CutLoops.{cut_gone, cut_kept, cuts_all, cuts_none, cuts_push, cuts_same}
 use Rattle.zarrs_engine_calls.proofs.RefusalLemmas.{fit_chunk, large_chunk, makes_none, memory_or_said, second_refusal}
 use Rattle.zarrs_engine_layout.specs.CutWalks.{walk_box, walk_number, walk_whole}
@@ -93,154 +94,12 @@ front_makes done failed old mid new a b =
     let failed_is : 0 + failed ≡ failed = omega arith in
     subst (λ n. Makes n failed old new) done_is (subst (λ n. Makes (done + 0) n old new) failed_is both)
 
-zero_at : (shape : List ℕ) (k : ℕ) → k < length shape → slice_index (box_at_origin shape).start k ≡ 0
-zero_at shape k below = get_or-replicate (length shape) k 0 0 below
-
-zero_from : (shape position : List ℕ) (k : ℕ) → k < length shape → slice_index (box_at_origin shape).start k ≤ slice_index position k
-zero_from shape position k below = let zero = zero_at shape k below in omega arith
-
-zero_below : (shape position : List ℕ) (k : ℕ) → k < length shape → slice_index position k < slice_index shape k → slice_index position k < slice_index (box_at_origin shape).start k + slice_index (box_at_origin shape).shape k
-zero_below shape position k below less = let zero = zero_at shape k below in omega arith
-
 pub cut_has_box : (layout : Layout) (shape index : List ℕ) → is_cut layout.grid shape index ≡ true → has_box layout.grid index ≡ true
 cut_has_box layout shape index cut = and_left (has_box layout.grid index) (not (is_below shape (last_of (box_at layout.grid index)))) cut
-
--- ---- the part of a chunk that is below the shape
-
-module _ (layout : Layout) (shape index : List ℕ) (has : has_box layout.grid index ≡ true) (dimensions : length shape ≡ layout.grid.dimensions) (some : keeps_some layout.grid shape index ≡ true) where
-  starts_long : length (box_at layout.grid index).start ≡ length shape
-  starts_long = box_dimensions layout.grid index ∙ sym dimensions
-
-  kept_long : IsLong (bound_to (box_at layout.grid index) shape)
-  kept_long = length-bound (box_at layout.grid index).start (box_at layout.grid index).shape shape (box_long layout.grid index) starts_long
-
-  kept_length : length (bound_to (box_at layout.grid index) shape).start ≡ length shape
-  kept_length = length-zip_with (λ s b. min s b) (box_at layout.grid index).start shape starts_long ∙ starts_long
-
-  -- it begins where the chunk does
-  kept_start : (k : ℕ) → k < length shape → slice_index (bound_to (box_at layout.grid index) shape).start k ≡ slice_index (box_at layout.grid index).start k
-  kept_start k below =
-      let b = below_along shape (box_at layout.grid index).start some in
-      let low = b.below k below in
-      let at = zip_with-at (λ s b. min s b) (box_at layout.grid index).start shape k (omega (arith, starts_long)) below in
-      omega arith
-
-  -- and ends where the chunk or the shape does
-  kept_end : (k : ℕ) → k < length shape → slice_index (bound_to (box_at layout.grid index) shape).start k + slice_index (bound_to (box_at layout.grid index) shape).shape k ≡ min (slice_index (box_at layout.grid index).start k + slice_index (box_at layout.grid index).shape k) (slice_index shape k)
-  kept_end k below =
-      let box = box_at layout.grid index in
-      let long = box_long layout.grid index in
-      let b = below_along shape box.start some in
-      let low = b.below k below in
-      let start_at = zip_with-at (λ s b. min s b) box.start shape k (omega (arith, starts_long)) below in
-      let all = ends box.start box.shape in
-      let all_long : length all ≡ length box.start = length-zip_with (λ s e. s + e) box.start box.shape long in
-      let end_at = zip_with-at (λ s e. s + e) box.start box.shape k (omega (arith, starts_long)) (omega (arith, starts_long, long)) in
-      let cut_at = zip_with-at (λ e b. min e b) all shape k (omega (arith, starts_long, all_long)) below in
-      let cut_long : length (zip_with (λ e b. min e b) all shape) ≡ length all = length-zip_with (λ e b. min e b) all shape (all_long ∙ starts_long) in
-      let shape_at = zip_with-at (λ e s. e - s) (zip_with (λ e b. min e b) all shape) (zip_with (λ s b. min s b) box.start shape) k (omega (arith, starts_long, all_long, cut_long)) (omega (arith, kept_length)) in
-      omega arith
-
-  pub kept_lies : LiesInBox (bound_to (box_at layout.grid index) shape) (box_at layout.grid index)
-  kept_lies = record {
-    same_length = kept_length ∙ sym starts_long;
-    starts = λ k below. let at = kept_start k (omega (arith, starts_long)) in omega arith;
-    ends = λ k below. let at = kept_end k (omega (arith, starts_long)) in omega arith;
-  }
-
-  -- of the chunk it has the positions that are below the shape
-  kept_is : (position : List ℕ) → Holds (box_at layout.grid index) position → (b : Bool) → is_below shape position ≡ b → in_box (bound_to (box_at layout.grid index) shape) position ≡ b
-  kept_is position holds true low =
-      let inside = holds_along (box_at layout.grid index) position (box_long layout.grid index) holds in
-      let b = below_along shape position low in
-      along_holds (bound_to (box_at layout.grid index) shape) position kept_long (record {
-        same_length = b.same_length ∙ sym kept_length;
-        from = λ k below.
-            let here : k < length shape = omega (arith, kept_length) in
-            let at = kept_start k here in
-            let i = inside.from k (omega (arith, starts_long)) in
-            omega arith;
-        below = λ k below.
-            let here : k < length shape = omega (arith, kept_length) in
-            let at = kept_end k here in
-            let i = inside.below k (omega (arith, starts_long)) in
-            let l = b.below k here in
-            omega arith;
-      })
-  kept_is position holds false high = elim (cases_Bool (in_box (bound_to (box_at layout.grid index) shape) position)) [
-    | inr out ↦ out
-    | inl hit ↦
-        let inside = holds_along (bound_to (box_at layout.grid index) shape) position kept_long hit in
-        let low = along_holds (box_at_origin shape) position (length-replicate {A = ℕ} (length shape) 0) (record {
-          same_length = inside.same_length ∙ kept_length ∙ sym (length-replicate {A = ℕ} (length shape) 0);
-          from = λ k below. zero_from shape position k (omega (arith, length-replicate {A = ℕ} (length shape) 0));
-          below = λ k below.
-              let here : k < length shape = omega (arith, length-replicate {A = ℕ} (length shape) 0) in
-              let at = kept_end k here in
-              let i = inside.below k (omega (arith, kept_length)) in
-              zero_below shape position k here (omega arith);
-        }) in
-        absurd (false≢true (sym high ∙ low))
-  ]
-
-  -- the chunk was read, and what it has below the shape was put into a chunk of fill
-  pub cut_made : (state : StoreState) (held part filled made : ArrayData) → RetrievesChunk layout index held state
-      → ExtractsCells layout.kind (box_at layout.grid index) held (bound_to (box_at layout.grid index) shape) part
-      → cells layout.kind filled ≡ Some (replicate (position_count (box_at layout.grid index).shape) layout.fill)
-      → TakesCells layout.kind (box_at layout.grid index) (bound_to (box_at layout.grid index) shape) part filled made → HasCutCells layout shape index state made
-  cut_made state held part filled made r e f t =
-      let box = box_at layout.grid index in
-      let n = position_count box.shape in
-      let all = replicate n layout.fill in
-      let one : Some t.given ≡ Some e.made = sym t.part_is ∙ e.new_is in
-      let given_is : t.given ≡ e.made = cc in
-      let two : Some t.held ≡ Some all = sym t.old_is ∙ f in
-      let held_is : t.held ≡ all = cc in
-      let three : Some e.held ≡ Some r.chunk = sym e.old_is ∙ r.is_chunk in
-      let read_is : e.held ≡ r.chunk = cc in
-      let count : length all ≡ n = length-replicate n layout.fill in
-      record {
-        chunk = t.made;
-        is_chunk = t.new_is;
-        cut = record {
-          count = t.count ∙ ap (λ (cs : List Cell). length cs) held_is ∙ count;
-          each = λ position holds.
-              let takes = t.takes position holds in
-              let below = place_in_below box position (box_long layout.grid index) holds in
-              elim (cases_Bool (is_below shape position)) [
-                | inl low ↦
-                    let here = kept_is position holds true low in
-                    takes ∙ ap (λ b. cond b (cell_in (bound_to box shape) t.given position) (cell_in box t.held position)) here
-                    ∙ ap (λ (cs : List Cell). cell_in (bound_to box shape) cs position) given_is
-                    ∙ e.same position here
-                    ∙ ap (λ (cs : List Cell). cell_in box cs position) read_is
-                    ∙ sym (r.reads.each position holds)
-                    ∙ sym (ap (λ b. cond b (content layout (value_at state) position) (Some layout.fill)) low)
-                | inr high ↦
-                    takes ∙ ap (λ b. cond b (cell_in (bound_to box shape) t.given position) (cell_in box t.held position)) (kept_is position holds false high)
-                    ∙ ap (λ (cs : List Cell). cell_in box cs position) held_is
-                    ∙ fill_at layout.fill all (place_in box position) (replicated layout.fill n) (omega (arith, count))
-                    ∙ sym (ap (λ b. cond b (content layout (value_at state) position) (Some layout.fill)) high)
-              ];
-        };
-      }
 
 -- ---- why a chunk is not cut
 
 module _ (layout : Layout) (keep : Bool) (shape index : List ℕ) (state : StoreState) (has : has_box layout.grid index ≡ true) where
-  size_is : (large : Bool) (r : Refusal) → cond large (Some refusal.size_overflow) None ≡ Some r → refusal.size_overflow ≡ r
-  size_is true r e = cc
-  size_is false r e = absurd (cc)
-
-  -- as many fill values are too large
-  fill_fails : (r : Refusal) → fill_refusal layout (box_at layout.grid index).shape ≡ Some r → RefusesKeptCut layout keep shape index 0 state r
-  fill_fails r said =
-      let same = size_is _ r said in
-      subst (RefusesKeptCut layout keep shape index 0 state) same (refl, inr (inl (said ∙ ap Some (sym same))))
-
-  pub cut_memory : RefusesKeptCut layout keep shape index 0 state refusal.out_of_memory
-  cut_memory = tt
-
   -- the chunk is too large
   pub chunk_fails : (r : Refusal) → RefusesBy (box_refusal layout index) r → RefusesKeptCut layout keep shape index 0 state r
   chunk_fails r why = elim (memory_or_said _ r why) [
@@ -255,19 +114,17 @@ module _ (layout : Layout) (keep : Bool) (shape index : List ℕ) (state : Store
   ]
 
   module _ (fit : is_too_large layout (box_at layout.grid index).shape ≡ false) where
-    -- a chunk of fill cannot be made
-    pub filled_fails : (r : Refusal) → RefusesBy (filled_refusal layout (box_at layout.grid index).shape) r → RefusesKeptCut layout keep shape index 0 state r
-    filled_fails r why = elim (memory_or_said _ r why) [
-      | inl memory ↦ subst (RefusesKeptCut layout keep shape index 0 state) (sym memory) tt
-      | inr said ↦
-          let none : size_refusal layout (box_at layout.grid index).shape ≡ None = ap (λ b. cond b (Some refusal.size_overflow) None) fit in
-          fill_fails r (sym (second_refusal (size_refusal layout (box_at layout.grid index).shape) _ none) ∙ said)
-    ]
-
     -- the chunk cannot be read
-    pub read_fails : (r : Refusal) → RefusesChunkRead layout (length_refusal layout index) true index state r → RefusesKeptCut layout keep shape index 0 state r
-    read_fails =
-        unread_why layout index state has fit (RefusesKeptCut layout keep shape index 0 state) tt (λ broken. (refl, fit, inl broken)) (λ large why. (refl, inr (inl large))) (λ refuses. inl (refl, refuses))
+    pub read_fails : IsLawful layout → (r : Refusal) → RefusesChunkRead layout (length_refusal layout index) true index state r → RefusesKeptCut layout keep shape index 0 state r
+    read_fails lawful =
+        unread_why layout index state has fit (RefusesKeptCut layout keep shape index 0 state) tt (λ broken. (refl, fit, inl broken)) fill_fails (λ refuses. inl (refl, refuses))
+      where
+        fill_fails : fill_refusal layout (box_at layout.grid index).shape ≡ Some refusal.size_overflow → (value_at state (layout.key index) ≡ None) ⊎ NeedsLargeFill layout index state
+            → RefusesKeptCut layout keep shape index 0 state refusal.size_overflow
+        fill_fails said (inl absent) =
+            let filled = large_region layout (box_at layout.grid index) state (box_long layout.grid index) fit (λ position holds. absent_fill layout (value_at state) lawful index has absent position holds) said in
+            (refl, inr (inl (inl filled)))
+        fill_fails said (inr needs) = (refl, inr (inl (inr (inl needs))))
 
     -- the chain takes no such chunk
     pub chain_fails : (made : ArrayData) (h : HasCutCells layout shape index state made) (r : Refusal) → RefusesBy (data_refusal layout keep (box_at layout.grid index).shape (cells layout.kind made)) r → RefusesKeptCut layout keep shape index 0 state r
@@ -607,23 +464,12 @@ resized_all layout lawful keep shape wanted old new h =
 
 -- ---- the cells of one chunk
 
--- a box of other dimensions than a shape is not cut by it; so only memory may be refused
-pub bound_memory : (layout : Layout) (keep : Bool) (shape index : List ℕ) (state : StoreState) (got expected : ℕ) (e : ArraySubsetError) → got ≡ expected → RefusesLength got expected e → RefusesKeptCut layout keep shape index 0 state (refusal_of (error_of_subset e))
-bound_memory layout keep shape index state got expected (subset.IncompatibleDimensionality mismatch) same why = absurd (why.0 same)
-bound_memory layout keep shape index state got expected subset.EndOverflow same why = absurd why
-bound_memory layout keep shape index state got expected subset.EndBelowStart same why = absurd why
-bound_memory layout keep shape index state got expected subset.StartBelowOffset same why = absurd why
-bound_memory layout keep shape index state got expected subset.OutOfMemory same why = tt
-
 -- a chunk of fill
 pub filled_cells : (layout : Layout) (box : Box) (filled : ArrayData) → cells layout.kind filled ≡ Some (replicate (position_count box.shape) layout.fill) → HasCells layout.kind filled (position_count box.shape)
 filled_cells layout box filled is =
     let n = position_count box.shape in
     let count : length (replicate n layout.fill) ≡ n = length-replicate n layout.fill in
     subst (HasCells layout.kind filled) count (HasCells-some layout.kind filled (replicate n layout.fill) is)
-
-pub filled_box : (layout : Layout) (box other : Box) (filled : ArrayData) → box ≡ other → cells layout.kind filled ≡ Some (replicate (position_count box.shape) layout.fill) → cells layout.kind filled ≡ Some (replicate (position_count other.shape) layout.fill)
-filled_box layout box other filled is at = subst (λ (b : Box). cells layout.kind filled ≡ Some (replicate (position_count b.shape) layout.fill)) is at
 
 -- what is said of a chunk, whether it is cut and whether it keeps some
 pub no_answer : (test some : Bool) → None ≡ cond test (Some some) None → test ≡ false

@@ -548,7 +548,9 @@ module _ (layout : Layout) (lawful : IsLawful layout) (keep : Bool) (wanted inde
   kept_late kept refusal.codec (none, small, inl bad) = (none, small, inl (broken layout lawful x y index (same kept) bad))
   kept_late kept refusal.codec (none, small, inr such) = (none, small, inr (cut_as kept (Some refusal.codec) such))
   kept_late kept refusal.size_overflow (none, inl large) = (none, inl large)
-  kept_late kept refusal.size_overflow (none, inr (inl fill)) = (none, inr (inl fill))
+  kept_late kept refusal.size_overflow (none, inr (inl (inl large))) = (none, inr (inl (inl (large_box layout lawful x y index (same kept) has large))))
+  kept_late kept refusal.size_overflow (none, inr (inl (inr (inl fill)))) = (none, inr (inl (inr (inl (large_fill layout lawful x y index (same kept) fill)))))
+  kept_late kept refusal.size_overflow (none, inr (inl (inr (inr gone)))) = (none, inr (inl (inr (inr gone))))
   kept_late kept refusal.size_overflow (none, inr (inr such)) = (none, inr (inr (cut_as kept (Some refusal.size_overflow) such)))
   kept_late kept refusal.out_of_memory why = why
   kept_late kept r why = absurd why

@@ -4,7 +4,7 @@ use Rattle.std.specs.Prelude.{Contains, if◌then◌else◌}
 use Rattle.std.specs.Option.{option_or}
 use Rattle.std.specs.List.{sum_by}
 use Rattle.zarrs_subset.specs.Boxes.{position_count}
-use Rattle.zarrs_subset.specs.Regions.{Box, Holds, in_box, cell_in}
+use Rattle.zarrs_subset.specs.Regions.{Box, Holds, IsLong, LiesInBox, in_box, cell_in}
 use Rattle.zarrs_chunk_grid.specs.Grids.{box_at}
 use Rattle.zarrs_storage.specs.Store.{StoreState, last_call}
 use Rattle.zarrs_data_type.specs.Kind.{cell_size}
@@ -108,9 +108,18 @@ IsCutAs layout keep shape index state r =
     (chunk : List Cell) × AreCut layout shape (box_at layout.grid index) state chunk
     × (data_refusal layout keep (box_at layout.grid index).shape (Some chunk) ≡ r)
 
+-- a chunk of this box has a box of positions that are cut away, and as many fill values take more bytes than a usize counts
+pub record IsLargeFilling (layout : Layout) (shape : List ℕ) (box : Box) : Type 0 where
+  pub gone : Box
+  pub long : IsLong gone
+  pub inside : LiesInBox gone box
+  pub cut_away : (position : List ℕ) → Holds gone position → is_below shape position ≡ false
+  pub large : fill_refusal layout gone.shape ≡ Some refusal.size_overflow
+
 -- Why a chunk that has a position below the shape is not cut to it, in the store state at that moment: its key refuses
 -- to be read, or the writing call failed (E7); it does not decode, or the chain takes no such chunk (E4); the size of the
--- chunk, of one that is all fill, or of its bytes (E8); out of memory (E9).
+-- chunk, of its cells, of a chunk of fill where its bytes leave out cells, of the fill in place of what is cut away, or of its
+-- bytes (E8); out of memory (E9).
 abbrev pub RefusesKeptCut : Layout → Bool → List ℕ → List ℕ → ℕ → StoreState → Refusal → Type 0
 RefusesKeptCut layout keep shape index failed new refusal.storage =
     ((failed ≡ 0) × (new.refuses (layout.key index) ≡ true))
@@ -121,7 +130,7 @@ RefusesKeptCut layout keep shape index failed new refusal.codec =
 RefusesKeptCut layout keep shape index failed new refusal.size_overflow =
     (failed ≡ 0)
     × ((is_too_large layout (box_at layout.grid index).shape ≡ true)
-    ⊎ (fill_refusal layout (box_at layout.grid index).shape ≡ Some refusal.size_overflow)
+    ⊎ (IsLargeBox layout (box_at layout.grid index) new ⊎ NeedsLargeFill layout index new ⊎ IsLargeFilling layout shape (box_at layout.grid index))
     ⊎ IsCutAs layout keep shape index new (Some refusal.size_overflow))
 RefusesKeptCut layout keep shape index failed new refusal.out_of_memory = Unit {0}
 RefusesKeptCut layout keep shape index failed new _ = ⊥

@@ -4,3 +4,4 @@ pub mod Layouts
 pub mod Shared
 pub mod Steps
 pub mod WholeChunks
+pub mod Beyond

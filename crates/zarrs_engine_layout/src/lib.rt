@@ -25,4 +25,5 @@ mod shared;
 pub use array_layout::{ArrayLayout, Chunk, invalid_indices};
 pub use cut_walk::CutWalk;
 pub use extents::ChunkExtents;
+pub use resizing::beyond;
 pub use shared::{Shared, covers_chunk, part_in_chunk, shared_in, shared_positions};

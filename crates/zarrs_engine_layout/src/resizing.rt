@@ -1,8 +1,10 @@
-//! Chunks that a change of the array's shape cuts. Nothing here takes memory.
+//! Chunks that a change of the array's shape cuts.
 use crate::array_layout::ArrayLayout;
+use std::alloc::{AllocError, Global};
 use zarrs_chunk_grid::ChunkGridTraits;
 use zarrs_codec_chain::ChainTraits;
 use zarrs_keys::ChunkKeyEncodingTraits;
+use zarrs_subset::ArraySubset;
 
 impl<G: ChunkGridTraits, K: ChunkKeyEncodingTraits, C: ChainTraits> ArrayLayout<G, K, C> {
     ghost use Rattle.std.specs.Prelude.{◌≡◌, if◌then◌else◌, length, true, Some, None};
@@ -80,4 +82,34 @@ impl<G: ChunkGridTraits, K: ChunkKeyEncodingTraits, C: ChainTraits> ArrayLayout<
         }
         Some(self.begins_below(chunk_indices, shape))
     }
+}
+
+ghost use Rattle.std.specs.Prelude.{◌≡◌, ◌<◌, IfOk, length, option_map, slice_index};
+ghost use Rattle.zarrs_subset.specs.Regions.{box_of};
+ghost use Rattle.zarrs_engine_layout.specs.Beyond.{IsBeyond};
+
+/// Returns the positions of the chunk that are not below the shape along an axis, as a box, if there are such. The chunk
+/// begins below it.
+pub fn beyond(
+    alloc: Global,
+    chunk: &ArraySubset,
+    shape: &[u64],
+    axis: usize,
+) -> Result<Option<ArraySubset>, AllocError>
+    requires same_length { length shape.now ≡ length (box_of chunk.now).start }
+    requires axis { axis < length shape.now }
+    requires begins { slice_index (box_of chunk.now).start axis < slice_index shape.now axis }
+    ensures { IfOk result (λ gone. IsBeyond (box_of chunk.now) shape.now axis
+        (option_map box_of gone)) }
+{
+    let kept = shape[axis] - chunk.start()[axis];
+    let extent = chunk.shape()[axis];
+    if extent <= kept {
+        return Ok(None);
+    }
+    let mut start = chunk.start().to_vec(alloc)?;
+    let mut extents = chunk.shape().to_vec(alloc)?;
+    start[axis] = shape[axis];
+    extents[axis] = extent - kept;
+    Ok(Some(ArraySubset::new(start, extents)))
 }

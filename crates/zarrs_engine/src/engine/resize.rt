@@ -5,6 +5,7 @@ use zarrs_chunk_grid::ChunkGridTraits;
 use zarrs_codec_chain::{ChainTraits, CodecOptions};
 use zarrs_data_type::ArrayBytes;
 use zarrs_engine_calls::ArrayError;
+use zarrs_engine_layout::beyond;
 use zarrs_keys::ChunkKeyEncodingTraits;
 use zarrs_storage::WritableStorageTraits;
 use zarrs_subset::{ArrayShape, ArraySubset, IncompatibleDimensionalityError};
@@ -15,7 +16,8 @@ impl<
     K: ChunkKeyEncodingTraits,
     C: ChainTraits,
 > Engine<S, G, K, C> {
-    ghost use Rattle.std.specs.Prelude.{◌≡◌, true, false, Bool, Option, None, [], ◌∷◌, length};
+    ghost use Rattle.std.specs.Prelude.{◌≡◌, ◌<◌, ◌+◌, true, false, Bool, Option, None, [], ◌∷◌};
+    ghost use Rattle.std.specs.Prelude.{length, slice_index};
     ghost use Rattle.std.specs.Prelude.{IfOk, IfErr, OnOk, option_map};
     ghost use Rattle.zarrs_subset.specs.Regions.{box_of};
     ghost use Rattle.zarrs_chunk_grid.specs.Grids.{box_at, has_box};
@@ -26,8 +28,37 @@ impl<
     ghost use Rattle.zarrs_engine_calls.specs.Refusals.{Refusal, is_too_large, refusal_of};
     ghost use Rattle.zarrs_engine_calls.specs.StateRefusals.{RefusesCut, RefusesKeptCut};
     ghost use Rattle.zarrs_engine.specs.Engine.{layout_of, state_of, store_of, KeepsLayout};
-    ghost use Rattle.zarrs_engine.specs.Resizes.{HasCut, HasCutCells, IsCutValue, PassesChunk};
-    ghost use Rattle.zarrs_engine.specs.Resizes.{LeavesCut, LeavesFront};
+    ghost use Rattle.zarrs_engine.specs.Resizes.{HasCut, HasCutCells, HasFilled, IsCutValue};
+    ghost use Rattle.zarrs_engine.specs.Resizes.{LeavesCut, LeavesFront, PassesChunk, RefusesFilling};
+
+    /// Returns the cells of a chunk that begins below the shape, after those that are not below it along an axis became
+    /// fill.
+    fn fill_beyond(
+        &self,
+        alloc: Global,
+        data: ArrayBytes<'static>,
+        chunk: &ArraySubset,
+        shape: &[u64],
+        axis: usize,
+    ) -> Result<ArrayBytes<'static>, ArrayError>
+        requires fit { is_too_large (layout_of self.now) (box_of chunk.now).shape ≡ false }
+        requires dimensions { length shape.now ≡ length (box_of chunk.now).start }
+        requires axis { axis < length shape.now }
+        requires begins { slice_index (box_of chunk.now).start axis < slice_index shape.now axis }
+        requires held { HasFilled (layout_of self.now) shape.now (box_of chunk.now)
+            (store_of S.state self.now) axis (data_of data) }
+        ensures filled { IfOk result (λ made. HasFilled (layout_of self.now) shape.now
+            (box_of chunk.now) (store_of S.state self.now) (axis + 1) (data_of made)) }
+        ensures refused { IfErr result (λ e. RefusesFilling (layout_of self.now) shape.now
+            (box_of chunk.now) (refusal_of e)) }
+    {
+        let Some(gone) = beyond(alloc, chunk, shape, axis)? else {
+            return Ok(data);
+        };
+        let filled = self.layout.filled(alloc, &gone)?;
+        let data = data.update_array_bytes(alloc, &self.layout.data_type, chunk, &filled, &gone)?;
+        Ok(data)
+    }
 
     /// Returns the cells of a chunk that has some below the shape, after the others became fill. The chunk is read.
     fn cut_cells(
@@ -49,12 +80,11 @@ impl<
         ensures refused { (keep : Bool) → IfErr result (λ e. RefusesKeptCut (layout_of self.now)
             keep shape.now chunk_indices.now 0 (store_of S.state self.now) (refusal_of e)) }
     {
-        let held = self.retrieve_chunk(alloc, chunk_indices)?;
-        let kept = chunk.bound(alloc, shape)?;
-        let part = held.extract_array_subset(alloc, &self.layout.data_type, chunk, &kept)?;
-        let filled = self.layout.filled(alloc, chunk)?;
-        let data = filled.update_array_bytes(alloc, &self.layout.data_type, chunk, &part, &kept)?;
-        Ok(data)
+        let mut made = self.retrieve_chunk(alloc, chunk_indices)?;
+        for axis in 0..shape.len() {
+            made = self.fill_beyond(alloc, made, chunk, shape, axis)?;
+        }
+        Ok(made)
     }
 
     /// Returns what is to be present at the key of a chunk after it was cut to the shape: nothing if it has no cell
@@ -174,8 +204,9 @@ impl<
     /// # Errors
     /// In this order: E10 for another number of dimensions; E28 for a grid whose boxes depend on the array's shape. Then,
     /// at one of the chunks: E8 for a chunk of more bytes than a `usize` counts; E7 if the store refuses its key; E4 if
-    /// its bytes do not decode, or E8 if as many fill values have more bytes than that; E4 if the chain does not take it;
-    /// E8 if its bytes pass a size; E7 if the store refuses the write. E9 may come at any time before the last
+    /// its bytes do not decode, or E8 if a chunk of fill has more bytes than that, which is needed where the chunk is absent
+    /// or its bytes leave out cells; E8 if the fill in place of what is cut away has; E4 if the chain does not take it; E8 if
+    /// its bytes pass a size; E7 if the store refuses the write. E9 may come at any time before the last
     /// chunk is cut. The chunks before that one are cut then, and no later one, and the array has the shape that it had.
     pub fn resize(
         &mut self,
