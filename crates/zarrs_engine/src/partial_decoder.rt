@@ -72,7 +72,7 @@ impl<
     ghost use Rattle.zarrs_engine_calls.specs.Changes.{IsPresent};
     ghost use Rattle.zarrs_engine_calls.specs.Refusals.{RefusesBy, key_refusal, refusal_of};
     ghost use Rattle.zarrs_engine_calls.specs.Step.{RetrievesPart, RefusesRetrievePart};
-    ghost use Rattle.zarrs_data_type.specs.States.{IsTarget, SameBox, StaysOutside};
+    ghost use Rattle.zarrs_data_type.specs.States.{KeepsTarget};
     ghost use Rattle.zarrs_engine.specs.Engine.{layout_of, state_of, store_of};
     ghost use Rattle.zarrs_engine.specs.Into.{HasContent, RetrievesInto};
     ghost use Rattle.zarrs_engine.specs.Outcomes.{MayRetrievePart};
@@ -114,6 +114,7 @@ impl<
     /// cell size or depth than the data type's, of which a variable type has none; E6 for a box of another shape than
     /// the part's; E7, E8 and E4 as the read of a region has them. E9 may come at any time. What the arguments decide is
     /// refused before a byte is written; after another refusal the inside of the box is open.
+    #[tactic(auto, using(zarrs_data_type_region::proofs::Kept::keeps_itself))]
     pub fn partial_decode_into(
         &self,
         alloc: Global,
@@ -123,11 +124,7 @@ impl<
     ) -> Result<(), ArrayError>
         requires ask { MayRetrievePart S.state (indices_of self.now) (box_of chunk_subset.now)
             (engine_of self.now) }
-        requires target { IsTarget target.old }
-        ensures target { IsTarget target.new }
-        ensures same_bytes { target.new.bytes.ghost_name ≡ target.old.bytes.ghost_name }
-        ensures same_masks { target.new.masks.ghost_name ≡ target.old.masks.ghost_name }
-        ensures same_box { SameBox target.old target.new }
+        ensures kept { KeepsTarget target.old target.new }
         ensures accepted { OnOk result (part_refusal (layout_of (engine_of self.now))
             (indices_of self.now) (box_of chunk_subset.now) ≡ None) }
         // Chunks cover a part that lies in the chunk, so it is not refused by E1.
@@ -148,7 +145,6 @@ impl<
             (state_of S.state (engine_of self.now)).shape (indices_of self.now)
             (box_of chunk_subset.now) target.old (refusal_of e)
             (store_of S.state (engine_of self.now))) }
-        ensures outside { StaysOutside target.old target.new }
         ensures kept_bytes { OnErr result (IsSome (part_into_refusal
             (layout_of (engine_of self.now)) (state_of S.state (engine_of self.now)).shape
             (indices_of self.now) (box_of chunk_subset.now) target.old)

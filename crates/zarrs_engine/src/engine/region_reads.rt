@@ -5,9 +5,9 @@ use std::alloc::Global;
 use zarrs_chunk_grid::ChunkGridTraits;
 use zarrs_codec_chain::ChainTraits;
 use zarrs_codec_leaf::StoredValue;
-use zarrs_data_type::{ArrayBytes, RegionCells};
+use zarrs_data_type::{ArrayBytes, CellType, RegionCells};
 use zarrs_engine_calls::ArrayError;
-use zarrs_engine_layout::{ArrayLayout, part_in_chunk, shared_positions};
+use zarrs_engine_layout::{part_in_chunk, shared_positions};
 use zarrs_keys::ChunkKeyEncodingTraits;
 use zarrs_storage::ReadableStorageTraits;
 use zarrs_subset::{ArraySubset, lies_in_box};
@@ -75,11 +75,10 @@ impl<
             (box_of region.now).shape) (refusal_of e)) }
     {
         let count = self.count_to_read(region)?;
-        let ArrayLayout {
+        let CellType {
             data_type,
             fill_value,
-            ..
-        } = &self.layout;
+        } = &self.layout.cell_type;
         let made = RegionCells::new_fill_value(alloc, data_type, count, fill_value)?;
         Ok(made)
     }
@@ -175,7 +174,7 @@ impl<
             return Ok(held);
         };
         let part = self.layout.decode(alloc, chunk_indices, &encoded)?;
-        let made = held.with_part(alloc, &self.layout.data_type, region, &part, chunk)?;
+        let made = held.with_part(alloc, &self.layout.cell_type.data_type, region, &part, chunk)?;
         Ok(made)
     }
 
@@ -211,7 +210,7 @@ impl<
         let Some(part) = found else {
             return Ok(held);
         };
-        let made = held.with_part(alloc, &self.layout.data_type, region, &part, &shared.region)?;
+        let made = held.with_part(alloc, &self.layout.cell_type.data_type, region, &part, &shared.region)?;
         Ok(made)
     }
 
@@ -272,7 +271,7 @@ impl<
                 return self.read_in_chunk(alloc, region, chunks.start());
             }
         }
-        if let Some(form) = form_of(&self.layout.data_type) {
+        if let Some(form) = form_of(&self.layout.cell_type.data_type) {
             return self.read_in_list(alloc, region, chunks, form);
         }
         let filled = self.region_of_fill(alloc, region)?;

@@ -68,7 +68,7 @@ impl<
         if lies_in_box(chunk, region) {
             let data = region_data.extract_array_subset(
                 alloc,
-                &self.layout.data_type,
+                &self.layout.cell_type.data_type,
                 region,
                 chunk,
             )?;
@@ -77,7 +77,7 @@ impl<
         let held = self.retrieve_chunk(alloc, chunk_indices)?;
         let data = held.update_array_bytes(
             alloc,
-            &self.layout.data_type,
+            &self.layout.cell_type.data_type,
             chunk,
             region_data,
             region,

@@ -56,7 +56,7 @@ impl<
             return Ok(data);
         };
         let filled = self.layout.filled(alloc, &gone)?;
-        let data = data.update_array_bytes(alloc, &self.layout.data_type, chunk, &filled, &gone)?;
+        let data = data.update_array_bytes(alloc, &self.layout.cell_type.data_type, chunk, &filled, &gone)?;
         Ok(data)
     }
 

@@ -7,7 +7,6 @@ use Rattle.zarrs_chunk_grid.proofs.Chunks.{box_long}
 use Rattle.zarrs_storage.specs.Store.{StoreState}
 use Rattle.zarrs_data_type.specs.States.{data_of_target, parent_box, target_box}
 use Rattle.zarrs_data_type_region.proofs.TargetBoxes.{lies_at_origin, origin_long}
-use Rattle.zarrs_data_type_region.proofs.TargetLevels.{masked_keeps}
 use Rattle.zarrs_codec_chain.specs.Parts.{DecodesPartAt}
 use Rattle.zarrs_codec_leaf.specs.Stored.{key_of_source, state_of_source, value_or_empty}
 use Rattle.zarrs_engine_calls.specs.Content.{value_at}
@@ -18,16 +17,11 @@ use Rattle.zarrs_engine_calls.proofs.Contents.{index_list}
 use Rattle.zarrs_engine_layout.specs.Shared.{IsSharedIn}
 use Rattle.zarrs_engine_layout.specs.Steps.{RefusesPartBytes}
 use Rattle.zarrs_engine.specs.Engine.{layout_of}
-use Rattle.zarrs_engine.proofs.IntoReads.{same_takes, same_twice}
-use Rattle.zarrs_engine.proofs.LentParts.{IsTakenBack, back_reads, back_stays, made_lies}
+use Rattle.zarrs_engine.proofs.IntoReads.{same_takes}
+use Rattle.zarrs_engine.proofs.LentParts.{IsTakenBack, back_kept, back_reads, made_lies}
 use Rattle.zarrs_engine.proofs.PartBytes.{box_why, key_why, part_why, source_value}
 use Rattle.zarrs_engine.proofs.TargetReads.{into_apart, part_positions}
 use Rattle.zarrs_engine.proofs.engine.Engine.read_part_into.Goals as goal
-
-pub returns-in_err-key-clause-outside : goal.returns-in_err-key-clause-outside
-returns-in_err-key-clause-outside g c =
-    let t = c.args.target.now in
-    masked_keeps t.cell_size (parent_box t) (target_box t) t.depth (position_count t.parent_shape.now) t.masks.now t.bytes.now
 
 pub open-requires : goal.open-requires
 open-requires g c =
@@ -38,11 +32,6 @@ open-requires g c =
     let chunk = box_at layout.grid index in
     let words = index_list layout c.args.self.now.layout.lawful index c.requires.boxed in
     subst (λ (key : List ℕ). state.may_ask key ≡ true) (sym c.in_ok-key.ensures.key) (c.requires.ask.key words)
-
-pub returns-in_err-source-clause-outside : goal.returns-in_err-source-clause-outside
-returns-in_err-source-clause-outside g c =
-    let t = c.args.target.now in
-    masked_keeps t.cell_size (parent_box t) (target_box t) t.depth (position_count t.parent_shape.now) t.masks.now t.bytes.now
 
 pub returns-in_err-source-clause-refused : goal.returns-in_err-source-clause-refused
 returns-in_err-source-clause-refused g c =
@@ -74,16 +63,6 @@ returns-in_err-extents-clause-refused g c =
     let why = box_why layout region index state c.requires.boxed (refusal_of c.in_err-extents.field-0.0) c.in_err-extents.ensures.refused in
     search (rules, why)
 
-pub returns-in_err-extents-clause-outside : goal.returns-in_err-extents-clause-outside
-returns-in_err-extents-clause-outside g c =
-    let t = c.args.target.now in
-    masked_keeps t.cell_size (parent_box t) (target_box t) t.depth (position_count t.parent_shape.now) t.masks.now t.bytes.now
-
-pub returns-in_err-part-clause-outside : goal.returns-in_err-part-clause-outside
-returns-in_err-part-clause-outside g c =
-    let t = c.args.target.now in
-    masked_keeps t.cell_size (parent_box t) (target_box t) t.depth (position_count t.parent_shape.now) t.masks.now t.bytes.now
-
 pub returns-in_default-2-clause-read : goal.returns-in_default-2-clause-read
 returns-in_default-2-clause-read g c =
     let layout = layout_of c.args.self.now in
@@ -91,16 +70,6 @@ returns-in_default-2-clause-read g c =
     let t = c.args.target.now in
     let apart = rw c.in_default-2.is at c.in_ok-part.ensures.none in
     into_apart layout c.args.self.now.layout.lawful (box_of c.args.region.now) state (parent_box t) (target_box t) c.args.filled c.args.chunk_indices.now c.requires.boxed (data_of_target t) apart
-
-pub returns-in_default-2-clause-outside : goal.returns-in_default-2-clause-outside
-returns-in_default-2-clause-outside g c =
-    let t = c.args.target.now in
-    masked_keeps t.cell_size (parent_box t) (target_box t) t.depth (position_count t.parent_shape.now) t.masks.now t.bytes.now
-
-pub returns-in_err-own-clause-outside : goal.returns-in_err-own-clause-outside
-returns-in_err-own-clause-outside g c =
-    let t = c.args.target.now in
-    masked_keeps t.cell_size (parent_box t) (target_box t) t.depth (position_count t.parent_shape.now) t.masks.now t.bytes.now
 
 pub returns-in_default-3-clause-read : goal.returns-in_default-3-clause-read
 returns-in_default-3-clause-read g c =
@@ -110,13 +79,8 @@ returns-in_default-3-clause-read g c =
     let apart = rw c.in_default-3.is at c.in_ok-own.ensures.none in
     into_apart layout c.args.self.now.layout.lawful (box_of c.args.region.now) state (parent_box t) (target_box t) c.args.filled c.args.chunk_indices.now c.requires.boxed (data_of_target t) apart
 
-pub returns-in_default-3-clause-outside : goal.returns-in_default-3-clause-outside
-returns-in_default-3-clause-outside g c =
-    let t = c.args.target.now in
-    masked_keeps t.cell_size (parent_box t) (target_box t) t.depth (position_count t.parent_shape.now) t.masks.now t.bytes.now
-
-pub subdivide-lent-requires-clause-inside : goal.subdivide-lent-requires-clause-inside
-subdivide-lent-requires-clause-inside g c =
+pub subdivide-lent-requires : goal.subdivide-lent-requires
+subdivide-lent-requires g c =
     let layout = layout_of c.args.self.now in
     let t = c.args.target.now in
     let index = c.args.chunk_indices.now in
@@ -126,7 +90,7 @@ subdivide-lent-requires-clause-inside g c =
 pub decode_part_into-done-requires-clause-takes : goal.decode_part_into-done-requires-clause-takes
 decode_part_into-done-requires-clause-takes g c =
     let p = c.subdivide-lent.result.target in
-    let same = c.subdivide-lent.ensures.same_parent in
+    let same = c.subdivide-lent.ensures.bytes in
     same_takes c.args.target.now p (layout_of c.args.self.now).kind same.cell_size same.depth c.requires.takes
 
 pub decode_part_into-done-requires-clause-part : goal.decode_part_into-done-requires-clause-part
@@ -171,7 +135,7 @@ decode_part_into-done-requires-clause-same_shape g c =
     let t = c.args.target.now in
     let shared = rw c.in-Some-2.is at c.in_ok-part.ensures.some in
     let is = rw c.in-Some-3.is at c.in_ok-own.ensures.some in
-    ap (λ (b : Box). b.shape) (ap box_of c.subdivide-lent.ensures.region ∙ is.made_is) ∙ sym (ap (λ (b : Box). b.shape) shared.part_is)
+    ap (λ (b : Box). b.shape) (c.subdivide-lent.ensures.bytes.region ∙ is.made_is) ∙ sym (ap (λ (b : Box). b.shape) shared.part_is)
 
 pub returns-clause-read : goal.returns-clause-read
 returns-clause-read g c =
@@ -183,22 +147,16 @@ returns-clause-read g c =
     let chunk = box_at layout.grid index in
     let over = overlap_of region chunk in
     let t = c.args.target.now in
+    let l = c.subdivide-lent.new.self in
     let p = c.subdivide-lent.result.target in
     let q = c.decode_part_into-done.new.target in
     let u = c.rejoin.new.self in
+    let lent = c.subdivide-lent.ensures in
     let written = c.decode_part_into-done.ensures in
-    let back : IsTakenBack t p q u = record {
-      parent = c.subdivide-lent.ensures.same_parent;
-      lent_masks = c.subdivide-lent.ensures.masks;
-      lent_bytes = c.subdivide-lent.ensures.bytes;
-      written = written.same_box;
-      joined = same_twice t c.subdivide-lent.new.self u c.subdivide-lent.ensures.same_box c.rejoin.ensures.same_box;
-      joined_masks = c.rejoin.ensures.masks;
-      joined_bytes = c.rejoin.ensures.bytes;
-    } in
     let made = box_of c.in-Some-3.own in
+    let lends : IsTakenBack made t l p q u = record { bytes = lent.bytes; masks = lent.masks; lent = lent.lent; kept = written.kept; back = c.rejoin.ensures } in
     let is : IsSharedIn (target_box t) region chunk made = rw c.in-Some-3.is at c.in_ok-own.ensures.some in
-    let made_is : target_box p ≡ made = ap box_of c.subdivide-lent.ensures.region in
+    let made_is : target_box p ≡ made = lent.bytes.region in
     let region_long = c.args.region.now.same_length in
     let chunk_long = box_long layout.grid index in
     let source = c.in-Some.source in
@@ -213,10 +171,10 @@ returns-clause-read g c =
     (λ decodes.
     let cells = subst (λ (s : List ℕ). DecodesPartAt layout.kind s part (layout.chain.decoded layout.kind layout.fill s bytes) (parent_box p) (target_box p) (data_of_target q)) shape decodes in
     let read = part_positions layout lawful state (parent_box p) (target_box p) (origin_long p.parent_shape.now) p.region.now.same_length
-    (lies_at_origin (target_box p) p.parent_shape.now c.subdivide-lent.ensures.target.inside) index c.requires.boxed region over part bytes (data_of_target q) region_long shared
+    (lies_at_origin (target_box p) p.parent_shape.now p.whole.inside) index c.requires.boxed region over part bytes (data_of_target q) region_long shared
     (ap (λ (b : Box). b.shape) (made_is ∙ is.made_is)) (found.1 ∙ ap Some (sym found.2)) cells in
-    back_reads t p q u back t.region.now.same_length region chunk made region_long chunk_long c.requires.same_shape is made_is written.outside
-    layout lawful state c.args.filled index c.requires.boxed refl c.requires.target c.requires.takes read (λ covers broken. c.requires.part covers))
+    back_reads made t l p q u lends region chunk region_long chunk_long c.requires.same_shape is
+    layout lawful state c.args.filled index c.requires.boxed refl c.requires.takes read (λ covers broken. c.requires.part covers))
     written.cells
 
 pub returns-clause-refused : goal.returns-clause-refused
@@ -240,32 +198,13 @@ returns-clause-refused g c =
     (subst (λ (s : List ℕ). RefusesPartBytes layout (record { start = chunk.start; shape = s }) bytes ((state_of_source source).refuses (key_of_source source)) (refusal_of e)) shape why))
     c.decode_part_into-done.ensures.refused
 
-pub returns-clause-outside : goal.returns-clause-outside
-returns-clause-outside g c =
+pub returns-clause-kept : goal.returns-clause-kept
+returns-clause-kept g c =
     let layout = layout_of c.args.self.now in
-    let lawful = c.args.self.now.layout.lawful in
-    let state = g.S.ReadableStorageTraits.state c.args.self.now.storage in
-    let index = c.args.chunk_indices.now in
-    let region = box_of c.args.region.now in
-    let chunk = box_at layout.grid index in
-    let over = overlap_of region chunk in
     let t = c.args.target.now in
-    let p = c.subdivide-lent.result.target in
-    let q = c.decode_part_into-done.new.target in
-    let u = c.rejoin.new.self in
-    let written = c.decode_part_into-done.ensures in
-    let back : IsTakenBack t p q u = record {
-      parent = c.subdivide-lent.ensures.same_parent;
-      lent_masks = c.subdivide-lent.ensures.masks;
-      lent_bytes = c.subdivide-lent.ensures.bytes;
-      written = written.same_box;
-      joined = same_twice t c.subdivide-lent.new.self u c.subdivide-lent.ensures.same_box c.rejoin.ensures.same_box;
-      joined_masks = c.rejoin.ensures.masks;
-      joined_bytes = c.rejoin.ensures.bytes;
-    } in
+    let lent = c.subdivide-lent.ensures in
     let made = box_of c.in-Some-3.own in
-    let is : IsSharedIn (target_box t) region chunk made = rw c.in-Some-3.is at c.in_ok-own.ensures.some in
-    let made_is : target_box p ≡ made = ap box_of c.subdivide-lent.ensures.region in
-    let region_long = c.args.region.now.same_length in
-    let chunk_long = box_long layout.grid index in
-    back_stays t p q u back t.region.now.same_length region chunk made region_long chunk_long c.requires.same_shape is made_is written.outside
+    let chunk = box_at layout.grid c.args.chunk_indices.now in
+    back_kept made t c.subdivide-lent.new.self c.subdivide-lent.result.target c.decode_part_into-done.new.target c.rejoin.new.self
+    (record { bytes = lent.bytes; masks = lent.masks; lent = lent.lent; kept = c.decode_part_into-done.ensures.kept; back = c.rejoin.ensures }) (box_of c.args.region.now) chunk c.args.region.now.same_length
+    (box_long layout.grid c.args.chunk_indices.now) c.requires.same_shape (rw c.in-Some-3.is at c.in_ok-own.ensures.some)

@@ -6,7 +6,6 @@ use Rattle.zarrs_subset.specs.Boxes.{position_count}
 use Rattle.zarrs_subset.specs.Regions.{Box, box_of, positions}
 use Rattle.zarrs_data_type_kinds.proofs.Sizes.{element_size-positive}
 use Rattle.zarrs_data_type.specs.States.{data_of_target, parent_box, target_box}
-use Rattle.zarrs_data_type_region.proofs.TargetLevels.{masked_keeps}
 use Rattle.zarrs_engine_calls.specs.declared.error.ArrayError.{ArrayError}
 use Rattle.zarrs_engine_calls.specs.Reach.{MayReadParts}
 use Rattle.zarrs_engine_calls.specs.Refusals.{Refusal, RefusesBy, refusal_of}
@@ -20,11 +19,6 @@ use Rattle.zarrs_engine.proofs.IntoReads.{content_read, retrieves_into}
 use Rattle.zarrs_engine.proofs.Puts.{each_error}
 use Rattle.zarrs_engine.proofs.engine.Engine.retrieve_array_subset_into.Goals as goal
 
-pub returns-in_err-check_target-clause-outside : goal.returns-in_err-check_target-clause-outside
-returns-in_err-check_target-clause-outside g c =
-    let t = c.args.target.now in
-    masked_keeps t.cell_size (parent_box t) (target_box t) t.depth (position_count t.parent_shape.now) t.masks.now t.bytes.now
-
 pub returns-in_err-chunks-clause-refused : goal.returns-in_err-chunks-clause-refused
 returns-in_err-chunks-clause-refused g c =
     let t = c.args.target.now in
@@ -37,11 +31,6 @@ returns-in_err-chunks-clause-refused g c =
     let same = target_region layout c.args.self.now.layout.lawful region t shape e.dimensions e.takes e.same_shape in
     let why : RefusesRetrieveInto layout shape region t r state = inl (subst (λ (o : Option Refusal). RefusesBy o r) (sym same) c.in_err-chunks.ensures.refused) in
     search (rules, why)
-
-pub returns-in_err-chunks-clause-outside : goal.returns-in_err-chunks-clause-outside
-returns-in_err-chunks-clause-outside g c =
-    let t = c.args.target.now in
-    masked_keeps t.cell_size (parent_box t) (target_box t) t.depth (position_count t.parent_shape.now) t.masks.now t.bytes.now
 
 pub read_into-requires-clause-ask : goal.read_into-requires-clause-ask
 read_into-requires-clause-ask g c =
@@ -64,9 +53,9 @@ returns-clause-cells g c =
     let accepted = target_region layout c.args.self.now.layout.lawful region t shape e.dimensions e.takes e.same_shape ∙ c.in_ok-chunks.ensures.accepted in
     on_ok_weaker c.read_into.result
     (λ read.
-    retrieves_into layout region state t new c.requires.target t.region.now.same_length e.same_shape cover
+    retrieves_into layout region state t new e.same_shape cover
     (subst (λ (b : Box). HasReadInto layout region (positions b) state (parent_box t) (target_box t) (data_of_target new)) is read)
-    shape c.read_into.ensures.target c.read_into.ensures.same_box e.takes (element_size-positive c.args.self.now.layout.data_type) accepted c.read_into.ensures.outside)
+    shape c.read_into.ensures.kept e.takes (element_size-positive c.args.self.now.layout.cell_type.data_type) accepted)
     c.read_into.ensures.read
 
 pub returns-clause-content : goal.returns-clause-content
@@ -81,7 +70,7 @@ returns-clause-content g c =
     let cover = subst (λ (b : Box). CoverRegion layout.grid region (positions b)) is c.in_ok-chunks.ensures.cover in
     on_ok_weaker c.read_into.result
     (λ read.
-    content_read layout region state t new c.requires.target t.region.now.same_length e.same_shape cover
+    content_read layout region state t new e.same_shape cover
     (subst (λ (b : Box). HasReadInto layout region (positions b) state (parent_box t) (target_box t) (data_of_target new)) is read))
     c.read_into.ensures.read
 

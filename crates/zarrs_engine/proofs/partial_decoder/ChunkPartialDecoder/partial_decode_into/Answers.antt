@@ -4,7 +4,6 @@ use Rattle.std.specs.Option.{option_or}
 use Rattle.zarrs_subset.specs.Boxes.{position_count}
 use Rattle.zarrs_subset.specs.Regions.{Box, box_of}
 use Rattle.zarrs_data_type.specs.States.{parent_box, target_box}
-use Rattle.zarrs_data_type_region.proofs.TargetLevels.{masked_keeps}
 use Rattle.zarrs_engine_calls.specs.declared.error.ArrayError.{ArrayError}
 use Rattle.zarrs_engine_calls.specs.Refusals.{Refusal, refusal_of}
 use Rattle.zarrs_engine_layout.proofs.ChunkParts.{chunk_accepted}
@@ -21,11 +20,6 @@ returns-in_err-region-clause-covered g c lies =
     let part = c.args.chunk_subset.now in
     part_region (layout_of decoder.engine.now) decoder.engine.now.layout.lawful decoder.chunk_indices.items decoder.boxed (box_of part) part.same_length lies
     (g.G.ChunkGridTraits.array_extents decoder.engine.now.layout.grid)
-
-pub returns-in_err-region-clause-outside : goal.returns-in_err-region-clause-outside
-returns-in_err-region-clause-outside g c =
-    let t = c.args.target.now in
-    masked_keeps t.cell_size (parent_box t) (target_box t) t.depth (position_count t.parent_shape.now) t.masks.now t.bytes.now
 
 pub retrieve_array_subset_into-requires-clause-ask : goal.retrieve_array_subset_into-requires-clause-ask
 retrieve_array_subset_into-requires-clause-ask g c covered =
