@@ -28,12 +28,12 @@ impl<
     ghost use Rattle.zarrs_engine_calls.specs.StateRefusals.{IsPart, RefusesSomeChunk};
     ghost use Rattle.zarrs_data_type.specs.States.{KeepsTarget, data_of_target};
     ghost use Rattle.zarrs_data_type.specs.States.{parent_box, target_box};
-    ghost use Rattle.zarrs_data_type.specs.Targets.{takes_type};
     ghost use Rattle.zarrs_engine.specs.Engine.{layout_of, state_of, store_of};
     ghost use Rattle.zarrs_engine.specs.Outcomes.{MayRetrieveRegion};
     ghost use Rattle.zarrs_engine.specs.Into.{HasContent, RefusesRetrieveInto, RetrievesInto};
     ghost use Rattle.zarrs_engine.specs.Into.{target_refusal};
-    ghost use Rattle.zarrs_engine.specs.TargetReads.{HasFillElsewhere, HasReadInto, ReadsOneMoreInto};
+    ghost use Rattle.zarrs_engine.specs.TargetReads.{HasFillElsewhere, HasReadInto, ReadsChunkInto};
+    ghost use Rattle.zarrs_engine.specs.TargetReads.{TakesRegion};
 
     /// Reads the region into the target's box, where its cells stand in row-major order. Every byte outside the box
     /// stays.
@@ -84,10 +84,8 @@ impl<
     ) -> Result<(), ArrayError>
         ensures dimensions { OnOk result (length (box_of region.now).start
             ≡ (layout_of self.now).grid.dimensions) }
-        ensures takes { OnOk result (takes_type target.now.cell_size target.now.depth
-            (layout_of self.now).kind ≡ true) }
-        ensures same_shape { OnOk result
-            ((target_box target.now).shape ≡ (box_of region.now).shape) }
+        ensures target { OnOk result (TakesRegion (layout_of self.now) (box_of region.now)
+            target.now) }
         ensures refused { IfErr result (λ e. RefusesBy (target_refusal (layout_of self.now)
             (G.array_extents self.now.layout.grid) (box_of region.now) target.now) (refusal_of e)) }
     {
@@ -120,9 +118,7 @@ impl<
             (positions (box_of chunks.now)) }
         requires ask { MayReadParts (layout_of self.now) (box_of region.now)
             (positions (box_of chunks.now)) (store_of S.state self.now) }
-        requires takes { takes_type target.old.cell_size target.old.depth (layout_of self.now).kind
-            ≡ true }
-        requires same_shape { (target_box target.old).shape ≡ (box_of region.now).shape }
+        requires target { TakesRegion (layout_of self.now) (box_of region.now) target.old }
         requires filled { filled ≡ true → HasFillElsewhere (layout_of self.now) (box_of region.now)
             [] (parent_box target.old) (target_box target.old) (data_of_target target.old) }
         ensures kept { KeepsTarget target.old target.new }
@@ -158,17 +154,9 @@ impl<
             ≡ (layout_of self.now).grid.dimensions }
         requires ask { MayReadPart (layout_of self.now) (box_of region.now) chunk_indices.now
             (store_of S.state self.now) }
-        requires takes { takes_type target.old.cell_size target.old.depth (layout_of self.now).kind
-            ≡ true }
-        requires same_shape { (target_box target.old).shape ≡ (box_of region.now).shape }
-        ensures kept { KeepsTarget target.old target.new }
-        ensures read { OnOk result (ReadsOneMoreInto (layout_of self.now) filled
-            (box_of region.now) chunk_indices.now (store_of S.state self.now)
-            (parent_box target.old) (target_box target.old) (data_of_target target.old)
-            (data_of_target target.new)) }
-        ensures refused { IfErr result (λ e. RefusesSomeChunk (layout_of self.now)
-            (box_of region.now) (chunk_indices.now ∷ []) (store_of S.state self.now)
-            (refusal_of e)) }
+        requires target { TakesRegion (layout_of self.now) (box_of region.now) target.old }
+        ensures { ReadsChunkInto (layout_of self.now) filled (box_of region.now)
+            chunk_indices.now (store_of S.state self.now) target.old target.new result }
     {
         if covers_chunk(&self.layout.grid, region, chunk_indices) {
             return self.read_whole_into(alloc, region, chunk_indices, target, filled);
@@ -193,17 +181,9 @@ impl<
             (box_of region.now) }
         requires ask { MayAskChunk (layout_of self.now) chunk_indices.now
             (store_of S.state self.now) }
-        requires takes { takes_type target.old.cell_size target.old.depth (layout_of self.now).kind
-            ≡ true }
-        requires same_shape { (target_box target.old).shape ≡ (box_of region.now).shape }
-        ensures kept { KeepsTarget target.old target.new }
-        ensures read { OnOk result (ReadsOneMoreInto (layout_of self.now) filled
-            (box_of region.now) chunk_indices.now (store_of S.state self.now)
-            (parent_box target.old) (target_box target.old) (data_of_target target.old)
-            (data_of_target target.new)) }
-        ensures refused { IfErr result (λ e. RefusesSomeChunk (layout_of self.now)
-            (box_of region.now) (chunk_indices.now ∷ []) (store_of S.state self.now)
-            (refusal_of e)) }
+        requires target { TakesRegion (layout_of self.now) (box_of region.now) target.old }
+        ensures { ReadsChunkInto (layout_of self.now) filled (box_of region.now)
+            chunk_indices.now (store_of S.state self.now) target.old target.new result }
     {
         let Some(encoded) = self.stored_bytes(alloc, chunk_indices)? else {
             return self.read_absent_into(alloc, region, chunk_indices, target, filled);
@@ -242,17 +222,9 @@ impl<
         requires ask { MayDecodePart (layout_of self.now) (chunk_part (box_of region.now)
             (box_at (layout_of self.now).grid chunk_indices.now)) chunk_indices.now
             (store_of S.state self.now) }
-        requires takes { takes_type target.old.cell_size target.old.depth (layout_of self.now).kind
-            ≡ true }
-        requires same_shape { (target_box target.old).shape ≡ (box_of region.now).shape }
-        ensures kept { KeepsTarget target.old target.new }
-        ensures read { OnOk result (ReadsOneMoreInto (layout_of self.now) filled
-            (box_of region.now) chunk_indices.now (store_of S.state self.now)
-            (parent_box target.old) (target_box target.old) (data_of_target target.old)
-            (data_of_target target.new)) }
-        ensures refused { IfErr result (λ e. RefusesSomeChunk (layout_of self.now)
-            (box_of region.now) (chunk_indices.now ∷ []) (store_of S.state self.now)
-            (refusal_of e)) }
+        requires target { TakesRegion (layout_of self.now) (box_of region.now) target.old }
+        ensures { ReadsChunkInto (layout_of self.now) filled (box_of region.now)
+            chunk_indices.now (store_of S.state self.now) target.old target.new result }
     {
         let key = self.layout.chunk_key(alloc, chunk_indices)?;
         let Some(source) = StoredValue::open(alloc, &self.storage, &key)? else {
@@ -290,17 +262,9 @@ impl<
             ≡ (layout_of self.now).grid.dimensions }
         requires absent { value_at (store_of S.state self.now)
             ((layout_of self.now).key chunk_indices.now) ≡ None }
-        requires takes { takes_type target.old.cell_size target.old.depth (layout_of self.now).kind
-            ≡ true }
-        requires same_shape { (target_box target.old).shape ≡ (box_of region.now).shape }
-        ensures kept { KeepsTarget target.old target.new }
-        ensures read { OnOk result (ReadsOneMoreInto (layout_of self.now) filled
-            (box_of region.now) chunk_indices.now (store_of S.state self.now)
-            (parent_box target.old) (target_box target.old) (data_of_target target.old)
-            (data_of_target target.new)) }
-        ensures refused { IfErr result (λ e. RefusesSomeChunk (layout_of self.now)
-            (box_of region.now) (chunk_indices.now ∷ []) (store_of S.state self.now)
-            (refusal_of e)) }
+        requires target { TakesRegion (layout_of self.now) (box_of region.now) target.old }
+        ensures { ReadsChunkInto (layout_of self.now) filled (box_of region.now)
+            chunk_indices.now (store_of S.state self.now) target.old target.new result }
     {
         if filled {
             return Ok(());

@@ -5,6 +5,7 @@ use Rattle.zarrs_subset.proofs.Inside.{holds_inside}
 use Rattle.zarrs_chunk_grid.specs.Grids.{box_at}
 use Rattle.zarrs_chunk_grid.proofs.Chunks.{box_long}
 use Rattle.zarrs_data_type.specs.States.{data_of_target, parent_box, target_box}
+use Rattle.zarrs_data_type_region.proofs.Kept.{keeps_itself}
 use Rattle.zarrs_data_type_region.proofs.TargetBoxes.{lies_at_origin, origin_long}
 use Rattle.zarrs_engine_calls.specs.Content.{value_at}
 use Rattle.zarrs_engine_calls.proofs.Contents.{absent_fill}
@@ -16,48 +17,41 @@ use Rattle.zarrs_engine.proofs.LentParts.{IsTakenBack, back_kept, back_reads, ma
 use Rattle.zarrs_engine.proofs.TargetReads.{filled_positions, into_absent, into_apart, is_long}
 use Rattle.zarrs_engine.proofs.engine.Engine.read_absent_into.Goals as goal
 
-pub returns-then-filled-clause-read : goal.returns-then-filled-clause-read
-returns-then-filled-clause-read g c =
+pub returns-then-filled : goal.returns-then-filled
+returns-then-filled g c =
     let layout = layout_of c.args.self.now in
     let state = g.S.ReadableStorageTraits.state c.args.self.now.storage in
     let t = c.args.target.now in
-    into_absent layout c.args.self.now.layout.lawful (box_of c.args.region.now) state (parent_box t) (target_box t) c.args.filled c.args.chunk_indices.now c.requires.boxed (data_of_target t) c.if-filled.true c.requires.absent
+    let read =
+    into_absent layout c.args.self.now.layout.lawful (box_of c.args.region.now) state (parent_box t) (target_box t) c.args.filled c.args.chunk_indices.now c.requires.boxed (data_of_target t) c.if-filled.true c.requires.absent in
+    record { kept = keeps_itself t; read = read; refused = tt }
 
-pub returns-in_default-clause-read : goal.returns-in_default-clause-read
-returns-in_default-clause-read g c =
+pub returns-in_default : goal.returns-in_default
+returns-in_default g c =
     let layout = layout_of c.args.self.now in
     let state = g.S.ReadableStorageTraits.state c.args.self.now.storage in
     let t = c.args.target.now in
     let apart = rw c.in_default.is at c.in_ok-own.ensures.none in
-    into_apart layout c.args.self.now.layout.lawful (box_of c.args.region.now) state (parent_box t) (target_box t) c.args.filled c.args.chunk_indices.now c.requires.boxed (data_of_target t) apart
+    let read =
+    into_apart layout c.args.self.now.layout.lawful (box_of c.args.region.now) state (parent_box t) (target_box t) c.args.filled c.args.chunk_indices.now c.requires.boxed (data_of_target t) apart in
+    record { kept = keeps_itself t; read = read; refused = tt }
 
 pub subdivide-part-requires : goal.subdivide-part-requires
 subdivide-part-requires g c =
     let layout = layout_of c.args.self.now in
     let t = c.args.target.now in
     let index = c.args.chunk_indices.now in
-    made_lies (target_box t) (box_of c.args.region.now) (box_at layout.grid index) (box_of c.in-Some.own) t.region.now.same_length c.args.region.now.same_length (box_long layout.grid index) c.requires.same_shape
+    made_lies (target_box t) (box_of c.args.region.now) (box_at layout.grid index) (box_of c.in-Some.own) t.region.now.same_length c.args.region.now.same_length (box_long layout.grid index) c.requires.target.same_shape
     (rw c.in-Some.is at c.in_ok-own.ensures.some)
 
 pub copy_fill_value_into-done-requires-clause-takes : goal.copy_fill_value_into-done-requires-clause-takes
 copy_fill_value_into-done-requires-clause-takes g c =
     let p = c.subdivide-part.result.target in
     let same = c.subdivide-part.ensures.bytes in
-    same_takes c.args.target.now p (layout_of c.args.self.now).kind same.cell_size same.depth c.requires.takes
+    same_takes c.args.target.now p (layout_of c.args.self.now).kind same.cell_size same.depth c.requires.target.takes
 
-pub returns-in_err-done-clause-kept : goal.returns-in_err-done-clause-kept
-returns-in_err-done-clause-kept g c =
-    let layout = layout_of c.args.self.now in
-    let t = c.args.target.now in
-    let lent = c.subdivide-part.ensures in
-    let made = box_of c.in-Some.own in
-    let chunk = box_at layout.grid c.args.chunk_indices.now in
-    back_kept made t c.subdivide-part.new.self c.subdivide-part.result.target c.copy_fill_value_into-done.new.target c.rejoin.new.self
-    (record { bytes = lent.bytes; masks = lent.masks; lent = lent.lent; kept = c.copy_fill_value_into-done.ensures.kept; back = c.rejoin.ensures }) (box_of c.args.region.now) chunk c.args.region.now.same_length
-    (box_long layout.grid c.args.chunk_indices.now) c.requires.same_shape (rw c.in-Some.is at c.in_ok-own.ensures.some)
-
-pub returns-clause-read : goal.returns-clause-read
-returns-clause-read g c =
+pub returns : goal.returns
+returns g c =
     let layout = layout_of c.args.self.now in
     let lawful = c.args.self.now.layout.lawful in
     let state = g.S.ReadableStorageTraits.state c.args.self.now.storage in
@@ -86,17 +80,8 @@ returns-clause-read g c =
     (λ position holds.
     absent_fill layout (value_at state) lawful index c.requires.boxed c.requires.absent position (holds_inside over chunk position over_long chunk_long is.shared.in_chunk holds))
     fills in
-    back_reads made t l p q u lends region chunk region_long chunk_long c.requires.same_shape is
-    layout lawful state c.args.filled index c.requires.boxed refl c.requires.takes read
-    (λ covers broken. let clash : None ≡ Some broken.encoded = sym c.requires.absent ∙ broken.stands in cc)
-
-pub returns-clause-kept : goal.returns-clause-kept
-returns-clause-kept g c =
-    let layout = layout_of c.args.self.now in
-    let t = c.args.target.now in
-    let lent = c.subdivide-part.ensures in
-    let made = box_of c.in-Some.own in
-    let chunk = box_at layout.grid c.args.chunk_indices.now in
-    back_kept made t c.subdivide-part.new.self c.subdivide-part.result.target c.copy_fill_value_into-done.new.target c.rejoin.new.self
-    (record { bytes = lent.bytes; masks = lent.masks; lent = lent.lent; kept = c.copy_fill_value_into-done.ensures.kept; back = c.rejoin.ensures }) (box_of c.args.region.now) chunk c.args.region.now.same_length
-    (box_long layout.grid c.args.chunk_indices.now) c.requires.same_shape (rw c.in-Some.is at c.in_ok-own.ensures.some)
+    let read =
+    back_reads made t l p q u lends region chunk region_long chunk_long c.requires.target.same_shape is
+    layout lawful state c.args.filled index c.requires.boxed refl c.requires.target.takes read
+    (λ covers broken. let clash : None ≡ Some broken.encoded = sym c.requires.absent ∙ broken.stands in cc) in
+    record { kept = back_kept made t l p q u lends region chunk region_long chunk_long c.requires.target.same_shape is; read = read; refused = tt }

@@ -55,13 +55,13 @@ read_chunk_into-requires-clause-ask g c =
     let at = subst (λ (b : Box). slice_get (positions b) n ≡ Some index) c.loop-walk.invariant.same_box c.current.ensures in
     c.requires.ask index (at_among chunks n index at)
 
-pub read_chunk_into-requires-clause-takes : goal.read_chunk_into-requires-clause-takes
-read_chunk_into-requires-clause-takes g c =
+pub read_chunk_into-requires-clause-target : goal.read_chunk_into-requires-clause-target
+read_chunk_into-requires-clause-target g c =
     let same = c.loop-walk.invariant.kept.same in
-    same_takes c.args.target.now c.loop-walk.target (layout_of c.args.self.now).kind same.cell_size same.depth c.requires.takes
-
-pub read_chunk_into-requires-clause-same_shape : goal.read_chunk_into-requires-clause-same_shape
-read_chunk_into-requires-clause-same_shape g c = ap (λ (b : Box). b.shape) (ap box_of c.loop-walk.invariant.kept.same.region) ∙ c.requires.same_shape
+    record {
+      takes = same_takes c.args.target.now c.loop-walk.target (layout_of c.args.self.now).kind same.cell_size same.depth c.requires.target.takes;
+      same_shape = ap (λ (b : Box). b.shape) (ap box_of same.region) ∙ c.requires.target.same_shape;
+    }
 
 pub loop-walk-smaller : goal.loop-walk-smaller
 loop-walk-smaller g c =

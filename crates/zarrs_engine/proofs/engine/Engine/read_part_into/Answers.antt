@@ -6,6 +6,7 @@ use Rattle.zarrs_chunk_grid.specs.Grids.{box_at}
 use Rattle.zarrs_chunk_grid.proofs.Chunks.{box_long}
 use Rattle.zarrs_storage.specs.Store.{StoreState}
 use Rattle.zarrs_data_type.specs.States.{data_of_target, parent_box, target_box}
+use Rattle.zarrs_data_type_region.proofs.Kept.{keeps_itself}
 use Rattle.zarrs_data_type_region.proofs.TargetBoxes.{lies_at_origin, origin_long}
 use Rattle.zarrs_codec_chain.specs.Parts.{DecodesPartAt}
 use Rattle.zarrs_codec_leaf.specs.Stored.{key_of_source, state_of_source, value_or_empty}
@@ -33,8 +34,8 @@ open-requires g c =
     let words = index_list layout c.args.self.now.layout.lawful index c.requires.boxed in
     subst (λ (key : List ℕ). state.may_ask key ≡ true) (sym c.in_ok-key.ensures.key) (c.requires.ask.key words)
 
-pub returns-in_err-source-clause-refused : goal.returns-in_err-source-clause-refused
-returns-in_err-source-clause-refused g c =
+pub returns-in_err-source : goal.returns-in_err-source
+returns-in_err-source g c =
     let layout = layout_of c.args.self.now in
     let state = g.S.ReadableStorageTraits.state c.args.self.now.storage in
     let region = box_of c.args.region.now in
@@ -42,7 +43,8 @@ returns-in_err-source-clause-refused g c =
     let chunk = box_at layout.grid index in
     let e = c.in_err-source.field-0.0 in
     let why : RefusesSomeChunk layout region (index ∷ []) state (refusal_of (error_of_storage e)) = key_why layout region index state c.requires.boxed _ e c.in_ok-key.ensures.key c.in_err-source.ensures.refused in
-    search (rules, why)
+    let kept = keeps_itself c.args.target.now in
+    search (rules, why, kept)
 
 pub read_absent_into-requires-clause-absent : goal.read_absent_into-requires-clause-absent
 read_absent_into-requires-clause-absent g c =
@@ -53,45 +55,50 @@ read_absent_into-requires-clause-absent g c =
     let chunk = box_at layout.grid index in
     ap (value_at state) (sym c.in_ok-key.ensures.key) ∙ (rw c.in_default.is at c.in_ok-source.ensures.absent)
 
-pub returns-in_err-extents-clause-refused : goal.returns-in_err-extents-clause-refused
-returns-in_err-extents-clause-refused g c =
+pub returns-in_err-extents : goal.returns-in_err-extents
+returns-in_err-extents g c =
     let layout = layout_of c.args.self.now in
     let state = g.S.ReadableStorageTraits.state c.args.self.now.storage in
     let region = box_of c.args.region.now in
     let index = c.args.chunk_indices.now in
     let chunk = box_at layout.grid index in
     let why = box_why layout region index state c.requires.boxed (refusal_of c.in_err-extents.field-0.0) c.in_err-extents.ensures.refused in
-    search (rules, why)
+    let kept = keeps_itself c.args.target.now in
+    search (rules, why, kept)
 
-pub returns-in_default-2-clause-read : goal.returns-in_default-2-clause-read
-returns-in_default-2-clause-read g c =
+pub returns-in_default-2 : goal.returns-in_default-2
+returns-in_default-2 g c =
     let layout = layout_of c.args.self.now in
     let state = g.S.ReadableStorageTraits.state c.args.self.now.storage in
     let t = c.args.target.now in
     let apart = rw c.in_default-2.is at c.in_ok-part.ensures.none in
-    into_apart layout c.args.self.now.layout.lawful (box_of c.args.region.now) state (parent_box t) (target_box t) c.args.filled c.args.chunk_indices.now c.requires.boxed (data_of_target t) apart
+    let read =
+    into_apart layout c.args.self.now.layout.lawful (box_of c.args.region.now) state (parent_box t) (target_box t) c.args.filled c.args.chunk_indices.now c.requires.boxed (data_of_target t) apart in
+    record { kept = keeps_itself t; read = read; refused = tt }
 
-pub returns-in_default-3-clause-read : goal.returns-in_default-3-clause-read
-returns-in_default-3-clause-read g c =
+pub returns-in_default-3 : goal.returns-in_default-3
+returns-in_default-3 g c =
     let layout = layout_of c.args.self.now in
     let state = g.S.ReadableStorageTraits.state c.args.self.now.storage in
     let t = c.args.target.now in
     let apart = rw c.in_default-3.is at c.in_ok-own.ensures.none in
-    into_apart layout c.args.self.now.layout.lawful (box_of c.args.region.now) state (parent_box t) (target_box t) c.args.filled c.args.chunk_indices.now c.requires.boxed (data_of_target t) apart
+    let read =
+    into_apart layout c.args.self.now.layout.lawful (box_of c.args.region.now) state (parent_box t) (target_box t) c.args.filled c.args.chunk_indices.now c.requires.boxed (data_of_target t) apart in
+    record { kept = keeps_itself t; read = read; refused = tt }
 
 pub subdivide-lent-requires : goal.subdivide-lent-requires
 subdivide-lent-requires g c =
     let layout = layout_of c.args.self.now in
     let t = c.args.target.now in
     let index = c.args.chunk_indices.now in
-    made_lies (target_box t) (box_of c.args.region.now) (box_at layout.grid index) (box_of c.in-Some-3.own) t.region.now.same_length c.args.region.now.same_length (box_long layout.grid index) c.requires.same_shape
+    made_lies (target_box t) (box_of c.args.region.now) (box_at layout.grid index) (box_of c.in-Some-3.own) t.region.now.same_length c.args.region.now.same_length (box_long layout.grid index) c.requires.target.same_shape
     (rw c.in-Some-3.is at c.in_ok-own.ensures.some)
 
 pub decode_part_into-done-requires-clause-takes : goal.decode_part_into-done-requires-clause-takes
 decode_part_into-done-requires-clause-takes g c =
     let p = c.subdivide-lent.result.target in
     let same = c.subdivide-lent.ensures.bytes in
-    same_takes c.args.target.now p (layout_of c.args.self.now).kind same.cell_size same.depth c.requires.takes
+    same_takes c.args.target.now p (layout_of c.args.self.now).kind same.cell_size same.depth c.requires.target.takes
 
 pub decode_part_into-done-requires-clause-part : goal.decode_part_into-done-requires-clause-part
 decode_part_into-done-requires-clause-part g c =
@@ -137,8 +144,8 @@ decode_part_into-done-requires-clause-same_shape g c =
     let is = rw c.in-Some-3.is at c.in_ok-own.ensures.some in
     ap (λ (b : Box). b.shape) (c.subdivide-lent.ensures.bytes.region ∙ is.made_is) ∙ sym (ap (λ (b : Box). b.shape) shared.part_is)
 
-pub returns-clause-read : goal.returns-clause-read
-returns-clause-read g c =
+pub returns : goal.returns
+returns g c =
     let layout = layout_of c.args.self.now in
     let lawful = c.args.self.now.layout.lawful in
     let state = g.S.ReadableStorageTraits.state c.args.self.now.storage in
@@ -167,44 +174,24 @@ returns-clause-read g c =
     let shared = rw c.in-Some-2.is at c.in_ok-part.ensures.some in
     let shape : c.as_slice-shape.result.now ≡ chunk.shape = c.as_slice-shape.ensures ∙ c.in_ok-extents.ensures.shape in
     let bytes = value_or_empty (state_of_source source) (key_of_source source) in
-    on_ok_weaker c.decode_part_into-done.result
-    (λ decodes.
-    let cells = subst (λ (s : List ℕ). DecodesPartAt layout.kind s part (layout.chain.decoded layout.kind layout.fill s bytes) (parent_box p) (target_box p) (data_of_target q)) shape decodes in
-    let read = part_positions layout lawful state (parent_box p) (target_box p) (origin_long p.parent_shape.now) p.region.now.same_length
-    (lies_at_origin (target_box p) p.parent_shape.now p.whole.inside) index c.requires.boxed region over part bytes (data_of_target q) region_long shared
-    (ap (λ (b : Box). b.shape) (made_is ∙ is.made_is)) (found.1 ∙ ap Some (sym found.2)) cells in
-    back_reads made t l p q u lends region chunk region_long chunk_long c.requires.same_shape is
-    layout lawful state c.args.filled index c.requires.boxed refl c.requires.takes read (λ covers broken. c.requires.part covers))
-    written.cells
-
-pub returns-clause-refused : goal.returns-clause-refused
-returns-clause-refused g c =
-    let layout = layout_of c.args.self.now in
-    let state = g.S.ReadableStorageTraits.state c.args.self.now.storage in
-    let region = box_of c.args.region.now in
-    let index = c.args.chunk_indices.now in
-    let chunk = box_at layout.grid index in
-    let source = c.in-Some.source in
-    let state_is : state_of_source source ≡ state = rw c.in-Some.is at c.in_ok-source.ensures.state in
-    let key_is : key_of_source source ≡ layout.key index = (rw c.in-Some.is at c.in_ok-source.ensures.key) ∙ c.in_ok-key.ensures.key in
-    let found = source_value (state_of_source source) state (key_of_source source) (layout.key index) source.size state_is key_is source.sized in
-    let bytes = value_or_empty (state_of_source source) (key_of_source source) in
-    let shape : c.as_slice-shape.result.now ≡ chunk.shape = c.as_slice-shape.ensures ∙ c.in_ok-extents.ensures.shape in
     let same : (state_of_source source).refuses (key_of_source source) ≡ state.refuses (layout.key index) =
     ap (λ (s : StoreState). s.refuses (key_of_source source)) state_is ∙ ap state.refuses key_is in
-    IfErr-weaker c.decode_part_into-done.result _ _
-    (λ e why.
-    part_why layout region index state c.requires.boxed c.requires.part bytes ((state_of_source source).refuses (key_of_source source)) chunk refl same (found.1 ∙ ap Some (sym found.2)) (refusal_of e)
-    (subst (λ (s : List ℕ). RefusesPartBytes layout (record { start = chunk.start; shape = s }) bytes ((state_of_source source).refuses (key_of_source source)) (refusal_of e)) shape why))
-    c.decode_part_into-done.ensures.refused
-
-pub returns-clause-kept : goal.returns-clause-kept
-returns-clause-kept g c =
-    let layout = layout_of c.args.self.now in
-    let t = c.args.target.now in
-    let lent = c.subdivide-lent.ensures in
-    let made = box_of c.in-Some-3.own in
-    let chunk = box_at layout.grid c.args.chunk_indices.now in
-    back_kept made t c.subdivide-lent.new.self c.subdivide-lent.result.target c.decode_part_into-done.new.target c.rejoin.new.self
-    (record { bytes = lent.bytes; masks = lent.masks; lent = lent.lent; kept = c.decode_part_into-done.ensures.kept; back = c.rejoin.ensures }) (box_of c.args.region.now) chunk c.args.region.now.same_length
-    (box_long layout.grid c.args.chunk_indices.now) c.requires.same_shape (rw c.in-Some-3.is at c.in_ok-own.ensures.some)
+    record {
+      kept = back_kept made t l p q u lends region chunk region_long chunk_long c.requires.target.same_shape is;
+      read =
+          on_ok_weaker c.decode_part_into-done.result
+          (λ decodes.
+          let cells = subst (λ (s : List ℕ). DecodesPartAt layout.kind s part (layout.chain.decoded layout.kind layout.fill s bytes) (parent_box p) (target_box p) (data_of_target q)) shape decodes in
+          let read = part_positions layout lawful state (parent_box p) (target_box p) (origin_long p.parent_shape.now) p.region.now.same_length
+          (lies_at_origin (target_box p) p.parent_shape.now p.whole.inside) index c.requires.boxed region over part bytes (data_of_target q) region_long shared
+          (ap (λ (b : Box). b.shape) (made_is ∙ is.made_is)) (found.1 ∙ ap Some (sym found.2)) cells in
+          back_reads made t l p q u lends region chunk region_long chunk_long c.requires.target.same_shape is
+          layout lawful state c.args.filled index c.requires.boxed refl c.requires.target.takes read (λ covers broken. c.requires.part covers))
+          written.cells;
+      refused =
+          IfErr-weaker c.decode_part_into-done.result _ _
+          (λ e why.
+          part_why layout region index state c.requires.boxed c.requires.part bytes ((state_of_source source).refuses (key_of_source source)) chunk refl same (found.1 ∙ ap Some (sym found.2)) (refusal_of e)
+          (subst (λ (s : List ℕ). RefusesPartBytes layout (record { start = chunk.start; shape = s }) bytes ((state_of_source source).refuses (key_of_source source)) (refusal_of e)) shape why))
+          written.refused;
+    }

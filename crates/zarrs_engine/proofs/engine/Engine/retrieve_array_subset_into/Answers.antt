@@ -28,7 +28,7 @@ returns-in_err-chunks-clause-refused g c =
     let region = box_of c.args.array_subset.now in
     let e = c.in_ok-check_target.ensures in
     let r = refusal_of c.in_err-chunks.field-0.0 in
-    let same = target_region layout c.args.self.now.layout.lawful region t shape e.dimensions e.takes e.same_shape in
+    let same = target_region layout c.args.self.now.layout.lawful region t shape e.dimensions e.target.takes e.target.same_shape in
     let why : RefusesRetrieveInto layout shape region t r state = inl (subst (λ (o : Option Refusal). RefusesBy o r) (sym same) c.in_err-chunks.ensures.refused) in
     search (rules, why)
 
@@ -50,12 +50,12 @@ returns-clause-cells g c =
     let e = c.in_ok-check_target.ensures in
     let is = c.in_ok-chunks.ensures.chunks in
     let cover = subst (λ (b : Box). CoverRegion layout.grid region (positions b)) is c.in_ok-chunks.ensures.cover in
-    let accepted = target_region layout c.args.self.now.layout.lawful region t shape e.dimensions e.takes e.same_shape ∙ c.in_ok-chunks.ensures.accepted in
+    let accepted = target_region layout c.args.self.now.layout.lawful region t shape e.dimensions e.target.takes e.target.same_shape ∙ c.in_ok-chunks.ensures.accepted in
     on_ok_weaker c.read_into.result
     (λ read.
-    retrieves_into layout region state t new e.same_shape cover
+    retrieves_into layout region state t new e.target.same_shape cover
     (subst (λ (b : Box). HasReadInto layout region (positions b) state (parent_box t) (target_box t) (data_of_target new)) is read)
-    shape c.read_into.ensures.kept e.takes (element_size-positive c.args.self.now.layout.cell_type.data_type) accepted)
+    shape c.read_into.ensures.kept e.target.takes (element_size-positive c.args.self.now.layout.cell_type.data_type) accepted)
     c.read_into.ensures.read
 
 pub returns-clause-content : goal.returns-clause-content
@@ -70,7 +70,7 @@ returns-clause-content g c =
     let cover = subst (λ (b : Box). CoverRegion layout.grid region (positions b)) is c.in_ok-chunks.ensures.cover in
     on_ok_weaker c.read_into.result
     (λ read.
-    content_read layout region state t new e.same_shape cover
+    content_read layout region state t new e.target.same_shape cover
     (subst (λ (b : Box). HasReadInto layout region (positions b) state (parent_box t) (target_box t) (data_of_target new)) is read))
     c.read_into.ensures.read
 
@@ -83,7 +83,7 @@ returns-clause-refused g c =
     let region = box_of c.args.array_subset.now in
     let e = c.in_ok-check_target.ensures in
     let chunks = box_of c.in_ok-chunks.chunks in
-    let accepted = target_region layout c.args.self.now.layout.lawful region t shape e.dimensions e.takes e.same_shape ∙ c.in_ok-chunks.ensures.accepted in
+    let accepted = target_region layout c.args.self.now.layout.lawful region t shape e.dimensions e.target.takes e.target.same_shape ∙ c.in_ok-chunks.ensures.accepted in
     each_error c.read_into.result (λ (e : ArrayError). RefusesSomeChunk layout region (positions chunks) state (refusal_of e)) (λ (e : ArrayError). RefusesRetrieveInto layout shape region t (refusal_of e) state)
     (λ e why. inr (accepted, subst (λ (b : Box). RefusesSomeChunk layout region (positions b) state (refusal_of e)) c.in_ok-chunks.ensures.chunks why))
     c.read_into.ensures.refused
@@ -100,7 +100,7 @@ returns-clause-kept_bytes g c =
     let shape = g.G.ChunkGridTraits.array_extents c.args.self.now.layout.grid in
     let region = box_of c.args.array_subset.now in
     let e = c.in_ok-check_target.ensures in
-    let accepted = target_region layout c.args.self.now.layout.lawful region t shape e.dimensions e.takes e.same_shape ∙ c.in_ok-chunks.ensures.accepted in
+    let accepted = target_region layout c.args.self.now.layout.lawful region t shape e.dimensions e.target.takes e.target.same_shape ∙ c.in_ok-chunks.ensures.accepted in
     kept c.read_into.result (target_refusal layout shape region t) _ accepted
 
 pub returns-clause-kept_masks : goal.returns-clause-kept_masks
@@ -110,7 +110,7 @@ returns-clause-kept_masks g c =
     let shape = g.G.ChunkGridTraits.array_extents c.args.self.now.layout.grid in
     let region = box_of c.args.array_subset.now in
     let e = c.in_ok-check_target.ensures in
-    let accepted = target_region layout c.args.self.now.layout.lawful region t shape e.dimensions e.takes e.same_shape ∙ c.in_ok-chunks.ensures.accepted in
+    let accepted = target_region layout c.args.self.now.layout.lawful region t shape e.dimensions e.target.takes e.target.same_shape ∙ c.in_ok-chunks.ensures.accepted in
     kept c.read_into.result (target_refusal layout shape region t) _ accepted
 
 pub read_into-requires-clause-filled : goal.read_into-requires-clause-filled
