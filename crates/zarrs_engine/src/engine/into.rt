@@ -17,7 +17,7 @@ impl<
     K: ChunkKeyEncodingTraits,
     C: ChainTraits,
 > Engine<S, G, K, C> {
-    ghost use Rattle.std.specs.Prelude.{◌≡◌, ◌∷◌, [], true, IfErr, IsSome, None, OnErr, OnOk, length};
+    ghost use Rattle.std.specs.Prelude.{◌≡◌, ◌∷◌, [], true, IfErr, None, OnOk, length};
     ghost use Rattle.zarrs_chunk_grid.specs.Grids.{box_at, has_box};
     ghost use Rattle.zarrs_engine_layout.specs.Covers.{CoverRegion};
     ghost use Rattle.zarrs_subset.specs.Regions.{LiesInBox, box_of, positions};
@@ -28,10 +28,9 @@ impl<
     ghost use Rattle.zarrs_engine_calls.specs.StateRefusals.{IsPart, RefusesSomeChunk};
     ghost use Rattle.zarrs_data_type.specs.States.{KeepsTarget, data_of_target};
     ghost use Rattle.zarrs_data_type.specs.States.{parent_box, target_box};
-    ghost use Rattle.zarrs_engine.specs.Engine.{layout_of, state_of, store_of};
+    ghost use Rattle.zarrs_engine.specs.Engine.{layout_of, store_of};
     ghost use Rattle.zarrs_engine.specs.Outcomes.{MayRetrieveRegion};
-    ghost use Rattle.zarrs_engine.specs.Into.{HasContent, RefusesRetrieveInto, RetrievesInto};
-    ghost use Rattle.zarrs_engine.specs.Into.{target_refusal};
+    ghost use Rattle.zarrs_engine.specs.Into.{RetrievesIntoOrRefuses, target_refusal};
     ghost use Rattle.zarrs_engine.specs.TargetReads.{HasFillElsewhere, HasReadInto, ReadsChunkInto};
     ghost use Rattle.zarrs_engine.specs.TargetReads.{TakesRegion};
 
@@ -50,22 +49,9 @@ impl<
         array_subset: &ArraySubset,
         target: &mut ArrayBytesDecodeIntoTarget<'_, '_, '_>,
     ) -> Result<(), ArrayError>
-        requires ask { MayRetrieveRegion S.state (box_of array_subset.now) self.now }
-        ensures kept { KeepsTarget target.old target.new }
-        ensures cells { OnOk result (RetrievesInto (layout_of self.now)
-            (state_of S.state self.now).shape (box_of array_subset.now)
-            (store_of S.state self.now) target.old target.new) }
-        ensures content { OnOk result (HasContent (layout_of self.now) (box_of array_subset.now)
-            (store_of S.state self.now) target.old target.new) }
-        ensures refused { IfErr result (λ e. RefusesRetrieveInto (layout_of self.now)
-            (state_of S.state self.now).shape (box_of array_subset.now) target.old (refusal_of e)
-            (store_of S.state self.now)) }
-        ensures kept_bytes { OnErr result (IsSome (target_refusal (layout_of self.now)
-            (state_of S.state self.now).shape (box_of array_subset.now) target.old)
-            → target.new.bytes.now ≡ target.old.bytes.now) }
-        ensures kept_masks { OnErr result (IsSome (target_refusal (layout_of self.now)
-            (state_of S.state self.now).shape (box_of array_subset.now) target.old)
-            → target.new.masks.now ≡ target.old.masks.now) }
+        requires { MayRetrieveRegion S.state (box_of array_subset.now) self.now }
+        ensures { RetrievesIntoOrRefuses S.state (box_of array_subset.now) self.now target.old
+            target.new result }
     {
         self.check_target(alloc, array_subset, target)?;
         let chunks = self.layout.chunks_met(alloc, array_subset)?;
