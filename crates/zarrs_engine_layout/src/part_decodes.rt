@@ -29,7 +29,7 @@ impl<G: ChunkGridTraits, K: ChunkKeyEncodingTraits, C: ChainTraits> ArrayLayout<
     ///
     /// # Errors
     /// One of these: E4 if the bytes do not decode, though a part of them may; E7 if the source refuses; E8 if what the
-    /// chain decodes whole, the chunk or a subchunk, has more bytes than a `usize` counts, or so has its fill where the
+    /// chain decodes whole for the part, the chunk or a subchunk that it meets, has more bytes than a `usize` counts, or so has its fill where the
     /// bytes leave out cells. E9 may come at any time.
     pub fn decode_part<B: ByteSource>(
         &self,
@@ -47,8 +47,8 @@ impl<G: ChunkGridTraits, K: ChunkKeyEncodingTraits, C: ChainTraits> ArrayLayout<
             shape.now (box_of part.now) (decoded_cells (layout_meaning self.now)
             (box_at_origin shape.now) (B.bytes source.now)) (data_of made)) }
         ensures refused { IfErr result (λ e. RefusesPartBytes (layout_meaning self.now)
-            (box_at_origin shape.now) (B.bytes source.now) (B.refuses source.now)
-            (refusal_of e)) }
+            (box_at_origin shape.now) (box_of part.now) (B.bytes source.now)
+            (B.refuses source.now) (refusal_of e)) }
     {
         let whole = Window {
             offset: 0,
@@ -91,7 +91,8 @@ impl<G: ChunkGridTraits, K: ChunkKeyEncodingTraits, C: ChainTraits> ArrayLayout<
             (box_at_origin shape.now) (B.bytes source.now)) (parent_box target.old)
             (target_box target.old) (data_of_target target.new)) }
         ensures refused { IfErr result (λ e. RefusesPartBytes (layout_meaning self.now)
-            (box_at_origin shape.now) (B.bytes source.now) (B.refuses source.now) (refusal_of e)) }
+            (box_at_origin shape.now) (box_of part.now) (B.bytes source.now)
+            (B.refuses source.now) (refusal_of e)) }
     {
         let whole = Window {
             offset: 0,

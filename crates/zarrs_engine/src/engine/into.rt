@@ -23,7 +23,8 @@ impl<
     ghost use Rattle.zarrs_subset.specs.Regions.{LiesInBox, box_of, positions};
     ghost use Rattle.zarrs_engine_calls.specs.Content.{value_at};
     ghost use Rattle.zarrs_engine_calls.specs.Reach.{MayAskChunk, MayDecodePart, MayReadPart};
-    ghost use Rattle.zarrs_engine_calls.specs.Reach.{MayReadParts, chunk_part};
+    ghost use Rattle.zarrs_engine_calls.specs.Reach.{MayReadParts};
+    ghost use Rattle.zarrs_engine_calls.specs.ChunkBoxes.{chunk_part};
     ghost use Rattle.zarrs_engine_calls.specs.Refusals.{RefusesBy, refusal_of};
     ghost use Rattle.zarrs_engine_calls.specs.StateRefusals.{IsPart, RefusesSomeChunk};
     ghost use Rattle.zarrs_data_type.specs.States.{KeepsTarget, data_of_target};

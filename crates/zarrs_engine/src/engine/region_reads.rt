@@ -32,7 +32,8 @@ impl<
     ghost use Rattle.zarrs_engine_calls.specs.ChunkBoxes.{CoversBox, is_empty};
     ghost use Rattle.zarrs_engine_calls.specs.Content.{value_at};
     ghost use Rattle.zarrs_engine_calls.specs.Reach.{MayAskChunk, MayDecodePart, MayReadPart};
-    ghost use Rattle.zarrs_engine_calls.specs.Reach.{MayReadParts, chunk_part};
+    ghost use Rattle.zarrs_engine_calls.specs.Reach.{MayReadParts};
+    ghost use Rattle.zarrs_engine_calls.specs.ChunkBoxes.{chunk_part};
     ghost use Rattle.zarrs_engine_calls.specs.Reads.{ReadsRegion};
     ghost use Rattle.zarrs_engine_calls.specs.Refusals.{RefusesBy, refusal_of};
     ghost use Rattle.zarrs_engine_calls.specs.StateRefusals.{IsPart, RefusesRegionRead, RefusesSomeChunk};
@@ -105,7 +106,8 @@ impl<
             (data_of made))) }
         ensures refused { IfErr result (λ e. (region : Box)
             → IsPart (layout_of self.now) region chunk_indices.now
-            → RefusesSomeChunk (layout_of self.now) region (chunk_indices.now ∷ [])
+            → box_of part.now ≡ chunk_part region
+            (box_at (layout_of self.now).grid chunk_indices.now) → RefusesSomeChunk (layout_of self.now) region (chunk_indices.now ∷ [])
             (store_of S.state self.now) (refusal_of e)) }
     {
         let key = self.layout.chunk_key(alloc, chunk_indices)?;
@@ -351,7 +353,7 @@ impl<
     /// # Errors
     /// In this order: E1 for another number of dimensions, or a position that no chunk covers; E8 for cells of more
     /// bytes than a `usize` counts. Then one of these: E7 if the store refuses the key of a chunk that the region meets,
-    /// E4 if its bytes do not decode, E8 if what is decoded whole of it (the chunk, a subchunk or nothing) has more bytes
+    /// E4 if its bytes do not decode, E8 if what is decoded whole of it (the chunk, or a subchunk that the region meets) has more bytes
     /// than that, or so has its fill where the bytes leave out cells, or if all of the region lies in an absent chunk and
     /// that many fill values have more. E9 may come at any time.
     pub fn retrieve_array_subset(

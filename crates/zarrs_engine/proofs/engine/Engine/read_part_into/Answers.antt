@@ -191,7 +191,7 @@ returns g c =
       refused =
           IfErr-weaker c.decode_part_into-done.result _ _
           (λ e why.
-          part_why layout region index state c.requires.boxed c.requires.part bytes ((state_of_source source).refuses (key_of_source source)) chunk refl same (found.1 ∙ ap Some (sym found.2)) (refusal_of e)
-          (subst (λ (s : List ℕ). RefusesPartBytes layout (record { start = chunk.start; shape = s }) bytes ((state_of_source source).refuses (key_of_source source)) (refusal_of e)) shape why))
+          part_why layout region index state c.requires.boxed c.requires.part part shared.part_is bytes ((state_of_source source).refuses (key_of_source source)) chunk refl same (found.1 ∙ ap Some (sym found.2)) (refusal_of e)
+          (subst (λ (s : List ℕ). RefusesPartBytes layout (record { start = chunk.start; shape = s }) part bytes ((state_of_source source).refuses (key_of_source source)) (refusal_of e)) shape why))
           written.refused;
     }
