@@ -70,7 +70,7 @@ any_element type.string size b is any len = cc
 any_element type.bytes size b is any len = cc
 any_element (type.optional inner) size b is any len = cc
 
-length_order : (reversed : Bool) (b : List ℕ) → length (in_order reversed b) ≡ length b
+pub length_order : (reversed : Bool) (b : List ℕ) → length (in_order reversed b) ≡ length b
 length_order true b = length-reverse b
 length_order false b = refl
 

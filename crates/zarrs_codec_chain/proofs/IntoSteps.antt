@@ -1,6 +1,6 @@
 -- A shard in a target, one subchunk after another.
 use Rattle.std.proofs.Common.{◌≡◌, ℕ, zero, suc, ◌+◌, ◌-◌, ◌^◌, ◌<◌, Bool, true, false, cond, List, [], ◌∷◌, length, map, replicate, get_or, slice_get, Option, None, Some, inl, inr, refl, sym, ap, ◌∙◌, subst, arith}
-use Rattle.std.specs.Prelude.{All, slice_index, slice_index_or}
+use Rattle.std.specs.Prelude.{All, IfSome, IsSome, slice_index, slice_index_or}
 use Rattle.std.proofs.lemmas.Bool.{and_from, cases_lt, false≢true}
 use Rattle.std.proofs.lemmas.List.{get_or-replicate, length-map, length-replicate}
 use Rattle.std.proofs.lemmas.List.Sums.{AllPass-from_list_all, list_all-from_AllPass}
@@ -23,12 +23,13 @@ use Rattle.zarrs_codec_shard.proofs.Missing.{all_present-cons, given_if-true}
 use Rattle.zarrs_codec_shard.proofs.ShardLaws.{length-shard_parts}
 use Rattle.zarrs_codec_shard.proofs.SubchunkBoxes.{lies_in_chunk, long_corner, only_own}
 use Rattle.zarrs_subset.specs.Boxes.{position_count, InShape, place, unravel, offset_by, offset_from, zip_with}
-use Rattle.zarrs_subset.specs.Regions.{Box, Holds, IsLong, LiesInShape, box_at_origin, box_from, in_box, place_in, shifted_box, LiesInBox}
+use Rattle.zarrs_subset.specs.Regions.{Box, Holds, IsLong, LiesInBox, LiesInShape, box_at_origin, box_from, in_box, overlap_of, place_in, shifted_box}
 use Rattle.zarrs_subset.proofs.Bytes.{holds_along}
 use Rattle.zarrs_subset.proofs.Kernel.{place_below}
 use Rattle.zarrs_subset.proofs.Overlaps.{length-zip_with}
 use Rattle.zarrs_subset.proofs.Parts.{zip_with-at}
 use Rattle.zarrs_subset.proofs.Positions.{offset_by-from, offset_from-in, place-unravel, unravel-place, unravel_in}
+use Rattle.zarrs_codec_chain.proofs.MovedBoxes.{overlap_inside}
 use Rattle.zarrs_subset.proofs.RearrangedCells.{get_or-made_of, length-made_of}
 use Rattle.zarrs_subset.proofs.Shifts.{holds-shifted, part_in_chunk}
 use Rattle.zarrs_data_type.specs.Targets.{FillsBox, KeepsOutside}
@@ -124,6 +125,13 @@ module _ (parent : List ℕ) (region : Box) (sub : List ℕ) (cut : is_cut_by re
 
   box_long : (j : ℕ) → j < subchunk_count s sub → IsLong (subchunk_box s sub j)
   box_long j lt = long_corner s sub (unravel grid j) cut (in_grid j lt)
+
+  -- the part that is all of the chunk shares the whole of a subchunk with it
+  pub whole_shared : (n : ℕ) → n < subchunk_count s sub → (part shared : Box) → part ≡ box_at_origin s → shared ≡ overlap_of part (subchunk_box s sub n) → shared ≡ subchunk_box s sub n
+  whole_shared n lt part shared part_is shared_is =
+      shared_is ∙ ap (λ b. overlap_of b (subchunk_box s sub n)) part_is
+      ∙ overlap_inside (box_at_origin s) (subchunk_box s sub n) (origin_long s) (box_long n lt)
+      (lies_in_chunk s sub (unravel (quotients s sub) n) cut (unravel_in (quotients s sub) n lt))
 
   start_len : (j : ℕ) → j < subchunk_count s sub → length region.start ≡ length (subchunk_box s sub j).start
   start_len j lt = long ∙ sym (corner_long s sub (unravel grid j) cut (in_grid j lt))
@@ -279,6 +287,22 @@ module _ (parent : List ℕ) (region : Box) (sub : List ℕ) (cut : is_cut_by re
           ∙ ap (λ o. o >>= cells_of_parts m k fill s sub) parts_are
           ∙ ap (λ o. o >>= λ subchunks. values_only k (assembled s sub subchunks)) are
           ∙ ap (λ b. cond b (Some (assembled s sub all)) None) values
+
+      from_decoded : (o : Option (List ℕ)) → IfSome o (λ b. IsSome (decoded b)) → (cs : List Cell) × (cells_of_part m fill sub o ≡ Some cs)
+      from_decoded None all = (replicate (position_count sub) fill, refl)
+      from_decoded (Some b) all = go (decoded b) refl all
+        where
+          go : (d : Option (List Cell)) → decoded b ≡ d → IsSome d → (cs : List Cell) × (cells_of_part m fill sub (Some b) ≡ Some cs)
+          go None is none_is = absurd (false≢true none_is)
+          go (Some cs) is some_is = (cs, decodes_as b ∙ is)
+
+      -- a shard decodes if each of its subchunks that are present does
+      pub shard_decodes : ((j : ℕ) → j < subchunk_count s sub → IfSome (slice_index_or parts j None) (λ b. IsSome (decoded b)))
+          → IsSome (sharded_decoded m at_start k fill s sub encoded)
+      shard_decodes each =
+          let parts_len = length-shard_parts at_start (subchunk_count s sub) encoded parts parts_are in
+          let all = all_there parts (λ j lt. from_decoded (slice_index_or parts j None) (each j (omega (arith, parts_len)))) in
+          subst IsSome (sym (whole_of all.0 all.1)) refl
 
       pub all_into : (held : ArrayData) → ((j : ℕ) → j < subchunk_count s sub → Has j held)
           → DecodesInto k (box_at_origin parent) region (sharded_decoded m at_start k fill s sub encoded) held

@@ -14,3 +14,4 @@ pub mod SubchunkSteps
 pub mod SubchunkWalks
 pub mod Turns
 pub mod WholeParts
+pub mod AllOfIt

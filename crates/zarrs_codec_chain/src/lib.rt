@@ -19,7 +19,7 @@ mod traits;
 mod whole;
 
 pub use bytes::partial_decode_bytes;
-pub use bytes_into::{decode_bytes_into, partial_decode_bytes_into};
+pub use bytes_into::{decode_bytes_into, partial_decode_bytes_into, whole_error};
 pub use error::PartError;
 pub use options::{
     CodecMetadataOptions, CodecOptions, CodecSpecificOptions, ShardingCodecOptions,

@@ -4,7 +4,7 @@ ghost use Rattle.zarrs_data_type.specs.ArrayData.{data_of};
 ghost use Rattle.zarrs_data_type.specs.Cells.{cells, HasCells};
 ghost use Rattle.zarrs_subset.specs.Boxes.{position_count};
 ghost use Rattle.zarrs_subset.specs.Regions.{LiesInShape, box_of};
-ghost use Rattle.zarrs_data_type.specs.States.{IsTarget, SameBox, StaysOutside, data_of_target};
+ghost use Rattle.zarrs_data_type.specs.States.{KeepsTarget, data_of_target};
 ghost use Rattle.zarrs_data_type.specs.States.{parent_box, target_box};
 ghost use Rattle.zarrs_data_type.specs.Targets.{takes_type};
 ghost use Rattle.zarrs_data_type.specs.Cell.{Cell};
@@ -45,18 +45,13 @@ pub fn write_whole(
     data_type: &DataType,
     target: &mut ArrayBytesDecodeIntoTarget<'_, '_, '_>,
 ) -> Result<(), AllocError>
-    requires target { IsTarget target.old }
     requires takes { takes_type target.old.cell_size target.old.depth (kind data_type.now) ≡ true }
     requires held { HasCells (kind data_type.now) (data_of whole.now)
         (position_count (target_box target.old).shape) }
-    ensures target { IsTarget target.new }
-    ensures same_bytes { target.new.bytes.ghost_name ≡ target.old.bytes.ghost_name }
-    ensures same_masks { target.new.masks.ghost_name ≡ target.old.masks.ghost_name }
-    ensures same_box { SameBox target.old target.new }
+    ensures kept { KeepsTarget target.old target.new }
     ensures cells { OnOk result (DecodesInto (kind data_type.now) (parent_box target.old)
         (target_box target.old) (cells (kind data_type.now) (data_of whole.now))
         (data_of_target target.new)) }
-    ensures outside { StaysOutside target.old target.new }
     ensures kept_bytes { OnErr result (target.new.bytes.now ≡ target.old.bytes.now) }
     ensures kept_masks { OnErr result (target.new.masks.now ≡ target.old.masks.now) }
 {
