@@ -1,5 +1,5 @@
 -- The cells of a chunk after those past a shape became fill, dimension by dimension.
-use Rattle.std.proofs.Common.{◌≡◌, ◌≢◌, ◌==◌, ◌<◌, ◌≤◌, ◌+◌, ◌-◌, ◌⊎◌, ◌×◌, ◌∙◌, ℕ, zero, suc, Bool, true, false, cond, List, length, replicate, Option, Some, None, ap, inl, inr, refl, slice_index, subst, sym, arith}
+use Rattle.std.proofs.Common.{◌≡◌, ◌≢◌, ◌==◌, ◌<◌, ◌≤◌, ◌+◌, ◌-◌, ◌⊎◌, ◌∙◌, ℕ, zero, suc, Bool, true, false, cond, List, length, replicate, Option, Some, None, ap, inl, inr, refl, slice_index, subst, sym, arith}
 use Rattle.std.specs.Prelude.{nat_lt, slice_set}
 use Rattle.std.proofs.lemmas.Bool.{cases_Bool, eq-eqb, eqb-true, false≢true, ltb-true, ltb-false}
 use Rattle.std.proofs.Math.Nat.{mul-le-mul_right}

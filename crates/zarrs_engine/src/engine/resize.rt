@@ -37,7 +37,7 @@ impl<
     fn fill_beyond(
         &self,
         alloc: Global,
-        data: ArrayBytes<'static>,
+        held: ArrayBytes<'static>,
         chunk: &ArraySubset,
         shape: &[u64],
         axis: usize,
@@ -47,18 +47,19 @@ impl<
         requires axis { axis < length shape.now }
         requires begins { slice_index (box_of chunk.now).start axis < slice_index shape.now axis }
         requires held { HasFilled (layout_of self.now) shape.now (box_of chunk.now)
-            (store_of S.state self.now) axis (data_of data) }
+            (store_of S.state self.now) axis (data_of held) }
         ensures filled { IfOk result (λ made. HasFilled (layout_of self.now) shape.now
             (box_of chunk.now) (store_of S.state self.now) (axis + 1) (data_of made)) }
         ensures refused { IfErr result (λ e. RefusesFilling (layout_of self.now) shape.now
             (box_of chunk.now) (refusal_of e)) }
     {
         let Some(gone) = beyond(alloc, chunk, shape, axis)? else {
-            return Ok(data);
+            return Ok(held);
         };
         let filled = self.layout.filled(alloc, &gone)?;
-        let data = data.update_array_bytes(alloc, &self.layout.cell_type.data_type, chunk, &filled, &gone)?;
-        Ok(data)
+        let data_type = &self.layout.cell_type.data_type;
+        let made = held.update_array_bytes(alloc, data_type, chunk, &filled, &gone)?;
+        Ok(made)
     }
 
     /// Returns the cells of a chunk that has some below the shape, after the others became fill. The chunk is read.

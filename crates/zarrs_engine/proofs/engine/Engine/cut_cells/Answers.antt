@@ -11,12 +11,12 @@ use Rattle.zarrs_engine.proofs.Beyond.{all_filled, filling_cut, first_filled}
 use Rattle.zarrs_engine.proofs.Cuts.{read_fails}
 use Rattle.zarrs_engine.proofs.engine.Engine.cut_cells.Goals as goal
 
-pub returns-in_err-held-clause-refused : goal.returns-in_err-held-clause-refused
-returns-in_err-held-clause-refused g c = λ keep.
+pub returns-in_err-made-clause-refused : goal.returns-in_err-made-clause-refused
+returns-in_err-made-clause-refused g c = λ keep.
     let layout = layout_of c.args.self.now in
     let fit = subst (λ (b : Box). is_too_large layout b.shape ≡ false) c.requires.chunk c.requires.fit in
     let why = read_fails layout keep c.args.shape.now c.args.chunk_indices.now (g.S.ReadableStorageTraits.state c.args.self.now.storage) c.requires.boxed fit c.args.self.now.layout.lawful
-    (refusal_of c.in_err-held.field-0.0) c.in_err-held.ensures.refused in
+    (refusal_of c.in_err-made.field-0.0) c.in_err-made.ensures.refused in
     search (rules, why)
 
 pub fill_beyond-requires-clause-dimensions : goal.fill_beyond-requires-clause-dimensions
@@ -31,23 +31,23 @@ fill_beyond-requires-clause-begins g c =
     let low = (below_along shape (box_at (layout_of c.args.self.now).grid c.args.chunk_indices.now).start c.requires.kept).below axis (omega arith) in
     subst (λ (b : Box). slice_index b.start axis < slice_index shape axis) (sym c.requires.chunk) low
 
-pub returns-in_err-made-clause-refused : goal.returns-in_err-made-clause-refused
-returns-in_err-made-clause-refused g c = λ keep.
+pub returns-in_err-made-2-clause-refused : goal.returns-in_err-made-2-clause-refused
+returns-in_err-made-2-clause-refused g c = λ keep.
     let layout = layout_of c.args.self.now in
     let state = g.S.ReadableStorageTraits.state c.args.self.now.storage in
     let shape = c.args.shape.now in
-    let r = refusal_of c.in_err-made.field-0.0 in
+    let r = refusal_of c.in_err-made-2.field-0.0 in
     let why = filling_cut layout keep shape c.args.chunk_indices.now state r
-    (subst (λ (b : Box). RefusesFilling layout shape b r) c.requires.chunk c.in_err-made.ensures.refused) in
+    (subst (λ (b : Box). RefusesFilling layout shape b r) c.requires.chunk c.in_err-made-2.ensures.refused) in
     search (rules, why)
 
 pub loop-axis-init : goal.loop-axis-init
 loop-axis-init g c =
     let layout = layout_of c.args.self.now in
     let state = g.S.ReadableStorageTraits.state c.args.self.now.storage in
-    let held = data_of c.in_ok-held.held in
+    let held = data_of c.in_ok-made.made in
     subst (λ (b : Box). HasFilled layout c.args.shape.now b state 0 held) (sym c.requires.chunk)
-    (first_filled layout c.args.shape.now c.args.chunk_indices.now state held c.in_ok-held.ensures.cells)
+    (first_filled layout c.args.shape.now c.args.chunk_indices.now state held c.in_ok-made.ensures.cells)
 
 pub returns-clause-cut : goal.returns-clause-cut
 returns-clause-cut g c =

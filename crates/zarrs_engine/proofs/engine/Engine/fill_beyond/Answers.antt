@@ -21,8 +21,8 @@ returns-in_default-clause-filled g c =
     let state = g.S.ReadableStorageTraits.state c.args.self.now.storage in
     let box = box_of c.args.chunk.now in
     let shape = c.args.shape.now in
-    let top = rw c.in_default.is at c.in_ok-beyond.ensures in
-    none_past layout box shape c.args.axis state (data_of c.args.data) c.args.chunk.now.same_length (omega (arith, c.requires.dimensions)) top c.requires.held
+    let top = rw c.in_default.is at c.in_ok-gone.ensures in
+    none_past layout box shape c.args.axis state (data_of c.args.held) c.args.chunk.now.same_length (omega (arith, c.requires.dimensions)) top c.requires.held
 
 pub returns-in_err-filled-clause-refused : goal.returns-in_err-filled-clause-refused
 returns-in_err-filled-clause-refused g c =
@@ -30,7 +30,7 @@ returns-in_err-filled-clause-refused g c =
     let state = g.S.ReadableStorageTraits.state c.args.self.now.storage in
     let box = box_of c.args.chunk.now in
     let shape = c.args.shape.now in
-    let is = rw c.in-Some.is at c.in_ok-beyond.ensures in
+    let is = rw c.in-Some.is at c.in_ok-gone.ensures in
     let said = subst (λ (b : Box). RefusesBy (filled_refusal layout b.shape) (refusal_of c.in_err-filled.field-0.0)) is.1 c.in_err-filled.ensures.refused in
     let why = filling_fails box shape c.args.axis c.args.chunk.now.same_length c.requires.dimensions c.requires.axis c.requires.begins is.0 layout state c.requires.fit (refusal_of c.in_err-filled.field-0.0) said in
     search (rules, why)
@@ -38,13 +38,13 @@ returns-in_err-filled-clause-refused g c =
 pub update_array_bytes-requires-clause-dimensions : goal.update_array_bytes-requires-clause-dimensions
 update_array_bytes-requires-clause-dimensions g c =
     let box = box_of c.args.chunk.now in
-    let is = rw c.in-Some.is at c.in_ok-beyond.ensures in
+    let is = rw c.in-Some.is at c.in_ok-gone.ensures in
     sym (ap (λ (b : Box). length b.start) is.1 ∙ length-set box.start c.args.axis (slice_index c.args.shape.now c.args.axis))
 
 pub update_array_bytes-requires-clause-held : goal.update_array_bytes-requires-clause-held
 update_array_bytes-requires-clause-held g c =
     let layout = layout_of c.args.self.now in
-    let held = data_of c.args.data in
+    let held = data_of c.args.held in
     let h = c.requires.held in
     subst (HasCells layout.kind held) h.count (HasCells-some layout.kind held h.chunk h.is_chunk)
 
@@ -58,10 +58,10 @@ returns-clause-filled g c =
     let state = g.S.ReadableStorageTraits.state c.args.self.now.storage in
     let box = box_of c.args.chunk.now in
     let shape = c.args.shape.now in
-    let held = data_of c.args.data in
+    let held = data_of c.args.held in
     let filled = data_of c.in_ok-filled.filled in
-    let made = data_of c.in_ok-data.data in
-    let is = rw c.in-Some.is at c.in_ok-beyond.ensures in
+    let made = data_of c.in_ok-made.made in
+    let is = rw c.in-Some.is at c.in_ok-gone.ensures in
     let f = subst (λ (b : Box). cells layout.kind filled ≡ Some (replicate (position_count b.shape) layout.fill)) is.1 c.in_ok-filled.ensures.cells in
-    let t = subst (λ (b : Box). TakesCells layout.kind box b filled held made) is.1 c.in_ok-data.ensures in
+    let t = subst (λ (b : Box). TakesCells layout.kind box b filled held made) is.1 c.in_ok-made.ensures in
     filling_made box shape c.args.axis c.args.chunk.now.same_length c.requires.dimensions c.requires.axis c.requires.begins is.0 layout state held filled made c.requires.held f t
