@@ -1,6 +1,4 @@
 //! Reads into places.
-ghost use Rattle.zarrs_data_type.specs.States.{IsTarget};
-
 use crate::CaseArray;
 use cases_answers::{Answer, answered};
 use cases_lines::Why;
@@ -54,9 +52,7 @@ fn read_into(
     array: &CaseArray<'_>,
     call: &CallLine<'_>,
     target: &mut ArrayBytesDecodeIntoTarget<'_, '_, '_>,
-) -> Result<(), ArrayError>
-    requires { IsTarget target.old }
-{
+) -> Result<(), ArrayError> {
     match call.name {
         Name::PartialDecodeInto => partial_decode_into(alloc, array, call, target),
         _ => array.retrieve_array_subset_into(alloc, &call.region, target),
@@ -68,9 +64,7 @@ fn partial_decode_into(
     array: &CaseArray<'_>,
     call: &CallLine<'_>,
     target: &mut ArrayBytesDecodeIntoTarget<'_, '_, '_>,
-) -> Result<(), ArrayError>
-    requires { IsTarget target.old }
-{
+) -> Result<(), ArrayError> {
     let decoder = array.partial_decoder(alloc, &call.list)?;
     decoder.partial_decode_into(alloc, &call.region, target, &CodecOptions::default())
 }

@@ -78,17 +78,15 @@ impl<TStorage: WritableStorageTraits> Array<TStorage> {
     ghost use Rattle.zarrs_storage.specs.Store.{KeepsRules};
     ghost use Rattle.zarrs_engine_calls.specs.Changes.{IsPut};
     ghost use Rattle.zarrs_codec.specs.Options.{encodes_partially, stores_empty_chunks};
-    ghost use Rattle.zarrs_engine_calls.specs.Canon.{IsCanonical, KeepsCanon};
-    ghost use Rattle.zarrs_engine_calls.specs.Content.{decoded_cells, value_at};
+    ghost use Rattle.zarrs_engine_calls.specs.Canon.{KeepsCanon};
+    ghost use Rattle.zarrs_engine_calls.specs.Content.{decoded_cells};
     ghost use Rattle.zarrs_engine_layout.specs.Steps.{RefusesPut};
-    ghost use Rattle.zarrs_engine_calls.specs.Headline.{IsOneFunctionThrough};
-    ghost use Rattle.zarrs_engine_calls.specs.Laws.{EachDecodes};
-    ghost use Rattle.zarrs_engine_calls.specs.Patches.{PatchRun, writes_parts};
+    ghost use Rattle.zarrs_engine_calls.specs.Patches.{writes_parts};
     ghost use Rattle.zarrs_engine_calls.specs.Reach.{MayAskCalls};
     ghost use Rattle.zarrs_engine_calls.specs.Refusals.{refusal_of, refusal_of_storage};
     ghost use Rattle.zarrs.specs.Outcomes.{ErasesChunkOrRefuses};
     ghost use Rattle.zarrs_engine_calls.specs.Step.{ErasesChunks, RefusesEraseChunks};
-    ghost use Rattle.zarrs_engine_calls.specs.Step.{Run};
+    ghost use Rattle.zarrs_engine.specs.Outcomes.{KeepsBytes, RunsAs};
     ghost use Rattle.zarrs.specs.Arrays.{layout_of_array, state_of_array, store_of_array};
     ghost use Rattle.zarrs.specs.Arrays.{IsUntouched, KeepsAllButShape, KeepsArray};
 
@@ -167,39 +165,19 @@ impl<TStorage: WritableStorageTraits> Array<TStorage> {
     ) -> Result<Vec<Reply>, AllocError>
         requires { MayAskCalls (layout_of_array self.old) calls.now
             (state_of_array TStorage.state self.old) }
-        ensures patched { IfOk result (λ replies. PatchRun (layout_of_array self.old)
-            (stores_empty_chunks options.now) (encodes_partially options.now) calls.now
-            replies.items (state_of_array TStorage.state self.old)
+        ensures run { IfOk result (λ replies. RunsAs (layout_of_array self.old) options.now
+            calls.now replies.items (state_of_array TStorage.state self.old)
             (state_of_array TStorage.state self.new)) }
-        // Whatever the options, the array is one function through the calls, if each chunk decodes at first.
-        ensures one_function { EachDecodes (layout_of_array self.old)
-            (store_of_array TStorage.state self.old)
-            → IfOk result (λ replies. IsOneFunctionThrough (layout_of_array self.old) calls.now
-            replies.items (state_of_array TStorage.state self.old)
-            (state_of_array TStorage.state self.new)) }
-        // If no part is written by itself, since none is asked for or the chain or the store cannot, the keys of the chunks
-        // that were stored hold what their cells are encoded to.
-        ensures run { writes_parts (encodes_partially options.now) (layout_of_array self.old)
-            (store_of_array TStorage.state self.old) ≡ false → IfOk result (λ replies.
-            Run (layout_of_array self.old) (stores_empty_chunks options.now) calls.now replies.items
-            (state_of_array TStorage.state self.old) (state_of_array TStorage.state self.new)) }
         ensures untouched { OnErr result (IsUntouched self.old self.new) }
         ensures layout { layout_of_array self.new ≡ layout_of_array self.old }
         ensures kept { KeepsAllButShape self.old self.new }
         ensures reach { KeepsRules (store_of_array TStorage.state self.old)
             (store_of_array TStorage.state self.new) }
-        // If empty chunks are not kept, the bytes of a canonical store stay a function of its content.
-        ensures canonical { writes_parts (encodes_partially options.now)
-            (layout_of_array self.old) (store_of_array TStorage.state self.old) ≡ false
-            → stores_empty_chunks options.now ≡ false
-            → IsCanonical (layout_of_array self.old)
-            (value_at (store_of_array TStorage.state self.old))
-            → IsCanonical (layout_of_array self.old)
-            (value_at (store_of_array TStorage.state self.new)) }
-        ensures decodes { writes_parts (encodes_partially options.now)
-            (layout_of_array self.old) (store_of_array TStorage.state self.old) ≡ false
-            → EachDecodes (layout_of_array self.old) (store_of_array TStorage.state self.old)
-            → EachDecodes (layout_of_array self.old) (store_of_array TStorage.state self.new) }
+        // So it is if no part is written by itself.
+        ensures bytes { writes_parts (encodes_partially options.now) (layout_of_array self.old)
+            (store_of_array TStorage.state self.old) ≡ false
+            → KeepsBytes (layout_of_array self.old) (stores_empty_chunks options.now)
+            (store_of_array TStorage.state self.old) (store_of_array TStorage.state self.new) }
     {
         let replies = replay(alloc, &mut self.engine, calls, options)?;
         overwrite_shape(&mut self.metadata, self.engine.chunk_grid().array_shape());

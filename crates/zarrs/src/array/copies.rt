@@ -37,8 +37,8 @@ impl<TStorage> Array<TStorage> {
         let grid = layout.grid.try_clone(alloc)?;
         let keys = layout.keys.clone()?;
         let chain = layout.chain.try_clone(alloc)?;
-        let data_type = layout.data_type.try_clone(alloc)?;
-        let fill_value = layout.fill_value.try_clone(alloc)?;
+        let data_type = layout.cell_type.data_type.try_clone(alloc)?;
+        let fill_value = layout.cell_type.fill_value.try_clone(alloc)?;
         Ok(ArrayParts {
             grid,
             keys,

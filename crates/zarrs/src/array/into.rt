@@ -8,13 +8,7 @@ use zarrs_storage::ReadableStorageTraits;
 use zarrs_subset::ArraySubsetTraits;
 
 impl<TStorage: ReadableStorageTraits> Array<TStorage> {
-    ghost use Rattle.std.specs.Prelude.{◌≡◌, IfErr, IsSome, OnErr, OnOk};
-    ghost use Rattle.zarrs_engine_calls.specs.Refusals.{refusal_of};
-    ghost use Rattle.zarrs_data_type.specs.States.{IsTarget, SameBox, StaysOutside};
-    ghost use Rattle.zarrs_engine.specs.Into.{HasContent, RefusesRetrieveInto, RetrievesInto};
-    ghost use Rattle.zarrs_engine.specs.Into.{target_refusal};
-    ghost use Rattle.zarrs.specs.Arrays.{layout_of_array, store_of_array, state_of_array};
-    ghost use Rattle.zarrs.specs.Outcomes.{MayRetrieveRegion};
+    ghost use Rattle.zarrs.specs.Outcomes.{MayRetrieveRegion, RetrievesIntoOrRefuses};
 
     /// Reads the region into the target's box, where its cells are in row-major order. Every byte outside the box
     /// stays.
@@ -30,28 +24,9 @@ impl<TStorage: ReadableStorageTraits> Array<TStorage> {
         array_subset: &R,
         target: &mut ArrayBytesDecodeIntoTarget<'_, '_, '_>,
     ) -> Result<(), ArrayError>
-        requires ask { MayRetrieveRegion TStorage.state (R.region array_subset.now) self.now }
-        requires target { IsTarget target.old }
-        ensures target { IsTarget target.new }
-        ensures same_bytes { target.new.bytes.ghost_name ≡ target.old.bytes.ghost_name }
-        ensures same_masks { target.new.masks.ghost_name ≡ target.old.masks.ghost_name }
-        ensures same_box { SameBox target.old target.new }
-        ensures cells { OnOk result (RetrievesInto (layout_of_array self.now)
-            (state_of_array TStorage.state self.now).shape (R.region array_subset.now)
-            (store_of_array TStorage.state self.now) target.old target.new) }
-        ensures content { OnOk result (HasContent (layout_of_array self.now)
-            (R.region array_subset.now) (store_of_array TStorage.state self.now) target.old
-            target.new) }
-        ensures refused { IfErr result (λ e. RefusesRetrieveInto (layout_of_array self.now)
-            (state_of_array TStorage.state self.now).shape (R.region array_subset.now) target.old
-            (refusal_of e) (store_of_array TStorage.state self.now)) }
-        ensures outside { StaysOutside target.old target.new }
-        ensures kept_bytes { OnErr result (IsSome (target_refusal (layout_of_array self.now)
-            (state_of_array TStorage.state self.now).shape (R.region array_subset.now) target.old)
-            → target.new.bytes.now ≡ target.old.bytes.now) }
-        ensures kept_masks { OnErr result (IsSome (target_refusal (layout_of_array self.now)
-            (state_of_array TStorage.state self.now).shape (R.region array_subset.now) target.old)
-            → target.new.masks.now ≡ target.old.masks.now) }
+        requires { MayRetrieveRegion TStorage.state (R.region array_subset.now) self.now }
+        ensures { RetrievesIntoOrRefuses TStorage.state (R.region array_subset.now) self.now
+            target.old target.new result }
     {
         self.retrieve_array_subset_into_opt(alloc, array_subset, target, &CodecOptions::default())
     }
@@ -67,28 +42,9 @@ impl<TStorage: ReadableStorageTraits> Array<TStorage> {
         target: &mut ArrayBytesDecodeIntoTarget<'_, '_, '_>,
         _options: &CodecOptions,
     ) -> Result<(), ArrayError>
-        requires ask { MayRetrieveRegion TStorage.state (R.region array_subset.now) self.now }
-        requires target { IsTarget target.old }
-        ensures target { IsTarget target.new }
-        ensures same_bytes { target.new.bytes.ghost_name ≡ target.old.bytes.ghost_name }
-        ensures same_masks { target.new.masks.ghost_name ≡ target.old.masks.ghost_name }
-        ensures same_box { SameBox target.old target.new }
-        ensures cells { OnOk result (RetrievesInto (layout_of_array self.now)
-            (state_of_array TStorage.state self.now).shape (R.region array_subset.now)
-            (store_of_array TStorage.state self.now) target.old target.new) }
-        ensures content { OnOk result (HasContent (layout_of_array self.now)
-            (R.region array_subset.now) (store_of_array TStorage.state self.now) target.old
-            target.new) }
-        ensures refused { IfErr result (λ e. RefusesRetrieveInto (layout_of_array self.now)
-            (state_of_array TStorage.state self.now).shape (R.region array_subset.now) target.old
-            (refusal_of e) (store_of_array TStorage.state self.now)) }
-        ensures outside { StaysOutside target.old target.new }
-        ensures kept_bytes { OnErr result (IsSome (target_refusal (layout_of_array self.now)
-            (state_of_array TStorage.state self.now).shape (R.region array_subset.now) target.old)
-            → target.new.bytes.now ≡ target.old.bytes.now) }
-        ensures kept_masks { OnErr result (IsSome (target_refusal (layout_of_array self.now)
-            (state_of_array TStorage.state self.now).shape (R.region array_subset.now) target.old)
-            → target.new.masks.now ≡ target.old.masks.now) }
+        requires { MayRetrieveRegion TStorage.state (R.region array_subset.now) self.now }
+        ensures { RetrievesIntoOrRefuses TStorage.state (R.region array_subset.now) self.now
+            target.old target.new result }
     {
         let array_subset = array_subset.to_array_subset(alloc)?;
         self.engine

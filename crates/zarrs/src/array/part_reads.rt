@@ -79,17 +79,12 @@ impl<TStorage: ReadableStorageTraits> Array<TStorage> {
 }
 
 impl<TStorage: ReadableStorageTraits> ArrayPartialDecoder<'_, TStorage> {
-    ghost use Rattle.std.specs.Prelude.{◌≡◌, ◌↔◌, true, None, IfOk, IfErr, IsSome, IsTrue};
-    ghost use Rattle.std.specs.Prelude.{OnErr, OnOk};
+    ghost use Rattle.std.specs.Prelude.{◌≡◌, ◌↔◌, true, IfOk, IfErr, IsTrue};
     ghost use Rattle.zarrs_data_type.specs.ArrayData.{data_of};
-    ghost use Rattle.zarrs_engine_calls.specs.ArgumentRefusals.{part_refusal, region_refusal};
     ghost use Rattle.zarrs_engine_calls.specs.Changes.{IsPresent};
     ghost use Rattle.zarrs_engine_calls.specs.Refusals.{RefusesBy, key_refusal, refusal_of};
     ghost use Rattle.zarrs_engine_calls.specs.Step.{RetrievesPart, RefusesRetrievePart};
-    ghost use Rattle.zarrs_data_type.specs.States.{IsTarget, SameBox, StaysOutside};
-    ghost use Rattle.zarrs_engine.specs.Into.{HasContent, RetrievesInto};
-    ghost use Rattle.zarrs_engine.specs.PartialDecoders.{RefusesPartInto, part_into_refusal};
-    ghost use Rattle.zarrs_engine.specs.PartialDecoders.{region_of_part};
+    ghost use Rattle.zarrs_engine.specs.PartialDecoders.{DecodesPartInto};
     ghost use Rattle.zarrs.specs.PartialEncoders.{MayDecodeAt, layout_of_decoder, state_of_decoder};
     ghost use Rattle.zarrs.specs.PartialEncoders.{store_of_decoder, indices_of_decoder};
 
@@ -133,41 +128,10 @@ impl<TStorage: ReadableStorageTraits> ArrayPartialDecoder<'_, TStorage> {
         target: &mut ArrayBytesDecodeIntoTarget<'_, '_, '_>,
         options: &CodecOptions,
     ) -> Result<(), ArrayError>
-        requires ask { MayDecodeAt TStorage.state (R.region chunk_subset.now) self.now }
-        requires target { IsTarget target.old }
-        ensures target { IsTarget target.new }
-        ensures same_bytes { target.new.bytes.ghost_name ≡ target.old.bytes.ghost_name }
-        ensures same_masks { target.new.masks.ghost_name ≡ target.old.masks.ghost_name }
-        ensures same_box { SameBox target.old target.new }
-        ensures accepted { OnOk result (part_refusal (layout_of_decoder self.now)
-            (indices_of_decoder self.now) (R.region chunk_subset.now) ≡ None) }
-        // Chunks cover a part that lies in the chunk, so it is not refused by E1.
-        ensures covered { OnOk result (region_refusal (layout_of_decoder self.now)
-            (state_of_decoder TStorage.state self.now).shape (region_of_part
-            (layout_of_decoder self.now) (indices_of_decoder self.now)
-            (R.region chunk_subset.now)) ≡ None) }
-        ensures cells { OnOk result (RetrievesInto (layout_of_decoder self.now)
-            (state_of_decoder TStorage.state self.now).shape (region_of_part
-            (layout_of_decoder self.now) (indices_of_decoder self.now)
-            (R.region chunk_subset.now)) (store_of_decoder TStorage.state self.now) target.old
-            target.new) }
-        ensures content { OnOk result (HasContent (layout_of_decoder self.now) (region_of_part
-            (layout_of_decoder self.now) (indices_of_decoder self.now)
-            (R.region chunk_subset.now)) (store_of_decoder TStorage.state self.now) target.old
-            target.new) }
-        ensures refused { IfErr result (λ e. RefusesPartInto (layout_of_decoder self.now)
-            (state_of_decoder TStorage.state self.now).shape (indices_of_decoder self.now)
-            (R.region chunk_subset.now) target.old (refusal_of e)
-            (store_of_decoder TStorage.state self.now)) }
-        ensures outside { StaysOutside target.old target.new }
-        ensures kept_bytes { OnErr result (IsSome (part_into_refusal (layout_of_decoder self.now)
-            (state_of_decoder TStorage.state self.now).shape (indices_of_decoder self.now)
-            (R.region chunk_subset.now) target.old)
-            → target.new.bytes.now ≡ target.old.bytes.now) }
-        ensures kept_masks { OnErr result (IsSome (part_into_refusal (layout_of_decoder self.now)
-            (state_of_decoder TStorage.state self.now).shape (indices_of_decoder self.now)
-            (R.region chunk_subset.now) target.old)
-            → target.new.masks.now ≡ target.old.masks.now) }
+        requires { MayDecodeAt TStorage.state (R.region chunk_subset.now) self.now }
+        ensures { DecodesPartInto (layout_of_decoder self.now) (indices_of_decoder self.now)
+            (R.region chunk_subset.now) (state_of_decoder TStorage.state self.now) target.old
+            target.new result }
     {
         let chunk_subset = chunk_subset.to_array_subset(alloc)?;
         self.decoder

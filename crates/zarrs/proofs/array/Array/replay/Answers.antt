@@ -1,11 +1,8 @@
 use Rattle.std.proofs.Common.{List, ℕ, length, refl, ap, ◌∙◌}
 use Rattle.zarrs_metadata.specs.Versions.{metadata_view}
 use Rattle.zarrs_chunk_grid.specs.GridView.{array_extents_of}
-use Rattle.zarrs_engine.specs.Engine.{grid_of, state_of}
+use Rattle.zarrs_engine.specs.Engine.{grid_of}
 use Rattle.zarrs_creation.specs.Changes.{with_shape}
-use Rattle.zarrs_codec.specs.Options.{encodes_partially, stores_empty_chunks}
-use Rattle.zarrs_engine_calls.proofs.Patched.{patched_runs_one}
-use Rattle.zarrs.specs.Arrays.{layout_of_array}
 use Rattle.zarrs.proofs.Layouts.{parts_are}
 use Rattle.zarrs.proofs.Regridded.{one_configuration, shape_fits, shape_kept, layout_same, agrees_resized}
 use Rattle.zarrs.proofs.array.Array.replay.Goals as goal
@@ -47,11 +44,3 @@ returns-clause-kept g c = record {
   codec_specific_options = refl;
   metadata_options = refl;
 }
-
--- the array after it has the engine that the call left, of another shape in its metadata
-pub returns-clause-one_function : goal.returns-clause-one_function
-returns-clause-one_function g c = λ each.
-    let state = g.TStorage.ReadableStorageTraits.state in
-    let old = c.args.self.now in
-    patched_runs_one (layout_of_array old) old.engine.layout.lawful (stores_empty_chunks c.args.options.now) (encodes_partially c.args.options.now) c.args.calls.now c.in_ok-replies.replies.items
-    (state_of state old.engine) (state_of state c.replay.new.engine) each c.in_ok-replies.ensures.patched

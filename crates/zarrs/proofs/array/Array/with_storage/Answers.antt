@@ -10,7 +10,7 @@ pub returns-clause-copied : goal.returns-clause-copied
 returns-clause-copied g c =
     let array = c.args.self.now in
     let engine = c.new-engine.result in
-    let same = c.new-engine.ensures in
+    let same = c.new-engine.ensures.parts in
     let copied = c.in_ok-metadata.metadata in
     let parts : meaning_of engine ≡ meaning_of array.engine = (λ i. meaning_with (same.grid i) (same.keys i) (same.chain i) (same.data_type i) (same.fill_value i)) ∙ c.in_ok-parts.ensures.parts in
     let path = same.path ∙ c.in_ok-path.ensures.cases ∙ c.path.ensures in
