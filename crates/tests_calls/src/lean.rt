@@ -39,8 +39,7 @@ impl ChainTraits for LeanChain {
         chunk: &ChunkType<'_>,
         options: &CodecOptions,
     ) -> Result<Vec<u8>, CodecError> {
-        self.chain
-            .encode(alloc, bytes, chunk, options)
+        self.chain.encode(alloc, bytes, chunk, options)
     }
 
     fn encode_owned(
@@ -50,8 +49,7 @@ impl ChainTraits for LeanChain {
         chunk: &ChunkType<'_>,
         options: &CodecOptions,
     ) -> Result<Vec<u8>, CodecError> {
-        self.chain
-            .encode_owned(alloc, bytes, chunk, options)
+        self.chain.encode_owned(alloc, bytes, chunk, options)
     }
 
     fn decode<'a>(
@@ -84,9 +82,8 @@ impl ChainTraits for LeanChain {
         chunk: &ChunkType<'_>,
         target: &mut ArrayBytesDecodeIntoTarget<'_, '_, '_>,
     ) -> Result<(), PartError> {
-        self.chain.partial_decode_into(
-            alloc, source, window, part, chunk, target,
-        )
+        self.chain
+            .partial_decode_into(alloc, source, window, part, chunk, target)
     }
 
     fn compact(
@@ -111,9 +108,8 @@ impl ChainTraits for LeanChain {
         chunk: &ChunkType<'_>,
         options: &CodecOptions,
     ) -> Result<PartialWrite, CodecError> {
-        self.chain.partial_encode(
-            alloc, stored, part, bytes, chunk, options,
-        )
+        self.chain
+            .partial_encode(alloc, stored, part, bytes, chunk, options)
     }
 
     ghost lawful = { λ lean. chain-lawful lean.chain };
