@@ -1,4 +1,4 @@
-use Rattle.std.proofs.Common.{◌≡◌, ◌∙◌, List, ℕ, ap, rules, sym, subst}
+use Rattle.std.proofs.Common.{◌≡◌, ◌∙◌, ap, rules, sym, subst}
 use Rattle.std.proofs.lemmas.Result.{IfOk-weaker}
 use Rattle.zarrs_data_type.specs.ArrayData.{data_of}
 use Rattle.zarrs_data_type.specs.Cells.{HasCells}
@@ -7,7 +7,6 @@ use Rattle.zarrs_subset.specs.Regions.{Box, box_at_origin, box_of, LiesInBox}
 use Rattle.zarrs_data_type_region.proofs.TargetBoxes.{lies_at_origin}
 use Rattle.zarrs_data_type.specs.Kind.{kind}
 use Rattle.zarrs_codec_chain.proofs.AllOfIt.{origin_box, whole_is_part}
-use Rattle.zarrs_codec_chain.specs.Parts.{DecodesPart}
 use Rattle.zarrs_codec_chain.proofs.whole.part_of_whole.Goals as goal
 
 pub extract_array_subset-requires-clause-held : goal.extract_array_subset-requires-clause-held
