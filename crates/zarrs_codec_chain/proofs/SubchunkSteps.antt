@@ -1,9 +1,8 @@
 -- Reads of parts of shards, one subchunk after another.
 use Rattle.std.proofs.Common.{◌≡◌, ℕ, zero, suc, ◌+◌, ◌-◌, ◌*◌, ◌<◌, ◌≤◌, Bool, true, false, cond, ◌&&◌, ◌||◌, List, [], ◌∷◌, ◌++◌, length, map, take, drop, replicate, get_or, slice_get, Option, None, Some, refl, sym, ap, ◌∙◌, subst, arith}
-use Rattle.std.specs.Prelude.{All, IfSome, slice_index, slice_index_or, nat_eq, nat_lt, nat_le, unwrap_or}
+use Rattle.std.specs.Prelude.{All, IfSome, slice_index, slice_index_or, nat_eq, nat_lt, nat_le}
 use Rattle.std.specs.Cmp.Lexicographic.{pointwise, same_text}
-use Rattle.std.specs.List.{list_any}
-use Rattle.std.proofs.lemmas.Bool.{and_from, eq-eqb, false≢true, lt-ltb, le-leb, or_left, or_right}
+use Rattle.std.proofs.lemmas.Bool.{and_from, eq-eqb, false≢true, lt-ltb, le-leb}
 use Rattle.std.proofs.lemmas.List.{drop-drop, drop-take, get_or-map, get_or-replicate, length-drop, length-map, length-replicate, length-take-le, take-take}
 use Rattle.std.proofs.lemmas.Option.{slice_get-get_or}
 use Rattle.zarrs_data_type.specs.ArrayData.{ArrayData}
@@ -16,7 +15,7 @@ use Rattle.zarrs_metadata_parts.specs.Extension.{◌>>=◌}
 use Rattle.zarrs_codec_chain.specs.Places.{index_places}
 use Rattle.zarrs_codec_leaf.specs.Sources.{MayRead, MayReadPlaces, window_bytes}
 use Rattle.zarrs_codec_leaf.specs.declared.source.Window.{Window}
-use Rattle.zarrs_codec_shard.specs.Sharded.{SubchunkMeaning, cells_of_part, cells_of_parts, part_leaves_out, sharded_decoded, sharded_fits, sharded_leaves_out}
+use Rattle.zarrs_codec_shard.specs.Sharded.{SubchunkMeaning, cells_of_part, cells_of_parts, sharded_decoded, sharded_fits}
 use Rattle.zarrs_codec_shard.proofs.ShardLaws.{length-shard_parts}
 use Rattle.zarrs_codec_shard.specs.Shards.{data_end, data_start, index_in, named_part, shard_parts}
 use Rattle.zarrs_codec_shard.specs.Steps.{all_present, given_if}

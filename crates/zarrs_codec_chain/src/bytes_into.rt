@@ -12,16 +12,14 @@ ghost use Rattle.zarrs_data_type.specs.States.{parent_box, target_box};
 ghost use Rattle.zarrs_data_type.specs.Targets.{takes_type};
 ghost use Rattle.zarrs_data_type.specs.Kind.{kind};
 ghost use Rattle.zarrs_codec_chain.specs.BytesInto.{AreCells, IsTurned, PutsPart};
-ghost use Rattle.zarrs_codec_chain.specs.Parts.{DecodesInto, DecodesPartAt};
+ghost use Rattle.zarrs_codec_chain.specs.Parts.{DecodesPartAt};
 ghost use Rattle.zarrs_codec_chain.specs.Places.{cell_places};
-ghost use Rattle.zarrs_codec_chain.specs.PartRefusals.{IsWholeError, RefusesIntoDecoding, RefusesPartDecoding};
+ghost use Rattle.zarrs_codec_chain.specs.PartRefusals.{RefusesPartDecoding};
 
 use crate::bytes::{is_length_of, partial_decode_bytes};
 use crate::error::PartError;
 use std::alloc::Global;
-use zarrs_codec_leaf::{
-    ByteSource, BytesCodec, CodecError, Endianness, LeafCodec, SliceSource, Window,
-};
+use zarrs_codec_leaf::{ByteSource, BytesCodec, Endianness, LeafCodec, Window};
 use zarrs_data_type::{ArrayBytesDecodeIntoTarget, DataType};
 use zarrs_subset::{ArraySubset, Corner, copy_box};
 
@@ -76,58 +74,6 @@ pub fn partial_decode_bytes_into<B: ByteSource>(
     let cells = partial_decode_bytes(codec, alloc, source, window, part, data_type, shape)?;
     target.write_cells(alloc, &cells)?;
     Ok(())
-}
-
-/// Decodes a chunk under the codec `bytes`, which has the shape of the target's box, into the box. Every byte outside the
-/// box stays; after a refusal the inside is open.
-///
-/// Numbers and raw cells go straight to their places, in at most 64 dimensions. Otherwise the cells are decoded, and then
-/// written.
-///
-/// # Errors
-/// `DoesNotFit` if the codec does not take the type, or if the bytes are not as many values of it. `OutOfMemory` may come
-/// at any time.
-pub fn decode_bytes_into(
-    codec: &BytesCodec,
-    alloc: Global,
-    encoded: &[u8],
-    data_type: &DataType,
-    target: &mut ArrayBytesDecodeIntoTarget<'_, '_, '_>,
-) -> Result<(), CodecError>
-    requires takes { takes_type target.old.cell_size target.old.depth (kind data_type.now) ≡ true }
-    ensures kept { KeepsTarget target.old target.new }
-    ensures cells { OnOk result (DecodesInto (kind data_type.now) (parent_box target.old)
-        (target_box target.old) ((bytes_meaning_of (endian_of codec.now)).decoded
-        (kind data_type.now) (position_count (target_box target.old).shape) encoded.now)
-        (data_of_target target.new)) }
-    ensures refused { IfErr result (RefusesIntoDecoding
-        ((bytes_meaning_of (endian_of codec.now)).decoded (kind data_type.now)
-        (position_count (target_box target.old).shape) encoded.now)) }
-{
-    let shape = target.region.shape();
-    let whole = ArraySubset::new_with_shape(alloc, Vec::from_slice(alloc, shape)?)?;
-    let source = SliceSource { bytes: encoded };
-    let window = Window {
-        offset: 0,
-        len: encoded.len() as u64,
-    };
-    let done = partial_decode_bytes_into(
-        codec, alloc, &source, window, &whole, data_type, shape, target,
-    );
-    match done {
-        Ok(()) => Ok(()),
-        Err(error) => Err(whole_error(error)),
-    }
-}
-
-/// Why a chunk in memory is not read, which refuses only out of memory.
-pub fn whole_error(error: PartError) -> CodecError
-    ensures { IsWholeError error result }
-{
-    match error {
-        PartError::Codec(error) => error,
-        PartError::Source(_) => CodecError::OutOfMemory,
-    }
 }
 
 /// Puts the cells of a part of an array of this shape, whose bytes are in the codec's order, into the target's box. Every

@@ -19,7 +19,7 @@ mod traits;
 mod whole;
 
 pub use bytes::partial_decode_bytes;
-pub use bytes_into::{decode_bytes_into, partial_decode_bytes_into, whole_error};
+pub use bytes_into::partial_decode_bytes_into;
 pub use error::PartError;
 pub use options::{
     CodecMetadataOptions, CodecOptions, CodecSpecificOptions, ShardingCodecOptions,
@@ -27,4 +27,4 @@ pub use options::{
 };
 pub use shard::{ShardIndex, common_part, met_subchunks, open_shard, seen_from_corner, shifted_to};
 pub use traits::ChainTraits;
-pub use whole::{part_of_whole, write_whole};
+pub use whole::part_of_whole;

@@ -19,8 +19,7 @@ ghost use Rattle.zarrs_codec_chain.specs.Chunks.{RefusesToDecodePart, RefusesToE
 ghost use Rattle.zarrs_codec_chain.specs.Refusals.{RefusesCompaction};
 ghost use Rattle.zarrs_codec_chain.specs.Options.{stores_empty_chunks};
 
-use crate::bytes_into::whole_error;
-use crate::error::PartError;
+use crate::error::{PartError, whole_error};
 use crate::options::CodecOptions;
 use std::alloc::{AllocError, Global};
 use zarrs_codec_leaf::{ByteSource, CodecError, SliceSource, Window};

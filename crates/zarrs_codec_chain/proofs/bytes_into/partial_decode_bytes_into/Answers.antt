@@ -3,7 +3,7 @@ use Rattle.zarrs_codec_leaf.specs.Bytes.{endian_of, bytes_meaning_of}
 use Rattle.zarrs_codec_leaf.specs.Sources.{window_bytes}
 use Rattle.zarrs_subset.specs.Boxes.{position_count}
 use Rattle.zarrs_subset.specs.Regions.{box_of}
-use Rattle.zarrs_data_type.specs.States.{target_box, data_of_target, parent_box}
+use Rattle.zarrs_data_type.specs.States.{target_box, data_of_target}
 use Rattle.zarrs_data_type.specs.Kind.{kind}
 use Rattle.zarrs_codec_chain.proofs.BytesInto.{cells_len, put_into, put_outside}
 use Rattle.zarrs_data_type.specs.ArrayData.{data_of}
