@@ -1,5 +1,5 @@
 -- Shards that are read whole into targets.
-use Rattle.std.proofs.Common.{◌≡◌, ℕ, suc, ◌+◌, ◌-◌, ◌<◌, ◌≤◌, Bool, true, List, [], ◌∷◌, length, map, replicate, get_or, slice_get, Option, None, Some, refl, sym, ap, ◌∙◌, subst, arith}
+use Rattle.std.proofs.Common.{◌≡◌, ℕ, ◌-◌, ◌<◌, Bool, true, List, [], ◌∷◌, length, map, replicate, get_or, slice_get, Option, None, Some, refl, sym, ap, ◌∙◌, subst, arith}
 use Rattle.std.specs.Prelude.{IfSome, IsSome, option_map, slice_index}
 use Rattle.std.proofs.lemmas.Bool.{false≢true}
 use Rattle.std.proofs.lemmas.List.{get_or-replicate, length-map, length-replicate}
@@ -39,22 +39,6 @@ use Rattle.zarrs_codec.specs.ShardPartsInto.{DecodesPieceAt}
 
 abbrev box_from_parts : List ℕ → List ℕ → Box
 box_from_parts start shape = record { start = start; shape = shape }
-
-zero_start : (start s : List ℕ) → length start ≡ length s → ((k : ℕ) → k < length s → slice_index start k + slice_index s k ≤ slice_index s k) → start ≡ replicate (length s) 0
-zero_start [] [] same ends = refl
-zero_start [] (e ∷ s) same ends = absurd (omega arith)
-zero_start (a ∷ start) [] same ends = absurd (omega arith)
-zero_start (a ∷ start) (e ∷ s) same ends =
-    let last : a + e ≤ e = ends 0 (omega arith) in
-    let first : a ≡ 0 = omega arith in
-    ap (λ x. x ∷ start) first ∙ ap (λ l. 0 ∷ l) (zero_start start s (omega arith) (λ k lt. ends (suc k) (omega arith)))
-
--- a part of the shape of the chunk is all of it
-pub origin_box : (part : Box) (s : List ℕ) → part.shape ≡ s → LiesInShape part s → part ≡ box_at_origin s
-origin_box part s is lies =
-    let start : part.start ≡ replicate (length s) 0 =
-    zero_start part.start s lies.same_length (λ k lt. subst (λ (x : List ℕ). slice_index part.start k + slice_index x k ≤ slice_index s k) is (lies.ends k lt)) in
-    ap (λ (x : List ℕ). box_from_parts x part.shape) start ∙ ap (λ (x : List ℕ). box_from_parts (replicate (length s) 0) x) is
 
 pub origin_lies : (s : List ℕ) → LiesInShape (box_at_origin s) s
 origin_lies s =

@@ -1,5 +1,5 @@
 //! Parts of chunks, of ranges of their bytes.
-ghost use Rattle.std.specs.Prelude.{◌≡◌, ◌*◌, ◌<◌, ◌^◌, IfOk, IfErr, IfNone, IfSome, IsSome};
+ghost use Rattle.std.specs.Prelude.{◌*◌, ◌<◌, ◌^◌, IfOk, IfErr, IfNone, IfSome, IsSome};
 ghost use Rattle.zarrs_subset.specs.Boxes.{position_count};
 ghost use Rattle.zarrs_subset.specs.Regions.{LiesInShape, box_of};
 ghost use Rattle.zarrs_data_type.specs.CellTypes.{chunk_kind, chunk_fill, shape_of};
@@ -93,7 +93,7 @@ impl CodecChain {
         }
         let encoded = source.read(alloc, window)?;
         let whole = self.decode_chunk(alloc, encoded.as_slice(), chunk)?;
-        let made = part_of_whole(alloc, &whole, &chunk.cell_type.data_type, chunk.shape, part)?;
+        let made = part_of_whole(alloc, whole, &chunk.cell_type.data_type, chunk.shape, part)?;
         Ok(made)
     }
 }

@@ -6,7 +6,7 @@ ghost use Rattle.zarrs_codec_shard.specs.ShardIndex.{IsRangeWithin};
 ghost use Rattle.zarrs_codec_leaf.specs.Sources.{IsWindow, MayRead, window_bytes};
 ghost use Rattle.zarrs_data_type.specs.States.{KeepsBut, KeepsTarget, data_of_target};
 ghost use Rattle.zarrs_data_type.specs.States.{parent_box, target_box};
-ghost use Rattle.zarrs_data_type.specs.Targets.{takes_type, KeepsOutside};
+ghost use Rattle.zarrs_data_type.specs.Targets.{takes_type};
 ghost use Rattle.zarrs_codec_chain.specs.Chunks.{HoldsPartAt, RefusesToDecodePart, decoded_of};
 ghost use Rattle.zarrs_codec_chain.specs.Parts.{DecodesInto};
 ghost use Rattle.zarrs_codec_chain.specs.Places.{all_places, shard_places};

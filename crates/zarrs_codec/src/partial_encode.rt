@@ -1,12 +1,11 @@
 //! Parts of chunks to bytes.
-ghost use Rattle.std.specs.Prelude.{◌≡◌, ◌*◌, ◌<◌, ◌^◌, All, IfErr, IfOk, IsSome, OnOk, Some, true};
+ghost use Rattle.std.specs.Prelude.{◌≡◌, ◌*◌, ◌<◌, All, IfErr, IfOk, IsSome, OnOk, Some, true};
 ghost use Rattle.std.specs.Prelude.{length, map, option_map};
 ghost use Rattle.zarrs_subset.specs.Boxes.{position_count};
 ghost use Rattle.zarrs_subset.specs.Regions.{box_of};
-ghost use Rattle.zarrs_data_type.specs.CellTypes.{chunk_fill, chunk_kind, filling, kind_of, shape_of};
+ghost use Rattle.zarrs_data_type.specs.CellTypes.{chunk_kind, filling, kind_of, shape_of};
 ghost use Rattle.zarrs_data_type.specs.ArrayData.{data_of};
 ghost use Rattle.zarrs_data_type.specs.Cells.{cells, HasCells};
-ghost use Rattle.zarrs_codec_shard.specs.PartialShards.{stored_parts};
 ghost use Rattle.zarrs_codec_shard.specs.ShardIndex.{range_part, IsRangeWithin};
 ghost use Rattle.zarrs_codec_shard.specs.ShardPatches.{change_of};
 ghost use Rattle.zarrs_codec_shard.specs.SubchunkData.{chunk_shape, subchunk_shape};

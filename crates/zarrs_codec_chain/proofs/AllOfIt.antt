@@ -1,11 +1,13 @@
 -- The part of a chunk that is all of it.
-use Rattle.std.proofs.Common.{◌≡◌, ℕ, ◌*◌, ◌<◌, true, false, cond, List, [], length, map, take, drop, get_or, slice_get, Option, None, Some, refl, sym, ap, ◌∙◌, subst, arith}
-use Rattle.std.specs.Prelude.{IsSome}
+use Rattle.std.proofs.Common.{◌≡◌, ℕ, ◌*◌, ◌<◌, ◌≤◌, true, false, cond, List, [], length, map, take, drop, get_or, slice_get, Option, None, Some, refl, sym, ap, ◌∙◌, subst, arith, suc, ◌+◌, ◌∷◌, replicate}
+use Rattle.std.specs.Prelude.{IsSome, slice_index}
 use Rattle.std.proofs.lemmas.Bool.{and_from, eq-eqb, false≢true}
 use Rattle.std.proofs.lemmas.List.{get_or-map, length-map, take_all}
 use Rattle.std.proofs.lemmas.List.Sums.{list_all-from_AllPass}
 use Rattle.zarrs_data_type.specs.ArrayData.{ArrayData}
-use Rattle.zarrs_data_type.specs.Cells.{cells, cell_at}
+use Rattle.zarrs_data_type.specs.Cells.{cells, cell_at, HasCells}
+use Rattle.zarrs_data_type_bytes.proofs.Cells.{HasCells-cells}
+use Rattle.zarrs_data_type_bytes.proofs.FixedSizes.{some_is}
 use Rattle.zarrs_data_type_bytes.proofs.Pieces.{length-piece, length-pieces}
 use Rattle.zarrs_codec_leaf.specs.declared.bytes_codec.Endianness.{Endianness}
 use Rattle.zarrs_codec_leaf.specs.declared.error.CodecError.{CodecError}
@@ -23,7 +25,7 @@ use Rattle.zarrs_data_type_region.proofs.TargetBoxes.{origin_long}
 use Rattle.zarrs_data_type.specs.Cell.{Cell, bytes, is_value, are_values, values_only}
 use Rattle.zarrs_data_type.specs.Kind.{Kind}
 use Rattle.zarrs_codec_chain.specs.BytesInto.{AreCells}
-use Rattle.zarrs_codec_chain.specs.Parts.{DecodesInto, DecodesPartAt}
+use Rattle.zarrs_codec_chain.specs.Parts.{DecodesInto, DecodesPart, DecodesPartAt}
 use Rattle.zarrs_codec_chain.specs.PartRefusals.{IsWholeError, RefusesIntoDecoding, RefusesPartDecoding}
 use Rattle.zarrs_codec_chain.specs.declared.error.PartError.{PartError}
 use Rattle.zarrs_codec_chain.specs.declared.error.PartError.TheVariants as part_error
@@ -62,6 +64,40 @@ cells_decode e k n b are =
     ∙ ap (λ x. cond x (values_only k cs) None) (and_from _ _ are.taken (eq-eqb (length b) (n * size) are.length_is))
     ∙ ap (λ x. cond x (Some cs) None) values in
     subst IsSome (sym is) refl
+
+-- ---- boxes
+
+abbrev box_from_parts : List ℕ → List ℕ → Box
+box_from_parts start shape = record { start = start; shape = shape }
+
+zero_start : (start s : List ℕ) → length start ≡ length s → ((k : ℕ) → k < length s → slice_index start k + slice_index s k ≤ slice_index s k) → start ≡ replicate (length s) 0
+zero_start [] [] same ends = refl
+zero_start [] (e ∷ s) same ends = absurd (omega arith)
+zero_start (a ∷ start) [] same ends = absurd (omega arith)
+zero_start (a ∷ start) (e ∷ s) same ends =
+    let last : a + e ≤ e = ends 0 (omega arith) in
+    let first : a ≡ 0 = omega arith in
+    ap (λ x. x ∷ start) first ∙ ap (λ l. 0 ∷ l) (zero_start start s (omega arith) (λ k lt. ends (suc k) (omega arith)))
+
+-- a part of the shape of the chunk is all of it
+pub origin_box : (part : Box) (s : List ℕ) → part.shape ≡ s → LiesInShape part s → part ≡ box_at_origin s
+origin_box part s is lies =
+    let start : part.start ≡ replicate (length s) 0 =
+    zero_start part.start s lies.same_length (λ k lt. subst (λ (x : List ℕ). slice_index part.start k + slice_index x k ≤ slice_index s k) is (lies.ends k lt)) in
+    ap (λ (x : List ℕ). box_from_parts x part.shape) start ∙ ap (λ (x : List ℕ). box_from_parts (replicate (length s) 0) x) is
+
+-- the data of a chunk as the part that is all of it
+pub whole_is_part : (k : Kind) (s : List ℕ) (part : Box) (d made : ArrayData) → part ≡ box_at_origin s → made ≡ d → HasCells k d (position_count s) → DecodesPart k s part (cells k d) made
+whole_is_part k s part d made part_is same has =
+    let h = HasCells-cells k d (position_count s) has in
+    record {
+      given = h.0;
+      are_cells = ap (cells k) same ∙ h.1;
+      count = h.2 ∙ ap (λ (b : Box). position_count b.shape) (sym part_is);
+      same = λ whole is position holds.
+          ap (λ (b : Box). slice_get h.0 (place_in b position)) part_is
+          ∙ ap (λ (l : List Cell). slice_get l (place_in (box_at_origin s) position)) (some_is (sym h.1 ∙ is));
+    }
 
 -- a target that has the part that is all of a chunk, which decodes, has the chunk
 pub whole_part : (k : Kind) (parent shape : List ℕ) (part own : Box) (decoded : Option (List Cell)) (held : ArrayData)

@@ -1,5 +1,5 @@
 //! A box of an array of cells that a caller lends to be written.
-ghost use Rattle.std.specs.Prelude.{◌≡◌, ◌↔◌, ◌*◌, ◌==◌, true, IfErr, IfOk, IsOk, IsTrue, IsSome, OnErr, OnOk, length};
+ghost use Rattle.std.specs.Prelude.{◌≡◌, ◌↔◌, ◌*◌, ◌==◌, true, IfErr, IfOk, IsOk, IsTrue, OnErr, OnOk, length};
 ghost use Rattle.std.specs.Prelude.{◌≤◌, ◌<◌, ◌+◌, ◌^◌, [], drop, slice_index, take};
 ghost use Rattle.std.specs.List.{copy_within, prefix_len, repeat};
 ghost use Rattle.zarrs_data_type_bytes.specs.ArrayData.{data_of};
@@ -8,16 +8,15 @@ ghost use Rattle.zarrs_data_type_bytes.specs.Parts.{TakesAt, TakesEach};
 ghost use Rattle.zarrs_subset.specs.Boxes.{BoxFits, InShape, place, position_count};
 ghost use Rattle.zarrs_subset.specs.Pieces.{piece_at};
 ghost use Rattle.zarrs_subset.specs.Regions.{LiesInShape, box_of, box_at_origin, LiesInBox};
-ghost use Rattle.zarrs_data_type_kinds.specs.Cell.{fill_cell, fill_of};
 ghost use Rattle.zarrs_data_type_kinds.specs.Kind.{Kind, kind};
-ghost use Rattle.zarrs_data_type_region.specs.Targets.{FillsBox, HasLevels, IsTargetOver, TakesLevels};
+ghost use Rattle.zarrs_data_type_region.specs.Targets.{HasLevels, IsTargetOver, TakesLevels};
 ghost use Rattle.zarrs_data_type_region.specs.Targets.{IsFilledBox, depth_of, masked, repeated, takes_type};
 
 use crate::error::ArrayBytesFixedDisjointViewCreateError;
 use std::alloc::{AllocError, Global};
 use std::mem;
 use zarrs_data_type_bytes::ArrayBytes;
-use zarrs_data_type_kinds::{DataType, FillValue};
+use zarrs_data_type_kinds::DataType;
 use zarrs_subset::{
     ArraySubset, ArraySubsetTraits, Corner, copy_box, element_count, ravel_indices,
 };

@@ -12,7 +12,8 @@ use Rattle.zarrs_codec.specs.Chains.{codec_meaning, chain_meaning, inner_chain_o
 use Rattle.zarrs_codec.specs.Shardings.{ReadsLargeSubchunk, sharded, subchunk_meaning}
 use Rattle.zarrs_codec.specs.ShardPartsInto.{DecodesPieceAt, HasSubchunksAt, ReadsSubchunkAt, RefusesPiece, range_window}
 use Rattle.zarrs_codec.proofs.PartReads.{alone_refused, alone_places, is_none, large_piece, leaf_refused, shard_too_large}
-use Rattle.zarrs_codec.proofs.WholeShards.{alone_some, found_at, into_part, met_at, origin_box, origin_lies, own_long, piece_whole, seen_self, shared_is, some_bytes}
+use Rattle.zarrs_codec_chain.proofs.AllOfIt.{origin_box}
+use Rattle.zarrs_codec.proofs.WholeShards.{alone_some, found_at, into_part, met_at, origin_lies, own_long, piece_whole, seen_self, shared_is, some_bytes}
 use Rattle.zarrs_codec_shard.specs.Shards.{shard_parts}
 use Rattle.zarrs_codec_shard.proofs.ShardLaws.{length-shard_parts}
 use Rattle.zarrs_codec_chain.specs.Parts.{DecodesInto}

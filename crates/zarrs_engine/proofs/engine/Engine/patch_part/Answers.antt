@@ -1,4 +1,4 @@
-use Rattle.std.proofs.Common.{◌≡◌, ◌∙◌, length, rules, subst, sym, ap}
+use Rattle.std.proofs.Common.{◌≡◌, ◌∙◌, length, refl, rules, subst, sym, ap}
 use Rattle.std.proofs.lemmas.Bool.{false≢true}
 use Rattle.std.proofs.lemmas.Result.{on_ok_weaker}
 use Rattle.zarrs_subset.specs.Regions.{Box, LiesInBox, LiesInShape, box_of, seen_from}
@@ -47,7 +47,7 @@ returns-in_err-shared g c =
     let same = ap (λ (b : Box). length b.start) c.in_ok-chunk.ensures.region ∙ box_dimensions layout.grid index ∙ sym c.requires.dimensions in
     let why = memory_leaves layout keep (IsPart layout region) region (data_of c.args.region_data.now) index _ state
     (length_memory _ _ c.in_err-shared.field-0.0 same c.in_err-shared.ensures.refused) in
-    search (rules, why)
+    record { done = search rules; refused = search (rules, why); layout_kept = refl }
 
 -- a chunk that the region covers
 pub returns-then-lies_in_box : goal.returns-then-lies_in_box
@@ -92,7 +92,11 @@ returns-in_err-part g c =
     let region = box_of c.args.region.now in
     let held = data_of c.args.region_data.now in
     let why = memory_leaves layout keep (IsPart layout region) region held index _ state memory in
-    err_kept c.from_residual-in_err-part.result (error_of_subset c.in_err-part.field-0.0) (λ (e : ArrayError). LeavesPatch layout keep (IsPart layout region) region held index (refusal_of e) state state) c.from_residual-in_err-part.ensures.1 why
+    record {
+      done = search rules;
+      refused = err_kept c.from_residual-in_err-part.result (error_of_subset c.in_err-part.field-0.0) (λ (e : ArrayError). LeavesPatch layout keep (IsPart layout region) region held index (refusal_of e) state state) c.from_residual-in_err-part.ensures.1 why;
+      layout_kept = refl;
+    }
 
 pub patch_chunk-requires-clause-part : goal.patch_chunk-requires-clause-part
 patch_chunk-requires-clause-part g c =

@@ -3,7 +3,7 @@ use Rattle.std.proofs.lemmas.Result.{on_ok_weaker}
 use Rattle.std.specs.FinMap as map
 use Rattle.zarrs_storage.specs.Store.{Accepts, Refuses}
 use Rattle.zarrs_engine.proofs.Puts.{put_set, put_erase, put_short, put_refused, any_error}
-use Rattle.std.proofs.Common.{rules}
+use Rattle.std.proofs.Common.{refl, rules}
 use Rattle.zarrs_storage.specs.declared.error.StorageError.{StorageError}
 use Rattle.zarrs_engine_calls.specs.Refusals.{refusal_of_storage}
 use Rattle.zarrs_engine_layout.specs.Steps.{RefusesPut}

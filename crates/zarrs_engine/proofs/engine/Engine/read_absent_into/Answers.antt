@@ -1,4 +1,4 @@
-use Rattle.std.proofs.Common.{◌≡◌, ◌∙◌, None, Some, ap, refl, sym}
+use Rattle.std.proofs.Common.{◌≡◌, ◌∙◌, None, Some, ap, refl, rules, sym}
 use Rattle.zarrs_subset.specs.Boxes.{position_count}
 use Rattle.zarrs_subset.specs.Regions.{Box, box_of, overlap_of, seen_from}
 use Rattle.zarrs_subset.proofs.Inside.{holds_inside}
@@ -26,6 +26,11 @@ returns-then-filled g c =
     into_absent layout c.args.self.now.layout.lawful (box_of c.args.region.now) state (parent_box t) (target_box t) c.args.filled c.args.chunk_indices.now c.requires.boxed (data_of_target t) c.if-filled.true c.requires.absent in
     record { kept = keeps_itself t; read = read; refused = tt }
 
+pub returns-in_err-own : goal.returns-in_err-own
+returns-in_err-own g c =
+    let kept = keeps_itself c.args.target.now in
+    search (rules, kept)
+
 pub returns-in_default : goal.returns-in_default
 returns-in_default g c =
     let layout = layout_of c.args.self.now in
@@ -41,8 +46,12 @@ subdivide-part-requires g c =
     let layout = layout_of c.args.self.now in
     let t = c.args.target.now in
     let index = c.args.chunk_indices.now in
-    made_lies (target_box t) (box_of c.args.region.now) (box_at layout.grid index) (box_of c.in-Some.own) t.region.now.same_length c.args.region.now.same_length (box_long layout.grid index) c.requires.target.same_shape
-    (rw c.in-Some.is at c.in_ok-own.ensures.some)
+    let is : IsSharedIn (target_box t) (box_of c.args.region.now) (box_at layout.grid index) (box_of c.in-Some.own) = rw c.in-Some.is at c.in_ok-own.ensures.some in
+    record {
+      inside =
+          made_lies (target_box t) (box_of c.args.region.now) (box_at layout.grid index) (box_of c.in-Some.own) t.region.now.same_length c.args.region.now.same_length (box_long layout.grid index)
+          c.requires.target.same_shape is;
+    }
 
 pub copy_fill_value_into-done-requires-clause-takes : goal.copy_fill_value_into-done-requires-clause-takes
 copy_fill_value_into-done-requires-clause-takes g c =
@@ -85,3 +94,17 @@ returns g c =
     layout lawful state c.args.filled index c.requires.boxed refl c.requires.target.takes read
     (λ covers broken. let clash : None ≡ Some broken.encoded = sym c.requires.absent ∙ broken.stands in cc) in
     record { kept = back_kept made t l p q u lends region chunk region_long chunk_long c.requires.target.same_shape is; read = read; refused = tt }
+
+pub returns-in_err-done : goal.returns-in_err-done
+returns-in_err-done g c =
+    let layout = layout_of c.args.self.now in
+    let index = c.args.chunk_indices.now in
+    let t = c.args.target.now in
+    let lent = c.subdivide-part.ensures in
+    let made = box_of c.in-Some.own in
+    let chunk = box_at layout.grid index in
+    let is : IsSharedIn (target_box t) (box_of c.args.region.now) chunk made = rw c.in-Some.is at c.in_ok-own.ensures.some in
+    let kept = back_kept made t c.subdivide-part.new.self c.subdivide-part.result.target c.copy_fill_value_into-done.new.target c.rejoin.new.self
+    (record { bytes = lent.bytes; masks = lent.masks; lent = lent.lent; kept = c.copy_fill_value_into-done.ensures.kept; back = c.rejoin.ensures }) (box_of c.args.region.now) chunk c.args.region.now.same_length
+    (box_long layout.grid index) c.requires.target.same_shape is in
+    search (rules, kept)

@@ -24,6 +24,11 @@ use Rattle.zarrs_engine.proofs.PartBytes.{box_why, key_why, part_why, source_val
 use Rattle.zarrs_engine.proofs.TargetReads.{into_apart, part_positions}
 use Rattle.zarrs_engine.proofs.engine.Engine.read_part_into.Goals as goal
 
+pub returns-in_err-key : goal.returns-in_err-key
+returns-in_err-key g c =
+    let kept = keeps_itself c.args.target.now in
+    search (rules, kept)
+
 pub open-requires : goal.open-requires
 open-requires g c =
     let layout = layout_of c.args.self.now in
@@ -66,6 +71,11 @@ returns-in_err-extents g c =
     let kept = keeps_itself c.args.target.now in
     search (rules, why, kept)
 
+pub returns-in_err-part : goal.returns-in_err-part
+returns-in_err-part g c =
+    let kept = keeps_itself c.args.target.now in
+    search (rules, kept)
+
 pub returns-in_default-2 : goal.returns-in_default-2
 returns-in_default-2 g c =
     let layout = layout_of c.args.self.now in
@@ -75,6 +85,11 @@ returns-in_default-2 g c =
     let read =
     into_apart layout c.args.self.now.layout.lawful (box_of c.args.region.now) state (parent_box t) (target_box t) c.args.filled c.args.chunk_indices.now c.requires.boxed (data_of_target t) apart in
     record { kept = keeps_itself t; read = read; refused = tt }
+
+pub returns-in_err-own : goal.returns-in_err-own
+returns-in_err-own g c =
+    let kept = keeps_itself c.args.target.now in
+    search (rules, kept)
 
 pub returns-in_default-3 : goal.returns-in_default-3
 returns-in_default-3 g c =
@@ -91,8 +106,12 @@ subdivide-lent-requires g c =
     let layout = layout_of c.args.self.now in
     let t = c.args.target.now in
     let index = c.args.chunk_indices.now in
-    made_lies (target_box t) (box_of c.args.region.now) (box_at layout.grid index) (box_of c.in-Some-3.own) t.region.now.same_length c.args.region.now.same_length (box_long layout.grid index) c.requires.target.same_shape
-    (rw c.in-Some-3.is at c.in_ok-own.ensures.some)
+    let is : IsSharedIn (target_box t) (box_of c.args.region.now) (box_at layout.grid index) (box_of c.in-Some-3.own) = rw c.in-Some-3.is at c.in_ok-own.ensures.some in
+    record {
+      inside =
+          made_lies (target_box t) (box_of c.args.region.now) (box_at layout.grid index) (box_of c.in-Some-3.own) t.region.now.same_length c.args.region.now.same_length (box_long layout.grid index)
+          c.requires.target.same_shape is;
+    }
 
 pub decode_part_into-done-requires-clause-takes : goal.decode_part_into-done-requires-clause-takes
 decode_part_into-done-requires-clause-takes g c =

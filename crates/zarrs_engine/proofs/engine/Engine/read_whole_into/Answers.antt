@@ -31,6 +31,11 @@ returns-in_err-encoded g c =
 pub read_absent_into-requires-clause-absent : goal.read_absent_into-requires-clause-absent
 read_absent_into-requires-clause-absent g c = sym c.in_ok-encoded.ensures.value ∙ c.in_default.is
 
+pub returns-in_err-own : goal.returns-in_err-own
+returns-in_err-own g c =
+    let kept = keeps_itself c.args.target.now in
+    search (rules, kept)
+
 pub returns-in_default-2 : goal.returns-in_default-2
 returns-in_default-2 g c =
     let layout = layout_of c.args.self.now in
@@ -46,14 +51,18 @@ subdivide-part-requires g c =
     let layout = layout_of c.args.self.now in
     let t = c.args.target.now in
     let index = c.args.chunk_indices.now in
-    made_lies (target_box t) (box_of c.args.region.now) (box_at layout.grid index) (box_of c.in-Some-2.own) t.region.now.same_length c.args.region.now.same_length (box_long layout.grid index) c.requires.target.same_shape
-    (rw c.in-Some-2.is at c.in_ok-own.ensures.some)
+    let is : IsSharedIn (target_box t) (box_of c.args.region.now) (box_at layout.grid index) (box_of c.in-Some-2.own) = rw c.in-Some-2.is at c.in_ok-own.ensures.some in
+    record {
+      inside =
+          made_lies (target_box t) (box_of c.args.region.now) (box_at layout.grid index) (box_of c.in-Some-2.own) t.region.now.same_length c.args.region.now.same_length (box_long layout.grid index)
+          c.requires.target.same_shape is;
+    }
 
 pub decode_into-done-requires : goal.decode_into-done-requires
 decode_into-done-requires g c =
     let p = c.subdivide-part.result.target in
     let same = c.subdivide-part.ensures.bytes in
-    same_takes c.args.target.now p (layout_of c.args.self.now).kind same.cell_size same.depth c.requires.target.takes
+    record { takes = same_takes c.args.target.now p (layout_of c.args.self.now).kind same.cell_size same.depth c.requires.target.takes }
 
 pub returns-in_err-done : goal.returns-in_err-done
 returns-in_err-done g c =

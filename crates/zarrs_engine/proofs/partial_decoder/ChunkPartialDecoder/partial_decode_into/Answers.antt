@@ -5,6 +5,7 @@ use Rattle.zarrs_subset.specs.Boxes.{position_count}
 use Rattle.zarrs_subset.specs.Regions.{Box, box_of}
 use Rattle.zarrs_data_type_region.proofs.Kept.{keeps_itself}
 use Rattle.zarrs_data_type.specs.States.{parent_box, target_box}
+use Rattle.zarrs_engine_calls.specs.ArgumentRefusals.{part_refusal}
 use Rattle.zarrs_engine_calls.specs.declared.error.ArrayError.{ArrayError}
 use Rattle.zarrs_engine_calls.specs.Refusals.{Refusal, refusal_of}
 use Rattle.zarrs_engine_layout.proofs.ChunkParts.{chunk_accepted}
