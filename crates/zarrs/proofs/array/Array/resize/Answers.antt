@@ -3,7 +3,6 @@ use Rattle.zarrs_metadata.specs.Versions.{metadata_view}
 use Rattle.zarrs_chunk_grid.specs.GridView.{array_extents_of}
 use Rattle.zarrs_engine.specs.Engine.{grid_of}
 use Rattle.zarrs_creation.specs.Changes.{with_shape}
-use Rattle.zarrs.specs.Arrays.{KeepsAllButShape}
 use Rattle.zarrs.proofs.Layouts.{parts_are}
 use Rattle.zarrs.proofs.Regridded.{one_configuration, shape_fits, shape_kept, agrees_resized}
 use Rattle.zarrs.proofs.array.Array.resize.Goals as goal
@@ -11,14 +10,23 @@ use Rattle.zarrs.proofs.array.Array.resize.Goals as goal
 pub returns-in_err-resize : goal.returns-in_err-resize
 returns-in_err-resize g c =
     let old = c.args.self.now in
-    let kept : KeepsAllButShape old (record old { engine = c.resize.new.self }) = record {
-      others = c.in_err-resize.ensures.others;
-      metadata = shape_kept (metadata_view old.metadata) old.engine c.resize.new.self (parts_are old) c.in_err-resize.ensures.layout_kept;
-      codec_options = refl;
-      codec_specific_options = refl;
-      metadata_options = refl;
-    } in
-    search (rules, kept)
+    let is = c.in_err-resize.ensures in
+    record {
+      done = tt;
+      metadata = tt;
+      shape = tt;
+      refused = search rules;
+      canonical = is.canonical;
+      layout = is.layout;
+      untouched = record { layout_kept = is.layout_kept; metadata = refl; codec_options = refl; codec_specific_options = refl; metadata_options = refl };
+      kept = record {
+        others = is.others;
+        metadata = shape_kept (metadata_view old.metadata) old.engine c.resize.new.self (parts_are old) is.layout_kept;
+        codec_options = refl;
+        codec_specific_options = refl;
+        metadata_options = refl;
+      };
+    }
 
 pub overwrite_shape-requires : goal.overwrite_shape-requires
 overwrite_shape-requires g c =
