@@ -13,7 +13,7 @@ use zarrs_codec::{
     CodecError, CodecOptions, PartialWrite, Window,
 };
 use zarrs_codec_chain::PartError;
-use zarrs_data_type::{ArrayBytes, ArrayBytesDecodeIntoTarget, DataType, FillValue};
+use zarrs_data_type::{ArrayBytes, ArrayBytesDecodeIntoTarget, ChunkType, DataType, FillValue};
 use zarrs_engine::{ArrayError, Engine};
 use zarrs_keys::{ChunkKeyEncoding, ChunkKeySeparator, NodePath};
 use zarrs_storage::MemoryStore;
@@ -36,35 +36,29 @@ impl ChainTraits for LeanChain {
         &self,
         alloc: Global,
         bytes: &ArrayBytes<'_>,
-        data_type: &DataType,
-        fill_value: &FillValue,
-        shape: &[u64],
+        chunk: &ChunkType<'_>,
         options: &CodecOptions,
     ) -> Result<Vec<u8>, CodecError> {
         self.chain
-            .encode(alloc, bytes, data_type, fill_value, shape, options)
+            .encode(alloc, bytes, chunk, options)
     }
 
     fn encode_owned(
         &self,
         alloc: Global,
         bytes: ArrayBytes<'_>,
-        data_type: &DataType,
-        fill_value: &FillValue,
-        shape: &[u64],
+        chunk: &ChunkType<'_>,
         options: &CodecOptions,
     ) -> Result<Vec<u8>, CodecError> {
         self.chain
-            .encode_owned(alloc, bytes, data_type, fill_value, shape, options)
+            .encode_owned(alloc, bytes, chunk, options)
     }
 
     fn decode<'a>(
         &self,
         _alloc: Global,
         _encoded: &'a [u8],
-        _data_type: &DataType,
-        _fill_value: &FillValue,
-        _shape: &[u64],
+        _chunk: &ChunkType<'_>,
     ) -> Result<ArrayBytes<'a>, CodecError> {
         Err(CodecError::OutOfMemory)
     }
@@ -75,12 +69,10 @@ impl ChainTraits for LeanChain {
         source: &B,
         window: Window,
         part: &ArraySubset,
-        data_type: &DataType,
-        fill_value: &FillValue,
-        shape: &[u64],
+        chunk: &ChunkType<'_>,
     ) -> Result<ArrayBytes<'static>, PartError> {
         self.chain
-            .partial_decode(alloc, source, window, part, data_type, fill_value, shape)
+            .partial_decode(alloc, source, window, part, chunk)
     }
 
     fn partial_decode_into<B: ByteSource>(
@@ -89,26 +81,12 @@ impl ChainTraits for LeanChain {
         source: &B,
         window: Window,
         part: &ArraySubset,
-        data_type: &DataType,
-        fill_value: &FillValue,
-        shape: &[u64],
+        chunk: &ChunkType<'_>,
         target: &mut ArrayBytesDecodeIntoTarget<'_, '_, '_>,
     ) -> Result<(), PartError> {
         self.chain.partial_decode_into(
-            alloc, source, window, part, data_type, fill_value, shape, target,
+            alloc, source, window, part, chunk, target,
         )
-    }
-
-    fn decode_into(
-        &self,
-        alloc: Global,
-        encoded: &[u8],
-        data_type: &DataType,
-        fill_value: &FillValue,
-        target: &mut ArrayBytesDecodeIntoTarget<'_, '_, '_>,
-    ) -> Result<(), CodecError> {
-        self.chain
-            .decode_into(alloc, encoded, data_type, fill_value, target)
     }
 
     fn compact(
@@ -130,13 +108,11 @@ impl ChainTraits for LeanChain {
         stored: Option<&[u8]>,
         part: &ArraySubset,
         bytes: &ArrayBytes<'_>,
-        data_type: &DataType,
-        fill_value: &FillValue,
-        shape: &[u64],
+        chunk: &ChunkType<'_>,
         options: &CodecOptions,
     ) -> Result<PartialWrite, CodecError> {
         self.chain.partial_encode(
-            alloc, stored, part, bytes, data_type, fill_value, shape, options,
+            alloc, stored, part, bytes, chunk, options,
         )
     }
 

@@ -9,7 +9,7 @@ use zarrs_codec::{
     CodecError, CodecOptions, Misfit, TransposeCodec, VlenUtf8Codec,
 };
 use zarrs_codec_array::encoded_shape;
-use zarrs_data_type::{DataType, FillValue};
+use zarrs_data_type::{CellType, ChunkType};
 use zarrs_metadata_parts::MetadataV3;
 
 const LITTLE: &str = r#"[{"name":"bytes","configuration":{"endian":"little"}}]"#;
@@ -62,25 +62,35 @@ type Row = (
     &'static [u8],
 );
 
+/// Cells of this type, where zero fills.
+fn cells_of(rt: &impl Abort, alloc: Global, name: &str) -> CellType {
+    let data_type = type_of(rt, alloc, name);
+    let fill_value = zero_of(rt, alloc, &data_type);
+    CellType::new(data_type, fill_value).expect(rt, "a fill value")
+}
+
 /// The cells encode to the bytes, and back.
 fn must_encode(rt: &impl Abort, alloc: Global, row: &Row) {
     let (codecs, name, shape, cells, encoded) = row;
-    let (chain, data_type) = (chain_of(rt, alloc, codecs), type_of(rt, alloc, name));
-    let (fill_value, data) = (zero_of(rt, alloc, &data_type), data_of(rt, alloc, cells));
-    must(rt, fill_value.is_value_of(&data_type));
+    let (chain, cell_type) = (chain_of(rt, alloc, codecs), cells_of(rt, alloc, name));
+    let data = data_of(rt, alloc, cells);
+    let chunk = ChunkType {
+        cell_type: &cell_type,
+        shape: *shape,
+    };
     let count = zarrs_subset::element_count(shape).expect(rt, "a count");
-    must(rt, data.validate(&data_type, count));
+    must(rt, data.validate(&cell_type.data_type, count));
     must_for(
         rt,
         *codecs,
         chain
-            .fits(alloc, &data_type, shape)
+            .fits(alloc, &cell_type.data_type, shape)
             .expect(rt, "no refusal"),
     );
     let options = CodecOptions::default();
-    let made = chain.encode(alloc, &data, &data_type, &fill_value, shape, &options);
+    let made = chain.encode(alloc, &data, &chunk, &options);
     must_eq(rt, made.expect(rt, "no refusal").as_slice(), *encoded);
-    must_decode(rt, alloc, &chain, (&data_type, &fill_value), row);
+    must_decode(rt, alloc, &chain, &chunk, row);
 }
 
 /// The bytes decode to the cells, and are compact.
@@ -88,14 +98,16 @@ fn must_decode<C: ChainTraits>(
     rt: &impl Abort,
     alloc: Global,
     chain: &C,
-    (data_type, fill_value): (&DataType, &FillValue),
+    chunk: &ChunkType<'_>,
     row: &Row,
 ) {
     let (codecs, _, shape, cells, encoded) = row;
-    must(rt, fill_value.is_value_of(data_type));
-    let count = zarrs_subset::element_count(shape).expect(rt, "a count");
-    must(rt, count < 100 && data_type.cell_size() < 100);
-    let back = chain.decode(alloc, encoded, data_type, fill_value, shape);
+    let count = zarrs_subset::element_count(chunk.shape).expect(rt, "a count");
+    must(
+        rt,
+        count < 100 && chunk.cell_type.data_type.cell_size() < 100,
+    );
+    let back = chain.decode(alloc, encoded, chunk);
     must_be(rt, &back.expect(rt, "no refusal"), cells);
     let less = chain.compact(alloc, encoded, shape);
     must_for(rt, *codecs, less.is_ok_and(|less| less.is_none()));
@@ -215,11 +227,13 @@ fn chains_take_no_other_types_and_shapes(rt: HostRuntime) {
 }
 
 fn must_not_decode(rt: &impl Abort, alloc: Global, codecs: &str, name: &str, encoded: &[u8]) {
-    let (chain, data_type) = (chain_of(rt, alloc, codecs), type_of(rt, alloc, name));
-    let fill_value = zero_of(rt, alloc, &data_type);
-    must(rt, fill_value.is_value_of(&data_type));
-    must(rt, data_type.cell_size() < 100);
-    let made = chain.decode(alloc, encoded, &data_type, &fill_value, &[0]);
+    let (chain, cell_type) = (chain_of(rt, alloc, codecs), cells_of(rt, alloc, name));
+    must(rt, cell_type.data_type.cell_size() < 100);
+    let chunk = ChunkType {
+        cell_type: &cell_type,
+        shape: &[0],
+    };
+    let made = chain.decode(alloc, encoded, &chunk);
     must_for(
         rt,
         codecs,
@@ -341,28 +355,24 @@ fn must_turn(
     let mut codecs = Vec::new(alloc);
     codecs.push(turning(rt, alloc)).expect(rt, "no refusal");
     let chain = CodecChain::new(codecs, last, BytesToBytesCodecs);
-    let (data_type, shape) = (type_of(rt, alloc, name), wide_shape(rt, alloc));
-    let (fill_value, data) = (zero_of(rt, alloc, &data_type), data_of(rt, alloc, cells));
-    must(rt, fill_value.is_value_of(&data_type));
+    let (cell_type, shape) = (cells_of(rt, alloc, name), wide_shape(rt, alloc));
+    let data = data_of(rt, alloc, cells);
+    let chunk = ChunkType {
+        cell_type: &cell_type,
+        shape: &shape,
+    };
     let count = zarrs_subset::element_count(&shape).expect(rt, "a count");
-    must(rt, data.validate(&data_type, count));
+    must(rt, data.validate(&cell_type.data_type, count));
     must(
         rt,
         chain
-            .fits(alloc, &data_type, &shape)
+            .fits(alloc, &cell_type.data_type, &shape)
             .expect(rt, "no refusal"),
     );
     let options = CodecOptions::default();
-    let made = chain.encode(alloc, &data, &data_type, &fill_value, &shape, &options);
+    let made = chain.encode(alloc, &data, &chunk, &options);
     must_eq(rt, made.expect(rt, "no refusal").as_slice(), encoded);
-    must_turn_back(
-        rt,
-        alloc,
-        &chain,
-        (&data_type, &fill_value),
-        &shape,
-        (cells, encoded),
-    );
+    must_turn_back(rt, alloc, &chain, &chunk, (cells, encoded));
 }
 
 /// The bytes of a wide array decode to the cells.
@@ -370,14 +380,15 @@ fn must_turn_back<C: ChainTraits>(
     rt: &impl Abort,
     alloc: Global,
     chain: &C,
-    (data_type, fill_value): (&DataType, &FillValue),
-    shape: &[u64],
+    chunk: &ChunkType<'_>,
     (cells, encoded): (&Cells, &[u8]),
 ) {
-    must(rt, fill_value.is_value_of(data_type));
-    let count = zarrs_subset::element_count(shape).expect(rt, "a count");
-    must(rt, count < 100 && data_type.cell_size() < 100);
-    let back = chain.decode(alloc, encoded, data_type, fill_value, shape);
+    let count = zarrs_subset::element_count(chunk.shape).expect(rt, "a count");
+    must(
+        rt,
+        count < 100 && chunk.cell_type.data_type.cell_size() < 100,
+    );
+    let back = chain.decode(alloc, encoded, chunk);
     must_be(rt, &back.expect(rt, "no refusal"), cells);
 }
 

@@ -7,7 +7,7 @@ use zarrs_codec::{
     ArrayToBytesCodec, BytesCodec, BytesToBytesCodecs, ChainTraits, CodecChain, CodecError,
     CodecOptions, Misfit, PartialWrite, ShardingCodec, ShardingIndexLocation,
 };
-use zarrs_data_type::{ArrayBytes, DataType, FillValue};
+use zarrs_data_type::{ArrayBytes, CellType, ChunkType, DataType, FillValue};
 use zarrs_subset::ArraySubset;
 
 /// The cells 0, 0, 5 and 6 in subchunks of two.
@@ -47,23 +47,17 @@ fn partial(
     );
     let part = part.expect(rt, "a box");
     let data = ArrayBytes::from_flen(cells);
-    let data_type = DataType::UInt8;
+    let cell_type = CellType::new(DataType::UInt8, fill_value).expect(rt, "a fill value");
+    let chunk = ChunkType {
+        cell_type: &cell_type,
+        shape: &[4],
+    };
     let options = CodecOptions::default();
     must(rt, chain.supports_partial_encode());
-    must(rt, fill_value.is_value_of(&data_type));
     must(rt, part.dimensionality() == 1);
     let count = part.num_elements().expect(rt, "a count");
-    must(rt, data.validate(&data_type, count));
-    chain.partial_encode(
-        alloc,
-        stored,
-        &part,
-        &data,
-        &data_type,
-        &fill_value,
-        &[4],
-        &options,
-    )
+    must(rt, data.validate(&cell_type.data_type, count));
+    chain.partial_encode(alloc, stored, &part, &data, &chunk, &options)
 }
 
 /// These bytes are put at this offset.

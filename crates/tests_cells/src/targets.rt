@@ -1,7 +1,6 @@
 //! Targets that are made of places and written by parts.
 
-ghost use Rattle.std.specs.Prelude.{◌≡◌};
-ghost use Rattle.zarrs_data_type.specs.States.{IsTarget, SameBox};
+ghost use Rattle.zarrs_data_type.specs.States.{IsSameTarget};
 
 use crate::checks::{must, must_eq};
 use crate::data::{Cells, data_of};
@@ -23,11 +22,7 @@ fn write(
     target: &mut ArrayBytesDecodeIntoTarget<'_, '_, '_>,
     data: &ArrayBytes<'_>,
 )
-    requires { IsTarget target.old }
-    ensures target { IsTarget target.new }
-    ensures same_bytes { target.new.bytes.ghost_name ≡ target.old.bytes.ghost_name }
-    ensures same_masks { target.new.masks.ghost_name ≡ target.old.masks.ghost_name }
-    ensures same_box { SameBox target.old target.new }
+    ensures { IsSameTarget target.old target.new }
 {
     if !target.takes_data(data) {
         return rt.panic("cells of another number");
@@ -43,11 +38,7 @@ fn write_part(
     region: &ArraySubset,
     cells: &Cells,
 )
-    requires { IsTarget target.old }
-    ensures target { IsTarget target.new }
-    ensures same_bytes { target.new.bytes.ghost_name ≡ target.old.bytes.ghost_name }
-    ensures same_masks { target.new.masks.ghost_name ≡ target.old.masks.ghost_name }
-    ensures same_box { SameBox target.old target.new }
+    ensures { IsSameTarget target.old target.new }
 {
     if !lies_in_box(region, target.region) {
         return rt.panic("a box outside the target's");

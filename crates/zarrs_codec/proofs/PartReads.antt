@@ -1,6 +1,10 @@
 -- Parts of chunks that are read, and chunks that are decoded into targets.
-use Rattle.std.proofs.Common.{◌≡◌, ℕ, ◌+◌, ◌-◌, ◌*◌, ◌^◌, ◌<◌, ◌≤◌, Bool, true, false, ◌⊎◌, inl, inr, List, [], ◌∷◌, length, Option, Some, refl, sym, ap, ◌∙◌, subst, arith}
-use Rattle.std.proofs.lemmas.Bool.{false≢true, lt-ltb}
+use Rattle.std.proofs.Common.{◌≡◌, ℕ, ◌+◌, ◌-◌, ◌*◌, ◌^◌, ◌<◌, ◌≤◌, Bool, true, false, List, [], ◌∷◌, get_or, length, Option, None, Some, refl, sym, ap, ◌∙◌, subst, arith}
+use Rattle.std.specs.Prelude.{nat_le, slice_index_or, ◌&&◌}
+use Rattle.std.specs.List.{list_any, range_with_len}
+use Rattle.std.proofs.lemmas.Bool.{and_from, false≢true, le-leb, lt-ltb, or_left, or_right}
+use Rattle.std.proofs.lemmas.List.Folds.{list_any_at}
+use Rattle.std.proofs.lemmas.List.FromFn.{get_or-range_with_len, length-range_with_len}
 use Rattle.std.proofs.lemmas.List.{length-drop, length-take-le}
 use Rattle.zarrs_data_type.specs.ArrayData.{ArrayData}
 use Rattle.zarrs_codec_array.specs.declared.array.ArrayToArrayCodec.{ArrayToArrayCodec}
@@ -9,24 +13,24 @@ use Rattle.zarrs_codec_leaf.specs.declared.error.CodecError.TheVariants as error
 use Rattle.zarrs_codec_leaf.specs.Sources.{IsWindow, MayRead, MayReadPlaces, window_bytes}
 use Rattle.zarrs_codec_leaf.specs.declared.source.Window.{Window}
 use Rattle.zarrs_subset.specs.Boxes.{position_count}
-use Rattle.zarrs_subset.specs.Regions.{Box}
+use Rattle.zarrs_subset.specs.Regions.{Box, overlap_of, seen_from}
 use Rattle.zarrs_data_type.specs.Cell.{Cell, held_size}
 use Rattle.zarrs_data_type.specs.Kind.{Kind, cell_size}
-use Rattle.zarrs_codec_chain.specs.Parts.{DecodesInto, DecodesPart}
-use Rattle.zarrs_codec_chain.specs.Places.{all_places}
-use Rattle.zarrs_codec_chain.specs.PartRefusals.{RefusesIntoDecoding, RefusesPartDecoding}
+use Rattle.zarrs_codec_chain.specs.Parts.{DecodesPart}
+use Rattle.zarrs_codec_chain.specs.Places.{all_places, boxes_meet}
+use Rattle.zarrs_codec_chain.specs.PartRefusals.{RefusesPartDecoding}
 use Rattle.zarrs_codec_chain.specs.declared.error.PartError.{PartError}
 use Rattle.zarrs_codec_chain.specs.declared.error.PartError.TheVariants.{Codec, Source}
-use Rattle.zarrs_codec_chain.specs.Chain.{ChainMeaning}
+use Rattle.zarrs_codec_chain.specs.Chain.{ChainMeaning, is_too_large}
 use Rattle.zarrs_codec_chain.specs.Refusals.{IsTooLargeToDecode, RefusesChunkDecoding}
 use Rattle.zarrs_codec_chain.specs.ShardParts.{HasTooLarge}
-use Rattle.zarrs_codec_chain.proofs.SubchunkSteps.{left_out, shard_left_out}
-use Rattle.zarrs_codec_shard.specs.Sharded.{part_leaves_out}
+use Rattle.zarrs_codec_shard.proofs.ShardLaws.{length-shard_parts}
 use Rattle.zarrs_codec_shard.specs.Shards.{shard_parts}
-use Rattle.zarrs_codec_shard.specs.Subchunks.{is_cut_by, subchunk_count}
+use Rattle.zarrs_codec_shard.specs.Subchunks.{is_cut_by, subchunk_box, subchunk_count}
 use Rattle.zarrs_codec.specs.Chains.{behind, codec_meaning, no_codec}
 use Rattle.zarrs_codec.specs.ChainLaws.{same_cells}
-use Rattle.zarrs_codec.specs.Shardings.{sharded}
+use Rattle.zarrs_codec.specs.ShardChunks.{DecodesWhole}
+use Rattle.zarrs_codec.specs.Shardings.{ReadsLargeSubchunk, reads_large_part, sharded}
 use Rattle.zarrs_codec.specs.declared.codec.ArrayToBytesCodec.{ArrayToBytesCodec}
 use Rattle.zarrs_codec.specs.declared.codec.ArrayToBytesCodec as codec
 
@@ -37,10 +41,10 @@ pub alone_part : (codecs : List ArrayToArrayCodec) (m : ChainMeaning) (k : Kind)
 alone_part [] m k f s part b d alone h = subst (λ o. DecodesPart k s part o d) (sym (same_cells m k f s (Some b))) h
 alone_part (c ∷ codecs) m k f s part b d alone h = absurd (false≢true alone)
 
-pub alone_refused : (codecs : List ArrayToArrayCodec) (m : ChainMeaning) (k : Kind) (f : Cell) (s b : List ℕ) (refuses : Bool) (e : PartError) → no_codec codecs ≡ true
-    → RefusesPartDecoding (m.decoded k f s b) (IsTooLargeToDecode m k f s b) refuses e → RefusesPartDecoding ((behind codecs m).decoded k f s b) (IsTooLargeToDecode (behind codecs m) k f s b) refuses e
-alone_refused [] m k f s b refuses e alone why = subst (λ o. RefusesPartDecoding o (IsTooLargeToDecode m k f s b) refuses e) (sym (same_cells m k f s (Some b))) why
-alone_refused (c ∷ codecs) m k f s b refuses e alone why = absurd (false≢true alone)
+pub alone_refused : (codecs : List ArrayToArrayCodec) (m : ChainMeaning) (k : Kind) (f : Cell) (s : List ℕ) (part : Box) (b : List ℕ) (refuses : Bool) (e : PartError) → no_codec codecs ≡ true
+    → RefusesPartDecoding (m.decoded k f s b) (IsTooLargeToDecode m k f s part b) refuses e → RefusesPartDecoding ((behind codecs m).decoded k f s b) (IsTooLargeToDecode (behind codecs m) k f s part b) refuses e
+alone_refused [] m k f s part b refuses e alone why = subst (λ o. RefusesPartDecoding o (IsTooLargeToDecode m k f s part b) refuses e) (sym (same_cells m k f s (Some b))) why
+alone_refused (c ∷ codecs) m k f s part b refuses e alone why = absurd (false≢true alone)
 
 pub alone_places : (codecs : List ArrayToArrayCodec) (m : ChainMeaning) (may_read : ℕ → Bool) (window : Window) (k : Kind) (s : List ℕ) (part : Box) (b : List ℕ) → no_codec codecs ≡ true
     → MayRead may_read window ((behind codecs m).places k s part b) → MayRead may_read window (m.places k s part b)
@@ -72,36 +76,61 @@ whole_read may_read window source k s part inside may place from below =
     let at : place ≡ window.offset + x = omega arith in
     ap may_read at ∙ may x (lt-ltb x (length b) (omega arith))
 
+-- cells that a usize does not count, or fill, are too large
+pub cells_large : (leaves_out : Bool) (k : Kind) (f : Cell) (s : List ℕ) → 2 ^ 64 ≤ position_count s * cell_size k → is_too_large leaves_out k f s ≡ true
+cells_large leaves_out k f s large =
+    or_left (nat_le (2 ^ 64) (position_count s * cell_size k)) (leaves_out && nat_le (2 ^ 64) (position_count s * held_size k f))
+    (le-leb (2 ^ 64) (position_count s * cell_size k) large)
+
+pub fill_large : (leaves_out : Bool) (k : Kind) (f : Cell) (s : List ℕ) → leaves_out ≡ true → 2 ^ 64 ≤ position_count s * held_size k f → is_too_large leaves_out k f s ≡ true
+fill_large leaves_out k f s left large =
+    or_right (nat_le (2 ^ 64) (position_count s * cell_size k)) (leaves_out && nat_le (2 ^ 64) (position_count s * held_size k f))
+    (and_from leaves_out (nat_le (2 ^ 64) (position_count s * held_size k f)) left (le-leb (2 ^ 64) (position_count s * held_size k f) large))
+
 -- of a chain that decodes the chunk whole
-pub chunk_refused : (m : ChainMeaning) (k : Kind) (f : Cell) (s b : List ℕ) (refuses : Bool) (e : CodecError) → m.decodes_whole s ≡ Some s → RefusesChunkDecoding m k f s b e
-    → RefusesPartDecoding (m.decoded k f s b) (IsTooLargeToDecode m k f s b) refuses (Codec e)
-chunk_refused m k f s b refuses (error.DoesNotFit _) whole why = why
-chunk_refused m k f s b refuses error.SizeOverflow whole why = (s, whole, inr why)
-chunk_refused m k f s b refuses error.OutOfMemory whole why = why
+pub chunk_refused : (m : ChainMeaning) (k : Kind) (f : Cell) (s : List ℕ) (part : Box) (b : List ℕ) (refuses : Bool) (e : CodecError) → DecodesWhole m → RefusesChunkDecoding m k f s b e
+    → RefusesPartDecoding (m.decoded k f s b) (IsTooLargeToDecode m k f s part b) refuses (Codec e)
+chunk_refused m k f s part b refuses (error.DoesNotFit _) whole why = why
+chunk_refused m k f s part b refuses error.SizeOverflow whole why = whole k f s part b ∙ fill_large (m.leaves_out s b) k f s why.0 why.1
+chunk_refused m k f s part b refuses error.OutOfMemory whole why = why
 
--- behind some codec that is the chunk
-pub whole_many : (codecs : List ArrayToArrayCodec) (m : ChainMeaning) (s : List ℕ) → no_codec codecs ≡ false → (behind codecs m).decodes_whole s ≡ Some s
-whole_many [] m s many = absurd (false≢true (sym many))
-whole_many (c ∷ codecs) m s many = refl
+-- behind some codec that is so
+pub whole_many : (codecs : List ArrayToArrayCodec) (m : ChainMeaning) → no_codec codecs ≡ false → DecodesWhole (behind codecs m)
+whole_many [] m many = absurd (false≢true (sym many))
+whole_many (c ∷ codecs) m many = λ k f s part b. refl
 
--- and behind none what the codec decodes whole
-pub whole_alone : (codecs : List ArrayToArrayCodec) (m : ChainMeaning) (s : List ℕ) → no_codec codecs ≡ true → (behind codecs m).decodes_whole s ≡ m.decodes_whole s
-whole_alone [] m s alone = refl
-whole_alone (c ∷ codecs) m s alone = absurd (false≢true alone)
+-- and behind none if the codec does
+pub whole_alone : (codecs : List ArrayToArrayCodec) (m : ChainMeaning) → no_codec codecs ≡ true → DecodesWhole m → DecodesWhole (behind codecs m)
+whole_alone [] m alone whole = λ k f s part b. whole k f s part b
+whole_alone (c ∷ codecs) m alone whole = absurd (false≢true alone)
 
 -- ---- shards
 
--- a subchunk that is too large is what is too large of the shard
-pub shard_too_large : (at_start : Bool) (sub : List ℕ) (m : ChainMeaning) (k : Kind) (f : Cell) (s b : List ℕ) (parts : List (Option (List ℕ))) → is_cut_by s sub ≡ true → shard_parts at_start (subchunk_count s sub) b ≡ Some parts
-    → HasTooLarge (IsTooLargeToDecode m k f sub) parts → IsTooLargeToDecode (sharded at_start sub m) k f s b
-shard_too_large at_start sub m k f s b parts cut are h = (h.large.0, h.large.1, go h.large.2)
+-- what is too large of a subchunk that the part meets is too large of the shard
+pub shard_too_large : (at_start : Bool) (sub : List ℕ) (m : ChainMeaning) (k : Kind) (f : Cell) (s : List ℕ) (part : Box) (b : List ℕ) (parts : List (Option (List ℕ))) → is_cut_by s sub ≡ true
+    → shard_parts at_start (subchunk_count s sub) b ≡ Some parts
+    → HasTooLarge (ReadsLargeSubchunk m k f s sub part) parts → IsTooLargeToDecode (sharded at_start sub m) k f s part b
+shard_too_large at_start sub m k f s part b parts cut are h =
+    let count = subchunk_count s sub in
+    let large : ℕ → Bool = λ j. reads_large_part m k f s sub part j (slice_index_or parts j None) in
+    let below : h.number < count = omega (arith, h.below, length-shard_parts at_start count b parts are) in
+    let at : get_or (range_with_len 0 count) h.number 0 ≡ h.number = get_or-range_with_len 0 count h.number 0 below ∙ (let e : 0 + h.number ≡ h.number = omega arith in e) in
+    let here : large h.number ≡ true = ap (reads_large_part m k f s sub part h.number) h.present ∙ h.large in
+    let any : list_any large (range_with_len 0 count) ≡ true =
+    list_any_at large (range_with_len 0 count) h.number 0 (omega (arith, length-range_with_len 0 count)) (ap large at ∙ here) in
+    and_from (is_cut_by s sub) _ cut (ap (λ (o : Option (List (Option (List ℕ)))). large_of o) are ∙ any)
   where
-    go : (2 ^ 64 ≤ position_count h.large.0 * cell_size k) ⊎ ((m.leaves_out sub h.encoded ≡ true) × (2 ^ 64 ≤ position_count h.large.0 * held_size k f))
-        → (2 ^ 64 ≤ position_count h.large.0 * cell_size k) ⊎ (((sharded at_start sub m).leaves_out s b ≡ true) × (2 ^ 64 ≤ position_count h.large.0 * held_size k f))
-    go (inl large) = inl large
-    go (inr large) =
-        let left = m.leaves_out sub in
-        inr (shard_left_out left at_start s sub b parts cut are (left_out left parts h.number h.below (ap (part_leaves_out left) h.present ∙ large.0)), large.1)
+    large_of : Option (List (Option (List ℕ))) → Bool
+    large_of o = elim o [ None ↦ false | Some x ↦ list_any (λ j. reads_large_part m k f s sub part j (slice_index_or x j None)) (range_with_len 0 (subchunk_count s sub)) ]
+
+-- the code's boxes of what a part shares with a subchunk
+pub large_piece : (m : ChainMeaning) (k : Kind) (f : Cell) (s sub : List ℕ) (part : Box) (n : ℕ) (subset shared own : Box) (corner b : List ℕ)
+    → boxes_meet part (subchunk_box s sub n) ≡ true → subset ≡ subchunk_box s sub n → shared ≡ overlap_of part subset → corner ≡ subset.start → own ≡ seen_from shared corner
+    → IsTooLargeToDecode m k f sub own b → ReadsLargeSubchunk m k f s sub part n b
+large_piece m k f s sub part n subset shared own corner b meets subset_is shared_is corner_is own_is large =
+    let here : own ≡ seen_from (overlap_of part (subchunk_box s sub n)) (subchunk_box s sub n).start =
+    own_is ∙ ap (seen_from shared) corner_is ∙ ap (λ (x : Box). seen_from x subset.start) shared_is ∙ ap (λ (x : Box). seen_from (overlap_of part x) x.start) subset_is in
+    and_from (boxes_meet part (subchunk_box s sub n)) _ meets (ap (λ (o : Box). m.reads_too_large k f sub o b) (sym here) ∙ large)
 
 -- ---- codecs of cells
 
@@ -125,28 +154,11 @@ other_places (codec.Vlen x) may_read window k s part b not_bytes not_shard may =
 other_places (codec.Optional x) may_read window k s part b not_bytes not_shard may = may
 
 -- and decodes the chunk whole
-pub other_whole : (c : ArrayToBytesCodec) (s : List ℕ) → ((x : _) → c ≡ codec.Bytes x → ⊥) → ((p sub at before last after : _) → c ≡ codec.Sharding' p sub at before last after → ⊥) → (codec_meaning c).decodes_whole s ≡ Some s
-other_whole (codec.Bytes x) s not_bytes not_shard = absurd (not_bytes x refl)
-other_whole (codec.Sharding' p sub at before last after) s not_bytes not_shard = absurd (not_shard p sub at before last after refl)
-other_whole (codec.PackBits x) s not_bytes not_shard = refl
-other_whole (codec.VlenUtf8 x) s not_bytes not_shard = refl
-other_whole (codec.VlenBytes x) s not_bytes not_shard = refl
-other_whole (codec.Vlen x) s not_bytes not_shard = refl
-other_whole (codec.Optional x) s not_bytes not_shard = refl
-
--- a chunk whose cells are in memory is not too large
-pub into_refused : (m : ChainMeaning) (k : Kind) (f : Cell) (s b : List ℕ) (e : CodecError) → position_count s * held_size k f < 2 ^ 64 → RefusesChunkDecoding m k f s b e → RefusesIntoDecoding (m.decoded k f s b) e
-into_refused m k f s b (error.DoesNotFit _) small why = why
-into_refused m k f s b error.SizeOverflow small why = let large : 2 ^ 64 ≤ position_count s * held_size k f = why.1 in absurd (omega arith)
-into_refused m k f s b error.OutOfMemory small why = why
-
--- the same, of a chunk that is decoded into a target
-pub alone_into : (codecs : List ArrayToArrayCodec) (m : ChainMeaning) (k : Kind) (f : Cell) (s b : List ℕ) (box other : Box) (held : ArrayData) → no_codec codecs ≡ true
-    → DecodesInto k box other (m.decoded k f s b) held → DecodesInto k box other ((behind codecs m).decoded k f s b) held
-alone_into [] m k f s b box other held alone h = subst (λ o. DecodesInto k box other o held) (sym (same_cells m k f s (Some b))) h
-alone_into (c ∷ codecs) m k f s b box other held alone h = absurd (false≢true alone)
-
-pub alone_into_refused : (codecs : List ArrayToArrayCodec) (m : ChainMeaning) (k : Kind) (f : Cell) (s b : List ℕ) (e : CodecError) → no_codec codecs ≡ true
-    → RefusesIntoDecoding (m.decoded k f s b) e → RefusesIntoDecoding ((behind codecs m).decoded k f s b) e
-alone_into_refused [] m k f s b e alone why = subst (λ o. RefusesIntoDecoding o e) (sym (same_cells m k f s (Some b))) why
-alone_into_refused (c ∷ codecs) m k f s b e alone why = absurd (false≢true alone)
+pub other_whole : (c : ArrayToBytesCodec) → ((x : _) → c ≡ codec.Bytes x → ⊥) → ((p sub at before last after : _) → c ≡ codec.Sharding' p sub at before last after → ⊥) → DecodesWhole (codec_meaning c)
+other_whole (codec.Bytes x) not_bytes not_shard = absurd (not_bytes x refl)
+other_whole (codec.Sharding' p sub at before last after) not_bytes not_shard = absurd (not_shard p sub at before last after refl)
+other_whole (codec.PackBits x) not_bytes not_shard = λ k f s part b. refl
+other_whole (codec.VlenUtf8 x) not_bytes not_shard = λ k f s part b. refl
+other_whole (codec.VlenBytes x) not_bytes not_shard = λ k f s part b. refl
+other_whole (codec.Vlen x) not_bytes not_shard = λ k f s part b. refl
+other_whole (codec.Optional x) not_bytes not_shard = λ k f s part b. refl

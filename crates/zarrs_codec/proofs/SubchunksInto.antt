@@ -1,14 +1,12 @@
 -- Reads of parts of shards into targets, one subchunk after another.
 use Rattle.std.proofs.Common.{◌≡◌, ℕ, zero, suc, ◌+◌, ◌-◌, ◌^◌, ◌<◌, ◌≤◌, max, min, map, Bool, true, false, ◌&&◌, ◌||◌, List, [], ◌∷◌, ◌++◌, length, take, slice_get, Option, None, Some, inl, inr, refl, sym, ap, ◌∙◌, subst, arith}
 use Rattle.std.specs.Prelude.{IfSome, option_map, slice_index, slice_index_or, nat_eq}
-use Rattle.std.specs.List.{list_any}
 use Rattle.std.specs.Cmp.Lexicographic.{pointwise, same_text}
 use Rattle.std.proofs.lemmas.Bool.{and_from, cases_Bool, eq-eqb, false≢true}
 use Rattle.std.proofs.lemmas.List.{get_or-map, take_more, take_all}
 use Rattle.std.proofs.lemmas.Option.{slice_get_within, get_or_from_slice_get}
 use Rattle.zarrs_data_type.specs.ArrayData.{ArrayData}
 use Rattle.zarrs_data_type.specs.Cells.{cell_at}
-use Rattle.zarrs_codec_leaf.specs.declared.error.CodecError.TheVariants as codec
 use Rattle.zarrs_codec_shard.specs.ShardIndex.{range_part}
 use Rattle.zarrs_codec_shard.specs.Sharded.{SubchunkMeaning, sharded_decoded}
 use Rattle.zarrs_codec_shard.specs.Shards.{shard_parts}
@@ -25,7 +23,6 @@ use Rattle.zarrs_subset.proofs.Kernel.{place_below}
 use Rattle.zarrs_subset.proofs.Overlaps.{AllSome, in_box-empty, length-overlap_extents, length-zip_with}
 use Rattle.zarrs_subset.proofs.Parts.{overlap_extents-at, zip_with-at}
 use Rattle.zarrs_data_type.specs.Targets.{KeepsOutside}
-use Rattle.zarrs_data_type_region.proofs.TargetBoxes.{lies_at_origin, origin_long}
 use Rattle.zarrs_data_type.specs.Cell.{Cell, is_value}
 use Rattle.zarrs_data_type.specs.Kind.{Kind, fixed_size}
 use Rattle.zarrs_subset.specs.Regions.{LiesInBox}
@@ -35,7 +32,6 @@ use Rattle.zarrs_codec_chain.specs.Places.{shard_places}
 use Rattle.zarrs_codec_chain.specs.ShardParts.{DecodesAs, IsCellOf, IsShard, MeetsPart, RefusesStep, is_among}
 use Rattle.zarrs_codec_chain.specs.declared.shard.ShardIndex.{ShardIndex}
 use Rattle.zarrs_codec_chain.specs.declared.error.PartError.{PartError}
-use Rattle.zarrs_codec_chain.specs.declared.error.PartError.TheVariants.{Codec}
 use Rattle.zarrs_codec_chain.proofs.MovedBoxes.{moved_box, moved_holds, moved_in, moved_same, moved_to}
 use Rattle.zarrs_codec_chain.proofs.PartBoxes.{part_fits, within_shape}
 use Rattle.zarrs_codec_chain.proofs.Stays.{cell_stays}
@@ -281,7 +277,7 @@ alone_at (c ∷ codecs) m k f s part b box own held alone h = absurd (false≢tr
 
 -- ---- refusals
 
-pub piece_refused : (decoded : List ℕ → Option (List Cell)) (TooLarge : List ℕ → Type 0) (parts : List (Option (List ℕ))) (n : ℕ) (o : Option (List ℕ)) (refuses : Bool) (e : PartError)
-    → n < length parts → slice_index_or parts n None ≡ o → RefusesPiece decoded TooLarge o refuses e → RefusesStep decoded TooLarge parts refuses e
-piece_refused decoded TooLarge parts n None refuses e lt is why = subst (RefusesStep decoded TooLarge parts refuses) (sym why) tt
-piece_refused decoded TooLarge parts n (Some encoded) refuses e lt is why = inner_refused decoded TooLarge parts n encoded refuses e lt is why
+pub piece_refused : (decoded : List ℕ → Option (List Cell)) (TooLarge : ℕ → List ℕ → Type 0) (Large : List ℕ → Type 0) (parts : List (Option (List ℕ))) (n : ℕ) (o : Option (List ℕ)) (refuses : Bool) (e : PartError)
+    → n < length parts → slice_index_or parts n None ≡ o → ((b : List ℕ) → Large b → TooLarge n b) → RefusesPiece decoded Large o refuses e → RefusesStep decoded TooLarge parts refuses e
+piece_refused decoded TooLarge Large parts n None refuses e lt is large why = subst (RefusesStep decoded TooLarge parts refuses) (sym why) tt
+piece_refused decoded TooLarge Large parts n (Some encoded) refuses e lt is large why = inner_refused decoded TooLarge (Large encoded) parts n encoded refuses e lt is (large encoded) why

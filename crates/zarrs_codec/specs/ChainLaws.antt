@@ -1,11 +1,18 @@
 -- The law of every chain of the code, from those of its codecs.
-use Rattle.std.proofs.Common.{◌≡◌, ◌<◌, ℕ, Bool, true, false, List, [], ◌∷◌, length, Option, None, Some, refl, sym, ap, subst, ◌∙◌}
-use Rattle.std.specs.Prelude.{option_and_then}
-use Rattle.zarrs_data_type.specs.Kind.{Kind}
+use Rattle.std.proofs.Common.{◌≡◌, ◌+◌, ◌*◌, ◌<◌, ◌^◌, ◌&&◌, ℕ, Bool, true, false, List, [], ◌∷◌, length, get_or, Option, None, Some, refl, sym, ap, subst, ◌∙◌, arith}
+use Rattle.std.specs.Prelude.{option_and_then, slice_index_or}
+use Rattle.std.specs.List.{list_any, range_with_len}
+use Rattle.std.proofs.lemmas.Bool.{and_right}
+use Rattle.std.proofs.lemmas.List.Folds.{list_any_none}
+use Rattle.std.proofs.lemmas.List.FromFn.{get_or-range_with_len, length-range_with_len}
+use Rattle.zarrs_data_type.specs.Kind.{Kind, cell_size}
 use Rattle.zarrs_data_type.specs.Kind as type
-use Rattle.zarrs_data_type.specs.Cell.{Cell, none, is_value, are_values}
+use Rattle.zarrs_data_type.specs.Cell.{Cell, none, held_size, is_value, are_values}
 use Rattle.zarrs_subset.specs.Boxes.{position_count}
-use Rattle.zarrs_subset.specs.Regions.{Box}
+use Rattle.zarrs_subset.specs.Regions.{Box, overlap_of, seen_from}
+use Rattle.zarrs_codec_shard.specs.Shards.{shard_parts}
+use Rattle.zarrs_codec_shard.specs.Subchunks.{is_cut_by, subchunk_box, subchunk_count}
+use Rattle.zarrs_codec_shard.proofs.Sizes.{part_size}
 use Rattle.zarrs_codec_array.specs.ArrayCodecs.{arrays_meaning, arrays-lawful}
 use Rattle.zarrs_codec_array.specs.declared.array.ArrayToArrayCodec.{ArrayToArrayCodec}
 use Rattle.zarrs_codec_leaf.specs.Bytes.{endian_of}
@@ -28,9 +35,9 @@ use Rattle.zarrs_codec.specs.Chains.{array_to_array_of, array_to_bytes_of, behin
 use Rattle.zarrs_codec.specs.Configurations.{no_cells, whole_chunk, with_places}
 use Rattle.zarrs_codec_chain.specs.Deciding.{PlacesDecide}
 use Rattle.zarrs_codec_chain.proofs.DecidingPlaces.{all_decide, cells_decide, shards_decide}
-use Rattle.zarrs_codec_chain.specs.Places.{Places, all_places-inside, cell_places, cell_places-inside, places_behind-inside, shard_places-inside}
-use Rattle.zarrs_codec.specs.Shardings.{sharded, subchunk_meaning}
-use Rattle.zarrs_codec.specs.Through.{through-lawful}
+use Rattle.zarrs_codec_chain.specs.Places.{Places, boxes_meet, all_places-inside, cell_places, cell_places-inside, places_behind-inside, shard_places-inside}
+use Rattle.zarrs_codec.specs.Shardings.{reads_large_part, sharded, subchunk_meaning}
+use Rattle.zarrs_codec.specs.Through.{not_too_large, through-lawful}
 
 no_cells-lawful : IsLawfulLeaf no_cells
 no_cells-lawful = record {
@@ -63,6 +70,7 @@ whole_chunk-lawful leaf law = record {
   partly_updates = λ empty k f s stored part given held change filled values count start shape made is. cc;
   places_inside = all_places-inside;
   places_decide = all_decide (whole_chunk leaf).decoded;
+  reads_within = λ k f s part b. not_too_large false k f s;
 }
 
 -- the law does not depend on which of its bytes a read of a part needs, if these decide its cells
@@ -82,6 +90,7 @@ with_places-lawful places m law inside decide = record {
       updates empty k f s stored part given held change filled values count start shape made (sym (same stored k f s) ∙ is);
   places_inside = inside;
   places_decide = decide;
+  reads_within = λ k f s part b cells fill. refl;
 }
   where
     same : (stored : Option (List ℕ)) (k : Kind) (f : Cell) (s : List ℕ) → chunk_cells (with_places places m) k f s stored ≡ chunk_cells m k f s stored
@@ -125,6 +134,13 @@ module _ (m : ChainMeaning) (law : IsLawfulChain m) where
   decide (codec ∷ codecs) k f s part x y cs ds is_x is_y long same =
       all_decide (behind (codec ∷ codecs) m).decoded k f s part x y cs ds is_x is_y long same
 
+  within : (codecs : List ArrayToArrayCodec) (k : Kind) (f : Cell) (s : List ℕ) (part : Box) (b : List ℕ)
+      → position_count s * cell_size k < 2 ^ 64 → position_count s * held_size k f < 2 ^ 64 → (behind codecs m).reads_too_large k f s part b ≡ false
+  within [] k f s part b = law.reads_within k f s part b
+  within (codec ∷ codecs) k f s part b =
+      let a = arrays_meaning (codec ∷ codecs) in
+      not_too_large (a.fits s && m.leaves_out (a.shape s) b) k f s
+
   pub behind-lawful : (codecs : List ArrayToArrayCodec) → IsLawfulChain (behind codecs m)
   behind-lawful codecs =
       let t = through-lawful (arrays_meaning codecs) m (arrays-lawful codecs) law in
@@ -140,6 +156,7 @@ module _ (m : ChainMeaning) (law : IsLawfulChain m) where
         partly_updates = partly codecs;
         places_inside = places_behind-inside (no_codec codecs) m.places law.places_inside;
         places_decide = decide codecs;
+        reads_within = within codecs;
       }
 
 module _ (sub : List ℕ) (m : ChainMeaning) (law : IsLawfulChain m) where
@@ -169,6 +186,38 @@ partly_sharded false sub m law empty k f s stored part given held change filled 
     empty stored part given held change filled values count start shape made
     (sym (shard_cells sub m empty k f s stored) ∙ is))
 
+-- a subchunk is no larger than its chunk
+shard_reads_within : (at_start : Bool) (sub : List ℕ) (m : ChainMeaning) → IsLawfulChain m → (k : Kind) (f : Cell) (s : List ℕ) (part : Box) (b : List ℕ)
+    → position_count s * cell_size k < 2 ^ 64 → position_count s * held_size k f < 2 ^ 64 → (sharded at_start sub m).reads_too_large k f s part b ≡ false
+shard_reads_within at_start sub m law k f s part b cells fill = go (is_cut_by s sub) refl (shard_parts at_start (subchunk_count s sub) b)
+  where
+    each : is_cut_by s sub ≡ true → (j : ℕ) → j < subchunk_count s sub → (o : Option (List ℕ)) → reads_large_part m k f s sub part j o ≡ false
+    each cut j lt None = refl
+    each cut j lt (Some x) =
+        let own = subchunk_box s sub j in
+        and_right (boxes_meet part own) (m.reads_too_large k f sub (seen_from (overlap_of part own) own.start) x)
+        (law.reads_within k f sub (seen_from (overlap_of part own) own.start) x
+        (part_size s sub j (cell_size k) cut lt cells) (part_size s sub j (held_size k f) cut lt fill))
+
+    large : List (Option (List ℕ)) → ℕ → Bool
+    large parts j = reads_large_part m k f s sub part j (slice_index_or parts j None)
+
+    any : Option (List (Option (List ℕ))) → Bool
+    any o = elim o [ None ↦ false | Some parts ↦ list_any (large parts) (range_with_len 0 (subchunk_count s sub)) ]
+
+    at : is_cut_by s sub ≡ true → (parts : List (Option (List ℕ))) (i d : ℕ) → i < length (range_with_len 0 (subchunk_count s sub))
+        → large parts (get_or (range_with_len 0 (subchunk_count s sub)) i d) ≡ false
+    at cut parts i d lt =
+        let count = subchunk_count s sub in
+        let below : i < count = omega (arith, length-range_with_len 0 count) in
+        let first : 0 + i ≡ i = omega arith in
+        ap (large parts) (get_or-range_with_len 0 count i d below ∙ first) ∙ each cut i below (slice_index_or parts i None)
+
+    go : (cut : Bool) → is_cut_by s sub ≡ cut → (o : Option (List (Option (List ℕ)))) → (cut && any o) ≡ false
+    go false is o = refl
+    go true is None = refl
+    go true is (Some parts) = list_any_none (large parts) (range_with_len 0 (subchunk_count s sub)) (λ i d lt. at is parts i d lt)
+
 module _ (at_start : Bool) (sub : List ℕ) (m : ChainMeaning) (law : IsLawfulChain m) where
   shard : (empty : Bool) (k : Kind) (f : Cell) (s : List ℕ) → IsLawfulShard (subchunk_meaning m empty k f sub) at_start empty k f s sub
   shard empty k f s = shard-lawful (subchunk_meaning m empty k f sub) at_start empty k f s sub (subchunk-lawful sub m law empty k f)
@@ -187,6 +236,7 @@ module _ (at_start : Bool) (sub : List ℕ) (m : ChainMeaning) (law : IsLawfulCh
         partly_sharded at_start sub m law empty k f s stored part given held change filled values count start shape made is;
     places_inside = shard_places-inside at_start sub;
     places_decide = shards_decide (λ k f. subchunk_meaning m false k f sub) at_start sub;
+    reads_within = shard_reads_within at_start sub m law;
   }
 
 pub codec-lawful : (c : ArrayToBytesCodec) → IsLawfulChain (codec_meaning c)

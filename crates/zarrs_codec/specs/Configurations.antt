@@ -5,7 +5,7 @@ use Rattle.zarrs_codec_array.specs.Configurations.{ArrayCodecData, meaning_of_ar
 use Rattle.zarrs_codec_leaf.specs.Leaf.{LeafMeaning}
 use Rattle.zarrs_codec_optional.specs.Configurations.{CellsCodecData, bytes, meaning_of_cells_codec}
 use Rattle.zarrs_codec_chain.specs.Places.{Places, all_places, cell_places}
-use Rattle.zarrs_codec_chain.specs.Chain.{ChainMeaning, decodes_stored}
+use Rattle.zarrs_codec_chain.specs.Chain.{ChainMeaning, decodes_stored, is_too_large}
 use Rattle.zarrs_codec.specs.Shardings.{sharded}
 use Rattle.zarrs_codec.specs.Through.{through_all}
 
@@ -42,14 +42,14 @@ whole_chunk leaf = record {
   encodes_partly = false;
   partly_encoded = λ empty k f s stored part cs. None;
   places = all_places;
-  decodes_whole = λ s. Some s;
+  reads_too_large = λ k f s part b. is_too_large false k f s;
   partly_decodes = λ k f s stored part. decodes_stored (leaf.decoded k (position_count s)) stored;
   partly_too_large = λ k f s stored part. false;
 }
 
 -- a chain whose reads of parts need these places, and decode nothing whole
 abbrev pub with_places : Places → ChainMeaning → ChainMeaning
-with_places places m = record m { places = places; decodes_whole = λ s. None }
+with_places places m = record m { places = places; reads_too_large = λ k f s part b. false }
 
 -- a codec of cells takes the cells of the whole chunk; a part under `bytes` is read by the places of its cells
 abbrev pub meaning_of_whole_codec : CellsCodecData → ChainMeaning

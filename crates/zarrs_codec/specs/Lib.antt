@@ -3,6 +3,7 @@ pub mod Chains
 pub mod Configurations
 pub mod Metadata
 pub mod PartialShardings
+pub mod ShardChunks
 pub mod ShardPartsInto
 pub mod ShardPieces
 pub mod ShardingBuilders

@@ -1,5 +1,5 @@
 -- The metadata of a chain of codecs: what is read from it, and what is written for one.
-use Rattle.std.specs.Prelude.{ℕ, zero, suc, ◌-◌, Bool, List, [], ◌∷◌, ◌++◌, codes, if◌then◌else◌, Option, Some, None}
+use Rattle.std.specs.Prelude.{ℕ, zero, suc, ◌-◌, List, [], ◌∷◌, ◌++◌, codes, if◌then◌else◌, Option, Some, None}
 use Rattle.std.specs.Prelude.{length, map, take, slice_get, option_map, option_and_then}
 use Rattle.std.specs.Str.{bytes_eq}
 use Rattle.zarrs_metadata_parts.specs.Extension.{ExtensionData, settings, ◌>>=◌}

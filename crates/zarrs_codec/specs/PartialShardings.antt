@@ -1,13 +1,17 @@
 -- A part of a chunk's cells written into its shard, over the chain of the subchunks.
-use Rattle.std.specs.Prelude.{◌≡◌, ◌⊎◌, ℕ, ◌*◌, ◌<◌, ◌≤◌, ◌^◌, Bool, true, IsSome}
-use Rattle.std.specs.Prelude.{Option, None, Some, List, [], length, option_map, slice_index_or, unwrap_or, if◌then◌else◌}
+use Rattle.std.specs.Prelude.{◌≡◌, ◌⊎◌, ℕ, ◌*◌, ◌<◌, ◌≤◌, ◌^◌, Bool, true, All, IsSome}
+use Rattle.std.specs.Prelude.{Option, None, Some, List, [], length, map, option_map, slice_index_or, unwrap_or, if◌then◌else◌}
 use Rattle.zarrs_data_type.specs.Kind.{Kind, cell_size}
 use Rattle.zarrs_data_type.specs.Cell.{Cell}
 use Rattle.zarrs_data_type.specs.ArrayData.{ArrayData}
 use Rattle.zarrs_codec_leaf.specs.declared.error.CodecError.{CodecError}
 use Rattle.zarrs_codec_leaf.specs.declared.error.CodecError.TheVariants as error
 use Rattle.zarrs_metadata_parts.specs.Extension.{◌>>=◌}
-use Rattle.zarrs_codec_shard.specs.PartialShards.{PartialChange, first_changes, is_met, updated_subchunk, write_of}
+use Rattle.zarrs_codec_shard.specs.PartialShards.{PartialChange, first_changes, is_met, stored_parts, updated_subchunk, write_of}
+use Rattle.zarrs_codec_shard.specs.ShardIndex.{range_part, IsRangeWithin}
+use Rattle.zarrs_codec_shard.specs.SubchunkData.{chunk_shape, subchunk_shape}
+use Rattle.zarrs_codec_shard.specs.declared.shard_index.SubchunkRange.{SubchunkRange}
+use Rattle.zarrs_codec_shard.specs.declared.subchunks.Subchunks.{Subchunks}
 use Rattle.zarrs_codec_shard.specs.ShardPatches.{IsPatching}
 use Rattle.zarrs_codec_shard.specs.Sharded.{cells_of_part, part_of}
 use Rattle.zarrs_codec_shard.specs.Subchunks.{subchunk_count}
@@ -20,6 +24,17 @@ use Rattle.zarrs_codec.specs.Shardings.{all_met_decode, cells_of, decoded_part, 
 -- the bytes that are stored: none without a key
 abbrev pub stored_bytes : Option (List ℕ) → List ℕ
 stored_bytes stored = unwrap_or stored []
+
+-- the parts of what is stored at these ranges
+abbrev pub parts_at : (stored : Option (List ℕ)) → List (Option SubchunkRange) → List (Option (List ℕ))
+parts_at stored ranges = map (range_part (stored_bytes stored)) ranges
+
+-- the ranges are those that what is stored has for its subchunks
+pub record AreStoredRanges (subchunks : Subchunks) (stored : Option (List ℕ)) (ranges : List (Option SubchunkRange)) : Type 0 where
+  pub within : All (IsRangeWithin (length (stored_bytes stored))) ranges
+  pub count : length ranges ≡ subchunk_count (chunk_shape subchunks) (subchunk_shape subchunks)
+  pub few : length ranges * 16 < 2 ^ 64
+  pub parts : stored_parts (length ranges) stored ≡ Some (parts_at stored ranges)
 
 -- what becomes of the subchunk of this number, whose part is `old`: none if the part of the chunk does not meet it
 abbrev pub changed_part : ChainMeaning → (store_empty : Bool) → Kind → Cell → (shape sub : List ℕ) → Box → ArrayData → (number : ℕ)

@@ -2,7 +2,7 @@
 use Rattle.std.specs.Prelude.{◌≡◌, ℕ, ◌*◌, ◌≤◌, ◌^◌, Bool, true, false, not, nat_le, slice_index_or, ◌||◌}
 use Rattle.std.specs.Prelude.{Option, None, Some, List, [], ◌∷◌, ◌++◌, length, map, take, is_some, unwrap_or, ◌&&◌}
 use Rattle.std.specs.List.{list_all, list_any, range_with_len}
-use Rattle.zarrs_data_type.specs.Kind.{Kind, cell_size}
+use Rattle.zarrs_data_type.specs.Kind.{Kind}
 use Rattle.zarrs_data_type.specs.Cell.{Cell, held_size}
 use Rattle.zarrs_data_type.specs.ArrayData.{ArrayData, fixed}
 use Rattle.zarrs_data_type.specs.Cells.{cells, HasCells}
@@ -15,11 +15,12 @@ use Rattle.zarrs_codec_shard.specs.declared.shard_index.ShardWriter.{ShardWriter
 use Rattle.zarrs_codec_shard.specs.Sharded.{SubchunkMeaning, part_of, part_leaves_out, first_parts, cells_of_part, cells_of_parts}
 use Rattle.zarrs_codec_shard.specs.Sharded.{sharded_fits, sharded_encoded, sharded_decoded, sharded_compacted, sharded_leaves_out}
 use Rattle.zarrs_codec_shard.specs.SubchunkData.{HasSubchunks}
-use Rattle.zarrs_codec_shard.specs.Subchunks.{is_cut_by, subchunk_count}
+use Rattle.zarrs_codec_shard.specs.Subchunks.{is_cut_by, subchunk_box, subchunk_count}
+use Rattle.zarrs_codec_shard.specs.Shards.{shard_parts}
 use Rattle.zarrs_subset.specs.Boxes.{position_count}
-use Rattle.zarrs_subset.specs.Regions.{Box}
-use Rattle.zarrs_codec_chain.specs.Places.{shard_places}
-use Rattle.zarrs_codec_chain.specs.Chain.{ChainMeaning}
+use Rattle.zarrs_subset.specs.Regions.{Box, overlap_of, seen_from}
+use Rattle.zarrs_codec_chain.specs.Places.{boxes_meet, shard_places}
+use Rattle.zarrs_codec_chain.specs.Chain.{ChainMeaning, is_too_large}
 
 -- what a chain means to subchunks of one shape
 abbrev pub subchunk_meaning : ChainMeaning → (store_empty : Bool) → Kind → (fill : Cell) (sub : List ℕ) → SubchunkMeaning
@@ -35,12 +36,10 @@ decoded_part m k f sub part = cells_of_part (subchunk_meaning m false k f sub) f
 
 -- ---- writes of parts, of a shard whose index stands at the end
 
--- whether a subchunk is too large to be decoded: a usize does not count the bytes of its cells, or of its fill where its part
--- leaves out cells
+-- whether a subchunk is too large to be decoded
 abbrev pub part_too_large : ChainMeaning → Kind → Cell → (sub : List ℕ) → Option (List ℕ) → Bool
 part_too_large m k f sub None = nat_le (2 ^ 64) (position_count sub * held_size k f)
-part_too_large m k f sub (Some b) =
-    nat_le (2 ^ 64) (position_count sub * cell_size k) || (m.leaves_out sub b && nat_le (2 ^ 64) (position_count sub * held_size k f))
+part_too_large m k f sub (Some b) = is_too_large (m.leaves_out sub b) k f sub
 
 -- whether a subchunk decodes, or is too large for that
 abbrev pub part_decodes : ChainMeaning → Kind → Cell → (sub : List ℕ) → Option (List ℕ) → Bool
@@ -70,6 +69,30 @@ sharded_partly_too_large m k f s sub stored part = elim (stored_parts (subchunk_
   | Some parts ↦ any_met_too_large m k f s sub part parts
 ]
 
+-- ---- reads of parts
+
+-- whether something is too large that a read of this part of a shard decodes whole of the subchunk of this number, whose bytes
+-- these are: the part meets the subchunk, and the inner chain decodes too much of it for the positions that they share
+abbrev pub reads_large_subchunk : ChainMeaning → Kind → Cell → (shape sub : List ℕ) → (part : Box) → (number : ℕ) → (encoded : List ℕ) → Bool
+reads_large_subchunk m k f s sub part number b =
+    let own = subchunk_box s sub number in
+    boxes_meet part own && m.reads_too_large k f sub (seen_from (overlap_of part own) own.start) b
+
+abbrev pub ReadsLargeSubchunk : ChainMeaning → Kind → Cell → (shape sub : List ℕ) → (part : Box) → (number : ℕ) → (encoded : List ℕ) → Type 0
+ReadsLargeSubchunk m k f s sub part number b = reads_large_subchunk m k f s sub part number b ≡ true
+
+-- the same of one that is present
+abbrev pub reads_large_part : ChainMeaning → Kind → Cell → (shape sub : List ℕ) → (part : Box) → (number : ℕ) → Option (List ℕ) → Bool
+reads_large_part m k f s sub part number None = false
+reads_large_part m k f s sub part number (Some b) = reads_large_subchunk m k f s sub part number b
+
+-- of one of the subchunks
+abbrev pub sharded_reads_too_large : (at_start : Bool) → ChainMeaning → Kind → Cell → (shape sub : List ℕ) → (part : Box) → (encoded : List ℕ) → Bool
+sharded_reads_too_large at_start m k f s sub part b = is_cut_by s sub && elim (shard_parts at_start (subchunk_count s sub) b) [
+  | None ↦ false
+  | Some parts ↦ list_any (λ j. reads_large_part m k f s sub part j (slice_index_or parts j None)) (range_with_len 0 (subchunk_count s sub))
+]
+
 -- ---- the chain
 
 -- `sharding_indexed` with subchunks of this shape, which the chain `m` encodes
@@ -85,7 +108,7 @@ sharded at_start sub m = record {
   partly_encoded = λ store_empty k fill s stored part cs.
       given_if (not at_start) (sharded_partly (subchunk_meaning m store_empty k fill sub) store_empty fill s sub stored part cs);
   places = shard_places at_start sub;
-  decodes_whole = λ s. m.decodes_whole sub;
+  reads_too_large = λ k f s part b. sharded_reads_too_large at_start m k f s sub part b;
   partly_decodes = λ k f s stored part. sharded_partly_decodes m k f s sub stored part;
   partly_too_large = λ k f s stored part. sharded_partly_too_large m k f s sub stored part;
 }

@@ -1,15 +1,16 @@
 -- Chains behind codecs that make an array of an array.
-use Rattle.std.proofs.Common.{◌≡◌, ℕ, Bool, true, false, ◌&&◌, List, length, Option, None, Some, refl, sym, ap, ◌∙◌}
-use Rattle.zarrs_data_type.specs.Kind.{Kind}
-use Rattle.zarrs_data_type.specs.Cell.{Cell, are_values, is_value}
+use Rattle.std.proofs.Common.{◌≡◌, ℕ, ◌*◌, ◌<◌, ◌^◌, Bool, true, false, ◌&&◌, ◌||◌, List, length, Option, None, Some, refl, sym, ap, ◌∙◌}
+use Rattle.zarrs_data_type.specs.Kind.{Kind, cell_size}
+use Rattle.zarrs_data_type.specs.Cell.{Cell, are_values, held_size, is_value}
 use Rattle.zarrs_subset.specs.Boxes.{position_count}
 use Rattle.zarrs_codec_array.specs.Arrays.{ArrayMeaning, IsLawfulArray}
-use Rattle.std.specs.Prelude.{option_and_then, if◌then◌else◌}
+use Rattle.std.specs.Prelude.{nat_le, option_and_then, if◌then◌else◌}
+use Rattle.std.proofs.lemmas.Bool.{and_right, lt-leb}
 use Rattle.zarrs_codec_chain.proofs.DecidingPlaces.{all_decide}
 use Rattle.zarrs_codec_chain.specs.Places.{all_places, all_places-inside, places_behind}
 use Rattle.zarrs_codec_shard.specs.Steps.{given_if}
 use Rattle.zarrs_codec_shard.proofs.Missing.{bind_parts, given_if-parts, given_if-true}
-use Rattle.zarrs_codec_chain.specs.Chain.{ChainMeaning, IsLawfulChain, decodes_stored}
+use Rattle.zarrs_codec_chain.specs.Chain.{ChainMeaning, IsLawfulChain, decodes_stored, is_too_large}
 use Rattle.zarrs_data_type_bytes.proofs.FixedSizes.{some_is}
 
 -- the chain `m` behind codecs that make an array of an array
@@ -24,7 +25,7 @@ through a m = record {
   encodes_partly = false;
   partly_encoded = λ empty k f s stored part cs. None;
   places = all_places;
-  decodes_whole = λ s. Some s;
+  reads_too_large = λ k f s part b. is_too_large (a.fits s && m.leaves_out (a.shape s) b) k f s;
   partly_decodes = λ k f s stored part.
       decodes_stored (λ b. given_if (a.fits s) (option_and_then (λ cs. Some (a.back s cs)) (m.decoded k f (a.shape s) b))) stored;
   partly_too_large = λ k f s stored part. false;
@@ -36,11 +37,18 @@ through_all none a m = record (through a m) {
   encodes_partly = none && m.encodes_partly;
   partly_encoded = λ empty k f s stored part cs. given_if none (m.partly_encoded empty k f s stored part cs);
   places = places_behind none m.places;
-  decodes_whole = λ s. if none then m.decodes_whole s else Some s;
+  reads_too_large = λ k f s part b. if none then m.reads_too_large k f s part b else (through a m).reads_too_large k f s part b;
   partly_decodes = λ k f s stored part.
       if none then m.partly_decodes k f s stored part else (through a m).partly_decodes k f s stored part;
   partly_too_large = λ k f s stored part. none && m.partly_too_large k f s stored part;
 }
+
+-- a chunk is not too large if neither its cells nor its fill are
+pub not_too_large : (leaves_out : Bool) (k : Kind) (f : Cell) (s : List ℕ)
+    → position_count s * cell_size k < 2 ^ 64 → position_count s * held_size k f < 2 ^ 64 → is_too_large leaves_out k f s ≡ false
+not_too_large leaves_out k f s cells fill =
+    ap (λ x. x || (leaves_out && nat_le (2 ^ 64) (position_count s * held_size k f))) (lt-leb (2 ^ 64) (position_count s * cell_size k) cells)
+    ∙ and_right leaves_out (nat_le (2 ^ 64) (position_count s * held_size k f)) (lt-leb (2 ^ 64) (position_count s * held_size k f) fill)
 
 compacted_parts : {A : Type 0} (compacts fits : Bool) (o : Option (Option A)) (less : A)
     → (if compacts then given_if fits o else Some None) ≡ Some (Some less) → (fits ≡ true) × (o ≡ Some (Some less))
@@ -98,4 +106,5 @@ module _ (a : ArrayMeaning) (m : ChainMeaning) (array_law : IsLawfulArray a) (la
     partly_updates = λ empty k f s stored part given held change filled values count start shape made is. cc;
     places_inside = all_places-inside;
     places_decide = all_decide (through a m).decoded;
+    reads_within = λ k f s part b. not_too_large (a.fits s && m.leaves_out (a.shape s) b) k f s;
   }

@@ -1,16 +1,15 @@
 //! Chains of codecs.
 ghost use Rattle.std.specs.Prelude.{◌≡◌, ◌*◌, ◌<◌, ◌^◌, Some, IfOk, IfErr, IsSome};
 ghost use Rattle.zarrs_subset.specs.Boxes.{position_count};
-ghost use Rattle.zarrs_data_type.specs.Kind.{kind, cell_size};
+ghost use Rattle.zarrs_data_type.specs.CellTypes.{chunk_kind, shape_of};
+ghost use Rattle.zarrs_data_type.specs.Kind.{cell_size};
 ghost use Rattle.zarrs_data_type.specs.ArrayData.{data_of};
-ghost use Rattle.zarrs_data_type.specs.Cell.{fill_of};
 ghost use Rattle.zarrs_data_type.specs.Cells.{cells, HasCells};
 ghost use Rattle.zarrs_codec_array.specs.ArrayCodecs.{arrays_meaning};
-ghost use Rattle.zarrs_codec_chain.specs.Chain.{chunk_encoding};
+ghost use Rattle.zarrs_codec_chain.specs.Chunks.{RefusesToDecode, RefusesToEncode, decoded_of, encoding_as};
 ghost use Rattle.zarrs_codec.specs.Chains.{array_to_array_of, array_to_bytes_of, bytes_to_bytes_of};
 ghost use Rattle.zarrs_codec.specs.Chains.{behind, codec_meaning, chain_meaning, cells_chain_meaning};
 ghost use Rattle.zarrs_codec.specs.ChainLaws.{chain-lawful};
-ghost use Rattle.zarrs_codec_chain.specs.Refusals.{RefusesChunkEncoding, RefusesChunkDecoding};
 ghost use Rattle.zarrs_codec_chain.specs.Options.{stores_empty_chunks};
 
 use crate::codec::ArrayToBytesCodec;
@@ -19,7 +18,7 @@ use zarrs_codec_array::{ArrayToArrayCodec, decode_array, encode_array, encoded_s
 use zarrs_codec_chain::{ChainTraits, CodecOptions, PartError};
 use zarrs_codec_leaf::{ByteSource, CodecError, Misfit, Window};
 use zarrs_codec_shard::PartialWrite;
-use zarrs_data_type::{ArrayBytes, ArrayBytesDecodeIntoTarget, DataType, FillValue};
+use zarrs_data_type::{ArrayBytes, ArrayBytesDecodeIntoTarget, ChunkType, DataType};
 use zarrs_subset::{ArraySubset, element_count};
 
 /// The codecs that make bytes of bytes: there is none.
@@ -42,8 +41,8 @@ impl CodecChain {
         array_to_bytes: ArrayToBytesCodec,
         bytes_to_bytes: BytesToBytesCodecs,
     ) -> CodecChain
-        ensures meaning { chain_meaning result
-            ≡ behind array_to_array.items (codec_meaning array_to_bytes) }
+        ensures meaning { chain_meaning result ≡ behind array_to_array.items
+            (codec_meaning array_to_bytes) }
         ensures array_to_array { array_to_array_of result ≡ array_to_array.items }
         ensures array_to_bytes { array_to_bytes_of result ≡ array_to_bytes }
         ensures bytes_to_bytes { bytes_to_bytes_of result ≡ bytes_to_bytes }
@@ -95,26 +94,21 @@ impl CodecChain {
         &self,
         alloc: Global,
         bytes: &ArrayBytes<'_>,
-        data_type: &DataType,
-        fill_value: &FillValue,
-        shape: &[u64],
+        chunk: &ChunkType<'_>,
         options: &CodecOptions,
     ) -> Result<Vec<u8>, CodecError>
-        requires cells { HasCells (kind data_type.now) (data_of bytes.now)
-            (position_count shape.now) }
-        ensures encoded { IfOk result (λ encoded.
-            chunk_encoding (cells_chain_meaning self.now) (stores_empty_chunks options.now)
-            (kind data_type.now) (fill_of (kind data_type.now) fill_value.now) shape.now
-            (data_of bytes.now) ≡ Some encoded.items) }
-        ensures refused { IfErr result
-            (RefusesChunkEncoding (cells_chain_meaning self.now) (stores_empty_chunks options.now)
-            (kind data_type.now) (fill_of (kind data_type.now) fill_value.now) shape.now
-            (data_of bytes.now)) }
+        requires cells { HasCells (chunk_kind chunk.now) (data_of bytes.now)
+            (position_count (shape_of chunk.now)) }
+        ensures encoded { IfOk result (λ encoded. encoding_as (cells_chain_meaning self.now)
+            (stores_empty_chunks options.now) chunk.now (data_of bytes.now) ≡ Some encoded.items) }
+        ensures refused { IfErr result (RefusesToEncode (cells_chain_meaning self.now)
+            (stores_empty_chunks options.now) chunk.now (data_of bytes.now)) }
     {
-        if !self.takes_shape(alloc, shape)? {
+        if !self.takes_shape(alloc, chunk.shape)? {
             return Err(CodecError::DoesNotFit(Misfit::TypeOrShape));
         }
-        let made = encode_array(alloc, &self.array_to_array, bytes, data_type, shape)?;
+        let data_type = &chunk.cell_type.data_type;
+        let made = encode_array(alloc, &self.array_to_array, bytes, data_type, chunk.shape)?;
         self.array_to_bytes.encode(alloc, &made, bytes, data_type)
     }
 
@@ -123,25 +117,22 @@ impl CodecChain {
         &self,
         alloc: Global,
         bytes: ArrayBytes<'_>,
-        data_type: &DataType,
-        fill_value: &FillValue,
-        shape: &[u64],
+        chunk: &ChunkType<'_>,
         options: &CodecOptions,
     ) -> Result<Vec<u8>, CodecError>
-        requires cells { HasCells (kind data_type.now) (data_of bytes) (position_count shape.now) }
-        ensures encoded { IfOk result (λ encoded.
-            chunk_encoding (cells_chain_meaning self.now) (stores_empty_chunks options.now)
-            (kind data_type.now) (fill_of (kind data_type.now) fill_value.now) shape.now
-            (data_of bytes.entry) ≡ Some encoded.items) }
-        ensures refused { IfErr result
-            (RefusesChunkEncoding (cells_chain_meaning self.now) (stores_empty_chunks options.now)
-            (kind data_type.now) (fill_of (kind data_type.now) fill_value.now) shape.now
-            (data_of bytes.entry)) }
+        requires cells { HasCells (chunk_kind chunk.now) (data_of bytes)
+            (position_count (shape_of chunk.now)) }
+        ensures encoded { IfOk result (λ encoded. encoding_as (cells_chain_meaning self.now)
+            (stores_empty_chunks options.now) chunk.now (data_of bytes.entry) ≡ Some
+            encoded.items) }
+        ensures refused { IfErr result (RefusesToEncode (cells_chain_meaning self.now)
+            (stores_empty_chunks options.now) chunk.now (data_of bytes.entry)) }
     {
-        if !self.takes_shape(alloc, shape)? {
+        if !self.takes_shape(alloc, chunk.shape)? {
             return Err(CodecError::DoesNotFit(Misfit::TypeOrShape));
         }
-        let made = encode_array(alloc, &self.array_to_array, &bytes, data_type, shape)?;
+        let data_type = &chunk.cell_type.data_type;
+        let made = encode_array(alloc, &self.array_to_array, &bytes, data_type, chunk.shape)?;
         self.array_to_bytes
             .encode_owned(alloc, made, bytes, data_type)
     }
@@ -151,27 +142,25 @@ impl CodecChain {
         &self,
         alloc: Global,
         encoded: &'a [u8],
-        data_type: &DataType,
-        fill_value: &FillValue,
-        shape: &[u64],
+        chunk: &ChunkType<'_>,
     ) -> Result<ArrayBytes<'a>, CodecError>
-        requires size { position_count shape.now * cell_size (kind data_type.now) < 2 ^ 64 }
-        ensures cells { IfOk result (λ made. cells (kind data_type.now) (data_of made)
-            ≡ (cells_chain_meaning self.now).decoded (kind data_type.now)
-            (fill_of (kind data_type.now) fill_value.now) shape.now encoded.now) }
-        ensures some { IfOk result (λ made. IsSome (cells (kind data_type.now) (data_of made))) }
-        ensures refused { IfErr result (RefusesChunkDecoding (cells_chain_meaning self.now)
-            (kind data_type.now) (fill_of (kind data_type.now) fill_value.now) shape.now
+        requires size { position_count (shape_of chunk.now) * cell_size (chunk_kind chunk.now)
+            < 2 ^ 64 }
+        ensures cells { IfOk result (λ made. cells (chunk_kind chunk.now) (data_of made)
+            ≡ decoded_of (cells_chain_meaning self.now) chunk.now encoded.now) }
+        ensures some { IfOk result (λ made. IsSome (cells (chunk_kind chunk.now) (data_of made))) }
+        ensures refused { IfErr result (RefusesToDecode (cells_chain_meaning self.now) chunk.now
             encoded.now) }
     {
-        if !self.takes_shape(alloc, shape)? {
+        if !self.takes_shape(alloc, chunk.shape)? {
             return Err(CodecError::DoesNotFit(Misfit::TypeOrShape));
         }
-        let count = element_count(shape).unwrap();
+        let count = element_count(chunk.shape).unwrap();
+        let data_type = &chunk.cell_type.data_type;
         let array = self
             .array_to_bytes
             .decode(alloc, encoded, data_type, count)?;
-        Ok(decode_array(alloc, &self.array_to_array, array, data_type, shape)?)
+        Ok(decode_array(alloc, &self.array_to_array, array, data_type, chunk.shape)?)
     }
 }
 
@@ -186,35 +175,29 @@ impl ChainTraits for CodecChain {
         &self,
         alloc: Global,
         bytes: &ArrayBytes<'_>,
-        data_type: &DataType,
-        fill_value: &FillValue,
-        shape: &[u64],
+        chunk: &ChunkType<'_>,
         options: &CodecOptions,
     ) -> Result<Vec<u8>, CodecError> {
-        self.encode_chunk(alloc, bytes, data_type, fill_value, shape, options)
+        self.encode_chunk(alloc, bytes, chunk, options)
     }
 
     fn encode_owned(
         &self,
         alloc: Global,
         bytes: ArrayBytes<'_>,
-        data_type: &DataType,
-        fill_value: &FillValue,
-        shape: &[u64],
+        chunk: &ChunkType<'_>,
         options: &CodecOptions,
     ) -> Result<Vec<u8>, CodecError> {
-        self.encode_owned_chunk(alloc, bytes, data_type, fill_value, shape, options)
+        self.encode_owned_chunk(alloc, bytes, chunk, options)
     }
 
     fn decode<'a>(
         &self,
         alloc: Global,
         encoded: &'a [u8],
-        data_type: &DataType,
-        fill_value: &FillValue,
-        shape: &[u64],
+        chunk: &ChunkType<'_>,
     ) -> Result<ArrayBytes<'a>, CodecError> {
-        self.decode_chunk(alloc, encoded, data_type, fill_value, shape)
+        self.decode_chunk(alloc, encoded, chunk)
     }
 
     fn partial_decode<B: ByteSource>(
@@ -223,11 +206,9 @@ impl ChainTraits for CodecChain {
         source: &B,
         window: Window,
         part: &ArraySubset,
-        data_type: &DataType,
-        fill_value: &FillValue,
-        shape: &[u64],
+        chunk: &ChunkType<'_>,
     ) -> Result<ArrayBytes<'static>, PartError> {
-        self.partial_decode_chunk(alloc, source, window, part, data_type, fill_value, shape)
+        self.partial_decode_chunk(alloc, source, window, part, chunk)
     }
 
     fn partial_decode_into<B: ByteSource>(
@@ -236,25 +217,10 @@ impl ChainTraits for CodecChain {
         source: &B,
         window: Window,
         part: &ArraySubset,
-        data_type: &DataType,
-        fill_value: &FillValue,
-        shape: &[u64],
+        chunk: &ChunkType<'_>,
         target: &mut ArrayBytesDecodeIntoTarget<'_, '_, '_>,
     ) -> Result<(), PartError> {
-        self.partial_decode_chunk_into(
-            alloc, source, window, part, data_type, fill_value, shape, target,
-        )
-    }
-
-    fn decode_into(
-        &self,
-        alloc: Global,
-        encoded: &[u8],
-        data_type: &DataType,
-        fill_value: &FillValue,
-        target: &mut ArrayBytesDecodeIntoTarget<'_, '_, '_>,
-    ) -> Result<(), CodecError> {
-        self.decode_chunk_into(alloc, encoded, data_type, fill_value, target)
+        self.partial_decode_chunk_into(alloc, source, window, part, chunk, target)
     }
 
     fn compact(
@@ -276,14 +242,10 @@ impl ChainTraits for CodecChain {
         stored: Option<&[u8]>,
         part: &ArraySubset,
         bytes: &ArrayBytes<'_>,
-        data_type: &DataType,
-        fill_value: &FillValue,
-        shape: &[u64],
+        chunk: &ChunkType<'_>,
         options: &CodecOptions,
     ) -> Result<PartialWrite, CodecError> {
-        self.partial_encode_chunk(
-            alloc, stored, part, bytes, data_type, fill_value, shape, options,
-        )
+        self.partial_encode_chunk(alloc, stored, part, bytes, chunk, options)
     }
 
     ghost lawful = { chain-lawful };

@@ -4,7 +4,8 @@ ghost use Rattle.std.specs.Bool.{OnTrue};
 ghost use Rattle.std.specs.List.{list_all};
 ghost use Rattle.zarrs_subset.specs.Boxes.{position_count};
 ghost use Rattle.zarrs_data_type.specs.Kind.{kind, cell_size, element_size};
-ghost use Rattle.zarrs_data_type.specs.Cell.{Cell, fill_cell, fill_of};
+ghost use Rattle.zarrs_data_type.specs.Cell.{Cell};
+ghost use Rattle.zarrs_data_type.specs.CellTypes.{chunk_kind, filling, kind_of, shape_of};
 ghost use Rattle.zarrs_data_type.specs.ArrayData.{data_of, fixed};
 ghost use Rattle.zarrs_data_type.specs.Cells.{cells, HasCells};
 ghost use Rattle.zarrs_data_type.specs.RegionData.{region_data};
@@ -14,6 +15,7 @@ ghost use Rattle.zarrs_codec_shard.specs.Subchunks.{subchunk_count};
 ghost use Rattle.zarrs_codec.specs.Chains.{behind, chain_meaning, inner_chain_of, sharding_meaning};
 ghost use Rattle.zarrs_codec.specs.Shardings.{decoded_parts, PutsPart, RefusesCells};
 ghost use Rattle.zarrs_codec.specs.Shardings.{CopiesParts, ReadsCells, RefusesCopies, RefusesCopy};
+ghost use Rattle.zarrs_codec_chain.specs.Chunks.{RefusesToDecode, decoded_of};
 ghost use Rattle.zarrs_codec_chain.specs.Refusals.{RefusesChunkDecoding};
 
 use crate::chain::CodecChain;
@@ -23,7 +25,7 @@ use std::alloc::Global;
 use zarrs_codec_array::{ArrayToArrayCodec, decode_array, encoded_shape};
 use zarrs_codec_leaf::{CodecError, Misfit};
 use zarrs_codec_shard::{SubchunkRange, Subchunks, read_index};
-use zarrs_data_type::{ArrayBytes, DataType, FillValue, RegionCells};
+use zarrs_data_type::{ArrayBytes, CellType, ChunkType, DataType, RegionCells};
 use zarrs_subset::element_count;
 
 impl CodecChain {
@@ -33,33 +35,29 @@ impl CodecChain {
         &self,
         alloc: Global,
         encoded: &'a [u8],
-        data_type: &DataType,
-        fill_value: &FillValue,
-        shape: &[u64],
+        chunk: &ChunkType<'_>,
     ) -> Result<ArrayBytes<'a>, CodecError>
-        requires filled { IsSome (fill_cell (kind data_type.now) fill_value.now) }
-        requires size { position_count shape.now * cell_size (kind data_type.now) < 2 ^ 64 }
-        ensures cells { IfOk result (λ made. cells (kind data_type.now) (data_of made)
-            ≡ (chain_meaning self.now).decoded (kind data_type.now)
-            (fill_of (kind data_type.now) fill_value.now) shape.now encoded.now) }
-        ensures some { IfOk result (λ made. IsSome (cells (kind data_type.now) (data_of made))) }
-        ensures refused { IfErr result (RefusesChunkDecoding (chain_meaning self.now)
-            (kind data_type.now) (fill_of (kind data_type.now) fill_value.now) shape.now
+        requires size { position_count (shape_of chunk.now) * cell_size (chunk_kind chunk.now)
+            < 2 ^ 64 }
+        ensures cells { IfOk result (λ made. cells (chunk_kind chunk.now) (data_of made)
+            ≡ decoded_of (chain_meaning self.now) chunk.now encoded.now) }
+        ensures some { IfOk result (λ made. IsSome (cells (chunk_kind chunk.now) (data_of made))) }
+        ensures refused { IfErr result (RefusesToDecode (chain_meaning self.now) chunk.now
             encoded.now) }
     {
         match &self.array_to_bytes {
             ArrayToBytesCodec::Sharding(codec) => {
                 let codecs = &self.array_to_array;
-                codec.decode_behind(alloc, codecs, encoded, data_type, fill_value, shape)
+                codec.decode_behind(alloc, codecs, encoded, chunk)
             }
-            _ => self.decode_cells(alloc, encoded, data_type, fill_value, shape),
+            _ => self.decode_cells(alloc, encoded, chunk),
         }
     }
 
     /// Whether the bytes of a chunk of this type are its cells as they stand in memory.
     fn reads_cells(&self, data_type: &DataType) -> bool
-        ensures reads { OnTrue result ((fill : Cell) (shape : List ℕ)
-            → ReadsCells (chain_meaning self.now) (kind data_type.now) fill shape) }
+        ensures reads { OnTrue result ((fill : Cell) (shape : List ℕ) → ReadsCells
+            (chain_meaning self.now) (kind data_type.now) fill shape) }
         ensures sized { OnTrue result (IsSome (element_size (kind data_type.now))) }
     {
         self.keeps_cells() && self.array_to_bytes.takes(data_type)
@@ -74,27 +72,28 @@ impl ShardingCodec {
         alloc: Global,
         codecs: &[ArrayToArrayCodec],
         encoded: &'a [u8],
-        data_type: &DataType,
-        fill_value: &FillValue,
-        shape: &[u64],
+        chunk: &ChunkType<'_>,
     ) -> Result<ArrayBytes<'a>, CodecError>
-        requires filled { IsSome (fill_cell (kind data_type.now) fill_value.now) }
-        requires size { position_count shape.now * cell_size (kind data_type.now) < 2 ^ 64 }
-        ensures cells { IfOk result (λ made. cells (kind data_type.now) (data_of made)
-            ≡ (behind codecs.now (sharding_meaning self.now)).decoded (kind data_type.now)
-            (fill_of (kind data_type.now) fill_value.now) shape.now encoded.now) }
-        ensures some { IfOk result (λ made. IsSome (cells (kind data_type.now) (data_of made))) }
-        ensures refused { IfErr result (RefusesChunkDecoding
-            (behind codecs.now (sharding_meaning self.now)) (kind data_type.now)
-            (fill_of (kind data_type.now) fill_value.now) shape.now encoded.now) }
+        requires size { position_count (shape_of chunk.now) * cell_size (chunk_kind chunk.now)
+            < 2 ^ 64 }
+        ensures cells { IfOk result (λ made. cells (chunk_kind chunk.now) (data_of made)
+            ≡ decoded_of (behind codecs.now (sharding_meaning self.now)) chunk.now encoded.now) }
+        ensures some { IfOk result (λ made. IsSome (cells (chunk_kind chunk.now) (data_of made))) }
+        ensures refused { IfErr result (RefusesToDecode
+            (behind codecs.now (sharding_meaning self.now)) chunk.now encoded.now) }
     {
-        let Some(inner) = encoded_shape(alloc, codecs, shape)? else {
+        let Some(inner) = encoded_shape(alloc, codecs, chunk.shape)? else {
             return Err(CodecError::DoesNotFit(Misfit::TypeOrShape));
         };
-        let array = self.decode_shard(alloc, encoded, data_type, fill_value, &inner)?;
+        let cell_type = chunk.cell_type;
+        let made = ChunkType {
+            cell_type,
+            shape: &inner,
+        };
+        let array = self.decode_shard(alloc, encoded, &made)?;
         // It is owned, and is not copied.
         let array = array.into_owned(alloc)?;
-        Ok(decode_array(alloc, codecs, array, data_type, shape)?)
+        Ok(decode_array(alloc, codecs, array, &cell_type.data_type, chunk.shape)?)
     }
 
     /// The cells of a shard.
@@ -103,25 +102,25 @@ impl ShardingCodec {
         &self,
         alloc: Global,
         encoded: &[u8],
-        data_type: &DataType,
-        fill_value: &FillValue,
-        shape: &[u64],
+        chunk: &ChunkType<'_>,
     ) -> Result<ArrayBytes<'static>, CodecError>
-        requires filled { IsSome (fill_cell (kind data_type.now) fill_value.now) }
-        requires size { position_count shape.now * cell_size (kind data_type.now) < 2 ^ 64 }
-        ensures cells { IfOk result (λ made. cells (kind data_type.now) (data_of made)
-            ≡ (sharding_meaning self.now).decoded (kind data_type.now)
-            (fill_of (kind data_type.now) fill_value.now) shape.now encoded.now) }
-        ensures some { IfOk result (λ made. IsSome (cells (kind data_type.now) (data_of made))) }
-        ensures refused { IfErr result (RefusesChunkDecoding (sharding_meaning self.now)
-            (kind data_type.now) (fill_of (kind data_type.now) fill_value.now) shape.now
+        requires size { position_count (shape_of chunk.now) * cell_size (chunk_kind chunk.now)
+            < 2 ^ 64 }
+        ensures cells { IfOk result (λ made. cells (chunk_kind chunk.now) (data_of made)
+            ≡ decoded_of (sharding_meaning self.now) chunk.now encoded.now) }
+        ensures some { IfOk result (λ made. IsSome (cells (chunk_kind chunk.now) (data_of made))) }
+        ensures refused { IfErr result (RefusesToDecode (sharding_meaning self.now) chunk.now
             encoded.now) }
     {
         let sub = self.extents(alloc)?;
-        let Some(subchunks) = Subchunks::new(alloc, shape, &sub)? else {
+        let Some(subchunks) = Subchunks::new(alloc, chunk.shape, &sub)? else {
             return Err(CodecError::DoesNotFit(Misfit::TypeOrShape));
         };
-        if !self.inner_codecs().fits_chunk(alloc, data_type, &sub)? {
+        let cell_type = chunk.cell_type;
+        if !self
+            .inner_codecs()
+            .fits_chunk(alloc, &cell_type.data_type, &sub)?
+        {
             return Err(CodecError::DoesNotFit(Misfit::TypeOrShape));
         }
         let Some(count) = subchunks.count() else {
@@ -131,7 +130,7 @@ impl ShardingCodec {
         let Some(ranges) = read_index(alloc, encoded, count, at_start)? else {
             return Err(CodecError::DoesNotFit(Misfit::Bytes));
         };
-        self.decode_parts(alloc, encoded, &ranges, &subchunks, data_type, fill_value)
+        self.decode_parts(alloc, encoded, &ranges, &subchunks, cell_type)
     }
 
     /// The cells of the subchunks of an array, which stand at these ranges of its shard.
@@ -142,27 +141,26 @@ impl ShardingCodec {
         encoded: &[u8],
         ranges: &[Option<SubchunkRange>],
         subchunks: &Subchunks,
-        data_type: &DataType,
-        fill_value: &FillValue,
+        cell_type: &CellType,
     ) -> Result<ArrayBytes<'static>, CodecError>
-        requires filled { IsSome (fill_cell (kind data_type.now) fill_value.now) }
-        requires size { position_count (chunk_shape subchunks.now)
-            * cell_size (kind data_type.now) < 2 ^ 64 }
+        requires size { position_count (chunk_shape subchunks.now) * cell_size
+            (kind_of cell_type.now) < 2 ^ 64 }
         requires within { All (IsRangeWithin (length encoded.now)) ranges.now }
-        requires count { length ranges.now
-            ≡ subchunk_count (chunk_shape subchunks.now) (subchunk_shape subchunks.now) }
-        ensures cells { IfOk result (λ made. cells (kind data_type.now) (data_of made)
-            ≡ decoded_parts (chain_meaning (inner_chain_of self.now)) (kind data_type.now)
-            (fill_of (kind data_type.now) fill_value.now) (chunk_shape subchunks.now)
-            (subchunk_shape subchunks.now) (map (range_part encoded.now) ranges.now)) }
-        ensures some { IfOk result (λ made. IsSome (cells (kind data_type.now) (data_of made))) }
-        ensures refused { IfErr result (RefusesCells (chain_meaning (inner_chain_of self.now))
-            (kind data_type.now) (fill_of (kind data_type.now) fill_value.now)
-            (chunk_shape subchunks.now) (subchunk_shape subchunks.now)
+        requires count { length ranges.now ≡ subchunk_count (chunk_shape subchunks.now)
+            (subchunk_shape subchunks.now) }
+        ensures cells { IfOk result (λ made. cells (kind_of cell_type.now) (data_of made)
+            ≡ decoded_parts (chain_meaning (inner_chain_of self.now)) (kind_of cell_type.now)
+            (filling cell_type.now) (chunk_shape subchunks.now) (subchunk_shape subchunks.now)
             (map (range_part encoded.now) ranges.now)) }
+        ensures some { IfOk result (λ made. IsSome (cells (kind_of cell_type.now) (data_of made))) }
+        ensures refused { IfErr result (RefusesCells (chain_meaning (inner_chain_of self.now))
+            (kind_of cell_type.now) (filling cell_type.now) (chunk_shape subchunks.now)
+            (subchunk_shape subchunks.now) (map (range_part encoded.now) ranges.now)) }
     {
         let is_whole = are_present(ranges);
-        let Some(mut chunk) = subchunks.new_chunk(alloc, data_type, fill_value, is_whole)? else {
+        let data_type = &cell_type.data_type;
+        let filled = subchunks.new_chunk(alloc, data_type, &cell_type.fill_value, is_whole)?;
+        let Some(mut chunk) = filled else {
             return Err(CodecError::SizeOverflow);
         };
         if self.inner_codecs().reads_cells(data_type) {
@@ -177,8 +175,7 @@ impl ShardingCodec {
                 &encoded[range.start..range.end],
                 subchunks,
                 chunk,
-                data_type,
-                fill_value,
+                cell_type,
                 number as u64,
             )?;
         }
@@ -193,31 +190,29 @@ impl ShardingCodec {
         encoded: &[u8],
         subchunks: &Subchunks,
         chunk: RegionCells,
-        data_type: &DataType,
-        fill_value: &FillValue,
+        cell_type: &CellType,
         number: u64,
     ) -> Result<RegionCells, CodecError>
-        requires filled { IsSome (fill_cell (kind data_type.now) fill_value.now) }
-        requires size { position_count (subchunk_shape subchunks.now)
-            * cell_size (kind data_type.now) < 2 ^ 64 }
-        requires number { number
-            < subchunk_count (chunk_shape subchunks.now) (subchunk_shape subchunks.now) }
-        requires held { HasCells (kind data_type.now) (region_data chunk)
+        requires size { position_count (subchunk_shape subchunks.now) * cell_size
+            (kind_of cell_type.now) < 2 ^ 64 }
+        requires number { number < subchunk_count (chunk_shape subchunks.now)
+            (subchunk_shape subchunks.now) }
+        requires held { HasCells (kind_of cell_type.now) (region_data chunk)
             (position_count (chunk_shape subchunks.now)) }
         ensures put { IfOk result (λ made. PutsPart (chain_meaning (inner_chain_of self.now))
-            (kind data_type.now) (fill_of (kind data_type.now) fill_value.now)
-            (chunk_shape subchunks.now) (subchunk_shape subchunks.now) number encoded.now
-            (region_data chunk) (region_data made)) }
+            (kind_of cell_type.now) (filling cell_type.now) (chunk_shape subchunks.now)
+            (subchunk_shape subchunks.now) number encoded.now (region_data chunk)
+            (region_data made)) }
         ensures refused { IfErr result (RefusesChunkDecoding
-            (chain_meaning (inner_chain_of self.now)) (kind data_type.now)
-            (fill_of (kind data_type.now) fill_value.now) (subchunk_shape subchunks.now)
-            encoded.now) }
+            (chain_meaning (inner_chain_of self.now)) (kind_of cell_type.now)
+            (filling cell_type.now) (subchunk_shape subchunks.now) encoded.now) }
     {
-        let sub = subchunks.shape();
-        let part = self
-            .inner_codecs()
-            .decode_chunk(alloc, encoded, data_type, fill_value, sub)?;
-        Ok(subchunks.put(alloc, chunk, &part, data_type, number)?)
+        let inner = ChunkType {
+            cell_type,
+            shape: subchunks.shape(),
+        };
+        let part = self.inner_codecs().decode_chunk(alloc, encoded, &inner)?;
+        Ok(subchunks.put(alloc, chunk, &part, &cell_type.data_type, number)?)
     }
 }
 
@@ -241,16 +236,15 @@ fn with_parts(
     requires size { position_count (chunk_shape subchunks.now) * cell_size (kind data_type.now)
         < 2 ^ 64 }
     requires within { All (IsRangeWithin (length encoded.now)) ranges.now }
-    requires count { length ranges.now
-        ≡ subchunk_count (chunk_shape subchunks.now) (subchunk_shape subchunks.now) }
+    requires count { length ranges.now ≡ subchunk_count (chunk_shape subchunks.now)
+        (subchunk_shape subchunks.now) }
     requires held { HasCells (kind data_type.now) (region_data chunk)
         (position_count (chunk_shape subchunks.now)) }
     ensures copied { IfOk result (λ made. CopiesParts (kind data_type.now)
         (chunk_shape subchunks.now) (subchunk_shape subchunks.now)
         (map (range_part encoded.now) ranges.now) (region_data chunk) (data_of made)) }
-    ensures refused { IfErr result (RefusesCopies (kind data_type.now)
-        (chunk_shape subchunks.now) (subchunk_shape subchunks.now)
-        (map (range_part encoded.now) ranges.now)) }
+    ensures refused { IfErr result (RefusesCopies (kind data_type.now) (chunk_shape subchunks.now)
+        (subchunk_shape subchunks.now) (map (range_part encoded.now) ranges.now)) }
 {
     let ArrayBytes::Fixed(bytes) = chunk.into_array_bytes(alloc)? else {
         unreachable!();
@@ -274,16 +268,15 @@ fn copy_parts(
     requires size { position_count (chunk_shape subchunks.now) * cell_size (kind data_type.now)
         < 2 ^ 64 }
     requires within { All (IsRangeWithin (length encoded.now)) ranges.now }
-    requires count { length ranges.now
-        ≡ subchunk_count (chunk_shape subchunks.now) (subchunk_shape subchunks.now) }
+    requires count { length ranges.now ≡ subchunk_count (chunk_shape subchunks.now)
+        (subchunk_shape subchunks.now) }
     requires held { HasCells (kind data_type.now) (fixed chunk.old)
         (position_count (chunk_shape subchunks.now)) }
-    ensures copied { IfOk result (λ _. CopiesParts (kind data_type.now)
-        (chunk_shape subchunks.now) (subchunk_shape subchunks.now)
-        (map (range_part encoded.now) ranges.now) (fixed chunk.old) (fixed chunk.new)) }
-    ensures refused { IfErr result (RefusesCopies (kind data_type.now)
-        (chunk_shape subchunks.now) (subchunk_shape subchunks.now)
-        (map (range_part encoded.now) ranges.now)) }
+    ensures copied { IfOk result (λ _. CopiesParts (kind data_type.now) (chunk_shape subchunks.now)
+        (subchunk_shape subchunks.now) (map (range_part encoded.now) ranges.now) (fixed chunk.old)
+        (fixed chunk.new)) }
+    ensures refused { IfErr result (RefusesCopies (kind data_type.now) (chunk_shape subchunks.now)
+        (subchunk_shape subchunks.now) (map (range_part encoded.now) ranges.now)) }
 {
     for (number, range) in ranges.iter().enumerate() {
         let Some(range) = range else {
@@ -306,17 +299,17 @@ fn copy_part(
 ) -> Result<(), CodecError>
     requires size { position_count (subchunk_shape subchunks.now) * cell_size (kind data_type.now)
         < 2 ^ 64 }
-    requires number { number
-        < subchunk_count (chunk_shape subchunks.now) (subchunk_shape subchunks.now) }
+    requires number { number < subchunk_count (chunk_shape subchunks.now)
+        (subchunk_shape subchunks.now) }
     requires held { HasCells (kind data_type.now) (fixed chunk.old)
         (position_count (chunk_shape subchunks.now)) }
     ensures has_cells { IfOk result (λ _. HasCells (kind data_type.now) (fixed part.now)
         (position_count (subchunk_shape subchunks.now))) }
     ensures put { IfOk result (λ _. PutsSubchunk (kind data_type.now) (chunk_shape subchunks.now)
-        (subchunk_shape subchunks.now) number (fixed part.now) (fixed chunk.old)
-        (fixed chunk.new)) }
-    ensures refused { IfErr result (RefusesCopy (kind data_type.now)
-        (subchunk_shape subchunks.now) part.now) }
+        (subchunk_shape subchunks.now) number (fixed part.now) (fixed chunk.old) (fixed
+        chunk.new)) }
+    ensures refused { IfErr result (RefusesCopy (kind data_type.now) (subchunk_shape subchunks.now)
+        part.now) }
 {
     let count = element_count(subchunks.shape()).unwrap();
     if !ArrayBytes::from_flen(part).validate(data_type, count) {

@@ -1,18 +1,16 @@
 //! Chunks to bytes.
-ghost use Rattle.std.specs.Prelude.{◌≡◌, ◌<◌, true, Some, IfOk, IfErr, IsSome, option_map};
+ghost use Rattle.std.specs.Prelude.{◌≡◌, ◌<◌, true, Some, IfOk, IfErr, option_map};
 ghost use Rattle.zarrs_subset.specs.Boxes.{position_count};
-ghost use Rattle.zarrs_data_type.specs.Kind.{kind};
-ghost use Rattle.zarrs_data_type.specs.Cell.{fill_cell, fill_of};
+ghost use Rattle.zarrs_data_type.specs.CellTypes.{chunk_fill, chunk_kind, filling, kind_of, shape_of};
 ghost use Rattle.zarrs_data_type.specs.ArrayData.{data_of};
 ghost use Rattle.zarrs_data_type.specs.Cells.{HasCells};
 ghost use Rattle.zarrs_codec_shard.specs.Sharded.{part_of, sharded_encoded};
 ghost use Rattle.zarrs_codec_shard.specs.SubchunkData.{chunk_shape, subchunk_shape};
 ghost use Rattle.zarrs_codec_shard.specs.Subchunks.{subchunk_at, subchunk_count};
-ghost use Rattle.zarrs_codec_chain.specs.Chain.{chunk_encoding};
+ghost use Rattle.zarrs_codec_chain.specs.Chunks.{RefusesToEncode, encoding_as};
 ghost use Rattle.zarrs_codec.specs.Chains.{behind, chain_meaning, inner_chain_of, is_at_start};
 ghost use Rattle.zarrs_codec.specs.Chains.{keeps_cells, location_of, sharding_meaning};
 ghost use Rattle.zarrs_codec.specs.Shardings.{cells_of, subchunk_meaning, PushesCells, RefusesPart, RefusesParts};
-ghost use Rattle.zarrs_codec_chain.specs.Refusals.{RefusesChunkEncoding};
 ghost use Rattle.zarrs_codec_chain.specs.Options.{stores_empty_chunks};
 
 use crate::chain::CodecChain;
@@ -23,7 +21,7 @@ use zarrs_codec_array::{ArrayToArrayCodec, encode_array, encoded_shape};
 use zarrs_codec_chain::CodecOptions;
 use zarrs_codec_leaf::{CodecError, Endianness, Misfit};
 use zarrs_codec_shard::{ShardWriter, Subchunks};
-use zarrs_data_type::{ArrayBytes, DataType, FillValue};
+use zarrs_data_type::{ArrayBytes, CellType, ChunkType};
 
 impl CodecChain {
     /// Whether the bytes of a chunk are its cells as they stand in memory.
@@ -43,29 +41,22 @@ impl CodecChain {
         &self,
         alloc: Global,
         bytes: &ArrayBytes<'_>,
-        data_type: &DataType,
-        fill_value: &FillValue,
-        shape: &[u64],
+        chunk: &ChunkType<'_>,
         options: &CodecOptions,
     ) -> Result<Vec<u8>, CodecError>
-        requires filled { IsSome (fill_cell (kind data_type.now) fill_value.now) }
-        requires cells { HasCells (kind data_type.now) (data_of bytes.now)
-            (position_count shape.now) }
-        ensures encoded { IfOk result (λ encoded.
-            chunk_encoding (chain_meaning self.now) (stores_empty_chunks options.now)
-            (kind data_type.now) (fill_of (kind data_type.now) fill_value.now) shape.now
-            (data_of bytes.now) ≡ Some encoded.items) }
-        ensures refused { IfErr result
-            (RefusesChunkEncoding (chain_meaning self.now) (stores_empty_chunks options.now)
-            (kind data_type.now) (fill_of (kind data_type.now) fill_value.now) shape.now
-            (data_of bytes.now)) }
+        requires cells { HasCells (chunk_kind chunk.now) (data_of bytes.now)
+            (position_count (shape_of chunk.now)) }
+        ensures encoded { IfOk result (λ encoded. encoding_as (chain_meaning self.now)
+            (stores_empty_chunks options.now) chunk.now (data_of bytes.now) ≡ Some encoded.items) }
+        ensures refused { IfErr result (RefusesToEncode (chain_meaning self.now)
+            (stores_empty_chunks options.now) chunk.now (data_of bytes.now)) }
     {
         match &self.array_to_bytes {
             ArrayToBytesCodec::Sharding(codec) => {
                 let arrays = &self.array_to_array;
-                codec.encode_behind(alloc, arrays, bytes, data_type, fill_value, shape, options)
+                codec.encode_behind(alloc, arrays, bytes, chunk, options)
             }
-            _ => self.encode_cells(alloc, bytes, data_type, fill_value, shape, options),
+            _ => self.encode_cells(alloc, bytes, chunk, options),
         }
     }
 
@@ -75,28 +66,23 @@ impl CodecChain {
         &self,
         alloc: Global,
         bytes: ArrayBytes<'_>,
-        data_type: &DataType,
-        fill_value: &FillValue,
-        shape: &[u64],
+        chunk: &ChunkType<'_>,
         options: &CodecOptions,
     ) -> Result<Vec<u8>, CodecError>
-        requires filled { IsSome (fill_cell (kind data_type.now) fill_value.now) }
-        requires cells { HasCells (kind data_type.now) (data_of bytes) (position_count shape.now) }
-        ensures encoded { IfOk result (λ encoded.
-            chunk_encoding (chain_meaning self.now) (stores_empty_chunks options.now)
-            (kind data_type.now) (fill_of (kind data_type.now) fill_value.now) shape.now
-            (data_of bytes.entry) ≡ Some encoded.items) }
-        ensures refused { IfErr result
-            (RefusesChunkEncoding (chain_meaning self.now) (stores_empty_chunks options.now)
-            (kind data_type.now) (fill_of (kind data_type.now) fill_value.now) shape.now
-            (data_of bytes.entry)) }
+        requires cells { HasCells (chunk_kind chunk.now) (data_of bytes)
+            (position_count (shape_of chunk.now)) }
+        ensures encoded { IfOk result (λ encoded. encoding_as (chain_meaning self.now)
+            (stores_empty_chunks options.now) chunk.now (data_of bytes.entry) ≡ Some
+            encoded.items) }
+        ensures refused { IfErr result (RefusesToEncode (chain_meaning self.now)
+            (stores_empty_chunks options.now) chunk.now (data_of bytes.entry)) }
     {
         match &self.array_to_bytes {
             ArrayToBytesCodec::Sharding(codec) => {
                 let arrays = &self.array_to_array;
-                codec.encode_behind(alloc, arrays, &bytes, data_type, fill_value, shape, options)
+                codec.encode_behind(alloc, arrays, &bytes, chunk, options)
             }
-            _ => self.encode_owned_cells(alloc, bytes, data_type, fill_value, shape, options),
+            _ => self.encode_owned_cells(alloc, bytes, chunk, options),
         }
     }
 }
@@ -109,32 +95,29 @@ impl ShardingCodec {
         alloc: Global,
         codecs: &[ArrayToArrayCodec],
         bytes: &ArrayBytes<'_>,
-        data_type: &DataType,
-        fill_value: &FillValue,
-        shape: &[u64],
+        chunk: &ChunkType<'_>,
         options: &CodecOptions,
     ) -> Result<Vec<u8>, CodecError>
-        requires filled { IsSome (fill_cell (kind data_type.now) fill_value.now) }
-        requires cells { HasCells (kind data_type.now) (data_of bytes.now)
-            (position_count shape.now) }
-        ensures encoded { IfOk result (λ encoded.
-            chunk_encoding (behind codecs.now (sharding_meaning self.now))
-            (stores_empty_chunks options.now) (kind data_type.now)
-            (fill_of (kind data_type.now) fill_value.now) shape.now
-            (data_of bytes.now) ≡ Some encoded.items) }
-        ensures refused { IfErr result
-            (RefusesChunkEncoding (behind codecs.now (sharding_meaning self.now))
-            (stores_empty_chunks options.now) (kind data_type.now)
-            (fill_of (kind data_type.now) fill_value.now) shape.now (data_of bytes.now)) }
+        requires cells { HasCells (chunk_kind chunk.now) (data_of bytes.now)
+            (position_count (shape_of chunk.now)) }
+        ensures encoded { IfOk result (λ encoded. encoding_as
+            (behind codecs.now (sharding_meaning self.now)) (stores_empty_chunks options.now)
+            chunk.now (data_of bytes.now) ≡ Some encoded.items) }
+        ensures refused { IfErr result (RefusesToEncode
+            (behind codecs.now (sharding_meaning self.now)) (stores_empty_chunks options.now)
+            chunk.now (data_of bytes.now)) }
     {
-        let Some(inner) = encoded_shape(alloc, codecs, shape)? else {
+        let Some(inner) = encoded_shape(alloc, codecs, chunk.shape)? else {
             return Err(CodecError::DoesNotFit(Misfit::TypeOrShape));
         };
-        match encode_array(alloc, codecs, bytes, data_type, shape)? {
-            Some(made) => {
-                self.encode_shard(alloc, &made, data_type, fill_value, &inner, options)
-            }
-            None => self.encode_shard(alloc, bytes, data_type, fill_value, &inner, options),
+        let cell_type = chunk.cell_type;
+        let array = ChunkType {
+            cell_type,
+            shape: &inner,
+        };
+        match encode_array(alloc, codecs, bytes, &cell_type.data_type, chunk.shape)? {
+            Some(made) => self.encode_shard(alloc, &made, &array, options),
+            None => self.encode_shard(alloc, bytes, &array, options),
         }
     }
 
@@ -144,31 +127,28 @@ impl ShardingCodec {
         &self,
         alloc: Global,
         bytes: &ArrayBytes<'_>,
-        data_type: &DataType,
-        fill_value: &FillValue,
-        shape: &[u64],
+        chunk: &ChunkType<'_>,
         options: &CodecOptions,
     ) -> Result<Vec<u8>, CodecError>
-        requires filled { IsSome (fill_cell (kind data_type.now) fill_value.now) }
-        requires cells { HasCells (kind data_type.now) (data_of bytes.now)
-            (position_count shape.now) }
-        ensures encoded { IfOk result (λ encoded.
-            chunk_encoding (sharding_meaning self.now) (stores_empty_chunks options.now)
-            (kind data_type.now) (fill_of (kind data_type.now) fill_value.now) shape.now
-            (data_of bytes.now) ≡ Some encoded.items) }
-        ensures refused { IfErr result
-            (RefusesChunkEncoding (sharding_meaning self.now) (stores_empty_chunks options.now)
-            (kind data_type.now) (fill_of (kind data_type.now) fill_value.now) shape.now
-            (data_of bytes.now)) }
+        requires cells { HasCells (chunk_kind chunk.now) (data_of bytes.now)
+            (position_count (shape_of chunk.now)) }
+        ensures encoded { IfOk result (λ encoded. encoding_as (sharding_meaning self.now)
+            (stores_empty_chunks options.now) chunk.now (data_of bytes.now) ≡ Some encoded.items) }
+        ensures refused { IfErr result (RefusesToEncode (sharding_meaning self.now)
+            (stores_empty_chunks options.now) chunk.now (data_of bytes.now)) }
     {
         let sub = self.extents(alloc)?;
-        let Some(subchunks) = Subchunks::new(alloc, shape, &sub)? else {
+        let Some(subchunks) = Subchunks::new(alloc, chunk.shape, &sub)? else {
             return Err(CodecError::DoesNotFit(Misfit::TypeOrShape));
         };
-        if !self.inner_codecs().fits_chunk(alloc, data_type, &sub)? {
+        let cell_type = chunk.cell_type;
+        if !self
+            .inner_codecs()
+            .fits_chunk(alloc, &cell_type.data_type, &sub)?
+        {
             return Err(CodecError::DoesNotFit(Misfit::TypeOrShape));
         }
-        self.encode_parts(alloc, bytes, data_type, fill_value, &subchunks, options)
+        self.encode_parts(alloc, bytes, cell_type, &subchunks, options)
     }
 
     /// The shard of the subchunks of an array.
@@ -177,31 +157,26 @@ impl ShardingCodec {
         &self,
         alloc: Global,
         bytes: &ArrayBytes<'_>,
-        data_type: &DataType,
-        fill_value: &FillValue,
+        cell_type: &CellType,
         subchunks: &Subchunks,
         options: &CodecOptions,
     ) -> Result<Vec<u8>, CodecError>
-        requires filled { IsSome (fill_cell (kind data_type.now) fill_value.now) }
-        requires cells { HasCells (kind data_type.now) (data_of bytes.now)
+        requires cells { HasCells (kind_of cell_type.now) (data_of bytes.now)
             (position_count (chunk_shape subchunks.now)) }
-        requires fits { (chain_meaning (inner_chain_of self.now)).fits (kind data_type.now)
+        requires fits { (chain_meaning (inner_chain_of self.now)).fits (kind_of cell_type.now)
             (subchunk_shape subchunks.now) ≡ true }
-        ensures encoded { IfOk result (λ encoded. sharded_encoded
-            (subchunk_meaning (chain_meaning (inner_chain_of self.now))
-            (stores_empty_chunks options.now) (kind data_type.now)
-            (fill_of (kind data_type.now) fill_value.now) (subchunk_shape subchunks.now))
+        ensures encoded { IfOk result (λ encoded. sharded_encoded (subchunk_meaning
+            (chain_meaning (inner_chain_of self.now)) (stores_empty_chunks options.now)
+            (kind_of cell_type.now) (filling cell_type.now) (subchunk_shape subchunks.now))
             (is_at_start (location_of self.now)) (stores_empty_chunks options.now)
-            (fill_of (kind data_type.now) fill_value.now) (chunk_shape subchunks.now)
-            (subchunk_shape subchunks.now) (cells_of (kind data_type.now) (data_of bytes.now))
-            ≡ Some encoded.items) }
-        ensures refused { IfErr result (RefusesParts
-            (subchunk_meaning (chain_meaning (inner_chain_of self.now))
-            (stores_empty_chunks options.now) (kind data_type.now)
-            (fill_of (kind data_type.now) fill_value.now) (subchunk_shape subchunks.now))
+            (filling cell_type.now) (chunk_shape subchunks.now) (subchunk_shape subchunks.now)
+            (cells_of (kind_of cell_type.now) (data_of bytes.now)) ≡ Some encoded.items) }
+        ensures refused { IfErr result (RefusesParts (subchunk_meaning
+            (chain_meaning (inner_chain_of self.now)) (stores_empty_chunks options.now)
+            (kind_of cell_type.now) (filling cell_type.now) (subchunk_shape subchunks.now))
             (is_at_start (location_of self.now)) (stores_empty_chunks options.now)
-            (fill_of (kind data_type.now) fill_value.now) (chunk_shape subchunks.now)
-            (subchunk_shape subchunks.now) (cells_of (kind data_type.now) (data_of bytes.now))) }
+            (filling cell_type.now) (chunk_shape subchunks.now) (subchunk_shape subchunks.now)
+            (cells_of (kind_of cell_type.now) (data_of bytes.now))) }
     {
         let Some(count) = subchunks.indexed_count() else {
             return Err(CodecError::SizeOverflow);
@@ -213,8 +188,7 @@ impl ShardingCodec {
             room = self.push_subchunk(
                 alloc,
                 bytes,
-                data_type,
-                fill_value,
+                cell_type,
                 subchunks,
                 number,
                 options,
@@ -232,47 +206,54 @@ impl ShardingCodec {
         &self,
         alloc: Global,
         bytes: &ArrayBytes<'_>,
-        data_type: &DataType,
-        fill_value: &FillValue,
+        cell_type: &CellType,
         subchunks: &Subchunks,
         number: u64,
         options: &CodecOptions,
         room: Vec<u8>,
         writer: &mut ShardWriter,
     ) -> Result<Vec<u8>, CodecError>
-        requires filled { IsSome (fill_cell (kind data_type.now) fill_value.now) }
-        requires cells { HasCells (kind data_type.now) (data_of bytes.now)
+        requires cells { HasCells (kind_of cell_type.now) (data_of bytes.now)
             (position_count (chunk_shape subchunks.now)) }
-        requires fits { (chain_meaning (inner_chain_of self.now)).fits (kind data_type.now)
+        requires fits { (chain_meaning (inner_chain_of self.now)).fits (kind_of cell_type.now)
             (subchunk_shape subchunks.now) ≡ true }
-        requires number { number
-            < subchunk_count (chunk_shape subchunks.now) (subchunk_shape subchunks.now) }
-        ensures pushed { IfOk result (λ _. PushesCells
-            (subchunk_meaning (chain_meaning (inner_chain_of self.now))
-            (stores_empty_chunks options.now) (kind data_type.now)
-            (fill_of (kind data_type.now) fill_value.now) (subchunk_shape subchunks.now))
-            (stores_empty_chunks options.now) (fill_of (kind data_type.now) fill_value.now)
-            (subchunk_at (chunk_shape subchunks.now) (subchunk_shape subchunks.now)
-            (cells_of (kind data_type.now) (data_of bytes.now)) number) writer.old writer.new) }
-        ensures refused { IfErr result (RefusesPart
-            (subchunk_meaning (chain_meaning (inner_chain_of self.now))
-            (stores_empty_chunks options.now) (kind data_type.now)
-            (fill_of (kind data_type.now) fill_value.now) (subchunk_shape subchunks.now))
-            (stores_empty_chunks options.now) (fill_of (kind data_type.now) fill_value.now)
-            (subchunk_at (chunk_shape subchunks.now) (subchunk_shape subchunks.now)
-            (cells_of (kind data_type.now) (data_of bytes.now)) number)) }
+        requires number { number < subchunk_count (chunk_shape subchunks.now)
+            (subchunk_shape subchunks.now) }
+        ensures pushed { IfOk result (λ _. PushesCells (subchunk_meaning
+            (chain_meaning (inner_chain_of self.now)) (stores_empty_chunks options.now)
+            (kind_of cell_type.now) (filling cell_type.now) (subchunk_shape subchunks.now))
+            (stores_empty_chunks options.now) (filling cell_type.now) (subchunk_at
+            (chunk_shape subchunks.now) (subchunk_shape subchunks.now) (cells_of
+            (kind_of cell_type.now) (data_of bytes.now)) number) writer.old writer.new) }
+        ensures refused { IfErr result (RefusesPart (subchunk_meaning
+            (chain_meaning (inner_chain_of self.now)) (stores_empty_chunks options.now)
+            (kind_of cell_type.now) (filling cell_type.now) (subchunk_shape subchunks.now))
+            (stores_empty_chunks options.now) (filling cell_type.now) (subchunk_at
+            (chunk_shape subchunks.now) (subchunk_shape subchunks.now) (cells_of
+            (kind_of cell_type.now) (data_of bytes.now)) number)) }
     {
         match (bytes, self.inner.keeps_cells()) {
             (ArrayBytes::Fixed(cells), true) => {
                 let empty = options.store_empty_chunks();
                 let cells = cells.as_slice();
-                subchunks.push_cells(alloc, cells, data_type, fill_value, empty, number, writer)?;
+                subchunks.push_cells(
+                    alloc,
+                    cells,
+                    &cell_type.data_type,
+                    &cell_type.fill_value,
+                    empty,
+                    number,
+                    writer,
+                )?;
                 Ok(room)
             }
             _ => {
-                let part = subchunks.extract(alloc, bytes, data_type, number, room)?;
-                let sub = subchunks.shape();
-                let encoded = self.encode_part(alloc, part, data_type, fill_value, sub, options)?;
+                let part = subchunks.extract(alloc, bytes, &cell_type.data_type, number, room)?;
+                let inner = ChunkType {
+                    cell_type,
+                    shape: subchunks.shape(),
+                };
+                let encoded = self.encode_part(alloc, part, &inner, options)?;
                 writer.push_part(&encoded)?;
                 Ok(encoded.unwrap_or(Vec::new(alloc)))
             }
@@ -285,32 +266,31 @@ impl ShardingCodec {
         &self,
         alloc: Global,
         bytes: ArrayBytes<'static>,
-        data_type: &DataType,
-        fill_value: &FillValue,
-        sub: &[u64],
+        chunk: &ChunkType<'_>,
         options: &CodecOptions,
     ) -> Result<Option<Vec<u8>>, CodecError>
-        requires filled { IsSome (fill_cell (kind data_type.now) fill_value.now) }
-        requires cells { HasCells (kind data_type.now) (data_of bytes) (position_count sub.now) }
-        ensures part { IfOk result (λ part. part_of
-            (subchunk_meaning (chain_meaning (inner_chain_of self.now))
-            (stores_empty_chunks options.now) (kind data_type.now)
-            (fill_of (kind data_type.now) fill_value.now) sub.now)
-            (stores_empty_chunks options.now) (fill_of (kind data_type.now) fill_value.now)
-            (cells_of (kind data_type.now) (data_of bytes.entry))
-            ≡ Some (option_map (λ encoded. encoded.items) part)) }
-        ensures refused { IfErr result (RefusesPart
-            (subchunk_meaning (chain_meaning (inner_chain_of self.now))
-            (stores_empty_chunks options.now) (kind data_type.now)
-            (fill_of (kind data_type.now) fill_value.now) sub.now)
-            (stores_empty_chunks options.now) (fill_of (kind data_type.now) fill_value.now)
-            (cells_of (kind data_type.now) (data_of bytes.entry))) }
+        requires cells { HasCells (chunk_kind chunk.now) (data_of bytes)
+            (position_count (shape_of chunk.now)) }
+        ensures part { IfOk result (λ part. part_of (subchunk_meaning
+            (chain_meaning (inner_chain_of self.now)) (stores_empty_chunks options.now)
+            (chunk_kind chunk.now) (chunk_fill chunk.now) (shape_of chunk.now))
+            (stores_empty_chunks options.now) (chunk_fill chunk.now) (cells_of
+            (chunk_kind chunk.now) (data_of bytes.entry)) ≡ Some
+            (option_map (λ encoded. encoded.items) part)) }
+        ensures refused { IfErr result (RefusesPart (subchunk_meaning
+            (chain_meaning (inner_chain_of self.now)) (stores_empty_chunks options.now)
+            (chunk_kind chunk.now) (chunk_fill chunk.now) (shape_of chunk.now))
+            (stores_empty_chunks options.now) (chunk_fill chunk.now) (cells_of
+            (chunk_kind chunk.now) (data_of bytes.entry))) }
     {
-        if !options.store_empty_chunks() && bytes.is_fill_value(data_type, fill_value) {
+        let cell_type = chunk.cell_type;
+        if !options.store_empty_chunks()
+            && bytes.is_fill_value(&cell_type.data_type, &cell_type.fill_value)
+        {
             return Ok(None);
         }
         let inner = self.inner_codecs();
-        let encoded = inner.encode_owned_chunk(alloc, bytes, data_type, fill_value, sub, options)?;
+        let encoded = inner.encode_owned_chunk(alloc, bytes, chunk, options)?;
         Ok(Some(encoded))
     }
 }

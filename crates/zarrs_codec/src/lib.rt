@@ -14,7 +14,6 @@ mod chain;
 mod codec;
 mod compact;
 mod decode;
-mod decode_into;
 mod encode;
 mod fits;
 pub mod laws;

@@ -1,24 +1,19 @@
 //! Parts of chunks, of ranges of their bytes.
-ghost use Rattle.std.specs.Prelude.{◌≡◌, ◌*◌, ◌<◌, ◌^◌, Some, IfOk, IfErr, IfNone, IfSome, IsSome, map};
+ghost use Rattle.std.specs.Prelude.{◌*◌, ◌<◌, ◌^◌, IfOk, IfErr, IfNone, IfSome, IsSome};
 ghost use Rattle.zarrs_subset.specs.Boxes.{position_count};
 ghost use Rattle.zarrs_subset.specs.Regions.{LiesInShape, box_of};
-ghost use Rattle.zarrs_data_type.specs.Kind.{kind, cell_size};
-ghost use Rattle.zarrs_data_type.specs.Cell.{fill_cell, fill_of};
+ghost use Rattle.zarrs_data_type.specs.CellTypes.{chunk_kind, chunk_fill, shape_of};
+ghost use Rattle.zarrs_data_type.specs.Kind.{cell_size};
 ghost use Rattle.zarrs_data_type.specs.ArrayData.{data_of};
 ghost use Rattle.zarrs_data_type.specs.Cells.{HasCells};
 ghost use Rattle.zarrs_data_type.specs.RegionData.{region_data};
-ghost use Rattle.zarrs_codec_shard.specs.ShardIndex.{range_part};
 ghost use Rattle.zarrs_codec_leaf.specs.Sources.{IsWindow, MayRead, window_bytes};
-ghost use Rattle.zarrs_codec_chain.specs.Parts.{DecodesPart};
+ghost use Rattle.zarrs_codec_chain.specs.Chunks.{HoldsPart, RefusesToDecodePart, decoded_of};
 ghost use Rattle.zarrs_codec_chain.specs.Places.{all_places, shard_places};
-ghost use Rattle.zarrs_codec_chain.specs.PartRefusals.{RefusesPartDecoding};
-ghost use Rattle.zarrs_codec_chain.specs.Refusals.{IsTooLargeToDecode};
-ghost use Rattle.zarrs_codec_chain.specs.ShardParts.{DecodesAs, HasAllParts, IsShard, MeetsPart, ReadsSubchunk};
-ghost use Rattle.zarrs_codec_chain.specs.ShardParts.{RefusesStep};
-ghost use Rattle.zarrs_codec_shard.specs.Sharded.{SubchunkMeaning, sharded_decoded};
+ghost use Rattle.zarrs_codec_chain.specs.ShardParts.{HasAllParts, IsShard, MeetsPart, ReadsSubchunk};
 ghost use Rattle.zarrs_codec.specs.Chains.{chain_meaning, inner_chain_of, sharding_meaning};
+ghost use Rattle.zarrs_codec.specs.ShardChunks.{DecodesWhole, RefusesSubchunks, inner_decoded, parts_of, shard_as};
 ghost use Rattle.zarrs_codec.specs.ShardPieces.{HasNoPiece, HasPiece};
-ghost use Rattle.zarrs_codec.specs.Shardings.{sharded};
 
 use crate::chain::CodecChain;
 use crate::codec::ArrayToBytesCodec;
@@ -30,7 +25,7 @@ use zarrs_codec_chain::{
     partial_decode_bytes, seen_from_corner,
 };
 use zarrs_codec_leaf::{ByteSource, CodecError, Misfit, Window};
-use zarrs_data_type::{ArrayBytes, DataType, FillValue, RegionCells};
+use zarrs_data_type::{ArrayBytes, ChunkType, RegionCells};
 use zarrs_subset::{ArraySubset, ravel_indices};
 
 impl CodecChain {
@@ -42,75 +37,63 @@ impl CodecChain {
         source: &B,
         window: Window,
         part: &ArraySubset,
-        data_type: &DataType,
-        fill_value: &FillValue,
-        shape: &[u64],
+        chunk: &ChunkType<'_>,
     ) -> Result<ArrayBytes<'static>, PartError>
-        requires filled { IsSome (fill_cell (kind data_type.now) fill_value.now) }
-        requires size { position_count (box_of part.now).shape * cell_size (kind data_type.now)
+        requires size { position_count (box_of part.now).shape * cell_size (chunk_kind chunk.now)
             < 2 ^ 64 }
-        requires part { LiesInShape (box_of part.now) shape.now }
+        requires part { LiesInShape (box_of part.now) (shape_of chunk.now) }
         requires window { IsWindow window (B.bytes source.now) }
         requires may_read { MayRead (B.may_read source.now) window ((chain_meaning self.now).places
-            (kind data_type.now) shape.now (box_of part.now)
+            (chunk_kind chunk.now) (shape_of chunk.now) (box_of part.now)
             (window_bytes window (B.bytes source.now))) }
-        ensures cells { IfOk result (λ made. DecodesPart (kind data_type.now) shape.now
-            (box_of part.now) ((chain_meaning self.now).decoded (kind data_type.now)
-            (fill_of (kind data_type.now) fill_value.now) shape.now
-            (window_bytes window (B.bytes source.now))) (data_of made)) }
-        ensures refused { IfErr result (RefusesPartDecoding ((chain_meaning self.now).decoded
-            (kind data_type.now) (fill_of (kind data_type.now) fill_value.now) shape.now
-            (window_bytes window (B.bytes source.now))) (IsTooLargeToDecode (chain_meaning self.now)
-            (kind data_type.now) (fill_of (kind data_type.now) fill_value.now) shape.now
-            (window_bytes window (B.bytes source.now))) (B.refuses source.now)) }
+        ensures cells { IfOk result (λ made. HoldsPart (chain_meaning self.now) chunk.now
+            (box_of part.now) (window_bytes window (B.bytes source.now)) (data_of made)) }
+        ensures refused { IfErr result (RefusesToDecodePart (chain_meaning self.now) chunk.now
+            (box_of part.now) (window_bytes window (B.bytes source.now)) (B.refuses source.now)) }
     {
         if !self.array_to_array.is_empty() {
-            return self.part_of_decoded(alloc, source, window, part, data_type, fill_value, shape);
+            return self.part_of_decoded(alloc, source, window, part, chunk);
         }
         match &self.array_to_bytes {
             ArrayToBytesCodec::Bytes(codec) => {
-                partial_decode_bytes(codec, alloc, source, window, part, data_type, shape)
+                let data_type = &chunk.cell_type.data_type;
+                partial_decode_bytes(codec, alloc, source, window, part, data_type, chunk.shape)
             }
             ArrayToBytesCodec::Sharding(codec) => codec.partial_decode_shard(
-                alloc, source, window, part, data_type, fill_value, shape,
+                alloc, source, window, part, chunk,
             ),
-            _ => self.part_of_decoded(alloc, source, window, part, data_type, fill_value, shape),
+            _ => self.part_of_decoded(alloc, source, window, part, chunk),
         }
     }
 
     /// The same, of the cells of the whole chunk.
-    fn part_of_decoded<B: ByteSource>(
+    pub(crate) fn part_of_decoded<B: ByteSource>(
         &self,
         alloc: Global,
         source: &B,
         window: Window,
         part: &ArraySubset,
-        data_type: &DataType,
-        fill_value: &FillValue,
-        shape: &[u64],
+        chunk: &ChunkType<'_>,
     ) -> Result<ArrayBytes<'static>, PartError>
-        requires filled { IsSome (fill_cell (kind data_type.now) fill_value.now) }
-        requires whole { (chain_meaning self.now).decodes_whole shape.now ≡ Some shape.now }
-        requires part { LiesInShape (box_of part.now) shape.now }
+        requires whole { DecodesWhole (chain_meaning self.now) }
+        requires part { LiesInShape (box_of part.now) (shape_of chunk.now) }
         requires window { IsWindow window (B.bytes source.now) }
-        requires may_read { MayRead (B.may_read source.now) window (all_places (kind data_type.now)
-            shape.now (box_of part.now) (window_bytes window (B.bytes source.now))) }
-        ensures cells { IfOk result (λ made. DecodesPart (kind data_type.now) shape.now
-            (box_of part.now) ((chain_meaning self.now).decoded (kind data_type.now)
-            (fill_of (kind data_type.now) fill_value.now) shape.now
-            (window_bytes window (B.bytes source.now))) (data_of made)) }
-        ensures refused { IfErr result (RefusesPartDecoding ((chain_meaning self.now).decoded
-            (kind data_type.now) (fill_of (kind data_type.now) fill_value.now) shape.now
-            (window_bytes window (B.bytes source.now))) (IsTooLargeToDecode (chain_meaning self.now)
-            (kind data_type.now) (fill_of (kind data_type.now) fill_value.now) shape.now
-            (window_bytes window (B.bytes source.now))) (B.refuses source.now)) }
+        requires may_read { MayRead (B.may_read source.now) window (all_places
+            (chunk_kind chunk.now) (shape_of chunk.now) (box_of part.now)
+            (window_bytes window (B.bytes source.now))) }
+        ensures cells { IfOk result (λ made. HoldsPart (chain_meaning self.now) chunk.now
+            (box_of part.now) (window_bytes window (B.bytes source.now)) (data_of made)) }
+        ensures decodes { IfOk result (λ _. IsSome (decoded_of (chain_meaning self.now) chunk.now
+            (window_bytes window (B.bytes source.now)))) }
+        ensures refused { IfErr result (RefusesToDecodePart (chain_meaning self.now) chunk.now
+            (box_of part.now) (window_bytes window (B.bytes source.now)) (B.refuses source.now)) }
     {
-        if !is_counted(shape, data_type) {
+        if !is_counted(chunk.shape, &chunk.cell_type.data_type) {
             return Err(PartError::Codec(CodecError::SizeOverflow));
         }
         let encoded = source.read(alloc, window)?;
-        let whole = self.decode_chunk(alloc, encoded.as_slice(), data_type, fill_value, shape)?;
-        let made = part_of_whole(alloc, &whole, data_type, shape, part)?;
+        let whole = self.decode_chunk(alloc, encoded.as_slice(), chunk)?;
+        let made = part_of_whole(alloc, whole, &chunk.cell_type.data_type, chunk.shape, part)?;
         Ok(made)
     }
 }
@@ -132,33 +115,23 @@ impl ShardingCodec {
         source: &B,
         window: Window,
         part: &ArraySubset,
-        data_type: &DataType,
-        fill_value: &FillValue,
-        shape: &[u64],
+        chunk: &ChunkType<'_>,
     ) -> Result<ArrayBytes<'static>, PartError>
-        requires filled { IsSome (fill_cell (kind data_type.now) fill_value.now) }
-        requires size { position_count (box_of part.now).shape * cell_size (kind data_type.now)
+        requires size { position_count (box_of part.now).shape * cell_size (chunk_kind chunk.now)
             < 2 ^ 64 }
-        requires part { LiesInShape (box_of part.now) shape.now }
+        requires part { LiesInShape (box_of part.now) (shape_of chunk.now) }
         requires window { IsWindow window (B.bytes source.now) }
         requires may_read { MayRead (B.may_read source.now) window
-            ((sharding_meaning self.now).places (kind data_type.now) shape.now (box_of part.now)
-            (window_bytes window (B.bytes source.now))) }
-        ensures cells { IfOk result (λ made. DecodesPart (kind data_type.now) shape.now
-            (box_of part.now) ((sharding_meaning self.now).decoded (kind data_type.now)
-            (fill_of (kind data_type.now) fill_value.now) shape.now
-            (window_bytes window (B.bytes source.now))) (data_of made)) }
-        ensures refused { IfErr result (RefusesPartDecoding ((sharding_meaning self.now).decoded
-            (kind data_type.now) (fill_of (kind data_type.now) fill_value.now) shape.now
-            (window_bytes window (B.bytes source.now))) (IsTooLargeToDecode (sharding_meaning self.now)
-            (kind data_type.now) (fill_of (kind data_type.now) fill_value.now) shape.now
-            (window_bytes window (B.bytes source.now))) (B.refuses source.now)) }
+            ((sharding_meaning self.now).places (chunk_kind chunk.now) (shape_of chunk.now)
+            (box_of part.now) (window_bytes window (B.bytes source.now))) }
+        ensures cells { IfOk result (λ made. HoldsPart (sharding_meaning self.now) chunk.now
+            (box_of part.now) (window_bytes window (B.bytes source.now)) (data_of made)) }
+        ensures refused { IfErr result (RefusesToDecodePart (sharding_meaning self.now) chunk.now
+            (box_of part.now) (window_bytes window (B.bytes source.now)) (B.refuses source.now)) }
     {
         let sub = self.extents(alloc)?;
         let at_start = self.index_location().is_at_start();
-        self.partial_decode_cut(
-            at_start, &sub, alloc, source, window, part, data_type, fill_value, shape,
-        )
+        self.partial_decode_cut(at_start, &sub, alloc, source, window, part, chunk)
     }
 
     /// The same, of a shard that is cut into subchunks of this shape.
@@ -171,38 +144,25 @@ impl ShardingCodec {
         source: &B,
         window: Window,
         part: &ArraySubset,
-        data_type: &DataType,
-        fill_value: &FillValue,
-        shape: &[u64],
+        chunk: &ChunkType<'_>,
     ) -> Result<ArrayBytes<'static>, PartError>
-        requires filled { IsSome (fill_cell (kind data_type.now) fill_value.now) }
-        requires size { position_count (box_of part.now).shape * cell_size (kind data_type.now)
+        requires size { position_count (box_of part.now).shape * cell_size (chunk_kind chunk.now)
             < 2 ^ 64 }
-        requires part { LiesInShape (box_of part.now) shape.now }
+        requires part { LiesInShape (box_of part.now) (shape_of chunk.now) }
         requires window { IsWindow window (B.bytes source.now) }
         requires may_read { MayRead (B.may_read source.now) window (shard_places at_start sub.now
-            (kind data_type.now) shape.now (box_of part.now)
+            (chunk_kind chunk.now) (shape_of chunk.now) (box_of part.now)
             (window_bytes window (B.bytes source.now))) }
-        ensures cells { IfOk result (λ made. (m : SubchunkMeaning) → DecodesAs m
-            ((chain_meaning (inner_chain_of self.now)).decoded (kind data_type.now)
-            (fill_of (kind data_type.now) fill_value.now) sub.now)
-            → DecodesPart (kind data_type.now) shape.now (box_of part.now) (sharded_decoded m
-            at_start (kind data_type.now) (fill_of (kind data_type.now) fill_value.now) shape.now
-            sub.now (window_bytes window (B.bytes source.now))) (data_of made)) }
-        ensures refused { IfErr result (λ e. (m : SubchunkMeaning) → DecodesAs m
-            ((chain_meaning (inner_chain_of self.now)).decoded (kind data_type.now)
-            (fill_of (kind data_type.now) fill_value.now) sub.now)
-            → RefusesPartDecoding (sharded_decoded m at_start (kind data_type.now)
-            (fill_of (kind data_type.now) fill_value.now) shape.now sub.now
-            (window_bytes window (B.bytes source.now)))
-            (IsTooLargeToDecode (sharded at_start sub.now (chain_meaning (inner_chain_of self.now)))
-            (kind data_type.now) (fill_of (kind data_type.now) fill_value.now) shape.now
-            (window_bytes window (B.bytes source.now))) (B.refuses source.now) e) }
+        ensures cells { IfOk result (λ made. HoldsPart (shard_as self.now at_start sub.now)
+            chunk.now (box_of part.now) (window_bytes window (B.bytes source.now)) (data_of made)) }
+        ensures refused { IfErr result (RefusesToDecodePart (shard_as self.now at_start sub.now)
+            chunk.now (box_of part.now) (window_bytes window (B.bytes source.now))
+            (B.refuses source.now)) }
     {
-        let Some(index) = open_shard(alloc, source, window, shape, sub, at_start)? else {
+        let Some(index) = open_shard(alloc, source, window, chunk.shape, sub, at_start)? else {
             return Err(PartError::Codec(CodecError::DoesNotFit(Misfit::Bytes)));
         };
-        let met = met_subchunks(alloc, part, shape, sub)?;
+        let met = met_subchunks(alloc, part, chunk.shape, sub)?;
         // The cells of a part that lies in one subchunk are put into no other data.
         if met.shape().iter().all(|count| *count == 1) {
             let found = self.decode_piece(
@@ -213,9 +173,7 @@ impl ShardingCodec {
                 window,
                 &index,
                 part,
-                data_type,
-                fill_value,
-                shape,
+                chunk,
                 met.start(),
             )?;
             if let Some(piece) = found {
@@ -225,7 +183,7 @@ impl ShardingCodec {
             }
         }
         self.read_subchunks(
-            at_start, sub, alloc, source, window, &index, part, data_type, fill_value, shape, &met,
+            at_start, sub, alloc, source, window, &index, part, chunk, &met,
         )
     }
 
@@ -241,40 +199,37 @@ impl ShardingCodec {
         window: Window,
         index: &ShardIndex,
         part: &ArraySubset,
-        data_type: &DataType,
-        fill_value: &FillValue,
-        shape: &[u64],
+        chunk: &ChunkType<'_>,
         met: &ArraySubset,
     ) -> Result<ArrayBytes<'static>, PartError>
-        requires filled { IsSome (fill_cell (kind data_type.now) fill_value.now) }
-        requires size { position_count (box_of part.now).shape * cell_size (kind data_type.now)
+        requires size { position_count (box_of part.now).shape * cell_size (chunk_kind chunk.now)
             < 2 ^ 64 }
-        requires part { LiesInShape (box_of part.now) shape.now }
+        requires part { LiesInShape (box_of part.now) (shape_of chunk.now) }
         requires window { IsWindow window (B.bytes source.now) }
         requires may_read { MayRead (B.may_read source.now) window (shard_places at_start sub.now
-            (kind data_type.now) shape.now (box_of part.now)
+            (chunk_kind chunk.now) (shape_of chunk.now) (box_of part.now)
             (window_bytes window (B.bytes source.now))) }
-        requires shard { IsShard index.now at_start shape.now sub.now
+        requires shard { IsShard index.now at_start (shape_of chunk.now) sub.now
             (window_bytes window (B.bytes source.now)) }
         requires met { MeetsPart sub.now (box_of part.now) (box_of met.now) }
-        ensures all { IfOk result (λ made. HasAllParts (kind data_type.now)
-            ((chain_meaning (inner_chain_of self.now)).decoded (kind data_type.now)
-            (fill_of (kind data_type.now) fill_value.now) sub.now)
-            (fill_of (kind data_type.now) fill_value.now) shape.now sub.now (box_of part.now)
-            (map (range_part (window_bytes window (B.bytes source.now))) index.now.ranges.items)
-            (data_of made)) }
-        ensures refused { IfErr result (RefusesStep
-            ((chain_meaning (inner_chain_of self.now)).decoded (kind data_type.now)
-            (fill_of (kind data_type.now) fill_value.now) sub.now)
-            (IsTooLargeToDecode (chain_meaning (inner_chain_of self.now)) (kind data_type.now)
-            (fill_of (kind data_type.now) fill_value.now) sub.now)
-            (map (range_part (window_bytes window (B.bytes source.now))) index.now.ranges.items)
+        ensures all { IfOk result (λ made. HasAllParts (chunk_kind chunk.now)
+            (inner_decoded self.now chunk.now sub.now) (chunk_fill chunk.now) (shape_of chunk.now)
+            sub.now (box_of part.now) (parts_of index.now
+            (window_bytes window (B.bytes source.now))) (data_of made)) }
+        ensures refused { IfErr result (RefusesSubchunks self.now chunk.now sub.now
+            (box_of part.now) (parts_of index.now (window_bytes window (B.bytes source.now)))
             (B.refuses source.now)) }
     {
         let Ok(count) = part.num_elements() else {
             unreachable!()
         };
-        let held = RegionCells::new_fill_value(alloc, data_type, count, fill_value)?;
+        let cell_type = chunk.cell_type;
+        let held = RegionCells::new_fill_value(
+            alloc,
+            &cell_type.data_type,
+            count,
+            &cell_type.fill_value,
+        )?;
         let Some(mut walk) = met.walk(alloc)? else {
             return Ok(held.into_array_bytes(alloc)?);
         };
@@ -288,9 +243,7 @@ impl ShardingCodec {
                 window,
                 index,
                 part,
-                data_type,
-                fill_value,
-                shape,
+                chunk,
                 made,
                 walk.current(),
             )?;
@@ -312,47 +265,38 @@ impl ShardingCodec {
         window: Window,
         index: &ShardIndex,
         part: &ArraySubset,
-        data_type: &DataType,
-        fill_value: &FillValue,
-        shape: &[u64],
+        chunk: &ChunkType<'_>,
         held: RegionCells,
         indices: &[u64],
     ) -> Result<RegionCells, PartError>
-        requires filled { IsSome (fill_cell (kind data_type.now) fill_value.now) }
-        requires size { position_count (box_of part.now).shape * cell_size (kind data_type.now)
+        requires size { position_count (box_of part.now).shape * cell_size (chunk_kind chunk.now)
             < 2 ^ 64 }
-        requires part { LiesInShape (box_of part.now) shape.now }
+        requires part { LiesInShape (box_of part.now) (shape_of chunk.now) }
         requires window { IsWindow window (B.bytes source.now) }
         requires may_read { MayRead (B.may_read source.now) window (shard_places at_start sub.now
-            (kind data_type.now) shape.now (box_of part.now)
+            (chunk_kind chunk.now) (shape_of chunk.now) (box_of part.now)
             (window_bytes window (B.bytes source.now))) }
-        requires shard { IsShard index.now at_start shape.now sub.now
+        requires shard { IsShard index.now at_start (shape_of chunk.now) sub.now
             (window_bytes window (B.bytes source.now)) }
-        requires held { HasCells (kind data_type.now) (region_data held)
+        requires held { HasCells (chunk_kind chunk.now) (region_data held)
             (position_count (box_of part.now).shape) }
-        ensures read { IfOk result (λ made. ReadsSubchunk (kind data_type.now)
-            ((chain_meaning (inner_chain_of self.now)).decoded (kind data_type.now)
-            (fill_of (kind data_type.now) fill_value.now) sub.now)
-            (fill_of (kind data_type.now) fill_value.now) shape.now sub.now (box_of part.now)
-            (map (range_part (window_bytes window (B.bytes source.now))) index.now.ranges.items)
-            indices.now (region_data held) (region_data made)) }
-        ensures refused { IfErr result (RefusesStep
-            ((chain_meaning (inner_chain_of self.now)).decoded (kind data_type.now)
-            (fill_of (kind data_type.now) fill_value.now) sub.now)
-            (IsTooLargeToDecode (chain_meaning (inner_chain_of self.now)) (kind data_type.now)
-            (fill_of (kind data_type.now) fill_value.now) sub.now)
-            (map (range_part (window_bytes window (B.bytes source.now))) index.now.ranges.items)
+        ensures read { IfOk result (λ made. ReadsSubchunk (chunk_kind chunk.now)
+            (inner_decoded self.now chunk.now sub.now) (chunk_fill chunk.now) (shape_of chunk.now)
+            sub.now (box_of part.now) (parts_of index.now
+            (window_bytes window (B.bytes source.now))) indices.now (region_data held)
+            (region_data made)) }
+        ensures refused { IfErr result (RefusesSubchunks self.now chunk.now sub.now
+            (box_of part.now) (parts_of index.now (window_bytes window (B.bytes source.now)))
             (B.refuses source.now)) }
     {
         let found = self.decode_piece(
-            at_start, sub, alloc, source, window, index, part, data_type, fill_value, shape,
-            indices,
+            at_start, sub, alloc, source, window, index, part, chunk, indices,
         )?;
         let Some(piece) = found else {
             return Ok(held);
         };
         let Piece { shared, cells } = piece;
-        let made = held.with_owned_part(alloc, data_type, part, cells, &shared)?;
+        let made = held.with_owned_part(alloc, &chunk.cell_type.data_type, part, cells, &shared)?;
         Ok(made)
     }
 
@@ -368,39 +312,29 @@ impl ShardingCodec {
         window: Window,
         index: &ShardIndex,
         part: &ArraySubset,
-        data_type: &DataType,
-        fill_value: &FillValue,
-        shape: &[u64],
+        chunk: &ChunkType<'_>,
         indices: &[u64],
     ) -> Result<Option<Piece>, PartError>
-        requires filled { IsSome (fill_cell (kind data_type.now) fill_value.now) }
-        requires size { position_count (box_of part.now).shape * cell_size (kind data_type.now)
+        requires size { position_count (box_of part.now).shape * cell_size (chunk_kind chunk.now)
             < 2 ^ 64 }
-        requires part { LiesInShape (box_of part.now) shape.now }
+        requires part { LiesInShape (box_of part.now) (shape_of chunk.now) }
         requires window { IsWindow window (B.bytes source.now) }
         requires may_read { MayRead (B.may_read source.now) window (shard_places at_start sub.now
-            (kind data_type.now) shape.now (box_of part.now)
+            (chunk_kind chunk.now) (shape_of chunk.now) (box_of part.now)
             (window_bytes window (B.bytes source.now))) }
-        requires shard { IsShard index.now at_start shape.now sub.now
+        requires shard { IsShard index.now at_start (shape_of chunk.now) sub.now
             (window_bytes window (B.bytes source.now)) }
-        ensures none { IfOk result (λ made. IfNone made (HasNoPiece (kind data_type.now)
-            ((chain_meaning (inner_chain_of self.now)).decoded (kind data_type.now)
-            (fill_of (kind data_type.now) fill_value.now) sub.now)
-            (fill_of (kind data_type.now) fill_value.now) shape.now sub.now (box_of part.now)
-            (map (range_part (window_bytes window (B.bytes source.now))) index.now.ranges.items)
-            indices.now)) }
-        ensures piece { IfOk result (λ made. IfSome made (λ piece. HasPiece (kind data_type.now)
-            ((chain_meaning (inner_chain_of self.now)).decoded (kind data_type.now)
-            (fill_of (kind data_type.now) fill_value.now) sub.now)
-            (fill_of (kind data_type.now) fill_value.now) shape.now sub.now (box_of part.now)
-            (map (range_part (window_bytes window (B.bytes source.now))) index.now.ranges.items)
-            indices.now (box_of piece.shared) (data_of piece.cells))) }
-        ensures refused { IfErr result (RefusesStep
-            ((chain_meaning (inner_chain_of self.now)).decoded (kind data_type.now)
-            (fill_of (kind data_type.now) fill_value.now) sub.now)
-            (IsTooLargeToDecode (chain_meaning (inner_chain_of self.now)) (kind data_type.now)
-            (fill_of (kind data_type.now) fill_value.now) sub.now)
-            (map (range_part (window_bytes window (B.bytes source.now))) index.now.ranges.items)
+        ensures none { IfOk result (λ made. IfNone made (HasNoPiece (chunk_kind chunk.now)
+            (inner_decoded self.now chunk.now sub.now) (chunk_fill chunk.now) (shape_of chunk.now)
+            sub.now (box_of part.now) (parts_of index.now
+            (window_bytes window (B.bytes source.now))) indices.now)) }
+        ensures piece { IfOk result (λ made. IfSome made (λ piece. HasPiece (chunk_kind chunk.now)
+            (inner_decoded self.now chunk.now sub.now) (chunk_fill chunk.now) (shape_of chunk.now)
+            sub.now (box_of part.now) (parts_of index.now
+            (window_bytes window (B.bytes source.now))) indices.now (box_of piece.shared)
+            (data_of piece.cells))) }
+        ensures refused { IfErr result (RefusesSubchunks self.now chunk.now sub.now
+            (box_of part.now) (parts_of index.now (window_bytes window (B.bytes source.now)))
             (B.refuses source.now)) }
     {
         // The bytes of the source are counted, so that no place passes `u64`.
@@ -421,9 +355,11 @@ impl ShardingCodec {
             offset: window.offset + range.start as u64,
             len: (range.end - range.start) as u64,
         };
-        let cells = self.partial_decode_inner(
-            alloc, source, own_window, &own, data_type, fill_value, sub,
-        )?;
+        let inner = ChunkType {
+            cell_type: chunk.cell_type,
+            shape: sub,
+        };
+        let cells = self.partial_decode_inner(alloc, source, own_window, &own, &inner)?;
         Ok(Some(Piece { shared, cells }))
     }
 
@@ -435,30 +371,22 @@ impl ShardingCodec {
         source: &B,
         window: Window,
         part: &ArraySubset,
-        data_type: &DataType,
-        fill_value: &FillValue,
-        shape: &[u64],
+        chunk: &ChunkType<'_>,
     ) -> Result<ArrayBytes<'static>, PartError>
-        requires filled { IsSome (fill_cell (kind data_type.now) fill_value.now) }
-        requires size { position_count (box_of part.now).shape * cell_size (kind data_type.now)
+        requires size { position_count (box_of part.now).shape * cell_size (chunk_kind chunk.now)
             < 2 ^ 64 }
-        requires part { LiesInShape (box_of part.now) shape.now }
+        requires part { LiesInShape (box_of part.now) (shape_of chunk.now) }
         requires window { IsWindow window (B.bytes source.now) }
-        requires may_read { MayRead (B.may_read source.now) window ((chain_meaning (inner_chain_of self.now)).places
-            (kind data_type.now) shape.now (box_of part.now)
-            (window_bytes window (B.bytes source.now))) }
-        ensures cells { IfOk result (λ made. DecodesPart (kind data_type.now) shape.now
-            (box_of part.now) ((chain_meaning (inner_chain_of self.now)).decoded (kind data_type.now)
-            (fill_of (kind data_type.now) fill_value.now) shape.now
-            (window_bytes window (B.bytes source.now))) (data_of made)) }
-        ensures refused { IfErr result (RefusesPartDecoding ((chain_meaning (inner_chain_of self.now)).decoded
-            (kind data_type.now) (fill_of (kind data_type.now) fill_value.now) shape.now
-            (window_bytes window (B.bytes source.now)))
-            (IsTooLargeToDecode (chain_meaning (inner_chain_of self.now)) (kind data_type.now)
-            (fill_of (kind data_type.now) fill_value.now) shape.now
-            (window_bytes window (B.bytes source.now))) (B.refuses source.now)) }
+        requires may_read { MayRead (B.may_read source.now) window
+            ((chain_meaning (inner_chain_of self.now)).places (chunk_kind chunk.now)
+            (shape_of chunk.now) (box_of part.now) (window_bytes window (B.bytes source.now))) }
+        ensures cells { IfOk result (λ made. HoldsPart (chain_meaning (inner_chain_of self.now))
+            chunk.now (box_of part.now) (window_bytes window (B.bytes source.now)) (data_of made)) }
+        ensures refused { IfErr result (RefusesToDecodePart
+            (chain_meaning (inner_chain_of self.now)) chunk.now (box_of part.now)
+            (window_bytes window (B.bytes source.now)) (B.refuses source.now)) }
     {
         self.inner
-            .partial_decode_chunk(alloc, source, window, part, data_type, fill_value, shape)
+            .partial_decode_chunk(alloc, source, window, part, chunk)
     }
 }

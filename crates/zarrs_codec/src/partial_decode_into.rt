@@ -1,24 +1,21 @@
 //! Parts of chunks that are decoded into a box that a caller lends.
-ghost use Rattle.std.specs.Prelude.{◌≡◌, ◌+◌, ◌<◌, ◌^◌, true, IfErr, IfSome, IsSome, OnOk};
-ghost use Rattle.std.specs.Prelude.{map, option_map};
+ghost use Rattle.std.specs.Prelude.{◌≡◌, ◌+◌, ◌<◌, ◌^◌, true, IfErr, IfSome, IsSome, OnOk, option_map};
 ghost use Rattle.zarrs_subset.specs.Regions.{LiesInShape, box_of, LiesInBox};
-ghost use Rattle.zarrs_data_type.specs.Kind.{kind};
-ghost use Rattle.zarrs_data_type.specs.Cell.{fill_cell, fill_of};
-ghost use Rattle.zarrs_codec_shard.specs.ShardIndex.{range_part, IsRangeWithin};
-ghost use Rattle.zarrs_codec_shard.specs.Sharded.{SubchunkMeaning, sharded_decoded};
+ghost use Rattle.zarrs_data_type.specs.CellTypes.{chunk_kind, chunk_fill, shape_of};
+ghost use Rattle.zarrs_codec_shard.specs.ShardIndex.{IsRangeWithin};
 ghost use Rattle.zarrs_codec_leaf.specs.Sources.{IsWindow, MayRead, window_bytes};
-ghost use Rattle.zarrs_data_type.specs.States.{IsTarget, SameBox, StaysOutside, data_of_target};
+ghost use Rattle.zarrs_data_type.specs.States.{KeepsBut, KeepsTarget, data_of_target};
 ghost use Rattle.zarrs_data_type.specs.States.{parent_box, target_box};
-ghost use Rattle.zarrs_data_type.specs.Targets.{takes_type, KeepsOutside};
-ghost use Rattle.zarrs_codec_chain.specs.Parts.{DecodesPartAt};
-ghost use Rattle.zarrs_codec_chain.specs.Places.{shard_places};
-ghost use Rattle.zarrs_codec_chain.specs.PartRefusals.{RefusesPartDecoding};
+ghost use Rattle.zarrs_data_type.specs.Targets.{takes_type};
+ghost use Rattle.zarrs_codec_chain.specs.Chunks.{HoldsPartAt, RefusesToDecodePart, decoded_of};
+ghost use Rattle.zarrs_codec_chain.specs.Parts.{DecodesInto};
+ghost use Rattle.zarrs_codec_chain.specs.Places.{all_places, shard_places};
 ghost use Rattle.zarrs_codec_chain.specs.Refusals.{IsTooLargeToDecode};
-ghost use Rattle.zarrs_codec_chain.specs.ShardParts.{DecodesAs, IsShard, RefusesStep};
+ghost use Rattle.zarrs_codec_chain.specs.ShardParts.{IsShard};
 ghost use Rattle.zarrs_codec.specs.Chains.{chain_meaning, inner_chain_of, sharding_meaning};
+ghost use Rattle.zarrs_codec.specs.ShardChunks.{DecodesWhole, RefusesSubchunks, inner_decoded, parts_of, shard_as};
 ghost use Rattle.zarrs_codec.specs.ShardPartsInto.{DecodesPieceAt, HasAllPartsAt};
 ghost use Rattle.zarrs_codec.specs.ShardPartsInto.{ReadsSubchunkAt, RefusesPiece, range_window};
-ghost use Rattle.zarrs_codec.specs.Shardings.{sharded};
 
 use crate::chain::CodecChain;
 use crate::codec::ArrayToBytesCodec;
@@ -30,7 +27,7 @@ use zarrs_codec_chain::{
 };
 use zarrs_codec_leaf::{ByteSource, CodecError, Misfit, Window};
 use zarrs_codec_shard::SubchunkRange;
-use zarrs_data_type::{ArrayBytesDecodeIntoTarget, DataType, FillValue, copy_fill_value_into};
+use zarrs_data_type::{ArrayBytesDecodeIntoTarget, ChunkType, copy_fill_value_into};
 use zarrs_subset::{ArraySubset, ravel_indices};
 
 impl CodecChain {
@@ -43,96 +40,76 @@ impl CodecChain {
         source: &B,
         window: Window,
         part: &ArraySubset,
-        data_type: &DataType,
-        fill_value: &FillValue,
-        shape: &[u64],
+        chunk: &ChunkType<'_>,
         target: &mut ArrayBytesDecodeIntoTarget<'_, '_, '_>,
     ) -> Result<(), PartError>
-        requires filled { IsSome (fill_cell (kind data_type.now) fill_value.now) }
-        requires part { LiesInShape (box_of part.now) shape.now }
+        requires part { LiesInShape (box_of part.now) (shape_of chunk.now) }
         requires window { IsWindow window (B.bytes source.now) }
         requires may_read { MayRead (B.may_read source.now) window ((chain_meaning self.now).places
-            (kind data_type.now) shape.now (box_of part.now)
+            (chunk_kind chunk.now) (shape_of chunk.now) (box_of part.now)
             (window_bytes window (B.bytes source.now))) }
-        requires target { IsTarget target.old }
-        requires takes { takes_type target.old.cell_size target.old.depth (kind data_type.now)
+        requires takes { takes_type target.old.cell_size target.old.depth (chunk_kind chunk.now)
             ≡ true }
         requires same_shape { (target_box target.old).shape ≡ (box_of part.now).shape }
-        ensures target { IsTarget target.new }
-        ensures same_bytes { target.new.bytes.ghost_name ≡ target.old.bytes.ghost_name }
-        ensures same_masks { target.new.masks.ghost_name ≡ target.old.masks.ghost_name }
-        ensures same_box { SameBox target.old target.new }
-        ensures cells { OnOk result (DecodesPartAt (kind data_type.now) shape.now (box_of part.now)
-            ((chain_meaning self.now).decoded (kind data_type.now)
-            (fill_of (kind data_type.now) fill_value.now) shape.now
-            (window_bytes window (B.bytes source.now))) (parent_box target.old)
-            (target_box target.old) (data_of_target target.new)) }
-        ensures outside { StaysOutside target.old target.new }
-        ensures refused { IfErr result (RefusesPartDecoding ((chain_meaning self.now).decoded
-            (kind data_type.now) (fill_of (kind data_type.now) fill_value.now) shape.now
-            (window_bytes window (B.bytes source.now))) (IsTooLargeToDecode (chain_meaning self.now)
-            (kind data_type.now) (fill_of (kind data_type.now) fill_value.now) shape.now
-            (window_bytes window (B.bytes source.now))) (B.refuses source.now)) }
+        ensures kept { KeepsTarget target.old target.new }
+        ensures cells { OnOk result (HoldsPartAt (chain_meaning self.now) chunk.now
+            (box_of part.now) (window_bytes window (B.bytes source.now)) target.old target.new) }
+        ensures whole { (box_of part.now).shape ≡ shape_of chunk.now → OnOk result (IsSome
+            (decoded_of (chain_meaning self.now) chunk.now
+            (window_bytes window (B.bytes source.now)))) }
+        ensures refused { IfErr result (RefusesToDecodePart (chain_meaning self.now) chunk.now
+            (box_of part.now) (window_bytes window (B.bytes source.now)) (B.refuses source.now)) }
     {
         if !self.array_to_array.is_empty() {
-            return self.write_part(
-                alloc, source, window, part, data_type, fill_value, shape, target,
-            );
+            return self.write_part(alloc, source, window, part, chunk, target);
         }
         match &self.array_to_bytes {
             ArrayToBytesCodec::Bytes(codec) => partial_decode_bytes_into(
-                codec, alloc, source, window, part, data_type, shape, target,
+                codec,
+                alloc,
+                source,
+                window,
+                part,
+                &chunk.cell_type.data_type,
+                chunk.shape,
+                target,
             ),
             ArrayToBytesCodec::Sharding(codec) => codec.partial_decode_shard_into(
-                alloc, source, window, part, data_type, fill_value, shape, target,
+                alloc, source, window, part, chunk, target,
             ),
-            _ => self.write_part(
-                alloc, source, window, part, data_type, fill_value, shape, target,
-            ),
+            _ => self.write_part(alloc, source, window, part, chunk, target),
         }
     }
 
     /// The same, of the cells of the part as a list of their own.
+    #[tactic(auto, using(zarrs_data_type_region::proofs::Kept::keeps_itself))]
     fn write_part<B: ByteSource>(
         &self,
         alloc: Global,
         source: &B,
         window: Window,
         part: &ArraySubset,
-        data_type: &DataType,
-        fill_value: &FillValue,
-        shape: &[u64],
+        chunk: &ChunkType<'_>,
         target: &mut ArrayBytesDecodeIntoTarget<'_, '_, '_>,
     ) -> Result<(), PartError>
-        requires filled { IsSome (fill_cell (kind data_type.now) fill_value.now) }
-        requires part { LiesInShape (box_of part.now) shape.now }
+        requires whole { DecodesWhole (chain_meaning self.now) }
+        requires part { LiesInShape (box_of part.now) (shape_of chunk.now) }
         requires window { IsWindow window (B.bytes source.now) }
-        requires may_read { MayRead (B.may_read source.now) window ((chain_meaning self.now).places
-            (kind data_type.now) shape.now (box_of part.now)
+        requires may_read { MayRead (B.may_read source.now) window (all_places
+            (chunk_kind chunk.now) (shape_of chunk.now) (box_of part.now)
             (window_bytes window (B.bytes source.now))) }
-        requires target { IsTarget target.old }
-        requires takes { takes_type target.old.cell_size target.old.depth (kind data_type.now)
+        requires takes { takes_type target.old.cell_size target.old.depth (chunk_kind chunk.now)
             ≡ true }
         requires same_shape { (target_box target.old).shape ≡ (box_of part.now).shape }
-        ensures target { IsTarget target.new }
-        ensures same_bytes { target.new.bytes.ghost_name ≡ target.old.bytes.ghost_name }
-        ensures same_masks { target.new.masks.ghost_name ≡ target.old.masks.ghost_name }
-        ensures same_box { SameBox target.old target.new }
-        ensures cells { OnOk result (DecodesPartAt (kind data_type.now) shape.now (box_of part.now)
-            ((chain_meaning self.now).decoded (kind data_type.now)
-            (fill_of (kind data_type.now) fill_value.now) shape.now
-            (window_bytes window (B.bytes source.now))) (parent_box target.old)
-            (target_box target.old) (data_of_target target.new)) }
-        ensures outside { StaysOutside target.old target.new }
-        ensures refused { IfErr result (RefusesPartDecoding ((chain_meaning self.now).decoded
-            (kind data_type.now) (fill_of (kind data_type.now) fill_value.now) shape.now
-            (window_bytes window (B.bytes source.now))) (IsTooLargeToDecode (chain_meaning self.now)
-            (kind data_type.now) (fill_of (kind data_type.now) fill_value.now) shape.now
-            (window_bytes window (B.bytes source.now))) (B.refuses source.now)) }
+        ensures kept { KeepsTarget target.old target.new }
+        ensures cells { OnOk result (HoldsPartAt (chain_meaning self.now) chunk.now
+            (box_of part.now) (window_bytes window (B.bytes source.now)) target.old target.new) }
+        ensures decodes { OnOk result (IsSome (decoded_of (chain_meaning self.now) chunk.now
+            (window_bytes window (B.bytes source.now)))) }
+        ensures refused { IfErr result (RefusesToDecodePart (chain_meaning self.now) chunk.now
+            (box_of part.now) (window_bytes window (B.bytes source.now)) (B.refuses source.now)) }
     {
-        let cells = self.partial_decode_chunk(
-            alloc, source, window, part, data_type, fill_value, shape,
-        )?;
+        let cells = self.part_of_decoded(alloc, source, window, part, chunk)?;
         target.write_cells(alloc, &cells)?;
         Ok(())
     }
@@ -142,52 +119,41 @@ impl ShardingCodec {
     /// Decodes a part of a shard into the target's box. The index is read first, then each present subchunk that the part
     /// meets, in a window of its own, into its share of the box.
     #[cycle(partial_decode_into)]
+    #[tactic(auto, using(zarrs_data_type_region::proofs::Kept::keeps_itself))]
     fn partial_decode_shard_into<B: ByteSource>(
         &self,
         alloc: Global,
         source: &B,
         window: Window,
         part: &ArraySubset,
-        data_type: &DataType,
-        fill_value: &FillValue,
-        shape: &[u64],
+        chunk: &ChunkType<'_>,
         target: &mut ArrayBytesDecodeIntoTarget<'_, '_, '_>,
     ) -> Result<(), PartError>
-        requires filled { IsSome (fill_cell (kind data_type.now) fill_value.now) }
-        requires part { LiesInShape (box_of part.now) shape.now }
+        requires part { LiesInShape (box_of part.now) (shape_of chunk.now) }
         requires window { IsWindow window (B.bytes source.now) }
-        requires may_read { MayRead (B.may_read source.now) window ((sharding_meaning self.now).places
-            (kind data_type.now) shape.now (box_of part.now)
-            (window_bytes window (B.bytes source.now))) }
-        requires target { IsTarget target.old }
-        requires takes { takes_type target.old.cell_size target.old.depth (kind data_type.now)
+        requires may_read { MayRead (B.may_read source.now) window
+            ((sharding_meaning self.now).places (chunk_kind chunk.now) (shape_of chunk.now)
+            (box_of part.now) (window_bytes window (B.bytes source.now))) }
+        requires takes { takes_type target.old.cell_size target.old.depth (chunk_kind chunk.now)
             ≡ true }
         requires same_shape { (target_box target.old).shape ≡ (box_of part.now).shape }
-        ensures target { IsTarget target.new }
-        ensures same_bytes { target.new.bytes.ghost_name ≡ target.old.bytes.ghost_name }
-        ensures same_masks { target.new.masks.ghost_name ≡ target.old.masks.ghost_name }
-        ensures same_box { SameBox target.old target.new }
-        ensures cells { OnOk result (DecodesPartAt (kind data_type.now) shape.now (box_of part.now)
-            ((sharding_meaning self.now).decoded (kind data_type.now)
-            (fill_of (kind data_type.now) fill_value.now) shape.now
-            (window_bytes window (B.bytes source.now))) (parent_box target.old)
-            (target_box target.old) (data_of_target target.new)) }
-        ensures outside { StaysOutside target.old target.new }
-        ensures refused { IfErr result (RefusesPartDecoding ((sharding_meaning self.now).decoded
-            (kind data_type.now) (fill_of (kind data_type.now) fill_value.now) shape.now
-            (window_bytes window (B.bytes source.now))) (IsTooLargeToDecode (sharding_meaning self.now)
-            (kind data_type.now) (fill_of (kind data_type.now) fill_value.now) shape.now
-            (window_bytes window (B.bytes source.now))) (B.refuses source.now)) }
+        ensures kept { KeepsTarget target.old target.new }
+        ensures cells { OnOk result (HoldsPartAt (sharding_meaning self.now) chunk.now
+            (box_of part.now) (window_bytes window (B.bytes source.now)) target.old target.new) }
+        ensures whole { (box_of part.now).shape ≡ shape_of chunk.now → OnOk result (IsSome
+            (decoded_of (sharding_meaning self.now) chunk.now
+            (window_bytes window (B.bytes source.now)))) }
+        ensures refused { IfErr result (RefusesToDecodePart (sharding_meaning self.now) chunk.now
+            (box_of part.now) (window_bytes window (B.bytes source.now)) (B.refuses source.now)) }
     {
         let sub = self.extents(alloc)?;
         let at_start = self.index_location().is_at_start();
-        self.partial_decode_cut_into(
-            at_start, &sub, alloc, source, window, part, data_type, fill_value, shape, target,
-        )
+        self.partial_decode_cut_into(at_start, &sub, alloc, source, window, part, chunk, target)
     }
 
     /// The same, of a shard that is cut into subchunks of this shape.
     #[cycle(partial_decode_into)]
+    #[tactic(auto, using(zarrs_data_type_region::proofs::Kept::keeps_itself))]
     fn partial_decode_cut_into<B: ByteSource>(
         &self,
         at_start: bool,
@@ -196,54 +162,99 @@ impl ShardingCodec {
         source: &B,
         window: Window,
         part: &ArraySubset,
-        data_type: &DataType,
-        fill_value: &FillValue,
-        shape: &[u64],
+        chunk: &ChunkType<'_>,
         target: &mut ArrayBytesDecodeIntoTarget<'_, '_, '_>,
     ) -> Result<(), PartError>
-        requires filled { IsSome (fill_cell (kind data_type.now) fill_value.now) }
-        requires part { LiesInShape (box_of part.now) shape.now }
+        requires part { LiesInShape (box_of part.now) (shape_of chunk.now) }
         requires window { IsWindow window (B.bytes source.now) }
         requires may_read { MayRead (B.may_read source.now) window (shard_places at_start sub.now
-            (kind data_type.now) shape.now (box_of part.now)
+            (chunk_kind chunk.now) (shape_of chunk.now) (box_of part.now)
             (window_bytes window (B.bytes source.now))) }
-        requires target { IsTarget target.old }
-        requires takes { takes_type target.old.cell_size target.old.depth (kind data_type.now)
+        requires takes { takes_type target.old.cell_size target.old.depth (chunk_kind chunk.now)
             ≡ true }
         requires same_shape { (target_box target.old).shape ≡ (box_of part.now).shape }
-        ensures target { IsTarget target.new }
-        ensures same_bytes { target.new.bytes.ghost_name ≡ target.old.bytes.ghost_name }
-        ensures same_masks { target.new.masks.ghost_name ≡ target.old.masks.ghost_name }
-        ensures same_box { SameBox target.old target.new }
-        ensures cells { OnOk result ((m : SubchunkMeaning) → DecodesAs m
-            ((chain_meaning (inner_chain_of self.now)).decoded (kind data_type.now)
-            (fill_of (kind data_type.now) fill_value.now) sub.now)
-            → DecodesPartAt (kind data_type.now) shape.now (box_of part.now) (sharded_decoded m
-            at_start (kind data_type.now) (fill_of (kind data_type.now) fill_value.now) shape.now
-            sub.now (window_bytes window (B.bytes source.now))) (parent_box target.old)
-            (target_box target.old) (data_of_target target.new)) }
-        ensures outside { StaysOutside target.old target.new }
-        ensures refused { IfErr result (λ e. (m : SubchunkMeaning) → DecodesAs m
-            ((chain_meaning (inner_chain_of self.now)).decoded (kind data_type.now)
-            (fill_of (kind data_type.now) fill_value.now) sub.now)
-            → RefusesPartDecoding (sharded_decoded m at_start (kind data_type.now)
-            (fill_of (kind data_type.now) fill_value.now) shape.now sub.now
-            (window_bytes window (B.bytes source.now)))
-            (IsTooLargeToDecode (sharded at_start sub.now (chain_meaning (inner_chain_of self.now)))
-            (kind data_type.now) (fill_of (kind data_type.now) fill_value.now) shape.now
-            (window_bytes window (B.bytes source.now))) (B.refuses source.now) e) }
+        ensures kept { KeepsTarget target.old target.new }
+        ensures cells { OnOk result (HoldsPartAt (shard_as self.now at_start sub.now) chunk.now
+            (box_of part.now) (window_bytes window (B.bytes source.now)) target.old target.new) }
+        ensures whole { (box_of part.now).shape ≡ shape_of chunk.now → OnOk result (IsSome
+            (decoded_of (shard_as self.now at_start sub.now) chunk.now
+            (window_bytes window (B.bytes source.now)))) }
+        ensures refused { IfErr result (RefusesToDecodePart (shard_as self.now at_start sub.now)
+            chunk.now (box_of part.now) (window_bytes window (B.bytes source.now))
+            (B.refuses source.now)) }
     {
-        let Some(index) = open_shard(alloc, source, window, shape, sub, at_start)? else {
+        let Some(index) = open_shard(alloc, source, window, chunk.shape, sub, at_start)? else {
             return Err(PartError::Codec(CodecError::DoesNotFit(Misfit::Bytes)));
         };
+        if part.shape() == chunk.shape {
+            return self.read_all_into(
+                at_start, sub, alloc, source, window, &index, part, chunk, target,
+            );
+        }
         self.read_subchunks_into(
-            at_start, sub, alloc, source, window, &index, part, data_type, fill_value, shape,
-            target,
+            at_start, sub, alloc, source, window, &index, part, chunk, target,
         )
+    }
+
+    /// Decodes each subchunk of a shard into its share of the target's box.
+    #[cycle(partial_decode_into)]
+    #[tactic(auto, using(zarrs_data_type_region::proofs::Kept::keeps_itself))]
+    fn read_all_into<B: ByteSource>(
+        &self,
+        at_start: bool,
+        sub: &[u64],
+        alloc: Global,
+        source: &B,
+        window: Window,
+        index: &ShardIndex,
+        part: &ArraySubset,
+        chunk: &ChunkType<'_>,
+        target: &mut ArrayBytesDecodeIntoTarget<'_, '_, '_>,
+    ) -> Result<(), PartError>
+        requires whole { (box_of part.now).shape ≡ shape_of chunk.now }
+        requires part { LiesInShape (box_of part.now) (shape_of chunk.now) }
+        requires window { IsWindow window (B.bytes source.now) }
+        requires may_read { MayRead (B.may_read source.now) window (shard_places at_start sub.now
+            (chunk_kind chunk.now) (shape_of chunk.now) (box_of part.now)
+            (window_bytes window (B.bytes source.now))) }
+        requires shard { IsShard index.now at_start (shape_of chunk.now) sub.now
+            (window_bytes window (B.bytes source.now)) }
+        requires takes { takes_type target.old.cell_size target.old.depth (chunk_kind chunk.now)
+            ≡ true }
+        requires same_shape { (target_box target.old).shape ≡ (box_of part.now).shape }
+        ensures kept { KeepsTarget target.old target.new }
+        ensures cells { OnOk result (DecodesInto (chunk_kind chunk.now) (parent_box target.old)
+            (target_box target.old) (decoded_of (shard_as self.now at_start sub.now) chunk.now
+            (window_bytes window (B.bytes source.now))) (data_of_target target.new)) }
+        ensures refused { IfErr result (RefusesToDecodePart (shard_as self.now at_start sub.now)
+            chunk.now (box_of part.now) (window_bytes window (B.bytes source.now))
+            (B.refuses source.now)) }
+    {
+        let cell_type = chunk.cell_type;
+        if !self.inner.fits_chunk(alloc, &cell_type.data_type, sub)? {
+            return Err(PartError::Codec(CodecError::DoesNotFit(Misfit::TypeOrShape)));
+        }
+        // The bytes of the source are counted, so that no place passes `u64`.
+        let _counted = source.size();
+        let inner = ChunkType {
+            cell_type,
+            shape: sub,
+        };
+        let piece = ArraySubset::new_with_shape(alloc, Vec::from_slice(alloc, sub)?)?;
+        let region = target.region;
+        for number in 0..index.ranges.len() {
+            let subset = index.subchunks.subset(alloc, number as u64)?;
+            let own = shifted_to(alloc, &subset, region.start())?;
+            let range = index.ranges[number];
+            let own_window = window_of_range(window, range);
+            self.read_piece(alloc, source, own_window, &piece, &own, &inner, target)?;
+        }
+        Ok(())
     }
 
     /// Decodes what the subchunks that a part of a shard meets have of it into the target's box.
     #[cycle(partial_decode_into)]
+    #[tactic(auto, using(zarrs_data_type_region::proofs::Kept::keeps_itself))]
     fn read_subchunks_into<B: ByteSource>(
         &self,
         at_start: bool,
@@ -253,43 +264,30 @@ impl ShardingCodec {
         window: Window,
         index: &ShardIndex,
         part: &ArraySubset,
-        data_type: &DataType,
-        fill_value: &FillValue,
-        shape: &[u64],
+        chunk: &ChunkType<'_>,
         target: &mut ArrayBytesDecodeIntoTarget<'_, '_, '_>,
     ) -> Result<(), PartError>
-        requires filled { IsSome (fill_cell (kind data_type.now) fill_value.now) }
-        requires part { LiesInShape (box_of part.now) shape.now }
+        requires part { LiesInShape (box_of part.now) (shape_of chunk.now) }
         requires window { IsWindow window (B.bytes source.now) }
         requires may_read { MayRead (B.may_read source.now) window (shard_places at_start sub.now
-            (kind data_type.now) shape.now (box_of part.now)
+            (chunk_kind chunk.now) (shape_of chunk.now) (box_of part.now)
             (window_bytes window (B.bytes source.now))) }
-        requires shard { IsShard index.now at_start shape.now sub.now
+        requires shard { IsShard index.now at_start (shape_of chunk.now) sub.now
             (window_bytes window (B.bytes source.now)) }
-        requires target { IsTarget target.old }
-        requires takes { takes_type target.old.cell_size target.old.depth (kind data_type.now)
+        requires takes { takes_type target.old.cell_size target.old.depth (chunk_kind chunk.now)
             ≡ true }
         requires same_shape { (target_box target.old).shape ≡ (box_of part.now).shape }
-        ensures target { IsTarget target.new }
-        ensures same_bytes { target.new.bytes.ghost_name ≡ target.old.bytes.ghost_name }
-        ensures same_masks { target.new.masks.ghost_name ≡ target.old.masks.ghost_name }
-        ensures same_box { SameBox target.old target.new }
-        ensures all { OnOk result (HasAllPartsAt (kind data_type.now)
-            ((chain_meaning (inner_chain_of self.now)).decoded (kind data_type.now)
-            (fill_of (kind data_type.now) fill_value.now) sub.now)
-            (fill_of (kind data_type.now) fill_value.now) shape.now sub.now (box_of part.now)
-            (map (range_part (window_bytes window (B.bytes source.now))) index.now.ranges.items)
-            (parent_box target.old) (target_box target.old) (data_of_target target.new)) }
-        ensures outside { StaysOutside target.old target.new }
-        ensures refused { IfErr result (RefusesStep
-            ((chain_meaning (inner_chain_of self.now)).decoded (kind data_type.now)
-            (fill_of (kind data_type.now) fill_value.now) sub.now)
-            (IsTooLargeToDecode (chain_meaning (inner_chain_of self.now)) (kind data_type.now)
-            (fill_of (kind data_type.now) fill_value.now) sub.now)
-            (map (range_part (window_bytes window (B.bytes source.now))) index.now.ranges.items)
+        ensures kept { KeepsTarget target.old target.new }
+        ensures all { OnOk result (HasAllPartsAt (chunk_kind chunk.now)
+            (inner_decoded self.now chunk.now sub.now) (chunk_fill chunk.now) (shape_of chunk.now)
+            sub.now (box_of part.now) (parts_of index.now
+            (window_bytes window (B.bytes source.now))) (parent_box target.old)
+            (target_box target.old) (data_of_target target.new)) }
+        ensures refused { IfErr result (RefusesSubchunks self.now chunk.now sub.now
+            (box_of part.now) (parts_of index.now (window_bytes window (B.bytes source.now)))
             (B.refuses source.now)) }
     {
-        let met = met_subchunks(alloc, part, shape, sub)?;
+        let met = met_subchunks(alloc, part, chunk.shape, sub)?;
         let Some(mut walk) = met.walk(alloc)? else {
             return Ok(());
         };
@@ -302,9 +300,7 @@ impl ShardingCodec {
                 window,
                 index,
                 part,
-                data_type,
-                fill_value,
-                shape,
+                chunk,
                 walk.current(),
                 target,
             )?;
@@ -317,6 +313,7 @@ impl ShardingCodec {
     /// Decodes what the subchunk with these indices has of a part of a shard into its share of the target's box. Every
     /// other byte of the box stays too.
     #[cycle(partial_decode_into)]
+    #[tactic(auto, using(zarrs_data_type_region::proofs::Kept::keeps_itself))]
     fn read_subchunk_into<B: ByteSource>(
         &self,
         at_start: bool,
@@ -326,42 +323,28 @@ impl ShardingCodec {
         window: Window,
         index: &ShardIndex,
         part: &ArraySubset,
-        data_type: &DataType,
-        fill_value: &FillValue,
-        shape: &[u64],
+        chunk: &ChunkType<'_>,
         indices: &[u64],
         target: &mut ArrayBytesDecodeIntoTarget<'_, '_, '_>,
     ) -> Result<(), PartError>
-        requires filled { IsSome (fill_cell (kind data_type.now) fill_value.now) }
-        requires part { LiesInShape (box_of part.now) shape.now }
+        requires part { LiesInShape (box_of part.now) (shape_of chunk.now) }
         requires window { IsWindow window (B.bytes source.now) }
         requires may_read { MayRead (B.may_read source.now) window (shard_places at_start sub.now
-            (kind data_type.now) shape.now (box_of part.now)
+            (chunk_kind chunk.now) (shape_of chunk.now) (box_of part.now)
             (window_bytes window (B.bytes source.now))) }
-        requires shard { IsShard index.now at_start shape.now sub.now
+        requires shard { IsShard index.now at_start (shape_of chunk.now) sub.now
             (window_bytes window (B.bytes source.now)) }
-        requires target { IsTarget target.old }
-        requires takes { takes_type target.old.cell_size target.old.depth (kind data_type.now)
+        requires takes { takes_type target.old.cell_size target.old.depth (chunk_kind chunk.now)
             ≡ true }
         requires same_shape { (target_box target.old).shape ≡ (box_of part.now).shape }
-        ensures target { IsTarget target.new }
-        ensures same_bytes { target.new.bytes.ghost_name ≡ target.old.bytes.ghost_name }
-        ensures same_masks { target.new.masks.ghost_name ≡ target.old.masks.ghost_name }
-        ensures same_box { SameBox target.old target.new }
-        ensures read { OnOk result (ReadsSubchunkAt (kind data_type.now)
-            ((chain_meaning (inner_chain_of self.now)).decoded (kind data_type.now)
-            (fill_of (kind data_type.now) fill_value.now) sub.now)
-            (fill_of (kind data_type.now) fill_value.now) shape.now sub.now (box_of part.now)
-            (map (range_part (window_bytes window (B.bytes source.now))) index.now.ranges.items)
-            indices.now (parent_box target.old) (target_box target.old) (data_of_target target.old)
-            (data_of_target target.new)) }
-        ensures outside { StaysOutside target.old target.new }
-        ensures refused { IfErr result (RefusesStep
-            ((chain_meaning (inner_chain_of self.now)).decoded (kind data_type.now)
-            (fill_of (kind data_type.now) fill_value.now) sub.now)
-            (IsTooLargeToDecode (chain_meaning (inner_chain_of self.now)) (kind data_type.now)
-            (fill_of (kind data_type.now) fill_value.now) sub.now)
-            (map (range_part (window_bytes window (B.bytes source.now))) index.now.ranges.items)
+        ensures kept { KeepsTarget target.old target.new }
+        ensures read { OnOk result (ReadsSubchunkAt (chunk_kind chunk.now)
+            (inner_decoded self.now chunk.now sub.now) (chunk_fill chunk.now) (shape_of chunk.now)
+            sub.now (box_of part.now) (parts_of index.now
+            (window_bytes window (B.bytes source.now))) indices.now (parent_box target.old)
+            (target_box target.old) (data_of_target target.old) (data_of_target target.new)) }
+        ensures refused { IfErr result (RefusesSubchunks self.now chunk.now sub.now
+            (box_of part.now) (parts_of index.now (window_bytes window (B.bytes source.now)))
             (B.refuses source.now)) }
     {
         // The bytes of the source are counted, so that no place passes `u64`.
@@ -379,9 +362,11 @@ impl ShardingCodec {
         let own = shifted_to(alloc, &seen, target.region.start())?;
         let range = index.ranges[number as usize];
         let own_window = window_of_range(window, range);
-        self.read_piece(
-            alloc, source, own_window, &piece, &own, data_type, fill_value, sub, target,
-        )
+        let inner = ChunkType {
+            cell_type: chunk.cell_type,
+            shape: sub,
+        };
+        self.read_piece(alloc, source, own_window, &piece, &own, &inner, target)
     }
 
     /// Decodes a piece of a subchunk whose bytes are those of a window into a box that lies in the target's box, or fills
@@ -394,53 +379,33 @@ impl ShardingCodec {
         window: Option<Window>,
         piece: &ArraySubset,
         own: &ArraySubset,
-        data_type: &DataType,
-        fill_value: &FillValue,
-        sub: &[u64],
+        chunk: &ChunkType<'_>,
         target: &mut ArrayBytesDecodeIntoTarget<'_, '_, '_>,
     ) -> Result<(), PartError>
-        requires filled { IsSome (fill_cell (kind data_type.now) fill_value.now) }
-        requires piece { LiesInShape (box_of piece.now) sub.now }
+        requires piece { LiesInShape (box_of piece.now) (shape_of chunk.now) }
         requires window { IfSome window (λ w. IsWindow w (B.bytes source.now)) }
         requires may_read { IfSome window (λ w. MayRead (B.may_read source.now) w
-            ((chain_meaning (inner_chain_of self.now)).places (kind data_type.now) sub.now
-            (box_of piece.now) (window_bytes w (B.bytes source.now)))) }
-        requires target { IsTarget target.old }
-        requires takes { takes_type target.old.cell_size target.old.depth (kind data_type.now)
+            ((chain_meaning (inner_chain_of self.now)).places (chunk_kind chunk.now)
+            (shape_of chunk.now) (box_of piece.now) (window_bytes w (B.bytes source.now)))) }
+        requires takes { takes_type target.old.cell_size target.old.depth (chunk_kind chunk.now)
             ≡ true }
         requires inside { LiesInBox (box_of own.now) (target_box target.old) }
         requires same_shape { (box_of own.now).shape ≡ (box_of piece.now).shape }
-        ensures target { IsTarget target.new }
-        ensures same_bytes { target.new.bytes.ghost_name ≡ target.old.bytes.ghost_name }
-        ensures same_masks { target.new.masks.ghost_name ≡ target.old.masks.ghost_name }
-        ensures same_box { SameBox target.old target.new }
-        ensures cells { OnOk result (DecodesPieceAt (kind data_type.now)
-            ((chain_meaning (inner_chain_of self.now)).decoded (kind data_type.now)
-            (fill_of (kind data_type.now) fill_value.now) sub.now)
-            (fill_of (kind data_type.now) fill_value.now) sub.now (box_of piece.now)
-            (option_map (λ w. window_bytes w (B.bytes source.now)) window)
+        ensures kept { KeepsBut (box_of own.now) target.old target.new }
+        ensures cells { OnOk result (DecodesPieceAt (chunk_kind chunk.now) (inner_decoded self.now
+            chunk.now (shape_of chunk.now)) (chunk_fill chunk.now) (shape_of chunk.now)
+            (box_of piece.now) (option_map (λ w. window_bytes w (B.bytes source.now)) window)
             (parent_box target.old) (box_of own.now) (data_of_target target.new)) }
-        ensures outside { KeepsOutside target.old.cell_size (parent_box target.old)
-            (box_of own.now) (data_of_target target.old) (data_of_target target.new) }
-        ensures refused { IfErr result (RefusesPiece
-            ((chain_meaning (inner_chain_of self.now)).decoded (kind data_type.now)
-            (fill_of (kind data_type.now) fill_value.now) sub.now)
-            (IsTooLargeToDecode (chain_meaning (inner_chain_of self.now)) (kind data_type.now)
-            (fill_of (kind data_type.now) fill_value.now) sub.now)
-            (option_map (λ w. window_bytes w (B.bytes source.now)) window)
-            (B.refuses source.now)) }
+        ensures whole { (box_of piece.now).shape ≡ shape_of chunk.now → OnOk result (IfSome window
+            (λ w. IsSome (inner_decoded self.now chunk.now (shape_of chunk.now)
+            (window_bytes w (B.bytes source.now))))) }
+        ensures refused { IfErr result (RefusesPiece (inner_decoded self.now chunk.now
+            (shape_of chunk.now)) (IsTooLargeToDecode (chain_meaning (inner_chain_of self.now))
+            (chunk_kind chunk.now) (chunk_fill chunk.now) (shape_of chunk.now) (box_of piece.now))
+            (option_map (λ w. window_bytes w (B.bytes source.now)) window) (B.refuses source.now)) }
     {
         let mut part = target.subdivide(own);
-        let done = self.read_piece_into(
-            alloc,
-            source,
-            window,
-            piece,
-            data_type,
-            fill_value,
-            sub,
-            &mut part.target,
-        );
+        let done = self.read_piece_into(alloc, source, window, piece, chunk, &mut part.target);
         target.rejoin(part);
         done
     }
@@ -454,46 +419,40 @@ impl ShardingCodec {
         source: &B,
         window: Option<Window>,
         piece: &ArraySubset,
-        data_type: &DataType,
-        fill_value: &FillValue,
-        sub: &[u64],
+        chunk: &ChunkType<'_>,
         target: &mut ArrayBytesDecodeIntoTarget<'_, '_, '_>,
     ) -> Result<(), PartError>
-        requires filled { IsSome (fill_cell (kind data_type.now) fill_value.now) }
-        requires piece { LiesInShape (box_of piece.now) sub.now }
+        requires piece { LiesInShape (box_of piece.now) (shape_of chunk.now) }
         requires window { IfSome window (λ w. IsWindow w (B.bytes source.now)) }
         requires may_read { IfSome window (λ w. MayRead (B.may_read source.now) w
-            ((chain_meaning (inner_chain_of self.now)).places (kind data_type.now) sub.now
-            (box_of piece.now) (window_bytes w (B.bytes source.now)))) }
-        requires target { IsTarget target.old }
-        requires takes { takes_type target.old.cell_size target.old.depth (kind data_type.now)
+            ((chain_meaning (inner_chain_of self.now)).places (chunk_kind chunk.now)
+            (shape_of chunk.now) (box_of piece.now) (window_bytes w (B.bytes source.now)))) }
+        requires takes { takes_type target.old.cell_size target.old.depth (chunk_kind chunk.now)
             ≡ true }
         requires same_shape { (target_box target.old).shape ≡ (box_of piece.now).shape }
-        ensures target { IsTarget target.new }
-        ensures same_bytes { target.new.bytes.ghost_name ≡ target.old.bytes.ghost_name }
-        ensures same_masks { target.new.masks.ghost_name ≡ target.old.masks.ghost_name }
-        ensures same_box { SameBox target.old target.new }
-        ensures cells { OnOk result (DecodesPieceAt (kind data_type.now)
-            ((chain_meaning (inner_chain_of self.now)).decoded (kind data_type.now)
-            (fill_of (kind data_type.now) fill_value.now) sub.now)
-            (fill_of (kind data_type.now) fill_value.now) sub.now (box_of piece.now)
-            (option_map (λ w. window_bytes w (B.bytes source.now)) window)
+        ensures kept { KeepsTarget target.old target.new }
+        ensures cells { OnOk result (DecodesPieceAt (chunk_kind chunk.now) (inner_decoded self.now
+            chunk.now (shape_of chunk.now)) (chunk_fill chunk.now) (shape_of chunk.now)
+            (box_of piece.now) (option_map (λ w. window_bytes w (B.bytes source.now)) window)
             (parent_box target.old) (target_box target.old) (data_of_target target.new)) }
-        ensures outside { StaysOutside target.old target.new }
-        ensures refused { IfErr result (RefusesPiece
-            ((chain_meaning (inner_chain_of self.now)).decoded (kind data_type.now)
-            (fill_of (kind data_type.now) fill_value.now) sub.now)
-            (IsTooLargeToDecode (chain_meaning (inner_chain_of self.now)) (kind data_type.now)
-            (fill_of (kind data_type.now) fill_value.now) sub.now)
-            (option_map (λ w. window_bytes w (B.bytes source.now)) window)
-            (B.refuses source.now)) }
+        ensures whole { (box_of piece.now).shape ≡ shape_of chunk.now → OnOk result (IfSome window
+            (λ w. IsSome (inner_decoded self.now chunk.now (shape_of chunk.now)
+            (window_bytes w (B.bytes source.now))))) }
+        ensures refused { IfErr result (RefusesPiece (inner_decoded self.now chunk.now
+            (shape_of chunk.now)) (IsTooLargeToDecode (chain_meaning (inner_chain_of self.now))
+            (chunk_kind chunk.now) (chunk_fill chunk.now) (shape_of chunk.now) (box_of piece.now))
+            (option_map (λ w. window_bytes w (B.bytes source.now)) window) (B.refuses source.now)) }
     {
         let Some(window) = window else {
-            return Ok(copy_fill_value_into(alloc, data_type, fill_value, target)?);
+            let cell_type = chunk.cell_type;
+            return Ok(copy_fill_value_into(
+                alloc,
+                &cell_type.data_type,
+                &cell_type.fill_value,
+                target,
+            )?);
         };
-        self.partial_decode_inner_into(
-            alloc, source, window, piece, data_type, fill_value, sub, target,
-        )
+        self.partial_decode_inner_into(alloc, source, window, piece, chunk, target)
     }
 
     /// Decodes a part of a subchunk of this shape, whose bytes are those of a window, into the target's box.
@@ -504,42 +463,29 @@ impl ShardingCodec {
         source: &B,
         window: Window,
         part: &ArraySubset,
-        data_type: &DataType,
-        fill_value: &FillValue,
-        shape: &[u64],
+        chunk: &ChunkType<'_>,
         target: &mut ArrayBytesDecodeIntoTarget<'_, '_, '_>,
     ) -> Result<(), PartError>
-        requires filled { IsSome (fill_cell (kind data_type.now) fill_value.now) }
-        requires part { LiesInShape (box_of part.now) shape.now }
+        requires part { LiesInShape (box_of part.now) (shape_of chunk.now) }
         requires window { IsWindow window (B.bytes source.now) }
         requires may_read { MayRead (B.may_read source.now) window
-            ((chain_meaning (inner_chain_of self.now)).places (kind data_type.now) shape.now
-            (box_of part.now) (window_bytes window (B.bytes source.now))) }
-        requires target { IsTarget target.old }
-        requires takes { takes_type target.old.cell_size target.old.depth (kind data_type.now)
+            ((chain_meaning (inner_chain_of self.now)).places (chunk_kind chunk.now)
+            (shape_of chunk.now) (box_of part.now) (window_bytes window (B.bytes source.now))) }
+        requires takes { takes_type target.old.cell_size target.old.depth (chunk_kind chunk.now)
             ≡ true }
         requires same_shape { (target_box target.old).shape ≡ (box_of part.now).shape }
-        ensures target { IsTarget target.new }
-        ensures same_bytes { target.new.bytes.ghost_name ≡ target.old.bytes.ghost_name }
-        ensures same_masks { target.new.masks.ghost_name ≡ target.old.masks.ghost_name }
-        ensures same_box { SameBox target.old target.new }
-        ensures cells { OnOk result (DecodesPartAt (kind data_type.now) shape.now (box_of part.now)
-            ((chain_meaning (inner_chain_of self.now)).decoded (kind data_type.now)
-            (fill_of (kind data_type.now) fill_value.now) shape.now
-            (window_bytes window (B.bytes source.now))) (parent_box target.old)
-            (target_box target.old) (data_of_target target.new)) }
-        ensures outside { StaysOutside target.old target.new }
-        ensures refused { IfErr result (RefusesPartDecoding
-            ((chain_meaning (inner_chain_of self.now)).decoded (kind data_type.now)
-            (fill_of (kind data_type.now) fill_value.now) shape.now
-            (window_bytes window (B.bytes source.now)))
-            (IsTooLargeToDecode (chain_meaning (inner_chain_of self.now)) (kind data_type.now)
-            (fill_of (kind data_type.now) fill_value.now) shape.now
-            (window_bytes window (B.bytes source.now))) (B.refuses source.now)) }
+        ensures kept { KeepsTarget target.old target.new }
+        ensures cells { OnOk result (HoldsPartAt (chain_meaning (inner_chain_of self.now)) chunk.now
+            (box_of part.now) (window_bytes window (B.bytes source.now)) target.old target.new) }
+        ensures whole { (box_of part.now).shape ≡ shape_of chunk.now → OnOk result (IsSome
+            (decoded_of (chain_meaning (inner_chain_of self.now)) chunk.now
+            (window_bytes window (B.bytes source.now)))) }
+        ensures refused { IfErr result (RefusesToDecodePart
+            (chain_meaning (inner_chain_of self.now)) chunk.now (box_of part.now)
+            (window_bytes window (B.bytes source.now)) (B.refuses source.now)) }
     {
-        self.inner.partial_decode_chunk_into(
-            alloc, source, window, part, data_type, fill_value, shape, target,
-        )
+        self.inner
+            .partial_decode_chunk_into(alloc, source, window, part, chunk, target)
     }
 }
 

@@ -1,22 +1,19 @@
 //! Parts of chunks to bytes.
-ghost use Rattle.std.specs.Prelude.{◌≡◌, ◌*◌, ◌<◌, ◌^◌, All, IfErr, IfOk, IsSome, OnOk, Some, true};
+ghost use Rattle.std.specs.Prelude.{◌≡◌, ◌*◌, ◌<◌, All, IfErr, IfOk, IsSome, OnOk, Some, true};
 ghost use Rattle.std.specs.Prelude.{length, map, option_map};
 ghost use Rattle.zarrs_subset.specs.Boxes.{position_count};
 ghost use Rattle.zarrs_subset.specs.Regions.{box_of};
-ghost use Rattle.zarrs_data_type.specs.Kind.{kind};
-ghost use Rattle.zarrs_data_type.specs.Cell.{fill_cell, fill_of};
+ghost use Rattle.zarrs_data_type.specs.CellTypes.{chunk_kind, filling, kind_of, shape_of};
 ghost use Rattle.zarrs_data_type.specs.ArrayData.{data_of};
 ghost use Rattle.zarrs_data_type.specs.Cells.{cells, HasCells};
-ghost use Rattle.zarrs_codec_shard.specs.PartialShards.{stored_parts};
 ghost use Rattle.zarrs_codec_shard.specs.ShardIndex.{range_part, IsRangeWithin};
 ghost use Rattle.zarrs_codec_shard.specs.ShardPatches.{change_of};
 ghost use Rattle.zarrs_codec_shard.specs.SubchunkData.{chunk_shape, subchunk_shape};
 ghost use Rattle.zarrs_codec_shard.specs.Subchunks.{subchunk_count};
-ghost use Rattle.zarrs_codec_chain.specs.Chain.{partial_encoding};
+ghost use Rattle.zarrs_codec_chain.specs.Chunks.{RefusesToEncodePart, partial_encoding_as};
 ghost use Rattle.zarrs_codec_chain.specs.Options.{stores_empty_chunks};
-ghost use Rattle.zarrs_codec_chain.specs.Refusals.{RefusesPartialEncoding};
 ghost use Rattle.zarrs_codec.specs.Chains.{chain_meaning, inner_chain_of, sharding_meaning};
-ghost use Rattle.zarrs_codec.specs.PartialShardings.{changed_part, stored_bytes, write_to};
+ghost use Rattle.zarrs_codec.specs.PartialShardings.{AreStoredRanges, changed_part, parts_at, stored_bytes, write_to};
 ghost use Rattle.zarrs_codec.specs.PartialShardings.{RefusesChange, RefusesChanges, RefusesHeld};
 ghost use Rattle.zarrs_codec.specs.PartialShardings.{RefusesIndex, RefusesLarge, RefusesMet, RefusesPatch, RefusesTested};
 ghost use Rattle.zarrs_codec.specs.Shardings.{all_met_decode, decoded_part, part_decodes};
@@ -29,7 +26,7 @@ use std::alloc::Global;
 use zarrs_codec_chain::CodecOptions;
 use zarrs_codec_leaf::{CodecError, Misfit};
 use zarrs_codec_shard::{PartialWrite, ShardPatch, SubchunkRange, Subchunks, stored_ranges};
-use zarrs_data_type::{ArrayBytes, DataType, FillValue};
+use zarrs_data_type::{ArrayBytes, CellType, ChunkType};
 use zarrs_subset::ArraySubset;
 
 impl CodecChain {
@@ -53,30 +50,23 @@ impl CodecChain {
         stored: Option<&[u8]>,
         part: &ArraySubset,
         bytes: &ArrayBytes<'_>,
-        data_type: &DataType,
-        fill_value: &FillValue,
-        shape: &[u64],
+        chunk: &ChunkType<'_>,
         options: &CodecOptions,
     ) -> Result<PartialWrite, CodecError>
         requires supported { (chain_meaning self.now).encodes_partly ≡ true }
-        requires filled { IsSome (fill_cell (kind data_type.now) fill_value.now) }
-        requires dimensions { length (box_of part.now).start ≡ length shape.now }
-        requires cells { HasCells (kind data_type.now) (data_of bytes.now)
+        requires dimensions { length (box_of part.now).start ≡ length (shape_of chunk.now) }
+        requires cells { HasCells (chunk_kind chunk.now) (data_of bytes.now)
             (position_count (box_of part.now).shape) }
-        ensures written { IfOk result (λ write.
-            partial_encoding (chain_meaning self.now) (stores_empty_chunks options.now)
-            (kind data_type.now) (fill_of (kind data_type.now) fill_value.now) shape.now
-            (option_map (λ encoded. encoded.now) stored.entry) (box_of part.now)
-            (data_of bytes.now) ≡ Some (change_of write)) }
-        ensures refused { IfErr result
-            (RefusesPartialEncoding (chain_meaning self.now) (stores_empty_chunks options.now)
-            (kind data_type.now) (fill_of (kind data_type.now) fill_value.now) shape.now
-            (option_map (λ encoded. encoded.now) stored.entry) (box_of part.now)
-            (data_of bytes.now)) }
+        ensures written { IfOk result (λ write. partial_encoding_as (chain_meaning self.now)
+            (stores_empty_chunks options.now) chunk.now (option_map (λ encoded. encoded.now)
+            stored.entry) (box_of part.now) (data_of bytes.now) ≡ Some (change_of write)) }
+        ensures refused { IfErr result (RefusesToEncodePart (chain_meaning self.now)
+            (stores_empty_chunks options.now) chunk.now (option_map (λ encoded. encoded.now)
+            stored.entry) (box_of part.now) (data_of bytes.now)) }
     {
         match &self.array_to_bytes {
             ArrayToBytesCodec::Sharding(codec) => codec.partial_encode_shard(
-                alloc, stored, part, bytes, data_type, fill_value, shape, options,
+                alloc, stored, part, bytes, chunk, options,
             ),
             _ => unreachable!(),
         }
@@ -91,32 +81,29 @@ impl ShardingCodec {
         stored: Option<&[u8]>,
         part: &ArraySubset,
         bytes: &ArrayBytes<'_>,
-        data_type: &DataType,
-        fill_value: &FillValue,
-        shape: &[u64],
+        chunk: &ChunkType<'_>,
         options: &CodecOptions,
     ) -> Result<PartialWrite, CodecError>
         requires supported { (sharding_meaning self.now).encodes_partly ≡ true }
-        requires filled { IsSome (fill_cell (kind data_type.now) fill_value.now) }
-        requires dimensions { length (box_of part.now).start ≡ length shape.now }
-        requires cells { HasCells (kind data_type.now) (data_of bytes.now)
+        requires dimensions { length (box_of part.now).start ≡ length (shape_of chunk.now) }
+        requires cells { HasCells (chunk_kind chunk.now) (data_of bytes.now)
             (position_count (box_of part.now).shape) }
-        ensures written { IfOk result (λ write.
-            partial_encoding (sharding_meaning self.now) (stores_empty_chunks options.now)
-            (kind data_type.now) (fill_of (kind data_type.now) fill_value.now) shape.now
-            (option_map (λ encoded. encoded.now) stored.entry) (box_of part.now)
-            (data_of bytes.now) ≡ Some (change_of write)) }
-        ensures refused { IfErr result
-            (RefusesPartialEncoding (sharding_meaning self.now) (stores_empty_chunks options.now)
-            (kind data_type.now) (fill_of (kind data_type.now) fill_value.now) shape.now
-            (option_map (λ encoded. encoded.now) stored.entry) (box_of part.now)
-            (data_of bytes.now)) }
+        ensures written { IfOk result (λ write. partial_encoding_as (sharding_meaning self.now)
+            (stores_empty_chunks options.now) chunk.now (option_map (λ encoded. encoded.now)
+            stored.entry) (box_of part.now) (data_of bytes.now) ≡ Some (change_of write)) }
+        ensures refused { IfErr result (RefusesToEncodePart (sharding_meaning self.now)
+            (stores_empty_chunks options.now) chunk.now (option_map (λ encoded. encoded.now)
+            stored.entry) (box_of part.now) (data_of bytes.now)) }
     {
         let sub = self.extents(alloc)?;
-        let Some(subchunks) = Subchunks::new(alloc, shape, &sub)? else {
+        let Some(subchunks) = Subchunks::new(alloc, chunk.shape, &sub)? else {
             return Err(CodecError::DoesNotFit(Misfit::TypeOrShape));
         };
-        if !self.inner_codecs().fits_chunk(alloc, data_type, &sub)? {
+        let cell_type = chunk.cell_type;
+        if !self
+            .inner_codecs()
+            .fits_chunk(alloc, &cell_type.data_type, &sub)?
+        {
             return Err(CodecError::DoesNotFit(Misfit::TypeOrShape));
         }
         let Some(count) = subchunks.indexed_count() else {
@@ -126,7 +113,7 @@ impl ShardingCodec {
             return Err(CodecError::DoesNotFit(Misfit::Bytes));
         };
         self.patch_shard(
-            alloc, stored, &ranges, &subchunks, part, bytes, data_type, fill_value, options,
+            alloc, stored, &ranges, &subchunks, part, bytes, cell_type, options,
         )
     }
 
@@ -140,47 +127,36 @@ impl ShardingCodec {
         subchunks: &Subchunks,
         part: &ArraySubset,
         bytes: &ArrayBytes<'_>,
-        data_type: &DataType,
-        fill_value: &FillValue,
+        cell_type: &CellType,
         options: &CodecOptions,
     ) -> Result<PartialWrite, CodecError>
-        requires filled { IsSome (fill_cell (kind data_type.now) fill_value.now) }
         requires dimensions { length (box_of part.now).start ≡ length (chunk_shape subchunks.now) }
-        requires cells { HasCells (kind data_type.now) (data_of bytes.now)
+        requires cells { HasCells (kind_of cell_type.now) (data_of bytes.now)
             (position_count (box_of part.now).shape) }
-        requires fits { (chain_meaning (inner_chain_of self.now)).fits (kind data_type.now)
+        requires fits { (chain_meaning (inner_chain_of self.now)).fits (kind_of cell_type.now)
             (subchunk_shape subchunks.now) ≡ true }
-        requires within { All (IsRangeWithin (length (stored_bytes
-            (option_map (λ encoded. encoded.now) stored)))) ranges.now }
-        requires count { length ranges.now
-            ≡ subchunk_count (chunk_shape subchunks.now) (subchunk_shape subchunks.now) }
-        requires few { length ranges.now * 16 < 2 ^ 64 }
-        requires parts { stored_parts (length ranges.now)
-            (option_map (λ encoded. encoded.now) stored)
-            ≡ Some (map (range_part (stored_bytes (option_map (λ encoded. encoded.now) stored)))
-            ranges.now) }
+        requires ranges { AreStoredRanges subchunks.now (option_map (λ encoded. encoded.now) stored)
+            ranges.now }
         ensures written { IfOk result (λ write. write_to (chain_meaning (inner_chain_of self.now))
-            (stores_empty_chunks options.now) (kind data_type.now)
-            (fill_of (kind data_type.now) fill_value.now) (chunk_shape subchunks.now)
-            (subchunk_shape subchunks.now) (option_map (λ encoded. encoded.now) stored.entry)
-            (box_of part.now) (data_of bytes.now)
-            (map (range_part (stored_bytes (option_map (λ encoded. encoded.now) stored.entry)))
-            ranges.now) ≡ Some (change_of write)) }
+            (stores_empty_chunks options.now) (kind_of cell_type.now) (filling cell_type.now)
+            (chunk_shape subchunks.now) (subchunk_shape subchunks.now) (option_map
+            (λ encoded. encoded.now) stored.entry) (box_of part.now) (data_of bytes.now) (parts_at
+            (option_map (λ encoded. encoded.now) stored.entry) ranges.now) ≡ Some (change_of
+            write)) }
         ensures refused { IfErr result (RefusesPatch (chain_meaning (inner_chain_of self.now))
-            (stores_empty_chunks options.now) (kind data_type.now)
-            (fill_of (kind data_type.now) fill_value.now) (chunk_shape subchunks.now)
-            (subchunk_shape subchunks.now) (box_of part.now) (data_of bytes.now)
-            (map (range_part (stored_bytes (option_map (λ encoded. encoded.now) stored.entry)))
+            (stores_empty_chunks options.now) (kind_of cell_type.now) (filling cell_type.now)
+            (chunk_shape subchunks.now) (subchunk_shape subchunks.now) (box_of part.now)
+            (data_of bytes.now) (parts_at (option_map (λ encoded. encoded.now) stored.entry)
             ranges.now)) }
     {
         let patched = self.patched(
-            alloc, stored, ranges, subchunks, part, bytes, data_type, fill_value, options,
+            alloc, stored, ranges, subchunks, part, bytes, cell_type, options,
         );
         match patched {
             Ok(write) => Ok(write),
             Err(CodecError::SizeOverflow) => {
                 let shard = bytes_of(stored);
-                self.test_met(alloc, shard, ranges, subchunks, part, data_type, fill_value)?;
+                self.test_met(alloc, shard, ranges, subchunks, part, cell_type)?;
                 Err(CodecError::SizeOverflow)
             }
             Err(e) => Err(e),
@@ -199,25 +175,23 @@ impl ShardingCodec {
         ranges: &[Option<SubchunkRange>],
         subchunks: &Subchunks,
         part: &ArraySubset,
-        data_type: &DataType,
-        fill_value: &FillValue,
+        cell_type: &CellType,
     ) -> Result<(), CodecError>
-        requires filled { IsSome (fill_cell (kind data_type.now) fill_value.now) }
         requires dimensions { length (box_of part.now).start ≡ length (chunk_shape subchunks.now) }
         requires within { All (IsRangeWithin (length shard.now)) ranges.now }
-        requires count { length ranges.now
-            ≡ subchunk_count (chunk_shape subchunks.now) (subchunk_shape subchunks.now) }
+        requires count { length ranges.now ≡ subchunk_count (chunk_shape subchunks.now)
+            (subchunk_shape subchunks.now) }
         ensures decode { OnOk result (all_met_decode (chain_meaning (inner_chain_of self.now))
-            (kind data_type.now) (fill_of (kind data_type.now) fill_value.now)
-            (chunk_shape subchunks.now) (subchunk_shape subchunks.now) (box_of part.now)
-            (map (range_part shard.now) ranges.now) ≡ true) }
+            (kind_of cell_type.now) (filling cell_type.now) (chunk_shape subchunks.now)
+            (subchunk_shape subchunks.now) (box_of part.now) (map (range_part shard.now) ranges.now)
+            ≡ true) }
         ensures refused { IfErr result (RefusesMet (chain_meaning (inner_chain_of self.now))
-            (kind data_type.now) (fill_of (kind data_type.now) fill_value.now)
-            (subchunk_shape subchunks.now) (map (range_part shard.now) ranges.now)) }
+            (kind_of cell_type.now) (filling cell_type.now) (subchunk_shape subchunks.now)
+            (map (range_part shard.now) ranges.now)) }
     {
         for (number, range) in ranges.iter().enumerate() {
             if subchunks.meets(alloc, part, number as u64)? {
-                self.test_part(alloc, shard, *range, subchunks, data_type, fill_value)?;
+                self.test_part(alloc, shard, *range, subchunks, cell_type)?;
             }
         }
         Ok(())
@@ -230,19 +204,17 @@ impl ShardingCodec {
         shard: &[u8],
         range: Option<SubchunkRange>,
         subchunks: &Subchunks,
-        data_type: &DataType,
-        fill_value: &FillValue,
+        cell_type: &CellType,
     ) -> Result<(), CodecError>
-        requires filled { IsSome (fill_cell (kind data_type.now) fill_value.now) }
         requires within { IsRangeWithin (length shard.now) range }
         ensures decode { OnOk result (part_decodes (chain_meaning (inner_chain_of self.now))
-            (kind data_type.now) (fill_of (kind data_type.now) fill_value.now)
-            (subchunk_shape subchunks.now) (range_part shard.now range) ≡ true) }
+            (kind_of cell_type.now) (filling cell_type.now) (subchunk_shape subchunks.now)
+            (range_part shard.now range) ≡ true) }
         ensures refused { IfErr result (RefusesTested (chain_meaning (inner_chain_of self.now))
-            (kind data_type.now) (fill_of (kind data_type.now) fill_value.now)
-            (subchunk_shape subchunks.now) (range_part shard.now range)) }
+            (kind_of cell_type.now) (filling cell_type.now) (subchunk_shape subchunks.now)
+            (range_part shard.now range)) }
     {
-        match self.held_part(alloc, shard, range, subchunks, data_type, fill_value) {
+        match self.held_part(alloc, shard, range, subchunks, cell_type) {
             Ok(_) | Err(CodecError::SizeOverflow) => Ok(()),
             Err(e) => Err(e),
         }
@@ -257,37 +229,26 @@ impl ShardingCodec {
         subchunks: &Subchunks,
         part: &ArraySubset,
         bytes: &ArrayBytes<'_>,
-        data_type: &DataType,
-        fill_value: &FillValue,
+        cell_type: &CellType,
         options: &CodecOptions,
     ) -> Result<PartialWrite, CodecError>
-        requires filled { IsSome (fill_cell (kind data_type.now) fill_value.now) }
         requires dimensions { length (box_of part.now).start ≡ length (chunk_shape subchunks.now) }
-        requires cells { HasCells (kind data_type.now) (data_of bytes.now)
+        requires cells { HasCells (kind_of cell_type.now) (data_of bytes.now)
             (position_count (box_of part.now).shape) }
-        requires fits { (chain_meaning (inner_chain_of self.now)).fits (kind data_type.now)
+        requires fits { (chain_meaning (inner_chain_of self.now)).fits (kind_of cell_type.now)
             (subchunk_shape subchunks.now) ≡ true }
-        requires within { All (IsRangeWithin (length (stored_bytes
-            (option_map (λ encoded. encoded.now) stored)))) ranges.now }
-        requires count { length ranges.now
-            ≡ subchunk_count (chunk_shape subchunks.now) (subchunk_shape subchunks.now) }
-        requires few { length ranges.now * 16 < 2 ^ 64 }
-        requires parts { stored_parts (length ranges.now)
-            (option_map (λ encoded. encoded.now) stored)
-            ≡ Some (map (range_part (stored_bytes (option_map (λ encoded. encoded.now) stored)))
-            ranges.now) }
+        requires ranges { AreStoredRanges subchunks.now (option_map (λ encoded. encoded.now) stored)
+            ranges.now }
         ensures written { IfOk result (λ write. write_to (chain_meaning (inner_chain_of self.now))
-            (stores_empty_chunks options.now) (kind data_type.now)
-            (fill_of (kind data_type.now) fill_value.now) (chunk_shape subchunks.now)
-            (subchunk_shape subchunks.now) (option_map (λ encoded. encoded.now) stored.entry)
-            (box_of part.now) (data_of bytes.now)
-            (map (range_part (stored_bytes (option_map (λ encoded. encoded.now) stored.entry)))
-            ranges.now) ≡ Some (change_of write)) }
+            (stores_empty_chunks options.now) (kind_of cell_type.now) (filling cell_type.now)
+            (chunk_shape subchunks.now) (subchunk_shape subchunks.now) (option_map
+            (λ encoded. encoded.now) stored.entry) (box_of part.now) (data_of bytes.now) (parts_at
+            (option_map (λ encoded. encoded.now) stored.entry) ranges.now) ≡ Some (change_of
+            write)) }
         ensures refused { IfErr result (RefusesChanges (chain_meaning (inner_chain_of self.now))
-            (stores_empty_chunks options.now) (kind data_type.now)
-            (fill_of (kind data_type.now) fill_value.now) (chunk_shape subchunks.now)
-            (subchunk_shape subchunks.now) (box_of part.now) (data_of bytes.now)
-            (map (range_part (stored_bytes (option_map (λ encoded. encoded.now) stored.entry)))
+            (stores_empty_chunks options.now) (kind_of cell_type.now) (filling cell_type.now)
+            (chunk_shape subchunks.now) (subchunk_shape subchunks.now) (box_of part.now)
+            (data_of bytes.now) (parts_at (option_map (λ encoded. encoded.now) stored.entry)
             ranges.now)) }
     {
         let shard = bytes_of(stored);
@@ -300,8 +261,7 @@ impl ShardingCodec {
                 subchunks,
                 part,
                 bytes,
-                data_type,
-                fill_value,
+                cell_type,
                 number as u64,
                 options,
             )?;
@@ -320,39 +280,39 @@ impl ShardingCodec {
         subchunks: &Subchunks,
         part: &ArraySubset,
         bytes: &ArrayBytes<'_>,
-        data_type: &DataType,
-        fill_value: &FillValue,
+        cell_type: &CellType,
         number: u64,
         options: &CodecOptions,
     ) -> Result<Option<Option<Vec<u8>>>, CodecError>
-        requires filled { IsSome (fill_cell (kind data_type.now) fill_value.now) }
         requires within { IsRangeWithin (length shard.now) range }
-        requires number { number
-            < subchunk_count (chunk_shape subchunks.now) (subchunk_shape subchunks.now) }
+        requires number { number < subchunk_count (chunk_shape subchunks.now)
+            (subchunk_shape subchunks.now) }
         requires dimensions { length (box_of part.now).start ≡ length (chunk_shape subchunks.now) }
-        requires cells { HasCells (kind data_type.now) (data_of bytes.now)
+        requires cells { HasCells (kind_of cell_type.now) (data_of bytes.now)
             (position_count (box_of part.now).shape) }
-        requires fits { (chain_meaning (inner_chain_of self.now)).fits (kind data_type.now)
+        requires fits { (chain_meaning (inner_chain_of self.now)).fits (kind_of cell_type.now)
             (subchunk_shape subchunks.now) ≡ true }
-        ensures change { IfOk result (λ change. changed_part (chain_meaning (inner_chain_of self.now))
-            (stores_empty_chunks options.now) (kind data_type.now)
-            (fill_of (kind data_type.now) fill_value.now) (chunk_shape subchunks.now)
+        ensures change { IfOk result (λ change. changed_part
+            (chain_meaning (inner_chain_of self.now)) (stores_empty_chunks options.now)
+            (kind_of cell_type.now) (filling cell_type.now) (chunk_shape subchunks.now)
             (subchunk_shape subchunks.now) (box_of part.now) (data_of bytes.now) number
-            (range_part shard.now range)
-            ≡ Some (option_map (λ part. option_map (λ bytes. bytes.items) part) change)) }
+            (range_part shard.now range) ≡ Some (option_map
+            (λ part. option_map (λ bytes. bytes.items) part) change)) }
         ensures refused { IfErr result (RefusesChange (chain_meaning (inner_chain_of self.now))
-            (stores_empty_chunks options.now) (kind data_type.now)
-            (fill_of (kind data_type.now) fill_value.now) (chunk_shape subchunks.now)
-            (subchunk_shape subchunks.now) (box_of part.now) (data_of bytes.now) number
-            (range_part shard.now range)) }
+            (stores_empty_chunks options.now) (kind_of cell_type.now) (filling cell_type.now)
+            (chunk_shape subchunks.now) (subchunk_shape subchunks.now) (box_of part.now)
+            (data_of bytes.now) number (range_part shard.now range)) }
     {
         if !subchunks.meets(alloc, part, number)? {
             return Ok(None);
         }
-        let held = self.held_part(alloc, shard, range, subchunks, data_type, fill_value)?;
-        let updated = subchunks.update(alloc, held, part, bytes, data_type, number)?;
-        let sub = subchunks.shape();
-        let encoded = self.encode_part(alloc, updated, data_type, fill_value, sub, options)?;
+        let held = self.held_part(alloc, shard, range, subchunks, cell_type)?;
+        let updated = subchunks.update(alloc, held, part, bytes, &cell_type.data_type, number)?;
+        let inner = ChunkType {
+            cell_type,
+            shape: subchunks.shape(),
+        };
+        let encoded = self.encode_part(alloc, updated, &inner, options)?;
         Ok(Some(encoded))
     }
 
@@ -376,34 +336,37 @@ impl ShardingCodec {
         shard: &[u8],
         range: Option<SubchunkRange>,
         subchunks: &Subchunks,
-        data_type: &DataType,
-        fill_value: &FillValue,
+        cell_type: &CellType,
     ) -> Result<ArrayBytes<'static>, CodecError>
-        requires filled { IsSome (fill_cell (kind data_type.now) fill_value.now) }
         requires within { IsRangeWithin (length shard.now) range }
-        ensures cells { IfOk result (λ made. cells (kind data_type.now) (data_of made)
-            ≡ decoded_part (chain_meaning (inner_chain_of self.now)) (kind data_type.now)
-            (fill_of (kind data_type.now) fill_value.now) (subchunk_shape subchunks.now)
-            (range_part shard.now range)) }
-        ensures some { IfOk result (λ made. IsSome (cells (kind data_type.now) (data_of made))) }
+        ensures cells { IfOk result (λ made. cells (kind_of cell_type.now) (data_of made)
+            ≡ decoded_part (chain_meaning (inner_chain_of self.now)) (kind_of cell_type.now)
+            (filling cell_type.now) (subchunk_shape subchunks.now) (range_part shard.now range)) }
+        ensures some { IfOk result (λ made. IsSome (cells (kind_of cell_type.now) (data_of made))) }
         ensures refused { IfErr result (RefusesHeld (chain_meaning (inner_chain_of self.now))
-            (kind data_type.now) (fill_of (kind data_type.now) fill_value.now)
-            (subchunk_shape subchunks.now) (range_part shard.now range)) }
+            (kind_of cell_type.now) (filling cell_type.now) (subchunk_shape subchunks.now)
+            (range_part shard.now range)) }
     {
         let Some(range) = range else {
-            return match subchunks.new_fill_part(alloc, data_type, fill_value)? {
+            return match subchunks.new_fill_part(
+                alloc,
+                &cell_type.data_type,
+                &cell_type.fill_value,
+            )? {
                 Some(part) => Ok(part),
                 None => Err(CodecError::SizeOverflow),
             };
         };
         let encoded = &shard[range.start..range.end];
         let sub = subchunks.shape();
-        if !is_counted(sub, data_type) {
+        if !is_counted(sub, &cell_type.data_type) {
             return Err(self.refusal_of_large());
         }
-        let part = self
-            .inner_codecs()
-            .decode_chunk(alloc, encoded, data_type, fill_value, sub)?;
+        let inner = ChunkType {
+            cell_type,
+            shape: sub,
+        };
+        let part = self.inner_codecs().decode_chunk(alloc, encoded, &inner)?;
         Ok(part.into_owned(alloc)?)
     }
 }

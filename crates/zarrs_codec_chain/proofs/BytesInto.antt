@@ -1,39 +1,29 @@
 -- Cells of a chunk under the codec `bytes` that were put straight into a box.
-use Rattle.std.proofs.Common.{◌≡◌, ℕ, ◌+◌, ◌-◌, ◌*◌, ◌<◌, ◌≤◌, Bool, true, false, cond, eqb, List, [], ◌∷◌, length, map, replicate, get_or, slice_get, Option, None, Some, refl, sym, ap, ◌∙◌, subst, arith}
-use Rattle.std.specs.Prelude.{nat_le, nat_lt, option_map, IsSome}
+use Rattle.std.proofs.Common.{◌≡◌, ℕ, ◌+◌, ◌-◌, ◌*◌, ◌≤◌, Bool, true, false, cond, List, [], ◌∷◌, length, slice_get, Option, None, Some, refl, sym, ap, ◌∙◌, subst, arith}
+use Rattle.std.specs.Prelude.{nat_le, nat_lt}
 use Rattle.std.specs.List.{flat_map}
-use Rattle.std.proofs.lemmas.Bool.{and_from, and_parts, eq-eqb, false≢true, leb-true}
-use Rattle.std.proofs.lemmas.List.{get_or-map, length-map, length-reverse}
-use Rattle.std.proofs.lemmas.List.Sums.{list_all-from_AllPass}
-use Rattle.std.proofs.lemmas.Option.{slice_get-map}
-use Rattle.zarrs_data_type.specs.ArrayData.{ArrayData, fixed}
-use Rattle.zarrs_data_type.specs.Cells.{cell_at, cells, HasCells}
-use Rattle.zarrs_data_type_bytes.proofs.Cells.{HasCells-some}
-use Rattle.zarrs_data_type_bytes.proofs.Pieces.{length-piece, length-pieces}
+use Rattle.std.proofs.lemmas.Bool.{and_parts, eq-eqb, false≢true, leb-true}
+use Rattle.std.proofs.lemmas.List.{length-reverse}
+use Rattle.zarrs_data_type.specs.ArrayData.{fixed}
+use Rattle.zarrs_data_type.specs.Cells.{cell_at}
 use Rattle.zarrs_codec_leaf.specs.declared.bytes_codec.Endianness.{Endianness}
-use Rattle.zarrs_codec_leaf.specs.Bytes.{bytes_meaning_of, in_order, reverses, takes_bytes}
-use Rattle.zarrs_codec_leaf.specs.BytesLaws.{bytes-lawful}
+use Rattle.zarrs_codec_leaf.specs.Bytes.{bytes_meaning_of, in_order, reverses}
 use Rattle.zarrs_codec_leaf.specs.Chosen.{some_is}
-use Rattle.zarrs_codec_leaf.specs.Refusals.{RefusesDecoding}
-use Rattle.zarrs_codec_leaf.specs.declared.error.CodecError.{CodecError}
-use Rattle.zarrs_codec_leaf.specs.declared.error.CodecError.TheVariants as codec
 use Rattle.zarrs_codec_leaf.specs.Sources.{window_bytes}
 use Rattle.zarrs_codec_leaf.specs.declared.source.Window.{Window}
 use Rattle.zarrs_subset.specs.Boxes.{in_range, is_within, moved, offset_by, offset_from, place, position_count}
-use Rattle.zarrs_subset.specs.Pieces.{piece_at, pieces}
+use Rattle.zarrs_subset.specs.Pieces.{piece_at}
 use Rattle.zarrs_subset.specs.Regions.{Box, IsLong, LiesInShape, box_at_origin, place_in, positions}
 use Rattle.zarrs_subset.proofs.Kernel.{cell_ends, length_part, place_below}
-use Rattle.zarrs_subset.proofs.Bytes.{place_in_below}
 use Rattle.zarrs_data_type.specs.Targets.{KeepsOutside, masked, takes_type}
 use Rattle.zarrs_data_type_region.proofs.Copies.{in_parent, place_in_parent}
 use Rattle.zarrs_data_type_region.proofs.TypeSizes.{element_is, type_taken}
-use Rattle.zarrs_data_type.specs.Cell.{Cell, bytes, none, are_values, is_element, is_value, takes_any_bytes, values_only}
+use Rattle.zarrs_data_type.specs.Cell.{Cell, bytes, none, is_element, is_value, takes_any_bytes}
 use Rattle.zarrs_data_type.specs.Kind.{Kind, element_size}
 use Rattle.zarrs_data_type.specs.Kind as type
 use Rattle.zarrs_codec_chain.specs.BytesInto.{AreCells, PutsPart}
-use Rattle.zarrs_codec_chain.specs.Parts.{DecodesInto, DecodesPartAt}
-use Rattle.zarrs_codec_chain.specs.PartRefusals.{RefusesIntoDecoding}
-use Rattle.zarrs_codec_chain.proofs.BytesParts.{all_at, decoded_pieces, decoding_is, piece_get, window_len}
+use Rattle.zarrs_codec_chain.specs.Parts.{DecodesPartAt}
+use Rattle.zarrs_codec_chain.proofs.BytesParts.{all_at, decoded_pieces, window_len}
 use Rattle.zarrs_codec_chain.proofs.MovedBoxes.{moved_holds, moved_to}
 use Rattle.zarrs_codec_chain.proofs.PartBoxes.{part_fits, within_shape}
 
@@ -70,7 +60,7 @@ any_element type.string size b is any len = cc
 any_element type.bytes size b is any len = cc
 any_element (type.optional inner) size b is any len = cc
 
-length_order : (reversed : Bool) (b : List ℕ) → length (in_order reversed b) ≡ length b
+pub length_order : (reversed : Bool) (b : List ℕ) → length (in_order reversed b) ≡ length b
 length_order true b = length-reverse b
 length_order false b = refl
 
@@ -124,47 +114,6 @@ module _ (e : Option Endianness) (k : Kind) (size : ℕ) (is : element_size k �
             ∙ sym (ap (λ l. slice_get l (place_in (box_at_origin shape) position)) w.0 ∙ all_at e k size is shape part all (flat_map piece (positions part)) long fits len refl position holds);
       }
 
--- ---- a whole chunk that was put
-
-moved_to_origin : (start p : List ℕ) → moved start (replicate (length start) 0) p ≡ offset_from start p
-moved_to_origin [] p = refl
-moved_to_origin (s ∷ start) [] = refl
-moved_to_origin (s ∷ start) (i ∷ p) =
-    let same : 0 + (i - s) ≡ i - s = omega arith in
-    ap (λ x. x ∷ moved start (replicate (length start) 0) p) same ∙ ap (λ l. (i - s) ∷ l) (moved_to_origin start p)
-
-pub put_decodes_whole : (e : Option Endianness) (k : Kind) (size : ℕ) → element_size k ≡ Some size → takes_any_bytes k ≡ true → takes_bytes e k ≡ true → (own : Box) (parent all old new : List ℕ)
-    → IsLong own → LiesInShape own parent → length all ≡ position_count own.shape * size → PutsPart (reverses e k) size own.shape (box_at_origin own.shape) parent own all old new
-    → DecodesInto k (box_at_origin parent) own ((bytes_meaning_of e).decoded k (position_count own.shape) all) (fixed new)
-put_decodes_whole e k size is any taken own parent all old new long lies len put =
-    let n = position_count own.shape in
-    let cell : List ℕ → Cell = λ p. bytes (in_order (reverses e k) p) in
-    let ps = pieces size n all in
-    let cs = map cell ps in
-    let values : are_values k cs ≡ true = list_all-from_AllPass (λ c. is_value k c) cs (λ i d lt.
-    let below : i < length ps = omega (arith, length-map ps cell) in
-    let short : i < n = omega (arith, length-pieces size n all) in
-    ap (is_value k) (get_or-map cell ps i [] d below)
-    ∙ any_element k size (in_order (reverses e k) (get_or ps i [])) is any (length_order (reverses e k) (get_or ps i []) ∙ length-piece size n all len i [] short)) in
-    record {
-      whole = cs;
-      decoded_is = decoding_is e k size is n all
-          ∙ ap (λ x. cond x (values_only k cs) None) (and_from (takes_bytes e k) (eqb (length all) (n * size)) taken (eq-eqb (length all) (n * size) len))
-          ∙ ap (λ x. cond x (Some cs) None) values;
-      has = λ position holds.
-          let inside = within_shape own.start own.shape parent position (part_fits own parent long lies) holds in
-          let j = place_in own position in
-          let there : moved own.start (replicate (length own.shape) 0) position ≡ offset_from own.start position =
-          ap (λ m. moved own.start (replicate m 0) position) (sym long) ∙ moved_to_origin own.start position in
-          let here : piece_at size new (place_in (box_at_origin parent) position) ≡ in_order (reverses e k) (piece_at size all j) =
-          ap (piece_at size new) (place_in_parent parent position inside)
-          ∙ put position inside
-          ∙ ap (λ t. cond t (in_order (reverses e k) (piece_at size all (place own.shape (moved own.start (replicate (length own.shape) 0) position)))) (piece_at size old (place parent position))) holds
-          ∙ ap (λ p. in_order (reverses e k) (piece_at size all (place own.shape p))) there in
-          ap Some (cell_is k size new (place_in (box_at_origin parent) position) is ∙ ap bytes here)
-          ∙ sym (slice_get-map cell ps j ∙ ap (option_map cell) (piece_get size n all j (place_in_below own position long holds)));
-    }
-
 -- ---- the same, of what the code has
 
 module _ (e : Option Endianness) (k : Kind) (shape : List ℕ) (part own : Box) (parent : List ℕ) (window : Window) (source got : List ℕ) (cell_size depth : ℕ) (old new : List ℕ)
@@ -196,48 +145,3 @@ module _ (e : Option Endianness) (k : Kind) (shape : List ℕ) (part own : Box) 
         subst (λ d. KeepsOutside cell_size (box_at_origin parent) own (masked d count masks old) (masked new_depth new_count new_masks new)) (sym no_depth)
         (subst (λ d. KeepsOutside cell_size (box_at_origin parent) own (fixed old) (masked d new_count new_masks new)) (sym (same_depth ∙ no_depth))
         (puts_keep (reverses e k) cell_size shape part own parent (window_bytes window source) old new put_all))
-
--- the same of a whole chunk
-module _ (e : Option Endianness) (k : Kind) (own : Box) (parent shape encoded : List ℕ) (part : Box) (cell_size depth : ℕ) (old new : List ℕ)
-    (are : AreCells e k (position_count shape) (length encoded)) (takes : takes_type cell_size depth k ≡ true) (own_long : IsLong own) (own_lies : LiesInShape own parent)
-    (shape_is : shape ≡ own.shape) (part_is : part ≡ box_at_origin shape) where
-  whole_sized : element_size k ≡ Some cell_size
-  whole_sized = are.sized ∙ (sym (element_is k are.size are.sized).0 ∙ (type_taken cell_size depth k takes).0)
-
-  whole_depth : depth ≡ 0
-  whole_depth = sym (type_taken cell_size depth k takes).1 ∙ (element_is k are.size are.sized).1
-
-  pub whole_len : length encoded ≡ position_count shape * cell_size
-  whole_len = are.length_is ∙ ap (λ s. position_count shape * s) (some_is (sym are.sized ∙ whole_sized))
-
-  module _ (put : PutsPart (reverses e k) cell_size shape part parent own encoded old new) (new_depth : ℕ) (same_depth : new_depth ≡ depth) (count new_count : ℕ) (masks new_masks : List ℕ) where
-    whole_put : PutsPart (reverses e k) cell_size own.shape (box_at_origin own.shape) parent own encoded old new
-    whole_put =
-        subst (λ (s : List ℕ). PutsPart (reverses e k) cell_size s (box_at_origin s) parent own encoded old new) shape_is
-        (subst (λ b. PutsPart (reverses e k) cell_size shape b parent own encoded old new) part_is put)
-
-    pub whole_into : DecodesInto k (box_at_origin parent) own ((bytes_meaning_of e).decoded k (position_count own.shape) encoded) (masked new_depth new_count new_masks new)
-    whole_into =
-        subst (λ d. DecodesInto k (box_at_origin parent) own ((bytes_meaning_of e).decoded k (position_count own.shape) encoded) (masked d new_count new_masks new)) (sym (same_depth ∙ whole_depth))
-        (put_decodes_whole e k cell_size whole_sized are.any are.taken own parent encoded old new own_long own_lies
-        (subst (λ (s : List ℕ). length encoded ≡ position_count s * cell_size) shape_is whole_len) whole_put)
-
-    pub whole_outside : KeepsOutside cell_size (box_at_origin parent) own (masked depth count masks old) (masked new_depth new_count new_masks new)
-    whole_outside =
-        subst (λ d. KeepsOutside cell_size (box_at_origin parent) own (masked d count masks old) (masked new_depth new_count new_masks new)) (sym whole_depth)
-        (subst (λ d. KeepsOutside cell_size (box_at_origin parent) own (fixed old) (masked d new_count new_masks new)) (sym (same_depth ∙ whole_depth))
-        (puts_keep (reverses e k) cell_size shape part own parent encoded old new put))
-
--- ---- chunks that were decoded to a list
-
-pub decoded_held : (e : Option Endianness) (k : Kind) (n : ℕ) (b : List ℕ) (d : ArrayData) → cells k d ≡ (bytes_meaning_of e).decoded k n b → IsSome (cells k d) → HasCells k d n
-decoded_held e k n b d is there = go (cells k d) refl there
-  where
-    go : (o : Option (List Cell)) → cells k d ≡ o → IsSome o → HasCells k d n
-    go None o_is some = let nothing : IsSome {T = List Cell} None = some in cc
-    go (Some cs) o_is some = subst (λ m. HasCells k d m) ((bytes-lawful e).decoded_len k n b cs (sym is ∙ o_is)) (HasCells-some k d cs o_is)
-
-pub leaf_into_refused : (e : Option Endianness) (k : Kind) (n : ℕ) (b : List ℕ) (error : CodecError) → RefusesDecoding (bytes_meaning_of e) k n b error → RefusesIntoDecoding ((bytes_meaning_of e).decoded k n b) error
-leaf_into_refused e k n b (codec.DoesNotFit _) why = why
-leaf_into_refused e k n b codec.SizeOverflow why = why
-leaf_into_refused e k n b codec.OutOfMemory why = why

@@ -1,21 +1,15 @@
 -- A shard in a target, one subchunk after another.
 use Rattle.std.proofs.Common.{◌≡◌, ℕ, zero, suc, ◌+◌, ◌-◌, ◌^◌, ◌<◌, Bool, true, false, cond, List, [], ◌∷◌, length, map, replicate, get_or, slice_get, Option, None, Some, inl, inr, refl, sym, ap, ◌∙◌, subst, arith}
-use Rattle.std.specs.Prelude.{All, slice_index, slice_index_or}
+use Rattle.std.specs.Prelude.{slice_index, slice_index_or}
 use Rattle.std.proofs.lemmas.Bool.{and_from, cases_lt, false≢true}
-use Rattle.std.proofs.lemmas.List.{get_or-replicate, length-map, length-replicate}
+use Rattle.std.proofs.lemmas.List.{get_or-replicate, length-replicate}
 use Rattle.std.proofs.lemmas.List.Sums.{AllPass-from_list_all, list_all-from_AllPass}
 use Rattle.zarrs_data_type.specs.ArrayData.{ArrayData}
 use Rattle.zarrs_data_type.specs.Cells.{cell_at}
-use Rattle.zarrs_codec_leaf.specs.declared.error.CodecError.{CodecError}
-use Rattle.zarrs_codec_leaf.specs.declared.error.CodecError.TheVariants as codec
 use Rattle.zarrs_metadata_parts.specs.Extension.{◌>>=◌}
-use Rattle.zarrs_codec_shard.specs.declared.shard_index.SubchunkRange.{SubchunkRange}
-use Rattle.zarrs_codec_shard.specs.declared.subchunks.Subchunks.{Subchunks}
-use Rattle.zarrs_codec_shard.specs.ShardIndex.{range_part, IsRangeWithin}
 use Rattle.zarrs_codec_shard.specs.Sharded.{SubchunkMeaning, cells_of_part, cells_of_parts, sharded_decoded, sharded_fits}
 use Rattle.zarrs_codec_shard.specs.Shards.{shard_parts}
 use Rattle.zarrs_codec_shard.specs.Steps.{all_present}
-use Rattle.zarrs_codec_shard.specs.SubchunkData.{chunk_shape, subchunk_shape}
 use Rattle.zarrs_codec_shard.specs.Subchunks.{assembled, corner, is_cut_by, quotients, remainders, subchunk_box, subchunk_count}
 use Rattle.zarrs_codec_shard.proofs.Cuts.{position_divided}
 use Rattle.zarrs_codec_shard.proofs.Grids.{corner_long}
@@ -23,7 +17,7 @@ use Rattle.zarrs_codec_shard.proofs.Missing.{all_present-cons, given_if-true}
 use Rattle.zarrs_codec_shard.proofs.ShardLaws.{length-shard_parts}
 use Rattle.zarrs_codec_shard.proofs.SubchunkBoxes.{lies_in_chunk, long_corner, only_own}
 use Rattle.zarrs_subset.specs.Boxes.{position_count, InShape, place, unravel, offset_by, offset_from, zip_with}
-use Rattle.zarrs_subset.specs.Regions.{Box, Holds, IsLong, LiesInShape, box_at_origin, box_from, in_box, place_in, shifted_box, LiesInBox}
+use Rattle.zarrs_subset.specs.Regions.{Box, Holds, IsLong, LiesInBox, LiesInShape, box_at_origin, box_from, in_box, place_in, shifted_box}
 use Rattle.zarrs_subset.proofs.Bytes.{holds_along}
 use Rattle.zarrs_subset.proofs.Kernel.{place_below}
 use Rattle.zarrs_subset.proofs.Overlaps.{length-zip_with}
@@ -37,39 +31,11 @@ use Rattle.zarrs_data_type.specs.Cell.{Cell, are_values, is_value, none, values_
 use Rattle.zarrs_data_type.specs.Kind.{Kind, fixed_size}
 use Rattle.zarrs_subset.proofs.Inside.{holds_inside}
 use Rattle.zarrs_codec_chain.specs.Parts.{DecodesInto}
-use Rattle.zarrs_codec_chain.specs.PartRefusals.{RefusesIntoDecoding}
-use Rattle.zarrs_codec_chain.specs.ShardInto.{DecodesPartInto, RefusesIntoStep}
+use Rattle.zarrs_codec_chain.specs.ShardInto.{DecodesPartInto}
 use Rattle.zarrs_codec_chain.specs.ShardParts.{DecodesAs, IsCellOf}
 use Rattle.zarrs_codec_chain.proofs.Stays.{cell_stays}
-use Rattle.zarrs_codec_chain.proofs.SubchunkSteps.{broken_shard, cell_of_whole, length-offset_from, own_holds, own_place, part_at}
+use Rattle.zarrs_codec_chain.proofs.SubchunkSteps.{cell_of_whole, length-offset_from, own_holds, own_place, part_at}
 use Rattle.zarrs_data_type_bytes.proofs.FixedSizes.{some_is}
-
--- ---- what is known of a shard
-
-pub record IsIntoShard (at_start : Bool) (s sub encoded : List ℕ) (subchunks : Subchunks) (count : ℕ) (ranges : List (Option SubchunkRange)) : Type 0 where
-  pub cut : is_cut_by s sub ≡ true
-  pub chunk : chunk_shape subchunks ≡ s
-  pub subchunk : subchunk_shape subchunks ≡ sub
-  pub count_is : count ≡ subchunk_count s sub
-  pub parts : shard_parts at_start (subchunk_count s sub) encoded ≡ Some (map (range_part encoded) ranges)
-  pub within : All (IsRangeWithin (length encoded)) ranges
-  pub counted : length ranges ≡ subchunk_count s sub
-
-pub shard_of : (at_start : Bool) (s sub encoded shape : List ℕ) (subchunks : Subchunks) (count : ℕ) (ranges : List (Option SubchunkRange)) → shape ≡ s → is_cut_by shape sub ≡ true → chunk_shape subchunks ≡ shape → subchunk_shape subchunks ≡ sub
-    → count ≡ subchunk_count (chunk_shape subchunks) (subchunk_shape subchunks) → shard_parts at_start count encoded ≡ Some (map (range_part encoded) ranges) → All (IsRangeWithin (length encoded)) ranges
-    → IsIntoShard at_start s sub encoded subchunks count ranges
-shard_of at_start s sub encoded shape subchunks count ranges is cut chunk subchunk counted parts within =
-    let number : count ≡ subchunk_count s sub = counted ∙ ap (λ x. subchunk_count x (subchunk_shape subchunks)) (chunk ∙ is) ∙ ap (subchunk_count s) subchunk in
-    let parts_are : shard_parts at_start (subchunk_count s sub) encoded ≡ Some (map (range_part encoded) ranges) = ap (λ n. shard_parts at_start n encoded) (sym number) ∙ parts in
-    record {
-      cut = ap (λ x. is_cut_by x sub) (sym is) ∙ cut;
-      chunk = chunk ∙ is;
-      subchunk = subchunk;
-      count_is = number;
-      parts = parts_are;
-      within = within;
-      counted = sym (length-map ranges (range_part encoded)) ∙ length-shard_parts at_start (subchunk_count s sub) encoded (map (range_part encoded) ranges) parts_are;
-    }
 
 -- ---- boxes of subchunks in an array
 
@@ -304,18 +270,6 @@ module _ (parent : List ℕ) (region : Box) (sub : List ℕ) (cut : is_cut_by re
           part_cell None j r p held own at d = ap Some (d p own)
           part_cell (Some b) j r p held own at d = λ cs decodes. d.has p own ∙ ap (λ l. slice_get l (place_in (own_box region sub j) p)) (some_is (sym d.decoded_is ∙ decodes)) ∙ ap (slice_get cs) at
 
--- ---- refusals
-
-pub into_refused : (k : Kind) (decoded : List ℕ → Option (List Cell)) (fill : Cell) (s sub : List ℕ) (m : SubchunkMeaning) (at_start : Bool) (encoded : List ℕ) (parts : List (Option (List ℕ))) (o : Option (List ℕ)) (n : ℕ) (e : CodecError)
-    → DecodesAs m decoded → shard_parts at_start (subchunk_count s sub) encoded ≡ Some parts → n < length parts → slice_index_or parts n None ≡ o → RefusesIntoStep decoded o e
-    → RefusesIntoDecoding (sharded_decoded m at_start k fill s sub encoded) e
-into_refused k decoded fill s sub m at_start encoded parts None n (codec.DoesNotFit _) as_is are lt is why = absurd why
-into_refused k decoded fill s sub m at_start encoded parts (Some b) n (codec.DoesNotFit _) as_is are lt is why = broken_shard k decoded fill s sub m at_start encoded parts as_is are (n, b, lt, is, why)
-into_refused k decoded fill s sub m at_start encoded parts None n codec.SizeOverflow as_is are lt is why = why
-into_refused k decoded fill s sub m at_start encoded parts (Some b) n codec.SizeOverflow as_is are lt is why = why
-into_refused k decoded fill s sub m at_start encoded parts None n codec.OutOfMemory as_is are lt is why = why
-into_refused k decoded fill s sub m at_start encoded parts (Some b) n codec.OutOfMemory as_is are lt is why = why
-
 -- ---- the same, of what the code has
 
 pub same_keeps : (size other_size : ℕ) (parent other_parent : List ℕ) (own other_own : Box) (old new : ArrayData) → other_size ≡ size → other_parent ≡ parent → other_own ≡ own
@@ -340,9 +294,5 @@ filled_part k parent region fill old new long lies fills p holds =
     fills p inside ∙ ap (λ b. cond b fill (cell_at k old (place_in (box_at_origin parent) p))) holds
 
 -- the box that the code has of a subchunk
-pub number_box : (at_start : Bool) (s sub encoded : List ℕ) (subchunks : Subchunks) (count : ℕ) (ranges : List (Option SubchunkRange)) (n : ℕ) (subset : Box) → IsIntoShard at_start s sub encoded subchunks count ranges
-    → subset ≡ subchunk_box (chunk_shape subchunks) (subchunk_shape subchunks) n → subset ≡ subchunk_box s sub n
-number_box at_start s sub encoded subchunks count ranges n subset shard is = is ∙ ap (λ x. subchunk_box x (subchunk_shape subchunks) n) shard.chunk ∙ ap (λ x. subchunk_box s x n) shard.subchunk
-
 pub own_box_is : (region subset own : Box) (sub start : List ℕ) (n : ℕ) → subset ≡ subchunk_box region.shape sub n → start ≡ region.start → own ≡ shifted_box subset start → own ≡ own_box region sub n
 own_box_is region subset own sub start n subset_is start_is is = is ∙ ap (λ b. shifted_box b start) subset_is ∙ ap (shifted_box (subchunk_box region.shape sub n)) start_is

@@ -13,4 +13,4 @@ pub mod SubchunkPieces
 pub mod SubchunkSteps
 pub mod SubchunkWalks
 pub mod Turns
-pub mod WholeParts
+pub mod AllOfIt

@@ -1,9 +1,8 @@
 -- Reads of parts of shards, one subchunk after another.
 use Rattle.std.proofs.Common.{◌≡◌, ℕ, zero, suc, ◌+◌, ◌-◌, ◌*◌, ◌<◌, ◌≤◌, Bool, true, false, cond, ◌&&◌, ◌||◌, List, [], ◌∷◌, ◌++◌, length, map, take, drop, replicate, get_or, slice_get, Option, None, Some, refl, sym, ap, ◌∙◌, subst, arith}
-use Rattle.std.specs.Prelude.{All, IfSome, slice_index, slice_index_or, nat_eq, nat_lt, nat_le, unwrap_or}
+use Rattle.std.specs.Prelude.{All, IfSome, slice_index, slice_index_or, nat_eq, nat_lt, nat_le}
 use Rattle.std.specs.Cmp.Lexicographic.{pointwise, same_text}
-use Rattle.std.specs.List.{list_any}
-use Rattle.std.proofs.lemmas.Bool.{and_from, eq-eqb, false≢true, lt-ltb, le-leb, or_left, or_right}
+use Rattle.std.proofs.lemmas.Bool.{and_from, eq-eqb, false≢true, lt-ltb, le-leb}
 use Rattle.std.proofs.lemmas.List.{drop-drop, drop-take, get_or-map, get_or-replicate, length-drop, length-map, length-replicate, length-take-le, take-take}
 use Rattle.std.proofs.lemmas.Option.{slice_get-get_or}
 use Rattle.zarrs_data_type.specs.ArrayData.{ArrayData}
@@ -16,7 +15,7 @@ use Rattle.zarrs_metadata_parts.specs.Extension.{◌>>=◌}
 use Rattle.zarrs_codec_chain.specs.Places.{index_places}
 use Rattle.zarrs_codec_leaf.specs.Sources.{MayRead, MayReadPlaces, window_bytes}
 use Rattle.zarrs_codec_leaf.specs.declared.source.Window.{Window}
-use Rattle.zarrs_codec_shard.specs.Sharded.{SubchunkMeaning, cells_of_part, cells_of_parts, part_leaves_out, sharded_decoded, sharded_fits, sharded_leaves_out}
+use Rattle.zarrs_codec_shard.specs.Sharded.{SubchunkMeaning, cells_of_part, cells_of_parts, sharded_decoded, sharded_fits}
 use Rattle.zarrs_codec_shard.proofs.ShardLaws.{length-shard_parts}
 use Rattle.zarrs_codec_shard.specs.Shards.{data_end, data_start, index_in, named_part, shard_parts}
 use Rattle.zarrs_codec_shard.specs.Steps.{all_present, given_if}
@@ -439,34 +438,20 @@ parts_placed at_start count may_read window index source start end read at named
 
 -- ---- refusals
 
-pub step_refused : (dec : Option (List Cell)) (Whole : Type 0) (decoded : List ℕ → Option (List Cell)) (TooLarge : List ℕ → Type 0) (parts : List (Option (List ℕ))) (refuses : Bool) (e : PartError)
+pub step_refused : (dec : Option (List Cell)) (Whole : Type 0) (decoded : List ℕ → Option (List Cell)) (TooLarge : ℕ → List ℕ → Type 0) (parts : List (Option (List ℕ))) (refuses : Bool) (e : PartError)
     → (IsBrokenShard decoded parts → dec ≡ None) → (HasTooLarge TooLarge parts → Whole) → RefusesStep decoded TooLarge parts refuses e → RefusesPartDecoding dec Whole refuses e
 step_refused dec Whole decoded TooLarge parts refuses (Codec (codec.DoesNotFit _)) broken large why = broken why
 step_refused dec Whole decoded TooLarge parts refuses (Codec codec.SizeOverflow) broken large why = large why
 step_refused dec Whole decoded TooLarge parts refuses (Codec codec.OutOfMemory) broken large why = why
 step_refused dec Whole decoded TooLarge parts refuses (Source e) broken large why = why
 
--- bytes of a shard of which a subchunk leaves out cells
-pub shard_left_out : (leaves_out : List ℕ → Bool) (at_start : Bool) (s sub encoded : List ℕ) (parts : List (Option (List ℕ))) → is_cut_by s sub ≡ true → shard_parts at_start (subchunk_count s sub) encoded ≡ Some parts
-    → list_any (part_leaves_out leaves_out) parts ≡ true → sharded_leaves_out leaves_out at_start s sub encoded ≡ true
-shard_left_out leaves_out at_start s sub encoded parts cut are any =
-    let n = subchunk_count s sub in
-    and_from (is_cut_by s sub) (list_any (part_leaves_out leaves_out) (unwrap_or (shard_parts at_start n encoded) [])) cut
-    (ap (λ o. list_any (part_leaves_out leaves_out) (unwrap_or o [])) are ∙ any)
-
--- one of the parts does
-pub left_out : (leaves_out : List ℕ → Bool) (parts : List (Option (List ℕ))) (n : ℕ) → n < length parts → part_leaves_out leaves_out (get_or parts n None) ≡ true → list_any (part_leaves_out leaves_out) parts ≡ true
-left_out leaves_out [] n lt at = absurd (omega arith)
-left_out leaves_out (p ∷ parts) zero lt at = or_left (part_leaves_out leaves_out p) (list_any (part_leaves_out leaves_out) parts) at
-left_out leaves_out (p ∷ parts) (suc n) lt at = or_right (part_leaves_out leaves_out p) (list_any (part_leaves_out leaves_out) parts) (left_out leaves_out parts n (omega arith) at)
-
 -- what the inner decoder refuses
-pub inner_refused : (decoded : List ℕ → Option (List Cell)) (TooLarge : List ℕ → Type 0) (parts : List (Option (List ℕ))) (n : ℕ) (encoded : List ℕ) (refuses : Bool) (e : PartError)
-    → n < length parts → slice_index_or parts n None ≡ Some encoded → RefusesPartDecoding (decoded encoded) (TooLarge encoded) refuses e → RefusesStep decoded TooLarge parts refuses e
-inner_refused decoded TooLarge parts n encoded refuses (Codec (codec.DoesNotFit _)) lt is why = (n, encoded, lt, is, why)
-inner_refused decoded TooLarge parts n encoded refuses (Codec codec.SizeOverflow) lt is why = record { number = n; encoded = encoded; below = lt; present = is; large = why }
-inner_refused decoded TooLarge parts n encoded refuses (Codec codec.OutOfMemory) lt is why = why
-inner_refused decoded TooLarge parts n encoded refuses (Source e) lt is why = why
+pub inner_refused : (decoded : List ℕ → Option (List Cell)) (TooLarge : ℕ → List ℕ → Type 0) (Large : Type 0) (parts : List (Option (List ℕ))) (n : ℕ) (encoded : List ℕ) (refuses : Bool) (e : PartError)
+    → n < length parts → slice_index_or parts n None ≡ Some encoded → (Large → TooLarge n encoded) → RefusesPartDecoding (decoded encoded) Large refuses e → RefusesStep decoded TooLarge parts refuses e
+inner_refused decoded TooLarge Large parts n encoded refuses (Codec (codec.DoesNotFit _)) lt is large why = (n, encoded, lt, is, why)
+inner_refused decoded TooLarge Large parts n encoded refuses (Codec codec.SizeOverflow) lt is large why = record { number = n; encoded = encoded; below = lt; present = is; large = large why }
+inner_refused decoded TooLarge Large parts n encoded refuses (Codec codec.OutOfMemory) lt is large why = why
+inner_refused decoded TooLarge Large parts n encoded refuses (Source e) lt is large why = why
 
 -- ---- what the code reads
 

@@ -1,7 +1,8 @@
 -- What a chain of codecs means: which bytes stand for the cells of a chunk.
-use Rattle.std.specs.Prelude.{◌≡◌, ◌≢◌, ℕ, ◌<◌, ◌^◌, Bool, true, false, Option, None, Some, List, length, replicate, is_some, option_and_then, ◌==◌, if◌then◌else◌}
-use Rattle.zarrs_data_type.specs.Kind.{Kind}
-use Rattle.zarrs_data_type.specs.Cell.{Cell, is_value, are_values}
+use Rattle.std.specs.Prelude.{◌≡◌, ◌≢◌, ℕ, ◌*◌, ◌<◌, ◌^◌, Bool, true, false, Option, None, Some, List, length, replicate, is_some, nat_le, option_and_then}
+use Rattle.std.specs.Prelude.{◌==◌, ◌&&◌, ◌||◌, if◌then◌else◌}
+use Rattle.zarrs_data_type.specs.Kind.{Kind, cell_size}
+use Rattle.zarrs_data_type.specs.Cell.{Cell, held_size, is_value, are_values}
 use Rattle.zarrs_data_type.specs.ArrayData.{ArrayData}
 use Rattle.zarrs_data_type.specs.Cells.{cells}
 use Rattle.zarrs_subset.specs.Boxes.{position_count}
@@ -9,6 +10,12 @@ use Rattle.zarrs_subset.specs.Regions.{Box}
 use Rattle.zarrs_codec_shard.specs.PartialShards.{PartialChange, after, IsUpdated}
 use Rattle.zarrs_codec_chain.specs.Deciding.{PlacesDecide}
 use Rattle.zarrs_codec_chain.specs.Places.{Places}
+
+-- whether a chunk is too large to be decoded whole: a usize does not count the bytes of its cells, or of its fill if its bytes
+-- leave out cells
+abbrev pub is_too_large : (leaves_out : Bool) → Kind → (fill : Cell) (shape : List ℕ) → Bool
+is_too_large leaves_out k f s =
+    nat_le (2 ^ 64) (position_count s * cell_size k) || (leaves_out && nat_le (2 ^ 64) (position_count s * held_size k f))
 
 -- A chain as functions of values. Everything that calls a chain speaks of it by these and their law.
 pub record ChainMeaning : Type 0 where
@@ -32,8 +39,8 @@ pub record ChainMeaning : Type 0 where
       → Option PartialChange
   -- the places of a chunk's bytes that a read of a part of its cells needs
   pub places : Places
-  -- the extents of what such a read decodes whole: the chunk, a subchunk, or nothing
-  pub decodes_whole : (shape : List ℕ) → Option (List ℕ)
+  -- whether something that such a read decodes whole is too large: the chunk, or a subchunk that the part meets
+  pub reads_too_large : (kind : Kind) (fill : Cell) (shape : List ℕ) (part : Box) (encoded : List ℕ) → Bool
   -- whether what stands at a key decodes where a write of this part reads it: its absence does, and what is too large to be
   -- decoded counts as if it did
   pub partly_decodes : (kind : Kind) (fill : Cell) (shape : List ℕ) (stored : Option (List ℕ)) (part : Box) → Bool
@@ -89,6 +96,9 @@ pub record IsLawfulChain (chain : ChainMeaning) : Type 0 where
   pub places_inside : (k : Kind) (s : List ℕ) (part : Box) (b : List ℕ) (place : ℕ) → chain.places k s part b place ≡ true → place < length b
   -- and these places decide its cells
   pub places_decide : PlacesDecide chain.decoded chain.places
+  -- nothing that it decodes whole is too large, if neither the chunk nor its fill is
+  pub reads_within : (k : Kind) (f : Cell) (s : List ℕ) (part : Box) (b : List ℕ)
+      → position_count s * cell_size k < 2 ^ 64 → position_count s * held_size k f < 2 ^ 64 → chain.reads_too_large k f s part b ≡ false
 
 -- the bytes of a chunk's data, if it is one cell for each position of the chunk
 abbrev pub chunk_encoding : ChainMeaning → Bool → Kind → Cell → List ℕ → ArrayData → Option (List ℕ)

@@ -9,3 +9,4 @@ pub mod PartRefusals
 pub mod ShardChains
 pub mod ShardInto
 pub mod ShardParts
+pub mod Chunks

@@ -19,3 +19,8 @@ abbrev pub RefusesIntoDecoding : (decoded : Option (List Cell)) → CodecError �
 RefusesIntoDecoding decoded (codec.DoesNotFit _) = decoded ≡ None
 RefusesIntoDecoding decoded codec.SizeOverflow = ⊥
 RefusesIntoDecoding decoded codec.OutOfMemory = Unit {0}
+
+-- the error of a chunk in memory, of which a part was read that is all of it
+abbrev pub IsWholeError : PartError → CodecError → Type 0
+IsWholeError (Codec e) made = made ≡ e
+IsWholeError (Source e) made = made ≡ codec.OutOfMemory

@@ -2,7 +2,7 @@
 use Rattle.std.specs.Prelude.{◌≡◌, ◌⊎◌, ℕ, ◌*◌, ◌≤◌, ◌^◌, Bool, true, false, List, length, Option, None, Some}
 use Rattle.zarrs_codec_leaf.specs.declared.error.CodecError.{CodecError}
 use Rattle.zarrs_codec_leaf.specs.declared.error.CodecError.TheVariants as error
-use Rattle.zarrs_data_type.specs.Kind.{Kind, cell_size}
+use Rattle.zarrs_data_type.specs.Kind.{Kind}
 use Rattle.zarrs_data_type.specs.Cell.{Cell, held_size}
 use Rattle.zarrs_data_type.specs.ArrayData.{ArrayData}
 use Rattle.zarrs_subset.specs.Boxes.{position_count}
@@ -27,12 +27,9 @@ RefusesCompaction chain s b (error.DoesNotFit _) = chain.compacted s b ≡ None
 RefusesCompaction chain s b error.SizeOverflow = (less : List ℕ) × (chain.compacted s b ≡ Some (Some less)) × (2 ^ 64 ≤ length less)
 RefusesCompaction chain s b error.OutOfMemory = Unit {0}
 
--- what a read of a part decodes whole has more bytes than a usize counts, or so has its fill, where the chunk's bytes leave
--- out cells
-abbrev pub IsTooLargeToDecode : ChainMeaning → Kind → Cell → (shape encoded : List ℕ) → Type 0
-IsTooLargeToDecode chain k f s b =
-    (whole : List ℕ) × (chain.decodes_whole s ≡ Some whole)
-    × ((2 ^ 64 ≤ position_count whole * cell_size k) ⊎ ((chain.leaves_out s b ≡ true) × (2 ^ 64 ≤ position_count whole * held_size k f)))
+-- something that a read of this part decodes whole is too large
+abbrev pub IsTooLargeToDecode : ChainMeaning → Kind → Cell → (shape : List ℕ) → (part : Box) → (encoded : List ℕ) → Type 0
+IsTooLargeToDecode chain k f s part b = chain.reads_too_large k f s part b ≡ true
 
 -- the type and the shape do not fit or what is stored does not decode; or it decodes where the part reads it, and a size is
 -- too large: of what is written, or of a subchunk that the part meets

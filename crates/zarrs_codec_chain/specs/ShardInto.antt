@@ -2,8 +2,6 @@
 use Rattle.std.specs.Prelude.{◌≡◌, ℕ, Option, None, Some, List}
 use Rattle.zarrs_data_type.specs.ArrayData.{ArrayData}
 use Rattle.zarrs_data_type.specs.Cells.{cell_at}
-use Rattle.zarrs_codec_leaf.specs.declared.error.CodecError.{CodecError}
-use Rattle.zarrs_codec_leaf.specs.declared.error.CodecError.TheVariants as codec
 use Rattle.zarrs_subset.specs.Regions.{Box, Holds, place_in}
 use Rattle.zarrs_data_type.specs.Cell.{Cell}
 use Rattle.zarrs_data_type.specs.Kind.{Kind}
@@ -13,10 +11,3 @@ use Rattle.zarrs_codec_chain.specs.Parts.{DecodesInto}
 abbrev pub DecodesPartInto : Kind → (List ℕ → Option (List Cell)) → (fill : Cell) → (box other : Box) → Option (List ℕ) → ArrayData → Type 0
 DecodesPartInto k decoded fill box other None held = (position : List ℕ) → Holds other position → cell_at k held (place_in box position) ≡ fill
 DecodesPartInto k decoded fill box other (Some encoded) held = DecodesInto k box other (decoded encoded) held
-
--- a subchunk that is present does not decode
-abbrev pub RefusesIntoStep : (List ℕ → Option (List Cell)) → Option (List ℕ) → CodecError → Type 0
-RefusesIntoStep decoded None (codec.DoesNotFit _) = ⊥
-RefusesIntoStep decoded (Some encoded) (codec.DoesNotFit _) = decoded encoded ≡ None
-RefusesIntoStep decoded part codec.SizeOverflow = ⊥
-RefusesIntoStep decoded part codec.OutOfMemory = Unit {0}

@@ -93,15 +93,15 @@ abbrev pub MeetsPart : (sub : List ℕ) → (part met : Box) → Type 0
 MeetsPart sub part met = (position : List ℕ) → Holds part position → Holds met (quotients position sub)
 
 -- what would be decoded whole of a subchunk that is present is too large
-pub record HasTooLarge (TooLarge : List ℕ → Type 0) (parts : List (Option (List ℕ))) : Type 0 where
+pub record HasTooLarge (TooLarge : (number : ℕ) (encoded : List ℕ) → Type 0) (parts : List (Option (List ℕ))) : Type 0 where
   pub number : ℕ
   pub encoded : List ℕ
   pub below : number < length parts
   pub present : slice_index_or parts number None ≡ Some encoded
-  pub large : TooLarge encoded
+  pub large : TooLarge number encoded
 
 -- why a subchunk is not read: one that is present does not decode, or is too large to be decoded, or the source refuses
-abbrev pub RefusesStep : (List ℕ → Option (List Cell)) → (TooLarge : List ℕ → Type 0)
+abbrev pub RefusesStep : (List ℕ → Option (List Cell)) → (TooLarge : (number : ℕ) (encoded : List ℕ) → Type 0)
     → List (Option (List ℕ)) → (refuses : Bool) → PartError → Type 0
 RefusesStep decoded TooLarge parts refuses (Codec (codec.DoesNotFit _)) = IsBrokenShard decoded parts
 RefusesStep decoded TooLarge parts refuses (Codec codec.SizeOverflow) = HasTooLarge TooLarge parts

@@ -1,6 +1,7 @@
 //! Parts of chunks under the codec `bytes`.
 ghost use Rattle.std.specs.Prelude.{◌≡◌, ◌↔◌, ◌*◌, ◌<◌, IfOk, IfErr, IsTrue};
 ghost use Rattle.zarrs_data_type.specs.ArrayData.{data_of};
+ghost use Rattle.zarrs_data_type.specs.Cells.{cells};
 ghost use Rattle.zarrs_codec_leaf.specs.Bytes.{bytes_meaning_of, endian_of};
 ghost use Rattle.zarrs_codec_leaf.specs.Sources.{IsWindow, MayRead, window_bytes};
 ghost use Rattle.zarrs_subset.specs.Boxes.{position_count};
@@ -41,6 +42,10 @@ pub fn partial_decode_bytes<B: ByteSource>(
     ensures part { IfOk result (λ made. DecodesPart (kind data_type.now) shape.now (box_of part.now)
         ((bytes_meaning_of (endian_of codec.now)).decoded (kind data_type.now)
         (position_count shape.now) (window_bytes window (B.bytes source.now))) (data_of made)) }
+    ensures whole { (box_of part.now).shape ≡ shape.now → IfOk result (λ made.
+        cells (kind data_type.now) (data_of made) ≡ (bytes_meaning_of (endian_of codec.now)).decoded
+        (kind data_type.now) (position_count shape.now)
+        (window_bytes window (B.bytes source.now))) }
     ensures refused { IfErr result (RefusesPartDecoding
         ((bytes_meaning_of (endian_of codec.now)).decoded (kind data_type.now)
         (position_count shape.now) (window_bytes window (B.bytes source.now))) ⊥

@@ -1,28 +1,27 @@
 //! Parts of chunks under the codec `bytes` that are decoded into a box that a caller lends.
 ghost use Rattle.std.specs.Prelude.{◌≡◌, ℕ, ◌+◌, ◌*◌, ◌<◌, ◌≤◌, false, true, List, length};
-ghost use Rattle.std.specs.Prelude.{IfErr, IsTrue, OnOk, map, reverse, slice_index, slice_range};
+ghost use Rattle.std.specs.Prelude.{IfErr, IsSome, IsTrue, OnOk, map, reverse, slice_index, slice_range};
 ghost use Rattle.std.specs.List.{flat_map};
 ghost use Rattle.zarrs_codec_leaf.specs.Bytes.{bytes_meaning_of, endian_of, reverses};
 ghost use Rattle.zarrs_codec_leaf.specs.Sources.{IsWindow, MayRead, window_bytes};
 ghost use Rattle.zarrs_subset.specs.Boxes.{BoxFits, position_count};
 ghost use Rattle.zarrs_subset.specs.Cells.{BoxCopied};
 ghost use Rattle.zarrs_subset.specs.Regions.{LiesInShape, box_of};
-ghost use Rattle.zarrs_data_type.specs.States.{IsTarget, SameBox, StaysOutside, data_of_target};
+ghost use Rattle.zarrs_data_type.specs.States.{IsSameTarget, KeepsTarget, data_of_target};
 ghost use Rattle.zarrs_data_type.specs.States.{parent_box, target_box};
 ghost use Rattle.zarrs_data_type.specs.Targets.{takes_type};
 ghost use Rattle.zarrs_data_type.specs.Kind.{kind};
 ghost use Rattle.zarrs_codec_chain.specs.BytesInto.{AreCells, IsTurned, PutsPart};
-ghost use Rattle.zarrs_codec_chain.specs.Parts.{DecodesInto, DecodesPartAt};
+ghost use Rattle.zarrs_codec_chain.specs.Parts.{DecodesPartAt};
 ghost use Rattle.zarrs_codec_chain.specs.Places.{cell_places};
-ghost use Rattle.zarrs_codec_chain.specs.PartRefusals.{RefusesIntoDecoding, RefusesPartDecoding};
+ghost use Rattle.zarrs_codec_chain.specs.PartRefusals.{RefusesPartDecoding};
 
 use crate::bytes::{is_length_of, partial_decode_bytes};
 use crate::error::PartError;
-use crate::whole::write_whole;
 use std::alloc::Global;
-use zarrs_codec_leaf::{ByteSource, BytesCodec, CodecError, Endianness, LeafCodec, Window};
+use zarrs_codec_leaf::{ByteSource, BytesCodec, Endianness, LeafCodec, Window};
 use zarrs_data_type::{ArrayBytesDecodeIntoTarget, DataType};
-use zarrs_subset::{ArraySubset, Corner, copy_box, element_count};
+use zarrs_subset::{ArraySubset, Corner, copy_box};
 
 /// A part of more dimensions is decoded by way of a list.
 const MOST_DIMENSIONS: usize = 64;
@@ -50,18 +49,16 @@ pub fn partial_decode_bytes_into<B: ByteSource>(
     requires may_read { MayRead (B.may_read source.now) window
         (cell_places (kind data_type.now) shape.now (box_of part.now)
         (window_bytes window (B.bytes source.now))) }
-    requires target { IsTarget target.old }
     requires takes { takes_type target.old.cell_size target.old.depth (kind data_type.now) ≡ true }
     requires same_shape { (target_box target.old).shape ≡ (box_of part.now).shape }
-    ensures target { IsTarget target.new }
-    ensures same_bytes { target.new.bytes.ghost_name ≡ target.old.bytes.ghost_name }
-    ensures same_masks { target.new.masks.ghost_name ≡ target.old.masks.ghost_name }
-    ensures same_box { SameBox target.old target.new }
+    ensures kept { KeepsTarget target.old target.new }
     ensures cells { OnOk result (DecodesPartAt (kind data_type.now) shape.now (box_of part.now)
         ((bytes_meaning_of (endian_of codec.now)).decoded (kind data_type.now)
         (position_count shape.now) (window_bytes window (B.bytes source.now)))
         (parent_box target.old) (target_box target.old) (data_of_target target.new)) }
-    ensures outside { StaysOutside target.old target.new }
+    ensures whole { (box_of part.now).shape ≡ shape.now → OnOk result (IsSome
+        ((bytes_meaning_of (endian_of codec.now)).decoded (kind data_type.now)
+        (position_count shape.now) (window_bytes window (B.bytes source.now)))) }
     ensures refused { IfErr result (RefusesPartDecoding
         ((bytes_meaning_of (endian_of codec.now)).decoded (kind data_type.now)
         (position_count shape.now) (window_bytes window (B.bytes source.now))) ⊥
@@ -79,51 +76,6 @@ pub fn partial_decode_bytes_into<B: ByteSource>(
     Ok(())
 }
 
-/// Decodes a chunk under the codec `bytes`, which has the shape of the target's box, into the box. Every byte outside the
-/// box stays; after a refusal the inside is open.
-///
-/// Numbers and raw cells go straight to their places, in at most 64 dimensions. Otherwise the cells are decoded, and then
-/// written.
-///
-/// # Errors
-/// `DoesNotFit` if the codec does not take the type, or if the bytes are not as many values of it. `OutOfMemory` may come
-/// at any time.
-pub fn decode_bytes_into(
-    codec: &BytesCodec,
-    alloc: Global,
-    encoded: &[u8],
-    data_type: &DataType,
-    target: &mut ArrayBytesDecodeIntoTarget<'_, '_, '_>,
-) -> Result<(), CodecError>
-    requires target { IsTarget target.old }
-    requires takes { takes_type target.old.cell_size target.old.depth (kind data_type.now) ≡ true }
-    ensures target { IsTarget target.new }
-    ensures same_bytes { target.new.bytes.ghost_name ≡ target.old.bytes.ghost_name }
-    ensures same_masks { target.new.masks.ghost_name ≡ target.old.masks.ghost_name }
-    ensures same_box { SameBox target.old target.new }
-    ensures cells { OnOk result (DecodesInto (kind data_type.now) (parent_box target.old)
-        (target_box target.old) ((bytes_meaning_of (endian_of codec.now)).decoded
-        (kind data_type.now) (position_count (target_box target.old).shape) encoded.now)
-        (data_of_target target.new)) }
-    ensures outside { StaysOutside target.old target.new }
-    ensures refused { IfErr result (RefusesIntoDecoding
-        ((bytes_meaning_of (endian_of codec.now)).decoded (kind data_type.now)
-        (position_count (target_box target.old).shape) encoded.now)) }
-{
-    let region = target.region;
-    let shape = region.shape();
-    if has_rows(region) && are_cells(codec, encoded.len() as u64, data_type, shape) {
-        let whole = ArraySubset::new_with_shape(alloc, Vec::from_slice(alloc, shape)?)?;
-        put_part(codec, encoded, shape, &whole, data_type, target);
-        return Ok(());
-    }
-    let Some(count) = element_count(shape) else {
-        unreachable!()
-    };
-    let cells = codec.decode(alloc, encoded, data_type, count)?;
-    Ok(write_whole(alloc, &cells, data_type, target)?)
-}
-
 /// Puts the cells of a part of an array of this shape, whose bytes are in the codec's order, into the target's box. Every
 /// byte outside the box stays.
 fn put_part(
@@ -135,14 +87,10 @@ fn put_part(
     target: &mut ArrayBytesDecodeIntoTarget<'_, '_, '_>,
 )
     requires part { LiesInShape (box_of part.now) shape.now }
-    requires target { IsTarget target.old }
     requires takes { takes_type target.old.cell_size target.old.depth (kind data_type.now) ≡ true }
     requires same_shape { (target_box target.old).shape ≡ (box_of part.now).shape }
     requires array_len { length array.now ≡ position_count shape.now * target.old.cell_size }
-    ensures target { IsTarget target.new }
-    ensures same_bytes { target.new.bytes.ghost_name ≡ target.old.bytes.ghost_name }
-    ensures same_masks { target.new.masks.ghost_name ≡ target.old.masks.ghost_name }
-    ensures same_box { SameBox target.old target.new }
+    ensures same { IsSameTarget target.old target.new }
     ensures masks { target.new.masks.now ≡ target.old.masks.now }
     ensures put { PutsPart (reverses (endian_of codec.now) (kind data_type.now))
         target.old.cell_size shape.now (box_of part.now) target.old.parent_shape.now
@@ -170,13 +118,9 @@ fn copy_part(
     target: &mut ArrayBytesDecodeIntoTarget<'_, '_, '_>,
 )
     requires part { LiesInShape (box_of part.now) shape.now }
-    requires target { IsTarget target.old }
     requires same_shape { (target_box target.old).shape ≡ (box_of part.now).shape }
     requires array_len { length array.now ≡ position_count shape.now * target.old.cell_size }
-    ensures target { IsTarget target.new }
-    ensures same_bytes { target.new.bytes.ghost_name ≡ target.old.bytes.ghost_name }
-    ensures same_masks { target.new.masks.ghost_name ≡ target.old.masks.ghost_name }
-    ensures same_box { SameBox target.old target.new }
+    ensures same { IsSameTarget target.old target.new }
     ensures masks { target.new.masks.now ≡ target.old.masks.now }
     ensures put { PutsPart false target.old.cell_size shape.now (box_of part.now)
         target.old.parent_shape.now (target_box target.old) array.now target.old.bytes.now
@@ -212,13 +156,9 @@ fn turn_part<T: Turning<N>, const N: usize>(
     requires small { N < 9 }
     requires size { target.old.cell_size ≡ N }
     requires part { LiesInShape (box_of part.now) shape.now }
-    requires target { IsTarget target.old }
     requires same_shape { (target_box target.old).shape ≡ (box_of part.now).shape }
     requires array_len { length array.now ≡ position_count shape.now * target.old.cell_size }
-    ensures target { IsTarget target.new }
-    ensures same_bytes { target.new.bytes.ghost_name ≡ target.old.bytes.ghost_name }
-    ensures same_masks { target.new.masks.ghost_name ≡ target.old.masks.ghost_name }
-    ensures same_box { SameBox target.old target.new }
+    ensures same { IsSameTarget target.old target.new }
     ensures masks { target.new.masks.now ≡ target.old.masks.now }
     ensures put { PutsPart true target.old.cell_size shape.now (box_of part.now)
         target.old.parent_shape.now (target_box target.old) array.now target.old.bytes.now

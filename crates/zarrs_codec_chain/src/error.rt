@@ -1,6 +1,7 @@
 //! Why a part of a chunk is not read.
 ghost use Rattle.std.specs.Prelude.{◌≡◌};
 ghost use Rattle.zarrs_codec_leaf.specs.declared.error.CodecError.TheVariants.{OutOfMemory};
+ghost use Rattle.zarrs_codec_chain.specs.PartRefusals.{IsWholeError};
 ghost use Rattle.zarrs_codec_chain.specs.declared.error.PartError.TheVariants as part;
 
 use std::alloc::{AllocError, AllocFailed};
@@ -40,5 +41,15 @@ impl From<AllocError> for PartError {
 
     fn from(_error: AllocError) -> PartError {
         PartError::Codec(CodecError::OutOfMemory)
+    }
+}
+
+/// Why a chunk in memory is not read, which refuses only out of memory.
+pub(crate) fn whole_error(error: PartError) -> CodecError
+    ensures { IsWholeError error result }
+{
+    match error {
+        PartError::Codec(error) => error,
+        PartError::Source(_) => CodecError::OutOfMemory,
     }
 }

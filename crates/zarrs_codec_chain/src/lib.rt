@@ -6,8 +6,9 @@
 //!
 //! The ghost member `meaning` of `ChainTraits` is a `ChainMeaning` of `specs/Chain.antt`, and its law is
 //! `IsLawfulChain`. `encoded` and `decoded` are the bytes of cells and the cells of bytes. `places` says which bytes
-//! a read of a part needs, and `specs/Places.antt` defines it. `specs/Parts.antt` says what such a read returns
-//! (`DecodesPart`), and what it leaves in a target (`DecodesInto`, `DecodesPartAt`).
+//! a read of a part needs, and `specs/Places.antt` defines it; `reads_too_large` says whether it decodes too much.
+//! `specs/Parts.antt` says what such a read returns (`DecodesPart`), and what it leaves in a target (`DecodesInto`,
+//! `DecodesPartAt`). `specs/Chunks.antt` has the words of a chain and a chunk, as `decoded_of` and `RefusesToDecode`.
 #![tactic(auto)]
 
 mod bytes;
@@ -19,7 +20,7 @@ mod traits;
 mod whole;
 
 pub use bytes::partial_decode_bytes;
-pub use bytes_into::{decode_bytes_into, partial_decode_bytes_into};
+pub use bytes_into::partial_decode_bytes_into;
 pub use error::PartError;
 pub use options::{
     CodecMetadataOptions, CodecOptions, CodecSpecificOptions, ShardingCodecOptions,
@@ -27,4 +28,4 @@ pub use options::{
 };
 pub use shard::{ShardIndex, common_part, met_subchunks, open_shard, seen_from_corner, shifted_to};
 pub use traits::ChainTraits;
-pub use whole::{part_of_whole, write_whole};
+pub use whole::part_of_whole;

@@ -4,31 +4,30 @@ ghost use Rattle.std.specs.Prelude.{length, option_map, OnOk};
 ghost use Rattle.zarrs_subset.specs.Boxes.{position_count};
 ghost use Rattle.zarrs_subset.specs.Regions.{box_of, LiesInShape};
 ghost use Rattle.zarrs_codec_leaf.specs.Sources.{IsWindow, MayRead, window_bytes};
-ghost use Rattle.zarrs_data_type.specs.States.{IsTarget, SameBox, StaysOutside, data_of_target};
-ghost use Rattle.zarrs_data_type.specs.States.{parent_box, target_box};
+ghost use Rattle.zarrs_data_type.specs.States.{KeepsTarget, target_box};
 ghost use Rattle.zarrs_data_type.specs.Targets.{takes_type};
-ghost use Rattle.zarrs_codec_chain.specs.Parts.{DecodesInto, DecodesPart, DecodesPartAt};
-ghost use Rattle.zarrs_codec_chain.specs.PartRefusals.{RefusesIntoDecoding, RefusesPartDecoding};
+ghost use Rattle.zarrs_codec_chain.specs.PartRefusals.{RefusesIntoDecoding};
 ghost use Rattle.zarrs_codec_shard.specs.ShardPatches.{change_of};
+ghost use Rattle.zarrs_data_type.specs.CellTypes.{kind_of, chunk_kind, shape_of};
 ghost use Rattle.zarrs_data_type.specs.Kind.{kind, cell_size};
-ghost use Rattle.zarrs_data_type.specs.Cell.{fill_cell, fill_of};
 ghost use Rattle.zarrs_data_type.specs.ArrayData.{data_of};
 ghost use Rattle.zarrs_data_type.specs.Cells.{cells, HasCells};
-ghost use Rattle.zarrs_codec_chain.specs.Chain.{ChainMeaning, IsLawfulChain, chunk_encoding, partial_encoding};
-ghost use Rattle.zarrs_codec_chain.specs.Refusals.{RefusesChunkEncoding, RefusesChunkDecoding};
-ghost use Rattle.zarrs_codec_chain.specs.Refusals.{IsTooLargeToDecode, RefusesCompaction, RefusesPartialEncoding};
+ghost use Rattle.zarrs_codec_chain.specs.Chain.{ChainMeaning, IsLawfulChain};
+ghost use Rattle.zarrs_codec_chain.specs.Chunks.{decoded_in, decoded_of, encoding_as, partial_encoding_as};
+ghost use Rattle.zarrs_codec_chain.specs.Chunks.{HoldsChunk, HoldsPart, HoldsPartAt, RefusesToDecode};
+ghost use Rattle.zarrs_codec_chain.specs.Chunks.{RefusesToDecodePart, RefusesToEncode, RefusesToEncodePart};
+ghost use Rattle.zarrs_codec_chain.specs.Refusals.{RefusesCompaction};
 ghost use Rattle.zarrs_codec_chain.specs.Options.{stores_empty_chunks};
 
-use crate::error::PartError;
+use crate::error::{PartError, whole_error};
 use crate::options::CodecOptions;
 use std::alloc::{AllocError, Global};
-use zarrs_codec_leaf::{ByteSource, CodecError, Window};
+use zarrs_codec_leaf::{ByteSource, CodecError, SliceSource, Window};
 use zarrs_codec_shard::PartialWrite;
-use zarrs_data_type::{ArrayBytes, ArrayBytesDecodeIntoTarget, DataType, FillValue};
+use zarrs_data_type::{ArrayBytes, ArrayBytesDecodeIntoTarget, CellType, ChunkType, DataType};
 use zarrs_subset::ArraySubset;
 
 /// A chain of codecs, which turns the cells of a chunk into bytes and back (Zarr V3 core specification, "Codecs").
-/// A shape has the chunk's extents, and the fill value is one of the data type.
 pub trait ChainTraits {
     /// Which bytes stand for which cells.
     ghost meaning: { Self → ChainMeaning };
@@ -41,7 +40,7 @@ pub trait ChainTraits {
         ensures { IfOk result (λ fits. fits ≡ (meaning self.now).fits (kind data_type.now)
             shape.now) };
 
-    /// The bytes of a chunk's cells. `shape` has the chunk's extents, `bytes` its cells in row-major order.
+    /// The bytes of a chunk's cells, which `bytes` has in row-major order.
     ///
     /// # Errors
     /// In this order: `DoesNotFit` if the chain does not take the type and the shape; `SizeOverflow` if a size is too
@@ -50,22 +49,15 @@ pub trait ChainTraits {
         &self,
         alloc: Global,
         bytes: &ArrayBytes<'_>,
-        data_type: &DataType,
-        fill_value: &FillValue,
-        shape: &[u64],
+        chunk: &ChunkType<'_>,
         options: &CodecOptions,
     ) -> Result<Vec<u8>, CodecError>
-        requires filled { IsSome (fill_cell (kind data_type.now) fill_value.now) }
-        requires cells { HasCells (kind data_type.now) (data_of bytes.now)
-            (position_count shape.now) }
-        ensures encoded { IfOk result (λ encoded.
-            chunk_encoding (meaning self.now) (stores_empty_chunks options.now) (kind data_type.now)
-            (fill_of (kind data_type.now) fill_value.now) shape.now (data_of bytes.now)
-            ≡ Some encoded.items) }
-        ensures refused { IfErr result
-            (RefusesChunkEncoding (meaning self.now) (stores_empty_chunks options.now)
-            (kind data_type.now) (fill_of (kind data_type.now) fill_value.now) shape.now
-            (data_of bytes.now)) };
+        requires { HasCells (chunk_kind chunk.now) (data_of bytes.now)
+            (position_count (shape_of chunk.now)) }
+        ensures encoded { IfOk result (λ encoded. encoding_as (meaning self.now)
+            (stores_empty_chunks options.now) chunk.now (data_of bytes.now) ≡ Some encoded.items) }
+        ensures refused { IfErr result (RefusesToEncode (meaning self.now)
+            (stores_empty_chunks options.now) chunk.now (data_of bytes.now)) };
 
     /// The bytes of a chunk's cells, which are given away: a chain that would put owned bytes down as they are takes
     /// them, and copies none.
@@ -76,21 +68,15 @@ pub trait ChainTraits {
         &self,
         alloc: Global,
         bytes: ArrayBytes<'_>,
-        data_type: &DataType,
-        fill_value: &FillValue,
-        shape: &[u64],
+        chunk: &ChunkType<'_>,
         options: &CodecOptions,
     ) -> Result<Vec<u8>, CodecError>
-        requires filled { IsSome (fill_cell (kind data_type.now) fill_value.now) }
-        requires cells { HasCells (kind data_type.now) (data_of bytes) (position_count shape.now) }
-        ensures encoded { IfOk result (λ encoded.
-            chunk_encoding (meaning self.now) (stores_empty_chunks options.now) (kind data_type.now)
-            (fill_of (kind data_type.now) fill_value.now) shape.now (data_of bytes.entry)
-            ≡ Some encoded.items) }
-        ensures refused { IfErr result
-            (RefusesChunkEncoding (meaning self.now) (stores_empty_chunks options.now)
-            (kind data_type.now) (fill_of (kind data_type.now) fill_value.now) shape.now
-            (data_of bytes.entry)) };
+        requires { HasCells (chunk_kind chunk.now) (data_of bytes)
+            (position_count (shape_of chunk.now)) }
+        ensures encoded { IfOk result (λ encoded. encoding_as (meaning self.now)
+            (stores_empty_chunks options.now) chunk.now (data_of bytes.entry) ≡ Some encoded.items) }
+        ensures refused { IfErr result (RefusesToEncode (meaning self.now)
+            (stores_empty_chunks options.now) chunk.now (data_of bytes.entry)) };
 
     /// The cells of a chunk's bytes. They may be lent by these bytes, so that a caller who takes a part of them copies
     /// that part alone.
@@ -102,54 +88,42 @@ pub trait ChainTraits {
         &self,
         alloc: Global,
         encoded: &'a [u8],
-        data_type: &DataType,
-        fill_value: &FillValue,
-        shape: &[u64],
+        chunk: &ChunkType<'_>,
     ) -> Result<ArrayBytes<'a>, CodecError>
-        requires filled { IsSome (fill_cell (kind data_type.now) fill_value.now) }
-        requires size { position_count shape.now * cell_size (kind data_type.now) < 2 ^ 64 }
-        ensures cells { IfOk result (λ made. cells (kind data_type.now) (data_of made)
-            ≡ (meaning self.now).decoded (kind data_type.now)
-            (fill_of (kind data_type.now) fill_value.now) shape.now encoded.now) }
-        ensures some { IfOk result (λ made. IsSome (cells (kind data_type.now) (data_of made))) }
-        ensures refused { IfErr result (RefusesChunkDecoding (meaning self.now) (kind data_type.now)
-            (fill_of (kind data_type.now) fill_value.now) shape.now encoded.now) };
+        requires size { position_count (shape_of chunk.now) * cell_size (chunk_kind chunk.now)
+            < 2 ^ 64 }
+        ensures cells { IfOk result (λ made. cells (chunk_kind chunk.now) (data_of made)
+            ≡ decoded_of (meaning self.now) chunk.now encoded.now) }
+        ensures some { IfOk result (λ made. IsSome (cells (chunk_kind chunk.now) (data_of made))) }
+        ensures refused { IfErr result (RefusesToDecode (meaning self.now) chunk.now encoded.now) };
 
     /// The cells of a part of a chunk whose bytes are those of a window of a source. No other bytes are read than those
     /// that the part needs.
     ///
     /// # Errors
     /// `Codec(DoesNotFit)` if the bytes do not decode, though a part of them may; `Codec(SizeOverflow)` if what the chain
-    /// decodes whole is too large, the chunk or a subchunk: its cells, or its fill if the bytes leave out cells; `Source` if
-    /// the source refuses. Which comes if several hold is open. `Codec(OutOfMemory)` may come at any time.
+    /// decodes whole for this part is too large, the chunk or a subchunk that the part meets: its cells, or its fill if its
+    /// bytes leave out cells; `Source` if the source refuses. Which comes if several hold is open. `Codec(OutOfMemory)` may
+    /// come at any time.
     fn partial_decode<B: ByteSource>(
         &self,
         alloc: Global,
         source: &B,
         window: Window,
         part: &ArraySubset,
-        data_type: &DataType,
-        fill_value: &FillValue,
-        shape: &[u64],
+        chunk: &ChunkType<'_>,
     ) -> Result<ArrayBytes<'static>, PartError>
-        requires filled { IsSome (fill_cell (kind data_type.now) fill_value.now) }
-        requires size { position_count (box_of part.now).shape * cell_size (kind data_type.now)
+        requires size { position_count (box_of part.now).shape * cell_size (chunk_kind chunk.now)
             < 2 ^ 64 }
-        requires part { LiesInShape (box_of part.now) shape.now }
+        requires part { LiesInShape (box_of part.now) (shape_of chunk.now) }
         requires window { IsWindow window (B.bytes source.now) }
         requires may_read { MayRead (B.may_read source.now) window ((meaning self.now).places
-            (kind data_type.now) shape.now (box_of part.now)
+            (chunk_kind chunk.now) (shape_of chunk.now) (box_of part.now)
             (window_bytes window (B.bytes source.now))) }
-        ensures cells { IfOk result (λ made. DecodesPart (kind data_type.now) shape.now
-            (box_of part.now) ((meaning self.now).decoded (kind data_type.now)
-            (fill_of (kind data_type.now) fill_value.now) shape.now
-            (window_bytes window (B.bytes source.now))) (data_of made)) }
-        ensures refused { IfErr result (RefusesPartDecoding ((meaning self.now).decoded
-            (kind data_type.now) (fill_of (kind data_type.now) fill_value.now) shape.now
-            (window_bytes window (B.bytes source.now)))
-            (IsTooLargeToDecode (meaning self.now) (kind data_type.now)
-            (fill_of (kind data_type.now) fill_value.now) shape.now
-            (window_bytes window (B.bytes source.now))) (B.refuses source.now)) };
+        ensures cells { IfOk result (λ made. HoldsPart (meaning self.now) chunk.now
+            (box_of part.now) (window_bytes window (B.bytes source.now)) (data_of made)) }
+        ensures refused { IfErr result (RefusesToDecodePart (meaning self.now) chunk.now
+            (box_of part.now) (window_bytes window (B.bytes source.now)) (B.refuses source.now)) };
 
     /// Decodes a part of a chunk, which has the shape of the target's box, into the box. The chunk's bytes are those of a
     /// window of a source. No other bytes are read than those that the part needs. Every byte outside the box stays; after
@@ -163,37 +137,24 @@ pub trait ChainTraits {
         source: &B,
         window: Window,
         part: &ArraySubset,
-        data_type: &DataType,
-        fill_value: &FillValue,
-        shape: &[u64],
+        chunk: &ChunkType<'_>,
         target: &mut ArrayBytesDecodeIntoTarget<'_, '_, '_>,
     ) -> Result<(), PartError>
-        requires filled { IsSome (fill_cell (kind data_type.now) fill_value.now) }
-        requires part { LiesInShape (box_of part.now) shape.now }
+        requires part { LiesInShape (box_of part.now) (shape_of chunk.now) }
         requires window { IsWindow window (B.bytes source.now) }
         requires may_read { MayRead (B.may_read source.now) window ((meaning self.now).places
-            (kind data_type.now) shape.now (box_of part.now)
+            (chunk_kind chunk.now) (shape_of chunk.now) (box_of part.now)
             (window_bytes window (B.bytes source.now))) }
-        requires target { IsTarget target.old }
-        requires takes { takes_type target.old.cell_size target.old.depth (kind data_type.now)
+        requires takes { takes_type target.old.cell_size target.old.depth (chunk_kind chunk.now)
             ≡ true }
         requires same_shape { (target_box target.old).shape ≡ (box_of part.now).shape }
-        ensures target { IsTarget target.new }
-        ensures same_bytes { target.new.bytes.ghost_name ≡ target.old.bytes.ghost_name }
-        ensures same_masks { target.new.masks.ghost_name ≡ target.old.masks.ghost_name }
-        ensures same_box { SameBox target.old target.new }
-        ensures cells { OnOk result (DecodesPartAt (kind data_type.now) shape.now (box_of part.now)
-            ((meaning self.now).decoded (kind data_type.now)
-            (fill_of (kind data_type.now) fill_value.now) shape.now
-            (window_bytes window (B.bytes source.now))) (parent_box target.old)
-            (target_box target.old) (data_of_target target.new)) }
-        ensures outside { StaysOutside target.old target.new }
-        ensures refused { IfErr result (RefusesPartDecoding ((meaning self.now).decoded
-            (kind data_type.now) (fill_of (kind data_type.now) fill_value.now) shape.now
-            (window_bytes window (B.bytes source.now)))
-            (IsTooLargeToDecode (meaning self.now) (kind data_type.now)
-            (fill_of (kind data_type.now) fill_value.now) shape.now
-            (window_bytes window (B.bytes source.now))) (B.refuses source.now)) };
+        ensures kept { KeepsTarget target.old target.new }
+        ensures cells { OnOk result (HoldsPartAt (meaning self.now) chunk.now (box_of part.now)
+            (window_bytes window (B.bytes source.now)) target.old target.new) }
+        ensures whole { (box_of part.now).shape ≡ shape_of chunk.now → OnOk result (IsSome
+            (decoded_of (meaning self.now) chunk.now (window_bytes window (B.bytes source.now)))) }
+        ensures refused { IfErr result (RefusesToDecodePart (meaning self.now) chunk.now
+            (box_of part.now) (window_bytes window (B.bytes source.now)) (B.refuses source.now)) };
 
     /// Decodes a chunk, which has the shape of the target's box, into the box. Every byte outside the box stays; after a
     /// refusal the inside is open.
@@ -204,26 +165,30 @@ pub trait ChainTraits {
         &self,
         alloc: Global,
         encoded: &[u8],
-        data_type: &DataType,
-        fill_value: &FillValue,
+        cell_type: &CellType,
         target: &mut ArrayBytesDecodeIntoTarget<'_, '_, '_>,
     ) -> Result<(), CodecError>
-        requires filled { IsSome (fill_cell (kind data_type.now) fill_value.now) }
-        requires target { IsTarget target.old }
-        requires takes { takes_type target.old.cell_size target.old.depth (kind data_type.now)
+        requires takes { takes_type target.old.cell_size target.old.depth (kind_of cell_type.now)
             ≡ true }
-        ensures target { IsTarget target.new }
-        ensures same_bytes { target.new.bytes.ghost_name ≡ target.old.bytes.ghost_name }
-        ensures same_masks { target.new.masks.ghost_name ≡ target.old.masks.ghost_name }
-        ensures same_box { SameBox target.old target.new }
-        ensures cells { OnOk result (DecodesInto (kind data_type.now) (parent_box target.old)
-            (target_box target.old) ((meaning self.now).decoded (kind data_type.now)
-            (fill_of (kind data_type.now) fill_value.now) (target_box target.old).shape encoded.now)
-            (data_of_target target.new)) }
-        ensures outside { StaysOutside target.old target.new }
-        ensures refused { IfErr result (RefusesIntoDecoding ((meaning self.now).decoded
-            (kind data_type.now) (fill_of (kind data_type.now) fill_value.now)
-            (target_box target.old).shape encoded.now)) };
+        ensures kept { KeepsTarget target.old target.new }
+        ensures cells { OnOk result (HoldsChunk (meaning self.now) cell_type.now encoded.now
+            target.old target.new) }
+        ensures refused { IfErr result (RefusesIntoDecoding
+            (decoded_in (meaning self.now) cell_type.now target.old encoded.now)) }
+    {
+        let shape = target.region.shape();
+        let chunk = ChunkType { cell_type, shape };
+        let whole = ArraySubset::new_with_shape(alloc, Vec::from_slice(alloc, shape)?)?;
+        let source = SliceSource { bytes: encoded };
+        let window = Window {
+            offset: 0,
+            len: encoded.len() as u64,
+        };
+        match self.partial_decode_into(alloc, &source, window, &whole, &chunk, target) {
+            Ok(()) => Ok(()),
+            Err(error) => Err(whole_error(error)),
+        }
+    }
 
     /// The bytes of the same cells without what no cell needs, or `None` if those are the same bytes.
     ///
@@ -259,24 +224,19 @@ pub trait ChainTraits {
         stored: Option<&[u8]>,
         part: &ArraySubset,
         bytes: &ArrayBytes<'_>,
-        data_type: &DataType,
-        fill_value: &FillValue,
-        shape: &[u64],
+        chunk: &ChunkType<'_>,
         options: &CodecOptions,
     ) -> Result<PartialWrite, CodecError>
         requires supported { (meaning self.now).encodes_partly ≡ true }
-        requires filled { IsSome (fill_cell (kind data_type.now) fill_value.now) }
-        requires dimensions { length (box_of part.now).start ≡ length shape.now }
-        requires cells { HasCells (kind data_type.now) (data_of bytes.now)
+        requires dimensions { length (box_of part.now).start ≡ length (shape_of chunk.now) }
+        requires cells { HasCells (chunk_kind chunk.now) (data_of bytes.now)
             (position_count (box_of part.now).shape) }
-        ensures written { IfOk result (λ write.
-            partial_encoding (meaning self.now) (stores_empty_chunks options.now)
-            (kind data_type.now) (fill_of (kind data_type.now) fill_value.now) shape.now
+        ensures written { IfOk result (λ write. partial_encoding_as (meaning self.now)
+            (stores_empty_chunks options.now) chunk.now
             (option_map (λ encoded. encoded.now) stored.entry) (box_of part.now)
             (data_of bytes.now) ≡ Some (change_of write)) }
-        ensures refused { IfErr result
-            (RefusesPartialEncoding (meaning self.now) (stores_empty_chunks options.now)
-            (kind data_type.now) (fill_of (kind data_type.now) fill_value.now) shape.now
+        ensures refused { IfErr result (RefusesToEncodePart (meaning self.now)
+            (stores_empty_chunks options.now) chunk.now
             (option_map (λ encoded. encoded.now) stored.entry) (box_of part.now)
             (data_of bytes.now)) };
 

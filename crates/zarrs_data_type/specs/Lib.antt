@@ -1,3 +1,4 @@
+pub mod CellTypes
 pub use Rattle.zarrs_data_type_kinds.specs.Cell
 pub use Rattle.zarrs_data_type_kinds.specs.FillMetadata
 pub use Rattle.zarrs_data_type_kinds.specs.Fills

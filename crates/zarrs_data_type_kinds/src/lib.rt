@@ -1,6 +1,6 @@
 //! Data types and fill values, and what metadata of either version says of them.
 //!
-//! The layers above use `DataType`, `FillValue`, and their errors `DataTypeFillValueError` and
+//! The layers above use `DataType`, `FillValue`, the two as a `CellType`, and their errors `DataTypeFillValueError` and
 //! `DataTypeFillValueMetadataError`. `from_metadata` reads a type, and `fill_value_v3` a fill value.
 //!
 //! `kind` of `specs/Kind.antt` gives the `Kind` of a `DataType`. `specs/Cell.antt` has `Cell`, what stands at one
@@ -9,6 +9,7 @@
 //! say what metadata means, and `specs/MetadataV2.antt` does so for V2. `specs/Same.antt` says which types are equal.
 #![tactic(auto)]
 
+mod cell_type;
 pub mod data_type;
 mod error;
 mod fill_metadata;
@@ -17,6 +18,7 @@ pub mod laws;
 mod metadata;
 mod metadata_v2;
 
+pub use cell_type::CellType;
 pub use data_type::DataType;
 pub use error::{DataTypeFillValueError, DataTypeFillValueMetadataError};
 pub use fill_value::{FillValue, inner_fill};

@@ -10,3 +10,4 @@ pub mod Copies
 pub mod Rows
 pub mod Repeats
 pub mod Fills
+pub mod Kept

@@ -13,6 +13,7 @@
 
 mod boxes;
 mod error;
+mod fill;
 mod flags;
 mod levels;
 mod numbers;
@@ -21,7 +22,6 @@ mod strings;
 mod target;
 
 pub use error::ArrayBytesFixedDisjointViewCreateError;
+pub use fill::copy_fill_value_into;
 pub use region_cells::RegionCells;
-pub use target::{
-    ArrayBytesDecodeIntoTarget, RefusedTarget, SubdividedTarget, copy_fill_value_into,
-};
+pub use target::{ArrayBytesDecodeIntoTarget, RefusedTarget, SubdividedTarget};

@@ -1,5 +1,5 @@
 //! A box of an array of cells that a caller lends to be written.
-ghost use Rattle.std.specs.Prelude.{◌≡◌, ◌↔◌, ◌*◌, ◌==◌, true, IfErr, IfOk, IsOk, IsTrue, IsSome, OnErr, OnOk, length};
+ghost use Rattle.std.specs.Prelude.{◌≡◌, ◌↔◌, ◌*◌, ◌==◌, true, IfErr, IfOk, IsOk, IsTrue, OnErr, OnOk, length};
 ghost use Rattle.std.specs.Prelude.{◌≤◌, ◌<◌, ◌+◌, ◌^◌, [], drop, slice_index, take};
 ghost use Rattle.std.specs.List.{copy_within, prefix_len, repeat};
 ghost use Rattle.zarrs_data_type_bytes.specs.ArrayData.{data_of};
@@ -8,16 +8,15 @@ ghost use Rattle.zarrs_data_type_bytes.specs.Parts.{TakesAt, TakesEach};
 ghost use Rattle.zarrs_subset.specs.Boxes.{BoxFits, InShape, place, position_count};
 ghost use Rattle.zarrs_subset.specs.Pieces.{piece_at};
 ghost use Rattle.zarrs_subset.specs.Regions.{LiesInShape, box_of, box_at_origin, LiesInBox};
-ghost use Rattle.zarrs_data_type_kinds.specs.Cell.{fill_cell, fill_of};
 ghost use Rattle.zarrs_data_type_kinds.specs.Kind.{Kind, kind};
-ghost use Rattle.zarrs_data_type_region.specs.Targets.{FillsBox, HasLevels, IsTargetOver, TakesLevels};
+ghost use Rattle.zarrs_data_type_region.specs.Targets.{HasLevels, IsTargetOver, TakesLevels};
 ghost use Rattle.zarrs_data_type_region.specs.Targets.{IsFilledBox, depth_of, masked, repeated, takes_type};
 
 use crate::error::ArrayBytesFixedDisjointViewCreateError;
 use std::alloc::{AllocError, Global};
 use std::mem;
 use zarrs_data_type_bytes::ArrayBytes;
-use zarrs_data_type_kinds::{DataType, FillValue};
+use zarrs_data_type_kinds::DataType;
 use zarrs_subset::{
     ArraySubset, ArraySubsetTraits, Corner, copy_box, element_count, ravel_indices,
 };
@@ -45,8 +44,7 @@ impl From<RefusedTarget<'_, '_>> for ArrayBytesFixedDisjointViewCreateError {
 /// `bytes` has a cell of `cell_size` bytes for each position of the parent, in row-major order. `masks` has `depth`
 /// parts, the outermost first, each with a byte for each position of the parent: one a level of an optional type.
 ///
-/// Each call requires `IsTarget`, which `over`, `new_fixed` and `new_optional` ensure. Each slice has a lifetime of its
-/// own, so that its lender knows what it ends as.
+/// Each slice has a lifetime of its own, so that its lender knows what it ends as.
 #[derive(Debug, Drop)]
 pub struct ArrayBytesDecodeIntoTarget<'a, 'm, 'r> {
     /// The cells of the parent.
@@ -61,10 +59,13 @@ pub struct ArrayBytesDecodeIntoTarget<'a, 'm, 'r> {
     pub parent_shape: &'r [u64],
     /// The box.
     pub region: &'r ArraySubset,
+    /// The parts go together.
+    pub ghost whole: { IsTargetOver (length bytes.now) cell_size (length masks.now) depth
+        parent_shape.now (box_of region.now) },
 }
 
 impl<'a, 'm, 'r> ArrayBytesDecodeIntoTarget<'a, 'm, 'r> {
-    ghost use Rattle.zarrs_data_type_region.specs.States.{IsTarget};
+    ghost use Rattle.zarrs_data_type_region.specs.States.{IsOverBytes, IsOverMasks};
 
     /// Whether these are the parts of a target.
     ///
@@ -105,15 +106,9 @@ impl<'a, 'm, 'r> ArrayBytesDecodeIntoTarget<'a, 'm, 'r> {
     ) -> ArrayBytesDecodeIntoTarget<'a, 'm, 'r>
         requires { IsTargetOver (length bytes.old) cell_size (length masks.old) depth
             parent_shape.now (box_of region.now) }
-        ensures target { IsTarget result }
-        ensures same_bytes { result.bytes.ghost_name ≡ bytes.entry.ghost_name }
-        ensures same_masks { result.masks.ghost_name ≡ masks.entry.ghost_name }
-        ensures bytes { result.bytes.now ≡ bytes.old }
-        ensures masks { result.masks.now ≡ masks.old }
-        ensures cell_size { result.cell_size ≡ cell_size }
-        ensures depth { result.depth ≡ depth }
-        ensures parent_shape { result.parent_shape.now ≡ parent_shape.now }
-        ensures region { result.region.now ≡ region.now }
+        ensures bytes { IsOverBytes bytes.entry cell_size depth parent_shape.now (box_of region.now)
+            result }
+        ensures masks { IsOverMasks masks.entry result }
     {
         ArrayBytesDecodeIntoTarget {
             bytes,
@@ -137,13 +132,8 @@ impl<'a, 'm, 'r> ArrayBytesDecodeIntoTarget<'a, 'm, 'r> {
     ) -> Result<ArrayBytesDecodeIntoTarget<'a, 'm, 'r>, RefusedTarget<'a, 'm>>
         ensures accepted { IsOk result ↔ IsTargetOver (length bytes.old) cell_size 0 0
             parent_shape.now (box_of region.now) }
-        ensures target { IfOk result (λ t. IsTarget t) }
-        ensures same_bytes { IfOk result (λ t. t.bytes.ghost_name ≡ bytes.entry.ghost_name) }
-        ensures bytes { IfOk result (λ t. t.bytes.now ≡ bytes.old) }
-        ensures cell_size { IfOk result (λ t. t.cell_size ≡ cell_size) }
-        ensures depth { IfOk result (λ t. t.depth ≡ 0) }
-        ensures parent_shape { IfOk result (λ t. t.parent_shape.now ≡ parent_shape.now) }
-        ensures region { IfOk result (λ t. t.region.now ≡ region.now) }
+        ensures bytes { IfOk result (IsOverBytes bytes.entry cell_size 0 parent_shape.now
+            (box_of region.now)) }
         ensures same_bytes_back { IfErr result (λ r. r.bytes.ghost_name ≡ bytes.entry.ghost_name) }
         ensures bytes_back { IfErr result (λ r. r.bytes.now ≡ bytes.old) }
     {
@@ -165,15 +155,9 @@ impl<'a, 'm, 'r> ArrayBytesDecodeIntoTarget<'a, 'm, 'r> {
     ) -> Result<ArrayBytesDecodeIntoTarget<'a, 'm, 'r>, RefusedTarget<'a, 'm>>
         ensures accepted { IsOk result ↔ IsTargetOver (length bytes.old) cell_size
             (length masks.old) depth parent_shape.now (box_of region.now) }
-        ensures target { IfOk result (λ t. IsTarget t) }
-        ensures same_bytes { IfOk result (λ t. t.bytes.ghost_name ≡ bytes.entry.ghost_name) }
-        ensures same_masks { IfOk result (λ t. t.masks.ghost_name ≡ masks.entry.ghost_name) }
-        ensures bytes { IfOk result (λ t. t.bytes.now ≡ bytes.old) }
-        ensures masks { IfOk result (λ t. t.masks.now ≡ masks.old) }
-        ensures cell_size { IfOk result (λ t. t.cell_size ≡ cell_size) }
-        ensures depth { IfOk result (λ t. t.depth ≡ depth) }
-        ensures parent_shape { IfOk result (λ t. t.parent_shape.now ≡ parent_shape.now) }
-        ensures region { IfOk result (λ t. t.region.now ≡ region.now) }
+        ensures bytes { IfOk result (IsOverBytes bytes.entry cell_size depth parent_shape.now
+            (box_of region.now)) }
+        ensures masks { IfOk result (IsOverMasks masks.entry) }
         ensures same_bytes_back { IfErr result (λ r. r.bytes.ghost_name ≡ bytes.entry.ghost_name) }
         ensures same_masks_back { IfErr result (λ r. r.masks.ghost_name ≡ masks.entry.ghost_name) }
         ensures bytes_back { IfErr result (λ r. r.bytes.now ≡ bytes.old) }
@@ -202,65 +186,49 @@ pub struct SubdividedTarget<'a, 'm, 'r> {
 }
 
 impl<'a, 'm, 'r> ArrayBytesDecodeIntoTarget<'a, 'm, 'r> {
-    ghost use Rattle.zarrs_data_type_region.specs.States.{IsTarget, SameBox, SameParent, StaysOutside};
+    ghost use Rattle.zarrs_data_type_region.specs.States.{IsLent, IsOverBytes, IsOverMasks, KeepsTarget, TakesBack};
     ghost use Rattle.zarrs_data_type_region.specs.States.{data_of_target, parent_box, target_box};
 
     /// Lends the box `region` of the same parent, whose start and end lie in this target's box. Until `rejoin` takes it
-    /// back, this target has no byte and no mask.
+    /// back, the cells of this target have no bytes.
     pub fn subdivide<'s>(&mut self, region: &'s ArraySubset) -> SubdividedTarget<'a, 'm, 's>
     where
         'r: 's,
-        requires target { IsTarget self.old }
         requires inside { LiesInBox (box_of region.now) (target_box self.old) }
-        ensures target { IsTarget result.target }
-        ensures same_bytes { result.target.bytes.ghost_name ≡ self.old.bytes.ghost_name }
-        ensures same_masks { result.target.masks.ghost_name ≡ self.old.masks.ghost_name }
-        ensures bytes { result.target.bytes.now ≡ self.old.bytes.now }
-        ensures masks { result.target.masks.now ≡ self.old.masks.now }
-        ensures region { result.target.region.now ≡ region.now }
-        ensures same_parent { SameParent self.old result.target }
-        ensures same_box { SameBox self.old self.new }
-        ensures inside { LiesInShape (target_box self.new) self.new.parent_shape.now }
-        ensures lent_bytes { self.new.bytes.now ≡ [] }
-        ensures lent_masks { self.new.masks.now ≡ [] }
+        ensures bytes { IsOverBytes self.old.bytes self.old.cell_size self.old.depth
+            self.old.parent_shape.now (box_of region.now) result.target }
+        ensures masks { IsOverMasks self.old.masks result.target }
+        ensures lent { IsLent self.old self.new }
     {
-        let bytes = mem::replace(&mut self.bytes, &mut []);
-        let masks = mem::replace(&mut self.masks, &mut []);
-        SubdividedTarget {
-            target: ArrayBytesDecodeIntoTarget {
-                bytes,
-                masks,
-                cell_size: self.cell_size,
-                depth: self.depth,
-                parent_shape: self.parent_shape,
-                region,
-            },
-        }
+        let part = ArrayBytesDecodeIntoTarget {
+            cell_size: mem::replace(&mut self.cell_size, 0),
+            depth: mem::replace(&mut self.depth, 0),
+            bytes: mem::replace(&mut self.bytes, &mut []),
+            masks: mem::replace(&mut self.masks, &mut []),
+            parent_shape: self.parent_shape,
+            region,
+        };
+        SubdividedTarget { target: part }
     }
 
     /// Takes back a smaller box that this target lent: this target has what was written into it.
     pub fn rejoin(&mut self, part: SubdividedTarget<'a, 'm, '_>)
-        requires target { IsTarget part.target }
-        requires parent { SameParent self.old part.target }
-        requires inside { LiesInShape (target_box self.old) self.old.parent_shape.now }
-        ensures target { IsTarget self.new }
-        ensures same_bytes { self.new.bytes.ghost_name ≡ part.entry.target.bytes.ghost_name }
-        ensures same_masks { self.new.masks.ghost_name ≡ part.entry.target.masks.ghost_name }
-        ensures bytes { self.new.bytes.now ≡ part.entry.target.bytes.now }
-        ensures masks { self.new.masks.now ≡ part.entry.target.masks.now }
-        ensures same_box { SameBox self.old self.new }
+        requires parent { part.target.parent_shape.now ≡ self.old.parent_shape.now }
+        ensures { TakesBack self.old part.entry.target self.new }
     {
         let SubdividedTarget { target } = part;
         let ArrayBytesDecodeIntoTarget {
             bytes,
             masks,
-            cell_size: _,
-            depth: _,
+            cell_size,
+            depth,
             parent_shape: _,
             region: _,
         } = target;
         self.bytes = bytes;
         self.masks = masks;
+        self.cell_size = cell_size;
+        self.depth = depth;
     }
 
     /// Whether the cells of the type have the target's size and as many masks.
@@ -276,7 +244,6 @@ impl<'a, 'm, 'r> ArrayBytesDecodeIntoTarget<'a, 'm, 'r> {
     /// Whether the data is one cell of the target's size for each position of the box, under as many masks. This is the
     /// test for what `write_cells` requires.
     pub fn takes_data(&self, region_data: &ArrayBytes<'_>) -> bool
-        requires { IsTarget self.now }
         ensures { IsTrue result ↔ HasLevels self.now.depth self.now.cell_size
             (position_count (target_box self.now).shape) (data_of region_data.now) }
     {
@@ -296,13 +263,9 @@ impl<'a, 'm, 'r> ArrayBytesDecodeIntoTarget<'a, 'm, 'r> {
         alloc: Global,
         region_data: &ArrayBytes<'_>,
     ) -> Result<(), AllocError>
-        requires target { IsTarget self.old }
-        requires data { HasLevels self.old.depth self.old.cell_size
+        requires { HasLevels self.old.depth self.old.cell_size
             (position_count (target_box self.old).shape) (data_of region_data.now) }
-        ensures target { IsTarget self.new }
-        ensures same_bytes { self.new.bytes.ghost_name ≡ self.old.bytes.ghost_name }
-        ensures same_masks { self.new.masks.ghost_name ≡ self.old.masks.ghost_name }
-        ensures same_box { SameBox self.old self.new }
+        ensures kept { KeepsTarget self.old self.new }
         ensures written { OnOk result (TakesLevels self.old.cell_size (parent_box self.old)
             (target_box self.old) (data_of region_data.now)
             (data_of_target self.old) (data_of_target self.new)) }
@@ -311,7 +274,6 @@ impl<'a, 'm, 'r> ArrayBytesDecodeIntoTarget<'a, 'm, 'r> {
             → fits k (data_of region_data.now) (position_count (target_box self.old).shape) ≡ true
             → TakesEach k (parent_box self.old) (target_box self.old) (data_of region_data.now)
             (data_of_target self.old) (data_of_target self.new)) }
-        ensures outside { StaysOutside self.old self.new }
         ensures kept_bytes { OnErr result (self.new.bytes.now ≡ self.old.bytes.now) }
         ensures kept_masks { OnErr result (self.new.masks.now ≡ self.old.masks.now) }
     {
@@ -365,17 +327,17 @@ fn has_levels(region_data: &ArrayBytes<'_>, depth: usize, size: usize, count: u6
 
 /// Where a target's box lies.
 #[derive(Clone, Copy)]
-struct Place<'r> {
+pub(crate) struct Place<'r> {
     /// The shape of the parent.
-    shape: &'r [u64],
+    pub(crate) shape: &'r [u64],
     /// The first position of the parent, or nothing for a fill, which does not read it.
-    origin: &'r [u64],
+    pub(crate) origin: &'r [u64],
     /// The box.
-    region: &'r ArraySubset,
+    pub(crate) region: &'r ArraySubset,
     /// The number of positions of the parent.
-    count: usize,
+    pub(crate) count: usize,
     /// The size of a cell in bytes.
-    cell_size: usize,
+    pub(crate) cell_size: usize,
 }
 
 /// Writes the data level by level: a mask, and what lies under it.
@@ -449,47 +411,8 @@ fn write_part(place: &Place<'_>, target: &mut [u8], part: &[u8], size: usize)
     copy_box(part, from, target, to, extents, size);
 }
 
-ghost use Rattle.zarrs_data_type_region.specs.States.{IsTarget, SameBox, StaysOutside, data_of_target};
-ghost use Rattle.zarrs_data_type_region.specs.States.{parent_box, target_box};
-
-/// Fills the box with the fill value. Every byte outside the box stays.
-///
-/// # Errors
-/// If out of memory; then every byte stays.
-pub fn copy_fill_value_into(
-    alloc: Global,
-    data_type: &DataType,
-    fill_value: &FillValue,
-    target: &mut ArrayBytesDecodeIntoTarget<'_, '_, '_>,
-) -> Result<(), AllocError>
-    requires target { IsTarget target.old }
-    requires takes { takes_type target.old.cell_size target.old.depth (kind data_type.now) ≡ true }
-    requires filled { IsSome (fill_cell (kind data_type.now) fill_value.now) }
-    ensures target { IsTarget target.new }
-    ensures same_bytes { target.new.bytes.ghost_name ≡ target.old.bytes.ghost_name }
-    ensures same_masks { target.new.masks.ghost_name ≡ target.old.masks.ghost_name }
-    ensures same_box { SameBox target.old target.new }
-    ensures fills { OnOk result (FillsBox (kind data_type.now) (parent_box target.old)
-        (target_box target.old) (fill_of (kind data_type.now) fill_value.now)
-        (data_of_target target.old) (data_of_target target.new)) }
-    ensures outside { StaysOutside target.old target.new }
-    ensures kept_bytes { OnErr result (target.new.bytes.now ≡ target.old.bytes.now) }
-    ensures kept_masks { OnErr result (target.new.masks.now ≡ target.old.masks.now) }
-{
-    let place = Place {
-        shape: target.parent_shape,
-        origin: &[],
-        region: target.region,
-        count: positions(target.parent_shape),
-        cell_size: target.cell_size,
-    };
-    let cell = ArrayBytes::new_fill_value(alloc, data_type, 1, fill_value)?;
-    fill_levels(&cell, target.depth, &place, target.masks, target.bytes);
-    Ok(())
-}
-
 /// Fills the box level by level with the one cell of `cell`.
-fn fill_levels(
+pub(crate) fn fill_levels(
     cell: &ArrayBytes<'_>,
     depth: usize,
     place: &Place<'_>,
@@ -721,7 +644,7 @@ fn fill_run(target: &mut [u8], piece: &[u8], count: usize)
 }
 
 /// The number of positions of an array of this shape.
-fn positions(shape: &[u64]) -> usize
+pub(crate) fn positions(shape: &[u64]) -> usize
     requires { position_count shape.now < 2 ^ 64 }
     ensures { result ≡ position_count shape.now }
 {

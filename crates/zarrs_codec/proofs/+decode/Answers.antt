@@ -1,3 +1,4 @@
+use Rattle.zarrs_data_type.specs.CellTypes.{chunk_fill, chunk_kind, filling, kind_of}
 use Rattle.std.proofs.Common.{rules, arith, ◌≡◌, ◌∙◌, ◌<◌, ◌*◌, ◌≤◌, ◌^◌, true, false, List, map, length, get_or, Some, None, Option, sym, ap, subst}
 use Rattle.std.specs.Prelude.{is_some, slice_range, option_map, IsSome}
 use Rattle.std.specs.List.{list_all, All}
@@ -5,8 +6,8 @@ use Rattle.std.specs.Result.{IfOk}
 use Rattle.std.proofs.lemmas.List.{length-map}
 use Rattle.std.proofs.lemmas.Bool.{OnTrue_at}
 use Rattle.std.proofs.lemmas.Result.{IfErr-weaker, IfOk-weaker}
-use Rattle.zarrs_data_type.specs.Kind.{kind, cell_size}
-use Rattle.zarrs_data_type.specs.Cell.{Cell, fill_of, held_size}
+use Rattle.zarrs_data_type.specs.Kind.{cell_size}
+use Rattle.zarrs_data_type.specs.Cell.{Cell, held_size}
 use Rattle.zarrs_data_type.specs.ArrayData.{data_of}
 use Rattle.zarrs_data_type.specs.Cells.{cells, HasCells}
 use Rattle.zarrs_subset.specs.Boxes.{position_count}
@@ -35,32 +36,32 @@ use Rattle.zarrs_codec.proofs.+decode.Goals as goal
 pub sharding::ShardingCodec::decode_part-put-requires-clause-part :
     goal.sharding::ShardingCodec::decode_part-put-requires-clause-part
 sharding::ShardingCodec::decode_part-put-requires-clause-part t c =
-    let k = kind c.args.data_type.now in
-    let f = fill_of k c.args.fill_value.now in
+    let k = kind_of c.args.cell_type.now in
+    let f = filling c.args.cell_type.now in
     let m : ChainMeaning = chain_meaning (inner_chain_of c.args.self.now) in
     let d = data_of c.in_ok-part.part in
-    let is : cells k d ≡ m.decoded k f (subchunk_shape c.args.subchunks.now) c.args.encoded.now = subst (λ x. cells k d ≡ m.decoded k f x c.args.encoded.now) c.shape-sub.ensures
-    (subst (λ x. cells k d ≡ (chain_meaning x).decoded k f c.shape-sub.result.now c.args.encoded.now) c.inner_codecs.ensures c.in_ok-part.ensures.cells) in
+    let is : cells k d ≡ m.decoded k f (subchunk_shape c.args.subchunks.now) c.args.encoded.now = subst (λ x. cells k d ≡ m.decoded k f x c.args.encoded.now) c.shape.ensures
+    (subst (λ x. cells k d ≡ (chain_meaning x).decoded k f c.shape.result.now c.args.encoded.now) c.inner_codecs.ensures c.in_ok-part.ensures.cells) in
     decoded-has_cells m (chain-lawful (inner_chain_of c.args.self.now)) k f (subchunk_shape c.args.subchunks.now) c.args.encoded.now d is c.in_ok-part.ensures.some
 
 pub sharding::ShardingCodec::decode_part-returns-clause-put :
     goal.sharding::ShardingCodec::decode_part-returns-clause-put
 sharding::ShardingCodec::decode_part-returns-clause-put t c =
-    let k = kind c.args.data_type.now in
-    let f = fill_of k c.args.fill_value.now in
+    let k = kind_of c.args.cell_type.now in
+    let f = filling c.args.cell_type.now in
     let m : ChainMeaning = chain_meaning (inner_chain_of c.args.self.now) in
     let sub = subchunk_shape c.args.subchunks.now in
     let b = c.args.encoded.now in
     let d = data_of c.in_ok-part.part in
-    let is : cells k d ≡ m.decoded k f sub b = subst (λ x. cells k d ≡ m.decoded k f x b) c.shape-sub.ensures
-    (subst (λ x. cells k d ≡ (chain_meaning x).decoded k f c.shape-sub.result.now b) c.inner_codecs.ensures c.in_ok-part.ensures.cells) in
+    let is : cells k d ≡ m.decoded k f sub b = subst (λ x. cells k d ≡ m.decoded k f x b) c.shape.ensures
+    (subst (λ x. cells k d ≡ (chain_meaning x).decoded k f c.shape.result.now b) c.inner_codecs.ensures c.in_ok-part.ensures.cells) in
     puts_part m k f (chunk_shape c.args.subchunks.now) sub c.args.number b d (region_data c.args.chunk) (region_data c.in_ok-put.field-0) c.requires.number is c.in_ok-part.ensures.some c.in_ok-put.ensures
 
 pub sharding::ShardingCodec::decode_parts-returns-in_default-clause-refused :
     goal.sharding::ShardingCodec::decode_parts-returns-in_default-clause-refused
 sharding::ShardingCodec::decode_parts-returns-in_default-clause-refused t c =
-    let k = kind c.args.data_type.now in
-    let f = fill_of k c.args.fill_value.now in
+    let k = kind_of c.args.cell_type.now in
+    let f = filling c.args.cell_type.now in
     let s = chunk_shape c.args.subchunks.now in
     let parts = map (range_part c.args.encoded.now) c.args.ranges.now in
     let why : (c.are_present-is_whole.result ≡ false) × (2 ^ 64 ≤ position_count s * held_size k f) = search rules in
@@ -70,8 +71,8 @@ sharding::ShardingCodec::decode_parts-returns-in_default-clause-refused t c =
 pub sharding::ShardingCodec::decode_parts-returns-then-reads_cells-clause-cells :
     goal.sharding::ShardingCodec::decode_parts-returns-then-reads_cells-clause-cells
 sharding::ShardingCodec::decode_parts-returns-then-reads_cells-clause-cells t c =
-    let k = kind c.args.data_type.now in
-    let f = fill_of k c.args.fill_value.now in
+    let k = kind_of c.args.cell_type.now in
+    let f = filling c.args.cell_type.now in
     let m : ChainMeaning = chain_meaning (inner_chain_of c.args.self.now) in
     let s = chunk_shape c.args.subchunks.now in
     let sub = subchunk_shape c.args.subchunks.now in
@@ -91,8 +92,8 @@ sharding::ShardingCodec::decode_parts-returns-then-reads_cells-clause-cells t c 
 pub sharding::ShardingCodec::decode_parts-returns-then-reads_cells-clause-some :
     goal.sharding::ShardingCodec::decode_parts-returns-then-reads_cells-clause-some
 sharding::ShardingCodec::decode_parts-returns-then-reads_cells-clause-some t c =
-    let k = kind c.args.data_type.now in
-    let f = fill_of k c.args.fill_value.now in
+    let k = kind_of c.args.cell_type.now in
+    let f = filling c.args.cell_type.now in
     let m : ChainMeaning = chain_meaning (inner_chain_of c.args.self.now) in
     let s = chunk_shape c.args.subchunks.now in
     let sub = subchunk_shape c.args.subchunks.now in
@@ -111,8 +112,8 @@ sharding::ShardingCodec::decode_parts-returns-then-reads_cells-clause-some t c =
 pub sharding::ShardingCodec::decode_parts-returns-then-reads_cells-clause-refused :
     goal.sharding::ShardingCodec::decode_parts-returns-then-reads_cells-clause-refused
 sharding::ShardingCodec::decode_parts-returns-then-reads_cells-clause-refused t c =
-    let k = kind c.args.data_type.now in
-    let f = fill_of k c.args.fill_value.now in
+    let k = kind_of c.args.cell_type.now in
+    let f = filling c.args.cell_type.now in
     let m : ChainMeaning = chain_meaning (inner_chain_of c.args.self.now) in
     let s = chunk_shape c.args.subchunks.now in
     let sub = subchunk_shape c.args.subchunks.now in
@@ -123,8 +124,8 @@ sharding::ShardingCodec::decode_parts-returns-then-reads_cells-clause-refused t 
 pub sharding::ShardingCodec::decode_parts-loop-number-init :
     goal.sharding::ShardingCodec::decode_parts-loop-number-init
 sharding::ShardingCodec::decode_parts-loop-number-init t c =
-    let k = kind c.args.data_type.now in
-    let f = fill_of k c.args.fill_value.now in
+    let k = kind_of c.args.cell_type.now in
+    let f = filling c.args.cell_type.now in
     let s = chunk_shape c.args.subchunks.now in
     let parts = map (range_part c.args.encoded.now) c.args.ranges.now in
     let starts : StartsChunk k f s c.are_present-is_whole.result (region_data c.in-Some.chunk) = search rules in
@@ -134,8 +135,8 @@ sharding::ShardingCodec::decode_parts-loop-number-init t c =
 pub sharding::ShardingCodec::decode_parts-loop-number-preserved-in_default-range :
     goal.sharding::ShardingCodec::decode_parts-loop-number-preserved-in_default-range
 sharding::ShardingCodec::decode_parts-loop-number-preserved-in_default-range t c =
-    let k = kind c.args.data_type.now in
-    let f = fill_of k c.args.fill_value.now in
+    let k = kind_of c.args.cell_type.now in
+    let f = filling c.args.cell_type.now in
     let m : ChainMeaning = chain_meaning (inner_chain_of c.args.self.now) in
     let s = chunk_shape c.args.subchunks.now in
     let sub = subchunk_shape c.args.subchunks.now in
@@ -152,8 +153,8 @@ sharding::ShardingCodec::decode_parts-loop-number-preserved-in_default-range t c
 pub sharding::ShardingCodec::decode_parts-decode_part-requires :
     goal.sharding::ShardingCodec::decode_parts-decode_part-requires
 sharding::ShardingCodec::decode_parts-decode_part-requires t c =
-    let k = kind c.args.data_type.now in
-    let f = fill_of k c.args.fill_value.now in
+    let k = kind_of c.args.cell_type.now in
+    let f = filling c.args.cell_type.now in
     let m : ChainMeaning = chain_meaning (inner_chain_of c.args.self.now) in
     let s = chunk_shape c.args.subchunks.now in
     let sub = subchunk_shape c.args.subchunks.now in
@@ -162,13 +163,13 @@ sharding::ShardingCodec::decode_parts-decode_part-requires t c =
     let below : number < subchunk_count s sub = omega (arith, c.requires.count) in
     let size = part_size s sub number (cell_size k) c.args.subchunks.now.cut below c.requires.size in
     let held = held_cells m k f s sub parts number (region_data c.loop-number.chunk) c.loop-number.invariant in
-    (first_of (omega (arith, c.decreases), search rules), (c.requires.filled, (size, (below, held))))
+    (first_of (omega (arith, c.decreases), search rules), (size, (below, held)))
 
-pub sharding::ShardingCodec::decode_parts-returns-in_err-chunk-2-clause-refused :
-    goal.sharding::ShardingCodec::decode_parts-returns-in_err-chunk-2-clause-refused
-sharding::ShardingCodec::decode_parts-returns-in_err-chunk-2-clause-refused t c =
-    let k = kind c.args.data_type.now in
-    let f = fill_of k c.args.fill_value.now in
+pub sharding::ShardingCodec::decode_parts-returns-in_err-chunk-clause-refused :
+    goal.sharding::ShardingCodec::decode_parts-returns-in_err-chunk-clause-refused
+sharding::ShardingCodec::decode_parts-returns-in_err-chunk-clause-refused t c =
+    let k = kind_of c.args.cell_type.now in
+    let f = filling c.args.cell_type.now in
     let m : ChainMeaning = chain_meaning (inner_chain_of c.args.self.now) in
     let s = chunk_shape c.args.subchunks.now in
     let sub = subchunk_shape c.args.subchunks.now in
@@ -181,15 +182,15 @@ sharding::ShardingCodec::decode_parts-returns-in_err-chunk-2-clause-refused t c 
     let below : number < length parts = omega (arith, length-map ranges (range_part b)) in
     let range = c.in-Some-range.range in
     let at : get_or ranges number None ≡ Some range = search rules in
-    let e = c.in_err-chunk-2.field-0.0 in
-    err_kept c.from_residual-in_err-chunk-2.result e (RefusesCells m k f s sub parts) c.from_residual-in_err-chunk-2.ensures.1
-    (cells_refused m k f s sub parts number (slice_range b range.start range.end) e c.args.subchunks.now.cut count below (part_at b ranges number (Some range) lt at) c.in_err-chunk-2.ensures.refused)
+    let e = c.in_err-chunk.field-0.0 in
+    err_kept c.from_residual-in_err-chunk.result e (RefusesCells m k f s sub parts) c.from_residual-in_err-chunk.ensures.1
+    (cells_refused m k f s sub parts number (slice_range b range.start range.end) e c.args.subchunks.now.cut count below (part_at b ranges number (Some range) lt at) c.in_err-chunk.ensures.refused)
 
 pub sharding::ShardingCodec::decode_parts-loop-number-preserved :
     goal.sharding::ShardingCodec::decode_parts-loop-number-preserved
 sharding::ShardingCodec::decode_parts-loop-number-preserved t c =
-    let k = kind c.args.data_type.now in
-    let f = fill_of k c.args.fill_value.now in
+    let k = kind_of c.args.cell_type.now in
+    let f = filling c.args.cell_type.now in
     let m : ChainMeaning = chain_meaning (inner_chain_of c.args.self.now) in
     let s = chunk_shape c.args.subchunks.now in
     let sub = subchunk_shape c.args.subchunks.now in
@@ -201,14 +202,14 @@ sharding::ShardingCodec::decode_parts-loop-number-preserved t c =
     let below : number < length parts = omega (arith, length-map ranges (range_part b)) in
     let range = c.in-Some-range.range in
     let at : get_or ranges number None ≡ Some range = search rules in
-    cells_more m k f s sub parts number (slice_range b range.start range.end) (region_data c.loop-number.chunk) (region_data c.in_ok-chunk-2.chunk) below (part_at b ranges number (Some range) lt at)
-    c.loop-number.invariant c.in_ok-chunk-2.ensures.put
+    cells_more m k f s sub parts number (slice_range b range.start range.end) (region_data c.loop-number.chunk) (region_data c.in_ok-chunk.chunk) below (part_at b ranges number (Some range) lt at)
+    c.loop-number.invariant c.in_ok-chunk.ensures.put
 
 pub sharding::ShardingCodec::decode_parts-returns-clause-cells :
     goal.sharding::ShardingCodec::decode_parts-returns-clause-cells
 sharding::ShardingCodec::decode_parts-returns-clause-cells t c =
-    let k = kind c.args.data_type.now in
-    let f = fill_of k c.args.fill_value.now in
+    let k = kind_of c.args.cell_type.now in
+    let f = filling c.args.cell_type.now in
     let m : ChainMeaning = chain_meaning (inner_chain_of c.args.self.now) in
     let s = chunk_shape c.args.subchunks.now in
     let sub = subchunk_shape c.args.subchunks.now in
@@ -223,9 +224,9 @@ sharding::ShardingCodec::decode_parts-returns-clause-cells t c =
 pub sharding::ShardingCodec::decode_shard-decode_parts-requires :
     goal.sharding::ShardingCodec::decode_shard-decode_parts-requires
 sharding::ShardingCodec::decode_shard-decode_parts-requires t c =
-    let k = kind c.args.data_type.now in
-    let f = fill_of k c.args.fill_value.now in
-    let s = c.args.shape.now in
+    let k = chunk_kind c.args.chunk.now in
+    let f = chunk_fill c.args.chunk.now in
+    let s = c.args.chunk.now.shape.now in
     let sub = sizes_of (subchunk_sizes_of c.args.self.now) in
     let b = c.args.encoded.now in
     let subchunks = c.in-Some.subchunks in
@@ -245,14 +246,14 @@ sharding::ShardingCodec::decode_shard-decode_parts-requires t c =
     (subst (λ x. shard_parts x c.in-Some-count.count b ≡ Some (map (range_part b) ranges)) at_is (read ∙ ap (λ l. Some (map (range_part b) l)) (sym c.deref-3.ensures.value))) in
     let size = subst (λ x. position_count x * cell_size k < 2 ^ 64) (sym shape_is) c.requires.size in
     let within : All (IsRangeWithin (length b)) c.in-Some-2.ranges.items = search rules in
-    (first_of (omega (arith, c.decreases), search rules), (c.requires.filled, (size, (subst (λ l. All (IsRangeWithin (length b)) l) (sym c.deref-3.ensures.value) within, sym (length-map ranges (range_part b)) ∙ r.long))))
+    (first_of (omega (arith, c.decreases), search rules), (size, (subst (λ l. All (IsRangeWithin (length b)) l) (sym c.deref-3.ensures.value) within, sym (length-map ranges (range_part b)) ∙ r.long)))
 
 pub sharding::ShardingCodec::decode_shard-returns :
     goal.sharding::ShardingCodec::decode_shard-returns
 sharding::ShardingCodec::decode_shard-returns t c =
-    let k = kind c.args.data_type.now in
-    let f = fill_of k c.args.fill_value.now in
-    let s = c.args.shape.now in
+    let k = chunk_kind c.args.chunk.now in
+    let f = chunk_fill c.args.chunk.now in
+    let s = c.args.chunk.now.shape.now in
     let sub = sizes_of (subchunk_sizes_of c.args.self.now) in
     let b = c.args.encoded.now in
     let subchunks = c.in-Some.subchunks in
@@ -281,23 +282,23 @@ sharding::ShardingCodec::decode_shard-returns t c =
 pub sharding::ShardingCodec::decode_behind-decode_shard-requires :
     goal.sharding::ShardingCodec::decode_behind-decode_shard-requires
 sharding::ShardingCodec::decode_behind-decode_shard-requires t c =
-    let k = kind c.args.data_type.now in
-    let f = fill_of k c.args.fill_value.now in
-    let s = c.args.shape.now in
+    let k = chunk_kind c.args.chunk.now in
+    let f = chunk_fill c.args.chunk.now in
+    let s = c.args.chunk.now.shape.now in
     let b = c.args.encoded.now in
     let a = arrays_meaning c.args.codecs.now in
     let m : ChainMeaning = sharding_meaning c.args.self.now in
     let inner = c.in-Some.inner.items in
     let shape : encoded_shape a s ≡ Some inner = sym c.in_ok-inner.ensures ∙ ap (option_map (λ v. v.items)) c.in-Some.is in
     let size : position_count inner * cell_size k < 2 ^ 64 = subst (λ n. n * cell_size k < 2 ^ 64) (sym (count_behind a m (arrays-lawful c.args.codecs.now) k f s inner b shape)) c.requires.size in
-    (first_of (omega (arith, c.decreases), search rules), (c.requires.filled, subst (λ x. position_count x * cell_size k < 2 ^ 64) (sym c.deref.ensures.value) size))
+    (first_of (omega (arith, c.decreases), search rules), subst (λ x. position_count x * cell_size k < 2 ^ 64) (sym c.deref.ensures.value) size)
 
 pub sharding::ShardingCodec::decode_behind-returns-in_err-array-clause-refused :
     goal.sharding::ShardingCodec::decode_behind-returns-in_err-array-clause-refused
 sharding::ShardingCodec::decode_behind-returns-in_err-array-clause-refused t c =
-    let k = kind c.args.data_type.now in
-    let f = fill_of k c.args.fill_value.now in
-    let s = c.args.shape.now in
+    let k = chunk_kind c.args.chunk.now in
+    let f = chunk_fill c.args.chunk.now in
+    let s = c.args.chunk.now.shape.now in
     let b = c.args.encoded.now in
     let a = arrays_meaning c.args.codecs.now in
     let m : ChainMeaning = sharding_meaning c.args.self.now in
@@ -311,9 +312,9 @@ sharding::ShardingCodec::decode_behind-returns-in_err-array-clause-refused t c =
 pub sharding::ShardingCodec::decode_behind-decode_array-requires-clause-cells :
     goal.sharding::ShardingCodec::decode_behind-decode_array-requires-clause-cells
 sharding::ShardingCodec::decode_behind-decode_array-requires-clause-cells t c =
-    let k = kind c.args.data_type.now in
-    let f = fill_of k c.args.fill_value.now in
-    let s = c.args.shape.now in
+    let k = chunk_kind c.args.chunk.now in
+    let f = chunk_fill c.args.chunk.now in
+    let s = c.args.chunk.now.shape.now in
     let b = c.args.encoded.now in
     let a = arrays_meaning c.args.codecs.now in
     let m : ChainMeaning = sharding_meaning c.args.self.now in
@@ -329,9 +330,9 @@ sharding::ShardingCodec::decode_behind-decode_array-requires-clause-cells t c =
 pub chain::CodecChain::decode_chunk-returns-in-Sharding-clause-refused :
     goal.chain::CodecChain::decode_chunk-returns-in-Sharding-clause-refused
 chain::CodecChain::decode_chunk-returns-in-Sharding-clause-refused t c =
-    let k = kind c.args.data_type.now in
-    let f = fill_of k c.args.fill_value.now in
-    let s = c.args.shape.now in
+    let k = chunk_kind c.args.chunk.now in
+    let f = chunk_fill c.args.chunk.now in
+    let s = c.args.chunk.now.shape.now in
     let b = c.args.encoded.now in
     let codec = c.in-Sharding.codec.value in
     IfErr-weaker c.decode_behind.result _ _

@@ -1,10 +1,10 @@
+use Rattle.zarrs_data_type.specs.CellTypes.{chunk_fill, chunk_kind, filling, kind_of}
 use Rattle.std.proofs.Common.{rules, arith, ◌≡◌, ℕ, ◌<◌, ◌^◌, Bool, true, List, length, Option, Some, IfOk, option_map, sym, ap, subst, ◌∙◌}
 use Rattle.std.specs.Prelude.{IfSome}
 use Rattle.std.proofs.lemmas.Bool.{and_from}
 use Rattle.std.proofs.lemmas.Result.{IfErr-weaker}
 use Rattle.zarrs_subset.specs.Boxes.{position_count}
 use Rattle.zarrs_data_type.specs.ArrayData.{ArrayData, data_of, fixed}
-use Rattle.zarrs_data_type.specs.Cell.{fill_of}
 use Rattle.zarrs_data_type.specs.Cells.{cells, HasCells}
 use Rattle.zarrs_data_type.specs.Kind.{kind}
 use Rattle.zarrs_codec_array.specs.ArrayCodecs.{arrays_meaning, arrays-lawful}
@@ -31,8 +31,8 @@ use Rattle.zarrs_codec.proofs.+encode.Goals as goal
 pub sharding::ShardingCodec::encode_parts-returns-in_default-clause-refused :
     goal.sharding::ShardingCodec::encode_parts-returns-in_default-clause-refused
 sharding::ShardingCodec::encode_parts-returns-in_default-clause-refused t c =
-    let k = kind c.args.data_type.now in
-    let f = fill_of k c.args.fill_value.now in
+    let k = kind_of c.args.cell_type.now in
+    let f = filling c.args.cell_type.now in
     let empty = stores_empty_chunks c.args.options.now in
     let s = chunk_shape c.args.subchunks.now in
     let sub = subchunk_shape c.args.subchunks.now in
@@ -41,13 +41,13 @@ sharding::ShardingCodec::encode_parts-returns-in_default-clause-refused t c =
 pub sharding::ShardingCodec::encode_parts-push_subchunk-requires :
     goal.sharding::ShardingCodec::encode_parts-push_subchunk-requires
 sharding::ShardingCodec::encode_parts-push_subchunk-requires t c =
-    (first_of (omega (arith, c.decreases), search rules), (c.requires.filled, (c.requires.cells, (c.requires.fits, omega (arith, c.loop-number-test.true, c.in-Some.ensures.none)))))
+    (first_of (omega (arith, c.decreases), search rules), (c.requires.cells, (c.requires.fits, omega (arith, c.loop-number-test.true, c.in-Some.ensures.none))))
 
 pub sharding::ShardingCodec::encode_parts-returns-in_err-room-clause-refused :
     goal.sharding::ShardingCodec::encode_parts-returns-in_err-room-clause-refused
 sharding::ShardingCodec::encode_parts-returns-in_err-room-clause-refused t c =
-    let k = kind c.args.data_type.now in
-    let f = fill_of k c.args.fill_value.now in
+    let k = kind_of c.args.cell_type.now in
+    let f = filling c.args.cell_type.now in
     let empty = stores_empty_chunks c.args.options.now in
     let s = chunk_shape c.args.subchunks.now in
     let sub = subchunk_shape c.args.subchunks.now in
@@ -64,8 +64,8 @@ sharding::ShardingCodec::encode_parts-returns-in_err-room-clause-refused t c =
 pub sharding::ShardingCodec::encode_parts-loop-number-preserved :
     goal.sharding::ShardingCodec::encode_parts-loop-number-preserved
 sharding::ShardingCodec::encode_parts-loop-number-preserved t c =
-    let k = kind c.args.data_type.now in
-    let f = fill_of k c.args.fill_value.now in
+    let k = kind_of c.args.cell_type.now in
+    let f = filling c.args.cell_type.now in
     let empty = stores_empty_chunks c.args.options.now in
     let s = chunk_shape c.args.subchunks.now in
     let sub = subchunk_shape c.args.subchunks.now in
@@ -79,8 +79,8 @@ sharding::ShardingCodec::encode_parts-loop-number-preserved t c =
 pub sharding::ShardingCodec::encode_parts-finish-requires :
     goal.sharding::ShardingCodec::encode_parts-finish-requires
 sharding::ShardingCodec::encode_parts-finish-requires t c =
-    let k = kind c.args.data_type.now in
-    let f = fill_of k c.args.fill_value.now in
+    let k = kind_of c.args.cell_type.now in
+    let f = filling c.args.cell_type.now in
     let empty = stores_empty_chunks c.args.options.now in
     let s = chunk_shape c.args.subchunks.now in
     let sub = subchunk_shape c.args.subchunks.now in
@@ -94,8 +94,8 @@ sharding::ShardingCodec::encode_parts-finish-requires t c =
 pub sharding::ShardingCodec::encode_parts-returns-clause-encoded :
     goal.sharding::ShardingCodec::encode_parts-returns-clause-encoded
 sharding::ShardingCodec::encode_parts-returns-clause-encoded t c =
-    let k = kind c.args.data_type.now in
-    let f = fill_of k c.args.fill_value.now in
+    let k = kind_of c.args.cell_type.now in
+    let f = filling c.args.cell_type.now in
     let empty = stores_empty_chunks c.args.options.now in
     let s = chunk_shape c.args.subchunks.now in
     let sub = subchunk_shape c.args.subchunks.now in
@@ -122,7 +122,7 @@ sharding::ShardingCodec::encode_parts-returns-clause-encoded t c =
 pub sharding::ShardingCodec::push_subchunk-push_cells-requires-clause-held :
     goal.sharding::ShardingCodec::push_subchunk-push_cells-requires-clause-held
 sharding::ShardingCodec::push_subchunk-push_cells-requires-clause-held t c =
-    let k = kind c.args.data_type.now in
+    let k = kind_of c.args.cell_type.now in
     let s = chunk_shape c.args.subchunks.now in
     let same : data_of c.args.bytes.now ≡ fixed c.as_slice-cells.result.now = ap data_of c.in-Fixed-true.is-0 ∙ ap fixed (sym c.as_slice-cells.ensures.value) in
     subst (λ (d : ArrayData). HasCells k d (position_count s)) same c.requires.cells
@@ -130,9 +130,9 @@ sharding::ShardingCodec::push_subchunk-push_cells-requires-clause-held t c =
 pub sharding::ShardingCodec::push_subchunk-returns-in_ok-push_cells-in-Fixed-true-clause-pushed :
     goal.sharding::ShardingCodec::push_subchunk-returns-in_ok-push_cells-in-Fixed-true-clause-pushed
 sharding::ShardingCodec::push_subchunk-returns-in_ok-push_cells-in-Fixed-true-clause-pushed t c =
-    let t = c.args.data_type.now in
+    let t = c.args.cell_type.now.data_type in
     let k = kind t in
-    let f = fill_of k c.args.fill_value.now in
+    let f = filling c.args.cell_type.now in
     let empty = stores_empty_chunks c.args.options.now in
     let s = chunk_shape c.args.subchunks.now in
     let sub = subchunk_shape c.args.subchunks.now in
@@ -152,18 +152,18 @@ sharding::ShardingCodec::push_subchunk-returns-in_ok-push_cells-in-Fixed-true-cl
 pub sharding::ShardingCodec::push_subchunk-encode_part-requires :
     goal.sharding::ShardingCodec::push_subchunk-encode_part-requires
 sharding::ShardingCodec::push_subchunk-encode_part-requires t c =
-    let k = kind c.args.data_type.now in
+    let k = kind_of c.args.cell_type.now in
     let s = chunk_shape c.args.subchunks.now in
     let sub = subchunk_shape c.args.subchunks.now in
     let part = data_of c.in_ok-part-in_default.part in
     let x = extracted k s sub c.args.number (data_of c.args.bytes.now) part c.in_ok-part-in_default.ensures in
-    (first_of (omega (arith, c.decreases), search rules), (c.requires.filled, subst (λ y. HasCells k part (position_count y)) (sym c.shape-sub.ensures) x.1))
+    (first_of (omega (arith, c.decreases), search rules), (subst (λ y. HasCells k part (position_count y)) (sym c.shape.ensures) x.1))
 
 pub sharding::ShardingCodec::push_subchunk-returns-in_err-encoded-in_default-clause-refused :
     goal.sharding::ShardingCodec::push_subchunk-returns-in_err-encoded-in_default-clause-refused
 sharding::ShardingCodec::push_subchunk-returns-in_err-encoded-in_default-clause-refused t c =
-    let k = kind c.args.data_type.now in
-    let f = fill_of k c.args.fill_value.now in
+    let k = kind_of c.args.cell_type.now in
+    let f = filling c.args.cell_type.now in
     let empty = stores_empty_chunks c.args.options.now in
     let s = chunk_shape c.args.subchunks.now in
     let sub = subchunk_shape c.args.subchunks.now in
@@ -172,15 +172,15 @@ sharding::ShardingCodec::push_subchunk-returns-in_err-encoded-in_default-clause-
     let x = extracted k s sub c.args.number (data_of c.args.bytes.now) part c.in_ok-part-in_default.ensures in
     let e = c.in_err-encoded-in_default.field-0.0 in
     let here : RefusesPart (subchunk_meaning m empty k f sub) empty f (cells_of k part) e =
-    subst (λ y. RefusesPart (subchunk_meaning m empty k f y) empty f (cells_of k part) e) c.shape-sub.ensures c.in_err-encoded-in_default.ensures.refused in
+    subst (λ y. RefusesPart (subchunk_meaning m empty k f y) empty f (cells_of k part) e) c.shape.ensures c.in_err-encoded-in_default.ensures.refused in
     err_kept c.from_residual-in_err-encoded-in_default.result e (RefusesPart (subchunk_meaning m empty k f sub) empty f (subchunk_at s sub (cells_of k (data_of c.args.bytes.now)) c.args.number)) c.from_residual-in_err-encoded-in_default.ensures.1
     (subst (λ y. RefusesPart (subchunk_meaning m empty k f sub) empty f y e) x.0 here)
 
 pub sharding::ShardingCodec::push_subchunk-returns-in_ok-push_part-in_default-clause-pushed :
     goal.sharding::ShardingCodec::push_subchunk-returns-in_ok-push_part-in_default-clause-pushed
 sharding::ShardingCodec::push_subchunk-returns-in_ok-push_part-in_default-clause-pushed t c =
-    let k = kind c.args.data_type.now in
-    let f = fill_of k c.args.fill_value.now in
+    let k = kind_of c.args.cell_type.now in
+    let f = filling c.args.cell_type.now in
     let empty = stores_empty_chunks c.args.options.now in
     let s = chunk_shape c.args.subchunks.now in
     let sub = subchunk_shape c.args.subchunks.now in
@@ -192,7 +192,7 @@ sharding::ShardingCodec::push_subchunk-returns-in_ok-push_part-in_default-clause
       part = made;
       part_is =
           ap (part_of (subchunk_meaning m empty k f sub) empty f) (sym x.0)
-          ∙ ap (λ y. part_of (subchunk_meaning m empty k f y) empty f (cells_of k part)) (sym c.shape-sub.ensures) ∙ c.in_ok-encoded-in_default.ensures.part;
+          ∙ ap (λ y. part_of (subchunk_meaning m empty k f y) empty f (cells_of k part)) (sym c.shape.ensures) ∙ c.in_ok-encoded-in_default.ensures.part;
       pushes = c.in_ok-push_part-in_default.ensures.pushed;
     }
 
@@ -201,10 +201,10 @@ sharding::ShardingCodec::push_subchunk-returns-in_ok-push_part-in_default-clause
 pub sharding::ShardingCodec::encode_behind-encode_shard-requires :
     goal.sharding::ShardingCodec::encode_behind-encode_shard-requires
 sharding::ShardingCodec::encode_behind-encode_shard-requires t c =
-    let k = kind c.args.data_type.now in
-    let f = fill_of k c.args.fill_value.now in
+    let k = chunk_kind c.args.chunk.now in
+    let f = chunk_fill c.args.chunk.now in
     let empty = stores_empty_chunks c.args.options.now in
-    let s = c.args.shape.now in
+    let s = c.args.chunk.now.shape.now in
     let d = data_of c.args.bytes.now in
     let codecs = c.args.codecs.now in
     let a = arrays_meaning codecs in
@@ -213,15 +213,15 @@ sharding::ShardingCodec::encode_behind-encode_shard-requires t c =
     let e = data_of c.in-Some-2.made in
     let is : IfSome (cells k d) (λ cs. cells k e ≡ Some (a.forward s cs)) = subst (λ o. IsEncodedArray a k s d o) c.in-Some-2.is c.in_ok-made.ensures in
     let b = is_behind a (sharding_meaning c.args.self.now) (arrays-lawful codecs) empty k f s inner d e shape c.requires.cells is in
-    (first_of (omega (arith, c.decreases), search rules), (c.requires.filled, subst (λ x. HasCells k e (position_count x)) (sym c.deref.ensures.value) b.has))
+    (first_of (omega (arith, c.decreases), search rules), (subst (λ x. HasCells k e (position_count x)) (sym c.deref.ensures.value) b.has))
 
 pub sharding::ShardingCodec::encode_behind-encode_shard-requires-in-None :
     goal.sharding::ShardingCodec::encode_behind-encode_shard-requires-in-None
 sharding::ShardingCodec::encode_behind-encode_shard-requires-in-None t c =
-    let k = kind c.args.data_type.now in
-    let f = fill_of k c.args.fill_value.now in
+    let k = chunk_kind c.args.chunk.now in
+    let f = chunk_fill c.args.chunk.now in
     let empty = stores_empty_chunks c.args.options.now in
-    let s = c.args.shape.now in
+    let s = c.args.chunk.now.shape.now in
     let d = data_of c.args.bytes.now in
     let codecs = c.args.codecs.now in
     let a = arrays_meaning codecs in
@@ -230,15 +230,15 @@ sharding::ShardingCodec::encode_behind-encode_shard-requires-in-None t c =
     let e = d in
     let is : IfSome (cells k d) (λ cs. cells k e ≡ Some (a.forward s cs)) = subst (λ o. IsEncodedArray a k s d o) c.in-None.is c.in_ok-made.ensures in
     let b = is_behind a (sharding_meaning c.args.self.now) (arrays-lawful codecs) empty k f s inner d e shape c.requires.cells is in
-    (first_of (omega (arith, c.decreases), search rules), (c.requires.filled, subst (λ x. HasCells k e (position_count x)) (sym c.deref-in-None.ensures.value) b.has))
+    (first_of (omega (arith, c.decreases), search rules), (subst (λ x. HasCells k e (position_count x)) (sym c.deref.ensures.value) b.has))
 
 pub sharding::ShardingCodec::encode_behind-returns-in-Some-2-clause-encoded :
     goal.sharding::ShardingCodec::encode_behind-returns-in-Some-2-clause-encoded
 sharding::ShardingCodec::encode_behind-returns-in-Some-2-clause-encoded t c =
-    let k = kind c.args.data_type.now in
-    let f = fill_of k c.args.fill_value.now in
+    let k = chunk_kind c.args.chunk.now in
+    let f = chunk_fill c.args.chunk.now in
     let empty = stores_empty_chunks c.args.options.now in
-    let s = c.args.shape.now in
+    let s = c.args.chunk.now.shape.now in
     let d = data_of c.args.bytes.now in
     let codecs = c.args.codecs.now in
     let a = arrays_meaning codecs in
@@ -255,10 +255,10 @@ sharding::ShardingCodec::encode_behind-returns-in-Some-2-clause-encoded t c =
 pub sharding::ShardingCodec::encode_behind-returns-in-Some-2-clause-refused :
     goal.sharding::ShardingCodec::encode_behind-returns-in-Some-2-clause-refused
 sharding::ShardingCodec::encode_behind-returns-in-Some-2-clause-refused t c =
-    let k = kind c.args.data_type.now in
-    let f = fill_of k c.args.fill_value.now in
+    let k = chunk_kind c.args.chunk.now in
+    let f = chunk_fill c.args.chunk.now in
     let empty = stores_empty_chunks c.args.options.now in
-    let s = c.args.shape.now in
+    let s = c.args.chunk.now.shape.now in
     let d = data_of c.args.bytes.now in
     let codecs = c.args.codecs.now in
     let a = arrays_meaning codecs in
@@ -275,10 +275,10 @@ sharding::ShardingCodec::encode_behind-returns-in-Some-2-clause-refused t c =
 pub sharding::ShardingCodec::encode_behind-returns-clause-encoded :
     goal.sharding::ShardingCodec::encode_behind-returns-clause-encoded
 sharding::ShardingCodec::encode_behind-returns-clause-encoded t c =
-    let k = kind c.args.data_type.now in
-    let f = fill_of k c.args.fill_value.now in
+    let k = chunk_kind c.args.chunk.now in
+    let f = chunk_fill c.args.chunk.now in
     let empty = stores_empty_chunks c.args.options.now in
-    let s = c.args.shape.now in
+    let s = c.args.chunk.now.shape.now in
     let d = data_of c.args.bytes.now in
     let codecs = c.args.codecs.now in
     let a = arrays_meaning codecs in
@@ -287,17 +287,17 @@ sharding::ShardingCodec::encode_behind-returns-clause-encoded t c =
     let shape : encoded_shape a s ≡ Some inner = sym c.in_ok-inner.ensures ∙ ap (option_map (λ v. v.items)) c.in-Some.is in
     let is : IfSome (cells k d) (λ cs. cells k d ≡ Some (a.forward s cs)) = subst (λ o. IsEncodedArray a k s d o) c.in-None.is c.in_ok-made.ensures in
     let b = is_behind a m (arrays-lawful codecs) empty k f s inner d d shape c.requires.cells is in
-    let whole : chunk_encoding (behind codecs m) empty k f s d ≡ chunk_encoding m empty k f c.deref-in-None.result.now d =
-    b.encoding ∙ ap (λ x. chunk_encoding m empty k f x d) (sym c.deref-in-None.ensures.value) in
+    let whole : chunk_encoding (behind codecs m) empty k f s d ≡ chunk_encoding m empty k f c.deref.result.now d =
+    b.encoding ∙ ap (λ x. chunk_encoding m empty k f x d) (sym c.deref.ensures.value) in
     subst (λ (x : Option (List ℕ)). IfOk c.encode_shard-in-None.result (λ encoded. x ≡ Some encoded.items)) (sym whole) c.encode_shard-in-None.ensures.encoded
 
 pub sharding::ShardingCodec::encode_behind-returns-clause-refused :
     goal.sharding::ShardingCodec::encode_behind-returns-clause-refused
 sharding::ShardingCodec::encode_behind-returns-clause-refused t c =
-    let k = kind c.args.data_type.now in
-    let f = fill_of k c.args.fill_value.now in
+    let k = chunk_kind c.args.chunk.now in
+    let f = chunk_fill c.args.chunk.now in
     let empty = stores_empty_chunks c.args.options.now in
-    let s = c.args.shape.now in
+    let s = c.args.chunk.now.shape.now in
     let d = data_of c.args.bytes.now in
     let codecs = c.args.codecs.now in
     let a = arrays_meaning codecs in
@@ -308,5 +308,5 @@ sharding::ShardingCodec::encode_behind-returns-clause-refused t c =
     let is : IfSome (cells k d) (λ cs. cells k e ≡ Some (a.forward s cs)) = subst (λ o. IsEncodedArray a k s d o) c.in-None.is c.in_ok-made.ensures in
     let b = is_behind a m (arrays-lawful codecs) empty k f s inner d e shape c.requires.cells is in
     IfErr-weaker c.encode_shard-in-None.result _ _
-    (λ err why. b.refusal err (subst (λ x. RefusesChunkEncoding m empty k f x e err) c.deref-in-None.ensures.value why))
+    (λ err why. b.refusal err (subst (λ x. RefusesChunkEncoding m empty k f x e err) c.deref.ensures.value why))
     c.encode_shard-in-None.ensures.refused

@@ -1,3 +1,4 @@
+use Rattle.zarrs_data_type.specs.CellTypes.{chunk_fill, chunk_kind}
 use Rattle.std.proofs.Common.{vec_len, ◌≡◌, ◌∙◌, ◌+◌, Some, slice_get, length, map, take, List, ℕ, rules, sym, ap, subst, arith, ◌-◌, ◌*◌, ◌<◌, ◌≤◌, ◌^◌, ◌&&◌, refl, None, false, Bool, replicate}
 use Rattle.std.proofs.Math.Nat.{mul-le-mul_right, mul-le-mul_left}
 use Rattle.std.proofs.lemmas.Bool.{eqb-true, false≢true}
@@ -11,8 +12,8 @@ use Rattle.zarrs_data_type.specs.Cells.{cells}
 use Rattle.zarrs_codec_chain.specs.Chain.{ChainMeaning}
 use Rattle.zarrs_codec.specs.ChainLaws.{chain-lawful}
 use Rattle.zarrs_codec.specs.Chains.{codec_meaning, chain_meaning, inner_chain_of, is_at_start, location_of, subchunk_sizes_of, sharding_meaning}
-use Rattle.zarrs_codec.specs.Shardings.{sharded, subchunk_meaning}
-use Rattle.zarrs_codec.proofs.PartReads.{alone_refused, is_none, leaf_refused, shard_too_large}
+use Rattle.zarrs_codec.specs.Shardings.{ReadsLargeSubchunk, sharded, subchunk_meaning}
+use Rattle.zarrs_codec.proofs.PartReads.{alone_refused, is_none, large_piece, leaf_refused, shard_too_large}
 use Rattle.zarrs_codec.proofs.SubchunksInto.{overlap_lies}
 use Rattle.zarrs_codec.proofs.Pieces.{piece_alone, piece_cells, piece_put, piece_read}
 use Rattle.zarrs_codec_optional.specs.ShardingMetadata.{sizes_of}
@@ -25,9 +26,9 @@ use Rattle.zarrs_codec_chain.specs.Parts.{DecodesPart}
 use Rattle.zarrs_codec_chain.specs.Places.{shard_places}
 use Rattle.zarrs_codec_chain.specs.PartRefusals.{RefusesPartDecoding}
 use Rattle.zarrs_codec_chain.specs.Refusals.{IsTooLargeToDecode}
-use Rattle.zarrs_codec_chain.specs.ShardParts.{DecodesAs, HasAllParts, HasSubchunkParts, MeetsPart, RefusesStep}
+use Rattle.zarrs_codec_chain.specs.ShardParts.{HasAllParts, HasSubchunkParts, MeetsPart, RefusesStep}
 use Rattle.zarrs_codec_shard.specs.ShardIndex.{range_part, IsRangeWithin}
-use Rattle.zarrs_codec_shard.specs.Sharded.{SubchunkMeaning, sharded_decoded}
+use Rattle.zarrs_codec_shard.specs.Sharded.{sharded_decoded}
 use Rattle.zarrs_codec_shard.specs.SubchunkData.{chunk_shape, subchunk_shape}
 use Rattle.zarrs_codec_shard.specs.Subchunks.{quotients, subchunk_count}
 use Rattle.zarrs_codec_leaf.specs.Sources.{MayRead, window_bytes}
@@ -38,15 +39,14 @@ use Rattle.zarrs_subset.proofs.Overlaps.{AllSome}
 use Rattle.zarrs_subset.specs.Regions.{Box, LiesInBox, LiesInShape, box_of, in_box, positions}
 use Rattle.zarrs_subset.specs.Walks.{walk_box, walk_number}
 use Rattle.zarrs_data_type_kinds.proofs.Sizes.{cell_size-positive}
-use Rattle.zarrs_data_type.specs.Cell.{fill_of}
-use Rattle.zarrs_data_type.specs.Kind.{cell_size, kind}
+use Rattle.zarrs_data_type.specs.Kind.{cell_size}
 use Rattle.zarrs_codec.proofs.+partial_decode.Goals as goal
 
 pub sharding::ShardingCodec::decode_piece-returns-in_default-clause-none : goal.sharding::ShardingCodec::decode_piece-returns-in_default-clause-none
 sharding::ShardingCodec::decode_piece-returns-in_default-clause-none g t c =
-    let k = kind c.args.data_type.now in
-    let f = fill_of k c.args.fill_value.now in
-    let s = c.args.shape.now in
+    let k = chunk_kind c.args.chunk.now in
+    let f = chunk_fill c.args.chunk.now in
+    let s = c.args.chunk.now.shape.now in
     let sub = c.args.sub.now in
     let m : ChainMeaning = chain_meaning (inner_chain_of c.args.self.now) in
     let dec = m.decoded k f sub in
@@ -65,9 +65,9 @@ sharding::ShardingCodec::decode_piece-returns-in_default-clause-none g t c =
 
 pub sharding::ShardingCodec::decode_piece-index-requires : goal.sharding::ShardingCodec::decode_piece-index-requires
 sharding::ShardingCodec::decode_piece-index-requires g t c =
-    let k = kind c.args.data_type.now in
-    let f = fill_of k c.args.fill_value.now in
-    let s = c.args.shape.now in
+    let k = chunk_kind c.args.chunk.now in
+    let f = chunk_fill c.args.chunk.now in
+    let s = c.args.chunk.now.shape.now in
     let sub = c.args.sub.now in
     let m : ChainMeaning = chain_meaning (inner_chain_of c.args.self.now) in
     let dec = m.decoded k f sub in
@@ -84,9 +84,9 @@ sharding::ShardingCodec::decode_piece-index-requires g t c =
 
 pub sharding::ShardingCodec::decode_piece-subset-requires : goal.sharding::ShardingCodec::decode_piece-subset-requires
 sharding::ShardingCodec::decode_piece-subset-requires g t c =
-    let k = kind c.args.data_type.now in
-    let f = fill_of k c.args.fill_value.now in
-    let s = c.args.shape.now in
+    let k = chunk_kind c.args.chunk.now in
+    let f = chunk_fill c.args.chunk.now in
+    let s = c.args.chunk.now.shape.now in
     let sub = c.args.sub.now in
     let m : ChainMeaning = chain_meaning (inner_chain_of c.args.self.now) in
     let dec = m.decoded k f sub in
@@ -105,9 +105,9 @@ sharding::ShardingCodec::decode_piece-subset-requires g t c =
 
 pub sharding::ShardingCodec::decode_piece-returns-in_default-index-clause-none : goal.sharding::ShardingCodec::decode_piece-returns-in_default-index-clause-none
 sharding::ShardingCodec::decode_piece-returns-in_default-index-clause-none g t c =
-    let k = kind c.args.data_type.now in
-    let f = fill_of k c.args.fill_value.now in
-    let s = c.args.shape.now in
+    let k = chunk_kind c.args.chunk.now in
+    let f = chunk_fill c.args.chunk.now in
+    let s = c.args.chunk.now.shape.now in
     let sub = c.args.sub.now in
     let m : ChainMeaning = chain_meaning (inner_chain_of c.args.self.now) in
     let dec = m.decoded k f sub in
@@ -128,9 +128,9 @@ sharding::ShardingCodec::decode_piece-returns-in_default-index-clause-none g t c
 
 pub sharding::ShardingCodec::decode_piece-returns-then-is_empty-clause-none : goal.sharding::ShardingCodec::decode_piece-returns-then-is_empty-clause-none
 sharding::ShardingCodec::decode_piece-returns-then-is_empty-clause-none g t c =
-    let k = kind c.args.data_type.now in
-    let f = fill_of k c.args.fill_value.now in
-    let s = c.args.shape.now in
+    let k = chunk_kind c.args.chunk.now in
+    let f = chunk_fill c.args.chunk.now in
+    let s = c.args.chunk.now.shape.now in
     let sub = c.args.sub.now in
     let m : ChainMeaning = chain_meaning (inner_chain_of c.args.self.now) in
     let dec = m.decoded k f sub in
@@ -151,9 +151,9 @@ sharding::ShardingCodec::decode_piece-returns-then-is_empty-clause-none g t c =
 
 pub sharding::ShardingCodec::decode_piece-seen_from_corner-requires-clause-dimensions : goal.sharding::ShardingCodec::decode_piece-seen_from_corner-requires-clause-dimensions
 sharding::ShardingCodec::decode_piece-seen_from_corner-requires-clause-dimensions g t c =
-    let k = kind c.args.data_type.now in
-    let f = fill_of k c.args.fill_value.now in
-    let s = c.args.shape.now in
+    let k = chunk_kind c.args.chunk.now in
+    let f = chunk_fill c.args.chunk.now in
+    let s = c.args.chunk.now.shape.now in
     let sub = c.args.sub.now in
     let m : ChainMeaning = chain_meaning (inner_chain_of c.args.self.now) in
     let dec = m.decoded k f sub in
@@ -174,9 +174,9 @@ sharding::ShardingCodec::decode_piece-seen_from_corner-requires-clause-dimension
 
 pub sharding::ShardingCodec::decode_piece-seen_from_corner-requires-clause-above : goal.sharding::ShardingCodec::decode_piece-seen_from_corner-requires-clause-above
 sharding::ShardingCodec::decode_piece-seen_from_corner-requires-clause-above g t c =
-    let k = kind c.args.data_type.now in
-    let f = fill_of k c.args.fill_value.now in
-    let s = c.args.shape.now in
+    let k = chunk_kind c.args.chunk.now in
+    let f = chunk_fill c.args.chunk.now in
+    let s = c.args.chunk.now.shape.now in
     let sub = c.args.sub.now in
     let m : ChainMeaning = chain_meaning (inner_chain_of c.args.self.now) in
     let dec = m.decoded k f sub in
@@ -197,9 +197,9 @@ sharding::ShardingCodec::decode_piece-seen_from_corner-requires-clause-above g t
 
 pub sharding::ShardingCodec::decode_piece-overflow_add-own_window : goal.sharding::ShardingCodec::decode_piece-overflow_add-own_window
 sharding::ShardingCodec::decode_piece-overflow_add-own_window g t c =
-    let k = kind c.args.data_type.now in
-    let f = fill_of k c.args.fill_value.now in
-    let s = c.args.shape.now in
+    let k = chunk_kind c.args.chunk.now in
+    let f = chunk_fill c.args.chunk.now in
+    let s = c.args.chunk.now.shape.now in
     let sub = c.args.sub.now in
     let m : ChainMeaning = chain_meaning (inner_chain_of c.args.self.now) in
     let dec = m.decoded k f sub in
@@ -220,9 +220,9 @@ sharding::ShardingCodec::decode_piece-overflow_add-own_window g t c =
 
 pub sharding::ShardingCodec::decode_piece-overflow_sub-own_window : goal.sharding::ShardingCodec::decode_piece-overflow_sub-own_window
 sharding::ShardingCodec::decode_piece-overflow_sub-own_window g t c =
-    let k = kind c.args.data_type.now in
-    let f = fill_of k c.args.fill_value.now in
-    let s = c.args.shape.now in
+    let k = chunk_kind c.args.chunk.now in
+    let f = chunk_fill c.args.chunk.now in
+    let s = c.args.chunk.now.shape.now in
     let sub = c.args.sub.now in
     let m : ChainMeaning = chain_meaning (inner_chain_of c.args.self.now) in
     let dec = m.decoded k f sub in
@@ -243,9 +243,9 @@ sharding::ShardingCodec::decode_piece-overflow_sub-own_window g t c =
 
 pub sharding::ShardingCodec::decode_piece-returns-in_err-cells-clause-refused : goal.sharding::ShardingCodec::decode_piece-returns-in_err-cells-clause-refused
 sharding::ShardingCodec::decode_piece-returns-in_err-cells-clause-refused g t c =
-    let k = kind c.args.data_type.now in
-    let f = fill_of k c.args.fill_value.now in
-    let s = c.args.shape.now in
+    let k = chunk_kind c.args.chunk.now in
+    let f = chunk_fill c.args.chunk.now in
+    let s = c.args.chunk.now.shape.now in
     let sub = c.args.sub.now in
     let m : ChainMeaning = chain_meaning (inner_chain_of c.args.self.now) in
     let dec = m.decoded k f sub in
@@ -268,17 +268,20 @@ sharding::ShardingCodec::decode_piece-returns-in_err-cells-clause-refused g t c 
     let ranged : slice_index_or index.ranges.items n None ≡ Some range = sym (get_or_read index.ranges.items n c.index.result.now lt c.index.ensures None) ∙ c.in-Some-index.is in
     let at = window_of (g.B.ByteSource.may_read c.args.source.now) c.args.window own_window source index c.args.at_start k s sub i part n range subset shared shard here there c.requires.window (omega arith) ranged refl refl c.requires.may_read in
     let lt : n < length parts = omega (arith, here.below, here.counted, length-map index.ranges.items (range_part whole)) in
-    let large = IsTooLargeToDecode m k f sub in
+    let large = ReadsLargeSubchunk m k f s sub part in
+    let own = box_of c.in_ok-own.own in
+    let b = window_bytes own_window source in
     let refuses = g.B.ByteSource.refuses c.args.source.now in
     let e = c.in_err-cells.field-0.0 in
     err_kept c.from_residual-in_err-cells.result e (RefusesStep dec large parts refuses) c.from_residual-in_err-cells.ensures.1
-    (inner_refused dec large parts n (window_bytes own_window source) refuses e lt at.bytes_are c.in_err-cells.ensures.refused)
+    (inner_refused dec large (IsTooLargeToDecode m k f sub own b) parts n b refuses e lt at.bytes_are
+    (large_piece m k f s sub part n subset shared own c.start.result.now b there.meets there.box_of_number c.in_ok-shared.ensures.value c.start.ensures c.in_ok-own.ensures) c.in_err-cells.ensures.refused)
 
 pub sharding::ShardingCodec::decode_piece-returns-clause-piece : goal.sharding::ShardingCodec::decode_piece-returns-clause-piece
 sharding::ShardingCodec::decode_piece-returns-clause-piece g t c =
-    let k = kind c.args.data_type.now in
-    let f = fill_of k c.args.fill_value.now in
-    let s = c.args.shape.now in
+    let k = chunk_kind c.args.chunk.now in
+    let f = chunk_fill c.args.chunk.now in
+    let s = c.args.chunk.now.shape.now in
     let sub = c.args.sub.now in
     let m : ChainMeaning = chain_meaning (inner_chain_of c.args.self.now) in
     let dec = m.decoded k f sub in
@@ -310,9 +313,9 @@ sharding::ShardingCodec::decode_piece-returns-clause-piece g t c =
 
 pub sharding::ShardingCodec::decode_piece-partial_decode_inner-requires : goal.sharding::ShardingCodec::decode_piece-partial_decode_inner-requires
 sharding::ShardingCodec::decode_piece-partial_decode_inner-requires g t c κs within =
-    let k = kind c.args.data_type.now in
-    let f = fill_of k c.args.fill_value.now in
-    let s = c.args.shape.now in
+    let k = chunk_kind c.args.chunk.now in
+    let f = chunk_fill c.args.chunk.now in
+    let s = c.args.chunk.now.shape.now in
     let sub = c.args.sub.now in
     let m : ChainMeaning = chain_meaning (inner_chain_of c.args.self.now) in
     let dec = m.decoded k f sub in
@@ -346,12 +349,12 @@ sharding::ShardingCodec::decode_piece-partial_decode_inner-requires g t c κs wi
     let lies = subst (λ (b : Box). LiesInShape b sub) (sym own_is) there.piece.own_lies in
     let inner = inner_chain_of c.args.self.now in
     let may = at.allowed (m.places k sub own (window_bytes own_window source)) ((chain-lawful inner).places_inside k sub own (window_bytes own_window source)) in
-    (first_of (omega (arith, c.decreases), search rules), (search rules, (c.requires.filled, (small, (lies, (at.inside, may))))))
+    (first_of (omega (arith, c.decreases), search rules), (search rules, (small, (lies, (at.inside, may)))))
 
 pub sharding::ShardingCodec::read_subchunk-decode_piece-requires : goal.sharding::ShardingCodec::read_subchunk-decode_piece-requires
 sharding::ShardingCodec::read_subchunk-decode_piece-requires g t c κs within =
     let r = c.requires in
-    (first_of (omega (arith, c.decreases), search rules), (search rules, (r.filled, (r.size, (r.part, (r.window, (r.may_read, r.shard)))))))
+    (first_of (omega (arith, c.decreases), search rules), (search rules, (r.size, (r.part, (r.window, (r.may_read, r.shard))))))
 
 pub sharding::ShardingCodec::read_subchunk-with_owned_part-requires-clause-dimensions : goal.sharding::ShardingCodec::read_subchunk-with_owned_part-requires-clause-dimensions
 sharding::ShardingCodec::read_subchunk-with_owned_part-requires-clause-dimensions g t c =
@@ -360,9 +363,9 @@ sharding::ShardingCodec::read_subchunk-with_owned_part-requires-clause-dimension
 
 pub sharding::ShardingCodec::read_subchunk-with_owned_part-requires-clause-part : goal.sharding::ShardingCodec::read_subchunk-with_owned_part-requires-clause-part
 sharding::ShardingCodec::read_subchunk-with_owned_part-requires-clause-part g t c =
-    let k = kind c.args.data_type.now in
-    let f = fill_of k c.args.fill_value.now in
-    let s = c.args.shape.now in
+    let k = chunk_kind c.args.chunk.now in
+    let f = chunk_fill c.args.chunk.now in
+    let s = c.args.chunk.now.shape.now in
     let sub = c.args.sub.now in
     let m : ChainMeaning = chain_meaning (inner_chain_of c.args.self.now) in
     let dec = m.decoded k f sub in
@@ -375,9 +378,9 @@ sharding::ShardingCodec::read_subchunk-with_owned_part-requires-clause-part g t 
 
 pub sharding::ShardingCodec::read_subchunk-returns-clause-read : goal.sharding::ShardingCodec::read_subchunk-returns-clause-read
 sharding::ShardingCodec::read_subchunk-returns-clause-read g t c =
-    let k = kind c.args.data_type.now in
-    let f = fill_of k c.args.fill_value.now in
-    let s = c.args.shape.now in
+    let k = chunk_kind c.args.chunk.now in
+    let f = chunk_fill c.args.chunk.now in
+    let s = c.args.chunk.now.shape.now in
     let sub = c.args.sub.now in
     let m : ChainMeaning = chain_meaning (inner_chain_of c.args.self.now) in
     let dec = m.decoded k f sub in
@@ -395,9 +398,9 @@ sharding::ShardingCodec::read_subchunk-returns-in_default-clause-read g t c =
 
 pub sharding::ShardingCodec::read_subchunks-returns-in_default-2-clause-all : goal.sharding::ShardingCodec::read_subchunks-returns-in_default-2-clause-all
 sharding::ShardingCodec::read_subchunks-returns-in_default-2-clause-all g t c =
-    let k = kind c.args.data_type.now in
-    let f = fill_of k c.args.fill_value.now in
-    let s = c.args.shape.now in
+    let k = chunk_kind c.args.chunk.now in
+    let f = chunk_fill c.args.chunk.now in
+    let s = c.args.chunk.now.shape.now in
     let sub = c.args.sub.now in
     let m : ChainMeaning = chain_meaning (inner_chain_of c.args.self.now) in
     let dec = m.decoded k f sub in
@@ -414,9 +417,9 @@ sharding::ShardingCodec::read_subchunks-returns-in_default-2-clause-all g t c =
 
 pub sharding::ShardingCodec::read_subchunks-loop-walk-init : goal.sharding::ShardingCodec::read_subchunks-loop-walk-init
 sharding::ShardingCodec::read_subchunks-loop-walk-init g t c =
-    let k = kind c.args.data_type.now in
-    let f = fill_of k c.args.fill_value.now in
-    let s = c.args.shape.now in
+    let k = chunk_kind c.args.chunk.now in
+    let f = chunk_fill c.args.chunk.now in
+    let s = c.args.chunk.now.shape.now in
     let sub = c.args.sub.now in
     let m : ChainMeaning = chain_meaning (inner_chain_of c.args.self.now) in
     let dec = m.decoded k f sub in
@@ -436,9 +439,9 @@ sharding::ShardingCodec::read_subchunks-loop-walk-init g t c =
 
 pub sharding::ShardingCodec::read_subchunks-loop-walk-smaller : goal.sharding::ShardingCodec::read_subchunks-loop-walk-smaller
 sharding::ShardingCodec::read_subchunks-loop-walk-smaller g t c =
-    let k = kind c.args.data_type.now in
-    let f = fill_of k c.args.fill_value.now in
-    let s = c.args.shape.now in
+    let k = chunk_kind c.args.chunk.now in
+    let f = chunk_fill c.args.chunk.now in
+    let s = c.args.chunk.now.shape.now in
     let sub = c.args.sub.now in
     let m : ChainMeaning = chain_meaning (inner_chain_of c.args.self.now) in
     let dec = m.decoded k f sub in
@@ -456,9 +459,9 @@ sharding::ShardingCodec::read_subchunks-loop-walk-smaller g t c =
 
 pub sharding::ShardingCodec::read_subchunks-returns-then-not-advance-clause-all : goal.sharding::ShardingCodec::read_subchunks-returns-then-not-advance-clause-all
 sharding::ShardingCodec::read_subchunks-returns-then-not-advance-clause-all g t c =
-    let k = kind c.args.data_type.now in
-    let f = fill_of k c.args.fill_value.now in
-    let s = c.args.shape.now in
+    let k = chunk_kind c.args.chunk.now in
+    let f = chunk_fill c.args.chunk.now in
+    let s = c.args.chunk.now.shape.now in
     let sub = c.args.sub.now in
     let m : ChainMeaning = chain_meaning (inner_chain_of c.args.self.now) in
     let dec = m.decoded k f sub in
@@ -476,9 +479,9 @@ sharding::ShardingCodec::read_subchunks-returns-then-not-advance-clause-all g t 
 
 pub sharding::ShardingCodec::read_subchunks-loop-walk-preserved : goal.sharding::ShardingCodec::read_subchunks-loop-walk-preserved
 sharding::ShardingCodec::read_subchunks-loop-walk-preserved g t c =
-    let k = kind c.args.data_type.now in
-    let f = fill_of k c.args.fill_value.now in
-    let s = c.args.shape.now in
+    let k = chunk_kind c.args.chunk.now in
+    let f = chunk_fill c.args.chunk.now in
+    let s = c.args.chunk.now.shape.now in
     let sub = c.args.sub.now in
     let m : ChainMeaning = chain_meaning (inner_chain_of c.args.self.now) in
     let dec = m.decoded k f sub in
@@ -500,9 +503,9 @@ sharding::ShardingCodec::read_subchunks-loop-walk-preserved g t c =
 
 pub sharding::ShardingCodec::read_subchunks-read_subchunk-requires : goal.sharding::ShardingCodec::read_subchunks-read_subchunk-requires
 sharding::ShardingCodec::read_subchunks-read_subchunk-requires g t c κs within =
-    let k = kind c.args.data_type.now in
-    let f = fill_of k c.args.fill_value.now in
-    let s = c.args.shape.now in
+    let k = chunk_kind c.args.chunk.now in
+    let f = chunk_fill c.args.chunk.now in
+    let s = c.args.chunk.now.shape.now in
     let sub = c.args.sub.now in
     let m : ChainMeaning = chain_meaning (inner_chain_of c.args.self.now) in
     let dec = m.decoded k f sub in
@@ -510,24 +513,24 @@ sharding::ShardingCodec::read_subchunks-read_subchunk-requires g t c κs within 
     let parts = map (range_part (window_bytes c.args.window (g.B.ByteSource.bytes c.args.source.now))) c.args.index.now.ranges.items in
     let r = c.requires in
     let held = walked_cells k dec f s sub part parts _ (region_data c.loop-walk.made) c.loop-walk.invariant.read in
-    (first_of (omega (arith, c.decreases), search rules), (search rules, (r.filled, (r.size, (r.part, (r.window, (r.may_read, (r.shard, held))))))))
+    (first_of (omega (arith, c.decreases), search rules), (search rules, (r.size, (r.part, (r.window, (r.may_read, (r.shard, held)))))))
 
 pub sharding::ShardingCodec::read_subchunks-new_fill_value-requires-clause-size : goal.sharding::ShardingCodec::read_subchunks-new_fill_value-requires-clause-size
 sharding::ShardingCodec::read_subchunks-new_fill_value-requires-clause-size g t c =
-    let size = cell_size (kind c.args.data_type.now) in
+    let size = cell_size (chunk_kind c.args.chunk.now) in
     let count : c.in-Ok.count ≡ position_count (box_of c.args.part.now).shape = c.in-Ok.ensures.ok in
     omega (arith, ap (λ n. n * size) count, c.requires.size)
 
 pub sharding::ShardingCodec::read_subchunks-unreachable-requires : goal.sharding::ShardingCodec::read_subchunks-unreachable-requires
 sharding::ShardingCodec::read_subchunks-unreachable-requires g t c =
-    let one : 1 ≤ cell_size (kind c.args.data_type.now) = cell_size-positive c.args.data_type.now in
+    let one : 1 ≤ cell_size (chunk_kind c.args.chunk.now) = cell_size-positive c.args.chunk.now.cell_type.now.data_type in
     omega (arith, mul-le-mul_left (position_count (box_of c.args.part.now).shape) one, c.requires.size, c.in_default.ensures.refused)
 
 pub sharding::ShardingCodec::partial_decode_cut-returns-clause-cells : goal.sharding::ShardingCodec::partial_decode_cut-returns-clause-cells
 sharding::ShardingCodec::partial_decode_cut-returns-clause-cells g t c =
-    let k = kind c.args.data_type.now in
-    let f = fill_of k c.args.fill_value.now in
-    let s = c.args.shape.now in
+    let k = chunk_kind c.args.chunk.now in
+    let f = chunk_fill c.args.chunk.now in
+    let s = c.args.chunk.now.shape.now in
     let sub = c.args.sub.now in
     let inner : ChainMeaning = chain_meaning (inner_chain_of c.args.self.now) in
     let dec = inner.decoded k f sub in
@@ -536,27 +539,29 @@ sharding::ShardingCodec::partial_decode_cut-returns-clause-cells g t c =
     let parts = map (range_part whole) c.in-Some.index.ranges.items in
     let shard = rw c.in-Some.is at c.in_ok-index.ensures.shard in
     IfOk-weaker c.read_subchunks.result _ _
-    (λ made all m decodes_as.
-    all_parts_decode k dec f s sub m c.args.at_start whole parts decodes_as shard.parts part (data_of made) shard.cut c.args.part.now.same_length c.requires.part
+    (λ made all.
+    all_parts_decode k dec f s sub (subchunk_meaning inner false k f sub) c.args.at_start whole parts (λ b. refl) shard.parts part (data_of made) shard.cut c.args.part.now.same_length c.requires.part
     (λ b cs is. (chain-lawful (inner_chain_of c.args.self.now)).decoded_len k f sub b cs is) all)
     c.read_subchunks.ensures.all
 
 pub sharding::ShardingCodec::partial_decode_cut-returns-clause-refused : goal.sharding::ShardingCodec::partial_decode_cut-returns-clause-refused
 sharding::ShardingCodec::partial_decode_cut-returns-clause-refused g t c =
-    let k = kind c.args.data_type.now in
-    let f = fill_of k c.args.fill_value.now in
-    let s = c.args.shape.now in
+    let k = chunk_kind c.args.chunk.now in
+    let f = chunk_fill c.args.chunk.now in
+    let s = c.args.chunk.now.shape.now in
+    let part = box_of c.args.part.now in
     let sub = c.args.sub.now in
     let at = c.args.at_start in
     let inner : ChainMeaning = chain_meaning (inner_chain_of c.args.self.now) in
     let dec = inner.decoded k f sub in
+    let one = subchunk_meaning inner false k f sub in
     let whole = window_bytes c.args.window (g.B.ByteSource.bytes c.args.source.now) in
     let parts = map (range_part whole) c.in-Some.index.ranges.items in
     let shard = rw c.in-Some.is at c.in_ok-index.ensures.shard in
     IfErr-weaker c.read_subchunks.result _ _
-    (λ e why m decodes_as.
-    step_refused (sharded_decoded m at k f s sub whole) (IsTooLargeToDecode (sharded at sub inner) k f s whole) dec (IsTooLargeToDecode inner k f sub) parts (g.B.ByteSource.refuses c.args.source.now) e
-    (broken_shard k dec f s sub m at whole parts decodes_as shard.parts) (shard_too_large at sub inner k f s whole parts shard.cut shard.parts) why)
+    (λ e why.
+    step_refused (sharded_decoded one at k f s sub whole) (IsTooLargeToDecode (sharded at sub inner) k f s part whole) dec (ReadsLargeSubchunk inner k f s sub part) parts (g.B.ByteSource.refuses c.args.source.now) e
+    (broken_shard k dec f s sub one at whole parts (λ b. refl) shard.parts) (shard_too_large at sub inner k f s part whole parts shard.cut shard.parts) why)
     c.read_subchunks.ensures.refused
 
 pub sharding::ShardingCodec::partial_decode_cut-met_subchunks-requires-clause-cut : goal.sharding::ShardingCodec::partial_decode_cut-met_subchunks-requires-clause-cut
@@ -568,16 +573,17 @@ pub sharding::ShardingCodec::partial_decode_cut-decode_piece-requires : goal.sha
 sharding::ShardingCodec::partial_decode_cut-decode_piece-requires g t c κs within =
     let r = c.requires in
     let shard = rw c.in-Some.is at c.in_ok-index.ensures.shard in
-    (first_of (omega (arith, c.decreases), search rules), (search rules, (r.filled, (r.size, (r.part, (r.window, (r.may_read, shard)))))))
+    (first_of (omega (arith, c.decreases), search rules), (search rules, (r.size, (r.part, (r.window, (r.may_read, shard))))))
 
 pub sharding::ShardingCodec::partial_decode_cut-returns-in_err-found-clause-refused : goal.sharding::ShardingCodec::partial_decode_cut-returns-in_err-found-clause-refused
 sharding::ShardingCodec::partial_decode_cut-returns-in_err-found-clause-refused g t c =
-    let k = kind c.args.data_type.now in
-    let f = fill_of k c.args.fill_value.now in
-    let s = c.args.shape.now in
+    let k = chunk_kind c.args.chunk.now in
+    let f = chunk_fill c.args.chunk.now in
+    let s = c.args.chunk.now.shape.now in
     let sub = c.args.sub.now in
     let inner : ChainMeaning = chain_meaning (inner_chain_of c.args.self.now) in
     let dec = inner.decoded k f sub in
+    let one = subchunk_meaning inner false k f sub in
     let part = box_of c.args.part.now in
     let whole = window_bytes c.args.window (g.B.ByteSource.bytes c.args.source.now) in
     let parts = map (range_part whole) c.in-Some.index.ranges.items in
@@ -586,17 +592,16 @@ sharding::ShardingCodec::partial_decode_cut-returns-in_err-found-clause-refused 
     let refuses = g.B.ByteSource.refuses c.args.source.now in
     let e = c.in_err-found.field-0.0 in
     err_kept c.from_residual-in_err-found.result e
-    (λ e. (m : SubchunkMeaning) → DecodesAs m dec → RefusesPartDecoding (sharded_decoded m at k f s sub whole) (IsTooLargeToDecode (sharded at sub inner) k f s whole) refuses e)
+    (RefusesPartDecoding (sharded_decoded one at k f s sub whole) (IsTooLargeToDecode (sharded at sub inner) k f s part whole) refuses)
     c.from_residual-in_err-found.ensures.1
-    (λ m decodes_as.
-    step_refused (sharded_decoded m at k f s sub whole) (IsTooLargeToDecode (sharded at sub inner) k f s whole) dec (IsTooLargeToDecode inner k f sub) parts refuses e
-    (broken_shard k dec f s sub m at whole parts decodes_as shard.parts) (shard_too_large at sub inner k f s whole parts shard.cut shard.parts) c.in_err-found.ensures.refused)
+    (step_refused (sharded_decoded one at k f s sub whole) (IsTooLargeToDecode (sharded at sub inner) k f s part whole) dec (ReadsLargeSubchunk inner k f s sub part) parts refuses e
+    (broken_shard k dec f s sub one at whole parts (λ b. refl) shard.parts) (shard_too_large at sub inner k f s part whole parts shard.cut shard.parts) c.in_err-found.ensures.refused)
 
 pub sharding::ShardingCodec::partial_decode_cut-returns-then-eq-clause-cells : goal.sharding::ShardingCodec::partial_decode_cut-returns-then-eq-clause-cells
 sharding::ShardingCodec::partial_decode_cut-returns-then-eq-clause-cells g t c =
-    let k = kind c.args.data_type.now in
-    let f = fill_of k c.args.fill_value.now in
-    let s = c.args.shape.now in
+    let k = chunk_kind c.args.chunk.now in
+    let f = chunk_fill c.args.chunk.now in
+    let s = c.args.chunk.now.shape.now in
     let sub = c.args.sub.now in
     let inner : ChainMeaning = chain_meaning (inner_chain_of c.args.self.now) in
     let dec = inner.decoded k f sub in
@@ -606,21 +611,20 @@ sharding::ShardingCodec::partial_decode_cut-returns-then-eq-clause-cells g t c =
     let shard = rw c.in-Some.is at c.in_ok-index.ensures.shard in
     let has = rw c.in-Some-found.is at c.in_ok-found.ensures.piece in
     let all = piece_alone k dec f s sub part parts c.start.result.now (box_of c.in-Some-found.piece.shared) (data_of c.in-Some-found.piece.cells) has (c.eq.ensures.0 c.if-eq.true) in
-    λ m decodes_as.
-    all_parts_decode k dec f s sub m c.args.at_start whole parts decodes_as shard.parts part (data_of c.in-Some-found.piece.cells) shard.cut c.args.part.now.same_length c.requires.part
+    all_parts_decode k dec f s sub (subchunk_meaning inner false k f sub) c.args.at_start whole parts (λ b. refl) shard.parts part (data_of c.in-Some-found.piece.cells) shard.cut c.args.part.now.same_length c.requires.part
     (λ b cs is. (chain-lawful (inner_chain_of c.args.self.now)).decoded_len k f sub b cs is) all
 
 pub sharding::ShardingCodec::partial_decode_cut-read_subchunks-requires : goal.sharding::ShardingCodec::partial_decode_cut-read_subchunks-requires
 sharding::ShardingCodec::partial_decode_cut-read_subchunks-requires g t c κs within =
     let r = c.requires in
     let shard = rw c.in-Some.is at c.in_ok-index.ensures.shard in
-    (first_of (omega (arith, c.decreases), search rules), (search rules, (r.filled, (r.size, (r.part, (r.window, (r.may_read, (shard, c.in_ok-met.ensures))))))))
+    (first_of (omega (arith, c.decreases), search rules), (search rules, (r.size, (r.part, (r.window, (r.may_read, (shard, c.in_ok-met.ensures)))))))
 
 pub sharding::ShardingCodec::partial_decode_shard-partial_decode_cut-requires : goal.sharding::ShardingCodec::partial_decode_shard-partial_decode_cut-requires
 sharding::ShardingCodec::partial_decode_shard-partial_decode_cut-requires g t c κs within =
-    let k = kind c.args.data_type.now in
-    let f = fill_of k c.args.fill_value.now in
-    let s = c.args.shape.now in
+    let k = chunk_kind c.args.chunk.now in
+    let f = chunk_fill c.args.chunk.now in
+    let s = c.args.chunk.now.shape.now in
     let x = c.args.self.now in
     let m : ChainMeaning = chain_meaning (inner_chain_of x) in
     let part = box_of c.args.part.now in
@@ -631,13 +635,13 @@ sharding::ShardingCodec::partial_decode_shard-partial_decode_cut-requires g t c 
     let sub = sizes_of (subchunk_sizes_of x) in
     let may = subst (λ (l : List ℕ). MayRead (g.B.ByteSource.may_read c.args.source.now) c.args.window (shard_places c.is_at_start-at_start.result l k s part whole)) (sym sub_is)
     (subst (λ (a : Bool). MayRead (g.B.ByteSource.may_read c.args.source.now) c.args.window (shard_places a sub k s part whole)) (sym at_is) r.may_read) in
-    (first_of (omega (arith, c.decreases), search rules), (search rules, (r.filled, (r.size, (r.part, (r.window, may))))))
+    (first_of (omega (arith, c.decreases), search rules), (search rules, (r.size, (r.part, (r.window, may)))))
 
 pub sharding::ShardingCodec::partial_decode_shard-returns-clause-cells : goal.sharding::ShardingCodec::partial_decode_shard-returns-clause-cells
 sharding::ShardingCodec::partial_decode_shard-returns-clause-cells g t c =
-    let k = kind c.args.data_type.now in
-    let f = fill_of k c.args.fill_value.now in
-    let s = c.args.shape.now in
+    let k = chunk_kind c.args.chunk.now in
+    let f = chunk_fill c.args.chunk.now in
+    let s = c.args.chunk.now.shape.now in
     let x = c.args.self.now in
     let m : ChainMeaning = chain_meaning (inner_chain_of x) in
     let part = box_of c.args.part.now in
@@ -648,14 +652,14 @@ sharding::ShardingCodec::partial_decode_shard-returns-clause-cells g t c =
     IfOk-weaker c.partial_decode_cut.result _ _
     (λ made h.
     subst (λ (l : List ℕ). DecodesPart k s part (sharded_decoded (subchunk_meaning m false k f l) (is_at_start (location_of x)) k f s l whole) (data_of made)) sub_is
-    (subst (λ (a : Bool). DecodesPart k s part (sharded_decoded (subchunk_meaning m false k f sub) a k f s sub whole) (data_of made)) at_is (h (subchunk_meaning m false k f sub) (λ b. refl))))
+    (subst (λ (a : Bool). DecodesPart k s part (sharded_decoded (subchunk_meaning m false k f sub) a k f s sub whole) (data_of made)) at_is h))
     c.partial_decode_cut.ensures.cells
 
 pub sharding::ShardingCodec::partial_decode_shard-returns-clause-refused : goal.sharding::ShardingCodec::partial_decode_shard-returns-clause-refused
 sharding::ShardingCodec::partial_decode_shard-returns-clause-refused g t c =
-    let k = kind c.args.data_type.now in
-    let f = fill_of k c.args.fill_value.now in
-    let s = c.args.shape.now in
+    let k = chunk_kind c.args.chunk.now in
+    let f = chunk_fill c.args.chunk.now in
+    let s = c.args.chunk.now.shape.now in
     let x = c.args.self.now in
     let m : ChainMeaning = chain_meaning (inner_chain_of x) in
     let part = box_of c.args.part.now in
@@ -666,15 +670,16 @@ sharding::ShardingCodec::partial_decode_shard-returns-clause-refused g t c =
     let refuses = g.B.ByteSource.refuses c.args.source.now in
     IfErr-weaker c.partial_decode_cut.result _ _
     (λ e h.
-    subst (λ (l : List ℕ). RefusesPartDecoding (sharded_decoded (subchunk_meaning m false k f l) (is_at_start (location_of x)) k f s l whole) (IsTooLargeToDecode (sharded (is_at_start (location_of x)) l m) k f s whole) refuses e) sub_is
-    (subst (λ (a : Bool). RefusesPartDecoding (sharded_decoded (subchunk_meaning m false k f sub) a k f s sub whole) (IsTooLargeToDecode (sharded a sub m) k f s whole) refuses e) at_is (h (subchunk_meaning m false k f sub) (λ b. refl))))
+    subst (λ (l : List ℕ). RefusesPartDecoding (sharded_decoded (subchunk_meaning m false k f l) (is_at_start (location_of x)) k f s l whole) (IsTooLargeToDecode (sharded (is_at_start (location_of x)) l m) k f s part whole) refuses e) sub_is
+    (subst (λ (a : Bool). RefusesPartDecoding (sharded_decoded (subchunk_meaning m false k f sub) a k f s sub whole) (IsTooLargeToDecode (sharded a sub m) k f s part whole) refuses e) at_is h))
     c.partial_decode_cut.ensures.refused
 
 pub chain::CodecChain::partial_decode_chunk-returns-in-Sharding-clause-refused : goal.chain::CodecChain::partial_decode_chunk-returns-in-Sharding-clause-refused
 chain::CodecChain::partial_decode_chunk-returns-in-Sharding-clause-refused g t c =
-    let k = kind c.args.data_type.now in
-    let f = fill_of k c.args.fill_value.now in
-    let s = c.args.shape.now in
+    let k = chunk_kind c.args.chunk.now in
+    let f = chunk_fill c.args.chunk.now in
+    let s = c.args.chunk.now.shape.now in
+    let part = box_of c.args.part.now in
     let b = window_bytes c.args.window (g.B.ByteSource.bytes c.args.source.now) in
     let refuses = g.B.ByteSource.refuses c.args.source.now in
     let before = c.args.self.now.array_to_array in
@@ -683,16 +688,17 @@ chain::CodecChain::partial_decode_chunk-returns-in-Sharding-clause-refused g t c
     let alone = is_none before.items (omega (arith, none, before.ok.0)) in
     IfErr-weaker c.partial_decode_shard.result _ _
     (λ e why.
-    alone_refused before.items (codec_meaning last) k f s b refuses e alone
-    (subst (λ x. RefusesPartDecoding ((codec_meaning x).decoded k f s b) (IsTooLargeToDecode (codec_meaning x) k f s b) refuses e) (sym c.in-Sharding.is)
-    (subst (λ x. RefusesPartDecoding ((sharding_meaning x).decoded k f s b) (IsTooLargeToDecode (sharding_meaning x) k f s b) refuses e) c.deref.ensures why)))
+    alone_refused before.items (codec_meaning last) k f s part b refuses e alone
+    (subst (λ x. RefusesPartDecoding ((codec_meaning x).decoded k f s b) (IsTooLargeToDecode (codec_meaning x) k f s part b) refuses e) (sym c.in-Sharding.is)
+    (subst (λ x. RefusesPartDecoding ((sharding_meaning x).decoded k f s b) (IsTooLargeToDecode (sharding_meaning x) k f s part b) refuses e) c.deref.ensures why)))
     c.partial_decode_shard.ensures.refused
 
 pub chain::CodecChain::partial_decode_chunk-returns-in-Bytes-clause-refused : goal.chain::CodecChain::partial_decode_chunk-returns-in-Bytes-clause-refused
 chain::CodecChain::partial_decode_chunk-returns-in-Bytes-clause-refused g t c =
-    let k = kind c.args.data_type.now in
-    let f = fill_of k c.args.fill_value.now in
-    let s = c.args.shape.now in
+    let k = chunk_kind c.args.chunk.now in
+    let f = chunk_fill c.args.chunk.now in
+    let s = c.args.chunk.now.shape.now in
+    let part = box_of c.args.part.now in
     let b = window_bytes c.args.window (g.B.ByteSource.bytes c.args.source.now) in
     let refuses = g.B.ByteSource.refuses c.args.source.now in
     let before = c.args.self.now.array_to_array in
@@ -701,7 +707,7 @@ chain::CodecChain::partial_decode_chunk-returns-in-Bytes-clause-refused g t c =
     let alone = is_none before.items (omega (arith, none, before.ok.0)) in
     IfErr-weaker c.partial_decode_bytes.result _ _
     (λ e why.
-    alone_refused before.items (codec_meaning last) k f s b refuses e alone
-    (subst (λ x. RefusesPartDecoding ((codec_meaning x).decoded k f s b) (IsTooLargeToDecode (codec_meaning x) k f s b) refuses e) (sym c.in-Bytes.is)
+    alone_refused before.items (codec_meaning last) k f s part b refuses e alone
+    (subst (λ x. RefusesPartDecoding ((codec_meaning x).decoded k f s b) (IsTooLargeToDecode (codec_meaning x) k f s part b) refuses e) (sym c.in-Bytes.is)
     (leaf_refused _ _ refuses e why)))
     c.partial_decode_bytes.ensures.refused

@@ -1,11 +1,10 @@
+use Rattle.zarrs_data_type.specs.CellTypes.{chunk_fill, chunk_kind}
 use Rattle.std.proofs.Common.{◌-◌, length, map, take}
 use Rattle.zarrs_data_type.specs.RegionData.{region_data}
 use Rattle.zarrs_codec_shard.specs.ShardIndex.{range_part}
 use Rattle.zarrs_codec_leaf.specs.Sources.{window_bytes}
 use Rattle.zarrs_subset.specs.Regions.{box_of, positions}
 use Rattle.zarrs_subset.specs.Walks.{walk_box, walk_number}
-use Rattle.zarrs_data_type.specs.Cell.{fill_of}
-use Rattle.zarrs_data_type.specs.Kind.{kind}
 use Rattle.zarrs_codec_chain.specs.ShardParts.{HasSubchunkParts, MeetsPart}
 use Rattle.zarrs_codec.specs.Chains.{chain_meaning, inner_chain_of}
 use Rattle.zarrs_codec.proofs.+partial_decode.Given as goal
@@ -15,7 +14,7 @@ abbrev pub invariant-sharding::ShardingCodec::read_subchunks-loop-walk : goal.in
 invariant-sharding::ShardingCodec::read_subchunks-loop-walk g l = record {
   meets : MeetsPart l.sub (box_of l.part) (walk_box l.walk);
   read :
-      HasSubchunkParts (kind l.data_type) ((chain_meaning (inner_chain_of l.self)).decoded (kind l.data_type) (fill_of (kind l.data_type) l.fill_value) l.sub) (fill_of (kind l.data_type) l.fill_value) l.shape l.sub (box_of l.part)
+      HasSubchunkParts (chunk_kind l.chunk) ((chain_meaning (inner_chain_of l.self)).decoded (chunk_kind l.chunk) (chunk_fill l.chunk) l.sub) (chunk_fill l.chunk) l.chunk.shape.now l.sub (box_of l.part)
       (map (range_part (window_bytes l.window (g.B.ByteSource.bytes l.source))) l.index.ranges.items) (take (walk_number l.walk) (positions (walk_box l.walk))) (region_data l.made);
 }
 

@@ -12,6 +12,7 @@ use Rattle.zarrs_codec_leaf.proofs.RowReads.{count_fits}
 use Rattle.zarrs_codec_chain.proofs.BytesParts.{may_read_part, read_part, part_refused, window_len, wrong_length}
 use Rattle.std.proofs.Math.Nat.{mul-le-mul_left}
 use Rattle.zarrs_codec_chain.proofs.Kept.{err_kept}
+use Rattle.zarrs_codec_chain.proofs.AllOfIt.{whole_read}
 use Rattle.zarrs_codec_chain.proofs.PartBoxes.{part_fits}
 use Rattle.zarrs_codec_chain.proofs.SubchunkSteps.{refused_decoding}
 use Rattle.zarrs_codec_chain.specs.PartRefusals.{RefusesPartDecoding}
@@ -87,3 +88,11 @@ returns-clause-part g c =
     read_part (endian_of c.args.codec.now) (kind c.args.data_type.now) c.in-Some.size c.args.shape.now (box_of c.args.part.now) c.args.window source c.in_ok-encoded.encoded.items (data_of c.in_ok-decode_owned.field-0)
     is c.args.part.now.same_length c.requires.part c.requires.window (c.is_length_of.ensures.0 c.if-not-is_length_of.false) c.in_ok-encoded.ensures.bytes
     (c.in_ok-decode_owned.ensures.cells ∙ ap (λ n. (bytes_meaning_of (endian_of c.args.codec.now)).decoded (kind c.args.data_type.now) n c.in_ok-encoded.encoded.items) count) c.in_ok-decode_owned.ensures.some
+
+pub returns-clause-whole : goal.returns-clause-whole
+returns-clause-whole g c = λ all.
+    let source = g.B.ByteSource.bytes c.args.source.now in
+    let count : c.in-Ok.count ≡ position_count (box_of c.args.part.now).shape = c.in-Ok.ensures.ok in
+    whole_read (endian_of c.args.codec.now) (kind c.args.data_type.now) c.in-Some.size c.args.shape.now (box_of c.args.part.now) c.args.window source c.in_ok-encoded.encoded.items (data_of c.in_ok-decode_owned.field-0)
+    all c.args.part.now.same_length c.requires.part (c.is_length_of.ensures.0 c.if-not-is_length_of.false) c.in_ok-encoded.ensures.bytes
+    (c.in_ok-decode_owned.ensures.cells ∙ ap (λ n. (bytes_meaning_of (endian_of c.args.codec.now)).decoded (kind c.args.data_type.now) n c.in_ok-encoded.encoded.items) count)

@@ -18,4 +18,4 @@ copy_box-requires-clause-target_fits c =
     let start : c.start-2.result.now ≡ t.region.now.start.items = search rules in
     let extents : c.shape.result.now ≡ part.shape.items = search rules in
     let own : c.shape.result.now ≡ t.region.now.shape.items = extents ∙ sym c.requires.same_shape in
-    rw (own, start) (part_fits (target_box t) t.parent_shape.now t.region.now.same_length c.requires.target.inside)
+    rw (own, start) (part_fits (target_box t) t.parent_shape.now t.region.now.same_length c.args.target.now.whole.inside)

@@ -1,17 +1,21 @@
-use Rattle.std.proofs.Common.{◌≡◌, ◌∙◌, ap, true, sym, subst}
+use Rattle.std.proofs.Common.{refl, ◌≡◌, ◌∙◌, ap, true, sym, subst}
 use Rattle.zarrs_codec_leaf.specs.Bytes.{endian_of, bytes_meaning_of}
 use Rattle.zarrs_codec_leaf.specs.Sources.{window_bytes}
 use Rattle.zarrs_subset.specs.Boxes.{position_count}
 use Rattle.zarrs_subset.specs.Regions.{box_of}
-use Rattle.zarrs_data_type.specs.States.{target_box, data_of_target, parent_box}
+use Rattle.zarrs_data_type.specs.States.{target_box, data_of_target}
 use Rattle.zarrs_data_type.specs.Kind.{kind}
 use Rattle.zarrs_codec_chain.proofs.BytesInto.{cells_len, put_into, put_outside}
 use Rattle.zarrs_data_type.specs.ArrayData.{data_of}
 use Rattle.zarrs_data_type.specs.Cells.{fits}
 use Rattle.zarrs_data_type_bytes.proofs.Cells.{cells-parts}
-use Rattle.zarrs_data_type_region.proofs.TargetLevels.{masked_keeps}
+use Rattle.zarrs_data_type_region.proofs.Kept.{keeps_itself}
 use Rattle.zarrs_data_type_region.proofs.TypeSizes.{levels_of}
 use Rattle.zarrs_codec_chain.proofs.PartsInto.{written_part}
+use Rattle.std.specs.Prelude.{IsSome}
+use Rattle.zarrs_codec_chain.specs.BytesInto.{AreCells}
+use Rattle.zarrs_codec_chain.proofs.BytesParts.{window_len}
+use Rattle.zarrs_codec_chain.proofs.AllOfIt.{cells_decode}
 use Rattle.zarrs_codec_chain.proofs.bytes_into.partial_decode_bytes_into.Goals as goal
 
 pub put_part-requires-clause-array_len : goal.put_part-requires-clause-array_len
@@ -21,7 +25,7 @@ put_part-requires-clause-array_len g c =
     let source = g.B.ByteSource.bytes c.args.source.now in
     let got : c.window_of-array.result.now ≡ window_bytes c.args.window source = c.window_of-array.ensures ∙ ap (window_bytes c.args.window) c.in-Some.ensures.lends.all in
     cells_len (endian_of c.args.codec.now) (kind c.args.data_type.now) c.args.shape.now (box_of part) (target_box t) t.parent_shape.now c.args.window source c.window_of-array.result.now t.cell_size t.depth t.bytes.now t.bytes.now
-    (c.are_cells.ensures c.if-are_cells.true) c.requires.takes part.same_length t.region.now.same_length c.requires.same_shape c.requires.part c.requires.target.inside c.requires.window got
+    (c.are_cells.ensures c.if-are_cells.true) c.requires.takes part.same_length t.region.now.same_length c.requires.same_shape c.requires.part c.args.target.now.whole.inside c.requires.window got
 
 pub returns-then-are_cells-clause-cells : goal.returns-then-are_cells-clause-cells
 returns-then-are_cells-clause-cells g c =
@@ -31,27 +35,28 @@ returns-then-are_cells-clause-cells g c =
     let source = g.B.ByteSource.bytes c.args.source.now in
     let got : c.window_of-array.result.now ≡ window_bytes c.args.window source = c.window_of-array.ensures ∙ ap (window_bytes c.args.window) c.in-Some.ensures.lends.all in
     put_into (endian_of c.args.codec.now) (kind c.args.data_type.now) c.args.shape.now (box_of part) (target_box t) t.parent_shape.now c.args.window source c.window_of-array.result.now t.cell_size t.depth t.bytes.now u.bytes.now
-    (c.are_cells.ensures c.if-are_cells.true) c.requires.takes part.same_length t.region.now.same_length c.requires.same_shape c.requires.part c.requires.target.inside c.requires.window got
-    c.put_part.ensures.put u.depth c.put_part.ensures.same_box.depth (position_count t.parent_shape.now) (position_count u.parent_shape.now) t.masks.now u.masks.now
+    (c.are_cells.ensures c.if-are_cells.true) c.requires.takes part.same_length t.region.now.same_length c.requires.same_shape c.requires.part c.args.target.now.whole.inside c.requires.window got
+    c.put_part.ensures.put u.depth c.put_part.ensures.same.depth (position_count t.parent_shape.now) (position_count u.parent_shape.now) t.masks.now u.masks.now
 
-pub returns-then-are_cells-clause-outside : goal.returns-then-are_cells-clause-outside
-returns-then-are_cells-clause-outside g c =
+pub returns-then-are_cells-clause-kept : goal.returns-then-are_cells-clause-kept
+returns-then-are_cells-clause-kept g c =
     let t = c.args.target.now in
     let u = c.put_part.new.target in
     let part = c.args.part.now in
     let source = g.B.ByteSource.bytes c.args.source.now in
     let got : c.window_of-array.result.now ≡ window_bytes c.args.window source = c.window_of-array.ensures ∙ ap (window_bytes c.args.window) c.in-Some.ensures.lends.all in
-    put_outside (endian_of c.args.codec.now) (kind c.args.data_type.now) c.args.shape.now (box_of part) (target_box t) t.parent_shape.now c.args.window source c.window_of-array.result.now t.cell_size t.depth t.bytes.now u.bytes.now
-    (c.are_cells.ensures c.if-are_cells.true) c.requires.takes part.same_length t.region.now.same_length c.requires.same_shape c.requires.part c.requires.target.inside c.requires.window got
-    c.put_part.ensures.put u.depth c.put_part.ensures.same_box.depth (position_count t.parent_shape.now) (position_count u.parent_shape.now) t.masks.now u.masks.now
+    record {
+      same = c.put_part.ensures.same;
+      outside = put_outside (endian_of c.args.codec.now) (kind c.args.data_type.now) c.args.shape.now (box_of part) (target_box t) t.parent_shape.now c.args.window source c.window_of-array.result.now t.cell_size t.depth t.bytes.now u.bytes.now
+          (c.are_cells.ensures c.if-are_cells.true) c.requires.takes part.same_length t.region.now.same_length c.requires.same_shape c.requires.part c.args.target.now.whole.inside c.requires.window got
+          c.put_part.ensures.put u.depth c.put_part.ensures.same.depth (position_count t.parent_shape.now) (position_count u.parent_shape.now) t.masks.now u.masks.now;
+    }
 
-pub returns-in_err-cells-clause-outside : goal.returns-in_err-cells-clause-outside
-returns-in_err-cells-clause-outside g c =
-    let t = c.args.target.now in
-    masked_keeps t.cell_size (parent_box t) (target_box t) t.depth (position_count t.parent_shape.now) t.masks.now t.bytes.now
+pub returns-in_err-cells-clause-kept : goal.returns-in_err-cells-clause-kept
+returns-in_err-cells-clause-kept g c = keeps_itself c.args.target.now
 
-pub write_cells-requires-clause-data : goal.write_cells-requires-clause-data
-write_cells-requires-clause-data g c =
+pub write_cells-requires : goal.write_cells-requires
+write_cells-requires g c =
     let t = c.args.target.now in
     let k = kind c.args.data_type.now in
     let own = target_box t in
@@ -74,4 +79,18 @@ returns-clause-cells g c =
     let same : position_count part.shape ≡ position_count own.shape = ap position_count (sym c.requires.same_shape) in
     let fit = subst (λ n. fits k made n ≡ true) (d.count ∙ same) (cells-parts k made d.given d.are_cells).0 in
     written_part k t.parent_shape.now s part own ((bytes_meaning_of (endian_of c.args.codec.now)).decoded k (position_count s) b) made (data_of_target t) (data_of_target c.write_cells.new.self) c.args.part.now.same_length t.region.now.same_length c.requires.same_shape
-    c.requires.target.inside d (c.in_ok-write_cells.ensures.cells k c.requires.takes fit)
+    c.args.target.now.whole.inside d (c.in_ok-write_cells.ensures.cells k c.requires.takes fit)
+
+pub returns-then-are_cells-clause-whole : goal.returns-then-are_cells-clause-whole
+returns-then-are_cells-clause-whole g c = λ all.
+    let k = kind c.args.data_type.now in
+    let e = endian_of c.args.codec.now in
+    let n = position_count c.args.shape.now in
+    let source = g.B.ByteSource.bytes c.args.source.now in
+    cells_decode e k n (window_bytes c.args.window source)
+    (subst (λ l. AreCells e k n l) (sym (window_len c.args.window source c.requires.window)) (c.are_cells.ensures c.if-are_cells.true))
+
+pub returns-clause-whole : goal.returns-clause-whole
+returns-clause-whole g c = λ all.
+    let whole = c.in_ok-cells.ensures.whole all in
+    subst IsSome (sym c.in_ok-cells.ensures.part.are_cells ∙ whole) refl

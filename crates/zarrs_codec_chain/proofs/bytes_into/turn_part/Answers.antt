@@ -24,7 +24,7 @@ turn_rows-requires-clause-target_fits g c =
     let start : c.start-2.result.now ≡ t.region.now.start.items = search rules in
     let extents : c.shape.result.now ≡ part.shape.items = search rules in
     let own : c.shape.result.now ≡ t.region.now.shape.items = extents ∙ sym c.requires.same_shape in
-    rw (own, start) (part_fits (target_box t) t.parent_shape.now t.region.now.same_length c.requires.target.inside)
+    rw (own, start) (part_fits (target_box t) t.parent_shape.now t.region.now.same_length c.args.target.now.whole.inside)
 
 pub returns-clause-put : goal.returns-clause-put
 returns-clause-put g c =
@@ -42,11 +42,11 @@ returns-clause-put g c =
     let part_extents : c.shape.result.now ≡ part.shape = search rules in
     let extents : c.shape.result.now ≡ own.shape = part_extents ∙ sym c.requires.same_shape in
     let len : length array ≡ position_count s * N = c.requires.array_len ∙ ap (λ x. position_count s * x) c.requires.size in
-    let old_len : length old ≡ position_count parent * N = c.requires.target.has_bytes ∙ ap (λ x. position_count parent * x) c.requires.size in
+    let old_len : length old ≡ position_count parent * N = c.args.target.now.whole.has_bytes ∙ ap (λ x. position_count parent * x) c.requires.size in
     let turned = flat_map reverse (pieces N (position_count s) array) in
     let is = turned_of N (position_count s) array len c.requires.some in
     let fits : BoxFits part.start own.shape s = subst (λ (x : List ℕ). BoxFits part.start x s) (sym c.requires.same_shape) (part_fits part s c.args.part.now.same_length c.requires.part) in
-    let own_fits = part_fits own parent t.region.now.same_length c.requires.target.inside in
+    let own_fits = part_fits own parent t.region.now.same_length c.args.target.now.whole.inside in
     let copied : BoxCopied N s part.start parent own.start own.shape turned old new =
     subst (λ (x : List ℕ). BoxCopied N s part.start parent own.start x turned old new) extents
     (subst (λ (x : List ℕ). BoxCopied N s part.start parent x c.shape.result.now turned old new) own_start

@@ -1,9 +1,8 @@
+use Rattle.zarrs_data_type.specs.CellTypes.{chunk_fill, chunk_kind}
 use Rattle.std.proofs.Common.{rules, ◌≡◌, true, Some, sym, subst, ◌∙◌}
 use Rattle.std.specs.Prelude.{IfSome}
 use Rattle.zarrs_data_type.specs.ArrayData.{data_of}
-use Rattle.zarrs_data_type.specs.Cell.{fill_of}
 use Rattle.zarrs_data_type.specs.Cells.{cells}
-use Rattle.zarrs_data_type.specs.Kind.{kind}
 use Rattle.zarrs_subset.specs.Boxes.{position_count}
 use Rattle.zarrs_codec_array.specs.ArrayCodecs.{arrays_meaning, arrays-lawful}
 use Rattle.zarrs_codec_array.specs.Gathered.{encoded_shape}
@@ -22,14 +21,14 @@ use Rattle.zarrs_codec.proofs.chain.CodecChain.decode_cells.Goals as goal
 
 pub unwrap-count-requires : goal.unwrap-count-requires
 unwrap-count-requires c =
-    some_count c.element_count.result (position_count c.args.shape.now) c.element_count.ensures
-    (count_fits c.args.data_type.now (position_count c.args.shape.now) c.requires.size)
+    some_count c.element_count.result (position_count c.args.chunk.now.shape.now) c.element_count.ensures
+    (count_fits c.args.chunk.now.cell_type.now.data_type (position_count c.args.chunk.now.shape.now) c.requires.size)
 
 pub returns-in_err-array-clause-refused : goal.returns-in_err-array-clause-refused
 returns-in_err-array-clause-refused c =
-    let k = kind c.args.data_type.now in
-    let f = fill_of k c.args.fill_value.now in
-    let s = c.args.shape.now in
+    let k = chunk_kind c.args.chunk.now in
+    let f = chunk_fill c.args.chunk.now in
+    let s = c.args.chunk.now.shape.now in
     let b = c.args.encoded.now in
     let arrays = c.args.self.now.array_to_array.items in
     let a = arrays_meaning arrays in
@@ -47,9 +46,9 @@ returns-in_err-array-clause-refused c =
 
 pub decode_array-requires-clause-cells : goal.decode_array-requires-clause-cells
 decode_array-requires-clause-cells c =
-    let k = kind c.args.data_type.now in
-    let f = fill_of k c.args.fill_value.now in
-    let s = c.args.shape.now in
+    let k = chunk_kind c.args.chunk.now in
+    let f = chunk_fill c.args.chunk.now in
+    let s = c.args.chunk.now.shape.now in
     let b = c.args.encoded.now in
     let arrays = c.args.self.now.array_to_array.items in
     let a = arrays_meaning arrays in
@@ -66,9 +65,9 @@ decode_array-requires-clause-cells c =
 
 pub returns-clause-cells : goal.returns-clause-cells
 returns-clause-cells c =
-    let k = kind c.args.data_type.now in
-    let f = fill_of k c.args.fill_value.now in
-    let s = c.args.shape.now in
+    let k = chunk_kind c.args.chunk.now in
+    let f = chunk_fill c.args.chunk.now in
+    let s = c.args.chunk.now.shape.now in
     let b = c.args.encoded.now in
     let arrays = c.args.self.now.array_to_array.items in
     let a = arrays_meaning arrays in

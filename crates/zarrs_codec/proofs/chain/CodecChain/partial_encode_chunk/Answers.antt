@@ -1,9 +1,8 @@
+use Rattle.zarrs_data_type.specs.CellTypes.{chunk_fill, chunk_kind}
 use Rattle.std.proofs.Common.{◌≡◌, true, option_map, sym, subst}
 use Rattle.std.proofs.lemmas.Bool.{and_parts}
 use Rattle.std.proofs.lemmas.Result.{IfErr-weaker}
 use Rattle.zarrs_data_type.specs.ArrayData.{data_of}
-use Rattle.zarrs_data_type.specs.Cell.{fill_of}
-use Rattle.zarrs_data_type.specs.Kind.{kind}
 use Rattle.zarrs_subset.specs.Regions.{box_of}
 use Rattle.zarrs_codec_chain.specs.Options.{stores_empty_chunks}
 use Rattle.zarrs_codec_chain.specs.Refusals.{RefusesPartialEncoding}
@@ -13,10 +12,10 @@ use Rattle.zarrs_codec.proofs.chain.CodecChain.partial_encode_chunk.Goals as goa
 
 pub returns-clause-refused : goal.returns-clause-refused
 returns-clause-refused c =
-    let k = kind c.args.data_type.now in
-    let f = fill_of k c.args.fill_value.now in
+    let k = chunk_kind c.args.chunk.now in
+    let f = chunk_fill c.args.chunk.now in
     let empty = stores_empty_chunks c.args.options.now in
-    let s = c.args.shape.now in
+    let s = c.args.chunk.now.shape.now in
     let stored = option_map (λ encoded. encoded.now) c.args.stored in
     let part = box_of c.args.part.now in
     let d = data_of c.args.bytes.now in

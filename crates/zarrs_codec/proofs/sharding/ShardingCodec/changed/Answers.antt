@@ -1,8 +1,7 @@
+use Rattle.zarrs_data_type.specs.CellTypes.{filling, kind_of}
 use Rattle.std.proofs.Common.{sym, subst}
 use Rattle.zarrs_data_type.specs.ArrayData.{data_of}
-use Rattle.zarrs_data_type.specs.Cell.{fill_of}
 use Rattle.zarrs_data_type.specs.Cells.{HasCells}
-use Rattle.zarrs_data_type.specs.Kind.{kind}
 use Rattle.zarrs_subset.specs.Boxes.{position_count}
 use Rattle.zarrs_subset.specs.Regions.{box_of}
 use Rattle.zarrs_codec_shard.specs.ShardIndex.{range_part}
@@ -15,18 +14,20 @@ use Rattle.zarrs_codec.proofs.sharding.ShardingCodec.changed.Goals as goal
 
 pub update-requires-clause-held : goal.update-requires-clause-held
 update-requires-clause-held c =
-    let k = kind c.args.data_type.now in
-    let f = fill_of k c.args.fill_value.now in
+    let k = kind_of c.args.cell_type.now in
+    let f = filling c.args.cell_type.now in
     let sub = subchunk_shape c.args.subchunks.now in
     let inner = inner_chain_of c.args.self.now in
     held_data (chain_meaning inner) (chain-lawful inner) k f sub (range_part c.args.shard.now c.args.range) (data_of c.in_ok-held.held) c.in_ok-held.ensures.cells c.in_ok-held.ensures.some
 
-pub encode_part-requires-clause-cells : goal.encode_part-requires-clause-cells
-encode_part-requires-clause-cells c =
-    let k = kind c.args.data_type.now in
-    let f = fill_of k c.args.fill_value.now in
+pub encode_part-requires : goal.encode_part-requires
+encode_part-requires c =
+    let k = kind_of c.args.cell_type.now in
+    let f = filling c.args.cell_type.now in
     let s = chunk_shape c.args.subchunks.now in
     let sub = subchunk_shape c.args.subchunks.now in
     let made = data_of c.in_ok-updated.updated in
-    subst (λ x. HasCells k made (position_count x)) (sym c.shape-sub.ensures)
-    (updated_data (chain_meaning (inner_chain_of c.args.self.now)) (stores_empty_chunks c.args.options.now) k f s sub (box_of c.args.part.now) (data_of c.args.bytes.now) c.args.number (data_of c.in_ok-held.held) made c.in_ok-updated.ensures)
+    record {
+      cells = subst (λ x. HasCells k made (position_count x)) (sym c.shape.ensures)
+          (updated_data (chain_meaning (inner_chain_of c.args.self.now)) (stores_empty_chunks c.args.options.now) k f s sub (box_of c.args.part.now) (data_of c.args.bytes.now) c.args.number (data_of c.in_ok-held.held) made c.in_ok-updated.ensures);
+    }

@@ -1,15 +1,15 @@
-use Rattle.std.proofs.Common.{rules, ◌≡◌, true, Option, Some, IfOk, map, option_map, sym, ap, subst, ◌∙◌}
+use Rattle.zarrs_data_type.specs.CellTypes.{chunk_fill, chunk_kind}
+use Rattle.std.proofs.Common.{arith, length, rules, ◌≡◌, true, Option, Some, IfOk, map, option_map, sym, ap, subst, ◌∙◌}
 use Rattle.std.proofs.lemmas.List.{length-map}
 use Rattle.std.proofs.lemmas.Result.{IfErr-weaker}
 use Rattle.zarrs_data_type.specs.ArrayData.{data_of}
-use Rattle.zarrs_data_type.specs.Cell.{fill_of}
-use Rattle.zarrs_data_type.specs.Kind.{kind}
 use Rattle.zarrs_subset.specs.Boxes.{position_count}
 use Rattle.zarrs_subset.specs.Regions.{box_of}
 use Rattle.zarrs_codec_shard.specs.PartialShards.{PartialChange, stored_parts}
 use Rattle.zarrs_codec_shard.specs.ShardIndex.{range_part}
 use Rattle.zarrs_codec_shard.specs.ShardPatches.{change_of}
 use Rattle.zarrs_codec_shard.specs.SubchunkData.{chunk_shape, subchunk_shape}
+use Rattle.zarrs_codec_shard.specs.Subchunks.{subchunk_count}
 use Rattle.zarrs_codec_chain.specs.Chain.{ChainMeaning}
 use Rattle.zarrs_codec_chain.specs.Options.{stores_empty_chunks}
 use Rattle.zarrs_codec.specs.Chains.{chain_meaning, inner_chain_of, is_at_start, location_of, subchunk_sizes_of}
@@ -18,12 +18,12 @@ use Rattle.zarrs_codec.specs.PartialShardings.{stored_bytes}
 use Rattle.zarrs_codec.proofs.PatchedShards.{at_end, is_opened, IsOpened}
 use Rattle.zarrs_codec.proofs.sharding.ShardingCodec.partial_encode_shard.Goals as goal
 
-pub patch_shard-requires-clause-count : goal.patch_shard-requires-clause-count
-patch_shard-requires-clause-count c =
-    let k = kind c.args.data_type.now in
-    let f = fill_of k c.args.fill_value.now in
+pub patch_shard-requires-clause-ranges : goal.patch_shard-requires-clause-ranges
+patch_shard-requires-clause-ranges c =
+    let k = chunk_kind c.args.chunk.now in
+    let f = chunk_fill c.args.chunk.now in
     let empty = stores_empty_chunks c.args.options.now in
-    let s = c.args.shape.now in
+    let s = c.args.chunk.now.shape.now in
     let sub = sizes_of (subchunk_sizes_of c.args.self.now) in
     let stored = option_map (λ encoded. encoded.now) c.args.stored in
     let b = stored_bytes stored in
@@ -45,43 +45,20 @@ patch_shard-requires-clause-count c =
     let r : IsOpened m at empty k f s sub part d stored (chunk_shape subchunks) (subchunk_shape subchunks) (map (range_part b) ranges) =
     is_opened m at empty k f s sub part d stored (chunk_shape subchunks) (subchunk_shape subchunks) (map (range_part b) ranges) count (position_count part.shape) shape_is (cut_is ∙ c.deref.ensures.value ∙ sub_is)
     (at_end at c.requires.supported) subchunks.cut fit c.in-Some-indexed_count.ensures.none c.in-Some-indexed_count.ensures.few read c.requires.cells in
-    sym (length-map ranges (range_part b)) ∙ r.long
-
-pub patch_shard-requires-clause-parts : goal.patch_shard-requires-clause-parts
-patch_shard-requires-clause-parts c =
-    let k = kind c.args.data_type.now in
-    let f = fill_of k c.args.fill_value.now in
-    let empty = stores_empty_chunks c.args.options.now in
-    let s = c.args.shape.now in
-    let sub = sizes_of (subchunk_sizes_of c.args.self.now) in
-    let stored = option_map (λ encoded. encoded.now) c.args.stored in
-    let b = stored_bytes stored in
-    let part = box_of c.args.part.now in
-    let d = data_of c.args.bytes.now in
-    let subchunks = c.in-Some.subchunks in
-    let ranges = c.deref-3.result.now in
-    let count = c.in-Some-indexed_count.count in
-    let m : ChainMeaning = chain_meaning (inner_chain_of c.args.self.now) in
-    let at = is_at_start (location_of c.args.self.now) in
-    let sub_is : c.in_ok-sub.sub.items ≡ sub = c.in_ok-sub.ensures in
-    let shape_is : chunk_shape subchunks ≡ s = search rules in
-    let cut_is : subchunk_shape subchunks ≡ c.deref.result.now = search rules in
-    let fit : m.fits k sub ≡ true =
-    subst (λ x. m.fits k x ≡ true) (c.deref-2.ensures.value ∙ sub_is)
-    (subst (λ x. (chain_meaning x).fits k c.deref-2.result.now ≡ true) c.inner_codecs.ensures (sym c.in_ok-fits_chunk.ensures ∙ c.if-not-branch.false)) in
-    let given : stored_parts count stored ≡ Some (map (range_part b) c.in-Some-2.ranges.items) = search rules in
-    let read : stored_parts count stored ≡ Some (map (range_part b) ranges) = given ∙ ap (λ l. Some (map (range_part b) l)) (sym c.deref-3.ensures.value) in
-    let r : IsOpened m at empty k f s sub part d stored (chunk_shape subchunks) (subchunk_shape subchunks) (map (range_part b) ranges) =
-    is_opened m at empty k f s sub part d stored (chunk_shape subchunks) (subchunk_shape subchunks) (map (range_part b) ranges) count (position_count part.shape) shape_is (cut_is ∙ c.deref.ensures.value ∙ sub_is)
-    (at_end at c.requires.supported) subchunks.cut fit c.in-Some-indexed_count.ensures.none c.in-Some-indexed_count.ensures.few read c.requires.cells in
-    subst (λ j. stored_parts j stored ≡ Some (map (range_part b) ranges)) (c.in-Some-indexed_count.ensures.none ∙ sym (sym (length-map ranges (range_part b)) ∙ r.long)) read
+    let counted : length ranges ≡ subchunk_count (chunk_shape subchunks) (subchunk_shape subchunks) = sym (length-map ranges (range_part b)) ∙ r.long in
+    record {
+      within = search rules;
+      count = counted;
+      few = omega (arith, counted, c.in-Some-indexed_count.ensures.none, c.in-Some-indexed_count.ensures.few);
+      parts = subst (λ j. stored_parts j stored ≡ Some (map (range_part b) ranges)) (c.in-Some-indexed_count.ensures.none ∙ sym counted) read;
+    }
 
 pub returns : goal.returns
 returns c =
-    let k = kind c.args.data_type.now in
-    let f = fill_of k c.args.fill_value.now in
+    let k = chunk_kind c.args.chunk.now in
+    let f = chunk_fill c.args.chunk.now in
     let empty = stores_empty_chunks c.args.options.now in
-    let s = c.args.shape.now in
+    let s = c.args.chunk.now.shape.now in
     let sub = sizes_of (subchunk_sizes_of c.args.self.now) in
     let stored = option_map (λ encoded. encoded.now) c.args.stored in
     let b = stored_bytes stored in

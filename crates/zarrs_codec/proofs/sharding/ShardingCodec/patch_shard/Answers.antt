@@ -1,7 +1,6 @@
+use Rattle.zarrs_data_type.specs.CellTypes.{filling, kind_of}
 use Rattle.std.proofs.Common.{List, ℕ, map, option_map, subst}
 use Rattle.zarrs_data_type.specs.ArrayData.{data_of}
-use Rattle.zarrs_data_type.specs.Cell.{fill_of}
-use Rattle.zarrs_data_type.specs.Kind.{kind}
 use Rattle.zarrs_subset.specs.Regions.{box_of}
 use Rattle.zarrs_codec_shard.specs.ShardIndex.{range_part}
 use Rattle.zarrs_codec_shard.specs.SubchunkData.{chunk_shape, subchunk_shape}
@@ -16,8 +15,8 @@ use Rattle.zarrs_codec.proofs.sharding.ShardingCodec.patch_shard.Goals as goal
 pub returns-in_err-test_met-in-Err-SizeOverflow-clause-refused :
     goal.returns-in_err-test_met-in-Err-SizeOverflow-clause-refused
 returns-in_err-test_met-in-Err-SizeOverflow-clause-refused c =
-    let k = kind c.args.data_type.now in
-    let f = fill_of k c.args.fill_value.now in
+    let k = kind_of c.args.cell_type.now in
+    let f = filling c.args.cell_type.now in
     let m : ChainMeaning = chain_meaning (inner_chain_of c.args.self.now) in
     let empty = stores_empty_chunks c.args.options.now in
     let s = chunk_shape c.args.subchunks.now in

@@ -1,7 +1,6 @@
+use Rattle.zarrs_data_type.specs.CellTypes.{filling, kind_of}
 use Rattle.std.proofs.Common.{rules, arith, ◌≡◌, ◌<◌, None, Some, is_some, get_or, length, map, option_map, refl, sym, ap, subst, ◌∙◌}
 use Rattle.zarrs_data_type.specs.ArrayData.{data_of}
-use Rattle.zarrs_data_type.specs.Cell.{fill_of}
-use Rattle.zarrs_data_type.specs.Kind.{kind}
 use Rattle.zarrs_subset.specs.Regions.{box_of}
 use Rattle.zarrs_codec_shard.specs.ShardIndex.{range_part}
 use Rattle.zarrs_codec_shard.specs.ShardPatches.{change_of}
@@ -16,28 +15,28 @@ use Rattle.zarrs_codec.proofs.sharding.ShardingCodec.patched.Goals as goal
 
 pub loop-number-init : goal.loop-number-init
 loop-number-init c =
-    let k = kind c.args.data_type.now in
+    let k = kind_of c.args.cell_type.now in
     let stored = option_map (λ encoded. encoded.now) c.args.stored in
     let ranges = c.args.ranges.now in
     let parts = map (range_part (stored_bytes stored)) ranges in
-    changes_started (chain_meaning (inner_chain_of c.args.self.now)) (stores_empty_chunks c.args.options.now) k (fill_of k c.args.fill_value.now) (chunk_shape c.args.subchunks.now) (subchunk_shape c.args.subchunks.now)
+    changes_started (chain_meaning (inner_chain_of c.args.self.now)) (stores_empty_chunks c.args.options.now) k (filling c.args.cell_type.now) (chunk_shape c.args.subchunks.now) (subchunk_shape c.args.subchunks.now)
     (box_of c.args.part.now) (data_of c.args.bytes.now) stored parts (length ranges) c.in_ok-patch.patch (c.in_ok-patch.ensures parts)
 
 pub push-requires : goal.push-requires
 push-requires c =
-    let k = kind c.args.data_type.now in
+    let k = kind_of c.args.cell_type.now in
     let stored = option_map (λ encoded. encoded.now) c.args.stored in
     let ranges = c.args.ranges.now in
     let parts = map (range_part (stored_bytes stored)) ranges in
     let number = c.loop-number.number in
     let below : number < length ranges = omega arith in
-    has_room (chain_meaning (inner_chain_of c.args.self.now)) (stores_empty_chunks c.args.options.now) k (fill_of k c.args.fill_value.now) (chunk_shape c.args.subchunks.now) (subchunk_shape c.args.subchunks.now)
-    (box_of c.args.part.now) (data_of c.args.bytes.now) stored parts (length ranges) number c.loop-number.patch c.requires.parts below c.loop-number.invariant
+    has_room (chain_meaning (inner_chain_of c.args.self.now)) (stores_empty_chunks c.args.options.now) k (filling c.args.cell_type.now) (chunk_shape c.args.subchunks.now) (subchunk_shape c.args.subchunks.now)
+    (box_of c.args.part.now) (data_of c.args.bytes.now) stored parts (length ranges) number c.loop-number.patch c.requires.ranges.parts below c.loop-number.invariant
 
 pub loop-number-preserved : goal.loop-number-preserved
 loop-number-preserved c =
-    let k = kind c.args.data_type.now in
-    let f = fill_of k c.args.fill_value.now in
+    let k = kind_of c.args.cell_type.now in
+    let f = filling c.args.cell_type.now in
     let m : ChainMeaning = chain_meaning (inner_chain_of c.args.self.now) in
     let empty = stores_empty_chunks c.args.options.now in
     let s = chunk_shape c.args.subchunks.now in
@@ -58,12 +57,12 @@ loop-number-preserved c =
     ap (changed_part m empty k f s sub part d number) (part_is ∙ ap (λ x. range_part x range) (sym c.bytes_of-shard.ensures)) ∙ made in
     let same : c.is_some.result ≡ is_some range = search rules in
     let present : c.is_some.result ≡ is_some (get_or parts number None) = same ∙ present_part b range ∙ ap is_some (sym part_is) in
-    changes_more m empty k f s sub part d stored parts (length ranges) number c.loop-number.patch c.push.new.self c.is_some.result change c.requires.parts below present here c.loop-number.invariant c.in_ok-push.ensures.pushed
+    changes_more m empty k f s sub part d stored parts (length ranges) number c.loop-number.patch c.push.new.self c.is_some.result change c.requires.ranges.parts below present here c.loop-number.invariant c.in_ok-push.ensures.pushed
 
 pub returns-clause-written : goal.returns-clause-written
 returns-clause-written c =
-    let k = kind c.args.data_type.now in
-    let f = fill_of k c.args.fill_value.now in
+    let k = kind_of c.args.cell_type.now in
+    let f = filling c.args.cell_type.now in
     let m : ChainMeaning = chain_meaning (inner_chain_of c.args.self.now) in
     let empty = stores_empty_chunks c.args.options.now in
     let s = chunk_shape c.args.subchunks.now in
@@ -75,5 +74,5 @@ returns-clause-written c =
     let d = data_of c.args.bytes.now in
     let patch = c.loop-number.patch in
     let done : c.loop-number.number ≡ length ranges = omega arith in
-    write_is m empty k f s sub part d stored parts (length ranges) patch (change_of c.in_ok-finish.field-0) c.requires.count c.requires.parts
+    write_is m empty k f s sub part d stored parts (length ranges) patch (change_of c.in_ok-finish.field-0) c.requires.ranges.count c.requires.ranges.parts
     (subst (λ n. HasFirstChanges m empty k f s sub stored part d parts (length ranges) n patch) done c.loop-number.invariant) c.in_ok-finish.ensures

@@ -1,6 +1,5 @@
+use Rattle.zarrs_data_type.specs.CellTypes.{filling, kind_of}
 use Rattle.std.proofs.Common.{map}
-use Rattle.zarrs_data_type.specs.Cell.{fill_of}
-use Rattle.zarrs_data_type.specs.Kind.{kind}
 use Rattle.zarrs_subset.specs.Regions.{box_of}
 use Rattle.zarrs_codec_shard.specs.ShardIndex.{range_part}
 use Rattle.zarrs_codec_shard.specs.SubchunkData.{chunk_shape, subchunk_shape}
@@ -10,5 +9,5 @@ use Rattle.zarrs_codec.proofs.sharding.ShardingCodec.test_met.Given as goal
 
 abbrev pub invariant-loop-number : goal.invariant-loop-number
 invariant-loop-number l =
-    let k = kind l.data_type in
-    ArePassed (chain_meaning (inner_chain_of l.self)) k (fill_of k l.fill_value) (chunk_shape l.subchunks) (subchunk_shape l.subchunks) (box_of l.part) (map (range_part l.shard) l.ranges) l.number
+    let k = kind_of l.cell_type in
+    ArePassed (chain_meaning (inner_chain_of l.self)) k (filling l.cell_type) (chunk_shape l.subchunks) (subchunk_shape l.subchunks) (box_of l.part) (map (range_part l.shard) l.ranges) l.number

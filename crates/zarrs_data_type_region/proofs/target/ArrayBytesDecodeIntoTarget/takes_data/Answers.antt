@@ -6,4 +6,4 @@ use Rattle.zarrs_data_type_region.proofs.target.ArrayBytesDecodeIntoTarget.takes
 pub unreachable-requires : goal.unreachable-requires
 unreachable-requires c =
     let t = c.args.self.now in
-    omega (arith, c.in-Err.ensures.refused, c.requires.counted, count_within (target_box t) t.parent_shape.now t.region.now.same_length c.requires.inside)
+    omega (arith, c.in-Err.ensures.refused, t.whole.counted, count_within (target_box t) t.parent_shape.now t.region.now.same_length t.whole.inside)
